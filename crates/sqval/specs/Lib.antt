@@ -1,0 +1,10 @@
+pub mod Bytes
+pub mod PageSize
+pub mod Database
+pub mod Varint
+pub mod Datum
+pub mod Serial
+pub mod RecordError
+pub mod Record
+pub mod Shown
+pub mod Shortest

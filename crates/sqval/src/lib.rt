@@ -1,0 +1,18 @@
+//! The values that a database file, its journal and its write-ahead log are made of.
+#![tactic(auto)]
+
+mod encoding;
+mod error;
+mod page_size;
+mod record;
+mod value;
+pub mod varint;
+
+pub use encoding::encode;
+pub use error::RecordError;
+pub use page_size::PageSize;
+pub use record::{Columns, MOST_BYTES, Record};
+pub use value::Value;
+
+#[cfg(test)]
+mod tests;
