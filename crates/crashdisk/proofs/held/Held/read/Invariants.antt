@@ -1,0 +1,6 @@
+use Rattle.std.proofs.Common.{length}
+use Rattle.crashdisk.proofs.Reading.{Copied}
+use Rattle.crashdisk.proofs.held.Held.read.Given as goal
+
+abbrev pub invariant-loop-k : goal.invariant-loop-k
+invariant-loop-k l = Copied l.sector l.self.len l.at (length l.fn.out) l.self.sectors.items l.k l.out

@@ -1,0 +1,18 @@
+use Rattle.std.proofs.Common.{◌≡◌, ◌-◌, ◌∙◌, ap, List, ℕ, min, length, take, drop, slice_index_or, arith, [], length-drop}
+use Rattle.std.proofs.lemmas.List.{take_all}
+use Rattle.crashdisk.specs.Held.{last_of}
+use Rattle.crashdisk.proofs.Touching.{past_is, is_past}
+use Rattle.crashdisk.proofs.held.holds_past.Goals as goal
+
+pub returns-in-Some : goal.returns-in-Some
+returns-in-Some c =
+    let p : List ℕ = c.present-present.result.now in
+    let n : ℕ = c.min.result in
+    let part : List ℕ = take (length p - n) (drop n p) in
+    let same : part ≡ drop n p = take_all (length p - n) (drop n p) (omega (arith, length-drop n p)) in
+    let there = c.in-Some.ensures.lookup.3 in
+    let here : p ≡ last_of (slice_index_or c.args.sectors.now c.args.k []) = c.present-present.ensures ∙ ap last_of (there.1 []) in
+    let is_n = c.min.ensures ∙ ap (λ (m : ℕ). min m (length p)) c.saturating_sub.ensures in (
+      λ yes. past_is c.args.sector c.args.k c.args.place n c.args.sectors.now p part c.requires.positive c.requires.whole there.0 here same is_n (c.has_bytes.ensures.0 yes),
+      λ held. c.has_bytes.ensures.1 (is_past c.args.sector c.args.k c.args.place n c.args.sectors.now p part c.requires.positive c.requires.whole there.0 here same is_n held),
+    )

@@ -1,0 +1,10 @@
+use Rattle.std.proofs.Common.{arith}
+use Rattle.std.proofs.lemmas.Bool.Decides.{nat_tests}
+use Rattle.crashdisk.proofs.Places.{meets_range, range_meets}
+use Rattle.crashdisk.proofs.held.meets.Goals as goal
+
+pub returns-then-from-k : goal.returns-then-from-k
+returns-then-from-k c = (
+  λ yes. range_meets c.args.sector c.args.from c.args.to c.args.k c.requires.positive (grind (arith, nat_tests)) (grind (arith, nat_tests)) (grind (arith, nat_tests)),
+  λ meets. let range = meets_range c.args.sector c.args.from c.args.to c.args.k c.requires.positive meets in grind (arith, nat_tests, range.2),
+)

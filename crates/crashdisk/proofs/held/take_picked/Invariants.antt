@@ -1,0 +1,6 @@
+use Rattle.std.proofs.Common.{take}
+use Rattle.crashdisk.specs.Held.{EachOf, Takes}
+use Rattle.crashdisk.proofs.held.take_picked.Given as goal
+
+abbrev pub invariant-loop-i : goal.invariant-loop-i
+invariant-loop-i l = EachOf (take l.i l.list) (Takes l.pick) l.fn.sectors.items l.sectors.items

@@ -1,0 +1,395 @@
+//! A file as the modelled disk keeps it.
+ghost use Rattle.std.specs.Prelude.{◌≡◌, ◌≢◌, ◌⊎◌, ◌<◌, ◌≤◌, ◌+◌, ◌-◌, ◌*◌, ◌/◌, ◌%◌, ◌^◌, ◌↔◌, ℕ, IsTrue, List, [], ◌∷◌, ◌++◌, length, take, drop, replicate, slice_index, slice_index_or, OnOk, OnErr, IfOk, max, set, cond, EachIndex};
+ghost use Rattle.crashdisk.specs.State.{Meets};
+ghost use Rattle.crashdisk.specs.Held.{last_of, file_by, AreWhole, Touches, put_byte, IsListOf, EachOf, AreRising, IsPut, Gets, Loses, Takes, is_odd, IsCutTo};
+
+use crate::values::{Bytes, Values};
+use std::alloc::{AllocError, Global};
+
+/// What a call changes: it touches the places from `from` to `to`, leaves the file's end at `end`, keeps what was there
+/// below `keep`, and puts these bytes at `from`.
+#[derive(Clone, Copy)]
+pub(crate) struct Change<'a> {
+    pub(crate) from: usize,
+    pub(crate) to: usize,
+    pub(crate) end: usize,
+    pub(crate) keep: usize,
+    pub(crate) bytes: &'a [u8],
+}
+
+impl Change<'_> {
+    /// What it puts at a place.
+    fn byte(&self, place: usize, was: u8) -> u8
+        requires room { self.now.from + length self.now.bytes.now < 2 ^ 62 }
+        ensures { result ≡ put_byte self.now.from self.now.keep self.now.bytes.now place was }
+    {
+        if self.from <= place && place < self.from + self.bytes.len() {
+            self.bytes[place - self.from]
+        } else if place < self.keep {
+            was
+        } else {
+            0
+        }
+    }
+
+    /// The value that it gives a sector.
+    fn value(&self, alloc: Global, start: usize, was: &[u8]) -> Result<Bytes, AllocError>
+        requires room { self.now.from + length self.now.bytes.now < 2 ^ 62 }
+        requires places { start + length was.now < 2 ^ 62 }
+        ensures { IfOk result (λ b. (length b ≡ length was.now) × ((j : ℕ) → j < length was.now → slice_index b j ≡ put_byte self.now.from self.now.keep self.now.bytes.now (start + j) (slice_index was.now j))) }
+    {
+        let mut value = Vec::from_slice(alloc, was)?;
+        self.put(start, &mut value);
+        Ok(Bytes::new(value))
+    }
+
+    fn put(&self, start: usize, value: &mut [u8])
+        requires room { self.now.from + length self.now.bytes.now < 2 ^ 62 }
+        requires places { start + length value.old < 2 ^ 62 }
+        ensures { (j : ℕ) → j < length value.old → slice_index value.new j ≡ put_byte self.now.from self.now.keep self.now.bytes.now (start + j) (slice_index value.old j) }
+    {
+        for (j, byte) in value.iter_mut().enumerate() {
+            *byte = self.byte(start + j, *byte);
+        }
+    }
+}
+
+/// What a failing call leaves: for a write or a change of the length, touched sector number i, from the lowest on, is
+/// new where `pick[i]` is odd, and the length is new where `new_len` holds; for a sync, sector number i takes the listed
+/// value number `pick[i]` modulo their count. Where an entry is missing, a write leaves the old value, and a sync the
+/// present one.
+#[derive(Debug, Drop)]
+pub struct Part {
+    pub pick: Vec<u32>,
+    pub new_len: bool,
+}
+
+impl Part {
+    /// The length that it takes.
+    fn len(&self, new: usize, old: usize) -> usize
+        ensures { result ≡ cond self.now.new_len new old }
+    {
+        if self.new_len { new } else { old }
+    }
+}
+
+/// A file: for each sector its values, and its length now and at its shortest and longest since the last sync.
+#[derive(Drop)]
+pub(crate) struct Held {
+    pub(crate) sectors: Vec<Values>,
+    pub(crate) len: usize,
+    pub(crate) least: usize,
+    pub(crate) greatest: usize,
+}
+
+/// Lengthens the list to so many sectors of zeros.
+fn grow(
+    sectors: &mut Vec<Values>,
+    alloc: Global,
+    sector: usize,
+    count: usize,
+) -> Result<(), AllocError>
+    ensures grown { sectors.new.items ≡ sectors.old.items ++ replicate (length sectors.new.items - length sectors.old.items) (replicate sector 0 ∷ []) }
+    ensures longer { length sectors.old.items ≤ length sectors.new.items }
+    ensures enough { OnOk result (count ≤ length sectors.new.items) }
+    ensures bounded { length sectors.new.items ≤ max (length sectors.old.items) count }
+{
+    for _ in sectors.len()..count {
+        let zeros = Bytes::zeros(alloc, sector)?;
+        sectors.push(Values::new(alloc, zeros)?)?;
+    }
+    Ok(())
+}
+
+/// Whether a byte isn't zero.
+fn has_bytes(bytes: &[u8]) -> bool
+    ensures { IsTrue result ↔ ((j : ℕ) × (j < length bytes.now) × (0 < slice_index bytes.now j)) }
+{
+    bytes.iter().any(|byte| *byte != 0)
+}
+
+/// Whether sector k holds something that isn't zero at this place or behind it.
+fn holds_past(sectors: &[Values], sector: usize, place: usize, k: usize) -> bool
+    requires positive { 0 < sector }
+    requires places { k * sector + sector < 2 ^ 62 }
+    requires whole { AreWhole sector sectors.now }
+    ensures { IsTrue result ↔ ((i : ℕ) × (place ≤ i) × (i / sector ≡ k) × ((file_by sector sectors.now 0 0 0).present i ≢ 0)) }
+{
+    match sectors.get(k) {
+        Some(values) => {
+            let present = values.present();
+            has_bytes(&present[place.saturating_sub(k * sector).min(present.len())..])
+        }
+        None => false,
+    }
+}
+
+/// Whether sector k has a place in this range.
+fn meets(sector: usize, from: usize, to: usize, k: usize) -> bool
+    requires positive { 0 < sector }
+    requires places { k * sector + sector < 2 ^ 62 }
+    ensures { IsTrue result ↔ Meets sector from to k }
+{
+    from < to && from < k * sector + sector && k * sector < to
+}
+
+/// Whether the call touches sector k.
+fn is_touched(sectors: &[Values], sector: usize, len: usize, change: &Change<'_>, k: usize) -> bool
+    requires positive { 0 < sector }
+    requires places { k * sector + sector < 2 ^ 62 }
+    requires whole { AreWhole sector sectors.now }
+    ensures { IsTrue result ↔ Touches sector (file_by sector sectors.now len 0 0) change.now.from change.now.to change.now.end k }
+{
+    if meets(sector, change.from, change.to, k) {
+        return true;
+    }
+    len < change.end && meets(sector, 0, change.end, k) && holds_past(sectors, sector, len, k)
+}
+
+/// The sectors that the call touches, rising.
+fn touched(
+    alloc: Global,
+    sectors: &[Values],
+    sector: usize,
+    len: usize,
+    change: &Change<'_>,
+) -> Result<Vec<usize>, AllocError>
+    requires positive { 0 < sector }
+    requires small { sector < 2 ^ 17 }
+    requires ends { (change.now.end < 2 ^ 60) × (change.now.to < 2 ^ 60) }
+    requires fits { change.now.to ≤ max change.now.end len }
+    requires whole { AreWhole sector sectors.now }
+    ensures { IfOk result (λ v. IsListOf (Touches sector (file_by sector sectors.now len 0 0) change.now.from change.now.to change.now.end) v.items) }
+{
+    let place = if len < change.end {
+        change.end
+    } else {
+        change.to
+    };
+    let mut list = Vec::new(alloc);
+    for k in change.from.min(len) / sector..place / sector + 1 {
+        if is_touched(sectors, sector, len, change, k) {
+            list.push(k)?;
+        }
+    }
+    Ok(list)
+}
+
+/// Gives sector k its new value.
+fn append_one(
+    alloc: Global,
+    sectors: &mut Vec<Values>,
+    sector: usize,
+    change: &Change<'_>,
+    k: usize,
+) -> Result<(), AllocError>
+    requires there { k < length sectors.old.items }
+    requires some { 0 < length (slice_index_or sectors.old.items k []) }
+    requires long { length (last_of (slice_index_or sectors.old.items k [])) ≡ sector }
+    requires places { k * sector + sector < 2 ^ 62 }
+    requires room { change.now.from + length change.now.bytes.now < 2 ^ 62 }
+    ensures ok { OnOk result ((values : _) × (sectors.new.items ≡ set sectors.old.items k values) × ((value : _) × (values ≡ slice_index_or sectors.old.items k [] ++ value ∷ []) × IsPut sector change.now.from change.now.keep change.now.bytes.now k (last_of (slice_index_or sectors.old.items k [])) value)) }
+    ensures err { OnErr result (sectors.new.items ≡ sectors.old.items) }
+{
+    let values = &mut sectors[k];
+    let value = change.value(alloc, k * sector, values.present())?;
+    values.push(value)
+}
+
+/// Takes back the newest values of these sectors.
+fn undo(sectors: &mut Vec<Values>, list: &[usize])
+    requires rising { AreRising (length sectors.old.items) list.now }
+    ensures { EachOf list.now Loses sectors.old.items sectors.new.items }
+{
+    for k in list {
+        sectors[*k].pop();
+    }
+}
+
+/// Gives these sectors their new values, or none of them.
+fn append(
+    alloc: Global,
+    sectors: &mut Vec<Values>,
+    sector: usize,
+    change: &Change<'_>,
+    list: &[usize],
+) -> Result<(), AllocError>
+    requires rising { AreRising (length sectors.old.items) list.now }
+    requires whole { AreWhole sector sectors.old.items }
+    requires places { length sectors.old.items * sector + sector < 2 ^ 62 }
+    requires room { change.now.from + length change.now.bytes.now < 2 ^ 62 }
+    ensures ok { OnOk result (EachOf list.now (Gets sector change.now.from change.now.keep change.now.bytes.now list.now) sectors.old.items sectors.new.items) }
+    ensures err { OnErr result (sectors.new.items ≡ sectors.old.items) }
+{
+    for (done, k) in list.iter().enumerate() {
+        match append_one(alloc, sectors, sector, change, *k) {
+            Ok(()) => (),
+            Err(error) => {
+                undo(sectors, &list[..done]);
+                return Err(error);
+            }
+        }
+    }
+    Ok(())
+}
+
+/// Lets the value before it stand in place of the newest one, but where the newest is taken.
+fn take_picked(sectors: &mut Vec<Values>, list: &[usize], pick: &[u32])
+    requires rising { AreRising (length sectors.old.items) list.now }
+    requires two { (i : ℕ) → i < length list.now → 2 ≤ length (slice_index_or sectors.old.items (slice_index list.now i) []) }
+    ensures { EachOf list.now (Takes pick.now) sectors.old.items sectors.new.items }
+{
+    for (i, k) in list.iter().enumerate() {
+        if !is_taken(pick, i) {
+            let values = &mut sectors[*k];
+            values.turn(values.count() - 2);
+        }
+    }
+}
+
+/// Whether the entry at this index is odd.
+fn is_taken(pick: &[u32], i: usize) -> bool
+    ensures { result ≡ is_odd (slice_index pick.now i) }
+{
+    match pick.get(i) {
+        Some(n) => *n % 2 == 1,
+        None => false,
+    }
+}
+
+impl Held {
+    ghost use Rattle.crashdisk.specs.State.{Changed, IsDone, IsSynced, byte, longest};
+    ghost use Rattle.crashdisk.specs.Held.{file_of, IsHeld, IsPicked};
+
+    /// The sectors that a change touches, rising; each is there afterwards.
+    fn prepare(
+        &mut self,
+        alloc: Global,
+        sector: usize,
+        change: &Change<'_>,
+    ) -> Result<Vec<usize>, AllocError>
+        requires positive { 0 < sector }
+        requires small { sector < 2 ^ 17 }
+        requires ends { (change.now.end ≤ longest) × (change.now.to ≤ longest) × (self.old.len ≤ longest) }
+        requires fits { change.now.to ≤ max change.now.end self.old.len }
+        requires held { IsHeld sector self.old }
+        ensures held { IsHeld sector self.new }
+        ensures same { file_of sector self.new ≡ file_of sector self.old }
+        ensures list { IfOk result (λ v. IsListOf (Touches sector (file_of sector self.old) change.now.from change.now.to change.now.end) v.items × AreRising (length self.new.sectors.items) v.items) }
+    {
+        let end = change.end.max(self.len);
+        grow(&mut self.sectors, alloc, sector, end / sector + 1)?;
+        touched(alloc, &self.sectors, sector, self.len, change)
+    }
+
+    /// Carries a change out.
+    pub(crate) fn carry_out(
+        &mut self,
+        alloc: Global,
+        sector: usize,
+        change: &Change<'_>,
+    ) -> Result<(), AllocError>
+        requires positive { 0 < sector }
+        requires small { sector < 2 ^ 17 }
+        requires ends { (change.now.end ≤ longest) × (change.now.to ≤ longest) × (self.old.len ≤ longest) }
+        requires fits { change.now.to ≤ max change.now.end self.old.len }
+        requires room { change.now.from + length change.now.bytes.now < 2 ^ 62 }
+        requires held { IsHeld sector self.old }
+        ensures held { IsHeld sector self.new }
+        ensures changed { OnOk result (Changed sector (Touches sector (file_of sector self.old) change.now.from change.now.to change.now.end) (λ i. put_byte change.now.from change.now.keep change.now.bytes.now i ((file_of sector self.old).present i)) change.now.end (file_of sector self.old) (file_of sector self.new)) }
+        ensures done { OnOk result (IsDone sector (Touches sector (file_of sector self.old) change.now.from change.now.to change.now.end) (λ i. put_byte change.now.from change.now.keep change.now.bytes.now i ((file_of sector self.old).present i)) change.now.end (file_of sector self.new)) }
+        ensures same { OnErr result (file_of sector self.new ≡ file_of sector self.old) }
+    {
+        let list = self.prepare(alloc, sector, change)?;
+        append(alloc, &mut self.sectors, sector, change, &list)?;
+        self.len = change.end;
+        self.least = self.least.min(change.end);
+        self.greatest = self.greatest.max(change.end);
+        Ok(())
+    }
+
+    /// Fails in the middle of a change.
+    pub(crate) fn fail(
+        &mut self,
+        alloc: Global,
+        sector: usize,
+        change: &Change<'_>,
+        part: &Part,
+    ) -> Result<(), AllocError>
+        requires positive { 0 < sector }
+        requires small { sector < 2 ^ 17 }
+        requires ends { (change.now.end ≤ longest) × (change.now.to ≤ longest) × (self.old.len ≤ longest) }
+        requires fits { change.now.to ≤ max change.now.end self.old.len }
+        requires room { change.now.from + length change.now.bytes.now < 2 ^ 62 }
+        requires held { IsHeld sector self.old }
+        ensures held { IsHeld sector self.new }
+        ensures changed { OnOk result (Changed sector (Touches sector (file_of sector self.old) change.now.from change.now.to change.now.end) (λ i. put_byte change.now.from change.now.keep change.now.bytes.now i ((file_of sector self.old).present i)) change.now.end (file_of sector self.old) (file_of sector self.new)) }
+        ensures picked { OnOk result (IsPicked sector (Touches sector (file_of sector self.old) change.now.from change.now.to change.now.end) (λ i. put_byte change.now.from change.now.keep change.now.bytes.now i ((file_of sector self.old).present i)) change.now.end part.now.pick.items part.now.new_len (file_of sector self.old) (file_of sector self.new)) }
+        ensures same { OnErr result (file_of sector self.new ≡ file_of sector self.old) }
+    {
+        let touched = self.prepare(alloc, sector, change)?;
+        let list = touched.as_slice();
+        append(alloc, &mut self.sectors, sector, change, list)?;
+        take_picked(&mut self.sectors, list, part.pick.as_slice());
+        self.len = part.len(change.end, self.len);
+        self.least = self.least.min(change.end);
+        self.greatest = self.greatest.max(change.end);
+        Ok(())
+    }
+
+    /// Makes the present values the only ones, with zeros past the end.
+    pub(crate) fn sync(&mut self, sector: usize)
+        requires positive { 0 < sector }
+        requires small { sector < 2 ^ 17 }
+        requires held { IsHeld sector self.old }
+        ensures held { IsHeld sector self.new }
+        ensures synced { IsSynced (file_of sector self.old) (file_of sector self.new) }
+    {
+        settle(&mut self.sectors, sector, self.len);
+        self.least = self.len;
+        self.greatest = self.len;
+    }
+
+    /// Reads the bytes from a place on.
+    pub(crate) fn read(&self, sector: usize, at: usize, out: &mut [u8])
+        requires positive { 0 < sector }
+        requires small { sector < 2 ^ 17 }
+        requires room { at + length out.old < 2 ^ 60 }
+        requires held { IsHeld sector self.now }
+        ensures { EachIndex out.new (λ i. slice_index out.new i ≡ byte (file_of sector self.now) (at + i)) }
+    {
+        out.fill(0);
+        let end = (at + out.len()).min(self.len);
+        for k in at / sector..(end / sector + 1).min(self.sectors.len()) {
+            let values = &self.sectors[k];
+            copy_part(values.present(), k * sector, at, end, out);
+        }
+    }
+}
+
+/// Makes the present values the only ones, with zeros from an end on.
+fn settle(sectors: &mut Vec<Values>, sector: usize, end: usize)
+    requires whole { AreWhole sector sectors.old.items }
+    requires room { length sectors.old.items * sector < 2 ^ 62 }
+    ensures count { length sectors.new.items ≡ length sectors.old.items }
+    ensures each { (k : ℕ) → k < length sectors.old.items → IsCutTo (end - k * sector) (slice_index_or sectors.old.items k []) (slice_index_or sectors.new.items k []) }
+{
+    for k in 0..sectors.len() {
+        let values = &mut sectors[k];
+        values.settle(end.saturating_sub(k * sector));
+    }
+}
+
+/// Copies to the bytes of a reader at one place those of a sector at another, up to an end.
+fn copy_part(present: &[u8], start: usize, at: usize, end: usize, out: &mut [u8])
+    requires room { (at + length out.old < 2 ^ 60) × (start + length present.now < 2 ^ 61) }
+    requires end { end ≤ at + length out.old }
+    ensures inside { (i : ℕ) → i < length out.old → start ≤ at + i → at + i < start + length present.now → at + i < end → slice_index out.new i ≡ slice_index present.now (at + i - start) }
+    ensures outside { (i : ℕ) → i < length out.old → (at + i < start) ⊎ ((start + length present.now ≤ at + i) ⊎ (end ≤ at + i)) → slice_index out.new i ≡ slice_index out.old i }
+{
+    let from = at.max(start);
+    let to = end.min(start + present.len());
+    if from < to {
+        out[from - at..to - at].copy_from_slice(&present[from - start..to - start]);
+    }
+}
