@@ -1,0 +1,14 @@
+pub mod Sums
+pub mod Same
+pub mod Reading
+pub mod Headers
+pub mod Making
+pub mod Logs
+pub mod Chains
+pub mod Finding
+pub mod Views
+pub mod Fronts
+pub mod Scanning
+pub mod FrameSteps
+pub mod ScanAnswers
+pub mod Feeding

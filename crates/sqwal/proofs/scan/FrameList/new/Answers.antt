@@ -1,0 +1,5 @@
+use Rattle.sqwal.proofs.FrameSteps.{took-header}
+use Rattle.sqwal.proofs.scan.FrameList.new.Goals as goal
+
+pub returns : goal.returns
+returns c is = took-header c.args.header.now c.args.head.now c.new.result.items c.zero.result c.add.result is c.told-head c.new.ensures.items c.zero.ensures c.add.ensures

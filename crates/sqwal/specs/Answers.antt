@@ -1,0 +1,51 @@
+-- What a scan answers of the bytes that it took.
+use Rattle.std.specs.Prelude.{◌≡◌, ℕ, suc, ◌<◌, ◌≤◌, cond, nat_lt, List, ◌++◌, length, get_or, Result, Ok, Err, Option, Some, None}
+use Rattle.sqwal.specs.Header.{named_size, IsHeaderOf, HeaderRefused}
+use Rattle.sqwal.specs.Frames.{frame_end, page_of, size_of, IsValidFrame, IsFront}
+use Rattle.sqwal.specs.Refusal.{most_frames}
+use Rattle.sqwal.specs.Took.{Took}
+use Rattle.sqwal.specs.declared.scan.Scan.{Scan}
+use Rattle.sqwal.specs.declared.scan.Entry.{Entry}
+use Rattle.sqwal.specs.declared.scan.Front.{Front}
+use Rattle.sqwal.specs.declared.header.WalHeader.{WalHeader}
+use Rattle.sqwal.specs.declared.error.WalFormatError.{WalFormatError}
+use Rattle.sqwal.specs.declared.error.WalFormatError.TheVariants.{TooLong, NoMemory}
+
+-- why the bytes b are no log that is scanned: judged when all 32 bytes of the header are there, and of a frame when
+-- it is whole
+abbrev pub LogRefused : List ℕ → WalFormatError → Type 0
+LogRefused b TooLong = IsValidFrame (named_size b) b (suc most_frames)
+LogRefused b NoMemory = Unit {0}
+LogRefused b e = (32 ≤ length b) × HeaderRefused b e
+
+-- a scan of b was given a piece: after an error it is one of b still
+abbrev pub FeedAnswer : {T : Type 0} → (b piece : List ℕ) → Result T WalFormatError → Scan → Type 0
+FeedAnswer b piece (Ok _) s = Took (b ++ piece) s
+FeedAnswer b piece (Err e) s = Took b s × LogRefused (b ++ piece) e
+
+-- no header where it isn't whole
+abbrev pub HeaderFound : List ℕ → Option WalHeader → Type 0
+HeaderFound b None = length b < 32
+HeaderFound b (Some h) = (32 ≤ length b) × IsHeaderOf b h
+
+-- valid frame i
+abbrev pub EntryFound : List ℕ → (i : ℕ) → Option Entry → Type 0
+EntryFound b i None = IsValidFrame (named_size b) b i → ⊥
+EntryFound b i (Some e) = IsValidFrame (named_size b) b i × (e.page ≡ page_of (named_size b) b i) × (e.size ≡ size_of (named_size b) b i)
+
+-- the valid frames, the first one first
+pub record AreEntries (b : List ℕ) (entries : List Entry) : Type 0 where
+  pub most : length entries ≤ most_frames
+  pub valid : (i : ℕ) → 1 ≤ i → i ≤ length entries → IsValidFrame (named_size b) b i
+  pub all : (i : ℕ) → IsValidFrame (named_size b) b i → i ≤ length entries
+  pub pages : (i : ℕ) (d : Entry) → i < length entries → (get_or entries i d).page ≡ page_of (named_size b) b (suc i)
+  pub sizes : (i : ℕ) (d : Entry) → i < length entries → (get_or entries i d).size ≡ size_of (named_size b) b (suc i)
+
+-- The front, the size of the database there, and the place behind its last frame: 32 where there is a header and no
+-- front, 0 where there is no header.
+pub record IsCommitted (b : List ℕ) (f : Front) : Type 0 where
+  pub front : IsFront (named_size b) b f.frames
+  pub most : f.frames ≤ most_frames
+  pub none : f.frames ≡ 0 → f.size ≡ 0
+  pub some : 1 ≤ f.frames → f.size ≡ size_of (named_size b) b f.frames
+  pub end : f.end ≡ cond (nat_lt (length b) 32) 0 (frame_end (named_size b) f.frames)

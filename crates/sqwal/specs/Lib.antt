@@ -1,0 +1,13 @@
+pub mod Sums
+pub mod Magic
+pub mod Header
+pub mod Frames
+pub mod Log
+pub mod View
+pub mod Stops
+pub mod Index
+pub mod Chains
+pub mod Refusal
+pub mod Took
+pub mod Answers
+pub mod ScanParts

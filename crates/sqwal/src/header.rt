@@ -1,0 +1,101 @@
+//! The header of a log.
+use crate::error::WalFormatError;
+use crate::sum::{Order, Sum};
+use crate::words::{put_words, word};
+use sqval::PageSize;
+
+const VERSION: u32 = 3007000;
+
+/// What the 32 bytes of a log's header say (fileformat2, 4.1).
+#[derive(Clone, Copy, Debug, PartialEq, Eq)]
+pub struct WalHeader {
+    /// The order of the words that sums are over, as the magic says.
+    pub order: Order,
+    pub page_size: PageSize,
+    /// Raised by one with each restart of the log.
+    pub sequence: u32,
+    pub salt1: u32,
+    pub salt2: u32,
+}
+
+impl WalHeader {
+    ghost use Rattle.sqwal.specs.Header.{HeaderAnswer, IsHeaderOf};
+
+    /// Reads a header. Refused are, in this order, NotAWal, PageSize, HeaderSum and UnknownVersion.
+    pub fn read(bytes: &[u8; 32]) -> Result<WalHeader, WalFormatError>
+        ensures { HeaderAnswer bytes.now result }
+    {
+        let Some(order) = Order::named(word(bytes, 0)) else {
+            return Err(WalFormatError::NotAWal);
+        };
+        let Some(page_size) = PageSize::new(word(bytes, 8)) else {
+            return Err(WalFormatError::PageSize);
+        };
+        let sum = Sum::zero().add(&bytes[..24], order);
+        if sum.s0 != word(bytes, 24) || sum.s1 != word(bytes, 28) {
+            return Err(WalFormatError::HeaderSum);
+        }
+        if word(bytes, 4) != VERSION {
+            return Err(WalFormatError::UnknownVersion);
+        }
+        Ok(WalHeader {
+            order,
+            page_size,
+            sequence: word(bytes, 12),
+            salt1: word(bytes, 16),
+            salt2: word(bytes, 20),
+        })
+    }
+
+    /// Writes the header with its sums, so that reading it gives it back.
+    pub fn write(&self, out: &mut [u8; 32])
+        ensures { IsHeaderOf out.new self.now }
+    {
+        let front = [
+            self.order.magic(),
+            VERSION,
+            self.page_size.get(),
+            self.sequence,
+            self.salt1,
+            self.salt2,
+        ];
+        put_words(&mut out[..24], &front);
+        let sum = Sum::zero().add(&out[..24], self.order);
+        put_words(&mut out[24..], &[sum.s0, sum.s1]);
+    }
+}
+
+#[cfg(test)]
+mod tests {
+    use super::*;
+    use std::test::Fail;
+
+    const BYTES: [u8; 32] = [
+        0x37, 0x7f, 0x06, 0x83, 0x00, 0x2d, 0xe2, 0x18, 0x00, 0x00, 0x02, 0x00, 0x00, 0x00, 0x00,
+        0x00, 0x00, 0x00, 0x00, 0x01, 0x00, 0x00, 0x00, 0x02, 0x16, 0x04, 0xca, 0xd8, 0xbc, 0xdd,
+        0xa4, 0x93,
+    ];
+
+    #[test]
+    fn writes_and_reads(rt: HostRuntime) -> Result<(), Fail> {
+        let header = WalHeader {
+            order: Order::Big,
+            page_size: PageSize::new(512).ok_or("a page size")?,
+            sequence: 0,
+            salt1: 1,
+            salt2: 2,
+        };
+        let mut bytes = [0; 32];
+        header.write(&mut bytes);
+        assert_eq!(rt; bytes, BYTES);
+        assert_eq!(rt; WalHeader::read(&bytes), Ok(header));
+        Ok(())
+    }
+
+    #[test]
+    fn refuses_a_wrong_sum(rt: HostRuntime) {
+        let mut bytes = BYTES;
+        bytes[31] = 0x92;
+        assert_eq!(rt; WalHeader::read(&bytes), Err(WalFormatError::HeaderSum));
+    }
+}

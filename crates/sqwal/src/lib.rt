@@ -1,0 +1,17 @@
+//! Write-ahead logs: their sums, headers and frames, the scan of a log in any pieces, and its frames by page.
+#![tactic(auto)]
+
+mod error;
+mod frame;
+mod header;
+mod index;
+mod scan;
+mod sum;
+mod words;
+
+pub use error::WalFormatError;
+pub use frame::frame_head;
+pub use header::WalHeader;
+pub use index::{FrameIndex, Hit};
+pub use scan::{Entry, Front, Scan, Stop, Why};
+pub use sum::{Order, Sum};
