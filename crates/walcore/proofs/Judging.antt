@@ -1,0 +1,211 @@
+-- What a scanned log is judged by, and the table of its frames.
+use Rattle.std.proofs.Common.{◌≡◌, ◌≢◌, ◌↔◌, inl, inr, ⊎_elim, ℕ, suc, ◌+◌, ◌-◌, ◌*◌, ◌<◌, ◌≤◌, true, false, List, [], ◌∷◌, ◌++◌, length, get_or, refl, sym, ◌∙◌, ap, subst, arith, length-append}
+use Rattle.std.specs.Prelude.{Option, Some, None, Result, Ok, Err, IsTrue, is_some}
+use Rattle.std.proofs.lemmas.Bool.{cases_lt, cases_eq}
+use Rattle.std.proofs.lemmas.Bool.Decides.{nat_tests}
+use Rattle.std.proofs.lemmas.List.{get_or-append-add, get_or_append_left}
+use Rattle.sqval.specs.PageSize.{IsPageSize}
+use Rattle.sqval.proofs.PageSizes.{IsOneOf, one_of}
+use Rattle.sqwal.specs.Header.{IsHeader, named_size}
+use Rattle.sqwal.specs.Frames.{page_of, size_of, IsValidFrame, IsFront}
+use Rattle.sqwal.specs.Index.{FrameTable}
+use Rattle.sqwal.specs.Refusal.{most_frames}
+use Rattle.sqwal.specs.Answers.{EntryFound, IsCommitted}
+use Rattle.sqwal.specs.declared.scan.Entry.{Entry}
+use Rattle.sqwal.specs.declared.scan.Front.{Front}
+use Rattle.sqwal.proofs.Views.{front_unique, front_none}
+use Rattle.walcore.specs.Refusal.{most_bytes}
+use Rattle.walcore.specs.Folding.{IsTooLarge}
+use Rattle.walcore.specs.Plans.{wanted_page, IsTable, IsFit, LogRefused, JudgeAnswer, PlanAnswer}
+use Rattle.walcore.specs.Plans.{ReadAnswer}
+use Rattle.walcore.specs.Steps.{ScanRefused, ScanAnswer}
+use Rattle.sqwal.specs.Took.{Took}
+use Rattle.sqwal.specs.declared.scan.Scan.{Scan}
+use Rattle.crashdisk.specs.Call.{DiskState}
+use Rattle.walcore.specs.declared.plan.Plan.{Plan}
+use Rattle.walcore.specs.declared.error.WalError.{WalError}
+use Rattle.walcore.specs.declared.error.WalError.TheVariants.{TooLarge, PageSize, NoMemory, Device}
+
+-- whether there is an entry
+pub entry_decides : (w : List ℕ) (i : ℕ) (o : Option Entry) → EntryFound w i o → IsTrue (is_some o) ↔ IsValidFrame (named_size w) w i
+entry_decides w i None found = (λ t. absurd (let f : false ≡ true = t in cc), λ v. absurd (found v))
+entry_decides w i (Some e) found = (λ t. found.0, λ v. refl)
+
+-- ---- A log without a valid header.
+
+module _ (size : ℕ) (w : List ℕ) (bad : IsHeader (named_size w) w → ⊥) where
+  pub fit_none : IsFit size w
+  fit_none = record {
+    small = λ large. ⊎_elim (λ v. bad (v.each 1 (omega arith) v.first).header) (λ f. omega (arith, f.1, front_none (named_size w) w f.0 bad f.2)) large;
+    same = λ other. bad other.0;
+  }
+
+  pub front_zero : IsFront (named_size w) w 0
+  front_zero = record { is = inl refl; greatest = λ i v k. absurd (bad (v.each 1 (omega arith) v.first).header) }
+
+  pub judged_none : (f : Front) → IsCommitted w f → JudgeAnswer size w (Ok f)
+  unfolding JudgeAnswer
+  judged_none f is = record { fit = fit_none; front = is.front; none = is.none; some = λ one. absurd (omega (arith, front_none (named_size w) w f.frames bad is.front)) }
+
+-- ---- A log with one.
+
+module _ (size named : ℕ) (w : List ℕ) (header : IsHeader named w) where
+  here : IsHeader (named_size w) w
+  here = subst (λ (n : ℕ). IsHeader n w) (sym header.named) header
+
+  refused : (e : WalError) → LogRefused size w e → JudgeAnswer size w (Err e)
+  unfolding JudgeAnswer
+  refused e is = is
+
+  pub judged_many : IsValidFrame (named_size w) w (suc most_frames) → JudgeAnswer size w (Err TooLarge)
+  unfolding LogRefused
+  judged_many valid = refused TooLarge (inl valid)
+
+  module _ (f : Front) (is : IsCommitted w f) where
+    pub judged_large : most_bytes < f.size * named → JudgeAnswer size w (Err TooLarge)
+    unfolding LogRefused
+    judged_large more =
+        let some : 1 ≤ f.frames = ⊎_elim (λ e. absurd (let none : f.size ≡ 0 = is.none e in let zero : f.size * named ≡ 0 = rw none (omega arith) in omega arith)) (λ ne. omega arith) (cases_eq f.frames 0) in
+        let bytes : most_bytes < size_of (named_size w) w f.frames * named_size w = subst (λ (n : ℕ). most_bytes < n * named_size w) (is.some some) (subst (λ (n : ℕ). most_bytes < f.size * n) (sym header.named) more) in
+        refused TooLarge (inr (f.frames, some, is.front, bytes))
+
+    module _ (few : IsValidFrame (named_size w) w (suc most_frames) → ⊥) (within : f.size * named ≤ most_bytes) where
+      small : IsTooLarge w → ⊥
+      small large = ⊎_elim few (λ x.
+          let same : x.0 ≡ f.frames = front_unique (named_size w) w x.0 f.frames x.2 is.front in
+          let count : f.size ≡ size_of (named_size w) w x.0 = is.some (omega (arith, x.1)) ∙ ap (size_of (named_size w) w) (sym same) in
+          let bytes : most_bytes < f.size * named = subst (λ (n : ℕ). most_bytes < n * named) (sym count) (subst (λ (n : ℕ). most_bytes < size_of (named_size w) w x.0 * n) header.named x.3) in
+          omega arith) large
+
+      pub judged_other : named ≢ size → JudgeAnswer size w (Err PageSize)
+      unfolding LogRefused
+      judged_other ne = refused PageSize (small, (here, λ e. ne (sym header.named ∙ e)))
+
+      pub judged : named ≡ size → JudgeAnswer size w (Ok f)
+      unfolding JudgeAnswer
+      judged e = record {
+        fit = record { small = small; same = λ other. other.1 (header.named ∙ e) };
+        front = is.front;
+        none = is.none;
+        some = λ one. (header.named ∙ e, is.some one ∙ ap (λ (n : ℕ). size_of n w f.frames) (header.named ∙ e), subst (λ (n : ℕ). f.size * n ≤ most_bytes) e within);
+      }
+
+-- ---- The table.
+
+pub wanted_low : (size count : ℕ) (w : List ℕ) (i : ℕ) (page : ℕ) → page ≡ page_of size w i → page ≤ count → page ≡ wanted_page size count w i
+unfolding wanted_page
+wanted_low size count w i page e le = grind (arith, nat_tests)
+
+pub wanted_high : (size count : ℕ) (w : List ℕ) (i : ℕ) (page : ℕ) → page ≡ page_of size w i → count < page → 0 ≡ wanted_page size count w i
+unfolding wanted_page
+wanted_high size count w i page e lt = grind (arith, nat_tests)
+
+pub valid_below : (size : ℕ) (w : List ℕ) (m i : ℕ) → IsValidFrame size w m → 1 ≤ i → i ≤ m → IsValidFrame size w i
+valid_below size w m i valid one le = record { first = one; each = λ j a b. valid.each j a (omega arith) }
+
+pub table_none : (size count : ℕ) (w : List ℕ) (t : FrameTable) → t.pages ≡ [] → IsTable size count w 0 t
+table_none size count w t e = record { long = ap length e; each = λ i a b. absurd (omega arith) }
+
+pub table_more : (size count : ℕ) (w : List ℕ) (k page : ℕ) (t u : FrameTable) → IsTable size count w k t → page ≡ wanted_page size count w (k + 1) → u ≡ record t { pages = t.pages ++ page ∷ [] } → IsTable size count w (k + 1) u
+table_more size count w k page t u is e new =
+    let pages : u.pages ≡ t.pages ++ page ∷ [] = ap (λ (x : FrameTable). x.pages) new in
+    record {
+      long = ap length pages ∙ length-append t.pages (page ∷ []) ∙ ap (λ n. n + 1) is.long;
+      each = λ i a b. ap (λ (l : List ℕ). get_or l (i - 1) 0) pages ∙ ⊎_elim
+          (λ le. get_or_append_left t.pages (page ∷ []) 0 (i - 1) (omega (arith, is.long)) ∙ is.each i a (let x : i ≤ k = omega arith in x))
+          (λ gt. let at : i - 1 ≡ length t.pages + 0 = omega (arith, is.long) in
+          let same : i ≡ k + 1 = omega arith in
+          ap (λ n. get_or (t.pages ++ page ∷ []) n 0) at ∙ get_or-append-add t.pages (page ∷ []) 0 0 ∙ e ∙ ap (wanted_page size count w) (sym same))
+          (cases_lt i (k + 1));
+    }
+
+-- ---- The plan.
+
+module _ (size : ℕ) (w : List ℕ) where
+  pub plan_none : (f : Front) (plan : Plan) → JudgeAnswer size w (Ok f) → f.frames ≡ 0 → plan.frames ≡ 0 → plan.size ≡ 0 → PlanAnswer size w (Ok plan)
+  unfolding JudgeAnswer PlanAnswer
+  plan_none f plan is zero none size_none = (
+    is.fit,
+    record {
+      front = subst (λ (n : ℕ). IsFront (named_size w) w n) (zero ∙ sym none) is.front;
+      none = λ e. size_none;
+      some = λ one. absurd (omega arith);
+    },
+  )
+
+  pub plan_bare : (plan : Plan) → (IsHeader (named_size w) w → ⊥) → plan.frames ≡ 0 → plan.size ≡ 0 → PlanAnswer size w (Ok plan)
+  unfolding PlanAnswer
+  plan_bare plan bad none size_none = (
+    fit_none size w bad,
+    record {
+      front = subst (λ (n : ℕ). IsFront (named_size w) w n) (sym none) (front_zero size w bad);
+      none = λ e. size_none;
+      some = λ one. absurd (omega arith);
+    },
+  )
+
+  pub plan_some : (f : Front) (plan : Plan) → JudgeAnswer size w (Ok f) → 1 ≤ f.frames → plan.frames ≡ f.frames → plan.size ≡ f.size
+      → (IsValidFrame (named_size w) w f.frames → IsTable (named_size w) f.size w f.frames plan.index) → length plan.page.items ≡ size → PlanAnswer size w (Ok plan)
+  unfolding JudgeAnswer PlanAnswer
+  plan_some f plan is one frames count table room =
+      let valid : IsValidFrame (named_size w) w f.frames = ⊎_elim (λ e. absurd (omega arith)) (λ v. v.0) is.front.is in
+      let facts = is.some one in (
+        is.fit,
+        record {
+          front = subst (λ (n : ℕ). IsFront (named_size w) w n) (sym frames) is.front;
+          none = λ e. absurd (omega arith);
+          some = λ one2. record {
+            named = facts.0;
+            copy = record {
+              valid = subst (λ (n : ℕ). IsValidFrame size w n) (sym frames) (subst (λ (n : ℕ). IsValidFrame n w f.frames) facts.0 valid);
+              size_is = count ∙ facts.1 ∙ ap (size_of size w) (sym frames);
+              within = subst (λ (n : ℕ). n * size ≤ most_bytes) (sym count) facts.2;
+              table = subst (λ (n : ℕ). IsTable size n w plan.frames plan.index) (sym count) (subst (λ (n : ℕ). IsTable size f.size w n plan.index) (sym frames) (subst (λ (n : ℕ). IsTable n f.size w f.frames plan.index) facts.0 (table valid)));
+            };
+            room = room;
+          };
+        },
+      )
+
+  pub plan_refused : (r : Result Front WalError) (q : Result Plan WalError) (e : WalError) → r ≡ Err e → q ≡ Err e → JudgeAnswer size w r → PlanAnswer size w q
+  unfolding JudgeAnswer PlanAnswer
+  plan_refused r q e was is answer = subst (λ (x : Result Plan WalError). PlanAnswer size w x) (sym is) (by e (let got = subst (λ (x : Result Front WalError). JudgeAnswer size w x) was answer in got))
+    where
+      by : (e : WalError) → LogRefused size w e → PlanAnswer size w (Err e)
+      by NoMemory x = tt
+      by _ x = x
+
+  pub plan_memory : (q : Result Plan WalError) → q ≡ Err NoMemory → PlanAnswer size w q
+  unfolding PlanAnswer
+  plan_memory q is = subst (λ (x : Result Plan WalError). PlanAnswer size w x) (sym is) tt
+
+  module _ (a b : DiskState) where
+    pub read_planned : (r : Result Plan WalError) → PlanAnswer size w r → ReadAnswer size w r a b
+    unfolding PlanAnswer ReadAnswer LogRefused
+    read_planned (Ok p) x = x
+    read_planned (Err Device) x = absurd x
+    read_planned (Err _) x = x
+
+    pub read_scan : (r : Result (Option Scan) WalError) (q : Result Plan WalError) (e : WalError) → r ≡ Err e → q ≡ Err e → ScanAnswer w r a b → ReadAnswer size w q a b
+    unfolding ScanAnswer ScanRefused PlanAnswer ReadAnswer LogRefused
+    read_scan r q e was is answer = subst (λ (x : Result Plan WalError). ReadAnswer size w x a b) (sym is) (by e (let got = subst (λ (x : Result (Option Scan) WalError). ScanAnswer w x a b) was answer in got))
+      where
+        by : (e : WalError) → ScanRefused w e a b → ReadAnswer size w (Err e) a b
+        by TooLarge x = inl x
+        by NoMemory x = tt
+        by Device x = x
+        by _ x = absurd x
+
+    pub read_some : (s : Scan) (r : Result (Option Scan) WalError) → r ≡ Ok (Some s) → ScanAnswer w r a b → Took w s
+    unfolding ScanAnswer
+    read_some s r was answer = let got = subst (λ (x : Result (Option Scan) WalError). ScanAnswer w x a b) was answer in got
+
+    pub read_none : (r : Result (Option Scan) WalError) → r ≡ Ok None → ScanAnswer w r a b → IsHeader (named_size w) w → ⊥
+    unfolding ScanAnswer
+    read_none r was answer = let got = subst (λ (x : Result (Option Scan) WalError). ScanAnswer w x a b) was answer in got
+
+pub page_most : (n : ℕ) → IsPageSize n → n ≤ 65536
+page_most n is = by (one_of n is)
+  where
+    by : IsOneOf n → n ≤ 65536
+    by = ⊎_elim (λ e. omega arith) (⊎_elim (λ e. omega arith) (⊎_elim (λ e. omega arith) (⊎_elim (λ e. omega arith) (⊎_elim (λ e. omega arith) (⊎_elim (λ e. omega arith) (⊎_elim (λ e. omega arith) (λ e. omega arith)))))))

@@ -1,0 +1,16 @@
+pub mod Pages
+pub mod Suiting
+pub mod Down
+pub mod Looking
+pub mod Writing
+pub mod Filed
+pub mod Zeros
+pub mod Zeroing
+pub mod Emptying
+pub mod Stills
+pub mod Scans
+pub mod Judging
+pub mod Agreeing
+pub mod Copies
+pub mod Ending
+pub mod Recovering

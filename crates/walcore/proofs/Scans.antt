@@ -1,0 +1,141 @@
+-- What a scan of the first bytes of a log says of the log, and the count of refused calls.
+use Rattle.std.proofs.Common.{◌≡◌, ◌⊎◌, ℕ, suc, ◌+◌, ◌^◌, ◌<◌, ◌≤◌, List, ◌++◌, length, get_or, take, drop, refl, sym, ◌∙◌, ap, subst, arith, length-drop}
+use Rattle.std.specs.Prelude.{Bool, true, false, Option, Some, None, Result, Ok, Err}
+use Rattle.std.proofs.lemmas.List.{get_or-take, get_or-drop, length-take-le, take-take, take_all}
+use Rattle.std.proofs.lemmas.Grind.{same_number_lists}
+use Rattle.std.proofs.Math.Seq.{take-add}
+use Rattle.sqval.specs.PageSize.{IsPageSize}
+use Rattle.sqwal.specs.Header.{IsHeader, HeaderRefused, named_size}
+use Rattle.sqwal.specs.Frames.{AllPass, IsValidFrame}
+use Rattle.sqwal.specs.Refusal.{most_frames}
+use Rattle.sqwal.specs.Answers.{LogRefused}
+use Rattle.sqwal.specs.declared.error.WalFormatError.{WalFormatError}
+use Rattle.sqwal.specs.declared.error.WalFormatError.TheVariants.{NotAWal, PageSize, HeaderSum, UnknownVersion, TooLong, NoMemory}
+use Rattle.sqwal.proofs.Same.{header_same, word_same, all_same}
+use Rattle.crashdisk.specs.State.{FileState, byte, longest}
+use Rattle.crashdisk.specs.Call.{DiskState, IsSoundDisk, Looks, ArePresent, EndsWithin, counted}
+use Rattle.crashdisk.specs.declared.error.DiskError.{DiskError}
+use Rattle.crashdisk.specs.declared.error.DiskError.TheVariants.{TooLong as DiskTooLong}
+use Rattle.crashdisk.proofs.Steps.{counted_rises}
+use Rattle.walcore.proofs.Stills.{scan_refused_after}
+use Rattle.walcore.specs.Folding.{HadRefusal}
+use Rattle.walcore.specs.Steps.{IsWithoutHeader, ScanRefused, PieceAnswer, ScanAnswer}
+use Rattle.walcore.specs.declared.error.WalError.{WalError}
+use Rattle.walcore.specs.declared.error.WalError.TheVariants.{TooLarge, Device, NoMemory as WalNoMemory}
+use Rattle.sqwal.specs.Took.{Took}
+use Rattle.sqwal.specs.declared.scan.Scan.{Scan}
+
+-- a piece that was read behind the first bytes
+pub piece_read : (w : List ℕ) (log : FileState) (at : ℕ) (piece : List ℕ) → ArePresent log w → at + length piece ≤ length w
+    → ((i : ℕ) → i < length piece → get_or piece i 0 ≡ byte log (at + i)) → take at w ++ piece ≡ take (at + length piece) w
+piece_read w log at piece are fits same =
+    let rest : length (take (length piece) (drop at w)) ≡ length piece = length-take-le (length piece) (drop at w) (omega (arith, length-drop at w)) in
+    let is : piece ≡ take (length piece) (drop at w) = same_number_lists piece (take (length piece) (drop at w)) (sym rest)
+    (λ i lt. same i lt ∙ sym (are.each (at + i) (omega (arith, are.len))) ∙ sym (get_or-take (length piece) (drop at w) i 0 lt ∙ get_or-drop at w i 0)) in
+    ap (λ (x : List ℕ). take at w ++ x) is ∙ sym (take-add at (length piece) w)
+
+header_refused : (w x : List ℕ) (e : WalFormatError) → take 32 w ≡ take 32 x → 32 ≤ length x → HeaderRefused x e → IsHeader (named_size w) w → ⊥
+header_refused w x NotAWal same long bad is = bad (header_same (named_size w) w x 32 same (omega arith) long is).magic
+header_refused w x PageSize same long bad is =
+    let there = header_same (named_size w) w x 32 same (omega arith) long is in bad.1 (subst IsPageSize (sym there.named) there.is_size)
+header_refused w x HeaderSum same long bad is = bad.2 (header_same (named_size w) w x 32 same (omega arith) long is).sums
+header_refused w x UnknownVersion same long bad is = bad.3 (header_same (named_size w) w x 32 same (omega arith) long is).version
+header_refused w x TooLong same long bad is = bad
+header_refused w x NoMemory same long bad is = bad
+
+module _ (w : List ℕ) (n : ℕ) (fits : n ≤ length w) where
+  long : length (take n w) ≡ n
+  long = length-take-le n w fits
+
+  -- where its front has no valid header, the log has none
+  pub no_header : (e : WalFormatError) → (e ≡ TooLong → ⊥) → (e ≡ NoMemory → ⊥) → LogRefused (take n w) e → IsHeader (named_size w) w → ⊥
+  no_header NotAWal a b bad is = header_refused w (take n w) NotAWal (sym (take-take 32 n w (omega (arith, bad.0, long)))) bad.0 bad.1 is
+  no_header PageSize a b bad is = header_refused w (take n w) PageSize (sym (take-take 32 n w (omega (arith, bad.0, long)))) bad.0 bad.1 is
+  no_header HeaderSum a b bad is = header_refused w (take n w) HeaderSum (sym (take-take 32 n w (omega (arith, bad.0, long)))) bad.0 bad.1 is
+  no_header UnknownVersion a b bad is = header_refused w (take n w) UnknownVersion (sym (take-take 32 n w (omega (arith, bad.0, long)))) bad.0 bad.1 is
+  no_header TooLong a b bad is = a refl
+  no_header NoMemory a b bad is = b refl
+
+  -- a valid frame of its front is one of the log
+  pub valid_longer : (i : ℕ) → IsValidFrame (named_size (take n w)) (take n w) i → IsValidFrame (named_size w) w i
+  valid_longer i valid =
+      let at_end = valid.each i valid.first (omega arith) in
+      let same : take n (take n w) ≡ take n w = take-take n n w (omega arith) in
+      let size : named_size (take n w) ≡ named_size w = word_same (take n w) w n 8 same (omega (arith, at_end.header.whole, long)) in
+      let all : AllPass (named_size (take n w)) w i = all_same (named_size (take n w)) (take n w) w n i same (omega (arith, at_end.whole, long)) fits valid.each in
+      record { first = valid.first; each = subst (λ (s : ℕ). AllPass s w i) size all }
+
+-- A call that was refused, and whose end is one that a file may have, was counted.
+pub had_refusal : {T : Type 0} (result : Result T DiskError) (e : DiskError) (end : ℕ) (old new : DiskState) → old.refused < 2 ^ 64 → result ≡ Err e
+    → EndsWithin result end → end ≤ longest → new.refused ≡ counted result old.refused → HadRefusal old new
+had_refusal {T = T} result e end old new lt is within short count =
+    let ne : e ≡ DiskTooLong → ⊥ = λ z. (let past : longest < end = subst (λ (r : Result T DiskError). EndsWithin r end) (is ∙ ap Err z) within in omega arith) in
+    subst (λ (n : ℕ). (old.refused < n) ⊎ (n ≡ 18446744073709551615)) (sym count) (counted_rises result e old.refused lt is ne)
+
+module _ (w : List ℕ) (log : FileState) (at : ℕ) (given piece : List ℕ) (same_long : length piece ≡ length given) (are : ArePresent log w) (fits : at + length given ≤ length w)
+    (same : (i : ℕ) → i < length piece → get_or piece i 0 ≡ byte log (at + i)) where
+  joined : take at w ++ piece ≡ take (at + length given) w
+  joined = piece_read w log at piece are (omega arith) same ∙ ap (λ (n : ℕ). take (at + n) w) same_long
+
+  pub fed : (s : Scan) (old new : DiskState) → Took (take at w ++ piece) s → PieceAnswer w (at + length given) (Ok true) s old new
+  unfolding PieceAnswer
+  fed s old new took = subst (λ (b : List ℕ). Took b s) joined took
+
+  pub not_fed : (e : WalFormatError) (r : Result Bool WalError) (end : ℕ) (s : Scan) (old new : DiskState) → LogRefused (take at w ++ piece) e → IsWithoutHeader e r → PieceAnswer w end r s old new
+  unfolding PieceAnswer ScanRefused
+  not_fed e r end s old new refused is = by e (subst (λ (b : List ℕ). LogRefused b e) joined refused) is
+    where
+      answer : (x : Result Bool WalError) → r ≡ x → PieceAnswer w end x s old new → PieceAnswer w end r s old new
+      answer x is p = subst (λ (y : Result Bool WalError). PieceAnswer w end y s old new) (sym is) p
+
+      by : (e : WalFormatError) → LogRefused (take (at + length given) w) e → IsWithoutHeader e r → PieceAnswer w end r s old new
+      by TooLong refused is = answer (Err TooLarge) is (valid_longer w (at + length given) fits (suc most_frames) refused)
+      by NoMemory refused is = answer (Err WalNoMemory) is tt
+      by NotAWal refused is = answer (Ok false) is (no_header w (at + length given) fits NotAWal (λ z. cc) (λ z. cc) refused)
+      by PageSize refused is = answer (Ok false) is (no_header w (at + length given) fits PageSize (λ z. cc) (λ z. cc) refused)
+      by HeaderSum refused is = answer (Ok false) is (no_header w (at + length given) fits HeaderSum (λ z. cc) (λ z. cc) refused)
+      by UnknownVersion refused is = answer (Ok false) is (no_header w (at + length given) fits UnknownVersion (λ z. cc) (λ z. cc) refused)
+
+-- a refusal of a call of the disk while the log is scanned
+pub scan_refusal : {T : Type 0} (w : List ℕ) (end end2 : ℕ) (result : Result T DiskError) (e : DiskError) (s : Scan) (r : Result Bool WalError) (old new : DiskState)
+    → IsSoundDisk old → ArePresent old.log w → end ≤ length w → result ≡ Err e → Looks end result old new → r ≡ Err Device → PieceAnswer w end2 r s old new
+unfolding PieceAnswer ScanRefused
+scan_refusal w end end2 result e s r old new sound are fits is looked device =
+    subst (λ (x : Result Bool WalError). PieceAnswer w end2 x s old new) (sym device)
+    (had_refusal result e end old new sound.refused is looked.within (omega (arith, are.len, sound.log.greatest, sound.log.within)) looked.refused)
+
+-- ---- One piece after another.
+
+module _ (w : List ℕ) (s : Scan) (a b c : DiskState) (le : a.refused ≤ b.refused) where
+  pub piece_after : (end end2 : ℕ) (r : Result Bool WalError) (e : WalError) → r ≡ Err e → PieceAnswer w end r s b c → PieceAnswer w end2 (Err e) s a c
+  unfolding PieceAnswer
+  piece_after end end2 r e is answer = scan_refused_after w e a b c le (let got = subst (λ (x : Result Bool WalError). PieceAnswer w end x s b c) is answer in got)
+
+  pub piece_none : (end end2 : ℕ) (r : Result Bool WalError) (go : Bool) → r ≡ Ok go → go ≡ false → PieceAnswer w end r s b c → PieceAnswer w end2 (Ok false) s a c
+  unfolding PieceAnswer
+  piece_none end end2 r go is off answer = let got = subst (λ (x : Result Bool WalError). PieceAnswer w end x s b c) (is ∙ ap Ok off) answer in got
+
+pub piece_some : (w : List ℕ) (s : Scan) (a b : DiskState) (end : ℕ) (r : Result Bool WalError) (go : Bool) → r ≡ Ok go → go ≡ true → PieceAnswer w end r s a b → Took (take end w) s
+unfolding PieceAnswer
+piece_some w s a b end r go is on answer = let got = subst (λ (x : Result Bool WalError). PieceAnswer w end x s a b) (is ∙ ap Ok on) answer in got
+
+pub piece_done : (w : List ℕ) (s : Scan) (a b : DiskState) (end : ℕ) → Took (take end w) s → PieceAnswer w end (Ok true) s a b
+unfolding PieceAnswer
+piece_done w s a b end took = took
+
+module _ (w : List ℕ) (s : Scan) (a b : DiskState) (n : ℕ) (long : length w ≡ n) where
+  pub scan_some : (r : Result Bool WalError) (go : Bool) → r ≡ Ok go → go ≡ true → PieceAnswer w n r s a b → ScanAnswer w (Ok (Some s)) a b
+  unfolding ScanAnswer
+  scan_some r go is on answer = subst (λ (x : List ℕ). Took x s) (take_all n w (omega arith)) (piece_some w s a b n r go is on answer)
+
+  pub scan_none : (r : Result Bool WalError) (go : Bool) → r ≡ Ok go → go ≡ false → PieceAnswer w n r s a b → ScanAnswer w (Ok None) a b
+  unfolding PieceAnswer ScanAnswer
+  scan_none r go is off answer = let got = subst (λ (x : Result Bool WalError). PieceAnswer w n x s a b) (is ∙ ap Ok off) answer in got
+
+  pub scan_after : (r : Result Bool WalError) (e : WalError) (q : Result (Option Scan) WalError) → r ≡ Err e → q ≡ Err e → PieceAnswer w n r s a b → ScanAnswer w q a b
+  unfolding PieceAnswer ScanAnswer
+  scan_after r e q is same answer = subst (λ (x : Result (Option Scan) WalError). ScanAnswer w x a b) (sym same) (let got = subst (λ (x : Result Bool WalError). PieceAnswer w n x s a b) is answer in got)
+
+pub scan_memory : (w : List ℕ) (a b : DiskState) (q : Result (Option Scan) WalError) → q ≡ Err WalNoMemory → ScanAnswer w q a b
+unfolding ScanAnswer ScanRefused
+scan_memory w a b q is = subst (λ (x : Result (Option Scan) WalError). ScanAnswer w x a b) (sym is) tt

@@ -1,0 +1,46 @@
+use Rattle.std.proofs.Common.{arith}
+use Rattle.crashdisk.specs.declared.file.File.TheVariants.{Db}
+use Rattle.walcore.proofs.Stills.{passed}
+use Rattle.walcore.proofs.Ending.{later_then, sync_later, sync_refused, zero_later, zero_refused, cut_off, end_refused, end_done}
+use Rattle.walcore.proofs.Agreeing.{copied_shows, copied_down, zeroed_shows, zeroed_down, cut_shows}
+use Rattle.walcore.proofs.copying.finish.Goals as goal
+
+pub returns-in_err-settle_database-clause-ends : goal.returns-in_err-settle_database-clause-ends
+returns-in_err-settle_database-clause-ends g c = λ word sound.
+    end_refused c.settle_database.result c.from_residual.result _ (g.D.Disk.state c.args.disk.now) (g.D.Disk.state c.args.disk.now) _ (omega arith) (passed c.from_residual.result _ c.from_residual.ensures.1)
+    (sync_refused Db c.settle_database.result _ _ _ sound c.in_err-settle_database.was (c.settle_database.ensures.state word))
+
+pub returns-in_err-settle_database-clause-shows : goal.returns-in_err-settle_database-clause-shows
+returns-in_err-settle_database-clause-shows g c = λ word size w m d is. copied_shows size w m d c.settle_database.result _ _ is (c.settle_database.ensures.state word)
+
+pub returns-in_err-zero_header-clause-ends : goal.returns-in_err-zero_header-clause-ends
+returns-in_err-zero_header-clause-ends g c = λ word sound.
+    let first = sync_later Db c.settle_database.result _ _ sound (c.settle_database.ensures.state word) in
+    end_refused c.zero_header.result c.from_residual-in_err-zero_header.result _ (g.D.Disk.state c.args.disk.now) (g.D.Disk.state c.settle_database.new.disk) (g.D.Disk.state c.zero_header.new.disk) first.refused (passed c.from_residual-in_err-zero_header.result _ c.from_residual-in_err-zero_header.ensures.1)
+    (zero_refused c.zero_header.result _ _ _ first.sound c.in_err-zero_header.was (c.zero_header.ensures.state (c.settle_database.ensures.word.0 word)))
+
+pub returns-in_err-zero_header-clause-shows : goal.returns-in_err-zero_header-clause-shows
+returns-in_err-zero_header-clause-shows g c = λ word size w m d is.
+    zeroed_shows size d w c.zero_header.result _ _ (copied_down size w m d _ _ _ is (c.in_ok-settle_database.ensures.state word)) (c.zero_header.ensures.state (c.settle_database.ensures.word.0 word))
+
+pub returns-in_err-cut_log-clause-ends : goal.returns-in_err-cut_log-clause-ends
+returns-in_err-cut_log-clause-ends g c = λ word sound.
+    let first = sync_later Db c.settle_database.result _ _ sound (c.settle_database.ensures.state word) in
+    let second = later_then _ _ _ first (zero_later c.zero_header.result _ _ first.sound (c.zero_header.ensures.state (c.settle_database.ensures.word.0 word))) in
+    end_refused c.cut_log.result c.from_residual-in_err-cut_log.result _ (g.D.Disk.state c.args.disk.now) (g.D.Disk.state c.zero_header.new.disk) (g.D.Disk.state c.cut_log.new.disk) second.refused (passed c.from_residual-in_err-cut_log.result _ c.from_residual-in_err-cut_log.ensures.1)
+    (cut_off c.cut_log.result _ _ _ second.sound c.in_err-cut_log.was (c.cut_log.ensures.state (c.zero_header.ensures.word.0 (c.settle_database.ensures.word.0 word))))
+
+pub returns-in_err-cut_log-clause-shows : goal.returns-in_err-cut_log-clause-shows
+returns-in_err-cut_log-clause-shows g c = λ word size w m d is.
+    let filed = copied_down size w m d _ _ _ is (c.in_ok-settle_database.ensures.state word) in
+    cut_shows size d w c.cut_log.result _ _ (zeroed_down size d w _ _ _ filed (c.in_ok-zero_header.ensures.state (c.settle_database.ensures.word.0 word))) (c.cut_log.ensures.state (c.zero_header.ensures.word.0 (c.settle_database.ensures.word.0 word)))
+
+pub returns-clause-ends : goal.returns-clause-ends
+returns-clause-ends g c = λ word sound.
+    end_done c.settle_database.result c.zero_header.result c.cut_log.result _ _ _ _ _ _ _ sound c.in_ok-settle_database.was c.in_ok-zero_header.was c.in_ok-cut_log.was
+    (c.settle_database.ensures.state word) (c.zero_header.ensures.state (c.settle_database.ensures.word.0 word)) (c.cut_log.ensures.state (c.zero_header.ensures.word.0 (c.settle_database.ensures.word.0 word)))
+
+pub returns-clause-shows : goal.returns-clause-shows
+returns-clause-shows g c = λ word size w m d is.
+    let filed = copied_down size w m d _ _ _ is (c.in_ok-settle_database.ensures.state word) in
+    cut_shows size d w c.cut_log.result _ _ (zeroed_down size d w _ _ _ filed (c.in_ok-zero_header.ensures.state (c.settle_database.ensures.word.0 word))) (c.cut_log.ensures.state (c.zero_header.ensures.word.0 (c.settle_database.ensures.word.0 word)))

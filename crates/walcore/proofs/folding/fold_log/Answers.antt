@@ -1,0 +1,29 @@
+use Rattle.std.proofs.Common.{◌∙◌}
+use Rattle.walcore.proofs.Stills.{passed, present_in, still_sound}
+use Rattle.walcore.proofs.Recovering.{read_folds, plan_folds, read_plans}
+use Rattle.walcore.proofs.Agreeing.{scanning_still, down_present}
+use Rattle.walcore.proofs.Looking.{scanning_shows}
+use Rattle.walcore.proofs.folding.fold_log.Goals as goal
+
+pub returns-in_err-plan-clause-folds : goal.returns-in_err-plan-clause-folds
+returns-in_err-plan-clause-folds g c = λ word sound fits long db w are_db are.
+    let is = c.read_plan.ensures.still word sound in
+    read_folds c.args.page_size db w _ _ fits is c.read_plan.result c.from_residual.result _ c.in_err-plan.was (passed c.from_residual.result _ c.from_residual.ensures.1) (c.read_plan.ensures.plan word sound w are (are.len ∙ long))
+
+pub returns-in_err-plan-clause-shows : goal.returns-in_err-plan-clause-shows
+returns-in_err-plan-clause-shows g c = λ word long w d scanning.
+    scanning_shows c.args.page_size d w _ (scanning_still c.args.page_size d w _ _ scanning (c.read_plan.ensures.still word scanning.suits.sound))
+
+pub returns-clause-folds : goal.returns-clause-folds
+returns-clause-folds g c = λ word sound fits long db w are_db are.
+    let is = c.read_plan.ensures.still word sound in
+    let plans = read_plans c.args.page_size w c.read_plan.result c.in_ok-plan.plan _ _ c.in_ok-plan.was (c.read_plan.ensures.plan word sound w are (are.len ∙ long)) in
+    plan_folds c.args.page_size db w _ _ fits is c.read_plan.result c.in_ok-plan.plan c.fold_plan.result _ plans.0
+    (c.fold_plan.ensures.folds (c.read_plan.ensures.word.0 word) (still_sound _ _ sound is) c.args.page_size db w (present_in _ _ db is.db are_db) (present_in _ _ w is.log are) plans.1)
+
+pub returns-clause-shows : goal.returns-clause-shows
+returns-clause-shows g c = λ word long w d scanning.
+    let are = down_present _ w scanning.down in
+    let is = c.read_plan.ensures.still word scanning.suits.sound in
+    let plans = read_plans c.args.page_size w c.read_plan.result c.in_ok-plan.plan _ _ c.in_ok-plan.was (c.read_plan.ensures.plan word scanning.suits.sound w are (are.len ∙ long)) in
+    c.fold_plan.ensures.shows (c.read_plan.ensures.word.0 word) c.args.page_size w d (scanning_still c.args.page_size d w _ _ scanning is) plans.1 plans.0

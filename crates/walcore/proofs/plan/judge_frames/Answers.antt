@@ -1,0 +1,28 @@
+use Rattle.std.proofs.Common.{◌≡◌, ◌≤◌, ◌<◌, ◌*◌, ◌∙◌, sym, true, false, arith}
+use Rattle.walcore.proofs.Judging.{judged_many, judged_large, judged_other, judged}
+use Rattle.walcore.proofs.plan.judge_frames.Goals as goal
+
+pub returns-then-has_too_many : goal.returns-then-has_too_many
+returns-then-has_too_many c = λ w took header. judged_many c.args.page_size c.args.named w header ((c.has_too_many.ensures w took).0 c.if-has_too_many.true)
+
+pub returns-then-from-gt-MOST_BYTES : goal.returns-then-from-gt-MOST_BYTES
+returns-then-from-gt-MOST_BYTES c = λ w took header.
+    let same : c.from.result * c.from-2.result ≡ c.committed-front.result.size * c.args.named = cc in
+    let more : 1073741824 < c.committed-front.result.size * c.args.named = omega (arith, c.if-from-gt-MOST_BYTES.true) in
+    judged_large c.args.page_size c.args.named w header c.committed-front.result (c.committed-front.ensures w took) more
+
+pub returns-then-get : goal.returns-then-get
+returns-then-get c = λ w took header.
+    let same : c.from.result * c.from-2.result ≡ c.committed-front.result.size * c.args.named = cc in
+    let less : c.committed-front.result.size * c.args.named ≤ 1073741824 = omega (arith, c.if-from-gt-MOST_BYTES.false) in
+    judged_other c.args.page_size c.args.named w header c.committed-front.result (c.committed-front.ensures w took)
+    (λ v. let f : false ≡ true = sym c.if-has_too_many.false ∙ (c.has_too_many.ensures w took).1 v in cc) less
+    (λ e. c.if-get.true (c.get-2.ensures.value ∙ e ∙ sym c.get-3.ensures.value))
+
+pub returns : goal.returns
+returns c = λ w took header.
+    let same : c.from.result * c.from-2.result ≡ c.committed-front.result.size * c.args.named = cc in
+    let less : c.committed-front.result.size * c.args.named ≤ 1073741824 = omega (arith, c.if-from-gt-MOST_BYTES.false) in
+    judged c.args.page_size c.args.named w header c.committed-front.result (c.committed-front.ensures w took)
+    (λ v. let f : false ≡ true = sym c.if-has_too_many.false ∙ (c.has_too_many.ensures w took).1 v in cc) less
+    (sym c.get-2.ensures.value ∙ c.if-get.false ∙ c.get-3.ensures.value)

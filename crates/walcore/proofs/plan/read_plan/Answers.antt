@@ -1,0 +1,17 @@
+use Rattle.std.proofs.Common.{ap, ◌∙◌}
+use Rattle.std.specs.Prelude.{Ok}
+use Rattle.walcore.proofs.Stills.{passed}
+use Rattle.walcore.proofs.Judging.{plan_bare, read_planned, read_scan, read_some, read_none}
+use Rattle.walcore.proofs.plan.read_plan.Goals as goal
+
+pub returns-in_err-scanned-clause-plan : goal.returns-in_err-scanned-clause-plan
+returns-in_err-scanned-clause-plan g c = λ word sound w are long.
+    read_scan c.args.page_size w _ _ c.scan_log.result c.from_residual.result _ c.in_err-scanned.was (passed c.from_residual.result _ c.from_residual.ensures.1) (c.scan_log.ensures.took word sound w are long)
+
+pub returns-in-Some-clause-plan : goal.returns-in-Some-clause-plan
+returns-in-Some-clause-plan g c = λ word sound w are long.
+    read_planned c.args.page_size w _ _ c.plan_of.result (c.plan_of.ensures.plan w (read_some c.args.page_size w _ _ c.in-Some.scan c.scan_log.result (c.in_ok-scanned.was ∙ ap Ok c.in-Some.is) (c.scan_log.ensures.took word sound w are long)))
+
+pub returns-in-None-clause-plan : goal.returns-in-None-clause-plan
+returns-in-None-clause-plan g c = λ word sound w are long.
+    read_planned c.args.page_size w _ _ _ (plan_bare c.args.page_size w c.no_plan.result (read_none c.args.page_size w _ _ c.scan_log.result (c.in_ok-scanned.was ∙ ap Ok c.in-None.is) (c.scan_log.ensures.took word sound w are long)) c.no_plan.ensures.frames c.no_plan.ensures.size)

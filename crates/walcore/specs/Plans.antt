@@ -1,0 +1,69 @@
+-- What a fold plans of a scanned log.
+use Rattle.std.specs.Prelude.{◌≡◌, ℕ, ◌-◌, ◌*◌, ◌≤◌, nat_le, cond, List, length, get_or, Result, Ok, Err}
+use Rattle.sqwal.specs.Header.{named_size}
+use Rattle.sqwal.specs.Frames.{page_of, size_of, IsValidFrame, IsFront}
+use Rattle.sqwal.specs.Index.{FrameTable}
+use Rattle.sqwal.specs.declared.scan.Front.{Front}
+use Rattle.crashdisk.specs.Call.{DiskState}
+use Rattle.walcore.specs.Refusal.{most_bytes}
+use Rattle.walcore.specs.Folding.{IsTooLarge, IsOfOtherSize, HadRefusal}
+use Rattle.walcore.specs.declared.plan.Plan.{Plan}
+use Rattle.walcore.specs.declared.error.WalError.{WalError}
+use Rattle.walcore.specs.declared.error.WalError.TheVariants.{TooLarge, PageSize, NoMemory, Device}
+
+-- the page that frame i names, 0 where it is above the count
+unfoldable pub wanted_page : (size count : ℕ) → List ℕ → (i : ℕ) → ℕ
+wanted_page size count w i = cond (nat_le (page_of size w i) count) (page_of size w i) 0
+
+-- the frames 1 to m by the pages that they name
+pub record IsTable (size count : ℕ) (w : List ℕ) (m : ℕ) (t : FrameTable) : Type 0 where
+  pub long : length t.pages ≡ m
+  pub each : (i : ℕ) → 1 ≤ i → i ≤ m → get_or t.pages (i - 1) 0 ≡ wanted_page size count w i
+
+-- what the copying of the frames 1 to m stands on
+pub record IsCopy (size count : ℕ) (w : List ℕ) (m : ℕ) (t : FrameTable) : Type 0 where
+  pub valid : IsValidFrame size w m
+  pub size_is : count ≡ size_of size w m
+  pub within : count * size ≤ most_bytes
+  pub table : IsTable size count w m t
+
+-- all that is needed to fold committed frames
+pub record IsReady (size : ℕ) (w : List ℕ) (plan : Plan) : Type 0 where
+  pub named : named_size w ≡ size
+  pub copy : IsCopy size plan.size w plan.frames plan.index
+  pub room : length plan.page.items ≡ size
+
+pub record IsPlan (size : ℕ) (w : List ℕ) (plan : Plan) : Type 0 where
+  pub front : IsFront (named_size w) w plan.frames
+  pub none : plan.frames ≡ 0 → plan.size ≡ 0
+  pub some : 1 ≤ plan.frames → IsReady size w plan
+
+-- the log is one that can be folded into pages of this size
+pub record IsFit (size : ℕ) (w : List ℕ) : Type 0 where
+  pub small : IsTooLarge w → ⊥
+  pub same : IsOfOtherSize size w → ⊥
+
+pub record IsJudged (size : ℕ) (w : List ℕ) (f : Front) : Type 0 where
+  pub fit : IsFit size w
+  pub front : IsFront (named_size w) w f.frames
+  pub none : f.frames ≡ 0 → f.size ≡ 0
+  pub some : 1 ≤ f.frames → (named_size w ≡ size) × (f.size ≡ size_of size w f.frames) × (f.size * size ≤ most_bytes)
+
+unfoldable pub LogRefused : (size : ℕ) → List ℕ → WalError → Type 0
+LogRefused size w TooLarge = IsTooLarge w
+LogRefused size w PageSize = (IsTooLarge w → ⊥) × IsOfOtherSize size w
+LogRefused size w _ = ⊥
+
+unfoldable pub JudgeAnswer : (size : ℕ) → List ℕ → Result Front WalError → Type 0
+JudgeAnswer size w (Ok f) = IsJudged size w f
+JudgeAnswer size w (Err e) = LogRefused size w e
+
+unfoldable pub PlanAnswer : (size : ℕ) → List ℕ → Result Plan WalError → Type 0
+PlanAnswer size w (Ok plan) = IsFit size w × IsPlan size w plan
+PlanAnswer size w (Err NoMemory) = Unit {0}
+PlanAnswer size w (Err e) = LogRefused size w e
+
+-- the same of a log on a disk
+unfoldable pub ReadAnswer : (size : ℕ) → List ℕ → Result Plan WalError → (old new : DiskState) → Type 0
+ReadAnswer size w (Err Device) old new = HadRefusal old new
+ReadAnswer size w result old new = PlanAnswer size w result

@@ -1,0 +1,128 @@
+-- What the parts of a fold do to a disk.
+use Rattle.std.specs.Prelude.{◌≡◌, ◌⊎◌, ℕ, suc, ◌+◌, ◌-◌, ◌*◌, ◌^◌, ◌<◌, ◌≤◌, Bool, true, false, List, [], length, get_or, take, replicate, Result, Ok, Err, IsErr, Option, Some, None}
+use Rattle.sqval.specs.Database.{Database, page}
+use Rattle.sqwal.specs.Header.{IsHeader, named_size}
+use Rattle.sqwal.specs.Frames.{IsValidFrame, content_of}
+use Rattle.sqwal.specs.View.{Unnamed, IsLast}
+use Rattle.sqwal.specs.Refusal.{most_frames}
+use Rattle.sqwal.specs.Took.{Took}
+use Rattle.sqwal.specs.declared.scan.Scan.{Scan}
+use Rattle.sqwal.specs.declared.error.WalFormatError.{WalFormatError}
+use Rattle.sqwal.specs.declared.error.WalFormatError.TheVariants.{TooLong, NoMemory}
+use Rattle.crashdisk.specs.State.{FileState, byte, IsSettled}
+use Rattle.crashdisk.specs.Call.{DiskState, IsSoundDisk, ArePresent, Writes, Cuts, Syncs}
+use Rattle.crashdisk.specs.declared.file.File.{File}
+use Rattle.crashdisk.specs.declared.file.File.TheVariants.{Db, Log}
+use Rattle.crashdisk.specs.declared.error.DiskError.{DiskError}
+use Rattle.walcore.specs.Folding.{HadRefusal, IsFolded}
+use Rattle.walcore.specs.Phases.{Writing, Filed}
+use Rattle.walcore.specs.declared.folding.Folded.{Folded}
+use Rattle.walcore.specs.declared.error.WalError.{WalError}
+use Rattle.walcore.specs.declared.error.WalError.TheVariants.{TooLarge, NoMemory as WalNoMemory, Device}
+
+-- calls that changed no byte
+pub record Still (old new : DiskState) : Type 0 where
+  pub sector : new.sector ≡ old.sector
+  pub tears : new.tears ≡ old.tears
+  pub db : new.db ≡ old.db
+  pub log : new.log ≡ old.log
+  pub kept : new.kept ≡ old.kept
+  pub handed : new.handed ≡ old.handed
+  pub refused : old.refused ≤ new.refused
+  pub count : new.refused < 2 ^ 64
+
+-- calls that left the log alone
+pub record KeepsLog (old new : DiskState) : Type 0 where
+  pub sector : new.sector ≡ old.sector
+  pub tears : new.tears ≡ old.tears
+  pub log : new.log ≡ old.log
+  pub kept : new.kept ≡ old.kept
+  pub handed : new.handed ≡ old.handed
+  pub refused : old.refused ≤ new.refused
+  pub sound : IsSoundDisk new
+
+-- a refusal of a call of the disk is answered by Device
+abbrev pub Told : {T : Type 0} → Result T DiskError → Result T WalError → Type 0
+Told (Ok _) (Ok _) = Unit {0}
+Told (Ok _) (Err _) = ⊥
+Told (Err _) (Ok _) = ⊥
+Told (Err _) (Err e) = e ≡ Device
+
+-- ---- The scan.
+
+unfoldable pub ScanRefused : List ℕ → WalError → (old new : DiskState) → Type 0
+ScanRefused w TooLarge old new = IsValidFrame (named_size w) w (suc most_frames)
+ScanRefused w WalNoMemory old new = Unit {0}
+ScanRefused w Device old new = HadRefusal old new
+ScanRefused w _ old new = ⊥
+
+-- how a refusal of the scan is answered
+abbrev pub IsWithoutHeader : WalFormatError → Result Bool WalError → Type 0
+IsWithoutHeader TooLong r = r ≡ Err TooLarge
+IsWithoutHeader NoMemory r = r ≡ Err WalNoMemory
+IsWithoutHeader e r = r ≡ Ok false
+
+-- the scan has taken the log up to this place, or the log has no valid header
+unfoldable pub PieceAnswer : List ℕ → (end : ℕ) → Result Bool WalError → Scan → (old new : DiskState) → Type 0
+PieceAnswer w end (Ok true) s old new = Took (take end w) s
+PieceAnswer w end (Ok false) s old new = IsHeader (named_size w) w → ⊥
+PieceAnswer w end (Err e) s old new = ScanRefused w e old new
+
+unfoldable pub ScanAnswer : List ℕ → Result (Option Scan) WalError → (old new : DiskState) → Type 0
+ScanAnswer w (Ok (Some s)) old new = Took w s
+ScanAnswer w (Ok None) old new = IsHeader (named_size w) w → ⊥
+ScanAnswer w (Err e) old new = ScanRefused w e old new
+
+-- ---- The copying.
+
+-- the last frame that names page p, of the frames 1 to m, is read and written to its place
+pub record PutsPage {T : Type 0} (size : ℕ) (w : List ℕ) (m p : ℕ) (called : Result T DiskError) (old new : DiskState) : Type 0 where
+  pub frame : ℕ
+  pub last : IsLast size w m p frame
+  pub mid : DiskState
+  pub read : Still old mid
+  pub write : Writes Db ((p - 1) * size) (content_of size w frame) called mid new
+
+unfoldable pub PageAnswer : {T : Type 0} → (size : ℕ) → List ℕ → (m p : ℕ) → Result T WalError → (old new : DiskState) → Type 0
+PageAnswer size w m p (Ok done) old new = (Unnamed size w m p × (new ≡ old)) ⊎ PutsPage size w m p (Ok done) old new
+PageAnswer {T = T} size w m p (Err e) old new = (e ≡ Device) × HadRefusal old new × (Still old new ⊎ ((called : Result T DiskError) × PutsPage size w m p called old new))
+
+-- the present bytes are just these pages
+pub record ArePages (size : ℕ) (d : Database) (s : FileState) : Type 0 where
+  pub len : s.len ≡ length d * size
+  pub each : (p : ℕ) → 1 ≤ p → p ≤ length d → (j : ℕ) → j < size → byte s ((p - 1) * size + j) ≡ get_or (page d p) j 0
+
+unfoldable pub CopyAnswer : {T : Type 0} → (size : ℕ) → Database → Result T WalError → (old new : DiskState) → Type 0
+CopyAnswer size d (Ok _) old new = ArePages size d new.db
+CopyAnswer size d (Err e) old new = (e ≡ Device) × HadRefusal old new
+
+-- ---- The end.
+
+abbrev pub SyncStep : {T : Type 0} → File → Result T WalError → (old new : DiskState) → Type 0
+SyncStep {T = T} f result old new = (called : Result T DiskError) × Told called result × Syncs f called old new
+
+-- 32 zero bytes are written over the front of the log, which is then synced
+abbrev pub ZeroSteps : {T : Type 0} → Result T WalError → (old new : DiskState) → Type 0
+ZeroSteps {T = T} result old new =
+    ((called : Result T DiskError) × IsErr called × Told called result × Writes Log 0 (replicate 32 0) called old new)
+    ⊎ ((mid : DiskState) × ((done : T) × Writes Log 0 (replicate 32 0) (Ok done) old mid) × SyncStep Log result mid new)
+
+-- the log's length is set to 0, and it is synced
+abbrev pub CutSteps : {T : Type 0} → Result T WalError → (old new : DiskState) → Type 0
+CutSteps {T = T} result old new =
+    ((called : Result T DiskError) × IsErr called × Told called result × Cuts Log 0 called old new)
+    ⊎ ((mid : DiskState) × ((done : T) × Cuts Log 0 (Ok done) old mid) × SyncStep Log result mid new)
+
+-- the pages are in the file, or there were none to write: so far the log is as it was
+abbrev pub Copied : (size : ℕ) (w : List ℕ) (m : ℕ) (d : Database) → DiskState → Type 0
+Copied size w m d s = (Writing size w m d s × ArePages size d s.db) ⊎ Filed size d w s
+
+-- the database is down, and the log is down and empty
+unfoldable pub EndAnswer : {T : Type 0} → Result T WalError → (old new : DiskState) → Type 0
+EndAnswer (Ok _) old new = ((db : List ℕ) → ArePresent old.db db → IsSettled new.db db) × IsSettled new.log []
+EndAnswer (Err e) old new = (e ≡ Device) × HadRefusal old new
+
+-- what is planned was folded
+unfoldable pub FoldedAnswer : (size : ℕ) (db w : List ℕ) → Result Folded WalError → (old new : DiskState) → Type 0
+FoldedAnswer size db w (Ok f) old new = IsFolded size db w f new
+FoldedAnswer size db w (Err e) old new = (e ≡ Device) × HadRefusal old new

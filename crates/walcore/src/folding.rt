@@ -1,0 +1,108 @@
+//! Recovery: a log is folded into its database.
+ghost use Rattle.std.specs.Prelude.{◌≡◌, ◌↔◌, ◌≤◌, ℕ, List, length, OnOk, OnErr};
+
+use crate::copying::{copy_pages, finish};
+use crate::error::WalError;
+use crate::plan::{Plan, read_plan};
+use crashdisk::{Disk, File};
+use sqval::PageSize;
+use std::alloc::Global;
+
+/// What a fold found: the number of committed frames, and the size of the database in pages there, 0 with no frame.
+#[derive(Clone, Copy, Debug, PartialEq, Eq)]
+pub struct Folded {
+    pub frames: u32,
+    pub size: u32,
+}
+
+ghost use Rattle.crashdisk.specs.Call.{DiskState, IsSoundDisk, ArePresent};
+ghost use Rattle.crashdisk.specs.State.{IsSectorSize};
+ghost use Rattle.sqval.specs.Database.{Database};
+ghost use Rattle.walcore.specs.Alone.{ShowsAlone};
+ghost use Rattle.walcore.specs.Phases.{Scanning, Suits};
+ghost use Rattle.walcore.specs.Steps.{FoldedAnswer};
+ghost use Rattle.walcore.specs.Plans.{IsPlan, IsFit};
+ghost use Rattle.walcore.specs.Folding.{Folds, Agrees, IsEmptyDown, TearsPages};
+
+/// On a disk that tears, a sector may hold no more than a page.
+fn judge_sector<D: Disk>(disk: &D, page_size: PageSize) -> Result<(), WalError>
+    ensures sound { D.keeps_word disk.now → IsSoundDisk (D.state disk.now) }
+    ensures suits { D.keeps_word disk.now → OnOk result (Suits page_size (D.state disk.now)) }
+    ensures refused { D.keeps_word disk.now → OnErr result (TearsPages page_size (D.state disk.now)) }
+    ensures error { OnErr result (result ≡ Err WalError.SectorAbovePage) }
+{
+    let sector = disk.sector();
+    if disk.tears() && (page_size.get() as usize) < sector {
+        return Err(WalError::SectorAbovePage);
+    }
+    Ok(())
+}
+
+/// Folds what is planned.
+fn fold_plan<D: Disk>(disk: &mut D, plan: Plan) -> Result<Folded, WalError>
+    requires { length plan.page.items ≤ 65536 }
+    ensures word { D.keeps_word disk.old ↔ D.keeps_word disk.new }
+    ensures folds { D.keeps_word disk.old → IsSoundDisk (D.state disk.old)
+        → (size : ℕ) (db w : List ℕ) → ArePresent (D.state disk.old).db db → ArePresent (D.state disk.old).log w → IsPlan size w plan
+        → FoldedAnswer size db w result (D.state disk.old) (D.state disk.new) }
+    ensures shows { D.keeps_word disk.old → (size : ℕ) (w : List ℕ) (d : Database) → Scanning size d w (D.state disk.old)
+        → IsPlan size w plan → IsFit size w → ShowsAlone size d (D.state disk.new) }
+{
+    if plan.frames == 0 {
+        finish(disk)?;
+        return Ok(Folded { frames: 0, size: 0 });
+    }
+    let mut page = plan.page;
+    copy_pages(disk, &plan.index, plan.frames, plan.size, &mut page)?;
+    finish(disk)?;
+    Ok(Folded {
+        frames: plan.frames,
+        size: plan.size,
+    })
+}
+
+/// Folds a log of this many bytes.
+fn fold_log<D: Disk>(
+    alloc: Global,
+    disk: &mut D,
+    long: u64,
+    page_size: PageSize,
+) -> Result<Folded, WalError>
+    ensures word { D.keeps_word disk.old ↔ D.keeps_word disk.new }
+    ensures folds { D.keeps_word disk.old → IsSoundDisk (D.state disk.old) → (TearsPages page_size (D.state disk.old) → ⊥) → (D.state disk.old).log.len ≡ long
+        → Folds page_size result (D.state disk.old) (D.state disk.new) }
+    ensures shows { D.keeps_word disk.old → (D.state disk.old).log.len ≡ long
+        → (w : List ℕ) (d : Database) → Scanning page_size d w (D.state disk.old) → ShowsAlone page_size d (D.state disk.new) }
+{
+    let plan = read_plan(alloc, disk, long, page_size)?;
+    fold_plan(disk, plan)
+}
+
+/// Folds the log into the database and empties it.
+pub fn fold<D: Disk>(alloc: Global, disk: &mut D, page_size: PageSize) -> Result<Folded, WalError>
+    ensures word { D.keeps_word disk.old ↔ D.keeps_word disk.new }
+    ensures folds { D.keeps_word disk.old → Folds page_size result (D.state disk.old) (D.state disk.new) }
+    ensures agrees { D.keeps_word disk.old → Agrees page_size (D.state disk.old) (D.state disk.new) }
+{
+    judge_sector(disk, page_size)?;
+    disk.sync(File::Log)?;
+    fold_synced(alloc, disk, page_size)
+}
+
+/// What a fold does once it has synced the log: a log of no bytes is left as it is.
+pub fn fold_synced<D: Disk>(
+    alloc: Global,
+    disk: &mut D,
+    page_size: PageSize,
+) -> Result<Folded, WalError>
+    ensures word { D.keeps_word disk.old ↔ D.keeps_word disk.new }
+    ensures folds { D.keeps_word disk.old → IsEmptyDown (D.state disk.old) → Folds page_size result (D.state disk.old) (D.state disk.new) }
+    ensures agrees { D.keeps_word disk.old → Agrees page_size (D.state disk.old) (D.state disk.new) }
+{
+    judge_sector(disk, page_size)?;
+    let long = disk.len(File::Log)?;
+    if long == 0 {
+        return Ok(Folded { frames: 0, size: 0 });
+    }
+    fold_log(alloc, disk, long, page_size)
+}

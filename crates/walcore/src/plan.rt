@@ -1,0 +1,156 @@
+//! What a fold is going to do.
+ghost use Rattle.std.specs.Prelude.{◌≡◌, ◌↔◌, ◌+◌, ◌≤◌, ℕ, List, length, IfOk, OnOk, OnErr, IsTrue};
+ghost use Rattle.crashdisk.specs.Call.{DiskState, IsSoundDisk, ArePresent};
+ghost use Rattle.sqwal.specs.Took.{Took};
+ghost use Rattle.sqwal.specs.Header.{named_size, IsHeader};
+ghost use Rattle.sqwal.specs.Frames.{IsValidFrame};
+ghost use Rattle.walcore.specs.Steps.{Still};
+ghost use Rattle.walcore.specs.Plans.{wanted_page, IsTable, IsFit, IsPlan, JudgeAnswer, PlanAnswer, ReadAnswer};
+
+use crate::error::WalError;
+use crate::reading::{scan_log, zeros};
+use crashdisk::Disk;
+use sqval::PageSize;
+use sqwal::{FrameIndex, Front, Scan};
+use std::alloc::Global;
+
+/// The most bytes of a database.
+const MOST_BYTES: u64 = 1073741824;
+
+/// The most frames of a log.
+const MOST_FRAMES: usize = 2097152;
+
+/// The committed frames of a log, the size of the database there in pages, the frames by their pages, and room for
+/// one page.
+#[derive(Drop)]
+pub struct Plan {
+    pub frames: u32,
+    pub size: u32,
+    pub index: FrameIndex,
+    pub page: Vec<u8>,
+}
+
+/// Whether there are more frames than are scanned.
+fn has_too_many(scan: &Scan) -> bool
+    ensures { (w : List ℕ) → Took w scan.now → IsTrue result ↔ IsValidFrame (named_size w) w 2097153 }
+{
+    scan.entry(MOST_FRAMES + 1).is_some()
+}
+
+/// Whether a log of pages of the named size is too large, or one of pages of another size.
+fn judge_frames(scan: &Scan, named: PageSize, page_size: PageSize) -> Result<Front, WalError>
+    ensures { (w : List ℕ) → Took w scan.now → IsHeader named w → JudgeAnswer page_size w result }
+{
+    let front = scan.committed();
+    if has_too_many(scan) {
+        return Err(WalError::TooLarge);
+    }
+    if u64::from(front.size) * u64::from(named.get()) > MOST_BYTES {
+        return Err(WalError::TooLarge);
+    }
+    if named.get() != page_size.get() {
+        return Err(WalError::PageSize);
+    }
+    Ok(front)
+}
+
+/// Whether the log is too large, or one of pages of another size.
+fn judge(scan: &Scan, page_size: PageSize) -> Result<Front, WalError>
+    ensures { (w : List ℕ) → Took w scan.now → JudgeAnswer page_size w result }
+{
+    match scan.header() {
+        Some(header) => judge_frames(scan, header.page_size, page_size),
+        None => Ok(scan.committed()),
+    }
+}
+
+/// The page that a frame names, 0 where it is above the size.
+fn wanted(scan: &Scan, frame: usize, size: u32) -> u32
+    ensures bound { result ≤ size }
+    ensures page { (w : List ℕ) → Took w scan.now → IsValidFrame (named_size w) w frame → result ≡ wanted_page (named_size w) size w frame }
+{
+    match scan.entry(frame) {
+        Some(entry) => { if entry.page <= size { entry.page } else { 0 } }
+        None => 0,
+    }
+}
+
+/// Makes room for the frames of a log and the pages of its database.
+fn grow(index: &mut FrameIndex, bound: u32, frames: u32) -> Result<(), WalError>
+    ensures pages { index.new.pages ≡ index.old.pages }
+    ensures bound { OnOk result (bound ≤ index.new.bound) }
+    ensures room { OnOk result (frames ≤ index.new.room) }
+    ensures memory { OnErr result (result ≡ Err WalError.NoMemory) }
+{
+    match index.grow(bound, frames) {
+        Ok(()) => Ok(()),
+        Err(_) => Err(WalError::NoMemory),
+    }
+}
+
+/// The frames of the log by their pages.
+fn index_of(alloc: Global, scan: &Scan, front: Front) -> Result<FrameIndex, WalError>
+    ensures table { IfOk result (λ t. (w : List ℕ) → Took w scan.now → IsValidFrame (named_size w) w front.frames → IsTable (named_size w) front.size w front.frames t) }
+    ensures memory { OnErr result (result ≡ Err WalError.NoMemory) }
+{
+    let mut index = FrameIndex::new(alloc);
+    grow(&mut index, front.size, front.frames)?;
+    for k in 0..front.frames {
+        index.push(wanted(scan, k as usize + 1, front.size));
+    }
+    Ok(index)
+}
+
+/// With no committed frames there is nothing to do.
+fn no_plan(alloc: Global) -> Plan
+    ensures frames { result.frames ≡ 0 }
+    ensures size { result.size ≡ 0 }
+    ensures room { length result.page.items ≡ 0 }
+{
+    Plan {
+        frames: 0,
+        size: 0,
+        index: FrameIndex::new(alloc),
+        page: Vec::new(alloc),
+    }
+}
+
+/// Judges the scanned log, and takes all memory that the fold needs.
+fn plan_of(alloc: Global, scan: &Scan, page_size: PageSize) -> Result<Plan, WalError>
+    ensures plan { (w : List ℕ) → Took w scan.now → PlanAnswer page_size w result }
+    ensures room { IfOk result (λ p. length p.page.items ≤ 65536) }
+{
+    let front = judge(scan, page_size)?;
+    if front.frames == 0 {
+        return Ok(no_plan(alloc));
+    }
+    let index = index_of(alloc, scan, front)?;
+    let page = zeros(alloc, page_size.get() as usize)?;
+    Ok(Plan {
+        frames: front.frames,
+        size: front.size,
+        index,
+        page,
+    })
+}
+
+/// Reads the log, which has this many bytes, and judges it.
+pub fn read_plan<D: Disk>(
+    alloc: Global,
+    disk: &mut D,
+    long: u64,
+    page_size: PageSize,
+) -> Result<Plan, WalError>
+    ensures word { D.keeps_word disk.old ↔ D.keeps_word disk.new }
+    ensures still { D.keeps_word disk.old → IsSoundDisk (D.state disk.old) → Still (D.state disk.old) (D.state disk.new) }
+    ensures plan { D.keeps_word disk.old → IsSoundDisk (D.state disk.old)
+        → (w : List ℕ) → ArePresent (D.state disk.old).log w → length w ≡ long
+        → ReadAnswer page_size w result (D.state disk.old) (D.state disk.new) }
+    ensures room { IfOk result (λ p. length p.page.items ≤ 65536) }
+{
+    let scanned = scan_log(alloc, disk, long)?;
+    match scanned {
+        Some(scan) => plan_of(alloc, &scan, page_size),
+        None => Ok(no_plan(alloc)),
+    }
+}

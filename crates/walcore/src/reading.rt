@@ -1,0 +1,98 @@
+//! The scan of the log on a disk.
+ghost use Rattle.std.specs.Prelude.{◌≡◌, ◌↔◌, ◌+◌, ◌<◌, ◌≤◌, ℕ, List, [], length, take, IfOk, OnErr};
+ghost use Rattle.crashdisk.specs.Call.{DiskState, IsSoundDisk, ArePresent};
+ghost use Rattle.sqwal.specs.Took.{Took};
+ghost use Rattle.walcore.specs.Steps.{Still, IsWithoutHeader, PieceAnswer, ScanAnswer};
+
+use crate::error::WalError;
+use crashdisk::{Disk, File};
+use sqwal::{Scan, WalFormatError};
+use std::alloc::Global;
+
+/// How many bytes of the log are read at once.
+const PIECE: usize = 131072;
+
+/// A log whose header isn't valid has no frames.
+fn without_header(error: WalFormatError) -> Result<bool, WalError>
+    ensures { IsWithoutHeader error result }
+{
+    match error {
+        WalFormatError::NotAWal => Ok(false),
+        WalFormatError::PageSize => Ok(false),
+        WalFormatError::HeaderSum => Ok(false),
+        WalFormatError::UnknownVersion => Ok(false),
+        WalFormatError::TooLong => Err(WalError::TooLarge),
+        WalFormatError::NoMemory => Err(WalError::NoMemory),
+    }
+}
+
+/// Reads the next piece of the log and hands it to the scan. Whether the log may have a valid header.
+fn feed_piece<D: Disk>(
+    disk: &mut D,
+    scan: &mut Scan,
+    at: u64,
+    piece: &mut [u8],
+) -> Result<bool, WalError>
+    ensures word { D.keeps_word disk.old ↔ D.keeps_word disk.new }
+    ensures still { D.keeps_word disk.old → IsSoundDisk (D.state disk.old) → Still (D.state disk.old) (D.state disk.new) }
+    ensures took { D.keeps_word disk.old → IsSoundDisk (D.state disk.old)
+        → (w : List ℕ) → ArePresent (D.state disk.old).log w → at + length piece.old ≤ length w → Took (take at w) scan.old
+        → PieceAnswer w (at + length piece.old) result scan.new (D.state disk.old) (D.state disk.new) }
+{
+    disk.read_at(File::Log, at, piece)?;
+    match scan.feed(piece) {
+        Ok(()) => Ok(true),
+        Err(error) => without_header(error),
+    }
+}
+
+/// Hands the log, which has this many bytes, to the scan. Whether it may have a valid header.
+fn scan_pieces<D: Disk>(
+    disk: &mut D,
+    scan: &mut Scan,
+    long: u64,
+    buffer: &mut [u8],
+) -> Result<bool, WalError>
+    requires { 0 < length buffer.old }
+    ensures word { D.keeps_word disk.old ↔ D.keeps_word disk.new }
+    ensures still { D.keeps_word disk.old → IsSoundDisk (D.state disk.old) → Still (D.state disk.old) (D.state disk.new) }
+    ensures took { D.keeps_word disk.old → IsSoundDisk (D.state disk.old)
+        → (w : List ℕ) → ArePresent (D.state disk.old).log w → length w ≡ long → Took [] scan.old
+        → PieceAnswer w long result scan.new (D.state disk.old) (D.state disk.new) }
+{
+    let most = buffer.len();
+    let mut at = 0;
+    while at < long {
+        let n = (long - at).min(most as u64) as usize;
+        if !feed_piece(disk, scan, at, &mut buffer[..n])? {
+            return Ok(false);
+        }
+        at += n as u64;
+    }
+    Ok(true)
+}
+
+/// So many zero bytes.
+pub fn zeros(alloc: Global, long: usize) -> Result<Vec<u8>, WalError>
+    ensures long { IfOk result (λ v. length v.items ≡ long) }
+    ensures memory { OnErr result (result ≡ Err WalError.NoMemory) }
+{
+    Ok(vec![in alloc; 0u8; long]?)
+}
+
+/// Scans the log, which has this many bytes. None where its header isn't valid.
+pub fn scan_log<D: Disk>(alloc: Global, disk: &mut D, long: u64) -> Result<Option<Scan>, WalError>
+    ensures word { D.keeps_word disk.old ↔ D.keeps_word disk.new }
+    ensures still { D.keeps_word disk.old → IsSoundDisk (D.state disk.old) → Still (D.state disk.old) (D.state disk.new) }
+    ensures took { D.keeps_word disk.old → IsSoundDisk (D.state disk.old)
+        → (w : List ℕ) → ArePresent (D.state disk.old).log w → length w ≡ long
+        → ScanAnswer w result (D.state disk.old) (D.state disk.new) }
+{
+    let mut buffer = zeros(alloc, PIECE)?;
+    let mut scan = Scan::new(alloc);
+    if scan_pieces(disk, &mut scan, long, &mut buffer)? {
+        Ok(Some(scan))
+    } else {
+        Ok(None)
+    }
+}
