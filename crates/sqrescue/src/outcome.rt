@@ -1,0 +1,44 @@
+//! What a recovery did, or why it was refused.
+use std::fmt;
+use thiserror::Error;
+
+/// What a recovery did.
+#[derive(Clone, Copy, Debug, PartialEq, Eq)]
+pub enum Outcome {
+    /// There was no log.
+    Nothing,
+    /// The log had no committed frame, and was emptied.
+    NoFront,
+    /// So many committed frames were folded into the database, which has so many pages now.
+    Folded { frames: u32, pages: u32 },
+}
+
+impl fmt::Display for Outcome {
+    fn fmt<W: fmt::Write>(&self, f: &mut fmt::Formatter<W>) -> fmt::Result {
+        match self {
+            Outcome::Nothing => write!(f, "nothing to recover"),
+            Outcome::NoFront => write!(f, "wal: front 0"),
+            Outcome::Folded { frames, pages } => write!(f, "wal: front {frames}, {pages} pages"),
+        }
+    }
+}
+
+/// Why a recovery was refused. Nothing was written but where a file failed.
+#[derive(Clone, Copy, Debug, PartialEq, Eq, Error)]
+pub enum Refusal {
+    /// A file is missing, is no file, or its system refused a call.
+    #[error("file failed")]
+    FileFailed,
+    /// The log's version isn't 3007000.
+    #[error("unknown log version")]
+    UnknownLogVersion,
+    /// The database and its log name different page sizes.
+    #[error("page sizes differ")]
+    PageSizesDiffer,
+    /// The log's database would be above 1,073,741,824 bytes, or the log has more frames than are scanned.
+    #[error("too large")]
+    TooLarge,
+    /// No memory.
+    #[error("no memory")]
+    NoMemory,
+}

@@ -1,0 +1,62 @@
+//! The program over a runtime's files and two writers.
+ghost use Rattle.std.specs.Prelude.{◌≤◌};
+
+use crate::recovery::recover;
+use crate::requests::{LineError, Request};
+use crate::words::request;
+use std::fmt::Display;
+use std::io::{self, Write};
+use std::os::unix::fs::FileExt;
+use std::rt::Files;
+
+const DONE: u8 = 0;
+
+const NOT_UNDERSTOOD: u8 = 2;
+
+const REFUSED: u8 = 3;
+
+/// Carries out a command line, whose first word is the program's name, and answers the program's status: 0 where it is
+/// done (also for help), 2 for words that aren't understood, 3 where it was refused or a file or a writer failed.
+pub fn run<R: Files + AllocGlobal, O: Write, E: Write>(
+    rt: &R,
+    words: &[&str],
+    out: &mut O,
+    err: &mut E,
+) -> u8
+where
+    R::File: FileExt,
+    ensures { result ≤ 3 }
+{
+    match request(rt.alloc(), words) {
+        Ok(Request::Recover { file }) => match recover(rt, file) {
+            Ok(outcome) => printed(out, &outcome, DONE),
+            Err(refusal) => refused(err, &refusal),
+        },
+        Err(LineError::Help(help)) => printed(out, &help, DONE),
+        Err(LineError::NotUnderstood(fault)) => printed(err, &fault, NOT_UNDERSTOOD),
+        Err(LineError::NoMemory) => refused(err, &LineError::NoMemory),
+    }
+}
+
+fn line<W: Write, T: Display>(writer: &mut W, text: &T) -> io::Result<()> {
+    writeln!(writer, "{text}")?;
+    writer.flush()
+}
+
+/// The status, or 3 where the line can't be written.
+fn printed<W: Write, T: Display>(writer: &mut W, text: &T, status: u8) -> u8
+    requires { status ≤ 3 }
+    ensures { result ≤ 3 }
+{
+    match line(writer, text) {
+        Ok(()) => status,
+        Err(_) => REFUSED,
+    }
+}
+
+fn refused<W: Write, T: Display>(err: &mut W, text: &T) -> u8
+    ensures { result ≤ 3 }
+{
+    let _ = line(err, &format_args!("sqrescue: {text}"));
+    REFUSED
+}

@@ -1,0 +1,23 @@
+//! What a command line asks for, or why it asks for nothing.
+use thiserror::Error;
+
+/// What a line asks for.
+#[derive(Clone, Copy, Debug, PartialEq, Eq)]
+pub enum Request<'a> {
+    /// To fold the log of this database file into it.
+    Recover { file: &'a str },
+}
+
+/// Why a line asks for nothing.
+#[derive(Debug, Drop, Error)]
+pub enum LineError {
+    /// The words aren't understood; the text says which.
+    #[error("{0}")]
+    NotUnderstood(clap::Error),
+    /// They ask for help, which the text is.
+    #[error("{0}")]
+    Help(clap::Error),
+    /// No memory to read them.
+    #[error("no memory")]
+    NoMemory,
+}
