@@ -1,0 +1,11 @@
+pub mod Totals
+pub mod Headers
+pub mod Parts
+pub mod Continuing
+pub mod Standing
+pub mod Left
+pub mod Journals
+pub mod Taking
+pub mod Unique
+pub mod Contents
+pub mod OneRestored

@@ -1,0 +1,18 @@
+//! Rollback journals: their headers, the sums of their records, and what a journal says, read in pieces.
+#![tactic(auto)]
+
+mod error;
+mod header;
+mod nonce;
+mod pieces;
+mod reading;
+mod replay;
+
+pub use error::JournalError;
+pub use header::{JournalHeader, is_magic, next_header_at};
+pub use nonce::page_sum;
+pub use reading::{Record, Why};
+pub use replay::{Replay, Stop};
+
+#[cfg(test)]
+mod tests;
