@@ -1,0 +1,9 @@
+pub mod Faults
+pub mod Lists
+pub mod Header
+pub mod Source
+pub mod Freelist
+pub mod Taking
+pub mod Page
+pub mod Chain
+pub mod SoundPage

@@ -1,0 +1,26 @@
+//! The pages of a database file: its header, the pages of its b-trees with their cells, overflow
+//! chains, and the freelist.
+#![tactic(auto)]
+
+mod bytes;
+mod cell;
+mod fault;
+mod free_pages;
+mod header;
+mod kind;
+mod overflow;
+mod page;
+mod source;
+mod taken;
+
+pub use cell::{Cell, split};
+pub use fault::{CheckError, Fault};
+pub use free_pages::freelist;
+pub use header::DbHeader;
+pub use kind::Kind;
+pub use overflow::payload;
+pub use page::BtreePage;
+pub use source::{PageSource, SliceSource, SourceError};
+
+#[cfg(test)]
+mod tests;

@@ -1,0 +1,118 @@
+//! Where the pages of a database come from.
+ghost use Rattle.std.specs.Prelude.{◌≡◌, ◌↔◌, ℕ, ◌%◌, ◌/◌, ◌*◌, ◌<◌, ◌^◌, ◌≤◌, length, IsOk, IsSome, IfSome, IfErr};
+ghost use Rattle.sqval.specs.Database.{Database, page};
+ghost use Rattle.sqpage.specs.Source.{sliced};
+ghost use Rattle.sqpage.specs.declared.fault.Fault.{Fault};
+
+use crate::fault::{CheckError, Fault};
+use sqval::PageSize;
+use thiserror::Error;
+
+/// A page that could not be read.
+#[derive(Clone, Copy, Debug, PartialEq, Eq, Error)]
+#[error("a page could not be read")]
+pub struct SourceError;
+
+/// A database whose pages are read one by one.
+pub trait PageSource {
+    /// Its pages.
+    ghost pages: { Self → Database };
+
+    /// The size of its pages.
+    ghost size: { Self → ℕ };
+
+    /// Each read of a page gives it. Nothing can be said of the bytes that are read where it doesn't.
+    ghost gives_pages: { Self → Type 0 };
+
+    fn page_size(&self) -> PageSize
+        ensures { result ≡ size self.now };
+
+    /// How many pages there are.
+    fn count(&self) -> u32
+        ensures { result ≡ length (pages self.now) };
+
+    /// Reads page `p` to `out`, which has the size of a page.
+    fn page(&mut self, p: u32, out: &mut [u8]) -> Result<(), SourceError>
+        requires above { 0 < p }
+        requires within { p ≤ length (pages self.old) }
+        requires room { length out.old ≡ size self.old }
+        ensures read { gives_pages self.old → IsOk result × (out.new ≡ page (pages self.old) p) }
+        ensures still_gives { gives_pages self.old → gives_pages self.new }
+        ensures same_pages { pages self.new ≡ pages self.old }
+        ensures same_size { size self.new ≡ size self.old };
+}
+
+/// The pages of a file that lies in memory.
+#[derive(Clone, Copy, Debug)]
+pub struct SliceSource<'a> {
+    bytes: &'a [u8],
+    page_size: PageSize,
+    count: u32,
+    ghost whole: { length bytes.now ≡ count * page_size },
+}
+
+impl<'a> SliceSource<'a> {
+    /// The pages in the bytes. None where these are not whole pages, or are above `u32::MAX` pages.
+    pub fn new(bytes: &'a [u8], page_size: PageSize) -> Option<SliceSource<'a>>
+        ensures whole { IsSome result ↔ ((count : ℕ) × (count < 2 ^ 32) × (length bytes.entry.now ≡ count * page_size)) }
+        ensures bytes { IfSome result (λ source. source.bytes.now ≡ bytes.entry.now) }
+        ensures size { IfSome result (λ source. source.page_size ≡ page_size) }
+    {
+        let size = page_size.get() as usize;
+        if bytes.len() % size != 0 {
+            return None;
+        }
+        match u32::try_from(bytes.len() / size) {
+            Ok(count) => Some(SliceSource {
+                bytes,
+                page_size,
+                count,
+            }),
+            Err(_) => None,
+        }
+    }
+}
+
+impl<'a> PageSource for SliceSource<'a> {
+    ghost pages = { λ s. sliced s.page_size s.count s.bytes.now };
+
+    ghost size = { λ s. s.page_size };
+
+    ghost gives_pages = { λ _. Unit {0} };
+
+    fn page_size(&self) -> PageSize {
+        self.page_size
+    }
+
+    fn count(&self) -> u32 {
+        self.count
+    }
+
+    fn page(&mut self, p: u32, out: &mut [u8]) -> Result<(), SourceError> {
+        let size = self.page_size.get() as usize;
+        let at = (p as usize - 1) * size;
+        out.copy_from_slice(&self.bytes[at..at + size]);
+        Ok(())
+    }
+}
+
+/// Reads page `p` of the source. Refused by Source where it could not be read.
+pub(crate) fn read_page<S: PageSource>(
+    source: &mut S,
+    p: u32,
+    out: &mut [u8],
+) -> Result<(), CheckError>
+    requires above { 0 < p }
+    requires within { p ≤ length (S.pages source.old) }
+    requires room { length out.old ≡ S.size source.old }
+    ensures read { S.gives_pages source.old → IsOk result × (out.new ≡ page (S.pages source.old) p) }
+    ensures still_gives { S.gives_pages source.old → S.gives_pages source.new }
+    ensures same_pages { S.pages source.new ≡ S.pages source.old }
+    ensures same_size { S.size source.new ≡ S.size source.old }
+    ensures err { IfErr result (λ e. (e.fault ≡ Fault.Source) × (e.page ≡ p)) }
+{
+    source.page(p, out).map_err(|_| CheckError {
+        page: p,
+        fault: Fault::Source,
+    })
+}
