@@ -8,7 +8,7 @@ use Rattle.sqval.specs.Bytes.{word}
 use Rattle.sqjournal.specs.Header.{IsFirstHeader, IsRefused, Names}
 use Rattle.sqjournal.specs.Journal.{entry_of}
 use Rattle.sqjournal.specs.Reading.{Stands, Waits, IsSound, why_of}
-use Rattle.sqjournal.specs.Took.{IsUnjudged, IsJudged, Took, GoesOn, HasEntry, IsTakeable, Refuses}
+use Rattle.sqjournal.specs.Took.{IsUnjudged, IsJudged, Took, GoesOn, HasEntry, HasCount, IsTakeable, Refuses}
 use Rattle.sqjournal.specs.declared.error.JournalError.{JournalError}
 use Rattle.sqjournal.specs.declared.error.JournalError.TheVariants.{NotAJournal, SectorSize, PageSize, NoMemory, TooLong}
 use Rattle.sqjournal.specs.declared.header.JournalHeader.{JournalHeader}
@@ -137,6 +137,15 @@ has_entry b s i entry t e =
       stop = x.stop;
       is = x.are.is;
       value = e ∙ ap (λ l. entry_of l i) (sym x.are.all);
+    }
+
+pub has_count : (b : List ℕ) (s : Replay) (n : ℕ) → Took b s → n ≡ length s.records.items → HasCount b n
+has_count b s n t e =
+    let x = ends_some b s t s.reading refl in record {
+      segments = x.are.segments;
+      stop = x.stop;
+      is = x.are.is;
+      value = e ∙ ap (λ l. length l) (sym x.are.all);
     }
 
 pub entry_zero : (es : List Record) (i : ℕ) → i ≡ 0 → entry_of es i ≡ None

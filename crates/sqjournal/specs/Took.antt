@@ -54,6 +54,13 @@ pub record HasEntry (b : List ℕ) (i : ℕ) (entry : Option Record) : Type 0 wh
   pub is : IsJournal b segments stop.at stop.why
   pub value : entry ≡ entry_of (entries (sizes_of b) 0 segments) i
 
+-- it has so many records
+pub record HasCount (b : List ℕ) (n : ℕ) : Type 0 where
+  pub segments : List Segment
+  pub stop : Stop
+  pub is : IsJournal b segments stop.at stop.why
+  pub value : n ≡ length (entries (sizes_of b) 0 segments)
+
 -- of the helpers alone: a first header, judged before or now, and the piece after the bytes can be read
 pub record GoesOn (b piece : List ℕ) (s : Replay) (r : Reading) : Type 0 where
   pub stands : Stands (b ++ piece) r s.records.items

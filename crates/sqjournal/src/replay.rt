@@ -43,7 +43,7 @@ impl Replay {
     ghost use Rattle.sqjournal.specs.Header.{IsRefused};
     ghost use Rattle.sqjournal.specs.Journal.{IsFirst};
     ghost use Rattle.sqjournal.specs.declared.error.JournalError.TheVariants.{NoMemory};
-    ghost use Rattle.sqjournal.specs.Took.{Took, GoesOn, Feeds, StopsSo, HasEntry};
+    ghost use Rattle.sqjournal.specs.Took.{Took, GoesOn, Feeds, StopsSo, HasEntry, HasCount};
 
     /// A replay of which no byte came.
     pub fn new(alloc: Global) -> Replay
@@ -136,6 +136,13 @@ impl Replay {
             return None;
         }
         Some(reading.header)
+    }
+
+    /// How many records passed.
+    pub fn count(&self) -> usize
+        ensures { (b : List ℕ) → Took b self.now → HasCount b result }
+    {
+        self.records.as_slice().len()
     }
 
     /// The record of this number, from 1, in order over all segments.

@@ -59,7 +59,8 @@ fn says(replay: &Replay, entries: &[(u32, u64)], at: u64, why: Why) -> bool {
         }
     }
     let stop = replay.stop();
-    replay.entry(0).is_none()
+    replay.count() == entries.len()
+        && replay.entry(0).is_none()
         && replay.entry(entries.len().saturating_add(1)).is_none()
         && stop.at == at
         && stop.why == why
