@@ -1,12 +1,17 @@
 pub mod Altering
 pub mod Carrying
 pub mod Changing
+pub mod Digits
 pub mod Each
 pub mod Filling
 pub mod Fixed
 pub mod Images
+pub mod Judging
 pub mod Keeping
+pub mod Leaving
+pub mod Naming
 pub mod Places
+pub mod Reaching
 pub mod Reading
 pub mod Settled
 pub mod Shuffled
@@ -17,3 +22,4 @@ pub mod Steps
 pub mod Synced
 pub mod Syncing
 pub mod Touching
+pub mod Turning

@@ -42,3 +42,6 @@ size_is n is = one 512 9 (omega arith) (omega arith) refl (λ a. one 1024 10 (om
   where
     one : (m k : ℕ) → 9 ≤ k → k ≤ 16 → m ≡ 2 ^ k → ((n ≡ m → ⊥) → IsSectorSize n) → IsSectorSize n
     one m k low high is_m other = elim (cases_eq n m) [ inl same ↦ (k, low, high, same ∙ is_m) | inr ne ↦ other ne ]
+
+pub size_least : (n : ℕ) → IsTrue (is_sector_size n) → 512 ≤ n
+size_least n is = grind (arith, nat_tests)

@@ -1,6 +1,6 @@
 -- A file as the modelled disk keeps it.
 use Rattle.std.specs.Prelude.{◌≡◌, ◌⊎◌, ℕ, ◌+◌, ◌-◌, ◌*◌, ◌/◌, ◌%◌, ◌<◌, ◌≤◌, Bool, true, false, cond, nat_lt, nat_le, ◌&&◌, List, [], ◌∷◌, ◌++◌, length, get_or, take, drop, nat_eq, map}
-use Rattle.crashdisk.specs.State.{Value, FileState, Meets, Stale, Added, longest}
+use Rattle.crashdisk.specs.State.{Value, Same, FileState, Meets, Stale, Added, longest}
 use Rattle.crashdisk.specs.declared.held.Held.{Held}
 
 -- the bytes of a sector, as a value
@@ -100,3 +100,19 @@ pub record IsCutTo (end : ℕ) (old new : List (List ℕ)) : Type 0 where
   pub one : length new ≡ 1
   pub long : length (get_or new 0 []) ≡ length (last_of old)
   pub each : (j : ℕ) → get_or (get_or new 0 []) j 0 ≡ cond (nat_lt j end) (get_or (last_of old) j 0) 0
+
+-- Of so many values of sector k, the number of the one that is picked, counted from the oldest; without an entry it is the newest
+-- one, or the oldest.
+abbrev pub picked : (pick : List ℕ) (newest : Bool) (k count : ℕ) → ℕ
+picked pick newest k count = cond (nat_lt k (length pick)) (get_or pick k 0 % count) (cond newest (count - 1) 0)
+
+-- value number n of sector k is moved to the end, and is the present one now
+pub record IsTurned (sector : ℕ) (old new : FileState) (k n : ℕ) : Type 0 where
+  pub value : Value
+  pub is : Same sector k value old.present
+  pub earlier : new.earlier k ≡ take n (old.earlier k ++ value ∷ []) ++ drop (n + 1) (old.earlier k ++ value ∷ [])
+  pub present : Same sector k new.present (get_or (old.earlier k ++ value ∷ []) n value)
+
+-- of some values, the one of this number is moved to the end
+abbrev pub turned : ℕ → List (List ℕ) → List (List ℕ)
+turned n values = take n values ++ drop (n + 1) values ++ get_or values n [] ∷ []

@@ -6,3 +6,6 @@ pub mod Facts
 pub mod Held
 pub mod Model
 pub mod Stop
+pub mod Choice
+pub mod Since
+pub mod Count

@@ -1,35 +1,38 @@
 -- The modelled disk.
-use Rattle.std.specs.Prelude.{◌≡◌, ◌-◌, Bool, true, false, ◌||◌, nat_eq, [], Result, Ok, Err}
+use Rattle.std.specs.Prelude.{◌≡◌, ℕ, suc, Bool, true, false, length, Result, Ok, Err}
+use Rattle.crashdisk.specs.State.{Value, FileState}
 use Rattle.crashdisk.specs.Call.{DiskState}
-use Rattle.crashdisk.specs.Held.{file_of}
-use Rattle.crashdisk.specs.Stop.{is_over, one_less}
-use Rattle.crashdisk.specs.declared.model.Stops.{Stops}
+use Rattle.crashdisk.specs.Held.{file_of, IsPicked, IsTurned, picked}
+use Rattle.crashdisk.specs.Stop.{Judged, stops_call, stops_sync, fails_call, after_call, after_sync}
+use Rattle.crashdisk.specs.Since.{kept_bytes, handed_writes}
+use Rattle.crashdisk.specs.declared.held.Part.{Part}
 use Rattle.crashdisk.specs.declared.model.ModelDisk.{ModelDisk}
 use Rattle.crashdisk.specs.declared.error.DiskError.{DiskError}
-use Rattle.crashdisk.specs.declared.error.DiskError.TheVariants.{Stopped, Failed, TooLong, NoMemory}
+use Rattle.crashdisk.specs.declared.error.DiskError.TheVariants.{Failed}
 
 -- what it lists
 abbrev pub state_of : ModelDisk → DiskState
-state_of disk = record { sector = disk.sector; tears = false; db = file_of disk.sector disk.db; log = file_of disk.sector disk.log; refused = disk.refused; kept = []; handed = [] }
+state_of disk = record { sector = disk.sector; tears = disk.tears; db = file_of disk.sector disk.db; log = file_of disk.sector disk.log; refused = disk.refused; kept = kept_bytes disk.since; handed = handed_writes disk.since }
 
--- A call is stopped where an earlier one was, or none is left; a sync also where it is the one to stop at.
-abbrev pub stops_call : Stops → Bool
-stops_call stops = stops.stopped || is_over stops.calls
+-- A call was judged as it was set, and counted. It may want memory or not.
+pub record IsCounted {T : Type 0} (wants : Bool) (result : Result T DiskError) (old new : ModelDisk) : Type 0 where
+  pub judged : Judged (stops_call old.stops) (fails_call old.stops) wants result
+  pub after : new.stops ≡ after_call old.stops
+  pub part : new.part ≡ old.part
 
-abbrev pub stops_sync : Stops → Bool
-stops_sync stops = stops_call stops || nat_eq stops.syncs 1
+pub record IsSyncCounted {T : Type 0} (result : Result T DiskError) (old new : ModelDisk) : Type 0 where
+  pub judged : Judged (stops_sync old.stops) (fails_call old.stops) false result
+  pub after : new.stops ≡ after_sync old.stops
+  pub part : new.part ≡ old.part
 
--- what stands after a call, and after a sync
-abbrev pub after_call : Stops → Stops
-after_call stops = record { stopped = stops_call stops; calls = one_less stops.calls; syncs = stops.syncs }
+-- what a failed change leaves of a file
+abbrev pub PickedBy : {T : Type 0} → (sector : ℕ) (touches : ℕ → Type 0) (target : Value) (end : ℕ) → Part → Result T DiskError → FileState → FileState → Type 0
+PickedBy sector touches target end part (Err Failed) old new = IsPicked sector touches target end part.pick.items part.new_len old new
+PickedBy sector touches target end part (Err _) old new = Unit {0}
+PickedBy sector touches target end part (Ok _) old new = Unit {0}
 
-abbrev pub after_sync : Stops → Stops
-after_sync stops = record { stopped = stops_sync stops; calls = one_less stops.calls; syncs = stops.syncs - 1 }
-
--- Stopped is answered exactly where a call is stopped, and a call that isn't is refused for its place or for want of memory alone.
-abbrev pub Judged : {T : Type 0} → (stopped may_want : Bool) → Result T DiskError → Type 0
-Judged stopped may_want (Ok _) = stopped ≡ false
-Judged stopped may_want (Err Stopped) = stopped ≡ true
-Judged stopped may_want (Err TooLong) = stopped ≡ false
-Judged stopped may_want (Err NoMemory) = (stopped ≡ false) × (may_want ≡ true)
-Judged stopped may_want (Err Failed) = ⊥
+-- what a failed sync leaves of a file: of each sector the picked value is the present one
+abbrev pub TurnedBy : {T : Type 0} → (sector : ℕ) → Part → Result T DiskError → FileState → FileState → Type 0
+TurnedBy sector part (Err Failed) old new = (k : ℕ) → IsTurned sector old new k (picked part.pick.items true k (suc (length (old.earlier k))))
+TurnedBy sector part (Err _) old new = Unit {0}
+TurnedBy sector part (Ok _) old new = Unit {0}

@@ -1,5 +1,8 @@
--- When a modelled disk stops.
-use Rattle.std.specs.Prelude.{ℕ, ◌-◌, Bool, false, nat_eq, Option, Some, None}
+-- When a modelled disk stops, and which call of it fails.
+use Rattle.std.specs.Prelude.{◌≡◌, ℕ, ◌-◌, Bool, true, false, ◌||◌, nat_eq, Option, Some, None, Result, Ok, Err}
+use Rattle.crashdisk.specs.declared.stops.Stops.{Stops}
+use Rattle.crashdisk.specs.declared.error.DiskError.{DiskError}
+use Rattle.crashdisk.specs.declared.error.DiskError.TheVariants.{Stopped, Failed, TooLong, NoMemory}
 
 -- no call is left
 abbrev pub is_over : Option ℕ → Bool
@@ -9,3 +12,34 @@ is_over (Some n) = nat_eq n 0
 abbrev pub one_less : Option ℕ → Option ℕ
 one_less None = None
 one_less (Some n) = Some (n - 1)
+
+-- nothing is set
+abbrev pub no_stops : Stops
+no_stops = record { stopped = false; calls = None; syncs = 0; fails = 0 }
+
+-- A call is stopped where an earlier one was, or none is left; a sync also where it is the one to stop at.
+abbrev pub stops_call : Stops → Bool
+stops_call stops = stops.stopped || is_over stops.calls
+
+abbrev pub stops_sync : Stops → Bool
+stops_sync stops = stops_call stops || nat_eq stops.syncs 1
+
+-- the call is the one to fail
+abbrev pub fails_call : Stops → Bool
+fails_call stops = nat_eq stops.fails 1
+
+-- what stands after a call, and after a sync
+abbrev pub after_call : Stops → Stops
+after_call stops = record { stopped = stops_call stops; calls = one_less stops.calls; syncs = stops.syncs; fails = stops.fails - 1 }
+
+abbrev pub after_sync : Stops → Stops
+after_sync stops = record { stopped = stops_sync stops; calls = one_less stops.calls; syncs = stops.syncs - 1; fails = stops.fails - 1 }
+
+-- Stopped is answered exactly where a call is stopped; one that isn't fails exactly where it is the one to fail, unless it is
+-- refused for its place, or for want of memory where it takes some.
+abbrev pub Judged : {T : Type 0} → (stopped fails wants : Bool) → Result T DiskError → Type 0
+Judged stopped fails wants (Ok _) = (stopped ≡ false) × (fails ≡ false)
+Judged stopped fails wants (Err Stopped) = stopped ≡ true
+Judged stopped fails wants (Err TooLong) = stopped ≡ false
+Judged stopped fails wants (Err NoMemory) = (stopped ≡ false) × (wants ≡ true)
+Judged stopped fails wants (Err Failed) = (stopped ≡ false) × (fails ≡ true)

@@ -1,7 +1,7 @@
 //! A file as the modelled disk keeps it.
-ghost use Rattle.std.specs.Prelude.{◌≡◌, ◌≢◌, ◌⊎◌, ◌<◌, ◌≤◌, ◌+◌, ◌-◌, ◌*◌, ◌/◌, ◌%◌, ◌^◌, ◌↔◌, ℕ, IsTrue, List, [], ◌∷◌, ◌++◌, length, take, drop, replicate, slice_index, slice_index_or, OnOk, OnErr, IfOk, max, set, cond, EachIndex};
+ghost use Rattle.std.specs.Prelude.{◌≡◌, ◌≢◌, ◌⊎◌, ◌<◌, ◌≤◌, ◌+◌, ◌-◌, ◌*◌, ◌/◌, ◌%◌, ◌^◌, ◌↔◌, ℕ, IsTrue, List, [], ◌∷◌, ◌++◌, length, take, drop, replicate, slice_index, slice_index_or, OnOk, OnErr, IfOk, max, set, cond, EachIndex, suc, true};
 ghost use Rattle.crashdisk.specs.State.{Meets};
-ghost use Rattle.crashdisk.specs.Held.{last_of, file_by, AreWhole, Touches, put_byte, IsListOf, EachOf, AreRising, IsPut, Gets, Loses, Takes, is_odd, IsCutTo};
+ghost use Rattle.crashdisk.specs.Held.{last_of, file_by, AreWhole, Touches, put_byte, IsListOf, EachOf, AreRising, IsPut, Gets, Loses, Takes, is_odd, IsCutTo, picked, turned};
 
 use crate::values::{Bytes, Values};
 use std::alloc::{AllocError, Global};
@@ -65,6 +65,14 @@ pub struct Part {
 }
 
 impl Part {
+    /// Nothing is new, and the present values stay.
+    pub(crate) fn nothing(alloc: Global) -> Part {
+        Part {
+            pick: Vec::new(alloc),
+            new_len: false,
+        }
+    }
+
     /// The length that it takes.
     fn len(&self, new: usize, old: usize) -> usize
         ensures { result ≡ cond self.now.new_len new old }
@@ -259,7 +267,7 @@ fn is_taken(pick: &[u32], i: usize) -> bool
 
 impl Held {
     ghost use Rattle.crashdisk.specs.State.{Changed, IsDone, IsSynced, byte, longest};
-    ghost use Rattle.crashdisk.specs.Held.{file_of, IsHeld, IsPicked};
+    ghost use Rattle.crashdisk.specs.Held.{file_of, IsHeld, IsPicked, IsTurned, picked};
 
     /// The sectors that a change touches, rising; each is there afterwards.
     fn prepare(
@@ -350,6 +358,16 @@ impl Held {
         self.greatest = self.len;
     }
 
+    /// Fails in the middle of a sync: of each sector the picked value is moved to the end.
+    pub(crate) fn turn(&mut self, sector: usize, pick: &[u32])
+        requires held { IsHeld sector self.old }
+        ensures held { IsHeld sector self.new }
+        ensures len { (self.new.len ≡ self.old.len) × (self.new.least ≡ self.old.least) × (self.new.greatest ≡ self.old.greatest) }
+        ensures turned { (k : ℕ) → IsTurned sector (file_of sector self.old) (file_of sector self.new) k (picked pick.now true k (suc (length ((file_of sector self.old).earlier k)))) }
+    {
+        turn_each(&mut self.sectors, pick);
+    }
+
     /// Reads the bytes from a place on.
     pub(crate) fn read(&self, sector: usize, at: usize, out: &mut [u8])
         requires positive { 0 < sector }
@@ -364,6 +382,30 @@ impl Held {
             let values = &self.sectors[k];
             copy_part(values.present(), k * sector, at, end, out);
         }
+    }
+}
+
+/// The number of the picked value of sector k among so many, counted from the oldest.
+fn number(pick: &[u32], k: usize, count: usize) -> usize
+    requires { 0 < count }
+    ensures is { result ≡ picked pick.now true k count }
+    ensures below { result < count }
+{
+    match pick.get(k) {
+        Some(n) => *n as usize % count,
+        None => count - 1,
+    }
+}
+
+/// Moves the picked value of each sector to the end.
+fn turn_each(sectors: &mut Vec<Values>, pick: &[u32])
+    requires some { (k : ℕ) → k < length sectors.old.items → 0 < length (slice_index_or sectors.old.items k []) }
+    ensures count { length sectors.new.items ≡ length sectors.old.items }
+    ensures each { (k : ℕ) → k < length sectors.old.items → slice_index_or sectors.new.items k [] ≡ turned (picked pick.now true k (length (slice_index_or sectors.old.items k []))) (slice_index_or sectors.old.items k []) }
+{
+    for k in 0..sectors.len() {
+        let values = &mut sectors[k];
+        values.turn(number(pick, k, values.count()));
     }
 }
 

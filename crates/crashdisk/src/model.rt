@@ -1,215 +1,55 @@
 //! A disk in memory that keeps what a crash may bring back.
-ghost use Rattle.std.specs.Prelude.{◌≡◌, ◌↔◌, IsTrue, ◌<◌, ◌≤◌, ◌+◌, ◌^◌, [], Bool, true, false, max, length, slice_index, OnOk, EachIndex, OnErr, IfOk, IfErr, ℕ, List, ◌++◌, cond, nat_lt, Some};
-ghost use Rattle.crashdisk.specs.State.{byte, longest, IsSettled, IsSynced, written, WriteTouches, cut_to, CutTouches};
-ghost use Rattle.crashdisk.specs.Call.{ChangedBy, counted, IsNew, IsSoundDisk};
+ghost use Rattle.std.specs.Prelude.{◌≡◌, ◌↔◌, IsTrue, ◌<◌, ◌≤◌, ◌+◌, ◌^◌, [], Bool, true, false, max, length, slice_index, OnOk, EachIndex, OnErr, IfOk, IfErr, ℕ, List, ◌++◌, cond, nat_lt, Some, map, IsSome, IfSome, ◌*◌, ◌/◌};
+ghost use Rattle.crashdisk.specs.State.{longest};
+ghost use Rattle.crashdisk.specs.Call.{IsNew};
 ghost use Rattle.crashdisk.specs.Held.{file_of, IsHeld};
 ghost use Rattle.crashdisk.specs.Solid.{IsSolid, is_sector_size};
 ghost use Rattle.crashdisk.specs.Refusal.{number_of};
-ghost use Rattle.crashdisk.specs.Stop.{is_over as over, one_less as less};
+ghost use Rattle.crashdisk.specs.Since.{kept_bytes, handed_writes};
 
+use crate::calls::{
+    LIMIT, Manner, append_present, cut_held, empty, filled, is_too_long, refuse, sync_held,
+    turn_held, write_held,
+};
+use crate::choice::Choice;
+use crate::counting::next_choice;
+use crate::crash::crash_held;
 use crate::disk::Disk;
 use crate::error::DiskError;
 use crate::file::File;
-use crate::held::{Change, Held};
+use crate::held::{Held, Part};
+use crate::log::{crash_log, cut_log, sync_log, write_log};
+use crate::since::Since;
+use crate::stops::Stops;
 use std::alloc::Global;
-
-/// A file may not end above it.
-const LIMIT: u64 = 1_099_511_627_776;
-
-/// When the machine stops.
-#[derive(Clone, Copy)]
-pub(crate) struct Stops {
-    stopped: bool,
-    calls: Option<u64>,
-    syncs: u64,
-}
-
-fn is_over(calls: Option<u64>) -> bool
-    ensures { result ≡ over calls }
-{
-    match calls {
-        Some(n) => n == 0,
-        None => false,
-    }
-}
-
-fn one_less(calls: Option<u64>) -> Option<u64>
-    ensures { result ≡ less calls }
-{
-    match calls {
-        Some(n) => Some(n.saturating_sub(1)),
-        None => None,
-    }
-}
-
-impl Stops {
-    ghost use Rattle.std.specs.Prelude.{◌≡◌};
-    ghost use Rattle.crashdisk.specs.Model.{stops_call, stops_sync, after_call, after_sync};
-
-    /// Counts a call other than a sync, and says whether it is stopped.
-    fn call(&mut self) -> bool
-        ensures answer { result ≡ stops_call self.old }
-        ensures after { self.new ≡ after_call self.old }
-    {
-        self.stopped = self.stopped || is_over(self.calls);
-        self.calls = one_less(self.calls);
-        self.stopped
-    }
-
-    /// Counts a sync, and says whether it is stopped.
-    fn sync(&mut self) -> bool
-        ensures answer { result ≡ stops_sync self.old }
-        ensures after { self.new ≡ after_sync self.old }
-    {
-        self.stopped = self.stopped || is_over(self.calls) || self.syncs == 1;
-        self.calls = one_less(self.calls);
-        self.syncs = self.syncs.saturating_sub(1);
-        self.stopped
-    }
-}
 
 /// A disk in memory, of which a crash leaves what is chosen. It keeps its word always.
 #[derive(Drop)]
 pub struct ModelDisk {
     alloc: Global,
     sector: usize,
+    tears: bool,
     db: Held,
     log: Held,
     refused: u64,
     stops: Stops,
+    part: Part,
+    since: Since,
     ghost is_size: { IsTrue (is_sector_size sector) },
     ghost db_held: { IsHeld sector db },
     ghost db_solid: { IsSolid sector (file_of sector db) },
     ghost log_held: { IsHeld sector log },
     ghost log_solid: { IsSolid sector (file_of sector log) },
     ghost counted: { refused < 2 ^ 64 },
-}
-
-/// Writes into a file, and counts a refusal.
-fn write_held(
-    held: &mut Held,
-    refused: &mut u64,
-    alloc: Global,
-    sector: usize,
-    at: u64,
-    bytes: &[u8],
-) -> Result<(), DiskError>
-    requires is_size { IsTrue (is_sector_size sector) }
-    requires room { at + length bytes.now ≤ longest }
-    requires held { IsHeld sector held.old }
-    requires solid { IsSolid sector (file_of sector held.old) }
-    ensures held { IsHeld sector held.new }
-    ensures solid { IsSolid sector (file_of sector held.new) }
-    ensures changed { ChangedBy sector (WriteTouches sector (file_of sector held.old) at bytes.now) (written (file_of sector held.old) at bytes.now) (max held.old.len (at + length bytes.now)) result (file_of sector held.old) (file_of sector held.new) }
-    ensures counted { refused.new ≡ counted result refused.old }
-    ensures error { IfErr result (λ e. number_of e ≡ 4) }
-{
-    let from = at as usize;
-    let to = from + bytes.len();
-    let end = held.len.max(to);
-    let change = Change {
-        from,
-        to,
-        end,
-        keep: held.len,
-        bytes,
-    };
-    match held.carry_out(alloc, sector, &change) {
-        Ok(()) => Ok(()),
-        Err(_) => {
-            *refused = refused.saturating_add(1);
-            Err(DiskError::NoMemory)
-        }
-    }
-}
-
-/// Changes the length of a file, and counts a refusal.
-fn cut_held(
-    held: &mut Held,
-    refused: &mut u64,
-    alloc: Global,
-    sector: usize,
-    end: u64,
-) -> Result<(), DiskError>
-    requires is_size { IsTrue (is_sector_size sector) }
-    requires room { end ≤ longest }
-    requires held { IsHeld sector held.old }
-    requires solid { IsSolid sector (file_of sector held.old) }
-    ensures held { IsHeld sector held.new }
-    ensures solid { IsSolid sector (file_of sector held.new) }
-    ensures changed { ChangedBy sector (CutTouches sector (file_of sector held.old) end) (cut_to (file_of sector held.old) end) end result (file_of sector held.old) (file_of sector held.new) }
-    ensures counted { refused.new ≡ counted result refused.old }
-    ensures error { IfErr result (λ e. number_of e ≡ 4) }
-{
-    let end = end as usize;
-    let keep = end.min(held.len);
-    let change = Change {
-        from: end,
-        to: held.len,
-        end,
-        keep,
-        bytes: &[],
-    };
-    match held.carry_out(alloc, sector, &change) {
-        Ok(()) => Ok(()),
-        Err(_) => {
-            *refused = refused.saturating_add(1);
-            Err(DiskError::NoMemory)
-        }
-    }
-}
-
-/// Syncs a file.
-fn sync_held(held: &mut Held, sector: usize)
-    requires is_size { IsTrue (is_sector_size sector) }
-    requires held { IsHeld sector held.old }
-    requires solid { IsSolid sector (file_of sector held.old) }
-    ensures held { IsHeld sector held.new }
-    ensures solid { IsSolid sector (file_of sector held.new) }
-    ensures synced { IsSynced (file_of sector held.old) (file_of sector held.new) }
-{
-    held.sync(sector);
-}
-
-/// Whether a call that ends there is too long.
-fn is_too_long(at: u64, length: usize) -> bool
-    ensures { IsTrue result ↔ longest < at + length }
-{
-    at > LIMIT || length as u64 > LIMIT - at
-}
-
-/// An empty file.
-fn empty(alloc: Global) -> Held
-    ensures held { (sector : ℕ) → IsHeld sector result }
-    ensures solid { (sector : ℕ) → IsSolid sector (file_of sector result) }
-    ensures settled { (sector : ℕ) → IsSettled (file_of sector result) [] }
-{
-    Held {
-        sectors: Vec::new(alloc),
-        len: 0,
-        least: 0,
-        greatest: 0,
-    }
-}
-
-/// A file that holds these bytes and is down.
-fn filled(alloc: Global, sector: usize, bytes: &[u8]) -> Result<Held, DiskError>
-    requires is_size { IsTrue (is_sector_size sector) }
-    requires room { length bytes.now ≤ longest }
-    ensures held { IfOk result (λ f. IsHeld sector f) }
-    ensures solid { IfOk result (λ f. IsSolid sector (file_of sector f)) }
-    ensures settled { IfOk result (λ f. IsSettled (file_of sector f) bytes.now) }
-    ensures error { IfErr result (λ e. number_of e ≡ 4) }
-{
-    let mut held = empty(alloc);
-    let mut refused = 0;
-    write_held(&mut held, &mut refused, alloc, sector, 0, bytes)?;
-    sync_held(&mut held, sector);
-    Ok(held)
+    ghost kept_room: { IsTrue tears → log.greatest ≤ length since.room.items },
+    ghost untorn: { tears ≡ false → (kept_bytes since ≡ []) × (handed_writes since ≡ []) },
 }
 
 impl ModelDisk {
-    ghost use Rattle.crashdisk.specs.Call.{of, ArePresent};
+    ghost use Rattle.crashdisk.specs.Call.{of, ArePresent, IsCrash};
+    ghost use Rattle.crashdisk.specs.Choice.{naming_of, image_of};
+    ghost use Rattle.crashdisk.specs.Stop.{no_stops};
+    ghost use Rattle.crashdisk.specs.Count.{choice_count, IsChoice, HasDigits};
     ghost use Rattle.crashdisk.specs.Model.{state_of};
 
     /// A disk of sectors of this size, which doesn't tear: the database holds these bytes, the log is empty, and both are
@@ -220,22 +60,39 @@ impl ModelDisk {
         ensures error { IfErr result (λ e. number_of e ≡ cond (nat_lt longest (length db.items)) 3 4) }
         ensures fits { OnOk result (length db.items ≤ longest) }
     {
-        let bytes = db.as_slice();
-        if is_too_long(0, bytes.len()) {
+        ModelDisk::with(alloc, sector, false, db.as_slice())
+    }
+
+    /// The same, of a disk that tears.
+    pub fn tearing(alloc: Global, sector: usize, db: Vec<u8>) -> Result<ModelDisk, DiskError>
+        requires { IsTrue (is_sector_size sector) }
+        ensures made { IfOk result (λ d. IsNew sector true db.items (state_of d)) }
+        ensures error { IfErr result (λ e. number_of e ≡ cond (nat_lt longest (length db.items)) 3 4) }
+        ensures fits { OnOk result (length db.items ≤ longest) }
+    {
+        ModelDisk::with(alloc, sector, true, db.as_slice())
+    }
+
+    fn with(alloc: Global, sector: usize, tears: bool, db: &[u8]) -> Result<ModelDisk, DiskError>
+        requires { IsTrue (is_sector_size sector) }
+        ensures made { IfOk result (λ d. IsNew sector tears db.now (state_of d)) }
+        ensures error { IfErr result (λ e. number_of e ≡ cond (nat_lt longest (length db.now)) 3 4) }
+        ensures fits { OnOk result (length db.now ≤ longest) }
+    {
+        if is_too_long(0, db.len()) {
             return Err(DiskError::TooLong);
         }
-        let file = filled(alloc, sector, bytes)?;
+        let file = filled(alloc, sector, db)?;
         Ok(ModelDisk {
             alloc,
             sector,
+            tears,
             db: file,
             log: empty(alloc),
             refused: 0,
-            stops: Stops {
-                stopped: false,
-                calls: None,
-                syncs: 0,
-            },
+            stops: Stops::new(),
+            part: Part::nothing(alloc),
+            since: Since::new(alloc),
         })
     }
 
@@ -255,6 +112,28 @@ impl ModelDisk {
         self.stops.syncs = syncs;
     }
 
+    /// The call of this number from now, other than of `sector` and `tears`, answers Failed and leaves what the part says; 0
+    /// only takes away what was set before. It is judged after Stopped, TooLong and NoMemory, and counts whatever those calls
+    /// answer.
+    pub fn fail(&mut self, calls: u64, part: Part)
+        ensures { self.new ≡ record self.old { stops = record self.old.stops { fails = calls }; part = part } }
+    {
+        self.stops.fails = calls;
+        self.part = part;
+    }
+
+    /// The machine stops and begins again: of each file what the choice names is left, alone. It clears stops and failures, and takes
+    /// no memory. How many calls were refused stays.
+    pub fn crash(&mut self, choice: &Choice)
+        ensures left { IsCrash (image_of self.old.sector self.old.tears (state_of self.old).db (naming_of choice.now.db)) (image_of self.old.sector self.old.tears (state_of self.old).log (naming_of choice.now.log)) (state_of self.old) (state_of self.new) }
+        ensures cleared { self.new.stops ≡ no_stops }
+    {
+        let since = &mut self.since;
+        crash_held(&mut self.db, self.sector, self.tears, &choice.db);
+        crash_log(&mut self.log, since, self.sector, self.tears, &choice.log);
+        self.stops = Stops::new();
+    }
+
     /// Appends the present bytes of a file; NoMemory alone, and then `out` is as it was. It isn't counted as a call, and is
     /// answered also while the disk is stopped.
     pub fn present(&self, file: File, out: &mut Vec<u8>) -> Result<(), DiskError>
@@ -268,6 +147,35 @@ impl ModelDisk {
         }
     }
 
+    /// The choice of this number, counted from 0, and None from the count of choices on; NoMemory alone. The digits of the number
+    /// are, the first one changing fastest: for the database and then for the log, of each sector from 0 to the one with the last
+    /// byte of the greatest length the number of its value, the oldest first, and then the length: the least, each multiple of
+    /// the sector size strictly between, the greatest. It isn't counted as a call.
+    pub fn choice(&self, n: u64) -> Result<Option<Choice>, DiskError>
+        ensures found { IfOk result (λ found. IsSome found ↔ n < choice_count self.now.sector (state_of self.now).db * choice_count self.now.sector (state_of self.now).log) }
+        ensures named { IfOk result (λ found. IfSome found (λ choice. IsChoice self.now.sector (state_of self.now).db (state_of self.now).log n (naming_of choice.db) (naming_of choice.log))) }
+        ensures db { IfOk result (λ found. IfSome found (λ choice. HasDigits self.now.sector (state_of self.now).db n (image_of self.now.sector self.now.tears (state_of self.now).db (naming_of choice.db)))) }
+        ensures log { IfOk result (λ found. IfSome found (λ choice. HasDigits self.now.sector (state_of self.now).log (n / choice_count self.now.sector (state_of self.now).db) (image_of self.now.sector self.now.tears (state_of self.now).log (naming_of choice.log)))) }
+        ensures error { IfErr result (λ e. number_of e ≡ 4) }
+    {
+        let mut rest = n;
+        let db = next_choice(self.alloc, &self.db, self.sector, &mut rest)?;
+        let log = next_choice(self.alloc, &self.log, self.sector, &mut rest)?;
+        if rest > 0 {
+            return Ok(None);
+        }
+        Ok(Some(Choice { db, log }))
+    }
+
+    /// Of a disk that tears, the bytes of the log when it last had nothing unsynced, and the place and bytes of each write into
+    /// it since then that was made, or failed. Both are empty on a disk that doesn't tear. It isn't counted as a call.
+    pub fn since(&self) -> (&[u8], &[(u64, Vec<u8>)])
+        ensures kept { result.0.now ≡ (state_of self.now).kept }
+        ensures handed { map (λ entry. (entry.0, entry.1.items)) result.1.now ≡ (state_of self.now).handed }
+    {
+        (self.since.kept(), self.since.handed())
+    }
+
     /// How many calls were refused by Stopped, Failed or NoMemory; it stays at its greatest. It isn't counted as a call.
     pub fn refused(&self) -> u64
         ensures { result ≡ (state_of self.now).refused }
@@ -276,33 +184,11 @@ impl ModelDisk {
     }
 }
 
-/// Appends the present bytes of a file.
-fn append_present(
-    alloc: Global,
-    held: &Held,
-    sector: usize,
-    out: &mut Vec<u8>,
-) -> Result<(), DiskError>
-    requires is_size { IsTrue (is_sector_size sector) }
-    requires held { IsHeld sector held.now }
-    requires short { held.now.len ≤ longest }
-    ensures ok { OnOk result ((bytes : List ℕ) × (out.new.items ≡ out.old.items ++ bytes) × (length bytes ≡ held.now.len) × ((i : ℕ) → i < held.now.len → slice_index bytes i ≡ byte (file_of sector held.now) i)) }
-    ensures err { OnErr result (out.new.items ≡ out.old.items) }
-    ensures error { IfErr result (λ e. number_of e ≡ 4) }
-{
-    let mut bytes = Vec::new(alloc);
-    if bytes.resize(held.len, 0).is_err() {
-        return Err(DiskError::NoMemory);
-    }
-    held.read(sector, 0, &mut bytes);
-    match out.extend_from_slice(&bytes) {
-        Ok(()) => Ok(()),
-        Err(_) => Err(DiskError::NoMemory),
-    }
-}
-
 impl Disk for ModelDisk {
-    ghost use Rattle.crashdisk.specs.Model.{state_of};
+    ghost use Rattle.std.specs.Prelude.{◌≡◌, ◌↔◌, ◌+◌, length, max, slice_index, OnOk, IfOk, EachIndex};
+    ghost use Rattle.crashdisk.specs.State.{byte, written, WriteTouches, cut_to, CutTouches};
+    ghost use Rattle.crashdisk.specs.Call.{of, Writes, Cuts, Syncs, Looks};
+    ghost use Rattle.crashdisk.specs.Model.{state_of, IsCounted, IsSyncCounted, PickedBy, TurnedBy};
 
     ghost state = { state_of };
 
@@ -313,13 +199,24 @@ impl Disk for ModelDisk {
     }
 
     fn tears(&self) -> bool {
-        false
+        self.tears
     }
 
-    fn len(&mut self, file: File) -> Result<u64, DiskError> {
+    /// It takes no memory.
+    fn len(&mut self, file: File) -> Result<u64, DiskError>
+        ensures word { Unit {0} ↔ Unit {0} }
+        ensures answer { Unit {0} → IfOk result (λ n. n ≡ (of file (state_of self.old)).len) }
+        ensures state { Unit {0} → Looks 0 result (state_of self.old) (state_of self.new) }
+        ensures counted { IsCounted false result self.old self.new }
+    {
+        let fails = self.stops.fails();
         if self.stops.call() {
-            self.refused = self.refused.saturating_add(1);
+            refuse(&mut self.refused);
             return Err(DiskError::Stopped);
+        }
+        if fails {
+            refuse(&mut self.refused);
+            return Err(DiskError::Failed);
         }
         Ok(match file {
             File::Db => self.db.len as u64,
@@ -327,13 +224,24 @@ impl Disk for ModelDisk {
         })
     }
 
-    fn read_at(&mut self, file: File, at: u64, out: &mut [u8]) -> Result<(), DiskError> {
+    /// It takes no memory.
+    fn read_at(&mut self, file: File, at: u64, out: &mut [u8]) -> Result<(), DiskError>
+        ensures word { Unit {0} ↔ Unit {0} }
+        ensures bytes { Unit {0} → OnOk result (EachIndex out.new (λ i. slice_index out.new i ≡ byte (of file (state_of self.old)) (at + i))) }
+        ensures state { Unit {0} → Looks (at + length out.old) result (state_of self.old) (state_of self.new) }
+        ensures counted { IsCounted false result self.old self.new }
+    {
+        let fails = self.stops.fails();
         if self.stops.call() {
-            self.refused = self.refused.saturating_add(1);
+            refuse(&mut self.refused);
             return Err(DiskError::Stopped);
         }
         if is_too_long(at, out.len()) {
             return Err(DiskError::TooLong);
+        }
+        if fails {
+            refuse(&mut self.refused);
+            return Err(DiskError::Failed);
         }
         match file {
             File::Db => self.db.read(self.sector, at as usize, out),
@@ -342,54 +250,92 @@ impl Disk for ModelDisk {
         Ok(())
     }
 
-    fn write_at(&mut self, file: File, at: u64, bytes: &[u8]) -> Result<(), DiskError> {
+    /// Where it is the call to fail, it leaves what was set for that.
+    fn write_at(&mut self, file: File, at: u64, bytes: &[u8]) -> Result<(), DiskError>
+        ensures word { Unit {0} ↔ Unit {0} }
+        ensures state { Unit {0} → Writes file at bytes.now result (state_of self.old) (state_of self.new) }
+        ensures counted { IsCounted true result self.old self.new }
+        ensures picked { PickedBy self.old.sector (WriteTouches self.old.sector (of file (state_of self.old)) at bytes.now) (written (of file (state_of self.old)) at bytes.now) (max (of file (state_of self.old)).len (at + length bytes.now)) self.old.part result (of file (state_of self.old)) (of file (state_of self.new)) }
+    {
+        let fails = self.stops.fails();
         if self.stops.call() {
-            self.refused = self.refused.saturating_add(1);
+            refuse(&mut self.refused);
             return Err(DiskError::Stopped);
         }
         if is_too_long(at, bytes.len()) {
             return Err(DiskError::TooLong);
         }
+        let manner = Manner {
+            alloc: self.alloc,
+            sector: self.sector,
+            tears: self.tears,
+            fails,
+            part: &self.part,
+        };
         match file {
-            File::Db => {
-                let held = &mut self.db;
-                write_held(held, &mut self.refused, self.alloc, self.sector, at, bytes)
-            }
+            File::Db => write_held(&mut self.db, &mut self.refused, &manner, at, bytes),
             File::Log => {
-                let held = &mut self.log;
-                write_held(held, &mut self.refused, self.alloc, self.sector, at, bytes)
+                let since = &mut self.since;
+                write_log(&mut self.log, since, &mut self.refused, &manner, at, bytes)
             }
         }
     }
 
-    fn set_len(&mut self, file: File, end: u64) -> Result<(), DiskError> {
+    /// Where it is the call to fail, it leaves what was set for that.
+    fn set_len(&mut self, file: File, end: u64) -> Result<(), DiskError>
+        ensures word { Unit {0} ↔ Unit {0} }
+        ensures state { Unit {0} → Cuts file end result (state_of self.old) (state_of self.new) }
+        ensures counted { IsCounted true result self.old self.new }
+        ensures picked { PickedBy self.old.sector (CutTouches self.old.sector (of file (state_of self.old)) end) (cut_to (of file (state_of self.old)) end) end self.old.part result (of file (state_of self.old)) (of file (state_of self.new)) }
+    {
+        let fails = self.stops.fails();
         if self.stops.call() {
-            self.refused = self.refused.saturating_add(1);
+            refuse(&mut self.refused);
             return Err(DiskError::Stopped);
         }
         if end > LIMIT {
             return Err(DiskError::TooLong);
         }
+        let manner = Manner {
+            alloc: self.alloc,
+            sector: self.sector,
+            tears: self.tears,
+            fails,
+            part: &self.part,
+        };
         match file {
-            File::Db => {
-                let held = &mut self.db;
-                cut_held(held, &mut self.refused, self.alloc, self.sector, end)
-            }
+            File::Db => cut_held(&mut self.db, &mut self.refused, &manner, end),
             File::Log => {
-                let held = &mut self.log;
-                cut_held(held, &mut self.refused, self.alloc, self.sector, end)
+                let since = &mut self.since;
+                cut_log(&mut self.log, since, &mut self.refused, &manner, end)
             }
         }
     }
 
-    fn sync(&mut self, file: File) -> Result<(), DiskError> {
+    /// It takes no memory. Where it is the call to fail, it leaves what was set for that.
+    fn sync(&mut self, file: File) -> Result<(), DiskError>
+        ensures word { Unit {0} ↔ Unit {0} }
+        ensures state { Unit {0} → Syncs file result (state_of self.old) (state_of self.new) }
+        ensures counted { IsSyncCounted result self.old self.new }
+        ensures turned { TurnedBy self.old.sector self.old.part result (of file (state_of self.old)) (of file (state_of self.new)) }
+    {
+        let fails = self.stops.fails();
         if self.stops.sync() {
-            self.refused = self.refused.saturating_add(1);
+            refuse(&mut self.refused);
             return Err(DiskError::Stopped);
+        }
+        if fails {
+            refuse(&mut self.refused);
+            let pick = self.part.pick.as_slice();
+            match file {
+                File::Db => turn_held(&mut self.db, self.sector, pick),
+                File::Log => turn_held(&mut self.log, self.sector, pick),
+            }
+            return Err(DiskError::Failed);
         }
         match file {
             File::Db => sync_held(&mut self.db, self.sector),
-            File::Log => sync_held(&mut self.log, self.sector),
+            File::Log => sync_log(&mut self.log, &mut self.since, self.sector, self.tears),
         }
         Ok(())
     }

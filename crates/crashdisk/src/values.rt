@@ -36,17 +36,36 @@ impl Bytes {
     fn cut(&mut self, end: usize)
         ensures long { length self.new ≡ length self.old }
         ensures each { (j : ℕ) → slice_index self.new j ≡ cond (nat_lt j end) (slice_index self.old j) 0 }
+        ensures are_bytes { (j : ℕ) → slice_index self.new j < 256 }
     {
-        let len = self.bytes.len();
-        if end < len {
-            self.bytes[end..].fill(0);
-        }
+        let from = end.min(self.bytes.len());
+        self.bytes[from..].fill(0);
+    }
+
+    /// Takes these bytes, cut or filled with zeros to as many as there are.
+    fn replace(&mut self, bytes: &[u8])
+        ensures long { length self.new ≡ length self.old }
+        ensures each { (j : ℕ) → j < length self.old → slice_index self.new j ≡ slice_index bytes.now j }
+    {
+        fill_with(&mut self.bytes, bytes);
     }
 
     pub(crate) fn as_slice(&self) -> &[u8]
         ensures { result.now ≡ self.now }
     {
         self.bytes.as_slice()
+    }
+}
+
+/// Puts these bytes there, cut or filled with zeros.
+fn fill_with(out: &mut [u8], bytes: &[u8])
+    ensures { (j : ℕ) → j < length out.old → slice_index out.new j ≡ slice_index bytes.now j }
+{
+    for (j, byte) in out.iter_mut().enumerate() {
+        *byte = match bytes.get(j) {
+            Some(byte) => *byte,
+            None => 0,
+        };
     }
 }
 
@@ -124,9 +143,21 @@ impl Values {
         ensures one { length self.new ≡ 1 }
         ensures long { length (slice_index_or self.new 0 []) ≡ length (slice_index_or self.old (length self.old - 1) []) }
         ensures each { (j : ℕ) → slice_index (slice_index_or self.new 0 []) j ≡ cond (nat_lt j end) (slice_index (slice_index_or self.old (length self.old - 1) []) j) 0 }
+        ensures are_bytes { (j : ℕ) → slice_index (slice_index_or self.new 0 []) j < 256 }
     {
         self.keep(self.count() - 1);
         let present = &mut self.list[0];
         present.cut(end);
+    }
+
+    /// Puts these bytes in place of the present value.
+    pub(crate) fn replace(&mut self, bytes: &[u8])
+        requires { 0 < length self.old }
+        ensures count { length self.new ≡ length self.old }
+        ensures long { length (slice_index_or self.new (length self.old - 1) []) ≡ length (slice_index_or self.old (length self.old - 1) []) }
+        ensures each { (j : ℕ) → j < length (slice_index_or self.old (length self.old - 1) []) → slice_index (slice_index_or self.new (length self.old - 1) []) j ≡ slice_index bytes.now j }
+    {
+        let last = self.list.len() - 1;
+        self.list[last].replace(bytes);
     }
 }

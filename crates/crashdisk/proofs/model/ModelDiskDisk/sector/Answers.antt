@@ -1,4 +1,3 @@
-use Rattle.std.proofs.Common.{refl}
 use Rattle.crashdisk.specs.Held.{file_of}
 use Rattle.crashdisk.proofs.Solid.{sound, size_is, size_positive}
 use Rattle.crashdisk.proofs.model.ModelDiskDisk.sector.Goals as goal
@@ -13,5 +12,5 @@ returns-clause-sound c = λ word.
       db = sound disk.sector (file_of disk.sector disk.db) positive disk.db_solid;
       log = sound disk.sector (file_of disk.sector disk.log) positive disk.log_solid;
       refused = disk.counted;
-      untorn = λ whole. (refl, refl);
+      untorn = disk.untorn;
     }

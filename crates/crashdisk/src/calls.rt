@@ -1,0 +1,232 @@
+//! What the calls of a modelled disk do to one file.
+ghost use Rattle.std.specs.Prelude.{◌≡◌, ◌↔◌, IsTrue, ◌<◌, ◌≤◌, ◌+◌, ◌^◌, [], Bool, ◌-◌, true, false, min, max, suc, length, slice_index, OnOk, OnErr, IfOk, IfErr, ℕ, List, ◌++◌};
+ghost use Rattle.crashdisk.specs.State.{byte, longest, IsSettled, IsSynced, IsShuffled, written, WriteTouches, cut_to, CutTouches};
+ghost use Rattle.crashdisk.specs.Call.{ChangedBy, counted, EndsWithin};
+ghost use Rattle.crashdisk.specs.Held.{file_of, IsHeld, Touches, put_byte, IsTurned, picked};
+ghost use Rattle.crashdisk.specs.Solid.{IsSolid, is_sector_size};
+ghost use Rattle.crashdisk.specs.Stop.{Judged};
+ghost use Rattle.crashdisk.specs.Model.{PickedBy};
+ghost use Rattle.crashdisk.specs.Refusal.{number_of};
+
+use crate::error::DiskError;
+use crate::held::{Change, Held, Part};
+use std::alloc::Global;
+
+/// A file may not end above it.
+pub(crate) const LIMIT: u64 = 1_099_511_627_776;
+
+/// How a change is carried out: whether the disk tears, whether the change fails, and what it leaves then.
+#[derive(Clone, Copy)]
+pub(crate) struct Manner<'a> {
+    pub(crate) alloc: Global,
+    pub(crate) sector: usize,
+    pub(crate) tears: bool,
+    pub(crate) fails: bool,
+    pub(crate) part: &'a Part,
+}
+
+/// Counts a refusal; the count stays at its greatest.
+pub(crate) fn refuse(refused: &mut u64)
+    ensures { refused.new ≡ min (refused.old + 1) (2 ^ 64 - 1) }
+{
+    *refused = refused.saturating_add(1);
+}
+
+/// Changes a file, and counts a refusal.
+fn change_held(
+    held: &mut Held,
+    refused: &mut u64,
+    manner: &Manner<'_>,
+    change: &Change<'_>,
+) -> Result<(), DiskError>
+    requires is_size { IsTrue (is_sector_size manner.now.sector) }
+    requires ends { (change.now.end ≤ longest) × (change.now.to ≤ longest) × (held.old.len ≤ longest) }
+    requires fits { change.now.to ≤ max change.now.end held.old.len }
+    requires room { change.now.from + length change.now.bytes.now < 2 ^ 62 }
+    requires held { IsHeld manner.now.sector held.old }
+    ensures held { IsHeld manner.now.sector held.new }
+    ensures changed { ChangedBy manner.now.sector (Touches manner.now.sector (file_of manner.now.sector held.old) change.now.from change.now.to change.now.end) (λ i. put_byte change.now.from change.now.keep change.now.bytes.now i ((file_of manner.now.sector held.old).present i)) change.now.end result (file_of manner.now.sector held.old) (file_of manner.now.sector held.new) }
+    ensures picked { PickedBy manner.now.sector (Touches manner.now.sector (file_of manner.now.sector held.old) change.now.from change.now.to change.now.end) (λ i. put_byte change.now.from change.now.keep change.now.bytes.now i ((file_of manner.now.sector held.old).present i)) change.now.end manner.now.part.now result (file_of manner.now.sector held.old) (file_of manner.now.sector held.new) }
+    ensures counted { refused.new ≡ counted result refused.old }
+    ensures judged { Judged false manner.now.fails true result }
+    ensures within { EndsWithin result 0 }
+{
+    if manner.fails {
+        return match held.fail(manner.alloc, manner.sector, change, manner.part) {
+            Ok(()) => {
+                refuse(refused);
+                Err(DiskError::Failed)
+            }
+            Err(_) => {
+                refuse(refused);
+                Err(DiskError::NoMemory)
+            }
+        };
+    }
+    match held.carry_out(manner.alloc, manner.sector, change) {
+        Ok(()) => Ok(()),
+        Err(_) => {
+            refuse(refused);
+            Err(DiskError::NoMemory)
+        }
+    }
+}
+
+/// Writes into a file, and counts a refusal.
+pub(crate) fn write_held(
+    held: &mut Held,
+    refused: &mut u64,
+    manner: &Manner<'_>,
+    at: u64,
+    bytes: &[u8],
+) -> Result<(), DiskError>
+    requires is_size { IsTrue (is_sector_size manner.now.sector) }
+    requires room { at + length bytes.now ≤ longest }
+    requires held { IsHeld manner.now.sector held.old }
+    requires solid { IsSolid manner.now.sector (file_of manner.now.sector held.old) }
+    ensures held { IsHeld manner.now.sector held.new }
+    ensures solid { IsSolid manner.now.sector (file_of manner.now.sector held.new) }
+    ensures changed { ChangedBy manner.now.sector (WriteTouches manner.now.sector (file_of manner.now.sector held.old) at bytes.now) (written (file_of manner.now.sector held.old) at bytes.now) (max held.old.len (at + length bytes.now)) result (file_of manner.now.sector held.old) (file_of manner.now.sector held.new) }
+    ensures picked { PickedBy manner.now.sector (WriteTouches manner.now.sector (file_of manner.now.sector held.old) at bytes.now) (written (file_of manner.now.sector held.old) at bytes.now) (max held.old.len (at + length bytes.now)) manner.now.part.now result (file_of manner.now.sector held.old) (file_of manner.now.sector held.new) }
+    ensures counted { refused.new ≡ counted result refused.old }
+    ensures judged { Judged false manner.now.fails true result }
+    ensures within { EndsWithin result (at + length bytes.now) }
+{
+    let from = at as usize;
+    let to = from + bytes.len();
+    let end = held.len.max(to);
+    let change = Change {
+        from,
+        to,
+        end,
+        keep: held.len,
+        bytes,
+    };
+    change_held(held, refused, manner, &change)
+}
+
+/// Changes the length of a file, and counts a refusal.
+pub(crate) fn cut_held(
+    held: &mut Held,
+    refused: &mut u64,
+    manner: &Manner<'_>,
+    end: u64,
+) -> Result<(), DiskError>
+    requires is_size { IsTrue (is_sector_size manner.now.sector) }
+    requires room { end ≤ longest }
+    requires held { IsHeld manner.now.sector held.old }
+    requires solid { IsSolid manner.now.sector (file_of manner.now.sector held.old) }
+    ensures held { IsHeld manner.now.sector held.new }
+    ensures solid { IsSolid manner.now.sector (file_of manner.now.sector held.new) }
+    ensures changed { ChangedBy manner.now.sector (CutTouches manner.now.sector (file_of manner.now.sector held.old) end) (cut_to (file_of manner.now.sector held.old) end) end result (file_of manner.now.sector held.old) (file_of manner.now.sector held.new) }
+    ensures picked { PickedBy manner.now.sector (CutTouches manner.now.sector (file_of manner.now.sector held.old) end) (cut_to (file_of manner.now.sector held.old) end) end manner.now.part.now result (file_of manner.now.sector held.old) (file_of manner.now.sector held.new) }
+    ensures counted { refused.new ≡ counted result refused.old }
+    ensures judged { Judged false manner.now.fails true result }
+    ensures within { EndsWithin result end }
+{
+    let end = end as usize;
+    let keep = end.min(held.len);
+    let change = Change {
+        from: end,
+        to: held.len,
+        end,
+        keep,
+        bytes: &[],
+    };
+    change_held(held, refused, manner, &change)
+}
+
+/// Syncs a file.
+pub(crate) fn sync_held(held: &mut Held, sector: usize)
+    requires is_size { IsTrue (is_sector_size sector) }
+    requires held { IsHeld sector held.old }
+    requires solid { IsSolid sector (file_of sector held.old) }
+    ensures held { IsHeld sector held.new }
+    ensures solid { IsSolid sector (file_of sector held.new) }
+    ensures synced { IsSynced (file_of sector held.old) (file_of sector held.new) }
+{
+    held.sync(sector);
+}
+
+/// Fails in the middle of a sync of a file.
+pub(crate) fn turn_held(held: &mut Held, sector: usize, pick: &[u32])
+    requires is_size { IsTrue (is_sector_size sector) }
+    requires held { IsHeld sector held.old }
+    requires solid { IsSolid sector (file_of sector held.old) }
+    ensures held { IsHeld sector held.new }
+    ensures solid { IsSolid sector (file_of sector held.new) }
+    ensures shuffled { IsShuffled sector (file_of sector held.old) (file_of sector held.new) }
+    ensures turned { (k : ℕ) → IsTurned sector (file_of sector held.old) (file_of sector held.new) k (picked pick.now true k (suc (length ((file_of sector held.old).earlier k)))) }
+{
+    held.turn(sector, pick);
+}
+
+/// Whether a call that ends there is too long.
+pub(crate) fn is_too_long(at: u64, length: usize) -> bool
+    ensures { IsTrue result ↔ longest < at + length }
+{
+    at > LIMIT || length as u64 > LIMIT - at
+}
+
+/// An empty file.
+pub(crate) fn empty(alloc: Global) -> Held
+    ensures held { (sector : ℕ) → IsHeld sector result }
+    ensures solid { (sector : ℕ) → IsSolid sector (file_of sector result) }
+    ensures settled { (sector : ℕ) → IsSettled (file_of sector result) [] }
+{
+    Held {
+        sectors: Vec::new(alloc),
+        len: 0,
+        least: 0,
+        greatest: 0,
+    }
+}
+
+/// A file that holds these bytes and is down.
+pub(crate) fn filled(alloc: Global, sector: usize, bytes: &[u8]) -> Result<Held, DiskError>
+    requires is_size { IsTrue (is_sector_size sector) }
+    requires room { length bytes.now ≤ longest }
+    ensures held { IfOk result (λ f. IsHeld sector f) }
+    ensures solid { IfOk result (λ f. IsSolid sector (file_of sector f)) }
+    ensures settled { IfOk result (λ f. IsSettled (file_of sector f) bytes.now) }
+    ensures error { IfErr result (λ e. number_of e ≡ 4) }
+{
+    let mut held = empty(alloc);
+    let mut refused = 0;
+    let part = Part::nothing(alloc);
+    let manner = Manner {
+        alloc,
+        sector,
+        tears: false,
+        fails: false,
+        part: &part,
+    };
+    write_held(&mut held, &mut refused, &manner, 0, bytes)?;
+    sync_held(&mut held, sector);
+    Ok(held)
+}
+
+/// Appends the present bytes of a file.
+pub(crate) fn append_present(
+    alloc: Global,
+    held: &Held,
+    sector: usize,
+    out: &mut Vec<u8>,
+) -> Result<(), DiskError>
+    requires is_size { IsTrue (is_sector_size sector) }
+    requires held { IsHeld sector held.now }
+    requires short { held.now.len ≤ longest }
+    ensures ok { OnOk result ((bytes : List ℕ) × (out.new.items ≡ out.old.items ++ bytes) × (length bytes ≡ held.now.len) × ((i : ℕ) → i < held.now.len → slice_index bytes i ≡ byte (file_of sector held.now) i)) }
+    ensures err { OnErr result (out.new.items ≡ out.old.items) }
+    ensures error { IfErr result (λ e. number_of e ≡ 4) }
+{
+    let mut bytes = Vec::new(alloc);
+    if bytes.resize(held.len, 0).is_err() {
+        return Err(DiskError::NoMemory);
+    }
+    held.read(sector, 0, &mut bytes);
+    match out.extend_from_slice(&bytes) {
+        Ok(()) => Ok(()),
+        Err(_) => Err(DiskError::NoMemory),
+    }
+}
