@@ -1,11 +1,16 @@
 -- The parts of cells.
-use Rattle.std.proofs.Common.{◌≡◌, ℕ, ◌+◌, ◌-◌, ◌<◌, ◌≤◌, ◌↔◌, nat_lt, List, length, take, drop, Bool, true, false, Option, Some, None, unwrap_or, below_more, sym, ap, subst, ◌∙◌, arith}
+use Rattle.std.proofs.Common.{◌≡◌, ℕ, ◌+◌, ◌-◌, ◌<◌, ◌≤◌, ◌↔◌, ◌*◌, ◌/◌, if◌then◌else◌, nat_lt, nat_le, List, length, take, drop, Bool, true, false, Option, Some, None, unwrap_or, below_more, sym, ap, subst, ◌∙◌, arith}
 use Rattle.std.proofs.lemmas.List.{length-take-le, length-drop}
 use Rattle.std.proofs.Math.Seq.{take-length}
 use Rattle.sqval.specs.Varint.{Begins}
 use Rattle.sqpage.specs.declared.cell.Parts.{Parts}
+use Rattle.sqpage.specs.declared.cell.Cell.{Cell}
+use Rattle.std.specs.Int.{cast_signed, w64}
+use Rattle.sqval.specs.Bytes.{part}
 use Rattle.sqpage.specs.declared.kind.Kind.{Kind}
-use Rattle.sqpage.specs.Page.{FourBytes, VarintAt, HasParts, HasCell, content_start_in, pointer_in}
+use Rattle.sqval.proofs.Varints.{begins_once}
+use Rattle.sqpage.specs.Page.{FourBytes, VarintAt, HasParts, HasCell, Page, IsCell, pointer, content_start_in, pointer_in, is_interior, is_table, has_payload, if_present, local_size, least_local, even_local}
+use Rattle.sqpage.specs.declared.kind.Kind.TheVariants.{TableLeaf, TableInterior, IndexLeaf, IndexInterior}
 
 -- what a read of a varint says
 abbrev pub Reads : Option (ℕ × ℕ) → List ℕ → Type 0
@@ -64,3 +69,95 @@ pub one_more : (kind : Kind) (used : List ℕ) (number n start at : ℕ) (r : Op
 one_more kind used number n start at r parts before es ea le finds is =
     below_more (λ k. (content_start_in used number ≤ pointer_in kind used number k) × HasCell kind used (pointer_in kind used number k)) n before
     (subst (λ s. s ≤ pointer_in kind used number n) es (subst (λ a. start ≤ a) ea le), has_cell kind used at (pointer_in kind used number n) r parts ea finds is)
+
+four_rise : (present : Bool) (used : List ℕ) (from to n : ℕ) → FourBytes present used from to n → from ≤ to
+four_rise true used from to n h = let e : to ≡ from + 4 = h.0 in omega arith
+four_rise false used from to n h = let e : to ≡ from = h.0 in omega arith
+
+varint_rise : (present : Bool) (used : List ℕ) (from to n : ℕ) → VarintAt present used from to n → from ≤ to
+varint_rise true used from to n h = let e : to ≡ from + h.0 = h.1 in omega arith
+varint_rise false used from to n h = let e : to ≡ from = h.0 in omega arith
+
+-- a cell begins before its end
+pub cell_rise : (kind : Kind) (used : List ℕ) (at : ℕ) (c : Parts) → HasParts kind used at c → at ≤ c.end
+cell_rise kind used at c h =
+    let a = four_rise (is_interior kind) used at h.after_child c.child h.child in
+    let b = varint_rise (has_payload kind) used h.after_child h.after_size c.payload h.payload in
+    let d = varint_rise (is_table kind) used h.after_size c.body c.rowid h.rowid in
+    let e = four_rise (nat_lt c.local c.payload) used (c.body + c.local) c.end c.overflow h.overflow in
+    omega (arith, a, b, d, e)
+
+four_once : (present : Bool) (used : List ℕ) (from to n to' n' : ℕ) → FourBytes present used from to n → FourBytes present used from to' n' → (to ≡ to') × (n ≡ n')
+four_once true used from to n to' n' h k = (h.0 ∙ sym k.0, h.1 ∙ sym k.1)
+four_once false used from to n to' n' h k = (h.0 ∙ sym k.0, h.1 ∙ sym k.1)
+
+varint_once : (present : Bool) (used : List ℕ) (from to n to' n' : ℕ) → VarintAt present used from to n → VarintAt present used from to' n' → (to ≡ to') × (n ≡ n')
+varint_once true used from to n to' n' h k = let b = begins_once n n' h.0 k.0 (drop from used) h.2 k.2 in (h.1 ∙ ap (λ s. from + s) b.1 ∙ sym k.1, b.0)
+varint_once false used from to n to' n' h k = (h.0 ∙ sym k.0, h.1 ∙ sym k.1)
+
+seven : (f : ℕ → ℕ → ℕ → ℕ → ℕ → ℕ → ℕ → Parts) (a a' b b' c c' d d' e e' g g' h h' : ℕ) → a ≡ a' → b ≡ b' → c ≡ c' → d ≡ d' → e ≡ e' → g ≡ g' → h ≡ h' → f a b c d e g h ≡ f a' b' c' d' e' g' h'
+seven f a a' b b' c c' d d' e e' g g' h h' p q r s t u v = cc
+
+-- At a place there is one cell at most.
+pub parts_once : (kind : Kind) (used : List ℕ) (at : ℕ) (c e : Parts) → HasParts kind used at c → HasParts kind used at e → c ≡ e
+parts_once kind used at c e h k =
+    let a = four_once (is_interior kind) used at h.after_child c.child k.after_child e.child h.child k.child in
+    let b = varint_once (has_payload kind) used h.after_child h.after_size c.payload k.after_size e.payload h.payload (subst (λ z. VarintAt (has_payload kind) used z k.after_size e.payload) (sym a.0) k.payload) in
+    let d = varint_once (is_table kind) used h.after_size c.body c.rowid e.body e.rowid h.rowid (subst (λ z. VarintAt (is_table kind) used z e.body e.rowid) (sym b.0) k.rowid) in
+    let local : c.local ≡ e.local = h.local ∙ ap (local_size kind (length used)) b.1 ∙ sym k.local in
+    let over : FourBytes (nat_lt c.local c.payload) used (c.body + c.local) e.end e.overflow = rw (local, b.1, d.0) k.overflow in
+    let o = four_once (nat_lt c.local c.payload) used (c.body + c.local) c.end c.overflow e.end e.overflow h.overflow over in
+    let child : c.child ≡ e.child = a.1 in
+    let payload : c.payload ≡ e.payload = b.1 in
+    let rowid : c.rowid ≡ e.rowid = d.1 in
+    let body : c.body ≡ e.body = d.0 in
+    let end : c.end ≡ e.end = o.0 in
+    let overflow : c.overflow ≡ e.overflow = o.1 in
+    seven (λ i j k l m n o. record { child = i; payload = j; rowid = k; body = l; local = m; overflow = n; end = o }) c.child e.child c.payload e.payload c.rowid e.rowid c.body e.body c.local e.local c.overflow e.overflow c.end e.end
+    child payload rowid body local overflow end
+
+-- What of a payload lies in its cell is not more than it.
+pub local_at_most : (kind : Kind) (u payload : ℕ) → 480 ≤ u → local_size kind u payload ≤ payload
+unfolding local_size
+local_at_most kind u payload least = go kind
+  where
+    chosen : (most : ℕ) → least_local u ≤ most → (if nat_le payload most then payload else (if nat_le (even_local u payload) most then even_local u payload else least_local u)) ≤ payload
+    chosen most le = grind arith
+
+    go : (kind : Kind) → local_size kind u payload ≤ payload
+    go TableLeaf = chosen (u - 35) (omega arith)
+    go TableInterior = chosen ((u - 12) * 64 / 255 - 23) (omega arith)
+    go IndexLeaf = chosen ((u - 12) * 64 / 255 - 23) (omega arith)
+    go IndexInterior = chosen ((u - 12) * 64 / 255 - 23) (omega arith)
+
+pub local_within : (kind : Kind) (used : List ℕ) (at : ℕ) (c : Parts) (payload : Option ℕ) → HasParts kind used at c → 480 ≤ length used → payload ≡ if_present (has_payload kind) c.payload → c.local ≤ unwrap_or payload 0
+local_within kind used at c payload h least e =
+    let le = local_at_most kind (length used) c.payload least in
+    subst (λ o. c.local ≤ unwrap_or o 0) (sym e) (go (has_payload kind) h.payload (omega (arith, le, h.local)))
+  where
+    go : (b : Bool) → VarintAt b used h.after_child h.after_size c.payload → c.local ≤ c.payload → c.local ≤ unwrap_or (if_present b c.payload) 0
+    go true v le = le
+    go false v le = let none : c.payload ≡ 0 = v.1 in omega (arith, none, le)
+
+-- What two cells have in common that are the same cell of a page.
+pub record SameCell (c e : Cell) : Type 0 where
+  pub page : c.page ≡ e.page
+  pub usable : c.usable ≡ e.usable
+  pub child : c.child ≡ e.child
+  pub rowid : c.rowid ≡ e.rowid
+  pub payload : c.payload ≡ e.payload
+  pub local : c.local.now ≡ e.local.now
+  pub overflow : c.overflow ≡ e.overflow
+
+pub cell_once : (p : Page) (i : ℕ) (c e : Cell) → IsCell p i c → IsCell p i e → SameCell c e
+cell_once p i c e h k =
+    let parts : h.parts ≡ k.parts = parts_once p.kind p.used (pointer p i) h.parts k.parts h.has k.has in
+    record {
+      page = h.page ∙ sym k.page;
+      usable = h.usable ∙ sym k.usable;
+      child = h.child ∙ ap (λ (x : Parts). if_present (is_interior p.kind) x.child) parts ∙ sym k.child;
+      rowid = h.rowid ∙ ap (λ (x : Parts). if_present (is_table p.kind) (cast_signed w64 x.rowid)) parts ∙ sym k.rowid;
+      payload = h.payload ∙ ap (λ (x : Parts). if_present (has_payload p.kind) x.payload) parts ∙ sym k.payload;
+      local = h.local ∙ ap (λ (x : Parts). part p.used x.body x.local) parts ∙ sym k.local;
+      overflow = h.overflow ∙ ap (λ (x : Parts). x.overflow) parts ∙ sym k.overflow;
+    }

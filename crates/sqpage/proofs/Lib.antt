@@ -1,3 +1,4 @@
+pub mod Layouts
 pub mod Headers
 pub mod ListLemmas
 pub mod Sources

@@ -3,7 +3,8 @@ use Rattle.std.proofs.Common.{◌≡◌, ℕ, zero, suc, ◌+◌, ◌-◌, ◌*�
 use Rattle.std.proofs.Math.Nat.{mul-le-mul, mul-le-mul_right, mul-div_cancel}
 use Rattle.sqval.specs.PageSize.{IsPageSize}
 use Rattle.sqval.proofs.PageSizes.{one_of}
-use Rattle.std.proofs.lemmas.List.{drop-drop}
+use Rattle.std.proofs.lemmas.List.{drop-drop, length-take-le, length-drop}
+use Rattle.sqpage.specs.Lists.{Every}
 use Rattle.sqpage.specs.Source.{sliced}
 
 pub length-sliced : (size n : ℕ) (b : List ℕ) → length (sliced size n b) ≡ n
@@ -40,3 +41,10 @@ place_fits p size small most =
 -- as many pages as fit into a u32, or none
 pub not_so_many : (len size count : ℕ) → 0 < size → len ≡ count * size → count < 2 ^ 32 → len / size < 2 ^ 32
 not_so_many len size count pos e lt = rw e (rw (mul-div_cancel count pos) lt)
+
+-- Slices have the size of a page.
+pub slices_sized : (size n : ℕ) (b : List ℕ) → length b ≡ n * size → Every (λ bytes. length bytes ≡ size) (sliced size n b)
+slices_sized size zero b e = tt
+slices_sized size (suc n) b e =
+    let le : size ≤ length b = omega (arith, e) in
+    (length-take-le size b le, slices_sized size n (drop size b) (length-drop size b ∙ (let f : length b - size ≡ n * size = omega (arith, e) in f)))

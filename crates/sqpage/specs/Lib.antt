@@ -7,3 +7,5 @@ pub mod Taking
 pub mod Page
 pub mod Chain
 pub mod SoundPage
+pub mod Layout
+pub mod Marking

@@ -14,7 +14,7 @@ pub enum Kind {
 
 impl Kind {
     /// The kind that a page's type byte names.
-    pub(crate) fn of(code: u8) -> Option<Kind>
+    pub fn of(code: u8) -> Option<Kind>
         ensures { (kind : Kind) → (result ≡ Some kind) ↔ (code ≡ code_of kind) }
     {
         match code {

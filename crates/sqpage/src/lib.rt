@@ -8,6 +8,7 @@ mod fault;
 mod free_pages;
 mod header;
 mod kind;
+mod layout;
 mod overflow;
 mod page;
 mod source;

@@ -1,17 +1,26 @@
 //! Pages of b-trees.
-ghost use Rattle.std.specs.Prelude.{◌≡◌, ◌⊎◌, ◌+◌, ◌<◌, ◌≤◌, ℕ, List, false, IsTrue, IfOk, IfErr, length, take};
+ghost use Rattle.std.specs.Prelude.{◌≡◌, ◌≢◌, ◌⊎◌, ◌+◌, ◌<◌, ◌≤◌, ℕ, List, false, IsTrue, IfOk, IfErr, OnOk, OnErr, length, take, replicate};
 ghost use Rattle.sqval.specs.Bytes.{word};
 ghost use Rattle.sqval.specs.PageSize.{IsPageSize};
+ghost use Rattle.sqpage.specs.declared.fault.Fault.{Fault};
+ghost use Rattle.sqpage.specs.Chain.{payload_size};
+ghost use Rattle.sqpage.specs.Layout.{IsLaidOut, LayoutRefused};
+ghost use Rattle.sqpage.specs.Marking.{MarksCells, TouchesCells, MarksAll};
 ghost use Rattle.sqpage.specs.Page.{Page, IsBtreePage, PageRefused, IsCell, HasCell, if_present, is_interior, head_at, cell_count, cell_count_in, content_start_in, pointers_at, pointer_in, pointers_end_in};
 
 use crate::bytes::{half_at, word_at};
 use crate::cell::{Cell, parts_at};
 use crate::fault::Fault;
 use crate::kind::Kind;
+use crate::layout::{clear, count_bare, mark, mark_freeblocks, marks};
+use std::alloc::Global;
 use std::marker::Model;
 
 /// Where the header of page 1 as a b-tree page begins, behind the file's header.
 const FIRST_HEAD: usize = 100;
+
+/// How many bytes of a page may lie in no cell and no freeblock.
+const MOST_FRAGMENTS: usize = 60;
 
 /// A page of a b-tree whose cells lie within it (fileformat2, 1.6, "B-tree Pages").
 #[derive(Drop)]
@@ -155,7 +164,10 @@ impl<'a> BtreePage<'a> {
     /// Cell `i`, in the order of the pointers.
     pub fn cell(&self, i: usize) -> Cell<'a>
         requires { i < cell_count self.now }
-        ensures { IsCell self.now i result }
+        ensures cell { IsCell self.now i result }
+        // What of the payload is in the page is not more than the payload.
+        ensures part { length result.local.now ≤ payload_size result }
+        ensures least { 480 ≤ result.usable }
     {
         let at = pointer(self.kind, self.used, self.number, i);
         match parts_at(self.kind, self.used, at) {
@@ -170,6 +182,90 @@ impl<'a> BtreePage<'a> {
                 overflow: parts.overflow,
             },
             None => unreachable!(),
+        }
+    }
+    /// Marks the cells, each with four bytes at least. False where one shares a byte with what is marked.
+    fn mark_cells(&self, map: &mut [bool]) -> bool
+        requires room { length map.old ≡ length self.now.used + 4 }
+        ensures marked { IsTrue result → MarksCells self.now map.old map.new }
+        ensures touched { result ≡ false → TouchesCells self.now map.old }
+        ensures length { length map.new ≡ length map.old }
+    {
+        'cells: for i in 0..self.len() {
+            let at = pointer(self.kind, self.used, self.number, i);
+            match parts_at(self.kind, self.used, at) {
+                Some(parts) => if !mark(map, at, (parts.end - at).max(4)) {
+                    return false;
+                },
+                None => unreachable!(),
+            }
+        }
+        true
+    }
+
+    /// Marks what the cells and freeblocks take. Refused by Freeblock and Overlap.
+    fn mark_all(&self, map: &mut [bool]) -> Result<(), Fault>
+        requires room { length map.old ≡ length self.now.used + 4 }
+        requires clear { map.old ≡ replicate (length map.old) false }
+        ensures ok { OnOk result (MarksAll self.now map.new) }
+        ensures err { IfErr result (λ fault. (LayoutRefused fault self.now) × (fault ≢ Fault.NoMemory)) }
+        ensures length { length map.new ≡ length map.old }
+    {
+        let start = content_start(self.used, self.number);
+        let first = half_at(self.used, head(self.number) + 1);
+        let Some(apart) = mark_freeblocks(self.used, start, first, map) else {
+            return Err(Fault::Freeblock);
+        };
+        let end = pointers(self.kind, self.number) + 2 * self.len();
+        if !apart || end > start || !self.mark_cells(map) {
+            return Err(Fault::Overlap);
+        }
+        Ok(())
+    }
+
+    /// Counts the bytes that are not marked. Refused by Fragments.
+    fn judge_fragments(&self, map: &[bool]) -> Result<(), Fault>
+        requires marked { MarksAll self.now map.now }
+        requires room { length self.now.used ≤ length map.now }
+        ensures ok { OnOk result (IsLaidOut self.now) }
+        ensures err { IfErr result (λ fault. (LayoutRefused fault self.now) × (fault ≢ Fault.NoMemory)) }
+    {
+        let start = content_start(self.used, self.number);
+        let bare = count_bare(&map[start..self.used.len()]);
+        let fragments = usize::from(self.used[head(self.number) + 7]);
+        if bare != fragments || fragments > MOST_FRAGMENTS {
+            return Err(Fault::Fragments);
+        }
+        Ok(())
+    }
+
+    /// Whether the cells and freeblocks of the page lie in it as they should (fileformat2, 1.6). Refused by
+    /// Freeblock, Overlap or Fragments, the first that applies. `map` is room for a mark on each usable byte
+    /// and four more; what it holds doesn't matter.
+    pub fn layout_in(&self, map: &mut [bool]) -> Result<(), Fault>
+        requires room { length self.now.used + 4 ≤ length map.old }
+        ensures ok { OnOk result (IsLaidOut self.now) }
+        ensures err { IfErr result (λ fault. LayoutRefused fault self.now × (fault ≢ Fault.NoMemory)) }
+        // The page isn't laid out so.
+        ensures none { OnErr result (¬ IsLaidOut self.now) }
+        ensures length { length map.new ≡ length map.old }
+    {
+        let map = &mut map[..self.used.len() + 4];
+        clear(map);
+        self.mark_all(map)?;
+        self.judge_fragments(map)
+    }
+
+    /// The same with marks of its own. Refused by NoMemory too.
+    pub fn layout(&self, alloc: Global) -> Result<(), Fault>
+        ensures ok { OnOk result (IsLaidOut self.now) }
+        ensures err { IfErr result (λ fault. LayoutRefused fault self.now) }
+        // The page isn't laid out so, unless memory ran out.
+        ensures none { IfErr result (λ fault. fault ≢ Fault.NoMemory → ¬ IsLaidOut self.now) }
+    {
+        match marks(alloc, self.used.len() + 4) {
+            Ok(mut map) => self.layout_in(&mut map),
+            Err(_) => Err(Fault::NoMemory),
         }
     }
 }

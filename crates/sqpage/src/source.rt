@@ -1,6 +1,7 @@
 //! Where the pages of a database come from.
 ghost use Rattle.std.specs.Prelude.{◌≡◌, ◌↔◌, ℕ, ◌%◌, ◌/◌, ◌*◌, ◌<◌, ◌^◌, ◌≤◌, length, IsOk, IsSome, IfSome, IfErr};
 ghost use Rattle.sqval.specs.Database.{Database, page};
+ghost use Rattle.sqpage.specs.Lists.{Every};
 ghost use Rattle.sqpage.specs.Source.{sliced};
 ghost use Rattle.sqpage.specs.declared.fault.Fault.{Fault};
 
@@ -37,6 +38,8 @@ pub trait PageSource {
         requires within { p ≤ length (pages self.old) }
         requires room { length out.old ≡ size self.old }
         ensures read { gives_pages self.old → IsOk result × (out.new ≡ page (pages self.old) p) }
+        // Each page has that size.
+        ensures sized { gives_pages self.old → Every (λ bytes. length bytes ≡ size self.old) (pages self.old) }
         ensures still_gives { gives_pages self.old → gives_pages self.new }
         ensures same_pages { pages self.new ≡ pages self.old }
         ensures same_size { size self.new ≡ size self.old };

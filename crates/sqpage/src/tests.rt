@@ -346,3 +346,108 @@ fn payloads(rt: HostRuntime) -> Result<(), Fail> {
     }
     Ok(())
 }
+
+/// The fault in the layout of a page 2 of 512 bytes that is zero but for these pieces, each at its place.
+fn layout_fault(
+    rt: &impl Abort,
+    alloc: Global,
+    pieces: &[(usize, &[u8])],
+) -> Result<Option<Fault>, AllocError> {
+    let size = PageSize::new(512).expect(rt, "a page size");
+    let mut bytes = zeros(alloc, size.get() as usize)?;
+    for (at, piece) in pieces {
+        for (i, byte) in piece.iter().enumerate() {
+            if let Some(place) = bytes.get_mut(at.saturating_add(i)) {
+                *place = *byte;
+            }
+        }
+    }
+    assert!(rt; bytes.len() == 512);
+    match BtreePage::new(&bytes, 2, 512) {
+        Ok(page) => Ok(page.layout(alloc).err()),
+        Err(fault) => Ok(Some(fault)),
+    }
+}
+
+#[test]
+fn layouts(rt: HostRuntime) -> Result<(), Fail> {
+    let cell = [7, 7, 5, 0, 9, 0x0f, 1, 0x61, 0xff];
+    for (begin, at, piece, fault) in [
+        (
+            [0x0d, 0, 0, 0, 1, 1, 0xf7, 0, 1, 0xf7, 0, 0],
+            503,
+            cell.as_slice(),
+            None,
+        ),
+        (
+            [0x0d, 0, 0, 0, 1, 1, 0xf6, 1, 1, 0xf7, 0, 0],
+            503,
+            cell.as_slice(),
+            None,
+        ),
+        (
+            [0x0d, 0, 0, 0, 1, 1, 0xfe, 0, 1, 0xfe, 0, 0],
+            510,
+            [0, 1].as_slice(),
+            None,
+        ),
+        (
+            [0x0d, 1, 0xf4, 0, 0, 1, 0xf4, 0, 0, 0, 0, 0],
+            500,
+            [0, 0, 0, 12].as_slice(),
+            None,
+        ),
+        (
+            [0x0d, 1, 0xf0, 0, 0, 1, 0xf4, 0, 0, 0, 0, 0],
+            496,
+            [0, 0, 0, 4].as_slice(),
+            Some(Fault::Freeblock),
+        ),
+        (
+            [0x0d, 1, 0xf4, 0, 0, 1, 0xf4, 0, 0, 0, 0, 0],
+            500,
+            [0, 0, 0, 3].as_slice(),
+            Some(Fault::Freeblock),
+        ),
+        (
+            [0x0d, 1, 0xf4, 0, 0, 1, 0xf4, 0, 0, 0, 0, 0],
+            500,
+            [0, 0, 0, 13].as_slice(),
+            Some(Fault::Freeblock),
+        ),
+        (
+            [0x0d, 1, 0xf4, 0, 0, 1, 0xf4, 0, 0, 0, 0, 0],
+            500,
+            [1, 0xf4, 0, 4].as_slice(),
+            Some(Fault::Freeblock),
+        ),
+        (
+            [0x0d, 0, 0, 0, 1, 0, 9, 0, 1, 0xf7, 0, 0],
+            503,
+            cell.as_slice(),
+            Some(Fault::Overlap),
+        ),
+        (
+            [0x0d, 0, 0, 0, 2, 1, 0xf7, 0, 1, 0xf7, 1, 0xf7],
+            503,
+            cell.as_slice(),
+            Some(Fault::Overlap),
+        ),
+        (
+            [0x0d, 0, 0, 0, 1, 1, 0xf7, 1, 1, 0xf7, 0, 0],
+            503,
+            cell.as_slice(),
+            Some(Fault::Fragments),
+        ),
+        (
+            [0x0d, 0, 0, 0, 1, 1, 0xba, 61, 1, 0xf7, 0, 0],
+            503,
+            cell.as_slice(),
+            Some(Fault::Fragments),
+        ),
+    ] {
+        let pieces = [(0, begin.as_slice()), (at, piece)];
+        assert_eq!(rt; layout_fault(&rt, rt.alloc(), &pieces)?, fault);
+    }
+    Ok(())
+}

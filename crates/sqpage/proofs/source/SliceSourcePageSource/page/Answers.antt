@@ -1,6 +1,6 @@
 use Rattle.std.proofs.Common.{◌≡◌, ℕ, ◌-◌, ◌*◌, ◌+◌, ◌≤◌, ◌<◌, arith, refl, ap, sym, ◌∙◌, subst, length, take, drop, List}
 use Rattle.sqval.specs.Database.{page}
-use Rattle.sqpage.proofs.Sources.{most_page_size, within_file, place_fits, page-sliced, length-sliced}
+use Rattle.sqpage.proofs.Sources.{most_page_size, within_file, place_fits, page-sliced, length-sliced, slices_sized}
 use Rattle.sqpage.proofs.source.SliceSourcePageSource.page.Goals as goal
 
 piece : (m size : ℕ) (b : List ℕ) → take (m + size - m) (drop m b) ≡ take size (drop m b)
@@ -26,3 +26,6 @@ returns-clause-read c = λ _.
     let le : c.args.p ≤ s.count = subst (λ n. c.args.p ≤ n) (length-sliced s.page_size s.count s.bytes.now) c.requires.within in
     let pos : 0 < c.args.p = c.requires.above in
     (refl, c.copy_from_slice.ensures.after ∙ piece _ _ s.bytes.now ∙ ap (λ z. take z (drop ((c.args.p - 1) * z) s.bytes.now)) c.get-size.ensures.value ∙ sym (page-sliced s.page_size s.count (c.args.p - 1) s.bytes.now (omega arith)))
+
+pub returns-clause-sized : goal.returns-clause-sized
+returns-clause-sized c = λ _. let s = c.args.self.now in slices_sized s.page_size s.count s.bytes.now s.whole

@@ -1,0 +1,13 @@
+use Rattle.std.proofs.Common.{◌≡◌, ◌-◌, ◌<◌, length}
+use Rattle.sqpage.proofs.Layouts.{Walked}
+use Rattle.sqpage.proofs.layout.mark_freeblocks.Given as goal
+
+abbrev pub invariant-blocks-2 : goal.invariant-blocks-2
+invariant-blocks-2 l = record {
+  walked : Walked l.used l.start l.first l.least l.at l.apart l.map;
+  small : l.at < 65536;
+  same_length : length l.map ≡ length l.fn.map;
+}
+
+abbrev pub decreases-blocks-2 : goal.decreases-blocks-2
+decreases-blocks-2 l = length l.used - l.least
