@@ -1,0 +1,72 @@
+-- The header is in the first hundred bytes of page 1.
+use Rattle.std.proofs.Common.{◌≡◌, ◌≢◌, ℕ, zero, suc, ◌+◌, ◌<◌, ◌≤◌, List, [], ◌∷◌, take, refl, sym, ap, subst, ◌∙◌, inl, inr, arith}
+use Rattle.std.proofs.lemmas.List.{get_or-take}
+use Rattle.byteorder.specs.Endian.{big_number}
+use Rattle.sqval.specs.Bytes.{part, word}
+use Rattle.sqval.specs.Database.{Database, page}
+use Rattle.sqval.specs.PageSize.{IsPageSize}
+use Rattle.sqcheck.specs.Stands.{Stands}
+use Rattle.sqpage.specs.declared.fault.Fault.{Fault}
+use Rattle.sqpage.specs.declared.fault.Fault.TheVariants as faults
+use Rattle.sqpage.specs.declared.header.DbHeader.{DbHeader}
+use Rattle.sqpage.specs.Header.{byte, size_named, size_named_by, IsHeader, HeaderRefused}
+use Rattle.sqcheck.specs.Heading.{HasHeaderOf, HeaderFault}
+
+-- a part of a front that ends in it
+part_front : (n at k : ℕ) (b : List ℕ) → at + k ≤ n → part (take n b) at k ≡ part b at k
+part_front n zero k b le = go n k b (omega arith)
+  where
+    go : (n k : ℕ) (b : List ℕ) → k ≤ n → take k (take n b) ≡ take k b
+    go n zero b le = refl
+    go zero (suc k) b le = absurd (omega arith)
+    go (suc n) (suc k) [] le = refl
+    go (suc n) (suc k) (x ∷ b) le = ap (λ l. x ∷ l) (go n k b (omega arith))
+part_front zero (suc at) k b le = absurd (omega arith)
+part_front (suc n) (suc at) k [] le = refl
+part_front (suc n) (suc at) k (x ∷ b) le = part_front n at k b (omega arith)
+
+word_front : (at : ℕ) (b : List ℕ) → at + 4 ≤ 100 → word (take 100 b) at ≡ word b at
+word_front at b le = ap (big_number 4) (part_front 100 at 4 b le)
+
+byte_front : (at : ℕ) (b : List ℕ) → at < 100 → byte (take 100 b) at ≡ byte b at
+byte_front at b lt = get_or-take 100 b at 0 lt
+
+size_front : (b : List ℕ) → size_named (take 100 b) ≡ size_named b
+size_front b = ap (λ l. size_named_by (big_number 2 l)) (part_front 100 16 2 b (omega arith))
+
+pub heading_is : (h : DbHeader) (size : ℕ) (b : List ℕ) → IsHeader h (take 100 b) → h.page_size ≡ size → h.largest_root ≡ 0 → HasHeaderOf h size b
+heading_is h size b is e plain = record {
+  magic = sym (part_front 100 0 16 b (omega arith)) ∙ is.magic;
+  page_size = sym (size_front b) ∙ sym is.page_size ∙ e;
+  fractions = sym (part_front 100 21 3 b (omega arith)) ∙ is.fractions;
+  room = (let r : 480 + byte (take 100 b) 20 ≤ size_named (take 100 b) = is.room in let f = byte_front 20 b (omega arith) in let g = size_front b in omega (arith, r, f, g));
+  plain = sym (word_front 52 b (omega arith)) ∙ sym is.largest_root ∙ plain;
+  reserved = is.reserved ∙ byte_front 20 b (omega arith);
+  first_trunk = is.first_trunk ∙ word_front 32 b (omega arith);
+  free_pages = is.free_pages ∙ word_front 36 b (omega arith);
+}
+
+pub heading_refused : (fault : Fault) (size : ℕ) (b : List ℕ) → HeaderRefused fault (take 100 b) → HeaderFault fault size b
+heading_refused faults.Magic size b h = λ m. h (part_front 100 0 16 b (omega arith) ∙ m)
+heading_refused faults.PageSize size b h = inl (λ is. h.1 (subst IsPageSize (sym (size_front b)) is))
+heading_refused faults.Fraction size b h = λ m. h.2 (part_front 100 21 3 b (omega arith) ∙ m)
+heading_refused faults.Reserved size b h = λ r. h.3 (let r' : 480 + byte b 20 ≤ size_named b = r in let f = byte_front 20 b (omega arith) in let g = size_front b in let out : 480 + byte (take 100 b) 20 ≤ size_named (take 100 b) = omega (arith, r', f, g) in out)
+heading_refused _ size b h = absurd h
+
+pub size_differs : (h : DbHeader) (size : ℕ) (b : List ℕ) → IsHeader h (take 100 b) → h.page_size ≢ size → HeaderFault faults.PageSize size b
+size_differs h size b is ne = inr (λ e. ne (is.page_size ∙ size_front b ∙ e))
+
+pub not_plain : (h : DbHeader) (size : ℕ) (b : List ℕ) → IsHeader h (take 100 b) → h.largest_root ≢ 0 → HeaderFault faults.AutoVacuum size b
+not_plain h size b is ne = λ e. ne (is.largest_root ∙ word_front 52 b (omega arith) ∙ e)
+
+-- What is wrong with the header stands at page 1.
+pub heading_stands : (d : Database) (fault : Fault) (size : ℕ) (b : List ℕ) → b ≡ page d 1 → HeaderFault fault size b → Stands d size fault 1
+heading_stands d fault size b e h = go fault (subst (HeaderFault fault size) e h)
+  where
+    go : (fault : Fault) → HeaderFault fault size (page d 1) → Stands d size fault 1
+    go faults.Magic h = (refl, h)
+    go faults.PageSize h = (refl, h)
+    go faults.Fraction h = (refl, h)
+    go faults.Reserved h = (refl, h)
+    go faults.AutoVacuum h = (refl, h)
+    go _ h = absurd h

@@ -1,0 +1,20 @@
+-- Results of calls.
+use Rattle.std.proofs.Common.{◌≡◌, sym, subst}
+use Rattle.std.specs.Prelude.{Result, Ok, Err, OnOk, IfErr, IsErrAnd}
+
+pub on_ok : {A E : Type 0} (P Q : Type 0) (r : Result A E) → (P → Q) → OnOk r P → OnOk r Q
+on_ok P Q (Ok x) f h = f h
+on_ok P Q (Err e) f h = h
+
+pub if_err : {A E : Type 0} (P Q : E → Type 0) (r : Result A E) → ((e : E) → P e → Q e) → IfErr r P → IfErr r Q
+if_err P Q (Ok x) f h = h
+if_err P Q (Err e) f h = f e h
+
+-- What the exit of a `?` answers, where errors stay what they are.
+pub exits : {T E : Type 0} (R : E → Type 0) (x : E) (r : Result T E) → IsErrAnd r (λ y. y ≡ x) → R x → IfErr r R
+exits R x (Ok v) h p = absurd h
+exits R x (Err y) h p = subst R (sym h) p
+
+pub both_ok : {A E : Type 0} (P Q : Type 0) (r : Result A E) → OnOk r P → OnOk r Q → OnOk r (P × Q)
+both_ok P Q (Ok x) h k = (h, k)
+both_ok P Q (Err e) h k = h

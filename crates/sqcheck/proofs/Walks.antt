@@ -1,0 +1,245 @@
+-- The steps of the walk.
+use Rattle.std.proofs.Common.{◌≡◌, ◌≢◌, ℕ, List, [], ◌∷◌, ◌++◌, length, reverse, Bool, true, cond, Option, Some, None, IsTrue, refl, sym, ap, subst, ◌∙◌, inl, inr, ⊎_elim, arith, append_assoc, append-nil}
+use Rattle.std.proofs.lemmas.List.{reverse-append}
+use Rattle.std.proofs.lemmas.List.Sums.{sum_by-append}
+use Rattle.sqval.specs.Database.{Database, page}
+use Rattle.sqpage.specs.declared.fault.Fault.{Fault}
+use Rattle.sqpage.specs.declared.fault.Fault.TheVariants as faults
+use Rattle.sqpage.specs.Lists.{In, Every, Apart}
+use Rattle.sqpage.specs.Freelist.{IsPage, IsWithin}
+use Rattle.sqpage.specs.Taking.{is_marked, Marks, MarkRefused, AreTaken}
+use Rattle.sqpage.proofs.ListLemmas.{in_left, in_right, in_cases, every_in, every_append, apart_snoc}
+use Rattle.sqpage.proofs.Takings.{fresh_taken}
+use Rattle.sqcheck.specs.declared.item.Item.{Item}
+use Rattle.sqcheck.specs.declared.item.Task.{Task}
+use Rattle.sqcheck.specs.declared.item.Task.TheVariants as tasks
+use Rattle.sqcheck.specs.declared.tree.Tree.{Tree}
+use Rattle.sqcheck.specs.declared.node.Walk.{Walk}
+use Rattle.sqcheck.specs.declared.walk.Counts.{Counts}
+use Rattle.sqcheck.specs.Places.{Role, trunk, free_leaf, link, node, Node, Spot, InPageAs, StandsIn, IsReached}
+use Rattle.sqcheck.specs.WellFormed.{IsSound, IsSoundAs, numbers, is_root, is_node, is_link, is_free}
+use Rattle.sqcheck.specs.Stands.{Stands, NodeRefused}
+use Rattle.sqcheck.specs.Walking.{role_of, IsItemOf, Match, IsSchemaLeaf, PutsAside, PageWrong, LinksOn, FollowRefused, Knows, Follows, IsProper, TopLeads}
+use Rattle.sqcheck.specs.Counting.{in_trees, in_btree, in_overflow, in_freelist, AddsTask}
+use Rattle.sqcheck.specs.Agenda.{Agenda, Stems, RowsAre, AreCounted, Walking, WalksOn, Stood}
+use Rattle.sqcheck.proofs.Lists.{every_weaker, in_map}
+use Rattle.sqcheck.proofs.Agenda.{follows, twice}
+use Rattle.sqcheck.proofs.Nodes.{match_append}
+
+-- The item on top of the stack, with its place.
+pub record Top (tree : Tree) (it : Item) (below : List Item) (pending : List Spot) : Type 0 where
+  pub spot : Spot
+  pub others : List Spot
+  pub are : pending ≡ spot ∷ others
+  pub is : IsItemOf tree it spot
+  pub match : Match tree below others
+
+pub top_of : (tree : Tree) (it : Item) (below : List Item) (pending : List Spot) → Match tree (it ∷ below) pending → Top tree it below pending
+top_of tree it below [] m = absurd m
+top_of tree it below (s ∷ ss) m = record { spot = s; others = ss; are = refl; is = m.0; match = m.1 }
+
+pub popped_top : (tree : Tree) (stack popped : List Item) (it : Item) (pending : List Spot) → Match tree (reverse stack) pending → stack ≡ popped ++ it ∷ [] → Top tree it (reverse popped) pending
+popped_top tree stack popped it pending m e = top_of tree it (reverse popped) pending (subst (λ l. Match tree l pending) (ap reverse e ∙ reverse-append popped (it ∷ [])) m)
+
+-- What is wrong with a page of a tree stands at it.
+pub node_stands : (d : Database) (size : ℕ) (s : Spot) → IsReached d s → (p : ℕ) (x : Node) (fault : Fault) → s.page ≡ p → s.role ≡ node x → IsPage d p → NodeRefused d fault p x → Stands d size fault p
+node_stands d size s r p x faults.Kind e role page h = (s, x, r, e, page, role, h)
+node_stands d size s r p x faults.CellOutside e role page h = (s, x, r, e, page, role, h)
+node_stands d size s r p x faults.Overlap e role page h = (s, x, r, e, page, role, h)
+node_stands d size s r p x faults.Freeblock e role page h = (s, x, r, e, page, role, h)
+node_stands d size s r p x faults.Fragments e role page h = (s, x, r, e, page, role, h)
+node_stands d size s r p x faults.KeyOrder e role page h = (s, x, r, e, page, role, h)
+node_stands d size s r p x faults.Depth e role page h = (s, x, r, e, page, role, h)
+node_stands d size s r p x faults.SchemaRecord e role page h = (s, x, r, e, page, role, h)
+node_stands d size s r p x _ e role page h = absurd h
+
+-- What is said of a fault at a place that comes next.
+module _ (d : Database) (size : ℕ) (tree : Tree) (it : Item) (s : Spot) (is : IsItemOf tree it s) (r : IsReached d s) where
+  wrong : (p : ℕ) (role : Role) (fault : Fault) → s.page ≡ p → s.role ≡ role → IsPage d p → PageWrong d p role fault → Stands d size fault p
+  wrong p trunk fault e role page h = subst (λ f. Stands d size f p) (sym h.0) (inl (s, r, e, page, role, h.1))
+  wrong p free_leaf fault e role page h = absurd h
+  wrong p (link needed) fault e role page h = subst (λ f. Stands d size f p) (sym h.0) (s, r, e, page, role ∙ ap link h.1, h.2)
+  wrong p (node x) fault e role page h = node_stands d size s r p x fault e role page h
+
+  link_named : (task : Task) → LinksOn task it.page → IsTrue (is_link (role_of tree task)) → it.page ≢ 0
+  link_named (tasks.Link n) h l = h
+  link_named tasks.Trunk h l = absurd (cc)
+  link_named tasks.Leaf h l = absurd (cc)
+  link_named (tasks.Node level low high) h l = absurd (cc)
+
+  not_taken : (marks : List Bool) (fault : Fault) (at : ℕ) → length marks ≡ length d → LinksOn it.task it.page → MarkRefused marks it.holder it.page fault at
+      → (IsWithin (length d) s.page → is_marked marks s.page ≡ true → (v : Spot) × IsReached d v × (v.place ≢ s.place) × (v.page ≡ s.page)) → Stands d size fault at
+  not_taken marks faults.PageOutside at len links h both = (
+    s,
+    r,
+    sym is.stands ∙ sym h.0,
+    (λ page. h.1 (subst (λ n. IsWithin n it.page) (sym len) (subst (IsPage d) (sym is.page) page))),
+    (λ l z. link_named it.task links (subst (λ role. IsTrue (is_link role)) is.role l) (is.page ∙ z)),
+  )
+  not_taken marks faults.PageTwice at len links h both =
+      let page : IsPage d it.page = subst (λ n. IsWithin n it.page) len (h.1, h.2) in
+      let v = both (subst (IsPage d) is.page page) (subst (λ n. is_marked marks n ≡ true) is.page h.3) in
+      subst (Stands d size faults.PageTwice) (sym h.0) (page, v.0, s, v.1, r, v.2, v.3 ∙ sym is.page, sym is.page)
+  not_taken marks _ at len links h both = absurd h
+
+  pub refusal_stands : (marks : List Bool) (fault : Fault) (at : ℕ) → length marks ≡ length d → FollowRefused d tree it marks fault at
+      → (IsWithin (length d) s.page → is_marked marks s.page ≡ true → (v : Spot) × IsReached d v × (v.place ≢ s.place) × (v.page ≡ s.page)) → Stands d size fault at
+  refusal_stands marks fault at len (inl h) both = not_taken marks fault at len h.0 h.1 both
+  refusal_stands marks fault at len (inr (inl h)) both = subst (Stands d size fault) (sym h.0) (wrong it.page (role_of tree it.task) fault (sym is.page) is.role h.1 h.2)
+  refusal_stands marks fault at len (inr (inr (inl h))) both =
+      subst (λ f. Stands d size f at) (sym h.0) (s, h.2, r, is.role ∙ ap (role_of tree) h.3, sym is.stands ∙ sym h.1, ⊎_elim (λ z. inl (sym is.page ∙ z)) (λ more. inr more) h.4)
+  refusal_stands marks fault at len (inr (inr (inr h))) both = subst (λ f. Stands d size f at) (sym h) tt
+
+-- The pages put aside, after one more place was visited.
+rows_more : (d : Database) (marks : List Bool) (new_marks : List Bool) (visited : List Spot) (s : Spot) (old new : List ℕ) → AreTaken marks (numbers visited) → Marks marks new_marks s.page → RowsAre d visited old → PutsAside d s.page s.role old new
+    → RowsAre d (visited ++ s ∷ []) new
+rows_more d marks new_marks visited s old new taken m rows (inr h) = record {
+  all = λ t i leaf. elim (in_cases t visited (s ∷ []) i) [
+    | inl was ↦ subst (In t.page) (sym h.1) (rows.all t was leaf)
+    | inr one ↦ elim one [ inl e ↦ absurd (h.0 (subst (λ z. IsSchemaLeaf d z.page z.role) e leaf)) | inr none ↦ absurd none ]
+  ];
+  only = subst (Every _) (sym h.1) (every_weaker _ _ (λ p k. (k.0, in_left k.0 visited (s ∷ []) k.1, k.2, k.3)) old rows.only);
+  distinct = subst Apart (sym h.1) rows.distinct;
+}
+rows_more d marks new_marks visited s old new taken m rows (inl h) = record {
+  all = λ t i leaf. elim (in_cases t visited (s ∷ []) i) [
+    | inl was ↦ subst (In t.page) (sym h.1) (in_left t.page old (s.page ∷ []) (rows.all t was leaf))
+    | inr one ↦ elim one [ inl e ↦ subst (In t.page) (sym h.1) (in_right t.page old (s.page ∷ []) (inl (ap (λ (z : Spot). z.page) e))) | inr none ↦ absurd none ]
+  ];
+  only = subst (Every _) (sym h.1) (every_append _ old (s.page ∷ []) (every_weaker _ _ (λ p k. (k.0, in_left k.0 visited (s ∷ []) k.1, k.2, k.3)) old rows.only)
+      ((s, in_right s visited (s ∷ []) (inl refl), refl, h.0), tt));
+  distinct = subst Apart (sym h.1) (apart_snoc old s.page rows.distinct (λ i.
+      let k = every_in (λ p. (t : Spot) × In t visited × (t.page ≡ p) × IsSchemaLeaf d p t.role) s.page old rows.only i in
+      fresh_taken marks new_marks (numbers visited) s.page taken m (subst (λ q. In q (numbers visited)) k.2 (in_map (λ z. z.page) k.0 visited k.1))));
+}
+
+counted_more : (tree : Tree) (visited : List Spot) (s : Spot) (task : Task) (old new : Counts) → s.role ≡ role_of tree task → AreCounted visited old → AddsTask old new task → AreCounted (visited ++ s ∷ []) new
+counted_more tree visited s task old new role c a = record {
+  trees = a.trees ∙ (let e = sum_by-append (λ (z : Spot). cond (is_root z.role) 1 0) visited (s ∷ []) in omega (arith, e, c.trees, root_adds));
+  btree = a.btree ∙ (let e = sum_by-append (λ (z : Spot). cond (is_node z.role) 1 0) visited (s ∷ []) in omega (arith, e, c.btree, node_adds));
+  overflow = a.overflow ∙ (let e = sum_by-append (λ (z : Spot). cond (is_link z.role) 1 0) visited (s ∷ []) in omega (arith, e, c.overflow, link_adds));
+  free = a.free ∙ (let e = sum_by-append (λ (z : Spot). cond (is_free z.role) 1 0) visited (s ∷ []) in omega (arith, e, c.free, free_adds));
+}
+  where
+    root_of_task : (t : Task) → ◌≡◌ {A = ℕ} (cond (is_root (role_of tree t)) 1 0) (in_trees t)
+    root_of_task tasks.Trunk = refl
+    root_of_task tasks.Leaf = refl
+    root_of_task (tasks.Link n) = refl
+    root_of_task (tasks.Node l a b) = refl
+
+    root_adds : ◌≡◌ {A = ℕ} (cond (is_root s.role) 1 0) (in_trees task)
+    root_adds = ap (λ r. cond (is_root r) 1 0) role ∙ root_of_task task
+
+    node_of_task : (t : Task) → ◌≡◌ {A = ℕ} (cond (is_node (role_of tree t)) 1 0) (in_btree t)
+    node_of_task tasks.Trunk = refl
+    node_of_task tasks.Leaf = refl
+    node_of_task (tasks.Link n) = refl
+    node_of_task (tasks.Node l a b) = refl
+
+    link_of_task : (t : Task) → ◌≡◌ {A = ℕ} (cond (is_link (role_of tree t)) 1 0) (in_overflow t)
+    link_of_task tasks.Trunk = refl
+    link_of_task tasks.Leaf = refl
+    link_of_task (tasks.Link n) = refl
+    link_of_task (tasks.Node l a b) = refl
+
+    free_of_task : (t : Task) → ◌≡◌ {A = ℕ} (cond (is_free (role_of tree t)) 1 0) (in_freelist t)
+    free_of_task tasks.Trunk = refl
+    free_of_task tasks.Leaf = refl
+    free_of_task (tasks.Link n) = refl
+    free_of_task (tasks.Node l a b) = refl
+
+    node_adds : ◌≡◌ {A = ℕ} (cond (is_node s.role) 1 0) (in_btree task)
+    node_adds = ap (λ r. cond (is_node r) 1 0) role ∙ node_of_task task
+
+    link_adds : ◌≡◌ {A = ℕ} (cond (is_link s.role) 1 0) (in_overflow task)
+    link_adds = ap (λ r. cond (is_link r) 1 0) role ∙ link_of_task task
+
+    free_adds : ◌≡◌ {A = ℕ} (cond (is_free s.role) 1 0) (in_freelist task)
+    free_adds = ap (λ r. cond (is_free r) 1 0) role ∙ free_of_task task
+
+module _ (d : Database) (late : Bool) (tree : Tree) (visited rest : List Spot) (marks : List Bool) (walk popped : Walk) (counts : Counts) (it : Item) (w : Walking d late tree visited rest marks walk counts)
+    (e : walk.stack.items ≡ popped.stack.items ++ it ∷ []) (rows : popped.rows.items ≡ walk.rows.items) (level : popped.leaf_level ≡ walk.leaf_level) where
+  top : Top tree it (reverse popped.stack.items) w.pending
+  top = popped_top tree walk.stack.items popped.stack.items it w.pending w.match e
+
+  agenda : Agenda d late marks visited (top.spot ∷ (top.others ++ rest))
+  agenda = subst (λ l. Agenda d late marks visited (l ++ rest)) top.are w.agenda
+
+  pub proper_top : IsProper it.task
+  proper_top = top.is.proper
+
+  pub knows_top : Knows d tree.root popped.leaf_level (it ∷ reverse popped.stack.items)
+  knows_top = subst (λ n. Knows d tree.root n (it ∷ reverse popped.stack.items)) (sym level) (subst (Knows d tree.root walk.leaf_level) (ap reverse e ∙ reverse-append popped.stack.items (it ∷ [])) w.knows)
+
+  -- The item is followed.
+  pub walks_on : (new_marks : List Bool) (new : Walk) (new_counts : Counts) → Follows d tree it marks new_marks popped new → AddsTask counts new_counts it.task → WalksOn d late tree rest new_marks new new_counts
+  walks_on new_marks new new_counts f adds =
+      let s : Spot = top.spot in
+      let m : Marks marks new_marks s.page = subst (Marks marks new_marks) top.is.page f.visits.marked in
+      let p = f.visits.pushes in
+      let here : (t : Spot) → InPageAs d it.page (role_of tree it.task) t → StandsIn d s t = λ t h.
+      (subst (λ n. IsWithin n s.page) w.agenda.sized (m.above, m.within), subst (λ r. InPageAs d s.page r t) (sym top.is.role) (subst (λ q. InPageAs d q (role_of tree it.task) t) top.is.page h)) in
+      let stems : Stems d s p.spots = record {
+        only = every_weaker (InPageAs d it.page (role_of tree it.task)) (StandsIn d s) here p.spots p.only;
+        all = λ t h. p.all t (subst (λ q. InPageAs d q (role_of tree it.task) t) (sym top.is.page) (subst (λ r. InPageAs d s.page r t) top.is.role h.1));
+        distinct = p.distinct;
+      } in
+      let sound : IsSound d s = record {
+        named = subst (λ n. IsWithin n s.page) w.agenda.sized (m.above, m.within);
+        sound_as = subst (λ r. IsSoundAs d s.page r) (sym top.is.role) (subst (λ q. IsSoundAs d q (role_of tree it.task)) top.is.page f.visits.sound);
+      } in (
+        visited ++ s ∷ [],
+        record {
+          pending = p.spots ++ top.others;
+          match = subst (λ l. Match tree l (p.spots ++ top.others)) (sym p.pushed) (match_append tree p.items (reverse popped.stack.items) p.spots top.others p.match top.match);
+          agenda = subst (Agenda d late new_marks (visited ++ s ∷ [])) (sym (append_assoc p.spots top.others rest)) (follows d late marks visited s (top.others ++ rest) agenda new_marks p.spots m sound stems);
+          knows = f.knows;
+          rows = rows_more d marks new_marks visited s popped.rows.items new.rows.items w.agenda.taken m (subst (RowsAre d visited) (sym rows) w.rows)
+              (subst (λ r. PutsAside d s.page r popped.rows.items new.rows.items) (sym top.is.role) (subst (λ q. PutsAside d q (role_of tree it.task) popped.rows.items new.rows.items) top.is.page f.aside));
+          counted = counted_more tree visited s it.task counts new_counts top.is.role w.counted adds;
+        },
+      )
+
+  -- Or it isn't.
+  pub walk_refused : (size : ℕ) (fault : Fault) (at : ℕ) → FollowRefused d tree it marks fault at → Stands d size fault at
+  walk_refused size fault at f = refusal_stands d size tree it top.spot top.is (agenda.waiting.0) marks fault at w.agenda.sized f (twice d late marks visited top.spot (top.others ++ rest) agenda)
+
+-- Nothing was on the stack.
+pub nothing_popped : (d : Database) (late : Bool) (tree : Tree) (rest : List Spot) (marks : List Bool) (walk popped : Walk) (counts : Counts) → WalksOn d late tree rest marks walk counts → walk.stack.items ≡ popped.stack.items ++ []
+    → popped.rows.items ≡ walk.rows.items → popped.leaf_level ≡ walk.leaf_level → WalksOn d late tree rest marks popped counts
+nothing_popped d late tree rest marks walk popped counts (visited, w) e rows level =
+    let same : walk.stack.items ≡ popped.stack.items = e ∙ append-nil popped.stack.items in (
+      visited,
+      record {
+        pending = w.pending;
+        match = subst (λ l. Match tree (reverse l) w.pending) same w.match;
+        agenda = w.agenda;
+        knows = subst (λ n. Knows d tree.root n (reverse popped.stack.items)) (sym level) (subst (λ l. Knows d tree.root walk.leaf_level (reverse l)) same w.knows);
+        rows = subst (RowsAre d visited) (sym rows) w.rows;
+        counted = w.counted;
+      },
+    )
+
+-- A place is put on an empty stack.
+pub starts_walk : (d : Database) (late : Bool) (tree : Tree) (visited rest : List Spot) (s : Spot) (marks : List Bool) (aside : List ℕ) (walk : Walk) (counts : Counts) (it : Item) → Stood d late visited (s ∷ rest) marks aside counts
+    → IsItemOf tree it s → TopLeads d tree.root (it ∷ []) → walk.stack.items ≡ it ∷ [] → walk.rows.items ≡ aside → walk.leaf_level ≡ None → Walking d late tree visited rest marks walk counts
+starts_walk d late tree visited rest s marks aside walk counts it w is leads stack rows level = record {
+  pending = s ∷ [];
+  match = subst (λ l. Match tree (reverse l) (s ∷ [])) (sym stack) (is, tt);
+  agenda = w.agenda;
+  knows = record {
+    level = λ on e. absurd (let both : ◌≡◌ {A = Option ℕ} None (Some on) = sym level ∙ e in cc);
+    leads = λ e. subst (λ l. TopLeads d tree.root (reverse l)) (sym stack) leads;
+  };
+  rows = subst (RowsAre d visited) (sym rows) w.rows;
+  counted = w.counted;
+}
+
+-- Nothing is left on the stack.
+pub ends_walk : (d : Database) (late : Bool) (tree : Tree) (rest : List Spot) (marks : List Bool) (walk : Walk) (counts : Counts) → walk.stack.items ≡ [] → WalksOn d late tree rest marks walk counts
+    → (visited : List Spot) × Stood d late visited rest marks walk.rows.items counts
+ends_walk d late tree rest marks walk counts empty (visited, w) = (visited, go w.pending (subst (λ l. Match tree (reverse l) w.pending) empty w.match) w.agenda)
+  where
+    go : (pending : List Spot) → Match tree [] pending → Agenda d late marks visited (pending ++ rest) → Stood d late visited rest marks walk.rows.items counts
+    go [] m a = record { agenda = a; rows = w.rows; counted = w.counted }
+    go (s ∷ ss) m a = absurd m

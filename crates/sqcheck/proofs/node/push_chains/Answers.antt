@@ -1,0 +1,47 @@
+use Rattle.std.proofs.Common.{◌≡◌, ◌+◌, ◌-◌, ◌<◌, sym, subst, ap, refl, arith, ◌∙◌}
+use Rattle.sqpage.specs.Page.{cell_count}
+use Rattle.sqpage.specs.Chain.{bytes_beyond}
+use Rattle.sqcheck.specs.declared.item.Item.{Item}
+use Rattle.sqcheck.specs.declared.item.Task.TheVariants.{Link}
+use Rattle.sqcheck.specs.Walking.{Pushes, InCellFrom}
+use Rattle.sqcheck.proofs.Nodes.{chain_more, chain_not, chains_none, chains_all, needs, link_leads}
+use Rattle.sqcheck.proofs.node.push_chains.Goals as goal
+
+pub cells-init : goal.cells-init
+cells-init c = record {
+  chains = λ tree. subst (λ n. Pushes tree (InCellFrom c.args.page.now n) c.args.stack.now.items c.args.stack.now.items) (sym c.len-left.ensures) (chains_none tree c.args.page.now c.args.stack.now.items);
+  leads = λ d root h. h;
+  within = omega (arith, c.len-left.ensures);
+}
+
+pub cells-preserved-in-Continue-1 : goal.cells-preserved-in-Continue-1
+cells-preserved-in-Continue-1 c =
+    let i = c.cells.invariant in
+    let back : c.cells.left - 1 + 1 ≡ c.cells.left = omega arith in
+    let lt : c.cells.left - 1 < cell_count c.args.page.now = omega (arith, i.within) in
+    let some : 0 < bytes_beyond c.cell-cell.result = (needs c.cell-cell.result c.cell-cell.ensures.least).0 (omega (arith, c.links_of-needed.ensures, c.if-needed-gt0.true)) in
+    let it : Item = record { holder = c.args.number; page = c.cell-cell.result.overflow; task = Link c.links_of-needed.result } in
+    record {
+      chains = λ tree. chain_more tree c.args.page.now (c.cells.left - 1) c.cell-cell.result c.args.stack.now.items c.cells.stack.items c.push.new.stack.items it (lt, c.cell-cell.ensures.cell) some (omega (arith, c.links_of-needed.ensures, c.if-needed-gt0.true))
+          (ap (λ n. record { holder = n; page = c.cell-cell.result.overflow; task = Link c.links_of-needed.result }) c.requires ∙ ap (λ n. record { holder = c.args.page.now.number; page = c.cell-cell.result.overflow; task = Link n }) c.links_of-needed.ensures)
+          c.in_ok-push.ensures.ok (subst (λ n. Pushes tree (InCellFrom c.args.page.now n) c.args.stack.now.items c.cells.stack.items) (sym back) (i.chains tree));
+      leads = λ d root h. link_leads d root c.cells.stack.items c.push.new.stack.items it c.links_of-needed.result refl c.in_ok-push.ensures.ok (i.leads d root h);
+      within = omega (arith, i.within);
+    }
+
+pub cells-preserved : goal.cells-preserved
+cells-preserved c =
+    let i = c.cells.invariant in
+    let back : c.cells.left - 1 + 1 ≡ c.cells.left = omega arith in
+    let lt : c.cells.left - 1 < cell_count c.args.page.now = omega (arith, i.within) in
+    let none : bytes_beyond c.cell-cell.result ≡ 0 = (needs c.cell-cell.result c.cell-cell.ensures.least).1 (omega (arith, c.links_of-needed.ensures, c.if-needed-gt0.false)) in
+    record {
+      chains = λ tree. chain_not tree c.args.page.now (c.cells.left - 1) c.cell-cell.result c.args.stack.now.items c.cells.stack.items (lt, c.cell-cell.ensures.cell) none
+          (subst (λ n. Pushes tree (InCellFrom c.args.page.now n) c.args.stack.now.items c.cells.stack.items) (sym back) (i.chains tree));
+      leads = i.leads;
+      within = omega (arith, i.within);
+    }
+
+pub returns-clause-ok : goal.returns-clause-ok
+returns-clause-ok c = λ tree. chains_all tree c.args.page.now c.args.stack.now.items c.cells.stack.items
+    (subst (λ n. Pushes tree (InCellFrom c.args.page.now n) c.args.stack.now.items c.cells.stack.items) (let z : c.cells.left ≡ 0 = omega (arith, c.cells-test.false) in z) (c.cells.invariant.chains tree))

@@ -1,0 +1,100 @@
+-- A walk with an agenda. No public contract cites these words.
+use Rattle.std.specs.Prelude.{◌≡◌, ℕ, ◌+◌, ◌≤◌, ◌⊎◌, List, ◌++◌, length, map, reverse, Bool, true, false, not, count_by}
+use Rattle.sqval.specs.Database.{Database}
+use Rattle.sqpage.specs.Lists.{In, Every, Apart}
+use Rattle.sqpage.specs.Freelist.{IsWithin}
+use Rattle.sqpage.specs.Taking.{is_marked, AreTaken}
+use Rattle.sqcheck.specs.declared.node.Walk.{Walk}
+use Rattle.sqcheck.specs.declared.walk.Counts.{Counts}
+use Rattle.sqcheck.specs.declared.tree.Tree.{Tree}
+use Rattle.sqcheck.specs.Places.{Place, first_trunk_place, first_root, next, leaf, overflow, child, root, Role, node, Spot, StandsIn, StandsInRow, IsFirst, IsReached}
+use Rattle.sqcheck.specs.WellFormed.{IsSound, HasSoundRows, numbers, is_root, is_node, is_link, is_free}
+use Rattle.sqcheck.specs.Walking.{Match, Knows, IsSchemaLeaf}
+
+-- the page that a place stands in, 0 for the two first ones
+abbrev pub home : Place → ℕ
+home first_trunk_place = 0
+home first_root = 0
+home (next p) = p
+home (leaf p i) = p
+home (overflow p i) = p
+home (child p i) = p
+home (root p i) = p
+
+abbrev pub places : List Spot → List Place
+places = map (λ s. s.place)
+
+-- the place is none of these
+abbrev pub Off : Place → List Spot → Type 0
+Off q ss = Every (λ s. s.place ≡ q → ⊥) ss
+
+-- it stands in no page, or in one that was taken
+abbrev pub IsHome : List Bool → Place → Type 0
+IsHome marks q = (home q ≡ 0) ⊎ (IsWithin (length marks) (home q) × (is_marked marks (home q) ≡ true))
+
+abbrev pub NotRoot : Place → Type 0
+NotRoot (root p i) = ⊥
+NotRoot _ = Unit {0}
+
+abbrev pub NotSchema : Role → Type 0
+NotSchema (node x) = x.schema ≡ false
+NotSchema _ = Unit {0}
+
+-- The pages of the visited places are taken, in their order, and the pending ones are still to be followed. All that
+-- stands in a page of a visited one is visited or pending; in `late` that is so of the roots in its rows too, and these
+-- are sound.
+pub record Agenda (d : Database) (late : Bool) (marks : List Bool) (visited pending : List Spot) : Type 0 where
+  pub sized : length marks ≡ length d
+  pub taken : AreTaken marks (numbers visited)
+  pub room : length visited + count_by not marks ≤ length d
+  pub reached : Every (IsReached d) visited
+  pub waiting : Every (IsReached d) pending
+  pub sound : Every (IsSound d) visited
+  pub starts : (s : Spot) → IsFirst d s → In s visited ⊎ In s pending
+  pub closed : (s t : Spot) → In s visited → StandsIn d s t → In t visited ⊎ In t pending
+  pub apart : Apart (places pending)
+  pub off : Every (λ v. Off v.place pending) visited
+  pub homes : Every (λ v. IsHome marks v.place) visited
+  pub waiting_homes : Every (λ s. IsHome marks s.place) pending
+  pub early : late ≡ false → Every (λ v. NotRoot v.place) visited × Every (λ s. NotRoot s.place) pending
+  pub rooted : late ≡ true → (s t : Spot) → In s visited → StandsInRow d s t → In t visited ⊎ In t pending
+  pub plain : late ≡ true → Every (λ s. NotSchema s.role) pending
+  pub read : late ≡ true → Every (λ v. HasSoundRows d v.page v.role) visited
+
+-- These places, and no others, stand in the page that s names.
+pub record Stems (d : Database) (s : Spot) (under : List Spot) : Type 0 where
+  pub only : Every (StandsIn d s) under
+  pub all : (t : Spot) → StandsIn d s t → In t under
+  pub distinct : Apart (places under)
+
+-- The pages that were put aside are the leaves of the schema's tree among the visited ones.
+pub record RowsAre (d : Database) (visited : List Spot) (rows : List ℕ) : Type 0 where
+  pub all : (s : Spot) → In s visited → IsSchemaLeaf d s.page s.role → In s.page rows
+  pub only : Every (λ p. (s : Spot) × In s visited × (s.page ≡ p) × IsSchemaLeaf d p s.role) rows
+  pub distinct : Apart rows
+
+-- how many visited places there are of each use
+pub record AreCounted (visited : List Spot) (counts : Counts) : Type 0 where
+  pub trees : counts.trees ≡ count_by (λ s. is_root s.role) visited
+  pub btree : counts.btree ≡ count_by (λ s. is_node s.role) visited
+  pub overflow : counts.overflow ≡ count_by (λ s. is_link s.role) visited
+  pub free : counts.free ≡ count_by (λ s. is_free s.role) visited
+
+-- The walk stands so: these places were visited, those on the stack are pending, and then the rest.
+pub record Walking (d : Database) (late : Bool) (tree : Tree) (visited rest : List Spot) (marks : List Bool) (walk : Walk) (counts : Counts) : Type 0 where
+  pub pending : List Spot
+  pub match : Match tree (reverse walk.stack.items) pending
+  pub agenda : Agenda d late marks visited (pending ++ rest)
+  pub knows : Knows d tree.root walk.leaf_level (reverse walk.stack.items)
+  pub rows : RowsAre d visited walk.rows.items
+  pub counted : AreCounted visited counts
+
+-- It stands so with more places visited.
+abbrev pub WalksOn : Database → (late : Bool) → Tree → (rest : List Spot) → (marks : List Bool) → Walk → Counts → Type 0
+WalksOn d late tree rest marks walk counts = (visited : List Spot) × Walking d late tree visited rest marks walk counts
+
+-- Nothing is on the stack, and these places were visited.
+pub record Stood (d : Database) (late : Bool) (visited rest : List Spot) (marks : List Bool) (put_aside : List ℕ) (counts : Counts) : Type 0 where
+  pub agenda : Agenda d late marks visited rest
+  pub rows : RowsAre d visited put_aside
+  pub counted : AreCounted visited counts

@@ -1,0 +1,9 @@
+pub mod Places
+pub mod WellFormed
+pub mod Stands
+pub mod Walking
+pub mod Counting
+pub mod Agenda
+pub mod Heading
+pub mod Checking
+pub mod Schema

@@ -1,0 +1,75 @@
+-- The condition of each fault, at a page.
+use Rattle.std.specs.Prelude.{◌≡◌, ◌≢◌, ℕ, ◌<◌, ◌⊎◌, true, false, List, length, Option, ℤ, IsTrue}
+use Rattle.sqval.specs.Bytes.{word}
+use Rattle.sqval.specs.Database.{Database, page}
+use Rattle.sqpage.specs.declared.cell.Cell.{Cell}
+use Rattle.sqpage.specs.declared.fault.Fault.{Fault}
+use Rattle.sqpage.specs.declared.fault.Fault.TheVariants as faults
+use Rattle.sqpage.specs.declared.kind.Kind.{Kind}
+use Rattle.sqpage.specs.Header.{HasMagic, HasPageSize, HasFractions, HasRoom, size_named}
+use Rattle.sqpage.specs.Lists.{In, Every, Apart}
+use Rattle.sqpage.specs.Freelist.{IsPage, free_pages, next_in, leaf_count_in, most_leaves}
+use Rattle.sqpage.specs.Page.{Page, is_interior, is_table, IsBtreePage}
+use Rattle.sqpage.specs.Layout.{LayoutRefused}
+use Rattle.sqcheck.specs.Places.{holder, Node, trunk, link, node, Spot, page_as, HasKind, IsCellAt, IsKeyBefore, IsRow, IsSchemaRow, IsReached}
+use Rattle.sqcheck.specs.WellFormed.{is_link, is_free, FirstLeaf, IsInOrder}
+
+-- some key isn't behind the one before, or is behind the high bound
+abbrev pub HasKeyOutOfOrder : Page → Node → Type 0
+HasKeyOutOfOrder b x = (i : ℕ) × (cell : Cell) × (before : Option ℤ) × IsCellAt b i cell × IsKeyBefore b x i before × ¬ IsInOrder x before cell
+
+-- the page is a b-tree page of some kind, and this holds of it
+abbrev pub AsBtreePage : Database → (p : ℕ) → (Kind → Page → Type 0) → Type 0
+AsBtreePage d p P = (kind : Kind) × IsBtreePage (page_as d kind p) × P kind (page_as d kind p)
+
+-- the page is a leaf, and not on the level of the tree's first leaf
+abbrev pub IsUneven : Database → (p : ℕ) → Node → Type 0
+IsUneven d p x = (kind : Kind) × HasKind d kind p × (is_interior kind ≡ false) × (on : ℕ) × FirstLeaf d x.tree 1 on × (x.level ≢ on)
+
+-- What is wrong with page p as one of a tree.
+abbrev pub NodeRefused : Database → Fault → (p : ℕ) → Node → Type 0
+NodeRefused d faults.Kind p x = (kind : Kind) → HasKind d kind p → is_table kind ≢ x.table
+NodeRefused d faults.CellOutside p x = (kind : Kind) × HasKind d kind p × ¬ IsBtreePage (page_as d kind p)
+NodeRefused d faults.Overlap p x = AsBtreePage d p (λ kind b. LayoutRefused faults.Overlap b)
+NodeRefused d faults.Freeblock p x = AsBtreePage d p (λ kind b. LayoutRefused faults.Freeblock b)
+NodeRefused d faults.Fragments p x = AsBtreePage d p (λ kind b. LayoutRefused faults.Fragments b)
+NodeRefused d faults.KeyOrder p x = AsBtreePage d p (λ kind b. HasKeyOutOfOrder b x)
+NodeRefused d faults.Depth p x = (20 < x.level) ⊎ IsUneven d p x
+NodeRefused d faults.SchemaRecord p x = (x.schema ≡ true) × AsBtreePage d p (λ kind b. (is_interior kind ≡ false) × (i : ℕ) × (bytes : List ℕ) × IsRow d b i bytes × ((r : ℕ) → ¬ IsSchemaRow bytes r))
+NodeRefused d _ p x = ⊥
+
+-- a reached place names page p as one of a tree, and this is wrong with it
+abbrev pub OnNode : Database → Fault → (p : ℕ) → Type 0
+OnNode d fault p = (s : Spot) × (x : Node) × IsReached d s × (s.page ≡ p) × IsPage d p × (s.role ≡ node x) × NodeRefused d fault p x
+
+-- these are all reached places of the freelist, each once
+pub record AreFreePlaces (d : Database) (free : List Spot) : Type 0 where
+  pub all : (s : Spot) → IsReached d s → is_free s.role ≡ true → In s free
+  pub reached : Every (λ s. IsReached d s × (is_free s.role ≡ true)) free
+  pub distinct : Apart free
+
+-- The condition of a fault of the file holds at page p.
+abbrev pub Stands : Database → (size : ℕ) → Fault → (p : ℕ) → Type 0
+Stands d size faults.Magic p = (p ≡ 1) × ¬ HasMagic (page d 1)
+Stands d size faults.PageSize p = (p ≡ 1) × (¬ HasPageSize (page d 1) ⊎ (size_named (page d 1) ≢ size))
+Stands d size faults.Fraction p = (p ≡ 1) × ¬ HasFractions (page d 1)
+Stands d size faults.Reserved p = (p ≡ 1) × ¬ HasRoom (page d 1)
+Stands d size faults.AutoVacuum p = (p ≡ 1) × (word (page d 1) 52 ≢ 0)
+Stands d size faults.Kind p = OnNode d faults.Kind p
+Stands d size faults.CellOutside p = OnNode d faults.CellOutside p
+Stands d size faults.Overlap p = OnNode d faults.Overlap p
+Stands d size faults.Freeblock p = OnNode d faults.Freeblock p
+Stands d size faults.Fragments p = OnNode d faults.Fragments p
+Stands d size faults.ChainCut p = (s : Spot) × (needed : ℕ) × IsReached d s × (s.role ≡ link needed) × (holder s.place ≡ p) × ((s.page ≡ 0) ⊎ (length d < needed))
+Stands d size faults.ChainLong p = (s : Spot) × IsReached d s × (s.page ≡ p) × IsPage d p × (s.role ≡ link 1) × (next_in (page d p) ≢ 0)
+Stands d size faults.PageTwice p = IsPage d p × (s t : Spot) × IsReached d s × IsReached d t × (s.place ≢ t.place) × (s.page ≡ p) × (t.page ≡ p)
+Stands d size faults.PageOutside p = (s : Spot) × IsReached d s × (holder s.place ≡ p) × ¬ IsPage d s.page × (IsTrue (is_link s.role) → s.page ≢ 0)
+Stands d size faults.PageUnused p = IsPage d p × ((s : Spot) → IsReached d s → s.page ≢ p)
+Stands d size faults.KeyOrder p = OnNode d faults.KeyOrder p
+Stands d size faults.Depth p = OnNode d faults.Depth p
+Stands d size faults.FreeCount p =
+    ((s : Spot) × IsReached d s × (s.page ≡ p) × IsPage d p × (s.role ≡ trunk) × (most_leaves d < leaf_count_in (page d p)))
+    ⊎ ((p ≡ 1) × (free : List Spot) × AreFreePlaces d free × (length free ≢ free_pages d))
+Stands d size faults.SchemaRecord p = OnNode d faults.SchemaRecord p
+Stands d size faults.Source p = ⊥
+Stands d size faults.NoMemory p = Unit {0}

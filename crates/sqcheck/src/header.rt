@@ -1,0 +1,71 @@
+//! The header of the file.
+ghost use Rattle.std.specs.Prelude.{◌≡◌, ◌≢◌, ◌+◌, ◌<◌, ◌≤◌, length, IfOk, IfErr, take};
+ghost use Rattle.sqval.specs.Bytes.{word};
+ghost use Rattle.sqval.specs.Database.{page};
+ghost use Rattle.sqval.specs.PageSize.{IsPageSize};
+ghost use Rattle.sqpage.specs.Lists.{Every};
+ghost use Rattle.sqpage.specs.declared.fault.Fault.{Fault};
+ghost use Rattle.sqpage.specs.declared.header.DbHeader.{DbHeader};
+ghost use Rattle.sqpage.specs.Header.{IsHeader, HeaderRefused};
+ghost use Rattle.sqcheck.specs.Stands.{Stands};
+ghost use Rattle.sqcheck.specs.Heading.{HasHeaderOf, HeaderFault};
+
+use crate::pages::read_page;
+use sqpage::{CheckError, DbHeader, Fault, PageSource};
+use sqval::PageSize;
+
+/// The header in the bytes of page 1.
+fn header_in(bytes: &[u8]) -> Result<DbHeader, Fault>
+    requires { 100 ≤ length bytes.now }
+    ensures ok { IfOk result (λ header. IsHeader header (take 100 bytes.now)) }
+    ensures err { IfErr result (λ fault. HeaderRefused fault (take 100 bytes.now)) }
+{
+    let mut head = [0; 100];
+    head.copy_from_slice(&bytes[..100]);
+    DbHeader::read(&head)
+}
+
+/// Judges the header of a database of pages of this size. Refused by Magic, PageSize, Fraction, Reserved and
+/// AutoVacuum, the first that applies.
+fn judge(bytes: &[u8], size: PageSize) -> Result<DbHeader, Fault>
+    requires size { size ≡ length bytes.now }
+    requires large { 512 ≤ length bytes.now }
+    ensures ok { IfOk result (λ header. HasHeaderOf header size bytes.now) }
+    ensures room { IfOk result (λ header. 480 + header.reserved ≤ size) }
+    ensures err { IfErr result (λ fault. HeaderFault fault size bytes.now) }
+{
+    let header = header_in(bytes)?;
+    if header.page_size.get() != size.get() {
+        return Err(Fault::PageSize);
+    }
+    if header.largest_root != 0 {
+        return Err(Fault::AutoVacuum);
+    }
+    Ok(header)
+}
+
+/// Reads page 1 and judges its header, at page 1.
+pub(crate) fn judge_header<S: PageSource>(
+    source: &mut S,
+    size: PageSize,
+    bytes: &mut [u8],
+) -> Result<DbHeader, CheckError>
+    requires some { 0 < length (S.pages source.old) }
+    requires room { length bytes.old ≡ S.size source.old }
+    requires size { size ≡ S.size source.old }
+    requires large { 512 ≤ size }
+    ensures ok { S.gives_pages source.old → IfOk result (λ header. HasHeaderOf header size (page (S.pages source.old) 1)) }
+    ensures room { IfOk result (λ header. 480 + header.reserved ≤ size) }
+    ensures sized { S.gives_pages source.old → Every (λ bytes. length bytes ≡ S.size source.old) (S.pages source.old) }
+    ensures err { S.gives_pages source.old → IfErr result (λ e. Stands (S.pages source.old) size e.fault e.page) }
+    ensures still_gives { S.gives_pages source.old → S.gives_pages source.new }
+    ensures same_pages { S.pages source.new ≡ S.pages source.old }
+    ensures same_size { S.size source.new ≡ S.size source.old }
+    ensures length { length bytes.new ≡ length bytes.old }
+{
+    read_page(source, 1, bytes)?;
+    match judge(bytes, size) {
+        Ok(header) => Ok(header),
+        Err(fault) => Err(CheckError { page: 1, fault }),
+    }
+}

@@ -1,0 +1,44 @@
+//! What is left to be followed.
+ghost use Rattle.std.specs.Prelude.{◌≡◌, ◌∷◌, ◌++◌, [], OnOk, OnErr, IfErr, IfOk};
+ghost use Rattle.sqpage.specs.declared.fault.Fault.{Fault};
+
+use sqpage::{CheckError, Fault};
+
+/// What a page is named as.
+#[derive(Clone, Copy, Debug)]
+pub(crate) enum Task {
+    /// A trunk of the freelist.
+    Trunk,
+    /// A leaf of the freelist.
+    Leaf,
+    /// The first of so many pages of a chain that are still needed.
+    Link(u64),
+    /// A page of a tree on this level, whose keys are above `low` and at most `high`.
+    Node {
+        level: u32,
+        low: Option<i64>,
+        high: Option<i64>,
+    },
+}
+
+/// A page that is named, and the page that names it.
+#[derive(Clone, Copy, Debug)]
+pub(crate) struct Item {
+    pub holder: u32,
+    pub page: u32,
+    pub task: Task,
+}
+
+/// Puts an item on the stack.
+pub(crate) fn push(stack: &mut Vec<Item>, item: Item) -> Result<(), CheckError>
+    ensures ok { OnOk result (stack.new.items ≡ stack.old.items ++ item ∷ []) }
+    ensures err { IfErr result (λ e. e.fault ≡ Fault.NoMemory) }
+{
+    match stack.push(item) {
+        Ok(()) => Ok(()),
+        Err(_) => Err(CheckError {
+            page: item.holder,
+            fault: Fault::NoMemory,
+        }),
+    }
+}

@@ -1,0 +1,320 @@
+//! Pages of trees.
+ghost use Rattle.std.specs.Prelude.{◌≡◌, ◌≢◌, ◌⊎◌, ◌↔◌, Some, None, ◌+◌, ◌<◌, ◌≤◌, ◌^◌, ℕ, suc, true, false, IsTrue, IsSome, IfOk, IfErr, OnOk, OnErr, length, take, reverse, ◌++◌, ◌∷◌, []};
+ghost use Rattle.sqval.specs.Database.{Database};
+ghost use Rattle.sqval.specs.PageSize.{IsPageSize};
+ghost use Rattle.sqpage.specs.declared.fault.Fault.{Fault};
+ghost use Rattle.sqpage.specs.declared.kind.Kind.{Kind};
+ghost use Rattle.sqpage.specs.Header.{byte};
+ghost use Rattle.sqpage.specs.Page.{Page, code_of, is_interior, is_table, head_at};
+ghost use Rattle.sqpage.specs.Chain.{links, payload_size};
+ghost use Rattle.sqcheck.specs.Places.{Node, InCell, used_in};
+ghost use Rattle.sqcheck.specs.WellFormed.{IsBefore, IsAtMost, KeysRise, FirstLeaf, first_child};
+ghost use Rattle.sqcheck.specs.Stands.{HasKeyOutOfOrder, NodeRefused};
+ghost use Rattle.sqcheck.specs.Walking.{node_in, Pushes, IsChild, IsBelow, TopLeads, IsLevelOf, Judged, KnowsAt, Enters};
+ghost use Rattle.sqcheck.specs.declared.tree.Tree.{Tree};
+
+use crate::item::{Item, Task, push};
+use crate::tree::Tree;
+use sqpage::{BtreePage, Cell, CheckError, Fault, Kind};
+
+/// Where the header of page 1 as a b-tree page begins, behind the file's header.
+const FIRST_HEAD: usize = 100;
+
+/// What is known of a page of a tree: its level, and the bounds of its keys.
+#[derive(Clone, Copy, Debug)]
+pub(crate) struct Bounds {
+    pub level: u32,
+    pub low: Option<i64>,
+    pub high: Option<i64>,
+}
+
+/// The kind of a page of a tree. Refused by Kind where it has no such type byte, or isn't of the tree's
+/// kind.
+fn kind_in(tree: &Tree, number: u32, used: &[u8]) -> Result<Kind, Fault>
+    requires { 480 ≤ length used.now }
+    ensures ok { IfOk result (λ kind. (byte used.now (head_at number) ≡ code_of kind) × (is_table kind ≡ tree.now.table)) }
+    ensures err { IfErr result (λ fault. (fault ≡ Fault.Kind) × ((kind : Kind) → byte used.now (head_at number) ≡ code_of kind → is_table kind ≢ tree.now.table)) }
+{
+    let head = if number == 1 { FIRST_HEAD } else { 0 };
+    match Kind::of(used[head]) {
+        Some(kind) => if kind.is_table() == tree.table {
+            Ok(kind)
+        } else {
+            Err(Fault::Kind)
+        },
+        None => Err(Fault::Kind),
+    }
+}
+
+/// The level of a tree's leaves, once a leaf on this level was found. Refused by Depth where the first one
+/// stands on another.
+fn leaf_level(first: Option<u32>, level: u32) -> Result<u32, Fault>
+    ensures ok { IfOk result (λ found. (found ≡ level) × ((first ≡ None) ⊎ (first ≡ Some level))) }
+    ensures err { IfErr result (λ fault. (fault ≡ Fault.Depth) × (on : ℕ) × (first ≡ Some on) × (level ≢ on)) }
+{
+    match first {
+        Some(first) => if first == level {
+            Ok(first)
+        } else {
+            Err(Fault::Depth)
+        },
+        None => Ok(level),
+    }
+}
+
+/// Whether a key comes behind another.
+fn is_behind(before: Option<i64>, key: Option<i64>) -> bool
+    ensures { IsTrue result ↔ IsBefore before key }
+{
+    match (before, key) {
+        (Some(before), Some(key)) => before < key,
+        _ => true,
+    }
+}
+
+/// Whether a key is at most a high bound.
+fn is_at_most(high: Option<i64>, key: Option<i64>) -> bool
+    ensures { IsTrue result ↔ IsAtMost high key }
+{
+    match (high, key) {
+        (Some(high), Some(key)) => key <= high,
+        _ => true,
+    }
+}
+
+/// Whether the keys of a page rise within its bounds.
+fn keys_rise(page: &BtreePage, low: Option<i64>, high: Option<i64>) -> bool
+    ensures yes { (x : Node) → x.low ≡ low → x.high ≡ high → IsTrue result → KeysRise page.now x }
+    ensures not { (x : Node) → x.low ≡ low → x.high ≡ high → result ≡ false → HasKeyOutOfOrder page.now x }
+{
+    let mut before = low;
+    'cells: for i in 0..page.len() {
+        let key = page.cell(i).rowid;
+        if !is_behind(before, key) || !is_at_most(high, key) {
+            return false;
+        }
+        before = key;
+    }
+    true
+}
+
+/// How many pages the rest of a cell's payload takes.
+fn links_of(cell: &Cell) -> u64
+    requires least { 480 ≤ cell.now.usable }
+    requires part { length cell.now.local.now ≤ payload_size cell.now }
+    ensures { result ≡ links cell.now }
+{
+    let size = cell.payload.unwrap_or(0);
+    let beyond = size - cell.local.len() as u64;
+    beyond.div_ceil(u64::from(cell.usable) - 4)
+}
+
+/// Puts the chains of a page's cells on the stack, the first one on top.
+pub(crate) fn push_chains(
+    number: u32,
+    page: &BtreePage,
+    stack: &mut Vec<Item>,
+) -> Result<(), CheckError>
+    requires { number ≡ page.now.number }
+    ensures ok { OnOk result ((tree : Tree) → Pushes tree (InCell page.now) stack.old.items stack.new.items) }
+    ensures leads { OnOk result ((d : Database) (root : ℕ) → TopLeads d root (reverse stack.old.items) → TopLeads d root (reverse stack.new.items)) }
+    ensures err { IfErr result (λ e. e.fault ≡ Fault.NoMemory) }
+{
+    let mut left = page.len();
+    'cells: while left > 0 {
+        left -= 1;
+        let cell = page.cell(left);
+        let needed = links_of(&cell);
+        if needed > 0 {
+            push(
+                stack,
+                Item {
+                    holder: number,
+                    page: cell.overflow,
+                    task: Task::Link(needed),
+                },
+            )?;
+        }
+    }
+    Ok(())
+}
+
+/// Puts the children of an interior page on the stack, the first one on top.
+pub(crate) fn push_children(
+    number: u32,
+    page: &BtreePage,
+    bounds: Bounds,
+    stack: &mut Vec<Item>,
+) -> Result<(), CheckError>
+    requires number { number ≡ page.now.number }
+    requires interior { is_interior page.now.kind ≡ true }
+    requires shallow { bounds.level ≤ 20 }
+    ensures ok { OnOk result ((tree : Tree) → Pushes tree (IsChild page.now (node_in tree bounds.level bounds.low bounds.high)) stack.old.items stack.new.items) }
+    ensures leads { OnOk result ((d : Database) (root : ℕ) → ((on : ℕ) → FirstLeaf d (first_child page.now) (suc bounds.level) on → FirstLeaf d root 1 on)
+        → TopLeads d root (reverse stack.new.items)) }
+    ensures err { IfErr result (λ e. e.fault ≡ Fault.NoMemory) }
+{
+    let level = bounds.level + 1;
+    let mut child = page.right().unwrap_or(0);
+    let mut high = bounds.high;
+    let mut left = page.len();
+    'cells: while left > 0 {
+        left -= 1;
+        let cell = page.cell(left);
+        let task = Task::Node {
+            level,
+            low: cell.rowid,
+            high,
+        };
+        push(
+            stack,
+            Item {
+                holder: number,
+                page: child,
+                task,
+            },
+        )?;
+        child = cell.child.unwrap_or(0);
+        high = cell.rowid;
+    }
+    let task = Task::Node {
+        level,
+        low: bounds.low,
+        high,
+    };
+    push(
+        stack,
+        Item {
+            holder: number,
+            page: child,
+            task,
+        },
+    )
+}
+
+/// Judges a page of a tree and its cells. Refused by Kind, Depth, CellOutside, Freeblock, Overlap, Fragments
+/// and KeyOrder, the first that applies. `first` is the level of the tree's first leaf, where it is known.
+pub(crate) fn judge<'a>(
+    tree: &Tree,
+    number: u32,
+    bytes: &'a [u8],
+    usable: u32,
+    bounds: Bounds,
+    first: &mut Option<u32>,
+    map: &mut [bool],
+) -> Result<BtreePage<'a>, Fault>
+    requires page { IsPageSize (length bytes.now) }
+    requires number { 0 < number }
+    requires least { 480 ≤ usable }
+    requires most { usable ≤ length bytes.now }
+    requires room { usable + 4 ≤ length map.old }
+    ensures ok { IfOk result (λ page. Judged page (node_in tree.now bounds.level bounds.low bounds.high) first.old first.new) }
+    ensures number { IfOk result (λ page. page.number ≡ number) }
+    ensures part { IfOk result (λ page. page.used ≡ take usable bytes.entry.now) }
+    ensures err { (d : Database) → used_in d number ≡ take usable bytes.entry.now → IsLevelOf d tree.now.root first.old
+        → IfErr result (λ fault. NodeRefused d fault number (node_in tree.now bounds.level bounds.low bounds.high)) }
+    ensures length { length map.new ≡ length map.old }
+{
+    let kind = kind_in(tree, number, &bytes[..usable as usize])?;
+    if !kind.is_interior() {
+        *first = Some(leaf_level(*first, bounds.level)?);
+    }
+    let page = BtreePage::new(bytes, number, usable)?;
+    page.layout_in(map)?;
+    if !keys_rise(&page, bounds.low, bounds.high) {
+        return Err(Fault::KeyOrder);
+    }
+    Ok(page)
+}
+
+/// How far the walk has come.
+#[derive(Drop)]
+pub(crate) struct Walk {
+    /// The places that are still to be followed, the next one last.
+    pub stack: Vec<Item>,
+    /// The leaves of the schema's tree.
+    pub rows: Vec<u32>,
+    /// The level of the first leaf of the tree that is followed.
+    pub leaf_level: Option<u32>,
+}
+
+/// Puts a leaf of the schema's tree aside.
+fn put_aside(tree: &Tree, kind: Kind, number: u32, rows: &mut Vec<u32>) -> Result<(), CheckError>
+    ensures ok { OnOk result (((tree.now.schema ≡ true) × (is_interior kind ≡ false) × (rows.new.items ≡ rows.old.items ++ number ∷ []))
+        ⊎ (((tree.now.schema ≡ true) → is_interior kind ≢ false) × (rows.new.items ≡ rows.old.items))) }
+    ensures err { IfErr result (λ e. e.fault ≡ Fault.NoMemory) }
+{
+    if kind.is_interior() || !tree.schema {
+        return Ok(());
+    }
+    match rows.push(number) {
+        Ok(()) => Ok(()),
+        Err(_) => Err(CheckError {
+            page: number,
+            fault: Fault::NoMemory,
+        }),
+    }
+}
+
+/// Puts the children of a page on the stack, where it is an interior one.
+fn push_below(
+    number: u32,
+    page: &BtreePage,
+    bounds: Bounds,
+    stack: &mut Vec<Item>,
+) -> Result<(), CheckError>
+    requires number { number ≡ page.now.number }
+    requires shallow { bounds.level ≤ 20 }
+    ensures ok { OnOk result ((tree : Tree) → Pushes tree (IsBelow page.now (node_in tree bounds.level bounds.low bounds.high)) stack.old.items stack.new.items) }
+    ensures leads { OnOk result ((d : Database) (root : ℕ) → is_interior page.now.kind ≡ true → ((on : ℕ) → FirstLeaf d (first_child page.now) (suc bounds.level) on → FirstLeaf d root 1 on)
+        → TopLeads d root (reverse stack.new.items)) }
+    ensures err { IfErr result (λ e. e.fault ≡ Fault.NoMemory) }
+{
+    if page.kind().is_interior() {
+        push_children(number, page, bounds, stack)
+    } else {
+        Ok(())
+    }
+}
+
+/// Judges a page of a tree, and puts what stands in it on the stack: its chains, then its children.
+pub(crate) fn enter(
+    tree: &Tree,
+    number: u32,
+    bytes: &[u8],
+    usable: u32,
+    bounds: Bounds,
+    map: &mut [bool],
+    walk: &mut Walk,
+) -> Result<(), CheckError>
+    requires page { IsPageSize (length bytes.now) }
+    requires number { 0 < number }
+    requires least { 480 ≤ usable }
+    requires most { usable ≤ length bytes.now }
+    requires room { usable + 4 ≤ length map.old }
+    requires shallow { bounds.level ≤ 20 }
+    ensures ok { (d : Database) → used_in d number ≡ take usable bytes.now → KnowsAt d tree.now.root walk.old.leaf_level number bounds.level
+        → OnOk result (Enters d tree.now number (node_in tree.now bounds.level bounds.low bounds.high) walk.old walk.new) }
+    ensures err { (d : Database) → used_in d number ≡ take usable bytes.now → IsLevelOf d tree.now.root walk.old.leaf_level
+        → IfErr result (λ e. ((e.page ≡ number) × NodeRefused d e.fault number (node_in tree.now bounds.level bounds.low bounds.high)) ⊎ (e.fault ≡ Fault.NoMemory)) }
+    ensures length { length map.new ≡ length map.old }
+{
+    let page = match judge(
+        tree,
+        number,
+        bytes,
+        usable,
+        bounds,
+        &mut walk.leaf_level,
+        map,
+    ) {
+        Ok(page) => page,
+        Err(fault) => return Err(CheckError {
+            page: number,
+            fault,
+        }),
+    };
+    put_aside(tree, page.kind(), number, &mut walk.rows)?;
+    push_below(number, &page, bounds, &mut walk.stack)?;
+    push_chains(number, &page, &mut walk.stack)
+}

@@ -1,0 +1,209 @@
+//! The rows of the schema.
+ghost use Rattle.std.specs.Prelude.{◌≡◌, ◌≢◌, ◌⊎◌, ◌↔◌, ◌+◌, ◌<◌, ◌≤◌, ◌^◌, ◌++◌, [], ℕ, List, Some, true, length, take, IsSome, IfOk, IfErr, OnOk, OnErr, ◌∷◌};
+ghost use Rattle.sqval.specs.Database.{Database, page};
+ghost use Rattle.sqval.specs.PageSize.{IsPageSize};
+ghost use Rattle.sqpage.specs.Lists.{Every, Apart};
+ghost use Rattle.sqpage.specs.Freelist.{usable_size};
+ghost use Rattle.sqpage.specs.Page.{cell_count};
+ghost use Rattle.sqpage.specs.Chain.{IsPayload, payload_size};
+ghost use Rattle.sqpage.specs.declared.fault.Fault.{Fault};
+ghost use Rattle.sqpage.specs.declared.kind.Kind.TheVariants.{TableLeaf};
+ghost use Rattle.sqcheck.specs.Places.{IsRootOf, IsSchemaRow, InRow, page_as};
+ghost use Rattle.sqcheck.specs.Stands.{Stands};
+ghost use Rattle.sqcheck.specs.Schema.{IsRowsPage, AreSchemaRows, AllSchemaRows, InRowBelow, InRowsOf, Finds};
+
+use crate::pages::read_page;
+use sqpage::{BtreePage, Cell, CheckError, Fault, Kind, PageSource, payload};
+use sqval::{Record, Value};
+use std::alloc::Global;
+
+/// The root of a tree, which a row of the schema names.
+#[derive(Clone, Copy, Debug)]
+pub(crate) struct Root {
+    /// The page that the row stands in.
+    pub holder: u32,
+    pub page: u64,
+}
+
+/// The root that a row's fourth column names, or 0 where it is NULL. None where it is no such row.
+fn root_in(row: &Record) -> Option<u64>
+    ensures { (r : ℕ) → (result ≡ Some r) ↔ IsRootOf row.now r }
+{
+    if row.len() < 5 {
+        return None;
+    }
+    match row.column(3) {
+        Some(Value::Null) => Some(0),
+        Some(Value::Int(number)) => u64::try_from(number).ok(),
+        _ => None,
+    }
+}
+
+/// The root that a row of the schema names, or 0. None where the bytes are no such row.
+fn schema_root(bytes: &[u8]) -> Option<u64>
+    ensures { (r : ℕ) → (result ≡ Some r) ↔ IsSchemaRow bytes.now r }
+{
+    match Record::new(bytes) {
+        Ok(row) => root_in(&row),
+        Err(_) => None,
+    }
+}
+
+/// The root that the row in a cell names, or 0. Refused by SchemaRecord at the cell's page. `content` is
+/// room for the row.
+fn row_root<S: PageSource>(
+    alloc: Global,
+    source: &mut S,
+    cell: &Cell,
+    content: &mut Vec<u8>,
+) -> Result<u64, CheckError>
+    requires payload { IsSome cell.now.payload }
+    requires least { 480 ≤ cell.now.usable }
+    requires most { cell.now.usable ≤ S.size source.old }
+    requires part { length cell.now.local.now ≤ payload_size cell.now }
+    ensures ok { S.gives_pages source.old → IfOk result (λ r. (bytes : List ℕ) × IsPayload (S.pages source.old) cell.now bytes × IsSchemaRow bytes r × ((q : ℕ) → IsSchemaRow bytes q → q ≡ r)) }
+    ensures err { S.gives_pages source.old → (bytes : List ℕ) → IsPayload (S.pages source.old) cell.now bytes
+        → IfErr result (λ e. (e.fault ≡ Fault.NoMemory) ⊎ ((e.fault ≡ Fault.SchemaRecord) × (e.page ≡ cell.now.page) × (bytes : List ℕ) × IsPayload (S.pages source.old) cell.now bytes × ((r : ℕ) → ¬ IsSchemaRow bytes r))) }
+    ensures still_gives { S.gives_pages source.old → S.gives_pages source.new }
+    ensures same_pages { S.pages source.new ≡ S.pages source.old }
+    ensures same_size { S.size source.new ≡ S.size source.old }
+{
+    content.clear();
+    payload(alloc, source, cell, content)?;
+    match schema_root(content) {
+        Some(root) => Ok(root),
+        None => Err(CheckError {
+            page: cell.page,
+            fault: Fault::SchemaRecord,
+        }),
+    }
+}
+
+/// Adds a root that was found, where it isn't 0.
+fn add_root(roots: &mut Vec<Root>, holder: u32, page: u64) -> Result<(), CheckError>
+    ensures zero { OnOk result (page ≡ 0 → roots.new.items ≡ roots.old.items) }
+    ensures found { OnOk result (page ≢ 0 → roots.new.items ≡ roots.old.items ++ record { holder = holder; page = page } ∷ []) }
+    ensures err { IfErr result (λ e. e.fault ≡ Fault.NoMemory) }
+{
+    if page == 0 {
+        return Ok(());
+    }
+    match roots.push(Root { holder, page }) {
+        Ok(()) => Ok(()),
+        Err(_) => Err(CheckError {
+            page: holder,
+            fault: Fault::NoMemory,
+        }),
+    }
+}
+
+/// Adds the roots that the rows in a leaf of the schema's tree name, in their order.
+fn take_rows<S: PageSource>(
+    alloc: Global,
+    source: &mut S,
+    number: u32,
+    page: &BtreePage,
+    content: &mut Vec<u8>,
+    roots: &mut Vec<Root>,
+) -> Result<(), CheckError>
+    requires leaf { page.now.kind ≡ TableLeaf }
+    requires most { length page.now.used ≤ S.size source.old }
+    requires number { number ≡ page.now.number }
+    ensures ok { S.gives_pages source.old → page.now ≡ page_as (S.pages source.old) TableLeaf number
+        → OnOk result (Finds (S.pages source.old) (InRowBelow (S.pages source.old) number (cell_count page.now)) roots.old.items roots.new.items × AreSchemaRows (S.pages source.old) number (cell_count page.now)) }
+    ensures err { S.gives_pages source.old → page.now ≡ page_as (S.pages source.old) TableLeaf number → IsRowsPage (S.pages source.old) number
+        → IfErr result (λ e. (size : ℕ) → Stands (S.pages source.old) size e.fault e.page) }
+    ensures still_gives { S.gives_pages source.old → S.gives_pages source.new }
+    ensures same_pages { S.pages source.new ≡ S.pages source.old }
+    ensures same_size { S.size source.new ≡ S.size source.old }
+{
+    'rows: for i in 0..page.len() {
+        let cell = page.cell(i);
+        let root = row_root(alloc, source, &cell, content)?;
+        add_root(roots, number, root)?;
+    }
+    Ok(())
+}
+
+/// Adds the roots that the rows of page `number` name, which is a leaf of the schema's tree.
+fn page_roots<S: PageSource>(
+    alloc: Global,
+    source: &mut S,
+    bytes: &mut [u8],
+    usable: u32,
+    number: u32,
+    content: &mut Vec<u8>,
+    roots: &mut Vec<Root>,
+) -> Result<(), CheckError>
+    requires room { length bytes.old ≡ S.size source.old }
+    requires size { IsPageSize (S.size source.old) }
+    requires least { 480 ≤ usable }
+    requires most { usable ≤ S.size source.old }
+    ensures ok { S.gives_pages source.old → usable ≡ usable_size (S.pages source.old) → IsRowsPage (S.pages source.old) number
+        → OnOk result (Finds (S.pages source.old) (InRow (S.pages source.old) number) roots.old.items roots.new.items × AllSchemaRows (S.pages source.old) number) }
+    ensures err { S.gives_pages source.old → usable ≡ usable_size (S.pages source.old) → IsRowsPage (S.pages source.old) number
+        → IfErr result (λ e. (size : ℕ) → Stands (S.pages source.old) size e.fault e.page) }
+    ensures still_gives { S.gives_pages source.old → S.gives_pages source.new }
+    ensures same_pages { S.pages source.new ≡ S.pages source.old }
+    ensures same_size { S.size source.new ≡ S.size source.old }
+    ensures room { length bytes.new ≡ length bytes.old }
+{
+    if number == 0 || number > source.count() {
+        return Err(CheckError {
+            page: number,
+            fault: Fault::PageOutside,
+        });
+    }
+    read_page(source, number, bytes)?;
+    let page = match BtreePage::new(bytes, number, usable) {
+        Ok(page) => page,
+        Err(fault) => return Err(CheckError {
+            page: number,
+            fault,
+        }),
+    };
+    match page.kind() {
+        Kind::TableLeaf => take_rows(alloc, source, number, &page, content, roots),
+        _ => Err(CheckError {
+            page: number,
+            fault: Fault::Kind,
+        }),
+    }
+}
+
+/// The roots that the rows of the schema name, in their order. `rows` are the leaves of its tree.
+pub(crate) fn roots_in<S: PageSource>(
+    alloc: Global,
+    source: &mut S,
+    bytes: &mut [u8],
+    usable: u32,
+    rows: &[u32],
+) -> Result<Vec<Root>, CheckError>
+    requires room { length bytes.old ≡ S.size source.old }
+    requires size { IsPageSize (S.size source.old) }
+    requires least { 480 ≤ usable }
+    requires most { usable ≤ S.size source.old }
+    ensures ok { S.gives_pages source.old → usable ≡ usable_size (S.pages source.old) → Every (IsRowsPage (S.pages source.old)) rows.now → Apart rows.now
+        → IfOk result (λ roots. Finds (S.pages source.old) (InRowsOf (S.pages source.old) rows.now) [] roots.items × Every (AllSchemaRows (S.pages source.old)) rows.now) }
+    ensures err { S.gives_pages source.old → usable ≡ usable_size (S.pages source.old) → Every (IsRowsPage (S.pages source.old)) rows.now
+        → IfErr result (λ e. (size : ℕ) → Stands (S.pages source.old) size e.fault e.page) }
+    ensures still_gives { S.gives_pages source.old → S.gives_pages source.new }
+    ensures same_pages { S.pages source.new ≡ S.pages source.old }
+    ensures same_size { S.size source.new ≡ S.size source.old }
+    ensures room { length bytes.new ≡ length bytes.old }
+{
+    let mut roots = Vec::new(alloc);
+    let mut content = Vec::new(alloc);
+    'pages: for number in rows {
+        page_roots(
+            alloc,
+            source,
+            bytes,
+            usable,
+            *number,
+            &mut content,
+            &mut roots,
+        )?;
+    }
+    Ok(roots)
+}
