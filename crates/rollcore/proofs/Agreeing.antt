@@ -1,0 +1,145 @@
+-- The parts of a replay keep what shows one database, so the replay does at each of its exits.
+use Rattle.std.proofs.Common.{◌≡◌, ⊎_elim, ℕ, ◌+◌, ◌≤◌, Bool, true, cond, List, length, get_or, replicate, sym, ◌∙◌, ap, subst, arith}
+use Rattle.std.specs.Prelude.{Result, Ok, Err, Option, Some, None, slice_get}
+use Rattle.std.proofs.lemmas.List.{get_or-replicate, get_or_past, length-replicate}
+use Rattle.std.proofs.lemmas.Bool.{cases_lt}
+use Rattle.sqval.specs.Bytes.{part, word}
+use Rattle.sqval.specs.PageSize.{IsPageSize}
+use Rattle.sqval.specs.Database.{Database, Pages}
+use Rattle.sqjournal.specs.Journal.{Segment}
+use Rattle.sqjournal.proofs.Unique.{one_journal}
+use Rattle.sqjournal.specs.Restored.{all_records, last_content}
+use Rattle.sqjournal.specs.Took.{HasEntry}
+use Rattle.sqjournal.specs.declared.reading.Record.{Record}
+use Rattle.crashdisk.specs.State.{FileState, byte, IsImage, IsSectorSize}
+use Rattle.crashdisk.specs.Call.{DiskState, IsSoundDisk, ArePresent, Syncs}
+use Rattle.crashdisk.specs.declared.file.File.TheVariants.{Db, Log}
+use Rattle.crashdisk.specs.declared.error.DiskError.{DiskError}
+use Rattle.crashdisk.proofs.Images.{table}
+use Rattle.crashdisk.proofs.Fixed.{image_present}
+use Rattle.crashdisk.proofs.Steps.{present_list, settled_sync, image_elsewhere}
+use Rattle.rollcore.specs.Alone.{Show, ShowsAlone}
+use Rattle.rollcore.specs.Replaying.{IsLogDown, Agrees}
+use Rattle.rollcore.specs.Steps.{torn_sector, Still, PutsRecord, RecordAnswer, EntryStep, EntryAnswer, ArePages, Told, SyncStep, ZeroSteps}
+use Rattle.rollcore.specs.Phases.{Unnamed, Scanning, Writing, Filed}
+use Rattle.rollcore.specs.Plans.{IsFit}
+use Rattle.rollcore.specs.declared.error.RollError.{RollError}
+use Rattle.rollcore.proofs.Stills.{still_sound, present_in}
+use Rattle.rollcore.proofs.Suiting.{suits_by}
+use Rattle.rollcore.proofs.Down.{down_by, down_one, down_left, down_present, down_present_one, down_syncs}
+use Rattle.rollcore.proofs.Copies.{part_long}
+use Rattle.rollcore.proofs.Records.{entries_of, records_are, entry_is, entry_named, entry_within}
+use Rattle.rollcore.proofs.Writing.{writing_by, writing_begins, writing_writes, writing_syncs, writing_shows, pages_file, filed_written}
+use Rattle.rollcore.proofs.Zeroing.{zeroing_writes, zeroing_syncs, zeroing_shows}
+
+-- ---- Before anything is written.
+
+module _ (size : ℕ) (d : Database) (w : List ℕ) where
+  -- so it begins
+  pub scanning_begins : (s : DiskState) → IsLogDown s w → ShowsAlone size d s → Scanning size d w s
+  scanning_begins s down shows = record {
+    down = down;
+    images = λ db image. shows.images db w image (down_left w s down);
+    present = λ db are. shows.present db w are (down_present w s down);
+  }
+
+  pub scanning_shows : (s : DiskState) → Scanning size d w s → ShowsAlone size d s
+  scanning_shows s is = record {
+    images = λ db v image left. subst (λ (x : List ℕ). Show size db x d) (sym (down_one w s is.down s.sector s.tears v left.image)) (is.images db image);
+    present = λ db v are_db are. subst (λ (x : List ℕ). Show size db x d) (sym (down_present_one w s is.down v are)) (is.present db are_db);
+  }
+
+  pub scanning_syncs : {T : Type 0} (result : Result T DiskError) (old new : DiskState) → Scanning size d w old → Syncs Log result old new → Scanning size d w new
+  scanning_syncs result old new is synced = record {
+    down = down_syncs w Log result old new is.down synced;
+    images = λ db image. is.images db (image_elsewhere Log result old new synced.elsewhere db image);
+    present = λ db are. is.present db (present_in new.db old.db db (sym synced.elsewhere.other) are);
+  }
+
+  pub scanning_still : (old new : DiskState) → Scanning size d w old → Still old new → Scanning size d w new
+  scanning_still old new is still = record {
+    down = down_by w old new is.down still.log still.tears still.kept still.handed;
+    images = λ db image. is.images db (subst (λ (n : ℕ). IsImage n old.tears old.db db) still.sector (subst (λ (b : Bool). IsImage new.sector b old.db db) still.tears (subst (λ (s : FileState). IsImage new.sector new.tears s db) still.db image)));
+    present = λ db are. is.present db (present_in new.db old.db db (sym still.db) are);
+  }
+
+pub agrees_by : (old new : DiskState) → ((size : ℕ) (w : List ℕ) (d : Database) → Scanning size d w old → ShowsAlone size d new) → Agrees old new
+agrees_by old new shows size w d down alone = shows size w d (scanning_begins size d w old down alone)
+
+-- ---- The copying.
+
+-- where the journal can be replayed the disk suits it
+pub fit_begins : (size : ℕ) (d : Database) (w : List ℕ) (s : DiskState) → IsSoundDisk s → IsSectorSize s.sector → IsFit (torn_sector s) w → Scanning size d w s → Writing size w d s
+fit_begins size d w s sound sectors fit is =
+    let named : (n : ℕ) → torn_sector s ≤ n → s.tears ≡ true → s.sector ≤ n = λ n le torn. subst (λ (b : Bool). cond b s.sector 0 ≤ n) torn le in
+    let here = (is.images (table s.db.len (byte s.db)) (image_present s.sector s.tears s.db sound.db)).hot fit.hot in
+    writing_begins size w d s
+    (record { sound = sound; sectors = sectors; pages = subst IsPageSize (sym here.0) fit.hot.first.size; whole = λ torn. subst (λ (n : ℕ). s.sector ≤ n) (sym here.0) (named (word w 24) fit.page torn) })
+    (named (word w 20) fit.sector) is fit.hot
+
+module _ (size : ℕ) (w : List ℕ) (d : Database) where
+  writing_still : (old new : DiskState) → Writing size w d old → Still old new → Writing size w d new
+  writing_still old new is still = writing_by size w d old new is (suits_by size old new is.suits (still_sound old new is.suits.sound still) still.sector still.tears)
+      (down_by w old new is.down still.log still.tears still.kept still.handed) still.sector still.tears
+      (λ p i a b un lt db image. is.steady p i a b un lt db (subst (λ (n : ℕ). IsImage n old.tears old.db db) still.sector (subst (λ (b : Bool). IsImage new.sector b old.db db) still.tears (subst (λ (s : FileState). IsImage new.sector new.tears s db) still.db image))))
+
+  module _ (k : ℕ) (r : Record) (old : DiskState) (is : Writing size w d old) (found : slice_get (entries_of w is.segments) k ≡ Some r) where
+    named : (s : DiskState) (it : Writing size w d s) → Unnamed (all_records it.segments) r.page → ⊥
+    named s it un_it =
+        let same : it.segments ≡ is.segments = (one_journal w it.segments is.segments it.at is.at it.why is.why it.is is.is).0 in
+        let un : Unnamed (all_records is.segments) r.page = subst (λ (l : List Segment). Unnamed (all_records l) r.page) same un_it in
+        entry_named w (entries_of w is.segments) k r found (ap (λ (l : Pages). last_content l r.page) (sym (records_are w is.segments is.at is.why is.is is.hot)) ∙ un)
+
+    fits : r.at + size ≤ length w
+    fits = subst (λ (n : ℕ). r.at + n ≤ length w) (sym is.named) (entry_within w is.segments is.at is.why is.is k r found)
+
+    puts_record : {T : Type 0} (count : ℕ) (called : Result T DiskError) (new : DiskState) → PutsRecord size w count r called old new → Writing size w d new
+    puts_record count called new puts =
+        let mid = writing_still old puts.mid is puts.read in
+        writing_writes size w d r.page (part w r.at size) called puts.mid new mid puts.one (named puts.mid mid) (part_long size r.at w fits) puts.write
+
+    pub writing_record : {T : Type 0} (count : ℕ) (result : Result T RollError) (new : DiskState) → RecordAnswer size w count r result old new → Writing size w d new
+    unfolding RecordAnswer
+    writing_record count (Ok done) new answer = ⊎_elim
+        (λ none. subst (λ (s : DiskState). Writing size w d s) (sym none.1) is)
+        (λ puts. puts_record count (Ok done) new puts) answer
+    writing_record count (Err e) new answer = ⊎_elim (λ still. writing_still old new is still) (λ puts. puts_record count puts.0 new puts.1) answer.2
+
+  -- the journal's entry k + 1
+  pub writing_entry : {T : Type 0} (k count : ℕ) (result : Result T RollError) (old new : DiskState) → Writing size w d old → EntryAnswer size w count (k + 1) result old new → Writing size w d new
+  writing_entry {T = T} k count result old new is answer = by answer.0 answer.1 answer.2
+    where
+      none : (q : Result T RollError) → EntryStep size w count None q old new → Writing size w d new
+      none (Ok _) same = subst (λ (s : DiskState). Writing size w d s) (sym same) is
+      none (Err _) same = absurd same
+
+      by : (entry : Option Record) → HasEntry w (k + 1) entry → EntryStep size w count entry result old new → Writing size w d new
+      by None has step = none result step
+      by (Some r) has step =
+          let found = entry_is w is.segments is.at is.why is.is k r has in
+          writing_record k r old is found count result new (step (fits k r old is found))
+
+  -- ---- The end.
+
+  -- the file is synced, or not
+  pub synced_shows : {T : Type 0} (result : Result T RollError) (old new : DiskState) → Writing size w d old → SyncStep Db result old new → ShowsAlone size d new
+  synced_shows result old new is step = writing_shows size w d new (writing_syncs size w d Db step.0 old new is step.2)
+
+  filed_by : {T : Type 0} (v : T) (called : Result T DiskError) (old new : DiskState) (bytes : List ℕ) → Writing size w d old → ArePages size d old.db → ArePresent old.db bytes → Told called (Ok v) → Syncs Db called old new → Filed size d w new
+  filed_by v (Ok x) old new bytes is pages are told synced = filed_written size w d new bytes (writing_syncs size w d Db (Ok x) old new is synced) (settled_sync Db old new bytes is.suits.sound.db synced are) (pages_file size w d old bytes is pages are)
+  filed_by v (Err e) old new bytes is pages are told synced = absurd told
+
+  -- all pages are there, and then down
+  pub synced_filed : {T : Type 0} (u : T) (old new : DiskState) → Writing size w d old → ArePages size d old.db → SyncStep {T = T} Db (Ok u) old new → Filed size d w new
+  synced_filed u old new is pages step = filed_by u step.0 old new (table old.db.len (byte old.db)) is pages (present_list old.db) step.1 step.2
+
+  zero_at : (i : ℕ) → ◌≡◌ {A = ℕ} (get_or (replicate 28 0) i 0) 0
+  zero_at i = ⊎_elim (λ lt. get_or-replicate 28 i 0 0 lt) (λ past. get_or_past (replicate 28 0) i 0 (omega (arith, length-replicate {A = ℕ} 28 0))) (cases_lt i 28)
+
+  -- the header is zeroed, or not
+  pub zeroed_shows : {T : Type 0} (result : Result T RollError) (old new : DiskState) → Filed size d w old → ZeroSteps result old new → ShowsAlone size d new
+  zeroed_shows result old new is steps = ⊎_elim
+      (λ failed. zeroing_shows size d new (zeroing_writes size d w (replicate 28 0) old new is (length-replicate {A = ℕ} 28 0) zero_at failed.0 failed.3))
+      (λ done. let mid = zeroing_writes size d w (replicate 28 0) old done.0 is (length-replicate {A = ℕ} 28 0) zero_at (Ok done.1.0) done.1.1 in
+      zeroing_shows size d new (zeroing_syncs size d Log done.2.0 done.0 new mid done.2.2))
+      steps

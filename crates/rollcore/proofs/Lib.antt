@@ -1,0 +1,15 @@
+pub mod Journals
+pub mod Pages
+pub mod Stills
+pub mod Suiting
+pub mod Down
+pub mod Records
+pub mod Scans
+pub mod Copies
+pub mod Writing
+pub mod Zeros
+pub mod Zeroing
+pub mod Ending
+pub mod Agreeing
+pub mod Judging
+pub mod Recovering

@@ -1,0 +1,285 @@
+-- What a replay answers, of its parts.
+use Rattle.std.proofs.Common.{◌≡◌, ◌⊎◌, ⊎_elim, ℕ, ◌+◌, ◌-◌, ◌*◌, ◌<◌, ◌≤◌, Bool, true, false, cond, List, [], length, get_or, drop, replicate, refl, sym, ◌∙◌, ap, subst, arith}
+use Rattle.std.specs.Prelude.{Result, Ok, Err, Option, Some, None, IsTrue}
+use Rattle.std.specs.List.{flat_map}
+use Rattle.std.proofs.lemmas.List.{ext_get_or, get_or_append_left, get_or-replicate, length-replicate}
+use Rattle.std.proofs.Math.Nat.{mul-le-mul_right}
+use Rattle.sqval.specs.Bytes.{word}
+use Rattle.sqval.specs.Database.{Database, page}
+use Rattle.sqjournal.specs.Journal.{IsHot}
+use Rattle.sqjournal.specs.Restored.{IsRolledBack}
+use Rattle.sqjournal.specs.Took.{HasCount}
+use Rattle.crashdisk.specs.State.{FileState, byte, IsSettled, longest}
+use Rattle.crashdisk.specs.Call.{DiskState, IsSoundDisk, ArePresent, Syncs, Looks}
+use Rattle.crashdisk.specs.declared.file.File.TheVariants.{Log}
+use Rattle.crashdisk.specs.declared.error.DiskError.{DiskError}
+use Rattle.crashdisk.proofs.Sound.{byte_below}
+use Rattle.crashdisk.proofs.Images.{table}
+use Rattle.crashdisk.proofs.Steps.{present_list}
+use Rattle.rollcore.specs.Refusal.{most_bytes}
+use Rattle.rollcore.specs.Replaying.{TearsJournal, IsTooLarge, KeepsBytes, zeroed, IsIdle, ReplayAnswer, Replays, Agrees, GoesOn}
+use Rattle.rollcore.specs.Steps.{torn_sector, Still, ArePages, CopyAnswer, EndAnswer, RolledAnswer}
+use Rattle.rollcore.specs.Plans.{IsBelow, IsFit, IsPlan, PlanAnswer, ReadAnswer}
+use Rattle.rollcore.specs.declared.plan.Plan.{Plan}
+use Rattle.rollcore.specs.declared.replaying.Replayed.{Replayed}
+use Rattle.rollcore.specs.declared.error.RollError.{RollError}
+use Rattle.rollcore.specs.declared.error.RollError.TheVariants.{TooLarge, NoMemory, Device, SectorAbovePage}
+use Rattle.rollcore.proofs.Journals.{hot_long, zeros_cold}
+use Rattle.rollcore.proofs.Stills.{refusal_after, present_in}
+use Rattle.rollcore.proofs.Down.{down_by, down_syncs}
+use Rattle.rollcore.proofs.Scans.{had_refusal, had_refusal_any}
+use Rattle.sqjournal.proofs.Taking.{has_count}
+use Rattle.rollcore.specs.Phases.{Scanning, Writing}
+use Rattle.rollcore.proofs.Records.{flat_is, made_length, rolled_exists}
+
+settled_present : (s : FileState) (c : List ℕ) → IsSettled s c → ArePresent s c
+settled_present s c is = record { len = sym is.len; each = λ i lt. sym (byte_below s i lt ∙ is.present i) }
+
+-- ---- What is planned is replayed.
+
+-- a file of pages, as bytes
+just : (size : ℕ) (d : Database) (s : FileState) (bytes : List ℕ) → ((p : ℕ) → 1 ≤ p → p ≤ length d → length (page d p) ≡ size) → ArePages size d s → ArePresent s bytes → bytes ≡ flat_map (λ content. content) d
+unfolding page
+just size d s bytes sized pages are = flat_is size d bytes (are.len ∙ pages.len)
+    (λ k lt. ap (λ (n : ℕ). length (get_or d n [])) (back k) ∙ sized (k + 1) (omega arith) (omega arith))
+    (λ k j lt below.
+    let inside : k * size + j < s.len = omega (arith, pages.len, page_inside k j lt below) in
+    are.each (k * size + j) inside ∙ ap (λ (n : ℕ). byte s (n * size + j)) (back k) ∙ pages.each (k + 1) (omega arith) (omega arith) j below ∙ ap (λ (n : ℕ). get_or (get_or d n []) j 0) (sym (back k)))
+  where
+    back : (k : ℕ) → k ≡ k + 1 - 1
+    back k = omega arith
+
+    next : (k : ℕ) → k < length d → k + 1 ≤ length d
+    next k lt = omega arith
+
+    page_inside : (k j : ℕ) → k < length d → j < size → k * size + j < length d * size
+    page_inside k j lt below = let more : (k + 1) * size ≤ length d * size = mul-le-mul_right size (next k lt) in omega arith
+
+module _ (db w : List ℕ) (a : DiskState) where
+  pub rolled_copy : {T : Type 0} (size : ℕ) (d : Database) (r : Result T RollError) (q : Result Replayed RollError) (e : RollError) (b : DiskState) → r ≡ Err e → q ≡ Err e → CopyAnswer size d r a b → RolledAnswer db w q a b
+  unfolding CopyAnswer RolledAnswer
+  rolled_copy {T = T} size d r q e b was is answer =
+      let got = subst (λ (x : Result T RollError). CopyAnswer size d x a b) was answer in
+      subst (λ (x : Result Replayed RollError). RolledAnswer db w x a b) (sym is) got
+
+  pub rolled_end : {T : Type 0} (r : Result T RollError) (q : Result Replayed RollError) (e : RollError) (b c : DiskState) → a.refused ≤ b.refused → r ≡ Err e → q ≡ Err e → EndAnswer r b c → RolledAnswer db w q a c
+  unfolding EndAnswer RolledAnswer
+  rolled_end {T = T} r q e b c le was is answer =
+      let end = subst (λ (x : Result T RollError). EndAnswer x b c) was answer in
+      subst (λ (x : Result Replayed RollError). RolledAnswer db w x a c) (sym is) (end.0, refusal_after a b c le end.1)
+
+  pub rolled_done : {T : Type 0} (size : ℕ) (d : Database) (r : Result T RollError) (v : T) (x : Replayed) (b c : DiskState) → IsHot w → IsRolledBack db w d → ((p : ℕ) → 1 ≤ p → p ≤ length d → length (page d p) ≡ size)
+      → ArePages size d b.db → ArePresent b.log w → r ≡ Ok v → EndAnswer r b c → IsTrue x.hot → HasCount w x.records → x.size ≡ word w 16 → RolledAnswer db w (Ok x) a c
+  unfolding EndAnswer RolledAnswer
+  rolled_done {T = T} size d r v x b c hot rolled sized pages are was answer is_hot count first =
+      let end = subst (λ (y : Result T RollError). EndAnswer y b c) was answer in
+      let bytes : List ℕ = table b.db.len (byte b.db) in
+      let here : ArePresent b.db bytes = present_list b.db in
+      record {
+        hot = is_hot;
+        records = count;
+        size = first;
+        file = (bytes, record { hot = λ h. (d, rolled, just size d b.db bytes sized pages here); cold = λ cold. absurd (cold hot) }, end.0 bytes here);
+        log = end.1 w are (omega (arith, hot_long w hot));
+      }
+
+pub copy_done : {T : Type 0} (size : ℕ) (d : Database) (r : Result T RollError) (v : T) (a b : DiskState) → r ≡ Ok v → CopyAnswer size d r a b → ArePages size d b.db
+unfolding CopyAnswer
+copy_done {T = T} size d r v a b was answer = let got = subst (λ (x : Result T RollError). CopyAnswer size d x a b) was answer in got
+
+-- what a planned copy stands on
+pub record Planned (w db : List ℕ) (count n : ℕ) : Type 0 where
+  pub pages : Database
+  pub rolled : IsRolledBack db w pages
+  pub sized : (p : ℕ) → 1 ≤ p → p ≤ length pages → length (page pages p) ≡ n
+  pub same : n ≡ word w 24
+  pub first : count ≡ word w 16
+  pub within : count * n ≤ most_bytes
+
+pub planned : (w db : List ℕ) (torn n : ℕ) (plan : Plan) → IsFit torn w → IsPlan w plan → n ≡ length plan.page.items → Planned w db plan.header.first_size n
+planned w db torn n plan fit is e =
+    let same : n ≡ word w 24 = e ∙ is.room in
+    let count = has_count w plan.scan (length plan.scan.records.items) is.took refl in
+    let made = rolled_exists w db count.segments count.stop.at count.stop.why count.is fit.hot in
+    record {
+      pages = made.0;
+      rolled = made.1;
+      sized = λ p a b. made_length w db count.segments count.stop.at count.stop.why count.is fit.hot made.0 made.1 p a b ∙ sym same;
+      same = same;
+      first = is.names.first_size;
+      within = subst (λ (k : ℕ). k * n ≤ most_bytes) (sym is.names.first_size) (subst (λ (k : ℕ). word w 16 * k ≤ most_bytes) (sym same) fit.within);
+    }
+
+-- the buffer's length is the page size
+pub writing_at : (n size : ℕ) (w : List ℕ) (d : Database) (a b : DiskState) → n ≡ word w 24 → (Writing n w d a → Writing n w d b) → Writing size w d a → Writing size w d b
+writing_at n size w d a b e f is = subst (λ (k : ℕ). Writing k w d a → Writing k w d b) (e ∙ sym is.named) f is
+
+pub pages_at : (n size : ℕ) (w : List ℕ) (d : Database) (a b : DiskState) → n ≡ word w 24 → Writing size w d a → ArePages n d b.db → ArePages size d b.db
+pages_at n size w d a b e is pages = subst (λ (k : ℕ). ArePages k d b.db) (e ∙ sym is.named) pages
+
+-- the journal's pages for the present file are those of the database that is shown
+pub rolled_present : (size : ℕ) (w : List ℕ) (d : Database) (s : DiskState) → IsHot w → Scanning size d w s → IsRolledBack (table s.db.len (byte s.db)) w d
+rolled_present size w d s hot is = ((is.present (table s.db.len (byte s.db)) (present_list s.db)).hot hot).1
+
+pub torn_still : (a b : DiskState) → Still a b → torn_sector b ≡ torn_sector a
+torn_still a b is = ap (λ (x : Bool). cond x b.sector 0) is.tears ∙ ap (λ (n : ℕ). cond a.tears n 0) is.sector
+
+pub read_torn : (torn : ℕ) (w : List ℕ) (r : Result (Option Plan) RollError) (a b : DiskState) → torn ≡ torn_sector a → ReadAnswer torn w r a b → ReadAnswer (torn_sector a) w r a b
+read_torn torn w r a b e answer = subst (λ (n : ℕ). ReadAnswer n w r a b) e answer
+
+-- ---- The whole.
+
+zeroed_zero : (w : List ℕ) → get_or (zeroed w) 0 0 ≡ 0
+zeroed_zero w = get_or_append_left {A = ℕ} (replicate 28 0) (drop 28 w) 0 0 (omega (arith, length-replicate {A = ℕ} 28 0)) ∙ get_or-replicate 28 0 0 0 (omega arith)
+
+-- zeros for a header are no hot journal
+settled_cold : (w : List ℕ) (s : FileState) → IsSettled s (zeroed w) → (bytes : List ℕ) → ArePresent s bytes → IsHot bytes → ⊥
+settled_cold w s is bytes are hot =
+    let some : 0 < s.len = omega (arith, are.len, hot_long bytes hot) in
+    zeros_cold bytes (are.each 0 some ∙ byte_below s 0 some ∙ is.present 0 ∙ zeroed_zero w) hot
+
+-- the sectors that tear are larger, or there are none
+tears_by : (w : List ℕ) (s : DiskState) → IsHot w → IsBelow (torn_sector s) w → TearsJournal s w
+tears_by w s hot below = by s.tears refl
+  where
+    by : (b : Bool) → s.tears ≡ b → TearsJournal s w
+    by true e = (e, hot, subst (λ (x : Bool). IsBelow (cond x s.sector 0) w) e below)
+    by false e = absurd (let none : IsBelow 0 w = subst (λ (x : Bool). IsBelow (cond x s.sector 0) w) e below in ⊎_elim (λ l. omega arith) (λ l. omega arith) none)
+
+fits_whole : (w : List ℕ) (s : DiskState) → IsFit (torn_sector s) w → TearsJournal s w → ⊥
+fits_whole w s fit tears =
+    let same : (n : ℕ) → torn_sector s ≤ n → s.sector ≤ n = λ n le. subst (λ (b : Bool). cond b s.sector 0 ≤ n) tears.0 le in
+    ⊎_elim (λ l. let le : s.sector ≤ word w 24 = same (word w 24) fit.page in omega arith) (λ l. let le : s.sector ≤ word w 20 = same (word w 20) fit.sector in omega arith) tears.2
+
+module _ (db w : List ℕ) (a : DiskState) (sound : IsSoundDisk a) (are_db : ArePresent a.db db) (are : ArePresent a.log w) where
+  short : longest < length w → ⊥
+  short far = omega (arith, are.len, sound.log.greatest, sound.log.within)
+
+  small : word w 16 * word w 24 ≤ most_bytes → IsTooLarge w → ⊥
+  small within large = ⊎_elim short (λ x. omega (arith, x.1)) large
+
+  -- a refused call before anything else
+  pub look_refused : {T : Type 0} (called : Result T DiskError) (e : DiskError) (q : Result Replayed RollError) (b : DiskState) → called ≡ Err e → q ≡ Err Device → Looks 0 called a b → ReplayAnswer db w q a b
+  look_refused called e q b was is looked =
+      subst (λ (x : Result Replayed RollError). ReplayAnswer db w x a b) (sym is) (had_refusal called e 0 a b sound.refused was looked.within (omega arith) looked.refused)
+
+  module _ (b : DiskState) (is : Still a b) where
+    bytes_kept : KeepsBytes a b
+    bytes_kept = record { db = is.db; log = λ bytes here. present_in a.log b.log bytes is.log here }
+
+    pub read_refused : (r : Result (Option Plan) RollError) (q : Result Replayed RollError) (e : RollError) → r ≡ Err e → q ≡ Err e → ReadAnswer (torn_sector a) w r a b → ReplayAnswer db w q a b
+    unfolding ReadAnswer PlanAnswer
+    read_refused r q e was same answer =
+        subst (λ (x : Result Replayed RollError). ReplayAnswer db w x a b) (sym same) (by e (subst (λ (x : Result (Option Plan) RollError). ReadAnswer (torn_sector a) w x a b) was answer))
+      where
+        by : (e : RollError) → ReadAnswer (torn_sector a) w (Err e) a b → ReplayAnswer db w (Err e) a b
+        by TooLarge x = (x, bytes_kept)
+        by SectorAbovePage x = (small x.1, tears_by w a x.0 x.2, bytes_kept)
+        by NoMemory x = bytes_kept
+        by Device x = x
+        by _ x = absurd x
+
+    pub read_cold : (r : Result (Option Plan) RollError) (x : Replayed) → r ≡ Ok None → ReadAnswer (torn_sector a) w r a b → x.hot ≡ false → x.records ≡ 0 → x.size ≡ 0 → ReplayAnswer db w (Ok x) a b
+    unfolding ReadAnswer PlanAnswer
+    read_cold r x was answer off none zero =
+        let cold : IsHot w → ⊥ = subst (λ (y : Result (Option Plan) RollError). ReadAnswer (torn_sector a) w y a b) was answer in (
+          λ large. ⊎_elim short (λ y. cold y.0) large,
+          λ tears. cold tears.1,
+          record {
+            rolled = λ hot. absurd (cold hot);
+            idle = λ cold2. record {
+              hot = λ on. (let t : true ≡ false = sym on ∙ off in cc);
+              records = none;
+              size = zero;
+              bytes = bytes_kept;
+              down = λ v down. down_by v a b down is.log is.tears is.kept is.handed;
+            };
+            cold = λ bytes here hot. cold (subst IsHot (one_present bytes here) hot);
+          },
+        )
+      where
+        one_present : (bytes : List ℕ) → ArePresent b.log bytes → bytes ≡ w
+        one_present bytes here = ext_get_or 0 bytes w (here.len ∙ ap (λ (s : FileState). s.len) is.log ∙ sym are.len)
+            (λ i lt. let below : i < b.log.len = omega (arith, here.len) in let below_a : i < a.log.len = omega (arith, ap (λ (s : FileState). s.len) is.log) in
+            here.each i below ∙ ap (λ (s : FileState). byte s i) is.log ∙ sym (are.each i below_a))
+
+    pub plan_replays : (r : Result (Option Plan) RollError) (plan : Plan) (q : Result Replayed RollError) (c : DiskState) → IsFit (torn_sector a) w → RolledAnswer db w q b c → ReplayAnswer db w q a c
+    unfolding RolledAnswer
+    plan_replays r plan (Ok x) c fit answer = (
+      small fit.within,
+      fits_whole w a fit,
+      record { rolled = λ hot. answer; idle = λ cold. absurd (cold fit.hot); cold = settled_cold w c.log answer.log.settled },
+    )
+    plan_replays r plan (Err e) c fit answer = subst (λ (x : RollError). ReplayAnswer db w (Err x) a c) (sym answer.0) (refusal_after a b c is.refused answer.1)
+
+pub read_plans : (torn : ℕ) (w : List ℕ) (r : Result (Option Plan) RollError) (plan : Plan) (a b : DiskState) → r ≡ Ok (Some plan) → ReadAnswer torn w r a b → IsFit torn w × IsPlan w plan
+unfolding ReadAnswer PlanAnswer
+read_plans torn w r plan a b was answer = let got = subst (λ (x : Result (Option Plan) RollError). ReadAnswer torn w x a b) was answer in got
+
+-- ---- The log is synced first.
+
+-- what follows a sync that was answered so
+pub goes_on : {T : Type 0} (called : Result T DiskError) (v : T) (q : Result Replayed RollError) (a b : DiskState) → called ≡ Ok v → Replays q a b → Agrees a b → GoesOn called q a b
+goes_on {T = T} called v q a b is replays agrees = subst (λ (x : Result T DiskError). GoesOn x q a b) (sym is) (replays, agrees)
+
+pub stays : {T : Type 0} (called : Result T DiskError) (e : DiskError) (q : Result Replayed RollError) (b : DiskState) → called ≡ Err e → q ≡ Err Device → GoesOn called q b b
+stays {T = T} called e q b is device = subst (λ (x : Result T DiskError). GoesOn x q b b) (sym is) (device, refl)
+
+pub sync_unreplayed : {T : Type 0} (db w : List ℕ) (called : Result T DiskError) (e : DiskError) (q : Result Replayed RollError) (a b : DiskState) → called ≡ Err e → q ≡ Err Device → Syncs Log called a b → ReplayAnswer db w q a b
+sync_unreplayed db w called e q a b was is synced =
+    subst (λ (x : Result Replayed RollError). ReplayAnswer db w x a b) (sym is) (had_refusal_any called e a b was synced.within synced.elsewhere.refused)
+
+module _ {T : Type 0} {u : T} (db w : List ℕ) (a b c : DiskState) (synced : Syncs Log (Ok u) a b) where
+  synced_present : (bytes : List ℕ) → ArePresent a.log bytes → ArePresent b.log bytes
+  synced_present bytes are = record {
+    len = are.len ∙ sym synced.file.len;
+    each = λ i lt. are.each i (omega (arith, synced.file.len)) ∙ sym (byte_below b.log i lt ∙ synced.file.present i);
+  }
+
+  le : a.refused ≤ b.refused
+  le = omega (arith, synced.elsewhere.refused)
+
+  bytes_after : KeepsBytes b c → KeepsBytes a c
+  bytes_after keeps = record { db = keeps.db ∙ synced.elsewhere.other; log = λ bytes are. keeps.log bytes (synced_present bytes are) }
+
+  tears_after : TearsJournal b w → TearsJournal a w
+  tears_after tears = (sym synced.elsewhere.tears ∙ tears.0, tears.1, subst (λ (n : ℕ). (word w 24 < n) ⊎ (word w 20 < n)) synced.elsewhere.sector tears.2)
+
+  tears_before : TearsJournal a w → TearsJournal b w
+  tears_before tears = (synced.elsewhere.tears ∙ tears.0, tears.1, subst (λ (n : ℕ). (word w 24 < n) ⊎ (word w 20 < n)) (sym synced.elsewhere.sector) tears.2)
+
+  idle_after : (r : Replayed) → IsIdle r b c → IsIdle r a c
+  idle_after r x = record { hot = x.hot; records = x.records; size = x.size; bytes = bytes_after x.bytes; down = λ v down. x.down v (down_syncs v Log (Ok u) a b down synced) }
+
+  after : (q : Result Replayed RollError) → ReplayAnswer db w q b c → ReplayAnswer db w q a c
+  after (Ok r) x = (x.0, λ tears. x.1 (tears_before tears), record { rolled = x.2.rolled; idle = λ cold. idle_after r (x.2.idle cold); cold = x.2.cold })
+  after (Err TooLarge) x = (x.0, bytes_after x.1)
+  after (Err SectorAbovePage) x = (x.0, tears_after x.1, bytes_after x.2)
+  after (Err NoMemory) x = bytes_after x
+  after (Err Device) x = refusal_after a b c le x
+  after (Err _) x = absurd x
+
+  pub replay_after : (q : Result Replayed RollError) → ArePresent a.db db → ArePresent a.log w → (ArePresent b.db db → ArePresent b.log w → ReplayAnswer db w q b c) → ReplayAnswer db w q a c
+  replay_after q are_db are rest = after q (rest (present_in a.db b.db db synced.elsewhere.other are_db) (synced_present w are))
+
+-- a look came first
+module _ (db w : List ℕ) (a b c : DiskState) (is : Still a b) where
+  look_bytes : KeepsBytes b c → KeepsBytes a c
+  look_bytes keeps = record { db = keeps.db ∙ is.db; log = λ bytes are. keeps.log bytes (present_in a.log b.log bytes is.log are) }
+
+  look_before : TearsJournal a w → TearsJournal b w
+  look_before tears = (is.tears ∙ tears.0, tears.1, subst (λ (n : ℕ). (word w 24 < n) ⊎ (word w 20 < n)) (sym is.sector) tears.2)
+
+  look_after : TearsJournal b w → TearsJournal a w
+  look_after tears = (sym is.tears ∙ tears.0, tears.1, subst (λ (n : ℕ). (word w 24 < n) ⊎ (word w 20 < n)) is.sector tears.2)
+
+  idle_looked : (r : Replayed) → IsIdle r b c → IsIdle r a c
+  idle_looked r x = record { hot = x.hot; records = x.records; size = x.size; bytes = look_bytes x.bytes; down = λ v down. x.down v (down_by v a b down is.log is.tears is.kept is.handed) }
+
+  pub replay_looked : (q : Result Replayed RollError) → ReplayAnswer db w q b c → ReplayAnswer db w q a c
+  replay_looked (Ok r) x = (x.0, λ tears. x.1 (look_before tears), record { rolled = x.2.rolled; idle = λ cold. idle_looked r (x.2.idle cold); cold = x.2.cold })
+  replay_looked (Err TooLarge) x = (x.0, look_bytes x.1)
+  replay_looked (Err SectorAbovePage) x = (x.0, look_after x.1, look_bytes x.2)
+  replay_looked (Err NoMemory) x = look_bytes x
+  replay_looked (Err Device) x = refusal_after a b c is.refused x
+  replay_looked (Err _) x = absurd x

@@ -1,0 +1,148 @@
+-- What a scan of the first bytes of a log says of the log, and the count of refused calls.
+use Rattle.std.proofs.Common.{◌≡◌, ◌⊎◌, inl, inr, ⊎_elim, ℕ, ◌+◌, ◌-◌, ◌^◌, ◌<◌, ◌≤◌, min, List, ◌++◌, length, get_or, take, drop, refl, sym, ◌∙◌, ap, subst, arith, length-drop}
+use Rattle.std.specs.Prelude.{Bool, true, false, Option, Some, None, Result, Ok, Err}
+use Rattle.std.proofs.lemmas.List.{get_or-take, get_or-drop, length-take-le, take-take, take_all}
+use Rattle.std.proofs.lemmas.Grind.{same_number_lists}
+use Rattle.std.proofs.lemmas.Bool.{cases_lt}
+use Rattle.std.proofs.Math.Seq.{take-add}
+use Rattle.sqval.specs.PageSize.{IsPageSize}
+use Rattle.sqval.specs.Bytes.{part, word}
+use Rattle.sqjournal.specs.Header.{IsRefused}
+use Rattle.sqjournal.specs.Journal.{IsHot}
+use Rattle.sqjournal.specs.declared.error.JournalError.{JournalError}
+use Rattle.sqjournal.specs.declared.error.JournalError.TheVariants.{NotAJournal, SectorSize, PageSize, NoMemory, TooLong}
+use Rattle.sqjournal.proofs.Parts.{word_part}
+use Rattle.crashdisk.specs.State.{FileState, byte, longest}
+use Rattle.crashdisk.specs.Call.{DiskState, IsSoundDisk, Looks, ArePresent, EndsWithin, counted}
+use Rattle.crashdisk.specs.declared.error.DiskError.{DiskError}
+use Rattle.crashdisk.specs.declared.error.DiskError.TheVariants.{Stopped, Failed, TooLong as DiskTooLong, NoMemory as DiskNoMemory}
+use Rattle.crashdisk.proofs.Steps.{counted_rises}
+use Rattle.rollcore.proofs.Stills.{scan_refused_after}
+use Rattle.rollcore.specs.Replaying.{HadRefusal}
+use Rattle.rollcore.specs.Steps.{IsWithoutHeader, ScanRefused, PieceAnswer, ScanAnswer}
+use Rattle.rollcore.specs.declared.error.RollError.{RollError}
+use Rattle.rollcore.specs.declared.error.RollError.TheVariants.{TooLarge, Device, NoMemory as WalNoMemory}
+use Rattle.sqjournal.specs.Took.{Took, Refuses}
+use Rattle.sqjournal.specs.declared.replay.Replay.{Replay}
+
+-- a piece that was read behind the first bytes
+pub piece_read : (w : List ℕ) (log : FileState) (at : ℕ) (piece : List ℕ) → ArePresent log w → at + length piece ≤ length w
+    → ((i : ℕ) → i < length piece → get_or piece i 0 ≡ byte log (at + i)) → take at w ++ piece ≡ take (at + length piece) w
+piece_read w log at piece are fits same =
+    let rest : length (take (length piece) (drop at w)) ≡ length piece = length-take-le (length piece) (drop at w) (omega (arith, length-drop at w)) in
+    let is : piece ≡ take (length piece) (drop at w) = same_number_lists piece (take (length piece) (drop at w)) (sym rest)
+    (λ i lt. same i lt ∙ sym (are.each (at + i) (omega (arith, are.len))) ∙ sym (get_or-take (length piece) (drop at w) i 0 lt ∙ get_or-drop at w i 0)) in
+    ap (λ (x : List ℕ). take at w ++ x) is ∙ sym (take-add at (length piece) w)
+
+magic_front : (w : List ℕ) (n : ℕ) → n ≤ length w → 28 ≤ n → part (take n w) 0 8 ≡ part w 0 8
+magic_front w n fits long = take-take 8 n w (omega arith)
+
+word_front : (w : List ℕ) (n at : ℕ) → n ≤ length w → 28 ≤ n → at + 4 ≤ 28 → word (take n w) at ≡ word w at
+word_front w n at fits long within = word_part w 0 n at (omega arith) ∙ ap (word w) (from_zero at)
+  where
+    from_zero : (k : ℕ) → 0 + k ≡ k
+    from_zero k = omega arith
+
+-- where the front of a journal is refused, it isn't hot
+refused_cold : (w : List ℕ) (n : ℕ) (e : JournalError) → n ≤ length w → 28 ≤ n → IsRefused (take n w) e → IsHot w → ⊥
+refused_cold w n NotAJournal fits long bad hot = bad (magic_front w n fits long ∙ hot.first.magic)
+refused_cold w n SectorSize fits long bad hot = bad.1 (subst IsPageSize (sym (word_front w n 20 fits long (omega arith))) hot.first.sector)
+refused_cold w n PageSize fits long bad hot = bad.2 (subst IsPageSize (sym (word_front w n 24 fits long (omega arith))) hot.first.size)
+refused_cold w n NoMemory fits long bad hot = bad
+refused_cold w n TooLong fits long bad hot = bad
+
+pub no_header : (w : List ℕ) (n : ℕ) (e : JournalError) → n ≤ length w → (e ≡ TooLong → ⊥) → (e ≡ NoMemory → ⊥) → Refuses (take n w) e → IsHot w → ⊥
+no_header w n NotAJournal fits a b bad = refused_cold w n NotAJournal fits (omega (arith, bad.1, length-take-le n w fits)) bad.2
+no_header w n SectorSize fits a b bad = refused_cold w n SectorSize fits (omega (arith, bad.1, length-take-le n w fits)) bad.2
+no_header w n PageSize fits a b bad = refused_cold w n PageSize fits (omega (arith, bad.1, length-take-le n w fits)) bad.2
+no_header w n TooLong fits a b bad = absurd (a refl)
+no_header w n NoMemory fits a b bad = absurd (b refl)
+
+-- A call that names no place and was refused was counted, whatever the count.
+pub had_refusal_any : {T : Type 0} (result : Result T DiskError) (e : DiskError) (old new : DiskState) → result ≡ Err e
+    → EndsWithin result 0 → new.refused ≡ counted result old.refused → HadRefusal old new
+had_refusal_any {T = T} result e old new is within count =
+    by e (subst (λ (r : Result T DiskError). EndsWithin r 0) is within) (subst (λ (r : Result T DiskError). new.refused ≡ counted r old.refused) is count)
+  where
+    rises : new.refused ≡ min (old.refused + 1) (2 ^ 64 - 1) → HadRefusal old new
+    rises eq = ⊎_elim (λ lt. inl (omega arith)) (λ ge. inr (omega arith)) (cases_lt old.refused (2 ^ 64 - 1))
+
+    by : (e : DiskError) → EndsWithin {T = T} (Err e) 0 → new.refused ≡ counted {T = T} (Err e) old.refused → HadRefusal old new
+    by DiskTooLong within eq = absurd (omega (arith, within))
+    by Stopped within eq = rises eq
+    by Failed within eq = rises eq
+    by DiskNoMemory within eq = rises eq
+
+-- A call that was refused, and whose end is one that a file may have, was counted.
+pub had_refusal : {T : Type 0} (result : Result T DiskError) (e : DiskError) (end : ℕ) (old new : DiskState) → old.refused < 2 ^ 64 → result ≡ Err e
+    → EndsWithin result end → end ≤ longest → new.refused ≡ counted result old.refused → HadRefusal old new
+had_refusal {T = T} result e end old new lt is within short count =
+    let ne : e ≡ DiskTooLong → ⊥ = λ z. (let past : longest < end = subst (λ (r : Result T DiskError). EndsWithin r end) (is ∙ ap Err z) within in omega arith) in
+    subst (λ (n : ℕ). (old.refused < n) ⊎ (n ≡ 18446744073709551615)) (sym count) (counted_rises result e old.refused lt is ne)
+
+module _ (w : List ℕ) (log : FileState) (at : ℕ) (given piece : List ℕ) (same_long : length piece ≡ length given) (are : ArePresent log w) (fits : at + length given ≤ length w)
+    (same : (i : ℕ) → i < length piece → get_or piece i 0 ≡ byte log (at + i)) where
+  joined : take at w ++ piece ≡ take (at + length given) w
+  joined = piece_read w log at piece are (omega arith) same ∙ ap (λ (n : ℕ). take (at + n) w) same_long
+
+  pub fed : (s : Replay) (old new : DiskState) → Took (take at w ++ piece) s → PieceAnswer w (at + length given) (Ok true) s old new
+  unfolding PieceAnswer
+  fed s old new took = subst (λ (b : List ℕ). Took b s) joined took
+
+  pub not_fed : (e : JournalError) (r : Result Bool RollError) (end : ℕ) (s : Replay) (old new : DiskState) → Refuses (take at w ++ piece) e → IsWithoutHeader e r → PieceAnswer w end r s old new
+  unfolding PieceAnswer ScanRefused
+  not_fed e r end s old new refused is = by e (subst (λ (b : List ℕ). Refuses b e) joined refused) is
+    where
+      answer : (x : Result Bool RollError) → r ≡ x → PieceAnswer w end x s old new → PieceAnswer w end r s old new
+      answer x is p = subst (λ (y : Result Bool RollError). PieceAnswer w end y s old new) (sym is) p
+
+      by : (e : JournalError) → Refuses (take (at + length given) w) e → IsWithoutHeader e r → PieceAnswer w end r s old new
+      by TooLong refused is = answer (Err TooLarge) is (omega (arith, refused, length-take-le (at + length given) w fits))
+      by NoMemory refused is = answer (Err WalNoMemory) is tt
+      by NotAJournal refused is = answer (Ok false) is (no_header w (at + length given) NotAJournal fits (λ z. cc) (λ z. cc) refused)
+      by SectorSize refused is = answer (Ok false) is (no_header w (at + length given) SectorSize fits (λ z. cc) (λ z. cc) refused)
+      by PageSize refused is = answer (Ok false) is (no_header w (at + length given) PageSize fits (λ z. cc) (λ z. cc) refused)
+
+-- a refusal of a call of the disk while the log is scanned
+pub scan_refusal : {T : Type 0} (w : List ℕ) (end end2 : ℕ) (result : Result T DiskError) (e : DiskError) (s : Replay) (r : Result Bool RollError) (old new : DiskState)
+    → IsSoundDisk old → ArePresent old.log w → end ≤ length w → result ≡ Err e → Looks end result old new → r ≡ Err Device → PieceAnswer w end2 r s old new
+unfolding PieceAnswer ScanRefused
+scan_refusal w end end2 result e s r old new sound are fits is looked device =
+    subst (λ (x : Result Bool RollError). PieceAnswer w end2 x s old new) (sym device)
+    (had_refusal result e end old new sound.refused is looked.within (omega (arith, are.len, sound.log.greatest, sound.log.within)) looked.refused)
+
+-- ---- One piece after another.
+
+module _ (w : List ℕ) (s : Replay) (a b c : DiskState) (le : a.refused ≤ b.refused) where
+  pub piece_after : (end end2 : ℕ) (r : Result Bool RollError) (e : RollError) → r ≡ Err e → PieceAnswer w end r s b c → PieceAnswer w end2 (Err e) s a c
+  unfolding PieceAnswer
+  piece_after end end2 r e is answer = scan_refused_after w e a b c le (let got = subst (λ (x : Result Bool RollError). PieceAnswer w end x s b c) is answer in got)
+
+  pub piece_none : (end end2 : ℕ) (r : Result Bool RollError) (go : Bool) → r ≡ Ok go → go ≡ false → PieceAnswer w end r s b c → PieceAnswer w end2 (Ok false) s a c
+  unfolding PieceAnswer
+  piece_none end end2 r go is off answer = let got = subst (λ (x : Result Bool RollError). PieceAnswer w end x s b c) (is ∙ ap Ok off) answer in got
+
+pub piece_some : (w : List ℕ) (s : Replay) (a b : DiskState) (end : ℕ) (r : Result Bool RollError) (go : Bool) → r ≡ Ok go → go ≡ true → PieceAnswer w end r s a b → Took (take end w) s
+unfolding PieceAnswer
+piece_some w s a b end r go is on answer = let got = subst (λ (x : Result Bool RollError). PieceAnswer w end x s a b) (is ∙ ap Ok on) answer in got
+
+pub piece_done : (w : List ℕ) (s : Replay) (a b : DiskState) (end : ℕ) → Took (take end w) s → PieceAnswer w end (Ok true) s a b
+unfolding PieceAnswer
+piece_done w s a b end took = took
+
+module _ (w : List ℕ) (s : Replay) (a b : DiskState) (n : ℕ) (long : length w ≡ n) where
+  pub scan_some : (r : Result Bool RollError) (go : Bool) → r ≡ Ok go → go ≡ true → PieceAnswer w n r s a b → ScanAnswer w (Ok (Some s)) a b
+  unfolding ScanAnswer
+  scan_some r go is on answer = subst (λ (x : List ℕ). Took x s) (take_all n w (omega arith)) (piece_some w s a b n r go is on answer)
+
+  pub scan_none : (r : Result Bool RollError) (go : Bool) → r ≡ Ok go → go ≡ false → PieceAnswer w n r s a b → ScanAnswer w (Ok None) a b
+  unfolding PieceAnswer ScanAnswer
+  scan_none r go is off answer = let got = subst (λ (x : Result Bool RollError). PieceAnswer w n x s a b) (is ∙ ap Ok off) answer in got
+
+  pub scan_after : (r : Result Bool RollError) (e : RollError) (q : Result (Option Replay) RollError) → r ≡ Err e → q ≡ Err e → PieceAnswer w n r s a b → ScanAnswer w q a b
+  unfolding PieceAnswer ScanAnswer
+  scan_after r e q is same answer = subst (λ (x : Result (Option Replay) RollError). ScanAnswer w x a b) (sym same) (let got = subst (λ (x : Result Bool RollError). PieceAnswer w n x s a b) is answer in got)
+
+pub scan_memory : (w : List ℕ) (a b : DiskState) (q : Result (Option Replay) RollError) → q ≡ Err WalNoMemory → ScanAnswer w q a b
+unfolding ScanAnswer ScanRefused
+scan_memory w a b q is = subst (λ (x : Result (Option Replay) RollError). ScanAnswer w x a b) (sym is) tt

@@ -1,0 +1,215 @@
+-- While pages are written into the file, what is left shows what it showed.
+use Rattle.std.proofs.Common.{◌≡◌, ◌≢◌, inl, inr, ⊎_elim, ℕ, ◌+◌, ◌-◌, ◌*◌, ◌/◌, ◌<◌, ◌≤◌, Bool, true, cond, List, length, get_or, refl, sym, ◌∙◌, ap, subst, arith}
+use Rattle.std.specs.Prelude.{Result, IsTrue, nat_eq, Option, unwrap_or}
+use Rattle.std.proofs.lemmas.Bool.{cases_lt, cases_eq}
+use Rattle.std.proofs.lemmas.Bool.Decides.{nat_tests}
+use Rattle.std.proofs.lemmas.List.{get_or_past}
+use Rattle.sqval.specs.Database.{Database, page, file_page, IsFile}
+use Rattle.sqval.specs.Bytes.{word}
+use Rattle.sqjournal.specs.Journal.{Segment, IsHot}
+use Rattle.sqjournal.proofs.Unique.{one_journal}
+use Rattle.rollcore.proofs.Records.{made_length, named_or}
+use Rattle.sqjournal.specs.Restored.{all_records, last_content, IsRolledBack}
+use Rattle.crashdisk.specs.State.{FileState, byte, IsImage, IsSound, Meets, IsSettled}
+use Rattle.crashdisk.specs.Call.{DiskState, ArePresent, Writes, Cuts, Syncs}
+use Rattle.crashdisk.specs.Facts.{IsSteady, Spreads, IsClear}
+use Rattle.crashdisk.specs.declared.file.File.{File}
+use Rattle.crashdisk.specs.declared.file.File.TheVariants.{Db}
+use Rattle.crashdisk.specs.declared.error.DiskError.{DiskError}
+use Rattle.crashdisk.proofs.Images.{table, length-table, get_or-table}
+use Rattle.crashdisk.proofs.Fixed.{image_present}
+use Rattle.crashdisk.proofs.Settled.{settled_one}
+use Rattle.crashdisk.proofs.Steps.{steady_writes, steady_cuts}
+use Rattle.rollcore.specs.Alone.{Show, ShowsAlone}
+use Rattle.rollcore.specs.Replaying.{IsLogDown}
+use Rattle.rollcore.specs.Phases.{Suits, Scanning, Unnamed, Writing, Filed}
+use Rattle.rollcore.specs.Steps.{ArePages}
+use Rattle.rollcore.proofs.Pages.{AreWhole, page_at, page_apart, page_within, sector_some, size_some, are_whole, page_sector, page_clear, cut_clear, get_or-file_page, page_by_bytes, file_count}
+use Rattle.rollcore.proofs.Suiting.{suits_syncs, suits_writes, suits_cuts}
+use Rattle.rollcore.proofs.Down.{present_image, shows_by, down_one, down_writes, down_cuts, down_syncs, file_syncs}
+
+-- ---- On a disk that tears, a sector with a steady byte wasn't touched.
+
+module _ (sector : ℕ) (s : FileState) (k b : ℕ) where
+  -- the sector has this byte everywhere
+  value : ℕ → ℕ
+  value i = cond (nat_eq (i / sector) k) b (s.present i)
+
+  value_in : (i : ℕ) → i / sector ≡ k → value i ≡ b
+  unfolding value
+  value_in i e = grind (arith, nat_tests)
+
+  value_out : (i : ℕ) → i / sector ≢ k → value i ≡ s.present i
+  unfolding value
+  value_out i ne = grind (arith, nat_tests)
+
+  torn_image : IsSound sector s → 0 < length (s.earlier k) → b < 256 → IsImage sector true s (table s.greatest value)
+  torn_image sound touched is_byte = record {
+    least = omega (arith, length-table s.greatest value, sound.least, sound.greatest);
+    greatest = omega (arith, length-table s.greatest value);
+    each = λ j. ⊎_elim
+        (λ e. inr (inr (
+          refl,
+          subst (λ (x : ℕ). 0 < length (s.earlier x)) (sym e) touched,
+          λ i at. ⊎_elim
+              (λ lt. subst (λ (x : ℕ). x < 256) (sym (get_or-table s.greatest value i lt ∙ value_in i (at ∙ e))) is_byte)
+              (λ past. subst (λ (x : ℕ). x < 256) (sym (get_or_past (table s.greatest value) i 0 (omega (arith, length-table s.greatest value)))) (omega arith))
+              (cases_lt i s.greatest),
+        )))
+        (λ ne. inl (λ i at lt. get_or-table s.greatest value i (omega (arith, length-table s.greatest value)) ∙ value_out i (λ e. ne (sym at ∙ e))))
+        (cases_eq j k);
+  }
+
+  torn_byte : (i : ℕ) → i / sector ≡ k → i < s.greatest → get_or (table s.greatest value) i 0 ≡ b
+  torn_byte i e lt = get_or-table s.greatest value i lt ∙ value_in i e
+
+untouched : (sector : ℕ) (s : FileState) (i b : ℕ) → IsSound sector s → IsSteady sector true s i b → i < s.greatest → 0 < length (s.earlier (i / sector)) → ⊥
+untouched sector s i b sound steady lt touched =
+    let k : ℕ = i / sector in
+    let zero_is : 0 ≡ b = sym (torn_byte sector s k 0 i refl lt) ∙ steady (table s.greatest (value sector s k 0)) (torn_image sector s k 0 sound touched (omega arith)) in
+    let one_is : 1 ≡ b = sym (torn_byte sector s k 1 i refl lt) ∙ steady (table s.greatest (value sector s k 1)) (torn_image sector s k 1 sound touched (omega arith)) in
+    omega arith
+
+whole_pages : (size : ℕ) (s : DiskState) → Suits size s → IsTrue s.tears → AreWhole size s.sector
+whole_pages size s suits torn = are_whole size s.sector suits.pages suits.sectors (suits.whole torn)
+
+-- the places of a page whose bytes are all steady are clear
+page_is_clear : (size : ℕ) (s : DiskState) (p : ℕ) (c : List ℕ) → Suits size s → 1 ≤ p → ((i : ℕ) → i < size → IsSteady s.sector s.tears s.db (page_at size p + i) (get_or c i 0))
+    → (i : ℕ) → i < size → IsClear s.sector s.tears s.db (page_at size p + i)
+page_is_clear size s p c suits some steady i lt torn far touched =
+    let meets = suits.sound.db.touched ((page_at size p + i) / s.sector) touched in
+    let j : ℕ = meets.0 in
+    let in_page = page_sector size s.sector p j (page_at size p + i) (whole_pages size s suits torn) (omega (arith, sector_some s.sector suits.sectors)) some (omega arith) (omega arith) (sym meets.3) in
+    let place : page_at size p + (j - page_at size p) ≡ j = omega (arith, in_page.0) in
+    let there : IsSteady s.sector s.tears s.db (page_at size p + (j - page_at size p)) (get_or c (j - page_at size p) 0) = steady (j - page_at size p) (omega (arith, in_page.0, in_page.1)) in
+    untouched s.sector s.db j (get_or c (j - page_at size p) 0) suits.sound.db
+    (subst (λ (t : Bool). IsSteady s.sector t s.db j (get_or c (j - page_at size p) 0)) torn (subst (λ (x : ℕ). IsSteady s.sector s.tears s.db x (get_or c (j - page_at size p) 0)) place there))
+    meets.2 (subst (λ (x : ℕ). 0 < length (s.db.earlier x)) (sym meets.3) touched)
+
+module _ (size : ℕ) (w : List ℕ) (d : Database) where
+  -- so it begins
+  pub writing_begins : (s : DiskState) → Suits size s → (s.tears ≡ true → s.sector ≤ word w 20) → Scanning size d w s → IsHot w → Writing size w d s
+  writing_begins s suits sectors is hot =
+      let now : List ℕ = table s.db.len (byte s.db) in
+      let here = (is.images now (image_present s.sector s.tears s.db suits.sound.db)).hot hot in
+      let rolled : IsRolledBack now w d = here.1 in
+      record {
+        suits = suits;
+        down = is.down;
+        hot = hot;
+        named = here.0;
+        sectors = sectors;
+        segments = rolled.segments;
+        at = rolled.at;
+        why = rolled.why;
+        is = rolled.is;
+        count = rolled.count;
+        logged = λ p c a b found. rolled.each p a b ∙ ap (λ (o : Option (List ℕ)). unwrap_or o (file_page (word w 24) now p)) found;
+        full = λ p a b. made_length w now rolled.segments rolled.at rolled.why rolled.is hot d rolled p a b ∙ sym here.0;
+        steady = λ p i a b un lt x image.
+            let there = (is.images x image).hot hot in
+            let same : there.1.segments ≡ rolled.segments = (one_journal w there.1.segments rolled.segments there.1.at rolled.at there.1.why rolled.why there.1.is rolled.is).0 in
+            let other : page d p ≡ file_page size x p = there.1.each p a b
+            ∙ ap (λ (l : List Segment). unwrap_or (last_content (all_records l) p) (file_page (word w 24) x p)) same
+            ∙ ap (λ (o : Option (List ℕ)). unwrap_or o (file_page (word w 24) x p)) un ∙ ap (λ (n : ℕ). file_page n x p) (sym here.0) in
+            sym (get_or-file_page size x p i lt) ∙ ap (λ (c : List ℕ). get_or c i 0) (sym other);
+      }
+
+  -- the journal with a file whose other pages are those of the database
+  pub show_by : (s : DiskState) → (is : Writing size w d s) → (db : List ℕ) → ((p : ℕ) → 1 ≤ p → p ≤ length d → Unnamed (all_records is.segments) p → page d p ≡ file_page size db p) → Show size db w d
+  show_by s is db other = record {
+    hot = λ hot. (
+      is.named,
+      record {
+        segments = is.segments;
+        at = is.at;
+        why = is.why;
+        is = is.is;
+        count = is.count;
+        each = λ p a b. ⊎_elim
+            (λ un. other p a b un ∙ ap (λ (n : ℕ). file_page n db p) is.named ∙ sym (ap (λ (o : Option (List ℕ)). unwrap_or o (file_page (word w 24) db p)) un))
+            (λ some. is.logged p some.0 a b some.1 ∙ sym (ap (λ (o : Option (List ℕ)). unwrap_or o (file_page (word w 24) db p)) some.1))
+            (named_or (all_records is.segments) p);
+      },
+    );
+    cold = λ cold. absurd (cold is.hot);
+  }
+
+  pub writing_shows : (s : DiskState) → Writing size w d s → ShowsAlone size d s
+  writing_shows s is = shows_by size d s is.suits.sound (λ v. v ≡ w)
+      (λ v left. down_one w s is.down s.sector s.tears v left.image)
+      (λ v are. down_one w s is.down s.sector s.tears v (present_image s.sector s.tears s.log v is.suits.sound.log are))
+      (λ db v image e. subst (λ (x : List ℕ). Show size db x d) (sym e)
+      (show_by s is db (λ p a b un. page_by_bytes size db p (page d p) (is.full p a b) (λ i lt. is.steady p i a b un lt db image))))
+
+  pub writing_by : (old new : DiskState) → (is : Writing size w d old) → Suits size new → IsLogDown new w → (new.sector ≡ old.sector) → (new.tears ≡ old.tears)
+      → ((p i : ℕ) → 1 ≤ p → p ≤ length d → Unnamed (all_records is.segments) p → i < size → IsSteady new.sector new.tears new.db (page_at size p + i) (get_or (page d p) i 0)) → Writing size w d new
+  writing_by old new is suits down sector tears steady = record {
+    suits = suits;
+    down = down;
+    hot = is.hot;
+    named = is.named;
+    sectors = λ torn. subst (λ (n : ℕ). n ≤ word w 20) (sym sector) (is.sectors (sym tears ∙ torn));
+    segments = is.segments;
+    at = is.at;
+    why = is.why;
+    is = is.is;
+    count = is.count;
+    logged = is.logged;
+    full = is.full;
+    steady = steady;
+  }
+
+  pub writing_syncs : {T : Type 0} (f : File) (result : Result T DiskError) (old new : DiskState) → Writing size w d old → Syncs f result old new → Writing size w d new
+  writing_syncs f result old new is synced = writing_by old new is (suits_syncs size f result old new is.suits synced) (down_syncs w f result old new is.down synced)
+      synced.elsewhere.sector synced.elsewhere.tears
+      (λ p i a b un lt db image. is.steady p i a b un lt db (file_syncs f result old new is.suits.sound synced db image))
+
+  clear : (s : DiskState) → (is : Writing size w d s) → (p i : ℕ) → 1 ≤ p → p ≤ length d → Unnamed (all_records is.segments) p → i < size → IsClear s.sector s.tears s.db (page_at size p + i)
+  clear s is p i a b un lt = page_is_clear size s p (page d p) is.suits a (λ j lt_j. is.steady p j a b un lt_j) i lt
+
+  -- a page that a record names is written
+  pub writing_writes : {T : Type 0} (q : ℕ) (bytes : List ℕ) (result : Result T DiskError) (old new : DiskState) → (is : Writing size w d old) → 1 ≤ q → (Unnamed (all_records is.segments) q → ⊥) → length bytes ≡ size
+      → Writes Db ((q - 1) * size) bytes result old new → Writing size w d new
+  writing_writes q bytes result old new is one named full wrote = writing_by old new is (suits_writes size Db (page_at size q) bytes result old new is.suits wrote)
+      (down_writes w (page_at size q) bytes result old new is.down wrote) wrote.elsewhere.sector wrote.elsewhere.tears
+      (λ p i a b un lt.
+      let ne : p ≢ q = λ e. named (subst (λ (k : ℕ). Unnamed (all_records is.segments) k) e un) in
+      steady_writes Db (page_at size q) bytes result old new (page_at size p + i) (get_or (page d p) i 0) is.suits.sound.db wrote (is.steady p i a b un lt)
+      (λ spreads.
+      let in_q = page_clear size old.sector q (page_at size p + i) old.tears (whole_pages size old is.suits) (omega (arith, sector_some old.sector is.suits.sectors)) one
+      (subst (λ (k : ℕ). Spreads old.sector old.tears (page_at size q) (page_at size q + k) (page_at size p + i)) full spreads) in
+      page_apart size p q (page_at size p + i) a one ne (omega arith) (omega arith) in_q.0 in_q.1)
+      (clear old is p i a b un lt))
+
+  -- the length is set
+  pub writing_cuts : {T : Type 0} (n : ℕ) (result : Result T DiskError) (old new : DiskState) → Writing size w d old → n ≡ word w 16 * size → Cuts Db n result old new → Writing size w d new
+  writing_cuts n result old new is long cut =
+      let end : n ≡ length d * size = long ∙ ap (λ k. k * size) (sym is.count) in
+      writing_by old new is (suits_cuts size Db n result old new is.suits cut) (down_cuts w n result old new is.down cut) cut.elsewhere.sector cut.elsewhere.tears
+      (λ p i a b un lt.
+      let below : page_at size p + i < length d * size = page_within size p (length d) i a b lt in
+      steady_cuts Db n result old new (page_at size p + i) (get_or (page d p) i 0) is.suits.sound.db cut (is.steady p i a b un lt)
+      (λ past. absurd (omega arith))
+      (λ torn meets. cut_clear size old.sector (length d) (page_at size p + i) old.db.len (whole_pages size old is.suits torn) (omega (arith, sector_some old.sector is.suits.sectors)) below
+      (subst (λ (k : ℕ). Meets old.sector k old.db.len ((page_at size p + i) / old.sector)) end meets))
+      (clear old is p i a b un lt))
+
+  -- the pages of the present bytes
+  pub pages_file : (s : DiskState) (bytes : List ℕ) → Writing size w d s → ArePages size d s.db → ArePresent s.db bytes → IsFile size bytes d
+  pages_file s bytes is pages are = record {
+    count = file_count size bytes (length d) (omega (arith, size_some size is.suits.pages)) (are.len ∙ pages.len);
+    each = λ p a b. page_by_bytes size bytes p (page d p) (is.full p a b)
+        (λ i lt. are.each ((p - 1) * size + i) (omega (arith, pages.len, page_within size p (length d) i a b lt)) ∙ pages.each p a b i lt);
+  }
+
+  -- The file has all pages, once it is down.
+  pub filed_written : (s : DiskState) (bytes : List ℕ) → Writing size w d s → IsSettled s.db bytes → IsFile size bytes d → Filed size d w s
+  filed_written s bytes is settled file = record {
+    suits = is.suits;
+    down = is.down;
+    hot = is.hot;
+    sectors = is.sectors;
+    repeats = λ db filed. show_by s is db (λ p a b un. filed.each p a b);
+    file = λ db image. subst (λ (x : List ℕ). IsFile size x d) (sym (settled_one s.db bytes settled s.sector s.tears db image)) file;
+  }

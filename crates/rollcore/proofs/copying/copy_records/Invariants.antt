@@ -1,0 +1,25 @@
+use Rattle.std.proofs.Common.{◌≡◌, ◌↔◌, ◌*◌, ◌≤◌, ℕ, List, length}
+use Rattle.sqval.specs.Bytes.{word}
+use Rattle.sqval.specs.Database.{Database}
+use Rattle.sqjournal.specs.Journal.{Segment, IsJournal}
+use Rattle.sqjournal.specs.Took.{Took, HasCount}
+use Rattle.sqjournal.specs.declared.reading.Why.{Why}
+use Rattle.crashdisk.specs.Call.{IsSoundDisk, ArePresent}
+use Rattle.rollcore.specs.Refusal.{most_bytes}
+use Rattle.rollcore.specs.Steps.{KeepsLog}
+use Rattle.rollcore.specs.Phases.{Writing}
+use Rattle.rollcore.proofs.Copies.{Upto}
+use Rattle.rollcore.proofs.Records.{entries_of}
+use Rattle.rollcore.proofs.copying.copy_records.Given as goal
+
+abbrev pub invariant-loop-i : goal.invariant-loop-i
+invariant-loop-i g l = record {
+  kept : g.D.Disk.keeps_word l.initial.disk ↔ g.D.Disk.keeps_word l.disk;
+  all : (w : List ℕ) → Took w l.scan → HasCount w l.i-end;
+  log : g.D.Disk.keeps_word l.initial.disk → IsSoundDisk (g.D.Disk.state l.initial.disk) → KeepsLog (g.D.Disk.state l.initial.disk) (g.D.Disk.state l.disk);
+  pages : g.D.Disk.keeps_word l.initial.disk → IsSoundDisk (g.D.Disk.state l.initial.disk) → (db w : List ℕ) (segments : List Segment) (end : ℕ) (why : Why)
+      → ArePresent (g.D.Disk.state l.initial.disk).db db → ArePresent (g.D.Disk.state l.initial.disk).log w → Took w l.scan → length l.initial.page ≡ word w 24 → l.count * length l.initial.page ≤ most_bytes
+      → IsJournal w segments end why → Upto w db l.count (entries_of w segments) l.i (g.D.Disk.state l.disk);
+  writing : g.D.Disk.keeps_word l.initial.disk → IsSoundDisk (g.D.Disk.state l.initial.disk) → (w : List ℕ) (d : Database) → ArePresent (g.D.Disk.state l.initial.disk).log w
+      → Took w l.scan → l.count * length l.initial.page ≤ most_bytes → Writing (length l.initial.page) w d (g.D.Disk.state l.initial.disk) → Writing (length l.initial.page) w d (g.D.Disk.state l.disk);
+}

@@ -1,0 +1,17 @@
+use Rattle.std.proofs.Common.{ap, ◌∙◌}
+use Rattle.std.specs.Prelude.{Ok}
+use Rattle.rollcore.proofs.Stills.{passed}
+use Rattle.rollcore.proofs.Judging.{plan_none, read_planned, read_scan, scan_took, scan_cold}
+use Rattle.rollcore.proofs.plan.read_plan.Goals as goal
+
+pub returns-in_err-scan-clause-plan : goal.returns-in_err-scan-clause-plan
+returns-in_err-scan-clause-plan g c = λ word sound w are long.
+    read_scan c.args.torn w _ _ c.scan_log.result c.from_residual.result _ c.in_err-scan.was (passed c.from_residual.result _ c.from_residual.ensures.1) (c.scan_log.ensures.took word sound w are long)
+
+pub returns-in-Some-clause-plan : goal.returns-in-Some-clause-plan
+returns-in-Some-clause-plan g c = λ word sound w are long.
+    read_planned c.args.torn w _ _ c.plan_of.result (c.plan_of.ensures.plan w (scan_took c.args.torn w _ _ c.scan_log.result c.in-Some.scan (c.in_ok-scan.was ∙ ap Ok c.in-Some.is) (c.scan_log.ensures.took word sound w are long)))
+
+pub returns-in-None-clause-plan : goal.returns-in-None-clause-plan
+returns-in-None-clause-plan g c = λ word sound w are long.
+    read_planned c.args.torn w _ _ _ (plan_none c.args.torn w (scan_cold c.args.torn w _ _ c.scan_log.result (c.in_ok-scan.was ∙ ap Ok c.in-None.is) (c.scan_log.ensures.took word sound w are long)))

@@ -1,0 +1,17 @@
+use Rattle.std.proofs.Common.{◌+◌, take, length}
+use Rattle.rollcore.specs.declared.error.RollError.TheVariants.{Device}
+use Rattle.rollcore.proofs.Stills.{passed}
+use Rattle.rollcore.proofs.Scans.{fed, not_fed, scan_refusal}
+use Rattle.rollcore.proofs.reading.feed_piece.Goals as goal
+
+pub returns-in_err-read_at-clause-took : goal.returns-in_err-read_at-clause-took
+returns-in_err-read_at-clause-took g c = λ word sound w are fits took.
+    scan_refusal w (c.args.at + length c.args.piece.now) _ c.read_at.result _ _ _ _ _ sound are fits (c.in_err-read_at.was) (c.read_at.ensures.state word) (passed c.from_residual.result Device c.from_residual.ensures.1)
+
+pub returns-in-Ok-clause-took : goal.returns-in-Ok-clause-took
+returns-in-Ok-clause-took g c = λ word sound w are fits took.
+    fed w (g.D.Disk.state c.args.disk.now).log c.args.at c.args.piece.now c.read_at.new.out c.read_at.auto.out are fits (c.in_ok-read_at.ensures.bytes word) c.feed.new.self _ _ (c.in-Ok.ensures (take c.args.at w) took).1
+
+pub returns-in-Err-clause-took : goal.returns-in-Err-clause-took
+returns-in-Err-clause-took g c = λ word sound w are fits took.
+    not_fed w (g.D.Disk.state c.args.disk.now).log c.args.at c.args.piece.now c.read_at.new.out c.read_at.auto.out are fits (c.in_ok-read_at.ensures.bytes word) c.in-Err.error _ _ c.feed.new.self _ _ (c.in-Err.ensures (take c.args.at w) took).0 c.without_header.ensures

@@ -1,0 +1,20 @@
+use Rattle.std.proofs.Common.{◌∙◌}
+use Rattle.rollcore.proofs.Stills.{passed, no_memory}
+use Rattle.rollcore.proofs.Scans.{scan_some, scan_none, scan_after, scan_memory}
+use Rattle.rollcore.proofs.reading.scan_log.Goals as goal
+
+pub returns-in_err-buffer-clause-took : goal.returns-in_err-buffer-clause-took
+returns-in_err-buffer-clause-took g c = λ word sound w are long.
+    scan_memory w _ _ c.from_residual.result (no_memory c.zeros.result c.from_residual.result _ c.in_err-buffer.was (c.in_err-buffer.was ∙ c.in_err-buffer.ensures.memory) c.from_residual.ensures.1)
+
+pub returns-in_err-scan_pieces-clause-took : goal.returns-in_err-scan_pieces-clause-took
+returns-in_err-scan_pieces-clause-took g c = λ word sound w are long.
+    scan_after w c.scan_pieces.new.scan _ _ c.args.long long c.scan_pieces.result _ c.from_residual-in_err-scan_pieces.result c.in_err-scan_pieces.was (passed c.from_residual-in_err-scan_pieces.result _ c.from_residual-in_err-scan_pieces.ensures.1) (c.scan_pieces.ensures.took word sound w are long c.new-scan.ensures)
+
+pub returns-then-branch-clause-took : goal.returns-then-branch-clause-took
+returns-then-branch-clause-took g c = λ word sound w are long.
+    scan_some w c.scan_pieces.new.scan _ _ c.args.long long c.scan_pieces.result _ c.in_ok-scan_pieces.was c.if-branch.true (c.scan_pieces.ensures.took word sound w are long c.new-scan.ensures)
+
+pub returns-clause-took : goal.returns-clause-took
+returns-clause-took g c = λ word sound w are long.
+    scan_none w c.scan_pieces.new.scan _ _ c.args.long long c.scan_pieces.result _ c.in_ok-scan_pieces.was c.if-branch.false (c.scan_pieces.ensures.took word sound w are long c.new-scan.ensures)

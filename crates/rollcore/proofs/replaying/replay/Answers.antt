@@ -1,0 +1,42 @@
+use Rattle.rollcore.specs.declared.error.RollError.TheVariants.{Device}
+use Rattle.rollcore.proofs.Stills.{passed}
+use Rattle.rollcore.proofs.Recovering.{sync_unreplayed, replay_after, goes_on, stays}
+use Rattle.rollcore.proofs.Agreeing.{agrees_by, scanning_shows, scanning_syncs}
+use Rattle.rollcore.proofs.replaying.replay.Goals as goal
+
+pub returns-in_err-sync-clause-replays : goal.returns-in_err-sync-clause-replays
+returns-in_err-sync-clause-replays g c = λ word db w are_db are.
+    sync_unreplayed db w c.sync.result _ c.from_residual.result _ _ c.in_err-sync.was (passed c.from_residual.result Device c.from_residual.ensures.1) (c.sync.ensures.state word)
+
+pub returns-in_err-sync-clause-agrees : goal.returns-in_err-sync-clause-agrees
+returns-in_err-sync-clause-agrees g c = λ word.
+    agrees_by (g.D.Disk.state c.args.disk.now) (g.D.Disk.state c.sync.new.self)
+    (λ size w d scanning. scanning_shows size d w _ (scanning_syncs size d w c.sync.result _ _ scanning (c.sync.ensures.state word)))
+
+pub returns-clause-replays : goal.returns-clause-replays
+returns-clause-replays g c = λ word db w are_db are.
+    replay_after db w (g.D.Disk.state c.args.disk.now) (g.D.Disk.state c.sync.new.self) (g.D.Disk.state c.replay_synced.new.disk) (c.in_ok-sync.ensures.state word) c.replay_synced.result are_db are
+    (λ here there. c.replay_synced.ensures.replays (c.sync.ensures.word.0 word) db w here there)
+
+pub returns-clause-agrees : goal.returns-clause-agrees
+returns-clause-agrees g c = λ word.
+    agrees_by (g.D.Disk.state c.args.disk.now) (g.D.Disk.state c.replay_synced.new.disk)
+    (λ size w d scanning.
+    let synced = scanning_syncs size d w c.sync.result _ _ scanning (c.sync.ensures.state word) in
+    c.replay_synced.ensures.agrees (c.sync.ensures.word.0 word) size w d synced.down (scanning_shows size d w _ synced))
+
+pub returns-in_err-sync-clause-synced : goal.returns-in_err-sync-clause-synced
+returns-in_err-sync-clause-synced g c = λ word. record {
+  called = c.sync.result;
+  mid = g.D.Disk.state c.sync.new.self;
+  sync = c.sync.ensures.state word;
+  rest = stays c.sync.result _ c.from_residual.result (g.D.Disk.state c.sync.new.self) c.in_err-sync.was (passed c.from_residual.result Device c.from_residual.ensures.1);
+}
+
+pub returns-clause-synced : goal.returns-clause-synced
+returns-clause-synced g c = λ word. record {
+  called = c.sync.result;
+  mid = g.D.Disk.state c.sync.new.self;
+  sync = c.sync.ensures.state word;
+  rest = goes_on c.sync.result _ c.replay_synced.result (g.D.Disk.state c.sync.new.self) (g.D.Disk.state c.replay_synced.new.disk) c.in_ok-sync.was (c.replay_synced.ensures.replays (c.sync.ensures.word.0 word)) (c.replay_synced.ensures.agrees (c.sync.ensures.word.0 word));
+}

@@ -1,0 +1,67 @@
+use Rattle.std.proofs.Common.{◌≡◌, length, refl}
+use Rattle.crashdisk.specs.State.{byte}
+use Rattle.crashdisk.proofs.Images.{table}
+use Rattle.crashdisk.proofs.Steps.{present_list}
+use Rattle.rollcore.proofs.Stills.{passed, present_in}
+use Rattle.rollcore.proofs.Down.{down_present}
+use Rattle.rollcore.proofs.Recovering.{planned, rolled_copy, rolled_end, rolled_done, copy_done, writing_at, pages_at, rolled_present}
+use Rattle.rollcore.proofs.Writing.{writing_shows}
+use Rattle.rollcore.proofs.Agreeing.{fit_begins}
+use Rattle.rollcore.proofs.replaying.replay_plan.Goals as goal
+
+pub returns-in_err-copy_records-clause-replays : goal.returns-in_err-copy_records-clause-replays
+returns-in_err-copy_records-clause-replays g c = λ word sound db w torn are_db are fit is.
+    let e : length c.deref_mut.result.now ≡ length c.args.plan.page.items = cc in
+    let p = planned w db torn (length c.deref_mut.result.now) c.args.plan fit is e in
+    rolled_copy db w (g.D.Disk.state c.args.disk.now) (length c.deref_mut.result.now) p.pages c.copy_records.result c.from_residual.result _ _ c.in_err-copy_records.was (passed c.from_residual.result _ c.from_residual.ensures.1)
+    (c.copy_records.ensures.pages word sound db w p.pages are_db are is.took fit.hot p.same p.first p.within p.rolled)
+
+pub returns-in_err-copy_records-clause-shows : goal.returns-in_err-copy_records-clause-shows
+returns-in_err-copy_records-clause-shows g c = λ word sound sectors size w d scanning fit is.
+    let e : length c.deref_mut.result.now ≡ length c.args.plan.page.items = cc in
+    let p = planned w w _ (length c.deref_mut.result.now) c.args.plan fit is e in
+    writing_shows size w d _ (writing_at (length c.deref_mut.result.now) size w d _ _ p.same
+    (c.copy_records.ensures.writing word sound w d (down_present w _ scanning.down) is.took p.within p.first)
+    (fit_begins size d w _ sound sectors fit scanning))
+
+pub returns-in_err-finish-clause-replays : goal.returns-in_err-finish-clause-replays
+returns-in_err-finish-clause-replays g c = λ word sound db w torn are_db are fit is.
+    let log = c.copy_records.ensures.log word sound in
+    rolled_end db w (g.D.Disk.state c.args.disk.now) c.finish.result c.from_residual-in_err-finish.result _ (g.D.Disk.state c.copy_records.new.disk) _ log.refused c.in_err-finish.was (passed c.from_residual-in_err-finish.result _ c.from_residual-in_err-finish.ensures.1)
+    (c.finish.ensures.ends (c.copy_records.ensures.word.0 word) log.sound)
+
+pub returns-in_err-finish-clause-shows : goal.returns-in_err-finish-clause-shows
+returns-in_err-finish-clause-shows g c = λ word sound sectors size w d scanning fit is.
+    let e : length c.deref_mut.result.now ≡ length c.args.plan.page.items = cc in
+    let p = planned w w _ (length c.deref_mut.result.now) c.args.plan fit is e in
+    let s = g.D.Disk.state c.args.disk.now in
+    let begun = fit_begins size d w s sound sectors fit scanning in
+    let are = down_present w s scanning.down in
+    let now = table s.db.len (byte s.db) in
+    c.finish.ensures.shows (c.copy_records.ensures.word.0 word) size w d
+    (writing_at (length c.deref_mut.result.now) size w d _ _ p.same (c.copy_records.ensures.writing word sound w d are is.took p.within p.first) begun)
+    (pages_at (length c.deref_mut.result.now) size w d s (g.D.Disk.state c.copy_records.new.disk) p.same begun (copy_done (length c.deref_mut.result.now) d c.copy_records.result _ _ _ c.in_ok-copy_records.was
+    (c.copy_records.ensures.pages word sound now w d (present_list s.db) are is.took fit.hot p.same p.first p.within (rolled_present size w d s fit.hot scanning))))
+
+pub returns-clause-replays : goal.returns-clause-replays
+returns-clause-replays g c = λ word sound db w torn are_db are fit is.
+    let e : length c.deref_mut.result.now ≡ length c.args.plan.page.items = cc in
+    let p = planned w db torn (length c.deref_mut.result.now) c.args.plan fit is e in
+    let log = c.copy_records.ensures.log word sound in
+    rolled_done db w (g.D.Disk.state c.args.disk.now) (length c.deref_mut.result.now) p.pages c.finish.result _ _ (g.D.Disk.state c.copy_records.new.disk) _ fit.hot p.rolled p.sized
+    (copy_done (length c.deref_mut.result.now) p.pages c.copy_records.result _ _ _ c.in_ok-copy_records.was
+    (c.copy_records.ensures.pages word sound db w p.pages are_db are is.took fit.hot p.same p.first p.within p.rolled))
+    (present_in _ _ w log.log are) c.in_ok-finish.was (c.finish.ensures.ends (c.copy_records.ensures.word.0 word) log.sound) refl (c.count.ensures w is.took) is.names.first_size
+
+pub returns-clause-shows : goal.returns-clause-shows
+returns-clause-shows g c = λ word sound sectors size w d scanning fit is.
+    let e : length c.deref_mut.result.now ≡ length c.args.plan.page.items = cc in
+    let p = planned w w _ (length c.deref_mut.result.now) c.args.plan fit is e in
+    let s = g.D.Disk.state c.args.disk.now in
+    let begun = fit_begins size d w s sound sectors fit scanning in
+    let are = down_present w s scanning.down in
+    let now = table s.db.len (byte s.db) in
+    c.finish.ensures.shows (c.copy_records.ensures.word.0 word) size w d
+    (writing_at (length c.deref_mut.result.now) size w d _ _ p.same (c.copy_records.ensures.writing word sound w d are is.took p.within p.first) begun)
+    (pages_at (length c.deref_mut.result.now) size w d s (g.D.Disk.state c.copy_records.new.disk) p.same begun (copy_done (length c.deref_mut.result.now) d c.copy_records.result _ _ _ c.in_ok-copy_records.was
+    (c.copy_records.ensures.pages word sound now w d (present_list s.db) are is.took fit.hot p.same p.first p.within (rolled_present size w d s fit.hot scanning))))

@@ -1,0 +1,72 @@
+-- The steps of a replay by what stands on the disk meanwhile: in each of them all that a crash may leave shows the
+-- database that it showed at the start (fileformat2, 3; that it does so at each step is own).
+use Rattle.std.specs.Prelude.{◌≡◌, ℕ, ◌+◌, ◌-◌, ◌*◌, ◌<◌, ◌≤◌, true, false, List, length, get_or, Some, None}
+use Rattle.sqval.specs.Bytes.{word}
+use Rattle.sqval.specs.PageSize.{IsPageSize}
+use Rattle.sqval.specs.Database.{Database, Pages, page, IsFile}
+use Rattle.sqjournal.specs.Journal.{Segment, IsHot, IsJournal}
+use Rattle.sqjournal.specs.Restored.{all_records, last_content}
+use Rattle.sqjournal.specs.declared.reading.Why.{Why}
+use Rattle.crashdisk.specs.State.{IsSectorSize, IsImage}
+use Rattle.crashdisk.specs.Call.{DiskState, IsSoundDisk, ArePresent}
+use Rattle.crashdisk.specs.Facts.{IsSteady}
+use Rattle.rollcore.specs.Alone.{AreWhole, Show}
+use Rattle.rollcore.specs.Replaying.{IsLogDown}
+
+-- a disk on which pages of this size are recovered
+pub record Suits (size : ℕ) (s : DiskState) : Type 0 where
+  pub sound : IsSoundDisk s
+  pub sectors : IsSectorSize s.sector
+  pub pages : IsPageSize size
+  pub whole : s.tears ≡ true → s.sector ≤ size
+
+-- each database file that a crash may leave has the pages of d
+abbrev pub IsFiled : (size : ℕ) (d : Database) → DiskState → Type 0
+IsFiled size d s = (db : List ℕ) → IsImage s.sector s.tears s.db db → IsFile size db d
+
+-- a file of the pages of d shows d with the journal
+abbrev pub Repeats : (size : ℕ) (d : Database) → List ℕ → Type 0
+Repeats size d w = (db : List ℕ) → IsFile size db d → Show size db w d
+
+-- nothing was written yet
+pub record Scanning (size : ℕ) (d : Database) (w : List ℕ) (s : DiskState) : Type 0 where
+  pub down : IsLogDown s w
+  pub images : (db : List ℕ) → IsImage s.sector s.tears s.db db → Show size db w d
+  pub present : (db : List ℕ) → ArePresent s.db db → Show size db w d
+
+-- no record of a journal names page p
+abbrev pub Unnamed : (records : Pages) → (p : ℕ) → Type 0
+Unnamed records p = last_content records p ≡ None
+
+-- Pages of records are written into the file, or its length is set. The other pages stand in each file that a crash
+-- may leave, with zeros past its end.
+pub record Writing (size : ℕ) (w : List ℕ) (d : Database) (s : DiskState) : Type 0 where
+  pub suits : Suits size s
+  pub down : IsLogDown s w
+  pub hot : IsHot w
+  pub named : size ≡ word w 24
+  pub sectors : s.tears ≡ true → s.sector ≤ word w 20
+  pub segments : List Segment
+  pub at : ℕ
+  pub why : Why
+  pub is : IsJournal w segments at why
+  pub count : length d ≡ word w 16
+  pub logged : (p : ℕ) (content : List ℕ) → 1 ≤ p → p ≤ length d → last_content (all_records segments) p ≡ Some content → page d p ≡ content
+  pub full : (p : ℕ) → 1 ≤ p → p ≤ length d → length (page d p) ≡ size
+  pub steady : (p i : ℕ) → 1 ≤ p → p ≤ length d → Unnamed (all_records segments) p → i < size → IsSteady s.sector s.tears s.db ((p - 1) * size + i) (get_or (page d p) i 0)
+
+-- the file has all pages, and the journal is as it was
+pub record Filed (size : ℕ) (d : Database) (w : List ℕ) (s : DiskState) : Type 0 where
+  pub suits : Suits size s
+  pub down : IsLogDown s w
+  pub hot : IsHot w
+  pub sectors : s.tears ≡ true → s.sector ≤ word w 20
+  pub repeats : Repeats size d w
+  pub file : IsFiled size d s
+
+-- Zeros are written over the journal's header: no other hot journal may be left, nor be present.
+pub record Zeroing (size : ℕ) (d : Database) (s : DiskState) : Type 0 where
+  pub suits : Suits size s
+  pub file : IsFiled size d s
+  pub listed : (v : List ℕ) → IsImage s.sector false s.log v → IsHot v → Repeats size d v
+  pub torn : s.tears ≡ true → (v : List ℕ) → IsImage s.sector true s.log v → AreWhole s.kept s.handed v → IsHot v → Repeats size d v

@@ -1,0 +1,94 @@
+-- What the replay of a journal into its database does (fileformat2, 3). What it answers and refuses is own.
+use Rattle.std.specs.Prelude.{◌≡◌, ◌⊎◌, ℕ, ◌-◌, ◌*◌, ◌^◌, ◌<◌, true, List, [], ◌++◌, length, drop, replicate, Result, Ok, Err, IsTrue}
+use Rattle.sqval.specs.Bytes.{word}
+use Rattle.sqval.specs.Database.{Database}
+use Rattle.sqjournal.specs.Journal.{IsHot}
+use Rattle.sqjournal.specs.Restored.{Restores}
+use Rattle.sqjournal.specs.Took.{HasCount}
+use Rattle.crashdisk.specs.State.{IsSettled, longest}
+use Rattle.crashdisk.specs.Call.{DiskState, ArePresent, Syncs}
+use Rattle.crashdisk.specs.declared.file.File.TheVariants.{Log}
+use Rattle.crashdisk.specs.declared.error.DiskError.{DiskError}
+use Rattle.rollcore.specs.Refusal.{most_bytes}
+use Rattle.rollcore.specs.Alone.{ShowsAlone}
+use Rattle.rollcore.specs.declared.replaying.Replayed.{Replayed}
+use Rattle.rollcore.specs.declared.error.RollError.{RollError}
+use Rattle.rollcore.specs.declared.error.RollError.TheVariants.{TooLarge, NoMemory, Device, SectorAbovePage}
+
+-- on a disk that tears, its sectors are larger than the pages of a journal or than the sectors that it names
+abbrev pub TearsJournal : DiskState → List ℕ → Type 0
+TearsJournal s w = (s.tears ≡ true) × IsHot w × ((word w 24 < s.sector) ⊎ (word w 20 < s.sector))
+
+-- the journal is longer than is scanned, or its database is above the limit
+abbrev pub IsTooLarge : List ℕ → Type 0
+IsTooLarge w = (longest < length w) ⊎ (IsHot w × (most_bytes < word w 16 * word w 24))
+
+-- a call of the disk was refused, or had been so often that the count stands at its greatest
+abbrev pub HadRefusal : (old new : DiskState) → Type 0
+HadRefusal old new = (old.refused < new.refused) ⊎ (new.refused ≡ 2 ^ 64 - 1)
+
+-- no byte has changed
+pub record KeepsBytes (old new : DiskState) : Type 0 where
+  pub db : new.db ≡ old.db
+  pub log : (bytes : List ℕ) → ArePresent old.log bytes → ArePresent new.log bytes
+
+-- a journal with zeros for its first header
+abbrev pub zeroed : List ℕ → List ℕ
+zeroed w = replicate 28 0 ++ drop 28 w
+
+-- nothing of the log is unsynced
+pub record IsLogDown (s : DiskState) (w : List ℕ) : Type 0 where
+  pub settled : IsSettled s.log w
+  pub kept : s.tears ≡ true → s.kept ≡ w
+  pub handed : s.handed ≡ []
+
+-- A hot journal w was replayed into the file db. The file is down, and just what the journal restores; the journal is
+-- down, with zeros for its first header.
+pub record IsRolled (db w : List ℕ) (r : Replayed) (new : DiskState) : Type 0 where
+  pub hot : IsTrue r.hot
+  pub records : HasCount w r.records
+  pub size : r.size ≡ word w 16
+  pub file : (after : List ℕ) × Restores db w after × IsSettled new.db after
+  pub log : IsLogDown new (zeroed w)
+
+-- no journal was hot, and no byte has changed
+pub record IsIdle (r : Replayed) (old new : DiskState) : Type 0 where
+  pub hot : IsTrue r.hot → ⊥
+  pub records : r.records ≡ 0
+  pub size : r.size ≡ 0
+  pub bytes : KeepsBytes old new
+  pub down : (w : List ℕ) → IsLogDown old w → IsLogDown new w
+
+-- what was replayed; the log isn't hot any more, so that replaying it again changes no byte
+pub record IsReplayed (db w : List ℕ) (r : Replayed) (old new : DiskState) : Type 0 where
+  pub rolled : IsHot w → IsRolled db w r new
+  pub idle : (IsHot w → ⊥) → IsIdle r old new
+  pub cold : (bytes : List ℕ) → ArePresent new.log bytes → IsHot bytes → ⊥
+
+-- what a replay answers, and what it leaves
+abbrev pub ReplayAnswer : (db w : List ℕ) → Result Replayed RollError → (old new : DiskState) → Type 0
+ReplayAnswer db w (Ok r) old new = (IsTooLarge w → ⊥) × (TearsJournal old w → ⊥) × IsReplayed db w r old new
+ReplayAnswer db w (Err TooLarge) old new = IsTooLarge w × KeepsBytes old new
+ReplayAnswer db w (Err SectorAbovePage) old new = (IsTooLarge w → ⊥) × TearsJournal old w × KeepsBytes old new
+ReplayAnswer db w (Err NoMemory) old new = KeepsBytes old new
+ReplayAnswer db w (Err Device) old new = HadRefusal old new
+ReplayAnswer db w (Err _) old new = ⊥
+
+abbrev pub Replays : Result Replayed RollError → (old new : DiskState) → Type 0
+Replays result old new = (db w : List ℕ) → ArePresent old.db db → ArePresent old.log w → ReplayAnswer db w result old new
+
+-- where nothing of the log was unsynced, and all that a crash may leave showed one database, it still does
+abbrev pub Agrees : (old new : DiskState) → Type 0
+Agrees old new = (size : ℕ) (w : List ℕ) (d : Database) → IsLogDown old w → ShowsAlone size d old → ShowsAlone size d new
+
+-- what a replay does once a sync of the log was answered
+abbrev pub GoesOn : {T : Type 0} → Result T DiskError → Result Replayed RollError → (old new : DiskState) → Type 0
+GoesOn (Ok _) result old new = Replays result old new × Agrees old new
+GoesOn (Err _) result old new = (result ≡ Err Device) × (new ≡ old)
+
+-- The log is synced first. So it is from that moment on that all which a crash may leave shows the database that it showed.
+pub record SyncsFirst (result : Result Replayed RollError) (old new : DiskState) : Type 0 where
+  pub called : Result (Unit {0}) DiskError
+  pub mid : DiskState
+  pub sync : Syncs Log called old mid
+  pub rest : GoesOn called result mid new

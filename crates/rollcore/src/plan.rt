@@ -1,0 +1,73 @@
+//! What a replay is going to do.
+ghost use Rattle.std.specs.Prelude.{◌≡◌, ◌↔◌, ◌+◌, ◌≤◌, ℕ, List, length, IfOk, MatchOption};
+ghost use Rattle.crashdisk.specs.Call.{DiskState, IsSoundDisk, ArePresent};
+ghost use Rattle.sqjournal.specs.Took.{Took};
+ghost use Rattle.sqjournal.specs.Header.{Names};
+ghost use Rattle.sqjournal.specs.Journal.{IsHot};
+ghost use Rattle.rollcore.specs.Steps.{Still};
+ghost use Rattle.rollcore.specs.Plans.{JudgeAnswer, PlanAnswer, ReadAnswer};
+
+use crate::error::RollError;
+use crate::reading::{scan_log, zeros};
+use crashdisk::Disk;
+use sqjournal::{JournalHeader, Replay};
+use std::alloc::Global;
+
+/// The most bytes of a database.
+const MOST_BYTES: u64 = 1073741824;
+
+/// A scanned journal that is hot, its first header, and room for one page.
+#[derive(Drop)]
+pub struct Plan {
+    pub scan: Replay,
+    pub header: JournalHeader,
+    pub page: Vec<u8>,
+}
+
+/// Whether the database of a hot journal is too large, or sectors that tear, of this size, are larger than its pages
+/// or the sectors that it names.
+fn judge(header: &JournalHeader, torn: usize) -> Result<(), RollError>
+    ensures { (w : List ℕ) → IsHot w → Names w header.now → JudgeAnswer torn w result }
+{
+    let page_size = header.page_size.get();
+    if u64::from(header.first_size) * u64::from(page_size) > MOST_BYTES {
+        return Err(RollError::TooLarge);
+    }
+    if (page_size as usize) < torn || (header.sector as usize) < torn {
+        return Err(RollError::SectorAbovePage);
+    }
+    Ok(())
+}
+
+/// Judges the scanned journal, and takes all memory that its replay needs. None where it isn't hot.
+fn plan_of(alloc: Global, scan: Replay, torn: usize) -> Result<Option<Plan>, RollError>
+    ensures plan { (w : List ℕ) → Took w scan → PlanAnswer torn w result }
+    ensures room { IfOk result (λ o. MatchOption o (Unit {0}) (λ p. length p.page.items ≤ 65536)) }
+{
+    let Some(header) = scan.first() else {
+        return Ok(None);
+    };
+    judge(&header, torn)?;
+    let page = zeros(alloc, header.page_size.get() as usize)?;
+    Ok(Some(Plan { scan, header, page }))
+}
+
+/// Reads the journal, which has this many bytes, and judges it. None where it isn't hot.
+pub fn read_plan<D: Disk>(
+    alloc: Global,
+    disk: &mut D,
+    long: u64,
+    torn: usize,
+) -> Result<Option<Plan>, RollError>
+    ensures word { D.keeps_word disk.old ↔ D.keeps_word disk.new }
+    ensures still { D.keeps_word disk.old → IsSoundDisk (D.state disk.old) → Still (D.state disk.old) (D.state disk.new) }
+    ensures plan { D.keeps_word disk.old → IsSoundDisk (D.state disk.old)
+        → (w : List ℕ) → ArePresent (D.state disk.old).log w → length w ≡ long
+        → ReadAnswer torn w result (D.state disk.old) (D.state disk.new) }
+    ensures room { IfOk result (λ o. MatchOption o (Unit {0}) (λ p. length p.page.items ≤ 65536)) }
+{
+    match scan_log(alloc, disk, long)? {
+        Some(scan) => plan_of(alloc, scan, torn),
+        None => Ok(None),
+    }
+}

@@ -1,0 +1,101 @@
+//! The scan of the journal on a disk.
+ghost use Rattle.std.specs.Prelude.{◌≡◌, ◌↔◌, ◌+◌, ◌<◌, ◌≤◌, ℕ, List, [], length, take, IfOk, OnErr};
+ghost use Rattle.crashdisk.specs.Call.{DiskState, IsSoundDisk, ArePresent};
+ghost use Rattle.sqjournal.specs.Took.{Took};
+ghost use Rattle.rollcore.specs.Steps.{Still, IsWithoutHeader, PieceAnswer, ScanAnswer};
+
+use crate::error::RollError;
+use crashdisk::{Disk, File};
+use sqjournal::{JournalError, Replay};
+use std::alloc::Global;
+
+/// How many bytes of the journal are read at once.
+const PIECE: usize = 131072;
+
+/// A journal whose first header isn't valid isn't hot.
+fn without_header(error: JournalError) -> Result<bool, RollError>
+    ensures { IsWithoutHeader error result }
+{
+    match error {
+        JournalError::NotAJournal => Ok(false),
+        JournalError::SectorSize => Ok(false),
+        JournalError::PageSize => Ok(false),
+        JournalError::TooLong => Err(RollError::TooLarge),
+        JournalError::NoMemory => Err(RollError::NoMemory),
+    }
+}
+
+/// Reads the next piece of the journal and hands it to the scan. Whether the journal may be hot.
+fn feed_piece<D: Disk>(
+    disk: &mut D,
+    scan: &mut Replay,
+    at: u64,
+    piece: &mut [u8],
+) -> Result<bool, RollError>
+    ensures word { D.keeps_word disk.old ↔ D.keeps_word disk.new }
+    ensures still { D.keeps_word disk.old → IsSoundDisk (D.state disk.old) → Still (D.state disk.old) (D.state disk.new) }
+    ensures took { D.keeps_word disk.old → IsSoundDisk (D.state disk.old)
+        → (w : List ℕ) → ArePresent (D.state disk.old).log w → at + length piece.old ≤ length w → Took (take at w) scan.old
+        → PieceAnswer w (at + length piece.old) result scan.new (D.state disk.old) (D.state disk.new) }
+{
+    disk.read_at(File::Log, at, piece)?;
+    match scan.feed(piece) {
+        Ok(()) => Ok(true),
+        Err(error) => without_header(error),
+    }
+}
+
+/// Hands the journal, which has this many bytes, to the scan. Whether it may be hot.
+fn scan_pieces<D: Disk>(
+    disk: &mut D,
+    scan: &mut Replay,
+    long: u64,
+    buffer: &mut [u8],
+) -> Result<bool, RollError>
+    requires { 0 < length buffer.old }
+    ensures word { D.keeps_word disk.old ↔ D.keeps_word disk.new }
+    ensures still { D.keeps_word disk.old → IsSoundDisk (D.state disk.old) → Still (D.state disk.old) (D.state disk.new) }
+    ensures took { D.keeps_word disk.old → IsSoundDisk (D.state disk.old)
+        → (w : List ℕ) → ArePresent (D.state disk.old).log w → length w ≡ long → Took [] scan.old
+        → PieceAnswer w long result scan.new (D.state disk.old) (D.state disk.new) }
+{
+    let most = buffer.len();
+    let mut at = 0;
+    while at < long {
+        let n = (long - at).min(most as u64) as usize;
+        if !feed_piece(disk, scan, at, &mut buffer[..n])? {
+            return Ok(false);
+        }
+        at += n as u64;
+    }
+    Ok(true)
+}
+
+/// So many zero bytes.
+pub fn zeros(alloc: Global, long: usize) -> Result<Vec<u8>, RollError>
+    ensures long { IfOk result (λ v. length v.items ≡ long) }
+    ensures memory { OnErr result (result ≡ Err RollError.NoMemory) }
+{
+    Ok(vec![in alloc; 0u8; long]?)
+}
+
+/// Scans the journal, which has this many bytes. None where its first header is refused.
+pub fn scan_log<D: Disk>(
+    alloc: Global,
+    disk: &mut D,
+    long: u64,
+) -> Result<Option<Replay>, RollError>
+    ensures word { D.keeps_word disk.old ↔ D.keeps_word disk.new }
+    ensures still { D.keeps_word disk.old → IsSoundDisk (D.state disk.old) → Still (D.state disk.old) (D.state disk.new) }
+    ensures took { D.keeps_word disk.old → IsSoundDisk (D.state disk.old)
+        → (w : List ℕ) → ArePresent (D.state disk.old).log w → length w ≡ long
+        → ScanAnswer w result (D.state disk.old) (D.state disk.new) }
+{
+    let mut buffer = zeros(alloc, PIECE)?;
+    let mut scan = Replay::new(alloc);
+    if scan_pieces(disk, &mut scan, long, &mut buffer)? {
+        Ok(Some(scan))
+    } else {
+        Ok(None)
+    }
+}

@@ -1,0 +1,95 @@
+//! Recovery: a hot journal is replayed into its database.
+ghost use Rattle.std.specs.Prelude.{◌≡◌, ◌↔◌, ◌≤◌, ℕ, List, length};
+
+use crate::copying::{copy_records, finish};
+use crate::error::RollError;
+use crate::plan::{Plan, read_plan};
+use crashdisk::{Disk, File};
+use std::alloc::Global;
+
+/// What a replay found: whether the journal was hot, how many of its records passed, and the first size of the
+/// database in pages. Both are 0 where it wasn't hot.
+#[derive(Clone, Copy, Debug, PartialEq, Eq)]
+pub struct Replayed {
+    pub hot: bool,
+    pub records: usize,
+    pub size: u32,
+}
+
+ghost use Rattle.crashdisk.specs.Call.{DiskState, IsSoundDisk, ArePresent};
+ghost use Rattle.crashdisk.specs.State.{IsSectorSize};
+ghost use Rattle.sqval.specs.Database.{Database};
+ghost use Rattle.rollcore.specs.Alone.{ShowsAlone};
+ghost use Rattle.rollcore.specs.Phases.{Scanning};
+ghost use Rattle.rollcore.specs.Steps.{torn_sector, RolledAnswer};
+ghost use Rattle.rollcore.specs.Plans.{IsPlan, IsFit};
+ghost use Rattle.rollcore.specs.Replaying.{Replays, Agrees, SyncsFirst};
+
+/// The size in bytes of a sector that may tear, 0 on a disk that doesn't tear.
+fn sector_that_tears<D: Disk>(disk: &D) -> usize
+    ensures sound { D.keeps_word disk.now → IsSoundDisk (D.state disk.now) }
+    ensures sectors { D.keeps_word disk.now → IsSectorSize (D.state disk.now).sector }
+    ensures value { D.keeps_word disk.now → result ≡ torn_sector (D.state disk.now) }
+{
+    let sector = disk.sector();
+    if disk.tears() { sector } else { 0 }
+}
+
+/// Replays what is planned.
+fn replay_plan<D: Disk>(disk: &mut D, plan: Plan) -> Result<Replayed, RollError>
+    requires { length plan.page.items ≤ 65536 }
+    ensures word { D.keeps_word disk.old ↔ D.keeps_word disk.new }
+    ensures replays { D.keeps_word disk.old → IsSoundDisk (D.state disk.old)
+        → (db w : List ℕ) (torn : ℕ) → ArePresent (D.state disk.old).db db → ArePresent (D.state disk.old).log w → IsFit torn w → IsPlan w plan
+        → RolledAnswer db w result (D.state disk.old) (D.state disk.new) }
+    ensures shows { D.keeps_word disk.old → IsSoundDisk (D.state disk.old) → IsSectorSize (D.state disk.old).sector
+        → (size : ℕ) (w : List ℕ) (d : Database) → Scanning size d w (D.state disk.old)
+        → IsFit (torn_sector (D.state disk.old)) w → IsPlan w plan → ShowsAlone size d (D.state disk.new) }
+{
+    let Plan {
+        scan,
+        header,
+        mut page,
+    } = plan;
+    copy_records(disk, &scan, header.first_size, &mut page)?;
+    finish(disk)?;
+    Ok(Replayed {
+        hot: true,
+        records: scan.count(),
+        size: header.first_size,
+    })
+}
+
+/// Replays the journal into the database, where it is hot: writes the pages of its records up to the first size in
+/// order, sets the database's length to the first size, and once that is down zeroes the journal's first header.
+///
+/// Refused with `TooLarge` where the first size is above 1,073,741,824 bytes, with `SectorAbovePage` where a disk that
+/// tears has larger sectors than the journal's pages or the sectors that it names, with `NoMemory`, and with `Device`
+/// where the disk refused a call. All but `Device` change no byte.
+pub fn replay<D: Disk>(alloc: Global, disk: &mut D) -> Result<Replayed, RollError>
+    ensures word { D.keeps_word disk.old ↔ D.keeps_word disk.new }
+    ensures replays { D.keeps_word disk.old → Replays result (D.state disk.old) (D.state disk.new) }
+    ensures agrees { D.keeps_word disk.old → Agrees (D.state disk.old) (D.state disk.new) }
+    ensures synced { D.keeps_word disk.old → SyncsFirst result (D.state disk.old) (D.state disk.new) }
+{
+    disk.sync(File::Log)?;
+    replay_synced(alloc, disk)
+}
+
+/// What a replay does once it has synced the log.
+pub fn replay_synced<D: Disk>(alloc: Global, disk: &mut D) -> Result<Replayed, RollError>
+    ensures word { D.keeps_word disk.old ↔ D.keeps_word disk.new }
+    ensures replays { D.keeps_word disk.old → Replays result (D.state disk.old) (D.state disk.new) }
+    ensures agrees { D.keeps_word disk.old → Agrees (D.state disk.old) (D.state disk.new) }
+{
+    let torn = sector_that_tears(disk);
+    let long = disk.len(File::Log)?;
+    match read_plan(alloc, disk, long, torn)? {
+        Some(plan) => replay_plan(disk, plan),
+        None => Ok(Replayed {
+            hot: false,
+            records: 0,
+            size: 0,
+        }),
+    }
+}
