@@ -1,13 +1,13 @@
 -- The parts of a fold keep what shows one database, so the fold does at each of its exits.
-use Rattle.std.proofs.Common.{◌≡◌, inl, inr, ⊎_elim, ℕ, ◌+◌, ◌-◌, ◌*◌, ◌<◌, ◌≤◌, Bool, List, length, get_or, replicate, sym, ◌∙◌, subst, arith}
+use Rattle.std.proofs.Common.{◌≡◌, inl, inr, ⊎_elim, ℕ, ◌<◌, ◌≤◌, List, get_or, replicate, sym, ◌∙◌, subst, arith}
 use Rattle.std.specs.Prelude.{Result, Ok, Err, IsErr}
 use Rattle.std.proofs.lemmas.List.{get_or-replicate, get_or_past, length-replicate}
 use Rattle.std.proofs.lemmas.Bool.{cases_lt, cases_eq}
-use Rattle.sqval.specs.Database.{Database, page}
+use Rattle.sqval.specs.Database.{Database}
 use Rattle.sqwal.specs.Header.{named_size}
-use Rattle.sqwal.specs.Frames.{content_of, IsFront}
+use Rattle.sqwal.specs.Frames.{IsFront}
 use Rattle.sqwal.specs.View.{IsView}
-use Rattle.crashdisk.specs.State.{FileState, byte, IsImage}
+use Rattle.crashdisk.specs.State.{byte}
 use Rattle.crashdisk.specs.Call.{DiskState, ArePresent, Syncs}
 use Rattle.crashdisk.specs.declared.file.File.TheVariants.{Db, Log}
 use Rattle.crashdisk.specs.declared.error.DiskError.{DiskError}
@@ -16,26 +16,20 @@ use Rattle.crashdisk.proofs.Sound.{byte_below}
 use Rattle.crashdisk.proofs.Steps.{present_list, settled_sync}
 use Rattle.walcore.specs.Alone.{ShowsAlone}
 use Rattle.walcore.specs.Folding.{IsLogDown, IsJust, IsOfOtherSize, Agrees}
-use Rattle.walcore.specs.Steps.{Still, PutsPage, PageAnswer, ArePages, Copied, Told, SyncStep, ZeroSteps, CutSteps}
+use Rattle.walcore.specs.Steps.{Still, ArePages, Copied, Told, SyncStep, ZeroSteps, CutSteps}
 use Rattle.walcore.specs.Phases.{Suits, IsOfSize, Scanning, Writing, Filed, Zeroing, Emptying}
 use Rattle.walcore.specs.declared.error.WalError.{WalError}
-use Rattle.walcore.proofs.Stills.{still_sound}
-use Rattle.walcore.proofs.Pages.{page_by_bytes, page_within}
-use Rattle.walcore.proofs.Suiting.{suits_by}
-use Rattle.walcore.proofs.Down.{present_image, down_by}
+use Rattle.walcore.proofs.Stills.{image_still}
+use Rattle.walcore.proofs.Suiting.{suits_still}
+use Rattle.walcore.proofs.Down.{down_by}
 use Rattle.walcore.proofs.Looking.{scanning_begins}
-use Rattle.walcore.proofs.Writing.{show_by, writing_by, writing_begins, writing_writes, writing_syncs, writing_shows, content_length, page_length, filed_written}
+use Rattle.walcore.proofs.Filling.{filling_view, just_pages}
+use Rattle.walcore.proofs.Writing.{writing_begins, writing_syncs, writing_shows, filed_written}
 use Rattle.walcore.proofs.Filed.{filed_none, filed_syncs, filed_shows}
 use Rattle.walcore.proofs.Zeroing.{zeroing_writes, zeroing_syncs, zeroing_shows}
 use Rattle.walcore.proofs.Emptying.{zeros_present, emptying_begins, emptying_cuts, emptying_syncs, emptying_shows}
 
 -- ---- Calls that change no byte.
-
-image_still : (old new : DiskState) → Still old new → (db : List ℕ) → IsImage new.sector new.tears new.db db → IsImage old.sector old.tears old.db db
-image_still old new still db image = subst (λ (n : ℕ). IsImage n old.tears old.db db) still.sector (subst (λ (b : Bool). IsImage new.sector b old.db db) still.tears (subst (λ (s : FileState). IsImage new.sector new.tears s db) still.db image))
-
-suits_still : (size : ℕ) (old new : DiskState) → Suits size old → Still old new → Suits size new
-suits_still size old new suits still = suits_by size old new suits (still_sound old new suits.sound still) still.sector still.tears
 
 down_still : (w : List ℕ) (old new : DiskState) → IsLogDown old w → Still old new → IsLogDown new w
 down_still w old new down still = down_by w old new down still.log still.tears still.kept still.handed
@@ -46,10 +40,6 @@ scanning_still size d w old new is still = record {
   down = down_still w old new is.down still;
   shows = λ db image. is.shows db (image_still old new still db image);
 }
-
-pub writing_still : (size : ℕ) (w : List ℕ) (m : ℕ) (d : Database) (old new : DiskState) → Writing size w m d old → Still old new → Writing size w m d new
-writing_still size w m d old new is still = writing_by size w m d old new is (suits_still size old new is.suits still) (down_still w old new is.down still)
-    (λ p i a b un lt db image. is.steady p i a b un lt db (image_still old new still db image))
 
 -- ---- The log and its view.
 
@@ -63,41 +53,15 @@ down_present s w down = record {
 pub of_same_size : (size : ℕ) (w : List ℕ) → (IsOfOtherSize size w → ⊥) → IsOfSize size w
 of_same_size size w same header = ⊎_elim (λ e. e) (λ ne. absurd (same (header, ne))) (cases_eq (named_size w) size)
 
--- the view of the present file
-pub writing_view : (size : ℕ) (w : List ℕ) (m : ℕ) (d : Database) (s : DiskState) (db : List ℕ) → Writing size w m d s → ArePresent s.db db → IsView size db w m d
-writing_view size w m d s db is are =
-    let front : IsFront (named_size w) w m = subst (λ (z : ℕ). IsFront z w m) (sym is.named) is.front in
-    (show_by size w m d s is db (λ p a b un. page_by_bytes size db p (page d p) (is.full p a b un)
-    (λ i lt. is.steady p i a b un lt db (present_image s.sector s.tears s.db db is.suits.sound.db are))) m front).1
-
 -- ---- The parts of a fold.
 
 module _ (size : ℕ) (w : List ℕ) (m : ℕ) (d : Database) where
-  puts_page : {T : Type 0} (p : ℕ) (called : Result T DiskError) (old new : DiskState) → 1 ≤ p → Writing size w m d old → PutsPage size w m p called old new → Writing size w m d new
-  puts_page p called old new one is puts = writing_writes size w m d p (content_of size w puts.frame) called puts.mid new (writing_still size w m d old puts.mid is puts.read) one
-      (λ un. un puts.frame puts.last.first puts.last.within puts.last.names)
-      (content_length size w m d old is puts.frame puts.last.first puts.last.within) puts.write
-
-  pub writing_page : {T : Type 0} (p : ℕ) (result : Result T WalError) (old new : DiskState) → 1 ≤ p → Writing size w m d old → PageAnswer size w m p result old new → Writing size w m d new
-  unfolding PageAnswer
-  writing_page p (Ok done) old new one is answer = ⊎_elim
-      (λ none. subst (λ (s : DiskState). Writing size w m d s) (sym none.1) is)
-      (λ puts. puts_page p (Ok done) old new one is puts) answer
-  writing_page p (Err e) old new one is answer = ⊎_elim (λ still. writing_still size w m d old new is still) (λ puts. puts_page p puts.0 old new one is puts.1) answer.2
-
   pub writing_step : {T : Type 0} (result : Result T WalError) (old new : DiskState) → Writing size w m d old → SyncStep Db result old new → Writing size w m d new
   unfolding SyncStep
   writing_step result old new is step = writing_syncs size w m d Db step.0 old new is step.2
 
-  just_pages : (s : DiskState) (bytes : List ℕ) → Writing size w m d s → ArePages size d s.db → ArePresent s.db bytes → IsJust size d bytes
-  just_pages s bytes is pages are = record {
-    long = are.len ∙ pages.len;
-    each = λ p a b. page_by_bytes size bytes p (page d p) (page_length size w m d s is p a b)
-        (λ i lt. are.each ((p - 1) * size + i) (omega (arith, pages.len, page_within size p (length d) i a b lt)) ∙ pages.each p a b i lt);
-  }
-
   filed_by : {T : Type 0} (v : T) (called : Result T DiskError) (old new : DiskState) (bytes : List ℕ) → Writing size w m d old → IsJust size d bytes → ArePresent old.db bytes → Told called (Ok v) → Syncs Db called old new → Filed size d w new
-  filed_by v (Ok x) old new bytes is just are told synced = filed_written size w m d new bytes (writing_syncs size w m d Db (Ok x) old new is synced) (settled_sync Db old new bytes is.suits.sound.db synced are) just
+  filed_by v (Ok x) old new bytes is just are told synced = filed_written size w m d new bytes (writing_syncs size w m d Db (Ok x) old new is synced) (settled_sync Db old new bytes is.file.suits.sound.db synced are) just
   filed_by v (Err e) old new bytes is just are told synced = absurd told
 
   -- all pages are there, and then down
@@ -105,7 +69,7 @@ module _ (size : ℕ) (w : List ℕ) (m : ℕ) (d : Database) where
   unfolding SyncStep
   filed_step u old new is pages step =
       let now : List ℕ = table old.db.len (byte old.db) in
-      filed_by u step.0 old new now is (just_pages old now is pages (present_list old.db)) (present_list old.db) step.1 step.2
+      filed_by u step.0 old new now is (just_pages size w m d old now is.file pages (present_list old.db)) (present_list old.db) step.1 step.2
 
 module _ (size : ℕ) (d : Database) (w : List ℕ) where
   pub filed_again : {T : Type 0} (result : Result T WalError) (old new : DiskState) → Filed size d w old → SyncStep Db result old new → Filed size d w new
@@ -158,7 +122,7 @@ module _ (size : ℕ) (w : List ℕ) (m : ℕ) (d : Database) where
   copied_some old mid new is still some front writes copies =
       let begun : Writing size w m d mid = writing_begins size w m d mid (scanning_still size d w old mid is still) some front in
       let now : List ℕ = table mid.db.len (byte mid.db) in
-      inl (writes begun, copies now (present_list mid.db) (writing_view size w m d mid now begun (present_list mid.db)))
+      inl (writes begun, copies now (present_list mid.db) (filling_view size w m d mid now begun.file (present_list mid.db)))
 
   pub copied_none : (old mid : DiskState) → Scanning size d w old → Still old mid → m ≡ 0 → IsFront (named_size w) w m → (IsOfOtherSize size w → ⊥) → Copied size w m d mid
   copied_none old mid is still none front same =

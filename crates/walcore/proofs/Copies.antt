@@ -2,13 +2,12 @@
 use Rattle.std.proofs.Common.{◌≡◌, ◌⊎◌, inl, inr, ⊎_elim, ℕ, ◌+◌, ◌-◌, ◌*◌, ◌<◌, ◌≤◌, Bool, true, false, List, length, get_or, take, drop, refl, sym, ◌∙◌, ap, subst, arith, length-drop}
 use Rattle.std.specs.Prelude.{Result, Ok, Err}
 use Rattle.std.proofs.lemmas.Bool.{cases_lt, cases_eq}
-use Rattle.std.proofs.lemmas.Bool.Decides.{nat_tests}
 use Rattle.std.proofs.lemmas.List.{get_or-take, get_or-drop, get_or_past, length-take-le}
 use Rattle.std.proofs.lemmas.Grind.{same_number_lists}
 use Rattle.std.proofs.lemmas.List.FromFn.{get_or-map-range_with_len}
 use Rattle.std.proofs.Math.Nat.{mul-le-mul_right}
 use Rattle.sqval.specs.Database.{Database, page, file_page}
-use Rattle.sqwal.specs.Frames.{frame_at, frame_end, page_of, content_of, IsValidFrame}
+use Rattle.sqwal.specs.Frames.{frame_at, frame_end, content_of, IsValidFrame}
 use Rattle.sqwal.specs.View.{Unnamed, IsLast, IsView}
 use Rattle.sqwal.specs.Index.{FrameTable, IsNewest}
 use Rattle.sqwal.proofs.Same.{frame_at-end}
@@ -21,7 +20,7 @@ use Rattle.crashdisk.proofs.Sound.{byte_past, cut_below, written_inside, written
 use Rattle.crashdisk.proofs.Steps.{present_written, present_cut, counted_grows}
 use Rattle.walcore.specs.Refusal.{most_bytes}
 use Rattle.walcore.specs.Steps.{Still, KeepsLog, PutsPage, PageAnswer, CopyAnswer}
-use Rattle.walcore.specs.Plans.{wanted_page, IsTable, IsCopy}
+use Rattle.walcore.specs.Plans.{IsTable, IsCopy}
 use Rattle.walcore.specs.declared.error.WalError.{WalError}
 use Rattle.walcore.specs.declared.error.WalError.TheVariants.{Device}
 use Rattle.walcore.proofs.Stills.{still_sound, still_looks, refusal_after}
@@ -29,27 +28,16 @@ use Rattle.walcore.proofs.Scans.{had_refusal}
 
 -- ---- What the table finds.
 
-wanted_is : (size count : ℕ) (w : List ℕ) (i p : ℕ) → page_of size w i ≡ p → p ≤ count → wanted_page size count w i ≡ p
-unfolding wanted_page
-wanted_is size count w i p e le = grind (arith, nat_tests)
-
-wanted_was : (size count : ℕ) (w : List ℕ) (i p : ℕ) → wanted_page size count w i ≡ p → 1 ≤ p → page_of size w i ≡ p
-unfolding wanted_page
-wanted_was size count w i p e le = grind (arith, nat_tests)
-
 module _ (size count : ℕ) (w : List ℕ) (m p frame : ℕ) (t : FrameTable) (table : IsTable size count w m t) (hit : IsNewest t.pages p m frame) (one : 1 ≤ p) (le : p ≤ count) where
-  named : (i : ℕ) → 1 ≤ i → i ≤ m → page_of size w i ≡ p → get_or t.pages (i - 1) 0 ≡ p
-  named i a b e = table.each i a b ∙ wanted_is size count w i p e le
-
   pub hit_none : frame ≡ 0 → Unnamed size w m p
-  hit_none zero i a b e = hit.newest i (omega arith) b (omega (arith, table.long)) (named i a b e)
+  hit_none zero i a b e = hit.newest i (omega arith) b (omega (arith, table.long)) (table.finds i p a b one le e)
 
   pub hit_last : 1 ≤ frame → IsLast size w m p frame
   hit_last some = record {
     first = some;
     within = hit.within;
-    names = wanted_was size count w frame p (sym (table.each frame some hit.within) ∙ hit.names some) one;
-    last = λ j a b e. hit.newest j a b (omega (arith, table.long)) (named j (omega arith) b e);
+    names = table.found frame p some hit.within one le (hit.names some);
+    last = λ j a b e. hit.newest j a b (omega (arith, table.long)) (table.finds j p (omega arith) b one le e);
   }
 
 -- ---- What is read of a frame.

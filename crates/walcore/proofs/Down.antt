@@ -1,6 +1,7 @@
 -- A log of which nothing is unsynced, and what it takes that all shows one database.
 use Rattle.std.proofs.Common.{◌≡◌, inl, ℕ, ◌<◌, Bool, true, false, List, [], refl, sym, ◌∙◌, subst, arith}
 use Rattle.std.specs.Prelude.{Result, Ok, Err}
+use Rattle.std.proofs.lemmas.Grind.{same_number_lists}
 use Rattle.sqval.specs.Database.{Database}
 use Rattle.sqwal.specs.Header.{named_size}
 use Rattle.sqwal.proofs.Same.{frame_at-end}
@@ -9,9 +10,10 @@ use Rattle.crashdisk.specs.Call.{DiskState, IsSoundDisk, ArePresent, with_write,
 use Rattle.crashdisk.specs.declared.file.File.{File}
 use Rattle.crashdisk.specs.declared.file.File.TheVariants.{Db, Log}
 use Rattle.crashdisk.specs.declared.error.DiskError.{DiskError}
+use Rattle.crashdisk.proofs.Keeping.{sound_syncs}
 use Rattle.crashdisk.proofs.Sound.{byte_below}
 use Rattle.crashdisk.proofs.Settled.{settled_image, settled_one}
-use Rattle.crashdisk.proofs.Steps.{settled_syncs, image_sync, image_elsewhere}
+use Rattle.crashdisk.proofs.Steps.{settled_sync, settled_syncs, image_sync, image_elsewhere}
 use Rattle.walcore.specs.Alone.{AreWhole, MayBeLeft, Show, ShowsAlone}
 use Rattle.walcore.specs.Folding.{IsLogDown}
 
@@ -23,12 +25,13 @@ present_image sector tears s c sound are = record {
   each = λ k. inl (λ i e lt. let below : i < s.len = omega (arith, are.len) in are.each i below ∙ byte_below s i below);
 }
 
--- Where each log that may be left, and the present one, has a property that makes it show the database, all shows it.
-pub shows_by : (size : ℕ) (d : Database) (s : DiskState) → IsSoundDisk s → (P : List ℕ → Type 0) → ((v : List ℕ) → MayBeLeft s v → P v) → ((v : List ℕ) → ArePresent s.log v → P v)
+-- Where each log that may be left, or has listed values alone, has a property that makes it show the database, all shows it.
+pub shows_by : (size : ℕ) (d : Database) (s : DiskState) → IsSoundDisk s → (P : List ℕ → Type 0) → ((v : List ℕ) → MayBeLeft s v → P v) → ((v : List ℕ) → IsImage s.sector false s.log v → P v)
     → ((db v : List ℕ) → IsImage s.sector s.tears s.db db → P v → Show size db v d) → ShowsAlone size d s
-shows_by size d s sound P left present show = record {
+shows_by size d s sound P left listed show = record {
   images = λ db w image may. show db w image (left w may);
-  present = λ db w are_db are_log. show db w (present_image s.sector s.tears s.db db sound.db are_db) (present w are_log);
+  listed = λ db w image values. show db w image (listed w values);
+  present = λ db w are_db are_log. show db w (present_image s.sector s.tears s.db db sound.db are_db) (listed w (present_image s.sector false s.log w sound.log are_log));
 }
 
 module _ (w : List ℕ) where
@@ -94,3 +97,19 @@ pub file_syncs : {T : Type 0} (f : File) (result : Result T DiskError) (old new 
     → (db : List ℕ) → IsImage new.sector new.tears new.db db → IsImage old.sector old.tears old.db db
 file_syncs Db result old new sound synced db image = image_sync Db result old new sound.db synced db image
 file_syncs Log result old new sound synced db image = image_elsewhere Log result old new synced.elsewhere db image
+
+same_present : (s : FileState) (v w : List ℕ) → ArePresent s v → ArePresent s w → v ≡ w
+same_present s v w a b = same_number_lists v w (a.len ∙ sym b.len) (λ i lt. let below : i < s.len = omega (arith, a.len) in a.each i below ∙ sym (b.each i below))
+
+-- after a sync nothing of the log is unsynced
+pub synced_down : {T : Type 0} {u : T} (w : List ℕ) (s t : DiskState) → IsSoundDisk s → ArePresent s.log w → Syncs Log (Ok u) s t → IsLogDown t w
+synced_down {T} {u} w s t sound are synced = by s.tears refl synced.since
+  where
+    settled : IsSettled t.log w
+    settled = settled_sync Log s t w sound.log synced are
+
+    by : (b : Bool) → b ≡ s.tears → SinceSync b Log (Ok u) s t → IsLogDown t w
+    by true e since = record { settled = settled; kept = λ torn. same_present s.log t.kept w since.0 are; handed = since.1 }
+    by false e since =
+        let whole : t.tears ≡ false = synced.elsewhere.tears ∙ sym e in
+        record { settled = settled; kept = λ torn. absurd (cc (torn, whole)); handed = ((sound_syncs Log (Ok u) s t sound synced).untorn whole).1 }

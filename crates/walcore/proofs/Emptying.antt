@@ -19,7 +19,7 @@ use Rattle.crashdisk.proofs.Steps.{image_elsewhere, image_looks, present_written
 use Rattle.walcore.specs.Alone.{AreWhole, ShowsAlone}
 use Rattle.walcore.specs.Phases.{Filed, Zeroing, Emptying}
 use Rattle.walcore.proofs.Suiting.{suits_cuts, suits_looks, suits_syncs}
-use Rattle.walcore.proofs.Down.{present_image, shows_by, since_db, file_syncs}
+use Rattle.walcore.proofs.Down.{shows_by, since_db, file_syncs}
 use Rattle.walcore.proofs.Filed.{show_left}
 use Rattle.walcore.proofs.Zeros.{zeros_bad}
 use Rattle.walcore.proofs.Zeroing.{tears_or, log_syncs, zeroing_writes}
@@ -46,7 +46,7 @@ module _ (size : ℕ) (d : Database) where
       (λ torn. kept_bad s.kept v (is.kept torn) (subst (λ (x : List (ℕ × List ℕ)). AreWhole s.kept x v) is.handed (left.whole torn)))
       (λ whole. zeros_bad (named_size v) v (λ i lt. is.listed i (omega arith) v (subst (λ (t : Bool). IsImage s.sector t s.log v) whole left.image)))
       (tears_or s.tears))
-      (λ v are. zeros_bad (named_size v) v (λ i lt. is.listed i (omega arith) v (present_image s.sector false s.log v is.suits.sound.log are)))
+      (λ v image. zeros_bad (named_size v) v (λ i lt. is.listed i (omega arith) v image))
       (λ db v image bad. show_left size d db v (is.file db image) (λ valid. absurd (bad (valid.each 1 (omega arith) (omega arith)).header)))
 
   pub emptying_looks : {T : Type 0} (end : ℕ) (result : Result T DiskError) (old new : DiskState) → Emptying size d old → Looks end result old new → Emptying size d new

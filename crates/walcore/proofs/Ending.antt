@@ -3,46 +3,54 @@ use Rattle.std.proofs.Common.{◌≡◌, ⊎_elim, ℕ, ◌+◌, ◌≤◌, List
 use Rattle.std.specs.Prelude.{Result, Ok, Err, IsErr}
 use Rattle.std.proofs.lemmas.List.{length-replicate}
 use Rattle.crashdisk.specs.State.{FileState, IsSettled}
-use Rattle.crashdisk.specs.Call.{DiskState, IsSoundDisk, of, ArePresent, Elsewhere, Syncs}
+use Rattle.crashdisk.specs.Call.{DiskState, IsSoundDisk, of, ArePresent, Elsewhere, Writes, Syncs}
 use Rattle.crashdisk.specs.declared.file.File.{File}
 use Rattle.crashdisk.specs.declared.file.File.TheVariants.{Db, Log}
 use Rattle.crashdisk.specs.declared.error.DiskError.{DiskError}
 use Rattle.crashdisk.proofs.Keeping.{sound_of, sound_writes, sound_cuts, sound_syncs}
 use Rattle.crashdisk.proofs.Steps.{counted_grows, settled_sync}
-use Rattle.walcore.specs.Folding.{HadRefusal}
-use Rattle.walcore.specs.Steps.{Told, SyncStep, ZeroSteps, CutSteps, EndAnswer}
+use Rattle.walcore.specs.Folding.{HadRefusal, IsLogDown}
+use Rattle.walcore.specs.Steps.{Still, KeepsLog, Later, Told, SyncStep, ZeroSteps, CutSteps, EndAnswer}
 use Rattle.walcore.specs.declared.error.WalError.{WalError}
 use Rattle.walcore.specs.declared.error.WalError.TheVariants.{Device}
-use Rattle.walcore.proofs.Stills.{refusal_after}
+use Rattle.walcore.proofs.Stills.{refusal_after, still_sound}
+use Rattle.walcore.proofs.Down.{synced_down}
 use Rattle.walcore.proofs.Scans.{had_refusal}
 
--- the disk is sound, and its count hasn't fallen
-pub record Later (a b : DiskState) : Type 0 where
-  pub sound : IsSoundDisk b
-  pub refused : a.refused ≤ b.refused
-
 pub later_then : (a b c : DiskState) → Later a b → Later b c → Later a c
-later_then a b c first second = record { sound = second.sound; refused = omega (arith, first.refused, second.refused) }
+later_then a b c first second = record { sector = second.sector ∙ first.sector; tears = second.tears ∙ first.tears; refused = omega (arith, first.refused, second.refused); sound = second.sound }
+
+pub later_still : (a b : DiskState) → IsSoundDisk a → Still a b → Later a b
+later_still a b sound still = record { sector = still.sector; tears = still.tears; refused = still.refused; sound = still_sound a b sound still }
+
+pub later_keeps : (a b : DiskState) → KeepsLog a b → Later a b
+later_keeps a b keeps = record { sector = keeps.sector; tears = keeps.tears; refused = keeps.refused; sound = keeps.sound }
 
 later_by : {T : Type 0} (f : File) (r : Result T DiskError) (a b : DiskState) → IsSoundDisk a → Elsewhere f r a b → IsSoundDisk b → Later a b
-later_by f r a b sound elsewhere after = record { sound = after; refused = omega (arith, counted_grows r a.refused sound.refused, elsewhere.refused) }
+later_by f r a b sound elsewhere after = record { sector = elsewhere.sector; tears = elsewhere.tears; refused = omega (arith, counted_grows r a.refused sound.refused, elsewhere.refused); sound = after }
+
+pub later_sync : {T : Type 0} (f : File) (r : Result T DiskError) (a b : DiskState) → IsSoundDisk a → Syncs f r a b → Later a b
+later_sync f r a b sound synced = later_by f r a b sound synced.elsewhere (sound_syncs f r a b sound synced)
+
+pub later_write : {T : Type 0} (f : File) (at : ℕ) (bytes : List ℕ) (r : Result T DiskError) (a b : DiskState) → IsSoundDisk a → Writes f at bytes r a b → Later a b
+later_write f at bytes r a b sound wrote = later_by f r a b sound wrote.elsewhere (sound_writes f at bytes r a b sound wrote)
 
 module _ {T : Type 0} where
-  told_err : (called : Result T DiskError) (r : Result T WalError) (e : WalError) → r ≡ Err e → Told called r → (e ≡ Device) × ((x : DiskError) × (called ≡ Err x))
+  pub told_err : (called : Result T DiskError) (r : Result T WalError) (e : WalError) → r ≡ Err e → Told called r → (e ≡ Device) × ((x : DiskError) × (called ≡ Err x))
   told_err called r e is told = by called (subst (λ (y : Result T WalError). Told called y) is told)
     where
       by : (c : Result T DiskError) → Told c (Err e) → (e ≡ Device) × ((x : DiskError) × (c ≡ Err x))
       by (Ok _) t = absurd t
       by (Err x) t = (t, (x, refl))
 
-  told_ok : (called : Result T DiskError) (r : Result T WalError) (v : T) → r ≡ Ok v → Told called r → (x : T) × (called ≡ Ok x)
+  pub told_ok : (called : Result T DiskError) (r : Result T WalError) (v : T) → r ≡ Ok v → Told called r → (x : T) × (called ≡ Ok x)
   told_ok called r v is told = by called (subst (λ (y : Result T WalError). Told called y) is told)
     where
       by : (c : Result T DiskError) → Told c (Ok v) → (x : T) × (c ≡ Ok x)
       by (Ok x) t = (x, refl)
       by (Err _) t = absurd t
 
-  none_ok : (called : Result T DiskError) (r : Result T WalError) (v : T) → IsErr called → r ≡ Ok v → Told called r → ⊥
+  pub none_ok : (called : Result T DiskError) (r : Result T WalError) (v : T) → IsErr called → r ≡ Ok v → Told called r → ⊥
   none_ok called r v bad is told = by called bad (subst (λ (y : Result T WalError). Told called y) is told)
     where
       by : (c : Result T DiskError) → IsErr c → Told c (Ok v) → ⊥
@@ -52,7 +60,7 @@ module _ {T : Type 0} where
   -- ---- A sync.
 
   pub sync_later : (f : File) (r : Result T WalError) (a b : DiskState) → IsSoundDisk a → SyncStep f r a b → Later a b
-  sync_later f r a b sound step = later_by f step.0 a b sound step.2.elsewhere (sound_syncs f step.0 a b sound step.2)
+  sync_later f r a b sound step = later_sync f step.0 a b sound step.2
 
   pub sync_refused : (f : File) (r : Result T WalError) (e : WalError) (a b : DiskState) → IsSoundDisk a → r ≡ Err e → SyncStep f r a b → (e ≡ Device) × HadRefusal a b
   sync_refused f r e a b sound is step =
@@ -104,11 +112,12 @@ module _ {T : Type 0} where
   pub cut_db : (r : Result T WalError) (a b : DiskState) → CutSteps r a b → b.db ≡ a.db
   cut_db r a b steps = ⊎_elim (λ failed. failed.3.elsewhere.other) (λ done. done.2.2.elsewhere.other ∙ done.1.1.elsewhere.other) steps
 
-  pub cut_done : (r : Result T WalError) (v : T) (a b : DiskState) → IsSoundDisk a → r ≡ Ok v → CutSteps r a b → IsSettled b.log []
+  pub cut_done : (r : Result T WalError) (v : T) (a b : DiskState) → IsSoundDisk a → r ≡ Ok v → CutSteps r a b → IsLogDown b []
   cut_done r v a b sound is steps = ⊎_elim
       (λ failed. absurd (none_ok failed.0 r v failed.1 is failed.2))
       (λ done. let mid = later_by Log (Ok done.1.0) a done.0 sound done.1.1.elsewhere (sound_cuts Log 0 (Ok done.1.0) a done.0 sound done.1.1) in
-      sync_done Log r v [] done.0 b mid.sound is done.2 (record { len = sym done.1.1.file.1.len; each = λ i lt. absurd (omega (arith, done.1.1.file.1.len)) }))
+      let t = told_ok done.2.0 r v is done.2.1 in
+      synced_down [] done.0 b mid.sound (record { len = sym done.1.1.file.1.len; each = λ i lt. absurd (omega (arith, done.1.1.file.1.len)) }) (subst (λ (x : Result T DiskError). Syncs Log x done.0 b) t.1 done.2.2))
       steps
 
   -- ---- All of it.

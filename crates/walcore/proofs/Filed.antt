@@ -1,5 +1,5 @@
 -- Once the file has all pages, what is left of the log may show no less.
-use Rattle.std.proofs.Common.{◌≡◌, ⊎_elim, ℕ, ◌≤◌, List, refl, sym, subst, arith}
+use Rattle.std.proofs.Common.{◌≡◌, ⊎_elim, ℕ, ◌≤◌, List, refl, sym, subst, arith, false}
 use Rattle.std.specs.Prelude.{Result}
 use Rattle.sqval.specs.Database.{Database, IsFile}
 use Rattle.sqwal.specs.Header.{named_size}
@@ -14,7 +14,7 @@ use Rattle.crashdisk.proofs.Steps.{image_looks}
 use Rattle.walcore.specs.Alone.{Show, ShowsAlone}
 use Rattle.walcore.specs.Phases.{IsOfSize, Scanning, Filed}
 use Rattle.walcore.proofs.Suiting.{suits_looks, suits_syncs}
-use Rattle.walcore.proofs.Down.{present_image, shows_by, down_one, down_looks, down_syncs, file_syncs}
+use Rattle.walcore.proofs.Down.{shows_by, down_one, down_looks, down_syncs, file_syncs}
 
 -- a file of the pages shows them with a log that has no valid frame
 show_none : (size : ℕ) (d : Database) (db v : List ℕ) (k : ℕ) → IsFile size db d → k ≡ 0 → (1 ≤ k → named_size v ≡ size) × IsView size db v k d
@@ -43,7 +43,7 @@ module _ (size : ℕ) (d : Database) (w : List ℕ) where
   pub filed_shows : (s : DiskState) → Filed size d w s → ShowsAlone size d s
   filed_shows s is = shows_by size d s is.suits.sound (λ v. v ≡ w)
       (λ v left. down_one w s is.down s.sector s.tears v left.image)
-      (λ v are. down_one w s is.down s.sector s.tears v (present_image s.sector s.tears s.log v is.suits.sound.log are))
+      (λ v image. down_one w s is.down s.sector false v image)
       (λ db v image e. subst (λ (x : List ℕ). Show size db x d) (sym e) (is.repeats db (is.file db image)))
 
   pub filed_looks : {T : Type 0} (end : ℕ) (result : Result T DiskError) (old new : DiskState) → Filed size d w old → Looks end result old new → Filed size d w new

@@ -103,19 +103,34 @@ wanted_high size count w i page e lt = grind (arith, nat_tests)
 pub valid_below : (size : ℕ) (w : List ℕ) (m i : ℕ) → IsValidFrame size w m → 1 ≤ i → i ≤ m → IsValidFrame size w i
 valid_below size w m i valid one le = record { first = one; each = λ j a b. valid.each j a (omega arith) }
 
-pub table_none : (size count : ℕ) (w : List ℕ) (t : FrameTable) → t.pages ≡ [] → IsTable size count w 0 t
-table_none size count w t e = record { long = ap length e; each = λ i a b. absurd (omega arith) }
+wanted_is : (size count : ℕ) (w : List ℕ) (i p : ℕ) → page_of size w i ≡ p → p ≤ count → wanted_page size count w i ≡ p
+unfolding wanted_page
+wanted_is size count w i p e le = grind (arith, nat_tests)
 
-pub table_more : (size count : ℕ) (w : List ℕ) (k page : ℕ) (t u : FrameTable) → IsTable size count w k t → page ≡ wanted_page size count w (k + 1) → u ≡ record t { pages = t.pages ++ page ∷ [] } → IsTable size count w (k + 1) u
-table_more size count w k page t u is e new =
+wanted_was : (size count : ℕ) (w : List ℕ) (i p : ℕ) → wanted_page size count w i ≡ p → 1 ≤ p → page_of size w i ≡ p
+unfolding wanted_page
+wanted_was size count w i p e le = grind (arith, nat_tests)
+
+pub table_none : (size count : ℕ) (w : List ℕ) (t : FrameTable) → IsTable size count w 0 t
+table_none size count w t = record { long = omega arith; finds = λ i p a b. absurd (omega arith); found = λ i p a b. absurd (omega arith) }
+
+pub table_more : (size count : ℕ) (w : List ℕ) (k page : ℕ) (t u : FrameTable) → length t.pages ≡ k → IsTable size count w k t → page ≡ wanted_page size count w (k + 1)
+    → u ≡ record t { pages = t.pages ++ page ∷ [] } → IsTable size count w (k + 1) u
+table_more size count w k page t u long is e new =
     let pages : u.pages ≡ t.pages ++ page ∷ [] = ap (λ (x : FrameTable). x.pages) new in
+    let before : (i : ℕ) → 1 ≤ i → i ≤ k → get_or u.pages (i - 1) 0 ≡ get_or t.pages (i - 1) 0 = λ i a b. ap (λ (l : List ℕ). get_or l (i - 1) 0) pages ∙ get_or_append_left t.pages (page ∷ []) 0 (i - 1) (omega arith) in
+    let last : (i : ℕ) → i ≡ k + 1 → get_or u.pages (i - 1) 0 ≡ wanted_page size count w i = λ i same.
+    let at : i - 1 ≡ length t.pages + 0 = omega arith in
+    ap (λ (l : List ℕ). get_or l (i - 1) 0) pages ∙ ap (λ n. get_or (t.pages ++ page ∷ []) n 0) at ∙ get_or-append-add t.pages (page ∷ []) 0 0 ∙ e ∙ ap (wanted_page size count w) (sym same) in
     record {
-      long = ap length pages ∙ length-append t.pages (page ∷ []) ∙ ap (λ n. n + 1) is.long;
-      each = λ i a b. ap (λ (l : List ℕ). get_or l (i - 1) 0) pages ∙ ⊎_elim
-          (λ le. get_or_append_left t.pages (page ∷ []) 0 (i - 1) (omega (arith, is.long)) ∙ is.each i a (let x : i ≤ k = omega arith in x))
-          (λ gt. let at : i - 1 ≡ length t.pages + 0 = omega (arith, is.long) in
-          let same : i ≡ k + 1 = omega arith in
-          ap (λ n. get_or (t.pages ++ page ∷ []) n 0) at ∙ get_or-append-add t.pages (page ∷ []) 0 0 ∙ e ∙ ap (wanted_page size count w) (sym same))
+      long = omega (arith, ap length pages, length-append t.pages (page ∷ []));
+      finds = λ i p a b one le names. ⊎_elim
+          (λ lt. before i a (let x : i ≤ k = omega arith in x) ∙ is.finds i p a (let x : i ≤ k = omega arith in x) one le names)
+          (λ ge. last i (let x : i ≡ k + 1 = omega arith in x) ∙ wanted_is size count w i p names le)
+          (cases_lt i (k + 1));
+      found = λ i p a b one le names. ⊎_elim
+          (λ lt. is.found i p a (let x : i ≤ k = omega arith in x) one le (sym (before i a (let x : i ≤ k = omega arith in x)) ∙ names))
+          (λ ge. wanted_was size count w i p (sym (last i (let x : i ≡ k + 1 = omega arith in x)) ∙ names) one)
           (cases_lt i (k + 1));
     }
 

@@ -1,5 +1,5 @@
 -- While nothing was written, what is left shows what it showed.
-use Rattle.std.proofs.Common.{◌≡◌, ℕ, ◌≤◌, Bool, true, List, sym, ◌∙◌, ap, subst}
+use Rattle.std.proofs.Common.{◌≡◌, ℕ, ◌≤◌, Bool, true, false, List, sym, ◌∙◌, ap, subst}
 use Rattle.std.specs.Prelude.{Result}
 use Rattle.sqval.specs.Database.{Database}
 use Rattle.sqwal.specs.Header.{named_size}
@@ -26,7 +26,7 @@ module _ (size : ℕ) (d : Database) (w : List ℕ) where
   pub scanning_shows : (s : DiskState) → Scanning size d w s → ShowsAlone size d s
   scanning_shows s is = shows_by size d s is.suits.sound (λ v. v ≡ w)
       (λ v left. down_one w s is.down s.sector s.tears v left.image)
-      (λ v are. down_one w s is.down s.sector s.tears v (present_image s.sector s.tears s.log v is.suits.sound.log are))
+      (λ v image. down_one w s is.down s.sector false v image)
       (λ db v image e. subst (λ (x : List ℕ). Show size db x d) (sym e) (is.shows db image))
 
   -- the view of the present file
@@ -62,5 +62,5 @@ crash_shows size d db log old new sound shows crashed whole =
     let left : Show size db log d = shows.images db log crashed.db_image (record { image = crashed.log_image; whole = whole }) in
     shows_by size d new after (λ v. v ≡ log)
     (λ v may. settled_one new.log log crashed.log_left new.sector new.tears v may.image)
-    (λ v are. settled_one new.log log crashed.log_left new.sector new.tears v (present_image new.sector new.tears new.log v after.log are))
+    (λ v image. settled_one new.log log crashed.log_left new.sector false v image)
     (λ c v image e. subst (λ (x : List ℕ). Show size c x d) (sym e) (subst (λ (x : List ℕ). Show size x log d) (sym (settled_one new.db db crashed.db_left new.sector new.tears c image)) left))

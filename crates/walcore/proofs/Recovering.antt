@@ -9,7 +9,7 @@ use Rattle.sqwal.specs.Header.{IsHeader, named_size}
 use Rattle.sqwal.specs.Frames.{size_of, content_of, IsFront}
 use Rattle.sqwal.specs.View.{Unnamed, IsLast, IsView}
 use Rattle.sqwal.specs.Index.{FrameTable}
-use Rattle.walcore.specs.Phases.{Writing}
+use Rattle.walcore.specs.Phases.{Filling, Writing}
 use Rattle.sqwal.proofs.Views.{named_or_not}
 use Rattle.crashdisk.specs.State.{FileState, byte, IsSettled}
 use Rattle.crashdisk.specs.Call.{DiskState, IsSoundDisk, ArePresent, Syncs, Looks}
@@ -18,8 +18,8 @@ use Rattle.crashdisk.specs.declared.error.DiskError.{DiskError}
 use Rattle.crashdisk.proofs.Sound.{byte_below}
 use Rattle.crashdisk.proofs.Images.{table}
 use Rattle.crashdisk.proofs.Steps.{present_list, settled_sync}
-use Rattle.walcore.specs.Folding.{IsJust, TearsPages, KeepsBytes, FoldAnswer}
-use Rattle.walcore.specs.Steps.{Still, ArePages, CopyAnswer, EndAnswer, FoldedAnswer}
+use Rattle.walcore.specs.Folding.{IsJust, TearsPages, KeepsBytes, IsLogDown, FoldAnswer}
+use Rattle.walcore.specs.Steps.{Still, KeepsLog, ArePages, CopyAnswer, EndAnswer, FoldedAnswer}
 use Rattle.walcore.specs.Plans.{IsCopy, IsPlan, IsFit, LogRefused, PlanAnswer, ReadAnswer}
 use Rattle.walcore.specs.declared.plan.Plan.{Plan}
 use Rattle.walcore.specs.declared.folding.Folded.{Folded}
@@ -30,6 +30,8 @@ use Rattle.walcore.proofs.Stills.{refusal_after, present_in}
 use Rattle.walcore.proofs.Scans.{had_refusal}
 use Rattle.walcore.proofs.Judging.{fit_none, front_zero}
 use Rattle.walcore.proofs.Copies.{content_long}
+use Rattle.walcore.proofs.Down.{down_by, synced_down}
+use Rattle.walcore.proofs.Writing.{writing_keeps}
 
 -- ---- A file with its log has a view at each frame.
 
@@ -182,7 +184,7 @@ pub fold_torn : (size : ℕ) (db w : List ℕ) (q : Result Folded WalError) (a :
 fold_torn size db w q a torn is = subst (λ (x : Result Folded WalError). FoldAnswer size db w x a a) (sym is) (torn, refl)
 
 -- there is no log
-pub fold_empty : (size : ℕ) (db w : List ℕ) (f : Folded) (a b : DiskState) → (TearsPages size a → ⊥) → Still a b → ArePresent a.db db → ArePresent a.log w → a.log.len ≡ 0 → IsSettled a.log [] → f.frames ≡ 0 → f.size ≡ 0
+pub fold_empty : (size : ℕ) (db w : List ℕ) (f : Folded) (a b : DiskState) → (TearsPages size a → ⊥) → Still a b → ArePresent a.db db → ArePresent a.log w → a.log.len ≡ 0 → IsLogDown a [] → f.frames ≡ 0 → f.size ≡ 0
     → FoldAnswer size db w (Ok f) a b
 fold_empty size db w f a b fits is are_db are zero settled frames sizes =
     let bad : IsHeader (named_size w) w → ⊥ = λ header. omega (arith, header.whole, are.len) in
@@ -194,7 +196,7 @@ fold_empty size db w f a b fits is are_db are zero settled frames sizes =
         front = subst (λ (n : ℕ). IsFront (named_size w) w n) (sym frames) (front_zero size w bad);
         none = λ z. (sizes, present_in a.db b.db db is.db are_db, λ ne. absurd (ne (empty w (are.len ∙ zero))));
         some = λ one. absurd (omega arith);
-        log = subst (λ (s : FileState). IsSettled s []) (sym is.log) settled;
+        log = down_by [] a b settled is.log is.tears is.kept is.handed;
       },
     )
   where
@@ -228,10 +230,10 @@ module _ {T : Type 0} {u : T} (size : ℕ) (db w : List ℕ) (a b c : DiskState)
   pub fold_after : (q : Result Folded WalError) → ArePresent a.db db → ArePresent a.log w → (ArePresent b.db db → ArePresent b.log w → FoldAnswer size db w q b c) → FoldAnswer size db w q a c
   fold_after q are_db are rest = after q (rest (present_in a.db b.db db synced.elsewhere.other are_db) (synced_present w are))
 
-  pub empty_down : (b.log.len ≡ 0) → IsSettled b.log []
+  pub empty_down : (b.log.len ≡ 0) → IsLogDown b []
   empty_down zero =
       let none : ArePresent a.log [] = record { len = sym (sym synced.file.len ∙ zero); each = λ i lt. absurd (omega (arith, synced.file.len)) } in
-      settled_sync Log a b [] sound.log synced none
+      synced_down [] a b sound none synced
 
 -- ---- The buffer's length is the page size.
 
@@ -239,8 +241,8 @@ module _ (n size count : ℕ) (w : List ℕ) (m : ℕ) (t : FrameTable) (d : Dat
   pub copies_at : {T : Type 0} (db : List ℕ) (r : Result T WalError) → (IsCopy n count w m t → length d ≡ count → IsView n db w m d → CopyAnswer n d r a b) → IsView size db w m d → CopyAnswer size d r a b
   copies_at db r f view = subst (λ (x : ℕ). IsCopy x count w m t → length d ≡ count → IsView x db w m d → CopyAnswer x d r a b) e f copy (view.some copy.valid.first ∙ sym copy.size_is) view
 
-  pub writing_at : (IsCopy n count w m t → Writing n w m d a → Writing n w m d b) → Writing size w m d a → Writing size w m d b
-  writing_at f is = subst (λ (x : ℕ). IsCopy x count w m t → Writing x w m d a → Writing x w m d b) e f copy is
+  pub writing_at : KeepsLog a b → (IsCopy n count w m t → Filling n w m d a → Filling n w m d b) → Writing size w m d a → Writing size w m d b
+  writing_at keeps f is = writing_keeps size w m d a b is keeps (subst (λ (x : ℕ). IsCopy x count w m t → Filling x w m d a → Filling x w m d b) e f copy is.file)
 
 -- a look came first
 module _ (size : ℕ) (db w : List ℕ) (a b c : DiskState) (fits : TearsPages size a → ⊥) (is : Still a b) where

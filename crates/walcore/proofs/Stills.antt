@@ -1,8 +1,8 @@
 -- Calls that change no byte, one after another.
-use Rattle.std.proofs.Common.{◌≡◌, inl, inr, ⊎_elim, ℕ, ◌≤◌, List, refl, sym, ◌∙◌, ap, subst, arith}
+use Rattle.std.proofs.Common.{◌≡◌, inl, inr, ⊎_elim, ℕ, ◌≤◌, Bool, List, refl, sym, ◌∙◌, ap, subst, arith}
 use Rattle.std.specs.Prelude.{Result, Err, IsErrAnd}
 use Rattle.std.proofs.lemmas.Result.{err_from_is_err_and}
-use Rattle.crashdisk.specs.State.{FileState, IsSound}
+use Rattle.crashdisk.specs.State.{FileState, IsImage, IsSound}
 use Rattle.crashdisk.specs.Call.{DiskState, IsSoundDisk, Looks, ArePresent}
 use Rattle.crashdisk.specs.declared.error.DiskError.{DiskError}
 use Rattle.crashdisk.proofs.Keeping.{sound_looks}
@@ -56,6 +56,9 @@ still_looks end result a b sound looked = record {
   refused = omega (arith, counted_grows result a.refused sound.refused, looked.refused);
   count = (sound_looks end result a b sound looked).refused;
 }
+
+pub image_still : (old new : DiskState) → Still old new → (db : List ℕ) → IsImage new.sector new.tears new.db db → IsImage old.sector old.tears old.db db
+image_still old new still db image = subst (λ (n : ℕ). IsImage n old.tears old.db db) still.sector (subst (λ (b : Bool). IsImage new.sector b old.db db) still.tears (subst (λ (s : FileState). IsImage new.sector new.tears s db) still.db image))
 
 pub present_in : (s t : FileState) (w : List ℕ) → t ≡ s → ArePresent s w → ArePresent t w
 present_in s t w e are = subst (λ (x : FileState). ArePresent x w) (sym e) are

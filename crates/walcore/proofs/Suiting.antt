@@ -7,6 +7,8 @@ use Rattle.crashdisk.specs.declared.file.File.{File}
 use Rattle.crashdisk.specs.declared.error.DiskError.{DiskError}
 use Rattle.crashdisk.proofs.Keeping.{sound_writes, sound_cuts, sound_syncs, sound_looks}
 use Rattle.walcore.specs.Phases.{Suits}
+use Rattle.walcore.specs.Steps.{Still}
+use Rattle.walcore.proofs.Stills.{still_sound}
 
 pub suits_by : (size : ℕ) (old new : DiskState) → Suits size old → IsSoundDisk new → new.sector ≡ old.sector → new.tears ≡ old.tears → Suits size new
 suits_by size old new suits sound sector tears = record {
@@ -15,6 +17,9 @@ suits_by size old new suits sound sector tears = record {
   pages = suits.pages;
   whole = λ tears_pages. suits.whole (sym tears ∙ tears_pages.0, rw sector at tears_pages.1);
 }
+
+pub suits_still : (size : ℕ) (old new : DiskState) → Suits size old → Still old new → Suits size new
+suits_still size old new suits still = suits_by size old new suits (still_sound old new suits.sound still) still.sector still.tears
 
 module _ {T : Type 0} (size : ℕ) where
   pub suits_writes : (f : File) (at : ℕ) (bytes : List ℕ) (result : Result T DiskError) (old new : DiskState) → Suits size old → Writes f at bytes result old new → Suits size new

@@ -1,89 +1,25 @@
 -- While pages are written into the file, what is left shows what it showed.
-use Rattle.std.proofs.Common.{◌≡◌, ◌≢◌, inl, inr, ⊎_elim, ℕ, ◌+◌, ◌-◌, ◌*◌, ◌/◌, ◌<◌, ◌≤◌, Bool, true, cond, List, length, get_or, drop, refl, sym, ◌∙◌, ap, subst, arith, length-drop}
-use Rattle.std.specs.Prelude.{Result, IsTrue, nat_eq}
-use Rattle.std.proofs.lemmas.Bool.{cases_lt, cases_eq}
-use Rattle.std.proofs.lemmas.Bool.Decides.{nat_tests}
-use Rattle.std.proofs.lemmas.List.{get_or_past, length-take-le}
+use Rattle.std.proofs.Common.{◌≡◌, ⊎_elim, ℕ, ◌≤◌, false, List, length, get_or, sym, ◌∙◌, ap, subst, arith}
+use Rattle.std.specs.Prelude.{Result}
 use Rattle.sqval.specs.Database.{Database, page, file_page, IsFile}
 use Rattle.sqwal.specs.Header.{named_size}
-use Rattle.sqwal.specs.Frames.{frame_at, frame_end, size_of, content_of, IsValidFrame, IsCommit, IsFront}
+use Rattle.sqwal.specs.Frames.{size_of, IsValidFrame, IsCommit, IsFront}
 use Rattle.sqwal.specs.View.{Unnamed, IsLast, IsView}
-use Rattle.sqwal.proofs.Same.{frame_at-end}
-use Rattle.sqwal.proofs.Views.{front_unique, named_or_not}
-use Rattle.crashdisk.specs.State.{FileState, byte, IsImage, IsSound, Meets, IsSettled}
-use Rattle.crashdisk.specs.Call.{DiskState, Writes, Cuts, Syncs, Looks}
-use Rattle.crashdisk.specs.Facts.{IsSteady, Spreads, IsClear}
+use Rattle.sqwal.proofs.Views.{front_unique}
+use Rattle.crashdisk.specs.State.{byte, IsImage, IsSettled}
+use Rattle.crashdisk.specs.Call.{DiskState, Syncs}
 use Rattle.crashdisk.specs.declared.file.File.{File}
-use Rattle.crashdisk.specs.declared.file.File.TheVariants.{Db}
 use Rattle.crashdisk.specs.declared.error.DiskError.{DiskError}
-use Rattle.crashdisk.proofs.Images.{table, length-table, get_or-table}
+use Rattle.crashdisk.proofs.Images.{table}
 use Rattle.crashdisk.proofs.Fixed.{image_present}
 use Rattle.crashdisk.proofs.Settled.{settled_one}
-use Rattle.crashdisk.proofs.Steps.{steady_writes, steady_cuts, image_looks}
 use Rattle.walcore.specs.Alone.{Show, ShowsAlone}
-use Rattle.walcore.specs.Folding.{IsLogDown, IsJust}
-use Rattle.walcore.specs.Phases.{Suits, Scanning, Writing, Filed}
-use Rattle.walcore.proofs.Pages.{AreWhole, page_at, page_apart, page_within, sector_some, size_some, are_whole, page_sector, page_clear, cut_clear, length-file_page, get_or-file_page, page_by_bytes, file_count}
-use Rattle.walcore.proofs.Suiting.{suits_looks, suits_syncs, suits_writes, suits_cuts}
-use Rattle.walcore.proofs.Down.{present_image, shows_by, down_one, down_looks, down_writes, down_cuts, down_syncs, file_syncs}
-
--- ---- On a disk that tears, a sector with a steady byte wasn't touched.
-
-module _ (sector : ℕ) (s : FileState) (k b : ℕ) where
-  -- the sector has this byte everywhere
-  value : ℕ → ℕ
-  value i = cond (nat_eq (i / sector) k) b (s.present i)
-
-  value_in : (i : ℕ) → i / sector ≡ k → value i ≡ b
-  unfolding value
-  value_in i e = grind (arith, nat_tests)
-
-  value_out : (i : ℕ) → i / sector ≢ k → value i ≡ s.present i
-  unfolding value
-  value_out i ne = grind (arith, nat_tests)
-
-  torn_image : IsSound sector s → 0 < length (s.earlier k) → b < 256 → IsImage sector true s (table s.greatest value)
-  torn_image sound touched is_byte = record {
-    least = omega (arith, length-table s.greatest value, sound.least, sound.greatest);
-    greatest = omega (arith, length-table s.greatest value);
-    each = λ j. ⊎_elim
-        (λ e. inr (inr (
-          refl,
-          subst (λ (x : ℕ). 0 < length (s.earlier x)) (sym e) touched,
-          λ i at. ⊎_elim
-              (λ lt. subst (λ (x : ℕ). x < 256) (sym (get_or-table s.greatest value i lt ∙ value_in i (at ∙ e))) is_byte)
-              (λ past. subst (λ (x : ℕ). x < 256) (sym (get_or_past (table s.greatest value) i 0 (omega (arith, length-table s.greatest value)))) (omega arith))
-              (cases_lt i s.greatest),
-        )))
-        (λ ne. inl (λ i at lt. get_or-table s.greatest value i (omega (arith, length-table s.greatest value)) ∙ value_out i (λ e. ne (sym at ∙ e))))
-        (cases_eq j k);
-  }
-
-  torn_byte : (i : ℕ) → i / sector ≡ k → i < s.greatest → get_or (table s.greatest value) i 0 ≡ b
-  torn_byte i e lt = get_or-table s.greatest value i lt ∙ value_in i e
-
-untouched : (sector : ℕ) (s : FileState) (i b : ℕ) → IsSound sector s → IsSteady sector true s i b → i < s.greatest → 0 < length (s.earlier (i / sector)) → ⊥
-untouched sector s i b sound steady lt touched =
-    let k : ℕ = i / sector in
-    let zero_is : 0 ≡ b = sym (torn_byte sector s k 0 i refl lt) ∙ steady (table s.greatest (value sector s k 0)) (torn_image sector s k 0 sound touched (omega arith)) in
-    let one_is : 1 ≡ b = sym (torn_byte sector s k 1 i refl lt) ∙ steady (table s.greatest (value sector s k 1)) (torn_image sector s k 1 sound touched (omega arith)) in
-    omega arith
-
-whole_pages : (size : ℕ) (s : DiskState) → Suits size s → IsTrue s.tears → AreWhole size s.sector
-whole_pages size s suits torn = are_whole size s.sector suits.pages suits.sectors (⊎_elim (λ lt. absurd (suits.whole (torn, lt))) (λ ge. ge) (cases_lt size s.sector))
-
--- the places of a page whose bytes are all steady are clear
-page_is_clear : (size : ℕ) (s : DiskState) (p : ℕ) (c : List ℕ) → Suits size s → 1 ≤ p → ((i : ℕ) → i < size → IsSteady s.sector s.tears s.db (page_at size p + i) (get_or c i 0))
-    → (i : ℕ) → i < size → IsClear s.sector s.tears s.db (page_at size p + i)
-page_is_clear size s p c suits some steady i lt torn far touched =
-    let meets = suits.sound.db.touched ((page_at size p + i) / s.sector) touched in
-    let j : ℕ = meets.0 in
-    let in_page = page_sector size s.sector p j (page_at size p + i) (whole_pages size s suits torn) (omega (arith, sector_some s.sector suits.sectors)) some (omega arith) (omega arith) (sym meets.3) in
-    let place : page_at size p + (j - page_at size p) ≡ j = omega (arith, in_page.0) in
-    let there : IsSteady s.sector s.tears s.db (page_at size p + (j - page_at size p)) (get_or c (j - page_at size p) 0) = steady (j - page_at size p) (omega (arith, in_page.0, in_page.1)) in
-    untouched s.sector s.db j (get_or c (j - page_at size p) 0) suits.sound.db
-    (subst (λ (t : Bool). IsSteady s.sector t s.db j (get_or c (j - page_at size p) 0)) torn (subst (λ (x : ℕ). IsSteady s.sector s.tears s.db x (get_or c (j - page_at size p) 0)) place there))
-    meets.2 (subst (λ (x : ℕ). 0 < length (s.db.earlier x)) (sym meets.3) touched)
+use Rattle.walcore.specs.Folding.{IsJust}
+use Rattle.walcore.specs.Phases.{Scanning, Filling, Writing, Filed}
+use Rattle.walcore.specs.Steps.{KeepsLog}
+use Rattle.walcore.proofs.Pages.{size_some, length-file_page, get_or-file_page, file_count}
+use Rattle.walcore.proofs.Filling.{filling_syncs, filling_other}
+use Rattle.walcore.proofs.Down.{shows_by, down_one, down_by, down_syncs}
 
 module _ (size : ℕ) (w : List ℕ) (m : ℕ) (d : Database) where
   -- so it begins
@@ -93,112 +29,66 @@ module _ (size : ℕ) (w : List ℕ) (m : ℕ) (d : Database) where
       let image : IsImage s.sector s.tears s.db now = image_present s.sector s.tears s.db is.suits.sound.db in
       let named : named_size w ≡ size = (is.shows now image m front).0 some in
       let view : IsView size now w m d = (is.shows now image m front).1 in
+      let here : IsFront size w m = subst (λ (z : ℕ). IsFront z w m) named front in
       record {
-        suits = is.suits;
+        file = record {
+          suits = is.suits;
+          valid = let valid : IsValidFrame size w m × IsCommit size w m = ⊎_elim (λ z. absurd (omega (arith, some))) (λ v. v) here.is in valid.0;
+          count = view.some some;
+          logged = view.over.logged;
+          full = λ p a b un. ap length (view.over.other p a b un) ∙ length-file_page size now p;
+          steady = λ p i a b un lt x image_x. sym (get_or-file_page size x p i lt) ∙ ap (λ c. get_or c i 0) (sym (((is.shows x image_x m front).1).over.other p a b un));
+        };
         down = is.down;
-        some = some;
-        front = subst (λ (z : ℕ). IsFront z w m) named front;
+        front = here;
         named = named;
-        count = view.some some;
-        logged = view.over.logged;
-        full = λ p a b un. ap length (view.over.other p a b un) ∙ length-file_page size now p;
-        steady = λ p i a b un lt x image_x. sym (get_or-file_page size x p i lt) ∙ ap (λ c. get_or c i 0) (sym (((is.shows x image_x m front).1).over.other p a b un));
       }
 
   -- the log at its front with a file whose other pages are the view's
-  pub show_by : (s : DiskState) → Writing size w m d s → (db : List ℕ) → ((p : ℕ) → 1 ≤ p → p ≤ length d → Unnamed size w m p → page d p ≡ file_page size db p) → Show size db w d
+  show_by : (s : DiskState) → Writing size w m d s → (db : List ℕ) → ((p : ℕ) → 1 ≤ p → p ≤ length d → Unnamed size w m p → page d p ≡ file_page size db p) → Show size db w d
   show_by s is db other k front =
       let at : k ≡ m = front_unique size w k m (subst (λ (z : ℕ). IsFront z w k) is.named front) is.front in (
         λ some. is.named,
         record {
-          none = λ z. absurd (omega (arith, is.some));
-          some = λ some. is.count ∙ ap (size_of size w) (sym at);
+          none = λ z. absurd (omega (arith, is.file.valid.first));
+          some = λ some. is.file.count ∙ ap (size_of size w) (sym at);
           over = record {
-            logged = λ p i a b last. is.logged p i a b (subst (λ (j : ℕ). IsLast size w j p i) at last);
+            logged = λ p i a b last. is.file.logged p i a b (subst (λ (j : ℕ). IsLast size w j p i) at last);
             other = λ p a b un. other p a b (subst (λ (j : ℕ). Unnamed size w j p) at un);
           };
         },
       )
 
   pub writing_shows : (s : DiskState) → Writing size w m d s → ShowsAlone size d s
-  writing_shows s is = shows_by size d s is.suits.sound (λ v. v ≡ w)
+  writing_shows s is = shows_by size d s is.file.suits.sound (λ v. v ≡ w)
       (λ v left. down_one w s is.down s.sector s.tears v left.image)
-      (λ v are. down_one w s is.down s.sector s.tears v (present_image s.sector s.tears s.log v is.suits.sound.log are))
-      (λ db v image e. subst (λ (x : List ℕ). Show size db x d) (sym e)
-      (show_by s is db (λ p a b un. page_by_bytes size db p (page d p) (is.full p a b un) (λ i lt. is.steady p i a b un lt db image))))
+      (λ v image. down_one w s is.down s.sector false v image)
+      (λ db v image e. subst (λ (x : List ℕ). Show size db x d) (sym e) (show_by s is db (filling_other size w m d s db is.file image)))
 
-  pub writing_by : (old new : DiskState) → Writing size w m d old → Suits size new → IsLogDown new w
-      → ((p i : ℕ) → 1 ≤ p → p ≤ length d → Unnamed size w m p → i < size → IsSteady new.sector new.tears new.db (page_at size p + i) (get_or (page d p) i 0)) → Writing size w m d new
-  writing_by old new is suits down steady = record {
-    suits = suits;
-    down = down;
-    some = is.some;
+  -- the file is written, and the log is left alone
+  pub writing_keeps : (old new : DiskState) → Writing size w m d old → KeepsLog old new → Filling size w m d new → Writing size w m d new
+  writing_keeps old new is keeps file = record {
+    file = file;
+    down = down_by w old new is.down keeps.log keeps.tears keeps.kept keeps.handed;
     front = is.front;
     named = is.named;
-    count = is.count;
-    logged = is.logged;
-    full = is.full;
-    steady = steady;
   }
 
-  pub writing_looks : {T : Type 0} (end : ℕ) (result : Result T DiskError) (old new : DiskState) → Writing size w m d old → Looks end result old new → Writing size w m d new
-  writing_looks end result old new is looked = writing_by old new is (suits_looks size end result old new is.suits looked) (down_looks w end result old new is.down looked)
-      (λ p i a b un lt db image. is.steady p i a b un lt db (image_looks Db end result old new looked db image))
-
   pub writing_syncs : {T : Type 0} (f : File) (result : Result T DiskError) (old new : DiskState) → Writing size w m d old → Syncs f result old new → Writing size w m d new
-  writing_syncs f result old new is synced = writing_by old new is (suits_syncs size f result old new is.suits synced) (down_syncs w f result old new is.suits.sound is.down synced)
-      (λ p i a b un lt db image. is.steady p i a b un lt db (file_syncs f result old new is.suits.sound synced db image))
-
-  clear : (s : DiskState) → Writing size w m d s → (p i : ℕ) → 1 ≤ p → p ≤ length d → Unnamed size w m p → i < size → IsClear s.sector s.tears s.db (page_at size p + i)
-  clear s is p i a b un lt = page_is_clear size s p (page d p) is.suits a (λ j lt_j. is.steady p j a b un lt_j) i lt
-
-  -- a page that a frame names is written
-  pub writing_writes : {T : Type 0} (q : ℕ) (bytes : List ℕ) (result : Result T DiskError) (old new : DiskState) → Writing size w m d old → 1 ≤ q → (Unnamed size w m q → ⊥) → length bytes ≡ size
-      → Writes Db ((q - 1) * size) bytes result old new → Writing size w m d new
-  writing_writes q bytes result old new is one named full wrote = writing_by old new is (suits_writes size Db (page_at size q) bytes result old new is.suits wrote)
-      (down_writes w (page_at size q) bytes result old new is.down wrote)
-      (λ p i a b un lt.
-      let ne : p ≢ q = λ e. named (subst (λ (k : ℕ). Unnamed size w m k) e un) in
-      steady_writes Db (page_at size q) bytes result old new (page_at size p + i) (get_or (page d p) i 0) is.suits.sound.db wrote (is.steady p i a b un lt)
-      (λ spreads.
-      let in_q = page_clear size old.sector q (page_at size p + i) old.tears (whole_pages size old is.suits) (omega (arith, sector_some old.sector is.suits.sectors)) one
-      (subst (λ (k : ℕ). Spreads old.sector old.tears (page_at size q) (page_at size q + k) (page_at size p + i)) full spreads) in
-      page_apart size p q (page_at size p + i) a one ne (omega arith) (omega arith) in_q.0 in_q.1)
-      (clear old is p i a b un lt))
-
-  -- the length is set
-  pub writing_cuts : {T : Type 0} (n : ℕ) (result : Result T DiskError) (old new : DiskState) → Writing size w m d old → n ≡ size_of size w m * size → Cuts Db n result old new → Writing size w m d new
-  writing_cuts n result old new is long cut =
-      let end : n ≡ length d * size = long ∙ ap (λ k. k * size) (sym is.count) in
-      writing_by old new is (suits_cuts size Db n result old new is.suits cut) (down_cuts w n result old new is.down cut)
-      (λ p i a b un lt.
-      let below : page_at size p + i < length d * size = page_within size p (length d) i a b lt in
-      steady_cuts Db n result old new (page_at size p + i) (get_or (page d p) i 0) is.suits.sound.db cut (is.steady p i a b un lt)
-      (λ past. absurd (omega arith))
-      (λ torn meets. cut_clear size old.sector (length d) (page_at size p + i) old.db.len (whole_pages size old is.suits torn) (omega (arith, sector_some old.sector is.suits.sectors)) below
-      (subst (λ (k : ℕ). Meets old.sector k old.db.len ((page_at size p + i) / old.sector)) end meets))
-      (clear old is p i a b un lt))
-
-  pub content_length : (s : DiskState) → Writing size w m d s → (i : ℕ) → 1 ≤ i → i ≤ m → length (content_of size w i) ≡ size
-  content_length s is i a b =
-      let valid : IsValidFrame size w m × IsCommit size w m = ⊎_elim (λ z. absurd (omega (arith, is.some))) (λ v. v) is.front.is in
-      let whole : frame_end size i ≤ length w = (valid.0.each i a b).whole in
-      let end : frame_at size i + 24 + size ≡ frame_end size i = frame_at-end size i a in
-      length-take-le size (drop (frame_at size i + 24) w) (omega (arith, length-drop (frame_at size i + 24) w))
-
-  pub page_length : (s : DiskState) → Writing size w m d s → (p : ℕ) → 1 ≤ p → p ≤ length d → length (page d p) ≡ size
-  page_length s is p a b = ⊎_elim
-      (λ un. is.full p a b un)
-      (λ last. ap length (is.logged p last.0 a b last.1) ∙ content_length s is last.0 last.1.first last.1.within)
-      (named_or_not size w m p)
+  writing_syncs f result old new is synced = record {
+    file = filling_syncs size w m d f result old new is.file synced;
+    down = down_syncs w f result old new is.file.suits.sound is.down synced;
+    front = is.front;
+    named = is.named;
+  }
 
   -- The file has all pages, once it is down and just the view.
   pub filed_written : (s : DiskState) (bytes : List ℕ) → Writing size w m d s → IsSettled s.db bytes → IsJust size d bytes → Filed size d w s
   filed_written s bytes is settled just = record {
-    suits = is.suits;
+    suits = is.file.suits;
     down = is.down;
     of_size = λ header. is.named;
     repeats = λ db file. show_by s is db (λ p a b un. file.each p a b);
     file = λ db image. subst (λ (x : List ℕ). IsFile size x d) (sym (settled_one s.db bytes settled s.sector s.tears db image))
-        (record { count = file_count size bytes (length d) (omega (arith, size_some size is.suits.pages)) just.long; each = just.each });
+        (record { count = file_count size bytes (length d) (omega (arith, size_some size is.file.suits.pages)) just.long; each = just.each });
   }

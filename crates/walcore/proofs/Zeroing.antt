@@ -43,7 +43,7 @@ module _ (size : ℕ) (d : Database) (w : List ℕ) where
       (λ torn. is.torn torn v (subst (λ (t : Bool). IsImage s.sector t s.log v) torn left.image) (left.whole torn))
       (λ whole. is.listed v (subst (λ (t : Bool). IsImage s.sector t s.log v) whole left.image))
       (tears_or s.tears))
-      (λ v are. is.listed v (present_image s.sector false s.log v is.suits.sound.log are))
+      (λ v image. is.listed v image)
       (λ db v image same. show_left size d db v (is.file db image) (λ valid. subst (λ (x : List ℕ). Show size db x d) (sym (same valid)) (is.repeats db (is.file db image))))
 
   pub zeroing_looks : {T : Type 0} (end : ℕ) (result : Result T DiskError) (old new : DiskState) → Zeroing size d w old → Looks end result old new → Zeroing size d w new

@@ -1,5 +1,5 @@
 -- What the folding of a log into its database does (fileformat2, 4.3).
-use Rattle.std.specs.Prelude.{◌≡◌, ◌≢◌, ◌⊎◌, ℕ, suc, ◌-◌, ◌*◌, ◌^◌, ◌<◌, ◌≤◌, true, List, [], length, Result, Ok, Err}
+use Rattle.std.specs.Prelude.{◌≡◌, ◌≢◌, ◌⊎◌, ℕ, suc, ◌*◌, ◌<◌, ◌≤◌, true, List, [], length, Result, Ok, Err}
 use Rattle.sqval.specs.Database.{Database, page, file_page}
 use Rattle.sqwal.specs.Header.{IsHeader, named_size}
 use Rattle.sqwal.specs.Frames.{size_of, IsValidFrame, IsFront}
@@ -7,7 +7,7 @@ use Rattle.sqwal.specs.View.{IsView}
 use Rattle.sqwal.specs.Refusal.{most_frames}
 use Rattle.crashdisk.specs.State.{IsSettled}
 use Rattle.crashdisk.specs.Call.{DiskState, ArePresent}
-use Rattle.walcore.specs.Refusal.{most_bytes}
+use Rattle.walcore.specs.Refusal.{most_bytes, HasCause}
 use Rattle.walcore.specs.Alone.{ShowsAlone}
 use Rattle.walcore.specs.declared.folding.Folded.{Folded}
 use Rattle.walcore.specs.declared.error.WalError.{WalError}
@@ -33,12 +33,22 @@ IsOfOtherSize size w = IsHeader (named_size w) w × (named_size w ≢ size)
 
 -- a call of the disk was refused, or had been so often that the count stands at its greatest
 abbrev pub HadRefusal : (old new : DiskState) → Type 0
-HadRefusal old new = (old.refused < new.refused) ⊎ (new.refused ≡ 2 ^ 64 - 1)
+HadRefusal old new = HasCause old.refused new.refused
 
 -- no byte has changed
 pub record KeepsBytes (old new : DiskState) : Type 0 where
   pub db : new.db ≡ old.db
   pub log : (bytes : List ℕ) → ArePresent old.log bytes → ArePresent new.log bytes
+
+-- nothing of the log is unsynced
+pub record IsLogDown (s : DiskState) (w : List ℕ) : Type 0 where
+  pub settled : IsSettled s.log w
+  pub kept : s.tears ≡ true → s.kept ≡ w
+  pub handed : s.handed ≡ []
+
+-- a log of no bytes is down
+abbrev pub IsEmptyDown : DiskState → Type 0
+IsEmptyDown s = s.log.len ≡ 0 → IsLogDown s []
 
 -- The log w was folded into the file db. The log is empty and down. With front 0 the file is as it was, and down unless
 -- there was no log; otherwise it is down, and just the view.
@@ -47,7 +57,7 @@ pub record IsFolded (size : ℕ) (db w : List ℕ) (f : Folded) (new : DiskState
   pub none : f.frames ≡ 0 → (f.size ≡ 0) × ArePresent new.db db × (w ≢ [] → IsSettled new.db db)
   pub some : 1 ≤ f.frames → (f.size ≡ size_of size w f.frames) × (named_size w ≡ size)
       × ((d : Database) × IsView size db w f.frames d × ((bytes : List ℕ) × IsSettled new.db bytes × IsJust size d bytes))
-  pub log : IsSettled new.log []
+  pub log : IsLogDown new []
 
 -- what a fold of pages of this size answers, and what it leaves
 abbrev pub FoldAnswer : (size : ℕ) (db w : List ℕ) → Result Folded WalError → (old new : DiskState) → Type 0
@@ -61,16 +71,6 @@ FoldAnswer size db w (Err _) old new = ⊥
 
 abbrev pub Folds : (size : ℕ) → Result Folded WalError → (old new : DiskState) → Type 0
 Folds size result old new = (db w : List ℕ) → ArePresent old.db db → ArePresent old.log w → FoldAnswer size db w result old new
-
--- a log of no bytes is down
-abbrev pub IsEmptyDown : DiskState → Type 0
-IsEmptyDown s = s.log.len ≡ 0 → IsSettled s.log []
-
--- nothing of the log is unsynced
-pub record IsLogDown (s : DiskState) (w : List ℕ) : Type 0 where
-  pub settled : IsSettled s.log w
-  pub kept : s.tears ≡ true → s.kept ≡ w
-  pub handed : s.handed ≡ []
 
 -- where nothing of the log was unsynced, and all that a crash may leave showed one database, it still does
 abbrev pub Agrees : (size : ℕ) (old new : DiskState) → Type 0

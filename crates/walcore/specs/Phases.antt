@@ -37,18 +37,22 @@ pub record Scanning (size : ℕ) (d : Database) (w : List ℕ) (s : DiskState) :
   pub down : IsLogDown s w
   pub shows : (db : List ℕ) → IsImage s.sector s.tears s.db db → Show size db w d
 
--- Pages that the frames 1 to m name are written into the file, or its length is set. The other pages stand in each
+-- Pages that the frames 1 to m name are written into the file, or its length is set. The other pages of d stand in each
 -- file that a crash may leave, with zeros past its end.
-pub record Writing (size : ℕ) (w : List ℕ) (m : ℕ) (d : Database) (s : DiskState) : Type 0 where
+pub record Filling (size : ℕ) (w : List ℕ) (m : ℕ) (d : Database) (s : DiskState) : Type 0 where
   pub suits : Suits size s
-  pub down : IsLogDown s w
-  pub some : 1 ≤ m
-  pub front : IsFront size w m
-  pub named : named_size w ≡ size
+  pub valid : IsValidFrame size w m
   pub count : length d ≡ size_of size w m
   pub logged : (p i : ℕ) → 1 ≤ p → p ≤ length d → IsLast size w m p i → page d p ≡ content_of size w i
   pub full : (p : ℕ) → 1 ≤ p → p ≤ length d → Unnamed size w m p → length (page d p) ≡ size
   pub steady : (p i : ℕ) → 1 ≤ p → p ≤ length d → Unnamed size w m p → i < size → IsSteady s.sector s.tears s.db ((p - 1) * size + i) (get_or (page d p) i 0)
+
+-- the same from a log that is down, at its front
+pub record Writing (size : ℕ) (w : List ℕ) (m : ℕ) (d : Database) (s : DiskState) : Type 0 where
+  pub file : Filling size w m d s
+  pub down : IsLogDown s w
+  pub front : IsFront size w m
+  pub named : named_size w ≡ size
 
 -- the file has all pages, and the log is as it was
 pub record Filed (size : ℕ) (d : Database) (w : List ℕ) (s : DiskState) : Type 0 where

@@ -15,10 +15,12 @@ use Rattle.walcore.specs.declared.error.WalError.TheVariants.{TooLarge, PageSize
 unfoldable pub wanted_page : (size count : ℕ) → List ℕ → (i : ℕ) → ℕ
 wanted_page size count w i = cond (nat_le (page_of size w i) count) (page_of size w i) 0
 
--- the frames 1 to m by the pages that they name
+-- The frames 1 to m by the pages that they name, as far as these are pages of 1 to count. The table may have further
+-- frames.
 pub record IsTable (size count : ℕ) (w : List ℕ) (m : ℕ) (t : FrameTable) : Type 0 where
-  pub long : length t.pages ≡ m
-  pub each : (i : ℕ) → 1 ≤ i → i ≤ m → get_or t.pages (i - 1) 0 ≡ wanted_page size count w i
+  pub long : m ≤ length t.pages
+  pub finds : (i p : ℕ) → 1 ≤ i → i ≤ m → 1 ≤ p → p ≤ count → page_of size w i ≡ p → get_or t.pages (i - 1) 0 ≡ p
+  pub found : (i p : ℕ) → 1 ≤ i → i ≤ m → 1 ≤ p → p ≤ count → get_or t.pages (i - 1) 0 ≡ p → page_of size w i ≡ p
 
 -- what the copying of the frames 1 to m stands on
 pub record IsCopy (size count : ℕ) (w : List ℕ) (m : ℕ) (t : FrameTable) : Type 0 where

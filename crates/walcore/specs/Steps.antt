@@ -14,7 +14,7 @@ use Rattle.crashdisk.specs.Call.{DiskState, IsSoundDisk, ArePresent, Writes, Cut
 use Rattle.crashdisk.specs.declared.file.File.{File}
 use Rattle.crashdisk.specs.declared.file.File.TheVariants.{Db, Log}
 use Rattle.crashdisk.specs.declared.error.DiskError.{DiskError}
-use Rattle.walcore.specs.Folding.{HadRefusal, IsFolded}
+use Rattle.walcore.specs.Folding.{HadRefusal, IsFolded, IsLogDown}
 use Rattle.walcore.specs.Phases.{Writing, Filed}
 use Rattle.walcore.specs.declared.folding.Folded.{Folded}
 use Rattle.walcore.specs.declared.error.WalError.{WalError}
@@ -38,6 +38,13 @@ pub record KeepsLog (old new : DiskState) : Type 0 where
   pub log : new.log ≡ old.log
   pub kept : new.kept ≡ old.kept
   pub handed : new.handed ≡ old.handed
+  pub refused : old.refused ≤ new.refused
+  pub sound : IsSoundDisk new
+
+-- The disk is sound, with the same sectors, and its count of refusals hasn't fallen.
+pub record Later (old new : DiskState) : Type 0 where
+  pub sector : new.sector ≡ old.sector
+  pub tears : new.tears ≡ old.tears
   pub refused : old.refused ≤ new.refused
   pub sound : IsSoundDisk new
 
@@ -119,7 +126,7 @@ Copied size w m d s = (Writing size w m d s × ArePages size d s.db) ⊎ Filed s
 
 -- the database is down, and the log is down and empty
 unfoldable pub EndAnswer : {T : Type 0} → Result T WalError → (old new : DiskState) → Type 0
-EndAnswer (Ok _) old new = ((db : List ℕ) → ArePresent old.db db → IsSettled new.db db) × IsSettled new.log []
+EndAnswer (Ok _) old new = ((db : List ℕ) → ArePresent old.db db → IsSettled new.db db) × IsLogDown new []
 EndAnswer (Err e) old new = (e ≡ Device) × HadRefusal old new
 
 -- what is planned was folded

@@ -6,10 +6,11 @@ ghost use Rattle.sqval.specs.Database.{Database};
 ghost use Rattle.sqwal.specs.View.{IsView};
 ghost use Rattle.sqwal.specs.Frames.{IsValidFrame};
 ghost use Rattle.walcore.specs.Refusal.{most_bytes};
-ghost use Rattle.walcore.specs.Steps.{Still, KeepsLog, PageAnswer, CopyAnswer, SyncStep, ZeroSteps, CutSteps, EndAnswer, Copied};
+ghost use Rattle.walcore.specs.Steps.{Still, KeepsLog, Later, PageAnswer, CopyAnswer, SyncStep, ZeroSteps, CutSteps, EndAnswer, Copied};
 ghost use Rattle.walcore.specs.Plans.{IsTable, IsCopy};
-ghost use Rattle.walcore.specs.Phases.{Writing};
+ghost use Rattle.walcore.specs.Phases.{Filling};
 ghost use Rattle.walcore.specs.Alone.{ShowsAlone};
+ghost use Rattle.walcore.specs.Lengths.{IsLong, EndsBy, IsFronted};
 
 use crate::error::WalError;
 use crashdisk::{Disk, File};
@@ -58,10 +59,10 @@ pub fn copy_pages<D: Disk>(
         → (db w : List ℕ) (d : Database) → ArePresent (D.state disk.old).db db → ArePresent (D.state disk.old).log w
         → IsCopy (length page.old) count w frames index.now → length d ≡ count → IsView (length page.old) db w frames d
         → CopyAnswer (length page.old) d result (D.state disk.old) (D.state disk.new) }
-    ensures writing { D.keeps_word disk.old → IsSoundDisk (D.state disk.old)
+    ensures filling { D.keeps_word disk.old → IsSoundDisk (D.state disk.old)
         → (w : List ℕ) (d : Database) → ArePresent (D.state disk.old).log w
         → IsCopy (length page.old) count w frames index.now
-        → Writing (length page.old) w frames d (D.state disk.old) → Writing (length page.old) w frames d (D.state disk.new) }
+        → Filling (length page.old) w frames d (D.state disk.old) → Filling (length page.old) w frames d (D.state disk.new) }
 {
     for k in 0..count {
         copy_page(disk, index, frames, k + 1, page)?;
@@ -102,8 +103,12 @@ pub fn cut_log<D: Disk>(disk: &mut D) -> Result<(), WalError>
 /// Makes the database stay, and then empties the log.
 pub fn finish<D: Disk>(disk: &mut D) -> Result<(), WalError>
     ensures word { D.keeps_word disk.old ↔ D.keeps_word disk.new }
+    ensures later { D.keeps_word disk.old → IsSoundDisk (D.state disk.old) → Later (D.state disk.old) (D.state disk.new) }
     ensures ends { D.keeps_word disk.old → IsSoundDisk (D.state disk.old) → EndAnswer result (D.state disk.old) (D.state disk.new) }
     ensures shows { D.keeps_word disk.old → (size : ℕ) (w : List ℕ) (m : ℕ) (d : Database) → Copied size w m d (D.state disk.old) → ShowsAlone size d (D.state disk.new) }
+    ensures long { D.keeps_word disk.old → IsSoundDisk (D.state disk.old) → (n : ℕ) → IsLong n (D.state disk.old) → IsLong n (D.state disk.new) }
+    ensures lengths { D.keeps_word disk.old → IsSoundDisk (D.state disk.old) → (n : ℕ) (w : List ℕ) (m : ℕ) → (D.state disk.old).db.len ≡ n
+        → IsFronted w m (D.state disk.old) → EndsBy n (D.state disk.new) }
 {
     settle_database(disk)?;
     zero_header(disk)?;

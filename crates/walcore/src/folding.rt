@@ -20,12 +20,13 @@ ghost use Rattle.crashdisk.specs.State.{IsSectorSize};
 ghost use Rattle.sqval.specs.Database.{Database};
 ghost use Rattle.walcore.specs.Alone.{ShowsAlone};
 ghost use Rattle.walcore.specs.Phases.{Scanning, Suits};
-ghost use Rattle.walcore.specs.Steps.{FoldedAnswer};
+ghost use Rattle.walcore.specs.Steps.{FoldedAnswer, Later};
 ghost use Rattle.walcore.specs.Plans.{IsPlan, IsFit};
-ghost use Rattle.walcore.specs.Folding.{Folds, Agrees, IsEmptyDown, TearsPages};
+ghost use Rattle.walcore.specs.Folding.{Folds, Agrees, IsEmptyDown, IsLogDown, TearsPages};
+ghost use Rattle.walcore.specs.Lengths.{EndsBy, IsLengthOf, KeepsLength};
 
 /// On a disk that tears, a sector may hold no more than a page.
-fn judge_sector<D: Disk>(disk: &D, page_size: PageSize) -> Result<(), WalError>
+pub fn judge_sector<D: Disk>(disk: &D, page_size: PageSize) -> Result<(), WalError>
     ensures sound { D.keeps_word disk.now → IsSoundDisk (D.state disk.now) }
     ensures suits { D.keeps_word disk.now → OnOk result (Suits page_size (D.state disk.now)) }
     ensures refused { D.keeps_word disk.now → OnErr result (TearsPages page_size (D.state disk.now)) }
@@ -42,11 +43,14 @@ fn judge_sector<D: Disk>(disk: &D, page_size: PageSize) -> Result<(), WalError>
 fn fold_plan<D: Disk>(disk: &mut D, plan: Plan) -> Result<Folded, WalError>
     requires { length plan.page.items ≤ 65536 }
     ensures word { D.keeps_word disk.old ↔ D.keeps_word disk.new }
+    ensures later { D.keeps_word disk.old → IsSoundDisk (D.state disk.old) → Later (D.state disk.old) (D.state disk.new) }
     ensures folds { D.keeps_word disk.old → IsSoundDisk (D.state disk.old)
         → (size : ℕ) (db w : List ℕ) → ArePresent (D.state disk.old).db db → ArePresent (D.state disk.old).log w → IsPlan size w plan
         → FoldedAnswer size db w result (D.state disk.old) (D.state disk.new) }
     ensures shows { D.keeps_word disk.old → (size : ℕ) (w : List ℕ) (d : Database) → Scanning size d w (D.state disk.old)
         → IsPlan size w plan → IsFit size w → ShowsAlone size d (D.state disk.new) }
+    ensures lengths { D.keeps_word disk.old → IsSoundDisk (D.state disk.old) → (size : ℕ) (w : List ℕ) (n : ℕ) → IsLogDown (D.state disk.old) w
+        → IsPlan size w plan → IsLengthOf size w n (D.state disk.old) → EndsBy n (D.state disk.new) }
 {
     if plan.frames == 0 {
         finish(disk)?;
@@ -69,10 +73,13 @@ fn fold_log<D: Disk>(
     page_size: PageSize,
 ) -> Result<Folded, WalError>
     ensures word { D.keeps_word disk.old ↔ D.keeps_word disk.new }
+    ensures later { D.keeps_word disk.old → IsSoundDisk (D.state disk.old) → Later (D.state disk.old) (D.state disk.new) }
     ensures folds { D.keeps_word disk.old → IsSoundDisk (D.state disk.old) → (TearsPages page_size (D.state disk.old) → ⊥) → (D.state disk.old).log.len ≡ long
         → Folds page_size result (D.state disk.old) (D.state disk.new) }
     ensures shows { D.keeps_word disk.old → (D.state disk.old).log.len ≡ long
         → (w : List ℕ) (d : Database) → Scanning page_size d w (D.state disk.old) → ShowsAlone page_size d (D.state disk.new) }
+    ensures lengths { D.keeps_word disk.old → IsSoundDisk (D.state disk.old) → (D.state disk.old).log.len ≡ long
+        → (w : List ℕ) (n : ℕ) → IsLogDown (D.state disk.old) w → IsLengthOf page_size w n (D.state disk.old) → EndsBy n (D.state disk.new) }
 {
     let plan = read_plan(alloc, disk, long, page_size)?;
     fold_plan(disk, plan)
@@ -83,6 +90,7 @@ pub fn fold<D: Disk>(alloc: Global, disk: &mut D, page_size: PageSize) -> Result
     ensures word { D.keeps_word disk.old ↔ D.keeps_word disk.new }
     ensures folds { D.keeps_word disk.old → Folds page_size result (D.state disk.old) (D.state disk.new) }
     ensures agrees { D.keeps_word disk.old → Agrees page_size (D.state disk.old) (D.state disk.new) }
+    ensures lengths { D.keeps_word disk.old → KeepsLength page_size (D.state disk.old) (D.state disk.new) }
 {
     judge_sector(disk, page_size)?;
     disk.sync(File::Log)?;
@@ -98,6 +106,8 @@ pub fn fold_synced<D: Disk>(
     ensures word { D.keeps_word disk.old ↔ D.keeps_word disk.new }
     ensures folds { D.keeps_word disk.old → IsEmptyDown (D.state disk.old) → Folds page_size result (D.state disk.old) (D.state disk.new) }
     ensures agrees { D.keeps_word disk.old → Agrees page_size (D.state disk.old) (D.state disk.new) }
+    ensures lengths { D.keeps_word disk.old → KeepsLength page_size (D.state disk.old) (D.state disk.new) }
+    ensures later { D.keeps_word disk.old → Later (D.state disk.old) (D.state disk.new) }
 {
     judge_sector(disk, page_size)?;
     let long = disk.len(File::Log)?;

@@ -1,13 +1,34 @@
 //! The engine over a write-ahead log.
 #![tactic(auto)]
 
+mod checkpoints;
+#[cfg(test)]
+mod commit_tests;
+mod commits;
 mod copying;
 mod error;
+mod faults;
 mod folding;
+mod frames;
+mod laws;
+mod logs;
+mod opening;
+mod paging;
 mod plan;
+mod reader;
 mod reading;
+mod restarts;
+mod state;
+mod syncs;
 #[cfg(test)]
 mod tests;
+mod wal;
+mod worked;
 
 pub use error::WalError;
 pub use folding::{Folded, fold, fold_synced};
+pub use laws::{one_step, runs_are_sane, what_is_down_stays};
+pub use logs::logs_are_determined;
+pub use reader::Reader;
+pub use wal::{Checkpointed, Refused, Wal};
+pub use worked::{crashes_lose_what_is_not_down, no_runs, readers_are_waited_for};

@@ -76,10 +76,12 @@ fn wanted(scan: &Scan, frame: usize, size: u32) -> u32
 }
 
 /// Makes room for the frames of a log and the pages of its database.
-fn grow(index: &mut FrameIndex, bound: u32, frames: u32) -> Result<(), WalError>
+pub fn grow(index: &mut FrameIndex, bound: u32, frames: u32) -> Result<(), WalError>
     ensures pages { index.new.pages ≡ index.old.pages }
     ensures bound { OnOk result (bound ≤ index.new.bound) }
     ensures room { OnOk result (frames ≤ index.new.room) }
+    ensures wider { index.old.bound ≤ index.new.bound }
+    ensures longer { index.old.room ≤ index.new.room }
     ensures memory { OnErr result (result ≡ Err WalError.NoMemory) }
 {
     match index.grow(bound, frames) {

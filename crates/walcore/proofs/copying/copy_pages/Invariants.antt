@@ -4,7 +4,7 @@ use Rattle.sqval.specs.Database.{Database}
 use Rattle.sqwal.specs.View.{IsView}
 use Rattle.walcore.specs.Steps.{KeepsLog}
 use Rattle.walcore.specs.Plans.{IsCopy}
-use Rattle.walcore.specs.Phases.{Writing}
+use Rattle.walcore.specs.Phases.{Filling}
 use Rattle.walcore.proofs.Copies.{Upto}
 use Rattle.walcore.proofs.copying.copy_pages.Given as goal
 
@@ -15,6 +15,6 @@ invariant-loop-k g l = record {
   pages : g.D.Disk.keeps_word l.initial.disk → IsSoundDisk (g.D.Disk.state l.initial.disk) → (db w : List ℕ) (d : Database)
       → ArePresent (g.D.Disk.state l.initial.disk).db db → ArePresent (g.D.Disk.state l.initial.disk).log w → IsCopy (length l.initial.page) l.count w l.frames l.index → length d ≡ l.count
       → IsView (length l.initial.page) db w l.frames d → Upto (length l.initial.page) d (g.D.Disk.state l.initial.disk) l.k (g.D.Disk.state l.disk);
-  writing : g.D.Disk.keeps_word l.initial.disk → IsSoundDisk (g.D.Disk.state l.initial.disk) → (w : List ℕ) (d : Database) → ArePresent (g.D.Disk.state l.initial.disk).log w
-      → IsCopy (length l.initial.page) l.count w l.frames l.index → Writing (length l.initial.page) w l.frames d (g.D.Disk.state l.initial.disk) → Writing (length l.initial.page) w l.frames d (g.D.Disk.state l.disk);
+  filling : g.D.Disk.keeps_word l.initial.disk → IsSoundDisk (g.D.Disk.state l.initial.disk) → (w : List ℕ) (d : Database) → ArePresent (g.D.Disk.state l.initial.disk).log w
+      → IsCopy (length l.initial.page) l.count w l.frames l.index → Filling (length l.initial.page) w l.frames d (g.D.Disk.state l.initial.disk) → Filling (length l.initial.page) w l.frames d (g.D.Disk.state l.disk);
 }

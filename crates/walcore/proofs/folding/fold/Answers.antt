@@ -2,6 +2,8 @@ use Rattle.crashdisk.specs.declared.file.File.TheVariants.{Log}
 use Rattle.walcore.proofs.Recovering.{fold_after, empty_down}
 use Rattle.walcore.proofs.Looking.{scanning_shows, scanning_syncs}
 use Rattle.walcore.proofs.Agreeing.{agrees_by}
+use Rattle.walcore.proofs.Down.{down_syncs}
+use Rattle.walcore.proofs.Lengths.{ends_down, length_syncs}
 use Rattle.walcore.proofs.folding.fold.Goals as goal
 
 pub returns-in_err-sync-clause-agrees : goal.returns-in_err-sync-clause-agrees
@@ -22,3 +24,18 @@ returns-clause-agrees g c = λ word.
     (λ w d scanning.
     let synced = scanning_syncs c.args.page_size d w Log c.sync.result _ _ scanning (c.sync.ensures.state word) in
     c.fold_synced.ensures.agrees (c.sync.ensures.word.0 word) w d synced.down (scanning_shows c.args.page_size d w _ synced))
+
+pub returns-in_err-judge_sector-clause-lengths : goal.returns-in_err-judge_sector-clause-lengths
+returns-in_err-judge_sector-clause-lengths g c = λ word w n down len. ends_down n w _ down len.none
+
+pub returns-in_err-sync-clause-lengths : goal.returns-in_err-sync-clause-lengths
+returns-in_err-sync-clause-lengths g c = λ word w n down len.
+    let suits = c.in_ok-judge_sector.ensures.suits word in
+    let synced = c.sync.ensures.state word in
+    ends_down n w _ (down_syncs w Log c.sync.result _ _ suits.sound down synced) (length_syncs c.args.page_size w n Log c.sync.result _ _ suits.sound synced len).none
+
+pub returns-clause-lengths : goal.returns-clause-lengths
+returns-clause-lengths g c = λ word w n down len.
+    let suits = c.in_ok-judge_sector.ensures.suits word in
+    let synced = c.sync.ensures.state word in
+    c.fold_synced.ensures.lengths (c.sync.ensures.word.0 word) w n (down_syncs w Log c.sync.result _ _ suits.sound down synced) (length_syncs c.args.page_size w n Log c.sync.result _ _ suits.sound synced len)

@@ -1,0 +1,81 @@
+-- The frames of a commit, one after another.
+use Rattle.std.proofs.Common.{◌≡◌, ℕ, suc, ◌+◌, ◌^◌, ◌<◌, ◌≤◌, cond, List, [], length, get_or, refl, sym, ◌∙◌, ap, subst, arith, Bor}
+use Rattle.std.specs.Prelude.{◌==◌, Result, Ok, Err}
+use Rattle.std.proofs.Math.Pow.{pow_mono}
+use Rattle.std.proofs.lemmas.List.{get_or-map}
+use Rattle.crashdisk.specs.Call.{DiskState, IsSoundDisk}
+use Rattle.crashdisk.proofs.Keeping.{sound_writes}
+use Rattle.crashdisk.specs.declared.file.File.TheVariants.{Log}
+use Rattle.crashdisk.proofs.Steps.{counted_grows}
+use Rattle.sqval.specs.PageSize.{IsPageSize}
+use Rattle.sqwal.specs.Frames.{page_of, size_of, content_of}
+use Rattle.sqwal.specs.Log.{IsLog}
+use Rattle.sqwal.specs.Refusal.{most_frames}
+use Rattle.walcore.specs.Made.{IsExtended}
+use Rattle.walcore.specs.Judged.{lent}
+use Rattle.walcore.specs.Standing.{Stands}
+use Rattle.walcore.specs.Going.{KeepsCore, FrameStep, KnowsLog, Going, FramesAnswer}
+use Rattle.walcore.specs.declared.state.Core.{Core}
+use Rattle.walcore.specs.declared.error.WalError.{WalError}
+use Rattle.walcore.proofs.Numbers.{lent_length}
+use Rattle.walcore.proofs.Stills.{refusal_after}
+use Rattle.walcore.proofs.Going.{IsFrameAt, Reaches, frame_known, frame_refused, frame_stands}
+
+pub size_most : (size : ℕ) → IsPageSize size → size ≤ 65536
+size_most size is = let m : 2 ^ is.0 ≤ 2 ^ 16 = pow_mono is.2 in omega (arith, is.3)
+
+pub going_none : (size : ℕ) (f : List ℕ) (m n : ℕ) (s : DiskState) → IsSoundDisk s → Going size f m n s s
+going_none size f m n s sound = record { refused = omega arith; sound = sound; sector = refl; tears = refl; stands = λ logs h index mark d c stands untorn le. stands }
+
+-- the frame of page k of a commit
+module _ (start core next : Core) (s t u : DiskState) (pages : List (ℕ × Bor (List ℕ))) (count k : ℕ) (x : ℕ × Bor (List ℕ)) (keeps : KeepsCore start core) (headed : core.header.page_size ≡ core.page_size) (lt : k < length pages)
+    (page size : ℕ) (content : List ℕ) (page_is : page ≡ (get_or pages k x).0) (size_is : size ≡ cond (suc k == length pages) count 0) (content_is : content ≡ (get_or pages k x).1.now)
+    (e f : List ℕ) (n : ℕ) (more : IsExtended start.page_size e n (lent pages) count f) (few : n + length (lent pages) ≤ most_frames)
+    (going : Going start.page_size f (n + length (lent pages)) n s t) (knows : KnowsLog f (n + k) core t) where
+  place : n + suc k ≡ suc (n + k)
+  place = omega arith
+
+  within : k < length (lent pages)
+  within = omega (arith, lent_length pages)
+
+  lent_at : get_or {A = ℕ × List ℕ} (lent pages) k (0, []) ≡ ((get_or pages k x).0, (get_or pages k x).1.now)
+  lent_at = get_or-map (λ p. (p.0, p.1.now)) pages k x (0, []) lt
+
+  here : IsFrameAt start.page_size f (suc (n + k)) page size content
+  here = record {
+    page_is = ap (page_of start.page_size f) (sym place) ∙ more.page k within ∙ ap (λ (p : ℕ × List ℕ). p.0) lent_at ∙ sym page_is;
+    size_is = ap (size_of start.page_size f) (sym place) ∙ more.sizes k within ∙ ap (λ (j : ℕ). cond (suc k == j) count 0) (lent_length pages) ∙ sym size_is;
+    content_is = ap (content_of start.page_size f) (sym place) ∙ more.content k within ∙ ap (λ (p : ℕ × List ℕ). p.1) lent_at ∙ sym content_is;
+  }
+
+  at : IsFrameAt core.page_size f (suc (n + k)) page size content
+  at = subst (λ (z : ℕ). IsFrameAt z f (suc (n + k)) page size content) (sym keeps.page_size) here
+
+  reaches : Reaches f (n + length (lent pages)) (n + k) core t
+  reaches = record { log = subst (λ (z : ℕ). IsLog z f (n + length (lent pages))) (sym keeps.page_size) more.log; bytes = more.bytes; most = few; knows = knows }
+
+  module _ {T : Type 0} (result : Result T WalError) (step : FrameStep page size content result core next t u) where
+    later : Going start.page_size f (n + length (lent pages)) n s u
+    later = record {
+      refused = omega (arith, going.refused, counted_grows step.called t.refused going.sound.refused, step.wrote.elsewhere.refused);
+      sound = sound_writes Log _ _ step.called t u going.sound step.wrote;
+      sector = step.wrote.elsewhere.sector ∙ going.sector;
+      tears = step.wrote.elsewhere.tears ∙ going.tears;
+      stands = λ logs h index mark d c stands untorn le.
+          let was = going.stands logs h index mark d c stands untorn le in
+          let was_core = subst (λ (z : ℕ). Stands z logs f (n + length (lent pages)) h index mark d c t) (sym keeps.page_size) was in
+          subst (λ (z : ℕ). Stands z logs f (n + length (lent pages)) h index mark d c u) keeps.page_size
+          (frame_stands f (n + length (lent pages)) (n + k) core next t u reaches (omega (arith, within)) going.sound page size content at headed result step logs h index mark d c was_core (going.tears ∙ untorn) (omega arith));
+    }
+
+    pub frames_on : (v : T) → result ≡ Ok v → KeepsCore core next → page ≤ core.index.bound → Going start.page_size f (n + length (lent pages)) n s u × KnowsLog f (n + (k + 1)) next u
+    frames_on v is keeps_next low = (
+      later,
+      subst (λ (i : ℕ). KnowsLog f i next u) (let z : suc (n + k) ≡ n + (k + 1) = omega arith in z)
+          (frame_known f (n + length (lent pages)) (n + k) core next t u reaches (omega (arith, within)) going.sound page size content at headed result step v is keeps_next low),
+    )
+
+    pub frames_off : {V : Type 0} → (err : WalError) (r : Result V WalError) → result ≡ Err err → r ≡ Err err → FramesAnswer start.page_size f (n + length (lent pages)) n r next s u
+    frames_off {V = V} err r is same =
+        let had = frame_refused f (n + length (lent pages)) (n + k) core next t u reaches (omega (arith, within)) going.sound page size content at headed result step err is (omega (arith, size_most start.page_size more.log.header.is_size, keeps.page_size)) in
+        subst (λ (q : Result V WalError). FramesAnswer start.page_size f (n + length (lent pages)) n q next s u) (sym same) (later, had.0, refusal_after s t u going.refused had.1)

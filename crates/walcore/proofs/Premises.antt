@@ -1,0 +1,22 @@
+-- The premises on a run can be met.
+use Rattle.std.proofs.Common.{ℕ, List, [], refl, arith}
+use Rattle.std.specs.List.{Contains}
+use Rattle.walcore.specs.Answers.{Answer}
+use Rattle.walcore.specs.Machine.{Opens}
+use Rattle.walcore.specs.Made.{NoChance}
+use Rattle.walcore.specs.Making.{Permits, nothing}
+
+pub made_passes : (logs : List (List ℕ)) (e : List ℕ) → Contains logs e → NoChance logs e
+made_passes logs e has = record {
+  header = λ h. (e, has, refl);
+  frame = λ i v. (e, has, (v.each i v.first (omega arith)).whole, refl);
+}
+
+pub first_permits : (salts : ℕ × ℕ) (db : List ℕ) (answer : Answer) → Permits nothing (Opens salts (record { db = db; log = [] })) answer
+first_permits salts db answer = (
+  record {
+    header = λ h. absurd (let w = h.whole in omega arith);
+    frame = λ i v. absurd (let w = (v.each i v.first (omega arith)).header.whole in omega arith);
+  },
+  λ e has a b. absurd (let lt = has.1 in omega arith),
+)

@@ -1,0 +1,6 @@
+use Rattle.std.proofs.Common.{take}
+use Rattle.walcore.specs.Bringing.{IsLeast}
+use Rattle.walcore.proofs.checkpoints.least_mark.Given as goal
+
+abbrev pub invariant-loop-mark : goal.invariant-loop-mark
+invariant-loop-mark l = IsLeast (take l.mark-index l.marks) l.newest l.least

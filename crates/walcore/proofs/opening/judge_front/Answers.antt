@@ -1,0 +1,41 @@
+use Rattle.std.proofs.Common.{inr, refl, sym, ◌∙◌}
+use Rattle.walcore.specs.declared.error.WalError.TheVariants.{Device}
+use Rattle.walcore.proofs.Stills.{passed, present_in, still_looks, still_sound, still_then}
+use Rattle.walcore.proofs.Recovering.{fits_still, read_plans}
+use Rattle.walcore.proofs.Lengths.{front_none}
+use Rattle.walcore.proofs.Files.{front_unlooked, front_unread}
+use Rattle.walcore.proofs.opening.judge_front.Goals as goal
+
+pub returns-in_err-long-clause-judged : goal.returns-in_err-long-clause-judged
+returns-in_err-long-clause-judged g c = λ word sound fits w are.
+    front_unlooked c.args.page_size w c.args.fault c.len.result _ c.from_residual.result (g.D.Disk.state c.args.disk.now) (g.D.Disk.state c.len.new.self) sound fits c.in_err-long.was (passed c.from_residual.result Device c.from_residual.ensures.1) (c.len.ensures.state word)
+
+pub returns-in_err-plan-clause-still : goal.returns-in_err-plan-clause-still
+returns-in_err-plan-clause-still g c = λ word sound.
+    let is = still_looks _ c.len.result _ _ sound (c.len.ensures.state word) in
+    still_then (g.D.Disk.state c.args.disk.now) (g.D.Disk.state c.len.new.self) (g.D.Disk.state c.read_plan.new.disk) is (c.read_plan.ensures.still (c.len.ensures.word.0 word) (still_sound _ _ sound is))
+
+pub returns-in_err-plan-clause-judged : goal.returns-in_err-plan-clause-judged
+returns-in_err-plan-clause-judged g c = λ word sound fits w are.
+    let is = still_looks _ c.len.result _ _ sound (c.len.ensures.state word) in
+    let next = c.len.ensures.word.0 word in
+    front_unread c.args.page_size w c.args.fault c.read_plan.result _ c.from_residual-in_err-plan.result (g.D.Disk.state c.args.disk.now) (g.D.Disk.state c.len.new.self) (g.D.Disk.state c.read_plan.new.disk) fits
+    (fits_still c.args.page_size w w (g.D.Disk.state c.args.disk.now) (g.D.Disk.state c.len.new.self) (g.D.Disk.state c.len.new.self) fits is) is (c.read_plan.ensures.still next (still_sound _ _ sound is)) c.in_err-plan.was
+    (passed c.from_residual-in_err-plan.result _ c.from_residual-in_err-plan.ensures.1) (c.read_plan.ensures.plan next (still_sound _ _ sound is) w (present_in _ _ w is.log are) (are.len ∙ sym (c.in_ok-long.ensures.answer word)))
+
+pub returns-then-plan-eq0-clause-still : goal.returns-then-plan-eq0-clause-still
+returns-then-plan-eq0-clause-still g c = λ word sound.
+    let is = still_looks _ c.len.result _ _ sound (c.len.ensures.state word) in
+    still_then (g.D.Disk.state c.args.disk.now) (g.D.Disk.state c.len.new.self) (g.D.Disk.state c.read_plan.new.disk) is (c.read_plan.ensures.still (c.len.ensures.word.0 word) (still_sound _ _ sound is))
+
+pub returns-then-plan-eq0-clause-judged : goal.returns-then-plan-eq0-clause-judged
+returns-then-plan-eq0-clause-judged g c = λ word sound fits w are.
+    let is = still_looks _ c.len.result _ _ sound (c.len.ensures.state word) in
+    let next = c.len.ensures.word.0 word in
+    let plans = read_plans c.args.page_size w c.read_plan.result c.in_ok-plan.plan _ _ c.in_ok-plan.was (c.read_plan.ensures.plan next (still_sound _ _ sound is) w (present_in _ _ w is.log are) (are.len ∙ sym (c.in_ok-long.ensures.answer word))) in
+    inr (front_none w c.in_ok-plan.plan.frames c.if-plan-eq0.true plans.1.front, refl)
+
+pub returns-clause-still : goal.returns-clause-still
+returns-clause-still g c = λ word sound.
+    let is = still_looks _ c.len.result _ _ sound (c.len.ensures.state word) in
+    still_then (g.D.Disk.state c.args.disk.now) (g.D.Disk.state c.len.new.self) (g.D.Disk.state c.read_plan.new.disk) is (c.read_plan.ensures.still (c.len.ensures.word.0 word) (still_sound _ _ sound is))

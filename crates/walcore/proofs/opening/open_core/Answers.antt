@@ -1,0 +1,59 @@
+use Rattle.std.proofs.Common.{ℕ, refl, sym, subst}
+use Rattle.walcore.specs.Folding.{TearsPages}
+use Rattle.walcore.proofs.Stills.{passed}
+use Rattle.walcore.proofs.Opened.{match_err, same_error, without_memory, unrecovered, unbegun, begun_here, opened_here}
+use Rattle.walcore.proofs.Agreed.{agrees_then, header_alone}
+use Rattle.walcore.proofs.opening.open_core.Goals as goal
+
+pub returns-in_err-judge_sector-clause-step : goal.returns-in_err-judge_sector-clause-step
+returns-in_err-judge_sector-clause-step g c = λ word past found are same alone chance new.
+    absurd (alone.disk.suits.whole (subst (λ (n : ℕ). TearsPages n (g.D.Disk.state c.args.disk.now)) (sym same) (c.in_err-judge_sector.ensures.refused word)))
+
+pub returns-in_err-frame-clause-step : goal.returns-in_err-frame-clause-step
+returns-in_err-frame-clause-step g c = λ word past found are same alone chance new.
+    let begun = begun_here past found c.args.salts (g.D.Disk.state c.args.disk.now) alone new c.args.page_size same c.new_log-log.result c.new_log-log.ensures in
+    match_err _ _ _ _ (passed c.from_residual-in_err-frame.result _ c.from_residual-in_err-frame.ensures.1)
+    (without_memory past found c.args.salts (g.D.Disk.state c.args.disk.now) alone new c.new_log-log.result.bytes begun _ (same_error _ _ _ refl c.in_err-frame.ensures.memory))
+
+pub returns-in_err-pages-clause-step : goal.returns-in_err-pages-clause-step
+returns-in_err-pages-clause-step g c = λ word past found are same alone chance new.
+    let begun = begun_here past found c.args.salts (g.D.Disk.state c.args.disk.now) alone new c.args.page_size same c.new_log-log.result c.new_log-log.ensures in
+    match_err _ _ _ _ (passed c.from_residual-in_err-pages.result _ c.from_residual-in_err-pages.ensures.1)
+    (unrecovered past found c.args.salts (g.D.Disk.state c.args.disk.now) alone new c.new_log-log.result.bytes begun _ c.recover.result (g.D.Disk.state c.recover.new.disk) c.in_err-pages.was
+    (c.recover.ensures.recovered word past found are same alone.disk chance))
+
+pub returns-in_err-begin_log-clause-step : goal.returns-in_err-begin_log-clause-step
+returns-in_err-begin_log-clause-step g c = λ word past found are same alone chance new.
+    let begun = begun_here past found c.args.salts (g.D.Disk.state c.args.disk.now) alone new c.args.page_size same c.new_log-log.result c.new_log-log.ensures in
+    match_err _ _ _ _ (passed c.from_residual-in_err-begin_log.result _ c.from_residual-in_err-begin_log.ensures.1)
+    (unbegun past found c.args.salts (g.D.Disk.state c.args.disk.now) alone new c.new_log-log.result.bytes begun _ c.recover.result (g.D.Disk.state c.recover.new.disk) c.in_ok-pages.was
+    (c.recover.ensures.recovered word past found are same alone.disk chance) _ c.begin_log.result (g.D.Disk.state c.begin_log.new.disk) c.in_err-begin_log.was (c.begin_log.ensures.state (c.recover.ensures.word.0 word)))
+
+pub returns-clause-step : goal.returns-clause-step
+returns-clause-step g c = λ word past found are same alone chance new.
+    opened_here past found c.args.salts (g.D.Disk.state c.args.disk.now) alone new c.args.page_size same c.new_log-log.result c.new_log-log.ensures _ c.recover.result (g.D.Disk.state c.recover.new.disk) c.in_ok-pages.was
+    (c.recover.ensures.recovered word past found are same alone.disk chance) _ c.begin_log.result (g.D.Disk.state c.begin_log.new.disk) c.in_ok-begin_log.was (c.begin_log.ensures.state (c.recover.ensures.word.0 word))
+    c.new_core.result c.new_core.ensures
+
+pub returns-in_err-judge_sector-clause-agrees : goal.returns-in_err-judge_sector-clause-agrees
+returns-in_err-judge_sector-clause-agrees g c = λ word w d down alone. alone
+
+pub returns-in_err-frame-clause-agrees : goal.returns-in_err-frame-clause-agrees
+returns-in_err-frame-clause-agrees g c = λ word w d down alone. alone
+
+pub returns-in_err-pages-clause-agrees : goal.returns-in_err-pages-clause-agrees
+returns-in_err-pages-clause-agrees g c = λ word. c.recover.ensures.agrees word (c.judge_sector.ensures.sound word)
+
+pub returns-in_err-begin_log-clause-agrees : goal.returns-in_err-begin_log-clause-agrees
+returns-in_err-begin_log-clause-agrees g c = λ word.
+    let sound = c.judge_sector.ensures.sound word in
+    agrees_then c.args.page_size (g.D.Disk.state c.args.disk.now) (g.D.Disk.state c.recover.new.disk) (g.D.Disk.state c.begin_log.new.disk) (c.recover.ensures.agrees word sound)
+    (λ d alone. header_alone c.args.page_size d c.new_log-log.result.bytes c.new_log-log.ensures.begun.alone (g.D.Disk.state c.recover.new.disk) (c.recover.ensures.later word sound).sound (c.in_ok-pages.ensures.empty word sound) alone
+    c.begin_log.result (g.D.Disk.state c.begin_log.new.disk) (c.begin_log.ensures.state (c.recover.ensures.word.0 word)))
+
+pub returns-clause-agrees : goal.returns-clause-agrees
+returns-clause-agrees g c = λ word.
+    let sound = c.judge_sector.ensures.sound word in
+    agrees_then c.args.page_size (g.D.Disk.state c.args.disk.now) (g.D.Disk.state c.recover.new.disk) (g.D.Disk.state c.begin_log.new.disk) (c.recover.ensures.agrees word sound)
+    (λ d alone. header_alone c.args.page_size d c.new_log-log.result.bytes c.new_log-log.ensures.begun.alone (g.D.Disk.state c.recover.new.disk) (c.recover.ensures.later word sound).sound (c.in_ok-pages.ensures.empty word sound) alone
+    c.begin_log.result (g.D.Disk.state c.begin_log.new.disk) (c.begin_log.ensures.state (c.recover.ensures.word.0 word)))

@@ -1,0 +1,111 @@
+use Rattle.crashdisk.specs.declared.file.File.TheVariants.{Log}
+use Rattle.walcore.specs.declared.error.WalError.TheVariants.{Device}
+use Rattle.walcore.proofs.Stills.{passed}
+use Rattle.walcore.proofs.Recovered.{recover_unsynced, ready_synced, ready_still, recover_unjudged, recover_unfolded, recover_counted, synced_files, whole_at}
+use Rattle.walcore.proofs.Ending.{later_sync, later_still, later_then}
+use Rattle.walcore.proofs.Lengths.{down_still}
+use Rattle.walcore.proofs.Agreed.{alone_still, agrees_then, agrees_synced, agrees_after, agrees_looked, synced_empty, still_empty, folded_empty, on_ok}
+use Rattle.walcore.proofs.opening.recover.Goals as goal
+
+pub returns-in_err-sync-clause-recovered : goal.returns-in_err-sync-clause-recovered
+returns-in_err-sync-clause-recovered g c = λ word past found are same fits chance.
+    recover_unsynced past found (g.D.Disk.state c.args.disk.now) fits are chance _ c.sync.result c.from_residual.result _ c.in_err-sync.was (c.sync.ensures.state word) (passed c.from_residual.result Device c.from_residual.ensures.1)
+
+pub returns-in_err-judge_file-clause-recovered : goal.returns-in_err-judge_file-clause-recovered
+returns-in_err-judge_file-clause-recovered g c = λ word past found are same fits chance.
+    let next = c.sync.ensures.word.0 word in
+    let ready = ready_synced past found (g.D.Disk.state c.args.disk.now) fits are chance (g.D.Disk.state c.sync.new.self) (c.in_ok-sync.ensures.state word) in
+    let files = synced_files past found (g.D.Disk.state c.args.disk.now) fits are chance (g.D.Disk.state c.sync.new.self) ready in
+    recover_unjudged past found (g.D.Disk.state c.args.disk.now) fits are chance (g.D.Disk.state c.sync.new.self) ready c.args.page_size same (g.D.Disk.state c.judge_file.new.disk) (c.judge_file.ensures.still next ready.later.sound)
+    _ c.judge_file.result c.from_residual-in_err-judge_file.result c.in_err-judge_file.was
+    (c.judge_file.ensures.judged next ready.later.sound (whole_at past found (g.D.Disk.state c.args.disk.now) fits are chance (g.D.Disk.state c.sync.new.self) ready c.args.page_size same) found.db found.log files.db files.log)
+    (passed c.from_residual-in_err-judge_file.result _ c.from_residual-in_err-judge_file.ensures.1)
+
+pub returns-in_err-fold_synced-clause-recovered : goal.returns-in_err-fold_synced-clause-recovered
+returns-in_err-fold_synced-clause-recovered g c = λ word past found are same fits chance.
+    let next = c.sync.ensures.word.0 word in
+    let first = ready_synced past found (g.D.Disk.state c.args.disk.now) fits are chance (g.D.Disk.state c.sync.new.self) (c.in_ok-sync.ensures.state word) in
+    let then = c.judge_file.ensures.word.0 next in
+    let ready = ready_still past found (g.D.Disk.state c.args.disk.now) fits are chance (g.D.Disk.state c.sync.new.self) (g.D.Disk.state c.judge_file.new.disk) first (c.judge_file.ensures.still next first.later.sound) in
+    let files = synced_files past found (g.D.Disk.state c.args.disk.now) fits are chance (g.D.Disk.state c.judge_file.new.disk) ready in
+    recover_unfolded past found (g.D.Disk.state c.args.disk.now) fits are chance (g.D.Disk.state c.judge_file.new.disk) ready c.args.page_size same (g.D.Disk.state c.fold_synced.new.disk)
+    (c.fold_synced.ensures.later then) (c.fold_synced.ensures.agrees then) (c.fold_synced.ensures.lengths then) _ c.fold_synced.result c.from_residual-in_err-fold_synced.result c.in_err-fold_synced.was
+    (c.fold_synced.ensures.folds then files.empty found.db found.log files.db files.log) (passed c.from_residual-in_err-fold_synced.result _ c.from_residual-in_err-fold_synced.ensures.1)
+
+pub returns-clause-recovered : goal.returns-clause-recovered
+returns-clause-recovered g c = λ word past found are same fits chance.
+    let next = c.sync.ensures.word.0 word in
+    let first = ready_synced past found (g.D.Disk.state c.args.disk.now) fits are chance (g.D.Disk.state c.sync.new.self) (c.in_ok-sync.ensures.state word) in
+    let then = c.judge_file.ensures.word.0 next in
+    let ready = ready_still past found (g.D.Disk.state c.args.disk.now) fits are chance (g.D.Disk.state c.sync.new.self) (g.D.Disk.state c.judge_file.new.disk) first (c.judge_file.ensures.still next first.later.sound) in
+    let files = synced_files past found (g.D.Disk.state c.args.disk.now) fits are chance (g.D.Disk.state c.judge_file.new.disk) ready in
+    let last = c.fold_synced.ensures.word.0 then in
+    let later = c.fold_synced.ensures.later then in
+    recover_counted past found (g.D.Disk.state c.args.disk.now) fits are chance (g.D.Disk.state c.judge_file.new.disk) ready c.args.page_size same (g.D.Disk.state c.fold_synced.new.disk)
+    later (c.fold_synced.ensures.agrees then) (c.fold_synced.ensures.lengths then) _ c.fold_synced.result c.in_ok-fold_synced.was
+    (c.fold_synced.ensures.folds then files.empty found.db found.log files.db files.log) (g.D.Disk.state c.count_pages.new.disk) (c.count_pages.ensures.still last later.sound) c.count_pages.result (c.count_pages.ensures.count last later.sound)
+
+pub returns-in_err-sync-clause-later : goal.returns-in_err-sync-clause-later
+returns-in_err-sync-clause-later g c = λ word sound. later_sync Log c.sync.result (g.D.Disk.state c.args.disk.now) (g.D.Disk.state c.sync.new.self) sound (c.sync.ensures.state word)
+
+pub returns-in_err-judge_file-clause-later : goal.returns-in_err-judge_file-clause-later
+returns-in_err-judge_file-clause-later g c = λ word sound.
+    let first = later_sync Log c.sync.result (g.D.Disk.state c.args.disk.now) (g.D.Disk.state c.sync.new.self) sound (c.sync.ensures.state word) in
+    later_then (g.D.Disk.state c.args.disk.now) (g.D.Disk.state c.sync.new.self) (g.D.Disk.state c.judge_file.new.disk) first (later_still (g.D.Disk.state c.sync.new.self) (g.D.Disk.state c.judge_file.new.disk) first.sound (c.judge_file.ensures.still (c.sync.ensures.word.0 word) first.sound))
+
+pub returns-in_err-fold_synced-clause-later : goal.returns-in_err-fold_synced-clause-later
+returns-in_err-fold_synced-clause-later g c = λ word sound.
+    let next = c.sync.ensures.word.0 word in
+    let first = later_sync Log c.sync.result (g.D.Disk.state c.args.disk.now) (g.D.Disk.state c.sync.new.self) sound (c.sync.ensures.state word) in
+    let second = later_then (g.D.Disk.state c.args.disk.now) (g.D.Disk.state c.sync.new.self) (g.D.Disk.state c.judge_file.new.disk) first (later_still (g.D.Disk.state c.sync.new.self) (g.D.Disk.state c.judge_file.new.disk) first.sound (c.judge_file.ensures.still next first.sound)) in
+    later_then (g.D.Disk.state c.args.disk.now) (g.D.Disk.state c.judge_file.new.disk) (g.D.Disk.state c.fold_synced.new.disk) second (c.fold_synced.ensures.later (c.judge_file.ensures.word.0 next))
+
+pub returns-clause-later : goal.returns-clause-later
+returns-clause-later g c = λ word sound.
+    let next = c.sync.ensures.word.0 word in
+    let then = c.judge_file.ensures.word.0 next in
+    let later = c.fold_synced.ensures.later then in
+    let first = later_sync Log c.sync.result (g.D.Disk.state c.args.disk.now) (g.D.Disk.state c.sync.new.self) sound (c.sync.ensures.state word) in
+    let second = later_then (g.D.Disk.state c.args.disk.now) (g.D.Disk.state c.sync.new.self) (g.D.Disk.state c.judge_file.new.disk) first (later_still (g.D.Disk.state c.sync.new.self) (g.D.Disk.state c.judge_file.new.disk) first.sound (c.judge_file.ensures.still next first.sound)) in
+    later_then (g.D.Disk.state c.args.disk.now) (g.D.Disk.state c.judge_file.new.disk) (g.D.Disk.state c.count_pages.new.disk) second
+    (later_then (g.D.Disk.state c.judge_file.new.disk) (g.D.Disk.state c.fold_synced.new.disk) (g.D.Disk.state c.count_pages.new.disk) later
+    (later_still (g.D.Disk.state c.fold_synced.new.disk) (g.D.Disk.state c.count_pages.new.disk) later.sound (c.count_pages.ensures.still (c.fold_synced.ensures.word.0 then) later.sound)))
+
+pub returns-in_err-sync-clause-agrees : goal.returns-in_err-sync-clause-agrees
+returns-in_err-sync-clause-agrees g c = λ word sound. agrees_synced c.args.page_size c.sync.result (g.D.Disk.state c.args.disk.now) (g.D.Disk.state c.sync.new.self) sound (c.sync.ensures.state word)
+
+pub returns-in_err-judge_file-clause-agrees : goal.returns-in_err-judge_file-clause-agrees
+returns-in_err-judge_file-clause-agrees g c = λ word sound.
+    let first = later_sync Log c.sync.result (g.D.Disk.state c.args.disk.now) (g.D.Disk.state c.sync.new.self) sound (c.sync.ensures.state word) in
+    agrees_then c.args.page_size (g.D.Disk.state c.args.disk.now) (g.D.Disk.state c.sync.new.self) (g.D.Disk.state c.judge_file.new.disk)
+    (agrees_synced c.args.page_size c.sync.result (g.D.Disk.state c.args.disk.now) (g.D.Disk.state c.sync.new.self) sound (c.sync.ensures.state word))
+    (λ d alone. alone_still c.args.page_size d (g.D.Disk.state c.sync.new.self) (g.D.Disk.state c.judge_file.new.disk) first.sound (c.judge_file.ensures.still (c.sync.ensures.word.0 word) first.sound) alone)
+
+pub returns-in_err-fold_synced-clause-agrees : goal.returns-in_err-fold_synced-clause-agrees
+returns-in_err-fold_synced-clause-agrees g c = λ word sound.
+    let next = c.sync.ensures.word.0 word in
+    let first = later_sync Log c.sync.result (g.D.Disk.state c.args.disk.now) (g.D.Disk.state c.sync.new.self) sound (c.sync.ensures.state word) in
+    agrees_after c.args.page_size c.sync.result (g.D.Disk.state c.args.disk.now) (g.D.Disk.state c.sync.new.self) (g.D.Disk.state c.fold_synced.new.disk) sound (c.sync.ensures.state word)
+    (agrees_looked c.args.page_size (g.D.Disk.state c.sync.new.self) (g.D.Disk.state c.judge_file.new.disk) (g.D.Disk.state c.fold_synced.new.disk) first.sound (c.judge_file.ensures.still next first.sound) (c.fold_synced.ensures.agrees (c.judge_file.ensures.word.0 next)))
+
+pub returns-clause-agrees : goal.returns-clause-agrees
+returns-clause-agrees g c = λ word sound.
+    let next = c.sync.ensures.word.0 word in
+    let then = c.judge_file.ensures.word.0 next in
+    let later = c.fold_synced.ensures.later then in
+    let first = later_sync Log c.sync.result (g.D.Disk.state c.args.disk.now) (g.D.Disk.state c.sync.new.self) sound (c.sync.ensures.state word) in
+    agrees_then c.args.page_size (g.D.Disk.state c.args.disk.now) (g.D.Disk.state c.fold_synced.new.disk) (g.D.Disk.state c.count_pages.new.disk)
+    (agrees_after c.args.page_size c.sync.result (g.D.Disk.state c.args.disk.now) (g.D.Disk.state c.sync.new.self) (g.D.Disk.state c.fold_synced.new.disk) sound (c.sync.ensures.state word)
+    (agrees_looked c.args.page_size (g.D.Disk.state c.sync.new.self) (g.D.Disk.state c.judge_file.new.disk) (g.D.Disk.state c.fold_synced.new.disk) first.sound (c.judge_file.ensures.still next first.sound) (c.fold_synced.ensures.agrees then)))
+    (λ d alone. alone_still c.args.page_size d (g.D.Disk.state c.fold_synced.new.disk) (g.D.Disk.state c.count_pages.new.disk) later.sound (c.count_pages.ensures.still (c.fold_synced.ensures.word.0 then) later.sound) alone)
+
+pub returns-clause-empty : goal.returns-clause-empty
+returns-clause-empty g c = λ word sound.
+    let next = c.sync.ensures.word.0 word in
+    let then = c.judge_file.ensures.word.0 next in
+    let later = c.fold_synced.ensures.later then in
+    let first = later_sync Log c.sync.result (g.D.Disk.state c.args.disk.now) (g.D.Disk.state c.sync.new.self) sound (c.sync.ensures.state word) in
+    on_ok c.count_pages.result _ (down_still _ (g.D.Disk.state c.fold_synced.new.disk) (g.D.Disk.state c.count_pages.new.disk) (c.count_pages.ensures.still (c.fold_synced.ensures.word.0 then) later.sound)
+    (folded_empty c.args.page_size _ c.fold_synced.result (g.D.Disk.state c.judge_file.new.disk) (g.D.Disk.state c.fold_synced.new.disk) c.in_ok-fold_synced.was
+    (c.fold_synced.ensures.folds then (still_empty (g.D.Disk.state c.sync.new.self) (g.D.Disk.state c.judge_file.new.disk) (c.judge_file.ensures.still next first.sound)
+    (synced_empty (g.D.Disk.state c.args.disk.now) (g.D.Disk.state c.sync.new.self) sound (c.in_ok-sync.ensures.state word))))))

@@ -1,0 +1,16 @@
+use Rattle.std.proofs.Common.{refl}
+use Rattle.walcore.proofs.Stills.{still}
+use Rattle.walcore.proofs.Joining.{begin_done, begin_memory}
+use Rattle.walcore.proofs.wal.Wal.begin.Goals as goal
+
+pub returns-in-Ok-clause-step : goal.returns-in-Ok-clause-step
+returns-in-Ok-clause-step g c = λ word past fits.
+    begin_done c.args.self.now.core _ _ _ past fits
+    (record { page_size = refl; is_open = refl; drained = refl; header = refl; sum = refl; frames = refl; mark = refl; last_page = refl; size = refl; used = refl; unsynced = refl; index = refl })
+    (still _ fits.disk.suits.sound) (record { mark = c.args.self.now.core.mark; size = c.args.self.now.core.size }) c.if-not-self.false c.in-Ok.ensures.items refl refl
+
+pub returns-in-Err-clause-step : goal.returns-in-Err-clause-step
+returns-in-Err-clause-step g c = λ word past fits.
+    begin_memory c.args.self.now.core _ _ _ past fits
+    (record { page_size = refl; is_open = refl; drained = refl; header = refl; sum = refl; frames = refl; mark = refl; last_page = refl; size = refl; used = refl; unsynced = refl; index = refl })
+    (still _ fits.disk.suits.sound) c.if-not-self.false c.in-Err.ensures.items

@@ -1,0 +1,30 @@
+use Rattle.std.proofs.Common.{ℕ, List, refl, subst, arith}
+use Rattle.walcore.specs.Bringing.{IsLeast}
+use Rattle.walcore.proofs.Judging.{page_most}
+use Rattle.walcore.proofs.Stills.{passed}
+use Rattle.walcore.proofs.Draining.{down_refused, down_done, page_room}
+use Rattle.walcore.proofs.wal.Wal.bring_down.Goals as goal
+
+pub bring_over-requires : goal.bring_over-requires
+bring_over-requires g c =
+    let core = c.args.self.now.core in
+    omega (arith, page_most c.get-size.result c.get-size.ensures.valid, c.get-size.ensures.value, page_room c.deref_mut.result.now core.frame.items c.get-size.result core.page_size c.get-size.ensures.value c.deref_mut.ensures.value core.framed)
+
+pub returns-in_err-bring_over-clause-brings : goal.returns-in_err-bring_over-clause-brings
+returns-in_err-bring_over-clause-brings g c = λ word past fits opened floor none.
+    let core = c.args.self.now.core in
+    let sound = fits.disk.suits.sound in
+    let low = subst (λ (l : List ℕ). IsLeast l core.mark c.least_mark-frame.result) c.deref.ensures.value c.least_mark-frame.ensures in
+    down_refused past core _ _ fits opened floor none c.least_mark-frame.result low (c.bring_over.ensures.log word sound) _ _ c.bring_over.result c.from_residual.result _
+    (page_room c.deref_mut.result.now core.frame.items c.get-size.result core.page_size c.get-size.ensures.value c.deref_mut.ensures.value core.framed) (c.bring_over.ensures.brings word sound) c.in_err-bring_over.was
+    (passed c.from_residual.result _ c.from_residual.ensures.1) refl refl
+
+pub returns-clause-brings : goal.returns-clause-brings
+returns-clause-brings g c = λ word past fits opened floor none.
+    let core = c.args.self.now.core in
+    let sound = fits.disk.suits.sound in
+    let low = subst (λ (l : List ℕ). IsLeast l core.mark c.least_mark-frame.result) c.deref.ensures.value c.least_mark-frame.ensures in
+    down_done past core _ _ fits opened floor none c.least_mark-frame.result low (c.bring_over.ensures.log word sound) _ c.bring_over.result c.in_ok-bring_over.field-0
+    (page_room c.deref_mut.result.now core.frame.items c.get-size.result core.page_size c.get-size.ensures.value c.deref_mut.ensures.value core.framed) (c.bring_over.ensures.brings word sound) c.in_ok-bring_over.was
+    _ refl _ c.reached.result c.reached.ensures
+    (record { page_size = refl; is_open = refl; drained = refl; header = refl; sum = refl; frames = refl; mark = refl; last_page = refl; size = refl; used = refl; unsynced = refl; index = refl }) refl

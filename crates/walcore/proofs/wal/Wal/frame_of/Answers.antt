@@ -1,0 +1,7 @@
+use Rattle.std.proofs.Common.{arith}
+use Rattle.walcore.proofs.Viewing.{found_frame}
+use Rattle.walcore.proofs.wal.Wal.frame_of.Goals as goal
+
+pub returns-clause-last : goal.returns-clause-last
+returns-clause-last g c = λ past number fits token opened one.
+    found_frame c.args.self.now.core _ past number c.args.reader.now c.args.page _ fits token opened one (c.find.ensures.newest (λ z. omega arith))

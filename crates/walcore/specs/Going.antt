@@ -1,0 +1,71 @@
+-- What the writing of frames does to a core and its disk.
+use Rattle.std.specs.Prelude.{◌≡◌, ℕ, ◌+◌, ◌≤◌, false, List, [], ◌∷◌, ◌++◌, Result, Ok, Err, IsOk}
+use Rattle.sqval.specs.Database.{Database}
+use Rattle.sqwal.specs.Header.{IsHeaderOf}
+use Rattle.sqwal.specs.Frames.{frame_end, page_of, summed, IsFrameHead}
+use Rattle.sqwal.specs.Sums.{IsSumOf}
+use Rattle.sqwal.specs.declared.sum.Sum.{Sum}
+use Rattle.crashdisk.specs.Call.{DiskState, IsSoundDisk, Writes}
+use Rattle.crashdisk.specs.declared.file.File.TheVariants.{Log}
+use Rattle.crashdisk.specs.declared.error.DiskError.{DiskError}
+use Rattle.walcore.specs.Folding.{HadRefusal}
+use Rattle.walcore.specs.Steps.{Told}
+use Rattle.walcore.specs.Standing.{Stands, IsPresent}
+use Rattle.walcore.specs.Fits.{IsIndexed}
+use Rattle.walcore.specs.declared.state.Core.{Core}
+use Rattle.walcore.specs.declared.error.WalError.{WalError}
+use Rattle.walcore.specs.declared.error.WalError.TheVariants.{Device}
+
+-- what no frame changes of a core
+pub record KeepsCore (old new : Core) : Type 0 where
+  pub page_size : new.page_size ≡ old.page_size
+  pub is_open : new.is_open ≡ old.is_open
+  pub drained : new.drained ≡ old.drained
+  pub header : new.header ≡ old.header
+  pub mark : new.mark ≡ old.mark
+  pub size : new.size ≡ old.size
+  pub used : new.used ≡ old.used
+  pub unsynced : new.unsynced ≡ old.unsynced
+  pub marks : new.marks ≡ old.marks
+  pub bound : new.index.bound ≡ old.index.bound
+  pub room : new.index.room ≡ old.index.room
+
+-- a frame of this page more
+pub record HasFrame (page : ℕ) (after : Sum) (old new : Core) : Type 0 where
+  pub frames : new.frames ≡ old.frames + 1
+  pub sum : new.sum ≡ after
+  pub pages : new.index.pages ≡ old.index.pages ++ page ∷ []
+  pub last : new.last_page ≡ page
+
+-- A frame is written behind the last one, by one call.
+pub record FrameStep {T : Type 0} (page size : ℕ) (content : List ℕ) (result : Result T WalError) (old new : Core) (s t : DiskState) : Type 0 where
+  pub called : Result T DiskError
+  pub told : Told called result
+  pub head : List ℕ
+  pub after : Sum
+  pub made : IsFrameHead old.header old.sum page size content head after
+  pub wrote : Writes Log (frame_end old.page_size old.frames) (head ++ content) called s t
+  pub done : IsOk result → HasFrame page after old new
+
+-- Of the log f the first n frames are there to be read, and a core knows it so far.
+pub record KnowsLog (f : List ℕ) (n : ℕ) (core : Core) (s : DiskState) : Type 0 where
+  pub frames : core.frames ≡ n
+  pub header : IsHeaderOf f core.header
+  pub sum : IsSumOf core.header.order (summed core.page_size f n) core.sum
+  pub table : IsIndexed core.page_size f n core.index
+  pub last : 1 ≤ n → core.last_page ≡ page_of core.page_size f n
+  pub present : IsPresent core.page_size f n s
+
+-- calls that wrote frames behind the first n of the log f, which has m
+pub record Going (size : ℕ) (f : List ℕ) (m n : ℕ) (s t : DiskState) : Type 0 where
+  pub refused : s.refused ≤ t.refused
+  pub sound : IsSoundDisk t
+  pub sector : t.sector ≡ s.sector
+  pub tears : t.tears ≡ s.tears
+  -- on a disk that doesn't tear
+  pub stands : (logs : List (List ℕ)) (h : List Database) (index : ℕ → ℕ) (mark d c : ℕ) → Stands size logs f m h index mark d c s → s.tears ≡ false → d ≤ n → Stands size logs f m h index mark d c t
+
+-- all frames of the log were written, or a call was refused
+abbrev pub FramesAnswer : {T : Type 0} → (size : ℕ) → List ℕ → (m n : ℕ) → Result T WalError → (new : Core) → (s t : DiskState) → Type 0
+FramesAnswer size f m n (Ok _) new s t = Going size f m n s t × KnowsLog f m new t
+FramesAnswer size f m n (Err e) new s t = Going size f m n s t × (e ≡ Device) × HadRefusal s t

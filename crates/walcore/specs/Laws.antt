@@ -1,0 +1,79 @@
+-- What holds of every run.
+use Rattle.std.specs.Prelude.{◌≡◌, ◌⊎◌, ℕ, ◌+◌, ◌<◌, ◌≤◌, Bool, true, false, cond, IsTrue, length, take, Option, Some, None}
+use Rattle.sqval.specs.Database.{page}
+use Rattle.walcore.specs.Refusal.{HasCause}
+use Rattle.walcore.specs.CommitRefusals.{most_pages}
+use Rattle.walcore.specs.Answers.{Answer, Done, Reader, Page, Complete, Partial, NoReader, Refused}
+use Rattle.walcore.specs.Machine.{State, at, reader_at, all_newest, Act, Opens, Commits, Syncs, Begins, Reads, Ends, Checkpoints, Restarts, Crashes, Sets, call_refusal, commit_refusal, read_refusal, restart_refusal}
+
+pub record IsSane (s : State) : Type 0 where
+  -- the floor is a place of the history
+  pub floor : s.floor < length s.history
+  pub few : s.used ≤ most_pages
+  -- a drained log has no reader of anything but the newest database
+  pub newest : s.drained ≡ true → all_newest s ≡ true
+
+-- what is known to be down stays: no floor falls, and the databases up to it stand; nor does the page size change
+pub record Keeps (old new : State) : Type 0 where
+  pub page_size : new.page_size ≡ old.page_size
+  pub floor : old.floor ≤ new.floor
+  pub down : take (old.floor + 1) new.history ≡ take (old.floor + 1) old.history
+
+-- ---- What is answered where memory is ample and the disk refuses no call.
+
+abbrev pub told : Option ℕ → Answer → Answer
+told (Some number) answer = Refused number
+told None answer = answer
+
+abbrev pub shown : State → Option ℕ → (number : ℕ) → Answer
+shown s None number = NoReader
+shown s (Some i) number = told (read_refusal s i number) (Page (page (at s i) number))
+
+abbrev pub at_end : Option ℕ → Answer
+at_end None = NoReader
+at_end (Some i) = Done
+
+abbrev pub expected : State → Act → Answer
+expected s (Opens salts found) = Done
+expected s (Commits pages size) = told (commit_refusal s pages size) Done
+expected s Syncs = told (call_refusal s) Done
+expected s Begins = told (call_refusal s) (Reader (length s.readers))
+expected s (Reads reader number) = shown s (reader_at s reader) number
+expected s (Ends reader) = at_end (reader_at s reader)
+expected s Checkpoints = told (call_refusal s) (cond (all_newest s) Complete Partial)
+expected s (Restarts salt2) = told (restart_refusal s) Done
+expected s (Crashes left) = Done
+expected s Sets = Done
+
+-- ---- What may stand in its place.
+
+abbrev pub is_accepted : Answer → Bool
+is_accepted NoReader = false
+is_accepted (Refused number) = false
+is_accepted _ = true
+
+abbrev pub takes_memory : Act → Bool
+takes_memory (Opens salts found) = true
+takes_memory (Commits pages size) = true
+takes_memory Begins = true
+takes_memory _ = false
+
+-- a call of the engine that may need the disk
+abbrev pub needs_disk : Act → Bool
+needs_disk (Ends reader) = false
+needs_disk (Crashes left) = false
+needs_disk Sets = false
+needs_disk _ = true
+
+-- want of memory, or a refused call of the disk that has a cause
+abbrev pub IsShort : (takes_memory needs_disk : Bool) → Answer → (before after : ℕ) → Type 0
+IsShort takes_memory needs_disk answer before after =
+    (IsTrue takes_memory × (answer ≡ Refused 14)) ⊎ (IsTrue needs_disk × (answer ≡ Refused 15) × HasCause before after)
+
+abbrev pub IsExpected : State → Act → Answer → (before after : ℕ) → Type 0
+IsExpected s act answer before after =
+    (answer ≡ expected s act) ⊎ (IsTrue (is_accepted (expected s act)) × IsShort (takes_memory act) (needs_disk act) answer before after)
+
+abbrev pub is_opening : Act → Bool
+is_opening (Opens salts found) = true
+is_opening act = false

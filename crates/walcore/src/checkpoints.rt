@@ -1,0 +1,121 @@
+//! Checkpoints: what the log has is brought into the database file.
+ghost use Rattle.std.specs.Prelude.{◌≡◌, ◌↔◌, ◌+◌, ◌≤◌, ℕ, List, length, OnOk, IsTrue, false, if◌then◌else◌};
+ghost use Rattle.crashdisk.specs.Call.{DiskState, IsSoundDisk};
+ghost use Rattle.walcore.specs.Machine.{at, last, Checkpoints};
+ghost use Rattle.walcore.specs.Steps.{KeepsLog};
+ghost use Rattle.walcore.specs.Fits.{Past, Fits, answered, Steps};
+ghost use Rattle.walcore.specs.Bringing.{answer_of, IsOldest, LeavesJust, IsLeast, SizeAnswer, Brings, BroughtDown, ClosedBy};
+
+use crate::copying::{copy_pages, settle_database};
+use crate::error::WalError;
+use crate::paging::read_place;
+use crate::state::Core;
+use crate::wal::{Checkpointed, Wal};
+use byteorder::{BigEndian, ByteOrder};
+use crashdisk::{Disk, File};
+use sqwal::FrameIndex;
+
+/// The mark of the oldest open reader, or the newest mark where none is open.
+fn least_mark(marks: &[u32], newest: u32) -> u32
+    ensures { IsLeast marks.now newest result }
+{
+    let mut least = newest;
+    for mark in marks {
+        if *mark < least {
+            least = *mark;
+        }
+    }
+    least
+}
+
+/// How many pages the database has that ends with this frame of the log.
+fn size_at<D: Disk>(disk: &mut D, page_size: usize, frame: u32) -> Result<u32, WalError>
+    requires some { 1 ≤ frame }
+    requires size { page_size ≤ 65536 }
+    ensures word { D.keeps_word disk.old ↔ D.keeps_word disk.new }
+    ensures size { D.keeps_word disk.old → IsSoundDisk (D.state disk.old) → SizeAnswer page_size frame result (D.state disk.old) (D.state disk.new) }
+{
+    let mut bytes = [0; 4];
+    let at = 32 + u64::from(frame - 1) * (24 + page_size as u64) + 4;
+    read_place(disk, File::Log, at, &mut bytes)?;
+    Ok(BigEndian::read_u32(&bytes))
+}
+
+/// Brings the database that ends with this frame of the log into the database file.
+fn bring_over<D: Disk>(
+    disk: &mut D,
+    index: &FrameIndex,
+    frame: u32,
+    page: &mut [u8],
+) -> Result<(), WalError>
+    requires { length page.old ≤ 65536 }
+    ensures word { D.keeps_word disk.old ↔ D.keeps_word disk.new }
+    ensures log { D.keeps_word disk.old → IsSoundDisk (D.state disk.old) → KeepsLog (D.state disk.old) (D.state disk.new) }
+    ensures brings { D.keeps_word disk.old → IsSoundDisk (D.state disk.old) → Brings (length page.old) frame index.now result (D.state disk.old) (D.state disk.new) }
+{
+    if frame == 0 {
+        return Ok(());
+    }
+    let size = size_at(disk, page.len(), frame)?;
+    copy_pages(disk, index, frame, size, page)?;
+    settle_database(disk)
+}
+
+/// All of the log, or a part.
+fn reached(all: bool) -> Checkpointed
+    ensures { result ≡ (if all then Checkpointed.Complete else Checkpointed.Partial) }
+{
+    if all {
+        Checkpointed::Complete
+    } else {
+        Checkpointed::Partial
+    }
+}
+
+/// Closes a core of which a call was refused.
+fn close_on(core: &mut Core, done: Result<Checkpointed, WalError>) -> Result<Checkpointed, WalError>
+    ensures same { result ≡ done }
+    ensures core { ClosedBy done core.old core.new }
+{
+    if done.is_err() {
+        core.is_open = false;
+    }
+    done
+}
+
+impl<D: Disk> Wal<D> {
+    /// Brings the database of the oldest open reader into the database file, once the log is down.
+    fn bring_down(&mut self) -> Result<Checkpointed, WalError>
+        ensures word { D.keeps_word self.old.disk ↔ D.keeps_word self.new.disk }
+        ensures brings { D.keeps_word self.old.disk → (past : Past) → Fits D.state self.old past → IsTrue self.old.core.is_open
+            → past.state.floor ≡ last past.state → past.made.unsynced ≡ false
+            → BroughtDown past result self.old.core self.new.core (D.state self.old.disk) (D.state self.new.disk) }
+    {
+        let frame = least_mark(&self.core.marks, self.core.mark);
+        let size = self.core.page_size.get() as usize;
+        bring_over(
+            &mut self.disk,
+            &self.core.index,
+            frame,
+            &mut self.core.frame[24..24 + size],
+        )?;
+        let all = frame == self.core.mark;
+        self.core.drained = all;
+        Ok(reached(all))
+    }
+
+    /// Brings all commits down, and the database that the oldest open reader sees, or the newest where none is open,
+    /// into the database file. Refused are Closed and Device.
+    pub fn checkpoint(&mut self) -> Result<Checkpointed, WalError>
+        ensures word { D.keeps_word self.old.disk ↔ D.keeps_word self.new.disk }
+        // so far of disks that don't tear
+        ensures step { D.keeps_word self.old.disk → (D.state self.old.disk).tears ≡ false → (past : Past) → Fits D.state self.old past
+            → Steps D.state self.old self.new past past.tokens Checkpoints (answered answer_of result) }
+        ensures file { D.keeps_word self.old.disk → (D.state self.old.disk).tears ≡ false → (past : Past) (i : ℕ) → Fits D.state self.old past → IsOldest past.state i
+            → OnOk result (LeavesJust past.state.page_size (at past.state i) (D.state self.new.disk)) }
+    {
+        self.sync()?;
+        let done = self.bring_down();
+        close_on(&mut self.core, done)
+    }
+}
