@@ -1,2 +1,11 @@
 pub mod FileDisk
+pub mod Laid
 pub mod Line
+pub mod LogView
+pub mod ViewParts
+pub mod Pages
+pub mod Bases
+pub mod Run
+pub mod Sessions
+pub mod Engines
+pub mod Worlds

@@ -1,14 +1,31 @@
-//! Recovers SQLite databases from the logs that a stop in the middle of a write left behind.
+//! Reads and recovers SQLite databases with the logs that a stop in the middle of a write left behind.
 #![tactic(auto)]
 
+mod base;
+mod engine;
+mod event;
 mod file_disk;
+mod file_head;
+mod logs;
 mod outcome;
+mod places;
 mod program;
 mod recovery;
+mod reply;
 mod requests;
+mod session;
+#[cfg(test)]
+mod samples;
+#[cfg(test)]
+mod show_tests;
+mod showing;
 #[cfg(test)]
 mod tests;
+mod texts;
+mod view;
+mod view_error;
 mod words;
+mod world;
 
 use std::process::ExitCode;
 use std::{env, io};

@@ -1,4 +1,4 @@
-//! What a recovery did, or why it was refused.
+//! What a recovery did, or why a command was refused.
 use std::fmt;
 use thiserror::Error;
 
@@ -11,6 +11,8 @@ pub enum Outcome {
     NoFront,
     /// So many committed frames were folded into the database, which has so many pages now.
     Folded { frames: u32, pages: u32 },
+    /// The hot journal, of which so many records passed, was replayed into the database, which has so many pages now.
+    RolledBack { records: usize, pages: u32 },
 }
 
 impl fmt::Display for Outcome {
@@ -19,11 +21,14 @@ impl fmt::Display for Outcome {
             Outcome::Nothing => write!(f, "nothing to recover"),
             Outcome::NoFront => write!(f, "wal: front 0"),
             Outcome::Folded { frames, pages } => write!(f, "wal: front {frames}, {pages} pages"),
+            Outcome::RolledBack { records, pages } => {
+                write!(f, "journal: {records} records, {pages} pages")
+            }
         }
     }
 }
 
-/// Why a recovery was refused. Nothing was written but where a file failed.
+/// Why a command was refused. Nothing was written but where a file failed.
 #[derive(Clone, Copy, Debug, PartialEq, Eq, Error)]
 pub enum Refusal {
     /// A file is missing, is no file, or its system refused a call.
@@ -38,6 +43,18 @@ pub enum Refusal {
     /// The log's database would be above 1,073,741,824 bytes, or the log has more frames than are scanned.
     #[error("too large")]
     TooLarge,
+    /// A hot journal and a write-ahead log that isn't empty lie beside the file.
+    #[error("two logs")]
+    TwoLogs,
+    /// The journal is one of a transaction over several files.
+    #[error("super-journal")]
+    SuperJournal,
+    /// The file's header is no database's.
+    #[error("not a database")]
+    NotADatabase,
+    /// The database has no page of this number.
+    #[error("no such page")]
+    NoSuchPage,
     /// No memory.
     #[error("no memory")]
     NoMemory,

@@ -3,6 +3,7 @@ ghost use Rattle.std.specs.Prelude.{◌≤◌};
 
 use crate::recovery::recover;
 use crate::requests::{LineError, Request};
+use crate::showing::{ShowError, show};
 use crate::words::request;
 use std::fmt::Display;
 use std::io::{self, Write};
@@ -28,6 +29,11 @@ where
     ensures { result ≤ 3 }
 {
     match request(rt.alloc(), words) {
+        Ok(Request::Show { file, part }) => match show(rt, file, part, out) {
+            Ok(()) => DONE,
+            Err(ShowError::Refused(refusal)) => refused(err, &refusal),
+            Err(ShowError::Unwritten) => REFUSED,
+        },
         Ok(Request::Recover { file }) => match recover(rt, file) {
             Ok(outcome) => printed(out, &outcome, DONE),
             Err(refusal) => refused(err, &refusal),

@@ -1,20 +1,18 @@
 //! The recovery of a database file from the log beside it.
 use crate::file_disk::{FileDisk, read_or_zeros};
+use crate::file_head::{has_magic, named_page_size};
+use crate::logs::{LogInUse, file_length, log_in_use, scan_file};
 use crate::outcome::{Outcome, Refusal};
+use rollcore::{RollError, replay};
+use sqjournal::is_magic;
 use sqval::PageSize;
-use sqwal::{Scan, WalFormatError, WalHeader};
+use sqwal::{WalFormatError, WalHeader};
 use std::alloc::{AllocError, Global};
 use std::fs::{OpenFile, OpenOptions};
 use std::os::unix::fs::FileExt;
 use std::rt::Files;
 use std::{fs, io};
 use walcore::{WalError, fold};
-
-/// How much of a log is read at once, in bytes.
-const PIECE: usize = 262_144;
-
-/// The first 16 bytes of a database file (fileformat2, 1.3.1).
-const MAGIC: &[u8; 16] = b"SQLite format 3\0";
 
 impl From<io::Error> for Refusal {
     fn from(_error: io::Error) -> Refusal {
@@ -25,6 +23,16 @@ impl From<io::Error> for Refusal {
 impl From<AllocError> for Refusal {
     fn from(_error: AllocError) -> Refusal {
         Refusal::NoMemory
+    }
+}
+
+impl From<RollError> for Refusal {
+    fn from(error: RollError) -> Refusal {
+        match error {
+            RollError::TooLarge => Refusal::TooLarge,
+            RollError::NoMemory => Refusal::NoMemory,
+            _ => Refusal::FileFailed,
+        }
     }
 }
 
@@ -39,23 +47,53 @@ impl From<WalError> for Refusal {
     }
 }
 
-/// Folds the log of a database file, FILE-wal, into it and empties the log. No file is made, and where there is no log
-/// none is written.
+/// Recovers a database file from the log that counts beside it: folds FILE-wal into it and empties FILE-wal, or replays
+/// a hot FILE-journal into it and zeroes the journal's header. No file is made, and where no log counts none is written.
 pub fn recover<R: Files + AllocGlobal>(rt: &R, file: &str) -> Result<Outcome, Refusal>
 where
     R::File: FileExt,
 {
-    let alloc = rt.alloc();
-    let log_path = format!(in alloc; "{file}-wal")?;
-    if !fs::metadata(rt, file)?.is_file() {
-        return Err(Refusal::FileFailed);
+    match log_in_use(rt, file)? {
+        LogInUse::Neither => Ok(Outcome::Nothing),
+        LogInUse::Wal(log) => fold_log(rt, file, log.as_str()),
+        LogInUse::Journal(journal) => roll_back(rt, file, journal.as_str()),
     }
-    let log_len = log_length(rt, log_path.as_str())?;
-    if log_len == 0 {
-        return Ok(Outcome::Nothing);
-    }
+}
+
+/// Replays a hot journal, unless it is one of a transaction over several files.
+fn roll_back<R: Files + AllocGlobal>(rt: &R, file: &str, path: &str) -> Result<Outcome, Refusal>
+where
+    R::File: FileExt,
+{
+    let length = file_length(rt, path)?;
     let db = open(rt, file)?;
-    let log = open(rt, log_path.as_str())?;
+    let journal = open(rt, path)?;
+    let mut end = [0u8; 8];
+    read_or_zeros(&journal, length.saturating_sub(8), &mut end)?;
+    if is_magic(&end) {
+        return Err(Refusal::SuperJournal);
+    }
+    let mut disk = FileDisk::new(db, journal);
+    let replayed = replay(rt.alloc(), &mut disk)?;
+    Ok(if replayed.hot {
+        Outcome::RolledBack {
+            records: replayed.records,
+            pages: replayed.size,
+        }
+    } else {
+        Outcome::Nothing
+    })
+}
+
+/// Folds a log that isn't empty.
+fn fold_log<R: Files + AllocGlobal>(rt: &R, file: &str, log_path: &str) -> Result<Outcome, Refusal>
+where
+    R::File: FileExt,
+{
+    let alloc = rt.alloc();
+    let db = open(rt, file)?;
+    let log = open(rt, log_path)?;
+    let log_len = file_length(rt, log_path)?;
     let page_size = page_size_of(alloc, &db, &log, log_len)?;
     let mut disk = FileDisk::new(db, log);
     let folded = fold(alloc, &mut disk, page_size)?;
@@ -66,16 +104,6 @@ where
             pages: folded.size,
         },
     })
-}
-
-/// The length of a log in bytes, 0 where there is none.
-fn log_length<R: Files>(rt: &R, path: &str) -> Result<u64, Refusal> {
-    match fs::metadata(rt, path) {
-        Ok(metadata) if metadata.is_file() => Ok(metadata.len()),
-        Ok(_) => Err(Refusal::FileFailed),
-        Err(error) if error.kind() == io::ErrorKind::NotFound => Ok(0),
-        Err(_) => Err(Refusal::FileFailed),
-    }
 }
 
 fn open<R: Files>(rt: &R, path: &str) -> Result<R::File, Refusal> {
@@ -116,36 +144,19 @@ fn database_page_size<F: FileExt + OpenFile>(db: &F) -> Result<Option<PageSize>,
     if db.metadata()?.len() < 18 {
         return Ok(None);
     }
-    let mut head = [0u8; 18];
+    let mut head = [0u8; 100];
     read_or_zeros(db, 0, &mut head)?;
-    if !head.starts_with(MAGIC) {
-        return Ok(None);
-    }
-    Ok(match u16::from_be_bytes([head[16], head[17]]) {
-        1 => PageSize::new(65536),
-        bytes => PageSize::new(u32::from(bytes)),
+    Ok(if has_magic(&head) {
+        named_page_size(&head)
+    } else {
+        None
     })
 }
 
 /// Whether a log has a committed frame.
 fn has_front<F: FileExt>(alloc: Global, log: &F, log_len: u64) -> Result<bool, Refusal> {
-    let mut scan = Scan::new(alloc);
-    let mut piece = vec![in alloc; 0u8; PIECE]?;
-    let mut at = 0;
-    while at < log_len {
-        let count = (log_len - at).min(PIECE as u64) as usize;
-        let bytes = &mut piece[..count];
-        read_or_zeros(log, at, bytes)?;
-        scan.feed(bytes).map_err(scan_refusal)?;
-        at += count as u64;
-    }
-    Ok(scan.committed().frames != 0)
-}
-
-fn scan_refusal(error: WalFormatError) -> Refusal {
-    match error {
-        WalFormatError::NoMemory => Refusal::NoMemory,
-        WalFormatError::UnknownVersion => Refusal::UnknownLogVersion,
-        _ => Refusal::TooLarge,
+    match scan_file(alloc, log, log_len)? {
+        Ok(scan) => Ok(scan.committed().frames != 0),
+        Err(_) => Ok(false),
     }
 }

@@ -1,9 +1,22 @@
 //! What a command line asks for, or why it asks for nothing.
 use thiserror::Error;
 
+/// What of a database file is shown.
+#[derive(Clone, Copy, Debug, PartialEq, Eq)]
+pub enum Part {
+    /// Its header.
+    Header,
+    /// The page of this number, from 1.
+    Page(u32),
+    /// Its log.
+    Log,
+}
+
 /// What a line asks for.
 #[derive(Clone, Copy, Debug, PartialEq, Eq)]
 pub enum Request<'a> {
+    /// To show a part of this database file.
+    Show { file: &'a str, part: Part },
     /// To fold the log of this database file into it.
     Recover { file: &'a str },
 }

@@ -1,35 +1,7 @@
 use crate::program::run;
-use sqval::PageSize;
-use sqwal::{Order, Sum, WalHeader, frame_head};
-use std::alloc::{AllocError, Global};
+use crate::samples::{PAGE, log_of};
 use std::test::Fail;
 use std::{env, fs, process};
-
-const PAGE: usize = 512;
-
-/// A log of pages of 512 bytes: for each frame the page that it names, the size after its commit and what fills it.
-fn log_of(alloc: Global, frames: &[(u32, u32, u8)]) -> Result<Vec<u8>, AllocError> {
-    let header = WalHeader {
-        order: Order::Big,
-        page_size: PageSize::new(512).unwrap(),
-        sequence: 0,
-        salt1: 1,
-        salt2: 2,
-    };
-    let mut head = [0u8; 32];
-    header.write(&mut head);
-    let mut sum = Sum::zero().add(&head[..24], Order::Big);
-    let mut log = Vec::new(alloc);
-    log.extend_from_slice(&head)?;
-    for &(page, size, fill) in frames {
-        let content = [fill; PAGE];
-        let (frame, next) = frame_head(&header, sum, page, size, &content);
-        log.extend_from_slice(&frame)?;
-        log.extend_from_slice(&content)?;
-        sum = next;
-    }
-    Ok(log)
-}
 
 /// A path for a test's database.
 fn path_of(rt: &HostRuntime, name: &str) -> Result<String, Fail> {

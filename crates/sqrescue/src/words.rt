@@ -1,30 +1,54 @@
 //! The words of a command line.
-ghost use Rattle.std.specs.Prelude.{◌≡◌, List, map, drop, slice_get, IfOk, IsTrue, Contains};
-ghost use Rattle.sqrescue.specs.Line.{Asks};
+ghost use Rattle.std.specs.Prelude.{◌≡◌, ◌≢◌, ◌≤◌, ◌++◌, ℕ, false, List, map, drop, slice_get, codes, IfOk, IfSome, IsTrue, MatchOption};
+ghost use Rattle.std.specs.List.{Contains};
+ghost use Rattle.sqrescue.specs.Line.{Asks, AreOptions, AsksPart, HasPageText, IsNumber};
 
-use crate::requests::{LineError, Request};
+use crate::requests::{LineError, Part, Request};
 use clap::error::ErrorKind;
-use clap::{Arg, ArgAction, ArgMatches, Command};
+use clap::{Arg, ArgAction, ArgMatches, Command, value_parser};
 use std::alloc::{AllocError, Global};
 
-fn command<'a>(alloc: Global) -> Result<Command<'a>, AllocError> {
-    let file = Arg::new(alloc, "FILE")
+/// The argument that names the database file.
+fn file_arg<'a>(alloc: Global) -> Arg<'a> {
+    Arg::new(alloc, "FILE")
         .required(true)
         .action(ArgAction::Set)
-        .help("The database file; its log is FILE-wal");
+        .help("The database file; its logs are FILE-wal and FILE-journal")
+}
+
+fn show_command<'a>(alloc: Global) -> Result<Command<'a>, AllocError> {
+    let page = Arg::new(alloc, "page")
+        .long("page")
+        .value_name("N")
+        .value_parser(value_parser!(u32).range(1..))
+        .help("Shows this page instead");
+    let log = Arg::new(alloc, "log")
+        .long("log")
+        .action(ArgAction::SetTrue)
+        .help("Shows the log instead");
+    Command::new(alloc, "show")
+        .about("Shows the header of the database as its log has it; writes nothing")
+        .arg(file_arg(alloc))?
+        .arg(page)?
+        .arg(log)
+}
+
+fn command<'a>(alloc: Global) -> Result<Command<'a>, AllocError> {
     let recover = Command::new(alloc, "recover")
         .about("Folds the committed frames of the log into the database and empties the log")
-        .arg(file)?;
+        .arg(file_arg(alloc))?;
     Command::new(alloc, "sqrescue")
-        .about("Recovers SQLite databases from their logs")
+        .about("Reads and recovers SQLite databases with their logs")
         .subcommand_required(true)
         .arg_required_else_help(true)
+        .subcommand(show_command(alloc)?)?
         .subcommand(recover)
 }
 
 /// Whether a word is this text.
 fn stands_in(words: &[&str], text: &str) -> bool
-    ensures { IsTrue result → Contains (map (λ w. w.now) words.entry.now) text.now }
+    ensures yes { IsTrue result → Contains (map (λ w. w.now) words.entry.now) text.now }
+    ensures not { result ≡ false → ¬ Contains (map (λ w. w.now) words.entry.now) text.now }
 {
     for word in words {
         if *word == text {
@@ -42,24 +66,111 @@ fn is_asked(words: &[&str], command: &str, file: &str) -> bool
     words.len() >= 2 && words[1] == command && stands_in(&words[2..], file)
 }
 
-/// Reads a line, whose first word is the program's name.
-pub fn request<'a>(alloc: Global, words: &'a [&'a str]) -> Result<Request<'a>, LineError>
-    ensures { IfOk result (Asks (map (λ w. w.now) words.entry.now)) }
+/// The words behind the command and before `--`.
+fn options_of<'a>(words: &'a [&'a str]) -> &'a [&'a str]
+    ensures { AreOptions (map (λ w. w.now) words.entry.now) (map (λ w. w.now) result.now) }
 {
-    let command = command(alloc).map_err(|_| LineError::NoMemory)?;
-    let matches = command.try_get_matches_from(words).map_err(refused)?;
-    match matches.subcommand() {
-        Some((_, matches)) => recovery(words, matches),
-        None => Err(LineError::NoMemory),
+    let from = words.len().min(2);
+    for end in from..words.len() {
+        if words[end] == "--" {
+            return &words[from..end];
+        }
+    }
+    &words[from..]
+}
+
+/// What stands behind `--page=` in a word.
+fn page_value<'a>(word: &'a str) -> Option<&'a str>
+    ensures { MatchOption result ((text : List ℕ) → word.entry.now ≢ codes "--page=" ++ text) (λ text. word.entry.now ≡ codes "--page=" ++ text.now) }
+{
+    word.strip_prefix("--page=")
+}
+
+/// The text of the page's number.
+fn page_text<'a>(options: &'a [&'a str]) -> Option<&'a str>
+    ensures { MatchOption result ((text : List ℕ) → ¬ HasPageText (map (λ w. w.now) options.entry.now) text) (λ text. HasPageText (map (λ w. w.now) options.entry.now) text.now) }
+{
+    for i in 0..options.len() {
+        if options[i] == "--page" && i + 1 < options.len() {
+            return Some(options[i + 1]);
+        }
+        if let Some(text) = page_value(options[i]) {
+            return Some(text);
+        }
+    }
+    None
+}
+
+/// The number of a page. None where the text is none, or 0.
+fn page_number(text: &str) -> Option<u32>
+    ensures { IfSome result (λ n. (1 ≤ n) × IsNumber text.now n) }
+{
+    match text.parse::<u32>() {
+        Ok(number) if number != 0 => Some(number),
+        _ => None,
     }
 }
 
-fn recovery<'a>(words: &'a [&'a str], matches: &ArgMatches<'a>) -> Result<Request<'a>, LineError>
+/// The part that the words ask for. None where its number is none, or where a page and the log are asked for.
+fn part_of(words: &[&str]) -> Option<Part>
+    ensures { IfSome result (λ part. (options : List (List ℕ)) × AreOptions (map (λ w. w.now) words.entry.now) options × AsksPart options part) }
+{
+    let options = options_of(words);
+    let log = stands_in(options, "--log");
+    match page_text(options) {
+        Some(text) => {
+            let number = page_number(text)?;
+            if log {
+                return None;
+            }
+            Some(Part::Page(number))
+        }
+        None => Some(if log { Part::Log } else { Part::Header }),
+    }
+}
+
+/// What the words ask for where the command is this one and the file that one; None where they don't say so.
+fn asked<'a>(words: &'a [&'a str], command: &str, file: &'a str) -> Option<Request<'a>>
+    ensures { IfSome result (Asks (map (λ w. w.now) words.entry.now)) }
+{
+    if is_asked(words, "show", file) && command == "show" {
+        let part = part_of(words)?;
+        return Some(Request::Show { file, part });
+    }
+    if is_asked(words, "recover", file) && command == "recover" {
+        return Some(Request::Recover { file });
+    }
+    None
+}
+
+/// Reads a line, whose first word is the program's name. `NotUnderstood` too where a page and the log are to be shown.
+pub fn request<'a>(alloc: Global, words: &'a [&'a str]) -> Result<Request<'a>, LineError>
     ensures { IfOk result (Asks (map (λ w. w.now) words.entry.now)) }
 {
-    match matches.get_str("FILE") {
-        Some(file) if is_asked(words, "recover", file) => Ok(Request::Recover { file }),
-        _ => Err(LineError::NoMemory),
+    let mut command = command(alloc).map_err(|_| LineError::NoMemory)?;
+    let matches = command.try_get_matches_from_mut(words).map_err(refused)?;
+    match matched(words, &matches) {
+        Some(request) => Ok(request),
+        None => Err(not_understood(&mut command)),
+    }
+}
+
+fn matched<'a>(words: &'a [&'a str], matches: &ArgMatches<'a>) -> Option<Request<'a>>
+    ensures { IfSome result (Asks (map (λ w. w.now) words.entry.now)) }
+{
+    let (command, matches) = matches.subcommand()?;
+    let file = matches.get_str("FILE")?;
+    asked(words, command, file)
+}
+
+/// The fault of words that ask for a page and for the log.
+fn not_understood(command: &mut Command<'_>) -> LineError {
+    match command.error(
+        ErrorKind::ArgumentConflict,
+        "the argument '--page <N>' cannot be used with '--log'",
+    ) {
+        Ok(error) => LineError::NotUnderstood(error),
+        Err(_) => LineError::NoMemory,
     }
 }
 

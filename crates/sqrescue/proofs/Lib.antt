@@ -1,0 +1,14 @@
+pub mod Laying
+pub mod FileHeads
+pub mod Recorded
+pub mod Framed
+pub mod Opening
+pub mod Lines
+pub mod Stepped
+pub mod Based
+pub mod Resting
+pub mod Serving
+pub mod PageSizes
+pub mod Moments
+pub mod Going
+pub mod Worlds

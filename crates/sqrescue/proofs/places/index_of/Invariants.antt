@@ -1,0 +1,14 @@
+use Rattle.std.proofs.Common.{◌≤◌, ◌≡◌, ℕ, List, length}
+use Rattle.sqwal.specs.Header.{named_size}
+use Rattle.sqwal.specs.Frames.{IsValidFrame}
+use Rattle.sqwal.specs.Took.{Took}
+use Rattle.walcore.specs.Plans.{IsTable}
+use Rattle.sqrescue.proofs.places.index_of.Given as goal
+
+abbrev pub invariant-loop-k : goal.invariant-loop-k
+invariant-loop-k l = record {
+  bound : l.front.size ≤ l.index.bound;
+  room : l.front.frames ≤ l.index.room;
+  long : length l.index.pages ≡ l.k;
+  table : (w : List ℕ) → Took w l.scan → IsValidFrame (named_size w) w l.front.frames → IsTable (named_size w) l.front.size w l.k l.index;
+}

@@ -1,0 +1,248 @@
+//! What `show` prints.
+ghost use Rattle.std.specs.Prelude.{◌≡◌, ◌<◌, ◌≤◌, length, IfOk, OnOk};
+ghost use Rattle.sqval.specs.PageSize.{IsPageSize};
+ghost use Rattle.sqpage.specs.Chain.{payload_size};
+
+use crate::logs::{Contents, LogInUse, log_in_use, opened, read_all, replay_file, scan_file};
+use crate::outcome::Refusal;
+use crate::requests::Part;
+use crate::texts::{
+    write_bytes, write_cell, write_column, write_header, write_journal, write_log, write_page,
+};
+use crate::view::View;
+use crate::view_error::ViewError;
+use sqpage::{BtreePage, Cell, DbHeader, Fault, PageSource, SourceError, payload};
+use sqval::Record;
+use std::alloc::{AllocError, Global};
+use std::io::{self, BufWriter, Write};
+use std::os::unix::fs::FileExt;
+use std::rt::Files;
+
+/// Why not all was shown.
+#[derive(Clone, Copy, Debug, PartialEq, Eq)]
+pub enum ShowError {
+    Refused(Refusal),
+    /// A line could not be written.
+    Unwritten,
+}
+
+impl From<Refusal> for ShowError {
+    fn from(refusal: Refusal) -> ShowError {
+        ShowError::Refused(refusal)
+    }
+}
+
+impl From<AllocError> for ShowError {
+    fn from(_error: AllocError) -> ShowError {
+        ShowError::Refused(Refusal::NoMemory)
+    }
+}
+
+impl From<io::Error> for ShowError {
+    fn from(_error: io::Error) -> ShowError {
+        ShowError::Unwritten
+    }
+}
+
+impl From<SourceError> for ShowError {
+    fn from(_error: SourceError) -> ShowError {
+        ShowError::Refused(Refusal::FileFailed)
+    }
+}
+
+impl From<ViewError> for Refusal {
+    fn from(error: ViewError) -> Refusal {
+        match error {
+            ViewError::TwoLogs => Refusal::TwoLogs,
+            ViewError::TooLarge => Refusal::TooLarge,
+            ViewError::Header(_) => Refusal::NotADatabase,
+            ViewError::NoMemory => Refusal::NoMemory,
+        }
+    }
+}
+
+/// Prints a part of a database file as its log has it, or its log. No file is opened for writing, and none is made.
+pub fn show<R: Files + AllocGlobal, O: Write>(
+    rt: &R,
+    file: &str,
+    part: Part,
+    out: &mut O,
+) -> Result<(), ShowError>
+where
+    R::File: FileExt,
+{
+    let Ok(mut lines) = BufWriter::new(rt.alloc(), out) else {
+        return Err(ShowError::Refused(Refusal::NoMemory));
+    };
+    match part {
+        Part::Header => show_header(rt, file, &mut lines)?,
+        Part::Page(number) => show_page(rt, file, number, &mut lines)?,
+        Part::Log => show_log(rt, file, &mut lines)?,
+    }
+    lines.flush()?;
+    Ok(())
+}
+
+fn show_header<R: Files + AllocGlobal, W: Write>(
+    rt: &R,
+    file: &str,
+    out: &mut W,
+) -> Result<(), ShowError>
+where
+    R::File: FileExt,
+{
+    let alloc = rt.alloc();
+    let contents = read_all(rt, file)?;
+    let mut view = view_of(alloc, &contents)?;
+    if view.count() == 0 {
+        return Err(ShowError::Refused(Refusal::NotADatabase));
+    }
+    let page = page_of(alloc, &mut view, 1)?;
+    let Some(head) = page.first_chunk::<100>() else {
+        return Err(ShowError::Refused(Refusal::NotADatabase));
+    };
+    let Ok(header) = DbHeader::read(head) else {
+        return Err(ShowError::Refused(Refusal::NotADatabase));
+    };
+    write_header(out, &header, view.count())?;
+    Ok(())
+}
+
+/// The view of a file with its logs.
+fn view_of(alloc: Global, contents: &Contents) -> Result<View<'_>, Refusal> {
+    let view = View::new(alloc, &contents.db, &contents.wal, &contents.journal)?;
+    Ok(view)
+}
+
+/// A page of a view. Refused where there is no such page.
+fn page_of(alloc: Global, view: &mut View<'_>, number: u32) -> Result<Vec<u8>, ShowError>
+    ensures page { IfOk result (λ page. (length page.items ≡ view.old.page_size) × IsPageSize (length page.items)) }
+    ensures number { OnOk result (0 < number) }
+    ensures size { view.new.page_size ≡ view.old.page_size }
+{
+    if number == 0 || number > view.count() {
+        return Err(ShowError::Refused(Refusal::NoSuchPage));
+    }
+    let size = view.page_size().get() as usize;
+    let mut page = vec![in alloc; 0u8; size]?;
+    view.page(number, &mut page)?;
+    Ok(page)
+}
+
+/// How many bytes of a page are usable, by page 1. Where these are too few, all are (own).
+fn usable_size(first: &[u8]) -> u32
+    requires { IsPageSize (length first.now) }
+    ensures least { 480 ≤ result }
+    ensures most { result ≤ length first.now }
+{
+    let size = first.len() as u32;
+    let usable = size - u32::from(first[20]);
+    if usable < 480 { size } else { usable }
+}
+
+fn show_page<R: Files + AllocGlobal, W: Write>(
+    rt: &R,
+    file: &str,
+    number: u32,
+    out: &mut W,
+) -> Result<(), ShowError>
+where
+    R::File: FileExt,
+{
+    let alloc = rt.alloc();
+    let contents = read_all(rt, file)?;
+    let mut view = view_of(alloc, &contents)?;
+    let first = page_of(alloc, &mut view, 1)?;
+    let usable = usable_size(&first);
+    let page = page_of(alloc, &mut view, number)?;
+    match BtreePage::new(&page, number, usable) {
+        Ok(btree) => show_cells(alloc, &mut view, number, &btree, out),
+        Err(_) => Ok(write_bytes(out, &page)?),
+    }
+}
+
+/// Prints a b-tree page of the view with its cells.
+fn show_cells<W: Write>(
+    alloc: Global,
+    view: &mut View<'_>,
+    number: u32,
+    page: &BtreePage<'_>,
+    out: &mut W,
+) -> Result<(), ShowError>
+    requires { length page.now.used ≤ view.old.page_size }
+{
+    write_page(out, number, page)?;
+    for i in 0..page.len() {
+        let cell = page.cell(i);
+        write_cell(out, i, &cell)?;
+        show_payload(alloc, view, &cell, out)?;
+    }
+    if let Some(right) = page.right() {
+        writeln!(out, "right {right}")?;
+    }
+    Ok(())
+}
+
+/// Prints the columns of a cell's record, where it has a payload, or what refuses the payload or the record.
+fn show_payload<W: Write>(
+    alloc: Global,
+    view: &mut View<'_>,
+    cell: &Cell<'_>,
+    out: &mut W,
+) -> Result<(), ShowError>
+    requires least { 480 ≤ cell.now.usable }
+    requires most { cell.now.usable ≤ view.old.page_size }
+    requires part { length cell.now.local.now ≤ payload_size cell.now }
+    ensures { view.new.page_size ≡ view.old.page_size }
+{
+    if cell.payload.is_none() {
+        return Ok(());
+    }
+    let mut bytes = Vec::new(alloc);
+    match payload(alloc, view, cell, &mut bytes) {
+        Ok(()) => show_record(&bytes, out),
+        Err(error) => match error.fault {
+            Fault::NoMemory => Err(ShowError::Refused(Refusal::NoMemory)),
+            fault => Ok(writeln!(out, "  payload refused {}", fault.number())?),
+        },
+    }
+}
+
+fn show_record<W: Write>(bytes: &[u8], out: &mut W) -> Result<(), ShowError> {
+    match Record::new(bytes) {
+        Ok(record) => {
+            for value in record.columns() {
+                write_column(out, &value)?;
+            }
+        }
+        Err(error) => writeln!(out, "  record refused {}", error.number())?,
+    }
+    Ok(())
+}
+
+fn show_log<R: Files + AllocGlobal, W: Write>(
+    rt: &R,
+    file: &str,
+    out: &mut W,
+) -> Result<(), ShowError>
+where
+    R::File: FileExt,
+{
+    let alloc = rt.alloc();
+    match log_in_use(rt, file)? {
+        LogInUse::Neither => writeln!(out, "no log")?,
+        LogInUse::Wal(path) => {
+            let (log, length) = opened(rt, path.as_str())?;
+            match scan_file(alloc, &log, length)? {
+                Ok(scan) => write_log(out, &scan)?,
+                Err(error) => writeln!(out, "wal refused {}", error.number())?,
+            }
+        }
+        LogInUse::Journal(path) => {
+            let (journal, length) = opened(rt, path.as_str())?;
+            let replay = replay_file(alloc, &journal, length)?;
+            write_journal(out, &replay)?;
+        }
+    }
+    Ok(())
+}

@@ -1,0 +1,62 @@
+//! The database that a file and the log beside it show, as a source of pages.
+ghost use Rattle.std.specs.Prelude.{◌≡◌, ◌<◌};
+ghost use Rattle.sqrescue.specs.Laid.{place_of, laid, ArePlaces};
+
+mod opening;
+#[cfg(test)]
+mod tests;
+
+use crate::file_head::copy_page;
+use sqpage::{PageSource, SourceError};
+use sqval::PageSize;
+
+/// The pages of a database file as the log beside it has them. It borrows the bytes of both and keeps 8 bytes for each
+/// page where a log counts.
+#[derive(Drop)]
+pub struct View<'a> {
+    db: &'a [u8],
+    /// The log that counts; empty where none does.
+    log: &'a [u8],
+    page_size: PageSize,
+    count: u32,
+    /// By page: where its bytes begin in the log. 0, or none, where the file's count.
+    places: Vec<u64>,
+    ghost within: { ArePlaces page_size log.now places.items },
+}
+
+impl<'a> View<'a> {
+    /// Where page `p` begins in the log, 0 where the file's counts.
+    fn place(&self, p: u32) -> u64
+        requires { 0 < p }
+        ensures { result ≡ place_of self.now.places.items p }
+    {
+        self.places.get(p as usize - 1).copied().unwrap_or(0)
+    }
+}
+
+impl<'a> PageSource for View<'a> {
+    ghost pages = { λ v. laid v.page_size v.count v.db.now v.log.now v.places.items };
+
+    ghost size = { λ v. v.page_size };
+
+    ghost gives_pages = { λ _. Unit {0} };
+
+    fn page_size(&self) -> PageSize {
+        self.page_size
+    }
+
+    fn count(&self) -> u32 {
+        self.count
+    }
+
+    fn page(&mut self, p: u32, out: &mut [u8]) -> Result<(), SourceError> {
+        let size = self.page_size.get() as usize;
+        let at = self.place(p) as usize;
+        if at == 0 {
+            copy_page(self.db, p, out);
+        } else {
+            out.copy_from_slice(&self.log[at..at + size]);
+        }
+        Ok(())
+    }
+}

@@ -1,0 +1,40 @@
+//! Why a file and its logs show no database.
+ghost use Rattle.std.specs.Prelude.{◌≡◌};
+ghost use Rattle.sqrescue.specs.declared.view_error.ViewError.TheVariants.{NoMemory};
+
+use sqpage::Fault;
+use std::alloc::{AllocError, AllocFailed};
+use thiserror::Error;
+
+/// Why a file and its logs show no database.
+#[derive(Clone, Copy, Debug, PartialEq, Eq, Error)]
+pub enum ViewError {
+    /// The journal is hot, and the write-ahead log isn't empty.
+    #[error("two logs")]
+    TwoLogs,
+    /// The log is too long to be scanned, or the database would be above 1,073,741,824 bytes.
+    #[error("too large")]
+    TooLarge,
+    /// No log counts, and the file's header has this fault, Magic or PageSize.
+    #[error("{0}")]
+    Header(Fault),
+    /// No memory.
+    #[error("no memory")]
+    NoMemory,
+}
+
+impl From<AllocError> for ViewError {
+    ghost from_gives = { λ _ e. e ≡ NoMemory };
+
+    fn from(_refused: AllocError) -> ViewError {
+        ViewError::NoMemory
+    }
+}
+
+impl<T: Drop> From<AllocFailed<T>> for ViewError {
+    ghost from_gives = { λ _ e. e ≡ NoMemory };
+
+    fn from(_refused: AllocFailed<T>) -> ViewError {
+        ViewError::NoMemory
+    }
+}
