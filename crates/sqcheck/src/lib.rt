@@ -15,3 +15,6 @@ mod walk;
 
 pub use checker::check;
 pub use report::Report;
+
+#[cfg(test)]
+mod tests;
