@@ -1,7 +1,6 @@
 -- The pages where a run begins.
-use Rattle.std.proofs.Common.{◌≡◌, ◌≢◌, ◌⊎◌, inl, inr, ℕ, zero, suc, ◌+◌, ◌<◌, ◌≤◌, List, [], ◌∷◌, ◌++◌, length, take, get_or, map, Vec, Global, IsTrue, false, refl, sym, ◌∙◌, ap, subst, arith, add-one, append_assoc}
+use Rattle.std.proofs.Common.{◌≡◌, ◌≢◌, ◌⊎◌, inl, inr, ℕ, zero, suc, ◌+◌, ◌<◌, List, [], ◌∷◌, ◌++◌, length, take, get_or, Vec, Global, IsTrue, false, refl, sym, ◌∙◌, ap, subst, arith, add-one, append_assoc}
 use Rattle.std.specs.List.{concat}
-use Rattle.std.proofs.lemmas.List.Folds.{concat-append}
 use Rattle.std.proofs.lemmas.List.{append-nil}
 use Rattle.sqrescue.specs.Pages.{pages_of, ArePages}
 

@@ -1,5 +1,5 @@
 -- A run that goes on by one moment.
-use Rattle.std.proofs.Common.{◌≡◌, ◌⊎◌, inl, inr, ℕ, zero, suc, ◌<◌, ◌≤◌, Bool, false, List, [], ◌∷◌, ◌++◌, length, take, refl, sym, ◌∙◌, ap, subst, arith, length-append}
+use Rattle.std.proofs.Common.{◌≡◌, ◌⊎◌, inl, inr, ℕ, zero, suc, ◌≤◌, Bool, false, List, [], ◌∷◌, ◌++◌, length, take, refl, sym, ◌∙◌, ap, subst, arith, length-append}
 use Rattle.std.proofs.lemmas.List.{take-append-le}
 use Rattle.crashdisk.specs.Call.{DiskState}
 use Rattle.walcore.specs.Answers.{Answer}
@@ -7,7 +7,7 @@ use Rattle.walcore.specs.Machine.{State, Act, Step}
 use Rattle.walcore.specs.Making.{Made, Makes, Permits, Holds, nothing}
 use Rattle.walcore.specs.Runs.{Moment, Runs, IsRun}
 use Rattle.walcore.specs.Fits.{Past}
-use Rattle.sqrescue.specs.Sessions.{Serves, ServesTo}
+use Rattle.sqrescue.specs.Sessions.{Serves}
 use Rattle.sqrescue.specs.Worlds.{MakesAll, Fitting, Goings}
 use Rattle.sqrescue.proofs.PageSizes.{page_size_stays}
 

@@ -1,5 +1,5 @@
 -- The moments of a run that goes on.
-use Rattle.std.proofs.Common.{◌≡◌, inl, inr, ℕ, zero, suc, ◌+◌, ◌<◌, ◌≤◌, Bool, true, false, ◌&&◌, cond, List, [], ◌∷◌, ◌++◌, length, Option, Some, None, is_some, refl, sym, ◌∙◌, ap, subst, arith, append_assoc, length-append}
+use Rattle.std.proofs.Common.{◌≡◌, ℕ, ◌+◌, Bool, true, false, ◌&&◌, cond, List, [], ◌∷◌, ◌++◌, length, Option, Some, None, is_some, refl, sym, ◌∙◌, ap, arith, length-append}
 use Rattle.std.specs.List.{count_by}
 use Rattle.std.proofs.lemmas.List.Sums.{sum_by-cons, sum_by-append}
 use Rattle.sqrescue.specs.Run.{moment, moments, moments_of, is_opening, is_crash, IsComplete}
@@ -7,7 +7,7 @@ use Rattle.sqrescue.specs.Worlds.{list_of, IsNoted}
 use Rattle.sqrescue.specs.declared.engine.Given.{Given}
 use Rattle.sqrescue.specs.declared.reply.Run.{Run}
 use Rattle.sqrescue.specs.declared.event.Event.{Event}
-use Rattle.sqrescue.specs.declared.event.Event.TheVariants.{Open, Commit, Sync, Checkpoint, Restart, Begin, Read, End, StopAfter, StopAtSync, Fail, Crash}
+use Rattle.sqrescue.specs.declared.event.Event.TheVariants.{Open, Crash}
 use Rattle.sqrescue.specs.declared.reply.Reply.{Reply}
 use Rattle.sqrescue.specs.declared.reply.Found.{Found}
 use Rattle.sqrescue.specs.declared.reply.Crashed.{Crashed as CrashedLog}

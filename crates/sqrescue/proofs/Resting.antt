@@ -1,25 +1,22 @@
 -- What fits a disk after a crash, and where a run begins.
-use Rattle.std.proofs.Common.{◌≡◌, ◌⊎◌, inl, inr, ⊎_elim, ℕ, zero, suc, ◌+◌, ◌-◌, ◌*◌, ◌<◌, ◌≤◌, Bool, true, false, List, [], ◌∷◌, ◌++◌, length, get_or, Option, refl, sym, ◌∙◌, ap, subst, arith, length-append}
-use Rattle.std.specs.List.{concat, Contains}
+use Rattle.std.proofs.Common.{◌≡◌, inl, ⊎_elim, ℕ, zero, suc, ◌+◌, ◌-◌, ◌*◌, ◌<◌, ◌≤◌, Bool, true, false, List, [], ◌∷◌, ◌++◌, length, get_or, Option, refl, sym, ◌∙◌, ap, subst, arith, length-append}
+use Rattle.std.specs.List.{concat}
 use Rattle.sqval.specs.PageSize.{IsPageSize}
-use Rattle.sqval.specs.Database.{Database, page, file_page}
-use Rattle.sqwal.specs.Header.{IsHeader, named_size}
+use Rattle.sqval.specs.Database.{Database, page}
+use Rattle.sqwal.specs.Header.{named_size}
 use Rattle.sqwal.specs.Frames.{IsFront}
 use Rattle.crashdisk.specs.State.{longest, IsImage, IsSectorSize}
 use Rattle.crashdisk.specs.Call.{DiskState, IsCrash, IsNew}
-use Rattle.crashdisk.specs.Solid.{is_sector_size}
 use Rattle.crashdisk.proofs.Keeping.{sound_crash, sound_new}
 use Rattle.crashdisk.proofs.Settled.{settled_one}
 use Rattle.crashdisk.proofs.Solid.{size_is}
-use Rattle.walcore.specs.Refusal.{most_bytes}
 use Rattle.walcore.specs.Alone.{AreWhole}
-use Rattle.walcore.specs.Folding.{IsJust, TearsPages}
+use Rattle.walcore.specs.Folding.{IsJust}
 use Rattle.walcore.specs.Phases.{Suits}
 use Rattle.walcore.specs.Era.{IsHeld}
-use Rattle.walcore.specs.Made.{AreMade, NoChance}
-use Rattle.walcore.specs.Making.{Made}
-use Rattle.walcore.specs.Machine.{State, gone, forgotten}
-use Rattle.walcore.specs.Standing.{MayBeRead, ShowsWhole, ShowsHistory, HasMadeHeader}
+use Rattle.walcore.specs.Made.{AreMade}
+use Rattle.walcore.specs.Machine.{gone, forgotten}
+use Rattle.walcore.specs.Standing.{MayBeRead, ShowsWhole}
 use Rattle.walcore.specs.Fits.{Past, FitsAlone, beginning, none_open}
 use Rattle.walcore.specs.declared.reader.Reader.{Reader}
 use Rattle.walcore.proofs.Fronting.{just_file}
@@ -27,7 +24,7 @@ use Rattle.walcore.proofs.Narrowing.{narrows_crash, left_narrows}
 use Rattle.walcore.proofs.Pages.{page_by_bytes}
 use Rattle.walcore.proofs.Standing.{read_cases}
 use Rattle.walcore.proofs.Turning.{just_shows}
-use Rattle.sqrescue.specs.Pages.{ArePages, IsBase}
+use Rattle.sqrescue.specs.Pages.{IsBase}
 
 -- ---- A crash.
 

@@ -1,13 +1,12 @@
 -- An event, with an engine and without one.
-use Rattle.std.proofs.Common.{◌≡◌, inl, inr, ℕ, zero, suc, ◌+◌, ◌<◌, ◌≤◌, Bool, true, false, ◌&&◌, List, [], ◌∷◌, ◌++◌, length, map, replicate, get_or, Option, Some, None, is_some, Result, Ok, Err, IfOk, cond, not, Vec, Global, refl, sym, ◌∙◌, ap, subst, arith}
+use Rattle.std.proofs.Common.{◌≡◌, ℕ, zero, suc, ◌+◌, ◌≤◌, Bool, true, false, ◌&&◌, List, [], ◌∷◌, ◌++◌, length, replicate, get_or, Option, Some, None, is_some, Result, Ok, Err, IfOk, cond, not, Vec, Global, refl, sym, ◌∙◌, ap, subst, arith}
 use Rattle.std.proofs.lemmas.List.{length-replicate, append-nil}
-use Rattle.std.proofs.lemmas.Bool.Decides.{nat_tests}
-use Rattle.crashdisk.specs.Call.{DiskState, IsCrash, kept_of}
+use Rattle.crashdisk.specs.Call.{DiskState}
 use Rattle.crashdisk.specs.Model.{state_of}
 use Rattle.crashdisk.specs.declared.model.ModelDisk.{ModelDisk}
 use Rattle.walcore.specs.Alone.{AreWhole}
 use Rattle.walcore.specs.Answers.{Answer, Files, Done, NoReader, Refused, Refuses}
-use Rattle.walcore.specs.Machine.{State, Act, Opens, Commits, Syncs, Begins, Reads, Ends, Checkpoints, Restarts, Crashes, Sets, Crashed, Step, ReadStep, EndStep, reader_at, forgotten, gone, newest, call_refusal, commit_refusal, restart_refusal}
+use Rattle.walcore.specs.Machine.{State, Act, Opens, Sets, Crashed, Step, ReadStep, EndStep, forgotten, gone, newest, call_refusal, commit_refusal, restart_refusal}
 use Rattle.walcore.specs.CommitRefusals.{first_true, refusal_of}
 use Rattle.walcore.specs.declared.state.Core.{Core}
 use Rattle.crashdisk.specs.declared.choice.Choice.{Choice}
@@ -18,8 +17,8 @@ use Rattle.walcore.specs.Fits.{Past, FitsAlone, FitsCore, AreFiles, StepsTo, Giv
 use Rattle.walcore.specs.declared.error.WalError.{WalError}
 use Rattle.walcore.specs.declared.reader.Reader.{Reader}
 use Rattle.walcore.specs.declared.wal.Wal.{Wal}
-use Rattle.sqrescue.specs.Run.{numbered, act_of, answer_of, files_of, left_of, is_opening, is_crash}
-use Rattle.sqrescue.specs.Sessions.{tokens_of, FitsSession, Serves, ServesTo, SessionServes}
+use Rattle.sqrescue.specs.Run.{numbered, act_of, answer_of, files_of, is_opening, is_crash}
+use Rattle.sqrescue.specs.Sessions.{FitsSession, Serves, ServesTo, SessionServes}
 use Rattle.sqrescue.specs.Engines.{SaysLeft, IsLeftBy, FitsClosed, FitsEngine, disk_of, begun_of, EngineServes, closed_answer, Answers, IsAlone}
 use Rattle.sqrescue.specs.declared.engine.Engine.{Engine}
 use Rattle.sqrescue.specs.declared.engine.Engine.TheVariants.{Closed, Open}

@@ -1,11 +1,10 @@
 -- What a call of an engine is in a run.
-use Rattle.std.proofs.Common.{◌≡◌, ◌⊎◌, inl, inr, ℕ, zero, suc, ◌+◌, ◌-◌, ◌<◌, ◌≤◌, false, List, [], ◌∷◌, ◌++◌, length, map, take, drop, replicate, set, slice_get, get_or, Option, Some, None, Result, Ok, Err, IfOk, Vec, Global, length-append, refl, sym, ◌∙◌, ap, subst, arith, append_assoc}
+use Rattle.std.proofs.Common.{◌≡◌, ℕ, zero, suc, ◌+◌, ◌<◌, false, List, [], ◌∷◌, ◌++◌, length, take, drop, replicate, set, slice_get, get_or, Option, Some, None, Result, Ok, Err, IfOk, Vec, Global, length-append, refl, sym, ◌∙◌, ap, subst, arith, append_assoc}
 use Rattle.std.proofs.lemmas.List.{length-replicate}
 use Rattle.std.proofs.lemmas.Grind.{common_steps}
-use Rattle.crashdisk.specs.Call.{DiskState}
 use Rattle.crashdisk.specs.Model.{state_of}
 use Rattle.walcore.specs.Answers.{Answer, Done, NoReader, Reader as ReaderAnswer}
-use Rattle.walcore.specs.Machine.{State, Act, Begins, Reads, Ends, reader_at, Step, ReadStep, EndStep}
+use Rattle.walcore.specs.Machine.{Act, Begins, Reads, Ends, reader_at, Step, ReadStep, EndStep}
 use Rattle.walcore.specs.Making.{Makes, Permits}
 use Rattle.walcore.specs.declared.wal.Wal.{Wal}
 use Rattle.crashdisk.specs.declared.model.ModelDisk.{ModelDisk}

@@ -1,13 +1,12 @@
 -- A run that goes on by one event.
-use Rattle.std.proofs.Common.{◌≡◌, ℕ, zero, suc, ◌+◌, ◌<◌, ◌≤◌, Bool, true, false, cond, List, [], ◌∷◌, ◌++◌, length, take, get_or, replicate, None, refl, sym, ◌∙◌, ap, subst, arith, add-one}
+use Rattle.std.proofs.Common.{◌≡◌, ℕ, zero, suc, ◌+◌, ◌<◌, ◌≤◌, Bool, true, false, cond, List, [], ◌∷◌, ◌++◌, length, take, get_or, refl, sym, ◌∙◌, ap, subst, arith, add-one}
 use Rattle.crashdisk.specs.Model.{state_of}
 use Rattle.crashdisk.specs.declared.model.ModelDisk.{ModelDisk}
-use Rattle.walcore.specs.Machine.{State, Act, Step, start}
-use Rattle.walcore.specs.Making.{Holds, nothing}
-use Rattle.walcore.specs.Runs.{Moment, IsRun}
-use Rattle.walcore.specs.Fits.{Past, beginning}
+use Rattle.walcore.specs.Machine.{Act}
+use Rattle.walcore.specs.Runs.{Moment}
+use Rattle.walcore.specs.Fits.{beginning}
 use Rattle.sqrescue.specs.Pages.{pages_of}
-use Rattle.sqrescue.specs.Run.{moment, moments_of, start_of, IsComplete}
+use Rattle.sqrescue.specs.Run.{moment, moments_of, start_of}
 use Rattle.sqrescue.specs.Engines.{FitsEngine, disk_of}
 use Rattle.sqrescue.specs.Worlds.{BeginsOn, Goes, Goings, Served}
 use Rattle.sqrescue.specs.declared.base.Base.{Base}

@@ -1,5 +1,5 @@
 -- How the engine of a run, or the disk without one, goes from one event to the next.
-use Rattle.std.specs.Prelude.{◌≡◌, ℕ, ◌+◌, Bool, true, false, ◌&&◌, List, length, replicate, Option, Some, None, is_some, Result, Ok, Err}
+use Rattle.std.specs.Prelude.{◌≡◌, ℕ, Bool, true, false, ◌&&◌, List, replicate, Option, Some, None, is_some, Result, Ok, Err}
 use Rattle.crashdisk.specs.Call.{DiskState, IsCrash}
 use Rattle.crashdisk.specs.Model.{state_of}
 use Rattle.walcore.specs.Answers.{Answer, Done, NoReader, Refused}

@@ -26,6 +26,8 @@ mod view;
 mod view_error;
 mod words;
 mod world;
+#[cfg(test)]
+mod world_tests;
 
 use std::process::ExitCode;
 use std::{env, io};

@@ -1,4 +1,4 @@
-use Rattle.std.proofs.Common.{ap, sym, ◌∙◌}
+use Rattle.std.proofs.Common.{ap}
 use Rattle.crashdisk.specs.Model.{state_of}
 use Rattle.sqrescue.specs.Run.{is_crash}
 use Rattle.sqrescue.proofs.Serving.{crash_answers}

@@ -1,4 +1,4 @@
-use Rattle.std.proofs.Common.{ap, sym, ◌∙◌, ◌≡◌, subst, length}
+use Rattle.std.proofs.Common.{sym, ◌∙◌}
 use Rattle.crashdisk.specs.Model.{state_of}
 use Rattle.sqrescue.proofs.Serving.{open_answers}
 use Rattle.sqrescue.proofs.engine.Engine.open.Goals as goal

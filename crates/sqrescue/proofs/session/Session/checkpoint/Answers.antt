@@ -1,5 +1,4 @@
 use Rattle.std.proofs.Common.{sym}
-use Rattle.walcore.specs.Answers.{Done}
 use Rattle.walcore.specs.Machine.{Checkpoints}
 use Rattle.walcore.specs.Fits.{answered}
 use Rattle.walcore.specs.Bringing.{answer_of as checkpoint_answer}

@@ -2,7 +2,6 @@ use Rattle.std.proofs.Common.{sym}
 use Rattle.walcore.specs.Answers.{Done}
 use Rattle.walcore.specs.Machine.{Syncs}
 use Rattle.walcore.specs.Fits.{answered}
-use Rattle.walcore.specs.Bringing.{answer_of as checkpoint_answer}
 use Rattle.sqrescue.specs.Run.{answer_of}
 use Rattle.sqrescue.proofs.Stepped.{stepped_still}
 use Rattle.sqrescue.proofs.session.Session.sync.Goals as goal
