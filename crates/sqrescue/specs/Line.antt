@@ -5,7 +5,7 @@ use Rattle.std.specs.Str.Parse.{IsNumeral, digits_value, without_leading_plus}
 use Rattle.sqrescue.specs.declared.requests.Part.{Part}
 use Rattle.sqrescue.specs.declared.requests.Part.TheVariants.{Header, Page, Log}
 use Rattle.sqrescue.specs.declared.requests.Request.{Request}
-use Rattle.sqrescue.specs.declared.requests.Request.TheVariants.{Show, Recover}
+use Rattle.sqrescue.specs.declared.requests.Request.TheVariants.{Show, Check, Recover}
 
 -- the words behind the command, up to a "--"
 pub record AreOptions (words options : List (List ℕ)) : Type 0 where
@@ -35,4 +35,5 @@ abbrev pub Asks : List (List ℕ) → Request → Type 0
 Asks words (Show file part) =
     (slice_get words 1 ≡ Some (codes "show")) × Contains (drop 2 words) file.now
     × ((options : List (List ℕ)) × AreOptions words options × AsksPart options part)
+Asks words (Check file) = (slice_get words 1 ≡ Some (codes "check")) × Contains (drop 2 words) file.now
 Asks words (Recover file) = (slice_get words 1 ≡ Some (codes "recover")) × Contains (drop 2 words) file.now

@@ -2,6 +2,9 @@
 #![tactic(auto)]
 
 mod base;
+#[cfg(test)]
+mod check_tests;
+mod checking;
 mod engine;
 mod event;
 mod file_disk;
@@ -13,9 +16,9 @@ mod program;
 mod recovery;
 mod reply;
 mod requests;
-mod session;
 #[cfg(test)]
 mod samples;
+mod session;
 #[cfg(test)]
 mod show_tests;
 mod showing;

@@ -52,6 +52,9 @@ pub enum Refusal {
     /// The file's header is no database's.
     #[error("not a database")]
     NotADatabase,
+    /// The database is one of auto-vacuum, whose pointer maps aren't read.
+    #[error("auto-vacuum")]
+    AutoVacuum,
     /// The database has no page of this number.
     #[error("no such page")]
     NoSuchPage,

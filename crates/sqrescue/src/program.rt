@@ -1,6 +1,7 @@
 //! The program over a runtime's files and two writers.
 ghost use Rattle.std.specs.Prelude.{◌≤◌};
 
+use crate::checking::check;
 use crate::recovery::recover;
 use crate::requests::{LineError, Request};
 use crate::showing::{ShowError, show};
@@ -12,12 +13,14 @@ use std::rt::Files;
 
 const DONE: u8 = 0;
 
+const DAMAGED: u8 = 1;
+
 const NOT_UNDERSTOOD: u8 = 2;
 
 const REFUSED: u8 = 3;
 
 /// Carries out a command line, whose first word is the program's name, and answers the program's status: 0 where it is
-/// done (also for help), 2 for words that aren't understood, 3 where it was refused or a file or a writer failed.
+/// done (also for help), 1 where `check` found damage, 2 for words that aren't understood, 3 where it was refused or a file or a writer failed.
 pub fn run<R: Files + AllocGlobal, O: Write, E: Write>(
     rt: &R,
     words: &[&str],
@@ -31,6 +34,12 @@ where
     match request(rt.alloc(), words) {
         Ok(Request::Show { file, part }) => match show(rt, file, part, out) {
             Ok(()) => DONE,
+            Err(ShowError::Refused(refusal)) => refused(err, &refusal),
+            Err(ShowError::Unwritten) => REFUSED,
+        },
+        Ok(Request::Check { file }) => match check(rt, file, out) {
+            Ok(true) => DONE,
+            Ok(false) => DAMAGED,
             Err(ShowError::Refused(refusal)) => refused(err, &refusal),
             Err(ShowError::Unwritten) => REFUSED,
         },

@@ -17,6 +17,8 @@ pub enum Part {
 pub enum Request<'a> {
     /// To show a part of this database file.
     Show { file: &'a str, part: Part },
+    /// To check this database file as its log has it.
+    Check { file: &'a str },
     /// To fold the log of this database file into it.
     Recover { file: &'a str },
 }

@@ -1,6 +1,7 @@
 //! The lines that are printed of a database and its logs.
+use sqcheck::Report;
 use sqjournal::Replay;
-use sqpage::{BtreePage, Cell, DbHeader, Kind};
+use sqpage::{BtreePage, Cell, CheckError, DbHeader, Kind};
 use sqval::Value;
 use sqwal::Scan;
 use std::io::{self, Write};
@@ -35,6 +36,27 @@ pub fn write_header<W: Write>(out: &mut W, header: &DbHeader, pages: u32) -> io:
         writeln!(out, "{name:<20}{value}")?;
     }
     Ok(())
+}
+
+/// The line of a well-formed database: its pages by their use.
+pub fn write_report<W: Write>(out: &mut W, report: &Report) -> io::Result<()> {
+    writeln!(
+        out,
+        "clean: {} pages, {} trees, {} b-tree, {} overflow, {} free",
+        report.pages, report.trees, report.btree, report.overflow, report.free
+    )
+}
+
+/// The line of a fault at a page.
+pub fn write_fault<W: Write>(out: &mut W, error: &CheckError) -> io::Result<()> {
+    let fault = error.fault;
+    writeln!(
+        out,
+        "page {}: fault {} {}",
+        error.page,
+        fault.number(),
+        fault.name()
+    )
 }
 
 /// Bytes in lower-case hex.

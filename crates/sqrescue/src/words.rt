@@ -34,6 +34,9 @@ fn show_command<'a>(alloc: Global) -> Result<Command<'a>, AllocError> {
 }
 
 fn command<'a>(alloc: Global) -> Result<Command<'a>, AllocError> {
+    let check = Command::new(alloc, "check")
+        .about("Checks the database as its log has it; writes nothing")
+        .arg(file_arg(alloc))?;
     let recover = Command::new(alloc, "recover")
         .about("Folds the committed frames of the log into the database and empties the log")
         .arg(file_arg(alloc))?;
@@ -42,6 +45,7 @@ fn command<'a>(alloc: Global) -> Result<Command<'a>, AllocError> {
         .subcommand_required(true)
         .arg_required_else_help(true)
         .subcommand(show_command(alloc)?)?
+        .subcommand(check)?
         .subcommand(recover)
 }
 
@@ -136,6 +140,9 @@ fn asked<'a>(words: &'a [&'a str], command: &str, file: &'a str) -> Option<Reque
     if is_asked(words, "show", file) && command == "show" {
         let part = part_of(words)?;
         return Some(Request::Show { file, part });
+    }
+    if is_asked(words, "check", file) && command == "check" {
+        return Some(Request::Check { file });
     }
     if is_asked(words, "recover", file) && command == "recover" {
         return Some(Request::Recover { file });
