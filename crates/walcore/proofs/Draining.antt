@@ -21,7 +21,7 @@ use Rattle.walcore.specs.Fits.{Past, AreFiles, IsLeft, FitsDisk, IsBound, AreTog
 use Rattle.walcore.specs.declared.state.Core.{Core}
 use Rattle.walcore.specs.declared.reader.Reader.{Reader}
 use Rattle.walcore.specs.declared.wal.Checkpointed.{Checkpointed}
-use Rattle.walcore.specs.declared.wal.Checkpointed.TheVariants.{Complete as All, Partial as Part}
+use Rattle.walcore.specs.declared.wal.Checkpointed.TheVariants.{Complete as AllOfIt, Partial as PartOfIt}
 use Rattle.walcore.specs.declared.error.WalError.{WalError}
 use Rattle.walcore.proofs.Down.{present_image}
 use Rattle.walcore.proofs.Present.{present_by}
@@ -53,13 +53,13 @@ lower_left size logs h low high t le (inr one) = inr (one.0, (let x : low ≤ on
 
 -- ---- rows of the machine
 
-row_of : (all : Bool) (s : State) (x y : ℕ) → all ≡ all_newest s → call_refusal s ≡ None → CheckpointStep s (answer_of (if all then All else Part)) x y (checkpointed s)
+row_of : (all : Bool) (s : State) (x y : ℕ) → all ≡ all_newest s → call_refusal s ≡ None → CheckpointStep s (answer_of (if all then AllOfIt else PartOfIt)) x y (checkpointed s)
 row_of true s x y e none = (none, sym e, refl)
 row_of false s x y e none = (none, sym e, refl)
 
 row_moves : (v : Checkpointed) (s : State) (x y x_new y_new : ℕ) → CheckpointStep (synced s) (answer_of v) x y (checkpointed (synced s)) → CheckpointStep s (answer_of v) x_new y_new (checkpointed s)
-row_moves All s x y x_new y_new h = h
-row_moves Part s x y x_new y_new h = h
+row_moves AllOfIt s x y x_new y_new h = h
+row_moves PartOfIt s x y x_new y_new h = h
 
 pub refuses_device : (s : State) (before after : ℕ) → call_refusal s ≡ None → HasCause before after → Refuses (call_refusal s) false (closed s) before after s 15 (closed s)
 refuses_device s before after e cause = subst (λ (o : Option ℕ). Refuses o false (closed s) before after s 15 (closed s)) (sym e) (inr (refl, cause, refl))
@@ -187,7 +187,7 @@ module _ (past : Past) (a : Core) (s t : DiskState) (fits : FitsCore past a s) (
       page = is.page;
     }
 
-    pub down_done : (b : Core) (x : Checkpointed) → x ≡ (if all then All else Part) → SameCore (record a { drained = all }) b → b.marks.items ≡ a.marks.items → BroughtDown past (Ok x) a b s t
+    pub down_done : (b : Core) (x : Checkpointed) → x ≡ (if all then AllOfIt else PartOfIt) → SameCore (record a { drained = all }) b → b.marks.items ≡ a.marks.items → BroughtDown past (Ok x) a b s t
     unfolding after
     down_done b x is_x core marks = subst (λ (y : Checkpointed). BroughtDown past (Ok y) a b s t) (sym is_x) (
       keeps.refused,
@@ -276,8 +276,8 @@ module _ (past : Past) (a : Core) (s : DiskState) (fits : FitsCore past a s) whe
       }
         where
           made_by : (y : Checkpointed) → Makes past.state.page_size s.sector s.tears past.made Checkpoints (answer_of y) done.made
-          made_by All = done.makes
-          made_by Part = done.makes
+          made_by AllOfIt = done.makes
+          made_by PartOfIt = done.makes
       step_by (Err x) down shut = subst (λ (y : WalError). StepsTo past past.tokens Checkpoints (Refused (number_of y)) f s t) (sym down.1) (record {
         next = closed past.state;
         made = done.made;

@@ -15,13 +15,13 @@ use Rattle.walcore.specs.Standing.{Stands, IsPresent}
 use Rattle.walcore.specs.Fits.{Past, IsIndexed, IsSameDisk, FitsDisk, FitsCore}
 use Rattle.walcore.specs.declared.state.Core.{Core}
 use Rattle.walcore.specs.declared.wal.Checkpointed.{Checkpointed}
-use Rattle.walcore.specs.declared.wal.Checkpointed.TheVariants.{Complete as All, Partial as Part}
+use Rattle.walcore.specs.declared.wal.Checkpointed.TheVariants.{Complete as AllOfIt, Partial as PartOfIt}
 use Rattle.walcore.specs.declared.error.WalError.{WalError}
 use Rattle.walcore.specs.declared.error.WalError.TheVariants.{Device}
 
 abbrev pub answer_of : Checkpointed → Answer
-answer_of All = Complete
-answer_of Part = Partial
+answer_of AllOfIt = Complete
+answer_of PartOfIt = Partial
 
 -- the place of the oldest open reader, or the newest where none is open
 pub record IsOldest (s : State) (i : ℕ) : Type 0 where
