@@ -4,3 +4,6 @@ pub mod Parsing
 pub mod Refusals
 pub mod Integers
 pub mod Writing
+pub mod PageNumbers
+pub mod Supplied
+pub mod Faultless

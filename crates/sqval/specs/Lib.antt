@@ -8,3 +8,8 @@ pub mod RecordError
 pub mod Record
 pub mod Shown
 pub mod Shortest
+pub mod Answers
+pub mod Runs
+pub mod CommitFaults
+pub mod Held
+pub mod JudgedPages

@@ -1,6 +1,7 @@
 //! The values that a database file, its journal and its write-ahead log are made of.
 #![tactic(auto)]
 
+mod commit;
 mod encoding;
 mod error;
 mod page_size;
@@ -8,6 +9,7 @@ mod record;
 mod value;
 pub mod varint;
 
+pub use commit::{CommitFault, judge_pages};
 pub use encoding::encode;
 pub use error::RecordError;
 pub use page_size::PageSize;

@@ -1,5 +1,5 @@
 //! Worked rows.
-use crate::{Record, Value, encode, varint};
+use crate::{CommitFault, PageSize, Record, Value, encode, judge_pages, varint};
 use std::alloc::Global;
 use std::process::Abort;
 use std::test::Fail;
@@ -96,4 +96,33 @@ fn records(rt: HostRuntime) -> Result<(), Fail> {
     bytes[0] = 0x81;
     bytes[1] = 1;
     expect_record(&rt, rt.alloc(), &[Value::Null; 127], &bytes)
+}
+
+#[test]
+fn commits(rt: HostRuntime) -> Result<(), Fail> {
+    let size = PageSize::new(512).ok_or("a page size")?;
+    let page = [7; 512];
+    let mut numbers = Vec::new(rt.alloc());
+    let growing = [(3, &page[..]), (1, &page), (2, &page)];
+    assert_eq!(rt; judge_pages(&growing, 3, 1, size, &mut numbers), Ok(()));
+    assert_eq!(rt;
+        judge_pages(&[(1, &page)], 1, 3, size, &mut numbers),
+        Ok(())
+    );
+    Ok(())
+}
+
+#[test]
+fn faults_of_commits(rt: HostRuntime) -> Result<(), Fail> {
+    let size = PageSize::new(512).ok_or("a page size")?;
+    let page = [7; 512];
+    let mut numbers = Vec::new(rt.alloc());
+    let hole = judge_pages(&[(1, &page), (3, &page)], 3, 1, size, &mut numbers);
+    let twice = judge_pages(&[(3, &page), (3, &page)], 3, 1, size, &mut numbers);
+    let short = judge_pages(&[(1, &page[1..])], 1, 1, size, &mut numbers);
+    assert_eq!(rt; hole, Err(CommitFault::HoleInGrowth));
+    assert_eq!(rt; twice, Err(CommitFault::PageTwice));
+    assert_eq!(rt; short, Err(CommitFault::BadLength));
+    assert!(rt; CommitFault::EmptyCommit.number() == 2 && CommitFault::TooLarge.number() == 9);
+    Ok(())
 }
