@@ -77,13 +77,14 @@ pub(crate) fn mark_freeblocks(
     Some(apart)
 }
 
-/// How many bytes are not marked.
-pub(crate) fn count_bare(map: &[bool]) -> usize
+/// How many bytes are not marked. A count of 16 bits is quick to take, several bytes at once.
+pub(crate) fn count_bare(map: &[bool]) -> u16
+    requires { length map.now < 65536 }
     ensures { result ≡ count_by not map.now }
 {
-    let mut bare = 0;
+    let mut bare: u16 = 0;
     'bytes: for marked in map {
-        bare += usize::from(!*marked);
+        bare += u16::from(!*marked);
     }
     bare
 }

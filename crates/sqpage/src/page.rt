@@ -20,7 +20,7 @@ use std::marker::Model;
 const FIRST_HEAD: usize = 100;
 
 /// How many bytes of a page may lie in no cell and no freeblock.
-const MOST_FRAGMENTS: usize = 60;
+const MOST_FRAGMENTS: u16 = 60;
 
 /// A page of a b-tree whose cells lie within it (fileformat2, 1.6, "B-tree Pages").
 #[derive(Drop)]
@@ -232,7 +232,7 @@ impl<'a> BtreePage<'a> {
     {
         let start = content_start(self.used, self.number);
         let bare = count_bare(&map[start..self.used.len()]);
-        let fragments = usize::from(self.used[head(self.number) + 7]);
+        let fragments = u16::from(self.used[head(self.number) + 7]);
         if bare != fragments || fragments > MOST_FRAGMENTS {
             return Err(Fault::Fragments);
         }
