@@ -2,6 +2,8 @@
 #![tactic(auto)]
 
 mod checker;
+#[cfg(test)]
+mod failing_tests;
 mod header;
 mod item;
 mod node;

@@ -16,7 +16,11 @@ fn put(file: &mut Vec<u8>, at: usize, bytes: &[u8]) {
 }
 
 /// A file of so many pages of 512 bytes, zero but for a sound header, an empty leaf on page 1 and these pieces.
-fn file_of(alloc: Global, pages: usize, pieces: &[(usize, &[u8])]) -> Result<Vec<u8>, AllocError> {
+pub(crate) fn file_of(
+    alloc: Global,
+    pages: usize,
+    pieces: &[(usize, &[u8])],
+) -> Result<Vec<u8>, AllocError> {
     let mut file = vec![in alloc; 0; pages.saturating_mul(512)]?;
     put(&mut file, 0, b"SQLite format 3\0");
     put(&mut file, 16, &[2, 0, 1, 1, 0, 64, 32, 32]);
@@ -40,10 +44,10 @@ fn checked(rt: &impl Abort, alloc: Global, file: &[u8]) -> Result<Report, CheckE
 }
 
 /// A row of the schema that names root 2, in its cell at 503 of page 1.
-const ROW: [u8; 9] = [7, 1, 6, 0, 0, 0, 1, 0, 2];
+pub(crate) const ROW: [u8; 9] = [7, 1, 6, 0, 0, 0, 1, 0, 2];
 
 /// The header of a leaf with one cell at 503.
-const ONE_CELL: [u8; 10] = [0x0d, 0, 0, 0, 1, 1, 0xf7, 0, 1, 0xf7];
+pub(crate) const ONE_CELL: [u8; 10] = [0x0d, 0, 0, 0, 1, 1, 0xf7, 0, 1, 0xf7];
 
 #[test]
 fn one_page(rt: HostRuntime) -> Result<(), Fail> {
