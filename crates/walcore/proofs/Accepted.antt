@@ -3,8 +3,8 @@ use Rattle.std.proofs.Common.{◌≡◌, ◌≢◌, ℕ, zero, suc, ◌+◌, ◌
 use Rattle.std.specs.List.{list_any}
 use Rattle.std.proofs.lemmas.Bool.Decides.{nat_tests}
 use Rattle.sqval.specs.Database.{Pages}
-use Rattle.walcore.specs.Refusal.{most_bytes}
-use Rattle.walcore.specs.CommitRefusals.{has_twice, has_hole, first_true, page_faults, refusal_of, most_pages}
+use Rattle.sqval.specs.CommitFaults.{most_bytes, has_twice, has_hole, first_true, page_faults}
+use Rattle.walcore.specs.CommitRefusals.{refusal_of, most_pages}
 use Rattle.walcore.specs.Machine.{State, newest, commit_refusal}
 
 abbrev NoneHolds : List (Bool × ℕ) → Type 0

@@ -15,7 +15,8 @@ use Rattle.crashdisk.proofs.Images.{table}
 use Rattle.crashdisk.proofs.Sound.{byte_below}
 use Rattle.crashdisk.proofs.Steps.{present_list, settled_sync}
 use Rattle.walcore.specs.Alone.{ShowsAlone}
-use Rattle.walcore.specs.Folding.{IsLogDown, IsJust, IsOfOtherSize, Agrees}
+use Rattle.walcore.specs.Folding.{IsLogDown, IsOfOtherSize, Agrees}
+use Rattle.sqval.specs.Held.{IsJust}
 use Rattle.walcore.specs.Steps.{Still, ArePages, Copied, Told, SyncStep, ZeroSteps, CutSteps}
 use Rattle.walcore.specs.Phases.{Suits, IsOfSize, Scanning, Writing, Filed, Zeroing, Emptying}
 use Rattle.walcore.specs.declared.error.WalError.{WalError}

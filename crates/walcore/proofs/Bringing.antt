@@ -16,8 +16,8 @@ use Rattle.crashdisk.specs.declared.error.DiskError.{DiskError}
 use Rattle.crashdisk.proofs.Images.{table}
 use Rattle.crashdisk.proofs.Keeping.{sound_syncs}
 use Rattle.crashdisk.proofs.Steps.{present_list, counted_grows}
-use Rattle.walcore.specs.Refusal.{most_bytes}
-use Rattle.walcore.specs.Folding.{IsJust}
+use Rattle.sqval.specs.CommitFaults.{most_bytes}
+use Rattle.sqval.specs.Held.{IsJust}
 use Rattle.walcore.specs.Phases.{Filling}
 use Rattle.walcore.specs.Plans.{IsTable, IsCopy}
 use Rattle.walcore.specs.Steps.{Still, KeepsLog, CopyAnswer, ArePages, Told, SyncStep}

@@ -11,7 +11,7 @@ use Rattle.sqwal.specs.Frames.{frame_end, IsCommit}
 use Rattle.sqwal.specs.View.{Unnamed, IsOver}
 use Rattle.sqwal.proofs.Same.{all_same, size_same}
 use Rattle.sqwal.proofs.Views.{unnamed_same, over_same}
-use Rattle.walcore.specs.Folding.{IsJust}
+use Rattle.sqval.specs.Held.{IsJust}
 use Rattle.walcore.specs.Phases.{Filling}
 use Rattle.walcore.specs.Steps.{Still, KeepsLog, ArePages}
 use Rattle.walcore.specs.Era.{IsBoundary, shown, IsDown}

@@ -1,7 +1,7 @@
 -- What a step may answer.
 use Rattle.std.proofs.Common.{◌≡◌, ◌⊎◌, inl, inr, ℕ, Bool, true, false, cond, IsTrue, IsFalse, length, Option, Some, None, refl, sym, ◌∙◌, ap}
 use Rattle.sqval.specs.Database.{Pages, page}
-use Rattle.walcore.specs.Answers.{Files, Answer, Done, Reader, Page, Complete, Partial, NoReader, Refused, Refuses, PlainStep}
+use Rattle.sqval.specs.Answers.{Files, Answer, Done, Reader, Page, Complete, Partial, NoReader, Refused, Refuses, PlainStep}
 use Rattle.walcore.specs.Machine.{Act, Opens, Commits, Syncs, Begins, Reads, Ends, Checkpoints, Restarts, Crashes, Sets, State, at, reader_at, all_newest, gone, closed, committed, call_refusal, commit_refusal, read_refusal, restart_refusal, OpenStep, CommitStep, SyncStep, BeginStep, ReadStep, EndStep, CheckpointStep, RestartStep, Step}
 use Rattle.walcore.specs.Laws.{told, shown, at_end, is_accepted, IsShort, IsExpected}
 

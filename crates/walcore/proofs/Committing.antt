@@ -9,7 +9,8 @@ use Rattle.sqwal.specs.Frames.{frame_at, size_of, content_of}
 use Rattle.sqwal.specs.Log.{IsLog}
 use Rattle.sqwal.proofs.Same.{frame_at-end}
 use Rattle.walcore.specs.Made.{IsExtended}
-use Rattle.walcore.specs.Era.{shown, IsHeld, IsEra, IsApplied}
+use Rattle.walcore.specs.Era.{shown, IsEra, IsApplied}
+use Rattle.sqval.specs.Held.{IsHeld}
 use Rattle.walcore.specs.Standing.{AreCommitted}
 use Rattle.walcore.proofs.Supplied.{supplied_found, length-apply, page-apply}
 use Rattle.walcore.proofs.Extending.{extended_front, extended_inner, extended_count, extended_applied}

@@ -18,7 +18,7 @@ use Rattle.crashdisk.specs.declared.error.DiskError.{DiskError}
 use Rattle.crashdisk.proofs.Keeping.{sound_writes, sound_cuts}
 use Rattle.crashdisk.proofs.Sound.{byte_past, cut_below, written_inside, written_outside}
 use Rattle.crashdisk.proofs.Steps.{present_written, present_cut, counted_grows}
-use Rattle.walcore.specs.Refusal.{most_bytes}
+use Rattle.sqval.specs.CommitFaults.{most_bytes}
 use Rattle.walcore.specs.Steps.{Still, KeepsLog, PutsPage, PageAnswer, CopyAnswer}
 use Rattle.walcore.specs.Plans.{IsTable, IsCopy}
 use Rattle.walcore.specs.declared.error.WalError.{WalError}

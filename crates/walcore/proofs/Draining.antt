@@ -6,18 +6,19 @@ use Rattle.std.proofs.lemmas.List.{length-take-le}
 use Rattle.std.proofs.lemmas.Bool.Decides.{nat_tests}
 use Rattle.sqval.specs.Database.{Database}
 use Rattle.crashdisk.specs.Call.{DiskState}
-use Rattle.walcore.specs.Answers.{Files, Done, Refused, Refuses}
+use Rattle.sqval.specs.Answers.{Files, Done, Refused, Refuses, HasCause}
 use Rattle.walcore.specs.Machine.{State, at, last, newest, reader_at, call_refusal, all_newest, closed, synced, checkpointed, Syncs, Checkpoints, CheckpointStep}
-use Rattle.walcore.specs.CommitRefusals.{first_true}
+use Rattle.sqval.specs.CommitFaults.{first_true}
 use Rattle.walcore.specs.Making.{Made, Makes, MadeBySync, MadeByCopy}
-use Rattle.walcore.specs.Refusal.{number_of, HasCause}
-use Rattle.walcore.specs.Folding.{IsJust}
+use Rattle.walcore.specs.Refusal.{number_of}
+use Rattle.sqval.specs.Held.{IsJust}
 use Rattle.walcore.specs.Made.{NoChance}
+use Rattle.sqwal.specs.Frames.{frame_end}
 use Rattle.walcore.specs.Era.{shown}
 use Rattle.walcore.specs.Standing.{ShowsWhole, Stands, IsPresent}
 use Rattle.walcore.specs.Steps.{KeepsLog}
 use Rattle.walcore.specs.Bringing.{answer_of, IsOldest, LeavesJust, IsLeast, BroughtTo, Brings, BroughtDown, ClosedBy}
-use Rattle.walcore.specs.Fits.{Past, AreFiles, IsLeft, FitsDisk, IsBound, AreTogether, IsCore, IsSameDisk, FitsCore, StepsTo, answered, times}
+use Rattle.walcore.specs.Fits.{Past, AreFiles, IsLeft, FitsDisk, IsBound, AreTogether, IsNewestDown, IsCore, IsSameDisk, FitsCore, StepsTo, answered, times}
 use Rattle.walcore.specs.declared.state.Core.{Core}
 use Rattle.walcore.specs.declared.reader.Reader.{Reader}
 use Rattle.walcore.specs.declared.wal.Checkpointed.{Checkpointed}
@@ -29,6 +30,7 @@ use Rattle.walcore.proofs.Standing.{stands_shows, present_last}
 use Rattle.walcore.proofs.Stills.{still}
 use Rattle.walcore.proofs.Fitting.{SameCore, core_same}
 use Rattle.walcore.proofs.Joining.{open_refusal}
+use Rattle.walcore.proofs.Repeating.{behind_same}
 use Rattle.walcore.proofs.Oldest.{reader_above, least_ends, least_begun, oldest_place, all_are_newest, some_is_older}
 
 -- ---- a disk on which the log stands
@@ -89,14 +91,18 @@ module _ (past : Past) (a : Core) (s t : DiskState) (fits : FitsCore past a s) (
   is : IsCore past e index d c a s
   is = (fits.core opened).4
 
-  all_down : d ≡ a.frames
-  all_down = is.down (is.unsynced ∙ none)
+  newest_down : IsNewestDown a.mark a.frames d s.tears
+  newest_down = is.down (is.unsynced ∙ none)
 
   newest_frame : index a.frames ≡ last past.state
   newest_frame = omega (arith, is.stands.era.last)
 
   newest_mark : index a.mark ≡ last past.state
   newest_mark = is.stands.era.marked.2 ∙ newest_frame
+
+  -- the newest database is one of those that are down
+  down_place : index d ≡ last past.state
+  down_place = omega (arith, newest_mark, newest_frame, is.stands.era.rises a.mark d newest_down.commit is.stands.marks.down, is.stands.era.rises d a.frames is.stands.marks.down (omega arith))
 
   open_state : past.state.is_open ≡ true
   open_state = sym fits.is_open ∙ opened
@@ -105,7 +111,7 @@ module _ (past : Past) (a : Core) (s t : DiskState) (fits : FitsCore past a s) (
   brought n r same brings = subst (λ (x : ℕ). Brings x least a.index r s t) same brings past.made.logs e a.frames past.state.history index a.mark d c
       (record { stands = is.stands; present = is.present; table = is.table })
       (least_ends past e index d c a s is fits.marks least low) (least_begun past e index d c a s is fits.marks least low)
-      (omega (arith, low.low, is.stands.era.marked.0, all_down))
+      (omega (arith, low.low, newest_down.commit))
 
   pub down_refused : {T : Type 0} (b : Core) (n : ℕ) (r : Result T WalError) (q : Result Checkpointed WalError) (x : WalError) → n ≡ a.page_size → Brings n least a.index r s t → r ≡ Err x → q ≡ Err x
       → b.page_size ≡ a.page_size → b.marks.items ≡ a.marks.items → BroughtDown past q a b s t
@@ -151,7 +157,7 @@ module _ (past : Past) (a : Core) (s t : DiskState) (fits : FitsCore past a s) (
     disk : FitsDisk after t
     unfolding after
     disk = disk_of after e a.frames index a.mark d least t (subst (λ (k : ℕ). Stands k past.made.logs e a.frames past.state.history index a.mark d least t) fits.page_size got.0)
-        (omega (arith, fits.disk.floor)) (omega (arith, newest_frame, ap index all_down)) (λ opened_after files are chance. shows files are chance)
+        (omega (arith, fits.disk.floor)) (omega (arith, down_place)) (λ opened_after files are chance. shows files are chance)
 
     bound_by : (number : ℕ) (place : Option ℕ) (slot : Option Reader) → get_or past.tokens number None ≡ slot → AreTogether (IsBound a.page_size e index a.mark c past.state) place slot
         → AreTogether (IsBound a.page_size e index a.mark least (checkpointed past.state)) place slot
@@ -165,8 +171,9 @@ module _ (past : Past) (a : Core) (s t : DiskState) (fits : FitsCore past a s) (
     core_at = record {
       newest_log = is.newest_log;
       stands = got.0;
-      floor = omega (arith, newest_frame, ap index all_down);
+      floor = omega (arith, down_place);
       begun = low.low;
+      behind = behind_same a.page_size d (frame_end a.page_size a.frames) s t keeps.sector keeps.tears is.behind;
       present = present;
       header = is.header;
       sum = is.sum;
@@ -177,10 +184,11 @@ module _ (past : Past) (a : Core) (s t : DiskState) (fits : FitsCore past a s) (
       used = is.used;
       few = is.few;
       unsynced = is.unsynced;
+      some = is.some;
       drained = all_newest_is;
-      down = is.down;
+      down = λ z. let was = is.down z in record { commit = was.commit; all = λ whole. was.all (sym keeps.tears ∙ whole) };
       filed = λ yes_all. (
-        all_down,
+        is.unsynced ∙ none,
         λ db image. subst (λ (k : ℕ). IsJust a.page_size (at past.state k) db) (ap index (newest_least yes_all) ∙ newest_mark) (got.1 db image),
       );
       readers = λ number. bound_by number (reader_at past.state number) (get_or past.tokens number None) refl (is.readers number);

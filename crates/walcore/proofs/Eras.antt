@@ -7,7 +7,8 @@ use Rattle.sqwal.specs.Log.{IsLog}
 use Rattle.sqwal.specs.View.{IsLast, IsOver}
 use Rattle.sqwal.proofs.Same.{frame_end-le, page_same, size_same, content_same, commit_same}
 use Rattle.sqwal.proofs.Views.{over_same, last_same, unnamed_same}
-use Rattle.walcore.specs.Era.{IsBoundary, shown, IsHeld, IsEra, IsApplied}
+use Rattle.walcore.specs.Era.{IsBoundary, shown, IsEra, IsApplied}
+use Rattle.sqval.specs.Held.{IsHeld}
 
 -- a new log, over the last database of the history
 pub era_begin : (size : ℕ) (f : List ℕ) (h : List Database) → IsLog size f 0 → 1 ≤ length h → ((i : ℕ) → i < length h → IsHeld size (get_or h i [])) → IsEra size f 0 0 h (λ i. length h - 1)

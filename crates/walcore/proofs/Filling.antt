@@ -17,7 +17,7 @@ use Rattle.crashdisk.specs.declared.file.File.TheVariants.{Db}
 use Rattle.crashdisk.specs.declared.error.DiskError.{DiskError}
 use Rattle.crashdisk.proofs.Images.{table, length-table, get_or-table}
 use Rattle.crashdisk.proofs.Steps.{steady_writes, steady_cuts}
-use Rattle.walcore.specs.Folding.{IsJust}
+use Rattle.sqval.specs.Held.{IsJust}
 use Rattle.walcore.specs.Phases.{Suits, Filling}
 use Rattle.walcore.specs.Steps.{Still, PutsPage, PageAnswer, ArePages}
 use Rattle.walcore.specs.declared.error.WalError.{WalError}

@@ -4,19 +4,19 @@ use Rattle.std.specs.Prelude.{IsTrue, None}
 use Rattle.crashdisk.specs.State.{FileState, IsImage}
 use Rattle.crashdisk.specs.Call.{DiskState}
 use Rattle.sqwal.specs.Header.{IsHeaderOf}
-use Rattle.sqwal.specs.Frames.{page_of, summed}
+use Rattle.sqwal.specs.Frames.{frame_end, page_of, summed}
 use Rattle.sqwal.specs.Sums.{IsSumOf}
 use Rattle.sqwal.specs.Index.{FrameTable}
 use Rattle.sqwal.specs.declared.header.WalHeader.{WalHeader}
 use Rattle.sqwal.specs.declared.sum.Sum.{Sum}
 use Rattle.sqval.specs.Database.{Database}
 use Rattle.walcore.specs.Alone.{AreWhole}
-use Rattle.walcore.specs.Folding.{IsJust}
+use Rattle.sqval.specs.Held.{IsJust}
 use Rattle.walcore.specs.Machine.{newest, reader_at, Act, Step}
-use Rattle.walcore.specs.Answers.{Answer}
+use Rattle.sqval.specs.Answers.{Answer}
 use Rattle.walcore.specs.Making.{Makes}
 use Rattle.walcore.specs.CommitRefusals.{most_pages}
-use Rattle.walcore.specs.Standing.{MayBeRead, Stands, IsPresent}
+use Rattle.walcore.specs.Standing.{MayBeRead, IsBehind, Stands, IsPresent}
 use Rattle.walcore.specs.Steps.{Still}
 use Rattle.walcore.specs.Fits.{Past, IsLeft, FitsDisk, IsIndexed, IsBound, AreTogether, IsCore, FitsCore, StepsTo, times}
 use Rattle.walcore.specs.declared.state.Core.{Core}
@@ -25,6 +25,7 @@ use Rattle.walcore.proofs.Suiting.{suits_still}
 use Rattle.walcore.proofs.Logging.{holds_elsewhere}
 use Rattle.walcore.proofs.Present.{present_by}
 use Rattle.walcore.proofs.Stepping.{stands_by}
+use Rattle.walcore.proofs.Repeating.{behind_same}
 
 -- ---- the disk
 
@@ -96,6 +97,7 @@ module _ (past : Past) (e : List ℕ) (index : ℕ → ℕ) (d c : ℕ) (a b : C
         (at_mark (λ x. Stands a.page_size past.made.logs e a.frames past.state.history index x d c t) (stands_still s t still a.page_size past.made.logs e a.frames past.state.history index a.mark d c is.stands)));
     floor = is.floor;
     begun = at_mark (λ x. c ≤ x) is.begun;
+    behind = at_size (λ x. IsBehind x d (frame_end x b.frames) t) (at_frames (λ x. IsBehind a.page_size d (frame_end a.page_size x) t) (behind_same a.page_size d (frame_end a.page_size a.frames) s t still.sector still.tears is.behind));
     present = at_size (λ x. IsPresent x e b.frames t) (at_frames (λ x. IsPresent a.page_size e x t) (present_by a.page_size e s t a.frames still.log is.present));
     header = subst (λ (x : WalHeader). IsHeaderOf e x) (sym same.header) is.header;
     sum = subst (λ (x : WalHeader). IsSumOf x.order (summed b.page_size e b.frames) b.sum) (sym same.header) (subst (λ (x : Sum). IsSumOf a.header.order (summed b.page_size e b.frames) x) (sym same.sum)
@@ -109,9 +111,11 @@ module _ (past : Past) (e : List ℕ) (index : ℕ → ℕ) (d c : ℕ) (a b : C
         (subst (λ (x : Bool). (a.frames + cond x 1 0 ≤ 2 * a.used) × (a.used ≤ most_pages)) (sym same.unsynced) is.few));
     unsynced = same.unsynced ∙ is.unsynced;
     drained = same.drained ∙ is.drained;
-    down = λ synced. is.down (sym same.unsynced ∙ synced) ∙ sym same.frames;
+    some = λ yes. at_frames (λ x. 1 ≤ x) (is.some (sym same.unsynced ∙ yes));
+    down = λ synced. let was = is.down (sym same.unsynced ∙ synced) in
+        record { commit = at_mark (λ x. x ≤ d) was.commit; all = λ whole. was.all (sym still.tears ∙ whole) ∙ sym same.frames };
     filed = λ drained. let was = is.filed (subst (λ (x : Bool). IsTrue x) same.drained drained) in
-        (was.0 ∙ sym same.frames, λ db image. at_size (λ x. IsJust x (newest past.state) db) (was.1 db (image_still s t still db image)));
+        (same.unsynced ∙ was.0, λ db image. at_size (λ x. IsJust x (newest past.state) db) (was.1 db (image_still s t still db image)));
     readers = λ number. at_size (λ x. AreTogether (IsBound x e index b.mark c past.state) (reader_at past.state number) (get_or past.tokens number None))
         (at_mark (λ x. AreTogether (IsBound a.page_size e index x c past.state) (reader_at past.state number) (get_or past.tokens number None)) (is.readers number));
     page = b.framed;

@@ -2,12 +2,12 @@
 use Rattle.std.proofs.Common.{◌≡◌, inl, ℕ, ◌+◌, ◌-◌, ◌<◌, Bool, true, false, cond, List, ◌∷◌, length, get_or, refl, sym, ◌∙◌, ap, subst, arith, Option, Some, None}
 use Rattle.std.specs.Prelude.{sum_by}
 use Rattle.sqval.specs.Database.{Database}
-use Rattle.sqwal.specs.Frames.{summed}
+use Rattle.sqwal.specs.Frames.{frame_end, summed}
 use Rattle.sqwal.specs.Sums.{IsSumOf}
 use Rattle.sqwal.specs.Header.{IsHeaderOf}
 use Rattle.crashdisk.specs.State.{IsImage}
 use Rattle.crashdisk.specs.Call.{DiskState}
-use Rattle.walcore.specs.Folding.{IsJust}
+use Rattle.sqval.specs.Held.{IsJust}
 use Rattle.walcore.specs.Machine.{newest, reader_at}
 use Rattle.walcore.specs.Standing.{Stands, IsPresent}
 use Rattle.walcore.specs.Fits.{Past, FitsDisk, FitsCore, IsBound, AreTogether, IsCore, times, has_mark}
@@ -16,7 +16,9 @@ use Rattle.walcore.specs.declared.opening.NewLog.{NewLog}
 use Rattle.walcore.specs.declared.reader.Reader.{Reader}
 use Rattle.walcore.specs.declared.state.Core.{Core}
 use Rattle.walcore.proofs.Down.{present_image}
+use Rattle.sqwal.proofs.Same.{frame_end-le}
 use Rattle.walcore.proofs.Standing.{stands_shows, present_last}
+use Rattle.walcore.proofs.Repeating.{behind_none}
 
 -- the place of the last database
 abbrev pub at_last : List Database → ℕ → ℕ
@@ -70,6 +72,7 @@ module _ (past : Past) (f : List ℕ) (t : DiskState) (low : past.state.floor < 
       stands = at_size;
       floor = omega (arith, low);
       begun = omega arith;
+      behind = behind_none core.page_size 0 t (frame_end core.page_size core.frames) refl (frame_end-le core.page_size 0 core.frames (omega arith));
       present = subst (λ (k : ℕ). IsPresent k f core.frames t) (sym is_new.page_size) (subst (λ (k : ℕ). IsPresent past.state.page_size f k t) (sym is_new.frames) present);
       header = header;
       sum = subst (λ (k : ℕ). IsSumOf core.header.order (summed k f core.frames) core.sum) (sym is_new.page_size) (subst (λ (k : ℕ). IsSumOf core.header.order (summed past.state.page_size f k) core.sum) (sym is_new.frames) sum);
@@ -80,9 +83,10 @@ module _ (past : Past) (f : List ℕ) (t : DiskState) (low : past.state.floor < 
       used = is_new.used ∙ sym used;
       few = (omega (arith, empty), omega (arith, is_new.used));
       unsynced = is_new.unsynced ∙ sym unsynced;
+      some = λ yes. absurd (let bad : true ≡ false = sym yes ∙ is_new.unsynced in cc);
       drained = is_new.drained ∙ sym drained;
-      down = λ z. sym is_new.frames;
-      filed = λ is. (sym is_new.frames, just_newest);
+      down = λ z. record { commit = omega (arith, is_new.mark); all = λ whole. sym is_new.frames };
+      filed = λ is. (is_new.unsynced, just_newest);
       readers = λ number. none_of (IsBound core.page_size f (at_last past.state.history) core.mark 0 past.state) (reader_at past.state number) (get_or past.tokens number None) (none.readers number) (none.tokens number);
       page = is_new.frame ∙ ap (λ (k : ℕ). 24 + k) (sym is_new.page_size);
     }

@@ -10,7 +10,7 @@ use Rattle.sqwal.specs.Log.{IsLog}
 use Rattle.sqwal.specs.View.{Unnamed, IsOver, IsView}
 use Rattle.sqwal.proofs.Same.{frame_end-zero, frame_end-le, all_same, commit_same}
 use Rattle.sqwal.proofs.Views.{view_same}
-use Rattle.walcore.specs.Folding.{IsJust}
+use Rattle.sqval.specs.Held.{IsJust}
 use Rattle.walcore.specs.Made.{AreMade, NoChance}
 use Rattle.walcore.specs.Era.{IsBoundary, shown, IsEra, IsDown, IsUnder}
 use Rattle.walcore.proofs.Pages.{size_some, file_count}

@@ -17,13 +17,14 @@ use Rattle.sqwal.specs.declared.header.WalHeader.{WalHeader}
 use Rattle.sqwal.specs.declared.sum.Sum.{Sum}
 use Rattle.sqwal.proofs.Same.{frame_end-le, frame_end-head, page_same, summed_same, take_less}
 use Rattle.sqwal.proofs.Logs.{header_of_same}
-use Rattle.walcore.specs.Answers.{Files}
+use Rattle.sqval.specs.Answers.{Files}
 use Rattle.walcore.specs.Machine.{State, newest, reader_at}
 use Rattle.walcore.specs.Made.{AreMade, NoChance, IsExtended}
-use Rattle.walcore.specs.Era.{shown, IsHeld}
+use Rattle.walcore.specs.Era.{shown}
+use Rattle.sqval.specs.Held.{IsHeld}
 use Rattle.walcore.specs.Phases.{Suits}
-use Rattle.walcore.specs.Standing.{ShowsWhole, Stands, IsPresent}
-use Rattle.walcore.specs.Judged.{lent}
+use Rattle.walcore.specs.Standing.{ShowsWhole, IsBehind, Stands, IsPresent}
+use Rattle.sqval.specs.JudgedPages.{lent}
 use Rattle.walcore.specs.Fits.{Past, AreFiles, IsLeft, FitsDisk, IsIndexed, IsBound, AreTogether, IsCore, FitsCore, times}
 use Rattle.walcore.specs.Going.{KnowsLog}
 use Rattle.walcore.specs.Commits.{SameLog, IsReady}
@@ -33,7 +34,7 @@ use Rattle.walcore.proofs.Accepted.{IsGranted}
 use Rattle.walcore.proofs.MadeMore.{extended_exists}
 use Rattle.walcore.proofs.Granted.{are_committed, are_frames}
 use Rattle.walcore.proofs.Prepared.{ready_granted}
-use Rattle.walcore.proofs.Numbers.{lent_length}
+use Rattle.sqval.proofs.PageNumbers.{lent_length}
 use Rattle.walcore.proofs.Supplied.{length-apply}
 use Rattle.walcore.proofs.Extending.{extended_front}
 use Rattle.walcore.proofs.Fronting.{boundary_same}
@@ -42,6 +43,8 @@ use Rattle.walcore.proofs.Down.{present_image}
 use Rattle.walcore.proofs.Standing.{stands_shows, present_last}
 use Rattle.walcore.proofs.Stepping.{commit_stands}
 use Rattle.walcore.proofs.Present.{present_more}
+use Rattle.walcore.proofs.Pages.{sector_some}
+use Rattle.walcore.proofs.Repeating.{behind_later, behind_same}
 
 -- ---- what fits a disk, by its parts
 
@@ -218,11 +221,20 @@ module _ (past : Past) (e : List ℕ) (rest : List (List ℕ)) (index : ℕ → 
           size_is = bound.size_is ∙ ap length (sym (get_or_append_left past.state.history (apply (newest past.state) (lent pages) count ∷ []) [] i within));
         }
 
+    -- the next frame is written further on
+    behind_new : t.sector ≡ s.sector → t.tears ≡ s.tears → IsBehind core.page_size d (frame_end core.page_size (core.frames + length (lent pages))) t
+    behind_new sector tears =
+        let n : ℕ = core.frames in
+        let m : ℕ = core.frames + length (lent pages) in
+        let up : frame_end core.page_size n ≤ frame_end core.page_size m = frame_end-le core.page_size n m (omega arith) in
+        behind_same core.page_size d (frame_end core.page_size m) s t sector tears
+        (behind_later core.page_size d s (frame_end core.page_size n) (frame_end core.page_size m) (omega (arith, sector_some s.sector is.stands.suits.sectors)) up is.behind)
+
     -- a core that knows all of it
-    core_new : (mid core_then : Core) → KnowsLog plan.f (core.frames + length (lent pages)) mid t → SameLog mid core_then → mid.page_size ≡ core.page_size → core_then.mark ≡ mid.frames → core_then.size ≡ count
+    core_new : t.sector ≡ s.sector → t.tears ≡ s.tears → (mid core_then : Core) → KnowsLog plan.f (core.frames + length (lent pages)) mid t → SameLog mid core_then → mid.page_size ≡ core.page_size → core_then.mark ≡ mid.frames → core_then.size ≡ count
         → core_then.used ≡ core.used + length pages → core_then.unsynced ≡ true → core_then.drained ≡ false
         → IsCore (record { state = state_new true; made = record { logs = plan.f ∷ rest; unsynced = true }; tokens = past.tokens }) plan.f index_new d c core_then t
-    core_new mid core_then knows same page mark size used unsynced drained =
+    core_new sector tears mid core_then knows same page mark size used unsynced drained =
         let known : KnowsLog plan.f (core.frames + length (lent pages)) core_then t = knows_same plan.f (core.frames + length (lent pages)) mid core_then t same knows in
         let at_page : core_then.page_size ≡ core.page_size = same.page_size ∙ page in
         let at_mark : core_then.mark ≡ core.frames + length (lent pages) = mark ∙ knows.frames in
@@ -235,6 +247,7 @@ module _ (past : Past) (e : List ℕ) (rest : List (List ℕ)) (index : ℕ → 
               (to_mark (λ x. Stands core.page_size (plan.f ∷ rest) plan.f (core.frames + length (lent pages)) h_new index_new x d c t) stands));
           floor = low;
           begun = omega (arith, at_mark, is.stands.marks.begun, is.stands.marks.down);
+          behind = to_page (λ x. IsBehind x d (frame_end x core_then.frames) t) (to_frames (λ x. IsBehind core.page_size d (frame_end core.page_size x) t) (behind_new sector tears));
           present = to_frames (λ x. IsPresent core_then.page_size plan.f x t) known.present;
           header = known.header;
           sum = to_frames (λ x. IsSumOf core_then.header.order (summed core_then.page_size plan.f x) core_then.sum) known.sum;
@@ -245,6 +258,7 @@ module _ (past : Past) (e : List ℕ) (rest : List (List ℕ)) (index : ℕ → 
           used = omega (arith, used, is.used, lent_length pages);
           few = (core_then.few, core_then.most);
           unsynced = unsynced;
+          some = λ yes. omega (arith, known.frames, some);
           drained = drained;
           filed = λ yes. absurd (let bad : true ≡ false = sym yes ∙ drained in cc);
           down = λ z. absurd (let bad : true ≡ false = sym unsynced ∙ z in cc);
@@ -255,17 +269,17 @@ module _ (past : Past) (e : List ℕ) (rest : List (List ℕ)) (index : ℕ → 
         }
 
     -- it fits, where the last commit is there to be read
-    pub fits_new : FitsCore past core s → (mid core_then : Core) → KnowsLog plan.f (core.frames + length (lent pages)) mid t → SameLog mid core_then → mid.page_size ≡ core.page_size → core_then.mark ≡ mid.frames → core_then.size ≡ count
+    pub fits_new : FitsCore past core s → t.sector ≡ s.sector → t.tears ≡ s.tears → (mid core_then : Core) → KnowsLog plan.f (core.frames + length (lent pages)) mid t → SameLog mid core_then → mid.page_size ≡ core.page_size → core_then.mark ≡ mid.frames → core_then.size ≡ count
         → core_then.used ≡ core.used + length pages → core_then.unsynced ≡ true → core_then.drained ≡ false → core_then.is_open ≡ true → core_then.marks ≡ core.marks
         → FitsCore (record { state = state_new true; made = record { logs = plan.f ∷ rest; unsynced = true }; tokens = past.tokens }) core_then t
-    fits_new fits mid core_then knows same page mark size used unsynced drained opened marks = record {
+    fits_new fits sector tears mid core_then knows same page mark size used unsynced drained opened marks = record {
       disk = disk_by (record { state = state_new true; made = record { logs = plan.f ∷ rest; unsynced = true }; tokens = past.tokens }) core.page_size h_new past.state.floor t disk_facts page_is refl refl
           (λ yes files are chance. subst (λ (x : ℕ). ShowsWhole x files.db files.log (get_or h_new (length h_new - 1) [])) page_is
           (subst (λ (x : Database). ShowsWhole core.page_size files.db files.log x) (sym h_newest)
           (shows_new (subst (λ (x : ℕ). IsPresent x plan.f (core.frames + length (lent pages)) t) page knows.present) files are chance)));
       page_size = same.page_size ∙ page ∙ page_is;
       is_open = opened;
-      core = λ yes. (plan.f, index_new, d, c, core_new mid core_then knows same page mark size used unsynced drained);
+      core = λ yes. (plan.f, index_new, d, c, core_new sector tears mid core_then knows same page mark size used unsynced drained);
       count = fits.count;
       together = fits.together;
       marks = λ k. ap (λ (x : List ℕ). times k x) (ap (λ x. x.items) marks) ∙ fits.marks k;

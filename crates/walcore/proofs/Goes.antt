@@ -1,9 +1,9 @@
 -- The steps of a run, one after another.
 use Rattle.std.proofs.Common.{◌≡◌, ℕ, ◌<◌, ◌≤◌, List, [], ◌∷◌, length, refl, subst, arith}
-use Rattle.walcore.specs.Answers.{Files, Answer, Done}
+use Rattle.sqval.specs.Answers.{Files, Answer, Done}
 use Rattle.walcore.specs.Alone.{Show}
 use Rattle.walcore.specs.Machine.{Act, Opens, State, at, opened, start, Step}
-use Rattle.walcore.specs.Runs.{Moment, Runs}
+use Rattle.sqval.specs.Runs.{Moment, Runs}
 use Rattle.walcore.specs.Rows.{IsRunOn}
 
 -- these moments are a run on from here

@@ -1,5 +1,5 @@
 -- The frames of a commit are written one after another, and the log goes on by them.
-use Rattle.std.proofs.Common.{◌≡◌, ◌≢◌, ⊎_elim, ℕ, suc, ◌+◌, ◌-◌, ◌*◌, ◌<◌, ◌≤◌, true, false, List, [], ◌∷◌, ◌++◌, length, drop, get_or, refl, sym, ◌∙◌, ap, subst, arith, length-append, length-drop}
+use Rattle.std.proofs.Common.{◌≡◌, ◌≢◌, ⊎_elim, ℕ, suc, ◌+◌, ◌-◌, ◌*◌, ◌<◌, ◌≤◌, List, [], ◌∷◌, ◌++◌, length, drop, get_or, refl, sym, ◌∙◌, ap, subst, arith, length-append, length-drop}
 use Rattle.std.specs.Prelude.{Result, Ok, Err, IsOk}
 use Rattle.std.proofs.Math.Nat.{mul-le-mul_left}
 use Rattle.std.proofs.lemmas.Bool.{cases_eq}
@@ -22,9 +22,9 @@ use Rattle.sqwal.specs.Index.{FrameTable}
 use Rattle.sqwal.proofs.Same.{frame_end-le}
 use Rattle.walcore.specs.Folding.{HadRefusal}
 use Rattle.walcore.specs.Steps.{Told}
-use Rattle.walcore.specs.Standing.{Stands, IsPresent}
+use Rattle.walcore.specs.Standing.{IsBehind, Stands, IsPresent}
 use Rattle.walcore.specs.Fits.{IsIndexed}
-use Rattle.walcore.specs.Going.{KeepsCore, HasFrame, FrameStep, KnowsLog}
+use Rattle.walcore.specs.Going.{HasFrame, FrameStep, KnowsLog}
 use Rattle.walcore.specs.declared.state.Core.{Core}
 use Rattle.walcore.specs.declared.error.WalError.{WalError}
 use Rattle.walcore.specs.declared.error.WalError.TheVariants.{Device}
@@ -60,6 +60,12 @@ pub record IsFrameAt (size : ℕ) (f : List ℕ) (i : ℕ) (page count : ℕ) (c
   pub page_is : page_of size f i ≡ page
   pub size_is : size_of size f i ≡ count
   pub content_is : content_of size f i ≡ content
+
+-- what tells of a log before a frame is written behind it
+pub record KeepsLog (old new : Core) : Type 0 where
+  pub page_size : new.page_size ≡ old.page_size
+  pub header : new.header ≡ old.header
+  pub bound : new.index.bound ≡ old.index.bound
 
 -- the log f of m frames, of which a core knows the first n
 pub record Reaches (f : List ℕ) (m n : ℕ) (core : Core) (s : DiskState) : Type 0 where
@@ -120,7 +126,7 @@ module _ {T : Type 0} (f : List ℕ) (m n : ℕ) (old new : Core) (s t : DiskSta
   fits : frame_end old.page_size (suc n) ≤ length f
   fits = omega (arith, reaches.log.whole, frame_end-le old.page_size (suc n) m lt)
 
-  pub frame_known : (v : T) → result ≡ Ok v → KeepsCore old new → page ≤ old.index.bound → KnowsLog f (suc n) new t
+  pub frame_known : (v : T) → result ≡ Ok v → KeepsLog old new → page ≤ old.index.bound → KnowsLog f (suc n) new t
   frame_known v is keeps within =
       let called = told_done step.called result v is step.told in
       let has : HasFrame page step.after old new = step.done (subst (λ (r : Result T WalError). IsOk r) (sym is) refl) in
@@ -148,9 +154,8 @@ module _ {T : Type 0} (f : List ℕ) (m n : ℕ) (old new : Core) (s t : DiskSta
       let short : a + length (part f a (b - a)) ≤ longest = omega (arith, frame_place old.page_size (suc n) small (let le : suc n ≤ most_frames = omega (arith, reaches.most) in le)) in
       (called.0, had_refusal step.called called.1.0 (a + length (part f a (b - a))) s t sound.refused called.1.1 written.within short written.elsewhere.refused)
 
-  pub frame_stands : (logs : List (List ℕ)) (h : List Database) (index : ℕ → ℕ) (mark d c : ℕ) → Stands old.page_size logs f m h index mark d c s → s.tears ≡ false → d ≤ n → Stands old.page_size logs f m h index mark d c t
-  frame_stands logs h index mark d c stands untorn le = stands_writes old.page_size logs f m h index mark d c s t stands (frame_end old.page_size n) _ step.called written
-      (record { behind = frame_end-le old.page_size d n le; apart = λ torn. absurd (let bad : true ≡ false = sym torn ∙ untorn in cc) })
+  pub frame_stands : (logs : List (List ℕ)) (h : List Database) (index : ℕ → ℕ) (mark d c : ℕ) → Stands old.page_size logs f m h index mark d c s → IsBehind old.page_size d (frame_end old.page_size n) s → Stands old.page_size logs f m h index mark d c t
+  frame_stands logs h index mark d c stands behind = stands_writes old.page_size logs f m h index mark d c s t stands (frame_end old.page_size n) _ step.called written behind
 
 -- ---- the step of the code
 

@@ -7,9 +7,9 @@ use Rattle.std.proofs.lemmas.List.{get_or-map}
 use Rattle.std.proofs.lemmas.Map.Keys.{apart_from_distinct}
 use Rattle.sqval.specs.Bytes.{AreBytes}
 use Rattle.sqval.specs.Database.{Database, Pages, supplied}
-use Rattle.walcore.specs.Judged.{lent, numbers_of}
+use Rattle.sqval.specs.JudgedPages.{lent, numbers_of}
 use Rattle.walcore.specs.Standing.{AreCommitted}
-use Rattle.walcore.proofs.Numbers.{neither, distinct, length_map, lent_length}
+use Rattle.sqval.proofs.PageNumbers.{neither, distinct, length_map, lent_length}
 use Rattle.walcore.proofs.Accepted.{IsGranted}
 use Rattle.walcore.proofs.MadeMore.{AreFrames}
 

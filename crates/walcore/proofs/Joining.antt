@@ -3,9 +3,9 @@ use Rattle.std.proofs.Common.{◌≡◌, inl, ℕ, ◌+◌, ◌<◌, Bool, true,
 use Rattle.std.specs.Prelude.{IsTrue, Option, Some, None, not, slice_get}
 use Rattle.std.proofs.lemmas.List.{length-set}
 use Rattle.crashdisk.specs.Call.{DiskState}
-use Rattle.walcore.specs.Answers.{Done, Reader as ReaderAnswer, Refused, Refuses}
+use Rattle.sqval.specs.Answers.{Done, Reader as ReaderAnswer, Refused, Refuses}
 use Rattle.walcore.specs.Machine.{State, last, reader_at, Begins, Ends, EndStep, call_refusal, begun, ended}
-use Rattle.walcore.specs.CommitRefusals.{first_true}
+use Rattle.sqval.specs.CommitFaults.{first_true}
 use Rattle.walcore.specs.Era.{IsBoundary}
 use Rattle.walcore.specs.Steps.{Still}
 use Rattle.walcore.specs.Fits.{Past, FitsDisk, IsBound, AreTogether, IsCore, FitsCore, StepsTo, times}
@@ -33,6 +33,7 @@ module _ (past : Past) (places : List (Option ℕ)) (tokens : List (Option Reade
     stands = is.stands;
     floor = is.floor;
     begun = is.begun;
+    behind = is.behind;
     present = is.present;
     header = is.header;
     sum = is.sum;
@@ -43,6 +44,7 @@ module _ (past : Past) (places : List (Option ℕ)) (tokens : List (Option Reade
     used = is.used;
     few = is.few;
     unsynced = is.unsynced;
+    some = is.some;
     drained = is.drained;
     down = is.down;
     filed = is.filed;

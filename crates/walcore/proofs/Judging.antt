@@ -14,7 +14,7 @@ use Rattle.sqwal.specs.Answers.{EntryFound, IsCommitted}
 use Rattle.sqwal.specs.declared.scan.Entry.{Entry}
 use Rattle.sqwal.specs.declared.scan.Front.{Front}
 use Rattle.sqwal.proofs.Views.{front_unique, front_none}
-use Rattle.walcore.specs.Refusal.{most_bytes}
+use Rattle.sqval.specs.CommitFaults.{most_bytes}
 use Rattle.walcore.specs.Folding.{IsTooLarge}
 use Rattle.walcore.specs.Plans.{wanted_page, IsTable, IsFit, LogRefused, JudgeAnswer, PlanAnswer}
 use Rattle.walcore.specs.Plans.{ReadAnswer}

@@ -4,10 +4,11 @@ use Rattle.std.specs.List.{list_all}
 use Rattle.std.proofs.lemmas.List.{take-append-le}
 use Rattle.std.proofs.lemmas.Bool.Decides.{nat_tests}
 use Rattle.sqval.specs.Database.{Database, Pages, apply}
-use Rattle.walcore.specs.CommitRefusals.{first_true, page_faults, most_pages}
-use Rattle.walcore.specs.Answers.{Answer}
+use Rattle.sqval.specs.CommitFaults.{first_true, page_faults}
+use Rattle.walcore.specs.CommitRefusals.{most_pages}
+use Rattle.sqval.specs.Answers.{Answer}
 use Rattle.walcore.specs.Machine.{Act, State, start, last, newest, is_bound, forgotten, opened, gone, closed, committed, synced, checkpointed, restarted, begun, ended, commit_refusal, Step}
-use Rattle.walcore.specs.Runs.{Moment, Runs}
+use Rattle.sqval.specs.Runs.{Moment, Runs}
 use Rattle.walcore.specs.Laws.{IsSane, Keeps}
 use Rattle.walcore.proofs.Targets.{Targets, step_in}
 

@@ -64,12 +64,13 @@ pub mod MadeSome
 pub mod Premises
 pub mod Recovered
 pub mod Reopening
-pub mod Numbers
 pub mod NextFrame
 pub mod Going
 pub mod Pacing
+pub mod LastFrame
 pub mod Prepared
 pub mod Granted
 pub mod Fulfilling
 pub mod Rows
 pub mod Resting
+pub mod Unopened

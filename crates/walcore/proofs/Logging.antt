@@ -16,7 +16,7 @@ use Rattle.crashdisk.proofs.Steps.{fixed_writes, fixed_syncs, fixed_synced}
 use Rattle.sqwal.specs.Frames.{frame_end}
 use Rattle.sqwal.specs.Log.{IsLog}
 use Rattle.sqwal.proofs.Same.{frame_end-le, frame_end-head}
-use Rattle.walcore.specs.Standing.{HoldsFrames, IsPresent}
+use Rattle.walcore.specs.Standing.{HoldsFrames, IsBehind, IsPresent}
 use Rattle.walcore.proofs.Down.{present_image}
 use Rattle.walcore.proofs.Standing.{down_image, down_head}
 use Rattle.walcore.proofs.Untorn.{untorn, writes_untorn, syncs_untorn}
@@ -39,12 +39,6 @@ clear_torn sector from to k pos le i lt (inr torn) =
 
 fixed_at : (m n : ℕ) (a b : Bool) (s : FileState) (bytes : List ℕ) → n ≡ m → b ≡ a → HasFixed m a s 0 bytes → HasFixed n b s 0 bytes
 fixed_at m n a b s bytes e f fixed = subst (λ (x : ℕ). HasFixed x b s 0 bytes) (sym e) (subst (λ (x : Bool). HasFixed m x s 0 bytes) (sym f) fixed)
-
--- The place of a write of the log lies behind the frames that are down; on a disk that tears so does its sector, unless no
--- frame is down.
-pub record IsBehind (size d at : ℕ) (s : DiskState) : Type 0 where
-  pub behind : frame_end size d ≤ at
-  pub apart : s.tears ≡ true → 1 ≤ d → frame_end size d ≤ at / s.sector * s.sector
 
 module _ (size : ℕ) (e : List ℕ) (n d : ℕ) (s t : DiskState) (log : IsLog size e n) (down : d ≤ n) (sound : IsSoundDisk s) (positive : 1 ≤ s.sector) (holds : HoldsFrames size e d s) where
   below : (i : ℕ) → i < length (take (frame_end size d) e) → i < frame_end size d

@@ -11,7 +11,7 @@ use Rattle.sqwal.specs.Log.{IsLog}
 use Rattle.sqwal.proofs.Logs.{word_fits}
 use Rattle.sqwal.proofs.Same.{frame_end-zero, frame_end-suc, frame_end-le, frame_at-end}
 use Rattle.walcore.specs.CommitRefusals.{refusal_of}
-use Rattle.walcore.specs.Answers.{Answer, Done, Refused, Refuses}
+use Rattle.sqval.specs.Answers.{Answer, Done, Refused, Refuses}
 use Rattle.walcore.specs.Machine.{State, Act, Opens, Commits, Syncs, Checkpoints, Restarts, newest, closed, committed, commit_refusal, CommitStep, Step}
 use Rattle.walcore.specs.Made.{IsBegun, IsExtended}
 use Rattle.walcore.specs.Making.{Made, BeginsLog, Extends, Copies, MadeByRestart, MadeByCommit, MadeByCopy, MadeBySync, IfBegun, Makes, has_begun}

@@ -16,14 +16,14 @@ use Rattle.crashdisk.specs.declared.file.File.TheVariants.{Log}
 use Rattle.crashdisk.specs.declared.error.DiskError.{DiskError}
 use Rattle.crashdisk.proofs.Sound.{written_inside}
 use Rattle.crashdisk.proofs.Steps.{present_written}
-use Rattle.walcore.specs.Refusal.{number_of, HasCause}
-use Rattle.walcore.specs.Folding.{IsJust, HadRefusal}
+use Rattle.walcore.specs.Refusal.{number_of}
+use Rattle.sqval.specs.Answers.{HasCause, Files}
+use Rattle.sqval.specs.Held.{IsJust, IsHeld}
+use Rattle.walcore.specs.Folding.{HadRefusal}
 use Rattle.walcore.specs.Steps.{Later}
 use Rattle.walcore.specs.Phases.{Suits}
-use Rattle.walcore.specs.Answers.{Files}
 use Rattle.walcore.specs.Machine.{opened, gone, forgotten}
 use Rattle.walcore.specs.Made.{AreMade, HasNewSalts, IsBegun}
-use Rattle.walcore.specs.Era.{IsHeld}
 use Rattle.walcore.specs.Standing.{ShowsWhole, ShowsHistory, HasMadeHeader, Stands, IsPresent}
 use Rattle.walcore.specs.Fits.{Past, IsLeft, FitsDisk, FitsAlone, has_mark, none_open, OpenedTo, GivenUpTo}
 use Rattle.walcore.specs.Opening.{IsNewLog, IsNewCore, HeaderSteps, MayRefuse, IsRecovered, RecoverAnswer}

@@ -8,24 +8,27 @@ use Rattle.crashdisk.proofs.Keeping.{sound_writes}
 use Rattle.crashdisk.specs.declared.file.File.TheVariants.{Log}
 use Rattle.crashdisk.proofs.Steps.{counted_grows}
 use Rattle.sqval.specs.PageSize.{IsPageSize}
-use Rattle.sqwal.specs.Frames.{page_of, size_of, content_of}
+use Rattle.sqwal.specs.Frames.{frame_end, page_of, size_of, content_of}
 use Rattle.sqwal.specs.Log.{IsLog}
 use Rattle.sqwal.specs.Refusal.{most_frames}
+use Rattle.sqwal.proofs.Same.{frame_end-le}
 use Rattle.walcore.specs.Made.{IsExtended}
-use Rattle.walcore.specs.Judged.{lent}
-use Rattle.walcore.specs.Standing.{Stands}
+use Rattle.sqval.specs.JudgedPages.{lent}
+use Rattle.walcore.specs.Standing.{IsBehind, Stands}
 use Rattle.walcore.specs.Going.{KeepsCore, FrameStep, KnowsLog, Going, FramesAnswer}
 use Rattle.walcore.specs.declared.state.Core.{Core}
 use Rattle.walcore.specs.declared.error.WalError.{WalError}
-use Rattle.walcore.proofs.Numbers.{lent_length}
+use Rattle.sqval.proofs.PageNumbers.{lent_length}
+use Rattle.walcore.proofs.Pages.{sector_some}
 use Rattle.walcore.proofs.Stills.{refusal_after}
+use Rattle.walcore.proofs.Repeating.{behind_same, behind_later}
 use Rattle.walcore.proofs.Going.{IsFrameAt, Reaches, frame_known, frame_refused, frame_stands}
 
 pub size_most : (size : ℕ) → IsPageSize size → size ≤ 65536
 size_most size is = let m : 2 ^ is.0 ≤ 2 ^ 16 = pow_mono is.2 in omega (arith, is.3)
 
 pub going_none : (size : ℕ) (f : List ℕ) (m n : ℕ) (s : DiskState) → IsSoundDisk s → Going size f m n s s
-going_none size f m n s sound = record { refused = omega arith; sound = sound; sector = refl; tears = refl; stands = λ logs h index mark d c stands untorn le. stands }
+going_none size f m n s sound = record { refused = omega arith; sound = sound; sector = refl; tears = refl; stands = λ logs h index mark d c stands behind. stands }
 
 -- the frame of page k of a commit
 module _ (start core next : Core) (s t u : DiskState) (pages : List (ℕ × Bor (List ℕ))) (count k : ℕ) (x : ℕ × Bor (List ℕ)) (keeps : KeepsCore start core) (headed : core.header.page_size ≡ core.page_size) (lt : k < length pages)
@@ -61,18 +64,22 @@ module _ (start core next : Core) (s t u : DiskState) (pages : List (ℕ × Bor 
       sound = sound_writes Log _ _ step.called t u going.sound step.wrote;
       sector = step.wrote.elsewhere.sector ∙ going.sector;
       tears = step.wrote.elsewhere.tears ∙ going.tears;
-      stands = λ logs h index mark d c stands untorn le.
-          let was = going.stands logs h index mark d c stands untorn le in
+      stands = λ logs h index mark d c stands behind.
+          let was = going.stands logs h index mark d c stands behind in
+          let a : ℕ = frame_end start.page_size n in
+          let b : ℕ = frame_end start.page_size (n + k) in
+          let later : IsBehind start.page_size d b s = behind_later start.page_size d s a b (omega (arith, sector_some s.sector stands.suits.sectors)) (frame_end-le start.page_size n (n + k) (omega arith)) behind in
+          let here : IsBehind core.page_size d (frame_end core.page_size (n + k)) t = subst (λ (z : ℕ). IsBehind z d (frame_end z (n + k)) t) (sym keeps.page_size) (behind_same start.page_size d b s t going.sector going.tears later) in
           let was_core = subst (λ (z : ℕ). Stands z logs f (n + length (lent pages)) h index mark d c t) (sym keeps.page_size) was in
           subst (λ (z : ℕ). Stands z logs f (n + length (lent pages)) h index mark d c u) keeps.page_size
-          (frame_stands f (n + length (lent pages)) (n + k) core next t u reaches (omega (arith, within)) going.sound page size content at headed result step logs h index mark d c was_core (going.tears ∙ untorn) (omega arith));
+          (frame_stands f (n + length (lent pages)) (n + k) core next t u reaches (omega (arith, within)) going.sound page size content at headed result step logs h index mark d c was_core here);
     }
 
     pub frames_on : (v : T) → result ≡ Ok v → KeepsCore core next → page ≤ core.index.bound → Going start.page_size f (n + length (lent pages)) n s u × KnowsLog f (n + (k + 1)) next u
     frames_on v is keeps_next low = (
       later,
       subst (λ (i : ℕ). KnowsLog f i next u) (let z : suc (n + k) ≡ n + (k + 1) = omega arith in z)
-          (frame_known f (n + length (lent pages)) (n + k) core next t u reaches (omega (arith, within)) going.sound page size content at headed result step v is keeps_next low),
+          (frame_known f (n + length (lent pages)) (n + k) core next t u reaches (omega (arith, within)) going.sound page size content at headed result step v is (record { page_size = keeps_next.page_size; header = keeps_next.header; bound = keeps_next.bound }) low),
     )
 
     pub frames_off : {V : Type 0} → (err : WalError) (r : Result V WalError) → result ≡ Err err → r ≡ Err err → FramesAnswer start.page_size f (n + length (lent pages)) n r next s u

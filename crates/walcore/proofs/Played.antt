@@ -1,7 +1,7 @@
 -- Worked runs, step by step.
 use Rattle.std.proofs.Common.{◌≡◌, ℕ, ◌+◌, false, List, [], ◌∷◌, length, Option, Some, None, Bool, refl, inl, inr, lit<, lit≤, nat_lt}
 use Rattle.sqval.specs.Database.{page}
-use Rattle.walcore.specs.Answers.{Refuses}
+use Rattle.sqval.specs.Answers.{Refuses}
 use Rattle.walcore.specs.CommitRefusals.{refusal_of}
 use Rattle.walcore.proofs.Goes.{end, next, go, on_base}
 use Rattle.walcore.specs.Rows.{Synced, Lost, LostForGood, Waits, Stopped, CommitsRefused, SyncFailed, Forgotten, TwoReaders}

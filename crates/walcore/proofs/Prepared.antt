@@ -5,19 +5,19 @@ use Rattle.std.specs.List.{All}
 use Rattle.std.proofs.lemmas.List.{get_or-map}
 use Rattle.crashdisk.specs.Call.{DiskState}
 use Rattle.sqwal.specs.Header.{IsHeaderOf}
-use Rattle.sqwal.specs.Frames.{page_of, summed}
+use Rattle.sqwal.specs.Frames.{frame_end, page_of, summed}
 use Rattle.sqwal.specs.Sums.{IsSumOf}
 use Rattle.sqwal.specs.Index.{FrameTable}
 use Rattle.sqwal.specs.declared.header.WalHeader.{WalHeader}
 use Rattle.sqwal.specs.declared.sum.Sum.{Sum}
-use Rattle.walcore.specs.Folding.{IsJust}
+use Rattle.sqval.specs.Held.{IsJust}
 use Rattle.walcore.specs.Machine.{newest, reader_at}
-use Rattle.walcore.specs.Judged.{lent}
-use Rattle.walcore.specs.Standing.{Stands, IsPresent}
+use Rattle.sqval.specs.JudgedPages.{lent}
+use Rattle.walcore.specs.Standing.{IsBehind, Stands, IsPresent}
 use Rattle.walcore.specs.Fits.{Past, IsIndexed, IsBound, AreTogether, IsCore, FitsCore, times}
 use Rattle.walcore.specs.Commits.{Prepares, IsReady}
 use Rattle.walcore.specs.declared.state.Core.{Core}
-use Rattle.walcore.proofs.Numbers.{lent_length}
+use Rattle.sqval.proofs.PageNumbers.{lent_length}
 use Rattle.walcore.proofs.Accepted.{IsGranted, granted}
 
 module _ (past : Past) (e : List ℕ) (index : ℕ → ℕ) (d c : ℕ) (a b : Core) (s : DiskState) (same : Prepares a b) where
@@ -43,6 +43,7 @@ module _ (past : Past) (e : List ℕ) (index : ℕ → ℕ) (d c : ℕ) (a b : C
         (at_mark (λ x. Stands a.page_size past.made.logs e a.frames past.state.history index x d c s) is.stands));
     floor = is.floor;
     begun = at_mark (λ x. c ≤ x) is.begun;
+    behind = at_size (λ x. IsBehind x d (frame_end x b.frames) s) (at_frames (λ x. IsBehind a.page_size d (frame_end a.page_size x) s) is.behind);
     present = at_size (λ x. IsPresent x e b.frames s) (at_frames (λ x. IsPresent a.page_size e x s) is.present);
     header = subst (λ (x : WalHeader). IsHeaderOf e x) (sym same.log.header) is.header;
     sum = subst (λ (x : WalHeader). IsSumOf x.order (summed b.page_size e b.frames) b.sum) (sym same.log.header) (subst (λ (x : Sum). IsSumOf a.header.order (summed b.page_size e b.frames) x) (sym same.log.sum)
@@ -56,8 +57,9 @@ module _ (past : Past) (e : List ℕ) (index : ℕ → ℕ) (d c : ℕ) (a b : C
     unsynced = same.unsynced ∙ is.unsynced;
     drained = same.marks.drained ∙ is.drained;
     filed = λ drained. let was = is.filed (subst (λ (x : Bool). IsTrue x) same.marks.drained drained) in
-        (was.0 ∙ sym same.log.frames, λ db image. at_size (λ x. IsJust x (newest past.state) db) (was.1 db image));
-    down = λ z. is.down (sym same.unsynced ∙ z) ∙ sym same.log.frames;
+        (same.unsynced ∙ was.0, λ db image. at_size (λ x. IsJust x (newest past.state) db) (was.1 db image));
+    some = λ yes. at_frames (λ x. 1 ≤ x) (is.some (sym same.unsynced ∙ yes));
+    down = λ z. let was = is.down (sym same.unsynced ∙ z) in record { commit = at_mark (λ x. x ≤ d) was.commit; all = λ whole. was.all whole ∙ sym same.log.frames };
     readers = λ number. at_size (λ x. AreTogether (IsBound x e index b.mark c past.state) (reader_at past.state number) (get_or past.tokens number None))
         (at_mark (λ x. AreTogether (IsBound a.page_size e index x c past.state) (reader_at past.state number) (get_or past.tokens number None)) (is.readers number));
     page = b.framed;

@@ -11,15 +11,15 @@ use Rattle.crashdisk.specs.Call.{DiskState, ArePresent, Syncs}
 use Rattle.crashdisk.specs.declared.file.File.TheVariants.{Log}
 use Rattle.crashdisk.proofs.Steps.{present_list}
 use Rattle.crashdisk.specs.declared.error.DiskError.{DiskError}
-use Rattle.walcore.specs.Refusal.{most_bytes}
+use Rattle.sqval.specs.CommitFaults.{most_bytes}
 use Rattle.walcore.specs.Alone.{Show, ShowsAlone}
-use Rattle.walcore.specs.Folding.{IsLogDown, IsEmptyDown, IsJust, IsTooLarge, TearsPages, FoldAnswer, Agrees}
+use Rattle.walcore.specs.Folding.{IsLogDown, IsEmptyDown, IsTooLarge, TearsPages, FoldAnswer, Agrees}
+use Rattle.sqval.specs.Held.{IsJust, IsHeld}
 use Rattle.walcore.specs.Lengths.{EndsBy, KeepsLength}
 use Rattle.walcore.specs.Steps.{Still, Later}
-use Rattle.walcore.specs.Answers.{Files}
+use Rattle.sqval.specs.Answers.{Files}
 use Rattle.walcore.specs.Machine.{at}
 use Rattle.walcore.specs.Made.{AreMade, NoChance}
-use Rattle.walcore.specs.Era.{IsHeld}
 use Rattle.walcore.specs.Fits.{Past, AreFiles, IsLeft, FitsDisk}
 use Rattle.walcore.specs.Opening.{CountAnswer, FileFault, FileJudged, MayRefuse, RecoverAnswer}
 use Rattle.walcore.specs.declared.folding.Folded.{Folded}
@@ -183,7 +183,7 @@ module _ (past : Past) (found : Files) (s : DiskState) (fits : FitsDisk past s) 
       later_then s a b first (later_still a b first.sound still),
       may_after e s a b first.refused (⊎_elim
           (λ answer. fold_refused past.state.page_size past.made.logs found.log fits.made chance found.db (at past.state is.place) a b whole (is.shows found.db db_image).shows held.few e answer)
-          (λ fault. absurd (no_fault e ((is.shows found.db db_image).whole fault.0) fault.1))
+          (λ fault. absurd (no_fault e ((is.shows found.db db_image).whole fault.1) fault.2))
           (judged_at (Err e) (subst (λ (x : Result T WalError). FileJudged size found.db found.log x a b) was judged))),
       left_narrows a b (narrows_still a b still) past.state.page_size past.made.logs past.state.history past.state.floor ready.left,
     )

@@ -18,7 +18,8 @@ use Rattle.crashdisk.specs.declared.error.DiskError.{DiskError}
 use Rattle.crashdisk.proofs.Sound.{byte_below}
 use Rattle.crashdisk.proofs.Images.{table}
 use Rattle.crashdisk.proofs.Steps.{present_list, settled_sync}
-use Rattle.walcore.specs.Folding.{IsJust, TearsPages, KeepsBytes, IsLogDown, FoldAnswer}
+use Rattle.sqval.specs.Held.{IsJust}
+use Rattle.walcore.specs.Folding.{TearsPages, KeepsBytes, IsLogDown, FoldAnswer}
 use Rattle.walcore.specs.Steps.{Still, KeepsLog, ArePages, CopyAnswer, EndAnswer, FoldedAnswer}
 use Rattle.walcore.specs.Plans.{IsCopy, IsPlan, IsFit, LogRefused, PlanAnswer, ReadAnswer}
 use Rattle.walcore.specs.declared.plan.Plan.{Plan}
@@ -204,31 +205,33 @@ fold_empty size db w f a b fits is are_db are zero settled frames sizes =
     empty [] e = refl
     empty (y ∷ ys) e = absurd (omega (arith, e))
 
+-- no byte changed first
+module _ (size : ℕ) (db w : List ℕ) (a b c : DiskState) (fits : TearsPages size a → ⊥) (fits_then : TearsPages size b → ⊥) (le : a.refused ≤ b.refused) (first : KeepsBytes a b) where
+  pub bytes_then : KeepsBytes b c → KeepsBytes a c
+  bytes_then keeps = record { db = keeps.db ∙ first.db; log = λ bytes are. keeps.log bytes (first.log bytes are) }
+
+  pub fold_then : (q : Result Folded WalError) → FoldAnswer size db w q b c → FoldAnswer size db w q a c
+  fold_then (Ok f) x = (fits, x.1, x.2, x.3)
+  fold_then (Err SectorAbovePage) x = absurd (fits_then x.0)
+  fold_then (Err TooLarge) x = (fits, x.1, bytes_then x.2)
+  fold_then (Err PageSize) x = (fits, x.1, x.2, bytes_then x.3)
+  fold_then (Err NoMemory) x = (fits, bytes_then x.1)
+  fold_then (Err Device) x = (fits, refusal_after a b c le x.1)
+  fold_then (Err _) x = absurd x
+
 -- the log was synced first
 module _ {T : Type 0} {u : T} (size : ℕ) (db w : List ℕ) (a b c : DiskState) (sound : IsSoundDisk a) (fits : TearsPages size a → ⊥) (synced : Syncs Log (Ok u) a b) where
-  synced_present : (bytes : List ℕ) → ArePresent a.log bytes → ArePresent b.log bytes
-  synced_present bytes are = settled_present b.log bytes (settled_sync Log a b bytes sound.log synced are)
+  pub synced_bytes : KeepsBytes a b
+  synced_bytes = record { db = synced.elsewhere.other; log = λ bytes are. settled_present b.log bytes (settled_sync Log a b bytes sound.log synced are) }
 
-  le : a.refused ≤ b.refused
-  le = omega (arith, synced.elsewhere.refused)
+  pub synced_later : a.refused ≤ b.refused
+  synced_later = omega (arith, synced.elsewhere.refused)
 
-  bytes_after : KeepsBytes b c → KeepsBytes a c
-  bytes_after keeps = record { db = keeps.db ∙ synced.elsewhere.other; log = λ bytes are. keeps.log bytes (synced_present bytes are) }
-
-  torn_after : TearsPages size b → ⊥
-  torn_after torn = fits (sym synced.elsewhere.tears ∙ torn.0, subst (λ (n : ℕ). size < n) synced.elsewhere.sector torn.1)
-
-  after : (q : Result Folded WalError) → FoldAnswer size db w q b c → FoldAnswer size db w q a c
-  after (Ok f) x = (fits, x.1, x.2, x.3)
-  after (Err SectorAbovePage) x = absurd (torn_after x.0)
-  after (Err TooLarge) x = (fits, x.1, bytes_after x.2)
-  after (Err PageSize) x = (fits, x.1, x.2, bytes_after x.3)
-  after (Err NoMemory) x = (fits, bytes_after x.1)
-  after (Err Device) x = (fits, refusal_after a b c le x.1)
-  after (Err _) x = absurd x
+  pub synced_fits : TearsPages size b → ⊥
+  synced_fits torn = fits (sym synced.elsewhere.tears ∙ torn.0, subst (λ (n : ℕ). size < n) synced.elsewhere.sector torn.1)
 
   pub fold_after : (q : Result Folded WalError) → ArePresent a.db db → ArePresent a.log w → (ArePresent b.db db → ArePresent b.log w → FoldAnswer size db w q b c) → FoldAnswer size db w q a c
-  fold_after q are_db are rest = after q (rest (present_in a.db b.db db synced.elsewhere.other are_db) (synced_present w are))
+  fold_after q are_db are rest = fold_then size db w a b c fits synced_fits synced_later synced_bytes q (rest (present_in a.db b.db db synced_bytes.db are_db) (synced_bytes.log w are))
 
   pub empty_down : (b.log.len ≡ 0) → IsLogDown b []
   empty_down zero =
@@ -246,20 +249,11 @@ module _ (n size count : ℕ) (w : List ℕ) (m : ℕ) (t : FrameTable) (d : Dat
 
 -- a look came first
 module _ (size : ℕ) (db w : List ℕ) (a b c : DiskState) (fits : TearsPages size a → ⊥) (is : Still a b) where
-  look_torn : TearsPages size b → ⊥
-  look_torn torn = fits (sym is.tears ∙ torn.0, subst (λ (n : ℕ). size < n) is.sector torn.1)
-
-  look_bytes : KeepsBytes b c → KeepsBytes a c
-  look_bytes keeps = record { db = keeps.db ∙ is.db; log = λ bytes are. keeps.log bytes (present_in a.log b.log bytes is.log are) }
+  pub looked_bytes : KeepsBytes a b
+  looked_bytes = record { db = is.db; log = λ bytes are. present_in a.log b.log bytes is.log are }
 
   pub fits_still : TearsPages size b → ⊥
-  fits_still = look_torn
+  fits_still torn = fits (sym is.tears ∙ torn.0, subst (λ (n : ℕ). size < n) is.sector torn.1)
 
   pub fold_looked : (q : Result Folded WalError) → FoldAnswer size db w q b c → FoldAnswer size db w q a c
-  fold_looked (Ok f) x = (fits, x.1, x.2, x.3)
-  fold_looked (Err SectorAbovePage) x = absurd (look_torn x.0)
-  fold_looked (Err TooLarge) x = (fits, x.1, look_bytes x.2)
-  fold_looked (Err PageSize) x = (fits, x.1, x.2, look_bytes x.3)
-  fold_looked (Err NoMemory) x = (fits, look_bytes x.1)
-  fold_looked (Err Device) x = (fits, refusal_after a b c is.refused x.1)
-  fold_looked (Err _) x = absurd x
+  fold_looked q x = fold_then size db w a b c fits fits_still is.refused looked_bytes q x

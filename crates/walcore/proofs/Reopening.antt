@@ -10,7 +10,7 @@ use Rattle.crashdisk.specs.declared.error.DiskError.{DiskError}
 use Rattle.walcore.specs.Alone.{Show, ShowsAlone}
 use Rattle.walcore.specs.Folding.{IsLogDown}
 use Rattle.walcore.specs.Lengths.{EndsBy, IsLengthOf}
-use Rattle.walcore.specs.Answers.{Files}
+use Rattle.sqval.specs.Answers.{Files}
 use Rattle.walcore.specs.Machine.{at, last, newest}
 use Rattle.walcore.specs.Made.{NoChance}
 use Rattle.walcore.specs.Standing.{MayBeRead, ShowsWhole}

@@ -10,30 +10,25 @@ use Rattle.sqwal.specs.Frames.{frame_end, page_of, size_of, content_of, IsCommit
 use Rattle.sqwal.specs.Refusal.{most_frames}
 use Rattle.sqwal.proofs.Same.{frame_end-suc, frame_end-head, take_less}
 use Rattle.walcore.specs.Phases.{Suits}
-use Rattle.walcore.specs.Made.{IsExtended}
 use Rattle.walcore.specs.Era.{shown, IsEra, IsApplied}
-use Rattle.walcore.specs.Standing.{Stands}
+use Rattle.walcore.specs.Standing.{IsBehind, Stands}
+use Rattle.walcore.specs.Syncing.{IsRepeated}
 use Rattle.walcore.proofs.Pages.{sector_some}
 use Rattle.walcore.proofs.Makings.{made_more}
 use Rattle.walcore.proofs.Fronting.{boundary_same}
 use Rattle.walcore.proofs.Extending.{extended_front, extended_count}
 use Rattle.walcore.proofs.Eras.{GoesOn, era_more}
-use Rattle.walcore.proofs.Logging.{IsBehind}
 use Rattle.walcore.proofs.Stepping.{stands_more}
-
--- f is the log e of n frames with its last frame once more
-abbrev pub IsRepeated : (size : ℕ) (e : List ℕ) (n : ℕ) (f : List ℕ) → Type 0
-IsRepeated size e n f = IsExtended size e n ((page_of size e n, content_of size e n) ∷ []) (size_of size e n) f
 
 -- the number of the last database stays
 abbrev pub index_to : (index : ℕ → ℕ) (n : ℕ) → ℕ → ℕ
 index_to index n i = index (min i n)
 
-low : (index : ℕ → ℕ) (n i : ℕ) → i ≤ n → index_to index n i ≡ index i
-low index n i le = ap index (let z : min i n ≡ i = omega arith in z)
+pub index_to-low : (index : ℕ → ℕ) (n i : ℕ) → i ≤ n → index_to index n i ≡ index i
+index_to-low index n i le = ap index (let z : min i n ≡ i = omega arith in z)
 
-high : (index : ℕ → ℕ) (n i : ℕ) → n ≤ i → index_to index n i ≡ index n
-high index n i le = ap index (let z : min i n ≡ n = omega arith in z)
+index_to-high : (index : ℕ → ℕ) (n i : ℕ) → n ≤ i → index_to index n i ≡ index n
+index_to-high index n i le = ap index (let z : min i n ≡ n = omega arith in z)
 
 module _ (size : ℕ) (e : List ℕ) (n mark : ℕ) (h : List Database) (index : ℕ → ℕ) (f : List ℕ) (era : IsEra size e n mark h index) (some : 1 ≤ n) (more : IsRepeated size e n f) where
   commit_n : IsCommit size e n
@@ -66,20 +61,20 @@ module _ (size : ℕ) (e : List ℕ) (n mark : ℕ) (h : List Database) (index :
 
   on : GoesOn size n (n + 1) mark f h index h (index_to index n)
   on = record {
-    at = low index n;
+    at = index_to-low index n;
     front = λ k lt. refl;
     rises = λ i j le within. era.rises (min i n) (min j n) (omega arith) (omega arith);
-    last = omega (arith, high index n (n + 1) (omega arith), era.last);
+    last = omega (arith, index_to-high index n (n + 1) (omega arith), era.last);
     held = era.held;
     marked = (
       omega (arith, era.marked.0),
       boundary_same size e f n mark front era.marked.0 era.marked.1,
-      low index n mark era.marked.0 ∙ era.marked.2 ∙ sym (high index n (n + 1) (omega arith)),
+      index_to-low index n mark era.marked.0 ∙ era.marked.2 ∙ sym (index_to-high index n (n + 1) (omega arith)),
     );
     first = λ i le ends is. ⊎_elim
         (λ lt.
         let i_le : i ≤ n = omega arith in
-        era.first i i_le (boundary_same size f e n i (sym front) i_le ends) (sym (low index n i i_le) ∙ is ∙ high index n (n + 1) (omega arith)))
+        era.first i i_le (boundary_same size f e n i (sym front) i_le ends) (sym (index_to-low index n i i_le) ∙ is ∙ index_to-high index n (n + 1) (omega arith)))
         (λ ge. omega (arith, era.marked.0))
         (cases_lt i (n + 1));
   }
@@ -87,7 +82,7 @@ module _ (size : ℕ) (e : List ℕ) (n mark : ℕ) (h : List Database) (index :
   -- A copy of the last frame is no commit: it shows the same database.
   pub repeated_era : IsEra size f (n + 1) mark h (index_to index n)
   repeated_era = era_more size e n mark h index f (n + 1) mark h (index_to index n) era (omega arith) more.log front (λ i a b commit. omega arith) (λ z. commit_n (sym size_is ∙ z))
-      (subst (λ (k : ℕ). IsApplied size f n (n + 1) (shown h index n) (get_or h k [])) (sym (high index n (n + 1) (omega arith))) applied)
+      (subst (λ (k : ℕ). IsApplied size f n (n + 1) (shown h index n) (get_or h k [])) (sym (index_to-high index n (n + 1) (omega arith))) applied)
       on
 
 -- Before it is written what stands on the disk stands of the log with it.
@@ -98,7 +93,7 @@ repeated_stands size rest e n h index mark d c s f stands some more few =
     stands_more size (e ∷ rest) rest e f n (n + 1) h h index (index_to index n) mark mark d c s stands
     (made_more size rest f (n + 1) more.log few e stands.are_made (take_less f e (frame_end size n) 32 same (frame_end-head size n)))
     (repeated_era size e n mark h index f stands.era some more) (omega arith) same
-    (λ i le. ap (λ (k : ℕ). get_or h k []) (low index n i le))
+    (λ i le. ap (λ (k : ℕ). get_or h k []) (index_to-low index n i le))
 
 -- ---- where the next frames may be written
 
@@ -132,3 +127,17 @@ module _ (size d : ℕ) (s : DiskState) where
         let up : q * s.sector ≤ at / s.sector * s.sector = rounded q at pos (omega (arith, div-mul-le_self (frame_end size (suc d)) s.sector)) in
         omega (arith, frame_end-suc size d, lt-div-mul-add {a = frame_end size (suc d)} pos);
   }
+
+  -- further on
+  pub behind_later : (at later : ℕ) → 1 ≤ s.sector → at ≤ later → IsBehind size d at s → IsBehind size d later s
+  behind_later at later pos le is = record {
+    behind = omega (arith, is.behind);
+    apart = λ torn some. omega (arith, is.apart torn some, rounded (at / s.sector) later pos (omega (arith, div-mul-le_self at s.sector)));
+  }
+
+-- on a disk with the same sectors
+pub behind_same : (size d at : ℕ) (s t : DiskState) → t.sector ≡ s.sector → t.tears ≡ s.tears → IsBehind size d at s → IsBehind size d at t
+behind_same size d at s t sector tears is = record {
+  behind = is.behind;
+  apart = λ torn some. subst (λ (n : ℕ). frame_end size d ≤ at / n * n) (sym sector) (is.apart (sym tears ∙ torn) some);
+}

@@ -13,10 +13,10 @@ use Rattle.crashdisk.specs.State.{IsImage}
 use Rattle.crashdisk.specs.Call.{DiskState}
 use Rattle.crashdisk.specs.declared.file.File.TheVariants.{Log}
 use Rattle.walcore.specs.Refusal.{number_of}
-use Rattle.walcore.specs.Folding.{IsJust}
+use Rattle.sqval.specs.Held.{IsJust}
 use Rattle.walcore.specs.Steps.{Later}
-use Rattle.walcore.specs.Answers.{Refused, Refuses, Done}
-use Rattle.walcore.specs.CommitRefusals.{first_true}
+use Rattle.sqval.specs.Answers.{Refused, Refuses, Done}
+use Rattle.sqval.specs.CommitFaults.{first_true}
 use Rattle.walcore.specs.Machine.{newest, reader_at, restart_refusal, closed, restarted, Restarts}
 use Rattle.walcore.specs.Made.{HasNewSalts, IsBegun}
 use Rattle.walcore.specs.Making.{has_begun, RestartsAnew, MadeByRestart}
@@ -163,14 +163,11 @@ module _ (past : Past) (core : Core) (s : DiskState) (fits : FitsCore past core 
     allowed : restart_refusal past.state ≡ None
     allowed = first_none past.state.is_open past.state.drained (list_any is_some past.state.readers) (sym fits.is_open ∙ may.is_open) (sym is.drained ∙ may.drained) (any_none past.state.readers none.readers)
 
-    whole : d ≡ core.frames
-    whole = (is.filed may.drained).0
+    newest_down : core.mark ≤ d
+    newest_down = (is.down (is.filed may.drained).0).commit
 
-    stands_whole : Stands core.page_size past.made.logs e core.frames past.state.history index core.mark core.frames c s
-    stands_whole = subst (λ (k : ℕ). Stands core.page_size past.made.logs e core.frames past.state.history index core.mark k c s) whole is.stands
-
-    stands : Stands past.state.page_size past.made.logs e core.frames past.state.history index core.mark core.frames c s
-    stands = subst (λ (k : ℕ). Stands k past.made.logs e core.frames past.state.history index core.mark core.frames c s) fits.page_size stands_whole
+    stands : Stands past.state.page_size past.made.logs e core.frames past.state.history index core.mark d c s
+    stands = subst (λ (k : ℕ). Stands k past.made.logs e core.frames past.state.history index core.mark d c s) fits.page_size is.stands
 
     last_place : index core.frames ≡ length past.state.history - 1
     last_place = omega (arith, stands.era.last)
@@ -209,10 +206,10 @@ module _ (past : Past) (core : Core) (s : DiskState) (fits : FitsCore past core 
 
       left : ShowsHistory past.state.page_size (l.bytes ∷ past.made.logs) past.state.history past.state.floor t × HasMadeHeader (l.bytes ∷ past.made.logs) t
       left = ⊎_elim
-          (λ failed. restart_shows past.state.page_size past.made.logs e core.frames past.state.history index core.mark c s t stands drained ((core.header.sequence + 1) % 2 ^ 32) ((core.header.salt1 + 1) % 2 ^ 32) salt2 l.bytes begun new failed.0 failed.3 past.state.floor low)
+          (λ failed. restart_shows past.state.page_size past.made.logs e core.frames past.state.history index core.mark d c s t stands newest_down drained ((core.header.sequence + 1) % 2 ^ 32) ((core.header.salt1 + 1) % 2 ^ 32) salt2 l.bytes begun new failed.0 failed.3 past.state.floor low)
           (λ done.
           let mid = later_write Log 0 l.bytes (Ok done.1.0) s done.0 fits.disk.suits.sound done.1.1 in
-          let both = restart_shows past.state.page_size past.made.logs e core.frames past.state.history index core.mark c s done.0 stands drained ((core.header.sequence + 1) % 2 ^ 32) ((core.header.salt1 + 1) % 2 ^ 32) salt2 l.bytes begun new (Ok done.1.0) done.1.1 past.state.floor low in
+          let both = restart_shows past.state.page_size past.made.logs e core.frames past.state.history index core.mark d c s done.0 stands newest_down drained ((core.header.sequence + 1) % 2 ^ 32) ((core.header.salt1 + 1) % 2 ^ 32) salt2 l.bytes begun new (Ok done.1.0) done.1.1 past.state.floor low in
           let narrows = narrows_syncs Log done.2.0 done.0 t mid.sound done.2.2 in (
             history_narrows done.0 t narrows past.state.page_size (l.bytes ∷ past.made.logs) past.state.history past.state.floor both.0,
             headers_narrow done.0 t narrows (l.bytes ∷ past.made.logs) both.1,

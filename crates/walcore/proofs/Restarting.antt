@@ -24,10 +24,11 @@ use Rattle.sqwal.specs.Log.{IsLog}
 use Rattle.sqwal.proofs.Same.{frame_end-suc, frame_end-zero, frame_end-head}
 use Rattle.sqwal.proofs.Fronts.{front_exists}
 use Rattle.walcore.specs.Alone.{AreWhole}
-use Rattle.walcore.specs.Folding.{IsJust, IsLogDown}
+use Rattle.sqval.specs.Held.{IsJust, IsHeld}
+use Rattle.walcore.specs.Folding.{IsLogDown}
 use Rattle.walcore.specs.Phases.{Suits}
 use Rattle.walcore.specs.Made.{AreMade, HasNewSalts, IsBegun}
-use Rattle.walcore.specs.Era.{shown, IsHeld, IsDown}
+use Rattle.walcore.specs.Era.{shown, IsDown}
 use Rattle.walcore.specs.Standing.{MayBeRead, ShowsHistory, HasMadeHeader, Stands}
 use Rattle.walcore.proofs.Pages.{sector_some}
 use Rattle.walcore.proofs.Suiting.{suits_writes, suits_syncs}
@@ -91,7 +92,7 @@ module _ {T : Type 0} (f : List ℕ) (result : Result T DiskError) (s t : DiskSt
 
 -- ---- a restart
 
-module _ {T : Type 0} (size : ℕ) (logs : List (List ℕ)) (e : List ℕ) (n : ℕ) (h : List Database) (index : ℕ → ℕ) (mark c : ℕ) (s t : DiskState) (stands : Stands size logs e n h index mark n c s)
+module _ {T : Type 0} (size : ℕ) (logs : List (List ℕ)) (e : List ℕ) (n : ℕ) (h : List Database) (index : ℕ → ℕ) (mark d c : ℕ) (s t : DiskState) (stands : Stands size logs e n h index mark d c s) (newest : mark ≤ d)
     (drained : (db : List ℕ) → IsImage s.sector s.tears s.db db → IsJust size (shown h index n) db)
     (sequence salt1 salt2 : ℕ) (f : List ℕ) (begun : IsBegun size sequence salt1 salt2 f) (new : HasNewSalts logs salt1 salt2) (result : Result T DiskError) (wrote : Writes Log 0 f result s t) where
   wide : 512 ≤ s.sector
@@ -104,27 +105,27 @@ module _ {T : Type 0} (size : ℕ) (logs : List (List ℕ)) (e : List ℕ) (n : 
   fits = omega (arith, stands.era.log.whole, frame_end-head size n)
 
   -- what stood behind the header
-  listed_rest : (w : List ℕ) → IsImage t.sector false t.log w → (frame_end size n ≤ length w) × ((i : ℕ) → frame_end size 1 ≤ i → i < frame_end size n → get_or w i 0 ≡ get_or e i 0)
+  listed_rest : (w : List ℕ) → IsImage t.sector false t.log w → (frame_end size d ≤ length w) × ((i : ℕ) → frame_end size 1 ≤ i → i < frame_end size d → get_or w i 0 ≡ get_or e i 0)
   listed_rest w image =
       let alters = then_write Log 0 32 0 f result (untorn s) (untorn s) (untorn t) (omega arith) (omega (arith, begun.alone)) (started Log 0 32 (untorn s) stands.suits.sound.log) (writes_untorn result s t 0 f wrote) in
-      altered_rest size s.sector false e n s.log t.log stands.era.log wide (λ torn. absurd (cc torn)) stands.suits.sound.log stands.log.listed alters.file w (subst (λ (k : ℕ). IsImage k false t.log w) wrote.elsewhere.sector image)
+      altered_rest size s.sector false e n d s.log t.log stands.era.log stands.marks.down wide (λ torn. absurd (cc torn)) stands.suits.sound.log stands.log.listed alters.file w (subst (λ (k : ℕ). IsImage k false t.log w) wrote.elsewhere.sector image)
 
   old_header : (w v : List ℕ) → 32 ≤ length w → IsImage s.sector false s.log v → ((i : ℕ) → i < 32 → get_or w i 0 ≡ get_or v i 0) → take 32 w ≡ take 32 e
   old_header w v long image same =
-      let down : IsDown size e n v = down_image size e n n s.sector false s.log stands.era.log (omega arith) stands.log.listed v image in
-      let first : take 32 w ≡ take 32 v = same_front w v 32 long (omega (arith, down.long, frame_end-head size n)) same in
-      first ∙ down_head size e v n down
+      let down : IsDown size e d v = down_image size e n d s.sector false s.log stands.era.log stands.marks.down stands.log.listed v image in
+      let first : take 32 w ≡ take 32 v = same_front w v 32 long (omega (arith, down.long, frame_end-head size d)) same in
+      first ∙ down_head size e v d down
 
   -- the old header or the new one
   listed_head : (w : List ℕ) → IsImage t.sector false t.log w → (take 32 w ≡ take 32 e) ⊎ (take 32 w ≡ take 32 f)
   listed_head w image =
-      let long : 32 ≤ length w = omega (arith, (listed_rest w image).0, frame_end-head size n) in
+      let long : 32 ≤ length w = omega (arith, (listed_rest w image).0, frame_end-head size d) in
       ⊎_elim (λ is. inr is) (λ was. inl (old_header w was.0 long was.1 was.2)) (listed_header f result s t begun.alone stands.suits.sound wide wrote w long image)
 
-  torn_left : s.tears ≡ true → 1 ≤ n → (w : List ℕ) → IsImage t.sector true t.log w → (frame_end size n ≤ length w) × ((i : ℕ) → frame_end size 1 ≤ i → i < frame_end size n → get_or w i 0 ≡ get_or e i 0)
+  torn_left : s.tears ≡ true → 1 ≤ d → (w : List ℕ) → IsImage t.sector true t.log w → (frame_end size d ≤ length w) × ((i : ℕ) → frame_end size 1 ≤ i → i < frame_end size d → get_or w i 0 ≡ get_or e i 0)
   torn_left torn some w image =
       let alters = then_write Log 0 32 0 f result s s t (omega arith) (omega (arith, begun.alone)) (started Log 0 32 s stands.suits.sound.log) wrote in
-      altered_rest size s.sector true e n s.log t.log stands.era.log wide small_at stands.suits.sound.log (stands.log.torn torn some)
+      altered_rest size s.sector true e n d s.log t.log stands.era.log stands.marks.down wide small_at stands.suits.sound.log (stands.log.torn torn some)
       (subst (λ (b : Bool). AltersFile s.sector b 0 32 s.log t.log) torn alters.file) w (subst (λ (k : ℕ). IsImage k true t.log w) wrote.elsewhere.sector image)
     where
       small_at : true ≡ true → s.sector ≤ size
@@ -141,7 +142,7 @@ module _ {T : Type 0} (size : ℕ) (logs : List (List ℕ)) (e : List ℕ) (n : 
       (torn_header f result s t begun.alone stands.suits.sound wide wrote w (stands.log.handed was) left.2 header))
       (read_cases t w may)
 
-  stood : (w : List ℕ) → MayBeRead t w → 1 ≤ n → (frame_end size n ≤ length w) × ((i : ℕ) → frame_end size 1 ≤ i → i < frame_end size n → get_or w i 0 ≡ get_or e i 0)
+  stood : (w : List ℕ) → MayBeRead t w → 1 ≤ d → (frame_end size d ≤ length w) × ((i : ℕ) → frame_end size 1 ≤ i → i < frame_end size d → get_or w i 0 ≡ get_or e i 0)
   stood w may some = ⊎_elim (λ image. listed_rest w image) (λ left. torn_left (sym wrote.elsewhere.tears ∙ left.0) some w left.1) (read_cases t w may)
 
   -- Whatever the write of the header answered, what is left shows the last database.
@@ -151,7 +152,7 @@ module _ {T : Type 0} (size : ℕ) (logs : List (List ℕ)) (e : List ℕ) (n : 
       index n,
       low,
       omega (arith, stands.era.last),
-      λ db image. turned_shows size (f ∷ logs) e f n mark h index stands.era (made_begun size sequence salt1 salt2 logs f stands.are_made begun new) (made_before f e logs stands.in_made) (made_here f logs)
+      λ db image. turned_shows size (f ∷ logs) e f n mark d h index stands.era stands.marks.down stands.marks.down_ends newest (made_begun size sequence salt1 salt2 logs f stands.are_made begun new) (made_before f e logs stands.in_made) (made_here f logs)
           (begun_log size sequence salt1 salt2 f begun) w chance (headers_left w may) (stood w may) db (drained db (image_elsewhere Log result s t wrote.elsewhere db image)),
     ),
     λ w may header. ⊎_elim

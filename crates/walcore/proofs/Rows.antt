@@ -3,17 +3,18 @@ use Rattle.std.proofs.Common.{◌≡◌, inl, inr, ⊎_elim, ℕ, ◌+◌, ◌^�
 use Rattle.std.specs.Prelude.{IsTrue, ◌==◌, Some, None, Result, Ok, Err}
 use Rattle.crashdisk.specs.Call.{DiskState, IsSoundDisk}
 use Rattle.sqval.specs.Database.{Pages, apply}
+use Rattle.sqwal.specs.Frames.{frame_end}
 use Rattle.sqwal.specs.Log.{IsLog}
 use Rattle.sqwal.specs.Refusal.{most_frames}
 use Rattle.walcore.specs.Refusal.{number_of}
-use Rattle.walcore.specs.Answers.{Done, Refused, Refuses}
+use Rattle.sqval.specs.Answers.{Done, Refused, Refuses}
 use Rattle.walcore.specs.CommitRefusals.{refusal_of}
 use Rattle.walcore.specs.Machine.{newest, committed, closed, commit_refusal, Commits, CommitStep}
 use Rattle.walcore.specs.Made.{IsExtended}
 use Rattle.walcore.specs.Making.{Made, IfBegun, MadeByCommit, Makes}
 use Rattle.walcore.specs.Folding.{HadRefusal}
-use Rattle.walcore.specs.Standing.{Stands}
-use Rattle.walcore.specs.Judged.{lent}
+use Rattle.walcore.specs.Standing.{IsBehind, Stands}
+use Rattle.sqval.specs.JudgedPages.{lent}
 use Rattle.walcore.specs.Fits.{Past, IsCore, FitsCore, StepsTo, answered}
 use Rattle.walcore.specs.Going.{KeepsCore, KnowsLog, Going, FramesAnswer}
 use Rattle.walcore.specs.Commits.{Prepares, IsReady, PrepareAnswer, Counts, Ends, Closes, EndAnswer}
@@ -39,7 +40,7 @@ made_by : (size : ℕ) (pages : Pages) (count : ℕ) (e f : List ℕ) (n : ℕ) 
 made_by size pages count e f n rest logs old same log more = subst (λ (x : List (List ℕ)). MadeByCommit size pages count x old (record { logs = f ∷ rest; unsynced = true })) (sym same) (f, n, log, more, refl)
 
 module _ (past : Past) (core mid next : Core) (pages : List (ℕ × Bor (List ℕ))) (count : ℕ) (s t : DiskState) (fits : FitsCore past core s) (opened : IsTrue core.is_open) (ready : IsReady pages count core)
-    (counts : Counts (length pages) core mid) (keeps : KeepsCore mid next) (untorn : s.tears ≡ false) (small : count < 2 ^ 32) where
+    (counts : Counts (length pages) core mid) (keeps : KeepsCore mid next) (small : count < 2 ^ 32) where
   open_past : past.state.is_open ≡ true
   open_past = sym fits.is_open ∙ opened
 
@@ -60,7 +61,7 @@ module _ (past : Past) (core mid next : Core) (pages : List (ℕ × Bor (List �
         → Stands core.page_size (plan.f ∷ is.newest_log.0) plan.f (core.frames + length (lent pages)) (past.state.history ++ apply (newest past.state) (lent pages) count ∷ []) (index_with index core.frames (core.frames + length (lent pages)) (length past.state.history)) (core.frames + length (lent pages)) d c t
     stands_then going =
         let first = subst (λ (x : ℕ). Stands x (plan.f ∷ is.newest_log.0) plan.f (core.frames + length (lent pages)) (past.state.history ++ apply (newest past.state) (lent pages) count ∷ []) (index_with index core.frames (core.frames + length (lent pages)) (length past.state.history)) (core.frames + length (lent pages)) d c s) (sym counts.log.page_size) plan.stands in
-        let then = going.stands (plan.f ∷ is.newest_log.0) (past.state.history ++ apply (newest past.state) (lent pages) count ∷ []) (index_with index core.frames (core.frames + length (lent pages)) (length past.state.history)) (core.frames + length (lent pages)) d c first untorn is.stands.marks.down in
+        let then = going.stands (plan.f ∷ is.newest_log.0) (past.state.history ++ apply (newest past.state) (lent pages) count ∷ []) (index_with index core.frames (core.frames + length (lent pages)) (length past.state.history)) (core.frames + length (lent pages)) d c first (subst (λ (z : ℕ). IsBehind z d (frame_end z core.frames) s) (sym counts.log.page_size) is.behind) in
         subst (λ (x : ℕ). Stands x (plan.f ∷ is.newest_log.0) plan.f (core.frames + length (lent pages)) (past.state.history ++ apply (newest past.state) (lent pages) count ∷ []) (index_with index core.frames (core.frames + length (lent pages)) (length past.state.history)) (core.frames + length (lent pages)) d c t) counts.log.page_size then
 
     row_made : Makes past.state.page_size s.sector s.tears past.made (Commits (lent pages) count) Done (record { logs = plan.f ∷ is.newest_log.0; unsynced = true })
@@ -79,7 +80,7 @@ module _ (past : Past) (core mid next : Core) (pages : List (ℕ × Bor (List �
       same = record { sector = going.sector; tears = going.tears };
       row = (granted_row, ap (λ (b : Bool). state_new past e is.newest_log.0 index d c core pages count s is ready plan fits.page_size b) (sym open_past));
       makes = row_made;
-      fits = fits_new past e is.newest_log.0 index d c core pages count s is ready plan fits.page_size t (stands_then going) fits next then knows ends.log page_next ends.mark ends.size_is
+      fits = fits_new past e is.newest_log.0 index d c core pages count s is ready plan fits.page_size t (stands_then going) fits going.sector going.tears next then knows ends.log page_next ends.mark ends.size_is
           (ends.used ∙ keeps.used ∙ counts.used) (ends.unsynced ∙ keeps.unsynced ∙ counts.unsynced) ends.drained (ends.is_open ∙ keeps.is_open ∙ counts.marks.is_open ∙ opened) (ends.marks ∙ keeps.marks ∙ counts.marks.marks);
     }
 

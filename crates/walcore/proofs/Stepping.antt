@@ -14,11 +14,11 @@ use Rattle.sqwal.specs.Frames.{frame_end}
 use Rattle.sqwal.specs.Refusal.{most_frames}
 use Rattle.sqwal.proofs.Same.{frame_end-le, frame_end-head, take_less}
 use Rattle.sqwal.proofs.Views.{unnamed_same}
-use Rattle.walcore.specs.Folding.{IsJust}
+use Rattle.sqval.specs.Held.{IsJust}
 use Rattle.walcore.specs.Phases.{Suits}
 use Rattle.walcore.specs.Made.{AreMade, IsExtended}
 use Rattle.walcore.specs.Era.{IsBoundary, shown, IsEra}
-use Rattle.walcore.specs.Standing.{HoldsFrames, AreMarks, Stands, IsPresent, AreCommitted}
+use Rattle.walcore.specs.Standing.{HoldsFrames, IsBehind, AreMarks, Stands, IsPresent, AreCommitted}
 use Rattle.walcore.proofs.Pages.{sector_some}
 use Rattle.walcore.proofs.Suiting.{suits_writes, suits_syncs, suits_looks}
 use Rattle.walcore.proofs.Down.{since_db}
@@ -26,7 +26,7 @@ use Rattle.walcore.proofs.Makings.{made_here, made_more}
 use Rattle.walcore.proofs.Fronting.{boundary_same}
 use Rattle.walcore.proofs.Extending.{extended_front}
 use Rattle.walcore.proofs.Committing.{index_with, index_low, commit_era}
-use Rattle.walcore.proofs.Logging.{IsBehind, holds_writes, holds_syncs, holds_synced, holds_elsewhere, holds_fewer}
+use Rattle.walcore.proofs.Logging.{holds_writes, holds_syncs, holds_synced, holds_elsewhere, holds_fewer}
 
 -- ---- a log that goes on
 

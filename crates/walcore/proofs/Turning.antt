@@ -1,5 +1,5 @@
 -- While a new header is put over a log whose last database is all in the file, what is left shows that database.
-use Rattle.std.proofs.Common.{◌≡◌, ◌⊎◌, inl, inr, ⊎_elim, ℕ, ◌+◌, ◌-◌, ◌/◌, ◌<◌, ◌≤◌, Bool, true, false, List, length, take, get_or, refl, sym, ◌∙◌, ap, subst, arith}
+use Rattle.std.proofs.Common.{◌≡◌, ◌⊎◌, inl, inr, ⊎_elim, ℕ, ◌+◌, ◌-◌, ◌/◌, ◌<◌, ◌≤◌, Bool, true, false, List, [], length, take, get_or, refl, sym, ◌∙◌, ap, subst, arith}
 use Rattle.std.specs.Prelude.{IsTrue}
 use Rattle.std.specs.List.{Contains}
 use Rattle.std.proofs.lemmas.Bool.{cases_lt}
@@ -16,12 +16,12 @@ use Rattle.sqwal.specs.View.{IsOver, IsView}
 use Rattle.sqwal.proofs.Same.{frame_end-suc, frame_end-zero, frame_end-head, frame_end-le, take_less}
 use Rattle.sqwal.proofs.Fronts.{front_exists}
 use Rattle.sqwal.proofs.Views.{front_unique, view_file, view_same}
-use Rattle.walcore.specs.Folding.{IsJust}
+use Rattle.sqval.specs.Held.{IsJust}
 use Rattle.walcore.specs.Made.{AreMade, NoChance}
-use Rattle.walcore.specs.Era.{shown, IsEra, IsDown}
+use Rattle.walcore.specs.Era.{IsBoundary, shown, IsEra, IsDown}
 use Rattle.walcore.specs.Standing.{ShowsWhole}
 use Rattle.walcore.proofs.Known.{known, named_same}
-use Rattle.walcore.proofs.Fronting.{same_front, just_file, down_front}
+use Rattle.walcore.proofs.Fronting.{same_front, just_file, Fronts, fronts, down_front}
 
 -- a log of no frames, or with no valid one, over a file that is just the database
 pub just_shows : (size : ℕ) (db w : List ℕ) (d : Database) → IsJust size d db → IsFile size db d → IsFront (named_size w) w 0 → ShowsWhole size db w d
@@ -30,35 +30,38 @@ just_shows size db w d just file front = record {
   whole = λ is. just.long;
 }
 
-module _ (size : ℕ) (logs : List (List ℕ)) (e f : List ℕ) (n mark : ℕ) (h : List Database) (index : ℕ → ℕ) (era : IsEra size e n mark h index)
+-- of the n frames of the log e those up to d are there, and with them the last database
+module _ (size : ℕ) (logs : List (List ℕ)) (e f : List ℕ) (n mark d : ℕ) (h : List Database) (index : ℕ → ℕ) (era : IsEra size e n mark h index) (down : d ≤ n) (down_ends : IsBoundary size e d) (newest : mark ≤ d)
     (are : AreMade size logs) (in_e : Contains logs e) (in_f : Contains logs f) (log_f : IsLog size f 0) (w : List ℕ) (chance : NoChance logs w)
     (headers : IsHeader (named_size w) w → (take 32 w ≡ take 32 e) ⊎ (take 32 w ≡ take 32 f))
-    (stood : 1 ≤ n → (frame_end size n ≤ length w) × ((i : ℕ) → frame_end size 1 ≤ i → i < frame_end size n → get_or w i 0 ≡ get_or e i 0)) where
-  -- with the first frame all are there
-  turned_down : take 32 w ≡ take 32 e → (m : ℕ) → 1 ≤ m → IsFront size w m → (m ≤ n) × IsDown size e n w
-  turned_down head m some front = ⊎_elim
-      (λ z. absurd (omega arith))
-      (λ v.
-      let is = known size logs e w are in_e chance head n m era.log v.0.each in
-      let behind = stood (omega (arith, is.0)) in
-      let one : take (frame_end size 1) w ≡ take (frame_end size 1) e = take_less w e (frame_end size m) (frame_end size 1) is.1 (frame_end-le size 1 m some) in
-      let long_e : frame_end size n ≤ length e = omega (arith, era.log.whole) in
-      let each : (i : ℕ) → i < frame_end size n → get_or w i 0 ≡ get_or e i 0 = λ i lt. ⊎_elim
-      (λ low. sym (get_or-take (frame_end size 1) w i 0 low) ∙ ap (λ x. get_or x i 0) one ∙ get_or-take (frame_end size 1) e i 0 low)
+    (stood : 1 ≤ d → (frame_end size d ≤ length w) × ((i : ℕ) → frame_end size 1 ≤ i → i < frame_end size d → get_or w i 0 ≡ get_or e i 0)) where
+  -- with the first frame all of them are there
+  turned_down : (m : ℕ) → 1 ≤ m → 1 ≤ d → Fronts size e n w m → IsDown size e d w
+  turned_down m some one is =
+      let behind = stood one in
+      let first : take (frame_end size 1) w ≡ take (frame_end size 1) e = take_less w e (frame_end size m) (frame_end size 1) is.same (frame_end-le size 1 m some) in
+      let long_e : frame_end size d ≤ length e = omega (arith, era.log.whole, frame_end-le size d n down) in
+      let each : (i : ℕ) → i < frame_end size d → get_or w i 0 ≡ get_or e i 0 = λ i lt. ⊎_elim
+      (λ low. sym (get_or-take (frame_end size 1) w i 0 low) ∙ ap (λ x. get_or x i 0) first ∙ get_or-take (frame_end size 1) e i 0 low)
       (λ high. behind.1 i high lt)
       (cases_lt i (frame_end size 1)) in
-      (is.0, record { long = behind.0; same = same_front w e (frame_end size n) behind.0 long_e each }))
-      front.is
+      record { long = behind.0; same = same_front w e (frame_end size d) behind.0 long_e each }
 
-  turned_view : (db : List ℕ) (m : ℕ) → m ≡ n → 1 ≤ m → IsDown size e n w → IsFile size db (shown h index n) → IsView size db w m (shown h index n)
-  turned_view db m at some down file =
-      let over : IsOver size (page (shown h index 0)) e n (shown h index n) = era.shows n (omega arith) era.ends in
-      let view : IsView size db e n (shown h index n) = record {
+  -- a front behind them shows the last database
+  turned_last : (m : ℕ) → d ≤ m → m ≤ n → shown h index m ≡ shown h index n
+  turned_last m later within = ap (λ (k : ℕ). get_or h k [])
+      (let same : index m ≡ index n = omega (arith, era.marked.2, era.rises mark m (omega arith) within, era.rises m n within (omega arith)) in same)
+
+  turned_view : (db : List ℕ) (m : ℕ) → 1 ≤ m → d ≤ m → Fronts size e n w m → IsFile size db (shown h index n) → IsView size db w m (shown h index n)
+  turned_view db m some later is file =
+      let last : shown h index m ≡ shown h index n = turned_last m later is.within in
+      let over : IsOver size (page (shown h index 0)) e m (shown h index n) = subst (λ (x : Database). IsOver size (page (shown h index 0)) e m x) last (era.shows m is.within is.boundary) in
+      let view : IsView size db e m (shown h index n) = record {
         none = λ z. absurd (omega arith);
-        some = λ a. ⊎_elim (λ z. absurd (omega arith)) (λ commit. era.sizes n a (omega arith) commit) era.ends;
+        some = λ a. ap length (sym last) ∙ ⊎_elim (λ z. absurd (omega arith)) (λ commit. era.sizes m a is.within commit) is.boundary;
         over = record { logged = over.logged; other = λ p a b un. file.each p a b };
       } in
-      subst (λ (k : ℕ). IsView size db w k (shown h index n)) (sym at) (view_same size db e w (frame_end size n) n (shown h index n) (sym down.same) (omega arith) view)
+      view_same size db e w (frame_end size m) m (shown h index n) (sym is.same) (omega arith) view
 
   -- each crash leaves the old header, the new one or none that is valid, and that database
   pub turned_shows : (db : List ℕ) → IsJust size (shown h index n) db → ShowsWhole size db w (shown h index n)
@@ -72,11 +75,10 @@ module _ (size : ℕ) (logs : List (List ℕ)) (e f : List ℕ) (n mark : ℕ) (
       (λ head.
       let named : named_size w ≡ size = named_same size e w era.log.header head in
       let front : IsFront size w m = subst (λ (k : ℕ). IsFront k w m) named found.1 in
-      let is = turned_down head m v.0.first front in
-      let last : n ≤ m = down_front size e w n n m era.log (omega arith) era.ends is.1 front in
-      let at : m ≡ n = omega (arith, is.0) in
+      let is : Fronts size e n w m = fronts size logs e w n m are in_e era.log chance head front in
+      let later : d ≤ m = ⊎_elim (λ lt. omega arith) (λ one. down_front size e w n d m era.log down down_ends (turned_down m v.0.first one is) front) (cases_lt d 1) in
       record {
-        shows = λ k front_k. let same : k ≡ m = front_unique (named_size w) w k m front_k found.1 in (λ one. named, turned_view db k (same ∙ at) (omega (arith, v.0.first)) is.1 file);
+        shows = λ k front_k. let same : m ≡ k = front_unique (named_size w) w m k found.1 front_k in (λ one. named, subst (λ (j : ℕ). IsView size db w j (shown h index n)) same (turned_view db m v.0.first later is file));
         whole = λ front_0. absurd (let none : 0 ≡ m = front_unique (named_size w) w 0 m front_0 found.1 in omega (arith, v.0.first));
       })
       (λ head.
@@ -92,12 +94,12 @@ true_of {t = true} is = refl
 true_of {t = false} is = absurd (cc is)
 
 -- Behind the sectors that it touches the log is as it was.
-pub altered_rest : (size : ℕ) (sector : ℕ) (tears : Bool) (e : List ℕ) (n : ℕ) (old new : FileState) → IsLog size e n → 512 ≤ sector → (tears ≡ true → sector ≤ size) → IsSound sector old → HasFixed sector tears old 0 (take (frame_end size n) e)
-    → AltersFile sector tears 0 32 old new → (w : List ℕ) → IsImage sector tears new w → (frame_end size n ≤ length w) × ((i : ℕ) → frame_end size 1 ≤ i → i < frame_end size n → get_or w i 0 ≡ get_or e i 0)
-altered_rest size sector tears e n old new log pos small sound fixed alters w image =
-    let k : ℕ = frame_end size n in
-    let fits : length (take k e) ≡ k = length-take-le k e (omega (arith, log.whole)) in
-    let some : 32 ≤ k = frame_end-head size n in
+pub altered_rest : (size : ℕ) (sector : ℕ) (tears : Bool) (e : List ℕ) (n d : ℕ) (old new : FileState) → IsLog size e n → d ≤ n → 512 ≤ sector → (tears ≡ true → sector ≤ size) → IsSound sector old → HasFixed sector tears old 0 (take (frame_end size d) e)
+    → AltersFile sector tears 0 32 old new → (w : List ℕ) → IsImage sector tears new w → (frame_end size d ≤ length w) × ((i : ℕ) → frame_end size 1 ≤ i → i < frame_end size d → get_or w i 0 ≡ get_or e i 0)
+altered_rest size sector tears e n d old new log down pos small sound fixed alters w image =
+    let k : ℕ = frame_end size d in
+    let fits : length (take k e) ≡ k = length-take-le k e (omega (arith, log.whole, frame_end-le size d n down)) in
+    let some : 32 ≤ k = frame_end-head size d in
     let last = fixed (k - 1) (omega arith) in
     let from = alters.comes w image in (
       omega (arith, image.least, alters.least, last.within),

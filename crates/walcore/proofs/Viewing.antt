@@ -1,6 +1,6 @@
 -- What a reader is given is what its database has.
 use Rattle.std.proofs.Common.{◌≡◌, inl, inr, ℕ, ◌+◌, ◌-◌, ◌*◌, ◌<◌, ◌≤◌, Bool, true, false, List, [], ◌∷◌, length, get_or, take, drop, refl, sym, ◌∙◌, ap, subst, arith, length-drop}
-use Rattle.std.specs.Prelude.{Result, Ok, Err, IsTrue, Option, Some, None, not, nat_lt, ◌==◌, slice_get}
+use Rattle.std.specs.Prelude.{Result, Ok, Err, IsErrAnd, IsTrue, Option, Some, None, not, nat_lt, ◌==◌, slice_get}
 use Rattle.std.proofs.lemmas.Bool.Decides.{nat_tests}
 use Rattle.std.proofs.lemmas.List.{get_or-take, get_or-drop, length-take-le}
 use Rattle.std.proofs.lemmas.Grind.{same_number_lists}
@@ -17,15 +17,15 @@ use Rattle.crashdisk.specs.declared.error.DiskError.{DiskError}
 use Rattle.crashdisk.proofs.Images.{table}
 use Rattle.crashdisk.proofs.Fixed.{image_present}
 use Rattle.crashdisk.proofs.Steps.{present_list}
-use Rattle.walcore.specs.Answers.{Answer, Page, Refused, Refuses}
+use Rattle.sqval.specs.Answers.{Answer, Page, Refused, Refuses, HasCause}
 use Rattle.walcore.specs.Machine.{at, reader_at, Reads, ReadStep, read_refusal}
-use Rattle.walcore.specs.CommitRefusals.{first_true}
-use Rattle.walcore.specs.Refusal.{number_of, HasCause}
+use Rattle.sqval.specs.CommitFaults.{first_true}
+use Rattle.walcore.specs.Refusal.{number_of}
 use Rattle.walcore.specs.Era.{IsBoundary, shown}
 use Rattle.walcore.specs.Standing.{Stands, IsPresent}
 use Rattle.walcore.specs.Steps.{Still}
 use Rattle.walcore.specs.Plans.{IsTable}
-use Rattle.walcore.specs.Paging.{ReadJudged, PlaceAnswer, Finds}
+use Rattle.walcore.specs.Paging.{IsRefusedRead, ReadJudged, PlaceAnswer, Finds}
 use Rattle.walcore.specs.Fits.{Past, IsIndexed, IsBound, IsCore, FitsCore, StepsTo, answered}
 use Rattle.walcore.specs.declared.error.WalError.{WalError}
 use Rattle.walcore.specs.declared.error.WalError.TheVariants.{Closed, PageZero, PageAboveSize, BadLength, Device}
@@ -119,6 +119,17 @@ is_closed b p n is = ap (λ (x : Bool). first_true ((not x, 1) ∷ (p == 0, 4) �
 refuses_cause : {S : Type 0} (o : Option ℕ) (failed s : S) (before after : ℕ) → o ≡ None → HasCause before after → Refuses o false failed before after s 15 failed
 refuses_cause o failed s before after e cause = subst (λ (x : Option ℕ). Refuses x false failed before after s 15 failed) (sym e) (inr (refl, cause, refl))
 
+-- a read into a buffer of another length
+pub read_refused : {T U : Type 0} (is_open : Bool) (page size room page_size : ℕ) (was : Result U WalError) (result : Result T WalError) (e : WalError) → was ≡ Err e → result ≡ Err e
+    → ReadJudged is_open page size room page_size was → IsErrAnd result (IsRefusedRead is_open page size)
+unfolding ReadJudged
+read_refused {T = T} {U = U} is_open page size room page_size was result e is_was is bad =
+    subst (λ (x : Result T WalError). IsErrAnd x (IsRefusedRead is_open page size)) (sym is) (subst (λ (x : Result U WalError). ReadJudged is_open page size room page_size x) is_was bad).0
+
+pub read_long : {T : Type 0} (is_open : Bool) (page size room page_size : ℕ) (was : Result T WalError) (v : T) → was ≡ Ok v → ReadJudged is_open page size room page_size was → room ≡ page_size
+unfolding ReadJudged
+read_long {T = T} is_open page size room page_size was v is good = (subst (λ (x : Result T WalError). ReadJudged is_open page size room page_size x) is good).3
+
 module _ (a b : Core) (s t : DiskState) (past : Past) (fits : FitsCore past a s) (same : SameCore a b) (marks : b.marks.items ≡ a.marks.items)
     (number : ℕ) (r : Reader) (token : slice_get past.tokens number ≡ Some (Some r)) (p : ℕ) where
   -- the reader's place
@@ -144,30 +155,22 @@ module _ (a b : Core) (s t : DiskState) (past : Past) (fits : FitsCore past a s)
       by : (e : WalError) → ReadJudged {T = T} a.is_open p r.size room a.page_size (Err e) → StepsTo past past.tokens (Reads number p) (Refused (number_of e)) b s t
       by Closed shut =
           let i = place_of in
-          step_at i.0 (Refused 1) i.1 still (refuses_first (read_refusal past.state i.0 p) 1 false past.state past.state s.refused t.refused (is_closed past.state.is_open p (length (at past.state i.0)) (sym fits.is_open ∙ shut)))
+          step_at i.0 (Refused 1) i.1 still (refuses_first (read_refusal past.state i.0 p) 1 false past.state past.state s.refused t.refused (is_closed past.state.is_open p (length (at past.state i.0)) (sym fits.is_open ∙ shut.0)))
       by PageZero zero =
           let i = place_of in
-          step_at i.0 (Refused 4) i.1 still (refuses_first (read_refusal past.state i.0 p) 4 false past.state past.state s.refused t.refused (is_zero past.state.is_open p (length (at past.state i.0)) (sym fits.is_open ∙ zero.0) zero.1))
+          step_at i.0 (Refused 4) i.1 still (refuses_first (read_refusal past.state i.0 p) 4 false past.state past.state s.refused t.refused (is_zero past.state.is_open p (length (at past.state i.0)) (sym fits.is_open ∙ zero.0.0) zero.0.1))
       by PageAboveSize above =
-          let core = fits.core above.0 in
+          let core = fits.core above.0.0 in
           let i = bound_of core.0 core.1 core.2 core.3 core.4 in
           step_at i.0 (Refused 5) i.1 still (refuses_first (read_refusal past.state i.0 p) 5 false past.state past.state s.refused t.refused
-          (is_above past.state.is_open p (length (at past.state i.0)) (sym fits.is_open ∙ above.0) above.1 (omega (arith, above.2, i.2.size_is))))
-      by BadLength other = absurd (other (full ∙ sym fits.page_size))
-      by _ none = absurd none
+          (is_above past.state.is_open p (length (at past.state i.0)) (sym fits.is_open ∙ above.0.0) above.0.1 (omega (arith, above.0.2, i.2.size_is))))
+      by BadLength other = absurd (other.1 refl (full ∙ sym fits.page_size))
+      by _ none = absurd none.0
 
   pub read_judged : {T U : Type 0} (out : List ℕ) (room : ℕ) (was : Result U WalError) (result : Result T WalError) (e : WalError) → Still s t → was ≡ Err e → result ≡ Err e → room ≡ past.state.page_size
       → ReadJudged a.is_open p r.size room a.page_size was → StepsTo past past.tokens (Reads number p) (answered (λ (v : T). Page out) result) b s t
   unfolding ReadJudged
-  read_judged {T = T} {U = U} out room was result e still is_was is full bad = judged out room result e still is full
-      (same_error e (subst (λ (x : Result U WalError). ReadJudged a.is_open p r.size room a.page_size x) is_was bad))
-    where
-      same_error : (e : WalError) → ReadJudged {T = U} a.is_open p r.size room a.page_size (Err e) → ReadJudged {T = T} a.is_open p r.size room a.page_size (Err e)
-      same_error Closed h = h
-      same_error PageZero h = h
-      same_error PageAboveSize h = h
-      same_error BadLength h = h
-      same_error _ h = h
+  read_judged {U = U} out room was result e still is_was is full bad = judged out room result e still is full (subst (λ (x : Result U WalError). ReadJudged a.is_open p r.size room a.page_size x) is_was bad)
 
   -- read from a place where the page stands
   read_by : {T : Type 0} (f : File) (place : ℕ) (out : List ℕ) (result : Result T WalError) (i : ℕ) → reader_at past.state number ≡ Some i → read_refusal past.state i p ≡ None → PlaceAnswer f place out result s t

@@ -14,7 +14,7 @@ use Rattle.crashdisk.proofs.Images.{table}
 use Rattle.crashdisk.proofs.Fixed.{image_present}
 use Rattle.crashdisk.proofs.Settled.{settled_one}
 use Rattle.walcore.specs.Alone.{Show, ShowsAlone}
-use Rattle.walcore.specs.Folding.{IsJust}
+use Rattle.sqval.specs.Held.{IsJust}
 use Rattle.walcore.specs.Phases.{Scanning, Filling, Writing, Filed}
 use Rattle.walcore.specs.Steps.{KeepsLog}
 use Rattle.walcore.proofs.Pages.{size_some, length-file_page, get_or-file_page, file_count}

@@ -5,10 +5,10 @@ use Rattle.sqwal.specs.Frames.{frame_end, size_of}
 use Rattle.sqwal.specs.Index.{FrameTable}
 use Rattle.crashdisk.specs.State.{IsImage}
 use Rattle.crashdisk.specs.Call.{DiskState}
-use Rattle.walcore.specs.Answers.{Answer, Complete, Partial}
+use Rattle.sqval.specs.Answers.{Answer, Complete, Partial, HasCause}
 use Rattle.walcore.specs.Machine.{State, at, last, reader_at, closed, checkpointed, CheckpointStep}
-use Rattle.walcore.specs.Refusal.{HasCause}
-use Rattle.walcore.specs.Folding.{IsJust, HadRefusal}
+use Rattle.sqval.specs.Held.{IsJust}
+use Rattle.walcore.specs.Folding.{HadRefusal}
 use Rattle.walcore.specs.Steps.{Still}
 use Rattle.walcore.specs.Era.{IsBoundary, shown}
 use Rattle.walcore.specs.Standing.{Stands, IsPresent}

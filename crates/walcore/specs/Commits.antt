@@ -8,7 +8,7 @@ use Rattle.sqwal.specs.declared.sum.Sum.{Sum}
 use Rattle.sqwal.specs.declared.header.WalHeader.{WalHeader}
 use Rattle.walcore.specs.Refusal.{number_of}
 use Rattle.walcore.specs.CommitRefusals.{refusal_of}
-use Rattle.walcore.specs.Judged.{lent}
+use Rattle.sqval.specs.JudgedPages.{lent}
 use Rattle.walcore.specs.declared.state.Core.{Core}
 use Rattle.walcore.specs.declared.error.WalError.{WalError}
 use Rattle.walcore.specs.declared.error.WalError.TheVariants.{NoMemory}

@@ -1,11 +1,10 @@
 -- What an engine knows of the databases that its log shows, between one beginning of the log and the next (own).
-use Rattle.std.specs.Prelude.{◌≡◌, ◌≢◌, ◌⊎◌, ℕ, ◌+◌, ◌*◌, ◌<◌, ◌≤◌, List, [], length, get_or, take}
+use Rattle.std.specs.Prelude.{◌≡◌, ◌≢◌, ◌⊎◌, ℕ, ◌+◌, ◌<◌, ◌≤◌, List, [], length, get_or, take}
 use Rattle.sqval.specs.Database.{Database, page, file_page}
 use Rattle.sqwal.specs.Frames.{frame_end, page_of, size_of, content_of, IsCommit}
 use Rattle.sqwal.specs.Log.{IsLog}
 use Rattle.sqwal.specs.View.{Unnamed, IsLast, IsOver}
-use Rattle.walcore.specs.Refusal.{most_bytes}
-use Rattle.walcore.specs.Folding.{IsJust}
+use Rattle.sqval.specs.Held.{IsJust, IsHeld}
 
 -- the end of a commit, or the beginning
 abbrev pub IsBoundary : (size : ℕ) → List ℕ → (m : ℕ) → Type 0
@@ -14,12 +13,6 @@ IsBoundary size e m = (m ≡ 0) ⊎ IsCommit size e m
 -- the database of the history after the commit that ends with frame m
 abbrev pub shown : List Database → (index : ℕ → ℕ) → (m : ℕ) → Database
 shown h index m = get_or h (index m) []
-
--- a database that an engine holds
-pub record IsHeld (size : ℕ) (d : Database) : Type 0 where
-  pub some : 1 ≤ length d
-  pub full : (p : ℕ) → 1 ≤ p → p ≤ length d → length (page d p) ≡ size
-  pub few : length d * size ≤ most_bytes
 
 -- The log e with its n frames, all that was made since it was begun, over the database that was there then: each
 -- boundary m of it shows the database number `index m` of the history, and the last one its last. The mark is the first

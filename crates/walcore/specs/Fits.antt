@@ -1,22 +1,22 @@
 -- What fits an engine: the history of its databases and the logs that were made, which are handed along from call to
 -- call and stored nowhere (own).
-use Rattle.std.specs.Prelude.{◌≡◌, ◌⊎◌, ℕ, ◌+◌, ◌-◌, ◌*◌, ◌<◌, ◌≤◌, ◌==◌, false, cond, IsTrue, List, [], ◌∷◌, ◌++◌, map, length, set, get_or, sum_by, Option, Some, None, Result, Ok, Err}
+use Rattle.std.specs.Prelude.{◌≡◌, ◌⊎◌, ℕ, ◌+◌, ◌-◌, ◌*◌, ◌<◌, ◌≤◌, ◌==◌, Bool, true, false, cond, IsTrue, List, [], ◌∷◌, ◌++◌, map, length, set, get_or, sum_by, Option, Some, None, Result, Ok, Err}
 use Rattle.sqval.specs.Database.{Database}
 use Rattle.sqwal.specs.Header.{IsHeaderOf}
-use Rattle.sqwal.specs.Frames.{page_of, summed}
+use Rattle.sqwal.specs.Frames.{frame_end, page_of, summed}
 use Rattle.sqwal.specs.Sums.{IsSumOf}
 use Rattle.sqwal.specs.Index.{FrameTable}
 use Rattle.crashdisk.specs.State.{IsImage}
 use Rattle.crashdisk.specs.Call.{DiskState, ArePresent}
-use Rattle.walcore.specs.Answers.{Files, Answer, Done, Refused}
+use Rattle.sqval.specs.Answers.{Files, Answer, Done, Refused}
 use Rattle.walcore.specs.Machine.{State, at, newest, reader_at, start, Act, Opens, Step}
 use Rattle.walcore.specs.CommitRefusals.{most_pages}
 use Rattle.walcore.specs.Made.{AreMade, NoChance}
 use Rattle.walcore.specs.Making.{Made, Makes, nothing}
-use Rattle.walcore.specs.Era.{IsBoundary, IsHeld}
-use Rattle.walcore.specs.Standing.{MayBeRead, ShowsWhole, ShowsHistory, HasMadeHeader, Stands, IsPresent}
+use Rattle.walcore.specs.Era.{IsBoundary}
+use Rattle.sqval.specs.Held.{IsHeld, IsJust}
+use Rattle.walcore.specs.Standing.{MayBeRead, ShowsWhole, ShowsHistory, HasMadeHeader, IsBehind, Stands, IsPresent}
 use Rattle.walcore.specs.Phases.{Suits}
-use Rattle.walcore.specs.Folding.{IsJust}
 use Rattle.walcore.specs.Refusal.{number_of}
 use Rattle.walcore.specs.declared.error.WalError.{WalError}
 use Rattle.walcore.specs.declared.state.Core.{Core}
@@ -81,12 +81,20 @@ AreTogether Reads None None = Unit {0}
 AreTogether Reads (Some i) (Some r) = Reads i r
 AreTogether Reads _ _ = ⊥
 
+-- Of n frames those up to d are down: with them the newest commit, which ends with frame `mark`, and on a disk that
+-- doesn't tear all.
+pub record IsNewestDown (mark n d : ℕ) (tears : Bool) : Type 0 where
+  pub commit : mark ≤ d
+  pub all : tears ≡ false → d ≡ n
+
 -- What an open core holds of its log e: its header, sum, frames by pages; and how its readers stand.
 pub record IsCore (past : Past) (e : List ℕ) (index : ℕ → ℕ) (d c : ℕ) (core : Core) (s : DiskState) : Type 0 where
   pub newest_log : (earlier : List (List ℕ)) × (past.made.logs ≡ e ∷ earlier)
   pub stands : Stands core.page_size past.made.logs e core.frames past.state.history index core.mark d c s
   pub floor : past.state.floor ≤ index d
   pub begun : c ≤ core.mark
+  -- where the next frame is written
+  pub behind : IsBehind core.page_size d (frame_end core.page_size core.frames) s
   pub present : IsPresent core.page_size e core.frames s
   pub header : IsHeaderOf e core.header
   pub sum : IsSumOf core.header.order (summed core.page_size e core.frames) core.sum
@@ -98,11 +106,13 @@ pub record IsCore (past : Past) (e : List ℕ) (index : ℕ → ℕ) (d c : ℕ)
   pub used : core.used ≡ past.state.used
   pub few : (core.frames + cond core.unsynced 1 0 ≤ 2 * core.used) × (core.used ≤ most_pages)
   pub unsynced : core.unsynced ≡ past.made.unsynced
+  -- a commit that isn't synced has frames
+  pub some : core.unsynced ≡ true → 1 ≤ core.frames
   pub drained : core.drained ≡ past.state.drained
-  -- where there was no commit since the last sync, all frames are down
-  pub down : core.unsynced ≡ false → d ≡ core.frames
-  -- each file that a crash may leave is the newest database
-  pub filed : IsTrue core.drained → (d ≡ core.frames) × ((db : List ℕ) → IsImage s.sector s.tears s.db db → IsJust core.page_size (newest past.state) db)
+  -- where there was no commit since the last sync, the newest one is down
+  pub down : core.unsynced ≡ false → IsNewestDown core.mark core.frames d s.tears
+  -- each file that a crash may leave is the newest database, and no commit came since
+  pub filed : IsTrue core.drained → (core.unsynced ≡ false) × ((db : List ℕ) → IsImage s.sector s.tears s.db db → IsJust core.page_size (newest past.state) db)
   pub readers : (number : ℕ) → AreTogether (IsBound core.page_size e index core.mark c past.state) (reader_at past.state number) (get_or past.tokens number None)
   pub page : length core.frame.items ≡ 24 + core.page_size
 

@@ -1,22 +1,19 @@
 -- What the folding of a log into its database does (fileformat2, 4.3).
-use Rattle.std.specs.Prelude.{◌≡◌, ◌≢◌, ◌⊎◌, ℕ, suc, ◌*◌, ◌<◌, ◌≤◌, true, List, [], length, Result, Ok, Err}
-use Rattle.sqval.specs.Database.{Database, page, file_page}
+use Rattle.std.specs.Prelude.{◌≡◌, ◌≢◌, ◌⊎◌, ℕ, suc, ◌*◌, ◌<◌, ◌≤◌, true, List, [], Result, Ok, Err}
+use Rattle.sqval.specs.Database.{Database}
 use Rattle.sqwal.specs.Header.{IsHeader, named_size}
 use Rattle.sqwal.specs.Frames.{size_of, IsValidFrame, IsFront}
 use Rattle.sqwal.specs.View.{IsView}
 use Rattle.sqwal.specs.Refusal.{most_frames}
 use Rattle.crashdisk.specs.State.{IsSettled}
 use Rattle.crashdisk.specs.Call.{DiskState, ArePresent}
-use Rattle.walcore.specs.Refusal.{most_bytes, HasCause}
+use Rattle.sqval.specs.CommitFaults.{most_bytes}
+use Rattle.sqval.specs.Held.{IsJust}
+use Rattle.sqval.specs.Answers.{HasCause}
 use Rattle.walcore.specs.Alone.{ShowsAlone}
 use Rattle.walcore.specs.declared.folding.Folded.{Folded}
 use Rattle.walcore.specs.declared.error.WalError.{WalError}
 use Rattle.walcore.specs.declared.error.WalError.TheVariants.{TooLarge, PageSize, NoMemory, Device, SectorAbovePage}
-
--- the bytes of a file that is just these pages
-pub record IsJust (size : ℕ) (d : Database) (bytes : List ℕ) : Type 0 where
-  pub long : length bytes ≡ length d * size
-  pub each : (p : ℕ) → 1 ≤ p → p ≤ length d → page d p ≡ file_page size bytes p
 
 -- no page fits into a sector that tears
 abbrev pub TearsPages : (size : ℕ) → DiskState → Type 0

@@ -1,5 +1,5 @@
 -- What the writing of frames does to a core and its disk.
-use Rattle.std.specs.Prelude.{◌≡◌, ℕ, ◌+◌, ◌≤◌, false, List, [], ◌∷◌, ◌++◌, Result, Ok, Err, IsOk}
+use Rattle.std.specs.Prelude.{◌≡◌, ℕ, ◌+◌, ◌≤◌, List, [], ◌∷◌, ◌++◌, Result, Ok, Err, IsOk}
 use Rattle.sqval.specs.Database.{Database}
 use Rattle.sqwal.specs.Header.{IsHeaderOf}
 use Rattle.sqwal.specs.Frames.{frame_end, page_of, summed, IsFrameHead}
@@ -10,7 +10,7 @@ use Rattle.crashdisk.specs.declared.file.File.TheVariants.{Log}
 use Rattle.crashdisk.specs.declared.error.DiskError.{DiskError}
 use Rattle.walcore.specs.Folding.{HadRefusal}
 use Rattle.walcore.specs.Steps.{Told}
-use Rattle.walcore.specs.Standing.{Stands, IsPresent}
+use Rattle.walcore.specs.Standing.{IsBehind, Stands, IsPresent}
 use Rattle.walcore.specs.Fits.{IsIndexed}
 use Rattle.walcore.specs.declared.state.Core.{Core}
 use Rattle.walcore.specs.declared.error.WalError.{WalError}
@@ -62,8 +62,7 @@ pub record Going (size : ℕ) (f : List ℕ) (m n : ℕ) (s t : DiskState) : Typ
   pub sound : IsSoundDisk t
   pub sector : t.sector ≡ s.sector
   pub tears : t.tears ≡ s.tears
-  -- on a disk that doesn't tear
-  pub stands : (logs : List (List ℕ)) (h : List Database) (index : ℕ → ℕ) (mark d c : ℕ) → Stands size logs f m h index mark d c s → s.tears ≡ false → d ≤ n → Stands size logs f m h index mark d c t
+  pub stands : (logs : List (List ℕ)) (h : List Database) (index : ℕ → ℕ) (mark d c : ℕ) → Stands size logs f m h index mark d c s → IsBehind size d (frame_end size n) s → Stands size logs f m h index mark d c t
 
 -- all frames of the log were written, or a call was refused
 abbrev pub FramesAnswer : {T : Type 0} → (size : ℕ) → List ℕ → (m n : ℕ) → Result T WalError → (new : Core) → (s t : DiskState) → Type 0

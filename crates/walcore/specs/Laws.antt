@@ -1,9 +1,8 @@
 -- What holds of every run.
 use Rattle.std.specs.Prelude.{◌≡◌, ◌⊎◌, ℕ, ◌+◌, ◌<◌, ◌≤◌, Bool, true, false, cond, IsTrue, length, take, Option, Some, None}
 use Rattle.sqval.specs.Database.{page}
-use Rattle.walcore.specs.Refusal.{HasCause}
+use Rattle.sqval.specs.Answers.{HasCause, Answer, Done, Reader, Page, Complete, Partial, NoReader, Refused}
 use Rattle.walcore.specs.CommitRefusals.{most_pages}
-use Rattle.walcore.specs.Answers.{Answer, Done, Reader, Page, Complete, Partial, NoReader, Refused}
 use Rattle.walcore.specs.Machine.{State, at, reader_at, all_newest, Act, Opens, Commits, Syncs, Begins, Reads, Ends, Checkpoints, Restarts, Crashes, Sets, call_refusal, commit_refusal, read_refusal, restart_refusal}
 
 pub record IsSane (s : State) : Type 0 where

@@ -4,10 +4,8 @@ pub mod Folding
 pub mod Phases
 pub mod Steps
 pub mod Plans
-pub mod Answers
 pub mod CommitRefusals
 pub mod Machine
-pub mod Runs
 pub mod Made
 pub mod Making
 pub mod Era
@@ -15,7 +13,6 @@ pub mod Standing
 pub mod Lengths
 pub mod Opening
 pub mod Restarts
-pub mod Judged
 pub mod Fits
 pub mod Paging
 pub mod Bringing
@@ -24,3 +21,4 @@ pub mod Rows
 pub mod LogLaws
 pub mod Going
 pub mod Commits
+pub mod Syncing

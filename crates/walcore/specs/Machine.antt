@@ -2,17 +2,10 @@
 use Rattle.std.specs.Prelude.{◌≡◌, ◌⊎◌, ℕ, ◌+◌, ◌-◌, ◌<◌, ◌≤◌, Bool, true, false, cond, not, ◌==◌, nat_lt, IsTrue, IsFalse, List, [], ◌∷◌, ◌++◌, map, length, take, get_or, set, Option, Some, None, is_some}
 use Rattle.std.specs.List.{list_any, list_all}
 use Rattle.sqval.specs.Database.{Database, Pages, page, apply}
-use Rattle.walcore.specs.Refusal.{HasCause}
+use Rattle.sqval.specs.Answers.{HasCause, Files, Crashed, Answer, Done, Reader, Page, Complete, Partial, NoReader, Refused, Refuses, PlainStep}
 use Rattle.walcore.specs.Alone.{Show}
-use Rattle.walcore.specs.Answers.{Files, Answer, Done, Reader, Page, Complete, Partial, NoReader, Refused, Refuses, PlainStep}
-use Rattle.walcore.specs.CommitRefusals.{first_true, refusal_of}
-
--- What a crash left of the log of a disk that tears; and the log's bytes when it had nothing unsynced last, and place and
--- bytes of each write on it since.
-pub record Crashed : Type 0 where
-  pub log : List ℕ
-  pub kept : List ℕ
-  pub handed : List (ℕ × List ℕ)
+use Rattle.sqval.specs.CommitFaults.{first_true}
+use Rattle.walcore.specs.CommitRefusals.{refusal_of}
 
 -- what happens
 pub data Act : Type 0 where

@@ -6,10 +6,10 @@ use Rattle.sqval.specs.Database.{Pages}
 use Rattle.sqwal.specs.Frames.{page_of, size_of, content_of}
 use Rattle.sqwal.specs.Log.{IsLog}
 use Rattle.walcore.specs.Alone.{AreWhole}
-use Rattle.walcore.specs.Answers.{Answer, Done, Complete, Partial, Refused}
+use Rattle.sqval.specs.Answers.{Answer, Done, Complete, Partial, Refused}
 use Rattle.walcore.specs.Machine.{Act, Opens, Commits, Syncs, Checkpoints, Restarts, Crashes}
 use Rattle.walcore.specs.Made.{HasNewSalts, NoChance, IsBegun, IsExtended}
-use Rattle.walcore.specs.Runs.{Moment}
+use Rattle.sqval.specs.Runs.{Moment}
 
 -- what was made so far
 pub record Made : Type 0 where

@@ -7,12 +7,13 @@ use Rattle.crashdisk.specs.State.{IsImage}
 use Rattle.crashdisk.specs.Call.{DiskState, Writes}
 use Rattle.crashdisk.specs.declared.file.File.TheVariants.{Log}
 use Rattle.crashdisk.specs.declared.error.DiskError.{DiskError}
-use Rattle.walcore.specs.Refusal.{most_bytes}
+use Rattle.sqval.specs.CommitFaults.{most_bytes}
 use Rattle.walcore.specs.Alone.{Show}
-use Rattle.walcore.specs.Answers.{Files}
+use Rattle.sqval.specs.Answers.{Files}
 use Rattle.walcore.specs.Machine.{at, last}
 use Rattle.walcore.specs.Made.{IsBegun}
-use Rattle.walcore.specs.Folding.{HadRefusal, IsJust, IsLogDown, FoldAnswer}
+use Rattle.walcore.specs.Folding.{HadRefusal, TearsPages, KeepsBytes, IsLogDown, FoldAnswer}
+use Rattle.sqval.specs.Held.{IsJust}
 use Rattle.walcore.specs.Steps.{Later, Told, SyncStep}
 use Rattle.walcore.specs.Fits.{Past, IsLeft}
 use Rattle.walcore.specs.declared.opening.NewLog.{NewLog}
@@ -47,14 +48,24 @@ FileFault size long PageSize = (n : ℕ) → 1 ≤ n → n * size ≡ long → �
 FileFault size long TooLarge = most_bytes < long
 FileFault size long _ = ⊥
 
--- Why an opening is refused before it writes: as a fold is, or because of the file's length, where the log has no frames.
+-- a database may have so many bytes
+abbrev pub IsCounted : (size long : ℕ) → Type 0
+IsCounted size long = (n : ℕ) × (1 ≤ n) × (n * size ≡ long) × (long ≤ most_bytes)
+
+-- Why an opening is refused: as a fold is; or because of the file's length, where the log has no frames, and then no byte
+-- has changed.
+abbrev pub OpenRefused : (size : ℕ) (db w : List ℕ) → WalError → (old new : DiskState) → Type 0
+OpenRefused size db w e old new =
+    FoldAnswer size db w (Err e) old new ⊎ ((TearsPages size old → ⊥) × IsFront (named_size w) w 0 × FileFault size (length db) e × KeepsBytes old new)
+
+-- what is judged before anything is written
 abbrev pub FileJudged : {T : Type 0} → (size : ℕ) → (db w : List ℕ) → Result T WalError → (old new : DiskState) → Type 0
-FileJudged size db w (Ok _) old new = Unit {0}
-FileJudged size db w (Err e) old new = FoldAnswer size db w (Err e) old new ⊎ (IsFront (named_size w) w 0 × FileFault size (length db) e)
+FileJudged size db w (Ok _) old new = IsFront (named_size w) w 0 → IsCounted size (length db)
+FileJudged size db w (Err e) old new = OpenRefused size db w e old new
 
 -- the same, where the file has this fault
 abbrev pub FrontJudged : {T : Type 0} → (size : ℕ) → List ℕ → (fault : WalError) → Result T WalError → (old new : DiskState) → Type 0
-FrontJudged size w fault (Ok _) old new = Unit {0}
+FrontJudged size w fault (Ok _) old new = IsFront (named_size w) w 0 → ⊥
 FrontJudged size w fault (Err e) old new = ((db : List ℕ) → FoldAnswer size db w (Err e) old new) ⊎ (IsFront (named_size w) w 0 × (e ≡ fault))
 
 -- an opening may be refused so

@@ -10,14 +10,18 @@ use Rattle.sqwal.specs.View.{Unnamed, IsLast}
 use Rattle.walcore.specs.declared.error.WalError.{WalError}
 use Rattle.walcore.specs.declared.error.WalError.TheVariants.{Closed, PageZero, PageAboveSize, BadLength, Device}
 
--- the first refusal that holds of a read of this page, of a database of `size` pages, into a buffer of `room` bytes
+-- why page `page` of a database of `size` pages isn't read: the first of these that holds, otherwise the buffer's length
+abbrev pub IsRefusedRead : (is_open : Bool) (page size : ℕ) → WalError → Type 0
+IsRefusedRead is_open page size Closed = is_open ≡ false
+IsRefusedRead is_open page size PageZero = (is_open ≡ true) × (page ≡ 0)
+IsRefusedRead is_open page size PageAboveSize = (is_open ≡ true) × (1 ≤ page) × (size < page)
+IsRefusedRead is_open page size BadLength = (is_open ≡ true) × (1 ≤ page) × (page ≤ size)
+IsRefusedRead is_open page size _ = ⊥
+
+-- the same of a read into a buffer of `room` bytes
 unfoldable pub ReadJudged : {T : Type 0} → (is_open : Bool) (page size room page_size : ℕ) → Result T WalError → Type 0
 ReadJudged is_open page size room page_size (Ok _) = (is_open ≡ true) × (1 ≤ page) × (page ≤ size) × (room ≡ page_size)
-ReadJudged is_open page size room page_size (Err Closed) = is_open ≡ false
-ReadJudged is_open page size room page_size (Err PageZero) = (is_open ≡ true) × (page ≡ 0)
-ReadJudged is_open page size room page_size (Err PageAboveSize) = (is_open ≡ true) × (1 ≤ page) × (size < page)
-ReadJudged is_open page size room page_size (Err BadLength) = room ≢ page_size
-ReadJudged is_open page size room page_size (Err _) = ⊥
+ReadJudged is_open page size room page_size (Err e) = IsRefusedRead is_open page size e × (e ≡ BadLength → room ≢ page_size)
 
 -- the bytes from a place of a file on were read
 unfoldable pub PlaceAnswer : {T : Type 0} → File → (at : ℕ) (out : List ℕ) → Result T WalError → (old new : DiskState) → Type 0

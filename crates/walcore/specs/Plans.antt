@@ -5,7 +5,7 @@ use Rattle.sqwal.specs.Frames.{page_of, size_of, IsValidFrame, IsFront}
 use Rattle.sqwal.specs.Index.{FrameTable}
 use Rattle.sqwal.specs.declared.scan.Front.{Front}
 use Rattle.crashdisk.specs.Call.{DiskState}
-use Rattle.walcore.specs.Refusal.{most_bytes}
+use Rattle.sqval.specs.CommitFaults.{most_bytes}
 use Rattle.walcore.specs.Folding.{IsTooLarge, IsOfOtherSize, HadRefusal}
 use Rattle.walcore.specs.declared.plan.Plan.{Plan}
 use Rattle.walcore.specs.declared.error.WalError.{WalError}

@@ -1,5 +1,5 @@
--- The numbers of the engine's refusals, what a refused call of the disk is seen by, and how large a database may be.
-use Rattle.std.specs.Prelude.{◌≡◌, ◌⊎◌, ℕ, ◌-◌, ◌^◌, ◌<◌}
+-- The numbers of the engine's refusals.
+use Rattle.std.specs.Prelude.{ℕ}
 use Rattle.walcore.specs.declared.error.WalError.{WalError}
 use Rattle.walcore.specs.declared.error.WalError.TheVariants.{Closed, EmptyCommit, SizeZero, PageZero, PageAboveSize, PageTwice, HoleInGrowth, BadLength, TooLarge, WalFull, NotDrained, ReadersOpen, PageSize, NoMemory, Device, SectorAbovePage}
 
@@ -20,11 +20,3 @@ number_of PageSize = 13
 number_of NoMemory = 14
 number_of Device = 15
 number_of SectorAbovePage = 17
-
--- the most bytes of a database
-abbrev pub most_bytes : ℕ
-most_bytes = 1073741824
-
--- between these two counts a call of the disk was refused, or there were so many that the count stands at its greatest
-abbrev pub HasCause : (before after : ℕ) → Type 0
-HasCause before after = (before < after) ⊎ (after ≡ 2 ^ 64 - 1)

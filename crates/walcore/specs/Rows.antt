@@ -2,9 +2,9 @@
 use Rattle.std.specs.Prelude.{◌≡◌, ◌≢◌, ℕ, List, [], ◌∷◌, length, None}
 use Rattle.sqval.specs.Database.{Database}
 use Rattle.walcore.specs.Alone.{Show}
-use Rattle.walcore.specs.Answers.{Files, Answer, Done, Reader, Page, Complete, Partial, NoReader, Refused}
+use Rattle.sqval.specs.Answers.{Files, Answer, Done, Reader, Page, Complete, Partial, NoReader, Refused}
 use Rattle.walcore.specs.Machine.{Act, Opens, Commits, Syncs, Begins, Reads, Ends, Checkpoints, Restarts, Crashes, Sets, start, Step}
-use Rattle.walcore.specs.Runs.{Moment, IsRun}
+use Rattle.sqval.specs.Runs.{Moment, IsRun}
 
 -- a moment, where the disk has refused no call
 abbrev pub did : Act → Answer → Moment Act

@@ -1,5 +1,5 @@
 -- What an engine keeps on its disk, whatever a crash leaves of it (fileformat2, 4.3 and 4.4; that a crash leaves no less is own).
-use Rattle.std.specs.Prelude.{◌≡◌, ◌≢◌, ◌⊎◌, ℕ, ◌*◌, ◌<◌, ◌≤◌, true, false, List, [], length, take, get_or, None}
+use Rattle.std.specs.Prelude.{◌≡◌, ◌≢◌, ◌⊎◌, ℕ, ◌*◌, ◌/◌, ◌<◌, ◌≤◌, true, false, List, [], length, take, get_or, None}
 use Rattle.std.specs.List.{Contains}
 use Rattle.sqval.specs.Database.{Database, Pages, supplied}
 use Rattle.sqwal.specs.Header.{IsHeader, named_size}
@@ -7,7 +7,7 @@ use Rattle.sqwal.specs.Frames.{frame_end, IsFront}
 use Rattle.crashdisk.specs.State.{IsImage, byte}
 use Rattle.crashdisk.specs.Call.{DiskState}
 use Rattle.crashdisk.specs.Facts.{HasFixed}
-use Rattle.walcore.specs.Refusal.{most_bytes}
+use Rattle.sqval.specs.CommitFaults.{most_bytes}
 use Rattle.walcore.specs.Alone.{MayBeLeft, Show}
 use Rattle.walcore.specs.Phases.{Suits}
 use Rattle.walcore.specs.Made.{AreMade, NoChance}
@@ -41,6 +41,12 @@ pub record HoldsFrames (size : ℕ) (e : List ℕ) (d : ℕ) (s : DiskState) : T
   pub torn : s.tears ≡ true → 1 ≤ d → HasFixed s.sector true s.log 0 (take (frame_end size d) e)
   pub kept : s.tears ≡ true → take 32 s.kept ≡ take 32 e
   pub handed : s.tears ≡ true → (write : ℕ × List ℕ) → Contains s.handed write → 32 ≤ write.0
+
+-- The place of a write of the log lies behind the frames that are down; on a disk that tears so does its sector, unless no
+-- frame is down.
+pub record IsBehind (size d at : ℕ) (s : DiskState) : Type 0 where
+  pub behind : frame_end size d ≤ at
+  pub apart : s.tears ≡ true → 1 ≤ d → frame_end size d ≤ at / s.sector * s.sector
 
 -- Of the n frames of a log 1 to d are down, and checkpoints up to frame c were begun.
 pub record AreMarks (size : ℕ) (e : List ℕ) (n d c : ℕ) : Type 0 where

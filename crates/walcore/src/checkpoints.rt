@@ -104,14 +104,13 @@ impl<D: Disk> Wal<D> {
         Ok(reached(all))
     }
 
-    /// Brings all commits down, and the database that the oldest open reader sees, or the newest where none is open,
-    /// into the database file. Refused are Closed and Device.
+    /// Brings all commits down, as `sync` does, and the database that the oldest open reader sees, or the newest where
+    /// none is open, into the database file. Refused are Closed and Device.
     pub fn checkpoint(&mut self) -> Result<Checkpointed, WalError>
         ensures word { D.keeps_word self.old.disk ↔ D.keeps_word self.new.disk }
-        // so far of disks that don't tear
-        ensures step { D.keeps_word self.old.disk → (D.state self.old.disk).tears ≡ false → (past : Past) → Fits D.state self.old past
+        ensures step { D.keeps_word self.old.disk → (past : Past) → Fits D.state self.old past
             → Steps D.state self.old self.new past past.tokens Checkpoints (answered answer_of result) }
-        ensures file { D.keeps_word self.old.disk → (D.state self.old.disk).tears ≡ false → (past : Past) (i : ℕ) → Fits D.state self.old past → IsOldest past.state i
+        ensures file { D.keeps_word self.old.disk → (past : Past) (i : ℕ) → Fits D.state self.old past → IsOldest past.state i
             → OnOk result (LeavesJust past.state.page_size (at past.state i) (D.state self.new.disk)) }
     {
         self.sync()?;

@@ -1,9 +1,9 @@
 //! Commits.
-ghost use Rattle.std.specs.Prelude.{◌≡◌, ◌↔◌, ◌+◌, ◌<◌, ◌≤◌, ℕ, length, false, IsTrue};
+ghost use Rattle.std.specs.Prelude.{◌≡◌, ◌↔◌, ◌+◌, ◌<◌, ◌≤◌, ℕ, length, IsTrue};
 ghost use Rattle.crashdisk.specs.Call.{DiskState};
-ghost use Rattle.walcore.specs.Answers.{Done};
+ghost use Rattle.sqval.specs.Answers.{Done};
 ghost use Rattle.walcore.specs.Machine.{Commits};
-ghost use Rattle.walcore.specs.Judged.{lent};
+ghost use Rattle.sqval.specs.JudgedPages.{lent};
 ghost use Rattle.walcore.specs.Fits.{Past, FitsCore, Fits, StepsTo, Steps, answered};
 ghost use Rattle.walcore.specs.Commits.{Prepares, IsReady, PrepareAnswer, Counts, EndAnswer};
 
@@ -68,9 +68,7 @@ fn write_commit<D: Disk>(
 ) -> Result<(), WalError>
     requires { IsReady pages.now size core.old }
     ensures word { D.keeps_word disk.old ↔ D.keeps_word disk.new }
-    // on a disk that doesn't tear
-    ensures untorn { D.keeps_word disk.old → (D.state disk.old).tears ≡ false
-        → (past : Past) → FitsCore past core.old (D.state disk.old) → IsTrue core.old.is_open
+    ensures step { D.keeps_word disk.old → (past : Past) → FitsCore past core.old (D.state disk.old) → IsTrue core.old.is_open
         → StepsTo past past.tokens (Commits (lent pages.now) size) (answered (λ _. Done) result) core.new (D.state disk.old) (D.state disk.new) }
 {
     count_commit(core, pages.len() as u32);
@@ -86,9 +84,7 @@ pub fn commit_pages<D: Disk>(
     size: u32,
 ) -> Result<(), WalError>
     ensures word { D.keeps_word disk.old ↔ D.keeps_word disk.new }
-    // on a disk that doesn't tear
-    ensures untorn { D.keeps_word disk.old → (D.state disk.old).tears ≡ false
-        → (past : Past) → FitsCore past core.old (D.state disk.old)
+    ensures step { D.keeps_word disk.old → (past : Past) → FitsCore past core.old (D.state disk.old)
         → StepsTo past past.tokens (Commits (lent pages.now) size) (answered (λ _. Done) result) core.new (D.state disk.old) (D.state disk.new) }
 {
     if !core.is_open {
@@ -104,8 +100,7 @@ impl<D: Disk> Wal<D> {
     /// HoleInGrowth, BadLength, TooLarge, WalFull; NoMemory; Device, after which the core is closed.
     pub fn commit(&mut self, pages: &[(u32, &[u8])], size: u32) -> Result<(), WalError>
         ensures word { D.keeps_word self.old.disk ↔ D.keeps_word self.new.disk }
-        // on a disk that doesn't tear
-        ensures untorn { D.keeps_word self.old.disk → (D.state self.old.disk).tears ≡ false → (past : Past) → Fits D.state self.old past
+        ensures step { D.keeps_word self.old.disk → (past : Past) → Fits D.state self.old past
             → Steps D.state self.old self.new past past.tokens (Commits (lent pages.now) size) (answered (λ _. Done) result) }
     {
         commit_pages(&mut self.disk, &mut self.core, pages, size)

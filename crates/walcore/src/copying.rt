@@ -5,7 +5,7 @@ ghost use Rattle.crashdisk.specs.declared.file.File.TheVariants.{Db, Log};
 ghost use Rattle.sqval.specs.Database.{Database};
 ghost use Rattle.sqwal.specs.View.{IsView};
 ghost use Rattle.sqwal.specs.Frames.{IsValidFrame};
-ghost use Rattle.walcore.specs.Refusal.{most_bytes};
+ghost use Rattle.sqval.specs.CommitFaults.{most_bytes};
 ghost use Rattle.walcore.specs.Steps.{Still, KeepsLog, Later, PageAnswer, CopyAnswer, SyncStep, ZeroSteps, CutSteps, EndAnswer, Copied};
 ghost use Rattle.walcore.specs.Plans.{IsTable, IsCopy};
 ghost use Rattle.walcore.specs.Phases.{Filling};

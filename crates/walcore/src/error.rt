@@ -1,9 +1,11 @@
 //! Why the engine refuses a call.
 ghost use Rattle.std.specs.Prelude.{◌≡◌};
+ghost use Rattle.sqval.specs.JudgedPages.{fault_number};
 ghost use Rattle.walcore.specs.Refusal.{number_of};
 ghost use Rattle.walcore.specs.declared.error.WalError.TheVariants.{Device, NoMemory};
 
 use crashdisk::DiskError;
+use sqval::CommitFault;
 use std::alloc::AllocError;
 use thiserror::Error;
 
@@ -99,5 +101,22 @@ impl From<DiskError> for WalError {
 
     fn from(_e: DiskError) -> WalError {
         WalError::Device
+    }
+}
+
+impl From<CommitFault> for WalError {
+    ghost from_gives = { λ fault e. number_of e ≡ fault_number fault };
+
+    fn from(fault: CommitFault) -> WalError {
+        match fault {
+            CommitFault::EmptyCommit => WalError::EmptyCommit,
+            CommitFault::SizeZero => WalError::SizeZero,
+            CommitFault::PageZero => WalError::PageZero,
+            CommitFault::PageAboveSize => WalError::PageAboveSize,
+            CommitFault::PageTwice => WalError::PageTwice,
+            CommitFault::HoleInGrowth => WalError::HoleInGrowth,
+            CommitFault::BadLength => WalError::BadLength,
+            CommitFault::TooLarge => WalError::TooLarge,
+        }
     }
 }

@@ -4,7 +4,7 @@ ghost use Rattle.std.specs.List.{All};
 ghost use Rattle.crashdisk.specs.Call.{DiskState, IsSoundDisk};
 ghost use Rattle.sqwal.specs.Frames.{frame_end};
 ghost use Rattle.sqwal.specs.Refusal.{most_frames};
-ghost use Rattle.walcore.specs.Judged.{lent};
+ghost use Rattle.sqval.specs.JudgedPages.{lent};
 ghost use Rattle.walcore.specs.Made.{IsExtended};
 ghost use Rattle.walcore.specs.Going.{KeepsCore, HasFrame, FrameStep, KnowsLog, FramesAnswer};
 

@@ -1,9 +1,9 @@
 //! What holds of every run of the machine.
 ghost use Rattle.std.specs.Prelude.{◌≡◌, ℕ, List, false};
 ghost use Rattle.sqval.specs.Database.{Database};
-ghost use Rattle.walcore.specs.Answers.{Answer};
+ghost use Rattle.sqval.specs.Answers.{Answer};
 ghost use Rattle.walcore.specs.Laws.{IsSane, Keeps, IsExpected, is_opening};
-ghost use Rattle.walcore.specs.Runs.{Moment, Runs};
+ghost use Rattle.sqval.specs.Runs.{Moment, Runs};
 ghost use Rattle.walcore.specs.Machine.{State, Act, Reads, Step, start};
 
 /// In every run the floor is a place of the history, at most 1,048,576 pages are in the log, and a drained log has

@@ -29,6 +29,7 @@ pub use error::WalError;
 pub use folding::{Folded, fold, fold_synced};
 pub use laws::{one_step, runs_are_sane, what_is_down_stays};
 pub use logs::logs_are_determined;
+pub use plan::index_of;
 pub use reader::Reader;
 pub use wal::{Checkpointed, Refused, Wal};
 pub use worked::{crashes_lose_what_is_not_down, no_runs, readers_are_waited_for};

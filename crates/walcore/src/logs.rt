@@ -2,7 +2,7 @@
 ghost use Rattle.std.specs.Prelude.{◌≡◌, ℕ, Bool, List, []};
 ghost use Rattle.std.specs.List.{Contains};
 ghost use Rattle.sqval.specs.PageSize.{IsPageSize};
-ghost use Rattle.walcore.specs.Answers.{Answer};
+ghost use Rattle.sqval.specs.Answers.{Answer};
 ghost use Rattle.walcore.specs.LogLaws.{HasNewest, AreWords};
 ghost use Rattle.walcore.specs.Machine.{Act, Opens, State, Step};
 ghost use Rattle.walcore.specs.Made.{NoChance};

@@ -1,14 +1,14 @@
 //! The opening of an engine: the log is folded into the database, and a new one begun.
-ghost use Rattle.std.specs.Prelude.{◌≡◌, ◌↔◌, ◌+◌, ℕ, List, [], length, OnOk, MatchResult};
+ghost use Rattle.std.specs.Prelude.{◌≡◌, ◌↔◌, ◌+◌, ℕ, List, [], length, IfErr, OnOk, MatchResult};
 ghost use Rattle.crashdisk.specs.Call.{DiskState, IsSoundDisk, ArePresent};
 ghost use Rattle.crashdisk.specs.declared.file.File.TheVariants.{Db};
 ghost use Rattle.sqwal.specs.Header.{IsHeaderOf};
 ghost use Rattle.walcore.specs.Steps.{Still, Later};
 ghost use Rattle.walcore.specs.Folding.{IsLogDown, TearsPages, Agrees};
-ghost use Rattle.walcore.specs.Answers.{Files};
+ghost use Rattle.sqval.specs.Answers.{Files};
 ghost use Rattle.walcore.specs.Made.{NoChance, HasNewSalts};
 ghost use Rattle.walcore.specs.Fits.{Past, FitsDisk, FitsAlone, AreFiles, OpenedTo, GivenUpTo, Opened, GivenUp};
-ghost use Rattle.walcore.specs.Opening.{IsNewLog, IsNewCore, HeaderSteps, CountAnswer, FrontJudged, FileJudged, RecoverAnswer};
+ghost use Rattle.walcore.specs.Opening.{IsNewLog, IsNewCore, HeaderSteps, CountAnswer, FrontJudged, FileJudged, OpenRefused, RecoverAnswer};
 
 use crate::error::WalError;
 use crate::folding::{fold_synced, judge_sector};
@@ -156,6 +156,9 @@ fn recover<D: Disk>(alloc: Global, disk: &mut D, page_size: PageSize) -> Result<
     ensures later { D.keeps_word disk.old → IsSoundDisk (D.state disk.old) → Later (D.state disk.old) (D.state disk.new) }
     ensures agrees { D.keeps_word disk.old → IsSoundDisk (D.state disk.old) → Agrees page_size (D.state disk.old) (D.state disk.new) }
     ensures empty { D.keeps_word disk.old → IsSoundDisk (D.state disk.old) → OnOk result (IsLogDown (D.state disk.new) []) }
+    ensures refuses { D.keeps_word disk.old → IsSoundDisk (D.state disk.old) → (TearsPages page_size (D.state disk.old) → ⊥)
+        → (found : Files) → AreFiles (D.state disk.old) found
+        → IfErr result (λ error. OpenRefused page_size found.db found.log error (D.state disk.old) (D.state disk.new)) }
 {
     disk.sync(File::Log)?; // what is read is what a crash leaves
     judge_file(alloc, disk, page_size)?;
@@ -177,6 +180,8 @@ fn open_core<D: Disk>(
         (λ core. OpenedTo past salts found core (D.state disk.old) (D.state disk.new))
         (λ error. GivenUpTo past salts found error (D.state disk.old) (D.state disk.new)) }
     ensures agrees { D.keeps_word disk.old → Agrees page_size (D.state disk.old) (D.state disk.new) }
+    ensures refuses { D.keeps_word disk.old → (found : Files) → AreFiles (D.state disk.old) found
+        → IfErr result (λ error. OpenRefused page_size found.db found.log error (D.state disk.old) (D.state disk.new)) }
 {
     judge_sector(disk, page_size)?;
     let log = new_log(page_size, 0, salts);
@@ -205,6 +210,9 @@ impl<D: Disk> Wal<D> {
         ensures agrees { D.keeps_word disk → MatchResult result
             (λ wal. Agrees page_size (D.state disk) (D.state wal.disk))
             (λ refused. Agrees page_size (D.state disk) (D.state refused.disk)) }
+        // whatever is there
+        ensures refuses { D.keeps_word disk → (found : Files) → AreFiles (D.state disk) found
+            → IfErr result (λ refused. OpenRefused page_size found.db found.log refused.error (D.state disk) (D.state refused.disk)) }
     {
         let mut disk = disk;
         match open_core(alloc, &mut disk, page_size, salts) {

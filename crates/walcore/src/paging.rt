@@ -1,13 +1,13 @@
 //! Readers: a page is read as it was when its reader began.
-ghost use Rattle.std.specs.Prelude.{◌≡◌, ◌↔◌, ◌+◌, ◌<◌, ◌≤◌, ℕ, List, ◌∷◌, cond, ◌==◌, Some, slice_get, length, OnOk, IsTrue};
+ghost use Rattle.std.specs.Prelude.{◌≡◌, ◌↔◌, ◌+◌, ◌<◌, ◌≤◌, ℕ, List, ◌∷◌, cond, ◌==◌, ◌≢◌, Some, slice_get, length, OnOk, IsErrAnd, IsTrue};
 ghost use Rattle.std.specs.Borrow.{Lends, sem};
 ghost use Rattle.crashdisk.specs.Call.{DiskState, IsSoundDisk};
 ghost use Rattle.sqwal.specs.Index.{IsHit};
 ghost use Rattle.sqwal.specs.View.{Unnamed, IsLast};
-ghost use Rattle.walcore.specs.Answers.{Page, Reader as ReaderAnswer, Done};
+ghost use Rattle.sqval.specs.Answers.{Page, Reader as ReaderAnswer, Done};
 ghost use Rattle.walcore.specs.Machine.{Begins, Reads, Ends};
 ghost use Rattle.walcore.specs.Fits.{Past, Fits, answered, times, Steps, with_token, without_token};
-ghost use Rattle.walcore.specs.Paging.{ReadJudged, PlaceAnswer, Finds};
+ghost use Rattle.walcore.specs.Paging.{IsRefusedRead, ReadJudged, PlaceAnswer, Finds};
 
 use crate::error::WalError;
 use crate::reader::Reader;
@@ -98,6 +98,9 @@ impl<D: Disk> Wal<D> {
         ensures step { D.keeps_word self.old.disk → (past : Past) (number : ℕ) → Fits D.state self.old past
             → slice_get past.tokens number ≡ Some (Some reader.now) → length out.old ≡ past.state.page_size
             → Steps D.state self.old self.new past past.tokens (Reads number page) (answered (λ _. Page out.new) result) }
+        // where `out` has another length than a page
+        ensures size { length out.old ≢ self.old.core.page_size
+            → IsErrAnd result (IsRefusedRead self.old.core.is_open page reader.now.size) × (self.new ≡ self.old) }
     {
         judge_read(
             self.core.is_open,

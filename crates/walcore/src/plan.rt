@@ -90,8 +90,8 @@ pub fn grow(index: &mut FrameIndex, bound: u32, frames: u32) -> Result<(), WalEr
     }
 }
 
-/// The frames of the log by their pages.
-fn index_of(alloc: Global, scan: &Scan, front: Front) -> Result<FrameIndex, WalError>
+/// The frames of a log up to its front by their pages (own). NoMemory alone.
+pub fn index_of(alloc: Global, scan: &Scan, front: Front) -> Result<FrameIndex, WalError>
     ensures table { IfOk result (λ t. (w : List ℕ) → Took w scan.now → IsValidFrame (named_size w) w front.frames → IsTable (named_size w) front.size w front.frames t) }
     ensures memory { OnErr result (result ≡ Err WalError.NoMemory) }
 {

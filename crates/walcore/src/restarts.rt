@@ -1,6 +1,6 @@
 //! The restart of a log: its header is written anew, so that frames are written over those of before.
 ghost use Rattle.std.specs.Prelude.{◌≡◌, ◌↔◌, ◌+◌, ◌%◌, ◌^◌, ℕ, length};
-ghost use Rattle.walcore.specs.Answers.{Done};
+ghost use Rattle.sqval.specs.Answers.{Done};
 ghost use Rattle.walcore.specs.Machine.{Restarts};
 ghost use Rattle.walcore.specs.Making.{Permits};
 ghost use Rattle.walcore.specs.Fits.{Past, Fits, answered, Steps};

@@ -1,24 +1,27 @@
 //! Commits come down.
-ghost use Rattle.std.specs.Prelude.{◌≡◌, ◌↔◌, ◌+◌, ◌≤◌, ◌++◌, drop, length, true, false};
-ghost use Rattle.crashdisk.specs.Call.{DiskState};
+ghost use Rattle.std.specs.Prelude.{◌≡◌, ◌↔◌, ◌+◌, ◌-◌, ◌*◌, ◌≤◌, ◌++◌, drop, length, true};
+ghost use Rattle.crashdisk.specs.Call.{DiskState, IsSoundDisk};
 ghost use Rattle.crashdisk.specs.declared.file.File.TheVariants.{Log};
-ghost use Rattle.walcore.specs.Answers.{Done};
+ghost use Rattle.sqval.specs.Answers.{Done};
 ghost use Rattle.walcore.specs.Machine.{Syncs};
 ghost use Rattle.walcore.specs.Steps.{SyncStep};
 ghost use Rattle.walcore.specs.Fits.{Past, FitsCore, Fits, StepsTo, Steps, answered};
+ghost use Rattle.walcore.specs.Paging.{PlaceAnswer};
 ghost use Rattle.walcore.specs.Commits.{IsHeaded, RestAnswer};
+ghost use Rattle.walcore.specs.Syncing.{is_due, RepeatAnswer, Repeats, DownBy};
 
 use crate::error::WalError;
 use crate::frames::{count_frame, end_of};
+use crate::paging::read_place;
 use crate::state::Core;
 use crate::wal::Wal;
 use crashdisk::{Disk, File};
 use sqwal::{Sum, WalHeader, frame_head};
 
-/// Whether a copy of the last frame is owed: on a disk that tears, where a commit isn't synced, and the log doesn't end
+/// Whether a copy of the last frame is due: on a disk that tears, where a commit isn't synced, and the log doesn't end
 /// where a sector ends.
 fn owes_copy<D: Disk>(disk: &D, core: &Core) -> bool
-    ensures untorn { D.keeps_word disk.now → (D.state disk.now).tears ≡ false → result ≡ false }
+    ensures due { D.keeps_word disk.now → result ≡ is_due core.now (D.state disk.now) }
     ensures unsynced { result ≡ true → core.now.unsynced ≡ true }
 {
     let sector = disk.sector() as u64;
@@ -43,17 +46,20 @@ fn put_head(frame: &mut [u8], header: &WalHeader, before: Sum, page: u32, size: 
     after
 }
 
-/// Reads the content of the last frame into the buffer of a frame.
-fn read_last<D: Disk>(disk: &mut D, at: u64, frame: &mut [u8]) -> Result<(), WalError>
+/// Reads the content of a frame, from where that begins, into the buffer of a frame.
+fn read_content<D: Disk>(disk: &mut D, at: u64, frame: &mut [u8]) -> Result<(), WalError>
     requires { 24 ≤ length frame.old }
     ensures word { D.keeps_word disk.old ↔ D.keeps_word disk.new }
+    ensures place { D.keeps_word disk.old → IsSoundDisk (D.state disk.old)
+        → PlaceAnswer Log at (drop 24 frame.new) result (D.state disk.old) (D.state disk.new) }
 {
-    disk.read_at(File::Log, at, &mut frame[24..])?;
-    Ok(())
+    read_place(disk, File::Log, at, &mut frame[24..])
 }
 
 /// Where the content of the last frame begins.
-fn content_at(core: &Core) -> u64 {
+fn content_at(core: &Core) -> u64
+    ensures { result ≡ 32 + (core.now.frames - 1) * (24 + core.now.page_size) + 24 }
+{
     let size = u64::from(core.page_size.get());
     32 + u64::from(core.frames.saturating_sub(1)) * (24 + size) + 24
 }
@@ -62,10 +68,12 @@ fn content_at(core: &Core) -> u64 {
 fn copy_frame<D: Disk>(disk: &mut D, core: &mut Core) -> Result<(), WalError>
     requires { core.old.unsynced ≡ true }
     ensures word { D.keeps_word disk.old ↔ D.keeps_word disk.new }
+    ensures core { Repeats core.old core.new }
+    ensures frame { D.keeps_word disk.old → IsSoundDisk (D.state disk.old) → RepeatAnswer result core.old core.new (D.state disk.old) (D.state disk.new) }
 {
     core.unsynced = false;
     let end = end_of(core);
-    read_last(disk, content_at(core), &mut core.frame)?;
+    read_content(disk, content_at(core), &mut core.frame)?;
     let page = core.last_page;
     let after = put_head(&mut core.frame, &core.header, core.sum, page, core.size);
     disk.write_at(File::Log, end, &core.frame)?;
@@ -85,9 +93,8 @@ fn settle_log<D: Disk>(disk: &mut D) -> Result<(), WalError>
 /// Brings all frames of the log down.
 pub fn bring_down<D: Disk>(disk: &mut D, core: &mut Core) -> Result<(), WalError>
     ensures word { D.keeps_word disk.old ↔ D.keeps_word disk.new }
-    // on a disk that doesn't tear
-    ensures core { D.keeps_word disk.old → (D.state disk.old).tears ≡ false → core.new ≡ core.old }
-    ensures untorn { D.keeps_word disk.old → (D.state disk.old).tears ≡ false → SyncStep Log result (D.state disk.old) (D.state disk.new) }
+    ensures down { D.keeps_word disk.old → IsSoundDisk (D.state disk.old)
+        → DownBy (is_due core.old (D.state disk.old)) result core.old core.new (D.state disk.old) (D.state disk.new) }
 {
     if !owes_copy(disk, core) {
         return settle_log(disk);
@@ -111,9 +118,7 @@ fn end_sync(core: &mut Core, done: Result<(), WalError>) -> Result<(), WalError>
 /// Brings all commits down.
 fn sync_commits<D: Disk>(disk: &mut D, core: &mut Core) -> Result<(), WalError>
     ensures word { D.keeps_word disk.old ↔ D.keeps_word disk.new }
-    // on a disk that doesn't tear
-    ensures untorn { D.keeps_word disk.old → (D.state disk.old).tears ≡ false
-        → (past : Past) → FitsCore past core.old (D.state disk.old)
+    ensures step { D.keeps_word disk.old → (past : Past) → FitsCore past core.old (D.state disk.old)
         → StepsTo past past.tokens Syncs (answered (λ _. Done) result) core.new (D.state disk.old) (D.state disk.new) }
 {
     if !core.is_open {
@@ -128,8 +133,7 @@ impl<D: Disk> Wal<D> {
     /// first writes a copy of the last frame behind it, where that doesn't end at the end of a sector.
     pub fn sync(&mut self) -> Result<(), WalError>
         ensures word { D.keeps_word self.old.disk ↔ D.keeps_word self.new.disk }
-        // on a disk that doesn't tear
-        ensures untorn { D.keeps_word self.old.disk → (D.state self.old.disk).tears ≡ false → (past : Past) → Fits D.state self.old past
+        ensures step { D.keeps_word self.old.disk → (past : Past) → Fits D.state self.old past
             → Steps D.state self.old self.new past past.tokens Syncs (answered (λ _. Done) result) }
     {
         sync_commits(&mut self.disk, &mut self.core)

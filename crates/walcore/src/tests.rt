@@ -172,3 +172,39 @@ fn opens_and_restarts(rt: HostRuntime) -> Result<(), Fail> {
     assert_eq!(rt; left.as_slice(), head.as_slice());
     Ok(())
 }
+
+// On a disk that tears no page is smaller than a sector.
+#[test]
+fn a_sector_above_a_page(rt: HostRuntime) -> Result<(), Fail> {
+    let alloc = rt.alloc();
+    let page_size = PageSize::new(512).ok_or("a page size")?;
+    let disk = ModelDisk::tearing(alloc, 1024, [b'a'; 1024].to_vec(alloc)?)?;
+    let (refused, disk) = match Wal::open(alloc, disk, page_size, (1, 2)) {
+        Ok(wal) => (None, wal.into_disk()),
+        Err(Refused { error, disk }) => (Some(error.number()), disk),
+    };
+    assert_eq!(rt; refused, Some(17));
+    assert_eq!(rt; disk.refused(), 0);
+    Ok(())
+}
+
+// On a disk that tears the first sync writes the last frame once more, and the next one nothing.
+#[test]
+fn a_sync_copies_the_last_frame(rt: HostRuntime) -> Result<(), Fail> {
+    let alloc = rt.alloc();
+    let disk = ModelDisk::tearing(alloc, 512, [b'a'; 512].to_vec(alloc)?)?;
+    let mut wal = open(alloc, disk, (1, 2))?;
+    let committed = wal.commit(&[(1, &[b'b'; 512])], 1);
+    let synced = wal.sync();
+    let again = wal.sync();
+    let byte = newest_byte(&mut wal); // the copy stands above the reader's mark
+    let disk = wal.into_disk();
+    assert_eq!(rt; (committed, synced, again), (Ok(()), Ok(()), Ok(())));
+    assert_eq!(rt; byte, Some((b'b', hit(1, 2))));
+    let mut log = Vec::new(alloc);
+    disk.present(File::Log, &mut log)?;
+    assert_eq!(rt; log.len(), 1104);
+    assert_eq!(rt; &log[568..576], &log[32..40]);
+    assert_eq!(rt; &log[592..1104], &log[56..568]);
+    Ok(())
+}

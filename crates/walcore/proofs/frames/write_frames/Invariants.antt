@@ -2,7 +2,7 @@ use Rattle.std.proofs.Common.{◌≡◌, ℕ, ◌+◌, ◌≤◌, List, length}
 use Rattle.std.specs.Prelude.{◌↔◌}
 use Rattle.crashdisk.specs.Call.{IsSoundDisk}
 use Rattle.sqwal.specs.Refusal.{most_frames}
-use Rattle.walcore.specs.Judged.{lent}
+use Rattle.sqval.specs.JudgedPages.{lent}
 use Rattle.walcore.specs.Made.{IsExtended}
 use Rattle.walcore.specs.Going.{KeepsCore, KnowsLog, Going}
 use Rattle.walcore.proofs.frames.write_frames.Given as goal

@@ -1,4 +1,6 @@
 use Rattle.std.proofs.Common.{inr, refl, sym, ◌∙◌}
+use Rattle.sqwal.specs.Header.{named_size}
+use Rattle.sqwal.proofs.Views.{front_unique}
 use Rattle.walcore.specs.declared.error.WalError.TheVariants.{Device}
 use Rattle.walcore.proofs.Stills.{passed, present_in, still_looks, still_sound, still_then}
 use Rattle.walcore.proofs.Recovering.{fits_still, read_plans}
@@ -39,3 +41,10 @@ pub returns-clause-still : goal.returns-clause-still
 returns-clause-still g c = λ word sound.
     let is = still_looks _ c.len.result _ _ sound (c.len.ensures.state word) in
     still_then (g.D.Disk.state c.args.disk.now) (g.D.Disk.state c.len.new.self) (g.D.Disk.state c.read_plan.new.disk) is (c.read_plan.ensures.still (c.len.ensures.word.0 word) (still_sound _ _ sound is))
+
+pub returns-clause-judged : goal.returns-clause-judged
+returns-clause-judged g c = λ word sound fits w are none.
+    let is = still_looks _ c.len.result _ _ sound (c.len.ensures.state word) in
+    let next = c.len.ensures.word.0 word in
+    let plans = read_plans c.args.page_size w c.read_plan.result c.in_ok-plan.plan _ _ c.in_ok-plan.was (c.read_plan.ensures.plan next (still_sound _ _ sound is) w (present_in _ _ w is.log are) (are.len ∙ sym (c.in_ok-long.ensures.answer word))) in
+    c.if-plan-eq0.false (sym (front_unique (named_size w) w 0 c.in_ok-plan.plan.frames none plans.1.front))

@@ -1,7 +1,9 @@
 use Rattle.std.proofs.Common.{ℕ, refl, sym, subst}
 use Rattle.walcore.specs.Folding.{TearsPages}
-use Rattle.walcore.proofs.Stills.{passed}
-use Rattle.walcore.proofs.Opened.{match_err, same_error, without_memory, unrecovered, unbegun, begun_here, opened_here}
+use Rattle.walcore.specs.Opening.{OpenRefused}
+use Rattle.walcore.proofs.Stills.{passed, refusal_after}
+use Rattle.walcore.proofs.Unopened.{if_err, device_refused}
+use Rattle.walcore.proofs.Opened.{header_refused, match_err, same_error, without_memory, unrecovered, unbegun, begun_here, opened_here}
 use Rattle.walcore.proofs.Agreed.{agrees_then, header_alone}
 use Rattle.walcore.proofs.opening.open_core.Goals as goal
 
@@ -57,3 +59,14 @@ returns-clause-agrees g c = λ word.
     agrees_then c.args.page_size (g.D.Disk.state c.args.disk.now) (g.D.Disk.state c.recover.new.disk) (g.D.Disk.state c.begin_log.new.disk) (c.recover.ensures.agrees word sound)
     (λ d alone. header_alone c.args.page_size d c.new_log-log.result.bytes c.new_log-log.ensures.begun.alone (g.D.Disk.state c.recover.new.disk) (c.recover.ensures.later word sound).sound (c.in_ok-pages.ensures.empty word sound) alone
     c.begin_log.result (g.D.Disk.state c.begin_log.new.disk) (c.begin_log.ensures.state (c.recover.ensures.word.0 word)))
+
+pub returns-in_err-begin_log-clause-refuses : goal.returns-in_err-begin_log-clause-refuses
+returns-in_err-begin_log-clause-refuses g c = λ word found are.
+    let s = g.D.Disk.state c.args.disk.now in
+    let a = g.D.Disk.state c.recover.new.disk in
+    let b = g.D.Disk.state c.begin_log.new.disk in
+    let suits = c.in_ok-judge_sector.ensures.suits word in
+    let later = c.recover.ensures.later word suits.sound in
+    let was = header_refused c.new_log-log.result.bytes c.new_log-log.ensures.begun.alone c.begin_log.result a b later.sound (c.begin_log.ensures.state (c.recover.ensures.word.0 word)) _ c.in_err-begin_log.was in
+    if_err c.from_residual-in_err-begin_log.result _ (λ e. OpenRefused c.args.page_size found.db found.log e s b) (passed c.from_residual-in_err-begin_log.result _ c.from_residual-in_err-begin_log.ensures.1)
+    (device_refused c.args.page_size found.db found.log _ s b suits.whole was.0 (refusal_after s a b later.refused was.1))

@@ -5,6 +5,7 @@ use Rattle.walcore.proofs.Recovered.{recover_unsynced, ready_synced, ready_still
 use Rattle.walcore.proofs.Ending.{later_sync, later_still, later_then}
 use Rattle.walcore.proofs.Lengths.{down_still}
 use Rattle.walcore.proofs.Agreed.{alone_still, agrees_then, agrees_synced, agrees_after, agrees_looked, synced_empty, still_empty, folded_empty, on_ok}
+use Rattle.walcore.proofs.Unopened.{whole_synced, files_synced, files_looked, unjudged, unfolded, uncounted}
 use Rattle.walcore.proofs.opening.recover.Goals as goal
 
 pub returns-in_err-sync-clause-recovered : goal.returns-in_err-sync-clause-recovered
@@ -109,3 +110,46 @@ returns-clause-empty g c = λ word sound.
     (folded_empty c.args.page_size _ c.fold_synced.result (g.D.Disk.state c.judge_file.new.disk) (g.D.Disk.state c.fold_synced.new.disk) c.in_ok-fold_synced.was
     (c.fold_synced.ensures.folds then (still_empty (g.D.Disk.state c.sync.new.self) (g.D.Disk.state c.judge_file.new.disk) (c.judge_file.ensures.still next first.sound)
     (synced_empty (g.D.Disk.state c.args.disk.now) (g.D.Disk.state c.sync.new.self) sound (c.in_ok-sync.ensures.state word))))))
+
+pub returns-in_err-judge_file-clause-refuses : goal.returns-in_err-judge_file-clause-refuses
+returns-in_err-judge_file-clause-refuses g c = λ word sound fits found are.
+    let s = g.D.Disk.state c.args.disk.now in
+    let a = g.D.Disk.state c.sync.new.self in
+    let synced = c.in_ok-sync.ensures.state word in
+    let first = later_sync Log c.sync.result s a sound (c.sync.ensures.state word) in
+    let files = files_synced c.args.page_size found s a sound fits are synced in
+    unjudged c.args.page_size found s a sound fits are synced (g.D.Disk.state c.judge_file.new.disk) c.judge_file.result c.from_residual-in_err-judge_file.result _ c.in_err-judge_file.was
+    (passed c.from_residual-in_err-judge_file.result _ c.from_residual-in_err-judge_file.ensures.1)
+    (c.judge_file.ensures.judged (c.sync.ensures.word.0 word) first.sound (whole_synced c.args.page_size found s a sound fits are synced) found.db found.log files.db files.log)
+
+pub returns-in_err-fold_synced-clause-refuses : goal.returns-in_err-fold_synced-clause-refuses
+returns-in_err-fold_synced-clause-refuses g c = λ word sound fits found are.
+    let s = g.D.Disk.state c.args.disk.now in
+    let a = g.D.Disk.state c.sync.new.self in
+    let b = g.D.Disk.state c.judge_file.new.disk in
+    let synced = c.in_ok-sync.ensures.state word in
+    let first = later_sync Log c.sync.result s a sound (c.sync.ensures.state word) in
+    let next = c.sync.ensures.word.0 word in
+    let still = c.judge_file.ensures.still next first.sound in
+    let files = files_looked c.args.page_size found s a sound fits are synced b still in
+    unfolded c.args.page_size found s a sound fits are synced b still (g.D.Disk.state c.fold_synced.new.disk) c.fold_synced.result c.from_residual-in_err-fold_synced.result _ c.in_err-fold_synced.was
+    (passed c.from_residual-in_err-fold_synced.result _ c.from_residual-in_err-fold_synced.ensures.1)
+    (c.fold_synced.ensures.folds (c.judge_file.ensures.word.0 next) (still_empty a b still (synced_empty s a sound synced)) found.db found.log files.db files.log)
+
+pub returns-clause-refuses : goal.returns-clause-refuses
+returns-clause-refuses g c = λ word sound fits found are.
+    let s = g.D.Disk.state c.args.disk.now in
+    let a = g.D.Disk.state c.sync.new.self in
+    let b = g.D.Disk.state c.judge_file.new.disk in
+    let synced = c.in_ok-sync.ensures.state word in
+    let first = later_sync Log c.sync.result s a sound (c.sync.ensures.state word) in
+    let next = c.sync.ensures.word.0 word in
+    let still = c.judge_file.ensures.still next first.sound in
+    let then = c.judge_file.ensures.word.0 next in
+    let later = c.fold_synced.ensures.later then in
+    let seen = files_synced c.args.page_size found s a sound fits are synced in
+    let files = files_looked c.args.page_size found s a sound fits are synced b still in
+    uncounted c.args.page_size found s a sound fits are synced b still (g.D.Disk.state c.fold_synced.new.disk) (g.D.Disk.state c.count_pages.new.disk) c.judge_file.result _ c.fold_synced.result _ c.count_pages.result
+    c.in_ok-judge_file.was (c.judge_file.ensures.judged next first.sound (whole_synced c.args.page_size found s a sound fits are synced) found.db found.log seen.db seen.log)
+    c.in_ok-fold_synced.was (c.fold_synced.ensures.folds then (still_empty a b still (synced_empty s a sound synced)) found.db found.log files.db files.log) later.refused
+    (c.count_pages.ensures.count (c.fold_synced.ensures.word.0 then) later.sound)

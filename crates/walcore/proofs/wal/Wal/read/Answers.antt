@@ -1,7 +1,7 @@
 use Rattle.std.proofs.Common.{◌+◌, ◌*◌, ℕ, length, refl, ap, arith}
 use Rattle.walcore.proofs.Stills.{passed, still}
 use Rattle.walcore.proofs.Fitting.{same_core}
-use Rattle.walcore.proofs.Viewing.{read_judged, read_from_file, read_from_log}
+use Rattle.walcore.proofs.Viewing.{read_judged, read_refused, read_long, read_from_file, read_from_log}
 use Rattle.walcore.proofs.wal.Wal.read.Goals as goal
 
 pub returns-in_err-judge_read-clause-step : goal.returns-in_err-judge_read-clause-step
@@ -22,3 +22,16 @@ returns-clause-step g c = λ word past number fits token full.
     (length c.args.out.now) full c.in_ok-judge_read.ensures.judged c.find-hit.result.frame (c.find-hit.ensures.newest (λ z. omega (arith, c.in_ok-judge_read.ensures.some)))
     (32 + c.from-2.result * (24 + length c.args.out.now) + 24) c.read_place-2.new.out c.read_place-2.result (omega (arith, c.if-hit-eq0.false)) (ap (λ (n : ℕ). 32 + n * (24 + length c.args.out.now) + 24) c.from-2.ensures) c.read_place-2.auto.out
     (c.read_place-2.ensures.place word fits.disk.suits.sound)
+
+pub returns-in_err-judge_read-clause-size : goal.returns-in_err-judge_read-clause-size
+returns-in_err-judge_read-clause-size g c = λ other. (
+  read_refused c.args.self.now.core.is_open c.args.page c.args.reader.now.size (length c.args.out.now) c.args.self.now.core.page_size c.judge_read.result c.from_residual.result _
+      c.in_err-judge_read.was (passed c.from_residual.result _ c.from_residual.ensures.1) c.judge_read.ensures.judged,
+  refl,
+)
+
+pub returns-then-hit-eq0-clause-size : goal.returns-then-hit-eq0-clause-size
+returns-then-hit-eq0-clause-size g c = λ other. absurd (other (read_long c.args.self.now.core.is_open c.args.page c.args.reader.now.size (length c.args.out.now) c.args.self.now.core.page_size c.judge_read.result _ c.in_ok-judge_read.was c.judge_read.ensures.judged))
+
+pub returns-clause-size : goal.returns-clause-size
+returns-clause-size g c = λ other. absurd (other (read_long c.args.self.now.core.is_open c.args.page c.args.reader.now.size (length c.args.out.now) c.args.self.now.core.page_size c.judge_read.result _ c.in_ok-judge_read.was c.judge_read.ensures.judged))
