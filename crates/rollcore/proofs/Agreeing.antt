@@ -1,5 +1,5 @@
 -- The parts of a replay keep what shows one database, so the replay does at each of its exits.
-use Rattle.std.proofs.Common.{◌≡◌, ⊎_elim, ℕ, ◌+◌, ◌≤◌, Bool, true, cond, List, length, get_or, replicate, sym, ◌∙◌, ap, subst, arith}
+use Rattle.std.proofs.Common.{◌≡◌, ⊎_elim, ℕ, ◌+◌, ◌≤◌, Bool, true, false, cond, List, length, get_or, replicate, sym, ◌∙◌, ap, subst, arith}
 use Rattle.std.specs.Prelude.{Result, Ok, Err, Option, Some, None, slice_get}
 use Rattle.std.proofs.lemmas.List.{get_or-replicate, get_or_past, length-replicate}
 use Rattle.std.proofs.lemmas.Bool.{cases_lt}
@@ -46,6 +46,7 @@ module _ (size : ℕ) (d : Database) (w : List ℕ) where
   pub scanning_shows : (s : DiskState) → Scanning size d w s → ShowsAlone size d s
   scanning_shows s is = record {
     images = λ db v image left. subst (λ (x : List ℕ). Show size db x d) (sym (down_one w s is.down s.sector s.tears v left.image)) (is.images db image);
+    listed = λ db v image values. subst (λ (x : List ℕ). Show size db x d) (sym (down_one w s is.down s.sector false v values)) (is.images db image);
     present = λ db v are_db are. subst (λ (x : List ℕ). Show size db x d) (sym (down_present_one w s is.down v are)) (is.present db are_db);
   }
 

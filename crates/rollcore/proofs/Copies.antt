@@ -19,7 +19,7 @@ use Rattle.crashdisk.specs.declared.error.DiskError.{DiskError}
 use Rattle.crashdisk.proofs.Keeping.{sound_writes, sound_cuts}
 use Rattle.crashdisk.proofs.Sound.{byte_past, cut_below, written_inside, written_outside}
 use Rattle.crashdisk.proofs.Steps.{present_written, present_cut, counted_grows}
-use Rattle.rollcore.specs.Refusal.{most_bytes}
+use Rattle.sqval.specs.CommitFaults.{most_bytes}
 use Rattle.rollcore.specs.Steps.{Still, KeepsLog, PutsRecord, RecordAnswer, EntryStep, EntryAnswer, CopyAnswer}
 use Rattle.rollcore.specs.declared.error.RollError.{RollError}
 use Rattle.rollcore.specs.declared.error.RollError.TheVariants.{Device}

@@ -23,12 +23,13 @@ present_image sector tears s c sound are = record {
   each = λ k. inl (λ i e lt. let below : i < s.len = omega (arith, are.len) in are.each i below ∙ byte_below s i below);
 }
 
--- Where each log that may be left, and the present one, has a property that makes it show the database, all shows it.
-pub shows_by : (size : ℕ) (d : Database) (s : DiskState) → IsSoundDisk s → (P : List ℕ → Type 0) → ((v : List ℕ) → MayBeLeft s v → P v) → ((v : List ℕ) → ArePresent s.log v → P v)
+-- Where each log that may be read has a property that makes it show the database, all shows it.
+pub shows_by : (size : ℕ) (d : Database) (s : DiskState) → IsSoundDisk s → (P : List ℕ → Type 0) → ((v : List ℕ) → MayBeLeft s v → P v) → ((v : List ℕ) → IsImage s.sector false s.log v → P v)
     → ((db v : List ℕ) → IsImage s.sector s.tears s.db db → P v → Show size db v d) → ShowsAlone size d s
-shows_by size d s sound P left present show = record {
+shows_by size d s sound P left listed show = record {
   images = λ db w image may. show db w image (left w may);
-  present = λ db w are_db are_log. show db w (present_image s.sector s.tears s.db db sound.db are_db) (present w are_log);
+  listed = λ db w image values. show db w image (listed w values);
+  present = λ db w are_db are_log. show db w (present_image s.sector s.tears s.db db sound.db are_db) (listed w (present_image s.sector false s.log w sound.log are_log));
 }
 
 module _ (w : List ℕ) where

@@ -34,21 +34,21 @@ present_one : (s : FileState) (v w : List ℕ) → ArePresent s v → ArePresent
 present_one s v w a b = ext_get_or 0 v w (a.len ∙ sym b.len) (λ i lt. let below : i < s.len = omega (arith, a.len) in a.each i below ∙ sym (b.each i below))
 
 module _ {T : Type 0} where
-  told_err : (called : Result T DiskError) (r : Result T RollError) (e : RollError) → r ≡ Err e → Told called r → (e ≡ Device) × ((x : DiskError) × (called ≡ Err x))
+  pub told_err : (called : Result T DiskError) (r : Result T RollError) (e : RollError) → r ≡ Err e → Told called r → (e ≡ Device) × ((x : DiskError) × (called ≡ Err x))
   told_err called r e is told = by called (subst (λ (y : Result T RollError). Told called y) is told)
     where
       by : (c : Result T DiskError) → Told c (Err e) → (e ≡ Device) × ((x : DiskError) × (c ≡ Err x))
       by (Ok _) t = absurd t
       by (Err x) t = (t, (x, refl))
 
-  told_ok : (called : Result T DiskError) (r : Result T RollError) (v : T) → r ≡ Ok v → Told called r → (x : T) × (called ≡ Ok x)
+  pub told_ok : (called : Result T DiskError) (r : Result T RollError) (v : T) → r ≡ Ok v → Told called r → (x : T) × (called ≡ Ok x)
   told_ok called r v is told = by called (subst (λ (y : Result T RollError). Told called y) is told)
     where
       by : (c : Result T DiskError) → Told c (Ok v) → (x : T) × (c ≡ Ok x)
       by (Ok x) t = (x, refl)
       by (Err _) t = absurd t
 
-  none_ok : (called : Result T DiskError) (r : Result T RollError) (v : T) → IsErr called → r ≡ Ok v → Told called r → ⊥
+  pub none_ok : (called : Result T DiskError) (r : Result T RollError) (v : T) → IsErr called → r ≡ Ok v → Told called r → ⊥
   none_ok called r v bad is told = by called bad (subst (λ (y : Result T RollError). Told called y) is told)
     where
       by : (c : Result T DiskError) → IsErr c → Told c (Ok v) → ⊥
@@ -115,7 +115,7 @@ module _ {T : Type 0} where
   since_by true x w a b since untorn are = (λ torn. present_one a.log b.kept w since.0 are, since.1)
   since_by false x w a b since untorn are = (λ torn. absurd (let f : false ≡ true = torn in cc), (untorn refl).1)
 
-  sync_down : (r : Result T RollError) (v : T) (w : List ℕ) (a b : DiskState) → IsSoundDisk a → r ≡ Ok v → SyncStep Log r a b → ArePresent a.log w → IsLogDown b w
+  pub sync_down : (r : Result T RollError) (v : T) (w : List ℕ) (a b : DiskState) → IsSoundDisk a → r ≡ Ok v → SyncStep Log r a b → ArePresent a.log w → IsLogDown b w
   sync_down r v w a b sound is step are =
       let t = told_ok step.0 r v is step.1 in
       let synced = subst (λ (x : Result T DiskError). Syncs Log x a b) t.1 step.2 in

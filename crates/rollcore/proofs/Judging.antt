@@ -8,7 +8,7 @@ use Rattle.sqjournal.specs.Took.{Took}
 use Rattle.sqjournal.specs.declared.header.JournalHeader.{JournalHeader}
 use Rattle.sqjournal.specs.declared.replay.Replay.{Replay}
 use Rattle.crashdisk.specs.Call.{DiskState}
-use Rattle.rollcore.specs.Refusal.{most_bytes}
+use Rattle.sqval.specs.CommitFaults.{most_bytes}
 use Rattle.rollcore.specs.Steps.{ScanRefused, ScanAnswer}
 use Rattle.rollcore.specs.Plans.{JudgeAnswer, PlanAnswer, ReadAnswer}
 use Rattle.rollcore.specs.declared.plan.Plan.{Plan}

@@ -16,7 +16,7 @@ use Rattle.crashdisk.specs.declared.error.DiskError.{DiskError}
 use Rattle.crashdisk.proofs.Sound.{byte_below}
 use Rattle.crashdisk.proofs.Images.{table}
 use Rattle.crashdisk.proofs.Steps.{present_list}
-use Rattle.rollcore.specs.Refusal.{most_bytes}
+use Rattle.sqval.specs.CommitFaults.{most_bytes}
 use Rattle.rollcore.specs.Replaying.{TearsJournal, IsTooLarge, KeepsBytes, zeroed, IsIdle, ReplayAnswer, Replays, Agrees, GoesOn}
 use Rattle.rollcore.specs.Steps.{torn_sector, Still, ArePages, CopyAnswer, EndAnswer, RolledAnswer}
 use Rattle.rollcore.specs.Plans.{IsBelow, IsFit, IsPlan, PlanAnswer, ReadAnswer}
@@ -129,7 +129,7 @@ read_torn torn w r a b e answer = subst (λ (n : ℕ). ReadAnswer n w r a b) e a
 
 -- ---- The whole.
 
-zeroed_zero : (w : List ℕ) → get_or (zeroed w) 0 0 ≡ 0
+pub zeroed_zero : (w : List ℕ) → get_or (zeroed w) 0 0 ≡ 0
 zeroed_zero w = get_or_append_left {A = ℕ} (replicate 28 0) (drop 28 w) 0 0 (omega (arith, length-replicate {A = ℕ} 28 0)) ∙ get_or-replicate 28 0 0 0 (omega arith)
 
 -- zeros for a header are no hot journal
@@ -139,7 +139,7 @@ settled_cold w s is bytes are hot =
     zeros_cold bytes (are.each 0 some ∙ byte_below s 0 some ∙ is.present 0 ∙ zeroed_zero w) hot
 
 -- the sectors that tear are larger, or there are none
-tears_by : (w : List ℕ) (s : DiskState) → IsHot w → IsBelow (torn_sector s) w → TearsJournal s w
+pub tears_by : (w : List ℕ) (s : DiskState) → IsHot w → IsBelow (torn_sector s) w → TearsJournal s w
 tears_by w s hot below = by s.tears refl
   where
     by : (b : Bool) → s.tears ≡ b → TearsJournal s w
@@ -158,13 +158,8 @@ module _ (db w : List ℕ) (a : DiskState) (sound : IsSoundDisk a) (are_db : Are
   small : word w 16 * word w 24 ≤ most_bytes → IsTooLarge w → ⊥
   small within large = ⊎_elim short (λ x. omega (arith, x.1)) large
 
-  -- a refused call before anything else
-  pub look_refused : {T : Type 0} (called : Result T DiskError) (e : DiskError) (q : Result Replayed RollError) (b : DiskState) → called ≡ Err e → q ≡ Err Device → Looks 0 called a b → ReplayAnswer db w q a b
-  look_refused called e q b was is looked =
-      subst (λ (x : Result Replayed RollError). ReplayAnswer db w x a b) (sym is) (had_refusal called e 0 a b sound.refused was looked.within (omega arith) looked.refused)
-
   module _ (b : DiskState) (is : Still a b) where
-    bytes_kept : KeepsBytes a b
+    pub bytes_kept : KeepsBytes a b
     bytes_kept = record { db = is.db; log = λ bytes here. present_in a.log b.log bytes is.log here }
 
     pub read_refused : (r : Result (Option Plan) RollError) (q : Result Replayed RollError) (e : RollError) → r ≡ Err e → q ≡ Err e → ReadAnswer (torn_sector a) w r a b → ReplayAnswer db w q a b
@@ -216,6 +211,22 @@ pub read_plans : (torn : ℕ) (w : List ℕ) (r : Result (Option Plan) RollError
 unfolding ReadAnswer PlanAnswer
 read_plans torn w r plan a b was answer = let got = subst (λ (x : Result (Option Plan) RollError). ReadAnswer torn w x a b) was answer in got
 
+pub plan_cold : (torn : ℕ) (w : List ℕ) (r : Result (Option Plan) RollError) (a b : DiskState) → r ≡ Ok None → ReadAnswer torn w r a b → IsHot w → ⊥
+unfolding ReadAnswer PlanAnswer
+plan_cold torn w r a b was answer = subst (λ (x : Result (Option Plan) RollError). ReadAnswer torn w x a b) was answer
+
+-- a refused look before the plan is read
+pub look_unread : {T : Type 0} (w : List ℕ) (a : DiskState) → IsSoundDisk a → (b : DiskState) (called : Result T DiskError) (e : DiskError) (q : Result (Option Plan) RollError) → called ≡ Err e → q ≡ Err Device → Looks 0 called a b → ReadAnswer (torn_sector a) w q a b
+unfolding ReadAnswer
+look_unread w a sound b called e q was is looked =
+    subst (λ (x : Result (Option Plan) RollError). ReadAnswer (torn_sector a) w x a b) (sym is) (had_refusal called e 0 a b sound.refused was looked.within (omega arith) looked.refused)
+
+-- and one that was answered
+pub read_looked : (w : List ℕ) (a b c : DiskState) → Still a b → (r : Result (Option Plan) RollError) → ReadAnswer (torn_sector b) w r b c → ReadAnswer (torn_sector a) w r a c
+unfolding ReadAnswer
+read_looked w a b c is (Err Device) answer = refusal_after a b c is.refused answer
+read_looked w a b c is r answer = subst (λ (n : ℕ). PlanAnswer n w r) (torn_still a b is) answer
+
 -- ---- The log is synced first.
 
 -- what follows a sync that was answered so
@@ -230,7 +241,7 @@ sync_unreplayed db w called e q a b was is synced =
     subst (λ (x : Result Replayed RollError). ReplayAnswer db w x a b) (sym is) (had_refusal_any called e a b was synced.within synced.elsewhere.refused)
 
 module _ {T : Type 0} {u : T} (db w : List ℕ) (a b c : DiskState) (synced : Syncs Log (Ok u) a b) where
-  synced_present : (bytes : List ℕ) → ArePresent a.log bytes → ArePresent b.log bytes
+  pub synced_present : (bytes : List ℕ) → ArePresent a.log bytes → ArePresent b.log bytes
   synced_present bytes are = record {
     len = are.len ∙ sym synced.file.len;
     each = λ i lt. are.each i (omega (arith, synced.file.len)) ∙ sym (byte_below b.log i lt ∙ synced.file.present i);
@@ -239,10 +250,10 @@ module _ {T : Type 0} {u : T} (db w : List ℕ) (a b c : DiskState) (synced : Sy
   le : a.refused ≤ b.refused
   le = omega (arith, synced.elsewhere.refused)
 
-  bytes_after : KeepsBytes b c → KeepsBytes a c
+  pub bytes_after : KeepsBytes b c → KeepsBytes a c
   bytes_after keeps = record { db = keeps.db ∙ synced.elsewhere.other; log = λ bytes are. keeps.log bytes (synced_present bytes are) }
 
-  tears_after : TearsJournal b w → TearsJournal a w
+  pub tears_after : TearsJournal b w → TearsJournal a w
   tears_after tears = (sym synced.elsewhere.tears ∙ tears.0, tears.1, subst (λ (n : ℕ). (word w 24 < n) ⊎ (word w 20 < n)) synced.elsewhere.sector tears.2)
 
   tears_before : TearsJournal a w → TearsJournal b w
@@ -261,25 +272,3 @@ module _ {T : Type 0} {u : T} (db w : List ℕ) (a b c : DiskState) (synced : Sy
 
   pub replay_after : (q : Result Replayed RollError) → ArePresent a.db db → ArePresent a.log w → (ArePresent b.db db → ArePresent b.log w → ReplayAnswer db w q b c) → ReplayAnswer db w q a c
   replay_after q are_db are rest = after q (rest (present_in a.db b.db db synced.elsewhere.other are_db) (synced_present w are))
-
--- a look came first
-module _ (db w : List ℕ) (a b c : DiskState) (is : Still a b) where
-  look_bytes : KeepsBytes b c → KeepsBytes a c
-  look_bytes keeps = record { db = keeps.db ∙ is.db; log = λ bytes are. keeps.log bytes (present_in a.log b.log bytes is.log are) }
-
-  look_before : TearsJournal a w → TearsJournal b w
-  look_before tears = (is.tears ∙ tears.0, tears.1, subst (λ (n : ℕ). (word w 24 < n) ⊎ (word w 20 < n)) (sym is.sector) tears.2)
-
-  look_after : TearsJournal b w → TearsJournal a w
-  look_after tears = (sym is.tears ∙ tears.0, tears.1, subst (λ (n : ℕ). (word w 24 < n) ⊎ (word w 20 < n)) is.sector tears.2)
-
-  idle_looked : (r : Replayed) → IsIdle r b c → IsIdle r a c
-  idle_looked r x = record { hot = x.hot; records = x.records; size = x.size; bytes = look_bytes x.bytes; down = λ v down. x.down v (down_by v a b down is.log is.tears is.kept is.handed) }
-
-  pub replay_looked : (q : Result Replayed RollError) → ReplayAnswer db w q b c → ReplayAnswer db w q a c
-  replay_looked (Ok r) x = (x.0, λ tears. x.1 (look_before tears), record { rolled = x.2.rolled; idle = λ cold. idle_looked r (x.2.idle cold); cold = x.2.cold })
-  replay_looked (Err TooLarge) x = (x.0, look_bytes x.1)
-  replay_looked (Err SectorAbovePage) x = (x.0, look_after x.1, look_bytes x.2)
-  replay_looked (Err NoMemory) x = look_bytes x
-  replay_looked (Err Device) x = refusal_after a b c is.refused x
-  replay_looked (Err _) x = absurd x

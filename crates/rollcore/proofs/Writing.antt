@@ -1,5 +1,5 @@
 -- While pages are written into the file, what is left shows what it showed.
-use Rattle.std.proofs.Common.{◌≡◌, ◌≢◌, inl, inr, ⊎_elim, ℕ, ◌+◌, ◌-◌, ◌*◌, ◌/◌, ◌<◌, ◌≤◌, Bool, true, cond, List, length, get_or, refl, sym, ◌∙◌, ap, subst, arith}
+use Rattle.std.proofs.Common.{◌≡◌, ◌≢◌, inl, inr, ⊎_elim, ℕ, ◌+◌, ◌-◌, ◌*◌, ◌/◌, ◌<◌, ◌≤◌, Bool, true, false, cond, List, length, get_or, refl, sym, ◌∙◌, ap, subst, arith}
 use Rattle.std.specs.Prelude.{Result, IsTrue, nat_eq, Option, unwrap_or}
 use Rattle.std.proofs.lemmas.Bool.{cases_lt, cases_eq}
 use Rattle.std.proofs.lemmas.Bool.Decides.{nat_tests}
@@ -26,7 +26,7 @@ use Rattle.rollcore.specs.Phases.{Suits, Scanning, Unnamed, Writing, Filed}
 use Rattle.rollcore.specs.Steps.{ArePages}
 use Rattle.rollcore.proofs.Pages.{AreWhole, page_at, page_apart, page_within, sector_some, size_some, are_whole, page_sector, page_clear, cut_clear, get_or-file_page, page_by_bytes, file_count}
 use Rattle.rollcore.proofs.Suiting.{suits_syncs, suits_writes, suits_cuts}
-use Rattle.rollcore.proofs.Down.{present_image, shows_by, down_one, down_writes, down_cuts, down_syncs, file_syncs}
+use Rattle.rollcore.proofs.Down.{shows_by, down_one, down_writes, down_cuts, down_syncs, file_syncs}
 
 -- ---- On a disk that tears, a sector with a steady byte wasn't touched.
 
@@ -63,18 +63,18 @@ module _ (sector : ℕ) (s : FileState) (k b : ℕ) where
   torn_byte : (i : ℕ) → i / sector ≡ k → i < s.greatest → get_or (table s.greatest value) i 0 ≡ b
   torn_byte i e lt = get_or-table s.greatest value i lt ∙ value_in i e
 
-untouched : (sector : ℕ) (s : FileState) (i b : ℕ) → IsSound sector s → IsSteady sector true s i b → i < s.greatest → 0 < length (s.earlier (i / sector)) → ⊥
+pub untouched : (sector : ℕ) (s : FileState) (i b : ℕ) → IsSound sector s → IsSteady sector true s i b → i < s.greatest → 0 < length (s.earlier (i / sector)) → ⊥
 untouched sector s i b sound steady lt touched =
     let k : ℕ = i / sector in
     let zero_is : 0 ≡ b = sym (torn_byte sector s k 0 i refl lt) ∙ steady (table s.greatest (value sector s k 0)) (torn_image sector s k 0 sound touched (omega arith)) in
     let one_is : 1 ≡ b = sym (torn_byte sector s k 1 i refl lt) ∙ steady (table s.greatest (value sector s k 1)) (torn_image sector s k 1 sound touched (omega arith)) in
     omega arith
 
-whole_pages : (size : ℕ) (s : DiskState) → Suits size s → IsTrue s.tears → AreWhole size s.sector
+pub whole_pages : (size : ℕ) (s : DiskState) → Suits size s → IsTrue s.tears → AreWhole size s.sector
 whole_pages size s suits torn = are_whole size s.sector suits.pages suits.sectors (suits.whole torn)
 
 -- the places of a page whose bytes are all steady are clear
-page_is_clear : (size : ℕ) (s : DiskState) (p : ℕ) (c : List ℕ) → Suits size s → 1 ≤ p → ((i : ℕ) → i < size → IsSteady s.sector s.tears s.db (page_at size p + i) (get_or c i 0))
+pub page_is_clear : (size : ℕ) (s : DiskState) (p : ℕ) (c : List ℕ) → Suits size s → 1 ≤ p → ((i : ℕ) → i < size → IsSteady s.sector s.tears s.db (page_at size p + i) (get_or c i 0))
     → (i : ℕ) → i < size → IsClear s.sector s.tears s.db (page_at size p + i)
 page_is_clear size s p c suits some steady i lt torn far touched =
     let meets = suits.sound.db.touched ((page_at size p + i) / s.sector) touched in
@@ -138,7 +138,7 @@ module _ (size : ℕ) (w : List ℕ) (d : Database) where
   pub writing_shows : (s : DiskState) → Writing size w d s → ShowsAlone size d s
   writing_shows s is = shows_by size d s is.suits.sound (λ v. v ≡ w)
       (λ v left. down_one w s is.down s.sector s.tears v left.image)
-      (λ v are. down_one w s is.down s.sector s.tears v (present_image s.sector s.tears s.log v is.suits.sound.log are))
+      (λ v image. down_one w s is.down s.sector false v image)
       (λ db v image e. subst (λ (x : List ℕ). Show size db x d) (sym e)
       (show_by s is db (λ p a b un. page_by_bytes size db p (page d p) (is.full p a b) (λ i lt. is.steady p i a b un lt db image))))
 

@@ -40,7 +40,7 @@ module _ (size : ℕ) (d : Database) where
       (λ torn. is.torn torn v (subst (λ (t : Bool). IsImage s.sector t s.log v) torn left.image) (left.whole torn))
       (λ whole. is.listed v (subst (λ (t : Bool). IsImage s.sector t s.log v) whole left.image))
       (tears_or s.tears))
-      (λ v are. is.listed v (present_image s.sector false s.log v is.suits.sound.log are))
+      (λ v image. is.listed v image)
       (λ db v image same. record { hot = λ hot. (same hot db (is.file db image)).hot hot; cold = λ cold. is.file db image })
 
   -- what a sync of the log leaves

@@ -1,5 +1,5 @@
 -- When all that a crash may leave shows one database.
-use Rattle.std.specs.Prelude.{◌≡◌, ◌⊎◌, ℕ, ◌+◌, ◌-◌, ◌≤◌, true, List, [], ◌∷◌, length}
+use Rattle.std.specs.Prelude.{◌≡◌, ◌⊎◌, ℕ, ◌+◌, ◌-◌, ◌≤◌, true, false, List, [], ◌∷◌, length}
 use Rattle.std.specs.List.{Contains}
 use Rattle.sqval.specs.Bytes.{part}
 use Rattle.sqval.specs.Database.{Database}
@@ -35,7 +35,9 @@ pub record MayBeLeft (s : DiskState) (w : List ℕ) : Type 0 where
 abbrev pub Show : (size : ℕ) (db w : List ℕ) → Database → Type 0
 Show size db w d = IsRestored size db w d
 
--- all that a crash may leave shows it, and so do the bytes that are present
+-- all that a crash may leave shows it, and so do the bytes that are present, and all that may be present after a sync
+-- that fails
 pub record ShowsAlone (size : ℕ) (d : Database) (s : DiskState) : Type 0 where
   pub images : (db w : List ℕ) → IsImage s.sector s.tears s.db db → MayBeLeft s w → Show size db w d
+  pub listed : (db w : List ℕ) → IsImage s.sector s.tears s.db db → IsImage s.sector false s.log w → Show size db w d
   pub present : (db w : List ℕ) → ArePresent s.db db → ArePresent s.log w → Show size db w d

@@ -4,3 +4,15 @@ pub mod Replaying
 pub mod Phases
 pub mod Steps
 pub mod Plans
+pub mod Machine
+pub mod Premises
+pub mod Fits
+pub mod Commits
+pub mod Listing
+pub mod Journaling
+pub mod Segments
+pub mod Lengths
+pub mod Opening
+pub mod Paging
+pub mod Laws
+pub mod Rows

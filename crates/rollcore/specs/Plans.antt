@@ -5,7 +5,7 @@ use Rattle.sqjournal.specs.Header.{Names}
 use Rattle.sqjournal.specs.Journal.{IsHot}
 use Rattle.sqjournal.specs.Took.{Took}
 use Rattle.crashdisk.specs.Call.{DiskState}
-use Rattle.rollcore.specs.Refusal.{most_bytes}
+use Rattle.sqval.specs.CommitFaults.{most_bytes}
 use Rattle.rollcore.specs.Replaying.{IsTooLarge, HadRefusal}
 use Rattle.rollcore.specs.declared.plan.Plan.{Plan}
 use Rattle.rollcore.specs.declared.error.RollError.{RollError}

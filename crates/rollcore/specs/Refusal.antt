@@ -1,4 +1,4 @@
--- The numbers of the engine's refusals, and how large a database may be.
+-- The numbers of the engine's refusals.
 use Rattle.std.specs.Prelude.{ℕ}
 use Rattle.rollcore.specs.declared.error.RollError.{RollError}
 use Rattle.rollcore.specs.declared.error.RollError.TheVariants.{Closed, EmptyCommit, SizeZero, PageZero, PageAboveSize, PageTwice, HoleInGrowth, BadLength, TooLarge, PageSize, NoMemory, Device, NonceMissing, SectorAbovePage}
@@ -18,7 +18,3 @@ number_of NoMemory = 14
 number_of Device = 15
 number_of NonceMissing = 16
 number_of SectorAbovePage = 17
-
--- the most bytes of a database
-abbrev pub most_bytes : ℕ
-most_bytes = 1073741824

@@ -9,7 +9,7 @@ use Rattle.crashdisk.specs.State.{IsSettled, longest}
 use Rattle.crashdisk.specs.Call.{DiskState, ArePresent, Syncs}
 use Rattle.crashdisk.specs.declared.file.File.TheVariants.{Log}
 use Rattle.crashdisk.specs.declared.error.DiskError.{DiskError}
-use Rattle.rollcore.specs.Refusal.{most_bytes}
+use Rattle.sqval.specs.CommitFaults.{most_bytes}
 use Rattle.rollcore.specs.Alone.{ShowsAlone}
 use Rattle.rollcore.specs.declared.replaying.Replayed.{Replayed}
 use Rattle.rollcore.specs.declared.error.RollError.{RollError}

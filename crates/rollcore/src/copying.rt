@@ -1,16 +1,22 @@
 //! The pages of a journal's records are copied into the database, and the journal's header is zeroed.
-ghost use Rattle.std.specs.Prelude.{◌≡◌, ◌↔◌, ◌+◌, ◌*◌, ◌<◌, ◌≤◌, ℕ, List, length};
+ghost use Rattle.std.specs.Prelude.{◌≡◌, ◌↔◌, ◌+◌, ◌*◌, ◌<◌, ◌≤◌, ℕ, List, length, true};
 ghost use Rattle.sqval.specs.Bytes.{word};
 ghost use Rattle.sqval.specs.Database.{Database};
+ghost use Rattle.sqval.specs.Held.{IsHeld};
 ghost use Rattle.sqjournal.specs.Restored.{IsRolledBack};
 ghost use Rattle.sqjournal.specs.Took.{Took};
 ghost use Rattle.sqjournal.specs.Journal.{IsHot};
 ghost use Rattle.crashdisk.specs.Call.{DiskState, IsSoundDisk, ArePresent};
 ghost use Rattle.crashdisk.specs.declared.file.File.TheVariants.{Db, Log};
-ghost use Rattle.rollcore.specs.Refusal.{most_bytes};
+ghost use Rattle.sqval.specs.CommitFaults.{most_bytes};
 ghost use Rattle.rollcore.specs.Steps.{Still, KeepsLog, RecordAnswer, EntryAnswer, ArePages, CopyAnswer, SyncStep, ZeroSteps, EndAnswer};
 ghost use Rattle.rollcore.specs.Phases.{Writing};
 ghost use Rattle.rollcore.specs.Alone.{ShowsAlone};
+ghost use Rattle.rollcore.specs.Commits.{Goes, PutAnswer};
+ghost use Rattle.rollcore.specs.Segments.{Journaled};
+ghost use Rattle.rollcore.specs.Lengths.{EndsBy};
+ghost use Rattle.rollcore.specs.Replaying.{IsLogDown};
+ghost use Rattle.crashdisk.specs.State.{IsSectorSize};
 
 use crate::error::RollError;
 use crashdisk::{Disk, File};
@@ -111,6 +117,13 @@ pub fn finish<D: Disk>(disk: &mut D) -> Result<(), RollError>
     ensures ends { D.keeps_word disk.old → IsSoundDisk (D.state disk.old) → EndAnswer result (D.state disk.old) (D.state disk.new) }
     ensures shows { D.keeps_word disk.old → (size : ℕ) (w : List ℕ) (d : Database) → Writing size w d (D.state disk.old) → ArePages size d (D.state disk.old).db
         → ShowsAlone size d (D.state disk.new) }
+    ensures goes { D.keeps_word disk.old → IsSoundDisk (D.state disk.old) → Goes (D.state disk.old) (D.state disk.new) }
+    ensures lengths { D.keeps_word disk.old → IsSoundDisk (D.state disk.old) → IsSectorSize (D.state disk.old).sector
+        → (w : List ℕ) → IsLogDown (D.state disk.old) w → IsHot w → ((D.state disk.old).tears ≡ true → (D.state disk.old).sector ≤ word w 20)
+        → EndsBy (D.state disk.old).db.len (D.state disk.new) }
+    ensures commit { D.keeps_word disk.old → (size sector : ℕ) (d e : Database) (named : List ℕ) (place : ℕ) (w : List ℕ)
+        → Journaled size sector d named place w (D.state disk.old) → 0 < place → ArePages size e (D.state disk.old).db → IsHeld size e
+        → PutAnswer size d e result (D.state disk.old) (D.state disk.new) }
 {
     settle_database(disk)?;
     zero_header(disk)?; // once the database is down

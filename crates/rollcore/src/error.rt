@@ -1,9 +1,11 @@
 //! Why the engine refuses a call.
 ghost use Rattle.std.specs.Prelude.{◌≡◌};
+ghost use Rattle.sqval.specs.JudgedPages.{fault_number};
 ghost use Rattle.rollcore.specs.Refusal.{number_of};
 ghost use Rattle.rollcore.specs.declared.error.RollError.TheVariants.{Device, NoMemory};
 
 use crashdisk::DiskError;
+use sqval::CommitFault;
 use std::alloc::AllocError;
 use thiserror::Error;
 
@@ -91,5 +93,22 @@ impl From<DiskError> for RollError {
 
     fn from(_e: DiskError) -> RollError {
         RollError::Device
+    }
+}
+
+impl From<CommitFault> for RollError {
+    ghost from_gives = { λ fault e. number_of e ≡ fault_number fault };
+
+    fn from(fault: CommitFault) -> RollError {
+        match fault {
+            CommitFault::EmptyCommit => RollError::EmptyCommit,
+            CommitFault::SizeZero => RollError::SizeZero,
+            CommitFault::PageZero => RollError::PageZero,
+            CommitFault::PageAboveSize => RollError::PageAboveSize,
+            CommitFault::PageTwice => RollError::PageTwice,
+            CommitFault::HoleInGrowth => RollError::HoleInGrowth,
+            CommitFault::BadLength => RollError::BadLength,
+            CommitFault::TooLarge => RollError::TooLarge,
+        }
     }
 }

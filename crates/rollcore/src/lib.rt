@@ -1,13 +1,27 @@
 //! The engine over a rollback journal.
 #![tactic(auto)]
 
+mod changes;
+mod commits;
 mod copying;
 mod error;
+mod finishing;
+mod laws;
+mod opening;
+mod paging;
+mod parts;
 mod plan;
 mod reading;
 mod replaying;
+mod roll;
+mod segments;
+mod state;
 #[cfg(test)]
 mod tests;
+mod worked;
 
 pub use error::RollError;
+pub use laws::{a_base_fits, one_step, runs_are_sane, what_is_down_stays};
 pub use replaying::{Replayed, replay, replay_synced};
+pub use roll::{Refused, Roll, SEGMENT_RECORDS};
+pub use worked::{commits_are_whole, no_runs};

@@ -1,5 +1,5 @@
 //! What a replay is going to do.
-ghost use Rattle.std.specs.Prelude.{◌≡◌, ◌↔◌, ◌+◌, ◌≤◌, ℕ, List, length, IfOk, MatchOption};
+ghost use Rattle.std.specs.Prelude.{◌≡◌, ◌↔◌, ◌+◌, ◌*◌, ◌≤◌, ℕ, List, length, OnOk, IfOk, MatchOption};
 ghost use Rattle.crashdisk.specs.Call.{DiskState, IsSoundDisk, ArePresent};
 ghost use Rattle.sqjournal.specs.Took.{Took};
 ghost use Rattle.sqjournal.specs.Header.{Names};
@@ -14,7 +14,7 @@ use sqjournal::{JournalHeader, Replay};
 use std::alloc::Global;
 
 /// The most bytes of a database.
-const MOST_BYTES: u64 = 1073741824;
+pub const MOST_BYTES: u64 = 1073741824;
 
 /// A scanned journal that is hot, its first header, and room for one page.
 #[derive(Drop)]
@@ -27,7 +27,8 @@ pub struct Plan {
 /// Whether the database of a hot journal is too large, or sectors that tear, of this size, are larger than its pages
 /// or the sectors that it names.
 fn judge(header: &JournalHeader, torn: usize) -> Result<(), RollError>
-    ensures { (w : List ℕ) → IsHot w → Names w header.now → JudgeAnswer torn w result }
+    ensures judged { (w : List ℕ) → IsHot w → Names w header.now → JudgeAnswer torn w result }
+    ensures few { OnOk result (header.now.first_size * header.now.page_size ≤ 1073741824) }
 {
     let page_size = header.page_size.get();
     if u64::from(header.first_size) * u64::from(page_size) > MOST_BYTES {
@@ -43,6 +44,7 @@ fn judge(header: &JournalHeader, torn: usize) -> Result<(), RollError>
 fn plan_of(alloc: Global, scan: Replay, torn: usize) -> Result<Option<Plan>, RollError>
     ensures plan { (w : List ℕ) → Took w scan → PlanAnswer torn w result }
     ensures room { IfOk result (λ o. MatchOption o (Unit {0}) (λ p. length p.page.items ≤ 65536)) }
+    ensures few { IfOk result (λ o. MatchOption o (Unit {0}) (λ p. p.header.first_size * p.header.page_size ≤ 1073741824)) }
 {
     let Some(header) = scan.first() else {
         return Ok(None);
@@ -65,6 +67,7 @@ pub fn read_plan<D: Disk>(
         → (w : List ℕ) → ArePresent (D.state disk.old).log w → length w ≡ long
         → ReadAnswer torn w result (D.state disk.old) (D.state disk.new) }
     ensures room { IfOk result (λ o. MatchOption o (Unit {0}) (λ p. length p.page.items ≤ 65536)) }
+    ensures few { IfOk result (λ o. MatchOption o (Unit {0}) (λ p. p.header.first_size * p.header.page_size ≤ 1073741824)) }
 {
     match scan_log(alloc, disk, long)? {
         Some(scan) => plan_of(alloc, scan, torn),

@@ -1,5 +1,5 @@
 //! Recovery: a hot journal is replayed into its database.
-ghost use Rattle.std.specs.Prelude.{◌≡◌, ◌↔◌, ◌≤◌, ℕ, List, length};
+ghost use Rattle.std.specs.Prelude.{◌≡◌, ◌↔◌, ◌*◌, ◌≤◌, ℕ, List, length, IfOk, MatchOption};
 
 use crate::copying::{copy_records, finish};
 use crate::error::RollError;
@@ -21,12 +21,15 @@ ghost use Rattle.crashdisk.specs.State.{IsSectorSize};
 ghost use Rattle.sqval.specs.Database.{Database};
 ghost use Rattle.rollcore.specs.Alone.{ShowsAlone};
 ghost use Rattle.rollcore.specs.Phases.{Scanning};
-ghost use Rattle.rollcore.specs.Steps.{torn_sector, RolledAnswer};
-ghost use Rattle.rollcore.specs.Plans.{IsPlan, IsFit};
-ghost use Rattle.rollcore.specs.Replaying.{Replays, Agrees, SyncsFirst};
+ghost use Rattle.rollcore.specs.Steps.{torn_sector, Still, RolledAnswer};
+ghost use Rattle.rollcore.specs.Plans.{IsPlan, IsFit, ReadAnswer};
+ghost use Rattle.rollcore.specs.Replaying.{IsLogDown, Replays, Agrees, SyncsFirst};
+ghost use Rattle.rollcore.specs.Commits.{Goes};
+ghost use Rattle.rollcore.specs.Lengths.{EndsBy, KeepsLength};
+ghost use Rattle.sqval.specs.Bytes.{word};
 
 /// The size in bytes of a sector that may tear, 0 on a disk that doesn't tear.
-fn sector_that_tears<D: Disk>(disk: &D) -> usize
+pub(crate) fn sector_that_tears<D: Disk>(disk: &D) -> usize
     ensures sound { D.keeps_word disk.now → IsSoundDisk (D.state disk.now) }
     ensures sectors { D.keeps_word disk.now → IsSectorSize (D.state disk.now).sector }
     ensures value { D.keeps_word disk.now → result ≡ torn_sector (D.state disk.now) }
@@ -35,8 +38,24 @@ fn sector_that_tears<D: Disk>(disk: &D) -> usize
     if disk.tears() { sector } else { 0 }
 }
 
+/// Reads the journal and judges it. None where it isn't hot.
+pub(crate) fn find_plan<D: Disk>(alloc: Global, disk: &mut D) -> Result<Option<Plan>, RollError>
+    ensures word { D.keeps_word disk.old ↔ D.keeps_word disk.new }
+    ensures sound { D.keeps_word disk.old → IsSoundDisk (D.state disk.old) }
+    ensures sectors { D.keeps_word disk.old → IsSectorSize (D.state disk.old).sector }
+    ensures still { D.keeps_word disk.old → Still (D.state disk.old) (D.state disk.new) }
+    ensures plan { D.keeps_word disk.old → (w : List ℕ) → ArePresent (D.state disk.old).log w
+        → ReadAnswer (torn_sector (D.state disk.old)) w result (D.state disk.old) (D.state disk.new) }
+    ensures room { IfOk result (λ o. MatchOption o (Unit {0}) (λ p. length p.page.items ≤ 65536)) }
+    ensures few { IfOk result (λ o. MatchOption o (Unit {0}) (λ p. p.header.first_size * p.header.page_size ≤ 1073741824)) }
+{
+    let torn = sector_that_tears(disk);
+    let long = disk.len(File::Log)?;
+    read_plan(alloc, disk, long, torn)
+}
+
 /// Replays what is planned.
-fn replay_plan<D: Disk>(disk: &mut D, plan: Plan) -> Result<Replayed, RollError>
+pub(crate) fn replay_plan<D: Disk>(disk: &mut D, plan: Plan) -> Result<Replayed, RollError>
     requires { length plan.page.items ≤ 65536 }
     ensures word { D.keeps_word disk.old ↔ D.keeps_word disk.new }
     ensures replays { D.keeps_word disk.old → IsSoundDisk (D.state disk.old)
@@ -45,6 +64,10 @@ fn replay_plan<D: Disk>(disk: &mut D, plan: Plan) -> Result<Replayed, RollError>
     ensures shows { D.keeps_word disk.old → IsSoundDisk (D.state disk.old) → IsSectorSize (D.state disk.old).sector
         → (size : ℕ) (w : List ℕ) (d : Database) → Scanning size d w (D.state disk.old)
         → IsFit (torn_sector (D.state disk.old)) w → IsPlan w plan → ShowsAlone size d (D.state disk.new) }
+    ensures goes { D.keeps_word disk.old → IsSoundDisk (D.state disk.old) → Goes (D.state disk.old) (D.state disk.new) }
+    ensures ends { D.keeps_word disk.old → IsSoundDisk (D.state disk.old) → IsSectorSize (D.state disk.old).sector
+        → (w : List ℕ) → IsLogDown (D.state disk.old) w → IsFit (torn_sector (D.state disk.old)) w → IsPlan w plan → EndsBy (word w 16 * word w 24) (D.state disk.new) }
+    ensures size { IfOk result (λ r. r.size ≡ plan.header.first_size) }
 {
     let Plan {
         scan,
@@ -70,6 +93,7 @@ pub fn replay<D: Disk>(alloc: Global, disk: &mut D) -> Result<Replayed, RollErro
     ensures word { D.keeps_word disk.old ↔ D.keeps_word disk.new }
     ensures replays { D.keeps_word disk.old → Replays result (D.state disk.old) (D.state disk.new) }
     ensures agrees { D.keeps_word disk.old → Agrees (D.state disk.old) (D.state disk.new) }
+    ensures lengths { D.keeps_word disk.old → KeepsLength (D.state disk.old) (D.state disk.new) }
     ensures synced { D.keeps_word disk.old → SyncsFirst result (D.state disk.old) (D.state disk.new) }
 {
     disk.sync(File::Log)?;
@@ -81,10 +105,9 @@ pub fn replay_synced<D: Disk>(alloc: Global, disk: &mut D) -> Result<Replayed, R
     ensures word { D.keeps_word disk.old ↔ D.keeps_word disk.new }
     ensures replays { D.keeps_word disk.old → Replays result (D.state disk.old) (D.state disk.new) }
     ensures agrees { D.keeps_word disk.old → Agrees (D.state disk.old) (D.state disk.new) }
+    ensures lengths { D.keeps_word disk.old → KeepsLength (D.state disk.old) (D.state disk.new) }
 {
-    let torn = sector_that_tears(disk);
-    let long = disk.len(File::Log)?;
-    match read_plan(alloc, disk, long, torn)? {
+    match find_plan(alloc, disk)? {
         Some(plan) => replay_plan(disk, plan),
         None => Ok(Replayed {
             hot: false,

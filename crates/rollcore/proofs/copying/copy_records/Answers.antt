@@ -1,5 +1,5 @@
 use Rattle.std.proofs.Common.{◌≡◌, ◌≤◌, ◌<◌, ◌+◌, ◌*◌, ◌∙◌, ℕ, length, sym, ap, subst, arith}
-use Rattle.rollcore.specs.Refusal.{most_bytes}
+use Rattle.sqval.specs.CommitFaults.{most_bytes}
 use Rattle.rollcore.specs.Steps.{EntryAnswer}
 use Rattle.rollcore.specs.declared.error.RollError.TheVariants.{Device}
 use Rattle.rollcore.proofs.Stills.{passed, present_in}

@@ -5,7 +5,7 @@ use Rattle.sqjournal.specs.Journal.{Segment, IsJournal}
 use Rattle.sqjournal.specs.Took.{Took, HasCount}
 use Rattle.sqjournal.specs.declared.reading.Why.{Why}
 use Rattle.crashdisk.specs.Call.{IsSoundDisk, ArePresent}
-use Rattle.rollcore.specs.Refusal.{most_bytes}
+use Rattle.sqval.specs.CommitFaults.{most_bytes}
 use Rattle.rollcore.specs.Steps.{KeepsLog}
 use Rattle.rollcore.specs.Phases.{Writing}
 use Rattle.rollcore.proofs.Copies.{Upto}

@@ -3,6 +3,9 @@ use Rattle.crashdisk.specs.declared.file.File.TheVariants.{Db}
 use Rattle.rollcore.proofs.Stills.{passed}
 use Rattle.rollcore.proofs.Ending.{sync_later, sync_refused, zero_refused, end_refused, end_done}
 use Rattle.rollcore.proofs.Agreeing.{synced_shows, synced_filed, zeroed_shows}
+use Rattle.rollcore.proofs.Going.{goes_then, goes_sync, goes_zero}
+use Rattle.rollcore.proofs.Lengths.{ends_settled, ends_finished}
+use Rattle.rollcore.proofs.Closed.{synced_failed, zero_failed, zero_closed}
 use Rattle.rollcore.proofs.copying.finish.Goals as goal
 
 pub returns-in_err-settle_database-clause-ends : goal.returns-in_err-settle_database-clause-ends
@@ -31,3 +34,48 @@ returns-clause-ends g c = λ word sound.
 pub returns-clause-shows : goal.returns-clause-shows
 returns-clause-shows g c = λ word size w d is pages.
     zeroed_shows size w d c.zero_header.result _ _ (synced_filed size w d _ _ _ is pages (c.in_ok-settle_database.ensures.state word)) (c.zero_header.ensures.state (c.settle_database.ensures.word.0 word))
+
+pub returns-in_err-settle_database-clause-goes : goal.returns-in_err-settle_database-clause-goes
+returns-in_err-settle_database-clause-goes g c = λ word sound. goes_sync Db c.settle_database.result (g.D.Disk.state c.args.disk.now) (g.D.Disk.state c.settle_database.new.disk) sound (c.settle_database.ensures.state word)
+
+pub returns-in_err-zero_header-clause-goes : goal.returns-in_err-zero_header-clause-goes
+returns-in_err-zero_header-clause-goes g c = λ word sound.
+    let mid = goes_sync Db c.settle_database.result (g.D.Disk.state c.args.disk.now) (g.D.Disk.state c.settle_database.new.disk) sound (c.settle_database.ensures.state word) in
+    goes_then (g.D.Disk.state c.args.disk.now) (g.D.Disk.state c.settle_database.new.disk) (g.D.Disk.state c.zero_header.new.disk) mid
+    (goes_zero c.zero_header.result (g.D.Disk.state c.settle_database.new.disk) (g.D.Disk.state c.zero_header.new.disk) mid.sound (c.zero_header.ensures.state (c.settle_database.ensures.word.0 word)))
+
+pub returns-clause-goes : goal.returns-clause-goes
+returns-clause-goes g c = λ word sound.
+    let mid = goes_sync Db c.settle_database.result (g.D.Disk.state c.args.disk.now) (g.D.Disk.state c.settle_database.new.disk) sound (c.settle_database.ensures.state word) in
+    goes_then (g.D.Disk.state c.args.disk.now) (g.D.Disk.state c.settle_database.new.disk) (g.D.Disk.state c.zero_header.new.disk) mid
+    (goes_zero c.zero_header.result (g.D.Disk.state c.settle_database.new.disk) (g.D.Disk.state c.zero_header.new.disk) mid.sound (c.zero_header.ensures.state (c.settle_database.ensures.word.0 word)))
+
+pub returns-in_err-settle_database-clause-lengths : goal.returns-in_err-settle_database-clause-lengths
+returns-in_err-settle_database-clause-lengths g c = λ word sound sectors w down hot names.
+    ends_settled (g.D.Disk.state c.args.disk.now) (g.D.Disk.state c.settle_database.new.disk) _ w c.settle_database.result (c.settle_database.ensures.state word) down hot names
+
+pub returns-in_err-zero_header-clause-lengths : goal.returns-in_err-zero_header-clause-lengths
+returns-in_err-zero_header-clause-lengths g c = λ word sound sectors w down hot names.
+    ends_finished w (g.D.Disk.state c.args.disk.now) (g.D.Disk.state c.settle_database.new.disk) (g.D.Disk.state c.zero_header.new.disk) sound sectors down hot names _ (c.in_ok-settle_database.ensures.state word)
+    c.zero_header.result (c.zero_header.ensures.state (c.settle_database.ensures.word.0 word))
+
+pub returns-clause-lengths : goal.returns-clause-lengths
+returns-clause-lengths g c = λ word sound sectors w down hot names.
+    ends_finished w (g.D.Disk.state c.args.disk.now) (g.D.Disk.state c.settle_database.new.disk) (g.D.Disk.state c.zero_header.new.disk) sound sectors down hot names _ (c.in_ok-settle_database.ensures.state word)
+    c.zero_header.result (c.zero_header.ensures.state (c.settle_database.ensures.word.0 word))
+
+pub returns-in_err-settle_database-clause-commit : goal.returns-in_err-settle_database-clause-commit
+returns-in_err-settle_database-clause-commit g c = λ word size sector d e named place w is begun pages held.
+    synced_failed size sector d named place w begun e c.settle_database.result c.from_residual.result _ _ _ is c.in_err-settle_database.was (passed c.from_residual.result _ c.from_residual.ensures.1)
+    (c.settle_database.ensures.state word)
+
+pub returns-in_err-zero_header-clause-commit : goal.returns-in_err-zero_header-clause-commit
+returns-in_err-zero_header-clause-commit g c = λ word size sector d e named place w is begun pages held.
+    zero_failed size sector d named place w begun e c.settle_database.result _ (g.D.Disk.state c.args.disk.now) (g.D.Disk.state c.settle_database.new.disk) (g.D.Disk.state c.zero_header.new.disk) is pages held
+    c.in_ok-settle_database.was (c.settle_database.ensures.state word) c.zero_header.result c.from_residual-in_err-zero_header.result _ c.in_err-zero_header.was
+    (passed c.from_residual-in_err-zero_header.result _ c.from_residual-in_err-zero_header.ensures.1) (c.zero_header.ensures.state (c.settle_database.ensures.word.0 word))
+
+pub returns-clause-commit : goal.returns-clause-commit
+returns-clause-commit g c = λ word size sector d e named place w is begun pages held.
+    zero_closed size sector d named place w begun e c.settle_database.result _ (g.D.Disk.state c.args.disk.now) (g.D.Disk.state c.settle_database.new.disk) (g.D.Disk.state c.zero_header.new.disk) is pages held
+    c.in_ok-settle_database.was (c.settle_database.ensures.state word) c.zero_header.result _ tt c.in_ok-zero_header.was (c.zero_header.ensures.state (c.settle_database.ensures.word.0 word))

@@ -2,6 +2,9 @@ use Rattle.rollcore.specs.declared.error.RollError.TheVariants.{Device}
 use Rattle.rollcore.proofs.Stills.{passed}
 use Rattle.rollcore.proofs.Recovering.{sync_unreplayed, replay_after, goes_on, stays}
 use Rattle.rollcore.proofs.Agreeing.{agrees_by, scanning_shows, scanning_syncs}
+use Rattle.crashdisk.specs.declared.file.File.TheVariants.{Log}
+use Rattle.rollcore.proofs.Down.{down_syncs}
+use Rattle.rollcore.proofs.Lengths.{ends_resynced}
 use Rattle.rollcore.proofs.replaying.replay.Goals as goal
 
 pub returns-in_err-sync-clause-replays : goal.returns-in_err-sync-clause-replays
@@ -40,3 +43,12 @@ returns-clause-synced g c = λ word. record {
   sync = c.sync.ensures.state word;
   rest = goes_on c.sync.result _ c.replay_synced.result (g.D.Disk.state c.sync.new.self) (g.D.Disk.state c.replay_synced.new.disk) c.in_ok-sync.was (c.replay_synced.ensures.replays (c.sync.ensures.word.0 word)) (c.replay_synced.ensures.agrees (c.sync.ensures.word.0 word));
 }
+
+pub returns-in_err-sync-clause-lengths : goal.returns-in_err-sync-clause-lengths
+returns-in_err-sync-clause-lengths g c = λ word w n down same ends.
+    ends_resynced n w c.sync.result (g.D.Disk.state c.args.disk.now) (g.D.Disk.state c.sync.new.self) down (c.sync.ensures.state word) ends
+
+pub returns-clause-lengths : goal.returns-clause-lengths
+returns-clause-lengths g c = λ word w n down same ends.
+    c.replay_synced.ensures.lengths (c.sync.ensures.word.0 word) w n (down_syncs w Log c.sync.result _ _ down (c.sync.ensures.state word)) same
+    (ends_resynced n w c.sync.result (g.D.Disk.state c.args.disk.now) (g.D.Disk.state c.sync.new.self) down (c.sync.ensures.state word) ends)

@@ -1,10 +1,12 @@
-use Rattle.std.proofs.Common.{◌≡◌, length, refl}
-use Rattle.crashdisk.specs.State.{byte}
+use Rattle.std.proofs.Common.{◌≡◌, ℕ, length, refl, sym, subst}
+use Rattle.crashdisk.specs.State.{byte, IsSectorSize}
+use Rattle.rollcore.specs.Lengths.{EndsBy}
 use Rattle.crashdisk.proofs.Images.{table}
 use Rattle.crashdisk.proofs.Steps.{present_list}
 use Rattle.rollcore.proofs.Stills.{passed, present_in}
-use Rattle.rollcore.proofs.Down.{down_present}
+use Rattle.rollcore.proofs.Down.{down_present, down_by}
 use Rattle.rollcore.proofs.Recovering.{planned, rolled_copy, rolled_end, rolled_done, copy_done, writing_at, pages_at, rolled_present}
+use Rattle.rollcore.proofs.Lengths.{ends_hot, named_by, fit_named, rolled_length}
 use Rattle.rollcore.proofs.Writing.{writing_shows}
 use Rattle.rollcore.proofs.Agreeing.{fit_begins}
 use Rattle.rollcore.proofs.replaying.replay_plan.Goals as goal
@@ -65,3 +67,36 @@ returns-clause-shows g c = λ word sound sectors size w d scanning fit is.
     (writing_at (length c.deref_mut.result.now) size w d _ _ p.same (c.copy_records.ensures.writing word sound w d are is.took p.within p.first) begun)
     (pages_at (length c.deref_mut.result.now) size w d s (g.D.Disk.state c.copy_records.new.disk) p.same begun (copy_done (length c.deref_mut.result.now) d c.copy_records.result _ _ _ c.in_ok-copy_records.was
     (c.copy_records.ensures.pages word sound now w d (present_list s.db) are is.took fit.hot p.same p.first p.within (rolled_present size w d s fit.hot scanning))))
+
+pub returns-in_err-copy_records-clause-ends : goal.returns-in_err-copy_records-clause-ends
+returns-in_err-copy_records-clause-ends g c = λ word sound sectors w down fit is.
+    let a = g.D.Disk.state c.args.disk.now in
+    let b = g.D.Disk.state c.copy_records.new.disk in
+    let log = c.copy_records.ensures.log word sound in
+    ends_hot w b (down_by w a b down log.log log.tears log.kept log.handed) _ fit.hot (named_by w a b log.sector log.tears (fit_named w a fit))
+
+pub returns-in_err-finish-clause-ends : goal.returns-in_err-finish-clause-ends
+returns-in_err-finish-clause-ends g c = λ word sound sectors w down fit is.
+    let a = g.D.Disk.state c.args.disk.now in
+    let b = g.D.Disk.state c.copy_records.new.disk in
+    let now = table a.db.len (byte a.db) in
+    let log = c.copy_records.ensures.log word sound in
+    let e : length c.deref_mut.result.now ≡ length c.args.plan.page.items = cc in
+    let p = planned w now _ (length c.deref_mut.result.now) c.args.plan fit is e in
+    let pages = copy_done (length c.deref_mut.result.now) p.pages c.copy_records.result _ _ _ c.in_ok-copy_records.was
+    (c.copy_records.ensures.pages word sound now w p.pages (present_list a.db) (down_present w a down) is.took fit.hot p.same p.first p.within p.rolled) in
+    subst (λ (n : ℕ). EndsBy n (g.D.Disk.state c.finish.new.disk)) (rolled_length w now p.pages (length c.deref_mut.result.now) b pages p.rolled p.same)
+    (c.finish.ensures.lengths (c.copy_records.ensures.word.0 word) log.sound (subst IsSectorSize (sym log.sector) sectors) w (down_by w a b down log.log log.tears log.kept log.handed) fit.hot (named_by w a b log.sector log.tears (fit_named w a fit)))
+
+pub returns-clause-ends : goal.returns-clause-ends
+returns-clause-ends g c = λ word sound sectors w down fit is.
+    let a = g.D.Disk.state c.args.disk.now in
+    let b = g.D.Disk.state c.copy_records.new.disk in
+    let now = table a.db.len (byte a.db) in
+    let log = c.copy_records.ensures.log word sound in
+    let e : length c.deref_mut.result.now ≡ length c.args.plan.page.items = cc in
+    let p = planned w now _ (length c.deref_mut.result.now) c.args.plan fit is e in
+    let pages = copy_done (length c.deref_mut.result.now) p.pages c.copy_records.result _ _ _ c.in_ok-copy_records.was
+    (c.copy_records.ensures.pages word sound now w p.pages (present_list a.db) (down_present w a down) is.took fit.hot p.same p.first p.within p.rolled) in
+    subst (λ (n : ℕ). EndsBy n (g.D.Disk.state c.finish.new.disk)) (rolled_length w now p.pages (length c.deref_mut.result.now) b pages p.rolled p.same)
+    (c.finish.ensures.lengths (c.copy_records.ensures.word.0 word) log.sound (subst IsSectorSize (sym log.sector) sectors) w (down_by w a b down log.log log.tears log.kept log.handed) fit.hot (named_by w a b log.sector log.tears (fit_named w a fit)))

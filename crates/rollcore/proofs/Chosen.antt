@@ -1,0 +1,44 @@
+-- What a step may answer, and that it leads to one state alone.
+use Rattle.std.proofs.Common.{◌≡◌, ◌⊎◌, inl, inr, ℕ, Bool, true, false, IsTrue, List, Option, Some, None, refl, sym, ◌∙◌, ap}
+use Rattle.sqval.specs.Database.{Pages, page}
+use Rattle.sqval.specs.Answers.{Files, Answer, Done, Page, Refused, Refuses, PlainStep}
+use Rattle.rollcore.specs.Machine.{Act, Opens, Commits, Reads, Crashes, Sets, State, newest, closed, appended, commit_refusal, read_refusal, OpenStep, CommitStep, ReadStep, Step}
+use Rattle.rollcore.specs.Laws.{told, is_accepted, IsShort, IsExpected}
+
+abbrev IsOf : Answer → (takes_memory needs_disk : Bool) → Answer → (before after : ℕ) → Type 0
+IsOf wanted m d answer b a = (answer ≡ wanted) ⊎ (IsTrue (is_accepted wanted) × IsShort m d answer b a)
+
+refused_of : {S : Type 0} (first : Option ℕ) (good : Answer) (m : Bool) (failed : S) (b a : ℕ) (old : S) (n : ℕ) (t : S) → IsTrue (is_accepted good)
+    → Refuses first m failed b a old n t → IsOf (told first good) m true (Refused n) b a
+refused_of (Some k) good m failed b a old n t is h = inl (ap Refused h.0)
+refused_of None good m failed b a old n t is (inl h) = inr (is, inl (h.0, ap Refused h.1))
+refused_of None good m failed b a old n t is (inr h) = inr (is, inr (refl, ap Refused h.0, h.1))
+
+accepted : (first : Option ℕ) (good : Answer) → first ≡ None → good ≡ told first good
+accepted first good e = sym (ap (λ f. told f good) e)
+
+open_of : (s : State) (found : Files) (answer : Answer) (b a : ℕ) (t : State) → OpenStep s found answer b a t → IsOf Done true true answer b a
+open_of s found Done b a t h = inl refl
+open_of s found (Refused n) b a t h = inr (refl, elim h.0 [ inl e ↦ inl (refl, ap Refused e) | inr e ↦ inr (refl, ap Refused e.0, e.1) ])
+open_of s found _ b a t h = absurd h
+
+commit_of : (s : State) (pages : Pages) (size : ℕ) (nonces : List ℕ) (answer : Answer) (b a : ℕ) (t : State) → CommitStep s pages size nonces answer b a t → IsOf (told (commit_refusal s pages size nonces) Done) true true answer b a
+commit_of s pages size nonces Done b a t h = inl (accepted (commit_refusal s pages size nonces) Done h.0)
+commit_of s pages size nonces (Refused n) b a t h = refused_of (commit_refusal s pages size nonces) Done true (closed (appended s pages size)) b a s n t refl h
+commit_of s pages size nonces _ b a t h = absurd h
+
+read_of : (s : State) (number : ℕ) (answer : Answer) (b a : ℕ) (t : State) → ReadStep s number answer b a t → IsOf (told (read_refusal s number) (Page (page (newest s) number))) false true answer b a
+read_of s number (Page bytes) b a t h = inl (ap Page h.1 ∙ accepted (read_refusal s number) (Page (page (newest s) number)) h.0)
+read_of s number (Refused n) b a t h = refused_of (read_refusal s number) (Page (page (newest s) number)) false s b a s n t refl h
+read_of s number _ b a t h = absurd h
+
+plain_of : (target : State) (answer : Answer) (b a : ℕ) (t : State) → PlainStep target answer t → IsOf Done false false answer b a
+plain_of target Done b a t h = inl refl
+plain_of target _ b a t h = absurd h
+
+pub step_of : (s : State) (act : Act) (answer : Answer) (b a : ℕ) (t : State) → Step s act answer b a t → IsExpected s act answer b a
+step_of s (Opens found) answer b a t h = open_of s found answer b a t h
+step_of s (Commits pages size nonces) answer b a t h = commit_of s pages size nonces answer b a t h
+step_of s (Reads number) answer b a t h = read_of s number answer b a t h
+step_of s (Crashes left) answer b a t h = plain_of (closed s) answer b a t h
+step_of s Sets answer b a t h = plain_of s answer b a t h

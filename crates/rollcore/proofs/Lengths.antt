@@ -1,0 +1,172 @@
+-- How long the file is that may be left, while a journal is replayed into it.
+use Rattle.std.proofs.Common.{◌≡◌, inr, ⊎_elim, ℕ, ◌+◌, ◌*◌, ◌≤◌, max, Bool, true, false, cond, List, [], ◌∷◌, ◌++◌, length, get_or, replicate, sym, ◌∙◌, ap, subst, arith}
+use Rattle.std.specs.Prelude.{Result, Ok, Err}
+use Rattle.std.proofs.lemmas.List.{get_or-replicate, get_or_past, length-replicate}
+use Rattle.std.proofs.lemmas.Bool.{cases_lt}
+use Rattle.sqval.specs.Bytes.{word}
+use Rattle.sqval.specs.Database.{Database}
+use Rattle.sqjournal.specs.Journal.{IsHot}
+use Rattle.sqjournal.specs.Restored.{IsRolledBack}
+use Rattle.crashdisk.specs.State.{FileState, IsImage, IsSound, IsSectorSize, WriteTouches, written, Changed}
+use Rattle.crashdisk.specs.Call.{DiskState, IsSoundDisk, ChangedBy, Writes, Syncs, with_write}
+use Rattle.crashdisk.specs.declared.file.File.TheVariants.{Db, Log}
+use Rattle.crashdisk.specs.declared.error.DiskError.{DiskError}
+use Rattle.crashdisk.specs.declared.error.DiskError.TheVariants.{Stopped, Failed, TooLong, NoMemory}
+use Rattle.crashdisk.proofs.Settled.{settled_one}
+use Rattle.crashdisk.proofs.Steps.{image_elsewhere}
+use Rattle.rollcore.specs.Alone.{AreWhole}
+use Rattle.rollcore.specs.Replaying.{IsLogDown}
+use Rattle.rollcore.specs.Steps.{torn_sector, ArePages, Told, SyncStep, ZeroSteps}
+use Rattle.rollcore.specs.Plans.{IsFit}
+use Rattle.rollcore.specs.Fits.{MayBeRead}
+use Rattle.rollcore.specs.Lengths.{EndsBy}
+use Rattle.rollcore.specs.declared.error.RollError.{RollError}
+use Rattle.rollcore.proofs.Journals.{SameBehind, word_same}
+use Rattle.rollcore.proofs.Pages.{sector_some}
+use Rattle.rollcore.proofs.Down.{down_one, down_left, down_syncs}
+use Rattle.rollcore.proofs.Going.{goes_writes, goes_sync, sectors_go}
+use Rattle.rollcore.proofs.Narrowing.{read_cases, narrows_syncs, ends_narrow}
+use Rattle.rollcore.proofs.Zeros.{zeroed_listed, zeroed_torn}
+
+-- each file that a crash may leave is so long
+abbrev pub IsLong : (n : ℕ) → DiskState → Type 0
+IsLong n s = (db : List ℕ) → IsImage s.sector s.tears s.db db → length db ≡ n
+
+-- where a hot journal names no smaller sectors than those that tear
+abbrev pub IsNamed : List ℕ → DiskState → Type 0
+IsNamed w s = s.tears ≡ true → s.sector ≤ word w 20
+
+-- ---- the log alone is left
+
+module _ (w : List ℕ) (s : DiskState) (down : IsLogDown s w) where
+  pub down_read : (v : List ℕ) → MayBeRead s v → v ≡ w
+  down_read v may = ⊎_elim (λ listed. down_one w s down s.sector false v listed) (λ left. down_one w s down s.sector s.tears v left.image) may
+
+  pub may_down : MayBeRead s w
+  may_down = inr (down_left w s down)
+
+  pub ends_down : (n : ℕ) → ((IsHot w → ⊥) → IsLong n s) → (IsHot w → IsNamed w s) → EndsBy n s
+  ends_down n long names = record {
+    cold = λ db v image may cold. long (λ hot. cold (subst IsHot (sym (down_read v may)) hot)) db image;
+    sectors = λ torn v may hot. subst (λ (x : List ℕ). s.sector ≤ word x 20) (sym (down_read v may)) (names (subst IsHot (down_read v may) hot) torn);
+  }
+
+  pub ends_hot : (n : ℕ) → IsHot w → IsNamed w s → EndsBy n s
+  ends_hot n hot names = ends_down n (λ cold. absurd (cold hot)) (λ here. names)
+
+pub named_by : (w : List ℕ) (s t : DiskState) → t.sector ≡ s.sector → t.tears ≡ s.tears → IsNamed w s → IsNamed w t
+named_by w s t sector tears names torn = subst (λ (n : ℕ). n ≤ word w 20) (sym sector) (names (sym tears ∙ torn))
+
+pub fit_named : (w : List ℕ) (s : DiskState) → IsFit (torn_sector s) w → IsNamed w s
+fit_named w s fit torn = subst (λ (b : Bool). cond b s.sector 0 ≤ word w 20) torn fit.sector
+
+-- ---- the file is so long as it is when it is synced
+
+module _ {T : Type 0} (old new : DiskState) where
+  long_synced : (v : T) (called : Result T DiskError) → Told called (Ok v) → Syncs Db called old new → IsLong old.db.len new
+  long_synced v (Ok x) told synced db image =
+      let least : old.db.len ≤ length db = subst (λ (k : ℕ). k ≤ length db) synced.file.least image.least in
+      let greatest : length db ≤ old.db.len = subst (λ (k : ℕ). length db ≤ k) synced.file.greatest image.greatest in
+      omega arith
+  long_synced v (Err e) told synced db image = absurd told
+
+  pub long_done : (v : T) → SyncStep {T = T} Db (Ok v) old new → IsLong old.db.len new
+  long_done v step = long_synced v step.0 step.1 step.2
+
+  -- a sync of the file, whatever was answered
+  pub ends_settled : (n : ℕ) (w : List ℕ) (r : Result T RollError) → SyncStep Db r old new → IsLogDown old w → IsHot w → IsNamed w old → EndsBy n new
+  ends_settled n w r step down hot names = ends_hot w new (down_syncs w Db step.0 old new down step.2) n hot (named_by w old new step.2.elsewhere.sector step.2.elsewhere.tears names)
+
+-- ---- the header is zeroed
+
+zeros : List ℕ
+zeros = replicate 28 0
+
+short : length zeros ≡ 28
+unfolding zeros
+short = length-replicate {A = ℕ} 28 0
+
+zero_at : (i : ℕ) → get_or zeros i 0 ≡ 0
+unfolding zeros
+zero_at i = ⊎_elim (λ lt. get_or-replicate 28 i 0 0 lt) (λ past. get_or_past (replicate 28 0) i 0 (omega (arith, length-replicate {A = ℕ} 28 0))) (cases_lt i 28)
+
+same_word : (w v : List ℕ) → SameBehind (word w 20) w v → word v 20 ≡ word w 20
+same_word w v s = word_same v w 20 s.long (λ i a b. s.front i (omega arith))
+
+module _ (w : List ℕ) (old new : DiskState) (sound : IsSoundDisk old) (sectors : IsSectorSize old.sector) (down : IsLogDown old w) (hot : IsHot w) (names : IsNamed w old) where
+  changed_by : {T : Type 0} (result : Result T DiskError) → Type 0
+  changed_by result = ChangedBy old.sector (WriteTouches old.sector old.log 0 zeros) (written old.log 0 zeros) (max old.log.len (0 + length zeros)) result old.log new.log
+
+  same_log : new.log ≡ old.log → (tears : Bool) (v : List ℕ) → IsImage old.sector tears new.log v → word v 20 ≡ word w 20
+  same_log e tears v image = ap (λ (x : List ℕ). word x 20) (settled_one old.log w down.settled old.sector tears v (subst (λ (s : FileState). IsImage old.sector tears s v) e image))
+
+  listed_word : {T : Type 0} (result : Result T DiskError) → IsSound old.sector new.log → changed_by result → (v : List ℕ) → IsImage old.sector false new.log v → IsHot v → word v 20 ≡ word w 20
+  unfolding changed_by
+  listed_word (Ok u) after changed v image here = ap (λ (x : List ℕ). word x 20) (zeroed_listed old.sector w zeros old.log new.log (sector_some old.sector sectors) down.settled hot short zero_at sound.log after changed.0 v image here)
+  listed_word (Err Failed) after changed v image here = ap (λ (x : List ℕ). word x 20) (zeroed_listed old.sector w zeros old.log new.log (sector_some old.sector sectors) down.settled hot short zero_at sound.log after changed v image here)
+  listed_word (Err Stopped) after e v image here = same_log e false v image
+  listed_word (Err TooLong) after e v image here = same_log e false v image
+  listed_word (Err NoMemory) after e v image here = same_log e false v image
+
+  put_word : old.tears ≡ true → IsSound old.sector new.log → Changed old.sector (WriteTouches old.sector old.log 0 zeros) (written old.log 0 zeros) (max old.log.len (0 + length zeros)) old.log new.log → new.kept ≡ old.kept → new.handed ≡ old.handed ++ (0, zeros) ∷ []
+      → (v : List ℕ) → IsImage old.sector true new.log v → AreWhole new.kept new.handed v → IsHot v → word v 20 ≡ word w 20
+  put_word torn after changed kept handed v image whole here =
+      same_word w v (zeroed_torn old.sector w zeros old.log new.log (sector_some old.sector sectors) down.settled hot short zero_at sound.log after changed v (names torn) image
+      (subst (λ (x : List ℕ). AreWhole x ((0, zeros) ∷ []) v) (kept ∙ down.kept torn)
+      (subst (λ (x : List (ℕ × List ℕ)). AreWhole new.kept x v) (handed ∙ ap (λ (x : List (ℕ × List ℕ)). x ++ (0, zeros) ∷ []) down.handed) whole)) here)
+
+  torn_word : {T : Type 0} (result : Result T DiskError) → old.tears ≡ true → IsSound old.sector new.log → changed_by result → new.kept ≡ old.kept → new.handed ≡ with_write true Log result 0 zeros old.handed
+      → (v : List ℕ) → IsImage old.sector true new.log v → AreWhole new.kept new.handed v → IsHot v → word v 20 ≡ word w 20
+  unfolding changed_by
+  torn_word (Ok u) torn after changed kept handed v image whole here = put_word torn after changed.0 kept handed v image whole here
+  torn_word (Err Failed) torn after changed kept handed v image whole here = put_word torn after changed kept handed v image whole here
+  torn_word (Err Stopped) torn after e kept handed v image whole here = same_log e true v image
+  torn_word (Err TooLong) torn after e kept handed v image whole here = same_log e true v image
+  torn_word (Err NoMemory) torn after e kept handed v image whole here = same_log e true v image
+
+  written_word : {T : Type 0} (result : Result T DiskError) → Writes Log 0 zeros result old new → (v : List ℕ) → MayBeRead new v → IsHot v → word v 20 ≡ word w 20
+  unfolding changed_by
+  written_word result wrote v may here =
+      let goes = goes_writes Log 0 zeros result old new sound wrote in
+      let after : IsSound old.sector new.log = subst (λ (n : ℕ). IsSound n new.log) wrote.elsewhere.sector goes.sound.log in
+      ⊎_elim
+      (λ listed. listed_word result after wrote.file v (subst (λ (n : ℕ). IsImage n false new.log v) wrote.elsewhere.sector listed) here)
+      (λ left.
+      let was : old.tears ≡ true = sym wrote.elsewhere.tears ∙ left.0 in
+      torn_word result was after wrote.file wrote.kept (subst (λ (t : Bool). new.handed ≡ with_write t Log result 0 zeros old.handed) was wrote.handed)
+      v (subst (λ (n : ℕ). IsImage n true new.log v) wrote.elsewhere.sector left.1) left.2 here)
+      (read_cases new v may)
+
+  ends_written : {T : Type 0} (n : ℕ) (result : Result T DiskError) → Writes Log 0 zeros result old new → IsLong n old → EndsBy n new
+  ends_written n result wrote long = record {
+    cold = λ db v image may cold. long db (image_elsewhere Log result old new wrote.elsewhere db image);
+    sectors = λ torn v may here. subst (λ (k : ℕ). new.sector ≤ k) (sym (written_word result wrote v may here)) (named_by w old new wrote.elsewhere.sector wrote.elsewhere.tears names torn);
+  }
+
+module _ {T : Type 0} (w : List ℕ) (old new : DiskState) (sound : IsSoundDisk old) (sectors : IsSectorSize old.sector) (down : IsLogDown old w) (hot : IsHot w) (names : IsNamed w old) where
+  pub ends_zeroed : (n : ℕ) (r : Result T RollError) → ZeroSteps r old new → IsLong n old → EndsBy n new
+  unfolding zeros
+  ends_zeroed n r steps long = ⊎_elim
+      (λ failed. ends_written w old new sound sectors down hot names n failed.0 failed.3 long)
+      (λ done.
+      let mid = goes_writes Log 0 zeros (Ok done.1.0) old done.0 sound done.1.1 in
+      ends_narrow done.0 new (narrows_syncs Log done.2.0 done.0 new mid.sound done.2.2) n
+      (ends_written w old done.0 sound sectors down hot names n (Ok done.1.0) done.1.1 long))
+      steps
+
+-- the file is synced, and then the header zeroed
+pub ends_finished : {T U : Type 0} (w : List ℕ) (old mid new : DiskState) → IsSoundDisk old → IsSectorSize old.sector → IsLogDown old w → IsHot w → IsNamed w old → (v : T) → SyncStep {T = T} Db (Ok v) old mid
+    → (r : Result U RollError) → ZeroSteps r mid new → EndsBy old.db.len new
+ends_finished {T = T} w old mid new sound sectors down hot names v step r steps =
+    let goes = goes_sync {T = T} Db (Ok v) old mid sound step in
+    ends_zeroed w mid new goes.sound (sectors_go old mid goes sectors) (down_syncs w Db step.0 old mid down step.2) hot (named_by w old mid goes.sector goes.tears names) old.db.len r steps (long_done old mid v step)
+
+-- the pages that a hot journal restores
+pub rolled_length : (w db : List ℕ) (d : Database) (n : ℕ) (b : DiskState) → ArePages n d b.db → IsRolledBack db w d → n ≡ word w 24 → b.db.len ≡ word w 16 * word w 24
+rolled_length w db d n b pages rolled same = pages.len ∙ ap (λ (k : ℕ). k * n) rolled.count ∙ ap (λ (k : ℕ). word w 16 * k) same
+
+-- the log that is down is synced again, whatever was answered
+pub ends_resynced : {T : Type 0} (n : ℕ) (w : List ℕ) (result : Result T DiskError) (old new : DiskState) → IsLogDown old w → Syncs Log result old new → EndsBy n old → EndsBy n new
+ends_resynced n w result old new down synced ends = ends_down w new (down_syncs w Log result old new down synced) n
+    (λ cold db image. ends.cold db w (image_elsewhere Log result old new synced.elsewhere db image) (may_down w old down) cold)
+    (λ hot. named_by w old new synced.elsewhere.sector synced.elsewhere.tears (λ torn. ends.sectors torn w (may_down w old down) hot))

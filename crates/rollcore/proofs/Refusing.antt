@@ -1,0 +1,139 @@
+-- What refuses an opening, whatever stands on the disk.
+use Rattle.std.proofs.Common.{◌≡◌, ◌≢◌, ◌⊎◌, inl, inr, ⊎_elim, ℕ, ◌+◌, ◌*◌, ◌<◌, ◌≤◌, Bool, true, false, cond, List, length, refl, sym, ◌∙◌, ap, subst, arith}
+use Rattle.std.specs.Prelude.{Result, Ok, Err, IfErr, Option}
+use Rattle.sqval.specs.Bytes.{word}
+use Rattle.sqval.specs.CommitFaults.{most_bytes}
+use Rattle.sqjournal.specs.Journal.{IsHot}
+use Rattle.crashdisk.specs.State.{FileState}
+use Rattle.crashdisk.specs.Call.{DiskState, IsSoundDisk, ArePresent, Syncs}
+use Rattle.crashdisk.specs.declared.file.File.TheVariants.{Log}
+use Rattle.crashdisk.specs.declared.error.DiskError.{DiskError}
+use Rattle.rollcore.specs.Replaying.{HadRefusal, KeepsBytes, TearsJournal, IsTooLarge}
+use Rattle.rollcore.specs.Steps.{torn_sector, Still, Told, SyncStep, RolledAnswer}
+use Rattle.rollcore.specs.Plans.{PlanAnswer, ReadAnswer}
+use Rattle.rollcore.specs.Opening.{CountAnswer, SizeJudged, BreakSteps, TearsPages, RefusedFor}
+use Rattle.rollcore.specs.declared.plan.Plan.{Plan}
+use Rattle.rollcore.specs.declared.replaying.Replayed.{Replayed}
+use Rattle.rollcore.specs.declared.error.RollError.{RollError}
+use Rattle.rollcore.specs.declared.error.RollError.TheVariants.{TooLarge, PageSize, NoMemory, Device, SectorAbovePage}
+use Rattle.rollcore.proofs.Ending.{sync_refused}
+use Rattle.rollcore.proofs.Recovering.{tears_by}
+use Rattle.rollcore.proofs.Going.{goes_sync}
+use Rattle.rollcore.proofs.Stills.{refusal_after, present_in}
+use Rattle.rollcore.proofs.Copies.{present_byte}
+use Rattle.rollcore.proofs.Ending.{told_ok}
+use Rattle.crashdisk.proofs.Steps.{present_synced}
+
+-- an answer that is an error
+pub if_err : {T : Type 0} (q : Result T RollError) (e : RollError) (P : RollError → Type 0) → q ≡ Err e → P e → IfErr q P
+if_err {T = T} q e P is p = subst (λ (x : Result T RollError). IfErr x P) (sym is) p
+
+pub from_err : {T : Type 0} (q : Result T RollError) (e : RollError) (P : RollError → Type 0) → q ≡ Err e → IfErr q P → P e
+from_err {T = T} q e P is p = subst (λ (x : Result T RollError). IfErr x P) is p
+
+-- what is refused by Device
+pub refused_device : (size : ℕ) (db w : List ℕ) (e : RollError) (a b : DiskState) → (e ≡ Device) × HadRefusal a b → RefusedFor size db w e a b
+refused_device size db w e a b had = subst (λ (x : RollError). RefusedFor size db w x a b) (sym had.0) had.1
+
+still_bytes : (a b : DiskState) → Still a b → KeepsBytes a b
+still_bytes a b is = record { db = is.db; log = λ bytes here. present_in a.log b.log bytes is.log here }
+
+module _ (size : ℕ) (db w : List ℕ) (s : DiskState) (are_db : ArePresent s.db db) where
+  module _ (a : DiskState) (is : Still s a) where
+    refused_read : (e : RollError) → ReadAnswer (torn_sector s) w (Err e) s a → RefusedFor size db w e s a
+    unfolding ReadAnswer PlanAnswer
+    refused_read TooLarge x = (inl x, still_bytes s a is)
+    refused_read SectorAbovePage x = (tears_by w s x.0 x.2, still_bytes s a is)
+    refused_read NoMemory x = still_bytes s a is
+    refused_read Device x = x
+    refused_read _ x = absurd x
+
+    pub read_refuses : (r : Result (Option Plan) RollError) (e : RollError) → r ≡ Err e → ReadAnswer (torn_sector s) w r s a → RefusedFor size db w e s a
+    read_refuses r e was answer = refused_read e (subst (λ (x : Result (Option Plan) RollError). ReadAnswer (torn_sector s) w x s a) was answer)
+
+    refused_size : (T : Type 0) → IsHot w → (e : RollError) → SizeJudged {T = T} size w (Err e) → RefusedFor size db w e s a
+    refused_size T hot PageSize x = (inl (hot, x), still_bytes s a is)
+    refused_size T hot _ x = absurd x
+
+    pub size_refuses : {T : Type 0} → IsHot w → (r : Result T RollError) (e : RollError) → r ≡ Err e → SizeJudged size w r → RefusedFor size db w e s a
+    size_refuses {T = T} hot r e was answer = refused_size T hot e (subst (λ (x : Result T RollError). SizeJudged size w x) was answer)
+
+    pub replay_refuses : (b : DiskState) (r : Result Replayed RollError) (e : RollError) → r ≡ Err e → RolledAnswer db w r a b → RefusedFor size db w e s b
+    unfolding RolledAnswer
+    replay_refuses b r e was answer =
+        let had = subst (λ (x : Result Replayed RollError). RolledAnswer db w x a b) was answer in
+        refused_device size db w e s b (had.0, refusal_after s a b is.refused had.1)
+
+    -- the file's pages are counted
+    module _ (cold : IsHot w → ⊥) (b : DiskState) (all : Still s b) where
+      long : a.db.len ≡ length db
+      long = ap (λ (f : FileState). f.len) is.db ∙ sym are_db.len
+
+      refused_count : (e : RollError) → CountAnswer size a.db.len (Err e) a b → RefusedFor size db w e s b
+      refused_count PageSize x = (inr (cold, λ n one e. x n one (e ∙ sym long)), still_bytes s b all)
+      refused_count TooLarge x = (inr (cold, omega (arith, x, long)), still_bytes s b all)
+      refused_count Device x = refusal_after s a b is.refused x
+      refused_count _ x = absurd x
+
+      pub count_refuses : (r : Result ℕ RollError) (e : RollError) → r ≡ Err e → CountAnswer size a.db.len r a b → RefusedFor size db w e s b
+      count_refuses r e was answer = refused_count e (subst (λ (x : Result ℕ RollError). CountAnswer size a.db.len x a b) was answer)
+
+    -- and the front of the log is broken
+    pub break_refuses : {T : Type 0} (b c : DiskState) → Still s b → (r : Result T RollError) (e : RollError) → r ≡ Err e → IfErr r (λ x. (x ≡ Device) × HadRefusal b c) → RefusedFor size db w e s c
+    break_refuses {T = T} b c all r e was answer =
+        let had = subst (λ (x : Result T RollError). IfErr x (λ y. (y ≡ Device) × HadRefusal b c)) was answer in
+        refused_device size db w e s c (had.0, refusal_after s b c all.refused had.1)
+
+-- a magic that wasn't broken, or a log that wasn't synced then
+pub broken_refused : {T : Type 0} (a b : DiskState) (r : Result Bool RollError) (q : Result T RollError) (e : RollError) → r ≡ Err e → BreakSteps 0 r a b → q ≡ Err e → IfErr q (λ x. (x ≡ Device) × HadRefusal a b)
+broken_refused a b r q e was steps is =
+    let x = subst (λ (y : Result Bool RollError). BreakSteps 0 y a b) was steps in
+    if_err q e (λ y. (y ≡ Device) × HadRefusal a b) is (x.0, x.1)
+
+pub settled_refused : {T U : Type 0} (a b c : DiskState) (r : Result T RollError) (q : Result U RollError) (e : RollError) → a.refused ≤ b.refused → IsSoundDisk b → r ≡ Err e → SyncStep Log r b c → q ≡ Err e → IfErr q (λ x. (x ≡ Device) × HadRefusal a c)
+settled_refused a b c r q e le sound was step is =
+    let x = sync_refused Log r e b c sound was step in
+    if_err q e (λ y. (y ≡ Device) × HadRefusal a c) is (x.0, refusal_after a b c le x.1)
+
+-- ---- the log is synced first
+
+module _ {T : Type 0} (v : T) (r : Result T RollError) (s a : DiskState) (sound : IsSoundDisk s) (was : r ≡ Ok v) (step : SyncStep Log r s a) where
+  synced : (x : T) × Syncs {T = T} Log (Ok x) s a
+  synced = let t = told_ok step.0 r v was step.1 in (t.0, subst (λ (x : Result T DiskError). Syncs Log x s a) t.1 step.2)
+
+  present_a : (bytes : List ℕ) → ArePresent s.log bytes → ArePresent a.log bytes
+  present_a bytes are = record {
+    len = are.len ∙ sym synced.1.file.len;
+    each = λ i lt. are.each i (omega (arith, synced.1.file.len)) ∙ sym (present_synced Log s a synced.1 i);
+  }
+
+  bytes_before : (b : DiskState) → KeepsBytes a b → KeepsBytes s b
+  bytes_before b keeps = record { db = keeps.db ∙ step.2.elsewhere.other; log = λ bytes are. keeps.log bytes (present_a bytes are) }
+
+  after : (size : ℕ) (db w : List ℕ) (e : RollError) (b : DiskState) → RefusedFor size db w e a b → RefusedFor size db w e s b
+  after size db w SectorAbovePage b x = ((sym step.2.elsewhere.tears ∙ x.0.0, x.0.1, subst (λ (n : ℕ). (word w 24 < n) ⊎ (word w 20 < n)) step.2.elsewhere.sector x.0.2), bytes_before b x.1)
+  after size db w TooLarge b x = (x.0, bytes_before b x.1)
+  after size db w PageSize b x = (x.0, bytes_before b x.1)
+  after size db w NoMemory b x = bytes_before b x
+  after size db w Device b x = refusal_after s a b (goes_sync Log r s a sound step).refused x
+  after size db w _ b x = absurd x
+
+  pub synced_refuses : {U : Type 0} (size : ℕ) (db w : List ℕ) (q : Result U RollError) (b : DiskState) → ArePresent s.db db → ArePresent s.log w
+      → (ArePresent a.db db → ArePresent a.log w → IfErr q (λ e. RefusedFor size db w e a b)) → IfErr q (λ e. RefusedFor size db w e s b)
+  synced_refuses size db w q b are_db are rest = by q (rest (present_in s.db a.db db step.2.elsewhere.other are_db) (present_a w are))
+    where
+      by : {U : Type 0} (q : Result U RollError) → IfErr q (λ e. RefusedFor size db w e a b) → IfErr q (λ e. RefusedFor size db w e s b)
+      by (Ok u) x = x
+      by (Err e) x = after size db w e b x
+
+-- ---- sectors that tear are larger than the pages
+
+pub tears_pages : (size : ℕ) (s : DiskState) → size < torn_sector s → TearsPages size s
+tears_pages size s lt = by s.tears refl
+  where
+    by : (b : Bool) → s.tears ≡ b → TearsPages size s
+    by true e = (e, subst (λ (x : Bool). size < cond x s.sector 0) e lt)
+    by false e = absurd (let none : size < 0 = subst (λ (x : Bool). size < cond x s.sector 0) e lt in omega (arith, none))
+
+pub no_tears : (size : ℕ) (s : DiskState) → torn_sector s ≤ size → TearsPages size s → ⊥
+no_tears size s le is = let e : s.sector ≤ size = subst (λ (x : Bool). cond x s.sector 0 ≤ size) is.0 le in omega (arith, e, is.1)

@@ -1,0 +1,172 @@
+-- What a read answers is what the newest database has.
+use Rattle.std.proofs.Common.{◌≡◌, inr, ℕ, ◌+◌, ◌-◌, ◌*◌, ◌<◌, ◌≤◌, Bool, true, false, List, [], ◌∷◌, length, get_or, refl, sym, ◌∙◌, ap, subst, arith}
+use Rattle.std.specs.Prelude.{Result, Ok, Err, Option, Some, None, not, nat_lt, ◌==◌}
+use Rattle.std.proofs.lemmas.Bool.Decides.{nat_tests}
+use Rattle.std.proofs.Math.Nat.{mul-le-mul_right}
+use Rattle.sqval.specs.Database.{page}
+use Rattle.sqval.specs.CommitFaults.{first_true}
+use Rattle.sqval.specs.Answers.{Answer, Page, Refused, Refuses, HasCause}
+use Rattle.crashdisk.specs.State.{byte, longest}
+use Rattle.crashdisk.specs.Call.{DiskState, IsSoundDisk, Looks, of}
+use Rattle.crashdisk.specs.declared.file.File.{File}
+use Rattle.crashdisk.specs.declared.file.File.TheVariants.{Db}
+use Rattle.crashdisk.specs.declared.error.DiskError.{DiskError}
+use Rattle.crashdisk.proofs.Images.{table}
+use Rattle.crashdisk.proofs.Fixed.{image_present}
+use Rattle.crashdisk.proofs.Steps.{present_list}
+use Rattle.rollcore.specs.Machine.{State, newest, Act, Reads, Step, read_refusal}
+use Rattle.rollcore.specs.Refusal.{number_of}
+use Rattle.rollcore.specs.Steps.{Still}
+use Rattle.rollcore.specs.Paging.{ReadJudged, IsRefusedRead, PlaceAnswer}
+use Rattle.rollcore.specs.Fits.{FitsDisk, IsCore, FitsCore, Rests, StepsTo, answered}
+use Rattle.rollcore.specs.declared.error.RollError.{RollError}
+use Rattle.rollcore.specs.declared.error.RollError.TheVariants.{Closed, PageZero, PageAboveSize, BadLength, Device}
+use Rattle.rollcore.specs.declared.state.Core.{Core}
+use Rattle.rollcore.proofs.Copies.{present_byte}
+use Rattle.rollcore.proofs.Narrowing.{narrows_still, image_still, history_narrows, sectors_narrow}
+use Rattle.rollcore.proofs.Pages.{page_by_bytes, page_end}
+use Rattle.rollcore.proofs.Scans.{had_refusal}
+use Rattle.rollcore.proofs.Stills.{still_looks, still_sound, present_in}
+use Rattle.rollcore.proofs.Down.{down_by}
+use Rattle.rollcore.proofs.Suiting.{suits_by}
+
+-- ---- bytes that were read
+
+module _ {T U : Type 0} (f : File) (place : ℕ) (out : List ℕ) (a b : DiskState) (sound : IsSoundDisk a) where
+  pub place_read : (v : T) (end : ℕ) (called : Result U DiskError) → Looks end called a b → ((j : ℕ) → j < length out → get_or out j 0 ≡ byte (of f a) (place + j)) → PlaceAnswer f place out (Ok v) a b
+  unfolding PlaceAnswer
+  place_read v end called looked bytes = (still_looks end called a b sound looked, bytes)
+
+  pub place_refused : (r : Result T RollError) (end : ℕ) (called : Result U DiskError) (e : DiskError) → end ≡ place + length out → called ≡ Err e → r ≡ Err Device → Looks end called a b → PlaceAnswer f place out r a b
+  unfolding PlaceAnswer
+  place_refused r end called e same was is looked = subst (λ (x : Result T RollError). PlaceAnswer f place out x a b) (sym is)
+      (still_looks end called a b sound looked, refl, λ fits. had_refusal called e end a b sound.refused was looked.within (omega arith) looked.refused)
+
+-- ---- what fits a core still fits after calls that change nothing
+
+pub rests_still : (size : ℕ) (d : List (List ℕ)) (s t : DiskState) → Still s t → Rests size d s → Rests size d t
+rests_still size d s t is rests = record {
+  file = λ db image. rests.file db (image_still s t is db image);
+  log = (rests.log.0, down_by rests.log.0 s t rests.log.1 is.log is.tears is.kept is.handed, rests.log.2);
+}
+
+pub fits_disk_still : (past : State) (s t : DiskState) → Still s t → FitsDisk past s → FitsDisk past t
+fits_disk_still past s t is fits = record {
+  suits = suits_by past.page_size s t fits.suits (still_sound s t fits.suits.sound is) is.sector is.tears;
+  floor = fits.floor;
+  held = fits.held;
+  left = history_narrows s t (narrows_still s t is) past.page_size past.history past.floor fits.left;
+  sectors = sectors_narrow s t (narrows_still s t is) fits.sectors;
+  present = λ opens files are. fits.present opens files (record { db = present_in t.db s.db files.db (sym is.db) are.db; log = present_in t.log s.log files.log (sym is.log) are.log });
+}
+
+pub fits_still : (past : State) (core : Core) (s t : DiskState) → Still s t → FitsCore past core s → FitsCore past core t
+fits_still past core s t is fits = record {
+  disk = fits_disk_still past s t is fits.disk;
+  page_size = fits.page_size;
+  is_open = fits.is_open;
+  core = λ opens. let held = fits.core opens in record { size = held.size; rests = rests_still past.page_size (newest past) s t is held.rests; down = held.down; record_room = held.record_room; header_room = held.header_room ∙ sym is.sector };
+}
+
+-- a row of the machine that doesn't step
+pub stays : (past : State) (core : Core) (s t : DiskState) → Still s t → FitsCore past core s → (act : Act) (answer : Answer) → Step past act answer s.refused t.refused past → StepsTo past act answer core s t
+stays past core s t is fits act answer step = record { next = past; same = record { sector = is.sector; tears = is.tears }; refused = is.refused; row = step; fits = fits_still past core s t is fits }
+
+-- ---- the rows of the machine
+
+pub refuses_first : {S : Type 0} (o : Option ℕ) (first : ℕ) (memory : Bool) (failed s : S) (before after : ℕ) → o ≡ Some first → Refuses o memory failed before after s first s
+refuses_first o first memory failed s before after e = subst (λ (x : Option ℕ). Refuses x memory failed before after s first s) (sym e) (refl, refl)
+
+none_above : (b : Bool) (p n : ℕ) → b ≡ true → 1 ≤ p → p ≤ n → first_true ((not b, 1) ∷ (p == 0, 4) ∷ (nat_lt n p, 5) ∷ []) ≡ None
+none_above b p n is one le = subst (λ (x : Bool). first_true ((not x, 1) ∷ (p == 0, 4) ∷ (nat_lt n p, 5) ∷ []) ≡ None) (sym is) (grind (arith, nat_tests))
+
+is_zero : (b : Bool) (p n : ℕ) → b ≡ true → p ≡ 0 → first_true ((not b, 1) ∷ (p == 0, 4) ∷ (nat_lt n p, 5) ∷ []) ≡ Some 4
+is_zero b p n is zero = subst (λ (x : Bool). first_true ((not x, 1) ∷ (p == 0, 4) ∷ (nat_lt n p, 5) ∷ []) ≡ Some 4) (sym is) (grind (arith, nat_tests))
+
+is_above : (b : Bool) (p n : ℕ) → b ≡ true → 1 ≤ p → n < p → first_true ((not b, 1) ∷ (p == 0, 4) ∷ (nat_lt n p, 5) ∷ []) ≡ Some 5
+is_above b p n is one lt = subst (λ (x : Bool). first_true ((not x, 1) ∷ (p == 0, 4) ∷ (nat_lt n p, 5) ∷ []) ≡ Some 5) (sym is) (grind (arith, nat_tests))
+
+is_closed : (b : Bool) (p n : ℕ) → b ≡ false → first_true ((not b, 1) ∷ (p == 0, 4) ∷ (nat_lt n p, 5) ∷ []) ≡ Some 1
+is_closed b p n is = ap (λ (x : Bool). first_true ((not x, 1) ∷ (p == 0, 4) ∷ (nat_lt n p, 5) ∷ [])) is
+
+refuses_cause : {S : Type 0} (o : Option ℕ) (failed s : S) (before after : ℕ) → o ≡ None → HasCause before after → Refuses o false failed before after s 15 failed
+refuses_cause o failed s before after e cause = subst (λ (x : Option ℕ). Refuses x false failed before after s 15 failed) (sym e) (inr (refl, cause, refl))
+
+module _ (past : State) (core : Core) (s : DiskState) (fits : FitsCore past core s) (p : ℕ) where
+  -- refused before the disk is asked
+  judged : {T : Type 0} (U : Type 0) (out : List ℕ) (room : ℕ) (result : Result T RollError) (e : RollError) → IsSoundDisk s → result ≡ Err e → room ≡ past.page_size → ReadJudged {T = U} core.is_open p core.size room core.page_size (Err e)
+      → StepsTo past (Reads p) (answered (λ (v : T). Page out) result) core s s
+  unfolding ReadJudged
+  judged {T = T} U out room result e sound was full bad = subst (λ (x : Result T RollError). StepsTo past (Reads p) (answered (λ (v : T). Page out) x) core s s) (sym was) (by e bad)
+    where
+      same : Still s s
+      same = record { sector = refl; tears = refl; db = refl; log = refl; kept = refl; handed = refl; refused = omega arith; count = sound.refused }
+
+      step : (n : ℕ) → read_refusal past p ≡ Some n → StepsTo past (Reads p) (Refused n) core s s
+      step n e = stays past core s s same fits (Reads p) (Refused n) (refuses_first (read_refusal past p) n false past past s.refused s.refused e)
+
+      by : (e : RollError) → ReadJudged {T = U} core.is_open p core.size room core.page_size (Err e) → StepsTo past (Reads p) (Refused (number_of e)) core s s
+      by Closed shut = step 1 (is_closed past.is_open p (length (newest past)) (sym fits.is_open ∙ shut))
+      by PageZero zero = step 4 (is_zero past.is_open p (length (newest past)) (sym fits.is_open ∙ zero.0) zero.1)
+      by PageAboveSize above = step 5 (is_above past.is_open p (length (newest past)) (sym fits.is_open ∙ above.0) above.1 (omega (arith, above.2, (fits.core above.0).size)))
+      by BadLength other = absurd (other.3 (full ∙ sym fits.page_size))
+      by _ none = absurd none
+
+  pub read_judged : {T U : Type 0} (out : List ℕ) (room : ℕ) (was : Result U RollError) (result : Result T RollError) (e : RollError) → IsSoundDisk s → was ≡ Err e → result ≡ Err e → room ≡ past.page_size
+      → ReadJudged core.is_open p core.size room core.page_size was → StepsTo past (Reads p) (answered (λ (v : T). Page out) result) core s s
+  read_judged {T = T} {U = U} out room was result e sound is_was is full bad = judged {T = T} U out room result e sound is full
+      (subst (λ (x : Result U RollError). ReadJudged core.is_open p core.size room core.page_size x) is_was bad)
+
+  -- read from the file, where the page stands
+  module _ (room : ℕ) (full : room ≡ past.page_size) (good : ReadJudged {T = Unit {0}} core.is_open p core.size room core.page_size (Ok tt)) (place : ℕ) (at_place : place ≡ (p - 1) * room) (out : List ℕ) (long : length out ≡ room) (t : DiskState) where
+    held : IsCore past core s
+    unfolding ReadJudged
+    held = fits.core good.0
+
+    low : (1 ≤ p) × (p ≤ length (newest past))
+    unfolding ReadJudged
+    low = (good.1, omega (arith, good.2, held.size))
+
+    none : read_refusal past p ≡ None
+    unfolding ReadJudged
+    none = none_above past.is_open p (length (newest past)) (sym fits.is_open ∙ good.0) low.0 low.1
+
+    now : List ℕ
+    now = table s.db.len (byte s.db)
+
+    the_page : ((j : ℕ) → j < length out → get_or out j 0 ≡ byte s.db (place + j)) → out ≡ page (newest past) p
+    unfolding now
+    the_page bytes =
+        page_by_bytes past.page_size now p out (long ∙ full)
+        (λ j lt. present_byte s.db now (present_list s.db) ((p - 1) * past.page_size + j) ∙ ap (λ (n : ℕ). byte s.db ((p - 1) * n + j)) (sym full) ∙ ap (λ (n : ℕ). byte s.db (n + j)) (sym at_place) ∙ sym (bytes j (omega (arith, long, full))))
+        ∙ sym ((held.rests.file now (image_present s.sector s.tears s.db fits.disk.suits.sound.db)).each p low.0 low.1)
+
+    within : place + length out ≤ longest
+    within =
+        let few = (fits.disk.held (length past.history - 1) (let f = fits.disk.floor in omega arith)).few in
+        let end : p * past.page_size ≤ length (newest past) * past.page_size = mul-le-mul_right past.page_size low.1 in
+        let here : place ≡ (p - 1) * past.page_size = at_place ∙ ap (λ (n : ℕ). (p - 1) * n) full in
+        omega (arith, few, end, here, page_end past.page_size p low.0, long, full)
+
+    pub read_file : {T : Type 0} (result : Result T RollError) → PlaceAnswer Db place out result s t → StepsTo past (Reads p) (answered (λ (v : T). Page out) result) core s t
+    unfolding PlaceAnswer
+    read_file (Ok v) answer = stays past core s t answer.0 fits (Reads p) (Page out) (none, the_page answer.1, refl)
+    read_file {T = T} (Err x) answer = subst (λ (y : RollError). StepsTo past (Reads p) (Refused (number_of y)) core s t) (sym answer.1)
+        (stays past core s t answer.0 fits (Reads p) (Refused 15) (refuses_cause (read_refusal past p) past past s.refused t.refused none (answer.2 within)))
+
+-- a buffer of another length
+pub refused_read : {T U : Type 0} (core : Core) (p room : ℕ) (was : Result U RollError) (result : Result T RollError) (e : RollError) → was ≡ Err e → result ≡ Err e → ReadJudged core.is_open p core.size room core.page_size was → IsRefusedRead core p result
+unfolding ReadJudged
+refused_read {T = T} {U = U} core p room was result e is_was is bad = subst (λ (x : Result T RollError). IsRefusedRead core p x) (sym is)
+    (by e (subst (λ (x : Result U RollError). ReadJudged core.is_open p core.size room core.page_size x) is_was bad))
+  where
+    by : (e : RollError) → ReadJudged {T = U} core.is_open p core.size room core.page_size (Err e) → IsRefusedRead {T = T} core p (Err e)
+    by Closed h = h
+    by PageZero h = h
+    by PageAboveSize h = h
+    by BadLength h = (h.0, h.1, h.2)
+    by _ h = h
+
+pub other_room : {U : Type 0} (core : Core) (p room : ℕ) (was : Result U RollError) (v : U) → was ≡ Ok v → ReadJudged core.is_open p core.size room core.page_size was → room ≡ core.page_size
+unfolding ReadJudged
+other_room {U = U} core p room was v is good = (subst (λ (x : Result U RollError). ReadJudged core.is_open p core.size room core.page_size x) is good).3

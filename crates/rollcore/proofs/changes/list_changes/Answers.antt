@@ -1,0 +1,20 @@
+use Rattle.std.proofs.Common.{rules, List, sym, subst}
+use Rattle.std.specs.List.Sorted.{IsPermutation, IsNonDecreasingBy}
+use Rattle.std.proofs.lemmas.List.Sorted.{IsNonDecreasingBy-from_sort_by_key}
+use Rattle.sqval.specs.JudgedPages.{lent}
+use Rattle.sqval.proofs.Faultless.{faultless}
+use Rattle.rollcore.specs.Commits.{AreChanges}
+use Rattle.rollcore.specs.Listing.{written}
+use Rattle.rollcore.specs.declared.changes.Change.{Change}
+use Rattle.rollcore.proofs.Listed.{are_changes}
+use Rattle.rollcore.proofs.changes.list_changes.Goals as goal
+
+pub returns-clause-changes : goal.returns-clause-changes
+returns-clause-changes c = λ page_size none.
+    let sorted : List Change = c.sort_unstable_by_key.new.self.items in
+    let moved : IsPermutation (written c.args.old_size 0 (lent c.args.pages.now)) sorted =
+    subst (λ (l : List Change). IsPermutation l sorted) c.in_ok-list_written.ensures c.sort_unstable_by_key.ensures.permutation in
+    let order : IsNonDecreasingBy (λ (x : Change). x.page) sorted =
+    IsNonDecreasingBy-from_sort_by_key (λ (x : Change). x.page) _ c.sort_unstable_by_key.ensures.sorted (λ a r q k. search rules) in
+    subst (λ (l : List Change). AreChanges (lent c.args.pages.now) c.args.old_size c.args.size l) (sym c.in_ok-list_cut_off.ensures)
+    (are_changes (lent c.args.pages.now) c.args.old_size page_size c.args.size (faultless c.args.old_size page_size (lent c.args.pages.now) c.args.size none) sorted moved order)

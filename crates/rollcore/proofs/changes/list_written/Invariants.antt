@@ -1,0 +1,7 @@
+use Rattle.std.proofs.Common.{◌≡◌, take}
+use Rattle.sqval.specs.JudgedPages.{lent}
+use Rattle.rollcore.specs.Listing.{written}
+use Rattle.rollcore.proofs.changes.list_written.Given as goal
+
+abbrev pub invariant-loop-k : goal.invariant-loop-k
+invariant-loop-k l = l.changes.items ≡ written l.old_size 0 (lent (take l.k l.pages))

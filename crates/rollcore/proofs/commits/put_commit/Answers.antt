@@ -1,0 +1,54 @@
+use Rattle.std.proofs.Common.{◌≡◌, ◌<◌, ◌≤◌, ◌∙◌, ℕ, List, length, sym, ap, subst, arith}
+use Rattle.std.specs.Prelude.{Result, None}
+use Rattle.sqval.specs.Database.{Database, apply}
+use Rattle.sqval.specs.JudgedPages.{lent}
+use Rattle.crashdisk.specs.Call.{DiskState}
+use Rattle.rollcore.specs.Machine.{refusal_of}
+use Rattle.rollcore.specs.Commits.{AreChanges, PutAnswer}
+use Rattle.rollcore.specs.Segments.{Journaled, ArePut, pages_of}
+use Rattle.rollcore.specs.declared.changes.Change.{Change}
+use Rattle.rollcore.specs.declared.error.RollError.{RollError}
+use Rattle.rollcore.proofs.Stills.{passed}
+use Rattle.rollcore.proofs.Parting.{part_short}
+use Rattle.rollcore.proofs.Granting.{granted}
+use Rattle.rollcore.proofs.Growing.{lent_at, lent_length}
+use Rattle.rollcore.proofs.Closed.{put_harmless, put_after}
+use Rattle.rollcore.proofs.commits.put_commit.Goals as goal
+
+pub returns-in_err-put_segments-clause-put : goal.returns-in_err-put_segments-clause-put
+returns-in_err-put_segments-clause-put g c = λ word d suits held many wide rests.
+    let size : ℕ = c.args.core.now.page_size in
+    let e : Database = apply d (lent c.args.pages.now) c.args.size in
+    subst (λ (x : Result (Unit {0}) RollError). PutAnswer size d e x (g.D.Disk.state c.args.disk.now) (g.D.Disk.state c.put_segments.new.disk))
+    (sym (passed c.from_residual.result _ c.from_residual.ensures.1))
+    (put_harmless (Unit {0}) size d e _ _ _ (c.in_err-put_segments.ensures.segments word c.args.size d c.requires suits held many wide (c.sector-sector.ensures.answer word) rests))
+
+pub end_commit-requires : goal.end_commit-requires
+end_commit-requires g c = record {
+  pages = λ k d lt.
+      let core = c.args.core.now in
+      let right = granted core.size core.page_size (lent c.args.pages.now) c.args.size (length c.args.nonces.now) c.requires.granted in
+      let here = lent_at c.args.pages.now k d lt in
+      (omega (arith, here.0, right.above_zero k (omega (arith, lt, lent_length c.args.pages.now))), part_short c.args.pages.now c.args.size (length c.args.nonces.now) core c.requires core.sized k d lt);
+}
+
+pub returns-clause-put : goal.returns-clause-put
+returns-clause-put g c = λ word d suits held many wide rests.
+    let core = c.args.core.now in
+    let pages = lent c.args.pages.now in
+    let e : Database = apply d pages c.args.size in
+    let mid = g.D.Disk.state c.put_segments.new.disk in
+    let new = g.D.Disk.state c.end_commit.new.disk in
+    let keeps = c.put_segments.ensures.keeps in
+    let down = c.in_ok-put_segments.ensures.segments word c.args.size d c.requires suits held many wide (c.sector-sector.ensures.answer word) rests in
+    let ends = c.end_commit.ensures.ends (c.put_segments.ensures.word.0 word) in
+    let by_size = subst (λ (n : ℕ). (sector nonces : ℕ) (d : Database) (changes : List Change) (place : ℕ) (w : List ℕ)
+    → Journaled n sector d (pages_of changes) place w mid → 0 < place → ArePut n (apply d pages c.args.size) (pages_of changes) mid.db
+    → c.put_segments.new.core.size ≡ length d → AreChanges pages c.put_segments.new.core.size c.args.size changes → refusal_of c.put_segments.new.core.size n pages c.args.size nonces ≡ None
+    → PutAnswer n d (apply d pages c.args.size) c.end_commit.result mid new) keeps.page_size ends in
+    let by_count = subst (λ (n : ℕ). (sector nonces : ℕ) (d : Database) (changes : List Change) (place : ℕ) (w : List ℕ)
+    → Journaled core.page_size sector d (pages_of changes) place w mid → 0 < place → ArePut core.page_size (apply d pages c.args.size) (pages_of changes) mid.db
+    → n ≡ length d → AreChanges pages n c.args.size changes → refusal_of n core.page_size pages c.args.size nonces ≡ None
+    → PutAnswer core.page_size d (apply d pages c.args.size) c.end_commit.result mid new) keeps.size by_size in
+    put_after core.page_size d e c.end_commit.result (g.D.Disk.state c.args.disk.now) mid new down.5
+    (by_count c.sector-sector.result (length c.args.nonces.now) d core.changes.items down.0 down.1 down.3 down.2 down.4 (sym many) c.requires.changes c.requires.granted)

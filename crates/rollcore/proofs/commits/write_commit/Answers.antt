@@ -1,0 +1,21 @@
+use Rattle.std.proofs.Common.{sym, subst}
+use Rattle.std.specs.Prelude.{Result, ℕ}
+use Rattle.sqval.specs.Database.{Database, apply}
+use Rattle.sqval.specs.JudgedPages.{lent}
+use Rattle.sqval.specs.Answers.{Done}
+use Rattle.rollcore.specs.Machine.{Commits}
+use Rattle.rollcore.specs.Fits.{StepsTo, answered}
+use Rattle.rollcore.specs.Commits.{PutAnswer}
+use Rattle.rollcore.specs.declared.error.RollError.{RollError}
+use Rattle.rollcore.proofs.Deciding.{commit_step, put_here}
+use Rattle.rollcore.proofs.commits.write_commit.Goals as goal
+
+pub returns-clause-step : goal.returns-clause-step
+returns-clause-step g c = λ word past fits opened.
+    subst (λ (r : Result (Unit {0}) RollError). StepsTo past (Commits (lent c.args.pages.now) c.args.size c.args.nonces.now) (answered (λ _. Done) r) c.end_put.new.core (g.D.Disk.state c.args.disk.now) (g.D.Disk.state c.put_commit-put.new.disk)) (sym c.end_put.ensures.same)
+    (commit_step past c.args.core.now c.put_commit-put.new.core (g.D.Disk.state c.args.disk.now) (g.D.Disk.state c.put_commit-put.new.disk) fits opened c.args.pages.now c.args.size c.args.nonces.now c.requires c.put_commit-put.ensures.keeps
+    (c.put_commit-put.ensures.goes word) c.put_commit-put.result c.end_put.new.core
+    (put_here past c.args.core.now c.put_commit-put.new.core (g.D.Disk.state c.args.disk.now) (g.D.Disk.state c.put_commit-put.new.disk) fits opened c.args.pages.now c.args.size c.args.nonces.now c.requires c.put_commit-put.ensures.keeps
+    (c.put_commit-put.ensures.goes word)
+    (λ n d. PutAnswer n d (apply d (lent c.args.pages.now) c.args.size) c.put_commit-put.result (g.D.Disk.state c.args.disk.now) (g.D.Disk.state c.put_commit-put.new.disk)) (c.put_commit-put.ensures.put word))
+    c.end_put.ensures.answer)

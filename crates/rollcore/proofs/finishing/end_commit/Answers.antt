@@ -1,0 +1,62 @@
+use Rattle.std.proofs.Common.{◌≡◌, ◌*◌, ◌∙◌, ℕ, sym, ap, subst, arith}
+use Rattle.std.specs.Prelude.{Result}
+use Rattle.sqval.specs.Database.{apply}
+use Rattle.sqval.specs.JudgedPages.{lent}
+use Rattle.crashdisk.specs.declared.file.File.TheVariants.{Db}
+use Rattle.rollcore.specs.Commits.{PutAnswer}
+use Rattle.rollcore.specs.Segments.{pages_of}
+use Rattle.rollcore.specs.declared.error.RollError.{RollError}
+use Rattle.rollcore.specs.declared.error.RollError.TheVariants.{Device}
+use Rattle.rollcore.proofs.Stills.{passed}
+use Rattle.rollcore.proofs.Closed.{put_harmless, put_after, of_pages, some_changes, held_after, cut_failed, cut_done, cut_pages}
+use Rattle.rollcore.proofs.Going.{goes_then, goes_cuts}
+use Rattle.rollcore.proofs.finishing.end_commit.Goals as goal
+
+pub returns-in_err-put_new_pages-clause-goes : goal.returns-in_err-put_new_pages-clause-goes
+returns-in_err-put_new_pages-clause-goes g c = λ word sound. c.put_new_pages.ensures.goes word sound
+
+pub returns-in_err-set_len-clause-goes : goal.returns-in_err-set_len-clause-goes
+returns-in_err-set_len-clause-goes g c = λ word sound.
+    let first = c.put_new_pages.ensures.goes word sound in
+    goes_then _ _ _ first (goes_cuts Db _ c.set_len.result _ _ first.sound (c.set_len.ensures.state (c.put_new_pages.ensures.word.0 word)))
+
+pub returns-clause-goes : goal.returns-clause-goes
+returns-clause-goes g c = λ word sound.
+    let first = c.put_new_pages.ensures.goes word sound in
+    let then = goes_then _ _ _ first (goes_cuts Db _ c.set_len.result _ _ first.sound (c.set_len.ensures.state (c.put_new_pages.ensures.word.0 word))) in
+    goes_then _ _ _ then (c.finish.ensures.goes (c.set_len.ensures.word.0 (c.put_new_pages.ensures.word.0 word)) then.sound)
+
+pub returns-in_err-put_new_pages-clause-ends : goal.returns-in_err-put_new_pages-clause-ends
+returns-in_err-put_new_pages-clause-ends g c = λ word sector nonces d changes place w is begun put many listed none.
+    let size : ℕ = c.args.page_size in
+    let pages = lent c.args.pages.now in
+    let after = apply d pages c.args.size in
+    subst (λ (r : Result (Unit {0}) RollError). PutAnswer size d after r (g.D.Disk.state c.args.disk.now) (g.D.Disk.state c.put_new_pages.new.disk)) (sym (passed c.from_residual.result _ c.from_residual.ensures.1))
+    (put_harmless (Unit {0}) size d after _ _ _ (c.in_err-put_new_pages.ensures.put word size sector d after (pages_of changes) place w (pages_of changes) is begun many
+    (of_pages size sector d pages c.args.old_size c.args.size nonces changes place w begun many listed none) (some_changes size sector d pages c.args.old_size c.args.size nonces changes place w begun many listed none) put))
+
+pub returns-in_err-set_len-clause-ends : goal.returns-in_err-set_len-clause-ends
+returns-in_err-set_len-clause-ends g c = λ word sector nonces d changes place w is begun put many listed none.
+    let size : ℕ = c.args.page_size in
+    let pages = lent c.args.pages.now in
+    let after = apply d pages c.args.size in
+    let done = c.in_ok-put_new_pages.ensures.put word size sector d after (pages_of changes) place w (pages_of changes) is begun many
+    (of_pages size sector d pages c.args.old_size c.args.size nonces changes place w begun many listed none) (some_changes size sector d pages c.args.old_size c.args.size nonces changes place w begun many listed none) put in
+    let end : c.from.result * c.from-2.result ≡ c.args.size * size = ap (λ (k : ℕ). k * c.from-2.result) c.from.ensures ∙ ap (λ (k : ℕ). c.args.size * k) (c.from-2.ensures ∙ c.get.ensures.value) in
+    cut_failed size sector d pages c.args.old_size c.args.size nonces changes place w begun many listed none _ c.set_len.result _ c.from_residual-in_err-set_len.result (g.D.Disk.state c.args.disk.now) (g.D.Disk.state c.put_new_pages.new.disk) _
+    end done.2 done.0 c.in_err-set_len.was (passed c.from_residual-in_err-set_len.result Device c.from_residual-in_err-set_len.ensures.1) (c.set_len.ensures.state (c.put_new_pages.ensures.word.0 word))
+
+pub returns-clause-ends : goal.returns-clause-ends
+returns-clause-ends g c = λ word sector nonces d changes place w is begun put many listed none.
+    let size : ℕ = c.args.page_size in
+    let pages = lent c.args.pages.now in
+    let after = apply d pages c.args.size in
+    let done = c.in_ok-put_new_pages.ensures.put word size sector d after (pages_of changes) place w (pages_of changes) is begun many
+    (of_pages size sector d pages c.args.old_size c.args.size nonces changes place w begun many listed none) (some_changes size sector d pages c.args.old_size c.args.size nonces changes place w begun many listed none) put in
+    let end : c.from.result * c.from-2.result ≡ c.args.size * size = ap (λ (k : ℕ). k * c.from-2.result) c.from.ensures ∙ ap (λ (k : ℕ). c.args.size * k) (c.from-2.ensures ∙ c.get.ensures.value) in
+    let cut = c.in_ok-set_len.ensures.state (c.put_new_pages.ensures.word.0 word) in
+    put_after size d after c.finish.result (g.D.Disk.state c.args.disk.now) (g.D.Disk.state c.set_len.new.self) (g.D.Disk.state c.finish.new.disk) (omega (arith, done.2, cut.elsewhere.refused))
+    (c.finish.ensures.commit (c.set_len.ensures.word.0 (c.put_new_pages.ensures.word.0 word)) size sector d after (pages_of changes) place w
+    (cut_done size sector d pages c.args.old_size c.args.size nonces changes place w begun many listed none _ (g.D.Disk.state c.put_new_pages.new.disk) (g.D.Disk.state c.set_len.new.self) end done.0 cut) begun
+    (cut_pages size sector d pages c.args.old_size c.args.size nonces changes place w begun many listed none _ (g.D.Disk.state c.put_new_pages.new.disk) (g.D.Disk.state c.set_len.new.self) end done.0 cut done.1)
+    (held_after size sector d pages c.args.old_size c.args.size nonces changes place w begun many listed none (g.D.Disk.state c.args.disk.now) is))

@@ -1,0 +1,5 @@
+use Rattle.rollcore.proofs.Chosen.{step_of}
+use Rattle.rollcore.proofs.laws.one_step.Goals as goal
+
+pub returns-clause-answer : goal.returns-clause-answer
+returns-clause-answer c old act answer b a new h = step_of old act answer b a new h

@@ -1,0 +1,6 @@
+use Rattle.rollcore.specs.Machine.{start}
+use Rattle.rollcore.proofs.Kept.{sane_start, sane_runs}
+use Rattle.rollcore.proofs.laws.runs_are_sane.Goals as goal
+
+pub returns : goal.returns
+returns c page_size base moments new after h = sane_runs (start page_size base) 0 moments new after (sane_start page_size base) h

@@ -1,0 +1,7 @@
+use Rattle.rollcore.specs.Machine.{start}
+use Rattle.rollcore.proofs.Kept.{sane_start, sane_runs, kept_runs}
+use Rattle.rollcore.proofs.laws.what_is_down_stays.Goals as goal
+
+pub returns : goal.returns
+returns c page_size base before later old new count after h g =
+    kept_runs old count later new after (sane_runs (start page_size base) 0 before old count (sane_start page_size base) h) g

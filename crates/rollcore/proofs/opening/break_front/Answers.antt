@@ -1,0 +1,53 @@
+use Rattle.std.proofs.Common.{◌∙◌, ap}
+use Rattle.std.specs.Prelude.{Ok}
+use Rattle.crashdisk.specs.declared.file.File.TheVariants.{Log}
+use Rattle.rollcore.proofs.Stills.{passed}
+use Rattle.rollcore.proofs.Going.{goes_then, goes_sync, goes_broken}
+use Rattle.rollcore.proofs.Breaking.{front_failed, front_none, front_unsynced, front_synced}
+use Rattle.rollcore.proofs.Refusing.{broken_refused, settled_refused}
+use Rattle.rollcore.proofs.opening.break_front.Goals as goal
+
+pub returns-in_err-break_magic-clause-goes : goal.returns-in_err-break_magic-clause-goes
+returns-in_err-break_magic-clause-goes g c = λ word sound. goes_broken 0 c.break_magic.result (g.D.Disk.state c.args.disk.now) (g.D.Disk.state c.break_magic.new.disk) sound (c.break_magic.ensures.steps word sound)
+
+pub returns-in_err-settle_log-clause-goes : goal.returns-in_err-settle_log-clause-goes
+returns-in_err-settle_log-clause-goes g c = λ word sound.
+    let mid = goes_broken 0 c.break_magic.result (g.D.Disk.state c.args.disk.now) (g.D.Disk.state c.break_magic.new.disk) sound (c.break_magic.ensures.steps word sound) in
+    goes_then (g.D.Disk.state c.args.disk.now) (g.D.Disk.state c.break_magic.new.disk) (g.D.Disk.state c.settle_log.new.disk) mid
+    (goes_sync Log c.settle_log.result (g.D.Disk.state c.break_magic.new.disk) (g.D.Disk.state c.settle_log.new.disk) mid.sound (c.settle_log.ensures.state (c.break_magic.ensures.word.0 word)))
+
+pub returns-in_ok-settle_log-clause-goes : goal.returns-in_ok-settle_log-clause-goes
+returns-in_ok-settle_log-clause-goes g c = λ word sound.
+    let mid = goes_broken 0 c.break_magic.result (g.D.Disk.state c.args.disk.now) (g.D.Disk.state c.break_magic.new.disk) sound (c.break_magic.ensures.steps word sound) in
+    goes_then (g.D.Disk.state c.args.disk.now) (g.D.Disk.state c.break_magic.new.disk) (g.D.Disk.state c.settle_log.new.disk) mid
+    (goes_sync Log c.settle_log.result (g.D.Disk.state c.break_magic.new.disk) (g.D.Disk.state c.settle_log.new.disk) mid.sound (c.settle_log.ensures.state (c.break_magic.ensures.word.0 word)))
+
+pub returns-in_err-break_magic-clause-front : goal.returns-in_err-break_magic-clause-front
+returns-in_err-break_magic-clause-front g c = λ word sound sectors w down cold.
+    front_failed w (g.D.Disk.state c.args.disk.now) (g.D.Disk.state c.break_magic.new.disk) sound sectors down cold _ c.break_magic.result c.from_residual.result c.in_err-break_magic.was (c.break_magic.ensures.steps word sound)
+    (passed c.from_residual.result _ c.from_residual.ensures.1)
+
+pub returns-in_err-settle_log-clause-front : goal.returns-in_err-settle_log-clause-front
+returns-in_err-settle_log-clause-front g c = λ word sound sectors w down cold.
+    front_unsynced w (g.D.Disk.state c.args.disk.now) (g.D.Disk.state c.break_magic.new.disk) sound sectors down cold c.break_magic.result (c.in_ok-break_magic.was ∙ ap Ok c.if-branch.true) (c.break_magic.ensures.steps word sound)
+    (g.D.Disk.state c.settle_log.new.disk) _ c.settle_log.result c.from_residual-in_err-settle_log.result c.in_err-settle_log.was (c.settle_log.ensures.state (c.break_magic.ensures.word.0 word))
+    (passed c.from_residual-in_err-settle_log.result _ c.from_residual-in_err-settle_log.ensures.1)
+
+pub returns-in_ok-settle_log-clause-front : goal.returns-in_ok-settle_log-clause-front
+returns-in_ok-settle_log-clause-front g c = λ word sound sectors w down cold.
+    front_synced w (g.D.Disk.state c.args.disk.now) (g.D.Disk.state c.break_magic.new.disk) sound sectors down cold c.break_magic.result (c.in_ok-break_magic.was ∙ ap Ok c.if-branch.true) (c.break_magic.ensures.steps word sound)
+    (g.D.Disk.state c.settle_log.new.disk) _ c.settle_log.result c.in_ok-settle_log.was (c.settle_log.ensures.state (c.break_magic.ensures.word.0 word))
+
+pub returns-else-branch-clause-front : goal.returns-else-branch-clause-front
+returns-else-branch-clause-front g c = λ word sound sectors w down cold.
+    front_none w (g.D.Disk.state c.args.disk.now) (g.D.Disk.state c.break_magic.new.disk) sound sectors down cold c.break_magic.result (c.in_ok-break_magic.was ∙ ap Ok c.if-branch.false) (c.break_magic.ensures.steps word sound)
+
+pub returns-in_err-break_magic-clause-refused : goal.returns-in_err-break_magic-clause-refused
+returns-in_err-break_magic-clause-refused g c = λ word sound.
+    broken_refused (g.D.Disk.state c.args.disk.now) (g.D.Disk.state c.break_magic.new.disk) c.break_magic.result c.from_residual.result _ c.in_err-break_magic.was (c.break_magic.ensures.steps word sound) (passed c.from_residual.result _ c.from_residual.ensures.1)
+
+pub returns-in_err-settle_log-clause-refused : goal.returns-in_err-settle_log-clause-refused
+returns-in_err-settle_log-clause-refused g c = λ word sound.
+    let mid = goes_broken 0 c.break_magic.result (g.D.Disk.state c.args.disk.now) (g.D.Disk.state c.break_magic.new.disk) sound (c.break_magic.ensures.steps word sound) in
+    settled_refused (g.D.Disk.state c.args.disk.now) (g.D.Disk.state c.break_magic.new.disk) (g.D.Disk.state c.settle_log.new.disk) c.settle_log.result c.from_residual-in_err-settle_log.result _ mid.refused mid.sound c.in_err-settle_log.was
+    (c.settle_log.ensures.state (c.break_magic.ensures.word.0 word)) (passed c.from_residual-in_err-settle_log.result _ c.from_residual-in_err-settle_log.ensures.1)

@@ -1,0 +1,34 @@
+use Rattle.std.specs.Prelude.{Ok, IsTrue}
+use Rattle.rollcore.specs.declared.error.RollError.TheVariants.{Device}
+use Rattle.rollcore.proofs.Stills.{passed, still_looks}
+use Rattle.rollcore.proofs.Fronts.{magic_read, magic_there, puts_zero, break_failed}
+use Rattle.rollcore.proofs.opening.break_magic.Goals as goal
+
+pub returns-then-not-is_magic-clause-steps : goal.returns-then-not-is_magic-clause-steps
+returns-then-not-is_magic-clause-steps g c = λ word sound. (
+  still_looks _ c.read_at.result (g.D.Disk.state c.args.disk.now) (g.D.Disk.state c.read_at.new.self) sound (c.read_at.ensures.state word),
+  λ w are is.
+      let yes : IsTrue c.is_magic.result = c.is_magic.ensures.1 (magic_read w (g.D.Disk.state c.args.disk.now).log c.args.at c.read_at.new.out are c.read_at.auto.out (c.in_ok-read_at.ensures.bytes word) is) in
+      let no = c.if-not-is_magic.true in
+      absurd (cc),
+)
+
+pub returns-in_err-write_at-clause-steps : goal.returns-in_err-write_at-clause-steps
+returns-in_err-write_at-clause-steps g c = λ word sound.
+    let a = g.D.Disk.state c.args.disk.now in
+    let b = g.D.Disk.state c.read_at.new.self in
+    let is = still_looks _ c.read_at.result a b sound (c.read_at.ensures.state word) in
+    let yes : IsTrue c.is_magic.result = c.if-not-is_magic.false in
+    break_failed c.args.at a b (g.D.Disk.state c.write_at.new.self) sound is
+    (λ w are. magic_there w a.log c.args.at c.read_at.new.out are c.read_at.auto.out (c.in_ok-read_at.ensures.bytes word) (c.is_magic.ensures.0 yes))
+    c.write_at.result _ c.from_residual-in_err-write_at.result c.in_err-write_at.was (c.write_at.ensures.state (c.read_at.ensures.word.0 word)) c.requires (passed c.from_residual-in_err-write_at.result Device c.from_residual-in_err-write_at.ensures.1)
+
+pub returns-clause-steps : goal.returns-clause-steps
+returns-clause-steps g c = λ word sound.
+    let a = g.D.Disk.state c.args.disk.now in
+    let b = g.D.Disk.state c.read_at.new.self in
+    let is = still_looks _ c.read_at.result a b sound (c.read_at.ensures.state word) in
+    let yes : IsTrue c.is_magic.result = c.if-not-is_magic.false in
+    puts_zero c.args.at a b (g.D.Disk.state c.write_at.new.self) sound is
+    (λ w are. magic_there w a.log c.args.at c.read_at.new.out are c.read_at.auto.out (c.in_ok-read_at.ensures.bytes word) (c.is_magic.ensures.0 yes))
+    (Ok tt) (c.in_ok-write_at.ensures.state (c.read_at.ensures.word.0 word))

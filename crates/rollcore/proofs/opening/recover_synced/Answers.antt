@@ -1,0 +1,276 @@
+use Rattle.std.proofs.Common.{ℕ, sym, ◌∙◌, ap, subst}
+use Rattle.std.specs.Prelude.{Ok}
+use Rattle.crashdisk.specs.State.{byte, IsSectorSize}
+use Rattle.crashdisk.proofs.Images.{table}
+use Rattle.crashdisk.proofs.Steps.{present_list}
+use Rattle.rollcore.specs.Plans.{IsFit}
+use Rattle.rollcore.specs.Steps.{torn_sector}
+use Rattle.rollcore.proofs.Stills.{passed, present_in, still_sound, still_then}
+use Rattle.rollcore.proofs.Down.{down_present, down_by}
+use Rattle.rollcore.proofs.Recovering.{torn_still, read_plans, plan_cold}
+use Rattle.rollcore.proofs.Agreeing.{agrees_by, scanning_begins, scanning_shows, scanning_still}
+use Rattle.rollcore.proofs.Breaking.{cold_alone}
+use Rattle.rollcore.proofs.Recovered.{unplanned, misjudged, unreplayed, replayed, uncounted, unbroken, broken, few_some}
+use Rattle.rollcore.specs.Opening.{RefusedFor}
+use Rattle.rollcore.proofs.Refusing.{if_err, read_refuses, size_refuses, replay_refuses, count_refuses, break_refuses}
+use Rattle.rollcore.proofs.opening.recover_synced.Goals as goal
+
+pub returns-in_err-plan-clause-recovered : goal.returns-in_err-plan-clause-recovered
+returns-in_err-plan-clause-recovered g c = λ word w d suits held down one.
+    let s = g.D.Disk.state c.args.disk.now in
+    let a = g.D.Disk.state c.find_plan.new.disk in
+    let is = c.find_plan.ensures.still word in
+    let sound = c.find_plan.ensures.sound word in
+    unplanned c.args.page_size d w s suits held down one a is _ c.find_plan.result c.from_residual.result c.in_err-plan.was (passed c.from_residual.result _ c.from_residual.ensures.1) (c.find_plan.ensures.plan word w (down_present w s down))
+
+pub returns-in_err-plan-clause-agrees : goal.returns-in_err-plan-clause-agrees
+returns-in_err-plan-clause-agrees g c = λ word.
+    agrees_by (g.D.Disk.state c.args.disk.now) (g.D.Disk.state c.find_plan.new.disk) (λ size w d scanning. scanning_shows size d w _ (scanning_still size d w _ _ scanning (c.find_plan.ensures.still word)))
+
+pub returns-in_err-judge_size-in-Some-clause-recovered : goal.returns-in_err-judge_size-in-Some-clause-recovered
+returns-in_err-judge_size-in-Some-clause-recovered g c = λ word w d suits held down one.
+    let s = g.D.Disk.state c.args.disk.now in
+    let a = g.D.Disk.state c.find_plan.new.disk in
+    let is = c.find_plan.ensures.still word in
+    let sound = c.find_plan.ensures.sound word in
+    let plans = read_plans (torn_sector s) w c.find_plan.result c.in-Some.plan s a (c.in_ok-plan.was ∙ ap Ok c.in-Some.is) (c.find_plan.ensures.plan word w (down_present w s down)) in
+    misjudged c.args.page_size d w s suits held down one a is _ c.judge_size.result c.from_residual-in_err-judge_size-in-Some.result plans.0.hot c.in_err-judge_size-in-Some.was (c.judge_size.ensures.judged w plans.1)
+    (passed c.from_residual-in_err-judge_size-in-Some.result _ c.from_residual-in_err-judge_size-in-Some.ensures.1)
+
+pub returns-in_err-judge_size-in-Some-clause-agrees : goal.returns-in_err-judge_size-in-Some-clause-agrees
+returns-in_err-judge_size-in-Some-clause-agrees g c = λ word.
+    agrees_by (g.D.Disk.state c.args.disk.now) (g.D.Disk.state c.find_plan.new.disk) (λ size w d scanning. scanning_shows size d w _ (scanning_still size d w _ _ scanning (c.find_plan.ensures.still word)))
+
+pub returns-in_err-replayed-in-Some-clause-recovered : goal.returns-in_err-replayed-in-Some-clause-recovered
+returns-in_err-replayed-in-Some-clause-recovered g c = λ word w d suits held down one.
+    let s = g.D.Disk.state c.args.disk.now in
+    let a = g.D.Disk.state c.find_plan.new.disk in
+    let is = c.find_plan.ensures.still word in
+    let sound = c.find_plan.ensures.sound word in
+    let plans = read_plans (torn_sector s) w c.find_plan.result c.in-Some.plan s a (c.in_ok-plan.was ∙ ap Ok c.in-Some.is) (c.find_plan.ensures.plan word w (down_present w s down)) in
+    let next = c.find_plan.ensures.word.0 word in
+    let after = still_sound s a sound is in
+    let db = table s.db.len (byte s.db) in
+    let fit = subst (λ (n : ℕ). IsFit n w) (sym (torn_still s a is)) plans.0 in
+    let sectors = subst IsSectorSize (sym is.sector) (c.find_plan.ensures.sectors word) in
+    let alone = c.replay_plan.ensures.shows next after sectors c.args.page_size w d (scanning_still c.args.page_size d w s a (scanning_begins c.args.page_size d w s down one.alone) is) fit plans.1 in
+    let ends = c.replay_plan.ensures.ends next after sectors w (down_by w s a down is.log is.tears is.kept is.handed) fit plans.1 in
+    let rolled = c.replay_plan.ensures.replays next after db w (torn_sector s) (present_in s.db a.db db is.db (present_list s.db)) (present_in s.log a.log w is.log (down_present w s down)) plans.0 plans.1 in
+    unreplayed c.args.page_size d w s suits held down one a is plans.0.hot db (g.D.Disk.state c.replay_plan.new.disk) alone ends _ c.replay_plan.result c.from_residual-in_err-replayed-in-Some.result c.in_err-replayed-in-Some.was rolled
+    (passed c.from_residual-in_err-replayed-in-Some.result _ c.from_residual-in_err-replayed-in-Some.ensures.1)
+
+pub returns-in_ok-replayed-in-Some-clause-recovered : goal.returns-in_ok-replayed-in-Some-clause-recovered
+returns-in_ok-replayed-in-Some-clause-recovered g c = λ word w d suits held down one.
+    let s = g.D.Disk.state c.args.disk.now in
+    let a = g.D.Disk.state c.find_plan.new.disk in
+    let is = c.find_plan.ensures.still word in
+    let sound = c.find_plan.ensures.sound word in
+    let plans = read_plans (torn_sector s) w c.find_plan.result c.in-Some.plan s a (c.in_ok-plan.was ∙ ap Ok c.in-Some.is) (c.find_plan.ensures.plan word w (down_present w s down)) in
+    let next = c.find_plan.ensures.word.0 word in
+    let after = still_sound s a sound is in
+    let db = table s.db.len (byte s.db) in
+    let fit = subst (λ (n : ℕ). IsFit n w) (sym (torn_still s a is)) plans.0 in
+    let sectors = subst IsSectorSize (sym is.sector) (c.find_plan.ensures.sectors word) in
+    let alone = c.replay_plan.ensures.shows next after sectors c.args.page_size w d (scanning_still c.args.page_size d w s a (scanning_begins c.args.page_size d w s down one.alone) is) fit plans.1 in
+    let ends = c.replay_plan.ensures.ends next after sectors w (down_by w s a down is.log is.tears is.kept is.handed) fit plans.1 in
+    let rolled = c.replay_plan.ensures.replays next after db w (torn_sector s) (present_in s.db a.db db is.db (present_list s.db)) (present_in s.log a.log w is.log (down_present w s down)) plans.0 plans.1 in
+    replayed c.args.page_size d w s suits held down one a is plans.0.hot db (g.D.Disk.state c.replay_plan.new.disk) alone ends c.in_ok-replayed-in-Some.replayed c.replay_plan.result c.in_ok-replayed-in-Some.was rolled
+
+pub returns-in_err-replayed-in-Some-clause-agrees : goal.returns-in_err-replayed-in-Some-clause-agrees
+returns-in_err-replayed-in-Some-clause-agrees g c = λ word.
+    let s = g.D.Disk.state c.args.disk.now in
+    let a = g.D.Disk.state c.find_plan.new.disk in
+    let is = c.find_plan.ensures.still word in
+    let sound = c.find_plan.ensures.sound word in
+    let next = c.find_plan.ensures.word.0 word in
+    let after = still_sound s a sound is in
+    agrees_by s (g.D.Disk.state c.replay_plan.new.disk) (λ size w d scanning.
+    let plans = read_plans (torn_sector s) w c.find_plan.result c.in-Some.plan s a (c.in_ok-plan.was ∙ ap Ok c.in-Some.is) (c.find_plan.ensures.plan word w (down_present w s scanning.down)) in
+    c.replay_plan.ensures.shows next after (subst IsSectorSize (sym is.sector) (c.find_plan.ensures.sectors word)) size w d (scanning_still size d w s a scanning is)
+    (subst (λ (n : ℕ). IsFit n w) (sym (torn_still s a is)) plans.0) plans.1)
+
+pub returns-in_ok-replayed-in-Some-clause-agrees : goal.returns-in_ok-replayed-in-Some-clause-agrees
+returns-in_ok-replayed-in-Some-clause-agrees g c = λ word.
+    let s = g.D.Disk.state c.args.disk.now in
+    let a = g.D.Disk.state c.find_plan.new.disk in
+    let is = c.find_plan.ensures.still word in
+    let sound = c.find_plan.ensures.sound word in
+    let next = c.find_plan.ensures.word.0 word in
+    let after = still_sound s a sound is in
+    agrees_by s (g.D.Disk.state c.replay_plan.new.disk) (λ size w d scanning.
+    let plans = read_plans (torn_sector s) w c.find_plan.result c.in-Some.plan s a (c.in_ok-plan.was ∙ ap Ok c.in-Some.is) (c.find_plan.ensures.plan word w (down_present w s scanning.down)) in
+    c.replay_plan.ensures.shows next after (subst IsSectorSize (sym is.sector) (c.find_plan.ensures.sectors word)) size w d (scanning_still size d w s a scanning is)
+    (subst (λ (n : ℕ). IsFit n w) (sym (torn_still s a is)) plans.0) plans.1)
+
+pub returns-in_ok-replayed-in-Some-clause-few : goal.returns-in_ok-replayed-in-Some-clause-few
+returns-in_ok-replayed-in-Some-clause-few g c = few_some c.in_ok-plan.field-0 c.in-Some.plan c.in_ok-replayed-in-Some.replayed.size c.args.page_size c.in-Some.is c.in_ok-plan.ensures.few c.in_ok-judge_size-in-Some.ensures.same c.in_ok-replayed-in-Some.ensures.size
+
+pub returns-in_err-pages-in-None-clause-recovered : goal.returns-in_err-pages-in-None-clause-recovered
+returns-in_err-pages-in-None-clause-recovered g c = λ word w d suits held down one.
+    let s = g.D.Disk.state c.args.disk.now in
+    let a = g.D.Disk.state c.find_plan.new.disk in
+    let is = c.find_plan.ensures.still word in
+    let sound = c.find_plan.ensures.sound word in
+    let cold = plan_cold (torn_sector s) w c.find_plan.result s a (c.in_ok-plan.was ∙ ap Ok c.in-None.is) (c.find_plan.ensures.plan word w (down_present w s down)) in
+    let next = c.find_plan.ensures.word.0 word in
+    let after = still_sound s a sound is in
+    let b = g.D.Disk.state c.count_pages.new.disk in
+    let then = c.count_pages.ensures.still next after in
+    uncounted c.args.page_size d w s suits held down one a is cold b then _ c.count_pages.result c.from_residual-in_err-pages-in-None.result c.in_err-pages-in-None.was (c.count_pages.ensures.count next after)
+    (passed c.from_residual-in_err-pages-in-None.result _ c.from_residual-in_err-pages-in-None.ensures.1)
+
+pub returns-in_err-pages-in-None-clause-agrees : goal.returns-in_err-pages-in-None-clause-agrees
+returns-in_err-pages-in-None-clause-agrees g c = λ word.
+    let s = g.D.Disk.state c.args.disk.now in
+    let a = g.D.Disk.state c.find_plan.new.disk in
+    let is = c.find_plan.ensures.still word in
+    let sound = c.find_plan.ensures.sound word in
+    let next = c.find_plan.ensures.word.0 word in
+    let after = still_sound s a sound is in
+    let b = g.D.Disk.state c.count_pages.new.disk in
+    let then = c.count_pages.ensures.still next after in
+    agrees_by s b (λ size w d scanning. scanning_shows size d w _ (scanning_still size d w _ _ scanning (still_then s a b is then)))
+
+pub returns-in_err-break_front-in-None-clause-recovered : goal.returns-in_err-break_front-in-None-clause-recovered
+returns-in_err-break_front-in-None-clause-recovered g c = λ word w d suits held down one.
+    let s = g.D.Disk.state c.args.disk.now in
+    let a = g.D.Disk.state c.find_plan.new.disk in
+    let is = c.find_plan.ensures.still word in
+    let sound = c.find_plan.ensures.sound word in
+    let cold = plan_cold (torn_sector s) w c.find_plan.result s a (c.in_ok-plan.was ∙ ap Ok c.in-None.is) (c.find_plan.ensures.plan word w (down_present w s down)) in
+    let next = c.find_plan.ensures.word.0 word in
+    let after = still_sound s a sound is in
+    let b = g.D.Disk.state c.count_pages.new.disk in
+    let then = c.count_pages.ensures.still next after in
+    let last = c.count_pages.ensures.word.0 next in
+    let sound_b = still_sound a b after then in
+    let goes = c.break_front.ensures.goes last sound_b in
+    let same = c.break_front.ensures.file last sound_b in
+    let sectors = subst IsSectorSize (sym is.sector ∙ sym then.sector) (c.find_plan.ensures.sectors word) in
+    let all = still_then s a b is then in
+    let front = c.break_front.ensures.front last sound_b sectors w (down_by w s b down all.log all.tears all.kept all.handed) cold in
+    unbroken c.args.page_size d w s suits held down one a is cold b then (g.D.Disk.state c.break_front.new.disk) goes.sound goes.sector goes.tears same _ c.break_front.result c.from_residual-in_err-break_front-in-None.result c.in_err-break_front-in-None.was front
+    (passed c.from_residual-in_err-break_front-in-None.result _ c.from_residual-in_err-break_front-in-None.ensures.1)
+
+pub returns-in_ok-break_front-in-None-clause-recovered : goal.returns-in_ok-break_front-in-None-clause-recovered
+returns-in_ok-break_front-in-None-clause-recovered g c = λ word w d suits held down one.
+    let s = g.D.Disk.state c.args.disk.now in
+    let a = g.D.Disk.state c.find_plan.new.disk in
+    let is = c.find_plan.ensures.still word in
+    let sound = c.find_plan.ensures.sound word in
+    let cold = plan_cold (torn_sector s) w c.find_plan.result s a (c.in_ok-plan.was ∙ ap Ok c.in-None.is) (c.find_plan.ensures.plan word w (down_present w s down)) in
+    let next = c.find_plan.ensures.word.0 word in
+    let after = still_sound s a sound is in
+    let b = g.D.Disk.state c.count_pages.new.disk in
+    let then = c.count_pages.ensures.still next after in
+    let last = c.count_pages.ensures.word.0 next in
+    let sound_b = still_sound a b after then in
+    let goes = c.break_front.ensures.goes last sound_b in
+    let same = c.break_front.ensures.file last sound_b in
+    let sectors = subst IsSectorSize (sym is.sector ∙ sym then.sector) (c.find_plan.ensures.sectors word) in
+    let all = still_then s a b is then in
+    let front = c.break_front.ensures.front last sound_b sectors w (down_by w s b down all.log all.tears all.kept all.handed) cold in
+    broken c.args.page_size d w s suits held down one a is cold b then (g.D.Disk.state c.break_front.new.disk) goes.sound goes.sector goes.tears same _ c.in_ok-pages-in-None.pages c.break_front.result c.count_pages.result
+    c.in_ok-break_front-in-None.was front c.in_ok-pages-in-None.was (c.count_pages.ensures.count next after)
+
+pub returns-in_err-break_front-in-None-clause-agrees : goal.returns-in_err-break_front-in-None-clause-agrees
+returns-in_err-break_front-in-None-clause-agrees g c = λ word.
+    let s = g.D.Disk.state c.args.disk.now in
+    let a = g.D.Disk.state c.find_plan.new.disk in
+    let is = c.find_plan.ensures.still word in
+    let sound = c.find_plan.ensures.sound word in
+    let next = c.find_plan.ensures.word.0 word in
+    let after = still_sound s a sound is in
+    let b = g.D.Disk.state c.count_pages.new.disk in
+    let then = c.count_pages.ensures.still next after in
+    let last = c.count_pages.ensures.word.0 next in
+    let sound_b = still_sound a b after then in
+    let goes = c.break_front.ensures.goes last sound_b in
+    let same = c.break_front.ensures.file last sound_b in
+    let sectors = subst IsSectorSize (sym is.sector ∙ sym then.sector) (c.find_plan.ensures.sectors word) in
+    let all = still_then s a b is then in
+    agrees_by s (g.D.Disk.state c.break_front.new.disk) (λ size w d scanning.
+    let here = scanning_still size d w s b scanning all in
+    let cold = plan_cold (torn_sector s) w c.find_plan.result s a (c.in_ok-plan.was ∙ ap Ok c.in-None.is) (c.find_plan.ensures.plan word w (down_present w s scanning.down)) in
+    let front = c.break_front.ensures.front last sound_b sectors w here.down cold in
+    cold_alone size d w b (g.D.Disk.state c.break_front.new.disk) here.down cold goes.sound goes.sector goes.tears same front.cold here.images)
+
+pub returns-in_ok-break_front-in-None-clause-agrees : goal.returns-in_ok-break_front-in-None-clause-agrees
+returns-in_ok-break_front-in-None-clause-agrees g c = λ word.
+    let s = g.D.Disk.state c.args.disk.now in
+    let a = g.D.Disk.state c.find_plan.new.disk in
+    let is = c.find_plan.ensures.still word in
+    let sound = c.find_plan.ensures.sound word in
+    let next = c.find_plan.ensures.word.0 word in
+    let after = still_sound s a sound is in
+    let b = g.D.Disk.state c.count_pages.new.disk in
+    let then = c.count_pages.ensures.still next after in
+    let last = c.count_pages.ensures.word.0 next in
+    let sound_b = still_sound a b after then in
+    let goes = c.break_front.ensures.goes last sound_b in
+    let same = c.break_front.ensures.file last sound_b in
+    let sectors = subst IsSectorSize (sym is.sector ∙ sym then.sector) (c.find_plan.ensures.sectors word) in
+    let all = still_then s a b is then in
+    agrees_by s (g.D.Disk.state c.break_front.new.disk) (λ size w d scanning.
+    let here = scanning_still size d w s b scanning all in
+    let cold = plan_cold (torn_sector s) w c.find_plan.result s a (c.in_ok-plan.was ∙ ap Ok c.in-None.is) (c.find_plan.ensures.plan word w (down_present w s scanning.down)) in
+    let front = c.break_front.ensures.front last sound_b sectors w here.down cold in
+    cold_alone size d w b (g.D.Disk.state c.break_front.new.disk) here.down cold goes.sound goes.sector goes.tears same front.cold here.images)
+
+pub returns-in_err-plan-clause-refused : goal.returns-in_err-plan-clause-refused
+returns-in_err-plan-clause-refused g c = λ word db w are_db are.
+    let s = g.D.Disk.state c.args.disk.now in
+    let a = g.D.Disk.state c.find_plan.new.disk in
+    let is = c.find_plan.ensures.still word in
+    let sound = c.find_plan.ensures.sound word in
+    if_err c.from_residual.result _ (λ e. RefusedFor c.args.page_size db w e s (a)) (passed c.from_residual.result _ c.from_residual.ensures.1)
+    (read_refuses c.args.page_size db w s are_db a is c.find_plan.result _ c.in_err-plan.was (c.find_plan.ensures.plan word w are))
+
+pub returns-in_err-judge_size-in-Some-clause-refused : goal.returns-in_err-judge_size-in-Some-clause-refused
+returns-in_err-judge_size-in-Some-clause-refused g c = λ word db w are_db are.
+    let s = g.D.Disk.state c.args.disk.now in
+    let a = g.D.Disk.state c.find_plan.new.disk in
+    let is = c.find_plan.ensures.still word in
+    let sound = c.find_plan.ensures.sound word in
+    let plans = read_plans (torn_sector s) w c.find_plan.result c.in-Some.plan s a (c.in_ok-plan.was ∙ ap Ok c.in-Some.is) (c.find_plan.ensures.plan word w are) in
+    if_err c.from_residual-in_err-judge_size-in-Some.result _ (λ e. RefusedFor c.args.page_size db w e s (a)) (passed c.from_residual-in_err-judge_size-in-Some.result _ c.from_residual-in_err-judge_size-in-Some.ensures.1)
+    (size_refuses c.args.page_size db w s are_db a is plans.0.hot c.judge_size.result _ c.in_err-judge_size-in-Some.was (c.judge_size.ensures.judged w plans.1))
+
+pub returns-in_err-replayed-in-Some-clause-refused : goal.returns-in_err-replayed-in-Some-clause-refused
+returns-in_err-replayed-in-Some-clause-refused g c = λ word db w are_db are.
+    let s = g.D.Disk.state c.args.disk.now in
+    let a = g.D.Disk.state c.find_plan.new.disk in
+    let is = c.find_plan.ensures.still word in
+    let sound = c.find_plan.ensures.sound word in
+    let plans = read_plans (torn_sector s) w c.find_plan.result c.in-Some.plan s a (c.in_ok-plan.was ∙ ap Ok c.in-Some.is) (c.find_plan.ensures.plan word w are) in
+    let next = c.find_plan.ensures.word.0 word in
+    let after = still_sound s a sound is in
+    if_err c.from_residual-in_err-replayed-in-Some.result _ (λ e. RefusedFor c.args.page_size db w e s (g.D.Disk.state c.replay_plan.new.disk)) (passed c.from_residual-in_err-replayed-in-Some.result _ c.from_residual-in_err-replayed-in-Some.ensures.1)
+    (replay_refuses c.args.page_size db w s are_db a is (g.D.Disk.state c.replay_plan.new.disk) c.replay_plan.result _ c.in_err-replayed-in-Some.was (c.replay_plan.ensures.replays next after db w (torn_sector s) (present_in s.db a.db db is.db are_db) (present_in s.log a.log w is.log are) plans.0 plans.1))
+
+pub returns-in_err-pages-in-None-clause-refused : goal.returns-in_err-pages-in-None-clause-refused
+returns-in_err-pages-in-None-clause-refused g c = λ word db w are_db are.
+    let s = g.D.Disk.state c.args.disk.now in
+    let a = g.D.Disk.state c.find_plan.new.disk in
+    let is = c.find_plan.ensures.still word in
+    let sound = c.find_plan.ensures.sound word in
+    let cold = plan_cold (torn_sector s) w c.find_plan.result s a (c.in_ok-plan.was ∙ ap Ok c.in-None.is) (c.find_plan.ensures.plan word w are) in
+    let next = c.find_plan.ensures.word.0 word in
+    let after = still_sound s a sound is in
+    let b = g.D.Disk.state c.count_pages.new.disk in
+    let then = c.count_pages.ensures.still next after in
+    if_err c.from_residual-in_err-pages-in-None.result _ (λ e. RefusedFor c.args.page_size db w e s (b)) (passed c.from_residual-in_err-pages-in-None.result _ c.from_residual-in_err-pages-in-None.ensures.1)
+    (count_refuses c.args.page_size db w s are_db a is cold b (still_then s a b is then) c.count_pages.result _ c.in_err-pages-in-None.was (c.count_pages.ensures.count next after))
+
+pub returns-in_err-break_front-in-None-clause-refused : goal.returns-in_err-break_front-in-None-clause-refused
+returns-in_err-break_front-in-None-clause-refused g c = λ word db w are_db are.
+    let s = g.D.Disk.state c.args.disk.now in
+    let a = g.D.Disk.state c.find_plan.new.disk in
+    let is = c.find_plan.ensures.still word in
+    let sound = c.find_plan.ensures.sound word in
+    let next = c.find_plan.ensures.word.0 word in
+    let after = still_sound s a sound is in
+    let b = g.D.Disk.state c.count_pages.new.disk in
+    let then = c.count_pages.ensures.still next after in
+    if_err c.from_residual-in_err-break_front-in-None.result _ (λ e. RefusedFor c.args.page_size db w e s (g.D.Disk.state c.break_front.new.disk)) (passed c.from_residual-in_err-break_front-in-None.result _ c.from_residual-in_err-break_front-in-None.ensures.1)
+    (break_refuses c.args.page_size db w s are_db a is b (g.D.Disk.state c.break_front.new.disk) (still_then s a b is then) c.break_front.result _ c.in_err-break_front-in-None.was (c.break_front.ensures.refused (c.count_pages.ensures.word.0 next) (still_sound a b after then)))

@@ -1,0 +1,49 @@
+use Rattle.std.proofs.Common.{◌≡◌, refl, ◌⊎◌, inl, inr, ⊎_elim, ◌∙◌, sym, ap, subst, arith, ◌+◌, ◌*◌, ◌^◌, ◌<◌, ◌≤◌, ℕ, length, ◌-◌, List, take, drop, length-take, length-drop}
+use Rattle.std.proofs.lemmas.List.{length-map}
+use Rattle.sqval.specs.Database.{Database, apply}
+use Rattle.sqval.specs.JudgedPages.{lent}
+use Rattle.sqjournal.proofs.Journals.{size_bounds}
+use Rattle.rollcore.specs.Machine.{segments_of}
+use Rattle.rollcore.specs.Segments.{pages_of}
+use Rattle.rollcore.specs.declared.changes.Change.{Change}
+use Rattle.rollcore.proofs.Parting.{part_within, part_short, before_part, part_back, part_after, part_some, part_cases, part_fresh, part_turned, part_somes}
+use Rattle.rollcore.proofs.parts.put_part.Goals as goal
+
+pub put_segment-requires-clause-short : goal.put_segment-requires-clause-short
+put_segment-requires-clause-short g c = omega (arith, ap (λ (l : List ℕ). length l) c.deref_mut.ensures.value, c.args.core.now.record_room, c.args.core.now.sized.1)
+
+pub put_segment-requires-clause-within : goal.put_segment-requires-clause-within
+put_segment-requires-clause-within g c = λ i k lt some.
+    part_within c.args.pages.now c.requires.ready.0 c.requires.ready.1 c.args.core.now c.deref.result.now c.requires.ready.2 c.deref.ensures.value (c.args.k * 64) (c.min-to.result - c.args.k * 64) i k lt some
+
+pub put_segment-requires-clause-pages : goal.put_segment-requires-clause-pages
+put_segment-requires-clause-pages g c = λ k d lt. part_short c.args.pages.now c.requires.ready.0 c.requires.ready.1 c.args.core.now c.requires.ready.2 c.args.core.now.sized k d lt
+
+pub returns-clause-segment : goal.returns-clause-segment
+returns-clause-segment g c = λ word n nonces d ready many wide parted.
+    let v : List Change = c.deref.result.now in
+    let size : ℕ = length c.deref_mut.result.now - 8 in
+    let m : ℕ = c.min-to.result - c.args.k * 64 in
+    let pages = lent c.args.pages.now in
+    let e : Database = apply d pages n in
+    let s = g.D.Disk.state c.args.disk.now in
+    let new = g.D.Disk.state c.put_segment.new.disk in
+    let one : size ≡ c.args.core.now.page_size = omega (arith, ap (λ (l : List ℕ). length l) c.deref_mut.ensures.value, c.args.core.now.record_room) in
+    let two = c.deref.ensures.value in
+    let items : length v ≡ length c.args.core.now.changes.items = ap (λ (l : List Change). length l) two in
+    let long = length-drop (c.args.k * 64) v in
+    let slice = length-take m (drop (c.args.k * 64) v) in
+    let numbers = length-map (take m (drop (c.args.k * 64) v)) (λ (c : Change). c.page) in
+    let before = before_part c.args.pages.now n nonces c.args.sector c.args.k c.args.place d c.args.core.now size v s ready many parted one two in
+    let some = part_some c.args.k (length c.args.core.now.changes.items) c.requires.part in
+    part_back pages n c.args.sector c.args.k d c.args.core.now size v c.put_segment.result s new one two
+    (part_after size c.args.sector d pages n c.args.k c.args.place v s before m e (size_bounds c.args.sector c.requires.sector).0
+    (part_cases c.args.k (length v) c.min-to.result (omega (arith, c.min-to.ensures, c.len.ensures, items)) (part_some c.args.k (length v) (subst (λ (z : ℕ). c.args.k < segments_of z) (sym items) c.requires.part)))
+    c.put_segment.result new
+    (c.put_segment.ensures.segment word d e (take (c.args.k * 64) (pages_of v)) before.parted.journaled.0 (take (c.args.k * 64) (pages_of v)) before.parted.journaled.1
+    (part_fresh size c.args.sector d pages n c.args.k c.args.place v s before m)
+    (⊎_elim (λ z. inl (before.parted.first z)) (λ above. inr (omega (arith, above, items, long, slice, c.min-to.ensures, c.len.ensures))) some)
+    (ap (λ (l : List ℕ). length l) c.deref_mut-2.ensures.value ∙ wide)
+    (record { count = omega (arith, numbers, long, slice, items, c.min-to.ensures, c.len.ensures); nonce_is = refl; first_size = sym many; sector_is = refl; page_size = sym one })
+    (part_turned size c.args.sector d pages n c.args.k c.args.place v s before m)
+    (part_somes size c.args.sector d pages n c.args.k c.args.place v s before m) before.parted.put))

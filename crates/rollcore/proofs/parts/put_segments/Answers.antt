@@ -1,0 +1,81 @@
+use Rattle.std.proofs.Common.{◌≡◌, ◌∙◌, sym, ap, subst, refl, arith, rules, ◌+◌, ◌*◌, ◌^◌, ◌<◌, ◌≤◌, ℕ, length, ◌-◌, List}
+use Rattle.std.specs.Prelude.{Result, Ok, Err}
+use Rattle.std.proofs.lemmas.List.{length-map}
+use Rattle.sqval.specs.Database.{Database, apply}
+use Rattle.sqval.specs.JudgedPages.{lent}
+use Rattle.rollcore.specs.Segments.{pages_of, SegmentsAnswer}
+use Rattle.rollcore.specs.declared.changes.Change.{Change}
+use Rattle.rollcore.specs.declared.error.RollError.{RollError}
+use Rattle.rollcore.proofs.Stills.{passed}
+use Rattle.rollcore.proofs.Preparing.{harmless_after}
+use Rattle.rollcore.proofs.Parting.{parts_begin, parts_end, parts_all, part_forth, part_back, ready_kept, places_few, kept_same, kept_then}
+use Rattle.rollcore.proofs.Going.{goes_same, goes_then}
+use Rattle.rollcore.proofs.parts.put_segments.Goals as goal
+
+pub loop-k-init : goal.loop-k-init
+loop-k-init g c = record {
+  word = search rules;
+  goes = λ word sound. goes_same _ sound;
+  place = omega arith;
+  keeps = kept_same c.args.core.now;
+  changes = refl;
+  going = λ word n d ready suits held many wide same rests.
+      (parts_begin c.args.core.now.page_size c.args.sector d (apply d (lent c.args.pages.now) n) (pages_of c.args.core.now.changes.items) (g.D.Disk.state c.args.disk.now) suits held (sym same) rests, omega arith);
+}
+
+pub put_part-requires-clause-place : goal.put_part-requires-clause-place
+put_part-requires-clause-place g c =
+    let few = places_few c.args.pages.now c.requires.ready.0 (length c.args.nonces.now) c.args.core.now c.requires.ready.1 c.args.core.now.sized c.loop-k.k (omega (arith, c.loop-k-test.true, c.count_segments-k-end.ensures, c.len.ensures, c.loop-k.auto.k-end)) in
+    omega (arith, few, c.loop-k.invariant.place)
+
+pub loop-k-preserved : goal.loop-k-preserved
+loop-k-preserved g c = record {
+  word = search rules;
+  goes = λ word sound.
+      let before = c.loop-k.invariant.goes word sound in
+      goes_then _ _ _ before (c.put_part.ensures.goes (c.loop-k.invariant.word.0 word) before.sound);
+  place = omega (arith, c.in_ok-place.ensures.near, c.loop-k.invariant.place);
+  keeps = kept_then c.args.core.now c.loop-k.core c.put_part.new.core c.loop-k.invariant.keeps c.put_part.ensures.keeps;
+  changes = c.put_part.ensures.changes ∙ c.loop-k.invariant.changes;
+  going = λ word n d ready suits held many wide same rests.
+      let was = c.loop-k.invariant.going word n d ready suits held many wide same rests in
+      let kept = c.loop-k.invariant.keeps in
+      let changes = c.loop-k.invariant.changes in
+      let pages = lent c.args.pages.now in
+      let b = g.D.Disk.state c.loop-k.disk in
+      let done = part_back pages n c.args.sector c.loop-k.k d c.args.core.now c.loop-k.core.page_size c.loop-k.core.changes.items (Ok c.in_ok-place.place) b (g.D.Disk.state c.put_part.new.disk) kept.page_size (ap (λ v. v.items) changes)
+      (c.in_ok-place.ensures.segment (c.loop-k.invariant.word.0 word) n (length c.args.nonces.now) d (ready_kept c.args.pages.now n (length c.args.nonces.now) c.args.core.now c.loop-k.core kept changes ready) (many ∙ sym kept.size) (kept.header_room ∙ wide ∙ sym same)
+      (part_forth pages n c.args.sector c.loop-k.k c.loop-k.place d c.args.core.now c.loop-k.core b kept changes was.0)) in
+      (done.0, omega (arith, was.1, done.1));
+}
+
+pub returns-in_err-place-clause-segments : goal.returns-in_err-place-clause-segments
+returns-in_err-place-clause-segments g c = λ word n d ready suits held many wide same rests.
+    let was = c.loop-k.invariant.going word n d ready suits held many wide same rests in
+    let kept = c.loop-k.invariant.keeps in
+    let changes = c.loop-k.invariant.changes in
+    let pages = lent c.args.pages.now in
+    let a = g.D.Disk.state c.args.disk.now in
+    let b = g.D.Disk.state c.loop-k.disk in
+    let new = g.D.Disk.state c.put_part.new.disk in
+    subst (λ (x : Result (Unit {0}) RollError). SegmentsAnswer c.args.core.now.page_size c.args.sector d (apply d pages n) (pages_of c.args.core.now.changes.items) x a new)
+    (sym (passed c.from_residual.result _ c.from_residual.ensures.1))
+    (harmless_after c.args.core.now.page_size d _ a b new was.1
+    (part_back pages n c.args.sector c.loop-k.k d c.args.core.now c.loop-k.core.page_size c.loop-k.core.changes.items (Err c.in_err-place.field-0.0) b new kept.page_size (ap (λ v. v.items) changes)
+    (c.in_err-place.ensures.segment (c.loop-k.invariant.word.0 word) n (length c.args.nonces.now) d (ready_kept c.args.pages.now n (length c.args.nonces.now) c.args.core.now c.loop-k.core kept changes ready) (many ∙ sym kept.size) (kept.header_room ∙ wide ∙ sym same)
+    (part_forth pages n c.args.sector c.loop-k.k c.loop-k.place d c.args.core.now c.loop-k.core b kept changes was.0))))
+
+pub returns-clause-segments : goal.returns-clause-segments
+returns-clause-segments g c = λ word n d ready suits held many wide same rests.
+    let was = c.loop-k.invariant.going word n d ready suits held many wide same rests in
+    let all = parts_all c.loop-k.k (length c.args.core.now.changes.items) (omega (arith, c.loop-k-test.false, c.count_segments-k-end.ensures, c.len.ensures, c.loop-k.auto.k-end)) in
+    parts_end c.args.core.now.page_size c.args.sector d (apply d (lent c.args.pages.now) n) (pages_of c.args.core.now.changes.items) {T = Unit {0}} tt c.loop-k.k c.loop-k.place (g.D.Disk.state c.args.disk.now) (g.D.Disk.state c.loop-k.disk)
+    (omega (arith, all.0, length-map c.args.core.now.changes.items (λ (c : Change). c.page))) all.1 was.0 was.1
+
+pub returns-clause-goes : goal.returns-clause-goes
+returns-clause-goes g c = λ word sound. c.loop-k.invariant.goes word sound
+
+pub returns-in_err-place-clause-goes : goal.returns-in_err-place-clause-goes
+returns-in_err-place-clause-goes g c = λ word sound.
+    let before = c.loop-k.invariant.goes word sound in
+    goes_then _ _ _ before (c.put_part.ensures.goes (c.loop-k.invariant.word.0 word) before.sound)

@@ -1,0 +1,24 @@
+use Rattle.std.proofs.Common.{◌≡◌, ◌↔◌, ◌+◌, ◌*◌, ◌^◌, ◌<◌, ◌≤◌, ℕ, length}
+use Rattle.sqval.specs.Database.{Database, apply}
+use Rattle.sqval.specs.Held.{IsHeld}
+use Rattle.sqval.specs.JudgedPages.{lent}
+use Rattle.crashdisk.specs.Call.{IsSoundDisk}
+use Rattle.rollcore.specs.Fits.{Rests}
+use Rattle.rollcore.specs.Phases.{Suits}
+use Rattle.rollcore.specs.Commits.{KeepsCore, Goes, IsReady}
+use Rattle.rollcore.specs.Segments.{pages_of, Parted}
+use Rattle.rollcore.proofs.parts.put_segments.Given as goal
+
+abbrev pub invariant-loop-k : goal.invariant-loop-k
+invariant-loop-k g l = record {
+  word : g.D.Disk.keeps_word l.fn.disk ↔ g.D.Disk.keeps_word l.disk;
+  goes : g.D.Disk.keeps_word l.fn.disk → IsSoundDisk (g.D.Disk.state l.fn.disk) → Goes (g.D.Disk.state l.fn.disk) (g.D.Disk.state l.disk);
+  place : l.place ≤ l.k * 2 ^ 23;
+  keeps : KeepsCore l.fn.core l.core;
+  changes : l.core.changes ≡ l.fn.core.changes;
+  going : g.D.Disk.keeps_word l.fn.disk → (n : ℕ) (d : Database) → IsReady l.pages n (length l.nonces) l.fn.core
+      → Suits l.fn.core.page_size (g.D.Disk.state l.fn.disk) → IsHeld l.fn.core.page_size d → length d ≡ l.fn.core.size
+      → length l.fn.core.header.items ≡ (g.D.Disk.state l.fn.disk).sector → l.sector ≡ (g.D.Disk.state l.fn.disk).sector → Rests l.fn.core.page_size d (g.D.Disk.state l.fn.disk)
+      → Parted l.fn.core.page_size l.sector d (apply d (lent l.pages) n) (pages_of l.fn.core.changes.items) l.k l.place (g.D.Disk.state l.disk)
+      × ((g.D.Disk.state l.fn.disk).refused ≤ (g.D.Disk.state l.disk).refused);
+}

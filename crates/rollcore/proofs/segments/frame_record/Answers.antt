@@ -1,0 +1,13 @@
+use Rattle.std.proofs.Common.{◌≡◌, ◌+◌, ◌-◌, ◌++◌, ◌∙◌, ℕ, length, take, drop, ap, arith}
+use Rattle.byteorder.specs.Endian.{big_bytes}
+use Rattle.sqjournal.specs.NonceSum.{nonce_sum}
+use Rattle.rollcore.proofs.Recorded.{framed}
+use Rattle.rollcore.proofs.segments.frame_record.Goals as goal
+
+pub returns : goal.returns
+returns c =
+    let r = c.args.record.now in
+    let short : length r - 4 - 4 ≡ length r - 8 = omega arith in
+    framed r c.put_word.new.bytes c.put_word-2.new.bytes c.args.page c.args.nonce c.requires c.put_word.ensures
+    (c.put_word-2.ensures ∙ ap (λ (s : ℕ). take (length r - 4) c.put_word.new.bytes ++ big_bytes 4 s ++ drop (length r - 4 + 4) c.put_word.new.bytes)
+    (c.page_sum-sum.ensures ∙ ap (λ (n : ℕ). nonce_sum c.args.nonce (take n (drop 4 r))) short))

@@ -1,0 +1,69 @@
+use Rattle.std.proofs.Common.{◌<◌, ◌++◌, ◌+◌, ℕ, length, [], sym, ap, subst, arith, rules}
+use Rattle.std.specs.Prelude.{Result, Ok}
+use Rattle.sqval.specs.JudgedPages.{lent}
+use Rattle.crashdisk.specs.Call.{DiskState}
+use Rattle.rollcore.specs.Commits.{Goes}
+use Rattle.rollcore.specs.Segments.{PutPagesAnswer, new_numbers}
+use Rattle.rollcore.specs.declared.error.RollError.{RollError}
+use Rattle.rollcore.proofs.Stills.{passed}
+use Rattle.rollcore.proofs.Going.{goes_same, goes_then, goes_page}
+use Rattle.rollcore.proofs.Growing.{Grown, grown_none, grown_all, grown_old, grown_put, grown_failed, lent_at, lent_length}
+use Rattle.rollcore.proofs.segments.put_new_pages.Goals as goal
+use Rattle.rollcore.proofs.segments.put_new_pages.Goals.{then-page-old_size+in_ok-put_page, else-page-old_size}
+
+pub loop-x-init : goal.loop-x-init
+loop-x-init g c = record {
+  word = search rules;
+  goes = λ word sound. goes_same _ sound;
+  put = λ word size sector d e named place w before is begun many are somes put. grown_none size sector d e named place w begun (lent c.args.pages.now) are before somes (g.D.Disk.state c.args.disk.now) is put;
+}
+
+pub loop-x-preserved : goal.loop-x-preserved
+loop-x-preserved g c = record {
+  word = search rules;
+  goes = λ word sound.
+      let before = c.loop-x.invariant.goes word sound in
+      elim c.if-page-old_size.branch [
+        | then-page-old_size+in_ok-put_page x ↦
+            subst (λ (s : DiskState). Goes (g.D.Disk.state c.args.disk.now) s) (sym (ap g.D.Disk.state x.disk-is))
+            (goes_then _ _ _ before (goes_page _ _ x.put_page.result _ _ before.sound (x.put_page.ensures.step (c.loop-x.invariant.word.0 word))))
+        | else-page-old_size x ↦ subst (λ (s : DiskState). Goes (g.D.Disk.state c.args.disk.now) s) (sym (ap g.D.Disk.state x.disk-is)) before
+      ];
+  put = λ word size sector d e named place w before is begun many are somes put.
+      let was = c.loop-x.invariant.put word size sector d e named place w before is begun many are somes put in
+      let lt : c.loop-x.x-index < length (lent c.args.pages.now) = omega (arith, c.loop-x-test.true, lent_length c.args.pages.now) in
+      let here = lent_at c.args.pages.now c.loop-x.x-index (0, record { ref_ptr = (0, 0); now = [] }) c.loop-x-test.true in
+      elim c.if-page-old_size.branch [
+        | then-page-old_size+in_ok-put_page x ↦
+            subst (λ (s : DiskState). Grown size sector d e named place w begun (lent c.args.pages.now) are before somes (c.loop-x.x-index + 1) (g.D.Disk.state c.args.disk.now) s) (sym (ap g.D.Disk.state x.disk-is))
+            (grown_put size sector d e named place w begun (lent c.args.pages.now) are before somes c.loop-x.x-index lt _ _ x.put_page.result _ _ _ (sym here.0) (sym here.1) (omega (arith, x.if-page-old_size.true, many)) was
+            (x.put_page.ensures.step (c.loop-x.invariant.word.0 word)) x.in_ok-put_page.field-0 x.in_ok-put_page.was)
+        | else-page-old_size x ↦
+            subst (λ (s : DiskState). Grown size sector d e named place w begun (lent c.args.pages.now) are before somes (c.loop-x.x-index + 1) (g.D.Disk.state c.args.disk.now) s) (sym (ap g.D.Disk.state x.disk-is))
+            (grown_old size sector d e named place w begun (lent c.args.pages.now) are before somes c.loop-x.x-index lt _ _ (omega (arith, here.0, x.if-page-old_size.false, many)) was)
+      ];
+}
+
+pub returns-clause-put : goal.returns-clause-put
+returns-clause-put g c = λ word size sector d e named place w before is begun many are somes put.
+    let done = grown_all size sector d e named place w begun (lent c.args.pages.now) are before somes c.loop-x.x-index _ _ (omega (arith, c.loop-x-test.false, lent_length c.args.pages.now))
+    (c.loop-x.invariant.put word size sector d e named place w before is begun many are somes put) in
+    subst (λ (n : ℕ). PutPagesAnswer {T = Unit {0}} size sector d e named place w (before ++ new_numbers n (lent c.args.pages.now)) (Ok tt) (g.D.Disk.state c.args.disk.now) (g.D.Disk.state c.loop-x.disk)) (sym many) done
+
+pub returns-in_err-put_page-clause-put : goal.returns-in_err-put_page-clause-put
+returns-in_err-put_page-clause-put g c = λ word size sector d e named place w before is begun many are somes put.
+    let was = c.loop-x.invariant.put word size sector d e named place w before is begun many are somes put in
+    let lt : c.loop-x.x-index < length (lent c.args.pages.now) = omega (arith, c.loop-x-test.true, lent_length c.args.pages.now) in
+    let here = lent_at c.args.pages.now c.loop-x.x-index (0, record { ref_ptr = (0, 0); now = [] }) c.loop-x-test.true in
+    subst (λ (x : Result (Unit {0}) RollError). PutPagesAnswer size sector d e named place w (before ++ new_numbers c.args.old_size (lent c.args.pages.now)) x (g.D.Disk.state c.args.disk.now) (g.D.Disk.state c.put_page.new.disk))
+    (sym (passed c.from_residual.result _ c.from_residual.ensures.1))
+    (grown_failed size sector d e named place w begun (lent c.args.pages.now) are before somes c.loop-x.x-index lt _ _ c.put_page.result _ _ _ (sym here.0) (sym here.1) (omega (arith, c.if-page-old_size.true, many)) was
+    (c.put_page.ensures.step (c.loop-x.invariant.word.0 word)) c.in_err-put_page.field-0.0 c.in_err-put_page.was)
+
+pub returns-clause-goes : goal.returns-clause-goes
+returns-clause-goes g c = λ word sound. c.loop-x.invariant.goes word sound
+
+pub returns-in_err-put_page-clause-goes : goal.returns-in_err-put_page-clause-goes
+returns-in_err-put_page-clause-goes g c = λ word sound.
+    let before = c.loop-x.invariant.goes word sound in
+    goes_then _ _ _ before (goes_page _ _ c.put_page.result _ _ before.sound (c.put_page.ensures.step (c.loop-x.invariant.word.0 word)))

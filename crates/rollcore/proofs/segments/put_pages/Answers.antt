@@ -1,0 +1,66 @@
+use Rattle.std.proofs.Common.{◌≡◌, ◌<◌, ◌≤◌, ◌++◌, ◌+◌, ℕ, List, length, [], sym, ap, subst, arith, rules}
+use Rattle.std.specs.Prelude.{Result}
+use Rattle.sqval.specs.JudgedPages.{lent}
+use Rattle.crashdisk.specs.Call.{DiskState}
+use Rattle.rollcore.specs.Segments.{PutPagesAnswer, pages_of}
+use Rattle.rollcore.specs.declared.error.RollError.{RollError}
+use Rattle.rollcore.proofs.Stills.{passed}
+use Rattle.rollcore.proofs.Putting.{turned_none, turned_all, turned_cut, turned_put, turned_failed, lent_content, Turned}
+use Rattle.rollcore.proofs.segments.put_pages.Goals as goal
+use Rattle.rollcore.specs.Commits.{Goes}
+use Rattle.rollcore.proofs.Going.{goes_same, goes_then}
+use Rattle.rollcore.proofs.segments.put_pages.Goals.{in-Some+in_ok-put_page-in-Some, in-None}
+
+pub loop-change-init : goal.loop-change-init
+loop-change-init g c = record {
+  word = search rules;
+  goes = λ word sound. goes_same _ sound;
+  put = λ word size sector d e named place w before is begun turned somes put. turned_none size sector d e named place w begun (lent c.args.pages.now) c.args.changes.now turned before somes (g.D.Disk.state c.args.disk.now) is put;
+}
+
+pub returns-clause-put : goal.returns-clause-put
+returns-clause-put g c = λ word size sector d e named place w before is begun turned somes put.
+    turned_all size sector d e named place w begun (lent c.args.pages.now) c.args.changes.now turned before somes c.loop-change.change-index _ _ (omega (arith, c.loop-change-test.false))
+    (c.loop-change.invariant.put word size sector d e named place w before is begun turned somes put)
+
+pub returns-in_err-put_page-in-Some-clause-put : goal.returns-in_err-put_page-in-Some-clause-put
+returns-in_err-put_page-in-Some-clause-put g c = λ word size sector d e named place w before is begun turned somes put.
+    let step = c.put_page.ensures.step (c.loop-change.invariant.word.0 word) in
+    let was = c.loop-change.invariant.put word size sector d e named place w before is begun turned somes put in
+    let some = c.in-Some.is in
+    subst (λ (x : Result (Unit {0}) RollError). PutPagesAnswer size sector d e named place w (before ++ pages_of c.args.changes.now) x (g.D.Disk.state c.args.disk.now) (g.D.Disk.state c.put_page.new.disk))
+    (sym (passed c.from_residual.result _ c.from_residual.ensures.1))
+    (turned_failed size sector d e named place w begun (lent c.args.pages.now) c.args.changes.now turned before somes c.loop-change.change-index c.loop-change-test.true c.in-Some.k _ c.put_page.result _ _ _ some
+    (lent_content c.args.pages.now c.in-Some.k (0, record { ref_ptr = (0, 0); now = [] }) (c.requires.within c.loop-change.change-index c.in-Some.k c.loop-change-test.true some)) was step c.in_err-put_page-in-Some.field-0.0 c.in_err-put_page-in-Some.was)
+
+pub loop-change-preserved : goal.loop-change-preserved
+loop-change-preserved g c = record {
+  word = search rules;
+  goes = λ word sound.
+      let before = c.loop-change.invariant.goes word sound in
+      elim c.match-change.branch [
+        | in-Some+in_ok-put_page-in-Some x ↦ subst (λ (s : DiskState). Goes (g.D.Disk.state c.args.disk.now) s) (sym (ap g.D.Disk.state x.disk-is))
+            (goes_then _ _ _ before (x.put_page.ensures.goes (c.loop-change.invariant.word.0 word) before.sound))
+        | in-None x ↦ subst (λ (s : DiskState). Goes (g.D.Disk.state c.args.disk.now) s) (sym (ap g.D.Disk.state x.disk-is)) before
+      ];
+  put = λ word size sector d e named place w before is begun turned somes put.
+      let was = c.loop-change.invariant.put word size sector d e named place w before is begun turned somes put in
+      elim c.match-change.branch [
+        | in-Some+in_ok-put_page-in-Some x ↦ let step = x.put_page.ensures.step (c.loop-change.invariant.word.0 word) in
+            let some = x.in-Some.is in
+            subst (λ (s : DiskState). Turned size sector d e named place w begun (lent c.args.pages.now) c.args.changes.now turned before somes (c.loop-change.change-index + 1) (g.D.Disk.state c.args.disk.now) s) (sym (ap g.D.Disk.state x.disk-is))
+            (turned_put size sector d e named place w begun (lent c.args.pages.now) c.args.changes.now turned before somes c.loop-change.change-index c.loop-change-test.true x.in-Some.k _ x.put_page.result _ _ _ some
+            (lent_content c.args.pages.now x.in-Some.k (0, record { ref_ptr = (0, 0); now = [] }) (c.requires.within c.loop-change.change-index x.in-Some.k c.loop-change-test.true some)) was step x.in_ok-put_page-in-Some.field-0 x.in_ok-put_page-in-Some.was)
+        | in-None x ↦
+            subst (λ (s : DiskState). Turned size sector d e named place w begun (lent c.args.pages.now) c.args.changes.now turned before somes (c.loop-change.change-index + 1) (g.D.Disk.state c.args.disk.now) s) (sym (ap g.D.Disk.state x.disk-is))
+            (turned_cut size sector d e named place w begun (lent c.args.pages.now) c.args.changes.now turned before somes c.loop-change.change-index c.loop-change-test.true _ _ x.in-None.is was)
+      ];
+}
+
+pub returns-clause-goes : goal.returns-clause-goes
+returns-clause-goes g c = λ word sound. c.loop-change.invariant.goes word sound
+
+pub returns-in_err-put_page-in-Some-clause-goes : goal.returns-in_err-put_page-in-Some-clause-goes
+returns-in_err-put_page-in-Some-clause-goes g c = λ word sound.
+    let before = c.loop-change.invariant.goes word sound in
+    goes_then _ _ _ before (c.put_page.ensures.goes (c.loop-change.invariant.word.0 word) before.sound)

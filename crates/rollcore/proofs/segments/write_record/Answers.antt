@@ -1,0 +1,71 @@
+use Rattle.std.proofs.Common.{◌≡◌, ◌≤◌, ◌<◌, ◌+◌, ◌-◌, ◌*◌, ◌∙◌, ◌++◌, ℕ, length, take, drop, List, get_or, sym, ap, arith, subst, length-drop}
+use Rattle.std.specs.Prelude.{Ok}
+use Rattle.std.proofs.lemmas.List.{length-take-le}
+use Rattle.crashdisk.specs.State.{byte}
+use Rattle.crashdisk.specs.Call.{Writes, Looks}
+use Rattle.crashdisk.specs.declared.file.File.TheVariants.{Log}
+use Rattle.rollcore.specs.Journaling.{record_bytes}
+use Rattle.rollcore.specs.declared.error.RollError.TheVariants.{Device}
+use Rattle.rollcore.proofs.Stills.{passed, still_looks}
+use Rattle.rollcore.proofs.Recorded.{step_unread, step_unwritten, step_put, middle, record_fits}
+use borrow.Rule.Slice.PartMut.{same_len_mid}
+use Rattle.rollcore.proofs.Going.{goes_then, goes_still, goes_writes}
+use Rattle.rollcore.proofs.segments.write_record.Goals as goal
+
+pub returns-in_err-read_at-clause-record : goal.returns-in_err-read_at-clause-record
+returns-in_err-read_at-clause-record g c = λ word sound fits.
+    let r = c.args.record.now in
+    let n : ℕ = length r - 8 in
+    let from : ℕ = c.from.result * (length r - 4 - 4) in
+    let short : length r - 4 - 4 ≡ n = omega arith in
+    let place : from ≡ (c.args.page - 1) * n = ap (λ (k : ℕ). c.from.result * k) short ∙ ap (λ (k : ℕ). k * n) c.from.ensures in
+    let long : length (take (length r - 4 - 4) (drop 4 r)) ≡ n = length-take-le (length r - 4 - 4) (drop 4 r) (omega (arith, length-drop 4 r)) ∙ short in
+    step_unread n c.args.page c.args.nonce c.args.at from c.read_at.result _ c.from_residual.result _ _ sound (record_fits n c.args.page from c.requires.page fits place)
+    c.in_err-read_at.was (passed c.from_residual.result Device c.from_residual.ensures.1)
+    (subst (λ (k : ℕ). Looks (from + k) c.read_at.result (g.D.Disk.state c.args.disk.now) (g.D.Disk.state c.read_at.new.self)) long (c.read_at.ensures.state word))
+
+pub returns-in_err-write_at-clause-record : goal.returns-in_err-write_at-clause-record
+returns-in_err-write_at-clause-record g c = λ word sound fits.
+    let r = c.args.record.now in
+    let n : ℕ = length r - 8 in
+    let out = c.read_at.new.out in
+    let short : length r - 4 - 4 ≡ n = omega arith in
+    let place : c.from.result * (length r - 4 - 4) ≡ (c.args.page - 1) * n = ap (λ (k : ℕ). c.from.result * k) short ∙ ap (λ (k : ℕ). k * n) c.from.ensures in
+    let long : length (take (length r - 4 - 4) (drop 4 r)) ≡ n = length-take-le (length r - 4 - 4) (drop 4 r) (omega (arith, length-drop 4 r)) ∙ short in
+    let full : length out ≡ n = c.read_at.auto.out ∙ long in
+    let all = same_len_mid 4 (length r - 4 - 4) r out c.read_at.auto.out in
+    let bytes = c.frame_record.ensures ∙ ap (λ (x : List ℕ). record_bytes c.args.page c.args.nonce x) (middle r out (drop (length r - 4 - 4) (drop 4 r)) (omega arith) (omega (arith, all, full))) in
+    let wrote = subst (λ (x : List ℕ). Writes Log c.args.at x c.write_at.result (g.D.Disk.state c.read_at.new.self) (g.D.Disk.state c.write_at.new.self)) bytes (c.write_at.ensures.state (c.read_at.ensures.word.0 word)) in
+    step_unwritten n c.args.page c.args.nonce c.args.at out full _ _ _
+    (λ i lt. c.in_ok-read_at.ensures.bytes word i (omega (arith, full)) ∙ ap (λ (k : ℕ). byte (g.D.Disk.state c.args.disk.now).db (k + i)) place)
+    (still_looks _ c.read_at.result _ _ sound (c.read_at.ensures.state word)) c.write_at.result _ c.from_residual-in_err-write_at.result (omega arith)
+    c.in_err-write_at.was (passed c.from_residual-in_err-write_at.result Device c.from_residual-in_err-write_at.ensures.1) wrote
+
+pub returns-clause-record : goal.returns-clause-record
+returns-clause-record g c = λ word sound fits.
+    let r = c.args.record.now in
+    let n : ℕ = length r - 8 in
+    let out = c.read_at.new.out in
+    let short : length r - 4 - 4 ≡ n = omega arith in
+    let place : c.from.result * (length r - 4 - 4) ≡ (c.args.page - 1) * n = ap (λ (k : ℕ). c.from.result * k) short ∙ ap (λ (k : ℕ). k * n) c.from.ensures in
+    let long : length (take (length r - 4 - 4) (drop 4 r)) ≡ n = length-take-le (length r - 4 - 4) (drop 4 r) (omega (arith, length-drop 4 r)) ∙ short in
+    let full : length out ≡ n = c.read_at.auto.out ∙ long in
+    let all = same_len_mid 4 (length r - 4 - 4) r out c.read_at.auto.out in
+    let bytes = c.frame_record.ensures ∙ ap (λ (x : List ℕ). record_bytes c.args.page c.args.nonce x) (middle r out (drop (length r - 4 - 4) (drop 4 r)) (omega arith) (omega (arith, all, full))) in
+    let wrote = subst (λ (x : List ℕ). Writes Log c.args.at x (Ok tt) (g.D.Disk.state c.read_at.new.self) (g.D.Disk.state c.write_at.new.self)) bytes (c.in_ok-write_at.ensures.state (c.read_at.ensures.word.0 word)) in
+    step_put n c.args.page c.args.nonce c.args.at out full _ _ _
+    (λ i lt. c.in_ok-read_at.ensures.bytes word i (omega (arith, full)) ∙ ap (λ (k : ℕ). byte (g.D.Disk.state c.args.disk.now).db (k + i)) place)
+    (still_looks _ c.read_at.result _ _ sound (c.read_at.ensures.state word)) tt wrote
+
+pub returns-in_err-read_at-clause-goes : goal.returns-in_err-read_at-clause-goes
+returns-in_err-read_at-clause-goes g c = λ word sound. goes_still _ _ sound (still_looks _ c.read_at.result _ _ sound (c.read_at.ensures.state word))
+
+pub returns-in_err-write_at-clause-goes : goal.returns-in_err-write_at-clause-goes
+returns-in_err-write_at-clause-goes g c = λ word sound.
+    let mid = goes_still _ _ sound (still_looks _ c.read_at.result _ _ sound (c.read_at.ensures.state word)) in
+    goes_then _ _ _ mid (goes_writes Log c.args.at _ c.write_at.result _ _ mid.sound (c.write_at.ensures.state (c.read_at.ensures.word.0 word)))
+
+pub returns-clause-goes : goal.returns-clause-goes
+returns-clause-goes g c = λ word sound.
+    let mid = goes_still _ _ sound (still_looks _ c.read_at.result _ _ sound (c.read_at.ensures.state word)) in
+    goes_then _ _ _ mid (goes_writes Log c.args.at _ c.write_at.result _ _ mid.sound (c.write_at.ensures.state (c.read_at.ensures.word.0 word)))

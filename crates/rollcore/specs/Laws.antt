@@ -1,0 +1,58 @@
+-- What holds of every run.
+use Rattle.std.specs.Prelude.{◌≡◌, ◌⊎◌, ℕ, ◌+◌, ◌<◌, ◌≤◌, Bool, true, false, IsTrue, length, take, Option, Some, None}
+use Rattle.sqval.specs.Database.{page}
+use Rattle.sqval.specs.Answers.{HasCause, Answer, Done, Page, Refused}
+use Rattle.rollcore.specs.Machine.{State, newest, Act, Opens, Commits, Reads, Crashes, Sets, commit_refusal, read_refusal}
+
+-- the floor is a place of the history
+abbrev pub IsSane : State → Type 0
+IsSane s = s.floor < length s.history
+
+-- what is known to be down stays: no floor falls, and the databases up to it stand; nor does the page size change
+pub record Keeps (old new : State) : Type 0 where
+  pub page_size : new.page_size ≡ old.page_size
+  pub floor : old.floor ≤ new.floor
+  pub down : take (old.floor + 1) new.history ≡ take (old.floor + 1) old.history
+
+-- ---- What is answered where memory is ample and the disk refuses no call.
+
+abbrev pub told : Option ℕ → Answer → Answer
+told (Some number) answer = Refused number
+told None answer = answer
+
+abbrev pub expected : State → Act → Answer
+expected s (Opens found) = Done
+expected s (Commits pages size nonces) = told (commit_refusal s pages size nonces) Done
+expected s (Reads number) = told (read_refusal s number) (Page (page (newest s) number))
+expected s (Crashes left) = Done
+expected s Sets = Done
+
+-- ---- What may stand in its place.
+
+abbrev pub is_accepted : Answer → Bool
+is_accepted (Refused number) = false
+is_accepted _ = true
+
+abbrev pub takes_memory : Act → Bool
+takes_memory (Opens found) = true
+takes_memory (Commits pages size nonces) = true
+takes_memory _ = false
+
+-- a call of the engine
+abbrev pub needs_disk : Act → Bool
+needs_disk (Crashes left) = false
+needs_disk Sets = false
+needs_disk _ = true
+
+-- want of memory, or a refused call of the disk that has a cause
+abbrev pub IsShort : (takes_memory needs_disk : Bool) → Answer → (before after : ℕ) → Type 0
+IsShort takes_memory needs_disk answer before after =
+    (IsTrue takes_memory × (answer ≡ Refused 14)) ⊎ (IsTrue needs_disk × (answer ≡ Refused 15) × HasCause before after)
+
+abbrev pub IsExpected : State → Act → Answer → (before after : ℕ) → Type 0
+IsExpected s act answer before after =
+    (answer ≡ expected s act) ⊎ (IsTrue (is_accepted (expected s act)) × IsShort (takes_memory act) (needs_disk act) answer before after)
+
+abbrev pub is_opening : Act → Bool
+is_opening (Opens found) = true
+is_opening act = false

@@ -1,0 +1,110 @@
+-- What the steps of an opening do to a disk.
+use Rattle.std.specs.Prelude.{◌≡◌, ◌≢◌, ◌⊎◌, ℕ, ◌*◌, ◌<◌, ◌≤◌, true, false, Bool, IsTrue, List, [], ◌∷◌, length, Result, Ok, Err, OnOk, IfErr}
+use Rattle.sqval.specs.Bytes.{word}
+use Rattle.sqval.specs.CommitFaults.{most_bytes}
+use Rattle.sqval.specs.Database.{Database}
+use Rattle.sqjournal.specs.Header.{HasMagic}
+use Rattle.sqjournal.specs.Journal.{IsHot}
+use Rattle.crashdisk.specs.Call.{DiskState, ArePresent, Writes}
+use Rattle.crashdisk.specs.declared.file.File.TheVariants.{Log}
+use Rattle.crashdisk.specs.declared.error.DiskError.{DiskError}
+use Rattle.rollcore.specs.Replaying.{TearsJournal, IsTooLarge, HadRefusal, KeepsBytes, IsLogDown}
+use Rattle.rollcore.specs.Steps.{Still}
+use Rattle.sqval.specs.Answers.{Files}
+use Rattle.rollcore.specs.Alone.{Show}
+use Rattle.rollcore.specs.Machine.{State, at, last}
+use Rattle.rollcore.specs.Fits.{MayBeRead, ShowsHistory, NamesSectors, Rests}
+use Rattle.rollcore.specs.Commits.{Goes}
+use Rattle.rollcore.specs.declared.state.Core.{Core}
+use Rattle.rollcore.specs.Lengths.{ShowsOne}
+use Rattle.rollcore.specs.declared.error.RollError.{RollError}
+use Rattle.rollcore.specs.declared.error.RollError.TheVariants.{TooLarge, PageSize, NoMemory, Device, SectorAbovePage}
+
+-- how many pages a file of so many bytes has
+abbrev pub CountAnswer : (size long : ℕ) → Result ℕ RollError → (old new : DiskState) → Type 0
+CountAnswer size long (Ok n) old new = (1 ≤ n) × (n * size ≡ long) × (long ≤ most_bytes)
+CountAnswer size long (Err PageSize) old new = (n : ℕ) → 1 ≤ n → n * size ≡ long → ⊥
+CountAnswer size long (Err TooLarge) old new = most_bytes < long
+CountAnswer size long (Err Device) old new = HadRefusal old new
+CountAnswer size long (Err _) old new = ⊥
+
+-- whether a hot journal names this page size and a database of pages
+abbrev pub SizeJudged : {T : Type 0} → (size : ℕ) → List ℕ → Result T RollError → Type 0
+SizeJudged size w (Ok _) = (word w 24 ≡ size) × (1 ≤ word w 16)
+SizeJudged size w (Err PageSize) = (word w 24 ≢ size) ⊎ (word w 16 ≡ 0)
+SizeJudged size w (Err _) = ⊥
+
+-- a zero byte was written at this place of the log, where a magic stood
+pub record PutsZero {T : Type 0} (at : ℕ) (called : Result T DiskError) (old new : DiskState) : Type 0 where
+  pub mid : DiskState
+  pub still : Still old mid
+  pub magic : (w : List ℕ) → ArePresent old.log w → HasMagic w at
+  pub wrote : Writes Log at (0 ∷ []) called mid new
+
+-- whether a magic stood at this place of the log, whose first byte is then a zero
+abbrev pub BreakSteps : (at : ℕ) → Result Bool RollError → (old new : DiskState) → Type 0
+BreakSteps at (Ok true) old new = PutsZero {T = Unit {0}} at (Ok tt) old new
+BreakSteps at (Ok false) old new = Still old new × ((w : List ℕ) → ArePresent old.log w → HasMagic w at → ⊥)
+BreakSteps at (Err e) old new = (e ≡ Device) × HadRefusal old new × (Still old new ⊎ ((called : Result (Unit {0}) DiskError) × PutsZero at called old new))
+
+-- no log that may be read is hot
+abbrev pub AreCold : DiskState → Type 0
+AreCold s = (w : List ℕ) → MayBeRead s w → IsHot w → ⊥
+
+-- no header begins at the front of the log that is down
+pub record FrontAnswer {T : Type 0} (result : Result T RollError) (old new : DiskState) : Type 0 where
+  pub cold : AreCold new
+  pub done : OnOk result ((w : List ℕ) × IsLogDown new w × (HasMagic w 0 → ⊥))
+  pub refused : IfErr result (λ e. (e ≡ Device) × HadRefusal old new)
+
+-- an opening may be refused so
+abbrev pub MayRefuse : RollError → (old new : DiskState) → Type 0
+MayRefuse error old new = (error ≡ NoMemory) ⊎ ((error ≡ Device) × HadRefusal old new)
+
+-- what the recovery of d answers and leaves
+abbrev pub RecoverAnswer : (size : ℕ) → Database → Result ℕ RollError → (old new : DiskState) → Type 0
+RecoverAnswer size d (Ok n) old new = (n ≡ length d) × Rests size d new
+RecoverAnswer size d (Err e) old new = MayRefuse e old new × ShowsOne size d new
+
+-- What an opening has recovered: the database at this place of the history, which the found files show, is at rest.
+pub record IsRecovered (past : State) (found : Files) (pages : ℕ) (s : DiskState) : Type 0 where
+  pub place : ℕ
+  pub floor : past.floor ≤ place
+  pub within : place < length past.history
+  pub newest_is : IsTrue past.is_open → place ≡ last past
+  pub shown : Show past.page_size found.db found.log (at past place)
+  pub rests : Rests past.page_size (at past place) s
+  pub count : pages ≡ length (at past place)
+
+abbrev pub RecoveredAt : State → Files → Result ℕ RollError → (old new : DiskState) → Type 0
+RecoveredAt past found (Ok n) old new = Goes old new × IsRecovered past found n new
+RecoveredAt past found (Err e) old new = Goes old new × MayRefuse e old new × ShowsHistory past.page_size past.history past.floor new × NamesSectors new
+
+-- what an open core holds
+pub record IsNewCore (page_bytes pages sector : ℕ) (core : Core) : Type 0 where
+  pub page_size : core.page_size ≡ page_bytes
+  pub size : core.size ≡ pages
+  pub is_open : core.is_open ≡ true
+  pub header_room : length core.header.items ≡ sector
+
+-- ---- Refusals, whatever stands on the disk.
+
+-- on a disk that tears its sectors are larger than pages of this size
+abbrev pub TearsPages : (size : ℕ) → DiskState → Type 0
+TearsPages size s = (s.tears ≡ true) × (size < s.sector)
+
+-- what refuses an opening of the file db with the journal w
+abbrev pub RefusedFor : (size : ℕ) (db w : List ℕ) → RollError → (old new : DiskState) → Type 0
+RefusedFor size db w SectorAbovePage old new = TearsJournal old w × KeepsBytes old new
+RefusedFor size db w TooLarge old new = (IsTooLarge w ⊎ ((IsHot w → ⊥) × (most_bytes < length db))) × KeepsBytes old new
+RefusedFor size db w PageSize old new =
+    ((IsHot w × ((word w 24 ≢ size) ⊎ (word w 16 ≡ 0))) ⊎ ((IsHot w → ⊥) × ((n : ℕ) → 1 ≤ n → n * size ≡ length db → ⊥))) × KeepsBytes old new
+RefusedFor size db w NoMemory old new = KeepsBytes old new
+RefusedFor size db w Device old new = HadRefusal old new
+RefusedFor size db w _ old new = ⊥
+
+-- larger sectors refuse it before anything else; otherwise the log may have been synced, and no byte has changed but after Device
+abbrev pub OpenRefused : (size : ℕ) → RollError → (old new : DiskState) → Type 0
+OpenRefused size error old new =
+    ((error ≡ SectorAbovePage) × TearsPages size old × (new ≡ old))
+    ⊎ ((db w : List ℕ) → ArePresent old.db db → ArePresent old.log w → RefusedFor size db w error old new)

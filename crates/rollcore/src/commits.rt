@@ -1,0 +1,135 @@
+//! Commits.
+ghost use Rattle.std.specs.Prelude.{◌≡◌, ◌↔◌, ◌*◌, ◌≤◌, ℕ, List, length, IsTrue};
+ghost use Rattle.crashdisk.specs.Call.{DiskState};
+ghost use Rattle.sqval.specs.Database.{Database, apply};
+ghost use Rattle.sqval.specs.Held.{IsHeld};
+ghost use Rattle.sqval.specs.JudgedPages.{lent};
+ghost use Rattle.sqval.specs.Answers.{Done};
+ghost use Rattle.rollcore.specs.Phases.{Suits};
+ghost use Rattle.rollcore.specs.Machine.{State, Commits};
+ghost use Rattle.rollcore.specs.Fits.{Rests, FitsCore, StepsTo, Fits, Steps, answered};
+ghost use Rattle.rollcore.specs.Commits.{KeepsCore, Goes, IsReady, PagesJudged, PrepareAnswer, PutAnswer, EndAnswer};
+
+use crate::changes::{count_records, list_changes};
+use crate::error::RollError;
+use crate::finishing::end_commit;
+use crate::parts::{count_segments, put_segments};
+use crate::roll::Roll;
+use crate::state::Core;
+use crashdisk::Disk;
+use sqval::judge_pages;
+
+/// Judges the pages of a commit.
+fn judge(core: &mut Core, pages: &[(u32, &[u8])], size: u32) -> Result<(), RollError>
+    ensures keeps { KeepsCore core.old core.new }
+    ensures answer { PagesJudged pages.now size result core.old }
+{
+    judge_pages(pages, size, core.size, core.page_size, &mut core.numbers)?;
+    Ok(())
+}
+
+/// Judges a commit, and lists what it changes of the database that is there.
+fn prepare(
+    core: &mut Core,
+    pages: &[(u32, &[u8])],
+    size: u32,
+    nonces: usize,
+) -> Result<(), RollError>
+    ensures keeps { KeepsCore core.old core.new }
+    ensures answer { PrepareAnswer pages.now size nonces result core.old core.new }
+{
+    judge(core, pages, size)?;
+    if nonces < count_segments(count_records(pages, core.size, size)) {
+        return Err(RollError::NonceMissing);
+    }
+    list_changes(pages, core.size, size, &mut core.changes)
+}
+
+/// Carries a commit out that is granted: the journal's segments one after another, each with its pages, then the pages
+/// that are new, the length, and the journal's end.
+fn put_commit<D: Disk>(
+    disk: &mut D,
+    core: &mut Core,
+    pages: &[(u32, &[u8])],
+    size: u32,
+    nonces: &[u32],
+) -> Result<(), RollError>
+    requires { IsReady pages.now size (length nonces.now) core.old }
+    ensures word { D.keeps_word disk.old ↔ D.keeps_word disk.new }
+    ensures goes { D.keeps_word disk.old → Goes (D.state disk.old) (D.state disk.new) }
+    ensures keeps { KeepsCore core.old core.new }
+    ensures put { D.keeps_word disk.old → (d : Database) → Suits core.old.page_size (D.state disk.old) → IsHeld core.old.page_size d
+        → length d ≡ core.old.size → length core.old.header.items ≡ (D.state disk.old).sector → Rests core.old.page_size d (D.state disk.old)
+        → PutAnswer core.old.page_size d (apply d (lent pages.now) size) result (D.state disk.old) (D.state disk.new) }
+{
+    let sector = disk.sector() as u32;
+    put_segments(disk, core, pages, nonces, sector)?;
+    end_commit(disk, pages, core.size, size, core.page_size)
+}
+
+/// The commit is the newest one, or the core is closed.
+fn end_put(core: &mut Core, size: u32, put: Result<(), RollError>) -> Result<(), RollError>
+    requires { size * core.old.page_size ≤ 1073741824 }
+    ensures same { result ≡ put }
+    ensures answer { EndAnswer size put core.old core.new }
+{
+    match put {
+        Ok(()) => core.size = size,
+        Err(_) => core.is_open = false,
+    }
+    put
+}
+
+/// Carries a commit out that is granted, and notes it.
+fn write_commit<D: Disk>(
+    disk: &mut D,
+    core: &mut Core,
+    pages: &[(u32, &[u8])],
+    size: u32,
+    nonces: &[u32],
+) -> Result<(), RollError>
+    requires { IsReady pages.now size (length nonces.now) core.old }
+    ensures word { D.keeps_word disk.old ↔ D.keeps_word disk.new }
+    ensures step { D.keeps_word disk.old → (past : State) → FitsCore past core.old (D.state disk.old) → IsTrue core.old.is_open
+        → StepsTo past (Commits (lent pages.now) size nonces.now) (answered (λ _. Done) result) core.new (D.state disk.old) (D.state disk.new) }
+{
+    let put = put_commit(disk, core, pages, size, nonces);
+    end_put(core, size, put)
+}
+
+/// Commits these pages.
+fn commit_pages<D: Disk>(
+    disk: &mut D,
+    core: &mut Core,
+    pages: &[(u32, &[u8])],
+    size: u32,
+    nonces: &[u32],
+) -> Result<(), RollError>
+    ensures word { D.keeps_word disk.old ↔ D.keeps_word disk.new }
+    ensures step { D.keeps_word disk.old → (past : State) → FitsCore past core.old (D.state disk.old)
+        → StepsTo past (Commits (lent pages.now) size nonces.now) (answered (λ _. Done) result) core.new (D.state disk.old) (D.state disk.new) }
+{
+    if !core.is_open {
+        return Err(RollError::Closed);
+    }
+    prepare(core, pages, size, nonces.len())?;
+    write_commit(disk, core, pages, size, nonces)
+}
+
+impl<D: Disk> Roll<D> {
+    /// Commits these pages, after which the database has `size` pages, by the journal's segments, of which each takes a
+    /// nonce. Refused are, in this order, Closed, EmptyCommit, SizeZero, PageZero, PageAboveSize, PageTwice, HoleInGrowth,
+    /// BadLength, TooLarge, NonceMissing; NoMemory; Device, after which the core is closed.
+    pub fn commit(
+        &mut self,
+        pages: &[(u32, &[u8])],
+        size: u32,
+        nonces: &[u32],
+    ) -> Result<(), RollError>
+        ensures word { D.keeps_word self.old.disk ↔ D.keeps_word self.new.disk }
+        ensures step { D.keeps_word self.old.disk → (past : State) → Fits D.state self.old past
+            → Steps D.state self.old self.new past (Commits (lent pages.now) size nonces.now) (answered (λ _. Done) result) }
+    {
+        commit_pages(&mut self.disk, &mut self.core, pages, size, nonces)
+    }
+}

@@ -1,0 +1,39 @@
+//! The end of a commit, once the journal is down.
+ghost use Rattle.std.specs.Prelude.{◌≡◌, ◌↔◌, ◌<◌, ◌≤◌, ℕ, List, length, None};
+ghost use Rattle.std.specs.List.{All};
+ghost use Rattle.sqval.specs.Database.{Database, apply};
+ghost use Rattle.sqval.specs.JudgedPages.{lent};
+ghost use Rattle.crashdisk.specs.Call.{DiskState, IsSoundDisk};
+ghost use Rattle.rollcore.specs.Machine.{refusal_of};
+ghost use Rattle.rollcore.specs.Commits.{AreChanges, Goes, PutAnswer};
+ghost use Rattle.rollcore.specs.Segments.{Journaled, ArePut, pages_of};
+ghost use Rattle.rollcore.specs.declared.changes.Change.{Change};
+
+use crate::copying::finish;
+use crate::error::RollError;
+use crate::segments::put_new_pages;
+use crashdisk::{Disk, File};
+use sqval::PageSize;
+
+/// Writes the pages that the database doesn't have yet, sets its length, and makes it stay; then ends the journal.
+pub fn end_commit<D: Disk>(
+    disk: &mut D,
+    pages: &[(u32, &[u8])],
+    old_size: u32,
+    size: u32,
+    page_size: PageSize,
+) -> Result<(), RollError>
+    requires pages { All (λ x. (1 ≤ x.0) × (length x.1.now ≤ 65536)) pages.now }
+    ensures word { D.keeps_word disk.old ↔ D.keeps_word disk.new }
+    ensures goes { D.keeps_word disk.old → IsSoundDisk (D.state disk.old) → Goes (D.state disk.old) (D.state disk.new) }
+    ensures ends { D.keeps_word disk.old → (sector nonces : ℕ) (d : Database) (changes : List Change) (place : ℕ) (w : List ℕ)
+        → Journaled page_size sector d (pages_of changes) place w (D.state disk.old) → 0 < place
+        → ArePut page_size (apply d (lent pages.now) size) (pages_of changes) (D.state disk.old).db
+        → old_size ≡ length d → AreChanges (lent pages.now) old_size size changes → refusal_of old_size page_size (lent pages.now) size nonces ≡ None
+        → PutAnswer page_size d (apply d (lent pages.now) size) result (D.state disk.old) (D.state disk.new) }
+{
+    put_new_pages(disk, pages, old_size)?;
+    let end = u64::from(size) * u64::from(page_size.get());
+    disk.set_len(File::Db, end)?;
+    finish(disk)
+}

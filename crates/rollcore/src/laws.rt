@@ -1,0 +1,43 @@
+//! What holds of every run of the machine.
+ghost use Rattle.std.specs.Prelude.{◌≡◌, ◌≤◌, ℕ, Bool, List, true, false};
+ghost use Rattle.sqval.specs.Database.{Database};
+ghost use Rattle.sqval.specs.Answers.{Answer};
+ghost use Rattle.sqval.specs.PageSize.{IsPageSize};
+ghost use Rattle.sqval.specs.Held.{IsJust, IsHeld};
+ghost use Rattle.crashdisk.specs.State.{IsSectorSize};
+ghost use Rattle.crashdisk.specs.Call.{DiskState, IsNew};
+ghost use Rattle.rollcore.specs.Fits.{FitsDisk};
+ghost use Rattle.rollcore.specs.Laws.{IsSane, Keeps, IsExpected, is_opening};
+ghost use Rattle.sqval.specs.Runs.{Moment, Runs};
+ghost use Rattle.rollcore.specs.Machine.{State, Act, Reads, Step, start};
+
+/// A disk that is new with a base of pages that no sector that tears exceeds, and with an empty log, fits where the
+/// machine begins.
+pub fn a_base_fits()
+    ensures { (size sector : ℕ) (torn : Bool) (base : Database) (bytes : List ℕ) (s : DiskState) → IsPageSize size → IsSectorSize sector
+        → (torn ≡ true → sector ≤ size) → IsHeld size base → IsJust size base bytes → IsNew sector torn bytes s → FitsDisk (start size base) s }
+{}
+
+/// In every run the floor is a place of the history.
+pub fn runs_are_sane()
+    ensures { (page_size : ℕ) (base : Database) (moments : List (Moment Act)) (new : State) (after : ℕ)
+        → Runs Step (start page_size base) 0 moments new after → IsSane new }
+{}
+
+/// What is known to be down stays, through crashes and openings: the floor never falls, and the databases up to it stand.
+pub fn what_is_down_stays()
+    ensures { (page_size : ℕ) (base : Database) (before later : List (Moment Act)) (old new : State) (count after : ℕ)
+        → Runs Step (start page_size base) 0 before old count → Runs Step old count later new after → Keeps old new }
+{}
+
+/// The machine chooses nothing but the database that an opening shows. It answers what is expected; in place of an answer
+/// that is no refusal, want of memory (an opening and a commit alone), or a refused call of the disk that has a cause
+/// (each call of the engine). A read changes nothing.
+pub fn one_step()
+    ensures next { (old : State) (act : Act) (answer : Answer) (b a c d : ℕ) (new other : State)
+        → is_opening act ≡ false → Step old act answer b a new → Step old act answer c d other → new ≡ other }
+    ensures answer { (old : State) (act : Act) (answer : Answer) (b a : ℕ) (new : State)
+        → Step old act answer b a new → IsExpected old act answer b a }
+    ensures read { (old : State) (number : ℕ) (answer : Answer) (b a : ℕ) (new : State)
+        → Step old (Reads number) answer b a new → new ≡ old }
+{}
