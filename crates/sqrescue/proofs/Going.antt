@@ -1,27 +1,27 @@
 -- A run that goes on by one moment.
-use Rattle.std.proofs.Common.{◌≡◌, ◌⊎◌, inl, inr, ℕ, zero, suc, ◌≤◌, Bool, false, List, [], ◌∷◌, ◌++◌, length, take, refl, sym, ◌∙◌, ap, subst, arith, length-append}
+use Rattle.std.proofs.Common.{◌≡◌, ◌⊎◌, inl, inr, ℕ, zero, suc, ◌≤◌, Bool, List, [], ◌∷◌, ◌++◌, length, take, refl, sym, ◌∙◌, ap, subst, arith, length-append}
 use Rattle.std.proofs.lemmas.List.{take-append-le}
 use Rattle.crashdisk.specs.Call.{DiskState}
-use Rattle.walcore.specs.Answers.{Answer}
+use Rattle.sqval.specs.Answers.{Answer}
 use Rattle.walcore.specs.Machine.{State, Act, Step}
 use Rattle.walcore.specs.Making.{Made, Makes, Permits, Holds, nothing}
-use Rattle.walcore.specs.Runs.{Moment, Runs, IsRun}
+use Rattle.sqval.specs.Runs.{Moment, Runs, IsRun}
 use Rattle.walcore.specs.Fits.{Past}
 use Rattle.sqrescue.specs.Sessions.{Serves}
 use Rattle.sqrescue.specs.Worlds.{MakesAll, Fitting, Goings}
 use Rattle.sqrescue.proofs.PageSizes.{page_size_stays}
 
-runs_more : {S A : Type 0} (step : S → A → Answer → ℕ → ℕ → S → Type 0) (s : S) (b : ℕ) (ms : List (Moment A)) (t : S) (a : ℕ) (m : Moment A) (u : S) → Runs step s b ms t a → a ≤ m.refused → step t m.act m.answer a m.refused u → Runs step s b (ms ++ m ∷ []) u m.refused
+pub runs_more : {S A : Type 0} (step : S → A → Answer → ℕ → ℕ → S → Type 0) (s : S) (b : ℕ) (ms : List (Moment A)) (t : S) (a : ℕ) (m : Moment A) (u : S) → Runs step s b ms t a → a ≤ m.refused → step t m.act m.answer a m.refused u → Runs step s b (ms ++ m ∷ []) u m.refused
 runs_more step s b [] t a m u h l g = (subst (λ c. c ≤ m.refused) h.1 l, (u, subst (λ c. step s m.act m.answer c m.refused u) h.1 (subst (λ x. step x m.act m.answer a m.refused u) h.0 g), (refl, refl)))
 runs_more step s b (x ∷ ms) t a m u h l g = (h.0, (h.1.0, h.1.1, runs_more step h.1.0 x.refused ms t a m u h.1.2 l g))
 
-past_end : {X : Type 0} (n : ℕ) (xs : List X) → length xs ≤ n → take n xs ≡ xs
+pub past_end : {X : Type 0} (n : ℕ) (xs : List X) → length xs ≤ n → take n xs ≡ xs
 past_end zero [] h = refl
 past_end (suc n) [] h = refl
 past_end zero (x ∷ xs) h = absurd (omega arith)
 past_end (suc n) (x ∷ xs) h = ap (λ ys. x ∷ ys) (past_end n xs (omega arith))
 
-within : (n k : ℕ) → (n ≤ k) ⊎ (suc k ≤ n)
+pub within : (n k : ℕ) → (n ≤ k) ⊎ (suc k ≤ n)
 within n k = grind arith
 
 module _ (size sector : ℕ) (tears : Bool) where
@@ -38,13 +38,13 @@ module _ (size sector : ℕ) (tears : Bool) where
   makes_more made (x ∷ ms) m mid new all makes = (all.0, all.1, makes_more all.0 ms m mid new all.2 makes)
 
   -- what fits after one moment more
-  pub fitting_more : tears ≡ false → (first : State) (ms : List (Moment Act)) (m : Moment Act) (FitsOld FitsNew : Past → Type 0) (s t : DiskState)
+  pub fitting_more : (first : State) (ms : List (Moment Act)) (m : Moment Act) (FitsOld FitsNew : Past → Type 0) (s t : DiskState)
       → (s.tears ≡ tears → Serves size FitsOld FitsNew s t m.act m.answer) → m.refused ≡ t.refused
       → (Holds size sector tears nothing ms → Fitting size sector tears first ms FitsOld s)
       → Holds size sector tears nothing (ms ++ m ∷ []) → Fitting size sector tears first (ms ++ m ∷ []) FitsNew t
-  fitting_more untorn first ms m FitsOld FitsNew s t serves count fitting holds =
+  fitting_more first ms m FitsOld FitsNew s t serves count fitting holds =
       let old = fitting (holds_less nothing ms m holds) in
-      let served = serves old.tears_is old.past old.page_size (old.tears_is ∙ untorn) old.fits (holds_last nothing ms m old.past.made holds old.made) in
+      let served = serves old.tears_is old.past old.page_size old.fits (holds_last nothing ms m old.past.made holds old.made) in
       let row : Step old.past.state m.act m.answer s.refused m.refused served.next.state = subst (λ n. Step old.past.state m.act m.answer s.refused n served.next.state) (sym count) served.row in
       record {
         past = served.next;
@@ -60,11 +60,11 @@ module _ (size sector : ℕ) (tears : Bool) where
         tears_is = served.same.tears ∙ old.tears_is;
       }
 
-  pub goings_more : tears ≡ false → (first : State) (ms : List (Moment Act)) (m : Moment Act) (FitsOld FitsNew : Past → Type 0) (s t : DiskState)
+  pub goings_more : (first : State) (ms : List (Moment Act)) (m : Moment Act) (FitsOld FitsNew : Past → Type 0) (s t : DiskState)
       → (s.tears ≡ tears → Serves size FitsOld FitsNew s t m.act m.answer) → m.refused ≡ t.refused
       → Goings size sector tears first ms FitsOld s → Goings size sector tears first (ms ++ m ∷ []) FitsNew t
-  goings_more untorn first ms m FitsOld FitsNew s t serves count goings =
-      let fits = fitting_more untorn first ms m FitsOld FitsNew s t serves count goings.fits in
+  goings_more first ms m FitsOld FitsNew s t serves count goings =
+      let fits = fitting_more first ms m FitsOld FitsNew s t serves count goings.fits in
       record {
         fits = fits;
         prefixes = λ n holds. elim (within n (length ms)) [

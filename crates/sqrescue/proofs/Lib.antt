@@ -12,3 +12,8 @@ pub mod PageSizes
 pub mod Moments
 pub mod Going
 pub mod Worlds
+pub mod JournalResting
+pub mod JournalServing
+pub mod JournalMoments
+pub mod JournalGoing
+pub mod JournalWorlds

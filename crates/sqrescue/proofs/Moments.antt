@@ -23,7 +23,7 @@ one_moment tears (Crash choice) reply n (Some found) crashed f c = absurd (cc f)
 one_moment tears event reply n None crashed f c = refl
 one_moment tears event reply n (Some found) crashed f c = absurd (cc f)
 
-no_items : {X : Type 0} (xs : List X) → length xs ≡ 0 → xs ≡ []
+pub no_items : {X : Type 0} (xs : List X) → length xs ≡ 0 → xs ≡ []
 no_items [] h = refl
 no_items (x ∷ xs) h = absurd (omega arith)
 
@@ -99,18 +99,18 @@ moments_more tears es run new e given n complete noted f c =
     ∙ (one_more tears es run.replies.items run.refused.items run.found.items run.crashed.items e given.reply n given.found given.crashed complete.replies complete.refused complete.found complete.crashed c
     ∙ ap (λ ms. moments es run.replies.items run.refused.items run.found.items run.crashed.items ++ ms) (one_moment tears e given.reply n given.found given.crashed f c)))))
 
-one_item : {X : Type 0} (o : Option X) (b : Bool) → is_some o ≡ b → length (list_of o) ≡ cond b 1 0
+pub one_item : {X : Type 0} (o : Option X) (b : Bool) → is_some o ≡ b → length (list_of o) ≡ cond b 1 0
 one_item None false h = refl
 one_item None true h = absurd (cc h)
 one_item (Some x) true h = refl
 one_item (Some x) false h = absurd (cc h)
 
-counted_more : (p : Event → Bool) (es : List Event) (e : Event) → count_by p (es ++ e ∷ []) ≡ count_by p es + cond (p e) 1 0
+pub counted_more : {E : Type 0} (p : E → Bool) (es : List E) (e : E) → count_by p (es ++ e ∷ []) ≡ count_by p es + cond (p e) 1 0
 counted_more p es e = sum_by-append (λ x. cond (p x) 1 0) es (e ∷ []) ∙ ap (λ n. count_by p es + n) (sum_by-cons (λ x. cond (p x) 1 0) e [] ∙ omega arith)
 
-crashed_more : (tears : Bool) (es : List Event) (e : Event) (n m : ℕ) → n ≡ cond tears (count_by is_crash es) 0 → m ≡ cond (tears && is_crash e) 1 0 → n + m ≡ cond tears (count_by is_crash (es ++ e ∷ [])) 0
-crashed_more true es e n m h i = let c = counted_more is_crash es e in omega (arith, c)
-crashed_more false es e n m h i = omega arith
+pub crashed_more : {E : Type 0} (p : E → Bool) (tears : Bool) (es : List E) (e : E) (n m : ℕ) → n ≡ cond tears (count_by p es) 0 → m ≡ cond (tears && p e) 1 0 → n + m ≡ cond tears (count_by p (es ++ e ∷ [])) 0
+crashed_more p true es e n m h i = let c = counted_more p es e in omega (arith, c)
+crashed_more p false es e n m h i = omega arith
 
 pub complete_more : (tears : Bool) (es : List Event) (run new : Run) (e : Event) (given : Given) (n : ℕ) → IsComplete tears es run → IsNoted given n run new
     → is_some given.found ≡ is_opening e → is_some given.crashed ≡ (tears && is_crash e) → IsComplete tears (es ++ e ∷ []) new
@@ -120,5 +120,5 @@ complete_more tears es run new e given n complete noted f c = record {
   found = ap length noted.found ∙ (length-append run.found.items (list_of given.found)
       ∙ (let a = complete.found in let b = one_item given.found (is_opening e) f in let d = counted_more is_opening es e in omega (arith, a, b, d)));
   crashed = ap length noted.crashed ∙ (length-append run.crashed.items (list_of given.crashed)
-      ∙ crashed_more tears es e (length run.crashed.items) (length (list_of given.crashed)) complete.crashed (one_item given.crashed (tears && is_crash e) c));
+      ∙ crashed_more is_crash tears es e (length run.crashed.items) (length (list_of given.crashed)) complete.crashed (one_item given.crashed (tears && is_crash e) c));
 }

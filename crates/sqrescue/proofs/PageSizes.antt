@@ -1,6 +1,6 @@
 -- The page size of a run stays.
 use Rattle.std.proofs.Common.{◌≡◌, ℕ, refl}
-use Rattle.walcore.specs.Answers.{Answer}
+use Rattle.sqval.specs.Answers.{Answer}
 use Rattle.walcore.specs.Machine.{State, Act, Step}
 use Rattle.walcore.proofs.Targets.{Targets, step_in}
 

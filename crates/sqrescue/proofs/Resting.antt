@@ -11,9 +11,8 @@ use Rattle.crashdisk.proofs.Keeping.{sound_crash, sound_new}
 use Rattle.crashdisk.proofs.Settled.{settled_one}
 use Rattle.crashdisk.proofs.Solid.{size_is}
 use Rattle.walcore.specs.Alone.{AreWhole}
-use Rattle.walcore.specs.Folding.{IsJust}
+use Rattle.sqval.specs.Held.{IsJust, IsHeld}
 use Rattle.walcore.specs.Phases.{Suits}
-use Rattle.walcore.specs.Era.{IsHeld}
 use Rattle.walcore.specs.Made.{AreMade}
 use Rattle.walcore.specs.Machine.{gone, forgotten}
 use Rattle.walcore.specs.Standing.{MayBeRead, ShowsWhole}
@@ -86,14 +85,14 @@ byte_of size (x ∷ d) zero i j each l m e =
 byte_of size (x ∷ d) (suc q) i j each l m e =
     behind x (concat d) size (q * size + i) j (each 0 (omega arith)) (e ∙ grind arith) ∙ byte_of size d q i (q * size + i) (λ k h. each (suc k) (omega arith)) (omega arith) m refl
 
-just_pages : (size : ℕ) (d : Database) → ((i : ℕ) → i < length d → length (get_or d i []) ≡ size) → IsJust size d (concat d)
+pub just_pages : (size : ℕ) (d : Database) → ((i : ℕ) → i < length d → length (get_or d i []) ≡ size) → IsJust size d (concat d)
 unfolding page
 just_pages size d each = record {
   long = long_pages size d each;
   each = λ p one le. page_by_bytes size (concat d) p (get_or d (p - 1) []) (each (p - 1) (omega arith)) (λ i l. byte_of size d (p - 1) i ((p - 1) * size + i) each (omega arith) l refl);
 }
 
-full_pages : (size : ℕ) (d : Database) → ((i : ℕ) → i < length d → length (get_or d i []) ≡ size) → (p : ℕ) → 1 ≤ p → p ≤ length d → length (page d p) ≡ size
+pub full_pages : (size : ℕ) (d : Database) → ((i : ℕ) → i < length d → length (get_or d i []) ≡ size) → (p : ℕ) → 1 ≤ p → p ≤ length d → length (page d p) ≡ size
 unfolding page
 full_pages size d each p one le = each (p - 1) (omega arith)
 

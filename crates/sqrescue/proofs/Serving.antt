@@ -5,9 +5,10 @@ use Rattle.crashdisk.specs.Call.{DiskState}
 use Rattle.crashdisk.specs.Model.{state_of}
 use Rattle.crashdisk.specs.declared.model.ModelDisk.{ModelDisk}
 use Rattle.walcore.specs.Alone.{AreWhole}
-use Rattle.walcore.specs.Answers.{Answer, Files, Done, NoReader, Refused, Refuses}
-use Rattle.walcore.specs.Machine.{State, Act, Opens, Sets, Crashed, Step, ReadStep, EndStep, forgotten, gone, newest, call_refusal, commit_refusal, restart_refusal}
-use Rattle.walcore.specs.CommitRefusals.{first_true, refusal_of}
+use Rattle.sqval.specs.Answers.{Answer, Files, Done, NoReader, Refused, Refuses, Crashed}
+use Rattle.walcore.specs.Machine.{State, Act, Opens, Sets, Step, ReadStep, EndStep, forgotten, gone, newest, call_refusal, commit_refusal, restart_refusal}
+use Rattle.sqval.specs.CommitFaults.{first_true}
+use Rattle.walcore.specs.CommitRefusals.{refusal_of}
 use Rattle.walcore.specs.declared.state.Core.{Core}
 use Rattle.crashdisk.specs.declared.choice.Choice.{Choice}
 use Rattle.std.specs.List.{list_any}
@@ -113,7 +114,7 @@ open_answers page_size tears event old new salts reply found s is same files ser
   crashed = none_left tears ∙ ap (λ e. tears && is_crash e) (sym is);
   serves = λ torn. subst (λ e. EngineServes page_size old new (act_of e (Some found) None) (answer_of reply)) (sym is)
       (subst (λ t. Serves page_size (λ past. FitsEngine past old) (λ past. FitsEngine past new) t (disk_of new) (Opens salts (files_of found)) (answer_of reply)) same
-      (λ past size untorn fits may. serves past (files_of found) files size (subst (λ t. FitsAlone past t) (sym same) (engine_disk past old fits)) (engine_tokens past old fits) may));
+      (λ past size fits may. serves past (files_of found) files size (subst (λ t. FitsAlone past t) (sym same) (engine_disk past old fits)) (engine_tokens past old fits) may));
 }
   where
     none_left : (b : Bool) → false ≡ (b && false)
@@ -129,7 +130,7 @@ permitted true s log None made e says choice is may torn = absurd says
 permitted false s log crashed made e says choice is may torn = absurd (cc (e, torn))
 permitted true s log (Some crashed) made e says event is may torn = absurd (cc is)
 
-and_is : (t b : Bool) → b ≡ true → t ≡ (t && b)
+pub and_is : (t b : Bool) → b ≡ true → t ≡ (t && b)
 and_is true b h = sym h
 and_is false b h = refl
 
@@ -153,7 +154,7 @@ pub crash_answers : (page_size : ℕ) (tears : Bool) (event : Event) (old : Engi
 crash_answers page_size tears event old disk begun crashed s is same count left = record {
   found = not_opening event is;
   crashed = left.some ∙ and_is tears (is_crash event) is;
-  serves = λ torn past size untorn fits may.
+  serves = λ torn past size fits may.
       let e : s.tears ≡ tears = ap (λ (t : DiskState). t.tears) same ∙ torn in
       let fit : FitsAlone past s = subst (λ t. FitsAlone past t) (sym same) (engine_disk past old fits) in
       let c = left.crash in
@@ -208,13 +209,13 @@ closed_makes size sector tears made (Fail call part) o k = refl
 same_disk : (s t : DiskState) → t ≡ s → IsSameDisk s t
 same_disk s t e = record { sector = ap (λ (x : DiskState). x.sector) e; tears = ap (λ (x : DiskState). x.tears) e }
 
-same_count : (s t : DiskState) → t ≡ s → s.refused ≤ t.refused
+pub same_count : (s t : DiskState) → t ≡ s → s.refused ≤ t.refused
 same_count s t e = let r = ap (λ (x : DiskState). x.refused) e in omega (arith, r)
 
 pub closed_serves : {E : Type 0} (r : Result Reply E) (page_size : ℕ) (event : Event) (old new : ModelDisk) (begun : ℕ) → IfOk r (λ reply. answer_of reply ≡ closed_answer event) → state_of new ≡ state_of old
     → IfOk r (λ reply. is_opening event ≡ false → is_crash event ≡ false → EngineServes page_size (Closed old begun) (Closed new begun) (act_of event None None) (answer_of reply))
 closed_serves (Err e) page_size event old new begun told same = tt
-closed_serves (Ok reply) page_size event old new begun told same = λ o k past size untorn fits may.
+closed_serves (Ok reply) page_size event old new begun told same = λ o k past size fits may.
     subst (λ a. ServesTo past (act_of event None None) a (λ next. FitsEngine next (Closed new begun)) (state_of old) (state_of new)) (sym told) (record {
       next = past;
       refused = same_count (state_of old) (state_of new) same;
@@ -237,7 +238,7 @@ told_act page_size old new event a answer e h o k = subst (λ act. SessionServes
 
 pub set_serves : (page_size : ℕ) (old new : Session) (event : Event) → act_of event None None ≡ Sets → new.wal.core ≡ old.wal.core → state_of new.wal.disk ≡ state_of old.wal.disk → new.first ≡ old.first → new.slots ≡ old.slots
     → SessionServes page_size old new (act_of event None None) Done
-set_serves page_size old new event is core disk first slots past size untorn fits may =
+set_serves page_size old new event is core disk first slots past size fits may =
     subst (λ act. ServesTo past act Done (λ next. FitsSession next new) (state_of old.wal.disk) (state_of new.wal.disk)) (sym is) (record {
       next = past;
       refused = same_count (state_of old.wal.disk) (state_of new.wal.disk) disk;

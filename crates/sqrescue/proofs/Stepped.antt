@@ -1,9 +1,9 @@
 -- What a call of an engine is in a run.
-use Rattle.std.proofs.Common.{◌≡◌, ℕ, zero, suc, ◌+◌, ◌<◌, false, List, [], ◌∷◌, ◌++◌, length, take, drop, replicate, set, slice_get, get_or, Option, Some, None, Result, Ok, Err, IfOk, Vec, Global, length-append, refl, sym, ◌∙◌, ap, subst, arith, append_assoc}
+use Rattle.std.proofs.Common.{◌≡◌, ℕ, zero, suc, ◌+◌, ◌<◌, List, [], ◌∷◌, ◌++◌, length, take, drop, replicate, set, slice_get, get_or, Option, Some, None, Result, Ok, Err, IfOk, Vec, Global, length-append, refl, sym, ◌∙◌, ap, subst, arith, append_assoc}
 use Rattle.std.proofs.lemmas.List.{length-replicate}
 use Rattle.std.proofs.lemmas.Grind.{common_steps}
 use Rattle.crashdisk.specs.Model.{state_of}
-use Rattle.walcore.specs.Answers.{Answer, Done, NoReader, Reader as ReaderAnswer}
+use Rattle.sqval.specs.Answers.{Answer, Done, NoReader, Reader as ReaderAnswer}
 use Rattle.walcore.specs.Machine.{Act, Begins, Reads, Ends, reader_at, Step, ReadStep, EndStep}
 use Rattle.walcore.specs.Making.{Makes, Permits}
 use Rattle.walcore.specs.declared.wal.Wal.{Wal}
@@ -31,11 +31,11 @@ stepped past old new tokens act told answer same are steps = record {
 
 -- of one that leaves the readers alone
 pub stepped_still : (page_size : ℕ) (old : Session) (wal : Wal ModelDisk) (act : Act) (told answer : Answer) → told ≡ answer
-    → ((past : Past) → (state_of old.wal.disk).tears ≡ false → FitsCore past old.wal.core (state_of old.wal.disk) → Permits past.made act told → StepsTo past past.tokens act told wal.core (state_of old.wal.disk) (state_of wal.disk))
+    → ((past : Past) → FitsCore past old.wal.core (state_of old.wal.disk) → Permits past.made act told → StepsTo past past.tokens act told wal.core (state_of old.wal.disk) (state_of wal.disk))
     → SessionServes page_size old (record { wal = wal; first = old.first; slots = old.slots }) act answer
-stepped_still page_size old wal act told answer same h past size untorn fits may =
+stepped_still page_size old wal act told answer same h past size fits may =
     stepped past old (record { wal = wal; first = old.first; slots = old.slots }) past.tokens act told answer same fits.tokens
-    (h past untorn fits.core (subst (λ a. Permits past.made act a) (sym same) may))
+    (h past fits.core (subst (λ a. Permits past.made act a) (sym same) may))
 
 -- the row of a reader that isn't open
 no_token : (place : Option ℕ) (slot : Option Reader) → slot ≡ None → AreTogether (λ i r. Unit {0}) place slot → place ≡ None
@@ -47,7 +47,7 @@ pub not_open : (past : Past) (old : Session) (number : ℕ) → FitsSession past
 not_open past old number fits none = no_token (reader_at past.state number) (get_or past.tokens number None) (ap (λ t. get_or t number None) fits.tokens ∙ none) (fits.core.together number)
 
 pub no_read : (page_size : ℕ) (old : Session) (number page : ℕ) → get_or (tokens_of old) number None ≡ None → SessionServes page_size old old (Reads number page) NoReader
-no_read page_size old number page none past size untorn fits may = record {
+no_read page_size old number page none past size fits may = record {
   next = past;
   refused = omega arith;
   row = subst (λ place. ReadStep place past.state page NoReader (state_of old.wal.disk).refused (state_of old.wal.disk).refused past.state) (sym (not_open past old number fits none)) refl;
@@ -57,7 +57,7 @@ no_read page_size old number page none past size untorn fits may = record {
 }
 
 pub no_end : (page_size : ℕ) (old : Session) (number : ℕ) → get_or (tokens_of old) number None ≡ None → SessionServes page_size old old (Ends number) NoReader
-no_end page_size old number none past size untorn fits may = record {
+no_end page_size old number none past size fits may = record {
   next = past;
   refused = omega arith;
   row = subst (λ place. EndStep place past.state number NoReader past.state) (sym (not_open past old number fits none)) refl;
@@ -96,7 +96,7 @@ pub began : {E : Type 0} (page_size : ℕ) (old new : Session) (mid : Wal ModelD
     → ((past : Past) → FitsCore past old.wal.core (state_of old.wal.disk) → StepsTo past (past.tokens ++ Some reader ∷ []) Begins (ReaderAnswer (length past.state.readers)) mid.core (state_of old.wal.disk) (state_of mid.disk))
     → IfOk r (λ reply. SessionServes page_size old new Begins (answer_of reply))
 began page_size old new mid reader number (Err e) wal first slots reply is h = tt
-began page_size old new mid reader number (Ok answer) wal first slots reply is h = λ past size untorn fits may.
+began page_size old new mid reader number (Ok answer) wal first slots reply is h = λ past size fits may.
     let tokens : past.tokens ++ Some reader ∷ [] ≡ tokens_of new =
     ap (λ t. t ++ Some reader ∷ []) fits.tokens ∙ (append_assoc (replicate old.first None) old.slots.items (Some reader ∷ []) ∙ (ap (λ x. replicate old.first None ++ x) (sym slots) ∙ ap (λ n. replicate n None ++ new.slots.items) (sym first))) in
     let long : length past.tokens ≡ old.first + length old.slots.items = ap length fits.tokens ∙ (length-append (replicate old.first None) old.slots.items ∙ ap (λ n. n + length old.slots.items) (length-replicate old.first None)) in
@@ -108,7 +108,7 @@ pub ended : (page_size : ℕ) (old : Session) (wal : Wal ModelDisk) (slots : Vec
     → get_or old.slots.items i None ≡ Some reader → slots.items ≡ set old.slots.items i None
     → ((past : Past) (n : ℕ) → FitsCore past old.wal.core (state_of old.wal.disk) → slice_get past.tokens n ≡ Some (Some reader) → StepsTo past (without_token past.tokens n) (Ends n) Done wal.core (state_of old.wal.disk) (state_of wal.disk))
     → SessionServes page_size old (record { wal = wal; first = old.first; slots = slots }) (Ends number) Done
-ended page_size old wal slots number i reader is within here emptied h past size untorn fits may =
+ended page_size old wal slots number i reader is within here emptied h past size fits may =
     stepped past old (record { wal = wal; first = old.first; slots = slots }) (without_token past.tokens number) (Ends number) Done Done refl
     (ap (λ t. set t number None) fits.tokens ∙ (put_none old.first i number old.slots.items is ∙ ap (λ x. tokens_by old.first x) (sym emptied)))
     (h past number fits.core (ap (λ t. slice_get t number) fits.tokens ∙ got_token old.first i number old.slots.items (Some reader) is (at_slot old.slots.items i reader within here)))
@@ -117,7 +117,7 @@ pub was_read : (page_size : ℕ) (old : Session) (wal : Wal ModelDisk) (number p
     → get_or old.slots.items i None ≡ Some reader
     → ((past : Past) (n : ℕ) → FitsCore past old.wal.core (state_of old.wal.disk) → slice_get past.tokens n ≡ Some (Some reader) → past.state.page_size ≡ page_size → StepsTo past past.tokens (Reads n page) told wal.core (state_of old.wal.disk) (state_of wal.disk))
     → SessionServes page_size old (record { wal = wal; first = old.first; slots = old.slots }) (Reads number page) answer
-was_read page_size old wal number page i reader told answer same is within here h past size untorn fits may =
+was_read page_size old wal number page i reader told answer same is within here h past size fits may =
     stepped past old (record { wal = wal; first = old.first; slots = old.slots }) past.tokens (Reads number page) told answer same fits.tokens
     (h past number fits.core (ap (λ t. slice_get t number) fits.tokens ∙ got_token old.first i number old.slots.items (Some reader) is (at_slot old.slots.items i reader within here)) size)
 

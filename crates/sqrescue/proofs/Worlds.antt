@@ -3,7 +3,7 @@ use Rattle.std.proofs.Common.{◌≡◌, ℕ, zero, suc, ◌+◌, ◌<◌, ◌�
 use Rattle.crashdisk.specs.Model.{state_of}
 use Rattle.crashdisk.specs.declared.model.ModelDisk.{ModelDisk}
 use Rattle.walcore.specs.Machine.{Act}
-use Rattle.walcore.specs.Runs.{Moment}
+use Rattle.sqval.specs.Runs.{Moment}
 use Rattle.walcore.specs.Fits.{beginning}
 use Rattle.sqrescue.specs.Pages.{pages_of}
 use Rattle.sqrescue.specs.Run.{moment, moments_of, start_of}
@@ -22,14 +22,14 @@ use Rattle.sqrescue.proofs.Resting.{fits_new}
 abbrev pub ServedOn : Base → List Event → Run → Engine → Type 0
 ServedOn base events run engine = Served base.page_size base.sector base.tears (start_of base) events run (λ past. FitsEngine past engine) (disk_of engine)
 
-none_due : (tears : Bool) → let none : ℕ = 0 in none ≡ cond tears 0 0
+pub none_due : (tears : Bool) → let none : ℕ = 0 in none ≡ cond tears 0 0
 none_due true = refl
 none_due false = refl
 
 pub served_none : (base : Base) (disk : ModelDisk) (run : Run) → BeginsOn base disk → run.replies.items ≡ [] → run.refused.items ≡ [] → run.found.items ≡ [] → run.crashed.items ≡ [] → ServedOn base [] run (Closed disk 0)
 served_none base disk run begins replies refused found crashed = record {
   complete = record { replies = ap length replies; refused = ap length refused; found = ap length found; crashed = ap length crashed ∙ none_due base.tears };
-  goings = λ untorn. goings_none base.page_size base.sector base.tears (start_of base) (λ past. FitsEngine past (Closed disk 0)) (state_of disk) (beginning base.page_size (pages_of base.pages.items)) refl refl refl
+  goings = goings_none base.page_size base.sector base.tears (start_of base) (λ past. FitsEngine past (Closed disk 0)) (state_of disk) (beginning base.page_size (pages_of base.pages.items)) refl refl refl
       (record { alone = fits_new base.page_size base.sector base.tears (pages_of base.pages.items) (state_of disk) base.is_base begins.is_size begins.new; is_closed = refl; readers = refl; tokens = refl })
       begins.new.refused begins.new.sector begins.new.tears;
 }
@@ -42,12 +42,12 @@ served_more base events event run new_run old new served goes =
     let m : Moment Act = moment event given.found given.crashed given.reply count in
     record {
       complete = complete_more base.tears events run new_run event given count served.complete goes.noted answers.found answers.crashed;
-      goings = λ untorn. subst (λ ms. Goings base.page_size base.sector base.tears (start_of base) ms (λ past. FitsEngine past new) (disk_of new))
+      goings = subst (λ ms. Goings base.page_size base.sector base.tears (start_of base) ms (λ past. FitsEngine past new) (disk_of new))
           (sym (moments_more base.tears events run new_run event given count served.complete goes.noted answers.found answers.crashed))
-          (goings_more base.page_size base.sector base.tears untorn (start_of base) (moments_of events run) m (λ past. FitsEngine past old) (λ past. FitsEngine past new) (disk_of old) (disk_of new) answers.serves refl (served.goings untorn));
+          (goings_more base.page_size base.sector base.tears (start_of base) (moments_of events run) m (λ past. FitsEngine past old) (λ past. FitsEngine past new) (disk_of old) (disk_of new) answers.serves refl served.goings);
     }
 
-taken_next : (events : List Event) (i : ℕ) (event : Event) → i < length events → event ≡ get_or events i event → take (suc i) events ≡ take i events ++ event ∷ []
+pub taken_next : {E : Type 0} (events : List E) (i : ℕ) (event : E) → i < length events → event ≡ get_or events i event → take (suc i) events ≡ take i events ++ event ∷ []
 taken_next [] i event l h = absurd (omega arith)
 taken_next (x ∷ events) zero event l h = ap (λ e. e ∷ []) (sym h)
 taken_next (x ∷ events) (suc i) event l h = ap (λ es. x ∷ es) (taken_next events i event (omega arith) h)

@@ -2,8 +2,8 @@
 use Rattle.std.specs.Prelude.{◌≡◌, ℕ, Bool, true, false, ◌&&◌, List, replicate, Option, Some, None, is_some, Result, Ok, Err}
 use Rattle.crashdisk.specs.Call.{DiskState, IsCrash}
 use Rattle.crashdisk.specs.Model.{state_of}
-use Rattle.walcore.specs.Answers.{Answer, Done, NoReader, Refused}
-use Rattle.walcore.specs.Machine.{Crashed, Act, forgotten}
+use Rattle.sqval.specs.Answers.{Answer, Done, NoReader, Refused, Crashed}
+use Rattle.walcore.specs.Machine.{Act, forgotten}
 use Rattle.walcore.specs.Fits.{Past, FitsAlone}
 use Rattle.sqrescue.specs.Run.{act_of, answer_of, left_of, is_opening, is_crash}
 use Rattle.sqrescue.specs.Sessions.{FitsSession, Serves, begun_by}

@@ -9,3 +9,7 @@ pub mod Run
 pub mod Sessions
 pub mod Engines
 pub mod Worlds
+pub mod JournalRun
+pub mod JournalEngines
+pub mod JournalWorlds
+pub mod Verdicts

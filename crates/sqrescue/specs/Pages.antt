@@ -3,7 +3,7 @@ use Rattle.std.specs.Prelude.{◌≡◌, ℕ, ◌*◌, ◌<◌, ◌≤◌, Bool,
 use Rattle.std.specs.declared.alloc.Global.{Global}
 use Rattle.sqval.specs.Database.{Database}
 use Rattle.crashdisk.specs.Solid.{is_sector_size}
-use Rattle.walcore.specs.Refusal.{most_bytes}
+use Rattle.sqval.specs.CommitFaults.{most_bytes}
 
 abbrev pub pages_of : List (Vec ℕ Global) → Database
 pages_of pages = map (λ page. page.items) pages

@@ -3,9 +3,9 @@ use Rattle.std.specs.Prelude.{◌≡◌, ℕ, Bool, true, false, cond, List, [],
 use Rattle.std.specs.List.{count_by}
 use Rattle.std.specs.declared.alloc.Global.{Global}
 use Rattle.sqval.specs.Database.{Pages}
-use Rattle.walcore.specs.Answers.{Files, Answer, Done, Reader, Page, Complete, Partial, NoReader, Refused}
-use Rattle.walcore.specs.Machine.{State, start, Crashed, Act, Opens, Commits, Syncs, Begins, Reads, Ends, Checkpoints, Restarts, Crashes, Sets}
-use Rattle.walcore.specs.Runs.{Moment}
+use Rattle.sqval.specs.Answers.{Files, Answer, Done, Reader, Page, Complete, Partial, NoReader, Refused, Crashed}
+use Rattle.walcore.specs.Machine.{State, start, Act, Opens, Commits, Syncs, Begins, Reads, Ends, Checkpoints, Restarts, Crashes, Sets}
+use Rattle.sqval.specs.Runs.{Moment}
 use Rattle.sqrescue.specs.Pages.{pages_of}
 use Rattle.sqrescue.specs.declared.base.Base.{Base}
 use Rattle.sqrescue.specs.declared.event.Event.{Event}

@@ -1,8 +1,8 @@
 -- How an engine and its readers go from one call to the next.
-use Rattle.std.specs.Prelude.{◌≡◌, ℕ, ◌+◌, ◌≤◌, false, List, ◌++◌, length, replicate, Option, None}
+use Rattle.std.specs.Prelude.{◌≡◌, ℕ, ◌+◌, ◌≤◌, List, ◌++◌, length, replicate, Option, None}
 use Rattle.crashdisk.specs.Call.{DiskState}
 use Rattle.crashdisk.specs.Model.{state_of}
-use Rattle.walcore.specs.Answers.{Answer}
+use Rattle.sqval.specs.Answers.{Answer}
 use Rattle.walcore.specs.Machine.{Act, Step}
 use Rattle.walcore.specs.Making.{Makes, Permits}
 use Rattle.walcore.specs.Fits.{Past, FitsCore, IsSameDisk}
@@ -34,10 +34,10 @@ pub record ServesTo (past : Past) (act : Act) (answer : Answer) (FitsNext : Past
   pub fits : FitsNext next
   pub same : IsSameDisk old new
 
--- One event, for whatever fits, so far on a disk that doesn't tear.
+-- One event, for whatever fits.
 abbrev pub Serves : (page_size : ℕ) (FitsOld FitsNext : Past → Type 0) (old new : DiskState) → Act → Answer → Type 0
 Serves page_size FitsOld FitsNext old new act answer =
-    (past : Past) → past.state.page_size ≡ page_size → old.tears ≡ false → FitsOld past → Permits past.made act answer → ServesTo past act answer FitsNext old new
+    (past : Past) → past.state.page_size ≡ page_size → FitsOld past → Permits past.made act answer → ServesTo past act answer FitsNext old new
 
 abbrev pub SessionServes : (page_size : ℕ) (old new : Session) → Act → Answer → Type 0
 SessionServes page_size old new act answer =

@@ -1,12 +1,12 @@
 -- How a run goes on.
-use Rattle.std.specs.Prelude.{◌≡◌, ℕ, Bool, false, List, [], ◌∷◌, ◌++◌, take, Option, Some, None}
+use Rattle.std.specs.Prelude.{◌≡◌, ℕ, Bool, List, [], ◌∷◌, ◌++◌, take, Option, Some, None}
 use Rattle.sqval.specs.PageSize.{IsPageSize}
 use Rattle.crashdisk.specs.Call.{DiskState, IsNew}
 use Rattle.crashdisk.specs.Model.{state_of}
 use Rattle.crashdisk.specs.declared.model.ModelDisk.{ModelDisk}
 use Rattle.walcore.specs.Machine.{State, Act, Step}
 use Rattle.walcore.specs.Making.{Made, Makes, Holds, nothing}
-use Rattle.walcore.specs.Runs.{Moment, Runs, IsRun}
+use Rattle.sqval.specs.Runs.{Moment, Runs, IsRun}
 use Rattle.walcore.specs.Fits.{Past}
 use Rattle.sqrescue.specs.Pages.{pages_of}
 use Rattle.sqrescue.specs.Run.{moments_of, IsComplete}
@@ -60,7 +60,7 @@ pub record Goings (size sector : ℕ) (tears : Bool) (first : State) (ms : List 
   pub prefixes : (n : ℕ) → Holds size sector tears nothing (take n ms) → IsRun Step first (take n ms)
   pub fits : Holds size sector tears nothing ms → Fitting size sector tears first ms FitsNow s
 
--- events were answered, so far on a disk that doesn't tear
+-- events were answered
 pub record Served (size sector : ℕ) (tears : Bool) (first : State) (events : List Event) (run : Run) (FitsNow : Past → Type 0) (s : DiskState) : Type 0 where
   pub complete : IsComplete tears events run
-  pub goings : tears ≡ false → Goings size sector tears first (moments_of events run) FitsNow s
+  pub goings : Goings size sector tears first (moments_of events run) FitsNow s

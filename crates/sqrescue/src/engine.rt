@@ -2,7 +2,7 @@
 ghost use Rattle.std.specs.Prelude.{◌≡◌, ◌+◌, ◌<◌, ◌≤◌, ◌^◌, ℕ, Bool, false, Some, None, IfOk, length};
 ghost use Rattle.crashdisk.specs.Call.{of, ArePresent};
 ghost use Rattle.crashdisk.specs.Model.{state_of};
-ghost use Rattle.walcore.specs.Answers.{Files};
+ghost use Rattle.sqval.specs.Answers.{Files};
 ghost use Rattle.walcore.specs.Machine.{Opens};
 ghost use Rattle.walcore.specs.Making.{Permits};
 ghost use Rattle.walcore.specs.Fits.{Past, FitsAlone, AreFiles};
@@ -45,7 +45,7 @@ fn bytes_of(alloc: Global, disk: &ModelDisk, file: File) -> Result<Vec<u8>, Allo
 }
 
 /// The bytes of both files.
-fn find(alloc: Global, disk: &ModelDisk) -> Result<Found, AllocError>
+pub(crate) fn find(alloc: Global, disk: &ModelDisk) -> Result<Found, AllocError>
     ensures { IfOk result (λ found. AreFiles (state_of disk.now) (files_of found)) }
 {
     let db = bytes_of(alloc, disk, File::Db)?;
@@ -66,7 +66,7 @@ fn copy_writes(alloc: Global, writes: &[(u64, Vec<u8>)]) -> Result<Vec<(u64, Vec
 }
 
 /// Crashes a disk, and answers what that left of the log of one that tears.
-fn crash_disk(
+pub(crate) fn crash_disk(
     alloc: Global,
     disk: &mut ModelDisk,
     tears: bool,
@@ -86,6 +86,21 @@ fn crash_disk(
     Ok(Some(Crashed { log, kept, handed }))
 }
 
+/// Lets a call of the disk fail, of which this part is left.
+pub(crate) fn fail_disk(
+    alloc: Global,
+    disk: &mut ModelDisk,
+    call: u64,
+    part: &Part,
+) -> Result<(), AllocError>
+    ensures { state_of disk.new ≡ state_of disk.old }
+{
+    let pick = Vec::from_slice(alloc, &part.pick)?;
+    let new_len = part.new_len;
+    disk.fail(call, Part { pick, new_len });
+    Ok(())
+}
+
 /// Sets a stop or a failure.
 fn set_disk(alloc: Global, disk: &mut ModelDisk, event: &Event) -> Result<(), AllocError>
     ensures { state_of disk.new ≡ state_of disk.old }
@@ -93,11 +108,7 @@ fn set_disk(alloc: Global, disk: &mut ModelDisk, event: &Event) -> Result<(), Al
     match event {
         Event::StopAfter(calls) => disk.stop_after(*calls),
         Event::StopAtSync(syncs) => disk.stop_at_sync(*syncs),
-        Event::Fail { call, part } => {
-            let pick = Vec::from_slice(alloc, &part.pick)?;
-            let new_len = part.new_len;
-            disk.fail(*call, Part { pick, new_len });
-        }
+        Event::Fail { call, part } => fail_disk(alloc, disk, *call, part)?,
         _ => (),
     }
     Ok(())
@@ -312,7 +323,7 @@ impl Engine {
 }
 
 /// A reply, and nothing else.
-fn alone(reply: Result<Reply, AllocError>) -> Result<Given, AllocError>
+pub(crate) fn alone(reply: Result<Reply, AllocError>) -> Result<Given, AllocError>
     ensures { IsAlone reply result }
 {
     let reply = reply?;

@@ -1,5 +1,6 @@
 //! A disk over two real files.
 ghost use Rattle.std.specs.Prelude.{◌≡◌};
+ghost use Rattle.crashdisk.specs.declared.file.File.TheVariants.{Db, Log};
 
 use crashdisk::{Disk, DiskError, File};
 use std::fs::OpenFile;
@@ -23,7 +24,10 @@ impl<F: FileExt + OpenFile + Drop> FileDisk<F> {
         FileDisk { db, log }
     }
 
-    fn file(&self, file: File) -> &F {
+    fn file(&self, file: File) -> &F
+        ensures db { file ≡ Db → result.now ≡ self.now.db }
+        ensures log { file ≡ Log → result.now ≡ self.now.log }
+    {
         match file {
             File::Db => &self.db,
             File::Log => &self.log,
@@ -32,7 +36,7 @@ impl<F: FileExt + OpenFile + Drop> FileDisk<F> {
 }
 
 /// Fills the buffer from a place on, with zeros past the end of the file.
-pub fn read_or_zeros<F: FileExt>(file: &F, at: u64, out: &mut [u8]) -> io::Result<()> {
+pub(crate) fn read_or_zeros<F: FileExt>(file: &F, at: u64, out: &mut [u8]) -> io::Result<()> {
     let mut from = 0;
     for _ in 0..u64::MAX {
         if from >= out.len() {

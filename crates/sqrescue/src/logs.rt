@@ -29,7 +29,7 @@ fn log_paths(alloc: Global, file: &str) -> Result<(String, String), AllocError> 
 }
 
 /// The length of a file in bytes, 0 where there is none.
-pub fn file_length<R: Files>(rt: &R, path: &str) -> Result<u64, Refusal> {
+pub(crate) fn file_length<R: Files>(rt: &R, path: &str) -> Result<u64, Refusal> {
     match fs::metadata(rt, path) {
         Ok(metadata) if metadata.is_file() => Ok(metadata.len()),
         Ok(_) => Err(Refusal::FileFailed),
@@ -43,7 +43,7 @@ fn open<R: Files>(rt: &R, path: &str) -> Result<R::File, Refusal> {
 }
 
 /// An opened file and its length.
-pub fn opened<R: Files>(rt: &R, path: &str) -> Result<(R::File, u64), Refusal> {
+pub(crate) fn opened<R: Files>(rt: &R, path: &str) -> Result<(R::File, u64), Refusal> {
     Ok((open(rt, path)?, file_length(rt, path)?))
 }
 
@@ -66,7 +66,7 @@ where
 
 /// The log that counts beside a database file. Refused by `FileFailed` where a file can't be read or isn't one, and
 /// by `TwoLogs`.
-pub fn log_in_use<R: Files + AllocGlobal>(rt: &R, file: &str) -> Result<LogInUse, Refusal>
+pub(crate) fn log_in_use<R: Files + AllocGlobal>(rt: &R, file: &str) -> Result<LogInUse, Refusal>
 where
     R::File: FileExt,
 {
@@ -90,20 +90,15 @@ where
 }
 
 /// The bytes of a file; none where there is no file.
-fn bytes_of<R: Files + AllocGlobal>(rt: &R, path: &str) -> Result<Vec<u8>, Refusal>
-where
-    R::File: FileExt,
-{
-    let length = file_length(rt, path)?;
-    let Ok(length) = usize::try_from(length) else {
-        return Err(Refusal::TooLarge);
-    };
-    let mut bytes = vec![in rt.alloc(); 0u8; length]?;
-    if length != 0 {
-        let file = open(rt, path)?;
-        read_or_zeros(&file, 0, &mut bytes)?;
+fn bytes_of<R: Files + AllocGlobal>(rt: &R, path: &str) -> Result<Vec<u8>, Refusal> {
+    if file_length(rt, path)? == 0 {
+        return Ok(Vec::new(rt.alloc()));
     }
-    Ok(bytes)
+    match fs::read(rt, path) {
+        Ok(bytes) => Ok(bytes),
+        Err(error) if error.kind() == io::ErrorKind::OutOfMemory => Err(Refusal::NoMemory),
+        Err(_) => Err(Refusal::FileFailed),
+    }
 }
 
 /// The bytes of a database file and its logs.
@@ -115,7 +110,7 @@ pub struct Contents {
 }
 
 /// Reads a database file and its logs, of which each may be missing. Only the file itself has to be there.
-pub fn read_all<R: Files + AllocGlobal>(rt: &R, file: &str) -> Result<Contents, Refusal>
+pub(crate) fn read_all<R: Files + AllocGlobal>(rt: &R, file: &str) -> Result<Contents, Refusal>
 where
     R::File: FileExt,
 {
@@ -131,7 +126,7 @@ where
 }
 
 /// The scan of a log's file, or what refuses its header.
-pub fn scan_file<F: FileExt>(
+pub(crate) fn scan_file<F: FileExt>(
     alloc: Global,
     log: &F,
     length: u64,
@@ -155,7 +150,11 @@ pub fn scan_file<F: FileExt>(
 }
 
 /// The replay of a journal's file. `FileFailed` where it isn't the hot journal that it was.
-pub fn replay_file<F: FileExt>(alloc: Global, journal: &F, length: u64) -> Result<Replay, Refusal> {
+pub(crate) fn replay_file<F: FileExt>(
+    alloc: Global,
+    journal: &F,
+    length: u64,
+) -> Result<Replay, Refusal> {
     let mut replay = Replay::new(alloc);
     let mut piece = vec![in alloc; 0u8; PIECE]?;
     let mut at = 0;

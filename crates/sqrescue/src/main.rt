@@ -9,6 +9,11 @@ mod engine;
 mod event;
 mod file_disk;
 mod file_head;
+mod journal_engine;
+mod journal_event;
+#[cfg(test)]
+mod journal_tests;
+mod journal_world;
 mod logs;
 mod outcome;
 mod places;
@@ -23,8 +28,11 @@ mod session;
 mod show_tests;
 mod showing;
 #[cfg(test)]
+mod sweeps;
+#[cfg(test)]
 mod tests;
 mod texts;
+mod verdict;
 mod view;
 mod view_error;
 mod words;

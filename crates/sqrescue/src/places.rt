@@ -4,51 +4,14 @@ ghost use Rattle.sqwal.specs.Took.{Took};
 ghost use Rattle.sqwal.specs.Header.{named_size};
 ghost use Rattle.sqwal.specs.Frames.{IsValidFrame, frame_at};
 ghost use Rattle.sqjournal.specs.Took.{Took as ReplayTook};
-ghost use Rattle.walcore.specs.Plans.{wanted_page, IsTable};
 ghost use Rattle.sqrescue.specs.ViewParts.{AreFramePlaces, AreRecordPlaces, Noted};
 
 use crate::view_error::ViewError;
 use sqjournal::Replay;
 use sqval::PageSize;
-use sqwal::{FrameIndex, Front, Scan};
+use sqwal::{Front, Scan};
 use std::alloc::Global;
-
-/// The page that a frame names, 0 where it is above the size.
-fn wanted(scan: &Scan, frame: usize, size: u32) -> u32
-    ensures bound { result ≤ size }
-    ensures page { (w : List ℕ) → Took w scan.now → IsValidFrame (named_size w) w frame → result ≡ wanted_page (named_size w) size w frame }
-{
-    match scan.entry(frame) {
-        Some(entry) => { if entry.page <= size { entry.page } else { 0 } }
-        None => 0,
-    }
-}
-
-/// Makes room for the frames of a log and the pages of its database.
-fn grow(index: &mut FrameIndex, bound: u32, frames: u32) -> Result<(), ViewError>
-    ensures pages { index.new.pages ≡ index.old.pages }
-    ensures bound { OnOk result (bound ≤ index.new.bound) }
-    ensures room { OnOk result (frames ≤ index.new.room) }
-    ensures memory { OnErr result (result ≡ Err ViewError.NoMemory) }
-{
-    match index.grow(bound, frames) {
-        Ok(()) => Ok(()),
-        Err(_) => Err(ViewError::NoMemory),
-    }
-}
-
-/// The frames of a log up to its front by their pages.
-fn index_of(alloc: Global, scan: &Scan, front: Front) -> Result<FrameIndex, ViewError>
-    ensures table { IfOk result (λ t. (w : List ℕ) → Took w scan.now → IsValidFrame (named_size w) w front.frames → IsTable (named_size w) front.size w front.frames t) }
-    ensures memory { OnErr result (result ≡ Err ViewError.NoMemory) }
-{
-    let mut index = FrameIndex::new(alloc);
-    grow(&mut index, front.size, front.frames)?;
-    for k in 0..front.frames {
-        index.push(wanted(scan, k as usize + 1, front.size));
-    }
-    Ok(index)
-}
+use walcore::index_of;
 
 /// Where the page of a frame begins, 0 for no frame.
 fn place(frame: u32, page_size: PageSize) -> u64
@@ -71,7 +34,9 @@ pub fn frame_places(
     ensures places { IfOk result (λ v. (w : List ℕ) → Took w scan.now → named_size w ≡ page_size → IsValidFrame (named_size w) w front.frames → AreFramePlaces page_size w front.frames front.size v.items) }
     ensures memory { OnErr result (result ≡ Err ViewError.NoMemory) }
 {
-    let index = index_of(alloc, scan, front)?;
+    let Ok(index) = index_of(alloc, scan, front) else {
+        return Err(ViewError::NoMemory);
+    };
     let mut places = Vec::new(alloc);
     places.reserve(front.size as usize)?;
     for k in 0..front.size {

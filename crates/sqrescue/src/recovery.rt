@@ -1,4 +1,6 @@
 //! The recovery of a database file from the log beside it.
+ghost use Rattle.std.specs.Prelude.{◌≡◌};
+
 use crate::file_disk::{FileDisk, read_or_zeros};
 use crate::file_head::{has_magic, named_page_size};
 use crate::logs::{LogInUse, file_length, log_in_use, scan_file};
@@ -49,7 +51,7 @@ impl From<WalError> for Refusal {
 
 /// Recovers a database file from the log that counts beside it: folds FILE-wal into it and empties FILE-wal, or replays
 /// a hot FILE-journal into it and zeroes the journal's header. No file is made, and where no log counts none is written.
-pub fn recover<R: Files + AllocGlobal>(rt: &R, file: &str) -> Result<Outcome, Refusal>
+pub(crate) fn recover<R: Files + AllocGlobal>(rt: &R, file: &str) -> Result<Outcome, Refusal>
 where
     R::File: FileExt,
 {
@@ -135,7 +137,9 @@ fn page_size_of<F: FileExt + OpenFile>(
     }
 }
 
-fn smallest() -> PageSize {
+fn smallest() -> PageSize
+    ensures { result ≡ 512 }
+{
     PageSize::new(512).unwrap()
 }
 

@@ -31,6 +31,12 @@ pub fn log_of(alloc: Global, frames: &[(u32, u32, u8)]) -> Result<Vec<u8>, Alloc
     Ok(log)
 }
 
+/// The header of a log of version 3007001, with its right sums.
+pub const OTHER_VERSION: [u8; 32] = [
+    0x37, 0x7f, 6, 0x83, 0, 0x2d, 0xe2, 0x19, 0, 0, 0x10, 0, 0, 0, 0, 0, 0, 0, 0, 1, 0, 0, 0, 2,
+    0x16, 4, 0xe6, 0xdb, 0xbc, 0xdd, 0xce, 0x98,
+];
+
 /// A journal of pages and sectors of 512 bytes, with the database's size before the transaction: for each record its
 /// page and what fills it.
 pub fn journal_of(

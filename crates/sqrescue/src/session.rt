@@ -1,9 +1,9 @@
 //! An engine that is there, and its readers.
 ghost use Rattle.std.specs.Prelude.{◌≡◌, ◌+◌, ◌<◌, ◌≤◌, ◌^◌, ◌++◌, ◌∷◌, ℕ, [], IfOk, MatchOption, length, get_or, Some, None};
 ghost use Rattle.crashdisk.specs.Model.{state_of};
-ghost use Rattle.walcore.specs.Answers.{Done, Page};
+ghost use Rattle.sqval.specs.Answers.{Done, Page};
 ghost use Rattle.walcore.specs.Machine.{Commits, Syncs, Checkpoints, Restarts, Begins, Reads, Ends};
-ghost use Rattle.walcore.specs.Judged.{lent};
+ghost use Rattle.sqval.specs.JudgedPages.{lent};
 ghost use Rattle.walcore.specs.Fits.{answered};
 ghost use Rattle.walcore.specs.Bringing.{answer_of as checkpoint_answer};
 ghost use Rattle.sqrescue.specs.Run.{numbered, answer_of};
@@ -23,7 +23,7 @@ pub struct Session {
 }
 
 /// Pages as an engine takes them.
-fn lend(alloc: Global, pages: &[(u32, Vec<u8>)]) -> Result<Vec<(u32, &[u8])>, AllocError>
+pub(crate) fn lend(alloc: Global, pages: &[(u32, Vec<u8>)]) -> Result<Vec<(u32, &[u8])>, AllocError>
     ensures { IfOk result (λ all. lent all.items ≡ numbered pages.now) }
 {
     let mut all = Vec::new(alloc);
@@ -34,7 +34,7 @@ fn lend(alloc: Global, pages: &[(u32, Vec<u8>)]) -> Result<Vec<(u32, &[u8])>, Al
 }
 
 /// So many zeros.
-fn zeros(alloc: Global, count: usize) -> Result<Vec<u8>, AllocError>
+pub(crate) fn zeros(alloc: Global, count: usize) -> Result<Vec<u8>, AllocError>
     ensures { IfOk result (λ bytes. length bytes.items ≡ count) }
 {
     let mut bytes = Vec::new(alloc);

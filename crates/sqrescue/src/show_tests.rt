@@ -1,8 +1,8 @@
 use crate::program::run;
 use crate::requests::{LineError, Part, Request};
-use crate::samples::{PAGE, database, first_page, journal_of, leaf, log_of};
+use crate::samples::{OTHER_VERSION, PAGE, database, first_page, journal_of, leaf, log_of};
 use crate::words::request;
-use std::alloc::Global;
+use std::alloc::{AllocError, Global};
 use std::os::unix::fs::FileExt;
 use std::process::Abort;
 use std::rt::Files;
@@ -281,6 +281,89 @@ stop End at 1552
         fs::read(&rt, files.journal.as_str())?.as_slice(),
         journal.as_slice()
     );
+    removed(&rt, &files)
+}
+
+/// The file's bytes with another byte at a place.
+fn changed(alloc: Global, bytes: &[u8], at: usize, byte: u8) -> Result<Vec<u8>, AllocError> {
+    let mut other = Vec::new(alloc);
+    other.extend_from_slice(bytes)?;
+    if let Some(place) = other.get_mut(at) {
+        *place = byte;
+    }
+    Ok(other)
+}
+
+#[test]
+fn shows_where_a_log_stops(rt: HostRuntime) -> Result<(), Fail> {
+    let alloc = rt.alloc();
+    let wal = log_of(alloc, &[(1, 1, b'a'), (2, 2, b'b')])?;
+    let files = written(&rt, "stops", &first_page(1), wal.as_slice(), &[])?;
+    // The second frame begins at 568, with its page; its salts stand at 576, and it ends at 1104.
+    for (at, byte, why) in [(571, 0, "PageZero"), (579, 9, "Salt"), (1103, b'x', "Sum")] {
+        let bytes = changed(alloc, &wal, at, byte)?;
+        fs::write(&rt, files.wal.as_str(), bytes.as_slice())?;
+        let text = format!(in alloc;
+            "wal pagesize 512 sequence 0 salts 00000001 00000002
+frame 1 page 1 size 1
+front 1 size 1 stop {why} at 2
+"
+        )?;
+        shows(&rt, &files, &["--log"], text.as_bytes())?;
+    }
+    for (at, byte, text) in [
+        (10, 3, b"wal refused 2\n".as_slice()),
+        (31, 9, b"wal refused 3\n".as_slice()),
+    ] {
+        let bytes = changed(alloc, &wal, at, byte)?;
+        fs::write(&rt, files.wal.as_str(), bytes.as_slice())?;
+        shows(&rt, &files, &["--log"], text)?;
+    }
+    fs::write(&rt, files.wal.as_str(), OTHER_VERSION.as_slice())?;
+    shows(&rt, &files, &["--log"], b"wal refused 4\n")?;
+    removed(&rt, &files)
+}
+
+/// What `show --log` prints of a journal of two records that stops behind the first one.
+fn stops<R: Files + AllocGlobal + Abort>(
+    rt: &R,
+    files: &Sample,
+    journal: &[u8],
+    end: &str,
+) -> Result<(), Fail>
+where
+    R::File: FileExt,
+{
+    fs::write(rt, files.journal.as_str(), journal)?;
+    let text = format!(in rt.alloc();
+        "journal pagesize 512 sector 512 first 2
+record 1 page 2 at 516
+stop {end}
+"
+    )?;
+    shows(rt, files, &["--log"], text.as_bytes())
+}
+
+#[test]
+fn shows_where_a_journal_stops(rt: HostRuntime) -> Result<(), Fail> {
+    let alloc = rt.alloc();
+    let mut journal = journal_of(alloc, 2, &[(2, b'j'), (9, b'k')])?;
+    let files = written(&rt, "ends", &first_page(1), &[], journal.as_slice())?;
+    // The second record begins at 1032, with its page, and ends at 1552.
+    let bytes = changed(alloc, &journal, 1035, 0)?;
+    stops(&rt, &files, &bytes, "PageZero at 1032")?;
+    let bytes = changed(alloc, &journal, 1551, b'x')?;
+    stops(&rt, &files, &bytes, "Sum at 1032")?;
+    // With a count of 1 the next header would stand at the next sector.
+    let mut bytes = Vec::new(alloc);
+    bytes.extend_from_slice(&journal[..journal.len().min(8)])?;
+    bytes.extend_from_slice(&[0, 0, 0, 1])?;
+    bytes.extend_from_slice(&journal[journal.len().min(12)..])?;
+    stops(&rt, &files, &bytes, "Header at 1536")?;
+    journal.truncate(1551);
+    stops(&rt, &files, &journal, "Short at 1032")?;
+    journal.truncate(1032);
+    stops(&rt, &files, &journal, "End at 1032")?;
     removed(&rt, &files)
 }
 

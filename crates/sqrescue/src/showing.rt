@@ -2,6 +2,8 @@
 ghost use Rattle.std.specs.Prelude.{◌≡◌, ◌<◌, ◌≤◌, length, IfOk, OnOk};
 ghost use Rattle.sqval.specs.PageSize.{IsPageSize};
 ghost use Rattle.sqpage.specs.Chain.{payload_size};
+ghost use Rattle.sqval.specs.Database.{page as page_at};
+ghost use Rattle.sqrescue.specs.LogView.{IsShown, pages_of};
 
 use crate::logs::{Contents, LogInUse, log_in_use, opened, read_all, replay_file, scan_file};
 use crate::outcome::Refusal;
@@ -62,7 +64,7 @@ impl From<ViewError> for Refusal {
 }
 
 /// Prints a part of a database file as its log has it, or its log. No file is opened for writing, and none is made.
-pub fn show<R: Files + AllocGlobal, O: Write>(
+pub(crate) fn show<R: Files + AllocGlobal, O: Write>(
     rt: &R,
     file: &str,
     part: Part,
@@ -109,7 +111,9 @@ where
 }
 
 /// The view of a file with its logs.
-fn view_of(alloc: Global, contents: &Contents) -> Result<View<'_>, Refusal> {
+fn view_of(alloc: Global, contents: &Contents) -> Result<View<'_>, Refusal>
+    ensures { IfOk result (IsShown contents.now.db.items contents.now.wal.items contents.now.journal.items) }
+{
     let view = View::new(alloc, &contents.db, &contents.wal, &contents.journal)?;
     Ok(view)
 }
@@ -117,6 +121,7 @@ fn view_of(alloc: Global, contents: &Contents) -> Result<View<'_>, Refusal> {
 /// A page of a view. Refused where there is no such page.
 fn page_of(alloc: Global, view: &mut View<'_>, number: u32) -> Result<Vec<u8>, ShowError>
     ensures page { IfOk result (λ page. (length page.items ≡ view.old.page_size) × IsPageSize (length page.items)) }
+    ensures content { IfOk result (λ page. page.items ≡ page_at (pages_of view.old) number) }
     ensures number { OnOk result (0 < number) }
     ensures size { view.new.page_size ≡ view.old.page_size }
 {

@@ -1,5 +1,5 @@
 use crate::program::run;
-use crate::samples::{PAGE, log_of};
+use crate::samples::{OTHER_VERSION, PAGE, log_of};
 use std::test::Fail;
 use std::{env, fs, process};
 
@@ -44,27 +44,46 @@ fn folds_the_front_and_then_finds_nothing(rt: HostRuntime) -> Result<(), Fail> {
     Ok(())
 }
 
-#[test]
-fn refuses_a_log_of_another_page_size(rt: HostRuntime) -> Result<(), Fail> {
-    let path = path_of(&rt, "size")?;
+/// What `recover` answers for a database file with this log; neither file changes.
+fn refused(
+    rt: &HostRuntime,
+    name: &str,
+    db: &[u8],
+    log: &[u8],
+) -> Result<(u8, Vec<u8>, Vec<u8>), Fail> {
+    let path = path_of(rt, name)?;
     let log_path = format!(in rt.alloc(); "{path}-wal")?;
-    let mut db = Vec::new(rt.alloc());
-    db.extend_from_slice(b"SQLite format 3\0\x10\x00")?;
-    fs::write(&rt, path.as_str(), db.as_slice())?;
-    let log = log_of(rt.alloc(), &[(1, 1, b'b')])?;
-    fs::write(&rt, log_path.as_str(), log.as_slice())?;
+    fs::write(rt, path.as_str(), db)?;
+    fs::write(rt, log_path.as_str(), log)?;
+    let (status, out, err) = answer(rt, ["sqrescue", "recover", path.as_str()].as_slice());
+    let same = fs::read(rt, path.as_str())?.as_slice() == db
+        && fs::read(rt, log_path.as_str())?.as_slice() == log;
+    fs::remove_file(rt, path.as_str())?;
+    fs::remove_file(rt, log_path.as_str())?;
+    Ok((if same { status } else { 4 }, out, err))
+}
 
-    let (status, out, err) = answer(&rt, ["sqrescue", "recover", path.as_str()].as_slice());
+#[test]
+fn refuses_logs(rt: HostRuntime) -> Result<(), Fail> {
+    let alloc = rt.alloc();
+    let other_size = b"SQLite format 3\0\x10\x00";
+    let log = log_of(alloc, &[(1, 1, b'b')])?;
+    let (status, out, err) = refused(&rt, "size", other_size, &log)?;
     assert_eq!(rt; status, 3);
     assert_eq!(rt; out.as_slice(), b"".as_slice());
     assert_eq!(rt; err.as_slice(), b"sqrescue: page sizes differ\n".as_slice());
-    assert_eq!(rt; fs::read(&rt, path.as_str())?.as_slice(), db.as_slice());
+    let (status, out, err) = refused(&rt, "version", &[b'a'; PAGE], &OTHER_VERSION)?;
+    assert_eq!(rt; status, 3);
+    assert_eq!(rt; out.as_slice(), b"".as_slice());
     assert_eq!(rt;
-        fs::read(&rt, log_path.as_str())?.as_slice(),
-        log.as_slice()
+        err.as_slice(),
+        b"sqrescue: unknown log version\n".as_slice()
     );
-    fs::remove_file(&rt, path.as_str())?;
-    fs::remove_file(&rt, log_path.as_str())?;
+    let large = log_of(alloc, &[(1, 2_097_153, b'b')])?;
+    let (status, out, err) = refused(&rt, "large", &[b'a'; PAGE], &large)?;
+    assert_eq!(rt; status, 3);
+    assert_eq!(rt; out.as_slice(), b"".as_slice());
+    assert_eq!(rt; err.as_slice(), b"sqrescue: too large\n".as_slice());
     Ok(())
 }
 

@@ -10,7 +10,7 @@ use std::io::{self, Write};
 const HEX_PIECE: usize = 512;
 
 /// A line for each field of a database's header, and one for how many pages there are.
-pub fn write_header<W: Write>(out: &mut W, header: &DbHeader, pages: u32) -> io::Result<()> {
+pub(crate) fn write_header<W: Write>(out: &mut W, header: &DbHeader, pages: u32) -> io::Result<()> {
     let fields = [
         ("page size", header.page_size.get()),
         ("write version", u32::from(header.write_version)),
@@ -39,7 +39,7 @@ pub fn write_header<W: Write>(out: &mut W, header: &DbHeader, pages: u32) -> io:
 }
 
 /// The line of a well-formed database: its pages by their use.
-pub fn write_report<W: Write>(out: &mut W, report: &Report) -> io::Result<()> {
+pub(crate) fn write_report<W: Write>(out: &mut W, report: &Report) -> io::Result<()> {
     writeln!(
         out,
         "clean: {} pages, {} trees, {} b-tree, {} overflow, {} free",
@@ -48,7 +48,7 @@ pub fn write_report<W: Write>(out: &mut W, report: &Report) -> io::Result<()> {
 }
 
 /// The line of a fault at a page.
-pub fn write_fault<W: Write>(out: &mut W, error: &CheckError) -> io::Result<()> {
+pub(crate) fn write_fault<W: Write>(out: &mut W, error: &CheckError) -> io::Result<()> {
     let fault = error.fault;
     writeln!(
         out,
@@ -74,7 +74,7 @@ fn write_hex<W: Write>(out: &mut W, bytes: &[u8]) -> io::Result<()> {
 }
 
 /// A line for every 16 bytes of a page: their place and they themselves in hex.
-pub fn write_bytes<W: Write>(out: &mut W, page: &[u8]) -> io::Result<()> {
+pub(crate) fn write_bytes<W: Write>(out: &mut W, page: &[u8]) -> io::Result<()> {
     for (i, line) in page.chunks(16).enumerate() {
         write!(out, "{:04x} ", i.wrapping_mul(16))?;
         write_hex(out, line)?;
@@ -93,13 +93,17 @@ fn kind_name(kind: Kind) -> &'static str {
 }
 
 /// The first line of a b-tree page.
-pub fn write_page<W: Write>(out: &mut W, number: u32, page: &BtreePage<'_>) -> io::Result<()> {
+pub(crate) fn write_page<W: Write>(
+    out: &mut W,
+    number: u32,
+    page: &BtreePage<'_>,
+) -> io::Result<()> {
     let kind = kind_name(page.kind());
     writeln!(out, "page {number} {kind}, {} cells", page.len())
 }
 
 /// The line of a cell: its number from 0, its place, and the parts that it has.
-pub fn write_cell<W: Write>(out: &mut W, i: usize, cell: &Cell<'_>) -> io::Result<()> {
+pub(crate) fn write_cell<W: Write>(out: &mut W, i: usize, cell: &Cell<'_>) -> io::Result<()> {
     write!(out, "cell {i} at {}", cell.at)?;
     if let Some(child) = cell.child {
         write!(out, " child {child}")?;
@@ -119,7 +123,7 @@ pub fn write_cell<W: Write>(out: &mut W, i: usize, cell: &Cell<'_>) -> io::Resul
 }
 
 /// The line of a column.
-pub fn write_column<W: Write>(out: &mut W, value: &Value<'_>) -> io::Result<()> {
+pub(crate) fn write_column<W: Write>(out: &mut W, value: &Value<'_>) -> io::Result<()> {
     let (name, bytes) = match value {
         Value::Null => return writeln!(out, "  null"),
         Value::Int(number) => return writeln!(out, "  int {number}"),
@@ -133,7 +137,7 @@ pub fn write_column<W: Write>(out: &mut W, value: &Value<'_>) -> io::Result<()> 
 }
 
 /// A line for a log's header, one for each valid frame, and one for its front and where it stops.
-pub fn write_log<W: Write>(out: &mut W, scan: &Scan) -> io::Result<()> {
+pub(crate) fn write_log<W: Write>(out: &mut W, scan: &Scan) -> io::Result<()> {
     let Some(header) = scan.header() else {
         return writeln!(out, "wal cut");
     };
@@ -164,7 +168,7 @@ pub fn write_log<W: Write>(out: &mut W, scan: &Scan) -> io::Result<()> {
 }
 
 /// A line for a hot journal's header, one for each record, and one for where it stops.
-pub fn write_journal<W: Write>(out: &mut W, replay: &Replay) -> io::Result<()> {
+pub(crate) fn write_journal<W: Write>(out: &mut W, replay: &Replay) -> io::Result<()> {
     let Some(header) = replay.first() else {
         return writeln!(out, "no log");
     };

@@ -1,8 +1,8 @@
 //! Whole runs.
-ghost use Rattle.std.specs.Prelude.{◌≡◌, ◌+◌, ◌<◌, ◌≤◌, ◌^◌, ℕ, false, IfOk, OnOk, take};
+ghost use Rattle.std.specs.Prelude.{◌≡◌, ◌+◌, ◌<◌, ◌≤◌, ◌^◌, ℕ, IfOk, OnOk, take};
 ghost use Rattle.walcore.specs.Machine.{Step};
 ghost use Rattle.walcore.specs.Making.{Holds, nothing};
-ghost use Rattle.walcore.specs.Runs.{IsRun};
+ghost use Rattle.sqval.specs.Runs.{IsRun};
 ghost use Rattle.sqrescue.specs.Run.{moments_of, start_of, IsComplete};
 ghost use Rattle.sqrescue.specs.Engines.{begun_of, disk_of};
 ghost use Rattle.sqrescue.specs.Worlds.{IsNoted, Goes, Served, BeginsOn};
@@ -20,7 +20,7 @@ use std::alloc::{AllocError, Global};
 pub struct NoMemory;
 
 /// A disk with the database of the base and an empty log.
-fn base_disk(alloc: Global, base: &Base) -> Result<ModelDisk, AllocError>
+pub(crate) fn base_disk(alloc: Global, base: &Base) -> Result<ModelDisk, AllocError>
     ensures { IfOk result (λ disk. BeginsOn base.now disk) }
 {
     let bytes = base.bytes(alloc)?;
@@ -37,7 +37,7 @@ fn base_disk(alloc: Global, base: &Base) -> Result<ModelDisk, AllocError>
 
 impl Run {
     /// Takes one answer more, with how many calls the disk had refused when the event ended.
-    fn note(&mut self, given: Given, refused: u64) -> Result<(), AllocError>
+    pub(crate) fn note(&mut self, given: Given, refused: u64) -> Result<(), AllocError>
         ensures { OnOk result (IsNoted given refused self.old self.new) }
     {
         let Given {
@@ -87,8 +87,7 @@ fn go(
 /// frame passes by chance, a pair of salts comes twice, or a disk that tears puts a header or a frame together.
 pub fn run_wal(alloc: Global, base: &Base, events: &[Event]) -> Result<Run, NoMemory>
     ensures complete { IfOk result (λ run. IsComplete base.now.tears events.now run) }
-    // so far on a disk that doesn't tear
-    ensures runs { base.now.tears ≡ false → IfOk result (λ run. (n : ℕ) → Holds base.now.page_size base.now.sector base.now.tears nothing (take n (moments_of events.now run))
+    ensures runs { IfOk result (λ run. (n : ℕ) → Holds base.now.page_size base.now.sector base.now.tears nothing (take n (moments_of events.now run))
         → IsRun Step (start_of base.now) (take n (moments_of events.now run))) }
 {
     let Ok(disk) = base_disk(alloc, base) else {

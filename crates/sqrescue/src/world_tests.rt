@@ -10,7 +10,7 @@ use std::test::Fail;
 
 /// A reply; of a page its first byte.
 #[derive(Clone, Copy, Debug, PartialEq, Eq)]
-enum Told {
+pub(crate) enum Told {
     Done,
     Reader(u64),
     Page(u8),
@@ -20,7 +20,7 @@ enum Told {
     Refused(u8),
 }
 
-fn tell(reply: &Reply) -> Told {
+pub(crate) fn tell(reply: &Reply) -> Told {
     match reply {
         Reply::Done => Told::Done,
         Reply::Reader(number) => Told::Reader(*number),
@@ -35,7 +35,7 @@ fn tell(reply: &Reply) -> Told {
     }
 }
 
-fn filled(alloc: Global, count: usize, byte: u8) -> Result<Vec<u8>, AllocError> {
+pub(crate) fn filled(alloc: Global, count: usize, byte: u8) -> Result<Vec<u8>, AllocError> {
     vec![in alloc; byte; count]
 }
 

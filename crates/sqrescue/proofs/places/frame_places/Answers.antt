@@ -8,10 +8,10 @@ loop-k-init c = λ w took named valid. placed_none c.args.page_size w c.args.fro
 
 pub loop-k-preserved : goal.loop-k-preserved
 loop-k-preserved c = λ w took named valid.
-    let table : IsTable c.args.page_size c.args.front.size w c.args.front.frames c.in_ok-index.index =
-    subst (λ (n : ℕ). IsTable n c.args.front.size w c.args.front.frames c.in_ok-index.index) named (c.in_ok-index.ensures.table w took valid) in
+    let table : IsTable c.args.page_size c.args.front.size w c.args.front.frames c.in-Ok.index =
+    subst (λ (n : ℕ). IsTable n c.args.front.size w c.args.front.frames c.in-Ok.index) named (c.in-Ok.ensures.table w took valid) in
     placed_more c.args.page_size w c.args.front.frames c.loop-k.k c.place.result c.loop-k.places.items _ (c.loop-k.invariant w took named valid) c.in_ok-push.ensures.items
-    (found_place c.args.page_size c.args.front.size w c.args.front.frames (c.loop-k.k + 1) c.find-hit.result.frame c.place.result c.in_ok-index.index table
+    (found_place c.args.page_size c.args.front.size w c.args.front.frames (c.loop-k.k + 1) c.find-hit.result.frame c.place.result c.in-Ok.index table
     (c.find-hit.ensures.newest (λ z. omega arith)) (omega arith) (omega (arith, c.loop-k-test.true)) c.place.ensures.none c.place.ensures.some)
 
 pub returns-clause-places : goal.returns-clause-places

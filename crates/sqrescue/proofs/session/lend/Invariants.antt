@@ -1,5 +1,5 @@
 use Rattle.std.proofs.Common.{◌≡◌, take}
-use Rattle.walcore.specs.Judged.{lent}
+use Rattle.sqval.specs.JudgedPages.{lent}
 use Rattle.sqrescue.specs.Run.{numbered}
 use Rattle.sqrescue.proofs.session.lend.Given as goal
 

@@ -15,4 +15,4 @@ loop-event-preserved c = record {
 }
 
 pub returns-clause-runs : goal.returns-clause-runs
-returns-clause-runs c = λ untorn. ((served_all c.args.base.now c.args.events.now c.loop-event.event-index c.loop-event.run c.loop-event.engine (search rules) c.loop-event.invariant.served).goings untorn).prefixes
+returns-clause-runs c = (served_all c.args.base.now c.args.events.now c.loop-event.event-index c.loop-event.run c.loop-event.engine (search rules) c.loop-event.invariant.served).goings.prefixes

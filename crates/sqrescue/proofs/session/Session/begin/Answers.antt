@@ -1,5 +1,5 @@
 use Rattle.std.proofs.Common.{◌+◌, sym, ap, rules}
-use Rattle.walcore.specs.Answers.{Refused}
+use Rattle.sqval.specs.Answers.{Refused}
 use Rattle.walcore.specs.Machine.{Begins}
 use Rattle.walcore.specs.Refusal.{number_of}
 use Rattle.sqrescue.proofs.Stepped.{stepped_still, began}
@@ -11,4 +11,4 @@ returns-in-Ok-clause-serves c page_size =
     (ap (λ n. c.args.self.now.first + n) (search rules)) (λ past fits. c.in-Ok.ensures.step tt past fits)
 
 pub returns-in-Err-clause-serves : goal.returns-in-Err-clause-serves
-returns-in-Err-clause-serves c page_size = stepped_still page_size c.args.self.now c.begin.new.self Begins (Refused (number_of c.in-Err.error)) (Refused c.number.result) (ap Refused (sym c.number.ensures)) (λ past untorn fits may. c.in-Err.ensures.step tt past fits)
+returns-in-Err-clause-serves c page_size = stepped_still page_size c.args.self.now c.begin.new.self Begins (Refused (number_of c.in-Err.error)) (Refused c.number.result) (ap Refused (sym c.number.ensures)) (λ past fits may. c.in-Err.ensures.step tt past fits)

@@ -1,5 +1,5 @@
 use Rattle.std.proofs.Common.{sym, ap, ◌∙◌, ◌≡◌, length, rules}
-use Rattle.walcore.specs.Answers.{Page}
+use Rattle.sqval.specs.Answers.{Page}
 use Rattle.walcore.specs.Fits.{answered}
 use Rattle.sqrescue.specs.Run.{answer_of}
 use Rattle.sqrescue.proofs.Stepped.{no_read, was_read, is_token, found_slot, filled}
