@@ -23,3 +23,9 @@ pub mod Synced
 pub mod Syncing
 pub mod Touching
 pub mod Turning
+pub mod Stills
+pub mod Down
+pub mod Suiting
+pub mod Pages
+pub mod Clear
+pub mod Later

@@ -3,6 +3,7 @@ pub mod Solid
 pub mod State
 pub mod Call
 pub mod Facts
+pub mod Keeps
 pub mod Held
 pub mod Model
 pub mod Stop

@@ -21,6 +21,3 @@ pub use error::DiskError;
 pub use file::File;
 pub use held::Part;
 pub use model::ModelDisk;
-
-#[cfg(test)]
-mod tests;

@@ -1,0 +1,96 @@
+-- What calls of a disk leave as it was, and disks on which an engine recovers pages (own).
+use Rattle.std.specs.Prelude.{◌≡◌, ◌⊎◌, ℕ, ◌+◌, ◌-◌, ◌^◌, ◌<◌, ◌≤◌, true, List, [], length, get_or, take, drop, Result, Ok, Err}
+use Rattle.std.specs.List.{Contains}
+use Rattle.crashdisk.specs.State.{byte, IsSectorSize, IsImage, IsSettled, longest}
+use Rattle.crashdisk.specs.Call.{DiskState, IsSoundDisk, of, ArePresent, Syncs}
+use Rattle.crashdisk.specs.declared.file.File.{File}
+use Rattle.crashdisk.specs.declared.error.DiskError.{DiskError}
+
+-- ---- What stays.
+
+-- calls that changed no byte
+pub record Still (old new : DiskState) : Type 0 where
+  pub sector : new.sector ≡ old.sector
+  pub tears : new.tears ≡ old.tears
+  pub db : new.db ≡ old.db
+  pub log : new.log ≡ old.log
+  pub kept : new.kept ≡ old.kept
+  pub handed : new.handed ≡ old.handed
+  pub refused : old.refused ≤ new.refused
+  pub count : new.refused < 2 ^ 64
+
+-- calls that left the log alone
+pub record KeepsLog (old new : DiskState) : Type 0 where
+  pub sector : new.sector ≡ old.sector
+  pub tears : new.tears ≡ old.tears
+  pub log : new.log ≡ old.log
+  pub kept : new.kept ≡ old.kept
+  pub handed : new.handed ≡ old.handed
+  pub refused : old.refused ≤ new.refused
+  pub sound : IsSoundDisk new
+
+-- no byte has changed
+pub record KeepsBytes (old new : DiskState) : Type 0 where
+  pub db : new.db ≡ old.db
+  pub log : (bytes : List ℕ) → ArePresent old.log bytes → ArePresent new.log bytes
+
+-- sectors stay as they are
+pub record IsSameDisk (old new : DiskState) : Type 0 where
+  pub sector : new.sector ≡ old.sector
+  pub tears : new.tears ≡ old.tears
+
+-- The disk is sound, with the same sectors, and its count of refusals hasn't fallen.
+pub record Later (old new : DiskState) : Type 0 where
+  pub sector : new.sector ≡ old.sector
+  pub tears : new.tears ≡ old.tears
+  pub refused : old.refused ≤ new.refused
+  pub sound : IsSoundDisk new
+
+-- a call of the disk was refused, or had been so often that the count stands at its greatest
+abbrev pub HadRefusal : (old new : DiskState) → Type 0
+HadRefusal old new = (old.refused < new.refused) ⊎ (new.refused ≡ 2 ^ 64 - 1)
+
+-- ---- What is told of a call.
+
+-- a refusal of a call of the disk is answered by the error `device`
+abbrev pub Told : {T E : Type 0} → (device : E) → Result T DiskError → Result T E → Type 0
+Told device (Ok _) (Ok _) = Unit {0}
+Told device (Ok _) (Err _) = ⊥
+Told device (Err _) (Ok _) = ⊥
+Told device (Err _) (Err e) = e ≡ device
+
+abbrev pub SyncStep : {T E : Type 0} → (device : E) → File → Result T E → (old new : DiskState) → Type 0
+SyncStep {T = T} device f result old new = (called : Result T DiskError) × Told device called result × Syncs f called old new
+
+-- the bytes from a place of a file on were read
+unfoldable pub PlaceAnswer : {T E : Type 0} → (device : E) → File → (at : ℕ) (out : List ℕ) → Result T E → (old new : DiskState) → Type 0
+PlaceAnswer device f at out (Ok _) old new = Still old new × ((j : ℕ) → j < length out → get_or out j 0 ≡ byte (of f old) (at + j))
+PlaceAnswer device f at out (Err e) old new = Still old new × (e ≡ device) × (at + length out ≤ longest → HadRefusal old new)
+
+-- ---- What is recovered.
+
+-- nothing of the log is unsynced
+pub record IsLogDown (s : DiskState) (w : List ℕ) : Type 0 where
+  pub settled : IsSettled s.log w
+  pub kept : s.tears ≡ true → s.kept ≡ w
+  pub handed : s.handed ≡ []
+
+-- each file that a crash may leave is so long
+abbrev pub IsLong : (n : ℕ) → DiskState → Type 0
+IsLong n s = (db : List ℕ) → IsImage s.sector s.tears s.db db → length db ≡ n
+
+-- on a disk that tears its sectors are larger than pages of this size
+abbrev pub TearsPages : (size : ℕ) → DiskState → Type 0
+TearsPages size s = (s.tears ≡ true) × (size < s.sector)
+
+-- A disk on which pages of this size are recovered. A page has one of the sizes of a sector.
+pub record Suits (size : ℕ) (s : DiskState) : Type 0 where
+  pub sound : IsSoundDisk s
+  pub sectors : IsSectorSize s.sector
+  pub pages : IsSectorSize size
+  pub whole : TearsPages size s → ⊥
+
+-- the n bytes of w at a place stand there in what was kept, or lie whole there in a piece that was handed over
+abbrev pub StandsWhole : (kept : List ℕ) (handed : List (ℕ × List ℕ)) → List ℕ → (at n : ℕ) → Type 0
+StandsWhole kept handed w at n = ((at + n ≤ length kept) × (take n (drop at w) ≡ take n (drop at kept)))
+    ⊎ ((write : ℕ × List ℕ) × Contains handed write × (write.0 ≤ at) × (at + n ≤ write.0 + length write.1) × (take n (drop at w) ≡ take n (drop (at - write.0) write.1)))
