@@ -1,5 +1,5 @@
 -- Pages of a commit in which nothing is wrong, and the database that they make.
-use Rattle.std.proofs.Common.{◌≡◌, ⊎_elim, ℕ, zero, suc, ◌+◌, ◌-◌, ◌*◌, ◌<◌, ◌≤◌, Bool, true, false, cond, not, List, [], ◌∷◌, ◌++◌, length, get_or, refl, sym, ◌∙◌, ap, subst, arith, eq-eqb}
+use Rattle.std.proofs.Common.{◌≡◌, ⊎_elim, ℕ, zero, suc, ◌+◌, ◌-◌, ◌*◌, ◌<◌, ◌≤◌, Bool, true, false, cond, not, List, ◌∷◌, ◌++◌, length, get_or, refl, sym, ◌∙◌, ap, subst, arith, eq-eqb, []}
 use Rattle.std.specs.Prelude.{◌==◌, nat_lt, Option, Some, None, unwrap_or, is_some}
 use Rattle.std.specs.List.{list_any, range_with_len}
 use Rattle.std.proofs.lemmas.Bool.{true≢false, cases_eq, cases_lt, cases_order}
@@ -103,7 +103,8 @@ module _ (old_size page_size : ℕ) (pages : Pages) (size : ℕ) (is : IsFaultle
   pub supplied_here : (k : ℕ) → k < length pages → supplied pages (number_at pages k) ≡ Some (content_at pages k)
   supplied_here k lt = supplied_at pages k (number_at pages k) number_once lt refl
 
-  above_some : (p : ℕ) → old_size < p → p ≤ size → is_some (supplied pages p) ≡ true
+  -- above the old size each number is supplied
+  pub above_some : (p : ℕ) → old_size < p → p ≤ size → is_some (supplied pages p) ≡ true
   above_some p a b = in_range (λ q. is_some (supplied pages q)) (old_size + 1) (size - old_size) p is.whole (omega arith) (omega arith)
 
   -- above the old size each page is

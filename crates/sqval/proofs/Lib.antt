@@ -7,3 +7,5 @@ pub mod Writing
 pub mod PageNumbers
 pub mod Supplied
 pub mod Faultless
+pub mod FilePages
+pub mod Answering

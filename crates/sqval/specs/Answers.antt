@@ -1,5 +1,5 @@
 -- What the calls of an engine answer, and when they are refused.
-use Rattle.std.specs.Prelude.{◌≡◌, ◌⊎◌, ℕ, ◌-◌, ◌^◌, ◌<◌, IsTrue, Bool, List, Option, Some, None}
+use Rattle.std.specs.Prelude.{◌≡◌, ◌⊎◌, ℕ, ◌-◌, ◌^◌, ◌<◌, IsTrue, Bool, true, false, List, Option, Some, None}
 
 -- the bytes of both files
 pub record Files : Type 0 where
@@ -37,3 +37,19 @@ Refuses None takes_memory failed before after old number new =
 abbrev pub PlainStep : {S : Type 0} → (target : S) → Answer → S → Type 0
 PlainStep target Done new = new ≡ target
 PlainStep target _ new = ⊥
+
+-- ---- What is answered where memory is ample and the disk refuses no call, and what may stand in its place.
+
+abbrev pub told : Option ℕ → Answer → Answer
+told (Some number) answer = Refused number
+told None answer = answer
+
+abbrev pub is_accepted : Answer → Bool
+is_accepted NoReader = false
+is_accepted (Refused number) = false
+is_accepted _ = true
+
+-- want of memory, or a refused call of the disk that has a cause
+abbrev pub IsShort : (takes_memory needs_disk : Bool) → Answer → (before after : ℕ) → Type 0
+IsShort takes_memory needs_disk answer before after =
+    (IsTrue takes_memory × (answer ≡ Refused 14)) ⊎ (IsTrue needs_disk × (answer ≡ Refused 15) × HasCause before after)

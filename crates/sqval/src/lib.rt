@@ -15,6 +15,3 @@ pub use error::RecordError;
 pub use page_size::PageSize;
 pub use record::{Columns, MOST_BYTES, Record};
 pub use value::Value;
-
-#[cfg(test)]
-mod tests;
