@@ -17,6 +17,7 @@ use Rattle.sqwal.specs.declared.scan.Scan.{Scan}
 use Rattle.sqwal.specs.declared.error.WalFormatError.{WalFormatError}
 use Rattle.sqwal.specs.declared.error.WalFormatError.TheVariants.{NoMemory}
 use Rattle.sqwal.proofs.Scanning.{header-more, log_refused, took-held}
+use Rattle.sqwal.proofs.ScanAnswers.{few_frames}
 
 pub parts-same : (b : List ℕ) (held held' : List ℕ) (es es' : List Entry) (p p' : Progress) (o o' : Option WalHeader) → held' ≡ held → es' ≡ es → p' ≡ p → o' ≡ o → TookParts b held es p o → TookParts b held' es' p' o'
 parts-same b held held' es es' p p' o o' eh ee ep eo t =
@@ -100,5 +101,5 @@ are_bytes b piece x y i = ⊎_elim
 
 pub fed-answer : {T : Type 0} (b piece : List ℕ) (r : Result T WalFormatError) (s : Scan) → AreBytes b → AreBytes piece → IsFed b piece r s → FeedAnswer b piece r s
 unfolding Took
-fed-answer b piece (Ok x) s p q is = (are_bytes b piece p q, is)
+fed-answer b piece (Ok x) s p q is = ((are_bytes b piece p q, is), few_frames (b ++ piece) s (are_bytes b piece p q, is))
 fed-answer b piece (Err e) s p q is = ((p, is.0), is.1)

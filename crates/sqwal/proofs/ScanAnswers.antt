@@ -11,11 +11,13 @@ use Rattle.sqwal.specs.Header.{named_size}
 use Rattle.sqwal.specs.Frames.{frame_end, page_of, size_of, Passes, AllPass, IsValidFrame, IsFront}
 use Rattle.sqwal.specs.Stops.{StopsFor, IsStop}
 use Rattle.sqwal.specs.Answers.{HeaderFound, EntryFound, AreEntries, IsCommitted}
-use Rattle.sqwal.specs.Took.{IsBegun, IsRefused, IsBehind, TookFrames, TookParts}
+use Rattle.sqwal.specs.Refusal.{most_frames}
+use Rattle.sqwal.specs.Took.{IsBegun, IsRefused, IsBehind, TookFrames, TookParts, Took}
 use Rattle.sqwal.specs.declared.header.WalHeader.{WalHeader}
 use Rattle.sqwal.specs.declared.scan.Entry.{Entry}
 use Rattle.sqwal.specs.declared.scan.Front.{Front}
 use Rattle.sqwal.specs.declared.scan.Progress.{Progress}
+use Rattle.sqwal.specs.declared.scan.Scan.{Scan}
 use Rattle.sqwal.specs.declared.scan.Why.{Why}
 use Rattle.sqwal.specs.declared.scan.Why.TheVariants.{End, Cut, Salt, PageZero, Sum}
 use Rattle.sqwal.proofs.Same.{frame_at-suc, frame_end-suc, frame_at-end}
@@ -166,6 +168,15 @@ module _ (b held : List ℕ) (es : List Entry) (p : Progress) where
       (λ z. subst (λ (w : Why). IsStop b p.next w) (sym z.1) (inl (t.short, t.next, λ nil. omega (arith, z.0, ap length t.all, ap length nil))))
       is)
   stop_is (Some h) short t is = stop_frames h b held es p t short is
+
+-- a scan takes no more frames
+pub few_frames : (w : List ℕ) (scan : Scan) → Took w scan → IsValidFrame (named_size w) w (suc most_frames) → ⊥
+unfolding Took
+few_frames w scan took valid =
+    let are = entries_are w scan.held.items scan.frames.entries.items scan.frames.progress scan.header took.1 in
+    let most : length scan.frames.entries.items ≤ most_frames = are.most in
+    let le : suc most_frames ≤ length scan.frames.entries.items = are.all (suc most_frames) valid in
+    omega arith
 
 -- what `get` lends, copied
 pub copied_get : {X : Type 0} (xs : List X) (i : ℕ) (r : Option (Bor X)) → IsItemAt xs i r → option_copied r ≡ slice_get xs i

@@ -18,9 +18,9 @@ LogRefused b TooLong = IsValidFrame (named_size b) b (suc most_frames)
 LogRefused b NoMemory = Unit {0}
 LogRefused b e = (32 ≤ length b) × HeaderRefused b e
 
--- a scan of b was given a piece: after an error it is one of b still
+-- a scan of b was given a piece: it took it, and there are no more frames than are scanned; or after an error it is one of b still
 abbrev pub FeedAnswer : {T : Type 0} → (b piece : List ℕ) → Result T WalFormatError → Scan → Type 0
-FeedAnswer b piece (Ok _) s = Took (b ++ piece) s
+FeedAnswer b piece (Ok _) s = Took (b ++ piece) s × (LogRefused (b ++ piece) TooLong → ⊥)
 FeedAnswer b piece (Err e) s = Took b s × LogRefused (b ++ piece) e
 
 -- no header where it isn't whole

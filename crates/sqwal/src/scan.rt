@@ -492,6 +492,3 @@ impl Scan {
         Ok(())
     }
 }
-
-#[cfg(test)]
-mod tests;
