@@ -13,6 +13,3 @@ pub use header::{JournalHeader, is_magic, next_header_at};
 pub use nonce::page_sum;
 pub use reading::{Record, Why};
 pub use replay::{Replay, Stop};
-
-#[cfg(test)]
-mod tests;
