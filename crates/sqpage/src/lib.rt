@@ -19,9 +19,6 @@ pub use fault::{CheckError, Fault};
 pub use free_pages::freelist;
 pub use header::DbHeader;
 pub use kind::Kind;
-pub use overflow::payload;
+pub use overflow::{links_of, payload};
 pub use page::BtreePage;
 pub use source::{PageSource, SliceSource, SourceError};
-
-#[cfg(test)]
-mod tests;

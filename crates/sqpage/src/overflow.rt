@@ -16,8 +16,8 @@ use std::alloc::Global;
 /// The largest size of a page.
 const LARGEST_PAGE: usize = 65536;
 
-/// How many pages the rest of a cell's payload takes.
-fn links_of(cell: &Cell) -> u64
+/// How many pages the rest of a cell's payload takes, behind what lies on the cell's own page.
+pub fn links_of(cell: &Cell) -> u64
     requires least { 480 ≤ cell.now.usable }
     requires part { length cell.now.local.now ≤ payload_size cell.now }
     ensures { result ≡ links cell.now }
