@@ -2,8 +2,6 @@
 #![tactic(auto)]
 
 mod checker;
-#[cfg(test)]
-mod failing_tests;
 mod header;
 mod item;
 mod node;
@@ -17,6 +15,3 @@ mod walk;
 
 pub use checker::check;
 pub use report::Report;
-
-#[cfg(test)]
-mod tests;

@@ -6,7 +6,6 @@ ghost use Rattle.sqpage.specs.declared.fault.Fault.{Fault};
 ghost use Rattle.sqpage.specs.declared.kind.Kind.{Kind};
 ghost use Rattle.sqpage.specs.Header.{byte};
 ghost use Rattle.sqpage.specs.Page.{Page, code_of, is_interior, is_table, head_at};
-ghost use Rattle.sqpage.specs.Chain.{links, payload_size};
 ghost use Rattle.sqcheck.specs.Places.{Node, InCell, used_in};
 ghost use Rattle.sqcheck.specs.WellFormed.{IsBefore, IsAtMost, KeysRise, FirstLeaf, first_child};
 ghost use Rattle.sqcheck.specs.Stands.{HasKeyOutOfOrder, NodeRefused};
@@ -15,7 +14,7 @@ ghost use Rattle.sqcheck.specs.declared.tree.Tree.{Tree};
 
 use crate::item::{Item, Task, push};
 use crate::tree::Tree;
-use sqpage::{BtreePage, Cell, CheckError, Fault, Kind};
+use sqpage::{BtreePage, CheckError, Fault, Kind, links_of};
 
 /// Where the header of page 1 as a b-tree page begins, behind the file's header.
 const FIRST_HEAD: usize = 100;
@@ -96,17 +95,6 @@ fn keys_rise(page: &BtreePage, low: Option<i64>, high: Option<i64>) -> bool
         before = key;
     }
     true
-}
-
-/// How many pages the rest of a cell's payload takes.
-fn links_of(cell: &Cell) -> u64
-    requires least { 480 ≤ cell.now.usable }
-    requires part { length cell.now.local.now ≤ payload_size cell.now }
-    ensures { result ≡ links cell.now }
-{
-    let size = cell.payload.unwrap_or(0);
-    let beyond = size - cell.local.len() as u64;
-    beyond.div_ceil(u64::from(cell.usable) - 4)
 }
 
 /// Puts the chains of a page's cells on the stack, the first one on top.
