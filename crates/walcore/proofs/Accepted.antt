@@ -1,68 +1,26 @@
--- A commit that isn't refused hands over pages that frames can hold.
-use Rattle.std.proofs.Common.{◌≡◌, ◌≢◌, ℕ, zero, suc, ◌+◌, ◌*◌, ◌<◌, ◌≤◌, Bool, true, false, cond, not, ◌||◌, ◌++◌, ◌==◌, nat_lt, List, [], ◌∷◌, length, get_or, Option, Some, None, refl, arith, lit<}
-use Rattle.std.specs.List.{list_any}
+-- A commit that isn't refused.
+use Rattle.std.proofs.Common.{◌≡◌, ℕ, ◌+◌, ◌<◌, ◌≤◌, Bool, true, false, cond, ◌++◌, nat_lt, List, ◌∷◌, length, Option, Some, None, arith, lit<, []}
 use Rattle.std.proofs.lemmas.Bool.Decides.{nat_tests}
 use Rattle.sqval.specs.Database.{Pages}
-use Rattle.sqval.specs.CommitFaults.{most_bytes, has_twice, has_hole, first_true, page_faults}
+use Rattle.sqval.specs.CommitFaults.{first_true, page_faults}
+use Rattle.sqval.proofs.Faultless.{IsFaultless, faultless, none_both, one_none}
 use Rattle.walcore.specs.CommitRefusals.{refusal_of, most_pages}
 use Rattle.walcore.specs.Machine.{State, newest, commit_refusal}
 
-abbrev NoneHolds : List (Bool × ℕ) → Type 0
-NoneHolds [] = Unit {0}
-NoneHolds (c ∷ cs) = (c.0 ≡ false) × NoneHolds cs
+module _ (old_size page_size used : ℕ) (pages : Pages) (size : ℕ) (none : refusal_of old_size page_size used pages size ≡ None) where
+  pub granted : IsFaultless old_size page_size pages size
+  granted = faultless old_size page_size pages size (none_both (page_faults old_size page_size pages size) ((nat_lt most_pages (used + length pages), 10) ∷ []) none).0
 
-none_holds : (cs : List (Bool × ℕ)) → first_true cs ≡ None → NoneHolds cs
-none_holds [] h = tt
-none_holds ((true, n) ∷ cs) h = absurd (cc h)
-none_holds ((false, n) ∷ cs) h = (refl, none_holds cs h)
+  pub room_enough : used + length pages ≤ most_pages
+  room_enough =
+      let few : nat_lt most_pages (used + length pages) ≡ false =
+      one_none (nat_lt most_pages (used + length pages)) 10 (none_both (page_faults old_size page_size pages size) ((nat_lt most_pages (used + length pages), 10) ∷ []) none).1 in
+      grind (arith, nat_tests, few)
 
-neither_left : (a b : Bool) → (a || b) ≡ false → a ≡ false
-neither_left true b h = h
-neither_left false b h = refl
-
-neither_right : (a b : Bool) → (a || b) ≡ false → b ≡ false
-neither_right true b h = absurd (cc h)
-neither_right false b h = h
-
-none_of : {X : Type 0} (f : X → Bool) (xs : List X) (d : X) (k : ℕ) → list_any f xs ≡ false → k < length xs → f (get_or xs k d) ≡ false
-none_of f [] d k h lt = absurd (omega arith)
-none_of f (x ∷ xs) d zero h lt = neither_left (f x) (list_any f xs) h
-none_of f (x ∷ xs) d (suc k) h lt = none_of f xs d k (neither_right (f x) (list_any f xs) h) (omega arith)
-
-pub record IsGranted (old_size page_size used : ℕ) (pages : Pages) (size : ℕ) : Type 0 where
-  pub some : 1 ≤ length pages
-  pub sized : size ≢ 0
-  pub above_0 : (k : ℕ) → k < length pages → (get_or pages k (0, [])).0 ≢ 0
-  pub within : (k : ℕ) → k < length pages → (get_or pages k (0, [])).0 ≤ size
-  pub once : has_twice pages ≡ false
-  pub whole : has_hole pages old_size size ≡ false
-  pub full : (k : ℕ) → k < length pages → length (get_or pages k (0, [])).1 ≡ page_size
-  pub bytes : size * page_size ≤ most_bytes
-  pub room : used + length pages ≤ most_pages
-
-pub granted : (old_size page_size used : ℕ) (pages : Pages) (size : ℕ) → refusal_of old_size page_size used pages size ≡ None → IsGranted old_size page_size used pages size
-granted old_size page_size used pages size h =
-    let none = none_holds (page_faults old_size page_size pages size ++ (nat_lt most_pages (used + length pages), 10) ∷ []) h in
-    let r2 : (length pages == 0) ≡ false = none.0 in
-    let r3 : (size == 0) ≡ false = none.1.0 in
-    let r4 : list_any (λ x. x.0 == 0) pages ≡ false = none.1.1.0 in
-    let r5 : list_any (λ x. nat_lt size x.0) pages ≡ false = none.1.1.1.0 in
-    let r6 : has_twice pages ≡ false = none.1.1.1.1.0 in
-    let r7 : has_hole pages old_size size ≡ false = none.1.1.1.1.1.0 in
-    let r8 : list_any (λ x. not (length x.1 == page_size)) pages ≡ false = none.1.1.1.1.1.1.0 in
-    let r9 : nat_lt most_bytes (size * page_size) ≡ false = none.1.1.1.1.1.1.1.0 in
-    let r10 : nat_lt most_pages (used + length pages) ≡ false = none.1.1.1.1.1.1.1.1.0 in
-    record {
-      some = grind (arith, nat_tests, r2);
-      sized = λ z. grind (arith, nat_tests, r3, z);
-      above_0 = λ k lt z. let f = none_of (λ x. x.0 == 0) pages (0, []) k r4 lt in grind (arith, nat_tests, f, z);
-      within = λ k lt. let f = none_of (λ x. nat_lt size x.0) pages (0, []) k r5 lt in grind (arith, nat_tests, f);
-      once = r6;
-      whole = r7;
-      full = λ k lt. let f = none_of (λ x. not (length x.1 == page_size)) pages (0, []) k r8 lt in grind (arith, nat_tests, f);
-      bytes = grind (arith, nat_tests, r9);
-      room = grind (arith, nat_tests, r10);
-    }
+-- an engine that refuses nothing is open
+pub cond_none : (is_open : Bool) (first : Option ℕ) → cond is_open first (Some 1) ≡ None → first ≡ None
+cond_none true first h = h
+cond_none false first h = absurd (cc h)
 
 abbrev AllBelow : ℕ → List (Bool × ℕ) → Type 0
 AllBelow m [] = Unit {0}

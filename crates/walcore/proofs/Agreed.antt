@@ -1,5 +1,5 @@
 -- Where nothing of the log was unsynced and all that a crash may leave showed one database, it does so after an opening.
-use Rattle.std.proofs.Common.{◌≡◌, inl, inr, ⊎_elim, ℕ, ◌+◌, ◌≤◌, max, false, List, [], length, refl, sym, ◌∙◌, subst, arith, ap}
+use Rattle.std.proofs.Common.{◌≡◌, inl, inr, ⊎_elim, ℕ, ◌+◌, ◌≤◌, max, false, List, length, refl, sym, ◌∙◌, subst, arith, ap, []}
 use Rattle.std.specs.Prelude.{Result, Ok, Err, OnOk}
 use Rattle.sqval.specs.Database.{Database}
 use Rattle.sqwal.specs.Header.{named_size}
@@ -14,21 +14,22 @@ use Rattle.crashdisk.specs.declared.error.DiskError.{DiskError}
 use Rattle.crashdisk.proofs.Images.{table}
 use Rattle.crashdisk.proofs.Steps.{image_elsewhere, present_list}
 use Rattle.walcore.specs.Alone.{Show, ShowsAlone}
-use Rattle.walcore.specs.Folding.{IsLogDown, IsEmptyDown, FoldAnswer, Folds, Agrees}
+use Rattle.walcore.specs.Folding.{IsEmptyDown, FoldAnswer, Folds, Agrees}
+use Rattle.crashdisk.specs.Keeps.{IsLogDown, Still}
 use Rattle.walcore.specs.Standing.{MayBeRead}
-use Rattle.walcore.specs.Steps.{Still}
 use Rattle.walcore.specs.Opening.{HeaderSteps}
 use Rattle.walcore.specs.declared.folding.Folded.{Folded}
 use Rattle.walcore.specs.declared.error.WalError.{WalError}
-use Rattle.walcore.proofs.Down.{present_image, down_left, down_syncs, synced_down}
-use Rattle.walcore.proofs.Ending.{later_sync, later_write}
+use Rattle.walcore.proofs.Down.{down_left}
+use Rattle.crashdisk.proofs.Down.{present_image, down_syncs, synced_down}
+use Rattle.crashdisk.proofs.Later.{later_sync, later_write}
 use Rattle.walcore.proofs.Fitting.{may_still}
 use Rattle.walcore.proofs.Lengths.{down_still}
 use Rattle.walcore.proofs.Narrowing.{narrows_syncs}
 use Rattle.walcore.proofs.Recovered.{none_front}
 use Rattle.walcore.proofs.Restarting.{greatest_changed}
 use Rattle.walcore.proofs.Standing.{read_cases}
-use Rattle.walcore.proofs.Stills.{image_still, still_sound}
+use Rattle.crashdisk.proofs.Stills.{image_still, still_sound}
 
 module _ (size : ℕ) (d : Database) where
   -- all that may be read shows it
@@ -94,7 +95,7 @@ agrees_synced size r a b sound synced w d down alone = alone_syncs size d r a b 
 
 -- a sync and then more
 pub agrees_after : {T : Type 0} (size : ℕ) (r : Result T DiskError) (a b c : DiskState) → IsSoundDisk a → Syncs Log r a b → Agrees size b c → Agrees size a c
-agrees_after size r a b c sound synced then w d down alone = then w d (down_syncs w Log r a b sound down synced) (alone_syncs size d r a b sound synced alone)
+agrees_after size r a b c sound synced then w d down alone = then w d (down_syncs w Log r a b down synced) (alone_syncs size d r a b sound synced alone)
 
 -- what a sync and a fold leave of the log
 pub synced_empty : {T : Type 0} {u : T} (a b : DiskState) → IsSoundDisk a → Syncs Log (Ok u) a b → IsEmptyDown b

@@ -1,5 +1,5 @@
 -- The parts of a fold keep what shows one database, so the fold does at each of its exits.
-use Rattle.std.proofs.Common.{◌≡◌, inl, inr, ⊎_elim, ℕ, ◌<◌, ◌≤◌, List, get_or, replicate, sym, ◌∙◌, subst, arith}
+use Rattle.std.proofs.Common.{◌≡◌, inl, inr, ⊎_elim, ℕ, ◌<◌, ◌≤◌, List, get_or, replicate, sym, subst, arith}
 use Rattle.std.specs.Prelude.{Result, Ok, Err, IsErr}
 use Rattle.std.proofs.lemmas.List.{get_or-replicate, get_or_past, length-replicate}
 use Rattle.std.proofs.lemmas.Bool.{cases_lt, cases_eq}
@@ -12,23 +12,24 @@ use Rattle.crashdisk.specs.Call.{DiskState, ArePresent, Syncs}
 use Rattle.crashdisk.specs.declared.file.File.TheVariants.{Db, Log}
 use Rattle.crashdisk.specs.declared.error.DiskError.{DiskError}
 use Rattle.crashdisk.proofs.Images.{table}
-use Rattle.crashdisk.proofs.Sound.{byte_below}
 use Rattle.crashdisk.proofs.Steps.{present_list, settled_sync}
 use Rattle.walcore.specs.Alone.{ShowsAlone}
-use Rattle.walcore.specs.Folding.{IsLogDown, IsOfOtherSize, Agrees}
+use Rattle.walcore.specs.Folding.{IsOfOtherSize, Agrees}
+use Rattle.crashdisk.specs.Keeps.{IsLogDown, Still, Told, SyncStep, Suits}
 use Rattle.sqval.specs.Held.{IsJust}
-use Rattle.walcore.specs.Steps.{Still, ArePages, Copied, Told, SyncStep, ZeroSteps, CutSteps}
-use Rattle.walcore.specs.Phases.{Suits, IsOfSize, Scanning, Writing, Filed, Zeroing, Emptying}
+use Rattle.walcore.specs.Steps.{ArePages, Copied, ZeroSteps, CutSteps}
+use Rattle.walcore.specs.Phases.{IsOfSize, Scanning, Writing, Filed, Zeroing, Emptying}
 use Rattle.walcore.specs.declared.error.WalError.{WalError}
-use Rattle.walcore.proofs.Stills.{image_still}
-use Rattle.walcore.proofs.Suiting.{suits_still}
-use Rattle.walcore.proofs.Down.{down_by}
+use Rattle.crashdisk.proofs.Stills.{image_still, still}
+use Rattle.crashdisk.proofs.Suiting.{suits_still}
+use Rattle.crashdisk.proofs.Down.{down_by}
 use Rattle.walcore.proofs.Looking.{scanning_begins}
 use Rattle.walcore.proofs.Filling.{filling_view, just_pages}
 use Rattle.walcore.proofs.Writing.{writing_begins, writing_syncs, writing_shows, filed_written}
 use Rattle.walcore.proofs.Filed.{filed_none, filed_syncs, filed_shows}
 use Rattle.walcore.proofs.Zeroing.{zeroing_writes, zeroing_syncs, zeroing_shows}
 use Rattle.walcore.proofs.Emptying.{zeros_present, emptying_begins, emptying_cuts, emptying_syncs, emptying_shows}
+use Rattle.walcore.specs.declared.error.WalError.TheVariants.{Device}
 
 -- ---- Calls that change no byte.
 
@@ -44,37 +45,27 @@ scanning_still size d w old new is still = record {
 
 -- ---- The log and its view.
 
--- the log that is down is the present one
-pub down_present : (s : DiskState) (w : List ℕ) → IsLogDown s w → ArePresent s.log w
-down_present s w down = record {
-  len = sym down.settled.len;
-  each = λ i lt. sym (byte_below s.log i lt ∙ down.settled.present i);
-}
-
 pub of_same_size : (size : ℕ) (w : List ℕ) → (IsOfOtherSize size w → ⊥) → IsOfSize size w
 of_same_size size w same header = ⊎_elim (λ e. e) (λ ne. absurd (same (header, ne))) (cases_eq (named_size w) size)
 
 -- ---- The parts of a fold.
 
 module _ (size : ℕ) (w : List ℕ) (m : ℕ) (d : Database) where
-  pub writing_step : {T : Type 0} (result : Result T WalError) (old new : DiskState) → Writing size w m d old → SyncStep Db result old new → Writing size w m d new
-  unfolding SyncStep
+  pub writing_step : {T : Type 0} (result : Result T WalError) (old new : DiskState) → Writing size w m d old → SyncStep Device Db result old new → Writing size w m d new
   writing_step result old new is step = writing_syncs size w m d Db step.0 old new is step.2
 
-  filed_by : {T : Type 0} (v : T) (called : Result T DiskError) (old new : DiskState) (bytes : List ℕ) → Writing size w m d old → IsJust size d bytes → ArePresent old.db bytes → Told called (Ok v) → Syncs Db called old new → Filed size d w new
+  filed_by : {T : Type 0} (v : T) (called : Result T DiskError) (old new : DiskState) (bytes : List ℕ) → Writing size w m d old → IsJust size d bytes → ArePresent old.db bytes → Told Device called (Ok v) → Syncs Db called old new → Filed size d w new
   filed_by v (Ok x) old new bytes is just are told synced = filed_written size w m d new bytes (writing_syncs size w m d Db (Ok x) old new is synced) (settled_sync Db old new bytes is.file.suits.sound.db synced are) just
   filed_by v (Err e) old new bytes is just are told synced = absurd told
 
   -- all pages are there, and then down
-  pub filed_step : {T : Type 0} (u : T) (old new : DiskState) → Writing size w m d old → ArePages size d old.db → SyncStep {T = T} Db (Ok u) old new → Filed size d w new
-  unfolding SyncStep
+  pub filed_step : {T : Type 0} (u : T) (old new : DiskState) → Writing size w m d old → ArePages size d old.db → SyncStep {T = T} Device Db (Ok u) old new → Filed size d w new
   filed_step u old new is pages step =
       let now : List ℕ = table old.db.len (byte old.db) in
       filed_by u step.0 old new now is (just_pages size w m d old now is.file pages (present_list old.db)) (present_list old.db) step.1 step.2
 
 module _ (size : ℕ) (d : Database) (w : List ℕ) where
-  pub filed_again : {T : Type 0} (result : Result T WalError) (old new : DiskState) → Filed size d w old → SyncStep Db result old new → Filed size d w new
-  unfolding SyncStep
+  pub filed_again : {T : Type 0} (result : Result T WalError) (old new : DiskState) → Filed size d w old → SyncStep Device Db result old new → Filed size d w new
   filed_again result old new is step = filed_syncs size d w Db step.0 old new is step.2
 
   zero_at : (i : ℕ) → ◌≡◌ {A = ℕ} (get_or (replicate 32 0) i 0) 0
@@ -82,24 +73,24 @@ module _ (size : ℕ) (d : Database) (w : List ℕ) where
 
   -- the header is zeroed, or not
   pub zeroed_shows : {T : Type 0} (result : Result T WalError) (old new : DiskState) → Filed size d w old → ZeroSteps result old new → ShowsAlone size d new
-  unfolding ZeroSteps SyncStep
+  unfolding ZeroSteps
   zeroed_shows result old new is steps = ⊎_elim
       (λ failed. zeroing_shows size d w new (zeroing_writes size d w (replicate 32 0) old new is (length-replicate {A = ℕ} 32 0) zero_at failed.0 failed.3))
       (λ done. let mid = zeroing_writes size d w (replicate 32 0) old done.0 is (length-replicate {A = ℕ} 32 0) zero_at (Ok done.1.0) done.1.1 in
       zeroing_shows size d w new (zeroing_syncs size d w Log done.2.0 done.0 new mid done.2.2))
       steps
 
-  zeroed_by : {T : Type 0} (v : T) (called : Result T DiskError) (mid new : DiskState) → Zeroing size d w mid → ((i : ℕ) → i < 32 → byte mid.log i ≡ 0) → Told called (Ok v) → Syncs Log called mid new → Emptying size d new
+  zeroed_by : {T : Type 0} (v : T) (called : Result T DiskError) (mid new : DiskState) → Zeroing size d w mid → ((i : ℕ) → i < 32 → byte mid.log i ≡ 0) → Told Device called (Ok v) → Syncs Log called mid new → Emptying size d new
   zeroed_by v (Ok x) mid new is zeros told synced = emptying_begins size d w mid new is zeros synced
   zeroed_by v (Err e) mid new is zeros told synced = absurd told
 
-  none_told : {T : Type 0} (v : T) (called : Result T DiskError) → IsErr called → Told called (Ok v) → ⊥
+  none_told : {T : Type 0} (v : T) (called : Result T DiskError) → IsErr called → Told Device called (Ok v) → ⊥
   none_told v (Ok x) err told = cc
   none_told v (Err e) err told = told
 
   -- and then it is
   pub zeroed_down : {T : Type 0} (u : T) (old new : DiskState) → Filed size d w old → ZeroSteps {T = T} (Ok u) old new → Emptying size d new
-  unfolding ZeroSteps SyncStep
+  unfolding ZeroSteps
   zeroed_down u old new is steps = ⊎_elim
       (λ failed. absurd (none_told u failed.0 failed.1 failed.2))
       (λ done.
@@ -109,7 +100,7 @@ module _ (size : ℕ) (d : Database) (w : List ℕ) where
 
   -- the log is cut, or not
   pub cut_shows : {T : Type 0} (result : Result T WalError) (old new : DiskState) → Emptying size d old → CutSteps result old new → ShowsAlone size d new
-  unfolding CutSteps SyncStep
+  unfolding CutSteps
   cut_shows result old new is steps = ⊎_elim
       (λ failed. emptying_shows size d new (emptying_cuts size d 0 failed.0 old new is failed.3))
       (λ done. emptying_shows size d new (emptying_syncs size d Log done.2.0 done.0 new (emptying_cuts size d 0 (Ok done.1.0) old done.0 is done.1.1) done.2.2))
@@ -130,11 +121,11 @@ module _ (size : ℕ) (w : List ℕ) (m : ℕ) (d : Database) where
       inr (filed_none size d w mid (scanning_still size d w old mid is still) (subst (λ (k : ℕ). IsFront (named_size w) w k) none front) (of_same_size size w same))
 
   -- the file is synced, or not
-  pub copied_shows : {T : Type 0} (result : Result T WalError) (old new : DiskState) → Copied size w m d old → SyncStep Db result old new → ShowsAlone size d new
+  pub copied_shows : {T : Type 0} (result : Result T WalError) (old new : DiskState) → Copied size w m d old → SyncStep Device Db result old new → ShowsAlone size d new
   copied_shows result old new (inl is) step = writing_shows size w m d new (writing_step size w m d result old new is.0 step)
   copied_shows result old new (inr is) step = filed_shows size d w new (filed_again size d w result old new is step)
 
-  pub copied_down : {T : Type 0} (u : T) (old new : DiskState) → Copied size w m d old → SyncStep {T = T} Db (Ok u) old new → Filed size d w new
+  pub copied_down : {T : Type 0} (u : T) (old new : DiskState) → Copied size w m d old → SyncStep {T = T} Device Db (Ok u) old new → Filed size d w new
   copied_down u old new (inl is) step = filed_step size w m d u old new is.0 is.1 step
   copied_down u old new (inr is) step = filed_again size d w (Ok u) old new is step
 

@@ -1,5 +1,5 @@
 -- What a checkpoint does to the database file.
-use Rattle.std.proofs.Common.{◌≡◌, ℕ, ◌+◌, ◌-◌, ◌*◌, ◌≤◌, List, [], length, take, drop, refl, sym, ◌∙◌, ap, subst, arith, length-drop}
+use Rattle.std.proofs.Common.{◌≡◌, ℕ, ◌+◌, ◌-◌, ◌*◌, ◌≤◌, List, length, take, drop, refl, sym, ◌∙◌, ap, subst, arith, length-drop, []}
 use Rattle.std.specs.Prelude.{Result, Ok, Err}
 use Rattle.std.proofs.lemmas.List.{get_or-take, get_or-drop, length-take-le}
 use Rattle.std.proofs.lemmas.Grind.{same_number_lists}
@@ -20,21 +20,22 @@ use Rattle.sqval.specs.CommitFaults.{most_bytes}
 use Rattle.sqval.specs.Held.{IsJust}
 use Rattle.walcore.specs.Phases.{Filling}
 use Rattle.walcore.specs.Plans.{IsTable, IsCopy}
-use Rattle.walcore.specs.Steps.{Still, KeepsLog, CopyAnswer, ArePages, Told, SyncStep}
+use Rattle.walcore.specs.Steps.{CopyAnswer, ArePages}
+use Rattle.crashdisk.specs.Keeps.{Still, KeepsLog, Told, SyncStep, PlaceAnswer}
 use Rattle.walcore.specs.Era.{IsBoundary, shown, IsDown}
 use Rattle.walcore.specs.Standing.{Stands, IsPresent}
-use Rattle.walcore.specs.Paging.{PlaceAnswer}
 use Rattle.walcore.specs.Bringing.{SizeAnswer, CanBring, BroughtTo, Brings, LeavesJust}
 use Rattle.walcore.specs.declared.error.WalError.{WalError}
-use Rattle.walcore.proofs.Stills.{refusal_after}
-use Rattle.walcore.proofs.Ending.{sync_refused}
-use Rattle.walcore.proofs.Down.{since_db}
+use Rattle.crashdisk.proofs.Stills.{refusal_after}
+use Rattle.crashdisk.proofs.Later.{sync_refused}
+use Rattle.crashdisk.proofs.Down.{since_db}
 use Rattle.walcore.proofs.Fronting.{same_front}
 use Rattle.walcore.proofs.Present.{present_by}
 use Rattle.walcore.proofs.Stepping.{stands_syncs}
 use Rattle.walcore.proofs.Checkpointing.{stands_still, stands_filling, filling_stands, filled_just}
 use Rattle.walcore.proofs.Filling.{filling_view}
 use Rattle.walcore.proofs.Viewing.{table_upto}
+use Rattle.walcore.specs.declared.error.WalError.TheVariants.{Device}
 
 -- ---- the size that a frame names
 
@@ -46,7 +47,7 @@ module _ (size frame place : ℕ) (out : List ℕ) (a b : DiskState) (same : pla
   here : frame_at size frame + 4 ≡ place
   here = size_place size frame ∙ sym same
 
-  pub size_read : {T : Type 0} (v : T) (n : ℕ) → n ≡ big_number 4 out → PlaceAnswer Log place out (Ok v) a b → SizeAnswer size frame (Ok n) a b
+  pub size_read : {T : Type 0} (v : T) (n : ℕ) → n ≡ big_number 4 out → PlaceAnswer Device Log place out (Ok v) a b → SizeAnswer size frame (Ok n) a b
   unfolding PlaceAnswer SizeAnswer
   size_read v n is answer = (
     answer.0,
@@ -58,10 +59,10 @@ module _ (size frame place : ℕ) (out : List ℕ) (a b : DiskState) (same : pla
         is ∙ ap (λ (x : List ℕ). big_number 4 x) bytes ∙ ap (λ (x : ℕ). big_number 4 (take 4 (drop x e))) (sym here),
   )
 
-  pub size_unread : {T : Type 0} (r : Result T WalError) (q : Result ℕ WalError) (x : WalError) → IsSoundDisk a → r ≡ Err x → q ≡ Err x → PlaceAnswer Log place out r a b → SizeAnswer size frame q a b
+  pub size_unread : {T : Type 0} (r : Result T WalError) (q : Result ℕ WalError) (x : WalError) → IsSoundDisk a → r ≡ Err x → q ≡ Err x → PlaceAnswer Device Log place out r a b → SizeAnswer size frame q a b
   unfolding PlaceAnswer SizeAnswer
   size_unread {T = T} r q x sound was is answer =
-      let got = subst (λ (y : Result T WalError). PlaceAnswer Log place out y a b) was answer in
+      let got = subst (λ (y : Result T WalError). PlaceAnswer Device Log place out y a b) was answer in
       subst (λ (y : Result ℕ WalError). SizeAnswer size frame y a b) (sym is)
       (got.0, got.1, λ e k present le. got.2 (omega (arith, four, here, frame_at-end size frame one, frame_end-le size frame k le, present.long, sound.log.greatest, sound.log.within)))
 
@@ -77,7 +78,7 @@ size_is size frame r n a b was answer = let got = subst (λ (x : Result ℕ WalE
 
 -- ---- the log stays
 
-pub keeps_synced : {T : Type 0} (r : Result T WalError) (a b : DiskState) → IsSoundDisk a → SyncStep Db r a b → KeepsLog a b
+pub keeps_synced : {T : Type 0} (r : Result T WalError) (a b : DiskState) → IsSoundDisk a → SyncStep Device Db r a b → KeepsLog a b
 keeps_synced {T = T} r a b sound step =
     let since = since_db [] a.tears step.0 a b step.2.since in record {
       sector = step.2.elsewhere.sector;
@@ -182,15 +183,15 @@ module _ (size m count : ℕ) (t : FrameTable) (a b : DiskState) (some : 1 ≤ m
     pages v was = let got = subst (λ (y : Result T WalError). CopyAnswer size (shown h index m) y b g) was copied in got
 
     module _ {U : Type 0} (v : T) (was : r ≡ Ok v) (z : DiskState) where
-      just : (u : U) (called : Result U DiskError) → Told called (Ok u) → Syncs Db called g z → LeavesJust size (shown h index m) z
+      just : (u : U) (called : Result U DiskError) → Told Device called (Ok u) → Syncs Db called g z → LeavesJust size (shown h index m) z
       just u (Ok _) told synced = λ db image. filled_just size now m (shown h index m) g z filled (pages v was) synced db image
       just u (Err _) told synced = absurd told
 
-      pub settled : (q : Result U WalError) → SyncStep Db q g z → BroughtTo size logs e n h index mark d m q a z
+      pub settled : (q : Result U WalError) → SyncStep Device Db q g z → BroughtTo size logs e n h index mark d m q a z
       settled (Ok u) step = (
         stands_syncs size logs e n h index mark d m g z stands_filled Db step.0 step.2,
         just u step.0 step.1 step.2,
       )
       settled (Err x) step =
-          let had = sync_refused Db (Err x) x g z keeps.sound refl step in
+          let had = sync_refused Device Db (Err x) x g z keeps.sound refl step in
           (had.0, refusal_after a g z (omega (arith, read.0.refused, keeps.refused)) had.1, (m, stands_syncs size logs e n h index mark d m g z stands_filled Db step.0 step.2))

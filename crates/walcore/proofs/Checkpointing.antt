@@ -13,12 +13,13 @@ use Rattle.sqwal.proofs.Same.{all_same, size_same}
 use Rattle.sqwal.proofs.Views.{unnamed_same, over_same}
 use Rattle.sqval.specs.Held.{IsJust}
 use Rattle.walcore.specs.Phases.{Filling}
-use Rattle.walcore.specs.Steps.{Still, KeepsLog, ArePages}
+use Rattle.walcore.specs.Steps.{ArePages}
+use Rattle.crashdisk.specs.Keeps.{Still, KeepsLog}
 use Rattle.walcore.specs.Era.{IsBoundary, shown, IsDown}
 use Rattle.walcore.specs.Standing.{Stands}
-use Rattle.walcore.proofs.Pages.{get_or-file_page}
-use Rattle.walcore.proofs.Suiting.{suits_still}
-use Rattle.walcore.proofs.Stills.{image_still}
+use Rattle.sqval.proofs.FilePages.{get_or-file_page}
+use Rattle.crashdisk.proofs.Suiting.{suits_still}
+use Rattle.crashdisk.proofs.Stills.{image_still}
 use Rattle.walcore.proofs.Filling.{filling_other, just_pages}
 use Rattle.walcore.proofs.Logging.{holds_elsewhere}
 

@@ -1,5 +1,5 @@
 -- A commit: the history has one database more, and what a crash may leave shows it or one before it.
-use Rattle.std.proofs.Common.{◌≡◌, ◌≢◌, inr, ⊎_elim, ℕ, suc, ◌+◌, ◌*◌, ◌<◌, ◌≤◌, min, cond, List, [], ◌∷◌, ◌++◌, length, drop, get_or, refl, sym, ◌∙◌, ap, subst, arith, length-drop}
+use Rattle.std.proofs.Common.{◌≡◌, ◌≢◌, inr, ⊎_elim, ℕ, suc, ◌+◌, ◌*◌, ◌<◌, ◌≤◌, min, cond, List, ◌∷◌, ◌++◌, length, drop, get_or, refl, sym, ◌∙◌, ap, subst, arith, length-drop, []}
 use Rattle.std.specs.Prelude.{nat_lt, Option, Some, None, unwrap_or}
 use Rattle.std.proofs.lemmas.List.{get_or_append_left, get_or_at, length_push, length-take-le}
 use Rattle.std.proofs.lemmas.Bool.{cases_lt}
@@ -12,7 +12,7 @@ use Rattle.walcore.specs.Made.{IsExtended}
 use Rattle.walcore.specs.Era.{shown, IsEra, IsApplied}
 use Rattle.sqval.specs.Held.{IsHeld}
 use Rattle.walcore.specs.Standing.{AreCommitted}
-use Rattle.walcore.proofs.Supplied.{supplied_found, length-apply, page-apply}
+use Rattle.sqval.proofs.Supplied.{supplied_found, length-apply, page-apply}
 use Rattle.walcore.proofs.Extending.{extended_front, extended_inner, extended_count, extended_applied}
 use Rattle.walcore.proofs.Eras.{GoesOn, era_more}
 

@@ -1,8 +1,8 @@
 -- The copying of pages.
-use Rattle.std.proofs.Common.{◌≡◌, ◌⊎◌, inl, inr, ⊎_elim, ℕ, ◌+◌, ◌-◌, ◌*◌, ◌<◌, ◌≤◌, Bool, true, false, List, length, get_or, take, drop, refl, sym, ◌∙◌, ap, subst, arith, length-drop}
+use Rattle.std.proofs.Common.{◌≡◌, ◌⊎◌, inl, inr, ⊎_elim, ℕ, ◌+◌, ◌-◌, ◌*◌, ◌<◌, ◌≤◌, List, length, get_or, take, drop, refl, sym, ◌∙◌, ap, subst, arith, length-drop}
 use Rattle.std.specs.Prelude.{Result, Ok, Err}
-use Rattle.std.proofs.lemmas.Bool.{cases_lt, cases_eq}
-use Rattle.std.proofs.lemmas.List.{get_or-take, get_or-drop, get_or_past, length-take-le}
+use Rattle.std.proofs.lemmas.Bool.{cases_eq}
+use Rattle.std.proofs.lemmas.List.{get_or-take, get_or-drop, length-take-le}
 use Rattle.std.proofs.lemmas.Grind.{same_number_lists}
 use Rattle.std.proofs.lemmas.List.FromFn.{get_or-map-range_with_len}
 use Rattle.std.proofs.Math.Nat.{mul-le-mul_right}
@@ -12,19 +12,19 @@ use Rattle.sqwal.specs.View.{Unnamed, IsLast, IsView}
 use Rattle.sqwal.specs.Index.{FrameTable, IsNewest}
 use Rattle.sqwal.proofs.Same.{frame_at-end}
 use Rattle.crashdisk.specs.State.{FileState, byte, written, longest}
-use Rattle.crashdisk.specs.Call.{DiskState, IsSoundDisk, ArePresent, Writes, Cuts, Looks, with_write}
+use Rattle.crashdisk.specs.Call.{DiskState, IsSoundDisk, ArePresent, Writes, Cuts, Looks}
 use Rattle.crashdisk.specs.declared.file.File.TheVariants.{Db}
 use Rattle.crashdisk.specs.declared.error.DiskError.{DiskError}
-use Rattle.crashdisk.proofs.Keeping.{sound_writes, sound_cuts}
-use Rattle.crashdisk.proofs.Sound.{byte_past, cut_below, written_inside, written_outside}
-use Rattle.crashdisk.proofs.Steps.{present_written, present_cut, counted_grows}
+use Rattle.crashdisk.proofs.Sound.{cut_below, written_inside, written_outside}
+use Rattle.crashdisk.proofs.Steps.{present_written, present_cut}
 use Rattle.sqval.specs.CommitFaults.{most_bytes}
-use Rattle.walcore.specs.Steps.{Still, KeepsLog, PutsPage, PageAnswer, CopyAnswer}
+use Rattle.walcore.specs.Steps.{PutsPage, PageAnswer, CopyAnswer}
+use Rattle.crashdisk.specs.Keeps.{Still, KeepsLog}
 use Rattle.walcore.specs.Plans.{IsTable, IsCopy}
 use Rattle.walcore.specs.declared.error.WalError.{WalError}
 use Rattle.walcore.specs.declared.error.WalError.TheVariants.{Device}
-use Rattle.walcore.proofs.Stills.{still_sound, still_looks, refusal_after}
-use Rattle.walcore.proofs.Scans.{had_refusal}
+use Rattle.crashdisk.proofs.Stills.{still_looks, refusal_after, had_refusal}
+use Rattle.crashdisk.proofs.Down.{present_byte}
 
 -- ---- What the table finds.
 
@@ -63,51 +63,6 @@ pub content_long : (size m i : ℕ) (w : List ℕ) → IsValidFrame size w m →
 content_long size m i w valid one le =
     let fits : frame_at size i + 24 + size ≤ length w = omega (arith, content_place size i, content_end size m i w valid one le) in
     length-take-le size (drop (frame_at size i + 24) w) (omega (arith, length-drop (frame_at size i + 24) w))
-
--- ---- The log stays.
-
-pub keeps_still : (a b : DiskState) → IsSoundDisk a → Still a b → KeepsLog a b
-keeps_still a b sound is = record { sector = is.sector; tears = is.tears; log = is.log; kept = is.kept; handed = is.handed; refused = is.refused; sound = still_sound a b sound is }
-
-pub keeps_same : (s : DiskState) → IsSoundDisk s → KeepsLog s s
-keeps_same s sound = record { sector = refl; tears = refl; log = refl; kept = refl; handed = refl; refused = omega arith; sound = sound }
-
-pub keeps_then : (a b c : DiskState) → KeepsLog a b → KeepsLog b c → KeepsLog a c
-keeps_then a b c first second = record {
-  sector = second.sector ∙ first.sector;
-  tears = second.tears ∙ first.tears;
-  log = second.log ∙ first.log;
-  kept = second.kept ∙ first.kept;
-  handed = second.handed ∙ first.handed;
-  refused = omega (arith, first.refused, second.refused);
-  sound = second.sound;
-}
-
-pub keeps_write : {T : Type 0} (at : ℕ) (bytes : List ℕ) (result : Result T DiskError) (a b : DiskState) → IsSoundDisk a → Writes Db at bytes result a b → KeepsLog a b
-keeps_write at bytes result a b sound wrote = record {
-  sector = wrote.elsewhere.sector;
-  tears = wrote.elsewhere.tears;
-  log = wrote.elsewhere.other;
-  kept = wrote.kept;
-  handed = wrote.handed ∙ not_handed a.tears;
-  refused = omega (arith, counted_grows result a.refused sound.refused, wrote.elsewhere.refused);
-  sound = sound_writes Db at bytes result a b sound wrote;
-}
-  where
-    not_handed : (tears : Bool) → with_write tears Db result at bytes a.handed ≡ a.handed
-    not_handed true = refl
-    not_handed false = refl
-
-pub keeps_cut : {T : Type 0} (n : ℕ) (result : Result T DiskError) (a b : DiskState) → IsSoundDisk a → Cuts Db n result a b → KeepsLog a b
-keeps_cut n result a b sound cut = record {
-  sector = cut.elsewhere.sector;
-  tears = cut.elsewhere.tears;
-  log = cut.elsewhere.other;
-  kept = cut.kept;
-  handed = cut.handed;
-  refused = omega (arith, counted_grows result a.refused sound.refused, cut.elsewhere.refused);
-  sound = sound_cuts Db n result a b sound cut;
-}
 
 -- ---- One page.
 
@@ -149,9 +104,6 @@ page_fits size p count one le within =
 file_page_byte : (size : ℕ) (db : List ℕ) (p j : ℕ) → j < size → get_or (file_page size db p) j 0 ≡ get_or db ((p - 1) * size + j) 0
 unfolding file_page
 file_page_byte size db p j lt = get_or-map-range_with_len (λ i. get_or db ((p - 1) * size + i) 0) 0 size j j 0 lt (omega arith)
-
-pub present_byte : (s : FileState) (db : List ℕ) → ArePresent s db → (i : ℕ) → get_or db i 0 ≡ byte s i
-present_byte s db are i = ⊎_elim (λ lt. are.each i lt) (λ le. get_or_past db i 0 (omega (arith, are.len)) ∙ sym (byte_past s i le)) (cases_lt i s.len)
 
 place_step : (size k n : ℕ) → k + 1 ≡ n → k * size + size ≡ n * size
 place_step size k n e = rw (sym e) (omega arith)

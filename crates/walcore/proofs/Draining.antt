@@ -1,5 +1,5 @@
 -- A checkpoint as a step of the machine.
-use Rattle.std.proofs.Common.{◌≡◌, ◌≢◌, inl, inr, ⊎_elim, ℕ, ◌+◌, ◌-◌, ◌<◌, ◌≤◌, Bool, true, false, ◌==◌, List, [], ◌∷◌, length, get_or, take, drop, refl, sym, ◌∙◌, ap, subst, arith, length-drop}
+use Rattle.std.proofs.Common.{◌≡◌, ◌≢◌, inl, inr, ⊎_elim, ℕ, ◌+◌, ◌-◌, ◌<◌, ◌≤◌, Bool, true, false, ◌==◌, List, ◌∷◌, length, get_or, take, drop, refl, sym, ◌∙◌, ap, subst, arith, length-drop, []}
 use Rattle.std.specs.Prelude.{Result, Ok, Err, OnOk, IsTrue, Option, Some, None, not, if◌then◌else◌}
 use Rattle.std.proofs.lemmas.Bool.{cases_eq}
 use Rattle.std.proofs.lemmas.List.{length-take-le}
@@ -16,18 +16,18 @@ use Rattle.walcore.specs.Made.{NoChance}
 use Rattle.sqwal.specs.Frames.{frame_end}
 use Rattle.walcore.specs.Era.{shown}
 use Rattle.walcore.specs.Standing.{ShowsWhole, Stands, IsPresent}
-use Rattle.walcore.specs.Steps.{KeepsLog}
+use Rattle.crashdisk.specs.Keeps.{KeepsLog, IsSameDisk}
 use Rattle.walcore.specs.Bringing.{answer_of, IsOldest, LeavesJust, IsLeast, BroughtTo, Brings, BroughtDown, ClosedBy}
-use Rattle.walcore.specs.Fits.{Past, AreFiles, IsLeft, FitsDisk, IsBound, AreTogether, IsNewestDown, IsCore, IsSameDisk, FitsCore, StepsTo, answered, times}
+use Rattle.walcore.specs.Fits.{Past, AreFiles, IsLeft, FitsDisk, IsBound, AreTogether, IsNewestDown, IsCore, FitsCore, StepsTo, answered, times}
 use Rattle.walcore.specs.declared.state.Core.{Core}
 use Rattle.walcore.specs.declared.reader.Reader.{Reader}
 use Rattle.walcore.specs.declared.wal.Checkpointed.{Checkpointed}
 use Rattle.walcore.specs.declared.wal.Checkpointed.TheVariants.{Complete as AllOfIt, Partial as PartOfIt}
 use Rattle.walcore.specs.declared.error.WalError.{WalError}
-use Rattle.walcore.proofs.Down.{present_image}
+use Rattle.crashdisk.proofs.Down.{present_image}
 use Rattle.walcore.proofs.Present.{present_by}
 use Rattle.walcore.proofs.Standing.{stands_shows, present_last}
-use Rattle.walcore.proofs.Stills.{still}
+use Rattle.crashdisk.proofs.Stills.{still}
 use Rattle.walcore.proofs.Fitting.{SameCore, core_same}
 use Rattle.walcore.proofs.Joining.{open_refusal}
 use Rattle.walcore.proofs.Repeating.{behind_same}

@@ -1,8 +1,8 @@
 -- While a log is cut whose header is zeros, what is left shows what it showed.
-use Rattle.std.proofs.Common.{◌≡◌, ⊎_elim, ℕ, ◌-◌, ◌<◌, Bool, true, false, List, [], length, get_or, refl, sym, ◌∙◌, ap, subst, arith}
+use Rattle.std.proofs.Common.{◌≡◌, ⊎_elim, ℕ, ◌-◌, ◌<◌, Bool, true, false, List, length, get_or, refl, sym, ◌∙◌, ap, subst, arith, []}
 use Rattle.std.specs.Prelude.{Result, Ok, Err}
 use Rattle.std.proofs.lemmas.List.{get_or-take, get_or_past}
-use Rattle.std.proofs.lemmas.Bool.{cases_lt}
+use Rattle.std.proofs.lemmas.Bool.{cases_lt, cases_Bool}
 use Rattle.sqval.specs.Database.{Database}
 use Rattle.sqwal.specs.Header.{IsHeader, named_size}
 use Rattle.crashdisk.specs.State.{FileState, byte, IsImage, CutTouches, cut_to}
@@ -18,11 +18,12 @@ use Rattle.crashdisk.proofs.Steady.{steady_present, steady_cut, steady_sync}
 use Rattle.crashdisk.proofs.Steps.{image_elsewhere, image_looks, present_written}
 use Rattle.walcore.specs.Alone.{AreWhole, ShowsAlone}
 use Rattle.walcore.specs.Phases.{Filed, Zeroing, Emptying}
-use Rattle.walcore.proofs.Suiting.{suits_cuts, suits_looks, suits_syncs}
-use Rattle.walcore.proofs.Down.{shows_by, since_db, file_syncs}
+use Rattle.crashdisk.proofs.Suiting.{suits_cuts, suits_looks, suits_syncs}
+use Rattle.walcore.proofs.Down.{shows_by}
+use Rattle.crashdisk.proofs.Down.{since_db, file_syncs, log_syncs}
 use Rattle.walcore.proofs.Filed.{show_left}
 use Rattle.walcore.proofs.Zeros.{zeros_bad}
-use Rattle.walcore.proofs.Zeroing.{tears_or, log_syncs, zeroing_writes}
+use Rattle.walcore.proofs.Zeroing.{zeroing_writes}
 
 -- zeros in what was kept, and nothing handed over, are no header where none comes together by chance
 kept_bad : (kept v : List ℕ) → ((i : ℕ) → i < 32 → get_or kept i 0 ≡ 0) → AreWhole kept [] v → IsHeader (named_size v) v → ⊥
@@ -45,7 +46,7 @@ module _ (size : ℕ) (d : Database) where
       (λ v left. ⊎_elim
       (λ torn. kept_bad s.kept v (is.kept torn) (subst (λ (x : List (ℕ × List ℕ)). AreWhole s.kept x v) is.handed (left.whole torn)))
       (λ whole. zeros_bad (named_size v) v (λ i lt. is.listed i (omega arith) v (subst (λ (t : Bool). IsImage s.sector t s.log v) whole left.image)))
-      (tears_or s.tears))
+      (cases_Bool s.tears))
       (λ v image. zeros_bad (named_size v) v (λ i lt. is.listed i (omega arith) v image))
       (λ db v image bad. show_left size d db v (is.file db image) (λ valid. absurd (bad (valid.each 1 (omega arith) (omega arith)).header)))
 

@@ -10,7 +10,7 @@ use Rattle.sqwal.specs.Log.{IsLog}
 use Rattle.walcore.specs.Made.{IsExtended}
 use Rattle.walcore.specs.Era.{IsApplied}
 use Rattle.walcore.specs.Standing.{AreCommitted}
-use Rattle.walcore.proofs.Supplied.{number_at, supplied_none, supplied_at, length-apply, page-apply}
+use Rattle.sqval.proofs.Supplied.{number_at, supplied_none, supplied_at, length-apply, page-apply}
 
 module _ (size : ℕ) (e : List ℕ) (n : ℕ) (pages : Pages) (count : ℕ) (f : List ℕ) (log : IsLog size e n) (more : IsExtended size e n pages count f) where
   -- the log before is in front

@@ -13,8 +13,9 @@ use Rattle.crashdisk.specs.declared.error.DiskError.{DiskError}
 use Rattle.crashdisk.proofs.Steps.{image_looks}
 use Rattle.walcore.specs.Alone.{Show, ShowsAlone}
 use Rattle.walcore.specs.Phases.{IsOfSize, Scanning, Filed}
-use Rattle.walcore.proofs.Suiting.{suits_looks, suits_syncs}
-use Rattle.walcore.proofs.Down.{shows_by, down_one, down_looks, down_syncs, file_syncs}
+use Rattle.crashdisk.proofs.Suiting.{suits_looks, suits_syncs}
+use Rattle.walcore.proofs.Down.{shows_by}
+use Rattle.crashdisk.proofs.Down.{down_one, down_looks, down_syncs, file_syncs}
 
 -- a file of the pages shows them with a log that has no valid frame
 show_none : (size : ℕ) (d : Database) (db v : List ℕ) (k : ℕ) → IsFile size db d → k ≡ 0 → (1 ≤ k → named_size v ≡ size) × IsView size db v k d
@@ -58,7 +59,7 @@ module _ (size : ℕ) (d : Database) (w : List ℕ) where
   pub filed_syncs : {T : Type 0} (f : File) (result : Result T DiskError) (old new : DiskState) → Filed size d w old → Syncs f result old new → Filed size d w new
   filed_syncs f result old new is synced = record {
     suits = suits_syncs size f result old new is.suits synced;
-    down = down_syncs w f result old new is.suits.sound is.down synced;
+    down = down_syncs w f result old new is.down synced;
     of_size = is.of_size;
     repeats = is.repeats;
     file = λ db image. is.file db (file_syncs f result old new is.suits.sound synced db image);

@@ -5,15 +5,15 @@ use Rattle.sqwal.specs.Header.{named_size}
 use Rattle.sqwal.specs.Frames.{IsFront}
 use Rattle.crashdisk.specs.Call.{DiskState, IsSoundDisk, ArePresent, Looks}
 use Rattle.crashdisk.specs.declared.error.DiskError.{DiskError}
-use Rattle.walcore.specs.Folding.{HadRefusal, TearsPages, FoldAnswer}
+use Rattle.walcore.specs.Folding.{FoldAnswer}
+use Rattle.crashdisk.specs.Keeps.{HadRefusal, TearsPages, Still}
 use Rattle.walcore.specs.Opening.{CountAnswer, FileFault, FileJudged, FrontJudged}
-use Rattle.walcore.specs.Plans.{ReadAnswer}
-use Rattle.walcore.specs.Steps.{Still}
+use Rattle.walcore.specs.Plans.{IsFit, ReadAnswer}
 use Rattle.walcore.specs.declared.plan.Plan.{Plan}
 use Rattle.walcore.specs.declared.error.WalError.{WalError}
 use Rattle.walcore.specs.declared.error.WalError.TheVariants.{TooLarge, PageSize, Device}
 use Rattle.walcore.proofs.Recovering.{look_refused, looked_bytes, read_folds, fold_looked}
-use Rattle.walcore.proofs.Stills.{still_then}
+use Rattle.crashdisk.proofs.Stills.{still_then}
 
 module _ {T : Type 0} (size : ℕ) (w : List ℕ) (fault : WalError) where
   pub front_unlooked : {U : Type 0} (called : Result U DiskError) (e : DiskError) (q : Result T WalError) (a b : DiskState) → IsSoundDisk a → (TearsPages size a → ⊥) → called ≡ Err e → q ≡ Err Device → Looks 0 called a b → FrontJudged size w fault q a b
@@ -34,9 +34,9 @@ refusal_then : (a b c : DiskState) → Still b c → HadRefusal a b → HadRefus
 refusal_then a b c still had = ⊎_elim (λ lt. inl (omega (arith, lt, still.refused))) (λ most. inr (omega (arith, most, still.refused, still.count))) had
 
 module _ (size : ℕ) (db w : List ℕ) (a b c : DiskState) (fits : TearsPages size a → ⊥) (are : ArePresent a.db db) (first : Still a b) (second : Still b c) where
-  at_front : (T : Type 0) (e x : WalError) → x ≡ e → IsFront (named_size w) w 0 → CountAnswer size a.db.len (Err e) a b → FileJudged {T = T} size db w (Err x) a c
-  at_front T e x same front answer = ⊎_elim
-      (λ fault. inr (fits, front, subst (λ (n : ℕ). FileFault size n x) (sym are.len) (subst (λ (y : WalError). FileFault size a.db.len y) (sym same) fault), looked_bytes size db w a c c fits (still_then a b c first second)))
+  at_front : (T : Type 0) (e x : WalError) → x ≡ e → IsFit size w → IsFront (named_size w) w 0 → CountAnswer size a.db.len (Err e) a b → FileJudged {T = T} size db w (Err x) a c
+  at_front T e x same fit front answer = ⊎_elim
+      (λ fault. inr (fits, fit, front, subst (λ (n : ℕ). FileFault size n x) (sym are.len) (subst (λ (y : WalError). FileFault size a.db.len y) (sym same) fault), looked_bytes size db w a c c fits (still_then a b c first second)))
       (λ is. inl (subst (λ (y : WalError). FoldAnswer size db w (Err y) a c) (sym (same ∙ is.0)) (fits, refusal_then a b c second is.1)))
       (count_fault size a.db.len e a b answer)
 
@@ -44,5 +44,5 @@ module _ (size : ℕ) (db w : List ℕ) (a b c : DiskState) (fits : TearsPages s
   file_judged {T = T} e (Ok v) answer judged = λ front. absurd (judged front)
   file_judged {T = T} e (Err x) answer judged = ⊎_elim
       (λ folds. inl (fold_looked size db w a b c fits first (Err x) (folds db)))
-      (λ is. at_front T e x is.1 is.0 answer)
+      (λ is. at_front T e x is.2 is.0 is.1 answer)
       judged

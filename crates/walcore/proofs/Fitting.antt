@@ -17,11 +17,11 @@ use Rattle.sqval.specs.Answers.{Answer}
 use Rattle.walcore.specs.Making.{Makes}
 use Rattle.walcore.specs.CommitRefusals.{most_pages}
 use Rattle.walcore.specs.Standing.{MayBeRead, IsBehind, Stands, IsPresent}
-use Rattle.walcore.specs.Steps.{Still}
+use Rattle.crashdisk.specs.Keeps.{Still}
 use Rattle.walcore.specs.Fits.{Past, IsLeft, FitsDisk, IsIndexed, IsBound, AreTogether, IsCore, FitsCore, StepsTo, times}
 use Rattle.walcore.specs.declared.state.Core.{Core}
-use Rattle.walcore.proofs.Stills.{image_still, present_in}
-use Rattle.walcore.proofs.Suiting.{suits_still}
+use Rattle.crashdisk.proofs.Stills.{image_still, present_in}
+use Rattle.crashdisk.proofs.Suiting.{suits_still}
 use Rattle.walcore.proofs.Logging.{holds_elsewhere}
 use Rattle.walcore.proofs.Present.{present_by}
 use Rattle.walcore.proofs.Stepping.{stands_by}

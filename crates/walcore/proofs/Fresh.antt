@@ -15,7 +15,7 @@ use Rattle.walcore.specs.Opening.{IsNewCore}
 use Rattle.walcore.specs.declared.opening.NewLog.{NewLog}
 use Rattle.walcore.specs.declared.reader.Reader.{Reader}
 use Rattle.walcore.specs.declared.state.Core.{Core}
-use Rattle.walcore.proofs.Down.{present_image}
+use Rattle.crashdisk.proofs.Down.{present_image}
 use Rattle.sqwal.proofs.Same.{frame_end-le}
 use Rattle.walcore.proofs.Standing.{stands_shows, present_last}
 use Rattle.walcore.proofs.Repeating.{behind_none}

@@ -13,7 +13,7 @@ use Rattle.sqwal.proofs.Views.{view_same}
 use Rattle.sqval.specs.Held.{IsJust}
 use Rattle.walcore.specs.Made.{AreMade, NoChance}
 use Rattle.walcore.specs.Era.{IsBoundary, shown, IsEra, IsDown, IsUnder}
-use Rattle.walcore.proofs.Pages.{size_some, file_count}
+use Rattle.sqval.proofs.FilePages.{size_some, file_count}
 use Rattle.walcore.proofs.Known.{known}
 
 -- two lists with the same first numbers

@@ -1,5 +1,5 @@
 -- A commit that is granted steps to the history with its database.
-use Rattle.std.proofs.Common.{◌≡◌, inl, ⊎_elim, ℕ, ◌+◌, ◌-◌, ◌^◌, ◌<◌, ◌≤◌, Bool, true, false, cond, List, [], ◌∷◌, ◌++◌, length, take, get_or, refl, sym, ◌∙◌, ap, subst, arith, Bor, Option, length-append, lit<}
+use Rattle.std.proofs.Common.{◌≡◌, inl, ⊎_elim, ℕ, ◌+◌, ◌-◌, ◌^◌, ◌<◌, ◌≤◌, Bool, true, false, cond, List, ◌∷◌, ◌++◌, length, take, get_or, refl, sym, ◌∙◌, ap, subst, arith, Bor, Option, length-append, lit<, []}
 use Rattle.std.specs.Prelude.{IsTrue, nat_lt, Some, None}
 use Rattle.std.proofs.lemmas.Bool.{cases_lt}
 use Rattle.std.proofs.lemmas.List.{get_or_append_left, get_or_past}
@@ -22,7 +22,7 @@ use Rattle.walcore.specs.Machine.{State, newest, reader_at}
 use Rattle.walcore.specs.Made.{AreMade, NoChance, IsExtended}
 use Rattle.walcore.specs.Era.{shown}
 use Rattle.sqval.specs.Held.{IsHeld}
-use Rattle.walcore.specs.Phases.{Suits}
+use Rattle.crashdisk.specs.Keeps.{Suits}
 use Rattle.walcore.specs.Standing.{ShowsWhole, IsBehind, Stands, IsPresent}
 use Rattle.sqval.specs.JudgedPages.{lent}
 use Rattle.walcore.specs.Fits.{Past, AreFiles, IsLeft, FitsDisk, IsIndexed, IsBound, AreTogether, IsCore, FitsCore, times}
@@ -30,20 +30,21 @@ use Rattle.walcore.specs.Going.{KnowsLog}
 use Rattle.walcore.specs.Commits.{SameLog, IsReady}
 use Rattle.walcore.specs.declared.state.Core.{Core}
 use Rattle.walcore.specs.declared.reader.Reader.{Reader}
-use Rattle.walcore.proofs.Accepted.{IsGranted}
 use Rattle.walcore.proofs.MadeMore.{extended_exists}
 use Rattle.walcore.proofs.Granted.{are_committed, are_frames}
-use Rattle.walcore.proofs.Prepared.{ready_granted}
 use Rattle.sqval.proofs.PageNumbers.{lent_length}
-use Rattle.walcore.proofs.Supplied.{length-apply}
+use Rattle.sqval.proofs.Faultless.{IsFaultless}
+use Rattle.walcore.proofs.Prepared.{ready_granted, ready_most}
+use Rattle.sqval.proofs.PageNumbers.{lent_length}
+use Rattle.sqval.proofs.Supplied.{length-apply}
 use Rattle.walcore.proofs.Extending.{extended_front}
 use Rattle.walcore.proofs.Fronting.{boundary_same}
 use Rattle.walcore.proofs.Committing.{index_with, index_low, index_at}
-use Rattle.walcore.proofs.Down.{present_image}
+use Rattle.crashdisk.proofs.Down.{present_image}
 use Rattle.walcore.proofs.Standing.{stands_shows, present_last}
 use Rattle.walcore.proofs.Stepping.{commit_stands}
 use Rattle.walcore.proofs.Present.{present_more}
-use Rattle.walcore.proofs.Pages.{sector_some}
+use Rattle.crashdisk.proofs.Pages.{sector_some}
 use Rattle.walcore.proofs.Repeating.{behind_later, behind_same}
 
 -- ---- what fits a disk, by its parts
@@ -138,13 +139,13 @@ planned past e rest index d c core pages count s is logs ready fits =
     let log : IsLog z e n = is.stands.era.log in
     let granted = ready_granted pages count core ready in
     let bytes : AreBytes e = present_bytes z e n s log is.present is.stands.suits.sound in
-    let made = extended_exists z e n (lent pages) count bytes log (are_frames core.size z core.used pages count granted ready.bytes fits) in
+    let made = extended_exists z e n (lent pages) count bytes log (are_frames core.size z pages count granted ready.bytes fits) in
     let f : List ℕ = made.0 in
     let more : IsExtended z e n (lent pages) count f = made.1 in
-    let few : n + length (lent pages) ≤ most_frames = omega (arith, is.few.0, granted.room) in
+    let few : n + length (lent pages) ≤ most_frames = omega (arith, is.few.0, lent_length pages, ready_most pages count core ready) in
     let now : shown past.state.history index n ≡ newest past.state = ap (λ (k : ℕ). get_or past.state.history k []) (let k : index n ≡ length past.state.history - 1 = omega (arith, is.stands.era.last) in k) in
     let long : core.size ≡ length (shown past.state.history index n) = is.size ∙ ap length (sym now) in
-    let committed = are_committed (shown past.state.history index n) z core.used (lent pages) count (subst (λ (k : ℕ). IsGranted k z core.used (lent pages) count) long granted) in
+    let committed = are_committed (shown past.state.history index n) z (lent pages) count (subst (λ (k : ℕ). IsFaultless k z (lent pages) count) long granted) in
     let was = subst (λ (x : List (List ℕ)). Stands z x e n past.state.history index core.mark d c s) logs is.stands in
     let then = commit_stands z rest e n past.state.history index core.mark d c s (lent pages) count f was more committed few in
     let same : take (frame_end z n) f ≡ take (frame_end z n) e = extended_front z e n (lent pages) count f log more in

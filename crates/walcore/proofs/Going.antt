@@ -1,5 +1,5 @@
 -- The frames of a commit are written one after another, and the log goes on by them.
-use Rattle.std.proofs.Common.{◌≡◌, ◌≢◌, ⊎_elim, ℕ, suc, ◌+◌, ◌-◌, ◌*◌, ◌<◌, ◌≤◌, List, [], ◌∷◌, ◌++◌, length, drop, get_or, refl, sym, ◌∙◌, ap, subst, arith, length-append, length-drop}
+use Rattle.std.proofs.Common.{◌≡◌, ◌≢◌, ⊎_elim, ℕ, suc, ◌+◌, ◌-◌, ◌*◌, ◌<◌, ◌≤◌, List, ◌∷◌, ◌++◌, length, drop, get_or, refl, sym, ◌∙◌, ap, subst, arith, length-append, length-drop, []}
 use Rattle.std.specs.Prelude.{Result, Ok, Err, IsOk}
 use Rattle.std.proofs.Math.Nat.{mul-le-mul_left}
 use Rattle.std.proofs.lemmas.Bool.{cases_eq}
@@ -20,38 +20,20 @@ use Rattle.sqwal.specs.declared.sum.Sum.{Sum}
 use Rattle.sqwal.specs.declared.header.WalHeader.{WalHeader}
 use Rattle.sqwal.specs.Index.{FrameTable}
 use Rattle.sqwal.proofs.Same.{frame_end-le}
-use Rattle.walcore.specs.Folding.{HadRefusal}
-use Rattle.walcore.specs.Steps.{Told}
+use Rattle.crashdisk.specs.Keeps.{HadRefusal, Told}
 use Rattle.walcore.specs.Standing.{IsBehind, Stands, IsPresent}
 use Rattle.walcore.specs.Fits.{IsIndexed}
 use Rattle.walcore.specs.Going.{HasFrame, FrameStep, KnowsLog}
 use Rattle.walcore.specs.declared.state.Core.{Core}
 use Rattle.walcore.specs.declared.error.WalError.{WalError}
 use Rattle.walcore.specs.declared.error.WalError.TheVariants.{Device}
-use Rattle.walcore.proofs.Scans.{had_refusal}
+use Rattle.crashdisk.proofs.Stills.{had_refusal}
 use Rattle.walcore.proofs.NextFrame.{next_frame}
 use Rattle.walcore.proofs.Present.{present_writes}
 use Rattle.walcore.proofs.Stepping.{stands_writes}
+use Rattle.crashdisk.proofs.Later.{told_err, told_ok, told_refused}
 
 -- ---- what a call answers
-
-module _ {T : Type 0} where
-  pub told_refused : (called : Result T DiskError) (r : Result T WalError) (x : DiskError) → called ≡ Err x → r ≡ Err Device → Told called r
-  told_refused called r x is same = subst (λ (q : Result T WalError). Told called q) (sym same) (subst (λ (q : Result T DiskError). Told q (Err Device)) (sym is) refl)
-
-  pub told_error : (called : Result T DiskError) (r : Result T WalError) (e : WalError) → r ≡ Err e → Told called r → (e ≡ Device) × ((x : DiskError) × (called ≡ Err x))
-  told_error called r e is told = by called (subst (λ (y : Result T WalError). Told called y) is told)
-    where
-      by : (c : Result T DiskError) → Told c (Err e) → (e ≡ Device) × ((x : DiskError) × (c ≡ Err x))
-      by (Ok x) bad = absurd bad
-      by (Err x) same = (same, (x, refl))
-
-  pub told_done : (called : Result T DiskError) (r : Result T WalError) (v : T) → r ≡ Ok v → Told called r → (x : T) × (called ≡ Ok x)
-  told_done called r v is told = by called (subst (λ (y : Result T WalError). Told called y) is told)
-    where
-      by : (c : Result T DiskError) → Told c (Ok v) → (x : T) × (c ≡ Ok x)
-      by (Ok x) fine = (x, refl)
-      by (Err x) bad = absurd bad
 
 -- ---- one frame
 
@@ -128,7 +110,7 @@ module _ {T : Type 0} (f : List ℕ) (m n : ℕ) (old new : Core) (s t : DiskSta
 
   pub frame_known : (v : T) → result ≡ Ok v → KeepsLog old new → page ≤ old.index.bound → KnowsLog f (suc n) new t
   frame_known v is keeps within =
-      let called = told_done step.called result v is step.told in
+      let called = told_ok Device step.called result v is step.told in
       let has : HasFrame page step.after old new = step.done (subst (λ (r : Result T WalError). IsOk r) (sym is) refl) in
       let wrote = subst (λ (r : Result T DiskError). Writes Log (frame_end old.page_size n) (part f (frame_end old.page_size n) (frame_end old.page_size (suc n) - frame_end old.page_size n)) r s t) called.1 written in
       let present : IsPresent old.page_size f (suc n) t = present_writes old.page_size f s t n (suc n) (omega arith) fits wrote reaches.knows.present in
@@ -146,7 +128,7 @@ module _ {T : Type 0} (f : List ℕ) (m n : ℕ) (old new : Core) (s t : DiskSta
 
   pub frame_refused : (e : WalError) → result ≡ Err e → old.page_size ≤ 65536 → (e ≡ Device) × HadRefusal s t
   frame_refused e is small =
-      let called = told_error step.called result e is step.told in
+      let called = told_err Device step.called result e is step.told in
       let a : ℕ = frame_end old.page_size n in
       let b : ℕ = frame_end old.page_size (suc n) in
       let up : a ≤ b = frame_end-le old.page_size n (suc n) (omega arith) in
@@ -161,7 +143,7 @@ module _ {T : Type 0} (f : List ℕ) (m n : ℕ) (old new : Core) (s t : DiskSta
 
 module _ {T : Type 0} (page count : ℕ) (content : List ℕ) (old new : Core) (s t : DiskState) (head : List ℕ) (after : Sum) (at : ℕ) (bytes : List ℕ) where
   frame_step : (called : Result T DiskError) (r : Result T WalError) → IsFrameHead old.header old.sum page count content head after → at ≡ frame_end old.page_size old.frames → bytes ≡ head ++ content → Writes Log at bytes called s t
-      → Told called r → (IsOk r → HasFrame page after old new) → FrameStep page count content r old new s t
+      → Told Device called r → (IsOk r → HasFrame page after old new) → FrameStep page count content r old new s t
   frame_step called r made place is wrote told done = record {
     called = called;
     told = told;
@@ -174,7 +156,7 @@ module _ {T : Type 0} (page count : ℕ) (content : List ℕ) (old new : Core) (
 
   pub frame_failed : (called : Result T DiskError) (x : DiskError) (r : Result T WalError) → IsFrameHead old.header old.sum page count content head after → at ≡ frame_end old.page_size old.frames → bytes ≡ head ++ content
       → Writes Log at bytes called s t → called ≡ Err x → r ≡ Err Device → FrameStep page count content r old new s t
-  frame_failed called x r made place is wrote was same = frame_step called r made place is wrote (told_refused called r x was same) (λ ok. absurd (let bad : IsOk {T = T} {E = WalError} (Err Device) = subst (λ (q : Result T WalError). IsOk q) same ok in cc))
+  frame_failed called x r made place is wrote was same = frame_step called r made place is wrote (told_refused Device called r x was same) (λ ok. absurd (let bad : IsOk {T = T} {E = WalError} (Err Device) = subst (λ (q : Result T WalError). IsOk q) same ok in cc))
 
   pub frame_put : {u : T} → IsFrameHead old.header old.sum page count content head after → at ≡ frame_end old.page_size old.frames → bytes ≡ head ++ content
       → Writes Log at bytes (Ok u) s t → HasFrame page after old new → FrameStep page count content (Ok u) old new s t

@@ -1,5 +1,5 @@
 -- A reader more, and a reader less.
-use Rattle.std.proofs.Common.{◌≡◌, inl, ℕ, ◌+◌, ◌<◌, Bool, true, false, cond, ◌==◌, List, [], ◌∷◌, ◌++◌, length, get_or, set, refl, sym, ◌∙◌, ap, subst, arith, length-append}
+use Rattle.std.proofs.Common.{◌≡◌, inl, ℕ, ◌+◌, ◌<◌, Bool, true, false, cond, ◌==◌, List, ◌∷◌, ◌++◌, length, get_or, set, refl, sym, ◌∙◌, ap, subst, arith, length-append, []}
 use Rattle.std.specs.Prelude.{IsTrue, Option, Some, None, not, slice_get}
 use Rattle.std.proofs.lemmas.List.{length-set}
 use Rattle.crashdisk.specs.Call.{DiskState}
@@ -7,12 +7,13 @@ use Rattle.sqval.specs.Answers.{Done, Reader as ReaderAnswer, Refused, Refuses}
 use Rattle.walcore.specs.Machine.{State, last, reader_at, Begins, Ends, EndStep, call_refusal, begun, ended}
 use Rattle.sqval.specs.CommitFaults.{first_true}
 use Rattle.walcore.specs.Era.{IsBoundary}
-use Rattle.walcore.specs.Steps.{Still}
+use Rattle.crashdisk.specs.Keeps.{Still}
 use Rattle.walcore.specs.Fits.{Past, FitsDisk, IsBound, AreTogether, IsCore, FitsCore, StepsTo, times}
 use Rattle.walcore.specs.declared.state.Core.{Core}
 use Rattle.walcore.specs.declared.reader.Reader.{Reader}
 use Rattle.walcore.proofs.Fitting.{SameCore, fits_disk_still, core_same, stays}
 use Rattle.walcore.proofs.Readers.{at_slot, bound_at, together_map, together_push, together_set, emptied, mark_pushed}
+use Rattle.sqval.proofs.Answering.{refuses_first}
 
 -- ---- a past with other readers
 
@@ -60,9 +61,6 @@ closed_refusal s e = ap (λ b. first_true ((not b, 1) ∷ [])) e
 
 pub open_refusal : (s : State) → s.is_open ≡ true → call_refusal s ≡ None
 open_refusal s e = ap (λ b. first_true ((not b, 1) ∷ [])) e
-
-pub refuses_first : {S : Type 0} (o : Option ℕ) (first : ℕ) (memory : Bool) (failed s : S) (before after : ℕ) → o ≡ Some first → Refuses o memory failed before after s first s
-refuses_first o first memory failed s before after e = subst (λ (x : Option ℕ). Refuses x memory failed before after s first s) (sym e) (refl, refl)
 
 pub refuses_memory : {S : Type 0} (o : Option ℕ) (failed s : S) (before after : ℕ) → o ≡ None → Refuses o true failed before after s 14 s
 refuses_memory o failed s before after e = subst (λ (x : Option ℕ). Refuses x true failed before after s 14 s) (sym e) (inl (refl, refl, refl))

@@ -1,5 +1,5 @@
 -- What a scanned log is judged by, and the table of its frames.
-use Rattle.std.proofs.Common.{◌≡◌, ◌≢◌, ◌↔◌, inl, inr, ⊎_elim, ℕ, suc, ◌+◌, ◌-◌, ◌*◌, ◌<◌, ◌≤◌, true, false, List, [], ◌∷◌, ◌++◌, length, get_or, refl, sym, ◌∙◌, ap, subst, arith, length-append}
+use Rattle.std.proofs.Common.{◌≡◌, ◌≢◌, ◌↔◌, inl, inr, ⊎_elim, ℕ, suc, ◌+◌, ◌-◌, ◌*◌, ◌<◌, ◌≤◌, true, false, List, ◌∷◌, ◌++◌, length, get_or, refl, sym, ◌∙◌, ap, subst, arith, length-append, []}
 use Rattle.std.specs.Prelude.{Option, Some, None, Result, Ok, Err, IsTrue, is_some}
 use Rattle.std.proofs.lemmas.Bool.{cases_lt, cases_eq}
 use Rattle.std.proofs.lemmas.Bool.Decides.{nat_tests}
@@ -56,10 +56,6 @@ module _ (size named : ℕ) (w : List ℕ) (header : IsHeader named w) where
   refused : (e : WalError) → LogRefused size w e → JudgeAnswer size w (Err e)
   unfolding JudgeAnswer
   refused e is = is
-
-  pub judged_many : IsValidFrame (named_size w) w (suc most_frames) → JudgeAnswer size w (Err TooLarge)
-  unfolding LogRefused
-  judged_many valid = refused TooLarge (inl valid)
 
   module _ (f : Front) (is : IsCommitted w f) where
     pub judged_large : most_bytes < f.size * named → JudgeAnswer size w (Err TooLarge)

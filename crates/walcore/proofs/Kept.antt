@@ -1,25 +1,16 @@
 -- What each step of the machine keeps.
-use Rattle.std.proofs.Common.{◌≡◌, ℕ, zero, suc, ◌+◌, ◌<◌, ◌≤◌, Bool, true, false, cond, ◌&&◌, List, [], ◌∷◌, ◌++◌, length, take, set, Option, Some, None, refl, sym, ◌∙◌, ap, subst, arith, length-append, length-take, lit<, ◌==◌, nat_lt}
+use Rattle.std.proofs.Common.{◌≡◌, ℕ, zero, suc, ◌+◌, ◌<◌, ◌≤◌, Bool, true, false, ◌&&◌, List, ◌∷◌, ◌++◌, length, take, set, Option, Some, None, refl, sym, ◌∙◌, ap, subst, arith, length-append, length-take, lit<, ◌==◌, []}
 use Rattle.std.specs.List.{list_all}
-use Rattle.std.proofs.lemmas.List.{take-append-le}
+use Rattle.std.proofs.lemmas.List.{take-append-le, take-take}
 use Rattle.std.proofs.lemmas.Bool.Decides.{nat_tests}
 use Rattle.sqval.specs.Database.{Database, Pages, apply}
-use Rattle.sqval.specs.CommitFaults.{first_true, page_faults}
 use Rattle.walcore.specs.CommitRefusals.{most_pages}
 use Rattle.sqval.specs.Answers.{Answer}
 use Rattle.walcore.specs.Machine.{Act, State, start, last, newest, is_bound, forgotten, opened, gone, closed, committed, synced, checkpointed, restarted, begun, ended, commit_refusal, Step}
 use Rattle.sqval.specs.Runs.{Moment, Runs}
 use Rattle.walcore.specs.Laws.{IsSane, Keeps}
+use Rattle.walcore.proofs.Accepted.{cond_none, room_enough}
 use Rattle.walcore.proofs.Targets.{Targets, step_in}
-
--- no condition of a part holds
-rest_none : (cs ds : List (Bool × ℕ)) → first_true (cs ++ ds) ≡ None → first_true ds ≡ None
-rest_none [] ds h = h
-rest_none (c ∷ cs) ds h = elim c.0 as (λ b. cond b (Some c.1) (first_true (cs ++ ds)) ≡ None → first_true ds ≡ None) [ true ↦ λ e. absurd (cc e) | false ↦ λ e. rest_none cs ds e ] h
-
-one_none : (c : Bool) (n : ℕ) → first_true ((c, n) ∷ []) ≡ None → c ≡ false
-one_none true n h = absurd (cc h)
-one_none false n h = refl
 
 none_bound : (i : ℕ) (rs : List (Option ℕ)) → list_all (is_bound i) (forgotten rs) ≡ true
 none_bound i [] = refl
@@ -45,15 +36,8 @@ fewer_bound i [] r h = refl
 fewer_bound i (x ∷ rs) zero h = (both (is_bound i x) (list_all (is_bound i) rs) h).1
 fewer_bound i (x ∷ rs) (suc r) h = let b = both (is_bound i x) (list_all (is_bound i) rs) h in join (is_bound i x) _ b.0 (fewer_bound i rs r b.1)
 
-cond_none : (b : Bool) (first : Option ℕ) → cond b first (Some 1) ≡ None → first ≡ None
-cond_none true first h = h
-cond_none false first h = absurd (cc h)
-
 used_few : (s : State) (pages : Pages) (size : ℕ) → commit_refusal s pages size ≡ None → s.used + length pages ≤ most_pages
-used_few s pages size h =
-    let few = nat_lt most_pages (s.used + length pages) in
-    let f : few ≡ false = one_none few 10 (rest_none (page_faults (length (newest s)) s.page_size pages size) ((few, 10) ∷ []) (cond_none s.is_open _ h)) in
-    grind (arith, nat_tests, f)
+used_few s pages size h = room_enough (length (newest s)) s.page_size s.used pages size (cond_none s.is_open _ h)
 
 -- Targets
 
@@ -125,12 +109,6 @@ sane_start page_size base = record { floor = lit< tt; few = omega arith; newest 
 
 -- What is down stays
 
-take_shorter : {X : Type 0} (m n : ℕ) (xs : List X) → m ≤ n → take m (take n xs) ≡ take m xs
-take_shorter zero n xs h = refl
-take_shorter (suc m) zero xs h = absurd (omega arith)
-take_shorter (suc m) (suc n) [] h = refl
-take_shorter (suc m) (suc n) (x ∷ xs) h = ap (λ ys. x ∷ ys) (take_shorter m n xs (omega arith))
-
 same_history : (s t : State) → t.page_size ≡ s.page_size → s.floor ≤ t.floor → t.history ≡ s.history → Keeps s t
 same_history s t p f e = record { page_size = p; floor = f; down = ap (λ h. take (s.floor + 1) h) e }
 
@@ -141,7 +119,7 @@ kept_targets s i =
     let grown = λ (d : Database). take-append-le (s.floor + 1) s.history (d ∷ []) (omega arith) in
     record {
       stays = same_history s s refl (omega arith) refl;
-      opens = λ k g h. record { page_size = refl; floor = g; down = take_shorter (s.floor + 1) (k + 1) s.history (omega arith) };
+      opens = λ k g h. record { page_size = refl; floor = g; down = take-take (s.floor + 1) (k + 1) s.history (omega arith) };
       goes = same_history s (gone s) refl (omega arith) refl;
       closes = same_history s (closed s) refl (omega arith) refl;
       commits = λ pages size e. (record { page_size = refl; floor = omega arith; down = grown (apply (newest s) pages size) }, record { page_size = refl; floor = omega arith; down = grown (apply (newest s) pages size) });
@@ -162,7 +140,7 @@ kept_on s t u h g =
     record {
       page_size = g.page_size ∙ h.page_size;
       floor = omega arith;
-      down = sym (take_shorter (s.floor + 1) (t.floor + 1) u.history (omega arith)) ∙ (ap (λ x. take (s.floor + 1) x) g.down ∙ (take_shorter (s.floor + 1) (t.floor + 1) t.history (omega arith) ∙ h.down));
+      down = sym (take-take (s.floor + 1) (t.floor + 1) u.history (omega arith)) ∙ (ap (λ x. take (s.floor + 1) x) g.down ∙ (take-take (s.floor + 1) (t.floor + 1) t.history (omega arith) ∙ h.down));
     }
 
 pub kept_runs : (s : State) (b : ℕ) (ms : List (Moment Act)) (t : State) (a : ℕ) → IsSane s → Runs Step s b ms t a → Keeps s t

@@ -1,5 +1,5 @@
 -- The last frame is read, and a copy of it is written behind it.
-use Rattle.std.proofs.Common.{◌≡◌, ℕ, suc, ◌+◌, ◌-◌, ◌*◌, ◌<◌, ◌≤◌, cond, ◌==◌, List, [], ◌∷◌, length, take, drop, get_or, refl, sym, ◌∙◌, ap, subst, arith, length-drop, take-append-drop}
+use Rattle.std.proofs.Common.{◌≡◌, ℕ, suc, ◌+◌, ◌-◌, ◌*◌, ◌<◌, ◌≤◌, cond, ◌==◌, List, ◌∷◌, length, take, drop, get_or, refl, sym, ◌∙◌, ap, subst, arith, length-drop, take-append-drop, []}
 use Rattle.std.specs.Prelude.{Result, Ok, Err}
 use Rattle.std.proofs.lemmas.Grind.{same_number_lists}
 use Rattle.std.proofs.lemmas.List.{get_or-take, get_or-drop, length-take-le, drop_at}
@@ -15,14 +15,13 @@ use Rattle.sqwal.proofs.Same.{frame_at-end, frame_end-le}
 use Rattle.sqwal.proofs.Logs.{word_fits}
 use Rattle.sqwal.proofs.Making.{put_two}
 use borrow.Rule.Slice.PartMut.{put_mid}
-use Rattle.walcore.specs.Steps.{Still}
-use Rattle.walcore.specs.Paging.{PlaceAnswer}
+use Rattle.crashdisk.specs.Keeps.{Still, PlaceAnswer}
 use Rattle.walcore.specs.Standing.{IsPresent}
 use Rattle.walcore.specs.Going.{FrameStep, KnowsLog, Going, FramesAnswer}
 use Rattle.walcore.specs.Syncing.{IsRepeated, KnowsLast}
 use Rattle.walcore.specs.declared.state.Core.{Core}
 use Rattle.walcore.specs.declared.error.WalError.{WalError}
-use Rattle.walcore.proofs.Stills.{still_sound, refusal_after}
+use Rattle.crashdisk.proofs.Stills.{still_sound, refusal_after}
 use Rattle.walcore.proofs.Committing.{content_whole}
 use Rattle.walcore.proofs.NextFrame.{take_bytes, drop_bytes}
 use Rattle.walcore.proofs.MadeMore.{IsFrame, extended_exists}
@@ -33,6 +32,7 @@ use Rattle.walcore.proofs.Repeating.{behind_same}
 use Rattle.walcore.proofs.Fulfilling.{knows_more}
 use Rattle.walcore.proofs.Going.{IsFrameAt, KeepsLog, Reaches, frame_place, frame_known, frame_refused, frame_stands}
 use Rattle.walcore.proofs.Pacing.{size_most}
+use Rattle.walcore.specs.declared.error.WalError.TheVariants.{Device}
 
 -- ---- there is one
 
@@ -139,17 +139,17 @@ module _ (e f : List ℕ) (old : Core) (s : DiskState) (last : KnowsLast e f old
 
   -- ---- the read of the code
 
-  module _ {T : Type 0} (at : ℕ) (out : List ℕ) (t : DiskState) (r : Result T WalError) (place : at ≡ 32 + (old.frames - 1) * (24 + old.page_size) + 24) (long : length out ≡ old.page_size) (answer : PlaceAnswer Log at out r s t) where
+  module _ {T : Type 0} (at : ℕ) (out : List ℕ) (t : DiskState) (r : Result T WalError) (place : at ≡ 32 + (old.frames - 1) * (24 + old.page_size) + 24) (long : length out ≡ old.page_size) (answer : PlaceAnswer Device Log at out r s t) where
     pub read_done : (v : T) → r ≡ Ok v → Still s t × (out ≡ content_of old.page_size e old.frames)
     unfolding PlaceAnswer
     read_done v was =
-        let got = subst (λ (q : Result T WalError). PlaceAnswer Log at out q s t) was answer in
+        let got = subst (λ (q : Result T WalError). PlaceAnswer Device Log at out q s t) was answer in
         (got.0, read_content old.page_size old.frames at e out s t last.some last.log last.knows.present place long got.1)
 
     pub read_refused : {V : Type 0} → (x : WalError) (q : Result V WalError) (next : Core) → r ≡ Err x → q ≡ Err x → FramesAnswer old.page_size f (old.frames + 1) old.frames q next s t
     unfolding PlaceAnswer
     read_refused {V = V} x q next was same =
-        let got = subst (λ (y : Result T WalError). PlaceAnswer Log at out y s t) was answer in
+        let got = subst (λ (y : Result T WalError). PlaceAnswer Device Log at out y s t) was answer in
         let end : at + length out ≡ frame_end old.page_size old.frames = omega (arith, place, long, content_place old.page_size old.frames, frame_at-end old.page_size old.frames last.some) in
         let short : frame_end old.page_size old.frames ≤ longest = frame_place old.page_size old.frames (size_most old.page_size last.log.header.is_size) (omega (arith, last.few)) in
         subst (λ (y : Result V WalError). FramesAnswer old.page_size f (old.frames + 1) old.frames y next s t) (sym same) (going_still t got.0, got.1, got.2 (omega arith))

@@ -13,11 +13,12 @@ use Rattle.crashdisk.specs.declared.file.File.TheVariants.{Db, Log}
 use Rattle.crashdisk.specs.declared.error.DiskError.{DiskError}
 use Rattle.crashdisk.proofs.Keeping.{sound_writes, sound_cuts}
 use Rattle.crashdisk.proofs.Steps.{image_elsewhere}
-use Rattle.walcore.specs.Folding.{IsLogDown}
-use Rattle.walcore.specs.Steps.{Still, KeepsLog, Told, SyncStep, ZeroSteps, CutSteps, ArePages}
-use Rattle.walcore.specs.Lengths.{IsLong, EndsBy, IsFronted, IsLengthOf}
+use Rattle.crashdisk.specs.Keeps.{IsLogDown, Still, KeepsLog, Told, SyncStep, IsLong}
+use Rattle.walcore.specs.Steps.{ZeroSteps, CutSteps, ArePages}
+use Rattle.walcore.specs.Lengths.{EndsBy, IsFronted, IsLengthOf}
 use Rattle.walcore.specs.declared.error.WalError.{WalError}
-use Rattle.walcore.proofs.Down.{down_one, down_by, down_syncs, file_syncs}
+use Rattle.crashdisk.proofs.Down.{down_one, down_by, down_syncs, file_syncs}
+use Rattle.walcore.specs.declared.error.WalError.TheVariants.{Device}
 
 module _ (n : ℕ) where
   pub ends_long : (s : DiskState) → IsLong n s → EndsBy n s
@@ -40,7 +41,7 @@ module _ (n : ℕ) where
   pub long_syncs : {T : Type 0} (f : File) (result : Result T DiskError) (old new : DiskState) → IsSoundDisk old → Syncs f result old new → IsLong n old → IsLong n new
   long_syncs f result old new sound synced long db image = long db (file_syncs f result old new sound synced db image)
 
-  pub long_step : {T : Type 0} (f : File) (result : Result T WalError) (old new : DiskState) → IsSoundDisk old → SyncStep f result old new → IsLong n old → IsLong n new
+  pub long_step : {T : Type 0} (f : File) (result : Result T WalError) (old new : DiskState) → IsSoundDisk old → SyncStep Device f result old new → IsLong n old → IsLong n new
   long_step f result old new sound step long = long_syncs f step.0 old new sound step.2 long
 
   -- what is done to the log alone
@@ -64,22 +65,22 @@ module _ (n : ℕ) where
       (subst (λ (k : ℕ). IsImage k old.tears old.db db) still.sector (subst (λ (b : Bool). IsImage new.sector b old.db db) still.tears (subst (λ (s : FileState). IsImage new.sector new.tears s db) still.db image)))
 
   -- the file is so long as it is when it is synced
-  long_synced : {T : Type 0} (v : T) (called : Result T DiskError) (old new : DiskState) → old.db.len ≡ n → Told called (Ok v) → Syncs Db called old new → IsLong n new
+  long_synced : {T : Type 0} (v : T) (called : Result T DiskError) (old new : DiskState) → old.db.len ≡ n → Told Device called (Ok v) → Syncs Db called old new → IsLong n new
   long_synced v (Ok x) old new len told synced db image =
       let least : old.db.len ≤ length db = subst (λ (k : ℕ). k ≤ length db) synced.file.least image.least in
       let greatest : length db ≤ old.db.len = subst (λ (k : ℕ). length db ≤ k) synced.file.greatest image.greatest in
       omega (arith, len)
   long_synced v (Err e) old new len told synced db image = absurd told
 
-  pub long_done : {T : Type 0} (v : T) (old new : DiskState) → old.db.len ≡ n → SyncStep {T = T} Db (Ok v) old new → IsLong n new
+  pub long_done : {T : Type 0} (v : T) (old new : DiskState) → old.db.len ≡ n → SyncStep {T = T} Device Db (Ok v) old new → IsLong n new
   long_done v old new len step = long_synced v step.0 old new len step.1 step.2
 
 -- the log keeps its front
 pub fronted_keeps : (w : List ℕ) (m : ℕ) (old new : DiskState) → KeepsLog old new → IsFronted w m old → IsFronted w m new
 fronted_keeps w m old new keeps is = record { down = down_by w old new is.down keeps.log keeps.tears keeps.kept keeps.handed; some = is.some; front = is.front }
 
-pub fronted_step : {T : Type 0} (w : List ℕ) (m : ℕ) (result : Result T WalError) (old new : DiskState) → IsSoundDisk old → SyncStep Db result old new → IsFronted w m old → IsFronted w m new
-fronted_step w m result old new sound step is = record { down = down_syncs w Db step.0 old new sound is.down step.2; some = is.some; front = is.front }
+pub fronted_step : {T : Type 0} (w : List ℕ) (m : ℕ) (result : Result T WalError) (old new : DiskState) → IsSoundDisk old → SyncStep Device Db result old new → IsFronted w m old → IsFronted w m new
+fronted_step w m result old new sound step is = record { down = down_syncs w Db step.0 old new is.down step.2; some = is.some; front = is.front }
 
 pub down_still : (w : List ℕ) (old new : DiskState) → Still old new → IsLogDown old w → IsLogDown new w
 down_still w old new still down = down_by w old new down still.log still.tears still.kept still.handed

@@ -1,5 +1,3 @@
-pub mod Pages
-pub mod Suiting
 pub mod Down
 pub mod Looking
 pub mod Filling
@@ -20,7 +18,6 @@ pub mod Makings
 pub mod Known
 pub mod Fronting
 pub mod Standing
-pub mod Supplied
 pub mod Extending
 pub mod Eras
 pub mod Committing

@@ -1,5 +1,5 @@
 -- What writes and syncs of the log keep of the frames that are down.
-use Rattle.std.proofs.Common.{◌≡◌, inl, inr, ⊎_elim, ℕ, ◌+◌, ◌*◌, ◌/◌, ◌<◌, ◌≤◌, Bool, true, false, List, [], ◌∷◌, ◌++◌, length, take, get_or, refl, sym, ◌∙◌, ap, subst, arith}
+use Rattle.std.proofs.Common.{◌≡◌, inl, inr, ⊎_elim, ℕ, ◌+◌, ◌*◌, ◌/◌, ◌<◌, ◌≤◌, Bool, true, false, List, ◌∷◌, ◌++◌, length, take, get_or, refl, sym, ◌∙◌, ap, subst, arith, []}
 use Rattle.std.specs.Prelude.{Result, Ok, Err}
 use Rattle.std.specs.List.{Contains}
 use Rattle.std.proofs.lemmas.List.{length-take-le, get_or-take}
@@ -17,7 +17,7 @@ use Rattle.sqwal.specs.Frames.{frame_end}
 use Rattle.sqwal.specs.Log.{IsLog}
 use Rattle.sqwal.proofs.Same.{frame_end-le, frame_end-head}
 use Rattle.walcore.specs.Standing.{HoldsFrames, IsBehind, IsPresent}
-use Rattle.walcore.proofs.Down.{present_image}
+use Rattle.crashdisk.proofs.Down.{present_image}
 use Rattle.walcore.proofs.Standing.{down_image, down_head}
 use Rattle.walcore.proofs.Untorn.{untorn, writes_untorn, syncs_untorn}
 

@@ -13,10 +13,11 @@ use Rattle.crashdisk.proofs.Keeping.{sound_crash}
 use Rattle.crashdisk.proofs.Settled.{settled_one}
 use Rattle.crashdisk.proofs.Steps.{image_looks}
 use Rattle.walcore.specs.Alone.{AreWhole, Show, ShowsAlone}
-use Rattle.walcore.specs.Folding.{IsLogDown}
-use Rattle.walcore.specs.Phases.{Suits, Scanning}
-use Rattle.walcore.proofs.Suiting.{suits_looks, suits_syncs}
-use Rattle.walcore.proofs.Down.{present_image, shows_by, down_one, down_left, down_looks, down_syncs, file_syncs}
+use Rattle.crashdisk.specs.Keeps.{IsLogDown, Suits}
+use Rattle.walcore.specs.Phases.{Scanning}
+use Rattle.crashdisk.proofs.Suiting.{suits_looks, suits_syncs}
+use Rattle.walcore.proofs.Down.{shows_by, down_left}
+use Rattle.crashdisk.proofs.Down.{present_image, down_one, down_looks, down_syncs, file_syncs}
 
 module _ (size : ℕ) (d : Database) (w : List ℕ) where
   -- so it begins
@@ -43,7 +44,7 @@ module _ (size : ℕ) (d : Database) (w : List ℕ) where
   pub scanning_syncs : {T : Type 0} (f : File) (result : Result T DiskError) (old new : DiskState) → Scanning size d w old → Syncs f result old new → Scanning size d w new
   scanning_syncs f result old new is synced = record {
     suits = suits_syncs size f result old new is.suits synced;
-    down = down_syncs w f result old new is.suits.sound is.down synced;
+    down = down_syncs w f result old new is.down synced;
     shows = λ db image. is.shows db (file_syncs f result old new is.suits.sound synced db image);
   }
 

@@ -1,5 +1,5 @@
 -- There is a frame behind each log, and so a commit.
-use Rattle.std.proofs.Common.{◌≡◌, ◌≢◌, ℕ, zero, suc, ◌+◌, ◌*◌, ◌/◌, ◌%◌, ◌^◌, ◌<◌, ◌≤◌, cond, ◌==◌, List, [], ◌∷◌, ◌++◌, length, take, drop, get_or, refl, sym, subst, arith, length-append}
+use Rattle.std.proofs.Common.{◌≡◌, ◌≢◌, ℕ, zero, suc, ◌+◌, ◌*◌, ◌/◌, ◌%◌, ◌^◌, ◌<◌, ◌≤◌, Bool, true, false, cond, ◌==◌, List, ◌∷◌, ◌++◌, length, take, drop, get_or, refl, sym, subst, arith, lit<, length-append, []}
 use Rattle.std.proofs.lemmas.List.{take_all}
 use Rattle.byteorder.specs.Endian.{big_bytes}
 use Rattle.sqval.specs.Bytes.{word, AreBytes}
@@ -70,6 +70,11 @@ framed h e n page s content bytes header log frame =
       bytes = append_bytes e (head ++ content) bytes (append_bytes head content (numbers_bytes (page ∷ s ∷ h.salt1 ∷ h.salt2 ∷ after.s0 ∷ after.s1 ∷ [])) frame.bytes);
       is = appended h e head content n page s before after header log (record { first = refl; second = refl }) frame.some frame.page_fits frame.size_fits fit_1 fit_2 frame.full made;
     }
+
+-- only the last frame of a commit names its size
+pub size_fits : (last : Bool) (s : ℕ) → s < 2 ^ 32 → cond last s 0 < 2 ^ 32
+size_fits true s lt = lt
+size_fits false s lt = lit< tt
 
 -- pages that a commit may hand over
 pub record AreFrames (size : ℕ) (pages : Pages) (s : ℕ) : Type 0 where

@@ -1,11 +1,12 @@
 -- Each moment of a run makes something of the logs.
-use Rattle.std.proofs.Common.{◌≡◌, ℕ, zero, suc, ◌+◌, ◌%◌, ◌^◌, ◌<◌, ◌≤◌, Bool, true, false, cond, not, ◌&&◌, ◌==◌, List, [], ◌∷◌, length, take, drop, get_or, Option, Some, None, refl, sym, ◌∙◌, subst, arith, lit<, length-drop}
+use Rattle.std.proofs.Common.{◌≡◌, ℕ, zero, suc, ◌+◌, ◌%◌, ◌^◌, ◌<◌, ◌≤◌, Bool, true, false, cond, not, ◌&&◌, ◌==◌, List, ◌∷◌, length, take, drop, get_or, Option, Some, None, refl, sym, ◌∙◌, subst, arith, lit<, length-drop, []}
 use Rattle.std.proofs.lemmas.List.{get_or-drop, length-take-le}
 use Rattle.std.proofs.lemmas.Nat.{mod_below}
 use Rattle.std.proofs.lemmas.Bool.Decides.{nat_tests}
 use Rattle.sqval.specs.Bytes.{part, word, AreBytes}
 use Rattle.sqval.specs.Database.{Pages}
 use Rattle.sqval.specs.PageSize.{IsPageSize}
+use Rattle.sqval.proofs.Faultless.{IsFaultless}
 use Rattle.sqwal.specs.Frames.{frame_at, frame_end, page_of, size_of, content_of, Passes}
 use Rattle.sqwal.specs.Log.{IsLog}
 use Rattle.sqwal.proofs.Logs.{word_fits}
@@ -16,9 +17,9 @@ use Rattle.walcore.specs.Machine.{State, Act, Opens, Commits, Syncs, Checkpoints
 use Rattle.walcore.specs.Made.{IsBegun, IsExtended}
 use Rattle.walcore.specs.Making.{Made, BeginsLog, Extends, Copies, MadeByRestart, MadeByCommit, MadeByCopy, MadeBySync, IfBegun, Makes, has_begun}
 use Rattle.walcore.specs.LogLaws.{IsInForce, HasNewest, AreWords}
-use Rattle.walcore.proofs.Accepted.{IsGranted, granted, few_refusals}
+use Rattle.walcore.proofs.Accepted.{granted, cond_none, few_refusals}
 use Rattle.walcore.proofs.Beginning.{begun_exists}
-use Rattle.walcore.proofs.MadeMore.{IsFrame, AreFrames, extended_exists}
+use Rattle.walcore.proofs.MadeMore.{IsFrame, AreFrames, size_fits, extended_exists}
 
 -- something is made, of which the newest is a log again
 abbrev MadeNext : (size : ℕ) → (Made → Type 0) → Type 0
@@ -118,14 +119,6 @@ begun_granted s pages size (Refused n) b a t h begun =
     not_fifteen (commit_refusal s pages size) n true (closed (committed s pages size)) b a s t (let e : n ≡ 15 = grind (arith, nat_tests, begun) in e) (few_refusals s pages size) h
 begun_granted s pages size _ b a t h begun = absurd h
 
-cond_none : (is_open : Bool) (first : Option ℕ) → cond is_open first (Some 1) ≡ None → first ≡ None
-cond_none true first h = h
-cond_none false first h = absurd (cc h)
-
-size_fits : (b : Bool) (s : ℕ) → s < 2 ^ 32 → cond b s 0 < 2 ^ 32
-size_fits true s lt = lt
-size_fits false s lt = lit< tt
-
 pub makes_some : (sector : ℕ) (tears : Bool) (s : State) (old : Made) (act : Act) (answer : Answer) (b a : ℕ) (t : State) → IsPageSize s.page_size → HasNewest s.page_size old → AreWords act → Step s act answer b a t
     → MadeNext s.page_size (Makes s.page_size sector tears old act answer)
 makes_some sector tears s old (Opens salts found) answer b a t is has fit h = begins_some s.page_size 0 salts.0 salts.1 old is (lit< tt) fit.0 fit.1
@@ -134,10 +127,10 @@ makes_some sector tears s old (Restarts salt2) answer b a t is has fit h =
 makes_some sector tears s old (Commits pages size) answer b a t is has fit h =
     if_begun_some s.page_size (has_begun answer) old (MadeByCommit s.page_size pages size old.logs old) has (λ begun.
     let none = cond_none s.is_open (refusal_of (length (newest s)) s.page_size s.used pages size) (begun_granted s pages size answer b a t h begun) in
-    let g : IsGranted (length (newest s)) s.page_size s.used pages size = granted (length (newest s)) s.page_size s.used pages size none in
+    let g : IsFaultless (length (newest s)) s.page_size pages size = granted (length (newest s)) s.page_size s.used pages size none in
     commit_some s.page_size pages size old.logs old refl has g.some (record {
       each = λ k lt. record {
-        some = g.above_0 k lt;
+        some = let page : 1 ≤ (get_or {A = ℕ × List ℕ} pages k (0, [])).0 = g.above_zero k lt in omega arith;
         page_fits = (fit.1 k lt).0;
         size_fits = size_fits (suc k == length pages) size fit.0;
         full = g.full k lt;

@@ -1,5 +1,5 @@
 -- A call that adds no log to those that may be read adds none that shows less.
-use Rattle.std.proofs.Common.{◌≡◌, ◌⊎◌, inl, inr, ⊎_elim, ℕ, ◌≤◌, Bool, true, false, List, [], ◌∷◌, length, sym, ◌∙◌, subst, arith}
+use Rattle.std.proofs.Common.{◌≡◌, ◌⊎◌, inl, inr, ⊎_elim, ℕ, ◌≤◌, Bool, true, false, List, ◌∷◌, length, sym, ◌∙◌, subst, arith, []}
 use Rattle.std.specs.Prelude.{Result, Ok, Err}
 use Rattle.crashdisk.specs.State.{FileState, IsImage}
 use Rattle.crashdisk.specs.Call.{DiskState, IsSoundDisk, Syncs, Looks, SinceSync, IsCrash}
@@ -16,7 +16,7 @@ use Rattle.walcore.specs.Alone.{AreWhole, MayBeLeft}
 use Rattle.walcore.specs.Fits.{IsLeft}
 use Rattle.walcore.specs.Made.{NoChance}
 use Rattle.walcore.specs.Standing.{MayBeRead, ShowsHistory, HasMadeHeader}
-use Rattle.walcore.proofs.Down.{present_image, since_db, file_syncs}
+use Rattle.crashdisk.proofs.Down.{present_image, since_db, file_syncs}
 use Rattle.walcore.proofs.Makings.{made_before, made_cases}
 use Rattle.walcore.proofs.Standing.{read_cases}
 use Rattle.walcore.proofs.Untorn.{untorn, syncs_untorn}

@@ -1,6 +1,6 @@
 -- What an opening leaves to hold: a core over a log without frames, or a disk that shows what it showed.
-use Rattle.std.proofs.Common.{◌≡◌, ◌⊎◌, inl, inr, ⊎_elim, ℕ, suc, ◌+◌, ◌-◌, ◌<◌, ◌≤◌, false, List, [], ◌∷◌, length, map, take, get_or, refl, sym, ◌∙◌, ap, subst, arith, Option, None}
-use Rattle.std.specs.Prelude.{Result, Ok, Err, MatchResult, sum_by}
+use Rattle.std.proofs.Common.{◌≡◌, ◌⊎◌, inl, inr, ⊎_elim, ℕ, suc, ◌+◌, ◌-◌, ◌<◌, ◌≤◌, false, List, ◌∷◌, length, map, take, get_or, refl, sym, ◌∙◌, ap, subst, arith, Option, None, []}
+use Rattle.std.specs.Prelude.{Result, Ok, Err, sum_by}
 use Rattle.std.proofs.Math.ListN.{get_or-map}
 use Rattle.std.proofs.lemmas.List.{get_or-take, length-take-le}
 use Rattle.sqval.specs.Database.{Database}
@@ -19,9 +19,7 @@ use Rattle.crashdisk.proofs.Steps.{present_written}
 use Rattle.walcore.specs.Refusal.{number_of}
 use Rattle.sqval.specs.Answers.{HasCause, Files}
 use Rattle.sqval.specs.Held.{IsJust, IsHeld}
-use Rattle.walcore.specs.Folding.{HadRefusal}
-use Rattle.walcore.specs.Steps.{Later}
-use Rattle.walcore.specs.Phases.{Suits}
+use Rattle.crashdisk.specs.Keeps.{HadRefusal, Later, Suits}
 use Rattle.walcore.specs.Machine.{opened, gone, forgotten}
 use Rattle.walcore.specs.Made.{AreMade, HasNewSalts, IsBegun}
 use Rattle.walcore.specs.Standing.{ShowsWhole, ShowsHistory, HasMadeHeader, Stands, IsPresent}
@@ -32,19 +30,15 @@ use Rattle.walcore.specs.declared.reader.Reader.{Reader}
 use Rattle.walcore.specs.declared.state.Core.{Core}
 use Rattle.walcore.specs.declared.error.WalError.{WalError}
 use Rattle.walcore.specs.declared.error.WalError.TheVariants.{NoMemory, Device}
-use Rattle.walcore.proofs.Ending.{told_err, told_ok, none_ok, later_sync, later_write, later_then}
+use Rattle.crashdisk.proofs.Later.{told_err, told_ok, none_ok, later_sync, later_write, later_then}
 use Rattle.walcore.proofs.Fresh.{at_last, HasNoReader, fresh_core}
 use Rattle.walcore.proofs.Makings.{made_begun}
 use Rattle.walcore.proofs.Narrowing.{narrows_syncs, history_narrows, headers_narrow, left_grown}
 use Rattle.walcore.proofs.Present.{present_syncs}
 use Rattle.walcore.proofs.Recovered.{may_after}
 use Rattle.walcore.proofs.Restarting.{begin_stands, begin_shows}
-use Rattle.walcore.proofs.Scans.{had_refusal}
-use Rattle.walcore.proofs.Stills.{refusal_after}
-use Rattle.walcore.proofs.Suiting.{suits_by}
-
-pub match_err : {T : Type 0} (r : Result T WalError) (e : WalError) (P : T → Type 0) (Q : WalError → Type 0) → r ≡ Err e → Q e → MatchResult r P Q
-match_err {T = T} r e P Q is q = subst (λ (x : Result T WalError). MatchResult x P Q) (sym is) q
+use Rattle.crashdisk.proofs.Stills.{had_refusal, refusal_after}
+use Rattle.crashdisk.proofs.Suiting.{suits_by}
 
 pub same_error : {T : Type 0} (x y : WalError) (r : Result T WalError) → r ≡ Err x → r ≡ Err y → x ≡ y
 same_error x y r a b = cc (a, b)
@@ -63,11 +57,11 @@ module _ {T : Type 0} (f : List ℕ) (alone : length f ≡ 32) (r : Result T Wal
   pub header_refused : (e : WalError) → r ≡ Err e → (e ≡ Device) × HadRefusal s t
   header_refused e is = ⊎_elim
       (λ failed.
-      let was = told_err failed.0 r e is failed.2 in
+      let was = told_err Device failed.0 r e is failed.2 in
       (was.0, had_refusal failed.0 was.1.0 (0 + length f) s t sound.refused was.1.1 failed.3.within (omega (arith, alone)) failed.3.elsewhere.refused))
       (λ done.
       let mid = later_write Log 0 f (Ok done.1.0) s done.0 sound done.1.1 in
-      let was = told_err done.2.0 r e is done.2.1 in
+      let was = told_err Device done.2.0 r e is done.2.1 in
       (was.0, refusal_after s done.0 t mid.refused (had_refusal done.2.0 was.1.0 0 done.0 t mid.sound.refused was.1.1 done.2.2.within (omega arith) done.2.2.elsewhere.refused)))
       steps
 
@@ -81,9 +75,9 @@ module _ {T : Type 0} (f : List ℕ) (alone : length f ≡ 32) (r : Result T Wal
 
   pub header_done : (v : T) → r ≡ Ok v → HeaderDone T
   header_done v is = ⊎_elim
-      (λ failed. absurd (none_ok failed.0 r v failed.1 is failed.2))
+      (λ failed. absurd (none_ok Device failed.0 r v failed.1 is failed.2))
       (λ done.
-      let was = told_ok done.2.0 r v is done.2.1 in
+      let was = told_ok Device done.2.0 r v is done.2.1 in
       record { mid = done.0; first = done.1.0; second = was.0; wrote = done.1.1; synced = subst (λ (x : Result T DiskError). Syncs Log x done.0 t) was.1 done.2.2 })
       steps
 

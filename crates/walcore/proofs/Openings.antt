@@ -1,8 +1,6 @@
 -- The steps of an opening.
-use Rattle.std.proofs.Common.{◌≡◌, ℕ, ◌*◌, ◌%◌, ◌≤◌, List, [], length, take, refl, sym, ◌∙◌, ap, arith}
-use Rattle.std.proofs.Math.Nat.{mul-mod_left, mul-le-mul_right}
+use Rattle.std.proofs.Common.{◌≡◌, ℕ, List, length, take, refl, []}
 use Rattle.sqval.specs.Bytes.{AreBytes}
-use Rattle.sqval.specs.PageSize.{IsPageSize}
 use Rattle.sqwal.specs.Frames.{summed}
 use Rattle.sqwal.specs.Header.{IsHeaderOf}
 use Rattle.sqwal.specs.Sums.{IsSumOf, GoesOn}
@@ -12,18 +10,8 @@ use Rattle.sqwal.specs.declared.sum.Sum.{Sum}
 use Rattle.sqwal.specs.declared.header.WalHeader.{WalHeader}
 use Rattle.walcore.specs.Opening.{IsNewLog}
 use Rattle.walcore.proofs.Beginning.{begun_by}
-use Rattle.walcore.proofs.Pages.{size_some}
 
 -- ---- how many pages a file has
-
-pub count_zero : (size n long : ℕ) → IsPageSize size → 1 ≤ n → n * size ≡ long → long ≡ 0 → ⊥
-count_zero size n long is one e z =
-    let some = size_some size is in
-    let least : 1 * size ≤ n * size = mul-le-mul_right size one in
-    omega (arith, some, least)
-
-pub count_rest : (size m n long : ℕ) → m ≡ size → n * size ≡ long → (long % m ≡ 0 → ⊥) → ⊥
-count_rest size m n long same e not = not (ap (λ k. k % m) (sym e) ∙ ap (λ k. n * size % k) same ∙ mul-mod_left n size)
 
 -- ---- a log of a header alone
 

@@ -1,5 +1,5 @@
 -- The frames of a commit, one after another.
-use Rattle.std.proofs.Common.{◌≡◌, ℕ, suc, ◌+◌, ◌^◌, ◌<◌, ◌≤◌, cond, List, [], length, get_or, refl, sym, ◌∙◌, ap, subst, arith, Bor}
+use Rattle.std.proofs.Common.{◌≡◌, ℕ, suc, ◌+◌, ◌^◌, ◌<◌, ◌≤◌, cond, List, length, get_or, refl, sym, ◌∙◌, ap, subst, arith, Bor, []}
 use Rattle.std.specs.Prelude.{◌==◌, Result, Ok, Err}
 use Rattle.std.proofs.Math.Pow.{pow_mono}
 use Rattle.std.proofs.lemmas.List.{get_or-map}
@@ -19,8 +19,8 @@ use Rattle.walcore.specs.Going.{KeepsCore, FrameStep, KnowsLog, Going, FramesAns
 use Rattle.walcore.specs.declared.state.Core.{Core}
 use Rattle.walcore.specs.declared.error.WalError.{WalError}
 use Rattle.sqval.proofs.PageNumbers.{lent_length}
-use Rattle.walcore.proofs.Pages.{sector_some}
-use Rattle.walcore.proofs.Stills.{refusal_after}
+use Rattle.crashdisk.proofs.Pages.{sector_some}
+use Rattle.crashdisk.proofs.Stills.{refusal_after}
 use Rattle.walcore.proofs.Repeating.{behind_same, behind_later}
 use Rattle.walcore.proofs.Going.{IsFrameAt, Reaches, frame_known, frame_refused, frame_stands}
 

@@ -1,17 +1,14 @@
 -- Worked runs, step by step.
-use Rattle.std.proofs.Common.{◌≡◌, ℕ, ◌+◌, false, List, [], ◌∷◌, length, Option, Some, None, Bool, refl, inl, inr, lit<, lit≤, nat_lt}
+use Rattle.std.proofs.Common.{◌≡◌, ℕ, ◌+◌, false, List, ◌∷◌, length, Some, None, refl, inl, inr, lit<, lit≤, nat_lt, []}
 use Rattle.sqval.specs.Database.{page}
-use Rattle.sqval.specs.Answers.{Refuses}
 use Rattle.walcore.specs.CommitRefusals.{refusal_of}
 use Rattle.walcore.proofs.Goes.{end, next, go, on_base}
 use Rattle.walcore.specs.Rows.{Synced, Lost, LostForGood, Waits, Stopped, CommitsRefused, SyncFailed, Forgotten, TwoReaders}
+use Rattle.sqval.proofs.Answering.{refuses_first}
 
 -- a commit of a page of the right length
 fits : (used : ℕ) (content : List ℕ) → length content ≡ 512 → nat_lt 1048576 (used + 1) ≡ false → refusal_of 1 512 used ((1, content) ∷ []) 1 ≡ None
 fits used content e f = rw (e, f) refl
-
-refuses : {S : Type 0} (first : Option ℕ) (n : ℕ) (m : Bool) (failed : S) (b a : ℕ) (old : S) → first ≡ Some n → Refuses first m failed b a old n old
-refuses first n m failed b a old e = rw e (refl, refl)
 
 too_short : (short : List ℕ) → length short ≡ 511 → refusal_of 1 512 0 ((1, short) ∷ []) 1 ≡ Some 8
 too_short short e = rw e refl
@@ -38,7 +35,7 @@ played_stopped a b c d f1 f2 f3 la lb lc ld v1 v2 = on_base (go (0, lit≤ tt, l
 
 pub played_commits_refused : CommitsRefused
 unfolding page
-played_commits_refused a b c d f1 f2 f3 la lb lc ld v1 short ls = on_base (go (refl, refl) (go (0, lit≤ tt, lit< tt, v1, λ _. refl, refl) (go (refl, refl) (go (refl, refl) (go (refl, refl) (go (refl, refl) (go (refuses _ _ _ _ _ _ _ (too_short short ls)) (go (refl, refl, refl) (go (refl, refl, refl) (end _ _))))))))))
+played_commits_refused a b c d f1 f2 f3 la lb lc ld v1 short ls = on_base (go (refl, refl) (go (0, lit≤ tt, lit< tt, v1, λ _. refl, refl) (go (refl, refl) (go (refl, refl) (go (refl, refl) (go (refl, refl) (go (refuses_first _ _ _ _ _ _ _ (too_short short ls)) (go (refl, refl, refl) (go (refl, refl, refl) (end _ _))))))))))
 
 pub played_sync_failed : SyncFailed
 unfolding page

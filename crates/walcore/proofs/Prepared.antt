@@ -1,5 +1,5 @@
 -- A core in which memory was taken fits what it fitted.
-use Rattle.std.proofs.Common.{◌≡◌, ℕ, ◌+◌, ◌<◌, ◌≤◌, Bool, ◌-◌, List, [], length, get_or, sym, ◌∙◌, ap, subst, arith, Bor}
+use Rattle.std.proofs.Common.{◌≡◌, ℕ, ◌+◌, ◌<◌, ◌≤◌, Bool, ◌-◌, List, length, get_or, sym, ◌∙◌, ap, subst, arith, Bor, []}
 use Rattle.std.specs.Prelude.{IsTrue, None}
 use Rattle.std.specs.List.{All}
 use Rattle.std.proofs.lemmas.List.{get_or-map}
@@ -18,7 +18,8 @@ use Rattle.walcore.specs.Fits.{Past, IsIndexed, IsBound, AreTogether, IsCore, Fi
 use Rattle.walcore.specs.Commits.{Prepares, IsReady}
 use Rattle.walcore.specs.declared.state.Core.{Core}
 use Rattle.sqval.proofs.PageNumbers.{lent_length}
-use Rattle.walcore.proofs.Accepted.{IsGranted, granted}
+use Rattle.sqval.proofs.Faultless.{IsFaultless}
+use Rattle.walcore.proofs.Accepted.{granted, room_enough}
 
 module _ (past : Past) (e : List ℕ) (index : ℕ → ℕ) (d c : ℕ) (a b : Core) (s : DiskState) (same : Prepares a b) where
   at_size : (P : ℕ → Type 0) → P a.page_size → P b.page_size
@@ -80,7 +81,7 @@ fits_prepared past a b s same fits = record {
 -- ---- what is ready
 
 module _ (pages : List (ℕ × Bor (List ℕ))) (size : ℕ) (core : Core) (ready : IsReady pages size core) where
-  pub ready_granted : IsGranted core.size core.page_size core.used (lent pages) size
+  pub ready_granted : IsFaultless core.size core.page_size (lent pages) size
   ready_granted = granted core.size core.page_size core.used (lent pages) size ready.granted
 
   pub ready_pages : All (λ x. (length x.1.now ≡ core.page_size) × (x.0 ≤ core.index.bound)) pages
@@ -95,4 +96,4 @@ module _ (pages : List (ℕ × Bor (List ℕ))) (size : ℕ) (core : Core) (read
   ready_some = omega (arith, ready_granted.some, lent_length pages)
 
   pub ready_most : core.used + length pages ≤ 1048576
-  ready_most = omega (arith, ready_granted.room, lent_length pages)
+  ready_most = omega (arith, room_enough core.size core.page_size core.used (lent pages) size ready.granted, lent_length pages)

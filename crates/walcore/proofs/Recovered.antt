@@ -1,5 +1,5 @@
 -- What an opening has when it has folded what it found.
-use Rattle.std.proofs.Common.{◌≡◌, inl, inr, ⊎_elim, ℕ, suc, ◌*◌, ◌<◌, ◌≤◌, List, [], ◌∷◌, length, refl, sym, ◌∙◌, ap, subst, arith}
+use Rattle.std.proofs.Common.{◌≡◌, inl, inr, ⊎_elim, ℕ, suc, ◌*◌, ◌<◌, ◌≤◌, List, ◌∷◌, length, refl, sym, ◌∙◌, ap, subst, arith, []}
 use Rattle.std.specs.Prelude.{Result, Ok, Err}
 use Rattle.sqval.specs.Database.{Database}
 use Rattle.sqwal.specs.Header.{IsHeader, named_size}
@@ -13,10 +13,10 @@ use Rattle.crashdisk.proofs.Steps.{present_list}
 use Rattle.crashdisk.specs.declared.error.DiskError.{DiskError}
 use Rattle.sqval.specs.CommitFaults.{most_bytes}
 use Rattle.walcore.specs.Alone.{Show, ShowsAlone}
-use Rattle.walcore.specs.Folding.{IsLogDown, IsEmptyDown, IsTooLarge, TearsPages, FoldAnswer, Agrees}
+use Rattle.walcore.specs.Folding.{IsEmptyDown, IsTooLarge, FoldAnswer, Agrees}
+use Rattle.crashdisk.specs.Keeps.{IsLogDown, TearsPages, Still, Later}
 use Rattle.sqval.specs.Held.{IsJust, IsHeld}
 use Rattle.walcore.specs.Lengths.{EndsBy, KeepsLength}
-use Rattle.walcore.specs.Steps.{Still, Later}
 use Rattle.sqval.specs.Answers.{Files}
 use Rattle.walcore.specs.Machine.{at}
 use Rattle.walcore.specs.Made.{AreMade, NoChance}
@@ -25,16 +25,15 @@ use Rattle.walcore.specs.Opening.{CountAnswer, FileFault, FileJudged, MayRefuse,
 use Rattle.walcore.specs.declared.folding.Folded.{Folded}
 use Rattle.walcore.specs.declared.error.WalError.{WalError}
 use Rattle.walcore.specs.declared.error.WalError.TheVariants.{TooLarge, PageSize, NoMemory, Device, SectorAbovePage}
-use Rattle.walcore.proofs.Down.{present_image, down_left, down_by, synced_down}
-use Rattle.walcore.proofs.Ending.{later_sync, later_then, later_still}
-use Rattle.walcore.proofs.Agreeing.{down_present}
+use Rattle.walcore.proofs.Down.{down_left}
+use Rattle.crashdisk.proofs.Down.{present_image, down_by, synced_down, down_present}
+use Rattle.crashdisk.proofs.Later.{later_sync, later_then, later_still}
 use Rattle.walcore.proofs.Judging.{front_zero}
 use Rattle.walcore.proofs.Narrowing.{Narrows, same_left, left_narrows, narrows_syncs}
-use Rattle.walcore.proofs.Pages.{size_some, file_count}
+use Rattle.sqval.proofs.FilePages.{size_some, file_count}
 use Rattle.walcore.proofs.Reopening.{IsFound, is_found, found_syncs, found_alone, found_length, alone_one}
-use Rattle.walcore.proofs.Scans.{had_refusal}
-use Rattle.walcore.proofs.Stills.{image_still, present_in, refusal_after}
-use Rattle.walcore.proofs.Suiting.{suits_by}
+use Rattle.crashdisk.proofs.Stills.{had_refusal, image_still, present_in, refusal_after}
+use Rattle.crashdisk.proofs.Suiting.{suits_by}
 
 pub may_after : (e : WalError) (a b c : DiskState) → a.refused ≤ b.refused → MayRefuse e b c → MayRefuse e a c
 may_after e a b c le may = ⊎_elim (λ none. inl none) (λ is. inr (is.0, refusal_after a b c le is.1)) may
@@ -161,7 +160,7 @@ module _ (past : Past) (found : Files) (s : DiskState) (fits : FitsDisk past s) 
     pub synced_files : SyncedFiles found a
     synced_files = record {
       db = db_present;
-      log = down_present a found.log down;
+      log = down_present found.log a down;
       empty = λ zero. subst (λ (w : List ℕ). IsLogDown a w) (no_bytes found.log a.log.len down.settled.len zero) down;
     }
 
@@ -183,7 +182,7 @@ module _ (past : Past) (found : Files) (s : DiskState) (fits : FitsDisk past s) 
       later_then s a b first (later_still a b first.sound still),
       may_after e s a b first.refused (⊎_elim
           (λ answer. fold_refused past.state.page_size past.made.logs found.log fits.made chance found.db (at past.state is.place) a b whole (is.shows found.db db_image).shows held.few e answer)
-          (λ fault. absurd (no_fault e ((is.shows found.db db_image).whole fault.1) fault.2))
+          (λ fault. absurd (no_fault e ((is.shows found.db db_image).whole fault.2) fault.3))
           (judged_at (Err e) (subst (λ (x : Result T WalError). FileJudged size found.db found.log x a b) was judged))),
       left_narrows a b (narrows_still a b still) past.state.page_size past.made.logs past.state.history past.state.floor ready.left,
     )

@@ -1,5 +1,5 @@
 -- What a fold answers, of its parts.
-use Rattle.std.proofs.Common.{◌≡◌, inl, inr, ⊎_elim, ℕ, ◌+◌, ◌-◌, ◌*◌, ◌<◌, ◌≤◌, List, [], ◌∷◌, map, length, refl, sym, ◌∙◌, ap, subst, arith}
+use Rattle.std.proofs.Common.{◌≡◌, inl, inr, ⊎_elim, ℕ, ◌+◌, ◌-◌, ◌*◌, ◌<◌, ◌≤◌, List, ◌∷◌, map, length, refl, sym, ◌∙◌, ap, subst, arith, []}
 use Rattle.std.specs.Prelude.{Result, Ok, Err}
 use Rattle.std.specs.List.{range_with_len}
 use Rattle.std.proofs.lemmas.Bool.{cases_lt, cases_eq}
@@ -11,27 +11,27 @@ use Rattle.sqwal.specs.View.{Unnamed, IsLast, IsView}
 use Rattle.sqwal.specs.Index.{FrameTable}
 use Rattle.walcore.specs.Phases.{Filling, Writing}
 use Rattle.sqwal.proofs.Views.{named_or_not}
-use Rattle.crashdisk.specs.State.{FileState, byte, IsSettled}
+use Rattle.crashdisk.specs.State.{byte, IsSettled}
 use Rattle.crashdisk.specs.Call.{DiskState, IsSoundDisk, ArePresent, Syncs, Looks}
 use Rattle.crashdisk.specs.declared.file.File.TheVariants.{Log}
 use Rattle.crashdisk.specs.declared.error.DiskError.{DiskError}
-use Rattle.crashdisk.proofs.Sound.{byte_below}
 use Rattle.crashdisk.proofs.Images.{table}
 use Rattle.crashdisk.proofs.Steps.{present_list, settled_sync}
 use Rattle.sqval.specs.Held.{IsJust}
-use Rattle.walcore.specs.Folding.{TearsPages, KeepsBytes, IsLogDown, FoldAnswer}
-use Rattle.walcore.specs.Steps.{Still, KeepsLog, ArePages, CopyAnswer, EndAnswer, FoldedAnswer}
+use Rattle.walcore.specs.Folding.{FoldAnswer, Folds, Agrees, GoesOn}
+use Rattle.crashdisk.specs.Keeps.{TearsPages, KeepsBytes, IsLogDown, Still, KeepsLog}
+use Rattle.walcore.specs.Steps.{ArePages, CopyAnswer, EndAnswer, FoldedAnswer}
 use Rattle.walcore.specs.Plans.{IsCopy, IsPlan, IsFit, LogRefused, PlanAnswer, ReadAnswer}
 use Rattle.walcore.specs.declared.plan.Plan.{Plan}
 use Rattle.walcore.specs.declared.folding.Folded.{Folded}
 use Rattle.walcore.specs.declared.error.WalError.{WalError}
 use Rattle.walcore.specs.declared.error.WalError.TheVariants.{TooLarge, PageSize, NoMemory, Device, SectorAbovePage}
-use Rattle.walcore.proofs.Pages.{length-file_page, page_by_bytes, page_within}
-use Rattle.walcore.proofs.Stills.{refusal_after, present_in}
-use Rattle.walcore.proofs.Scans.{had_refusal}
+use Rattle.sqval.proofs.FilePages.{length-file_page, page_by_bytes}
+use Rattle.crashdisk.proofs.Pages.{page_within}
+use Rattle.crashdisk.proofs.Stills.{refusal_after, present_in, had_refusal}
 use Rattle.walcore.proofs.Judging.{fit_none, front_zero}
 use Rattle.walcore.proofs.Copies.{content_long}
-use Rattle.walcore.proofs.Down.{down_by, synced_down}
+use Rattle.crashdisk.proofs.Down.{down_by, synced_down, settled_present}
 use Rattle.walcore.proofs.Writing.{writing_keeps}
 
 -- ---- A file with its log has a view at each frame.
@@ -82,9 +82,6 @@ module _ (size : ℕ) (db w : List ℕ) (m : ℕ) where
   )
 
 -- ---- The planned fold.
-
-settled_present : (s : FileState) (c : List ℕ) → IsSettled s c → ArePresent s c
-settled_present s c is = record { len = sym is.len; each = λ i lt. sym (byte_below s i lt ∙ is.present i) }
 
 module _ (size : ℕ) (db w : List ℕ) (plan : Plan) (is : IsPlan size w plan) (a : DiskState) where
   pub planned_none : {T : Type 0} (v : T) (r : Result T WalError) (f : Folded) (b : DiskState) → plan.frames ≡ 0 → f.frames ≡ 0 → f.size ≡ 0 → ArePresent a.db db → r ≡ Ok v → EndAnswer r a b → FoldedAnswer size db w (Ok f) a b
@@ -180,6 +177,12 @@ pub sync_unfolded : {T : Type 0} (size : ℕ) (db w : List ℕ) (called : Result
     → called ≡ Err e → q ≡ Err Device → Syncs Log called a b → FoldAnswer size db w q a b
 sync_unfolded size db w called e q a b sound fits was is synced =
     subst (λ (x : Result Folded WalError). FoldAnswer size db w x a b) (sym is) (fits, had_refusal called e 0 a b sound.refused was synced.within (omega arith) synced.elsewhere.refused)
+
+pub goes_on : {T : Type 0} (size : ℕ) (called : Result T DiskError) (v : T) (q : Result Folded WalError) (a b : DiskState) → called ≡ Ok v → Folds size q a b → Agrees size a b → GoesOn size called q a b
+goes_on {T = T} size called v q a b is folds agrees = subst (λ (x : Result T DiskError). GoesOn size x q a b) (sym is) (folds, agrees)
+
+pub stays : {T : Type 0} (size : ℕ) (called : Result T DiskError) (e : DiskError) (q : Result Folded WalError) (b : DiskState) → called ≡ Err e → q ≡ Err Device → GoesOn size called q b b
+stays {T = T} size called e q b is device = subst (λ (x : Result T DiskError). GoesOn size x q b b) (sym is) (device, refl)
 
 pub fold_torn : (size : ℕ) (db w : List ℕ) (q : Result Folded WalError) (a : DiskState) → TearsPages size a → q ≡ Err SectorAbovePage → FoldAnswer size db w q a a
 fold_torn size db w q a torn is = subst (λ (x : Result Folded WalError). FoldAnswer size db w x a a) (sym is) (torn, refl)

@@ -1,5 +1,5 @@
 -- What an opening finds, and how its fold keeps it.
-use Rattle.std.proofs.Common.{◌≡◌, inl, inr, ⊎_elim, ℕ, ◌*◌, ◌<◌, ◌≤◌, Bool, true, false, IsTrue, List, [], length, get_or, refl, sym, ◌∙◌, ap, subst, arith}
+use Rattle.std.proofs.Common.{◌≡◌, inl, inr, ⊎_elim, ℕ, ◌*◌, ◌<◌, ◌≤◌, Bool, true, false, IsTrue, List, length, get_or, refl, sym, ◌∙◌, ap, subst, arith, []}
 use Rattle.std.specs.Prelude.{Result}
 use Rattle.sqval.specs.Database.{Database}
 use Rattle.sqwal.specs.Frames.{size_of}
@@ -8,14 +8,15 @@ use Rattle.crashdisk.specs.Call.{DiskState, IsSoundDisk, ArePresent, Syncs}
 use Rattle.crashdisk.specs.declared.file.File.TheVariants.{Log}
 use Rattle.crashdisk.specs.declared.error.DiskError.{DiskError}
 use Rattle.walcore.specs.Alone.{Show, ShowsAlone}
-use Rattle.walcore.specs.Folding.{IsLogDown}
+use Rattle.crashdisk.specs.Keeps.{IsLogDown}
 use Rattle.walcore.specs.Lengths.{EndsBy, IsLengthOf}
 use Rattle.sqval.specs.Answers.{Files}
 use Rattle.walcore.specs.Machine.{at, last, newest}
 use Rattle.walcore.specs.Made.{NoChance}
 use Rattle.walcore.specs.Standing.{MayBeRead, ShowsWhole}
 use Rattle.walcore.specs.Fits.{Past, AreFiles, ShowsOne, IsLeft, FitsDisk}
-use Rattle.walcore.proofs.Down.{present_image, shows_by, down_one, file_syncs}
+use Rattle.walcore.proofs.Down.{shows_by}
+use Rattle.crashdisk.proofs.Down.{present_image, down_one, file_syncs}
 use Rattle.walcore.proofs.Refuted.{show_unique}
 
 -- the files that an opening finds show one database with each file that may be left

@@ -1,6 +1,6 @@
 -- On a disk that tears the last frame is written once more, as a frame of its own, before the log is synced: so the next
 -- frames lie in other sectors than what is down.
-use Rattle.std.proofs.Common.{◌≡◌, ⊎_elim, ℕ, suc, ◌+◌, ◌*◌, ◌/◌, ◌≤◌, min, true, false, List, [], ◌∷◌, take, get_or, refl, sym, ◌∙◌, ap, subst, arith}
+use Rattle.std.proofs.Common.{◌≡◌, ⊎_elim, ℕ, suc, ◌+◌, ◌*◌, ◌/◌, ◌≤◌, min, true, false, List, ◌∷◌, take, get_or, refl, sym, ◌∙◌, ap, subst, arith, []}
 use Rattle.std.proofs.lemmas.Bool.{cases_lt}
 use Rattle.std.proofs.lemmas.Nat.{le-div}
 use Rattle.std.proofs.Math.Nat.{div-mul-le_self, mul-le-mul_right, lt-div-mul-add}
@@ -9,16 +9,17 @@ use Rattle.sqval.specs.Database.{Database}
 use Rattle.sqwal.specs.Frames.{frame_end, page_of, size_of, content_of, IsCommit}
 use Rattle.sqwal.specs.Refusal.{most_frames}
 use Rattle.sqwal.proofs.Same.{frame_end-suc, frame_end-head, take_less}
-use Rattle.walcore.specs.Phases.{Suits}
+use Rattle.crashdisk.specs.Keeps.{Suits}
 use Rattle.walcore.specs.Era.{shown, IsEra, IsApplied}
 use Rattle.walcore.specs.Standing.{IsBehind, Stands}
 use Rattle.walcore.specs.Syncing.{IsRepeated}
-use Rattle.walcore.proofs.Pages.{sector_some}
+use Rattle.crashdisk.proofs.Pages.{sector_some}
 use Rattle.walcore.proofs.Makings.{made_more}
 use Rattle.walcore.proofs.Fronting.{boundary_same}
 use Rattle.walcore.proofs.Extending.{extended_front, extended_count}
 use Rattle.walcore.proofs.Eras.{GoesOn, era_more}
 use Rattle.walcore.proofs.Stepping.{stands_more}
+use Rattle.crashdisk.proofs.Suiting.{sector_within}
 
 -- the number of the last database stays
 abbrev pub index_to : (index : ℕ → ℕ) (n : ℕ) → ℕ → ℕ
@@ -121,7 +122,7 @@ module _ (size d : ℕ) (s : DiskState) where
   behind_copy at suits le = record {
     behind = omega (arith, frame_end-suc size d);
     apart = λ torn some.
-        let small : s.sector ≤ size = ⊎_elim (λ lt. absurd (suits.whole (torn, lt))) (λ ge. ge) (cases_lt size s.sector) in
+        let small : s.sector ≤ size = sector_within size s suits torn in
         let pos : 1 ≤ s.sector = omega (arith, sector_some s.sector suits.sectors) in
         let q : ℕ = frame_end size (suc d) / s.sector in
         let up : q * s.sector ≤ at / s.sector * s.sector = rounded q at pos (omega (arith, div-mul-le_self (frame_end size (suc d)) s.sector)) in

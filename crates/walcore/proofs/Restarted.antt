@@ -1,5 +1,5 @@
 -- A restart steps the machine, whatever the disk answers.
-use Rattle.std.proofs.Common.{◌≡◌, ◌⊎◌, inl, inr, ⊎_elim, ℕ, zero, suc, ◌+◌, ◌-◌, ◌%◌, ◌^◌, ◌<◌, ◌≤◌, ◌==◌, not, Bool, true, false, cond, IsTrue, List, [], ◌∷◌, length, get_or, refl, sym, ◌∙◌, ap, subst, arith, Option, Some, None}
+use Rattle.std.proofs.Common.{◌≡◌, ◌⊎◌, inl, inr, ⊎_elim, ℕ, zero, suc, ◌+◌, ◌-◌, ◌%◌, ◌^◌, ◌<◌, ◌≤◌, ◌==◌, not, Bool, true, false, cond, IsTrue, List, ◌∷◌, length, get_or, refl, sym, ◌∙◌, ap, subst, arith, Option, Some, None, []}
 use Rattle.std.specs.Prelude.{Result, Ok, Err, ◌≢◌, sum_by, is_some}
 use Rattle.std.specs.List.{list_any}
 use Rattle.std.proofs.lemmas.List.Sums.{sum_by-cons}
@@ -14,7 +14,7 @@ use Rattle.crashdisk.specs.Call.{DiskState}
 use Rattle.crashdisk.specs.declared.file.File.TheVariants.{Log}
 use Rattle.walcore.specs.Refusal.{number_of}
 use Rattle.sqval.specs.Held.{IsJust}
-use Rattle.walcore.specs.Steps.{Later}
+use Rattle.crashdisk.specs.Keeps.{Later}
 use Rattle.sqval.specs.Answers.{Refused, Refuses, Done}
 use Rattle.sqval.specs.CommitFaults.{first_true}
 use Rattle.walcore.specs.Machine.{newest, reader_at, restart_refusal, closed, restarted, Restarts}
@@ -30,17 +30,17 @@ use Rattle.walcore.specs.declared.reader.Reader.{Reader}
 use Rattle.walcore.specs.declared.state.Core.{Core}
 use Rattle.walcore.specs.declared.error.WalError.{WalError}
 use Rattle.walcore.specs.declared.error.WalError.TheVariants.{Closed, NotDrained, ReadersOpen}
-use Rattle.walcore.proofs.Ending.{later_write}
+use Rattle.crashdisk.proofs.Later.{later_write}
 use Rattle.walcore.proofs.Fitting.{same_core, stays}
 use Rattle.walcore.proofs.Fresh.{HasNoReader, fresh_core}
-use Rattle.walcore.proofs.Joining.{refuses_first}
+use Rattle.sqval.proofs.Answering.{refuses_first}
 use Rattle.walcore.proofs.Makings.{made_begun}
 use Rattle.walcore.proofs.Narrowing.{narrows_syncs, history_narrows, headers_narrow}
 use Rattle.walcore.proofs.Opened.{header_later, header_refused, HeaderDone, header_done, present_header}
 use Rattle.walcore.proofs.Readers.{same_one}
 use Rattle.walcore.proofs.Restarting.{restart_shows, begin_stands}
-use Rattle.walcore.proofs.Stills.{still}
-use Rattle.walcore.proofs.Suiting.{suits_by}
+use Rattle.crashdisk.proofs.Stills.{still}
+use Rattle.crashdisk.proofs.Suiting.{suits_by}
 
 -- ---- whether anybody reads
 

@@ -1,8 +1,7 @@
 -- A new header is written over a log whose last database is all in the file, or into an empty one, and then synced.
-use Rattle.std.proofs.Common.{◌≡◌, ◌⊎◌, inl, inr, ⊎_elim, ℕ, ◌+◌, ◌-◌, ◌<◌, ◌≤◌, max, Bool, true, false, List, [], ◌∷◌, ◌++◌, length, take, get_or, refl, sym, ◌∙◌, ap, subst, arith}
+use Rattle.std.proofs.Common.{◌≡◌, ◌⊎◌, inl, inr, ⊎_elim, ℕ, ◌+◌, ◌-◌, ◌<◌, ◌≤◌, max, Bool, true, false, List, ◌∷◌, ◌++◌, length, take, get_or, refl, sym, ◌∙◌, ap, subst, arith, []}
 use Rattle.std.specs.Prelude.{Result, Ok, Err}
 use Rattle.std.specs.List.{Contains}
-use Rattle.std.proofs.lemmas.Bool.{cases_lt}
 use Rattle.std.proofs.lemmas.List.{take_all}
 use Rattle.std.proofs.lemmas.List.Elements.{Contains-push_cases}
 use Rattle.std.proofs.Math.Nat.{div-eq_of_lt}
@@ -25,14 +24,13 @@ use Rattle.sqwal.proofs.Same.{frame_end-suc, frame_end-zero, frame_end-head}
 use Rattle.sqwal.proofs.Fronts.{front_exists}
 use Rattle.walcore.specs.Alone.{AreWhole}
 use Rattle.sqval.specs.Held.{IsJust, IsHeld}
-use Rattle.walcore.specs.Folding.{IsLogDown}
-use Rattle.walcore.specs.Phases.{Suits}
+use Rattle.crashdisk.specs.Keeps.{IsLogDown, Suits}
 use Rattle.walcore.specs.Made.{AreMade, HasNewSalts, IsBegun}
 use Rattle.walcore.specs.Era.{shown, IsDown}
 use Rattle.walcore.specs.Standing.{MayBeRead, ShowsHistory, HasMadeHeader, Stands}
-use Rattle.walcore.proofs.Pages.{sector_some}
-use Rattle.walcore.proofs.Suiting.{suits_writes, suits_syncs}
-use Rattle.walcore.proofs.Down.{file_syncs}
+use Rattle.crashdisk.proofs.Pages.{sector_some}
+use Rattle.crashdisk.proofs.Suiting.{suits_writes, suits_syncs, sector_within}
+use Rattle.crashdisk.proofs.Down.{file_syncs}
 use Rattle.walcore.proofs.Zeros.{zeros_bad}
 use Rattle.walcore.proofs.Makings.{made_here, made_before, made_begun, begun_log}
 use Rattle.walcore.proofs.Fronting.{same_front, just_file}
@@ -99,7 +97,7 @@ module _ {T : Type 0} (size : ℕ) (logs : List (List ℕ)) (e : List ℕ) (n : 
   wide = sector_some s.sector stands.suits.sectors
 
   small : s.tears ≡ true → s.sector ≤ size
-  small torn = ⊎_elim (λ lt. absurd (stands.suits.whole (torn, lt))) (λ ge. ge) (cases_lt size s.sector)
+  small torn = sector_within size s stands.suits torn
 
   fits : 32 ≤ length e
   fits = omega (arith, stands.era.log.whole, frame_end-head size n)

@@ -1,5 +1,5 @@
 -- A sync steps to all commits being down.
-use Rattle.std.proofs.Common.{◌≡◌, ◌⊎◌, inl, inr, ⊎_elim, ℕ, suc, ◌+◌, ◌-◌, ◌*◌, ◌/◌, ◌%◌, ◌≤◌, Bool, true, false, cond, not, ◌&&◌, ◌==◌, List, [], ◌∷◌, length, take, get_or, refl, sym, ◌∙◌, ap, subst, arith, Option, lit≤}
+use Rattle.std.proofs.Common.{◌≡◌, ◌⊎◌, inl, inr, ⊎_elim, ℕ, suc, ◌+◌, ◌-◌, ◌*◌, ◌/◌, ◌%◌, ◌≤◌, Bool, true, false, cond, not, ◌&&◌, ◌==◌, List, ◌∷◌, length, take, get_or, refl, sym, ◌∙◌, ap, subst, arith, Option, lit≤, []}
 use Rattle.std.specs.Prelude.{IsTrue, Some, None, Result, Ok, Err}
 use Rattle.std.proofs.lemmas.Bool.Decides.{nat_tests}
 use Rattle.crashdisk.specs.State.{IsImage}
@@ -17,29 +17,28 @@ use Rattle.walcore.specs.Machine.{newest, last, reader_at, synced, closed, call_
 use Rattle.walcore.specs.Made.{NoChance}
 use Rattle.walcore.specs.Making.{Made, MadeByCopy, MadeBySync}
 use Rattle.sqval.specs.Held.{IsJust}
-use Rattle.walcore.specs.Folding.{HadRefusal}
+use Rattle.crashdisk.specs.Keeps.{HadRefusal, SyncStep, IsSameDisk}
 use Rattle.walcore.specs.Standing.{ShowsWhole, IsBehind, Stands, IsPresent}
-use Rattle.walcore.specs.Steps.{SyncStep}
-use Rattle.walcore.specs.Fits.{Past, AreFiles, IsIndexed, IsBound, AreTogether, IsNewestDown, IsCore, IsSameDisk, FitsCore, StepsTo, answered, times}
+use Rattle.walcore.specs.Fits.{Past, AreFiles, IsIndexed, IsBound, AreTogether, IsNewestDown, IsCore, FitsCore, StepsTo, answered, times}
 use Rattle.walcore.specs.Commits.{Rests, Closes, RestAnswer}
 use Rattle.walcore.specs.Going.{KnowsLog, Going, FramesAnswer}
 use Rattle.walcore.specs.Syncing.{IsRepeated, is_due, KnowsLast, Repeats, SyncsBehind, SyncsCopy, DownBy}
 use Rattle.walcore.specs.declared.state.Core.{Core}
 use Rattle.walcore.specs.declared.reader.Reader.{Reader}
 use Rattle.walcore.specs.declared.error.WalError.{WalError}
-use Rattle.walcore.proofs.Scans.{had_refusal}
-use Rattle.walcore.proofs.Going.{told_error, told_done}
-use Rattle.walcore.proofs.Down.{present_image}
+use Rattle.crashdisk.proofs.Stills.{had_refusal, refusal_after}
+use Rattle.crashdisk.proofs.Later.{told_err, told_ok}
+use Rattle.crashdisk.proofs.Down.{present_image}
 use Rattle.walcore.proofs.Standing.{present_last}
 use Rattle.walcore.proofs.Stepping.{stands_syncs, stands_synced, stands_fewer}
 use Rattle.walcore.proofs.Present.{present_syncs}
-use Rattle.walcore.proofs.Pages.{sector_some}
-use Rattle.walcore.proofs.Stills.{refusal_after}
+use Rattle.crashdisk.proofs.Pages.{sector_some}
 use Rattle.walcore.proofs.Fronting.{boundary_same}
 use Rattle.walcore.proofs.Extending.{extended_front}
 use Rattle.walcore.proofs.Repeating.{index_to, index_to-low, repeated_stands, behind_whole, behind_even, behind_copy, behind_same}
 use Rattle.walcore.proofs.LastFrame.{repeated_exists}
 use Rattle.walcore.proofs.Fulfilling.{disk_by, facts_stand, present_bytes, knows_same, together_map}
+use Rattle.walcore.specs.declared.error.WalError.TheVariants.{Device}
 
 -- what is present shows the newest database
 pub present_newest : (past : Past) (e : List ℕ) (n : ℕ) (index : ℕ → ℕ) (mark d c size : ℕ) (s : DiskState) → Stands size past.made.logs e n past.state.history index mark d c s → IsPresent size e n s
@@ -266,9 +265,9 @@ module _ (past : Past) (core : Core) (s : DiskState) (fits : FitsCore past core 
         (stands_syncs core.page_size (e ∷ is.newest_log.0) e core.frames past.state.history index core.mark d c s t stands_here Log called call) is.floor
         (had_refusal called x 0 s t is.stands.suits.sound.refused was call.within (lit≤ tt) call.elsewhere.refused) closes
 
-    plain_step : {T : Type 0} → (r : Result T WalError) → SyncStep Log r s t → RestAnswer r core then → StepsTo past past.tokens Syncs (answered (λ _. Done) r) then s t
-    plain_step {T = T} (Ok v) step rests = let ok = told_done step.0 (Ok v) v refl step.1 in plain_done (subst (λ (q : Result T DiskError). CallSyncs Log q s t) ok.1 step.2) rests
-    plain_step {T = T} (Err x) step closes = let bad = told_error step.0 (Err x) x refl step.1 in
+    plain_step : {T : Type 0} → (r : Result T WalError) → SyncStep Device Log r s t → RestAnswer r core then → StepsTo past past.tokens Syncs (answered (λ _. Done) r) then s t
+    plain_step {T = T} (Ok v) step rests = let ok = told_ok Device step.0 (Ok v) v refl step.1 in plain_done (subst (λ (q : Result T DiskError). CallSyncs Log q s t) ok.1 step.2) rests
+    plain_step {T = T} (Err x) step closes = let bad = told_err Device step.0 (Err x) x refl step.1 in
         subst (λ (y : WalError). StepsTo past past.tokens Syncs (Refused (number_of y)) then s t) (sym bad.0) (plain_failed step.0 bad.1.0 bad.1.1 step.2 closes)
 
   -- ---- with a copy
@@ -393,9 +392,9 @@ module _ (past : Past) (core : Core) (s : DiskState) (fits : FitsCore past core 
             sync_done past core mid then s t fits opened repeats f is.newest_log.0 (core.frames + 1) to core.frames c made_copy (record { sector = call.elsewhere.sector ∙ going.sector; tears = call.elsewhere.tears ∙ going.tears })
             (omega (arith, going.refused, call.elsewhere.refused)) stands_last lies_copy stays_copy rests
 
-      copy_synced : {T : Type 0} → (r : Result T WalError) → KnowsLog f (core.frames + 1) mid g → SyncStep Log r g t → RestAnswer r mid then → StepsTo past past.tokens Syncs (answered (λ _. Done) r) then s t
-      copy_synced {T = T} (Ok v) knows step rests = let ok = told_done step.0 (Ok v) v refl step.1 in copy_done (subst (λ (q : Result T DiskError). CallSyncs Log q g t) ok.1 step.2) knows rests
-      copy_synced {T = T} (Err x) knows step closes = let bad = told_error step.0 (Err x) x refl step.1 in
+      copy_synced : {T : Type 0} → (r : Result T WalError) → KnowsLog f (core.frames + 1) mid g → SyncStep Device Log r g t → RestAnswer r mid then → StepsTo past past.tokens Syncs (answered (λ _. Done) r) then s t
+      copy_synced {T = T} (Ok v) knows step rests = let ok = told_ok Device step.0 (Ok v) v refl step.1 in copy_done (subst (λ (q : Result T DiskError). CallSyncs Log q g t) ok.1 step.2) knows rests
+      copy_synced {T = T} (Err x) knows step closes = let bad = told_err Device step.0 (Err x) x refl step.1 in
           subst (λ (y : WalError). StepsTo past past.tokens Syncs (Refused (number_of y)) then s t) (sym bad.0) (copy_unsynced step.0 bad.1.0 bad.1.1 step.2 closes)
 
     copy_by : {T : Type 0} → (copied r : Result T WalError) (g : DiskState) → Repeats core mid → FramesAnswer core.page_size f (core.frames + 1) core.frames copied mid s g → SyncsBehind copied r g t → RestAnswer r mid then

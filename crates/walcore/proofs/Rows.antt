@@ -1,5 +1,5 @@
 -- The rows of the machine that a commit takes.
-use Rattle.std.proofs.Common.{◌≡◌, inl, inr, ⊎_elim, ℕ, ◌+◌, ◌^◌, ◌<◌, ◌≤◌, Bool, true, false, cond, List, [], ◌∷◌, ◌++◌, length, refl, sym, ◌∙◌, ap, subst, arith, Bor, Option}
+use Rattle.std.proofs.Common.{◌≡◌, inl, inr, ⊎_elim, ℕ, ◌+◌, ◌^◌, ◌<◌, ◌≤◌, Bool, true, false, cond, List, ◌∷◌, ◌++◌, length, refl, sym, ◌∙◌, ap, subst, arith, Bor, Option, []}
 use Rattle.std.specs.Prelude.{IsTrue, ◌==◌, Some, None, Result, Ok, Err}
 use Rattle.crashdisk.specs.Call.{DiskState, IsSoundDisk}
 use Rattle.sqval.specs.Database.{Pages, apply}
@@ -12,7 +12,7 @@ use Rattle.walcore.specs.CommitRefusals.{refusal_of}
 use Rattle.walcore.specs.Machine.{newest, committed, closed, commit_refusal, Commits, CommitStep}
 use Rattle.walcore.specs.Made.{IsExtended}
 use Rattle.walcore.specs.Making.{Made, IfBegun, MadeByCommit, Makes}
-use Rattle.walcore.specs.Folding.{HadRefusal}
+use Rattle.crashdisk.specs.Keeps.{HadRefusal}
 use Rattle.walcore.specs.Standing.{IsBehind, Stands}
 use Rattle.sqval.specs.JudgedPages.{lent}
 use Rattle.walcore.specs.Fits.{Past, IsCore, FitsCore, StepsTo, answered}

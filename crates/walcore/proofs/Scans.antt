@@ -1,9 +1,7 @@
 -- What a scan of the first bytes of a log says of the log, and the count of refused calls.
-use Rattle.std.proofs.Common.{◌≡◌, ◌⊎◌, ℕ, suc, ◌+◌, ◌^◌, ◌<◌, ◌≤◌, List, ◌++◌, length, get_or, take, drop, refl, sym, ◌∙◌, ap, subst, arith, length-drop}
+use Rattle.std.proofs.Common.{◌≡◌, ℕ, suc, ◌+◌, ◌<◌, ◌≤◌, List, ◌++◌, length, get_or, take, refl, sym, ◌∙◌, ap, subst, arith}
 use Rattle.std.specs.Prelude.{Bool, true, false, Option, Some, None, Result, Ok, Err}
-use Rattle.std.proofs.lemmas.List.{get_or-take, get_or-drop, length-take-le, take-take, take_all}
-use Rattle.std.proofs.lemmas.Grind.{same_number_lists}
-use Rattle.std.proofs.Math.Seq.{take-add}
+use Rattle.std.proofs.lemmas.List.{length-take-le, take-take, take_all}
 use Rattle.sqval.specs.PageSize.{IsPageSize}
 use Rattle.sqwal.specs.Header.{IsHeader, HeaderRefused, named_size}
 use Rattle.sqwal.specs.Frames.{AllPass, IsValidFrame}
@@ -12,27 +10,17 @@ use Rattle.sqwal.specs.Answers.{LogRefused}
 use Rattle.sqwal.specs.declared.error.WalFormatError.{WalFormatError}
 use Rattle.sqwal.specs.declared.error.WalFormatError.TheVariants.{NotAWal, PageSize, HeaderSum, UnknownVersion, TooLong, NoMemory}
 use Rattle.sqwal.proofs.Same.{header_same, word_same, all_same}
-use Rattle.crashdisk.specs.State.{FileState, byte, longest}
-use Rattle.crashdisk.specs.Call.{DiskState, IsSoundDisk, Looks, ArePresent, EndsWithin, counted}
+use Rattle.crashdisk.specs.State.{FileState, byte}
+use Rattle.crashdisk.specs.Call.{DiskState, IsSoundDisk, Looks, ArePresent}
 use Rattle.crashdisk.specs.declared.error.DiskError.{DiskError}
-use Rattle.crashdisk.specs.declared.error.DiskError.TheVariants.{TooLong as DiskTooLong}
-use Rattle.crashdisk.proofs.Steps.{counted_rises}
 use Rattle.walcore.proofs.Stills.{scan_refused_after}
-use Rattle.walcore.specs.Folding.{HadRefusal}
 use Rattle.walcore.specs.Steps.{IsWithoutHeader, ScanRefused, PieceAnswer, ScanAnswer}
 use Rattle.walcore.specs.declared.error.WalError.{WalError}
 use Rattle.walcore.specs.declared.error.WalError.TheVariants.{TooLarge, Device, NoMemory as WalNoMemory}
 use Rattle.sqwal.specs.Took.{Took}
 use Rattle.sqwal.specs.declared.scan.Scan.{Scan}
-
--- a piece that was read behind the first bytes
-pub piece_read : (w : List ℕ) (log : FileState) (at : ℕ) (piece : List ℕ) → ArePresent log w → at + length piece ≤ length w
-    → ((i : ℕ) → i < length piece → get_or piece i 0 ≡ byte log (at + i)) → take at w ++ piece ≡ take (at + length piece) w
-piece_read w log at piece are fits same =
-    let rest : length (take (length piece) (drop at w)) ≡ length piece = length-take-le (length piece) (drop at w) (omega (arith, length-drop at w)) in
-    let is : piece ≡ take (length piece) (drop at w) = same_number_lists piece (take (length piece) (drop at w)) (sym rest)
-    (λ i lt. same i lt ∙ sym (are.each (at + i) (omega (arith, are.len))) ∙ sym (get_or-take (length piece) (drop at w) i 0 lt ∙ get_or-drop at w i 0)) in
-    ap (λ (x : List ℕ). take at w ++ x) is ∙ sym (take-add at (length piece) w)
+use Rattle.crashdisk.proofs.Stills.{had_refusal}
+use Rattle.crashdisk.proofs.Down.{piece_read}
 
 header_refused : (w x : List ℕ) (e : WalFormatError) → take 32 w ≡ take 32 x → 32 ≤ length x → HeaderRefused x e → IsHeader (named_size w) w → ⊥
 header_refused w x NotAWal same long bad is = bad (header_same (named_size w) w x 32 same (omega arith) long is).magic
@@ -64,13 +52,6 @@ module _ (w : List ℕ) (n : ℕ) (fits : n ≤ length w) where
       let size : named_size (take n w) ≡ named_size w = word_same (take n w) w n 8 same (omega (arith, at_end.header.whole, long)) in
       let all : AllPass (named_size (take n w)) w i = all_same (named_size (take n w)) (take n w) w n i same (omega (arith, at_end.whole, long)) fits valid.each in
       record { first = valid.first; each = subst (λ (s : ℕ). AllPass s w i) size all }
-
--- A call that was refused, and whose end is one that a file may have, was counted.
-pub had_refusal : {T : Type 0} (result : Result T DiskError) (e : DiskError) (end : ℕ) (old new : DiskState) → old.refused < 2 ^ 64 → result ≡ Err e
-    → EndsWithin result end → end ≤ longest → new.refused ≡ counted result old.refused → HadRefusal old new
-had_refusal {T = T} result e end old new lt is within short count =
-    let ne : e ≡ DiskTooLong → ⊥ = λ z. (let past : longest < end = subst (λ (r : Result T DiskError). EndsWithin r end) (is ∙ ap Err z) within in omega arith) in
-    subst (λ (n : ℕ). (old.refused < n) ⊎ (n ≡ 18446744073709551615)) (sym count) (counted_rises result e old.refused lt is ne)
 
 module _ (w : List ℕ) (log : FileState) (at : ℕ) (given piece : List ℕ) (same_long : length piece ≡ length given) (are : ArePresent log w) (fits : at + length given ≤ length w)
     (same : (i : ℕ) → i < length piece → get_or piece i 0 ≡ byte log (at + i)) where

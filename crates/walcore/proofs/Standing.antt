@@ -3,7 +3,7 @@ use Rattle.std.proofs.Common.{◌≡◌, ◌⊎◌, inl, inr, ⊎_elim, ℕ, ◌
 use Rattle.std.specs.List.{Contains}
 use Rattle.std.proofs.lemmas.Bool.{cases_eq}
 use Rattle.std.proofs.lemmas.List.{get_or-take, length-take-le}
-use Rattle.crashdisk.specs.State.{FileState, OneListed, IsImage}
+use Rattle.crashdisk.specs.State.{FileState, IsImage}
 use Rattle.crashdisk.specs.Call.{DiskState, ArePresent}
 use Rattle.crashdisk.specs.Facts.{HasFixed}
 use Rattle.sqval.specs.Database.{Database}
@@ -20,15 +20,6 @@ use Rattle.walcore.specs.Era.{IsBoundary, shown, IsEra, IsDown, IsUnder}
 use Rattle.walcore.specs.Standing.{MayBeRead, ShowsWhole, ShowsHistory, HasMadeHeader, AreMarks, Stands, IsPresent}
 use Rattle.walcore.proofs.Known.{named_same}
 use Rattle.walcore.proofs.Fronting.{same_front, just_file, Fronts, fronts, down_front, view_of_image}
-
--- a list of listed values is one that a crash may leave
-pub image_listed : (sector : ℕ) (tears : Bool) (s : FileState) (c : List ℕ) → IsImage sector false s c → IsImage sector tears s c
-image_listed sector tears s c image = record { least = image.least; greatest = image.greatest; each = λ k. one k (image.each k) }
-  where
-    one : (k : ℕ) → OneListed sector false s c k → OneListed sector tears s c k
-    one k (inl shows) = inl shows
-    one k (inr (inl listed)) = inr (inl listed)
-    one k (inr (inr torn)) = absurd (cc torn.0)
 
 -- a log that a crash may leave has the bytes that are fixed
 pub down_image : (size : ℕ) (e : List ℕ) (n d : ℕ) (sector : ℕ) (tears : Bool) (log : FileState) → IsLog size e n → d ≤ n → HasFixed sector tears log 0 (take (frame_end size d) e)

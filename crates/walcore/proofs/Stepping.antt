@@ -1,5 +1,5 @@
 -- The steps of an engine on its log keep what stands on its disk.
-use Rattle.std.proofs.Common.{◌≡◌, ℕ, ◌+◌, ◌<◌, ◌≤◌, true, false, List, [], ◌∷◌, ◌++◌, length, take, get_or, sym, ◌∙◌, ap, subst, arith}
+use Rattle.std.proofs.Common.{◌≡◌, ℕ, ◌+◌, ◌<◌, ◌≤◌, true, false, List, ◌∷◌, ◌++◌, length, take, get_or, sym, ◌∙◌, ap, subst, arith, []}
 use Rattle.std.specs.Prelude.{Result, Ok}
 use Rattle.std.proofs.lemmas.List.{get_or_append_left}
 use Rattle.crashdisk.specs.State.{IsImage}
@@ -15,13 +15,13 @@ use Rattle.sqwal.specs.Refusal.{most_frames}
 use Rattle.sqwal.proofs.Same.{frame_end-le, frame_end-head, take_less}
 use Rattle.sqwal.proofs.Views.{unnamed_same}
 use Rattle.sqval.specs.Held.{IsJust}
-use Rattle.walcore.specs.Phases.{Suits}
+use Rattle.crashdisk.specs.Keeps.{Suits}
 use Rattle.walcore.specs.Made.{AreMade, IsExtended}
 use Rattle.walcore.specs.Era.{IsBoundary, shown, IsEra}
 use Rattle.walcore.specs.Standing.{HoldsFrames, IsBehind, AreMarks, Stands, IsPresent, AreCommitted}
-use Rattle.walcore.proofs.Pages.{sector_some}
-use Rattle.walcore.proofs.Suiting.{suits_writes, suits_syncs, suits_looks}
-use Rattle.walcore.proofs.Down.{since_db}
+use Rattle.crashdisk.proofs.Pages.{sector_some}
+use Rattle.crashdisk.proofs.Suiting.{suits_writes, suits_syncs, suits_looks}
+use Rattle.crashdisk.proofs.Down.{since_db}
 use Rattle.walcore.proofs.Makings.{made_here, made_more}
 use Rattle.walcore.proofs.Fronting.{boundary_same}
 use Rattle.walcore.proofs.Extending.{extended_front}

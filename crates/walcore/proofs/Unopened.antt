@@ -1,5 +1,5 @@
 -- Why an opening is refused, whatever bytes are there.
-use Rattle.std.proofs.Common.{◌≡◌, ◌⊎◌, inl, inr, ⊎_elim, ℕ, ◌+◌, ◌*◌, ◌<◌, ◌≤◌, List, length, refl, sym, ◌∙◌, ap, subst, arith}
+use Rattle.std.proofs.Common.{◌≡◌, inl, inr, ⊎_elim, ℕ, ◌*◌, ◌≤◌, List, length, refl, sym, ◌∙◌, ap, subst, arith}
 use Rattle.std.specs.Prelude.{Result, Ok, Err, IfErr}
 use Rattle.std.proofs.lemmas.Bool.{cases_lt, cases_eq}
 use Rattle.sqwal.specs.Header.{named_size}
@@ -7,9 +7,9 @@ use Rattle.sqwal.specs.Frames.{size_of, IsFront}
 use Rattle.crashdisk.specs.Call.{DiskState, IsSoundDisk, Syncs}
 use Rattle.crashdisk.specs.declared.file.File.TheVariants.{Log}
 use Rattle.sqval.specs.CommitFaults.{most_bytes}
-use Rattle.walcore.specs.Folding.{HadRefusal, TearsPages, KeepsBytes, FoldAnswer}
+use Rattle.walcore.specs.Folding.{FoldAnswer}
+use Rattle.crashdisk.specs.Keeps.{HadRefusal, TearsPages, KeepsBytes, Still}
 use Rattle.sqval.specs.Answers.{Files}
-use Rattle.walcore.specs.Steps.{Still}
 use Rattle.walcore.specs.Fits.{AreFiles}
 use Rattle.walcore.specs.Opening.{CountAnswer, IsCounted, OpenRefused, FileJudged}
 use Rattle.walcore.specs.declared.folding.Folded.{Folded}
@@ -17,10 +17,8 @@ use Rattle.walcore.specs.declared.error.WalError.{WalError}
 use Rattle.walcore.specs.declared.error.WalError.TheVariants.{TooLarge, PageSize, Device}
 use Rattle.walcore.proofs.Lengths.{front_none}
 use Rattle.walcore.proofs.Recovering.{bytes_then, fold_then, synced_bytes, synced_later, synced_fits, looked_bytes, fits_still}
-use Rattle.walcore.proofs.Stills.{refusal_after, present_in}
-
-pub if_err : {T : Type 0} (r : Result T WalError) (e : WalError) (P : WalError → Type 0) → r ≡ Err e → P e → IfErr r P
-if_err {T = T} r e P is p = subst (λ (x : Result T WalError). IfErr x P) (sym is) p
+use Rattle.crashdisk.proofs.Stills.{refusal_after, present_in}
+use Rattle.sqval.proofs.Answering.{if_err}
 
 pub device_refused : (size : ℕ) (db w : List ℕ) (e : WalError) (a b : DiskState) → (TearsPages size a → ⊥) → e ≡ Device → HadRefusal a b → OpenRefused size db w e a b
 device_refused size db w e a b fits is had = subst (λ (x : WalError). OpenRefused size db w x a b) (sym is) (inl (fits, had))
@@ -30,7 +28,7 @@ pub refused_then : (size : ℕ) (db w : List ℕ) (e : WalError) (a b c : DiskSt
     → OpenRefused size db w e b c → OpenRefused size db w e a c
 refused_then size db w e a b c fits fits_then le first refused = ⊎_elim
     (λ folds. inl (fold_then size db w a b c fits fits_then le first (Err e) folds))
-    (λ fault. inr (fits, fault.1, fault.2, bytes_then size db w a b c fits fits_then le first fault.3))
+    (λ fault. inr (fits, fault.1, fault.2, fault.3, bytes_then size db w a b c fits fits_then le first fault.4))
     refused
 
 -- a file into which a log was folded has whole pages, if it had them where the log has no frames

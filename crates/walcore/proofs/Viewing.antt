@@ -1,7 +1,6 @@
 -- What a reader is given is what its database has.
-use Rattle.std.proofs.Common.{◌≡◌, inl, inr, ℕ, ◌+◌, ◌-◌, ◌*◌, ◌<◌, ◌≤◌, Bool, true, false, List, [], ◌∷◌, length, get_or, take, drop, refl, sym, ◌∙◌, ap, subst, arith, length-drop}
-use Rattle.std.specs.Prelude.{Result, Ok, Err, IsErrAnd, IsTrue, Option, Some, None, not, nat_lt, ◌==◌, slice_get}
-use Rattle.std.proofs.lemmas.Bool.Decides.{nat_tests}
+use Rattle.std.proofs.Common.{◌≡◌, inl, ℕ, ◌+◌, ◌-◌, ◌*◌, ◌<◌, ◌≤◌, Bool, false, List, length, get_or, take, drop, refl, sym, ◌∙◌, ap, subst, arith, length-drop}
+use Rattle.std.specs.Prelude.{Result, Ok, Err, IsErrAnd, IsTrue, Option, Some, None, slice_get}
 use Rattle.std.proofs.lemmas.List.{get_or-take, get_or-drop, length-take-le}
 use Rattle.std.proofs.lemmas.Grind.{same_number_lists}
 use Rattle.sqval.specs.Database.{Database, page, file_page}
@@ -10,46 +9,31 @@ use Rattle.sqwal.specs.View.{Unnamed, IsLast}
 use Rattle.sqwal.specs.Index.{FrameTable, IsNewest}
 use Rattle.sqwal.proofs.Same.{frame_at-end, frame_end-le}
 use Rattle.crashdisk.specs.State.{byte, IsImage, longest}
-use Rattle.crashdisk.specs.Call.{DiskState, IsSoundDisk, Looks, of}
+use Rattle.crashdisk.specs.Call.{DiskState, IsSoundDisk, of}
 use Rattle.crashdisk.specs.declared.file.File.{File}
 use Rattle.crashdisk.specs.declared.file.File.TheVariants.{Db, Log}
-use Rattle.crashdisk.specs.declared.error.DiskError.{DiskError}
 use Rattle.crashdisk.proofs.Images.{table}
 use Rattle.crashdisk.proofs.Fixed.{image_present}
 use Rattle.crashdisk.proofs.Steps.{present_list}
-use Rattle.sqval.specs.Answers.{Answer, Page, Refused, Refuses, HasCause}
+use Rattle.sqval.specs.Answers.{Answer, Page, Refused}
 use Rattle.walcore.specs.Machine.{at, reader_at, Reads, ReadStep, read_refusal}
-use Rattle.sqval.specs.CommitFaults.{first_true}
 use Rattle.walcore.specs.Refusal.{number_of}
 use Rattle.walcore.specs.Era.{IsBoundary, shown}
 use Rattle.walcore.specs.Standing.{Stands, IsPresent}
-use Rattle.walcore.specs.Steps.{Still}
+use Rattle.crashdisk.specs.Keeps.{Still, PlaceAnswer}
 use Rattle.walcore.specs.Plans.{IsTable}
-use Rattle.walcore.specs.Paging.{IsRefusedRead, ReadJudged, PlaceAnswer, Finds}
+use Rattle.walcore.specs.Paging.{IsRefusedRead, ReadJudged, Finds}
 use Rattle.walcore.specs.Fits.{Past, IsIndexed, IsBound, IsCore, FitsCore, StepsTo, answered}
 use Rattle.walcore.specs.declared.error.WalError.{WalError}
 use Rattle.walcore.specs.declared.error.WalError.TheVariants.{Closed, PageZero, PageAboveSize, BadLength, Device}
 use Rattle.walcore.specs.declared.reader.Reader.{Reader}
 use Rattle.walcore.specs.declared.state.Core.{Core}
-use Rattle.walcore.proofs.Pages.{page_by_bytes}
-use Rattle.walcore.proofs.Stills.{still_looks}
-use Rattle.walcore.proofs.Scans.{had_refusal}
-use Rattle.walcore.proofs.Copies.{hit_none, hit_last, present_byte, page_fits}
+use Rattle.sqval.proofs.FilePages.{page_by_bytes}
+use Rattle.walcore.proofs.Copies.{hit_none, hit_last, page_fits}
+use Rattle.crashdisk.proofs.Down.{present_byte}
 use Rattle.walcore.proofs.Fitting.{SameCore, same_core, stays}
-use Rattle.walcore.proofs.Joining.{refuses_first}
+use Rattle.sqval.proofs.Answering.{refuses_first, none_above, is_zero, is_above, is_closed, refuses_cause}
 use Rattle.walcore.proofs.Readers.{at_slot, bound_at}
-
--- ---- bytes that were read
-
-module _ {T U : Type 0} (f : File) (place : ℕ) (out : List ℕ) (a b : DiskState) (sound : IsSoundDisk a) where
-  pub place_read : (v : T) (end : ℕ) (called : Result U DiskError) → Looks end called a b → ((j : ℕ) → j < length out → get_or out j 0 ≡ byte (of f a) (place + j)) → PlaceAnswer f place out (Ok v) a b
-  unfolding PlaceAnswer
-  place_read v end called looked bytes = (still_looks end called a b sound looked, bytes)
-
-  pub place_refused : (r : Result T WalError) (end : ℕ) (called : Result U DiskError) (e : DiskError) → end ≡ place + length out → called ≡ Err e → r ≡ Err Device → Looks end called a b → PlaceAnswer f place out r a b
-  unfolding PlaceAnswer
-  place_refused r end called e same was is looked = subst (λ (x : Result T WalError). PlaceAnswer f place out x a b) (sym is)
-      (still_looks end called a b sound looked, refl, λ fits. had_refusal called e end a b sound.refused was looked.within (omega arith) looked.refused)
 
 -- ---- where a page of a reader stands
 
@@ -103,21 +87,6 @@ read_file size p place s out same long bytes =
     (λ j lt. present_byte s.db db (present_list s.db) ((p - 1) * size + j) ∙ sym (bytes j (omega arith) ∙ ap (λ (x : ℕ). byte s.db (x + j)) same))
 
 -- ---- the rows of the machine
-
-none_above : (b : Bool) (p n : ℕ) → b ≡ true → 1 ≤ p → p ≤ n → first_true ((not b, 1) ∷ (p == 0, 4) ∷ (nat_lt n p, 5) ∷ []) ≡ None
-none_above b p n is one le = subst (λ (x : Bool). first_true ((not x, 1) ∷ (p == 0, 4) ∷ (nat_lt n p, 5) ∷ []) ≡ None) (sym is) (grind (arith, nat_tests))
-
-is_zero : (b : Bool) (p n : ℕ) → b ≡ true → p ≡ 0 → first_true ((not b, 1) ∷ (p == 0, 4) ∷ (nat_lt n p, 5) ∷ []) ≡ Some 4
-is_zero b p n is zero = subst (λ (x : Bool). first_true ((not x, 1) ∷ (p == 0, 4) ∷ (nat_lt n p, 5) ∷ []) ≡ Some 4) (sym is) (grind (arith, nat_tests))
-
-is_above : (b : Bool) (p n : ℕ) → b ≡ true → 1 ≤ p → n < p → first_true ((not b, 1) ∷ (p == 0, 4) ∷ (nat_lt n p, 5) ∷ []) ≡ Some 5
-is_above b p n is one lt = subst (λ (x : Bool). first_true ((not x, 1) ∷ (p == 0, 4) ∷ (nat_lt n p, 5) ∷ []) ≡ Some 5) (sym is) (grind (arith, nat_tests))
-
-is_closed : (b : Bool) (p n : ℕ) → b ≡ false → first_true ((not b, 1) ∷ (p == 0, 4) ∷ (nat_lt n p, 5) ∷ []) ≡ Some 1
-is_closed b p n is = ap (λ (x : Bool). first_true ((not x, 1) ∷ (p == 0, 4) ∷ (nat_lt n p, 5) ∷ [])) is
-
-refuses_cause : {S : Type 0} (o : Option ℕ) (failed s : S) (before after : ℕ) → o ≡ None → HasCause before after → Refuses o false failed before after s 15 failed
-refuses_cause o failed s before after e cause = subst (λ (x : Option ℕ). Refuses x false failed before after s 15 failed) (sym e) (inr (refl, cause, refl))
 
 -- a read into a buffer of another length
 pub read_refused : {T U : Type 0} (is_open : Bool) (page size room page_size : ℕ) (was : Result U WalError) (result : Result T WalError) (e : WalError) → was ≡ Err e → result ≡ Err e
@@ -173,7 +142,7 @@ module _ (a b : Core) (s t : DiskState) (past : Past) (fits : FitsCore past a s)
   read_judged {U = U} out room was result e still is_was is full bad = judged out room result e still is full (subst (λ (x : Result U WalError). ReadJudged a.is_open p r.size room a.page_size x) is_was bad)
 
   -- read from a place where the page stands
-  read_by : {T : Type 0} (f : File) (place : ℕ) (out : List ℕ) (result : Result T WalError) (i : ℕ) → reader_at past.state number ≡ Some i → read_refusal past.state i p ≡ None → PlaceAnswer f place out result s t
+  read_by : {T : Type 0} (f : File) (place : ℕ) (out : List ℕ) (result : Result T WalError) (i : ℕ) → reader_at past.state number ≡ Some i → read_refusal past.state i p ≡ None → PlaceAnswer Device f place out result s t
       → (((j : ℕ) → j < length out → get_or out j 0 ≡ byte (of f s) (place + j)) → out ≡ page (at past.state i) p) → place + length out ≤ longest
       → StepsTo past past.tokens (Reads number p) (answered (λ (v : T). Page out) result) b s t
   unfolding PlaceAnswer
@@ -188,7 +157,7 @@ module _ (a b : Core) (s t : DiskState) (past : Past) (fits : FitsCore past a s)
     page_in : (e : List ℕ) (index : ℕ → ℕ) (d c i : ℕ) → IsBound size e index a.mark c past.state i r → shown past.state.history index r.mark ≡ at past.state i
     page_in e index d c i bound = ap (λ (k : ℕ). at past.state k) bound.place
 
-    pub read_from_file : {T : Type 0} (place : ℕ) (out : List ℕ) (result : Result T WalError) → frame ≡ 0 → place ≡ (p - 1) * room → length out ≡ room → PlaceAnswer Db place out result s t
+    pub read_from_file : {T : Type 0} (place : ℕ) (out : List ℕ) (result : Result T WalError) → frame ≡ 0 → place ≡ (p - 1) * room → length out ≡ room → PlaceAnswer Device Db place out result s t
         → StepsTo past past.tokens (Reads number p) (answered (λ (v : T). Page out) result) b s t
     unfolding ReadJudged
     read_from_file place out result zero same_place long answer =
@@ -210,7 +179,7 @@ module _ (a b : Core) (s t : DiskState) (past : Past) (fits : FitsCore past a s)
         ∙ ap (λ (x : Database). page x p) here)
         (omega (arith, place_is, long, room_is, page_fits size p (length (at past.state i.0)) good.1 low (subst (λ (x : ℕ). length (at past.state i.0) * x ≤ 1073741824) (sym fits.page_size) held.few)))
 
-    pub read_from_log : {T : Type 0} (place : ℕ) (out : List ℕ) (result : Result T WalError) → 1 ≤ frame → place ≡ 32 + (frame - 1) * (24 + room) + 24 → length out ≡ room → PlaceAnswer Log place out result s t
+    pub read_from_log : {T : Type 0} (place : ℕ) (out : List ℕ) (result : Result T WalError) → 1 ≤ frame → place ≡ 32 + (frame - 1) * (24 + room) + 24 → length out ≡ room → PlaceAnswer Device Log place out result s t
         → StepsTo past past.tokens (Reads number p) (answered (λ (v : T). Page out) result) b s t
     unfolding ReadJudged
     read_from_log place out result some same_place long answer =

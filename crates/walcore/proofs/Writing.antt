@@ -16,10 +16,11 @@ use Rattle.crashdisk.proofs.Settled.{settled_one}
 use Rattle.walcore.specs.Alone.{Show, ShowsAlone}
 use Rattle.sqval.specs.Held.{IsJust}
 use Rattle.walcore.specs.Phases.{Scanning, Filling, Writing, Filed}
-use Rattle.walcore.specs.Steps.{KeepsLog}
-use Rattle.walcore.proofs.Pages.{size_some, length-file_page, get_or-file_page, file_count}
+use Rattle.crashdisk.specs.Keeps.{KeepsLog}
+use Rattle.sqval.proofs.FilePages.{size_some, length-file_page, get_or-file_page, file_count}
 use Rattle.walcore.proofs.Filling.{filling_syncs, filling_other}
-use Rattle.walcore.proofs.Down.{shows_by, down_one, down_by, down_syncs}
+use Rattle.walcore.proofs.Down.{shows_by}
+use Rattle.crashdisk.proofs.Down.{down_one, down_by, down_syncs}
 
 module _ (size : ℕ) (w : List ℕ) (m : ℕ) (d : Database) where
   -- so it begins
@@ -77,7 +78,7 @@ module _ (size : ℕ) (w : List ℕ) (m : ℕ) (d : Database) where
   pub writing_syncs : {T : Type 0} (f : File) (result : Result T DiskError) (old new : DiskState) → Writing size w m d old → Syncs f result old new → Writing size w m d new
   writing_syncs f result old new is synced = record {
     file = filling_syncs size w m d f result old new is.file synced;
-    down = down_syncs w f result old new is.file.suits.sound is.down synced;
+    down = down_syncs w f result old new is.down synced;
     front = is.front;
     named = is.named;
   }

@@ -1,7 +1,7 @@
 -- While zeros are written over the log's header, what is left shows what it showed.
-use Rattle.std.proofs.Common.{◌≡◌, ◌⊎◌, inl, inr, ⊎_elim, ℕ, ◌+◌, ◌≤◌, max, Bool, true, false, List, [], ◌∷◌, ◌++◌, length, get_or, refl, sym, ◌∙◌, ap, subst}
+use Rattle.std.proofs.Common.{◌≡◌, ⊎_elim, ℕ, ◌+◌, ◌≤◌, max, Bool, true, false, List, ◌∷◌, ◌++◌, length, get_or, sym, ◌∙◌, ap, subst, []}
+use Rattle.std.proofs.lemmas.Bool.{cases_Bool}
 use Rattle.std.specs.Prelude.{Result, Ok, Err}
-use Rattle.std.proofs.lemmas.Bool.{cases_lt}
 use Rattle.sqval.specs.Database.{Database}
 use Rattle.sqwal.specs.Header.{named_size}
 use Rattle.sqwal.specs.Frames.{IsValidFrame}
@@ -11,29 +11,17 @@ use Rattle.crashdisk.specs.declared.file.File.{File}
 use Rattle.crashdisk.specs.declared.file.File.TheVariants.{Db, Log}
 use Rattle.crashdisk.specs.declared.error.DiskError.{DiskError}
 use Rattle.crashdisk.specs.declared.error.DiskError.TheVariants.{Stopped, Failed, TooLong, NoMemory}
-use Rattle.crashdisk.proofs.Shuffled.{image_shuffled}
-use Rattle.crashdisk.proofs.Synced.{image_synced}
 use Rattle.crashdisk.proofs.Settled.{settled_one, settled_synced}
 use Rattle.crashdisk.proofs.Steps.{image_elsewhere, image_looks}
 use Rattle.walcore.specs.Alone.{AreWhole, Show, ShowsAlone}
-use Rattle.walcore.specs.Phases.{Suits, Filed, Zeroing}
-use Rattle.walcore.proofs.Pages.{sector_some}
-use Rattle.walcore.proofs.Suiting.{suits_writes, suits_looks, suits_syncs}
-use Rattle.walcore.proofs.Down.{present_image, shows_by, since_db, file_syncs}
+use Rattle.walcore.specs.Phases.{Filed, Zeroing}
+use Rattle.crashdisk.specs.Keeps.{Suits}
+use Rattle.crashdisk.proofs.Pages.{sector_some}
+use Rattle.crashdisk.proofs.Suiting.{suits_writes, suits_looks, suits_syncs, sector_within}
+use Rattle.walcore.proofs.Down.{shows_by}
+use Rattle.crashdisk.proofs.Down.{present_image, since_db, file_syncs, log_syncs}
 use Rattle.walcore.proofs.Filed.{show_left}
 use Rattle.walcore.proofs.Zeros.{zeroed_listed, zeroed_torn}
-
-pub tears_or : (tears : Bool) → (tears ≡ true) ⊎ (tears ≡ false)
-tears_or true = inl refl
-tears_or false = inr refl
-
--- A sync adds no file to those that a crash may leave, nor to those that it might leave if the disk didn't tear.
-pub log_syncs : {T : Type 0} (sector : ℕ) (tears : Bool) (result : Result T DiskError) (old new : FileState) → IsSound sector old → SyncedBy sector result old new → (v : List ℕ) → IsImage sector tears new v → IsImage sector tears old v
-log_syncs sector tears (Ok u) old new sound synced v image = image_synced sector tears old new sound synced v image
-log_syncs sector tears (Err Failed) old new sound shuffled v image = image_shuffled sector old new shuffled tears v image
-log_syncs sector tears (Err Stopped) old new sound same v image = subst (λ (s : FileState). IsImage sector tears s v) same image
-log_syncs sector tears (Err TooLong) old new sound same v image = subst (λ (s : FileState). IsImage sector tears s v) same image
-log_syncs sector tears (Err NoMemory) old new sound same v image = subst (λ (s : FileState). IsImage sector tears s v) same image
 
 module _ (size : ℕ) (d : Database) (w : List ℕ) where
   -- one that may be left, or is present
@@ -42,7 +30,7 @@ module _ (size : ℕ) (d : Database) (w : List ℕ) where
       (λ v left. ⊎_elim
       (λ torn. is.torn torn v (subst (λ (t : Bool). IsImage s.sector t s.log v) torn left.image) (left.whole torn))
       (λ whole. is.listed v (subst (λ (t : Bool). IsImage s.sector t s.log v) whole left.image))
-      (tears_or s.tears))
+      (cases_Bool s.tears))
       (λ v image. is.listed v image)
       (λ db v image same. show_left size d db v (is.file db image) (λ valid. subst (λ (x : List ℕ). Show size db x d) (sym (same valid)) (is.repeats db (is.file db image))))
 
@@ -113,7 +101,7 @@ module _ (size : ℕ) (d : Database) (w : List ℕ) where
     put_torn : old.tears ≡ true → IsSound old.sector new.log → Changed old.sector (WriteTouches old.sector old.log 0 zeros) (written old.log 0 zeros) (max old.log.len (0 + length zeros)) old.log new.log → new.kept ≡ old.kept → new.handed ≡ old.handed ++ (0, zeros) ∷ []
         → (v : List ℕ) → IsImage old.sector true new.log v → AreWhole new.kept new.handed v → IsValidFrame (named_size v) v 1 → v ≡ w
     put_torn torn after changed kept handed v image whole =
-        let small : old.sector ≤ size = ⊎_elim (λ lt. absurd (is.suits.whole (torn, lt))) (λ ge. ge) (cases_lt size old.sector) in
+        let small : old.sector ≤ size = sector_within size old is.suits torn in
         zeroed_torn old.sector w zeros old.log new.log (sector_some old.sector is.suits.sectors) is.down.settled short none is.suits.sound.log after changed size v small is.of_size image
         (subst (λ (x : List ℕ). AreWhole x ((0, zeros) ∷ []) v) (kept ∙ is.down.kept torn)
         (subst (λ (x : List (ℕ × List ℕ)). AreWhole new.kept x v) (handed ∙ ap (λ (x : List (ℕ × List ℕ)). x ++ (0, zeros) ∷ []) is.down.handed) whole))

@@ -1,8 +1,6 @@
 -- While zeros are written over the log's header, it is the log that it was, or has no valid frame.
-use Rattle.std.proofs.Common.{◌≡◌, inl, inr, ⊎_elim, ℕ, ◌+◌, ◌-◌, ◌/◌, ◌<◌, ◌≤◌, max, Bool, true, false, List, [], ◌∷◌, length, take, drop, get_or, sym, ◌∙◌, ap, subst, arith}
-use Rattle.std.specs.List.{Contains}
+use Rattle.std.proofs.Common.{◌≡◌, inl, inr, ⊎_elim, ℕ, ◌+◌, ◌-◌, ◌/◌, ◌<◌, ◌≤◌, max, Bool, true, false, List, ◌∷◌, length, take, drop, get_or, sym, ◌∙◌, ap, subst, arith, []}
 use Rattle.std.proofs.lemmas.List.{get_or-take, get_or-drop, ext_get_or}
-use Rattle.std.proofs.lemmas.List.Elements.{Contains-push_cases}
 use Rattle.std.proofs.lemmas.Bool.{cases_lt}
 use Rattle.std.proofs.lemmas.Nat.{le-div}
 use Rattle.std.proofs.Math.Nat.{div-eq_of_lt}
@@ -16,7 +14,8 @@ use Rattle.crashdisk.proofs.Fixed.{alters_write, whole_write}
 use Rattle.crashdisk.proofs.Settled.{settled_one}
 use Rattle.walcore.specs.Alone.{AreWhole}
 use Rattle.walcore.specs.Phases.{IsOfSize}
-use Rattle.walcore.proofs.Pages.{size_some}
+use Rattle.sqval.proofs.FilePages.{size_some}
+use Rattle.crashdisk.proofs.Down.{one_write}
 
 -- Zeros at the front are no header.
 pub zeros_bad : (size : ℕ) (w : List ℕ) → ((i : ℕ) → i < 4 → get_or w i 0 ≡ 0) → IsHeader size w → ⊥
@@ -33,9 +32,6 @@ first_end size = omega (arith, frame_end-suc size 0, frame_end-zero size)
 
 zero_plus : (i : ℕ) → 0 + i ≡ i
 zero_plus i = omega arith
-
-one_write : (zeros : List ℕ) (write : ℕ × List ℕ) → Contains ((0, zeros) ∷ []) write → (0, zeros) ≡ write
-one_write zeros write has = ⊎_elim (λ empty. absurd (omega (arith, empty.1))) (λ e. e) (Contains-push_cases [] (0, zeros) write has)
 
 -- a valid header isn't that of the zeros
 header_stands : (w zeros v : List ℕ) → length zeros ≡ 32 → ((i : ℕ) → get_or zeros i 0 ≡ 0) → AreWhole w ((0, zeros) ∷ []) v → IsHeader (named_size v) v → part v 0 32 ≡ part w 0 32

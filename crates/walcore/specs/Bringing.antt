@@ -8,11 +8,10 @@ use Rattle.crashdisk.specs.Call.{DiskState}
 use Rattle.sqval.specs.Answers.{Answer, Complete, Partial, HasCause}
 use Rattle.walcore.specs.Machine.{State, at, last, reader_at, closed, checkpointed, CheckpointStep}
 use Rattle.sqval.specs.Held.{IsJust}
-use Rattle.walcore.specs.Folding.{HadRefusal}
-use Rattle.walcore.specs.Steps.{Still}
+use Rattle.crashdisk.specs.Keeps.{HadRefusal, Still, IsSameDisk}
 use Rattle.walcore.specs.Era.{IsBoundary, shown}
 use Rattle.walcore.specs.Standing.{Stands, IsPresent}
-use Rattle.walcore.specs.Fits.{Past, IsIndexed, IsSameDisk, FitsDisk, FitsCore}
+use Rattle.walcore.specs.Fits.{Past, IsIndexed, FitsDisk, FitsCore}
 use Rattle.walcore.specs.declared.state.Core.{Core}
 use Rattle.walcore.specs.declared.wal.Checkpointed.{Checkpointed}
 use Rattle.walcore.specs.declared.wal.Checkpointed.TheVariants.{Complete as AllOfIt, Partial as PartOfIt}

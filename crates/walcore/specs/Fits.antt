@@ -1,6 +1,6 @@
 -- What fits an engine: the history of its databases and the logs that were made, which are handed along from call to
 -- call and stored nowhere (own).
-use Rattle.std.specs.Prelude.{◌≡◌, ◌⊎◌, ℕ, ◌+◌, ◌-◌, ◌*◌, ◌<◌, ◌≤◌, ◌==◌, Bool, true, false, cond, IsTrue, List, [], ◌∷◌, ◌++◌, map, length, set, get_or, sum_by, Option, Some, None, Result, Ok, Err}
+use Rattle.std.specs.Prelude.{◌≡◌, ◌⊎◌, ℕ, ◌+◌, ◌-◌, ◌*◌, ◌<◌, ◌≤◌, ◌==◌, Bool, true, false, cond, IsTrue, List, ◌∷◌, ◌++◌, map, length, set, get_or, sum_by, Option, Some, None, Result, Ok, Err, []}
 use Rattle.sqval.specs.Database.{Database}
 use Rattle.sqwal.specs.Header.{IsHeaderOf}
 use Rattle.sqwal.specs.Frames.{frame_end, page_of, summed}
@@ -16,7 +16,7 @@ use Rattle.walcore.specs.Making.{Made, Makes, nothing}
 use Rattle.walcore.specs.Era.{IsBoundary}
 use Rattle.sqval.specs.Held.{IsHeld, IsJust}
 use Rattle.walcore.specs.Standing.{MayBeRead, ShowsWhole, ShowsHistory, HasMadeHeader, IsBehind, Stands, IsPresent}
-use Rattle.walcore.specs.Phases.{Suits}
+use Rattle.crashdisk.specs.Keeps.{Suits, IsSameDisk}
 use Rattle.walcore.specs.Refusal.{number_of}
 use Rattle.walcore.specs.declared.error.WalError.{WalError}
 use Rattle.walcore.specs.declared.state.Core.{Core}
@@ -149,11 +149,6 @@ with_token tokens (Err error) = tokens
 
 abbrev pub without_token : List (Option Reader) → ℕ → List (Option Reader)
 without_token tokens number = set tokens number None
-
--- sectors stay as they are
-pub record IsSameDisk (old new : DiskState) : Type 0 where
-  pub sector : new.sector ≡ old.sector
-  pub tears : new.tears ≡ old.tears
 
 -- One call: the machine goes on by a row of its table, and what is handed along fits again.
 pub record StepsTo (past : Past) (tokens : List (Option Reader)) (act : Act) (answer : Answer) (core : Core) (old new : DiskState) : Type 0 where

@@ -1,23 +1,21 @@
 -- What the folding of a log into its database does (fileformat2, 4.3).
-use Rattle.std.specs.Prelude.{◌≡◌, ◌≢◌, ◌⊎◌, ℕ, suc, ◌*◌, ◌<◌, ◌≤◌, true, List, [], Result, Ok, Err}
+use Rattle.std.specs.Prelude.{◌≡◌, ◌≢◌, ◌⊎◌, ℕ, suc, ◌*◌, ◌<◌, ◌≤◌, List, Result, Ok, Err, []}
 use Rattle.sqval.specs.Database.{Database}
 use Rattle.sqwal.specs.Header.{IsHeader, named_size}
 use Rattle.sqwal.specs.Frames.{size_of, IsValidFrame, IsFront}
 use Rattle.sqwal.specs.View.{IsView}
 use Rattle.sqwal.specs.Refusal.{most_frames}
 use Rattle.crashdisk.specs.State.{IsSettled}
-use Rattle.crashdisk.specs.Call.{DiskState, ArePresent}
+use Rattle.crashdisk.specs.Call.{DiskState, ArePresent, Syncs}
+use Rattle.crashdisk.specs.declared.file.File.TheVariants.{Log}
+use Rattle.crashdisk.specs.declared.error.DiskError.{DiskError}
 use Rattle.sqval.specs.CommitFaults.{most_bytes}
 use Rattle.sqval.specs.Held.{IsJust}
-use Rattle.sqval.specs.Answers.{HasCause}
 use Rattle.walcore.specs.Alone.{ShowsAlone}
 use Rattle.walcore.specs.declared.folding.Folded.{Folded}
 use Rattle.walcore.specs.declared.error.WalError.{WalError}
 use Rattle.walcore.specs.declared.error.WalError.TheVariants.{TooLarge, PageSize, NoMemory, Device, SectorAbovePage}
-
--- no page fits into a sector that tears
-abbrev pub TearsPages : (size : ℕ) → DiskState → Type 0
-TearsPages size s = (s.tears ≡ true) × (size < s.sector)
+use Rattle.crashdisk.specs.Keeps.{KeepsBytes, IsLogDown, HadRefusal, TearsPages}
 
 -- the log has more frames than are scanned, or its front's database is above the limit
 abbrev pub IsTooLarge : List ℕ → Type 0
@@ -27,21 +25,6 @@ IsTooLarge w = IsValidFrame (named_size w) w (suc most_frames)
 -- the log is one of pages of another size
 abbrev pub IsOfOtherSize : (size : ℕ) → List ℕ → Type 0
 IsOfOtherSize size w = IsHeader (named_size w) w × (named_size w ≢ size)
-
--- a call of the disk was refused, or had been so often that the count stands at its greatest
-abbrev pub HadRefusal : (old new : DiskState) → Type 0
-HadRefusal old new = HasCause old.refused new.refused
-
--- no byte has changed
-pub record KeepsBytes (old new : DiskState) : Type 0 where
-  pub db : new.db ≡ old.db
-  pub log : (bytes : List ℕ) → ArePresent old.log bytes → ArePresent new.log bytes
-
--- nothing of the log is unsynced
-pub record IsLogDown (s : DiskState) (w : List ℕ) : Type 0 where
-  pub settled : IsSettled s.log w
-  pub kept : s.tears ≡ true → s.kept ≡ w
-  pub handed : s.handed ≡ []
 
 -- a log of no bytes is down
 abbrev pub IsEmptyDown : DiskState → Type 0
@@ -72,3 +55,15 @@ Folds size result old new = (db w : List ℕ) → ArePresent old.db db → ArePr
 -- where nothing of the log was unsynced, and all that a crash may leave showed one database, it still does
 abbrev pub Agrees : (size : ℕ) (old new : DiskState) → Type 0
 Agrees size old new = (w : List ℕ) (d : Database) → IsLogDown old w → ShowsAlone size d old → ShowsAlone size d new
+
+-- what a fold does once a sync of the log was answered
+abbrev pub GoesOn : {T : Type 0} → (size : ℕ) → Result T DiskError → Result Folded WalError → (old new : DiskState) → Type 0
+GoesOn size (Ok _) result old new = Folds size result old new × Agrees size old new
+GoesOn size (Err _) result old new = (result ≡ Err Device) × (new ≡ old)
+
+-- The log is synced first. So it is from that moment on that all which a crash may leave shows the database that it showed.
+pub record SyncsFirst (size : ℕ) (result : Result Folded WalError) (old new : DiskState) : Type 0 where
+  pub called : Result (Unit {0}) DiskError
+  pub mid : DiskState
+  pub sync : Syncs Log called old mid
+  pub rest : GoesOn size called result mid new

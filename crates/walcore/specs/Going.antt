@@ -1,5 +1,5 @@
 -- What the writing of frames does to a core and its disk.
-use Rattle.std.specs.Prelude.{◌≡◌, ℕ, ◌+◌, ◌≤◌, List, [], ◌∷◌, ◌++◌, Result, Ok, Err, IsOk}
+use Rattle.std.specs.Prelude.{◌≡◌, ℕ, ◌+◌, ◌≤◌, List, ◌∷◌, ◌++◌, Result, Ok, Err, IsOk, []}
 use Rattle.sqval.specs.Database.{Database}
 use Rattle.sqwal.specs.Header.{IsHeaderOf}
 use Rattle.sqwal.specs.Frames.{frame_end, page_of, summed, IsFrameHead}
@@ -8,8 +8,7 @@ use Rattle.sqwal.specs.declared.sum.Sum.{Sum}
 use Rattle.crashdisk.specs.Call.{DiskState, IsSoundDisk, Writes}
 use Rattle.crashdisk.specs.declared.file.File.TheVariants.{Log}
 use Rattle.crashdisk.specs.declared.error.DiskError.{DiskError}
-use Rattle.walcore.specs.Folding.{HadRefusal}
-use Rattle.walcore.specs.Steps.{Told}
+use Rattle.crashdisk.specs.Keeps.{HadRefusal, Told}
 use Rattle.walcore.specs.Standing.{IsBehind, Stands, IsPresent}
 use Rattle.walcore.specs.Fits.{IsIndexed}
 use Rattle.walcore.specs.declared.state.Core.{Core}
@@ -40,7 +39,7 @@ pub record HasFrame (page : ℕ) (after : Sum) (old new : Core) : Type 0 where
 -- A frame is written behind the last one, by one call.
 pub record FrameStep {T : Type 0} (page size : ℕ) (content : List ℕ) (result : Result T WalError) (old new : Core) (s t : DiskState) : Type 0 where
   pub called : Result T DiskError
-  pub told : Told called result
+  pub told : Told Device called result
   pub head : List ℕ
   pub after : Sum
   pub made : IsFrameHead old.header old.sum page size content head after

@@ -1,7 +1,7 @@
 -- What holds of every run.
 use Rattle.std.specs.Prelude.{◌≡◌, ◌⊎◌, ℕ, ◌+◌, ◌<◌, ◌≤◌, Bool, true, false, cond, IsTrue, length, take, Option, Some, None}
 use Rattle.sqval.specs.Database.{page}
-use Rattle.sqval.specs.Answers.{HasCause, Answer, Done, Reader, Page, Complete, Partial, NoReader, Refused}
+use Rattle.sqval.specs.Answers.{Answer, Done, Reader, Page, Complete, Partial, NoReader, told, is_accepted, IsShort}
 use Rattle.walcore.specs.CommitRefusals.{most_pages}
 use Rattle.walcore.specs.Machine.{State, at, reader_at, all_newest, Act, Opens, Commits, Syncs, Begins, Reads, Ends, Checkpoints, Restarts, Crashes, Sets, call_refusal, commit_refusal, read_refusal, restart_refusal}
 
@@ -19,10 +19,6 @@ pub record Keeps (old new : State) : Type 0 where
   pub down : take (old.floor + 1) new.history ≡ take (old.floor + 1) old.history
 
 -- ---- What is answered where memory is ample and the disk refuses no call.
-
-abbrev pub told : Option ℕ → Answer → Answer
-told (Some number) answer = Refused number
-told None answer = answer
 
 abbrev pub shown : State → Option ℕ → (number : ℕ) → Answer
 shown s None number = NoReader
@@ -46,11 +42,6 @@ expected s Sets = Done
 
 -- ---- What may stand in its place.
 
-abbrev pub is_accepted : Answer → Bool
-is_accepted NoReader = false
-is_accepted (Refused number) = false
-is_accepted _ = true
-
 abbrev pub takes_memory : Act → Bool
 takes_memory (Opens salts found) = true
 takes_memory (Commits pages size) = true
@@ -63,11 +54,6 @@ needs_disk (Ends reader) = false
 needs_disk (Crashes left) = false
 needs_disk Sets = false
 needs_disk _ = true
-
--- want of memory, or a refused call of the disk that has a cause
-abbrev pub IsShort : (takes_memory needs_disk : Bool) → Answer → (before after : ℕ) → Type 0
-IsShort takes_memory needs_disk answer before after =
-    (IsTrue takes_memory × (answer ≡ Refused 14)) ⊎ (IsTrue needs_disk × (answer ≡ Refused 15) × HasCause before after)
 
 abbrev pub IsExpected : State → Act → Answer → (before after : ℕ) → Type 0
 IsExpected s act answer before after =

@@ -4,12 +4,8 @@ use Rattle.sqwal.specs.Header.{named_size}
 use Rattle.sqwal.specs.Frames.{size_of, IsFront}
 use Rattle.crashdisk.specs.State.{IsImage}
 use Rattle.crashdisk.specs.Call.{DiskState}
-use Rattle.walcore.specs.Folding.{IsLogDown}
+use Rattle.crashdisk.specs.Keeps.{IsLogDown, IsLong}
 use Rattle.walcore.specs.Standing.{MayBeRead}
-
--- each file that a crash may leave is so long
-abbrev pub IsLong : (n : ℕ) → DiskState → Type 0
-IsLong n s = (db : List ℕ) → IsImage s.sector s.tears s.db db → length db ≡ n
 
 -- the same wherever the log that is left has no front
 abbrev pub EndsBy : (n : ℕ) → DiskState → Type 0

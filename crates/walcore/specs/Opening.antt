@@ -1,5 +1,5 @@
 -- What the steps of an opening and of a restart do to a disk.
-use Rattle.std.specs.Prelude.{◌≡◌, ◌⊎◌, ℕ, ◌+◌, ◌*◌, ◌<◌, ◌≤◌, true, false, IsTrue, List, [], length, Result, Ok, Err, IsErr}
+use Rattle.std.specs.Prelude.{◌≡◌, ◌⊎◌, ℕ, ◌+◌, ◌*◌, ◌<◌, ◌≤◌, true, false, IsTrue, List, length, Result, Ok, Err, IsErr, []}
 use Rattle.sqwal.specs.Header.{IsHeaderOf, named_size}
 use Rattle.sqwal.specs.Frames.{summed, IsFront}
 use Rattle.sqwal.specs.Sums.{IsSumOf}
@@ -12,9 +12,10 @@ use Rattle.walcore.specs.Alone.{Show}
 use Rattle.sqval.specs.Answers.{Files}
 use Rattle.walcore.specs.Machine.{at, last}
 use Rattle.walcore.specs.Made.{IsBegun}
-use Rattle.walcore.specs.Folding.{HadRefusal, TearsPages, KeepsBytes, IsLogDown, FoldAnswer}
+use Rattle.walcore.specs.Folding.{FoldAnswer}
+use Rattle.walcore.specs.Plans.{IsFit}
+use Rattle.crashdisk.specs.Keeps.{HadRefusal, TearsPages, KeepsBytes, IsLogDown, Later, Told, SyncStep}
 use Rattle.sqval.specs.Held.{IsJust}
-use Rattle.walcore.specs.Steps.{Later, Told, SyncStep}
 use Rattle.walcore.specs.Fits.{Past, IsLeft}
 use Rattle.walcore.specs.declared.opening.NewLog.{NewLog}
 use Rattle.walcore.specs.declared.state.Core.{Core}
@@ -31,8 +32,8 @@ pub record IsNewLog (size sequence salt1 salt2 : ℕ) (l : NewLog) : Type 0 wher
 -- these bytes are written over the front of the log, which is then synced
 abbrev pub HeaderSteps : {T : Type 0} → List ℕ → Result T WalError → (old new : DiskState) → Type 0
 HeaderSteps {T = T} f result old new =
-    ((called : Result T DiskError) × IsErr called × Told called result × Writes Log 0 f called old new)
-    ⊎ ((mid : DiskState) × ((done : T) × Writes Log 0 f (Ok done) old mid) × SyncStep Log result mid new)
+    ((called : Result T DiskError) × IsErr called × Told Device called result × Writes Log 0 f called old new)
+    ⊎ ((mid : DiskState) × ((done : T) × Writes Log 0 f (Ok done) old mid) × SyncStep Device Log result mid new)
 
 -- how many pages a file of so many bytes has
 abbrev pub CountAnswer : (size long : ℕ) → Result ℕ WalError → (old new : DiskState) → Type 0
@@ -52,11 +53,11 @@ FileFault size long _ = ⊥
 abbrev pub IsCounted : (size long : ℕ) → Type 0
 IsCounted size long = (n : ℕ) × (1 ≤ n) × (n * size ≡ long) × (long ≤ most_bytes)
 
--- Why an opening is refused: as a fold is; or because of the file's length, where the log has no frames, and then no byte
--- has changed.
+-- Why an opening is refused: as a fold is; or because of the file's length, where the log has no fault and no frames, and
+-- then no byte has changed.
 abbrev pub OpenRefused : (size : ℕ) (db w : List ℕ) → WalError → (old new : DiskState) → Type 0
 OpenRefused size db w e old new =
-    FoldAnswer size db w (Err e) old new ⊎ ((TearsPages size old → ⊥) × IsFront (named_size w) w 0 × FileFault size (length db) e × KeepsBytes old new)
+    FoldAnswer size db w (Err e) old new ⊎ ((TearsPages size old → ⊥) × IsFit size w × IsFront (named_size w) w 0 × FileFault size (length db) e × KeepsBytes old new)
 
 -- what is judged before anything is written
 abbrev pub FileJudged : {T : Type 0} → (size : ℕ) → (db w : List ℕ) → Result T WalError → (old new : DiskState) → Type 0
@@ -66,7 +67,7 @@ FileJudged size db w (Err e) old new = OpenRefused size db w e old new
 -- the same, where the file has this fault
 abbrev pub FrontJudged : {T : Type 0} → (size : ℕ) → List ℕ → (fault : WalError) → Result T WalError → (old new : DiskState) → Type 0
 FrontJudged size w fault (Ok _) old new = IsFront (named_size w) w 0 → ⊥
-FrontJudged size w fault (Err e) old new = ((db : List ℕ) → FoldAnswer size db w (Err e) old new) ⊎ (IsFront (named_size w) w 0 × (e ≡ fault))
+FrontJudged size w fault (Err e) old new = ((db : List ℕ) → FoldAnswer size db w (Err e) old new) ⊎ (IsFit size w × IsFront (named_size w) w 0 × (e ≡ fault))
 
 -- an opening may be refused so
 abbrev pub MayRefuse : WalError → (old new : DiskState) → Type 0

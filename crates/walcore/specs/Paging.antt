@@ -1,14 +1,9 @@
 -- What the calls on readers do.
-use Rattle.std.specs.Prelude.{◌≡◌, ◌≢◌, ℕ, ◌+◌, ◌<◌, ◌≤◌, Bool, true, false, List, ◌∷◌, length, get_or, Result, Ok, Err}
-use Rattle.crashdisk.specs.State.{byte, longest}
-use Rattle.crashdisk.specs.Call.{DiskState, of}
-use Rattle.crashdisk.specs.declared.file.File.{File}
-use Rattle.walcore.specs.Folding.{HadRefusal}
-use Rattle.walcore.specs.Steps.{Still}
+use Rattle.std.specs.Prelude.{◌≡◌, ◌≢◌, ℕ, ◌<◌, ◌≤◌, Bool, true, false, List, ◌∷◌, Result, Ok, Err}
 use Rattle.walcore.specs.Fits.{Past}
 use Rattle.sqwal.specs.View.{Unnamed, IsLast}
 use Rattle.walcore.specs.declared.error.WalError.{WalError}
-use Rattle.walcore.specs.declared.error.WalError.TheVariants.{Closed, PageZero, PageAboveSize, BadLength, Device}
+use Rattle.walcore.specs.declared.error.WalError.TheVariants.{Closed, PageZero, PageAboveSize, BadLength}
 
 -- why page `page` of a database of `size` pages isn't read: the first of these that holds, otherwise the buffer's length
 abbrev pub IsRefusedRead : (is_open : Bool) (page size : ℕ) → WalError → Type 0
@@ -22,11 +17,6 @@ IsRefusedRead is_open page size _ = ⊥
 unfoldable pub ReadJudged : {T : Type 0} → (is_open : Bool) (page size room page_size : ℕ) → Result T WalError → Type 0
 ReadJudged is_open page size room page_size (Ok _) = (is_open ≡ true) × (1 ≤ page) × (page ≤ size) × (room ≡ page_size)
 ReadJudged is_open page size room page_size (Err e) = IsRefusedRead is_open page size e × (e ≡ BadLength → room ≢ page_size)
-
--- the bytes from a place of a file on were read
-unfoldable pub PlaceAnswer : {T : Type 0} → File → (at : ℕ) (out : List ℕ) → Result T WalError → (old new : DiskState) → Type 0
-PlaceAnswer f at out (Ok _) old new = Still old new × ((j : ℕ) → j < length out → get_or out j 0 ≡ byte (of f old) (at + j))
-PlaceAnswer f at out (Err e) old new = Still old new × (e ≡ Device) × (at + length out ≤ longest → HadRefusal old new)
 
 -- In the log in force the frame is the last one up to the mark that names the page; with 0 none does.
 abbrev pub Finds : Past → (mark page frame : ℕ) → Type 0

@@ -1,23 +1,15 @@
 -- The steps of a fold by what stands on the disk meanwhile: in each of them all that a crash may leave shows the
 -- database that it showed at the start (fileformat2, 4.3; that it does so at each step is own).
-use Rattle.std.specs.Prelude.{◌≡◌, ℕ, ◌+◌, ◌-◌, ◌*◌, ◌<◌, ◌≤◌, true, false, List, [], length, get_or}
-use Rattle.sqval.specs.PageSize.{IsPageSize}
+use Rattle.std.specs.Prelude.{◌≡◌, ℕ, ◌+◌, ◌-◌, ◌*◌, ◌<◌, ◌≤◌, true, false, List, length, get_or, []}
 use Rattle.sqval.specs.Database.{Database, page, IsFile}
 use Rattle.sqwal.specs.Header.{IsHeader, named_size}
 use Rattle.sqwal.specs.Frames.{size_of, content_of, IsValidFrame, IsFront}
 use Rattle.sqwal.specs.View.{Unnamed, IsLast}
-use Rattle.crashdisk.specs.State.{IsSectorSize, IsImage}
-use Rattle.crashdisk.specs.Call.{DiskState, IsSoundDisk}
+use Rattle.crashdisk.specs.State.{IsImage}
+use Rattle.crashdisk.specs.Call.{DiskState}
 use Rattle.crashdisk.specs.Facts.{IsSteady}
 use Rattle.walcore.specs.Alone.{AreWhole, Show}
-use Rattle.walcore.specs.Folding.{IsLogDown, TearsPages}
-
--- a disk on which pages of this size are recovered
-pub record Suits (size : ℕ) (s : DiskState) : Type 0 where
-  pub sound : IsSoundDisk s
-  pub sectors : IsSectorSize s.sector
-  pub pages : IsPageSize size
-  pub whole : TearsPages size s → ⊥
+use Rattle.crashdisk.specs.Keeps.{IsLogDown, Suits}
 
 -- each database file that a crash may leave has the pages of d
 abbrev pub IsFiled : (size : ℕ) (d : Database) → DiskState → Type 0

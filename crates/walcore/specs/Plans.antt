@@ -6,7 +6,8 @@ use Rattle.sqwal.specs.Index.{FrameTable}
 use Rattle.sqwal.specs.declared.scan.Front.{Front}
 use Rattle.crashdisk.specs.Call.{DiskState}
 use Rattle.sqval.specs.CommitFaults.{most_bytes}
-use Rattle.walcore.specs.Folding.{IsTooLarge, IsOfOtherSize, HadRefusal}
+use Rattle.walcore.specs.Folding.{IsTooLarge, IsOfOtherSize}
+use Rattle.crashdisk.specs.Keeps.{HadRefusal}
 use Rattle.walcore.specs.declared.plan.Plan.{Plan}
 use Rattle.walcore.specs.declared.error.WalError.{WalError}
 use Rattle.walcore.specs.declared.error.WalError.TheVariants.{TooLarge, PageSize, NoMemory, Device}

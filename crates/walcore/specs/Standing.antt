@@ -1,5 +1,5 @@
 -- What an engine keeps on its disk, whatever a crash leaves of it (fileformat2, 4.3 and 4.4; that a crash leaves no less is own).
-use Rattle.std.specs.Prelude.{◌≡◌, ◌≢◌, ◌⊎◌, ℕ, ◌*◌, ◌/◌, ◌<◌, ◌≤◌, true, false, List, [], length, take, get_or, None}
+use Rattle.std.specs.Prelude.{◌≡◌, ◌≢◌, ◌⊎◌, ℕ, ◌*◌, ◌/◌, ◌<◌, ◌≤◌, true, false, List, length, take, get_or, None, []}
 use Rattle.std.specs.List.{Contains}
 use Rattle.sqval.specs.Database.{Database, Pages, supplied}
 use Rattle.sqwal.specs.Header.{IsHeader, named_size}
@@ -9,7 +9,7 @@ use Rattle.crashdisk.specs.Call.{DiskState}
 use Rattle.crashdisk.specs.Facts.{HasFixed}
 use Rattle.sqval.specs.CommitFaults.{most_bytes}
 use Rattle.walcore.specs.Alone.{MayBeLeft, Show}
-use Rattle.walcore.specs.Phases.{Suits}
+use Rattle.crashdisk.specs.Keeps.{Suits}
 use Rattle.walcore.specs.Made.{AreMade, NoChance}
 use Rattle.walcore.specs.Era.{IsBoundary, IsEra, IsUnder}
 

@@ -1,5 +1,5 @@
 -- What the parts of a fold do to a disk.
-use Rattle.std.specs.Prelude.{◌≡◌, ◌⊎◌, ℕ, suc, ◌+◌, ◌-◌, ◌*◌, ◌^◌, ◌<◌, ◌≤◌, Bool, true, false, List, [], length, get_or, take, replicate, Result, Ok, Err, IsErr, Option, Some, None}
+use Rattle.std.specs.Prelude.{◌≡◌, ◌⊎◌, ℕ, suc, ◌+◌, ◌-◌, ◌*◌, ◌<◌, ◌≤◌, Bool, true, false, List, length, get_or, take, replicate, Result, Ok, Err, IsErr, Option, Some, None, []}
 use Rattle.sqval.specs.Database.{Database, page}
 use Rattle.sqwal.specs.Header.{IsHeader, named_size}
 use Rattle.sqwal.specs.Frames.{IsValidFrame, content_of}
@@ -10,50 +10,15 @@ use Rattle.sqwal.specs.declared.scan.Scan.{Scan}
 use Rattle.sqwal.specs.declared.error.WalFormatError.{WalFormatError}
 use Rattle.sqwal.specs.declared.error.WalFormatError.TheVariants.{TooLong, NoMemory}
 use Rattle.crashdisk.specs.State.{FileState, byte, IsSettled}
-use Rattle.crashdisk.specs.Call.{DiskState, IsSoundDisk, ArePresent, Writes, Cuts, Syncs}
-use Rattle.crashdisk.specs.declared.file.File.{File}
+use Rattle.crashdisk.specs.Call.{DiskState, ArePresent, Writes, Cuts}
 use Rattle.crashdisk.specs.declared.file.File.TheVariants.{Db, Log}
 use Rattle.crashdisk.specs.declared.error.DiskError.{DiskError}
-use Rattle.walcore.specs.Folding.{HadRefusal, IsFolded, IsLogDown}
+use Rattle.walcore.specs.Folding.{IsFolded}
+use Rattle.crashdisk.specs.Keeps.{HadRefusal, IsLogDown, Still, Told, SyncStep}
 use Rattle.walcore.specs.Phases.{Writing, Filed}
 use Rattle.walcore.specs.declared.folding.Folded.{Folded}
 use Rattle.walcore.specs.declared.error.WalError.{WalError}
 use Rattle.walcore.specs.declared.error.WalError.TheVariants.{TooLarge, NoMemory as WalNoMemory, Device}
-
--- calls that changed no byte
-pub record Still (old new : DiskState) : Type 0 where
-  pub sector : new.sector ≡ old.sector
-  pub tears : new.tears ≡ old.tears
-  pub db : new.db ≡ old.db
-  pub log : new.log ≡ old.log
-  pub kept : new.kept ≡ old.kept
-  pub handed : new.handed ≡ old.handed
-  pub refused : old.refused ≤ new.refused
-  pub count : new.refused < 2 ^ 64
-
--- calls that left the log alone
-pub record KeepsLog (old new : DiskState) : Type 0 where
-  pub sector : new.sector ≡ old.sector
-  pub tears : new.tears ≡ old.tears
-  pub log : new.log ≡ old.log
-  pub kept : new.kept ≡ old.kept
-  pub handed : new.handed ≡ old.handed
-  pub refused : old.refused ≤ new.refused
-  pub sound : IsSoundDisk new
-
--- The disk is sound, with the same sectors, and its count of refusals hasn't fallen.
-pub record Later (old new : DiskState) : Type 0 where
-  pub sector : new.sector ≡ old.sector
-  pub tears : new.tears ≡ old.tears
-  pub refused : old.refused ≤ new.refused
-  pub sound : IsSoundDisk new
-
--- a refusal of a call of the disk is answered by Device
-abbrev pub Told : {T : Type 0} → Result T DiskError → Result T WalError → Type 0
-Told (Ok _) (Ok _) = Unit {0}
-Told (Ok _) (Err _) = ⊥
-Told (Err _) (Ok _) = ⊥
-Told (Err _) (Err e) = e ≡ Device
 
 -- ---- The scan.
 
@@ -105,20 +70,17 @@ CopyAnswer size d (Err e) old new = (e ≡ Device) × HadRefusal old new
 
 -- ---- The end.
 
-abbrev pub SyncStep : {T : Type 0} → File → Result T WalError → (old new : DiskState) → Type 0
-SyncStep {T = T} f result old new = (called : Result T DiskError) × Told called result × Syncs f called old new
-
 -- 32 zero bytes are written over the front of the log, which is then synced
 abbrev pub ZeroSteps : {T : Type 0} → Result T WalError → (old new : DiskState) → Type 0
 ZeroSteps {T = T} result old new =
-    ((called : Result T DiskError) × IsErr called × Told called result × Writes Log 0 (replicate 32 0) called old new)
-    ⊎ ((mid : DiskState) × ((done : T) × Writes Log 0 (replicate 32 0) (Ok done) old mid) × SyncStep Log result mid new)
+    ((called : Result T DiskError) × IsErr called × Told Device called result × Writes Log 0 (replicate 32 0) called old new)
+    ⊎ ((mid : DiskState) × ((done : T) × Writes Log 0 (replicate 32 0) (Ok done) old mid) × SyncStep Device Log result mid new)
 
 -- the log's length is set to 0, and it is synced
 abbrev pub CutSteps : {T : Type 0} → Result T WalError → (old new : DiskState) → Type 0
 CutSteps {T = T} result old new =
-    ((called : Result T DiskError) × IsErr called × Told called result × Cuts Log 0 called old new)
-    ⊎ ((mid : DiskState) × ((done : T) × Cuts Log 0 (Ok done) old mid) × SyncStep Log result mid new)
+    ((called : Result T DiskError) × IsErr called × Told Device called result × Cuts Log 0 called old new)
+    ⊎ ((mid : DiskState) × ((done : T) × Cuts Log 0 (Ok done) old mid) × SyncStep Device Log result mid new)
 
 -- the pages are in the file, or there were none to write: so far the log is as it was
 abbrev pub Copied : (size : ℕ) (w : List ℕ) (m : ℕ) (d : Database) → DiskState → Type 0

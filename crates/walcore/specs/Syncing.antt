@@ -1,16 +1,17 @@
 -- How a log is brought down: with a copy of its last frame, or without.
-use Rattle.std.specs.Prelude.{◌≡◌, ℕ, ◌+◌, ◌%◌, ◌≤◌, Bool, true, false, not, ◌&&◌, ◌==◌, List, [], ◌∷◌, Result, Ok, Err}
+use Rattle.std.specs.Prelude.{◌≡◌, ℕ, ◌+◌, ◌%◌, ◌≤◌, Bool, true, false, not, ◌&&◌, ◌==◌, List, ◌∷◌, Result, Ok, Err, []}
 use Rattle.sqwal.specs.Frames.{frame_end, page_of, size_of, content_of}
 use Rattle.sqwal.specs.Log.{IsLog}
 use Rattle.sqwal.specs.Refusal.{most_frames}
 use Rattle.crashdisk.specs.Call.{DiskState}
 use Rattle.crashdisk.specs.declared.file.File.TheVariants.{Log}
 use Rattle.walcore.specs.Made.{IsExtended}
-use Rattle.walcore.specs.Steps.{SyncStep}
+use Rattle.crashdisk.specs.Keeps.{SyncStep}
 use Rattle.walcore.specs.Going.{KnowsLog, FramesAnswer}
 use Rattle.walcore.specs.Commits.{SameMarks}
 use Rattle.walcore.specs.declared.state.Core.{Core}
 use Rattle.walcore.specs.declared.error.WalError.{WalError}
+use Rattle.walcore.specs.declared.error.WalError.TheVariants.{Device}
 
 -- f is the log e of n frames with its last frame once more
 abbrev pub IsRepeated : (size : ℕ) (e : List ℕ) (n : ℕ) (f : List ℕ) → Type 0
@@ -41,7 +42,7 @@ pub record Repeats (old new : Core) : Type 0 where
 
 -- the log is synced behind a copy, if that was written
 abbrev pub SyncsBehind : {T : Type 0} → (copied result : Result T WalError) → (s t : DiskState) → Type 0
-SyncsBehind (Ok _) result s t = SyncStep Log result s t
+SyncsBehind (Ok _) result s t = SyncStep Device Log result s t
 SyncsBehind (Err e) result s t = (result ≡ Err e) × (t ≡ s)
 
 pub record SyncsCopy {T : Type 0} (result : Result T WalError) (old new : Core) (s t : DiskState) : Type 0 where
@@ -54,4 +55,4 @@ pub record SyncsCopy {T : Type 0} (result : Result T WalError) (old new : Core) 
 -- the log is brought down
 abbrev pub DownBy : {T : Type 0} → (due : Bool) → Result T WalError → (old new : Core) → (s t : DiskState) → Type 0
 DownBy true result old new s t = SyncsCopy result old new s t
-DownBy false result old new s t = (new ≡ old) × SyncStep Log result s t
+DownBy false result old new s t = (new ≡ old) × SyncStep Device Log result s t

@@ -2,7 +2,7 @@
 ghost use Rattle.std.specs.Prelude.{◌≡◌, ◌↔◌, ◌+◌, ◌≤◌, ℕ, List, length, OnOk, IsTrue, false, if◌then◌else◌};
 ghost use Rattle.crashdisk.specs.Call.{DiskState, IsSoundDisk};
 ghost use Rattle.walcore.specs.Machine.{at, last, Checkpoints};
-ghost use Rattle.walcore.specs.Steps.{KeepsLog};
+ghost use Rattle.crashdisk.specs.Keeps.{KeepsLog};
 ghost use Rattle.walcore.specs.Fits.{Past, Fits, answered, Steps};
 ghost use Rattle.walcore.specs.Bringing.{answer_of, IsOldest, LeavesJust, IsLeast, SizeAnswer, Brings, BroughtDown, ClosedBy};
 

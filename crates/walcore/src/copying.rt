@@ -6,11 +6,12 @@ ghost use Rattle.sqval.specs.Database.{Database};
 ghost use Rattle.sqwal.specs.View.{IsView};
 ghost use Rattle.sqwal.specs.Frames.{IsValidFrame};
 ghost use Rattle.sqval.specs.CommitFaults.{most_bytes};
-ghost use Rattle.walcore.specs.Steps.{Still, KeepsLog, Later, PageAnswer, CopyAnswer, SyncStep, ZeroSteps, CutSteps, EndAnswer, Copied};
+ghost use Rattle.walcore.specs.Steps.{PageAnswer, CopyAnswer, ZeroSteps, CutSteps, EndAnswer, Copied};
+ghost use Rattle.crashdisk.specs.Keeps.{Still, KeepsLog, Later, SyncStep, IsLong};
 ghost use Rattle.walcore.specs.Plans.{IsTable, IsCopy};
 ghost use Rattle.walcore.specs.Phases.{Filling};
 ghost use Rattle.walcore.specs.Alone.{ShowsAlone};
-ghost use Rattle.walcore.specs.Lengths.{IsLong, EndsBy, IsFronted};
+ghost use Rattle.walcore.specs.Lengths.{EndsBy, IsFronted};
 
 use crate::error::WalError;
 use crashdisk::{Disk, File};
@@ -74,7 +75,7 @@ pub fn copy_pages<D: Disk>(
 /// Makes the database stay.
 pub fn settle_database<D: Disk>(disk: &mut D) -> Result<(), WalError>
     ensures word { D.keeps_word disk.old ↔ D.keeps_word disk.new }
-    ensures state { D.keeps_word disk.old → SyncStep File.Db result (D.state disk.old) (D.state disk.new) }
+    ensures state { D.keeps_word disk.old → SyncStep WalError.Device File.Db result (D.state disk.old) (D.state disk.new) }
 {
     disk.sync(File::Db)?;
     Ok(())

@@ -19,10 +19,11 @@ ghost use Rattle.crashdisk.specs.Call.{DiskState, IsSoundDisk, ArePresent};
 ghost use Rattle.crashdisk.specs.State.{IsSectorSize};
 ghost use Rattle.sqval.specs.Database.{Database};
 ghost use Rattle.walcore.specs.Alone.{ShowsAlone};
-ghost use Rattle.walcore.specs.Phases.{Scanning, Suits};
-ghost use Rattle.walcore.specs.Steps.{FoldedAnswer, Later};
+ghost use Rattle.walcore.specs.Phases.{Scanning};
+ghost use Rattle.crashdisk.specs.Keeps.{Suits, Later, IsLogDown, TearsPages};
+ghost use Rattle.walcore.specs.Steps.{FoldedAnswer};
 ghost use Rattle.walcore.specs.Plans.{IsPlan, IsFit};
-ghost use Rattle.walcore.specs.Folding.{Folds, Agrees, IsEmptyDown, IsLogDown, TearsPages};
+ghost use Rattle.walcore.specs.Folding.{Folds, Agrees, IsEmptyDown, SyncsFirst};
 ghost use Rattle.walcore.specs.Lengths.{EndsBy, IsLengthOf, KeepsLength};
 
 /// On a disk that tears, a sector may hold no more than a page.
@@ -91,6 +92,7 @@ pub fn fold<D: Disk>(alloc: Global, disk: &mut D, page_size: PageSize) -> Result
     ensures folds { D.keeps_word disk.old → Folds page_size result (D.state disk.old) (D.state disk.new) }
     ensures agrees { D.keeps_word disk.old → Agrees page_size (D.state disk.old) (D.state disk.new) }
     ensures lengths { D.keeps_word disk.old → KeepsLength page_size (D.state disk.old) (D.state disk.new) }
+    ensures synced { D.keeps_word disk.old → (TearsPages page_size (D.state disk.old) → ⊥) → SyncsFirst page_size result (D.state disk.old) (D.state disk.new) }
 {
     judge_sector(disk, page_size)?;
     disk.sync(File::Log)?;

@@ -2,8 +2,6 @@
 #![tactic(auto)]
 
 mod checkpoints;
-#[cfg(test)]
-mod commit_tests;
 mod commits;
 mod copying;
 mod error;
@@ -20,8 +18,6 @@ mod reading;
 mod restarts;
 mod state;
 mod syncs;
-#[cfg(test)]
-mod tests;
 mod wal;
 mod worked;
 

@@ -3,8 +3,8 @@ ghost use Rattle.std.specs.Prelude.{◌≡◌, ◌↔◌, ◌+◌, ℕ, List, []
 ghost use Rattle.crashdisk.specs.Call.{DiskState, IsSoundDisk, ArePresent};
 ghost use Rattle.crashdisk.specs.declared.file.File.TheVariants.{Db};
 ghost use Rattle.sqwal.specs.Header.{IsHeaderOf};
-ghost use Rattle.walcore.specs.Steps.{Still, Later};
-ghost use Rattle.walcore.specs.Folding.{IsLogDown, TearsPages, Agrees};
+ghost use Rattle.crashdisk.specs.Keeps.{Still, Later, IsLogDown, TearsPages};
+ghost use Rattle.walcore.specs.Folding.{Agrees};
 ghost use Rattle.sqval.specs.Answers.{Files};
 ghost use Rattle.walcore.specs.Made.{NoChance, HasNewSalts};
 ghost use Rattle.walcore.specs.Fits.{Past, FitsDisk, FitsAlone, AreFiles, OpenedTo, GivenUpTo, Opened, GivenUp};

@@ -7,7 +7,8 @@ ghost use Rattle.sqwal.specs.View.{Unnamed, IsLast};
 ghost use Rattle.sqval.specs.Answers.{Page, Reader as ReaderAnswer, Done};
 ghost use Rattle.walcore.specs.Machine.{Begins, Reads, Ends};
 ghost use Rattle.walcore.specs.Fits.{Past, Fits, answered, times, Steps, with_token, without_token};
-ghost use Rattle.walcore.specs.Paging.{IsRefusedRead, ReadJudged, PlaceAnswer, Finds};
+ghost use Rattle.walcore.specs.Paging.{IsRefusedRead, ReadJudged, Finds};
+ghost use Rattle.crashdisk.specs.Keeps.{PlaceAnswer};
 
 use crate::error::WalError;
 use crate::reader::Reader;
@@ -63,7 +64,7 @@ pub(crate) fn read_place<D: Disk>(
     out: &mut [u8],
 ) -> Result<(), WalError>
     ensures word { D.keeps_word disk.old ↔ D.keeps_word disk.new }
-    ensures place { D.keeps_word disk.old → IsSoundDisk (D.state disk.old) → PlaceAnswer file at out.new result (D.state disk.old) (D.state disk.new) }
+    ensures place { D.keeps_word disk.old → IsSoundDisk (D.state disk.old) → PlaceAnswer WalError.Device file at out.new result (D.state disk.old) (D.state disk.new) }
 {
     disk.read_at(file, at, out)?;
     Ok(())

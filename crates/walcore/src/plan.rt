@@ -1,10 +1,10 @@
 //! What a fold is going to do.
-ghost use Rattle.std.specs.Prelude.{◌≡◌, ◌↔◌, ◌+◌, ◌≤◌, ℕ, List, length, IfOk, OnOk, OnErr, IsTrue};
+ghost use Rattle.std.specs.Prelude.{◌≡◌, ◌↔◌, ◌+◌, ◌≤◌, ℕ, List, length, IfOk, OnOk, OnErr};
 ghost use Rattle.crashdisk.specs.Call.{DiskState, IsSoundDisk, ArePresent};
 ghost use Rattle.sqwal.specs.Took.{Took};
 ghost use Rattle.sqwal.specs.Header.{named_size, IsHeader};
 ghost use Rattle.sqwal.specs.Frames.{IsValidFrame};
-ghost use Rattle.walcore.specs.Steps.{Still};
+ghost use Rattle.crashdisk.specs.Keeps.{Still};
 ghost use Rattle.walcore.specs.Plans.{wanted_page, IsTable, IsFit, IsPlan, JudgeAnswer, PlanAnswer, ReadAnswer};
 
 use crate::error::WalError;
@@ -17,9 +17,6 @@ use std::alloc::Global;
 /// The most bytes of a database.
 const MOST_BYTES: u64 = 1073741824;
 
-/// The most frames of a log.
-const MOST_FRAMES: usize = 2097152;
-
 /// The committed frames of a log, the size of the database there in pages, the frames by their pages, and room for
 /// one page.
 #[derive(Drop)]
@@ -30,21 +27,11 @@ pub struct Plan {
     pub page: Vec<u8>,
 }
 
-/// Whether there are more frames than are scanned.
-fn has_too_many(scan: &Scan) -> bool
-    ensures { (w : List ℕ) → Took w scan.now → IsTrue result ↔ IsValidFrame (named_size w) w 2097153 }
-{
-    scan.entry(MOST_FRAMES + 1).is_some()
-}
-
 /// Whether a log of pages of the named size is too large, or one of pages of another size.
 fn judge_frames(scan: &Scan, named: PageSize, page_size: PageSize) -> Result<Front, WalError>
     ensures { (w : List ℕ) → Took w scan.now → IsHeader named w → JudgeAnswer page_size w result }
 {
     let front = scan.committed();
-    if has_too_many(scan) {
-        return Err(WalError::TooLarge);
-    }
     if u64::from(front.size) * u64::from(named.get()) > MOST_BYTES {
         return Err(WalError::TooLarge);
     }

@@ -4,9 +4,8 @@ ghost use Rattle.crashdisk.specs.Call.{DiskState, IsSoundDisk};
 ghost use Rattle.crashdisk.specs.declared.file.File.TheVariants.{Log};
 ghost use Rattle.sqval.specs.Answers.{Done};
 ghost use Rattle.walcore.specs.Machine.{Syncs};
-ghost use Rattle.walcore.specs.Steps.{SyncStep};
+ghost use Rattle.crashdisk.specs.Keeps.{SyncStep, PlaceAnswer};
 ghost use Rattle.walcore.specs.Fits.{Past, FitsCore, Fits, StepsTo, Steps, answered};
-ghost use Rattle.walcore.specs.Paging.{PlaceAnswer};
 ghost use Rattle.walcore.specs.Commits.{IsHeaded, RestAnswer};
 ghost use Rattle.walcore.specs.Syncing.{is_due, RepeatAnswer, Repeats, DownBy};
 
@@ -51,7 +50,7 @@ fn read_content<D: Disk>(disk: &mut D, at: u64, frame: &mut [u8]) -> Result<(), 
     requires { 24 ≤ length frame.old }
     ensures word { D.keeps_word disk.old ↔ D.keeps_word disk.new }
     ensures place { D.keeps_word disk.old → IsSoundDisk (D.state disk.old)
-        → PlaceAnswer Log at (drop 24 frame.new) result (D.state disk.old) (D.state disk.new) }
+        → PlaceAnswer WalError.Device Log at (drop 24 frame.new) result (D.state disk.old) (D.state disk.new) }
 {
     read_place(disk, File::Log, at, &mut frame[24..])
 }
@@ -84,7 +83,7 @@ fn copy_frame<D: Disk>(disk: &mut D, core: &mut Core) -> Result<(), WalError>
 /// Makes the log stay.
 fn settle_log<D: Disk>(disk: &mut D) -> Result<(), WalError>
     ensures word { D.keeps_word disk.old ↔ D.keeps_word disk.new }
-    ensures state { D.keeps_word disk.old → SyncStep Log result (D.state disk.old) (D.state disk.new) }
+    ensures state { D.keeps_word disk.old → SyncStep WalError.Device Log result (D.state disk.old) (D.state disk.new) }
 {
     disk.sync(File::Log)?;
     Ok(())

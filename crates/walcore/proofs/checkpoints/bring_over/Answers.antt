@@ -1,6 +1,6 @@
 use Rattle.std.proofs.Common.{◌≤◌, length, arith}
-use Rattle.walcore.proofs.Stills.{passed, still_sound}
-use Rattle.walcore.proofs.Copies.{keeps_still, keeps_then}
+use Rattle.sqval.proofs.Answering.{passed}
+use Rattle.crashdisk.proofs.Stills.{still_sound, keeps_still, keeps_then}
 use Rattle.walcore.proofs.Bringing.{size_still, size_is, keeps_synced, brings_none, brings_unread, uncopied, settled}
 use Rattle.walcore.proofs.checkpoints.bring_over.Goals as goal
 

@@ -1,5 +1,5 @@
 use Rattle.std.proofs.Common.{ℕ, ◌+◌, ◌*◌, ap}
-use Rattle.walcore.proofs.Stills.{passed}
+use Rattle.sqval.proofs.Answering.{passed}
 use Rattle.walcore.proofs.Bringing.{size_read, size_unread}
 use Rattle.walcore.proofs.checkpoints.size_at.Goals as goal
 

@@ -1,5 +1,5 @@
 use Rattle.std.proofs.Common.{◌∙◌}
-use Rattle.walcore.proofs.Stills.{passed}
+use Rattle.sqval.proofs.Answering.{passed}
 use Rattle.walcore.proofs.Prepared.{fits_prepared}
 use Rattle.walcore.proofs.Rows.{commit_refused}
 use Rattle.walcore.proofs.commits.commit_pages.Goals as goal

@@ -4,8 +4,9 @@ use Rattle.crashdisk.specs.State.{longest}
 use Rattle.crashdisk.specs.Call.{Writes}
 use Rattle.crashdisk.specs.declared.file.File.TheVariants.{Db}
 use Rattle.walcore.specs.declared.error.WalError.TheVariants.{Device}
-use Rattle.walcore.proofs.Stills.{passed, still_looks, still_sound}
-use Rattle.walcore.proofs.Copies.{hit_none, hit_last, content_end, content_read, keeps_still, keeps_then, keeps_write, page_none, page_unread, page_unwritten, page_put, page_fits}
+use Rattle.sqval.proofs.Answering.{passed}
+use Rattle.crashdisk.proofs.Stills.{still_looks, still_sound, keeps_still, keeps_then, keeps_write}
+use Rattle.walcore.proofs.Copies.{hit_none, hit_last, content_end, content_read, page_none, page_unread, page_unwritten, page_put, page_fits}
 use Rattle.walcore.proofs.copying.copy_page.Goals as goal
 
 pub returns-then-hit-eq0-clause-page : goal.returns-then-hit-eq0-clause-page

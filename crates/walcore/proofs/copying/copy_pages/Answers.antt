@@ -1,7 +1,8 @@
 use Rattle.std.proofs.Common.{◌≡◌, ◌≤◌, ◌+◌, ◌*◌, ◌∙◌, ℕ, length, ap, subst, arith}
 use Rattle.walcore.specs.declared.error.WalError.TheVariants.{Device}
-use Rattle.walcore.proofs.Stills.{passed, present_in}
-use Rattle.walcore.proofs.Copies.{keeps_same, keeps_then, keeps_cut, Upto, page_at, upto_none, upto_more, copied, copy_refused, cut_refused}
+use Rattle.sqval.proofs.Answering.{passed}
+use Rattle.crashdisk.proofs.Stills.{present_in, keeps_same, keeps_then, keeps_cut}
+use Rattle.walcore.proofs.Copies.{Upto, page_at, upto_none, upto_more, copied, copy_refused, cut_refused}
 use Rattle.walcore.proofs.Filling.{filling_page, filling_cuts}
 use Rattle.walcore.proofs.copying.copy_pages.Goals as goal
 

@@ -2,7 +2,7 @@ use Rattle.std.proofs.Common.{◌≡◌, ◌↔◌, ℕ, List, length}
 use Rattle.crashdisk.specs.Call.{IsSoundDisk, ArePresent}
 use Rattle.sqval.specs.Database.{Database}
 use Rattle.sqwal.specs.View.{IsView}
-use Rattle.walcore.specs.Steps.{KeepsLog}
+use Rattle.crashdisk.specs.Keeps.{KeepsLog}
 use Rattle.walcore.specs.Plans.{IsCopy}
 use Rattle.walcore.specs.Phases.{Filling}
 use Rattle.walcore.proofs.Copies.{Upto}

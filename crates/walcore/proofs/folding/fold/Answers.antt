@@ -1,8 +1,11 @@
 use Rattle.crashdisk.specs.declared.file.File.TheVariants.{Log}
-use Rattle.walcore.proofs.Recovering.{fold_after, empty_down}
+use Rattle.walcore.specs.declared.error.WalError.TheVariants.{Device}
+use Rattle.sqval.proofs.Answering.{passed}
+use Rattle.walcore.proofs.Recovering.{fold_after, empty_down, goes_on, stays}
+use Rattle.walcore.proofs.Agreed.{synced_empty}
 use Rattle.walcore.proofs.Looking.{scanning_shows, scanning_syncs}
 use Rattle.walcore.proofs.Agreeing.{agrees_by}
-use Rattle.walcore.proofs.Down.{down_syncs}
+use Rattle.crashdisk.proofs.Down.{down_syncs}
 use Rattle.walcore.proofs.Lengths.{ends_down, length_syncs}
 use Rattle.walcore.proofs.folding.fold.Goals as goal
 
@@ -32,10 +35,33 @@ pub returns-in_err-sync-clause-lengths : goal.returns-in_err-sync-clause-lengths
 returns-in_err-sync-clause-lengths g c = λ word w n down len.
     let suits = c.in_ok-judge_sector.ensures.suits word in
     let synced = c.sync.ensures.state word in
-    ends_down n w _ (down_syncs w Log c.sync.result _ _ suits.sound down synced) (length_syncs c.args.page_size w n Log c.sync.result _ _ suits.sound synced len).none
+    ends_down n w _ (down_syncs w Log c.sync.result _ _ down synced) (length_syncs c.args.page_size w n Log c.sync.result _ _ suits.sound synced len).none
 
 pub returns-clause-lengths : goal.returns-clause-lengths
 returns-clause-lengths g c = λ word w n down len.
     let suits = c.in_ok-judge_sector.ensures.suits word in
     let synced = c.sync.ensures.state word in
-    c.fold_synced.ensures.lengths (c.sync.ensures.word.0 word) w n (down_syncs w Log c.sync.result _ _ suits.sound down synced) (length_syncs c.args.page_size w n Log c.sync.result _ _ suits.sound synced len)
+    c.fold_synced.ensures.lengths (c.sync.ensures.word.0 word) w n (down_syncs w Log c.sync.result _ _ down synced) (length_syncs c.args.page_size w n Log c.sync.result _ _ suits.sound synced len)
+
+pub returns-in_err-judge_sector-clause-synced : goal.returns-in_err-judge_sector-clause-synced
+returns-in_err-judge_sector-clause-synced g c = λ word whole. absurd (whole (c.in_err-judge_sector.ensures.refused word))
+
+pub returns-in_err-sync-clause-synced : goal.returns-in_err-sync-clause-synced
+returns-in_err-sync-clause-synced g c = λ word whole. record {
+  called = c.sync.result;
+  mid = g.D.Disk.state c.sync.new.self;
+  sync = c.sync.ensures.state word;
+  rest = stays c.args.page_size c.sync.result _ c.from_residual-in_err-sync.result (g.D.Disk.state c.sync.new.self) c.in_err-sync.was (passed c.from_residual-in_err-sync.result Device c.from_residual-in_err-sync.ensures.1);
+}
+
+pub returns-clause-synced : goal.returns-clause-synced
+returns-clause-synced g c = λ word whole.
+    let suits = c.in_ok-judge_sector.ensures.suits word in
+    let next = c.sync.ensures.word.0 word in
+    record {
+      called = c.sync.result;
+      mid = g.D.Disk.state c.sync.new.self;
+      sync = c.sync.ensures.state word;
+      rest = goes_on c.args.page_size c.sync.result _ c.fold_synced.result (g.D.Disk.state c.sync.new.self) (g.D.Disk.state c.fold_synced.new.disk) c.in_ok-sync.was
+          (c.fold_synced.ensures.folds next (synced_empty (g.D.Disk.state c.args.disk.now) (g.D.Disk.state c.sync.new.self) suits.sound (c.in_ok-sync.ensures.state word))) (c.fold_synced.ensures.agrees next);
+    }

@@ -1,10 +1,12 @@
 use Rattle.std.proofs.Common.{◌∙◌}
-use Rattle.walcore.proofs.Stills.{passed, present_in, still_sound}
+use Rattle.sqval.proofs.Answering.{passed}
+use Rattle.crashdisk.proofs.Stills.{present_in, still_sound}
 use Rattle.walcore.proofs.Recovering.{read_folds, plan_folds, read_plans}
-use Rattle.walcore.proofs.Agreeing.{scanning_still, down_present}
+use Rattle.walcore.proofs.Agreeing.{scanning_still}
+use Rattle.crashdisk.proofs.Down.{down_present}
 use Rattle.walcore.proofs.Looking.{scanning_shows}
 use Rattle.walcore.proofs.Lengths.{ends_down, down_still, length_still}
-use Rattle.walcore.proofs.Ending.{later_then, later_still}
+use Rattle.crashdisk.proofs.Later.{later_then, later_still}
 use Rattle.walcore.proofs.folding.fold_log.Goals as goal
 
 pub returns-in_err-plan-clause-folds : goal.returns-in_err-plan-clause-folds
@@ -25,7 +27,7 @@ returns-clause-folds g c = λ word sound fits long db w are_db are.
 
 pub returns-clause-shows : goal.returns-clause-shows
 returns-clause-shows g c = λ word long w d scanning.
-    let are = down_present _ w scanning.down in
+    let are = down_present w _ scanning.down in
     let is = c.read_plan.ensures.still word scanning.suits.sound in
     let plans = read_plans c.args.page_size w c.read_plan.result c.in_ok-plan.plan _ _ c.in_ok-plan.was (c.read_plan.ensures.plan word scanning.suits.sound w are (are.len ∙ long)) in
     c.fold_plan.ensures.shows (c.read_plan.ensures.word.0 word) c.args.page_size w d (scanning_still c.args.page_size d w _ _ scanning is) plans.1 plans.0
@@ -37,7 +39,7 @@ returns-in_err-plan-clause-lengths g c = λ word sound long w n down len.
 
 pub returns-clause-lengths : goal.returns-clause-lengths
 returns-clause-lengths g c = λ word sound long w n down len.
-    let are = down_present _ w down in
+    let are = down_present w _ down in
     let is = c.read_plan.ensures.still word sound in
     let plans = read_plans c.args.page_size w c.read_plan.result c.in_ok-plan.plan _ _ c.in_ok-plan.was (c.read_plan.ensures.plan word sound w are (are.len ∙ long)) in
     c.fold_plan.ensures.lengths (c.read_plan.ensures.word.0 word) (still_sound _ _ sound is) c.args.page_size w n (down_still w _ _ is down) plans.1 (length_still c.args.page_size w n _ _ is len)

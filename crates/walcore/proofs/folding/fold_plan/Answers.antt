@@ -1,13 +1,15 @@
 use Rattle.std.proofs.Common.{◌≡◌, ◌≤◌, length, refl, arith}
-use Rattle.walcore.proofs.Stills.{passed, still}
+use Rattle.sqval.proofs.Answering.{passed}
+use Rattle.crashdisk.proofs.Stills.{still}
 use Rattle.walcore.proofs.Recovering.{view_exists, planned_none, planned_some, planned_refused, planned_uncopied, copy_done, copies_at, writing_at}
 use Rattle.walcore.proofs.Writing.{writing_begins, writing_shows}
-use Rattle.walcore.proofs.Agreeing.{copied_none, copied_some, down_present}
+use Rattle.walcore.proofs.Agreeing.{copied_none, copied_some}
+use Rattle.crashdisk.proofs.Down.{down_present}
 use Rattle.crashdisk.specs.State.{byte}
 use Rattle.crashdisk.proofs.Images.{table}
 use Rattle.crashdisk.proofs.Steps.{present_list}
 use Rattle.walcore.proofs.Lengths.{ends_long, ends_fronted, fronted_keeps, front_none, copied_length}
-use Rattle.walcore.proofs.Ending.{later_then, later_keeps}
+use Rattle.crashdisk.proofs.Later.{later_then, later_keeps}
 use Rattle.walcore.proofs.folding.fold_plan.Goals as goal
 
 pub returns-in_err-finish-clause-folds : goal.returns-in_err-finish-clause-folds
@@ -42,7 +44,7 @@ returns-in_err-copy_pages-clause-shows g c = λ word size w d scanning is fit.
     let room : length c.args.plan.page.items ≡ size = (is.some some).room in
     let e : length c.deref_mut.result.now ≡ size = cc in
     writing_shows size w c.args.plan.frames d _ (writing_at (length c.deref_mut.result.now) size c.args.plan.size w c.args.plan.frames c.args.plan.index d _ _ e (is.some some).copy
-    (c.copy_pages.ensures.log word scanning.suits.sound) (λ copy begun. c.copy_pages.ensures.filling word scanning.suits.sound w d (down_present _ w scanning.down) copy begun)
+    (c.copy_pages.ensures.log word scanning.suits.sound) (λ copy begun. c.copy_pages.ensures.filling word scanning.suits.sound w d (down_present w _ scanning.down) copy begun)
     (writing_begins size w c.args.plan.frames d _ scanning some is.front))
 
 pub returns-in_err-finish-2-clause-folds : goal.returns-in_err-finish-2-clause-folds
@@ -56,7 +58,7 @@ returns-in_err-finish-2-clause-shows g c = λ word size w d scanning is fit.
     let some : 1 ≤ c.args.plan.frames = omega (arith, c.if-plan-eq0.false) in
     let room : length c.args.plan.page.items ≡ size = (is.some some).room in
     let e : length c.deref_mut.result.now ≡ size = cc in
-    let are = down_present _ w scanning.down in
+    let are = down_present w _ scanning.down in
     c.finish-2.ensures.shows (c.copy_pages.ensures.word.0 word) size w c.args.plan.frames d (copied_some size w c.args.plan.frames d _ _ _ scanning (still _ scanning.suits.sound) some is.front
     (λ begun. writing_at (length c.deref_mut.result.now) size c.args.plan.size w c.args.plan.frames c.args.plan.index d _ _ e (is.some some).copy
     (c.copy_pages.ensures.log word scanning.suits.sound) (λ copy was. c.copy_pages.ensures.filling word scanning.suits.sound w d are copy was) begun)
@@ -79,7 +81,7 @@ returns-clause-shows g c = λ word size w d scanning is fit.
     let some : 1 ≤ c.args.plan.frames = omega (arith, c.if-plan-eq0.false) in
     let room : length c.args.plan.page.items ≡ size = (is.some some).room in
     let e : length c.deref_mut.result.now ≡ size = cc in
-    let are = down_present _ w scanning.down in
+    let are = down_present w _ scanning.down in
     c.finish-2.ensures.shows (c.copy_pages.ensures.word.0 word) size w c.args.plan.frames d (copied_some size w c.args.plan.frames d _ _ _ scanning (still _ scanning.suits.sound) some is.front
     (λ begun. writing_at (length c.deref_mut.result.now) size c.args.plan.size w c.args.plan.frames c.args.plan.index d _ _ e (is.some some).copy
     (c.copy_pages.ensures.log word scanning.suits.sound) (λ copy was. c.copy_pages.ensures.filling word scanning.suits.sound w d are copy was) begun)
@@ -104,7 +106,7 @@ returns-in_err-finish-2-clause-lengths g c = λ word sound size w n down is len.
     let some : 1 ≤ c.args.plan.frames = omega (arith, c.if-plan-eq0.false) in
     let room : length c.args.plan.page.items ≡ size = (is.some some).room in
     let e : length c.deref_mut.result.now ≡ size = cc in
-    let are = down_present _ w down in
+    let are = down_present w _ down in
     let log = c.copy_pages.ensures.log word sound in
     let db = table (g.D.Disk.state c.args.disk.now).db.len (byte (g.D.Disk.state c.args.disk.now).db) in
     let view = view_exists size db w c.args.plan.frames some in
@@ -118,7 +120,7 @@ returns-clause-lengths g c = λ word sound size w n down is len.
     let some : 1 ≤ c.args.plan.frames = omega (arith, c.if-plan-eq0.false) in
     let room : length c.args.plan.page.items ≡ size = (is.some some).room in
     let e : length c.deref_mut.result.now ≡ size = cc in
-    let are = down_present _ w down in
+    let are = down_present w _ down in
     let log = c.copy_pages.ensures.log word sound in
     let db = table (g.D.Disk.state c.args.disk.now).db.len (byte (g.D.Disk.state c.args.disk.now).db) in
     let view = view_exists size db w c.args.plan.frames some in

@@ -1,12 +1,11 @@
 use Rattle.std.proofs.Common.{◌≡◌, refl, sym, ◌∙◌, ap}
 use Rattle.crashdisk.specs.State.{FileState}
-use Rattle.walcore.proofs.Stills.{present_in, still_looks, still_sound}
+use Rattle.crashdisk.proofs.Stills.{present_in, still_looks, still_sound, still}
 use Rattle.walcore.proofs.Recovering.{fold_empty, fold_looked, fits_still}
 use Rattle.walcore.proofs.Looking.{scanning_shows, scanning_looks}
 use Rattle.walcore.proofs.Agreeing.{agrees_by}
 use Rattle.walcore.proofs.Lengths.{ends_down, down_still, length_still}
-use Rattle.walcore.proofs.Stills.{still}
-use Rattle.walcore.proofs.Ending.{later_then, later_still}
+use Rattle.crashdisk.proofs.Later.{later_then, later_still}
 use Rattle.walcore.proofs.folding.fold_synced.Goals as goal
 
 pub returns-in_err-long-clause-agrees : goal.returns-in_err-long-clause-agrees

@@ -1,7 +1,7 @@
 use Rattle.std.proofs.Common.{◌≡◌, ◌+◌, ℕ, length, refl, subst, arith, rules, []}
 use Rattle.sqval.specs.JudgedPages.{lent}
 use Rattle.walcore.specs.Going.{KnowsLog}
-use Rattle.walcore.proofs.Stills.{passed}
+use Rattle.sqval.proofs.Answering.{passed}
 use Rattle.sqval.proofs.PageNumbers.{lent_length}
 use Rattle.walcore.proofs.Pacing.{going_none, frames_on, frames_off}
 use Rattle.walcore.proofs.frames.write_frames.Goals as goal

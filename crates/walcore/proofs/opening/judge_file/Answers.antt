@@ -1,4 +1,4 @@
-use Rattle.walcore.proofs.Stills.{present_in, still_sound, still_then}
+use Rattle.crashdisk.proofs.Stills.{present_in, still_sound, still_then}
 use Rattle.walcore.proofs.Recovering.{fits_still}
 use Rattle.walcore.proofs.Files.{file_judged}
 use Rattle.walcore.proofs.opening.judge_file.Goals as goal

@@ -2,7 +2,8 @@ use Rattle.std.proofs.Common.{inr, refl, sym, ◌∙◌}
 use Rattle.sqwal.specs.Header.{named_size}
 use Rattle.sqwal.proofs.Views.{front_unique}
 use Rattle.walcore.specs.declared.error.WalError.TheVariants.{Device}
-use Rattle.walcore.proofs.Stills.{passed, present_in, still_looks, still_sound, still_then}
+use Rattle.sqval.proofs.Answering.{passed}
+use Rattle.crashdisk.proofs.Stills.{present_in, still_looks, still_sound, still_then}
 use Rattle.walcore.proofs.Recovering.{fits_still, read_plans}
 use Rattle.walcore.proofs.Lengths.{front_none}
 use Rattle.walcore.proofs.Files.{front_unlooked, front_unread}
@@ -35,7 +36,7 @@ returns-then-plan-eq0-clause-judged g c = λ word sound fits w are.
     let is = still_looks _ c.len.result _ _ sound (c.len.ensures.state word) in
     let next = c.len.ensures.word.0 word in
     let plans = read_plans c.args.page_size w c.read_plan.result c.in_ok-plan.plan _ _ c.in_ok-plan.was (c.read_plan.ensures.plan next (still_sound _ _ sound is) w (present_in _ _ w is.log are) (are.len ∙ sym (c.in_ok-long.ensures.answer word))) in
-    inr (front_none w c.in_ok-plan.plan.frames c.if-plan-eq0.true plans.1.front, refl)
+    inr (plans.0, front_none w c.in_ok-plan.plan.frames c.if-plan-eq0.true plans.1.front, refl)
 
 pub returns-clause-still : goal.returns-clause-still
 returns-clause-still g c = λ word sound.

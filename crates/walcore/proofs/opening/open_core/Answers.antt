@@ -1,9 +1,10 @@
 use Rattle.std.proofs.Common.{ℕ, refl, sym, subst}
-use Rattle.walcore.specs.Folding.{TearsPages}
+use Rattle.crashdisk.specs.Keeps.{TearsPages}
 use Rattle.walcore.specs.Opening.{OpenRefused}
-use Rattle.walcore.proofs.Stills.{passed, refusal_after}
-use Rattle.walcore.proofs.Unopened.{if_err, device_refused}
-use Rattle.walcore.proofs.Opened.{header_refused, match_err, same_error, without_memory, unrecovered, unbegun, begun_here, opened_here}
+use Rattle.sqval.proofs.Answering.{passed, if_err, match_err}
+use Rattle.crashdisk.proofs.Stills.{refusal_after}
+use Rattle.walcore.proofs.Unopened.{device_refused}
+use Rattle.walcore.proofs.Opened.{header_refused, same_error, without_memory, unrecovered, unbegun, begun_here, opened_here}
 use Rattle.walcore.proofs.Agreed.{agrees_then, header_alone}
 use Rattle.walcore.proofs.opening.open_core.Goals as goal
 
@@ -59,6 +60,12 @@ returns-clause-agrees g c = λ word.
     agrees_then c.args.page_size (g.D.Disk.state c.args.disk.now) (g.D.Disk.state c.recover.new.disk) (g.D.Disk.state c.begin_log.new.disk) (c.recover.ensures.agrees word sound)
     (λ d alone. header_alone c.args.page_size d c.new_log-log.result.bytes c.new_log-log.ensures.begun.alone (g.D.Disk.state c.recover.new.disk) (c.recover.ensures.later word sound).sound (c.in_ok-pages.ensures.empty word sound) alone
     c.begin_log.result (g.D.Disk.state c.begin_log.new.disk) (c.begin_log.ensures.state (c.recover.ensures.word.0 word)))
+
+pub returns-in_err-pages-clause-refuses : goal.returns-in_err-pages-clause-refuses
+returns-in_err-pages-clause-refuses g c = λ word found are.
+    let suits = c.in_ok-judge_sector.ensures.suits word in
+    if_err c.from_residual-in_err-pages.result _ (λ e. OpenRefused c.args.page_size found.db found.log e (g.D.Disk.state c.args.disk.now) (g.D.Disk.state c.recover.new.disk))
+    (passed c.from_residual-in_err-pages.result _ c.from_residual-in_err-pages.ensures.1) (c.in_err-pages.ensures.refuses word suits.sound suits.whole found are)
 
 pub returns-in_err-begin_log-clause-refuses : goal.returns-in_err-begin_log-clause-refuses
 returns-in_err-begin_log-clause-refuses g c = λ word found are.

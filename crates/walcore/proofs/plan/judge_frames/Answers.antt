@@ -1,9 +1,7 @@
-use Rattle.std.proofs.Common.{◌≡◌, ◌≤◌, ◌<◌, ◌*◌, ◌∙◌, sym, true, false, arith}
-use Rattle.walcore.proofs.Judging.{judged_many, judged_large, judged_other, judged}
+use Rattle.std.proofs.Common.{◌≡◌, ◌≤◌, ◌<◌, ◌*◌, ◌∙◌, sym, arith}
+use Rattle.sqwal.proofs.ScanAnswers.{few_frames}
+use Rattle.walcore.proofs.Judging.{judged_large, judged_other, judged}
 use Rattle.walcore.proofs.plan.judge_frames.Goals as goal
-
-pub returns-then-has_too_many : goal.returns-then-has_too_many
-returns-then-has_too_many c = λ w took header. judged_many c.args.page_size c.args.named w header ((c.has_too_many.ensures w took).0 c.if-has_too_many.true)
 
 pub returns-then-from-gt-MOST_BYTES : goal.returns-then-from-gt-MOST_BYTES
 returns-then-from-gt-MOST_BYTES c = λ w took header.
@@ -16,7 +14,7 @@ returns-then-get c = λ w took header.
     let same : c.from.result * c.from-2.result ≡ c.committed-front.result.size * c.args.named = cc in
     let less : c.committed-front.result.size * c.args.named ≤ 1073741824 = omega (arith, c.if-from-gt-MOST_BYTES.false) in
     judged_other c.args.page_size c.args.named w header c.committed-front.result (c.committed-front.ensures w took)
-    (λ v. let f : false ≡ true = sym c.if-has_too_many.false ∙ (c.has_too_many.ensures w took).1 v in cc) less
+    (few_frames w c.args.scan.now took) less
     (λ e. c.if-get.true (c.get-2.ensures.value ∙ e ∙ sym c.get-3.ensures.value))
 
 pub returns : goal.returns
@@ -24,5 +22,5 @@ returns c = λ w took header.
     let same : c.from.result * c.from-2.result ≡ c.committed-front.result.size * c.args.named = cc in
     let less : c.committed-front.result.size * c.args.named ≤ 1073741824 = omega (arith, c.if-from-gt-MOST_BYTES.false) in
     judged c.args.page_size c.args.named w header c.committed-front.result (c.committed-front.ensures w took)
-    (λ v. let f : false ≡ true = sym c.if-has_too_many.false ∙ (c.has_too_many.ensures w took).1 v in cc) less
+    (few_frames w c.args.scan.now took) less
     (sym c.get-2.ensures.value ∙ c.if-get.false ∙ c.get-3.ensures.value)

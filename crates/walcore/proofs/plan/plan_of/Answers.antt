@@ -1,5 +1,6 @@
 use Rattle.std.proofs.Common.{◌≤◌, ◌∙◌, refl, arith}
-use Rattle.walcore.proofs.Stills.{passed, no_memory}
+use Rattle.walcore.proofs.Stills.{no_memory}
+use Rattle.sqval.proofs.Answering.{passed}
 use Rattle.walcore.proofs.Judging.{plan_none, plan_some, plan_refused, plan_memory, page_most}
 use Rattle.walcore.proofs.plan.plan_of.Goals as goal
 

@@ -1,6 +1,6 @@
 use Rattle.std.proofs.Common.{ap, ◌∙◌}
 use Rattle.std.specs.Prelude.{Ok}
-use Rattle.walcore.proofs.Stills.{passed}
+use Rattle.sqval.proofs.Answering.{passed}
 use Rattle.walcore.proofs.Judging.{plan_bare, read_planned, read_scan, read_some, read_none}
 use Rattle.walcore.proofs.plan.read_plan.Goals as goal
 

@@ -1,6 +1,6 @@
 use Rattle.std.proofs.Common.{◌+◌, take, length}
 use Rattle.walcore.specs.declared.error.WalError.TheVariants.{Device}
-use Rattle.walcore.proofs.Stills.{passed}
+use Rattle.sqval.proofs.Answering.{passed}
 use Rattle.walcore.proofs.Scans.{fed, not_fed, scan_refusal}
 use Rattle.walcore.proofs.reading.feed_piece.Goals as goal
 
@@ -10,7 +10,7 @@ returns-in_err-read_at-clause-took g c = λ word sound w are fits took.
 
 pub returns-in-Ok-clause-took : goal.returns-in-Ok-clause-took
 returns-in-Ok-clause-took g c = λ word sound w are fits took.
-    fed w (g.D.Disk.state c.args.disk.now).log c.args.at c.args.piece.now c.read_at.new.out c.read_at.auto.out are fits (c.in_ok-read_at.ensures.bytes word) c.feed.new.self _ _ (c.in-Ok.ensures (take c.args.at w) took)
+    fed w (g.D.Disk.state c.args.disk.now).log c.args.at c.args.piece.now c.read_at.new.out c.read_at.auto.out are fits (c.in_ok-read_at.ensures.bytes word) c.feed.new.self _ _ (c.in-Ok.ensures (take c.args.at w) took).0
 
 pub returns-in-Err-clause-took : goal.returns-in-Err-clause-took
 returns-in-Err-clause-took g c = λ word sound w are fits took.

@@ -1,5 +1,6 @@
 use Rattle.std.proofs.Common.{◌∙◌}
-use Rattle.walcore.proofs.Stills.{passed, no_memory}
+use Rattle.walcore.proofs.Stills.{no_memory}
+use Rattle.sqval.proofs.Answering.{passed}
 use Rattle.walcore.proofs.Scans.{scan_some, scan_none, scan_after, scan_memory}
 use Rattle.walcore.proofs.reading.scan_log.Goals as goal
 

@@ -4,7 +4,8 @@ use Rattle.std.proofs.lemmas.List.{length-take-le}
 use Rattle.sqwal.specs.Took.{Took}
 use Rattle.walcore.specs.Steps.{PieceAnswer}
 use Rattle.walcore.specs.declared.error.WalError.{WalError}
-use Rattle.walcore.proofs.Stills.{still, still_then, still_sound, present_in, passed}
+use Rattle.sqval.proofs.Answering.{passed}
+use Rattle.crashdisk.proofs.Stills.{still, still_then, still_sound, present_in}
 use Rattle.walcore.proofs.Scans.{piece_after, piece_none, piece_some, piece_done}
 use Rattle.walcore.proofs.reading.scan_pieces.Goals as goal
 

@@ -1,7 +1,7 @@
-use Rattle.std.proofs.Common.{◌-◌, ◌≡◌, ◌↔◌, ◌≤◌, ℕ, List, [], length, take}
+use Rattle.std.proofs.Common.{◌-◌, ◌≡◌, ◌↔◌, ◌≤◌, ℕ, List, length, take, []}
 use Rattle.crashdisk.specs.Call.{IsSoundDisk, ArePresent}
 use Rattle.sqwal.specs.Took.{Took}
-use Rattle.walcore.specs.Steps.{Still}
+use Rattle.crashdisk.specs.Keeps.{Still}
 use Rattle.walcore.proofs.reading.scan_pieces.Given as goal
 
 abbrev pub invariant-loop-at : goal.invariant-loop-at

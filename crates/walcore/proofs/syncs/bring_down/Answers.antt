@@ -2,7 +2,7 @@ use Rattle.std.proofs.Common.{Bool, refl, sym, ◌∙◌, subst}
 use Rattle.std.specs.Prelude.{Result}
 use Rattle.walcore.specs.Syncing.{SyncsBehind, DownBy}
 use Rattle.walcore.specs.declared.error.WalError.{WalError}
-use Rattle.walcore.proofs.Stills.{passed}
+use Rattle.sqval.proofs.Answering.{passed}
 use Rattle.walcore.proofs.syncs.bring_down.Goals as goal
 
 pub returns-in_err-copy_frame-clause-down : goal.returns-in_err-copy_frame-clause-down

@@ -1,7 +1,7 @@
 use Rattle.std.proofs.Common.{◌≡◌, List, ℕ, length, drop, refl, ◌∙◌, ap, arith, length-drop}
 use Rattle.std.proofs.lemmas.List.{take_at}
 use Rattle.walcore.specs.declared.error.WalError.TheVariants.{Device}
-use Rattle.walcore.proofs.Stills.{passed}
+use Rattle.sqval.proofs.Answering.{passed}
 use Rattle.walcore.proofs.Going.{frame_failed, frame_put}
 use Rattle.walcore.proofs.LastFrame.{copied_known, copied_refused, read_done, read_refused}
 use Rattle.walcore.proofs.syncs.copy_frame.Goals as goal

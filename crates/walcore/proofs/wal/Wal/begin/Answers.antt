@@ -1,5 +1,5 @@
 use Rattle.std.proofs.Common.{refl}
-use Rattle.walcore.proofs.Stills.{still}
+use Rattle.crashdisk.proofs.Stills.{still}
 use Rattle.walcore.proofs.Joining.{begin_done, begin_memory}
 use Rattle.walcore.proofs.wal.Wal.begin.Goals as goal
 

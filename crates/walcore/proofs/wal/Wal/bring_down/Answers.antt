@@ -1,7 +1,7 @@
 use Rattle.std.proofs.Common.{ℕ, List, refl, subst, arith}
 use Rattle.walcore.specs.Bringing.{IsLeast}
 use Rattle.walcore.proofs.Judging.{page_most}
-use Rattle.walcore.proofs.Stills.{passed}
+use Rattle.sqval.proofs.Answering.{passed}
 use Rattle.walcore.proofs.Draining.{down_refused, down_done, page_room}
 use Rattle.walcore.proofs.wal.Wal.bring_down.Goals as goal
 

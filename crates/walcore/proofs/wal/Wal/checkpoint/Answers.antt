@@ -1,4 +1,4 @@
-use Rattle.walcore.proofs.Stills.{passed}
+use Rattle.sqval.proofs.Answering.{passed}
 use Rattle.walcore.proofs.Draining.{checkpoint_unsynced, between, fits_between, open_between, none_between, checkpoint_steps, checkpoint_leaves}
 use Rattle.std.proofs.Common.{refl}
 use Rattle.walcore.proofs.wal.Wal.checkpoint.Goals as goal

@@ -1,5 +1,5 @@
 use Rattle.std.proofs.Common.{refl}
-use Rattle.walcore.proofs.Stills.{still}
+use Rattle.crashdisk.proofs.Stills.{still}
 use Rattle.walcore.proofs.Readers.{mark_there}
 use Rattle.walcore.proofs.Joining.{end_done}
 use Rattle.walcore.proofs.wal.Wal.end.Goals as goal

@@ -1,5 +1,6 @@
 use Rattle.std.proofs.Common.{◌+◌, ◌*◌, ℕ, length, refl, ap, arith}
-use Rattle.walcore.proofs.Stills.{passed, still}
+use Rattle.sqval.proofs.Answering.{passed}
+use Rattle.crashdisk.proofs.Stills.{still}
 use Rattle.walcore.proofs.Fitting.{same_core}
 use Rattle.walcore.proofs.Viewing.{read_judged, read_refused, read_long, read_from_file, read_from_log}
 use Rattle.walcore.proofs.wal.Wal.read.Goals as goal

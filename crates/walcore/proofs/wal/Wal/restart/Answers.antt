@@ -1,4 +1,4 @@
-use Rattle.walcore.proofs.Stills.{passed}
+use Rattle.sqval.proofs.Answering.{passed}
 use Rattle.walcore.proofs.Restarted.{restart_refused, restart_taken}
 use Rattle.walcore.proofs.wal.Wal.restart.Goals as goal
 
