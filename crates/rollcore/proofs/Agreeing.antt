@@ -19,18 +19,21 @@ use Rattle.crashdisk.proofs.Images.{table}
 use Rattle.crashdisk.proofs.Fixed.{image_present}
 use Rattle.crashdisk.proofs.Steps.{present_list, settled_sync, image_elsewhere}
 use Rattle.rollcore.specs.Alone.{Show, ShowsAlone}
-use Rattle.rollcore.specs.Replaying.{IsLogDown, Agrees}
-use Rattle.rollcore.specs.Steps.{torn_sector, Still, PutsRecord, RecordAnswer, EntryStep, EntryAnswer, ArePages, Told, SyncStep, ZeroSteps}
+use Rattle.rollcore.specs.Replaying.{Agrees}
+use Rattle.crashdisk.specs.Keeps.{IsLogDown, Still, Told, SyncStep}
+use Rattle.rollcore.specs.Steps.{torn_sector, PutsRecord, RecordAnswer, EntryStep, EntryAnswer, ArePages, ZeroSteps}
 use Rattle.rollcore.specs.Phases.{Unnamed, Scanning, Writing, Filed}
 use Rattle.rollcore.specs.Plans.{IsFit}
 use Rattle.rollcore.specs.declared.error.RollError.{RollError}
-use Rattle.rollcore.proofs.Stills.{still_sound, present_in}
-use Rattle.rollcore.proofs.Suiting.{suits_by}
-use Rattle.rollcore.proofs.Down.{down_by, down_one, down_left, down_present, down_present_one, down_syncs}
+use Rattle.crashdisk.proofs.Stills.{still_sound, present_in}
+use Rattle.crashdisk.proofs.Suiting.{suits_by}
+use Rattle.rollcore.proofs.Down.{down_left}
+use Rattle.crashdisk.proofs.Down.{down_by, down_one, down_present, down_present_one, down_syncs}
 use Rattle.rollcore.proofs.Copies.{part_long}
 use Rattle.rollcore.proofs.Records.{entries_of, records_are, entry_is, entry_named, entry_within}
 use Rattle.rollcore.proofs.Writing.{writing_by, writing_begins, writing_writes, writing_syncs, writing_shows, pages_file, filed_written}
 use Rattle.rollcore.proofs.Zeroing.{zeroing_writes, zeroing_syncs, zeroing_shows}
+use Rattle.rollcore.specs.declared.error.RollError.TheVariants.{Device}
 
 -- ---- Before anything is written.
 
@@ -75,7 +78,7 @@ fit_begins size d w s sound sectors fit is =
     let named : (n : ℕ) → torn_sector s ≤ n → s.tears ≡ true → s.sector ≤ n = λ n le torn. subst (λ (b : Bool). cond b s.sector 0 ≤ n) torn le in
     let here = (is.images (table s.db.len (byte s.db)) (image_present s.sector s.tears s.db sound.db)).hot fit.hot in
     writing_begins size w d s
-    (record { sound = sound; sectors = sectors; pages = subst IsPageSize (sym here.0) fit.hot.first.size; whole = λ torn. subst (λ (n : ℕ). s.sector ≤ n) (sym here.0) (named (word w 24) fit.page torn) })
+    (record { sound = sound; sectors = sectors; pages = subst IsPageSize (sym here.0) fit.hot.first.size; whole = λ tears_pages. let le : s.sector ≤ size = subst (λ (n : ℕ). s.sector ≤ n) (sym here.0) (named (word w 24) fit.page tears_pages.0) in omega (arith, tears_pages.1) })
     (named (word w 20) fit.sector) is fit.hot
 
 module _ (size : ℕ) (w : List ℕ) (d : Database) where
@@ -123,15 +126,15 @@ module _ (size : ℕ) (w : List ℕ) (d : Database) where
   -- ---- The end.
 
   -- the file is synced, or not
-  pub synced_shows : {T : Type 0} (result : Result T RollError) (old new : DiskState) → Writing size w d old → SyncStep Db result old new → ShowsAlone size d new
+  pub synced_shows : {T : Type 0} (result : Result T RollError) (old new : DiskState) → Writing size w d old → SyncStep Device Db result old new → ShowsAlone size d new
   synced_shows result old new is step = writing_shows size w d new (writing_syncs size w d Db step.0 old new is step.2)
 
-  filed_by : {T : Type 0} (v : T) (called : Result T DiskError) (old new : DiskState) (bytes : List ℕ) → Writing size w d old → ArePages size d old.db → ArePresent old.db bytes → Told called (Ok v) → Syncs Db called old new → Filed size d w new
+  filed_by : {T : Type 0} (v : T) (called : Result T DiskError) (old new : DiskState) (bytes : List ℕ) → Writing size w d old → ArePages size d old.db → ArePresent old.db bytes → Told Device called (Ok v) → Syncs Db called old new → Filed size d w new
   filed_by v (Ok x) old new bytes is pages are told synced = filed_written size w d new bytes (writing_syncs size w d Db (Ok x) old new is synced) (settled_sync Db old new bytes is.suits.sound.db synced are) (pages_file size w d old bytes is pages are)
   filed_by v (Err e) old new bytes is pages are told synced = absurd told
 
   -- all pages are there, and then down
-  pub synced_filed : {T : Type 0} (u : T) (old new : DiskState) → Writing size w d old → ArePages size d old.db → SyncStep {T = T} Db (Ok u) old new → Filed size d w new
+  pub synced_filed : {T : Type 0} (u : T) (old new : DiskState) → Writing size w d old → ArePages size d old.db → SyncStep {T = T} Device Db (Ok u) old new → Filed size d w new
   synced_filed u old new is pages step = filed_by u step.0 old new (table old.db.len (byte old.db)) is pages (present_list old.db) step.1 step.2
 
   zero_at : (i : ℕ) → ◌≡◌ {A = ℕ} (get_or (replicate 28 0) i 0) 0

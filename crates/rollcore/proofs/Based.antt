@@ -1,9 +1,9 @@
 -- A disk that is new with a base fits the machine's beginning.
-use Rattle.std.proofs.Common.{◌≡◌, ℕ, zero, suc, ◌*◌, ◌<◌, ◌≤◌, Bool, true, List, [], ◌∷◌, length, get_or, refl, sym, ◌∙◌, subst, arith}
+use Rattle.std.proofs.Common.{◌≡◌, ℕ, zero, suc, ◌<◌, ◌≤◌, Bool, true, List, [], ◌∷◌, get_or, refl, sym, ◌∙◌, subst, arith}
 use Rattle.sqval.specs.PageSize.{IsPageSize}
 use Rattle.sqval.specs.Database.{Database}
 use Rattle.sqval.specs.Held.{IsJust, IsHeld}
-use Rattle.crashdisk.specs.State.{IsImage, IsSectorSize}
+use Rattle.crashdisk.specs.State.{IsSectorSize}
 use Rattle.crashdisk.specs.Call.{DiskState, IsNew}
 use Rattle.crashdisk.proofs.Keeping.{sound_new}
 use Rattle.crashdisk.proofs.Settled.{settled_one}
@@ -23,7 +23,7 @@ base_fits size sector torn base bytes s pages sectors whole held just is = fits_
       sound = sound_new sector torn bytes s (omega (arith, just.long, held.few)) is;
       sectors = subst IsSectorSize (sym is.sector) sectors;
       pages = pages;
-      whole = λ tears. subst (λ (n : ℕ). n ≤ size) (sym is.sector) (whole (sym is.tears ∙ tears));
+      whole = λ tears_pages. let le : sector ≤ size = whole (sym is.tears ∙ tears_pages.0) in omega (arith, le, tears_pages.1, is.sector);
     })
     refl
     (held_at size base held)

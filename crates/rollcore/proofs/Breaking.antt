@@ -1,5 +1,5 @@
 -- The first byte of a magic is made a zero at the front of a log that isn't hot: no log that may be read is.
-use Rattle.std.proofs.Common.{◌≡◌, inl, inr, ⊎_elim, ℕ, ◌+◌, ◌/◌, ◌<◌, ◌≤◌, max, Bool, true, false, List, [], ◌∷◌, ◌++◌, length, get_or, take, drop, sym, ◌∙◌, ap, subst, arith, length-drop, length-take}
+use Rattle.std.proofs.Common.{◌≡◌, inl, inr, ⊎_elim, ℕ, ◌+◌, ◌/◌, ◌<◌, ◌≤◌, max, Bool, true, false, List, ◌∷◌, ◌++◌, length, get_or, take, drop, sym, ◌∙◌, ap, subst, arith, length-drop, length-take, []}
 use Rattle.std.specs.Prelude.{Result, Ok, Err}
 use Rattle.std.specs.List.{Contains}
 use Rattle.std.proofs.lemmas.List.{get_or-take, ext_get_or}
@@ -21,20 +21,21 @@ use Rattle.crashdisk.proofs.Images.{table}
 use Rattle.crashdisk.proofs.Sound.{written_inside}
 use Rattle.crashdisk.proofs.Steps.{present_list, present_written}
 use Rattle.rollcore.specs.Alone.{AreWhole, Show, ShowsAlone}
-use Rattle.rollcore.specs.Replaying.{IsLogDown}
+use Rattle.crashdisk.specs.Keeps.{IsLogDown, Still, SyncStep}
 use Rattle.rollcore.specs.Lengths.{ShowsOne}
 use Rattle.rollcore.specs.Commits.{Goes}
-use Rattle.rollcore.specs.Steps.{Still, SyncStep}
 use Rattle.rollcore.specs.Opening.{PutsZero, BreakSteps, AreCold, FrontAnswer}
 use Rattle.rollcore.specs.declared.error.RollError.{RollError}
 use Rattle.rollcore.proofs.Journals.{zeros_cold, part_same, word_same}
-use Rattle.rollcore.proofs.Stills.{still_sound, refusal_after}
-use Rattle.rollcore.proofs.Down.{shows_by, down_by, down_left, down_present}
-use Rattle.rollcore.proofs.Copies.{present_byte}
-use Rattle.rollcore.proofs.Ending.{sync_refused, sync_down}
+use Rattle.crashdisk.proofs.Stills.{still_sound, refusal_after}
+use Rattle.rollcore.proofs.Down.{shows_by, down_left}
+use Rattle.crashdisk.proofs.Down.{down_by, down_present, present_byte}
+use Rattle.rollcore.proofs.Ending.{sync_down}
+use Rattle.crashdisk.proofs.Later.{sync_refused}
 use Rattle.rollcore.proofs.Going.{goes_writes, goes_broken}
 use Rattle.rollcore.proofs.Lengths.{down_read, may_down}
 use Rattle.rollcore.proofs.Narrowing.{read_cases, narrows_syncs}
+use Rattle.rollcore.specs.declared.error.RollError.TheVariants.{Device}
 
 -- a log with a magic at its front has eight bytes
 pub magic_long : (w : List ℕ) → HasMagic w 0 → 8 ≤ length w
@@ -203,12 +204,12 @@ module _ (w : List ℕ) (a b : DiskState) (sound : IsSoundDisk a) (sectors : IsS
     goes : Goes a b
     goes = goes_broken 0 r a b sound steps
 
-    synced_cold : {T : Type 0} (q : Result T RollError) → SyncStep Log q b c → AreCold c
+    synced_cold : {T : Type 0} (q : Result T RollError) → SyncStep Device Log q b c → AreCold c
     synced_cold q step v may hot = puts_cold (Ok tt) puts v ((narrows_syncs Log step.0 b c goes.sound step.2).log v may) hot
 
-    pub front_unsynced : {T U : Type 0} (e : RollError) (q : Result T RollError) (x : Result U RollError) → q ≡ Err e → SyncStep Log q b c → x ≡ Err e → FrontAnswer x a c
+    pub front_unsynced : {T U : Type 0} (e : RollError) (q : Result T RollError) (x : Result U RollError) → q ≡ Err e → SyncStep Device Log q b c → x ≡ Err e → FrontAnswer x a c
     front_unsynced {U = U} e q x is step given =
-        let refused = sync_refused Log q e b c goes.sound is step in
+        let refused = sync_refused Device Log q e b c goes.sound is step in
         subst (λ (y : Result U RollError). FrontAnswer y a c) (sym given) (record { cold = synced_cold q step; done = tt; refused = (refused.0, refusal_after a b c goes.refused refused.1) })
 
     there : List ℕ
@@ -221,7 +222,7 @@ module _ (w : List ℕ) (a b : DiskState) (sound : IsSoundDisk a) (sectors : IsS
     there_zero : get_or there 0 0 ≡ 0
     there_zero = present_byte b.log there there_are 0 ∙ present_written Log 0 (0 ∷ []) puts.mid b puts.wrote 0 ∙ written_inside puts.mid.log 0 (0 ∷ []) 0 (omega arith) (omega arith)
 
-    pub front_synced : {T : Type 0} (v : T) (q : Result T RollError) → q ≡ Ok v → SyncStep Log q b c → FrontAnswer {T = Unit {0}} (Ok tt) a c
+    pub front_synced : {T : Type 0} (v : T) (q : Result T RollError) → q ≡ Ok v → SyncStep Device Log q b c → FrontAnswer {T = Unit {0}} (Ok tt) a c
     front_synced v q is step = record {
       cold = synced_cold q step;
       done = (there, sync_down q v there b c goes.sound is step there_are, zero_gate there there_zero);

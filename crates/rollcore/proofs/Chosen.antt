@@ -1,21 +1,10 @@
 -- What a step may answer, and that it leads to one state alone.
-use Rattle.std.proofs.Common.{◌≡◌, ◌⊎◌, inl, inr, ℕ, Bool, true, false, IsTrue, List, Option, Some, None, refl, sym, ◌∙◌, ap}
+use Rattle.std.proofs.Common.{inl, inr, ℕ, true, false, List, refl, ◌∙◌, ap}
 use Rattle.sqval.specs.Database.{Pages, page}
-use Rattle.sqval.specs.Answers.{Files, Answer, Done, Page, Refused, Refuses, PlainStep}
+use Rattle.sqval.specs.Answers.{Files, Answer, Done, Page, Refused, PlainStep, told}
 use Rattle.rollcore.specs.Machine.{Act, Opens, Commits, Reads, Crashes, Sets, State, newest, closed, appended, commit_refusal, read_refusal, OpenStep, CommitStep, ReadStep, Step}
-use Rattle.rollcore.specs.Laws.{told, is_accepted, IsShort, IsExpected}
-
-abbrev IsOf : Answer → (takes_memory needs_disk : Bool) → Answer → (before after : ℕ) → Type 0
-IsOf wanted m d answer b a = (answer ≡ wanted) ⊎ (IsTrue (is_accepted wanted) × IsShort m d answer b a)
-
-refused_of : {S : Type 0} (first : Option ℕ) (good : Answer) (m : Bool) (failed : S) (b a : ℕ) (old : S) (n : ℕ) (t : S) → IsTrue (is_accepted good)
-    → Refuses first m failed b a old n t → IsOf (told first good) m true (Refused n) b a
-refused_of (Some k) good m failed b a old n t is h = inl (ap Refused h.0)
-refused_of None good m failed b a old n t is (inl h) = inr (is, inl (h.0, ap Refused h.1))
-refused_of None good m failed b a old n t is (inr h) = inr (is, inr (refl, ap Refused h.0, h.1))
-
-accepted : (first : Option ℕ) (good : Answer) → first ≡ None → good ≡ told first good
-accepted first good e = sym (ap (λ f. told f good) e)
+use Rattle.rollcore.specs.Laws.{IsExpected}
+use Rattle.sqval.proofs.Answering.{IsOf, refused_of, accepted}
 
 open_of : (s : State) (found : Files) (answer : Answer) (b a : ℕ) (t : State) → OpenStep s found answer b a t → IsOf Done true true answer b a
 open_of s found Done b a t h = inl refl

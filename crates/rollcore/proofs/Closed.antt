@@ -1,6 +1,6 @@
 -- A commit whose pages are all in the file: it comes down, and the journal ends.
 use Rattle.std.proofs.Common.{◌≡◌, ◌⊎◌, inl, ⊎_elim, ℕ, ◌*◌, ◌<◌, ◌≤◌, List, ◌++◌, length, replicate, refl, sym, ◌∙◌, ap, subst, arith}
-use Rattle.std.specs.Prelude.{Result, Ok, Err, None}
+use Rattle.std.specs.Prelude.{Result, Ok, Err, None, OnOk}
 use Rattle.std.proofs.lemmas.List.{length-map, get_or-map}
 use Rattle.sqval.specs.Database.{Database, Pages, apply}
 use Rattle.sqval.specs.Held.{IsJust, IsHeld}
@@ -17,21 +17,25 @@ use Rattle.rollcore.specs.Commits.{change_at, AreChanges, PutAnswer}
 use Rattle.rollcore.specs.Journaling.{IsJournaled}
 use Rattle.rollcore.specs.Machine.{refusal_of}
 use Rattle.rollcore.specs.Segments.{IsAt, Harmless, Journaled, ArePut, AreOf, AreSome, pages_of, new_numbers}
-use Rattle.rollcore.specs.Steps.{ArePages, SyncStep, ZeroSteps}
+use Rattle.rollcore.specs.Replaying.{zeroed}
+use Rattle.crashdisk.specs.Keeps.{IsLogDown, SyncStep}
+use Rattle.rollcore.specs.Steps.{ArePages, ZeroSteps, EndAnswer}
 use Rattle.rollcore.specs.declared.changes.Change.{Change}
 use Rattle.rollcore.specs.declared.error.RollError.{RollError}
 use Rattle.rollcore.specs.declared.error.RollError.TheVariants.{Device}
 use Rattle.rollcore.proofs.Closing.{closing_left, closing_down, closing_shows, closing_sectors}
-use Rattle.rollcore.proofs.Down.{down_syncs}
-use Rattle.rollcore.proofs.Ending.{told_ok, sync_refused, zero_refused, none_ok}
+use Rattle.crashdisk.proofs.Down.{down_syncs, down_present}
+use Rattle.rollcore.proofs.Ending.{zero_refused}
+use Rattle.crashdisk.proofs.Later.{told_ok, sync_refused, none_ok}
 use Rattle.rollcore.proofs.Granting.{granted}
 use Rattle.rollcore.proofs.Heading.{read_syncs}
 use Rattle.rollcore.proofs.Present.{pages_after, just_after, of_by, cut_by, each_page}
 use Rattle.rollcore.proofs.Putting.{journaled_cuts, journaled_unharmed}
-use Rattle.rollcore.proofs.Scans.{had_refusal}
-use Rattle.rollcore.proofs.Stills.{refusal_after}
-use Rattle.rollcore.proofs.Suiting.{suits_writes, suits_syncs}
-use Rattle.rollcore.proofs.Unharmed.{at_by}
+use Rattle.crashdisk.proofs.Stills.{had_refusal, refusal_after}
+use Rattle.crashdisk.proofs.Suiting.{suits_writes, suits_syncs}
+use Rattle.rollcore.proofs.Unharmed.{at_by, sectors_of}
+use Rattle.rollcore.proofs.Journals.{hot_long}
+use Rattle.rollcore.proofs.Restoring.{journaled_hot}
 
 -- a refusal that leaves the database from before the commit
 pub put_harmless : (T : Type 0) (size : ℕ) (d e : Database) (error : RollError) (old new : DiskState) → Harmless size d error old new → PutAnswer {T = T} size d e (Err error) old new
@@ -55,6 +59,14 @@ module _ (size sector : ℕ) (d : Database) (named : List ℕ) (place : ℕ) (w 
     is = is.is;
   }
 
+  -- what is down once it is zeroed
+  pub ends_log : {T : Type 0} (r : Result T RollError) (old new : DiskState) → EndAnswer r old new → Journaled size sector d named place w old → OnOk r (IsLogDown new (zeroed w))
+  unfolding EndAnswer
+  ends_log (Ok v) old new ends is =
+      let hot : IsHot w = journaled_hot size sector d (sectors_of size sector d named place old is.at) is.at.suits.pages named place w is.is begun in
+      ends.1 w (down_present w old is.down) (omega (arith, hot_long w hot))
+  ends_log (Err e) old new ends is = tt
+
   -- what is left while the header is zeroed
   abbrev Left : DiskState → Type 0
   Left s = (v : List ℕ) → MayBeRead s v → IsJournaled size sector d named place v ⊎ (IsHot v → ⊥)
@@ -72,9 +84,9 @@ module _ (size sector : ℕ) (d : Database) (named : List ℕ) (place : ℕ) (w 
   at_sync called b c at synced = at_by size sector d named place b c at (suits_syncs size Log called b c at.suits synced) synced.elsewhere.sector synced.elsewhere.tears synced.elsewhere.other
 
   module _ {T : Type 0} (e : Database) where
-    pub synced_failed : (r q : Result T RollError) (error : RollError) (old new : DiskState) → Journaled size sector d named place w old → r ≡ Err error → q ≡ Err error → SyncStep Db r old new → PutAnswer size d e q old new
+    pub synced_failed : (r q : Result T RollError) (error : RollError) (old new : DiskState) → Journaled size sector d named place w old → r ≡ Err error → q ≡ Err error → SyncStep Device Db r old new → PutAnswer size d e q old new
     synced_failed r q error old new is was passes step =
-        let had = sync_refused Db r error old new is.at.suits.sound was step in
+        let had = sync_refused Device Db r error old new is.at.suits.sound was step in
         subst (λ (x : Result T RollError). PutAnswer size d e x old new) (sym passes) (put_harmless T size d e error old new (record {
           device = had.0;
           refusal = had.1;
@@ -92,10 +104,10 @@ module _ (size sector : ℕ) (d : Database) (named : List ℕ) (place : ℕ) (w 
         ))
         steps
 
-    module _ (first : Result T RollError) (done : T) (a b c : DiskState) (was : Journaled size sector d named place w a) (pages : ArePages size e a.db) (held : IsHeld size e) (first_ok : first ≡ Ok done) (synced : SyncStep Db first a b) where
+    module _ (first : Result T RollError) (done : T) (a b c : DiskState) (was : Journaled size sector d named place w a) (pages : ArePages size e a.db) (held : IsHeld size e) (first_ok : first ≡ Ok done) (synced : SyncStep Device Db first a b) where
       settled : (bytes : List ℕ) × IsSettled b.db bytes × IsJust size e bytes
       settled =
-          let t = told_ok synced.0 first done first_ok synced.1 in
+          let t = told_ok Device synced.0 first done first_ok synced.1 in
           just_after {u = t.0} size e a b pages held (subst (λ (x : Result T DiskError). Syncs Db x a b) t.1 synced.2) was.at.suits.sound
 
       is : Journaled size sector d named place w b
@@ -115,9 +127,9 @@ module _ (size sector : ℕ) (d : Database) (named : List ℕ) (place : ℕ) (w 
 
       pub zero_closed : (r : Result T RollError) (v x : T) → r ≡ Ok v → ZeroSteps r b c → PutAnswer {T = T} size d e (Ok x) a c
       zero_closed r v x r_is steps = ⊎_elim
-          (λ failed. absurd (none_ok failed.0 r v failed.1 r_is failed.2))
+          (λ failed. absurd (none_ok Device failed.0 r v failed.1 r_is failed.2))
           (λ all.
-          let t = told_ok all.2.0 r v r_is all.2.1 in
+          let t = told_ok Device all.2.0 r v r_is all.2.1 in
           closing_down size sector d named place w begun b c is e all.0 settled.0 all.1.1 (subst (λ (x : Result T DiskError). Syncs Log x all.0 c) t.1 all.2.2) settled.1 settled.2)
           steps
 

@@ -1,7 +1,7 @@
 -- The end of a commit: zeros are written over the journal's first header, and come down.
-use Rattle.std.proofs.Common.{◌≡◌, ◌⊎◌, inl, inr, ⊎_elim, ℕ, ◌+◌, ◌<◌, ◌≤◌, max, Bool, true, false, List, [], ◌∷◌, ◌++◌, length, get_or, replicate, refl, sym, ◌∙◌, ap, subst, arith}
+use Rattle.std.proofs.Common.{◌≡◌, ◌⊎◌, inl, inr, ⊎_elim, ℕ, ◌+◌, ◌<◌, ◌≤◌, max, Bool, true, false, List, ◌∷◌, ◌++◌, length, get_or, replicate, refl, sym, ◌∙◌, ap, subst, arith, []}
 use Rattle.std.specs.Prelude.{Result, Ok, Err}
-use Rattle.std.proofs.lemmas.Bool.{cases_lt}
+use Rattle.std.proofs.lemmas.Bool.{cases_lt, cases_Bool}
 use Rattle.std.proofs.lemmas.List.{get_or-replicate, get_or_past, length-replicate}
 use Rattle.sqval.specs.Bytes.{word}
 use Rattle.sqval.specs.PageSize.{IsPageSize}
@@ -21,11 +21,11 @@ use Rattle.rollcore.specs.Replaying.{zeroed}
 use Rattle.rollcore.specs.Journaling.{IsJournaled}
 use Rattle.rollcore.specs.Segments.{IsAt, Journaled}
 use Rattle.rollcore.proofs.Journals.{hot_long}
-use Rattle.rollcore.proofs.Pages.{sector_some, file_count}
-use Rattle.rollcore.proofs.Suiting.{suits_writes}
-use Rattle.rollcore.proofs.Down.{down_present}
+use Rattle.crashdisk.proofs.Pages.{sector_some}
+use Rattle.sqval.proofs.FilePages.{file_count}
+use Rattle.crashdisk.proofs.Suiting.{suits_writes}
+use Rattle.crashdisk.proofs.Down.{down_present}
 use Rattle.rollcore.proofs.Zeros.{zeroed_listed, zeroed_torn}
-use Rattle.rollcore.proofs.Zeroing.{tears_or}
 use Rattle.rollcore.proofs.Ending.{zero_done}
 use Rattle.rollcore.proofs.Unharmed.{sectors_of, has_others}
 use Rattle.rollcore.proofs.Headed.{hot_or, journaled_front}
@@ -110,7 +110,7 @@ module _ (size sector : ℕ) (d : Database) (named : List ℕ) (place : ℕ) (w 
             torn_by called was after wrote.file wrote.kept (subst (λ (t : Bool). new.handed ≡ with_write t Log called 0 (replicate 28 0) old.handed) was wrote.handed) v
             (subst (λ (n : ℕ). IsImage n true new.log v) wrote.elsewhere.sector (subst (λ (t : Bool). IsImage new.sector t new.log v) torn left.image)) (left.whole torn))
             (λ firm. listed_by called after wrote.file v (subst (λ (n : ℕ). IsImage n false new.log v) wrote.elsewhere.sector (subst (λ (t : Bool). IsImage new.sector t new.log v) firm left.image)))
-            (tears_or new.tears)
+            (cases_Bool new.tears)
 
     -- both are down
     pub closing_down : {T : Type 0} {u x : T} (e : Database) (mid : DiskState) (db : List ℕ) → Writes Log 0 (replicate 28 0) (Ok u) old mid → Syncs Log (Ok x) mid new

@@ -1,8 +1,8 @@
 -- The copying of records.
-use Rattle.std.proofs.Common.{◌≡◌, ◌≢◌, ◌⊎◌, inl, inr, ⊎_elim, ℕ, ◌+◌, ◌-◌, ◌*◌, ◌<◌, ◌≤◌, Bool, true, false, List, length, get_or, take, drop, refl, sym, ◌∙◌, ap, subst, arith, length-drop}
+use Rattle.std.proofs.Common.{◌≡◌, ◌≢◌, ◌⊎◌, inl, inr, ⊎_elim, ℕ, ◌+◌, ◌-◌, ◌*◌, ◌<◌, ◌≤◌, List, length, get_or, take, drop, refl, sym, ◌∙◌, ap, subst, arith, length-drop}
 use Rattle.std.specs.Prelude.{Result, Ok, Err, Option, Some, None, slice_get}
 use Rattle.std.proofs.lemmas.Bool.{cases_lt, cases_eq}
-use Rattle.std.proofs.lemmas.List.{get_or-take, get_or-drop, get_or_past, length-take-le, take_all}
+use Rattle.std.proofs.lemmas.List.{get_or-take, get_or-drop, length-take-le, take_all}
 use Rattle.std.proofs.lemmas.Grind.{same_number_lists}
 use Rattle.std.proofs.Math.Nat.{mul-le-mul_right}
 use Rattle.sqval.specs.Bytes.{part, word}
@@ -13,20 +13,21 @@ use Rattle.sqjournal.specs.declared.reading.Why.{Why}
 use Rattle.sqjournal.specs.Restored.{IsRolledBack}
 use Rattle.sqjournal.specs.declared.reading.Record.{Record}
 use Rattle.crashdisk.specs.State.{FileState, byte, written, longest}
-use Rattle.crashdisk.specs.Call.{DiskState, IsSoundDisk, ArePresent, Writes, Cuts, Looks, with_write}
+use Rattle.crashdisk.specs.Call.{DiskState, IsSoundDisk, ArePresent, Writes, Cuts, Looks}
 use Rattle.crashdisk.specs.declared.file.File.TheVariants.{Db}
 use Rattle.crashdisk.specs.declared.error.DiskError.{DiskError}
-use Rattle.crashdisk.proofs.Keeping.{sound_writes, sound_cuts}
-use Rattle.crashdisk.proofs.Sound.{byte_past, cut_below, written_inside, written_outside}
-use Rattle.crashdisk.proofs.Steps.{present_written, present_cut, counted_grows}
+use Rattle.crashdisk.proofs.Sound.{cut_below, written_inside, written_outside}
+use Rattle.crashdisk.proofs.Steps.{present_written, present_cut}
 use Rattle.sqval.specs.CommitFaults.{most_bytes}
-use Rattle.rollcore.specs.Steps.{Still, KeepsLog, PutsRecord, RecordAnswer, EntryStep, EntryAnswer, CopyAnswer}
+use Rattle.rollcore.specs.Steps.{PutsRecord, RecordAnswer, EntryStep, EntryAnswer, CopyAnswer}
+use Rattle.crashdisk.specs.Keeps.{Still, KeepsLog}
 use Rattle.rollcore.specs.declared.error.RollError.{RollError}
 use Rattle.rollcore.specs.declared.error.RollError.TheVariants.{Device}
-use Rattle.rollcore.proofs.Pages.{page_end, page_before, page_within, get_or-file_page}
-use Rattle.rollcore.proofs.Stills.{still_sound, still_looks, refusal_after}
-use Rattle.rollcore.proofs.Scans.{had_refusal}
+use Rattle.crashdisk.proofs.Pages.{page_end, page_before, page_within}
+use Rattle.sqval.proofs.FilePages.{get_or-file_page}
+use Rattle.crashdisk.proofs.Stills.{still_looks, refusal_after, had_refusal}
 use Rattle.rollcore.proofs.Records.{made, made_none, made_here, made_other, made_all, entries_of, entry_is, entry_within, no_entry}
+use Rattle.crashdisk.proofs.Down.{present_byte}
 
 -- ---- What is read of a record.
 
@@ -38,51 +39,6 @@ pub record_read : (size at : ℕ) (w out : List ℕ) (log : FileState) → ArePr
 record_read size at w out log are fits long same =
     same_number_lists out (take size (drop at w)) (long ∙ sym (part_long size at w fits))
     (λ j lt. same j lt ∙ sym (are.each (at + j) (omega (arith, are.len))) ∙ sym (get_or-take size (drop at w) j 0 (omega arith) ∙ get_or-drop at w j 0))
-
--- ---- The log stays.
-
-pub keeps_still : (a b : DiskState) → IsSoundDisk a → Still a b → KeepsLog a b
-keeps_still a b sound is = record { sector = is.sector; tears = is.tears; log = is.log; kept = is.kept; handed = is.handed; refused = is.refused; sound = still_sound a b sound is }
-
-pub keeps_same : (s : DiskState) → IsSoundDisk s → KeepsLog s s
-keeps_same s sound = record { sector = refl; tears = refl; log = refl; kept = refl; handed = refl; refused = omega arith; sound = sound }
-
-pub keeps_then : (a b c : DiskState) → KeepsLog a b → KeepsLog b c → KeepsLog a c
-keeps_then a b c first second = record {
-  sector = second.sector ∙ first.sector;
-  tears = second.tears ∙ first.tears;
-  log = second.log ∙ first.log;
-  kept = second.kept ∙ first.kept;
-  handed = second.handed ∙ first.handed;
-  refused = omega (arith, first.refused, second.refused);
-  sound = second.sound;
-}
-
-pub keeps_write : {T : Type 0} (at : ℕ) (bytes : List ℕ) (result : Result T DiskError) (a b : DiskState) → IsSoundDisk a → Writes Db at bytes result a b → KeepsLog a b
-keeps_write at bytes result a b sound wrote = record {
-  sector = wrote.elsewhere.sector;
-  tears = wrote.elsewhere.tears;
-  log = wrote.elsewhere.other;
-  kept = wrote.kept;
-  handed = wrote.handed ∙ not_handed a.tears;
-  refused = omega (arith, counted_grows result a.refused sound.refused, wrote.elsewhere.refused);
-  sound = sound_writes Db at bytes result a b sound wrote;
-}
-  where
-    not_handed : (tears : Bool) → with_write tears Db result at bytes a.handed ≡ a.handed
-    not_handed true = refl
-    not_handed false = refl
-
-pub keeps_cut : {T : Type 0} (n : ℕ) (result : Result T DiskError) (a b : DiskState) → IsSoundDisk a → Cuts Db n result a b → KeepsLog a b
-keeps_cut n result a b sound cut = record {
-  sector = cut.elsewhere.sector;
-  tears = cut.elsewhere.tears;
-  log = cut.elsewhere.other;
-  kept = cut.kept;
-  handed = cut.handed;
-  refused = omega (arith, counted_grows result a.refused sound.refused, cut.elsewhere.refused);
-  sound = sound_cuts Db n result a b sound cut;
-}
 
 -- ---- One record.
 
@@ -115,9 +71,6 @@ module _ {T : Type 0} (size : ℕ) (w : List ℕ) (count : ℕ) (r : Record) whe
     record_put done wrote = inr (puts (Ok done) wrote)
 
 -- ---- Record after record.
-
-pub present_byte : (s : FileState) (db : List ℕ) → ArePresent s db → (i : ℕ) → get_or db i 0 ≡ byte s i
-present_byte s db are i = ⊎_elim (λ lt. are.each i lt) (λ le. get_or_past db i 0 (omega (arith, are.len)) ∙ sym (byte_past s i le)) (cases_lt i s.len)
 
 -- after so many entries each page of the database is the last of them that names it, otherwise the file's
 abbrev pub Upto : (w db : List ℕ) (count : ℕ) (es : List Record) (k : ℕ) → DiskState → Type 0

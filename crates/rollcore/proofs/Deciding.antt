@@ -1,26 +1,24 @@
 -- A commit is judged, carried out or refused: what the machine steps to, and what fits then.
-use Rattle.std.proofs.Common.{◌≡◌, ◌⊎◌, inl, inr, ⊎_elim, ℕ, ◌+◌, ◌-◌, ◌*◌, ◌^◌, ◌<◌, ◌≤◌, Bool, true, false, List, [], ◌∷◌, ◌++◌, length, get_or, refl, sym, ◌∙◌, ap, subst, arith, length-append}
-use Rattle.std.specs.Prelude.{cond, not, IsTrue, Result, Ok, Err, Option, Some, None}
+use Rattle.std.proofs.Common.{◌≡◌, ◌⊎◌, inl, inr, ⊎_elim, ℕ, ◌+◌, ◌-◌, ◌^◌, ◌<◌, Bool, true, false, List, ◌∷◌, ◌++◌, length, get_or, refl, sym, ◌∙◌, ap, subst, arith, length-append, []}
+use Rattle.std.specs.Prelude.{cond, IsTrue, Result, Ok, Err, Option, Some, None}
 use Rattle.std.specs.Borrow.{Bor}
-use Rattle.std.proofs.lemmas.Bool.{cases_lt, cases_eq}
+use Rattle.std.proofs.lemmas.Bool.{cases_lt}
 use Rattle.std.proofs.lemmas.List.{get_or_append_left, get_or-append_right}
 use Rattle.sqval.specs.Database.{Database, Pages, apply}
 use Rattle.sqval.specs.Held.{IsHeld}
 use Rattle.sqval.specs.CommitFaults.{first_true, page_faults}
 use Rattle.sqval.specs.JudgedPages.{lent}
-use Rattle.sqval.specs.Answers.{Answer, Done, Refused, Refuses}
+use Rattle.sqval.specs.Answers.{Done, Refused, Refuses}
 use Rattle.sqval.proofs.Faultless.{IsFaultless, faultless, held_applied}
 use Rattle.sqval.proofs.Supplied.{length-apply}
-use Rattle.crashdisk.specs.State.{IsImage}
-use Rattle.crashdisk.specs.Call.{DiskState, IsSoundDisk}
-use Rattle.rollcore.specs.Phases.{Suits}
-use Rattle.rollcore.specs.Machine.{State, last, at, newest, closed, appended, committed, recorded, refusal_of, commit_refusal, Act, Commits, CommitStep, Step}
+use Rattle.crashdisk.specs.Call.{DiskState}
+use Rattle.crashdisk.specs.Keeps.{Suits, HadRefusal}
+use Rattle.rollcore.specs.Machine.{State, last, newest, closed, appended, committed, recorded, refusal_of, commit_refusal, Commits}
 use Rattle.rollcore.specs.Refusal.{number_of}
-use Rattle.rollcore.specs.Replaying.{HadRefusal}
-use Rattle.rollcore.specs.Fits.{MayBeRead, ShowsWhole, ShowsHistory, NamesSectors, FitsDisk, Rests, IsCore, FitsCore, StepsTo, answered}
-use Rattle.rollcore.specs.Commits.{ShowsEither, KeepsCore, Goes, PutAnswer, IsReady, PagesJudged, PrepareAnswer, Ends, Closes, EndAnswer}
+use Rattle.rollcore.specs.Fits.{ShowsWhole, NamesSectors, Rests, FitsCore, StepsTo, answered}
+use Rattle.rollcore.specs.Commits.{ShowsEither, KeepsCore, Goes, PutAnswer, IsReady, Ends, Closes, EndAnswer}
 use Rattle.rollcore.specs.declared.error.RollError.{RollError}
-use Rattle.rollcore.specs.declared.error.RollError.TheVariants.{Closed, NoMemory, Device}
+use Rattle.rollcore.specs.declared.error.RollError.TheVariants.{NoMemory}
 use Rattle.rollcore.specs.declared.state.Core.{Core}
 use Rattle.rollcore.proofs.Granting.{granted}
 use Rattle.rollcore.proofs.Listed.{recorded_few}

@@ -1,5 +1,5 @@
 -- What calls of a disk leave as it was.
-use Rattle.std.proofs.Common.{⊎_elim, ℕ, ◌-◌, ◌*◌, List, length, [], ◌∷◌, refl, sym, ◌∙◌, subst, arith, replicate}
+use Rattle.std.proofs.Common.{⊎_elim, ℕ, ◌-◌, ◌*◌, List, length, ◌∷◌, refl, sym, ◌∙◌, subst, arith, replicate, []}
 use Rattle.std.specs.Prelude.{Result, Ok, Err, Bool, true, false}
 use Rattle.crashdisk.specs.State.{IsSectorSize}
 use Rattle.crashdisk.specs.Call.{DiskState, IsSoundDisk, Elsewhere, Writes, Cuts, Syncs}
@@ -8,14 +8,15 @@ use Rattle.crashdisk.specs.declared.file.File.TheVariants.{Db, Log}
 use Rattle.crashdisk.specs.declared.error.DiskError.{DiskError}
 use Rattle.crashdisk.proofs.Keeping.{sound_writes, sound_cuts, sound_syncs}
 use Rattle.crashdisk.proofs.Steps.{counted_grows}
-use Rattle.rollcore.specs.Steps.{Still, SyncStep, ZeroSteps}
-use Rattle.rollcore.specs.Phases.{Suits}
+use Rattle.rollcore.specs.Steps.{ZeroSteps}
+use Rattle.crashdisk.specs.Keeps.{Still, SyncStep, Suits}
 use Rattle.rollcore.specs.Commits.{Goes}
 use Rattle.rollcore.specs.Segments.{PageStep}
 use Rattle.rollcore.specs.Opening.{PutsZero, BreakSteps}
 use Rattle.rollcore.specs.declared.error.RollError.{RollError}
-use Rattle.rollcore.proofs.Stills.{still_sound}
-use Rattle.rollcore.proofs.Suiting.{suits_by}
+use Rattle.crashdisk.proofs.Stills.{still_sound}
+use Rattle.crashdisk.proofs.Suiting.{suits_by}
+use Rattle.rollcore.specs.declared.error.RollError.TheVariants.{Device}
 
 pub goes_then : (a b c : DiskState) → Goes a b → Goes b c → Goes a c
 goes_then a b c first second = record {
@@ -47,7 +48,7 @@ module _ {T : Type 0} where
   pub goes_syncs : (f : File) (r : Result T DiskError) (a b : DiskState) → IsSoundDisk a → Syncs f r a b → Goes a b
   goes_syncs f r a b sound synced = goes_by f r a b sound synced.elsewhere (sound_syncs f r a b sound synced)
 
-  pub goes_sync : (f : File) (r : Result T RollError) (a b : DiskState) → IsSoundDisk a → SyncStep f r a b → Goes a b
+  pub goes_sync : (f : File) (r : Result T RollError) (a b : DiskState) → IsSoundDisk a → SyncStep Device f r a b → Goes a b
   goes_sync f r a b sound step = goes_syncs f step.0 a b sound step.2
 
   pub goes_cuts : (f : File) (n : ℕ) (r : Result T DiskError) (a b : DiskState) → IsSoundDisk a → Cuts f n r a b → Goes a b

@@ -1,5 +1,5 @@
 -- Pages go into the file that the database doesn't have yet.
-use Rattle.std.proofs.Common.{◌≡◌, ◌⊎◌, inl, inr, ⊎_elim, ℕ, ◌+◌, ◌-◌, ◌*◌, ◌<◌, ◌≤◌, true, false, cond, List, [], ◌∷◌, ◌++◌, length, get_or, take, refl, sym, ◌∙◌, ap, subst, arith, append_assoc}
+use Rattle.std.proofs.Common.{◌≡◌, inr, ⊎_elim, ℕ, ◌+◌, ◌-◌, ◌*◌, ◌<◌, ◌≤◌, true, false, cond, List, ◌∷◌, ◌++◌, length, get_or, take, refl, sym, ◌∙◌, ap, subst, arith, append_assoc, []}
 use Rattle.std.specs.Prelude.{Result, Ok, Err, Bool, nat_lt}
 use Rattle.std.specs.List.{Contains}
 use Rattle.std.specs.Borrow.{Bor}
@@ -14,7 +14,7 @@ use Rattle.crashdisk.specs.declared.file.File.TheVariants.{Db}
 use Rattle.crashdisk.specs.declared.error.DiskError.{DiskError}
 use Rattle.rollcore.specs.Segments.{Journaled, Harmless, ArePut, PageStep, AreSome, AreOf, new_numbers}
 use Rattle.rollcore.specs.declared.error.RollError.{RollError}
-use Rattle.rollcore.proofs.Stills.{refusal_after}
+use Rattle.crashdisk.proofs.Stills.{refusal_after}
 use Rattle.rollcore.proofs.Putting.{journaled_writes, journaled_unharmed, put_writes, page_refused, page_done}
 
 new_more : (n : ℕ) (xs : Pages) (x : ℕ × List ℕ) → n < x.0 → new_numbers n (xs ++ x ∷ []) ≡ new_numbers n xs ++ x.0 ∷ []

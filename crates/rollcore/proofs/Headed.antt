@@ -1,5 +1,5 @@
 -- A log that journals pages does so while nothing below the next header changes; and once the header of a segment stands, it journals that too.
-use Rattle.std.proofs.Common.{◌≡◌, ◌⊎◌, inl, inr, ⊎_elim, ℕ, suc, ◌+◌, ◌-◌, ◌<◌, ◌≤◌, List, [], ◌∷◌, ◌++◌, length, get_or, drop, refl, sym, ◌∙◌, ap, subst, arith}
+use Rattle.std.proofs.Common.{◌≡◌, ◌⊎◌, inl, inr, ⊎_elim, ℕ, suc, ◌+◌, ◌-◌, ◌<◌, ◌≤◌, List, ◌∷◌, ◌++◌, length, get_or, drop, refl, sym, ◌∙◌, ap, subst, arith, []}
 use Rattle.std.specs.List.{Contains}
 use Rattle.std.proofs.lemmas.Bool.{cases_eq, cases_lt}
 use Rattle.std.proofs.lemmas.List.{append-nil, append_assoc, map-append, length-map, get_or-take, get_or-drop}
@@ -14,8 +14,9 @@ use Rattle.sqjournal.specs.Restored.{all_records}
 use Rattle.sqjournal.specs.declared.header.JournalHeader.{JournalHeader}
 use Rattle.sqjournal.proofs.Journals.{size_bounds}
 use Rattle.sqjournal.proofs.Parts.{part_front}
-use Rattle.rollcore.specs.Alone.{StandsWhole, HasHeaderAt, AreWhole}
-use Rattle.rollcore.specs.Journaling.{old_pages, sizes, next_place, AreFull, IsJournaled, Tells, IsHeaderOf, IsPrepared, SameBelow}
+use Rattle.rollcore.specs.Alone.{HasHeaderAt, AreWhole}
+use Rattle.crashdisk.specs.Keeps.{StandsWhole}
+use Rattle.rollcore.specs.Journaling.{old_pages, sizes, next_place, AreFull, HasNonces, IsJournaled, Tells, IsHeaderOf, IsPrepared, SameBelow}
 use Rattle.rollcore.proofs.Journals.{hot_long}
 use Rattle.rollcore.proofs.WholeSegments.{part_at, word_at, end_within, next_of, records_kept, full_kept, full_begun, full_none, full_more, full_join, full_header}
 use Rattle.rollcore.proofs.Readings.{magic_or, read, read_header}
@@ -84,6 +85,9 @@ begun_hot size sector d w sectors pages header names = record {
 }
 
 -- ---- While nothing below the place of the next header changes.
+
+pub nonces_kept : (z : Sizes) (w v : List ℕ) (place : ℕ) → 512 ≤ z.sector → SameBelow (place + 8) w v → (nonces : List ℕ) → HasNonces z w place nonces → HasNonces z v place nonces
+nonces_kept z w v place some same nonces has = (has.0, full_kept z w v 0 has.0 place some (λ i _ lt _. same.each i (omega arith)) same.long has.1, has.2)
 
 module _ (size sector : ℕ) (d : Database) (some : 512 ≤ sector) (named : List ℕ) (place : ℕ) (w v : List ℕ) (is : IsJournaled size sector d named place w) where
   begun : 0 < place → (sector ≤ place) × IsHeader (sizes sector size) w 0
@@ -181,6 +185,29 @@ module _ (size sector : ℕ) (d : Database) (sectors : IsPageSize sector) (pages
   records_new whole = records_kept (sizes sector size) w v nonce (place + sector) (old_pages d more) (λ i a b. same i (inr a))
       (end_within (sizes sector size) w nonce (place + sector) (old_pages d more) (length v) whole long is.records) is.records
 
+  -- the new segment
+  abbrev added : Segment
+  added = record { count = h.count; nonce = nonce; records = old_pages d more }
+
+  -- it stands behind these
+  stands_behind : (segments : List Segment) → AreFull (sizes sector size) v 0 segments place → Stands → place + sector ≤ length v
+      → AreFull (sizes sector size) v 0 (segments ++ added ∷ []) (next_place (sizes sector size) place (old_pages d more))
+  unfolding some
+  stands_behind segments full stands whole =
+      let least : 512 ≤ sector = some in
+      full_more (sizes sector size) v 0 segments place added full (header_new stands whole)
+      (names.count ∙ sym (header_word stands (omega arith) 8 (omega arith)))
+      (sym of.nonce_is ∙ names.nonce ∙ sym (header_word stands (omega arith) 12 (omega arith)))
+      (records_new whole) all_new
+
+  pub nonces_new : ((j : ℕ) → j < 28 → get_or v (place + j) 0 ≡ get_or (header_bytes h) j 0) → place + sector ≤ length v
+      → (nonces : List ℕ) → HasNonces (sizes sector size) w place nonces → HasNonces (sizes sector size) v (next_place (sizes sector size) place (old_pages d more)) (nonces ++ nonce ∷ [])
+  nonces_new stands whole nonces has = (
+    has.0 ++ added ∷ [],
+    stands_behind has.0 (full_kept (sizes sector size) w v 0 has.0 place some (λ i _ lt _. same i (inl lt)) long has.1) stands whole,
+    map-append (λ (s : Segment). s.nonce) has.0 (added ∷ []) ∙ ap (λ (l : List ℕ). l ++ nonce ∷ []) has.2,
+  )
+
   -- the header stands whole
   pub headed_new : ((j : ℕ) → j < 28 → get_or v (place + j) 0 ≡ get_or (header_bytes h) j 0) → place + sector ≤ length v
       → IsJournaled size sector d (named ++ more) (next_place (sizes sector size) place (old_pages d more)) v
@@ -188,14 +215,10 @@ module _ (size sector : ℕ) (d : Database) (sectors : IsPageSize sector) (pages
   headed_new stands whole =
       let least : 512 ≤ sector = some in
       let behind : place + sector ≤ next_place (sizes sector size) place (old_pages d more) = next_of (sizes sector size) place (old_pages d more) (omega arith) in
-      let s : Segment = record { count = h.count; nonce = nonce; records = old_pages d more } in
       record {
-        segments = is.journaled.segments ++ s ∷ [];
-        are = full_more (sizes sector size) v 0 is.journaled.segments place s segments_kept (header_new stands whole)
-            (names.count ∙ sym (header_word stands (omega arith) 8 (omega arith)))
-            (sym of.nonce_is ∙ names.nonce ∙ sym (header_word stands (omega arith) 12 (omega arith)))
-            (records_new whole) all_new;
-        records = all_more is.journaled.segments s ∙ ap (λ (l : Pages). l ++ old_pages d more) is.journaled.records ∙ sym (old_more d named more);
+        segments = is.journaled.segments ++ added ∷ [];
+        are = stands_behind is.journaled.segments segments_kept stands whole;
+        records = all_more is.journaled.segments added ∙ ap (λ (l : Pages). l ++ old_pages d more) is.journaled.records ∙ sym (old_more d named more);
         ends = gate_same w v (next_place (sizes sector size) place (old_pages d more)) (λ j lt. same (next_place (sizes sector size) place (old_pages d more) + j) (inr (omega arith))) is.ends;
         begun = λ above. let n = names_new stands (omega arith) in (n.count, n.sector_is, n.size_is);
       }

@@ -1,19 +1,17 @@
 -- The calls that bring a segment's header down.
-use Rattle.std.proofs.Common.{◌≡◌, ℕ, ◌+◌, ◌-◌, ◌^◌, ◌<◌, ◌≤◌, List, ◌++◌, length, replicate, refl, ◌∙◌, ap, subst, arith}
+use Rattle.std.proofs.Common.{◌≡◌, ℕ, ◌+◌, ◌-◌, ◌^◌, ◌≤◌, List, ◌++◌, length, replicate, refl, ◌∙◌, arith}
 use Rattle.std.specs.Prelude.{Result, Ok, Err}
 use Rattle.sqval.specs.Database.{Database}
 use Rattle.sqjournal.specs.Header.{Names, header_bytes}
 use Rattle.sqjournal.specs.declared.header.JournalHeader.{JournalHeader}
 use Rattle.sqjournal.proofs.Journals.{size_bounds}
-use Rattle.crashdisk.specs.State.{longest}
 use Rattle.crashdisk.specs.Call.{DiskState, Writes, Syncs}
 use Rattle.crashdisk.specs.declared.file.File.TheVariants.{Log}
 use Rattle.crashdisk.specs.declared.error.DiskError.{DiskError}
 use Rattle.rollcore.specs.Journaling.{old_pages, sizes, next_place, IsHeaderOf}
-use Rattle.rollcore.specs.Segments.{Unharmed, Harmless, Journaled, Prepared, Heading}
+use Rattle.rollcore.specs.Segments.{Unharmed, Harmless, Journaled, Prepared, Heading, AddsNonce}
 use Rattle.rollcore.specs.declared.error.RollError.TheVariants.{Device}
-use Rattle.rollcore.proofs.Scans.{had_refusal}
-use Rattle.rollcore.proofs.Stills.{refusal_after}
+use Rattle.crashdisk.proofs.Stills.{had_refusal, refusal_after}
 use Rattle.rollcore.proofs.Unharmed.{sectors_of, unharmed_by}
 use Rattle.rollcore.proofs.Heading.{heading_writes, headed, heading_syncs, heading_down}
 use Rattle.rollcore.proofs.WholeSegments.{next_of}
@@ -48,5 +46,8 @@ module _ (size sector : ℕ) (d : Database) (named added : List ℕ) (nonce plac
         unharmed = unharmed_at new (heading_syncs size sector d named added place called mid new middle synced);
       }
 
-      pub header_done : {T : Type 0} {x : T} → Syncs Log (Ok x) mid new → ((v : List ℕ) × Journaled size sector d (named ++ added) (next_place (sizes sector size) place (old_pages d added)) v new) × (old.refused ≤ new.refused) × (new.db ≡ old.db)
-      header_done synced = (heading_down size sector d named added place mid new middle (headed size sector d named added nonce place h w bytes few head names padded old mid is wrote) synced, omega (arith, wrote.elsewhere.refused, synced.elsewhere.refused), synced.elsewhere.other ∙ wrote.elsewhere.other)
+      pub header_done : {T : Type 0} {x : T} → Syncs Log (Ok x) mid new
+          → ((v : List ℕ) × Journaled size sector d (named ++ added) (next_place (sizes sector size) place (old_pages d added)) v new
+          × AddsNonce (sizes sector size) place w nonce (next_place (sizes sector size) place (old_pages d added)) v)
+          × (old.refused ≤ new.refused) × (new.db ≡ old.db)
+      header_done synced = (heading_down size sector d named added place (AddsNonce (sizes sector size) place w nonce (next_place (sizes sector size) place (old_pages d added))) mid new middle (headed size sector d named added nonce place h w bytes few head names padded old mid is wrote) synced, omega (arith, wrote.elsewhere.refused, synced.elsewhere.refused), synced.elsewhere.other ∙ wrote.elsewhere.other)

@@ -1,7 +1,7 @@
 -- The header of a segment is written, and comes down.
-use Rattle.std.proofs.Common.{◌≡◌, ◌⊎◌, inl, inr, ⊎_elim, ℕ, ◌+◌, ◌-◌, ◌*◌, ◌/◌, ◌<◌, ◌≤◌, max, Bool, true, false, List, [], ◌∷◌, ◌++◌, length, get_or, replicate, refl, sym, ◌∙◌, ap, subst, arith, length-append}
+use Rattle.std.proofs.Common.{◌≡◌, ◌⊎◌, inl, inr, ⊎_elim, ℕ, ◌+◌, ◌-◌, ◌*◌, ◌/◌, ◌<◌, ◌≤◌, max, Bool, true, false, List, ◌∷◌, ◌++◌, length, get_or, replicate, refl, sym, ◌∙◌, ap, subst, arith, length-append, []}
 use Rattle.std.specs.Prelude.{Result, Ok, Err}
-use Rattle.std.proofs.lemmas.Bool.{cases_lt}
+use Rattle.std.proofs.lemmas.Bool.{cases_lt, cases_Bool}
 use Rattle.std.proofs.lemmas.List.{get_or_append_left, get_or_past, length-replicate}
 use Rattle.std.proofs.lemmas.List.Elements.{Contains-append_left}
 use Rattle.std.proofs.lemmas.Nat.{div-mul-add}
@@ -24,18 +24,16 @@ use Rattle.crashdisk.proofs.Steps.{present_list, present_written}
 use Rattle.rollcore.specs.Alone.{AreWhole}
 use Rattle.rollcore.specs.Fits.{MayBeRead}
 use Rattle.rollcore.specs.Journaling.{old_pages, sizes, next_place, IsJournaled, Tells, IsHeaderOf}
-use Rattle.rollcore.specs.Segments.{IsAt, Journaled, Prepared, Heading}
+use Rattle.rollcore.specs.Segments.{IsAt, Journaled, Prepared, Heading, AddsNonce}
 use Rattle.rollcore.proofs.Journals.{hot_long}
-use Rattle.rollcore.proofs.Pages.{page_sector, sector_some}
-use Rattle.rollcore.proofs.Suiting.{suits_writes, suits_syncs}
-use Rattle.rollcore.proofs.Copies.{present_byte}
-use Rattle.rollcore.proofs.Down.{present_image}
+use Rattle.crashdisk.proofs.Pages.{page_sector, sector_some}
+use Rattle.crashdisk.proofs.Suiting.{suits_writes, suits_syncs}
+use Rattle.crashdisk.proofs.Down.{present_byte, present_image, log_syncs}
 use Rattle.rollcore.proofs.Ending.{sync_down}
-use Rattle.rollcore.proofs.Zeroing.{tears_or, log_syncs}
 use Rattle.rollcore.proofs.Unharmed.{at_by, sectors_of}
 use Rattle.rollcore.proofs.WholeSegments.{next_of}
 use Rattle.rollcore.proofs.Journaled.{gate_same}
-use Rattle.rollcore.proofs.Headed.{headed_same, headed_new, headed_cold, headed_torn}
+use Rattle.rollcore.proofs.Headed.{headed_same, headed_new, nonces_new, headed_cold, headed_torn}
 use Rattle.rollcore.proofs.Restoring.{journaled_cold}
 
 -- a write of one whole sector stays in it
@@ -209,19 +207,25 @@ module _ (size sector : ℕ) (d : Database) (named added : List ℕ) (nonce plac
             torn_by called was (after_sound called wrote) wrote.file wrote.kept (subst (λ (t : Bool). new.handed ≡ with_write t Log called place bytes old.handed) was wrote.handed) v
             (subst (λ (n : ℕ). IsImage n true new.log v) wrote.elsewhere.sector (subst (λ (t : Bool). IsImage new.sector t new.log v) torn left.image)) (left.whole torn))
             (λ firm. listed_by called (after_sound called wrote) wrote.file v (subst (λ (n : ℕ). IsImage n false new.log v) wrote.elsewhere.sector (subst (λ (t : Bool). IsImage new.sector t new.log v) firm left.image)))
-            (tears_or new.tears)
+            (cases_Bool new.tears)
 
     -- it was written
-    pub headed : {T : Type 0} {u : T} → Writes Log place bytes (Ok u) old new → (v : List ℕ) → ArePresent new.log v → IsJournaled size sector d (named ++ added) (next_place (sizes sector size) place (old_pages d added)) v
+    pub headed : {T : Type 0} {u : T} → Writes Log place bytes (Ok u) old new → (v : List ℕ) → ArePresent new.log v
+        → IsJournaled size sector d (named ++ added) (next_place (sizes sector size) place (old_pages d added)) v
+        × AddsNonce (sizes sector size) place w nonce (next_place (sizes sector size) place (old_pages d added)) v
     headed {T = T} {u = u} wrote v are =
         let after : IsSound old.sector new.log = after_sound {T = T} (Ok u) wrote in
         let image : IsImage old.sector false new.log v = present_image old.sector false new.log v after are in
         let len : length bytes ≡ sector = long_bytes (wide old is.at) in
         let le : length w ≤ length v = longer wrote.file.0 false v image in
-        headed_new size sector d sectors is.at.suits.pages named added nonce place h w v few head names is.is (outside wrote.file.0 after false v image) le
-        (λ j lt. present_byte new.log v are (place + j) ∙ present_written Log place bytes old new wrote (place + j)
-        ∙ written_inside old.log place bytes (place + j) (omega arith) (omega (arith, wide old is.at)) ∙ ap (λ (n : ℕ). get_or bytes n 0) (let e : place + j - place ≡ j = omega arith in e) ∙ head_at j lt)
-        (omega (arith, are.len, wrote.file.1.len, len))
+        let same = outside wrote.file.0 after false v image in
+        let stands : (j : ℕ) → j < 28 → get_or v (place + j) 0 ≡ get_or (header_bytes h) j 0 =
+        λ j lt. present_byte new.log v are (place + j) ∙ present_written Log place bytes old new wrote (place + j)
+        ∙ written_inside old.log place bytes (place + j) (omega arith) (omega (arith, wide old is.at)) ∙ ap (λ (n : ℕ). get_or bytes n 0) (let e : place + j - place ≡ j = omega arith in e) ∙ head_at j lt in
+        let whole : place + sector ≤ length v = omega (arith, are.len, wrote.file.1.len, len) in (
+          headed_new size sector d sectors is.at.suits.pages named added nonce place h w v few head names is.is same le stands whole,
+          nonces_new size sector d sectors is.at.suits.pages named added nonce place h w v few head names is.is same le stands whole,
+        )
 
 -- ---- The log is synced.
 
@@ -248,15 +252,16 @@ module _ (size sector : ℕ) (d : Database) (named added : List ℕ) (place : �
         };
       }
 
-  -- it is down, and the journal has one segment more
-  pub heading_down : {T : Type 0} {u : T} (old new : DiskState) → Heading size sector d named place added old
-      → ((v : List ℕ) → ArePresent old.log v → IsJournaled size sector d (named ++ added) (next_place (sizes sector size) place (old_pages d added)) v)
-      → Syncs Log (Ok u) old new → (v : List ℕ) × Journaled size sector d (named ++ added) (next_place (sizes sector size) place (old_pages d added)) v new
-  heading_down {T = T} {u = u} old new is there synced = (
+  -- it is down, and the journal has one segment more, of which P holds
+  pub heading_down : (P : List ℕ → Type 0) {T : Type 0} {u : T} (old new : DiskState) → Heading size sector d named place added old
+      → ((v : List ℕ) → ArePresent old.log v → IsJournaled size sector d (named ++ added) (next_place (sizes sector size) place (old_pages d added)) v × P v)
+      → Syncs Log (Ok u) old new → (v : List ℕ) × Journaled size sector d (named ++ added) (next_place (sizes sector size) place (old_pages d added)) v new × P v
+  heading_down P {T = T} {u = u} old new is there synced = (
     table old.log.len (byte old.log),
     record {
       at = at_next new (at_by size sector d named place old new is.at (suits_syncs size Log (Ok u) old new is.at.suits synced) synced.elsewhere.sector synced.elsewhere.tears synced.elsewhere.other);
       down = sync_down {T = T} (Ok u) u (table old.log.len (byte old.log)) old new is.at.suits.sound refl (Ok u, tt, synced) (present_list old.log);
-      is = there (table old.log.len (byte old.log)) (present_list old.log);
+      is = (there (table old.log.len (byte old.log)) (present_list old.log)).0;
     },
+    (there (table old.log.len (byte old.log)) (present_list old.log)).1,
   )

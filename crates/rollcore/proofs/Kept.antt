@@ -1,6 +1,6 @@
 -- What each step of the machine keeps.
-use Rattle.std.proofs.Common.{◌≡◌, ℕ, zero, suc, ◌+◌, ◌<◌, ◌≤◌, List, [], ◌∷◌, ◌++◌, length, take, refl, sym, ◌∙◌, ap, subst, arith, length-append, length-take, lit<}
-use Rattle.std.proofs.lemmas.List.{take-append-le}
+use Rattle.std.proofs.Common.{◌≡◌, ℕ, ◌+◌, ◌<◌, ◌≤◌, List, ◌∷◌, ◌++◌, length, take, refl, sym, ◌∙◌, ap, subst, arith, length-append, length-take, lit<, []}
+use Rattle.std.proofs.lemmas.List.{take-append-le, take-take}
 use Rattle.sqval.specs.Database.{Database, apply}
 use Rattle.sqval.specs.Answers.{Answer}
 use Rattle.sqval.specs.Runs.{Moment, Runs}
@@ -34,12 +34,6 @@ sane_start page_size base = lit< tt
 
 -- ---- What is down stays.
 
-take_shorter : {X : Type 0} (m n : ℕ) (xs : List X) → m ≤ n → take m (take n xs) ≡ take m xs
-take_shorter zero n xs h = refl
-take_shorter (suc m) zero xs h = absurd (omega arith)
-take_shorter (suc m) (suc n) [] h = refl
-take_shorter (suc m) (suc n) (x ∷ xs) h = ap (λ ys. x ∷ ys) (take_shorter m n xs (omega arith))
-
 same_history : (s t : State) → t.page_size ≡ s.page_size → s.floor ≤ t.floor → t.history ≡ s.history → Keeps s t
 same_history s t p f e = record { page_size = p; floor = f; down = ap (λ h. take (s.floor + 1) h) e }
 
@@ -48,7 +42,7 @@ kept_targets s i =
     let grown = λ (d : Database). take-append-le (s.floor + 1) s.history (d ∷ []) (omega arith) in
     record {
       stays = same_history s s refl (omega arith) refl;
-      opens = λ k g h. record { page_size = refl; floor = g; down = take_shorter (s.floor + 1) (k + 1) s.history (omega arith) };
+      opens = λ k g h. record { page_size = refl; floor = g; down = take-take (s.floor + 1) (k + 1) s.history (omega arith) };
       closes = same_history s (closed s) refl (omega arith) refl;
       commits = λ pages size. record { page_size = refl; floor = omega arith; down = grown (apply (newest s) pages size) };
       fails = λ pages size. record { page_size = refl; floor = omega arith; down = grown (apply (newest s) pages size) };
@@ -64,7 +58,7 @@ kept_on s t u h g =
     record {
       page_size = g.page_size ∙ h.page_size;
       floor = omega arith;
-      down = sym (take_shorter (s.floor + 1) (t.floor + 1) u.history (omega arith)) ∙ (ap (λ x. take (s.floor + 1) x) g.down ∙ (take_shorter (s.floor + 1) (t.floor + 1) t.history (omega arith) ∙ h.down));
+      down = sym (take-take (s.floor + 1) (t.floor + 1) u.history (omega arith)) ∙ (ap (λ x. take (s.floor + 1) x) g.down ∙ (take-take (s.floor + 1) (t.floor + 1) t.history (omega arith) ∙ h.down));
     }
 
 pub kept_runs : (s : State) (b : ℕ) (ms : List (Moment Act)) (t : State) (a : ℕ) → IsSane s → Runs Step s b ms t a → Keeps s t

@@ -1,5 +1,5 @@
 -- How long the file is that may be left, while a journal is replayed into it.
-use Rattle.std.proofs.Common.{◌≡◌, inr, ⊎_elim, ℕ, ◌+◌, ◌*◌, ◌≤◌, max, Bool, true, false, cond, List, [], ◌∷◌, ◌++◌, length, get_or, replicate, sym, ◌∙◌, ap, subst, arith}
+use Rattle.std.proofs.Common.{◌≡◌, inr, ⊎_elim, ℕ, ◌+◌, ◌*◌, ◌≤◌, max, Bool, true, false, cond, List, ◌∷◌, ◌++◌, length, get_or, replicate, sym, ◌∙◌, ap, subst, arith, []}
 use Rattle.std.specs.Prelude.{Result, Ok, Err}
 use Rattle.std.proofs.lemmas.List.{get_or-replicate, get_or_past, length-replicate}
 use Rattle.std.proofs.lemmas.Bool.{cases_lt}
@@ -15,22 +15,20 @@ use Rattle.crashdisk.specs.declared.error.DiskError.TheVariants.{Stopped, Failed
 use Rattle.crashdisk.proofs.Settled.{settled_one}
 use Rattle.crashdisk.proofs.Steps.{image_elsewhere}
 use Rattle.rollcore.specs.Alone.{AreWhole}
-use Rattle.rollcore.specs.Replaying.{IsLogDown}
-use Rattle.rollcore.specs.Steps.{torn_sector, ArePages, Told, SyncStep, ZeroSteps}
+use Rattle.crashdisk.specs.Keeps.{IsLogDown, Told, SyncStep, IsLong}
+use Rattle.rollcore.specs.Steps.{torn_sector, ArePages, ZeroSteps}
 use Rattle.rollcore.specs.Plans.{IsFit}
 use Rattle.rollcore.specs.Fits.{MayBeRead}
 use Rattle.rollcore.specs.Lengths.{EndsBy}
 use Rattle.rollcore.specs.declared.error.RollError.{RollError}
 use Rattle.rollcore.proofs.Journals.{SameBehind, word_same}
-use Rattle.rollcore.proofs.Pages.{sector_some}
-use Rattle.rollcore.proofs.Down.{down_one, down_left, down_syncs}
+use Rattle.crashdisk.proofs.Pages.{sector_some}
+use Rattle.rollcore.proofs.Down.{down_left}
+use Rattle.crashdisk.proofs.Down.{down_one, down_syncs}
 use Rattle.rollcore.proofs.Going.{goes_writes, goes_sync, sectors_go}
 use Rattle.rollcore.proofs.Narrowing.{read_cases, narrows_syncs, ends_narrow}
 use Rattle.rollcore.proofs.Zeros.{zeroed_listed, zeroed_torn}
-
--- each file that a crash may leave is so long
-abbrev pub IsLong : (n : ℕ) → DiskState → Type 0
-IsLong n s = (db : List ℕ) → IsImage s.sector s.tears s.db db → length db ≡ n
+use Rattle.rollcore.specs.declared.error.RollError.TheVariants.{Device}
 
 -- where a hot journal names no smaller sectors than those that tear
 abbrev pub IsNamed : List ℕ → DiskState → Type 0
@@ -63,18 +61,18 @@ fit_named w s fit torn = subst (λ (b : Bool). cond b s.sector 0 ≤ word w 20) 
 -- ---- the file is so long as it is when it is synced
 
 module _ {T : Type 0} (old new : DiskState) where
-  long_synced : (v : T) (called : Result T DiskError) → Told called (Ok v) → Syncs Db called old new → IsLong old.db.len new
+  long_synced : (v : T) (called : Result T DiskError) → Told Device called (Ok v) → Syncs Db called old new → IsLong old.db.len new
   long_synced v (Ok x) told synced db image =
       let least : old.db.len ≤ length db = subst (λ (k : ℕ). k ≤ length db) synced.file.least image.least in
       let greatest : length db ≤ old.db.len = subst (λ (k : ℕ). length db ≤ k) synced.file.greatest image.greatest in
       omega arith
   long_synced v (Err e) told synced db image = absurd told
 
-  pub long_done : (v : T) → SyncStep {T = T} Db (Ok v) old new → IsLong old.db.len new
+  pub long_done : (v : T) → SyncStep {T = T} Device Db (Ok v) old new → IsLong old.db.len new
   long_done v step = long_synced v step.0 step.1 step.2
 
   -- a sync of the file, whatever was answered
-  pub ends_settled : (n : ℕ) (w : List ℕ) (r : Result T RollError) → SyncStep Db r old new → IsLogDown old w → IsHot w → IsNamed w old → EndsBy n new
+  pub ends_settled : (n : ℕ) (w : List ℕ) (r : Result T RollError) → SyncStep Device Db r old new → IsLogDown old w → IsHot w → IsNamed w old → EndsBy n new
   ends_settled n w r step down hot names = ends_hot w new (down_syncs w Db step.0 old new down step.2) n hot (named_by w old new step.2.elsewhere.sector step.2.elsewhere.tears names)
 
 -- ---- the header is zeroed
@@ -155,7 +153,7 @@ module _ {T : Type 0} (w : List ℕ) (old new : DiskState) (sound : IsSoundDisk 
       steps
 
 -- the file is synced, and then the header zeroed
-pub ends_finished : {T U : Type 0} (w : List ℕ) (old mid new : DiskState) → IsSoundDisk old → IsSectorSize old.sector → IsLogDown old w → IsHot w → IsNamed w old → (v : T) → SyncStep {T = T} Db (Ok v) old mid
+pub ends_finished : {T U : Type 0} (w : List ℕ) (old mid new : DiskState) → IsSoundDisk old → IsSectorSize old.sector → IsLogDown old w → IsHot w → IsNamed w old → (v : T) → SyncStep {T = T} Device Db (Ok v) old mid
     → (r : Result U RollError) → ZeroSteps r mid new → EndsBy old.db.len new
 ends_finished {T = T} w old mid new sound sectors down hot names v step r steps =
     let goes = goes_sync {T = T} Db (Ok v) old mid sound step in

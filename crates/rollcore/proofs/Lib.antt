@@ -1,7 +1,5 @@
 pub mod Journals
-pub mod Pages
 pub mod Stills
-pub mod Suiting
 pub mod Down
 pub mod Records
 pub mod Scans
@@ -34,7 +32,6 @@ pub mod Lengths
 pub mod Breaking
 pub mod Fronts
 pub mod Recovered
-pub mod Counting
 pub mod Targets
 pub mod Kept
 pub mod Chosen

@@ -1,5 +1,5 @@
 -- A call that adds no log to those that may be read adds none that shows less.
-use Rattle.std.proofs.Common.{◌≡◌, ◌⊎◌, inl, inr, ⊎_elim, ℕ, ◌≤◌, Bool, true, false, List, [], refl, sym, ◌∙◌, subst}
+use Rattle.std.proofs.Common.{◌≡◌, ◌⊎◌, inl, inr, ⊎_elim, ℕ, ◌≤◌, Bool, true, false, List, refl, sym, ◌∙◌, subst, []}
 use Rattle.std.specs.Prelude.{Result, Ok, Err}
 use Rattle.crashdisk.specs.State.{FileState, IsImage}
 use Rattle.crashdisk.specs.Call.{DiskState, IsSoundDisk, Syncs, SinceSync}
@@ -11,11 +11,10 @@ use Rattle.crashdisk.proofs.Steps.{image_sync}
 use Rattle.sqval.specs.Bytes.{word}
 use Rattle.sqval.specs.Database.{Database}
 use Rattle.rollcore.specs.Alone.{AreWhole}
-use Rattle.rollcore.specs.Steps.{Still}
+use Rattle.crashdisk.specs.Keeps.{Still}
 use Rattle.rollcore.specs.Fits.{MayBeRead, ShowsHistory, NamesSectors}
 use Rattle.rollcore.specs.Lengths.{EndsBy}
-use Rattle.rollcore.proofs.Down.{present_image, since_db, file_syncs}
-use Rattle.rollcore.proofs.Zeroing.{log_syncs}
+use Rattle.crashdisk.proofs.Down.{present_image, since_db, file_syncs, log_syncs}
 
 -- it is of listed values, or a disk that tears left it
 pub read_cases : (s : DiskState) (w : List ℕ) → MayBeRead s w → IsImage s.sector false s.log w ⊎ ((s.tears ≡ true) × IsImage s.sector true s.log w × AreWhole s.kept s.handed w)

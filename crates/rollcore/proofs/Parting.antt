@@ -1,30 +1,29 @@
 -- What a commit changes is cut into parts, and each is a segment.
-use Rattle.std.proofs.Common.{◌≡◌, ◌⊎◌, inl, inr, ⊎_elim, ℕ, ◌+◌, ◌-◌, ◌*◌, ◌/◌, ◌^◌, ◌<◌, ◌≤◌, List, [], ◌∷◌, ◌++◌, length, get_or, take, drop, replicate, refl, sym, ◌∙◌, ap, subst, arith, length-take, length-drop}
+use Rattle.std.proofs.Common.{◌≡◌, ◌⊎◌, inl, inr, ⊎_elim, ℕ, suc, ◌+◌, ◌-◌, ◌*◌, ◌^◌, ◌<◌, ◌≤◌, List, [], ◌∷◌, ◌++◌, length, get_or, take, drop, replicate, refl, sym, ◌∙◌, ap, subst, arith, length-take}
 use Rattle.std.specs.Prelude.{Result, Ok, Err, Some, None, min}
 use Rattle.std.specs.Borrow.{Bor}
 use Rattle.std.specs.List.{Contains}
 use Rattle.std.proofs.lemmas.List.{take_all, take-map, drop-map, length-map, length-replicate, get_or-map, get_or-take}
 use Rattle.std.proofs.lemmas.Bool.{cases_lt}
 use Rattle.std.proofs.Math.Nat.{mul-le-mul_left}
-use Rattle.std.proofs.Math.Seq.{take-add}
-use Rattle.sqval.specs.Database.{Database, Pages, page, apply}
+use Rattle.std.proofs.Math.Seq.{take-add, take-suc}
+use Rattle.sqval.specs.Database.{Database, Pages, apply}
 use Rattle.sqval.specs.Held.{IsJust, IsHeld}
 use Rattle.sqval.specs.JudgedPages.{lent}
 use Rattle.sqval.proofs.Faultless.{IsFaultless}
 use Rattle.crashdisk.specs.Call.{DiskState}
 use Rattle.rollcore.specs.Fits.{Rests}
-use Rattle.rollcore.specs.Journaling.{old_pages, sizes}
+use Rattle.rollcore.specs.Journaling.{old_pages, sizes, HasNonces}
 use Rattle.rollcore.specs.Machine.{segments_of, refusal_of}
-use Rattle.rollcore.specs.Phases.{Suits}
+use Rattle.crashdisk.specs.Keeps.{Suits}
 use Rattle.rollcore.specs.Commits.{KeepsCore, AreChanges, IsReady, change_at}
-use Rattle.rollcore.specs.Segments.{Journaled, Harmless, SegmentAnswer, Parted, PartAnswer, SegmentsAnswer, ArePut, AreSome, AreFresh, AreTurned, pages_of}
+use Rattle.rollcore.specs.Segments.{Journaled, SegmentAnswer, Parted, PartAnswer, SegmentsAnswer, ArePut, AreSome, AreFresh, AreTurned, pages_of}
 use Rattle.rollcore.specs.declared.changes.Change.{Change}
 use Rattle.rollcore.specs.declared.error.RollError.{RollError}
 use Rattle.rollcore.specs.declared.state.Core.{Core}
 use Rattle.rollcore.proofs.Granting.{granted, segments_enough}
 use Rattle.rollcore.proofs.Growing.{lent_length, lent_at}
-use Rattle.rollcore.proofs.Preparing.{harmless_after}
-use Rattle.rollcore.proofs.Pages.{get_or-file_page}
+use Rattle.sqval.proofs.FilePages.{get_or-file_page}
 use Rattle.rollcore.proofs.Present.{changes_few, fresh_by, turned_slice, slice_at, slice_within}
 use Rattle.rollcore.proofs.Restoring.{begins}
 use Rattle.rollcore.proofs.WholeSegments.{next_of}
@@ -95,15 +94,15 @@ kept_then a b c one two = record { page_size = two.page_size ∙ one.page_size; 
 -- ---- One part.
 
 -- what stands before it, for a core of these changes
-pub record BeforePart (size sector : ℕ) (d : Database) (pages : Pages) (n k place : ℕ) (changes : List Change) (s : DiskState) : Type 0 where
+pub record BeforePart (size sector : ℕ) (d : Database) (pages : Pages) (n : ℕ) (given : List ℕ) (k place : ℕ) (changes : List Change) (s : DiskState) : Type 0 where
   pub right : IsFaultless (length d) size pages n
   pub are : AreChanges pages (length d) n changes
-  pub parted : Parted size sector d (apply d pages n) (pages_of changes) k place s
+  pub parted : Parted size sector d (apply d pages n) (pages_of changes) given k place s
 
-pub before_part : (pages : List (ℕ × Bor (List ℕ))) (n nonces sector k place : ℕ) (d : Database) (core : Core) (size : ℕ) (changes : List Change) (s : DiskState) → IsReady pages n nonces core → length d ≡ core.size
-    → Parted core.page_size sector d (apply d (lent pages) n) (pages_of core.changes.items) k place s → size ≡ core.page_size → changes ≡ core.changes.items → BeforePart size sector d (lent pages) n k place changes s
-before_part pages n nonces sector k place d core size changes s ready many parted one two =
-    subst (λ (z : ℕ). BeforePart z sector d (lent pages) n k place changes s) (sym one) (subst (λ (l : List Change). BeforePart core.page_size sector d (lent pages) n k place l s) (sym two)
+pub before_part : (pages : List (ℕ × Bor (List ℕ))) (n nonces sector : ℕ) (given : List ℕ) (k place : ℕ) (d : Database) (core : Core) (size : ℕ) (changes : List Change) (s : DiskState) → IsReady pages n nonces core → length d ≡ core.size
+    → Parted core.page_size sector d (apply d (lent pages) n) (pages_of core.changes.items) given k place s → size ≡ core.page_size → changes ≡ core.changes.items → BeforePart size sector d (lent pages) n given k place changes s
+before_part pages n nonces sector given k place d core size changes s ready many parted one two =
+    subst (λ (z : ℕ). BeforePart z sector d (lent pages) n given k place changes s) (sym one) (subst (λ (l : List Change). BeforePart core.page_size sector d (lent pages) n given k place l s) (sym two)
     (record {
       right = subst (λ (z : ℕ). IsFaultless z core.page_size (lent pages) n) (sym many) (granted core.size core.page_size (lent pages) n nonces ready.granted);
       are = subst (λ (z : ℕ). AreChanges (lent pages) z n core.changes.items) (sym many) ready.changes;
@@ -124,7 +123,7 @@ module _ (changes : List Change) (k m : ℕ) where
       ∙ sym (take_all ((k + 1) * 64) (pages_of changes) (omega (arith, last.1, length-map changes (λ (c : Change). c.page)))))
       cases
 
-module _ (size sector : ℕ) (d : Database) (pages : Pages) (n k place : ℕ) (changes : List Change) (s : DiskState) (is : BeforePart size sector d pages n k place changes s) (m : ℕ) where
+module _ (size sector : ℕ) (d : Database) (pages : Pages) (n : ℕ) (given : List ℕ) (k place : ℕ) (changes : List Change) (s : DiskState) (is : BeforePart size sector d pages n given k place changes s) (m : ℕ) where
   named_at : (i x : ℕ) → i < length changes → get_or (pages_of changes) i x ≡ (change_at changes i).page
   named_at i x lt = get_or-map (λ (c : Change). c.page) changes i (record { page = 0; content = None }) x lt
 
@@ -147,29 +146,32 @@ module _ (size sector : ℕ) (d : Database) (pages : Pages) (n k place : ℕ) (c
         get_or-take (k * 64 + m) (pages_of changes) i (change_at changes i).page to ∙ named_at i (change_at changes i).page there,
       ))
 
-  pub part_after : (e : Database) → 512 ≤ sector → (k * 64 + m ≡ (k + 1) * 64) ⊎ ((length changes ≤ k * 64 + m) × (length changes ≤ (k + 1) * 64)) → (r : Result ℕ RollError) (new : DiskState)
-      → SegmentAnswer size sector d e (take (k * 64) (pages_of changes)) (take (k * 64) (pages_of changes)) place (pages_of (take m (drop (k * 64) changes))) r s new → PartAnswer size sector d e (pages_of changes) k r s new
-  part_after e wide cases (Ok next) new done =
+  pub part_after : (e : Database) → 512 ≤ sector → (k * 64 + m ≡ (k + 1) * 64) ⊎ ((length changes ≤ k * 64 + m) × (length changes ≤ (k + 1) * 64)) → (nonce : ℕ) → k < length given → nonce ≡ get_or given k 0 → (r : Result ℕ RollError) (new : DiskState)
+      → SegmentAnswer size sector d e (take (k * 64) (pages_of changes)) (take (k * 64) (pages_of changes)) place is.parted.journaled.0 (pages_of (take m (drop (k * 64) changes))) nonce r s new
+      → PartAnswer size sector d e (pages_of changes) given k r s new
+  part_after e wide cases nonce lt at (Ok next) new done =
       let above = next_of (sizes sector size) place (old_pages d (pages_of (take m (drop (k * 64) changes)))) (omega (arith, wide)) in (
         record {
           journaled = (done.1.0, subst (λ (l : List ℕ). Journaled size sector d l next done.1.0 new) (joined changes k m cases) done.1.1);
+          taken = subst (λ (l : List ℕ). HasNonces (sizes sector size) done.1.0 next l)
+              (ap (λ (x : ℕ). take k given ++ x ∷ []) at ∙ sym (take-suc given k 0 lt) ∙ ap (λ (i : ℕ). take i given) (let e : suc k ≡ k + 1 = omega arith in e)) (done.1.2 (take k given) is.parted.taken);
           put = subst (λ (l : List ℕ). ArePut size e l new.db) (joined changes k m cases) done.2;
           first = λ z. absurd (omega (arith, z));
           later = λ z. omega (arith, done.0, above, wide);
         },
         done.3,
       )
-  part_after e wide cases (Err error) new failed = failed
+  part_after e wide cases nonce lt at (Err error) new failed = failed
 
-pub part_back : (pages : Pages) (n sector k : ℕ) (d : Database) (core : Core) (size : ℕ) (changes : List Change) (r : Result ℕ RollError) (old new : DiskState) → size ≡ core.page_size → changes ≡ core.changes.items
-    → PartAnswer size sector d (apply d pages n) (pages_of changes) k r old new → PartAnswer core.page_size sector d (apply d pages n) (pages_of core.changes.items) k r old new
-part_back pages n sector k d core size changes r old new one two done =
-    subst (λ (z : ℕ). PartAnswer z sector d (apply d pages n) (pages_of core.changes.items) k r old new) one (subst (λ (l : List Change). PartAnswer size sector d (apply d pages n) (pages_of l) k r old new) two done)
+pub part_back : (pages : Pages) (n sector : ℕ) (given : List ℕ) (k : ℕ) (d : Database) (core : Core) (size : ℕ) (changes : List Change) (r : Result ℕ RollError) (old new : DiskState) → size ≡ core.page_size → changes ≡ core.changes.items
+    → PartAnswer size sector d (apply d pages n) (pages_of changes) given k r old new → PartAnswer core.page_size sector d (apply d pages n) (pages_of core.changes.items) given k r old new
+part_back pages n sector given k d core size changes r old new one two done =
+    subst (λ (z : ℕ). PartAnswer z sector d (apply d pages n) (pages_of core.changes.items) given k r old new) one (subst (λ (l : List Change). PartAnswer size sector d (apply d pages n) (pages_of l) given k r old new) two done)
 
 -- ---- All parts.
 
-module _ (size sector : ℕ) (d e : Database) (numbers : List ℕ) where
-  pub parts_begin : (s : DiskState) → Suits size s → IsHeld size d → s.sector ≡ sector → Rests size d s → Parted size sector d e numbers 0 0 s
+module _ (size sector : ℕ) (d e : Database) (numbers given : List ℕ) where
+  pub parts_begin : (s : DiskState) → Suits size s → IsHeld size d → s.sector ≡ sector → Rests size d s → Parted size sector d e numbers given 0 0 s
   parts_begin s suits held same rests = record {
     journaled = (
       rests.log.0,
@@ -190,23 +192,26 @@ module _ (size sector : ℕ) (d e : Database) (numbers : List ℕ) where
         is = begins size sector d rests.log.0 rests.log.2;
       },
     );
+    taken = ([], refl, refl);
     put = λ p has. absurd (omega (arith, has.1));
     first = λ z. refl;
     later = λ z. absurd (omega (arith, z));
   }
 
-  pub parts_end : {T : Type 0} (v : T) (k place : ℕ) (a b : DiskState) → length numbers ≤ k * 64 → 0 < k → Parted size sector d e numbers k place b → a.refused ≤ b.refused → SegmentsAnswer size sector d e numbers (Ok v) a b
-  parts_end v k place a b all some is later = (
+  pub parts_end : {T : Type 0} (v : T) (k place : ℕ) (a b : DiskState) → length numbers ≤ k * 64 → 0 < k → k ≡ segments_of (length numbers) → Parted size sector d e numbers given k place b → a.refused ≤ b.refused
+      → SegmentsAnswer size sector d e numbers given (Ok v) a b
+  parts_end v k place a b all some whole is later = (
     place,
     is.journaled.0,
     is.later some,
     subst (λ (l : List ℕ). Journaled size sector d l place is.journaled.0 b) (take_all (k * 64) numbers all) is.journaled.1,
     subst (λ (l : List ℕ). ArePut size e l b.db) (take_all (k * 64) numbers all) is.put,
     later,
+    subst (λ (i : ℕ). HasNonces (sizes sector size) is.journaled.0 place (take i given)) whole is.taken,
   )
 
-pub part_forth : (pages : Pages) (n sector k place : ℕ) (d : Database) (a b : Core) (s : DiskState) → KeepsCore a b → b.changes ≡ a.changes → Parted a.page_size sector d (apply d pages n) (pages_of a.changes.items) k place s
-    → Parted b.page_size sector d (apply d pages n) (pages_of b.changes.items) k place s
-part_forth pages n sector k place d a b s kept same parted =
-    subst (λ (z : ℕ). Parted z sector d (apply d pages n) (pages_of b.changes.items) k place s) (sym kept.page_size)
-    (subst (λ (l : List Change). Parted a.page_size sector d (apply d pages n) (pages_of l) k place s) (sym (ap (λ v. v.items) same)) parted)
+pub part_forth : (pages : Pages) (n sector : ℕ) (given : List ℕ) (k place : ℕ) (d : Database) (a b : Core) (s : DiskState) → KeepsCore a b → b.changes ≡ a.changes → Parted a.page_size sector d (apply d pages n) (pages_of a.changes.items) given k place s
+    → Parted b.page_size sector d (apply d pages n) (pages_of b.changes.items) given k place s
+part_forth pages n sector given k place d a b s kept same parted =
+    subst (λ (z : ℕ). Parted z sector d (apply d pages n) (pages_of b.changes.items) given k place s) (sym kept.page_size)
+    (subst (λ (l : List Change). Parted a.page_size sector d (apply d pages n) (pages_of l) given k place s) (sym (ap (λ v. v.items) same)) parted)

@@ -1,10 +1,11 @@
 -- Worked runs, step by step.
-use Rattle.std.proofs.Common.{◌≡◌, ℕ, Bool, true, List, [], ◌∷◌, length, Option, Some, None, refl, inl, inr, lit<, lit≤}
+use Rattle.std.proofs.Common.{◌≡◌, ℕ, true, List, ◌∷◌, length, Option, Some, None, refl, inl, inr, lit<, lit≤, []}
 use Rattle.sqval.specs.Database.{page}
 use Rattle.sqval.specs.Answers.{HasCause, Refuses}
 use Rattle.rollcore.specs.Machine.{refusal_of}
 use Rattle.rollcore.specs.Rows.{Committed, Stopped, StoppedLate, CallsRefused}
 use Rattle.rollcore.proofs.Leading.{end, next, go, on_base}
+use Rattle.sqval.proofs.Answering.{refuses_first}
 
 -- a commit of a page of the right length
 fits : (content : List ℕ) → length content ≡ 512 → refusal_of 3 512 ((1, content) ∷ []) 1 1 ≡ None
@@ -12,9 +13,6 @@ fits content e = rw e refl
 
 without_nonce : (content : List ℕ) → length content ≡ 512 → refusal_of 3 512 ((1, content) ∷ []) 1 0 ≡ Some 16
 without_nonce content e = rw e refl
-
-refuses : {S : Type 0} (first : Option ℕ) (n : ℕ) (m : Bool) (failed : S) (b a : ℕ) (old : S) → first ≡ Some n → Refuses first m failed b a old n old
-refuses first n m failed b a old e = rw e (refl, refl)
 
 stops : {S : Type 0} (first : Option ℕ) (failed : S) (b a : ℕ) (old : S) → first ≡ None → HasCause b a → Refuses first true failed b a old 15 failed
 stops first failed b a old e cause = rw e (inr (refl, cause, refl))
@@ -33,4 +31,4 @@ played_stopped_late a b f1 f2 la lb v1 v2 = on_base (go (0, lit≤ tt, lit< tt, 
 
 pub played_calls_refused : CallsRefused
 unfolding page
-played_calls_refused a b f1 f2 la lb v1 = on_base (go (refl, refl) (go (0, lit≤ tt, lit< tt, v1, λ _. refl, refl) (go (refl, refl) (go (refl, refl) (go (refuses _ _ _ _ _ _ _ (without_nonce b lb)) (go (refl, refl) (go (refl, refl, refl) (end _ _))))))))
+played_calls_refused a b f1 f2 la lb v1 = on_base (go (refl, refl) (go (0, lit≤ tt, lit< tt, v1, λ _. refl, refl) (go (refl, refl) (go (refl, refl) (go (refuses_first _ _ _ _ _ _ _ (without_nonce b lb)) (go (refl, refl) (go (refl, refl, refl) (end _ _))))))))

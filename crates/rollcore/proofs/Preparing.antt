@@ -1,32 +1,32 @@
 -- The records of a segment come down.
-use Rattle.std.proofs.Common.{◌≡◌, ◌⊎◌, inl, inr, ⊎_elim, ℕ, ◌+◌, ◌-◌, ◌*◌, ◌<◌, ◌≤◌, true, false, List, [], ◌∷◌, ◌++◌, length, get_or, refl, sym, ◌∙◌, ap, subst, arith}
+use Rattle.std.proofs.Common.{◌≡◌, ◌⊎◌, inl, inr, ⊎_elim, ℕ, ◌+◌, ◌-◌, ◌≤◌, true, false, List, ◌∷◌, length, get_or, sym, ◌∙◌, ap, subst, arith, []}
 use Rattle.std.specs.Prelude.{Result, Ok, Err, Bool}
 use Rattle.sqval.specs.Database.{Database}
-use Rattle.sqjournal.specs.Header.{HasMagic}
 use Rattle.sqjournal.specs.Journal.{records_end, AreRecords}
 use Rattle.crashdisk.specs.State.{FileState, byte, written}
-use Rattle.crashdisk.specs.Call.{DiskState, ArePresent, Writes, Syncs}
-use Rattle.crashdisk.specs.declared.file.File.TheVariants.{Db, Log}
+use Rattle.crashdisk.specs.Call.{DiskState, ArePresent}
+use Rattle.crashdisk.specs.declared.file.File.TheVariants.{Log}
 use Rattle.crashdisk.specs.declared.error.DiskError.{DiskError}
 use Rattle.crashdisk.proofs.Images.{table}
 use Rattle.crashdisk.proofs.Sound.{written_inside, written_outside}
 use Rattle.crashdisk.proofs.Steps.{present_steady, present_written, present_list}
-use Rattle.rollcore.specs.Replaying.{IsLogDown}
-use Rattle.rollcore.specs.Steps.{Still, SyncStep}
+use Rattle.crashdisk.specs.Keeps.{Still, SyncStep}
 use Rattle.rollcore.specs.Opening.{PutsZero, BreakSteps}
-use Rattle.rollcore.specs.Journaling.{old_pages, sizes, next_place, IsJournaled}
-use Rattle.rollcore.specs.Segments.{IsAt, Journaled, Recording, Recorded, Ended, Prepared, PreparedAnswer, Harmless}
+use Rattle.rollcore.specs.Journaling.{old_pages, sizes, next_place, SameBelow}
+use Rattle.rollcore.specs.Segments.{IsAt, Recording, Recorded, Ended, Prepared, KeepsNonces, Harmless}
 use Rattle.rollcore.specs.declared.error.RollError.{RollError}
-use Rattle.rollcore.proofs.Copies.{present_byte}
-use Rattle.rollcore.proofs.Ending.{sync_down, sync_later, sync_refused}
-use Rattle.rollcore.proofs.Pages.{sector_some}
-use Rattle.rollcore.proofs.Stills.{refusal_after}
-use Rattle.rollcore.proofs.Suiting.{suits_syncs}
+use Rattle.crashdisk.proofs.Down.{present_byte}
+use Rattle.rollcore.proofs.Ending.{sync_down}
+use Rattle.crashdisk.proofs.Later.{sync_refused}
+use Rattle.crashdisk.proofs.Pages.{sector_some}
+use Rattle.crashdisk.proofs.Stills.{refusal_after}
+use Rattle.crashdisk.proofs.Suiting.{suits_syncs}
 use Rattle.rollcore.proofs.Unharmed.{at_by}
 use Rattle.rollcore.proofs.Recording.{recording_still, recording_writes, recording_syncs, recording_unharmed}
 use Rattle.rollcore.proofs.WholeSegments.{records_same, next_above, next_of}
-use Rattle.rollcore.proofs.Headed.{journaled_same}
+use Rattle.rollcore.proofs.Headed.{journaled_same, nonces_kept}
 use Rattle.rollcore.proofs.Restoring.{zero_gate}
+use Rattle.rollcore.specs.declared.error.RollError.TheVariants.{Device}
 
 module _ (size sector : ℕ) (d : Database) (named : List ℕ) (place : ℕ) (w part : List ℕ) (nonce : ℕ) where
   abbrev pub next : ℕ
@@ -87,9 +87,9 @@ module _ (size sector : ℕ) (d : Database) (named : List ℕ) (place : ℕ) (w 
 
   -- ---- The log is synced.
 
-  pub settle_failed : {T : Type 0} (r : Result T RollError) (e : RollError) (old new : DiskState) → Ended size sector d named place w part nonce old → r ≡ Err e → SyncStep Log r old new → Harmless size d e old new
+  pub settle_failed : {T : Type 0} (r : Result T RollError) (e : RollError) (old new : DiskState) → Ended size sector d named place w part nonce old → r ≡ Err e → SyncStep Device Log r old new → Harmless size d e old new
   settle_failed r e old new is was step =
-      let refused = sync_refused Log r e old new is.recorded.recording.at.suits.sound was step in
+      let refused = sync_refused Device Log r e old new is.recorded.recording.at.suits.sound was step in
       record { device = refused.0; refusal = refused.1; unharmed = recording_unharmed size sector d named place w new (recording_syncs size sector d named place w step.0 old new is.recorded.recording step.2) }
 
   long_enough : (v : List ℕ) → AreRecords (sizes sector size) v nonce (place + sector) (old_pages d part) → (place ≡ 0) ⊎ (1 ≤ length part) → (place ≡ 0) ⊎ (place + sector ≤ length v)
@@ -100,27 +100,29 @@ module _ (size sector : ℕ) (d : Database) (named : List ℕ) (place : ℕ) (w 
       first [] r none = absurd (omega (arith, none))
       first (x ∷ xs) r one = omega (arith, r.0.whole)
 
-  pub settled : {T : Type 0} (r : Result T RollError) (done : T) (old new : DiskState) → Ended size sector d named place w part nonce old → (place ≡ 0) ⊎ (1 ≤ length part) → r ≡ Ok done → SyncStep Log r old new
-      → (v : List ℕ) × Prepared size sector d named place part nonce v new
+  pub settled : {T : Type 0} (r : Result T RollError) (done : T) (old new : DiskState) → Ended size sector d named place w part nonce old → (place ≡ 0) ⊎ (1 ≤ length part) → r ≡ Ok done → SyncStep Device Log r old new
+      → (v : List ℕ) × Prepared size sector d named place part nonce v new × KeepsNonces (sizes sector size) place w v
   settled r done old new is more was step =
       let at = is.recorded.recording.at in
       let u : List ℕ = table old.log.len (byte old.log) in
       let are = present_list old.log in
-      let wide : 512 ≤ sector = some old at in (
+      let wide : 512 ≤ sector = some old at in
+      let same : SameBelow (place + 8) w u = record {
+        each = λ i lt. present_byte old.log u are i ∙ present_steady Log old i (get_or w i 0) at.suits.sound.log (is.recorded.recording.below i (omega arith));
+        long = omega (arith, is.recorded.recording.long, at.suits.sound.log.least, are.len);
+      } in (
         u,
         record {
           at = at_by size sector d named place old new at (suits_syncs size Log step.0 old new at.suits step.2) step.2.elsewhere.sector step.2.elsewhere.tears step.2.elsewhere.other;
           down = sync_down r done u old new at.suits.sound was step are;
           is = record {
-            journaled = journaled_same size sector d wide named place w u is.recorded.recording.is (record {
-              each = λ i lt. present_byte old.log u are i ∙ present_steady Log old i (get_or w i 0) at.suits.sound.log (is.recorded.recording.below i (omega arith));
-              long = omega (arith, is.recorded.recording.long, at.suits.sound.log.least, are.len);
-            });
+            journaled = journaled_same size sector d wide named place w u is.recorded.recording.is same;
             records = is.recorded.records u are;
             ends = is.ends u are;
             long = long_enough u (is.recorded.records u are) more;
           };
         },
+        nonces_kept (sizes sector size) w u place wide same,
       )
 
 pub break_later : (at : ℕ) (stood : Bool) (old new : DiskState) → BreakSteps at (Ok stood) old new → old.refused ≤ new.refused

@@ -1,5 +1,5 @@
 -- The new database, once all its pages are in the file.
-use Rattle.std.proofs.Common.{◌≡◌, ◌⊎◌, inl, inr, ⊎_elim, ℕ, zero, suc, ◌+◌, ◌-◌, ◌*◌, ◌<◌, ◌≤◌, List, [], ◌∷◌, ◌++◌, length, get_or, take, drop, refl, sym, ◌∙◌, ap, subst, arith, length-take, length-drop}
+use Rattle.std.proofs.Common.{◌≡◌, ◌⊎◌, inl, inr, ⊎_elim, ℕ, zero, suc, ◌+◌, ◌-◌, ◌*◌, ◌<◌, ◌≤◌, List, ◌∷◌, ◌++◌, length, get_or, take, drop, refl, sym, ◌∙◌, ap, subst, arith, length-take, length-drop, []}
 use Rattle.std.specs.Prelude.{Ok, Option, Some, None, unwrap_or}
 use Rattle.std.specs.List.{Contains}
 use Rattle.std.proofs.lemmas.Bool.{cases_lt}
@@ -22,8 +22,9 @@ use Rattle.rollcore.specs.Steps.{ArePages}
 use Rattle.rollcore.specs.Commits.{change_at, AreChanges}
 use Rattle.rollcore.specs.Segments.{Journaled, ArePut, Becomes, AreTurned, AreOf, AreFresh, pages_of, new_numbers}
 use Rattle.rollcore.specs.declared.changes.Change.{Change}
-use Rattle.rollcore.proofs.Pages.{page_at, page_within, page_by_bytes}
-use Rattle.rollcore.proofs.Copies.{present_byte}
+use Rattle.crashdisk.proofs.Pages.{page_at, page_within}
+use Rattle.sqval.proofs.FilePages.{page_by_bytes}
+use Rattle.crashdisk.proofs.Down.{present_byte}
 
 -- ---- The file has all pages.
 

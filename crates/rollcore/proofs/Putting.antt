@@ -1,38 +1,36 @@
 -- Pages go into the file whose old contents stand in the journal.
-use Rattle.std.proofs.Common.{◌≡◌, ◌≢◌, ◌⊎◌, inl, inr, ⊎_elim, ℕ, ◌+◌, ◌-◌, ◌*◌, ◌/◌, ◌<◌, ◌≤◌, List, [], ◌∷◌, ◌++◌, length, get_or, take, refl, sym, ◌∙◌, ap, subst, arith, append_assoc, length-take}
+use Rattle.std.proofs.Common.{◌≡◌, ◌≢◌, ◌⊎◌, inl, inr, ⊎_elim, ℕ, ◌+◌, ◌-◌, ◌*◌, ◌<◌, ◌≤◌, List, ◌∷◌, ◌++◌, length, get_or, take, sym, ◌∙◌, ap, subst, arith, append_assoc, length-take, []}
 use Rattle.std.specs.Prelude.{Result, Ok, Err, Option, Some, None}
 use Rattle.std.specs.Borrow.{Bor}
 use Rattle.std.specs.List.{Contains}
 use Rattle.std.proofs.lemmas.Bool.{cases_eq, cases_lt}
 use Rattle.std.proofs.lemmas.List.{append-nil, take_all, take_more, length-map, get_or-map, get_or-take}
 use Rattle.std.proofs.lemmas.List.Elements.{Contains-push_cases, Contains-append_cases}
-use Rattle.std.proofs.Math.Nat.{mul-le-mul_right}
 use Rattle.sqval.specs.CommitFaults.{most_bytes}
 use Rattle.sqval.specs.Database.{Database, Pages, page}
 use Rattle.sqval.specs.JudgedPages.{lent}
-use Rattle.crashdisk.specs.State.{FileState, byte, written, Meets, longest}
+use Rattle.crashdisk.specs.State.{FileState}
 use Rattle.crashdisk.specs.Call.{DiskState, IsSoundDisk, Writes, Cuts}
 use Rattle.crashdisk.specs.Facts.{Spreads, IsClear}
-use Rattle.crashdisk.specs.declared.file.File.TheVariants.{Db, Log}
+use Rattle.crashdisk.specs.declared.file.File.TheVariants.{Db}
 use Rattle.crashdisk.specs.declared.error.DiskError.{DiskError}
 use Rattle.crashdisk.proofs.Sound.{written_inside, written_outside, where_at}
 use Rattle.crashdisk.proofs.Steps.{steady_writes, steady_cuts, present_written}
-use Rattle.rollcore.specs.Replaying.{HadRefusal}
+use Rattle.crashdisk.specs.Keeps.{HadRefusal}
 use Rattle.rollcore.specs.Journaling.{IsJournaled}
 use Rattle.rollcore.specs.Segments.{IsAt, Unharmed, Harmless, Journaled, ArePut, PageStep, Becomes, AreTurned, AreSome, pages_of}
 use Rattle.rollcore.specs.Commits.{change_at}
 use Rattle.rollcore.specs.declared.changes.Change.{Change}
 use Rattle.rollcore.specs.declared.error.RollError.{RollError}
 use Rattle.rollcore.specs.declared.error.RollError.TheVariants.{Device}
-use Rattle.rollcore.proofs.Down.{down_writes, down_cuts, down_one}
-use Rattle.rollcore.proofs.Ending.{told_err, told_ok}
-use Rattle.rollcore.proofs.Pages.{page_at, page_end, page_apart, page_within, page_clear, cut_clear, sector_some}
-use Rattle.rollcore.proofs.Scans.{had_refusal}
-use Rattle.rollcore.proofs.Stills.{refusal_after}
+use Rattle.crashdisk.proofs.Down.{down_writes, down_cuts, down_one}
+use Rattle.crashdisk.proofs.Later.{told_err, told_ok}
+use Rattle.crashdisk.proofs.Pages.{page_at, page_end, page_apart, page_within, page_clear, cut_clear, sector_some}
+use Rattle.crashdisk.proofs.Stills.{had_refusal, refusal_after}
 use Rattle.rollcore.proofs.Recorded.{page_in}
-use Rattle.rollcore.proofs.Suiting.{suits_writes, suits_cuts}
+use Rattle.crashdisk.proofs.Suiting.{suits_writes, suits_cuts}
 use Rattle.rollcore.proofs.Unharmed.{image_read, unharmed_still}
-use Rattle.rollcore.proofs.Writing.{whole_pages, page_is_clear}
+use Rattle.crashdisk.proofs.Clear.{whole_pages, page_is_clear}
 
 module _ (size sector : ℕ) (d : Database) (named : List ℕ) (place : ℕ) (w : List ℕ) (begun : 0 < place) where
   clear : (s : DiskState) → IsAt size sector d named place s → (p i : ℕ) → 1 ≤ p → p ≤ length d → (Contains named p → ⊥) → i < size → IsClear s.sector s.tears s.db (page_at size p + i)
@@ -124,12 +122,12 @@ module _ (size : ℕ) (e : Database) (numbers : List ℕ) where
 module _ {T : Type 0} (number : ℕ) (content : List ℕ) (r : Result T RollError) (old new : DiskState) (sound : IsSoundDisk old) (step : PageStep number content r old new) where
   pub page_refused : (e : RollError) → 1 ≤ number → number * length content ≤ most_bytes → r ≡ Err e → (e ≡ Device) × HadRefusal old new
   page_refused e one fits is =
-      let t = told_err step.0 r e is step.1 in
+      let t = told_err Device step.0 r e is step.1 in
       (t.0, had_refusal step.0 t.1.0 ((number - 1) * length content + length content) old new sound.refused t.1.1 step.2.within (omega (arith, page_end (length content) number one)) step.2.elsewhere.refused)
 
   pub page_done : (v : T) → r ≡ Ok v → (x : T) × Writes Db ((number - 1) * length content) content (Ok x) old new
   page_done v is =
-      let t = told_ok step.0 r v is step.1 in
+      let t = told_ok Device step.0 r v is step.1 in
       (t.0, subst (λ (x : Result T DiskError). Writes Db ((number - 1) * length content) content x old new) t.1 step.2)
 
 -- ---- Change after change.

@@ -1,8 +1,8 @@
 -- Records of old pages go into the journal.
-use Rattle.std.proofs.Common.{◌≡◌, ◌⊎◌, inl, inr, ⊎_elim, ℕ, suc, ◌+◌, ◌-◌, ◌*◌, ◌^◌, ◌<◌, ◌≤◌, List, [], ◌∷◌, ◌++◌, length, get_or, take, drop, map, refl, sym, ◌∙◌, ap, subst, arith, length-append, length-drop}
+use Rattle.std.proofs.Common.{◌≡◌, inl, inr, ⊎_elim, ℕ, suc, ◌+◌, ◌-◌, ◌*◌, ◌^◌, ◌<◌, ◌≤◌, List, ◌∷◌, ◌++◌, length, get_or, take, drop, refl, sym, ◌∙◌, ap, subst, arith, length-append, length-drop, []}
 use Rattle.std.specs.Prelude.{Result, Ok, Err}
 use Rattle.std.specs.List.{Contains}
-use Rattle.std.proofs.lemmas.List.{drop_all, take_all, drop_at, take_at, take_more, length-take-le, map-append, length-map, get_or-map, append-nil}
+use Rattle.std.proofs.lemmas.List.{drop_all, take_all, drop_at, take_at, take_more, length-take-le, map-append, get_or-map, append-nil}
 use Rattle.std.proofs.lemmas.Grind.{same_number_lists}
 use Rattle.std.proofs.Math.Nat.{mul-le-mul_left, mul-le-mul_right}
 use Rattle.byteorder.specs.Endian.{big_bytes}
@@ -10,25 +10,24 @@ use Rattle.sqval.specs.Bytes.{part}
 use Rattle.sqval.specs.CommitFaults.{most_bytes}
 use Rattle.sqval.specs.Database.{Database, page}
 use Rattle.sqjournal.specs.NonceSum.{nonce_sum}
-use Rattle.sqjournal.specs.Journal.{records_end, record_len, AreRecords, IsRecord}
+use Rattle.sqjournal.specs.Journal.{records_end, AreRecords, IsRecord}
 use Rattle.crashdisk.specs.State.{FileState, byte, written, longest}
-use Rattle.crashdisk.specs.Call.{DiskState, IsSoundDisk, ArePresent, Writes, Looks}
+use Rattle.crashdisk.specs.Call.{DiskState, IsSoundDisk, Writes, Looks}
 use Rattle.crashdisk.specs.declared.file.File.TheVariants.{Db, Log}
 use Rattle.crashdisk.specs.declared.error.DiskError.{DiskError}
 use Rattle.crashdisk.proofs.Images.{table}
 use Rattle.crashdisk.proofs.Sound.{written_inside, written_outside}
 use Rattle.crashdisk.proofs.Steps.{present_steady, present_written, present_list}
-use Rattle.rollcore.specs.Replaying.{HadRefusal}
-use Rattle.rollcore.specs.Steps.{Still}
+use Rattle.crashdisk.specs.Keeps.{Still}
 use Rattle.rollcore.specs.Journaling.{old_pages, sizes, record_bytes}
-use Rattle.rollcore.specs.Segments.{IsAt, Journaled, Recording, Recorded, LogsRecord, RecordStep, Harmless, pages_of, AreFresh}
+use Rattle.rollcore.specs.Segments.{IsAt, Recording, Recorded, LogsRecord, RecordStep, Harmless, pages_of, AreFresh}
 use Rattle.rollcore.specs.declared.changes.Change.{Change}
 use Rattle.rollcore.specs.declared.error.RollError.{RollError}
 use Rattle.rollcore.specs.declared.error.RollError.TheVariants.{Device}
-use Rattle.rollcore.proofs.Copies.{present_byte}
-use Rattle.rollcore.proofs.Pages.{page_at, page_end, size_some}
-use Rattle.rollcore.proofs.Scans.{had_refusal}
-use Rattle.rollcore.proofs.Stills.{still_looks, refusal_after}
+use Rattle.crashdisk.proofs.Down.{present_byte}
+use Rattle.crashdisk.proofs.Pages.{page_end}
+use Rattle.sqval.proofs.FilePages.{size_some}
+use Rattle.crashdisk.proofs.Stills.{had_refusal, still_looks, refusal_after}
 use Rattle.rollcore.proofs.Recording.{recording_still, recording_writes, recording_unharmed}
 use Rattle.rollcore.proofs.Journaled.{length-record, record_is}
 use Rattle.rollcore.proofs.WholeSegments.{records_more, records_same, end_count}

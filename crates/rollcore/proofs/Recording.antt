@@ -1,27 +1,24 @@
 -- What is written behind the place of a header.
-use Rattle.std.proofs.Common.{◌≡◌, ◌⊎◌, inl, inr, ⊎_elim, ℕ, ◌+◌, ◌-◌, ◌*◌, ◌/◌, ◌<◌, ◌≤◌, Bool, true, List, [], ◌∷◌, ◌++◌, length, get_or, refl, sym, ◌∙◌, ap, subst, arith}
-use Rattle.std.specs.Prelude.{Result, Ok, Err, IsTrue}
+use Rattle.std.proofs.Common.{◌≡◌, inl, inr, ℕ, ◌+◌, ◌*◌, ◌/◌, ◌<◌, ◌≤◌, Bool, List, length, get_or, sym, ap, subst, arith}
+use Rattle.std.specs.Prelude.{Result}
 use Rattle.std.proofs.Math.Nat.{div-lt_iff_lt-mul}
-use Rattle.sqval.specs.Database.{Database, page}
-use Rattle.sqjournal.specs.Journal.{IsHot}
-use Rattle.crashdisk.specs.State.{FileState, byte, IsImage, IsSound, Meets, IsSettled}
-use Rattle.crashdisk.specs.Call.{DiskState, ArePresent, Writes, Syncs, of}
+use Rattle.sqval.specs.Database.{Database}
+use Rattle.crashdisk.specs.State.{FileState, IsImage, Meets}
+use Rattle.crashdisk.specs.Call.{DiskState, Writes, Syncs}
 use Rattle.crashdisk.specs.Facts.{Steady, IsSteady, Spreads, IsClear}
-use Rattle.crashdisk.specs.declared.file.File.TheVariants.{Db, Log}
+use Rattle.crashdisk.specs.declared.file.File.TheVariants.{Log}
 use Rattle.crashdisk.specs.declared.error.DiskError.{DiskError}
 use Rattle.crashdisk.proofs.Altering.{started, then_write, then_sync}
 use Rattle.crashdisk.proofs.Settled.{settled_one}
 use Rattle.crashdisk.proofs.Steps.{steady_writes, steady_syncs}
 use Rattle.rollcore.specs.Fits.{MayBeRead}
-use Rattle.rollcore.specs.Phases.{Suits}
-use Rattle.rollcore.specs.Replaying.{IsLogDown}
-use Rattle.rollcore.specs.Steps.{Still}
-use Rattle.rollcore.specs.Journaling.{IsJournaled, Tells, SameBelow}
+use Rattle.crashdisk.specs.Keeps.{Still}
+use Rattle.rollcore.specs.Journaling.{Tells}
 use Rattle.rollcore.specs.Segments.{Unharmed, IsAt, Journaled, Recording}
-use Rattle.rollcore.proofs.Pages.{sector_some}
-use Rattle.rollcore.proofs.Stills.{still_sound}
-use Rattle.rollcore.proofs.Suiting.{suits_by, suits_writes, suits_syncs}
-use Rattle.rollcore.proofs.Writing.{untouched}
+use Rattle.crashdisk.proofs.Pages.{sector_some}
+use Rattle.crashdisk.proofs.Stills.{still_sound}
+use Rattle.crashdisk.proofs.Suiting.{suits_by, suits_writes, suits_syncs}
+use Rattle.crashdisk.proofs.Clear.{untouched}
 use Rattle.rollcore.proofs.Unharmed.{image_read, at_by, unharmed_still}
 use Rattle.rollcore.proofs.Headed.{journaled_same}
 

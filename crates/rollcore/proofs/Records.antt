@@ -1,5 +1,5 @@
 -- The records of a journal: which is the last that names a page, and the database that they restore.
-use Rattle.std.proofs.Common.{◌≡◌, ◌≢◌, ◌⊎◌, inl, inr, ⊎_elim, ℕ, zero, suc, ◌+◌, ◌-◌, ◌*◌, ◌<◌, ◌≤◌, Bool, true, false, cond, List, [], ◌∷◌, ◌++◌, map, length, get_or, take, drop, reverse, refl, sym, ◌∙◌, ap, subst, arith, length-drop}
+use Rattle.std.proofs.Common.{◌≡◌, ◌≢◌, ◌⊎◌, inl, inr, ⊎_elim, ℕ, zero, suc, ◌+◌, ◌-◌, ◌*◌, ◌<◌, ◌≤◌, Bool, true, false, cond, List, ◌∷◌, ◌++◌, map, length, get_or, take, drop, reverse, refl, sym, ◌∙◌, ap, subst, arith, length-drop, []}
 use Rattle.std.specs.Prelude.{Option, Some, None, unwrap_or, slice_get, ◌==◌}
 use Rattle.std.specs.List.{range_with_len, flat_map}
 use Rattle.std.proofs.lemmas.List.{reverse-append, map-append, get_or-drop, get_or-take, take-append-drop, length-take-le, ext_get_or}
@@ -17,7 +17,7 @@ use Rattle.sqjournal.specs.declared.reading.Record.{Record}
 use Rattle.sqjournal.specs.declared.reading.Why.{Why}
 use Rattle.sqjournal.proofs.Contents.{content_at, contents}
 use Rattle.sqjournal.proofs.Unique.{one_journal}
-use Rattle.rollcore.proofs.Pages.{length-file_page}
+use Rattle.sqval.proofs.FilePages.{length-file_page}
 
 -- ---- Lists.
 

@@ -1,6 +1,6 @@
 -- What an opening has recovered, by its steps.
-use Rattle.std.proofs.Common.{◌≡◌, inl, inr, ⊎_elim, ℕ, ◌+◌, ◌-◌, ◌*◌, ◌<◌, ◌≤◌, Bool, true, false, cond, List, [], length, get_or, take, refl, sym, ◌∙◌, ap, subst, arith, Option, unwrap_or}
-use Rattle.std.specs.Prelude.{Result, Ok, Err, IsTrue, Some, MatchOption, MatchResult}
+use Rattle.std.proofs.Common.{◌≡◌, inl, inr, ⊎_elim, ℕ, ◌+◌, ◌-◌, ◌*◌, ◌<◌, ◌≤◌, Bool, true, false, cond, List, length, get_or, take, refl, sym, ◌∙◌, ap, subst, arith, Option, unwrap_or, []}
+use Rattle.std.specs.Prelude.{Result, Ok, Err, IsTrue, Some, MatchOption}
 use Rattle.std.proofs.lemmas.List.{get_or-take, ext_get_or, length-take-le}
 use Rattle.std.proofs.lemmas.Bool.{cases_eq}
 use Rattle.sqval.specs.Bytes.{word}
@@ -15,10 +15,10 @@ use Rattle.crashdisk.specs.Call.{DiskState, IsSoundDisk, ArePresent}
 use Rattle.crashdisk.proofs.Images.{table}
 use Rattle.crashdisk.proofs.Steps.{present_list}
 use Rattle.rollcore.specs.Alone.{Show, ShowsAlone}
-use Rattle.rollcore.specs.Phases.{Suits}
+use Rattle.crashdisk.specs.Keeps.{Suits, IsLogDown, Still, SyncStep}
 use Rattle.rollcore.specs.Plans.{IsBelow, PlanAnswer, ReadAnswer}
-use Rattle.rollcore.specs.Replaying.{IsLogDown, zeroed}
-use Rattle.rollcore.specs.Steps.{torn_sector, Still, SyncStep, RolledAnswer}
+use Rattle.rollcore.specs.Replaying.{zeroed}
+use Rattle.rollcore.specs.Steps.{torn_sector, RolledAnswer}
 use Rattle.sqval.specs.Answers.{Files}
 use Rattle.rollcore.specs.Machine.{State, at, last, newest, opened, closed}
 use Rattle.rollcore.specs.Refusal.{number_of}
@@ -33,15 +33,18 @@ use Rattle.rollcore.specs.declared.error.RollError.{RollError}
 use Rattle.rollcore.specs.declared.error.RollError.TheVariants.{TooLarge, PageSize, NoMemory, Device, SectorAbovePage}
 use Rattle.rollcore.proofs.Agreeing.{scanning_begins, scanning_still, scanning_shows}
 use Rattle.rollcore.proofs.Breaking.{zero_gate, cold_one}
-use Rattle.rollcore.proofs.Down.{present_image, shows_by, down_left, down_present, down_by, file_syncs}
+use Rattle.rollcore.proofs.Down.{shows_by, down_left}
+use Rattle.crashdisk.proofs.Down.{present_image, down_present, down_by, file_syncs}
 use Rattle.rollcore.proofs.Lengths.{may_down, down_read, ends_down, named_by}
-use Rattle.rollcore.proofs.Ending.{sync_refused, sync_down}
+use Rattle.rollcore.proofs.Ending.{sync_down}
+use Rattle.crashdisk.proofs.Later.{sync_refused}
 use Rattle.rollcore.proofs.Going.{goes_sync, goes_then, suits_go}
 use Rattle.crashdisk.specs.declared.file.File.TheVariants.{Log}
 use Rattle.rollcore.proofs.Narrowing.{narrows_still, narrows_syncs, ends_narrow, history_narrows, sectors_narrow}
-use Rattle.rollcore.proofs.Pages.{size_some, file_count}
+use Rattle.sqval.proofs.FilePages.{size_some, file_count}
 use Rattle.rollcore.proofs.Recovering.{zeroed_zero}
-use Rattle.rollcore.proofs.Stills.{refusal_after}
+use Rattle.crashdisk.proofs.Stills.{refusal_after}
+use Rattle.crashdisk.proofs.Suiting.{sector_within}
 
 pub may_after : (e : RollError) (a b c : DiskState) → a.refused ≤ b.refused → MayRefuse e b c → MayRefuse e a c
 may_after e a b c le may = ⊎_elim (λ none. inl none) (λ is. inr (is.0, refusal_after a b c le is.1)) may
@@ -93,7 +96,7 @@ module _ (size : ℕ) (d : Database) (w : List ℕ) (s : DiskState) (suits : Sui
       by : (b : Bool) → s.tears ≡ b → ⊥
       by true e =
           let is : IsBelow s.sector w = subst (λ (x : Bool). IsBelow (cond x s.sector 0) w) e under in
-          ⊎_elim (λ l. omega (arith, l, hot_size hot, suits.whole e)) (λ l. omega (arith, l, one.ends.sectors e w (may_down w s down) hot)) is
+          ⊎_elim (λ l. omega (arith, l, hot_size hot, sector_within size s suits e)) (λ l. omega (arith, l, one.ends.sectors e w (may_down w s down) hot)) is
       by false e =
           let none : IsBelow 0 w = subst (λ (x : Bool). IsBelow (cond x s.sector 0) w) e under in
           ⊎_elim (λ l. omega (arith, l)) (λ l. omega (arith, l)) none
@@ -269,18 +272,18 @@ module _ (past : State) (found : Files) (s : DiskState) (fits : FitsDisk past s)
   is_found = let k = fits.left found.log found_read in by_open past.is_open refl k.0 k.1 k.2 k.3
 
   -- the log is synced, or not
-  pub unsettled : {T : Type 0} (e : RollError) (r : Result T RollError) (q : Result ℕ RollError) (a : DiskState) → r ≡ Err e → SyncStep Log r s a → q ≡ Err e → RecoveredAt past found q s a
+  pub unsettled : {T : Type 0} (e : RollError) (r : Result T RollError) (q : Result ℕ RollError) (a : DiskState) → r ≡ Err e → SyncStep Device Log r s a → q ≡ Err e → RecoveredAt past found q s a
   unsettled e r q a was step given =
       let sound = fits.suits.sound in
       let narrows = narrows_syncs Log step.0 s a sound step.2 in
       subst (λ (x : Result ℕ RollError). RecoveredAt past found x s a) (sym given) (
         goes_sync Log r s a sound step,
-        inr (sync_refused Log r e s a sound was step),
+        inr (sync_refused Device Log r e s a sound was step),
         history_narrows s a narrows past.page_size past.history past.floor fits.left,
         sectors_narrow s a narrows fits.sectors,
       )
 
-  module _ {T : Type 0} (v : T) (r : Result T RollError) (a : DiskState) (was : r ≡ Ok v) (step : SyncStep Log r s a) where
+  module _ {T : Type 0} (v : T) (r : Result T RollError) (a : DiskState) (was : r ≡ Ok v) (step : SyncStep Device Log r s a) where
     is : IsFound past found.log s
     is = is_found
 
@@ -409,6 +412,3 @@ pub few_some : (o : Option Plan) (p : Plan) (n size : ℕ) → o ≡ Some p → 
 few_some o p n size is few same count =
     let have : p.header.first_size * p.header.page_size ≤ 1073741824 = subst (λ (x : Option Plan). MatchOption x (Unit {0}) (λ y. y.header.first_size * y.header.page_size ≤ 1073741824)) is few in
     subst (λ (k : ℕ). k * size ≤ 1073741824) (sym count) (subst (λ (k : ℕ). p.header.first_size * k ≤ 1073741824) same have)
-
-pub match_err : {T : Type 0} (r : Result T RollError) (e : RollError) (P : T → Type 0) (Q : RollError → Type 0) → r ≡ Err e → Q e → MatchResult r P Q
-match_err {T = T} r e P Q is q = subst (λ (x : Result T RollError). MatchResult x P Q) (sym is) q

@@ -1,5 +1,5 @@
 -- What a replay answers, of its parts.
-use Rattle.std.proofs.Common.{◌≡◌, ◌⊎◌, ⊎_elim, ℕ, ◌+◌, ◌-◌, ◌*◌, ◌<◌, ◌≤◌, Bool, true, false, cond, List, [], length, get_or, drop, replicate, refl, sym, ◌∙◌, ap, subst, arith}
+use Rattle.std.proofs.Common.{◌≡◌, ◌⊎◌, ⊎_elim, ℕ, ◌+◌, ◌-◌, ◌*◌, ◌<◌, ◌≤◌, Bool, true, false, cond, List, length, get_or, drop, replicate, refl, sym, ◌∙◌, ap, subst, arith, []}
 use Rattle.std.specs.Prelude.{Result, Ok, Err, Option, Some, None, IsTrue}
 use Rattle.std.specs.List.{flat_map}
 use Rattle.std.proofs.lemmas.List.{ext_get_or, get_or_append_left, get_or-replicate, length-replicate}
@@ -17,23 +17,21 @@ use Rattle.crashdisk.proofs.Sound.{byte_below}
 use Rattle.crashdisk.proofs.Images.{table}
 use Rattle.crashdisk.proofs.Steps.{present_list}
 use Rattle.sqval.specs.CommitFaults.{most_bytes}
-use Rattle.rollcore.specs.Replaying.{TearsJournal, IsTooLarge, KeepsBytes, zeroed, IsIdle, ReplayAnswer, Replays, Agrees, GoesOn}
-use Rattle.rollcore.specs.Steps.{torn_sector, Still, ArePages, CopyAnswer, EndAnswer, RolledAnswer}
+use Rattle.rollcore.specs.Replaying.{TearsJournal, IsTooLarge, zeroed, IsIdle, ReplayAnswer, Replays, Agrees, GoesOn}
+use Rattle.crashdisk.specs.Keeps.{KeepsBytes, Still}
+use Rattle.rollcore.specs.Steps.{torn_sector, ArePages, CopyAnswer, EndAnswer, RolledAnswer}
 use Rattle.rollcore.specs.Plans.{IsBelow, IsFit, IsPlan, PlanAnswer, ReadAnswer}
 use Rattle.rollcore.specs.declared.plan.Plan.{Plan}
 use Rattle.rollcore.specs.declared.replaying.Replayed.{Replayed}
 use Rattle.rollcore.specs.declared.error.RollError.{RollError}
 use Rattle.rollcore.specs.declared.error.RollError.TheVariants.{TooLarge, NoMemory, Device, SectorAbovePage}
 use Rattle.rollcore.proofs.Journals.{hot_long, zeros_cold}
-use Rattle.rollcore.proofs.Stills.{refusal_after, present_in}
-use Rattle.rollcore.proofs.Down.{down_by, down_syncs}
-use Rattle.rollcore.proofs.Scans.{had_refusal, had_refusal_any}
+use Rattle.crashdisk.proofs.Stills.{refusal_after, present_in, had_refusal}
+use Rattle.crashdisk.proofs.Down.{down_by, down_syncs}
+use Rattle.rollcore.proofs.Scans.{had_refusal_any}
 use Rattle.sqjournal.proofs.Taking.{has_count}
 use Rattle.rollcore.specs.Phases.{Scanning, Writing}
 use Rattle.rollcore.proofs.Records.{flat_is, made_length, rolled_exists}
-
-settled_present : (s : FileState) (c : List ℕ) → IsSettled s c → ArePresent s c
-settled_present s c is = record { len = sym is.len; each = λ i lt. sym (byte_below s i lt ∙ is.present i) }
 
 -- ---- What is planned is replayed.
 

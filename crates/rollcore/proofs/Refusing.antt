@@ -1,32 +1,26 @@
 -- What refuses an opening, whatever stands on the disk.
-use Rattle.std.proofs.Common.{◌≡◌, ◌≢◌, ◌⊎◌, inl, inr, ⊎_elim, ℕ, ◌+◌, ◌*◌, ◌<◌, ◌≤◌, Bool, true, false, cond, List, length, refl, sym, ◌∙◌, ap, subst, arith}
+use Rattle.std.proofs.Common.{◌≡◌, ◌⊎◌, inl, inr, ℕ, ◌<◌, ◌≤◌, Bool, true, false, cond, List, length, refl, sym, ◌∙◌, ap, subst, arith}
 use Rattle.std.specs.Prelude.{Result, Ok, Err, IfErr, Option}
 use Rattle.sqval.specs.Bytes.{word}
-use Rattle.sqval.specs.CommitFaults.{most_bytes}
 use Rattle.sqjournal.specs.Journal.{IsHot}
 use Rattle.crashdisk.specs.State.{FileState}
 use Rattle.crashdisk.specs.Call.{DiskState, IsSoundDisk, ArePresent, Syncs}
 use Rattle.crashdisk.specs.declared.file.File.TheVariants.{Log}
 use Rattle.crashdisk.specs.declared.error.DiskError.{DiskError}
-use Rattle.rollcore.specs.Replaying.{HadRefusal, KeepsBytes, TearsJournal, IsTooLarge}
-use Rattle.rollcore.specs.Steps.{torn_sector, Still, Told, SyncStep, RolledAnswer}
+use Rattle.crashdisk.specs.Keeps.{HadRefusal, KeepsBytes, Still, SyncStep, TearsPages}
+use Rattle.rollcore.specs.Steps.{torn_sector, RolledAnswer}
 use Rattle.rollcore.specs.Plans.{PlanAnswer, ReadAnswer}
-use Rattle.rollcore.specs.Opening.{CountAnswer, SizeJudged, BreakSteps, TearsPages, RefusedFor}
+use Rattle.rollcore.specs.Opening.{CountAnswer, SizeJudged, BreakSteps, RefusedFor}
 use Rattle.rollcore.specs.declared.plan.Plan.{Plan}
 use Rattle.rollcore.specs.declared.replaying.Replayed.{Replayed}
 use Rattle.rollcore.specs.declared.error.RollError.{RollError}
 use Rattle.rollcore.specs.declared.error.RollError.TheVariants.{TooLarge, PageSize, NoMemory, Device, SectorAbovePage}
-use Rattle.rollcore.proofs.Ending.{sync_refused}
+use Rattle.crashdisk.proofs.Later.{sync_refused, told_ok}
 use Rattle.rollcore.proofs.Recovering.{tears_by}
 use Rattle.rollcore.proofs.Going.{goes_sync}
-use Rattle.rollcore.proofs.Stills.{refusal_after, present_in}
-use Rattle.rollcore.proofs.Copies.{present_byte}
-use Rattle.rollcore.proofs.Ending.{told_ok}
+use Rattle.crashdisk.proofs.Stills.{refusal_after, present_in}
 use Rattle.crashdisk.proofs.Steps.{present_synced}
-
--- an answer that is an error
-pub if_err : {T : Type 0} (q : Result T RollError) (e : RollError) (P : RollError → Type 0) → q ≡ Err e → P e → IfErr q P
-if_err {T = T} q e P is p = subst (λ (x : Result T RollError). IfErr x P) (sym is) p
+use Rattle.sqval.proofs.Answering.{if_err}
 
 pub from_err : {T : Type 0} (q : Result T RollError) (e : RollError) (P : RollError → Type 0) → q ≡ Err e → IfErr q P → P e
 from_err {T = T} q e P is p = subst (λ (x : Result T RollError). IfErr x P) is p
@@ -90,16 +84,16 @@ broken_refused a b r q e was steps is =
     let x = subst (λ (y : Result Bool RollError). BreakSteps 0 y a b) was steps in
     if_err q e (λ y. (y ≡ Device) × HadRefusal a b) is (x.0, x.1)
 
-pub settled_refused : {T U : Type 0} (a b c : DiskState) (r : Result T RollError) (q : Result U RollError) (e : RollError) → a.refused ≤ b.refused → IsSoundDisk b → r ≡ Err e → SyncStep Log r b c → q ≡ Err e → IfErr q (λ x. (x ≡ Device) × HadRefusal a c)
+pub settled_refused : {T U : Type 0} (a b c : DiskState) (r : Result T RollError) (q : Result U RollError) (e : RollError) → a.refused ≤ b.refused → IsSoundDisk b → r ≡ Err e → SyncStep Device Log r b c → q ≡ Err e → IfErr q (λ x. (x ≡ Device) × HadRefusal a c)
 settled_refused a b c r q e le sound was step is =
-    let x = sync_refused Log r e b c sound was step in
+    let x = sync_refused Device Log r e b c sound was step in
     if_err q e (λ y. (y ≡ Device) × HadRefusal a c) is (x.0, refusal_after a b c le x.1)
 
 -- ---- the log is synced first
 
-module _ {T : Type 0} (v : T) (r : Result T RollError) (s a : DiskState) (sound : IsSoundDisk s) (was : r ≡ Ok v) (step : SyncStep Log r s a) where
+module _ {T : Type 0} (v : T) (r : Result T RollError) (s a : DiskState) (sound : IsSoundDisk s) (was : r ≡ Ok v) (step : SyncStep Device Log r s a) where
   synced : (x : T) × Syncs {T = T} Log (Ok x) s a
-  synced = let t = told_ok step.0 r v was step.1 in (t.0, subst (λ (x : Result T DiskError). Syncs Log x s a) t.1 step.2)
+  synced = let t = told_ok Device step.0 r v was step.1 in (t.0, subst (λ (x : Result T DiskError). Syncs Log x s a) t.1 step.2)
 
   present_a : (bytes : List ℕ) → ArePresent s.log bytes → ArePresent a.log bytes
   present_a bytes are = record {

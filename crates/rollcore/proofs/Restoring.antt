@@ -1,5 +1,5 @@
 -- What a log that journals pages restores: the database whose pages they are.
-use Rattle.std.proofs.Common.{◌≡◌, ◌≢◌, ◌⊎◌, inl, inr, ⊎_elim, ℕ, zero, suc, ◌+◌, ◌<◌, ◌≤◌, cond, List, [], ◌∷◌, ◌++◌, length, get_or, reverse, refl, sym, ◌∙◌, ap, subst, arith}
+use Rattle.std.proofs.Common.{◌≡◌, ◌≢◌, ◌⊎◌, inl, inr, ⊎_elim, ℕ, zero, suc, ◌+◌, ◌<◌, ◌≤◌, cond, List, ◌∷◌, ◌++◌, length, get_or, reverse, refl, sym, ◌∙◌, ap, subst, arith, []}
 use Rattle.std.specs.Prelude.{◌==◌, Option, Some, None, unwrap_or}
 use Rattle.std.specs.List.{Contains}
 use Rattle.std.proofs.lemmas.Bool.{cases_eq}
@@ -16,7 +16,7 @@ use Rattle.sqjournal.proofs.Journals.{size_bounds}
 use Rattle.rollcore.specs.Replaying.{zeroed}
 use Rattle.rollcore.specs.Fits.{ShowsWhole}
 use Rattle.rollcore.specs.Journaling.{old_pages, sizes, IsJournaled, Tells, HasOthers}
-use Rattle.rollcore.proofs.Pages.{file_count}
+use Rattle.sqval.proofs.FilePages.{file_count}
 use Rattle.rollcore.proofs.WholeSegments.{full_begun, full_ends, full_none}
 use Rattle.rollcore.proofs.Readings.{stops_or}
 use Rattle.rollcore.proofs.Journaled.{magic_byte}

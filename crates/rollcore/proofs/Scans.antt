@@ -1,10 +1,8 @@
 -- What a scan of the first bytes of a log says of the log, and the count of refused calls.
-use Rattle.std.proofs.Common.{◌≡◌, ◌⊎◌, inl, inr, ⊎_elim, ℕ, ◌+◌, ◌-◌, ◌^◌, ◌<◌, ◌≤◌, min, List, ◌++◌, length, get_or, take, drop, refl, sym, ◌∙◌, ap, subst, arith, length-drop}
+use Rattle.std.proofs.Common.{◌≡◌, inl, inr, ⊎_elim, ℕ, ◌+◌, ◌-◌, ◌^◌, ◌<◌, ◌≤◌, min, List, ◌++◌, length, get_or, take, refl, sym, ◌∙◌, ap, subst, arith}
 use Rattle.std.specs.Prelude.{Bool, true, false, Option, Some, None, Result, Ok, Err}
-use Rattle.std.proofs.lemmas.List.{get_or-take, get_or-drop, length-take-le, take-take, take_all}
-use Rattle.std.proofs.lemmas.Grind.{same_number_lists}
+use Rattle.std.proofs.lemmas.List.{length-take-le, take-take, take_all}
 use Rattle.std.proofs.lemmas.Bool.{cases_lt}
-use Rattle.std.proofs.Math.Seq.{take-add}
 use Rattle.sqval.specs.PageSize.{IsPageSize}
 use Rattle.sqval.specs.Bytes.{part, word}
 use Rattle.sqjournal.specs.Header.{IsRefused}
@@ -12,27 +10,19 @@ use Rattle.sqjournal.specs.Journal.{IsHot}
 use Rattle.sqjournal.specs.declared.error.JournalError.{JournalError}
 use Rattle.sqjournal.specs.declared.error.JournalError.TheVariants.{NotAJournal, SectorSize, PageSize, NoMemory, TooLong}
 use Rattle.sqjournal.proofs.Parts.{word_part}
-use Rattle.crashdisk.specs.State.{FileState, byte, longest}
+use Rattle.crashdisk.specs.State.{FileState, byte}
 use Rattle.crashdisk.specs.Call.{DiskState, IsSoundDisk, Looks, ArePresent, EndsWithin, counted}
 use Rattle.crashdisk.specs.declared.error.DiskError.{DiskError}
 use Rattle.crashdisk.specs.declared.error.DiskError.TheVariants.{Stopped, Failed, TooLong as DiskTooLong, NoMemory as DiskNoMemory}
-use Rattle.crashdisk.proofs.Steps.{counted_rises}
 use Rattle.rollcore.proofs.Stills.{scan_refused_after}
-use Rattle.rollcore.specs.Replaying.{HadRefusal}
+use Rattle.crashdisk.specs.Keeps.{HadRefusal}
 use Rattle.rollcore.specs.Steps.{IsWithoutHeader, ScanRefused, PieceAnswer, ScanAnswer}
 use Rattle.rollcore.specs.declared.error.RollError.{RollError}
 use Rattle.rollcore.specs.declared.error.RollError.TheVariants.{TooLarge, Device, NoMemory as WalNoMemory}
 use Rattle.sqjournal.specs.Took.{Took, Refuses}
 use Rattle.sqjournal.specs.declared.replay.Replay.{Replay}
-
--- a piece that was read behind the first bytes
-pub piece_read : (w : List ℕ) (log : FileState) (at : ℕ) (piece : List ℕ) → ArePresent log w → at + length piece ≤ length w
-    → ((i : ℕ) → i < length piece → get_or piece i 0 ≡ byte log (at + i)) → take at w ++ piece ≡ take (at + length piece) w
-piece_read w log at piece are fits same =
-    let rest : length (take (length piece) (drop at w)) ≡ length piece = length-take-le (length piece) (drop at w) (omega (arith, length-drop at w)) in
-    let is : piece ≡ take (length piece) (drop at w) = same_number_lists piece (take (length piece) (drop at w)) (sym rest)
-    (λ i lt. same i lt ∙ sym (are.each (at + i) (omega (arith, are.len))) ∙ sym (get_or-take (length piece) (drop at w) i 0 lt ∙ get_or-drop at w i 0)) in
-    ap (λ (x : List ℕ). take at w ++ x) is ∙ sym (take-add at (length piece) w)
+use Rattle.crashdisk.proofs.Stills.{had_refusal}
+use Rattle.crashdisk.proofs.Down.{piece_read}
 
 magic_front : (w : List ℕ) (n : ℕ) → n ≤ length w → 28 ≤ n → part (take n w) 0 8 ≡ part w 0 8
 magic_front w n fits long = take-take 8 n w (omega arith)
@@ -72,13 +62,6 @@ had_refusal_any {T = T} result e old new is within count =
     by Stopped within eq = rises eq
     by Failed within eq = rises eq
     by DiskNoMemory within eq = rises eq
-
--- A call that was refused, and whose end is one that a file may have, was counted.
-pub had_refusal : {T : Type 0} (result : Result T DiskError) (e : DiskError) (end : ℕ) (old new : DiskState) → old.refused < 2 ^ 64 → result ≡ Err e
-    → EndsWithin result end → end ≤ longest → new.refused ≡ counted result old.refused → HadRefusal old new
-had_refusal {T = T} result e end old new lt is within short count =
-    let ne : e ≡ DiskTooLong → ⊥ = λ z. (let past : longest < end = subst (λ (r : Result T DiskError). EndsWithin r end) (is ∙ ap Err z) within in omega arith) in
-    subst (λ (n : ℕ). (old.refused < n) ⊎ (n ≡ 18446744073709551615)) (sym count) (counted_rises result e old.refused lt is ne)
 
 module _ (w : List ℕ) (log : FileState) (at : ℕ) (given piece : List ℕ) (same_long : length piece ≡ length given) (are : ArePresent log w) (fits : at + length given ≤ length w)
     (same : (i : ℕ) → i < length piece → get_or piece i 0 ≡ byte log (at + i)) where

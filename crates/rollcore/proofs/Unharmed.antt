@@ -1,34 +1,20 @@
 -- What is left while a segment of the journal is written shows the database from before the commit.
-use Rattle.std.proofs.Common.{◌≡◌, ◌⊎◌, inl, inr, ⊎_elim, ℕ, ◌+◌, ◌-◌, ◌*◌, ◌/◌, ◌<◌, ◌≤◌, Bool, true, false, List, ◌++◌, length, get_or, refl, sym, ◌∙◌, ap, subst, arith}
-use Rattle.std.specs.Prelude.{Result, IsTrue}
-use Rattle.std.specs.List.{Contains}
+use Rattle.std.proofs.Common.{◌≡◌, ◌⊎◌, inl, inr, ⊎_elim, ℕ, ◌+◌, ◌*◌, Bool, List, ◌++◌, length, get_or, sym, ◌∙◌, subst, arith}
 use Rattle.std.proofs.lemmas.List.Elements.{Contains-append_left}
 use Rattle.sqval.specs.Bytes.{word}
 use Rattle.sqval.specs.PageSize.{IsPageSize}
-use Rattle.sqval.specs.Database.{Database, page, file_page}
-use Rattle.sqjournal.specs.Journal.{IsHot}
-use Rattle.crashdisk.specs.State.{FileState, IsImage, OneListed, IsSectorSize}
-use Rattle.crashdisk.specs.Call.{DiskState, Elsewhere, Looks}
+use Rattle.sqval.specs.Database.{Database, page}
+use Rattle.crashdisk.specs.State.{FileState, IsImage}
+use Rattle.crashdisk.specs.Call.{DiskState}
 use Rattle.crashdisk.specs.Facts.{IsSteady}
-use Rattle.crashdisk.specs.declared.file.File.TheVariants.{Db, Log}
-use Rattle.crashdisk.specs.declared.error.DiskError.{DiskError}
-use Rattle.rollcore.specs.Fits.{MayBeRead, ShowsWhole}
-use Rattle.rollcore.specs.Phases.{Suits}
-use Rattle.rollcore.specs.Steps.{Still}
+use Rattle.rollcore.specs.Fits.{MayBeRead}
+use Rattle.crashdisk.specs.Keeps.{Suits}
 use Rattle.rollcore.specs.Journaling.{Tells, HasOthers}
 use Rattle.rollcore.specs.Segments.{Unharmed, StandOthers, IsAt}
-use Rattle.rollcore.proofs.Pages.{page_at, page_by_bytes}
-use Rattle.rollcore.proofs.Suiting.{suits_by}
+use Rattle.crashdisk.proofs.Pages.{page_at}
+use Rattle.sqval.proofs.FilePages.{page_by_bytes}
 use Rattle.rollcore.proofs.Restoring.{shows, sector_told}
-
--- a list of listed values is one that a crash may leave
-pub image_listed : (sector : ℕ) (tears : Bool) (s : FileState) (c : List ℕ) → IsImage sector false s c → IsImage sector tears s c
-image_listed sector tears s c image = record { least = image.least; greatest = image.greatest; each = λ k. one k (image.each k) }
-  where
-    one : (k : ℕ) → OneListed sector false s c k → OneListed sector tears s c k
-    one k (inl shows) = inl shows
-    one k (inr (inl listed)) = inr (inl listed)
-    one k (inr (inr torn)) = absurd (cc torn.0)
+use Rattle.crashdisk.proofs.Down.{image_listed}
 
 pub image_read : (s : DiskState) (w : List ℕ) → MayBeRead s w → IsImage s.sector s.tears s.log w
 image_read s w (inl listed) = image_listed s.sector s.tears s.log w listed

@@ -1,46 +1,30 @@
 -- What a read answers is what the newest database has.
-use Rattle.std.proofs.Common.{◌≡◌, inr, ℕ, ◌+◌, ◌-◌, ◌*◌, ◌<◌, ◌≤◌, Bool, true, false, List, [], ◌∷◌, length, get_or, refl, sym, ◌∙◌, ap, subst, arith}
-use Rattle.std.specs.Prelude.{Result, Ok, Err, Option, Some, None, not, nat_lt, ◌==◌}
-use Rattle.std.proofs.lemmas.Bool.Decides.{nat_tests}
+use Rattle.std.proofs.Common.{◌≡◌, ℕ, ◌+◌, ◌-◌, ◌*◌, ◌<◌, ◌≤◌, false, List, length, get_or, refl, sym, ◌∙◌, ap, subst, arith}
+use Rattle.std.specs.Prelude.{Result, Ok, Err, Some, None}
 use Rattle.std.proofs.Math.Nat.{mul-le-mul_right}
 use Rattle.sqval.specs.Database.{page}
-use Rattle.sqval.specs.CommitFaults.{first_true}
-use Rattle.sqval.specs.Answers.{Answer, Page, Refused, Refuses, HasCause}
+use Rattle.sqval.specs.Answers.{Answer, Page, Refused}
 use Rattle.crashdisk.specs.State.{byte, longest}
-use Rattle.crashdisk.specs.Call.{DiskState, IsSoundDisk, Looks, of}
-use Rattle.crashdisk.specs.declared.file.File.{File}
+use Rattle.crashdisk.specs.Call.{DiskState, IsSoundDisk}
 use Rattle.crashdisk.specs.declared.file.File.TheVariants.{Db}
-use Rattle.crashdisk.specs.declared.error.DiskError.{DiskError}
 use Rattle.crashdisk.proofs.Images.{table}
 use Rattle.crashdisk.proofs.Fixed.{image_present}
 use Rattle.crashdisk.proofs.Steps.{present_list}
 use Rattle.rollcore.specs.Machine.{State, newest, Act, Reads, Step, read_refusal}
 use Rattle.rollcore.specs.Refusal.{number_of}
-use Rattle.rollcore.specs.Steps.{Still}
-use Rattle.rollcore.specs.Paging.{ReadJudged, IsRefusedRead, PlaceAnswer}
+use Rattle.crashdisk.specs.Keeps.{Still, PlaceAnswer}
+use Rattle.rollcore.specs.Paging.{ReadJudged, IsRefusedRead}
 use Rattle.rollcore.specs.Fits.{FitsDisk, IsCore, FitsCore, Rests, StepsTo, answered}
 use Rattle.rollcore.specs.declared.error.RollError.{RollError}
 use Rattle.rollcore.specs.declared.error.RollError.TheVariants.{Closed, PageZero, PageAboveSize, BadLength, Device}
 use Rattle.rollcore.specs.declared.state.Core.{Core}
-use Rattle.rollcore.proofs.Copies.{present_byte}
+use Rattle.crashdisk.proofs.Down.{present_byte, down_by}
 use Rattle.rollcore.proofs.Narrowing.{narrows_still, image_still, history_narrows, sectors_narrow}
-use Rattle.rollcore.proofs.Pages.{page_by_bytes, page_end}
-use Rattle.rollcore.proofs.Scans.{had_refusal}
-use Rattle.rollcore.proofs.Stills.{still_looks, still_sound, present_in}
-use Rattle.rollcore.proofs.Down.{down_by}
-use Rattle.rollcore.proofs.Suiting.{suits_by}
-
--- ---- bytes that were read
-
-module _ {T U : Type 0} (f : File) (place : ℕ) (out : List ℕ) (a b : DiskState) (sound : IsSoundDisk a) where
-  pub place_read : (v : T) (end : ℕ) (called : Result U DiskError) → Looks end called a b → ((j : ℕ) → j < length out → get_or out j 0 ≡ byte (of f a) (place + j)) → PlaceAnswer f place out (Ok v) a b
-  unfolding PlaceAnswer
-  place_read v end called looked bytes = (still_looks end called a b sound looked, bytes)
-
-  pub place_refused : (r : Result T RollError) (end : ℕ) (called : Result U DiskError) (e : DiskError) → end ≡ place + length out → called ≡ Err e → r ≡ Err Device → Looks end called a b → PlaceAnswer f place out r a b
-  unfolding PlaceAnswer
-  place_refused r end called e same was is looked = subst (λ (x : Result T RollError). PlaceAnswer f place out x a b) (sym is)
-      (still_looks end called a b sound looked, refl, λ fits. had_refusal called e end a b sound.refused was looked.within (omega arith) looked.refused)
+use Rattle.sqval.proofs.FilePages.{page_by_bytes}
+use Rattle.crashdisk.proofs.Pages.{page_end}
+use Rattle.crashdisk.proofs.Stills.{still_sound, present_in}
+use Rattle.crashdisk.proofs.Suiting.{suits_by}
+use Rattle.sqval.proofs.Answering.{none_above, is_zero, is_above, is_closed, refuses_first, refuses_cause}
 
 -- ---- what fits a core still fits after calls that change nothing
 
@@ -73,24 +57,6 @@ pub stays : (past : State) (core : Core) (s t : DiskState) → Still s t → Fit
 stays past core s t is fits act answer step = record { next = past; same = record { sector = is.sector; tears = is.tears }; refused = is.refused; row = step; fits = fits_still past core s t is fits }
 
 -- ---- the rows of the machine
-
-pub refuses_first : {S : Type 0} (o : Option ℕ) (first : ℕ) (memory : Bool) (failed s : S) (before after : ℕ) → o ≡ Some first → Refuses o memory failed before after s first s
-refuses_first o first memory failed s before after e = subst (λ (x : Option ℕ). Refuses x memory failed before after s first s) (sym e) (refl, refl)
-
-none_above : (b : Bool) (p n : ℕ) → b ≡ true → 1 ≤ p → p ≤ n → first_true ((not b, 1) ∷ (p == 0, 4) ∷ (nat_lt n p, 5) ∷ []) ≡ None
-none_above b p n is one le = subst (λ (x : Bool). first_true ((not x, 1) ∷ (p == 0, 4) ∷ (nat_lt n p, 5) ∷ []) ≡ None) (sym is) (grind (arith, nat_tests))
-
-is_zero : (b : Bool) (p n : ℕ) → b ≡ true → p ≡ 0 → first_true ((not b, 1) ∷ (p == 0, 4) ∷ (nat_lt n p, 5) ∷ []) ≡ Some 4
-is_zero b p n is zero = subst (λ (x : Bool). first_true ((not x, 1) ∷ (p == 0, 4) ∷ (nat_lt n p, 5) ∷ []) ≡ Some 4) (sym is) (grind (arith, nat_tests))
-
-is_above : (b : Bool) (p n : ℕ) → b ≡ true → 1 ≤ p → n < p → first_true ((not b, 1) ∷ (p == 0, 4) ∷ (nat_lt n p, 5) ∷ []) ≡ Some 5
-is_above b p n is one lt = subst (λ (x : Bool). first_true ((not x, 1) ∷ (p == 0, 4) ∷ (nat_lt n p, 5) ∷ []) ≡ Some 5) (sym is) (grind (arith, nat_tests))
-
-is_closed : (b : Bool) (p n : ℕ) → b ≡ false → first_true ((not b, 1) ∷ (p == 0, 4) ∷ (nat_lt n p, 5) ∷ []) ≡ Some 1
-is_closed b p n is = ap (λ (x : Bool). first_true ((not x, 1) ∷ (p == 0, 4) ∷ (nat_lt n p, 5) ∷ [])) is
-
-refuses_cause : {S : Type 0} (o : Option ℕ) (failed s : S) (before after : ℕ) → o ≡ None → HasCause before after → Refuses o false failed before after s 15 failed
-refuses_cause o failed s before after e cause = subst (λ (x : Option ℕ). Refuses x false failed before after s 15 failed) (sym e) (inr (refl, cause, refl))
 
 module _ (past : State) (core : Core) (s : DiskState) (fits : FitsCore past core s) (p : ℕ) where
   -- refused before the disk is asked
@@ -148,7 +114,7 @@ module _ (past : State) (core : Core) (s : DiskState) (fits : FitsCore past core
         let here : place ≡ (p - 1) * past.page_size = at_place ∙ ap (λ (n : ℕ). (p - 1) * n) full in
         omega (arith, few, end, here, page_end past.page_size p low.0, long, full)
 
-    pub read_file : {T : Type 0} (result : Result T RollError) → PlaceAnswer Db place out result s t → StepsTo past (Reads p) (answered (λ (v : T). Page out) result) core s t
+    pub read_file : {T : Type 0} (result : Result T RollError) → PlaceAnswer Device Db place out result s t → StepsTo past (Reads p) (answered (λ (v : T). Page out) result) core s t
     unfolding PlaceAnswer
     read_file (Ok v) answer = stays past core s t answer.0 fits (Reads p) (Page out) (none, the_page answer.1, refl)
     read_file {T = T} (Err x) answer = subst (λ (y : RollError). StepsTo past (Reads p) (Refused (number_of y)) core s t) (sym answer.1)

@@ -1,5 +1,6 @@
 -- While zeros are written over the log's header, what is left shows what it showed.
-use Rattle.std.proofs.Common.{◌≡◌, ◌⊎◌, inl, inr, ⊎_elim, ℕ, ◌+◌, max, Bool, true, false, List, [], ◌∷◌, ◌++◌, length, get_or, refl, sym, ◌∙◌, ap, subst}
+use Rattle.std.proofs.Common.{◌≡◌, ⊎_elim, ℕ, ◌+◌, max, Bool, true, false, List, ◌∷◌, ◌++◌, length, get_or, sym, ◌∙◌, ap, subst, []}
+use Rattle.std.proofs.lemmas.Bool.{cases_Bool}
 use Rattle.std.specs.Prelude.{Result, Ok, Err}
 use Rattle.sqval.specs.Database.{Database}
 use Rattle.sqjournal.specs.Journal.{IsHot}
@@ -9,28 +10,16 @@ use Rattle.crashdisk.specs.declared.file.File.{File}
 use Rattle.crashdisk.specs.declared.file.File.TheVariants.{Db, Log}
 use Rattle.crashdisk.specs.declared.error.DiskError.{DiskError}
 use Rattle.crashdisk.specs.declared.error.DiskError.TheVariants.{Stopped, Failed, TooLong, NoMemory}
-use Rattle.crashdisk.proofs.Shuffled.{image_shuffled}
-use Rattle.crashdisk.proofs.Synced.{image_synced}
 use Rattle.crashdisk.proofs.Settled.{settled_one, settled_synced}
 use Rattle.crashdisk.proofs.Steps.{image_elsewhere}
 use Rattle.rollcore.specs.Alone.{AreWhole, ShowsAlone}
-use Rattle.rollcore.specs.Phases.{Suits, Repeats, Filed, Zeroing}
-use Rattle.rollcore.proofs.Pages.{sector_some}
-use Rattle.rollcore.proofs.Suiting.{suits_writes, suits_syncs}
-use Rattle.rollcore.proofs.Down.{present_image, shows_by, since_db, file_syncs}
+use Rattle.rollcore.specs.Phases.{Repeats, Filed, Zeroing}
+use Rattle.crashdisk.specs.Keeps.{Suits}
+use Rattle.crashdisk.proofs.Pages.{sector_some}
+use Rattle.crashdisk.proofs.Suiting.{suits_writes, suits_syncs}
+use Rattle.rollcore.proofs.Down.{shows_by}
+use Rattle.crashdisk.proofs.Down.{present_image, since_db, file_syncs, log_syncs}
 use Rattle.rollcore.proofs.Zeros.{restored_same, zeroed_listed, zeroed_torn}
-
-pub tears_or : (tears : Bool) → (tears ≡ true) ⊎ (tears ≡ false)
-tears_or true = inl refl
-tears_or false = inr refl
-
--- A sync adds no file to those that a crash may leave, nor to those that it might leave if the disk didn't tear.
-pub log_syncs : {T : Type 0} (sector : ℕ) (tears : Bool) (result : Result T DiskError) (old new : FileState) → IsSound sector old → SyncedBy sector result old new → (v : List ℕ) → IsImage sector tears new v → IsImage sector tears old v
-log_syncs sector tears (Ok u) old new sound synced v image = image_synced sector tears old new sound synced v image
-log_syncs sector tears (Err Failed) old new sound shuffled v image = image_shuffled sector old new shuffled tears v image
-log_syncs sector tears (Err Stopped) old new sound same v image = subst (λ (s : FileState). IsImage sector tears s v) same image
-log_syncs sector tears (Err TooLong) old new sound same v image = subst (λ (s : FileState). IsImage sector tears s v) same image
-log_syncs sector tears (Err NoMemory) old new sound same v image = subst (λ (s : FileState). IsImage sector tears s v) same image
 
 module _ (size : ℕ) (d : Database) where
   -- one that may be left, or is present
@@ -39,7 +28,7 @@ module _ (size : ℕ) (d : Database) where
       (λ v left. ⊎_elim
       (λ torn. is.torn torn v (subst (λ (t : Bool). IsImage s.sector t s.log v) torn left.image) (left.whole torn))
       (λ whole. is.listed v (subst (λ (t : Bool). IsImage s.sector t s.log v) whole left.image))
-      (tears_or s.tears))
+      (cases_Bool s.tears))
       (λ v image. is.listed v image)
       (λ db v image same. record { hot = λ hot. (same hot db (is.file db image)).hot hot; cold = λ cold. is.file db image })
 

@@ -1,8 +1,6 @@
 -- While zeros are written over a journal's first header, the journal is what it was, or isn't hot.
 use Rattle.std.proofs.Common.{◌≡◌, inl, inr, ⊎_elim, ℕ, ◌+◌, ◌-◌, ◌/◌, ◌<◌, ◌≤◌, max, Bool, true, false, List, [], ◌∷◌, length, get_or, sym, ◌∙◌, ap, subst, arith}
-use Rattle.std.specs.List.{Contains}
 use Rattle.std.proofs.lemmas.List.{get_or-take, get_or_past, ext_get_or}
-use Rattle.std.proofs.lemmas.List.Elements.{Contains-push_cases}
 use Rattle.std.proofs.lemmas.Bool.{cases_lt}
 use Rattle.std.proofs.lemmas.Nat.{le-div}
 use Rattle.std.proofs.Math.Nat.{div-eq_of_lt}
@@ -16,6 +14,7 @@ use Rattle.crashdisk.proofs.Fixed.{alters_write, whole_write}
 use Rattle.crashdisk.proofs.Settled.{settled_one}
 use Rattle.rollcore.specs.Alone.{AreWhole}
 use Rattle.rollcore.proofs.Journals.{hot_long, zeros_cold, SameBehind, hot_same, rolled_same, size_same}
+use Rattle.crashdisk.proofs.Down.{one_write}
 
 -- a journal that says the same restores the same
 pub restored_same : (size : ℕ) (db w v : List ℕ) (d : Database) → SameBehind (word w 20) w v → IsHot w → IsRestored size db w d → IsRestored size db v d
@@ -26,9 +25,6 @@ restored_same size db w v d same hot is = record {
 
 zero_plus : (i : ℕ) → 0 + i ≡ i
 zero_plus i = omega arith
-
-one_write : (zeros : List ℕ) (write : ℕ × List ℕ) → Contains ((0, zeros) ∷ []) write → (0, zeros) ≡ write
-one_write zeros write has = ⊎_elim (λ empty. absurd (omega (arith, empty.1))) (λ e. e) (Contains-push_cases [] (0, zeros) write has)
 
 -- a header that is valid isn't that of the zeros
 header_stands : (w zeros v : List ℕ) → ((i : ℕ) → get_or zeros i 0 ≡ 0) → AreWhole w ((0, zeros) ∷ []) v → IsHot v → part v 0 28 ≡ part w 0 28

@@ -1,7 +1,5 @@
 -- When all that a crash may leave shows one database.
-use Rattle.std.specs.Prelude.{◌≡◌, ◌⊎◌, ℕ, ◌+◌, ◌-◌, ◌≤◌, true, false, List, [], ◌∷◌, length}
-use Rattle.std.specs.List.{Contains}
-use Rattle.sqval.specs.Bytes.{part}
+use Rattle.std.specs.Prelude.{◌≡◌, ◌⊎◌, ℕ, ◌+◌, true, false, List, ◌∷◌, []}
 use Rattle.sqval.specs.Database.{Database}
 use Rattle.sqjournal.specs.Header.{next_header}
 use Rattle.sqjournal.specs.Journal.{Segment, Sizes, sizes_of, records_end, IsHot, IsJournal}
@@ -9,11 +7,7 @@ use Rattle.sqjournal.specs.Restored.{IsRestored}
 use Rattle.sqjournal.specs.declared.reading.Why.{Why}
 use Rattle.crashdisk.specs.State.{IsImage}
 use Rattle.crashdisk.specs.Call.{DiskState, ArePresent}
-
--- the n bytes of w at a place stand there in what was kept, or lie whole there in a piece that was handed over
-abbrev pub StandsWhole : (kept : List ℕ) (handed : List (ℕ × List ℕ)) → List ℕ → (at n : ℕ) → Type 0
-StandsWhole kept handed w at n = ((at + n ≤ length kept) × (part w at n ≡ part kept at n))
-    ⊎ ((write : ℕ × List ℕ) × Contains handed write × (write.0 ≤ at) × (at + n ≤ write.0 + length write.1) × (part w at n ≡ part write.1 (at - write.0) n))
+use Rattle.crashdisk.specs.Keeps.{StandsWhole}
 
 -- the header of a segment stands at this place, the first segment beginning at another
 abbrev pub HasHeaderAt : Sizes → (from : ℕ) → List Segment → (at : ℕ) → Type 0

@@ -1,5 +1,5 @@
 -- What the steps of a commit promise one another (fileformat2, 3; segments are own).
-use Rattle.std.specs.Prelude.{◌≡◌, ◌≢◌, ◌⊎◌, ℕ, ◌<◌, ◌≤◌, false, Result, Ok, Err, List, [], length, get_or, Some, None}
+use Rattle.std.specs.Prelude.{◌≡◌, ◌≢◌, ◌⊎◌, ℕ, ◌<◌, ◌≤◌, false, Result, Ok, Err, List, [], length, take, get_or, Some, None, OnOk}
 use Rattle.std.specs.List.{All}
 use Rattle.std.specs.Borrow.{Bor}
 use Rattle.sqval.specs.Bytes.{AreBytes}
@@ -10,8 +10,11 @@ use Rattle.crashdisk.specs.State.{IsImage}
 use Rattle.crashdisk.specs.Call.{DiskState, IsSoundDisk}
 use Rattle.rollcore.specs.Fits.{MayBeRead, ShowsWhole, NamesSectors, Rests}
 use Rattle.rollcore.specs.Refusal.{number_of}
-use Rattle.rollcore.specs.Replaying.{HadRefusal}
-use Rattle.rollcore.specs.Machine.{recorded, refusal_of}
+use Rattle.rollcore.specs.Replaying.{zeroed}
+use Rattle.crashdisk.specs.Keeps.{HadRefusal, IsLogDown}
+use Rattle.sqjournal.specs.Journal.{Sizes}
+use Rattle.rollcore.specs.Journaling.{sizes, HasNonces}
+use Rattle.rollcore.specs.Machine.{State, newest, recorded, segments_of, refusal_of}
 use Rattle.rollcore.specs.declared.state.Core.{Core}
 use Rattle.rollcore.specs.declared.changes.Change.{Change}
 use Rattle.rollcore.specs.declared.error.RollError.{RollError}
@@ -40,6 +43,16 @@ pub record KeepsCore (old new : Core) : Type 0 where
 abbrev pub PutAnswer : {T : Type 0} → (size : ℕ) (d e : Database) → Result T RollError → (old new : DiskState) → Type 0
 PutAnswer size d e (Ok _) old new = Rests size e new
 PutAnswer size d e (Err error) old new = (error ≡ Device) × HadRefusal old new × ShowsEither size d e new × NamesSectors new
+
+-- The log is a journal of segments that have these nonces in order, but for 28 zeros over its first header, and it is
+-- down.
+abbrev pub LeavesNonces : Sizes → (nonces : List ℕ) → DiskState → Type 0
+LeavesNonces z nonces s = (place : ℕ) × (w : List ℕ) × HasNonces z w place nonces × IsLogDown s (zeroed w)
+
+-- a commit that is done to a database of the history takes its nonces in order: of its segments s has nonce s
+abbrev pub TakesNonces : {T : Type 0} → State → Pages → (size : ℕ) → (nonces : List ℕ) → Result T RollError → (old new : DiskState) → Type 0
+TakesNonces past pages size nonces result old new =
+    OnOk result (LeavesNonces (sizes old.sector past.page_size) (take (segments_of (recorded pages (length (newest past)) size)) nonces) new)
 
 -- change i, from 0
 abbrev pub change_at : List Change → (i : ℕ) → Change

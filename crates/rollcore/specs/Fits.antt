@@ -1,5 +1,5 @@
 -- What fits an engine: the history of its databases, which is handed along from call to call and stored nowhere (own).
-use Rattle.std.specs.Prelude.{◌≡◌, ◌⊎◌, ℕ, ◌+◌, ◌*◌, ◌<◌, ◌≤◌, true, false, IsTrue, List, [], length, get_or, Result, Ok, Err}
+use Rattle.std.specs.Prelude.{◌≡◌, ◌⊎◌, ℕ, ◌+◌, ◌*◌, ◌<◌, ◌≤◌, true, false, IsTrue, List, length, get_or, Result, Ok, Err, []}
 use Rattle.sqval.specs.Bytes.{word}
 use Rattle.sqval.specs.Database.{Database}
 use Rattle.sqval.specs.Held.{IsJust, IsHeld}
@@ -9,8 +9,7 @@ use Rattle.sqjournal.specs.Journal.{IsHot}
 use Rattle.crashdisk.specs.State.{IsImage}
 use Rattle.crashdisk.specs.Call.{DiskState, ArePresent}
 use Rattle.rollcore.specs.Alone.{MayBeLeft, Show}
-use Rattle.rollcore.specs.Phases.{Suits}
-use Rattle.rollcore.specs.Replaying.{IsLogDown}
+use Rattle.crashdisk.specs.Keeps.{Suits, IsLogDown, IsSameDisk}
 use Rattle.rollcore.specs.Machine.{State, at, newest, Act, Opens, Step}
 use Rattle.rollcore.specs.Refusal.{number_of}
 use Rattle.rollcore.specs.declared.error.RollError.{RollError}
@@ -80,11 +79,6 @@ Fits state_of roll past = FitsCore past roll.core (state_of roll.disk)
 abbrev pub answered : {T : Type 0} → (T → Answer) → Result T RollError → Answer
 answered good (Ok value) = good value
 answered good (Err error) = Refused (number_of error)
-
--- sectors stay as they are
-pub record IsSameDisk (old new : DiskState) : Type 0 where
-  pub sector : new.sector ≡ old.sector
-  pub tears : new.tears ≡ old.tears
 
 -- One call: the machine goes on by a row of its table, and its state fits again.
 pub record StepsTo (past : State) (act : Act) (answer : Answer) (core : Core) (old new : DiskState) : Type 0 where

@@ -1,7 +1,7 @@
 -- What holds of every run.
-use Rattle.std.specs.Prelude.{◌≡◌, ◌⊎◌, ℕ, ◌+◌, ◌<◌, ◌≤◌, Bool, true, false, IsTrue, length, take, Option, Some, None}
+use Rattle.std.specs.Prelude.{◌≡◌, ◌⊎◌, ℕ, ◌+◌, ◌<◌, ◌≤◌, Bool, true, false, IsTrue, length, take}
 use Rattle.sqval.specs.Database.{page}
-use Rattle.sqval.specs.Answers.{HasCause, Answer, Done, Page, Refused}
+use Rattle.sqval.specs.Answers.{Answer, Done, Page, told, is_accepted, IsShort}
 use Rattle.rollcore.specs.Machine.{State, newest, Act, Opens, Commits, Reads, Crashes, Sets, commit_refusal, read_refusal}
 
 -- the floor is a place of the history
@@ -16,10 +16,6 @@ pub record Keeps (old new : State) : Type 0 where
 
 -- ---- What is answered where memory is ample and the disk refuses no call.
 
-abbrev pub told : Option ℕ → Answer → Answer
-told (Some number) answer = Refused number
-told None answer = answer
-
 abbrev pub expected : State → Act → Answer
 expected s (Opens found) = Done
 expected s (Commits pages size nonces) = told (commit_refusal s pages size nonces) Done
@@ -28,10 +24,6 @@ expected s (Crashes left) = Done
 expected s Sets = Done
 
 -- ---- What may stand in its place.
-
-abbrev pub is_accepted : Answer → Bool
-is_accepted (Refused number) = false
-is_accepted _ = true
 
 abbrev pub takes_memory : Act → Bool
 takes_memory (Opens found) = true
@@ -43,11 +35,6 @@ abbrev pub needs_disk : Act → Bool
 needs_disk (Crashes left) = false
 needs_disk Sets = false
 needs_disk _ = true
-
--- want of memory, or a refused call of the disk that has a cause
-abbrev pub IsShort : (takes_memory needs_disk : Bool) → Answer → (before after : ℕ) → Type 0
-IsShort takes_memory needs_disk answer before after =
-    (IsTrue takes_memory × (answer ≡ Refused 14)) ⊎ (IsTrue needs_disk × (answer ≡ Refused 15) × HasCause before after)
 
 abbrev pub IsExpected : State → Act → Answer → (before after : ℕ) → Type 0
 IsExpected s act answer before after =

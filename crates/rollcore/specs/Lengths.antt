@@ -6,7 +6,7 @@ use Rattle.sqjournal.specs.Journal.{IsHot}
 use Rattle.crashdisk.specs.State.{IsImage}
 use Rattle.crashdisk.specs.Call.{DiskState}
 use Rattle.rollcore.specs.Alone.{ShowsAlone}
-use Rattle.rollcore.specs.Replaying.{IsLogDown}
+use Rattle.crashdisk.specs.Keeps.{IsLogDown}
 use Rattle.rollcore.specs.Fits.{MayBeRead, NamesSectors}
 
 -- wherever the journal that is left isn't hot the file has n bytes; one that is hot names no smaller sectors

@@ -1,5 +1,5 @@
 -- What the steps of an opening do to a disk.
-use Rattle.std.specs.Prelude.{◌≡◌, ◌≢◌, ◌⊎◌, ℕ, ◌*◌, ◌<◌, ◌≤◌, true, false, Bool, IsTrue, List, [], ◌∷◌, length, Result, Ok, Err, OnOk, IfErr}
+use Rattle.std.specs.Prelude.{◌≡◌, ◌≢◌, ◌⊎◌, ℕ, ◌*◌, ◌<◌, ◌≤◌, true, false, Bool, IsTrue, List, ◌∷◌, length, Result, Ok, Err, OnOk, IfErr, []}
 use Rattle.sqval.specs.Bytes.{word}
 use Rattle.sqval.specs.CommitFaults.{most_bytes}
 use Rattle.sqval.specs.Database.{Database}
@@ -8,8 +8,8 @@ use Rattle.sqjournal.specs.Journal.{IsHot}
 use Rattle.crashdisk.specs.Call.{DiskState, ArePresent, Writes}
 use Rattle.crashdisk.specs.declared.file.File.TheVariants.{Log}
 use Rattle.crashdisk.specs.declared.error.DiskError.{DiskError}
-use Rattle.rollcore.specs.Replaying.{TearsJournal, IsTooLarge, HadRefusal, KeepsBytes, IsLogDown}
-use Rattle.rollcore.specs.Steps.{Still}
+use Rattle.rollcore.specs.Replaying.{TearsJournal, IsTooLarge}
+use Rattle.crashdisk.specs.Keeps.{HadRefusal, KeepsBytes, IsLogDown, Still, TearsPages}
 use Rattle.sqval.specs.Answers.{Files}
 use Rattle.rollcore.specs.Alone.{Show}
 use Rattle.rollcore.specs.Machine.{State, at, last}
@@ -88,10 +88,6 @@ pub record IsNewCore (page_bytes pages sector : ℕ) (core : Core) : Type 0 wher
   pub header_room : length core.header.items ≡ sector
 
 -- ---- Refusals, whatever stands on the disk.
-
--- on a disk that tears its sectors are larger than pages of this size
-abbrev pub TearsPages : (size : ℕ) → DiskState → Type 0
-TearsPages size s = (s.tears ≡ true) × (size < s.sector)
 
 -- what refuses an opening of the file db with the journal w
 abbrev pub RefusedFor : (size : ℕ) (db w : List ℕ) → RollError → (old new : DiskState) → Type 0

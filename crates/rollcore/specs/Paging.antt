@@ -1,13 +1,8 @@
 -- What reads do.
-use Rattle.std.specs.Prelude.{◌≡◌, ◌≢◌, ℕ, ◌+◌, ◌<◌, ◌≤◌, Bool, true, false, List, length, get_or, Result, Ok, Err}
-use Rattle.crashdisk.specs.State.{byte, longest}
-use Rattle.crashdisk.specs.Call.{DiskState, of}
-use Rattle.crashdisk.specs.declared.file.File.{File}
-use Rattle.rollcore.specs.Replaying.{HadRefusal}
-use Rattle.rollcore.specs.Steps.{Still}
+use Rattle.std.specs.Prelude.{◌≡◌, ◌≢◌, ℕ, ◌<◌, ◌≤◌, Bool, true, false, Result, Ok, Err}
 use Rattle.rollcore.specs.declared.state.Core.{Core}
 use Rattle.rollcore.specs.declared.error.RollError.{RollError}
-use Rattle.rollcore.specs.declared.error.RollError.TheVariants.{Closed, PageZero, PageAboveSize, BadLength, Device}
+use Rattle.rollcore.specs.declared.error.RollError.TheVariants.{Closed, PageZero, PageAboveSize, BadLength}
 
 -- the first refusal that holds of a read of this page, of a database of `size` pages, into a buffer of `room` bytes
 unfoldable pub ReadJudged : {T : Type 0} → (is_open : Bool) (page size room page_size : ℕ) → Result T RollError → Type 0
@@ -26,8 +21,3 @@ IsRefusedRead core page (Err PageZero) = (core.is_open ≡ true) × (page ≡ 0)
 IsRefusedRead core page (Err PageAboveSize) = (core.is_open ≡ true) × (1 ≤ page) × (core.size < page)
 IsRefusedRead core page (Err BadLength) = (core.is_open ≡ true) × (1 ≤ page) × (page ≤ core.size)
 IsRefusedRead core page (Err _) = ⊥
-
--- the bytes from a place of a file on were read
-unfoldable pub PlaceAnswer : {T : Type 0} → File → (at : ℕ) (out : List ℕ) → Result T RollError → (old new : DiskState) → Type 0
-PlaceAnswer f at out (Ok _) old new = Still old new × ((j : ℕ) → j < length out → get_or out j 0 ≡ byte (of f old) (at + j))
-PlaceAnswer f at out (Err e) old new = Still old new × (e ≡ Device) × (at + length out ≤ longest → HadRefusal old new)

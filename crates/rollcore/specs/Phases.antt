@@ -2,23 +2,15 @@
 -- database that it showed at the start (fileformat2, 3; that it does so at each step is own).
 use Rattle.std.specs.Prelude.{◌≡◌, ℕ, ◌+◌, ◌-◌, ◌*◌, ◌<◌, ◌≤◌, true, false, List, length, get_or, Some, None}
 use Rattle.sqval.specs.Bytes.{word}
-use Rattle.sqval.specs.PageSize.{IsPageSize}
 use Rattle.sqval.specs.Database.{Database, Pages, page, IsFile}
 use Rattle.sqjournal.specs.Journal.{Segment, IsHot, IsJournal}
 use Rattle.sqjournal.specs.Restored.{all_records, last_content}
 use Rattle.sqjournal.specs.declared.reading.Why.{Why}
-use Rattle.crashdisk.specs.State.{IsSectorSize, IsImage}
-use Rattle.crashdisk.specs.Call.{DiskState, IsSoundDisk, ArePresent}
+use Rattle.crashdisk.specs.State.{IsImage}
+use Rattle.crashdisk.specs.Call.{DiskState, ArePresent}
 use Rattle.crashdisk.specs.Facts.{IsSteady}
 use Rattle.rollcore.specs.Alone.{AreWhole, Show}
-use Rattle.rollcore.specs.Replaying.{IsLogDown}
-
--- a disk on which pages of this size are recovered
-pub record Suits (size : ℕ) (s : DiskState) : Type 0 where
-  pub sound : IsSoundDisk s
-  pub sectors : IsSectorSize s.sector
-  pub pages : IsPageSize size
-  pub whole : s.tears ≡ true → s.sector ≤ size
+use Rattle.crashdisk.specs.Keeps.{IsLogDown, Suits}
 
 -- each database file that a crash may leave has the pages of d
 abbrev pub IsFiled : (size : ℕ) (d : Database) → DiskState → Type 0

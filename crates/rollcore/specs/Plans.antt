@@ -6,7 +6,8 @@ use Rattle.sqjournal.specs.Journal.{IsHot}
 use Rattle.sqjournal.specs.Took.{Took}
 use Rattle.crashdisk.specs.Call.{DiskState}
 use Rattle.sqval.specs.CommitFaults.{most_bytes}
-use Rattle.rollcore.specs.Replaying.{IsTooLarge, HadRefusal}
+use Rattle.rollcore.specs.Replaying.{IsTooLarge}
+use Rattle.crashdisk.specs.Keeps.{HadRefusal}
 use Rattle.rollcore.specs.declared.plan.Plan.{Plan}
 use Rattle.rollcore.specs.declared.error.RollError.{RollError}
 use Rattle.rollcore.specs.declared.error.RollError.TheVariants.{TooLarge, NoMemory, Device, SectorAbovePage}

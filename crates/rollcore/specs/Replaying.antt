@@ -1,5 +1,5 @@
 -- What the replay of a journal into its database does (fileformat2, 3). What it answers and refuses is own.
-use Rattle.std.specs.Prelude.{◌≡◌, ◌⊎◌, ℕ, ◌-◌, ◌*◌, ◌^◌, ◌<◌, true, List, [], ◌++◌, length, drop, replicate, Result, Ok, Err, IsTrue}
+use Rattle.std.specs.Prelude.{◌≡◌, ◌⊎◌, ℕ, ◌*◌, ◌<◌, true, List, ◌++◌, length, drop, replicate, Result, Ok, Err, IsTrue}
 use Rattle.sqval.specs.Bytes.{word}
 use Rattle.sqval.specs.Database.{Database}
 use Rattle.sqjournal.specs.Journal.{IsHot}
@@ -14,6 +14,7 @@ use Rattle.rollcore.specs.Alone.{ShowsAlone}
 use Rattle.rollcore.specs.declared.replaying.Replayed.{Replayed}
 use Rattle.rollcore.specs.declared.error.RollError.{RollError}
 use Rattle.rollcore.specs.declared.error.RollError.TheVariants.{TooLarge, NoMemory, Device, SectorAbovePage}
+use Rattle.crashdisk.specs.Keeps.{KeepsBytes, IsLogDown, HadRefusal}
 
 -- on a disk that tears, its sectors are larger than the pages of a journal or than the sectors that it names
 abbrev pub TearsJournal : DiskState → List ℕ → Type 0
@@ -23,24 +24,9 @@ TearsJournal s w = (s.tears ≡ true) × IsHot w × ((word w 24 < s.sector) ⊎ 
 abbrev pub IsTooLarge : List ℕ → Type 0
 IsTooLarge w = (longest < length w) ⊎ (IsHot w × (most_bytes < word w 16 * word w 24))
 
--- a call of the disk was refused, or had been so often that the count stands at its greatest
-abbrev pub HadRefusal : (old new : DiskState) → Type 0
-HadRefusal old new = (old.refused < new.refused) ⊎ (new.refused ≡ 2 ^ 64 - 1)
-
--- no byte has changed
-pub record KeepsBytes (old new : DiskState) : Type 0 where
-  pub db : new.db ≡ old.db
-  pub log : (bytes : List ℕ) → ArePresent old.log bytes → ArePresent new.log bytes
-
 -- a journal with zeros for its first header
 abbrev pub zeroed : List ℕ → List ℕ
 zeroed w = replicate 28 0 ++ drop 28 w
-
--- nothing of the log is unsynced
-pub record IsLogDown (s : DiskState) (w : List ℕ) : Type 0 where
-  pub settled : IsSettled s.log w
-  pub kept : s.tears ≡ true → s.kept ≡ w
-  pub handed : s.handed ≡ []
 
 -- A hot journal w was replayed into the file db. The file is down, and just what the journal restores; the journal is
 -- down, with zeros for its first header.

@@ -1,25 +1,23 @@
 -- The phases of a segment of the journal: in each of them all that a crash may leave shows the database from before the
 -- commit (own).
-use Rattle.std.specs.Prelude.{◌≡◌, ◌⊎◌, ℕ, ◌+◌, ◌-◌, ◌*◌, ◌<◌, ◌≤◌, true, List, [], ◌∷◌, ◌++◌, length, map, get_or, take, cond, nat_lt, Option, Some, None, Result, Ok, Err}
+use Rattle.std.specs.Prelude.{◌≡◌, ◌⊎◌, ℕ, ◌+◌, ◌-◌, ◌*◌, ◌<◌, ◌≤◌, true, List, ◌∷◌, ◌++◌, length, map, get_or, take, cond, nat_lt, Option, Some, None, Result, Ok, Err, []}
 use Rattle.std.specs.List.{Contains}
 use Rattle.sqval.specs.Bytes.{word}
 use Rattle.sqval.specs.CommitFaults.{most_bytes}
 use Rattle.sqval.specs.Database.{Database, Pages, page}
 use Rattle.sqval.specs.Held.{IsHeld}
 use Rattle.sqjournal.specs.Header.{HasMagic}
-use Rattle.sqjournal.specs.Journal.{records_end, AreRecords, IsHot}
+use Rattle.sqjournal.specs.Journal.{Sizes, records_end, AreRecords, IsHot}
 use Rattle.crashdisk.specs.State.{FileState, byte, IsImage}
 use Rattle.crashdisk.specs.Call.{DiskState, ArePresent, Writes}
 use Rattle.crashdisk.specs.Facts.{Steady}
 use Rattle.crashdisk.specs.declared.file.File.TheVariants.{Db, Log}
 use Rattle.crashdisk.specs.declared.error.DiskError.{DiskError}
 use Rattle.rollcore.specs.Fits.{MayBeRead, ShowsWhole}
-use Rattle.rollcore.specs.Phases.{Suits}
-use Rattle.rollcore.specs.Replaying.{HadRefusal, IsLogDown}
-use Rattle.rollcore.specs.Steps.{Still, Told}
-use Rattle.rollcore.specs.Journaling.{old_pages, sizes, next_place, record_bytes, IsJournaled, Tells, IsPrepared}
+use Rattle.crashdisk.specs.Keeps.{Suits, HadRefusal, IsLogDown, Still, Told}
+use Rattle.rollcore.specs.Journaling.{old_pages, sizes, next_place, record_bytes, IsJournaled, Tells, IsPrepared, HasNonces}
 use Rattle.rollcore.specs.Commits.{change_at}
-use Rattle.rollcore.specs.Machine.{segment_records}
+use Rattle.rollcore.specs.Machine.{segment_records, segments_of}
 use Rattle.rollcore.specs.declared.changes.Change.{Change}
 use Rattle.rollcore.specs.declared.error.RollError.{RollError}
 use Rattle.rollcore.specs.declared.error.RollError.TheVariants.{Device}
@@ -114,14 +112,26 @@ RecordsAnswer size sector d named place w part nonce (Ok end) old new =
     (end ≡ records_end (sizes sector size) (place + sector) (old_pages d part)) × Recorded size sector d named place w part nonce new × (old.refused ≤ new.refused) × (new.db ≡ old.db)
 RecordsAnswer size sector d named place w part nonce (Err e) old new = Harmless size d e old new
 
-abbrev pub PreparedAnswer : (size sector : ℕ) (d : Database) (named : List ℕ) (place : ℕ) (part : List ℕ) (nonce : ℕ) → Result ℕ RollError → (old new : DiskState) → Type 0
-PreparedAnswer size sector d named place part nonce (Ok next) old new =
-    (next ≡ next_place (sizes sector size) place (old_pages d part)) × ((w : List ℕ) × Prepared size sector d named place part nonce w new) × (old.refused ≤ new.refused) × (new.db ≡ old.db)
-PreparedAnswer size sector d named place part nonce (Err e) old new = Harmless size d e old new
+-- from one log to another the segments up to a place keep their nonces
+abbrev pub KeepsNonces : Sizes → (place : ℕ) → (w v : List ℕ) → Type 0
+KeepsNonces z place w v = (nonces : List ℕ) → HasNonces z w place nonces → HasNonces z v place nonces
 
-abbrev pub HeaderAnswer : {T : Type 0} → (size sector : ℕ) (d : Database) (named : List ℕ) (place : ℕ) → Result T RollError → (old new : DiskState) → Type 0
-HeaderAnswer size sector d named place (Ok _) old new = ((w : List ℕ) × Journaled size sector d named place w new) × (old.refused ≤ new.refused) × (new.db ≡ old.db)
-HeaderAnswer size sector d named place (Err e) old new = Harmless size d e old new
+-- and there is one segment more, up to the next place, which has this nonce
+abbrev pub AddsNonce : Sizes → (place : ℕ) → List ℕ → (nonce next : ℕ) → List ℕ → Type 0
+AddsNonce z place w nonce next v = (nonces : List ℕ) → HasNonces z w place nonces → HasNonces z v next (nonces ++ nonce ∷ [])
+
+abbrev pub PreparedAnswer : (size sector : ℕ) (d : Database) (named : List ℕ) (place : ℕ) (w part : List ℕ) (nonce : ℕ) → Result ℕ RollError → (old new : DiskState) → Type 0
+PreparedAnswer size sector d named place w part nonce (Ok next) old new =
+    (next ≡ next_place (sizes sector size) place (old_pages d part)) × ((v : List ℕ) × Prepared size sector d named place part nonce v new × KeepsNonces (sizes sector size) place w v)
+    × (old.refused ≤ new.refused) × (new.db ≡ old.db)
+PreparedAnswer size sector d named place w part nonce (Err e) old new = Harmless size d e old new
+
+abbrev pub HeaderAnswer : {T : Type 0} → (size sector : ℕ) (d : Database) (named : List ℕ) (place : ℕ) (w part : List ℕ) (nonce : ℕ) → Result T RollError → (old new : DiskState) → Type 0
+HeaderAnswer size sector d named place w part nonce (Ok _) old new =
+    ((v : List ℕ) × Journaled size sector d (named ++ part) (next_place (sizes sector size) place (old_pages d part)) v new
+    × AddsNonce (sizes sector size) place w nonce (next_place (sizes sector size) place (old_pages d part)) v)
+    × (old.refused ≤ new.refused) × (new.db ≡ old.db)
+HeaderAnswer size sector d named place w part nonce (Err e) old new = Harmless size d e old new
 
 -- ---- The pages of a segment go into the file.
 
@@ -131,7 +141,7 @@ ArePut size e numbers s = (p : ℕ) → Contains numbers p → p ≤ length e �
 
 -- a page is written to its place
 abbrev pub PageStep : {T : Type 0} → (number : ℕ) → List ℕ → Result T RollError → (old new : DiskState) → Type 0
-PageStep {T = T} number content result old new = (called : Result T DiskError) × Told called result × Writes Db ((number - 1) * length content) content called old new
+PageStep {T = T} number content result old new = (called : Result T DiskError) × Told Device called result × Writes Db ((number - 1) * length content) content called old new
 
 -- what becomes of a page that is in the journal: it is cut off, or it has this content among the pages of the commit
 abbrev pub Becomes : (size : ℕ) (e : Database) → Pages → (number : ℕ) → Option ℕ → Type 0
@@ -160,27 +170,31 @@ abbrev pub new_numbers : (old_size : ℕ) → Pages → List ℕ
 new_numbers old_size [] = []
 new_numbers old_size (x ∷ pages) = cond (nat_lt old_size x.0) (x.0 ∷ new_numbers old_size pages) (new_numbers old_size pages)
 
--- a segment is down, and its pages are put
-abbrev pub SegmentAnswer : (size sector : ℕ) (d e : Database) (named before : List ℕ) (place : ℕ) (part : List ℕ) → Result ℕ RollError → (old new : DiskState) → Type 0
-SegmentAnswer size sector d e named before place part (Ok next) old new = (next ≡ next_place (sizes sector size) place (old_pages d part))
-    × ((w : List ℕ) × Journaled size sector d (named ++ part) next w new) × ArePut size e (before ++ part) new.db × (old.refused ≤ new.refused)
-SegmentAnswer size sector d e named before place part (Err error) old new = Harmless size d error old new
+-- a segment is down with its nonce, and its pages are put
+abbrev pub SegmentAnswer : (size sector : ℕ) (d e : Database) (named before : List ℕ) (place : ℕ) (w part : List ℕ) (nonce : ℕ) → Result ℕ RollError → (old new : DiskState) → Type 0
+SegmentAnswer size sector d e named before place w part nonce (Ok next) old new = (next ≡ next_place (sizes sector size) place (old_pages d part))
+    × ((v : List ℕ) × Journaled size sector d (named ++ part) next v new × AddsNonce (sizes sector size) place w nonce next v)
+    × ArePut size e (before ++ part) new.db × (old.refused ≤ new.refused)
+SegmentAnswer size sector d e named before place w part nonce (Err error) old new = Harmless size d error old new
 
 -- ---- All segments.
 
--- so many segments of a commit that changes pages of these numbers are down, and their pages are put
-pub record Parted (size sector : ℕ) (d e : Database) (numbers : List ℕ) (k place : ℕ) (s : DiskState) : Type 0 where
+-- so many segments of a commit that changes pages of these numbers are down, of which each has its nonce of these, and
+-- their pages are put
+pub record Parted (size sector : ℕ) (d e : Database) (numbers nonces : List ℕ) (k place : ℕ) (s : DiskState) : Type 0 where
   pub journaled : (w : List ℕ) × Journaled size sector d (take (k * segment_records) numbers) place w s
+  pub taken : HasNonces (sizes sector size) journaled.0 place (take k nonces)
   pub put : ArePut size e (take (k * segment_records) numbers) s.db
   pub first : k ≡ 0 → place ≡ 0
   pub later : 0 < k → 0 < place
 
-abbrev pub PartAnswer : (size sector : ℕ) (d e : Database) (numbers : List ℕ) (k : ℕ) → Result ℕ RollError → (old new : DiskState) → Type 0
-PartAnswer size sector d e numbers k (Ok next) old new = Parted size sector d e numbers (k + 1) next new × (old.refused ≤ new.refused)
-PartAnswer size sector d e numbers k (Err error) old new = Harmless size d error old new
+abbrev pub PartAnswer : (size sector : ℕ) (d e : Database) (numbers nonces : List ℕ) (k : ℕ) → Result ℕ RollError → (old new : DiskState) → Type 0
+PartAnswer size sector d e numbers nonces k (Ok next) old new = Parted size sector d e numbers nonces (k + 1) next new × (old.refused ≤ new.refused)
+PartAnswer size sector d e numbers nonces k (Err error) old new = Harmless size d error old new
 
--- all of them are
-abbrev pub SegmentsAnswer : {T : Type 0} → (size sector : ℕ) (d e : Database) (numbers : List ℕ) → Result T RollError → (old new : DiskState) → Type 0
-SegmentsAnswer size sector d e numbers (Ok _) old new =
+-- all of them are: segment s has nonce s
+abbrev pub SegmentsAnswer : {T : Type 0} → (size sector : ℕ) (d e : Database) (numbers nonces : List ℕ) → Result T RollError → (old new : DiskState) → Type 0
+SegmentsAnswer size sector d e numbers nonces (Ok _) old new =
     (place : ℕ) × (w : List ℕ) × (0 < place) × Journaled size sector d numbers place w new × ArePut size e numbers new.db × (old.refused ≤ new.refused)
-SegmentsAnswer size sector d e numbers (Err error) old new = Harmless size d error old new
+    × HasNonces (sizes sector size) w place (take (segments_of (length numbers)) nonces)
+SegmentsAnswer size sector d e numbers nonces (Err error) old new = Harmless size d error old new

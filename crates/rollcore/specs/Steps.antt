@@ -1,5 +1,5 @@
 -- What the parts of a replay do to a disk.
-use Rattle.std.specs.Prelude.{◌≡◌, ◌⊎◌, ℕ, ◌+◌, ◌-◌, ◌*◌, ◌^◌, ◌<◌, ◌≤◌, Bool, true, false, cond, List, length, get_or, take, replicate, Result, Ok, Err, IsErr, Option, Some, None}
+use Rattle.std.specs.Prelude.{◌≡◌, ◌⊎◌, ℕ, ◌+◌, ◌-◌, ◌*◌, ◌<◌, ◌≤◌, Bool, true, false, cond, List, length, get_or, take, replicate, Result, Ok, Err, IsErr, Option, Some, None}
 use Rattle.sqval.specs.Bytes.{part}
 use Rattle.sqval.specs.Database.{Database, page}
 use Rattle.sqjournal.specs.Journal.{IsHot}
@@ -9,11 +9,11 @@ use Rattle.sqjournal.specs.declared.replay.Replay.{Replay}
 use Rattle.sqjournal.specs.declared.error.JournalError.{JournalError}
 use Rattle.sqjournal.specs.declared.error.JournalError.TheVariants.{TooLong, NoMemory}
 use Rattle.crashdisk.specs.State.{FileState, byte, IsSettled, longest}
-use Rattle.crashdisk.specs.Call.{DiskState, IsSoundDisk, ArePresent, Writes, Syncs}
-use Rattle.crashdisk.specs.declared.file.File.{File}
+use Rattle.crashdisk.specs.Call.{DiskState, ArePresent, Writes}
 use Rattle.crashdisk.specs.declared.file.File.TheVariants.{Db, Log}
 use Rattle.crashdisk.specs.declared.error.DiskError.{DiskError}
-use Rattle.rollcore.specs.Replaying.{HadRefusal, zeroed, IsLogDown, IsRolled}
+use Rattle.rollcore.specs.Replaying.{zeroed, IsRolled}
+use Rattle.crashdisk.specs.Keeps.{HadRefusal, IsLogDown, Still, Told, SyncStep}
 use Rattle.rollcore.specs.declared.replaying.Replayed.{Replayed}
 use Rattle.rollcore.specs.declared.error.RollError.{RollError}
 use Rattle.rollcore.specs.declared.error.RollError.TheVariants.{TooLarge, NoMemory as RollNoMemory, Device}
@@ -21,34 +21,6 @@ use Rattle.rollcore.specs.declared.error.RollError.TheVariants.{TooLarge, NoMemo
 -- the size of a sector that may tear, 0 where none may
 abbrev pub torn_sector : DiskState → ℕ
 torn_sector s = cond s.tears s.sector 0
-
--- calls that changed no byte
-pub record Still (old new : DiskState) : Type 0 where
-  pub sector : new.sector ≡ old.sector
-  pub tears : new.tears ≡ old.tears
-  pub db : new.db ≡ old.db
-  pub log : new.log ≡ old.log
-  pub kept : new.kept ≡ old.kept
-  pub handed : new.handed ≡ old.handed
-  pub refused : old.refused ≤ new.refused
-  pub count : new.refused < 2 ^ 64
-
--- calls that left the log alone
-pub record KeepsLog (old new : DiskState) : Type 0 where
-  pub sector : new.sector ≡ old.sector
-  pub tears : new.tears ≡ old.tears
-  pub log : new.log ≡ old.log
-  pub kept : new.kept ≡ old.kept
-  pub handed : new.handed ≡ old.handed
-  pub refused : old.refused ≤ new.refused
-  pub sound : IsSoundDisk new
-
--- a refusal of a call of the disk is answered by Device
-abbrev pub Told : {T : Type 0} → Result T DiskError → Result T RollError → Type 0
-Told (Ok _) (Ok _) = Unit {0}
-Told (Ok _) (Err _) = ⊥
-Told (Err _) (Ok _) = ⊥
-Told (Err _) (Err e) = e ≡ Device
 
 -- ---- The scan.
 
@@ -110,14 +82,11 @@ CopyAnswer size d (Err e) old new = (e ≡ Device) × HadRefusal old new
 
 -- ---- The end.
 
-abbrev pub SyncStep : {T : Type 0} → File → Result T RollError → (old new : DiskState) → Type 0
-SyncStep {T = T} f result old new = (called : Result T DiskError) × Told called result × Syncs f called old new
-
 -- 28 zero bytes are written over the front of the log, which is then synced
 abbrev pub ZeroSteps : {T : Type 0} → Result T RollError → (old new : DiskState) → Type 0
 ZeroSteps {T = T} result old new =
-    ((called : Result T DiskError) × IsErr called × Told called result × Writes Log 0 (replicate 28 0) called old new)
-    ⊎ ((mid : DiskState) × ((done : T) × Writes Log 0 (replicate 28 0) (Ok done) old mid) × SyncStep Log result mid new)
+    ((called : Result T DiskError) × IsErr called × Told Device called result × Writes Log 0 (replicate 28 0) called old new)
+    ⊎ ((mid : DiskState) × ((done : T) × Writes Log 0 (replicate 28 0) (Ok done) old mid) × SyncStep Device Log result mid new)
 
 -- the database is down, and so is the log, with zeros for its first header
 unfoldable pub EndAnswer : {T : Type 0} → Result T RollError → (old new : DiskState) → Type 0

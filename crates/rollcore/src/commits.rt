@@ -1,14 +1,15 @@
 //! Commits.
-ghost use Rattle.std.specs.Prelude.{◌≡◌, ◌↔◌, ◌*◌, ◌≤◌, ℕ, List, length, IsTrue};
+ghost use Rattle.std.specs.Prelude.{◌≡◌, ◌↔◌, ◌*◌, ◌≤◌, ℕ, List, length, take, IsTrue, OnOk};
 ghost use Rattle.crashdisk.specs.Call.{DiskState};
 ghost use Rattle.sqval.specs.Database.{Database, apply};
 ghost use Rattle.sqval.specs.Held.{IsHeld};
 ghost use Rattle.sqval.specs.JudgedPages.{lent};
 ghost use Rattle.sqval.specs.Answers.{Done};
-ghost use Rattle.rollcore.specs.Phases.{Suits};
-ghost use Rattle.rollcore.specs.Machine.{State, Commits};
+ghost use Rattle.crashdisk.specs.Keeps.{Suits};
+ghost use Rattle.rollcore.specs.Machine.{State, Commits, segments_of, recorded};
+ghost use Rattle.rollcore.specs.Journaling.{sizes};
 ghost use Rattle.rollcore.specs.Fits.{Rests, FitsCore, StepsTo, Fits, Steps, answered};
-ghost use Rattle.rollcore.specs.Commits.{KeepsCore, Goes, IsReady, PagesJudged, PrepareAnswer, PutAnswer, EndAnswer};
+ghost use Rattle.rollcore.specs.Commits.{KeepsCore, Goes, IsReady, PagesJudged, PrepareAnswer, PutAnswer, EndAnswer, LeavesNonces, TakesNonces};
 
 use crate::changes::{count_records, list_changes};
 use crate::error::RollError;
@@ -61,6 +62,9 @@ fn put_commit<D: Disk>(
     ensures put { D.keeps_word disk.old → (d : Database) → Suits core.old.page_size (D.state disk.old) → IsHeld core.old.page_size d
         → length d ≡ core.old.size → length core.old.header.items ≡ (D.state disk.old).sector → Rests core.old.page_size d (D.state disk.old)
         → PutAnswer core.old.page_size d (apply d (lent pages.now) size) result (D.state disk.old) (D.state disk.new) }
+    ensures nonces { D.keeps_word disk.old → (d : Database) → Suits core.old.page_size (D.state disk.old) → IsHeld core.old.page_size d
+        → length d ≡ core.old.size → length core.old.header.items ≡ (D.state disk.old).sector → Rests core.old.page_size d (D.state disk.old)
+        → OnOk result (LeavesNonces (sizes (D.state disk.old).sector core.old.page_size) (take (segments_of (recorded (lent pages.now) (length d) size)) nonces.now) (D.state disk.new)) }
 {
     let sector = disk.sector() as u32;
     put_segments(disk, core, pages, nonces, sector)?;
@@ -92,6 +96,7 @@ fn write_commit<D: Disk>(
     ensures word { D.keeps_word disk.old ↔ D.keeps_word disk.new }
     ensures step { D.keeps_word disk.old → (past : State) → FitsCore past core.old (D.state disk.old) → IsTrue core.old.is_open
         → StepsTo past (Commits (lent pages.now) size nonces.now) (answered (λ _. Done) result) core.new (D.state disk.old) (D.state disk.new) }
+    ensures nonces { D.keeps_word disk.old → (past : State) → FitsCore past core.old (D.state disk.old) → IsTrue core.old.is_open → TakesNonces past (lent pages.now) size nonces.now result (D.state disk.old) (D.state disk.new) }
 {
     let put = put_commit(disk, core, pages, size, nonces);
     end_put(core, size, put)
@@ -108,6 +113,7 @@ fn commit_pages<D: Disk>(
     ensures word { D.keeps_word disk.old ↔ D.keeps_word disk.new }
     ensures step { D.keeps_word disk.old → (past : State) → FitsCore past core.old (D.state disk.old)
         → StepsTo past (Commits (lent pages.now) size nonces.now) (answered (λ _. Done) result) core.new (D.state disk.old) (D.state disk.new) }
+    ensures nonces { D.keeps_word disk.old → (past : State) → FitsCore past core.old (D.state disk.old) → TakesNonces past (lent pages.now) size nonces.now result (D.state disk.old) (D.state disk.new) }
 {
     if !core.is_open {
         return Err(RollError::Closed);
@@ -129,6 +135,9 @@ impl<D: Disk> Roll<D> {
         ensures word { D.keeps_word self.old.disk ↔ D.keeps_word self.new.disk }
         ensures step { D.keeps_word self.old.disk → (past : State) → Fits D.state self.old past
             → Steps D.state self.old self.new past (Commits (lent pages.now) size nonces.now) (answered (λ _. Done) result) }
+        // where it is done, segment s of the journal has nonce s
+        ensures nonces { D.keeps_word self.old.disk → (past : State) → Fits D.state self.old past
+            → TakesNonces past (lent pages.now) size nonces.now result (D.state self.old.disk) (D.state self.new.disk) }
     {
         commit_pages(&mut self.disk, &mut self.core, pages, size, nonces)
     }

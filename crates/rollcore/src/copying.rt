@@ -9,13 +9,13 @@ ghost use Rattle.sqjournal.specs.Journal.{IsHot};
 ghost use Rattle.crashdisk.specs.Call.{DiskState, IsSoundDisk, ArePresent};
 ghost use Rattle.crashdisk.specs.declared.file.File.TheVariants.{Db, Log};
 ghost use Rattle.sqval.specs.CommitFaults.{most_bytes};
-ghost use Rattle.rollcore.specs.Steps.{Still, KeepsLog, RecordAnswer, EntryAnswer, ArePages, CopyAnswer, SyncStep, ZeroSteps, EndAnswer};
+ghost use Rattle.rollcore.specs.Steps.{RecordAnswer, EntryAnswer, ArePages, CopyAnswer, ZeroSteps, EndAnswer};
+ghost use Rattle.crashdisk.specs.Keeps.{Still, KeepsLog, SyncStep, IsLogDown};
 ghost use Rattle.rollcore.specs.Phases.{Writing};
 ghost use Rattle.rollcore.specs.Alone.{ShowsAlone};
 ghost use Rattle.rollcore.specs.Commits.{Goes, PutAnswer};
 ghost use Rattle.rollcore.specs.Segments.{Journaled};
 ghost use Rattle.rollcore.specs.Lengths.{EndsBy};
-ghost use Rattle.rollcore.specs.Replaying.{IsLogDown};
 ghost use Rattle.crashdisk.specs.State.{IsSectorSize};
 
 use crate::error::RollError;
@@ -95,7 +95,7 @@ pub fn copy_records<D: Disk>(
 /// Makes the database stay.
 fn settle_database<D: Disk>(disk: &mut D) -> Result<(), RollError>
     ensures word { D.keeps_word disk.old ↔ D.keeps_word disk.new }
-    ensures state { D.keeps_word disk.old → SyncStep File.Db result (D.state disk.old) (D.state disk.new) }
+    ensures state { D.keeps_word disk.old → SyncStep RollError.Device File.Db result (D.state disk.old) (D.state disk.new) }
 {
     disk.sync(File::Db)?;
     Ok(())

@@ -1,10 +1,12 @@
 //! The end of a commit, once the journal is down.
-ghost use Rattle.std.specs.Prelude.{◌≡◌, ◌↔◌, ◌<◌, ◌≤◌, ℕ, List, length, None};
+ghost use Rattle.std.specs.Prelude.{◌≡◌, ◌↔◌, ◌<◌, ◌≤◌, ℕ, List, length, None, OnOk};
 ghost use Rattle.std.specs.List.{All};
 ghost use Rattle.sqval.specs.Database.{Database, apply};
 ghost use Rattle.sqval.specs.JudgedPages.{lent};
 ghost use Rattle.crashdisk.specs.Call.{DiskState, IsSoundDisk};
 ghost use Rattle.rollcore.specs.Machine.{refusal_of};
+ghost use Rattle.rollcore.specs.Replaying.{zeroed};
+ghost use Rattle.crashdisk.specs.Keeps.{IsLogDown};
 ghost use Rattle.rollcore.specs.Commits.{AreChanges, Goes, PutAnswer};
 ghost use Rattle.rollcore.specs.Segments.{Journaled, ArePut, pages_of};
 ghost use Rattle.rollcore.specs.declared.changes.Change.{Change};
@@ -31,6 +33,11 @@ pub fn end_commit<D: Disk>(
         → ArePut page_size (apply d (lent pages.now) size) (pages_of changes) (D.state disk.old).db
         → old_size ≡ length d → AreChanges (lent pages.now) old_size size changes → refusal_of old_size page_size (lent pages.now) size nonces ≡ None
         → PutAnswer page_size d (apply d (lent pages.now) size) result (D.state disk.old) (D.state disk.new) }
+    ensures log { D.keeps_word disk.old → (sector nonces : ℕ) (d : Database) (changes : List Change) (place : ℕ) (w : List ℕ)
+        → Journaled page_size sector d (pages_of changes) place w (D.state disk.old) → 0 < place
+        → ArePut page_size (apply d (lent pages.now) size) (pages_of changes) (D.state disk.old).db
+        → old_size ≡ length d → AreChanges (lent pages.now) old_size size changes → refusal_of old_size page_size (lent pages.now) size nonces ≡ None
+        → OnOk result (IsLogDown (D.state disk.new) (zeroed w)) }
 {
     put_new_pages(disk, pages, old_size)?;
     let end = u64::from(size) * u64::from(page_size.get());

@@ -16,8 +16,6 @@ mod replaying;
 mod roll;
 mod segments;
 mod state;
-#[cfg(test)]
-mod tests;
 mod worked;
 
 pub use error::RollError;

@@ -7,13 +7,13 @@ ghost use Rattle.sqval.specs.Answers.{Files};
 ghost use Rattle.sqval.specs.Database.{Database};
 ghost use Rattle.sqval.specs.Held.{IsHeld};
 ghost use Rattle.rollcore.specs.Machine.{State};
-ghost use Rattle.rollcore.specs.Phases.{Suits};
+ghost use Rattle.crashdisk.specs.Keeps.{Suits, HadRefusal, IsLogDown, Still, SyncStep, TearsPages};
 ghost use Rattle.rollcore.specs.Plans.{IsPlan};
-ghost use Rattle.rollcore.specs.Replaying.{Agrees, HadRefusal, IsLogDown};
-ghost use Rattle.rollcore.specs.Steps.{Still, SyncStep, torn_sector};
+ghost use Rattle.rollcore.specs.Replaying.{Agrees};
+ghost use Rattle.rollcore.specs.Steps.{torn_sector};
 ghost use Rattle.rollcore.specs.Commits.{Goes};
 ghost use Rattle.rollcore.specs.Lengths.{ShowsOne};
-ghost use Rattle.rollcore.specs.Opening.{TearsPages, CountAnswer, SizeJudged, BreakSteps, FrontAnswer, RecoverAnswer, RecoveredAt, IsNewCore, RefusedFor, OpenRefused};
+ghost use Rattle.rollcore.specs.Opening.{CountAnswer, SizeJudged, BreakSteps, FrontAnswer, RecoverAnswer, RecoveredAt, IsNewCore, RefusedFor, OpenRefused};
 ghost use Rattle.rollcore.specs.Fits.{FitsDisk, AreFiles, OpenedTo, GivenUpTo, Opened, GivenUp};
 
 use crate::error::RollError;
@@ -75,7 +75,7 @@ pub(crate) fn break_magic<D: Disk>(disk: &mut D, at: u64) -> Result<bool, RollEr
 /// Makes the log stay.
 pub(crate) fn settle_log<D: Disk>(disk: &mut D) -> Result<(), RollError>
     ensures word { D.keeps_word disk.old ↔ D.keeps_word disk.new }
-    ensures state { D.keeps_word disk.old → SyncStep File.Log result (D.state disk.old) (D.state disk.new) }
+    ensures state { D.keeps_word disk.old → SyncStep RollError.Device File.Log result (D.state disk.old) (D.state disk.new) }
 {
     disk.sync(File::Log)?;
     Ok(())

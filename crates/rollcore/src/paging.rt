@@ -5,7 +5,8 @@ ghost use Rattle.crashdisk.specs.Call.{DiskState, IsSoundDisk};
 ghost use Rattle.sqval.specs.Answers.{Page};
 ghost use Rattle.rollcore.specs.Machine.{State, Reads};
 ghost use Rattle.rollcore.specs.Fits.{Fits, Steps, answered};
-ghost use Rattle.rollcore.specs.Paging.{ReadJudged, IsRefusedRead, PlaceAnswer};
+ghost use Rattle.rollcore.specs.Paging.{ReadJudged, IsRefusedRead};
+ghost use Rattle.crashdisk.specs.Keeps.{PlaceAnswer};
 
 use crate::error::RollError;
 use crate::roll::Roll;
@@ -47,7 +48,7 @@ pub(crate) fn read_place<D: Disk>(
     out: &mut [u8],
 ) -> Result<(), RollError>
     ensures word { D.keeps_word disk.old ↔ D.keeps_word disk.new }
-    ensures place { D.keeps_word disk.old → IsSoundDisk (D.state disk.old) → PlaceAnswer file at out.new result (D.state disk.old) (D.state disk.new) }
+    ensures place { D.keeps_word disk.old → IsSoundDisk (D.state disk.old) → PlaceAnswer RollError.Device file at out.new result (D.state disk.old) (D.state disk.new) }
 {
     disk.read_at(file, at, out)?;
     Ok(())

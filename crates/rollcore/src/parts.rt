@@ -1,5 +1,5 @@
 //! The segments of a commit: what it changes is cut into parts, and one after another comes down and is put.
-ghost use Rattle.std.specs.Prelude.{◌≡◌, ◌↔◌, ◌+◌, ◌*◌, ◌^◌, ◌<◌, ◌≤◌, ℕ, length, IfOk};
+ghost use Rattle.std.specs.Prelude.{◌≡◌, ◌↔◌, ◌+◌, ◌*◌, ◌^◌, ◌<◌, ◌≤◌, ℕ, List, length, get_or, IfOk};
 ghost use Rattle.sqval.specs.Database.{Database, apply};
 ghost use Rattle.sqval.specs.Held.{IsHeld};
 ghost use Rattle.sqval.specs.JudgedPages.{lent};
@@ -7,7 +7,7 @@ ghost use Rattle.sqjournal.specs.Header.{IsSector};
 ghost use Rattle.crashdisk.specs.Call.{IsSoundDisk};
 ghost use Rattle.rollcore.specs.Fits.{Rests};
 ghost use Rattle.rollcore.specs.Machine.{segments_of};
-ghost use Rattle.rollcore.specs.Phases.{Suits};
+ghost use Rattle.crashdisk.specs.Keeps.{Suits};
 ghost use Rattle.rollcore.specs.Commits.{KeepsCore, Goes, IsReady};
 ghost use Rattle.rollcore.specs.Segments.{pages_of, Parted, PartAnswer, SegmentsAnswer};
 
@@ -25,7 +25,7 @@ pub(crate) fn count_segments(records: usize) -> usize
     records.div_ceil(SEGMENT_RECORDS).max(1)
 }
 
-/// Brings segment `k` down, and then puts its pages. The place of the next header.
+/// Brings segment `k` down by its nonce, and then puts its pages. The place of the next header.
 fn put_part<D: Disk>(
     disk: &mut D,
     core: &mut Core,
@@ -44,10 +44,10 @@ fn put_part<D: Disk>(
     ensures near { IfOk result (λ next. next ≤ place + 2 ^ 23) }
     ensures keeps { KeepsCore core.old core.new }
     ensures changes { core.new.changes ≡ core.old.changes }
-    ensures segment { D.keeps_word disk.old → (n nonces : ℕ) (d : Database) → IsReady pages.now n nonces core.old → length d ≡ core.old.size
-        → length core.old.header.items ≡ sector
-        → Parted core.old.page_size sector d (apply d (lent pages.now) n) (pages_of core.old.changes.items) k place (D.state disk.old)
-        → PartAnswer core.old.page_size sector d (apply d (lent pages.now) n) (pages_of core.old.changes.items) k result (D.state disk.old) (D.state disk.new) }
+    ensures segment { D.keeps_word disk.old → (n count : ℕ) (d : Database) (nonces : List ℕ) → IsReady pages.now n count core.old → length d ≡ core.old.size
+        → length core.old.header.items ≡ sector → k < length nonces → nonce ≡ get_or nonces k 0
+        → Parted core.old.page_size sector d (apply d (lent pages.now) n) (pages_of core.old.changes.items) nonces k place (D.state disk.old)
+        → PartAnswer core.old.page_size sector d (apply d (lent pages.now) n) (pages_of core.old.changes.items) nonces k result (D.state disk.old) (D.state disk.new) }
 {
     let from = k * SEGMENT_RECORDS;
     let to = core.changes.len().min(from + SEGMENT_RECORDS);
@@ -69,7 +69,7 @@ fn put_part<D: Disk>(
     )
 }
 
-/// Brings the segments down one after another, each with its pages.
+/// Brings the segments down one after another, each with its pages. Segment `k` takes nonce `k`.
 pub(crate) fn put_segments<D: Disk>(
     disk: &mut D,
     core: &mut Core,
@@ -86,7 +86,7 @@ pub(crate) fn put_segments<D: Disk>(
     ensures segments { D.keeps_word disk.old → (n : ℕ) (d : Database) → IsReady pages.now n (length nonces.now) core.old
         → Suits core.old.page_size (D.state disk.old) → IsHeld core.old.page_size d → length d ≡ core.old.size
         → length core.old.header.items ≡ (D.state disk.old).sector → sector ≡ (D.state disk.old).sector → Rests core.old.page_size d (D.state disk.old)
-        → SegmentsAnswer core.old.page_size sector d (apply d (lent pages.now) n) (pages_of core.old.changes.items) result (D.state disk.old) (D.state disk.new) }
+        → SegmentsAnswer core.old.page_size sector d (apply d (lent pages.now) n) (pages_of core.old.changes.items) nonces.now result (D.state disk.old) (D.state disk.new) }
 {
     let mut place = 0;
     for k in 0..count_segments(core.changes.len()) {

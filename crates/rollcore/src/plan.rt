@@ -4,7 +4,7 @@ ghost use Rattle.crashdisk.specs.Call.{DiskState, IsSoundDisk, ArePresent};
 ghost use Rattle.sqjournal.specs.Took.{Took};
 ghost use Rattle.sqjournal.specs.Header.{Names};
 ghost use Rattle.sqjournal.specs.Journal.{IsHot};
-ghost use Rattle.rollcore.specs.Steps.{Still};
+ghost use Rattle.crashdisk.specs.Keeps.{Still};
 ghost use Rattle.rollcore.specs.Plans.{JudgeAnswer, PlanAnswer, ReadAnswer};
 
 use crate::error::RollError;

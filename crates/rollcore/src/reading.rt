@@ -2,7 +2,8 @@
 ghost use Rattle.std.specs.Prelude.{◌≡◌, ◌↔◌, ◌+◌, ◌<◌, ◌≤◌, ℕ, List, [], length, take, IfOk, OnErr};
 ghost use Rattle.crashdisk.specs.Call.{DiskState, IsSoundDisk, ArePresent};
 ghost use Rattle.sqjournal.specs.Took.{Took};
-ghost use Rattle.rollcore.specs.Steps.{Still, IsWithoutHeader, PieceAnswer, ScanAnswer};
+ghost use Rattle.rollcore.specs.Steps.{IsWithoutHeader, PieceAnswer, ScanAnswer};
+ghost use Rattle.crashdisk.specs.Keeps.{Still};
 
 use crate::error::RollError;
 use crashdisk::{Disk, File};

@@ -11,7 +11,7 @@ ghost use Rattle.sqjournal.specs.Header.{IsSector, Names, header_bytes, next_hea
 ghost use Rattle.sqjournal.specs.Journal.{records_end};
 ghost use Rattle.crashdisk.specs.Call.{DiskState, IsSoundDisk};
 ghost use Rattle.crashdisk.specs.declared.file.File.TheVariants.{Db, Log};
-ghost use Rattle.rollcore.specs.Steps.{SyncStep};
+ghost use Rattle.crashdisk.specs.Keeps.{SyncStep};
 ghost use Rattle.rollcore.specs.Commits.{Goes, change_at};
 ghost use Rattle.rollcore.specs.Journaling.{old_pages, sizes, next_place, record_bytes, IsHeaderOf};
 ghost use Rattle.rollcore.specs.Segments.{Recording, Recorded, Ended, Prepared, Journaled, RecordStep, pages_of, AreFresh, RecordsAnswer, PreparedAnswer, HeaderAnswer, PageStep, ArePut, AreTurned, AreSome, PutPagesAnswer, AreOf, new_numbers, SegmentAnswer};
@@ -32,65 +32,65 @@ fn put_word(bytes: &mut [u8], at: usize, value: u32)
 }
 
 /// Puts the number and the sum of a record round its page.
-fn frame_record(record: &mut [u8], page: u32, nonce: u32)
-    requires { 8 ≤ length record.old }
-    ensures { record.new ≡ record_bytes page nonce (part record.old 4 (length record.old - 8)) }
+fn frame_record(buffer: &mut [u8], page: u32, nonce: u32)
+    requires { 8 ≤ length buffer.old }
+    ensures { buffer.new ≡ record_bytes page nonce (part buffer.old 4 (length buffer.old - 8)) }
 {
-    let end = record.len() - 4;
-    let sum = page_sum(nonce, &record[4..end]);
-    put_word(record, 0, page);
-    put_word(record, end, sum);
+    let end = buffer.len() - 4;
+    let sum = page_sum(nonce, &buffer[4..end]);
+    put_word(buffer, 0, page);
+    put_word(buffer, end, sum);
 }
 
 /// Copies a page of the database to a record at a place of the journal.
 fn write_record<D: Disk>(
     disk: &mut D,
-    record: &mut [u8],
+    buffer: &mut [u8],
     at: u64,
     page: u32,
     nonce: u32,
 ) -> Result<(), RollError>
-    requires room { 8 ≤ length record.old }
-    requires short { length record.old ≤ 65544 }
+    requires room { 8 ≤ length buffer.old }
+    requires short { length buffer.old ≤ 65544 }
     requires page { 1 ≤ page }
     requires place { at ≤ 2 ^ 39 + 2 ^ 23 }
     ensures word { D.keeps_word disk.old ↔ D.keeps_word disk.new }
     ensures goes { D.keeps_word disk.old → IsSoundDisk (D.state disk.old) → Goes (D.state disk.old) (D.state disk.new) }
-    ensures record { D.keeps_word disk.old → IsSoundDisk (D.state disk.old) → page * (length record.old - 8) ≤ most_bytes
-        → RecordStep (length record.old - 8) page nonce at result (D.state disk.old) (D.state disk.new) }
+    ensures record { D.keeps_word disk.old → IsSoundDisk (D.state disk.old) → page * (length buffer.old - 8) ≤ most_bytes
+        → RecordStep (length buffer.old - 8) page nonce at result (D.state disk.old) (D.state disk.new) }
 {
-    let end = record.len() - 4;
+    let end = buffer.len() - 4;
     let from = u64::from(page - 1) * (end - 4) as u64;
-    disk.read_at(File::Db, from, &mut record[4..end])?;
-    frame_record(record, page, nonce);
-    disk.write_at(File::Log, at, record)?;
+    disk.read_at(File::Db, from, &mut buffer[4..end])?;
+    frame_record(buffer, page, nonce);
+    disk.write_at(File::Log, at, buffer)?;
     Ok(())
 }
 
 /// Copies the pages of these changes to records from a place of the journal on. Where the last one ends.
 fn write_records<D: Disk>(
     disk: &mut D,
-    record: &mut [u8],
+    buffer: &mut [u8],
     changes: &[Change],
     at: u64,
     nonce: u32,
 ) -> Result<u64, RollError>
-    requires room { 8 ≤ length record.old }
-    requires short { length record.old ≤ 65544 }
+    requires room { 8 ≤ length buffer.old }
+    requires short { length buffer.old ≤ 65544 }
     requires few { length changes.now ≤ 64 }
     requires pages { (i : ℕ) → i < length changes.now → 1 ≤ (change_at changes.now i).page }
     requires place { at ≤ 2 ^ 39 }
     ensures word { D.keeps_word disk.old ↔ D.keeps_word disk.new }
     ensures goes { D.keeps_word disk.old → IsSoundDisk (D.state disk.old) → Goes (D.state disk.old) (D.state disk.new) }
-    ensures end { IfOk result (λ end. end ≡ at + length changes.now * length record.old) }
+    ensures end { IfOk result (λ end. end ≡ at + length changes.now * length buffer.old) }
     ensures records { D.keeps_word disk.old → (sector : ℕ) (d : Database) (named : List ℕ) (place : ℕ) (w : List ℕ)
-        → Recording (length record.old - 8) sector d named place w (D.state disk.old) → at ≡ place + sector → AreFresh d named (pages_of changes.now)
-        → RecordsAnswer (length record.old - 8) sector d named place w (pages_of changes.now) nonce result (D.state disk.old) (D.state disk.new) }
+        → Recording (length buffer.old - 8) sector d named place w (D.state disk.old) → at ≡ place + sector → AreFresh d named (pages_of changes.now)
+        → RecordsAnswer (length buffer.old - 8) sector d named place w (pages_of changes.now) nonce result (D.state disk.old) (D.state disk.new) }
 {
     let mut end = at;
     for change in changes {
-        write_record(disk, record, end, change.page, nonce)?;
-        end += record.len() as u64;
+        write_record(disk, buffer, end, change.page, nonce)?;
+        end += buffer.len() as u64;
     }
     Ok(end)
 }
@@ -99,14 +99,14 @@ fn write_records<D: Disk>(
 /// next header, where none begins now.
 fn prepare_segment<D: Disk>(
     disk: &mut D,
-    record: &mut [u8],
+    buffer: &mut [u8],
     changes: &[Change],
     place: u64,
     sector: u32,
     nonce: u32,
 ) -> Result<u64, RollError>
-    requires room { 8 ≤ length record.old }
-    requires short { length record.old ≤ 65544 }
+    requires room { 8 ≤ length buffer.old }
+    requires short { length buffer.old ≤ 65544 }
     requires few { length changes.now ≤ 64 }
     requires pages { (i : ℕ) → i < length changes.now → 1 ≤ (change_at changes.now i).page }
     requires place { place ≤ 2 ^ 38 }
@@ -115,10 +115,10 @@ fn prepare_segment<D: Disk>(
     ensures goes { D.keeps_word disk.old → IsSoundDisk (D.state disk.old) → Goes (D.state disk.old) (D.state disk.new) }
     ensures near { IfOk result (λ next. next ≤ place + 2 ^ 23) }
     ensures prepared { D.keeps_word disk.old → (d : Database) (named w : List ℕ)
-        → Journaled (length record.old - 8) sector d named place w (D.state disk.old) → AreFresh d named (pages_of changes.now) → (place ≡ 0) ⊎ (1 ≤ length changes.now)
-        → PreparedAnswer (length record.old - 8) sector d named place (pages_of changes.now) nonce result (D.state disk.old) (D.state disk.new) }
+        → Journaled (length buffer.old - 8) sector d named place w (D.state disk.old) → AreFresh d named (pages_of changes.now) → (place ≡ 0) ⊎ (1 ≤ length changes.now)
+        → PreparedAnswer (length buffer.old - 8) sector d named place w (pages_of changes.now) nonce result (D.state disk.old) (D.state disk.new) }
 {
-    let end = write_records(disk, record, changes, place + u64::from(sector), nonce)?;
+    let end = write_records(disk, buffer, changes, place + u64::from(sector), nonce)?;
     let next = next_header_at(end, sector);
     break_magic(disk, next)?;
     settle_log(disk)?;
@@ -194,7 +194,7 @@ fn write_header<D: Disk>(
     ensures goes { D.keeps_word disk.old → IsSoundDisk (D.state disk.old) → Goes (D.state disk.old) (D.state disk.new) }
     ensures header { D.keeps_word disk.old → (size sector : ℕ) (d : Database) (named part w : List ℕ) (nonce : ℕ)
         → Prepared size sector d named place part nonce w (D.state disk.old) → length header.old ≡ sector → length part ≤ 64 → IsHeaderOf size sector d part nonce head.now
-        → HeaderAnswer size sector d (named ++ part) (next_place (sizes sector size) place (old_pages d part)) result (D.state disk.old) (D.state disk.new) }
+        → HeaderAnswer size sector d named place w part nonce result (D.state disk.old) (D.state disk.new) }
 {
     fill_header(header, head);
     disk.write_at(File::Log, place, header)?;
@@ -228,15 +228,15 @@ pub(crate) fn put_new_pages<D: Disk>(
 /// Brings a segment of the journal down, and then puts its pages. The place of the next header.
 pub(crate) fn put_segment<D: Disk>(
     disk: &mut D,
-    record: &mut [u8],
+    buffer: &mut [u8],
     header: &mut [u8],
     changes: &[Change],
     pages: &[(u32, &[u8])],
     place: u64,
     head: &JournalHeader,
 ) -> Result<u64, RollError>
-    requires room { 8 ≤ length record.old }
-    requires short { length record.old ≤ 65544 }
+    requires room { 8 ≤ length buffer.old }
+    requires short { length buffer.old ≤ 65544 }
     requires few { length changes.now ≤ 64 }
     requires some { (i : ℕ) → i < length changes.now → 1 ≤ (change_at changes.now i).page }
     requires within { (i k : ℕ) → i < length changes.now → (change_at changes.now i).content ≡ Some k → k < length pages.now }
@@ -249,12 +249,12 @@ pub(crate) fn put_segment<D: Disk>(
     ensures goes { D.keeps_word disk.old → IsSoundDisk (D.state disk.old) → Goes (D.state disk.old) (D.state disk.new) }
     ensures near { IfOk result (λ next. next ≤ place + 2 ^ 23) }
     ensures segment { D.keeps_word disk.old → (d e : Database) (named w before : List ℕ)
-        → Journaled (length record.old - 8) head.now.sector d named place w (D.state disk.old) → AreFresh d named (pages_of changes.now) → (place ≡ 0) ⊎ (1 ≤ length changes.now)
-        → length header.old ≡ head.now.sector → IsHeaderOf (length record.old - 8) head.now.sector d (pages_of changes.now) head.now.nonce head.now
-        → AreTurned (length record.old - 8) e (named ++ pages_of changes.now) (lent pages.now) changes.now → AreSome before → ArePut (length record.old - 8) e before (D.state disk.old).db
-        → SegmentAnswer (length record.old - 8) head.now.sector d e named before place (pages_of changes.now) result (D.state disk.old) (D.state disk.new) }
+        → Journaled (length buffer.old - 8) head.now.sector d named place w (D.state disk.old) → AreFresh d named (pages_of changes.now) → (place ≡ 0) ⊎ (1 ≤ length changes.now)
+        → length header.old ≡ head.now.sector → IsHeaderOf (length buffer.old - 8) head.now.sector d (pages_of changes.now) head.now.nonce head.now
+        → AreTurned (length buffer.old - 8) e (named ++ pages_of changes.now) (lent pages.now) changes.now → AreSome before → ArePut (length buffer.old - 8) e before (D.state disk.old).db
+        → SegmentAnswer (length buffer.old - 8) head.now.sector d e named before place w (pages_of changes.now) head.now.nonce result (D.state disk.old) (D.state disk.new) }
 {
-    let next = prepare_segment(disk, record, changes, place, head.sector, head.nonce)?;
+    let next = prepare_segment(disk, buffer, changes, place, head.sector, head.nonce)?;
     write_header(disk, header, place, head)?;
     put_pages(disk, changes, pages)?;
     Ok(next)

@@ -1,14 +1,18 @@
-use Rattle.std.proofs.Common.{◌≡◌, ◌<◌, ◌≤◌, ◌∙◌, ℕ, List, length, sym, ap, subst, arith}
-use Rattle.std.specs.Prelude.{Result, None}
+use Rattle.std.proofs.Common.{◌≡◌, ◌<◌, ◌∙◌, ℕ, List, length, sym, ap, subst, arith}
+use Rattle.std.specs.Prelude.{Result, None, OnOk, take}
+use Rattle.std.proofs.lemmas.Result.{on_ok_weaker}
+use Rattle.std.proofs.lemmas.List.{length-map}
 use Rattle.sqval.specs.Database.{Database, apply}
 use Rattle.sqval.specs.JudgedPages.{lent}
-use Rattle.crashdisk.specs.Call.{DiskState}
-use Rattle.rollcore.specs.Machine.{refusal_of}
+use Rattle.rollcore.specs.Machine.{refusal_of, recorded, segments_of}
+use Rattle.rollcore.specs.Journaling.{sizes, HasNonces}
+use Rattle.rollcore.specs.Replaying.{zeroed}
+use Rattle.crashdisk.specs.Keeps.{IsLogDown}
 use Rattle.rollcore.specs.Commits.{AreChanges, PutAnswer}
 use Rattle.rollcore.specs.Segments.{Journaled, ArePut, pages_of}
 use Rattle.rollcore.specs.declared.changes.Change.{Change}
 use Rattle.rollcore.specs.declared.error.RollError.{RollError}
-use Rattle.rollcore.proofs.Stills.{passed}
+use Rattle.sqval.proofs.Answering.{passed}
 use Rattle.rollcore.proofs.Parting.{part_short}
 use Rattle.rollcore.proofs.Granting.{granted}
 use Rattle.rollcore.proofs.Growing.{lent_at, lent_length}
@@ -51,4 +55,28 @@ returns-clause-put g c = λ word d suits held many wide rests.
     → n ≡ length d → AreChanges pages n c.args.size changes → refusal_of n core.page_size pages c.args.size nonces ≡ None
     → PutAnswer core.page_size d (apply d pages c.args.size) c.end_commit.result mid new) keeps.size by_size in
     put_after core.page_size d e c.end_commit.result (g.D.Disk.state c.args.disk.now) mid new down.5
+    (by_count c.sector-sector.result (length c.args.nonces.now) d core.changes.items down.0 down.1 down.3 down.2 down.4 (sym many) c.requires.changes c.requires.granted)
+
+pub returns-clause-nonces : goal.returns-clause-nonces
+returns-clause-nonces g c = λ word d suits held many wide rests.
+    let core = c.args.core.now in
+    let pages = lent c.args.pages.now in
+    let mid = g.D.Disk.state c.put_segments.new.disk in
+    let new = g.D.Disk.state c.end_commit.new.disk in
+    let sector = c.sector-sector.ensures.answer word in
+    let keeps = c.put_segments.ensures.keeps in
+    let down = c.in_ok-put_segments.ensures.segments word c.args.size d c.requires suits held many wide sector rests in
+    let by_size = subst (λ (n : ℕ). (sector nonces : ℕ) (d : Database) (changes : List Change) (place : ℕ) (w : List ℕ)
+    → Journaled n sector d (pages_of changes) place w mid → 0 < place → ArePut n (apply d pages c.args.size) (pages_of changes) mid.db
+    → c.put_segments.new.core.size ≡ length d → AreChanges pages c.put_segments.new.core.size c.args.size changes → refusal_of c.put_segments.new.core.size n pages c.args.size nonces ≡ None
+    → OnOk c.end_commit.result (IsLogDown new (zeroed w))) keeps.page_size (c.end_commit.ensures.log (c.put_segments.ensures.word.0 word)) in
+    let by_count = subst (λ (n : ℕ). (sector nonces : ℕ) (d : Database) (changes : List Change) (place : ℕ) (w : List ℕ)
+    → Journaled core.page_size sector d (pages_of changes) place w mid → 0 < place → ArePut core.page_size (apply d pages c.args.size) (pages_of changes) mid.db
+    → n ≡ length d → AreChanges pages n c.args.size changes → refusal_of n core.page_size pages c.args.size nonces ≡ None
+    → OnOk c.end_commit.result (IsLogDown new (zeroed w))) keeps.size by_size in
+    let count : length (pages_of core.changes.items) ≡ recorded pages (length d) c.args.size =
+    length-map core.changes.items (λ (c : Change). c.page) ∙ c.requires.changes.count ∙ ap (λ (n : ℕ). recorded pages n c.args.size) (sym many) in
+    let nonces = subst (λ (n : ℕ). HasNonces (sizes n core.page_size) down.1 down.0 (take (segments_of (length (pages_of core.changes.items))) c.args.nonces.now)) sector down.6 in
+    on_ok_weaker c.end_commit.result
+    (λ log. (down.0, down.1, subst (λ (n : ℕ). HasNonces (sizes (g.D.Disk.state c.args.disk.now).sector core.page_size) down.1 down.0 (take (segments_of n) c.args.nonces.now)) count nonces, log))
     (by_count c.sector-sector.result (length c.args.nonces.now) d core.changes.items down.0 down.1 down.3 down.2 down.4 (sym many) c.requires.changes c.requires.granted)

@@ -1,11 +1,12 @@
 use Rattle.std.proofs.Common.{sym, subst}
-use Rattle.std.specs.Prelude.{Result, ℕ}
-use Rattle.sqval.specs.Database.{Database, apply}
+use Rattle.std.specs.Prelude.{Result, length, take, OnOk}
+use Rattle.sqval.specs.Database.{apply}
 use Rattle.sqval.specs.JudgedPages.{lent}
 use Rattle.sqval.specs.Answers.{Done}
-use Rattle.rollcore.specs.Machine.{Commits}
+use Rattle.rollcore.specs.Machine.{Commits, recorded, segments_of}
+use Rattle.rollcore.specs.Journaling.{sizes}
 use Rattle.rollcore.specs.Fits.{StepsTo, answered}
-use Rattle.rollcore.specs.Commits.{PutAnswer}
+use Rattle.rollcore.specs.Commits.{PutAnswer, LeavesNonces, TakesNonces}
 use Rattle.rollcore.specs.declared.error.RollError.{RollError}
 use Rattle.rollcore.proofs.Deciding.{commit_step, put_here}
 use Rattle.rollcore.proofs.commits.write_commit.Goals as goal
@@ -19,3 +20,12 @@ returns-clause-step g c = λ word past fits opened.
     (c.put_commit-put.ensures.goes word)
     (λ n d. PutAnswer n d (apply d (lent c.args.pages.now) c.args.size) c.put_commit-put.result (g.D.Disk.state c.args.disk.now) (g.D.Disk.state c.put_commit-put.new.disk)) (c.put_commit-put.ensures.put word))
     c.end_put.ensures.answer)
+
+pub returns-clause-nonces : goal.returns-clause-nonces
+returns-clause-nonces g c = λ word past fits opened.
+    let new = g.D.Disk.state c.put_commit-put.new.disk in
+    subst (λ (r : Result (Unit {0}) RollError). TakesNonces past (lent c.args.pages.now) c.args.size c.args.nonces.now r (g.D.Disk.state c.args.disk.now) new) (sym c.end_put.ensures.same)
+    (put_here past c.args.core.now c.put_commit-put.new.core (g.D.Disk.state c.args.disk.now) new fits opened c.args.pages.now c.args.size c.args.nonces.now c.requires c.put_commit-put.ensures.keeps
+    (c.put_commit-put.ensures.goes word)
+    (λ n d. OnOk c.put_commit-put.result (LeavesNonces (sizes (g.D.Disk.state c.args.disk.now).sector n) (take (segments_of (recorded (lent c.args.pages.now) (length d) c.args.size)) c.args.nonces.now) new))
+    (c.put_commit-put.ensures.nonces word))

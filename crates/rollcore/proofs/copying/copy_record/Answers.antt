@@ -4,8 +4,9 @@ use Rattle.crashdisk.specs.State.{longest}
 use Rattle.crashdisk.specs.Call.{Writes}
 use Rattle.crashdisk.specs.declared.file.File.TheVariants.{Db}
 use Rattle.rollcore.specs.declared.error.RollError.TheVariants.{Device}
-use Rattle.rollcore.proofs.Stills.{passed, still_looks, still_sound}
-use Rattle.rollcore.proofs.Copies.{record_read, keeps_still, keeps_then, keeps_write, record_none, record_unread, record_unwritten, record_put, page_fits}
+use Rattle.sqval.proofs.Answering.{passed}
+use Rattle.crashdisk.proofs.Stills.{still_looks, still_sound, keeps_still, keeps_then, keeps_write}
+use Rattle.rollcore.proofs.Copies.{record_read, record_none, record_unread, record_unwritten, record_put, page_fits}
 use Rattle.rollcore.proofs.copying.copy_record.Goals.{then-entry-eq0-via-then-entry-eq0, then-entry-eq0-via-else-entry-eq0+then-entry-count}
 use Rattle.rollcore.proofs.copying.copy_record.Goals as goal
 

@@ -2,8 +2,9 @@ use Rattle.std.proofs.Common.{◌≡◌, ◌≤◌, ◌<◌, ◌+◌, ◌*◌, �
 use Rattle.sqval.specs.CommitFaults.{most_bytes}
 use Rattle.rollcore.specs.Steps.{EntryAnswer}
 use Rattle.rollcore.specs.declared.error.RollError.TheVariants.{Device}
-use Rattle.rollcore.proofs.Stills.{passed, present_in}
-use Rattle.rollcore.proofs.Copies.{keeps_same, keeps_then, keeps_cut, upto_none, upto_entry, entry_fits, entry_refused, copied_at, cut_refused}
+use Rattle.sqval.proofs.Answering.{passed}
+use Rattle.crashdisk.proofs.Stills.{present_in, keeps_same, keeps_then, keeps_cut}
+use Rattle.rollcore.proofs.Copies.{upto_none, upto_entry, entry_fits, entry_refused, copied_at, cut_refused}
 use Rattle.rollcore.proofs.Records.{entries_of, count_is}
 use Rattle.rollcore.proofs.Agreeing.{writing_entry}
 use Rattle.rollcore.proofs.Writing.{writing_cuts}

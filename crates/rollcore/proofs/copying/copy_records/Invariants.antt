@@ -6,7 +6,7 @@ use Rattle.sqjournal.specs.Took.{Took, HasCount}
 use Rattle.sqjournal.specs.declared.reading.Why.{Why}
 use Rattle.crashdisk.specs.Call.{IsSoundDisk, ArePresent}
 use Rattle.sqval.specs.CommitFaults.{most_bytes}
-use Rattle.rollcore.specs.Steps.{KeepsLog}
+use Rattle.crashdisk.specs.Keeps.{KeepsLog}
 use Rattle.rollcore.specs.Phases.{Writing}
 use Rattle.rollcore.proofs.Copies.{Upto}
 use Rattle.rollcore.proofs.Records.{entries_of}

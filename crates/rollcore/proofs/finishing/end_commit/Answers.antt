@@ -7,8 +7,8 @@ use Rattle.rollcore.specs.Commits.{PutAnswer}
 use Rattle.rollcore.specs.Segments.{pages_of}
 use Rattle.rollcore.specs.declared.error.RollError.{RollError}
 use Rattle.rollcore.specs.declared.error.RollError.TheVariants.{Device}
-use Rattle.rollcore.proofs.Stills.{passed}
-use Rattle.rollcore.proofs.Closed.{put_harmless, put_after, of_pages, some_changes, held_after, cut_failed, cut_done, cut_pages}
+use Rattle.sqval.proofs.Answering.{passed}
+use Rattle.rollcore.proofs.Closed.{put_harmless, put_after, ends_log, of_pages, some_changes, held_after, cut_failed, cut_done, cut_pages}
 use Rattle.rollcore.proofs.Going.{goes_then, goes_cuts}
 use Rattle.rollcore.proofs.finishing.end_commit.Goals as goal
 
@@ -60,3 +60,15 @@ returns-clause-ends g c = λ word sector nonces d changes place w is begun put m
     (cut_done size sector d pages c.args.old_size c.args.size nonces changes place w begun many listed none _ (g.D.Disk.state c.put_new_pages.new.disk) (g.D.Disk.state c.set_len.new.self) end done.0 cut) begun
     (cut_pages size sector d pages c.args.old_size c.args.size nonces changes place w begun many listed none _ (g.D.Disk.state c.put_new_pages.new.disk) (g.D.Disk.state c.set_len.new.self) end done.0 cut done.1)
     (held_after size sector d pages c.args.old_size c.args.size nonces changes place w begun many listed none (g.D.Disk.state c.args.disk.now) is))
+
+pub returns-clause-log : goal.returns-clause-log
+returns-clause-log g c = λ word sector nonces d changes place w is begun put many listed none.
+    let size : ℕ = c.args.page_size in
+    let pages = lent c.args.pages.now in
+    let after = apply d pages c.args.size in
+    let done = c.in_ok-put_new_pages.ensures.put word size sector d after (pages_of changes) place w (pages_of changes) is begun many
+    (of_pages size sector d pages c.args.old_size c.args.size nonces changes place w begun many listed none) (some_changes size sector d pages c.args.old_size c.args.size nonces changes place w begun many listed none) put in
+    let end : c.from.result * c.from-2.result ≡ c.args.size * size = ap (λ (k : ℕ). k * c.from-2.result) c.from.ensures ∙ ap (λ (k : ℕ). c.args.size * k) (c.from-2.ensures ∙ c.get.ensures.value) in
+    let cut = cut_done size sector d pages c.args.old_size c.args.size nonces changes place w begun many listed none _ (g.D.Disk.state c.put_new_pages.new.disk) (g.D.Disk.state c.set_len.new.self) end done.0
+    (c.in_ok-set_len.ensures.state (c.put_new_pages.ensures.word.0 word)) in
+    ends_log size sector d (pages_of changes) place w begun c.finish.result _ _ (c.finish.ensures.ends (c.set_len.ensures.word.0 (c.put_new_pages.ensures.word.0 word)) cut.at.suits.sound) cut

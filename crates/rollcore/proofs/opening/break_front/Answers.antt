@@ -1,7 +1,7 @@
 use Rattle.std.proofs.Common.{◌∙◌, ap}
 use Rattle.std.specs.Prelude.{Ok}
 use Rattle.crashdisk.specs.declared.file.File.TheVariants.{Log}
-use Rattle.rollcore.proofs.Stills.{passed}
+use Rattle.sqval.proofs.Answering.{passed}
 use Rattle.rollcore.proofs.Going.{goes_then, goes_sync, goes_broken}
 use Rattle.rollcore.proofs.Breaking.{front_failed, front_none, front_unsynced, front_synced}
 use Rattle.rollcore.proofs.Refusing.{broken_refused, settled_refused}

@@ -1,6 +1,7 @@
 use Rattle.std.specs.Prelude.{Ok, IsTrue}
 use Rattle.rollcore.specs.declared.error.RollError.TheVariants.{Device}
-use Rattle.rollcore.proofs.Stills.{passed, still_looks}
+use Rattle.sqval.proofs.Answering.{passed}
+use Rattle.crashdisk.proofs.Stills.{still_looks}
 use Rattle.rollcore.proofs.Fronts.{magic_read, magic_there, puts_zero, break_failed}
 use Rattle.rollcore.proofs.opening.break_magic.Goals as goal
 

@@ -1,6 +1,6 @@
 use Rattle.std.proofs.Common.{◌∙◌, sym, subst}
 use Rattle.sqval.specs.PageSize.{IsPageSize}
-use Rattle.rollcore.proofs.Counting.{count_zero, count_rest}
+use Rattle.sqval.proofs.FilePages.{count_zero, count_rest}
 use Rattle.rollcore.proofs.opening.count_pages.Goals.{then-long-eq0-via-then-long-eq0, then-long-eq0-via-else-long-eq0+then-long-size-ne0}
 use Rattle.rollcore.proofs.opening.count_pages.Goals as goal
 

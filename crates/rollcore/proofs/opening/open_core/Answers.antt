@@ -1,10 +1,10 @@
 use Rattle.std.proofs.Common.{arith, ◌∙◌, inl, inr, refl}
 use Rattle.sqjournal.proofs.Journals.{size_bounds}
-use Rattle.rollcore.proofs.Pages.{sector_some}
-use Rattle.rollcore.proofs.Stills.{passed}
-use Rattle.rollcore.proofs.Recovered.{match_err, given_up, opened_to}
+use Rattle.crashdisk.proofs.Pages.{sector_some}
+use Rattle.sqval.proofs.Answering.{passed, match_err, if_err}
+use Rattle.rollcore.proofs.Recovered.{given_up, opened_to}
 use Rattle.rollcore.specs.Opening.{RefusedFor, OpenRefused}
-use Rattle.rollcore.proofs.Refusing.{if_err, from_err, tears_pages, no_tears}
+use Rattle.rollcore.proofs.Refusing.{from_err, tears_pages, no_tears}
 use Rattle.rollcore.proofs.opening.open_core.Goals as goal
 
 pub returns-in_err-pages-clause-step : goal.returns-in_err-pages-clause-step

@@ -1,10 +1,11 @@
 use Rattle.crashdisk.specs.declared.file.File.TheVariants.{Log}
-use Rattle.rollcore.proofs.Stills.{passed}
+use Rattle.sqval.proofs.Answering.{passed, if_err}
 use Rattle.rollcore.proofs.Agreeing.{agrees_by, scanning_shows, scanning_syncs}
 use Rattle.rollcore.proofs.Recovered.{unsettled, settled}
 use Rattle.rollcore.specs.Opening.{RefusedFor}
-use Rattle.rollcore.proofs.Ending.{sync_refused}
-use Rattle.rollcore.proofs.Refusing.{if_err, refused_device, synced_refuses}
+use Rattle.crashdisk.proofs.Later.{sync_refused}
+use Rattle.rollcore.proofs.Refusing.{refused_device, synced_refuses}
+use Rattle.rollcore.specs.declared.error.RollError.TheVariants.{Device}
 use Rattle.rollcore.proofs.opening.recover.Goals as goal
 
 pub returns-in_err-settle_log-clause-recovered : goal.returns-in_err-settle_log-clause-recovered
@@ -35,7 +36,7 @@ returns-clause-agrees g c = λ word sound.
 pub returns-in_err-settle_log-clause-refused : goal.returns-in_err-settle_log-clause-refused
 returns-in_err-settle_log-clause-refused g c = λ word sound db w are_db are.
     if_err c.from_residual.result _ (λ e. RefusedFor c.args.page_size db w e (g.D.Disk.state c.args.disk.now) (g.D.Disk.state c.settle_log.new.disk)) (passed c.from_residual.result _ c.from_residual.ensures.1)
-    (refused_device c.args.page_size db w _ (g.D.Disk.state c.args.disk.now) (g.D.Disk.state c.settle_log.new.disk) (sync_refused Log c.settle_log.result _ _ _ sound c.in_err-settle_log.was (c.settle_log.ensures.state word)))
+    (refused_device c.args.page_size db w _ (g.D.Disk.state c.args.disk.now) (g.D.Disk.state c.settle_log.new.disk) (sync_refused Device Log c.settle_log.result _ _ _ sound c.in_err-settle_log.was (c.settle_log.ensures.state word)))
 
 pub returns-clause-refused : goal.returns-clause-refused
 returns-clause-refused g c = λ word sound db w are_db are.

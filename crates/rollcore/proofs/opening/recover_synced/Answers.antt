@@ -5,14 +5,15 @@ use Rattle.crashdisk.proofs.Images.{table}
 use Rattle.crashdisk.proofs.Steps.{present_list}
 use Rattle.rollcore.specs.Plans.{IsFit}
 use Rattle.rollcore.specs.Steps.{torn_sector}
-use Rattle.rollcore.proofs.Stills.{passed, present_in, still_sound, still_then}
-use Rattle.rollcore.proofs.Down.{down_present, down_by}
+use Rattle.sqval.proofs.Answering.{passed, if_err}
+use Rattle.crashdisk.proofs.Stills.{present_in, still_sound, still_then}
+use Rattle.crashdisk.proofs.Down.{down_present, down_by}
 use Rattle.rollcore.proofs.Recovering.{torn_still, read_plans, plan_cold}
 use Rattle.rollcore.proofs.Agreeing.{agrees_by, scanning_begins, scanning_shows, scanning_still}
 use Rattle.rollcore.proofs.Breaking.{cold_alone}
 use Rattle.rollcore.proofs.Recovered.{unplanned, misjudged, unreplayed, replayed, uncounted, unbroken, broken, few_some}
 use Rattle.rollcore.specs.Opening.{RefusedFor}
-use Rattle.rollcore.proofs.Refusing.{if_err, read_refuses, size_refuses, replay_refuses, count_refuses, break_refuses}
+use Rattle.rollcore.proofs.Refusing.{read_refuses, size_refuses, replay_refuses, count_refuses, break_refuses}
 use Rattle.rollcore.proofs.opening.recover_synced.Goals as goal
 
 pub returns-in_err-plan-clause-recovered : goal.returns-in_err-plan-clause-recovered

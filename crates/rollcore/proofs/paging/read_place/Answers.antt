@@ -1,13 +1,13 @@
 use Rattle.std.proofs.Common.{◌+◌, sym, ap}
 use Rattle.rollcore.specs.declared.error.RollError.TheVariants.{Device}
-use Rattle.rollcore.proofs.Stills.{passed}
-use Rattle.rollcore.proofs.Viewing.{place_read, place_refused}
+use Rattle.sqval.proofs.Answering.{passed}
+use Rattle.crashdisk.proofs.Later.{place_read, place_refused}
 use Rattle.rollcore.proofs.paging.read_place.Goals as goal
 
 pub returns-in_err-read_at-clause-place : goal.returns-in_err-read_at-clause-place
 returns-in_err-read_at-clause-place g c = λ word sound.
-    place_refused c.args.file c.args.at c.read_at.new.out _ _ sound c.from_residual.result _ c.read_at.result _ (ap (λ n. c.args.at + n) (sym c.read_at.auto.out)) c.in_err-read_at.was
+    place_refused Device c.args.file c.args.at c.read_at.new.out _ _ sound c.from_residual.result _ c.read_at.result _ (ap (λ n. c.args.at + n) (sym c.read_at.auto.out)) c.in_err-read_at.was
     (passed c.from_residual.result Device c.from_residual.ensures.1) (c.read_at.ensures.state word)
 
 pub returns-clause-place : goal.returns-clause-place
-returns-clause-place g c = λ word sound. place_read c.args.file c.args.at c.read_at.new.out _ _ sound tt _ c.read_at.result (c.read_at.ensures.state word) (c.in_ok-read_at.ensures.bytes word)
+returns-clause-place g c = λ word sound. place_read Device c.args.file c.args.at c.read_at.new.out _ _ sound tt _ c.read_at.result (c.read_at.ensures.state word) (c.in_ok-read_at.ensures.bytes word)

@@ -1,4 +1,4 @@
-use Rattle.std.proofs.Common.{◌≡◌, refl, ◌⊎◌, inl, inr, ⊎_elim, ◌∙◌, sym, ap, subst, arith, ◌+◌, ◌*◌, ◌^◌, ◌<◌, ◌≤◌, ℕ, length, ◌-◌, List, take, drop, length-take, length-drop}
+use Rattle.std.proofs.Common.{◌≡◌, refl, inl, inr, ⊎_elim, ◌∙◌, sym, ap, subst, arith, ◌*◌, ◌<◌, ℕ, length, ◌-◌, List, take, drop, length-take, length-drop}
 use Rattle.std.proofs.lemmas.List.{length-map}
 use Rattle.sqval.specs.Database.{Database, apply}
 use Rattle.sqval.specs.JudgedPages.{lent}
@@ -20,7 +20,7 @@ pub put_segment-requires-clause-pages : goal.put_segment-requires-clause-pages
 put_segment-requires-clause-pages g c = λ k d lt. part_short c.args.pages.now c.requires.ready.0 c.requires.ready.1 c.args.core.now c.requires.ready.2 c.args.core.now.sized k d lt
 
 pub returns-clause-segment : goal.returns-clause-segment
-returns-clause-segment g c = λ word n nonces d ready many wide parted.
+returns-clause-segment g c = λ word n count d nonces ready many wide lt at parted.
     let v : List Change = c.deref.result.now in
     let size : ℕ = length c.deref_mut.result.now - 8 in
     let m : ℕ = c.min-to.result - c.args.k * 64 in
@@ -34,16 +34,17 @@ returns-clause-segment g c = λ word n nonces d ready many wide parted.
     let long = length-drop (c.args.k * 64) v in
     let slice = length-take m (drop (c.args.k * 64) v) in
     let numbers = length-map (take m (drop (c.args.k * 64) v)) (λ (c : Change). c.page) in
-    let before = before_part c.args.pages.now n nonces c.args.sector c.args.k c.args.place d c.args.core.now size v s ready many parted one two in
+    let before = before_part c.args.pages.now n count c.args.sector nonces c.args.k c.args.place d c.args.core.now size v s ready many parted one two in
     let some = part_some c.args.k (length c.args.core.now.changes.items) c.requires.part in
-    part_back pages n c.args.sector c.args.k d c.args.core.now size v c.put_segment.result s new one two
-    (part_after size c.args.sector d pages n c.args.k c.args.place v s before m e (size_bounds c.args.sector c.requires.sector).0
+    part_back pages n c.args.sector nonces c.args.k d c.args.core.now size v c.put_segment.result s new one two
+    (part_after size c.args.sector d pages n nonces c.args.k c.args.place v s before m e (size_bounds c.args.sector c.requires.sector).0
     (part_cases c.args.k (length v) c.min-to.result (omega (arith, c.min-to.ensures, c.len.ensures, items)) (part_some c.args.k (length v) (subst (λ (z : ℕ). c.args.k < segments_of z) (sym items) c.requires.part)))
+    c.args.nonce lt at
     c.put_segment.result new
     (c.put_segment.ensures.segment word d e (take (c.args.k * 64) (pages_of v)) before.parted.journaled.0 (take (c.args.k * 64) (pages_of v)) before.parted.journaled.1
-    (part_fresh size c.args.sector d pages n c.args.k c.args.place v s before m)
+    (part_fresh size c.args.sector d pages n nonces c.args.k c.args.place v s before m)
     (⊎_elim (λ z. inl (before.parted.first z)) (λ above. inr (omega (arith, above, items, long, slice, c.min-to.ensures, c.len.ensures))) some)
     (ap (λ (l : List ℕ). length l) c.deref_mut-2.ensures.value ∙ wide)
     (record { count = omega (arith, numbers, long, slice, items, c.min-to.ensures, c.len.ensures); nonce_is = refl; first_size = sym many; sector_is = refl; page_size = sym one })
-    (part_turned size c.args.sector d pages n c.args.k c.args.place v s before m)
-    (part_somes size c.args.sector d pages n c.args.k c.args.place v s before m) before.parted.put))
+    (part_turned size c.args.sector d pages n nonces c.args.k c.args.place v s before m)
+    (part_somes size c.args.sector d pages n nonces c.args.k c.args.place v s before m) before.parted.put))

@@ -1,14 +1,15 @@
-use Rattle.std.proofs.Common.{◌≡◌, ◌∙◌, sym, ap, subst, refl, arith, rules, ◌+◌, ◌*◌, ◌^◌, ◌<◌, ◌≤◌, ℕ, length, ◌-◌, List}
+use Rattle.std.proofs.Common.{◌≡◌, ◌∙◌, sym, ap, subst, refl, arith, rules, length}
 use Rattle.std.specs.Prelude.{Result, Ok, Err}
 use Rattle.std.proofs.lemmas.List.{length-map}
-use Rattle.sqval.specs.Database.{Database, apply}
+use Rattle.sqval.specs.Database.{apply}
 use Rattle.sqval.specs.JudgedPages.{lent}
+use Rattle.rollcore.specs.Machine.{segments_of}
 use Rattle.rollcore.specs.Segments.{pages_of, SegmentsAnswer}
 use Rattle.rollcore.specs.declared.changes.Change.{Change}
 use Rattle.rollcore.specs.declared.error.RollError.{RollError}
-use Rattle.rollcore.proofs.Stills.{passed}
+use Rattle.sqval.proofs.Answering.{passed}
 use Rattle.rollcore.proofs.Preparing.{harmless_after}
-use Rattle.rollcore.proofs.Parting.{parts_begin, parts_end, parts_all, part_forth, part_back, ready_kept, places_few, kept_same, kept_then}
+use Rattle.rollcore.proofs.Parting.{enough, parts_begin, parts_end, parts_all, part_forth, part_back, ready_kept, places_few, kept_same, kept_then}
 use Rattle.rollcore.proofs.Going.{goes_same, goes_then}
 use Rattle.rollcore.proofs.parts.put_segments.Goals as goal
 
@@ -20,7 +21,7 @@ loop-k-init g c = record {
   keeps = kept_same c.args.core.now;
   changes = refl;
   going = λ word n d ready suits held many wide same rests.
-      (parts_begin c.args.core.now.page_size c.args.sector d (apply d (lent c.args.pages.now) n) (pages_of c.args.core.now.changes.items) (g.D.Disk.state c.args.disk.now) suits held (sym same) rests, omega arith);
+      (parts_begin c.args.core.now.page_size c.args.sector d (apply d (lent c.args.pages.now) n) (pages_of c.args.core.now.changes.items) c.args.nonces.now (g.D.Disk.state c.args.disk.now) suits held (sym same) rests, omega arith);
 }
 
 pub put_part-requires-clause-place : goal.put_part-requires-clause-place
@@ -43,9 +44,9 @@ loop-k-preserved g c = record {
       let changes = c.loop-k.invariant.changes in
       let pages = lent c.args.pages.now in
       let b = g.D.Disk.state c.loop-k.disk in
-      let done = part_back pages n c.args.sector c.loop-k.k d c.args.core.now c.loop-k.core.page_size c.loop-k.core.changes.items (Ok c.in_ok-place.place) b (g.D.Disk.state c.put_part.new.disk) kept.page_size (ap (λ v. v.items) changes)
-      (c.in_ok-place.ensures.segment (c.loop-k.invariant.word.0 word) n (length c.args.nonces.now) d (ready_kept c.args.pages.now n (length c.args.nonces.now) c.args.core.now c.loop-k.core kept changes ready) (many ∙ sym kept.size) (kept.header_room ∙ wide ∙ sym same)
-      (part_forth pages n c.args.sector c.loop-k.k c.loop-k.place d c.args.core.now c.loop-k.core b kept changes was.0)) in
+      let done = part_back pages n c.args.sector c.args.nonces.now c.loop-k.k d c.args.core.now c.loop-k.core.page_size c.loop-k.core.changes.items (Ok c.in_ok-place.place) b (g.D.Disk.state c.put_part.new.disk) kept.page_size (ap (λ v. v.items) changes)
+      (c.in_ok-place.ensures.segment (c.loop-k.invariant.word.0 word) n (length c.args.nonces.now) d c.args.nonces.now (ready_kept c.args.pages.now n (length c.args.nonces.now) c.args.core.now c.loop-k.core kept changes ready) (many ∙ sym kept.size) (kept.header_room ∙ wide ∙ sym same) (omega (arith, enough c.args.pages.now n (length c.args.nonces.now) c.args.core.now ready, c.loop-k-test.true, c.count_segments-k-end.ensures, c.len.ensures, c.loop-k.auto.k-end)) refl
+      (part_forth pages n c.args.sector c.args.nonces.now c.loop-k.k c.loop-k.place d c.args.core.now c.loop-k.core b kept changes was.0)) in
       (done.0, omega (arith, was.1, done.1));
 }
 
@@ -58,19 +59,21 @@ returns-in_err-place-clause-segments g c = λ word n d ready suits held many wid
     let a = g.D.Disk.state c.args.disk.now in
     let b = g.D.Disk.state c.loop-k.disk in
     let new = g.D.Disk.state c.put_part.new.disk in
-    subst (λ (x : Result (Unit {0}) RollError). SegmentsAnswer c.args.core.now.page_size c.args.sector d (apply d pages n) (pages_of c.args.core.now.changes.items) x a new)
+    subst (λ (x : Result (Unit {0}) RollError). SegmentsAnswer c.args.core.now.page_size c.args.sector d (apply d pages n) (pages_of c.args.core.now.changes.items) c.args.nonces.now x a new)
     (sym (passed c.from_residual.result _ c.from_residual.ensures.1))
     (harmless_after c.args.core.now.page_size d _ a b new was.1
-    (part_back pages n c.args.sector c.loop-k.k d c.args.core.now c.loop-k.core.page_size c.loop-k.core.changes.items (Err c.in_err-place.field-0.0) b new kept.page_size (ap (λ v. v.items) changes)
-    (c.in_err-place.ensures.segment (c.loop-k.invariant.word.0 word) n (length c.args.nonces.now) d (ready_kept c.args.pages.now n (length c.args.nonces.now) c.args.core.now c.loop-k.core kept changes ready) (many ∙ sym kept.size) (kept.header_room ∙ wide ∙ sym same)
-    (part_forth pages n c.args.sector c.loop-k.k c.loop-k.place d c.args.core.now c.loop-k.core b kept changes was.0))))
+    (part_back pages n c.args.sector c.args.nonces.now c.loop-k.k d c.args.core.now c.loop-k.core.page_size c.loop-k.core.changes.items (Err c.in_err-place.field-0.0) b new kept.page_size (ap (λ v. v.items) changes)
+    (c.in_err-place.ensures.segment (c.loop-k.invariant.word.0 word) n (length c.args.nonces.now) d c.args.nonces.now (ready_kept c.args.pages.now n (length c.args.nonces.now) c.args.core.now c.loop-k.core kept changes ready) (many ∙ sym kept.size) (kept.header_room ∙ wide ∙ sym same) (omega (arith, enough c.args.pages.now n (length c.args.nonces.now) c.args.core.now ready, c.loop-k-test.true, c.count_segments-k-end.ensures, c.len.ensures, c.loop-k.auto.k-end)) refl
+    (part_forth pages n c.args.sector c.args.nonces.now c.loop-k.k c.loop-k.place d c.args.core.now c.loop-k.core b kept changes was.0))))
 
 pub returns-clause-segments : goal.returns-clause-segments
 returns-clause-segments g c = λ word n d ready suits held many wide same rests.
     let was = c.loop-k.invariant.going word n d ready suits held many wide same rests in
     let all = parts_all c.loop-k.k (length c.args.core.now.changes.items) (omega (arith, c.loop-k-test.false, c.count_segments-k-end.ensures, c.len.ensures, c.loop-k.auto.k-end)) in
-    parts_end c.args.core.now.page_size c.args.sector d (apply d (lent c.args.pages.now) n) (pages_of c.args.core.now.changes.items) {T = Unit {0}} tt c.loop-k.k c.loop-k.place (g.D.Disk.state c.args.disk.now) (g.D.Disk.state c.loop-k.disk)
-    (omega (arith, all.0, length-map c.args.core.now.changes.items (λ (c : Change). c.page))) all.1 was.0 was.1
+    let whole : c.loop-k.k ≡ segments_of (length c.args.core.now.changes.items) = omega (arith, c.loop-k-test.false, c.count_segments-k-end.ensures, c.len.ensures, c.loop-k.auto.k-end) in
+    parts_end c.args.core.now.page_size c.args.sector d (apply d (lent c.args.pages.now) n) (pages_of c.args.core.now.changes.items) c.args.nonces.now {T = Unit {0}} tt c.loop-k.k c.loop-k.place (g.D.Disk.state c.args.disk.now) (g.D.Disk.state c.loop-k.disk)
+    (omega (arith, all.0, length-map c.args.core.now.changes.items (λ (c : Change). c.page))) all.1
+    (whole ∙ sym (ap segments_of (length-map c.args.core.now.changes.items (λ (c : Change). c.page)))) was.0 was.1
 
 pub returns-clause-goes : goal.returns-clause-goes
 returns-clause-goes g c = λ word sound. c.loop-k.invariant.goes word sound

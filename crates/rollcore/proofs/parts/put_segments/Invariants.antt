@@ -1,10 +1,10 @@
-use Rattle.std.proofs.Common.{◌≡◌, ◌↔◌, ◌+◌, ◌*◌, ◌^◌, ◌<◌, ◌≤◌, ℕ, length}
+use Rattle.std.proofs.Common.{◌≡◌, ◌↔◌, ◌*◌, ◌^◌, ◌≤◌, ℕ, length}
 use Rattle.sqval.specs.Database.{Database, apply}
 use Rattle.sqval.specs.Held.{IsHeld}
 use Rattle.sqval.specs.JudgedPages.{lent}
 use Rattle.crashdisk.specs.Call.{IsSoundDisk}
 use Rattle.rollcore.specs.Fits.{Rests}
-use Rattle.rollcore.specs.Phases.{Suits}
+use Rattle.crashdisk.specs.Keeps.{Suits}
 use Rattle.rollcore.specs.Commits.{KeepsCore, Goes, IsReady}
 use Rattle.rollcore.specs.Segments.{pages_of, Parted}
 use Rattle.rollcore.proofs.parts.put_segments.Given as goal
@@ -19,6 +19,6 @@ invariant-loop-k g l = record {
   going : g.D.Disk.keeps_word l.fn.disk → (n : ℕ) (d : Database) → IsReady l.pages n (length l.nonces) l.fn.core
       → Suits l.fn.core.page_size (g.D.Disk.state l.fn.disk) → IsHeld l.fn.core.page_size d → length d ≡ l.fn.core.size
       → length l.fn.core.header.items ≡ (g.D.Disk.state l.fn.disk).sector → l.sector ≡ (g.D.Disk.state l.fn.disk).sector → Rests l.fn.core.page_size d (g.D.Disk.state l.fn.disk)
-      → Parted l.fn.core.page_size l.sector d (apply d (lent l.pages) n) (pages_of l.fn.core.changes.items) l.k l.place (g.D.Disk.state l.disk)
+      → Parted l.fn.core.page_size l.sector d (apply d (lent l.pages) n) (pages_of l.fn.core.changes.items) l.nonces l.k l.place (g.D.Disk.state l.disk)
       × ((g.D.Disk.state l.fn.disk).refused ≤ (g.D.Disk.state l.disk).refused);
 }

@@ -1,5 +1,6 @@
 use Rattle.std.proofs.Common.{◌∙◌}
-use Rattle.rollcore.proofs.Stills.{passed, no_memory}
+use Rattle.rollcore.proofs.Stills.{no_memory}
+use Rattle.sqval.proofs.Answering.{passed}
 use Rattle.rollcore.proofs.Judging.{plan_none, plan_some, plan_refused, plan_memory}
 use Rattle.rollcore.proofs.plan.plan_of.Goals as goal
 

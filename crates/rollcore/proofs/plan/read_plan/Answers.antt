@@ -1,6 +1,6 @@
 use Rattle.std.proofs.Common.{ap, ◌∙◌}
 use Rattle.std.specs.Prelude.{Ok}
-use Rattle.rollcore.proofs.Stills.{passed}
+use Rattle.sqval.proofs.Answering.{passed}
 use Rattle.rollcore.proofs.Judging.{plan_none, read_planned, read_scan, scan_took, scan_cold}
 use Rattle.rollcore.proofs.plan.read_plan.Goals as goal
 

@@ -1,6 +1,6 @@
 use Rattle.std.proofs.Common.{◌+◌, take, length}
 use Rattle.rollcore.specs.declared.error.RollError.TheVariants.{Device}
-use Rattle.rollcore.proofs.Stills.{passed}
+use Rattle.sqval.proofs.Answering.{passed}
 use Rattle.rollcore.proofs.Scans.{fed, not_fed, scan_refusal}
 use Rattle.rollcore.proofs.reading.feed_piece.Goals as goal
 

@@ -1,5 +1,6 @@
 use Rattle.std.proofs.Common.{◌∙◌}
-use Rattle.rollcore.proofs.Stills.{passed, no_memory}
+use Rattle.rollcore.proofs.Stills.{no_memory}
+use Rattle.sqval.proofs.Answering.{passed}
 use Rattle.rollcore.proofs.Scans.{scan_some, scan_none, scan_after, scan_memory}
 use Rattle.rollcore.proofs.reading.scan_log.Goals as goal
 

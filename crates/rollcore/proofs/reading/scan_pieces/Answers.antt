@@ -4,7 +4,8 @@ use Rattle.std.proofs.lemmas.List.{length-take-le}
 use Rattle.sqjournal.specs.Took.{Took}
 use Rattle.rollcore.specs.Steps.{PieceAnswer}
 use Rattle.rollcore.specs.declared.error.RollError.{RollError}
-use Rattle.rollcore.proofs.Stills.{still, still_then, still_sound, present_in, passed}
+use Rattle.sqval.proofs.Answering.{passed}
+use Rattle.crashdisk.proofs.Stills.{still, still_then, still_sound, present_in}
 use Rattle.rollcore.proofs.Scans.{piece_after, piece_none, piece_some, piece_done}
 use Rattle.rollcore.proofs.reading.scan_pieces.Goals as goal
 

@@ -1,7 +1,7 @@
-use Rattle.std.proofs.Common.{◌-◌, ◌≡◌, ◌↔◌, ◌≤◌, ℕ, List, [], length, take}
+use Rattle.std.proofs.Common.{◌-◌, ◌≡◌, ◌↔◌, ◌≤◌, ℕ, List, length, take, []}
 use Rattle.crashdisk.specs.Call.{IsSoundDisk, ArePresent}
 use Rattle.sqjournal.specs.Took.{Took}
-use Rattle.rollcore.specs.Steps.{Still}
+use Rattle.crashdisk.specs.Keeps.{Still}
 use Rattle.rollcore.proofs.reading.scan_pieces.Given as goal
 
 abbrev pub invariant-loop-at : goal.invariant-loop-at

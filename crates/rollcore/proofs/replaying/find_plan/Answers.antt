@@ -1,7 +1,8 @@
 use Rattle.std.proofs.Common.{◌≡◌, sym, ap, ◌∙◌}
 use Rattle.crashdisk.specs.State.{FileState}
 use Rattle.rollcore.specs.declared.error.RollError.TheVariants.{Device}
-use Rattle.rollcore.proofs.Stills.{passed, present_in, still_looks, still_then, still_sound}
+use Rattle.sqval.proofs.Answering.{passed}
+use Rattle.crashdisk.proofs.Stills.{present_in, still_looks, still_then, still_sound}
 use Rattle.rollcore.proofs.Recovering.{torn_still, read_torn, look_unread, read_looked}
 use Rattle.rollcore.proofs.replaying.find_plan.Goals as goal
 

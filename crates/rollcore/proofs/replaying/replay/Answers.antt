@@ -1,9 +1,9 @@
 use Rattle.rollcore.specs.declared.error.RollError.TheVariants.{Device}
-use Rattle.rollcore.proofs.Stills.{passed}
+use Rattle.sqval.proofs.Answering.{passed}
 use Rattle.rollcore.proofs.Recovering.{sync_unreplayed, replay_after, goes_on, stays}
 use Rattle.rollcore.proofs.Agreeing.{agrees_by, scanning_shows, scanning_syncs}
 use Rattle.crashdisk.specs.declared.file.File.TheVariants.{Log}
-use Rattle.rollcore.proofs.Down.{down_syncs}
+use Rattle.crashdisk.proofs.Down.{down_syncs}
 use Rattle.rollcore.proofs.Lengths.{ends_resynced}
 use Rattle.rollcore.proofs.replaying.replay.Goals as goal
 

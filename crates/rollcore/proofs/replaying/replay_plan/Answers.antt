@@ -3,8 +3,9 @@ use Rattle.crashdisk.specs.State.{byte, IsSectorSize}
 use Rattle.rollcore.specs.Lengths.{EndsBy}
 use Rattle.crashdisk.proofs.Images.{table}
 use Rattle.crashdisk.proofs.Steps.{present_list}
-use Rattle.rollcore.proofs.Stills.{passed, present_in}
-use Rattle.rollcore.proofs.Down.{down_present, down_by}
+use Rattle.sqval.proofs.Answering.{passed}
+use Rattle.crashdisk.proofs.Stills.{present_in}
+use Rattle.crashdisk.proofs.Down.{down_present, down_by}
 use Rattle.rollcore.proofs.Recovering.{planned, rolled_copy, rolled_end, rolled_done, copy_done, writing_at, pages_at, rolled_present}
 use Rattle.rollcore.proofs.Lengths.{ends_hot, named_by, fit_named, rolled_length}
 use Rattle.rollcore.proofs.Writing.{writing_shows}

@@ -4,8 +4,9 @@ use Rattle.crashdisk.specs.State.{IsSectorSize}
 use Rattle.rollcore.specs.Lengths.{EndsBy}
 use Rattle.rollcore.specs.Plans.{IsFit}
 use Rattle.rollcore.specs.Steps.{torn_sector}
-use Rattle.rollcore.proofs.Stills.{passed, present_in, still_sound}
-use Rattle.rollcore.proofs.Down.{down_present, down_by}
+use Rattle.sqval.proofs.Answering.{passed}
+use Rattle.crashdisk.proofs.Stills.{present_in, still_sound}
+use Rattle.crashdisk.proofs.Down.{down_present, down_by}
 use Rattle.rollcore.proofs.Narrowing.{narrows_still, ends_narrow}
 use Rattle.rollcore.proofs.Recovering.{torn_still, read_refused, read_cold, plan_replays, read_plans}
 use Rattle.rollcore.proofs.Agreeing.{agrees_by, scanning_shows, scanning_still}

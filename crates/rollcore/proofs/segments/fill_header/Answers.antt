@@ -1,4 +1,4 @@
-use Rattle.std.proofs.Common.{◌≡◌, ◌∙◌, ℕ, List, length, sym, ap, subst}
+use Rattle.std.proofs.Common.{◌∙◌, ℕ, List, length, sym, ap, subst}
 use Rattle.std.proofs.lemmas.List.{length-take-le}
 use Rattle.sqjournal.specs.Header.{Names}
 use Rattle.rollcore.proofs.segments.fill_header.Goals as goal

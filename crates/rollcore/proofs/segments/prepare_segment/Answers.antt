@@ -1,6 +1,6 @@
-use Rattle.std.proofs.Common.{◌≡◌, ◌⊎◌, ◌≤◌, ◌+◌, ◌-◌, ◌*◌, ◌^◌, ◌∙◌, inl, inr, ⊎_elim, ℕ, List, length, sym, ap, subst, arith}
+use Rattle.std.proofs.Common.{◌≡◌, ◌⊎◌, ◌≤◌, ◌+◌, ◌-◌, ◌*◌, ◌∙◌, inl, inr, ⊎_elim, ℕ, length, sym, ap, subst, arith}
 use Rattle.std.specs.Prelude.{Ok, Err, Result}
-use Rattle.std.proofs.Math.Nat.{mul-le-mul_left, mul-le-mul_right}
+use Rattle.std.proofs.Math.Nat.{mul-le-mul_right}
 use Rattle.std.proofs.lemmas.List.{length-map}
 use Rattle.sqjournal.specs.Header.{next_header}
 use Rattle.sqjournal.proofs.Journals.{size_bounds}
@@ -8,45 +8,46 @@ use Rattle.rollcore.specs.Opening.{BreakSteps}
 use Rattle.rollcore.specs.Segments.{PreparedAnswer, pages_of}
 use Rattle.rollcore.specs.declared.changes.Change.{Change}
 use Rattle.rollcore.specs.declared.error.RollError.{RollError}
-use Rattle.rollcore.proofs.Stills.{passed}
-use Rattle.rollcore.proofs.Ending.{sync_later}
+use Rattle.sqval.proofs.Answering.{passed}
+use Rattle.crashdisk.proofs.Later.{sync_later}
 use Rattle.rollcore.proofs.Recording.{recording_begins}
 use Rattle.rollcore.proofs.Preparing.{ended, break_failed, settle_failed, settled, break_later, break_file, harmless_after}
 use Rattle.crashdisk.specs.declared.file.File.TheVariants.{Log}
 use Rattle.rollcore.proofs.Going.{goes_then, goes_broken, goes_sync}
+use Rattle.rollcore.specs.declared.error.RollError.TheVariants.{Device}
 use Rattle.rollcore.proofs.segments.prepare_segment.Goals as goal
 
 pub returns-clause-near : goal.returns-clause-near
 returns-clause-near g c =
-    let product : length c.args.changes.now * length c.args.record.now ≤ 64 * length c.args.record.now = mul-le-mul_right (length c.args.record.now) c.requires.few in
+    let product : length c.args.changes.now * length c.args.buffer.now ≤ 64 * length c.args.buffer.now = mul-le-mul_right (length c.args.buffer.now) c.requires.few in
     let b = c.in_ok-end.ensures.end in
     let range = size_bounds c.args.sector c.requires.sector in
     omega (arith, b, range.0, range.1, c.next_header_at-next.ensures.least, c.from.ensures)
 
 pub returns-in_err-end-clause-prepared : goal.returns-in_err-end-clause-prepared
 returns-in_err-end-clause-prepared g c = λ word d named w is fresh more.
-    let n : ℕ = length c.args.record.now - 8 in
+    let n : ℕ = length c.args.buffer.now - 8 in
     let place : c.args.place + c.from.result ≡ c.args.place + c.args.sector = ap (λ (k : ℕ). c.args.place + k) c.from.ensures in
-    subst (λ (x : Result ℕ RollError). PreparedAnswer n c.args.sector d named c.args.place (pages_of c.args.changes.now) c.args.nonce x (g.D.Disk.state c.args.disk.now) (g.D.Disk.state c.write_records.new.disk))
+    subst (λ (x : Result ℕ RollError). PreparedAnswer n c.args.sector d named c.args.place w (pages_of c.args.changes.now) c.args.nonce x (g.D.Disk.state c.args.disk.now) (g.D.Disk.state c.write_records.new.disk))
     (sym (passed c.from_residual.result _ c.from_residual.ensures.1))
     (c.in_err-end.ensures.records word c.args.sector d named c.args.place w (recording_begins n c.args.sector d named c.args.place w _ is) place fresh)
 
 pub returns-in_err-break_magic-clause-prepared : goal.returns-in_err-break_magic-clause-prepared
 returns-in_err-break_magic-clause-prepared g c = λ word d named w is fresh more.
-    let n : ℕ = length c.args.record.now - 8 in
+    let n : ℕ = length c.args.buffer.now - 8 in
     let numbers = pages_of c.args.changes.now in
     let place : c.args.place + c.from.result ≡ c.args.place + c.args.sector = ap (λ (k : ℕ). c.args.place + k) c.from.ensures in
     let done = c.in_ok-end.ensures.records word c.args.sector d named c.args.place w (recording_begins n c.args.sector d named c.args.place w _ is) place fresh in
     let at = c.next_header_at-next.ensures.value ∙ ap (λ (k : ℕ). next_header c.args.sector k) done.0 in
     let step = c.in_err-break_magic.ensures.steps (c.write_records.ensures.word.0 word) done.1.recording.at.suits.sound in
-    subst (λ (x : Result ℕ RollError). PreparedAnswer n c.args.sector d named c.args.place numbers c.args.nonce x (g.D.Disk.state c.args.disk.now) (g.D.Disk.state c.break_magic.new.disk))
+    subst (λ (x : Result ℕ RollError). PreparedAnswer n c.args.sector d named c.args.place w numbers c.args.nonce x (g.D.Disk.state c.args.disk.now) (g.D.Disk.state c.break_magic.new.disk))
     (sym (passed c.from_residual-in_err-break_magic.result _ c.from_residual-in_err-break_magic.ensures.1))
     (harmless_after n d _ _ _ _ done.2 (break_failed n c.args.sector d named c.args.place w numbers c.args.nonce c.in_err-break_magic.field-0.0 _ _ done.1
     (subst (λ (k : ℕ). BreakSteps k (Err c.in_err-break_magic.field-0.0) (g.D.Disk.state c.write_records.new.disk) (g.D.Disk.state c.break_magic.new.disk)) at step)))
 
 pub returns-in_err-settle_log-clause-prepared : goal.returns-in_err-settle_log-clause-prepared
 returns-in_err-settle_log-clause-prepared g c = λ word d named w is fresh more.
-    let n : ℕ = length c.args.record.now - 8 in
+    let n : ℕ = length c.args.buffer.now - 8 in
     let numbers = pages_of c.args.changes.now in
     let place : c.args.place + c.from.result ≡ c.args.place + c.args.sector = ap (λ (k : ℕ). c.args.place + k) c.from.ensures in
     let done = c.in_ok-end.ensures.records word c.args.sector d named c.args.place w (recording_begins n c.args.sector d named c.args.place w _ is) place fresh in
@@ -55,7 +56,7 @@ returns-in_err-settle_log-clause-prepared g c = λ word d named w is fresh more.
     (c.in_ok-break_magic.ensures.steps (c.write_records.ensures.word.0 word) done.1.recording.at.suits.sound) in
     let is_ended = ended n c.args.sector d named c.args.place w numbers c.args.nonce c.in_ok-break_magic.field-0 _ _ done.1 step in
     let later = break_later _ c.in_ok-break_magic.field-0 _ _ step in
-    subst (λ (x : Result ℕ RollError). PreparedAnswer n c.args.sector d named c.args.place numbers c.args.nonce x (g.D.Disk.state c.args.disk.now) (g.D.Disk.state c.settle_log.new.disk))
+    subst (λ (x : Result ℕ RollError). PreparedAnswer n c.args.sector d named c.args.place w numbers c.args.nonce x (g.D.Disk.state c.args.disk.now) (g.D.Disk.state c.settle_log.new.disk))
     (sym (passed c.from_residual-in_err-settle_log.result _ c.from_residual-in_err-settle_log.ensures.1))
     (harmless_after n d _ (g.D.Disk.state c.args.disk.now) (g.D.Disk.state c.break_magic.new.disk) _ (omega (arith, done.2, later))
     (settle_failed n c.args.sector d named c.args.place w numbers c.args.nonce c.settle_log.result c.in_err-settle_log.field-0.0 _ _ is_ended c.in_err-settle_log.was
@@ -63,7 +64,7 @@ returns-in_err-settle_log-clause-prepared g c = λ word d named w is fresh more.
 
 pub returns-clause-prepared : goal.returns-clause-prepared
 returns-clause-prepared g c = λ word d named w is fresh more.
-    let n : ℕ = length c.args.record.now - 8 in
+    let n : ℕ = length c.args.buffer.now - 8 in
     let numbers = pages_of c.args.changes.now in
     let place : c.args.place + c.from.result ≡ c.args.place + c.args.sector = ap (λ (k : ℕ). c.args.place + k) c.from.ensures in
     let done = c.in_ok-end.ensures.records word c.args.sector d named c.args.place w (recording_begins n c.args.sector d named c.args.place w _ is) place fresh in
@@ -73,7 +74,7 @@ returns-clause-prepared g c = λ word d named w is fresh more.
     let is_ended = ended n c.args.sector d named c.args.place w numbers c.args.nonce c.in_ok-break_magic.field-0 _ _ done.1 step in
     let later = break_later _ c.in_ok-break_magic.field-0 _ _ step in
     let sync = c.settle_log.ensures.state (c.break_magic.ensures.word.0 (c.write_records.ensures.word.0 word)) in
-    let last = sync_later _ c.settle_log.result _ _ is_ended.recorded.recording.at.suits.sound sync in
+    let last = sync_later Device _ c.settle_log.result _ _ is_ended.recorded.recording.at.suits.sound sync in
     let many : (c.args.place ≡ 0) ⊎ (1 ≤ length numbers) = ⊎_elim (λ zero. inl zero) (λ one. inr (omega (arith, one, length-map c.args.changes.now (λ (c : Change). c.page)))) more in
     (at, settled n c.args.sector d named c.args.place w numbers c.args.nonce c.settle_log.result c.in_ok-settle_log.field-0 _ _ is_ended many c.in_ok-settle_log.was sync, omega (arith, done.2, later, last.refused), sync.2.elsewhere.other ∙ break_file _ c.in_ok-break_magic.field-0 _ _ step ∙ done.3)
 

@@ -1,11 +1,11 @@
-use Rattle.std.proofs.Common.{◌<◌, ◌++◌, ◌+◌, ℕ, length, [], sym, ap, subst, arith, rules}
+use Rattle.std.proofs.Common.{◌<◌, ◌++◌, ◌+◌, ℕ, length, sym, ap, subst, arith, rules, []}
 use Rattle.std.specs.Prelude.{Result, Ok}
 use Rattle.sqval.specs.JudgedPages.{lent}
 use Rattle.crashdisk.specs.Call.{DiskState}
 use Rattle.rollcore.specs.Commits.{Goes}
 use Rattle.rollcore.specs.Segments.{PutPagesAnswer, new_numbers}
 use Rattle.rollcore.specs.declared.error.RollError.{RollError}
-use Rattle.rollcore.proofs.Stills.{passed}
+use Rattle.sqval.proofs.Answering.{passed}
 use Rattle.rollcore.proofs.Going.{goes_same, goes_then, goes_page}
 use Rattle.rollcore.proofs.Growing.{Grown, grown_none, grown_all, grown_old, grown_put, grown_failed, lent_at, lent_length}
 use Rattle.rollcore.proofs.segments.put_new_pages.Goals as goal

@@ -1,10 +1,10 @@
-use Rattle.std.proofs.Common.{◌≡◌, ◌<◌, ◌≤◌, ◌++◌, ◌+◌, ℕ, List, length, [], sym, ap, subst, arith, rules}
+use Rattle.std.proofs.Common.{◌++◌, ◌+◌, sym, ap, subst, arith, rules, []}
 use Rattle.std.specs.Prelude.{Result}
 use Rattle.sqval.specs.JudgedPages.{lent}
 use Rattle.crashdisk.specs.Call.{DiskState}
 use Rattle.rollcore.specs.Segments.{PutPagesAnswer, pages_of}
 use Rattle.rollcore.specs.declared.error.RollError.{RollError}
-use Rattle.rollcore.proofs.Stills.{passed}
+use Rattle.sqval.proofs.Answering.{passed}
 use Rattle.rollcore.proofs.Putting.{turned_none, turned_all, turned_cut, turned_put, turned_failed, lent_content, Turned}
 use Rattle.rollcore.proofs.segments.put_pages.Goals as goal
 use Rattle.rollcore.specs.Commits.{Goes}

@@ -1,4 +1,4 @@
-use Rattle.std.proofs.Common.{◌≡◌, ◌↔◌, ◌<◌, ℕ, List}
+use Rattle.std.proofs.Common.{◌↔◌, ◌<◌, ℕ, List}
 use Rattle.sqval.specs.Database.{Database}
 use Rattle.sqval.specs.JudgedPages.{lent}
 use Rattle.crashdisk.specs.Call.{IsSoundDisk}

@@ -1,14 +1,13 @@
-use Rattle.std.proofs.Common.{◌≡◌, ◌<◌, ◌≤◌, ◌+◌, ◌-◌, ◌++◌, ◌∙◌, ℕ, List, length, sym, ap, subst, arith}
+use Rattle.std.proofs.Common.{◌≡◌, ◌<◌, ◌≤◌, ◌-◌, ◌++◌, ◌∙◌, ◌∷◌, [], ℕ, length, sym, subst, arith}
 use Rattle.std.specs.Prelude.{Result}
 use Rattle.std.proofs.lemmas.List.{length-map}
-use Rattle.sqval.specs.Database.{Database}
 use Rattle.sqjournal.proofs.Journals.{size_bounds}
 use Rattle.crashdisk.specs.State.{FileState}
-use Rattle.rollcore.specs.Journaling.{old_pages, sizes, next_place}
+use Rattle.rollcore.specs.Journaling.{old_pages, sizes, next_place, HasNonces}
 use Rattle.rollcore.specs.Segments.{SegmentAnswer, Journaled, ArePut, pages_of}
 use Rattle.rollcore.specs.declared.changes.Change.{Change}
 use Rattle.rollcore.specs.declared.error.RollError.{RollError}
-use Rattle.rollcore.proofs.Stills.{passed}
+use Rattle.sqval.proofs.Answering.{passed}
 use Rattle.rollcore.proofs.Preparing.{harmless_after}
 use Rattle.rollcore.proofs.WholeSegments.{next_of}
 use Rattle.rollcore.proofs.Going.{goes_then}
@@ -16,23 +15,23 @@ use Rattle.rollcore.proofs.segments.put_segment.Goals as goal
 
 pub returns-in_err-next-clause-segment : goal.returns-in_err-next-clause-segment
 returns-in_err-next-clause-segment g c = λ word d e named w before is fresh more wide head turned somes put.
-    subst (λ (x : Result ℕ RollError). SegmentAnswer (length c.args.record.now - 8) c.args.head.now.sector d e named before c.args.place (pages_of c.args.changes.now) x (g.D.Disk.state c.args.disk.now) (g.D.Disk.state c.prepare_segment.new.disk))
+    subst (λ (x : Result ℕ RollError). SegmentAnswer (length c.args.buffer.now - 8) c.args.head.now.sector d e named before c.args.place w (pages_of c.args.changes.now) c.args.head.now.nonce x (g.D.Disk.state c.args.disk.now) (g.D.Disk.state c.prepare_segment.new.disk))
     (sym (passed c.from_residual.result _ c.from_residual.ensures.1))
     (c.in_err-next.ensures.prepared word d named w is fresh more)
 
 pub returns-in_err-write_header-clause-segment : goal.returns-in_err-write_header-clause-segment
 returns-in_err-write_header-clause-segment g c = λ word d e named w before is fresh more wide head turned somes put.
-    let n : ℕ = length c.args.record.now - 8 in
+    let n : ℕ = length c.args.buffer.now - 8 in
     let numbers = pages_of c.args.changes.now in
     let ready = c.in_ok-next.ensures.prepared word d named w is fresh more in
     let few : length numbers ≤ 64 = omega (arith, c.requires.few, length-map c.args.changes.now (λ (c : Change). c.page)) in
-    subst (λ (x : Result ℕ RollError). SegmentAnswer n c.args.head.now.sector d e named before c.args.place numbers x (g.D.Disk.state c.args.disk.now) (g.D.Disk.state c.write_header.new.disk))
+    subst (λ (x : Result ℕ RollError). SegmentAnswer n c.args.head.now.sector d e named before c.args.place w numbers c.args.head.now.nonce x (g.D.Disk.state c.args.disk.now) (g.D.Disk.state c.write_header.new.disk))
     (sym (passed c.from_residual-in_err-write_header.result _ c.from_residual-in_err-write_header.ensures.1))
     (harmless_after n d _ _ _ _ ready.2 (c.in_err-write_header.ensures.header (c.prepare_segment.ensures.word.0 word) n c.args.head.now.sector d named numbers ready.1.0 c.args.head.now.nonce ready.1.1 wide few head))
 
 pub returns-in_err-put_pages-clause-segment : goal.returns-in_err-put_pages-clause-segment
 returns-in_err-put_pages-clause-segment g c = λ word d e named w before is fresh more wide head turned somes put.
-    let n : ℕ = length c.args.record.now - 8 in
+    let n : ℕ = length c.args.buffer.now - 8 in
     let numbers = pages_of c.args.changes.now in
     let sector = c.args.head.now.sector in
     let ready = c.in_ok-next.ensures.prepared word d named w is fresh more in
@@ -42,14 +41,14 @@ returns-in_err-put_pages-clause-segment g c = λ word d e named w before is fres
     let above = next_of (sizes sector n) c.args.place (old_pages d numbers) (omega (arith, range.0)) in
     let begun = (let z : 0 < next_place (sizes sector n) c.args.place (old_pages d numbers) = omega (arith, above, range.0) in z) in
     let same_file : (g.D.Disk.state c.write_header.new.disk).db ≡ (g.D.Disk.state c.args.disk.now).db = down.2 ∙ ready.3 in
-    subst (λ (x : Result ℕ RollError). SegmentAnswer n sector d e named before c.args.place numbers x (g.D.Disk.state c.args.disk.now) (g.D.Disk.state c.put_pages.new.disk))
+    subst (λ (x : Result ℕ RollError). SegmentAnswer n sector d e named before c.args.place w numbers c.args.head.now.nonce x (g.D.Disk.state c.args.disk.now) (g.D.Disk.state c.put_pages.new.disk))
     (sym (passed c.from_residual-in_err-put_pages.result _ c.from_residual-in_err-put_pages.ensures.1))
     (harmless_after n d _ (g.D.Disk.state c.args.disk.now) (g.D.Disk.state c.write_header.new.disk) _ (omega (arith, ready.2, down.1))
     (c.in_err-put_pages.ensures.put (c.write_header.ensures.word.0 (c.prepare_segment.ensures.word.0 word)) n sector d e (named ++ numbers) _ down.0.0 before down.0.1 begun turned somes (subst (λ (s : FileState). ArePut n e before s) (sym same_file) put)))
 
 pub returns-clause-segment : goal.returns-clause-segment
 returns-clause-segment g c = λ word d e named w before is fresh more wide head turned somes put.
-    let n : ℕ = length c.args.record.now - 8 in
+    let n : ℕ = length c.args.buffer.now - 8 in
     let numbers = pages_of c.args.changes.now in
     let sector = c.args.head.now.sector in
     let ready = c.in_ok-next.ensures.prepared word d named w is fresh more in
@@ -59,8 +58,16 @@ returns-clause-segment g c = λ word d e named w before is fresh more wide head 
     let above = next_of (sizes sector n) c.args.place (old_pages d numbers) (omega (arith, range.0)) in
     let begun = (let z : 0 < next_place (sizes sector n) c.args.place (old_pages d numbers) = omega (arith, above, range.0) in z) in
     let same_file : (g.D.Disk.state c.write_header.new.disk).db ≡ (g.D.Disk.state c.args.disk.now).db = down.2 ∙ ready.3 in
-    let all = c.in_ok-put_pages.ensures.put (c.write_header.ensures.word.0 (c.prepare_segment.ensures.word.0 word)) n sector d e (named ++ numbers) _ down.0.0 before down.0.1 begun turned somes (subst (λ (s : FileState). ArePut n e before s) (sym same_file) put) in
-    (ready.0, (down.0.0, subst (λ (k : ℕ). Journaled n sector d (named ++ numbers) k down.0.0 (g.D.Disk.state c.put_pages.new.disk)) (sym ready.0) all.0), all.1, omega (arith, ready.2, down.1, all.2))
+    let all = c.in_ok-put_pages.ensures.put (c.write_header.ensures.word.0 (c.prepare_segment.ensures.word.0 word)) n sector d e (named ++ numbers) _ down.0.0 before down.0.1 begun turned somes (subst (λ (s : FileState). ArePut n e before s) (sym same_file) put) in (
+      ready.0,
+      (
+        down.0.0,
+        subst (λ (k : ℕ). Journaled n sector d (named ++ numbers) k down.0.0 (g.D.Disk.state c.put_pages.new.disk)) (sym ready.0) all.0,
+        λ nonces has. subst (λ (k : ℕ). HasNonces (sizes sector n) down.0.0 k (nonces ++ c.args.head.now.nonce ∷ [])) (sym ready.0) (down.0.2 nonces (ready.1.2 nonces has)),
+      ),
+      all.1,
+      omega (arith, ready.2, down.1, all.2),
+    )
 
 pub returns-in_err-next-clause-goes : goal.returns-in_err-next-clause-goes
 returns-in_err-next-clause-goes g c = λ word sound. c.prepare_segment.ensures.goes word sound

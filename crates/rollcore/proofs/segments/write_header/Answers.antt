@@ -1,11 +1,10 @@
-use Rattle.std.proofs.Common.{◌≡◌, ◌≤◌, ◌-◌, ◌∙◌, ◌++◌, ℕ, List, length, replicate, sym, ap, subst, arith}
+use Rattle.std.proofs.Common.{◌≡◌, ◌-◌, ◌∙◌, ◌++◌, ℕ, length, replicate, sym, ap, subst}
 use Rattle.std.specs.Prelude.{Result}
 use Rattle.sqjournal.specs.Header.{header_bytes}
-use Rattle.rollcore.specs.Journaling.{old_pages, sizes, next_place}
 use Rattle.rollcore.specs.Segments.{HeaderAnswer}
 use Rattle.rollcore.specs.declared.error.RollError.{RollError}
 use Rattle.rollcore.specs.declared.error.RollError.TheVariants.{Device}
-use Rattle.rollcore.proofs.Stills.{passed}
+use Rattle.sqval.proofs.Answering.{passed}
 use Rattle.rollcore.proofs.HeaderSteps.{header_failed, header_unsynced, header_done}
 use Rattle.crashdisk.specs.declared.file.File.TheVariants.{Log}
 use Rattle.rollcore.proofs.Going.{goes_then, goes_writes, goes_syncs}
@@ -15,7 +14,7 @@ pub returns-in_err-write_at-clause-header : goal.returns-in_err-write_at-clause-
 returns-in_err-write_at-clause-header g c = λ word size sector d named part w nonce is wide few head.
     let padded = c.fill_header.ensures.bytes ∙ ap (λ (n : ℕ). header_bytes c.args.head.now ++ replicate (n - 28) 0) wide in
     let long : length c.fill_header.new.header ≡ sector = c.fill_header.auto.header ∙ wide in
-    subst (λ (x : Result (Unit {0}) RollError). HeaderAnswer size sector d (named ++ part) (next_place (sizes sector size) c.args.place (old_pages d part)) x (g.D.Disk.state c.args.disk.now) (g.D.Disk.state c.write_at.new.self))
+    subst (λ (x : Result (Unit {0}) RollError). HeaderAnswer size sector d named c.args.place w part nonce x (g.D.Disk.state c.args.disk.now) (g.D.Disk.state c.write_at.new.self))
     (sym (passed c.from_residual.result Device c.from_residual.ensures.1))
     (header_failed size sector d named part nonce c.args.place c.args.head.now w c.fill_header.new.header few head c.fill_header.ensures.names padded long _ is c.requires.place c.write_at.result _ _ c.in_err-write_at.was (c.write_at.ensures.state word))
 
@@ -23,7 +22,7 @@ pub returns-in_err-sync-clause-header : goal.returns-in_err-sync-clause-header
 returns-in_err-sync-clause-header g c = λ word size sector d named part w nonce is wide few head.
     let padded = c.fill_header.ensures.bytes ∙ ap (λ (n : ℕ). header_bytes c.args.head.now ++ replicate (n - 28) 0) wide in
     let long : length c.fill_header.new.header ≡ sector = c.fill_header.auto.header ∙ wide in
-    subst (λ (x : Result (Unit {0}) RollError). HeaderAnswer size sector d (named ++ part) (next_place (sizes sector size) c.args.place (old_pages d part)) x (g.D.Disk.state c.args.disk.now) (g.D.Disk.state c.sync.new.self))
+    subst (λ (x : Result (Unit {0}) RollError). HeaderAnswer size sector d named c.args.place w part nonce x (g.D.Disk.state c.args.disk.now) (g.D.Disk.state c.sync.new.self))
     (sym (passed c.from_residual-in_err-sync.result Device c.from_residual-in_err-sync.ensures.1))
     (header_unsynced size sector d named part nonce c.args.place c.args.head.now w c.fill_header.new.header few head c.fill_header.ensures.names padded long _ is c.requires.place _ _ (c.in_ok-write_at.ensures.state word)
     c.sync.result _ c.in_err-sync.was (c.sync.ensures.state (c.write_at.ensures.word.0 word)))

@@ -1,4 +1,4 @@
-use Rattle.std.proofs.Common.{◌≡◌, ◌≤◌, ◌<◌, ◌+◌, ◌-◌, ◌*◌, ◌∙◌, ◌++◌, ℕ, length, take, drop, List, get_or, sym, ap, arith, subst, length-drop}
+use Rattle.std.proofs.Common.{◌≡◌, ◌+◌, ◌-◌, ◌*◌, ◌∙◌, ℕ, length, take, drop, List, ap, arith, subst, length-drop}
 use Rattle.std.specs.Prelude.{Ok}
 use Rattle.std.proofs.lemmas.List.{length-take-le}
 use Rattle.crashdisk.specs.State.{byte}
@@ -6,7 +6,8 @@ use Rattle.crashdisk.specs.Call.{Writes, Looks}
 use Rattle.crashdisk.specs.declared.file.File.TheVariants.{Log}
 use Rattle.rollcore.specs.Journaling.{record_bytes}
 use Rattle.rollcore.specs.declared.error.RollError.TheVariants.{Device}
-use Rattle.rollcore.proofs.Stills.{passed, still_looks}
+use Rattle.sqval.proofs.Answering.{passed}
+use Rattle.crashdisk.proofs.Stills.{still_looks}
 use Rattle.rollcore.proofs.Recorded.{step_unread, step_unwritten, step_put, middle, record_fits}
 use borrow.Rule.Slice.PartMut.{same_len_mid}
 use Rattle.rollcore.proofs.Going.{goes_then, goes_still, goes_writes}
@@ -14,7 +15,7 @@ use Rattle.rollcore.proofs.segments.write_record.Goals as goal
 
 pub returns-in_err-read_at-clause-record : goal.returns-in_err-read_at-clause-record
 returns-in_err-read_at-clause-record g c = λ word sound fits.
-    let r = c.args.record.now in
+    let r = c.args.buffer.now in
     let n : ℕ = length r - 8 in
     let from : ℕ = c.from.result * (length r - 4 - 4) in
     let short : length r - 4 - 4 ≡ n = omega arith in
@@ -26,7 +27,7 @@ returns-in_err-read_at-clause-record g c = λ word sound fits.
 
 pub returns-in_err-write_at-clause-record : goal.returns-in_err-write_at-clause-record
 returns-in_err-write_at-clause-record g c = λ word sound fits.
-    let r = c.args.record.now in
+    let r = c.args.buffer.now in
     let n : ℕ = length r - 8 in
     let out = c.read_at.new.out in
     let short : length r - 4 - 4 ≡ n = omega arith in
@@ -43,7 +44,7 @@ returns-in_err-write_at-clause-record g c = λ word sound fits.
 
 pub returns-clause-record : goal.returns-clause-record
 returns-clause-record g c = λ word sound fits.
-    let r = c.args.record.now in
+    let r = c.args.buffer.now in
     let n : ℕ = length r - 8 in
     let out = c.read_at.new.out in
     let short : length r - 4 - 4 ≡ n = omega arith in

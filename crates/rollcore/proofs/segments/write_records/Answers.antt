@@ -1,11 +1,11 @@
-use Rattle.std.proofs.Common.{◌≡◌, ◌<◌, ◌≤◌, ◌+◌, ◌-◌, ◌*◌, ◌∙◌, ℕ, List, length, take, sym, ap, subst, arith, rules}
-use Rattle.std.proofs.lemmas.List.{take_all, length-map}
+use Rattle.std.proofs.Common.{◌≡◌, ◌<◌, ◌≤◌, ◌+◌, ◌-◌, ◌*◌, ◌∙◌, ℕ, length, sym, ap, subst, arith, rules}
+use Rattle.std.proofs.lemmas.List.{length-map}
 use Rattle.sqval.specs.CommitFaults.{most_bytes}
 use Rattle.rollcore.specs.Segments.{RecordStep, RecordsAnswer, pages_of}
 use Rattle.std.specs.Prelude.{None}
 use Rattle.rollcore.specs.Commits.{change_at}
 use Rattle.rollcore.specs.declared.changes.Change.{Change}
-use Rattle.rollcore.proofs.Stills.{passed}
+use Rattle.sqval.proofs.Answering.{passed}
 use Rattle.rollcore.proofs.Recorded.{gone_none, gone_on, gone_off, gone_fits, page_in, gone_end}
 use Rattle.rollcore.proofs.Going.{goes_same, goes_then}
 use Rattle.rollcore.proofs.segments.write_records.Goals as goal
@@ -25,16 +25,16 @@ loop-change-preserved g c = record {
       let before = c.loop-change.invariant.goes word sound in
       goes_then _ _ _ before (c.write_record.ensures.goes (c.loop-change.invariant.word.0 word) before.sound);
   end =
-      let so_far : c.loop-change.end ≡ c.args.at + c.loop-change.change-index * length c.write_record.new.record = c.loop-change.invariant.end ∙ ap (λ (n : ℕ). c.args.at + c.loop-change.change-index * n) (sym c.write_record.auto.record) in
+      let so_far : c.loop-change.end ≡ c.args.at + c.loop-change.change-index * length c.write_record.new.buffer = c.loop-change.invariant.end ∙ ap (λ (n : ℕ). c.args.at + c.loop-change.change-index * n) (sym c.write_record.auto.buffer) in
       omega arith;
   going = λ word sector d named place w is at fresh.
-      let n : ℕ = length c.args.record.now - 8 in
+      let n : ℕ = length c.args.buffer.now - 8 in
       let gone = c.loop-change.invariant.going word sector d named place w is at fresh in
       let lt : c.loop-change.change-index < length (pages_of c.args.changes.now) = omega (arith, c.loop-change-test.true, length-map c.args.changes.now (λ (c : Change). c.page)) in
       let here = page_in c.args.changes.now c.loop-change.change-index (record { page = 0; content = None }) c.loop-change-test.true in
-      let same : length c.loop-change.record - 8 ≡ n = ap (λ (k : ℕ). k - 8) c.loop-change.auto.record in
+      let same : length c.loop-change.buffer - 8 ≡ n = ap (λ (k : ℕ). k - 8) c.loop-change.auto.buffer in
       let fits = gone_fits n sector d named place w (pages_of c.args.changes.now) c.args.nonce c.loop-change.change-index c.loop-change.end _ _ (g.D.Disk.state c.loop-change.disk) (g.D.Disk.state c.loop-change.disk) gone fresh lt here in
-      gone_on n sector d named place w (pages_of c.args.changes.now) c.args.nonce c.loop-change.change-index c.loop-change.end _ _ _ _ gone fresh lt here c.write_record.result c.in_ok-write_record.field-0 _ c.in_ok-write_record.was (omega (arith, c.write_record.auto.record, c.loop-change.auto.record))
+      gone_on n sector d named place w (pages_of c.args.changes.now) c.args.nonce c.loop-change.change-index c.loop-change.end _ _ _ _ gone fresh lt here c.write_record.result c.in_ok-write_record.field-0 _ c.in_ok-write_record.was (omega (arith, c.write_record.auto.buffer, c.loop-change.auto.buffer))
       (subst (λ (k : ℕ). RecordStep k (change_at c.args.changes.now c.loop-change.change-index).page c.args.nonce c.loop-change.end c.write_record.result (g.D.Disk.state c.loop-change.disk) (g.D.Disk.state c.write_record.new.disk)) same
       (c.write_record.ensures.record (c.loop-change.invariant.word.0 word) gone.recorded.recording.at.suits.sound (subst (λ (k : ℕ). (change_at c.args.changes.now c.loop-change.change-index).page * k ≤ most_bytes) (sym same) fits)));
 }
@@ -46,11 +46,11 @@ returns-clause-records g c = λ word sector d named place w is at fresh.
 
 pub returns-in_err-write_record-clause-records : goal.returns-in_err-write_record-clause-records
 returns-in_err-write_record-clause-records g c = λ word sector d named place w is at fresh.
-    let n : ℕ = length c.args.record.now - 8 in
+    let n : ℕ = length c.args.buffer.now - 8 in
     let gone = c.loop-change.invariant.going word sector d named place w is at fresh in
     let lt : c.loop-change.change-index < length (pages_of c.args.changes.now) = omega (arith, c.loop-change-test.true, length-map c.args.changes.now (λ (c : Change). c.page)) in
     let here = page_in c.args.changes.now c.loop-change.change-index (record { page = 0; content = None }) c.loop-change-test.true in
-    let same : length c.loop-change.record - 8 ≡ n = ap (λ (k : ℕ). k - 8) c.loop-change.auto.record in
+    let same : length c.loop-change.buffer - 8 ≡ n = ap (λ (k : ℕ). k - 8) c.loop-change.auto.buffer in
     let fits = gone_fits n sector d named place w (pages_of c.args.changes.now) c.args.nonce c.loop-change.change-index c.loop-change.end _ _ (g.D.Disk.state c.loop-change.disk) (g.D.Disk.state c.loop-change.disk) gone fresh lt here in
     gone_off n sector d named place w (pages_of c.args.changes.now) c.args.nonce c.loop-change.change-index c.loop-change.end _ _ _ _ gone fresh lt here c.write_record.result _ c.from_residual.result c.in_err-write_record.was (passed c.from_residual.result _ c.from_residual.ensures.1)
     (subst (λ (k : ℕ). RecordStep k (change_at c.args.changes.now c.loop-change.change-index).page c.args.nonce c.loop-change.end c.write_record.result (g.D.Disk.state c.loop-change.disk) (g.D.Disk.state c.write_record.new.disk)) same

@@ -1,5 +1,5 @@
 use Rattle.std.proofs.Common.{◌*◌, ℕ, length, refl, ap}
-use Rattle.rollcore.proofs.Stills.{passed}
+use Rattle.sqval.proofs.Answering.{passed}
 use Rattle.rollcore.proofs.Viewing.{read_judged, read_file, refused_read, other_room}
 use Rattle.rollcore.proofs.roll.Roll.read.Goals as goal
 
