@@ -1,0 +1,219 @@
+-- An event of a run over a rollback journal, with an engine and without one.
+use Rattle.std.proofs.Common.{◌≡◌, ◌==◌, nat_lt, [], ◌∷◌, ℕ, Bool, true, false, ◌&&◌, List, length, Option, Some, None, Result, Ok, Err, IfOk, OnOk, cond, not, Vec, Global, refl, sym, ◌∙◌, ap, subst, arith}
+use Rattle.crashdisk.specs.Call.{DiskState}
+use Rattle.crashdisk.specs.Model.{state_of}
+use Rattle.crashdisk.specs.Stop.{no_stops}
+use Rattle.crashdisk.specs.declared.file.File.TheVariants.{Log, Db}
+use Rattle.crashdisk.specs.declared.model.ModelDisk.{ModelDisk}
+use Rattle.crashdisk.specs.declared.choice.Choice.{Choice}
+use Rattle.sqval.specs.Answers.{Answer, Files, Done, Refused, Refuses, Crashed}
+use Rattle.sqval.specs.CommitFaults.{first_true}
+use Rattle.walcore.specs.Fits.{AreFiles as AreWalFiles}
+use Rattle.rollcore.specs.Alone.{AreWhole}
+use Rattle.rollcore.specs.Machine.{State, Act, Opens, Sets, Step, closed, newest, commit_refusal, read_refusal, refusal_of}
+use Rattle.rollcore.specs.Premises.{Permits}
+use Rattle.rollcore.specs.Refusal.{number_of}
+use Rattle.rollcore.specs.Fits.{FitsDisk, FitsCore, Fits, AreFiles, StepsTo, GivenUpTo}
+use Rattle.crashdisk.specs.Keeps.{IsSameDisk}
+use Rattle.rollcore.specs.declared.error.RollError.{RollError}
+use Rattle.rollcore.specs.declared.roll.Roll.{Roll}
+use Rattle.rollcore.specs.declared.state.Core.{Core}
+use Rattle.sqworld.specs.Run.{numbered, answer_of, files_of}
+use Rattle.sqworld.specs.Engines.{SaysLeft, IsLeftBy, chosen, IsAlone}
+use Rattle.sqworld.specs.JournalRun.{act_of, is_opening, is_crash}
+use Rattle.sqworld.specs.JournalEngines.{IsSetTo, Happens, ServesTo, Serves, RollServes, FitsClosed, FitsEngine, model_of, disk_of, EngineServes, closed_answer, Answers}
+use Rattle.sqworld.specs.declared.engine.Given.{Given}
+use Rattle.sqworld.specs.declared.journal_engine.JournalEngine.{JournalEngine}
+use Rattle.sqworld.specs.declared.journal_engine.JournalEngine.TheVariants.{Closed, Open}
+use Rattle.sqworld.specs.declared.journal_event.JEvent.{JEvent}
+use Rattle.sqworld.specs.declared.journal_event.JEvent.TheVariants.{Open as Opening, Commit, Read, StopAfter, StopAtSync, Fail, Crash}
+use Rattle.sqworld.specs.declared.reply.Reply.{Reply}
+use Rattle.sqworld.specs.declared.reply.Reply.TheVariants.{Done as ReplyDone}
+use Rattle.sqworld.specs.declared.reply.Found.{Found}
+use Rattle.sqworld.specs.declared.reply.Crashed.{Crashed as CrashedLog}
+use Rattle.sqworld.proofs.JournalResting.{fits_crash}
+use Rattle.sqworld.proofs.Serving.{and_is, same_count}
+
+-- what fits an engine fits its disk
+engine_disk : (past : State) (engine : JournalEngine) → FitsEngine past engine → FitsDisk past (disk_of engine)
+engine_disk past (Closed disk) fits = fits.disk
+engine_disk past (Open roll) fits = fits.disk
+
+-- a call's step is an event's
+pub stepped : (page_size : ℕ) (old new : Roll ModelDisk) (act : Act) (told answer : Answer) → told ≡ answer
+    → ((past : State) → past.page_size ≡ page_size → Fits state_of old past → StepsTo past act told new.core (state_of old.disk) (state_of new.disk))
+    → RollServes page_size old new act answer
+stepped page_size old new act told answer same h past size fits may = let steps = h past size fits in record {
+  next = steps.next;
+  refused = steps.refused;
+  row = subst (λ a. Step past act a (state_of old.disk).refused (state_of new.disk).refused steps.next) same steps.row;
+  fits = steps.fits;
+  same = steps.same;
+}
+
+-- ---- Openings.
+
+pub opened : (past : State) (found : Files) (s : DiskState) (roll : Roll ModelDisk) → StepsTo past (Opens found) Done roll.core s (state_of roll.disk)
+    → ServesTo past (Opens found) Done (λ next. FitsEngine next (Open roll)) s (state_of roll.disk)
+opened past found s roll steps = record { next = steps.next; refused = steps.refused; row = steps.row; fits = steps.fits; same = steps.same }
+
+pub given_up : (past : State) (found : Files) (error : RollError) (n : ℕ) (s : DiskState) (disk : ModelDisk) → n ≡ number_of error → GivenUpTo past found error s (state_of disk)
+    → ServesTo past (Opens found) (Refused n) (λ next. FitsEngine next (Closed disk)) s (state_of disk)
+given_up past found error n s disk is up = record {
+  next = up.next;
+  refused = up.refused;
+  row = subst (λ k. Step past (Opens found) (Refused k) s.refused (state_of disk).refused up.next) (sym is) up.row;
+  fits = record { disk = up.fits; is_closed = ap (λ (x : State). x.is_open) up.row.1 };
+  same = up.same;
+}
+
+are_files : (s : DiskState) (files : Files) → AreWalFiles s files → AreFiles s files
+are_files s files are = record { db = are.db; log = are.log }
+
+no_left : (b : Bool) → false ≡ (b && false)
+no_left true = refl
+no_left false = refl
+
+pub open_answers : (page_size : ℕ) (tears : Bool) (old new : JournalEngine) (reply : Reply) (found : Found) (s : DiskState) → s ≡ disk_of old → AreWalFiles s (files_of found)
+    → ((past : State) (files : Files) → AreFiles s files → past.page_size ≡ page_size → FitsDisk past s → ServesTo past (Opens files) (answer_of reply) (λ next. FitsEngine next new) s (disk_of new))
+    → Answers page_size tears Opening old (record { reply = reply; found = Some found; crashed = None }) new
+open_answers page_size tears old new reply found s same files serves = record {
+  found = refl;
+  present = subst (λ t. AreFiles t (files_of found)) same (are_files s (files_of found) files);
+  crashed = no_left tears;
+  happens = tt;
+  serves = λ torn. subst (λ t. Serves page_size (λ past. FitsEngine past old) (λ past. FitsEngine past new) t (disk_of new) (Opens (files_of found)) (answer_of reply)) same
+      (λ past size fits may. serves past (files_of found) (are_files s (files_of found) files) size (subst (λ t. FitsDisk past t) (sym same) (engine_disk past old fits)));
+}
+
+-- ---- Crashes.
+
+permitted : (tears : Bool) (s : DiskState) (log : List ℕ) (crashed : Option CrashedLog) (choice : Choice) → s.tears ≡ tears → SaysLeft tears crashed (record { log = log; kept = s.kept; handed = s.handed })
+    → Permits (act_of (Crash choice) None crashed) → s.tears ≡ true → AreWhole s.kept s.handed log
+permitted true s log (Some crashed) choice e says may torn = subst (λ (c : Crashed). AreWhole c.kept c.handed c.log) says may
+permitted true s log None choice e says may torn = absurd says
+permitted false s log crashed choice e says may torn = absurd (cc (e, torn))
+
+crash_row : (s : State) (choice : Choice) (crashed : Option CrashedLog) (n m : ℕ) → Step s (act_of (Crash choice) None crashed) Done n m (closed s)
+crash_row s choice (Some crashed) n m = refl
+crash_row s choice None n m = refl
+
+pub crash_answers : (page_size : ℕ) (tears : Bool) (choice : Choice) (old : JournalEngine) (disk : ModelDisk) (crashed : Option CrashedLog) (s : DiskState) → s ≡ disk_of old → IsLeftBy tears choice crashed s (state_of disk) → disk.stops ≡ no_stops
+    → Answers page_size tears (Crash choice) old (record { reply = ReplyDone; found = None; crashed = crashed }) (Closed disk)
+crash_answers page_size tears choice old disk crashed s same left cleared = record {
+  found = refl;
+  present = tt;
+  crashed = left.some ∙ and_is tears true refl;
+  happens = (subst (λ t. IsLeftBy tears choice crashed t (state_of disk)) same left, cleared);
+  serves = λ torn past size fits may.
+      let e : s.tears ≡ tears = ap (λ (t : DiskState). t.tears) same ∙ torn in
+      let fit : FitsDisk past s = subst (λ t. FitsDisk past t) (sym same) (engine_disk past old fits) in
+      let c = left.crash in
+      subst (λ t. ServesTo past (act_of (Crash choice) None crashed) Done (λ next. FitsEngine next (Closed disk)) t (state_of disk)) same (record {
+        next = closed past;
+        refused = let r = c.refused in omega (arith, r);
+        row = crash_row past choice crashed s.refused (state_of disk).refused;
+        fits = record {
+          disk = fits_crash past (chosen choice.db Db s) (chosen choice.log Log s) s (state_of disk) c (permitted tears s (chosen choice.log Log s) crashed choice e (left.says e) may) fit;
+          is_closed = refl;
+        };
+        same = record { sector = c.sector; tears = c.tears };
+      });
+}
+
+-- ---- Without an engine.
+
+refused_row : (r : Option ℕ) (memory : Bool) (failed s : State) (n m : ℕ) → r ≡ Some 1 → Refuses r memory failed n m s 1 s
+refused_row r memory failed s n m e = subst (λ x. Refuses x memory failed n m s 1 s) (sym e) (refl, refl)
+
+closed_row : (s : State) (event : JEvent) (n m : ℕ) → s.is_open ≡ false → is_opening event ≡ false → is_crash event ≡ false → Step s (act_of event None None) (closed_answer event) n m s
+closed_row s Opening n m is o k = absurd (cc o)
+closed_row s (Crash choice) n m is o k = absurd (cc k)
+closed_row s (Commit pages size nonces) n m is o k = refused_row (commit_refusal s (numbered pages.items) size nonces.items) true _ s n m
+    (ap (λ b. cond b (refusal_of (length (newest s)) s.page_size (numbered pages.items) size (length nonces.items)) (Some 1)) is)
+closed_row s (Read page) n m is o k = refused_row (read_refusal s page) false _ s n m (ap (λ b. first_true ((not b, 1) ∷ (page == 0, 4) ∷ (nat_lt (length (newest s)) page, 5) ∷ [])) is)
+closed_row s (StopAfter calls) n m is o k = refl
+closed_row s (StopAtSync syncs) n m is o k = refl
+closed_row s (Fail call part) n m is o k = refl
+
+same_disk : (s t : DiskState) → t ≡ s → IsSameDisk s t
+same_disk s t e = record { sector = ap (λ (x : DiskState). x.sector) e; tears = ap (λ (x : DiskState). x.tears) e }
+
+pub closed_serves : {E : Type 0} (r : Result Reply E) (page_size : ℕ) (event : JEvent) (old new : ModelDisk) → IfOk r (λ reply. answer_of reply ≡ closed_answer event) → state_of new ≡ state_of old
+    → IfOk r (λ reply. is_opening event ≡ false → is_crash event ≡ false → EngineServes page_size (Closed old) (Closed new) (act_of event None None) (answer_of reply))
+closed_serves (Err e) page_size event old new told same = tt
+closed_serves (Ok reply) page_size event old new told same = λ o k past size fits may.
+    subst (λ a. ServesTo past (act_of event None None) a (λ next. FitsEngine next (Closed new)) (state_of old) (state_of new)) (sym told) (record {
+      next = past;
+      refused = same_count (state_of old) (state_of new) same;
+      row = closed_row past event (state_of old).refused (state_of new).refused fits.is_closed o k;
+      fits = subst (λ (t : DiskState). FitsClosed past t) (sym same) fits;
+      same = same_disk (state_of old) (state_of new) same;
+    })
+
+-- ---- Calls of an engine.
+
+pub guarded : {E : Type 0} (r : Result Reply E) (page_size : ℕ) (old new : Roll ModelDisk) (event : JEvent) (act : Act) → act ≡ act_of event None None → IfOk r (λ reply. RollServes page_size old new act (answer_of reply))
+    → IfOk r (λ reply. is_opening event ≡ false → is_crash event ≡ false → RollServes page_size old new (act_of event None None) (answer_of reply))
+guarded (Err x) page_size old new event act e h = tt
+guarded (Ok reply) page_size old new event act e h = λ o k. subst (λ a. RollServes page_size old new a (answer_of reply)) e h
+
+pub set_serves : (page_size : ℕ) (old new : Roll ModelDisk) (event : JEvent) → act_of event None None ≡ Sets → new.core ≡ old.core → state_of new.disk ≡ state_of old.disk
+    → RollServes page_size old new (act_of event None None) Done
+set_serves page_size old new event is core disk past size fits may =
+    subst (λ act. ServesTo past act Done (λ next. Fits state_of new next) (state_of old.disk) (state_of new.disk)) (sym is) (record {
+      next = past;
+      refused = same_count (state_of old.disk) (state_of new.disk) disk;
+      row = refl;
+      fits = subst (λ (t : DiskState). FitsCore past new.core t) (sym disk) (subst (λ (x : Core). FitsCore past x (state_of old.disk)) (sym core) fits);
+      same = same_disk (state_of old.disk) (state_of new.disk) disk;
+    })
+
+-- an event of no other kind sets a stop or a failure
+pub others_set : (event : JEvent) → ((pages : Vec (ℕ × Vec ℕ Global) Global) (size : ℕ) (nonces : Vec ℕ Global) → event ≡ Commit pages size nonces → ⊥) → ((page : ℕ) → event ≡ Read page → ⊥)
+    → is_opening event ≡ false → is_crash event ≡ false → act_of event None None ≡ Sets
+others_set Opening a b o k = absurd (cc o)
+others_set (Crash choice) a b o k = absurd (cc k)
+others_set (Commit pages size nonces) a b o k = absurd (a pages size nonces refl)
+others_set (Read page) a b o k = absurd (b page refl)
+others_set (StopAfter calls) a b o k = refl
+others_set (StopAtSync syncs) a b o k = refl
+others_set (Fail call part) a b o k = refl
+
+pub open_serves : {E : Type 0} (r : Result Reply E) (page_size : ℕ) (event : JEvent) (old new : Roll ModelDisk)
+    → IfOk r (λ reply. is_opening event ≡ false → is_crash event ≡ false → RollServes page_size old new (act_of event None None) (answer_of reply))
+    → IfOk r (λ reply. is_opening event ≡ false → is_crash event ≡ false → EngineServes page_size (Open old) (Open new) (act_of event None None) (answer_of reply))
+open_serves (Err e) page_size event old new h = tt
+open_serves (Ok reply) page_size event old new h = h
+
+set_happens : (tears : Bool) (event : JEvent) (old new : ModelDisk) → is_crash event ≡ false → IsSetTo event old new → Happens tears event None old new
+set_happens tears (Crash choice) old new k set = absurd (cc k)
+set_happens tears event old new k set = set
+
+no_crashed : (tears : Bool) (event : JEvent) → is_crash event ≡ false → false ≡ (tears && is_crash event)
+no_crashed true event k = sym k
+no_crashed false event k = refl
+
+pub call_answers : {E : Type 0} (r : Result Reply E) (given : Result Given E) (page_size : ℕ) (tears : Bool) (event : JEvent) (old new : JournalEngine) → is_opening event ≡ false → is_crash event ≡ false → IsAlone r given
+    → IfOk r (λ reply. is_opening event ≡ false → is_crash event ≡ false → EngineServes page_size old new (act_of event None None) (answer_of reply))
+    → OnOk r (IsSetTo event (model_of old) (model_of new))
+    → IfOk given (λ g. Answers page_size tears event old g new)
+call_answers (Err e) (Err f) page_size tears event old new o k alone h set = tt
+call_answers (Err e) (Ok g) page_size tears event old new o k alone h set = absurd alone
+call_answers (Ok reply) (Err f) page_size tears event old new o k alone h set = absurd alone
+call_answers (Ok reply) (Ok g) page_size tears event old new o k alone h set =
+    subst (λ x. Answers page_size tears event old x new) (sym alone) (record {
+      found = sym o;
+      present = tt;
+      crashed = no_crashed tears event k;
+      happens = set_happens tears event (model_of old) (model_of new) k set;
+      serves = λ torn. h o k;
+    })
+
+pub not_open : (event : JEvent) → (event ≡ Opening → ⊥) → is_opening event ≡ false
+not_open Opening h = absurd (h refl)
+not_open event h = refl
+
+pub not_crash : (event : JEvent) → ((choice : Choice) → event ≡ Crash choice → ⊥) → is_crash event ≡ false
+not_crash (Crash choice) h = absurd (h choice refl)
+not_crash event h = refl

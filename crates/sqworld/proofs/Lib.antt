@@ -1,0 +1,14 @@
+pub mod Stepped
+pub mod Based
+pub mod Resting
+pub mod Serving
+pub mod PageSizes
+pub mod Moments
+pub mod Going
+pub mod Lives
+pub mod Worlds
+pub mod JournalResting
+pub mod JournalServing
+pub mod JournalMoments
+pub mod JournalGoing
+pub mod JournalWorlds

@@ -1,0 +1,154 @@
+-- What fits a disk after a crash, and where a run begins.
+use Rattle.std.proofs.Common.{◌≡◌, inl, ⊎_elim, ℕ, zero, suc, ◌+◌, ◌-◌, ◌*◌, ◌<◌, ◌≤◌, Bool, true, false, List, ◌∷◌, ◌++◌, length, get_or, Option, refl, sym, ◌∙◌, ap, subst, arith, length-append, []}
+use Rattle.std.specs.List.{concat}
+use Rattle.sqval.specs.PageSize.{IsPageSize}
+use Rattle.sqval.specs.Database.{Database, page}
+use Rattle.sqwal.specs.Header.{named_size}
+use Rattle.sqwal.specs.Frames.{IsFront}
+use Rattle.crashdisk.specs.State.{longest, IsImage, IsSectorSize}
+use Rattle.crashdisk.specs.Call.{DiskState, IsCrash, IsNew}
+use Rattle.crashdisk.proofs.Keeping.{sound_crash, sound_new}
+use Rattle.crashdisk.proofs.Settled.{settled_one}
+use Rattle.crashdisk.proofs.Solid.{size_is}
+use Rattle.walcore.specs.Alone.{AreWhole}
+use Rattle.sqval.specs.Held.{IsJust, IsHeld}
+use Rattle.crashdisk.specs.Keeps.{Suits}
+use Rattle.walcore.specs.Made.{AreMade}
+use Rattle.walcore.specs.Machine.{gone, forgotten}
+use Rattle.walcore.specs.Standing.{MayBeRead, ShowsWhole}
+use Rattle.walcore.specs.Fits.{Past, FitsAlone, beginning, none_open}
+use Rattle.walcore.specs.declared.reader.Reader.{Reader}
+use Rattle.walcore.proofs.Fronting.{just_file}
+use Rattle.walcore.proofs.Narrowing.{narrows_crash, left_narrows}
+use Rattle.sqval.proofs.FilePages.{page_by_bytes}
+use Rattle.walcore.proofs.Standing.{read_cases}
+use Rattle.walcore.proofs.Turning.{just_shows}
+use Rattle.sqworld.specs.Pages.{IsBase}
+
+-- ---- A crash.
+
+suits_crash : (size : ℕ) (db log : List ℕ) (s t : DiskState) → IsCrash db log s t → Suits size s → Suits size t
+suits_crash size db log s t crashed suits = record {
+  sound = sound_crash db log s t suits.sound crashed;
+  sectors = subst (λ n. IsSectorSize n) (sym crashed.sector) suits.sectors;
+  pages = suits.pages;
+  whole = λ tears. suits.whole (sym crashed.tears ∙ tears.0, subst (λ n. size < n) crashed.sector tears.1);
+}
+
+all_there : (tokens : List (Option Reader)) → length (none_open tokens) ≡ length tokens
+all_there [] = refl
+all_there (x ∷ tokens) = ap suc (all_there tokens)
+
+all_forgotten : (readers : List (Option ℕ)) → length (forgotten readers) ≡ length readers
+all_forgotten [] = refl
+all_forgotten (x ∷ readers) = ap suc (all_forgotten readers)
+
+pub fits_crash : (past : Past) (db log : List ℕ) (s t : DiskState) → IsCrash db log s t → (s.tears ≡ true → AreWhole s.kept s.handed log) → FitsAlone past s
+    → FitsAlone (record { state = gone past.state; made = past.made; tokens = none_open past.tokens }) t
+fits_crash past db log s t crashed whole fits = record {
+  disk = record {
+    suits = suits_crash past.state.page_size db log s t crashed fits.disk.suits;
+    floor = fits.disk.floor;
+    held = fits.disk.held;
+    made = fits.disk.made;
+    left = left_narrows s t (narrows_crash db log s t crashed whole) past.state.page_size past.made.logs past.state.history past.state.floor fits.disk.left;
+    present = λ is. absurd (cc is);
+  };
+  count = all_there past.tokens ∙ (fits.count ∙ sym (all_forgotten past.state.readers));
+}
+
+-- ---- The beginning.
+
+long_pages : (size : ℕ) (d : Database) → ((i : ℕ) → i < length d → length (get_or d i []) ≡ size) → length (concat d) ≡ length d * size
+long_pages size [] each = omega arith
+long_pages size (x ∷ d) each =
+    let first = each 0 (omega arith) in
+    let rest = long_pages size d (λ i l. each (suc i) (omega arith)) in
+    length-append x (concat d) ∙ (ap (λ n. n + length (concat d)) first ∙ (ap (λ n. size + n) rest ∙ sym (grind arith)))
+
+in_front : (xs ys : List ℕ) (i : ℕ) → i < length xs → get_or (xs ++ ys) i 0 ≡ get_or xs i 0
+in_front [] ys i l = absurd (omega arith)
+in_front (x ∷ xs) ys zero l = refl
+in_front (x ∷ xs) ys (suc i) l = in_front xs ys i (omega arith)
+
+behind : (xs ys : List ℕ) (n i j : ℕ) → length xs ≡ n → j ≡ n + i → get_or (xs ++ ys) j 0 ≡ get_or ys i 0
+behind [] ys n i j e h = let same : j ≡ i = omega arith in ap (λ k. get_or ys k 0) same
+behind (x ∷ xs) ys n i zero e h = absurd (omega arith)
+behind (x ∷ xs) ys n i (suc j) e h = behind xs ys (length xs) i j refl (omega arith)
+
+byte_of : (size : ℕ) (d : Database) (q i j : ℕ) → ((k : ℕ) → k < length d → length (get_or d k []) ≡ size) → q < length d → i < size → j ≡ q * size + i → get_or (concat d) j 0 ≡ get_or (get_or d q []) i 0
+byte_of size [] q i j each l m e = absurd (omega arith)
+byte_of size (x ∷ d) zero i j each l m e =
+    let first = each 0 (omega arith) in
+    let same : j ≡ i = omega (arith, e) in
+    ap (λ k. get_or (x ++ concat d) k 0) same ∙ in_front x (concat d) i (omega (arith, first))
+byte_of size (x ∷ d) (suc q) i j each l m e =
+    behind x (concat d) size (q * size + i) j (each 0 (omega arith)) (e ∙ grind arith) ∙ byte_of size d q i (q * size + i) (λ k h. each (suc k) (omega arith)) (omega arith) m refl
+
+pub just_pages : (size : ℕ) (d : Database) → ((i : ℕ) → i < length d → length (get_or d i []) ≡ size) → IsJust size d (concat d)
+unfolding page
+just_pages size d each = record {
+  long = long_pages size d each;
+  each = λ p one le. page_by_bytes size (concat d) p (get_or d (p - 1) []) (each (p - 1) (omega arith)) (λ i l. byte_of size d (p - 1) i ((p - 1) * size + i) each (omega arith) l refl);
+}
+
+pub full_pages : (size : ℕ) (d : Database) → ((i : ℕ) → i < length d → length (get_or d i []) ≡ size) → (p : ℕ) → 1 ≤ p → p ≤ length d → length (page d p) ≡ size
+unfolding page
+full_pages size d each p one le = each (p - 1) (omega arith)
+
+empty_front : (w : List ℕ) → w ≡ [] → IsFront (named_size w) w 0
+empty_front w e = record {
+  is = inl refl;
+  greatest = λ i valid commit. let whole = (valid.each i valid.first (omega arith)).header.whole in let long = ap length e in absurd (omega (arith, whole, long));
+}
+
+made_nothing : (size : ℕ) → AreMade size []
+made_nothing size = record {
+  each = λ e is. absurd (let i = is.1 in omega arith);
+  new_salts = λ i j l m. absurd (omega arith);
+}
+
+module _ (size sector : ℕ) (tears : Bool) (d : Database) (s : DiskState) (base : IsBase size sector tears d) (is_size : IsPageSize size) (new : IsNew sector tears (concat d) s) where
+  just : IsJust size d (concat d)
+  just = just_pages size d base.pages_are.each
+
+  short : length (concat d) ≤ longest
+  short = let l = just.long in let few = base.pages_are.few in omega (arith, l, few)
+
+  empty : (w : List ℕ) → MayBeRead s w → w ≡ []
+  empty w may = ⊎_elim (λ image. settled_one s.log [] new.log s.sector false w image) (λ left. settled_one s.log [] new.log s.sector true w left.1) (read_cases s w may)
+
+  shows : (db w : List ℕ) → MayBeRead s w → IsImage s.sector s.tears s.db db → ShowsWhole size db w d
+  shows db w may image =
+      let same : db ≡ concat d = settled_one s.db (concat d) new.db s.sector s.tears db image in
+      let is : IsJust size d db = subst (λ (x : List ℕ). IsJust size d x) (sym same) just in
+      just_shows size db w d is (just_file size d db is_size is) (empty_front w (empty w may))
+
+  held : (i : ℕ) → i < 1 → IsHeld size (get_or (d ∷ []) i [])
+  held zero l = record {
+    some = base.pages_are.some;
+    full = full_pages size d base.pages_are.each;
+    few = base.pages_are.few;
+  }
+  held (suc i) l = absurd (omega arith)
+
+  pub fits_new : FitsAlone (beginning size d) s
+  fits_new = record {
+    count = refl;
+    disk = record {
+      suits = record {
+        sound = sound_new sector tears (concat d) s short new;
+        sectors = subst (λ n. IsSectorSize n) (sym new.sector) (size_is sector base.sector_size);
+        pages = is_size;
+        whole = λ torn. let le = base.whole (sym new.tears ∙ torn.0) in let lt = torn.1 in let e = new.sector in absurd (omega (arith, le, lt, e));
+      };
+      floor = omega arith;
+      held = held;
+      made = made_nothing size;
+      left = inl (
+        λ w may chance. (0, omega arith, omega arith, λ db image. shows db w may image),
+        λ w may header. let whole = header.whole in let long = ap length (empty w may) in absurd (omega (arith, whole, long)),
+      );
+      present = λ is. absurd (cc is);
+    };
+  }

@@ -1,0 +1,17 @@
+use Rattle.std.proofs.Common.{subst, sym, false, IfOk, None, ◌≡◌}
+use Rattle.sqworld.specs.Run.{act_of, answer_of, is_opening, is_crash}
+use Rattle.sqworld.specs.Engines.{EngineServes}
+use Rattle.sqworld.specs.declared.engine.Engine.{Engine}
+use Rattle.sqworld.specs.declared.engine.Engine.TheVariants.{Closed, Open}
+use Rattle.sqworld.proofs.Serving.{closed_serves, open_serves}
+use Rattle.sqworld.proofs.engine.Engine.call.Goals as goal
+
+pub returns-in-Closed-clause-serves : goal.returns-in-Closed-clause-serves
+returns-in-Closed-clause-serves c =
+    subst (λ (old : Engine). IfOk c.refuse-reply.result (λ reply. is_opening c.args.event.now ≡ false → is_crash c.args.event.now ≡ false → EngineServes c.args.page_size old (Closed c.refuse-reply.new.disk c.in-Closed.begun) (act_of c.args.event.now None None) (answer_of reply)))
+    (sym c.in-Closed.is) (closed_serves c.refuse-reply.result c.args.page_size c.args.event.now c.in-Closed.disk c.refuse-reply.new.disk c.in-Closed.begun c.refuse-reply.ensures.reply c.refuse-reply.ensures.disk)
+
+pub returns-in-Open-clause-serves : goal.returns-in-Open-clause-serves
+returns-in-Open-clause-serves c =
+    subst (λ (old : Engine). IfOk c.call-reply.result (λ reply. is_opening c.args.event.now ≡ false → is_crash c.args.event.now ≡ false → EngineServes c.args.page_size old (Open c.call-reply.new.self) (act_of c.args.event.now None None) (answer_of reply)))
+    (sym c.in-Open.is) (open_serves c.call-reply.result c.args.page_size c.args.event.now c.in-Open.session c.call-reply.new.self c.call-reply.ensures.serves)

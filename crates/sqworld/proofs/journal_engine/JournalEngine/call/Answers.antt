@@ -1,0 +1,18 @@
+use Rattle.std.proofs.Common.{subst, sym, false, IfOk, None, ◌≡◌}
+use Rattle.sqworld.specs.Run.{answer_of}
+use Rattle.sqworld.specs.JournalRun.{act_of, is_opening, is_crash}
+use Rattle.sqworld.specs.JournalEngines.{EngineServes}
+use Rattle.sqworld.specs.declared.journal_engine.JournalEngine.{JournalEngine}
+use Rattle.sqworld.specs.declared.journal_engine.JournalEngine.TheVariants.{Closed, Open}
+use Rattle.sqworld.proofs.JournalServing.{closed_serves, open_serves}
+use Rattle.sqworld.proofs.journal_engine.JournalEngine.call.Goals as goal
+
+pub returns-in-Closed-clause-serves : goal.returns-in-Closed-clause-serves
+returns-in-Closed-clause-serves c =
+    subst (λ (old : JournalEngine). IfOk c.refuse-reply.result (λ reply. is_opening c.args.event.now ≡ false → is_crash c.args.event.now ≡ false → EngineServes c.args.page_size old (Closed c.refuse-reply.new.disk) (act_of c.args.event.now None None) (answer_of reply)))
+    (sym c.in-Closed.is) (closed_serves c.refuse-reply.result c.args.page_size c.args.event.now c.in-Closed.disk c.refuse-reply.new.disk c.refuse-reply.ensures.reply c.refuse-reply.ensures.disk)
+
+pub returns-in-Open-clause-serves : goal.returns-in-Open-clause-serves
+returns-in-Open-clause-serves c =
+    subst (λ (old : JournalEngine). IfOk c.answer-reply.result (λ reply. is_opening c.args.event.now ≡ false → is_crash c.args.event.now ≡ false → EngineServes c.args.page_size old (Open c.answer-reply.new.roll) (act_of c.args.event.now None None) (answer_of reply)))
+    (sym c.in-Open.is) (open_serves c.answer-reply.result c.args.page_size c.args.event.now c.in-Open.roll c.answer-reply.new.roll c.answer-reply.ensures.serves)

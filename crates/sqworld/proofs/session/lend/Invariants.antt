@@ -1,0 +1,7 @@
+use Rattle.std.proofs.Common.{◌≡◌, take}
+use Rattle.sqval.specs.JudgedPages.{lent}
+use Rattle.sqworld.specs.Run.{numbered}
+use Rattle.sqworld.proofs.session.lend.Given as goal
+
+abbrev pub invariant-loop-page : goal.invariant-loop-page
+invariant-loop-page l = lent l.all.items ≡ numbered (take l.page-index l.pages)

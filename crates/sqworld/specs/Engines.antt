@@ -1,0 +1,115 @@
+-- How the engine of a run, or the disk without one, goes from one event to the next.
+use Rattle.std.specs.Prelude.{◌≡◌, ℕ, Bool, true, false, ◌&&◌, List, replicate, Option, Some, None, is_some, IfSome, Result, Ok, Err}
+use Rattle.crashdisk.specs.Call.{DiskState, of, IsCrash}
+use Rattle.crashdisk.specs.Choice.{naming_of, image_of}
+use Rattle.crashdisk.specs.Model.{state_of}
+use Rattle.crashdisk.specs.Stop.{no_stops}
+use Rattle.crashdisk.specs.declared.choice.Choice.{Choice}
+use Rattle.crashdisk.specs.declared.choice.FileChoice.{FileChoice}
+use Rattle.crashdisk.specs.declared.file.File.{File}
+use Rattle.crashdisk.specs.declared.file.File.TheVariants.{Db, Log}
+use Rattle.crashdisk.specs.declared.held.Part.{Part}
+use Rattle.crashdisk.specs.declared.model.ModelDisk.{ModelDisk}
+use Rattle.sqval.specs.Answers.{Answer, Done, NoReader, Refused, Crashed}
+use Rattle.walcore.specs.Machine.{Act, forgotten}
+use Rattle.walcore.specs.Fits.{Past, FitsAlone, AreFiles}
+use Rattle.sqworld.specs.Run.{act_of, answer_of, files_of, left_of, is_opening, is_crash}
+use Rattle.sqworld.specs.Sessions.{FitsSession, Serves, begun_by}
+use Rattle.sqworld.specs.declared.engine.Engine.{Engine}
+use Rattle.sqworld.specs.declared.engine.Engine.TheVariants.{Closed, Open}
+use Rattle.sqworld.specs.declared.engine.Given.{Given}
+use Rattle.sqworld.specs.declared.event.Event.{Event}
+use Rattle.sqworld.specs.declared.event.Event.TheVariants.{Read, End, StopAfter, StopAtSync, Fail, Crash}
+use Rattle.sqworld.specs.declared.reply.Crashed.{Crashed as CrashedLog}
+use Rattle.sqworld.specs.declared.reply.Reply.{Reply}
+
+-- what is said of a crash: what it left of the log, on a disk that tears alone
+abbrev pub SaysLeft : (tears : Bool) → Option CrashedLog → Crashed → Type 0
+SaysLeft true (Some crashed) left = left_of crashed ≡ left
+SaysLeft false None left = Unit {0}
+SaysLeft _ _ left = ⊥
+
+-- the file that a choice names
+abbrev pub chosen : FileChoice → File → DiskState → List ℕ
+chosen choice f s = image_of s.sector s.tears (of f s) (naming_of choice)
+
+-- a crash left the files that the choice names
+pub record IsLeftBy (tears : Bool) (choice : Choice) (left : Option CrashedLog) (old new : DiskState) : Type 0 where
+  pub crash : IsCrash (chosen choice.db Db old) (chosen choice.log Log old) old new
+  pub some : is_some left ≡ tears
+  pub says : old.tears ≡ tears → SaysLeft tears left (record { log = chosen choice.log Log old; kept = old.kept; handed = old.handed })
+
+-- ---- What is set of a modelled disk.
+
+abbrev pub stopping_after : (calls : ℕ) → ModelDisk → ModelDisk
+stopping_after calls disk = record disk { stops = record disk.stops { calls = Some calls } }
+
+abbrev pub stopping_at_sync : (syncs : ℕ) → ModelDisk → ModelDisk
+stopping_at_sync syncs disk = record disk { stops = record disk.stops { syncs = syncs } }
+
+pub record FailsAt (call : ℕ) (part : Part) (old new : ModelDisk) : Type 0 where
+  pub pick : new.part.pick.items ≡ part.pick.items
+  pub new_len : new.part.new_len ≡ part.new_len
+  pub rest : new ≡ record old { stops = record old.stops { fails = call }; part = new.part }
+
+-- a stop or a failure is set as the event says
+abbrev pub IsSetTo : Event → (old new : ModelDisk) → Type 0
+IsSetTo (StopAfter calls) old new = new ≡ stopping_after calls old
+IsSetTo (StopAtSync syncs) old new = new ≡ stopping_at_sync syncs old
+IsSetTo (Fail call part) old new = FailsAt call part old new
+IsSetTo event old new = Unit {0}
+
+-- What an event does to the disk itself: a crash leaves the files that its choice names, and nothing set.
+abbrev pub Happens : (tears : Bool) → Event → Option CrashedLog → (old new : ModelDisk) → Type 0
+Happens tears (Crash choice) left old new = IsLeftBy tears choice left (state_of old) (state_of new) × (new.stops ≡ no_stops)
+Happens tears event left old new = IsSetTo event old new
+
+-- what fits a disk without an engine
+pub record FitsClosed (past : Past) (begun : ℕ) (s : DiskState) : Type 0 where
+  pub alone : FitsAlone past s
+  pub is_closed : past.state.is_open ≡ false
+  pub readers : past.state.readers ≡ forgotten past.state.readers
+  pub tokens : past.tokens ≡ replicate begun None
+
+abbrev pub FitsEngine : Past → Engine → Type 0
+FitsEngine past (Closed disk begun) = FitsClosed past begun (state_of disk)
+FitsEngine past (Open session) = FitsSession past session
+
+abbrev pub model_of : Engine → ModelDisk
+model_of (Closed disk begun) = disk
+model_of (Open session) = session.wal.disk
+
+abbrev pub disk_of : Engine → DiskState
+disk_of engine = state_of (model_of engine)
+
+-- how many readers have begun
+abbrev pub begun_of : Engine → ℕ
+begun_of (Closed disk begun) = begun
+begun_of (Open session) = begun_by session
+
+abbrev pub EngineServes : (page_size : ℕ) (old new : Engine) → Act → Answer → Type 0
+EngineServes page_size old new act answer = Serves page_size (λ past. FitsEngine past old) (λ past. FitsEngine past new) (disk_of old) (disk_of new) act answer
+
+-- what is answered where no engine is there
+abbrev pub closed_answer : Event → Answer
+closed_answer (Read reader page) = NoReader
+closed_answer (End reader) = NoReader
+closed_answer (StopAfter n) = Done
+closed_answer (StopAtSync n) = Done
+closed_answer (Fail call part) = Done
+closed_answer event = Refused 1
+
+-- What was found is given at an opening, and that was there; what was left at a crash of a disk that tears; and the event
+-- happens, and is served.
+pub record Answers (page_size : ℕ) (tears : Bool) (event : Event) (old : Engine) (given : Given) (new : Engine) : Type 0 where
+  pub found : is_some given.found ≡ is_opening event
+  pub present : IfSome given.found (λ found. AreFiles (disk_of old) (files_of found))
+  pub crashed : is_some given.crashed ≡ (tears && is_crash event)
+  pub happens : Happens tears event given.crashed (model_of old) (model_of new)
+  pub serves : (disk_of old).tears ≡ tears → EngineServes page_size old new (act_of event given.found given.crashed) (answer_of given.reply)
+
+-- a reply alone
+abbrev pub IsAlone : {E : Type 0} → Result Reply E → Result Given E → Type 0
+IsAlone (Ok reply) (Ok given) = given ≡ record { reply = reply; found = None; crashed = None }
+IsAlone (Err e) (Err f) = Unit {0}
+IsAlone _ _ = ⊥

@@ -1,0 +1,10 @@
+pub mod Pages
+pub mod Bases
+pub mod Run
+pub mod Sessions
+pub mod Engines
+pub mod Lives
+pub mod Worlds
+pub mod JournalRun
+pub mod JournalEngines
+pub mod JournalWorlds

@@ -1,0 +1,45 @@
+-- How an engine and its readers go from one call to the next.
+use Rattle.std.specs.Prelude.{◌≡◌, ℕ, ◌+◌, ◌≤◌, List, ◌++◌, length, replicate, Option, None}
+use Rattle.crashdisk.specs.Call.{DiskState}
+use Rattle.crashdisk.specs.Model.{state_of}
+use Rattle.sqval.specs.Answers.{Answer}
+use Rattle.walcore.specs.Machine.{Act, Step}
+use Rattle.walcore.specs.Making.{Makes, Permits}
+use Rattle.walcore.specs.Fits.{Past, FitsCore}
+use Rattle.crashdisk.specs.Keeps.{IsSameDisk}
+use Rattle.walcore.specs.declared.reader.Reader.{Reader}
+use Rattle.sqworld.specs.declared.session.Session.{Session}
+
+-- the tokens of all readers, where the first ones are forgotten
+abbrev pub tokens_by : (first : ℕ) → List (Option Reader) → List (Option Reader)
+tokens_by first slots = replicate first None ++ slots
+
+abbrev pub tokens_of : Session → List (Option Reader)
+tokens_of session = tokens_by session.first session.slots.items
+
+-- how many readers have begun
+abbrev pub begun_by : Session → ℕ
+begun_by session = session.first + length session.slots.items
+
+-- what fits an engine and its readers
+pub record FitsSession (past : Past) (session : Session) : Type 0 where
+  pub core : FitsCore past session.wal.core (state_of session.wal.disk)
+  pub tokens : past.tokens ≡ tokens_of session
+
+-- The machine goes on by a row of its table, and what is handed along fits again.
+pub record ServesTo (past : Past) (act : Act) (answer : Answer) (FitsNext : Past → Type 0) (old new : DiskState) : Type 0 where
+  pub next : Past
+  pub refused : old.refused ≤ new.refused
+  pub row : Step past.state act answer old.refused new.refused next.state
+  pub makes : Makes past.state.page_size old.sector old.tears past.made act answer next.made
+  pub fits : FitsNext next
+  pub same : IsSameDisk old new
+
+-- One event, for whatever fits.
+abbrev pub Serves : (page_size : ℕ) (FitsOld FitsNext : Past → Type 0) (old new : DiskState) → Act → Answer → Type 0
+Serves page_size FitsOld FitsNext old new act answer =
+    (past : Past) → past.state.page_size ≡ page_size → FitsOld past → Permits past.made act answer → ServesTo past act answer FitsNext old new
+
+abbrev pub SessionServes : (page_size : ℕ) (old new : Session) → Act → Answer → Type 0
+SessionServes page_size old new act answer =
+    Serves page_size (λ past. FitsSession past old) (λ past. FitsSession past new) (state_of old.wal.disk) (state_of new.wal.disk) act answer

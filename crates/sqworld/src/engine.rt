@@ -1,0 +1,343 @@
+//! The engine of a run, or the disk that it is to be opened on.
+ghost use Rattle.std.specs.Prelude.{◌≡◌, ◌+◌, ◌<◌, ◌≤◌, ◌^◌, ℕ, Bool, false, Some, None, IfOk, OnOk, length};
+ghost use Rattle.crashdisk.specs.Call.{of, ArePresent};
+ghost use Rattle.crashdisk.specs.Model.{state_of};
+ghost use Rattle.crashdisk.specs.Stop.{no_stops};
+ghost use Rattle.sqval.specs.Answers.{Files};
+ghost use Rattle.walcore.specs.Machine.{Opens};
+ghost use Rattle.walcore.specs.Making.{Permits};
+ghost use Rattle.walcore.specs.Fits.{Past, FitsAlone, AreFiles};
+ghost use Rattle.sqworld.specs.Run.{act_of, answer_of, files_of, is_opening, is_crash, numbered};
+ghost use Rattle.sqworld.specs.Sessions.{ServesTo, SessionServes, begun_by};
+ghost use Rattle.sqworld.specs.Engines.{IsLeftBy, FailsAt, IsSetTo, IsAlone, closed_answer, FitsEngine, model_of, disk_of, begun_of, EngineServes, Answers};
+
+use crate::event::Event;
+use crate::reply::{Crashed, Found, Reply};
+use crate::session::Session;
+use crashdisk::{Choice, Disk, File, ModelDisk, Part};
+use sqval::PageSize;
+use std::alloc::{AllocError, Global};
+use walcore::{Refused, Wal, WalError};
+
+/// The engine, or no engine and the disk.
+pub enum Engine {
+    /// So many readers have begun, and none is open.
+    Closed { disk: ModelDisk, begun: usize },
+    Open(Session),
+}
+
+/// What an event gave.
+#[derive(Drop)]
+pub struct Given {
+    pub reply: Reply,
+    pub found: Option<Found>,
+    pub crashed: Option<Crashed>,
+}
+
+/// The bytes of a file.
+fn bytes_of(alloc: Global, disk: &ModelDisk, file: File) -> Result<Vec<u8>, AllocError>
+    ensures { IfOk result (λ bytes. ArePresent (of file (state_of disk.now)) bytes.items) }
+{
+    let mut bytes = Vec::new(alloc);
+    match disk.present(file, &mut bytes) {
+        Ok(()) => Ok(bytes),
+        Err(_) => Err(AllocError),
+    }
+}
+
+/// The bytes of both files.
+pub(crate) fn find(alloc: Global, disk: &ModelDisk) -> Result<Found, AllocError>
+    ensures { IfOk result (λ found. AreFiles (state_of disk.now) (files_of found)) }
+{
+    let db = bytes_of(alloc, disk, File::Db)?;
+    let log = bytes_of(alloc, disk, File::Log)?;
+    Ok(Found { db, log })
+}
+
+/// Places and bytes of writes.
+fn copy_writes(alloc: Global, writes: &[(u64, Vec<u8>)]) -> Result<Vec<(u64, Vec<u8>)>, AllocError>
+    ensures { IfOk result (λ copy. numbered copy.items ≡ numbered writes.now) }
+{
+    let mut copy = Vec::new(alloc);
+    for write in writes {
+        let bytes = Vec::from_slice(alloc, &write.1)?;
+        copy.push((write.0, bytes))?;
+    }
+    Ok(copy)
+}
+
+/// Crashes a disk, and answers what that left of the log of one that tears.
+pub(crate) fn crash_disk(
+    alloc: Global,
+    disk: &mut ModelDisk,
+    tears: bool,
+    choice: &Choice,
+) -> Result<Option<Crashed>, AllocError>
+    ensures left { IfOk result (λ left. IsLeftBy tears choice.now left (state_of disk.old) (state_of disk.new)) }
+    ensures cleared { OnOk result (disk.new.stops ≡ no_stops) }
+{
+    if !tears {
+        disk.crash(choice);
+        return Ok(None);
+    }
+    let since = disk.since();
+    let kept = Vec::from_slice(alloc, since.0)?;
+    let handed = copy_writes(alloc, since.1)?;
+    disk.crash(choice);
+    let log = Vec::from_slice(alloc, disk.since().0)?; // what a crash leaves is kept
+    Ok(Some(Crashed { log, kept, handed }))
+}
+
+/// Lets a call of the disk fail, of which this part is left.
+pub(crate) fn fail_disk(
+    alloc: Global,
+    disk: &mut ModelDisk,
+    call: u64,
+    part: &Part,
+) -> Result<(), AllocError>
+    ensures state { state_of disk.new ≡ state_of disk.old }
+    ensures set { OnOk result (FailsAt call part.now disk.old disk.new) }
+{
+    let pick = Vec::from_slice(alloc, &part.pick)?;
+    let new_len = part.new_len;
+    disk.fail(call, Part { pick, new_len });
+    Ok(())
+}
+
+/// Sets a stop or a failure.
+fn set_disk(alloc: Global, disk: &mut ModelDisk, event: &Event) -> Result<(), AllocError>
+    ensures state { state_of disk.new ≡ state_of disk.old }
+    ensures set { OnOk result (IsSetTo event.now disk.old disk.new) }
+{
+    match event {
+        Event::StopAfter(calls) => disk.stop_after(*calls),
+        Event::StopAtSync(syncs) => disk.stop_at_sync(*syncs),
+        Event::Fail { call, part } => fail_disk(alloc, disk, *call, part)?,
+        _ => (),
+    }
+    Ok(())
+}
+
+/// What a disk without an engine answers.
+fn refuse(alloc: Global, disk: &mut ModelDisk, event: &Event) -> Result<Reply, AllocError>
+    ensures reply { IfOk result (λ reply. answer_of reply ≡ closed_answer event.now) }
+    ensures disk { state_of disk.new ≡ state_of disk.old }
+    ensures set { OnOk result (IsSetTo event.now disk.old disk.new) }
+{
+    match event {
+        Event::Read { .. } | Event::End { .. } => Ok(Reply::NoReader),
+        Event::StopAfter(_) | Event::StopAtSync(_) | Event::Fail { .. } => {
+            set_disk(alloc, disk, event)?;
+            Ok(Reply::Done)
+        }
+        _ => Ok(Reply::Refused(WalError::Closed.number())),
+    }
+}
+
+impl Session {
+    /// How many calls the disk has refused.
+    fn refused(&mut self) -> u64
+        ensures value { result ≡ (state_of self.old.wal.disk).refused }
+        ensures same { self.new ≡ self.old }
+    {
+        self.wal.disk().refused()
+    }
+
+    /// Sets a stop or a failure of the disk.
+    fn set(&mut self, alloc: Global, event: &Event) -> Result<(), AllocError>
+        ensures core { self.new.wal.core ≡ self.old.wal.core }
+        ensures disk { state_of self.new.wal.disk ≡ state_of self.old.wal.disk }
+        ensures set { OnOk result (IsSetTo event.now self.old.wal.disk self.new.wal.disk) }
+        ensures first { self.new.first ≡ self.old.first }
+        ensures slots { self.new.slots ≡ self.old.slots }
+    {
+        set_disk(alloc, self.wal.disk(), event)
+    }
+
+    /// Answers an event that isn't an opening or a crash.
+    fn call(
+        &mut self,
+        alloc: Global,
+        page_size: PageSize,
+        event: &Event,
+    ) -> Result<Reply, AllocError>
+        requires { begun_by self.old < 2 ^ 63 }
+        ensures serves { IfOk result (λ reply. is_opening event.now ≡ false → is_crash event.now ≡ false → SessionServes page_size self.old self.new (act_of event.now None None) (answer_of reply)) }
+        ensures set { OnOk result (IsSetTo event.now self.old.wal.disk self.new.wal.disk) }
+        ensures begun { begun_by self.new ≤ begun_by self.old + 1 }
+    {
+        match event {
+            Event::Commit { pages, size } => self.commit(alloc, pages, *size),
+            Event::Sync => Ok(self.sync()),
+            Event::Checkpoint => Ok(self.checkpoint()),
+            Event::Restart { salt2 } => Ok(self.restart(*salt2)),
+            Event::Begin => self.begin(),
+            Event::Read { reader, page } => self.read(alloc, page_size, *reader, *page),
+            Event::End { reader } => Ok(self.end(*reader)),
+            _ => {
+                self.set(alloc, event)?;
+                Ok(Reply::Done)
+            }
+        }
+    }
+}
+
+/// Opens an engine on a disk.
+fn open_disk(
+    alloc: Global,
+    disk: ModelDisk,
+    begun: usize,
+    page_size: PageSize,
+    salts: (u32, u32),
+) -> (Engine, Reply)
+    ensures opens { (past : Past) (found : Files) → AreFiles (state_of disk) found → past.state.page_size ≡ page_size → FitsAlone past (state_of disk)
+        → length past.tokens ≡ begun → Permits past.made (Opens salts found) (answer_of result.1)
+        → ServesTo past (Opens salts found) (answer_of result.1) (λ next. FitsEngine next result.0) (state_of disk) (disk_of result.0) }
+    ensures begun { begun_of result.0 ≡ begun }
+{
+    match Wal::open(alloc, disk, page_size, salts) {
+        Ok(wal) => {
+            let session = Session::new(alloc, wal, begun);
+            (Engine::Open(session), Reply::Done)
+        }
+        Err(refused) => {
+            let Refused { error, disk } = refused;
+            let reply = Reply::Refused(error.number());
+            (Engine::Closed { disk, begun }, reply)
+        }
+    }
+}
+
+impl Engine {
+    /// How many calls the disk has refused.
+    pub fn refused(&mut self) -> u64
+        ensures value { result ≡ (disk_of self.old).refused }
+        ensures same { self.new ≡ self.old }
+    {
+        match self {
+            Engine::Closed { disk, .. } => disk.refused(),
+            Engine::Open(session) => session.refused(),
+        }
+    }
+
+    /// Ends all readers and gives the disk back, and how many readers have begun.
+    pub fn close(self) -> (ModelDisk, usize)
+        requires { begun_of self < 2 ^ 63 }
+        ensures disk { state_of result.0 ≡ disk_of self }
+        ensures begun { result.1 ≡ begun_of self }
+    {
+        match self {
+            Engine::Closed { disk, begun } => (disk, begun),
+            Engine::Open(session) => session.close(),
+        }
+    }
+
+    /// Opens the engine, after one that is there is given up.
+    fn open(
+        self,
+        alloc: Global,
+        page_size: PageSize,
+        salts: (u32, u32),
+    ) -> (Engine, Result<Given, AllocError>)
+        requires { begun_of self < 2 ^ 63 }
+        ensures answers { (tears : Bool) (event : Event) → event ≡ Event.Open salts → IfOk result.1 (λ given. Answers page_size tears event self given result.0) }
+        ensures begun { begun_of result.0 ≡ begun_of self }
+    {
+        let (disk, begun) = self.close();
+        match find(alloc, &disk) {
+            Ok(found) => {
+                let (engine, reply) = open_disk(alloc, disk, begun, page_size, salts);
+                let given = Given {
+                    reply,
+                    found: Some(found),
+                    crashed: None,
+                };
+                (engine, Ok(given))
+            }
+            Err(error) => (Engine::Closed { disk, begun }, Err(error)),
+        }
+    }
+
+    /// Crashes the disk.
+    fn crash(
+        self,
+        alloc: Global,
+        tears: bool,
+        choice: &Choice,
+    ) -> (Engine, Result<Given, AllocError>)
+        requires { begun_of self < 2 ^ 63 }
+        ensures answers { (page_size : ℕ) (event : Event) → event ≡ Event.Crash choice.now → IfOk result.1 (λ given. Answers page_size tears event self given result.0) }
+        ensures begun { begun_of result.0 ≡ begun_of self }
+    {
+        let (mut disk, begun) = self.close();
+        match crash_disk(alloc, &mut disk, tears, choice) {
+            Ok(crashed) => {
+                let given = Given {
+                    reply: Reply::Done,
+                    found: None,
+                    crashed,
+                };
+                (Engine::Closed { disk, begun }, Ok(given))
+            }
+            Err(error) => (Engine::Closed { disk, begun }, Err(error)),
+        }
+    }
+
+    /// Answers an event that isn't an opening or a crash.
+    fn call(
+        self,
+        alloc: Global,
+        page_size: PageSize,
+        event: &Event,
+    ) -> (Engine, Result<Reply, AllocError>)
+        requires { begun_of self < 2 ^ 63 }
+        ensures serves { IfOk result.1 (λ reply. is_opening event.now ≡ false → is_crash event.now ≡ false → EngineServes page_size self result.0 (act_of event.now None None) (answer_of reply)) }
+        ensures set { OnOk result.1 (IsSetTo event.now (model_of self) (model_of result.0)) }
+        ensures begun { begun_of result.0 ≤ begun_of self + 1 }
+    {
+        match self {
+            Engine::Closed { mut disk, begun } => {
+                let reply = refuse(alloc, &mut disk, event);
+                (Engine::Closed { disk, begun }, reply)
+            }
+            Engine::Open(mut session) => {
+                let reply = session.call(alloc, page_size, event);
+                (Engine::Open(session), reply)
+            }
+        }
+    }
+
+    /// Answers an event.
+    pub fn serve(
+        self,
+        alloc: Global,
+        page_size: PageSize,
+        tears: bool,
+        event: &Event,
+    ) -> (Engine, Result<Given, AllocError>)
+        requires { begun_of self < 2 ^ 63 }
+        ensures answers { IfOk result.1 (λ given. Answers page_size tears event.now self given result.0) }
+        ensures begun { begun_of result.0 ≤ begun_of self + 1 }
+    {
+        match event {
+            Event::Open { salts } => self.open(alloc, page_size, *salts),
+            Event::Crash(choice) => self.crash(alloc, tears, choice),
+            _ => {
+                let (engine, reply) = self.call(alloc, page_size, event);
+                (engine, alone(reply))
+            }
+        }
+    }
+}
+
+/// A reply, and nothing else.
+pub(crate) fn alone(reply: Result<Reply, AllocError>) -> Result<Given, AllocError>
+    ensures { IsAlone reply result }
+{
+    let reply = reply?;
+    Ok(Given {
+        reply,
+        found: None,
+        crashed: None,
+    })
+}

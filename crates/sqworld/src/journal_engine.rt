@@ -1,0 +1,256 @@
+//! The engine of a run over a rollback journal, or the disk that it is to be opened on.
+ghost use Rattle.std.specs.Prelude.{◌≡◌, ℕ, Bool, false, None, IfOk, OnOk};
+ghost use Rattle.crashdisk.specs.Model.{state_of};
+ghost use Rattle.sqval.specs.Answers.{Files, Done, Page};
+ghost use Rattle.rollcore.specs.Machine.{State, Opens, Commits, Reads};
+ghost use Rattle.rollcore.specs.Fits.{FitsDisk, AreFiles, answered};
+ghost use Rattle.sqworld.specs.Run.{answer_of, numbered};
+ghost use Rattle.sqworld.specs.JournalRun.{act_of, is_opening, is_crash};
+ghost use Rattle.sqworld.specs.JournalEngines.{IsSetTo, ServesTo, RollServes, closed_answer, FitsEngine, model_of, disk_of, EngineServes, Answers};
+
+use crate::engine::{Given, alone, crash_disk, fail_disk, find};
+use crate::journal_event::JEvent;
+use crate::reply::Reply;
+use crate::session::{lend, zeros};
+use crashdisk::{Choice, Disk, ModelDisk};
+use rollcore::{Refused, Roll, RollError};
+use sqval::PageSize;
+use std::alloc::{AllocError, Global};
+
+/// The engine, or no engine and the disk.
+pub enum JournalEngine {
+    Closed(ModelDisk),
+    Open(Roll<ModelDisk>),
+}
+
+/// What a commit answers.
+fn outcome(answer: Result<(), RollError>) -> Reply
+    ensures { answer_of result ≡ answered (λ _. Done) answer }
+{
+    match answer {
+        Ok(()) => Reply::Done,
+        Err(error) => Reply::Refused(error.number()),
+    }
+}
+
+/// What a read of these bytes answers.
+fn page_outcome(answer: Result<(), RollError>, bytes: Vec<u8>) -> Reply
+    ensures { answer_of result ≡ answered (λ _. Page bytes.items) answer }
+{
+    match answer {
+        Ok(()) => Reply::Page(bytes),
+        Err(error) => Reply::Refused(error.number()),
+    }
+}
+
+/// Commits pages.
+fn commit(
+    alloc: Global,
+    roll: &mut Roll<ModelDisk>,
+    pages: &[(u32, Vec<u8>)],
+    size: u32,
+    nonces: &[u32],
+) -> Result<Reply, AllocError>
+    ensures { (page_size : ℕ) → IfOk result (λ reply. RollServes page_size roll.old roll.new (Commits (numbered pages.now) size nonces.now) (answer_of reply)) }
+{
+    let all = lend(alloc, pages)?;
+    Ok(outcome(roll.commit(&all, size, nonces)))
+}
+
+/// Reads a page.
+fn read(
+    alloc: Global,
+    roll: &mut Roll<ModelDisk>,
+    page_size: PageSize,
+    page: u32,
+) -> Result<Reply, AllocError>
+    ensures { IfOk result (λ reply. RollServes page_size roll.old roll.new (Reads page) (answer_of reply)) }
+{
+    let mut out = zeros(alloc, page_size.get() as usize)?;
+    let answer = roll.read(page, &mut out);
+    Ok(page_outcome(answer, out))
+}
+
+/// Sets a stop or a failure.
+fn set_disk(alloc: Global, disk: &mut ModelDisk, event: &JEvent) -> Result<(), AllocError>
+    ensures state { state_of disk.new ≡ state_of disk.old }
+    ensures set { OnOk result (IsSetTo event.now disk.old disk.new) }
+{
+    match event {
+        JEvent::StopAfter(calls) => disk.stop_after(*calls),
+        JEvent::StopAtSync(syncs) => disk.stop_at_sync(*syncs),
+        JEvent::Fail { call, part } => fail_disk(alloc, disk, *call, part)?,
+        _ => (),
+    }
+    Ok(())
+}
+
+/// Sets a stop or a failure of an engine's disk.
+fn set(alloc: Global, roll: &mut Roll<ModelDisk>, event: &JEvent) -> Result<(), AllocError>
+    ensures core { roll.new.core ≡ roll.old.core }
+    ensures disk { state_of roll.new.disk ≡ state_of roll.old.disk }
+    ensures set { OnOk result (IsSetTo event.now roll.old.disk roll.new.disk) }
+{
+    set_disk(alloc, roll.disk(), event)
+}
+
+/// Answers an event that isn't an opening or a crash, with an engine.
+fn answer(
+    alloc: Global,
+    roll: &mut Roll<ModelDisk>,
+    page_size: PageSize,
+    event: &JEvent,
+) -> Result<Reply, AllocError>
+    ensures serves { IfOk result (λ reply. is_opening event.now ≡ false → is_crash event.now ≡ false → RollServes page_size roll.old roll.new (act_of event.now None None) (answer_of reply)) }
+    ensures set { OnOk result (IsSetTo event.now roll.old.disk roll.new.disk) }
+{
+    match event {
+        JEvent::Commit {
+            pages,
+            size,
+            nonces,
+        } => commit(alloc, roll, pages, *size, nonces),
+        JEvent::Read { page } => read(alloc, roll, page_size, *page),
+        _ => {
+            set(alloc, roll, event)?;
+            Ok(Reply::Done)
+        }
+    }
+}
+
+/// And without an engine.
+fn refuse(alloc: Global, disk: &mut ModelDisk, event: &JEvent) -> Result<Reply, AllocError>
+    ensures reply { IfOk result (λ reply. answer_of reply ≡ closed_answer event.now) }
+    ensures disk { state_of disk.new ≡ state_of disk.old }
+    ensures set { OnOk result (IsSetTo event.now disk.old disk.new) }
+{
+    match event {
+        JEvent::StopAfter(_) | JEvent::StopAtSync(_) | JEvent::Fail { .. } => {
+            set_disk(alloc, disk, event)?;
+            Ok(Reply::Done)
+        }
+        _ => Ok(Reply::Refused(RollError::Closed.number())),
+    }
+}
+
+/// Opens an engine on a disk.
+fn open_disk(alloc: Global, disk: ModelDisk, page_size: PageSize) -> (JournalEngine, Reply)
+    ensures { (past : State) (found : Files) → AreFiles (state_of disk) found → past.page_size ≡ page_size → FitsDisk past (state_of disk)
+        → ServesTo past (Opens found) (answer_of result.1) (λ next. FitsEngine next result.0) (state_of disk) (disk_of result.0) }
+{
+    match Roll::open(alloc, disk, page_size) {
+        Ok(roll) => (JournalEngine::Open(roll), Reply::Done),
+        Err(refused) => {
+            let Refused { error, disk } = refused;
+            let reply = Reply::Refused(error.number());
+            (JournalEngine::Closed(disk), reply)
+        }
+    }
+}
+
+impl JournalEngine {
+    /// How many calls the disk has refused.
+    pub fn refused(&mut self) -> u64
+        ensures value { result ≡ (disk_of self.old).refused }
+        ensures same { self.new ≡ self.old }
+    {
+        match self {
+            JournalEngine::Closed(disk) => disk.refused(),
+            JournalEngine::Open(roll) => roll.disk().refused(),
+        }
+    }
+
+    /// Gives the disk back.
+    pub fn close(self) -> ModelDisk
+        ensures { state_of result ≡ disk_of self }
+    {
+        match self {
+            JournalEngine::Closed(disk) => disk,
+            JournalEngine::Open(roll) => roll.into_disk(),
+        }
+    }
+
+    /// Opens the engine, after one that is there is given up.
+    fn open(self, alloc: Global, page_size: PageSize) -> (JournalEngine, Result<Given, AllocError>)
+        ensures { (tears : Bool) → IfOk result.1 (λ given. Answers page_size tears JEvent.Open self given result.0) }
+    {
+        let disk = self.close();
+        match find(alloc, &disk) {
+            Ok(found) => {
+                let (engine, reply) = open_disk(alloc, disk, page_size);
+                let given = Given {
+                    reply,
+                    found: Some(found),
+                    crashed: None,
+                };
+                (engine, Ok(given))
+            }
+            Err(error) => (JournalEngine::Closed(disk), Err(error)),
+        }
+    }
+
+    /// Crashes the disk.
+    fn crash(
+        self,
+        alloc: Global,
+        tears: bool,
+        choice: &Choice,
+    ) -> (JournalEngine, Result<Given, AllocError>)
+        ensures { (page_size : ℕ) → IfOk result.1 (λ given. Answers page_size tears (JEvent.Crash choice.now) self given result.0) }
+    {
+        let mut disk = self.close();
+        match crash_disk(alloc, &mut disk, tears, choice) {
+            Ok(crashed) => {
+                let given = Given {
+                    reply: Reply::Done,
+                    found: None,
+                    crashed,
+                };
+                (JournalEngine::Closed(disk), Ok(given))
+            }
+            Err(error) => (JournalEngine::Closed(disk), Err(error)),
+        }
+    }
+
+    /// Answers an event that isn't an opening or a crash.
+    fn call(
+        self,
+        alloc: Global,
+        page_size: PageSize,
+        event: &JEvent,
+    ) -> (JournalEngine, Result<Reply, AllocError>)
+        ensures serves { IfOk result.1 (λ reply. is_opening event.now ≡ false → is_crash event.now ≡ false → EngineServes page_size self result.0 (act_of event.now None None) (answer_of reply)) }
+        ensures set { OnOk result.1 (IsSetTo event.now (model_of self) (model_of result.0)) }
+    {
+        match self {
+            JournalEngine::Closed(mut disk) => {
+                let reply = refuse(alloc, &mut disk, event);
+                (JournalEngine::Closed(disk), reply)
+            }
+            JournalEngine::Open(mut roll) => {
+                let reply = answer(alloc, &mut roll, page_size, event);
+                (JournalEngine::Open(roll), reply)
+            }
+        }
+    }
+
+    /// Answers an event.
+    pub fn serve(
+        self,
+        alloc: Global,
+        page_size: PageSize,
+        tears: bool,
+        event: &JEvent,
+    ) -> (JournalEngine, Result<Given, AllocError>)
+        ensures { IfOk result.1 (λ given. Answers page_size tears event.now self given result.0) }
+    {
+        match event {
+            JEvent::Open => self.open(alloc, page_size),
+            JEvent::Crash(choice) => self.crash(alloc, tears, choice),
+            _ => {
+                let (engine, reply) = self.call(alloc, page_size, event);
+                (engine, alone(reply))
+            }
+        }
+    }
+}

@@ -1,0 +1,19 @@
+//! Whole runs of the engines over a modelled disk.
+#![tactic(auto)]
+
+mod base;
+mod engine;
+mod event;
+mod journal_engine;
+mod journal_event;
+pub mod journal_world;
+mod reply;
+mod session;
+pub mod world;
+
+pub use base::Base;
+pub use event::Event;
+pub use journal_event::JEvent;
+pub use journal_world::run_journal;
+pub use reply::{Crashed, Found, Reply, Run};
+pub use world::{NoMemory, run_wal};

@@ -1,0 +1,66 @@
+//! What is answered in a run.
+ghost use Rattle.std.specs.Prelude.{◌≡◌, []};
+
+use std::alloc::Global;
+
+/// What an event answers.
+#[derive(Debug, PartialEq, Eq, Drop)]
+pub enum Reply {
+    /// It was done.
+    Done,
+    /// A reader began, of this number.
+    Reader(u64),
+    /// The bytes of a page.
+    Page(Vec<u8>),
+    /// A checkpoint brought all of the log into the database file.
+    Complete,
+    /// A checkpoint brought a part of it there, since there are readers of an earlier commit.
+    Partial,
+    /// No reader of that number is open.
+    NoReader,
+    /// It was refused, for the reason of this number.
+    Refused(u8),
+}
+
+/// The bytes of both files when an opening begins.
+#[derive(Debug, PartialEq, Eq, Drop)]
+pub struct Found {
+    pub db: Vec<u8>,
+    pub log: Vec<u8>,
+}
+
+/// What a crash left of the log of a disk that tears; the bytes of the log at the last moment before it at which nothing of
+/// the log was unsynced; and place and bytes of each write into it since then that was made, or failed.
+#[derive(Debug, PartialEq, Eq, Drop)]
+pub struct Crashed {
+    pub log: Vec<u8>,
+    pub kept: Vec<u8>,
+    pub handed: Vec<(u64, Vec<u8>)>,
+}
+
+/// What a run answered: for each event a reply, and how many calls the disk had refused when it ended; for each opening what it
+/// found; and on a disk that tears, for each crash what it left.
+#[derive(Debug, PartialEq, Eq, Drop)]
+pub struct Run {
+    pub replies: Vec<Reply>,
+    pub refused: Vec<u64>,
+    pub found: Vec<Found>,
+    pub crashed: Vec<Crashed>,
+}
+
+impl Run {
+    /// Nothing is answered yet.
+    pub(crate) fn new(alloc: Global) -> Run
+        ensures replies { result.replies.items ≡ [] }
+        ensures refused { result.refused.items ≡ [] }
+        ensures found { result.found.items ≡ [] }
+        ensures crashed { result.crashed.items ≡ [] }
+    {
+        Run {
+            replies: Vec::new(alloc),
+            refused: Vec::new(alloc),
+            found: Vec::new(alloc),
+            crashed: Vec::new(alloc),
+        }
+    }
+}
