@@ -1,0 +1,196 @@
+//! Each call once, with ample memory, and what a write over two sectors may leave.
+
+use crashdisk::{Choice, Disk, DiskError, File, FileChoice, ModelDisk, Part, Rest};
+use std::alloc::Global;
+use std::test::Fail;
+
+/// A disk whose database has 512 bytes `A` that are down, and then `BBBB` at 510.
+fn written(alloc: Global) -> Result<ModelDisk, Fail> {
+    let mut disk = ModelDisk::new(alloc, 512, [65u8; 512].to_vec(alloc)?)?;
+    disk.write_at(File::Db, 510, b"BBBB")?;
+    Ok(disk)
+}
+
+/// A choice for the database: these numbers, otherwise the newest values, and the present length.
+fn picks(alloc: Global, numbers: [u64; 2]) -> Result<Choice, Fail> {
+    let db = FileChoice {
+        pick: numbers.to_vec(alloc)?,
+        torn: Vec::new(alloc),
+        rest: Rest::Newest,
+        len: None,
+    };
+    let log = Choice::newest(alloc).log;
+    Ok(Choice { db, log })
+}
+
+/// Whether the database has 509 bytes `A` and then these.
+fn ends_in(alloc: Global, disk: &ModelDisk, end: &[u8]) -> Result<bool, Fail> {
+    let mut bytes = Vec::new(alloc);
+    disk.present(File::Db, &mut bytes)?;
+    let before = bytes.len().saturating_sub(end.len());
+    Ok(before == 509 && bytes.ends_with(end) && bytes.iter().take(before).all(|byte| *byte == 65))
+}
+
+// `BBBB` at 510 of 512 bytes `A`; then two calls more, and a stop.
+#[test]
+fn a_stop(rt: HostRuntime) -> Result<(), Fail> {
+    let alloc = rt.alloc();
+    let mut disk = written(alloc)?;
+    assert_eq!(rt; disk.len(File::Db), Ok(514));
+    disk.stop_after(2);
+    disk.set_len(File::Db, 512)?;
+    disk.sync(File::Db)?;
+    assert_eq!(rt; disk.len(File::Db), Err(DiskError::Stopped));
+    assert_eq!(rt; disk.refused(), 1);
+    assert!(rt; ends_in(alloc, &disk, b"ABB")?);
+    disk.crash(&Choice::oldest(alloc));
+    disk.stop_at_sync(1);
+    assert_eq!(rt; disk.sync(File::Log), Err(DiskError::Stopped));
+    Ok(())
+}
+
+// What a crash may leave of it.
+#[test]
+fn crashes(rt: HostRuntime) -> Result<(), Fail> {
+    let alloc = rt.alloc();
+    let mut disk = written(alloc)?;
+    disk.crash(&Choice::oldest(alloc));
+    assert!(rt; ends_in(alloc, &disk, b"AAA")?);
+    let mut disk = written(alloc)?;
+    disk.crash(&Choice::newest(alloc));
+    assert!(rt; ends_in(alloc, &disk, b"ABBBB")?);
+    let mut disk = written(alloc)?;
+    disk.crash(&picks(alloc, [0, 1])?);
+    assert!(rt; ends_in(alloc, &disk, b"AAABB")?);
+    let mut disk = written(alloc)?;
+    disk.crash(&picks(alloc, [1, 0])?);
+    assert!(rt; ends_in(alloc, &disk, b"ABB\0\0")?);
+    Ok(())
+}
+
+// The same write fails, with its second sector and its length taken.
+#[test]
+fn a_write_fails(rt: HostRuntime) -> Result<(), Fail> {
+    let alloc = rt.alloc();
+    let mut disk = ModelDisk::new(alloc, 512, [65u8; 512].to_vec(alloc)?)?;
+    let half = Part {
+        pick: [0u32, 1].to_vec(alloc)?,
+        new_len: true,
+    };
+    disk.fail(1, half);
+    assert_eq!(rt;
+        disk.write_at(File::Db, 510, b"BBBB"),
+        Err(DiskError::Failed)
+    );
+    assert_eq!(rt; disk.len(File::Db), Ok(514));
+    assert!(rt; ends_in(alloc, &disk, b"AAABB")?);
+    disk.crash(&Choice::oldest(alloc));
+    assert!(rt; ends_in(alloc, &disk, b"ABB")?);
+    Ok(())
+}
+
+// A sync fails, and brings back the first value of the first sector.
+#[test]
+fn a_sync_fails(rt: HostRuntime) -> Result<(), Fail> {
+    let alloc = rt.alloc();
+    let mut disk = written(alloc)?;
+    let first = Part {
+        pick: [0u32].to_vec(alloc)?,
+        new_len: false,
+    };
+    disk.fail(2, first);
+    let mut bytes = [0u8; 2];
+    disk.read_at(File::Db, 510, &mut bytes)?;
+    assert_eq!(rt; bytes, [66, 66]);
+    assert_eq!(rt; disk.sync(File::Db), Err(DiskError::Failed));
+    disk.read_at(File::Db, 510, &mut bytes)?;
+    assert_eq!(rt; bytes, [65, 65]);
+    assert_eq!(rt; disk.refused(), 1);
+    Ok(())
+}
+
+/// The newest values, but of the database's sector 1 the last of these.
+fn torn(alloc: Global) -> Result<Choice, Fail> {
+    let mut choice = Choice::newest(alloc);
+    choice.db.torn.push((1, b"XXXX".to_vec(alloc)?))?;
+    choice.db.torn.push((1, b"CD".to_vec(alloc)?))?;
+    choice.db.torn.push((0, b"".to_vec(alloc)?))?;
+    choice.db.torn.push((7, b"ZZ".to_vec(alloc)?))?;
+    Ok(choice)
+}
+
+// A torn sector takes what is given for it, where it was touched.
+#[test]
+fn a_torn_sector(rt: HostRuntime) -> Result<(), Fail> {
+    let alloc = rt.alloc();
+    let mut disk = ModelDisk::tearing(alloc, 512, [65u8; 512].to_vec(alloc)?)?;
+    assert!(rt; disk.tears());
+    disk.set_len(File::Db, 513)?;
+    disk.write_at(File::Db, 512, b"BB")?;
+    disk.crash(&torn(alloc)?);
+    assert!(rt; ends_in(alloc, &disk, b"AAACD")?);
+    disk.crash(&torn(alloc)?);
+    assert!(rt; ends_in(alloc, &disk, b"AAACD")?);
+    let mut disk = written(alloc)?;
+    disk.crash(&torn(alloc)?);
+    assert!(rt; ends_in(alloc, &disk, b"ABBBB")?);
+    Ok(())
+}
+
+/// Whether these bytes of the log are kept, and so many writes since.
+fn keeps(disk: &ModelDisk, bytes: &[u8], writes: usize) -> bool {
+    let (kept, handed) = disk.since();
+    kept == bytes && handed.len() == writes
+}
+
+// What a disk that tears keeps of its log.
+#[test]
+fn what_was_kept(rt: HostRuntime) -> Result<(), Fail> {
+    let alloc = rt.alloc();
+    let mut disk = ModelDisk::tearing(alloc, 512, Vec::new(alloc))?;
+    disk.write_at(File::Log, 0, b"ab")?;
+    disk.write_at(File::Db, 0, b"no")?;
+    assert!(rt; keeps(&disk, b"", 1));
+    disk.sync(File::Db)?;
+    disk.write_at(File::Log, 2, b"cd")?;
+    assert!(rt; keeps(&disk, b"", 2));
+    disk.sync(File::Log)?;
+    assert!(rt; keeps(&disk, b"abcd", 0));
+    disk.write_at(File::Log, 1, b"x")?;
+    disk.set_len(File::Log, 3)?;
+    assert!(rt; keeps(&disk, b"abcd", 1));
+    disk.crash(&Choice::newest(alloc));
+    assert!(rt; keeps(&disk, b"axc", 0));
+    let whole = written(alloc)?;
+    assert!(rt; keeps(&whole, b"", 0));
+    Ok(())
+}
+
+// The choices are counted by digits: of both sectors, and then of the length.
+#[test]
+fn choices(rt: HostRuntime) -> Result<(), Fail> {
+    let alloc = rt.alloc();
+    let disk = written(alloc)?;
+    assert!(rt; disk.choice(7)?.is_some());
+    assert!(rt; disk.choice(8)?.is_none());
+    for (n, end) in [
+        (0u64, &b"AAA"[..]),
+        (3, b"ABB"),
+        (6, b"AAABB"),
+        (7, b"ABBBB"),
+    ] {
+        let mut disk = written(alloc)?;
+        if let Some(choice) = disk.choice(n)? {
+            disk.crash(&choice);
+        }
+        assert!(rt; ends_in(alloc, &disk, end)?);
+    }
+    let mut disk = ModelDisk::new(alloc, 512, Vec::new(alloc))?;
+    disk.set_len(File::Log, 1025)?;
+    assert!(rt; disk.choice(4)?.is_none());
+    if let Some(choice) = disk.choice(2)? {
+        disk.crash(&choice);
+    }
+    assert_eq!(rt; disk.len(File::Log), Ok(1024));
+    Ok(())
+}

@@ -1,0 +1,472 @@
+//! Worked rows.
+ghost use Rattle.std.specs.Prelude.{◌<◌, ◌≤◌, ◌^◌, ◌≡◌, IfOk, length};
+
+use sqpage::{
+    BtreePage, Cell, CheckError, DbHeader, Fault, Kind, PageSource, SliceSource, freelist,
+    links_of, payload, split,
+};
+use sqval::PageSize;
+use std::alloc::{AllocError, Global};
+use std::process::Abort;
+use std::test::Fail;
+
+#[test]
+fn splits(rt: HostRuntime) {
+    for (usable, payload, local) in [
+        (512, 477, 477),
+        (512, 478, 39),
+        (512, 547, 39),
+        (512, 600, 92),
+        (480, 445, 445),
+        (480, 446, 35),
+        (480, 511, 35),
+        (480, 600, 124),
+    ] {
+        assert_eq!(rt;
+            split(Kind::TableLeaf, usable, payload),
+            (local, payload - local)
+        );
+    }
+    for (usable, payload, local) in [
+        (512, 102, 102),
+        (512, 103, 39),
+        (480, 94, 94),
+        (480, 95, 35),
+    ] {
+        assert_eq!(rt;
+            split(Kind::IndexLeaf, usable, payload),
+            (local, payload - local)
+        );
+        assert_eq!(rt;
+            split(Kind::IndexInterior, usable, payload),
+            (local, payload - local)
+        );
+    }
+}
+
+/// A sound header.
+fn header(page_size: PageSize, pages: u32) -> DbHeader
+    ensures size { result.page_size ≡ page_size }
+    ensures reserved { result.reserved ≡ 0 }
+{
+    DbHeader {
+        page_size,
+        write_version: 1,
+        read_version: 1,
+        reserved: 0,
+        change_counter: 3,
+        size_in_pages: pages,
+        first_trunk: 0,
+        free_pages: 0,
+        schema_cookie: 5,
+        schema_format: 4,
+        cache_size: 6,
+        largest_root: 0,
+        text_encoding: 1,
+        user_version: 7,
+        incremental_vacuum: 0,
+        application_id: 0x0102_0304,
+        version_valid_for: 3,
+        writer_version: 3_046_000,
+    }
+}
+
+#[test]
+fn headers(rt: HostRuntime) {
+    let size = PageSize::new(65536).expect(&rt, "a page size");
+    let written = header(size, 9);
+    assert!(rt; size.get() == 65536);
+    let mut bytes = [0xee; 100];
+    written.write(&mut bytes);
+    assert!(rt; bytes[16..18] == [0, 1]);
+    assert!(rt; bytes[68..72] == [1, 2, 3, 4]);
+    assert!(rt; bytes[72..92] == [0; 20]);
+    assert_eq!(rt; DbHeader::read(&bytes), Ok(written));
+    for (at, value, fault) in [
+        (0, 0, Fault::Magic),
+        (17, 2, Fault::PageSize),
+        (22, 31, Fault::Fraction),
+    ] {
+        let mut changed = bytes;
+        changed[at] = value;
+        assert_eq!(rt; DbHeader::read(&changed), Err(fault));
+    }
+    bytes[16] = 2;
+    bytes[17] = 0;
+    bytes[20] = 32;
+    assert!(rt; DbHeader::read(&bytes).is_ok());
+    bytes[20] = 33;
+    assert_eq!(rt; DbHeader::read(&bytes), Err(Fault::Reserved));
+    assert!(rt; Fault::Reserved.number() == 4);
+    assert!(rt; Fault::Reserved.name() == "Reserved");
+}
+
+/// Puts a number of four bytes into a file.
+fn put(file: &mut [u8], at: usize, number: u32)
+    requires { at < 2 ^ 40 }
+{
+    for (i, byte) in number.to_be_bytes().iter().enumerate() {
+        if let Some(place) = file.get_mut(at + i) {
+            *place = *byte;
+        }
+    }
+}
+
+fn zeros(alloc: Global, count: usize) -> Result<Vec<u8>, AllocError>
+    ensures { IfOk result (λ bytes. length bytes.items ≡ count) }
+{
+    vec![in alloc; 0; count]
+}
+
+/// The freelist of a file in pages of 512 bytes whose header names page 2 as the first trunk.
+fn free_pages(rt: &impl Abort, alloc: Global, file: &[u8]) -> Result<Vec<u32>, CheckError> {
+    let size = PageSize::new(512).expect(rt, "a page size");
+    match SliceSource::new(file, size) {
+        Some(mut source) => freelist(alloc, &mut source),
+        None => Ok(Vec::new(alloc)),
+    }
+}
+
+#[test]
+fn a_long_freelist(rt: HostRuntime) -> Result<(), Fail> {
+    let mut file = zeros(rt.alloc(), 12701 * 512)?;
+    put(&mut file, 32, 2);
+    put(&mut file, 36, 12700);
+    for k in 0..100usize {
+        let trunk = 127 * k + 2;
+        let at = (trunk - 1) * 512;
+        let next = if k == 99 { 0 } else { trunk as u32 + 127 };
+        put(&mut file, at, next);
+        put(&mut file, at + 4, 126);
+        for i in 0..126usize {
+            put(&mut file, at + 8 + 4 * i, (trunk + 1 + i) as u32);
+        }
+    }
+    let found = free_pages(&rt, rt.alloc(), &file)?;
+    assert_eq!(rt; found.len(), 12700);
+    for (i, page) in found.iter().enumerate() {
+        assert!(rt; *page as usize == i + 2);
+    }
+    put(&mut file, 36, 12699);
+    assert_eq!(rt;
+        free_pages(&rt, rt.alloc(), &file).err(),
+        Some(CheckError {
+            page: 1,
+            fault: Fault::FreeCount
+        })
+    );
+    Ok(())
+}
+
+#[test]
+fn freelist_faults(rt: HostRuntime) -> Result<(), Fail> {
+    for (next, leaves, leaf, page, fault) in [
+        (2, 0, 0, 2, Fault::PageTwice),
+        (0, 1, 2, 2, Fault::PageTwice),
+        (0, 1, 0, 2, Fault::PageOutside),
+        (4, 1, 3, 2, Fault::PageOutside),
+        (0, 127, 3, 2, Fault::FreeCount),
+    ] {
+        let mut file = zeros(rt.alloc(), 3 * 512)?;
+        put(&mut file, 32, 2);
+        put(&mut file, 36, 2);
+        put(&mut file, 512, next);
+        put(&mut file, 516, leaves);
+        put(&mut file, 520, leaf);
+        assert_eq!(rt;
+            free_pages(&rt, rt.alloc(), &file).err(),
+            Some(CheckError { page, fault })
+        );
+    }
+    let empty = free_pages(&rt, rt.alloc(), &[])?;
+    assert!(rt; empty.is_empty());
+    Ok(())
+}
+
+#[test]
+fn sources(rt: HostRuntime) -> Result<(), Fail> {
+    let size = PageSize::new(512).expect(&rt, "a page size");
+    let mut file = zeros(rt.alloc(), 1024)?;
+    put(&mut file, 512, 0x0102_0304);
+    assert!(rt; SliceSource::new(&file[1..], size).is_none());
+    assert!(rt; second_page_begins(&file, size) == 1);
+    Ok(())
+}
+
+/// The first byte of page 2, or 0 where it can't be read.
+fn second_page_begins(file: &[u8], size: PageSize) -> u8 {
+    let mut page = [0; 512];
+    match SliceSource::new(file, size) {
+        Some(mut source) => {
+            let fits = source.count() >= 2 && source.page_size().get() == 512;
+            if fits && source.page(2, &mut page).is_ok() {
+                page[0]
+            } else {
+                0
+            }
+        }
+        None => 0,
+    }
+}
+
+#[test]
+fn a_table_leaf(rt: HostRuntime) -> Result<(), Fail> {
+    let size = PageSize::new(512).expect(&rt, "a page size");
+    let mut bytes = zeros(rt.alloc(), size.get() as usize)?;
+    assert!(rt; bytes.len() == 512);
+    bytes[..10].copy_from_slice(&[0x0d, 0, 0, 0, 1, 1, 0xf7, 0, 1, 0xf7]);
+    bytes[503..].copy_from_slice(&[7, 7, 5, 0, 9, 0x0f, 1, 0x61, 0xff]);
+    let page = BtreePage::new(&bytes, 2, 512).map_err(|_| "refused")?;
+    assert!(rt; page.kind() == Kind::TableLeaf);
+    assert!(rt; page.len() == 1);
+    assert!(rt; page.right().is_none());
+    let cell = page.cell(0);
+    assert!(rt; cell.page == 2 && cell.usable == 512 && cell.at == 503 && cell.overflow == 0);
+    assert!(rt; cell.child.is_none());
+    assert!(rt; cell.rowid == Some(7));
+    assert!(rt; cell.payload == Some(7));
+    assert!(rt; cell.local == [5, 0, 9, 0x0f, 1, 0x61, 0xff].as_slice());
+    Ok(())
+}
+
+/// The fault of a page of 512 bytes that begins so.
+fn page_fault(
+    rt: &impl Abort,
+    alloc: Global,
+    number: u32,
+    begin: &[u8],
+) -> Result<Option<Fault>, AllocError>
+    requires { 0 < number }
+{
+    let size = PageSize::new(512).expect(rt, "a page size");
+    let mut bytes = zeros(alloc, size.get() as usize)?;
+    let at = if number == 1 { 100 } else { 0 };
+    for (i, byte) in begin.iter().enumerate() {
+        if let Some(place) = bytes.get_mut(at + i) {
+            *place = *byte;
+        }
+    }
+    assert!(rt; bytes.len() == 512);
+    match BtreePage::new(&bytes, number, 512) {
+        Ok(_) => Ok(None),
+        Err(fault) => Ok(Some(fault)),
+    }
+}
+
+#[test]
+fn page_faults(rt: HostRuntime) -> Result<(), Fail> {
+    assert_eq!(rt;
+        page_fault(&rt, rt.alloc(), 1, &[0x0d, 0, 0, 0, 0, 2, 0, 0])?,
+        None
+    );
+    assert_eq!(rt; page_fault(&rt, rt.alloc(), 2, &[0x0c])?, Some(Fault::Kind));
+    assert_eq!(rt;
+        page_fault(&rt, rt.alloc(), 2, &[0x0d, 0, 0, 0, 0, 2, 1])?,
+        Some(Fault::CellOutside)
+    );
+    assert_eq!(rt;
+        page_fault(&rt, rt.alloc(), 2, &[0x0d, 0, 0, 1, 0, 2, 0])?,
+        Some(Fault::CellOutside)
+    );
+    assert_eq!(rt;
+        page_fault(&rt, rt.alloc(), 2, &[0x0d, 0, 0, 0, 1, 1, 0xf0, 0, 1, 0xef])?,
+        Some(Fault::CellOutside)
+    );
+    assert_eq!(rt;
+        page_fault(
+            &rt,
+            rt.alloc(),
+            2,
+            &[0x05, 0, 0, 0, 1, 1, 0xfc, 0, 0, 0, 0, 3, 1, 0xfc]
+        )?,
+        Some(Fault::CellOutside)
+    );
+    Ok(())
+}
+
+#[test]
+fn the_largest_page(rt: HostRuntime) -> Result<(), Fail> {
+    let size = PageSize::new(65536).expect(&rt, "a page size");
+    let mut bytes = zeros(rt.alloc(), size.get() as usize)?;
+    assert!(rt; bytes.len() == 65536);
+    bytes[0] = 0x0a;
+    let page = BtreePage::new(&bytes, 3, 65536).map_err(|_| "refused")?;
+    assert!(rt; page.kind() == Kind::IndexLeaf && page.len() == 0);
+    Ok(())
+}
+
+/// The payload of a cell on page 2 with 92 local bytes, in a file of pages of 512 bytes.
+fn whole_payload(
+    alloc: Global,
+    file: &[u8],
+    size: u64,
+    overflow: u32,
+) -> Result<Vec<u8>, CheckError>
+    requires { 92 ≤ size }
+{
+    let local = [9; 92];
+    let cell = Cell {
+        page: 2,
+        usable: 512,
+        at: 413,
+        child: None,
+        rowid: Some(1),
+        payload: Some(size),
+        local: &local,
+        overflow,
+    };
+    let mut out = Vec::new(alloc);
+    if let Some(page_size) = PageSize::new(512) {
+        match SliceSource::new(file, page_size) {
+            Some(mut source) => payload(alloc, &mut source, &cell, &mut out)?,
+            None => {}
+        }
+    }
+    Ok(out)
+}
+
+#[test]
+fn counts_links(rt: HostRuntime) -> Result<(), Fail> {
+    let local = [9; 92];
+    for (size, links) in [(92, 0), (93, 1), (600, 1), (601, 2), (1108, 2)] {
+        let cell = Cell {
+            page: 2,
+            usable: 512,
+            at: 413,
+            child: None,
+            rowid: Some(1),
+            payload: Some(size),
+            local: &local,
+            overflow: 3,
+        };
+        assert_eq!(rt; links_of(&cell), links);
+    }
+    Ok(())
+}
+
+#[test]
+fn payloads(rt: HostRuntime) -> Result<(), Fail> {
+    let mut file = zeros(rt.alloc(), 3 * 512)?;
+    put(&mut file, 1028, 0x0708_0000);
+    let whole = whole_payload(rt.alloc(), &file, 599, 3)?;
+    assert!(rt; whole.len() == 599);
+    assert!(rt; whole[91] == 9 && whole[92] == 7 && whole[93] == 8);
+    for (size, overflow, next, page, fault) in [
+        (2128, 3, 0, 2, Fault::ChainCut),
+        (600, 0, 0, 2, Fault::ChainCut),
+        (601, 3, 0, 3, Fault::ChainCut),
+        (600, 3, 1, 3, Fault::ChainLong),
+        (601, 3, 3, 3, Fault::PageTwice),
+        (601, 3, 4, 3, Fault::PageOutside),
+    ] {
+        put(&mut file, 1024, next);
+        let refused = whole_payload(rt.alloc(), &file, size, overflow);
+        assert_eq!(rt; refused.err(), Some(CheckError { page, fault }));
+    }
+    Ok(())
+}
+
+/// The fault in the layout of a page 2 of 512 bytes that is zero but for these pieces, each at its place.
+fn layout_fault(
+    rt: &impl Abort,
+    alloc: Global,
+    pieces: &[(usize, &[u8])],
+) -> Result<Option<Fault>, AllocError> {
+    let size = PageSize::new(512).expect(rt, "a page size");
+    let mut bytes = zeros(alloc, size.get() as usize)?;
+    for (at, piece) in pieces {
+        for (i, byte) in piece.iter().enumerate() {
+            if let Some(place) = bytes.get_mut(at.saturating_add(i)) {
+                *place = *byte;
+            }
+        }
+    }
+    assert!(rt; bytes.len() == 512);
+    match BtreePage::new(&bytes, 2, 512) {
+        Ok(page) => Ok(page.layout(alloc).err()),
+        Err(fault) => Ok(Some(fault)),
+    }
+}
+
+#[test]
+fn layouts(rt: HostRuntime) -> Result<(), Fail> {
+    let cell = [7, 7, 5, 0, 9, 0x0f, 1, 0x61, 0xff];
+    for (begin, at, piece, fault) in [
+        (
+            [0x0d, 0, 0, 0, 1, 1, 0xf7, 0, 1, 0xf7, 0, 0],
+            503,
+            cell.as_slice(),
+            None,
+        ),
+        (
+            [0x0d, 0, 0, 0, 1, 1, 0xf6, 1, 1, 0xf7, 0, 0],
+            503,
+            cell.as_slice(),
+            None,
+        ),
+        (
+            [0x0d, 0, 0, 0, 1, 1, 0xfe, 0, 1, 0xfe, 0, 0],
+            510,
+            [0, 1].as_slice(),
+            None,
+        ),
+        (
+            [0x0d, 1, 0xf4, 0, 0, 1, 0xf4, 0, 0, 0, 0, 0],
+            500,
+            [0, 0, 0, 12].as_slice(),
+            None,
+        ),
+        (
+            [0x0d, 1, 0xf0, 0, 0, 1, 0xf4, 0, 0, 0, 0, 0],
+            496,
+            [0, 0, 0, 4].as_slice(),
+            Some(Fault::Freeblock),
+        ),
+        (
+            [0x0d, 1, 0xf4, 0, 0, 1, 0xf4, 0, 0, 0, 0, 0],
+            500,
+            [0, 0, 0, 3].as_slice(),
+            Some(Fault::Freeblock),
+        ),
+        (
+            [0x0d, 1, 0xf4, 0, 0, 1, 0xf4, 0, 0, 0, 0, 0],
+            500,
+            [0, 0, 0, 13].as_slice(),
+            Some(Fault::Freeblock),
+        ),
+        (
+            [0x0d, 1, 0xf4, 0, 0, 1, 0xf4, 0, 0, 0, 0, 0],
+            500,
+            [1, 0xf4, 0, 4].as_slice(),
+            Some(Fault::Freeblock),
+        ),
+        (
+            [0x0d, 0, 0, 0, 1, 0, 9, 0, 1, 0xf7, 0, 0],
+            503,
+            cell.as_slice(),
+            Some(Fault::Overlap),
+        ),
+        (
+            [0x0d, 0, 0, 0, 2, 1, 0xf7, 0, 1, 0xf7, 1, 0xf7],
+            503,
+            cell.as_slice(),
+            Some(Fault::Overlap),
+        ),
+        (
+            [0x0d, 0, 0, 0, 1, 1, 0xf7, 1, 1, 0xf7, 0, 0],
+            503,
+            cell.as_slice(),
+            Some(Fault::Fragments),
+        ),
+        (
+            [0x0d, 0, 0, 0, 1, 1, 0xba, 61, 1, 0xf7, 0, 0],
+            503,
+            cell.as_slice(),
+            Some(Fault::Fragments),
+        ),
+    ] {
+        let pieces = [(0, begin.as_slice()), (at, piece)];
+        assert_eq!(rt; layout_fault(&rt, rt.alloc(), &pieces)?, fault);
+    }
+    Ok(())
+}

@@ -1,0 +1,241 @@
+//! Sweeps of the engine over a write-ahead log.
+
+use super::driving::{Answer, Step, Swept};
+use super::history::{Commit, Database};
+use super::pages::{numbered, page_of};
+use super::playing::Script;
+use super::sweeping::sweep;
+use crashdisk::ModelDisk;
+use sqval::PageSize;
+use std::alloc::Global;
+use std::test::Fail;
+use walcore::{Checkpointed, Refused, Wal, WalError};
+
+fn outcome(answer: Result<(), WalError>) -> Answer {
+    match answer {
+        Ok(()) => Answer::Done,
+        Err(error) => Answer::Refused(error.number()),
+    }
+}
+
+fn checkpoint_outcome(answer: Result<Checkpointed, WalError>) -> Answer {
+    match answer {
+        Ok(Checkpointed::Complete) => Answer::Complete,
+        Ok(Checkpointed::Partial) => Answer::Partial,
+        Err(error) => Answer::Refused(error.number()),
+    }
+}
+
+fn commit_pages(wal: &mut Wal<ModelDisk>, commit: Commit) -> Answer {
+    let content = page_of(commit.byte);
+    let all = numbered(&content);
+    match all.get(..commit.count as usize) {
+        Some(pages) => outcome(wal.commit(pages, commit.size)),
+        None => Answer::UNKNOWN,
+    }
+}
+
+impl Swept for Wal<ModelDisk> {
+    fn start(alloc: Global, disk: ModelDisk, number: u32) -> Result<Self, (ModelDisk, Answer)> {
+        let Some(page_size) = PageSize::new(512) else {
+            return Err((disk, Answer::UNKNOWN));
+        };
+        match Wal::open(alloc, disk, page_size, (7, number)) {
+            Ok(wal) => Ok(wal),
+            Err(Refused { error, disk }) => Err((disk, Answer::Refused(error.number()))),
+        }
+    }
+
+    fn settles(step: Step) -> bool {
+        match step {
+            Step::Open | Step::Sync | Step::Checkpoint => true,
+            Step::Commit(_) | Step::Restart => false,
+        }
+    }
+
+    fn serve(&mut self, step: Step, number: u32) -> Answer {
+        match step {
+            Step::Open => Answer::UNKNOWN,
+            Step::Commit(pages) => commit_pages(self, pages),
+            Step::Sync => outcome(self.sync()),
+            Step::Checkpoint => checkpoint_outcome(self.checkpoint()),
+            Step::Restart => outcome(self.restart(number)),
+        }
+    }
+
+    fn read_page(&mut self, number: u32, page: &mut [u8]) -> Answer {
+        let reader = match self.begin() {
+            Ok(reader) => reader,
+            Err(error) => return Answer::Refused(error.number()),
+        };
+        let answer = self.read(&reader, number, page);
+        self.end(reader);
+        outcome(answer)
+    }
+
+    fn lend(&mut self) -> &mut ModelDisk {
+        self.disk()
+    }
+
+    fn give_back(self) -> ModelDisk {
+        self.into_disk()
+    }
+}
+
+const ALONE_B: Step = Step::Commit(Commit {
+    count: 1,
+    byte: b'B',
+    size: 1,
+});
+
+const ALONE_C: Step = Step::Commit(Commit {
+    count: 1,
+    byte: b'C',
+    size: 1,
+});
+
+const ALONE_D: Step = Step::Commit(Commit {
+    count: 1,
+    byte: b'D',
+    size: 1,
+});
+
+const ONE_B: Step = Step::Commit(Commit {
+    count: 1,
+    byte: b'B',
+    size: 2,
+});
+
+const BOTH_C: Step = Step::Commit(Commit {
+    count: 2,
+    byte: b'C',
+    size: 2,
+});
+
+const ONE_D: Step = Step::Commit(Commit {
+    count: 1,
+    byte: b'D',
+    size: 2,
+});
+
+const BOTH_E: Step = Step::Commit(Commit {
+    count: 2,
+    byte: b'E',
+    size: 2,
+});
+
+/// Everything once, over one page.
+static ALONE: [Step; 8] = [
+    Step::Open,
+    ALONE_B,
+    Step::Sync,
+    ALONE_C,
+    Step::Checkpoint,
+    Step::Restart,
+    ALONE_D,
+    Step::Sync,
+];
+
+/// A commit that is synced, and one that isn't.
+static COMMITS: [Step; 4] = [Step::Open, ONE_B, Step::Sync, BOTH_C];
+
+/// A log of three frames is begun anew, with two frames over the old ones.
+static RESTART: [Step; 7] = [
+    Step::Open,
+    ONE_B,
+    BOTH_C,
+    Step::Checkpoint,
+    Step::Restart,
+    BOTH_E,
+    Step::Sync,
+];
+
+/// An engine is given up before its last commit is synced, and another one opened.
+static GIVEN_UP: [Step; 5] = [Step::Open, BOTH_C, Step::Open, ONE_D, Step::Sync];
+
+/// What another engine is asked after a failure.
+static AGAIN: [Step; 3] = [Step::Open, BOTH_E, Step::Sync];
+
+/// Each call of these steps is refused in each way; after a failure another engine goes on. Each opening after a crash is
+/// stopped.
+fn sweep_calls(
+    alloc: Global,
+    tears: bool,
+    base: [u8; 5],
+    (steps, again): (&[Step], &[Step]),
+    swept: &[usize],
+) -> Result<(), Fail> {
+    let script = Script {
+        tears,
+        base: Database(base),
+        steps,
+        again,
+    };
+    sweep::<Wal<ModelDisk>>(alloc, &script, swept)?;
+    Ok(())
+}
+
+/// Over one page.
+fn sweep_alone(alloc: Global, tears: bool, swept: &[usize]) -> Result<(), Fail> {
+    sweep_calls(alloc, tears, *b"A\0\0\0\0", (&ALONE, &AGAIN), swept)
+}
+
+/// Over two pages.
+fn sweep_both(alloc: Global, tears: bool, steps: &[Step], swept: &[usize]) -> Result<(), Fail> {
+    sweep_calls(alloc, tears, *b"AA\0\0\0", (steps, &AGAIN), swept)
+}
+
+#[test]
+fn first_commit(rt: HostRuntime) -> Result<(), Fail> {
+    sweep_alone(rt.alloc(), false, &[0, 1, 2])
+}
+
+#[test]
+fn second_commit(rt: HostRuntime) -> Result<(), Fail> {
+    sweep_alone(rt.alloc(), false, &[3])
+}
+
+#[test]
+fn checkpoint_and_restart(rt: HostRuntime) -> Result<(), Fail> {
+    sweep_alone(rt.alloc(), false, &[4, 5])
+}
+
+#[test]
+fn commit_after_restart(rt: HostRuntime) -> Result<(), Fail> {
+    sweep_alone(rt.alloc(), false, &[6, 7])
+}
+
+#[test]
+fn one_page_torn(rt: HostRuntime) -> Result<(), Fail> {
+    sweep_alone(rt.alloc(), true, &[0, 1, 2, 3, 4, 5, 6, 7])
+}
+
+#[test]
+fn two_pages(rt: HostRuntime) -> Result<(), Fail> {
+    sweep_both(rt.alloc(), false, &COMMITS, &[1, 2, 3])
+}
+
+#[test]
+fn two_pages_torn(rt: HostRuntime) -> Result<(), Fail> {
+    sweep_both(rt.alloc(), true, &COMMITS, &[1, 2, 3])
+}
+
+#[test]
+fn frames_over_others(rt: HostRuntime) -> Result<(), Fail> {
+    sweep_both(rt.alloc(), false, &RESTART, &[2, 3, 4, 5, 6])
+}
+
+#[test]
+fn frames_over_others_torn(rt: HostRuntime) -> Result<(), Fail> {
+    sweep_both(rt.alloc(), true, &RESTART, &[2, 3, 4, 5, 6])
+}
+
+#[test]
+fn given_up(rt: HostRuntime) -> Result<(), Fail> {
+    sweep_both(rt.alloc(), false, &GIVEN_UP, &[1, 2, 3, 4])
+}
+
+#[test]
+fn given_up_torn(rt: HostRuntime) -> Result<(), Fail> {
+    sweep_both(rt.alloc(), true, &GIVEN_UP, &[1, 2, 3, 4])
+}
