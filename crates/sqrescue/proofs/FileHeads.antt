@@ -10,6 +10,7 @@ use Rattle.std.proofs.lemmas.List.{get_or-take, get_or-drop, get_or_past, get_or
 use Rattle.std.proofs.lemmas.List.FromFn.{fill_by_all}
 use Rattle.sqval.specs.Bytes.{word}
 use Rattle.sqval.specs.Database.{file_page, file_pages}
+use Rattle.sqrescue.specs.Laid.{part_or_zeros}
 use Rattle.sqrescue.specs.LogView.{head_of, own_pages}
 
 pub drop_from : (at : ℕ) (file : List ℕ) → drop (min at (length file)) file ≡ drop at file
@@ -31,16 +32,20 @@ module _ (size at count : ℕ) (file rest : List ℕ) (is : rest ≡ drop at fil
       (λ above. get_or-append_right (take count rest) (replicate (size - count) 0) count k 0 front_long above ∙ get_or-replicate (size - count) (k - count) 0 0 (omega arith) ∙ sym (get_or_past file (at + k) 0 (omega (arith, long))))
       (cases_lt k count)
 
-  pub filled_page : take count rest ++ replicate (size - count) 0 ≡ map (λ i. get_or file (at + i) 0) (range_with_len 0 size)
-  filled_page = fill_by_all (λ i. get_or file (at + i) 0) (take count rest ++ replicate (size - count) 0) size 0
+  pub filled_part : take count rest ++ replicate (size - count) 0 ≡ map (λ i. get_or file (at + i) 0) (range_with_len 0 size)
+  filled_part = fill_by_all (λ i. get_or file (at + i) 0) (take count rest ++ replicate (size - count) 0) size 0
       (length-append (take count rest) (replicate (size - count) 0) ∙ omega (arith, front_long, length-replicate {A = ℕ} (size - count) 0)) each
 
--- what is copied and what is filled is the page
-pub page_copied : (size p count : ℕ) (file rest head back out : List ℕ) → rest ≡ drop (min ((p - 1) * size) (length file)) file → count ≡ min (length rest) size
-    → head ≡ take count rest → back ≡ replicate (size - count) 0 → out ≡ head ++ back → out ≡ file_page size file p
-unfolding file_page
-page_copied size p count file rest head back out is m a b e =
-    e ∙ ap (λ x. x ++ back) a ∙ ap (λ x. take count rest ++ x) b ∙ filled_page size ((p - 1) * size) count file rest (is ∙ drop_from ((p - 1) * size) file) m
+-- what is copied and what is filled is the part
+pub part_copied : (size at count : ℕ) (file rest head back out : List ℕ) → rest ≡ drop (min at (length file)) file → count ≡ min (length rest) size
+    → head ≡ take count rest → back ≡ replicate (size - count) 0 → out ≡ head ++ back → out ≡ part_or_zeros size at file
+unfolding part_or_zeros
+part_copied size at count file rest head back out is m a b e =
+    e ∙ ap (λ x. x ++ back) a ∙ ap (λ x. take count rest ++ x) b ∙ filled_part size at count file rest (is ∙ drop_from at file) m
+
+pub page_is_part : (size p : ℕ) (file : List ℕ) → part_or_zeros size ((p - 1) * size) file ≡ file_page size file p
+unfolding file_page part_or_zeros
+page_is_part size p file = refl
 
 pub head_is : (file : List ℕ) → file_page 100 file 1 ≡ head_of file
 unfolding head_of

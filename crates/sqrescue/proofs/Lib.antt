@@ -4,16 +4,3 @@ pub mod Recorded
 pub mod Framed
 pub mod Opening
 pub mod Lines
-pub mod Stepped
-pub mod Based
-pub mod Resting
-pub mod Serving
-pub mod PageSizes
-pub mod Moments
-pub mod Going
-pub mod Worlds
-pub mod JournalResting
-pub mod JournalServing
-pub mod JournalMoments
-pub mod JournalGoing
-pub mod JournalWorlds

@@ -1,5 +1,5 @@
 -- What a view shows, and what refuses it.
-use Rattle.std.proofs.Common.{◌≡◌, ◌≢◌, inl, inr, ⊎_elim, ℕ, suc, ◌-◌, ◌*◌, ◌^◌, ◌<◌, ◌≤◌, List, [], length, get_or, take, refl, sym, ◌∙◌, ap, subst, arith}
+use Rattle.std.proofs.Common.{◌≡◌, ◌≢◌, inl, inr, ⊎_elim, ℕ, suc, ◌-◌, ◌*◌, ◌^◌, ◌<◌, ◌≤◌, List, length, get_or, take, refl, sym, ◌∙◌, ap, subst, arith, []}
 use Rattle.std.specs.Prelude.{Option, Some, None, Result, Ok, Err}
 use Rattle.std.proofs.lemmas.Result.{err_from_is_err_and}
 use Rattle.std.specs.Result.{IsErrAnd}
@@ -13,7 +13,6 @@ use Rattle.sqwal.specs.View.{IsView}
 use Rattle.sqwal.specs.Answers.{IsCommitted}
 use Rattle.sqwal.specs.Took.{Took}
 use Rattle.sqwal.specs.declared.scan.Scan.{Scan}
-use Rattle.sqwal.proofs.ScanAnswers.{entries_are}
 use Rattle.sqwal.specs.declared.scan.Front.{Front}
 use Rattle.sqwal.proofs.Views.{front_unique}
 use Rattle.sqjournal.specs.Header.{IsFirstHeader, IsRefused, Names}
@@ -25,7 +24,7 @@ use Rattle.sqjournal.specs.declared.header.JournalHeader.{JournalHeader}
 use Rattle.sqjournal.proofs.Standing.{front_first, front_names, front_refused}
 use Rattle.sqpage.specs.Header.{HasMagic, HasPageSize, size_named}
 use Rattle.sqpage.specs.declared.fault.Fault.TheVariants as faults
-use Rattle.sqrescue.specs.LogView.{most_bytes, head_of, own_pages, IsLogged, IsAlone, AreTwoLogs, IsTooLong, IsAbove, ViewRefused, pages_of, ViewAnswer}
+use Rattle.sqrescue.specs.LogView.{most_bytes, head_of, own_pages, IsLogged, IsAlone, AreTwoLogs, IsTooLong, IsAbove, ViewRefused, pages_of, IsShown, ViewAnswer}
 use Rattle.sqrescue.specs.ViewParts.{ReplayedAnswer, ScannedAnswer, LimitAnswer, IsUnsized}
 use Rattle.sqrescue.specs.declared.view.View.{View}
 use Rattle.sqrescue.specs.declared.view_error.ViewError.{ViewError}
@@ -36,8 +35,9 @@ use Rattle.sqrescue.proofs.Laying.{length_laid, page_laid, laid_own}
 pub passed : {T : Type 0} (r : Result T ViewError) (e : ViewError) → IsErrAnd r (λ x. x ≡ e) → r ≡ Err e
 passed r e is = let p = err_from_is_err_and r is in p.1 ∙ ap Err p.2
 
-pub answers : (db wal journal : List ℕ) (q : Result View ViewError) (e : ViewError) → q ≡ Err e → ViewRefused db wal journal e → ViewAnswer db wal journal q
-answers db wal journal q e is bad = subst (λ (x : Result View ViewError). ViewAnswer db wal journal x) (sym is) bad
+pub answers : {F : Type 0} (bytes : F → List ℕ) (db wal journal : List ℕ) (q : Result (View F) ViewError) (e : ViewError) → IsErrAnd q (λ x. x ≡ e) → ViewRefused db wal journal e
+    → ViewAnswer bytes db wal journal q
+answers {F = F} bytes db wal journal q e is bad = subst (λ (x : Result (View F) ViewError). ViewAnswer bytes db wal journal x) (sym (passed q e is)) bad
 
 -- ---- The first header of a journal.
 
@@ -72,14 +72,14 @@ module _ (db wal journal : List ℕ) (alone : IsAlone wal journal) where
   not_two two = alone.cold two.0
 
   module _ (short : ¬ IsTooLong wal journal) where
-    pub own_unsized : (e : ViewError) → IsUnsized (head_of db) e → ¬ HasPageSize (head_of db) → ViewAnswer db wal journal (Err e)
+    pub own_unsized : (e : ViewError) → IsUnsized (head_of db) e → ¬ HasPageSize (head_of db) → ViewRefused db wal journal e
     own_unsized (Header faults.Magic) bad none = (short, λ above. let o = above_own above in none (subst IsPageSize o.2 o.1), alone, bad)
     own_unsized (Header faults.PageSize) bad none = (short, λ above. let o = above_own above in none (subst IsPageSize o.2 o.1), alone, bad, none)
     own_unsized (Header _) bad none = absurd bad
     own_unsized _ bad none = absurd bad
 
     module _ (size : ℕ) (is : IsPageSize size) (named : size ≡ size_named (head_of db)) where
-      pub own_limited : (e : ViewError) → LimitAnswer size (own_pages size db) (Err e) → ViewAnswer db wal journal (Err e)
+      pub own_limited : (e : ViewError) → LimitAnswer size (own_pages size db) (Err e) → ViewRefused db wal journal e
       own_limited TooLarge more = (not_two, inr (short, (size, own_pages size db, inr (inr (alone, is, named, refl)), more)))
       own_limited _ more = absurd more
 
@@ -87,19 +87,20 @@ module _ (db wal journal : List ℕ) (alone : IsAlone wal journal) where
       own_within le above = let o = above_own above in let same : o.0 ≡ size = o.2 ∙ sym named in
           let more : most_bytes < own_pages size db * size = subst (λ (n : ℕ). most_bytes < own_pages n db * n) same o.3 in omega arith
 
-      pub own_magic : (n : ℕ) → LimitAnswer size (own_pages size db) (Ok n) → ¬ HasMagic (head_of db) → ViewAnswer db wal journal (Err (Header faults.Magic))
+      pub own_magic : (n : ℕ) → LimitAnswer size (own_pages size db) (Ok n) → ¬ HasMagic (head_of db) → ViewRefused db wal journal (Header faults.Magic)
       own_magic n le bad = (short, own_within le.1, alone, bad)
 
-      pub own_shown : (v : View) → LimitAnswer size (own_pages size db) (Ok v.count) → HasMagic (head_of db) → v.page_size ≡ size → v.db.now ≡ db → v.places.items ≡ [] → ViewAnswer db wal journal (Ok v)
-      own_shown v le magic s d none = record {
+      pub own_shown : {F : Type 0} (bytes : F → List ℕ) (v : View F) → LimitAnswer size (own_pages size db) (Ok v.count) → HasMagic (head_of db) → v.page_size ≡ size → bytes v.db ≡ db → v.places.items ≡ []
+          → IsShown bytes db wal journal v
+      own_shown bytes v le magic s d none = record {
         shows = inr (inr (
           alone,
           record {
             size_is = subst IsPageSize (sym s) is;
             named = s ∙ named;
-            count = length_laid v.page_size v.count v.db.now v.log.now v.places.items ∙ le.0 ∙ ap (λ n. own_pages n db) (sym s);
-            each = λ p one most. page_laid v.page_size v.count v.db.now v.log.now v.places.items p one (omega (arith, length_laid v.page_size v.count v.db.now v.log.now v.places.items))
-                ∙ laid_own v.page_size v.db.now v.log.now v.places.items p (ap (λ l. get_or l (p - 1) 0) none) ∙ ap (λ l. file_page v.page_size l p) d;
+            count = length_laid v.page_size v.count (bytes v.db) v.log.now v.places.items ∙ le.0 ∙ ap (λ n. own_pages n db) (sym s);
+            each = λ p one most. page_laid v.page_size v.count (bytes v.db) v.log.now v.places.items p one (omega (arith, length_laid v.page_size v.count (bytes v.db) v.log.now v.places.items))
+                ∙ laid_own v.page_size (bytes v.db) v.log.now v.places.items p (ap (λ l. get_or l (p - 1) 0) none) ∙ ap (λ l. file_page v.page_size l p) d;
           },
         ));
         one = not_two;
@@ -114,7 +115,7 @@ module _ (db journal : List ℕ) (hot : IsHot journal) where
   just_one : ¬ AreTwoLogs [] journal
   just_one two = two.1 refl
 
-  pub replay_refused : (e : ViewError) → ReplayedAnswer journal (Err e) → ViewAnswer db [] journal (Err e)
+  pub replay_refused : (e : ViewError) → ReplayedAnswer journal (Err e) → ViewRefused db [] journal e
   replay_refused TooLarge long = (just_one, inl (inl (hot, long)))
   replay_refused NoMemory long = tt
   replay_refused _ long = absurd long
@@ -123,7 +124,7 @@ module _ (db journal : List ℕ) (hot : IsHot journal) where
     not_long : ¬ IsTooLong [] journal
     not_long long = ⊎_elim (λ x. omega (arith, x.1)) (λ x. x.0 hot) long
 
-    pub restored_limited : (e : ViewError) → LimitAnswer size count (Err e) → ViewAnswer db [] journal (Err e)
+    pub restored_limited : (e : ViewError) → LimitAnswer size count (Err e) → ViewRefused db [] journal e
     restored_limited TooLarge more = (just_one, inr (not_long, (size, count, inl (hot, s, c), more)))
     restored_limited _ more = absurd more
 
@@ -133,8 +134,8 @@ module _ (db journal : List ℕ) (hot : IsHot journal) where
         let more : most_bytes < count * size = subst (λ (n : ℕ). most_bytes < n * size) f (subst (λ (n : ℕ). most_bytes < above.1 * n) e above.3) in omega arith)
         (⊎_elim (λ x. x.1.cold hot) (λ x. x.0.cold hot)) above.2
 
-    pub restored_shown : (v : View) → LimitAnswer size count (Ok v.count) → v.page_size ≡ word journal 24 → IsRolledBack db journal (pages_of v) → ViewAnswer db [] journal (Ok v)
-    restored_shown v le e is = record {
+    pub restored_shown : {F : Type 0} (bytes : F → List ℕ) (v : View F) → LimitAnswer size count (Ok v.count) → v.page_size ≡ word journal 24 → IsRolledBack db journal (pages_of bytes v) → IsShown bytes db [] journal v
+    restored_shown bytes v le e is = record {
       shows = inl (hot, e, is);
       one = just_one;
       short = not_long;
@@ -143,15 +144,6 @@ module _ (db journal : List ℕ) (hot : IsHot journal) where
     }
 
 -- ---- A log.
-
--- a scan takes no more frames
-pub few_frames : (w : List ℕ) (scan : Scan) → Took w scan → IsValidFrame (named_size w) w (suc most_frames) → ⊥
-unfolding Took
-few_frames w scan took valid =
-    let are = entries_are w scan.held.items scan.frames.entries.items scan.frames.progress scan.header took.1 in
-    let most : length scan.frames.entries.items ≤ most_frames = are.most in
-    let le : suc most_frames ≤ length scan.frames.entries.items = are.all (suc most_frames) valid in
-    omega arith
 
 pub front_valid : (size : ℕ) (w : List ℕ) (m : ℕ) → IsFront size w m → m ≢ 0 → IsValidFrame size w m
 front_valid size w m is some = ⊎_elim (λ e. absurd (some e)) (λ v. v.0) is.is
@@ -167,7 +159,7 @@ module _ (db wal journal : List ℕ) (cold : ¬ IsHot journal) where
   cold_one : ¬ AreTwoLogs wal journal
   cold_one two = cold two.0
 
-  pub scan_refused : (e : ViewError) → ScannedAnswer wal (Err e) → ViewAnswer db wal journal (Err e)
+  pub scan_refused : (e : ViewError) → ScannedAnswer wal (Err e) → ViewRefused db wal journal e
   scan_refused TooLarge long = (cold_one, inl (inr (cold, long)))
   scan_refused NoMemory long = tt
   scan_refused _ long = absurd long
@@ -192,7 +184,7 @@ module _ (db wal journal : List ℕ) (cold : ¬ IsHot journal) where
       count_is : f.size ≡ size_of size wal f.frames
       count_is = is.some (omega arith) ∙ ap (λ n. size_of n wal f.frames) named
 
-      pub logged_limited : (e : ViewError) → LimitAnswer size f.size (Err e) → ViewAnswer db wal journal (Err e)
+      pub logged_limited : (e : ViewError) → LimitAnswer size f.size (Err e) → ViewRefused db wal journal e
       logged_limited TooLarge more = (cold_one, inr (not_so_long, (size, f.size, inr (inl (f.frames, here, sym named, count_is)), more)))
       logged_limited _ more = absurd more
 
@@ -205,9 +197,9 @@ module _ (db wal journal : List ℕ) (cold : ¬ IsHot journal) where
           (λ x. let zero : f.frames ≡ 0 = front_unique (named_size wal) wal f.frames 0 is.front x.0.none in some zero))
           above.2
 
-      pub logged_shown : (v : View) → LimitAnswer size f.size (Ok v.count) → v.page_size ≡ size → IsView size db wal f.frames (pages_of v) → ViewAnswer db wal journal (Ok v)
-      logged_shown v le e view = record {
-        shows = inr (inl (f.frames, here, e ∙ sym named, subst (λ (n : ℕ). IsView n db wal f.frames (pages_of v)) (sym e) view));
+      pub logged_shown : {F : Type 0} (bytes : F → List ℕ) (v : View F) → LimitAnswer size f.size (Ok v.count) → v.page_size ≡ size → IsView size db wal f.frames (pages_of bytes v) → IsShown bytes db wal journal v
+      logged_shown bytes v le e view = record {
+        shows = inr (inl (f.frames, here, e ∙ sym named, subst (λ (n : ℕ). IsView n db wal f.frames (pages_of bytes v)) (sym e) view));
         one = cold_one;
         short = not_so_long;
         within = logged_within le.1;

@@ -4,6 +4,10 @@ use Rattle.std.specs.List.{range_with_len}
 use Rattle.sqval.specs.Bytes.{part}
 use Rattle.sqval.specs.Database.{Database, file_page}
 
+-- so many bytes of a file from a place on, with zeros past the file's end
+unfoldable pub part_or_zeros : (size at : ℕ) → (file : List ℕ) → List ℕ
+part_or_zeros size at file = map (λ i. get_or file (at + i) 0) (range_with_len 0 size)
+
 -- where page p's bytes begin in the log, 0 where the file's own count
 abbrev pub place_of : (places : List ℕ) → (p : ℕ) → ℕ
 place_of places p = get_or places (p - 1) 0

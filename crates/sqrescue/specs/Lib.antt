@@ -3,13 +3,4 @@ pub mod Laid
 pub mod Line
 pub mod LogView
 pub mod ViewParts
-pub mod Pages
-pub mod Bases
-pub mod Run
-pub mod Sessions
-pub mod Engines
-pub mod Worlds
-pub mod JournalRun
-pub mod JournalEngines
-pub mod JournalWorlds
 pub mod Verdicts

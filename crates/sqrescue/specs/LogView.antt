@@ -14,7 +14,7 @@ use Rattle.sqpage.specs.declared.fault.Fault.TheVariants as faults
 use Rattle.sqrescue.specs.Laid.{laid}
 use Rattle.sqrescue.specs.declared.view.View.{View}
 use Rattle.sqrescue.specs.declared.view_error.ViewError.{ViewError}
-use Rattle.sqrescue.specs.declared.view_error.ViewError.TheVariants.{TwoLogs, TooLarge, Header, NoMemory}
+use Rattle.sqrescue.specs.declared.view_error.ViewError.TheVariants.{TwoLogs, TooLarge, Header, Unread, NoMemory}
 
 -- the most bytes of a database (own)
 abbrev pub most_bytes : ℕ
@@ -76,26 +76,28 @@ IsTooLong wal journal = (IsHot journal × (2 ^ 40 < length journal)) ⊎ ((¬ Is
 abbrev pub IsAbove : (db wal journal : List ℕ) → Type 0
 IsAbove db wal journal = (size : ℕ) × (count : ℕ) × HasSizes size count db wal journal × (most_bytes < count * size)
 
--- what refuses a view: the first condition that holds
+-- what refuses a view, where the file is read: the first condition that holds
 abbrev pub ViewRefused : (db wal journal : List ℕ) → ViewError → Type 0
 ViewRefused db wal journal TwoLogs = AreTwoLogs wal journal
 ViewRefused db wal journal TooLarge = (¬ AreTwoLogs wal journal) × (IsTooLong wal journal ⊎ ((¬ IsTooLong wal journal) × IsAbove db wal journal))
 ViewRefused db wal journal (Header faults.Magic) = (¬ IsTooLong wal journal) × (¬ IsAbove db wal journal) × IsAlone wal journal × ¬ HasMagic (head_of db)
 ViewRefused db wal journal (Header faults.PageSize) = (¬ IsTooLong wal journal) × (¬ IsAbove db wal journal) × IsAlone wal journal × HasMagic (head_of db) × ¬ HasPageSize (head_of db)
 ViewRefused db wal journal (Header _) = ⊥
+ViewRefused db wal journal Unread = ⊥
 ViewRefused db wal journal NoMemory = Unit {0}
 
-abbrev pub pages_of : View → Database
-pages_of v = laid v.page_size v.count v.db.now v.log.now v.places.items
+-- the pages of a view, by what its file has
+abbrev pub pages_of : {F : Type 0} → (bytes : F → List ℕ) → View F → Database
+pages_of bytes v = laid v.page_size v.count (bytes v.db) v.log.now v.places.items
 
 -- a view of these files that is not refused
-pub record IsShown (db wal journal : List ℕ) (v : View) : Type 0 where
-  pub shows : Views v.page_size db wal journal (pages_of v)
+pub record IsShown {F : Type 0} (bytes : F → List ℕ) (db wal journal : List ℕ) (v : View F) : Type 0 where
+  pub shows : Views v.page_size db wal journal (pages_of bytes v)
   pub one : ¬ AreTwoLogs wal journal
   pub short : ¬ IsTooLong wal journal
   pub within : ¬ IsAbove db wal journal
   pub headed : IsAlone wal journal → HasMagic (head_of db)
 
-abbrev pub ViewAnswer : (db wal journal : List ℕ) → Result View ViewError → Type 0
-ViewAnswer db wal journal (Ok v) = IsShown db wal journal v
-ViewAnswer db wal journal (Err e) = ViewRefused db wal journal e
+abbrev pub ViewAnswer : {F : Type 0} → (bytes : F → List ℕ) → (db wal journal : List ℕ) → Result (View F) ViewError → Type 0
+ViewAnswer bytes db wal journal (Ok v) = IsShown bytes db wal journal v
+ViewAnswer bytes db wal journal (Err e) = ViewRefused db wal journal e

@@ -1,5 +1,5 @@
 //! What `check` prints.
-use crate::logs::read_all;
+use crate::logs::{Contents, read_all};
 use crate::showing::ShowError;
 use crate::texts::{write_fault, write_report};
 use crate::verdict::{Verdict, judge};
@@ -17,8 +17,8 @@ pub(crate) fn check<R: Files + AllocGlobal, O: Write>(
 where
     R::File: FileExt,
 {
-    let contents = read_all(rt, file)?;
-    let verdict = judge(rt.alloc(), &contents.db, &contents.wal, &contents.journal)?;
+    let Contents { db, wal, journal } = read_all(rt, file)?;
+    let verdict = judge(rt.alloc(), db, &wal, &journal)?;
     let is_well_formed = match verdict {
         Verdict::Clean(report) => {
             write_report(out, &report)?;

@@ -1,11 +1,13 @@
 //! The first bytes of a database file.
-ghost use Rattle.std.specs.Prelude.{◌≡◌, ◌↔◌, ◌+◌, ◌-◌, ◌*◌, ◌<◌, ◌≤◌, length, IsTrue, IsSome, IfSome};
+ghost use Rattle.std.specs.Prelude.{◌≡◌, ◌↔◌, ◌+◌, ◌-◌, ◌*◌, ◌<◌, ◌≤◌, length, IsOk, Ok, IsTrue, IsSome, IfSome};
 ghost use Rattle.sqval.specs.Bytes.{word};
 ghost use Rattle.sqval.specs.Database.{file_page};
 ghost use Rattle.sqpage.specs.Header.{HasMagic, HasPageSize, size_named};
 ghost use Rattle.sqrescue.specs.LogView.{head_of, own_pages};
 
+use crate::file_bytes::FileBytes;
 use byteorder::{BigEndian, ByteOrder};
+use sqpage::SourceError;
 use sqval::PageSize;
 
 /// What each database file begins with (fileformat2, 1.3.1).
@@ -14,27 +16,27 @@ const MAGIC: [u8; 16] = *b"SQLite format 3\0";
 /// How many bytes the header of a database file has.
 pub const HEAD: usize = 100;
 
-/// Copies page `p` of a file, with zeros past the file's end.
-pub fn copy_page(file: &[u8], p: u32, out: &mut [u8])
+/// Reads page `p` of a file, with zeros past the file's end.
+pub fn read_page<F: FileBytes>(file: &mut F, p: u32, out: &mut [u8]) -> Result<(), SourceError>
     requires above { 0 < p }
     requires size { length out.old ≤ 65536 }
-    ensures { out.new ≡ file_page (length out.old) file.now p }
+    ensures read { F.gives_bytes file.old → IsOk result × (out.new ≡ file_page (length out.old) (F.bytes file.old) p) }
+    ensures still_gives { F.gives_bytes file.old → F.gives_bytes file.new }
+    ensures same_bytes { F.bytes file.new ≡ F.bytes file.old }
 {
-    let at = (p as usize - 1) * out.len();
-    let rest = &file[at.min(file.len())..];
-    let count = rest.len().min(out.len());
-    let (front, back) = out.split_at_mut(count);
-    front.copy_from_slice(&rest[..count]);
-    back.fill(0);
+    let at = u64::from(p - 1) * out.len() as u64;
+    file.read_at(at, out)
 }
 
 /// The first 100 bytes of a file, with zeros past its end.
-pub fn head_bytes(file: &[u8]) -> [u8; 100]
-    ensures { result ≡ head_of file.now }
+pub fn read_head<F: FileBytes>(file: &mut F) -> Result<[u8; 100], SourceError>
+    ensures read { F.gives_bytes file.old → result ≡ Ok (head_of (F.bytes file.old)) }
+    ensures still_gives { F.gives_bytes file.old → F.gives_bytes file.new }
+    ensures same_bytes { F.bytes file.new ≡ F.bytes file.old }
 {
     let mut head = [0u8; HEAD];
-    copy_page(file, 1, &mut head);
-    head
+    read_page(file, 1, &mut head)?;
+    Ok(head)
 }
 
 /// Whether they begin as those of a database do.
@@ -62,14 +64,14 @@ fn word_at(head: &[u8; 100], at: usize) -> u32
     BigEndian::read_u32(&head[at..at + 4])
 }
 
-/// How many pages of this size a file has: as many as its header says where that counts, otherwise by its length.
-pub fn count_pages(file: &[u8], head: &[u8; 100], page_size: PageSize) -> u64
-    requires { head.now ≡ head_of file.now }
-    ensures { result ≡ own_pages page_size file.now }
+/// How many pages of this size a file with this header has: as many as the header says where that counts, otherwise by the
+/// file's length.
+pub fn count_pages<F: FileBytes>(file: &F, head: &[u8; 100], page_size: PageSize) -> u64
+    ensures { F.gives_bytes file.now → head.now ≡ head_of (F.bytes file.now) → result ≡ own_pages page_size (F.bytes file.now) }
 {
     let named = word_at(head, 28);
     if named != 0 && word_at(head, 24) == word_at(head, 92) {
         return u64::from(named);
     }
-    file.len().div_ceil(page_size.get() as usize) as u64
+    file.len().div_ceil(u64::from(page_size.get()))
 }

@@ -1,5 +1,6 @@
 //! The files beside a database file, and which log counts.
 use crate::file_disk::read_or_zeros;
+use crate::opened_file::OpenedFile;
 use crate::outcome::Refusal;
 use sqjournal::{JournalError, JournalHeader, Replay};
 use sqwal::{Scan, WalFormatError};
@@ -34,7 +35,7 @@ pub(crate) fn file_length<R: Files>(rt: &R, path: &str) -> Result<u64, Refusal> 
         Ok(metadata) if metadata.is_file() => Ok(metadata.len()),
         Ok(_) => Err(Refusal::FileFailed),
         Err(error) if error.kind() == io::ErrorKind::NotFound => Ok(0),
-        Err(_) => Err(Refusal::FileFailed),
+        Err(error) => Err(Refusal::from(error)),
     }
 }
 
@@ -96,21 +97,23 @@ fn bytes_of<R: Files + AllocGlobal>(rt: &R, path: &str) -> Result<Vec<u8>, Refus
     }
     match fs::read(rt, path) {
         Ok(bytes) => Ok(bytes),
-        Err(error) if error.kind() == io::ErrorKind::OutOfMemory => Err(Refusal::NoMemory),
-        Err(_) => Err(Refusal::FileFailed),
+        Err(error) => Err(Refusal::from(error)),
     }
 }
 
-/// The bytes of a database file and its logs.
+/// An opened database file, and the bytes of its logs.
 #[derive(Drop)]
-pub struct Contents {
-    pub db: Vec<u8>,
+pub(crate) struct Contents<F> {
+    pub db: OpenedFile<F>,
     pub wal: Vec<u8>,
     pub journal: Vec<u8>,
 }
 
-/// Reads a database file and its logs, of which each may be missing. Only the file itself has to be there.
-pub(crate) fn read_all<R: Files + AllocGlobal>(rt: &R, file: &str) -> Result<Contents, Refusal>
+/// Opens a database file, and reads its logs, of which each may be missing.
+pub(crate) fn read_all<R: Files + AllocGlobal>(
+    rt: &R,
+    file: &str,
+) -> Result<Contents<R::File>, Refusal>
 where
     R::File: FileExt,
 {
@@ -118,8 +121,9 @@ where
     if !fs::metadata(rt, file)?.is_file() {
         return Err(Refusal::FileFailed);
     }
+    let (db, length) = opened(rt, file)?;
     Ok(Contents {
-        db: bytes_of(rt, file)?,
+        db: OpenedFile::new(db, length),
         wal: bytes_of(rt, wal.as_str())?,
         journal: bytes_of(rt, journal.as_str())?,
     })

@@ -1,57 +1,57 @@
 //! Reads and recovers SQLite databases with the logs that a stop in the middle of a write left behind.
 #![tactic(auto)]
 
-mod base;
-#[cfg(test)]
-mod check_tests;
+ghost use Rattle.std.specs.Prelude.{◌≤◌, IfOk};
+
 mod checking;
-mod engine;
-mod event;
+mod file_bytes;
 mod file_disk;
 mod file_head;
-mod journal_engine;
-mod journal_event;
-#[cfg(test)]
-mod journal_tests;
-mod journal_world;
 mod logs;
+mod opened_file;
 mod outcome;
 mod places;
 mod program;
 mod recovery;
-mod reply;
 mod requests;
-#[cfg(test)]
-mod samples;
-mod session;
-#[cfg(test)]
-mod show_tests;
 mod showing;
-#[cfg(test)]
-mod sweeps;
-#[cfg(test)]
-mod tests;
 mod texts;
 mod verdict;
 mod view;
 mod view_error;
 mod words;
-mod world;
-#[cfg(test)]
-mod world_tests;
 
+use std::env::{self, Env};
+use std::io::{self, Write};
+use std::os::unix::fs::FileExt;
 use std::process::ExitCode;
-use std::{env, io};
+use std::rt::Files;
 
-fn main(rt: HostRuntime) -> io::Result<ExitCode> {
+/// Reads the words and carries them out.
+fn answer<R: Env + Files + AllocGlobal, O: Write, E: Write>(
+    rt: &R,
+    out: &mut O,
+    err: &mut E,
+) -> io::Result<u8>
+where
+    R::File: FileExt,
+    ensures { IfOk result (λ status. status ≤ 3) }
+{
     let alloc = rt.alloc();
-    let words: Vec<String> = env::args(&rt)?.collect(alloc)?;
+    let words: Vec<String> = env::args(rt)?.collect(alloc)?;
     let mut texts = Vec::new(alloc);
     for word in &words {
         texts.push(word.as_str())?;
     }
+    Ok(program::run(rt, texts.as_slice(), out, err))
+}
+
+fn main(rt: HostRuntime) -> ExitCode {
     let mut out = io::writer(&rt);
     let mut err = rt.stderr();
-    let status = program::run(&rt, texts.as_slice(), &mut out, &mut err);
-    Ok(ExitCode::from(status))
+    let status = match answer(&rt, &mut out, &mut err) {
+        Ok(status) => status,
+        Err(error) => program::unread(&mut err, &error),
+    };
+    ExitCode::from(status)
 }

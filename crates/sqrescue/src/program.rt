@@ -53,6 +53,16 @@ where
     }
 }
 
+/// The status where the words can't be read: 3 for want of memory, 2 where they aren't text.
+pub(crate) fn unread<E: Write>(err: &mut E, error: &io::Error) -> u8
+    ensures { result ≤ 3 }
+{
+    match error.kind() {
+        io::ErrorKind::OutOfMemory => refused(err, &LineError::NoMemory),
+        _ => printed(err, &"sqrescue: the words aren't text", NOT_UNDERSTOOD),
+    }
+}
+
 fn line<W: Write, T: Display>(writer: &mut W, text: &T) -> io::Result<()> {
     writeln!(writer, "{text}")?;
     writer.flush()

@@ -17,8 +17,11 @@ use std::{fs, io};
 use walcore::{WalError, fold};
 
 impl From<io::Error> for Refusal {
-    fn from(_error: io::Error) -> Refusal {
-        Refusal::FileFailed
+    fn from(error: io::Error) -> Refusal {
+        match error.kind() {
+            io::ErrorKind::OutOfMemory => Refusal::NoMemory,
+            _ => Refusal::FileFailed,
+        }
     }
 }
 

@@ -4,7 +4,9 @@ ghost use Rattle.sqval.specs.PageSize.{IsPageSize};
 ghost use Rattle.sqpage.specs.Chain.{payload_size};
 ghost use Rattle.sqval.specs.Database.{page as page_at};
 ghost use Rattle.sqrescue.specs.LogView.{IsShown, pages_of};
+ghost use Rattle.sqrescue.specs.Verdicts.{refusal_of};
 
+use crate::file_bytes::FileBytes;
 use crate::logs::{Contents, LogInUse, log_in_use, opened, read_all, replay_file, scan_file};
 use crate::outcome::Refusal;
 use crate::requests::Part;
@@ -53,11 +55,14 @@ impl From<SourceError> for ShowError {
 }
 
 impl From<ViewError> for Refusal {
+    ghost from_gives = { λ error refusal. refusal ≡ refusal_of error };
+
     fn from(error: ViewError) -> Refusal {
         match error {
             ViewError::TwoLogs => Refusal::TwoLogs,
             ViewError::TooLarge => Refusal::TooLarge,
             ViewError::Header(_) => Refusal::NotADatabase,
+            ViewError::Unread => Refusal::FileFailed,
             ViewError::NoMemory => Refusal::NoMemory,
         }
     }
@@ -94,8 +99,8 @@ where
     R::File: FileExt,
 {
     let alloc = rt.alloc();
-    let contents = read_all(rt, file)?;
-    let mut view = view_of(alloc, &contents)?;
+    let Contents { db, wal, journal } = read_all(rt, file)?;
+    let mut view = view_of(alloc, db, &wal, &journal)?;
     if view.count() == 0 {
         return Err(ShowError::Refused(Refusal::NotADatabase));
     }
@@ -111,17 +116,26 @@ where
 }
 
 /// The view of a file with its logs.
-fn view_of(alloc: Global, contents: &Contents) -> Result<View<'_>, Refusal>
-    ensures { IfOk result (IsShown contents.now.db.items contents.now.wal.items contents.now.journal.items) }
+fn view_of<'a, F: FileBytes + Drop>(
+    alloc: Global,
+    db: F,
+    wal: &'a [u8],
+    journal: &'a [u8],
+) -> Result<View<'a, F>, Refusal>
+    ensures { F.gives_bytes db → IfOk result (IsShown F.bytes (F.bytes db) wal.entry.now journal.entry.now) }
 {
-    let view = View::new(alloc, &contents.db, &contents.wal, &contents.journal)?;
+    let view = View::new(alloc, db, wal, journal)?;
     Ok(view)
 }
 
 /// A page of a view. Refused where there is no such page.
-fn page_of(alloc: Global, view: &mut View<'_>, number: u32) -> Result<Vec<u8>, ShowError>
+fn page_of<F: FileBytes>(
+    alloc: Global,
+    view: &mut View<'_, F>,
+    number: u32,
+) -> Result<Vec<u8>, ShowError>
     ensures page { IfOk result (λ page. (length page.items ≡ view.old.page_size) × IsPageSize (length page.items)) }
-    ensures content { IfOk result (λ page. page.items ≡ page_at (pages_of view.old) number) }
+    ensures content { F.gives_bytes view.old.db → IfOk result (λ page. page.items ≡ page_at (pages_of F.bytes view.old) number) }
     ensures number { OnOk result (0 < number) }
     ensures size { view.new.page_size ≡ view.old.page_size }
 {
@@ -155,8 +169,8 @@ where
     R::File: FileExt,
 {
     let alloc = rt.alloc();
-    let contents = read_all(rt, file)?;
-    let mut view = view_of(alloc, &contents)?;
+    let Contents { db, wal, journal } = read_all(rt, file)?;
+    let mut view = view_of(alloc, db, &wal, &journal)?;
     let first = page_of(alloc, &mut view, 1)?;
     let usable = usable_size(&first);
     let page = page_of(alloc, &mut view, number)?;
@@ -167,9 +181,9 @@ where
 }
 
 /// Prints a b-tree page of the view with its cells.
-fn show_cells<W: Write>(
+fn show_cells<F: FileBytes, W: Write>(
     alloc: Global,
-    view: &mut View<'_>,
+    view: &mut View<'_, F>,
     number: u32,
     page: &BtreePage<'_>,
     out: &mut W,
@@ -189,9 +203,9 @@ fn show_cells<W: Write>(
 }
 
 /// Prints the columns of a cell's record, where it has a payload, or what refuses the payload or the record.
-fn show_payload<W: Write>(
+fn show_payload<F: FileBytes, W: Write>(
     alloc: Global,
-    view: &mut View<'_>,
+    view: &mut View<'_, F>,
     cell: &Cell<'_>,
     out: &mut W,
 ) -> Result<(), ShowError>
@@ -207,6 +221,7 @@ fn show_payload<W: Write>(
     match payload(alloc, view, cell, &mut bytes) {
         Ok(()) => show_record(&bytes, out),
         Err(error) => match error.fault {
+            Fault::Source => Err(ShowError::Refused(Refusal::FileFailed)),
             Fault::NoMemory => Err(ShowError::Refused(Refusal::NoMemory)),
             fault => Ok(writeln!(out, "  payload refused {}", fault.number())?),
         },

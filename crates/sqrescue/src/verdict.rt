@@ -1,7 +1,9 @@
 //! What a check of files finds.
-ghost use Rattle.std.specs.Prelude.{IfOk};
-ghost use Rattle.sqrescue.specs.Verdicts.{IsVerdict, IsVerdictOf};
+ghost use Rattle.std.specs.Prelude.{IfOk, IfErr};
+ghost use Rattle.sqrescue.specs.LogView.{pages_of};
+ghost use Rattle.sqrescue.specs.Verdicts.{IsVerdict, IsVerdictOf, IsUnjudged, AreUnjudged};
 
+use crate::file_bytes::FileBytes;
 use crate::outcome::Refusal;
 use crate::view::View;
 use crate::view_error::ViewError;
@@ -20,8 +22,9 @@ pub enum Verdict {
 
 /// What a check finds of a view. Refused by AutoVacuum and NoMemory, which say that a database can't be checked and not
 /// that it is damaged.
-fn judge_view(alloc: Global, view: &mut View<'_>) -> Result<Verdict, Refusal>
-    ensures { IfOk result (IsVerdictOf view.old) }
+fn judge_view<F: FileBytes>(alloc: Global, view: &mut View<'_, F>) -> Result<Verdict, Refusal>
+    ensures found { F.gives_bytes view.old.db → IfOk result (IsVerdictOf F.bytes view.old) }
+    ensures refused { F.gives_bytes view.old.db → IfErr result (IsUnjudged (pages_of F.bytes view.old)) }
 {
     match check(alloc, view) {
         Ok(report) => Ok(Verdict::Clean(report)),
@@ -34,11 +37,17 @@ fn judge_view(alloc: Global, view: &mut View<'_>) -> Result<Verdict, Refusal>
     }
 }
 
-/// What a check finds of the database that a file shows with its write-ahead log and its rollback journal, where a missing
-/// file is an empty slice. A header that names no database is damage at page 1. Refused by TwoLogs, TooLarge, AutoVacuum
-/// and NoMemory.
-pub fn judge(alloc: Global, db: &[u8], wal: &[u8], journal: &[u8]) -> Result<Verdict, Refusal>
-    ensures { IfOk result (IsVerdict db.now wal.now journal.now) }
+/// What a check finds of the database that a file shows with the bytes of its write-ahead log and its rollback journal, where
+/// a missing file is an empty slice. A header that names no database is damage at page 1. Refused by TwoLogs, TooLarge,
+/// AutoVacuum and NoMemory, and by FileFailed where the file could not be read.
+pub fn judge<F: FileBytes + Drop>(
+    alloc: Global,
+    db: F,
+    wal: &[u8],
+    journal: &[u8],
+) -> Result<Verdict, Refusal>
+    ensures found { F.gives_bytes db → IfOk result (IsVerdict (F.bytes db) wal.now journal.now) }
+    ensures refused { F.gives_bytes db → IfErr result (AreUnjudged (F.bytes db) wal.now journal.now) }
 {
     match View::new(alloc, db, wal, journal) {
         Ok(mut view) => judge_view(alloc, &mut view),

@@ -3,18 +3,17 @@ ghost use Rattle.std.specs.Prelude.{◌≡◌, ◌<◌};
 ghost use Rattle.sqrescue.specs.Laid.{place_of, laid, ArePlaces};
 
 mod opening;
-#[cfg(test)]
-mod tests;
 
-use crate::file_head::copy_page;
+use crate::file_bytes::FileBytes;
+use crate::file_head::read_page;
 use sqpage::{PageSource, SourceError};
 use sqval::PageSize;
 
-/// The pages of a database file as the log beside it has them. It borrows the bytes of both and keeps 8 bytes for each
-/// page where a log counts.
+/// The pages of a database file as the log beside it has them. It reads the file in parts, borrows the bytes of the log,
+/// and keeps 8 bytes for each page where a log counts.
 #[derive(Drop)]
-pub struct View<'a> {
-    db: &'a [u8],
+pub struct View<'a, F> {
+    db: F,
     /// The log that counts; empty where none does.
     log: &'a [u8],
     page_size: PageSize,
@@ -24,7 +23,7 @@ pub struct View<'a> {
     ghost within: { ArePlaces page_size log.now places.items },
 }
 
-impl<'a> View<'a> {
+impl<'a, F> View<'a, F> {
     /// Where page `p` begins in the log, 0 where the file's counts.
     fn place(&self, p: u32) -> u64
         requires { 0 < p }
@@ -34,12 +33,12 @@ impl<'a> View<'a> {
     }
 }
 
-impl<'a> PageSource for View<'a> {
-    ghost pages = { λ v. laid v.page_size v.count v.db.now v.log.now v.places.items };
+impl<'a, F: FileBytes> PageSource for View<'a, F> {
+    ghost pages = { λ v. laid v.page_size v.count (F.bytes v.db) v.log.now v.places.items };
 
     ghost size = { λ v. v.page_size };
 
-    ghost gives_pages = { λ _. Unit {0} };
+    ghost gives_pages = { λ v. F.gives_bytes v.db };
 
     fn page_size(&self) -> PageSize {
         self.page_size
@@ -53,10 +52,9 @@ impl<'a> PageSource for View<'a> {
         let size = self.page_size.get() as usize;
         let at = self.place(p) as usize;
         if at == 0 {
-            copy_page(self.db, p, out);
-        } else {
-            out.copy_from_slice(&self.log[at..at + size]);
+            return read_page(&mut self.db, p, out);
         }
+        out.copy_from_slice(&self.log[at..at + size]);
         Ok(())
     }
 }

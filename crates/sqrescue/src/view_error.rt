@@ -1,8 +1,8 @@
 //! Why a file and its logs show no database.
 ghost use Rattle.std.specs.Prelude.{◌≡◌};
-ghost use Rattle.sqrescue.specs.declared.view_error.ViewError.TheVariants.{NoMemory};
+ghost use Rattle.sqrescue.specs.declared.view_error.ViewError.TheVariants.{Unread, NoMemory};
 
-use sqpage::Fault;
+use sqpage::{Fault, SourceError};
 use std::alloc::{AllocError, AllocFailed};
 use thiserror::Error;
 
@@ -18,9 +18,20 @@ pub enum ViewError {
     /// No log counts, and the file's header has this fault, Magic or PageSize.
     #[error("{0}")]
     Header(Fault),
+    /// The file could not be read.
+    #[error("file failed")]
+    Unread,
     /// No memory.
     #[error("no memory")]
     NoMemory,
+}
+
+impl From<SourceError> for ViewError {
+    ghost from_gives = { λ _ e. e ≡ Unread };
+
+    fn from(_unread: SourceError) -> ViewError {
+        ViewError::Unread
+    }
 }
 
 impl From<AllocError> for ViewError {

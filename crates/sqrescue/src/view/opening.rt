@@ -1,5 +1,5 @@
 //! The view of a file with the log that counts.
-ghost use Rattle.std.specs.Prelude.{◌≡◌, ℕ, List, []};
+ghost use Rattle.std.specs.Prelude.{◌≡◌, ℕ, List, [], IfOk};
 ghost use Rattle.sqwal.specs.Header.{IsHeader};
 ghost use Rattle.sqwal.specs.Took.{Took};
 ghost use Rattle.sqjournal.specs.Header.{Names};
@@ -8,7 +8,8 @@ ghost use Rattle.sqrescue.specs.LogView.{ViewAnswer, IsTooLong, IsAlone};
 ghost use Rattle.sqrescue.specs.ViewParts.{ScannedAnswer, ReplayedAnswer, LimitAnswer, IsUnsized};
 
 use super::View;
-use crate::file_head::{count_pages, has_magic, head_bytes, named_page_size};
+use crate::file_bytes::FileBytes;
+use crate::file_head::{count_pages, has_magic, named_page_size, read_head};
 use crate::places::{frame_places, record_places};
 use crate::view_error::ViewError;
 use sqjournal::{JournalError, JournalHeader, Replay};
@@ -72,15 +73,16 @@ fn scanned(alloc: Global, wal: &[u8]) -> Result<Option<Scan>, ViewError>
 }
 
 /// The view of a file beside a hot journal with this first header.
-fn restored<'a>(
+fn restored<'a, F: FileBytes + Drop>(
     alloc: Global,
-    db: &'a [u8],
+    db: F,
     journal: &'a [u8],
     header: &JournalHeader,
-) -> Result<View<'a>, ViewError>
+) -> Result<View<'a, F>, ViewError>
     requires hot { IsHot journal.now }
     requires names { Names journal.now header.now }
-    ensures { ViewAnswer db.entry.now [] journal.entry.now result }
+    ensures answer { ViewAnswer F.bytes (F.bytes db) [] journal.entry.now result }
+    ensures still_gives { F.gives_bytes db → IfOk result (λ view. F.gives_bytes view.db) }
 {
     let replay = replayed(alloc, journal)?;
     let page_size = header.page_size;
@@ -96,16 +98,17 @@ fn restored<'a>(
 }
 
 /// The view of a file at the front of its log.
-fn committed<'a>(
+fn committed<'a, F: FileBytes + Drop>(
     alloc: Global,
-    db: &'a [u8],
+    db: F,
     wal: &'a [u8],
     scan: &Scan,
     page_size: PageSize,
-) -> Result<View<'a>, ViewError>
+) -> Result<View<'a, F>, ViewError>
     requires took { Took wal.now scan.now }
     requires header { IsHeader page_size wal.now }
-    ensures { (journal : List ℕ) → ¬ IsHot journal → ViewAnswer db.entry.now wal.entry.now journal result }
+    ensures answer { F.gives_bytes db → (journal : List ℕ) → ¬ IsHot journal → ViewAnswer F.bytes (F.bytes db) wal.entry.now journal result }
+    ensures still_gives { F.gives_bytes db → IfOk result (λ view. F.gives_bytes view.db) }
 {
     let front = scan.committed();
     if front.frames == 0 {
@@ -123,8 +126,13 @@ fn committed<'a>(
 }
 
 /// The view of a file beside a log, where no hot journal is.
-fn logged<'a>(alloc: Global, db: &'a [u8], wal: &'a [u8]) -> Result<View<'a>, ViewError>
-    ensures { (journal : List ℕ) → ¬ IsHot journal → ViewAnswer db.entry.now wal.entry.now journal result }
+fn logged<'a, F: FileBytes + Drop>(
+    alloc: Global,
+    db: F,
+    wal: &'a [u8],
+) -> Result<View<'a, F>, ViewError>
+    ensures answer { F.gives_bytes db → (journal : List ℕ) → ¬ IsHot journal → ViewAnswer F.bytes (F.bytes db) wal.entry.now journal result }
+    ensures still_gives { F.gives_bytes db → IfOk result (λ view. F.gives_bytes view.db) }
 {
     let Some(scan) = scanned(alloc, wal)? else {
         return own(alloc, db);
@@ -136,14 +144,16 @@ fn logged<'a>(alloc: Global, db: &'a [u8], wal: &'a [u8]) -> Result<View<'a>, Vi
 }
 
 /// The view of a file without a log.
-fn own<'a>(alloc: Global, db: &'a [u8]) -> Result<View<'a>, ViewError>
-    ensures { (wal journal : List ℕ) → ¬ IsTooLong wal journal → IsAlone wal journal → ViewAnswer db.entry.now wal journal result }
+fn own<'a, F: FileBytes + Drop>(alloc: Global, db: F) -> Result<View<'a, F>, ViewError>
+    ensures answer { F.gives_bytes db → (wal journal : List ℕ) → ¬ IsTooLong wal journal → IsAlone wal journal → ViewAnswer F.bytes (F.bytes db) wal journal result }
+    ensures still_gives { F.gives_bytes db → IfOk result (λ view. F.gives_bytes view.db) }
 {
-    let head = head_bytes(db);
+    let mut db = db;
+    let head = read_head(&mut db)?;
     let Some(page_size) = named_page_size(&head) else {
         return Err(without_size(&head));
     };
-    let count = within_limit(count_pages(db, &head, page_size), page_size)?;
+    let count = within_limit(count_pages(&db, &head, page_size), page_size)?;
     if !has_magic(&head) {
         return Err(ViewError::Header(Fault::Magic));
     }
@@ -167,17 +177,18 @@ fn without_size(head: &[u8; 100]) -> ViewError
     })
 }
 
-impl<'a> View<'a> {
-    /// The view of a file with its write-ahead log and its rollback journal, where a missing file is an empty slice. A
-    /// hot journal counts, or a log that isn't empty. Refused, in this order, by TwoLogs, TooLarge and Header;
-    /// NoMemory may stand in place of any answer.
+impl<'a, F: FileBytes + Drop> View<'a, F> {
+    /// The view of a file with the bytes of its write-ahead log and its rollback journal, where a missing file is an empty
+    /// slice. A hot journal counts, or a log that isn't empty. Refused, in this order, by TwoLogs, TooLarge and Header;
+    /// NoMemory may stand in place of any answer, and Unread where the file could not be read.
     pub fn new(
         alloc: Global,
-        db: &'a [u8],
+        db: F,
         wal: &'a [u8],
         journal: &'a [u8],
-    ) -> Result<View<'a>, ViewError>
-        ensures { ViewAnswer db.entry.now wal.entry.now journal.entry.now result }
+    ) -> Result<View<'a, F>, ViewError>
+        ensures answer { F.gives_bytes db → ViewAnswer F.bytes (F.bytes db) wal.entry.now journal.entry.now result }
+        ensures still_gives { F.gives_bytes db → IfOk result (λ view. F.gives_bytes view.db) }
     {
         match hot_header(journal) {
             Some(_) if !wal.is_empty() => Err(ViewError::TwoLogs),

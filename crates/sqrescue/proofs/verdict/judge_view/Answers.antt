@@ -1,4 +1,4 @@
 use Rattle.sqrescue.proofs.verdict.judge_view.Goals as goal
 
-pub returns-in-Ok : goal.returns-in-Ok
-returns-in-Ok c = c.in-Ok.ensures.ok tt
+pub returns-in-Ok-clause-found : goal.returns-in-Ok-clause-found
+returns-in-Ok-clause-found g c = λ gives. c.in-Ok.ensures.ok gives

@@ -2,32 +2,31 @@ use Rattle.std.proofs.Common.{◌≡◌, ◌∙◌, ℕ, refl, sym, ap, subst, a
 use Rattle.std.specs.Prelude.{Ok, Err}
 use Rattle.sqwal.specs.Frames.{size_of, IsValidFrame}
 use Rattle.sqwal.specs.Header.{named_size}
-use Rattle.sqrescue.specs.LogView.{ViewAnswer}
 use Rattle.sqrescue.specs.ViewParts.{LimitAnswer, AreFramePlaces}
 use Rattle.sqrescue.proofs.Framed.{frame_places_within, view_laid}
-use Rattle.sqrescue.proofs.Opening.{passed, few_frames, alone_zero, logged_limited, logged_shown, front_valid}
+use Rattle.sqwal.proofs.ScanAnswers.{few_frames}
+use Rattle.sqrescue.proofs.Opening.{answers, alone_zero, logged_limited, logged_shown, front_valid}
 use Rattle.sqrescue.proofs.view.opening.committed.Goals as goal
 
-pub returns-then-front-eq0 : goal.returns-then-front-eq0
-returns-then-front-eq0 c = λ journal cold.
+pub returns-then-front-eq0-clause-answer : goal.returns-then-front-eq0-clause-answer
+returns-then-front-eq0-clause-answer g c = λ gives journal cold.
     let took = c.requires.took in
-    let header = c.requires.header in
     let w = c.args.wal.now in
-    let alone = alone_zero c.args.db.now w journal cold (few_frames w c.args.scan.now took) c.committed-front.result (c.committed-front.ensures w took) c.if-front-eq0.true in
-    c.own.ensures w journal alone.0 alone.1
+    let alone = alone_zero (g.F.FileBytes.bytes c.args.db) w journal cold (few_frames w c.args.scan.now took) c.committed-front.result (c.committed-front.ensures w took) c.if-front-eq0.true in
+    c.own.ensures.answer gives w journal alone.0 alone.1
 
-pub returns-in_err-count : goal.returns-in_err-count
-returns-in_err-count c = λ journal cold.
+pub returns-in_err-count-clause-answer : goal.returns-in_err-count-clause-answer
+returns-in_err-count-clause-answer g c = λ gives journal cold.
+    let db = g.F.FileBytes.bytes c.args.db in
     let took = c.requires.took in
-    let header = c.requires.header in
     let w = c.args.wal.now in
     let e = c.in_err-count.field-0.0 in
     let bad : LimitAnswer c.args.page_size c.committed-front.result.size (Err e) = subst (λ (n : ℕ). LimitAnswer c.args.page_size n (Err e)) c.from.ensures c.in_err-count.ensures in
-    subst (λ q. ViewAnswer c.args.db.now w journal q) (sym (passed c.from_residual.result e c.from_residual.ensures.1))
-    (logged_limited c.args.db.now w journal cold (few_frames w c.args.scan.now took) c.args.page_size header.named c.committed-front.result (c.committed-front.ensures w took) c.if-front-eq0.false e bad)
+    answers g.F.FileBytes.bytes db w journal c.from_residual.result e c.from_residual.ensures.1
+    (logged_limited db w journal cold (few_frames w c.args.scan.now took) c.args.page_size c.requires.header.named c.committed-front.result (c.committed-front.ensures w took) c.if-front-eq0.false e bad)
 
 pub invariant_of-result : goal.invariant_of-result
-invariant_of-result c =
+invariant_of-result g c =
     let w = c.args.wal.now in
     let f = c.committed-front.result in
     let took = c.requires.took in
@@ -36,8 +35,9 @@ invariant_of-result c =
     let sized : IsValidFrame c.args.page_size w f.frames = subst (λ (n : ℕ). IsValidFrame n w f.frames) named valid in
     record { within = frame_places_within c.args.page_size w f.frames f.size c.in_ok-places.places.items (c.in_ok-places.ensures.places w took named valid) sized }
 
-pub returns : goal.returns
-returns c = λ journal cold.
+pub returns-clause-answer : goal.returns-clause-answer
+returns-clause-answer g c = λ gives journal cold.
+    let db = g.F.FileBytes.bytes c.args.db in
     let took = c.requires.took in
     let header = c.requires.header in
     let w = c.args.wal.now in
@@ -49,5 +49,5 @@ returns c = λ journal cold.
     let le : LimitAnswer c.args.page_size f.size (Ok c.in_ok-count.count) = subst (λ (n : ℕ). LimitAnswer c.args.page_size n (Ok c.in_ok-count.count)) c.from.ensures c.in_ok-count.ensures in
     let count : c.in_ok-count.count ≡ f.size = le.0 in
     let are_count : AreFramePlaces c.args.page_size w f.frames c.in_ok-count.count c.in_ok-places.places.items = subst (λ (n : ℕ). AreFramePlaces c.args.page_size w f.frames n c.in_ok-places.places.items) (sym count) are in
-    logged_shown c.args.db.now w journal cold (few_frames w c.args.scan.now took) c.args.page_size header.named f is c.if-front-eq0.false _ le refl
-    (view_laid c.args.page_size w f.frames c.in_ok-count.count c.in_ok-places.places.items are_count sized c.args.db.now (count ∙ is.some (omega (arith, c.if-front-eq0.false)) ∙ ap (λ n. size_of n w f.frames) header.named))
+    logged_shown db w journal cold (few_frames w c.args.scan.now took) c.args.page_size header.named f is c.if-front-eq0.false g.F.FileBytes.bytes _ le refl
+    (view_laid c.args.page_size w f.frames c.in_ok-count.count c.in_ok-places.places.items are_count sized db (count ∙ is.some (omega (arith, c.if-front-eq0.false)) ∙ ap (λ n. size_of n w f.frames) header.named))

@@ -1,20 +1,20 @@
 use Rattle.std.proofs.Common.{◌∙◌, ℕ, [], sym, subst}
 use Rattle.sqrescue.specs.Laid.{ArePlaces}
-use Rattle.sqrescue.specs.LogView.{ViewAnswer}
 use Rattle.sqrescue.proofs.Recorded.{has_journal, record_places_within, rolled_back}
-use Rattle.sqrescue.proofs.Opening.{passed, restored_limited, restored_shown}
+use Rattle.sqrescue.proofs.Opening.{answers, restored_limited, restored_shown}
 use Rattle.sqrescue.proofs.view.opening.restored.Goals as goal
 
-pub returns-in_err-count : goal.returns-in_err-count
-returns-in_err-count c =
+pub returns-in_err-count-clause-answer : goal.returns-in_err-count-clause-answer
+returns-in_err-count-clause-answer g c =
+    let db = g.F.FileBytes.bytes c.args.db in
     let e = c.in_err-count.field-0.0 in
     let size = c.requires.names.size in
     let count = c.from.ensures ∙ c.requires.names.first_size in
-    subst (λ q. ViewAnswer c.args.db.now [] c.args.journal.now q) (sym (passed c.from_residual-in_err-count.result e c.from_residual-in_err-count.ensures.1))
-    (restored_limited c.args.db.now c.args.journal.now c.requires.hot c.args.header.now.page_size c.from.result size count c.in_ok-replay.ensures.0 e c.in_err-count.ensures)
+    answers g.F.FileBytes.bytes db [] c.args.journal.now c.from_residual-in_err-count.result e c.from_residual-in_err-count.ensures.1
+    (restored_limited db c.args.journal.now c.requires.hot c.args.header.now.page_size c.from.result size count c.in_ok-replay.ensures.0 e c.in_err-count.ensures)
 
 pub invariant_of-result : goal.invariant_of-result
-invariant_of-result c =
+invariant_of-result g c =
     let b = c.args.journal.now in
     let j = has_journal b c.in_ok-replay.replay c.in_ok-replay.ensures.1 in
     let are = c.in_ok-places.ensures.places b c.in_ok-replay.ensures.1 c.in_ok-replay.ensures.0 in
@@ -22,12 +22,13 @@ invariant_of-result c =
       within = subst (λ (n : ℕ). ArePlaces n b c.in_ok-places.places.items) (sym c.requires.names.size) (record_places_within b c.in_ok-count.count c.in_ok-places.places.items are j.0 j.1 j.2 j.3 c.requires.hot);
     }
 
-pub returns : goal.returns
-returns c =
+pub returns-clause-answer : goal.returns-clause-answer
+returns-clause-answer g c =
+    let db = g.F.FileBytes.bytes c.args.db in
     let b = c.args.journal.now in
     let size = c.requires.names.size in
     let count = c.from.ensures ∙ c.requires.names.first_size in
     let j = has_journal b c.in_ok-replay.replay c.in_ok-replay.ensures.1 in
     let are = c.in_ok-places.ensures.places b c.in_ok-replay.ensures.1 c.in_ok-replay.ensures.0 in
-    restored_shown c.args.db.now b c.requires.hot c.args.header.now.page_size c.from.result size count c.in_ok-replay.ensures.0 _ c.in_ok-count.ensures size
-    (rolled_back b c.in_ok-count.count c.in_ok-places.places.items are j.0 j.1 j.2 j.3 c.requires.hot c.args.header.now.page_size c.args.db.now size (c.in_ok-count.ensures.0 ∙ count))
+    restored_shown db b c.requires.hot c.args.header.now.page_size c.from.result size count c.in_ok-replay.ensures.0 g.F.FileBytes.bytes _ c.in_ok-count.ensures size
+    (rolled_back b c.in_ok-count.count c.in_ok-places.places.items are j.0 j.1 j.2 j.3 c.requires.hot c.args.header.now.page_size db size (c.in_ok-count.ensures.0 ∙ count))

@@ -1,6 +1,0 @@
-use Rattle.std.proofs.Common.{rules}
-use Rattle.sqrescue.proofs.Based.{joined_more}
-use Rattle.sqrescue.proofs.base.Base.bytes.Goals as goal
-
-pub loop-page-preserved : goal.loop-page-preserved
-loop-page-preserved c = joined_more c.args.self.now.pages.items c.loop-page.page-index c.page-item.result c.loop-page.bytes.items c.extend_from_slice.new.self.items (search rules) (search rules) c.loop-page.invariant (search rules)

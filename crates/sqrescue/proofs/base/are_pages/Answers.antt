@@ -1,9 +1,0 @@
-use Rattle.std.proofs.Common.{rules}
-use Rattle.sqrescue.proofs.Based.{not_pages, pages_more}
-use Rattle.sqrescue.proofs.base.are_pages.Goals as goal
-
-pub returns-then-len-size : goal.returns-then-len-size
-returns-then-len-size c = not_pages c.args.size c.args.pages.now c.loop-page.page-index c.page-item.result (search rules) (search rules) (search rules)
-
-pub loop-page-preserved : goal.loop-page-preserved
-loop-page-preserved c = pages_more c.args.size c.args.pages.now c.loop-page.page-index c.page-item.result (search rules) (search rules) c.loop-page.invariant (search rules)

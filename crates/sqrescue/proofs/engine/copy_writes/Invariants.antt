@@ -1,6 +1,0 @@
-use Rattle.std.proofs.Common.{◌≡◌, take}
-use Rattle.sqrescue.specs.Run.{numbered}
-use Rattle.sqrescue.proofs.engine.copy_writes.Given as goal
-
-abbrev pub invariant-loop-write : goal.invariant-loop-write
-invariant-loop-write l = numbered l.copy.items ≡ numbered (take l.write-index l.writes)

@@ -1,8 +1,0 @@
-use Rattle.std.proofs.Common.{◌≡◌, length}
-use Rattle.sqrescue.proofs.session.Session.close.Given as goal
-
-abbrev pub invariant-loop-slot : goal.invariant-loop-slot
-invariant-loop-slot l = l.wal.disk ≡ l.fn.self.wal.disk
-
-abbrev pub decreases-loop-slot : goal.decreases-loop-slot
-decreases-loop-slot l = length l.slots.items
