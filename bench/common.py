@@ -1,5 +1,5 @@
-"""What the benchmarks share."""
-import os, re, subprocess, sys, time
+"""What the benchmarks and the tests share."""
+import os, re, shutil, statistics, subprocess, sys, time
 
 top = os.path.dirname(os.path.dirname(os.path.abspath(__file__)))
 sqrescue = os.path.join(top, "bin", "sqrescue")
@@ -16,6 +16,34 @@ def compiled(folder, name):
     program = os.path.join(folder, name)
     subprocess.run(["gcc", "-O2", "-o", program, os.path.join(top, "bench", name + ".c")], check=True)
     return program
+
+
+def preloaded(folder, name):
+    """The C file of the tests of this name, compiled by the kit's compiler as a library to be loaded into a program."""
+    library = os.path.join(folder, name + ".so")
+    page = subprocess.run(["rt", "doc"], capture_output=True, text=True, check=True).stdout.strip()
+    clang = os.path.join(os.path.dirname(page), "toolchain", "bin", "clang")
+    source = os.path.join(top, "tests", name + ".c")
+    subprocess.run([clang, "-O2", "-shared", "-fPIC", "-nostdlib", "-o", library, source], check=True)
+    return library
+
+
+def contents(folder):
+    """The files of a folder with their bytes."""
+    found = {}
+    for name in sorted(os.listdir(folder)):
+        with open(os.path.join(folder, name), "rb") as file:
+            found[name] = file.read()
+    return found
+
+
+def fill(folder, files):
+    """Makes a folder hold just these files."""
+    shutil.rmtree(folder, ignore_errors=True)
+    os.mkdir(folder)
+    for name, content in files.items():
+        with open(os.path.join(folder, name), "wb") as file:
+            file.write(content)
 
 
 def sqlite(database, sql):
@@ -35,6 +63,24 @@ INSERT INTO a(b) SELECT {content} FROM generate_series(1, {rows});
 """ + f"UPDATE a SET b = {content};\n" * rounds + f".shell cp {made} {base}; cp {made}-wal {base}-wal\n")
     size = os.path.getsize(base + "-wal")
     print(f"log of {size} bytes, {(size - 32) // (page_size + 24)} frames of {page_size} byte pages")
+    return base
+
+
+def hot_journal(folder, megabytes, page_size):
+    """A database file beside a hot journal of about so many MiB and several segments: the middle of a transaction that
+    writes each page once, with room in memory for a sixth of them."""
+    made, base = os.path.join(folder, "made.db"), os.path.join(folder, "base.db")
+    content = f"randomblob({page_size * 4 // 5})"
+    rows = megabytes * 1048576 // page_size
+    sqlite(made, f"""PRAGMA page_size={page_size}; PRAGMA journal_mode=delete; PRAGMA synchronous=off;
+CREATE TABLE a(id INTEGER PRIMARY KEY, b BLOB);
+INSERT INTO a(b) SELECT {content} FROM generate_series(1, {rows});
+PRAGMA synchronous=full; PRAGMA cache_size={rows // 6};
+BEGIN; UPDATE a SET b = {content};
+.shell cp {made} {base}; cp {made}-journal {base}-journal
+ROLLBACK;
+""")
+    print(f"journal of {os.path.getsize(base + '-journal')} bytes, pages of {page_size} bytes")
     return base
 
 
@@ -59,3 +105,34 @@ def run(command, out=subprocess.DEVNULL):
     if status != 0:
         sys.exit(f"{command[0]}: status {status}")
     return usage.ru_utime + usage.ru_stime, memory
+
+
+def fresh(base, db):
+    """Makes a copy of a database file and of the log beside it."""
+    for end in ("", "-wal", "-shm", "-journal"):
+        if os.path.exists(db + end):
+            os.remove(db + end)
+        if os.path.exists(base + end):
+            shutil.copy(base + end, db + end)
+    os.sync()
+
+
+def compare(base, db, runs, commands):
+    """Runs the commands in turn on fresh copies, and prints what they took. All are to leave the same database."""
+    times = {name: [] for name in commands}
+    memory = {name: 0 for name in commands}
+    left = set()
+    for _ in range(runs):
+        for name, command in commands.items():
+            fresh(base, db)
+            seconds, most = run(command)
+            times[name].append(seconds)
+            memory[name] = max(memory[name], most)
+            with open(db, "rb") as file:
+                left.add(hash(file.read()))
+    if len(left) != 1:
+        sys.exit("the databases differ")
+    c = statistics.median(times["plain C"])
+    for name in commands:
+        t = statistics.median(times[name])
+        print(f"{name:10} {t:7.3f} s of processor time, {t / c:5.2f} times plain C, {memory[name]} KiB at most")
