@@ -24,6 +24,7 @@ pub record Sizes : Type 0 where
   pub sector : ℕ
   pub page : ℕ
 
+-- as the first header says
 abbrev pub sizes_of : List ℕ → Sizes
 sizes_of b = record { sector = word b 20; page = word b 24 }
 

@@ -1,4 +1,4 @@
--- How far a journal is read: the words of this crate's own helpers, which no public contract cites but `Took`.
+-- How far a journal is read (own): the words of this crate's helpers, which no public contract cites but `Took`.
 use Rattle.std.specs.Prelude.{◌≡◌, ◌⊎◌, ℕ, ◌+◌, ◌-◌, ◌^◌, ◌<◌, ◌≤◌, List, [], ◌++◌, length, drop, if◌then◌else◌, nat_le, ◌==◌, ◌&&◌}
 use Rattle.sqval.specs.Bytes.{part, word}
 use Rattle.sqval.specs.Database.{Pages}
@@ -78,6 +78,7 @@ pub record IsNext (b : List ℕ) (r : Reading) (unit : List ℕ) : Type 0 where
   pub is : part b r.at (next_len r) ≡ unit
   pub whole : r.at + next_len r ≤ length b
 
+-- the journal has ended
 abbrev pub IsOver : Next → Type 0
 IsOver (Over w) = Unit {0}
 IsOver _ = ⊥

@@ -1,4 +1,4 @@
--- The database that a journal restores.
+-- The database that a journal restores (fileformat2, 3).
 use Rattle.std.specs.Prelude.{◌≡◌, ℕ, ◌≤◌, List, length, reverse, Option, unwrap_or}
 use Rattle.std.specs.List.{flat_map}
 use Rattle.sqval.specs.Bytes.{word}

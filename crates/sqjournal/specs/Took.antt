@@ -1,4 +1,4 @@
--- What a replay of a journal is after the bytes that came so far, and what its calls answer.
+-- What a replay of a journal is after the bytes that came so far, and what its calls answer (own).
 use Rattle.std.specs.Prelude.{◌≡◌, ℕ, ◌^◌, ◌<◌, ◌≤◌, List, [], ◌++◌, length, Result, MatchResult, Option, MatchOption}
 use Rattle.sqjournal.specs.Header.{IsFirstHeader, IsRefused}
 use Rattle.sqjournal.specs.Journal.{Segment, IsJournal, entries, entry_of, sizes_of}
@@ -17,6 +17,7 @@ pub record IsUnjudged (b : List ℕ) (s : Replay) : Type 0 where
   pub kept : s.begun.items ≡ b
   pub none : s.records.items ≡ []
 
+-- the first header was judged, and the replay has come as far as the reading
 pub record IsJudged (b : List ℕ) (s : Replay) (r : Reading) : Type 0 where
   pub stands : Stands b r s.records.items
   pub waits : Waits b r s.begun.items

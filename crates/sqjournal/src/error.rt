@@ -1,4 +1,4 @@
-//! Why a journal is refused.
+//! Why a journal is refused (own).
 ghost use Rattle.std.specs.Prelude.{◌≡◌};
 ghost use Rattle.sqjournal.specs.declared.error.JournalError.TheVariants.{NoMemory};
 ghost use Rattle.sqjournal.specs.Header.{error_number};

@@ -1,4 +1,4 @@
-//! The header of a rollback journal.
+//! The header of a rollback journal (fileformat2, 3).
 ghost use Rattle.std.specs.Prelude.{◌≡◌, ℕ, ◌+◌, ◌*◌, ◌^◌, ◌<◌, ◌≤◌, ◌↔◌, ◌++◌, IsTrue, length, take, drop};
 ghost use Rattle.byteorder.specs.Endian.{big_bytes};
 ghost use Rattle.sqval.specs.Bytes.{word};
@@ -41,7 +41,7 @@ pub struct JournalHeader {
     pub first_size: u32,
     /// The size of a sector in bytes, which the header fills.
     pub sector: u32,
-    /// The size of a page.
+    /// The size of a page in bytes.
     pub page_size: PageSize,
 }
 

@@ -1,4 +1,4 @@
-//! The sums of a journal's records.
+//! The sums of a journal's records (fileformat2, 3).
 ghost use Rattle.std.specs.Prelude.{◌≡◌};
 ghost use Rattle.sqjournal.specs.NonceSum.{nonce_sum};
 

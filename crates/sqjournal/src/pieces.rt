@@ -1,4 +1,4 @@
-//! Taking a piece of a journal.
+//! Taking a piece of a journal (own).
 ghost use Rattle.std.specs.Prelude.{◌≡◌, ◌⊎◌, ℕ, ◌+◌, ◌^◌, ◌<◌, ◌≤◌, ◌++◌, List, [], length, take, drop, IfOk, OnOk, OnErr, MatchOption, MatchResult};
 ghost use Rattle.sqjournal.specs.Header.{IsFirstHeader, IsRefused, Names};
 ghost use Rattle.sqjournal.specs.Reading.{Stands, IsNext, next_len, IsOver, UnlessOver, Keeps, Waits, IsSound};

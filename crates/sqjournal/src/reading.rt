@@ -1,4 +1,4 @@
-//! A reading of a journal: where it goes on, and with what.
+//! A reading of a journal: where it goes on, and with what (fileformat2, 3; later segments and why it ends are own).
 ghost use Rattle.std.specs.Prelude.{◌≡◌, ◌⊎◌, ℕ, ◌+◌, ◌-◌, ◌*◌, ◌^◌, min, ◌<◌, ◌≤◌, ◌++◌, List, length, MatchOption, option_to_list};
 ghost use Rattle.sqval.specs.Bytes.{part};
 ghost use Rattle.sqjournal.specs.Header.{next_header};

@@ -1,4 +1,4 @@
-//! A replay of a journal that comes in pieces.
+//! A replay of a journal (fileformat2, 3) that comes in pieces (own).
 ghost use Rattle.std.specs.Prelude.{◌≡◌, ℕ, ◌^◌, ◌<◌, ◌≤◌, length};
 ghost use Rattle.std.specs.Option.{ForSome, ForNone};
 ghost use Rattle.sqjournal.specs.Reading.{IsSound};
@@ -57,8 +57,10 @@ impl Replay {
         }
     }
 
-    /// Takes the next bytes of the journal. A refusal changes nothing. `TooLong` is judged first,
-    /// the first header as soon as its 28 bytes are there.
+    /// Takes the next bytes of the journal. Refused by `TooLong` where it has more than
+    /// 1,099,511,627,776 with them; otherwise by `NotAJournal`, `SectorSize` or `PageSize`, the first
+    /// that holds, once the first header's 28 bytes are there; or by `NoMemory`. A refusal changes
+    /// nothing.
     pub fn feed(&mut self, piece: &[u8]) -> Result<(), JournalError>
         ensures { Feeds piece.now self.old self.new result }
     {

@@ -1,4 +1,4 @@
--- What the calls of an engine answer, and when they are refused.
+-- What the calls of an engine answer, and when they are refused (own).
 use Rattle.std.specs.Prelude.{◌≡◌, ◌⊎◌, ℕ, ◌-◌, ◌^◌, ◌<◌, IsTrue, Bool, true, false, List, Option, Some, None}
 
 -- the bytes of both files
@@ -13,6 +13,7 @@ pub record Crashed : Type 0 where
   pub kept : List ℕ
   pub handed : List (ℕ × List ℕ)
 
+-- what a call of an engine answers; a refusal by its number
 pub data Answer : Type 0 where
   Done : Answer
   Reader : (number : ℕ) → Answer
@@ -40,10 +41,12 @@ PlainStep target _ new = ⊥
 
 -- ---- What is answered where memory is ample and the disk refuses no call, and what may stand in its place.
 
+-- the refusal of this number, if there is one, otherwise the answer
 abbrev pub told : Option ℕ → Answer → Answer
 told (Some number) answer = Refused number
 told None answer = answer
 
+-- neither a refusal nor the want of a reader
 abbrev pub is_accepted : Answer → Bool
 is_accepted NoReader = false
 is_accepted (Refused number) = false

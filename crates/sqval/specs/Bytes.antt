@@ -1,4 +1,4 @@
--- Parts of a file and the numbers in it.
+-- Parts of a file and the numbers in it (fileformat2, 1.2).
 use Rattle.std.specs.Prelude.{ℕ, ◌<◌, List, take, drop, get_or}
 use Rattle.byteorder.specs.Endian.{big_number}
 

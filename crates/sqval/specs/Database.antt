@@ -1,4 +1,4 @@
--- Databases as lists of pages, the pages of a file, and what a commit makes of a database.
+-- Databases as lists of pages, the pages of a file (fileformat2, 1.2), and what a commit makes of a database (own).
 use Rattle.std.specs.Prelude.{◌≡◌, ℕ, zero, suc, ◌+◌, ◌-◌, ◌*◌, ◌/◌, ◌≤◌, cond, ◌==◌, List, [], ◌∷◌, ◌++◌, length, map, get_or, Option, Some, None, unwrap_or}
 use Rattle.std.specs.List.{range_with_len}
 

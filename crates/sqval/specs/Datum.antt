@@ -1,8 +1,9 @@
--- What a column holds.
+-- What a column holds (fileformat2, 2.1).
 use Rattle.std.specs.Prelude.{ℕ, ℤ, List, map}
 use Rattle.sqval.specs.declared.value.Value.{Value}
 use Rattle.sqval.specs.declared.value.Value.TheVariants.{Null, Int, Real, Text, Blob}
 
+-- the value of a column
 pub data Datum : Type 0 where
   null : Datum
   integer : ℤ → Datum

@@ -1,4 +1,4 @@
--- Page sizes.
+-- Page sizes (fileformat2, 1.3.2).
 use Rattle.std.specs.Prelude.{◌≡◌, ℕ, ◌^◌, ◌≤◌}
 
 -- a power of two from 512 to 65536 (fileformat2, 1.3.2)

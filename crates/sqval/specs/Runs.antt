@@ -1,4 +1,4 @@
--- Whole runs of a machine.
+-- Whole runs of a machine (own).
 use Rattle.std.specs.Prelude.{◌≡◌, ℕ, ◌≤◌, List, [], ◌∷◌}
 use Rattle.sqval.specs.Answers.{Answer}
 

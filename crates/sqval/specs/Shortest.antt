@@ -1,4 +1,4 @@
--- The shortest record of values.
+-- The shortest record of values (fileformat2, 2.1; that it is the shortest is own).
 use Rattle.std.specs.Prelude.{◌≡◌, ℕ, ◌+◌, ◌-◌, ◌*◌, ◌^◌, ◌<◌, ◌≤◌, ℤ, pos, negsuc, List, length, sum_by, nat_lt, if◌then◌else◌, ⊤}
 use Rattle.sqval.specs.Bytes.{AreBytes}
 use Rattle.sqval.specs.Datum.{Datum, null, integer, real, text, blob}

@@ -1,4 +1,4 @@
--- The values that the two parts of a record show.
+-- The values that the two parts of a record show (fileformat2, 2.1).
 use Rattle.std.specs.Prelude.{ℕ, zero, suc, ◌+◌, ◌*◌, List, [], ◌∷◌, length, take, drop, slice_index, ◌==◌, nat_le, nat_lt, if◌then◌else◌}
 use Rattle.std.specs.List.{prefix_len}
 use Rattle.sqval.specs.Varint.{number_of_sevens}

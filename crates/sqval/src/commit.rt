@@ -1,4 +1,4 @@
-//! The pages of a commit, and what may be wrong with them.
+//! The pages of a commit, and what may be wrong with them (own).
 ghost use Rattle.std.specs.Prelude.{◌≡◌, ◌+◌, ◌*◌, ◌==◌, not, nat_lt, length, IsTrue, IsFalse, OnOk};
 ghost use Rattle.std.specs.Bool.{MatchBool};
 ghost use Rattle.std.specs.List.{All, list_any};
@@ -254,9 +254,10 @@ fn judge_sizes(pages: &[(u32, &[u8])], size: u32, page_size: u32) -> Result<(), 
     Ok(())
 }
 
-/// What is wrong with a commit of these pages, after which the database has `size` of them; it has `old_size` now. The
-/// first of EmptyCommit, SizeZero, PageZero, PageAboveSize, PageTwice, HoleInGrowth, BadLength and TooLarge that holds,
-/// whatever memory there is. `numbers` may hold anything.
+/// What is wrong with a commit of these pages, after which the database has `size` of them; it has `old_size` now. Each
+/// is given by its number, from 1, and its whole content. The first of EmptyCommit, SizeZero, PageZero, PageAboveSize,
+/// PageTwice, HoleInGrowth, BadLength and TooLarge that holds, whatever memory there is: where there is none for their
+/// numbers, it takes time in the square of the pages. `numbers` may hold anything, before and afterwards.
 pub fn judge_pages(
     pages: &[(u32, &[u8])],
     size: u32,

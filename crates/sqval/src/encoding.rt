@@ -1,4 +1,4 @@
-//! How records are written.
+//! How records are written (fileformat2, 2.1; that it is the shortest one is own).
 ghost use Rattle.std.specs.Prelude.{◌≡◌, ◌⊎◌, ℕ, ◌+◌, ◌<◌, ◌≤◌, ◌↔◌, List, [], ◌++◌, length, take, map, All, IfErr, IfSome, IfNone, OnOk, OnErr, MatchOption};
 ghost use Rattle.sqval.specs.Varint.{Spells};
 ghost use Rattle.sqval.specs.Datum.{datum_of, integer, row_of};

@@ -1,4 +1,4 @@
-//! What goes wrong with records.
+//! What goes wrong with records (own).
 ghost use Rattle.std.specs.Prelude.{◌≡◌};
 ghost use Rattle.sqval.specs.RecordError.{number_of};
 

@@ -1,4 +1,4 @@
-//! The size of a database's pages.
+//! The size of a database's pages (fileformat2, 1.3.2).
 ghost use Rattle.std.specs.Prelude.{◌≡◌, ◌↔◌, IsSome, IfSome};
 ghost use Rattle.sqval.specs.PageSize.{IsPageSize};
 

@@ -1,4 +1,4 @@
-//! Records: the values of a row, or of an index entry, as they stand in a file.
+//! Records: the values of a row, or of an index entry, as they stand in a file (fileformat2, 2.1).
 ghost use Rattle.std.specs.Prelude.{◌≡◌, ℕ, ◌+◌, ◌<◌, ◌≤◌, ◌^◌, ◌-◌, ◌↔◌, List, [], length, drop, take, min, sum_by, IsOkAnd, IfOk, IfErr, MatchOption, IsTrue, option_map, slice_get};
 ghost use Rattle.sqval.specs.Serial.{body_size, held};
 ghost use Rattle.sqval.specs.Record.{HasHeader, Lead, Fails};
@@ -8,7 +8,7 @@ use crate::value::{Value, body_size_of};
 use crate::varint;
 use std::marker::Model;
 
-/// The most bytes of a record.
+/// The most bytes of a record (own).
 pub const MOST_BYTES: usize = 1_073_741_824;
 
 /// A record, whose values stand in the bytes that it borrows.

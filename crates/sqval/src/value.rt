@@ -1,4 +1,4 @@
-//! What the columns of a record hold.
+//! What the columns of a record hold (fileformat2, 2.1).
 ghost use Rattle.std.specs.Prelude.{◌≡◌, ◌↔◌, length, IsTrue};
 ghost use Rattle.sqval.specs.Datum.{datum_of};
 ghost use Rattle.sqval.specs.Serial.{body_size, held};

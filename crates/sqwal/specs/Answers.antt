@@ -1,4 +1,4 @@
--- What a scan answers of the bytes that it took.
+-- What a scan answers of the bytes that it took (own).
 use Rattle.std.specs.Prelude.{◌≡◌, ℕ, suc, ◌<◌, ◌≤◌, cond, nat_lt, List, ◌++◌, length, get_or, Result, Ok, Err, Option, Some, None}
 use Rattle.sqwal.specs.Header.{named_size, IsHeaderOf, HeaderRefused}
 use Rattle.sqwal.specs.Frames.{frame_end, page_of, size_of, IsValidFrame, IsFront}

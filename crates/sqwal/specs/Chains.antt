@@ -25,6 +25,7 @@ pub record IsChained (newest earlier pages : List ℕ) : Type 0 where
 abbrev pub table_of : (newest earlier : List ℕ) → (room : ℕ) → FrameTable
 table_of newest earlier room = record { bound = length newest - 1; room = room; pages = named newest earlier (length earlier) }
 
+-- both lists hold a table, with room for so many frames within the capacity
 pub record IsIndex (newest earlier : List ℕ) (room capacity : ℕ) : Type 0 where
   pub chained : IsChained newest earlier (named newest earlier (length earlier))
   pub within : length earlier ≤ room

@@ -50,10 +50,12 @@ pub record Passes (size : ℕ) (w : List ℕ) (i : ℕ) : Type 0 where
 abbrev pub AllPass : (size : ℕ) → List ℕ → (i : ℕ) → Type 0
 AllPass size w i = (j : ℕ) → 1 ≤ j → j ≤ i → Passes size w j
 
+-- frame i passes, and so do all before it
 pub record IsValidFrame (size : ℕ) (w : List ℕ) (i : ℕ) : Type 0 where
   pub first : 1 ≤ i
   pub each : AllPass size w i
 
+-- frame i ends a commit
 abbrev pub IsCommit : (size : ℕ) → List ℕ → (i : ℕ) → Type 0
 IsCommit size w i = size_of size w i ≢ 0
 

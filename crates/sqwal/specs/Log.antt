@@ -1,4 +1,4 @@
--- Logs as they are made.
+-- Logs as they are made (fileformat2, 4.1).
 use Rattle.std.specs.Prelude.{◌≡◌, ℕ, List, length}
 use Rattle.sqwal.specs.Header.{IsHeader}
 use Rattle.sqwal.specs.Frames.{frame_end, AllPass}

@@ -1,4 +1,4 @@
--- The numbers of the refusals of a log, and how long a log may be.
+-- The numbers of the refusals of a log, and how long a log may be (own).
 use Rattle.std.specs.Prelude.{ℕ}
 use Rattle.sqwal.specs.declared.error.WalFormatError.{WalFormatError}
 use Rattle.sqwal.specs.declared.error.WalFormatError.TheVariants.{NotAWal, PageSize, HeaderSum, UnknownVersion, TooLong, NoMemory}

@@ -1,4 +1,4 @@
--- What the parts of a scan promise one another.
+-- What the parts of a scan promise one another (own).
 use Rattle.std.specs.Prelude.{◌≡◌, ◌≢◌, ◌⊎◌, ℕ, suc, ◌+◌, ◌<◌, ◌≤◌, ◌%◌, ◌==◌, cond, List, [], ◌∷◌, ◌++◌, length, take, Result, Ok, Err}
 use Rattle.sqval.specs.Bytes.{part, word}
 use Rattle.sqwal.specs.Sums.{IsSumOf}

@@ -1,4 +1,4 @@
--- Where a log stops, and why.
+-- Where a log stops, and why (own).
 use Rattle.std.specs.Prelude.{◌≡◌, ◌≢◌, ◌⊎◌, ℕ, ◌-◌, ◌<◌, ◌≤◌, List, [], length}
 use Rattle.sqwal.specs.Header.{named_size}
 use Rattle.sqwal.specs.Frames.{frame_at, frame_end, page_of, HasSalts, HasSums, AllPass}

@@ -1,4 +1,4 @@
--- What a scan has taken.
+-- What a scan has taken (own).
 use Rattle.std.specs.Prelude.{◌≡◌, ◌≢◌, ℕ, suc, ◌+◌, ◌<◌, ◌≤◌, List, [], length, drop, get_or, Option, Some, None}
 use Rattle.sqval.specs.Bytes.{AreBytes}
 use Rattle.sqwal.specs.Sums.{IsSumOf}
@@ -34,6 +34,7 @@ pub record IsRefused (size : ℕ) (b : List ℕ) (n : ℕ) (why : Why) : Type 0 
   pub whole : frame_end size (suc n) ≤ length b
   pub stops : StopsFor size b (suc n) why
 
+-- what lies behind frame n: a frame that is begun, or one that doesn't pass
 abbrev pub IsBehind : (h : WalHeader) (b held : List ℕ) (n : ℕ) → Sum → Option Why → Type 0
 IsBehind h b held n sum None = IsBegun h b held n sum
 IsBehind h b held n sum (Some why) = IsRefused h.page_size b n why
@@ -58,6 +59,7 @@ pub record TookNone (b held : List ℕ) (entries : List Entry) (p : Progress) : 
   pub front : p.front ≡ record { frames = 0; size = 0; end = 0 }
   pub refused : p.refused ≡ None
 
+-- what the parts of a scan hold of the bytes b, whether the header is whole or not
 abbrev pub TookParts : (b held : List ℕ) (entries : List Entry) (p : Progress) → Option WalHeader → Type 0
 TookParts b held entries p None = TookNone b held entries p
 TookParts b held entries p (Some h) = TookFrames h b held entries p

@@ -1,4 +1,4 @@
-//! Why a log is refused.
+//! Why a log is refused (own).
 ghost use Rattle.std.specs.Prelude.{◌≡◌};
 ghost use Rattle.sqwal.specs.Refusal.{number_of};
 

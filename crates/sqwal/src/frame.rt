@@ -1,4 +1,4 @@
-//! The headers of frames.
+//! The headers of frames (fileformat2, 4.1).
 ghost use Rattle.std.specs.Prelude.{◌≡◌, length};
 ghost use Rattle.sqwal.specs.Frames.{IsFrameHead};
 

@@ -1,4 +1,4 @@
-//! The header of a log.
+//! The header of a log (fileformat2, 4.1).
 use crate::error::WalFormatError;
 use crate::sum::{Order, Sum};
 use crate::words::{put_words, word};
@@ -11,10 +11,13 @@ const VERSION: u32 = 3007000;
 pub struct WalHeader {
     /// The order of the words that sums are over, as the magic says.
     pub order: Order,
+    /// The size of the pages.
     pub page_size: PageSize,
     /// Raised by one with each restart of the log.
     pub sequence: u32,
+    /// Raised by one with each restart, too; each frame has it.
     pub salt1: u32,
+    /// Another one after each restart; each frame has it.
     pub salt2: u32,
 }
 

@@ -1,4 +1,4 @@
-//! The frames of a log by the pages that they name.
+//! The frames of a log by the pages that they name (own).
 ghost use Rattle.std.specs.Prelude.{◌≡◌, ◌+◌, ◌<◌, ◌≤◌, max, [], ◌∷◌, ◌++◌, length, OnOk, OnErr};
 
 use crate::error::WalFormatError;
@@ -8,7 +8,9 @@ use std::marker::Model;
 /// What a search found: a frame, or 0, and how many frame numbers it took from the index.
 #[derive(Clone, Copy, Debug, PartialEq, Eq)]
 pub struct Hit {
+    /// From 1; 0 where none is found.
     pub frame: u32,
+    /// How many frame numbers were taken.
     pub steps: u32,
 }
 

@@ -1,4 +1,4 @@
-//! Write-ahead logs: their sums, headers and frames, the scan of a log in any pieces, and its frames by page.
+//! Write-ahead logs (fileformat2, 4): their sums, headers and frames, the scan of a log in any pieces, and its frames by page.
 #![tactic(auto)]
 
 mod error;

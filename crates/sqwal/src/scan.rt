@@ -1,4 +1,4 @@
-//! The scan of a log.
+//! The scan of a log (fileformat2, 4.1 and 4.4; pieces and stops are own).
 ghost use Rattle.std.specs.Prelude.{◌≡◌, ◌↔◌, IsTrue, ℕ, ◌+◌, ◌-◌, ◌<◌, ◌≤◌, List, [], ◌++◌, length, take, if◌then◌else◌, is_ok, OnErr, IfOk, IfErr, MatchResult};
 ghost use Rattle.sqval.specs.Bytes.{word};
 ghost use Rattle.sqval.specs.PageSize.{IsPageSize};
@@ -18,7 +18,9 @@ const MOST_FRAMES: u32 = 2_097_152;
 /// A valid frame: the page that it names, and the database's size in pages where it ends a commit, otherwise 0.
 #[derive(Clone, Copy, Debug, PartialEq, Eq)]
 pub struct Entry {
+    /// From 1.
     pub page: u32,
+    /// In pages, or 0.
     pub size: u32,
 }
 
@@ -26,8 +28,11 @@ pub struct Entry {
 /// behind the last of them.
 #[derive(Clone, Copy, Debug, PartialEq, Eq)]
 pub struct Front {
+    /// Those up to the last one that ends a commit.
     pub frames: u32,
+    /// In pages.
     pub size: u32,
+    /// In bytes.
     pub end: u64,
 }
 
@@ -49,7 +54,9 @@ pub enum Why {
 /// The first frame of a log that isn't valid, from 1; 0 while the header isn't whole.
 #[derive(Clone, Copy, Debug, PartialEq, Eq)]
 pub struct Stop {
+    /// From 1, or 0.
     pub frame: u32,
+    /// The first reason that holds, in the order of the enum.
     pub why: Why,
 }
 
@@ -310,8 +317,9 @@ impl Scan {
         }
     }
 
-    /// Takes the next piece of the log. After an error the scan stands as before the piece. Bytes behind a frame that
-    /// isn't valid are taken and not looked at.
+    /// Takes the next piece of the log. Refused by NotAWal, PageSize, HeaderSum or UnknownVersion, the first that holds,
+    /// once the header's 32 bytes are there; by TooLong once frame 2,097,153 is there and valid; or by NoMemory. After a
+    /// refusal the scan stands as before the piece. Bytes behind a frame that isn't valid are taken and not looked at.
     pub fn feed(&mut self, piece: &[u8]) -> Result<(), WalFormatError>
         ensures { (b : List ℕ) → Took b self.old → FeedAnswer b piece.now result self.new }
     {
@@ -328,7 +336,7 @@ impl Scan {
         self.header
     }
 
-    /// Valid frame i, from 1.
+    /// Valid frame i, from 1. None where it isn't valid.
     pub fn entry(&self, i: usize) -> Option<Entry>
         ensures { (b : List ℕ) → Took b self.now → EntryFound b i result }
     {
@@ -343,7 +351,7 @@ impl Scan {
         &self.frames.entries
     }
 
-    /// The front.
+    /// The front. With no committed frame its size is 0, and its end 32, or 0 while the header isn't whole.
     pub fn committed(&self) -> Front
         ensures { (b : List ℕ) → Took b self.now → IsCommitted b result }
     {

@@ -1,4 +1,4 @@
-//! The checksum of a log.
+//! The checksum of a log (fileformat2, 4.2).
 ghost use Rattle.std.specs.Prelude.{◌≡◌, ◌+◌, ◌%◌, ◌^◌, List, ℕ, [], length, take};
 
 use byteorder::{BigEndian, ByteOrder, LittleEndian};
@@ -6,7 +6,9 @@ use byteorder::{BigEndian, ByteOrder, LittleEndian};
 /// The order of the bytes in a word that a sum is over; the header's magic names it.
 #[derive(Clone, Copy, Debug, PartialEq, Eq)]
 pub enum Order {
+    /// The highest byte first: magic 0x377f0683.
     Big,
+    /// The lowest byte first: magic 0x377f0682.
     Little,
 }
 
@@ -44,7 +46,9 @@ impl Order {
 /// The running checksum of a log (fileformat2, 4.2).
 #[derive(Clone, Copy, Debug, PartialEq, Eq)]
 pub struct Sum {
+    /// The first of the two sums.
     pub s0: u32,
+    /// The second.
     pub s1: u32,
 }
 

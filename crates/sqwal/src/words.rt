@@ -1,4 +1,4 @@
-//! Numbers of 32 bits in a log's headers.
+//! Numbers of 32 bits in a log's headers (fileformat2, 4.1).
 ghost use Rattle.std.specs.Prelude.{◌≡◌, ◌+◌, ◌*◌, ◌^◌, ◌<◌, ◌≤◌, ℕ, length, slice_index};
 ghost use Rattle.std.specs.List.{flat_map};
 ghost use Rattle.byteorder.specs.Endian.{big_bytes};
