@@ -1,4 +1,4 @@
--- What a call of a disk does to it, what a crash does, and how a disk begins.
+-- What a call of a disk does to it, what a crash does, and how a disk begins (own).
 use Rattle.std.specs.Prelude.{◌≡◌, ℕ, ◌+◌, ◌-◌, ◌<◌, ◌≤◌, ◌^◌, min, max, Bool, true, false, List, [], ◌∷◌, ◌++◌, length, get_or, Result, Ok, Err}
 use Rattle.crashdisk.specs.State.{FileState, byte, written, WriteTouches, cut_to, CutTouches, Changed, IsDone, IsSynced, IsShuffled, IsImage, IsSettled, IsSound, longest}
 use Rattle.crashdisk.specs.declared.file.File.{File}
@@ -6,6 +6,7 @@ use Rattle.crashdisk.specs.declared.file.File.TheVariants.{Db, Log}
 use Rattle.crashdisk.specs.declared.error.DiskError.{DiskError}
 use Rattle.crashdisk.specs.declared.error.DiskError.TheVariants.{Stopped, Failed, TooLong, NoMemory}
 
+-- what a disk lists: the size of a sector in bytes, whether it tears, both files, and how many calls it refused
 pub record DiskState : Type 0 where
   pub sector : ℕ
   pub tears : Bool
@@ -54,6 +55,7 @@ ChangedBy sector touches target end (Ok _) old new = Changed sector touches targ
 ChangedBy sector touches target end (Err Failed) old new = Changed sector touches target end old new
 ChangedBy sector touches target end (Err _) old new = new ≡ old
 
+-- a sync of one file, by what was answered
 abbrev pub SyncedBy : {T : Type 0} → (sector : ℕ) → Result T DiskError → FileState → FileState → Type 0
 SyncedBy sector (Ok _) old new = IsSynced old new
 SyncedBy sector (Err Failed) old new = IsShuffled sector old new
@@ -86,6 +88,7 @@ pub record Elsewhere {T : Type 0} (f : File) (result : Result T DiskError) (old 
   pub other : of (other f) new ≡ of (other f) old
   pub refused : new.refused ≡ counted result old.refused
 
+-- a write of these bytes at a place of a file
 pub record Writes {T : Type 0} (f : File) (at : ℕ) (bytes : List ℕ) (result : Result T DiskError) (old new : DiskState) : Type 0 where
   pub elsewhere : Elsewhere f result old new
   pub kept : new.kept ≡ old.kept
@@ -94,6 +97,7 @@ pub record Writes {T : Type 0} (f : File) (at : ℕ) (bytes : List ℕ) (result 
   pub within : EndsWithin result (at + length bytes)
   pub file : ChangedBy old.sector (WriteTouches old.sector (of f old) at bytes) (written (of f old) at bytes) (max (of f old).len (at + length bytes)) result (of f old) (of f new)
 
+-- a change of the length of a file to n bytes
 pub record Cuts {T : Type 0} (f : File) (n : ℕ) (result : Result T DiskError) (old new : DiskState) : Type 0 where
   pub elsewhere : Elsewhere f result old new
   pub kept : new.kept ≡ old.kept
@@ -101,6 +105,7 @@ pub record Cuts {T : Type 0} (f : File) (n : ℕ) (result : Result T DiskError) 
   pub within : EndsWithin result n
   pub file : ChangedBy old.sector (CutTouches old.sector (of f old) n) (cut_to (of f old) n) n result (of f old) (of f new)
 
+-- a sync of a file
 pub record Syncs {T : Type 0} (f : File) (result : Result T DiskError) (old new : DiskState) : Type 0 where
   pub elsewhere : Elsewhere f result old new
   pub since : SinceSync old.tears f result old new

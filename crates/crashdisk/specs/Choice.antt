@@ -1,4 +1,4 @@
--- What a choice names.
+-- What a choice names (own).
 use Rattle.std.specs.Prelude.{◌≡◌, ℕ, suc, ◌-◌, ◌/◌, ◌%◌, ◌<◌, ◌≤◌, ◌^◌, min, max, Bool, IsTrue, true, false, ◌&&◌, cond, nat_lt, nat_eq, List, [], ◌∷◌, length, get_or, map, Option, Some, None}
 use Rattle.std.specs.List.{range_with_len}
 use Rattle.crashdisk.specs.State.{Value, FileState, IsImage, IsSound, longest}
@@ -20,6 +20,7 @@ abbrev pub is_newest : Rest → Bool
 is_newest Oldest = false
 is_newest Newest = true
 
+-- what a choice of a file says
 abbrev pub naming_of : FileChoice → Naming
 naming_of choice = record { pick = choice.pick.items; torn = map (λ entry. (entry.0, entry.1.items)) choice.torn.items; newest = is_newest choice.rest; len = choice.len }
 
@@ -35,6 +36,7 @@ abbrev pub named_len : Option ℕ → (least present greatest : ℕ) → ℕ
 named_len None least present greatest = present
 named_len (Some n) least present greatest = max least (min n greatest)
 
+-- the first, if it is one, otherwise the other
 abbrev pub or_else : Option (List ℕ) → Option (List ℕ) → Option (List ℕ)
 or_else None other = other
 or_else (Some bytes) other = Some bytes

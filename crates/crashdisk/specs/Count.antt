@@ -1,4 +1,4 @@
--- The choices of a crash, counted.
+-- The choices of a crash, counted (own).
 use Rattle.std.specs.Prelude.{◌≡◌, ℕ, zero, suc, ◌+◌, ◌-◌, ◌*◌, ◌/◌, ◌%◌, ◌<◌, true, cond, nat_lt, nat_eq, List, [], length, get_or, map, Some}
 use Rattle.std.specs.List.{range_with_len}
 use Rattle.crashdisk.specs.State.{FileState}

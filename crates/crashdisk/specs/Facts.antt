@@ -1,4 +1,4 @@
--- What an engine keeps of what a crash may leave.
+-- What an engine keeps of what a crash may leave (own).
 use Rattle.std.specs.Prelude.{◌≡◌, ◌⊎◌, ℕ, ◌/◌, ◌<◌, ◌≤◌, ◌+◌, min, Bool, IsTrue, List, length, get_or}
 use Rattle.crashdisk.specs.State.{FileState, IsImage, IsSound, Meets}
 use Rattle.crashdisk.specs.Call.{DiskState, of, other}

@@ -1,4 +1,4 @@
--- A file as the modelled disk keeps it.
+-- A file as the modelled disk keeps it (own).
 use Rattle.std.specs.Prelude.{◌≡◌, ◌⊎◌, ℕ, ◌+◌, ◌-◌, ◌*◌, ◌/◌, ◌%◌, ◌<◌, ◌≤◌, Bool, true, false, cond, nat_lt, nat_le, ◌&&◌, List, [], ◌∷◌, ◌++◌, length, get_or, take, drop, nat_eq, map}
 use Rattle.crashdisk.specs.State.{Value, Same, FileState, Meets, Stale, Added, longest}
 use Rattle.crashdisk.specs.declared.held.Held.{Held}
@@ -75,6 +75,7 @@ is_odd n = nat_eq (n % 2) 1
 abbrev pub swapped : List (List ℕ) → List (List ℕ)
 swapped values = take (length values - 2) values ++ drop (length values - 2 + 1) values ++ get_or values (length values - 2) [] ∷ []
 
+-- touched sector number i of a failed call: the new value stays the present one where entry i of the pick is odd
 abbrev pub Takes : (pick : List ℕ) (i : ℕ) → List (List ℕ) → List (List ℕ) → Type 0
 Takes pick i old new = new ≡ cond (is_odd (get_or pick i 0)) old (swapped old)
 

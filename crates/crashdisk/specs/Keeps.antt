@@ -59,6 +59,7 @@ Told device (Ok _) (Err _) = ⊥
 Told device (Err _) (Ok _) = ⊥
 Told device (Err _) (Err e) = e ≡ device
 
+-- a file is synced, and a refusal of that is told
 abbrev pub SyncStep : {T E : Type 0} → (device : E) → File → Result T E → (old new : DiskState) → Type 0
 SyncStep {T = T} device f result old new = (called : Result T DiskError) × Told device called result × Syncs f called old new
 

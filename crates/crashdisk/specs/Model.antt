@@ -1,4 +1,4 @@
--- The modelled disk.
+-- The modelled disk (own).
 use Rattle.std.specs.Prelude.{◌≡◌, ℕ, suc, Bool, true, false, length, Result, Ok, Err}
 use Rattle.crashdisk.specs.State.{Value, FileState}
 use Rattle.crashdisk.specs.Call.{DiskState}
@@ -20,6 +20,7 @@ pub record IsCounted {T : Type 0} (wants : Bool) (result : Result T DiskError) (
   pub after : new.stops ≡ after_call old.stops
   pub part : new.part ≡ old.part
 
+-- the same of a sync, which wants no memory
 pub record IsSyncCounted {T : Type 0} (result : Result T DiskError) (old new : ModelDisk) : Type 0 where
   pub judged : Judged (stops_sync old.stops) (fails_call old.stops) false result
   pub after : new.stops ≡ after_sync old.stops

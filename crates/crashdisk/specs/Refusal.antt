@@ -1,4 +1,4 @@
--- The numbers of a disk's refusals.
+-- The numbers of a disk's refusals (own).
 use Rattle.std.specs.Prelude.{ℕ}
 use Rattle.crashdisk.specs.declared.error.DiskError.{DiskError}
 use Rattle.crashdisk.specs.declared.error.DiskError.TheVariants.{Stopped, Failed, TooLong, NoMemory}

@@ -1,4 +1,4 @@
--- What a disk that tears keeps of its log.
+-- What a disk that tears keeps of its log (own).
 use Rattle.std.specs.Prelude.{◌≡◌, ℕ, ◌-◌, Bool, true, false, List, [], length, take, map, Result, Ok, Err}
 use Rattle.crashdisk.specs.State.{FileState}
 use Rattle.crashdisk.specs.Call.{ArePresent}

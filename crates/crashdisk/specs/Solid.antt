@@ -1,4 +1,4 @@
--- What holds of a modelled file, as a fact that has one proof.
+-- What holds of a modelled file, as a fact that has one proof (own).
 use Rattle.std.specs.Prelude.{◌≡◌, ◌≢◌, ℕ, ◌*◌, ◌/◌, ◌<◌, ◌≤◌, Bool, ◌||◌, nat_eq, length}
 use Rattle.std.specs.List.{Contains}
 use Rattle.crashdisk.specs.State.{Value, FileState, longest}

@@ -1,4 +1,4 @@
--- What a disk lists for each file, and what a crash may leave of it.
+-- What a disk lists for each file, and what a crash may leave of it (own).
 use Rattle.std.specs.Prelude.{◌≡◌, ◌≢◌, ◌⊎◌, ℕ, ◌+◌, ◌-◌, ◌/◌, ◌^◌, ◌<◌, ◌≤◌, min, max, Bool, cond, nat_lt, nat_le, ◌&&◌, IsTrue, List, [], ◌∷◌, ◌++◌, length, get_or}
 use Rattle.std.specs.List.{Contains}
 
@@ -72,6 +72,7 @@ Stale sector s end k = (s.len < end) × Meets sector 0 end k × ((i : ℕ) × (s
 abbrev pub written : FileState → ℕ → List ℕ → Value
 written s at bytes i = cond (nat_le at i && nat_lt i (at + length bytes)) (get_or bytes (i - at) 0) (byte s i)
 
+-- sector k is touched by a write of these bytes at a place
 abbrev pub WriteTouches : (sector : ℕ) → FileState → ℕ → List ℕ → ℕ → Type 0
 WriteTouches sector s at bytes k = Meets sector at (at + length bytes) k ⊎ Stale sector s (max s.len (at + length bytes)) k
 
@@ -79,6 +80,7 @@ WriteTouches sector s at bytes k = Meets sector at (at + length bytes) k ⊎ Sta
 abbrev pub cut_to : FileState → ℕ → Value
 cut_to s n i = cond (nat_lt i n) (byte s i) 0
 
+-- sector k is touched by a change of the length to n
 abbrev pub CutTouches : (sector : ℕ) → FileState → ℕ → ℕ → Type 0
 CutTouches sector s n k = Meets sector n s.len k ⊎ Stale sector s n k
 

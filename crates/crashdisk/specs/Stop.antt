@@ -1,4 +1,4 @@
--- When a modelled disk stops, and which call of it fails.
+-- When a modelled disk stops, and which call of it fails (own).
 use Rattle.std.specs.Prelude.{◌≡◌, ℕ, ◌-◌, Bool, true, false, ◌||◌, nat_eq, Option, Some, None, Result, Ok, Err}
 use Rattle.crashdisk.specs.declared.stops.Stops.{Stops}
 use Rattle.crashdisk.specs.declared.error.DiskError.{DiskError}
@@ -9,6 +9,7 @@ abbrev pub is_over : Option ℕ → Bool
 is_over None = false
 is_over (Some n) = nat_eq n 0
 
+-- how many calls are left after one more
 abbrev pub one_less : Option ℕ → Option ℕ
 one_less None = None
 one_less (Some n) = Some (n - 1)

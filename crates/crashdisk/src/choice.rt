@@ -1,4 +1,4 @@
-//! What a crash is told to leave.
+//! What a crash is told to leave (own).
 ghost use Rattle.std.specs.Prelude.{◌≡◌, ◌<◌, length, min, max, suc, Option, Some, None, MatchOption, []};
 ghost use Rattle.crashdisk.specs.Choice.{naming_of, newest, oldest, is_newest, named_len, last_torn, IsLeft, EachImageIsNamed};
 ghost use Rattle.crashdisk.specs.Held.{picked};
@@ -9,7 +9,9 @@ use std::alloc::Global;
 /// The value that a sector without an entry takes.
 #[derive(Clone, Copy, Debug, PartialEq, Eq)]
 pub enum Rest {
+    /// The first that is listed.
     Oldest,
+    /// The present one.
     Newest,
 }
 
@@ -18,8 +20,9 @@ pub enum Rest {
 pub struct FileChoice {
     /// Sector k takes the value of number `pick[k]` modulo their count, 0 being the oldest.
     pub pick: Vec<u64>,
-    /// On a disk that tears, a sector that was touched since its file was last synced, or since a later crash, takes the bytes of
-    /// its last entry here, cut or filled with zeros to a sector. Other entries are without effect.
+    /// On a disk that tears, a sector that was touched since its file was last synced, or since a later crash, takes
+    /// the bytes of its last entry here, cut or filled with zeros to a sector. Other entries are without effect. A
+    /// crash goes through all entries for each such sector.
     pub torn: Vec<(u32, Vec<u8>)>,
     /// What the sectors take that have no entry in `pick`.
     pub rest: Rest,
@@ -30,7 +33,9 @@ pub struct FileChoice {
 /// What a crash leaves of both files.
 #[derive(Drop)]
 pub struct Choice {
+    /// Of the database.
     pub db: FileChoice,
+    /// Of the log.
     pub log: FileChoice,
 }
 

@@ -1,4 +1,4 @@
-//! Why a disk refuses a call.
+//! Why a disk refuses a call (own).
 ghost use Rattle.std.specs.Prelude.{◌≡◌};
 ghost use Rattle.crashdisk.specs.Refusal.{number_of};
 
@@ -10,7 +10,7 @@ pub enum DiskError {
     /// The machine has stopped; no call is carried out until a crash.
     #[error("the disk has stopped")]
     Stopped,
-    /// The device failed: a write may be there in part.
+    /// The device failed: a change may be there in part, and a sync may have brought nothing down.
     #[error("the disk call failed")]
     Failed,
     /// The call would end above 1,099,511,627,776 bytes.

@@ -1,4 +1,4 @@
-//! A file as the modelled disk keeps it.
+//! A file as the modelled disk keeps it (own).
 ghost use Rattle.std.specs.Prelude.{◌≡◌, ◌≢◌, ◌⊎◌, ◌<◌, ◌≤◌, ◌+◌, ◌-◌, ◌*◌, ◌/◌, ◌%◌, ◌^◌, ◌↔◌, ℕ, IsTrue, List, [], ◌∷◌, ◌++◌, length, take, drop, replicate, slice_index, slice_index_or, OnOk, OnErr, IfOk, max, set, cond, EachIndex, suc, true};
 ghost use Rattle.crashdisk.specs.State.{Meets};
 ghost use Rattle.crashdisk.specs.Held.{last_of, file_by, AreWhole, Touches, put_byte, IsListOf, EachOf, AreRising, IsPut, Gets, Loses, Takes, is_odd, IsCutTo, picked, turned};
@@ -60,7 +60,9 @@ impl Change<'_> {
 /// present one.
 #[derive(Debug, Drop)]
 pub struct Part {
+    /// By the touched sectors; of a sync by all sectors.
     pub pick: Vec<u32>,
+    /// Of a sync without effect.
     pub new_len: bool,
 }
 

@@ -1,4 +1,4 @@
-//! A disk of two files that may lose, in a crash, what was not synced.
+//! A disk of two files that may lose, in a crash, what was not synced (own).
 #![tactic(auto)]
 
 mod calls;

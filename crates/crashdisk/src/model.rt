@@ -23,7 +23,7 @@ use crate::since::Since;
 use crate::stops::Stops;
 use std::alloc::Global;
 
-/// A disk in memory, of which a crash leaves what is chosen. It keeps its word always.
+/// A disk in memory, of which a crash leaves what is chosen (own). It keeps its word always.
 #[derive(Drop)]
 pub struct ModelDisk {
     alloc: Global,
@@ -52,11 +52,12 @@ impl ModelDisk {
     ghost use Rattle.crashdisk.specs.Count.{choice_count, IsChoice, HasDigits};
     ghost use Rattle.crashdisk.specs.Model.{state_of};
 
-    /// A disk of sectors of this size, which doesn't tear: the database holds these bytes, the log is empty, and both are
-    /// down. TooLong where the bytes are more than 1,099,511,627,776, otherwise NoMemory alone.
+    /// A disk of sectors of this size, which doesn't tear: the database holds these bytes, the log is empty, both are down,
+    /// and no stop and no failure is set. TooLong where the bytes are more than 1,099,511,627,776, otherwise NoMemory alone.
     pub fn new(alloc: Global, sector: usize, db: Vec<u8>) -> Result<ModelDisk, DiskError>
         requires { IsTrue (is_sector_size sector) }
         ensures made { IfOk result (λ d. IsNew sector false db.items (state_of d)) }
+        ensures unset { IfOk result (λ d. d.stops ≡ no_stops) }
         ensures error { IfErr result (λ e. number_of e ≡ cond (nat_lt longest (length db.items)) 3 4) }
         ensures fits { OnOk result (length db.items ≤ longest) }
     {
@@ -67,6 +68,7 @@ impl ModelDisk {
     pub fn tearing(alloc: Global, sector: usize, db: Vec<u8>) -> Result<ModelDisk, DiskError>
         requires { IsTrue (is_sector_size sector) }
         ensures made { IfOk result (λ d. IsNew sector true db.items (state_of d)) }
+        ensures unset { IfOk result (λ d. d.stops ≡ no_stops) }
         ensures error { IfErr result (λ e. number_of e ≡ cond (nat_lt longest (length db.items)) 3 4) }
         ensures fits { OnOk result (length db.items ≤ longest) }
     {
@@ -76,6 +78,7 @@ impl ModelDisk {
     fn with(alloc: Global, sector: usize, tears: bool, db: &[u8]) -> Result<ModelDisk, DiskError>
         requires { IsTrue (is_sector_size sector) }
         ensures made { IfOk result (λ d. IsNew sector tears db.now (state_of d)) }
+        ensures unset { IfOk result (λ d. d.stops ≡ no_stops) }
         ensures error { IfErr result (λ e. number_of e ≡ cond (nat_lt longest (length db.now)) 3 4) }
         ensures fits { OnOk result (length db.now ≤ longest) }
     {
