@@ -7,12 +7,12 @@ use Rattle.sqval.specs.Database.{Database, page}
 use Rattle.sqpage.specs.declared.cell.Cell.{Cell}
 use Rattle.sqpage.specs.declared.fault.Fault.{Fault}
 use Rattle.sqpage.specs.declared.fault.Fault.TheVariants as faults
-use Rattle.sqpage.specs.Lists.{Every, Apart}
+use Rattle.sqpage.specs.Lists.{In, Every, Apart}
 use Rattle.sqpage.specs.Freelist.{IsWithin, IsPage, Leads, next_in}
-use Rattle.sqpage.specs.Chain.{links, contents, Follows, IsPayload, ChainRefused}
-use Rattle.sqpage.specs.Taking.{is_marked, Marks, AreTaken, TakeRefused, LinkRefused}
-use Rattle.sqpage.proofs.ListLemmas.{apart_split}
-use Rattle.sqpage.proofs.Takings.{takes, fewer_unmarked, none_taken, refused}
+use Rattle.sqpage.specs.Chain.{links, contents, Follows, IsPayload, ChainBroken, ChainRefused}
+use Rattle.sqpage.specs.Taking.{is_marked, Marks, AreTaken, TakeRefused, LinkRefused, GoesOn, ChainStops}
+use Rattle.sqpage.proofs.ListLemmas.{apart_split, every_from_in}
+use Rattle.sqpage.proofs.Takings.{takes, fewer_unmarked, none_taken}
 use Rattle.sqpage.proofs.Freelists.{leads_on, leads_snoc}
 
 either : (b : Bool) → (b ≡ true) ⊎ (b ≡ false)
@@ -60,11 +60,11 @@ next_is d cell pages at p content f is lt =
 
 -- Where a fault stands there is no payload.
 pub no_payload : (d : Database) (cell : Cell) (fault : Fault) (at : ℕ) → ChainRefused d cell fault at → fault ≢ faults.NoMemory → (content : List ℕ) → IsPayload d cell content → ⊥
-no_payload d cell fault at stands other content is = go fault stands other
+no_payload d cell fault at (inl h) other content is = let most = at_most_all d cell.page cell.overflow is.pages is.last 0 is.follows.linked is.follows.distinct in let few = h.2 in absurd (omega (arith, most, is.enough, few))
+no_payload d cell fault at (inr broken) other content is = go fault broken.1 other
   where
-    go : (fault : Fault) → ChainRefused d cell fault at → fault ≢ faults.NoMemory → ⊥
-    go faults.ChainCut (inl h) other = let most = at_most_all d cell.page cell.overflow is.pages is.last 0 is.follows.linked is.follows.distinct in absurd (omega (arith, most, is.enough, h.1))
-    go faults.ChainCut (inr h) other = let n = next_is d cell h.0 at 0 content h.1 is h.2 in absurd (omega (arith, n.2.0))
+    go : (fault : Fault) → ChainBroken d cell fault at → fault ≢ faults.NoMemory → ⊥
+    go faults.ChainCut h other = let n = next_is d cell h.0 at 0 content h.1 is h.2 in absurd (omega (arith, n.2.0))
     go faults.ChainLong h other =
         let r = leads_on d cell.page cell.overflow h.0 at h.1 is.pages is.last h.2.linked is.follows.linked in
         long r.rest r.joined r.leads
@@ -77,34 +77,101 @@ no_payload d cell fault at stands other content is = go fault stands other
     go faults.NoMemory h other = other refl
     go _ h other = h
 
+-- A walk from a number to one that is no page has one length.
+same_steps : (d : Database) (h k a : ℕ) (ts us : List ℕ) (at last p : ℕ) → ¬ IsPage d p → Leads d h a ts at p → Leads d k a us last p → length ts ≡ length us
+same_steps d h k a [] [] at last p none l m = refl
+same_steps d h k a [] (u ∷ us) at last p none l m = absurd (none (subst (IsPage d) (sym m.0 ∙ l.1) m.1))
+same_steps d h k a (t ∷ ts) [] at last p none l m = absurd (none (subst (IsPage d) (sym l.0 ∙ m.1) l.1))
+same_steps d h k a (t ∷ ts) (u ∷ us) at last p none l m =
+    let e : u ≡ t = sym m.0 ∙ l.0 in
+    ap suc (same_steps d t t (next_in (page d t)) ts us at last p none l.2 (subst (λ u. Leads d u (next_in (page d u)) us last p) e m.2))
+
+-- What follows a page of a walk.
+record After (d : Database) (x : ℕ) (ts : List ℕ) (at p : ℕ) : Type 0 where
+  pub rest : List ℕ
+  pub leads : Leads d x (next_in (page d x)) rest at p
+  pub fewer : length rest < length ts
+
+after : (d : Database) (h a x : ℕ) (ts : List ℕ) (at p : ℕ) → Leads d h a ts at p → In x ts → After d x ts at p
+after d h a x [] at p l i = absurd i
+after d h a x (t ∷ ts) at p l (inl e) = record { rest = ts; leads = subst (λ t. Leads d t (next_in (page d t)) ts at p) (sym e) l.2; fewer = omega arith }
+after d h a x (t ∷ ts) at p l (inr i) = let r = after d t (next_in (page d t)) x ts at p l.2 i in record { rest = r.rest; leads = r.leads; fewer = let lt = r.fewer in omega (arith, lt) }
+
+-- A walk that ends outside the pages comes to none twice: what follows a page is as long each time.
+pub apart_to_end : (d : Database) (h a : ℕ) (ts : List ℕ) (at p : ℕ) → ¬ IsPage d p → Leads d h a ts at p → Apart ts
+apart_to_end d h a [] at p none l = tt
+apart_to_end d h a (t ∷ ts) at p none l = (every_from_in (λ y. t ≡ y → ⊥) ts (λ y i e. once (subst (λ y. In y ts) (sym e) i)), apart_to_end d t (next_in (page d t)) ts at p none l.2)
+  where
+    once : In t ts → ⊥
+    once i =
+        let r = after d t (next_in (page d t)) t ts at p l.2 i in
+        let same = same_steps d t t (next_in (page d t)) r.rest ts at at p none r.leads l.2 in
+        let lt = r.fewer in
+        absurd (omega (arith, same, lt))
+
+pub zero_is_no_page : (d : Database) → ¬ IsPage d 0
+zero_is_no_page d is = let lt : 0 < 0 = is.0 in absurd (omega arith)
+
+-- A chain that goes on doesn't end early.
+pub never_ends : (d : Database) (cell : Cell) (pages : List ℕ) (last : ℕ) → GoesOn d cell → Follows d cell pages last 0 → length pages ≤ links cell → ⊥
+never_ends d cell pages last g f most =
+    let r = leads_on d cell.page cell.overflow g.pages g.last g.p pages last g.linked f.linked in
+    go r.rest r.joined r.leads g.too_far
+  where
+    go : (rest : List ℕ) → pages ≡ g.pages ++ rest → Leads d g.last g.p rest last 0 → (length g.pages ≡ links cell) ⊎ In g.p g.pages → ⊥
+    go [] e l far = g.nonzero l.1
+    go (x ∷ rest) e l (inl same) = let n : length pages ≡ length g.pages + length (x ∷ rest) = ap length e ∙ length-append g.pages (x ∷ rest) in absurd (omega (arith, n, same, most))
+    go (x ∷ rest) e l (inr i) = apart_split g.pages rest x (subst Apart e f.distinct) (subst (λ x. In x g.pages) l.0 i)
+
 -- The steps of the walk.
 pub chain_refused : (d : Database) (cell : Cell) (pages : List ℕ) (at p n : ℕ) (fault : Fault) (where_at : ℕ) → n ≡ length d → Leads d cell.page cell.overflow pages at p → Apart pages → length pages < links cell
-    → p ≢ 0 → TakeRefused n pages at p fault where_at → ChainRefused d cell fault where_at
+    → p ≢ 0 → TakeRefused n pages at p fault where_at → ChainBroken d cell fault where_at
 chain_refused d cell pages at p n fault where_at len l apart lt nonzero t = go fault (subst (λ n. TakeRefused n pages at p fault where_at) len t)
   where
     f : Follows d cell pages at p
     f = record { linked = l; distinct = apart }
 
-    go : (fault : Fault) → TakeRefused (length d) pages at p fault where_at → ChainRefused d cell fault where_at
-    go faults.PageTwice t = subst (ChainRefused d cell faults.PageTwice) (sym t.0) (pages, at, f, lt, t.1, t.2)
-    go faults.PageOutside t = subst (ChainRefused d cell faults.PageOutside) (sym t.0) (pages, p, f, lt, nonzero, t.1)
+    go : (fault : Fault) → TakeRefused (length d) pages at p fault where_at → ChainBroken d cell fault where_at
+    go faults.PageTwice t = subst (ChainBroken d cell faults.PageTwice) (sym t.0) (pages, at, f, lt, t.1, t.2)
+    go faults.PageOutside t = subst (ChainBroken d cell faults.PageOutside) (sym t.0) (pages, p, f, lt, nonzero, t.1)
     go faults.NoMemory t = tt
     go _ t = absurd t
+
+-- A page that can't be read is refused.
+pub link_refused : (d e : Database) (cell : Cell) (pages : List ℕ) (at p : ℕ) (fault : Fault) (where_at : ℕ) → e ≡ d → Leads d cell.page cell.overflow pages at p → length pages < links cell → p ≢ 0 → LinkRefused e at p fault where_at → ChainBroken d cell fault where_at
+link_refused d e cell pages at p fault where_at same l lt nonzero r = go fault (subst (λ e. LinkRefused e at p fault where_at) same r)
+  where
+    go : (fault : Fault) → LinkRefused d at p fault where_at → ChainBroken d cell fault where_at
+    go faults.PageOutside r = subst (ChainBroken d cell faults.PageOutside) (sym r.0) (pages, p, record { linked = l; distinct = apart_to_end d cell.page cell.overflow pages at p r.1 l }, lt, nonzero, r.1)
+    go faults.NoMemory r = tt
+    go _ r = absurd r
+
+-- A chain that leads to 0.
+pub ends : (d : Database) (cell : Cell) (pages : List ℕ) (at p : ℕ) → p ≡ 0 → Leads d cell.page cell.overflow pages at p → Follows d cell pages at 0
+ends d cell pages at p e l =
+    let zero_next = subst (Leads d cell.page cell.overflow pages at) e l in
+    record { linked = zero_next; distinct = apart_to_end d cell.page cell.overflow pages at 0 (zero_is_no_page d) zero_next }
+
+-- What the marks say of a chain that goes on.
+pub stops : (d : Database) (cell : Cell) (fault : Fault) (at : ℕ) → GoesOn d cell → ChainStops d cell fault at → ChainBroken d cell fault at
+stops d cell fault at g s =
+    let few = s.few in
+    chain_refused d cell s.pages s.holder s.p (length d) fault at refl s.follows.linked s.follows.distinct few (λ e. never_ends d cell s.pages s.holder g (subst (Follows d cell s.pages s.holder) e s.follows) (omega (arith, few))) s.refused
+
+pub too_long : (d : Database) (cell : Cell) (last : ℕ) → GoesOn d cell → (pages : List ℕ) × (p : ℕ) × Follows d cell pages last p × (length pages ≡ links cell) → ChainBroken d cell faults.ChainLong last
+too_long d cell last g f =
+    let same = f.3 in
+    (f.0, f.1, f.2, same, λ e. never_ends d cell f.0 last g (subst (Follows d cell f.0 last) e f.2) (omega (arith, same)))
 
 pub contents_more : (d : Database) (u : ℕ) (ps : List ℕ) (p : ℕ) → contents d u (ps ++ p ∷ []) ≡ contents d u ps ++ take (u - 4) (drop 4 (page d p))
 contents_more d u [] p = append-nil (take (u - 4) (drop 4 (page d p)))
 contents_more d u (q ∷ ps) p = ap (λ l. take (u - 4) (drop 4 (page d q)) ++ l) (contents_more d u ps p) ∙ sym (append_assoc (take (u - 4) (drop 4 (page d q))) (contents d u ps) (take (u - 4) (drop 4 (page d p))))
 
-pub link_refused : (marks : List Bool) (pages : List ℕ) (at p : ℕ) (fault : Fault) (w : ℕ) → AreTaken marks pages → LinkRefused marks at p fault w → TakeRefused (length marks) pages at p fault w
-link_refused marks pages at p fault w a (inl m) = refused marks pages at p fault w a m
-link_refused marks pages at p fault w a (inr e) = subst (λ f. TakeRefused (length marks) pages at p f w) (sym e) tt
-
 -- A page more of the chain.
-pub linked_on : (d e : Database) (cell : Cell) (old new : List Bool) (pages : List ℕ) (at p next : ℕ) → e ≡ d → length old ≡ length d → Marks old new p → next ≡ next_in (page e p)
-    → Leads d cell.page cell.overflow pages at p → Leads d cell.page cell.overflow (pages ++ p ∷ []) p next
-linked_on d e cell old new pages at p next same len m n l =
+pub linked_on : (d e : Database) (cell : Cell) (pages : List ℕ) (at p next : ℕ) → e ≡ d → IsPage d p → next ≡ next_in (page e p) → Leads d cell.page cell.overflow pages at p → Leads d cell.page cell.overflow (pages ++ p ∷ []) p next
+linked_on d e cell pages at p next same is n l =
     subst (Leads d cell.page cell.overflow (pages ++ p ∷ []) p) (sym (n ∙ ap (λ d. next_in (page d p)) same))
-    (leads_snoc d cell.page cell.overflow pages at p l (m.above, subst (λ n. p ≤ n) len m.within))
+    (leads_snoc d cell.page cell.overflow pages at p l is)
 
 pub content_on : (d e : Database) (u : ℕ) (pages : List ℕ) (p : ℕ) (first out new : List ℕ) → e ≡ d → out ≡ first ++ contents d u pages → new ≡ out ++ take (u - 4) (drop 4 (page e p)) → new ≡ first ++ contents d u (pages ++ p ∷ [])
 content_on d e u pages p first out new same o n =
@@ -136,3 +203,6 @@ cut old local cs mid b s end m eb e small =
 
 pub more_than : (a b m n : ℕ) → a ≡ m → b ≡ n → a < b → m < n
 more_than a b m n e f lt = omega arith
+
+pub at_most : (a b m n : ℕ) → a ≡ m → b ≡ n → b ≤ a → n ≤ m
+at_most a b m n e f le = omega arith

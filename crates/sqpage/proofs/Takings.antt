@@ -2,10 +2,8 @@
 use Rattle.std.proofs.Common.{◌≡◌, ◌≢◌, ℕ, zero, suc, ◌-◌, ◌<◌, ◌≤◌, List, [], ◌∷◌, ◌++◌, length, get_or, set, Bool, true, false, not, cond, count_by, replicate, refl, sym, ap, subst, ◌∙◌, inl, inr, arith, append_assoc, append-nil, length-set, get_or-set_other, get_or-set_same}
 use Rattle.std.proofs.lemmas.Bool.{cases_eq}
 use Rattle.std.proofs.lemmas.List.Sums.{sum_by-set}
-use Rattle.sqpage.specs.declared.fault.Fault.{Fault}
-use Rattle.sqpage.specs.declared.fault.Fault.TheVariants as faults
 use Rattle.sqpage.specs.Lists.{In, Every}
-use Rattle.sqpage.specs.Taking.{is_marked, Marks, MarkRefused, AreTaken, TakesAll, TakeRefused}
+use Rattle.sqpage.specs.Taking.{is_marked, Marks, AreTaken, TakesAll}
 use Rattle.sqpage.specs.Freelist.{IsWithin}
 use Rattle.sqpage.proofs.ListLemmas.{in_left, in_right, in_cases, every_in, every_append, apart_snoc}
 
@@ -90,11 +88,6 @@ takes_more old new last ps qs rs xs ys a b = record {
   same_count = b.same_count ∙ a.same_count;
   fewer_left = omega (arith, a.fewer_left, b.fewer_left);
 }
-
-pub refused : (old : List Bool) (ps : List ℕ) (holder p : ℕ) (fault : Fault) (at : ℕ) → AreTaken old ps → MarkRefused old holder p fault at → TakeRefused (length old) ps holder p fault at
-refused old ps holder p faults.PageTwice at a m = (m.0, (m.1, m.2), a.only p (m.1, m.2) m.3)
-refused old ps holder p faults.PageOutside at a m = m
-refused old ps holder p _ at a m = absurd m
 
 pub none_taken_yet : (n : ℕ) (marks : List Bool) (ps : List ℕ) → marks ≡ replicate n false → ps ≡ [] → AreTaken marks ps
 none_taken_yet n marks ps e none = subst (AreTaken marks) (sym none) (none_taken n marks e)

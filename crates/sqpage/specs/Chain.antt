@@ -1,6 +1,6 @@
 -- Payloads with their overflow chains (fileformat2, 1.7): the local part stands in the cell, and the rest in pages, each of
 -- which names the next one in its first four bytes.
-use Rattle.std.specs.Prelude.{◌≡◌, ◌≢◌, ℕ, ◌+◌, ◌-◌, ◌/◌, ◌<◌, ◌⊎◌, List, ◌++◌, length, take, drop, flat_map, unwrap_or}
+use Rattle.std.specs.Prelude.{◌≡◌, ◌≢◌, ℕ, ◌+◌, ◌-◌, ◌/◌, ◌<◌, ◌≤◌, ◌⊎◌, List, ◌++◌, length, take, drop, flat_map, unwrap_or}
 use Rattle.sqval.specs.Database.{Database, page}
 use Rattle.sqpage.specs.declared.cell.Cell.{Cell}
 use Rattle.sqpage.specs.declared.fault.Fault.{Fault}
@@ -36,13 +36,17 @@ pub record IsPayload (d : Database) (cell : Cell) (content : List ℕ) : Type 0 
   pub follows : Follows d cell pages last 0
   pub content_is : content ≡ take (payload_size cell) (cell.local.now ++ contents d cell.usable pages)
 
--- The first fault of a chain. That it needs more pages than there are is judged before it is followed.
+-- Where a chain that is followed breaks off: the first fault on its way.
+abbrev pub ChainBroken : Database → Cell → Fault → (at : ℕ) → Type 0
+ChainBroken d cell faults.ChainCut at = (pages : List ℕ) × Follows d cell pages at 0 × (length pages < links cell)
+ChainBroken d cell faults.ChainLong at = (pages : List ℕ) × (p : ℕ) × Follows d cell pages at p × (length pages ≡ links cell) × (p ≢ 0)
+ChainBroken d cell faults.PageTwice at = (pages : List ℕ) × (holder : ℕ) × Follows d cell pages holder at × (length pages < links cell) × IsPage d at × In at pages
+ChainBroken d cell faults.PageOutside at = (pages : List ℕ) × (p : ℕ) × Follows d cell pages at p × (length pages < links cell) × (p ≢ 0) × ¬ IsPage d p
+ChainBroken d cell faults.NoMemory at = Unit {0}
+ChainBroken d cell _ at = ⊥
+
+-- The first fault of a chain: it needs more pages than there are, which is judged before it is followed, or it breaks off.
 abbrev pub ChainRefused : Database → Cell → Fault → (at : ℕ) → Type 0
-ChainRefused d cell faults.ChainCut at =
-    ((at ≡ cell.page) × (length d < links cell))
-    ⊎ ((pages : List ℕ) × Follows d cell pages at 0 × (length pages < links cell))
-ChainRefused d cell faults.ChainLong at = (pages : List ℕ) × (p : ℕ) × Follows d cell pages at p × (length pages ≡ links cell) × (p ≢ 0)
-ChainRefused d cell faults.PageTwice at = (pages : List ℕ) × (holder : ℕ) × Follows d cell pages holder at × (length pages < links cell) × IsPage d at × In at pages
-ChainRefused d cell faults.PageOutside at = (pages : List ℕ) × (p : ℕ) × Follows d cell pages at p × (length pages < links cell) × (p ≢ 0) × ¬ IsPage d p
-ChainRefused d cell faults.NoMemory at = Unit {0}
-ChainRefused d cell _ at = ⊥
+ChainRefused d cell fault at =
+    ((fault ≡ faults.ChainCut) × (at ≡ cell.page) × (length d < links cell))
+    ⊎ ((links cell ≤ length d) × ChainBroken d cell fault at)

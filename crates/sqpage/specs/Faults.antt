@@ -1,4 +1,4 @@
--- The numbers and the names of faults.
+-- The numbers and the names of faults (own).
 use Rattle.std.specs.Prelude.{ℕ, List, codes}
 use Rattle.sqpage.specs.declared.fault.Fault.{Fault}
 use Rattle.sqpage.specs.declared.fault.Fault.TheVariants as faults

@@ -86,6 +86,7 @@ pub record NamesLeaf (d : Database) (taken : List ℕ) (holder p : ℕ) : Type 0
   pub within : Every (IsPage d) taken
   pub distinct : Apart taken
 
+-- it does so as a trunk, or as a leaf
 abbrev pub Names : Database → (taken : List ℕ) → (holder p : ℕ) → Type 0
 Names d taken holder p = NamesTrunk d taken holder p ⊎ NamesLeaf d taken holder p
 

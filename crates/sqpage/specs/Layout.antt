@@ -12,6 +12,7 @@ pub record Span : Type 0 where
   pub start : ℕ
   pub size : ℕ
 
+-- the byte at a place is one of these
 abbrev pub covers : Span → (place : ℕ) → Bool
 covers s place = nat_le s.start place && nat_lt place (s.start + s.size)
 

@@ -1,4 +1,4 @@
--- Lists by recursion.
+-- Lists by recursion (own).
 use Rattle.std.specs.Prelude.{◌≡◌, ℕ, zero, suc, ◌⊎◌, List, [], ◌∷◌}
 
 -- x is an element

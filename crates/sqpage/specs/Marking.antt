@@ -1,4 +1,4 @@
--- Words of the helper functions that mark the bytes of a page. No public contract cites them.
+-- Words of the helper functions that mark the bytes of a page (own). No public contract cites them.
 use Rattle.std.specs.Prelude.{◌≡◌, ℕ, List, ◌++◌, length, Bool, true, false, get_or, cond}
 use Rattle.sqpage.specs.Page.{Page, cell_count}
 use Rattle.sqpage.specs.Layout.{Span, covers, times_covered, ShareNone, AreFreeblocks, AreCellSpans, HasFreeblocks, PointersEndBefore}

@@ -69,6 +69,7 @@ cell_count_in used number = half used (head_at number + 3)
 abbrev pub content_start_in : List ℕ → (number : ℕ) → ℕ
 content_start_in used number = if half used (head_at number + 5) == 0 then 65536 else half used (head_at number + 5)
 
+-- where the pointers to the cells begin, of two bytes each
 abbrev pub pointers_at : Kind → (number : ℕ) → ℕ
 pointers_at kind number = head_at number + (if is_interior kind then 12 else 8)
 

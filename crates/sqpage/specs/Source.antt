@@ -1,4 +1,4 @@
--- A file as a source of pages.
+-- A file as a source of pages (own).
 use Rattle.std.specs.Prelude.{ℕ, zero, suc, List, [], ◌∷◌, take, drop}
 use Rattle.sqval.specs.Database.{Database}
 

@@ -1,11 +1,11 @@
--- Words of the helper functions that mark pages as taken. No public contract cites them.
-use Rattle.std.specs.Prelude.{◌≡◌, ℕ, ◌-◌, ◌<◌, ◌≤◌, ◌⊎◌, List, [], ◌∷◌, ◌++◌, length, Bool, true, false, get_or, set, count_by, not}
+-- Words of the helper functions that mark pages as taken or follow a chain (own). No public contract cites them.
+use Rattle.std.specs.Prelude.{◌≡◌, ◌≢◌, ℕ, ◌-◌, ◌<◌, ◌≤◌, ◌⊎◌, List, [], ◌∷◌, ◌++◌, length, Bool, true, false, get_or, set, count_by, not}
 use Rattle.sqval.specs.Database.{Database, page}
 use Rattle.sqpage.specs.declared.fault.Fault.{Fault}
 use Rattle.sqpage.specs.declared.fault.Fault.TheVariants as faults
 use Rattle.sqpage.specs.Lists.{In, Every, Apart, each_from}
 use Rattle.sqpage.specs.declared.cell.Cell.{Cell}
-use Rattle.sqpage.specs.Freelist.{IsWithin, IsPage, most_leaves, leaf_count_in, leaf_in}
+use Rattle.sqpage.specs.Freelist.{IsWithin, IsPage, Leads, most_leaves, leaf_count_in, leaf_in}
 use Rattle.sqpage.specs.Chain.{links, contents, Follows}
 
 -- whether page p is marked
@@ -61,9 +61,11 @@ TrunkRefused d taken holder trunk fault at =
     ⊎ ((fault ≡ faults.FreeCount) × (at ≡ trunk) × IsPage d trunk × ¬ In trunk taken × (most_leaves d < leaf_count_in (page d trunk)))
     ⊎ (IsPage d trunk × (leaf_count_in (page d trunk) ≤ most_leaves d) × LeafRefused (length d) (taken ++ trunk ∷ []) trunk (page d trunk) fault at)
 
--- A page of a chain can't be taken, or memory ran out.
-abbrev pub LinkRefused : List Bool → (holder p : ℕ) → Fault → (at : ℕ) → Type 0
-LinkRefused marks holder p fault at = MarkRefused marks holder p fault at ⊎ (fault ≡ faults.NoMemory)
+-- The number p, which page `holder` names, is no page, or memory ran out.
+abbrev pub LinkRefused : Database → (holder p : ℕ) → Fault → (at : ℕ) → Type 0
+LinkRefused d holder p faults.PageOutside at = (at ≡ holder) × ¬ IsPage d p
+LinkRefused d holder p faults.NoMemory at = Unit {0}
+LinkRefused d holder p _ at = ⊥
 
 -- The contents of a cell's whole chain were appended.
 pub record AppendsChain (d : Database) (cell : Cell) (old new : List ℕ) : Type 0 where
@@ -72,3 +74,21 @@ pub record AppendsChain (d : Database) (cell : Cell) (old new : List ℕ) : Type
   pub enough : length pages ≡ links cell
   pub follows : Follows d cell pages last 0
   pub appended : new ≡ old ++ contents d cell.usable pages
+
+-- The pages of a cell's chain lead to a number that isn't 0, where they are as many as the cell needs or it is one of them.
+pub record GoesOn (d : Database) (cell : Cell) : Type 0 where
+  pub pages : List ℕ
+  pub last : ℕ
+  pub p : ℕ
+  pub linked : Leads d cell.page cell.overflow pages last p
+  pub nonzero : p ≢ 0
+  pub too_far : (length pages ≡ links cell) ⊎ In p pages
+
+-- Behind fewer pages of a cell's chain than it needs, the next one can't be taken.
+pub record ChainStops (d : Database) (cell : Cell) (fault : Fault) (at : ℕ) : Type 0 where
+  pub pages : List ℕ
+  pub holder : ℕ
+  pub p : ℕ
+  pub follows : Follows d cell pages holder p
+  pub few : length pages < links cell
+  pub refused : TakeRefused (length d) pages holder p fault at

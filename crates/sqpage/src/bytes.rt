@@ -1,4 +1,4 @@
-//! Numbers of several bytes, the highest first.
+//! Numbers of several bytes, the highest first (own).
 ghost use Rattle.std.specs.Prelude.{◌≡◌, ◌+◌, ◌<◌, ◌≤◌, length};
 ghost use Rattle.sqval.specs.Bytes.{word};
 ghost use Rattle.sqpage.specs.Header.{half};

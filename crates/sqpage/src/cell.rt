@@ -1,4 +1,4 @@
-//! The cells of b-tree pages.
+//! The cells of b-tree pages (fileformat2, 1.6).
 ghost use Rattle.std.specs.Prelude.{◌≡◌, ◌↔◌, ◌+◌, ◌<◌, ◌≤◌, ◌^◌, ℕ, Some, IsTrue, IfSome, length};
 ghost use Rattle.sqpage.specs.Page.{has_payload, local_size, FourBytes, VarintAt, HasParts};
 ghost use Rattle.sqpage.specs.declared.cell.Parts.{Parts};
@@ -53,8 +53,9 @@ pub struct Cell<'a> {
     pub at: usize,
     /// The left child.
     pub child: Option<u32>,
+    /// The rowid, which is a table's key.
     pub rowid: Option<i64>,
-    /// The size of the payload.
+    /// The size of the whole payload in bytes.
     pub payload: Option<u64>,
     /// What of the payload lies in the page.
     pub local: &'a [u8],

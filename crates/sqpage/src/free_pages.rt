@@ -1,4 +1,4 @@
-//! The freelist.
+//! The freelist (fileformat2, 1.5).
 ghost use Rattle.std.specs.Prelude.{◌≡◌, ◌≢◌, ℕ, ◌+◌, ◌-◌, ◌*◌, ◌/◌, ◌<◌, ◌≤◌, List, [], ◌∷◌, ◌++◌, length, IfOk, IfErr, OnOk, OnErr, count_by, not};
 ghost use Rattle.sqval.specs.Database.{Database, page};
 ghost use Rattle.sqpage.specs.Lists.{In, each_from};

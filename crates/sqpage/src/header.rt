@@ -1,4 +1,4 @@
-//! The database header.
+//! The database header (fileformat2, 1.3).
 ghost use Rattle.std.specs.Prelude.{◌≡◌, ℕ, ◌+◌, ◌≤◌, ◌<◌, ◌↔◌, IsTrue, ◌^◌, ◌*◌, length, flat_map, slice_index, IfOk, IfErr, replicate};
 ghost use Rattle.sqval.specs.Bytes.{part};
 ghost use Rattle.sqval.specs.PageSize.{IsPageSize};
@@ -23,27 +23,42 @@ const LEAST_USABLE: u32 = 480;
 /// The fields that `read` doesn't judge hold what stands there.
 #[derive(Clone, Copy, Debug, PartialEq, Eq)]
 pub struct DbHeader {
+    /// How many bytes a page has (1.3.2).
     pub page_size: PageSize,
-    /// 1 for a rollback journal, 2 for a write-ahead log.
+    /// 1 for a rollback journal, 2 for a write-ahead log (1.3.3).
     pub write_version: u8,
+    /// The same, for those that only read.
     pub read_version: u8,
-    /// How many bytes at the end of each page are not used.
+    /// How many bytes at the end of each page are not used (1.3.4).
     pub reserved: u8,
+    /// Raised when the file was changed (1.3.6).
     pub change_counter: u32,
+    /// How many pages the database has (1.3.7). It counts where it isn't 0 and `change_counter` is
+    /// `version_valid_for`; otherwise the file's length does.
     pub size_in_pages: u32,
-    /// The first trunk of the freelist, or 0.
+    /// The first trunk of the freelist, or 0 (1.3.8).
     pub first_trunk: u32,
+    /// How many pages the freelist has (1.3.8).
     pub free_pages: u32,
+    /// Raised when the schema was changed (1.3.9).
     pub schema_cookie: u32,
+    /// From 1 to 4 (1.3.10).
     pub schema_format: u32,
+    /// How many pages a cache should have (1.3.11).
     pub cache_size: u32,
-    /// The largest root page where the database is one of auto-vacuum, or 0.
+    /// The largest root page where the database is one of auto-vacuum, or 0 (1.3.12).
     pub largest_root: u32,
+    /// 1 for UTF-8, 2 for UTF-16le, 3 for UTF-16be (1.3.13).
     pub text_encoding: u32,
+    /// A number that the user sets (1.3.14).
     pub user_version: u32,
+    /// Not 0 for incremental vacuum (1.3.12).
     pub incremental_vacuum: u32,
+    /// A number of the application that the file is of (1.3.15).
     pub application_id: u32,
+    /// The change counter when `writer_version` was written (1.3.16).
     pub version_valid_for: u32,
+    /// The version of the library that wrote last (1.3.16).
     pub writer_version: u32,
 }
 

@@ -1,4 +1,4 @@
-//! The kinds of b-tree pages.
+//! The kinds of b-tree pages (fileformat2, 1.6).
 ghost use Rattle.std.specs.Prelude.{◌≡◌, ◌↔◌, Some};
 ghost use Rattle.sqpage.specs.Page.{code_of, is_interior, is_table, has_payload};
 ghost use Rattle.sqpage.specs.declared.kind.Kind.{Kind};
@@ -6,9 +6,13 @@ ghost use Rattle.sqpage.specs.declared.kind.Kind.{Kind};
 /// The kind of a b-tree page (fileformat2, 1.6, "B-tree Pages").
 #[derive(Clone, Copy, Debug, PartialEq, Eq)]
 pub enum Kind {
+    /// Rows of a table: rowids and payloads. The type byte is 13.
     TableLeaf,
+    /// Children and rowids. The type byte is 5.
     TableInterior,
+    /// Payloads of an index. The type byte is 10.
     IndexLeaf,
+    /// Children and payloads. The type byte is 2.
     IndexInterior,
 }
 

@@ -1,4 +1,4 @@
-//! Marks on the bytes of a page that its cells and freeblocks take.
+//! Marks on the bytes of a page that its cells and freeblocks take (fileformat2, 1.6; marks are own).
 ghost use Rattle.std.specs.Prelude.{◌≡◌, ◌↔◌, ◌+◌, ◌-◌, ◌<◌, ◌≤◌, ◌^◌, ℕ, List, false, IsTrue, IfOk, IfErr, length, replicate, count_by, not, Some, None, Bool};
 ghost use Rattle.sqpage.specs.Header.{half};
 ghost use Rattle.sqpage.specs.Layout.{Span, IsFreeblock, AreFreeblocks};

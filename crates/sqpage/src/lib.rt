@@ -1,4 +1,4 @@
-//! The pages of a database file: its header, the pages of its b-trees with their cells, overflow
+//! The pages of a database file (fileformat2, 1): its header, the pages of its b-trees with their cells, overflow
 //! chains, and the freelist.
 #![tactic(auto)]
 

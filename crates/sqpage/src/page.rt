@@ -1,4 +1,4 @@
-//! Pages of b-trees.
+//! Pages of b-trees (fileformat2, 1.6).
 ghost use Rattle.std.specs.Prelude.{◌≡◌, ◌≢◌, ◌⊎◌, ◌+◌, ◌<◌, ◌≤◌, ℕ, List, false, IsTrue, IfOk, IfErr, OnOk, OnErr, length, take, replicate};
 ghost use Rattle.sqval.specs.Bytes.{word};
 ghost use Rattle.sqval.specs.PageSize.{IsPageSize};
@@ -115,7 +115,8 @@ fn cells_lie_within(kind: Kind, used: &[u8], number: u32) -> bool
 
 impl<'a> BtreePage<'a> {
     /// The page of these bytes and this number, of which the first `usable` bytes are used. Refused by Kind
-    /// and by CellOutside.
+    /// where its type byte is none, otherwise by CellOutside where the pointers, the start of the cells or a
+    /// cell lie outside.
     pub fn new(bytes: &'a [u8], number: u32, usable: u32) -> Result<BtreePage<'a>, Fault>
         requires page { IsPageSize (length bytes.now) }
         requires number { 0 < number }
@@ -139,6 +140,7 @@ impl<'a> BtreePage<'a> {
         Ok(BtreePage { used, number, kind })
     }
 
+    /// Its kind.
     pub fn kind(&self) -> Kind
         ensures { result ≡ self.now.kind }
     {
@@ -152,16 +154,15 @@ impl<'a> BtreePage<'a> {
         count(self.used, self.number)
     }
 
-    /// The rightmost child of an interior page.
+    /// The rightmost child of an interior page. None of a leaf.
     pub fn right(&self) -> Option<u32>
         ensures { result ≡ if_present (is_interior self.now.kind) (word self.now.used (head_at self.now.number + 8)) }
     {
-        self.kind
-            .is_interior()
-            .then_some(word_at(self.used, head(self.number) + 8))
+        let is_interior = self.kind.is_interior();
+        is_interior.then_some(word_at(self.used, head(self.number) + 8))
     }
 
-    /// Cell `i`, in the order of the pointers.
+    /// Cell `i`, from 0, in the order of the pointers.
     pub fn cell(&self, i: usize) -> Cell<'a>
         requires { i < cell_count self.now }
         ensures cell { IsCell self.now i result }

@@ -1,4 +1,4 @@
-//! Where the pages of a database come from.
+//! Where the pages of a database come from (own).
 ghost use Rattle.std.specs.Prelude.{◌≡◌, ◌↔◌, ℕ, ◌%◌, ◌/◌, ◌*◌, ◌<◌, ◌^◌, ◌≤◌, length, IsOk, IsSome, IfSome, IfErr};
 ghost use Rattle.sqval.specs.Database.{Database, page};
 ghost use Rattle.sqpage.specs.Lists.{Every};
@@ -25,6 +25,7 @@ pub trait PageSource {
     /// Each read of a page gives it. Nothing can be said of the bytes that are read where it doesn't.
     ghost gives_pages: { Self → Type 0 };
 
+    /// How many bytes each page has.
     fn page_size(&self) -> PageSize
         ensures { result ≡ size self.now };
 
@@ -32,7 +33,8 @@ pub trait PageSource {
     fn count(&self) -> u32
         ensures { result ≡ length (pages self.now) };
 
-    /// Reads page `p` to `out`, which has the size of a page.
+    /// Reads page `p`, from 1, to `out`, which has the size of a page. Refused by `SourceError` where it can't be
+    /// read; `out` may then hold anything.
     fn page(&mut self, p: u32, out: &mut [u8]) -> Result<(), SourceError>
         requires above { 0 < p }
         requires within { p ≤ length (pages self.old) }

@@ -1,4 +1,4 @@
-//! Which pages of a source were taken.
+//! Which pages of a source were taken (own).
 ghost use Rattle.std.specs.Prelude.{◌≡◌, false, length, IfOk, OnOk, OnErr, IfErr, replicate};
 ghost use Rattle.sqpage.specs.Taking.{Marks, MarkRefused};
 

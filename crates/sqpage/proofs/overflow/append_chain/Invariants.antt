@@ -1,7 +1,7 @@
-use Rattle.std.proofs.Common.{◌≡◌, ℕ, ◌+◌, List, ◌++◌, length}
+use Rattle.std.proofs.Common.{◌≡◌, ◌≢◌, ℕ, ◌+◌, List, ◌++◌, length}
+use Rattle.sqpage.specs.Lists.{In}
 use Rattle.sqpage.specs.Freelist.{Leads}
 use Rattle.sqpage.specs.Chain.{contents}
-use Rattle.sqpage.specs.Taking.{AreTaken}
 use Rattle.sqpage.proofs.overflow.append_chain.Given as goal
 
 abbrev pub invariant-links : goal.invariant-links
@@ -10,8 +10,7 @@ invariant-links g l =
     record {
       pages : List ℕ;
       count : length pages + l.left ≡ l.needed;
-      taken : AreTaken l.taken.marks.items pages;
-      marks : length l.taken.marks.items ≡ length d;
+      kept_is : l.kept ≢ 0 → In l.kept pages;
       same_pages : g.S.PageSource.pages l.source ≡ d;
       same_size : g.S.PageSource.size l.source ≡ g.S.PageSource.size l.fn.source;
       still_gives : g.S.PageSource.gives_pages l.fn.source → g.S.PageSource.gives_pages l.source;

@@ -1,23 +1,28 @@
-use Rattle.std.proofs.Common.{◌<◌, ◌^◌, ◌++◌, length, take, inl, refl, ap, ◌∙◌, arith}
+use Rattle.std.proofs.Common.{◌<◌, ◌^◌, ◌++◌, length, take, inl, inr, refl, ap, ◌∙◌, arith}
 use Rattle.sqpage.specs.declared.fault.Fault.TheVariants as faults
 use Rattle.sqpage.specs.Chain.{contents}
-use Rattle.sqpage.proofs.Chains.{no_payload, cut, more_than}
+use Rattle.sqpage.proofs.Chains.{no_payload, cut, more_than, at_most}
 use Rattle.sqpage.proofs.overflow.payload.Goals as goal
 
 pub returns-then-needed-from-clause-none : goal.returns-then-needed-from-clause-none
 returns-then-needed-from-clause-none g c = λ gives other content.
-    no_payload (g.S.PageSource.pages c.args.source.now) c.args.cell.now faults.ChainCut c.args.cell.now.page (inl (refl, more_than c.from.result c.links_of-needed.result _ _ (c.from.ensures ∙ c.count.ensures) c.links_of-needed.ensures c.if-needed-from.true)) other content
+    no_payload (g.S.PageSource.pages c.args.source.now) c.args.cell.now faults.ChainCut c.args.cell.now.page (inl (refl, refl, more_than c.from.result c.links_of-needed.result _ _ (c.from.ensures ∙ c.count.ensures) c.links_of-needed.ensures c.if-needed-from.true)) other content
+
+-- The chain needs no more pages than there are.
+pub returns-in-Err-clause-err : goal.returns-in-Err-clause-err
+returns-in-Err-clause-err g c = λ gives.
+    inr (at_most c.from.result c.links_of-needed.result _ _ (c.from.ensures ∙ c.count.ensures) c.links_of-needed.ensures c.if-needed-from.false, c.in-Err.ensures.err gives)
 
 pub returns-in-Err-clause-none : goal.returns-in-Err-clause-none
 returns-in-Err-clause-none g c = λ gives other content.
-    no_payload (g.S.PageSource.pages c.args.source.now) c.args.cell.now c.in-Err.refusal.fault c.in-Err.refusal.page (c.in-Err.ensures.err gives) other content
+    no_payload (g.S.PageSource.pages c.args.source.now) c.args.cell.now c.in-Err.refusal.fault c.in-Err.refusal.page (returns-in-Err-clause-err g c gives) other content
 
 pub returns-in-Ok-clause-ok : goal.returns-in-Ok-clause-ok
 returns-in-Ok-clause-ok g c = λ gives.
     let d = g.S.PageSource.pages c.args.source.now in
     let cell = c.args.cell.now in
     let a = c.in-Ok.ensures.ok gives in
-    let mid = c.append_in.new.out in
+    let mid = c.append.new.out in
     let old = c.args.out.now in
     let small : length mid.items < 2 ^ 64 = omega (arith, mid.ok.0, mid.ok.1, mid.small) in (
       take c.unwrap_or-size.result (cell.local.now ++ contents d cell.usable a.pages),
