@@ -10,8 +10,8 @@ use Rattle.sqpage.proofs.Takings.{takes, fewer_unmarked}
 use Rattle.sqpage.proofs.Chains.{length_marked}
 use Rattle.std.proofs.lemmas.List.{get_or-set_other, get_or-set_same}
 use Rattle.sqcheck.specs.Places.{Place, first_trunk_place, first_root, next, leaf, overflow, child, root, Node, Role, trunk, free_leaf, link, node, Spot, StandsIn, StandsInRow, IsFirst, IsReached, stands_in}
-use Rattle.sqcheck.specs.WellFormed.{IsSound, HasSoundRows, numbers}
-use Rattle.sqcheck.specs.Agenda.{home, places, Off, IsHome, NotRoot, NotSchema, Agenda, Stems}
+use Rattle.sqcheck.specs.WellFormed.{IsSound, IsSoundAs, HasSoundRows, numbers}
+use Rattle.sqcheck.specs.Agenda.{home, places, Off, IsHome, NotRoot, NotSchema, LinkFits, Agenda, Stems}
 use Rattle.sqcheck.proofs.Lists.{every_weaker, every_map, map_append, from_map, apart_append}
 
 -- what every place in a page has
@@ -37,6 +37,19 @@ under_it d s t h = go s.place s.page s.role h.1
     go q p (node x) (kind, has, inl h) = moved q p (node x) _ h.4 (record { at_home = refl; no_root = tt; same_tree = λ n. tt })
     go q p (node x) (kind, has, inr (i, inl h)) = moved q p (node x) _ h.5 (record { at_home = refl; no_root = tt; same_tree = λ n. n })
     go q p (node x) (kind, has, inr (i, inr h)) = moved q p (node x) _ h.2 (record { at_home = refl; no_root = tt; same_tree = λ n. n })
+
+-- A page of a chain needs one page less than the one before.
+fits_under : (d : Database) (s t : Spot) → IsSound d s → StandsIn d s t → LinkFits d t
+fits_under d s t sound h = go s.page s.role sound.sound_as h.1
+  where
+    go : (p : ℕ) (r : Role) → IsSoundAs d p r → Rattle.sqcheck.specs.Places.InPageAs d p r t → LinkFits d t
+    go p trunk is (inl h) = subst (LinkFits d) (sym h.3) (λ n e. absurd (cc))
+    go p trunk is (inr h) = subst (LinkFits d) (sym h.1) (λ n e. absurd (cc))
+    go p free_leaf is h = absurd h
+    go p (link n) is h = subst (LinkFits d) (sym h.1) (λ m e. inr (let same : n - 1 ≡ m = cc in let le : n ≤ length d = is.0 in omega arith))
+    go p (node x) is (kind, has, inl h) = subst (LinkFits d) (sym h.4) (λ n e. inl (h.0, refl))
+    go p (node x) is (kind, has, inr (i, inl h)) = subst (LinkFits d) (sym h.5) (λ n e. absurd (cc))
+    go p (node x) is (kind, has, inr (i, inr h)) = subst (LinkFits d) (sym h.2) (λ n e. absurd (cc))
 
 -- A page more is marked.
 now_marked : (old new : List Bool) (p : ℕ) → Marks old new p → is_marked new p ≡ true
@@ -99,6 +112,7 @@ module _ (d : Database) (late : Bool) (marks : List Bool) (visited : List Spot) 
     waiting_homes = every_append (λ x. IsHome new x.place) under rest
         (every_weaker (StandsIn d s) (λ t. IsHome new t.place) (λ t h. inr (subst (IsWithin (length new)) (sym (under_it d s t h).at_home) within, ap (is_marked new) (under_it d s t h).at_home ∙ now_marked marks new s.page m)) under stems.only)
         (every_weaker (λ v. IsHome marks v.place) (λ v. IsHome new v.place) (λ v h. home_kept marks new s.page m v.place h) rest a.waiting_homes.1);
+    fits = every_append (LinkFits d) under rest (every_weaker (StandsIn d s) (LinkFits d) (λ t h. fits_under d s t sound h) under stems.only) a.fits.1;
     early = λ e. let h = a.early e in (
       every_append (λ v. NotRoot v.place) visited (s ∷ []) h.0 (h.1.0, tt),
       every_append (λ v. NotRoot v.place) under rest (every_weaker (StandsIn d s) (λ t. NotRoot t.place) (λ t k. (under_it d s t k).no_root) under stems.only) h.1.1,

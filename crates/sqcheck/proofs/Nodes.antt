@@ -24,9 +24,18 @@ use Rattle.sqcheck.proofs.Lists.{every_weaker, every_map, map_append, apart_appe
 
 pub key_before_once : (b : Page) (x : Node) (i : ℕ) (k m : Option ℤ) → IsKeyBefore b x i k → IsKeyBefore b x i m → k ≡ m
 key_before_once b x i k m (inl h) (inl g) = h.1 ∙ sym g.1
-key_before_once b x i k m (inl h) (inr g) = absurd (let z : i ≡ 0 = h.0 in let s : i ≡ suc g.0 = g.2 in omega arith)
-key_before_once b x i k m (inr h) (inl g) = absurd (let z : i ≡ 0 = g.0 in let s : i ≡ suc h.0 = h.2 in omega arith)
-key_before_once b x i k m (inr h) (inr g) =
+key_before_once b x i k m (inl h) (inr (inl g)) = absurd (let z : i ≡ 0 = h.0 in let s : i ≡ suc g.0 = g.2 in omega arith)
+key_before_once b x i k m (inl h) (inr (inr g)) = absurd (let z : i ≡ 0 = h.0 in let s : i ≡ suc g.0 = g.1 in omega arith)
+key_before_once b x i k m (inr (inl h)) (inl g) = absurd (let z : i ≡ 0 = g.0 in let s : i ≡ suc h.0 = h.2 in omega arith)
+key_before_once b x i k m (inr (inr h)) (inl g) = absurd (let z : i ≡ 0 = g.0 in let s : i ≡ suc h.0 = h.1 in omega arith)
+key_before_once b x i k m (inr (inl h)) (inr (inr g)) =
+    let same : h.0 ≡ g.0 = (let s : i ≡ suc g.0 = g.1 in let r : i ≡ suc h.0 = h.2 in omega arith) in
+    absurd (g.2 h.1 (subst (λ j. IsCellAt b j h.1) same h.3))
+key_before_once b x i k m (inr (inr h)) (inr (inl g)) =
+    let same : g.0 ≡ h.0 = (let s : i ≡ suc g.0 = g.2 in let r : i ≡ suc h.0 = h.1 in omega arith) in
+    absurd (h.2 g.1 (subst (λ j. IsCellAt b j g.1) same g.3))
+key_before_once b x i k m (inr (inr h)) (inr (inr g)) = h.3 ∙ sym g.3
+key_before_once b x i k m (inr (inl h)) (inr (inl g)) =
     let same : g.0 ≡ h.0 = (let s : i ≡ suc g.0 = g.2 in let r : i ≡ suc h.0 = h.2 in omega arith) in
     let c = cell_once b h.0 h.1 g.1 h.3.1 (subst (λ j. IsCell b j g.1) same g.3.1) in
     h.4 ∙ c.rowid ∙ sym g.4
@@ -41,7 +50,7 @@ rise_begins b low high = record { key = λ x e. inl (refl, sym e); rise = λ x e
 
 pub rise_goes_on : (b : Page) (low high : Option ℤ) (i : ℕ) (before : Option ℤ) (cell : Cell) → Rising b low high i before → IsCellAt b i cell → IsBefore before cell.rowid → IsAtMost high cell.rowid → Rising b low high (i + 1) cell.rowid
 rise_goes_on b low high i before cell r is behind most = record {
-  key = λ x e. inr (i, cell, (let s : i + 1 ≡ suc i = omega arith in s), is, refl);
+  key = λ x e. inr (inl (i, cell, (let s : i + 1 ≡ suc i = omega arith in s), is, refl));
   rise = λ x e f k c q lt has key. elim (cases_eq k i) [
     | inl same ↦
         let c' = cell_once b i c cell (subst (λ j. IsCell b j c) same has.1) is.1 in

@@ -23,7 +23,7 @@ use Rattle.sqcheck.specs.WellFormed.{WellFormed, IsSound, IsSoundAs, IsSoundNode
 use Rattle.sqcheck.specs.Stands.{Stands}
 use Rattle.sqcheck.specs.Walking.{IsSchemaLeaf}
 use Rattle.sqcheck.specs.Schema.{IsRowsPage, AllSchemaRows, InRowsOf, Finds, IsRootAt, RootsMatch}
-use Rattle.sqcheck.specs.Agenda.{home, places, Off, IsHome, NotRoot, NotSchema, Agenda, AreCounted, Stood}
+use Rattle.sqcheck.specs.Agenda.{home, places, Off, IsHome, NotRoot, NotSchema, LinkFits, Agenda, AreCounted, Stood}
 use Rattle.sqcheck.proofs.Lists.{every_weaker, in_map, passing, either}
 use Rattle.sqcheck.proofs.Refuted.{kind_once}
 use Rattle.sqcheck.proofs.Nodes.{needs}
@@ -264,6 +264,7 @@ becomes_late d marks visited rows counts roots w f sound_rows = record {
         let place : home t.place ≡ s.0.page = ap (λ (z : Spot). home z.place) h.2.7 ∙ sym s.3 in
         let taken : In s.0.page (numbers visited) = in_map (λ z. z.page) s.0 visited s.1 in
         inr (subst (IsWithin (length marks)) (sym place) (every_in (IsWithin (length marks)) s.0.page (numbers visited) a.taken.within taken), ap (is_marked marks) place ∙ a.taken.all s.0.page taken)) f.spots f.only;
+    fits = every_weaker (InRowsOf d rows) (LinkFits d) (λ t h. subst (LinkFits d) (sym h.2.7) (λ n e. absurd (cc))) f.spots f.only;
     early = λ e. absurd (let both : true ≡ false = e in cc);
     rooted = λ e s t i h. inr (in_rows s t i h);
     plain = λ e. every_weaker (InRowsOf d rows) (λ t. NotSchema t.role) (λ t h. subst (λ (z : Spot). NotSchema z.role) (sym h.2.7) refl) f.spots f.only;
@@ -327,6 +328,7 @@ begins d marks pending counts rows sized none rows_none trees btree over free al
     off = tt;
     homes = tt;
     waiting_homes = every_weaker (IsFirst d) (λ s. IsHome marks s.place) (λ s h. inl (⊎_elim (λ k. ap (λ (z : Spot). home z.place) k.1) (λ k. ap (λ (z : Spot). home z.place) k) h)) pending firsts;
+    fits = every_weaker (IsFirst d) (LinkFits d) (λ s h. ⊎_elim (λ k. subst (LinkFits d) (sym k.1) (λ n e. absurd (cc))) (λ k. subst (LinkFits d) (sym k) (λ n e. absurd (cc))) h) pending firsts;
     early = λ e. (tt, every_weaker (IsFirst d) (λ s. NotRoot s.place) (λ s h. ⊎_elim (λ k. subst (λ (z : Spot). NotRoot z.place) (sym k.1) tt) (λ k. subst (λ (z : Spot). NotRoot z.place) (sym k) tt) h) pending firsts);
     rooted = λ e s t i h. absurd i;
     plain = λ e. absurd (let both : false ≡ true = e in cc);

@@ -1,5 +1,5 @@
 -- The steps of the walk.
-use Rattle.std.proofs.Common.{◌≡◌, ◌≢◌, ℕ, List, [], ◌∷◌, ◌++◌, length, reverse, Bool, true, cond, Option, Some, None, IsTrue, refl, sym, ap, subst, ◌∙◌, inl, inr, ⊎_elim, arith, append_assoc, append-nil}
+use Rattle.std.proofs.Common.{◌≡◌, ◌≢◌, ℕ, ◌<◌, ◌⊎◌, List, [], ◌∷◌, ◌++◌, length, reverse, Bool, true, cond, Option, Some, None, IsTrue, refl, sym, ap, subst, ◌∙◌, inl, inr, ⊎_elim, arith, append_assoc, append-nil}
 use Rattle.std.proofs.lemmas.List.{reverse-append}
 use Rattle.std.proofs.lemmas.List.Sums.{sum_by-append}
 use Rattle.sqval.specs.Database.{Database, page}
@@ -16,12 +16,12 @@ use Rattle.sqcheck.specs.declared.item.Task.TheVariants as tasks
 use Rattle.sqcheck.specs.declared.tree.Tree.{Tree}
 use Rattle.sqcheck.specs.declared.node.Walk.{Walk}
 use Rattle.sqcheck.specs.declared.walk.Counts.{Counts}
-use Rattle.sqcheck.specs.Places.{Role, trunk, free_leaf, link, node, Node, Spot, InPageAs, StandsIn, IsReached}
+use Rattle.sqcheck.specs.Places.{overflow, holder, Role, trunk, free_leaf, link, node, Node, Spot, InPageAs, StandsIn, IsReached}
 use Rattle.sqcheck.specs.WellFormed.{IsSound, IsSoundAs, numbers, is_root, is_node, is_link, is_free}
 use Rattle.sqcheck.specs.Stands.{Stands, NodeRefused}
 use Rattle.sqcheck.specs.Walking.{role_of, IsItemOf, Match, IsSchemaLeaf, PutsAside, PageWrong, LinksOn, FollowRefused, Knows, Follows, IsProper, TopLeads}
 use Rattle.sqcheck.specs.Counting.{in_trees, in_btree, in_overflow, in_freelist, AddsTask}
-use Rattle.sqcheck.specs.Agenda.{Agenda, Stems, RowsAre, AreCounted, Walking, WalksOn, Stood}
+use Rattle.sqcheck.specs.Agenda.{LinkFits, Agenda, Stems, RowsAre, AreCounted, Walking, WalksOn, Stood}
 use Rattle.sqcheck.proofs.Lists.{every_weaker, in_map}
 use Rattle.sqcheck.proofs.Agenda.{follows, twice}
 use Rattle.sqcheck.proofs.Nodes.{match_append}
@@ -82,13 +82,21 @@ module _ (d : Database) (size : ℕ) (tree : Tree) (it : Item) (s : Spot) (is : 
       subst (Stands d size faults.PageTwice) (sym h.0) (page, v.0, s, v.1, r, v.2, v.3 ∙ sym is.page, sym is.page)
   not_taken marks _ at len links h both = absurd h
 
-  pub refusal_stands : (marks : List Bool) (fault : Fault) (at : ℕ) → length marks ≡ length d → FollowRefused d tree it marks fault at
+  -- A chain is cut.
+  cut : (needed at : ℕ) → LinkFits d s → s.role ≡ link needed → holder s.place ≡ at → (it.page ≡ 0) ⊎ (length d < needed) → Stands d size faults.ChainCut at
+  cut needed at fits role holds (inl none) = (s, needed, r, role, holds, inl (sym is.page ∙ none))
+  cut needed at fits role holds (inr more) = elim (fits needed role) [
+    | inl o ↦ (s, needed, r, role, holds, inr (o.0, o.1 ∙ ap (λ p. overflow p o.0) holds, more))
+    | inr le ↦ absurd (omega (arith, le, more))
+  ]
+
+  pub refusal_stands : (marks : List Bool) (fault : Fault) (at : ℕ) → length marks ≡ length d → LinkFits d s → FollowRefused d tree it marks fault at
       → (IsWithin (length d) s.page → is_marked marks s.page ≡ true → (v : Spot) × IsReached d v × (v.place ≢ s.place) × (v.page ≡ s.page)) → Stands d size fault at
-  refusal_stands marks fault at len (inl h) both = not_taken marks fault at len h.0 h.1 both
-  refusal_stands marks fault at len (inr (inl h)) both = subst (Stands d size fault) (sym h.0) (wrong it.page (role_of tree it.task) fault (sym is.page) is.role h.1 h.2)
-  refusal_stands marks fault at len (inr (inr (inl h))) both =
-      subst (λ f. Stands d size f at) (sym h.0) (s, h.2, r, is.role ∙ ap (role_of tree) h.3, sym is.stands ∙ sym h.1, ⊎_elim (λ z. inl (sym is.page ∙ z)) (λ more. inr more) h.4)
-  refusal_stands marks fault at len (inr (inr (inr h))) both = subst (λ f. Stands d size f at) (sym h) tt
+  refusal_stands marks fault at len fits (inl h) both = not_taken marks fault at len h.0 h.1 both
+  refusal_stands marks fault at len fits (inr (inl h)) both = subst (Stands d size fault) (sym h.0) (wrong it.page (role_of tree it.task) fault (sym is.page) is.role h.1 h.2)
+  refusal_stands marks fault at len fits (inr (inr (inl h))) both =
+      subst (λ f. Stands d size f at) (sym h.0) (cut h.2 at fits (is.role ∙ ap (role_of tree) h.3) (sym is.stands ∙ sym h.1) h.4)
+  refusal_stands marks fault at len fits (inr (inr (inr h))) both = subst (λ f. Stands d size f at) (sym h) tt
 
 -- The pages put aside, after one more place was visited.
 rows_more : (d : Database) (marks : List Bool) (new_marks : List Bool) (visited : List Spot) (s : Spot) (old new : List ℕ) → AreTaken marks (numbers visited) → Marks marks new_marks s.page → RowsAre d visited old → PutsAside d s.page s.role old new
@@ -202,7 +210,7 @@ module _ (d : Database) (late : Bool) (tree : Tree) (visited rest : List Spot) (
 
   -- Or it isn't.
   pub walk_refused : (size : ℕ) (fault : Fault) (at : ℕ) → FollowRefused d tree it marks fault at → Stands d size fault at
-  walk_refused size fault at f = refusal_stands d size tree it top.spot top.is (agenda.waiting.0) marks fault at w.agenda.sized f (twice d late marks visited top.spot (top.others ++ rest) agenda)
+  walk_refused size fault at f = refusal_stands d size tree it top.spot top.is (agenda.waiting.0) marks fault at w.agenda.sized (agenda.fits.0) f (twice d late marks visited top.spot (top.others ++ rest) agenda)
 
 -- Nothing was on the stack.
 pub nothing_popped : (d : Database) (late : Bool) (tree : Tree) (rest : List Spot) (marks : List Bool) (walk popped : Walk) (counts : Counts) → WalksOn d late tree rest marks walk counts → walk.stack.items ≡ popped.stack.items ++ []

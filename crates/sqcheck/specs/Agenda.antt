@@ -1,4 +1,4 @@
--- A walk with an agenda. No public contract cites these words.
+-- A walk with an agenda (own). No public contract cites these words.
 use Rattle.std.specs.Prelude.{◌≡◌, ℕ, ◌+◌, ◌≤◌, ◌⊎◌, List, ◌++◌, length, map, reverse, Bool, true, false, not, count_by}
 use Rattle.sqval.specs.Database.{Database}
 use Rattle.sqpage.specs.Lists.{In, Every, Apart}
@@ -7,7 +7,7 @@ use Rattle.sqpage.specs.Taking.{is_marked, AreTaken}
 use Rattle.sqcheck.specs.declared.node.Walk.{Walk}
 use Rattle.sqcheck.specs.declared.walk.Counts.{Counts}
 use Rattle.sqcheck.specs.declared.tree.Tree.{Tree}
-use Rattle.sqcheck.specs.Places.{Place, first_trunk_place, first_root, next, leaf, overflow, child, root, Role, node, Spot, StandsIn, StandsInRow, IsFirst, IsReached}
+use Rattle.sqcheck.specs.Places.{Place, first_trunk_place, first_root, next, leaf, overflow, child, root, holder, Role, link, node, Spot, StandsIn, StandsInRow, IsFirst, IsReached}
 use Rattle.sqcheck.specs.WellFormed.{IsSound, HasSoundRows, numbers, is_root, is_node, is_link, is_free}
 use Rattle.sqcheck.specs.Walking.{Match, Knows, IsSchemaLeaf}
 
@@ -32,13 +32,19 @@ Off q ss = Every (λ s. s.place ≡ q → ⊥) ss
 abbrev pub IsHome : List Bool → Place → Type 0
 IsHome marks q = (home q ≡ 0) ⊎ (IsWithin (length marks) (home q) × (is_marked marks (home q) ≡ true))
 
+-- it stands in no row of the schema
 abbrev pub NotRoot : Place → Type 0
 NotRoot (root p i) = ⊥
 NotRoot _ = Unit {0}
 
+-- the page isn't one of the schema's tree
 abbrev pub NotSchema : Role → Type 0
 NotSchema (node x) = x.schema ≡ false
 NotSchema _ = Unit {0}
+
+-- a link that no cell names needs no more pages than there are
+abbrev pub LinkFits : Database → Spot → Type 0
+LinkFits d s = (needed : ℕ) → s.role ≡ link needed → ((i : ℕ) × (s.place ≡ overflow (holder s.place) i)) ⊎ (needed ≤ length d)
 
 -- The pages of the visited places are taken, in their order, and the pending ones are still to be followed. All that
 -- stands in a page of a visited one is visited or pending; in `late` that is so of the roots in its rows too, and these
@@ -56,6 +62,7 @@ pub record Agenda (d : Database) (late : Bool) (marks : List Bool) (visited pend
   pub off : Every (λ v. Off v.place pending) visited
   pub homes : Every (λ v. IsHome marks v.place) visited
   pub waiting_homes : Every (λ s. IsHome marks s.place) pending
+  pub fits : Every (LinkFits d) pending
   pub early : late ≡ false → Every (λ v. NotRoot v.place) visited × Every (λ s. NotRoot s.place) pending
   pub rooted : late ≡ true → (s t : Spot) → In s visited → StandsInRow d s t → In t visited ⊎ In t pending
   pub plain : late ≡ true → Every (λ s. NotSchema s.role) pending

@@ -1,4 +1,4 @@
--- What a check keeps between its walks. No public contract cites these words.
+-- What a check keeps between its walks (own). No public contract cites these words.
 use Rattle.std.specs.Prelude.{◌≡◌, ℕ, ◌+◌, ◌<◌, ◌≤◌, ◌^◌, List, [], length, Bool, false, not, count_by, replicate}
 use Rattle.sqval.specs.Database.{Database}
 use Rattle.sqval.specs.PageSize.{IsPageSize}

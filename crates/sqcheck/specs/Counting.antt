@@ -1,4 +1,4 @@
--- Counting the pages of each use. No public contract cites these words.
+-- Counting the pages of each use (own). No public contract cites these words.
 use Rattle.std.specs.Prelude.{◌≡◌, ℕ, ◌+◌, ◌==◌, if◌then◌else◌}
 use Rattle.sqcheck.specs.declared.item.Task.{Task}
 use Rattle.sqcheck.specs.declared.item.Task.TheVariants.{Trunk, Leaf, Link, Node}
@@ -23,6 +23,7 @@ abbrev pub in_trees : Task → ℕ
 in_trees (Node level low high) = if level == 1 then 1 else 0
 in_trees _ = 0
 
+-- a page that is named so was counted
 pub record AddsTask (old new : Counts) (task : Task) : Type 0 where
   pub trees : new.trees ≡ old.trees + in_trees task
   pub btree : new.btree ≡ old.btree + in_btree task

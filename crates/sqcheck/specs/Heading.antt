@@ -1,4 +1,4 @@
--- The header of the file as a check reads it. No public contract cites these words.
+-- The header of the file as a check reads it (fileformat2, 1.3). No public contract cites these words.
 use Rattle.std.specs.Prelude.{◌≡◌, ◌≢◌, ℕ, ◌⊎◌, List}
 use Rattle.sqval.specs.Bytes.{word}
 use Rattle.sqpage.specs.declared.fault.Fault.{Fault}

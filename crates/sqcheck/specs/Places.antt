@@ -80,9 +80,13 @@ HasKind d kind p = byte (used_in d p) (head_at p) ≡ code_of kind
 abbrev pub IsCellAt : Page → (i : ℕ) → Cell → Type 0
 IsCellAt b i cell = (i < cell_count b) × IsCell b i cell
 
--- the key that comes before cell i: that of the cell before, or the low bound of the page
+-- The key that comes before cell i: that of the cell before, or the low bound of the page. Behind a cell that can't be
+-- read none is known.
 abbrev pub IsKeyBefore : Page → Node → (i : ℕ) → Option ℤ → Type 0
-IsKeyBefore b x i key = ((i ≡ 0) × (key ≡ x.low)) ⊎ ((j : ℕ) × (cell : Cell) × (i ≡ suc j) × IsCellAt b j cell × (key ≡ cell.rowid))
+IsKeyBefore b x i key =
+    ((i ≡ 0) × (key ≡ x.low))
+    ⊎ ((j : ℕ) × (cell : Cell) × (i ≡ suc j) × IsCellAt b j cell × (key ≡ cell.rowid))
+    ⊎ ((j : ℕ) × (i ≡ suc j) × ((cell : Cell) → ¬ IsCellAt b j cell) × (key ≡ None))
 
 -- one level below, between these bounds
 abbrev pub below : Node → (low high : Option ℤ) → Role
@@ -117,6 +121,7 @@ abbrev pub InNode : Database → (p : ℕ) → Node → Spot → Type 0
 InNode d p x t = (kind : Kind) × HasKind d kind p
     × (InCell (page_as d kind p) t ⊎ ((is_interior kind ≡ true) × (IsLeftChild (page_as d kind p) x t ⊎ IsRightChild (page_as d kind p) x t)))
 
+-- t is a place in page p, which is named as this.
 abbrev pub InPageAs : Database → (p : ℕ) → Role → Spot → Type 0
 InPageAs d p trunk t = InTrunk d p t
 InPageAs d p free_leaf t = ⊥
@@ -162,6 +167,7 @@ abbrev pub InRow : Database → (p : ℕ) → Spot → Type 0
 InRow d p t = HasKind d TableLeaf p × (i : ℕ) × (bytes : List ℕ) × (r : ℕ) × IsRow d (page_as d TableLeaf p) i bytes × IsSchemaRow bytes r × (r ≢ 0)
     × (t ≡ spot (root p i) r (root_of_tree d r))
 
+-- The same where the page is named as one of the schema's tree.
 abbrev pub InRowAs : Database → (p : ℕ) → Role → Spot → Type 0
 InRowAs d p (node x) t = (x.schema ≡ true) × InRow d p t
 InRowAs d p _ t = ⊥

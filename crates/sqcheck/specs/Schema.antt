@@ -1,4 +1,4 @@
--- The rows of the schema as a check reads them. No public contract cites these words.
+-- The rows of the schema as a check reads them (fileformat2, 2.6). No public contract cites these words.
 use Rattle.std.specs.Prelude.{◌≡◌, ◌≢◌, ℕ, ◌<◌, List, [], ◌∷◌, ◌++◌, map, true}
 use Rattle.sqval.specs.Database.{Database}
 use Rattle.sqpage.specs.declared.cell.Cell.{Cell}
@@ -41,6 +41,7 @@ pub record IsRootAt (d : Database) (found : Root) (s : Spot) : Type 0 where
   pub stands : found.holder ≡ holder s.place
   pub role : s.role ≡ root_of_tree d s.page
 
+-- the roots are those of the places, in order
 abbrev pub RootsMatch : Database → List Root → List Spot → Type 0
 RootsMatch d [] [] = Unit {0}
 RootsMatch d (found ∷ roots) (s ∷ spots) = IsRootAt d found s × RootsMatch d roots spots

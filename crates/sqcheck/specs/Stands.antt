@@ -1,4 +1,4 @@
--- The condition of each fault, at a page.
+-- The condition of each fault, at a page (own).
 use Rattle.std.specs.Prelude.{◌≡◌, ◌≢◌, ℕ, ◌<◌, ◌⊎◌, true, false, List, length, Option, ℤ, IsTrue}
 use Rattle.sqval.specs.Bytes.{word}
 use Rattle.sqval.specs.Database.{Database, page}
@@ -11,7 +11,7 @@ use Rattle.sqpage.specs.Lists.{In, Every, Apart}
 use Rattle.sqpage.specs.Freelist.{IsPage, free_pages, next_in, leaf_count_in, most_leaves}
 use Rattle.sqpage.specs.Page.{Page, is_interior, is_table, IsBtreePage}
 use Rattle.sqpage.specs.Layout.{LayoutRefused}
-use Rattle.sqcheck.specs.Places.{holder, Node, trunk, link, node, Spot, page_as, HasKind, IsCellAt, IsKeyBefore, IsRow, IsSchemaRow, IsReached}
+use Rattle.sqcheck.specs.Places.{overflow, holder, Node, trunk, link, node, Spot, page_as, HasKind, IsCellAt, IsKeyBefore, IsRow, IsSchemaRow, IsReached}
 use Rattle.sqcheck.specs.WellFormed.{is_link, is_free, FirstLeaf, IsInOrder}
 
 -- some key isn't behind the one before, or is behind the high bound
@@ -60,7 +60,7 @@ Stands d size faults.CellOutside p = OnNode d faults.CellOutside p
 Stands d size faults.Overlap p = OnNode d faults.Overlap p
 Stands d size faults.Freeblock p = OnNode d faults.Freeblock p
 Stands d size faults.Fragments p = OnNode d faults.Fragments p
-Stands d size faults.ChainCut p = (s : Spot) × (needed : ℕ) × IsReached d s × (s.role ≡ link needed) × (holder s.place ≡ p) × ((s.page ≡ 0) ⊎ (length d < needed))
+Stands d size faults.ChainCut p = (s : Spot) × (needed : ℕ) × IsReached d s × (s.role ≡ link needed) × (holder s.place ≡ p) × ((s.page ≡ 0) ⊎ ((i : ℕ) × (s.place ≡ overflow p i) × (length d < needed)))
 Stands d size faults.ChainLong p = (s : Spot) × IsReached d s × (s.page ≡ p) × IsPage d p × (s.role ≡ link 1) × (next_in (page d p) ≢ 0)
 Stands d size faults.PageTwice p = IsPage d p × (s t : Spot) × IsReached d s × IsReached d t × (s.place ≢ t.place) × (s.page ≡ p) × (t.page ≡ p)
 Stands d size faults.PageOutside p = (s : Spot) × IsReached d s × (holder s.place ≡ p) × ¬ IsPage d s.page × (IsTrue (is_link s.role) → s.page ≢ 0)

@@ -1,4 +1,4 @@
--- Words of the helper functions that walk over the places. No public contract cites them.
+-- Words of the helper functions that walk over the places (own). No public contract cites them.
 use Rattle.std.specs.Prelude.{◌≡◌, ◌≢◌, ℕ, ◌<◌, ◌≤◌, ◌⊎◌, Bool, true, false, List, [], ◌∷◌, ◌++◌, length, map, reverse, Option, Some, None, ℤ}
 use Rattle.sqval.specs.Database.{Database, page}
 use Rattle.sqpage.specs.declared.fault.Fault.{Fault}

@@ -1,4 +1,4 @@
--- Well-formed databases.
+-- Well-formed databases (fileformat2, 1 and 2.6).
 use Rattle.std.specs.Prelude.{◌≡◌, ℕ, suc, ◌+◌, ◌≤◌, ◌==◌, if◌then◌else◌, Bool, true, false, List, length, map, Option, Some, ℤ, ◌<ℤ◌, ◌≤ℤ◌, count_by}
 use Rattle.sqval.specs.Bytes.{word}
 use Rattle.sqval.specs.Database.{Database, page}
@@ -69,6 +69,7 @@ IsSoundAs d p free_leaf = Unit {0}
 IsSoundAs d p (link needed) = (needed ≤ length d) × (needed ≡ 1 → next_in (page d p) ≡ 0)
 IsSoundAs d p (node x) = IsSoundNode d p x
 
+-- the same of a page that is named as this, where it is one of a tree
 abbrev pub HasSoundRows : Database → (p : ℕ) → Role → Type 0
 HasSoundRows d p (node x) = HasSchemaRows d p x
 HasSoundRows d p _ = Unit {0}

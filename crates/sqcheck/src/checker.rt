@@ -1,4 +1,4 @@
-//! The check of a whole database.
+//! The check of a whole database (own).
 ghost use Rattle.std.specs.Prelude.{◌≡◌, ◌≢◌, ◌⊎◌, ◌+◌, ◌<◌, ◌≤◌, ◌^◌, ◌∷◌, [], ℕ, List, Bool, true, false, length, IfOk, IfErr, OnOk, OnErr};
 ghost use Rattle.sqval.specs.Database.{Database, page};
 ghost use Rattle.sqpage.specs.Freelist.{usable_size, first_trunk, free_pages};

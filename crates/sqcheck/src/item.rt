@@ -1,4 +1,4 @@
-//! What is left to be followed.
+//! What is left to be followed (own).
 ghost use Rattle.std.specs.Prelude.{◌≡◌, ◌∷◌, ◌++◌, [], OnOk, OnErr, IfErr, IfOk};
 ghost use Rattle.sqpage.specs.declared.fault.Fault.{Fault};
 

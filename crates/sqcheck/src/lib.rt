@@ -1,4 +1,4 @@
-//! Whether a database file is well formed, and if not, where not.
+//! Whether a database file is well formed, and if not, where not (fileformat2, 1 and 2.6).
 #![tactic(auto)]
 
 mod checker;

@@ -1,4 +1,4 @@
-//! Pages of trees.
+//! Pages of trees (fileformat2, 1.6).
 ghost use Rattle.std.specs.Prelude.{◌≡◌, ◌≢◌, ◌⊎◌, ◌↔◌, Some, None, ◌+◌, ◌<◌, ◌≤◌, ◌^◌, ℕ, suc, true, false, IsTrue, IsSome, IfOk, IfErr, OnOk, OnErr, length, take, reverse, ◌++◌, ◌∷◌, []};
 ghost use Rattle.sqval.specs.Database.{Database};
 ghost use Rattle.sqval.specs.PageSize.{IsPageSize};

@@ -1,4 +1,4 @@
-//! Reading pages, and marks on those that were taken.
+//! Reading pages, and marks on those that were taken (own).
 ghost use Rattle.std.specs.Prelude.{◌≡◌, ◌+◌, ◌<◌, ◌≤◌, length, IsOk, IfErr, OnOk, OnErr, count_by, not};
 ghost use Rattle.sqval.specs.Bytes.{word};
 ghost use Rattle.sqval.specs.Database.{page};

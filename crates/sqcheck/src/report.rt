@@ -1,4 +1,4 @@
-//! What a check of a well-formed database tells.
+//! What a check of a well-formed database tells (own).
 
 /// How the pages of a well-formed database are used. `btree`, `overflow` and `free` together are `pages`.
 #[derive(Clone, Copy, Debug, PartialEq, Eq)]

@@ -1,4 +1,4 @@
-//! The rows of the schema.
+//! The rows of the schema (fileformat2, 2.6).
 ghost use Rattle.std.specs.Prelude.{◌≡◌, ◌≢◌, ◌⊎◌, ◌↔◌, ◌+◌, ◌<◌, ◌≤◌, ◌^◌, ◌++◌, [], ℕ, List, Some, true, length, take, IsSome, IfOk, IfErr, OnOk, OnErr, ◌∷◌};
 ghost use Rattle.sqval.specs.Database.{Database, page};
 ghost use Rattle.sqval.specs.PageSize.{IsPageSize};

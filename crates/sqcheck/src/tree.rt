@@ -1,4 +1,4 @@
-//! Trees of pages.
+//! Trees of pages (own).
 
 /// Which tree is followed.
 #[derive(Clone, Copy, Debug)]

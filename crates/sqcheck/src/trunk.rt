@@ -1,4 +1,4 @@
-//! Trunks of the freelist, and links of overflow chains.
+//! Trunks of the freelist, and links of overflow chains (fileformat2, 1.5 and 1.7).
 ghost use Rattle.std.specs.Prelude.{◌≡◌, ◌≢◌, ◌+◌, ◌-◌, ◌*◌, ◌/◌, ◌<◌, ◌≤◌, ◌^◌, ℕ, length, reverse, IfErr, OnOk, OnErr, count_by, not};
 ghost use Rattle.sqval.specs.Database.{Database, page};
 ghost use Rattle.sqpage.specs.Freelist.{usable_size, leaf_count_in};

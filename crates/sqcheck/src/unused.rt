@@ -1,4 +1,4 @@
-//! Pages that nothing names.
+//! Pages that nothing names (own).
 ghost use Rattle.std.specs.Prelude.{◌≡◌, ◌+◌, ◌<◌, ◌≤◌, ◌^◌, ℕ, true, false, length, IfErr, OnOk};
 ghost use Rattle.sqpage.specs.Freelist.{IsWithin};
 ghost use Rattle.sqpage.specs.Taking.{is_marked};

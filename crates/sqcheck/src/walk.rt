@@ -1,4 +1,4 @@
-//! The walk over all places.
+//! The walk over all places (own).
 ghost use Rattle.std.specs.Prelude.{◌≡◌, ◌≢◌, ◌⊎◌, ◌+◌, ◌-◌, ◌<◌, ◌≤◌, ◌^◌, ◌∷◌, [], ℕ, List, Bool, length, take, reverse, IfErr, OnOk, OnErr, count_by, not};
 ghost use Rattle.sqval.specs.Database.{Database, page};
 ghost use Rattle.sqval.specs.PageSize.{IsPageSize};
