@@ -8,7 +8,8 @@ use Rattle.sqwal.specs.View.{IsView}
 use Rattle.sqwal.proofs.Same.{frame_end-suc, frame_end-zero}
 use Rattle.sqwal.proofs.Views.{front_unique}
 use Rattle.crashdisk.specs.State.{FileState, IsImage, WriteTouches, written, byte}
-use Rattle.crashdisk.specs.Call.{DiskState, IsSoundDisk, Writes, Syncs}
+use Rattle.crashdisk.specs.Call.{DiskState, IsSoundDisk, Writes, Syncs, Looks}
+use Rattle.crashdisk.specs.declared.file.File.{File}
 use Rattle.crashdisk.specs.declared.file.File.TheVariants.{Log}
 use Rattle.crashdisk.specs.declared.error.DiskError.{DiskError}
 use Rattle.crashdisk.proofs.Images.{table}
@@ -25,11 +26,11 @@ use Rattle.crashdisk.proofs.Down.{present_image, down_syncs, synced_down}
 use Rattle.crashdisk.proofs.Later.{later_sync, later_write}
 use Rattle.walcore.proofs.Fitting.{may_still}
 use Rattle.walcore.proofs.Lengths.{down_still}
-use Rattle.walcore.proofs.Narrowing.{narrows_syncs}
+use Rattle.walcore.proofs.Narrowing.{narrows_looks, narrows_syncs}
 use Rattle.walcore.proofs.Recovered.{none_front}
 use Rattle.walcore.proofs.Restarting.{greatest_changed}
 use Rattle.walcore.proofs.Standing.{read_cases}
-use Rattle.crashdisk.proofs.Stills.{image_still, still_sound}
+use Rattle.crashdisk.proofs.Stills.{image_still, present_in, still_sound}
 
 module _ (size : ℕ) (d : Database) where
   -- all that may be read shows it
@@ -46,10 +47,19 @@ module _ (size : ℕ) (d : Database) where
   pub alone_still : (s t : DiskState) → IsSoundDisk s → Still s t → ShowsAlone size d s → ShowsAlone size d t
   alone_still s t sound still alone = alone_read t (still_sound s t sound still) (λ db w image may. read_alone s alone db w (image_still s t still db image) (may_still s t still w may))
 
-  pub alone_syncs : {T : Type 0} (r : Result T DiskError) (s t : DiskState) → IsSoundDisk s → Syncs Log r s t → ShowsAlone size d s → ShowsAlone size d t
-  alone_syncs r s t sound synced alone =
-      let narrows = narrows_syncs Log r s t sound synced in
-      alone_read t (later_sync Log r s t sound synced).sound (λ db v image may. read_alone s alone db v (narrows.file db image) (narrows.log v may))
+  pub alone_looks : {T : Type 0} (end : ℕ) (r : Result T DiskError) (s t : DiskState) → Looks end r s t → ShowsAlone size d s → ShowsAlone size d t
+  alone_looks end r s t looked alone =
+      let narrows = narrows_looks end r s t looked in
+      record {
+        images = λ db w image left. read_alone s alone db w (narrows.file db image) (narrows.log w (inr left));
+        listed = λ db w image values. read_alone s alone db w (narrows.file db image) (narrows.log w (inl values));
+        present = λ db w are_db are_log. alone.present db w (present_in t.db s.db db (sym looked.db) are_db) (present_in t.log s.log w (sym looked.log) are_log);
+      }
+
+  pub alone_syncs : {T : Type 0} (f : File) (r : Result T DiskError) (s t : DiskState) → IsSoundDisk s → Syncs f r s t → ShowsAlone size d s → ShowsAlone size d t
+  alone_syncs f r s t sound synced alone =
+      let narrows = narrows_syncs f r s t sound synced in
+      alone_read t (later_sync f r s t sound synced).sound (λ db v image may. read_alone s alone db v (narrows.file db image) (narrows.log v may))
 
   -- a log of no more than a header shows nothing of its own
   short_front : (w : List ℕ) → length w ≤ 32 → IsFront (named_size w) w 0
@@ -82,7 +92,7 @@ module _ (size : ℕ) (d : Database) where
         (λ failed. alone_read t (later_write Log 0 f failed.0 s t sound failed.3).sound (written_read failed.0 t failed.3))
         (λ done.
         let mid = later_write Log 0 f (Ok done.1.0) s done.0 sound done.1.1 in
-        alone_syncs done.2.0 done.0 t mid.sound done.2.2 (alone_read done.0 mid.sound (written_read (Ok done.1.0) done.0 done.1.1)))
+        alone_syncs Log done.2.0 done.0 t mid.sound done.2.2 (alone_read done.0 mid.sound (written_read (Ok done.1.0) done.0 done.1.1)))
         steps
 
 -- ---- an opening
@@ -91,11 +101,11 @@ pub agrees_then : (size : ℕ) (a b c : DiskState) → Agrees size a b → ((d :
 agrees_then size a b c first second w d down alone = second d (first w d down alone)
 
 pub agrees_synced : {T : Type 0} (size : ℕ) (r : Result T DiskError) (a b : DiskState) → IsSoundDisk a → Syncs Log r a b → Agrees size a b
-agrees_synced size r a b sound synced w d down alone = alone_syncs size d r a b sound synced alone
+agrees_synced size r a b sound synced w d down alone = alone_syncs size d Log r a b sound synced alone
 
 -- a sync and then more
 pub agrees_after : {T : Type 0} (size : ℕ) (r : Result T DiskError) (a b c : DiskState) → IsSoundDisk a → Syncs Log r a b → Agrees size b c → Agrees size a c
-agrees_after size r a b c sound synced then w d down alone = then w d (down_syncs w Log r a b down synced) (alone_syncs size d r a b sound synced alone)
+agrees_after size r a b c sound synced then w d down alone = then w d (down_syncs w Log r a b down synced) (alone_syncs size d Log r a b sound synced alone)
 
 -- what a sync and a fold leave of the log
 pub synced_empty : {T : Type 0} {u : T} (a b : DiskState) → IsSoundDisk a → Syncs Log (Ok u) a b → IsEmptyDown b

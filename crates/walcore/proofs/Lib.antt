@@ -71,3 +71,5 @@ pub mod Fulfilling
 pub mod Rows
 pub mod Resting
 pub mod Unopened
+pub mod Foremost
+pub mod Based

@@ -191,7 +191,7 @@ module _ (past : Past) (found : Files) (s : DiskState) (fits : FitsDisk past s) 
         judged_at x = subst (λ (n : ℕ). FileJudged n found.db found.log x a b) (sym same)
 
         no_fault : (x : WalError) → length found.db ≡ length (at past.state is.place) * past.state.page_size → FileFault past.state.page_size (length found.db) x → ⊥
-        no_fault PageSize long none = none (length (at past.state is.place)) held.some (sym long)
+        no_fault PageSize long none = none.1 (length (at past.state is.place)) held.some (sym long)
         no_fault TooLarge long over = omega (arith, over, long, held.few)
         no_fault _ long x = x
 
@@ -255,7 +255,7 @@ module _ (past : Past) (found : Files) (s : DiskState) (fits : FitsDisk past s) 
                 count = count_is n (length (at past.state is.place)) past.state.page_size _ (omega (arith, size_some past.state.page_size fits.suits.pages)) (now.len ∙ sym x.1) (now.len ∙ db_long);
               },
             )
-        counted (Err PageSize) x = absurd (x (length (at past.state is.place)) held.some (sym db_long))
+        counted (Err PageSize) x = absurd (x.1 (length (at past.state is.place)) held.some (sym db_long))
         counted (Err TooLarge) x = absurd (omega (arith, x, db_long, held.few))
         counted (Err Device) x = (all, inr (refl, refusal_after s b c (omega (arith, first.refused, then.refused)) x), left_narrows b c (narrows_still b c still) past.state.page_size past.made.logs past.state.history past.state.floor left)
         counted (Err _) x = absurd x

@@ -11,7 +11,7 @@ use Rattle.walcore.specs.Folding.{FoldAnswer}
 use Rattle.crashdisk.specs.Keeps.{HadRefusal, TearsPages, KeepsBytes, Still}
 use Rattle.sqval.specs.Answers.{Files}
 use Rattle.walcore.specs.Fits.{AreFiles}
-use Rattle.walcore.specs.Opening.{CountAnswer, IsCounted, OpenRefused, FileJudged}
+use Rattle.walcore.specs.Opening.{CountAnswer, IsCounted, OpenRefused, MayOpen, FileJudged}
 use Rattle.walcore.specs.declared.folding.Folded.{Folded}
 use Rattle.walcore.specs.declared.error.WalError.{WalError}
 use Rattle.walcore.specs.declared.error.WalError.TheVariants.{TooLarge, PageSize, Device}
@@ -51,7 +51,7 @@ module _ (size : ℕ) (db w : List ℕ) (f : Folded) (a b : DiskState) (folded :
 
 -- so that its pages are counted, or the disk refuses
 pub count_refused : (size long : ℕ) (e : WalError) (a b : DiskState) → IsCounted size long → CountAnswer size long (Err e) a b → (e ≡ Device) × HadRefusal a b
-count_refused size long PageSize a b counts x = absurd (x counts.0 counts.1 counts.2)
+count_refused size long PageSize a b counts x = absurd (x.1 counts.0 counts.1 counts.2)
 count_refused size long TooLarge a b counts x = absurd (omega (arith, x, counts.3))
 count_refused size long Device a b counts x = (refl, x)
 count_refused size long _ a b counts x = absurd x
@@ -68,6 +68,13 @@ judged_err {T = T} size db w r e a b is judged = subst (λ (x : Result T WalErro
 
 folded_err : (size : ℕ) (db w : List ℕ) (r : Result Folded WalError) (e : WalError) (a b : DiskState) → r ≡ Err e → FoldAnswer size db w r a b → OpenRefused size db w e a b
 folded_err size db w r e a b is answer = inl (subst (λ (x : Result Folded WalError). FoldAnswer size db w x a b) is answer)
+
+-- an opening that is done
+pub may_open : {U : Type 0} (size : ℕ) (found : Files) (s a b c : DiskState) (first : Result U WalError) (v : U) (r : Result Folded WalError) (f : Folded) → (TearsPages size s → ⊥) → first ≡ Ok v → FileJudged size found.db found.log first a b
+    → r ≡ Ok f → FoldAnswer size found.db found.log r b c → MayOpen size found s
+may_open {U = U} size found s a b c first v r f fits good judged was answer =
+    let folded = subst (λ (x : Result Folded WalError). FoldAnswer size found.db found.log x b c) was answer in
+    record { whole = fits; fit = record { small = folded.1; same = folded.2 }; counted = subst (λ (x : Result U WalError). FileJudged size found.db found.log x a b) good judged }
 
 -- ---- A recovery: the log is synced, the files are looked at, the log is folded and the pages are counted.
 

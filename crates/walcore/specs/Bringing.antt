@@ -1,4 +1,4 @@
--- What a checkpoint brings into the database file.
+-- What a checkpoint brings into the database file (fileformat2, 4.3).
 use Rattle.std.specs.Prelude.{◌≡◌, ◌⊎◌, ℕ, ◌<◌, ◌≤◌, false, List, length, get_or, Some, Result, Ok, Err}
 use Rattle.sqval.specs.Database.{Database}
 use Rattle.sqwal.specs.Frames.{frame_end, size_of}

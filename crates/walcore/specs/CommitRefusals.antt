@@ -1,4 +1,4 @@
--- Why a commit into a write-ahead log is refused.
+-- Why a commit into a write-ahead log is refused (own).
 use Rattle.std.specs.Prelude.{ℕ, ◌+◌, nat_lt, ◌∷◌, ◌++◌, [], length, Option}
 use Rattle.sqval.specs.Database.{Pages}
 use Rattle.sqval.specs.CommitFaults.{first_true, page_faults}

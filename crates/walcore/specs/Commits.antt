@@ -1,4 +1,4 @@
--- What the parts of a commit promise one another.
+-- What the parts of a commit promise one another (own).
 use Rattle.std.specs.Prelude.{◌≡◌, ◌⊎◌, ℕ, ◌+◌, ◌≤◌, true, false, List, ◌++◌, drop, length, Some, None, Result, Ok, Err}
 use Rattle.std.specs.List.{All}
 use Rattle.std.specs.Borrow.{Bor}
@@ -46,6 +46,7 @@ pub record IsReady (pages : List (ℕ × Bor (List ℕ))) (size : ℕ) (core : C
   pub room : core.frames + length pages + 1 ≤ core.index.room
   pub bytes : All (λ x. AreBytes x.1.now) pages
 
+-- a commit is granted, with memory for it; or refused by the first condition that holds, or by want of memory where none does
 abbrev pub PrepareAnswer : {T : Type 0} → List (ℕ × Bor (List ℕ)) → (size : ℕ) → Result T WalError → (old new : Core) → Type 0
 PrepareAnswer pages size (Ok _) old new = IsReady pages size new
 PrepareAnswer pages size (Err e) old new =
@@ -75,6 +76,7 @@ pub record Closes (old new : Core) : Type 0 where
   pub is_open : new.is_open ≡ false
   pub marks : new.marks ≡ old.marks
 
+-- the commit is the newest one, or the core is closed
 abbrev pub EndAnswer : {T : Type 0} → (size : ℕ) → Result T WalError → (old new : Core) → Type 0
 EndAnswer size (Ok _) old new = Ends size old new
 EndAnswer size (Err e) old new = Closes old new
@@ -92,6 +94,7 @@ pub record Rests (old new : Core) : Type 0 where
   pub used : new.used ≡ old.used
   pub unsynced : new.unsynced ≡ false
 
+-- all commits are down, or the core is closed
 abbrev pub RestAnswer : {T : Type 0} → Result T WalError → (old new : Core) → Type 0
 RestAnswer (Ok _) old new = Rests old new
 RestAnswer (Err e) old new = Closes old new

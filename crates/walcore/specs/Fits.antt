@@ -139,10 +139,12 @@ pub record FitsCore (past : Past) (holds : Core) (s : DiskState) : Type 0 where
 abbrev pub Fits : {D : Type 0} → (state_of : D → DiskState) → Wal D → Past → Type 0
 Fits state_of wal past = FitsCore past wal.core (state_of wal.disk)
 
+-- what a call answers, a refusal by its number
 abbrev pub answered : {T : Type 0} → (T → Answer) → Result T WalError → Answer
 answered good (Ok value) = good value
 answered good (Err error) = Refused (number_of error)
 
+-- the tokens once a reader began, and once the one of this number ended
 abbrev pub with_token : List (Option Reader) → Result Reader WalError → List (Option Reader)
 with_token tokens (Ok r) = tokens ++ Some r ∷ []
 with_token tokens (Err error) = tokens
@@ -160,9 +162,11 @@ pub record StepsTo (past : Past) (tokens : List (Option Reader)) (act : Act) (an
   pub makes : Makes past.state.page_size old.sector old.tears past.made act answer made
   pub fits : FitsCore (record { state = next; made = made; tokens = tokens }) core new
 
+-- the same of an engine
 abbrev pub Steps : {D : Type 0} → (state_of : D → DiskState) → (old new : Wal D) → Past → (tokens : List (Option Reader)) → Act → Answer → Type 0
 Steps state_of old new past tokens act answer = StepsTo past tokens act answer new.core (state_of old.disk) (state_of new.disk)
 
+-- the tokens where every reader is forgotten
 abbrev pub none_open : List (Option Reader) → List (Option Reader)
 none_open tokens = map (λ _. None) tokens
 
@@ -180,6 +184,7 @@ pub record GivenUpTo (past : Past) (salts : ℕ × ℕ) (found : Files) (error :
   pub makes : Makes past.state.page_size before.sector before.tears past.made (Opens salts found) (Refused (number_of error)) made
   pub fits : FitsAlone (record { state = next; made = made; tokens = none_open past.tokens }) after
 
+-- both of an engine, or of the disk that is given back
 abbrev pub Opened : {D : Type 0} → (state_of : D → DiskState) → (before : DiskState) → Past → (salts : ℕ × ℕ) → Files → Wal D → Type 0
 Opened state_of before past salts found wal = OpenedTo past salts found wal.core before (state_of wal.disk)
 

@@ -49,6 +49,7 @@ FoldAnswer size db w (Err NoMemory) old new = (TearsPages size old → ⊥) × K
 FoldAnswer size db w (Err Device) old new = (TearsPages size old → ⊥) × HadRefusal old new
 FoldAnswer size db w (Err _) old new = ⊥
 
+-- for whatever bytes are present
 abbrev pub Folds : (size : ℕ) → Result Folded WalError → (old new : DiskState) → Type 0
 Folds size result old new = (db w : List ℕ) → ArePresent old.db db → ArePresent old.log w → FoldAnswer size db w result old new
 

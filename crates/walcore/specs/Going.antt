@@ -1,4 +1,4 @@
--- What the writing of frames does to a core and its disk.
+-- What the writing of frames does to a core and its disk (fileformat2, 4.1).
 use Rattle.std.specs.Prelude.{◌≡◌, ℕ, ◌+◌, ◌≤◌, List, ◌∷◌, ◌++◌, Result, Ok, Err, IsOk, []}
 use Rattle.sqval.specs.Database.{Database}
 use Rattle.sqwal.specs.Header.{IsHeaderOf}

@@ -1,10 +1,13 @@
--- What holds of every run.
+-- What holds of every run (own).
 use Rattle.std.specs.Prelude.{◌≡◌, ◌⊎◌, ℕ, ◌+◌, ◌<◌, ◌≤◌, Bool, true, false, cond, IsTrue, length, take, Option, Some, None}
-use Rattle.sqval.specs.Database.{page}
+use Rattle.sqval.specs.Database.{Database, page}
+use Rattle.crashdisk.specs.Call.{DiskState}
 use Rattle.sqval.specs.Answers.{Answer, Done, Reader, Page, Complete, Partial, NoReader, told, is_accepted, IsShort}
+use Rattle.walcore.specs.Alone.{ShowsAlone}
 use Rattle.walcore.specs.CommitRefusals.{most_pages}
 use Rattle.walcore.specs.Machine.{State, at, reader_at, all_newest, Act, Opens, Commits, Syncs, Begins, Reads, Ends, Checkpoints, Restarts, Crashes, Sets, call_refusal, commit_refusal, read_refusal, restart_refusal}
 
+-- what holds of the machine in each run
 pub record IsSane (s : State) : Type 0 where
   -- the floor is a place of the history
   pub floor : s.floor < length s.history
@@ -18,16 +21,23 @@ pub record Keeps (old new : State) : Type 0 where
   pub floor : old.floor ≤ new.floor
   pub down : take (old.floor + 1) new.history ≡ take (old.floor + 1) old.history
 
+-- the one database that a disk shows alone stays shown
+abbrev pub KeepsShown : (old new : DiskState) → Type 0
+KeepsShown old new = (size : ℕ) (d : Database) → ShowsAlone size d old → ShowsAlone size d new
+
 -- ---- What is answered where memory is ample and the disk refuses no call.
 
+-- what a read answers, by the place that the reader is bound to, if it is open
 abbrev pub shown : State → Option ℕ → (number : ℕ) → Answer
 shown s None number = NoReader
 shown s (Some i) number = told (read_refusal s i number) (Page (page (at s i) number))
 
+-- what the end of a reader answers
 abbrev pub at_end : Option ℕ → Answer
 at_end None = NoReader
 at_end (Some i) = Done
 
+-- what each call answers
 abbrev pub expected : State → Act → Answer
 expected s (Opens salts found) = Done
 expected s (Commits pages size) = told (commit_refusal s pages size) Done
@@ -42,6 +52,7 @@ expected s Sets = Done
 
 -- ---- What may stand in its place.
 
+-- a call that may want memory
 abbrev pub takes_memory : Act → Bool
 takes_memory (Opens salts found) = true
 takes_memory (Commits pages size) = true
@@ -55,6 +66,7 @@ needs_disk (Crashes left) = false
 needs_disk Sets = false
 needs_disk _ = true
 
+-- It is what is expected, or, where that is no refusal, what may stand in its place.
 abbrev pub IsExpected : State → Act → Answer → (before after : ℕ) → Type 0
 IsExpected s act answer before after =
     (answer ≡ expected s act) ⊎ (IsTrue (is_accepted (expected s act)) × IsShort (takes_memory act) (needs_disk act) answer before after)

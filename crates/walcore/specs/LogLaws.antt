@@ -1,4 +1,4 @@
--- What is made of logs in a run.
+-- What is made of logs in a run (own).
 use Rattle.std.specs.Prelude.{◌≡◌, ℕ, ◌^◌, ◌<◌, Bool, true, List, [], ◌∷◌, length, get_or}
 use Rattle.sqval.specs.Bytes.{AreBytes}
 use Rattle.sqwal.specs.Log.{IsLog}

@@ -1,4 +1,4 @@
--- The machine of an engine with a write-ahead log: what each call may answer, and what it steps to.
+-- The machine of an engine with a write-ahead log: what each call may answer, and what it steps to (own).
 use Rattle.std.specs.Prelude.{◌≡◌, ◌⊎◌, ℕ, ◌+◌, ◌-◌, ◌<◌, ◌≤◌, Bool, true, false, cond, not, ◌==◌, nat_lt, IsTrue, IsFalse, List, [], ◌∷◌, ◌++◌, map, length, take, get_or, set, Option, Some, None, is_some}
 use Rattle.std.specs.List.{list_any, list_all}
 use Rattle.sqval.specs.Database.{Database, Pages, page, apply}
@@ -23,6 +23,7 @@ pub data Act : Type 0 where
   -- a stop or a failure of the disk is set
   Sets : Act
 
+-- the state of the machine
 pub record State : Type 0 where
   pub page_size : ℕ
   -- the base, and what each commit made
@@ -37,9 +38,11 @@ pub record State : Type 0 where
   -- pages committed since the last opening or restart
   pub used : ℕ
 
+-- with the base alone, and closed
 abbrev pub start : (page_size : ℕ) → Database → State
 start page_size base = record { page_size = page_size; history = base ∷ []; floor = 0; readers = []; is_open = false; drained = false; used = 0 }
 
+-- the place of the newest database, the database at a place, and the newest one
 abbrev pub last : State → ℕ
 last s = length s.history - 1
 
@@ -58,14 +61,17 @@ abbrev pub is_bound : ℕ → Option ℕ → Bool
 is_bound i None = true
 is_bound i (Some j) = j == i
 
+-- each open reader is bound to the newest database
 abbrev pub all_newest : State → Bool
 all_newest s = list_all (is_bound (last s)) s.readers
 
 -- ---- What calls step to.
 
+-- no reader is open
 abbrev pub forgotten : List (Option ℕ) → List (Option ℕ)
 forgotten readers = map (λ _. None) readers
 
+-- an opening that showed the database at place k
 abbrev pub opened : State → (k : ℕ) → State
 opened s k = record s { history = take (k + 1) s.history; floor = k; readers = forgotten s.readers; is_open = true; drained = true; used = 0 }
 
@@ -73,9 +79,11 @@ opened s k = record s { history = take (k + 1) s.history; floor = k; readers = f
 abbrev pub gone : State → State
 gone s = record s { readers = forgotten s.readers; is_open = false }
 
+-- a call of the disk was refused
 abbrev pub closed : State → State
 closed s = record s { is_open = false }
 
+-- a commit, which is not known to be down
 abbrev pub committed : State → Pages → (size : ℕ) → State
 committed s pages size = record s { history = s.history ++ apply (newest s) pages size ∷ []; used = s.used + length pages; drained = false }
 
@@ -96,12 +104,14 @@ ended s reader = record s { readers = set s.readers reader None }
 
 -- ---- Refusals: of each call the first that holds.
 
+-- of a sync, a beginning of a reader and a checkpoint
 abbrev pub call_refusal : State → Option ℕ
 call_refusal s = first_true ((not s.is_open, 1) ∷ [])
 
 abbrev pub commit_refusal : State → Pages → (size : ℕ) → Option ℕ
 commit_refusal s pages size = cond s.is_open (refusal_of (length (newest s)) s.page_size s.used pages size) (Some 1)
 
+-- of a read of this page of the database at place i
 abbrev pub read_refusal : State → (i number : ℕ) → Option ℕ
 read_refusal s i number = first_true ((not s.is_open, 1) ∷ (number == 0, 4) ∷ (nat_lt (length (at s i)) number, 5) ∷ [])
 
@@ -118,17 +128,20 @@ OpenStep old found Done before after new =
 OpenStep old found (Refused number) before after new = ((number ≡ 14) ⊎ ((number ≡ 15) × HasCause before after)) × (new ≡ gone old)
 OpenStep old found _ before after new = ⊥
 
+-- A commit that the disk refuses may be there; the machine is closed.
 abbrev pub CommitStep : State → Pages → (size : ℕ) → Answer → (before after : ℕ) → State → Type 0
 CommitStep old pages size Done before after new = (commit_refusal old pages size ≡ None) × (new ≡ committed old pages size)
 CommitStep old pages size (Refused number) before after new =
     Refuses (commit_refusal old pages size) true (closed (committed old pages size)) before after old number new
 CommitStep old pages size _ before after new = ⊥
 
+-- all commits are down
 abbrev pub SyncStep : State → Answer → (before after : ℕ) → State → Type 0
 SyncStep old Done before after new = (call_refusal old ≡ None) × (new ≡ synced old)
 SyncStep old (Refused number) before after new = Refuses (call_refusal old) false (closed old) before after old number new
 SyncStep old _ before after new = ⊥
 
+-- a reader is numbered by how many there were
 abbrev pub BeginStep : State → Answer → (before after : ℕ) → State → Type 0
 BeginStep old (Reader number) before after new = (call_refusal old ≡ None) × (number ≡ length old.readers) × (new ≡ begun old)
 BeginStep old (Refused number) before after new = Refuses (call_refusal old) true (closed old) before after old number new
@@ -142,18 +155,21 @@ ReadStep (Some i) old number (Page bytes) before after new = (read_refusal old i
 ReadStep (Some i) old number (Refused refusal) before after new = Refuses (read_refusal old i number) false old before after old refusal new
 ReadStep (Some i) old number _ before after new = ⊥
 
+-- by that place, too
 abbrev pub EndStep : Option ℕ → State → (reader : ℕ) → Answer → State → Type 0
 EndStep None old reader NoReader new = new ≡ old
 EndStep None old reader _ new = ⊥
 EndStep (Some i) old reader Done new = new ≡ ended old reader
 EndStep (Some i) old reader _ new = ⊥
 
+-- all commits are down, and it is complete where no reader is behind
 abbrev pub CheckpointStep : State → Answer → (before after : ℕ) → State → Type 0
 CheckpointStep old Complete before after new = (call_refusal old ≡ None) × IsTrue (all_newest old) × (new ≡ checkpointed old)
 CheckpointStep old Partial before after new = (call_refusal old ≡ None) × IsFalse (all_newest old) × (new ≡ checkpointed old)
 CheckpointStep old (Refused number) before after new = Refuses (call_refusal old) false (closed old) before after old number new
 CheckpointStep old _ before after new = ⊥
 
+-- a log begins anew, in which no pages are committed
 abbrev pub RestartStep : State → Answer → (before after : ℕ) → State → Type 0
 RestartStep old Done before after new = (restart_refusal old ≡ None) × (new ≡ restarted old)
 RestartStep old (Refused number) before after new = Refuses (restart_refusal old) false (closed old) before after old number new

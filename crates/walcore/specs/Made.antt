@@ -1,4 +1,4 @@
--- Logs as they were made, each under salts of its own: a header, and all frames made behind it.
+-- Logs as they were made (fileformat2, 4.1), each under salts of its own: a header, and all frames made behind it.
 use Rattle.std.specs.Prelude.{◌≡◌, ℕ, suc, ◌+◌, ◌<◌, ◌≤◌, cond, ◌==◌, List, [], length, take, get_or}
 use Rattle.std.specs.List.{Contains}
 use Rattle.sqval.specs.Bytes.{part, word, AreBytes}

@@ -1,4 +1,4 @@
--- What the calls of a run make of logs, and what the theorem on runs rests on: no header and no frame passes by chance,
+-- What the calls of a run make of logs, and what the theorem on runs rests on (own): no header and no frame passes by chance,
 -- no salts come twice, and a disk that tears puts no header and no frame together.
 use Rattle.std.specs.Prelude.{◌≡◌, ℕ, ◌+◌, ◌%◌, ◌^◌, Bool, true, false, not, ◌&&◌, ◌==◌, IsTrue, List, [], ◌∷◌, length, Some}
 use Rattle.sqval.specs.Bytes.{word}
@@ -48,6 +48,7 @@ abbrev pub MadeByRestart : (size salt2 : ℕ) → List (List ℕ) → (old new :
 MadeByRestart size salt2 [] old new = new ≡ old
 MadeByRestart size salt2 (e ∷ rest) old new = BeginsLog size ((word e 12 + 1) % 2 ^ 32) ((word e 16 + 1) % 2 ^ 32) salt2 old new
 
+-- a commit into the log in force
 abbrev pub MadeByCommit : (size : ℕ) → Pages → (s : ℕ) → List (List ℕ) → (old new : Made) → Type 0
 MadeByCommit size pages s [] old new = new ≡ old
 MadeByCommit size pages s (e ∷ rest) old new = Extends size pages s true e rest new

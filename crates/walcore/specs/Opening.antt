@@ -1,10 +1,10 @@
--- What the steps of an opening and of a restart do to a disk.
+-- What the steps of an opening and of a restart do to a disk (own).
 use Rattle.std.specs.Prelude.{◌≡◌, ◌⊎◌, ℕ, ◌+◌, ◌*◌, ◌<◌, ◌≤◌, true, false, IsTrue, List, length, Result, Ok, Err, IsErr, []}
 use Rattle.sqwal.specs.Header.{IsHeaderOf, named_size}
 use Rattle.sqwal.specs.Frames.{summed, IsFront}
 use Rattle.sqwal.specs.Sums.{IsSumOf}
 use Rattle.crashdisk.specs.State.{IsImage}
-use Rattle.crashdisk.specs.Call.{DiskState, Writes}
+use Rattle.crashdisk.specs.Call.{DiskState, Writes, Syncs}
 use Rattle.crashdisk.specs.declared.file.File.TheVariants.{Log}
 use Rattle.crashdisk.specs.declared.error.DiskError.{DiskError}
 use Rattle.sqval.specs.CommitFaults.{most_bytes}
@@ -12,7 +12,7 @@ use Rattle.walcore.specs.Alone.{Show}
 use Rattle.sqval.specs.Answers.{Files}
 use Rattle.walcore.specs.Machine.{at, last}
 use Rattle.walcore.specs.Made.{IsBegun}
-use Rattle.walcore.specs.Folding.{FoldAnswer}
+use Rattle.walcore.specs.Folding.{FoldAnswer, Agrees}
 use Rattle.walcore.specs.Plans.{IsFit}
 use Rattle.crashdisk.specs.Keeps.{HadRefusal, TearsPages, KeepsBytes, IsLogDown, Later, Told, SyncStep}
 use Rattle.sqval.specs.Held.{IsJust}
@@ -38,15 +38,15 @@ HeaderSteps {T = T} f result old new =
 -- how many pages a file of so many bytes has
 abbrev pub CountAnswer : (size long : ℕ) → Result ℕ WalError → (old new : DiskState) → Type 0
 CountAnswer size long (Ok n) old new = (1 ≤ n) × (n * size ≡ long) × (long ≤ most_bytes)
-CountAnswer size long (Err PageSize) old new = (n : ℕ) → 1 ≤ n → n * size ≡ long → ⊥
 CountAnswer size long (Err TooLarge) old new = most_bytes < long
+CountAnswer size long (Err PageSize) old new = (long ≤ most_bytes) × ((n : ℕ) → 1 ≤ n → n * size ≡ long → ⊥)
 CountAnswer size long (Err Device) old new = HadRefusal old new
 CountAnswer size long (Err _) old new = ⊥
 
--- why no database has so many bytes
+-- why no database has so many bytes: the first of these that holds
 abbrev pub FileFault : (size long : ℕ) → WalError → Type 0
-FileFault size long PageSize = (n : ℕ) → 1 ≤ n → n * size ≡ long → ⊥
 FileFault size long TooLarge = most_bytes < long
+FileFault size long PageSize = (long ≤ most_bytes) × ((n : ℕ) → 1 ≤ n → n * size ≡ long → ⊥)
 FileFault size long _ = ⊥
 
 -- a database may have so many bytes
@@ -58,6 +58,29 @@ IsCounted size long = (n : ℕ) × (1 ≤ n) × (n * size ≡ long) × (long ≤
 abbrev pub OpenRefused : (size : ℕ) (db w : List ℕ) → WalError → (old new : DiskState) → Type 0
 OpenRefused size db w e old new =
     FoldAnswer size db w (Err e) old new ⊎ ((TearsPages size old → ⊥) × IsFit size w × IsFront (named_size w) w 0 × FileFault size (length db) e × KeepsBytes old new)
+
+-- A disk and its files of which no opening is refused but by want of memory or by the disk: no page can be torn, the log
+-- has no fault, and where that has no frames the file is one of whole pages.
+pub record MayOpen (size : ℕ) (found : Files) (s : DiskState) : Type 0 where
+  pub whole : TearsPages size s → ⊥
+  pub fit : IsFit size found.log
+  pub counted : IsFront (named_size found.log) found.log 0 → IsCounted size (length found.db)
+
+-- what an opening does once a sync of the log was answered
+abbrev pub OpensOn : {S T : Type 0} → (size : ℕ) → Result S DiskError → Result T WalError → (old new : DiskState) → Type 0
+OpensOn size (Ok _) result old new = Agrees size old new
+OpensOn size (Err _) result old new = (result ≡ Err Device) × (new ≡ old)
+
+-- The log is synced first. So it is from that moment on that all which a crash may leave shows the database that it showed.
+pub record OpensSynced {T : Type 0} (size : ℕ) (result : Result T WalError) (old new : DiskState) : Type 0 where
+  pub called : Result (Unit {0}) DiskError
+  pub mid : DiskState
+  pub sync : Syncs Log called old mid
+  pub rest : OpensOn size called result mid new
+
+-- an opening without memory may call nothing
+abbrev pub OpensFirst : {T : Type 0} → (size : ℕ) → Result T WalError → (old new : DiskState) → Type 0
+OpensFirst size result old new = ((result ≡ Err NoMemory) × (new ≡ old)) ⊎ OpensSynced size result old new
 
 -- what is judged before anything is written
 abbrev pub FileJudged : {T : Type 0} → (size : ℕ) → (db w : List ℕ) → Result T WalError → (old new : DiskState) → Type 0
@@ -85,6 +108,7 @@ pub record IsRecovered (past : Past) (found : Files) (pages : ℕ) (s : DiskStat
   pub file : (db : List ℕ) → IsImage s.sector s.tears s.db db → IsJust past.state.page_size (at past.state place) db
   pub count : pages ≡ length (at past.state place)
 
+-- what the recovery of an opening answers, and what it leaves
 abbrev pub RecoverAnswer : Past → Files → Result ℕ WalError → (old new : DiskState) → Type 0
 RecoverAnswer past found (Ok n) old new = Later old new × IsRecovered past found n new
 RecoverAnswer past found (Err e) old new =

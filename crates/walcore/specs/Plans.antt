@@ -1,4 +1,4 @@
--- What a fold plans of a scanned log.
+-- What a fold plans of a scanned log (own).
 use Rattle.std.specs.Prelude.{◌≡◌, ℕ, ◌-◌, ◌*◌, ◌≤◌, nat_le, cond, List, length, get_or, Result, Ok, Err}
 use Rattle.sqwal.specs.Header.{named_size}
 use Rattle.sqwal.specs.Frames.{page_of, size_of, IsValidFrame, IsFront}
@@ -36,6 +36,7 @@ pub record IsReady (size : ℕ) (w : List ℕ) (plan : Plan) : Type 0 where
   pub copy : IsCopy size plan.size w plan.frames plan.index
   pub room : length plan.page.items ≡ size
 
+-- what is planned for the log w, up to its front
 pub record IsPlan (size : ℕ) (w : List ℕ) (plan : Plan) : Type 0 where
   pub front : IsFront (named_size w) w plan.frames
   pub none : plan.frames ≡ 0 → plan.size ≡ 0
@@ -46,21 +47,25 @@ pub record IsFit (size : ℕ) (w : List ℕ) : Type 0 where
   pub small : IsTooLarge w → ⊥
   pub same : IsOfOtherSize size w → ⊥
 
+-- the log w can be folded, and this is its front
 pub record IsJudged (size : ℕ) (w : List ℕ) (f : Front) : Type 0 where
   pub fit : IsFit size w
   pub front : IsFront (named_size w) w f.frames
   pub none : f.frames ≡ 0 → f.size ≡ 0
   pub some : 1 ≤ f.frames → (named_size w ≡ size) × (f.size ≡ size_of size w f.frames) × (f.size * size ≤ most_bytes)
 
+-- why the log w cannot be: the first of these that holds
 unfoldable pub LogRefused : (size : ℕ) → List ℕ → WalError → Type 0
 LogRefused size w TooLarge = IsTooLarge w
 LogRefused size w PageSize = (IsTooLarge w → ⊥) × IsOfOtherSize size w
 LogRefused size w _ = ⊥
 
+-- what the judging of the log w answers
 unfoldable pub JudgeAnswer : (size : ℕ) → List ℕ → Result Front WalError → Type 0
 JudgeAnswer size w (Ok f) = IsJudged size w f
 JudgeAnswer size w (Err e) = LogRefused size w e
 
+-- the same with memory for the fold
 unfoldable pub PlanAnswer : (size : ℕ) → List ℕ → Result Plan WalError → Type 0
 PlanAnswer size w (Ok plan) = IsFit size w × IsPlan size w plan
 PlanAnswer size w (Err NoMemory) = Unit {0}

@@ -1,4 +1,4 @@
--- The numbers of the engine's refusals.
+-- The numbers of the engine's refusals (own).
 use Rattle.std.specs.Prelude.{ℕ}
 use Rattle.walcore.specs.declared.error.WalError.{WalError}
 use Rattle.walcore.specs.declared.error.WalError.TheVariants.{Closed, EmptyCommit, SizeZero, PageZero, PageAboveSize, PageTwice, HoleInGrowth, BadLength, TooLarge, WalFull, NotDrained, ReadersOpen, PageSize, NoMemory, Device, SectorAbovePage}

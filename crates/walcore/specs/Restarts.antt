@@ -1,4 +1,4 @@
--- What a restart asks of a core, and what it leaves of it.
+-- What a restart asks of a core, and what it leaves of it (fileformat2, 4.3; refusals are own).
 use Rattle.std.specs.Prelude.{◌≡◌, ◌≢◌, true, false, [], Result, Ok, Err}
 use Rattle.walcore.specs.Opening.{IsNewCore}
 use Rattle.walcore.specs.declared.opening.NewLog.{NewLog}
@@ -12,6 +12,7 @@ pub record MayRestart (core : Core) : Type 0 where
   pub drained : core.drained ≡ true
   pub unread : core.marks.items ≡ []
 
+-- whether a log may be begun anew, or the first reason why not
 abbrev pub RestartJudged : {T : Type 0} → Core → Result T WalError → Type 0
 RestartJudged core (Ok _) = MayRestart core
 RestartJudged core (Err Closed) = core.is_open ≡ false
@@ -29,6 +30,7 @@ pub record IsClosed (old new : Core) : Type 0 where
   pub is_open : new.is_open ≡ false
   pub marks : new.marks.items ≡ old.marks.items
 
+-- what becomes of a core once its header was written, or was not
 abbrev pub TakesOver : {T : Type 0} → NewLog → (old new : Core) → (begun result : Result T WalError) → Type 0
 TakesOver l old new (Ok done) result = (result ≡ Ok done) × IsRestarted l old new
 TakesOver l old new (Err error) result = (result ≡ Err error) × IsClosed old new

@@ -1,4 +1,4 @@
--- What the parts of a fold do to a disk.
+-- What the parts of a fold do to a disk (fileformat2, 4.3).
 use Rattle.std.specs.Prelude.{◌≡◌, ◌⊎◌, ℕ, suc, ◌+◌, ◌-◌, ◌*◌, ◌<◌, ◌≤◌, Bool, true, false, List, length, get_or, take, replicate, Result, Ok, Err, IsErr, Option, Some, None, []}
 use Rattle.sqval.specs.Database.{Database, page}
 use Rattle.sqwal.specs.Header.{IsHeader, named_size}
@@ -22,6 +22,7 @@ use Rattle.walcore.specs.declared.error.WalError.TheVariants.{TooLarge, NoMemory
 
 -- ---- The scan.
 
+-- why the scan of the log w is refused
 unfoldable pub ScanRefused : List ℕ → WalError → (old new : DiskState) → Type 0
 ScanRefused w TooLarge old new = IsValidFrame (named_size w) w (suc most_frames)
 ScanRefused w WalNoMemory old new = Unit {0}
@@ -40,6 +41,7 @@ PieceAnswer w end (Ok true) s old new = Took (take end w) s
 PieceAnswer w end (Ok false) s old new = IsHeader (named_size w) w → ⊥
 PieceAnswer w end (Err e) s old new = ScanRefused w e old new
 
+-- what the scan of the whole log answers: none where it has no valid header
 unfoldable pub ScanAnswer : List ℕ → Result (Option Scan) WalError → (old new : DiskState) → Type 0
 ScanAnswer w (Ok (Some s)) old new = Took w s
 ScanAnswer w (Ok None) old new = IsHeader (named_size w) w → ⊥
@@ -55,6 +57,7 @@ pub record PutsPage {T : Type 0} (size : ℕ) (w : List ℕ) (m p : ℕ) (called
   pub read : Still old mid
   pub write : Writes Db ((p - 1) * size) (content_of size w frame) called mid new
 
+-- page p was put, or none of these frames names it
 unfoldable pub PageAnswer : {T : Type 0} → (size : ℕ) → List ℕ → (m p : ℕ) → Result T WalError → (old new : DiskState) → Type 0
 PageAnswer size w m p (Ok done) old new = (Unnamed size w m p × (new ≡ old)) ⊎ PutsPage size w m p (Ok done) old new
 PageAnswer {T = T} size w m p (Err e) old new = (e ≡ Device) × HadRefusal old new × (Still old new ⊎ ((called : Result T DiskError) × PutsPage size w m p called old new))
@@ -64,6 +67,7 @@ pub record ArePages (size : ℕ) (d : Database) (s : FileState) : Type 0 where
   pub len : s.len ≡ length d * size
   pub each : (p : ℕ) → 1 ≤ p → p ≤ length d → (j : ℕ) → j < size → byte s ((p - 1) * size + j) ≡ get_or (page d p) j 0
 
+-- the pages of d were copied, and the length was set
 unfoldable pub CopyAnswer : {T : Type 0} → (size : ℕ) → Database → Result T WalError → (old new : DiskState) → Type 0
 CopyAnswer size d (Ok _) old new = ArePages size d new.db
 CopyAnswer size d (Err e) old new = (e ≡ Device) × HadRefusal old new

@@ -1,4 +1,4 @@
--- How a log is brought down: with a copy of its last frame, or without.
+-- How a log is brought down: with a copy of its last frame, or without (own).
 use Rattle.std.specs.Prelude.{◌≡◌, ℕ, ◌+◌, ◌%◌, ◌≤◌, Bool, true, false, not, ◌&&◌, ◌==◌, List, ◌∷◌, Result, Ok, Err, []}
 use Rattle.sqwal.specs.Frames.{frame_end, page_of, size_of, content_of}
 use Rattle.sqwal.specs.Log.{IsLog}
@@ -45,6 +45,7 @@ abbrev pub SyncsBehind : {T : Type 0} → (copied result : Result T WalError) �
 SyncsBehind (Ok _) result s t = SyncStep Device Log result s t
 SyncsBehind (Err e) result s t = (result ≡ Err e) × (t ≡ s)
 
+-- a copy is written, and then the log is synced
 pub record SyncsCopy {T : Type 0} (result : Result T WalError) (old new : Core) (s t : DiskState) : Type 0 where
   pub mid : DiskState
   pub copied : Result T WalError

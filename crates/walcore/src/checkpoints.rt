@@ -1,5 +1,5 @@
 //! Checkpoints: what the log has is brought into the database file.
-ghost use Rattle.std.specs.Prelude.{◌≡◌, ◌↔◌, ◌+◌, ◌≤◌, ℕ, List, length, OnOk, IsTrue, false, if◌then◌else◌};
+ghost use Rattle.std.specs.Prelude.{◌≡◌, ◌≢◌, ◌↔◌, ◌+◌, ◌≤◌, ℕ, List, length, OnOk, OnErr, IfErr, IsTrue, false, if◌then◌else◌};
 ghost use Rattle.crashdisk.specs.Call.{DiskState, IsSoundDisk};
 ghost use Rattle.walcore.specs.Machine.{at, last, Checkpoints};
 ghost use Rattle.crashdisk.specs.Keeps.{KeepsLog};
@@ -34,6 +34,7 @@ fn size_at<D: Disk>(disk: &mut D, page_size: usize, frame: u32) -> Result<u32, W
     requires size { page_size ≤ 65536 }
     ensures word { D.keeps_word disk.old ↔ D.keeps_word disk.new }
     ensures size { D.keeps_word disk.old → IsSoundDisk (D.state disk.old) → SizeAnswer page_size frame result (D.state disk.old) (D.state disk.new) }
+    ensures error { OnErr result (result ≡ Err WalError.Device) }
 {
     let mut bytes = [0; 4];
     let at = 32 + u64::from(frame - 1) * (24 + page_size as u64) + 4;
@@ -52,6 +53,7 @@ fn bring_over<D: Disk>(
     ensures word { D.keeps_word disk.old ↔ D.keeps_word disk.new }
     ensures log { D.keeps_word disk.old → IsSoundDisk (D.state disk.old) → KeepsLog (D.state disk.old) (D.state disk.new) }
     ensures brings { D.keeps_word disk.old → IsSoundDisk (D.state disk.old) → Brings (length page.old) frame index.now result (D.state disk.old) (D.state disk.new) }
+    ensures error { OnErr result (result ≡ Err WalError.Device) }
 {
     if frame == 0 {
         return Ok(());
@@ -90,6 +92,7 @@ impl<D: Disk> Wal<D> {
         ensures brings { D.keeps_word self.old.disk → (past : Past) → Fits D.state self.old past → IsTrue self.old.core.is_open
             → past.state.floor ≡ last past.state → past.made.unsynced ≡ false
             → BroughtDown past result self.old.core self.new.core (D.state self.old.disk) (D.state self.new.disk) }
+        ensures error { OnErr result (result ≡ Err WalError.Device) }
     {
         let frame = least_mark(&self.core.marks, self.core.mark);
         let size = self.core.page_size.get() as usize;
@@ -105,13 +108,14 @@ impl<D: Disk> Wal<D> {
     }
 
     /// Brings all commits down, as `sync` does, and the database that the oldest open reader sees, or the newest where
-    /// none is open, into the database file. Refused are Closed and Device.
+    /// none is open, into the database file (fileformat2, 4.3). Refused are Closed and Device.
     pub fn checkpoint(&mut self) -> Result<Checkpointed, WalError>
         ensures word { D.keeps_word self.old.disk ↔ D.keeps_word self.new.disk }
         ensures step { D.keeps_word self.old.disk → (past : Past) → Fits D.state self.old past
             → Steps D.state self.old self.new past past.tokens Checkpoints (answered answer_of result) }
         ensures file { D.keeps_word self.old.disk → (past : Past) (i : ℕ) → Fits D.state self.old past → IsOldest past.state i
             → OnOk result (LeavesJust past.state.page_size (at past.state i) (D.state self.new.disk)) }
+        ensures kept { IfErr result (λ e. e ≢ WalError.Device → self.new ≡ self.old) }
     {
         self.sync()?;
         let done = self.bring_down();

@@ -1,5 +1,5 @@
 //! Commits.
-ghost use Rattle.std.specs.Prelude.{◌≡◌, ◌↔◌, ◌+◌, ◌<◌, ◌≤◌, ℕ, length, IsTrue};
+ghost use Rattle.std.specs.Prelude.{◌≡◌, ◌≢◌, ◌↔◌, ◌+◌, ◌<◌, ◌≤◌, ℕ, length, OnErr, IfErr, IsTrue};
 ghost use Rattle.crashdisk.specs.Call.{DiskState};
 ghost use Rattle.sqval.specs.Answers.{Done};
 ghost use Rattle.walcore.specs.Machine.{Commits};
@@ -70,13 +70,14 @@ fn write_commit<D: Disk>(
     ensures word { D.keeps_word disk.old ↔ D.keeps_word disk.new }
     ensures step { D.keeps_word disk.old → (past : Past) → FitsCore past core.old (D.state disk.old) → IsTrue core.old.is_open
         → StepsTo past past.tokens (Commits (lent pages.now) size) (answered (λ _. Done) result) core.new (D.state disk.old) (D.state disk.new) }
+    ensures error { OnErr result (result ≡ Err WalError.Device) }
 {
     count_commit(core, pages.len() as u32);
     let written = write_frames(disk, core, pages, size);
     end_commit(core, size, written)
 }
 
-/// Commits these pages.
+/// Commits these pages (own).
 pub fn commit_pages<D: Disk>(
     disk: &mut D,
     core: &mut Core,
@@ -86,6 +87,7 @@ pub fn commit_pages<D: Disk>(
     ensures word { D.keeps_word disk.old ↔ D.keeps_word disk.new }
     ensures step { D.keeps_word disk.old → (past : Past) → FitsCore past core.old (D.state disk.old)
         → StepsTo past past.tokens (Commits (lent pages.now) size) (answered (λ _. Done) result) core.new (D.state disk.old) (D.state disk.new) }
+    ensures kept { IfErr result (λ e. e ≢ WalError.Device → (disk.new ≡ disk.old) × Prepares core.old core.new) }
 {
     if !core.is_open {
         return Err(WalError::Closed);
@@ -95,13 +97,16 @@ pub fn commit_pages<D: Disk>(
 }
 
 impl<D: Disk> Wal<D> {
-    /// Commits these pages, after which the database has `size` pages. It writes behind the log, one call a page, and
-    /// syncs nothing. Refused are, in this order, Closed, EmptyCommit, SizeZero, PageZero, PageAboveSize, PageTwice,
-    /// HoleInGrowth, BadLength, TooLarge, WalFull; NoMemory; Device, after which the core is closed.
+    /// Commits these pages, each given by its number, from 1, and its whole content, after which the database has
+    /// `size` pages (fileformat2, 4.1). It writes behind the log, one call a page, and syncs nothing. Refused are, in
+    /// this order, Closed, EmptyCommit, SizeZero, PageZero, PageAboveSize, PageTwice, HoleInGrowth, BadLength,
+    /// TooLarge, WalFull; NoMemory; Device, after which the core is closed.
     pub fn commit(&mut self, pages: &[(u32, &[u8])], size: u32) -> Result<(), WalError>
         ensures word { D.keeps_word self.old.disk ↔ D.keeps_word self.new.disk }
         ensures step { D.keeps_word self.old.disk → (past : Past) → Fits D.state self.old past
             → Steps D.state self.old self.new past past.tokens (Commits (lent pages.now) size) (answered (λ _. Done) result) }
+        // memory may have been taken
+        ensures kept { IfErr result (λ e. e ≢ WalError.Device → (self.new.disk ≡ self.old.disk) × Prepares self.old.core self.new.core) }
     {
         commit_pages(&mut self.disk, &mut self.core, pages, size)
     }

@@ -1,5 +1,5 @@
 //! The pages of a log are copied into the database, and the log is emptied.
-ghost use Rattle.std.specs.Prelude.{◌≡◌, ◌↔◌, ◌+◌, ◌*◌, ◌<◌, ◌≤◌, ◌^◌, ℕ, List, length};
+ghost use Rattle.std.specs.Prelude.{◌≡◌, ◌↔◌, ◌+◌, ◌*◌, ◌<◌, ◌≤◌, ◌^◌, ℕ, List, length, OnErr};
 ghost use Rattle.crashdisk.specs.Call.{DiskState, IsSoundDisk, ArePresent};
 ghost use Rattle.crashdisk.specs.declared.file.File.TheVariants.{Db, Log};
 ghost use Rattle.sqval.specs.Database.{Database};
@@ -33,6 +33,7 @@ fn copy_page<D: Disk>(
         → (w : List ℕ) (count : ℕ) → ArePresent (D.state disk.old).log w → IsValidFrame (length page.old) w frames → IsTable (length page.old) count w frames index.now
         → number ≤ count → count * length page.old ≤ most_bytes
         → PageAnswer (length page.old) w frames number result (D.state disk.old) (D.state disk.new) }
+    ensures error { OnErr result (result ≡ Err WalError.Device) }
 {
     let size = page.len() as u64;
     let hit = index.find(number, frames);
@@ -45,7 +46,7 @@ fn copy_page<D: Disk>(
     Ok(())
 }
 
-/// Copies the pages of a database of so many pages, and sets its length.
+/// Copies the pages of a database of so many pages, and sets its length (fileformat2, 4.3).
 pub fn copy_pages<D: Disk>(
     disk: &mut D,
     index: &FrameIndex,
@@ -64,6 +65,7 @@ pub fn copy_pages<D: Disk>(
         → (w : List ℕ) (d : Database) → ArePresent (D.state disk.old).log w
         → IsCopy (length page.old) count w frames index.now
         → Filling (length page.old) w frames d (D.state disk.old) → Filling (length page.old) w frames d (D.state disk.new) }
+    ensures error { OnErr result (result ≡ Err WalError.Device) }
 {
     for k in 0..count {
         copy_page(disk, index, frames, k + 1, page)?;
@@ -72,16 +74,17 @@ pub fn copy_pages<D: Disk>(
     Ok(())
 }
 
-/// Makes the database stay.
+/// Makes the database stay (fileformat2, 4.3).
 pub fn settle_database<D: Disk>(disk: &mut D) -> Result<(), WalError>
     ensures word { D.keeps_word disk.old ↔ D.keeps_word disk.new }
     ensures state { D.keeps_word disk.old → SyncStep WalError.Device File.Db result (D.state disk.old) (D.state disk.new) }
+    ensures error { OnErr result (result ≡ Err WalError.Device) }
 {
     disk.sync(File::Db)?;
     Ok(())
 }
 
-/// Makes the log's header invalid, for good.
+/// Makes the log's header invalid, for good (own).
 pub fn zero_header<D: Disk>(disk: &mut D) -> Result<(), WalError>
     ensures word { D.keeps_word disk.old ↔ D.keeps_word disk.new }
     ensures state { D.keeps_word disk.old → ZeroSteps result (D.state disk.old) (D.state disk.new) }
@@ -91,7 +94,7 @@ pub fn zero_header<D: Disk>(disk: &mut D) -> Result<(), WalError>
     Ok(())
 }
 
-/// Empties the log, for good.
+/// Empties the log, for good (own).
 pub fn cut_log<D: Disk>(disk: &mut D) -> Result<(), WalError>
     ensures word { D.keeps_word disk.old ↔ D.keeps_word disk.new }
     ensures state { D.keeps_word disk.old → CutSteps result (D.state disk.old) (D.state disk.new) }
@@ -101,7 +104,7 @@ pub fn cut_log<D: Disk>(disk: &mut D) -> Result<(), WalError>
     Ok(())
 }
 
-/// Makes the database stay, and then empties the log.
+/// Makes the database stay, and then empties the log (own).
 pub fn finish<D: Disk>(disk: &mut D) -> Result<(), WalError>
     ensures word { D.keeps_word disk.old ↔ D.keeps_word disk.new }
     ensures later { D.keeps_word disk.old → IsSoundDisk (D.state disk.old) → Later (D.state disk.old) (D.state disk.new) }

@@ -1,4 +1,4 @@
-//! Why the engine refuses a call.
+//! Why the engine refuses a call (own).
 ghost use Rattle.std.specs.Prelude.{◌≡◌};
 ghost use Rattle.sqval.specs.JudgedPages.{fault_number};
 ghost use Rattle.walcore.specs.Refusal.{number_of};
@@ -36,7 +36,7 @@ pub enum WalError {
     /// A page's length isn't the page size.
     #[error("a page of another length")]
     BadLength,
-    /// The database would be above 1,073,741,824 bytes, or the log has more valid frames than are scanned.
+    /// The database is or would be above 1,073,741,824 bytes, or the log has more than 2,097,152 valid frames.
     #[error("too large")]
     TooLarge,
     /// More than 1,048,576 pages committed since the log was begun.
@@ -48,7 +48,8 @@ pub enum WalError {
     /// A reader is open.
     #[error("a reader is open")]
     ReadersOpen,
-    /// The log's header names another page size.
+    /// The log's header names another page size; or where an engine is opened and the log has no committed frame, the
+    /// database file is empty or has no whole number of pages.
     #[error("another page size")]
     PageSize,
     /// No memory.

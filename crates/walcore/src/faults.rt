@@ -1,4 +1,4 @@
-//! Why a commit is refused.
+//! Why a commit is refused (own).
 ghost use Rattle.std.specs.Prelude.{◌≡◌, ◌+◌, nat_lt, length, OnOk};
 ghost use Rattle.std.specs.List.{All};
 ghost use Rattle.sqval.specs.Bytes.{AreBytes};

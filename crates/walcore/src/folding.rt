@@ -1,4 +1,4 @@
-//! Recovery: a log is folded into its database.
+//! Recovery: a log is folded into its database (fileformat2, 4.3; what it answers is own).
 ghost use Rattle.std.specs.Prelude.{◌≡◌, ◌↔◌, ◌≤◌, ℕ, List, length, OnOk, OnErr};
 
 use crate::copying::{copy_pages, finish};
@@ -11,7 +11,9 @@ use std::alloc::Global;
 /// What a fold found: the number of committed frames, and the size of the database in pages there, 0 with no frame.
 #[derive(Clone, Copy, Debug, PartialEq, Eq)]
 pub struct Folded {
+    /// 0 where nothing was folded.
     pub frames: u32,
+    /// In pages.
     pub size: u32,
 }
 
@@ -26,7 +28,7 @@ ghost use Rattle.walcore.specs.Plans.{IsPlan, IsFit};
 ghost use Rattle.walcore.specs.Folding.{Folds, Agrees, IsEmptyDown, SyncsFirst};
 ghost use Rattle.walcore.specs.Lengths.{EndsBy, IsLengthOf, KeepsLength};
 
-/// On a disk that tears, a sector may hold no more than a page.
+/// On a disk that tears, a sector may hold no more than a page. SectorAbovePage alone.
 pub fn judge_sector<D: Disk>(disk: &D, page_size: PageSize) -> Result<(), WalError>
     ensures sound { D.keeps_word disk.now → IsSoundDisk (D.state disk.now) }
     ensures suits { D.keeps_word disk.now → OnOk result (Suits page_size (D.state disk.now)) }
@@ -86,7 +88,16 @@ fn fold_log<D: Disk>(
     fold_plan(disk, plan)
 }
 
-/// Folds the log into the database and empties it.
+/// Folds the log into the database and empties it: writes each page of the database at the log's front from the last
+/// committed frame that names it, sets the database's length, and once that is down zeroes the log's header and cuts the
+/// log to no bytes. With no committed frame the database's bytes stay. `page_size` must be the one that the log's header
+/// names, and can be any where the log has no valid header.
+///
+/// Refused with, in this order, `SectorAbovePage` where a disk that tears has larger sectors than such a page,
+/// `TooLarge` where the log has more than 2,097,152 valid frames or its front's database is above 1,073,741,824 bytes,
+/// and `PageSize` where the log's header names another page size; with `NoMemory`; and with `Device` where the disk
+/// refused a call, either of which may stand in place of the last two. All but `Device` change no byte. After `Device`
+/// the fold is to be called again.
 pub fn fold<D: Disk>(alloc: Global, disk: &mut D, page_size: PageSize) -> Result<Folded, WalError>
     ensures word { D.keeps_word disk.old ↔ D.keeps_word disk.new }
     ensures folds { D.keeps_word disk.old → Folds page_size result (D.state disk.old) (D.state disk.new) }
@@ -99,7 +110,7 @@ pub fn fold<D: Disk>(alloc: Global, disk: &mut D, page_size: PageSize) -> Result
     fold_synced(alloc, disk, page_size)
 }
 
-/// What a fold does once it has synced the log: a log of no bytes is left as it is.
+/// What a fold does once it has synced the log: a log of no bytes is left as it is. Refused as `fold` is.
 pub fn fold_synced<D: Disk>(
     alloc: Global,
     disk: &mut D,

@@ -1,5 +1,5 @@
 //! Frames are written behind the log.
-ghost use Rattle.std.specs.Prelude.{◌≡◌, ◌↔◌, ◌+◌, ◌*◌, ◌<◌, ◌≤◌, ◌==◌, ◌++◌, ℕ, suc, List, cond, length, OnOk};
+ghost use Rattle.std.specs.Prelude.{◌≡◌, ◌↔◌, ◌+◌, ◌*◌, ◌<◌, ◌≤◌, ◌==◌, ◌++◌, ℕ, suc, List, cond, length, OnOk, OnErr};
 ghost use Rattle.std.specs.List.{All};
 ghost use Rattle.crashdisk.specs.Call.{DiskState, IsSoundDisk};
 ghost use Rattle.sqwal.specs.Frames.{frame_end};
@@ -22,14 +22,14 @@ fn fill(frame: &mut [u8], head: &[u8], content: &[u8])
     frame[head.len()..].copy_from_slice(content);
 }
 
-/// Where the log ends.
+/// Where the log ends (fileformat2, 4.1).
 pub fn end_of(core: &Core) -> u64
     ensures { result ≡ frame_end core.now.page_size core.now.frames }
 {
     32 + u64::from(core.frames) * (24 + u64::from(core.page_size.get()))
 }
 
-/// The log has a frame more.
+/// The log has a frame more (fileformat2, 4.1).
 pub fn count_frame(core: &mut Core, page: u32, after: Sum)
     requires page { page ≤ core.old.index.bound }
     requires few { core.old.frames + 1 + cond core.old.unsynced 1 0 ≤ 2 * core.old.used }
@@ -59,6 +59,7 @@ fn write_frame<D: Disk>(
     ensures keeps { KeepsCore core.old core.new }
     ensures count { OnOk result (core.new.frames ≡ core.old.frames + 1) }
     ensures frame { D.keeps_word disk.old → FrameStep page size content.now result core.old core.new (D.state disk.old) (D.state disk.new) }
+    ensures error { OnErr result (result ≡ Err WalError.Device) }
 {
     let (head, after) = frame_head(&core.header, core.sum, page, size, content);
     fill(&mut core.frame, &head, content);
@@ -76,7 +77,7 @@ fn size_on(k: usize, frames: usize, size: u32) -> u32
     if k + 1 == frames { size } else { 0 }
 }
 
-/// Writes a frame for each page, the last one of which has the database's size.
+/// Writes a frame for each page, the last one of which has the database's size (fileformat2, 4.1).
 pub fn write_frames<D: Disk>(
     disk: &mut D,
     core: &mut Core,
@@ -91,6 +92,7 @@ pub fn write_frames<D: Disk>(
     ensures frames { D.keeps_word disk.old → IsSoundDisk (D.state disk.old)
         → (e f : List ℕ) (n : ℕ) → IsExtended core.old.page_size e n (lent pages.now) size f → n + length (lent pages.now) ≤ most_frames → KnowsLog f n core.old (D.state disk.old)
         → FramesAnswer core.old.page_size f (n + length (lent pages.now)) n result core.new (D.state disk.old) (D.state disk.new) }
+    ensures error { OnErr result (result ≡ Err WalError.Device) }
 {
     for (k, x) in pages.iter().enumerate() {
         let (page, content) = *x;

@@ -1,19 +1,53 @@
 //! What holds of every run of the machine.
-ghost use Rattle.std.specs.Prelude.{◌≡◌, ℕ, List, false};
+ghost use Rattle.std.specs.Prelude.{◌≡◌, ◌≤◌, ℕ, Bool, List, Result, true, false};
 ghost use Rattle.sqval.specs.Database.{Database};
 ghost use Rattle.sqval.specs.Answers.{Answer};
-ghost use Rattle.walcore.specs.Laws.{IsSane, Keeps, IsExpected, is_opening};
+ghost use Rattle.sqval.specs.PageSize.{IsPageSize};
+ghost use Rattle.sqval.specs.Held.{IsJust, IsHeld};
 ghost use Rattle.sqval.specs.Runs.{Moment, Runs};
+ghost use Rattle.crashdisk.specs.State.{IsSectorSize};
+ghost use Rattle.crashdisk.specs.Call.{DiskState, IsSoundDisk, Syncs, Looks, IsCrash, IsNew};
+ghost use Rattle.crashdisk.specs.declared.file.File.{File};
+ghost use Rattle.crashdisk.specs.declared.error.DiskError.{DiskError};
+ghost use Rattle.crashdisk.specs.Keeps.{Still};
+ghost use Rattle.walcore.specs.Alone.{AreWhole};
+ghost use Rattle.walcore.specs.Fits.{Past, FitsAlone, FitsCore, beginning};
+ghost use Rattle.walcore.specs.Laws.{IsSane, Keeps, KeepsShown, IsExpected, is_opening};
 ghost use Rattle.walcore.specs.Machine.{State, Act, Reads, Step, start};
+ghost use Rattle.walcore.specs.declared.state.Core.{Core};
+
+/// A disk that is new with a base of pages that no sector that tears exceeds, and with an empty log, fits where a world
+/// begins.
+pub fn a_base_fits()
+    ensures { (size sector : ℕ) (torn : Bool) (base : Database) (bytes : List ℕ) (s : DiskState) → IsPageSize size → IsSectorSize sector
+        → (torn ≡ true → sector ≤ size) → IsHeld size base → IsJust size base bytes → IsNew sector torn bytes s → FitsAlone (beginning size base) s }
+{}
+
+/// What fits an engine fits it after calls that changed no byte of the disk, as a borrower of it may make them (own).
+pub fn a_look_fits()
+    ensures { (past : Past) (core : Core) (old new : DiskState) → Still old new → FitsCore past core old → FitsCore past core new }
+{}
+
+/// The one database that a disk shows alone stays shown: after a look, after a sync of either file, done or refused, and
+/// after a crash, where a disk that tears puts no valid header or frame together by chance.
+pub fn what_is_shown_stays()
+    ensures len { (end : ℕ) (result : Result ℕ DiskError) (old new : DiskState) → Looks end result old new → KeepsShown old new }
+    ensures read { (end : ℕ) (result : Result (Unit {0}) DiskError) (old new : DiskState) → Looks end result old new → KeepsShown old new }
+    ensures sync { (file : File) (result : Result (Unit {0}) DiskError) (old new : DiskState)
+        → IsSoundDisk old → Syncs file result old new → KeepsShown old new }
+    ensures crash { (db log : List ℕ) (old new : DiskState) → IsSoundDisk old → IsCrash db log old new
+        → (old.tears ≡ true → AreWhole old.kept old.handed log) → KeepsShown old new }
+{}
 
 /// In every run the floor is a place of the history, at most 1,048,576 pages are in the log, and a drained log has
-/// no reader of anything but the newest database.
+/// no reader of anything but the newest database (own).
 pub fn runs_are_sane()
     ensures { (page_size : ℕ) (base : Database) (moments : List (Moment Act)) (new : State) (after : ℕ)
         → Runs Step (start page_size base) 0 moments new after → IsSane new }
 {}
 
-/// What is known to be down stays, through crashes and openings: the floor never falls, and the databases up to it stand.
+/// What is known to be down stays, through crashes and openings: the floor never falls, and the databases up to it
+/// stand (own).
 pub fn what_is_down_stays()
     ensures { (page_size : ℕ) (base : Database) (before later : List (Moment Act)) (old new : State) (count after : ℕ)
         → Runs Step (start page_size base) 0 before old count → Runs Step old count later new after → Keeps old new }
@@ -21,7 +55,7 @@ pub fn what_is_down_stays()
 
 /// The machine chooses nothing but the database that an opening shows. It answers what is expected; in place of an answer
 /// that is no refusal, want of memory (an opening, a commit and a begin alone), or a refused call of the disk that has a
-/// cause (every call of the engine but the end of a reader). A read changes nothing.
+/// cause (every call of the engine but the end of a reader). A read changes nothing (own).
 pub fn one_step()
     ensures next { (old : State) (act : Act) (answer : Answer) (b a c d : ℕ) (new other : State)
         → is_opening act ≡ false → Step old act answer b a new → Step old act answer c d other → new ≡ other }

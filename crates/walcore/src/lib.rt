@@ -1,4 +1,4 @@
-//! The engine over a write-ahead log.
+//! The engine over a write-ahead log (own; the log is that of fileformat2, 4).
 #![tactic(auto)]
 
 mod checkpoints;
@@ -23,7 +23,9 @@ mod worked;
 
 pub use error::WalError;
 pub use folding::{Folded, fold, fold_synced};
-pub use laws::{one_step, runs_are_sane, what_is_down_stays};
+pub use laws::{
+    a_base_fits, a_look_fits, one_step, runs_are_sane, what_is_down_stays, what_is_shown_stays,
+};
 pub use logs::logs_are_determined;
 pub use plan::index_of;
 pub use reader::Reader;

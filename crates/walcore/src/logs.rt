@@ -1,4 +1,4 @@
-//! What a run makes of the logs.
+//! What a run makes of the logs (own).
 ghost use Rattle.std.specs.Prelude.{◌≡◌, ℕ, Bool, List, []};
 ghost use Rattle.std.specs.List.{Contains};
 ghost use Rattle.sqval.specs.PageSize.{IsPageSize};

@@ -1,5 +1,5 @@
 //! The opening of an engine: the log is folded into the database, and a new one begun.
-ghost use Rattle.std.specs.Prelude.{◌≡◌, ◌↔◌, ◌+◌, ℕ, List, [], length, IfErr, OnOk, MatchResult};
+ghost use Rattle.std.specs.Prelude.{◌≡◌, ◌↔◌, ◌+◌, ℕ, List, [], length, IfErr, OnOk, OnErr, MatchResult};
 ghost use Rattle.crashdisk.specs.Call.{DiskState, IsSoundDisk, ArePresent};
 ghost use Rattle.crashdisk.specs.declared.file.File.TheVariants.{Db};
 ghost use Rattle.sqwal.specs.Header.{IsHeaderOf};
@@ -8,7 +8,7 @@ ghost use Rattle.walcore.specs.Folding.{Agrees};
 ghost use Rattle.sqval.specs.Answers.{Files};
 ghost use Rattle.walcore.specs.Made.{NoChance, HasNewSalts};
 ghost use Rattle.walcore.specs.Fits.{Past, FitsDisk, FitsAlone, AreFiles, OpenedTo, GivenUpTo, Opened, GivenUp};
-ghost use Rattle.walcore.specs.Opening.{IsNewLog, IsNewCore, HeaderSteps, CountAnswer, FrontJudged, FileJudged, OpenRefused, RecoverAnswer};
+ghost use Rattle.walcore.specs.Opening.{IsNewLog, IsNewCore, HeaderSteps, CountAnswer, FrontJudged, FileJudged, OpenRefused, MayOpen, OpensSynced, OpensFirst, RecoverAnswer};
 
 use crate::error::WalError;
 use crate::folding::{fold_synced, judge_sector};
@@ -24,7 +24,7 @@ use std::alloc::Global;
 /// The most bytes of a database.
 const MOST_BYTES: u64 = 1073741824;
 
-/// A log of a header alone, before it is written.
+/// A log of a header alone, before it is written (fileformat2, 4.1).
 #[derive(Drop)]
 pub struct NewLog {
     pub header: WalHeader,
@@ -33,7 +33,7 @@ pub struct NewLog {
     pub bytes: [u8; 32],
 }
 
-/// A log with this header.
+/// A log with this header (fileformat2, 4.1).
 pub fn new_log(page_size: PageSize, sequence: u32, salts: (u32, u32)) -> NewLog
     ensures { IsNewLog page_size sequence salts.0 salts.1 result }
 {
@@ -61,17 +61,18 @@ fn begun(header: WalHeader, bytes: &[u8; 32]) -> NewLog
     }
 }
 
-/// Begins a log with these bytes, for good.
+/// Begins a log with these bytes, for good (own).
 pub fn begin_log<D: Disk>(disk: &mut D, bytes: &[u8; 32]) -> Result<(), WalError>
     ensures word { D.keeps_word disk.old ↔ D.keeps_word disk.new }
     ensures state { D.keeps_word disk.old → HeaderSteps bytes.now result (D.state disk.old) (D.state disk.new) }
+    ensures error { OnErr result (result ≡ Err WalError.Device) }
 {
     disk.write_at(File::Log, 0, bytes)?;
     disk.sync(File::Log)?; // before a frame is written
     Ok(())
 }
 
-/// How many pages the database file has: PageSize where that is no whole number, or 0.
+/// How many pages the database file has: TooLarge above the limit, PageSize where that is no whole number, or 0.
 pub fn count_pages<D: Disk>(disk: &mut D, page_size: PageSize) -> Result<u32, WalError>
     ensures word { D.keeps_word disk.old ↔ D.keeps_word disk.new }
     ensures still { D.keeps_word disk.old → IsSoundDisk (D.state disk.old) → Still (D.state disk.old) (D.state disk.new) }
@@ -79,12 +80,12 @@ pub fn count_pages<D: Disk>(disk: &mut D, page_size: PageSize) -> Result<u32, Wa
         → CountAnswer page_size (D.state disk.old).db.len result (D.state disk.old) (D.state disk.new) }
 {
     let long = disk.len(File::Db)?;
+    if long > MOST_BYTES {
+        return Err(WalError::TooLarge);
+    }
     let size = u64::from(page_size.get());
     if long == 0 || long % size != 0 {
         return Err(WalError::PageSize);
-    }
-    if long > MOST_BYTES {
-        return Err(WalError::TooLarge);
     }
     Ok((long / size) as u32)
 }
@@ -159,6 +160,9 @@ fn recover<D: Disk>(alloc: Global, disk: &mut D, page_size: PageSize) -> Result<
     ensures refuses { D.keeps_word disk.old → IsSoundDisk (D.state disk.old) → (TearsPages page_size (D.state disk.old) → ⊥)
         → (found : Files) → AreFiles (D.state disk.old) found
         → IfErr result (λ error. OpenRefused page_size found.db found.log error (D.state disk.old) (D.state disk.new)) }
+    ensures opens { D.keeps_word disk.old → IsSoundDisk (D.state disk.old) → (TearsPages page_size (D.state disk.old) → ⊥)
+        → (found : Files) → AreFiles (D.state disk.old) found → OnOk result (MayOpen page_size found (D.state disk.old)) }
+    ensures synced { D.keeps_word disk.old → IsSoundDisk (D.state disk.old) → OpensSynced page_size result (D.state disk.old) (D.state disk.new) }
 {
     disk.sync(File::Log)?; // what is read is what a crash leaves
     judge_file(alloc, disk, page_size)?;
@@ -182,6 +186,8 @@ fn open_core<D: Disk>(
     ensures agrees { D.keeps_word disk.old → Agrees page_size (D.state disk.old) (D.state disk.new) }
     ensures refuses { D.keeps_word disk.old → (found : Files) → AreFiles (D.state disk.old) found
         → IfErr result (λ error. OpenRefused page_size found.db found.log error (D.state disk.old) (D.state disk.new)) }
+    ensures opens { D.keeps_word disk.old → (found : Files) → AreFiles (D.state disk.old) found → OnOk result (MayOpen page_size found (D.state disk.old)) }
+    ensures synced { D.keeps_word disk.old → (TearsPages page_size (D.state disk.old) → ⊥) → OpensFirst page_size result (D.state disk.old) (D.state disk.new) }
 {
     judge_sector(disk, page_size)?;
     let log = new_log(page_size, 0, salts);
@@ -192,9 +198,9 @@ fn open_core<D: Disk>(
 }
 
 impl<D: Disk> Wal<D> {
-    /// Recovers what a crash, a failure or another engine left, and begins a new log with these salts, which no log of
-    /// this database had before. Refused are, in this order, SectorAbovePage, TooLarge, PageSize; NoMemory or Device may
-    /// stand in place of the last two.
+    /// Recovers what a crash, a failure or another engine left (own), and begins a new log with these salts, which no
+    /// log of this database had before. Refused are, in this order, SectorAbovePage, TooLarge, PageSize; NoMemory or
+    /// Device may stand in place of the last two.
     pub fn open(
         alloc: Global,
         disk: D,
@@ -213,6 +219,11 @@ impl<D: Disk> Wal<D> {
         // whatever is there
         ensures refuses { D.keeps_word disk → (found : Files) → AreFiles (D.state disk) found
             → IfErr result (λ refused. OpenRefused page_size found.db found.log refused.error (D.state disk) (D.state refused.disk)) }
+        ensures opens { D.keeps_word disk → (found : Files) → AreFiles (D.state disk) found → OnOk result (MayOpen page_size found (D.state disk)) }
+        // from the sync of the log on, all that a crash may leave shows one database
+        ensures synced { D.keeps_word disk → (TearsPages page_size (D.state disk) → ⊥) → MatchResult result
+            (λ wal. OpensFirst page_size (Ok wal.core) (D.state disk) (D.state wal.disk))
+            (λ refused. OpensFirst {T = Core} page_size (Err refused.error) (D.state disk) (D.state refused.disk)) }
     {
         let mut disk = disk;
         match open_core(alloc, &mut disk, page_size, salts) {

@@ -1,5 +1,5 @@
 //! Readers: a page is read as it was when its reader began.
-ghost use Rattle.std.specs.Prelude.{◌≡◌, ◌↔◌, ◌+◌, ◌<◌, ◌≤◌, ℕ, List, ◌∷◌, cond, ◌==◌, ◌≢◌, Some, slice_get, length, OnOk, IsErrAnd, IsTrue};
+ghost use Rattle.std.specs.Prelude.{◌≡◌, ◌↔◌, ◌+◌, ◌<◌, ◌≤◌, ℕ, List, ◌∷◌, cond, ◌==◌, ◌≢◌, Some, slice_get, length, OnOk, OnErr, IfErr, IsErrAnd, IsTrue};
 ghost use Rattle.std.specs.Borrow.{Lends, sem};
 ghost use Rattle.crashdisk.specs.Call.{DiskState, IsSoundDisk};
 ghost use Rattle.sqwal.specs.Index.{IsHit};
@@ -7,7 +7,7 @@ ghost use Rattle.sqwal.specs.View.{Unnamed, IsLast};
 ghost use Rattle.sqval.specs.Answers.{Page, Reader as ReaderAnswer, Done};
 ghost use Rattle.walcore.specs.Machine.{Begins, Reads, Ends};
 ghost use Rattle.walcore.specs.Fits.{Past, Fits, answered, times, Steps, with_token, without_token};
-ghost use Rattle.walcore.specs.Paging.{IsRefusedRead, ReadJudged, Finds};
+ghost use Rattle.walcore.specs.Paging.{IsRefusedRead, ReadJudged, Finds, LooksOnly};
 ghost use Rattle.crashdisk.specs.Keeps.{PlaceAnswer};
 
 use crate::error::WalError;
@@ -65,6 +65,8 @@ pub(crate) fn read_place<D: Disk>(
 ) -> Result<(), WalError>
     ensures word { D.keeps_word disk.old ↔ D.keeps_word disk.new }
     ensures place { D.keeps_word disk.old → IsSoundDisk (D.state disk.old) → PlaceAnswer WalError.Device file at out.new result (D.state disk.old) (D.state disk.new) }
+    ensures error { OnErr result (result ≡ Err WalError.Device) }
+    ensures looks { D.keeps_word disk.old → LooksOnly (D.state disk.old) (D.state disk.new) }
 {
     disk.read_at(file, at, out)?;
     Ok(())
@@ -73,11 +75,12 @@ pub(crate) fn read_place<D: Disk>(
 impl<D: Disk> Wal<D> {
     ghost use Rattle.walcore.specs.contracts.wal.Wal.{the_row};
 
-    /// A reader of the last commit. Refused are Closed and NoMemory.
+    /// A reader of the last commit (fileformat2, 4.4). Refused are Closed and NoMemory.
     pub fn begin(&mut self) -> Result<Reader, WalError>
         ensures word { D.keeps_word self.old.disk ↔ D.keeps_word self.new.disk }
         ensures step { D.keeps_word self.old.disk → (past : Past) → Fits D.state self.old past
             → Steps D.state self.old self.new past (with_token past.tokens result) Begins (answered (λ _. ReaderAnswer (length past.state.readers)) result) }
+        ensures disk { self.new.disk ≡ self.old.disk }
     {
         if !self.core.is_open {
             return Err(WalError::Closed);
@@ -92,8 +95,9 @@ impl<D: Disk> Wal<D> {
         }
     }
 
-    /// Reads a page as it was when the reader, one of this core's, began. Refused are Closed, PageZero, PageAboveSize,
-    /// BadLength and Device, which doesn't close the core. After a refusal `out` may hold anything.
+    /// Reads a page as it was when the reader, one of this core's, began (fileformat2, 4.4). Refused are Closed,
+    /// PageZero, PageAboveSize, BadLength and Device, which doesn't close the core. After a refusal `out` may hold
+    /// anything.
     pub fn read(&mut self, reader: &Reader, page: u32, out: &mut [u8]) -> Result<(), WalError>
         ensures word { D.keeps_word self.old.disk ↔ D.keeps_word self.new.disk }
         ensures step { D.keeps_word self.old.disk → (past : Past) (number : ℕ) → Fits D.state self.old past
@@ -102,6 +106,10 @@ impl<D: Disk> Wal<D> {
         // where `out` has another length than a page
         ensures size { length out.old ≢ self.old.core.page_size
             → IsErrAnd result (IsRefusedRead self.old.core.is_open page reader.now.size) × (self.new ≡ self.old) }
+        ensures kept { IfErr result (λ e. e ≢ WalError.Device → self.new ≡ self.old) }
+        // whatever is answered
+        ensures core { self.new.core ≡ self.old.core }
+        ensures looks { D.keeps_word self.old.disk → LooksOnly (D.state self.old.disk) (D.state self.new.disk) }
     {
         judge_read(
             self.core.is_open,
@@ -119,7 +127,7 @@ impl<D: Disk> Wal<D> {
         read_place(&mut self.disk, File::Log, at, out)
     }
 
-    /// Ends a reader, one of this core's, also where the core is closed.
+    /// Ends a reader, one of this core's, also where the core is closed (own). It goes through the open readers.
     pub fn end(&mut self, reader: Reader)
         ensures step { D.keeps_word self.old.disk → (past : Past) (number : ℕ) → Fits D.state self.old past
             → slice_get past.tokens number ≡ Some (Some reader)
@@ -132,7 +140,7 @@ impl<D: Disk> Wal<D> {
     }
 
     /// The frame from which a page is read as it was when the reader, one of this core's, began: 0 where that is the
-    /// database file. It refuses nothing.
+    /// database file (fileformat2, 4.4). It refuses nothing.
     pub fn frame_of(&self, reader: &Reader, page: u32) -> Hit
         ensures hit { IsHit self.now.core.index page reader.now.mark result }
         ensures last { (past : Past) (number : ℕ) → Fits D.state self.now past → slice_get past.tokens number ≡ Some (Some reader.now)
@@ -141,7 +149,8 @@ impl<D: Disk> Wal<D> {
         self.core.index.find(page, reader.mark)
     }
 
-    /// Lends the disk, as for a stop or a failure to be set. What is written to it by other calls the engine doesn't know.
+    /// Lends the disk (own), as for a stop or a failure to be set. What is written to it by other calls the engine
+    /// doesn't know.
     pub fn disk(&mut self) -> &mut D
         ensures* writes_back { sem 𝓛 (Lends (the_row D.row) D.row self.entry result (λ w. record self.old { disk = w })) }
         ensures value { result.now ≡ self.old.disk }
@@ -149,7 +158,7 @@ impl<D: Disk> Wal<D> {
         &mut self.disk
     }
 
-    /// Gives the disk back.
+    /// Gives the disk back (own).
     pub fn into_disk(self) -> D
         ensures { result ≡ self.disk }
     {

@@ -1,4 +1,4 @@
-//! What a fold is going to do.
+//! What a fold is going to do (own).
 ghost use Rattle.std.specs.Prelude.{◌≡◌, ◌↔◌, ◌+◌, ◌≤◌, ℕ, List, length, IfOk, OnOk, OnErr};
 ghost use Rattle.crashdisk.specs.Call.{DiskState, IsSoundDisk, ArePresent};
 ghost use Rattle.sqwal.specs.Took.{Took};

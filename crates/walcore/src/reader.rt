@@ -1,13 +1,13 @@
-//! Readers of one commit.
+//! Readers of one commit (fileformat2, 4.4).
 ghost use Rattle.std.specs.Prelude.{◌≡◌};
 
 /// An open reader, bound to the commit that was the last one when it began. It has to be given back to `Wal::end`.
 #[derive(Debug)]
 pub struct Reader {
     // the frame that ends its commit, 0 for the database below the log
-    pub mark: u32,
+    pub(crate) mark: u32,
     // pages of its database
-    pub size: u32,
+    pub(crate) size: u32,
 }
 
 impl Reader {

@@ -1,5 +1,5 @@
 //! The restart of a log: its header is written anew, so that frames are written over those of before.
-ghost use Rattle.std.specs.Prelude.{◌≡◌, ◌↔◌, ◌+◌, ◌%◌, ◌^◌, ℕ, length};
+ghost use Rattle.std.specs.Prelude.{◌≡◌, ◌≢◌, ◌↔◌, ◌+◌, ◌%◌, ◌^◌, ℕ, length, IfErr};
 ghost use Rattle.sqval.specs.Answers.{Done};
 ghost use Rattle.walcore.specs.Machine.{Restarts};
 ghost use Rattle.walcore.specs.Making.{Permits};
@@ -71,13 +71,15 @@ fn take_over(core: &mut Core, log: &NewLog, begun: Result<(), WalError>) -> Resu
 }
 
 impl<D: Disk> Wal<D> {
-    /// Begins the log anew, so that frames are written over, with the next sequence and salt-1 and this salt-2. Refused
-    /// are, in this order, Closed, NotDrained and ReadersOpen; Device. A log with these salts may not have been before.
+    /// Begins the log anew, so that frames are written over, with the next sequence and salt-1 and this salt-2
+    /// (fileformat2, 4.3). Refused are, in this order, Closed, NotDrained and ReadersOpen; Device. A log with these
+    /// salts may not have been before.
     pub fn restart(&mut self, salt2: u32) -> Result<(), WalError>
         ensures word { D.keeps_word self.old.disk ↔ D.keeps_word self.new.disk }
         ensures step { D.keeps_word self.old.disk → (past : Past) → Fits D.state self.old past
             → Permits past.made (Restarts salt2) (answered (λ _. Done) result)
             → Steps D.state self.old self.new past past.tokens (Restarts salt2) (answered (λ _. Done) result) }
+        ensures kept { IfErr result (λ e. e ≢ WalError.Device → self.new ≡ self.old) }
     {
         judge_restart(&self.core)?;
         let log = next_log(&self.core, salt2);

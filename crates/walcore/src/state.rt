@@ -1,4 +1,4 @@
-//! What a core holds in memory: nothing of any page, but where each page's frames are.
+//! What a core holds in memory: nothing of any page, but where each page's frames are (own).
 ghost use Rattle.std.specs.Prelude.{◌≡◌, ◌+◌, ◌*◌, ◌≤◌, cond, length};
 
 use sqval::PageSize;

@@ -1,5 +1,5 @@
 //! Commits come down.
-ghost use Rattle.std.specs.Prelude.{◌≡◌, ◌↔◌, ◌+◌, ◌-◌, ◌*◌, ◌≤◌, ◌++◌, drop, length, true};
+ghost use Rattle.std.specs.Prelude.{◌≡◌, ◌≢◌, ◌↔◌, ◌+◌, ◌-◌, ◌*◌, ◌≤◌, ◌++◌, drop, length, OnErr, IfErr, true};
 ghost use Rattle.crashdisk.specs.Call.{DiskState, IsSoundDisk};
 ghost use Rattle.crashdisk.specs.declared.file.File.TheVariants.{Log};
 ghost use Rattle.sqval.specs.Answers.{Done};
@@ -51,6 +51,7 @@ fn read_content<D: Disk>(disk: &mut D, at: u64, frame: &mut [u8]) -> Result<(), 
     ensures word { D.keeps_word disk.old ↔ D.keeps_word disk.new }
     ensures place { D.keeps_word disk.old → IsSoundDisk (D.state disk.old)
         → PlaceAnswer WalError.Device Log at (drop 24 frame.new) result (D.state disk.old) (D.state disk.new) }
+    ensures error { OnErr result (result ≡ Err WalError.Device) }
 {
     read_place(disk, File::Log, at, &mut frame[24..])
 }
@@ -69,6 +70,7 @@ fn copy_frame<D: Disk>(disk: &mut D, core: &mut Core) -> Result<(), WalError>
     ensures word { D.keeps_word disk.old ↔ D.keeps_word disk.new }
     ensures core { Repeats core.old core.new }
     ensures frame { D.keeps_word disk.old → IsSoundDisk (D.state disk.old) → RepeatAnswer result core.old core.new (D.state disk.old) (D.state disk.new) }
+    ensures error { OnErr result (result ≡ Err WalError.Device) }
 {
     core.unsynced = false;
     let end = end_of(core);
@@ -84,16 +86,18 @@ fn copy_frame<D: Disk>(disk: &mut D, core: &mut Core) -> Result<(), WalError>
 fn settle_log<D: Disk>(disk: &mut D) -> Result<(), WalError>
     ensures word { D.keeps_word disk.old ↔ D.keeps_word disk.new }
     ensures state { D.keeps_word disk.old → SyncStep WalError.Device Log result (D.state disk.old) (D.state disk.new) }
+    ensures error { OnErr result (result ≡ Err WalError.Device) }
 {
     disk.sync(File::Log)?;
     Ok(())
 }
 
-/// Brings all frames of the log down.
+/// Brings all frames of the log down (own).
 pub fn bring_down<D: Disk>(disk: &mut D, core: &mut Core) -> Result<(), WalError>
     ensures word { D.keeps_word disk.old ↔ D.keeps_word disk.new }
     ensures down { D.keeps_word disk.old → IsSoundDisk (D.state disk.old)
         → DownBy (is_due core.old (D.state disk.old)) result core.old core.new (D.state disk.old) (D.state disk.new) }
+    ensures error { OnErr result (result ≡ Err WalError.Device) }
 {
     if !owes_copy(disk, core) {
         return settle_log(disk);
@@ -119,6 +123,7 @@ fn sync_commits<D: Disk>(disk: &mut D, core: &mut Core) -> Result<(), WalError>
     ensures word { D.keeps_word disk.old ↔ D.keeps_word disk.new }
     ensures step { D.keeps_word disk.old → (past : Past) → FitsCore past core.old (D.state disk.old)
         → StepsTo past past.tokens Syncs (answered (λ _. Done) result) core.new (D.state disk.old) (D.state disk.new) }
+    ensures kept { IfErr result (λ e. e ≢ WalError.Device → (disk.new ≡ disk.old) × (core.new ≡ core.old)) }
 {
     if !core.is_open {
         return Err(WalError::Closed);
@@ -128,12 +133,13 @@ fn sync_commits<D: Disk>(disk: &mut D, core: &mut Core) -> Result<(), WalError>
 }
 
 impl<D: Disk> Wal<D> {
-    /// Brings all commits down. Refused are Closed and Device, after which the core is closed. On a disk that tears it
-    /// first writes a copy of the last frame behind it, where that doesn't end at the end of a sector.
+    /// Brings all commits down (own). Refused are Closed and Device, after which the core is closed. On a disk that
+    /// tears it first writes a copy of the last frame behind it, where that doesn't end at the end of a sector.
     pub fn sync(&mut self) -> Result<(), WalError>
         ensures word { D.keeps_word self.old.disk ↔ D.keeps_word self.new.disk }
         ensures step { D.keeps_word self.old.disk → (past : Past) → Fits D.state self.old past
             → Steps D.state self.old self.new past past.tokens Syncs (answered (λ _. Done) result) }
+        ensures kept { IfErr result (λ e. e ≢ WalError.Device → self.new ≡ self.old) }
     {
         sync_commits(&mut self.disk, &mut self.core)
     }

@@ -1,4 +1,4 @@
-//! The engine: each call is a step of the machine of histories, for whatever history fits the disk.
+//! The engine (own): each call is a step of the machine of histories, for whatever history fits the disk.
 
 use crate::error::WalError;
 use crate::state::Core;
@@ -13,7 +13,9 @@ pub struct Wal<D> {
 /// An opening that was refused gives the disk back.
 #[derive(Debug)]
 pub struct Refused<D> {
+    /// Why it was refused.
     pub error: WalError,
+    /// As the opening left it.
     pub disk: D,
 }
 

@@ -1,4 +1,4 @@
-//! Worked runs of the machine, and what is none.
+//! Worked runs of the machine, and what is none (own).
 ghost use Rattle.walcore.specs.Rows.{Synced, Lost, LostForGood, Stopped, SyncFailed, Forgotten};
 ghost use Rattle.walcore.specs.Rows.{Waits, TwoReaders, CommitsRefused};
 ghost use Rattle.walcore.specs.Rows.{NoLostSync, NoSkipped, NoReturn, NoOtherPage, NoEarlyComplete};

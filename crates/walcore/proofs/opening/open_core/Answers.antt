@@ -1,4 +1,5 @@
-use Rattle.std.proofs.Common.{ℕ, refl, sym, subst}
+use Rattle.std.proofs.Common.{inl, inr, ℕ, refl, sym, subst}
+use Rattle.std.specs.Prelude.{Ok}
 use Rattle.crashdisk.specs.Keeps.{TearsPages}
 use Rattle.walcore.specs.Opening.{OpenRefused}
 use Rattle.sqval.proofs.Answering.{passed, if_err, match_err}
@@ -6,6 +7,7 @@ use Rattle.crashdisk.proofs.Stills.{refusal_after}
 use Rattle.walcore.proofs.Unopened.{device_refused}
 use Rattle.walcore.proofs.Opened.{header_refused, same_error, without_memory, unrecovered, unbegun, begun_here, opened_here}
 use Rattle.walcore.proofs.Agreed.{agrees_then, header_alone}
+use Rattle.walcore.proofs.Foremost.{first_err, first_then}
 use Rattle.walcore.proofs.opening.open_core.Goals as goal
 
 pub returns-in_err-judge_sector-clause-step : goal.returns-in_err-judge_sector-clause-step
@@ -77,3 +79,41 @@ returns-in_err-begin_log-clause-refuses g c = λ word found are.
     let was = header_refused c.new_log-log.result.bytes c.new_log-log.ensures.begun.alone c.begin_log.result a b later.sound (c.begin_log.ensures.state (c.recover.ensures.word.0 word)) _ c.in_err-begin_log.was in
     if_err c.from_residual-in_err-begin_log.result _ (λ e. OpenRefused c.args.page_size found.db found.log e s b) (passed c.from_residual-in_err-begin_log.result _ c.from_residual-in_err-begin_log.ensures.1)
     (device_refused c.args.page_size found.db found.log _ s b suits.whole was.0 (refusal_after s a b later.refused was.1))
+
+pub returns-clause-opens : goal.returns-clause-opens
+returns-clause-opens g c = λ word found are.
+    let suits = c.in_ok-judge_sector.ensures.suits word in
+    c.in_ok-pages.ensures.opens word suits.sound suits.whole found are
+
+pub returns-in_err-judge_sector-clause-synced : goal.returns-in_err-judge_sector-clause-synced
+returns-in_err-judge_sector-clause-synced g c = λ word whole. absurd (whole (c.in_err-judge_sector.ensures.refused word))
+
+pub returns-in_err-frame-clause-synced : goal.returns-in_err-frame-clause-synced
+returns-in_err-frame-clause-synced g c = λ word whole. inl (
+  let e = same_error _ _ _ refl c.in_err-frame.ensures.memory in
+      let given = passed c.from_residual-in_err-frame.result _ c.from_residual-in_err-frame.ensures.1 in
+      cc,
+  refl,
+)
+
+pub returns-in_err-pages-clause-synced : goal.returns-in_err-pages-clause-synced
+returns-in_err-pages-clause-synced g c = λ word whole. inr (first_err c.args.page_size c.recover.result c.from_residual-in_err-pages.result _ (g.D.Disk.state c.args.disk.now) (g.D.Disk.state c.recover.new.disk) c.in_err-pages.was
+    (passed c.from_residual-in_err-pages.result _ c.from_residual-in_err-pages.ensures.1) (c.recover.ensures.synced word (c.judge_sector.ensures.sound word)))
+
+pub returns-in_err-begin_log-clause-synced : goal.returns-in_err-begin_log-clause-synced
+returns-in_err-begin_log-clause-synced g c = λ word whole.
+    let sound = c.judge_sector.ensures.sound word in
+    let mid = g.D.Disk.state c.recover.new.disk in
+    let t = g.D.Disk.state c.begin_log.new.disk in
+    inr (first_then c.args.page_size c.recover.result c.from_residual-in_err-begin_log.result _ (g.D.Disk.state c.args.disk.now) mid t c.in_ok-pages.was (c.recover.ensures.synced word sound)
+    (λ d alone. header_alone c.args.page_size d c.new_log-log.result.bytes c.new_log-log.ensures.begun.alone mid (c.recover.ensures.later word sound).sound (c.in_ok-pages.ensures.empty word sound) alone
+    c.begin_log.result t (c.begin_log.ensures.state (c.recover.ensures.word.0 word))))
+
+pub returns-clause-synced : goal.returns-clause-synced
+returns-clause-synced g c = λ word whole.
+    let sound = c.judge_sector.ensures.sound word in
+    let mid = g.D.Disk.state c.recover.new.disk in
+    let t = g.D.Disk.state c.begin_log.new.disk in
+    inr (first_then c.args.page_size c.recover.result (Ok c.new_core.result) _ (g.D.Disk.state c.args.disk.now) mid t c.in_ok-pages.was (c.recover.ensures.synced word sound)
+    (λ d alone. header_alone c.args.page_size d c.new_log-log.result.bytes c.new_log-log.ensures.begun.alone mid (c.recover.ensures.later word sound).sound (c.in_ok-pages.ensures.empty word sound) alone
+    c.begin_log.result t (c.begin_log.ensures.state (c.recover.ensures.word.0 word))))

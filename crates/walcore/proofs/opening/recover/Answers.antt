@@ -5,7 +5,8 @@ use Rattle.walcore.proofs.Recovered.{recover_unsynced, ready_synced, ready_still
 use Rattle.crashdisk.proofs.Later.{later_sync, later_still, later_then}
 use Rattle.walcore.proofs.Lengths.{down_still}
 use Rattle.walcore.proofs.Agreed.{alone_still, agrees_then, agrees_synced, agrees_after, agrees_looked, synced_empty, still_empty, folded_empty, on_ok}
-use Rattle.walcore.proofs.Unopened.{whole_synced, files_synced, files_looked, unjudged, unfolded, uncounted}
+use Rattle.walcore.proofs.Unopened.{whole_synced, files_synced, files_looked, unjudged, unfolded, uncounted, may_open}
+use Rattle.walcore.proofs.Foremost.{unsynced, synced_first}
 use Rattle.walcore.proofs.opening.recover.Goals as goal
 
 pub returns-in_err-sync-clause-recovered : goal.returns-in_err-sync-clause-recovered
@@ -153,3 +154,59 @@ returns-clause-refuses g c = λ word sound fits found are.
     c.in_ok-judge_file.was (c.judge_file.ensures.judged next first.sound (whole_synced c.args.page_size found s a sound fits are synced) found.db found.log seen.db seen.log)
     c.in_ok-fold_synced.was (c.fold_synced.ensures.folds then (still_empty a b still (synced_empty s a sound synced)) found.db found.log files.db files.log) later.refused
     (c.count_pages.ensures.count (c.fold_synced.ensures.word.0 then) later.sound)
+
+pub returns-clause-opens : goal.returns-clause-opens
+returns-clause-opens g c = λ word sound fits found are.
+    let s = g.D.Disk.state c.args.disk.now in
+    let a = g.D.Disk.state c.sync.new.self in
+    let b = g.D.Disk.state c.judge_file.new.disk in
+    let synced = c.in_ok-sync.ensures.state word in
+    let first = later_sync Log c.sync.result s a sound (c.sync.ensures.state word) in
+    let next = c.sync.ensures.word.0 word in
+    let still = c.judge_file.ensures.still next first.sound in
+    let seen = files_synced c.args.page_size found s a sound fits are synced in
+    let files = files_looked c.args.page_size found s a sound fits are synced b still in
+    on_ok c.count_pages.result _ (may_open c.args.page_size found s a b (g.D.Disk.state c.fold_synced.new.disk) c.judge_file.result _ c.fold_synced.result _ fits
+    c.in_ok-judge_file.was (c.judge_file.ensures.judged next first.sound (whole_synced c.args.page_size found s a sound fits are synced) found.db found.log seen.db seen.log)
+    c.in_ok-fold_synced.was (c.fold_synced.ensures.folds (c.judge_file.ensures.word.0 next) (still_empty a b still (synced_empty s a sound synced)) found.db found.log files.db files.log))
+
+pub returns-in_err-sync-clause-synced : goal.returns-in_err-sync-clause-synced
+returns-in_err-sync-clause-synced g c = λ word sound.
+    let s = g.D.Disk.state c.args.disk.now in
+    let a = g.D.Disk.state c.sync.new.self in
+    unsynced c.args.page_size s a c.sync.result _ c.from_residual.result c.in_err-sync.was (passed c.from_residual.result Device c.from_residual.ensures.1) (c.sync.ensures.state word)
+
+pub returns-in_err-judge_file-clause-synced : goal.returns-in_err-judge_file-clause-synced
+returns-in_err-judge_file-clause-synced g c = λ word sound.
+    let s = g.D.Disk.state c.args.disk.now in
+    let a = g.D.Disk.state c.sync.new.self in
+    let b = g.D.Disk.state c.judge_file.new.disk in
+    let first = later_sync Log c.sync.result s a sound (c.sync.ensures.state word) in
+    synced_first c.args.page_size s a b c.sync.result _ c.from_residual-in_err-judge_file.result c.in_ok-sync.was (c.sync.ensures.state word)
+    (λ w d down alone. alone_still c.args.page_size d a b first.sound (c.judge_file.ensures.still (c.sync.ensures.word.0 word) first.sound) alone)
+
+pub returns-in_err-fold_synced-clause-synced : goal.returns-in_err-fold_synced-clause-synced
+returns-in_err-fold_synced-clause-synced g c = λ word sound.
+    let s = g.D.Disk.state c.args.disk.now in
+    let a = g.D.Disk.state c.sync.new.self in
+    let b = g.D.Disk.state c.judge_file.new.disk in
+    let next = c.sync.ensures.word.0 word in
+    let first = later_sync Log c.sync.result s a sound (c.sync.ensures.state word) in
+    synced_first c.args.page_size s a (g.D.Disk.state c.fold_synced.new.disk) c.sync.result _ c.from_residual-in_err-fold_synced.result c.in_ok-sync.was (c.sync.ensures.state word)
+    (agrees_looked c.args.page_size a b (g.D.Disk.state c.fold_synced.new.disk) first.sound (c.judge_file.ensures.still next first.sound) (c.fold_synced.ensures.agrees (c.judge_file.ensures.word.0 next)))
+
+pub returns-clause-synced : goal.returns-clause-synced
+returns-clause-synced g c = λ word sound.
+    let s = g.D.Disk.state c.args.disk.now in
+    let a = g.D.Disk.state c.sync.new.self in
+    let b = g.D.Disk.state c.judge_file.new.disk in
+    let f = g.D.Disk.state c.fold_synced.new.disk in
+    let t = g.D.Disk.state c.count_pages.new.disk in
+    let next = c.sync.ensures.word.0 word in
+    let then = c.judge_file.ensures.word.0 next in
+    let later = c.fold_synced.ensures.later then in
+    let first = later_sync Log c.sync.result s a sound (c.sync.ensures.state word) in
+    synced_first c.args.page_size s a t c.sync.result _ c.count_pages.result c.in_ok-sync.was (c.sync.ensures.state word)
+    (agrees_then c.args.page_size a f t
+    (agrees_looked c.args.page_size a b f first.sound (c.judge_file.ensures.still next first.sound) (c.fold_synced.ensures.agrees then))
+    (λ d alone. alone_still c.args.page_size d f t later.sound (c.count_pages.ensures.still (c.fold_synced.ensures.word.0 then) later.sound) alone))
