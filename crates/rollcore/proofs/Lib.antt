@@ -46,3 +46,5 @@ pub mod HeaderSteps
 pub mod Based
 pub mod Refusing
 pub mod Deciding
+pub mod Syncing
+pub mod Shown

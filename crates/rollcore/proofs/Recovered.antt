@@ -161,7 +161,7 @@ module _ (size : ℕ) (d : Database) (w : List ℕ) (s : DiskState) (suits : Sui
         one_b = one_still size d w a b down_a then (one_still size d w s a down is one)
 
         miscounted : (e : RollError) → CountAnswer size a.db.len (Err e) a b → MayRefuse e s b
-        miscounted PageSize x = absurd (x (length d) held.some (sym long))
+        miscounted PageSize x = absurd (x.1 (length d) held.some (sym long))
         miscounted TooLarge x = absurd (omega (arith, x, long, held.few))
         miscounted Device x = inr (refl, refusal_after s a b is.refused x)
         miscounted _ x = absurd x

@@ -144,16 +144,16 @@ tears_by w s hot below = by s.tears refl
     by true e = (e, hot, subst (λ (x : Bool). IsBelow (cond x s.sector 0) w) e below)
     by false e = absurd (let none : IsBelow 0 w = subst (λ (x : Bool). IsBelow (cond x s.sector 0) w) e below in ⊎_elim (λ l. omega arith) (λ l. omega arith) none)
 
-fits_whole : (w : List ℕ) (s : DiskState) → IsFit (torn_sector s) w → TearsJournal s w → ⊥
+pub fits_whole : (w : List ℕ) (s : DiskState) → IsFit (torn_sector s) w → TearsJournal s w → ⊥
 fits_whole w s fit tears =
     let same : (n : ℕ) → torn_sector s ≤ n → s.sector ≤ n = λ n le. subst (λ (b : Bool). cond b s.sector 0 ≤ n) tears.0 le in
     ⊎_elim (λ l. let le : s.sector ≤ word w 24 = same (word w 24) fit.page in omega arith) (λ l. let le : s.sector ≤ word w 20 = same (word w 20) fit.sector in omega arith) tears.2
 
 module _ (db w : List ℕ) (a : DiskState) (sound : IsSoundDisk a) (are_db : ArePresent a.db db) (are : ArePresent a.log w) where
-  short : longest < length w → ⊥
+  pub short : longest < length w → ⊥
   short far = omega (arith, are.len, sound.log.greatest, sound.log.within)
 
-  small : word w 16 * word w 24 ≤ most_bytes → IsTooLarge w → ⊥
+  pub small : word w 16 * word w 24 ≤ most_bytes → IsTooLarge w → ⊥
   small within large = ⊎_elim short (λ x. omega (arith, x.1)) large
 
   module _ (b : DiskState) (is : Still a b) where

@@ -1,6 +1,7 @@
 -- What refuses an opening, whatever stands on the disk.
-use Rattle.std.proofs.Common.{◌≡◌, ◌⊎◌, inl, inr, ℕ, ◌<◌, ◌≤◌, Bool, true, false, cond, List, length, refl, sym, ◌∙◌, ap, subst, arith}
-use Rattle.std.specs.Prelude.{Result, Ok, Err, IfErr, Option}
+use Rattle.std.proofs.Common.{◌≡◌, ◌⊎◌, inl, inr, ⊎_elim, ℕ, ◌*◌, ◌<◌, ◌≤◌, Bool, true, false, cond, List, length, refl, sym, ◌∙◌, ap, subst, arith}
+use Rattle.std.specs.Prelude.{Result, Ok, Err, IfErr, OnOk, Option}
+use Rattle.std.proofs.lemmas.Result.{on_ok_weaker}
 use Rattle.sqval.specs.Bytes.{word}
 use Rattle.sqjournal.specs.Journal.{IsHot}
 use Rattle.crashdisk.specs.State.{FileState}
@@ -9,14 +10,16 @@ use Rattle.crashdisk.specs.declared.file.File.TheVariants.{Log}
 use Rattle.crashdisk.specs.declared.error.DiskError.{DiskError}
 use Rattle.crashdisk.specs.Keeps.{HadRefusal, KeepsBytes, Still, SyncStep, TearsPages}
 use Rattle.rollcore.specs.Steps.{torn_sector, RolledAnswer}
-use Rattle.rollcore.specs.Plans.{PlanAnswer, ReadAnswer}
-use Rattle.rollcore.specs.Opening.{CountAnswer, SizeJudged, BreakSteps, RefusedFor}
+use Rattle.rollcore.specs.Plans.{IsFit, PlanAnswer, ReadAnswer}
+use Rattle.rollcore.specs.Replaying.{TearsJournal}
+use Rattle.sqval.specs.CommitFaults.{most_bytes}
+use Rattle.rollcore.specs.Opening.{CountAnswer, SizeJudged, BreakSteps, IsAboveLimit, RefusedFor, MayOpen}
 use Rattle.rollcore.specs.declared.plan.Plan.{Plan}
 use Rattle.rollcore.specs.declared.replaying.Replayed.{Replayed}
 use Rattle.rollcore.specs.declared.error.RollError.{RollError}
 use Rattle.rollcore.specs.declared.error.RollError.TheVariants.{TooLarge, PageSize, NoMemory, Device, SectorAbovePage}
 use Rattle.crashdisk.proofs.Later.{sync_refused, told_ok}
-use Rattle.rollcore.proofs.Recovering.{tears_by}
+use Rattle.rollcore.proofs.Recovering.{tears_by, fits_whole, short, small}
 use Rattle.rollcore.proofs.Going.{goes_sync}
 use Rattle.crashdisk.proofs.Stills.{refusal_after, present_in}
 use Rattle.crashdisk.proofs.Steps.{present_synced}
@@ -32,12 +35,18 @@ refused_device size db w e a b had = subst (λ (x : RollError). RefusedFor size 
 still_bytes : (a b : DiskState) → Still a b → KeepsBytes a b
 still_bytes a b is = record { db = is.db; log = λ bytes here. present_in a.log b.log bytes is.log here }
 
-module _ (size : ℕ) (db w : List ℕ) (s : DiskState) (are_db : ArePresent s.db db) where
+module _ (size : ℕ) (db w : List ℕ) (s : DiskState) (sound : IsSoundDisk s) (are_db : ArePresent s.db db) (are : ArePresent s.log w) where
+  not_above : IsHot w → word w 16 * word w 24 ≤ most_bytes → IsAboveLimit db w → ⊥
+  not_above hot within above = ⊎_elim (small db w s sound are_db are within) (λ x. x.0 hot) above
+
+  pub hot_opens : IsFit (torn_sector s) w → word w 24 ≡ size → 1 ≤ word w 16 → MayOpen size db w s
+  hot_opens fit same some = record { within = not_above fit.hot fit.within; sectors = fits_whole w s fit; hot = λ hot. (same, some); cold = λ cold. absurd (cold fit.hot) }
+
   module _ (a : DiskState) (is : Still s a) where
     refused_read : (e : RollError) → ReadAnswer (torn_sector s) w (Err e) s a → RefusedFor size db w e s a
     unfolding ReadAnswer PlanAnswer
     refused_read TooLarge x = (inl x, still_bytes s a is)
-    refused_read SectorAbovePage x = (tears_by w s x.0 x.2, still_bytes s a is)
+    refused_read SectorAbovePage x = (not_above x.0 x.1, tears_by w s x.0 x.2, still_bytes s a is)
     refused_read NoMemory x = still_bytes s a is
     refused_read Device x = x
     refused_read _ x = absurd x
@@ -45,12 +54,12 @@ module _ (size : ℕ) (db w : List ℕ) (s : DiskState) (are_db : ArePresent s.d
     pub read_refuses : (r : Result (Option Plan) RollError) (e : RollError) → r ≡ Err e → ReadAnswer (torn_sector s) w r s a → RefusedFor size db w e s a
     read_refuses r e was answer = refused_read e (subst (λ (x : Result (Option Plan) RollError). ReadAnswer (torn_sector s) w x s a) was answer)
 
-    refused_size : (T : Type 0) → IsHot w → (e : RollError) → SizeJudged {T = T} size w (Err e) → RefusedFor size db w e s a
-    refused_size T hot PageSize x = (inl (hot, x), still_bytes s a is)
-    refused_size T hot _ x = absurd x
+    refused_size : (T : Type 0) → IsFit (torn_sector s) w → (e : RollError) → SizeJudged {T = T} size w (Err e) → RefusedFor size db w e s a
+    refused_size T fit PageSize x = (not_above fit.hot fit.within, fits_whole w s fit, inl (fit.hot, x), still_bytes s a is)
+    refused_size T fit _ x = absurd x
 
-    pub size_refuses : {T : Type 0} → IsHot w → (r : Result T RollError) (e : RollError) → r ≡ Err e → SizeJudged size w r → RefusedFor size db w e s a
-    size_refuses {T = T} hot r e was answer = refused_size T hot e (subst (λ (x : Result T RollError). SizeJudged size w x) was answer)
+    pub size_refuses : {T : Type 0} → IsFit (torn_sector s) w → (r : Result T RollError) (e : RollError) → r ≡ Err e → SizeJudged size w r → RefusedFor size db w e s a
+    size_refuses {T = T} fit r e was answer = refused_size T fit e (subst (λ (x : Result T RollError). SizeJudged size w x) was answer)
 
     pub replay_refuses : (b : DiskState) (r : Result Replayed RollError) (e : RollError) → r ≡ Err e → RolledAnswer db w r a b → RefusedFor size db w e s b
     unfolding RolledAnswer
@@ -63,14 +72,22 @@ module _ (size : ℕ) (db w : List ℕ) (s : DiskState) (are_db : ArePresent s.d
       long : a.db.len ≡ length db
       long = ap (λ (f : FileState). f.len) is.db ∙ sym are_db.len
 
+      not_long : a.db.len ≤ most_bytes → IsAboveLimit db w → ⊥
+      not_long within above = ⊎_elim (λ large. ⊎_elim (short db w s sound are_db are) (λ x. cold x.0) large) (λ x. omega (arith, x.1, within, long)) above
+
       refused_count : (e : RollError) → CountAnswer size a.db.len (Err e) a b → RefusedFor size db w e s b
-      refused_count PageSize x = (inr (cold, λ n one e. x n one (e ∙ sym long)), still_bytes s b all)
+      refused_count PageSize x = (not_long x.0, λ tears. cold tears.1, inr (cold, λ n one e. x.1 n one (e ∙ sym long)), still_bytes s b all)
       refused_count TooLarge x = (inr (cold, omega (arith, x, long)), still_bytes s b all)
       refused_count Device x = refusal_after s a b is.refused x
       refused_count _ x = absurd x
 
       pub count_refuses : (r : Result ℕ RollError) (e : RollError) → r ≡ Err e → CountAnswer size a.db.len r a b → RefusedFor size db w e s b
       count_refuses r e was answer = refused_count e (subst (λ (x : Result ℕ RollError). CountAnswer size a.db.len x a b) was answer)
+
+      pub count_opens : (r : Result ℕ RollError) (n : ℕ) → r ≡ Ok n → CountAnswer size a.db.len r a b → MayOpen size db w s
+      count_opens r n was answer =
+          let x = subst (λ (y : Result ℕ RollError). CountAnswer size a.db.len y a b) was answer in
+          record { within = not_long x.2; sectors = λ tears. cold tears.1; hot = λ hot. absurd (cold hot); cold = λ _. (n, x.0, x.1 ∙ long) }
 
     -- and the front of the log is broken
     pub break_refuses : {T : Type 0} (b c : DiskState) → Still s b → (r : Result T RollError) (e : RollError) → r ≡ Err e → IfErr r (λ x. (x ≡ Device) × HadRefusal b c) → RefusedFor size db w e s c
@@ -104,10 +121,16 @@ module _ {T : Type 0} (v : T) (r : Result T RollError) (s a : DiskState) (sound 
   bytes_before : (b : DiskState) → KeepsBytes a b → KeepsBytes s b
   bytes_before b keeps = record { db = keeps.db ∙ step.2.elsewhere.other; log = λ bytes are. keeps.log bytes (present_a bytes are) }
 
+  tears_after : (w : List ℕ) → TearsJournal a w → TearsJournal s w
+  tears_after w x = (sym step.2.elsewhere.tears ∙ x.0, x.1, subst (λ (n : ℕ). (word w 24 < n) ⊎ (word w 20 < n)) step.2.elsewhere.sector x.2)
+
+  tears_before : (w : List ℕ) → TearsJournal s w → TearsJournal a w
+  tears_before w x = (step.2.elsewhere.tears ∙ x.0, x.1, subst (λ (n : ℕ). (word w 24 < n) ⊎ (word w 20 < n)) (sym step.2.elsewhere.sector) x.2)
+
   after : (size : ℕ) (db w : List ℕ) (e : RollError) (b : DiskState) → RefusedFor size db w e a b → RefusedFor size db w e s b
-  after size db w SectorAbovePage b x = ((sym step.2.elsewhere.tears ∙ x.0.0, x.0.1, subst (λ (n : ℕ). (word w 24 < n) ⊎ (word w 20 < n)) step.2.elsewhere.sector x.0.2), bytes_before b x.1)
+  after size db w SectorAbovePage b x = (x.0, tears_after w x.1, bytes_before b x.2)
   after size db w TooLarge b x = (x.0, bytes_before b x.1)
-  after size db w PageSize b x = (x.0, bytes_before b x.1)
+  after size db w PageSize b x = (x.0, λ tears. x.1 (tears_before w tears), x.2, bytes_before b x.3)
   after size db w NoMemory b x = bytes_before b x
   after size db w Device b x = refusal_after s a b (goes_sync Log r s a sound step).refused x
   after size db w _ b x = absurd x
@@ -119,6 +142,12 @@ module _ {T : Type 0} (v : T) (r : Result T RollError) (s a : DiskState) (sound 
       by : {U : Type 0} (q : Result U RollError) → IfErr q (λ e. RefusedFor size db w e a b) → IfErr q (λ e. RefusedFor size db w e s b)
       by (Ok u) x = x
       by (Err e) x = after size db w e b x
+
+  pub synced_opens : {U : Type 0} (size : ℕ) (db w : List ℕ) (q : Result U RollError) → ArePresent s.db db → ArePresent s.log w
+      → (ArePresent a.db db → ArePresent a.log w → OnOk q (MayOpen size db w a)) → OnOk q (MayOpen size db w s)
+  synced_opens size db w q are_db are rest = on_ok_weaker q
+      (λ x. record { within = x.within; sectors = λ tears. x.sectors (tears_before w tears); hot = x.hot; cold = x.cold })
+      (rest (present_in s.db a.db db step.2.elsewhere.other are_db) (present_a w are))
 
 -- ---- sectors that tear are larger than the pages
 

@@ -1,4 +1,4 @@
--- When all that a crash may leave shows one database.
+-- When all that a crash may leave shows one database (own).
 use Rattle.std.specs.Prelude.{◌≡◌, ◌⊎◌, ℕ, ◌+◌, true, false, List, ◌∷◌, []}
 use Rattle.sqval.specs.Database.{Database}
 use Rattle.sqjournal.specs.Header.{next_header}

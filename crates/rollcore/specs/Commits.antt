@@ -97,6 +97,7 @@ pub record Closes (old new : Core) : Type 0 where
   pub page_size : new.page_size ≡ old.page_size
   pub is_open : new.is_open ≡ false
 
+-- the commit is the newest one, or the core is closed
 abbrev pub EndAnswer : {T : Type 0} → (size : ℕ) → Result T RollError → (old new : Core) → Type 0
 EndAnswer size (Ok _) old new = Ends size old new
 EndAnswer size (Err e) old new = Closes old new

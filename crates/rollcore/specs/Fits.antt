@@ -76,6 +76,7 @@ pub record FitsCore (past : State) (holds : Core) (s : DiskState) : Type 0 where
 abbrev pub Fits : {D : Type 0} → (state_of : D → DiskState) → Roll D → State → Type 0
 Fits state_of roll past = FitsCore past roll.core (state_of roll.disk)
 
+-- what a call answers, a refusal by its number
 abbrev pub answered : {T : Type 0} → (T → Answer) → Result T RollError → Answer
 answered good (Ok value) = good value
 answered good (Err error) = Refused (number_of error)
@@ -88,6 +89,7 @@ pub record StepsTo (past : State) (act : Act) (answer : Answer) (core : Core) (o
   pub row : Step past act answer old.refused new.refused next
   pub fits : FitsCore next core new
 
+-- the same of an engine
 abbrev pub Steps : {D : Type 0} → (state_of : D → DiskState) → (old new : Roll D) → State → Act → Answer → Type 0
 Steps state_of old new past act answer = StepsTo past act answer new.core (state_of old.disk) (state_of new.disk)
 
@@ -103,6 +105,7 @@ pub record GivenUpTo (past : State) (found : Files) (error : RollError) (before 
   pub row : Step past (Opens found) (Refused (number_of error)) before.refused after.refused next
   pub fits : FitsDisk next after
 
+-- both of an engine, or of the disk that is given back
 abbrev pub Opened : {D : Type 0} → (state_of : D → DiskState) → (before : DiskState) → State → Files → Roll D → Type 0
 Opened state_of before past found roll = OpenedTo past found roll.core before (state_of roll.disk)
 

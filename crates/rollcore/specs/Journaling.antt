@@ -17,6 +17,7 @@ use Rattle.sqjournal.specs.declared.header.JournalHeader.{JournalHeader}
 abbrev pub old_pages : Database → List ℕ → Pages
 old_pages d numbers = map (λ p. (p, page d p)) numbers
 
+-- the sizes of a journal on sectors and of pages of these sizes
 abbrev pub sizes : (sector size : ℕ) → Sizes
 sizes sector size = record { sector = sector; page = size }
 

@@ -1,4 +1,4 @@
--- What holds of every run.
+-- What holds of every run (own).
 use Rattle.std.specs.Prelude.{◌≡◌, ◌⊎◌, ℕ, ◌+◌, ◌<◌, ◌≤◌, Bool, true, false, IsTrue, length, take}
 use Rattle.sqval.specs.Database.{page}
 use Rattle.sqval.specs.Answers.{Answer, Done, Page, told, is_accepted, IsShort}
@@ -16,6 +16,7 @@ pub record Keeps (old new : State) : Type 0 where
 
 -- ---- What is answered where memory is ample and the disk refuses no call.
 
+-- what each call answers
 abbrev pub expected : State → Act → Answer
 expected s (Opens found) = Done
 expected s (Commits pages size nonces) = told (commit_refusal s pages size nonces) Done
@@ -25,6 +26,7 @@ expected s Sets = Done
 
 -- ---- What may stand in its place.
 
+-- a call that may want memory
 abbrev pub takes_memory : Act → Bool
 takes_memory (Opens found) = true
 takes_memory (Commits pages size nonces) = true
@@ -36,6 +38,7 @@ needs_disk (Crashes left) = false
 needs_disk Sets = false
 needs_disk _ = true
 
+-- It is what is expected, or, where that is no refusal, what may stand in its place.
 abbrev pub IsExpected : State → Act → Answer → (before after : ℕ) → Type 0
 IsExpected s act answer before after =
     (answer ≡ expected s act) ⊎ (IsTrue (is_accepted (expected s act)) × IsShort (takes_memory act) (needs_disk act) answer before after)

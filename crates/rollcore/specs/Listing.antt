@@ -1,4 +1,4 @@
--- The changes of a commit, as they are listed.
+-- The changes of a commit, as they are listed (own).
 use Rattle.std.specs.Prelude.{ℕ, zero, suc, ◌+◌, if◌then◌else◌, nat_le, List, [], ◌∷◌, ◌++◌, Some, None}
 use Rattle.sqval.specs.Database.{Pages}
 use Rattle.rollcore.specs.declared.changes.Change.{Change}

@@ -16,6 +16,7 @@ pub data Act : Type 0 where
   -- a stop or a failure of the disk is set
   Sets : Act
 
+-- the state of the machine
 pub record State : Type 0 where
   pub page_size : ℕ
   -- the base, and what each commit made
@@ -24,9 +25,11 @@ pub record State : Type 0 where
   pub floor : ℕ
   pub is_open : Bool
 
+-- with the base alone, and closed
 abbrev pub start : (page_size : ℕ) → Database → State
 start page_size base = record { page_size = page_size; history = base ∷ []; floor = 0; is_open = false }
 
+-- the place of the newest database, the database at a place, and the newest one
 abbrev pub last : State → ℕ
 last s = length s.history - 1
 
@@ -38,6 +41,7 @@ newest s = at s (last s)
 
 -- ---- What calls step to.
 
+-- an opening that showed the database at place k
 abbrev pub opened : State → (k : ℕ) → State
 opened s k = record s { history = take (k + 1) s.history; floor = k; is_open = true }
 
@@ -88,12 +92,14 @@ OpenStep old found Done before after new =
 OpenStep old found (Refused number) before after new = ((number ≡ 14) ⊎ ((number ≡ 15) × HasCause before after)) × (new ≡ closed old)
 OpenStep old found _ before after new = ⊥
 
+-- A commit that is done is down. One that the disk refuses may be there; the machine is closed.
 abbrev pub CommitStep : State → Pages → (size : ℕ) → (nonces : List ℕ) → Answer → (before after : ℕ) → State → Type 0
 CommitStep old pages size nonces Done before after new = (commit_refusal old pages size nonces ≡ None) × (new ≡ committed old pages size)
 CommitStep old pages size nonces (Refused number) before after new =
     Refuses (commit_refusal old pages size nonces) true (closed (appended old pages size)) before after old number new
 CommitStep old pages size nonces _ before after new = ⊥
 
+-- a page of the newest database
 abbrev pub ReadStep : State → (number : ℕ) → Answer → (before after : ℕ) → State → Type 0
 ReadStep old number (Page bytes) before after new = (read_refusal old number ≡ None) × (bytes ≡ page (newest old) number) × (new ≡ old)
 ReadStep old number (Refused refusal) before after new = Refuses (read_refusal old number) false old before after old refusal new

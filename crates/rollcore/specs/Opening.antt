@@ -1,14 +1,14 @@
--- What the steps of an opening do to a disk.
+-- What the steps of an opening do to a disk (own).
 use Rattle.std.specs.Prelude.{◌≡◌, ◌≢◌, ◌⊎◌, ℕ, ◌*◌, ◌<◌, ◌≤◌, true, false, Bool, IsTrue, List, ◌∷◌, length, Result, Ok, Err, OnOk, IfErr, []}
 use Rattle.sqval.specs.Bytes.{word}
 use Rattle.sqval.specs.CommitFaults.{most_bytes}
 use Rattle.sqval.specs.Database.{Database}
 use Rattle.sqjournal.specs.Header.{HasMagic}
 use Rattle.sqjournal.specs.Journal.{IsHot}
-use Rattle.crashdisk.specs.Call.{DiskState, ArePresent, Writes}
+use Rattle.crashdisk.specs.Call.{DiskState, ArePresent, Writes, Syncs}
 use Rattle.crashdisk.specs.declared.file.File.TheVariants.{Log}
 use Rattle.crashdisk.specs.declared.error.DiskError.{DiskError}
-use Rattle.rollcore.specs.Replaying.{TearsJournal, IsTooLarge}
+use Rattle.rollcore.specs.Replaying.{TearsJournal, IsTooLarge, Agrees}
 use Rattle.crashdisk.specs.Keeps.{HadRefusal, KeepsBytes, IsLogDown, Still, TearsPages}
 use Rattle.sqval.specs.Answers.{Files}
 use Rattle.rollcore.specs.Alone.{Show}
@@ -23,7 +23,7 @@ use Rattle.rollcore.specs.declared.error.RollError.TheVariants.{TooLarge, PageSi
 -- how many pages a file of so many bytes has
 abbrev pub CountAnswer : (size long : ℕ) → Result ℕ RollError → (old new : DiskState) → Type 0
 CountAnswer size long (Ok n) old new = (1 ≤ n) × (n * size ≡ long) × (long ≤ most_bytes)
-CountAnswer size long (Err PageSize) old new = (n : ℕ) → 1 ≤ n → n * size ≡ long → ⊥
+CountAnswer size long (Err PageSize) old new = (long ≤ most_bytes) × ((n : ℕ) → 1 ≤ n → n * size ≡ long → ⊥)
 CountAnswer size long (Err TooLarge) old new = most_bytes < long
 CountAnswer size long (Err Device) old new = HadRefusal old new
 CountAnswer size long (Err _) old new = ⊥
@@ -76,6 +76,7 @@ pub record IsRecovered (past : State) (found : Files) (pages : ℕ) (s : DiskSta
   pub rests : Rests past.page_size (at past place) s
   pub count : pages ≡ length (at past place)
 
+-- what the recovery of an opening answers, and what it leaves
 abbrev pub RecoveredAt : State → Files → Result ℕ RollError → (old new : DiskState) → Type 0
 RecoveredAt past found (Ok n) old new = Goes old new × IsRecovered past found n new
 RecoveredAt past found (Err e) old new = Goes old new × MayRefuse e old new × ShowsHistory past.page_size past.history past.floor new × NamesSectors new
@@ -89,12 +90,20 @@ pub record IsNewCore (page_bytes pages sector : ℕ) (core : Core) : Type 0 wher
 
 -- ---- Refusals, whatever stands on the disk.
 
--- what refuses an opening of the file db with the journal w
+-- the journal is too large, or there is no hot one and the file is above the limit
+abbrev pub IsAboveLimit : (db w : List ℕ) → Type 0
+IsAboveLimit db w = IsTooLarge w ⊎ ((IsHot w → ⊥) × (most_bytes < length db))
+
+-- a hot journal names another page size or a database of no pages, or there is none and the file has no such pages
+abbrev pub IsOfOtherSize : (size : ℕ) (db w : List ℕ) → Type 0
+IsOfOtherSize size db w = (IsHot w × ((word w 24 ≢ size) ⊎ (word w 16 ≡ 0))) ⊎ ((IsHot w → ⊥) × ((n : ℕ) → 1 ≤ n → n * size ≡ length db → ⊥))
+
+-- What refuses an opening of the file db with the journal w: TooLarge, SectorAbovePage, PageSize, the first that holds;
+-- or want of memory, or a refused call of the disk, in its place.
 abbrev pub RefusedFor : (size : ℕ) (db w : List ℕ) → RollError → (old new : DiskState) → Type 0
-RefusedFor size db w SectorAbovePage old new = TearsJournal old w × KeepsBytes old new
-RefusedFor size db w TooLarge old new = (IsTooLarge w ⊎ ((IsHot w → ⊥) × (most_bytes < length db))) × KeepsBytes old new
-RefusedFor size db w PageSize old new =
-    ((IsHot w × ((word w 24 ≢ size) ⊎ (word w 16 ≡ 0))) ⊎ ((IsHot w → ⊥) × ((n : ℕ) → 1 ≤ n → n * size ≡ length db → ⊥))) × KeepsBytes old new
+RefusedFor size db w TooLarge old new = IsAboveLimit db w × KeepsBytes old new
+RefusedFor size db w SectorAbovePage old new = (IsAboveLimit db w → ⊥) × TearsJournal old w × KeepsBytes old new
+RefusedFor size db w PageSize old new = (IsAboveLimit db w → ⊥) × (TearsJournal old w → ⊥) × IsOfOtherSize size db w × KeepsBytes old new
 RefusedFor size db w NoMemory old new = KeepsBytes old new
 RefusedFor size db w Device old new = HadRefusal old new
 RefusedFor size db w _ old new = ⊥
@@ -103,4 +112,28 @@ RefusedFor size db w _ old new = ⊥
 abbrev pub OpenRefused : (size : ℕ) → RollError → (old new : DiskState) → Type 0
 OpenRefused size error old new =
     ((error ≡ SectorAbovePage) × TearsPages size old × (new ≡ old))
-    ⊎ ((db w : List ℕ) → ArePresent old.db db → ArePresent old.log w → RefusedFor size db w error old new)
+    ⊎ ((TearsPages size old → ⊥) × ((db w : List ℕ) → ArePresent old.db db → ArePresent old.log w → RefusedFor size db w error old new))
+
+-- ---- What is granted.
+
+-- An opening is granted for the file db with the journal w: a hot journal names this page size and a database of pages;
+-- where there is none the file has a whole number of pages, one at least; and neither is above the limit.
+pub record MayOpen (size : ℕ) (db w : List ℕ) (s : DiskState) : Type 0 where
+  pub within : IsAboveLimit db w → ⊥
+  pub sectors : TearsJournal s w → ⊥
+  pub hot : IsHot w → (word w 24 ≡ size) × (1 ≤ word w 16)
+  pub cold : (IsHot w → ⊥) → (n : ℕ) × (1 ≤ n) × (n * size ≡ length db)
+
+-- ---- The log is synced first.
+
+-- The log is synced. So it is from that moment on that all which a crash may leave, and what is present, shows the database
+-- that it showed.
+pub record AgreesSynced (old new : DiskState) : Type 0 where
+  pub mid : DiskState
+  pub sync : Syncs {T = Unit {0}} Log (Ok tt) old mid
+  pub agrees : Agrees mid new
+
+-- the same of an opening that is refused, unless it was before that sync, or by that sync
+abbrev pub RefusedSynced : RollError → (old new : DiskState) → Type 0
+RefusedSynced error old new =
+    (new ≡ old) ⊎ (((failure : DiskError) × (error ≡ Device) × Syncs {T = Unit {0}} Log (Err failure) old new) ⊎ AgreesSynced old new)

@@ -1,4 +1,4 @@
--- What a replay plans of a scanned journal.
+-- What a replay plans of a scanned journal (own).
 use Rattle.std.specs.Prelude.{◌≡◌, ◌⊎◌, ℕ, ◌*◌, ◌<◌, ◌≤◌, List, length, Result, Ok, Err, Option, Some, None}
 use Rattle.sqval.specs.Bytes.{word}
 use Rattle.sqjournal.specs.Header.{Names}
@@ -29,12 +29,14 @@ pub record IsPlan (w : List ℕ) (plan : Plan) : Type 0 where
   pub names : Names w plan.header
   pub room : length plan.page.items ≡ word w 24
 
+-- what the judging of a hot journal answers: the first of these that holds
 unfoldable pub JudgeAnswer : (torn : ℕ) → List ℕ → Result (Unit {0}) RollError → Type 0
 JudgeAnswer torn w (Ok _) = IsFit torn w
 JudgeAnswer torn w (Err TooLarge) = IsTooLarge w
 JudgeAnswer torn w (Err SectorAbovePage) = (word w 16 * word w 24 ≤ most_bytes) × IsBelow torn w
 JudgeAnswer torn w (Err _) = ⊥
 
+-- the same of any journal, with memory for its replay; none where it isn't hot
 unfoldable pub PlanAnswer : (torn : ℕ) → List ℕ → Result (Option Plan) RollError → Type 0
 PlanAnswer torn w (Ok (Some plan)) = IsFit torn w × IsPlan w plan
 PlanAnswer torn w (Ok None) = IsHot w → ⊥

@@ -1,4 +1,4 @@
--- The numbers of the engine's refusals.
+-- The numbers of the engine's refusals (own).
 use Rattle.std.specs.Prelude.{ℕ}
 use Rattle.rollcore.specs.declared.error.RollError.{RollError}
 use Rattle.rollcore.specs.declared.error.RollError.TheVariants.{Closed, EmptyCommit, SizeZero, PageZero, PageAboveSize, PageTwice, HoleInGrowth, BadLength, TooLarge, PageSize, NoMemory, Device, NonceMissing, SectorAbovePage}

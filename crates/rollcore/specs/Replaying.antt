@@ -60,6 +60,7 @@ ReplayAnswer db w (Err NoMemory) old new = KeepsBytes old new
 ReplayAnswer db w (Err Device) old new = HadRefusal old new
 ReplayAnswer db w (Err _) old new = ⊥
 
+-- for whatever bytes are present
 abbrev pub Replays : Result Replayed RollError → (old new : DiskState) → Type 0
 Replays result old new = (db w : List ℕ) → ArePresent old.db db → ArePresent old.log w → ReplayAnswer db w result old new
 

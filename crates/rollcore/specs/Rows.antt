@@ -1,4 +1,4 @@
--- Worked runs of the machine. Each page has 512 bytes, and the base is three pages.
+-- Worked runs of the machine (own). Each page has 512 bytes, and the base is three pages.
 use Rattle.std.specs.Prelude.{◌≡◌, ◌≢◌, ℕ, List, [], ◌∷◌, length, None}
 use Rattle.sqval.specs.Database.{Database}
 use Rattle.sqval.specs.Answers.{Files, Answer, Done, Page, Refused}

@@ -89,6 +89,7 @@ pub record LogsRecord {T : Type 0} (size number nonce at : ℕ) (called : Result
   pub read : Still old mid
   pub write : Writes Log at (record_bytes number nonce content) called mid new
 
+-- it was, or a call of the disk was refused
 abbrev pub RecordStep : {T : Type 0} → (size number nonce at : ℕ) → Result T RollError → (old new : DiskState) → Type 0
 RecordStep size number nonce at (Ok done) old new = LogsRecord size number nonce at (Ok done) old new
 RecordStep {T = T} size number nonce at (Err e) old new = (e ≡ Device) × HadRefusal old new × (Still old new ⊎ ((called : Result T DiskError) × LogsRecord size number nonce at called old new))
@@ -107,6 +108,7 @@ pages_of changes = map (λ c. c.page) changes
 abbrev pub AreFresh : Database → (named numbers : List ℕ) → Type 0
 AreFresh d named numbers = (i : ℕ) → i < length numbers → (1 ≤ get_or numbers i 0) × (get_or numbers i 0 ≤ length d) × (Contains named (get_or numbers i 0) → ⊥)
 
+-- the records of these pages were written, up to their end
 abbrev pub RecordsAnswer : (size sector : ℕ) (d : Database) (named : List ℕ) (place : ℕ) (w part : List ℕ) (nonce : ℕ) → Result ℕ RollError → (old new : DiskState) → Type 0
 RecordsAnswer size sector d named place w part nonce (Ok end) old new =
     (end ≡ records_end (sizes sector size) (place + sector) (old_pages d part)) × Recorded size sector d named place w part nonce new × (old.refused ≤ new.refused) × (new.db ≡ old.db)
@@ -120,12 +122,14 @@ KeepsNonces z place w v = (nonces : List ℕ) → HasNonces z w place nonces →
 abbrev pub AddsNonce : Sizes → (place : ℕ) → List ℕ → (nonce next : ℕ) → List ℕ → Type 0
 AddsNonce z place w nonce next v = (nonces : List ℕ) → HasNonces z w place nonces → HasNonces z v next (nonces ++ nonce ∷ [])
 
+-- these records are down, up to the next place, and the segments before them keep their nonces
 abbrev pub PreparedAnswer : (size sector : ℕ) (d : Database) (named : List ℕ) (place : ℕ) (w part : List ℕ) (nonce : ℕ) → Result ℕ RollError → (old new : DiskState) → Type 0
 PreparedAnswer size sector d named place w part nonce (Ok next) old new =
     (next ≡ next_place (sizes sector size) place (old_pages d part)) × ((v : List ℕ) × Prepared size sector d named place part nonce v new × KeepsNonces (sizes sector size) place w v)
     × (old.refused ≤ new.refused) × (new.db ≡ old.db)
 PreparedAnswer size sector d named place w part nonce (Err e) old new = Harmless size d e old new
 
+-- the header is down, and with it the segment, which has this nonce
 abbrev pub HeaderAnswer : {T : Type 0} → (size sector : ℕ) (d : Database) (named : List ℕ) (place : ℕ) (w part : List ℕ) (nonce : ℕ) → Result T RollError → (old new : DiskState) → Type 0
 HeaderAnswer size sector d named place w part nonce (Ok _) old new =
     ((v : List ℕ) × Journaled size sector d (named ++ part) (next_place (sizes sector size) place (old_pages d part)) v new
@@ -153,9 +157,11 @@ abbrev pub AreTurned : (size : ℕ) (e : Database) (named : List ℕ) → Pages 
 AreTurned size e named pages changes = (i : ℕ) → i < length changes
     → (1 ≤ (change_at changes i).page) × Contains named (change_at changes i).page × Becomes size e pages (change_at changes i).page (change_at changes i).content
 
+-- none is 0
 abbrev pub AreSome : List ℕ → Type 0
 AreSome numbers = (p : ℕ) → Contains numbers p → 1 ≤ p
 
+-- the pages of these numbers were put
 abbrev pub PutPagesAnswer : {T : Type 0} → (size sector : ℕ) (d e : Database) (named : List ℕ) (place : ℕ) (w numbers : List ℕ) → Result T RollError → (old new : DiskState) → Type 0
 PutPagesAnswer size sector d e named place w numbers (Ok _) old new = Journaled size sector d named place w new × ArePut size e numbers new.db × (old.refused ≤ new.refused)
 PutPagesAnswer size sector d e named place w numbers (Err error) old new = Harmless size d error old new
@@ -188,6 +194,7 @@ pub record Parted (size sector : ℕ) (d e : Database) (numbers nonces : List �
   pub first : k ≡ 0 → place ≡ 0
   pub later : 0 < k → 0 < place
 
+-- segment k is down, and its pages are put
 abbrev pub PartAnswer : (size sector : ℕ) (d e : Database) (numbers nonces : List ℕ) (k : ℕ) → Result ℕ RollError → (old new : DiskState) → Type 0
 PartAnswer size sector d e numbers nonces k (Ok next) old new = Parted size sector d e numbers nonces (k + 1) next new × (old.refused ≤ new.refused)
 PartAnswer size sector d e numbers nonces k (Err error) old new = Harmless size d error old new

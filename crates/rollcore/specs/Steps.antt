@@ -1,4 +1,4 @@
--- What the parts of a replay do to a disk.
+-- What the parts of a replay do to a disk (fileformat2, 3).
 use Rattle.std.specs.Prelude.{◌≡◌, ◌⊎◌, ℕ, ◌+◌, ◌-◌, ◌*◌, ◌<◌, ◌≤◌, Bool, true, false, cond, List, length, get_or, take, replicate, Result, Ok, Err, IsErr, Option, Some, None}
 use Rattle.sqval.specs.Bytes.{part}
 use Rattle.sqval.specs.Database.{Database, page}
@@ -24,6 +24,7 @@ torn_sector s = cond s.tears s.sector 0
 
 -- ---- The scan.
 
+-- why the scan of the journal w is refused
 unfoldable pub ScanRefused : List ℕ → RollError → (old new : DiskState) → Type 0
 ScanRefused w TooLarge old new = longest < length w
 ScanRefused w RollNoMemory old new = Unit {0}
@@ -42,6 +43,7 @@ PieceAnswer w end (Ok true) s old new = Took (take end w) s
 PieceAnswer w end (Ok false) s old new = IsHot w → ⊥
 PieceAnswer w end (Err e) s old new = ScanRefused w e old new
 
+-- what the scan of the whole journal answers: none where its first header is refused
 unfoldable pub ScanAnswer : List ℕ → Result (Option Replay) RollError → (old new : DiskState) → Type 0
 ScanAnswer w (Ok (Some s)) old new = Took w s
 ScanAnswer w (Ok None) old new = IsHot w → ⊥
@@ -57,6 +59,7 @@ pub record PutsRecord {T : Type 0} (size : ℕ) (w : List ℕ) (count : ℕ) (r 
   pub read : Still old mid
   pub write : Writes Db ((r.page - 1) * size) (part w r.at size) called mid new
 
+-- the page of a record was put, or is above the count
 unfoldable pub RecordAnswer : {T : Type 0} → (size : ℕ) → List ℕ → (count : ℕ) → Record → Result T RollError → (old new : DiskState) → Type 0
 RecordAnswer size w count r (Ok done) old new = (((r.page ≡ 0) ⊎ (count < r.page)) × (new ≡ old)) ⊎ PutsRecord size w count r (Ok done) old new
 RecordAnswer {T = T} size w count r (Err e) old new = (e ≡ Device) × HadRefusal old new × (Still old new ⊎ ((called : Result T DiskError) × PutsRecord size w count r called old new))
@@ -76,6 +79,7 @@ pub record ArePages (size : ℕ) (d : Database) (s : FileState) : Type 0 where
   pub len : s.len ≡ length d * size
   pub each : (p : ℕ) → 1 ≤ p → p ≤ length d → (j : ℕ) → j < size → byte s ((p - 1) * size + j) ≡ get_or (page d p) j 0
 
+-- the pages of d were copied, and the length was set
 unfoldable pub CopyAnswer : {T : Type 0} → (size : ℕ) → Database → Result T RollError → (old new : DiskState) → Type 0
 CopyAnswer size d (Ok _) old new = ArePages size d new.db
 CopyAnswer size d (Err e) old new = (e ≡ Device) × HadRefusal old new

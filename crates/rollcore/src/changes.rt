@@ -1,4 +1,4 @@
-//! What a commit changes of the database that is there.
+//! What a commit changes of the database that is there (own).
 ghost use Rattle.std.specs.Prelude.{◌≡◌, ◌-◌, ◌^◌, ◌<◌, ◌++◌, ℕ, None, Err, OnOk, OnErr};
 ghost use Rattle.sqval.specs.CommitFaults.{first_true, page_faults};
 ghost use Rattle.sqval.specs.JudgedPages.{lent};

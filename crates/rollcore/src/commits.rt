@@ -1,5 +1,5 @@
 //! Commits.
-ghost use Rattle.std.specs.Prelude.{◌≡◌, ◌↔◌, ◌*◌, ◌≤◌, ℕ, List, length, take, IsTrue, OnOk};
+ghost use Rattle.std.specs.Prelude.{◌≡◌, ◌≢◌, ◌↔◌, ◌*◌, ◌≤◌, ℕ, List, length, take, IsTrue, OnOk, IfErr};
 ghost use Rattle.crashdisk.specs.Call.{DiskState};
 ghost use Rattle.sqval.specs.Database.{Database, apply};
 ghost use Rattle.sqval.specs.Held.{IsHeld};
@@ -57,6 +57,7 @@ fn put_commit<D: Disk>(
 ) -> Result<(), RollError>
     requires { IsReady pages.now size (length nonces.now) core.old }
     ensures word { D.keeps_word disk.old ↔ D.keeps_word disk.new }
+    ensures device { IfErr result (λ e. e ≡ RollError.Device) }
     ensures goes { D.keeps_word disk.old → Goes (D.state disk.old) (D.state disk.new) }
     ensures keeps { KeepsCore core.old core.new }
     ensures put { D.keeps_word disk.old → (d : Database) → Suits core.old.page_size (D.state disk.old) → IsHeld core.old.page_size d
@@ -94,6 +95,7 @@ fn write_commit<D: Disk>(
 ) -> Result<(), RollError>
     requires { IsReady pages.now size (length nonces.now) core.old }
     ensures word { D.keeps_word disk.old ↔ D.keeps_word disk.new }
+    ensures device { IfErr result (λ e. e ≡ RollError.Device) }
     ensures step { D.keeps_word disk.old → (past : State) → FitsCore past core.old (D.state disk.old) → IsTrue core.old.is_open
         → StepsTo past (Commits (lent pages.now) size nonces.now) (answered (λ _. Done) result) core.new (D.state disk.old) (D.state disk.new) }
     ensures nonces { D.keeps_word disk.old → (past : State) → FitsCore past core.old (D.state disk.old) → IsTrue core.old.is_open → TakesNonces past (lent pages.now) size nonces.now result (D.state disk.old) (D.state disk.new) }
@@ -111,6 +113,7 @@ fn commit_pages<D: Disk>(
     nonces: &[u32],
 ) -> Result<(), RollError>
     ensures word { D.keeps_word disk.old ↔ D.keeps_word disk.new }
+    ensures kept { IfErr result (λ e. e ≢ RollError.Device → (disk.new ≡ disk.old) × KeepsCore core.old core.new) }
     ensures step { D.keeps_word disk.old → (past : State) → FitsCore past core.old (D.state disk.old)
         → StepsTo past (Commits (lent pages.now) size nonces.now) (answered (λ _. Done) result) core.new (D.state disk.old) (D.state disk.new) }
     ensures nonces { D.keeps_word disk.old → (past : State) → FitsCore past core.old (D.state disk.old) → TakesNonces past (lent pages.now) size nonces.now result (D.state disk.old) (D.state disk.new) }
@@ -123,9 +126,11 @@ fn commit_pages<D: Disk>(
 }
 
 impl<D: Disk> Roll<D> {
-    /// Commits these pages, after which the database has `size` pages, by the journal's segments, of which each takes a
-    /// nonce. Refused are, in this order, Closed, EmptyCommit, SizeZero, PageZero, PageAboveSize, PageTwice, HoleInGrowth,
-    /// BadLength, TooLarge, NonceMissing; NoMemory; Device, after which the core is closed.
+    /// Commits these pages, each given by its number, from 1, and its whole content, after which the database has
+    /// `size` pages (fileformat2, 3). Each of the journal's segments takes a nonce: there is one for each 64 old pages
+    /// that are written or cut off, and one at least. Refused are, in this order, Closed, EmptyCommit, SizeZero,
+    /// PageZero, PageAboveSize, PageTwice, HoleInGrowth, BadLength, TooLarge, NonceMissing; NoMemory; Device, after
+    /// which the core is closed.
     pub fn commit(
         &mut self,
         pages: &[(u32, &[u8])],
@@ -133,6 +138,8 @@ impl<D: Disk> Roll<D> {
         nonces: &[u32],
     ) -> Result<(), RollError>
         ensures word { D.keeps_word self.old.disk ↔ D.keeps_word self.new.disk }
+        // a refusal other than Device changes nothing but what its buffers hold
+        ensures kept { IfErr result (λ e. e ≢ RollError.Device → (self.new.disk ≡ self.old.disk) × KeepsCore self.old.core self.new.core) }
         ensures step { D.keeps_word self.old.disk → (past : State) → Fits D.state self.old past
             → Steps D.state self.old self.new past (Commits (lent pages.now) size nonces.now) (answered (λ _. Done) result) }
         // where it is done, segment s of the journal has nonce s

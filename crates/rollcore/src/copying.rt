@@ -1,5 +1,5 @@
 //! The pages of a journal's records are copied into the database, and the journal's header is zeroed.
-ghost use Rattle.std.specs.Prelude.{◌≡◌, ◌↔◌, ◌+◌, ◌*◌, ◌<◌, ◌≤◌, ℕ, List, length, true};
+ghost use Rattle.std.specs.Prelude.{◌≡◌, ◌↔◌, ◌+◌, ◌*◌, ◌<◌, ◌≤◌, ℕ, List, length, true, IfErr};
 ghost use Rattle.sqval.specs.Bytes.{word};
 ghost use Rattle.sqval.specs.Database.{Database};
 ghost use Rattle.sqval.specs.Held.{IsHeld};
@@ -66,7 +66,7 @@ fn copy_entry<D: Disk>(
     }
 }
 
-/// Copies the pages of a journal's records in order, and sets the database's length to so many pages.
+/// Copies the pages of a journal's records in order, and sets the database's length to so many pages (fileformat2, 3).
 pub fn copy_records<D: Disk>(
     disk: &mut D,
     scan: &Replay,
@@ -95,6 +95,7 @@ pub fn copy_records<D: Disk>(
 /// Makes the database stay.
 fn settle_database<D: Disk>(disk: &mut D) -> Result<(), RollError>
     ensures word { D.keeps_word disk.old ↔ D.keeps_word disk.new }
+    ensures device { IfErr result (λ e. e ≡ RollError.Device) }
     ensures state { D.keeps_word disk.old → SyncStep RollError.Device File.Db result (D.state disk.old) (D.state disk.new) }
 {
     disk.sync(File::Db)?;
@@ -104,6 +105,7 @@ fn settle_database<D: Disk>(disk: &mut D) -> Result<(), RollError>
 /// Makes the journal's first header invalid, for good.
 fn zero_header<D: Disk>(disk: &mut D) -> Result<(), RollError>
     ensures word { D.keeps_word disk.old ↔ D.keeps_word disk.new }
+    ensures device { IfErr result (λ e. e ≡ RollError.Device) }
     ensures state { D.keeps_word disk.old → ZeroSteps result (D.state disk.old) (D.state disk.new) }
 {
     disk.write_at(File::Log, 0, &[0; 28])?;
@@ -111,9 +113,10 @@ fn zero_header<D: Disk>(disk: &mut D) -> Result<(), RollError>
     Ok(())
 }
 
-/// Makes the database stay, and then zeroes the journal's first header.
+/// Makes the database stay, and then zeroes the journal's first header (fileformat2, 3).
 pub fn finish<D: Disk>(disk: &mut D) -> Result<(), RollError>
     ensures word { D.keeps_word disk.old ↔ D.keeps_word disk.new }
+    ensures device { IfErr result (λ e. e ≡ RollError.Device) }
     ensures ends { D.keeps_word disk.old → IsSoundDisk (D.state disk.old) → EndAnswer result (D.state disk.old) (D.state disk.new) }
     ensures shows { D.keeps_word disk.old → (size : ℕ) (w : List ℕ) (d : Database) → Writing size w d (D.state disk.old) → ArePages size d (D.state disk.old).db
         → ShowsAlone size d (D.state disk.new) }

@@ -1,4 +1,4 @@
-//! Why the engine refuses a call.
+//! Why the engine refuses a call (own).
 ghost use Rattle.std.specs.Prelude.{◌≡◌};
 ghost use Rattle.sqval.specs.JudgedPages.{fault_number};
 ghost use Rattle.rollcore.specs.Refusal.{number_of};
@@ -36,10 +36,11 @@ pub enum RollError {
     /// A page's length isn't the page size.
     #[error("a page of another length")]
     BadLength,
-    /// The database would be above 1,073,741,824 bytes, or the journal is above 1,099,511,627,776.
+    /// The database is or would be above 1,073,741,824 bytes, or the journal is above 1,099,511,627,776.
     #[error("too large")]
     TooLarge,
-    /// A hot journal names another page size or a database of no pages, or the database has no such pages.
+    /// A hot journal names another page size or a database of no pages; or where none is hot, the database file is empty
+    /// or has no whole number of pages.
     #[error("another page size")]
     PageSize,
     /// No memory.

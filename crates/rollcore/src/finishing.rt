@@ -1,5 +1,5 @@
 //! The end of a commit, once the journal is down.
-ghost use Rattle.std.specs.Prelude.{◌≡◌, ◌↔◌, ◌<◌, ◌≤◌, ℕ, List, length, None, OnOk};
+ghost use Rattle.std.specs.Prelude.{◌≡◌, ◌↔◌, ◌<◌, ◌≤◌, ℕ, List, length, None, OnOk, IfErr};
 ghost use Rattle.std.specs.List.{All};
 ghost use Rattle.sqval.specs.Database.{Database, apply};
 ghost use Rattle.sqval.specs.JudgedPages.{lent};
@@ -17,7 +17,7 @@ use crate::segments::put_new_pages;
 use crashdisk::{Disk, File};
 use sqval::PageSize;
 
-/// Writes the pages that the database doesn't have yet, sets its length, and makes it stay; then ends the journal.
+/// Writes the pages that the database doesn't have yet, sets its length, and makes it stay; then ends the journal (own).
 pub fn end_commit<D: Disk>(
     disk: &mut D,
     pages: &[(u32, &[u8])],
@@ -27,6 +27,7 @@ pub fn end_commit<D: Disk>(
 ) -> Result<(), RollError>
     requires pages { All (λ x. (1 ≤ x.0) × (length x.1.now ≤ 65536)) pages.now }
     ensures word { D.keeps_word disk.old ↔ D.keeps_word disk.new }
+    ensures device { IfErr result (λ e. e ≡ RollError.Device) }
     ensures goes { D.keeps_word disk.old → IsSoundDisk (D.state disk.old) → Goes (D.state disk.old) (D.state disk.new) }
     ensures ends { D.keeps_word disk.old → (sector nonces : ℕ) (d : Database) (changes : List Change) (place : ℕ) (w : List ℕ)
         → Journaled page_size sector d (pages_of changes) place w (D.state disk.old) → 0 < place

@@ -1,38 +1,62 @@
-//! What holds of every run of the machine.
-ghost use Rattle.std.specs.Prelude.{◌≡◌, ◌≤◌, ℕ, Bool, List, true, false};
+//! What holds of every run of the machine, and of what a disk shows.
+ghost use Rattle.std.specs.Prelude.{◌≡◌, ◌≤◌, ℕ, Bool, List, true, false, Result};
 ghost use Rattle.sqval.specs.Database.{Database};
 ghost use Rattle.sqval.specs.Answers.{Answer};
 ghost use Rattle.sqval.specs.PageSize.{IsPageSize};
 ghost use Rattle.sqval.specs.Held.{IsJust, IsHeld};
 ghost use Rattle.crashdisk.specs.State.{IsSectorSize};
-ghost use Rattle.crashdisk.specs.Call.{DiskState, IsNew};
-ghost use Rattle.rollcore.specs.Fits.{FitsDisk};
+ghost use Rattle.crashdisk.specs.Call.{DiskState, IsSoundDisk, IsNew, Syncs, Looks, IsCrash};
+ghost use Rattle.crashdisk.specs.declared.file.File.{File};
+ghost use Rattle.crashdisk.specs.declared.error.DiskError.{DiskError};
+ghost use Rattle.crashdisk.specs.Keeps.{Still};
+ghost use Rattle.rollcore.specs.Alone.{AreWhole, ShowsAlone};
+ghost use Rattle.rollcore.specs.Fits.{FitsDisk, FitsCore};
 ghost use Rattle.rollcore.specs.Laws.{IsSane, Keeps, IsExpected, is_opening};
 ghost use Rattle.sqval.specs.Runs.{Moment, Runs};
 ghost use Rattle.rollcore.specs.Machine.{State, Act, Reads, Step, start};
+ghost use Rattle.rollcore.specs.declared.state.Core.{Core};
 
 /// A disk that is new with a base of pages that no sector that tears exceeds, and with an empty log, fits where the
-/// machine begins.
+/// machine begins (own).
 pub fn a_base_fits()
     ensures { (size sector : ℕ) (torn : Bool) (base : Database) (bytes : List ℕ) (s : DiskState) → IsPageSize size → IsSectorSize sector
         → (torn ≡ true → sector ≤ size) → IsHeld size base → IsJust size base bytes → IsNew sector torn bytes s → FitsDisk (start size base) s }
 {}
 
-/// In every run the floor is a place of the history.
+/// In every run the floor is a place of the history (own).
 pub fn runs_are_sane()
     ensures { (page_size : ℕ) (base : Database) (moments : List (Moment Act)) (new : State) (after : ℕ)
         → Runs Step (start page_size base) 0 moments new after → IsSane new }
 {}
 
-/// What is known to be down stays, through crashes and openings: the floor never falls, and the databases up to it stand.
+/// What is known to be down stays, through crashes and openings: the floor never falls, and the databases up to it
+/// stand (own).
 pub fn what_is_down_stays()
     ensures { (page_size : ℕ) (base : Database) (before later : List (Moment Act)) (old new : State) (count after : ℕ)
         → Runs Step (start page_size base) 0 before old count → Runs Step old count later new after → Keeps old new }
 {}
 
+/// What fits an engine fits it after calls that changed no byte of the disk, as a borrower of it may make them (own).
+pub fn a_look_fits()
+    ensures { (past : State) (core : Core) (old new : DiskState) → Still old new → FitsCore past core old → FitsCore past core new }
+{}
+
+/// What a disk shows alone stays shown: after a sync of either file, also one that is refused or fails; after a look; and
+/// after a crash, on a disk that tears one that puts no header of the journal together.
+pub fn what_is_shown_stays()
+    ensures sync { (size : ℕ) (d : Database) (f : File) (called : Result (Unit {0}) DiskError) (old new : DiskState) → IsSoundDisk old
+        → ShowsAlone size d old → Syncs f called old new → ShowsAlone size d new }
+    ensures length { (size : ℕ) (d : Database) (called : Result ℕ DiskError) (old new : DiskState) → IsSoundDisk old
+        → ShowsAlone size d old → Looks 0 called old new → ShowsAlone size d new }
+    ensures read { (size : ℕ) (d : Database) (end : ℕ) (called : Result (Unit {0}) DiskError) (old new : DiskState) → IsSoundDisk old
+        → ShowsAlone size d old → Looks end called old new → ShowsAlone size d new }
+    ensures crash { (size : ℕ) (d : Database) (db log : List ℕ) (old new : DiskState) → IsSoundDisk old
+        → ShowsAlone size d old → IsCrash db log old new → (old.tears ≡ true → AreWhole old.kept old.handed log) → ShowsAlone size d new }
+{}
+
 /// The machine chooses nothing but the database that an opening shows. It answers what is expected; in place of an answer
 /// that is no refusal, want of memory (an opening and a commit alone), or a refused call of the disk that has a cause
-/// (each call of the engine). A read changes nothing.
+/// (each call of the engine). A read changes nothing (own).
 pub fn one_step()
     ensures next { (old : State) (act : Act) (answer : Answer) (b a c d : ℕ) (new other : State)
         → is_opening act ≡ false → Step old act answer b a new → Step old act answer c d other → new ≡ other }

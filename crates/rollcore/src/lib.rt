@@ -1,4 +1,4 @@
-//! The engine over a rollback journal.
+//! The engine over a rollback journal (own; the journal is that of fileformat2, 3).
 #![tactic(auto)]
 
 mod changes;
@@ -19,7 +19,9 @@ mod state;
 mod worked;
 
 pub use error::RollError;
-pub use laws::{a_base_fits, one_step, runs_are_sane, what_is_down_stays};
+pub use laws::{
+    a_base_fits, a_look_fits, one_step, runs_are_sane, what_is_down_stays, what_is_shown_stays,
+};
 pub use replaying::{Replayed, replay, replay_synced};
 pub use roll::{Refused, Roll, SEGMENT_RECORDS};
 pub use worked::{commits_are_whole, no_runs};

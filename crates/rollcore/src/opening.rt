@@ -13,7 +13,7 @@ ghost use Rattle.rollcore.specs.Replaying.{Agrees};
 ghost use Rattle.rollcore.specs.Steps.{torn_sector};
 ghost use Rattle.rollcore.specs.Commits.{Goes};
 ghost use Rattle.rollcore.specs.Lengths.{ShowsOne};
-ghost use Rattle.rollcore.specs.Opening.{CountAnswer, SizeJudged, BreakSteps, FrontAnswer, RecoverAnswer, RecoveredAt, IsNewCore, RefusedFor, OpenRefused};
+ghost use Rattle.rollcore.specs.Opening.{CountAnswer, SizeJudged, BreakSteps, FrontAnswer, RecoverAnswer, RecoveredAt, IsNewCore, RefusedFor, OpenRefused, MayOpen, AgreesSynced, RefusedSynced};
 ghost use Rattle.rollcore.specs.Fits.{FitsDisk, AreFiles, OpenedTo, GivenUpTo, Opened, GivenUp};
 
 use crate::error::RollError;
@@ -27,7 +27,8 @@ use sqjournal::is_magic;
 use sqval::PageSize;
 use std::alloc::Global;
 
-/// How many pages the database file has: PageSize where that is no whole number, or 0.
+/// How many pages the database file has: TooLarge where it is above the limit, else PageSize where that is no whole
+/// number, or 0.
 fn count_pages<D: Disk>(disk: &mut D, page_size: PageSize) -> Result<u32, RollError>
     ensures word { D.keeps_word disk.old ↔ D.keeps_word disk.new }
     ensures still { D.keeps_word disk.old → IsSoundDisk (D.state disk.old) → Still (D.state disk.old) (D.state disk.new) }
@@ -37,11 +38,11 @@ fn count_pages<D: Disk>(disk: &mut D, page_size: PageSize) -> Result<u32, RollEr
 {
     let long = disk.len(File::Db)?;
     let size = u64::from(page_size.get());
-    if long == 0 || long % size != 0 {
-        return Err(RollError::PageSize);
-    }
     if long > MOST_BYTES {
         return Err(RollError::TooLarge);
+    }
+    if long == 0 || long % size != 0 {
+        return Err(RollError::PageSize);
     }
     Ok((long / size) as u32)
 }
@@ -61,6 +62,7 @@ fn judge_size(plan: &Plan, page_size: PageSize) -> Result<(), RollError>
 pub(crate) fn break_magic<D: Disk>(disk: &mut D, at: u64) -> Result<bool, RollError>
     requires { at + 8 ≤ 1099511627776 }
     ensures word { D.keeps_word disk.old ↔ D.keeps_word disk.new }
+    ensures device { IfErr result (λ e. e ≡ RollError.Device) }
     ensures steps { D.keeps_word disk.old → IsSoundDisk (D.state disk.old) → BreakSteps at result (D.state disk.old) (D.state disk.new) }
 {
     let mut front = [0; 8];
@@ -75,6 +77,7 @@ pub(crate) fn break_magic<D: Disk>(disk: &mut D, at: u64) -> Result<bool, RollEr
 /// Makes the log stay.
 pub(crate) fn settle_log<D: Disk>(disk: &mut D) -> Result<(), RollError>
     ensures word { D.keeps_word disk.old ↔ D.keeps_word disk.new }
+    ensures device { IfErr result (λ e. e ≡ RollError.Device) }
     ensures state { D.keeps_word disk.old → SyncStep RollError.Device File.Log result (D.state disk.old) (D.state disk.new) }
 {
     disk.sync(File::Log)?;
@@ -110,6 +113,8 @@ fn recover_synced<D: Disk>(
     ensures agrees { D.keeps_word disk.old → Agrees (D.state disk.old) (D.state disk.new) }
     ensures refused { D.keeps_word disk.old → (db w : List ℕ) → ArePresent (D.state disk.old).db db → ArePresent (D.state disk.old).log w
         → IfErr result (λ e. RefusedFor page_size db w e (D.state disk.old) (D.state disk.new)) }
+    ensures opens { D.keeps_word disk.old → (db w : List ℕ) → ArePresent (D.state disk.old).db db → ArePresent (D.state disk.old).log w
+        → OnOk result (MayOpen page_size db w (D.state disk.old)) }
     ensures few { IfOk result (λ n. n * page_size ≤ 1073741824) }
 {
     match find_plan(alloc, disk)? {
@@ -132,8 +137,13 @@ fn recover<D: Disk>(alloc: Global, disk: &mut D, page_size: PageSize) -> Result<
     ensures recovered { D.keeps_word disk.old → (past : State) (found : Files) → AreFiles (D.state disk.old) found → past.page_size ≡ page_size
         → FitsDisk past (D.state disk.old) → RecoveredAt past found result (D.state disk.old) (D.state disk.new) }
     ensures agrees { D.keeps_word disk.old → IsSoundDisk (D.state disk.old) → Agrees (D.state disk.old) (D.state disk.new) }
+    ensures synced { D.keeps_word disk.old → MatchResult result
+        (λ _. AgreesSynced (D.state disk.old) (D.state disk.new))
+        (λ e. RefusedSynced e (D.state disk.old) (D.state disk.new)) }
     ensures refused { D.keeps_word disk.old → IsSoundDisk (D.state disk.old) → (db w : List ℕ) → ArePresent (D.state disk.old).db db → ArePresent (D.state disk.old).log w
         → IfErr result (λ e. RefusedFor page_size db w e (D.state disk.old) (D.state disk.new)) }
+    ensures opens { D.keeps_word disk.old → IsSoundDisk (D.state disk.old) → (db w : List ℕ) → ArePresent (D.state disk.old).db db → ArePresent (D.state disk.old).log w
+        → OnOk result (MayOpen page_size db w (D.state disk.old)) }
     ensures few { IfOk result (λ n. n * page_size ≤ 1073741824) }
 {
     settle_log(disk)?;
@@ -169,8 +179,13 @@ fn open_core<D: Disk>(alloc: Global, disk: &mut D, page_size: PageSize) -> Resul
         (λ core. OpenedTo past found core (D.state disk.old) (D.state disk.new))
         (λ error. GivenUpTo past found error (D.state disk.old) (D.state disk.new)) }
     ensures agrees { D.keeps_word disk.old → Agrees (D.state disk.old) (D.state disk.new) }
+    ensures synced { D.keeps_word disk.old → MatchResult result
+        (λ _. AgreesSynced (D.state disk.old) (D.state disk.new))
+        (λ e. RefusedSynced e (D.state disk.old) (D.state disk.new)) }
     ensures refused { D.keeps_word disk.old → IfErr result (λ e. OpenRefused page_size e (D.state disk.old) (D.state disk.new)) }
     ensures whole { D.keeps_word disk.old → OnOk result (TearsPages page_size (D.state disk.old) → ⊥) }
+    ensures opens { D.keeps_word disk.old → (db w : List ℕ) → ArePresent (D.state disk.old).db db → ArePresent (D.state disk.old).log w
+        → OnOk result (MayOpen page_size db w (D.state disk.old)) }
 {
     let size = page_size.get() as usize;
     if size < sector_that_tears(disk) {
@@ -183,9 +198,9 @@ fn open_core<D: Disk>(alloc: Global, disk: &mut D, page_size: PageSize) -> Resul
 }
 
 impl<D: Disk> Roll<D> {
-    /// Recovers what a crash, a failure or another engine left. Refused are, in this order, SectorAbovePage for the page
-    /// size handed in, TooLarge, SectorAbovePage for a hot journal, PageSize; NoMemory or Device may stand in place of
-    /// the last three.
+    /// Recovers what a crash, a failure or another engine left (own). Refused are, in this order, SectorAbovePage for
+    /// the page size handed in, TooLarge, SectorAbovePage for a hot journal, PageSize; NoMemory or Device may stand in
+    /// place of the last three.
     pub fn open(alloc: Global, disk: D, page_size: PageSize) -> Result<Roll<D>, Refused<D>>
         ensures word { D.keeps_word disk ↔ MatchResult result (λ roll. D.keeps_word roll.disk) (λ refused. D.keeps_word refused.disk) }
         ensures step { D.keeps_word disk → (past : State) (found : Files) → AreFiles (D.state disk) found → past.page_size ≡ page_size → FitsDisk past (D.state disk)
@@ -195,9 +210,16 @@ impl<D: Disk> Roll<D> {
         ensures agrees { D.keeps_word disk → MatchResult result
             (λ roll. Agrees (D.state disk) (D.state roll.disk))
             (λ refused. Agrees (D.state disk) (D.state refused.disk)) }
+        // the log is synced first: from then on all that is left shows the database that it showed
+        ensures synced { D.keeps_word disk → MatchResult result
+            (λ roll. AgreesSynced (D.state disk) (D.state roll.disk))
+            (λ refused. RefusedSynced refused.error (D.state disk) (D.state refused.disk)) }
         ensures refused { D.keeps_word disk → IfErr result (λ refused. OpenRefused page_size refused.error (D.state disk) (D.state refused.disk)) }
         // no page is smaller than a sector that tears
         ensures whole { D.keeps_word disk → OnOk result (TearsPages page_size (D.state disk) → ⊥) }
+        // and the files are what an opening is granted for
+        ensures opens { D.keeps_word disk → (db w : List ℕ) → ArePresent (D.state disk).db db → ArePresent (D.state disk).log w
+            → OnOk result (MayOpen page_size db w (D.state disk)) }
     {
         let mut disk = disk;
         match open_core(alloc, &mut disk, page_size) {

@@ -1,5 +1,5 @@
 //! Pages are read, and the disk is lent.
-ghost use Rattle.std.specs.Prelude.{◌≡◌, ◌≢◌, ◌↔◌, ◌≤◌, ℕ, length, OnOk};
+ghost use Rattle.std.specs.Prelude.{◌≡◌, ◌≢◌, ◌↔◌, ◌≤◌, ℕ, length, OnOk, IfErr};
 ghost use Rattle.std.specs.Borrow.{Lends, sem};
 ghost use Rattle.crashdisk.specs.Call.{DiskState, IsSoundDisk};
 ghost use Rattle.sqval.specs.Answers.{Page};
@@ -48,6 +48,7 @@ pub(crate) fn read_place<D: Disk>(
     out: &mut [u8],
 ) -> Result<(), RollError>
     ensures word { D.keeps_word disk.old ↔ D.keeps_word disk.new }
+    ensures device { IfErr result (λ e. e ≡ RollError.Device) }
     ensures place { D.keeps_word disk.old → IsSoundDisk (D.state disk.old) → PlaceAnswer RollError.Device file at out.new result (D.state disk.old) (D.state disk.new) }
 {
     disk.read_at(file, at, out)?;
@@ -57,10 +58,11 @@ pub(crate) fn read_place<D: Disk>(
 impl<D: Disk> Roll<D> {
     ghost use Rattle.rollcore.specs.contracts.roll.Roll.{the_row};
 
-    /// Reads a page of the last commit. Refused are Closed, PageZero, PageAboveSize, BadLength and Device, which doesn't
-    /// close the core. After a refusal `out` may hold anything.
+    /// Reads a page of the last commit (own). Refused are Closed, PageZero, PageAboveSize, BadLength and Device, which
+    /// doesn't close the core. After a refusal `out` may hold anything.
     pub fn read(&mut self, page: u32, out: &mut [u8]) -> Result<(), RollError>
         ensures word { D.keeps_word self.old.disk ↔ D.keeps_word self.new.disk }
+        ensures kept { IfErr result (λ e. e ≢ RollError.Device → self.new ≡ self.old) }
         ensures step { D.keeps_word self.old.disk → (past : State) → Fits D.state self.old past → length out.old ≡ past.page_size
             → Steps D.state self.old self.new past (Reads page) (answered (λ _. Page out.new) result) }
         ensures size { length out.old ≢ self.old.core.page_size → IsRefusedRead self.old.core page result × (self.new ≡ self.old) }
@@ -76,7 +78,8 @@ impl<D: Disk> Roll<D> {
         read_place(&mut self.disk, File::Db, at, out)
     }
 
-    /// Lends the disk, as for a stop or a failure to be set. What is written to it by other calls the engine doesn't know.
+    /// Lends the disk (own), as for a stop or a failure to be set. What is written to it by other calls the engine
+    /// doesn't know.
     pub fn disk(&mut self) -> &mut D
         ensures* writes_back { sem 𝓛 (Lends (the_row D.row) D.row self.entry result (λ w. record self.old { disk = w })) }
         ensures value { result.now ≡ self.old.disk }
@@ -84,7 +87,7 @@ impl<D: Disk> Roll<D> {
         &mut self.disk
     }
 
-    /// Gives the disk back.
+    /// Gives the disk back (own).
     pub fn into_disk(self) -> D
         ensures { result ≡ self.disk }
     {

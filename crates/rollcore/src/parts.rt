@@ -1,5 +1,5 @@
 //! The segments of a commit: what it changes is cut into parts, and one after another comes down and is put.
-ghost use Rattle.std.specs.Prelude.{◌≡◌, ◌↔◌, ◌+◌, ◌*◌, ◌^◌, ◌<◌, ◌≤◌, ℕ, List, length, get_or, IfOk};
+ghost use Rattle.std.specs.Prelude.{◌≡◌, ◌↔◌, ◌+◌, ◌*◌, ◌^◌, ◌<◌, ◌≤◌, ℕ, List, length, get_or, IfOk, IfErr};
 ghost use Rattle.sqval.specs.Database.{Database, apply};
 ghost use Rattle.sqval.specs.Held.{IsHeld};
 ghost use Rattle.sqval.specs.JudgedPages.{lent};
@@ -40,6 +40,7 @@ fn put_part<D: Disk>(
     requires place { place ≤ 2 ^ 38 }
     requires sector { IsSector sector }
     ensures word { D.keeps_word disk.old ↔ D.keeps_word disk.new }
+    ensures device { IfErr result (λ e. e ≡ RollError.Device) }
     ensures goes { D.keeps_word disk.old → IsSoundDisk (D.state disk.old) → Goes (D.state disk.old) (D.state disk.new) }
     ensures near { IfOk result (λ next. next ≤ place + 2 ^ 23) }
     ensures keeps { KeepsCore core.old core.new }
@@ -80,6 +81,7 @@ pub(crate) fn put_segments<D: Disk>(
     requires ready { (n : ℕ) × IsReady pages.now n (length nonces.now) core.old }
     requires sector { IsSector sector }
     ensures word { D.keeps_word disk.old ↔ D.keeps_word disk.new }
+    ensures device { IfErr result (λ e. e ≡ RollError.Device) }
     ensures goes { D.keeps_word disk.old → IsSoundDisk (D.state disk.old) → Goes (D.state disk.old) (D.state disk.new) }
     ensures keeps { KeepsCore core.old core.new }
     ensures changes { core.new.changes ≡ core.old.changes }

@@ -1,4 +1,4 @@
-//! The scan of the journal on a disk.
+//! The scan of the journal on a disk (own).
 ghost use Rattle.std.specs.Prelude.{◌≡◌, ◌↔◌, ◌+◌, ◌<◌, ◌≤◌, ℕ, List, [], length, take, IfOk, OnErr};
 ghost use Rattle.crashdisk.specs.Call.{DiskState, IsSoundDisk, ArePresent};
 ghost use Rattle.sqjournal.specs.Took.{Took};

@@ -1,4 +1,4 @@
-//! Recovery: a hot journal is replayed into its database.
+//! Recovery: a hot journal is replayed into its database (fileformat2, 3; what it answers is own).
 ghost use Rattle.std.specs.Prelude.{◌≡◌, ◌↔◌, ◌*◌, ◌≤◌, ℕ, List, length, IfOk, MatchOption};
 
 use crate::copying::{copy_records, finish};
@@ -11,8 +11,11 @@ use std::alloc::Global;
 /// database in pages. Both are 0 where it wasn't hot.
 #[derive(Clone, Copy, Debug, PartialEq, Eq)]
 pub struct Replayed {
+    /// Whether anything was replayed.
     pub hot: bool,
+    /// Of all segments, also those of pages above the first size.
     pub records: usize,
+    /// In pages.
     pub size: u32,
 }
 
@@ -87,9 +90,10 @@ pub(crate) fn replay_plan<D: Disk>(disk: &mut D, plan: Plan) -> Result<Replayed,
 /// Replays the journal into the database, where it is hot: writes the pages of its records up to the first size in
 /// order, sets the database's length to the first size, and once that is down zeroes the journal's first header.
 ///
-/// Refused with `TooLarge` where the first size is above 1,073,741,824 bytes, with `SectorAbovePage` where a disk that
-/// tears has larger sectors than the journal's pages or the sectors that it names, with `NoMemory`, and with `Device`
-/// where the disk refused a call. All but `Device` change no byte.
+/// Refused with `TooLarge` where the first size is above 1,073,741,824 bytes or the journal above 1,099,511,627,776,
+/// with `SectorAbovePage` where a disk that tears has larger sectors than the journal's pages or the sectors that it
+/// names, with `NoMemory`, and with `Device` where the disk refused a call. All but `Device` change no byte. After
+/// `Device` the replay is to be called again.
 pub fn replay<D: Disk>(alloc: Global, disk: &mut D) -> Result<Replayed, RollError>
     ensures word { D.keeps_word disk.old ↔ D.keeps_word disk.new }
     ensures replays { D.keeps_word disk.old → Replays result (D.state disk.old) (D.state disk.new) }
@@ -101,7 +105,7 @@ pub fn replay<D: Disk>(alloc: Global, disk: &mut D) -> Result<Replayed, RollErro
     replay_synced(alloc, disk)
 }
 
-/// What a replay does once it has synced the log.
+/// What a replay does once it has synced the log. Refused as `replay` is.
 pub fn replay_synced<D: Disk>(alloc: Global, disk: &mut D) -> Result<Replayed, RollError>
     ensures word { D.keeps_word disk.old ↔ D.keeps_word disk.new }
     ensures replays { D.keeps_word disk.old → Replays result (D.state disk.old) (D.state disk.new) }

@@ -1,6 +1,6 @@
 //! A segment of the journal: old pages are copied from the database to the journal, and once they are down, the header
 //! is written.
-ghost use Rattle.std.specs.Prelude.{◌≡◌, ◌⊎◌, ◌↔◌, ◌+◌, ◌-◌, ◌*◌, ◌^◌, ◌<◌, ◌≤◌, ◌++◌, ℕ, List, [], ◌∷◌, length, take, drop, replicate, Some, IfOk};
+ghost use Rattle.std.specs.Prelude.{◌≡◌, ◌⊎◌, ◌↔◌, ◌+◌, ◌-◌, ◌*◌, ◌^◌, ◌<◌, ◌≤◌, ◌++◌, ℕ, List, [], ◌∷◌, length, take, drop, replicate, Some, IfOk, IfErr};
 ghost use Rattle.std.specs.List.{All};
 ghost use Rattle.byteorder.specs.Endian.{big_bytes};
 ghost use Rattle.sqval.specs.Bytes.{part};
@@ -55,6 +55,7 @@ fn write_record<D: Disk>(
     requires page { 1 ≤ page }
     requires place { at ≤ 2 ^ 39 + 2 ^ 23 }
     ensures word { D.keeps_word disk.old ↔ D.keeps_word disk.new }
+    ensures device { IfErr result (λ e. e ≡ RollError.Device) }
     ensures goes { D.keeps_word disk.old → IsSoundDisk (D.state disk.old) → Goes (D.state disk.old) (D.state disk.new) }
     ensures record { D.keeps_word disk.old → IsSoundDisk (D.state disk.old) → page * (length buffer.old - 8) ≤ most_bytes
         → RecordStep (length buffer.old - 8) page nonce at result (D.state disk.old) (D.state disk.new) }
@@ -81,6 +82,7 @@ fn write_records<D: Disk>(
     requires pages { (i : ℕ) → i < length changes.now → 1 ≤ (change_at changes.now i).page }
     requires place { at ≤ 2 ^ 39 }
     ensures word { D.keeps_word disk.old ↔ D.keeps_word disk.new }
+    ensures device { IfErr result (λ e. e ≡ RollError.Device) }
     ensures goes { D.keeps_word disk.old → IsSoundDisk (D.state disk.old) → Goes (D.state disk.old) (D.state disk.new) }
     ensures end { IfOk result (λ end. end ≡ at + length changes.now * length buffer.old) }
     ensures records { D.keeps_word disk.old → (sector : ℕ) (d : Database) (named : List ℕ) (place : ℕ) (w : List ℕ)
@@ -112,6 +114,7 @@ fn prepare_segment<D: Disk>(
     requires place { place ≤ 2 ^ 38 }
     requires sector { IsSector sector }
     ensures word { D.keeps_word disk.old ↔ D.keeps_word disk.new }
+    ensures device { IfErr result (λ e. e ≡ RollError.Device) }
     ensures goes { D.keeps_word disk.old → IsSoundDisk (D.state disk.old) → Goes (D.state disk.old) (D.state disk.new) }
     ensures near { IfOk result (λ next. next ≤ place + 2 ^ 23) }
     ensures prepared { D.keeps_word disk.old → (d : Database) (named w : List ℕ)
@@ -143,6 +146,7 @@ fn put_page<D: Disk>(disk: &mut D, page: u32, content: &[u8]) -> Result<(), Roll
     requires page { 1 ≤ page }
     requires short { length content.now ≤ 65536 }
     ensures word { D.keeps_word disk.old ↔ D.keeps_word disk.new }
+    ensures device { IfErr result (λ e. e ≡ RollError.Device) }
     ensures goes { D.keeps_word disk.old → IsSoundDisk (D.state disk.old) → Goes (D.state disk.old) (D.state disk.new) }
     ensures step { D.keeps_word disk.old → PageStep page content.now result (D.state disk.old) (D.state disk.new) }
 {
@@ -161,6 +165,7 @@ fn put_pages<D: Disk>(
     requires within { (i k : ℕ) → i < length changes.now → (change_at changes.now i).content ≡ Some k → k < length pages.now }
     requires short { All (λ x. length x.1.now ≤ 65536) pages.now }
     ensures word { D.keeps_word disk.old ↔ D.keeps_word disk.new }
+    ensures device { IfErr result (λ e. e ≡ RollError.Device) }
     ensures goes { D.keeps_word disk.old → IsSoundDisk (D.state disk.old) → Goes (D.state disk.old) (D.state disk.new) }
     ensures put { D.keeps_word disk.old → (size sector : ℕ) (d e : Database) (named : List ℕ) (place : ℕ) (w before : List ℕ)
         → Journaled size sector d named place w (D.state disk.old) → 0 < place → AreTurned size e named (lent pages.now) changes.now
@@ -191,6 +196,7 @@ fn write_header<D: Disk>(
     requires place { place ≤ 2 ^ 38 }
     requires short { length header.old ≤ 65536 }
     ensures word { D.keeps_word disk.old ↔ D.keeps_word disk.new }
+    ensures device { IfErr result (λ e. e ≡ RollError.Device) }
     ensures goes { D.keeps_word disk.old → IsSoundDisk (D.state disk.old) → Goes (D.state disk.old) (D.state disk.new) }
     ensures header { D.keeps_word disk.old → (size sector : ℕ) (d : Database) (named part w : List ℕ) (nonce : ℕ)
         → Prepared size sector d named place part nonce w (D.state disk.old) → length header.old ≡ sector → length part ≤ 64 → IsHeaderOf size sector d part nonce head.now
@@ -210,6 +216,7 @@ pub(crate) fn put_new_pages<D: Disk>(
 ) -> Result<(), RollError>
     requires pages { All (λ x. (1 ≤ x.0) × (length x.1.now ≤ 65536)) pages.now }
     ensures word { D.keeps_word disk.old ↔ D.keeps_word disk.new }
+    ensures device { IfErr result (λ e. e ≡ RollError.Device) }
     ensures goes { D.keeps_word disk.old → IsSoundDisk (D.state disk.old) → Goes (D.state disk.old) (D.state disk.new) }
     ensures put { D.keeps_word disk.old → (size sector : ℕ) (d e : Database) (named : List ℕ) (place : ℕ) (w before : List ℕ)
         → Journaled size sector d named place w (D.state disk.old) → 0 < place → old_size ≡ length d → AreOf size e (lent pages.now)
@@ -246,6 +253,7 @@ pub(crate) fn put_segment<D: Disk>(
     requires long { 512 ≤ length header.old }
     requires header { length header.old ≤ 65536 }
     ensures word { D.keeps_word disk.old ↔ D.keeps_word disk.new }
+    ensures device { IfErr result (λ e. e ≡ RollError.Device) }
     ensures goes { D.keeps_word disk.old → IsSoundDisk (D.state disk.old) → Goes (D.state disk.old) (D.state disk.new) }
     ensures near { IfOk result (λ next. next ≤ place + 2 ^ 23) }
     ensures segment { D.keeps_word disk.old → (d e : Database) (named w before : List ℕ)

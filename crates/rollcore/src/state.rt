@@ -1,4 +1,4 @@
-//! What a core holds in memory: nothing of any page.
+//! What a core holds in memory: nothing of any page (own).
 ghost use Rattle.std.specs.Prelude.{◌≡◌, ◌+◌, ◌*◌, ◌≤◌, length};
 
 use crate::changes::Change;

@@ -1,4 +1,4 @@
-//! Worked runs of the machine, and what is none.
+//! Worked runs of the machine, and what is none (own).
 ghost use Rattle.rollcore.specs.Rows.{Committed, Stopped, StoppedLate, CallsRefused, NoLostCommit, NoHalf};
 
 /// A commit that is done is shown after a crash; of one that was stopped an opening shows all or nothing; and a refused

@@ -1,11 +1,14 @@
-use Rattle.std.proofs.Common.{◌∙◌, sym, subst}
+use Rattle.std.proofs.Common.{◌∙◌, sym, subst, arith}
 use Rattle.sqval.specs.PageSize.{IsPageSize}
 use Rattle.sqval.proofs.FilePages.{count_zero, count_rest}
 use Rattle.rollcore.proofs.opening.count_pages.Goals.{then-long-eq0-via-then-long-eq0, then-long-eq0-via-else-long-eq0+then-long-size-ne0}
 use Rattle.rollcore.proofs.opening.count_pages.Goals as goal
 
 pub returns-then-long-eq0-clause-count : goal.returns-then-long-eq0-clause-count
-returns-then-long-eq0-clause-count g c = λ word sound n one e. elim c.then-long-eq0.branch [
-  | then-long-eq0-via-then-long-eq0 w ↦ count_zero c.args.page_size n c.in_ok-long.long (subst (λ k. IsPageSize k) c.get.ensures.value c.get.ensures.valid) one (e ∙ sym (c.in_ok-long.ensures.answer word)) w.if-long-eq0.true
-  | then-long-eq0-via-else-long-eq0+then-long-size-ne0 w ↦ count_rest c.args.page_size c.from-size.result n c.in_ok-long.long (c.from-size.ensures ∙ c.get.ensures.value) (e ∙ sym (c.in_ok-long.ensures.answer word)) w.if-long-size-ne0.true
-]
+returns-then-long-eq0-clause-count g c = λ word sound. (
+  omega (arith, c.in_ok-long.ensures.answer word),
+  λ n one e. elim c.then-long-eq0.branch [
+    | then-long-eq0-via-then-long-eq0 w ↦ count_zero c.args.page_size n c.in_ok-long.long (subst (λ k. IsPageSize k) c.get.ensures.value c.get.ensures.valid) one (e ∙ sym (c.in_ok-long.ensures.answer word)) w.if-long-eq0.true
+    | then-long-eq0-via-else-long-eq0+then-long-size-ne0 w ↦ count_rest c.args.page_size c.from-size.result n c.in_ok-long.long (c.from-size.ensures ∙ c.get.ensures.value) (e ∙ sym (c.in_ok-long.ensures.answer word)) w.if-long-size-ne0.true
+  ],
+)

@@ -4,8 +4,10 @@ use Rattle.rollcore.proofs.Agreeing.{agrees_by, scanning_shows, scanning_syncs}
 use Rattle.rollcore.proofs.Recovered.{unsettled, settled}
 use Rattle.rollcore.specs.Opening.{RefusedFor}
 use Rattle.crashdisk.proofs.Later.{sync_refused}
-use Rattle.rollcore.proofs.Refusing.{refused_device, synced_refuses}
+use Rattle.rollcore.proofs.Refusing.{refused_device, synced_refuses, synced_opens}
 use Rattle.rollcore.specs.declared.error.RollError.TheVariants.{Device}
+use Rattle.rollcore.proofs.Syncing.{sync_fails, sync_goes}
+use Rattle.sqval.proofs.Answering.{match_err}
 use Rattle.rollcore.proofs.opening.recover.Goals as goal
 
 pub returns-in_err-settle_log-clause-recovered : goal.returns-in_err-settle_log-clause-recovered
@@ -42,3 +44,18 @@ pub returns-clause-refused : goal.returns-clause-refused
 returns-clause-refused g c = λ word sound db w are_db are.
     synced_refuses _ c.settle_log.result (g.D.Disk.state c.args.disk.now) (g.D.Disk.state c.settle_log.new.disk) sound c.in_ok-settle_log.was (c.settle_log.ensures.state word) c.args.page_size db w c.recover_synced.result (g.D.Disk.state c.recover_synced.new.disk) are_db are
     (λ here there. c.recover_synced.ensures.refused (c.settle_log.ensures.word.0 word) db w here there)
+
+pub returns-clause-opens : goal.returns-clause-opens
+returns-clause-opens g c = λ word sound db w are_db are.
+    synced_opens _ c.settle_log.result (g.D.Disk.state c.args.disk.now) (g.D.Disk.state c.settle_log.new.disk) sound c.in_ok-settle_log.was (c.settle_log.ensures.state word) c.args.page_size db w c.recover_synced.result are_db are
+    (λ here there. c.recover_synced.ensures.opens (c.settle_log.ensures.word.0 word) db w here there)
+
+pub returns-in_err-settle_log-clause-synced : goal.returns-in_err-settle_log-clause-synced
+returns-in_err-settle_log-clause-synced g c = λ word.
+    match_err _ _ _ _ (passed c.from_residual.result _ c.from_residual.ensures.1)
+    (sync_fails (g.D.Disk.state c.args.disk.now) (g.D.Disk.state c.settle_log.new.disk) c.settle_log.result (c.settle_log.ensures.state word) _ c.in_err-settle_log.was)
+
+pub returns-clause-synced : goal.returns-clause-synced
+returns-clause-synced g c = λ word.
+    sync_goes (g.D.Disk.state c.args.disk.now) (g.D.Disk.state c.settle_log.new.disk) c.settle_log.result (c.settle_log.ensures.state word) c.in_ok-settle_log.was
+    (g.D.Disk.state c.recover_synced.new.disk) (c.recover_synced.ensures.agrees (c.settle_log.ensures.word.0 word)) c.recover_synced.result

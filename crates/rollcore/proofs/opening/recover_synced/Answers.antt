@@ -13,7 +13,7 @@ use Rattle.rollcore.proofs.Agreeing.{agrees_by, scanning_begins, scanning_shows,
 use Rattle.rollcore.proofs.Breaking.{cold_alone}
 use Rattle.rollcore.proofs.Recovered.{unplanned, misjudged, unreplayed, replayed, uncounted, unbroken, broken, few_some}
 use Rattle.rollcore.specs.Opening.{RefusedFor}
-use Rattle.rollcore.proofs.Refusing.{read_refuses, size_refuses, replay_refuses, count_refuses, break_refuses}
+use Rattle.rollcore.proofs.Refusing.{read_refuses, size_refuses, replay_refuses, count_refuses, break_refuses, hot_opens, count_opens}
 use Rattle.rollcore.proofs.opening.recover_synced.Goals as goal
 
 pub returns-in_err-plan-clause-recovered : goal.returns-in_err-plan-clause-recovered
@@ -225,7 +225,7 @@ returns-in_err-plan-clause-refused g c = λ word db w are_db are.
     let is = c.find_plan.ensures.still word in
     let sound = c.find_plan.ensures.sound word in
     if_err c.from_residual.result _ (λ e. RefusedFor c.args.page_size db w e s (a)) (passed c.from_residual.result _ c.from_residual.ensures.1)
-    (read_refuses c.args.page_size db w s are_db a is c.find_plan.result _ c.in_err-plan.was (c.find_plan.ensures.plan word w are))
+    (read_refuses c.args.page_size db w s sound are_db are a is c.find_plan.result _ c.in_err-plan.was (c.find_plan.ensures.plan word w are))
 
 pub returns-in_err-judge_size-in-Some-clause-refused : goal.returns-in_err-judge_size-in-Some-clause-refused
 returns-in_err-judge_size-in-Some-clause-refused g c = λ word db w are_db are.
@@ -235,7 +235,7 @@ returns-in_err-judge_size-in-Some-clause-refused g c = λ word db w are_db are.
     let sound = c.find_plan.ensures.sound word in
     let plans = read_plans (torn_sector s) w c.find_plan.result c.in-Some.plan s a (c.in_ok-plan.was ∙ ap Ok c.in-Some.is) (c.find_plan.ensures.plan word w are) in
     if_err c.from_residual-in_err-judge_size-in-Some.result _ (λ e. RefusedFor c.args.page_size db w e s (a)) (passed c.from_residual-in_err-judge_size-in-Some.result _ c.from_residual-in_err-judge_size-in-Some.ensures.1)
-    (size_refuses c.args.page_size db w s are_db a is plans.0.hot c.judge_size.result _ c.in_err-judge_size-in-Some.was (c.judge_size.ensures.judged w plans.1))
+    (size_refuses c.args.page_size db w s sound are_db are a is plans.0 c.judge_size.result _ c.in_err-judge_size-in-Some.was (c.judge_size.ensures.judged w plans.1))
 
 pub returns-in_err-replayed-in-Some-clause-refused : goal.returns-in_err-replayed-in-Some-clause-refused
 returns-in_err-replayed-in-Some-clause-refused g c = λ word db w are_db are.
@@ -247,7 +247,7 @@ returns-in_err-replayed-in-Some-clause-refused g c = λ word db w are_db are.
     let next = c.find_plan.ensures.word.0 word in
     let after = still_sound s a sound is in
     if_err c.from_residual-in_err-replayed-in-Some.result _ (λ e. RefusedFor c.args.page_size db w e s (g.D.Disk.state c.replay_plan.new.disk)) (passed c.from_residual-in_err-replayed-in-Some.result _ c.from_residual-in_err-replayed-in-Some.ensures.1)
-    (replay_refuses c.args.page_size db w s are_db a is (g.D.Disk.state c.replay_plan.new.disk) c.replay_plan.result _ c.in_err-replayed-in-Some.was (c.replay_plan.ensures.replays next after db w (torn_sector s) (present_in s.db a.db db is.db are_db) (present_in s.log a.log w is.log are) plans.0 plans.1))
+    (replay_refuses c.args.page_size db w s sound are_db are a is (g.D.Disk.state c.replay_plan.new.disk) c.replay_plan.result _ c.in_err-replayed-in-Some.was (c.replay_plan.ensures.replays next after db w (torn_sector s) (present_in s.db a.db db is.db are_db) (present_in s.log a.log w is.log are) plans.0 plans.1))
 
 pub returns-in_err-pages-in-None-clause-refused : goal.returns-in_err-pages-in-None-clause-refused
 returns-in_err-pages-in-None-clause-refused g c = λ word db w are_db are.
@@ -261,7 +261,7 @@ returns-in_err-pages-in-None-clause-refused g c = λ word db w are_db are.
     let b = g.D.Disk.state c.count_pages.new.disk in
     let then = c.count_pages.ensures.still next after in
     if_err c.from_residual-in_err-pages-in-None.result _ (λ e. RefusedFor c.args.page_size db w e s (b)) (passed c.from_residual-in_err-pages-in-None.result _ c.from_residual-in_err-pages-in-None.ensures.1)
-    (count_refuses c.args.page_size db w s are_db a is cold b (still_then s a b is then) c.count_pages.result _ c.in_err-pages-in-None.was (c.count_pages.ensures.count next after))
+    (count_refuses c.args.page_size db w s sound are_db are a is cold b (still_then s a b is then) c.count_pages.result _ c.in_err-pages-in-None.was (c.count_pages.ensures.count next after))
 
 pub returns-in_err-break_front-in-None-clause-refused : goal.returns-in_err-break_front-in-None-clause-refused
 returns-in_err-break_front-in-None-clause-refused g c = λ word db w are_db are.
@@ -274,4 +274,24 @@ returns-in_err-break_front-in-None-clause-refused g c = λ word db w are_db are.
     let b = g.D.Disk.state c.count_pages.new.disk in
     let then = c.count_pages.ensures.still next after in
     if_err c.from_residual-in_err-break_front-in-None.result _ (λ e. RefusedFor c.args.page_size db w e s (g.D.Disk.state c.break_front.new.disk)) (passed c.from_residual-in_err-break_front-in-None.result _ c.from_residual-in_err-break_front-in-None.ensures.1)
-    (break_refuses c.args.page_size db w s are_db a is b (g.D.Disk.state c.break_front.new.disk) (still_then s a b is then) c.break_front.result _ c.in_err-break_front-in-None.was (c.break_front.ensures.refused (c.count_pages.ensures.word.0 next) (still_sound a b after then)))
+    (break_refuses c.args.page_size db w s sound are_db are a is b (g.D.Disk.state c.break_front.new.disk) (still_then s a b is then) c.break_front.result _ c.in_err-break_front-in-None.was (c.break_front.ensures.refused (c.count_pages.ensures.word.0 next) (still_sound a b after then)))
+
+pub returns-in_ok-replayed-in-Some-clause-opens : goal.returns-in_ok-replayed-in-Some-clause-opens
+returns-in_ok-replayed-in-Some-clause-opens g c = λ word db w are_db are.
+    let s = g.D.Disk.state c.args.disk.now in
+    let a = g.D.Disk.state c.find_plan.new.disk in
+    let plans = read_plans (torn_sector s) w c.find_plan.result c.in-Some.plan s a (c.in_ok-plan.was ∙ ap Ok c.in-Some.is) (c.find_plan.ensures.plan word w are) in
+    let size = c.in_ok-judge_size-in-Some.ensures.judged w plans.1 in
+    hot_opens c.args.page_size db w s (c.find_plan.ensures.sound word) are_db are plans.0 size.0 size.1
+
+pub returns-in_ok-break_front-in-None-clause-opens : goal.returns-in_ok-break_front-in-None-clause-opens
+returns-in_ok-break_front-in-None-clause-opens g c = λ word db w are_db are.
+    let s = g.D.Disk.state c.args.disk.now in
+    let a = g.D.Disk.state c.find_plan.new.disk in
+    let is = c.find_plan.ensures.still word in
+    let sound = c.find_plan.ensures.sound word in
+    let cold = plan_cold (torn_sector s) w c.find_plan.result s a (c.in_ok-plan.was ∙ ap Ok c.in-None.is) (c.find_plan.ensures.plan word w are) in
+    let next = c.find_plan.ensures.word.0 word in
+    let after = still_sound s a sound is in
+    let b = g.D.Disk.state c.count_pages.new.disk in
+    count_opens c.args.page_size db w s sound are_db are a is cold b (still_then s a b is (c.count_pages.ensures.still next after)) c.count_pages.result _ c.in_ok-pages-in-None.was (c.count_pages.ensures.count next after)
