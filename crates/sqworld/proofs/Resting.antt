@@ -1,28 +1,21 @@
 -- What fits a disk after a crash, and where a run begins.
-use Rattle.std.proofs.Common.{◌≡◌, inl, ⊎_elim, ℕ, zero, suc, ◌+◌, ◌-◌, ◌*◌, ◌<◌, ◌≤◌, Bool, true, false, List, ◌∷◌, ◌++◌, length, get_or, Option, refl, sym, ◌∙◌, ap, subst, arith, length-append, []}
+use Rattle.std.proofs.Common.{◌≡◌, ℕ, zero, suc, ◌+◌, ◌-◌, ◌*◌, ◌<◌, ◌≤◌, Bool, true, List, ◌∷◌, ◌++◌, length, get_or, Option, refl, sym, ◌∙◌, ap, subst, arith, length-append, []}
 use Rattle.std.specs.List.{concat}
 use Rattle.sqval.specs.PageSize.{IsPageSize}
 use Rattle.sqval.specs.Database.{Database, page}
-use Rattle.sqwal.specs.Header.{named_size}
-use Rattle.sqwal.specs.Frames.{IsFront}
-use Rattle.crashdisk.specs.State.{longest, IsImage, IsSectorSize}
+use Rattle.crashdisk.specs.State.{IsSectorSize}
 use Rattle.crashdisk.specs.Call.{DiskState, IsCrash, IsNew}
-use Rattle.crashdisk.proofs.Keeping.{sound_crash, sound_new}
-use Rattle.crashdisk.proofs.Settled.{settled_one}
+use Rattle.crashdisk.proofs.Keeping.{sound_crash}
 use Rattle.crashdisk.proofs.Solid.{size_is}
 use Rattle.walcore.specs.Alone.{AreWhole}
 use Rattle.sqval.specs.Held.{IsJust, IsHeld}
 use Rattle.crashdisk.specs.Keeps.{Suits}
-use Rattle.walcore.specs.Made.{AreMade}
 use Rattle.walcore.specs.Machine.{gone, forgotten}
-use Rattle.walcore.specs.Standing.{MayBeRead, ShowsWhole}
 use Rattle.walcore.specs.Fits.{Past, FitsAlone, beginning, none_open}
 use Rattle.walcore.specs.declared.reader.Reader.{Reader}
-use Rattle.walcore.proofs.Fronting.{just_file}
+use Rattle.walcore.proofs.Based.{base_fits}
 use Rattle.walcore.proofs.Narrowing.{narrows_crash, left_narrows}
 use Rattle.sqval.proofs.FilePages.{page_by_bytes}
-use Rattle.walcore.proofs.Standing.{read_cases}
-use Rattle.walcore.proofs.Turning.{just_shows}
 use Rattle.sqworld.specs.Pages.{IsBase}
 
 -- ---- A crash.
@@ -96,59 +89,13 @@ pub full_pages : (size : ℕ) (d : Database) → ((i : ℕ) → i < length d →
 unfolding page
 full_pages size d each p one le = each (p - 1) (omega arith)
 
-empty_front : (w : List ℕ) → w ≡ [] → IsFront (named_size w) w 0
-empty_front w e = record {
-  is = inl refl;
-  greatest = λ i valid commit. let whole = (valid.each i valid.first (omega arith)).header.whole in let long = ap length e in absurd (omega (arith, whole, long));
-}
-
-made_nothing : (size : ℕ) → AreMade size []
-made_nothing size = record {
-  each = λ e is. absurd (let i = is.1 in omega arith);
-  new_salts = λ i j l m. absurd (omega arith);
-}
-
 module _ (size sector : ℕ) (tears : Bool) (d : Database) (s : DiskState) (base : IsBase size sector tears d) (is_size : IsPageSize size) (new : IsNew sector tears (concat d) s) where
-  just : IsJust size d (concat d)
-  just = just_pages size d base.pages_are.each
-
-  short : length (concat d) ≤ longest
-  short = let l = just.long in let few = base.pages_are.few in omega (arith, l, few)
-
-  empty : (w : List ℕ) → MayBeRead s w → w ≡ []
-  empty w may = ⊎_elim (λ image. settled_one s.log [] new.log s.sector false w image) (λ left. settled_one s.log [] new.log s.sector true w left.1) (read_cases s w may)
-
-  shows : (db w : List ℕ) → MayBeRead s w → IsImage s.sector s.tears s.db db → ShowsWhole size db w d
-  shows db w may image =
-      let same : db ≡ concat d = settled_one s.db (concat d) new.db s.sector s.tears db image in
-      let is : IsJust size d db = subst (λ (x : List ℕ). IsJust size d x) (sym same) just in
-      just_shows size db w d is (just_file size d db is_size is) (empty_front w (empty w may))
-
-  held : (i : ℕ) → i < 1 → IsHeld size (get_or (d ∷ []) i [])
-  held zero l = record {
+  held : IsHeld size d
+  held = record {
     some = base.pages_are.some;
     full = full_pages size d base.pages_are.each;
     few = base.pages_are.few;
   }
-  held (suc i) l = absurd (omega arith)
 
   pub fits_new : FitsAlone (beginning size d) s
-  fits_new = record {
-    count = refl;
-    disk = record {
-      suits = record {
-        sound = sound_new sector tears (concat d) s short new;
-        sectors = subst (λ n. IsSectorSize n) (sym new.sector) (size_is sector base.sector_size);
-        pages = is_size;
-        whole = λ torn. let le = base.whole (sym new.tears ∙ torn.0) in let lt = torn.1 in let e = new.sector in absurd (omega (arith, le, lt, e));
-      };
-      floor = omega arith;
-      held = held;
-      made = made_nothing size;
-      left = inl (
-        λ w may chance. (0, omega arith, omega arith, λ db image. shows db w may image),
-        λ w may header. let whole = header.whole in let long = ap length (empty w may) in absurd (omega (arith, whole, long)),
-      );
-      present = λ is. absurd (cc is);
-    };
-  }
+  fits_new = base_fits size sector tears d (concat d) s is_size held (just_pages size d base.pages_are.each) new (size_is sector base.sector_size) base.whole

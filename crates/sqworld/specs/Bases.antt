@@ -1,4 +1,4 @@
--- Where a run begins.
+-- Where a run begins (own).
 use Rattle.std.specs.Prelude.{◌≡◌, ℕ, Bool}
 use Rattle.sqval.specs.Database.{Database}
 use Rattle.sqworld.specs.Pages.{pages_of}

@@ -1,4 +1,4 @@
--- How the engine of a run, or the disk without one, goes from one event to the next.
+-- How the engine of a run, or the disk without one, goes from one event to the next (own).
 use Rattle.std.specs.Prelude.{◌≡◌, ℕ, Bool, true, false, ◌&&◌, List, replicate, Option, Some, None, is_some, IfSome, Result, Ok, Err}
 use Rattle.crashdisk.specs.Call.{DiskState, of, IsCrash}
 use Rattle.crashdisk.specs.Choice.{naming_of, image_of}
@@ -41,12 +41,14 @@ pub record IsLeftBy (tears : Bool) (choice : Choice) (left : Option CrashedLog) 
 
 -- ---- What is set of a modelled disk.
 
+-- it stops after so many calls, or at the sync of this number
 abbrev pub stopping_after : (calls : ℕ) → ModelDisk → ModelDisk
 stopping_after calls disk = record disk { stops = record disk.stops { calls = Some calls } }
 
 abbrev pub stopping_at_sync : (syncs : ℕ) → ModelDisk → ModelDisk
 stopping_at_sync syncs disk = record disk { stops = record disk.stops { syncs = syncs } }
 
+-- the call of this number fails, and this part is left
 pub record FailsAt (call : ℕ) (part : Part) (old new : ModelDisk) : Type 0 where
   pub pick : new.part.pick.items ≡ part.pick.items
   pub new_len : new.part.new_len ≡ part.new_len
@@ -71,10 +73,12 @@ pub record FitsClosed (past : Past) (begun : ℕ) (s : DiskState) : Type 0 where
   pub readers : past.state.readers ≡ forgotten past.state.readers
   pub tokens : past.tokens ≡ replicate begun None
 
+-- what fits an engine, or the disk without one
 abbrev pub FitsEngine : Past → Engine → Type 0
 FitsEngine past (Closed disk begun) = FitsClosed past begun (state_of disk)
 FitsEngine past (Open session) = FitsSession past session
 
+-- the disk, and what it lists
 abbrev pub model_of : Engine → ModelDisk
 model_of (Closed disk begun) = disk
 model_of (Open session) = session.wal.disk
@@ -87,6 +91,7 @@ abbrev pub begun_of : Engine → ℕ
 begun_of (Closed disk begun) = begun
 begun_of (Open session) = begun_by session
 
+-- one event, for whatever fits the engine
 abbrev pub EngineServes : (page_size : ℕ) (old new : Engine) → Act → Answer → Type 0
 EngineServes page_size old new act answer = Serves page_size (λ past. FitsEngine past old) (λ past. FitsEngine past new) (disk_of old) (disk_of new) act answer
 

@@ -1,4 +1,4 @@
--- How the engine of a run over a rollback journal, or the disk without one, goes from one event to the next.
+-- How the engine of a run over a rollback journal, or the disk without one, goes from one event to the next (own).
 use Rattle.std.specs.Prelude.{◌≡◌, ℕ, ◌≤◌, Bool, false, ◌&&◌, Option, is_some, IfSome}
 use Rattle.crashdisk.specs.Call.{DiskState}
 use Rattle.crashdisk.specs.Model.{state_of}
@@ -45,6 +45,7 @@ abbrev pub Serves : (page_size : ℕ) (FitsOld FitsNext : State → Type 0) (old
 Serves page_size FitsOld FitsNext old new act answer =
     (past : State) → past.page_size ≡ page_size → FitsOld past → Permits act → ServesTo past act answer FitsNext old new
 
+-- the same of an engine that is there
 abbrev pub RollServes : (page_size : ℕ) (old new : Roll ModelDisk) → Act → Answer → Type 0
 RollServes page_size old new act answer =
     Serves page_size (λ past. Fits state_of old past) (λ past. Fits state_of new past) (state_of old.disk) (state_of new.disk) act answer
@@ -54,10 +55,12 @@ pub record FitsClosed (past : State) (s : DiskState) : Type 0 where
   pub disk : FitsDisk past s
   pub is_closed : past.is_open ≡ false
 
+-- what fits an engine, or the disk without one
 abbrev pub FitsEngine : State → JournalEngine → Type 0
 FitsEngine past (Closed disk) = FitsClosed past (state_of disk)
 FitsEngine past (Open roll) = Fits state_of roll past
 
+-- the disk, and what it lists
 abbrev pub model_of : JournalEngine → ModelDisk
 model_of (Closed disk) = disk
 model_of (Open roll) = roll.disk
@@ -65,6 +68,7 @@ model_of (Open roll) = roll.disk
 abbrev pub disk_of : JournalEngine → DiskState
 disk_of engine = state_of (model_of engine)
 
+-- one event, for whatever fits the engine
 abbrev pub EngineServes : (page_size : ℕ) (old new : JournalEngine) → Act → Answer → Type 0
 EngineServes page_size old new act answer = Serves page_size (λ past. FitsEngine past old) (λ past. FitsEngine past new) (disk_of old) (disk_of new) act answer
 

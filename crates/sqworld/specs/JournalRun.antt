@@ -1,4 +1,4 @@
--- The events and the replies of a run over a rollback journal as the machine sees them.
+-- The events and the replies of a run over a rollback journal as the machine sees them (own).
 use Rattle.std.specs.Prelude.{◌≡◌, ℕ, Bool, true, false, cond, List, [], ◌∷◌, length, Option, Some, None}
 use Rattle.std.specs.List.{count_by}
 use Rattle.sqval.specs.Runs.{Moment}
@@ -25,6 +25,7 @@ act_of (Fail call part) found crashed = Sets
 act_of (Crash choice) found (Some crashed) = Crashes (Some (left_of crashed))
 act_of (Crash choice) found None = Crashes None
 
+-- an event with its reply and its count
 abbrev pub moment : JEvent → Option Found → Option CrashedLog → Reply → (refused : ℕ) → Moment Act
 moment event found crashed reply refused = record { act = act_of event found crashed; answer = answer_of reply; refused = refused }
 
@@ -36,6 +37,7 @@ moments (Crash choice ∷ events) (reply ∷ replies) (n ∷ refused) founds (le
 moments (event ∷ events) (reply ∷ replies) (n ∷ refused) founds crashed = moment event None None reply n ∷ moments events replies refused founds crashed
 moments _ _ _ _ _ = []
 
+-- those of a run
 abbrev pub moments_of : List JEvent → Run → List (Moment Act)
 moments_of events run = moments events run.replies.items run.refused.items run.found.items run.crashed.items
 
@@ -54,5 +56,6 @@ pub record IsComplete (tears : Bool) (events : List JEvent) (run : Run) : Type 0
   pub found : length run.found.items ≡ count_by is_opening events
   pub crashed : length run.crashed.items ≡ cond tears (count_by is_crash events) 0
 
+-- where the machine begins
 abbrev pub start_of : Base → State
 start_of base = start base.page_size (pages_of base.pages.items)

@@ -1,4 +1,4 @@
--- How a run over a rollback journal goes on.
+-- How a run over a rollback journal goes on (own).
 use Rattle.std.specs.Prelude.{◌≡◌, ℕ, Bool, List, take}
 use Rattle.crashdisk.specs.Call.{DiskState}
 use Rattle.sqval.specs.Runs.{Moment, Runs, IsRun}
@@ -40,6 +40,7 @@ pub record Served (size : ℕ) (tears : Bool) (first : State) (events : List JEv
   pub complete : IsComplete tears events run
   pub goings : Goings size tears first (moments_of events run) FitsNow s
 
+-- an event is answered, in a run of this base
 abbrev pub AnswersOn : Base → JEvent → JournalEngine → Given → JournalEngine → Type 0
 AnswersOn base event old given new = Answers base.page_size base.tears event old given new
 

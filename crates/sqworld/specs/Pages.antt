@@ -1,10 +1,11 @@
--- The pages of a database where a run begins.
+-- The pages of a database where a run begins (own).
 use Rattle.std.specs.Prelude.{◌≡◌, ℕ, ◌*◌, ◌<◌, ◌≤◌, Bool, true, IsTrue, List, [], length, get_or, map, Vec}
 use Rattle.std.specs.declared.alloc.Global.{Global}
 use Rattle.sqval.specs.Database.{Database}
 use Rattle.crashdisk.specs.Solid.{is_sector_size}
 use Rattle.sqval.specs.CommitFaults.{most_bytes}
 
+-- the contents of pages, page 1 first
 abbrev pub pages_of : List (Vec ℕ Global) → Database
 pages_of pages = map (λ page. page.items) pages
 

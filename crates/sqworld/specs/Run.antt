@@ -1,4 +1,4 @@
--- The events and the replies of a run as the machine sees them.
+-- The events and the replies of a run as the machine sees them (own).
 use Rattle.std.specs.Prelude.{◌≡◌, ℕ, Bool, true, false, cond, List, [], ◌∷◌, map, length, Option, Some, None, Vec}
 use Rattle.std.specs.List.{count_by}
 use Rattle.std.specs.declared.alloc.Global.{Global}
@@ -20,6 +20,7 @@ use Rattle.sqworld.specs.declared.reply.Run.{Run}
 abbrev pub numbered : List (ℕ × Vec ℕ Global) → Pages
 numbered pages = map (λ p. (p.0, p.1.items)) pages
 
+-- what was found, what was left, and what was answered
 abbrev pub files_of : Found → Files
 files_of found = record { db = found.db.items; log = found.log.items }
 
@@ -52,6 +53,7 @@ act_of (Fail call part) found crashed = Sets
 act_of (Crash choice) found (Some crashed) = Crashes (Some (left_of crashed))
 act_of (Crash choice) found None = Crashes None
 
+-- an event with its reply and its count
 abbrev pub moment : Event → Option Found → Option CrashedLog → Reply → (refused : ℕ) → Moment Act
 moment event found crashed reply refused = record { act = act_of event found crashed; answer = answer_of reply; refused = refused }
 
@@ -63,6 +65,7 @@ moments (Crash choice ∷ events) (reply ∷ replies) (n ∷ refused) founds (le
 moments (event ∷ events) (reply ∷ replies) (n ∷ refused) founds crashed = moment event None None reply n ∷ moments events replies refused founds crashed
 moments _ _ _ _ _ = []
 
+-- those of a run
 abbrev pub moments_of : List Event → Run → List (Moment Act)
 moments_of events run = moments events run.replies.items run.refused.items run.found.items run.crashed.items
 
@@ -81,5 +84,6 @@ pub record IsComplete (tears : Bool) (events : List Event) (run : Run) : Type 0 
   pub found : length run.found.items ≡ count_by is_opening events
   pub crashed : length run.crashed.items ≡ cond tears (count_by is_crash events) 0
 
+-- where the machine begins
 abbrev pub start_of : Base → State
 start_of base = start base.page_size (pages_of base.pages.items)

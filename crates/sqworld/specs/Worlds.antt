@@ -1,8 +1,9 @@
--- How a run goes on.
+-- How a run goes on (own).
 use Rattle.std.specs.Prelude.{◌≡◌, ℕ, Bool, List, [], ◌∷◌, ◌++◌, take, Option, Some, None}
 use Rattle.sqval.specs.PageSize.{IsPageSize}
 use Rattle.crashdisk.specs.Call.{DiskState, IsNew}
 use Rattle.crashdisk.specs.Model.{state_of}
+use Rattle.crashdisk.specs.Stop.{no_stops}
 use Rattle.crashdisk.specs.declared.model.ModelDisk.{ModelDisk}
 use Rattle.walcore.specs.Machine.{State, Act, Step}
 use Rattle.walcore.specs.Making.{Made, Makes, Holds, nothing}
@@ -20,10 +21,11 @@ use Rattle.sqworld.specs.declared.event.Event.{Event}
 use Rattle.sqworld.specs.declared.reply.Run.{Run}
 use Rattle.std.specs.List.{concat}
 
--- a disk of the base, with an empty log, both down
+-- a disk of the base, with an empty log, both down, and nothing set
 pub record BeginsOn (base : Base) (disk : ModelDisk) : Type 0 where
   pub is_size : IsPageSize base.page_size
   pub new : IsNew base.sector base.tears (concat (pages_of base.pages.items)) (state_of disk)
+  pub unset : disk.stops ≡ no_stops
 
 abbrev pub list_of : {X : Type 0} → Option X → List X
 list_of None = []
@@ -67,6 +69,7 @@ pub record Served (size sector : ℕ) (tears : Bool) (first : State) (events : L
   pub complete : IsComplete tears events run
   pub goings : Goings size sector tears first (moments_of events run) FitsNow s
 
+-- an event is answered, in a run of this base
 abbrev pub AnswersOn : Base → Event → Engine → Given → Engine → Type 0
 AnswersOn base event old given new = Answers base.page_size base.tears event old given new
 

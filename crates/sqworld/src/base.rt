@@ -1,4 +1,4 @@
-//! Where a run begins.
+//! Where a run begins (own).
 ghost use Rattle.std.specs.List.{concat};
 ghost use Rattle.crashdisk.specs.Solid.{is_sector_size};
 ghost use Rattle.sqval.specs.PageSize.{IsPageSize};

@@ -1,4 +1,4 @@
-//! The engine of a run, or the disk that it is to be opened on.
+//! The engine of a run, or the disk that it is to be opened on (own).
 ghost use Rattle.std.specs.Prelude.{◌≡◌, ◌+◌, ◌<◌, ◌≤◌, ◌^◌, ℕ, Bool, false, Some, None, IfOk, OnOk, length};
 ghost use Rattle.crashdisk.specs.Call.{of, ArePresent};
 ghost use Rattle.crashdisk.specs.Model.{state_of};

@@ -1,4 +1,4 @@
-//! What happens in a run.
+//! What happens in a run (own).
 use crashdisk::{Choice, Part};
 
 /// What happens to an engine over a write-ahead log and to its disk (own).

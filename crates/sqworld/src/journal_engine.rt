@@ -1,4 +1,4 @@
-//! The engine of a run over a rollback journal, or the disk that it is to be opened on.
+//! The engine of a run over a rollback journal, or the disk that it is to be opened on (own).
 ghost use Rattle.std.specs.Prelude.{◌≡◌, ℕ, Bool, false, None, IfOk, OnOk};
 ghost use Rattle.crashdisk.specs.Model.{state_of};
 ghost use Rattle.sqval.specs.Answers.{Files, Done, Page};

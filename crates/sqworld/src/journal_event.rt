@@ -1,4 +1,4 @@
-//! What happens in a run over a rollback journal.
+//! What happens in a run over a rollback journal (own).
 use crashdisk::{Choice, Part};
 
 /// What happens to an engine over a rollback journal and to its disk (own).

@@ -1,4 +1,4 @@
-//! Whole runs over a rollback journal.
+//! Whole runs over a rollback journal (own).
 ghost use Rattle.std.specs.Prelude.{◌≡◌, ℕ, false, IfOk, OnOk, take};
 ghost use Rattle.rollcore.specs.Machine.{Step};
 ghost use Rattle.rollcore.specs.Premises.{Holds};

@@ -1,4 +1,4 @@
-//! Whole runs of the engines over a modelled disk.
+//! Whole runs of the engines over a modelled disk (own).
 #![tactic(auto)]
 
 mod base;

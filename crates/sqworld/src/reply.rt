@@ -1,4 +1,4 @@
-//! What is answered in a run.
+//! What is answered in a run (own).
 ghost use Rattle.std.specs.Prelude.{◌≡◌, []};
 
 use std::alloc::Global;
@@ -18,14 +18,16 @@ pub enum Reply {
     Partial,
     /// No reader of that number is open.
     NoReader,
-    /// It was refused, for the reason of this number.
+    /// It was refused, for the reason that `WalError` or `RollError` gives this number.
     Refused(u8),
 }
 
 /// The bytes of both files when an opening begins.
 #[derive(Debug, PartialEq, Eq, Drop)]
 pub struct Found {
+    /// Of the database.
     pub db: Vec<u8>,
+    /// Of its log.
     pub log: Vec<u8>,
 }
 
@@ -33,8 +35,11 @@ pub struct Found {
 /// the log was unsynced; and place and bytes of each write into it since then that was made, or failed.
 #[derive(Debug, PartialEq, Eq, Drop)]
 pub struct Crashed {
+    /// The bytes that it left.
     pub log: Vec<u8>,
+    /// The bytes when nothing was unsynced.
     pub kept: Vec<u8>,
+    /// The writes since then.
     pub handed: Vec<(u64, Vec<u8>)>,
 }
 
@@ -42,9 +47,13 @@ pub struct Crashed {
 /// found; and on a disk that tears, for each crash what it left.
 #[derive(Debug, PartialEq, Eq, Drop)]
 pub struct Run {
+    /// One for each event.
     pub replies: Vec<Reply>,
+    /// One count for each event, over the whole run.
     pub refused: Vec<u64>,
+    /// One for each opening.
     pub found: Vec<Found>,
+    /// One for each crash, none on a disk that doesn't tear.
     pub crashed: Vec<Crashed>,
 }
 

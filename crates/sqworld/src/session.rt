@@ -1,4 +1,4 @@
-//! An engine that is there, and its readers.
+//! An engine that is there, and its readers (own).
 ghost use Rattle.std.specs.Prelude.{◌≡◌, ◌+◌, ◌<◌, ◌≤◌, ◌^◌, ◌++◌, ◌∷◌, ℕ, [], IfOk, MatchOption, length, get_or, Some, None};
 ghost use Rattle.crashdisk.specs.Model.{state_of};
 ghost use Rattle.sqval.specs.Answers.{Done, Page};

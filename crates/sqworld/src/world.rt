@@ -15,7 +15,7 @@ use crashdisk::ModelDisk;
 use sqval::PageSize;
 use std::alloc::{AllocError, Global};
 
-/// No memory for what a run answers.
+/// No memory for what a run answers (own).
 #[derive(Clone, Copy, Debug, PartialEq, Eq)]
 pub struct NoMemory;
 
@@ -82,9 +82,10 @@ fn go(
     }
 }
 
-/// Answers the events one after another, with an engine on a modelled disk of the base. NoMemory alone, where a vector of the
-/// run's own finds none. Up to the first event at which a premise fails, the replies are a run of the machine: a header or a
-/// frame passes by chance, a pair of salts comes twice, or a disk that tears puts a header or a frame together.
+/// Answers the events one after another, with an engine on a modelled disk of the base (own). NoMemory alone, where a
+/// vector of the run's own finds none. Up to the first event at which a premise fails, the replies are a run of the
+/// machine: a header or a frame passes by chance, a pair of salts comes twice, or a disk that tears puts a header or a
+/// frame together.
 pub fn run_wal(alloc: Global, base: &Base, events: &[Event]) -> Result<Run, NoMemory>
     ensures complete { IfOk result (λ run. IsComplete base.now.tears events.now run) }
     ensures life { IfOk result (λ run. HasLife base.now events.now run) }
