@@ -1,11 +1,12 @@
 -- The words of a command line.
-use Rattle.std.proofs.Common.{◌≡◌, ◌≢◌, ◌⊎◌, inl, inr, ⊎_elim, ℕ, suc, ◌+◌, ◌-◌, ◌<◌, ◌≤◌, List, Bor, ◌++◌, map, length, drop, take, get_or, sym, ◌∙◌, ap, arith}
-use Rattle.std.specs.Prelude.{Some, slice_get, codes, option_map}
+use Rattle.std.proofs.Common.{◌≡◌, ◌≢◌, ◌⊎◌, inl, inr, ⊎_elim, ℕ, suc, ◌+◌, ◌-◌, ◌<◌, ◌≤◌, List, [], Bor, ◌++◌, map, length, drop, take, get_or, sym, refl, ◌∙◌, ap, subst, arith}
+use Rattle.std.specs.Prelude.{Bool, true, false, not, IsTrue, Some, slice_get, codes, option_map, nat_eq}
 use Rattle.std.specs.List.{Contains}
+use Rattle.std.specs.Cmp.Lexicographic.{bytes_decides, pointwise}
 use Rattle.std.proofs.lemmas.Option.{slice_get-map, slice_get-get_or, slice_get_within, get_or_from_slice_get, same_Some}
 use Rattle.std.proofs.lemmas.Bool.{cases_lt}
 use Rattle.std.proofs.lemmas.List.{length-map, drop-take, take-map, drop-map}
-use Rattle.sqrescue.specs.Line.{HasPageText}
+use Rattle.sqrescue.specs.Line.{HasPageText, IsFile, IsPlain, StandsFree}
 
 -- word i
 pub at_word : (ws : List (Bor (List ℕ))) (i : ℕ) (d : Bor (List ℕ)) → i < length ws → slice_get (map (λ w. w.now) ws) i ≡ Some (get_or ws i d).now
@@ -16,6 +17,11 @@ is_word ws i d text lt e = same_Some _ _ (sym (at_word ws i d lt) ∙ e)
 
 pub words_long : (ws : List (Bor (List ℕ))) → length (map (λ w. w.now) ws) ≡ length ws
 words_long ws = simp length-map
+
+pub some_word : (ws : List (Bor (List ℕ))) (i : ℕ) → i < length ws → (word : List ℕ) × (slice_get (map (λ w. w.now) ws) i ≡ Some word)
+some_word ws i lt =
+    let within : i < length (map (λ (w : Bor (List ℕ)). w.now) ws) = omega (arith, words_long ws) in
+    (get_or (map (λ w. w.now) ws) i [], slice_get-get_or (map (λ w. w.now) ws) i [] within)
 
 -- a word that stands nowhere
 pub not_there : (xs : List (List ℕ)) (text : List ℕ) → ((k : ℕ) → k < length xs → slice_get xs k ≢ Some text) → ¬ Contains xs text
@@ -81,3 +87,78 @@ options_are ws from end is le =
     ∙ ap (take (end - 2)) (sym (drop-map (λ (w : Bor (List ℕ)). w.now) 2 ws))
     ∙ sym (drop-take 2 (end - 2) (map (λ (w : Bor (List ℕ)). w.now) ws))
     ∙ ap (λ n. drop 2 (take n (map (λ (w : Bor (List ℕ)). w.now) ws))) split
+
+-- ---- words that stand for themselves
+
+module _ (ws : List (Bor (List ℕ))) (i : ℕ) (two : 2 ≤ i) (lt : i < length ws) where
+  pub free_behind : Contains (map (λ w. w.now) (take (i - 2) (drop 2 ws))) (codes "--") → (word : List ℕ) → slice_get (map (λ w. w.now) ws) i ≡ Some word → StandsFree (map (λ w. w.now) ws) i word
+  free_behind there word is = record {
+    behind = two;
+    is = is;
+    free = inl (rw (← options_are ws 2 i refl two) there);
+  }
+
+  pub free_plain : (d e : Bor (List ℕ)) → IsPlain (get_or ws i d).now → (get_or ws (i - 1) e).now ≢ codes "--page" → (word : List ℕ) → slice_get (map (λ w. w.now) ws) i ≡ Some word → StandsFree (map (λ w. w.now) ws) i word
+  free_plain d e plain other word is = record {
+    behind = two;
+    is = is;
+    free = inr (
+      (λ rest begins. plain rest (is_word ws i d word lt is ∙ begins)),
+      (λ named. let before : i - 1 < length ws = omega arith in other (is_word ws (i - 1) e (codes "--page") before named)),
+    );
+  }
+
+  pub option_not_free : (d : Bor (List ℕ)) → ¬ Contains (map (λ w. w.now) (take (i - 2) (drop 2 ws))) (codes "--") → ¬ IsPlain (get_or ws i d).now → (word : List ℕ) → ¬ StandsFree (map (λ w. w.now) ws) i word
+  option_not_free d none option word free = ⊎_elim
+      (λ there. none (rw (options_are ws 2 i refl two) there))
+      (λ plain. option (λ rest begins. plain.0 rest (sym (is_word ws i d word lt free.is) ∙ begins)))
+      free.free
+
+  pub value_not_free : (e : Bor (List ℕ)) → ¬ Contains (map (λ w. w.now) (take (i - 2) (drop 2 ws))) (codes "--") → (get_or ws (i - 1) e).now ≡ codes "--page" → (word : List ℕ) → ¬ StandsFree (map (λ w. w.now) ws) i word
+  value_not_free e none named word free = ⊎_elim
+      (λ there. none (rw (options_are ws 2 i refl two) there))
+      (λ plain. let before : i - 1 < length ws = omega arith in plain.1 (at_word ws (i - 1) e before ∙ ap Some named))
+      free.free
+
+pub clash : (b : Bool) → b ≡ true → b ≡ false → ⊥
+clash b t f = let g : true ≡ false = sym t ∙ f in cc
+
+-- what a test whether two words differ has told
+pub differ : (xs ys : List ℕ) (r : Bool) → r ≡ not (pointwise nat_eq xs ys) → IsTrue r → xs ≢ ys
+differ xs ys r e t same = clash r t (e ∙ ap not ((bytes_decides xs ys).1 same))
+
+not_false : (b : Bool) → not b ≡ false → b ≡ true
+not_false true e = refl
+not_false false e = sym e
+
+pub agree : (xs ys : List ℕ) (r : Bool) → r ≡ not (pointwise nat_eq xs ys) → r ≡ false → xs ≡ ys
+agree xs ys r e f = (bytes_decides xs ys).0 (not_false (pointwise nat_eq xs ys) (sym e ∙ f))
+
+-- no word between two places stands for itself
+abbrev pub NoneFree : (words : List (List ℕ)) → (from to : ℕ) → Type 0
+NoneFree words from to = (k : ℕ) (word : List ℕ) → from ≤ k → k < to → StandsFree words k word → ⊥
+
+pub none_free_more : (words : List (List ℕ)) (from i : ℕ) → NoneFree words from i → ((word : List ℕ) → ¬ StandsFree words i word) → NoneFree words from (i + 1)
+none_free_more words from i none here k word above below free = ⊎_elim (λ less. none k word above less free)
+    (λ ge. let same : k ≡ i = omega arith in
+    let P : ℕ → Type 0 = λ n. StandsFree words n word in
+    here word (subst P same free))
+    (cases_lt k i)
+
+pub only_free : (words : List (List ℕ)) (i : ℕ) → NoneFree words 2 i → ((k : ℕ) (word : List ℕ) → i + 1 ≤ k → ¬ StandsFree words k word) → (j : ℕ) (other : List ℕ) → StandsFree words j other → j ≡ i
+only_free words i before behind j other free = ⊎_elim (λ less. absurd (before j other free.behind less free))
+    (λ ge. ⊎_elim (λ more. let above : i + 1 ≤ j = omega arith in absurd (behind j other above free)) (λ le. omega arith) (cases_lt i j))
+    (cases_lt j i)
+
+-- ---- what isn't the file
+
+pub two_free : (words : List (List ℕ)) (file : List ℕ) (i j : ℕ) (word other : List ℕ) → StandsFree words i word → StandsFree words j other → i + 1 ≤ j → ¬ IsFile words file
+two_free words file i j word other here there more f = omega (arith, f.2 i word here, f.2 j other there)
+
+pub other_file : (words : List (List ℕ)) (file : List ℕ) (i : ℕ) (word : List ℕ) → StandsFree words i word → word ≢ file → ¬ IsFile words file
+other_file words file i word here differs f = differs (same_Some _ _ (sym here.is ∙ ap (λ n. slice_get words n) (f.2 i word here) ∙ f.1.is))
+
+pub no_file : (words : List (List ℕ)) (file : List ℕ) (n : ℕ) → length words ≤ n → NoneFree words 2 n → ¬ IsFile words file
+no_file words file n le none f =
+    let within : f.0 < length words = slice_get_within words f.0 file f.1.is in
+    none f.0 file f.1.behind (omega arith) f.1

@@ -1,5 +1,5 @@
 -- What the words of a command line ask for.
-use Rattle.std.specs.Prelude.{◌≡◌, ◌≢◌, ◌⊎◌, ℕ, suc, ◌^◌, ◌<◌, ◌≤◌, List, ◌++◌, length, take, drop, slice_get, Some, codes}
+use Rattle.std.specs.Prelude.{◌≡◌, ◌≢◌, ◌⊎◌, ℕ, suc, ◌-◌, ◌^◌, ◌<◌, ◌≤◌, List, [], ◌++◌, length, take, drop, slice_get, Some, codes}
 use Rattle.std.specs.List.{Contains}
 use Rattle.std.specs.Str.Parse.{IsNumeral, digits_value, without_leading_plus}
 use Rattle.sqrescue.specs.declared.requests.Part.{Part}
@@ -24,16 +24,45 @@ HasPageText options text =
 abbrev pub IsNumber : (text : List ℕ) → (n : ℕ) → Type 0
 IsNumber text n = IsNumeral 10 (without_leading_plus text) × (digits_value 10 (without_leading_plus text) ≡ n)
 
+-- and one that a page can have
+abbrev pub IsPageNumber : (text : List ℕ) → (n : ℕ) → Type 0
+IsPageNumber text n = (1 ≤ n) × (n < 2 ^ 32) × IsNumber text n
+
 -- the options ask for this part
 abbrev pub AsksPart : (options : List (List ℕ)) → Part → Type 0
 AsksPart options Header = (¬ Contains options (codes "--log")) × ((text : List ℕ) → ¬ HasPageText options text)
-AsksPart options (Page n) = (1 ≤ n) × (n < 2 ^ 32) × (¬ Contains options (codes "--log")) × ((text : List ℕ) × HasPageText options text × IsNumber text n)
+AsksPart options (Page n) = (¬ Contains options (codes "--log")) × ((text : List ℕ) × HasPageText options text × IsPageNumber text n)
 AsksPart options Log = Contains options (codes "--log") × ((text : List ℕ) → ¬ HasPageText options text)
+
+-- they ask for none: for a page by what is no page's number, or for a page and for the log
+abbrev pub AsksNoPart : (options : List (List ℕ)) → Type 0
+AsksNoPart options =
+    (text : List ℕ) × HasPageText options text × (((n : ℕ) → ¬ IsPageNumber text n) ⊎ Contains options (codes "--log"))
+
+-- a word that is no option: it doesn't begin with a "-", or is a "-" alone
+abbrev pub IsPlain : (word : List ℕ) → Type 0
+IsPlain word = (rest : List ℕ) → word ≡ codes "-" ++ rest → rest ≡ []
+
+-- a word behind the command that stands for itself: behind a "--", or else plain and not the value of "--page"
+pub record StandsFree (words : List (List ℕ)) (i : ℕ) (word : List ℕ) : Type 0 where
+  pub behind : 2 ≤ i
+  pub is : slice_get words i ≡ Some word
+  pub free : Contains (drop 2 (take i words)) (codes "--") ⊎ (IsPlain word × (slice_get words (i - 1) ≢ Some (codes "--page")))
+
+-- the file is the only such word
+abbrev pub IsFile : (words : List (List ℕ)) → (file : List ℕ) → Type 0
+IsFile words file = (i : ℕ) × StandsFree words i file × ((j : ℕ) (other : List ℕ) → StandsFree words j other → j ≡ i)
 
 -- the second word is the command, the file stands behind it, and the options name the part
 abbrev pub Asks : List (List ℕ) → Request → Type 0
 Asks words (Show file part) =
-    (slice_get words 1 ≡ Some (codes "show")) × Contains (drop 2 words) file.now
+    (slice_get words 1 ≡ Some (codes "show")) × IsFile words file.now
     × ((options : List (List ℕ)) × AreOptions words options × AsksPart options part)
-Asks words (Check file) = (slice_get words 1 ≡ Some (codes "check")) × Contains (drop 2 words) file.now
-Asks words (Recover file) = (slice_get words 1 ≡ Some (codes "recover")) × Contains (drop 2 words) file.now
+Asks words (Check file) = (slice_get words 1 ≡ Some (codes "check")) × IsFile words file.now
+Asks words (Recover file) = (slice_get words 1 ≡ Some (codes "recover")) × IsFile words file.now
+
+-- the words, of this command and this file, ask for nothing: the command is another one, or the options of `show` ask for no part
+abbrev pub AsksNothing : (words : List (List ℕ)) → (command file : List ℕ) → Type 0
+AsksNothing words command file = slice_get words 1 ≡ Some command → IsFile words file
+    → (command ≢ codes "check") × (command ≢ codes "recover")
+    × (command ≡ codes "show" → (options : List (List ℕ)) × AreOptions words options × AsksNoPart options)

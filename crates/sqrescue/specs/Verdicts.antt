@@ -10,8 +10,7 @@ use Rattle.sqrescue.specs.declared.outcome.Refusal.TheVariants as refusals
 use Rattle.sqrescue.specs.declared.view.View.{View}
 use Rattle.sqrescue.specs.declared.verdict.Verdict.{Verdict}
 use Rattle.sqrescue.specs.declared.verdict.Verdict.TheVariants.{Clean, Damaged}
-use Rattle.sqrescue.specs.declared.view_error.ViewError.{ViewError}
-use Rattle.sqrescue.specs.declared.view_error.ViewError.TheVariants.{TwoLogs, TooLarge, Header, Unread, NoMemory}
+use Rattle.sqrescue.specs.declared.view_error.ViewError.TheVariants.{TwoLogs, TooLarge, Header}
 
 -- of a database of pages of this size: it is well formed, and the report is its; or it isn't, and the fault stands at the page
 abbrev pub Finds : Database → (size : ℕ) → Verdict → Type 0
@@ -31,15 +30,6 @@ IsHeadless db wal journal (Damaged e) = (e.page ≡ 1) × ViewRefused db wal jou
 abbrev pub IsVerdict : (db wal journal : List ℕ) → Verdict → Type 0
 IsVerdict db wal journal verdict =
     ((size : ℕ) × (d : Database) × Views size db wal journal d × Finds d size verdict) ⊎ IsHeadless db wal journal verdict
-
--- ---- Refusals.
-
-abbrev pub refusal_of : ViewError → Refusal
-refusal_of TwoLogs = refusals.TwoLogs
-refusal_of TooLarge = refusals.TooLarge
-refusal_of (Header fault) = refusals.NotADatabase
-refusal_of Unread = refusals.FileFailed
-refusal_of NoMemory = refusals.NoMemory
 
 -- why a database isn't judged: its header says that it has pointer maps, or memory ran out
 abbrev pub IsUnjudged : Database → Refusal → Type 0

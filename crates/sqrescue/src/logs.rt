@@ -101,7 +101,20 @@ fn bytes_of<R: Files + AllocGlobal>(rt: &R, path: &str) -> Result<Vec<u8>, Refus
     }
 }
 
-/// An opened database file, and the bytes of its logs.
+/// The bytes of a journal that is hot; none of one that isn't, of which no more than the header is read.
+fn hot_bytes<R: Files + AllocGlobal>(rt: &R, path: &str) -> Result<Vec<u8>, Refusal>
+where
+    R::File: FileExt,
+{
+    let length = file_length(rt, path)?;
+    if is_hot(rt, path, length)? {
+        bytes_of(rt, path)
+    } else {
+        Ok(Vec::new(rt.alloc()))
+    }
+}
+
+/// An opened database file, and the bytes of its logs: of a journal only where it is hot.
 #[derive(Drop)]
 pub(crate) struct Contents<F> {
     pub db: OpenedFile<F>,
@@ -109,7 +122,7 @@ pub(crate) struct Contents<F> {
     pub journal: Vec<u8>,
 }
 
-/// Opens a database file, and reads its logs, of which each may be missing.
+/// Opens a database file, and reads its logs, of which each may be missing. A journal that isn't hot shows nothing.
 pub(crate) fn read_all<R: Files + AllocGlobal>(
     rt: &R,
     file: &str,
@@ -125,7 +138,7 @@ where
     Ok(Contents {
         db: OpenedFile::new(db, length),
         wal: bytes_of(rt, wal.as_str())?,
-        journal: bytes_of(rt, journal.as_str())?,
+        journal: hot_bytes(rt, journal.as_str())?,
     })
 }
 

@@ -1,11 +1,20 @@
 //! What a recovery did, or why a command was refused.
-use std::fmt;
+ghost use Rattle.std.specs.Prelude.{◌≡◌};
+ghost use Rattle.std.specs.IoError.{error_kind};
+ghost use Rattle.sqrescue.specs.Refusals.{refusal_of, refusal_of_kind, refusal_of_roll, refusal_of_wal};
+ghost use Rattle.sqrescue.specs.declared.outcome.Refusal.TheVariants.{NoMemory};
+
+use crate::view_error::ViewError;
+use rollcore::RollError;
+use std::alloc::AllocError;
+use std::{fmt, io};
 use thiserror::Error;
+use walcore::WalError;
 
 /// What a recovery did.
 #[derive(Clone, Copy, Debug, PartialEq, Eq)]
 pub enum Outcome {
-    /// There was no log.
+    /// There was no log that counts: no write-ahead log, or an empty one, and no hot journal.
     Nothing,
     /// The log had no committed frame, and was emptied.
     NoFront,
@@ -61,4 +70,62 @@ pub enum Refusal {
     /// No memory.
     #[error("no memory")]
     NoMemory,
+}
+
+impl From<AllocError> for Refusal {
+    ghost from_gives = { λ _ refusal. refusal ≡ NoMemory };
+
+    fn from(_error: AllocError) -> Refusal {
+        Refusal::NoMemory
+    }
+}
+
+impl From<io::Error> for Refusal {
+    ghost from_gives = { λ error refusal. refusal ≡ refusal_of_kind (error_kind error) };
+
+    fn from(error: io::Error) -> Refusal {
+        match error.kind() {
+            io::ErrorKind::OutOfMemory => Refusal::NoMemory,
+            _ => Refusal::FileFailed,
+        }
+    }
+}
+
+impl From<ViewError> for Refusal {
+    ghost from_gives = { λ error refusal. refusal ≡ refusal_of error };
+
+    fn from(error: ViewError) -> Refusal {
+        match error {
+            ViewError::TwoLogs => Refusal::TwoLogs,
+            ViewError::TooLarge => Refusal::TooLarge,
+            ViewError::Header(_) => Refusal::NotADatabase,
+            ViewError::Unread => Refusal::FileFailed,
+            ViewError::NoMemory => Refusal::NoMemory,
+        }
+    }
+}
+
+impl From<WalError> for Refusal {
+    ghost from_gives = { λ error refusal. refusal ≡ refusal_of_wal error };
+
+    fn from(error: WalError) -> Refusal {
+        match error {
+            WalError::TooLarge => Refusal::TooLarge,
+            WalError::PageSize => Refusal::PageSizesDiffer,
+            WalError::NoMemory => Refusal::NoMemory,
+            _ => Refusal::FileFailed,
+        }
+    }
+}
+
+impl From<RollError> for Refusal {
+    ghost from_gives = { λ error refusal. refusal ≡ refusal_of_roll error };
+
+    fn from(error: RollError) -> Refusal {
+        match error {
+            RollError::TooLarge => Refusal::TooLarge,
+            RollError::NoMemory => Refusal::NoMemory,
+            _ => Refusal::FileFailed,
+        }
+    }
 }

@@ -5,52 +5,15 @@ use crate::file_disk::{FileDisk, read_or_zeros};
 use crate::file_head::{has_magic, named_page_size};
 use crate::logs::{LogInUse, file_length, log_in_use, scan_file};
 use crate::outcome::{Outcome, Refusal};
-use rollcore::{RollError, replay};
+use rollcore::replay;
 use sqjournal::is_magic;
 use sqval::PageSize;
 use sqwal::{WalFormatError, WalHeader};
-use std::alloc::{AllocError, Global};
+use std::alloc::Global;
 use std::fs::{OpenFile, OpenOptions};
 use std::os::unix::fs::FileExt;
 use std::rt::Files;
-use std::{fs, io};
-use walcore::{WalError, fold};
-
-impl From<io::Error> for Refusal {
-    fn from(error: io::Error) -> Refusal {
-        match error.kind() {
-            io::ErrorKind::OutOfMemory => Refusal::NoMemory,
-            _ => Refusal::FileFailed,
-        }
-    }
-}
-
-impl From<AllocError> for Refusal {
-    fn from(_error: AllocError) -> Refusal {
-        Refusal::NoMemory
-    }
-}
-
-impl From<RollError> for Refusal {
-    fn from(error: RollError) -> Refusal {
-        match error {
-            RollError::TooLarge => Refusal::TooLarge,
-            RollError::NoMemory => Refusal::NoMemory,
-            _ => Refusal::FileFailed,
-        }
-    }
-}
-
-impl From<WalError> for Refusal {
-    fn from(error: WalError) -> Refusal {
-        match error {
-            WalError::TooLarge => Refusal::TooLarge,
-            WalError::PageSize => Refusal::PageSizesDiffer,
-            WalError::NoMemory => Refusal::NoMemory,
-            _ => Refusal::FileFailed,
-        }
-    }
-}
+use walcore::fold;
 
 /// Recovers a database file from the log that counts beside it: folds FILE-wal into it and empties FILE-wal, or replays
 /// a hot FILE-journal into it and zeroes the journal's header. No file is made, and where no log counts none is written.

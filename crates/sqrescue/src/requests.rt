@@ -19,7 +19,7 @@ pub enum Request<'a> {
     Show { file: &'a str, part: Part },
     /// To check this database file as its log has it.
     Check { file: &'a str },
-    /// To fold the log of this database file into it.
+    /// To recover this database file: to fold its write-ahead log into it, or to roll it back by its hot journal.
     Recover { file: &'a str },
 }
 

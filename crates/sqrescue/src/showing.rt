@@ -4,7 +4,8 @@ ghost use Rattle.sqval.specs.PageSize.{IsPageSize};
 ghost use Rattle.sqpage.specs.Chain.{payload_size};
 ghost use Rattle.sqval.specs.Database.{page as page_at};
 ghost use Rattle.sqrescue.specs.LogView.{IsShown, pages_of};
-ghost use Rattle.sqrescue.specs.Verdicts.{refusal_of};
+ghost use Rattle.sqrescue.specs.declared.outcome.Refusal.TheVariants.{FileFailed, NoMemory};
+ghost use Rattle.sqrescue.specs.declared.showing.ShowError.TheVariants.{Refused, Unwritten};
 
 use crate::file_bytes::FileBytes;
 use crate::logs::{Contents, LogInUse, log_in_use, opened, read_all, replay_file, scan_file};
@@ -14,7 +15,6 @@ use crate::texts::{
     write_bytes, write_cell, write_column, write_header, write_journal, write_log, write_page,
 };
 use crate::view::View;
-use crate::view_error::ViewError;
 use sqpage::{BtreePage, Cell, DbHeader, Fault, PageSource, SourceError, payload};
 use sqval::Record;
 use std::alloc::{AllocError, Global};
@@ -31,40 +31,34 @@ pub enum ShowError {
 }
 
 impl From<Refusal> for ShowError {
+    ghost from_gives = { λ refusal error. error ≡ Refused refusal };
+
     fn from(refusal: Refusal) -> ShowError {
         ShowError::Refused(refusal)
     }
 }
 
 impl From<AllocError> for ShowError {
+    ghost from_gives = { λ _ error. error ≡ Refused NoMemory };
+
     fn from(_error: AllocError) -> ShowError {
         ShowError::Refused(Refusal::NoMemory)
     }
 }
 
 impl From<io::Error> for ShowError {
+    ghost from_gives = { λ _ error. error ≡ Unwritten };
+
     fn from(_error: io::Error) -> ShowError {
         ShowError::Unwritten
     }
 }
 
 impl From<SourceError> for ShowError {
+    ghost from_gives = { λ _ error. error ≡ Refused FileFailed };
+
     fn from(_error: SourceError) -> ShowError {
         ShowError::Refused(Refusal::FileFailed)
-    }
-}
-
-impl From<ViewError> for Refusal {
-    ghost from_gives = { λ error refusal. refusal ≡ refusal_of error };
-
-    fn from(error: ViewError) -> Refusal {
-        match error {
-            ViewError::TwoLogs => Refusal::TwoLogs,
-            ViewError::TooLarge => Refusal::TooLarge,
-            ViewError::Header(_) => Refusal::NotADatabase,
-            ViewError::Unread => Refusal::FileFailed,
-            ViewError::NoMemory => Refusal::NoMemory,
-        }
     }
 }
 

@@ -1,7 +1,7 @@
 //! The words of a command line.
-ghost use Rattle.std.specs.Prelude.{◌≡◌, ◌≢◌, ◌≤◌, ◌++◌, ℕ, false, List, map, drop, slice_get, codes, IfOk, IfSome, IsTrue, MatchOption};
+ghost use Rattle.std.specs.Prelude.{◌≡◌, ◌≢◌, ◌<◌, ◌≤◌, ◌++◌, ℕ, false, List, map, length, slice_get, codes, IfOk, IfSome, IsTrue, MatchOption};
 ghost use Rattle.std.specs.List.{Contains};
-ghost use Rattle.sqrescue.specs.Line.{Asks, AreOptions, AsksPart, HasPageText, IsNumber};
+ghost use Rattle.sqrescue.specs.Line.{Asks, AreOptions, AsksNoPart, AsksNothing, AsksPart, HasPageText, IsFile, IsPageNumber, IsPlain, StandsFree};
 
 use crate::requests::{LineError, Part, Request};
 use clap::error::ErrorKind;
@@ -38,7 +38,9 @@ fn command<'a>(alloc: Global) -> Result<Command<'a>, AllocError> {
         .about("Checks the database as its log has it; writes nothing")
         .arg(file_arg(alloc))?;
     let recover = Command::new(alloc, "recover")
-        .about("Folds the committed frames of the log into the database and empties the log")
+        .about(
+            "Recovers the database: folds its write-ahead log into it, or rolls it back by its hot journal",
+        )
         .arg(file_arg(alloc))?;
     Command::new(alloc, "sqrescue")
         .about("Reads and recovers SQLite databases with their logs")
@@ -62,12 +64,71 @@ fn stands_in(words: &[&str], text: &str) -> bool
     false
 }
 
+/// What stands behind the `-` with which a word begins.
+fn behind_dash<'a>(word: &'a str) -> Option<&'a str>
+    ensures { MatchOption result ((rest : List ℕ) → word.entry.now ≢ codes "-" ++ rest) (λ rest. word.entry.now ≡ codes "-" ++ rest.now) }
+{
+    word.strip_prefix("-")
+}
+
+/// Whether a word is no option.
+fn is_plain(word: &str) -> bool
+    ensures yes { IsTrue result → IsPlain word.now }
+    ensures not { result ≡ false → ¬ IsPlain word.now }
+{
+    match behind_dash(word) {
+        Some(rest) => rest.is_empty(),
+        None => true,
+    }
+}
+
+/// Whether a word behind the command stands for itself.
+fn stands_free(words: &[&str], i: usize) -> bool
+    requires behind { 2 ≤ i }
+    requires within { i < length words.now }
+    ensures yes { IsTrue result → (word : List ℕ) → slice_get (map (λ w. w.now) words.entry.now) i ≡ Some word → StandsFree (map (λ w. w.now) words.entry.now) i word }
+    ensures not { result ≡ false → (word : List ℕ) → ¬ StandsFree (map (λ w. w.now) words.entry.now) i word }
+{
+    stands_in(&words[2..i], "--") || (is_plain(words[i]) && words[i - 1] != "--page")
+}
+
+/// Whether no word from a place on stands for itself.
+fn none_free(words: &[&str], from: usize) -> bool
+    requires { 2 ≤ from }
+    ensures yes { IsTrue result → (i : ℕ) (word : List ℕ) → from ≤ i → ¬ StandsFree (map (λ w. w.now) words.entry.now) i word }
+    ensures not { result ≡ false → (i : ℕ) × (word : List ℕ) × (from ≤ i) × StandsFree (map (λ w. w.now) words.entry.now) i word }
+{
+    for i in from..words.len() {
+        if stands_free(words, i) {
+            return false;
+        }
+    }
+    true
+}
+
+/// Whether the only word that stands for itself is the file.
+fn names_file(words: &[&str], file: &str) -> bool
+    ensures yes { IsTrue result → IsFile (map (λ w. w.now) words.entry.now) file.now }
+    ensures not { result ≡ false → ¬ IsFile (map (λ w. w.now) words.entry.now) file.now }
+{
+    for i in 2..words.len() {
+        if stands_free(words, i) {
+            return words[i] == file && none_free(words, i + 1);
+        }
+    }
+    false
+}
+
 /// Whether the words are a program's name, this command and then words of which one is the file.
 fn is_asked(words: &[&str], command: &str, file: &str) -> bool
     ensures second { IsTrue result → slice_get (map (λ w. w.now) words.entry.now) 1 ≡ Some command.now }
-    ensures behind { IsTrue result → Contains (drop 2 (map (λ w. w.now) words.entry.now)) file.now }
+    ensures file { IsTrue result → IsFile (map (λ w. w.now) words.entry.now) file.now }
+    ensures not { result ≡ false → slice_get (map (λ w. w.now) words.entry.now) 1 ≡ Some command.now → ¬ IsFile (map (λ w. w.now) words.entry.now) file.now }
 {
-    words.len() >= 2 && words[1] == command && stands_in(&words[2..], file)
+    if words.len() < 2 {
+        return false;
+    }
+    words[1] == command && names_file(words, file)
 }
 
 /// The words behind the command and before `--`.
@@ -107,7 +168,7 @@ fn page_text<'a>(options: &'a [&'a str]) -> Option<&'a str>
 
 /// The number of a page. None where the text is none, or 0.
 fn page_number(text: &str) -> Option<u32>
-    ensures { IfSome result (λ n. (1 ≤ n) × IsNumber text.now n) }
+    ensures { MatchOption result ((n : ℕ) → ¬ IsPageNumber text.now n) (IsPageNumber text.now) }
 {
     match text.parse::<u32>() {
         Ok(number) if number != 0 => Some(number),
@@ -117,7 +178,7 @@ fn page_number(text: &str) -> Option<u32>
 
 /// The part that the words ask for. None where its number is none, or where a page and the log are asked for.
 fn part_of(words: &[&str]) -> Option<Part>
-    ensures { IfSome result (λ part. (options : List (List ℕ)) × AreOptions (map (λ w. w.now) words.entry.now) options × AsksPart options part) }
+    ensures { (options : List (List ℕ)) × AreOptions (map (λ w. w.now) words.entry.now) options × MatchOption result (AsksNoPart options) (AsksPart options) }
 {
     let options = options_of(words);
     let log = stands_in(options, "--log");
@@ -135,16 +196,19 @@ fn part_of(words: &[&str]) -> Option<Part>
 
 /// What the words ask for where the command is this one and the file that one; None where they don't say so.
 fn asked<'a>(words: &'a [&'a str], command: &str, file: &'a str) -> Option<Request<'a>>
-    ensures { IfSome result (Asks (map (λ w. w.now) words.entry.now)) }
+    ensures { MatchOption result (AsksNothing (map (λ w. w.now) words.entry.now) command.now file.entry.now) (Asks (map (λ w. w.now) words.entry.now)) }
 {
-    if is_asked(words, "show", file) && command == "show" {
+    if !is_asked(words, command, file) {
+        return None;
+    }
+    if command == "show" {
         let part = part_of(words)?;
         return Some(Request::Show { file, part });
     }
-    if is_asked(words, "check", file) && command == "check" {
+    if command == "check" {
         return Some(Request::Check { file });
     }
-    if is_asked(words, "recover", file) && command == "recover" {
+    if command == "recover" {
         return Some(Request::Recover { file });
     }
     None
