@@ -49,6 +49,24 @@ fn a_stop(rt: HostRuntime) -> Result<(), Fail> {
     Ok(())
 }
 
+// The sector is the one that was asked for, and each error has its number.
+#[test]
+fn sectors_and_numbers(rt: HostRuntime) -> Result<(), Fail> {
+    let alloc = rt.alloc();
+    for sector in [512, 4096, 65536] {
+        let disk = ModelDisk::new(alloc, sector, Vec::new(alloc))?;
+        assert_eq!(rt; disk.sector(), sector);
+    }
+    let numbers = [
+        DiskError::Stopped.number(),
+        DiskError::Failed.number(),
+        DiskError::TooLong.number(),
+        DiskError::NoMemory.number(),
+    ];
+    assert_eq!(rt; numbers, [1, 2, 3, 4]);
+    Ok(())
+}
+
 // What a crash may leave of it.
 #[test]
 fn crashes(rt: HostRuntime) -> Result<(), Fail> {

@@ -1,6 +1,8 @@
 //! Whole runs over a rollback journal, with ample memory: what is asked, beside it what is answered, and what each page is at
 //! the end. The database begins with pages of 512 bytes `A`. A commit of one page `B`, which cuts off the others, syncs the
 //! records and the header of each segment, then the database, then the zeros over the first header.
+mod segments;
+
 use crate::world_tests::{Left, Told, answers_are, filled, left_by_crash};
 use crashdisk::{Choice, Disk, File, FileChoice, ModelDisk, Part, Rest};
 use rollcore::{Refused, Roll, RollError};
@@ -22,6 +24,7 @@ enum Ask {
     OfFour { count: u32, byte: u8, nonce: u32 },
     /// Page 1 is read.
     Read,
+    StopAfter(u64),
     StopAtSync(u64),
     /// The call of this number fails, and nothing is new.
     Fail(u64),
@@ -156,6 +159,7 @@ fn event(alloc: Global, ask: Ask) -> Result<JEvent, AllocError> {
             nonces_from(alloc, nonce, 1)?,
         ),
         Ask::Read => Ok(JEvent::Read { page: 1 }),
+        Ask::StopAfter(calls) => Ok(JEvent::StopAfter(calls)),
         Ask::StopAtSync(sync) => Ok(JEvent::StopAtSync(sync)),
         Ask::Fail(call) => Ok(failure(alloc, call)),
         Ask::Oldest => Ok(JEvent::Crash(Choice::oldest(alloc))),
@@ -197,18 +201,18 @@ fn run_as(alloc: Global, base: &Base, rows: &[(Ask, Told)], shown: Shown) -> Res
     Ok(run)
 }
 
-/// What is shown after a commit that stops at a sync, a crash and an opening.
+/// What is shown after a commit that this stops, a crash and an opening.
 fn after_stop(
     alloc: Global,
     base: &Base,
     commit: Ask,
-    sync: u64,
+    stop: Ask,
     crash: Ask,
     shown: Shown,
 ) -> Result<(), Fail> {
     let rows = [
         (Ask::Open, Told::Done),
-        (Ask::StopAtSync(sync), Told::Done),
+        (stop, Told::Done),
         (commit, Told::Refused(15)),
         (crash, Told::Done),
         (Ask::Open, Told::Done),
@@ -240,7 +244,21 @@ fn a_commit_that_stops(rt: HostRuntime) -> Result<(), Fail> {
         (4, Ask::Oldest, Shown::Pages(3, b'A')),
         (4, Ask::Newest, Shown::Pages(1, b'B')),
     ] {
-        after_stop(alloc, &base, COMMIT, sync, crash, shown)?;
+        after_stop(alloc, &base, COMMIT, Ask::StopAtSync(sync), crash, shown)?;
+    }
+    Ok(())
+}
+
+// The disk stops at the first call of a commit, or at a later one, but before the journal is down.
+#[test]
+fn a_commit_that_stops_at_a_call(rt: HostRuntime) -> Result<(), Fail> {
+    let alloc = rt.alloc();
+    let base = base(alloc, false, 3)?;
+    for calls in [0, 3] {
+        for crash in [Ask::Oldest, Ask::Newest] {
+            let stop = Ask::StopAfter(calls);
+            after_stop(alloc, &base, COMMIT, stop, crash, Shown::Pages(3, b'A'))?;
+        }
     }
     Ok(())
 }
@@ -353,7 +371,7 @@ fn two_segments(rt: HostRuntime) -> Result<(), Fail> {
         (6, Ask::Oldest, Shown::Pages(65, b'A')),
         (6, Ask::Newest, Shown::Pages(1, b'B')),
     ] {
-        after_stop(alloc, &base, commit, sync, crash, shown)?;
+        after_stop(alloc, &base, commit, Ask::StopAtSync(sync), crash, shown)?;
     }
     Ok(())
 }
@@ -368,7 +386,7 @@ fn torn_sectors(rt: HostRuntime) -> Result<(), Fail> {
         (3, Ask::TornDatabase, Shown::Pages(3, b'A')),
         (4, Ask::TornJournal, Shown::Pages(1, b'B')),
     ] {
-        after_stop(alloc, &base, COMMIT, sync, crash, shown)?;
+        after_stop(alloc, &base, COMMIT, Ask::StopAtSync(sync), crash, shown)?;
     }
     Ok(())
 }

@@ -1,4 +1,6 @@
 //! The engine over a rollback journal.
+mod openings;
+
 use crashdisk::{Disk, File, ModelDisk};
 use rollcore::{Refused, Replayed, Roll, RollError, replay, replay_synced};
 use sqjournal::{JournalHeader, page_sum};

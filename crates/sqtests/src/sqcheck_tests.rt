@@ -200,84 +200,70 @@ fn faults_of_one_piece(rt: HostRuntime) -> Result<(), Fail> {
     Ok(())
 }
 
+/// A row of no column but a text, in its cell at 503 of page 1.
+const SHORT: [u8; 9] = [7, 7, 5, 0, 9, 0x0f, 1, 0x61, 0xff];
+
+/// Files of so many pages, with the two pieces in each, and the page and the fault that are found.
+const TWO_PIECES: [(usize, [(usize, &[u8]); 2], u32, Fault); 9] = [
+    (
+        1,
+        [
+            (100, b"\x0d\x00\x00\x00\x01\x00\x6c\x00\x01\xf7"),
+            (503, &SHORT),
+        ],
+        1,
+        Fault::Overlap,
+    ),
+    (
+        1,
+        [
+            (100, b"\x0d\x00\x00\x00\x01\x00\xf3\x00\x00\xf3"),
+            (243, b"\xff\xff\xff\xff\xff\xff\xff\xff\xff\x01"),
+        ],
+        1,
+        Fault::ChainCut,
+    ),
+    (
+        1,
+        [
+            (100, b"\x0d\x00\x00\x00\x02\x01\xf8\x00\x01\xfc\x01\xf8"),
+            (504, b"\x00\x01\x00\x00\x00\x02"),
+        ],
+        1,
+        Fault::KeyOrder,
+    ),
+    (
+        3,
+        [
+            (
+                100,
+                b"\x05\x00\x00\x00\x02\x01\xf4\x00\x00\x00\x00\x02\x01\xfd\x01\xf4",
+            ),
+            (500, b"\x00\x00\x00\x03\x05"),
+        ],
+        1,
+        Fault::CellOutside,
+    ),
+    (1, [(100, &ONE_CELL), (503, &SHORT)], 1, Fault::SchemaRecord),
+    (1, [(100, &ONE_CELL), (503, &ROW)], 1, Fault::PageOutside),
+    (2, [(100, &ONE_CELL), (503, &ROW)], 2, Fault::Kind),
+    (
+        2,
+        [(35, b"\x02\x00\x00\x00\x01"), (515, b"\x02")],
+        2,
+        Fault::PageTwice,
+    ),
+    (
+        2,
+        [(35, b"\x02\x00\x00\x00\x01"), (519, b"\x7f")],
+        2,
+        Fault::FreeCount,
+    ),
+];
+
 #[test]
 fn faults_of_two_pieces(rt: HostRuntime) -> Result<(), Fail> {
-    let short = [7, 7, 5, 0, 9, 0x0f, 1, 0x61, 0xff];
-    for (pages, at, piece, then, other, page, fault) in [
-        (
-            1,
-            100,
-            [0x0d, 0, 0, 0, 1, 0, 0x6c, 0, 1, 0xf7].as_slice(),
-            503,
-            short.as_slice(),
-            1,
-            Fault::Overlap,
-        ),
-        (
-            1,
-            100,
-            [0x0d, 0, 0, 0, 1, 0, 0xf3, 0, 0, 0xf3].as_slice(),
-            243,
-            [0xff, 0xff, 0xff, 0xff, 0xff, 0xff, 0xff, 0xff, 0xff, 1].as_slice(),
-            1,
-            Fault::ChainCut,
-        ),
-        (
-            1,
-            100,
-            [0x0d, 0, 0, 0, 2, 1, 0xf8, 0, 1, 0xfc, 1, 0xf8].as_slice(),
-            504,
-            [0, 1, 0, 0, 0, 2].as_slice(),
-            1,
-            Fault::KeyOrder,
-        ),
-        (
-            1,
-            100,
-            ONE_CELL.as_slice(),
-            503,
-            short.as_slice(),
-            1,
-            Fault::SchemaRecord,
-        ),
-        (
-            1,
-            100,
-            ONE_CELL.as_slice(),
-            503,
-            ROW.as_slice(),
-            1,
-            Fault::PageOutside,
-        ),
-        (
-            2,
-            100,
-            ONE_CELL.as_slice(),
-            503,
-            ROW.as_slice(),
-            2,
-            Fault::Kind,
-        ),
-        (
-            2,
-            35,
-            [2, 0, 0, 0, 1].as_slice(),
-            515,
-            [2].as_slice(),
-            2,
-            Fault::PageTwice,
-        ),
-        (
-            2,
-            35,
-            [2, 0, 0, 0, 1].as_slice(),
-            519,
-            [127].as_slice(),
-            2,
-            Fault::FreeCount,
-        ),
-    ] {
-        let pieces = [(at, piece), (then, other)];
+    for (pages, pieces, page, fault) in TWO_PIECES {
         refuses(&rt, rt.alloc(), pages, &pieces, page, fault)?;
     }
     Ok(())

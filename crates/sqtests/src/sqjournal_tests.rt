@@ -152,7 +152,11 @@ fn segments_and_stops(rt: HostRuntime) -> Result<(), Fail> {
         set(&mut two, at, 0);
     }
     assert!(rt; replay(rt.alloc(), &two, 7).is_err_and(|e| e.number() == 1));
+    Ok(())
+}
 
+#[test]
+fn segments_in_wide_sectors(rt: HostRuntime) -> Result<(), Fail> {
     let mut wide = Vec::new(rt.alloc());
     push_header(&mut wide, 1, 3, PageSize::new(4096).expect(&rt, "there"))?;
     push_record(&mut wide, 1, 1, 3)?;
@@ -163,6 +167,22 @@ fn segments_and_stops(rt: HostRuntime) -> Result<(), Fail> {
     assert!(rt; says(&replay(rt.alloc(), &wide, 4096)?, &entries, 16384, Why::End));
     wide.resize(16385, 0)?;
     assert!(rt; says(&replay(rt.alloc(), &wide, 1)?, &entries, 16384, Why::Header));
+    Ok(())
+}
+
+// A first segment that counts as many records as there are, with less than one behind its record.
+#[test]
+fn a_segment_without_a_count(rt: HostRuntime) -> Result<(), Fail> {
+    let sector = PageSize::new(512).expect(&rt, "there");
+    let mut one = Vec::new(rt.alloc());
+    push_header(&mut one, u32::MAX, 10, sector)?;
+    push_record(&mut one, 2, 1, 10)?;
+    assert!(rt; says(&replay(rt.alloc(), &one, 7)?, &[(2, 516)], 1032, Why::End));
+    one.resize(1132, 0xee)?;
+    for cut in [1, 100, 4096] {
+        let replay = replay(rt.alloc(), &one, cut)?;
+        assert!(rt; says(&replay, &[(2, 516)], 1032, Why::Short));
+    }
     Ok(())
 }
 

@@ -1,5 +1,6 @@
 //! Worked rows.
-ghost use Rattle.std.specs.Prelude.{◌<◌, ◌≤◌, ◌^◌, ◌≡◌, IfOk, length};
+ghost use Rattle.std.specs.Prelude.{◌+◌, ◌<◌, ◌≤◌, ◌^◌, ◌≡◌, IfOk, length};
+ghost use Rattle.sqval.specs.PageSize.{IsPageSize};
 
 use sqpage::{
     BtreePage, Cell, CheckError, DbHeader, Fault, Kind, PageSource, SliceSource, freelist,
@@ -284,6 +285,7 @@ fn page_faults(rt: HostRuntime) -> Result<(), Fail> {
     Ok(())
 }
 
+// The cells of a page of 65536 bytes begin at its end where 0 is written.
 #[test]
 fn the_largest_page(rt: HostRuntime) -> Result<(), Fail> {
     let size = PageSize::new(65536).expect(&rt, "a page size");
@@ -292,6 +294,7 @@ fn the_largest_page(rt: HostRuntime) -> Result<(), Fail> {
     bytes[0] = 0x0a;
     let page = BtreePage::new(&bytes, 3, 65536).map_err(|_| "refused")?;
     assert!(rt; page.kind() == Kind::IndexLeaf && page.len() == 0);
+    assert!(rt; page.layout(rt.alloc()).is_ok());
     Ok(())
 }
 
@@ -388,85 +391,134 @@ fn layout_fault(
     }
 }
 
+/// The nine bytes of a cell.
+const CELL: [u8; 9] = [7, 7, 5, 0, 9, 0x0f, 1, 0x61, 0xff];
+
+/// How pages begin, a further piece at its place, and the fault in the layout.
+const LAYOUTS: [(&[u8], usize, &[u8], Option<Fault>); 12] = [
+    (
+        b"\x0d\x00\x00\x00\x01\x01\xf7\x00\x01\xf7",
+        503,
+        &CELL,
+        None,
+    ),
+    (
+        b"\x0d\x00\x00\x00\x01\x01\xf6\x01\x01\xf7",
+        503,
+        &CELL,
+        None,
+    ),
+    (
+        b"\x0d\x00\x00\x00\x01\x01\xfe\x00\x01\xfe",
+        510,
+        b"\x00\x01",
+        None,
+    ),
+    (
+        b"\x0d\x01\xf4\x00\x00\x01\xf4\x00",
+        500,
+        b"\x00\x00\x00\x0c",
+        None,
+    ),
+    (
+        b"\x0d\x01\xf0\x00\x00\x01\xf4\x00",
+        496,
+        b"\x00\x00\x00\x04",
+        Some(Fault::Freeblock),
+    ),
+    (
+        b"\x0d\x01\xf4\x00\x00\x01\xf4\x00",
+        500,
+        b"\x00\x00\x00\x03",
+        Some(Fault::Freeblock),
+    ),
+    (
+        b"\x0d\x01\xf4\x00\x00\x01\xf4\x00",
+        500,
+        b"\x00\x00\x00\x0d",
+        Some(Fault::Freeblock),
+    ),
+    (
+        b"\x0d\x01\xf4\x00\x00\x01\xf4\x00",
+        500,
+        b"\x01\xf4\x00\x04",
+        Some(Fault::Freeblock),
+    ),
+    (
+        b"\x0d\x00\x00\x00\x01\x00\x09\x00\x01\xf7",
+        503,
+        &CELL,
+        Some(Fault::Overlap),
+    ),
+    (
+        b"\x0d\x00\x00\x00\x02\x01\xf7\x00\x01\xf7\x01\xf7",
+        503,
+        &CELL,
+        Some(Fault::Overlap),
+    ),
+    (
+        b"\x0d\x00\x00\x00\x01\x01\xf7\x01\x01\xf7",
+        503,
+        &CELL,
+        Some(Fault::Fragments),
+    ),
+    (
+        b"\x0d\x00\x00\x00\x01\x01\xba\x3d\x01\xf7",
+        503,
+        &CELL,
+        Some(Fault::Fragments),
+    ),
+];
+
 #[test]
 fn layouts(rt: HostRuntime) -> Result<(), Fail> {
-    let cell = [7, 7, 5, 0, 9, 0x0f, 1, 0x61, 0xff];
-    for (begin, at, piece, fault) in [
-        (
-            [0x0d, 0, 0, 0, 1, 1, 0xf7, 0, 1, 0xf7, 0, 0],
-            503,
-            cell.as_slice(),
-            None,
-        ),
-        (
-            [0x0d, 0, 0, 0, 1, 1, 0xf6, 1, 1, 0xf7, 0, 0],
-            503,
-            cell.as_slice(),
-            None,
-        ),
-        (
-            [0x0d, 0, 0, 0, 1, 1, 0xfe, 0, 1, 0xfe, 0, 0],
-            510,
-            [0, 1].as_slice(),
-            None,
-        ),
-        (
-            [0x0d, 1, 0xf4, 0, 0, 1, 0xf4, 0, 0, 0, 0, 0],
-            500,
-            [0, 0, 0, 12].as_slice(),
-            None,
-        ),
-        (
-            [0x0d, 1, 0xf0, 0, 0, 1, 0xf4, 0, 0, 0, 0, 0],
-            496,
-            [0, 0, 0, 4].as_slice(),
-            Some(Fault::Freeblock),
-        ),
-        (
-            [0x0d, 1, 0xf4, 0, 0, 1, 0xf4, 0, 0, 0, 0, 0],
-            500,
-            [0, 0, 0, 3].as_slice(),
-            Some(Fault::Freeblock),
-        ),
-        (
-            [0x0d, 1, 0xf4, 0, 0, 1, 0xf4, 0, 0, 0, 0, 0],
-            500,
-            [0, 0, 0, 13].as_slice(),
-            Some(Fault::Freeblock),
-        ),
-        (
-            [0x0d, 1, 0xf4, 0, 0, 1, 0xf4, 0, 0, 0, 0, 0],
-            500,
-            [1, 0xf4, 0, 4].as_slice(),
-            Some(Fault::Freeblock),
-        ),
-        (
-            [0x0d, 0, 0, 0, 1, 0, 9, 0, 1, 0xf7, 0, 0],
-            503,
-            cell.as_slice(),
-            Some(Fault::Overlap),
-        ),
-        (
-            [0x0d, 0, 0, 0, 2, 1, 0xf7, 0, 1, 0xf7, 1, 0xf7],
-            503,
-            cell.as_slice(),
-            Some(Fault::Overlap),
-        ),
-        (
-            [0x0d, 0, 0, 0, 1, 1, 0xf7, 1, 1, 0xf7, 0, 0],
-            503,
-            cell.as_slice(),
-            Some(Fault::Fragments),
-        ),
-        (
-            [0x0d, 0, 0, 0, 1, 1, 0xba, 61, 1, 0xf7, 0, 0],
-            503,
-            cell.as_slice(),
-            Some(Fault::Fragments),
-        ),
-    ] {
-        let pieces = [(0, begin.as_slice()), (at, piece)];
+    for (begin, at, piece, fault) in LAYOUTS {
+        let pieces = [(0, begin), (at, piece)];
         assert_eq!(rt; layout_fault(&rt, rt.alloc(), &pieces)?, fault);
     }
+    Ok(())
+}
+
+#[test]
+fn kinds(rt: HostRuntime) {
+    for (code, kind, interior, table, payload) in [
+        (2, Kind::IndexInterior, true, false, true),
+        (5, Kind::TableInterior, true, true, false),
+        (10, Kind::IndexLeaf, false, false, true),
+        (13, Kind::TableLeaf, false, true, true),
+    ] {
+        assert_eq!(rt; Kind::of(code), Some(kind));
+        let is = (kind.is_interior(), kind.is_table(), kind.has_payload());
+        assert_eq!(rt; is, (interior, table, payload));
+    }
+    assert_eq!(rt; Kind::of(0), None);
+}
+
+/// The fault in the layout of a page 2 with these bytes, judged with these marks.
+fn fault_in(bytes: &[u8], usable: u32, map: &mut [bool]) -> Result<Option<Fault>, Fault>
+    requires page { IsPageSize (length bytes.now) }
+    requires least { 480 ≤ usable }
+    requires most { usable ≤ length bytes.now }
+    requires room { usable + 4 ≤ length map.old }
+{
+    let page = BtreePage::new(bytes, 2, usable)?;
+    Ok(page.layout_in(map).err())
+}
+
+// A page of one cell whose right child is page 3, without a fragment and with one. The marks hold anything before.
+#[test]
+fn an_interior_page(rt: HostRuntime) -> Result<(), Fail> {
+    let size = PageSize::new(512).expect(&rt, "a page size");
+    let mut bytes = zeros(rt.alloc(), size.get() as usize)?;
+    assert!(rt; bytes.len() == 512);
+    bytes[..14].copy_from_slice(&[5, 0, 0, 0, 1, 1, 0xfb, 0, 0, 0, 0, 3, 1, 0xfb]);
+    bytes[507..].copy_from_slice(&[0, 0, 0, 2, 9]);
+    let page = BtreePage::new(&bytes, 2, 512)?;
+    assert_eq!(rt; page.kind(), Kind::TableInterior);
+    assert_eq!(rt; page.right(), Some(3));
+    let mut map = [true; 516];
+    assert_eq!(rt; fault_in(&bytes, 512, &mut map)?, None);
+    bytes[7] = 1;
+    assert_eq!(rt; fault_in(&bytes, 512, &mut map)?, Some(Fault::Fragments));
     Ok(())
 }

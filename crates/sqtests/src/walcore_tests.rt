@@ -1,5 +1,7 @@
 //! The engine over a write-ahead log.
 mod commits;
+mod folds;
+mod openings;
 
 use crashdisk::{Disk, File, ModelDisk};
 use sqval::PageSize;
@@ -123,6 +125,26 @@ fn a_reader_sees_its_commit(rt: HostRuntime) -> Result<(), Fail> {
     assert_eq!(rt; byte, Some((b'b', hit(0, 0))));
     assert_eq!(rt; last, Ok(()));
     assert_eq!(rt; disk.refused(), 0);
+    Ok(())
+}
+
+// A reader keeps the size of its commit.
+#[test]
+fn a_reader_has_a_size(rt: HostRuntime) -> Result<(), Fail> {
+    let alloc = rt.alloc();
+    let disk = ModelDisk::new(alloc, 512, [b'a'; 1024].to_vec(alloc)?)?;
+    let mut wal = open(alloc, disk, (1, 2))?;
+    let sizes = match wal.begin() {
+        Ok(reader) => {
+            let committed = wal.commit(&[(3, &[b'b'; 512])], 3);
+            let size = reader.size();
+            wal.end(reader);
+            Some((committed, size))
+        }
+        Err(_) => None,
+    };
+    let _ = wal.into_disk();
+    assert_eq!(rt; sizes, Some((Ok(()), 2)));
     Ok(())
 }
 

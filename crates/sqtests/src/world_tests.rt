@@ -65,6 +65,7 @@ enum Ask {
     /// This reader reads this page.
     Read(u64, u32),
     End(u64),
+    StopAfter(u64),
     StopAtSync(u64),
     /// The call of this number fails, and nothing is new.
     Fail(u64),
@@ -170,6 +171,7 @@ fn event(alloc: Global, ask: Ask) -> Result<Event, AllocError> {
         Ask::Begin => Ok(Event::Begin),
         Ask::Read(reader, page) => Ok(Event::Read { reader, page }),
         Ask::End(reader) => Ok(Event::End { reader }),
+        Ask::StopAfter(calls) => Ok(Event::StopAfter(calls)),
         Ask::StopAtSync(sync) => Ok(Event::StopAtSync(sync)),
         Ask::Fail(call) => Ok(failure(alloc, call)),
         Ask::Oldest => Ok(Event::Crash(Choice::oldest(alloc))),
@@ -370,6 +372,32 @@ fn a_restart_fails(rt: HostRuntime) -> Result<(), Fail> {
             ],
         )?;
         let refused = [0u64, 0, 0, 0, 0, 0, 0, 1, 1, 1, 1, 1];
+        assert_eq!(rt; run.refused.as_slice(), refused.as_slice());
+    }
+    Ok(())
+}
+
+// The disk stops behind the first frame of a commit of two pages: no crash leaves any of the commit.
+#[test]
+fn a_commit_that_stops_at_a_call(rt: HostRuntime) -> Result<(), Fail> {
+    let alloc = rt.alloc();
+    for crash in [Ask::Oldest, Ask::Newest] {
+        let run = run_as(
+            alloc,
+            false,
+            &[
+                (Ask::Open(7, 1), Told::Done),
+                (Ask::StopAfter(1), Told::Done),
+                (Ask::Commit(2, b'B'), Told::Refused(15)),
+                (Ask::Begin, Told::Refused(1)),
+                (crash, Told::Done),
+                (Ask::Open(7, 2), Told::Done),
+                (Ask::Begin, Told::Reader(0)),
+                (Ask::Read(0, 1), Told::Page(b'A')),
+                (Ask::Read(0, 2), Told::Refused(5)),
+            ],
+        )?;
+        let refused = [0u64, 0, 1, 1, 1, 1, 1, 1, 1];
         assert_eq!(rt; run.refused.as_slice(), refused.as_slice());
     }
     Ok(())

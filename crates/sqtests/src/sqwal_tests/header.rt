@@ -28,4 +28,5 @@ fn refuses_a_wrong_sum(rt: HostRuntime) {
     let mut bytes = BYTES;
     bytes[31] = 0x92;
     assert_eq!(rt; WalHeader::read(&bytes), Err(WalFormatError::HeaderSum));
+    assert_eq!(rt; WalFormatError::HeaderSum.number(), 3);
 }
