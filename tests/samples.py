@@ -95,3 +95,16 @@ def interior(child):
 def file_of(pages, *pieces):
     """A sound first page and zero pages, so many together, with these pieces put at their places."""
     return put_all(first_page(pages) + bytes((pages - 1) * PAGE), pieces)
+
+
+def uneven(last):
+    """A database of four pages: page 1 leads to a leaf on level 2 and, over page 3, to this page on level 3."""
+    head = [5, 0, 0, 0, 1, 1, 0xFB, 0, 0, 0, 0, 3, 1, 0xFB]
+    first = put_all(first_page(4), [(100, head), (507, [0, 0, 0, 2, 9])])
+    return first + leaf() + interior(4) + last
+
+
+def deep(last):
+    """A database of 21 pages, each the only child of the one before. This one is the last, on level 21."""
+    first = put(first_page(21), 100, interior(2)[:12])
+    return first + b"".join(interior(child) for child in range(3, 22)) + last

@@ -1,0 +1,304 @@
+"""A plain program that judges a database file as `sqrescue check` does, with all of it in memory: slow, and short enough to
+be compared with the file format by eye. What it says of a file is the line that `check` prints."""
+
+NAMES = ("Magic PageSize Fraction Reserved AutoVacuum Kind CellOutside Overlap Freeblock Fragments ChainCut ChainLong "
+         "PageTwice PageOutside PageUnused KeyOrder Depth FreeCount Source NoMemory SchemaRecord").split()
+INDEX_INTERIOR, TABLE_INTERIOR, INDEX_LEAF, TABLE_LEAF = 2, 5, 10, 13
+MOST_BYTES = 1 << 30
+MOST_LEVELS = 20
+
+
+class Fault(Exception):
+    """The first fault of a database, and the page where it stands."""
+
+    def __init__(self, page, name):
+        self.page, self.name = page, name
+
+
+class TooLarge(Exception):
+    """The database is above the limit."""
+
+
+def number(content, at, size):
+    return int.from_bytes(content[at:at + size], "big")
+
+
+def varint(content, at, end):
+    """The varint at a place and where it ends, or None where it goes past the end."""
+    value = 0
+    for place in range(at, at + 9):
+        if place >= end:
+            return None
+        byte = content[place]
+        if place == at + 8:
+            return value << 8 | byte, place + 1
+        value = value << 7 | byte & 127
+        if byte < 128:
+            return value, place + 1
+
+
+def signed(value):
+    return value - (1 << 64) if value >> 63 else value
+
+
+class Cell:
+    """A cell of a page whose first `usable` bytes count. Its end is None where it goes past them."""
+
+    def __init__(self, page, kind, at, usable):
+        self.at, self.end, self.payload, self.local, self.overflow = at, None, 0, b"", 0
+        self.child = self.rowid = None
+        place = at
+        if kind in (INDEX_INTERIOR, TABLE_INTERIOR):
+            self.child = number(page, place, 4)
+            place += 4
+        if kind != TABLE_INTERIOR:
+            read = varint(page, place, usable)
+            if read is None:
+                return
+            self.payload, place = read
+        if kind in (TABLE_INTERIOR, TABLE_LEAF):
+            read = varint(page, place, usable)
+            if read is None:
+                return
+            self.rowid, place = signed(read[0]), read[1]
+        if kind != TABLE_INTERIOR:
+            size = local_size(self.payload, usable, kind == TABLE_LEAF)
+            self.local = page[place:min(place + size, usable)]
+            place += size
+            if size < self.payload:
+                self.overflow = number(page, place, 4)
+                place += 4
+        if place <= usable:
+            self.end = place
+
+    def links(self, usable):
+        """How many overflow pages its payload needs."""
+        return -(-(self.payload - len(self.local)) // (usable - 4))
+
+
+def local_size(payload, usable, is_table_leaf):
+    """How much of a payload stands in its cell (fileformat2, 1.6)."""
+    most = usable - 35 if is_table_leaf else (usable - 12) * 64 // 255 - 23
+    if payload <= most:
+        return payload
+    least = (usable - 12) * 32 // 255 - 23
+    size = least + (payload - least) % (usable - 4)
+    return size if size <= most else least
+
+
+def root_of(row):
+    """The root that a row of the schema names, 0 for none, or None where it is no such row."""
+    read = varint(row, 0, len(row))
+    if read is None or not read[1] <= read[0] <= len(row):
+        return None
+    end, at = read
+    types = []
+    while at < end:
+        read = varint(row, at, end)
+        if read is None or read[0] in (10, 11):
+            return None
+        types.append(read[0])
+        at = read[1]
+    sizes = [{5: 6, 6: 8, 7: 8, 8: 0, 9: 0}.get(kind, kind if kind < 12 else (kind - 12) // 2) for kind in types]
+    if len(types) < 5 or end + sum(sizes) != len(row):
+        return None
+    kind, place = types[3], end + sum(sizes[:3])
+    if kind in (8, 9):
+        return kind - 8
+    if kind > 6:
+        return None
+    root = int.from_bytes(row[place:place + sizes[3]], "big", signed=True)
+    return root if root >= 0 else None
+
+
+class Tree:
+    """A tree that is being walked: whether it is a table's, and the level of its leaves once one is known."""
+
+    def __init__(self, is_table):
+        self.is_table, self.leaves = is_table, None
+
+
+class Database:
+    """A database file without a log."""
+
+    def __init__(self, file):
+        self.file, self.used, self.trees, self.rows = file, {}, 0, []
+        head = (file[:100] + bytes(100))[:100]
+        size = number(head, 16, 2)
+        self.size = 65536 if size == 1 else size
+        is_size = self.size in [1 << power for power in range(9, 17)]
+        if is_size:
+            is_named = number(head, 28, 4) != 0 and head[24:28] == head[92:96]
+            self.count = number(head, 28, 4) if is_named else -(-len(file) // self.size)
+            if self.count * self.size > MOST_BYTES:
+                raise TooLarge
+        if head[:16] != b"SQLite format 3\0":
+            raise Fault(1, "Magic")
+        if not is_size:
+            raise Fault(1, "PageSize")
+
+    def page(self, p):
+        content = self.file[(p - 1) * self.size:p * self.size]
+        return content + bytes(self.size - len(content))
+
+    def take(self, holder, p, use):
+        if not 1 <= p <= self.count:
+            raise Fault(holder, "PageOutside")
+        if p in self.used:
+            raise Fault(p, "PageTwice")
+        self.used[p] = use
+
+    def check(self):
+        """What `check` counts."""
+        self.judge_header()
+        self.take_freelist()
+        self.take_tree(1, 1, is_schema=True)
+        roots = [(p, self.schema_root(p, row)) for p, row in self.rows]
+        for p, root in roots:
+            if root:
+                self.take_tree(p, root, is_schema=False)
+        for p in range(1, self.count + 1):
+            if p not in self.used:
+                raise Fault(p, "PageUnused")
+        uses = list(self.used.values())
+        return self.count, self.trees, uses.count("b-tree"), uses.count("overflow"), uses.count("free")
+
+    def judge_header(self):
+        if self.count == 0:
+            raise Fault(1, "Magic")
+        first = self.page(1)
+        if first[21:24] != bytes([64, 32, 32]):
+            raise Fault(1, "Fraction")
+        self.usable = self.size - first[20]
+        if self.usable < 480:
+            raise Fault(1, "Reserved")
+        if number(first, 52, 4):
+            raise Fault(1, "AutoVacuum")
+
+    def take_freelist(self):
+        holder, trunk = 1, number(self.page(1), 32, 4)
+        while trunk:
+            self.take(holder, trunk, "free")
+            content = self.page(trunk)
+            leaves = number(content, 4, 4)
+            if leaves > self.usable // 4 - 2:
+                raise Fault(trunk, "FreeCount")
+            for i in range(leaves):
+                self.take(trunk, number(content, 8 + 4 * i, 4), "free")
+            holder, trunk = trunk, number(content, 0, 4)
+        if len(self.used) != number(self.page(1), 36, 4):
+            raise Fault(1, "FreeCount")
+
+    def schema_root(self, p, row):
+        root = root_of(row)
+        if root is None:
+            raise Fault(p, "SchemaRecord")
+        return root
+
+    def take_tree(self, holder, root, is_schema):
+        if not 1 <= root <= self.count:
+            raise Fault(holder, "PageOutside")
+        kind = self.page(root)[100 if root == 1 else 0]
+        tree = Tree(is_schema or kind in (TABLE_INTERIOR, TABLE_LEAF))
+        self.trees += 1
+        self.take_node(tree, is_schema, holder, root, 1, None, None)
+
+    def take_node(self, tree, is_schema, holder, p, level, low, high):
+        """Takes a page of a tree and all below it. Its keys are above `low` and at most `high`."""
+        self.take(holder, p, "b-tree")
+        if level > MOST_LEVELS:
+            raise Fault(p, "Depth")
+        page = self.page(p)
+        kind = page[100 if p == 1 else 0]
+        self.judge_kind(tree, p, kind, level)
+        cells = self.cells_of(p, page, kind)
+        if tree.is_table:
+            judge_keys(p, cells, low, high)
+        for cell in cells:
+            content = self.take_chain(p, cell)
+            if is_schema and kind == TABLE_LEAF:
+                self.rows.append((p, content))
+        if kind in (INDEX_INTERIOR, TABLE_INTERIOR):
+            for cell in cells:
+                self.take_node(tree, is_schema, p, cell.child, level + 1, low, cell.rowid)
+                low = cell.rowid
+            right = number(page, (100 if p == 1 else 0) + 8, 4)
+            self.take_node(tree, is_schema, p, right, level + 1, low, high)
+
+    def judge_kind(self, tree, p, kind, level):
+        kinds = (TABLE_INTERIOR, TABLE_LEAF) if tree.is_table else (INDEX_INTERIOR, INDEX_LEAF)
+        if kind not in kinds:
+            raise Fault(p, "Kind")
+        if kind in (INDEX_LEAF, TABLE_LEAF):
+            tree.leaves = tree.leaves or level
+            if tree.leaves != level:
+                raise Fault(p, "Depth")
+
+    def cells_of(self, p, page, kind):
+        """The cells of a page that is laid out as it should be."""
+        head = 100 if p == 1 else 0
+        pointers = head + (12 if kind in (INDEX_INTERIOR, TABLE_INTERIOR) else 8)
+        behind = pointers + 2 * number(page, head + 3, 2)
+        start = number(page, head + 5, 2) or 65536
+        places = [number(page, at, 2) for at in range(pointers, behind, 2)] if behind <= self.usable else []
+        cells = [Cell(page, kind, at, self.usable) if at >= start else None for at in places]
+        if behind > self.usable or start > self.usable or any(cell is None or cell.end is None for cell in cells):
+            raise Fault(p, "CellOutside")
+        spans = self.freeblocks(p, page, number(page, head + 1, 2), start)
+        spans = sorted(spans + [(cell.at, max(cell.end, cell.at + 4)) for cell in cells])
+        if behind > start or any(second[0] < first[1] for first, second in zip(spans, spans[1:])):
+            raise Fault(p, "Overlap")
+        rest = self.usable - start - sum(min(end, self.usable) - at for at, end in spans)
+        if rest != page[head + 7] or rest > 60:
+            raise Fault(p, "Fragments")
+        return cells
+
+    def freeblocks(self, p, page, at, start):
+        """Where the freeblocks of a page stand."""
+        spans, last = [], 0
+        while at:
+            if at < start or at <= last or at + 4 > self.usable:
+                raise Fault(p, "Freeblock")
+            size = number(page, at + 2, 2)
+            if size < 4 or at + size > self.usable:
+                raise Fault(p, "Freeblock")
+            spans.append((at, at + size))
+            at, last = number(page, at, 2), at
+        return spans
+
+    def take_chain(self, p, cell):
+        """A cell's payload, whose overflow pages are taken."""
+        content, holder, link = cell.local, p, cell.overflow
+        needed = cell.links(self.usable)
+        if needed > self.count:
+            raise Fault(p, "ChainCut")
+        for _ in range(needed):
+            if link == 0:
+                raise Fault(holder, "ChainCut")
+            self.take(holder, link, "overflow")
+            content += self.page(link)[4:self.usable]
+            holder, link = link, number(self.page(link), 0, 4)
+        if link:
+            raise Fault(holder, "ChainLong")
+        return content[:cell.payload]
+
+
+def judge_keys(p, cells, low, high):
+    """Each key of a page of a table is above the one before, and at most the page's bound."""
+    for cell in cells:
+        if low is not None and cell.rowid <= low or high is not None and cell.rowid > high:
+            raise Fault(p, "KeyOrder")
+        low = cell.rowid
+
+
+def check(file):
+    """The status and the text of `sqrescue check` of these bytes, beside which there is no log."""
+    try:
+        counts = Database(file).check()
+    except TooLarge:
+        return 3, "sqrescue: too large\n"
+    except Fault as fault:
+        if fault.name == "AutoVacuum":
+            return 3, "sqrescue: auto-vacuum\n"
+        return 1, f"page {fault.page}: fault {NAMES.index(fault.name) + 1} {fault.name}\n"
+    return 0, "clean: {} pages, {} trees, {} b-tree, {} overflow, {} free\n".format(*counts)
