@@ -8,6 +8,7 @@ use Rattle.crashdisk.specs.declared.file.File.{File}
 use Rattle.crashdisk.specs.declared.file.File.TheVariants.{Db, Log}
 use Rattle.crashdisk.specs.declared.error.DiskError.{DiskError}
 use Rattle.crashdisk.specs.declared.error.DiskError.TheVariants.{Stopped, Failed, TooLong, NoMemory}
+use Rattle.crashdisk.proofs.Called.{no_calls, one_look, one_write, one_cut, one_sync, calls_then}
 use Rattle.crashdisk.proofs.Shuffled.{image_shuffled}
 use Rattle.crashdisk.proofs.Synced.{image_synced}
 use Rattle.crashdisk.proofs.Fixed.{alters_write, alters_cut, fixed_altered}
@@ -92,7 +93,7 @@ module _ (sector : ℕ) (tears : Bool) where
 module _ (f : File) (from to : ℕ) where
   -- before the first call
   pub started : (old : DiskState) → IsSound old.sector (of f old) → Alters f from to old old
-  started old sound = record { sector = refl; tears = refl; other = refl; file = file_same old.sector old.tears from to (of f old) sound }
+  started old sound = record { sector = refl; tears = refl; other = refl; calls = no_calls old; file = file_same old.sector old.tears from to (of f old) sound }
 
   -- two runs
   pub then : (old mid new : DiskState) → Alters f from to old mid → Alters f from to mid new → Alters f from to old new
@@ -100,6 +101,7 @@ module _ (f : File) (from to : ℕ) where
     sector = second.sector ∙ first.sector;
     tears = second.tears ∙ first.tears;
     other = second.other ∙ first.other;
+    calls = calls_then old mid new first.calls second.calls;
     file = file_then old.sector old.tears from to (of f old) (of f mid) (of f new) first.file
         (subst (λ (s : ℕ). AltersFile s old.tears from to (of f mid) (of f new)) first.sector (subst (λ (b : Bool). AltersFile mid.sector b from to (of f mid) (of f new)) first.tears second.file));
   }
@@ -113,6 +115,7 @@ module _ (f : File) (from to : ℕ) where
     sector = synced.elsewhere.sector;
     tears = synced.elsewhere.tears;
     other = synced.elsewhere.other;
+    calls = one_sync f result mid new synced;
     file = file_synced mid.sector mid.tears from to result (of f mid) (of f new) (sound_now old mid so_far) (sound_sync mid.sector result (of f mid) (of f new) (sound_now old mid so_far) synced.file) synced.file;
   })
 
@@ -122,6 +125,7 @@ module _ (f : File) (from to : ℕ) where
     sector = wrote.elsewhere.sector;
     tears = wrote.elsewhere.tears;
     other = wrote.elsewhere.other;
+    calls = one_write f at bytes result mid new wrote;
     file = file_wider mid.sector mid.tears at (at + length bytes) from to (of f mid) (of f new) le le2
         (file_written mid.sector mid.tears at bytes result (of f mid) (of f new) (sound_now old mid so_far)
         (sound_written mid.sector at bytes result (of f mid) (of f new) (sound_now old mid so_far) wrote.are_bytes wrote.within wrote.file) wrote.file);
@@ -133,6 +137,7 @@ module _ (f : File) (from to : ℕ) where
     sector = cut.elsewhere.sector;
     tears = cut.elsewhere.tears;
     other = cut.elsewhere.other;
+    calls = one_cut f n result mid new cut;
     file = file_cut mid.sector mid.tears n from to result (of f mid) (of f new) (sound_now old mid so_far)
         (sound_cut mid.sector n result (of f mid) (of f new) (sound_now old mid so_far) cut.within cut.file) longer within cut.file;
   })
@@ -143,6 +148,7 @@ module _ (f : File) (from to : ℕ) where
     sector = looked.sector;
     tears = looked.tears;
     other = same (other f);
+    calls = one_look end result mid new looked;
     file = subst (λ (s : FileState). AltersFile mid.sector mid.tears from to (of f mid) s) (sym (same f)) (file_same mid.sector mid.tears from to (of f mid) (sound_now old mid so_far));
   })
     where

@@ -1,4 +1,5 @@
 pub mod Altering
+pub mod Called
 pub mod Carrying
 pub mod Changing
 pub mod Digits

@@ -3,15 +3,16 @@ use Rattle.std.proofs.Common.{◌≡◌, ◌⊎◌, inl, inr, ⊎_elim, ℕ, ◌
 use Rattle.std.specs.Prelude.{Result, Err}
 use Rattle.crashdisk.specs.State.{FileState, IsImage, IsSound, longest}
 use Rattle.crashdisk.specs.Call.{DiskState, IsSoundDisk, Writes, Cuts, Looks, ArePresent, EndsWithin, counted, with_write}
-use Rattle.crashdisk.specs.Keeps.{Still, KeepsLog, HadRefusal}
+use Rattle.crashdisk.specs.Keeps.{SameFiles, Still, KeepsLog, HadRefusal}
 use Rattle.crashdisk.specs.declared.file.File.TheVariants.{Db}
 use Rattle.crashdisk.specs.declared.error.DiskError.{DiskError}
 use Rattle.crashdisk.specs.declared.error.DiskError.TheVariants.{TooLong}
+use Rattle.crashdisk.proofs.Called.{no_calls, one_look, one_write, one_cut, calls_then}
 use Rattle.crashdisk.proofs.Keeping.{sound_writes, sound_cuts, sound_looks}
 use Rattle.crashdisk.proofs.Steps.{counted_grows, counted_rises}
 
 pub still : (s : DiskState) → IsSoundDisk s → Still s s
-still s sound = record { sector = refl; tears = refl; db = refl; log = refl; kept = refl; handed = refl; refused = omega arith; count = sound.refused }
+still s sound = record { sector = refl; tears = refl; db = refl; log = refl; kept = refl; handed = refl; refused = omega arith; count = sound.refused; calls = no_calls s }
 
 pub still_then : (a b c : DiskState) → Still a b → Still b c → Still a c
 still_then a b c first second = record {
@@ -23,18 +24,25 @@ still_then a b c first second = record {
   handed = second.handed ∙ first.handed;
   refused = omega (arith, first.refused, second.refused);
   count = second.count;
+  calls = calls_then a b c first.calls second.calls;
 }
+
+pub same_files : (a b : DiskState) → Still a b → SameFiles a b
+same_files a b is = record { sector = is.sector; tears = is.tears; db = is.db; log = is.log; kept = is.kept; handed = is.handed; refused = is.refused; count = is.count }
 
 sound_at : (m n : ℕ) (s t : FileState) → n ≡ m → t ≡ s → IsSound m s → IsSound n t
 sound_at m n s t e f sound = subst (λ (x : ℕ). IsSound x t) (sym e) (subst (λ (x : FileState). IsSound m x) (sym f) sound)
 
-pub still_sound : (a b : DiskState) → IsSoundDisk a → Still a b → IsSoundDisk b
-still_sound a b sound is = record {
+pub same_sound : (a b : DiskState) → IsSoundDisk a → SameFiles a b → IsSoundDisk b
+same_sound a b sound is = record {
   db = sound_at a.sector b.sector a.db b.db is.sector is.db sound.db;
   log = sound_at a.sector b.sector a.log b.log is.sector is.log sound.log;
   refused = is.count;
   untorn = λ whole. let none = sound.untorn (sym is.tears ∙ whole) in (is.kept ∙ none.0, is.handed ∙ none.1);
 }
+
+pub still_sound : (a b : DiskState) → IsSoundDisk a → Still a b → IsSoundDisk b
+still_sound a b sound is = same_sound a b sound (same_files a b is)
 
 pub still_looks : {T : Type 0} (end : ℕ) (result : Result T DiskError) (a b : DiskState) → IsSoundDisk a → Looks end result a b → Still a b
 still_looks end result a b sound looked = record {
@@ -46,10 +54,14 @@ still_looks end result a b sound looked = record {
   handed = looked.handed;
   refused = omega (arith, counted_grows result a.refused sound.refused, looked.refused);
   count = (sound_looks end result a b sound looked).refused;
+  calls = one_look end result a b looked;
 }
 
+pub image_same : (old new : DiskState) → SameFiles old new → (db : List ℕ) → IsImage new.sector new.tears new.db db → IsImage old.sector old.tears old.db db
+image_same old new still db image = subst (λ (n : ℕ). IsImage n old.tears old.db db) still.sector (subst (λ (b : Bool). IsImage new.sector b old.db db) still.tears (subst (λ (s : FileState). IsImage new.sector new.tears s db) still.db image))
+
 pub image_still : (old new : DiskState) → Still old new → (db : List ℕ) → IsImage new.sector new.tears new.db db → IsImage old.sector old.tears old.db db
-image_still old new still db image = subst (λ (n : ℕ). IsImage n old.tears old.db db) still.sector (subst (λ (b : Bool). IsImage new.sector b old.db db) still.tears (subst (λ (s : FileState). IsImage new.sector new.tears s db) still.db image))
+image_still old new still = image_same old new (same_files old new still)
 
 pub present_in : (s t : FileState) (w : List ℕ) → t ≡ s → ArePresent s w → ArePresent t w
 present_in s t w e are = subst (λ (x : FileState). ArePresent x w) (sym e) are
@@ -57,10 +69,10 @@ present_in s t w e are = subst (λ (x : FileState). ArePresent x w) (sym e) are
 -- ---- The log stays.
 
 pub keeps_still : (a b : DiskState) → IsSoundDisk a → Still a b → KeepsLog a b
-keeps_still a b sound is = record { sector = is.sector; tears = is.tears; log = is.log; kept = is.kept; handed = is.handed; refused = is.refused; sound = still_sound a b sound is }
+keeps_still a b sound is = record { sector = is.sector; tears = is.tears; log = is.log; kept = is.kept; handed = is.handed; refused = is.refused; sound = still_sound a b sound is; calls = is.calls }
 
 pub keeps_same : (s : DiskState) → IsSoundDisk s → KeepsLog s s
-keeps_same s sound = record { sector = refl; tears = refl; log = refl; kept = refl; handed = refl; refused = omega arith; sound = sound }
+keeps_same s sound = record { sector = refl; tears = refl; log = refl; kept = refl; handed = refl; refused = omega arith; sound = sound; calls = no_calls s }
 
 pub keeps_then : (a b c : DiskState) → KeepsLog a b → KeepsLog b c → KeepsLog a c
 keeps_then a b c first second = record {
@@ -71,6 +83,7 @@ keeps_then a b c first second = record {
   handed = second.handed ∙ first.handed;
   refused = omega (arith, first.refused, second.refused);
   sound = second.sound;
+  calls = calls_then a b c first.calls second.calls;
 }
 
 pub keeps_write : {T : Type 0} (at : ℕ) (bytes : List ℕ) (result : Result T DiskError) (a b : DiskState) → IsSoundDisk a → Writes Db at bytes result a b → KeepsLog a b
@@ -82,6 +95,7 @@ keeps_write at bytes result a b sound wrote = record {
   handed = wrote.handed ∙ not_handed a.tears;
   refused = omega (arith, counted_grows result a.refused sound.refused, wrote.elsewhere.refused);
   sound = sound_writes Db at bytes result a b sound wrote;
+  calls = one_write Db at bytes result a b wrote;
 }
   where
     not_handed : (tears : Bool) → with_write tears Db result at bytes a.handed ≡ a.handed
@@ -97,6 +111,7 @@ keeps_cut n result a b sound cut = record {
   handed = cut.handed;
   refused = omega (arith, counted_grows result a.refused sound.refused, cut.elsewhere.refused);
   sound = sound_cuts Db n result a b sound cut;
+  calls = one_cut Db n result a b cut;
 }
 
 -- ---- A refused call was counted.

@@ -4,11 +4,11 @@ use Rattle.std.specs.Prelude.{Result}
 use Rattle.std.proofs.lemmas.Bool.{cases_lt}
 use Rattle.crashdisk.specs.State.{IsSectorSize}
 use Rattle.crashdisk.specs.Call.{DiskState, IsSoundDisk, Writes, Cuts, Syncs, Looks}
-use Rattle.crashdisk.specs.Keeps.{Still, Suits}
+use Rattle.crashdisk.specs.Keeps.{SameFiles, Still, Suits}
 use Rattle.crashdisk.specs.declared.file.File.{File}
 use Rattle.crashdisk.specs.declared.error.DiskError.{DiskError}
 use Rattle.crashdisk.proofs.Keeping.{sound_writes, sound_cuts, sound_syncs, sound_looks}
-use Rattle.crashdisk.proofs.Stills.{still_sound}
+use Rattle.crashdisk.proofs.Stills.{same_sound, same_files}
 
 -- a sector that tears is no larger than a page
 pub sector_within : (size : ℕ) (s : DiskState) → Suits size s → s.tears ≡ true → s.sector ≤ size
@@ -22,8 +22,11 @@ suits_by size old new suits sound sector tears = record {
   whole = λ tears_pages. suits.whole (sym tears ∙ tears_pages.0, rw sector at tears_pages.1);
 }
 
+pub suits_same : (size : ℕ) (old new : DiskState) → Suits size old → SameFiles old new → Suits size new
+suits_same size old new suits same = suits_by size old new suits (same_sound old new suits.sound same) same.sector same.tears
+
 pub suits_still : (size : ℕ) (old new : DiskState) → Suits size old → Still old new → Suits size new
-suits_still size old new suits still = suits_by size old new suits (still_sound old new suits.sound still) still.sector still.tears
+suits_still size old new suits still = suits_same size old new suits (same_files old new still)
 
 module _ {T : Type 0} (size : ℕ) where
   pub suits_writes : (f : File) (at : ℕ) (bytes : List ℕ) (result : Result T DiskError) (old new : DiskState) → Suits size old → Writes f at bytes result old new → Suits size new

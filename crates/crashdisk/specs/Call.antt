@@ -1,12 +1,14 @@
 -- What a call of a disk does to it, what a crash does, and how a disk begins (own).
-use Rattle.std.specs.Prelude.{◌≡◌, ℕ, ◌+◌, ◌-◌, ◌<◌, ◌≤◌, ◌^◌, min, max, Bool, true, false, List, [], ◌∷◌, ◌++◌, length, get_or, Result, Ok, Err}
+use Rattle.std.specs.Prelude.{◌≡◌, ◌⊎◌, ℕ, ◌+◌, ◌-◌, ◌<◌, ◌≤◌, ◌^◌, min, max, Bool, true, false, List, [], ◌∷◌, ◌++◌, length, get_or, Result, Ok, Err}
 use Rattle.crashdisk.specs.State.{FileState, byte, written, WriteTouches, cut_to, CutTouches, Changed, IsDone, IsSynced, IsShuffled, IsImage, IsSettled, IsSound, longest}
+use Rattle.crashdisk.specs.Stop.{Settings, past_call, past_sync, stops_call, stops_sync, fails_call, Heeds}
 use Rattle.crashdisk.specs.declared.file.File.{File}
 use Rattle.crashdisk.specs.declared.file.File.TheVariants.{Db, Log}
 use Rattle.crashdisk.specs.declared.error.DiskError.{DiskError}
 use Rattle.crashdisk.specs.declared.error.DiskError.TheVariants.{Stopped, Failed, TooLong, NoMemory}
 
--- what a disk lists: the size of a sector in bytes, whether it tears, both files, and how many calls it refused
+-- what a disk lists: the size of a sector in bytes, whether it tears, both files, how many calls it refused, and what is set
+-- of it
 pub record DiskState : Type 0 where
   pub sector : ℕ
   pub tears : Bool
@@ -16,6 +18,7 @@ pub record DiskState : Type 0 where
   -- on a disk that tears, of the log: its bytes when it last had nothing unsynced, and each write since then
   pub kept : List ℕ
   pub handed : List (ℕ × List ℕ)
+  pub settings : Settings
 
 -- what holds of each disk that keeps its word
 pub record IsSoundDisk (s : DiskState) : Type 0 where
@@ -94,6 +97,8 @@ pub record Writes {T : Type 0} (f : File) (at : ℕ) (bytes : List ℕ) (result 
   pub kept : new.kept ≡ old.kept
   pub handed : new.handed ≡ with_write old.tears f result at bytes old.handed
   pub are_bytes : (i : ℕ) → get_or bytes i 0 < 256
+  pub settings : new.settings ≡ past_call old.settings
+  pub heeds : Heeds (stops_call old.settings.stops) (fails_call old.settings.stops) result
   pub within : EndsWithin result (at + length bytes)
   pub file : ChangedBy old.sector (WriteTouches old.sector (of f old) at bytes) (written (of f old) at bytes) (max (of f old).len (at + length bytes)) result (of f old) (of f new)
 
@@ -102,6 +107,8 @@ pub record Cuts {T : Type 0} (f : File) (n : ℕ) (result : Result T DiskError) 
   pub elsewhere : Elsewhere f result old new
   pub kept : new.kept ≡ old.kept
   pub handed : new.handed ≡ old.handed
+  pub settings : new.settings ≡ past_call old.settings
+  pub heeds : Heeds (stops_call old.settings.stops) (fails_call old.settings.stops) result
   pub within : EndsWithin result n
   pub file : ChangedBy old.sector (CutTouches old.sector (of f old) n) (cut_to (of f old) n) n result (of f old) (of f new)
 
@@ -109,10 +116,12 @@ pub record Cuts {T : Type 0} (f : File) (n : ℕ) (result : Result T DiskError) 
 pub record Syncs {T : Type 0} (f : File) (result : Result T DiskError) (old new : DiskState) : Type 0 where
   pub elsewhere : Elsewhere f result old new
   pub since : SinceSync old.tears f result old new
+  pub settings : new.settings ≡ past_sync old.settings
+  pub heeds : Heeds (stops_sync old.settings.stops) (fails_call old.settings.stops) result
   pub within : EndsWithin result 0
   pub file : SyncedBy old.sector result (of f old) (of f new)
 
--- a call that changes nothing but the count, and would end at this place
+-- a call that changes nothing but the counts, and would end at this place
 pub record Looks {T : Type 0} (end : ℕ) (result : Result T DiskError) (old new : DiskState) : Type 0 where
   pub within : EndsWithin result end
   pub sector : new.sector ≡ old.sector
@@ -122,6 +131,24 @@ pub record Looks {T : Type 0} (end : ℕ) (result : Result T DiskError) (old new
   pub refused : new.refused ≡ counted result old.refused
   pub kept : new.kept ≡ old.kept
   pub handed : new.handed ≡ old.handed
+  pub settings : new.settings ≡ past_call old.settings
+  pub heeds : Heeds (stops_call old.settings.stops) (fails_call old.settings.stops) result
+
+-- one call of a disk, whatever it answers
+abbrev pub IsCall : (old new : DiskState) → Type 0
+IsCall old new = ((f : File) × (at : ℕ) × (bytes : List ℕ) × (result : Result (Unit {0}) DiskError) × Writes f at bytes result old new)
+    ⊎ (((f : File) × (n : ℕ) × (result : Result (Unit {0}) DiskError) × Cuts f n result old new)
+    ⊎ (((f : File) × (result : Result (Unit {0}) DiskError) × Syncs f result old new)
+    ⊎ ((end : ℕ) × (result : Result (Unit {0}) DiskError) × Looks end result old new)))
+
+-- from state to state of a disk by one call each
+abbrev pub GoesThrough : (states : List DiskState) (old new : DiskState) → Type 0
+GoesThrough [] old new = new ≡ old
+GoesThrough (mid ∷ states) old new = IsCall old mid × GoesThrough states mid new
+
+-- nothing was done to a disk but calls
+abbrev pub HasCalls : (old new : DiskState) → Type 0
+HasCalls old new = (states : List DiskState) × GoesThrough states old new
 
 -- what is kept while nothing of the log is unsynced
 abbrev pub kept_of : Bool → List ℕ → List ℕ

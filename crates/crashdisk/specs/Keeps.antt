@@ -2,11 +2,22 @@
 use Rattle.std.specs.Prelude.{◌≡◌, ◌⊎◌, ℕ, ◌+◌, ◌-◌, ◌^◌, ◌<◌, ◌≤◌, true, List, [], length, get_or, take, drop, Result, Ok, Err}
 use Rattle.std.specs.List.{Contains}
 use Rattle.crashdisk.specs.State.{byte, IsSectorSize, IsImage, IsSettled, longest}
-use Rattle.crashdisk.specs.Call.{DiskState, IsSoundDisk, of, ArePresent, Syncs}
+use Rattle.crashdisk.specs.Call.{DiskState, IsSoundDisk, of, ArePresent, Syncs, HasCalls}
 use Rattle.crashdisk.specs.declared.file.File.{File}
 use Rattle.crashdisk.specs.declared.error.DiskError.{DiskError}
 
 -- ---- What stays.
+
+-- both files are as they were, whatever was set of the disk
+pub record SameFiles (old new : DiskState) : Type 0 where
+  pub sector : new.sector ≡ old.sector
+  pub tears : new.tears ≡ old.tears
+  pub db : new.db ≡ old.db
+  pub log : new.log ≡ old.log
+  pub kept : new.kept ≡ old.kept
+  pub handed : new.handed ≡ old.handed
+  pub refused : old.refused ≤ new.refused
+  pub count : new.refused < 2 ^ 64
 
 -- calls that changed no byte
 pub record Still (old new : DiskState) : Type 0 where
@@ -18,6 +29,7 @@ pub record Still (old new : DiskState) : Type 0 where
   pub handed : new.handed ≡ old.handed
   pub refused : old.refused ≤ new.refused
   pub count : new.refused < 2 ^ 64
+  pub calls : HasCalls old new
 
 -- calls that left the log alone
 pub record KeepsLog (old new : DiskState) : Type 0 where
@@ -28,23 +40,26 @@ pub record KeepsLog (old new : DiskState) : Type 0 where
   pub handed : new.handed ≡ old.handed
   pub refused : old.refused ≤ new.refused
   pub sound : IsSoundDisk new
+  pub calls : HasCalls old new
 
 -- no byte has changed
 pub record KeepsBytes (old new : DiskState) : Type 0 where
   pub db : new.db ≡ old.db
   pub log : (bytes : List ℕ) → ArePresent old.log bytes → ArePresent new.log bytes
 
--- sectors stay as they are
+-- Nothing was done to a disk but calls. Its sectors stay as they are.
 pub record IsSameDisk (old new : DiskState) : Type 0 where
   pub sector : new.sector ≡ old.sector
   pub tears : new.tears ≡ old.tears
+  pub calls : HasCalls old new
 
--- The disk is sound, with the same sectors, and its count of refusals hasn't fallen.
+-- Calls of a disk: it is sound, with the same sectors, and its count of refusals hasn't fallen.
 pub record Later (old new : DiskState) : Type 0 where
   pub sector : new.sector ≡ old.sector
   pub tears : new.tears ≡ old.tears
   pub refused : old.refused ≤ new.refused
   pub sound : IsSoundDisk new
+  pub calls : HasCalls old new
 
 -- a call of the disk was refused, or had been so often that the count stands at its greatest
 abbrev pub HadRefusal : (old new : DiskState) → Type 0

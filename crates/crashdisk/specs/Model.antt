@@ -3,16 +3,20 @@ use Rattle.std.specs.Prelude.{◌≡◌, ℕ, suc, Bool, true, false, length, Re
 use Rattle.crashdisk.specs.State.{Value, FileState}
 use Rattle.crashdisk.specs.Call.{DiskState}
 use Rattle.crashdisk.specs.Held.{file_of, IsPicked, IsTurned, picked}
-use Rattle.crashdisk.specs.Stop.{Judged, stops_call, stops_sync, fails_call, after_call, after_sync}
+use Rattle.crashdisk.specs.Stop.{Judged, Settings, stops_call, stops_sync, fails_call, after_call, after_sync}
 use Rattle.crashdisk.specs.Since.{kept_bytes, handed_writes}
 use Rattle.crashdisk.specs.declared.held.Part.{Part}
 use Rattle.crashdisk.specs.declared.model.ModelDisk.{ModelDisk}
 use Rattle.crashdisk.specs.declared.error.DiskError.{DiskError}
 use Rattle.crashdisk.specs.declared.error.DiskError.TheVariants.{Failed}
 
+-- what is set of it
+abbrev pub settings_of : ModelDisk → Settings
+settings_of disk = record { stops = disk.stops; pick = disk.part.pick.items; new_len = disk.part.new_len }
+
 -- what it lists
 abbrev pub state_of : ModelDisk → DiskState
-state_of disk = record { sector = disk.sector; tears = disk.tears; db = file_of disk.sector disk.db; log = file_of disk.sector disk.log; refused = disk.refused; kept = kept_bytes disk.since; handed = handed_writes disk.since }
+state_of disk = record { sector = disk.sector; tears = disk.tears; db = file_of disk.sector disk.db; log = file_of disk.sector disk.log; refused = disk.refused; kept = kept_bytes disk.since; handed = handed_writes disk.since; settings = settings_of disk }
 
 -- A call was judged as it was set, and counted. It may want memory or not.
 pub record IsCounted {T : Type 0} (wants : Bool) (result : Result T DiskError) (old new : ModelDisk) : Type 0 where

@@ -1,5 +1,5 @@
 -- When a modelled disk stops, and which call of it fails (own).
-use Rattle.std.specs.Prelude.{◌≡◌, ℕ, ◌-◌, Bool, true, false, ◌||◌, nat_eq, Option, Some, None, Result, Ok, Err}
+use Rattle.std.specs.Prelude.{◌≡◌, ℕ, ◌-◌, Bool, true, false, ◌||◌, nat_eq, Option, Some, None, Result, Ok, Err, List}
 use Rattle.crashdisk.specs.declared.stops.Stops.{Stops}
 use Rattle.crashdisk.specs.declared.error.DiskError.{DiskError}
 use Rattle.crashdisk.specs.declared.error.DiskError.TheVariants.{Stopped, Failed, TooLong, NoMemory}
@@ -35,6 +35,28 @@ after_call stops = record { stopped = stops_call stops; calls = one_less stops.c
 
 abbrev pub after_sync : Stops → Stops
 after_sync stops = record { stopped = stops_sync stops; calls = one_less stops.calls; syncs = stops.syncs - 1; fails = stops.fails - 1 }
+
+-- What is set of a disk for the calls to come: its stops, and what the one that fails leaves. Of a real disk nothing is, and
+-- that stays so.
+pub record Settings : Type 0 where
+  pub stops : Stops
+  pub pick : List ℕ
+  pub new_len : Bool
+
+-- what is set after a call that isn't a sync, and after a sync
+abbrev pub past_call : Settings → Settings
+past_call settings = record settings { stops = after_call settings.stops }
+
+abbrev pub past_sync : Settings → Settings
+past_sync settings = record settings { stops = after_sync settings.stops }
+
+-- what a call answers that is to stop, or to fail: Stopped, or no Ok
+abbrev pub Heeds : {T : Type 0} → (stopped fails : Bool) → Result T DiskError → Type 0
+Heeds stopped fails (Ok _) = (stopped ≡ false) × (fails ≡ false)
+Heeds stopped fails (Err Stopped) = Unit {0}
+Heeds stopped fails (Err TooLong) = stopped ≡ false
+Heeds stopped fails (Err NoMemory) = stopped ≡ false
+Heeds stopped fails (Err Failed) = stopped ≡ false
 
 -- Stopped is answered exactly where a call is stopped; one that isn't fails exactly where it is the one to fail, unless it is
 -- refused for its place, or for want of memory where it takes some.

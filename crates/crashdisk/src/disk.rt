@@ -6,7 +6,8 @@ use crate::error::DiskError;
 use crate::file::File;
 
 /// Two files, of which a crash may leave, for each sector, any value that it had since the file was last synced,
-/// and for each file any length that it had since then. Places and lengths are in bytes.
+/// and for each file any length that it had since then. Places and lengths are in bytes. Stops and failures may be set
+/// of it for the calls to come (of a real disk none is): each call but `sector` and `tears` heeds them and counts them down.
 pub trait Disk {
     ghost use Rattle.crashdisk.specs.declared.file.File.{File};
     ghost use Rattle.crashdisk.specs.Call.{DiskState, of, IsSoundDisk, Writes, Cuts, Syncs, Looks};

@@ -21,9 +21,8 @@ use Rattle.crashdisk.proofs.Images.{table}
 use Rattle.crashdisk.proofs.Sound.{written_inside}
 use Rattle.crashdisk.proofs.Steps.{present_list, present_written}
 use Rattle.rollcore.specs.Alone.{AreWhole, Show, ShowsAlone}
-use Rattle.crashdisk.specs.Keeps.{IsLogDown, Still, SyncStep}
+use Rattle.crashdisk.specs.Keeps.{IsLogDown, Still, SyncStep, Later}
 use Rattle.rollcore.specs.Lengths.{ShowsOne}
-use Rattle.rollcore.specs.Commits.{Goes}
 use Rattle.rollcore.specs.Opening.{PutsZero, BreakSteps, AreCold, FrontAnswer}
 use Rattle.rollcore.specs.declared.error.RollError.{RollError}
 use Rattle.rollcore.proofs.Journals.{zeros_cold, part_same, word_same}
@@ -31,8 +30,8 @@ use Rattle.crashdisk.proofs.Stills.{still_sound, refusal_after}
 use Rattle.rollcore.proofs.Down.{shows_by, down_left}
 use Rattle.crashdisk.proofs.Down.{down_by, down_present, present_byte}
 use Rattle.rollcore.proofs.Ending.{sync_down}
-use Rattle.crashdisk.proofs.Later.{sync_refused}
-use Rattle.rollcore.proofs.Going.{goes_writes, goes_broken}
+use Rattle.crashdisk.proofs.Later.{sync_refused, later_write}
+use Rattle.rollcore.proofs.Going.{goes_broken}
 use Rattle.rollcore.proofs.Lengths.{down_read, may_down}
 use Rattle.rollcore.proofs.Narrowing.{read_cases, narrows_syncs}
 use Rattle.rollcore.specs.declared.error.RollError.TheVariants.{Device}
@@ -134,7 +133,7 @@ module _ (w : List ℕ) (old new : DiskState) (sound : IsSoundDisk old) (sectors
   pub written_cold : {T : Type 0} (result : Result T DiskError) → Writes Log 0 (0 ∷ []) result old new → AreCold new
   unfolding changed_by
   written_cold result wrote v may hot =
-      let goes = goes_writes Log 0 (0 ∷ []) result old new sound wrote in
+      let goes = later_write Log 0 (0 ∷ []) result old new sound wrote in
       let after : IsSound old.sector new.log = subst (λ (n : ℕ). IsSound n new.log) wrote.elsewhere.sector goes.sound.log in
       ⊎_elim
       (λ listed. listed_cold result after wrote.file v (subst (λ (n : ℕ). IsImage n false new.log v) wrote.elsewhere.sector listed) hot)
@@ -201,7 +200,7 @@ module _ (w : List ℕ) (a b : DiskState) (sound : IsSoundDisk a) (sectors : IsS
     puts : PutsZero {T = Unit {0}} 0 (Ok tt) a b
     puts = subst (λ (x : Result Bool RollError). BreakSteps 0 x a b) was steps
 
-    goes : Goes a b
+    goes : Later a b
     goes = goes_broken 0 r a b sound steps
 
     synced_cold : {T : Type 0} (q : Result T RollError) → SyncStep Device Log q b c → AreCold c

@@ -12,11 +12,12 @@ use Rattle.sqval.specs.Answers.{Done, Refused, Refuses}
 use Rattle.sqval.proofs.Faultless.{IsFaultless, faultless, held_applied}
 use Rattle.sqval.proofs.Supplied.{length-apply}
 use Rattle.crashdisk.specs.Call.{DiskState}
-use Rattle.crashdisk.specs.Keeps.{Suits, HadRefusal}
+use Rattle.crashdisk.specs.Keeps.{Suits, HadRefusal, Later}
+use Rattle.crashdisk.proofs.Called.{no_calls}
 use Rattle.rollcore.specs.Machine.{State, last, newest, closed, appended, committed, recorded, refusal_of, commit_refusal, Commits}
 use Rattle.rollcore.specs.Refusal.{number_of}
 use Rattle.rollcore.specs.Fits.{ShowsWhole, NamesSectors, Rests, FitsCore, StepsTo, answered}
-use Rattle.rollcore.specs.Commits.{ShowsEither, KeepsCore, Goes, PutAnswer, IsReady, Ends, Closes, EndAnswer}
+use Rattle.rollcore.specs.Commits.{ShowsEither, KeepsCore, PutAnswer, IsReady, Ends, Closes, EndAnswer}
 use Rattle.rollcore.specs.declared.error.RollError.{RollError}
 use Rattle.rollcore.specs.declared.error.RollError.TheVariants.{NoMemory}
 use Rattle.rollcore.specs.declared.state.Core.{Core}
@@ -68,7 +69,7 @@ module _ {T : Type 0} (past : State) (core mid : Core) (s : DiskState) (fits : F
   refused_step r e is answer = subst (λ (q : Result T RollError). StepsTo past (Commits pages size nonces) (answered (λ _. Done) q) mid s s) (sym is)
       (record {
         next = past;
-        same = record { sector = refl; tears = refl };
+        same = record { sector = refl; tears = refl; calls = no_calls s };
         refused = omega arith;
         row = ⊎_elim
             (λ found. subst (λ (x : Option ℕ). Refuses x true (closed (appended past pages size)) s.refused s.refused past (number_of e) past) (sym found) (refl, refl))
@@ -101,7 +102,7 @@ module _ (h : List Database) (d : Database) where
       (cases_lt i (length h))
 
 module _ (past : State) (core mid : Core) (s t : DiskState) (fits : FitsCore past core s) (opened : IsTrue core.is_open) (lended : List (ℕ × Bor (List ℕ))) (size : ℕ) (nonces : List ℕ)
-    (ready : IsReady lended size (length nonces) core) (keeps : KeepsCore core mid) (goes : Goes s t) where
+    (ready : IsReady lended size (length nonces) core) (keeps : KeepsCore core mid) (goes : Later s t) where
   abbrev pub pages : Pages
   pages = lent lended
 
@@ -140,7 +141,7 @@ module _ (past : State) (core mid : Core) (s t : DiskState) (fits : FitsCore pas
       let down : length past.history + 1 ≡ length (past.history ++ e ∷ []) = sym (more_long past.history e) in
       record {
         next = committed past pages size;
-        same = record { sector = goes.sector; tears = goes.tears };
+        same = record { sector = goes.sector; tears = goes.tears; calls = goes.calls };
         refused = goes.refused;
         row = (none, refl);
         fits = record {
@@ -161,7 +162,7 @@ module _ (past : State) (core mid : Core) (s t : DiskState) (fits : FitsCore pas
   stopped : (then : Core) → Closes mid then → HadRefusal s t → ShowsEither past.page_size (newest past) e t → NamesSectors t → StepsTo past (Commits pages size nonces) (Refused 15) then s t
   stopped then closes had shows sectors = record {
     next = closed (appended past pages size);
-    same = record { sector = goes.sector; tears = goes.tears };
+    same = record { sector = goes.sector; tears = goes.tears; calls = goes.calls };
     refused = goes.refused;
     row = subst (λ (x : Option ℕ). Refuses x true (closed (appended past pages size)) s.refused t.refused past 15 (closed (appended past pages size))) (sym none) (inr (refl, had, refl));
     fits = record {

@@ -7,7 +7,6 @@ use Rattle.crashdisk.specs.State.{FileState, IsSettled}
 use Rattle.crashdisk.specs.Call.{DiskState, IsSoundDisk, ArePresent, Writes, Syncs}
 use Rattle.crashdisk.specs.declared.file.File.TheVariants.{Db, Log}
 use Rattle.crashdisk.specs.declared.error.DiskError.{DiskError}
-use Rattle.crashdisk.proofs.Keeping.{sound_writes}
 use Rattle.crashdisk.proofs.Steps.{present_written}
 use Rattle.crashdisk.proofs.Sound.{written_inside, written_outside}
 use Rattle.rollcore.specs.Replaying.{zeroed}
@@ -17,15 +16,15 @@ use Rattle.rollcore.specs.declared.error.RollError.{RollError}
 use Rattle.rollcore.specs.declared.error.RollError.TheVariants.{Device}
 use Rattle.crashdisk.proofs.Stills.{refusal_after, had_refusal}
 use Rattle.crashdisk.proofs.Down.{present_byte, synced_down}
-use Rattle.crashdisk.proofs.Later.{later_then, later_by, told_err, told_ok, none_ok, sync_later, sync_refused, sync_done}
+use Rattle.crashdisk.proofs.Later.{later_then, later_write, told_err, told_ok, none_ok, sync_later, sync_refused, sync_done}
 
 module _ {T : Type 0} where
   -- ---- The header is zeroed.
 
   pub zero_later : (r : Result T RollError) (a b : DiskState) → IsSoundDisk a → ZeroSteps r a b → Later a b
   zero_later r a b sound steps = ⊎_elim
-      (λ failed. later_by Log failed.0 a b sound failed.3.elsewhere (sound_writes Log 0 (replicate 28 0) failed.0 a b sound failed.3))
-      (λ done. let mid = later_by Log (Ok done.1.0) a done.0 sound done.1.1.elsewhere (sound_writes Log 0 (replicate 28 0) (Ok done.1.0) a done.0 sound done.1.1) in
+      (λ failed. later_write Log 0 (replicate 28 0) failed.0 a b sound failed.3)
+      (λ done. let mid = later_write Log 0 (replicate 28 0) (Ok done.1.0) a done.0 sound done.1.1 in
       later_then a done.0 b mid (sync_later Device Log r done.0 b mid.sound done.2))
       steps
 
@@ -33,7 +32,7 @@ module _ {T : Type 0} where
   zero_refused r e a b sound is steps = ⊎_elim
       (λ failed. let t = told_err Device failed.0 r e is failed.2 in
       (t.0, had_refusal failed.0 t.1.0 (0 + length {A = ℕ} (replicate 28 0)) a b sound.refused t.1.1 failed.3.within (omega (arith, length-replicate {A = ℕ} 28 0)) failed.3.elsewhere.refused))
-      (λ done. let mid = later_by Log (Ok done.1.0) a done.0 sound done.1.1.elsewhere (sound_writes Log 0 (replicate 28 0) (Ok done.1.0) a done.0 sound done.1.1) in
+      (λ done. let mid = later_write Log 0 (replicate 28 0) (Ok done.1.0) a done.0 sound done.1.1 in
       let last = sync_refused Device Log r e done.0 b mid.sound is done.2 in (last.0, refusal_after a done.0 b mid.refused last.1))
       steps
 
@@ -68,7 +67,7 @@ module _ {T : Type 0} where
   pub zero_done : (r : Result T RollError) (v : T) (w : List ℕ) (a b : DiskState) → IsSoundDisk a → r ≡ Ok v → ZeroSteps r a b → ArePresent a.log w → 28 ≤ length w → IsLogDown b (zeroed w)
   zero_done r v w a b sound is steps are enough = ⊎_elim
       (λ failed. absurd (none_ok Device failed.0 r v failed.1 is failed.2))
-      (λ done. let mid = later_by Log (Ok done.1.0) a done.0 sound done.1.1.elsewhere (sound_writes Log 0 (replicate 28 0) (Ok done.1.0) a done.0 sound done.1.1) in
+      (λ done. let mid = later_write Log 0 (replicate 28 0) (Ok done.1.0) a done.0 sound done.1.1 in
       sync_down r v (zeroed w) done.0 b mid.sound is done.2 (zero_present done.1.0 w a done.0 are enough done.1.1))
       steps
 

@@ -1,12 +1,12 @@
 -- What stands where a magic may stand, as it is read.
-use Rattle.std.proofs.Common.{◌≡◌, ⊎_elim, inr, ℕ, ◌+◌, ◌<◌, ◌≤◌, Bool, List, ◌∷◌, length, get_or, take, drop, refl, sym, ◌∙◌, ap, subst, arith, length-drop, []}
+use Rattle.std.proofs.Common.{◌≡◌, ⊎_elim, inl, inr, ℕ, ◌+◌, ◌<◌, ◌≤◌, Bool, List, ◌∷◌, length, get_or, take, drop, refl, sym, ◌∙◌, ap, subst, arith, length-drop, []}
 use Rattle.std.specs.Prelude.{Result, Err}
 use Rattle.std.proofs.lemmas.List.{ext_get_or, get_or-take, get_or-drop, length-take-le}
 use Rattle.std.proofs.lemmas.Bool.{cases_lt}
 use Rattle.sqval.specs.Bytes.{part}
 use Rattle.sqjournal.specs.Header.{HasMagic, magic}
 use Rattle.crashdisk.specs.State.{FileState, byte, longest}
-use Rattle.crashdisk.specs.Call.{DiskState, IsSoundDisk, ArePresent, Writes}
+use Rattle.crashdisk.specs.Call.{DiskState, IsSoundDisk, ArePresent, Writes, Looks}
 use Rattle.crashdisk.specs.declared.file.File.TheVariants.{Log}
 use Rattle.crashdisk.specs.declared.error.DiskError.{DiskError}
 use Rattle.crashdisk.proofs.Sound.{byte_past}
@@ -15,7 +15,7 @@ use Rattle.rollcore.specs.Opening.{PutsZero, BreakSteps}
 use Rattle.rollcore.specs.declared.error.RollError.{RollError}
 use Rattle.rollcore.specs.declared.error.RollError.TheVariants.{Device}
 use Rattle.crashdisk.proofs.Down.{present_byte}
-use Rattle.crashdisk.proofs.Stills.{had_refusal, refusal_after, still_sound}
+use Rattle.crashdisk.proofs.Stills.{had_refusal, refusal_after, still_looks, still_sound}
 
 module _ (w : List ℕ) (s : FileState) (at : ℕ) (front : List ℕ) (are : ArePresent s w) (eight : length front ≡ 8) (same : (i : ℕ) → i < length front → get_or front i 0 ≡ byte s (at + i)) where
   read_byte : (i : ℕ) → i < 8 → get_or front i 0 ≡ get_or w (at + i) 0
@@ -35,6 +35,14 @@ module _ (w : List ℕ) (s : FileState) (at : ℕ) (front : List ℕ) (are : Are
       let inside : at + 7 < s.len = ⊎_elim (λ lt. lt) (λ past. absurd (let zero : get_or front 7 0 ≡ 0 = same 7 (omega arith) ∙ byte_past s (at + 7) past in omega (arith, last, zero))) (cases_lt (at + 7) s.len) in
       let long : length (take 8 (drop at w)) ≡ 8 = length-take-le 8 (drop at w) (omega (arith, length-drop at w, are.len, inside)) in
       ext_get_or 0 (part w at 8) front (long ∙ sym eight) (λ i lt. let below : i < 8 = omega (arith, long) in part_byte i below ∙ sym (read_byte i below)) ∙ is
+
+-- what stands there couldn't be read
+pub break_unread : {T : Type 0} (at : ℕ) (a b : DiskState) → IsSoundDisk a → (end : ℕ) (called : Result T DiskError) (e : DiskError) (q : Result Bool RollError) → called ≡ Err e → Looks end called a b → end ≤ longest → q ≡ Err Device → BreakSteps at q a b
+break_unread at a b sound end called e q was looked within given = subst (λ (y : Result Bool RollError). BreakSteps at y a b) (sym given) (
+  refl,
+  had_refusal called e end a b sound.refused was looked.within within looked.refused,
+  inl (still_looks end called a b sound looked),
+)
 
 -- the zero byte is written, or not
 module _ (at : ℕ) (a b c : DiskState) (sound : IsSoundDisk a) (is : Still a b) (there : (w : List ℕ) → ArePresent a.log w → HasMagic w at) where

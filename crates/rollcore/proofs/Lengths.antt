@@ -25,10 +25,11 @@ use Rattle.rollcore.proofs.Journals.{SameBehind, word_same}
 use Rattle.crashdisk.proofs.Pages.{sector_some}
 use Rattle.rollcore.proofs.Down.{down_left}
 use Rattle.crashdisk.proofs.Down.{down_one, down_syncs}
-use Rattle.rollcore.proofs.Going.{goes_writes, goes_sync, sectors_go}
+use Rattle.rollcore.proofs.Going.{sectors_go}
 use Rattle.rollcore.proofs.Narrowing.{read_cases, narrows_syncs, ends_narrow}
 use Rattle.rollcore.proofs.Zeros.{zeroed_listed, zeroed_torn}
 use Rattle.rollcore.specs.declared.error.RollError.TheVariants.{Device}
+use Rattle.crashdisk.proofs.Later.{later_write, sync_later}
 
 -- where a hot journal names no smaller sectors than those that tear
 abbrev pub IsNamed : List ℕ → DiskState → Type 0
@@ -125,7 +126,7 @@ module _ (w : List ℕ) (old new : DiskState) (sound : IsSoundDisk old) (sectors
   written_word : {T : Type 0} (result : Result T DiskError) → Writes Log 0 zeros result old new → (v : List ℕ) → MayBeRead new v → IsHot v → word v 20 ≡ word w 20
   unfolding changed_by
   written_word result wrote v may here =
-      let goes = goes_writes Log 0 zeros result old new sound wrote in
+      let goes = later_write Log 0 zeros result old new sound wrote in
       let after : IsSound old.sector new.log = subst (λ (n : ℕ). IsSound n new.log) wrote.elsewhere.sector goes.sound.log in
       ⊎_elim
       (λ listed. listed_word result after wrote.file v (subst (λ (n : ℕ). IsImage n false new.log v) wrote.elsewhere.sector listed) here)
@@ -147,7 +148,7 @@ module _ {T : Type 0} (w : List ℕ) (old new : DiskState) (sound : IsSoundDisk 
   ends_zeroed n r steps long = ⊎_elim
       (λ failed. ends_written w old new sound sectors down hot names n failed.0 failed.3 long)
       (λ done.
-      let mid = goes_writes Log 0 zeros (Ok done.1.0) old done.0 sound done.1.1 in
+      let mid = later_write Log 0 zeros (Ok done.1.0) old done.0 sound done.1.1 in
       ends_narrow done.0 new (narrows_syncs Log done.2.0 done.0 new mid.sound done.2.2) n
       (ends_written w old done.0 sound sectors down hot names n (Ok done.1.0) done.1.1 long))
       steps
@@ -156,7 +157,7 @@ module _ {T : Type 0} (w : List ℕ) (old new : DiskState) (sound : IsSoundDisk 
 pub ends_finished : {T U : Type 0} (w : List ℕ) (old mid new : DiskState) → IsSoundDisk old → IsSectorSize old.sector → IsLogDown old w → IsHot w → IsNamed w old → (v : T) → SyncStep {T = T} Device Db (Ok v) old mid
     → (r : Result U RollError) → ZeroSteps r mid new → EndsBy old.db.len new
 ends_finished {T = T} w old mid new sound sectors down hot names v step r steps =
-    let goes = goes_sync {T = T} Db (Ok v) old mid sound step in
+    let goes = sync_later Device Db (Ok v) old mid sound step in
     ends_zeroed w mid new goes.sound (sectors_go old mid goes sectors) (down_syncs w Db step.0 old mid down step.2) hot (named_by w old mid goes.sector goes.tears names) old.db.len r steps (long_done old mid v step)
 
 -- the pages that a hot journal restores

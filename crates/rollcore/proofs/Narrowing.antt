@@ -11,10 +11,11 @@ use Rattle.crashdisk.proofs.Steps.{image_sync}
 use Rattle.sqval.specs.Bytes.{word}
 use Rattle.sqval.specs.Database.{Database}
 use Rattle.rollcore.specs.Alone.{AreWhole}
-use Rattle.crashdisk.specs.Keeps.{Still}
+use Rattle.crashdisk.specs.Keeps.{Still, SameFiles}
 use Rattle.rollcore.specs.Fits.{MayBeRead, ShowsHistory, NamesSectors}
 use Rattle.rollcore.specs.Lengths.{EndsBy}
 use Rattle.crashdisk.proofs.Down.{present_image, since_db, file_syncs, log_syncs}
+use Rattle.crashdisk.proofs.Stills.{same_files, image_same}
 
 -- it is of listed values, or a disk that tears left it
 pub read_cases : (s : DiskState) (w : List ℕ) → MayBeRead s w → IsImage s.sector false s.log w ⊎ ((s.tears ≡ true) × IsImage s.sector true s.log w × AreWhole s.kept s.handed w)
@@ -67,11 +68,11 @@ same_left s t sector tears log kept handed = read_from s t tears (λ w image. ba
     back b w image = subst (λ (n : ℕ). IsImage n b s.log w) sector (subst (λ (x : FileState). IsImage t.sector b x w) log image)
 
 -- calls that changed no byte
-pub image_still : (a b : DiskState) → Still a b → (db : List ℕ) → IsImage b.sector b.tears b.db db → IsImage a.sector a.tears a.db db
-image_still a b is db image = subst (λ (n : ℕ). IsImage n a.tears a.db db) is.sector (subst (λ (x : Bool). IsImage b.sector x a.db db) is.tears (subst (λ (s : FileState). IsImage b.sector b.tears s db) is.db image))
+pub narrows_same : (a b : DiskState) → SameFiles a b → Narrows a b
+narrows_same a b is = record { sector = is.sector; tears = is.tears; log = same_left a b is.sector is.tears is.log is.kept is.handed; file = image_same a b is }
 
 pub narrows_still : (a b : DiskState) → Still a b → Narrows a b
-narrows_still a b is = record { sector = is.sector; tears = is.tears; log = same_left a b is.sector is.tears is.log is.kept is.handed; file = image_still a b is }
+narrows_still a b is = narrows_same a b (same_files a b is)
 
 module _ {T : Type 0} where
   torn_log : (result : Result T DiskError) (s t : DiskState) → IsSoundDisk s → s.tears ≡ true → Syncs Log result s t → SinceSync true Log result s t

@@ -15,14 +15,13 @@ use Rattle.crashdisk.specs.Call.{DiskState, IsSoundDisk, ArePresent}
 use Rattle.crashdisk.proofs.Images.{table}
 use Rattle.crashdisk.proofs.Steps.{present_list}
 use Rattle.rollcore.specs.Alone.{Show, ShowsAlone}
-use Rattle.crashdisk.specs.Keeps.{Suits, IsLogDown, Still, SyncStep}
+use Rattle.crashdisk.specs.Keeps.{Suits, IsLogDown, Still, SyncStep, Later}
 use Rattle.rollcore.specs.Plans.{IsBelow, PlanAnswer, ReadAnswer}
 use Rattle.rollcore.specs.Replaying.{zeroed}
 use Rattle.rollcore.specs.Steps.{torn_sector, RolledAnswer}
 use Rattle.sqval.specs.Answers.{Files}
 use Rattle.rollcore.specs.Machine.{State, at, last, newest, opened, closed}
 use Rattle.rollcore.specs.Refusal.{number_of}
-use Rattle.rollcore.specs.Commits.{Goes}
 use Rattle.rollcore.specs.Fits.{MayBeRead, ShowsWhole, ShowsHistory, AreFiles, FitsDisk, Rests, OpenedTo, GivenUpTo}
 use Rattle.rollcore.specs.declared.state.Core.{Core}
 use Rattle.rollcore.specs.Lengths.{EndsBy, ShowsOne}
@@ -37,8 +36,8 @@ use Rattle.rollcore.proofs.Down.{shows_by, down_left}
 use Rattle.crashdisk.proofs.Down.{present_image, down_present, down_by, file_syncs}
 use Rattle.rollcore.proofs.Lengths.{may_down, down_read, ends_down, named_by}
 use Rattle.rollcore.proofs.Ending.{sync_down}
-use Rattle.crashdisk.proofs.Later.{sync_refused}
-use Rattle.rollcore.proofs.Going.{goes_sync, goes_then, suits_go}
+use Rattle.crashdisk.proofs.Later.{sync_refused, later_then, sync_later}
+use Rattle.rollcore.proofs.Going.{suits_go}
 use Rattle.crashdisk.specs.declared.file.File.TheVariants.{Log}
 use Rattle.rollcore.proofs.Narrowing.{narrows_still, narrows_syncs, ends_narrow, history_narrows, sectors_narrow}
 use Rattle.sqval.proofs.FilePages.{size_some, file_count}
@@ -277,7 +276,7 @@ module _ (past : State) (found : Files) (s : DiskState) (fits : FitsDisk past s)
       let sound = fits.suits.sound in
       let narrows = narrows_syncs Log step.0 s a sound step.2 in
       subst (λ (x : Result ℕ RollError). RecoveredAt past found x s a) (sym given) (
-        goes_sync Log r s a sound step,
+        sync_later Device Log r s a sound step,
         inr (sync_refused Device Log r e s a sound was step),
         history_narrows s a narrows past.page_size past.history past.floor fits.left,
         sectors_narrow s a narrows fits.sectors,
@@ -287,8 +286,8 @@ module _ (past : State) (found : Files) (s : DiskState) (fits : FitsDisk past s)
     is : IsFound past found.log s
     is = is_found
 
-    goes : Goes s a
-    goes = goes_sync Log r s a fits.suits.sound step
+    goes : Later s a
+    goes = sync_later Device Log r s a fits.suits.sound step
 
     settled_down : IsLogDown a found.log
     settled_down = sync_down r v found.log s a fits.suits.sound was step are.log
@@ -312,19 +311,19 @@ module _ (past : State) (found : Files) (s : DiskState) (fits : FitsDisk past s)
     settled_held : IsHeld past.page_size (at past is.place)
     settled_held = fits.held is.place is.within
 
-    by_answer : (q : Result ℕ RollError) (b : DiskState) → Goes a b → RecoverAnswer past.page_size (at past is.place) q a b → RecoveredAt past found q s b
+    by_answer : (q : Result ℕ RollError) (b : DiskState) → Later a b → RecoverAnswer past.page_size (at past is.place) q a b → RecoveredAt past found q s b
     by_answer (Ok n) b then answer = (
-      goes_then s a b goes then,
+      later_then s a b goes then,
       record { place = is.place; floor = is.floor; within = is.within; newest_is = is.newest_is; shown = (is.shows found.db found_db).shows; rests = answer.1; count = answer.0 },
     )
     by_answer (Err e) b then answer = (
-      goes_then s a b goes then,
+      later_then s a b goes then,
       may_after e s a b goes.refused answer.0,
       one_history past.page_size past.history past.floor is.place b is.floor is.within answer.1,
       answer.1.ends.sectors,
     )
 
-    pub settled : (size : ℕ) → past.page_size ≡ size → (q : Result ℕ RollError) (b : DiskState) → Goes a b
+    pub settled : (size : ℕ) → past.page_size ≡ size → (q : Result ℕ RollError) (b : DiskState) → Later a b
         → ((d : Database) → Suits size a → IsHeld size d → IsLogDown a found.log → ShowsOne size d a → RecoverAnswer size d q a b) → RecoveredAt past found q s b
     settled size same q b then recovers = by_answer q b then
         (subst (λ (n : ℕ). (d : Database) → Suits n a → IsHeld n d → IsLogDown a found.log → ShowsOne n d a → RecoverAnswer n d q a b) (sym same) recovers (at past is.place) settled_suits settled_held settled_down settled_one)
@@ -367,7 +366,7 @@ module _ (past : State) (found : Files) (s : DiskState) (fits : FitsDisk past s)
       let x = subst (λ (y : Result ℕ RollError). RecoveredAt past found y s b) was answer in
       record {
         next = closed past;
-        same = record { sector = x.0.sector; tears = x.0.tears };
+        same = record { sector = x.0.sector; tears = x.0.tears; calls = x.0.calls };
         refused = x.0.refused;
         row = (⊎_elim (λ none. inl (ap number_of none)) (λ is. inr (ap number_of is.0, is.1)) x.1, refl);
         fits = record {
@@ -389,7 +388,7 @@ module _ (past : State) (found : Files) (s : DiskState) (fits : FitsDisk past s)
       let down : at_k.place + 1 ≡ length (take (at_k.place + 1) past.history) = sym (cut_long past.history at_k.place at_k.within) in
       record {
         next = opened past at_k.place;
-        same = record { sector = x.0.sector; tears = x.0.tears };
+        same = record { sector = x.0.sector; tears = x.0.tears; calls = x.0.calls };
         refused = x.0.refused;
         row = (at_k.place, at_k.floor, at_k.within, at_k.shown, at_k.newest_is, refl);
         fits = record {

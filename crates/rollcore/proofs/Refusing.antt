@@ -18,9 +18,8 @@ use Rattle.rollcore.specs.declared.plan.Plan.{Plan}
 use Rattle.rollcore.specs.declared.replaying.Replayed.{Replayed}
 use Rattle.rollcore.specs.declared.error.RollError.{RollError}
 use Rattle.rollcore.specs.declared.error.RollError.TheVariants.{TooLarge, PageSize, NoMemory, Device, SectorAbovePage}
-use Rattle.crashdisk.proofs.Later.{sync_refused, told_ok}
+use Rattle.crashdisk.proofs.Later.{sync_refused, told_ok, sync_later}
 use Rattle.rollcore.proofs.Recovering.{tears_by, fits_whole, short, small}
-use Rattle.rollcore.proofs.Going.{goes_sync}
 use Rattle.crashdisk.proofs.Stills.{refusal_after, present_in}
 use Rattle.crashdisk.proofs.Steps.{present_synced}
 use Rattle.sqval.proofs.Answering.{if_err}
@@ -132,7 +131,7 @@ module _ {T : Type 0} (v : T) (r : Result T RollError) (s a : DiskState) (sound 
   after size db w TooLarge b x = (x.0, bytes_before b x.1)
   after size db w PageSize b x = (x.0, λ tears. x.1 (tears_before w tears), x.2, bytes_before b x.3)
   after size db w NoMemory b x = bytes_before b x
-  after size db w Device b x = refusal_after s a b (goes_sync Log r s a sound step).refused x
+  after size db w Device b x = refusal_after s a b (sync_later Device Log r s a sound step).refused x
   after size db w _ b x = absurd x
 
   pub synced_refuses : {U : Type 0} (size : ℕ) (db w : List ℕ) (q : Result U RollError) (b : DiskState) → ArePresent s.db db → ArePresent s.log w

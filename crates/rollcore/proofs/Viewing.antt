@@ -12,39 +12,39 @@ use Rattle.crashdisk.proofs.Fixed.{image_present}
 use Rattle.crashdisk.proofs.Steps.{present_list}
 use Rattle.rollcore.specs.Machine.{State, newest, Act, Reads, Step, read_refusal}
 use Rattle.rollcore.specs.Refusal.{number_of}
-use Rattle.crashdisk.specs.Keeps.{Still, PlaceAnswer}
+use Rattle.crashdisk.specs.Keeps.{SameFiles, Still, PlaceAnswer}
 use Rattle.rollcore.specs.Paging.{ReadJudged, IsRefusedRead}
 use Rattle.rollcore.specs.Fits.{FitsDisk, IsCore, FitsCore, Rests, StepsTo, answered}
 use Rattle.rollcore.specs.declared.error.RollError.{RollError}
 use Rattle.rollcore.specs.declared.error.RollError.TheVariants.{Closed, PageZero, PageAboveSize, BadLength, Device}
 use Rattle.rollcore.specs.declared.state.Core.{Core}
 use Rattle.crashdisk.proofs.Down.{present_byte, down_by}
-use Rattle.rollcore.proofs.Narrowing.{narrows_still, image_still, history_narrows, sectors_narrow}
+use Rattle.rollcore.proofs.Narrowing.{narrows_same, history_narrows, sectors_narrow}
 use Rattle.sqval.proofs.FilePages.{page_by_bytes}
 use Rattle.crashdisk.proofs.Pages.{page_end}
-use Rattle.crashdisk.proofs.Stills.{still_sound, present_in}
+use Rattle.crashdisk.proofs.Stills.{still, same_files, same_sound, image_same, present_in}
 use Rattle.crashdisk.proofs.Suiting.{suits_by}
 use Rattle.sqval.proofs.Answering.{none_above, is_zero, is_above, is_closed, refuses_first, refuses_cause}
 
 -- ---- what fits a core still fits after calls that change nothing
 
-pub rests_still : (size : ℕ) (d : List (List ℕ)) (s t : DiskState) → Still s t → Rests size d s → Rests size d t
+pub rests_still : (size : ℕ) (d : List (List ℕ)) (s t : DiskState) → SameFiles s t → Rests size d s → Rests size d t
 rests_still size d s t is rests = record {
-  file = λ db image. rests.file db (image_still s t is db image);
+  file = λ db image. rests.file db (image_same s t is db image);
   log = (rests.log.0, down_by rests.log.0 s t rests.log.1 is.log is.tears is.kept is.handed, rests.log.2);
 }
 
-pub fits_disk_still : (past : State) (s t : DiskState) → Still s t → FitsDisk past s → FitsDisk past t
+pub fits_disk_still : (past : State) (s t : DiskState) → SameFiles s t → FitsDisk past s → FitsDisk past t
 fits_disk_still past s t is fits = record {
-  suits = suits_by past.page_size s t fits.suits (still_sound s t fits.suits.sound is) is.sector is.tears;
+  suits = suits_by past.page_size s t fits.suits (same_sound s t fits.suits.sound is) is.sector is.tears;
   floor = fits.floor;
   held = fits.held;
-  left = history_narrows s t (narrows_still s t is) past.page_size past.history past.floor fits.left;
-  sectors = sectors_narrow s t (narrows_still s t is) fits.sectors;
+  left = history_narrows s t (narrows_same s t is) past.page_size past.history past.floor fits.left;
+  sectors = sectors_narrow s t (narrows_same s t is) fits.sectors;
   present = λ opens files are. fits.present opens files (record { db = present_in t.db s.db files.db (sym is.db) are.db; log = present_in t.log s.log files.log (sym is.log) are.log });
 }
 
-pub fits_still : (past : State) (core : Core) (s t : DiskState) → Still s t → FitsCore past core s → FitsCore past core t
+pub fits_still : (past : State) (core : Core) (s t : DiskState) → SameFiles s t → FitsCore past core s → FitsCore past core t
 fits_still past core s t is fits = record {
   disk = fits_disk_still past s t is fits.disk;
   page_size = fits.page_size;
@@ -54,7 +54,7 @@ fits_still past core s t is fits = record {
 
 -- a row of the machine that doesn't step
 pub stays : (past : State) (core : Core) (s t : DiskState) → Still s t → FitsCore past core s → (act : Act) (answer : Answer) → Step past act answer s.refused t.refused past → StepsTo past act answer core s t
-stays past core s t is fits act answer step = record { next = past; same = record { sector = is.sector; tears = is.tears }; refused = is.refused; row = step; fits = fits_still past core s t is fits }
+stays past core s t is fits act answer step = record { next = past; same = record { sector = is.sector; tears = is.tears; calls = is.calls }; refused = is.refused; row = step; fits = fits_still past core s t (same_files s t is) fits }
 
 -- ---- the rows of the machine
 
@@ -66,7 +66,7 @@ module _ (past : State) (core : Core) (s : DiskState) (fits : FitsCore past core
   judged {T = T} U out room result e sound was full bad = subst (λ (x : Result T RollError). StepsTo past (Reads p) (answered (λ (v : T). Page out) x) core s s) (sym was) (by e bad)
     where
       same : Still s s
-      same = record { sector = refl; tears = refl; db = refl; log = refl; kept = refl; handed = refl; refused = omega arith; count = sound.refused }
+      same = still s sound
 
       step : (n : ℕ) → read_refusal past p ≡ Some n → StepsTo past (Reads p) (Refused n) core s s
       step n e = stays past core s s same fits (Reads p) (Refused n) (refuses_first (read_refusal past p) n false past past s.refused s.refused e)

@@ -7,7 +7,7 @@ use Rattle.sqval.specs.Database.{Database, Pages, supplied}
 use Rattle.sqval.specs.CommitFaults.{first_true, page_faults}
 use Rattle.sqval.specs.JudgedPages.{lent}
 use Rattle.crashdisk.specs.State.{IsImage}
-use Rattle.crashdisk.specs.Call.{DiskState, IsSoundDisk}
+use Rattle.crashdisk.specs.Call.{DiskState}
 use Rattle.rollcore.specs.Fits.{MayBeRead, ShowsWhole, NamesSectors, Rests}
 use Rattle.rollcore.specs.Refusal.{number_of}
 use Rattle.rollcore.specs.Replaying.{zeroed}
@@ -24,13 +24,6 @@ use Rattle.rollcore.specs.declared.error.RollError.TheVariants.{NoMemory, Device
 abbrev pub ShowsEither : (size : ℕ) (d e : Database) → DiskState → Type 0
 ShowsEither size d e s = (w : List ℕ) → MayBeRead s w
     → ((db : List ℕ) → IsImage s.sector s.tears s.db db → ShowsWhole size db w d) ⊎ ((db : List ℕ) → IsImage s.sector s.tears s.db db → ShowsWhole size db w e)
-
--- calls of a disk
-pub record Goes (old new : DiskState) : Type 0 where
-  pub sound : IsSoundDisk new
-  pub sector : new.sector ≡ old.sector
-  pub tears : new.tears ≡ old.tears
-  pub refused : old.refused ≤ new.refused
 
 -- what a core holds but its buffers stays, and so does the room of its header
 pub record KeepsCore (old new : Core) : Type 0 where

@@ -8,7 +8,7 @@ ghost use Rattle.crashdisk.specs.State.{IsSectorSize};
 ghost use Rattle.crashdisk.specs.Call.{DiskState, IsSoundDisk, IsNew, Syncs, Looks, IsCrash};
 ghost use Rattle.crashdisk.specs.declared.file.File.{File};
 ghost use Rattle.crashdisk.specs.declared.error.DiskError.{DiskError};
-ghost use Rattle.crashdisk.specs.Keeps.{Still};
+ghost use Rattle.crashdisk.specs.Keeps.{SameFiles};
 ghost use Rattle.rollcore.specs.Alone.{AreWhole, ShowsAlone};
 ghost use Rattle.rollcore.specs.Fits.{FitsDisk, FitsCore};
 ghost use Rattle.rollcore.specs.Laws.{IsSane, Keeps, IsExpected, is_opening};
@@ -36,9 +36,10 @@ pub fn what_is_down_stays()
         → Runs Step (start page_size base) 0 before old count → Runs Step old count later new after → Keeps old new }
 {}
 
-/// What fits an engine fits it after calls that changed no byte of the disk, as a borrower of it may make them (own).
+/// What fits an engine fits it after calls that changed no byte of the disk, and whatever was set of it, as a borrower of it may
+/// do (own).
 pub fn a_look_fits()
-    ensures { (past : State) (core : Core) (old new : DiskState) → Still old new → FitsCore past core old → FitsCore past core new }
+    ensures { (past : State) (core : Core) (old new : DiskState) → SameFiles old new → FitsCore past core old → FitsCore past core new }
 {}
 
 /// What a disk shows alone stays shown: after a sync of either file, also one that is refused or fails; after a look; and

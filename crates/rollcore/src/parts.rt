@@ -7,8 +7,8 @@ ghost use Rattle.sqjournal.specs.Header.{IsSector};
 ghost use Rattle.crashdisk.specs.Call.{IsSoundDisk};
 ghost use Rattle.rollcore.specs.Fits.{Rests};
 ghost use Rattle.rollcore.specs.Machine.{segments_of};
-ghost use Rattle.crashdisk.specs.Keeps.{Suits};
-ghost use Rattle.rollcore.specs.Commits.{KeepsCore, Goes, IsReady};
+ghost use Rattle.crashdisk.specs.Keeps.{Suits, Later};
+ghost use Rattle.rollcore.specs.Commits.{KeepsCore, IsReady};
 ghost use Rattle.rollcore.specs.Segments.{pages_of, Parted, PartAnswer, SegmentsAnswer};
 
 use crate::error::RollError;
@@ -41,7 +41,7 @@ fn put_part<D: Disk>(
     requires sector { IsSector sector }
     ensures word { D.keeps_word disk.old ↔ D.keeps_word disk.new }
     ensures device { IfErr result (λ e. e ≡ RollError.Device) }
-    ensures goes { D.keeps_word disk.old → IsSoundDisk (D.state disk.old) → Goes (D.state disk.old) (D.state disk.new) }
+    ensures goes { D.keeps_word disk.old → IsSoundDisk (D.state disk.old) → Later (D.state disk.old) (D.state disk.new) }
     ensures near { IfOk result (λ next. next ≤ place + 2 ^ 23) }
     ensures keeps { KeepsCore core.old core.new }
     ensures changes { core.new.changes ≡ core.old.changes }
@@ -82,7 +82,7 @@ pub(crate) fn put_segments<D: Disk>(
     requires sector { IsSector sector }
     ensures word { D.keeps_word disk.old ↔ D.keeps_word disk.new }
     ensures device { IfErr result (λ e. e ≡ RollError.Device) }
-    ensures goes { D.keeps_word disk.old → IsSoundDisk (D.state disk.old) → Goes (D.state disk.old) (D.state disk.new) }
+    ensures goes { D.keeps_word disk.old → IsSoundDisk (D.state disk.old) → Later (D.state disk.old) (D.state disk.new) }
     ensures keeps { KeepsCore core.old core.new }
     ensures changes { core.new.changes ≡ core.old.changes }
     ensures segments { D.keeps_word disk.old → (n : ℕ) (d : Database) → IsReady pages.now n (length nonces.now) core.old

@@ -25,10 +25,9 @@ ghost use Rattle.sqval.specs.Database.{Database};
 ghost use Rattle.rollcore.specs.Alone.{ShowsAlone};
 ghost use Rattle.rollcore.specs.Phases.{Scanning};
 ghost use Rattle.rollcore.specs.Steps.{torn_sector, RolledAnswer};
-ghost use Rattle.crashdisk.specs.Keeps.{Still, IsLogDown};
+ghost use Rattle.crashdisk.specs.Keeps.{Still, IsLogDown, Later};
 ghost use Rattle.rollcore.specs.Plans.{IsPlan, IsFit, ReadAnswer};
 ghost use Rattle.rollcore.specs.Replaying.{Replays, Agrees, SyncsFirst};
-ghost use Rattle.rollcore.specs.Commits.{Goes};
 ghost use Rattle.rollcore.specs.Lengths.{EndsBy, KeepsLength};
 ghost use Rattle.sqval.specs.Bytes.{word};
 
@@ -68,7 +67,7 @@ pub(crate) fn replay_plan<D: Disk>(disk: &mut D, plan: Plan) -> Result<Replayed,
     ensures shows { D.keeps_word disk.old → IsSoundDisk (D.state disk.old) → IsSectorSize (D.state disk.old).sector
         → (size : ℕ) (w : List ℕ) (d : Database) → Scanning size d w (D.state disk.old)
         → IsFit (torn_sector (D.state disk.old)) w → IsPlan w plan → ShowsAlone size d (D.state disk.new) }
-    ensures goes { D.keeps_word disk.old → IsSoundDisk (D.state disk.old) → Goes (D.state disk.old) (D.state disk.new) }
+    ensures goes { D.keeps_word disk.old → IsSoundDisk (D.state disk.old) → Later (D.state disk.old) (D.state disk.new) }
     ensures ends { D.keeps_word disk.old → IsSoundDisk (D.state disk.old) → IsSectorSize (D.state disk.old).sector
         → (w : List ℕ) → IsLogDown (D.state disk.old) w → IsFit (torn_sector (D.state disk.old)) w → IsPlan w plan → EndsBy (word w 16 * word w 24) (D.state disk.new) }
     ensures size { IfOk result (λ r. r.size ≡ plan.header.first_size) }
@@ -100,6 +99,7 @@ pub fn replay<D: Disk>(alloc: Global, disk: &mut D) -> Result<Replayed, RollErro
     ensures agrees { D.keeps_word disk.old → Agrees (D.state disk.old) (D.state disk.new) }
     ensures lengths { D.keeps_word disk.old → KeepsLength (D.state disk.old) (D.state disk.new) }
     ensures synced { D.keeps_word disk.old → SyncsFirst result (D.state disk.old) (D.state disk.new) }
+    ensures later { D.keeps_word disk.old → IsSoundDisk (D.state disk.old) → Later (D.state disk.old) (D.state disk.new) }
 {
     disk.sync(File::Log)?;
     replay_synced(alloc, disk)
@@ -111,6 +111,7 @@ pub fn replay_synced<D: Disk>(alloc: Global, disk: &mut D) -> Result<Replayed, R
     ensures replays { D.keeps_word disk.old → Replays result (D.state disk.old) (D.state disk.new) }
     ensures agrees { D.keeps_word disk.old → Agrees (D.state disk.old) (D.state disk.new) }
     ensures lengths { D.keeps_word disk.old → KeepsLength (D.state disk.old) (D.state disk.new) }
+    ensures later { D.keeps_word disk.old → Later (D.state disk.old) (D.state disk.new) }
 {
     match find_plan(alloc, disk)? {
         Some(plan) => replay_plan(disk, plan),

@@ -56,8 +56,8 @@ module _ (size sector : ℕ) (tears : Bool) where
             (subst (λ b. Makes old.past.state.page_size s.sector b old.past.made m.act m.answer served.next.made) old.tears_is served.makes)));
         runs = subst (λ n. Runs Step first 0 (ms ++ m ∷ []) served.next.state n) count
             (runs_more Step first 0 ms old.past.state s.refused m served.next.state old.runs (subst (λ n. s.refused ≤ n) (sym count) served.refused) row);
-        sector_is = served.same.sector ∙ old.sector_is;
-        tears_is = served.same.tears ∙ old.tears_is;
+        sector_is = served.sector ∙ old.sector_is;
+        tears_is = served.tears ∙ old.tears_is;
       }
 
   pub goings_more : (first : State) (ms : List (Moment Act)) (m : Moment Act) (FitsOld FitsNew : Past → Type 0) (s t : DiskState)

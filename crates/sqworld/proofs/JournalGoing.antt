@@ -59,7 +59,7 @@ module _ (size : ℕ) (tears : Bool) (first : State) where
         fits = served.fits;
         runs = subst (λ n. Runs Step first 0 (ms ++ m ∷ []) served.next n) count
             (runs_more Step first 0 ms old.past s.refused m served.next old.runs (subst (λ n. s.refused ≤ n) (sym count) served.refused) row);
-        tears_is = served.same.tears ∙ old.tears_is;
+        tears_is = served.tears ∙ old.tears_is;
       }
 
   pub goings_more : (ms : List (Moment Act)) (m : Moment Act) (FitsOld FitsNew : State → Type 0) (s t : DiskState)

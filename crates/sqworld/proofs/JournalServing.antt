@@ -1,6 +1,6 @@
 -- An event of a run over a rollback journal, with an engine and without one.
 use Rattle.std.proofs.Common.{◌≡◌, ◌==◌, nat_lt, [], ◌∷◌, ℕ, Bool, true, false, ◌&&◌, List, length, Option, Some, None, Result, Ok, Err, IfOk, OnOk, cond, not, Vec, Global, refl, sym, ◌∙◌, ap, subst, arith}
-use Rattle.crashdisk.specs.Call.{DiskState}
+use Rattle.crashdisk.specs.Call.{DiskState, HasCalls}
 use Rattle.crashdisk.specs.Model.{state_of}
 use Rattle.crashdisk.specs.Stop.{no_stops}
 use Rattle.crashdisk.specs.declared.file.File.TheVariants.{Log, Db}
@@ -10,18 +10,18 @@ use Rattle.sqval.specs.Answers.{Answer, Files, Done, Refused, Refuses, Crashed}
 use Rattle.sqval.specs.CommitFaults.{first_true}
 use Rattle.walcore.specs.Fits.{AreFiles as AreWalFiles}
 use Rattle.rollcore.specs.Alone.{AreWhole}
-use Rattle.rollcore.specs.Machine.{State, Act, Opens, Sets, Step, closed, newest, commit_refusal, read_refusal, refusal_of}
+use Rattle.rollcore.specs.Machine.{State, Act, Opens, Commits, Reads, Crashes, Sets, Step, closed, newest, commit_refusal, read_refusal, refusal_of}
 use Rattle.rollcore.specs.Premises.{Permits}
 use Rattle.rollcore.specs.Refusal.{number_of}
 use Rattle.rollcore.specs.Fits.{FitsDisk, FitsCore, Fits, AreFiles, StepsTo, GivenUpTo}
-use Rattle.crashdisk.specs.Keeps.{IsSameDisk}
+use Rattle.crashdisk.specs.Keeps.{SameFiles}
 use Rattle.rollcore.specs.declared.error.RollError.{RollError}
 use Rattle.rollcore.specs.declared.roll.Roll.{Roll}
 use Rattle.rollcore.specs.declared.state.Core.{Core}
 use Rattle.sqworld.specs.Run.{numbered, answer_of, files_of}
 use Rattle.sqworld.specs.Engines.{SaysLeft, IsLeftBy, chosen, IsAlone}
 use Rattle.sqworld.specs.JournalRun.{act_of, is_opening, is_crash}
-use Rattle.sqworld.specs.JournalEngines.{IsSetTo, Happens, ServesTo, Serves, RollServes, FitsClosed, FitsEngine, model_of, disk_of, EngineServes, closed_answer, Answers}
+use Rattle.sqworld.specs.JournalEngines.{IsSetTo, IsCalm, Happens, OnlyCalls, ServesTo, Serves, RollServes, FitsEngine, model_of, disk_of, EngineServes, closed_answer, Answers}
 use Rattle.sqworld.specs.declared.engine.Given.{Given}
 use Rattle.sqworld.specs.declared.journal_engine.JournalEngine.{JournalEngine}
 use Rattle.sqworld.specs.declared.journal_engine.JournalEngine.TheVariants.{Closed, Open}
@@ -32,12 +32,21 @@ use Rattle.sqworld.specs.declared.reply.Reply.TheVariants.{Done as ReplyDone}
 use Rattle.sqworld.specs.declared.reply.Found.{Found}
 use Rattle.sqworld.specs.declared.reply.Crashed.{Crashed as CrashedLog}
 use Rattle.sqworld.proofs.JournalResting.{fits_crash}
-use Rattle.sqworld.proofs.Serving.{and_is, same_count}
+use Rattle.rollcore.proofs.Viewing.{fits_disk_still, fits_still}
+use Rattle.sqworld.proofs.Serving.{and_is}
+use Rattle.sqworld.proofs.Setting.{same_model, stopped_after, stopped_at_sync, failing}
 
 -- what fits an engine fits its disk
 engine_disk : (past : State) (engine : JournalEngine) → FitsEngine past engine → FitsDisk past (disk_of engine)
 engine_disk past (Closed disk) fits = fits.disk
 engine_disk past (Open roll) fits = fits.disk
+
+only : (act : Act) (s t : DiskState) → HasCalls s t → OnlyCalls act s t
+only (Opens found) s t calls = calls
+only (Commits pages size nonces) s t calls = calls
+only (Reads page) s t calls = calls
+only (Crashes left) s t calls = tt
+only Sets s t calls = tt
 
 -- a call's step is an event's
 pub stepped : (page_size : ℕ) (old new : Roll ModelDisk) (act : Act) (told answer : Answer) → told ≡ answer
@@ -48,14 +57,16 @@ stepped page_size old new act told answer same h past size fits may = let steps 
   refused = steps.refused;
   row = subst (λ a. Step past act a (state_of old.disk).refused (state_of new.disk).refused steps.next) same steps.row;
   fits = steps.fits;
-  same = steps.same;
+  sector = steps.same.sector;
+  tears = steps.same.tears;
+  calls = only act (state_of old.disk) (state_of new.disk) steps.same.calls;
 }
 
 -- ---- Openings.
 
 pub opened : (past : State) (found : Files) (s : DiskState) (roll : Roll ModelDisk) → StepsTo past (Opens found) Done roll.core s (state_of roll.disk)
     → ServesTo past (Opens found) Done (λ next. FitsEngine next (Open roll)) s (state_of roll.disk)
-opened past found s roll steps = record { next = steps.next; refused = steps.refused; row = steps.row; fits = steps.fits; same = steps.same }
+opened past found s roll steps = record { next = steps.next; refused = steps.refused; row = steps.row; fits = steps.fits; sector = steps.same.sector; tears = steps.same.tears; calls = steps.same.calls }
 
 pub given_up : (past : State) (found : Files) (error : RollError) (n : ℕ) (s : DiskState) (disk : ModelDisk) → n ≡ number_of error → GivenUpTo past found error s (state_of disk)
     → ServesTo past (Opens found) (Refused n) (λ next. FitsEngine next (Closed disk)) s (state_of disk)
@@ -64,7 +75,9 @@ given_up past found error n s disk is up = record {
   refused = up.refused;
   row = subst (λ k. Step past (Opens found) (Refused k) s.refused (state_of disk).refused up.next) (sym is) up.row;
   fits = record { disk = up.fits; is_closed = ap (λ (x : State). x.is_open) up.row.1 };
-  same = up.same;
+  sector = up.same.sector;
+  tears = up.same.tears;
+  calls = up.same.calls;
 }
 
 are_files : (s : DiskState) (files : Files) → AreWalFiles s files → AreFiles s files
@@ -98,6 +111,10 @@ crash_row : (s : State) (choice : Choice) (crashed : Option CrashedLog) (n m : �
 crash_row s choice (Some crashed) n m = refl
 crash_row s choice None n m = refl
 
+crash_only : (choice : Choice) (crashed : Option CrashedLog) (s t : DiskState) → OnlyCalls (act_of (Crash choice) None crashed) s t
+crash_only choice (Some crashed) s t = tt
+crash_only choice None s t = tt
+
 pub crash_answers : (page_size : ℕ) (tears : Bool) (choice : Choice) (old : JournalEngine) (disk : ModelDisk) (crashed : Option CrashedLog) (s : DiskState) → s ≡ disk_of old → IsLeftBy tears choice crashed s (state_of disk) → disk.stops ≡ no_stops
     → Answers page_size tears (Crash choice) old (record { reply = ReplyDone; found = None; crashed = crashed }) (Closed disk)
 crash_answers page_size tears choice old disk crashed s same left cleared = record {
@@ -117,7 +134,9 @@ crash_answers page_size tears choice old disk crashed s same left cleared = reco
           disk = fits_crash past (chosen choice.db Db s) (chosen choice.log Log s) s (state_of disk) c (permitted tears s (chosen choice.log Log s) crashed choice e (left.says e) may) fit;
           is_closed = refl;
         };
-        same = record { sector = c.sector; tears = c.tears };
+        sector = c.sector;
+        tears = c.tears;
+        calls = crash_only choice crashed s (state_of disk);
       });
 }
 
@@ -136,19 +155,37 @@ closed_row s (StopAfter calls) n m is o k = refl
 closed_row s (StopAtSync syncs) n m is o k = refl
 closed_row s (Fail call part) n m is o k = refl
 
-same_disk : (s t : DiskState) → t ≡ s → IsSameDisk s t
-same_disk s t e = record { sector = ap (λ (x : DiskState). x.sector) e; tears = ap (λ (x : DiskState). x.tears) e }
+closed_files : (event : JEvent) (old new : ModelDisk) → IsSetTo event old new → IsCalm event old new → SameFiles (state_of old) (state_of new)
+closed_files Opening old new set calm = same_model old new calm
+closed_files (Crash choice) old new set calm = same_model old new calm
+closed_files (Commit pages size nonces) old new set calm = same_model old new calm
+closed_files (Read page) old new set calm = same_model old new calm
+closed_files (StopAfter calls) old new set calm = stopped_after old new calls set
+closed_files (StopAtSync syncs) old new set calm = stopped_at_sync old new syncs set
+closed_files (Fail call part) old new set calm = failing old new call part set
 
-pub closed_serves : {E : Type 0} (r : Result Reply E) (page_size : ℕ) (event : JEvent) (old new : ModelDisk) → IfOk r (λ reply. answer_of reply ≡ closed_answer event) → state_of new ≡ state_of old
+closed_only : (event : JEvent) (old new : ModelDisk) → IsCalm event old new → OnlyCalls (act_of event None None) (state_of old) (state_of new)
+closed_only Opening old new calm = tt
+closed_only (Crash choice) old new calm = tt
+closed_only (Commit pages size nonces) old new calm = ([], ap state_of calm)
+closed_only (Read page) old new calm = ([], ap state_of calm)
+closed_only (StopAfter calls) old new calm = tt
+closed_only (StopAtSync syncs) old new calm = tt
+closed_only (Fail call part) old new calm = tt
+
+pub closed_serves : {E : Type 0} (r : Result Reply E) (page_size : ℕ) (event : JEvent) (old new : ModelDisk) → IfOk r (λ reply. answer_of reply ≡ closed_answer event) → OnOk r (IsSetTo event old new) → OnOk r (IsCalm event old new)
     → IfOk r (λ reply. is_opening event ≡ false → is_crash event ≡ false → EngineServes page_size (Closed old) (Closed new) (act_of event None None) (answer_of reply))
-closed_serves (Err e) page_size event old new told same = tt
-closed_serves (Ok reply) page_size event old new told same = λ o k past size fits may.
+closed_serves (Err e) page_size event old new told set calm = tt
+closed_serves (Ok reply) page_size event old new told set calm = λ o k past size fits may.
+    let files = closed_files event old new set calm in
     subst (λ a. ServesTo past (act_of event None None) a (λ next. FitsEngine next (Closed new)) (state_of old) (state_of new)) (sym told) (record {
       next = past;
-      refused = same_count (state_of old) (state_of new) same;
+      refused = files.refused;
       row = closed_row past event (state_of old).refused (state_of new).refused fits.is_closed o k;
-      fits = subst (λ (t : DiskState). FitsClosed past t) (sym same) fits;
-      same = same_disk (state_of old) (state_of new) same;
+      fits = record { disk = fits_disk_still past (state_of old) (state_of new) files fits.disk; is_closed = fits.is_closed };
+      sector = files.sector;
+      tears = files.tears;
+      calls = closed_only event old new calm;
     })
 
 -- ---- Calls of an engine.
@@ -158,15 +195,27 @@ pub guarded : {E : Type 0} (r : Result Reply E) (page_size : ℕ) (old new : Rol
 guarded (Err x) page_size old new event act e h = tt
 guarded (Ok reply) page_size old new event act e h = λ o k. subst (λ a. RollServes page_size old new a (answer_of reply)) e h
 
-pub set_serves : (page_size : ℕ) (old new : Roll ModelDisk) (event : JEvent) → act_of event None None ≡ Sets → new.core ≡ old.core → state_of new.disk ≡ state_of old.disk
+event_files : (event : JEvent) (old new : ModelDisk) → is_opening event ≡ false → act_of event None None ≡ Sets → IsSetTo event old new → SameFiles (state_of old) (state_of new)
+event_files Opening old new o is set = absurd (cc o)
+event_files (Crash choice) old new o is set = absurd (cc is)
+event_files (Commit pages size nonces) old new o is set = absurd (cc is)
+event_files (Read page) old new o is set = absurd (cc is)
+event_files (StopAfter calls) old new o is set = stopped_after old new calls set
+event_files (StopAtSync syncs) old new o is set = stopped_at_sync old new syncs set
+event_files (Fail call part) old new o is set = failing old new call part set
+
+pub set_serves : (page_size : ℕ) (old new : Roll ModelDisk) (event : JEvent) → is_opening event ≡ false → act_of event None None ≡ Sets → new.core ≡ old.core → IsSetTo event old.disk new.disk
     → RollServes page_size old new (act_of event None None) Done
-set_serves page_size old new event is core disk past size fits may =
+set_serves page_size old new event o is core set past size fits may =
+    let files = event_files event old.disk new.disk o is set in
     subst (λ act. ServesTo past act Done (λ next. Fits state_of new next) (state_of old.disk) (state_of new.disk)) (sym is) (record {
       next = past;
-      refused = same_count (state_of old.disk) (state_of new.disk) disk;
+      refused = files.refused;
       row = refl;
-      fits = subst (λ (t : DiskState). FitsCore past new.core t) (sym disk) (subst (λ (x : Core). FitsCore past x (state_of old.disk)) (sym core) fits);
-      same = same_disk (state_of old.disk) (state_of new.disk) disk;
+      fits = subst (λ (x : Core). FitsCore past x (state_of new.disk)) (sym core) (fits_still past old.core (state_of old.disk) (state_of new.disk) files fits);
+      sector = files.sector;
+      tears = files.tears;
+      calls = tt;
     })
 
 -- an event of no other kind sets a stop or a failure

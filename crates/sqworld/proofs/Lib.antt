@@ -1,3 +1,4 @@
+pub mod Setting
 pub mod Stepped
 pub mod Based
 pub mod Resting

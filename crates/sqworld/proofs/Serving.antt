@@ -1,7 +1,7 @@
 -- An event, with an engine and without one.
-use Rattle.std.proofs.Common.{◌≡◌, ℕ, zero, suc, ◌+◌, ◌≤◌, Bool, true, false, ◌&&◌, List, [], ◌∷◌, ◌++◌, length, replicate, get_or, Option, Some, None, is_some, Result, Ok, Err, IfOk, OnOk, cond, not, Vec, Global, refl, sym, ◌∙◌, ap, subst, arith}
+use Rattle.std.proofs.Common.{◌≡◌, ℕ, zero, suc, ◌+◌, Bool, true, false, ◌&&◌, List, [], ◌∷◌, ◌++◌, length, replicate, get_or, Option, Some, None, is_some, Result, Ok, Err, IfOk, OnOk, cond, not, Vec, Global, refl, sym, ◌∙◌, ap, subst, arith}
 use Rattle.std.proofs.lemmas.List.{length-replicate, append-nil}
-use Rattle.crashdisk.specs.Call.{DiskState}
+use Rattle.crashdisk.specs.Call.{DiskState, HasCalls}
 use Rattle.crashdisk.specs.Model.{state_of}
 use Rattle.crashdisk.specs.Stop.{no_stops}
 use Rattle.crashdisk.specs.declared.file.File.TheVariants.{Db, Log}
@@ -17,13 +17,13 @@ use Rattle.std.specs.List.{list_any}
 use Rattle.walcore.specs.Making.{Made, Makes, Permits}
 use Rattle.walcore.specs.Refusal.{number_of}
 use Rattle.walcore.specs.Fits.{Past, FitsAlone, FitsCore, AreFiles, StepsTo, GivenUpTo, none_open}
-use Rattle.crashdisk.specs.Keeps.{IsSameDisk}
+use Rattle.crashdisk.specs.Keeps.{SameFiles}
 use Rattle.walcore.specs.declared.error.WalError.{WalError}
 use Rattle.walcore.specs.declared.reader.Reader.{Reader}
 use Rattle.walcore.specs.declared.wal.Wal.{Wal}
 use Rattle.sqworld.specs.Run.{numbered, act_of, answer_of, files_of, is_opening, is_crash}
-use Rattle.sqworld.specs.Sessions.{FitsSession, Serves, ServesTo, SessionServes}
-use Rattle.sqworld.specs.Engines.{SaysLeft, IsLeftBy, chosen, IsSetTo, Happens, FitsClosed, FitsEngine, model_of, disk_of, begun_of, EngineServes, closed_answer, Answers, IsAlone}
+use Rattle.sqworld.specs.Sessions.{FitsSession, OnlyCalls, Serves, ServesTo, SessionServes}
+use Rattle.sqworld.specs.Engines.{SaysLeft, IsLeftBy, chosen, IsSetTo, IsCalm, Happens, FitsEngine, model_of, disk_of, begun_of, EngineServes, closed_answer, Answers, IsAlone}
 use Rattle.sqworld.specs.declared.engine.Engine.{Engine}
 use Rattle.sqworld.specs.declared.engine.Engine.TheVariants.{Closed, Open}
 use Rattle.sqworld.specs.declared.engine.Given.{Given}
@@ -34,7 +34,9 @@ use Rattle.sqworld.specs.declared.reply.Reply.TheVariants.{Done as ReplyDone}
 use Rattle.sqworld.specs.declared.reply.Found.{Found}
 use Rattle.sqworld.specs.declared.reply.Crashed.{Crashed as CrashedLog}
 use Rattle.sqworld.specs.declared.session.Session.{Session}
+use Rattle.walcore.proofs.Fitting.{same_core, fits_disk_still, fits_same}
 use Rattle.sqworld.proofs.Resting.{fits_crash}
+use Rattle.sqworld.proofs.Setting.{same_model, stopped_after, stopped_at_sync, failing}
 
 -- ---- Tokens.
 
@@ -88,7 +90,9 @@ opened_session past salts found s wal session begun same first slots count steps
         core = is.fits;
         tokens = all_none past.tokens begun count ∙ (ap (λ n. replicate n None) (sym first) ∙ (sym (append-nil (replicate session.first None)) ∙ ap (λ x. replicate session.first None ++ x) (sym slots)));
       };
-      same = is.same;
+      sector = is.same.sector;
+      tears = is.same.tears;
+      calls = is.same.calls;
     }
 
 pub given_up : (past : Past) (salts : ℕ × ℕ) (found : Files) (error : WalError) (number : ℕ) (s : DiskState) (disk : ModelDisk) (begun : ℕ) → number ≡ number_of error → length past.tokens ≡ begun
@@ -105,7 +109,9 @@ given_up past salts found error number s disk begun is count up = record {
     readers = ap (λ (x : State). x.readers) up.row.1 ∙ (forgotten_twice past.state.readers ∙ ap (λ (x : State). forgotten x.readers) (sym up.row.1));
     tokens = all_none past.tokens begun count;
   };
-  same = up.same;
+  sector = up.same.sector;
+  tears = up.same.tears;
+  calls = up.same.calls;
 }
 
 pub open_answers : (page_size : ℕ) (tears : Bool) (event : Event) (old new : Engine) (salts : ℕ × ℕ) (reply : Reply) (found : Found) (s : DiskState) → event ≡ OpenEvent salts → s ≡ disk_of old → AreFiles s (files_of found)
@@ -153,6 +159,21 @@ not_opening : (event : Event) → is_crash event ≡ true → false ≡ is_openi
 not_opening (OpenEvent salts) is = absurd (cc is)
 not_opening event is = refl
 
+crash_only : (event : Event) (crashed : Option CrashedLog) (s t : DiskState) → is_crash event ≡ true → OnlyCalls (act_of event None crashed) s t
+crash_only (Crash choice) (Some crashed) s t is = tt
+crash_only (Crash choice) None s t is = tt
+crash_only (OpenEvent salts) crashed s t is = absurd (cc is)
+crash_only (Commit pages size) crashed s t is = absurd (cc is)
+crash_only Sync crashed s t is = absurd (cc is)
+crash_only Checkpoint crashed s t is = absurd (cc is)
+crash_only (Restart salt2) crashed s t is = absurd (cc is)
+crash_only Begin crashed s t is = absurd (cc is)
+crash_only (Read reader page) crashed s t is = absurd (cc is)
+crash_only (End reader) crashed s t is = absurd (cc is)
+crash_only (StopAfter calls) crashed s t is = absurd (cc is)
+crash_only (StopAtSync syncs) crashed s t is = absurd (cc is)
+crash_only (Fail call part) crashed s t is = absurd (cc is)
+
 pub crash_answers : (page_size : ℕ) (tears : Bool) (event : Event) (choice : Choice) (old : Engine) (disk : ModelDisk) (begun : ℕ) (crashed : Option CrashedLog) (s : DiskState) → event ≡ Crash choice → s ≡ disk_of old → begun ≡ begun_of old
     → IsLeftBy tears choice crashed s (state_of disk) → disk.stops ≡ no_stops
     → Answers page_size tears event old (record { reply = ReplyDone; found = None; crashed = crashed }) (Closed disk begun)
@@ -176,7 +197,9 @@ crash_answers page_size tears event choice old disk begun crashed s named same c
           readers = forgotten_twice past.state.readers;
           tokens = all_none past.tokens begun (engine_tokens past old fits ∙ sym count);
         };
-        same = record { sector = c.sector; tears = c.tears };
+        sector = c.sector;
+        tears = c.tears;
+        calls = crash_only event crashed s (state_of disk) is;
       });
 }
 
@@ -213,23 +236,56 @@ closed_makes size sector tears made (StopAfter calls) o k = refl
 closed_makes size sector tears made (StopAtSync syncs) o k = refl
 closed_makes size sector tears made (Fail call part) o k = refl
 
-same_disk : (s t : DiskState) → t ≡ s → IsSameDisk s t
-same_disk s t e = record { sector = ap (λ (x : DiskState). x.sector) e; tears = ap (λ (x : DiskState). x.tears) e }
+closed_files : (event : Event) (old new : ModelDisk) → IsSetTo event old new → IsCalm event old new → SameFiles (state_of old) (state_of new)
+closed_files (OpenEvent salts) old new set calm = same_model old new calm
+closed_files (Crash choice) old new set calm = same_model old new calm
+closed_files (Commit pages s) old new set calm = same_model old new calm
+closed_files Sync old new set calm = same_model old new calm
+closed_files Checkpoint old new set calm = same_model old new calm
+closed_files (Restart salt2) old new set calm = same_model old new calm
+closed_files Begin old new set calm = same_model old new calm
+closed_files (Read reader page) old new set calm = same_model old new calm
+closed_files (End reader) old new set calm = same_model old new calm
+closed_files (StopAfter calls) old new set calm = stopped_after old new calls set
+closed_files (StopAtSync syncs) old new set calm = stopped_at_sync old new syncs set
+closed_files (Fail call part) old new set calm = failing old new call part set
 
-pub same_count : (s t : DiskState) → t ≡ s → s.refused ≤ t.refused
-same_count s t e = let r = ap (λ (x : DiskState). x.refused) e in omega (arith, r)
+uncalled : (old new : ModelDisk) → new ≡ old → HasCalls (state_of old) (state_of new)
+uncalled old new same = ([], ap state_of same)
 
-pub closed_serves : {E : Type 0} (r : Result Reply E) (page_size : ℕ) (event : Event) (old new : ModelDisk) (begun : ℕ) → IfOk r (λ reply. answer_of reply ≡ closed_answer event) → state_of new ≡ state_of old
+closed_only : (event : Event) (old new : ModelDisk) → IsCalm event old new → OnlyCalls (act_of event None None) (state_of old) (state_of new)
+closed_only (OpenEvent salts) old new calm = tt
+closed_only (Crash choice) old new calm = tt
+closed_only (Commit pages s) old new calm = uncalled old new calm
+closed_only Sync old new calm = uncalled old new calm
+closed_only Checkpoint old new calm = uncalled old new calm
+closed_only (Restart salt2) old new calm = uncalled old new calm
+closed_only Begin old new calm = uncalled old new calm
+closed_only (Read reader page) old new calm = uncalled old new calm
+closed_only (End reader) old new calm = uncalled old new calm
+closed_only (StopAfter calls) old new calm = tt
+closed_only (StopAtSync syncs) old new calm = tt
+closed_only (Fail call part) old new calm = tt
+
+pub closed_serves : {E : Type 0} (r : Result Reply E) (page_size : ℕ) (event : Event) (old new : ModelDisk) (begun : ℕ) → IfOk r (λ reply. answer_of reply ≡ closed_answer event) → OnOk r (IsSetTo event old new) → OnOk r (IsCalm event old new)
     → IfOk r (λ reply. is_opening event ≡ false → is_crash event ≡ false → EngineServes page_size (Closed old begun) (Closed new begun) (act_of event None None) (answer_of reply))
-closed_serves (Err e) page_size event old new begun told same = tt
-closed_serves (Ok reply) page_size event old new begun told same = λ o k past size fits may.
+closed_serves (Err e) page_size event old new begun told set calm = tt
+closed_serves (Ok reply) page_size event old new begun told set calm = λ o k past size fits may.
+    let files = closed_files event old new set calm in
     subst (λ a. ServesTo past (act_of event None None) a (λ next. FitsEngine next (Closed new begun)) (state_of old) (state_of new)) (sym told) (record {
       next = past;
-      refused = same_count (state_of old) (state_of new) same;
+      refused = files.refused;
       row = closed_row past.state event (state_of old).refused (state_of new).refused fits.is_closed fits.readers o k;
       makes = closed_makes past.state.page_size (state_of old).sector (state_of old).tears past.made event o k;
-      fits = subst (λ (t : DiskState). FitsClosed past begun t) (sym same) fits;
-      same = same_disk (state_of old) (state_of new) same;
+      fits = record {
+        alone = record { disk = fits_disk_still (state_of old) (state_of new) files past fits.alone.disk; count = fits.alone.count };
+        is_closed = fits.is_closed;
+        readers = fits.readers;
+        tokens = fits.tokens;
+      };
+      sector = files.sector;
+      tears = files.tears;
+      calls = closed_only event old new calm;
     })
 
 -- ---- Calls of an engine.
@@ -243,19 +299,36 @@ pub told_act : (page_size : ℕ) (old new : Session) (event : Event) (a : Act) (
     → is_opening event ≡ false → is_crash event ≡ false → SessionServes page_size old new (act_of event None None) answer
 told_act page_size old new event a answer e h o k = subst (λ act. SessionServes page_size old new act answer) e h
 
-pub set_serves : (page_size : ℕ) (old new : Session) (event : Event) → act_of event None None ≡ Sets → new.wal.core ≡ old.wal.core → state_of new.wal.disk ≡ state_of old.wal.disk → new.first ≡ old.first → new.slots ≡ old.slots
+event_files : (event : Event) (old new : ModelDisk) → is_opening event ≡ false → act_of event None None ≡ Sets → IsSetTo event old new → SameFiles (state_of old) (state_of new)
+event_files (OpenEvent salts) old new o is set = absurd (cc o)
+event_files (Crash choice) old new o is set = absurd (cc is)
+event_files (Commit pages s) old new o is set = absurd (cc is)
+event_files Sync old new o is set = absurd (cc is)
+event_files Checkpoint old new o is set = absurd (cc is)
+event_files (Restart salt2) old new o is set = absurd (cc is)
+event_files Begin old new o is set = absurd (cc is)
+event_files (Read reader page) old new o is set = absurd (cc is)
+event_files (End reader) old new o is set = absurd (cc is)
+event_files (StopAfter calls) old new o is set = stopped_after old new calls set
+event_files (StopAtSync syncs) old new o is set = stopped_at_sync old new syncs set
+event_files (Fail call part) old new o is set = failing old new call part set
+
+pub set_serves : (page_size : ℕ) (old new : Session) (event : Event) → is_opening event ≡ false → act_of event None None ≡ Sets → new.wal.core ≡ old.wal.core → IsSetTo event old.wal.disk new.wal.disk → new.first ≡ old.first → new.slots ≡ old.slots
     → SessionServes page_size old new (act_of event None None) Done
-set_serves page_size old new event is core disk first slots past size fits may =
+set_serves page_size old new event o is core set first slots past size fits may =
+    let files = event_files event old.wal.disk new.wal.disk o is set in
     subst (λ act. ServesTo past act Done (λ next. FitsSession next new) (state_of old.wal.disk) (state_of new.wal.disk)) (sym is) (record {
       next = past;
-      refused = same_count (state_of old.wal.disk) (state_of new.wal.disk) disk;
+      refused = files.refused;
       row = refl;
       makes = refl;
       fits = record {
-        core = subst (λ (t : DiskState). FitsCore past new.wal.core t) (sym disk) (subst (λ (x : Core). FitsCore past x (state_of old.wal.disk)) (sym core) fits.core);
+        core = subst (λ (x : Core). FitsCore past x (state_of new.wal.disk)) (sym core) (fits_same old.wal.core old.wal.core (state_of old.wal.disk) (state_of new.wal.disk) (same_core old.wal.core) files past refl fits.core);
         tokens = fits.tokens ∙ (ap (λ n. replicate n None ++ old.slots.items) (sym first) ∙ ap (λ (x : Vec (Option Reader) Global). replicate new.first None ++ x.items) (sym slots));
       };
-      same = same_disk (state_of old.wal.disk) (state_of new.wal.disk) disk;
+      sector = files.sector;
+      tears = files.tears;
+      calls = tt;
     })
 
 -- an event of no other kind sets a stop or a failure

@@ -2,9 +2,11 @@
 use Rattle.std.proofs.Common.{◌≡◌, ℕ, zero, suc, ◌+◌, ◌<◌, List, [], ◌∷◌, ◌++◌, length, take, drop, replicate, set, slice_get, get_or, Option, Some, None, Result, Ok, Err, IfOk, Vec, Global, length-append, refl, sym, ◌∙◌, ap, subst, arith, append_assoc}
 use Rattle.std.proofs.lemmas.List.{length-replicate}
 use Rattle.std.proofs.lemmas.Grind.{common_steps}
+use Rattle.crashdisk.specs.Call.{DiskState, HasCalls}
 use Rattle.crashdisk.specs.Model.{state_of}
+use Rattle.crashdisk.proofs.Called.{no_calls}
 use Rattle.sqval.specs.Answers.{Answer, Done, NoReader, Reader as ReaderAnswer}
-use Rattle.walcore.specs.Machine.{Act, Begins, Reads, Ends, reader_at, Step, ReadStep, EndStep}
+use Rattle.walcore.specs.Machine.{Act, Opens, Commits, Syncs, Begins, Reads, Ends, Checkpoints, Restarts, Crashes, Sets, reader_at, Step, ReadStep, EndStep}
 use Rattle.walcore.specs.Making.{Makes, Permits}
 use Rattle.walcore.specs.declared.wal.Wal.{Wal}
 use Rattle.crashdisk.specs.declared.model.ModelDisk.{ModelDisk}
@@ -13,8 +15,20 @@ use Rattle.walcore.specs.declared.reader.Reader.{Reader}
 use Rattle.sqworld.specs.Run.{answer_of}
 use Rattle.sqworld.specs.declared.reply.Reply.{Reply}
 use Rattle.sqworld.specs.declared.reply.Reply.TheVariants.{Reader as ReplyReader}
-use Rattle.sqworld.specs.Sessions.{tokens_by, tokens_of, FitsSession, ServesTo, SessionServes}
+use Rattle.sqworld.specs.Sessions.{tokens_by, tokens_of, FitsSession, OnlyCalls, ServesTo, SessionServes}
 use Rattle.sqworld.specs.declared.session.Session.{Session}
+
+only : (act : Act) (s t : DiskState) → HasCalls s t → OnlyCalls act s t
+only (Opens salts found) s t calls = calls
+only (Commits pages size) s t calls = calls
+only Syncs s t calls = calls
+only Begins s t calls = calls
+only (Reads reader page) s t calls = calls
+only (Ends reader) s t calls = calls
+only Checkpoints s t calls = calls
+only (Restarts salt2) s t calls = calls
+only (Crashes left) s t calls = tt
+only Sets s t calls = tt
 
 -- a call's step is an event's
 pub stepped : (past : Past) (old new : Session) (tokens : List (Option Reader)) (act : Act) (told answer : Answer) → told ≡ answer → tokens ≡ tokens_of new
@@ -26,7 +40,9 @@ stepped past old new tokens act told answer same are steps = record {
   row = subst (λ a. Step past.state act a (state_of old.wal.disk).refused (state_of new.wal.disk).refused steps.next) same steps.row;
   makes = subst (λ a. Makes past.state.page_size (state_of old.wal.disk).sector (state_of old.wal.disk).tears past.made act a steps.made) same steps.makes;
   fits = record { core = steps.fits; tokens = are };
-  same = steps.same;
+  sector = steps.same.sector;
+  tears = steps.same.tears;
+  calls = only act (state_of old.wal.disk) (state_of new.wal.disk) steps.same.calls;
 }
 
 -- of one that leaves the readers alone
@@ -53,7 +69,9 @@ no_read page_size old number page none past size fits may = record {
   row = subst (λ place. ReadStep place past.state page NoReader (state_of old.wal.disk).refused (state_of old.wal.disk).refused past.state) (sym (not_open past old number fits none)) refl;
   makes = refl;
   fits = fits;
-  same = record { sector = refl; tears = refl };
+  sector = refl;
+  tears = refl;
+  calls = no_calls (state_of old.wal.disk);
 }
 
 pub no_end : (page_size : ℕ) (old : Session) (number : ℕ) → get_or (tokens_of old) number None ≡ None → SessionServes page_size old old (Ends number) NoReader
@@ -63,7 +81,9 @@ no_end page_size old number none past size fits may = record {
   row = subst (λ place. EndStep place past.state number NoReader past.state) (sym (not_open past old number fits none)) refl;
   makes = refl;
   fits = fits;
-  same = record { sector = refl; tears = refl };
+  sector = refl;
+  tears = refl;
+  calls = no_calls (state_of old.wal.disk);
 }
 
 -- ---- Tokens behind those that are forgotten.

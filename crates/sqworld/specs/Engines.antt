@@ -61,6 +61,13 @@ IsSetTo (StopAtSync syncs) old new = new ≡ stopping_at_sync syncs old
 IsSetTo (Fail call part) old new = FailsAt call part old new
 IsSetTo event old new = Unit {0}
 
+-- nothing is done to a disk without an engine but what is set
+abbrev pub IsCalm : Event → (old new : ModelDisk) → Type 0
+IsCalm (StopAfter calls) old new = Unit {0}
+IsCalm (StopAtSync syncs) old new = Unit {0}
+IsCalm (Fail call part) old new = Unit {0}
+IsCalm event old new = new ≡ old
+
 -- What an event does to the disk itself: a crash leaves the files that its choice names, and nothing set.
 abbrev pub Happens : (tears : Bool) → Event → Option CrashedLog → (old new : ModelDisk) → Type 0
 Happens tears (Crash choice) left old new = IsLeftBy tears choice left (state_of old) (state_of new) × (new.stops ≡ no_stops)

@@ -1,14 +1,13 @@
 -- How the engine of a run over a rollback journal, or the disk without one, goes from one event to the next (own).
 use Rattle.std.specs.Prelude.{◌≡◌, ℕ, ◌≤◌, Bool, false, ◌&&◌, Option, is_some, IfSome}
-use Rattle.crashdisk.specs.Call.{DiskState}
+use Rattle.crashdisk.specs.Call.{DiskState, HasCalls}
 use Rattle.crashdisk.specs.Model.{state_of}
 use Rattle.crashdisk.specs.Stop.{no_stops}
 use Rattle.crashdisk.specs.declared.model.ModelDisk.{ModelDisk}
 use Rattle.sqval.specs.Answers.{Answer, Done, Refused}
-use Rattle.rollcore.specs.Machine.{State, Act, Step}
+use Rattle.rollcore.specs.Machine.{State, Act, Crashes, Sets, Step}
 use Rattle.rollcore.specs.Premises.{Permits}
 use Rattle.rollcore.specs.Fits.{FitsDisk, Fits, AreFiles}
-use Rattle.crashdisk.specs.Keeps.{IsSameDisk}
 use Rattle.rollcore.specs.declared.roll.Roll.{Roll}
 use Rattle.sqworld.specs.Run.{answer_of, files_of}
 use Rattle.sqworld.specs.Engines.{IsLeftBy, stopping_after, stopping_at_sync, FailsAt}
@@ -27,18 +26,33 @@ IsSetTo (StopAtSync syncs) old new = new ≡ stopping_at_sync syncs old
 IsSetTo (Fail call part) old new = FailsAt call part old new
 IsSetTo event old new = Unit {0}
 
+-- nothing is done to a disk without an engine but what is set
+abbrev pub IsCalm : JEvent → (old new : ModelDisk) → Type 0
+IsCalm (StopAfter calls) old new = Unit {0}
+IsCalm (StopAtSync syncs) old new = Unit {0}
+IsCalm (Fail call part) old new = Unit {0}
+IsCalm event old new = new ≡ old
+
 -- What an event does to the disk itself: a crash leaves the files that its choice names, and nothing set.
 abbrev pub Happens : (tears : Bool) → JEvent → Option CrashedLog → (old new : ModelDisk) → Type 0
 Happens tears (Crash choice) left old new = IsLeftBy tears choice left (state_of old) (state_of new) × (new.stops ≡ no_stops)
 Happens tears event left old new = IsSetTo event old new
 
--- The machine goes on by a row of its table, and what is handed along fits again.
+-- Nothing is done to the disk but calls of it, unless the event sets a stop or a failure, or is a crash.
+abbrev pub OnlyCalls : Act → (old new : DiskState) → Type 0
+OnlyCalls Sets old new = Unit {0}
+OnlyCalls (Crashes left) old new = Unit {0}
+OnlyCalls act old new = HasCalls old new
+
+-- The machine goes on by a row of its table, what is handed along fits again, and the disk's sectors are the same.
 pub record ServesTo (past : State) (act : Act) (answer : Answer) (FitsNext : State → Type 0) (old new : DiskState) : Type 0 where
   pub next : State
   pub refused : old.refused ≤ new.refused
   pub row : Step past act answer old.refused new.refused next
   pub fits : FitsNext next
-  pub same : IsSameDisk old new
+  pub sector : new.sector ≡ old.sector
+  pub tears : new.tears ≡ old.tears
+  pub calls : OnlyCalls act old new
 
 -- one event, for whatever fits
 abbrev pub Serves : (page_size : ℕ) (FitsOld FitsNext : State → Type 0) (old new : DiskState) → Act → Answer → Type 0

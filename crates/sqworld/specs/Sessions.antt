@@ -1,12 +1,11 @@
 -- How an engine and its readers go from one call to the next (own).
 use Rattle.std.specs.Prelude.{◌≡◌, ℕ, ◌+◌, ◌≤◌, List, ◌++◌, length, replicate, Option, None}
-use Rattle.crashdisk.specs.Call.{DiskState}
+use Rattle.crashdisk.specs.Call.{DiskState, HasCalls}
 use Rattle.crashdisk.specs.Model.{state_of}
 use Rattle.sqval.specs.Answers.{Answer}
-use Rattle.walcore.specs.Machine.{Act, Step}
+use Rattle.walcore.specs.Machine.{Act, Crashes, Sets, Step}
 use Rattle.walcore.specs.Making.{Makes, Permits}
 use Rattle.walcore.specs.Fits.{Past, FitsCore}
-use Rattle.crashdisk.specs.Keeps.{IsSameDisk}
 use Rattle.walcore.specs.declared.reader.Reader.{Reader}
 use Rattle.sqworld.specs.declared.session.Session.{Session}
 
@@ -26,14 +25,22 @@ pub record FitsSession (past : Past) (session : Session) : Type 0 where
   pub core : FitsCore past session.wal.core (state_of session.wal.disk)
   pub tokens : past.tokens ≡ tokens_of session
 
--- The machine goes on by a row of its table, and what is handed along fits again.
+-- Nothing is done to the disk but calls of it, unless the event sets a stop or a failure, or is a crash.
+abbrev pub OnlyCalls : Act → (old new : DiskState) → Type 0
+OnlyCalls Sets old new = Unit {0}
+OnlyCalls (Crashes left) old new = Unit {0}
+OnlyCalls act old new = HasCalls old new
+
+-- The machine goes on by a row of its table, what is handed along fits again, and the disk's sectors are the same.
 pub record ServesTo (past : Past) (act : Act) (answer : Answer) (FitsNext : Past → Type 0) (old new : DiskState) : Type 0 where
   pub next : Past
   pub refused : old.refused ≤ new.refused
   pub row : Step past.state act answer old.refused new.refused next.state
   pub makes : Makes past.state.page_size old.sector old.tears past.made act answer next.made
   pub fits : FitsNext next
-  pub same : IsSameDisk old new
+  pub sector : new.sector ≡ old.sector
+  pub tears : new.tears ≡ old.tears
+  pub calls : OnlyCalls act old new
 
 -- One event, for whatever fits.
 abbrev pub Serves : (page_size : ℕ) (FitsOld FitsNext : Past → Type 0) (old new : DiskState) → Act → Answer → Type 0

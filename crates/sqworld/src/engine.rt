@@ -9,7 +9,7 @@ ghost use Rattle.walcore.specs.Making.{Permits};
 ghost use Rattle.walcore.specs.Fits.{Past, FitsAlone, AreFiles};
 ghost use Rattle.sqworld.specs.Run.{act_of, answer_of, files_of, is_opening, is_crash, numbered};
 ghost use Rattle.sqworld.specs.Sessions.{ServesTo, SessionServes, begun_by};
-ghost use Rattle.sqworld.specs.Engines.{IsLeftBy, FailsAt, IsSetTo, IsAlone, closed_answer, FitsEngine, model_of, disk_of, begun_of, EngineServes, Answers};
+ghost use Rattle.sqworld.specs.Engines.{IsLeftBy, FailsAt, IsSetTo, IsCalm, IsAlone, closed_answer, FitsEngine, model_of, disk_of, begun_of, EngineServes, Answers};
 
 use crate::event::Event;
 use crate::reply::{Crashed, Found, Reply};
@@ -95,7 +95,6 @@ pub(crate) fn fail_disk(
     call: u64,
     part: &Part,
 ) -> Result<(), AllocError>
-    ensures state { state_of disk.new ≡ state_of disk.old }
     ensures set { OnOk result (FailsAt call part.now disk.old disk.new) }
 {
     let pick = Vec::from_slice(alloc, &part.pick)?;
@@ -106,7 +105,6 @@ pub(crate) fn fail_disk(
 
 /// Sets a stop or a failure.
 fn set_disk(alloc: Global, disk: &mut ModelDisk, event: &Event) -> Result<(), AllocError>
-    ensures state { state_of disk.new ≡ state_of disk.old }
     ensures set { OnOk result (IsSetTo event.now disk.old disk.new) }
 {
     match event {
@@ -121,8 +119,8 @@ fn set_disk(alloc: Global, disk: &mut ModelDisk, event: &Event) -> Result<(), Al
 /// What a disk without an engine answers.
 fn refuse(alloc: Global, disk: &mut ModelDisk, event: &Event) -> Result<Reply, AllocError>
     ensures reply { IfOk result (λ reply. answer_of reply ≡ closed_answer event.now) }
-    ensures disk { state_of disk.new ≡ state_of disk.old }
     ensures set { OnOk result (IsSetTo event.now disk.old disk.new) }
+    ensures calm { OnOk result (IsCalm event.now disk.old disk.new) }
 {
     match event {
         Event::Read { .. } | Event::End { .. } => Ok(Reply::NoReader),
@@ -146,7 +144,6 @@ impl Session {
     /// Sets a stop or a failure of the disk.
     fn set(&mut self, alloc: Global, event: &Event) -> Result<(), AllocError>
         ensures core { self.new.wal.core ≡ self.old.wal.core }
-        ensures disk { state_of self.new.wal.disk ≡ state_of self.old.wal.disk }
         ensures set { OnOk result (IsSetTo event.now self.old.wal.disk self.new.wal.disk) }
         ensures first { self.new.first ≡ self.old.first }
         ensures slots { self.new.slots ≡ self.old.slots }

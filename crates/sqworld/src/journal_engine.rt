@@ -6,7 +6,7 @@ ghost use Rattle.rollcore.specs.Machine.{State, Opens, Commits, Reads};
 ghost use Rattle.rollcore.specs.Fits.{FitsDisk, AreFiles, answered};
 ghost use Rattle.sqworld.specs.Run.{answer_of, numbered};
 ghost use Rattle.sqworld.specs.JournalRun.{act_of, is_opening, is_crash};
-ghost use Rattle.sqworld.specs.JournalEngines.{IsSetTo, ServesTo, RollServes, closed_answer, FitsEngine, model_of, disk_of, EngineServes, Answers};
+ghost use Rattle.sqworld.specs.JournalEngines.{IsSetTo, IsCalm, ServesTo, RollServes, closed_answer, FitsEngine, model_of, disk_of, EngineServes, Answers};
 
 use crate::engine::{Given, alone, crash_disk, fail_disk, find};
 use crate::journal_event::JEvent;
@@ -73,7 +73,6 @@ fn read(
 
 /// Sets a stop or a failure.
 fn set_disk(alloc: Global, disk: &mut ModelDisk, event: &JEvent) -> Result<(), AllocError>
-    ensures state { state_of disk.new ≡ state_of disk.old }
     ensures set { OnOk result (IsSetTo event.now disk.old disk.new) }
 {
     match event {
@@ -88,7 +87,6 @@ fn set_disk(alloc: Global, disk: &mut ModelDisk, event: &JEvent) -> Result<(), A
 /// Sets a stop or a failure of an engine's disk.
 fn set(alloc: Global, roll: &mut Roll<ModelDisk>, event: &JEvent) -> Result<(), AllocError>
     ensures core { roll.new.core ≡ roll.old.core }
-    ensures disk { state_of roll.new.disk ≡ state_of roll.old.disk }
     ensures set { OnOk result (IsSetTo event.now roll.old.disk roll.new.disk) }
 {
     set_disk(alloc, roll.disk(), event)
@@ -121,8 +119,8 @@ fn answer(
 /// And without an engine.
 fn refuse(alloc: Global, disk: &mut ModelDisk, event: &JEvent) -> Result<Reply, AllocError>
     ensures reply { IfOk result (λ reply. answer_of reply ≡ closed_answer event.now) }
-    ensures disk { state_of disk.new ≡ state_of disk.old }
     ensures set { OnOk result (IsSetTo event.now disk.old disk.new) }
+    ensures calm { OnOk result (IsCalm event.now disk.old disk.new) }
 {
     match event {
         JEvent::StopAfter(_) | JEvent::StopAtSync(_) | JEvent::Fail { .. } => {

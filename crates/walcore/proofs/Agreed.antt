@@ -30,7 +30,7 @@ use Rattle.walcore.proofs.Narrowing.{narrows_looks, narrows_syncs}
 use Rattle.walcore.proofs.Recovered.{none_front}
 use Rattle.walcore.proofs.Restarting.{greatest_changed}
 use Rattle.walcore.proofs.Standing.{read_cases}
-use Rattle.crashdisk.proofs.Stills.{image_still, present_in, still_sound}
+use Rattle.crashdisk.proofs.Stills.{image_still, present_in, still_sound, same_files}
 
 module _ (size : ℕ) (d : Database) where
   -- all that may be read shows it
@@ -45,7 +45,7 @@ module _ (size : ℕ) (d : Database) where
   read_alone s alone db w image may = ⊎_elim (λ listed. alone.listed db w image listed) (λ left. alone.images db w image left) may
 
   pub alone_still : (s t : DiskState) → IsSoundDisk s → Still s t → ShowsAlone size d s → ShowsAlone size d t
-  alone_still s t sound still alone = alone_read t (still_sound s t sound still) (λ db w image may. read_alone s alone db w (image_still s t still db image) (may_still s t still w may))
+  alone_still s t sound still alone = alone_read t (still_sound s t sound still) (λ db w image may. read_alone s alone db w (image_still s t still db image) (may_still s t (same_files s t still) w may))
 
   pub alone_looks : {T : Type 0} (end : ℕ) (r : Result T DiskError) (s t : DiskState) → Looks end r s t → ShowsAlone size d s → ShowsAlone size d t
   alone_looks end r s t looked alone =

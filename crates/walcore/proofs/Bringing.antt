@@ -29,6 +29,7 @@ use Rattle.walcore.specs.declared.error.WalError.{WalError}
 use Rattle.crashdisk.proofs.Stills.{refusal_after}
 use Rattle.crashdisk.proofs.Later.{sync_refused}
 use Rattle.crashdisk.proofs.Down.{since_db}
+use Rattle.crashdisk.proofs.Called.{one_sync}
 use Rattle.walcore.proofs.Fronting.{same_front}
 use Rattle.walcore.proofs.Present.{present_by}
 use Rattle.walcore.proofs.Stepping.{stands_syncs}
@@ -88,6 +89,7 @@ keeps_synced {T = T} r a b sound step =
       handed = since.1;
       refused = omega (arith, counted_grows step.0 a.refused sound.refused, step.2.elsewhere.refused);
       sound = sound_syncs Db step.0 a b sound step.2;
+      calls = one_sync Db step.0 a b step.2;
     }
 
 -- ---- a database is brought over

@@ -27,7 +27,8 @@ use Rattle.walcore.specs.declared.error.WalError.{WalError}
 use Rattle.crashdisk.proofs.Down.{present_image}
 use Rattle.walcore.proofs.Present.{present_by}
 use Rattle.walcore.proofs.Standing.{stands_shows, present_last}
-use Rattle.crashdisk.proofs.Stills.{still}
+use Rattle.crashdisk.proofs.Stills.{still, same_files}
+use Rattle.crashdisk.proofs.Called.{calls_then}
 use Rattle.walcore.proofs.Fitting.{SameCore, core_same}
 use Rattle.walcore.proofs.Joining.{open_refusal}
 use Rattle.walcore.proofs.Repeating.{behind_same}
@@ -126,7 +127,7 @@ module _ (past : Past) (a : Core) (s t : DiskState) (fits : FitsCore past a s) (
         disk_of shut e a.frames index a.mark d got.2.0 t stands fits.disk.floor is.floor (λ opened_shut. absurd (let no : false ≡ true = opened_shut in cc)),
         size,
         marks,
-        record { sector = keeps.sector; tears = keeps.tears },
+        record { sector = keeps.sector; tears = keeps.tears; calls = keeps.calls },
       )
 
   module _ {T : Type 0} (n : ℕ) (r : Result T WalError) (v : T) (same : n ≡ a.page_size) (brings : Brings n least a.index r s t) (was : r ≡ Ok v) (all : Bool) (all_is : all ≡ (least == a.mark)) where
@@ -204,14 +205,14 @@ module _ (past : Past) (a : Core) (s t : DiskState) (fits : FitsCore past a s) (
         disk = disk;
         page_size = core.page_size ∙ fits.page_size;
         is_open = core.is_open ∙ fits.is_open;
-        core = λ opened_b. (e, index, d, least, core_same after e index d least (record a { drained = all }) b t t core (still t keeps.sound) core_at);
+        core = λ opened_b. (e, index, d, least, core_same after e index d least (record a { drained = all }) b t t core (same_files t t (still t keeps.sound)) core_at);
         count = fits.count;
         together = fits.together;
         marks = λ m. ap (times m) marks ∙ fits.marks m;
       },
       λ i oldest db image. subst (λ (k : ℕ). IsJust k (at past.state i) db) fits.page_size
           (subst (λ (k : ℕ). IsJust a.page_size (at past.state k) db) (oldest_place past e index d c a s is fits.marks least low i oldest) (got.1 db image)),
-      record { sector = keeps.sector; tears = keeps.tears },
+      record { sector = keeps.sector; tears = keeps.tears; calls = keeps.calls },
     )
 
 -- the room for a page behind that for a frame's head
@@ -270,7 +271,11 @@ module _ (past : Past) (a : Core) (s : DiskState) (fits : FitsCore past a s) whe
 
     module _ (b f : Core) (t : DiskState) where
       same_then : IsSameDisk g t → IsSameDisk s t
-      same_then then_same = record { sector = then_same.sector ∙ done.same.sector; tears = then_same.tears ∙ done.same.tears }
+      same_then then_same = record {
+        sector = then_same.sector ∙ done.same.sector;
+        tears = then_same.tears ∙ done.same.tears;
+        calls = calls_then s g t done.same.calls then_same.calls;
+      }
 
       step_by : (q : Result Checkpointed WalError) → BroughtDown between q m b g t → ClosedBy q b f → StepsTo past past.tokens Checkpoints (answered answer_of q) f s t
       step_by (Ok x) down same = record {

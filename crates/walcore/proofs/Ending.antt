@@ -6,22 +6,21 @@ use Rattle.crashdisk.specs.State.{FileState, IsSettled}
 use Rattle.crashdisk.specs.Call.{DiskState, IsSoundDisk, Syncs}
 use Rattle.crashdisk.specs.declared.file.File.TheVariants.{Db, Log}
 use Rattle.crashdisk.specs.declared.error.DiskError.{DiskError}
-use Rattle.crashdisk.proofs.Keeping.{sound_writes, sound_cuts}
 use Rattle.crashdisk.specs.Keeps.{HadRefusal, IsLogDown, Later, SyncStep}
 use Rattle.walcore.specs.Steps.{ZeroSteps, CutSteps, EndAnswer}
 use Rattle.walcore.specs.declared.error.WalError.{WalError}
 use Rattle.walcore.specs.declared.error.WalError.TheVariants.{Device}
 use Rattle.crashdisk.proofs.Stills.{refusal_after, had_refusal}
 use Rattle.crashdisk.proofs.Down.{synced_down}
-use Rattle.crashdisk.proofs.Later.{later_then, later_by, told_err, told_ok, none_ok, sync_later, sync_refused, sync_done}
+use Rattle.crashdisk.proofs.Later.{later_then, later_write, later_cut, told_err, told_ok, none_ok, sync_later, sync_refused, sync_done}
 
 module _ {T : Type 0} where
   -- ---- The header is zeroed.
 
   pub zero_later : (r : Result T WalError) (a b : DiskState) → IsSoundDisk a → ZeroSteps r a b → Later a b
   zero_later r a b sound steps = ⊎_elim
-      (λ failed. later_by Log failed.0 a b sound failed.3.elsewhere (sound_writes Log 0 (replicate 32 0) failed.0 a b sound failed.3))
-      (λ done. let mid = later_by Log (Ok done.1.0) a done.0 sound done.1.1.elsewhere (sound_writes Log 0 (replicate 32 0) (Ok done.1.0) a done.0 sound done.1.1) in
+      (λ failed. later_write Log 0 (replicate 32 0) failed.0 a b sound failed.3)
+      (λ done. let mid = later_write Log 0 (replicate 32 0) (Ok done.1.0) a done.0 sound done.1.1 in
       later_then a done.0 b mid (sync_later Device Log r done.0 b mid.sound done.2))
       steps
 
@@ -29,7 +28,7 @@ module _ {T : Type 0} where
   zero_refused r e a b sound is steps = ⊎_elim
       (λ failed. let t = told_err Device failed.0 r e is failed.2 in
       (t.0, had_refusal failed.0 t.1.0 (0 + length {A = ℕ} (replicate 32 0)) a b sound.refused t.1.1 failed.3.within (omega (arith, length-replicate {A = ℕ} 32 0)) failed.3.elsewhere.refused))
-      (λ done. let mid = later_by Log (Ok done.1.0) a done.0 sound done.1.1.elsewhere (sound_writes Log 0 (replicate 32 0) (Ok done.1.0) a done.0 sound done.1.1) in
+      (λ done. let mid = later_write Log 0 (replicate 32 0) (Ok done.1.0) a done.0 sound done.1.1 in
       let last = sync_refused Device Log r e done.0 b mid.sound is done.2 in (last.0, refusal_after a done.0 b mid.refused last.1))
       steps
 
@@ -40,8 +39,8 @@ module _ {T : Type 0} where
 
   pub cut_later : (r : Result T WalError) (a b : DiskState) → IsSoundDisk a → CutSteps r a b → Later a b
   cut_later r a b sound steps = ⊎_elim
-      (λ failed. later_by Log failed.0 a b sound failed.3.elsewhere (sound_cuts Log 0 failed.0 a b sound failed.3))
-      (λ done. let mid = later_by Log (Ok done.1.0) a done.0 sound done.1.1.elsewhere (sound_cuts Log 0 (Ok done.1.0) a done.0 sound done.1.1) in
+      (λ failed. later_cut Log 0 failed.0 a b sound failed.3)
+      (λ done. let mid = later_cut Log 0 (Ok done.1.0) a done.0 sound done.1.1 in
       later_then a done.0 b mid (sync_later Device Log r done.0 b mid.sound done.2))
       steps
 
@@ -49,7 +48,7 @@ module _ {T : Type 0} where
   cut_off r e a b sound is steps = ⊎_elim
       (λ failed. let t = told_err Device failed.0 r e is failed.2 in
       (t.0, had_refusal failed.0 t.1.0 0 a b sound.refused t.1.1 failed.3.within (omega arith) failed.3.elsewhere.refused))
-      (λ done. let mid = later_by Log (Ok done.1.0) a done.0 sound done.1.1.elsewhere (sound_cuts Log 0 (Ok done.1.0) a done.0 sound done.1.1) in
+      (λ done. let mid = later_cut Log 0 (Ok done.1.0) a done.0 sound done.1.1 in
       let last = sync_refused Device Log r e done.0 b mid.sound is done.2 in (last.0, refusal_after a done.0 b mid.refused last.1))
       steps
 
@@ -59,7 +58,7 @@ module _ {T : Type 0} where
   pub cut_done : (r : Result T WalError) (v : T) (a b : DiskState) → IsSoundDisk a → r ≡ Ok v → CutSteps r a b → IsLogDown b []
   cut_done r v a b sound is steps = ⊎_elim
       (λ failed. absurd (none_ok Device failed.0 r v failed.1 is failed.2))
-      (λ done. let mid = later_by Log (Ok done.1.0) a done.0 sound done.1.1.elsewhere (sound_cuts Log 0 (Ok done.1.0) a done.0 sound done.1.1) in
+      (λ done. let mid = later_cut Log 0 (Ok done.1.0) a done.0 sound done.1.1 in
       let t = told_ok Device done.2.0 r v is done.2.1 in
       synced_down [] done.0 b mid.sound (record { len = sym done.1.1.file.1.len; each = λ i lt. absurd (omega (arith, done.1.1.file.1.len)) }) (subst (λ (x : Result T DiskError). Syncs Log x done.0 b) t.1 done.2.2))
       steps

@@ -17,11 +17,11 @@ use Rattle.sqval.specs.Answers.{Answer}
 use Rattle.walcore.specs.Making.{Makes}
 use Rattle.walcore.specs.CommitRefusals.{most_pages}
 use Rattle.walcore.specs.Standing.{MayBeRead, IsBehind, Stands, IsPresent}
-use Rattle.crashdisk.specs.Keeps.{Still}
+use Rattle.crashdisk.specs.Keeps.{SameFiles, Still}
 use Rattle.walcore.specs.Fits.{Past, IsLeft, FitsDisk, IsIndexed, IsBound, AreTogether, IsCore, FitsCore, StepsTo, times}
 use Rattle.walcore.specs.declared.state.Core.{Core}
-use Rattle.crashdisk.proofs.Stills.{image_still, present_in}
-use Rattle.crashdisk.proofs.Suiting.{suits_still}
+use Rattle.crashdisk.proofs.Stills.{same_files, image_same, present_in}
+use Rattle.crashdisk.proofs.Suiting.{suits_same}
 use Rattle.walcore.proofs.Logging.{holds_elsewhere}
 use Rattle.walcore.proofs.Present.{present_by}
 use Rattle.walcore.proofs.Stepping.{stands_by}
@@ -29,7 +29,7 @@ use Rattle.walcore.proofs.Repeating.{behind_same}
 
 -- ---- the disk
 
-module _ (s t : DiskState) (still : Still s t) where
+module _ (s t : DiskState) (still : SameFiles s t) where
   image_of_log : (tears : Bool) (w : List ℕ) → IsImage t.sector tears t.log w → IsImage s.sector tears s.log w
   image_of_log tears w image = subst (λ (n : ℕ). IsImage n tears s.log w) still.sector (subst (λ (x : FileState). IsImage t.sector tears x w) still.log image)
 
@@ -41,12 +41,12 @@ module _ (s t : DiskState) (still : Still s t) where
   })
 
   left_still : (size : ℕ) (logs : List (List ℕ)) (h : List Database) (floor : ℕ) → IsLeft size logs h floor s → IsLeft size logs h floor t
-  left_still size logs h floor (inl both) = inl (λ w may chance. (let was = both.0 w (may_still w may) chance in (was.0, was.1, was.2, λ db image. was.3 db (image_still s t still db image))), λ w may. both.1 w (may_still w may))
-  left_still size logs h floor (inr one) = inr (one.0, one.1, one.2, λ db w image may. one.3 db w (image_still s t still db image) (may_still w may))
+  left_still size logs h floor (inl both) = inl (λ w may chance. (let was = both.0 w (may_still w may) chance in (was.0, was.1, was.2, λ db image. was.3 db (image_same s t still db image))), λ w may. both.1 w (may_still w may))
+  left_still size logs h floor (inr one) = inr (one.0, one.1, one.2, λ db w image may. one.3 db w (image_same s t still db image) (may_still w may))
 
   pub fits_disk_still : (past : Past) → FitsDisk past s → FitsDisk past t
   fits_disk_still past fits = record {
-    suits = suits_still past.state.page_size s t fits.suits still;
+    suits = suits_same past.state.page_size s t fits.suits still;
     floor = fits.floor;
     held = fits.held;
     made = fits.made;
@@ -55,9 +55,9 @@ module _ (s t : DiskState) (still : Still s t) where
   }
 
   pub stands_still : (size : ℕ) (logs : List (List ℕ)) (e : List ℕ) (n : ℕ) (h : List Database) (index : ℕ → ℕ) (mark d c : ℕ) → Stands size logs e n h index mark d c s → Stands size logs e n h index mark d c t
-  stands_still size logs e n h index mark d c stands = stands_by size logs e n h index mark d c s t stands d (suits_still size s t stands.suits still) stands.marks
+  stands_still size logs e n h index mark d c stands = stands_by size logs e n h index mark d c s t stands d (suits_same size s t stands.suits still) stands.marks
       (holds_elsewhere size e d s t still.sector still.tears still.log (still.kept, still.handed) stands.log)
-      (image_still s t still)
+      (image_same s t still)
 
 -- ---- the core
 
@@ -80,7 +80,7 @@ pub same_core : (a : Core) → SameCore a a
 same_core a = record { page_size = refl; is_open = refl; drained = refl; header = refl; sum = refl; frames = refl; mark = refl; last_page = refl; size = refl; used = refl; unsynced = refl; index = refl }
 
 -- the same log, on a disk of which no byte has changed
-module _ (past : Past) (e : List ℕ) (index : ℕ → ℕ) (d c : ℕ) (a b : Core) (s t : DiskState) (same : SameCore a b) (still : Still s t) where
+module _ (past : Past) (e : List ℕ) (index : ℕ → ℕ) (d c : ℕ) (a b : Core) (s t : DiskState) (same : SameCore a b) (still : SameFiles s t) where
   at_size : (P : ℕ → Type 0) → P a.page_size → P b.page_size
   at_size P = subst P (sym same.page_size)
 
@@ -115,7 +115,7 @@ module _ (past : Past) (e : List ℕ) (index : ℕ → ℕ) (d c : ℕ) (a b : C
     down = λ synced. let was = is.down (sym same.unsynced ∙ synced) in
         record { commit = at_mark (λ x. x ≤ d) was.commit; all = λ whole. was.all (sym still.tears ∙ whole) ∙ sym same.frames };
     filed = λ drained. let was = is.filed (subst (λ (x : Bool). IsTrue x) same.drained drained) in
-        (same.unsynced ∙ was.0, λ db image. at_size (λ x. IsJust x (newest past.state) db) (was.1 db (image_still s t still db image)));
+        (same.unsynced ∙ was.0, λ db image. at_size (λ x. IsJust x (newest past.state) db) (was.1 db (image_same s t still db image)));
     readers = λ number. at_size (λ x. AreTogether (IsBound x e index b.mark c past.state) (reader_at past.state number) (get_or past.tokens number None))
         (at_mark (λ x. AreTogether (IsBound a.page_size e index x c past.state) (reader_at past.state number) (get_or past.tokens number None)) (is.readers number));
     page = b.framed;
@@ -123,7 +123,7 @@ module _ (past : Past) (e : List ℕ) (index : ℕ → ℕ) (d c : ℕ) (a b : C
 
 -- ---- the whole
 
-module _ (a b : Core) (s t : DiskState) (same : SameCore a b) (still : Still s t) where
+module _ (a b : Core) (s t : DiskState) (same : SameCore a b) (still : SameFiles s t) where
   pub fits_same : (past : Past) → b.marks.items ≡ a.marks.items → FitsCore past a s → FitsCore past b t
   fits_same past marks fits = record {
     disk = fits_disk_still s t still past fits.disk;
@@ -136,9 +136,10 @@ module _ (a b : Core) (s t : DiskState) (same : SameCore a b) (still : Still s t
     marks = λ m. ap (times m) marks ∙ fits.marks m;
   }
 
+module _ (a b : Core) (s t : DiskState) (same : SameCore a b) (still : Still s t) where
   -- a row of the machine that doesn't step
   pub stays : (past : Past) (act : Act) (answer : Answer) → b.marks.items ≡ a.marks.items → FitsCore past a s
       → Step past.state act answer s.refused t.refused past.state
       → Makes past.state.page_size s.sector s.tears past.made act answer past.made
       → StepsTo past past.tokens act answer b s t
-  stays past act answer marks fits step makes = record { next = past.state; made = past.made; same = record { sector = still.sector; tears = still.tears }; refused = still.refused; row = step; makes = makes; fits = fits_same past marks fits }
+  stays past act answer marks fits step makes = record { next = past.state; made = past.made; same = record { sector = still.sector; tears = still.tears; calls = still.calls }; refused = still.refused; row = step; makes = makes; fits = fits_same a b s t same (same_files s t still) past marks fits }

@@ -8,6 +8,7 @@ use Rattle.walcore.specs.Machine.{State, last, reader_at, Begins, Ends, EndStep,
 use Rattle.sqval.specs.CommitFaults.{first_true}
 use Rattle.walcore.specs.Era.{IsBoundary}
 use Rattle.crashdisk.specs.Keeps.{Still}
+use Rattle.crashdisk.proofs.Stills.{same_files}
 use Rattle.walcore.specs.Fits.{Past, FitsDisk, IsBound, AreTogether, IsCore, FitsCore, StepsTo, times}
 use Rattle.walcore.specs.declared.state.Core.{Core}
 use Rattle.walcore.specs.declared.reader.Reader.{Reader}
@@ -92,17 +93,17 @@ module _ (a b : Core) (s t : DiskState) (past : Past) (fits : FitsCore past a s)
       let tokens : List (Option Reader) = past.tokens ++ Some r ∷ [] in record {
         next = begun past.state;
         made = past.made;
-        same = record { sector = still.sector; tears = still.tears };
+        same = record { sector = still.sector; tears = still.tears; calls = still.calls };
         refused = still.refused;
         row = (open_refusal past.state (sym fits.is_open ∙ is), refl, refl);
         makes = refl;
         fits = record {
-          disk = disk_with past places tokens t (fits_disk_still s t still past fits.disk);
+          disk = disk_with past places tokens t (fits_disk_still s t (same_files s t still) past fits.disk);
           page_size = same.page_size ∙ fits.page_size;
           is_open = same.is_open ∙ fits.is_open;
           core = λ opened.
               let was = fits.core (subst (λ (x : Bool). IsTrue x) same.is_open opened) in
-              let now : IsCore past was.0 was.1 was.2 was.3 b t = core_same past was.0 was.1 was.2 was.3 a b s t same still was.4 in (
+              let now : IsCore past was.0 was.1 was.2 was.3 b t = core_same past was.0 was.1 was.2 was.3 a b s t same (same_files s t still) was.4 in (
                 was.0,
                 was.1,
                 was.2,
@@ -129,17 +130,17 @@ module _ (a b : Core) (s t : DiskState) (past : Past) (fits : FitsCore past a s)
       let bound = bound_at (λ i x. Unit {0}) (reader_at past.state number) (get_or past.tokens number None) r slot.1 (fits.together number) in record {
         next = ended past.state number;
         made = past.made;
-        same = record { sector = still.sector; tears = still.tears };
+        same = record { sector = still.sector; tears = still.tears; calls = still.calls };
         refused = still.refused;
         row = subst (λ (p : Option ℕ). EndStep p past.state number Done (ended past.state number)) (sym bound.1) refl;
         makes = refl;
         fits = record {
-          disk = disk_with past places tokens t (fits_disk_still s t still past fits.disk);
+          disk = disk_with past places tokens t (fits_disk_still s t (same_files s t still) past fits.disk);
           page_size = same.page_size ∙ fits.page_size;
           is_open = same.is_open ∙ fits.is_open;
           core = λ opened.
               let was = fits.core (subst (λ (x : Bool). IsTrue x) same.is_open opened) in
-              let now : IsCore past was.0 was.1 was.2 was.3 b t = core_same past was.0 was.1 was.2 was.3 a b s t same still was.4 in (
+              let now : IsCore past was.0 was.1 was.2 was.3 b t = core_same past was.0 was.1 was.2 was.3 a b s t same (same_files s t still) was.4 in (
                 was.0,
                 was.1,
                 was.2,

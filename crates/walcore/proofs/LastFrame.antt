@@ -6,6 +6,7 @@ use Rattle.std.proofs.lemmas.List.{get_or-take, get_or-drop, length-take-le, dro
 use Rattle.crashdisk.specs.State.{byte, longest}
 use Rattle.crashdisk.specs.Call.{DiskState, IsSoundDisk}
 use Rattle.crashdisk.specs.declared.file.File.TheVariants.{Log}
+use Rattle.crashdisk.proofs.Called.{one_write, calls_then}
 use Rattle.crashdisk.proofs.Keeping.{sound_writes}
 use Rattle.crashdisk.proofs.Steps.{counted_grows}
 use Rattle.sqval.specs.Bytes.{AreBytes}
@@ -85,6 +86,7 @@ module _ (e f : List ℕ) (old : Core) (s : DiskState) (last : KnowsLast e f old
       sound = still_sound s t sound still;
       sector = still.sector;
       tears = still.tears;
+      calls = still.calls;
       stands = λ logs h index mark d c stands behind. stands_still old.page_size logs f (old.frames + 1) h index mark d c s stands t still;
     }
 
@@ -118,6 +120,7 @@ module _ (e f : List ℕ) (old : Core) (s : DiskState) (last : KnowsLast e f old
             sound = sound_writes Log _ _ step.called t u on step.wrote;
             sector = step.wrote.elsewhere.sector ∙ still.sector;
             tears = step.wrote.elsewhere.tears ∙ still.tears;
+            calls = calls_then s t u still.calls (one_write Log _ _ step.called t u step.wrote);
             stands = λ logs h index mark d c stands behind.
                 frame_stands f (old.frames + 1) old.frames old new t u reaches (omega arith) on old.last_page old.size content (here content is) old.headed result step logs h index mark d c
                 (stands_still old.page_size logs f (old.frames + 1) h index mark d c s stands t still)

@@ -30,7 +30,7 @@ use Rattle.walcore.specs.declared.reader.Reader.{Reader}
 use Rattle.walcore.specs.declared.state.Core.{Core}
 use Rattle.walcore.specs.declared.error.WalError.{WalError}
 use Rattle.walcore.specs.declared.error.WalError.TheVariants.{NoMemory, Device}
-use Rattle.crashdisk.proofs.Later.{told_err, told_ok, none_ok, later_sync, later_write, later_then}
+use Rattle.crashdisk.proofs.Later.{told_err, told_ok, none_ok, later_sync, later_write, later_then, later_same}
 use Rattle.walcore.proofs.Fresh.{at_last, HasNoReader, fresh_core}
 use Rattle.walcore.proofs.Makings.{made_begun}
 use Rattle.walcore.proofs.Narrowing.{narrows_syncs, history_narrows, headers_narrow, left_grown}
@@ -141,7 +141,7 @@ module _ (past : Past) (found : Files) (salts : ℕ × ℕ) (s : DiskState) (alo
   given_up e t may later left = record {
     next = gone past.state;
     made = record { logs = f ∷ past.made.logs; unsynced = false };
-    same = record { sector = later.sector; tears = later.tears };
+    same = record { sector = later.sector; tears = later.tears; calls = later.calls };
     refused = later.refused;
     row = (refusal e t may, refl);
     makes = (f, begun, refl);
@@ -166,7 +166,7 @@ module _ (past : Past) (found : Files) (salts : ℕ × ℕ) (s : DiskState) (alo
 
   -- no memory was there at the start
   pub without_memory : (e : WalError) → e ≡ NoMemory → GivenUpTo past salts found e s s
-  without_memory e is = given_up e s (inl is) (record { sector = refl; tears = refl; refused = omega arith; sound = fits.suits.sound })
+  without_memory e is = given_up e s (inl is) (later_same s fits.suits.sound)
       (left_grown past.state.page_size past.made.logs f past.state.history past.state.floor s begun.alone fits.left)
 
   -- after the recovery
@@ -247,7 +247,7 @@ module _ (past : Past) (found : Files) (salts : ℕ × ℕ) (s : DiskState) (alo
       opened_to l core is_new header sum = record {
         next = opened past.state is.place;
         made = record { logs = f ∷ past.made.logs; unsynced = false };
-        same = record { sector = all.sector; tears = all.tears };
+        same = record { sector = all.sector; tears = all.tears; calls = all.calls };
         refused = all.refused;
         row = (is.place, is.floor, is.within, is.shown, is.newest, refl);
         makes = (f, begun, refl);

@@ -20,6 +20,7 @@ use Rattle.walcore.specs.declared.state.Core.{Core}
 use Rattle.walcore.specs.declared.error.WalError.{WalError}
 use Rattle.sqval.proofs.PageNumbers.{lent_length}
 use Rattle.crashdisk.proofs.Pages.{sector_some}
+use Rattle.crashdisk.proofs.Called.{no_calls, one_write, calls_then}
 use Rattle.crashdisk.proofs.Stills.{refusal_after}
 use Rattle.walcore.proofs.Repeating.{behind_same, behind_later}
 use Rattle.walcore.proofs.Going.{IsFrameAt, Reaches, frame_known, frame_refused, frame_stands}
@@ -28,7 +29,7 @@ pub size_most : (size : ℕ) → IsPageSize size → size ≤ 65536
 size_most size is = let m : 2 ^ is.0 ≤ 2 ^ 16 = pow_mono is.2 in omega (arith, is.3)
 
 pub going_none : (size : ℕ) (f : List ℕ) (m n : ℕ) (s : DiskState) → IsSoundDisk s → Going size f m n s s
-going_none size f m n s sound = record { refused = omega arith; sound = sound; sector = refl; tears = refl; stands = λ logs h index mark d c stands behind. stands }
+going_none size f m n s sound = record { refused = omega arith; sound = sound; sector = refl; tears = refl; calls = no_calls s; stands = λ logs h index mark d c stands behind. stands }
 
 -- the frame of page k of a commit
 module _ (start core next : Core) (s t u : DiskState) (pages : List (ℕ × Bor (List ℕ))) (count k : ℕ) (x : ℕ × Bor (List ℕ)) (keeps : KeepsCore start core) (headed : core.header.page_size ≡ core.page_size) (lt : k < length pages)
@@ -64,6 +65,7 @@ module _ (start core next : Core) (s t u : DiskState) (pages : List (ℕ × Bor 
       sound = sound_writes Log _ _ step.called t u going.sound step.wrote;
       sector = step.wrote.elsewhere.sector ∙ going.sector;
       tears = step.wrote.elsewhere.tears ∙ going.tears;
+      calls = calls_then s t u going.calls (one_write Log _ _ step.called t u step.wrote);
       stands = λ logs h index mark d c stands behind.
           let was = going.stands logs h index mark d c stands behind in
           let a : ℕ = frame_end start.page_size n in

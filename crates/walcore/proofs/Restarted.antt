@@ -222,7 +222,7 @@ module _ (past : Past) (core : Core) (s : DiskState) (fits : FitsCore past core 
           subst (λ (y : WalError). StepsTo past past.tokens (Restarts salt2) (Refused (number_of y)) next s t) (sym why.0) (record {
             next = closed past.state;
             made = record { logs = l.bytes ∷ past.made.logs; unsynced = false };
-            same = record { sector = later.sector; tears = later.tears };
+            same = record { sector = later.sector; tears = later.tears; calls = later.calls };
             refused = later.refused;
             row = refuses_device (restart_refusal past.state) (closed past.state) past.state s t allowed why.1;
             makes = makes;
@@ -252,7 +252,7 @@ module _ (past : Past) (core : Core) (s : DiskState) (fits : FitsCore past core 
           record {
             next = restarted past.state;
             made = record { logs = l.bytes ∷ past.made.logs; unsynced = false };
-            same = record { sector = later.sector; tears = later.tears };
+            same = record { sector = later.sector; tears = later.tears; calls = later.calls };
             refused = later.refused;
             row = (allowed, refl);
             makes = makes;

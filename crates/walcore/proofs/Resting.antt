@@ -33,6 +33,7 @@ use Rattle.walcore.proofs.Standing.{present_last}
 use Rattle.walcore.proofs.Stepping.{stands_syncs, stands_synced, stands_fewer}
 use Rattle.walcore.proofs.Present.{present_syncs}
 use Rattle.crashdisk.proofs.Pages.{sector_some}
+use Rattle.crashdisk.proofs.Called.{one_sync, calls_then}
 use Rattle.walcore.proofs.Fronting.{boundary_same}
 use Rattle.walcore.proofs.Extending.{extended_front}
 use Rattle.walcore.proofs.Repeating.{index_to, index_to-low, repeated_stands, behind_whole, behind_even, behind_copy, behind_same}
@@ -255,12 +256,12 @@ module _ (past : Past) (core : Core) (s : DiskState) (fits : FitsCore past core 
       plain_done : Rests core then → StepsTo past past.tokens Syncs Done then s t
       unfolding Down
       plain_done rests =
-          sync_done past core core then s t fits opened itself e is.newest_log.0 core.frames index down_then.0 c made_same (record { sector = call.elsewhere.sector; tears = call.elsewhere.tears }) (omega (arith, call.elsewhere.refused))
+          sync_done past core core then s t fits opened itself e is.newest_log.0 core.frames index down_then.0 c made_same (record { sector = call.elsewhere.sector; tears = call.elsewhere.tears; calls = one_sync Log (Ok u) s t call }) (omega (arith, call.elsewhere.refused))
           down_then.1.0 down_then.1.1 stays_then rests
 
     plain_failed : {T : Type 0} → (called : Result T DiskError) (x : DiskError) → called ≡ Err x → CallSyncs Log called s t → Closes core then → StepsTo past past.tokens Syncs (Refused 15) then s t
     plain_failed called x was call closes =
-        sync_failed past core core then s t fits opened itself e is.newest_log.0 core.frames index d c made_same (record { sector = call.elsewhere.sector; tears = call.elsewhere.tears })
+        sync_failed past core core then s t fits opened itself e is.newest_log.0 core.frames index d c made_same (record { sector = call.elsewhere.sector; tears = call.elsewhere.tears; calls = one_sync Log called s t call })
         (omega (arith, counted_grows called s.refused is.stands.suits.sound.refused, call.elsewhere.refused))
         (stands_syncs core.page_size (e ∷ is.newest_log.0) e core.frames past.state.history index core.mark d c s t stands_here Log called call) is.floor
         (had_refusal called x 0 s t is.stands.suits.sound.refused was call.within (lit≤ tt) call.elsewhere.refused) closes
@@ -331,11 +332,15 @@ module _ (past : Past) (core : Core) (s : DiskState) (fits : FitsCore past core 
 
       copy_failed : HadRefusal s g → Closes mid then → StepsTo past past.tokens Syncs (Refused 15) then s g
       copy_failed had closes =
-          sync_failed past core mid then s g fits opened repeats f is.newest_log.0 (core.frames + 1) to d c made_copy (record { sector = going.sector; tears = going.tears }) going.refused stands_copy (omega (arith, at_down, is.floor)) had closes
+          sync_failed past core mid then s g fits opened repeats f is.newest_log.0 (core.frames + 1) to d c made_copy (record { sector = going.sector; tears = going.tears; calls = going.calls }) going.refused stands_copy (omega (arith, at_down, is.floor)) had closes
 
       copy_unsynced : {T : Type 0} → (called : Result T DiskError) (x : DiskError) → called ≡ Err x → CallSyncs Log called g t → Closes mid then → StepsTo past past.tokens Syncs (Refused 15) then s t
       copy_unsynced called x was call closes =
-          sync_failed past core mid then s t fits opened repeats f is.newest_log.0 (core.frames + 1) to d c made_copy (record { sector = call.elsewhere.sector ∙ going.sector; tears = call.elsewhere.tears ∙ going.tears })
+          sync_failed past core mid then s t fits opened repeats f is.newest_log.0 (core.frames + 1) to d c made_copy (record {
+            sector = call.elsewhere.sector ∙ going.sector;
+            tears = call.elsewhere.tears ∙ going.tears;
+            calls = calls_then s g t going.calls (one_sync Log called g t call);
+          })
           (omega (arith, going.refused, counted_grows called g.refused going.sound.refused, call.elsewhere.refused))
           (stands_syncs core.page_size (f ∷ is.newest_log.0) f (core.frames + 1) past.state.history to core.mark d c g t stands_copy Log called call) (omega (arith, at_down, is.floor))
           (refusal_after s g t going.refused (had_refusal called x 0 g t going.sound.refused was call.within (lit≤ tt) call.elsewhere.refused)) closes
@@ -389,7 +394,11 @@ module _ (past : Past) (core : Core) (s : DiskState) (fits : FitsCore past core 
 
         copy_done : Rests mid then → StepsTo past past.tokens Syncs Done then s t
         copy_done rests =
-            sync_done past core mid then s t fits opened repeats f is.newest_log.0 (core.frames + 1) to core.frames c made_copy (record { sector = call.elsewhere.sector ∙ going.sector; tears = call.elsewhere.tears ∙ going.tears })
+            sync_done past core mid then s t fits opened repeats f is.newest_log.0 (core.frames + 1) to core.frames c made_copy (record {
+              sector = call.elsewhere.sector ∙ going.sector;
+              tears = call.elsewhere.tears ∙ going.tears;
+              calls = calls_then s g t going.calls (one_sync Log (Ok u) g t call);
+            })
             (omega (arith, going.refused, call.elsewhere.refused)) stands_last lies_copy stays_copy rests
 
       copy_synced : {T : Type 0} → (r : Result T WalError) → KnowsLog f (core.frames + 1) mid g → SyncStep Device Log r g t → RestAnswer r mid then → StepsTo past past.tokens Syncs (answered (λ _. Done) r) then s t

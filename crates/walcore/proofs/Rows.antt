@@ -13,6 +13,7 @@ use Rattle.walcore.specs.Machine.{newest, committed, closed, commit_refusal, Com
 use Rattle.walcore.specs.Made.{IsExtended}
 use Rattle.walcore.specs.Making.{Made, IfBegun, MadeByCommit, Makes}
 use Rattle.crashdisk.specs.Keeps.{HadRefusal}
+use Rattle.crashdisk.proofs.Called.{no_calls}
 use Rattle.walcore.specs.Standing.{IsBehind, Stands}
 use Rattle.sqval.specs.JudgedPages.{lent}
 use Rattle.walcore.specs.Fits.{Past, IsCore, FitsCore, StepsTo, answered}
@@ -77,7 +78,7 @@ module _ (past : Past) (core mid next : Core) (pages : List (ℕ × Bor (List �
       next = state_new past e is.newest_log.0 index d c core pages count s is ready plan fits.page_size true;
       made = record { logs = plan.f ∷ is.newest_log.0; unsynced = true };
       refused = going.refused;
-      same = record { sector = going.sector; tears = going.tears };
+      same = record { sector = going.sector; tears = going.tears; calls = going.calls };
       row = (granted_row, ap (λ (b : Bool). state_new past e is.newest_log.0 index d c core pages count s is ready plan fits.page_size b) (sym open_past));
       makes = row_made;
       fits = fits_new past e is.newest_log.0 index d c core pages count s is ready plan fits.page_size t (stands_then going) fits going.sector going.tears next then knows ends.log page_next ends.mark ends.size_is
@@ -90,7 +91,7 @@ module _ (past : Past) (core mid next : Core) (pages : List (ℕ × Bor (List �
       next = state_new past e is.newest_log.0 index d c core pages count s is ready plan fits.page_size false;
       made = record { logs = plan.f ∷ is.newest_log.0; unsynced = true };
       refused = going.refused;
-      same = record { sector = going.sector; tears = going.tears };
+      same = record { sector = going.sector; tears = going.tears; calls = going.calls };
       row = subst (λ (x : Option ℕ). Refuses x true (closed (committed past.state (lent pages) count)) s.refused t.refused past.state 15 (state_new past e is.newest_log.0 index d c core pages count s is ready plan fits.page_size false)) (sym granted_row)
           (inr (refl, had, refl));
       makes = row_made;
@@ -127,7 +128,7 @@ commit_refused {T} past core mid pages count s fits opened sound keeps r error i
       next = past.state;
       made = past.made;
       refused = omega arith;
-      same = record { sector = refl; tears = refl };
+      same = record { sector = refl; tears = refl; calls = no_calls s };
       row = subst (λ (x : Option ℕ). Refuses x true (closed (committed past.state (lent pages) count)) s.refused s.refused past.state (number_of error) past.state) (sym row) (refl, refl);
       makes = unbegun past.state.page_size (number_of error) past.made _ (λ z. omega arith);
       fits = fits_prepared past core mid s keeps fits;
@@ -138,7 +139,7 @@ commit_refused {T} past core mid pages count s fits opened sound keeps r error i
       next = past.state;
       made = past.made;
       refused = omega arith;
-      same = record { sector = refl; tears = refl };
+      same = record { sector = refl; tears = refl; calls = no_calls s };
       row = subst (λ (x : WalError). CommitStep past.state (lent pages) count (Refused (number_of x)) s.refused s.refused past.state) (sym want.1)
           (subst (λ (x : Option ℕ). Refuses x true (closed (committed past.state (lent pages) count)) s.refused s.refused past.state 14 past.state) (sym row) (inl (refl, refl, refl)));
       makes = subst (λ (x : WalError). Makes past.state.page_size s.sector s.tears past.made (Commits (lent pages) count) (Refused (number_of x)) past.made) (sym want.1) refl;

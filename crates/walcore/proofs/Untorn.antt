@@ -7,7 +7,7 @@ use Rattle.crashdisk.specs.declared.file.File.TheVariants.{Db, Log}
 use Rattle.crashdisk.specs.declared.error.DiskError.{DiskError}
 
 abbrev pub untorn : DiskState → DiskState
-untorn s = record { sector = s.sector; tears = false; db = s.db; log = s.log; refused = s.refused; kept = []; handed = [] }
+untorn s = record { sector = s.sector; tears = false; db = s.db; log = s.log; refused = s.refused; kept = []; handed = []; settings = s.settings }
 
 pub untorn_of : (f : File) (s : DiskState) → of f (untorn s) ≡ of f s
 untorn_of Db s = refl
@@ -20,6 +20,8 @@ module _ {T : Type 0} (result : Result T DiskError) (s t : DiskState) where
     kept = refl;
     handed = refl;
     are_bytes = wrote.are_bytes;
+    settings = wrote.settings;
+    heeds = wrote.heeds;
     within = wrote.within;
     file = wrote.file;
   }
@@ -29,6 +31,8 @@ module _ {T : Type 0} (result : Result T DiskError) (s t : DiskState) where
     elsewhere = record { sector = cut.elsewhere.sector; tears = refl; other = cut.elsewhere.other; refused = cut.elsewhere.refused };
     kept = refl;
     handed = refl;
+    settings = cut.settings;
+    heeds = cut.heeds;
     within = cut.within;
     file = cut.file;
   }
@@ -37,6 +41,8 @@ module _ {T : Type 0} (result : Result T DiskError) (s t : DiskState) where
   syncs_untorn synced = record {
     elsewhere = record { sector = synced.elsewhere.sector; tears = refl; other = synced.elsewhere.other; refused = synced.elsewhere.refused };
     since = (refl, refl);
+    settings = synced.settings;
+    heeds = synced.heeds;
     within = synced.within;
     file = synced.file;
   }

@@ -5,7 +5,7 @@ use Rattle.sqwal.specs.Header.{IsHeaderOf}
 use Rattle.sqwal.specs.Frames.{frame_end, page_of, summed, IsFrameHead}
 use Rattle.sqwal.specs.Sums.{IsSumOf}
 use Rattle.sqwal.specs.declared.sum.Sum.{Sum}
-use Rattle.crashdisk.specs.Call.{DiskState, IsSoundDisk, Writes}
+use Rattle.crashdisk.specs.Call.{DiskState, IsSoundDisk, Writes, HasCalls}
 use Rattle.crashdisk.specs.declared.file.File.TheVariants.{Log}
 use Rattle.crashdisk.specs.declared.error.DiskError.{DiskError}
 use Rattle.crashdisk.specs.Keeps.{HadRefusal, Told}
@@ -61,6 +61,7 @@ pub record Going (size : ℕ) (f : List ℕ) (m n : ℕ) (s t : DiskState) : Typ
   pub sound : IsSoundDisk t
   pub sector : t.sector ≡ s.sector
   pub tears : t.tears ≡ s.tears
+  pub calls : HasCalls s t
   pub stands : (logs : List (List ℕ)) (h : List Database) (index : ℕ → ℕ) (mark d c : ℕ) → Stands size logs f m h index mark d c s → IsBehind size d (frame_end size n) s → Stands size logs f m h index mark d c t
 
 -- all frames of the log were written, or a call was refused

@@ -24,6 +24,6 @@ abbrev pub Finds : Past → (mark page frame : ℕ) → Type 0
 Finds past mark page frame = (e : List ℕ) × (earlier : List (List ℕ)) × (past.made.logs ≡ e ∷ earlier)
     × (1 ≤ frame → IsLast past.state.page_size e mark page frame) × (frame ≡ 0 → Unnamed past.state.page_size e mark page)
 
--- a call that changes nothing of a disk but its count of refusals
+-- calls that change nothing of a disk but its counts
 abbrev pub LooksOnly : (old new : DiskState) → Type 0
-LooksOnly old new = new ≡ record old { refused = new.refused }
+LooksOnly old new = new ≡ record old { refused = new.refused; settings = new.settings }

@@ -104,6 +104,7 @@ pub fn fold<D: Disk>(alloc: Global, disk: &mut D, page_size: PageSize) -> Result
     ensures agrees { D.keeps_word disk.old → Agrees page_size (D.state disk.old) (D.state disk.new) }
     ensures lengths { D.keeps_word disk.old → KeepsLength page_size (D.state disk.old) (D.state disk.new) }
     ensures synced { D.keeps_word disk.old → (TearsPages page_size (D.state disk.old) → ⊥) → SyncsFirst page_size result (D.state disk.old) (D.state disk.new) }
+    ensures later { D.keeps_word disk.old → IsSoundDisk (D.state disk.old) → Later (D.state disk.old) (D.state disk.new) }
 {
     judge_sector(disk, page_size)?;
     disk.sync(File::Log)?;

@@ -9,7 +9,7 @@ ghost use Rattle.crashdisk.specs.State.{IsSectorSize};
 ghost use Rattle.crashdisk.specs.Call.{DiskState, IsSoundDisk, Syncs, Looks, IsCrash, IsNew};
 ghost use Rattle.crashdisk.specs.declared.file.File.{File};
 ghost use Rattle.crashdisk.specs.declared.error.DiskError.{DiskError};
-ghost use Rattle.crashdisk.specs.Keeps.{Still};
+ghost use Rattle.crashdisk.specs.Keeps.{SameFiles};
 ghost use Rattle.walcore.specs.Alone.{AreWhole};
 ghost use Rattle.walcore.specs.Fits.{Past, FitsAlone, FitsCore, beginning};
 ghost use Rattle.walcore.specs.Laws.{IsSane, Keeps, KeepsShown, IsExpected, is_opening};
@@ -23,9 +23,10 @@ pub fn a_base_fits()
         → (torn ≡ true → sector ≤ size) → IsHeld size base → IsJust size base bytes → IsNew sector torn bytes s → FitsAlone (beginning size base) s }
 {}
 
-/// What fits an engine fits it after calls that changed no byte of the disk, as a borrower of it may make them (own).
+/// What fits an engine fits it after calls that changed no byte of the disk, and whatever was set of it, as a borrower of it may
+/// do (own).
 pub fn a_look_fits()
-    ensures { (past : Past) (core : Core) (old new : DiskState) → Still old new → FitsCore past core old → FitsCore past core new }
+    ensures { (past : Past) (core : Core) (old new : DiskState) → SameFiles old new → FitsCore past core old → FitsCore past core new }
 {}
 
 /// The one database that a disk shows alone stays shown: after a look, after a sync of either file, done or refused, and

@@ -75,7 +75,7 @@ pub(crate) fn read_place<D: Disk>(
 impl<D: Disk> Wal<D> {
     ghost use Rattle.walcore.specs.contracts.wal.Wal.{the_row};
 
-    /// A reader of the last commit (fileformat2, 4.4). Refused are Closed and NoMemory.
+    /// A reader of the last commit (fileformat2, 4, "Reader Algorithm"). Refused are Closed and NoMemory.
     pub fn begin(&mut self) -> Result<Reader, WalError>
         ensures word { D.keeps_word self.old.disk ↔ D.keeps_word self.new.disk }
         ensures step { D.keeps_word self.old.disk → (past : Past) → Fits D.state self.old past
@@ -95,7 +95,7 @@ impl<D: Disk> Wal<D> {
         }
     }
 
-    /// Reads a page as it was when the reader, one of this core's, began (fileformat2, 4.4). Refused are Closed,
+    /// Reads a page as it was when the reader, one of this core's, began (fileformat2, 4, "Reader Algorithm"). Refused are Closed,
     /// PageZero, PageAboveSize, BadLength and Device, which doesn't close the core. After a refusal `out` may hold
     /// anything.
     pub fn read(&mut self, reader: &Reader, page: u32, out: &mut [u8]) -> Result<(), WalError>
@@ -140,7 +140,7 @@ impl<D: Disk> Wal<D> {
     }
 
     /// The frame from which a page is read as it was when the reader, one of this core's, began: 0 where that is the
-    /// database file (fileformat2, 4.4). It refuses nothing.
+    /// database file (fileformat2, 4, "Reader Algorithm"). It refuses nothing.
     pub fn frame_of(&self, reader: &Reader, page: u32) -> Hit
         ensures hit { IsHit self.now.core.index page reader.now.mark result }
         ensures last { (past : Past) (number : ℕ) → Fits D.state self.now past → slice_get past.tokens number ≡ Some (Some reader.now)

@@ -17,6 +17,7 @@ use Rattle.rollcore.proofs.Parting.{part_short}
 use Rattle.rollcore.proofs.Granting.{granted}
 use Rattle.rollcore.proofs.Growing.{lent_at, lent_length}
 use Rattle.rollcore.proofs.Closed.{put_harmless, put_after}
+use Rattle.crashdisk.proofs.Later.{later_then}
 use Rattle.rollcore.proofs.commits.put_commit.Goals as goal
 
 pub returns-in_err-put_segments-clause-put : goal.returns-in_err-put_segments-clause-put
@@ -80,3 +81,8 @@ returns-clause-nonces g c = λ word d suits held many wide rests.
     on_ok_weaker c.end_commit.result
     (λ log. (down.0, down.1, subst (λ (n : ℕ). HasNonces (sizes (g.D.Disk.state c.args.disk.now).sector core.page_size) down.1 down.0 (take (segments_of n) c.args.nonces.now)) count nonces, log))
     (by_count c.sector-sector.result (length c.args.nonces.now) d core.changes.items down.0 down.1 down.3 down.2 down.4 (sym many) c.requires.changes c.requires.granted)
+
+pub returns-clause-goes : goal.returns-clause-goes
+returns-clause-goes g c = λ word.
+    let mid = c.put_segments.ensures.goes word (c.sector-sector.ensures.sound word) in
+    later_then _ _ _ mid (c.end_commit.ensures.goes (c.put_segments.ensures.word.0 word) mid.sound)

@@ -53,3 +53,6 @@ returns-clause-page g c = λ word sound w are fits within.
     let place : c.from.result * length c.read_at.new.out ≡ (c.args.entry.page - 1) * size = cc in
     let wrote = subst (λ (n : ℕ). Writes Db n c.read_at.new.out (Ok tt) (g.D.Disk.state c.read_at.new.self) (g.D.Disk.state c.write_at.new.self)) place (c.in_ok-write_at.ensures.state (c.read_at.ensures.word.0 word)) in
     record_put size w c.args.count c.args.entry one le c.read_at.new.out _ _ _ out read tt wrote
+
+pub returns-in_err-read_at-clause-log : goal.returns-in_err-read_at-clause-log
+returns-in_err-read_at-clause-log g c = λ word sound. keeps_still _ _ sound (still_looks _ c.read_at.result _ _ sound (c.read_at.ensures.state word))

@@ -1,10 +1,9 @@
 use Rattle.std.proofs.Common.{arith}
 use Rattle.crashdisk.specs.declared.file.File.TheVariants.{Db}
 use Rattle.sqval.proofs.Answering.{passed}
-use Rattle.rollcore.proofs.Ending.{zero_refused, end_refused, end_done}
-use Rattle.crashdisk.proofs.Later.{sync_later, sync_refused}
+use Rattle.rollcore.proofs.Ending.{zero_refused, end_refused, end_done, zero_later}
+use Rattle.crashdisk.proofs.Later.{sync_later, sync_refused, later_then}
 use Rattle.rollcore.proofs.Agreeing.{synced_shows, synced_filed, zeroed_shows}
-use Rattle.rollcore.proofs.Going.{goes_then, goes_sync, goes_zero}
 use Rattle.rollcore.proofs.Lengths.{ends_settled, ends_finished}
 use Rattle.rollcore.proofs.Closed.{synced_failed, zero_failed, zero_closed}
 use Rattle.rollcore.specs.declared.error.RollError.TheVariants.{Device}
@@ -38,19 +37,19 @@ returns-clause-shows g c = λ word size w d is pages.
     zeroed_shows size w d c.zero_header.result _ _ (synced_filed size w d _ _ _ is pages (c.in_ok-settle_database.ensures.state word)) (c.zero_header.ensures.state (c.settle_database.ensures.word.0 word))
 
 pub returns-in_err-settle_database-clause-goes : goal.returns-in_err-settle_database-clause-goes
-returns-in_err-settle_database-clause-goes g c = λ word sound. goes_sync Db c.settle_database.result (g.D.Disk.state c.args.disk.now) (g.D.Disk.state c.settle_database.new.disk) sound (c.settle_database.ensures.state word)
+returns-in_err-settle_database-clause-goes g c = λ word sound. sync_later Device Db c.settle_database.result (g.D.Disk.state c.args.disk.now) (g.D.Disk.state c.settle_database.new.disk) sound (c.settle_database.ensures.state word)
 
 pub returns-in_err-zero_header-clause-goes : goal.returns-in_err-zero_header-clause-goes
 returns-in_err-zero_header-clause-goes g c = λ word sound.
-    let mid = goes_sync Db c.settle_database.result (g.D.Disk.state c.args.disk.now) (g.D.Disk.state c.settle_database.new.disk) sound (c.settle_database.ensures.state word) in
-    goes_then (g.D.Disk.state c.args.disk.now) (g.D.Disk.state c.settle_database.new.disk) (g.D.Disk.state c.zero_header.new.disk) mid
-    (goes_zero c.zero_header.result (g.D.Disk.state c.settle_database.new.disk) (g.D.Disk.state c.zero_header.new.disk) mid.sound (c.zero_header.ensures.state (c.settle_database.ensures.word.0 word)))
+    let mid = sync_later Device Db c.settle_database.result (g.D.Disk.state c.args.disk.now) (g.D.Disk.state c.settle_database.new.disk) sound (c.settle_database.ensures.state word) in
+    later_then (g.D.Disk.state c.args.disk.now) (g.D.Disk.state c.settle_database.new.disk) (g.D.Disk.state c.zero_header.new.disk) mid
+    (zero_later c.zero_header.result (g.D.Disk.state c.settle_database.new.disk) (g.D.Disk.state c.zero_header.new.disk) mid.sound (c.zero_header.ensures.state (c.settle_database.ensures.word.0 word)))
 
 pub returns-clause-goes : goal.returns-clause-goes
 returns-clause-goes g c = λ word sound.
-    let mid = goes_sync Db c.settle_database.result (g.D.Disk.state c.args.disk.now) (g.D.Disk.state c.settle_database.new.disk) sound (c.settle_database.ensures.state word) in
-    goes_then (g.D.Disk.state c.args.disk.now) (g.D.Disk.state c.settle_database.new.disk) (g.D.Disk.state c.zero_header.new.disk) mid
-    (goes_zero c.zero_header.result (g.D.Disk.state c.settle_database.new.disk) (g.D.Disk.state c.zero_header.new.disk) mid.sound (c.zero_header.ensures.state (c.settle_database.ensures.word.0 word)))
+    let mid = sync_later Device Db c.settle_database.result (g.D.Disk.state c.args.disk.now) (g.D.Disk.state c.settle_database.new.disk) sound (c.settle_database.ensures.state word) in
+    later_then (g.D.Disk.state c.args.disk.now) (g.D.Disk.state c.settle_database.new.disk) (g.D.Disk.state c.zero_header.new.disk) mid
+    (zero_later c.zero_header.result (g.D.Disk.state c.settle_database.new.disk) (g.D.Disk.state c.zero_header.new.disk) mid.sound (c.zero_header.ensures.state (c.settle_database.ensures.word.0 word)))
 
 pub returns-in_err-settle_database-clause-lengths : goal.returns-in_err-settle_database-clause-lengths
 returns-in_err-settle_database-clause-lengths g c = λ word sound sectors w down hot names.

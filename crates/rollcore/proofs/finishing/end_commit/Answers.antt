@@ -9,8 +9,8 @@ use Rattle.rollcore.specs.declared.error.RollError.{RollError}
 use Rattle.rollcore.specs.declared.error.RollError.TheVariants.{Device}
 use Rattle.sqval.proofs.Answering.{passed}
 use Rattle.rollcore.proofs.Closed.{put_harmless, put_after, ends_log, of_pages, some_changes, held_after, cut_failed, cut_done, cut_pages}
-use Rattle.rollcore.proofs.Going.{goes_then, goes_cuts}
 use Rattle.rollcore.proofs.finishing.end_commit.Goals as goal
+use Rattle.crashdisk.proofs.Later.{later_cut, later_then}
 
 pub returns-in_err-put_new_pages-clause-goes : goal.returns-in_err-put_new_pages-clause-goes
 returns-in_err-put_new_pages-clause-goes g c = λ word sound. c.put_new_pages.ensures.goes word sound
@@ -18,13 +18,13 @@ returns-in_err-put_new_pages-clause-goes g c = λ word sound. c.put_new_pages.en
 pub returns-in_err-set_len-clause-goes : goal.returns-in_err-set_len-clause-goes
 returns-in_err-set_len-clause-goes g c = λ word sound.
     let first = c.put_new_pages.ensures.goes word sound in
-    goes_then _ _ _ first (goes_cuts Db _ c.set_len.result _ _ first.sound (c.set_len.ensures.state (c.put_new_pages.ensures.word.0 word)))
+    later_then _ _ _ first (later_cut Db _ c.set_len.result _ _ first.sound (c.set_len.ensures.state (c.put_new_pages.ensures.word.0 word)))
 
 pub returns-clause-goes : goal.returns-clause-goes
 returns-clause-goes g c = λ word sound.
     let first = c.put_new_pages.ensures.goes word sound in
-    let then = goes_then _ _ _ first (goes_cuts Db _ c.set_len.result _ _ first.sound (c.set_len.ensures.state (c.put_new_pages.ensures.word.0 word))) in
-    goes_then _ _ _ then (c.finish.ensures.goes (c.set_len.ensures.word.0 (c.put_new_pages.ensures.word.0 word)) then.sound)
+    let then = later_then _ _ _ first (later_cut Db _ c.set_len.result _ _ first.sound (c.set_len.ensures.state (c.put_new_pages.ensures.word.0 word))) in
+    later_then _ _ _ then (c.finish.ensures.goes (c.set_len.ensures.word.0 (c.put_new_pages.ensures.word.0 word)) then.sound)
 
 pub returns-in_err-put_new_pages-clause-ends : goal.returns-in_err-put_new_pages-clause-ends
 returns-in_err-put_new_pages-clause-ends g c = λ word sector nonces d changes place w is begun put many listed none.

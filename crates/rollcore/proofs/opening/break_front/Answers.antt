@@ -2,10 +2,12 @@ use Rattle.std.proofs.Common.{◌∙◌, ap}
 use Rattle.std.specs.Prelude.{Ok}
 use Rattle.crashdisk.specs.declared.file.File.TheVariants.{Log}
 use Rattle.sqval.proofs.Answering.{passed}
-use Rattle.rollcore.proofs.Going.{goes_then, goes_sync, goes_broken}
+use Rattle.rollcore.proofs.Going.{goes_broken}
 use Rattle.rollcore.proofs.Breaking.{front_failed, front_none, front_unsynced, front_synced}
 use Rattle.rollcore.proofs.Refusing.{broken_refused, settled_refused}
 use Rattle.rollcore.proofs.opening.break_front.Goals as goal
+use Rattle.crashdisk.proofs.Later.{later_then, sync_later}
+use Rattle.rollcore.specs.declared.error.RollError.TheVariants.{Device}
 
 pub returns-in_err-break_magic-clause-goes : goal.returns-in_err-break_magic-clause-goes
 returns-in_err-break_magic-clause-goes g c = λ word sound. goes_broken 0 c.break_magic.result (g.D.Disk.state c.args.disk.now) (g.D.Disk.state c.break_magic.new.disk) sound (c.break_magic.ensures.steps word sound)
@@ -13,14 +15,14 @@ returns-in_err-break_magic-clause-goes g c = λ word sound. goes_broken 0 c.brea
 pub returns-in_err-settle_log-clause-goes : goal.returns-in_err-settle_log-clause-goes
 returns-in_err-settle_log-clause-goes g c = λ word sound.
     let mid = goes_broken 0 c.break_magic.result (g.D.Disk.state c.args.disk.now) (g.D.Disk.state c.break_magic.new.disk) sound (c.break_magic.ensures.steps word sound) in
-    goes_then (g.D.Disk.state c.args.disk.now) (g.D.Disk.state c.break_magic.new.disk) (g.D.Disk.state c.settle_log.new.disk) mid
-    (goes_sync Log c.settle_log.result (g.D.Disk.state c.break_magic.new.disk) (g.D.Disk.state c.settle_log.new.disk) mid.sound (c.settle_log.ensures.state (c.break_magic.ensures.word.0 word)))
+    later_then (g.D.Disk.state c.args.disk.now) (g.D.Disk.state c.break_magic.new.disk) (g.D.Disk.state c.settle_log.new.disk) mid
+    (sync_later Device Log c.settle_log.result (g.D.Disk.state c.break_magic.new.disk) (g.D.Disk.state c.settle_log.new.disk) mid.sound (c.settle_log.ensures.state (c.break_magic.ensures.word.0 word)))
 
 pub returns-in_ok-settle_log-clause-goes : goal.returns-in_ok-settle_log-clause-goes
 returns-in_ok-settle_log-clause-goes g c = λ word sound.
     let mid = goes_broken 0 c.break_magic.result (g.D.Disk.state c.args.disk.now) (g.D.Disk.state c.break_magic.new.disk) sound (c.break_magic.ensures.steps word sound) in
-    goes_then (g.D.Disk.state c.args.disk.now) (g.D.Disk.state c.break_magic.new.disk) (g.D.Disk.state c.settle_log.new.disk) mid
-    (goes_sync Log c.settle_log.result (g.D.Disk.state c.break_magic.new.disk) (g.D.Disk.state c.settle_log.new.disk) mid.sound (c.settle_log.ensures.state (c.break_magic.ensures.word.0 word)))
+    later_then (g.D.Disk.state c.args.disk.now) (g.D.Disk.state c.break_magic.new.disk) (g.D.Disk.state c.settle_log.new.disk) mid
+    (sync_later Device Log c.settle_log.result (g.D.Disk.state c.break_magic.new.disk) (g.D.Disk.state c.settle_log.new.disk) mid.sound (c.settle_log.ensures.state (c.break_magic.ensures.word.0 word)))
 
 pub returns-in_err-break_magic-clause-front : goal.returns-in_err-break_magic-clause-front
 returns-in_err-break_magic-clause-front g c = λ word sound sectors w down cold.

@@ -2,7 +2,7 @@ use Rattle.std.specs.Prelude.{Ok, IsTrue}
 use Rattle.rollcore.specs.declared.error.RollError.TheVariants.{Device}
 use Rattle.sqval.proofs.Answering.{passed}
 use Rattle.crashdisk.proofs.Stills.{still_looks}
-use Rattle.rollcore.proofs.Fronts.{magic_read, magic_there, puts_zero, break_failed}
+use Rattle.rollcore.proofs.Fronts.{magic_read, magic_there, puts_zero, break_failed, break_unread}
 use Rattle.rollcore.proofs.opening.break_magic.Goals as goal
 
 pub returns-then-not-is_magic-clause-steps : goal.returns-then-not-is_magic-clause-steps
@@ -33,3 +33,7 @@ returns-clause-steps g c = λ word sound.
     puts_zero c.args.at a b (g.D.Disk.state c.write_at.new.self) sound is
     (λ w are. magic_there w a.log c.args.at c.read_at.new.out are c.read_at.auto.out (c.in_ok-read_at.ensures.bytes word) (c.is_magic.ensures.0 yes))
     (Ok tt) (c.in_ok-write_at.ensures.state (c.read_at.ensures.word.0 word))
+
+pub returns-in_err-read_at-clause-steps : goal.returns-in_err-read_at-clause-steps
+returns-in_err-read_at-clause-steps g c = λ word sound.
+    break_unread c.args.at _ _ sound _ c.read_at.result _ _ c.in_err-read_at.was (c.read_at.ensures.state word) c.requires (passed c.from_residual.result Device c.from_residual.ensures.1)

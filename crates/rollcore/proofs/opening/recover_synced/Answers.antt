@@ -14,6 +14,7 @@ use Rattle.rollcore.proofs.Breaking.{cold_alone}
 use Rattle.rollcore.proofs.Recovered.{unplanned, misjudged, unreplayed, replayed, uncounted, unbroken, broken, few_some}
 use Rattle.rollcore.specs.Opening.{RefusedFor}
 use Rattle.rollcore.proofs.Refusing.{read_refuses, size_refuses, replay_refuses, count_refuses, break_refuses, hot_opens, count_opens}
+use Rattle.crashdisk.proofs.Later.{later_then, later_still}
 use Rattle.rollcore.proofs.opening.recover_synced.Goals as goal
 
 pub returns-in_err-plan-clause-recovered : goal.returns-in_err-plan-clause-recovered
@@ -295,3 +296,32 @@ returns-in_ok-break_front-in-None-clause-opens g c = λ word db w are_db are.
     let after = still_sound s a sound is in
     let b = g.D.Disk.state c.count_pages.new.disk in
     count_opens c.args.page_size db w s sound are_db are a is cold b (still_then s a b is (c.count_pages.ensures.still next after)) c.count_pages.result _ c.in_ok-pages-in-None.was (c.count_pages.ensures.count next after)
+
+pub returns-in_err-replayed-in-Some-clause-goes : goal.returns-in_err-replayed-in-Some-clause-goes
+returns-in_err-replayed-in-Some-clause-goes g c = λ word.
+    let mid = later_still _ _ (c.find_plan.ensures.sound word) (c.find_plan.ensures.still word) in
+    later_then _ _ _ mid (c.replay_plan.ensures.goes (c.find_plan.ensures.word.0 word) mid.sound)
+
+pub returns-in_ok-replayed-in-Some-clause-goes : goal.returns-in_ok-replayed-in-Some-clause-goes
+returns-in_ok-replayed-in-Some-clause-goes g c = λ word.
+    let mid = later_still _ _ (c.find_plan.ensures.sound word) (c.find_plan.ensures.still word) in
+    later_then _ _ _ mid (c.replay_plan.ensures.goes (c.find_plan.ensures.word.0 word) mid.sound)
+
+pub returns-in_err-pages-in-None-clause-goes : goal.returns-in_err-pages-in-None-clause-goes
+returns-in_err-pages-in-None-clause-goes g c = λ word.
+    let mid = later_still _ _ (c.find_plan.ensures.sound word) (c.find_plan.ensures.still word) in
+    later_then _ _ _ mid (later_still _ _ mid.sound (c.count_pages.ensures.still (c.find_plan.ensures.word.0 word) mid.sound))
+
+pub returns-in_err-break_front-in-None-clause-goes : goal.returns-in_err-break_front-in-None-clause-goes
+returns-in_err-break_front-in-None-clause-goes g c = λ word.
+    let first = later_still _ _ (c.find_plan.ensures.sound word) (c.find_plan.ensures.still word) in
+    let next = c.find_plan.ensures.word.0 word in
+    let mid = later_then _ _ _ first (later_still _ _ first.sound (c.count_pages.ensures.still next first.sound)) in
+    later_then _ _ _ mid (c.break_front.ensures.goes (c.count_pages.ensures.word.0 next) mid.sound)
+
+pub returns-in_ok-break_front-in-None-clause-goes : goal.returns-in_ok-break_front-in-None-clause-goes
+returns-in_ok-break_front-in-None-clause-goes g c = λ word.
+    let first = later_still _ _ (c.find_plan.ensures.sound word) (c.find_plan.ensures.still word) in
+    let next = c.find_plan.ensures.word.0 word in
+    let mid = later_then _ _ _ first (later_still _ _ first.sound (c.count_pages.ensures.still next first.sound)) in
+    later_then _ _ _ mid (c.break_front.ensures.goes (c.count_pages.ensures.word.0 next) mid.sound)

@@ -10,13 +10,13 @@ use Rattle.rollcore.specs.declared.error.RollError.{RollError}
 use Rattle.sqval.proofs.Answering.{passed}
 use Rattle.rollcore.proofs.Preparing.{harmless_after}
 use Rattle.rollcore.proofs.Parting.{enough, parts_begin, parts_end, parts_all, part_forth, part_back, ready_kept, places_few, kept_same, kept_then}
-use Rattle.rollcore.proofs.Going.{goes_same, goes_then}
 use Rattle.rollcore.proofs.parts.put_segments.Goals as goal
+use Rattle.crashdisk.proofs.Later.{later_same, later_then}
 
 pub loop-k-init : goal.loop-k-init
 loop-k-init g c = record {
   word = search rules;
-  goes = λ word sound. goes_same _ sound;
+  goes = λ word sound. later_same _ sound;
   place = omega arith;
   keeps = kept_same c.args.core.now;
   changes = refl;
@@ -34,7 +34,7 @@ loop-k-preserved g c = record {
   word = search rules;
   goes = λ word sound.
       let before = c.loop-k.invariant.goes word sound in
-      goes_then _ _ _ before (c.put_part.ensures.goes (c.loop-k.invariant.word.0 word) before.sound);
+      later_then _ _ _ before (c.put_part.ensures.goes (c.loop-k.invariant.word.0 word) before.sound);
   place = omega (arith, c.in_ok-place.ensures.near, c.loop-k.invariant.place);
   keeps = kept_then c.args.core.now c.loop-k.core c.put_part.new.core c.loop-k.invariant.keeps c.put_part.ensures.keeps;
   changes = c.put_part.ensures.changes ∙ c.loop-k.invariant.changes;
@@ -81,4 +81,4 @@ returns-clause-goes g c = λ word sound. c.loop-k.invariant.goes word sound
 pub returns-in_err-place-clause-goes : goal.returns-in_err-place-clause-goes
 returns-in_err-place-clause-goes g c = λ word sound.
     let before = c.loop-k.invariant.goes word sound in
-    goes_then _ _ _ before (c.put_part.ensures.goes (c.loop-k.invariant.word.0 word) before.sound)
+    later_then _ _ _ before (c.put_part.ensures.goes (c.loop-k.invariant.word.0 word) before.sound)

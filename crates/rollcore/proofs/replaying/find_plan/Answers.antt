@@ -26,3 +26,6 @@ returns-clause-plan g c = λ word w are.
     let long : b.log.len ≡ c.in_ok-long.long = ap (λ (s : FileState). s.len) is.log ∙ sym (c.in_ok-long.ensures.answer word) in
     read_looked w a b (g.D.Disk.state c.read_plan.new.disk) is c.read_plan.result
     (read_torn c.sector_that_tears-torn.result w c.read_plan.result b (g.D.Disk.state c.read_plan.new.disk) (c.sector_that_tears-torn.ensures.value word ∙ sym (torn_still a b is)) (c.read_plan.ensures.plan (c.len.ensures.word.0 word) (still_sound _ _ sound is) w are1 (are1.len ∙ long)))
+
+pub returns-in_err-long-clause-still : goal.returns-in_err-long-clause-still
+returns-in_err-long-clause-still g c = λ word. still_looks _ c.len.result _ _ (c.sector_that_tears-torn.ensures.sound word) (c.len.ensures.state word)

@@ -5,6 +5,7 @@ use Rattle.rollcore.proofs.Agreeing.{agrees_by, scanning_shows, scanning_syncs}
 use Rattle.crashdisk.specs.declared.file.File.TheVariants.{Log}
 use Rattle.crashdisk.proofs.Down.{down_syncs}
 use Rattle.rollcore.proofs.Lengths.{ends_resynced}
+use Rattle.crashdisk.proofs.Later.{later_sync, later_then}
 use Rattle.rollcore.proofs.replaying.replay.Goals as goal
 
 pub returns-in_err-sync-clause-replays : goal.returns-in_err-sync-clause-replays
@@ -52,3 +53,11 @@ pub returns-clause-lengths : goal.returns-clause-lengths
 returns-clause-lengths g c = λ word w n down same ends.
     c.replay_synced.ensures.lengths (c.sync.ensures.word.0 word) w n (down_syncs w Log c.sync.result _ _ down (c.sync.ensures.state word)) same
     (ends_resynced n w c.sync.result (g.D.Disk.state c.args.disk.now) (g.D.Disk.state c.sync.new.self) down (c.sync.ensures.state word) ends)
+
+pub returns-in_err-sync-clause-later : goal.returns-in_err-sync-clause-later
+returns-in_err-sync-clause-later g c = λ word sound. later_sync Log c.sync.result _ _ sound (c.sync.ensures.state word)
+
+pub returns-clause-later : goal.returns-clause-later
+returns-clause-later g c = λ word sound.
+    let mid = later_sync Log c.sync.result _ _ sound (c.sync.ensures.state word) in
+    later_then _ _ _ mid (c.replay_synced.ensures.later (c.sync.ensures.word.0 word))

@@ -10,6 +10,7 @@ use Rattle.rollcore.proofs.Recovering.{planned, rolled_copy, rolled_end, rolled_
 use Rattle.rollcore.proofs.Lengths.{ends_hot, named_by, fit_named, rolled_length}
 use Rattle.rollcore.proofs.Writing.{writing_shows}
 use Rattle.rollcore.proofs.Agreeing.{fit_begins}
+use Rattle.crashdisk.proofs.Later.{later_then, later_keeps}
 use Rattle.rollcore.proofs.replaying.replay_plan.Goals as goal
 
 pub returns-in_err-copy_records-clause-replays : goal.returns-in_err-copy_records-clause-replays
@@ -101,3 +102,13 @@ returns-clause-ends g c = λ word sound sectors w down fit is.
     (c.copy_records.ensures.pages word sound now w p.pages (present_list a.db) (down_present w a down) is.took fit.hot p.same p.first p.within p.rolled) in
     subst (λ (n : ℕ). EndsBy n (g.D.Disk.state c.finish.new.disk)) (rolled_length w now p.pages (length c.deref_mut.result.now) b pages p.rolled p.same)
     (c.finish.ensures.lengths (c.copy_records.ensures.word.0 word) log.sound (subst IsSectorSize (sym log.sector) sectors) w (down_by w a b down log.log log.tears log.kept log.handed) fit.hot (named_by w a b log.sector log.tears (fit_named w a fit)))
+
+pub returns-in_err-finish-clause-goes : goal.returns-in_err-finish-clause-goes
+returns-in_err-finish-clause-goes g c = λ word sound.
+    let mid = later_keeps _ _ (c.copy_records.ensures.log word sound) in
+    later_then _ _ _ mid (c.finish.ensures.goes (c.copy_records.ensures.word.0 word) mid.sound)
+
+pub returns-clause-goes : goal.returns-clause-goes
+returns-clause-goes g c = λ word sound.
+    let mid = later_keeps _ _ (c.copy_records.ensures.log word sound) in
+    later_then _ _ _ mid (c.finish.ensures.goes (c.copy_records.ensures.word.0 word) mid.sound)

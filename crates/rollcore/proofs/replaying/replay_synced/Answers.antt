@@ -10,6 +10,7 @@ use Rattle.crashdisk.proofs.Down.{down_present, down_by}
 use Rattle.rollcore.proofs.Narrowing.{narrows_still, ends_narrow}
 use Rattle.rollcore.proofs.Recovering.{torn_still, read_refused, read_cold, plan_replays, read_plans}
 use Rattle.rollcore.proofs.Agreeing.{agrees_by, scanning_shows, scanning_still}
+use Rattle.crashdisk.proofs.Later.{later_still, later_then}
 use Rattle.rollcore.proofs.replaying.replay_synced.Goals as goal
 
 pub returns-in_err-plan-clause-replays : goal.returns-in_err-plan-clause-replays
@@ -68,3 +69,14 @@ returns-in-None-clause-agrees g c = λ word.
 pub returns-in-None-clause-lengths : goal.returns-in-None-clause-lengths
 returns-in-None-clause-lengths g c = λ word w n down same ends.
     ends_narrow (g.D.Disk.state c.args.disk.now) (g.D.Disk.state c.find_plan.new.disk) (narrows_still _ _ (c.find_plan.ensures.still word)) n ends
+
+pub returns-in_err-plan-clause-later : goal.returns-in_err-plan-clause-later
+returns-in_err-plan-clause-later g c = λ word. later_still _ _ (c.find_plan.ensures.sound word) (c.find_plan.ensures.still word)
+
+pub returns-in-None-clause-later : goal.returns-in-None-clause-later
+returns-in-None-clause-later g c = λ word. later_still _ _ (c.find_plan.ensures.sound word) (c.find_plan.ensures.still word)
+
+pub returns-in-Some-clause-later : goal.returns-in-Some-clause-later
+returns-in-Some-clause-later g c = λ word.
+    let mid = later_still _ _ (c.find_plan.ensures.sound word) (c.find_plan.ensures.still word) in
+    later_then _ _ _ mid (c.replay_plan.ensures.goes (c.find_plan.ensures.word.0 word) mid.sound)

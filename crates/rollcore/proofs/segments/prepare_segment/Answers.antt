@@ -9,11 +9,11 @@ use Rattle.rollcore.specs.Segments.{PreparedAnswer, pages_of}
 use Rattle.rollcore.specs.declared.changes.Change.{Change}
 use Rattle.rollcore.specs.declared.error.RollError.{RollError}
 use Rattle.sqval.proofs.Answering.{passed}
-use Rattle.crashdisk.proofs.Later.{sync_later}
+use Rattle.crashdisk.proofs.Later.{sync_later, later_then}
 use Rattle.rollcore.proofs.Recording.{recording_begins}
 use Rattle.rollcore.proofs.Preparing.{ended, break_failed, settle_failed, settled, break_later, break_file, harmless_after}
 use Rattle.crashdisk.specs.declared.file.File.TheVariants.{Log}
-use Rattle.rollcore.proofs.Going.{goes_then, goes_broken, goes_sync}
+use Rattle.rollcore.proofs.Going.{goes_broken}
 use Rattle.rollcore.specs.declared.error.RollError.TheVariants.{Device}
 use Rattle.rollcore.proofs.segments.prepare_segment.Goals as goal
 
@@ -84,16 +84,16 @@ returns-in_err-end-clause-goes g c = λ word sound. c.write_records.ensures.goes
 pub returns-in_err-break_magic-clause-goes : goal.returns-in_err-break_magic-clause-goes
 returns-in_err-break_magic-clause-goes g c = λ word sound.
     let first = c.write_records.ensures.goes word sound in
-    goes_then _ _ _ first (goes_broken _ c.break_magic.result _ _ first.sound (c.break_magic.ensures.steps (c.write_records.ensures.word.0 word) first.sound))
+    later_then _ _ _ first (goes_broken _ c.break_magic.result _ _ first.sound (c.break_magic.ensures.steps (c.write_records.ensures.word.0 word) first.sound))
 
 pub returns-in_err-settle_log-clause-goes : goal.returns-in_err-settle_log-clause-goes
 returns-in_err-settle_log-clause-goes g c = λ word sound.
     let first = c.write_records.ensures.goes word sound in
-    let mid = goes_then _ _ _ first (goes_broken _ c.break_magic.result _ _ first.sound (c.break_magic.ensures.steps (c.write_records.ensures.word.0 word) first.sound)) in
-    goes_then _ _ _ mid (goes_sync Log c.settle_log.result _ _ mid.sound (c.settle_log.ensures.state (c.break_magic.ensures.word.0 (c.write_records.ensures.word.0 word))))
+    let mid = later_then _ _ _ first (goes_broken _ c.break_magic.result _ _ first.sound (c.break_magic.ensures.steps (c.write_records.ensures.word.0 word) first.sound)) in
+    later_then _ _ _ mid (sync_later Device Log c.settle_log.result _ _ mid.sound (c.settle_log.ensures.state (c.break_magic.ensures.word.0 (c.write_records.ensures.word.0 word))))
 
 pub returns-clause-goes : goal.returns-clause-goes
 returns-clause-goes g c = λ word sound.
     let first = c.write_records.ensures.goes word sound in
-    let mid = goes_then _ _ _ first (goes_broken _ c.break_magic.result _ _ first.sound (c.break_magic.ensures.steps (c.write_records.ensures.word.0 word) first.sound)) in
-    goes_then _ _ _ mid (goes_sync Log c.settle_log.result _ _ mid.sound (c.settle_log.ensures.state (c.break_magic.ensures.word.0 (c.write_records.ensures.word.0 word))))
+    let mid = later_then _ _ _ first (goes_broken _ c.break_magic.result _ _ first.sound (c.break_magic.ensures.steps (c.write_records.ensures.word.0 word) first.sound)) in
+    later_then _ _ _ mid (sync_later Device Log c.settle_log.result _ _ mid.sound (c.settle_log.ensures.state (c.break_magic.ensures.word.0 (c.write_records.ensures.word.0 word))))

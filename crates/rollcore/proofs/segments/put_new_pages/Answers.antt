@@ -2,19 +2,20 @@ use Rattle.std.proofs.Common.{◌<◌, ◌++◌, ◌+◌, ℕ, length, sym, ap, 
 use Rattle.std.specs.Prelude.{Result, Ok}
 use Rattle.sqval.specs.JudgedPages.{lent}
 use Rattle.crashdisk.specs.Call.{DiskState}
-use Rattle.rollcore.specs.Commits.{Goes}
+use Rattle.crashdisk.specs.Keeps.{Later}
 use Rattle.rollcore.specs.Segments.{PutPagesAnswer, new_numbers}
 use Rattle.rollcore.specs.declared.error.RollError.{RollError}
 use Rattle.sqval.proofs.Answering.{passed}
-use Rattle.rollcore.proofs.Going.{goes_same, goes_then, goes_page}
+use Rattle.rollcore.proofs.Going.{goes_page}
 use Rattle.rollcore.proofs.Growing.{Grown, grown_none, grown_all, grown_old, grown_put, grown_failed, lent_at, lent_length}
 use Rattle.rollcore.proofs.segments.put_new_pages.Goals as goal
 use Rattle.rollcore.proofs.segments.put_new_pages.Goals.{then-page-old_size+in_ok-put_page, else-page-old_size}
+use Rattle.crashdisk.proofs.Later.{later_same, later_then}
 
 pub loop-x-init : goal.loop-x-init
 loop-x-init g c = record {
   word = search rules;
-  goes = λ word sound. goes_same _ sound;
+  goes = λ word sound. later_same _ sound;
   put = λ word size sector d e named place w before is begun many are somes put. grown_none size sector d e named place w begun (lent c.args.pages.now) are before somes (g.D.Disk.state c.args.disk.now) is put;
 }
 
@@ -25,9 +26,9 @@ loop-x-preserved g c = record {
       let before = c.loop-x.invariant.goes word sound in
       elim c.if-page-old_size.branch [
         | then-page-old_size+in_ok-put_page x ↦
-            subst (λ (s : DiskState). Goes (g.D.Disk.state c.args.disk.now) s) (sym (ap g.D.Disk.state x.disk-is))
-            (goes_then _ _ _ before (goes_page _ _ x.put_page.result _ _ before.sound (x.put_page.ensures.step (c.loop-x.invariant.word.0 word))))
-        | else-page-old_size x ↦ subst (λ (s : DiskState). Goes (g.D.Disk.state c.args.disk.now) s) (sym (ap g.D.Disk.state x.disk-is)) before
+            subst (λ (s : DiskState). Later (g.D.Disk.state c.args.disk.now) s) (sym (ap g.D.Disk.state x.disk-is))
+            (later_then _ _ _ before (goes_page _ _ x.put_page.result _ _ before.sound (x.put_page.ensures.step (c.loop-x.invariant.word.0 word))))
+        | else-page-old_size x ↦ subst (λ (s : DiskState). Later (g.D.Disk.state c.args.disk.now) s) (sym (ap g.D.Disk.state x.disk-is)) before
       ];
   put = λ word size sector d e named place w before is begun many are somes put.
       let was = c.loop-x.invariant.put word size sector d e named place w before is begun many are somes put in
@@ -66,4 +67,4 @@ returns-clause-goes g c = λ word sound. c.loop-x.invariant.goes word sound
 pub returns-in_err-put_page-clause-goes : goal.returns-in_err-put_page-clause-goes
 returns-in_err-put_page-clause-goes g c = λ word sound.
     let before = c.loop-x.invariant.goes word sound in
-    goes_then _ _ _ before (goes_page _ _ c.put_page.result _ _ before.sound (c.put_page.ensures.step (c.loop-x.invariant.word.0 word)))
+    later_then _ _ _ before (goes_page _ _ c.put_page.result _ _ before.sound (c.put_page.ensures.step (c.loop-x.invariant.word.0 word)))

@@ -2,19 +2,19 @@ use Rattle.std.proofs.Common.{◌++◌, ◌+◌, sym, ap, subst, arith, rules, [
 use Rattle.std.specs.Prelude.{Result}
 use Rattle.sqval.specs.JudgedPages.{lent}
 use Rattle.crashdisk.specs.Call.{DiskState}
+use Rattle.crashdisk.specs.Keeps.{Later}
 use Rattle.rollcore.specs.Segments.{PutPagesAnswer, pages_of}
 use Rattle.rollcore.specs.declared.error.RollError.{RollError}
 use Rattle.sqval.proofs.Answering.{passed}
 use Rattle.rollcore.proofs.Putting.{turned_none, turned_all, turned_cut, turned_put, turned_failed, lent_content, Turned}
 use Rattle.rollcore.proofs.segments.put_pages.Goals as goal
-use Rattle.rollcore.specs.Commits.{Goes}
-use Rattle.rollcore.proofs.Going.{goes_same, goes_then}
 use Rattle.rollcore.proofs.segments.put_pages.Goals.{in-Some+in_ok-put_page-in-Some, in-None}
+use Rattle.crashdisk.proofs.Later.{later_same, later_then}
 
 pub loop-change-init : goal.loop-change-init
 loop-change-init g c = record {
   word = search rules;
-  goes = λ word sound. goes_same _ sound;
+  goes = λ word sound. later_same _ sound;
   put = λ word size sector d e named place w before is begun turned somes put. turned_none size sector d e named place w begun (lent c.args.pages.now) c.args.changes.now turned before somes (g.D.Disk.state c.args.disk.now) is put;
 }
 
@@ -39,9 +39,9 @@ loop-change-preserved g c = record {
   goes = λ word sound.
       let before = c.loop-change.invariant.goes word sound in
       elim c.match-change.branch [
-        | in-Some+in_ok-put_page-in-Some x ↦ subst (λ (s : DiskState). Goes (g.D.Disk.state c.args.disk.now) s) (sym (ap g.D.Disk.state x.disk-is))
-            (goes_then _ _ _ before (x.put_page.ensures.goes (c.loop-change.invariant.word.0 word) before.sound))
-        | in-None x ↦ subst (λ (s : DiskState). Goes (g.D.Disk.state c.args.disk.now) s) (sym (ap g.D.Disk.state x.disk-is)) before
+        | in-Some+in_ok-put_page-in-Some x ↦ subst (λ (s : DiskState). Later (g.D.Disk.state c.args.disk.now) s) (sym (ap g.D.Disk.state x.disk-is))
+            (later_then _ _ _ before (x.put_page.ensures.goes (c.loop-change.invariant.word.0 word) before.sound))
+        | in-None x ↦ subst (λ (s : DiskState). Later (g.D.Disk.state c.args.disk.now) s) (sym (ap g.D.Disk.state x.disk-is)) before
       ];
   put = λ word size sector d e named place w before is begun turned somes put.
       let was = c.loop-change.invariant.put word size sector d e named place w before is begun turned somes put in
@@ -63,4 +63,4 @@ returns-clause-goes g c = λ word sound. c.loop-change.invariant.goes word sound
 pub returns-in_err-put_page-in-Some-clause-goes : goal.returns-in_err-put_page-in-Some-clause-goes
 returns-in_err-put_page-in-Some-clause-goes g c = λ word sound.
     let before = c.loop-change.invariant.goes word sound in
-    goes_then _ _ _ before (c.put_page.ensures.goes (c.loop-change.invariant.word.0 word) before.sound)
+    later_then _ _ _ before (c.put_page.ensures.goes (c.loop-change.invariant.word.0 word) before.sound)

@@ -10,8 +10,8 @@ use Rattle.rollcore.specs.declared.error.RollError.{RollError}
 use Rattle.sqval.proofs.Answering.{passed}
 use Rattle.rollcore.proofs.Preparing.{harmless_after}
 use Rattle.rollcore.proofs.WholeSegments.{next_of}
-use Rattle.rollcore.proofs.Going.{goes_then}
 use Rattle.rollcore.proofs.segments.put_segment.Goals as goal
+use Rattle.crashdisk.proofs.Later.{later_then}
 
 pub returns-in_err-next-clause-segment : goal.returns-in_err-next-clause-segment
 returns-in_err-next-clause-segment g c = λ word d e named w before is fresh more wide head turned somes put.
@@ -75,16 +75,16 @@ returns-in_err-next-clause-goes g c = λ word sound. c.prepare_segment.ensures.g
 pub returns-in_err-write_header-clause-goes : goal.returns-in_err-write_header-clause-goes
 returns-in_err-write_header-clause-goes g c = λ word sound.
     let first = c.prepare_segment.ensures.goes word sound in
-    goes_then _ _ _ first (c.write_header.ensures.goes (c.prepare_segment.ensures.word.0 word) first.sound)
+    later_then _ _ _ first (c.write_header.ensures.goes (c.prepare_segment.ensures.word.0 word) first.sound)
 
 pub returns-in_err-put_pages-clause-goes : goal.returns-in_err-put_pages-clause-goes
 returns-in_err-put_pages-clause-goes g c = λ word sound.
     let first = c.prepare_segment.ensures.goes word sound in
-    let mid = goes_then _ _ _ first (c.write_header.ensures.goes (c.prepare_segment.ensures.word.0 word) first.sound) in
-    goes_then _ _ _ mid (c.put_pages.ensures.goes (c.write_header.ensures.word.0 (c.prepare_segment.ensures.word.0 word)) mid.sound)
+    let mid = later_then _ _ _ first (c.write_header.ensures.goes (c.prepare_segment.ensures.word.0 word) first.sound) in
+    later_then _ _ _ mid (c.put_pages.ensures.goes (c.write_header.ensures.word.0 (c.prepare_segment.ensures.word.0 word)) mid.sound)
 
 pub returns-clause-goes : goal.returns-clause-goes
 returns-clause-goes g c = λ word sound.
     let first = c.prepare_segment.ensures.goes word sound in
-    let mid = goes_then _ _ _ first (c.write_header.ensures.goes (c.prepare_segment.ensures.word.0 word) first.sound) in
-    goes_then _ _ _ mid (c.put_pages.ensures.goes (c.write_header.ensures.word.0 (c.prepare_segment.ensures.word.0 word)) mid.sound)
+    let mid = later_then _ _ _ first (c.write_header.ensures.goes (c.prepare_segment.ensures.word.0 word) first.sound) in
+    later_then _ _ _ mid (c.put_pages.ensures.goes (c.write_header.ensures.word.0 (c.prepare_segment.ensures.word.0 word)) mid.sound)

@@ -7,8 +7,8 @@ use Rattle.rollcore.specs.declared.error.RollError.TheVariants.{Device}
 use Rattle.sqval.proofs.Answering.{passed}
 use Rattle.rollcore.proofs.HeaderSteps.{header_failed, header_unsynced, header_done}
 use Rattle.crashdisk.specs.declared.file.File.TheVariants.{Log}
-use Rattle.rollcore.proofs.Going.{goes_then, goes_writes, goes_syncs}
 use Rattle.rollcore.proofs.segments.write_header.Goals as goal
+use Rattle.crashdisk.proofs.Later.{later_sync, later_then, later_write}
 
 pub returns-in_err-write_at-clause-header : goal.returns-in_err-write_at-clause-header
 returns-in_err-write_at-clause-header g c = λ word size sector d named part w nonce is wide few head.
@@ -35,14 +35,14 @@ returns-clause-header g c = λ word size sector d named part w nonce is wide few
     (c.in_ok-sync.ensures.state (c.write_at.ensures.word.0 word))
 
 pub returns-in_err-write_at-clause-goes : goal.returns-in_err-write_at-clause-goes
-returns-in_err-write_at-clause-goes g c = λ word sound. goes_writes Log c.args.place _ c.write_at.result _ _ sound (c.write_at.ensures.state word)
+returns-in_err-write_at-clause-goes g c = λ word sound. later_write Log c.args.place _ c.write_at.result _ _ sound (c.write_at.ensures.state word)
 
 pub returns-in_err-sync-clause-goes : goal.returns-in_err-sync-clause-goes
 returns-in_err-sync-clause-goes g c = λ word sound.
-    let mid = goes_writes Log c.args.place _ c.write_at.result _ _ sound (c.write_at.ensures.state word) in
-    goes_then _ _ _ mid (goes_syncs Log c.sync.result _ _ mid.sound (c.sync.ensures.state (c.write_at.ensures.word.0 word)))
+    let mid = later_write Log c.args.place _ c.write_at.result _ _ sound (c.write_at.ensures.state word) in
+    later_then _ _ _ mid (later_sync Log c.sync.result _ _ mid.sound (c.sync.ensures.state (c.write_at.ensures.word.0 word)))
 
 pub returns-clause-goes : goal.returns-clause-goes
 returns-clause-goes g c = λ word sound.
-    let mid = goes_writes Log c.args.place _ c.write_at.result _ _ sound (c.write_at.ensures.state word) in
-    goes_then _ _ _ mid (goes_syncs Log c.sync.result _ _ mid.sound (c.sync.ensures.state (c.write_at.ensures.word.0 word)))
+    let mid = later_write Log c.args.place _ c.write_at.result _ _ sound (c.write_at.ensures.state word) in
+    later_then _ _ _ mid (later_sync Log c.sync.result _ _ mid.sound (c.sync.ensures.state (c.write_at.ensures.word.0 word)))

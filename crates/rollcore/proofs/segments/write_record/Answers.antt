@@ -10,8 +10,8 @@ use Rattle.sqval.proofs.Answering.{passed}
 use Rattle.crashdisk.proofs.Stills.{still_looks}
 use Rattle.rollcore.proofs.Recorded.{step_unread, step_unwritten, step_put, middle, record_fits}
 use borrow.Rule.Slice.PartMut.{same_len_mid}
-use Rattle.rollcore.proofs.Going.{goes_then, goes_still, goes_writes}
 use Rattle.rollcore.proofs.segments.write_record.Goals as goal
+use Rattle.crashdisk.proofs.Later.{later_still, later_then, later_write}
 
 pub returns-in_err-read_at-clause-record : goal.returns-in_err-read_at-clause-record
 returns-in_err-read_at-clause-record g c = λ word sound fits.
@@ -59,14 +59,14 @@ returns-clause-record g c = λ word sound fits.
     (still_looks _ c.read_at.result _ _ sound (c.read_at.ensures.state word)) tt wrote
 
 pub returns-in_err-read_at-clause-goes : goal.returns-in_err-read_at-clause-goes
-returns-in_err-read_at-clause-goes g c = λ word sound. goes_still _ _ sound (still_looks _ c.read_at.result _ _ sound (c.read_at.ensures.state word))
+returns-in_err-read_at-clause-goes g c = λ word sound. later_still _ _ sound (still_looks _ c.read_at.result _ _ sound (c.read_at.ensures.state word))
 
 pub returns-in_err-write_at-clause-goes : goal.returns-in_err-write_at-clause-goes
 returns-in_err-write_at-clause-goes g c = λ word sound.
-    let mid = goes_still _ _ sound (still_looks _ c.read_at.result _ _ sound (c.read_at.ensures.state word)) in
-    goes_then _ _ _ mid (goes_writes Log c.args.at _ c.write_at.result _ _ mid.sound (c.write_at.ensures.state (c.read_at.ensures.word.0 word)))
+    let mid = later_still _ _ sound (still_looks _ c.read_at.result _ _ sound (c.read_at.ensures.state word)) in
+    later_then _ _ _ mid (later_write Log c.args.at _ c.write_at.result _ _ mid.sound (c.write_at.ensures.state (c.read_at.ensures.word.0 word)))
 
 pub returns-clause-goes : goal.returns-clause-goes
 returns-clause-goes g c = λ word sound.
-    let mid = goes_still _ _ sound (still_looks _ c.read_at.result _ _ sound (c.read_at.ensures.state word)) in
-    goes_then _ _ _ mid (goes_writes Log c.args.at _ c.write_at.result _ _ mid.sound (c.write_at.ensures.state (c.read_at.ensures.word.0 word)))
+    let mid = later_still _ _ sound (still_looks _ c.read_at.result _ _ sound (c.read_at.ensures.state word)) in
+    later_then _ _ _ mid (later_write Log c.args.at _ c.write_at.result _ _ mid.sound (c.write_at.ensures.state (c.read_at.ensures.word.0 word)))

@@ -7,13 +7,13 @@ use Rattle.rollcore.specs.Commits.{change_at}
 use Rattle.rollcore.specs.declared.changes.Change.{Change}
 use Rattle.sqval.proofs.Answering.{passed}
 use Rattle.rollcore.proofs.Recorded.{gone_none, gone_on, gone_off, gone_fits, page_in, gone_end}
-use Rattle.rollcore.proofs.Going.{goes_same, goes_then}
 use Rattle.rollcore.proofs.segments.write_records.Goals as goal
+use Rattle.crashdisk.proofs.Later.{later_same, later_then}
 
 pub loop-change-init : goal.loop-change-init
 loop-change-init g c = record {
   word = search rules;
-  goes = λ word sound. goes_same _ sound;
+  goes = λ word sound. later_same _ sound;
   end = omega arith;
   going = λ word sector d named place w is at fresh. gone_none _ sector d named place w (pages_of c.args.changes.now) c.args.nonce c.args.at (g.D.Disk.state c.args.disk.now) at is;
 }
@@ -23,7 +23,7 @@ loop-change-preserved g c = record {
   word = search rules;
   goes = λ word sound.
       let before = c.loop-change.invariant.goes word sound in
-      goes_then _ _ _ before (c.write_record.ensures.goes (c.loop-change.invariant.word.0 word) before.sound);
+      later_then _ _ _ before (c.write_record.ensures.goes (c.loop-change.invariant.word.0 word) before.sound);
   end =
       let so_far : c.loop-change.end ≡ c.args.at + c.loop-change.change-index * length c.write_record.new.buffer = c.loop-change.invariant.end ∙ ap (λ (n : ℕ). c.args.at + c.loop-change.change-index * n) (sym c.write_record.auto.buffer) in
       omega arith;
@@ -63,4 +63,4 @@ returns-clause-goes g c = λ word sound. c.loop-change.invariant.goes word sound
 pub returns-in_err-write_record-clause-goes : goal.returns-in_err-write_record-clause-goes
 returns-in_err-write_record-clause-goes g c = λ word sound.
     let before = c.loop-change.invariant.goes word sound in
-    goes_then _ _ _ before (c.write_record.ensures.goes (c.loop-change.invariant.word.0 word) before.sound)
+    later_then _ _ _ before (c.write_record.ensures.goes (c.loop-change.invariant.word.0 word) before.sound)

@@ -17,4 +17,4 @@ returns-in-Read-clause-serves c = guarded c.read.result c.args.page_size c.args.
 
 pub returns-in_ok-set-in_default-clause-serves : goal.returns-in_ok-set-in_default-clause-serves
 returns-in_ok-set-in_default-clause-serves c opens crashes =
-    set_serves c.args.page_size c.args.roll.now c.set.new.roll c.args.event.now (others_set c.args.event.now c.in_default.not-Commit c.in_default.not-Read opens crashes) c.set.ensures.core c.set.ensures.disk
+    set_serves c.args.page_size c.args.roll.now c.set.new.roll c.args.event.now opens (others_set c.args.event.now c.in_default.not-Commit c.in_default.not-Read opens crashes) c.set.ensures.core c.in_ok-set-in_default.ensures.set

@@ -59,3 +59,6 @@ returns-clause-page g c = λ word sound w count are valid table le within.
     let out = content_read size c.args.frames frame (32 + c.from.result * (24 + size) + 24) w c.read_at.new.out (g.D.Disk.state c.args.disk.now).log valid some last.within are place c.read_at.auto.out (c.in_ok-read_at.ensures.bytes word) in
     let wrote = subst (λ (n : ℕ). Writes Db (n * size) c.read_at.new.out (Ok tt) (g.D.Disk.state c.read_at.new.self) (g.D.Disk.state c.write_at.new.self)) c.from-2.ensures (c.in_ok-write_at.ensures.state (c.read_at.ensures.word.0 word)) in
     page_put size w c.args.frames c.args.number frame c.read_at.new.out _ _ _ last out read tt wrote
+
+pub returns-in_err-read_at-clause-log : goal.returns-in_err-read_at-clause-log
+returns-in_err-read_at-clause-log g c = λ word sound. keeps_still _ _ sound (still_looks _ c.read_at.result _ _ sound (c.read_at.ensures.state word))

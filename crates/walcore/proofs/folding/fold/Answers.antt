@@ -7,6 +7,7 @@ use Rattle.walcore.proofs.Looking.{scanning_shows, scanning_syncs}
 use Rattle.walcore.proofs.Agreeing.{agrees_by}
 use Rattle.crashdisk.proofs.Down.{down_syncs}
 use Rattle.walcore.proofs.Lengths.{ends_down, length_syncs}
+use Rattle.crashdisk.proofs.Later.{later_same, later_sync, later_then}
 use Rattle.walcore.proofs.folding.fold.Goals as goal
 
 pub returns-in_err-sync-clause-agrees : goal.returns-in_err-sync-clause-agrees
@@ -65,3 +66,14 @@ returns-clause-synced g c = λ word whole.
       rest = goes_on c.args.page_size c.sync.result _ c.fold_synced.result (g.D.Disk.state c.sync.new.self) (g.D.Disk.state c.fold_synced.new.disk) c.in_ok-sync.was
           (c.fold_synced.ensures.folds next (synced_empty (g.D.Disk.state c.args.disk.now) (g.D.Disk.state c.sync.new.self) suits.sound (c.in_ok-sync.ensures.state word))) (c.fold_synced.ensures.agrees next);
     }
+
+pub returns-in_err-judge_sector-clause-later : goal.returns-in_err-judge_sector-clause-later
+returns-in_err-judge_sector-clause-later g c = λ word sound. later_same _ sound
+
+pub returns-in_err-sync-clause-later : goal.returns-in_err-sync-clause-later
+returns-in_err-sync-clause-later g c = λ word sound. later_sync Log c.sync.result _ _ sound (c.sync.ensures.state word)
+
+pub returns-clause-later : goal.returns-clause-later
+returns-clause-later g c = λ word sound.
+    let mid = later_sync Log c.sync.result _ _ sound (c.sync.ensures.state word) in
+    later_then _ _ _ mid (c.fold_synced.ensures.later (c.sync.ensures.word.0 word))

@@ -2,6 +2,7 @@ use Rattle.std.proofs.Common.{◌∙◌, sym, subst, arith}
 use Rattle.sqval.specs.PageSize.{IsPageSize}
 use Rattle.sqval.proofs.FilePages.{count_zero, count_rest}
 use Rattle.walcore.proofs.opening.count_pages.Goals.{then-long-eq0-via-then-long-eq0, then-long-eq0-via-else-long-eq0+then-long-size-ne0}
+use Rattle.crashdisk.proofs.Stills.{still_looks}
 use Rattle.walcore.proofs.opening.count_pages.Goals as goal
 
 pub returns-then-long-eq0-clause-count : goal.returns-then-long-eq0-clause-count
@@ -12,3 +13,15 @@ returns-then-long-eq0-clause-count g c = λ word sound. (
     | then-long-eq0-via-else-long-eq0+then-long-size-ne0 w ↦ count_rest c.args.page_size c.from-size.result n c.in_ok-long.long (c.from-size.ensures ∙ c.get.ensures.value) (e ∙ sym (c.in_ok-long.ensures.answer word)) w.if-long-size-ne0.true
   ],
 )
+
+pub returns-in_err-long-clause-still : goal.returns-in_err-long-clause-still
+returns-in_err-long-clause-still g c = λ word sound. still_looks _ c.len.result _ _ sound (c.len.ensures.state word)
+
+pub returns-then-long-gt-MOST_BYTES-clause-still : goal.returns-then-long-gt-MOST_BYTES-clause-still
+returns-then-long-gt-MOST_BYTES-clause-still g c = λ word sound. still_looks _ c.len.result _ _ sound (c.len.ensures.state word)
+
+pub returns-then-long-eq0-clause-still : goal.returns-then-long-eq0-clause-still
+returns-then-long-eq0-clause-still g c = λ word sound. still_looks _ c.len.result _ _ sound (c.len.ensures.state word)
+
+pub returns-clause-still : goal.returns-clause-still
+returns-clause-still g c = λ word sound. still_looks _ c.len.result _ _ sound (c.len.ensures.state word)

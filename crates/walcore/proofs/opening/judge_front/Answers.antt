@@ -49,3 +49,6 @@ returns-clause-judged g c = λ word sound fits w are none.
     let next = c.len.ensures.word.0 word in
     let plans = read_plans c.args.page_size w c.read_plan.result c.in_ok-plan.plan _ _ c.in_ok-plan.was (c.read_plan.ensures.plan next (still_sound _ _ sound is) w (present_in _ _ w is.log are) (are.len ∙ sym (c.in_ok-long.ensures.answer word))) in
     c.if-plan-eq0.false (sym (front_unique (named_size w) w 0 c.in_ok-plan.plan.frames none plans.1.front))
+
+pub returns-in_err-long-clause-still : goal.returns-in_err-long-clause-still
+returns-in_err-long-clause-still g c = λ word sound. still_looks _ c.len.result _ _ sound (c.len.ensures.state word)

@@ -2,6 +2,7 @@ use Rattle.std.proofs.Common.{◌+◌, take, length}
 use Rattle.walcore.specs.declared.error.WalError.TheVariants.{Device}
 use Rattle.sqval.proofs.Answering.{passed}
 use Rattle.walcore.proofs.Scans.{fed, not_fed, scan_refusal}
+use Rattle.crashdisk.proofs.Stills.{still_looks}
 use Rattle.walcore.proofs.reading.feed_piece.Goals as goal
 
 pub returns-in_err-read_at-clause-took : goal.returns-in_err-read_at-clause-took
@@ -15,3 +16,12 @@ returns-in-Ok-clause-took g c = λ word sound w are fits took.
 pub returns-in-Err-clause-took : goal.returns-in-Err-clause-took
 returns-in-Err-clause-took g c = λ word sound w are fits took.
     not_fed w (g.D.Disk.state c.args.disk.now).log c.args.at c.args.piece.now c.read_at.new.out c.read_at.auto.out are fits (c.in_ok-read_at.ensures.bytes word) c.in-Err.error _ _ c.feed.new.self _ _ (c.in-Err.ensures (take c.args.at w) took).1 c.without_header.ensures
+
+pub returns-in_err-read_at-clause-still : goal.returns-in_err-read_at-clause-still
+returns-in_err-read_at-clause-still g c = λ word sound. still_looks _ c.read_at.result _ _ sound (c.read_at.ensures.state word)
+
+pub returns-in-Ok-clause-still : goal.returns-in-Ok-clause-still
+returns-in-Ok-clause-still g c = λ word sound. still_looks _ c.read_at.result _ _ sound (c.read_at.ensures.state word)
+
+pub returns-in-Err-clause-still : goal.returns-in-Err-clause-still
+returns-in-Err-clause-still g c = λ word sound. still_looks _ c.read_at.result _ _ sound (c.read_at.ensures.state word)

@@ -9,7 +9,7 @@ use Rattle.sqworld.proofs.engine.Engine.call.Goals as goal
 pub returns-in-Closed-clause-serves : goal.returns-in-Closed-clause-serves
 returns-in-Closed-clause-serves c =
     subst (λ (old : Engine). IfOk c.refuse-reply.result (λ reply. is_opening c.args.event.now ≡ false → is_crash c.args.event.now ≡ false → EngineServes c.args.page_size old (Closed c.refuse-reply.new.disk c.in-Closed.begun) (act_of c.args.event.now None None) (answer_of reply)))
-    (sym c.in-Closed.is) (closed_serves c.refuse-reply.result c.args.page_size c.args.event.now c.in-Closed.disk c.refuse-reply.new.disk c.in-Closed.begun c.refuse-reply.ensures.reply c.refuse-reply.ensures.disk)
+    (sym c.in-Closed.is) (closed_serves c.refuse-reply.result c.args.page_size c.args.event.now c.in-Closed.disk c.refuse-reply.new.disk c.in-Closed.begun c.refuse-reply.ensures.reply c.refuse-reply.ensures.set c.refuse-reply.ensures.calm)
 
 pub returns-in-Open-clause-serves : goal.returns-in-Open-clause-serves
 returns-in-Open-clause-serves c =

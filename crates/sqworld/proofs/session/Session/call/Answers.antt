@@ -30,5 +30,5 @@ returns-in-End-clause-serves c = told_act c.args.page_size c.args.self.now c.end
 pub returns-in_ok-set-in_default-clause-serves : goal.returns-in_ok-set-in_default-clause-serves
 returns-in_ok-set-in_default-clause-serves c opens crashes =
     let d = c.in_default in
-    set_serves c.args.page_size c.args.self.now c.set.new.self c.args.event.now
-    (others_set c.args.event.now d.not-Commit d.not-Sync d.not-Checkpoint d.not-Restart d.not-Begin d.not-Read d.not-End opens crashes) c.set.ensures.core c.set.ensures.disk c.set.ensures.first c.set.ensures.slots
+    set_serves c.args.page_size c.args.self.now c.set.new.self c.args.event.now opens
+    (others_set c.args.event.now d.not-Commit d.not-Sync d.not-Checkpoint d.not-Restart d.not-Begin d.not-Read d.not-End opens crashes) c.set.ensures.core c.in_ok-set-in_default.ensures.set c.set.ensures.first c.set.ensures.slots

@@ -1,0 +1,24 @@
+-- What is set of a modelled disk changes nothing of its files.
+use Rattle.std.proofs.Common.{◌≡◌, ℕ, refl, sym, subst, arith}
+use Rattle.crashdisk.specs.Keeps.{SameFiles}
+use Rattle.crashdisk.specs.Model.{state_of}
+use Rattle.crashdisk.specs.declared.held.Part.{Part}
+use Rattle.crashdisk.specs.declared.model.ModelDisk.{ModelDisk}
+use Rattle.crashdisk.specs.declared.stops.Stops.{Stops}
+use Rattle.sqworld.specs.Engines.{stopping_after, stopping_at_sync, FailsAt}
+
+set_files : (disk : ModelDisk) (stops : Stops) (part : Part) → SameFiles (state_of disk) (state_of (record disk { stops = stops; part = part }))
+set_files disk stops part = record { sector = refl; tears = refl; db = refl; log = refl; kept = refl; handed = refl; refused = omega arith; count = disk.counted }
+
+module _ (old new : ModelDisk) where
+  pub same_model : new ≡ old → SameFiles (state_of old) (state_of new)
+  same_model is = subst (λ (m : ModelDisk). SameFiles (state_of old) (state_of m)) (sym is) (set_files old old.stops old.part)
+
+  pub stopped_after : (calls : ℕ) → new ≡ stopping_after calls old → SameFiles (state_of old) (state_of new)
+  stopped_after calls is = subst (λ (m : ModelDisk). SameFiles (state_of old) (state_of m)) (sym is) (set_files old (stopping_after calls old).stops old.part)
+
+  pub stopped_at_sync : (syncs : ℕ) → new ≡ stopping_at_sync syncs old → SameFiles (state_of old) (state_of new)
+  stopped_at_sync syncs is = subst (λ (m : ModelDisk). SameFiles (state_of old) (state_of m)) (sym is) (set_files old (stopping_at_sync syncs old).stops old.part)
+
+  pub failing : (call : ℕ) (part : Part) → FailsAt call part old new → SameFiles (state_of old) (state_of new)
+  failing call part is = subst (λ (m : ModelDisk). SameFiles (state_of old) (state_of m)) (sym is.rest) (set_files old (record old.stops { fails = call }) new.part)
