@@ -125,7 +125,7 @@ module _ (f : File) (from to : ℕ) where
     sector = wrote.elsewhere.sector;
     tears = wrote.elsewhere.tears;
     other = wrote.elsewhere.other;
-    calls = one_write f at bytes result mid new wrote;
+    calls = one_write f at bytes result mid new refl wrote;
     file = file_wider mid.sector mid.tears at (at + length bytes) from to (of f mid) (of f new) le le2
         (file_written mid.sector mid.tears at bytes result (of f mid) (of f new) (sound_now old mid so_far)
         (sound_written mid.sector at bytes result (of f mid) (of f new) (sound_now old mid so_far) wrote.are_bytes wrote.within wrote.file) wrote.file);
@@ -137,7 +137,7 @@ module _ (f : File) (from to : ℕ) where
     sector = cut.elsewhere.sector;
     tears = cut.elsewhere.tears;
     other = cut.elsewhere.other;
-    calls = one_cut f n result mid new cut;
+    calls = one_cut f n result mid new refl cut;
     file = file_cut mid.sector mid.tears n from to result (of f mid) (of f new) (sound_now old mid so_far)
         (sound_cut mid.sector n result (of f mid) (of f new) (sound_now old mid so_far) cut.within cut.file) longer within cut.file;
   })

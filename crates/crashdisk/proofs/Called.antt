@@ -1,24 +1,38 @@
 -- Calls of a disk, one after another.
 use Rattle.std.proofs.Common.{◌≡◌, inl, inr, ℕ, Bool, true, false, List, [], ◌∷◌, ◌++◌, refl, ◌∙◌, subst}
 use Rattle.std.specs.Prelude.{Result, Ok, Err}
-use Rattle.crashdisk.specs.Call.{DiskState, Elsewhere, Writes, Cuts, Syncs, SinceSync, Looks, with_write, IsCall, GoesThrough, HasCalls}
+use Rattle.crashdisk.specs.Call.{DiskState, Elsewhere, Writes, Cuts, Syncs, SinceSync, Looks, with_write, Change, write, set_len, IsCall, GoesThrough, HasCalls}
 use Rattle.crashdisk.specs.declared.file.File.{File}
 use Rattle.crashdisk.specs.declared.file.File.TheVariants.{Db, Log}
 use Rattle.crashdisk.specs.declared.error.DiskError.{DiskError}
 use Rattle.crashdisk.specs.declared.error.DiskError.TheVariants.{Stopped, Failed, TooLong, NoMemory}
 
-pub no_calls : (s : DiskState) → HasCalls s s
-no_calls s = ([], refl)
+pub no_calls : {May : Change → Type 0} (s : DiskState) → HasCalls May s s
+no_calls s = record { states = []; each = refl }
 
-one : (a b : DiskState) → IsCall a b → HasCalls a b
-one a b call = (b ∷ [], (call, refl))
+one : {May : Change → Type 0} (a b : DiskState) → IsCall May a b → HasCalls May a b
+one a b call = record { states = b ∷ []; each = (call, refl) }
 
-further : (first second : List DiskState) (a b c : DiskState) → GoesThrough first a b → GoesThrough second b c → GoesThrough (first ++ second) a c
-further [] second a b c same then = subst (λ (s : DiskState). GoesThrough second s c) same then
-further (mid ∷ first) second a b c calls then = (calls.0, further first second mid b c calls.1 then)
+further : (May : Change → Type 0) (first second : List DiskState) (a b c : DiskState) → GoesThrough May first a b → GoesThrough May second b c → GoesThrough May (first ++ second) a c
+further May [] second a b c same then = subst (λ (s : DiskState). GoesThrough May second s c) same then
+further May (mid ∷ first) second a b c calls then = (calls.0, further May first second mid b c calls.1 then)
 
-pub calls_then : (a b c : DiskState) → HasCalls a b → HasCalls b c → HasCalls a c
-calls_then a b c first second = (first.0 ++ second.0, further first.0 second.0 a b c first.1 second.1)
+pub calls_then : {May : Change → Type 0} (a b c : DiskState) → HasCalls May a b → HasCalls May b c → HasCalls May a c
+calls_then {May} a b c first second = record { states = first.states ++ second.states; each = further May first.states second.states a b c first.each second.each }
+
+-- where more may be asked for
+module _ {May Might : Change → Type 0} (more : (change : Change) → May change → Might change) where
+  wider_call : (a b : DiskState) → IsCall May a b → IsCall Might a b
+  wider_call a b (inl is) = inl (is.0, is.1, is.2, is.3, more (write is.0 is.1 is.2) is.4, is.5)
+  wider_call a b (inr (inl is)) = inr (inl (is.0, is.1, is.2, more (set_len is.0 is.1) is.3, is.4))
+  wider_call a b (inr (inr other)) = inr (inr other)
+
+  wider_states : (states : List DiskState) (a b : DiskState) → GoesThrough May states a b → GoesThrough Might states a b
+  wider_states [] a b same = same
+  wider_states (mid ∷ states) a b calls = (wider_call a mid calls.0, wider_states states mid b calls.1)
+
+  pub calls_wider : (a b : DiskState) → HasCalls May a b → HasCalls Might a b
+  calls_wider a b calls = record { states = calls.states; each = wider_states calls.states a b calls.each }
 
 -- ---- One call, whatever its answer gives.
 
@@ -34,7 +48,7 @@ module _ {T : Type 0} where
   bare_look end (Err TooLong) a b is = record { within = is.within; sector = is.sector; tears = is.tears; db = is.db; log = is.log; refused = is.refused; kept = is.kept; handed = is.handed; settings = is.settings; heeds = is.heeds }
   bare_look end (Err NoMemory) a b is = record { within = is.within; sector = is.sector; tears = is.tears; db = is.db; log = is.log; refused = is.refused; kept = is.kept; handed = is.handed; settings = is.settings; heeds = is.heeds }
 
-  pub one_look : (end : ℕ) (r : Result T DiskError) (a b : DiskState) → Looks end r a b → HasCalls a b
+  pub one_look : {May : Change → Type 0} (end : ℕ) (r : Result T DiskError) (a b : DiskState) → Looks end r a b → HasCalls May a b
   one_look end r a b is = one a b (inr (inr (inr (end, bare r, bare_look end r a b is))))
 
   bare_place : (f : File) (r : Result T DiskError) (a b : DiskState) → Elsewhere f r a b → Elsewhere f (bare r) a b
@@ -51,8 +65,8 @@ module _ {T : Type 0} where
   bare_cut f n (Err TooLong) a b is = record { elsewhere = bare_place f (Err TooLong) a b is.elsewhere; kept = is.kept; handed = is.handed; settings = is.settings; heeds = is.heeds; within = is.within; file = is.file }
   bare_cut f n (Err NoMemory) a b is = record { elsewhere = bare_place f (Err NoMemory) a b is.elsewhere; kept = is.kept; handed = is.handed; settings = is.settings; heeds = is.heeds; within = is.within; file = is.file }
 
-  pub one_cut : (f : File) (n : ℕ) (r : Result T DiskError) (a b : DiskState) → Cuts f n r a b → HasCalls a b
-  one_cut f n r a b is = one a b (inr (inl (f, n, bare r, bare_cut f n r a b is)))
+  pub one_cut : {May : Change → Type 0} (f : File) (n : ℕ) (r : Result T DiskError) (a b : DiskState) → May (set_len f n) → Cuts f n r a b → HasCalls May a b
+  one_cut f n r a b may is = one a b (inr (inl (f, n, bare r, may, bare_cut f n r a b is)))
 
   bare_handed : (tears : Bool) (f : File) (r : Result T DiskError) (at : ℕ) (bytes : List ℕ) (handed : List (ℕ × List ℕ)) → with_write tears f r at bytes handed ≡ with_write tears f (bare r) at bytes handed
   bare_handed true Log (Ok x) at bytes handed = refl
@@ -70,8 +84,8 @@ module _ {T : Type 0} where
   bare_write f at bytes (Err TooLong) a b is = record { elsewhere = bare_place f (Err TooLong) a b is.elsewhere; kept = is.kept; handed = is.handed ∙ bare_handed a.tears f (Err TooLong) at bytes a.handed; are_bytes = is.are_bytes; settings = is.settings; heeds = is.heeds; within = is.within; file = is.file }
   bare_write f at bytes (Err NoMemory) a b is = record { elsewhere = bare_place f (Err NoMemory) a b is.elsewhere; kept = is.kept; handed = is.handed ∙ bare_handed a.tears f (Err NoMemory) at bytes a.handed; are_bytes = is.are_bytes; settings = is.settings; heeds = is.heeds; within = is.within; file = is.file }
 
-  pub one_write : (f : File) (at : ℕ) (bytes : List ℕ) (r : Result T DiskError) (a b : DiskState) → Writes f at bytes r a b → HasCalls a b
-  one_write f at bytes r a b is = one a b (inl (f, at, bytes, bare r, bare_write f at bytes r a b is))
+  pub one_write : {May : Change → Type 0} (f : File) (at : ℕ) (bytes : List ℕ) (r : Result T DiskError) (a b : DiskState) → May (write f at bytes) → Writes f at bytes r a b → HasCalls May a b
+  one_write f at bytes r a b may is = one a b (inl (f, at, bytes, bare r, may, bare_write f at bytes r a b is))
 
   bare_since : (tears : Bool) (f : File) (r : Result T DiskError) (a b : DiskState) → SinceSync tears f r a b → SinceSync tears f (bare r) a b
   bare_since true Log (Ok x) a b is = is
@@ -86,5 +100,5 @@ module _ {T : Type 0} where
   bare_sync f (Err TooLong) a b is = record { elsewhere = bare_place f (Err TooLong) a b is.elsewhere; since = bare_since a.tears f (Err TooLong) a b is.since; settings = is.settings; heeds = is.heeds; within = is.within; file = is.file }
   bare_sync f (Err NoMemory) a b is = record { elsewhere = bare_place f (Err NoMemory) a b is.elsewhere; since = bare_since a.tears f (Err NoMemory) a b is.since; settings = is.settings; heeds = is.heeds; within = is.within; file = is.file }
 
-  pub one_sync : (f : File) (r : Result T DiskError) (a b : DiskState) → Syncs f r a b → HasCalls a b
+  pub one_sync : {May : Change → Type 0} (f : File) (r : Result T DiskError) (a b : DiskState) → Syncs f r a b → HasCalls May a b
   one_sync f r a b is = one a b (inr (inr (inl (f, bare r, bare_sync f r a b is))))

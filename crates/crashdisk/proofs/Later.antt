@@ -2,38 +2,44 @@
 use Rattle.std.proofs.Common.{◌≡◌, ℕ, ◌+◌, ◌<◌, List, length, get_or, refl, sym, ◌∙◌, subst, arith}
 use Rattle.std.specs.Prelude.{Result, Ok, Err, IsErr}
 use Rattle.crashdisk.specs.State.{byte, IsSettled}
-use Rattle.crashdisk.specs.Call.{DiskState, IsSoundDisk, of, ArePresent, Elsewhere, Writes, Cuts, Syncs, Looks, HasCalls}
+use Rattle.crashdisk.specs.Call.{DiskState, IsSoundDisk, of, ArePresent, Elsewhere, Writes, Cuts, Syncs, Looks, Change, write, set_len, HasCalls, InFile}
 use Rattle.crashdisk.specs.Keeps.{Still, KeepsLog, Later, HadRefusal, Told, SyncStep, PlaceAnswer}
 use Rattle.crashdisk.specs.declared.file.File.{File}
+use Rattle.crashdisk.specs.declared.file.File.TheVariants.{Db}
 use Rattle.crashdisk.specs.declared.error.DiskError.{DiskError}
-use Rattle.crashdisk.proofs.Called.{no_calls, one_write, one_cut, one_sync, calls_then}
+use Rattle.crashdisk.proofs.Called.{no_calls, one_write, one_cut, one_sync, calls_then, calls_wider}
 use Rattle.crashdisk.proofs.Keeping.{sound_of, sound_writes, sound_cuts, sound_syncs}
 use Rattle.crashdisk.proofs.Steps.{counted_grows, settled_sync}
 use Rattle.crashdisk.proofs.Stills.{still_sound, still_looks, had_refusal}
 
-pub later_same : (a : DiskState) → IsSoundDisk a → Later a a
-later_same a sound = record { sector = refl; tears = refl; refused = omega arith; sound = sound; calls = no_calls a }
+module _ {May : Change → Type 0} where
+  pub later_same : (a : DiskState) → IsSoundDisk a → Later May a a
+  later_same a sound = record { sector = refl; tears = refl; refused = omega arith; sound = sound; calls = no_calls a }
 
-pub later_then : (a b c : DiskState) → Later a b → Later b c → Later a c
-later_then a b c first second = record { sector = second.sector ∙ first.sector; tears = second.tears ∙ first.tears; refused = omega (arith, first.refused, second.refused); sound = second.sound; calls = calls_then a b c first.calls second.calls }
+  pub later_then : (a b c : DiskState) → Later May a b → Later May b c → Later May a c
+  later_then a b c first second = record { sector = second.sector ∙ first.sector; tears = second.tears ∙ first.tears; refused = omega (arith, first.refused, second.refused); sound = second.sound; calls = calls_then a b c first.calls second.calls }
 
-pub later_still : (a b : DiskState) → IsSoundDisk a → Still a b → Later a b
-later_still a b sound still = record { sector = still.sector; tears = still.tears; refused = still.refused; sound = still_sound a b sound still; calls = still.calls }
+  pub later_still : (a b : DiskState) → IsSoundDisk a → Still a b → Later May a b
+  later_still a b sound still = record { sector = still.sector; tears = still.tears; refused = still.refused; sound = still_sound a b sound still; calls = calls_wider (λ change none. absurd none) a b still.calls }
 
-pub later_keeps : (a b : DiskState) → KeepsLog a b → Later a b
-later_keeps a b keeps = record { sector = keeps.sector; tears = keeps.tears; refused = keeps.refused; sound = keeps.sound; calls = keeps.calls }
+  -- where any change of the database file may be asked for
+  pub later_keeps : (a b : DiskState) → ((change : Change) → InFile Db change → May change) → KeepsLog a b → Later May a b
+  later_keeps a b may keeps = record { sector = keeps.sector; tears = keeps.tears; refused = keeps.refused; sound = keeps.sound; calls = calls_wider may a b keeps.calls }
 
-later_by : {T : Type 0} (f : File) (r : Result T DiskError) (a b : DiskState) → IsSoundDisk a → Elsewhere f r a b → HasCalls a b → IsSoundDisk b → Later a b
-later_by f r a b sound elsewhere calls after = record { sector = elsewhere.sector; tears = elsewhere.tears; refused = omega (arith, counted_grows r a.refused sound.refused, elsewhere.refused); sound = after; calls = calls }
+  later_by : {T : Type 0} (f : File) (r : Result T DiskError) (a b : DiskState) → IsSoundDisk a → Elsewhere f r a b → HasCalls May a b → IsSoundDisk b → Later May a b
+  later_by f r a b sound elsewhere calls after = record { sector = elsewhere.sector; tears = elsewhere.tears; refused = omega (arith, counted_grows r a.refused sound.refused, elsewhere.refused); sound = after; calls = calls }
 
-pub later_sync : {T : Type 0} (f : File) (r : Result T DiskError) (a b : DiskState) → IsSoundDisk a → Syncs f r a b → Later a b
-later_sync f r a b sound synced = later_by f r a b sound synced.elsewhere (one_sync f r a b synced) (sound_syncs f r a b sound synced)
+  pub later_sync : {T : Type 0} (f : File) (r : Result T DiskError) (a b : DiskState) → IsSoundDisk a → Syncs f r a b → Later May a b
+  later_sync f r a b sound synced = later_by f r a b sound synced.elsewhere (one_sync f r a b synced) (sound_syncs f r a b sound synced)
 
-pub later_write : {T : Type 0} (f : File) (at : ℕ) (bytes : List ℕ) (r : Result T DiskError) (a b : DiskState) → IsSoundDisk a → Writes f at bytes r a b → Later a b
-later_write f at bytes r a b sound wrote = later_by f r a b sound wrote.elsewhere (one_write f at bytes r a b wrote) (sound_writes f at bytes r a b sound wrote)
+  pub later_write : {T : Type 0} (f : File) (at : ℕ) (bytes : List ℕ) (r : Result T DiskError) (a b : DiskState) → May (write f at bytes) → IsSoundDisk a → Writes f at bytes r a b → Later May a b
+  later_write f at bytes r a b may sound wrote = later_by f r a b sound wrote.elsewhere (one_write f at bytes r a b may wrote) (sound_writes f at bytes r a b sound wrote)
 
-pub later_cut : {T : Type 0} (f : File) (n : ℕ) (r : Result T DiskError) (a b : DiskState) → IsSoundDisk a → Cuts f n r a b → Later a b
-later_cut f n r a b sound cut = later_by f r a b sound cut.elsewhere (one_cut f n r a b cut) (sound_cuts f n r a b sound cut)
+  pub later_cut : {T : Type 0} (f : File) (n : ℕ) (r : Result T DiskError) (a b : DiskState) → May (set_len f n) → IsSoundDisk a → Cuts f n r a b → Later May a b
+  later_cut f n r a b may sound cut = later_by f r a b sound cut.elsewhere (one_cut f n r a b may cut) (sound_cuts f n r a b sound cut)
+
+  pub later_wider : {Might : Change → Type 0} (a b : DiskState) → ((change : Change) → May change → Might change) → Later May a b → Later Might a b
+  later_wider a b more later = record { sector = later.sector; tears = later.tears; refused = later.refused; sound = later.sound; calls = calls_wider more a b later.calls }
 
 module _ {T E : Type 0} (device : E) where
   pub told_err : (called : Result T DiskError) (r : Result T E) (e : E) → r ≡ Err e → Told device called r → (e ≡ device) × ((x : DiskError) × (called ≡ Err x))
@@ -60,7 +66,7 @@ module _ {T E : Type 0} (device : E) where
   pub told_refused : (called : Result T DiskError) (r : Result T E) (x : DiskError) → called ≡ Err x → r ≡ Err device → Told device called r
   told_refused called r x is same = subst (λ (q : Result T E). Told device called q) (sym same) (subst (λ (q : Result T DiskError). Told device q (Err device)) (sym is) refl)
 
-  pub sync_later : (f : File) (r : Result T E) (a b : DiskState) → IsSoundDisk a → SyncStep device f r a b → Later a b
+  pub sync_later : {May : Change → Type 0} (f : File) (r : Result T E) (a b : DiskState) → IsSoundDisk a → SyncStep device f r a b → Later May a b
   sync_later f r a b sound step = later_sync f step.0 a b sound step.2
 
   pub sync_refused : (f : File) (r : Result T E) (e : E) (a b : DiskState) → IsSoundDisk a → r ≡ Err e → SyncStep device f r a b → (e ≡ device) × HadRefusal a b

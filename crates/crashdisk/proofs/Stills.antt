@@ -7,7 +7,7 @@ use Rattle.crashdisk.specs.Keeps.{SameFiles, Still, KeepsLog, HadRefusal}
 use Rattle.crashdisk.specs.declared.file.File.TheVariants.{Db}
 use Rattle.crashdisk.specs.declared.error.DiskError.{DiskError}
 use Rattle.crashdisk.specs.declared.error.DiskError.TheVariants.{TooLong}
-use Rattle.crashdisk.proofs.Called.{no_calls, one_look, one_write, one_cut, calls_then}
+use Rattle.crashdisk.proofs.Called.{no_calls, one_look, one_write, one_cut, calls_then, calls_wider}
 use Rattle.crashdisk.proofs.Keeping.{sound_writes, sound_cuts, sound_looks}
 use Rattle.crashdisk.proofs.Steps.{counted_grows, counted_rises}
 
@@ -69,7 +69,7 @@ present_in s t w e are = subst (λ (x : FileState). ArePresent x w) (sym e) are
 -- ---- The log stays.
 
 pub keeps_still : (a b : DiskState) → IsSoundDisk a → Still a b → KeepsLog a b
-keeps_still a b sound is = record { sector = is.sector; tears = is.tears; log = is.log; kept = is.kept; handed = is.handed; refused = is.refused; sound = still_sound a b sound is; calls = is.calls }
+keeps_still a b sound is = record { sector = is.sector; tears = is.tears; log = is.log; kept = is.kept; handed = is.handed; refused = is.refused; sound = still_sound a b sound is; calls = calls_wider (λ change none. absurd none) a b is.calls }
 
 pub keeps_same : (s : DiskState) → IsSoundDisk s → KeepsLog s s
 keeps_same s sound = record { sector = refl; tears = refl; log = refl; kept = refl; handed = refl; refused = omega arith; sound = sound; calls = no_calls s }
@@ -95,7 +95,7 @@ keeps_write at bytes result a b sound wrote = record {
   handed = wrote.handed ∙ not_handed a.tears;
   refused = omega (arith, counted_grows result a.refused sound.refused, wrote.elsewhere.refused);
   sound = sound_writes Db at bytes result a b sound wrote;
-  calls = one_write Db at bytes result a b wrote;
+  calls = one_write Db at bytes result a b refl wrote;
 }
   where
     not_handed : (tears : Bool) → with_write tears Db result at bytes a.handed ≡ a.handed
@@ -111,7 +111,7 @@ keeps_cut n result a b sound cut = record {
   handed = cut.handed;
   refused = omega (arith, counted_grows result a.refused sound.refused, cut.elsewhere.refused);
   sound = sound_cuts Db n result a b sound cut;
-  calls = one_cut Db n result a b cut;
+  calls = one_cut Db n result a b refl cut;
 }
 
 -- ---- A refused call was counted.

@@ -134,21 +134,36 @@ pub record Looks {T : Type 0} (end : ℕ) (result : Result T DiskError) (old new
   pub settings : new.settings ≡ past_call old.settings
   pub heeds : Heeds (stops_call old.settings.stops) (fails_call old.settings.stops) result
 
--- one call of a disk, whatever it answers
-abbrev pub IsCall : (old new : DiskState) → Type 0
-IsCall old new = ((f : File) × (at : ℕ) × (bytes : List ℕ) × (result : Result (Unit {0}) DiskError) × Writes f at bytes result old new)
-    ⊎ (((f : File) × (n : ℕ) × (result : Result (Unit {0}) DiskError) × Cuts f n result old new)
+-- a change that is asked for: these bytes at a place of a file, or another length of a file
+pub data Change : Type 0 where
+  write : (f : File) → (at : ℕ) → (bytes : List ℕ) → Change
+  set_len : (f : File) → (n : ℕ) → Change
+
+-- one call of a disk, whatever it answers; what it is to change may be asked for
+abbrev pub IsCall : (May : Change → Type 0) → (old new : DiskState) → Type 0
+IsCall May old new = ((f : File) × (at : ℕ) × (bytes : List ℕ) × (result : Result (Unit {0}) DiskError) × May (write f at bytes) × Writes f at bytes result old new)
+    ⊎ (((f : File) × (n : ℕ) × (result : Result (Unit {0}) DiskError) × May (set_len f n) × Cuts f n result old new)
     ⊎ (((f : File) × (result : Result (Unit {0}) DiskError) × Syncs f result old new)
     ⊎ ((end : ℕ) × (result : Result (Unit {0}) DiskError) × Looks end result old new)))
 
 -- from state to state of a disk by one call each
-abbrev pub GoesThrough : (states : List DiskState) (old new : DiskState) → Type 0
-GoesThrough [] old new = new ≡ old
-GoesThrough (mid ∷ states) old new = IsCall old mid × GoesThrough states mid new
+abbrev pub GoesThrough : (May : Change → Type 0) → (states : List DiskState) (old new : DiskState) → Type 0
+GoesThrough May [] old new = new ≡ old
+GoesThrough May (mid ∷ states) old new = IsCall May old mid × GoesThrough May states mid new
 
--- nothing was done to a disk but calls
-abbrev pub HasCalls : (old new : DiskState) → Type 0
-HasCalls old new = (states : List DiskState) × GoesThrough states old new
+-- nothing was done to a disk but calls, and they asked for no other changes than these
+pub record HasCalls (May : Change → Type 0) (old new : DiskState) : Type 0 where
+  pub states : List DiskState
+  pub each : GoesThrough May states old new
+
+-- no change
+abbrev pub Nothing : Change → Type 0
+Nothing change = ⊥
+
+-- any change of one file
+abbrev pub InFile : File → Change → Type 0
+InFile f (write g at bytes) = g ≡ f
+InFile f (set_len g n) = g ≡ f
 
 -- what is kept while nothing of the log is unsynced
 abbrev pub kept_of : Bool → List ℕ → List ℕ

@@ -1,7 +1,7 @@
 -- What an engine keeps of what a crash may leave (own).
 use Rattle.std.specs.Prelude.{◌≡◌, ◌⊎◌, ℕ, ◌/◌, ◌<◌, ◌≤◌, ◌+◌, min, Bool, IsTrue, List, length, get_or}
 use Rattle.crashdisk.specs.State.{FileState, IsImage, IsSound, Meets}
-use Rattle.crashdisk.specs.Call.{DiskState, of, other, HasCalls}
+use Rattle.crashdisk.specs.Call.{DiskState, of, other, HasCalls, InFile}
 use Rattle.crashdisk.specs.declared.file.File.{File}
 
 -- each file that a crash may leave has this byte there, with zeros past its end
@@ -58,7 +58,7 @@ pub record Alters (f : File) (from to : ℕ) (old new : DiskState) : Type 0 wher
   pub sector : new.sector ≡ old.sector
   pub tears : new.tears ≡ old.tears
   pub other : of (other f) new ≡ of (other f) old
-  pub calls : HasCalls old new
+  pub calls : HasCalls (InFile f) old new
   pub file : AltersFile old.sector old.tears from to (of f old) (of f new)
 
 -- where these bytes were written, a file has all of them, or what one has that a crash might have left before

@@ -2,8 +2,9 @@
 use Rattle.std.specs.Prelude.{◌≡◌, ◌⊎◌, ℕ, ◌+◌, ◌-◌, ◌^◌, ◌<◌, ◌≤◌, true, List, [], length, get_or, take, drop, Result, Ok, Err}
 use Rattle.std.specs.List.{Contains}
 use Rattle.crashdisk.specs.State.{byte, IsSectorSize, IsImage, IsSettled, longest}
-use Rattle.crashdisk.specs.Call.{DiskState, IsSoundDisk, of, ArePresent, Syncs, HasCalls}
+use Rattle.crashdisk.specs.Call.{DiskState, IsSoundDisk, of, ArePresent, Syncs, Looks, Change, HasCalls, Nothing, InFile}
 use Rattle.crashdisk.specs.declared.file.File.{File}
+use Rattle.crashdisk.specs.declared.file.File.TheVariants.{Db}
 use Rattle.crashdisk.specs.declared.error.DiskError.{DiskError}
 
 -- ---- What stays.
@@ -29,7 +30,11 @@ pub record Still (old new : DiskState) : Type 0 where
   pub handed : new.handed ≡ old.handed
   pub refused : old.refused ≤ new.refused
   pub count : new.refused < 2 ^ 64
-  pub calls : HasCalls old new
+  pub calls : HasCalls Nothing old new
+
+-- nothing was done, or one call that changes no byte
+abbrev pub LooksOnce : (old new : DiskState) → Type 0
+LooksOnce old new = (new ≡ old) ⊎ ((end : ℕ) × (result : Result (Unit {0}) DiskError) × Looks end result old new)
 
 -- calls that left the log alone
 pub record KeepsLog (old new : DiskState) : Type 0 where
@@ -40,26 +45,26 @@ pub record KeepsLog (old new : DiskState) : Type 0 where
   pub handed : new.handed ≡ old.handed
   pub refused : old.refused ≤ new.refused
   pub sound : IsSoundDisk new
-  pub calls : HasCalls old new
+  pub calls : HasCalls (InFile Db) old new
 
 -- no byte has changed
 pub record KeepsBytes (old new : DiskState) : Type 0 where
   pub db : new.db ≡ old.db
   pub log : (bytes : List ℕ) → ArePresent old.log bytes → ArePresent new.log bytes
 
--- Nothing was done to a disk but calls. Its sectors stay as they are.
-pub record IsSameDisk (old new : DiskState) : Type 0 where
+-- Nothing was done to a disk but calls that asked for no other changes than these. Its sectors stay as they are.
+pub record IsSameDisk (May : Change → Type 0) (old new : DiskState) : Type 0 where
   pub sector : new.sector ≡ old.sector
   pub tears : new.tears ≡ old.tears
-  pub calls : HasCalls old new
+  pub calls : HasCalls May old new
 
--- Calls of a disk: it is sound, with the same sectors, and its count of refusals hasn't fallen.
-pub record Later (old new : DiskState) : Type 0 where
+-- Such calls of a disk: it is sound, with the same sectors, and its count of refusals hasn't fallen.
+pub record Later (May : Change → Type 0) (old new : DiskState) : Type 0 where
   pub sector : new.sector ≡ old.sector
   pub tears : new.tears ≡ old.tears
   pub refused : old.refused ≤ new.refused
   pub sound : IsSoundDisk new
-  pub calls : HasCalls old new
+  pub calls : HasCalls May old new
 
 -- a call of the disk was refused, or had been so often that the count stands at its greatest
 abbrev pub HadRefusal : (old new : DiskState) → Type 0

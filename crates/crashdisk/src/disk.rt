@@ -5,8 +5,9 @@ ghost use Rattle.crashdisk.specs.State.{byte, IsSectorSize};
 use crate::error::DiskError;
 use crate::file::File;
 
-/// Two files, of which a crash may leave, for each sector, any value that it had since the file was last synced,
-/// and for each file any length that it had since then. Places and lengths are in bytes. Stops and failures may be set
+/// Two files, of which a crash may leave, for each sector, any value that it had since the file was last synced, or, on a
+/// disk that tears, anything where the sector was written since then; and for each file any length from the least to the
+/// greatest that it had since then. Places and lengths are in bytes. Stops and failures may be set
 /// of it for the calls to come (of a real disk none is): each call but `sector` and `tears` heeds them and counts them down.
 pub trait Disk {
     ghost use Rattle.crashdisk.specs.declared.file.File.{File};

@@ -52,8 +52,9 @@ impl ModelDisk {
     ghost use Rattle.crashdisk.specs.Count.{choice_count, IsChoice, HasDigits};
     ghost use Rattle.crashdisk.specs.Model.{state_of};
 
-    /// A disk of sectors of this size, which doesn't tear: the database holds these bytes, the log is empty, both are down,
-    /// and no stop and no failure is set. TooLong where the bytes are more than 1,099,511,627,776, otherwise NoMemory alone.
+    /// A disk of sectors of this size, a power of two from 512 to 65536 bytes, which doesn't tear: the database holds these
+    /// bytes, the log is empty, both are down, and no stop and no failure is set. TooLong where the bytes are more than
+    /// 1,099,511,627,776, otherwise NoMemory alone.
     pub fn new(alloc: Global, sector: usize, db: Vec<u8>) -> Result<ModelDisk, DiskError>
         requires { IsTrue (is_sector_size sector) }
         ensures made { IfOk result (λ d. IsNew sector false db.items (state_of d)) }

@@ -1,5 +1,5 @@
 -- The first byte of a magic is made a zero at the front of a log that isn't hot: no log that may be read is.
-use Rattle.std.proofs.Common.{◌≡◌, inl, inr, ⊎_elim, ℕ, ◌+◌, ◌/◌, ◌<◌, ◌≤◌, max, Bool, true, false, List, ◌∷◌, ◌++◌, length, get_or, take, drop, sym, ◌∙◌, ap, subst, arith, length-drop, length-take, []}
+use Rattle.std.proofs.Common.{◌≡◌, inl, inr, ⊎_elim, ℕ, ◌+◌, ◌/◌, ◌<◌, ◌≤◌, max, Bool, true, false, List, ◌∷◌, ◌++◌, length, get_or, take, drop, refl, sym, ◌∙◌, ap, subst, arith, length-drop, length-take, []}
 use Rattle.std.specs.Prelude.{Result, Ok, Err}
 use Rattle.std.specs.List.{Contains}
 use Rattle.std.proofs.lemmas.List.{get_or-take, ext_get_or}
@@ -11,7 +11,8 @@ use Rattle.sqval.specs.PageSize.{IsPageSize}
 use Rattle.sqjournal.specs.Header.{HasMagic}
 use Rattle.sqjournal.specs.Journal.{IsHot}
 use Rattle.crashdisk.specs.State.{FileState, byte, IsImage, IsSound, WriteTouches, written, Changed, IsSectorSize}
-use Rattle.crashdisk.specs.Call.{DiskState, IsSoundDisk, ArePresent, ChangedBy, Writes, with_write}
+use Rattle.crashdisk.specs.Call.{DiskState, IsSoundDisk, ArePresent, ChangedBy, Writes, with_write, InFile}
+use Rattle.crashdisk.proofs.Keeping.{sound_writes}
 use Rattle.crashdisk.specs.declared.file.File.TheVariants.{Log}
 use Rattle.crashdisk.specs.declared.error.DiskError.{DiskError}
 use Rattle.crashdisk.specs.declared.error.DiskError.TheVariants.{Stopped, Failed, TooLong, NoMemory}
@@ -30,7 +31,7 @@ use Rattle.crashdisk.proofs.Stills.{still_sound, refusal_after}
 use Rattle.rollcore.proofs.Down.{shows_by, down_left}
 use Rattle.crashdisk.proofs.Down.{down_by, down_present, present_byte}
 use Rattle.rollcore.proofs.Ending.{sync_down}
-use Rattle.crashdisk.proofs.Later.{sync_refused, later_write}
+use Rattle.crashdisk.proofs.Later.{sync_refused}
 use Rattle.rollcore.proofs.Going.{goes_broken}
 use Rattle.rollcore.proofs.Lengths.{down_read, may_down}
 use Rattle.rollcore.proofs.Narrowing.{read_cases, narrows_syncs}
@@ -133,8 +134,8 @@ module _ (w : List ℕ) (old new : DiskState) (sound : IsSoundDisk old) (sectors
   pub written_cold : {T : Type 0} (result : Result T DiskError) → Writes Log 0 (0 ∷ []) result old new → AreCold new
   unfolding changed_by
   written_cold result wrote v may hot =
-      let goes = later_write Log 0 (0 ∷ []) result old new sound wrote in
-      let after : IsSound old.sector new.log = subst (λ (n : ℕ). IsSound n new.log) wrote.elsewhere.sector goes.sound.log in
+      let goes = sound_writes Log 0 (0 ∷ []) result old new sound wrote in
+      let after : IsSound old.sector new.log = subst (λ (n : ℕ). IsSound n new.log) wrote.elsewhere.sector goes.log in
       ⊎_elim
       (λ listed. listed_cold result after wrote.file v (subst (λ (n : ℕ). IsImage n false new.log v) wrote.elsewhere.sector listed) hot)
       (λ left.
@@ -200,8 +201,8 @@ module _ (w : List ℕ) (a b : DiskState) (sound : IsSoundDisk a) (sectors : IsS
     puts : PutsZero {T = Unit {0}} 0 (Ok tt) a b
     puts = subst (λ (x : Result Bool RollError). BreakSteps 0 x a b) was steps
 
-    goes : Later a b
-    goes = goes_broken 0 r a b sound steps
+    goes : Later (InFile Log) a b
+    goes = goes_broken 0 r a b refl sound steps
 
     synced_cold : {T : Type 0} (q : Result T RollError) → SyncStep Device Log q b c → AreCold c
     synced_cold q step v may hot = puts_cold (Ok tt) puts v ((narrows_syncs Log step.0 b c goes.sound step.2).log v may) hot

@@ -11,13 +11,14 @@ use Rattle.sqval.specs.JudgedPages.{lent}
 use Rattle.sqval.specs.Answers.{Done, Refused, Refuses}
 use Rattle.sqval.proofs.Faultless.{IsFaultless, faultless, held_applied}
 use Rattle.sqval.proofs.Supplied.{length-apply}
-use Rattle.crashdisk.specs.Call.{DiskState}
-use Rattle.crashdisk.specs.Keeps.{Suits, HadRefusal, Later}
+use Rattle.crashdisk.specs.Call.{DiskState, HasCalls}
+use Rattle.crashdisk.specs.Keeps.{Suits, HadRefusal, IsSameDisk, Later}
+use Rattle.rollcore.specs.Changes.{MayChange}
 use Rattle.crashdisk.proofs.Called.{no_calls}
 use Rattle.rollcore.specs.Machine.{State, last, newest, closed, appended, committed, recorded, refusal_of, commit_refusal, Commits}
 use Rattle.rollcore.specs.Refusal.{number_of}
 use Rattle.rollcore.specs.Fits.{ShowsWhole, NamesSectors, Rests, FitsCore, StepsTo, answered}
-use Rattle.rollcore.specs.Commits.{ShowsEither, KeepsCore, PutAnswer, IsReady, Ends, Closes, EndAnswer}
+use Rattle.rollcore.specs.Commits.{ShowsEither, KeepsCore, AreChanges, AreChanged, PutAnswer, IsReady, Ends, Closes, EndAnswer}
 use Rattle.rollcore.specs.declared.error.RollError.{RollError}
 use Rattle.rollcore.specs.declared.error.RollError.TheVariants.{NoMemory}
 use Rattle.rollcore.specs.declared.state.Core.{Core}
@@ -25,6 +26,8 @@ use Rattle.rollcore.proofs.Granting.{granted}
 use Rattle.rollcore.proofs.Listed.{recorded_few}
 use Rattle.rollcore.proofs.Recovered.{fits_rested}
 use Rattle.rollcore.proofs.Going.{suits_go}
+use Rattle.rollcore.specs.Segments.{pages_of}
+use Rattle.rollcore.proofs.Present.{are_changed}
 
 -- pages that aren't refused have few records
 pub few_records : (old_size page_size : ℕ) (pages : Pages) (size : ℕ) → first_true (page_faults old_size page_size pages size) ≡ None → old_size < 2 ^ 32 → recorded pages old_size size < 2 ^ 64
@@ -102,7 +105,7 @@ module _ (h : List Database) (d : Database) where
       (cases_lt i (length h))
 
 module _ (past : State) (core mid : Core) (s t : DiskState) (fits : FitsCore past core s) (opened : IsTrue core.is_open) (lended : List (ℕ × Bor (List ℕ))) (size : ℕ) (nonces : List ℕ)
-    (ready : IsReady lended size (length nonces) core) (keeps : KeepsCore core mid) (goes : Later s t) where
+    (ready : IsReady lended size (length nonces) core) (keeps : KeepsCore core mid) (goes : Later (MayChange core.page_size s.sector) s t) where
   abbrev pub pages : Pages
   pages = lent lended
 
@@ -133,6 +136,9 @@ module _ (past : State) (core mid : Core) (s t : DiskState) (fits : FitsCore pas
   suits : Suits past.page_size t
   suits = suits_go past.page_size s t goes fits.disk.suits
 
+  same_disk : IsSameDisk (MayChange past.page_size s.sector) s t
+  same_disk = record { sector = goes.sector; tears = goes.tears; calls = subst (λ (n : ℕ). HasCalls (MayChange n s.sector) s t) fits.page_size goes.calls }
+
   -- it is done
   done : (then : Core) → Ends size mid then → Rests past.page_size e t → StepsTo past (Commits pages size nonces) Done then s t
   done then ends rests =
@@ -141,7 +147,7 @@ module _ (past : State) (core mid : Core) (s t : DiskState) (fits : FitsCore pas
       let down : length past.history + 1 ≡ length (past.history ++ e ∷ []) = sym (more_long past.history e) in
       record {
         next = committed past pages size;
-        same = record { sector = goes.sector; tears = goes.tears; calls = goes.calls };
+        same = same_disk;
         refused = goes.refused;
         row = (none, refl);
         fits = record {
@@ -162,7 +168,7 @@ module _ (past : State) (core mid : Core) (s t : DiskState) (fits : FitsCore pas
   stopped : (then : Core) → Closes mid then → HadRefusal s t → ShowsEither past.page_size (newest past) e t → NamesSectors t → StepsTo past (Commits pages size nonces) (Refused 15) then s t
   stopped then closes had shows sectors = record {
     next = closed (appended past pages size);
-    same = record { sector = goes.sector; tears = goes.tears; calls = goes.calls };
+    same = same_disk;
     refused = goes.refused;
     row = subst (λ (x : Option ℕ). Refuses x true (closed (appended past pages size)) s.refused t.refused past 15 (closed (appended past pages size))) (sym none) (inr (refl, had, refl));
     fits = record {
@@ -192,6 +198,10 @@ module _ (past : State) (core mid : Core) (s t : DiskState) (fits : FitsCore pas
       core = λ opens. absurd (cc (opens, closes.is_open));
     };
   }
+
+  -- the pages whose old contents the journal has
+  pub changed_here : AreChanged pages (length (newest past)) size (pages_of core.changes.items)
+  changed_here = are_changed past.page_size (newest past) pages size right core.changes.items (subst (λ (n : ℕ). AreChanges pages n size core.changes.items) count ready.changes)
 
   pub commit_step : {T : Type 0} (put : Result T RollError) (then : Core) → PutAnswer past.page_size (newest past) e put s t → EndAnswer size put mid then
       → StepsTo past (Commits pages size nonces) (answered (λ _. Done) put) then s t

@@ -1,5 +1,5 @@
 -- The end of a replay: the database is synced, and the journal's first header zeroed and synced.
-use Rattle.std.proofs.Common.{◌≡◌, inr, ⊎_elim, ℕ, ◌+◌, ◌-◌, ◌≤◌, List, length, get_or, drop, replicate, sym, ◌∙◌, ap, subst, arith, length-append, length-drop}
+use Rattle.std.proofs.Common.{◌≡◌, inr, ⊎_elim, ℕ, ◌+◌, ◌-◌, ◌≤◌, List, length, get_or, drop, replicate, refl, sym, ◌∙◌, ap, subst, arith, length-append, length-drop}
 use Rattle.std.specs.Prelude.{Result, Ok, Err}
 use Rattle.std.proofs.lemmas.List.{length-replicate, get_or-replicate, get_or_append_left, get_or-append_right, get_or-drop}
 use Rattle.std.proofs.lemmas.Bool.{cases_lt}
@@ -9,6 +9,8 @@ use Rattle.crashdisk.specs.declared.file.File.TheVariants.{Db, Log}
 use Rattle.crashdisk.specs.declared.error.DiskError.{DiskError}
 use Rattle.crashdisk.proofs.Steps.{present_written}
 use Rattle.crashdisk.proofs.Sound.{written_inside, written_outside}
+use Rattle.crashdisk.proofs.Keeping.{sound_writes}
+use Rattle.rollcore.specs.Changes.{MayReplay}
 use Rattle.rollcore.specs.Replaying.{zeroed}
 use Rattle.crashdisk.specs.Keeps.{HadRefusal, IsLogDown, SyncStep, Later}
 use Rattle.rollcore.specs.Steps.{ZeroSteps, EndAnswer}
@@ -21,10 +23,10 @@ use Rattle.crashdisk.proofs.Later.{later_then, later_write, told_err, told_ok, n
 module _ {T : Type 0} where
   -- ---- The header is zeroed.
 
-  pub zero_later : (r : Result T RollError) (a b : DiskState) → IsSoundDisk a → ZeroSteps r a b → Later a b
+  pub zero_later : (r : Result T RollError) (a b : DiskState) → IsSoundDisk a → ZeroSteps r a b → Later MayReplay a b
   zero_later r a b sound steps = ⊎_elim
-      (λ failed. later_write Log 0 (replicate 28 0) failed.0 a b sound failed.3)
-      (λ done. let mid = later_write Log 0 (replicate 28 0) (Ok done.1.0) a done.0 sound done.1.1 in
+      (λ failed. later_write Log 0 (replicate 28 0) failed.0 a b (refl, refl) sound failed.3)
+      (λ done. let mid : Later MayReplay a done.0 = later_write Log 0 (replicate 28 0) (Ok done.1.0) a done.0 (refl, refl) sound done.1.1 in
       later_then a done.0 b mid (sync_later Device Log r done.0 b mid.sound done.2))
       steps
 
@@ -32,7 +34,7 @@ module _ {T : Type 0} where
   zero_refused r e a b sound is steps = ⊎_elim
       (λ failed. let t = told_err Device failed.0 r e is failed.2 in
       (t.0, had_refusal failed.0 t.1.0 (0 + length {A = ℕ} (replicate 28 0)) a b sound.refused t.1.1 failed.3.within (omega (arith, length-replicate {A = ℕ} 28 0)) failed.3.elsewhere.refused))
-      (λ done. let mid = later_write Log 0 (replicate 28 0) (Ok done.1.0) a done.0 sound done.1.1 in
+      (λ done. let mid : Later MayReplay a done.0 = later_write Log 0 (replicate 28 0) (Ok done.1.0) a done.0 (refl, refl) sound done.1.1 in
       let last = sync_refused Device Log r e done.0 b mid.sound is done.2 in (last.0, refusal_after a done.0 b mid.refused last.1))
       steps
 
@@ -67,8 +69,8 @@ module _ {T : Type 0} where
   pub zero_done : (r : Result T RollError) (v : T) (w : List ℕ) (a b : DiskState) → IsSoundDisk a → r ≡ Ok v → ZeroSteps r a b → ArePresent a.log w → 28 ≤ length w → IsLogDown b (zeroed w)
   zero_done r v w a b sound is steps are enough = ⊎_elim
       (λ failed. absurd (none_ok Device failed.0 r v failed.1 is failed.2))
-      (λ done. let mid = later_write Log 0 (replicate 28 0) (Ok done.1.0) a done.0 sound done.1.1 in
-      sync_down r v (zeroed w) done.0 b mid.sound is done.2 (zero_present done.1.0 w a done.0 are enough done.1.1))
+      (λ done. let mid = sound_writes Log 0 (replicate 28 0) (Ok done.1.0) a done.0 sound done.1.1 in
+      sync_down r v (zeroed w) done.0 b mid is done.2 (zero_present done.1.0 w a done.0 are enough done.1.1))
       steps
 
   -- ---- All of it.
@@ -80,7 +82,7 @@ module _ {T : Type 0} where
   pub end_done : (r1 r2 : Result T RollError) (v1 v2 : T) (a b c : DiskState) → IsSoundDisk a → r1 ≡ Ok v1 → r2 ≡ Ok v2 → SyncStep Device Db r1 a b → ZeroSteps r2 b c → EndAnswer {T = T} (Ok v2) a c
   unfolding EndAnswer
   end_done r1 r2 v1 v2 a b c sound is1 is2 first second =
-      let at_b = sync_later Device Db r1 a b sound first in (
+      let at_b : Later MayReplay a b = sync_later Device Db r1 a b sound first in (
         λ db are. subst (λ (s : FileState). IsSettled s db) (sym (zero_db r2 b c second)) (sync_done Device Db r1 v1 db a b sound is1 first are),
         λ w are enough. zero_done r2 v2 w b c at_b.sound is2 second (subst (λ (s : FileState). ArePresent s w) (sym first.2.elsewhere.other) are) enough,
       )

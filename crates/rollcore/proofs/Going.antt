@@ -1,8 +1,8 @@
 -- What calls of a disk leave as it was.
-use Rattle.std.proofs.Common.{⊎_elim, ℕ, ◌-◌, ◌*◌, List, length, ◌∷◌, sym, subst, []}
+use Rattle.std.proofs.Common.{⊎_elim, ℕ, ◌-◌, ◌*◌, List, length, ◌∷◌, refl, sym, subst, []}
 use Rattle.std.specs.Prelude.{Result, Ok, Err, Bool, true, false}
 use Rattle.crashdisk.specs.State.{IsSectorSize}
-use Rattle.crashdisk.specs.Call.{DiskState, IsSoundDisk}
+use Rattle.crashdisk.specs.Call.{DiskState, IsSoundDisk, Change, write, InFile}
 use Rattle.crashdisk.specs.declared.file.File.TheVariants.{Db, Log}
 use Rattle.crashdisk.specs.declared.error.DiskError.{DiskError}
 use Rattle.crashdisk.specs.Keeps.{Suits, Later}
@@ -12,22 +12,22 @@ use Rattle.rollcore.specs.declared.error.RollError.{RollError}
 use Rattle.crashdisk.proofs.Suiting.{suits_by}
 use Rattle.crashdisk.proofs.Later.{later_still, later_then, later_write}
 
-pub sectors_go : (a b : DiskState) → Later a b → IsSectorSize a.sector → IsSectorSize b.sector
+pub sectors_go : {May : Change → Type 0} (a b : DiskState) → Later May a b → IsSectorSize a.sector → IsSectorSize b.sector
 sectors_go a b goes sectors = subst IsSectorSize (sym goes.sector) sectors
 
-pub suits_go : (size : ℕ) (a b : DiskState) → Later a b → Suits size a → Suits size b
+pub suits_go : {May : Change → Type 0} (size : ℕ) (a b : DiskState) → Later May a b → Suits size a → Suits size b
 suits_go size a b goes suits = suits_by size a b suits goes.sound goes.sector goes.tears
 
 module _ {T : Type 0} where
-  pub goes_page : (number : ℕ) (content : List ℕ) (r : Result T RollError) (a b : DiskState) → IsSoundDisk a → PageStep number content r a b → Later a b
-  goes_page number content r a b sound step = later_write Db ((number - 1) * length content) content step.0 a b sound step.2
+  pub goes_page : (number : ℕ) (content : List ℕ) (r : Result T RollError) (a b : DiskState) → IsSoundDisk a → PageStep number content r a b → Later (InFile Db) a b
+  goes_page number content r a b sound step = later_write Db ((number - 1) * length content) content step.0 a b refl sound step.2
 
-  pub goes_puts : (at : ℕ) (r : Result T DiskError) (a b : DiskState) → IsSoundDisk a → PutsZero at r a b → Later a b
-  goes_puts at r a b sound puts =
+  pub goes_puts : {May : Change → Type 0} (at : ℕ) (r : Result T DiskError) (a b : DiskState) → May (write Log at (0 ∷ [])) → IsSoundDisk a → PutsZero at r a b → Later May a b
+  goes_puts at r a b may sound puts =
       let mid = later_still a puts.mid sound puts.still in
-      later_then a puts.mid b mid (later_write Log at (0 ∷ []) r puts.mid b mid.sound puts.wrote)
+      later_then a puts.mid b mid (later_write Log at (0 ∷ []) r puts.mid b may mid.sound puts.wrote)
 
-pub goes_broken : (at : ℕ) (r : Result Bool RollError) (a b : DiskState) → IsSoundDisk a → BreakSteps at r a b → Later a b
-goes_broken at (Ok true) a b sound puts = goes_puts at (Ok tt) a b sound puts
-goes_broken at (Ok false) a b sound none = later_still a b sound none.0
-goes_broken at (Err e) a b sound failed = ⊎_elim (λ is. later_still a b sound is) (λ puts. goes_puts at puts.0 a b sound puts.1) failed.2
+pub goes_broken : {May : Change → Type 0} (at : ℕ) (r : Result Bool RollError) (a b : DiskState) → May (write Log at (0 ∷ [])) → IsSoundDisk a → BreakSteps at r a b → Later May a b
+goes_broken at (Ok true) a b may sound puts = goes_puts at (Ok tt) a b may sound puts
+goes_broken at (Ok false) a b may sound none = later_still a b sound none.0
+goes_broken at (Err e) a b may sound failed = ⊎_elim (λ is. later_still a b sound is) (λ puts. goes_puts at puts.0 a b may sound puts.1) failed.2

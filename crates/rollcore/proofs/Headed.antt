@@ -16,7 +16,7 @@ use Rattle.sqjournal.proofs.Journals.{size_bounds}
 use Rattle.sqjournal.proofs.Parts.{part_front}
 use Rattle.rollcore.specs.Alone.{HasHeaderAt, AreWhole}
 use Rattle.crashdisk.specs.Keeps.{StandsWhole}
-use Rattle.rollcore.specs.Journaling.{old_pages, sizes, next_place, AreFull, HasNonces, IsJournaled, Tells, IsHeaderOf, IsPrepared, SameBelow}
+use Rattle.rollcore.specs.Journaling.{old_pages, sizes, next_place, AreFull, HasParts, IsJournaled, Tells, IsHeaderOf, IsPrepared, SameBelow}
 use Rattle.rollcore.proofs.Journals.{hot_long}
 use Rattle.rollcore.proofs.WholeSegments.{part_at, word_at, end_within, next_of, records_kept, full_kept, full_begun, full_none, full_more, full_join, full_header}
 use Rattle.rollcore.proofs.Readings.{magic_or, read, read_header}
@@ -86,8 +86,8 @@ begun_hot size sector d w sectors pages header names = record {
 
 -- ---- While nothing below the place of the next header changes.
 
-pub nonces_kept : (z : Sizes) (w v : List ℕ) (place : ℕ) → 512 ≤ z.sector → SameBelow (place + 8) w v → (nonces : List ℕ) → HasNonces z w place nonces → HasNonces z v place nonces
-nonces_kept z w v place some same nonces has = (has.0, full_kept z w v 0 has.0 place some (λ i _ lt _. same.each i (omega arith)) same.long has.1, has.2)
+pub parts_kept : (z : Sizes) (w v : List ℕ) (place : ℕ) → 512 ≤ z.sector → SameBelow (place + 8) w v → (parts : List (ℕ × Pages)) → HasParts z w place parts → HasParts z v place parts
+parts_kept z w v place some same parts has = (has.0, full_kept z w v 0 has.0 place some (λ i _ lt _. same.each i (omega arith)) same.long has.1, has.2)
 
 module _ (size sector : ℕ) (d : Database) (some : 512 ≤ sector) (named : List ℕ) (place : ℕ) (w v : List ℕ) (is : IsJournaled size sector d named place w) where
   begun : 0 < place → (sector ≤ place) × IsHeader (sizes sector size) w 0
@@ -200,12 +200,12 @@ module _ (size sector : ℕ) (d : Database) (sectors : IsPageSize sector) (pages
       (sym of.nonce_is ∙ names.nonce ∙ sym (header_word stands (omega arith) 12 (omega arith)))
       (records_new whole) all_new
 
-  pub nonces_new : ((j : ℕ) → j < 28 → get_or v (place + j) 0 ≡ get_or (header_bytes h) j 0) → place + sector ≤ length v
-      → (nonces : List ℕ) → HasNonces (sizes sector size) w place nonces → HasNonces (sizes sector size) v (next_place (sizes sector size) place (old_pages d more)) (nonces ++ nonce ∷ [])
-  nonces_new stands whole nonces has = (
+  pub part_new : ((j : ℕ) → j < 28 → get_or v (place + j) 0 ≡ get_or (header_bytes h) j 0) → place + sector ≤ length v
+      → (parts : List (ℕ × Pages)) → HasParts (sizes sector size) w place parts → HasParts (sizes sector size) v (next_place (sizes sector size) place (old_pages d more)) (parts ++ (nonce, old_pages d more) ∷ [])
+  part_new stands whole parts has = (
     has.0 ++ added ∷ [],
     stands_behind has.0 (full_kept (sizes sector size) w v 0 has.0 place some (λ i _ lt _. same i (inl lt)) long has.1) stands whole,
-    map-append (λ (s : Segment). s.nonce) has.0 (added ∷ []) ∙ ap (λ (l : List ℕ). l ++ nonce ∷ []) has.2,
+    map-append (λ (s : Segment). (s.nonce, s.records)) has.0 (added ∷ []) ∙ ap (λ (l : List (ℕ × Pages)). l ++ (nonce, old_pages d more) ∷ []) has.2,
   )
 
   -- the header stands whole

@@ -9,7 +9,7 @@ use Rattle.crashdisk.specs.Call.{DiskState, Writes, Syncs}
 use Rattle.crashdisk.specs.declared.file.File.TheVariants.{Log}
 use Rattle.crashdisk.specs.declared.error.DiskError.{DiskError}
 use Rattle.rollcore.specs.Journaling.{old_pages, sizes, next_place, IsHeaderOf}
-use Rattle.rollcore.specs.Segments.{Unharmed, Harmless, Journaled, Prepared, Heading, AddsNonce}
+use Rattle.rollcore.specs.Segments.{Unharmed, Harmless, Journaled, Prepared, Heading, AddsPart}
 use Rattle.rollcore.specs.declared.error.RollError.TheVariants.{Device}
 use Rattle.crashdisk.proofs.Stills.{had_refusal, refusal_after}
 use Rattle.rollcore.proofs.Unharmed.{sectors_of, unharmed_by}
@@ -48,6 +48,6 @@ module _ (size sector : ℕ) (d : Database) (named added : List ℕ) (nonce plac
 
       pub header_done : {T : Type 0} {x : T} → Syncs Log (Ok x) mid new
           → ((v : List ℕ) × Journaled size sector d (named ++ added) (next_place (sizes sector size) place (old_pages d added)) v new
-          × AddsNonce (sizes sector size) place w nonce (next_place (sizes sector size) place (old_pages d added)) v)
+          × AddsPart (sizes sector size) place w (nonce, old_pages d added) (next_place (sizes sector size) place (old_pages d added)) v)
           × (old.refused ≤ new.refused) × (new.db ≡ old.db)
-      header_done synced = (heading_down size sector d named added place (AddsNonce (sizes sector size) place w nonce (next_place (sizes sector size) place (old_pages d added))) mid new middle (headed size sector d named added nonce place h w bytes few head names padded old mid is wrote) synced, omega (arith, wrote.elsewhere.refused, synced.elsewhere.refused), synced.elsewhere.other ∙ wrote.elsewhere.other)
+      header_done synced = (heading_down size sector d named added place (AddsPart (sizes sector size) place w (nonce, old_pages d added) (next_place (sizes sector size) place (old_pages d added))) mid new middle (headed size sector d named added nonce place h w bytes few head names padded old mid is wrote) synced, omega (arith, wrote.elsewhere.refused, synced.elsewhere.refused), synced.elsewhere.other ∙ wrote.elsewhere.other)

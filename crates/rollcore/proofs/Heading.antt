@@ -24,7 +24,7 @@ use Rattle.crashdisk.proofs.Steps.{present_list, present_written}
 use Rattle.rollcore.specs.Alone.{AreWhole}
 use Rattle.rollcore.specs.Fits.{MayBeRead}
 use Rattle.rollcore.specs.Journaling.{old_pages, sizes, next_place, IsJournaled, Tells, IsHeaderOf}
-use Rattle.rollcore.specs.Segments.{IsAt, Journaled, Prepared, Heading, AddsNonce}
+use Rattle.rollcore.specs.Segments.{IsAt, Journaled, Prepared, Heading, AddsPart}
 use Rattle.rollcore.proofs.Journals.{hot_long}
 use Rattle.crashdisk.proofs.Pages.{page_sector, sector_some}
 use Rattle.crashdisk.proofs.Suiting.{suits_writes, suits_syncs}
@@ -33,7 +33,7 @@ use Rattle.rollcore.proofs.Ending.{sync_down}
 use Rattle.rollcore.proofs.Unharmed.{at_by, sectors_of}
 use Rattle.rollcore.proofs.WholeSegments.{next_of}
 use Rattle.rollcore.proofs.Journaled.{gate_same}
-use Rattle.rollcore.proofs.Headed.{headed_same, headed_new, nonces_new, headed_cold, headed_torn}
+use Rattle.rollcore.proofs.Headed.{headed_same, headed_new, part_new, headed_cold, headed_torn}
 use Rattle.rollcore.proofs.Restoring.{journaled_cold}
 
 -- a write of one whole sector stays in it
@@ -212,7 +212,7 @@ module _ (size sector : ℕ) (d : Database) (named added : List ℕ) (nonce plac
     -- it was written
     pub headed : {T : Type 0} {u : T} → Writes Log place bytes (Ok u) old new → (v : List ℕ) → ArePresent new.log v
         → IsJournaled size sector d (named ++ added) (next_place (sizes sector size) place (old_pages d added)) v
-        × AddsNonce (sizes sector size) place w nonce (next_place (sizes sector size) place (old_pages d added)) v
+        × AddsPart (sizes sector size) place w (nonce, old_pages d added) (next_place (sizes sector size) place (old_pages d added)) v
     headed {T = T} {u = u} wrote v are =
         let after : IsSound old.sector new.log = after_sound {T = T} (Ok u) wrote in
         let image : IsImage old.sector false new.log v = present_image old.sector false new.log v after are in
@@ -224,7 +224,7 @@ module _ (size sector : ℕ) (d : Database) (named added : List ℕ) (nonce plac
         ∙ written_inside old.log place bytes (place + j) (omega arith) (omega (arith, wide old is.at)) ∙ ap (λ (n : ℕ). get_or bytes n 0) (let e : place + j - place ≡ j = omega arith in e) ∙ head_at j lt in
         let whole : place + sector ≤ length v = omega (arith, are.len, wrote.file.1.len, len) in (
           headed_new size sector d sectors is.at.suits.pages named added nonce place h w v few head names is.is same le stands whole,
-          nonces_new size sector d sectors is.at.suits.pages named added nonce place h w v few head names is.is same le stands whole,
+          part_new size sector d sectors is.at.suits.pages named added nonce place h w v few head names is.is same le stands whole,
         )
 
 -- ---- The log is synced.

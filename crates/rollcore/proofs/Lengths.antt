@@ -8,14 +8,15 @@ use Rattle.sqval.specs.Database.{Database}
 use Rattle.sqjournal.specs.Journal.{IsHot}
 use Rattle.sqjournal.specs.Restored.{IsRolledBack}
 use Rattle.crashdisk.specs.State.{FileState, IsImage, IsSound, IsSectorSize, WriteTouches, written, Changed}
-use Rattle.crashdisk.specs.Call.{DiskState, IsSoundDisk, ChangedBy, Writes, Syncs, with_write}
+use Rattle.crashdisk.specs.Call.{DiskState, IsSoundDisk, ChangedBy, Writes, Syncs, with_write, Nothing}
+use Rattle.crashdisk.proofs.Keeping.{sound_writes}
 use Rattle.crashdisk.specs.declared.file.File.TheVariants.{Db, Log}
 use Rattle.crashdisk.specs.declared.error.DiskError.{DiskError}
 use Rattle.crashdisk.specs.declared.error.DiskError.TheVariants.{Stopped, Failed, TooLong, NoMemory}
 use Rattle.crashdisk.proofs.Settled.{settled_one}
 use Rattle.crashdisk.proofs.Steps.{image_elsewhere}
 use Rattle.rollcore.specs.Alone.{AreWhole}
-use Rattle.crashdisk.specs.Keeps.{IsLogDown, Told, SyncStep, IsLong}
+use Rattle.crashdisk.specs.Keeps.{IsLogDown, Told, SyncStep, IsLong, Later}
 use Rattle.rollcore.specs.Steps.{torn_sector, ArePages, ZeroSteps}
 use Rattle.rollcore.specs.Plans.{IsFit}
 use Rattle.rollcore.specs.Fits.{MayBeRead}
@@ -29,7 +30,7 @@ use Rattle.rollcore.proofs.Going.{sectors_go}
 use Rattle.rollcore.proofs.Narrowing.{read_cases, narrows_syncs, ends_narrow}
 use Rattle.rollcore.proofs.Zeros.{zeroed_listed, zeroed_torn}
 use Rattle.rollcore.specs.declared.error.RollError.TheVariants.{Device}
-use Rattle.crashdisk.proofs.Later.{later_write, sync_later}
+use Rattle.crashdisk.proofs.Later.{sync_later}
 
 -- where a hot journal names no smaller sectors than those that tear
 abbrev pub IsNamed : List ℕ → DiskState → Type 0
@@ -126,8 +127,8 @@ module _ (w : List ℕ) (old new : DiskState) (sound : IsSoundDisk old) (sectors
   written_word : {T : Type 0} (result : Result T DiskError) → Writes Log 0 zeros result old new → (v : List ℕ) → MayBeRead new v → IsHot v → word v 20 ≡ word w 20
   unfolding changed_by
   written_word result wrote v may here =
-      let goes = later_write Log 0 zeros result old new sound wrote in
-      let after : IsSound old.sector new.log = subst (λ (n : ℕ). IsSound n new.log) wrote.elsewhere.sector goes.sound.log in
+      let goes = sound_writes Log 0 zeros result old new sound wrote in
+      let after : IsSound old.sector new.log = subst (λ (n : ℕ). IsSound n new.log) wrote.elsewhere.sector goes.log in
       ⊎_elim
       (λ listed. listed_word result after wrote.file v (subst (λ (n : ℕ). IsImage n false new.log v) wrote.elsewhere.sector listed) here)
       (λ left.
@@ -148,8 +149,8 @@ module _ {T : Type 0} (w : List ℕ) (old new : DiskState) (sound : IsSoundDisk 
   ends_zeroed n r steps long = ⊎_elim
       (λ failed. ends_written w old new sound sectors down hot names n failed.0 failed.3 long)
       (λ done.
-      let mid = later_write Log 0 zeros (Ok done.1.0) old done.0 sound done.1.1 in
-      ends_narrow done.0 new (narrows_syncs Log done.2.0 done.0 new mid.sound done.2.2) n
+      let mid = sound_writes Log 0 zeros (Ok done.1.0) old done.0 sound done.1.1 in
+      ends_narrow done.0 new (narrows_syncs Log done.2.0 done.0 new mid done.2.2) n
       (ends_written w old done.0 sound sectors down hot names n (Ok done.1.0) done.1.1 long))
       steps
 
@@ -157,7 +158,7 @@ module _ {T : Type 0} (w : List ℕ) (old new : DiskState) (sound : IsSoundDisk 
 pub ends_finished : {T U : Type 0} (w : List ℕ) (old mid new : DiskState) → IsSoundDisk old → IsSectorSize old.sector → IsLogDown old w → IsHot w → IsNamed w old → (v : T) → SyncStep {T = T} Device Db (Ok v) old mid
     → (r : Result U RollError) → ZeroSteps r mid new → EndsBy old.db.len new
 ends_finished {T = T} w old mid new sound sectors down hot names v step r steps =
-    let goes = sync_later Device Db (Ok v) old mid sound step in
+    let goes : Later Nothing old mid = sync_later Device Db (Ok v) old mid sound step in
     ends_zeroed w mid new goes.sound (sectors_go old mid goes sectors) (down_syncs w Db step.0 old mid down step.2) hot (named_by w old mid goes.sector goes.tears names) old.db.len r steps (long_done old mid v step)
 
 -- the pages that a hot journal restores

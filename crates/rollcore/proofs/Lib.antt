@@ -1,4 +1,5 @@
 pub mod Journals
+pub mod Asking
 pub mod Stills
 pub mod Down
 pub mod Records
@@ -48,3 +49,4 @@ pub mod Refusing
 pub mod Deciding
 pub mod Syncing
 pub mod Shown
+pub mod Crashing

@@ -1,9 +1,9 @@
 -- What a commit changes is cut into parts, and each is a segment.
-use Rattle.std.proofs.Common.{◌≡◌, ◌⊎◌, inl, inr, ⊎_elim, ℕ, suc, ◌+◌, ◌-◌, ◌*◌, ◌^◌, ◌<◌, ◌≤◌, List, [], ◌∷◌, ◌++◌, length, get_or, take, drop, replicate, refl, sym, ◌∙◌, ap, subst, arith, length-take}
+use Rattle.std.proofs.Common.{◌≡◌, ◌⊎◌, inl, inr, ⊎_elim, ℕ, suc, ◌+◌, ◌-◌, ◌*◌, ◌^◌, ◌<◌, ◌≤◌, List, [], ◌∷◌, ◌++◌, length, get_or, take, drop, replicate, refl, sym, ◌∙◌, ap, subst, arith, length-take, length-drop}
 use Rattle.std.specs.Prelude.{Result, Ok, Err, Some, None, min}
 use Rattle.std.specs.Borrow.{Bor}
 use Rattle.std.specs.List.{Contains}
-use Rattle.std.proofs.lemmas.List.{take_all, take-map, drop-map, length-map, length-replicate, get_or-map, get_or-take}
+use Rattle.std.proofs.lemmas.List.{take_all, take-map, drop-map, length-map, length-replicate, get_or-map, get_or-take, length-take-le, drop-drop}
 use Rattle.std.proofs.lemmas.Bool.{cases_lt}
 use Rattle.std.proofs.Math.Nat.{mul-le-mul_left}
 use Rattle.std.proofs.Math.Seq.{take-add, take-suc}
@@ -13,7 +13,7 @@ use Rattle.sqval.specs.JudgedPages.{lent}
 use Rattle.sqval.proofs.Faultless.{IsFaultless}
 use Rattle.crashdisk.specs.Call.{DiskState}
 use Rattle.rollcore.specs.Fits.{Rests}
-use Rattle.rollcore.specs.Journaling.{old_pages, sizes, HasNonces}
+use Rattle.rollcore.specs.Journaling.{old_pages, sizes, HasParts, parts_of}
 use Rattle.rollcore.specs.Machine.{segments_of, refusal_of}
 use Rattle.crashdisk.specs.Keeps.{Suits}
 use Rattle.rollcore.specs.Commits.{KeepsCore, AreChanges, IsReady, change_at}
@@ -123,6 +123,28 @@ module _ (changes : List Change) (k m : ℕ) where
       ∙ sym (take_all ((k + 1) * 64) (pages_of changes) (omega (arith, last.1, length-map changes (λ (c : Change). c.page)))))
       cases
 
+  -- and those of its own
+  part_own : (k * 64 + m ≡ (k + 1) * 64) ⊎ ((length changes ≤ k * 64 + m) × (length changes ≤ (k + 1) * 64)) → pages_of (take m (drop (k * 64) changes)) ≡ take 64 (drop (k * 64) (pages_of changes))
+  part_own cases =
+      sym (take-map (λ (c : Change). c.page) m (drop (k * 64) changes)) ∙ ap (λ (l : List ℕ). take m l) (sym (drop-map (λ (c : Change). c.page) (k * 64) changes))
+      ∙ ⊎_elim
+      (λ full. ap (λ (z : ℕ). take z (drop (k * 64) (pages_of changes))) (let e : m ≡ 64 = omega (arith, full) in e))
+      (λ last. take_all m (drop (k * 64) (pages_of changes)) (omega (arith, last.0, long, length-drop (k * 64) (pages_of changes)))
+      ∙ sym (take_all 64 (drop (k * 64) (pages_of changes)) (omega (arith, last.1, long, length-drop (k * 64) (pages_of changes)))))
+      cases
+    where
+      long : length (pages_of changes) ≡ length changes
+      long = length-map changes (λ (c : Change). c.page)
+
+-- one nonce more takes the next numbers
+parts_more : (d : Database) (nonces : List ℕ) (nonce : ℕ) (numbers : List ℕ) → parts_of d numbers (nonces ++ nonce ∷ []) ≡ parts_of d numbers nonces ++ (nonce, old_pages d (take 64 (drop (length nonces * 64) numbers))) ∷ []
+parts_more d [] nonce numbers = refl
+parts_more d (x ∷ nonces) nonce numbers =
+    ap (λ (l : List (ℕ × Pages)). (x, old_pages d (take 64 numbers)) ∷ l)
+    (parts_more d nonces nonce (drop 64 numbers)
+    ∙ ap (λ (l : List ℕ). parts_of d (drop 64 numbers) nonces ++ (nonce, old_pages d (take 64 l)) ∷ [])
+    (drop-drop (length nonces * 64) 64 numbers ∙ ap (λ (i : ℕ). drop i numbers) (let e : 64 + length nonces * 64 ≡ suc (length nonces) * 64 = omega arith in e)))
+
 module _ (size sector : ℕ) (d : Database) (pages : Pages) (n : ℕ) (given : List ℕ) (k place : ℕ) (changes : List Change) (s : DiskState) (is : BeforePart size sector d pages n given k place changes s) (m : ℕ) where
   named_at : (i x : ℕ) → i < length changes → get_or (pages_of changes) i x ≡ (change_at changes i).page
   named_at i x lt = get_or-map (λ (c : Change). c.page) changes i (record { page = 0; content = None }) x lt
@@ -153,14 +175,26 @@ module _ (size sector : ℕ) (d : Database) (pages : Pages) (n : ℕ) (given : L
       let above = next_of (sizes sector size) place (old_pages d (pages_of (take m (drop (k * 64) changes)))) (omega (arith, wide)) in (
         record {
           journaled = (done.1.0, subst (λ (l : List ℕ). Journaled size sector d l next done.1.0 new) (joined changes k m cases) done.1.1);
-          taken = subst (λ (l : List ℕ). HasNonces (sizes sector size) done.1.0 next l)
-              (ap (λ (x : ℕ). take k given ++ x ∷ []) at ∙ sym (take-suc given k 0 lt) ∙ ap (λ (i : ℕ). take i given) (let e : suc k ≡ k + 1 = omega arith in e)) (done.1.2 (take k given) is.parted.taken);
+          taken = subst (λ (l : List (ℕ × Pages)). HasParts (sizes sector size) done.1.0 next l)
+              (own
+              ∙ sym (parts_more d (take k given) nonce (pages_of changes))
+              ∙ ap (λ (l : List ℕ). parts_of d (pages_of changes) l)
+              (ap (λ (x : ℕ). take k given ++ x ∷ []) at ∙ sym (take-suc given k 0 lt) ∙ ap (λ (i : ℕ). take i given) (let e : suc k ≡ k + 1 = omega arith in e)))
+              (done.1.2 (parts_of d (pages_of changes) (take k given)) is.parted.taken);
           put = subst (λ (l : List ℕ). ArePut size e l new.db) (joined changes k m cases) done.2;
           first = λ z. absurd (omega (arith, z));
           later = λ z. omega (arith, done.0, above, wide);
         },
         done.3,
       )
+    where
+      many : k ≡ length (take k given)
+      many = sym (length-take-le k given (omega (arith, lt)))
+
+      own : parts_of d (pages_of changes) (take k given) ++ (nonce, old_pages d (pages_of (take m (drop (k * 64) changes)))) ∷ []
+          ≡ parts_of d (pages_of changes) (take k given) ++ (nonce, old_pages d (take 64 (drop (length (take k given) * 64) (pages_of changes)))) ∷ []
+      own = ap (λ (l : List ℕ). parts_of d (pages_of changes) (take k given) ++ (nonce, old_pages d l) ∷ [])
+          (part_own changes k m cases ∙ ap (λ (i : ℕ). take 64 (drop (i * 64) (pages_of changes))) many)
   part_after e wide cases nonce lt at (Err error) new failed = failed
 
 pub part_back : (pages : Pages) (n sector : ℕ) (given : List ℕ) (k : ℕ) (d : Database) (core : Core) (size : ℕ) (changes : List Change) (r : Result ℕ RollError) (old new : DiskState) → size ≡ core.page_size → changes ≡ core.changes.items
@@ -207,7 +241,7 @@ module _ (size sector : ℕ) (d e : Database) (numbers given : List ℕ) where
     subst (λ (l : List ℕ). Journaled size sector d l place is.journaled.0 b) (take_all (k * 64) numbers all) is.journaled.1,
     subst (λ (l : List ℕ). ArePut size e l b.db) (take_all (k * 64) numbers all) is.put,
     later,
-    subst (λ (i : ℕ). HasNonces (sizes sector size) is.journaled.0 place (take i given)) whole is.taken,
+    subst (λ (i : ℕ). HasParts (sizes sector size) is.journaled.0 place (parts_of d numbers (take i given))) whole is.taken,
   )
 
 pub part_forth : (pages : Pages) (n sector : ℕ) (given : List ℕ) (k place : ℕ) (d : Database) (a b : Core) (s : DiskState) → KeepsCore a b → b.changes ≡ a.changes → Parted a.page_size sector d (apply d pages n) (pages_of a.changes.items) given k place s

@@ -13,7 +13,7 @@ use Rattle.crashdisk.proofs.Steps.{present_steady, present_written, present_list
 use Rattle.crashdisk.specs.Keeps.{Still, SyncStep}
 use Rattle.rollcore.specs.Opening.{PutsZero, BreakSteps}
 use Rattle.rollcore.specs.Journaling.{old_pages, sizes, next_place, SameBelow}
-use Rattle.rollcore.specs.Segments.{IsAt, Recording, Recorded, Ended, Prepared, KeepsNonces, Harmless}
+use Rattle.rollcore.specs.Segments.{IsAt, Recording, Recorded, Ended, Prepared, KeepsParts, Harmless}
 use Rattle.rollcore.specs.declared.error.RollError.{RollError}
 use Rattle.crashdisk.proofs.Down.{present_byte}
 use Rattle.rollcore.proofs.Ending.{sync_down}
@@ -24,7 +24,7 @@ use Rattle.crashdisk.proofs.Suiting.{suits_syncs}
 use Rattle.rollcore.proofs.Unharmed.{at_by}
 use Rattle.rollcore.proofs.Recording.{recording_still, recording_writes, recording_syncs, recording_unharmed}
 use Rattle.rollcore.proofs.WholeSegments.{records_same, next_above, next_of}
-use Rattle.rollcore.proofs.Headed.{journaled_same, nonces_kept}
+use Rattle.rollcore.proofs.Headed.{journaled_same, parts_kept}
 use Rattle.rollcore.proofs.Restoring.{zero_gate}
 use Rattle.rollcore.specs.declared.error.RollError.TheVariants.{Device}
 
@@ -101,7 +101,7 @@ module _ (size sector : ℕ) (d : Database) (named : List ℕ) (place : ℕ) (w 
       first (x ∷ xs) r one = omega (arith, r.0.whole)
 
   pub settled : {T : Type 0} (r : Result T RollError) (done : T) (old new : DiskState) → Ended size sector d named place w part nonce old → (place ≡ 0) ⊎ (1 ≤ length part) → r ≡ Ok done → SyncStep Device Log r old new
-      → (v : List ℕ) × Prepared size sector d named place part nonce v new × KeepsNonces (sizes sector size) place w v
+      → (v : List ℕ) × Prepared size sector d named place part nonce v new × KeepsParts (sizes sector size) place w v
   settled r done old new is more was step =
       let at = is.recorded.recording.at in
       let u : List ℕ = table old.log.len (byte old.log) in
@@ -122,7 +122,7 @@ module _ (size sector : ℕ) (d : Database) (named : List ℕ) (place : ℕ) (w 
             long = long_enough u (is.recorded.records u are) more;
           };
         },
-        nonces_kept (sizes sector size) w u place wide same,
+        parts_kept (sizes sector size) w u place wide same,
       )
 
 pub break_later : (at : ℕ) (stood : Bool) (old new : DiskState) → BreakSteps at (Ok stood) old new → old.refused ≤ new.refused

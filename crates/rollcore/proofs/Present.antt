@@ -19,7 +19,7 @@ use Rattle.crashdisk.proofs.Images.{table}
 use Rattle.crashdisk.proofs.Sound.{cut_below}
 use Rattle.crashdisk.proofs.Steps.{present_cut, present_list, present_steady, settled_sync}
 use Rattle.rollcore.specs.Steps.{ArePages}
-use Rattle.rollcore.specs.Commits.{change_at, AreChanges}
+use Rattle.rollcore.specs.Commits.{AreChanged, change_at, AreChanges}
 use Rattle.rollcore.specs.Segments.{Journaled, ArePut, Becomes, AreTurned, AreOf, AreFresh, pages_of, new_numbers}
 use Rattle.rollcore.specs.declared.changes.Change.{Change}
 use Rattle.crashdisk.proofs.Pages.{page_at, page_within}
@@ -139,6 +139,25 @@ module _ (size : ℕ) (d : Database) (pages : Pages) (n : ℕ) (right : IsFaultl
           let c = are.content has.0 k within e in
           let given : supplied pages p ≡ Some (content_at pages k) = ap (λ (q : ℕ). supplied pages q) (sym (c.1 ∙ is)) ∙ supplied_here (length d) size pages n right k c.0 in
           let bad : None ≡ Some (content_at pages k) = sym none_given ∙ given in cc
+
+  -- the numbers of the changes
+  pub are_changed : AreChanged pages (length d) n (pages_of changes)
+  are_changed = record {
+    rising = λ i j lt there.
+        let at_i = page_of_change changes i 0 (omega (arith, lt, there, many)) in
+        let at_j = page_of_change changes j 0 (omega (arith, there, many)) in
+        omega (arith, at_i, at_j, are.rising i j lt (omega (arith, there, many)));
+    each = λ p has.
+        let within : has.0 < length changes = omega (arith, has.1, many) in
+        let is : (change_at changes has.0).page ≡ p = sym (page_of_change changes has.0 p within) ∙ has.2 in
+        let range = are.within has.0 within in
+        (omega (arith, range.0, is), omega (arith, range.1, is), ⊎_elim (λ cut. inr cut) (λ le. inl (λ none. unchanged p le none has)) (cases_lt n p));
+    all = λ p some le given. let at = are.all p some le given in has_page changes p at.0 at.1 at.2;
+    count = many ∙ are.count;
+  }
+    where
+      many : length (pages_of changes) ≡ length changes
+      many = length-map changes (λ (c : Change). c.page)
 
   -- each page of the new database is written, or is as it was
   pub each_page : (p : ℕ) → 1 ≤ p → p ≤ length (apply d pages n)

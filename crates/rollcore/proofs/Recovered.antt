@@ -16,6 +16,7 @@ use Rattle.crashdisk.proofs.Images.{table}
 use Rattle.crashdisk.proofs.Steps.{present_list}
 use Rattle.rollcore.specs.Alone.{Show, ShowsAlone}
 use Rattle.crashdisk.specs.Keeps.{Suits, IsLogDown, Still, SyncStep, Later}
+use Rattle.rollcore.specs.Changes.{MayChange}
 use Rattle.rollcore.specs.Plans.{IsBelow, PlanAnswer, ReadAnswer}
 use Rattle.rollcore.specs.Replaying.{zeroed}
 use Rattle.rollcore.specs.Steps.{torn_sector, RolledAnswer}
@@ -283,10 +284,10 @@ module _ (past : State) (found : Files) (s : DiskState) (fits : FitsDisk past s)
       )
 
   module _ {T : Type 0} (v : T) (r : Result T RollError) (a : DiskState) (was : r ≡ Ok v) (step : SyncStep Device Log r s a) where
-    is : IsFound past found.log s
+    abbrev is : IsFound past found.log s
     is = is_found
 
-    goes : Later s a
+    goes : Later (MayChange past.page_size s.sector) s a
     goes = sync_later Device Log r s a fits.suits.sound step
 
     settled_down : IsLogDown a found.log
@@ -298,7 +299,7 @@ module _ (past : State) (found : Files) (s : DiskState) (fits : FitsDisk past s)
     shows_a : (db : List ℕ) → IsImage a.sector a.tears a.db db → ShowsWhole past.page_size db found.log (at past is.place)
     shows_a db image = is.shows db (file_syncs Log step.0 s a fits.suits.sound step.2 db image)
 
-    settled_one : ShowsOne past.page_size (at past is.place) a
+    pub settled_one : ShowsOne past.page_size (at past is.place) a
     settled_one = record {
       alone = shows_by past.page_size (at past is.place) a goes.sound (λ u. u ≡ found.log)
           (λ u left. down_read found.log a settled_down u (inr left))
@@ -311,7 +312,7 @@ module _ (past : State) (found : Files) (s : DiskState) (fits : FitsDisk past s)
     settled_held : IsHeld past.page_size (at past is.place)
     settled_held = fits.held is.place is.within
 
-    by_answer : (q : Result ℕ RollError) (b : DiskState) → Later a b → RecoverAnswer past.page_size (at past is.place) q a b → RecoveredAt past found q s b
+    by_answer : (q : Result ℕ RollError) (b : DiskState) → Later (MayChange past.page_size s.sector) a b → RecoverAnswer past.page_size (at past is.place) q a b → RecoveredAt past found q s b
     by_answer (Ok n) b then answer = (
       later_then s a b goes then,
       record { place = is.place; floor = is.floor; within = is.within; newest_is = is.newest_is; shown = (is.shows found.db found_db).shows; rests = answer.1; count = answer.0 },
@@ -323,7 +324,7 @@ module _ (past : State) (found : Files) (s : DiskState) (fits : FitsDisk past s)
       answer.1.ends.sectors,
     )
 
-    pub settled : (size : ℕ) → past.page_size ≡ size → (q : Result ℕ RollError) (b : DiskState) → Later a b
+    pub settled : (size : ℕ) → past.page_size ≡ size → (q : Result ℕ RollError) (b : DiskState) → Later (MayChange past.page_size s.sector) a b
         → ((d : Database) → Suits size a → IsHeld size d → IsLogDown a found.log → ShowsOne size d a → RecoverAnswer size d q a b) → RecoveredAt past found q s b
     settled size same q b then recovers = by_answer q b then
         (subst (λ (n : ℕ). (d : Database) → Suits n a → IsHeld n d → IsLogDown a found.log → ShowsOne n d a → RecoverAnswer n d q a b) (sym same) recovers (at past is.place) settled_suits settled_held settled_down settled_one)

@@ -8,11 +8,12 @@ use Rattle.crashdisk.specs.declared.file.File.{File}
 use Rattle.crashdisk.specs.declared.error.DiskError.{DiskError}
 use Rattle.crashdisk.proofs.Keeping.{sound_crash, sound_syncs}
 use Rattle.crashdisk.proofs.Settled.{settled_one}
-use Rattle.crashdisk.proofs.Stills.{still_looks, still_sound}
+use Rattle.crashdisk.proofs.Stills.{still_looks, still_sound, same_sound}
+use Rattle.crashdisk.specs.Keeps.{SameFiles}
 use Rattle.rollcore.specs.Alone.{AreWhole, Show, ShowsAlone}
 use Rattle.rollcore.specs.Fits.{MayBeRead}
 use Rattle.rollcore.proofs.Down.{shows_by}
-use Rattle.rollcore.proofs.Narrowing.{Narrows, narrows_still, narrows_syncs}
+use Rattle.rollcore.proofs.Narrowing.{Narrows, narrows_still, narrows_same, narrows_syncs}
 
 module _ (size : ℕ) (d : Database) where
   shows_read : (s : DiskState) → ShowsAlone size d s → (db w : List ℕ) → IsImage s.sector s.tears s.db db → MayBeRead s w → Show size db w d
@@ -30,6 +31,9 @@ module _ (size : ℕ) (d : Database) where
   shown_looked end called s t sound looked alone =
       let still = still_looks end called s t sound looked in
       alone_narrows s t (still_sound s t sound still) (narrows_still s t still) alone
+
+  pub shown_same : (s t : DiskState) → IsSoundDisk s → SameFiles s t → ShowsAlone size d s → ShowsAlone size d t
+  shown_same s t sound same alone = alone_narrows s t (same_sound s t sound same) (narrows_same s t same) alone
 
   pub shown_crashed : (db log : List ℕ) (s t : DiskState) → IsSoundDisk s → IsCrash db log s t → (s.tears ≡ true → AreWhole s.kept s.handed log) → ShowsAlone size d s → ShowsAlone size d t
   shown_crashed db log s t sound crashed whole alone =

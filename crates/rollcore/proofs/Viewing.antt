@@ -22,6 +22,7 @@ use Rattle.crashdisk.proofs.Down.{present_byte, down_by}
 use Rattle.rollcore.proofs.Narrowing.{narrows_same, history_narrows, sectors_narrow}
 use Rattle.sqval.proofs.FilePages.{page_by_bytes}
 use Rattle.crashdisk.proofs.Pages.{page_end}
+use Rattle.crashdisk.proofs.Called.{calls_wider}
 use Rattle.crashdisk.proofs.Stills.{still, same_files, same_sound, image_same, present_in}
 use Rattle.crashdisk.proofs.Suiting.{suits_by}
 use Rattle.sqval.proofs.Answering.{none_above, is_zero, is_above, is_closed, refuses_first, refuses_cause}
@@ -54,7 +55,7 @@ fits_still past core s t is fits = record {
 
 -- a row of the machine that doesn't step
 pub stays : (past : State) (core : Core) (s t : DiskState) → Still s t → FitsCore past core s → (act : Act) (answer : Answer) → Step past act answer s.refused t.refused past → StepsTo past act answer core s t
-stays past core s t is fits act answer step = record { next = past; same = record { sector = is.sector; tears = is.tears; calls = is.calls }; refused = is.refused; row = step; fits = fits_still past core s t (same_files s t is) fits }
+stays past core s t is fits act answer step = record { next = past; same = record { sector = is.sector; tears = is.tears; calls = calls_wider (λ change none. absurd none) s t is.calls }; refused = is.refused; row = step; fits = fits_still past core s t (same_files s t is) fits }
 
 -- ---- the rows of the machine
 

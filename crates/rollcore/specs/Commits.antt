@@ -1,6 +1,6 @@
 -- What the steps of a commit promise one another (fileformat2, 3; segments are own).
 use Rattle.std.specs.Prelude.{◌≡◌, ◌≢◌, ◌⊎◌, ℕ, ◌<◌, ◌≤◌, false, Result, Ok, Err, List, [], length, take, get_or, Some, None, OnOk}
-use Rattle.std.specs.List.{All}
+use Rattle.std.specs.List.{All, Contains}
 use Rattle.std.specs.Borrow.{Bor}
 use Rattle.sqval.specs.Bytes.{AreBytes}
 use Rattle.sqval.specs.Database.{Database, Pages, supplied}
@@ -13,7 +13,7 @@ use Rattle.rollcore.specs.Refusal.{number_of}
 use Rattle.rollcore.specs.Replaying.{zeroed}
 use Rattle.crashdisk.specs.Keeps.{HadRefusal, IsLogDown}
 use Rattle.sqjournal.specs.Journal.{Sizes}
-use Rattle.rollcore.specs.Journaling.{sizes, HasNonces}
+use Rattle.rollcore.specs.Journaling.{sizes, HasParts, parts_of}
 use Rattle.rollcore.specs.Machine.{State, newest, recorded, segments_of, refusal_of}
 use Rattle.rollcore.specs.declared.state.Core.{Core}
 use Rattle.rollcore.specs.declared.changes.Change.{Change}
@@ -37,15 +37,24 @@ abbrev pub PutAnswer : {T : Type 0} → (size : ℕ) (d e : Database) → Result
 PutAnswer size d e (Ok _) old new = Rests size e new
 PutAnswer size d e (Err error) old new = (error ≡ Device) × HadRefusal old new × ShowsEither size d e new × NamesSectors new
 
--- The log is a journal of segments that have these nonces in order, but for 28 zeros over its first header, and it is
--- down.
-abbrev pub LeavesNonces : Sizes → (nonces : List ℕ) → DiskState → Type 0
-LeavesNonces z nonces s = (place : ℕ) × (w : List ℕ) × HasNonces z w place nonces × IsLogDown s (zeroed w)
+-- The log is a journal of segments that have these nonces, each with its records, in order, but for 28 zeros over its first
+-- header, and it is down.
+abbrev pub LeavesParts : Sizes → (parts : List (ℕ × Pages)) → DiskState → Type 0
+LeavesParts z parts s = (place : ℕ) × (w : List ℕ) × HasParts z w place parts × IsLogDown s (zeroed w)
 
--- a commit that is done to a database of the history takes its nonces in order: of its segments s has nonce s
+-- these are the pages of a database of so many that a commit writes or cuts off, rising
+pub record AreChanged (pages : Pages) (old_size size : ℕ) (numbers : List ℕ) : Type 0 where
+  pub rising : (i j : ℕ) → i < j → j < length numbers → get_or numbers i 0 < get_or numbers j 0
+  pub each : (p : ℕ) → Contains numbers p → (1 ≤ p) × (p ≤ old_size) × ((supplied pages p ≢ None) ⊎ (size < p))
+  pub all : (p : ℕ) → 1 ≤ p → p ≤ old_size → (supplied pages p ≢ None) ⊎ (size < p) → Contains numbers p
+  pub count : length numbers ≡ recorded pages old_size size
+
+-- A commit that is done to a database of the history takes its nonces in order: of its segments s has nonce s. They hold
+-- the old contents of the pages that it writes or cuts off, rising, each 64 of them but the last, which has the rest.
 abbrev pub TakesNonces : {T : Type 0} → State → Pages → (size : ℕ) → (nonces : List ℕ) → Result T RollError → (old new : DiskState) → Type 0
 TakesNonces past pages size nonces result old new =
-    OnOk result (LeavesNonces (sizes old.sector past.page_size) (take (segments_of (recorded pages (length (newest past)) size)) nonces) new)
+    OnOk result ((numbers : List ℕ) × AreChanged pages (length (newest past)) size numbers
+    × LeavesParts (sizes old.sector past.page_size) (parts_of (newest past) numbers (take (segments_of (length numbers)) nonces)) new)
 
 -- change i, from 0
 abbrev pub change_at : List Change → (i : ℕ) → Change

@@ -8,6 +8,7 @@ use Rattle.sqjournal.specs.Header.{HasMagic}
 use Rattle.sqjournal.specs.Journal.{IsHot}
 use Rattle.crashdisk.specs.State.{IsImage}
 use Rattle.crashdisk.specs.Call.{DiskState, ArePresent}
+use Rattle.rollcore.specs.Changes.{MayChange}
 use Rattle.rollcore.specs.Alone.{MayBeLeft, Show}
 use Rattle.crashdisk.specs.Keeps.{Suits, IsLogDown, IsSameDisk}
 use Rattle.rollcore.specs.Machine.{State, at, newest, Act, Opens, Step}
@@ -84,7 +85,7 @@ answered good (Err error) = Refused (number_of error)
 -- One call: the machine goes on by a row of its table, and its state fits again.
 pub record StepsTo (past : State) (act : Act) (answer : Answer) (core : Core) (old new : DiskState) : Type 0 where
   pub next : State
-  pub same : IsSameDisk old new
+  pub same : IsSameDisk (MayChange past.page_size old.sector) old new
   pub refused : old.refused ≤ new.refused
   pub row : Step past act answer old.refused new.refused next
   pub fits : FitsCore next core new
@@ -100,7 +101,7 @@ OpenedTo past found core before after = StepsTo past (Opens found) Done core bef
 -- and one that is refused
 pub record GivenUpTo (past : State) (found : Files) (error : RollError) (before after : DiskState) : Type 0 where
   pub next : State
-  pub same : IsSameDisk before after
+  pub same : IsSameDisk (MayChange past.page_size before.sector) before after
   pub refused : before.refused ≤ after.refused
   pub row : Step past (Opens found) (Refused (number_of error)) before.refused after.refused next
   pub fits : FitsDisk next after

@@ -1,6 +1,6 @@
 -- The steps of a commit by what stands on the disk meanwhile: the old contents of pages go into the journal, segment by
 -- segment, and so all that a crash may leave shows the old database (fileformat2, 3; segments are own).
-use Rattle.std.specs.Prelude.{◌≡◌, ◌⊎◌, ℕ, ◌+◌, ◌*◌, ◌<◌, ◌≤◌, List, ◌∷◌, ◌++◌, length, map, get_or, []}
+use Rattle.std.specs.Prelude.{◌≡◌, ◌⊎◌, ℕ, ◌+◌, ◌*◌, ◌<◌, ◌≤◌, List, ◌∷◌, ◌++◌, length, map, get_or, take, drop, []}
 use Rattle.std.specs.List.{Contains}
 use Rattle.sqval.specs.Bytes.{word}
 use Rattle.sqval.specs.Database.{Database, Pages, page, file_page}
@@ -9,6 +9,7 @@ use Rattle.sqjournal.specs.NonceSum.{nonce_sum}
 use Rattle.sqjournal.specs.Header.{HasMagic, next_header}
 use Rattle.sqjournal.specs.Journal.{Segment, Sizes, records_end, IsHeader, AreRecords, AreAll, IsHot}
 use Rattle.sqjournal.specs.Restored.{all_records}
+use Rattle.rollcore.specs.Machine.{segment_records}
 use Rattle.sqjournal.specs.declared.header.JournalHeader.{JournalHeader}
 
 -- ---- Journals as lists of bytes.
@@ -36,9 +37,14 @@ AreFull z b from (s ∷ ss) place =
     IsHeader z b from × (s.count ≡ word b (from + 8)) × (s.nonce ≡ word b (from + 12)) × AreRecords z b s.nonce (from + z.sector) s.records
     × AreAll s.count s.records × AreFull z b (next_place z from s.records) ss place
 
--- up to a place stand full segments, which have these nonces in order
-abbrev pub HasNonces : Sizes → List ℕ → (place : ℕ) → (nonces : List ℕ) → Type 0
-HasNonces z b place nonces = (segments : List Segment) × AreFull z b 0 segments place × (map (λ s. s.nonce) segments ≡ nonces)
+-- up to a place stand full segments, which have these nonces, each with its records, in order
+abbrev pub HasParts : Sizes → List ℕ → (place : ℕ) → (parts : List (ℕ × Pages)) → Type 0
+HasParts z b place parts = (segments : List Segment) × AreFull z b 0 segments place × (map (λ s. (s.nonce, s.records)) segments ≡ parts)
+
+-- Each nonce has the next 64 of these numbers, as records, the last one those that are left.
+abbrev pub parts_of : Database → (numbers nonces : List ℕ) → List (ℕ × Pages)
+parts_of d numbers [] = []
+parts_of d numbers (nonce ∷ nonces) = (nonce, old_pages d (take segment_records numbers)) ∷ parts_of d (drop segment_records numbers) nonces
 
 -- The log journals these pages of d, by segments up to a place, where no header stands. At place 0 it has none yet.
 pub record IsJournaled (size sector : ℕ) (d : Database) (named : List ℕ) (place : ℕ) (w : List ℕ) : Type 0 where

@@ -1,5 +1,6 @@
 pub mod Refusal
 pub mod Alone
+pub mod Changes
 pub mod Replaying
 pub mod Phases
 pub mod Steps

@@ -15,7 +15,7 @@ use Rattle.crashdisk.specs.declared.file.File.TheVariants.{Db, Log}
 use Rattle.crashdisk.specs.declared.error.DiskError.{DiskError}
 use Rattle.rollcore.specs.Fits.{MayBeRead, ShowsWhole}
 use Rattle.crashdisk.specs.Keeps.{Suits, HadRefusal, IsLogDown, Still, Told}
-use Rattle.rollcore.specs.Journaling.{old_pages, sizes, next_place, record_bytes, IsJournaled, Tells, IsPrepared, HasNonces}
+use Rattle.rollcore.specs.Journaling.{old_pages, sizes, next_place, record_bytes, IsJournaled, Tells, IsPrepared, HasParts, parts_of}
 use Rattle.rollcore.specs.Commits.{change_at}
 use Rattle.rollcore.specs.Machine.{segment_records, segments_of}
 use Rattle.rollcore.specs.declared.changes.Change.{Change}
@@ -114,26 +114,26 @@ RecordsAnswer size sector d named place w part nonce (Ok end) old new =
     (end ≡ records_end (sizes sector size) (place + sector) (old_pages d part)) × Recorded size sector d named place w part nonce new × (old.refused ≤ new.refused) × (new.db ≡ old.db)
 RecordsAnswer size sector d named place w part nonce (Err e) old new = Harmless size d e old new
 
--- from one log to another the segments up to a place keep their nonces
-abbrev pub KeepsNonces : Sizes → (place : ℕ) → (w v : List ℕ) → Type 0
-KeepsNonces z place w v = (nonces : List ℕ) → HasNonces z w place nonces → HasNonces z v place nonces
+-- from one log to another the segments up to a place keep their nonces and records
+abbrev pub KeepsParts : Sizes → (place : ℕ) → (w v : List ℕ) → Type 0
+KeepsParts z place w v = (parts : List (ℕ × Pages)) → HasParts z w place parts → HasParts z v place parts
 
--- and there is one segment more, up to the next place, which has this nonce
-abbrev pub AddsNonce : Sizes → (place : ℕ) → List ℕ → (nonce next : ℕ) → List ℕ → Type 0
-AddsNonce z place w nonce next v = (nonces : List ℕ) → HasNonces z w place nonces → HasNonces z v next (nonces ++ nonce ∷ [])
+-- and there is one segment more, up to the next place, which has this nonce and these records
+abbrev pub AddsPart : Sizes → (place : ℕ) → List ℕ → (part : ℕ × Pages) → (next : ℕ) → List ℕ → Type 0
+AddsPart z place w part next v = (parts : List (ℕ × Pages)) → HasParts z w place parts → HasParts z v next (parts ++ part ∷ [])
 
--- these records are down, up to the next place, and the segments before them keep their nonces
+-- these records are down, up to the next place, and the segments before them keep theirs
 abbrev pub PreparedAnswer : (size sector : ℕ) (d : Database) (named : List ℕ) (place : ℕ) (w part : List ℕ) (nonce : ℕ) → Result ℕ RollError → (old new : DiskState) → Type 0
 PreparedAnswer size sector d named place w part nonce (Ok next) old new =
-    (next ≡ next_place (sizes sector size) place (old_pages d part)) × ((v : List ℕ) × Prepared size sector d named place part nonce v new × KeepsNonces (sizes sector size) place w v)
+    (next ≡ next_place (sizes sector size) place (old_pages d part)) × ((v : List ℕ) × Prepared size sector d named place part nonce v new × KeepsParts (sizes sector size) place w v)
     × (old.refused ≤ new.refused) × (new.db ≡ old.db)
 PreparedAnswer size sector d named place w part nonce (Err e) old new = Harmless size d e old new
 
--- the header is down, and with it the segment, which has this nonce
+-- the header is down, and with it the segment, which has this nonce and these records
 abbrev pub HeaderAnswer : {T : Type 0} → (size sector : ℕ) (d : Database) (named : List ℕ) (place : ℕ) (w part : List ℕ) (nonce : ℕ) → Result T RollError → (old new : DiskState) → Type 0
 HeaderAnswer size sector d named place w part nonce (Ok _) old new =
     ((v : List ℕ) × Journaled size sector d (named ++ part) (next_place (sizes sector size) place (old_pages d part)) v new
-    × AddsNonce (sizes sector size) place w nonce (next_place (sizes sector size) place (old_pages d part)) v)
+    × AddsPart (sizes sector size) place w (nonce, old_pages d part) (next_place (sizes sector size) place (old_pages d part)) v)
     × (old.refused ≤ new.refused) × (new.db ≡ old.db)
 HeaderAnswer size sector d named place w part nonce (Err e) old new = Harmless size d e old new
 
@@ -179,17 +179,17 @@ new_numbers old_size (x ∷ pages) = cond (nat_lt old_size x.0) (x.0 ∷ new_num
 -- a segment is down with its nonce, and its pages are put
 abbrev pub SegmentAnswer : (size sector : ℕ) (d e : Database) (named before : List ℕ) (place : ℕ) (w part : List ℕ) (nonce : ℕ) → Result ℕ RollError → (old new : DiskState) → Type 0
 SegmentAnswer size sector d e named before place w part nonce (Ok next) old new = (next ≡ next_place (sizes sector size) place (old_pages d part))
-    × ((v : List ℕ) × Journaled size sector d (named ++ part) next v new × AddsNonce (sizes sector size) place w nonce next v)
+    × ((v : List ℕ) × Journaled size sector d (named ++ part) next v new × AddsPart (sizes sector size) place w (nonce, old_pages d part) next v)
     × ArePut size e (before ++ part) new.db × (old.refused ≤ new.refused)
 SegmentAnswer size sector d e named before place w part nonce (Err error) old new = Harmless size d error old new
 
 -- ---- All segments.
 
--- so many segments of a commit that changes pages of these numbers are down, of which each has its nonce of these, and
--- their pages are put
+-- so many segments of a commit that changes pages of these numbers are down, of which each has its nonce of these and
+-- its records, and their pages are put
 pub record Parted (size sector : ℕ) (d e : Database) (numbers nonces : List ℕ) (k place : ℕ) (s : DiskState) : Type 0 where
   pub journaled : (w : List ℕ) × Journaled size sector d (take (k * segment_records) numbers) place w s
-  pub taken : HasNonces (sizes sector size) journaled.0 place (take k nonces)
+  pub taken : HasParts (sizes sector size) journaled.0 place (parts_of d numbers (take k nonces))
   pub put : ArePut size e (take (k * segment_records) numbers) s.db
   pub first : k ≡ 0 → place ≡ 0
   pub later : 0 < k → 0 < place
@@ -199,9 +199,9 @@ abbrev pub PartAnswer : (size sector : ℕ) (d e : Database) (numbers nonces : L
 PartAnswer size sector d e numbers nonces k (Ok next) old new = Parted size sector d e numbers nonces (k + 1) next new × (old.refused ≤ new.refused)
 PartAnswer size sector d e numbers nonces k (Err error) old new = Harmless size d error old new
 
--- all of them are: segment s has nonce s
+-- all of them are: segment s has nonce s, and the records of the next 64 pages
 abbrev pub SegmentsAnswer : {T : Type 0} → (size sector : ℕ) (d e : Database) (numbers nonces : List ℕ) → Result T RollError → (old new : DiskState) → Type 0
 SegmentsAnswer size sector d e numbers nonces (Ok _) old new =
     (place : ℕ) × (w : List ℕ) × (0 < place) × Journaled size sector d numbers place w new × ArePut size e numbers new.db × (old.refused ≤ new.refused)
-    × HasNonces (sizes sector size) w place (take (segments_of (length numbers)) nonces)
+    × HasParts (sizes sector size) w place (parts_of d numbers (take (segments_of (length numbers)) nonces))
 SegmentsAnswer size sector d e numbers nonces (Err error) old new = Harmless size d error old new

@@ -6,10 +6,12 @@ ghost use Rattle.sqval.specs.Held.{IsHeld};
 ghost use Rattle.sqval.specs.JudgedPages.{lent};
 ghost use Rattle.sqval.specs.Answers.{Done};
 ghost use Rattle.crashdisk.specs.Keeps.{Suits, Later};
-ghost use Rattle.rollcore.specs.Machine.{State, Commits, segments_of, recorded};
-ghost use Rattle.rollcore.specs.Journaling.{sizes};
+ghost use Rattle.rollcore.specs.Machine.{State, Commits, segments_of};
+ghost use Rattle.rollcore.specs.Journaling.{sizes, parts_of};
+ghost use Rattle.rollcore.specs.Segments.{pages_of};
 ghost use Rattle.rollcore.specs.Fits.{Rests, FitsCore, StepsTo, Fits, Steps, answered};
-ghost use Rattle.rollcore.specs.Commits.{KeepsCore, IsReady, PagesJudged, PrepareAnswer, PutAnswer, EndAnswer, LeavesNonces, TakesNonces};
+ghost use Rattle.rollcore.specs.Changes.{MayChange};
+ghost use Rattle.rollcore.specs.Commits.{KeepsCore, IsReady, PagesJudged, PrepareAnswer, PutAnswer, EndAnswer, LeavesParts, TakesNonces};
 
 use crate::changes::{count_records, list_changes};
 use crate::error::RollError;
@@ -58,14 +60,16 @@ fn put_commit<D: Disk>(
     requires { IsReady pages.now size (length nonces.now) core.old }
     ensures word { D.keeps_word disk.old ↔ D.keeps_word disk.new }
     ensures device { IfErr result (λ e. e ≡ RollError.Device) }
-    ensures goes { D.keeps_word disk.old → Later (D.state disk.old) (D.state disk.new) }
+    ensures goes { D.keeps_word disk.old → length core.old.header.items ≡ (D.state disk.old).sector
+        → Later (MayChange core.old.page_size (D.state disk.old).sector) (D.state disk.old) (D.state disk.new) }
     ensures keeps { KeepsCore core.old core.new }
     ensures put { D.keeps_word disk.old → (d : Database) → Suits core.old.page_size (D.state disk.old) → IsHeld core.old.page_size d
         → length d ≡ core.old.size → length core.old.header.items ≡ (D.state disk.old).sector → Rests core.old.page_size d (D.state disk.old)
         → PutAnswer core.old.page_size d (apply d (lent pages.now) size) result (D.state disk.old) (D.state disk.new) }
     ensures nonces { D.keeps_word disk.old → (d : Database) → Suits core.old.page_size (D.state disk.old) → IsHeld core.old.page_size d
         → length d ≡ core.old.size → length core.old.header.items ≡ (D.state disk.old).sector → Rests core.old.page_size d (D.state disk.old)
-        → OnOk result (LeavesNonces (sizes (D.state disk.old).sector core.old.page_size) (take (segments_of (recorded (lent pages.now) (length d) size)) nonces.now) (D.state disk.new)) }
+        → OnOk result (LeavesParts (sizes (D.state disk.old).sector core.old.page_size)
+        (parts_of d (pages_of core.old.changes.items) (take (segments_of (length (pages_of core.old.changes.items))) nonces.now)) (D.state disk.new)) }
 {
     let sector = disk.sector() as u32;
     put_segments(disk, core, pages, nonces, sector)?;
@@ -142,7 +146,7 @@ impl<D: Disk> Roll<D> {
         ensures kept { IfErr result (λ e. e ≢ RollError.Device → (self.new.disk ≡ self.old.disk) × KeepsCore self.old.core self.new.core) }
         ensures step { D.keeps_word self.old.disk → (past : State) → Fits D.state self.old past
             → Steps D.state self.old self.new past (Commits (lent pages.now) size nonces.now) (answered (λ _. Done) result) }
-        // where it is done, segment s of the journal has nonce s
+        // where it is done, segment s of the journal has nonce s, and the old contents of the next 64 pages
         ensures nonces { D.keeps_word self.old.disk → (past : State) → Fits D.state self.old past
             → TakesNonces past (lent pages.now) size nonces.now result (D.state self.old.disk) (D.state self.new.disk) }
     {

@@ -11,6 +11,7 @@ ghost use Rattle.crashdisk.specs.declared.file.File.TheVariants.{Db, Log};
 ghost use Rattle.sqval.specs.CommitFaults.{most_bytes};
 ghost use Rattle.rollcore.specs.Steps.{RecordAnswer, EntryAnswer, ArePages, CopyAnswer, ZeroSteps, EndAnswer};
 ghost use Rattle.crashdisk.specs.Keeps.{Still, KeepsLog, SyncStep, IsLogDown, Later};
+ghost use Rattle.rollcore.specs.Changes.{MayReplay};
 ghost use Rattle.rollcore.specs.Phases.{Writing};
 ghost use Rattle.rollcore.specs.Alone.{ShowsAlone};
 ghost use Rattle.rollcore.specs.Commits.{PutAnswer};
@@ -120,7 +121,7 @@ pub fn finish<D: Disk>(disk: &mut D) -> Result<(), RollError>
     ensures ends { D.keeps_word disk.old → IsSoundDisk (D.state disk.old) → EndAnswer result (D.state disk.old) (D.state disk.new) }
     ensures shows { D.keeps_word disk.old → (size : ℕ) (w : List ℕ) (d : Database) → Writing size w d (D.state disk.old) → ArePages size d (D.state disk.old).db
         → ShowsAlone size d (D.state disk.new) }
-    ensures goes { D.keeps_word disk.old → IsSoundDisk (D.state disk.old) → Later (D.state disk.old) (D.state disk.new) }
+    ensures goes { D.keeps_word disk.old → IsSoundDisk (D.state disk.old) → Later MayReplay (D.state disk.old) (D.state disk.new) }
     ensures lengths { D.keeps_word disk.old → IsSoundDisk (D.state disk.old) → IsSectorSize (D.state disk.old).sector
         → (w : List ℕ) → IsLogDown (D.state disk.old) w → IsHot w → ((D.state disk.old).tears ≡ true → (D.state disk.old).sector ≤ word w 20)
         → EndsBy (D.state disk.old).db.len (D.state disk.new) }

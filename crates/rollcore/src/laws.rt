@@ -1,5 +1,5 @@
 //! What holds of every run of the machine, and of what a disk shows.
-ghost use Rattle.std.specs.Prelude.{◌≡◌, ◌≤◌, ℕ, Bool, List, true, false, Result};
+ghost use Rattle.std.specs.Prelude.{◌≡◌, ◌<◌, ◌≤◌, ℕ, Bool, List, length, true, false, IsTrue, Result, Ok};
 ghost use Rattle.sqval.specs.Database.{Database};
 ghost use Rattle.sqval.specs.Answers.{Answer};
 ghost use Rattle.sqval.specs.PageSize.{IsPageSize};
@@ -7,13 +7,14 @@ ghost use Rattle.sqval.specs.Held.{IsJust, IsHeld};
 ghost use Rattle.crashdisk.specs.State.{IsSectorSize};
 ghost use Rattle.crashdisk.specs.Call.{DiskState, IsSoundDisk, IsNew, Syncs, Looks, IsCrash};
 ghost use Rattle.crashdisk.specs.declared.file.File.{File};
+ghost use Rattle.crashdisk.specs.declared.file.File.TheVariants.{Log};
 ghost use Rattle.crashdisk.specs.declared.error.DiskError.{DiskError};
 ghost use Rattle.crashdisk.specs.Keeps.{SameFiles};
 ghost use Rattle.rollcore.specs.Alone.{AreWhole, ShowsAlone};
 ghost use Rattle.rollcore.specs.Fits.{FitsDisk, FitsCore};
 ghost use Rattle.rollcore.specs.Laws.{IsSane, Keeps, IsExpected, is_opening};
 ghost use Rattle.sqval.specs.Runs.{Moment, Runs};
-ghost use Rattle.rollcore.specs.Machine.{State, Act, Reads, Step, start};
+ghost use Rattle.rollcore.specs.Machine.{State, Act, Reads, Step, at, last, start, closed};
 ghost use Rattle.rollcore.specs.declared.state.Core.{Core};
 
 /// A disk that is new with a base of pages that no sector that tears exceeds, and with an empty log, fits where the
@@ -42,8 +43,24 @@ pub fn a_look_fits()
     ensures { (past : State) (core : Core) (old new : DiskState) → SameFiles old new → FitsCore past core old → FitsCore past core new }
 {}
 
-/// What a disk shows alone stays shown: after a sync of either file, also one that is refused or fails; after a look; and
-/// after a crash, on a disk that tears one that puts no header of the journal together.
+/// What fits a disk fits it after a crash, as the machine is then: on a disk that tears, after one that puts no header of the
+/// journal together (own).
+pub fn a_crash_fits()
+    ensures { (past : State) (db log : List ℕ) (old new : DiskState) → IsCrash db log old new
+        → (old.tears ≡ true → AreWhole old.kept old.handed log) → FitsDisk past old → FitsDisk (closed past) new }
+{}
+
+/// What fits a disk shows, once the journal is synced, one database of the history alone, at the floor or later, and the
+/// newest where the machine is open: so what is said of interrupted recovery holds of each opening of a run.
+pub fn one_is_shown()
+    ensures { (past : State) (old mid : DiskState) → FitsDisk past old → Syncs {T = Unit {0}} Log (Ok tt) old mid
+        → (k : ℕ) × (past.floor ≤ k) × (k < length past.history) × (IsTrue past.is_open → k ≡ last past)
+        × ShowsAlone past.page_size (at past k) mid }
+{}
+
+/// What a disk shows alone stays shown: after a sync of either file, also one that is refused or fails; after a look; after
+/// calls that changed no byte, and whatever was set; and after a crash, on a disk that tears one that puts no header of the
+/// journal together.
 pub fn what_is_shown_stays()
     ensures sync { (size : ℕ) (d : Database) (f : File) (called : Result (Unit {0}) DiskError) (old new : DiskState) → IsSoundDisk old
         → ShowsAlone size d old → Syncs f called old new → ShowsAlone size d new }
@@ -51,6 +68,8 @@ pub fn what_is_shown_stays()
         → ShowsAlone size d old → Looks 0 called old new → ShowsAlone size d new }
     ensures read { (size : ℕ) (d : Database) (end : ℕ) (called : Result (Unit {0}) DiskError) (old new : DiskState) → IsSoundDisk old
         → ShowsAlone size d old → Looks end called old new → ShowsAlone size d new }
+    ensures same { (size : ℕ) (d : Database) (old new : DiskState) → IsSoundDisk old → ShowsAlone size d old → SameFiles old new
+        → ShowsAlone size d new }
     ensures crash { (size : ℕ) (d : Database) (db log : List ℕ) (old new : DiskState) → IsSoundDisk old
         → ShowsAlone size d old → IsCrash db log old new → (old.tears ≡ true → AreWhole old.kept old.handed log) → ShowsAlone size d new }
 {}

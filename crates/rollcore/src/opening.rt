@@ -8,6 +8,7 @@ ghost use Rattle.sqval.specs.Database.{Database};
 ghost use Rattle.sqval.specs.Held.{IsHeld};
 ghost use Rattle.rollcore.specs.Machine.{State};
 ghost use Rattle.crashdisk.specs.Keeps.{Suits, HadRefusal, IsLogDown, Still, SyncStep, TearsPages, Later};
+ghost use Rattle.rollcore.specs.Changes.{MayChange};
 ghost use Rattle.rollcore.specs.Plans.{IsPlan};
 ghost use Rattle.rollcore.specs.Replaying.{Agrees};
 ghost use Rattle.rollcore.specs.Steps.{torn_sector};
@@ -86,7 +87,8 @@ pub(crate) fn settle_log<D: Disk>(disk: &mut D) -> Result<(), RollError>
 /// Leaves no magic at the front of a log that isn't hot, so that no later write makes it hot.
 fn break_front<D: Disk>(disk: &mut D) -> Result<(), RollError>
     ensures word { D.keeps_word disk.old ↔ D.keeps_word disk.new }
-    ensures goes { D.keeps_word disk.old → IsSoundDisk (D.state disk.old) → Later (D.state disk.old) (D.state disk.new) }
+    ensures goes { D.keeps_word disk.old → IsSoundDisk (D.state disk.old) → (size sector : ℕ)
+        → Later (MayChange size sector) (D.state disk.old) (D.state disk.new) }
     ensures file { D.keeps_word disk.old → IsSoundDisk (D.state disk.old) → (D.state disk.new).db ≡ (D.state disk.old).db }
     ensures front { D.keeps_word disk.old → IsSoundDisk (D.state disk.old) → IsSectorSize (D.state disk.old).sector
         → (w : List ℕ) → IsLogDown (D.state disk.old) w → (IsHot w → ⊥) → FrontAnswer result (D.state disk.old) (D.state disk.new) }
@@ -106,7 +108,7 @@ fn recover_synced<D: Disk>(
     page_size: PageSize,
 ) -> Result<u32, RollError>
     ensures word { D.keeps_word disk.old ↔ D.keeps_word disk.new }
-    ensures goes { D.keeps_word disk.old → Later (D.state disk.old) (D.state disk.new) }
+    ensures goes { D.keeps_word disk.old → (size sector : ℕ) → Later (MayChange size sector) (D.state disk.old) (D.state disk.new) }
     ensures recovered { D.keeps_word disk.old → (w : List ℕ) (d : Database) → Suits page_size (D.state disk.old) → IsHeld page_size d
         → IsLogDown (D.state disk.old) w → ShowsOne page_size d (D.state disk.old) → RecoverAnswer page_size d result (D.state disk.old) (D.state disk.new) }
     ensures agrees { D.keeps_word disk.old → Agrees (D.state disk.old) (D.state disk.new) }

@@ -6,7 +6,7 @@ ghost use Rattle.sqval.specs.Answers.{Page};
 ghost use Rattle.rollcore.specs.Machine.{State, Reads};
 ghost use Rattle.rollcore.specs.Fits.{Fits, Steps, answered};
 ghost use Rattle.rollcore.specs.Paging.{ReadJudged, IsRefusedRead};
-ghost use Rattle.crashdisk.specs.Keeps.{PlaceAnswer};
+ghost use Rattle.crashdisk.specs.Keeps.{PlaceAnswer, LooksOnce};
 
 use crate::error::RollError;
 use crate::roll::Roll;
@@ -50,6 +50,7 @@ pub(crate) fn read_place<D: Disk>(
     ensures word { D.keeps_word disk.old ↔ D.keeps_word disk.new }
     ensures device { IfErr result (λ e. e ≡ RollError.Device) }
     ensures place { D.keeps_word disk.old → IsSoundDisk (D.state disk.old) → PlaceAnswer RollError.Device file at out.new result (D.state disk.old) (D.state disk.new) }
+    ensures looks { D.keeps_word disk.old → LooksOnce (D.state disk.old) (D.state disk.new) }
 {
     disk.read_at(file, at, out)?;
     Ok(())
@@ -66,6 +67,9 @@ impl<D: Disk> Roll<D> {
         ensures step { D.keeps_word self.old.disk → (past : State) → Fits D.state self.old past → length out.old ≡ past.page_size
             → Steps D.state self.old self.new past (Reads page) (answered (λ _. Page out.new) result) }
         ensures size { length out.old ≢ self.old.core.page_size → IsRefusedRead self.old.core page result × (self.new ≡ self.old) }
+        // whatever is answered
+        ensures core { self.new.core ≡ self.old.core }
+        ensures looks { D.keeps_word self.old.disk → LooksOnce (D.state self.old.disk) (D.state self.new.disk) }
     {
         judge_read(
             self.core.is_open,

@@ -8,6 +8,7 @@ ghost use Rattle.crashdisk.specs.Call.{IsSoundDisk};
 ghost use Rattle.rollcore.specs.Fits.{Rests};
 ghost use Rattle.rollcore.specs.Machine.{segments_of};
 ghost use Rattle.crashdisk.specs.Keeps.{Suits, Later};
+ghost use Rattle.rollcore.specs.Changes.{MayChange};
 ghost use Rattle.rollcore.specs.Commits.{KeepsCore, IsReady};
 ghost use Rattle.rollcore.specs.Segments.{pages_of, Parted, PartAnswer, SegmentsAnswer};
 
@@ -41,7 +42,8 @@ fn put_part<D: Disk>(
     requires sector { IsSector sector }
     ensures word { D.keeps_word disk.old ↔ D.keeps_word disk.new }
     ensures device { IfErr result (λ e. e ≡ RollError.Device) }
-    ensures goes { D.keeps_word disk.old → IsSoundDisk (D.state disk.old) → Later (D.state disk.old) (D.state disk.new) }
+    ensures goes { D.keeps_word disk.old → IsSoundDisk (D.state disk.old) → length core.old.header.items ≡ sector
+        → Later (MayChange core.old.page_size sector) (D.state disk.old) (D.state disk.new) }
     ensures near { IfOk result (λ next. next ≤ place + 2 ^ 23) }
     ensures keeps { KeepsCore core.old core.new }
     ensures changes { core.new.changes ≡ core.old.changes }
@@ -82,7 +84,8 @@ pub(crate) fn put_segments<D: Disk>(
     requires sector { IsSector sector }
     ensures word { D.keeps_word disk.old ↔ D.keeps_word disk.new }
     ensures device { IfErr result (λ e. e ≡ RollError.Device) }
-    ensures goes { D.keeps_word disk.old → IsSoundDisk (D.state disk.old) → Later (D.state disk.old) (D.state disk.new) }
+    ensures goes { D.keeps_word disk.old → IsSoundDisk (D.state disk.old) → length core.old.header.items ≡ sector
+        → Later (MayChange core.old.page_size sector) (D.state disk.old) (D.state disk.new) }
     ensures keeps { KeepsCore core.old core.new }
     ensures changes { core.new.changes ≡ core.old.changes }
     ensures segments { D.keeps_word disk.old → (n : ℕ) (d : Database) → IsReady pages.now n (length nonces.now) core.old

@@ -27,6 +27,7 @@ ghost use Rattle.rollcore.specs.Phases.{Scanning};
 ghost use Rattle.rollcore.specs.Steps.{torn_sector, RolledAnswer};
 ghost use Rattle.crashdisk.specs.Keeps.{Still, IsLogDown, Later};
 ghost use Rattle.rollcore.specs.Plans.{IsPlan, IsFit, ReadAnswer};
+ghost use Rattle.rollcore.specs.Changes.{MayReplay};
 ghost use Rattle.rollcore.specs.Replaying.{Replays, Agrees, SyncsFirst};
 ghost use Rattle.rollcore.specs.Lengths.{EndsBy, KeepsLength};
 ghost use Rattle.sqval.specs.Bytes.{word};
@@ -67,7 +68,7 @@ pub(crate) fn replay_plan<D: Disk>(disk: &mut D, plan: Plan) -> Result<Replayed,
     ensures shows { D.keeps_word disk.old → IsSoundDisk (D.state disk.old) → IsSectorSize (D.state disk.old).sector
         → (size : ℕ) (w : List ℕ) (d : Database) → Scanning size d w (D.state disk.old)
         → IsFit (torn_sector (D.state disk.old)) w → IsPlan w plan → ShowsAlone size d (D.state disk.new) }
-    ensures goes { D.keeps_word disk.old → IsSoundDisk (D.state disk.old) → Later (D.state disk.old) (D.state disk.new) }
+    ensures goes { D.keeps_word disk.old → IsSoundDisk (D.state disk.old) → Later MayReplay (D.state disk.old) (D.state disk.new) }
     ensures ends { D.keeps_word disk.old → IsSoundDisk (D.state disk.old) → IsSectorSize (D.state disk.old).sector
         → (w : List ℕ) → IsLogDown (D.state disk.old) w → IsFit (torn_sector (D.state disk.old)) w → IsPlan w plan → EndsBy (word w 16 * word w 24) (D.state disk.new) }
     ensures size { IfOk result (λ r. r.size ≡ plan.header.first_size) }
@@ -89,17 +90,17 @@ pub(crate) fn replay_plan<D: Disk>(disk: &mut D, plan: Plan) -> Result<Replayed,
 /// Replays the journal into the database, where it is hot: writes the pages of its records up to the first size in
 /// order, sets the database's length to the first size, and once that is down zeroes the journal's first header.
 ///
-/// Refused with `TooLarge` where the first size is above 1,073,741,824 bytes or the journal above 1,099,511,627,776,
-/// with `SectorAbovePage` where a disk that tears has larger sectors than the journal's pages or the sectors that it
-/// names, with `NoMemory`, and with `Device` where the disk refused a call. All but `Device` change no byte. After
-/// `Device` the replay is to be called again.
+/// Refused with, in this order, `TooLarge` where the first size is above 1,073,741,824 bytes or the journal above
+/// 1,099,511,627,776, and `SectorAbovePage` where a disk that tears has larger sectors than the journal's pages or the
+/// sectors that it names; with `NoMemory`; and with `Device` where the disk refused a call, either of which may stand in
+/// place of these two. All but `Device` change no byte. After `Device` the replay is to be called again.
 pub fn replay<D: Disk>(alloc: Global, disk: &mut D) -> Result<Replayed, RollError>
     ensures word { D.keeps_word disk.old ↔ D.keeps_word disk.new }
     ensures replays { D.keeps_word disk.old → Replays result (D.state disk.old) (D.state disk.new) }
     ensures agrees { D.keeps_word disk.old → Agrees (D.state disk.old) (D.state disk.new) }
     ensures lengths { D.keeps_word disk.old → KeepsLength (D.state disk.old) (D.state disk.new) }
     ensures synced { D.keeps_word disk.old → SyncsFirst result (D.state disk.old) (D.state disk.new) }
-    ensures later { D.keeps_word disk.old → IsSoundDisk (D.state disk.old) → Later (D.state disk.old) (D.state disk.new) }
+    ensures later { D.keeps_word disk.old → IsSoundDisk (D.state disk.old) → Later MayReplay (D.state disk.old) (D.state disk.new) }
 {
     disk.sync(File::Log)?;
     replay_synced(alloc, disk)
@@ -111,7 +112,7 @@ pub fn replay_synced<D: Disk>(alloc: Global, disk: &mut D) -> Result<Replayed, R
     ensures replays { D.keeps_word disk.old → Replays result (D.state disk.old) (D.state disk.new) }
     ensures agrees { D.keeps_word disk.old → Agrees (D.state disk.old) (D.state disk.new) }
     ensures lengths { D.keeps_word disk.old → KeepsLength (D.state disk.old) (D.state disk.new) }
-    ensures later { D.keeps_word disk.old → Later (D.state disk.old) (D.state disk.new) }
+    ensures later { D.keeps_word disk.old → Later MayReplay (D.state disk.old) (D.state disk.new) }
 {
     match find_plan(alloc, disk)? {
         Some(plan) => replay_plan(disk, plan),

@@ -1,4 +1,4 @@
--- The frames of a log, and its front (fileformat2, 4.1 and 4.4).
+-- The frames of a log, and its front (fileformat2, 4.1 and 4.5).
 use Rattle.std.specs.Prelude.{◌≡◌, ◌≢◌, ◌⊎◌, ℕ, zero, suc, ◌+◌, ◌-◌, ◌*◌, ◌≤◌, List, ◌++◌, length}
 use Rattle.sqval.specs.Bytes.{part, word}
 use Rattle.byteorder.specs.Endian.{big_bytes}

@@ -1,4 +1,4 @@
--- What a file and its log show (fileformat2, 4.4).
+-- What a file and its log show (fileformat2, 4.5).
 use Rattle.std.specs.Prelude.{◌≡◌, ◌≢◌, ℕ, ◌<◌, ◌≤◌, List, length}
 use Rattle.sqval.specs.Database.{Database, page, file_page, file_pages}
 use Rattle.sqwal.specs.Frames.{page_of, size_of, content_of}

@@ -1,4 +1,4 @@
-//! The scan of a log (fileformat2, 4.1 and 4.4; pieces and stops are own).
+//! The scan of a log (fileformat2, 4.1 and 4.5; pieces and stops are own).
 ghost use Rattle.std.specs.Prelude.{◌≡◌, ◌↔◌, IsTrue, ℕ, ◌+◌, ◌-◌, ◌<◌, ◌≤◌, List, [], ◌++◌, length, take, if◌then◌else◌, is_ok, OnErr, IfOk, IfErr, MatchResult};
 ghost use Rattle.sqval.specs.Bytes.{word};
 ghost use Rattle.sqval.specs.PageSize.{IsPageSize};

@@ -11,6 +11,7 @@ use Rattle.sqval.specs.CommitFaults.{first_true}
 use Rattle.walcore.specs.Fits.{AreFiles as AreWalFiles}
 use Rattle.rollcore.specs.Alone.{AreWhole}
 use Rattle.rollcore.specs.Machine.{State, Act, Opens, Commits, Reads, Crashes, Sets, Step, closed, newest, commit_refusal, read_refusal, refusal_of}
+use Rattle.rollcore.specs.Changes.{MayChange}
 use Rattle.rollcore.specs.Premises.{Permits}
 use Rattle.rollcore.specs.Refusal.{number_of}
 use Rattle.rollcore.specs.Fits.{FitsDisk, FitsCore, Fits, AreFiles, StepsTo, GivenUpTo}
@@ -31,7 +32,7 @@ use Rattle.sqworld.specs.declared.reply.Reply.{Reply}
 use Rattle.sqworld.specs.declared.reply.Reply.TheVariants.{Done as ReplyDone}
 use Rattle.sqworld.specs.declared.reply.Found.{Found}
 use Rattle.sqworld.specs.declared.reply.Crashed.{Crashed as CrashedLog}
-use Rattle.sqworld.proofs.JournalResting.{fits_crash}
+use Rattle.rollcore.proofs.Crashing.{fits_crash}
 use Rattle.rollcore.proofs.Viewing.{fits_disk_still, fits_still}
 use Rattle.sqworld.proofs.Serving.{and_is}
 use Rattle.sqworld.proofs.Setting.{same_model, stopped_after, stopped_at_sync, failing}
@@ -41,12 +42,13 @@ engine_disk : (past : State) (engine : JournalEngine) → FitsEngine past engine
 engine_disk past (Closed disk) fits = fits.disk
 engine_disk past (Open roll) fits = fits.disk
 
-only : (act : Act) (s t : DiskState) → HasCalls s t → OnlyCalls act s t
-only (Opens found) s t calls = calls
-only (Commits pages size nonces) s t calls = calls
-only (Reads page) s t calls = calls
-only (Crashes left) s t calls = tt
-only Sets s t calls = tt
+module _ (size sector : ℕ) where
+  only : (act : Act) (s t : DiskState) → HasCalls (MayChange size sector) s t → OnlyCalls size sector act s t
+  only (Opens found) s t calls = calls
+  only (Commits pages n nonces) s t calls = calls
+  only (Reads page) s t calls = calls
+  only (Crashes left) s t calls = tt
+  only Sets s t calls = tt
 
 -- a call's step is an event's
 pub stepped : (page_size : ℕ) (old new : Roll ModelDisk) (act : Act) (told answer : Answer) → told ≡ answer
@@ -59,7 +61,7 @@ stepped page_size old new act told answer same h past size fits may = let steps 
   fits = steps.fits;
   sector = steps.same.sector;
   tears = steps.same.tears;
-  calls = only act (state_of old.disk) (state_of new.disk) steps.same.calls;
+  calls = only past.page_size (state_of old.disk).sector act (state_of old.disk) (state_of new.disk) steps.same.calls;
 }
 
 -- ---- Openings.
@@ -111,9 +113,9 @@ crash_row : (s : State) (choice : Choice) (crashed : Option CrashedLog) (n m : �
 crash_row s choice (Some crashed) n m = refl
 crash_row s choice None n m = refl
 
-crash_only : (choice : Choice) (crashed : Option CrashedLog) (s t : DiskState) → OnlyCalls (act_of (Crash choice) None crashed) s t
-crash_only choice (Some crashed) s t = tt
-crash_only choice None s t = tt
+crash_only : (size sector : ℕ) (choice : Choice) (crashed : Option CrashedLog) (s t : DiskState) → OnlyCalls size sector (act_of (Crash choice) None crashed) s t
+crash_only size sector choice (Some crashed) s t = tt
+crash_only size sector choice None s t = tt
 
 pub crash_answers : (page_size : ℕ) (tears : Bool) (choice : Choice) (old : JournalEngine) (disk : ModelDisk) (crashed : Option CrashedLog) (s : DiskState) → s ≡ disk_of old → IsLeftBy tears choice crashed s (state_of disk) → disk.stops ≡ no_stops
     → Answers page_size tears (Crash choice) old (record { reply = ReplyDone; found = None; crashed = crashed }) (Closed disk)
@@ -136,7 +138,7 @@ crash_answers page_size tears choice old disk crashed s same left cleared = reco
         };
         sector = c.sector;
         tears = c.tears;
-        calls = crash_only choice crashed s (state_of disk);
+        calls = crash_only past.page_size s.sector choice crashed s (state_of disk);
       });
 }
 
@@ -164,14 +166,14 @@ closed_files (StopAfter calls) old new set calm = stopped_after old new calls se
 closed_files (StopAtSync syncs) old new set calm = stopped_at_sync old new syncs set
 closed_files (Fail call part) old new set calm = failing old new call part set
 
-closed_only : (event : JEvent) (old new : ModelDisk) → IsCalm event old new → OnlyCalls (act_of event None None) (state_of old) (state_of new)
-closed_only Opening old new calm = tt
-closed_only (Crash choice) old new calm = tt
-closed_only (Commit pages size nonces) old new calm = ([], ap state_of calm)
-closed_only (Read page) old new calm = ([], ap state_of calm)
-closed_only (StopAfter calls) old new calm = tt
-closed_only (StopAtSync syncs) old new calm = tt
-closed_only (Fail call part) old new calm = tt
+closed_only : (size sector : ℕ) (event : JEvent) (old new : ModelDisk) → IsCalm event old new → OnlyCalls size sector (act_of event None None) (state_of old) (state_of new)
+closed_only size sector Opening old new calm = tt
+closed_only size sector (Crash choice) old new calm = tt
+closed_only size sector (Commit pages n nonces) old new calm = record { states = []; each = ap state_of calm }
+closed_only size sector (Read page) old new calm = record { states = []; each = ap state_of calm }
+closed_only size sector (StopAfter calls) old new calm = tt
+closed_only size sector (StopAtSync syncs) old new calm = tt
+closed_only size sector (Fail call part) old new calm = tt
 
 pub closed_serves : {E : Type 0} (r : Result Reply E) (page_size : ℕ) (event : JEvent) (old new : ModelDisk) → IfOk r (λ reply. answer_of reply ≡ closed_answer event) → OnOk r (IsSetTo event old new) → OnOk r (IsCalm event old new)
     → IfOk r (λ reply. is_opening event ≡ false → is_crash event ≡ false → EngineServes page_size (Closed old) (Closed new) (act_of event None None) (answer_of reply))
@@ -185,7 +187,7 @@ closed_serves (Ok reply) page_size event old new told set calm = λ o k past siz
       fits = record { disk = fits_disk_still past (state_of old) (state_of new) files fits.disk; is_closed = fits.is_closed };
       sector = files.sector;
       tears = files.tears;
-      calls = closed_only event old new calm;
+      calls = closed_only past.page_size (state_of old).sector event old new calm;
     })
 
 -- ---- Calls of an engine.

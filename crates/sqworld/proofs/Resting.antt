@@ -1,56 +1,15 @@
--- What fits a disk after a crash, and where a run begins.
-use Rattle.std.proofs.Common.{◌≡◌, ℕ, zero, suc, ◌+◌, ◌-◌, ◌*◌, ◌<◌, ◌≤◌, Bool, true, List, ◌∷◌, ◌++◌, length, get_or, Option, refl, sym, ◌∙◌, ap, subst, arith, length-append, []}
+-- What fits a disk where a run begins.
+use Rattle.std.proofs.Common.{◌≡◌, ℕ, zero, suc, ◌+◌, ◌-◌, ◌*◌, ◌<◌, ◌≤◌, Bool, List, ◌∷◌, ◌++◌, length, get_or, refl, sym, ◌∙◌, ap, arith, length-append, []}
 use Rattle.std.specs.List.{concat}
 use Rattle.sqval.specs.PageSize.{IsPageSize}
 use Rattle.sqval.specs.Database.{Database, page}
-use Rattle.crashdisk.specs.State.{IsSectorSize}
-use Rattle.crashdisk.specs.Call.{DiskState, IsCrash, IsNew}
-use Rattle.crashdisk.proofs.Keeping.{sound_crash}
+use Rattle.crashdisk.specs.Call.{DiskState, IsNew}
 use Rattle.crashdisk.proofs.Solid.{size_is}
-use Rattle.walcore.specs.Alone.{AreWhole}
 use Rattle.sqval.specs.Held.{IsJust, IsHeld}
-use Rattle.crashdisk.specs.Keeps.{Suits}
-use Rattle.walcore.specs.Machine.{gone, forgotten}
-use Rattle.walcore.specs.Fits.{Past, FitsAlone, beginning, none_open}
-use Rattle.walcore.specs.declared.reader.Reader.{Reader}
+use Rattle.walcore.specs.Fits.{FitsAlone, beginning}
 use Rattle.walcore.proofs.Based.{base_fits}
-use Rattle.walcore.proofs.Narrowing.{narrows_crash, left_narrows}
 use Rattle.sqval.proofs.FilePages.{page_by_bytes}
 use Rattle.sqworld.specs.Pages.{IsBase}
-
--- ---- A crash.
-
-suits_crash : (size : ℕ) (db log : List ℕ) (s t : DiskState) → IsCrash db log s t → Suits size s → Suits size t
-suits_crash size db log s t crashed suits = record {
-  sound = sound_crash db log s t suits.sound crashed;
-  sectors = subst (λ n. IsSectorSize n) (sym crashed.sector) suits.sectors;
-  pages = suits.pages;
-  whole = λ tears. suits.whole (sym crashed.tears ∙ tears.0, subst (λ n. size < n) crashed.sector tears.1);
-}
-
-all_there : (tokens : List (Option Reader)) → length (none_open tokens) ≡ length tokens
-all_there [] = refl
-all_there (x ∷ tokens) = ap suc (all_there tokens)
-
-all_forgotten : (readers : List (Option ℕ)) → length (forgotten readers) ≡ length readers
-all_forgotten [] = refl
-all_forgotten (x ∷ readers) = ap suc (all_forgotten readers)
-
-pub fits_crash : (past : Past) (db log : List ℕ) (s t : DiskState) → IsCrash db log s t → (s.tears ≡ true → AreWhole s.kept s.handed log) → FitsAlone past s
-    → FitsAlone (record { state = gone past.state; made = past.made; tokens = none_open past.tokens }) t
-fits_crash past db log s t crashed whole fits = record {
-  disk = record {
-    suits = suits_crash past.state.page_size db log s t crashed fits.disk.suits;
-    floor = fits.disk.floor;
-    held = fits.disk.held;
-    made = fits.disk.made;
-    left = left_narrows s t (narrows_crash db log s t crashed whole) past.state.page_size past.made.logs past.state.history past.state.floor fits.disk.left;
-    present = λ is. absurd (cc is);
-  };
-  count = all_there past.tokens ∙ (fits.count ∙ sym (all_forgotten past.state.readers));
-}
-
--- ---- The beginning.
 
 long_pages : (size : ℕ) (d : Database) → ((i : ℕ) → i < length d → length (get_or d i []) ≡ size) → length (concat d) ≡ length d * size
 long_pages size [] each = omega arith

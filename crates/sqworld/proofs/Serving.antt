@@ -1,7 +1,7 @@
 -- An event, with an engine and without one.
 use Rattle.std.proofs.Common.{◌≡◌, ℕ, zero, suc, ◌+◌, Bool, true, false, ◌&&◌, List, [], ◌∷◌, ◌++◌, length, replicate, get_or, Option, Some, None, is_some, Result, Ok, Err, IfOk, OnOk, cond, not, Vec, Global, refl, sym, ◌∙◌, ap, subst, arith}
 use Rattle.std.proofs.lemmas.List.{length-replicate, append-nil}
-use Rattle.crashdisk.specs.Call.{DiskState, HasCalls}
+use Rattle.crashdisk.specs.Call.{DiskState, Change, HasCalls}
 use Rattle.crashdisk.specs.Model.{state_of}
 use Rattle.crashdisk.specs.Stop.{no_stops}
 use Rattle.crashdisk.specs.declared.file.File.TheVariants.{Db, Log}
@@ -35,7 +35,7 @@ use Rattle.sqworld.specs.declared.reply.Found.{Found}
 use Rattle.sqworld.specs.declared.reply.Crashed.{Crashed as CrashedLog}
 use Rattle.sqworld.specs.declared.session.Session.{Session}
 use Rattle.walcore.proofs.Fitting.{same_core, fits_disk_still, fits_same}
-use Rattle.sqworld.proofs.Resting.{fits_crash}
+use Rattle.walcore.proofs.Crashing.{fits_crash}
 use Rattle.sqworld.proofs.Setting.{same_model, stopped_after, stopped_at_sync, failing}
 
 -- ---- Tokens.
@@ -159,20 +159,20 @@ not_opening : (event : Event) → is_crash event ≡ true → false ≡ is_openi
 not_opening (OpenEvent salts) is = absurd (cc is)
 not_opening event is = refl
 
-crash_only : (event : Event) (crashed : Option CrashedLog) (s t : DiskState) → is_crash event ≡ true → OnlyCalls (act_of event None crashed) s t
-crash_only (Crash choice) (Some crashed) s t is = tt
-crash_only (Crash choice) None s t is = tt
-crash_only (OpenEvent salts) crashed s t is = absurd (cc is)
-crash_only (Commit pages size) crashed s t is = absurd (cc is)
-crash_only Sync crashed s t is = absurd (cc is)
-crash_only Checkpoint crashed s t is = absurd (cc is)
-crash_only (Restart salt2) crashed s t is = absurd (cc is)
-crash_only Begin crashed s t is = absurd (cc is)
-crash_only (Read reader page) crashed s t is = absurd (cc is)
-crash_only (End reader) crashed s t is = absurd (cc is)
-crash_only (StopAfter calls) crashed s t is = absurd (cc is)
-crash_only (StopAtSync syncs) crashed s t is = absurd (cc is)
-crash_only (Fail call part) crashed s t is = absurd (cc is)
+crash_only : (size : ℕ) (logs : List (List ℕ)) (event : Event) (crashed : Option CrashedLog) (s t : DiskState) → is_crash event ≡ true → OnlyCalls size logs (act_of event None crashed) s t
+crash_only size logs (Crash choice) (Some crashed) s t is = tt
+crash_only size logs (Crash choice) None s t is = tt
+crash_only size logs (OpenEvent salts) crashed s t is = absurd (cc is)
+crash_only size logs (Commit pages n) crashed s t is = absurd (cc is)
+crash_only size logs Sync crashed s t is = absurd (cc is)
+crash_only size logs Checkpoint crashed s t is = absurd (cc is)
+crash_only size logs (Restart salt2) crashed s t is = absurd (cc is)
+crash_only size logs Begin crashed s t is = absurd (cc is)
+crash_only size logs (Read reader page) crashed s t is = absurd (cc is)
+crash_only size logs (End reader) crashed s t is = absurd (cc is)
+crash_only size logs (StopAfter calls) crashed s t is = absurd (cc is)
+crash_only size logs (StopAtSync syncs) crashed s t is = absurd (cc is)
+crash_only size logs (Fail call part) crashed s t is = absurd (cc is)
 
 pub crash_answers : (page_size : ℕ) (tears : Bool) (event : Event) (choice : Choice) (old : Engine) (disk : ModelDisk) (begun : ℕ) (crashed : Option CrashedLog) (s : DiskState) → event ≡ Crash choice → s ≡ disk_of old → begun ≡ begun_of old
     → IsLeftBy tears choice crashed s (state_of disk) → disk.stops ≡ no_stops
@@ -199,7 +199,7 @@ crash_answers page_size tears event choice old disk begun crashed s named same c
         };
         sector = c.sector;
         tears = c.tears;
-        calls = crash_only event crashed s (state_of disk) is;
+        calls = crash_only past.state.page_size past.made.logs event crashed s (state_of disk) is;
       });
 }
 
@@ -250,22 +250,22 @@ closed_files (StopAfter calls) old new set calm = stopped_after old new calls se
 closed_files (StopAtSync syncs) old new set calm = stopped_at_sync old new syncs set
 closed_files (Fail call part) old new set calm = failing old new call part set
 
-uncalled : (old new : ModelDisk) → new ≡ old → HasCalls (state_of old) (state_of new)
-uncalled old new same = ([], ap state_of same)
+uncalled : {May : Change → Type 0} (old new : ModelDisk) → new ≡ old → HasCalls May (state_of old) (state_of new)
+uncalled old new same = record { states = []; each = ap state_of same }
 
-closed_only : (event : Event) (old new : ModelDisk) → IsCalm event old new → OnlyCalls (act_of event None None) (state_of old) (state_of new)
-closed_only (OpenEvent salts) old new calm = tt
-closed_only (Crash choice) old new calm = tt
-closed_only (Commit pages s) old new calm = uncalled old new calm
-closed_only Sync old new calm = uncalled old new calm
-closed_only Checkpoint old new calm = uncalled old new calm
-closed_only (Restart salt2) old new calm = uncalled old new calm
-closed_only Begin old new calm = uncalled old new calm
-closed_only (Read reader page) old new calm = uncalled old new calm
-closed_only (End reader) old new calm = uncalled old new calm
-closed_only (StopAfter calls) old new calm = tt
-closed_only (StopAtSync syncs) old new calm = tt
-closed_only (Fail call part) old new calm = tt
+closed_only : (size : ℕ) (logs : List (List ℕ)) (event : Event) (old new : ModelDisk) → IsCalm event old new → OnlyCalls size logs (act_of event None None) (state_of old) (state_of new)
+closed_only size logs (OpenEvent salts) old new calm = tt
+closed_only size logs (Crash choice) old new calm = tt
+closed_only size logs (Commit pages s) old new calm = uncalled old new calm
+closed_only size logs Sync old new calm = uncalled old new calm
+closed_only size logs Checkpoint old new calm = uncalled old new calm
+closed_only size logs (Restart salt2) old new calm = uncalled old new calm
+closed_only size logs Begin old new calm = uncalled old new calm
+closed_only size logs (Read reader page) old new calm = uncalled old new calm
+closed_only size logs (End reader) old new calm = uncalled old new calm
+closed_only size logs (StopAfter calls) old new calm = tt
+closed_only size logs (StopAtSync syncs) old new calm = tt
+closed_only size logs (Fail call part) old new calm = tt
 
 pub closed_serves : {E : Type 0} (r : Result Reply E) (page_size : ℕ) (event : Event) (old new : ModelDisk) (begun : ℕ) → IfOk r (λ reply. answer_of reply ≡ closed_answer event) → OnOk r (IsSetTo event old new) → OnOk r (IsCalm event old new)
     → IfOk r (λ reply. is_opening event ≡ false → is_crash event ≡ false → EngineServes page_size (Closed old begun) (Closed new begun) (act_of event None None) (answer_of reply))
@@ -285,7 +285,7 @@ closed_serves (Ok reply) page_size event old new begun told set calm = λ o k pa
       };
       sector = files.sector;
       tears = files.tears;
-      calls = closed_only event old new calm;
+      calls = closed_only past.state.page_size past.made.logs event old new calm;
     })
 
 -- ---- Calls of an engine.

@@ -7,6 +7,7 @@ use Rattle.crashdisk.specs.Model.{state_of}
 use Rattle.crashdisk.proofs.Called.{no_calls}
 use Rattle.sqval.specs.Answers.{Answer, Done, NoReader, Reader as ReaderAnswer}
 use Rattle.walcore.specs.Machine.{Act, Opens, Commits, Syncs, Begins, Reads, Ends, Checkpoints, Restarts, Crashes, Sets, reader_at, Step, ReadStep, EndStep}
+use Rattle.walcore.specs.Changes.{MayChange}
 use Rattle.walcore.specs.Making.{Makes, Permits}
 use Rattle.walcore.specs.declared.wal.Wal.{Wal}
 use Rattle.crashdisk.specs.declared.model.ModelDisk.{ModelDisk}
@@ -18,17 +19,18 @@ use Rattle.sqworld.specs.declared.reply.Reply.TheVariants.{Reader as ReplyReader
 use Rattle.sqworld.specs.Sessions.{tokens_by, tokens_of, FitsSession, OnlyCalls, ServesTo, SessionServes}
 use Rattle.sqworld.specs.declared.session.Session.{Session}
 
-only : (act : Act) (s t : DiskState) → HasCalls s t → OnlyCalls act s t
-only (Opens salts found) s t calls = calls
-only (Commits pages size) s t calls = calls
-only Syncs s t calls = calls
-only Begins s t calls = calls
-only (Reads reader page) s t calls = calls
-only (Ends reader) s t calls = calls
-only Checkpoints s t calls = calls
-only (Restarts salt2) s t calls = calls
-only (Crashes left) s t calls = tt
-only Sets s t calls = tt
+module _ (size : ℕ) (logs : List (List ℕ)) where
+  only : (act : Act) (s t : DiskState) → HasCalls (MayChange size logs) s t → OnlyCalls size logs act s t
+  only (Opens salts found) s t calls = calls
+  only (Commits pages n) s t calls = calls
+  only Syncs s t calls = calls
+  only Begins s t calls = calls
+  only (Reads reader page) s t calls = calls
+  only (Ends reader) s t calls = calls
+  only Checkpoints s t calls = calls
+  only (Restarts salt2) s t calls = calls
+  only (Crashes left) s t calls = tt
+  only Sets s t calls = tt
 
 -- a call's step is an event's
 pub stepped : (past : Past) (old new : Session) (tokens : List (Option Reader)) (act : Act) (told answer : Answer) → told ≡ answer → tokens ≡ tokens_of new
@@ -42,7 +44,7 @@ stepped past old new tokens act told answer same are steps = record {
   fits = record { core = steps.fits; tokens = are };
   sector = steps.same.sector;
   tears = steps.same.tears;
-  calls = only act (state_of old.wal.disk) (state_of new.wal.disk) steps.same.calls;
+  calls = only past.state.page_size steps.made.logs act (state_of old.wal.disk) (state_of new.wal.disk) steps.same.calls;
 }
 
 -- of one that leaves the readers alone

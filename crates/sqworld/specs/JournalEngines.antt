@@ -6,6 +6,7 @@ use Rattle.crashdisk.specs.Stop.{no_stops}
 use Rattle.crashdisk.specs.declared.model.ModelDisk.{ModelDisk}
 use Rattle.sqval.specs.Answers.{Answer, Done, Refused}
 use Rattle.rollcore.specs.Machine.{State, Act, Crashes, Sets, Step}
+use Rattle.rollcore.specs.Changes.{MayChange}
 use Rattle.rollcore.specs.Premises.{Permits}
 use Rattle.rollcore.specs.Fits.{FitsDisk, Fits, AreFiles}
 use Rattle.rollcore.specs.declared.roll.Roll.{Roll}
@@ -38,11 +39,12 @@ abbrev pub Happens : (tears : Bool) → JEvent → Option CrashedLog → (old ne
 Happens tears (Crash choice) left old new = IsLeftBy tears choice left (state_of old) (state_of new) × (new.stops ≡ no_stops)
 Happens tears event left old new = IsSetTo event old new
 
--- Nothing is done to the disk but calls of it, unless the event sets a stop or a failure, or is a crash.
-abbrev pub OnlyCalls : Act → (old new : DiskState) → Type 0
-OnlyCalls Sets old new = Unit {0}
-OnlyCalls (Crashes left) old new = Unit {0}
-OnlyCalls act old new = HasCalls old new
+-- Nothing is done to the disk but calls of it, which ask for no other changes than an engine may, with pages of this size
+-- and on these sectors; unless the event sets a stop or a failure, or is a crash.
+abbrev pub OnlyCalls : (size sector : ℕ) → Act → (old new : DiskState) → Type 0
+OnlyCalls size sector Sets old new = Unit {0}
+OnlyCalls size sector (Crashes left) old new = Unit {0}
+OnlyCalls size sector act old new = HasCalls (MayChange size sector) old new
 
 -- The machine goes on by a row of its table, what is handed along fits again, and the disk's sectors are the same.
 pub record ServesTo (past : State) (act : Act) (answer : Answer) (FitsNext : State → Type 0) (old new : DiskState) : Type 0 where
@@ -52,7 +54,7 @@ pub record ServesTo (past : State) (act : Act) (answer : Answer) (FitsNext : Sta
   pub fits : FitsNext next
   pub sector : new.sector ≡ old.sector
   pub tears : new.tears ≡ old.tears
-  pub calls : OnlyCalls act old new
+  pub calls : OnlyCalls past.page_size old.sector act old new
 
 -- one event, for whatever fits
 abbrev pub Serves : (page_size : ℕ) (FitsOld FitsNext : State → Type 0) (old new : DiskState) → Act → Answer → Type 0

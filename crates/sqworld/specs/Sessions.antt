@@ -4,6 +4,7 @@ use Rattle.crashdisk.specs.Call.{DiskState, HasCalls}
 use Rattle.crashdisk.specs.Model.{state_of}
 use Rattle.sqval.specs.Answers.{Answer}
 use Rattle.walcore.specs.Machine.{Act, Crashes, Sets, Step}
+use Rattle.walcore.specs.Changes.{MayChange}
 use Rattle.walcore.specs.Making.{Makes, Permits}
 use Rattle.walcore.specs.Fits.{Past, FitsCore}
 use Rattle.walcore.specs.declared.reader.Reader.{Reader}
@@ -25,11 +26,12 @@ pub record FitsSession (past : Past) (session : Session) : Type 0 where
   pub core : FitsCore past session.wal.core (state_of session.wal.disk)
   pub tokens : past.tokens ≡ tokens_of session
 
--- Nothing is done to the disk but calls of it, unless the event sets a stop or a failure, or is a crash.
-abbrev pub OnlyCalls : Act → (old new : DiskState) → Type 0
-OnlyCalls Sets old new = Unit {0}
-OnlyCalls (Crashes left) old new = Unit {0}
-OnlyCalls act old new = HasCalls old new
+-- Nothing is done to the disk but calls of it, which ask for no other changes than an engine may, with pages of this size
+-- and with these logs made; unless the event sets a stop or a failure, or is a crash.
+abbrev pub OnlyCalls : (size : ℕ) (logs : List (List ℕ)) → Act → (old new : DiskState) → Type 0
+OnlyCalls size logs Sets old new = Unit {0}
+OnlyCalls size logs (Crashes left) old new = Unit {0}
+OnlyCalls size logs act old new = HasCalls (MayChange size logs) old new
 
 -- The machine goes on by a row of its table, what is handed along fits again, and the disk's sectors are the same.
 pub record ServesTo (past : Past) (act : Act) (answer : Answer) (FitsNext : Past → Type 0) (old new : DiskState) : Type 0 where
@@ -40,7 +42,7 @@ pub record ServesTo (past : Past) (act : Act) (answer : Answer) (FitsNext : Past
   pub fits : FitsNext next
   pub sector : new.sector ≡ old.sector
   pub tears : new.tears ≡ old.tears
-  pub calls : OnlyCalls act old new
+  pub calls : OnlyCalls past.state.page_size next.made.logs act old new
 
 -- One event, for whatever fits.
 abbrev pub Serves : (page_size : ℕ) (FitsOld FitsNext : Past → Type 0) (old new : DiskState) → Act → Answer → Type 0

@@ -16,21 +16,21 @@ use Rattle.crashdisk.proofs.Images.{table}
 use Rattle.crashdisk.proofs.Steps.{image_elsewhere, present_list}
 use Rattle.walcore.specs.Alone.{Show, ShowsAlone}
 use Rattle.walcore.specs.Folding.{IsEmptyDown, FoldAnswer, Folds, Agrees}
-use Rattle.crashdisk.specs.Keeps.{IsLogDown, Still}
+use Rattle.crashdisk.specs.Keeps.{IsLogDown, Still, SameFiles}
 use Rattle.walcore.specs.Standing.{MayBeRead}
 use Rattle.walcore.specs.Opening.{HeaderSteps}
 use Rattle.walcore.specs.declared.folding.Folded.{Folded}
 use Rattle.walcore.specs.declared.error.WalError.{WalError}
 use Rattle.walcore.proofs.Down.{down_left}
 use Rattle.crashdisk.proofs.Down.{present_image, down_syncs, synced_down}
-use Rattle.crashdisk.proofs.Later.{later_sync, later_write}
+use Rattle.crashdisk.proofs.Keeping.{sound_writes, sound_syncs}
 use Rattle.walcore.proofs.Fitting.{may_still}
 use Rattle.walcore.proofs.Lengths.{down_still}
 use Rattle.walcore.proofs.Narrowing.{narrows_looks, narrows_syncs}
 use Rattle.walcore.proofs.Recovered.{none_front}
 use Rattle.walcore.proofs.Restarting.{greatest_changed}
 use Rattle.walcore.proofs.Standing.{read_cases}
-use Rattle.crashdisk.proofs.Stills.{image_still, present_in, still_sound, same_files}
+use Rattle.crashdisk.proofs.Stills.{image_same, present_in, same_sound, same_files}
 
 module _ (size : ℕ) (d : Database) where
   -- all that may be read shows it
@@ -44,8 +44,11 @@ module _ (size : ℕ) (d : Database) where
   read_alone : (s : DiskState) → ShowsAlone size d s → (db w : List ℕ) → IsImage s.sector s.tears s.db db → MayBeRead s w → Show size db w d
   read_alone s alone db w image may = ⊎_elim (λ listed. alone.listed db w image listed) (λ left. alone.images db w image left) may
 
+  pub alone_same : (s t : DiskState) → IsSoundDisk s → SameFiles s t → ShowsAlone size d s → ShowsAlone size d t
+  alone_same s t sound same alone = alone_read t (same_sound s t sound same) (λ db w image may. read_alone s alone db w (image_same s t same db image) (may_still s t same w may))
+
   pub alone_still : (s t : DiskState) → IsSoundDisk s → Still s t → ShowsAlone size d s → ShowsAlone size d t
-  alone_still s t sound still alone = alone_read t (still_sound s t sound still) (λ db w image may. read_alone s alone db w (image_still s t still db image) (may_still s t (same_files s t still) w may))
+  alone_still s t sound still alone = alone_same s t sound (same_files s t still) alone
 
   pub alone_looks : {T : Type 0} (end : ℕ) (r : Result T DiskError) (s t : DiskState) → Looks end r s t → ShowsAlone size d s → ShowsAlone size d t
   alone_looks end r s t looked alone =
@@ -59,7 +62,7 @@ module _ (size : ℕ) (d : Database) where
   pub alone_syncs : {T : Type 0} (f : File) (r : Result T DiskError) (s t : DiskState) → IsSoundDisk s → Syncs f r s t → ShowsAlone size d s → ShowsAlone size d t
   alone_syncs f r s t sound synced alone =
       let narrows = narrows_syncs f r s t sound synced in
-      alone_read t (later_sync f r s t sound synced).sound (λ db v image may. read_alone s alone db v (narrows.file db image) (narrows.log v may))
+      alone_read t (sound_syncs f r s t sound synced) (λ db v image may. read_alone s alone db v (narrows.file db image) (narrows.log v may))
 
   -- a log of no more than a header shows nothing of its own
   short_front : (w : List ℕ) → length w ≤ 32 → IsFront (named_size w) w 0
@@ -89,10 +92,10 @@ module _ (size : ℕ) (d : Database) where
     -- the header is written, or not
     pub header_alone : (r : Result T WalError) (t : DiskState) → HeaderSteps f r s t → ShowsAlone size d t
     header_alone r t steps = ⊎_elim
-        (λ failed. alone_read t (later_write Log 0 f failed.0 s t sound failed.3).sound (written_read failed.0 t failed.3))
+        (λ failed. alone_read t (sound_writes Log 0 f failed.0 s t sound failed.3) (written_read failed.0 t failed.3))
         (λ done.
-        let mid = later_write Log 0 f (Ok done.1.0) s done.0 sound done.1.1 in
-        alone_syncs Log done.2.0 done.0 t mid.sound done.2.2 (alone_read done.0 mid.sound (written_read (Ok done.1.0) done.0 done.1.1)))
+        let on = sound_writes Log 0 f (Ok done.1.0) s done.0 sound done.1.1 in
+        alone_syncs Log done.2.0 done.0 t on done.2.2 (alone_read done.0 on (written_read (Ok done.1.0) done.0 done.1.1)))
         steps
 
 -- ---- an opening

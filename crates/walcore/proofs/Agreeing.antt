@@ -73,7 +73,6 @@ module _ (size : ℕ) (d : Database) (w : List ℕ) where
 
   -- the header is zeroed, or not
   pub zeroed_shows : {T : Type 0} (result : Result T WalError) (old new : DiskState) → Filed size d w old → ZeroSteps result old new → ShowsAlone size d new
-  unfolding ZeroSteps
   zeroed_shows result old new is steps = ⊎_elim
       (λ failed. zeroing_shows size d w new (zeroing_writes size d w (replicate 32 0) old new is (length-replicate {A = ℕ} 32 0) zero_at failed.0 failed.3))
       (λ done. let mid = zeroing_writes size d w (replicate 32 0) old done.0 is (length-replicate {A = ℕ} 32 0) zero_at (Ok done.1.0) done.1.1 in
@@ -90,7 +89,6 @@ module _ (size : ℕ) (d : Database) (w : List ℕ) where
 
   -- and then it is
   pub zeroed_down : {T : Type 0} (u : T) (old new : DiskState) → Filed size d w old → ZeroSteps {T = T} (Ok u) old new → Emptying size d new
-  unfolding ZeroSteps
   zeroed_down u old new is steps = ⊎_elim
       (λ failed. absurd (none_told u failed.0 failed.1 failed.2))
       (λ done.
@@ -100,7 +98,6 @@ module _ (size : ℕ) (d : Database) (w : List ℕ) where
 
   -- the log is cut, or not
   pub cut_shows : {T : Type 0} (result : Result T WalError) (old new : DiskState) → Emptying size d old → CutSteps result old new → ShowsAlone size d new
-  unfolding CutSteps
   cut_shows result old new is steps = ⊎_elim
       (λ failed. emptying_shows size d new (emptying_cuts size d 0 failed.0 old new is failed.3))
       (λ done. emptying_shows size d new (emptying_syncs size d Log done.2.0 done.0 new (emptying_cuts size d 0 (Ok done.1.0) old done.0 is done.1.1) done.2.2))

@@ -5,7 +5,8 @@ use Rattle.std.proofs.lemmas.Bool.{cases_eq}
 use Rattle.std.proofs.lemmas.List.{length-take-le}
 use Rattle.std.proofs.lemmas.Bool.Decides.{nat_tests}
 use Rattle.sqval.specs.Database.{Database}
-use Rattle.crashdisk.specs.Call.{DiskState}
+use Rattle.crashdisk.specs.Call.{DiskState, InFile}
+use Rattle.crashdisk.specs.declared.file.File.TheVariants.{Db}
 use Rattle.sqval.specs.Answers.{Files, Done, Refused, Refuses, HasCause}
 use Rattle.walcore.specs.Machine.{State, at, last, newest, reader_at, call_refusal, all_newest, closed, synced, checkpointed, Syncs, Checkpoints, CheckpointStep}
 use Rattle.sqval.specs.CommitFaults.{first_true}
@@ -15,6 +16,7 @@ use Rattle.sqval.specs.Held.{IsJust}
 use Rattle.walcore.specs.Made.{NoChance}
 use Rattle.sqwal.specs.Frames.{frame_end}
 use Rattle.walcore.specs.Era.{shown}
+use Rattle.walcore.specs.Changes.{MayChange}
 use Rattle.walcore.specs.Standing.{ShowsWhole, Stands, IsPresent}
 use Rattle.crashdisk.specs.Keeps.{KeepsLog, IsSameDisk}
 use Rattle.walcore.specs.Bringing.{answer_of, IsOldest, LeavesJust, IsLeast, BroughtTo, Brings, BroughtDown, ClosedBy}
@@ -28,7 +30,8 @@ use Rattle.crashdisk.proofs.Down.{present_image}
 use Rattle.walcore.proofs.Present.{present_by}
 use Rattle.walcore.proofs.Standing.{stands_shows, present_last}
 use Rattle.crashdisk.proofs.Stills.{still, same_files}
-use Rattle.crashdisk.proofs.Called.{calls_then}
+use Rattle.crashdisk.proofs.Called.{calls_then, calls_wider}
+use Rattle.walcore.proofs.Changes.{file_may}
 use Rattle.walcore.proofs.Fitting.{SameCore, core_same}
 use Rattle.walcore.proofs.Joining.{open_refusal}
 use Rattle.walcore.proofs.Repeating.{behind_same}
@@ -270,11 +273,11 @@ module _ (past : Past) (a : Core) (s : DiskState) (fits : FitsCore past a s) whe
     oldest_between i oldest = record { least = oldest.least; is = oldest.is }
 
     module _ (b f : Core) (t : DiskState) where
-      same_then : IsSameDisk g t → IsSameDisk s t
+      same_then : IsSameDisk (InFile Db) g t → IsSameDisk (MayChange past.state.page_size done.made.logs) s t
       same_then then_same = record {
         sector = then_same.sector ∙ done.same.sector;
         tears = then_same.tears ∙ done.same.tears;
-        calls = calls_then s g t done.same.calls then_same.calls;
+        calls = calls_then s g t done.same.calls (calls_wider (file_may past.state.page_size done.made.logs) g t then_same.calls);
       }
 
       step_by : (q : Result Checkpointed WalError) → BroughtDown between q m b g t → ClosedBy q b f → StepsTo past past.tokens Checkpoints (answered answer_of q) f s t

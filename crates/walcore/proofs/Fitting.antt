@@ -22,6 +22,7 @@ use Rattle.walcore.specs.Fits.{Past, IsLeft, FitsDisk, IsIndexed, IsBound, AreTo
 use Rattle.walcore.specs.declared.state.Core.{Core}
 use Rattle.crashdisk.proofs.Stills.{same_files, image_same, present_in}
 use Rattle.crashdisk.proofs.Suiting.{suits_same}
+use Rattle.walcore.proofs.Changes.{nothing_may}
 use Rattle.walcore.proofs.Logging.{holds_elsewhere}
 use Rattle.walcore.proofs.Present.{present_by}
 use Rattle.walcore.proofs.Stepping.{stands_by}
@@ -142,4 +143,4 @@ module _ (a b : Core) (s t : DiskState) (same : SameCore a b) (still : Still s t
       → Step past.state act answer s.refused t.refused past.state
       → Makes past.state.page_size s.sector s.tears past.made act answer past.made
       → StepsTo past past.tokens act answer b s t
-  stays past act answer marks fits step makes = record { next = past.state; made = past.made; same = record { sector = still.sector; tears = still.tears; calls = still.calls }; refused = still.refused; row = step; makes = makes; fits = fits_same a b s t same (same_files s t still) past marks fits }
+  stays past act answer marks fits step makes = record { next = past.state; made = past.made; same = record { sector = still.sector; tears = still.tears; calls = nothing_may s t still.calls }; refused = still.refused; row = step; makes = makes; fits = fits_same a b s t same (same_files s t still) past marks fits }

@@ -1,12 +1,12 @@
 -- The frames of a commit are written one after another, and the log goes on by them.
-use Rattle.std.proofs.Common.{◌≡◌, ◌≢◌, ⊎_elim, ℕ, suc, ◌+◌, ◌-◌, ◌*◌, ◌<◌, ◌≤◌, List, ◌∷◌, ◌++◌, length, drop, get_or, refl, sym, ◌∙◌, ap, subst, arith, length-append, length-drop, []}
+use Rattle.std.proofs.Common.{◌≡◌, ◌≢◌, inr, ⊎_elim, ℕ, suc, ◌+◌, ◌-◌, ◌*◌, ◌<◌, ◌≤◌, List, ◌∷◌, ◌++◌, length, drop, get_or, refl, sym, ◌∙◌, ap, subst, arith, length-append, length-drop, []}
 use Rattle.std.specs.Prelude.{Result, Ok, Err, IsOk}
 use Rattle.std.proofs.Math.Nat.{mul-le-mul_left}
 use Rattle.std.proofs.lemmas.Bool.{cases_eq}
 use Rattle.std.proofs.lemmas.List.{get_or_append_left, length-take-le}
 use Rattle.std.proofs.Math.Seq.{get_or-append_right}
 use Rattle.crashdisk.specs.State.{longest}
-use Rattle.crashdisk.specs.Call.{DiskState, IsSoundDisk, Writes}
+use Rattle.crashdisk.specs.Call.{DiskState, IsSoundDisk, Writes, write}
 use Rattle.crashdisk.specs.declared.file.File.TheVariants.{Log}
 use Rattle.crashdisk.specs.declared.error.DiskError.{DiskError}
 use Rattle.sqval.specs.Bytes.{part, AreBytes}
@@ -19,8 +19,9 @@ use Rattle.sqwal.specs.Refusal.{most_frames}
 use Rattle.sqwal.specs.declared.sum.Sum.{Sum}
 use Rattle.sqwal.specs.declared.header.WalHeader.{WalHeader}
 use Rattle.sqwal.specs.Index.{FrameTable}
-use Rattle.sqwal.proofs.Same.{frame_end-le}
+use Rattle.sqwal.proofs.Same.{frame_end-le, frame_at-suc, frame_end-suc}
 use Rattle.crashdisk.specs.Keeps.{HadRefusal, Told}
+use Rattle.walcore.specs.Changes.{IsPiece, MayChange}
 use Rattle.walcore.specs.Standing.{IsBehind, Stands, IsPresent}
 use Rattle.walcore.specs.Fits.{IsIndexed}
 use Rattle.walcore.specs.Going.{HasFrame, FrameStep, KnowsLog}
@@ -28,6 +29,7 @@ use Rattle.walcore.specs.declared.state.Core.{Core}
 use Rattle.walcore.specs.declared.error.WalError.{WalError}
 use Rattle.walcore.specs.declared.error.WalError.TheVariants.{Device}
 use Rattle.crashdisk.proofs.Stills.{had_refusal}
+use Rattle.walcore.proofs.Makings.{made_here}
 use Rattle.walcore.proofs.NextFrame.{next_frame}
 use Rattle.walcore.proofs.Present.{present_writes}
 use Rattle.walcore.proofs.Stepping.{stands_writes}
@@ -107,6 +109,21 @@ module _ {T : Type 0} (f : List ℕ) (m n : ℕ) (old new : Core) (s t : DiskSta
 
   fits : frame_end old.page_size (suc n) ≤ length f
   fits = omega (arith, reaches.log.whole, frame_end-le old.page_size (suc n) m lt)
+
+  -- a whole frame of the log is asked for, at its place
+  frame_piece : IsPiece old.page_size f (frame_end old.page_size old.frames) (step.head ++ content)
+  frame_piece =
+      let a : ℕ = frame_end old.page_size n in
+      let b : ℕ = frame_end old.page_size (suc n) in
+      let long : length (part f a (b - a)) ≡ b - a = length-take-le (b - a) (drop a f) (omega (arith, length-drop a f, fits)) in
+      let whole : length (step.head ++ content) ≡ b - a = ap (λ (x : List ℕ). length x) made.0 ∙ long in
+      let place : frame_end old.page_size old.frames ≡ a = ap (λ (k : ℕ). frame_end old.page_size k) reaches.knows.frames in (
+        made.0 ∙ ap (λ (k : ℕ). part f a k) (sym whole) ∙ ap (λ (k : ℕ). part f k (length (step.head ++ content))) (sym place),
+        inr (suc n, omega arith, place ∙ sym (frame_at-suc old.page_size n), omega (arith, whole, frame_end-suc old.page_size n)),
+      )
+
+  pub frame_may : (logs : List (List ℕ)) → MayChange old.page_size (f ∷ logs) (write Log (frame_end old.page_size old.frames) (step.head ++ content))
+  frame_may logs = inr (f, made_here f logs, frame_piece)
 
   pub frame_known : (v : T) → result ≡ Ok v → KeepsLog old new → page ≤ old.index.bound → KnowsLog f (suc n) new t
   frame_known v is keeps within =

@@ -12,6 +12,7 @@ use Rattle.crashdisk.proofs.Stills.{same_files}
 use Rattle.walcore.specs.Fits.{Past, FitsDisk, IsBound, AreTogether, IsCore, FitsCore, StepsTo, times}
 use Rattle.walcore.specs.declared.state.Core.{Core}
 use Rattle.walcore.specs.declared.reader.Reader.{Reader}
+use Rattle.walcore.proofs.Changes.{nothing_may}
 use Rattle.walcore.proofs.Fitting.{SameCore, fits_disk_still, core_same, stays}
 use Rattle.walcore.proofs.Readers.{at_slot, bound_at, together_map, together_push, together_set, emptied, mark_pushed}
 use Rattle.sqval.proofs.Answering.{refuses_first}
@@ -93,7 +94,7 @@ module _ (a b : Core) (s t : DiskState) (past : Past) (fits : FitsCore past a s)
       let tokens : List (Option Reader) = past.tokens ++ Some r ∷ [] in record {
         next = begun past.state;
         made = past.made;
-        same = record { sector = still.sector; tears = still.tears; calls = still.calls };
+        same = record { sector = still.sector; tears = still.tears; calls = nothing_may s t still.calls };
         refused = still.refused;
         row = (open_refusal past.state (sym fits.is_open ∙ is), refl, refl);
         makes = refl;
@@ -130,7 +131,7 @@ module _ (a b : Core) (s t : DiskState) (past : Past) (fits : FitsCore past a s)
       let bound = bound_at (λ i x. Unit {0}) (reader_at past.state number) (get_or past.tokens number None) r slot.1 (fits.together number) in record {
         next = ended past.state number;
         made = past.made;
-        same = record { sector = still.sector; tears = still.tears; calls = still.calls };
+        same = record { sector = still.sector; tears = still.tears; calls = nothing_may s t still.calls };
         refused = still.refused;
         row = subst (λ (p : Option ℕ). EndStep p past.state number Done (ended past.state number)) (sym bound.1) refl;
         makes = refl;

@@ -23,6 +23,7 @@ use Rattle.walcore.specs.Syncing.{IsRepeated, KnowsLast}
 use Rattle.walcore.specs.declared.state.Core.{Core}
 use Rattle.walcore.specs.declared.error.WalError.{WalError}
 use Rattle.crashdisk.proofs.Stills.{still_sound, refusal_after}
+use Rattle.walcore.proofs.Changes.{nothing_may}
 use Rattle.walcore.proofs.Committing.{content_whole}
 use Rattle.walcore.proofs.NextFrame.{take_bytes, drop_bytes}
 use Rattle.walcore.proofs.MadeMore.{IsFrame, extended_exists}
@@ -31,7 +32,7 @@ use Rattle.walcore.proofs.Present.{present_by}
 use Rattle.walcore.proofs.Checkpointing.{stands_still}
 use Rattle.walcore.proofs.Repeating.{behind_same}
 use Rattle.walcore.proofs.Fulfilling.{knows_more}
-use Rattle.walcore.proofs.Going.{IsFrameAt, KeepsLog, Reaches, frame_place, frame_known, frame_refused, frame_stands}
+use Rattle.walcore.proofs.Going.{IsFrameAt, KeepsLog, Reaches, frame_place, frame_may, frame_known, frame_refused, frame_stands}
 use Rattle.walcore.proofs.Pacing.{size_most}
 use Rattle.walcore.specs.declared.error.WalError.TheVariants.{Device}
 
@@ -86,7 +87,7 @@ module _ (e f : List ℕ) (old : Core) (s : DiskState) (last : KnowsLast e f old
       sound = still_sound s t sound still;
       sector = still.sector;
       tears = still.tears;
-      calls = still.calls;
+      calls = nothing_may s t still.calls;
       stands = λ logs h index mark d c stands behind. stands_still old.page_size logs f (old.frames + 1) h index mark d c s stands t still;
     }
 
@@ -120,7 +121,8 @@ module _ (e f : List ℕ) (old : Core) (s : DiskState) (last : KnowsLast e f old
             sound = sound_writes Log _ _ step.called t u on step.wrote;
             sector = step.wrote.elsewhere.sector ∙ still.sector;
             tears = step.wrote.elsewhere.tears ∙ still.tears;
-            calls = calls_then s t u still.calls (one_write Log _ _ step.called t u step.wrote);
+            calls = calls_then s t u (nothing_may s t still.calls) (one_write Log _ _ step.called t u
+                (frame_may f (old.frames + 1) old.frames old new t u reaches (omega arith) on old.last_page old.size content (here content is) old.headed result step []) step.wrote);
             stands = λ logs h index mark d c stands behind.
                 frame_stands f (old.frames + 1) old.frames old new t u reaches (omega arith) on old.last_page old.size content (here content is) old.headed result step logs h index mark d c
                 (stands_still old.page_size logs f (old.frames + 1) h index mark d c s stands t still)

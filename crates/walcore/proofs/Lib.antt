@@ -15,6 +15,7 @@ pub mod Ending
 pub mod Recovering
 pub mod Lengths
 pub mod Makings
+pub mod Changes
 pub mod Known
 pub mod Fronting
 pub mod Standing
@@ -34,6 +35,7 @@ pub mod Bringing
 pub mod Draining
 pub mod Turning
 pub mod Narrowing
+pub mod Crashing
 pub mod Restarting
 pub mod Checkpointing
 pub mod Repeating

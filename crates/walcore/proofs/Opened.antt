@@ -22,6 +22,7 @@ use Rattle.sqval.specs.Held.{IsJust, IsHeld}
 use Rattle.crashdisk.specs.Keeps.{HadRefusal, Later, Suits}
 use Rattle.walcore.specs.Machine.{opened, gone, forgotten}
 use Rattle.walcore.specs.Made.{AreMade, HasNewSalts, IsBegun}
+use Rattle.walcore.specs.Changes.{MayFold, MayChange}
 use Rattle.walcore.specs.Standing.{ShowsWhole, ShowsHistory, HasMadeHeader, Stands, IsPresent}
 use Rattle.walcore.specs.Fits.{Past, IsLeft, FitsDisk, FitsAlone, has_mark, none_open, OpenedTo, GivenUpTo}
 use Rattle.walcore.specs.Opening.{IsNewLog, IsNewCore, HeaderSteps, MayRefuse, IsRecovered, RecoverAnswer}
@@ -30,7 +31,9 @@ use Rattle.walcore.specs.declared.reader.Reader.{Reader}
 use Rattle.walcore.specs.declared.state.Core.{Core}
 use Rattle.walcore.specs.declared.error.WalError.{WalError}
 use Rattle.walcore.specs.declared.error.WalError.TheVariants.{NoMemory, Device}
-use Rattle.crashdisk.proofs.Later.{told_err, told_ok, none_ok, later_sync, later_write, later_then, later_same}
+use Rattle.crashdisk.proofs.Later.{told_err, told_ok, none_ok, later_sync, later_write, later_then, later_same, later_wider}
+use Rattle.crashdisk.proofs.Keeping.{sound_writes}
+use Rattle.walcore.proofs.Changes.{fold_may, header_may}
 use Rattle.walcore.proofs.Fresh.{at_last, HasNoReader, fresh_core}
 use Rattle.walcore.proofs.Makings.{made_begun}
 use Rattle.walcore.proofs.Narrowing.{narrows_syncs, history_narrows, headers_narrow, left_grown}
@@ -46,11 +49,11 @@ same_error x y r a b = cc (a, b)
 -- ---- the steps of a header
 
 module _ {T : Type 0} (f : List ℕ) (alone : length f ≡ 32) (r : Result T WalError) (s t : DiskState) (sound : IsSoundDisk s) (steps : HeaderSteps f r s t) where
-  pub header_later : Later s t
-  header_later = ⊎_elim
-      (λ failed. later_write Log 0 f failed.0 s t sound failed.3)
+  pub header_later : (size : ℕ) (logs : List (List ℕ)) → Later (MayChange size (f ∷ logs)) s t
+  header_later size logs = ⊎_elim
+      (λ failed. later_write Log 0 f failed.0 s t (header_may size logs f alone) sound failed.3)
       (λ done.
-      let mid = later_write Log 0 f (Ok done.1.0) s done.0 sound done.1.1 in
+      let mid : Later (MayChange size (f ∷ logs)) s done.0 = later_write Log 0 f (Ok done.1.0) s done.0 (header_may size logs f alone) sound done.1.1 in
       later_then s done.0 t mid (later_sync Log done.2.0 done.0 t mid.sound done.2.2))
       steps
 
@@ -60,7 +63,7 @@ module _ {T : Type 0} (f : List ℕ) (alone : length f ≡ 32) (r : Result T Wal
       let was = told_err Device failed.0 r e is failed.2 in
       (was.0, had_refusal failed.0 was.1.0 (0 + length f) s t sound.refused was.1.1 failed.3.within (omega (arith, alone)) failed.3.elsewhere.refused))
       (λ done.
-      let mid = later_write Log 0 f (Ok done.1.0) s done.0 sound done.1.1 in
+      let mid : Later (MayChange 0 (f ∷ [])) s done.0 = later_write Log 0 f (Ok done.1.0) s done.0 (header_may 0 [] f alone) sound done.1.1 in
       let was = told_err Device done.2.0 r e is done.2.1 in
       (was.0, refusal_after s done.0 t mid.refused (had_refusal done.2.0 was.1.0 0 done.0 t mid.sound.refused was.1.1 done.2.2.within (omega arith) done.2.2.elsewhere.refused)))
       steps
@@ -137,7 +140,7 @@ module _ (past : Past) (found : Files) (salts : ℕ × ℕ) (s : DiskState) (alo
   counts : length (none_open past.tokens) ≡ length (forgotten past.state.readers)
   counts = length_map None past.tokens ∙ alone.count ∙ sym (length_map None past.state.readers)
 
-  pub given_up : (e : WalError) (t : DiskState) → MayRefuse e s t → Later s t → IsLeft past.state.page_size (f ∷ past.made.logs) past.state.history past.state.floor t → GivenUpTo past salts found e s t
+  pub given_up : (e : WalError) (t : DiskState) → MayRefuse e s t → Later (MayChange past.state.page_size (f ∷ past.made.logs)) s t → IsLeft past.state.page_size (f ∷ past.made.logs) past.state.history past.state.floor t → GivenUpTo past salts found e s t
   given_up e t may later left = record {
     next = gone past.state;
     made = record { logs = f ∷ past.made.logs; unsynced = false };
@@ -162,7 +165,7 @@ module _ (past : Past) (found : Files) (salts : ℕ × ℕ) (s : DiskState) (alo
   pub unrecovered : (e : WalError) (r : Result ℕ WalError) (t : DiskState) → r ≡ Err e → RecoverAnswer past found r s t → GivenUpTo past salts found e s t
   unrecovered e r t is answer =
       let x = subst (λ (y : Result ℕ WalError). RecoverAnswer past found y s t) is answer in
-      given_up e t x.1 x.0 (left_grown past.state.page_size past.made.logs f past.state.history past.state.floor t begun.alone x.2)
+      given_up e t x.1 (later_wider s t (fold_may past.state.page_size (f ∷ past.made.logs)) x.0) (left_grown past.state.page_size past.made.logs f past.state.history past.state.floor t begun.alone x.2)
 
   -- no memory was there at the start
   pub without_memory : (e : WalError) → e ≡ NoMemory → GivenUpTo past salts found e s s
@@ -171,7 +174,7 @@ module _ (past : Past) (found : Files) (salts : ℕ × ℕ) (s : DiskState) (alo
 
   -- after the recovery
   module _ (n : ℕ) (r : Result ℕ WalError) (a : DiskState) (was : r ≡ Ok n) (answer : RecoverAnswer past found r s a) where
-    given : Later s a × IsRecovered past found n a
+    given : Later MayFold s a × IsRecovered past found n a
     given = subst (λ (y : Result ℕ WalError). RecoverAnswer past found y s a) was answer
 
     is : IsRecovered past found n a
@@ -201,20 +204,24 @@ module _ (past : Past) (found : Files) (salts : ℕ × ℕ) (s : DiskState) (alo
     header_left q t steps = ⊎_elim
         (λ failed. left_cut t (begins failed.0 t failed.3))
         (λ done.
-        let mid = later_write Log 0 f (Ok done.1.0) a done.0 suits.sound done.1.1 in
+        let on = sound_writes Log 0 f (Ok done.1.0) a done.0 suits.sound done.1.1 in
         let both = begins (Ok done.1.0) done.0 done.1.1 in
-        let narrows = narrows_syncs Log done.2.0 done.0 t mid.sound done.2.2 in
+        let narrows = narrows_syncs Log done.2.0 done.0 t on done.2.2 in
         left_cut t (
           history_narrows done.0 t narrows past.state.page_size (f ∷ past.made.logs) (take (is.place + 1) past.state.history) past.state.floor both.0,
           headers_narrow done.0 t narrows (f ∷ past.made.logs) both.1,
         ))
         steps
 
+    later_header : {T : Type 0} (q : Result T WalError) (t : DiskState) → HeaderSteps f q a t → Later (MayChange past.state.page_size (f ∷ past.made.logs)) s t
+    later_header q t steps = later_then s a t (later_wider s a (fold_may past.state.page_size (f ∷ past.made.logs)) given.0)
+        (header_later f begun.alone q a t suits.sound steps past.state.page_size past.made.logs)
+
     -- the header was refused
     pub unbegun : {T : Type 0} (e : WalError) (q : Result T WalError) (t : DiskState) → q ≡ Err e → HeaderSteps f q a t → GivenUpTo past salts found e s t
     unbegun e q t refused steps = given_up e t
         (may_after e s a t given.0.refused (inr (header_refused f begun.alone q a t suits.sound steps e refused)))
-        (later_then s a t given.0 (header_later f begun.alone q a t suits.sound steps))
+        (later_header q t steps)
         (header_left q t steps)
 
     -- it is down
@@ -222,8 +229,8 @@ module _ (past : Past) (found : Files) (salts : ℕ × ℕ) (s : DiskState) (alo
       done : HeaderDone f begun.alone q a t suits.sound steps T
       done = header_done f begun.alone q a t suits.sound steps v ok
 
-      all : Later s t
-      all = later_then s a t given.0 (header_later f begun.alone q a t suits.sound steps)
+      all : Later (MayChange past.state.page_size (f ∷ past.made.logs)) s t
+      all = later_header q t steps
 
       stands : Stands past.state.page_size (f ∷ past.made.logs) f 0 (take (is.place + 1) past.state.history) (at_last (take (is.place + 1) past.state.history)) 0 0 0 t
       stands = begin_stands past.state.page_size past.made.logs (take (is.place + 1) past.state.history) a done.mid t suits fits.made some (cut_held past.state.history is.place is.within past.state.page_size fits.held) file

@@ -1,9 +1,9 @@
 -- The frames of a commit, one after another.
-use Rattle.std.proofs.Common.{◌≡◌, ℕ, suc, ◌+◌, ◌^◌, ◌<◌, ◌≤◌, cond, List, length, get_or, refl, sym, ◌∙◌, ap, subst, arith, Bor, []}
+use Rattle.std.proofs.Common.{◌≡◌, ℕ, suc, ◌+◌, ◌^◌, ◌<◌, ◌≤◌, cond, List, ◌∷◌, ◌++◌, length, get_or, refl, sym, ◌∙◌, ap, subst, arith, Bor, []}
 use Rattle.std.specs.Prelude.{◌==◌, Result, Ok, Err}
 use Rattle.std.proofs.Math.Pow.{pow_mono}
 use Rattle.std.proofs.lemmas.List.{get_or-map}
-use Rattle.crashdisk.specs.Call.{DiskState, IsSoundDisk}
+use Rattle.crashdisk.specs.Call.{DiskState, IsSoundDisk, write}
 use Rattle.crashdisk.proofs.Keeping.{sound_writes}
 use Rattle.crashdisk.specs.declared.file.File.TheVariants.{Log}
 use Rattle.crashdisk.proofs.Steps.{counted_grows}
@@ -14,6 +14,7 @@ use Rattle.sqwal.specs.Refusal.{most_frames}
 use Rattle.sqwal.proofs.Same.{frame_end-le}
 use Rattle.walcore.specs.Made.{IsExtended}
 use Rattle.sqval.specs.JudgedPages.{lent}
+use Rattle.walcore.specs.Changes.{MayChange}
 use Rattle.walcore.specs.Standing.{IsBehind, Stands}
 use Rattle.walcore.specs.Going.{KeepsCore, FrameStep, KnowsLog, Going, FramesAnswer}
 use Rattle.walcore.specs.declared.state.Core.{Core}
@@ -23,7 +24,7 @@ use Rattle.crashdisk.proofs.Pages.{sector_some}
 use Rattle.crashdisk.proofs.Called.{no_calls, one_write, calls_then}
 use Rattle.crashdisk.proofs.Stills.{refusal_after}
 use Rattle.walcore.proofs.Repeating.{behind_same, behind_later}
-use Rattle.walcore.proofs.Going.{IsFrameAt, Reaches, frame_known, frame_refused, frame_stands}
+use Rattle.walcore.proofs.Going.{IsFrameAt, Reaches, frame_may, frame_known, frame_refused, frame_stands}
 
 pub size_most : (size : ℕ) → IsPageSize size → size ≤ 65536
 size_most size is = let m : 2 ^ is.0 ≤ 2 ^ 16 = pow_mono is.2 in omega (arith, is.3)
@@ -65,7 +66,9 @@ module _ (start core next : Core) (s t u : DiskState) (pages : List (ℕ × Bor 
       sound = sound_writes Log _ _ step.called t u going.sound step.wrote;
       sector = step.wrote.elsewhere.sector ∙ going.sector;
       tears = step.wrote.elsewhere.tears ∙ going.tears;
-      calls = calls_then s t u going.calls (one_write Log _ _ step.called t u step.wrote);
+      calls = calls_then s t u going.calls (one_write Log (frame_end core.page_size core.frames) (step.head ++ content) step.called t u
+          (subst (λ (z : ℕ). MayChange z (f ∷ []) (write Log (frame_end core.page_size core.frames) (step.head ++ content))) keeps.page_size
+          (frame_may f (n + length (lent pages)) (n + k) core next t u reaches (omega (arith, within)) going.sound page size content at headed result step [])) step.wrote);
       stands = λ logs h index mark d c stands behind.
           let was = going.stands logs h index mark d c stands behind in
           let a : ℕ = frame_end start.page_size n in

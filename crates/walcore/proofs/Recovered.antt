@@ -21,6 +21,7 @@ use Rattle.sqval.specs.Answers.{Files}
 use Rattle.walcore.specs.Machine.{at}
 use Rattle.walcore.specs.Made.{AreMade, NoChance}
 use Rattle.walcore.specs.Fits.{Past, AreFiles, IsLeft, FitsDisk}
+use Rattle.walcore.specs.Changes.{MayFold}
 use Rattle.walcore.specs.Opening.{CountAnswer, FileFault, FileJudged, MayRefuse, RecoverAnswer}
 use Rattle.walcore.specs.declared.folding.Folded.{Folded}
 use Rattle.walcore.specs.declared.error.WalError.{WalError}
@@ -102,7 +103,7 @@ no_bytes (x ∷ xs) n a b = absurd (omega (arith, a, b))
 
 -- The found files stand there, with nothing of the log unsynced.
 pub record IsReady (past : Past) (found : Files) (s a : DiskState) : Type 0 where
-  pub later : Later s a
+  pub later : Later MayFold s a
   pub is : IsFound past found.log a
   pub down : IsLogDown a found.log
   pub db : ArePresent a.db found.db
@@ -145,7 +146,7 @@ module _ (past : Past) (found : Files) (s : DiskState) (fits : FitsDisk past s) 
 
   -- when all is ready
   module _ (a : DiskState) (ready : IsReady past found s a) where
-    first : Later s a
+    first : Later MayFold s a
     first = ready.later
 
     is : IsFound past found.log a
@@ -196,7 +197,7 @@ module _ (past : Past) (found : Files) (s : DiskState) (fits : FitsDisk past s) 
         no_fault _ long x = x
 
     -- then a fold
-    module _ (size : ℕ) (same : past.state.page_size ≡ size) (b : DiskState) (then : Later a b) (agreed : Agrees size a b) (lasted : KeepsLength size a b) where
+    module _ (size : ℕ) (same : past.state.page_size ≡ size) (b : DiskState) (then : Later MayFold a b) (agreed : Agrees size a b) (lasted : KeepsLength size a b) where
       agrees : Agrees past.state.page_size a b
       agrees = subst (λ (n : ℕ). Agrees n a b) (sym same) agreed
 
@@ -231,10 +232,10 @@ module _ (past : Past) (found : Files) (s : DiskState) (fits : FitsDisk past s) 
         just : (db : List ℕ) → IsImage b.sector b.tears b.db db → IsJust past.state.page_size (at past.state is.place) db
         just = just_alone past.state.page_size (at past.state is.place) b empty alone ends
 
-        last : Later b c
+        last : Later MayFold b c
         last = later_still b c then.sound still
 
-        all : Later s c
+        all : Later MayFold s c
         all = later_then s a c first (later_then a b c then last)
 
         db_long : b.db.len ≡ length (at past.state is.place) * past.state.page_size

@@ -21,6 +21,7 @@ use Rattle.walcore.specs.Machine.{newest, reader_at, restart_refusal, closed, re
 use Rattle.walcore.specs.Made.{HasNewSalts, IsBegun}
 use Rattle.walcore.specs.Making.{has_begun, RestartsAnew, MadeByRestart}
 use Rattle.walcore.specs.Era.{shown}
+use Rattle.walcore.specs.Changes.{MayChange}
 use Rattle.walcore.specs.Standing.{ShowsHistory, HasMadeHeader, Stands}
 use Rattle.walcore.specs.Fits.{Past, AreTogether, IsCore, FitsCore, StepsTo, times, has_mark, answered}
 use Rattle.walcore.specs.Opening.{IsNewLog, IsNewCore, HeaderSteps}
@@ -30,7 +31,7 @@ use Rattle.walcore.specs.declared.reader.Reader.{Reader}
 use Rattle.walcore.specs.declared.state.Core.{Core}
 use Rattle.walcore.specs.declared.error.WalError.{WalError}
 use Rattle.walcore.specs.declared.error.WalError.TheVariants.{Closed, NotDrained, ReadersOpen}
-use Rattle.crashdisk.proofs.Later.{later_write}
+use Rattle.crashdisk.proofs.Keeping.{sound_writes}
 use Rattle.walcore.proofs.Fitting.{same_core, stays}
 use Rattle.walcore.proofs.Fresh.{HasNoReader, fresh_core}
 use Rattle.sqval.proofs.Answering.{refuses_first}
@@ -201,16 +202,16 @@ module _ (past : Past) (core : Core) (s : DiskState) (fits : FitsCore past core 
           (subst (λ (k : ℕ). HasNewSalts (e ∷ is.newest_log.0) ((k + 1) % 2 ^ 32) salt2) (sym is.header.salt1)
           (subst (λ (ls : List (List ℕ)). RestartsAnew ls salt2) is.newest_log.1 permits))
 
-      later : Later s t
-      later = header_later l.bytes begun.alone r s t fits.disk.suits.sound steps
+      later : Later (MayChange past.state.page_size (l.bytes ∷ past.made.logs)) s t
+      later = header_later l.bytes begun.alone r s t fits.disk.suits.sound steps past.state.page_size past.made.logs
 
       left : ShowsHistory past.state.page_size (l.bytes ∷ past.made.logs) past.state.history past.state.floor t × HasMadeHeader (l.bytes ∷ past.made.logs) t
       left = ⊎_elim
           (λ failed. restart_shows past.state.page_size past.made.logs e core.frames past.state.history index core.mark d c s t stands newest_down drained ((core.header.sequence + 1) % 2 ^ 32) ((core.header.salt1 + 1) % 2 ^ 32) salt2 l.bytes begun new failed.0 failed.3 past.state.floor low)
           (λ done.
-          let mid = later_write Log 0 l.bytes (Ok done.1.0) s done.0 fits.disk.suits.sound done.1.1 in
+          let on = sound_writes Log 0 l.bytes (Ok done.1.0) s done.0 fits.disk.suits.sound done.1.1 in
           let both = restart_shows past.state.page_size past.made.logs e core.frames past.state.history index core.mark d c s done.0 stands newest_down drained ((core.header.sequence + 1) % 2 ^ 32) ((core.header.salt1 + 1) % 2 ^ 32) salt2 l.bytes begun new (Ok done.1.0) done.1.1 past.state.floor low in
-          let narrows = narrows_syncs Log done.2.0 done.0 t mid.sound done.2.2 in (
+          let narrows = narrows_syncs Log done.2.0 done.0 t on done.2.2 in (
             history_narrows done.0 t narrows past.state.page_size (l.bytes ∷ past.made.logs) past.state.history past.state.floor both.0,
             headers_narrow done.0 t narrows (l.bytes ∷ past.made.logs) both.1,
           ))

@@ -18,6 +18,7 @@ use Rattle.walcore.specs.Made.{NoChance}
 use Rattle.walcore.specs.Making.{Made, MadeByCopy, MadeBySync}
 use Rattle.sqval.specs.Held.{IsJust}
 use Rattle.crashdisk.specs.Keeps.{HadRefusal, SyncStep, IsSameDisk}
+use Rattle.walcore.specs.Changes.{MayChange}
 use Rattle.walcore.specs.Standing.{ShowsWhole, IsBehind, Stands, IsPresent}
 use Rattle.walcore.specs.Fits.{Past, AreFiles, IsIndexed, IsBound, AreTogether, IsNewestDown, IsCore, FitsCore, StepsTo, answered, times}
 use Rattle.walcore.specs.Commits.{Rests, Closes, RestAnswer}
@@ -34,6 +35,7 @@ use Rattle.walcore.proofs.Stepping.{stands_syncs, stands_synced, stands_fewer}
 use Rattle.walcore.proofs.Present.{present_syncs}
 use Rattle.crashdisk.proofs.Pages.{sector_some}
 use Rattle.crashdisk.proofs.Called.{one_sync, calls_then}
+use Rattle.walcore.proofs.Changes.{newest_calls}
 use Rattle.walcore.proofs.Fronting.{boundary_same}
 use Rattle.walcore.proofs.Extending.{extended_front}
 use Rattle.walcore.proofs.Repeating.{index_to, index_to-low, repeated_stands, behind_whole, behind_even, behind_copy, behind_same}
@@ -66,7 +68,7 @@ record Stays (past : Past) (core : Core) (f : List ℕ) (index : ℕ → ℕ) (c
 -- ---- the step, where the log is f with n frames from then on
 
 module _ (past : Past) (core mid then : Core) (s t : DiskState) (fits : FitsCore past core s) (opened : IsTrue core.is_open) (repeats : Repeats core mid) (f : List ℕ) (rest : List (List ℕ)) (n : ℕ) (index : ℕ → ℕ) (d c : ℕ)
-    (made : MadeBySync past.state.page_size s.sector s.tears past.made.logs past.made (record { logs = f ∷ rest; unsynced = false })) (same : IsSameDisk s t) (refused : s.refused ≤ t.refused)
+    (made : MadeBySync past.state.page_size s.sector s.tears past.made.logs past.made (record { logs = f ∷ rest; unsynced = false })) (same : IsSameDisk (MayChange past.state.page_size (f ∷ rest)) s t) (refused : s.refused ≤ t.refused)
     (stands : Stands core.page_size (f ∷ rest) f n past.state.history index core.mark d c t) where
   granted : call_refusal past.state ≡ None
   granted = ap (λ (b : Bool). cond (not b) (Some 1) (let none : Option ℕ = None in none)) (sym fits.is_open ∙ opened)
@@ -332,14 +334,14 @@ module _ (past : Past) (core : Core) (s : DiskState) (fits : FitsCore past core 
 
       copy_failed : HadRefusal s g → Closes mid then → StepsTo past past.tokens Syncs (Refused 15) then s g
       copy_failed had closes =
-          sync_failed past core mid then s g fits opened repeats f is.newest_log.0 (core.frames + 1) to d c made_copy (record { sector = going.sector; tears = going.tears; calls = going.calls }) going.refused stands_copy (omega (arith, at_down, is.floor)) had closes
+          sync_failed past core mid then s g fits opened repeats f is.newest_log.0 (core.frames + 1) to d c made_copy (record { sector = going.sector; tears = going.tears; calls = newest_calls core.page_size past.state.page_size f is.newest_log.0 s g fits.page_size going.calls }) going.refused stands_copy (omega (arith, at_down, is.floor)) had closes
 
       copy_unsynced : {T : Type 0} → (called : Result T DiskError) (x : DiskError) → called ≡ Err x → CallSyncs Log called g t → Closes mid then → StepsTo past past.tokens Syncs (Refused 15) then s t
       copy_unsynced called x was call closes =
           sync_failed past core mid then s t fits opened repeats f is.newest_log.0 (core.frames + 1) to d c made_copy (record {
             sector = call.elsewhere.sector ∙ going.sector;
             tears = call.elsewhere.tears ∙ going.tears;
-            calls = calls_then s g t going.calls (one_sync Log called g t call);
+            calls = calls_then s g t (newest_calls core.page_size past.state.page_size f is.newest_log.0 s g fits.page_size going.calls) (one_sync Log called g t call);
           })
           (omega (arith, going.refused, counted_grows called g.refused going.sound.refused, call.elsewhere.refused))
           (stands_syncs core.page_size (f ∷ is.newest_log.0) f (core.frames + 1) past.state.history to core.mark d c g t stands_copy Log called call) (omega (arith, at_down, is.floor))
@@ -397,7 +399,7 @@ module _ (past : Past) (core : Core) (s : DiskState) (fits : FitsCore past core 
             sync_done past core mid then s t fits opened repeats f is.newest_log.0 (core.frames + 1) to core.frames c made_copy (record {
               sector = call.elsewhere.sector ∙ going.sector;
               tears = call.elsewhere.tears ∙ going.tears;
-              calls = calls_then s g t going.calls (one_sync Log (Ok u) g t call);
+              calls = calls_then s g t (newest_calls core.page_size past.state.page_size f is.newest_log.0 s g fits.page_size going.calls) (one_sync Log (Ok u) g t call);
             })
             (omega (arith, going.refused, call.elsewhere.refused)) stands_last lies_copy stays_copy rests
 

@@ -21,6 +21,7 @@ use Rattle.walcore.specs.Going.{KeepsCore, KnowsLog, Going, FramesAnswer}
 use Rattle.walcore.specs.Commits.{Prepares, IsReady, PrepareAnswer, Counts, Ends, Closes, EndAnswer}
 use Rattle.walcore.specs.declared.state.Core.{Core}
 use Rattle.walcore.specs.declared.error.WalError.{WalError}
+use Rattle.walcore.proofs.Changes.{newest_calls}
 use Rattle.walcore.proofs.Committing.{index_with}
 use Rattle.std.proofs.lemmas.Bool.{ne_eqb}
 use Rattle.walcore.proofs.Accepted.{few_refusals}
@@ -78,7 +79,7 @@ module _ (past : Past) (core mid next : Core) (pages : List (ℕ × Bor (List �
       next = state_new past e is.newest_log.0 index d c core pages count s is ready plan fits.page_size true;
       made = record { logs = plan.f ∷ is.newest_log.0; unsynced = true };
       refused = going.refused;
-      same = record { sector = going.sector; tears = going.tears; calls = going.calls };
+      same = record { sector = going.sector; tears = going.tears; calls = newest_calls mid.page_size past.state.page_size plan.f is.newest_log.0 s t (counts.log.page_size ∙ fits.page_size) going.calls };
       row = (granted_row, ap (λ (b : Bool). state_new past e is.newest_log.0 index d c core pages count s is ready plan fits.page_size b) (sym open_past));
       makes = row_made;
       fits = fits_new past e is.newest_log.0 index d c core pages count s is ready plan fits.page_size t (stands_then going) fits going.sector going.tears next then knows ends.log page_next ends.mark ends.size_is
@@ -91,7 +92,7 @@ module _ (past : Past) (core mid next : Core) (pages : List (ℕ × Bor (List �
       next = state_new past e is.newest_log.0 index d c core pages count s is ready plan fits.page_size false;
       made = record { logs = plan.f ∷ is.newest_log.0; unsynced = true };
       refused = going.refused;
-      same = record { sector = going.sector; tears = going.tears; calls = going.calls };
+      same = record { sector = going.sector; tears = going.tears; calls = newest_calls mid.page_size past.state.page_size plan.f is.newest_log.0 s t (counts.log.page_size ∙ fits.page_size) going.calls };
       row = subst (λ (x : Option ℕ). Refuses x true (closed (committed past.state (lent pages) count)) s.refused t.refused past.state 15 (state_new past e is.newest_log.0 index d c core pages count s is ready plan fits.page_size false)) (sym granted_row)
           (inr (refl, had, refl));
       makes = row_made;

@@ -4,7 +4,8 @@ use Rattle.sqval.specs.Database.{Database}
 use Rattle.sqwal.specs.Frames.{frame_end, size_of}
 use Rattle.sqwal.specs.Index.{FrameTable}
 use Rattle.crashdisk.specs.State.{IsImage}
-use Rattle.crashdisk.specs.Call.{DiskState}
+use Rattle.crashdisk.specs.Call.{DiskState, InFile}
+use Rattle.crashdisk.specs.declared.file.File.TheVariants.{Db}
 use Rattle.sqval.specs.Answers.{Answer, Complete, Partial, HasCause}
 use Rattle.walcore.specs.Machine.{State, at, last, reader_at, closed, checkpointed, CheckpointStep}
 use Rattle.sqval.specs.Held.{IsJust}
@@ -65,12 +66,12 @@ BroughtDown past (Ok done) core core_new old new =
     × CheckpointStep past.state (answer_of done) old.refused new.refused (checkpointed past.state)
     × FitsCore (record { state = checkpointed past.state; made = past.made; tokens = past.tokens }) core_new new
     × ((i : ℕ) → IsOldest past.state i → LeavesJust past.state.page_size (at past.state i) new)
-    × IsSameDisk old new
+    × IsSameDisk (InFile Db) old new
 BroughtDown past (Err x) core core_new old new =
     (old.refused ≤ new.refused)
     × (x ≡ Device) × HasCause old.refused new.refused
     × FitsDisk (record { state = closed past.state; made = past.made; tokens = past.tokens }) new
-    × (core_new.page_size ≡ core.page_size) × (core_new.marks.items ≡ core.marks.items) × IsSameDisk old new
+    × (core_new.page_size ≡ core.page_size) × (core_new.marks.items ≡ core.marks.items) × IsSameDisk (InFile Db) old new
 
 -- a core is closed where its call was refused
 abbrev pub ClosedBy : {T : Type 0} → Result T WalError → (old new : Core) → Type 0

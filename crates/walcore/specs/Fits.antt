@@ -17,6 +17,7 @@ use Rattle.walcore.specs.Era.{IsBoundary}
 use Rattle.sqval.specs.Held.{IsHeld, IsJust}
 use Rattle.walcore.specs.Standing.{MayBeRead, ShowsWhole, ShowsHistory, HasMadeHeader, IsBehind, Stands, IsPresent}
 use Rattle.crashdisk.specs.Keeps.{Suits, IsSameDisk}
+use Rattle.walcore.specs.Changes.{MayChange}
 use Rattle.walcore.specs.Refusal.{number_of}
 use Rattle.walcore.specs.declared.error.WalError.{WalError}
 use Rattle.walcore.specs.declared.state.Core.{Core}
@@ -156,7 +157,7 @@ without_token tokens number = set tokens number None
 pub record StepsTo (past : Past) (tokens : List (Option Reader)) (act : Act) (answer : Answer) (core : Core) (old new : DiskState) : Type 0 where
   pub next : State
   pub made : Made
-  pub same : IsSameDisk old new
+  pub same : IsSameDisk (MayChange past.state.page_size made.logs) old new
   pub refused : old.refused ≤ new.refused
   pub row : Step past.state act answer old.refused new.refused next
   pub makes : Makes past.state.page_size old.sector old.tears past.made act answer made
@@ -178,7 +179,7 @@ OpenedTo past salts found core before after = StepsTo past (none_open past.token
 pub record GivenUpTo (past : Past) (salts : ℕ × ℕ) (found : Files) (error : WalError) (before after : DiskState) : Type 0 where
   pub next : State
   pub made : Made
-  pub same : IsSameDisk before after
+  pub same : IsSameDisk (MayChange past.state.page_size made.logs) before after
   pub refused : before.refused ≤ after.refused
   pub row : Step past.state (Opens salts found) (Refused (number_of error)) before.refused after.refused next
   pub makes : Makes past.state.page_size before.sector before.tears past.made (Opens salts found) (Refused (number_of error)) made

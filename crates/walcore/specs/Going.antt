@@ -9,6 +9,7 @@ use Rattle.crashdisk.specs.Call.{DiskState, IsSoundDisk, Writes, HasCalls}
 use Rattle.crashdisk.specs.declared.file.File.TheVariants.{Log}
 use Rattle.crashdisk.specs.declared.error.DiskError.{DiskError}
 use Rattle.crashdisk.specs.Keeps.{HadRefusal, Told}
+use Rattle.walcore.specs.Changes.{MayChange}
 use Rattle.walcore.specs.Standing.{IsBehind, Stands, IsPresent}
 use Rattle.walcore.specs.Fits.{IsIndexed}
 use Rattle.walcore.specs.declared.state.Core.{Core}
@@ -61,7 +62,7 @@ pub record Going (size : ℕ) (f : List ℕ) (m n : ℕ) (s t : DiskState) : Typ
   pub sound : IsSoundDisk t
   pub sector : t.sector ≡ s.sector
   pub tears : t.tears ≡ s.tears
-  pub calls : HasCalls s t
+  pub calls : HasCalls (MayChange size (f ∷ [])) s t
   pub stands : (logs : List (List ℕ)) (h : List Database) (index : ℕ → ℕ) (mark d c : ℕ) → Stands size logs f m h index mark d c s → IsBehind size d (frame_end size n) s → Stands size logs f m h index mark d c t
 
 -- all frames of the log were written, or a call was refused

@@ -1,4 +1,5 @@
 pub mod Refusal
+pub mod Changes
 pub mod Alone
 pub mod Folding
 pub mod Phases

@@ -1,6 +1,5 @@
--- What the calls on readers do (fileformat2, 4.4; refusals are own).
+-- What the calls on readers do (fileformat2, 4.5; refusals are own).
 use Rattle.std.specs.Prelude.{◌≡◌, ◌≢◌, ℕ, ◌<◌, ◌≤◌, Bool, true, false, List, ◌∷◌, Result, Ok, Err}
-use Rattle.crashdisk.specs.Call.{DiskState}
 use Rattle.walcore.specs.Fits.{Past}
 use Rattle.sqwal.specs.View.{Unnamed, IsLast}
 use Rattle.walcore.specs.declared.error.WalError.{WalError}
@@ -23,7 +22,3 @@ ReadJudged is_open page size room page_size (Err e) = IsRefusedRead is_open page
 abbrev pub Finds : Past → (mark page frame : ℕ) → Type 0
 Finds past mark page frame = (e : List ℕ) × (earlier : List (List ℕ)) × (past.made.logs ≡ e ∷ earlier)
     × (1 ≤ frame → IsLast past.state.page_size e mark page frame) × (frame ≡ 0 → Unnamed past.state.page_size e mark page)
-
--- calls that change nothing of a disk but its counts
-abbrev pub LooksOnly : (old new : DiskState) → Type 0
-LooksOnly old new = new ≡ record old { refused = new.refused; settings = new.settings }

@@ -1,4 +1,4 @@
--- What a restart asks of a core, and what it leaves of it (fileformat2, 4.3; refusals are own).
+-- What a restart asks of a core, and what it leaves of it (fileformat2, 4.4; refusals are own).
 use Rattle.std.specs.Prelude.{◌≡◌, ◌≢◌, true, false, [], Result, Ok, Err}
 use Rattle.walcore.specs.Opening.{IsNewCore}
 use Rattle.walcore.specs.declared.opening.NewLog.{NewLog}

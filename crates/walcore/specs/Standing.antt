@@ -1,4 +1,4 @@
--- What an engine keeps on its disk, whatever a crash leaves of it (fileformat2, 4.3 and 4.4; that a crash leaves no less is own).
+-- What an engine keeps on its disk, whatever a crash leaves of it (fileformat2, 4.3 and 4.5; that a crash leaves no less is own).
 use Rattle.std.specs.Prelude.{◌≡◌, ◌≢◌, ◌⊎◌, ℕ, ◌*◌, ◌/◌, ◌<◌, ◌≤◌, true, false, List, length, take, get_or, None, []}
 use Rattle.std.specs.List.{Contains}
 use Rattle.sqval.specs.Database.{Database, Pages, supplied}

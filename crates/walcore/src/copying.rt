@@ -6,6 +6,7 @@ ghost use Rattle.sqval.specs.Database.{Database};
 ghost use Rattle.sqwal.specs.View.{IsView};
 ghost use Rattle.sqwal.specs.Frames.{IsValidFrame};
 ghost use Rattle.sqval.specs.CommitFaults.{most_bytes};
+ghost use Rattle.walcore.specs.Changes.{MayFold};
 ghost use Rattle.walcore.specs.Steps.{PageAnswer, CopyAnswer, ZeroSteps, CutSteps, EndAnswer, Copied};
 ghost use Rattle.crashdisk.specs.Keeps.{Still, KeepsLog, Later, SyncStep, IsLong};
 ghost use Rattle.walcore.specs.Plans.{IsTable, IsCopy};
@@ -107,7 +108,7 @@ pub fn cut_log<D: Disk>(disk: &mut D) -> Result<(), WalError>
 /// Makes the database stay, and then empties the log (own).
 pub fn finish<D: Disk>(disk: &mut D) -> Result<(), WalError>
     ensures word { D.keeps_word disk.old ↔ D.keeps_word disk.new }
-    ensures later { D.keeps_word disk.old → IsSoundDisk (D.state disk.old) → Later (D.state disk.old) (D.state disk.new) }
+    ensures later { D.keeps_word disk.old → IsSoundDisk (D.state disk.old) → Later MayFold (D.state disk.old) (D.state disk.new) }
     ensures ends { D.keeps_word disk.old → IsSoundDisk (D.state disk.old) → EndAnswer result (D.state disk.old) (D.state disk.new) }
     ensures shows { D.keeps_word disk.old → (size : ℕ) (w : List ℕ) (m : ℕ) (d : Database) → Copied size w m d (D.state disk.old) → ShowsAlone size d (D.state disk.new) }
     ensures long { D.keeps_word disk.old → IsSoundDisk (D.state disk.old) → (n : ℕ) → IsLong n (D.state disk.old) → IsLong n (D.state disk.new) }

@@ -20,6 +20,7 @@ pub struct Folded {
 ghost use Rattle.crashdisk.specs.Call.{DiskState, IsSoundDisk, ArePresent};
 ghost use Rattle.crashdisk.specs.State.{IsSectorSize};
 ghost use Rattle.sqval.specs.Database.{Database};
+ghost use Rattle.walcore.specs.Changes.{MayFold};
 ghost use Rattle.walcore.specs.Alone.{ShowsAlone};
 ghost use Rattle.walcore.specs.Phases.{Scanning};
 ghost use Rattle.crashdisk.specs.Keeps.{Suits, Later, IsLogDown, TearsPages};
@@ -46,7 +47,7 @@ pub fn judge_sector<D: Disk>(disk: &D, page_size: PageSize) -> Result<(), WalErr
 fn fold_plan<D: Disk>(disk: &mut D, plan: Plan) -> Result<Folded, WalError>
     requires { length plan.page.items ≤ 65536 }
     ensures word { D.keeps_word disk.old ↔ D.keeps_word disk.new }
-    ensures later { D.keeps_word disk.old → IsSoundDisk (D.state disk.old) → Later (D.state disk.old) (D.state disk.new) }
+    ensures later { D.keeps_word disk.old → IsSoundDisk (D.state disk.old) → Later MayFold (D.state disk.old) (D.state disk.new) }
     ensures folds { D.keeps_word disk.old → IsSoundDisk (D.state disk.old)
         → (size : ℕ) (db w : List ℕ) → ArePresent (D.state disk.old).db db → ArePresent (D.state disk.old).log w → IsPlan size w plan
         → FoldedAnswer size db w result (D.state disk.old) (D.state disk.new) }
@@ -76,7 +77,7 @@ fn fold_log<D: Disk>(
     page_size: PageSize,
 ) -> Result<Folded, WalError>
     ensures word { D.keeps_word disk.old ↔ D.keeps_word disk.new }
-    ensures later { D.keeps_word disk.old → IsSoundDisk (D.state disk.old) → Later (D.state disk.old) (D.state disk.new) }
+    ensures later { D.keeps_word disk.old → IsSoundDisk (D.state disk.old) → Later MayFold (D.state disk.old) (D.state disk.new) }
     ensures folds { D.keeps_word disk.old → IsSoundDisk (D.state disk.old) → (TearsPages page_size (D.state disk.old) → ⊥) → (D.state disk.old).log.len ≡ long
         → Folds page_size result (D.state disk.old) (D.state disk.new) }
     ensures shows { D.keeps_word disk.old → (D.state disk.old).log.len ≡ long
@@ -104,7 +105,7 @@ pub fn fold<D: Disk>(alloc: Global, disk: &mut D, page_size: PageSize) -> Result
     ensures agrees { D.keeps_word disk.old → Agrees page_size (D.state disk.old) (D.state disk.new) }
     ensures lengths { D.keeps_word disk.old → KeepsLength page_size (D.state disk.old) (D.state disk.new) }
     ensures synced { D.keeps_word disk.old → (TearsPages page_size (D.state disk.old) → ⊥) → SyncsFirst page_size result (D.state disk.old) (D.state disk.new) }
-    ensures later { D.keeps_word disk.old → IsSoundDisk (D.state disk.old) → Later (D.state disk.old) (D.state disk.new) }
+    ensures later { D.keeps_word disk.old → Later MayFold (D.state disk.old) (D.state disk.new) }
 {
     judge_sector(disk, page_size)?;
     disk.sync(File::Log)?;
@@ -121,7 +122,7 @@ pub fn fold_synced<D: Disk>(
     ensures folds { D.keeps_word disk.old → IsEmptyDown (D.state disk.old) → Folds page_size result (D.state disk.old) (D.state disk.new) }
     ensures agrees { D.keeps_word disk.old → Agrees page_size (D.state disk.old) (D.state disk.new) }
     ensures lengths { D.keeps_word disk.old → KeepsLength page_size (D.state disk.old) (D.state disk.new) }
-    ensures later { D.keeps_word disk.old → Later (D.state disk.old) (D.state disk.new) }
+    ensures later { D.keeps_word disk.old → Later MayFold (D.state disk.old) (D.state disk.new) }
 {
     judge_sector(disk, page_size)?;
     let long = disk.len(File::Log)?;

@@ -1,19 +1,21 @@
 //! What holds of every run of the machine.
-ghost use Rattle.std.specs.Prelude.{◌≡◌, ◌≤◌, ℕ, Bool, List, Result, true, false};
+ghost use Rattle.std.specs.Prelude.{◌≡◌, ◌<◌, ◌≤◌, ℕ, Bool, List, length, Result, Ok, true, false, IsTrue};
 ghost use Rattle.sqval.specs.Database.{Database};
-ghost use Rattle.sqval.specs.Answers.{Answer};
+ghost use Rattle.sqval.specs.Answers.{Answer, Files};
 ghost use Rattle.sqval.specs.PageSize.{IsPageSize};
 ghost use Rattle.sqval.specs.Held.{IsJust, IsHeld};
 ghost use Rattle.sqval.specs.Runs.{Moment, Runs};
 ghost use Rattle.crashdisk.specs.State.{IsSectorSize};
 ghost use Rattle.crashdisk.specs.Call.{DiskState, IsSoundDisk, Syncs, Looks, IsCrash, IsNew};
 ghost use Rattle.crashdisk.specs.declared.file.File.{File};
+ghost use Rattle.crashdisk.specs.declared.file.File.TheVariants.{Log};
 ghost use Rattle.crashdisk.specs.declared.error.DiskError.{DiskError};
 ghost use Rattle.crashdisk.specs.Keeps.{SameFiles};
-ghost use Rattle.walcore.specs.Alone.{AreWhole};
-ghost use Rattle.walcore.specs.Fits.{Past, FitsAlone, FitsCore, beginning};
+ghost use Rattle.walcore.specs.Alone.{AreWhole, ShowsAlone};
+ghost use Rattle.walcore.specs.Fits.{Past, AreFiles, FitsDisk, FitsAlone, FitsCore, none_open, beginning};
 ghost use Rattle.walcore.specs.Laws.{IsSane, Keeps, KeepsShown, IsExpected, is_opening};
-ghost use Rattle.walcore.specs.Machine.{State, Act, Reads, Step, start};
+ghost use Rattle.walcore.specs.Machine.{State, Act, Reads, Step, at, last, gone, start};
+ghost use Rattle.walcore.specs.Made.{NoChance};
 ghost use Rattle.walcore.specs.declared.state.Core.{Core};
 
 /// A disk that is new with a base of pages that no sector that tears exceeds, and with an empty log, fits where a world
@@ -29,13 +31,31 @@ pub fn a_look_fits()
     ensures { (past : Past) (core : Core) (old new : DiskState) → SameFiles old new → FitsCore past core old → FitsCore past core new }
 {}
 
-/// The one database that a disk shows alone stays shown: after a look, after a sync of either file, done or refused, and
-/// after a crash, where a disk that tears puts no valid header or frame together by chance.
+/// What fits a disk that no engine holds fits it after a crash, once every reader is forgotten; where the disk tears, if no
+/// valid header or frame is put together by chance (own).
+pub fn a_crash_fits()
+    ensures { (past : Past) (db log : List ℕ) (old new : DiskState) → FitsAlone past old → IsCrash db log old new
+        → (old.tears ≡ true → AreWhole old.kept old.handed log)
+        → FitsAlone (record { state = gone past.state; made = past.made; tokens = none_open past.tokens }) new }
+{}
+
+/// What fits a disk shows, once the log is synced, one database of the history alone, at the floor or later, and the newest
+/// where the machine is open: so what is said of interrupted recovery holds of each opening of a run.
+pub fn one_is_shown()
+    ensures { (past : Past) (files : Files) (old mid : DiskState) → FitsDisk past old → AreFiles old files → NoChance past.made.logs files.log
+        → Syncs {T = Unit {0}} Log (Ok tt) old mid → (k : ℕ) × (past.state.floor ≤ k) × (k < length past.state.history)
+        × (IsTrue past.state.is_open → k ≡ last past.state) × ShowsAlone past.state.page_size (at past.state k) mid }
+{}
+
+/// The one database that a disk shows alone stays shown: after a look, after a sync of either file, done or refused, after
+/// calls that changed no byte and whatever was set, and after a crash, where a disk that tears puts no valid header or frame
+/// together by chance.
 pub fn what_is_shown_stays()
     ensures len { (end : ℕ) (result : Result ℕ DiskError) (old new : DiskState) → Looks end result old new → KeepsShown old new }
     ensures read { (end : ℕ) (result : Result (Unit {0}) DiskError) (old new : DiskState) → Looks end result old new → KeepsShown old new }
     ensures sync { (file : File) (result : Result (Unit {0}) DiskError) (old new : DiskState)
         → IsSoundDisk old → Syncs file result old new → KeepsShown old new }
+    ensures same { (old new : DiskState) → IsSoundDisk old → SameFiles old new → KeepsShown old new }
     ensures crash { (db log : List ℕ) (old new : DiskState) → IsSoundDisk old → IsCrash db log old new
         → (old.tears ≡ true → AreWhole old.kept old.handed log) → KeepsShown old new }
 {}

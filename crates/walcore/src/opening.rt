@@ -4,6 +4,7 @@ ghost use Rattle.crashdisk.specs.Call.{DiskState, IsSoundDisk, ArePresent};
 ghost use Rattle.crashdisk.specs.declared.file.File.TheVariants.{Db};
 ghost use Rattle.sqwal.specs.Header.{IsHeaderOf};
 ghost use Rattle.crashdisk.specs.Keeps.{Still, Later, IsLogDown, TearsPages};
+ghost use Rattle.walcore.specs.Changes.{MayFold};
 ghost use Rattle.walcore.specs.Folding.{Agrees};
 ghost use Rattle.sqval.specs.Answers.{Files};
 ghost use Rattle.walcore.specs.Made.{NoChance, HasNewSalts};
@@ -154,7 +155,7 @@ fn recover<D: Disk>(alloc: Global, disk: &mut D, page_size: PageSize) -> Result<
     ensures word { D.keeps_word disk.old ↔ D.keeps_word disk.new }
     ensures recovered { D.keeps_word disk.old → (past : Past) (found : Files) → AreFiles (D.state disk.old) found → past.state.page_size ≡ page_size
         → FitsDisk past (D.state disk.old) → NoChance past.made.logs found.log → RecoverAnswer past found result (D.state disk.old) (D.state disk.new) }
-    ensures later { D.keeps_word disk.old → IsSoundDisk (D.state disk.old) → Later (D.state disk.old) (D.state disk.new) }
+    ensures later { D.keeps_word disk.old → IsSoundDisk (D.state disk.old) → Later MayFold (D.state disk.old) (D.state disk.new) }
     ensures agrees { D.keeps_word disk.old → IsSoundDisk (D.state disk.old) → Agrees page_size (D.state disk.old) (D.state disk.new) }
     ensures empty { D.keeps_word disk.old → IsSoundDisk (D.state disk.old) → OnOk result (IsLogDown (D.state disk.new) []) }
     ensures refuses { D.keeps_word disk.old → IsSoundDisk (D.state disk.old) → (TearsPages page_size (D.state disk.old) → ⊥)
@@ -199,8 +200,8 @@ fn open_core<D: Disk>(
 
 impl<D: Disk> Wal<D> {
     /// Recovers what a crash, a failure or another engine left (own), and begins a new log with these salts, which no
-    /// log of this database had before. Refused are, in this order, SectorAbovePage, TooLarge, PageSize; NoMemory or
-    /// Device may stand in place of the last two.
+    /// log of this database had before. Refused are, in this order, SectorAbovePage, TooLarge and PageSize by the log, and,
+    /// where it has no frames, TooLarge and PageSize by the file's length; NoMemory or Device may stand in place of these four.
     pub fn open(
         alloc: Global,
         disk: D,

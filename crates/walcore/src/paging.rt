@@ -7,8 +7,8 @@ ghost use Rattle.sqwal.specs.View.{Unnamed, IsLast};
 ghost use Rattle.sqval.specs.Answers.{Page, Reader as ReaderAnswer, Done};
 ghost use Rattle.walcore.specs.Machine.{Begins, Reads, Ends};
 ghost use Rattle.walcore.specs.Fits.{Past, Fits, answered, times, Steps, with_token, without_token};
-ghost use Rattle.walcore.specs.Paging.{IsRefusedRead, ReadJudged, Finds, LooksOnly};
-ghost use Rattle.crashdisk.specs.Keeps.{PlaceAnswer};
+ghost use Rattle.walcore.specs.Paging.{IsRefusedRead, ReadJudged, Finds};
+ghost use Rattle.crashdisk.specs.Keeps.{PlaceAnswer, LooksOnce};
 
 use crate::error::WalError;
 use crate::reader::Reader;
@@ -66,7 +66,7 @@ pub(crate) fn read_place<D: Disk>(
     ensures word { D.keeps_word disk.old ↔ D.keeps_word disk.new }
     ensures place { D.keeps_word disk.old → IsSoundDisk (D.state disk.old) → PlaceAnswer WalError.Device file at out.new result (D.state disk.old) (D.state disk.new) }
     ensures error { OnErr result (result ≡ Err WalError.Device) }
-    ensures looks { D.keeps_word disk.old → LooksOnly (D.state disk.old) (D.state disk.new) }
+    ensures looks { D.keeps_word disk.old → LooksOnce (D.state disk.old) (D.state disk.new) }
 {
     disk.read_at(file, at, out)?;
     Ok(())
@@ -75,7 +75,7 @@ pub(crate) fn read_place<D: Disk>(
 impl<D: Disk> Wal<D> {
     ghost use Rattle.walcore.specs.contracts.wal.Wal.{the_row};
 
-    /// A reader of the last commit (fileformat2, 4, "Reader Algorithm"). Refused are Closed and NoMemory.
+    /// A reader of the last commit (fileformat2, 4.5). Refused are Closed and NoMemory.
     pub fn begin(&mut self) -> Result<Reader, WalError>
         ensures word { D.keeps_word self.old.disk ↔ D.keeps_word self.new.disk }
         ensures step { D.keeps_word self.old.disk → (past : Past) → Fits D.state self.old past
@@ -95,7 +95,7 @@ impl<D: Disk> Wal<D> {
         }
     }
 
-    /// Reads a page as it was when the reader, one of this core's, began (fileformat2, 4, "Reader Algorithm"). Refused are Closed,
+    /// Reads a page as it was when the reader, one of this core's, began (fileformat2, 4.5). Refused are Closed,
     /// PageZero, PageAboveSize, BadLength and Device, which doesn't close the core. After a refusal `out` may hold
     /// anything.
     pub fn read(&mut self, reader: &Reader, page: u32, out: &mut [u8]) -> Result<(), WalError>
@@ -109,7 +109,7 @@ impl<D: Disk> Wal<D> {
         ensures kept { IfErr result (λ e. e ≢ WalError.Device → self.new ≡ self.old) }
         // whatever is answered
         ensures core { self.new.core ≡ self.old.core }
-        ensures looks { D.keeps_word self.old.disk → LooksOnly (D.state self.old.disk) (D.state self.new.disk) }
+        ensures looks { D.keeps_word self.old.disk → LooksOnce (D.state self.old.disk) (D.state self.new.disk) }
     {
         judge_read(
             self.core.is_open,
@@ -140,7 +140,7 @@ impl<D: Disk> Wal<D> {
     }
 
     /// The frame from which a page is read as it was when the reader, one of this core's, began: 0 where that is the
-    /// database file (fileformat2, 4, "Reader Algorithm"). It refuses nothing.
+    /// database file (fileformat2, 4.5). It refuses nothing.
     pub fn frame_of(&self, reader: &Reader, page: u32) -> Hit
         ensures hit { IsHit self.now.core.index page reader.now.mark result }
         ensures last { (past : Past) (number : ℕ) → Fits D.state self.now past → slice_get past.tokens number ≡ Some (Some reader.now)

@@ -1,4 +1,4 @@
-//! Readers of one commit (fileformat2, 4, "Reader Algorithm").
+//! Readers of one commit (fileformat2, 4.5).
 ghost use Rattle.std.specs.Prelude.{◌≡◌};
 
 /// An open reader, bound to the commit that was the last one when it began. It has to be given back to `Wal::end`.

@@ -72,7 +72,7 @@ fn take_over(core: &mut Core, log: &NewLog, begun: Result<(), WalError>) -> Resu
 
 impl<D: Disk> Wal<D> {
     /// Begins the log anew, so that frames are written over, with the next sequence and salt-1 and this salt-2
-    /// (fileformat2, 4.3). Refused are, in this order, Closed, NotDrained and ReadersOpen; Device. A log with these
+    /// (fileformat2, 4.4). Refused are, in this order, Closed, NotDrained and ReadersOpen; Device. A log with these
     /// salts may not have been before.
     pub fn restart(&mut self, salt2: u32) -> Result<(), WalError>
         ensures word { D.keeps_word self.old.disk ↔ D.keeps_word self.new.disk }

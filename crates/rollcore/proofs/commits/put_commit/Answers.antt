@@ -1,13 +1,12 @@
-use Rattle.std.proofs.Common.{◌≡◌, ◌<◌, ◌∙◌, ℕ, List, length, sym, ap, subst, arith}
+use Rattle.std.proofs.Common.{◌≡◌, ◌<◌, ◌∙◌, ℕ, List, length, sym, subst, arith}
 use Rattle.std.specs.Prelude.{Result, None, OnOk, take}
 use Rattle.std.proofs.lemmas.Result.{on_ok_weaker}
-use Rattle.std.proofs.lemmas.List.{length-map}
 use Rattle.sqval.specs.Database.{Database, apply}
 use Rattle.sqval.specs.JudgedPages.{lent}
-use Rattle.rollcore.specs.Machine.{refusal_of, recorded, segments_of}
-use Rattle.rollcore.specs.Journaling.{sizes, HasNonces}
+use Rattle.rollcore.specs.Machine.{refusal_of, segments_of}
+use Rattle.rollcore.specs.Journaling.{sizes, HasParts, parts_of}
 use Rattle.rollcore.specs.Replaying.{zeroed}
-use Rattle.crashdisk.specs.Keeps.{IsLogDown}
+use Rattle.crashdisk.specs.Keeps.{IsLogDown, Later}
 use Rattle.rollcore.specs.Commits.{AreChanges, PutAnswer}
 use Rattle.rollcore.specs.Segments.{Journaled, ArePut, pages_of}
 use Rattle.rollcore.specs.declared.changes.Change.{Change}
@@ -17,7 +16,9 @@ use Rattle.rollcore.proofs.Parting.{part_short}
 use Rattle.rollcore.proofs.Granting.{granted}
 use Rattle.rollcore.proofs.Growing.{lent_at, lent_length}
 use Rattle.rollcore.proofs.Closed.{put_harmless, put_after}
-use Rattle.crashdisk.proofs.Later.{later_then}
+use Rattle.crashdisk.proofs.Later.{later_then, later_wider}
+use Rattle.rollcore.specs.Changes.{MayChange}
+use Rattle.rollcore.proofs.Asking.{replay_may}
 use Rattle.rollcore.proofs.commits.put_commit.Goals as goal
 
 pub returns-in_err-put_segments-clause-put : goal.returns-in_err-put_segments-clause-put
@@ -75,14 +76,19 @@ returns-clause-nonces g c = λ word d suits held many wide rests.
     → Journaled core.page_size sector d (pages_of changes) place w mid → 0 < place → ArePut core.page_size (apply d pages c.args.size) (pages_of changes) mid.db
     → n ≡ length d → AreChanges pages n c.args.size changes → refusal_of n core.page_size pages c.args.size nonces ≡ None
     → OnOk c.end_commit.result (IsLogDown new (zeroed w))) keeps.size by_size in
-    let count : length (pages_of core.changes.items) ≡ recorded pages (length d) c.args.size =
-    length-map core.changes.items (λ (c : Change). c.page) ∙ c.requires.changes.count ∙ ap (λ (n : ℕ). recorded pages n c.args.size) (sym many) in
-    let nonces = subst (λ (n : ℕ). HasNonces (sizes n core.page_size) down.1 down.0 (take (segments_of (length (pages_of core.changes.items))) c.args.nonces.now)) sector down.6 in
-    on_ok_weaker c.end_commit.result
-    (λ log. (down.0, down.1, subst (λ (n : ℕ). HasNonces (sizes (g.D.Disk.state c.args.disk.now).sector core.page_size) down.1 down.0 (take (segments_of n) c.args.nonces.now)) count nonces, log))
+    let parts = subst (λ (n : ℕ). HasParts (sizes n core.page_size) down.1 down.0 (parts_of d (pages_of core.changes.items) (take (segments_of (length (pages_of core.changes.items))) c.args.nonces.now))) sector down.6 in
+    on_ok_weaker c.end_commit.result (λ log. (down.0, down.1, parts, log))
     (by_count c.sector-sector.result (length c.args.nonces.now) d core.changes.items down.0 down.1 down.3 down.2 down.4 (sym many) c.requires.changes c.requires.granted)
 
+pub returns-in_err-put_segments-clause-goes : goal.returns-in_err-put_segments-clause-goes
+returns-in_err-put_segments-clause-goes g c = λ word wide.
+    let sector = c.sector-sector.ensures.answer word in
+    subst (λ (n : ℕ). Later (MayChange c.args.core.now.page_size n) (g.D.Disk.state c.args.disk.now) (g.D.Disk.state c.put_segments.new.disk)) sector
+    (c.put_segments.ensures.goes word (c.sector-sector.ensures.sound word) (wide ∙ sym sector))
+
 pub returns-clause-goes : goal.returns-clause-goes
-returns-clause-goes g c = λ word.
-    let mid = c.put_segments.ensures.goes word (c.sector-sector.ensures.sound word) in
-    later_then _ _ _ mid (c.end_commit.ensures.goes (c.put_segments.ensures.word.0 word) mid.sound)
+returns-clause-goes g c = λ word wide.
+    let sector = c.sector-sector.ensures.answer word in
+    let mid = subst (λ (n : ℕ). Later (MayChange c.args.core.now.page_size n) (g.D.Disk.state c.args.disk.now) (g.D.Disk.state c.put_segments.new.disk)) sector
+    (c.put_segments.ensures.goes word (c.sector-sector.ensures.sound word) (wide ∙ sym sector)) in
+    later_then _ _ _ mid (later_wider _ _ (replay_may _ _) (c.end_commit.ensures.goes (c.put_segments.ensures.word.0 word) mid.sound))

@@ -3,21 +3,23 @@ use Rattle.std.specs.Prelude.{Result, length, take, OnOk}
 use Rattle.sqval.specs.Database.{apply}
 use Rattle.sqval.specs.JudgedPages.{lent}
 use Rattle.sqval.specs.Answers.{Done}
-use Rattle.rollcore.specs.Machine.{Commits, recorded, segments_of}
-use Rattle.rollcore.specs.Journaling.{sizes}
+use Rattle.rollcore.specs.Machine.{Commits, segments_of}
+use Rattle.rollcore.specs.Journaling.{sizes, parts_of}
 use Rattle.rollcore.specs.Fits.{StepsTo, answered}
-use Rattle.rollcore.specs.Commits.{PutAnswer, LeavesNonces, TakesNonces}
+use Rattle.rollcore.specs.Commits.{PutAnswer, LeavesParts, TakesNonces}
 use Rattle.rollcore.specs.declared.error.RollError.{RollError}
-use Rattle.rollcore.proofs.Deciding.{commit_step, put_here}
+use Rattle.rollcore.proofs.Deciding.{commit_step, changed_here, put_here}
+use Rattle.rollcore.specs.Segments.{pages_of}
+use Rattle.std.proofs.lemmas.Result.{on_ok_weaker}
 use Rattle.rollcore.proofs.commits.write_commit.Goals as goal
 
 pub returns-clause-step : goal.returns-clause-step
 returns-clause-step g c = λ word past fits opened.
     subst (λ (r : Result (Unit {0}) RollError). StepsTo past (Commits (lent c.args.pages.now) c.args.size c.args.nonces.now) (answered (λ _. Done) r) c.end_put.new.core (g.D.Disk.state c.args.disk.now) (g.D.Disk.state c.put_commit-put.new.disk)) (sym c.end_put.ensures.same)
     (commit_step past c.args.core.now c.put_commit-put.new.core (g.D.Disk.state c.args.disk.now) (g.D.Disk.state c.put_commit-put.new.disk) fits opened c.args.pages.now c.args.size c.args.nonces.now c.requires c.put_commit-put.ensures.keeps
-    (c.put_commit-put.ensures.goes word) c.put_commit-put.result c.end_put.new.core
+    (c.put_commit-put.ensures.goes word (fits.core opened).header_room) c.put_commit-put.result c.end_put.new.core
     (put_here past c.args.core.now c.put_commit-put.new.core (g.D.Disk.state c.args.disk.now) (g.D.Disk.state c.put_commit-put.new.disk) fits opened c.args.pages.now c.args.size c.args.nonces.now c.requires c.put_commit-put.ensures.keeps
-    (c.put_commit-put.ensures.goes word)
+    (c.put_commit-put.ensures.goes word (fits.core opened).header_room)
     (λ n d. PutAnswer n d (apply d (lent c.args.pages.now) c.args.size) c.put_commit-put.result (g.D.Disk.state c.args.disk.now) (g.D.Disk.state c.put_commit-put.new.disk)) (c.put_commit-put.ensures.put word))
     c.end_put.ensures.answer)
 
@@ -25,7 +27,14 @@ pub returns-clause-nonces : goal.returns-clause-nonces
 returns-clause-nonces g c = λ word past fits opened.
     let new = g.D.Disk.state c.put_commit-put.new.disk in
     subst (λ (r : Result (Unit {0}) RollError). TakesNonces past (lent c.args.pages.now) c.args.size c.args.nonces.now r (g.D.Disk.state c.args.disk.now) new) (sym c.end_put.ensures.same)
+    (on_ok_weaker c.put_commit-put.result
+    (λ leaves. (
+      pages_of c.args.core.now.changes.items,
+      changed_here past c.args.core.now c.put_commit-put.new.core (g.D.Disk.state c.args.disk.now) new fits opened c.args.pages.now c.args.size c.args.nonces.now c.requires c.put_commit-put.ensures.keeps
+          (c.put_commit-put.ensures.goes word (fits.core opened).header_room),
+      leaves,
+    ))
     (put_here past c.args.core.now c.put_commit-put.new.core (g.D.Disk.state c.args.disk.now) new fits opened c.args.pages.now c.args.size c.args.nonces.now c.requires c.put_commit-put.ensures.keeps
-    (c.put_commit-put.ensures.goes word)
-    (λ n d. OnOk c.put_commit-put.result (LeavesNonces (sizes (g.D.Disk.state c.args.disk.now).sector n) (take (segments_of (recorded (lent c.args.pages.now) (length d) c.args.size)) c.args.nonces.now) new))
-    (c.put_commit-put.ensures.nonces word))
+    (c.put_commit-put.ensures.goes word (fits.core opened).header_room)
+    (λ n d. OnOk c.put_commit-put.result (LeavesParts (sizes (g.D.Disk.state c.args.disk.now).sector n) (parts_of d (pages_of c.args.core.now.changes.items) (take (segments_of (length (pages_of c.args.core.now.changes.items))) c.args.nonces.now)) new))
+    (c.put_commit-put.ensures.nonces word)))

@@ -1,6 +1,8 @@
 use Rattle.std.proofs.Common.{arith}
 use Rattle.crashdisk.specs.declared.file.File.TheVariants.{Db}
 use Rattle.sqval.proofs.Answering.{passed}
+use Rattle.crashdisk.specs.Keeps.{Later}
+use Rattle.rollcore.specs.Changes.{MayReplay}
 use Rattle.rollcore.proofs.Ending.{zero_refused, end_refused, end_done, zero_later}
 use Rattle.crashdisk.proofs.Later.{sync_later, sync_refused, later_then}
 use Rattle.rollcore.proofs.Agreeing.{synced_shows, synced_filed, zeroed_shows}
@@ -19,7 +21,7 @@ returns-in_err-settle_database-clause-shows g c = λ word size w d is pages. syn
 
 pub returns-in_err-zero_header-clause-ends : goal.returns-in_err-zero_header-clause-ends
 returns-in_err-zero_header-clause-ends g c = λ word sound.
-    let first = sync_later Device Db c.settle_database.result _ _ sound (c.settle_database.ensures.state word) in
+    let first : Later MayReplay (g.D.Disk.state c.args.disk.now) (g.D.Disk.state c.settle_database.new.disk) = sync_later Device Db c.settle_database.result _ _ sound (c.settle_database.ensures.state word) in
     end_refused c.zero_header.result c.from_residual-in_err-zero_header.result _ (g.D.Disk.state c.args.disk.now) (g.D.Disk.state c.settle_database.new.disk) (g.D.Disk.state c.zero_header.new.disk) first.refused (passed c.from_residual-in_err-zero_header.result _ c.from_residual-in_err-zero_header.ensures.1)
     (zero_refused c.zero_header.result _ _ _ first.sound c.in_err-zero_header.was (c.zero_header.ensures.state (c.settle_database.ensures.word.0 word)))
 
@@ -41,13 +43,13 @@ returns-in_err-settle_database-clause-goes g c = λ word sound. sync_later Devic
 
 pub returns-in_err-zero_header-clause-goes : goal.returns-in_err-zero_header-clause-goes
 returns-in_err-zero_header-clause-goes g c = λ word sound.
-    let mid = sync_later Device Db c.settle_database.result (g.D.Disk.state c.args.disk.now) (g.D.Disk.state c.settle_database.new.disk) sound (c.settle_database.ensures.state word) in
+    let mid : Later MayReplay (g.D.Disk.state c.args.disk.now) (g.D.Disk.state c.settle_database.new.disk) = sync_later Device Db c.settle_database.result (g.D.Disk.state c.args.disk.now) (g.D.Disk.state c.settle_database.new.disk) sound (c.settle_database.ensures.state word) in
     later_then (g.D.Disk.state c.args.disk.now) (g.D.Disk.state c.settle_database.new.disk) (g.D.Disk.state c.zero_header.new.disk) mid
     (zero_later c.zero_header.result (g.D.Disk.state c.settle_database.new.disk) (g.D.Disk.state c.zero_header.new.disk) mid.sound (c.zero_header.ensures.state (c.settle_database.ensures.word.0 word)))
 
 pub returns-clause-goes : goal.returns-clause-goes
 returns-clause-goes g c = λ word sound.
-    let mid = sync_later Device Db c.settle_database.result (g.D.Disk.state c.args.disk.now) (g.D.Disk.state c.settle_database.new.disk) sound (c.settle_database.ensures.state word) in
+    let mid : Later MayReplay (g.D.Disk.state c.args.disk.now) (g.D.Disk.state c.settle_database.new.disk) = sync_later Device Db c.settle_database.result (g.D.Disk.state c.args.disk.now) (g.D.Disk.state c.settle_database.new.disk) sound (c.settle_database.ensures.state word) in
     later_then (g.D.Disk.state c.args.disk.now) (g.D.Disk.state c.settle_database.new.disk) (g.D.Disk.state c.zero_header.new.disk) mid
     (zero_later c.zero_header.result (g.D.Disk.state c.settle_database.new.disk) (g.D.Disk.state c.zero_header.new.disk) mid.sound (c.zero_header.ensures.state (c.settle_database.ensures.word.0 word)))
 

@@ -10,20 +10,23 @@ use Rattle.rollcore.specs.declared.error.RollError.TheVariants.{Device}
 use Rattle.sqval.proofs.Answering.{passed}
 use Rattle.rollcore.proofs.Closed.{put_harmless, put_after, ends_log, of_pages, some_changes, held_after, cut_failed, cut_done, cut_pages}
 use Rattle.rollcore.proofs.finishing.end_commit.Goals as goal
-use Rattle.crashdisk.proofs.Later.{later_cut, later_then}
+use Rattle.crashdisk.proofs.Later.{later_cut, later_then, later_wider}
+use Rattle.crashdisk.specs.Keeps.{Later}
+use Rattle.rollcore.specs.Changes.{MayReplay}
+use Rattle.rollcore.proofs.Asking.{file_replays}
 
 pub returns-in_err-put_new_pages-clause-goes : goal.returns-in_err-put_new_pages-clause-goes
-returns-in_err-put_new_pages-clause-goes g c = λ word sound. c.put_new_pages.ensures.goes word sound
+returns-in_err-put_new_pages-clause-goes g c = λ word sound. later_wider _ _ file_replays (c.put_new_pages.ensures.goes word sound)
 
 pub returns-in_err-set_len-clause-goes : goal.returns-in_err-set_len-clause-goes
 returns-in_err-set_len-clause-goes g c = λ word sound.
-    let first = c.put_new_pages.ensures.goes word sound in
-    later_then _ _ _ first (later_cut Db _ c.set_len.result _ _ first.sound (c.set_len.ensures.state (c.put_new_pages.ensures.word.0 word)))
+    let first : Later MayReplay (g.D.Disk.state c.args.disk.now) (g.D.Disk.state c.put_new_pages.new.disk) = later_wider _ _ file_replays (c.put_new_pages.ensures.goes word sound) in
+    later_then _ _ _ first (later_cut Db _ c.set_len.result _ _ tt first.sound (c.set_len.ensures.state (c.put_new_pages.ensures.word.0 word)))
 
 pub returns-clause-goes : goal.returns-clause-goes
 returns-clause-goes g c = λ word sound.
-    let first = c.put_new_pages.ensures.goes word sound in
-    let then = later_then _ _ _ first (later_cut Db _ c.set_len.result _ _ first.sound (c.set_len.ensures.state (c.put_new_pages.ensures.word.0 word))) in
+    let first : Later MayReplay (g.D.Disk.state c.args.disk.now) (g.D.Disk.state c.put_new_pages.new.disk) = later_wider _ _ file_replays (c.put_new_pages.ensures.goes word sound) in
+    let then = later_then _ _ _ first (later_cut Db _ c.set_len.result _ _ tt first.sound (c.set_len.ensures.state (c.put_new_pages.ensures.word.0 word))) in
     later_then _ _ _ then (c.finish.ensures.goes (c.set_len.ensures.word.0 (c.put_new_pages.ensures.word.0 word)) then.sound)
 
 pub returns-in_err-put_new_pages-clause-ends : goal.returns-in_err-put_new_pages-clause-ends

@@ -1,7 +1,10 @@
-use Rattle.std.proofs.Common.{◌∙◌, ap}
+use Rattle.std.proofs.Common.{◌∙◌, refl, ap}
 use Rattle.std.specs.Prelude.{Ok}
 use Rattle.crashdisk.specs.declared.file.File.TheVariants.{Log}
 use Rattle.sqval.proofs.Answering.{passed}
+use Rattle.crashdisk.specs.Call.{InFile}
+use Rattle.crashdisk.specs.Keeps.{Later}
+use Rattle.rollcore.proofs.Asking.{zero_may}
 use Rattle.rollcore.proofs.Going.{goes_broken}
 use Rattle.rollcore.proofs.Breaking.{front_failed, front_none, front_unsynced, front_synced}
 use Rattle.rollcore.proofs.Refusing.{broken_refused, settled_refused}
@@ -10,17 +13,17 @@ use Rattle.crashdisk.proofs.Later.{later_then, sync_later}
 use Rattle.rollcore.specs.declared.error.RollError.TheVariants.{Device}
 
 pub returns-in_err-break_magic-clause-goes : goal.returns-in_err-break_magic-clause-goes
-returns-in_err-break_magic-clause-goes g c = λ word sound. goes_broken 0 c.break_magic.result (g.D.Disk.state c.args.disk.now) (g.D.Disk.state c.break_magic.new.disk) sound (c.break_magic.ensures.steps word sound)
+returns-in_err-break_magic-clause-goes g c = λ word sound size sector. goes_broken 0 c.break_magic.result (g.D.Disk.state c.args.disk.now) (g.D.Disk.state c.break_magic.new.disk) (zero_may size sector 0) sound (c.break_magic.ensures.steps word sound)
 
 pub returns-in_err-settle_log-clause-goes : goal.returns-in_err-settle_log-clause-goes
-returns-in_err-settle_log-clause-goes g c = λ word sound.
-    let mid = goes_broken 0 c.break_magic.result (g.D.Disk.state c.args.disk.now) (g.D.Disk.state c.break_magic.new.disk) sound (c.break_magic.ensures.steps word sound) in
+returns-in_err-settle_log-clause-goes g c = λ word sound size sector.
+    let mid = goes_broken 0 c.break_magic.result (g.D.Disk.state c.args.disk.now) (g.D.Disk.state c.break_magic.new.disk) (zero_may size sector 0) sound (c.break_magic.ensures.steps word sound) in
     later_then (g.D.Disk.state c.args.disk.now) (g.D.Disk.state c.break_magic.new.disk) (g.D.Disk.state c.settle_log.new.disk) mid
     (sync_later Device Log c.settle_log.result (g.D.Disk.state c.break_magic.new.disk) (g.D.Disk.state c.settle_log.new.disk) mid.sound (c.settle_log.ensures.state (c.break_magic.ensures.word.0 word)))
 
 pub returns-in_ok-settle_log-clause-goes : goal.returns-in_ok-settle_log-clause-goes
-returns-in_ok-settle_log-clause-goes g c = λ word sound.
-    let mid = goes_broken 0 c.break_magic.result (g.D.Disk.state c.args.disk.now) (g.D.Disk.state c.break_magic.new.disk) sound (c.break_magic.ensures.steps word sound) in
+returns-in_ok-settle_log-clause-goes g c = λ word sound size sector.
+    let mid = goes_broken 0 c.break_magic.result (g.D.Disk.state c.args.disk.now) (g.D.Disk.state c.break_magic.new.disk) (zero_may size sector 0) sound (c.break_magic.ensures.steps word sound) in
     later_then (g.D.Disk.state c.args.disk.now) (g.D.Disk.state c.break_magic.new.disk) (g.D.Disk.state c.settle_log.new.disk) mid
     (sync_later Device Log c.settle_log.result (g.D.Disk.state c.break_magic.new.disk) (g.D.Disk.state c.settle_log.new.disk) mid.sound (c.settle_log.ensures.state (c.break_magic.ensures.word.0 word)))
 
@@ -50,6 +53,9 @@ returns-in_err-break_magic-clause-refused g c = λ word sound.
 
 pub returns-in_err-settle_log-clause-refused : goal.returns-in_err-settle_log-clause-refused
 returns-in_err-settle_log-clause-refused g c = λ word sound.
-    let mid = goes_broken 0 c.break_magic.result (g.D.Disk.state c.args.disk.now) (g.D.Disk.state c.break_magic.new.disk) sound (c.break_magic.ensures.steps word sound) in
+    let mid : Later (InFile Log) (g.D.Disk.state c.args.disk.now) (g.D.Disk.state c.break_magic.new.disk) = goes_broken 0 c.break_magic.result (g.D.Disk.state c.args.disk.now) (g.D.Disk.state c.break_magic.new.disk) refl sound (c.break_magic.ensures.steps word sound) in
     settled_refused (g.D.Disk.state c.args.disk.now) (g.D.Disk.state c.break_magic.new.disk) (g.D.Disk.state c.settle_log.new.disk) c.settle_log.result c.from_residual-in_err-settle_log.result _ mid.refused mid.sound c.in_err-settle_log.was
     (c.settle_log.ensures.state (c.break_magic.ensures.word.0 word)) (passed c.from_residual-in_err-settle_log.result _ c.from_residual-in_err-settle_log.ensures.1)
+
+pub returns-else-branch-clause-goes : goal.returns-else-branch-clause-goes
+returns-else-branch-clause-goes g c = λ word sound size sector. goes_broken 0 c.break_magic.result (g.D.Disk.state c.args.disk.now) (g.D.Disk.state c.break_magic.new.disk) (zero_may size sector 0) sound (c.break_magic.ensures.steps word sound)

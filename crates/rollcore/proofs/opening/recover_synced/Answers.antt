@@ -14,7 +14,10 @@ use Rattle.rollcore.proofs.Breaking.{cold_alone}
 use Rattle.rollcore.proofs.Recovered.{unplanned, misjudged, unreplayed, replayed, uncounted, unbroken, broken, few_some}
 use Rattle.rollcore.specs.Opening.{RefusedFor}
 use Rattle.rollcore.proofs.Refusing.{read_refuses, size_refuses, replay_refuses, count_refuses, break_refuses, hot_opens, count_opens}
-use Rattle.crashdisk.proofs.Later.{later_then, later_still}
+use Rattle.crashdisk.proofs.Later.{later_then, later_still, later_wider}
+use Rattle.crashdisk.specs.Keeps.{Later}
+use Rattle.rollcore.specs.Changes.{MayChange}
+use Rattle.rollcore.proofs.Asking.{replay_may}
 use Rattle.rollcore.proofs.opening.recover_synced.Goals as goal
 
 pub returns-in_err-plan-clause-recovered : goal.returns-in_err-plan-clause-recovered
@@ -146,7 +149,7 @@ returns-in_err-break_front-in-None-clause-recovered g c = λ word w d suits held
     let then = c.count_pages.ensures.still next after in
     let last = c.count_pages.ensures.word.0 next in
     let sound_b = still_sound a b after then in
-    let goes = c.break_front.ensures.goes last sound_b in
+    let goes = c.break_front.ensures.goes last sound_b 0 0 in
     let same = c.break_front.ensures.file last sound_b in
     let sectors = subst IsSectorSize (sym is.sector ∙ sym then.sector) (c.find_plan.ensures.sectors word) in
     let all = still_then s a b is then in
@@ -167,7 +170,7 @@ returns-in_ok-break_front-in-None-clause-recovered g c = λ word w d suits held 
     let then = c.count_pages.ensures.still next after in
     let last = c.count_pages.ensures.word.0 next in
     let sound_b = still_sound a b after then in
-    let goes = c.break_front.ensures.goes last sound_b in
+    let goes = c.break_front.ensures.goes last sound_b 0 0 in
     let same = c.break_front.ensures.file last sound_b in
     let sectors = subst IsSectorSize (sym is.sector ∙ sym then.sector) (c.find_plan.ensures.sectors word) in
     let all = still_then s a b is then in
@@ -187,7 +190,7 @@ returns-in_err-break_front-in-None-clause-agrees g c = λ word.
     let then = c.count_pages.ensures.still next after in
     let last = c.count_pages.ensures.word.0 next in
     let sound_b = still_sound a b after then in
-    let goes = c.break_front.ensures.goes last sound_b in
+    let goes = c.break_front.ensures.goes last sound_b 0 0 in
     let same = c.break_front.ensures.file last sound_b in
     let sectors = subst IsSectorSize (sym is.sector ∙ sym then.sector) (c.find_plan.ensures.sectors word) in
     let all = still_then s a b is then in
@@ -209,7 +212,7 @@ returns-in_ok-break_front-in-None-clause-agrees g c = λ word.
     let then = c.count_pages.ensures.still next after in
     let last = c.count_pages.ensures.word.0 next in
     let sound_b = still_sound a b after then in
-    let goes = c.break_front.ensures.goes last sound_b in
+    let goes = c.break_front.ensures.goes last sound_b 0 0 in
     let same = c.break_front.ensures.file last sound_b in
     let sectors = subst IsSectorSize (sym is.sector ∙ sym then.sector) (c.find_plan.ensures.sectors word) in
     let all = still_then s a b is then in
@@ -298,30 +301,36 @@ returns-in_ok-break_front-in-None-clause-opens g c = λ word db w are_db are.
     count_opens c.args.page_size db w s sound are_db are a is cold b (still_then s a b is (c.count_pages.ensures.still next after)) c.count_pages.result _ c.in_ok-pages-in-None.was (c.count_pages.ensures.count next after)
 
 pub returns-in_err-replayed-in-Some-clause-goes : goal.returns-in_err-replayed-in-Some-clause-goes
-returns-in_err-replayed-in-Some-clause-goes g c = λ word.
-    let mid = later_still _ _ (c.find_plan.ensures.sound word) (c.find_plan.ensures.still word) in
-    later_then _ _ _ mid (c.replay_plan.ensures.goes (c.find_plan.ensures.word.0 word) mid.sound)
+returns-in_err-replayed-in-Some-clause-goes g c = λ word size sector.
+    let mid : Later (MayChange size sector) _ _ = later_still _ _ (c.find_plan.ensures.sound word) (c.find_plan.ensures.still word) in
+    later_then _ _ _ mid (later_wider _ _ (replay_may size sector) (c.replay_plan.ensures.goes (c.find_plan.ensures.word.0 word) mid.sound))
 
 pub returns-in_ok-replayed-in-Some-clause-goes : goal.returns-in_ok-replayed-in-Some-clause-goes
-returns-in_ok-replayed-in-Some-clause-goes g c = λ word.
-    let mid = later_still _ _ (c.find_plan.ensures.sound word) (c.find_plan.ensures.still word) in
-    later_then _ _ _ mid (c.replay_plan.ensures.goes (c.find_plan.ensures.word.0 word) mid.sound)
+returns-in_ok-replayed-in-Some-clause-goes g c = λ word size sector.
+    let mid : Later (MayChange size sector) _ _ = later_still _ _ (c.find_plan.ensures.sound word) (c.find_plan.ensures.still word) in
+    later_then _ _ _ mid (later_wider _ _ (replay_may size sector) (c.replay_plan.ensures.goes (c.find_plan.ensures.word.0 word) mid.sound))
 
 pub returns-in_err-pages-in-None-clause-goes : goal.returns-in_err-pages-in-None-clause-goes
-returns-in_err-pages-in-None-clause-goes g c = λ word.
-    let mid = later_still _ _ (c.find_plan.ensures.sound word) (c.find_plan.ensures.still word) in
+returns-in_err-pages-in-None-clause-goes g c = λ word size sector.
+    let mid : Later (MayChange size sector) _ _ = later_still _ _ (c.find_plan.ensures.sound word) (c.find_plan.ensures.still word) in
     later_then _ _ _ mid (later_still _ _ mid.sound (c.count_pages.ensures.still (c.find_plan.ensures.word.0 word) mid.sound))
 
 pub returns-in_err-break_front-in-None-clause-goes : goal.returns-in_err-break_front-in-None-clause-goes
-returns-in_err-break_front-in-None-clause-goes g c = λ word.
-    let first = later_still _ _ (c.find_plan.ensures.sound word) (c.find_plan.ensures.still word) in
+returns-in_err-break_front-in-None-clause-goes g c = λ word size sector.
+    let first : Later (MayChange size sector) _ _ = later_still _ _ (c.find_plan.ensures.sound word) (c.find_plan.ensures.still word) in
     let next = c.find_plan.ensures.word.0 word in
-    let mid = later_then _ _ _ first (later_still _ _ first.sound (c.count_pages.ensures.still next first.sound)) in
-    later_then _ _ _ mid (c.break_front.ensures.goes (c.count_pages.ensures.word.0 next) mid.sound)
+    let mid : Later (MayChange size sector) _ _ = later_then _ _ _ first (later_still _ _ first.sound (c.count_pages.ensures.still next first.sound)) in
+    later_then _ _ _ mid (c.break_front.ensures.goes (c.count_pages.ensures.word.0 next) mid.sound size sector)
 
 pub returns-in_ok-break_front-in-None-clause-goes : goal.returns-in_ok-break_front-in-None-clause-goes
-returns-in_ok-break_front-in-None-clause-goes g c = λ word.
-    let first = later_still _ _ (c.find_plan.ensures.sound word) (c.find_plan.ensures.still word) in
+returns-in_ok-break_front-in-None-clause-goes g c = λ word size sector.
+    let first : Later (MayChange size sector) _ _ = later_still _ _ (c.find_plan.ensures.sound word) (c.find_plan.ensures.still word) in
     let next = c.find_plan.ensures.word.0 word in
-    let mid = later_then _ _ _ first (later_still _ _ first.sound (c.count_pages.ensures.still next first.sound)) in
-    later_then _ _ _ mid (c.break_front.ensures.goes (c.count_pages.ensures.word.0 next) mid.sound)
+    let mid : Later (MayChange size sector) _ _ = later_then _ _ _ first (later_still _ _ first.sound (c.count_pages.ensures.still next first.sound)) in
+    later_then _ _ _ mid (c.break_front.ensures.goes (c.count_pages.ensures.word.0 next) mid.sound size sector)
+
+pub returns-in_err-plan-clause-goes : goal.returns-in_err-plan-clause-goes
+returns-in_err-plan-clause-goes g c = λ word size sector. later_still _ _ (c.find_plan.ensures.sound word) (c.find_plan.ensures.still word)
+
+pub returns-in_err-judge_size-in-Some-clause-goes : goal.returns-in_err-judge_size-in-Some-clause-goes
+returns-in_err-judge_size-in-Some-clause-goes g c = λ word size sector. later_still _ _ (c.find_plan.ensures.sound word) (c.find_plan.ensures.still word)

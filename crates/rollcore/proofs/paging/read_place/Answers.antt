@@ -1,4 +1,4 @@
-use Rattle.std.proofs.Common.{◌+◌, sym, ap}
+use Rattle.std.proofs.Common.{◌+◌, inr, sym, ap}
 use Rattle.rollcore.specs.declared.error.RollError.TheVariants.{Device}
 use Rattle.sqval.proofs.Answering.{passed}
 use Rattle.crashdisk.proofs.Later.{place_read, place_refused}
@@ -11,3 +11,9 @@ returns-in_err-read_at-clause-place g c = λ word sound.
 
 pub returns-clause-place : goal.returns-clause-place
 returns-clause-place g c = λ word sound. place_read Device c.args.file c.args.at c.read_at.new.out _ _ sound tt _ c.read_at.result (c.read_at.ensures.state word) (c.in_ok-read_at.ensures.bytes word)
+
+pub returns-in_err-read_at-clause-looks : goal.returns-in_err-read_at-clause-looks
+returns-in_err-read_at-clause-looks g c = λ word. inr (_, c.read_at.result, c.read_at.ensures.state word)
+
+pub returns-clause-looks : goal.returns-clause-looks
+returns-clause-looks g c = λ word. inr (_, c.read_at.result, c.read_at.ensures.state word)

@@ -3,6 +3,8 @@ use Rattle.std.proofs.lemmas.List.{length-map}
 use Rattle.sqval.specs.Database.{Database, apply}
 use Rattle.sqval.specs.JudgedPages.{lent}
 use Rattle.sqjournal.proofs.Journals.{size_bounds}
+use Rattle.crashdisk.specs.Keeps.{Later}
+use Rattle.rollcore.specs.Changes.{MayChange}
 use Rattle.rollcore.specs.Machine.{segments_of}
 use Rattle.rollcore.specs.Segments.{pages_of}
 use Rattle.rollcore.specs.declared.changes.Change.{Change}
@@ -48,3 +50,9 @@ returns-clause-segment g c = λ word n count d nonces ready many wide lt at part
     (record { count = omega (arith, numbers, long, slice, items, c.min-to.ensures, c.len.ensures); nonce_is = refl; first_size = sym many; sector_is = refl; page_size = sym one })
     (part_turned size c.args.sector d pages n nonces c.args.k c.args.place v s before m)
     (part_somes size c.args.sector d pages n nonces c.args.k c.args.place v s before m) before.parted.put))
+
+pub returns-clause-goes : goal.returns-clause-goes
+returns-clause-goes g c = λ word sound wide.
+    let one : length c.deref_mut.result.now - 8 ≡ c.args.core.now.page_size = omega (arith, ap (λ (l : List ℕ). length l) c.deref_mut.ensures.value, c.args.core.now.record_room) in
+    subst (λ (k : ℕ). Later (MayChange k c.args.sector) (g.D.Disk.state c.args.disk.now) (g.D.Disk.state c.put_segment.new.disk)) one
+    (c.put_segment.ensures.goes word sound (ap (λ (l : List ℕ). length l) c.deref_mut-2.ensures.value ∙ wide))

@@ -1,9 +1,11 @@
-use Rattle.std.proofs.Common.{◌≡◌, ◌∙◌, sym, ap, subst, refl, arith, rules, length}
+use Rattle.std.proofs.Common.{◌≡◌, ◌∙◌, ℕ, sym, ap, subst, refl, arith, rules, length}
 use Rattle.std.specs.Prelude.{Result, Ok, Err}
 use Rattle.std.proofs.lemmas.List.{length-map}
 use Rattle.sqval.specs.Database.{apply}
 use Rattle.sqval.specs.JudgedPages.{lent}
 use Rattle.rollcore.specs.Machine.{segments_of}
+use Rattle.crashdisk.specs.Keeps.{Later}
+use Rattle.rollcore.specs.Changes.{MayChange}
 use Rattle.rollcore.specs.Segments.{pages_of, SegmentsAnswer}
 use Rattle.rollcore.specs.declared.changes.Change.{Change}
 use Rattle.rollcore.specs.declared.error.RollError.{RollError}
@@ -16,7 +18,7 @@ use Rattle.crashdisk.proofs.Later.{later_same, later_then}
 pub loop-k-init : goal.loop-k-init
 loop-k-init g c = record {
   word = search rules;
-  goes = λ word sound. later_same _ sound;
+  goes = λ word sound wide. later_same _ sound;
   place = omega arith;
   keeps = kept_same c.args.core.now;
   changes = refl;
@@ -32,9 +34,12 @@ put_part-requires-clause-place g c =
 pub loop-k-preserved : goal.loop-k-preserved
 loop-k-preserved g c = record {
   word = search rules;
-  goes = λ word sound.
-      let before = c.loop-k.invariant.goes word sound in
-      later_then _ _ _ before (c.put_part.ensures.goes (c.loop-k.invariant.word.0 word) before.sound);
+  goes = λ word sound wide.
+      let before = c.loop-k.invariant.goes word sound wide in
+      let kept = c.loop-k.invariant.keeps in
+      later_then _ _ _ before
+      (subst (λ (n : ℕ). Later (MayChange n c.args.sector) (g.D.Disk.state c.loop-k.disk) (g.D.Disk.state c.put_part.new.disk)) kept.page_size
+      (c.put_part.ensures.goes (c.loop-k.invariant.word.0 word) before.sound (kept.header_room ∙ wide)));
   place = omega (arith, c.in_ok-place.ensures.near, c.loop-k.invariant.place);
   keeps = kept_then c.args.core.now c.loop-k.core c.put_part.new.core c.loop-k.invariant.keeps c.put_part.ensures.keeps;
   changes = c.put_part.ensures.changes ∙ c.loop-k.invariant.changes;
@@ -76,9 +81,12 @@ returns-clause-segments g c = λ word n d ready suits held many wide same rests.
     (whole ∙ sym (ap segments_of (length-map c.args.core.now.changes.items (λ (c : Change). c.page)))) was.0 was.1
 
 pub returns-clause-goes : goal.returns-clause-goes
-returns-clause-goes g c = λ word sound. c.loop-k.invariant.goes word sound
+returns-clause-goes g c = λ word sound wide. c.loop-k.invariant.goes word sound wide
 
 pub returns-in_err-place-clause-goes : goal.returns-in_err-place-clause-goes
-returns-in_err-place-clause-goes g c = λ word sound.
-    let before = c.loop-k.invariant.goes word sound in
-    later_then _ _ _ before (c.put_part.ensures.goes (c.loop-k.invariant.word.0 word) before.sound)
+returns-in_err-place-clause-goes g c = λ word sound wide.
+    let before = c.loop-k.invariant.goes word sound wide in
+    let kept = c.loop-k.invariant.keeps in
+    later_then _ _ _ before
+    (subst (λ (n : ℕ). Later (MayChange n c.args.sector) (g.D.Disk.state c.loop-k.disk) (g.D.Disk.state c.put_part.new.disk)) kept.page_size
+    (c.put_part.ensures.goes (c.loop-k.invariant.word.0 word) before.sound (kept.header_room ∙ wide)))

@@ -5,6 +5,7 @@ use Rattle.sqval.specs.JudgedPages.{lent}
 use Rattle.crashdisk.specs.Call.{IsSoundDisk}
 use Rattle.rollcore.specs.Fits.{Rests}
 use Rattle.crashdisk.specs.Keeps.{Suits, Later}
+use Rattle.rollcore.specs.Changes.{MayChange}
 use Rattle.rollcore.specs.Commits.{KeepsCore, IsReady}
 use Rattle.rollcore.specs.Segments.{pages_of, Parted}
 use Rattle.rollcore.proofs.parts.put_segments.Given as goal
@@ -12,7 +13,8 @@ use Rattle.rollcore.proofs.parts.put_segments.Given as goal
 abbrev pub invariant-loop-k : goal.invariant-loop-k
 invariant-loop-k g l = record {
   word : g.D.Disk.keeps_word l.fn.disk ↔ g.D.Disk.keeps_word l.disk;
-  goes : g.D.Disk.keeps_word l.fn.disk → IsSoundDisk (g.D.Disk.state l.fn.disk) → Later (g.D.Disk.state l.fn.disk) (g.D.Disk.state l.disk);
+  goes : g.D.Disk.keeps_word l.fn.disk → IsSoundDisk (g.D.Disk.state l.fn.disk) → length l.fn.core.header.items ≡ l.sector
+      → Later (MayChange l.fn.core.page_size l.sector) (g.D.Disk.state l.fn.disk) (g.D.Disk.state l.disk);
   place : l.place ≤ l.k * 2 ^ 23;
   keeps : KeepsCore l.fn.core l.core;
   changes : l.core.changes ≡ l.fn.core.changes;

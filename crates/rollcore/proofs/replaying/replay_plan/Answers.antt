@@ -10,6 +10,9 @@ use Rattle.rollcore.proofs.Recovering.{planned, rolled_copy, rolled_end, rolled_
 use Rattle.rollcore.proofs.Lengths.{ends_hot, named_by, fit_named, rolled_length}
 use Rattle.rollcore.proofs.Writing.{writing_shows}
 use Rattle.rollcore.proofs.Agreeing.{fit_begins}
+use Rattle.crashdisk.specs.Keeps.{Later}
+use Rattle.rollcore.specs.Changes.{MayReplay}
+use Rattle.rollcore.proofs.Asking.{file_replays}
 use Rattle.crashdisk.proofs.Later.{later_then, later_keeps}
 use Rattle.rollcore.proofs.replaying.replay_plan.Goals as goal
 
@@ -105,10 +108,13 @@ returns-clause-ends g c = λ word sound sectors w down fit is.
 
 pub returns-in_err-finish-clause-goes : goal.returns-in_err-finish-clause-goes
 returns-in_err-finish-clause-goes g c = λ word sound.
-    let mid = later_keeps _ _ (c.copy_records.ensures.log word sound) in
+    let mid : Later MayReplay (g.D.Disk.state c.args.disk.now) (g.D.Disk.state c.copy_records.new.disk) = later_keeps _ _ file_replays (c.copy_records.ensures.log word sound) in
     later_then _ _ _ mid (c.finish.ensures.goes (c.copy_records.ensures.word.0 word) mid.sound)
 
 pub returns-clause-goes : goal.returns-clause-goes
 returns-clause-goes g c = λ word sound.
-    let mid = later_keeps _ _ (c.copy_records.ensures.log word sound) in
+    let mid : Later MayReplay (g.D.Disk.state c.args.disk.now) (g.D.Disk.state c.copy_records.new.disk) = later_keeps _ _ file_replays (c.copy_records.ensures.log word sound) in
     later_then _ _ _ mid (c.finish.ensures.goes (c.copy_records.ensures.word.0 word) mid.sound)
+
+pub returns-in_err-copy_records-clause-goes : goal.returns-in_err-copy_records-clause-goes
+returns-in_err-copy_records-clause-goes g c = λ word sound. later_keeps _ _ file_replays (c.copy_records.ensures.log word sound)

@@ -4,6 +4,8 @@ use Rattle.std.proofs.Math.Nat.{mul-le-mul_right}
 use Rattle.std.proofs.lemmas.List.{length-map}
 use Rattle.sqjournal.specs.Header.{next_header}
 use Rattle.sqjournal.proofs.Journals.{size_bounds}
+use Rattle.crashdisk.specs.Call.{Nothing}
+use Rattle.crashdisk.specs.Keeps.{Later}
 use Rattle.rollcore.specs.Opening.{BreakSteps}
 use Rattle.rollcore.specs.Segments.{PreparedAnswer, pages_of}
 use Rattle.rollcore.specs.declared.changes.Change.{Change}
@@ -13,6 +15,7 @@ use Rattle.crashdisk.proofs.Later.{sync_later, later_then}
 use Rattle.rollcore.proofs.Recording.{recording_begins}
 use Rattle.rollcore.proofs.Preparing.{ended, break_failed, settle_failed, settled, break_later, break_file, harmless_after}
 use Rattle.crashdisk.specs.declared.file.File.TheVariants.{Log}
+use Rattle.rollcore.proofs.Asking.{zero_may}
 use Rattle.rollcore.proofs.Going.{goes_broken}
 use Rattle.rollcore.specs.declared.error.RollError.TheVariants.{Device}
 use Rattle.rollcore.proofs.segments.prepare_segment.Goals as goal
@@ -74,26 +77,26 @@ returns-clause-prepared g c = λ word d named w is fresh more.
     let is_ended = ended n c.args.sector d named c.args.place w numbers c.args.nonce c.in_ok-break_magic.field-0 _ _ done.1 step in
     let later = break_later _ c.in_ok-break_magic.field-0 _ _ step in
     let sync = c.settle_log.ensures.state (c.break_magic.ensures.word.0 (c.write_records.ensures.word.0 word)) in
-    let last = sync_later Device _ c.settle_log.result _ _ is_ended.recorded.recording.at.suits.sound sync in
+    let last : Later Nothing (g.D.Disk.state c.break_magic.new.disk) (g.D.Disk.state c.settle_log.new.disk) = sync_later Device _ c.settle_log.result _ _ is_ended.recorded.recording.at.suits.sound sync in
     let many : (c.args.place ≡ 0) ⊎ (1 ≤ length numbers) = ⊎_elim (λ zero. inl zero) (λ one. inr (omega (arith, one, length-map c.args.changes.now (λ (c : Change). c.page)))) more in
     (at, settled n c.args.sector d named c.args.place w numbers c.args.nonce c.settle_log.result c.in_ok-settle_log.field-0 _ _ is_ended many c.in_ok-settle_log.was sync, omega (arith, done.2, later, last.refused), sync.2.elsewhere.other ∙ break_file _ c.in_ok-break_magic.field-0 _ _ step ∙ done.3)
 
 pub returns-in_err-end-clause-goes : goal.returns-in_err-end-clause-goes
-returns-in_err-end-clause-goes g c = λ word sound. c.write_records.ensures.goes word sound
+returns-in_err-end-clause-goes g c = λ word sound. c.write_records.ensures.goes word sound c.args.sector
 
 pub returns-in_err-break_magic-clause-goes : goal.returns-in_err-break_magic-clause-goes
 returns-in_err-break_magic-clause-goes g c = λ word sound.
-    let first = c.write_records.ensures.goes word sound in
-    later_then _ _ _ first (goes_broken _ c.break_magic.result _ _ first.sound (c.break_magic.ensures.steps (c.write_records.ensures.word.0 word) first.sound))
+    let first = c.write_records.ensures.goes word sound c.args.sector in
+    later_then _ _ _ first (goes_broken _ c.break_magic.result _ _ (zero_may _ c.args.sector _) first.sound (c.break_magic.ensures.steps (c.write_records.ensures.word.0 word) first.sound))
 
 pub returns-in_err-settle_log-clause-goes : goal.returns-in_err-settle_log-clause-goes
 returns-in_err-settle_log-clause-goes g c = λ word sound.
-    let first = c.write_records.ensures.goes word sound in
-    let mid = later_then _ _ _ first (goes_broken _ c.break_magic.result _ _ first.sound (c.break_magic.ensures.steps (c.write_records.ensures.word.0 word) first.sound)) in
+    let first = c.write_records.ensures.goes word sound c.args.sector in
+    let mid = later_then _ _ _ first (goes_broken _ c.break_magic.result _ _ (zero_may _ c.args.sector _) first.sound (c.break_magic.ensures.steps (c.write_records.ensures.word.0 word) first.sound)) in
     later_then _ _ _ mid (sync_later Device Log c.settle_log.result _ _ mid.sound (c.settle_log.ensures.state (c.break_magic.ensures.word.0 (c.write_records.ensures.word.0 word))))
 
 pub returns-clause-goes : goal.returns-clause-goes
 returns-clause-goes g c = λ word sound.
-    let first = c.write_records.ensures.goes word sound in
-    let mid = later_then _ _ _ first (goes_broken _ c.break_magic.result _ _ first.sound (c.break_magic.ensures.steps (c.write_records.ensures.word.0 word) first.sound)) in
+    let first = c.write_records.ensures.goes word sound c.args.sector in
+    let mid = later_then _ _ _ first (goes_broken _ c.break_magic.result _ _ (zero_may _ c.args.sector _) first.sound (c.break_magic.ensures.steps (c.write_records.ensures.word.0 word) first.sound)) in
     later_then _ _ _ mid (sync_later Device Log c.settle_log.result _ _ mid.sound (c.settle_log.ensures.state (c.break_magic.ensures.word.0 (c.write_records.ensures.word.0 word))))

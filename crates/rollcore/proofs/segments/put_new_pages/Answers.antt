@@ -1,7 +1,8 @@
 use Rattle.std.proofs.Common.{◌<◌, ◌++◌, ◌+◌, ℕ, length, sym, ap, subst, arith, rules, []}
 use Rattle.std.specs.Prelude.{Result, Ok}
 use Rattle.sqval.specs.JudgedPages.{lent}
-use Rattle.crashdisk.specs.Call.{DiskState}
+use Rattle.crashdisk.specs.Call.{DiskState, InFile}
+use Rattle.crashdisk.specs.declared.file.File.TheVariants.{Db}
 use Rattle.crashdisk.specs.Keeps.{Later}
 use Rattle.rollcore.specs.Segments.{PutPagesAnswer, new_numbers}
 use Rattle.rollcore.specs.declared.error.RollError.{RollError}
@@ -26,9 +27,9 @@ loop-x-preserved g c = record {
       let before = c.loop-x.invariant.goes word sound in
       elim c.if-page-old_size.branch [
         | then-page-old_size+in_ok-put_page x ↦
-            subst (λ (s : DiskState). Later (g.D.Disk.state c.args.disk.now) s) (sym (ap g.D.Disk.state x.disk-is))
+            subst (λ (s : DiskState). Later (InFile Db) (g.D.Disk.state c.args.disk.now) s) (sym (ap g.D.Disk.state x.disk-is))
             (later_then _ _ _ before (goes_page _ _ x.put_page.result _ _ before.sound (x.put_page.ensures.step (c.loop-x.invariant.word.0 word))))
-        | else-page-old_size x ↦ subst (λ (s : DiskState). Later (g.D.Disk.state c.args.disk.now) s) (sym (ap g.D.Disk.state x.disk-is)) before
+        | else-page-old_size x ↦ subst (λ (s : DiskState). Later (InFile Db) (g.D.Disk.state c.args.disk.now) s) (sym (ap g.D.Disk.state x.disk-is)) before
       ];
   put = λ word size sector d e named place w before is begun many are somes put.
       let was = c.loop-x.invariant.put word size sector d e named place w before is begun many are somes put in

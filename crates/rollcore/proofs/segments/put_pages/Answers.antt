@@ -1,7 +1,8 @@
 use Rattle.std.proofs.Common.{◌++◌, ◌+◌, sym, ap, subst, arith, rules, []}
 use Rattle.std.specs.Prelude.{Result}
 use Rattle.sqval.specs.JudgedPages.{lent}
-use Rattle.crashdisk.specs.Call.{DiskState}
+use Rattle.crashdisk.specs.Call.{DiskState, InFile}
+use Rattle.crashdisk.specs.declared.file.File.TheVariants.{Db}
 use Rattle.crashdisk.specs.Keeps.{Later}
 use Rattle.rollcore.specs.Segments.{PutPagesAnswer, pages_of}
 use Rattle.rollcore.specs.declared.error.RollError.{RollError}
@@ -39,9 +40,9 @@ loop-change-preserved g c = record {
   goes = λ word sound.
       let before = c.loop-change.invariant.goes word sound in
       elim c.match-change.branch [
-        | in-Some+in_ok-put_page-in-Some x ↦ subst (λ (s : DiskState). Later (g.D.Disk.state c.args.disk.now) s) (sym (ap g.D.Disk.state x.disk-is))
+        | in-Some+in_ok-put_page-in-Some x ↦ subst (λ (s : DiskState). Later (InFile Db) (g.D.Disk.state c.args.disk.now) s) (sym (ap g.D.Disk.state x.disk-is))
             (later_then _ _ _ before (x.put_page.ensures.goes (c.loop-change.invariant.word.0 word) before.sound))
-        | in-None x ↦ subst (λ (s : DiskState). Later (g.D.Disk.state c.args.disk.now) s) (sym (ap g.D.Disk.state x.disk-is)) before
+        | in-None x ↦ subst (λ (s : DiskState). Later (InFile Db) (g.D.Disk.state c.args.disk.now) s) (sym (ap g.D.Disk.state x.disk-is)) before
       ];
   put = λ word size sector d e named place w before is begun turned somes put.
       let was = c.loop-change.invariant.put word size sector d e named place w before is begun turned somes put in

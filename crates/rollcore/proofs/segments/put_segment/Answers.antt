@@ -3,7 +3,7 @@ use Rattle.std.specs.Prelude.{Result}
 use Rattle.std.proofs.lemmas.List.{length-map}
 use Rattle.sqjournal.proofs.Journals.{size_bounds}
 use Rattle.crashdisk.specs.State.{FileState}
-use Rattle.rollcore.specs.Journaling.{old_pages, sizes, next_place, HasNonces}
+use Rattle.rollcore.specs.Journaling.{old_pages, sizes, next_place, HasParts}
 use Rattle.rollcore.specs.Segments.{SegmentAnswer, Journaled, ArePut, pages_of}
 use Rattle.rollcore.specs.declared.changes.Change.{Change}
 use Rattle.rollcore.specs.declared.error.RollError.{RollError}
@@ -11,7 +11,8 @@ use Rattle.sqval.proofs.Answering.{passed}
 use Rattle.rollcore.proofs.Preparing.{harmless_after}
 use Rattle.rollcore.proofs.WholeSegments.{next_of}
 use Rattle.rollcore.proofs.segments.put_segment.Goals as goal
-use Rattle.crashdisk.proofs.Later.{later_then}
+use Rattle.crashdisk.proofs.Later.{later_then, later_wider}
+use Rattle.rollcore.proofs.Asking.{file_may}
 
 pub returns-in_err-next-clause-segment : goal.returns-in_err-next-clause-segment
 returns-in_err-next-clause-segment g c = λ word d e named w before is fresh more wide head turned somes put.
@@ -63,28 +64,28 @@ returns-clause-segment g c = λ word d e named w before is fresh more wide head 
       (
         down.0.0,
         subst (λ (k : ℕ). Journaled n sector d (named ++ numbers) k down.0.0 (g.D.Disk.state c.put_pages.new.disk)) (sym ready.0) all.0,
-        λ nonces has. subst (λ (k : ℕ). HasNonces (sizes sector n) down.0.0 k (nonces ++ c.args.head.now.nonce ∷ [])) (sym ready.0) (down.0.2 nonces (ready.1.2 nonces has)),
+        λ parts has. subst (λ (k : ℕ). HasParts (sizes sector n) down.0.0 k (parts ++ (c.args.head.now.nonce, old_pages d numbers) ∷ [])) (sym ready.0) (down.0.2 parts (ready.1.2 parts has)),
       ),
       all.1,
       omega (arith, ready.2, down.1, all.2),
     )
 
 pub returns-in_err-next-clause-goes : goal.returns-in_err-next-clause-goes
-returns-in_err-next-clause-goes g c = λ word sound. c.prepare_segment.ensures.goes word sound
+returns-in_err-next-clause-goes g c = λ word sound wide. c.prepare_segment.ensures.goes word sound
 
 pub returns-in_err-write_header-clause-goes : goal.returns-in_err-write_header-clause-goes
-returns-in_err-write_header-clause-goes g c = λ word sound.
+returns-in_err-write_header-clause-goes g c = λ word sound wide.
     let first = c.prepare_segment.ensures.goes word sound in
-    later_then _ _ _ first (c.write_header.ensures.goes (c.prepare_segment.ensures.word.0 word) first.sound)
+    later_then _ _ _ first (c.write_header.ensures.goes (c.prepare_segment.ensures.word.0 word) first.sound wide (length c.args.buffer.now - 8))
 
 pub returns-in_err-put_pages-clause-goes : goal.returns-in_err-put_pages-clause-goes
-returns-in_err-put_pages-clause-goes g c = λ word sound.
+returns-in_err-put_pages-clause-goes g c = λ word sound wide.
     let first = c.prepare_segment.ensures.goes word sound in
-    let mid = later_then _ _ _ first (c.write_header.ensures.goes (c.prepare_segment.ensures.word.0 word) first.sound) in
-    later_then _ _ _ mid (c.put_pages.ensures.goes (c.write_header.ensures.word.0 (c.prepare_segment.ensures.word.0 word)) mid.sound)
+    let mid = later_then _ _ _ first (c.write_header.ensures.goes (c.prepare_segment.ensures.word.0 word) first.sound wide (length c.args.buffer.now - 8)) in
+    later_then _ _ _ mid (later_wider _ _ (file_may _ c.args.head.now.sector) (c.put_pages.ensures.goes (c.write_header.ensures.word.0 (c.prepare_segment.ensures.word.0 word)) mid.sound))
 
 pub returns-clause-goes : goal.returns-clause-goes
-returns-clause-goes g c = λ word sound.
+returns-clause-goes g c = λ word sound wide.
     let first = c.prepare_segment.ensures.goes word sound in
-    let mid = later_then _ _ _ first (c.write_header.ensures.goes (c.prepare_segment.ensures.word.0 word) first.sound) in
-    later_then _ _ _ mid (c.put_pages.ensures.goes (c.write_header.ensures.word.0 (c.prepare_segment.ensures.word.0 word)) mid.sound)
+    let mid = later_then _ _ _ first (c.write_header.ensures.goes (c.prepare_segment.ensures.word.0 word) first.sound wide (length c.args.buffer.now - 8)) in
+    later_then _ _ _ mid (later_wider _ _ (file_may _ c.args.head.now.sector) (c.put_pages.ensures.goes (c.write_header.ensures.word.0 (c.prepare_segment.ensures.word.0 word)) mid.sound))

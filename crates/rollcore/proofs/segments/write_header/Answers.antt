@@ -1,10 +1,11 @@
-use Rattle.std.proofs.Common.{◌≡◌, ◌-◌, ◌∙◌, ◌++◌, ℕ, length, replicate, sym, ap, subst}
+use Rattle.std.proofs.Common.{◌≡◌, ◌-◌, ◌∙◌, ◌++◌, ℕ, length, replicate, refl, sym, ap, subst}
 use Rattle.std.specs.Prelude.{Result}
 use Rattle.sqjournal.specs.Header.{header_bytes}
 use Rattle.rollcore.specs.Segments.{HeaderAnswer}
 use Rattle.rollcore.specs.declared.error.RollError.{RollError}
 use Rattle.rollcore.specs.declared.error.RollError.TheVariants.{Device}
 use Rattle.sqval.proofs.Answering.{passed}
+use Rattle.rollcore.proofs.Asking.{header_may}
 use Rattle.rollcore.proofs.HeaderSteps.{header_failed, header_unsynced, header_done}
 use Rattle.crashdisk.specs.declared.file.File.TheVariants.{Log}
 use Rattle.rollcore.proofs.segments.write_header.Goals as goal
@@ -35,14 +36,18 @@ returns-clause-header g c = λ word size sector d named part w nonce is wide few
     (c.in_ok-sync.ensures.state (c.write_at.ensures.word.0 word))
 
 pub returns-in_err-write_at-clause-goes : goal.returns-in_err-write_at-clause-goes
-returns-in_err-write_at-clause-goes g c = λ word sound. later_write Log c.args.place _ c.write_at.result _ _ sound (c.write_at.ensures.state word)
+returns-in_err-write_at-clause-goes g c = λ word sound wide size.
+    let padded = c.fill_header.ensures.bytes ∙ ap (λ (n : ℕ). header_bytes c.args.head.now ++ replicate (n - 28) 0) wide in
+    later_write Log c.args.place _ c.write_at.result _ _ (header_may size c.args.head.now.sector c.args.place c.args.head.now _ refl padded) sound (c.write_at.ensures.state word)
 
 pub returns-in_err-sync-clause-goes : goal.returns-in_err-sync-clause-goes
-returns-in_err-sync-clause-goes g c = λ word sound.
-    let mid = later_write Log c.args.place _ c.write_at.result _ _ sound (c.write_at.ensures.state word) in
+returns-in_err-sync-clause-goes g c = λ word sound wide size.
+    let padded = c.fill_header.ensures.bytes ∙ ap (λ (n : ℕ). header_bytes c.args.head.now ++ replicate (n - 28) 0) wide in
+    let mid = later_write Log c.args.place _ c.write_at.result _ _ (header_may size c.args.head.now.sector c.args.place c.args.head.now _ refl padded) sound (c.write_at.ensures.state word) in
     later_then _ _ _ mid (later_sync Log c.sync.result _ _ mid.sound (c.sync.ensures.state (c.write_at.ensures.word.0 word)))
 
 pub returns-clause-goes : goal.returns-clause-goes
-returns-clause-goes g c = λ word sound.
-    let mid = later_write Log c.args.place _ c.write_at.result _ _ sound (c.write_at.ensures.state word) in
+returns-clause-goes g c = λ word sound wide size.
+    let padded = c.fill_header.ensures.bytes ∙ ap (λ (n : ℕ). header_bytes c.args.head.now ++ replicate (n - 28) 0) wide in
+    let mid = later_write Log c.args.place _ c.write_at.result _ _ (header_may size c.args.head.now.sector c.args.place c.args.head.now _ refl padded) sound (c.write_at.ensures.state word) in
     later_then _ _ _ mid (later_sync Log c.sync.result _ _ mid.sound (c.sync.ensures.state (c.write_at.ensures.word.0 word)))

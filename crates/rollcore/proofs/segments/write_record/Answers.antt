@@ -5,6 +5,7 @@ use Rattle.crashdisk.specs.State.{byte}
 use Rattle.crashdisk.specs.Call.{Writes, Looks}
 use Rattle.crashdisk.specs.declared.file.File.TheVariants.{Log}
 use Rattle.rollcore.specs.Journaling.{record_bytes}
+use Rattle.rollcore.proofs.Asking.{record_may}
 use Rattle.rollcore.specs.declared.error.RollError.TheVariants.{Device}
 use Rattle.sqval.proofs.Answering.{passed}
 use Rattle.crashdisk.proofs.Stills.{still_looks}
@@ -59,14 +60,24 @@ returns-clause-record g c = λ word sound fits.
     (still_looks _ c.read_at.result _ _ sound (c.read_at.ensures.state word)) tt wrote
 
 pub returns-in_err-read_at-clause-goes : goal.returns-in_err-read_at-clause-goes
-returns-in_err-read_at-clause-goes g c = λ word sound. later_still _ _ sound (still_looks _ c.read_at.result _ _ sound (c.read_at.ensures.state word))
+returns-in_err-read_at-clause-goes g c = λ word sound sector. later_still _ _ sound (still_looks _ c.read_at.result _ _ sound (c.read_at.ensures.state word))
 
 pub returns-in_err-write_at-clause-goes : goal.returns-in_err-write_at-clause-goes
-returns-in_err-write_at-clause-goes g c = λ word sound.
+returns-in_err-write_at-clause-goes g c = λ word sound sector.
+    let r = c.args.buffer.now in
+    let out = c.read_at.new.out in
+    let full : length out ≡ length r - 8 = c.read_at.auto.out ∙ length-take-le (length r - 4 - 4) (drop 4 r) (omega (arith, length-drop 4 r)) ∙ (let short : length r - 4 - 4 ≡ length r - 8 = omega arith in short) in
+    let all = same_len_mid 4 (length r - 4 - 4) r out c.read_at.auto.out in
+    let bytes = c.frame_record.ensures ∙ ap (λ (x : List ℕ). record_bytes c.args.page c.args.nonce x) (middle r out (drop (length r - 4 - 4) (drop 4 r)) (omega arith) (omega (arith, all, full))) in
     let mid = later_still _ _ sound (still_looks _ c.read_at.result _ _ sound (c.read_at.ensures.state word)) in
-    later_then _ _ _ mid (later_write Log c.args.at _ c.write_at.result _ _ mid.sound (c.write_at.ensures.state (c.read_at.ensures.word.0 word)))
+    later_then _ _ _ mid (later_write Log c.args.at _ c.write_at.result _ _ (record_may (length r - 8) sector c.args.at c.args.page c.args.nonce out _ full bytes) mid.sound (c.write_at.ensures.state (c.read_at.ensures.word.0 word)))
 
 pub returns-clause-goes : goal.returns-clause-goes
-returns-clause-goes g c = λ word sound.
+returns-clause-goes g c = λ word sound sector.
+    let r = c.args.buffer.now in
+    let out = c.read_at.new.out in
+    let full : length out ≡ length r - 8 = c.read_at.auto.out ∙ length-take-le (length r - 4 - 4) (drop 4 r) (omega (arith, length-drop 4 r)) ∙ (let short : length r - 4 - 4 ≡ length r - 8 = omega arith in short) in
+    let all = same_len_mid 4 (length r - 4 - 4) r out c.read_at.auto.out in
+    let bytes = c.frame_record.ensures ∙ ap (λ (x : List ℕ). record_bytes c.args.page c.args.nonce x) (middle r out (drop (length r - 4 - 4) (drop 4 r)) (omega arith) (omega (arith, all, full))) in
     let mid = later_still _ _ sound (still_looks _ c.read_at.result _ _ sound (c.read_at.ensures.state word)) in
-    later_then _ _ _ mid (later_write Log c.args.at _ c.write_at.result _ _ mid.sound (c.write_at.ensures.state (c.read_at.ensures.word.0 word)))
+    later_then _ _ _ mid (later_write Log c.args.at _ c.write_at.result _ _ (record_may (length r - 8) sector c.args.at c.args.page c.args.nonce out _ full bytes) mid.sound (c.write_at.ensures.state (c.read_at.ensures.word.0 word)))

@@ -1,6 +1,8 @@
 use Rattle.std.proofs.Common.{◌≡◌, ◌<◌, ◌≤◌, ◌+◌, ◌-◌, ◌*◌, ◌∙◌, ℕ, length, sym, ap, subst, arith, rules}
 use Rattle.std.proofs.lemmas.List.{length-map}
 use Rattle.sqval.specs.CommitFaults.{most_bytes}
+use Rattle.crashdisk.specs.Keeps.{Later}
+use Rattle.rollcore.specs.Changes.{MayChange}
 use Rattle.rollcore.specs.Segments.{RecordStep, RecordsAnswer, pages_of}
 use Rattle.std.specs.Prelude.{None}
 use Rattle.rollcore.specs.Commits.{change_at}
@@ -13,7 +15,7 @@ use Rattle.crashdisk.proofs.Later.{later_same, later_then}
 pub loop-change-init : goal.loop-change-init
 loop-change-init g c = record {
   word = search rules;
-  goes = λ word sound. later_same _ sound;
+  goes = λ word sound sector. later_same _ sound;
   end = omega arith;
   going = λ word sector d named place w is at fresh. gone_none _ sector d named place w (pages_of c.args.changes.now) c.args.nonce c.args.at (g.D.Disk.state c.args.disk.now) at is;
 }
@@ -21,9 +23,11 @@ loop-change-init g c = record {
 pub loop-change-preserved : goal.loop-change-preserved
 loop-change-preserved g c = record {
   word = search rules;
-  goes = λ word sound.
-      let before = c.loop-change.invariant.goes word sound in
-      later_then _ _ _ before (c.write_record.ensures.goes (c.loop-change.invariant.word.0 word) before.sound);
+  goes = λ word sound sector.
+      let before = c.loop-change.invariant.goes word sound sector in
+      later_then _ _ _ before
+      (subst (λ (k : ℕ). Later (MayChange (k - 8) sector) (g.D.Disk.state c.loop-change.disk) (g.D.Disk.state c.write_record.new.disk)) c.loop-change.auto.buffer
+      (c.write_record.ensures.goes (c.loop-change.invariant.word.0 word) before.sound sector));
   end =
       let so_far : c.loop-change.end ≡ c.args.at + c.loop-change.change-index * length c.write_record.new.buffer = c.loop-change.invariant.end ∙ ap (λ (n : ℕ). c.args.at + c.loop-change.change-index * n) (sym c.write_record.auto.buffer) in
       omega arith;
@@ -58,9 +62,11 @@ returns-in_err-write_record-clause-records g c = λ word sector d named place w 
     (λ x. RecordsAnswer n sector d named place w (pages_of c.args.changes.now) c.args.nonce x (g.D.Disk.state c.args.disk.now) (g.D.Disk.state c.write_record.new.disk)) (λ off. off)
 
 pub returns-clause-goes : goal.returns-clause-goes
-returns-clause-goes g c = λ word sound. c.loop-change.invariant.goes word sound
+returns-clause-goes g c = λ word sound sector. c.loop-change.invariant.goes word sound sector
 
 pub returns-in_err-write_record-clause-goes : goal.returns-in_err-write_record-clause-goes
-returns-in_err-write_record-clause-goes g c = λ word sound.
-    let before = c.loop-change.invariant.goes word sound in
-    later_then _ _ _ before (c.write_record.ensures.goes (c.loop-change.invariant.word.0 word) before.sound)
+returns-in_err-write_record-clause-goes g c = λ word sound sector.
+    let before = c.loop-change.invariant.goes word sound sector in
+    later_then _ _ _ before
+    (subst (λ (k : ℕ). Later (MayChange (k - 8) sector) (g.D.Disk.state c.loop-change.disk) (g.D.Disk.state c.write_record.new.disk)) c.loop-change.auto.buffer
+    (c.write_record.ensures.goes (c.loop-change.invariant.word.0 word) before.sound sector))

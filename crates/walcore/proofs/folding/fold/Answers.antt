@@ -8,6 +8,7 @@ use Rattle.walcore.proofs.Agreeing.{agrees_by}
 use Rattle.crashdisk.proofs.Down.{down_syncs}
 use Rattle.walcore.proofs.Lengths.{ends_down, length_syncs}
 use Rattle.crashdisk.proofs.Later.{later_same, later_sync, later_then}
+use Rattle.walcore.proofs.Changes.{fold_sync}
 use Rattle.walcore.proofs.folding.fold.Goals as goal
 
 pub returns-in_err-sync-clause-agrees : goal.returns-in_err-sync-clause-agrees
@@ -68,12 +69,12 @@ returns-clause-synced g c = λ word whole.
     }
 
 pub returns-in_err-judge_sector-clause-later : goal.returns-in_err-judge_sector-clause-later
-returns-in_err-judge_sector-clause-later g c = λ word sound. later_same _ sound
+returns-in_err-judge_sector-clause-later g c = λ word. later_same _ (c.judge_sector.ensures.sound word)
 
 pub returns-in_err-sync-clause-later : goal.returns-in_err-sync-clause-later
-returns-in_err-sync-clause-later g c = λ word sound. later_sync Log c.sync.result _ _ sound (c.sync.ensures.state word)
+returns-in_err-sync-clause-later g c = λ word. later_sync Log c.sync.result _ _ (c.judge_sector.ensures.sound word) (c.sync.ensures.state word)
 
 pub returns-clause-later : goal.returns-clause-later
-returns-clause-later g c = λ word sound.
-    let mid = later_sync Log c.sync.result _ _ sound (c.sync.ensures.state word) in
+returns-clause-later g c = λ word.
+    let mid = fold_sync Log c.sync.result _ _ (c.judge_sector.ensures.sound word) (c.sync.ensures.state word) in
     later_then _ _ _ mid (c.fold_synced.ensures.later (c.sync.ensures.word.0 word))

@@ -10,6 +10,7 @@ use Rattle.crashdisk.proofs.Images.{table}
 use Rattle.crashdisk.proofs.Steps.{present_list}
 use Rattle.walcore.proofs.Lengths.{ends_long, ends_fronted, fronted_keeps, front_none, copied_length}
 use Rattle.crashdisk.proofs.Later.{later_then, later_keeps}
+use Rattle.walcore.proofs.Changes.{fold_file}
 use Rattle.walcore.proofs.folding.fold_plan.Goals as goal
 
 pub returns-in_err-finish-clause-folds : goal.returns-in_err-finish-clause-folds
@@ -130,14 +131,14 @@ returns-clause-lengths g c = λ word sound size w n down is len.
     (fronted_keeps w c.args.plan.frames (g.D.Disk.state c.args.disk.now) _ log (record { down = down; some = some; front = is.front }))
 
 pub returns-in_err-copy_pages-clause-later : goal.returns-in_err-copy_pages-clause-later
-returns-in_err-copy_pages-clause-later g c = λ word sound. later_keeps _ _ (c.copy_pages.ensures.log word sound)
+returns-in_err-copy_pages-clause-later g c = λ word sound. later_keeps _ _ fold_file (c.copy_pages.ensures.log word sound)
 
 pub returns-in_err-finish-2-clause-later : goal.returns-in_err-finish-2-clause-later
 returns-in_err-finish-2-clause-later g c = λ word sound.
     let log = c.copy_pages.ensures.log word sound in
-    later_then _ _ _ (later_keeps _ _ log) (c.finish-2.ensures.later (c.copy_pages.ensures.word.0 word) log.sound)
+    later_then _ _ _ (later_keeps _ _ fold_file log) (c.finish-2.ensures.later (c.copy_pages.ensures.word.0 word) log.sound)
 
 pub returns-clause-later : goal.returns-clause-later
 returns-clause-later g c = λ word sound.
     let log = c.copy_pages.ensures.log word sound in
-    later_then _ _ _ (later_keeps _ _ log) (c.finish-2.ensures.later (c.copy_pages.ensures.word.0 word) log.sound)
+    later_then _ _ _ (later_keeps _ _ fold_file log) (c.finish-2.ensures.later (c.copy_pages.ensures.word.0 word) log.sound)

@@ -1,5 +1,5 @@
 use Rattle.walcore.proofs.Looking.{crash_shows}
-use Rattle.walcore.proofs.Agreed.{alone_looks, alone_syncs}
+use Rattle.walcore.proofs.Agreed.{alone_looks, alone_syncs, alone_same}
 use Rattle.walcore.proofs.laws.what_is_shown_stays.Goals as goal
 
 pub returns-clause-len : goal.returns-clause-len
@@ -10,6 +10,9 @@ returns-clause-read c end result old new looked size d alone = alone_looks size 
 
 pub returns-clause-sync : goal.returns-clause-sync
 returns-clause-sync c file result old new sound synced size d alone = alone_syncs size d file result old new sound synced alone
+
+pub returns-clause-same : goal.returns-clause-same
+returns-clause-same c old new sound same size d alone = alone_same size d old new sound same alone
 
 pub returns-clause-crash : goal.returns-clause-crash
 returns-clause-crash c db log old new sound crashed whole size d alone = crash_shows size d db log old new sound alone crashed whole

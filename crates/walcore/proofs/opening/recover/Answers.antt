@@ -2,7 +2,8 @@ use Rattle.crashdisk.specs.declared.file.File.TheVariants.{Log}
 use Rattle.walcore.specs.declared.error.WalError.TheVariants.{Device}
 use Rattle.sqval.proofs.Answering.{passed}
 use Rattle.walcore.proofs.Recovered.{recover_unsynced, ready_synced, ready_still, recover_unjudged, recover_unfolded, recover_counted, synced_files, whole_at}
-use Rattle.crashdisk.proofs.Later.{later_sync, later_still, later_then}
+use Rattle.crashdisk.proofs.Later.{later_still, later_then}
+use Rattle.walcore.proofs.Changes.{fold_sync}
 use Rattle.walcore.proofs.Lengths.{down_still}
 use Rattle.walcore.proofs.Agreed.{alone_still, agrees_then, agrees_synced, agrees_after, agrees_looked, synced_empty, still_empty, folded_empty, on_ok}
 use Rattle.walcore.proofs.Unopened.{whole_synced, files_synced, files_looked, unjudged, unfolded, uncounted, may_open}
@@ -48,17 +49,17 @@ returns-clause-recovered g c = λ word past found are same fits chance.
     (c.fold_synced.ensures.folds then files.empty found.db found.log files.db files.log) (g.D.Disk.state c.count_pages.new.disk) (c.count_pages.ensures.still last later.sound) c.count_pages.result (c.count_pages.ensures.count last later.sound)
 
 pub returns-in_err-sync-clause-later : goal.returns-in_err-sync-clause-later
-returns-in_err-sync-clause-later g c = λ word sound. later_sync Log c.sync.result (g.D.Disk.state c.args.disk.now) (g.D.Disk.state c.sync.new.self) sound (c.sync.ensures.state word)
+returns-in_err-sync-clause-later g c = λ word sound. fold_sync Log c.sync.result (g.D.Disk.state c.args.disk.now) (g.D.Disk.state c.sync.new.self) sound (c.sync.ensures.state word)
 
 pub returns-in_err-judge_file-clause-later : goal.returns-in_err-judge_file-clause-later
 returns-in_err-judge_file-clause-later g c = λ word sound.
-    let first = later_sync Log c.sync.result (g.D.Disk.state c.args.disk.now) (g.D.Disk.state c.sync.new.self) sound (c.sync.ensures.state word) in
+    let first = fold_sync Log c.sync.result (g.D.Disk.state c.args.disk.now) (g.D.Disk.state c.sync.new.self) sound (c.sync.ensures.state word) in
     later_then (g.D.Disk.state c.args.disk.now) (g.D.Disk.state c.sync.new.self) (g.D.Disk.state c.judge_file.new.disk) first (later_still (g.D.Disk.state c.sync.new.self) (g.D.Disk.state c.judge_file.new.disk) first.sound (c.judge_file.ensures.still (c.sync.ensures.word.0 word) first.sound))
 
 pub returns-in_err-fold_synced-clause-later : goal.returns-in_err-fold_synced-clause-later
 returns-in_err-fold_synced-clause-later g c = λ word sound.
     let next = c.sync.ensures.word.0 word in
-    let first = later_sync Log c.sync.result (g.D.Disk.state c.args.disk.now) (g.D.Disk.state c.sync.new.self) sound (c.sync.ensures.state word) in
+    let first = fold_sync Log c.sync.result (g.D.Disk.state c.args.disk.now) (g.D.Disk.state c.sync.new.self) sound (c.sync.ensures.state word) in
     let second = later_then (g.D.Disk.state c.args.disk.now) (g.D.Disk.state c.sync.new.self) (g.D.Disk.state c.judge_file.new.disk) first (later_still (g.D.Disk.state c.sync.new.self) (g.D.Disk.state c.judge_file.new.disk) first.sound (c.judge_file.ensures.still next first.sound)) in
     later_then (g.D.Disk.state c.args.disk.now) (g.D.Disk.state c.judge_file.new.disk) (g.D.Disk.state c.fold_synced.new.disk) second (c.fold_synced.ensures.later (c.judge_file.ensures.word.0 next))
 
@@ -67,7 +68,7 @@ returns-clause-later g c = λ word sound.
     let next = c.sync.ensures.word.0 word in
     let then = c.judge_file.ensures.word.0 next in
     let later = c.fold_synced.ensures.later then in
-    let first = later_sync Log c.sync.result (g.D.Disk.state c.args.disk.now) (g.D.Disk.state c.sync.new.self) sound (c.sync.ensures.state word) in
+    let first = fold_sync Log c.sync.result (g.D.Disk.state c.args.disk.now) (g.D.Disk.state c.sync.new.self) sound (c.sync.ensures.state word) in
     let second = later_then (g.D.Disk.state c.args.disk.now) (g.D.Disk.state c.sync.new.self) (g.D.Disk.state c.judge_file.new.disk) first (later_still (g.D.Disk.state c.sync.new.self) (g.D.Disk.state c.judge_file.new.disk) first.sound (c.judge_file.ensures.still next first.sound)) in
     later_then (g.D.Disk.state c.args.disk.now) (g.D.Disk.state c.judge_file.new.disk) (g.D.Disk.state c.count_pages.new.disk) second
     (later_then (g.D.Disk.state c.judge_file.new.disk) (g.D.Disk.state c.fold_synced.new.disk) (g.D.Disk.state c.count_pages.new.disk) later
@@ -78,7 +79,7 @@ returns-in_err-sync-clause-agrees g c = λ word sound. agrees_synced c.args.page
 
 pub returns-in_err-judge_file-clause-agrees : goal.returns-in_err-judge_file-clause-agrees
 returns-in_err-judge_file-clause-agrees g c = λ word sound.
-    let first = later_sync Log c.sync.result (g.D.Disk.state c.args.disk.now) (g.D.Disk.state c.sync.new.self) sound (c.sync.ensures.state word) in
+    let first = fold_sync Log c.sync.result (g.D.Disk.state c.args.disk.now) (g.D.Disk.state c.sync.new.self) sound (c.sync.ensures.state word) in
     agrees_then c.args.page_size (g.D.Disk.state c.args.disk.now) (g.D.Disk.state c.sync.new.self) (g.D.Disk.state c.judge_file.new.disk)
     (agrees_synced c.args.page_size c.sync.result (g.D.Disk.state c.args.disk.now) (g.D.Disk.state c.sync.new.self) sound (c.sync.ensures.state word))
     (λ d alone. alone_still c.args.page_size d (g.D.Disk.state c.sync.new.self) (g.D.Disk.state c.judge_file.new.disk) first.sound (c.judge_file.ensures.still (c.sync.ensures.word.0 word) first.sound) alone)
@@ -86,7 +87,7 @@ returns-in_err-judge_file-clause-agrees g c = λ word sound.
 pub returns-in_err-fold_synced-clause-agrees : goal.returns-in_err-fold_synced-clause-agrees
 returns-in_err-fold_synced-clause-agrees g c = λ word sound.
     let next = c.sync.ensures.word.0 word in
-    let first = later_sync Log c.sync.result (g.D.Disk.state c.args.disk.now) (g.D.Disk.state c.sync.new.self) sound (c.sync.ensures.state word) in
+    let first = fold_sync Log c.sync.result (g.D.Disk.state c.args.disk.now) (g.D.Disk.state c.sync.new.self) sound (c.sync.ensures.state word) in
     agrees_after c.args.page_size c.sync.result (g.D.Disk.state c.args.disk.now) (g.D.Disk.state c.sync.new.self) (g.D.Disk.state c.fold_synced.new.disk) sound (c.sync.ensures.state word)
     (agrees_looked c.args.page_size (g.D.Disk.state c.sync.new.self) (g.D.Disk.state c.judge_file.new.disk) (g.D.Disk.state c.fold_synced.new.disk) first.sound (c.judge_file.ensures.still next first.sound) (c.fold_synced.ensures.agrees (c.judge_file.ensures.word.0 next)))
 
@@ -95,7 +96,7 @@ returns-clause-agrees g c = λ word sound.
     let next = c.sync.ensures.word.0 word in
     let then = c.judge_file.ensures.word.0 next in
     let later = c.fold_synced.ensures.later then in
-    let first = later_sync Log c.sync.result (g.D.Disk.state c.args.disk.now) (g.D.Disk.state c.sync.new.self) sound (c.sync.ensures.state word) in
+    let first = fold_sync Log c.sync.result (g.D.Disk.state c.args.disk.now) (g.D.Disk.state c.sync.new.self) sound (c.sync.ensures.state word) in
     agrees_then c.args.page_size (g.D.Disk.state c.args.disk.now) (g.D.Disk.state c.fold_synced.new.disk) (g.D.Disk.state c.count_pages.new.disk)
     (agrees_after c.args.page_size c.sync.result (g.D.Disk.state c.args.disk.now) (g.D.Disk.state c.sync.new.self) (g.D.Disk.state c.fold_synced.new.disk) sound (c.sync.ensures.state word)
     (agrees_looked c.args.page_size (g.D.Disk.state c.sync.new.self) (g.D.Disk.state c.judge_file.new.disk) (g.D.Disk.state c.fold_synced.new.disk) first.sound (c.judge_file.ensures.still next first.sound) (c.fold_synced.ensures.agrees then)))
@@ -106,7 +107,7 @@ returns-clause-empty g c = λ word sound.
     let next = c.sync.ensures.word.0 word in
     let then = c.judge_file.ensures.word.0 next in
     let later = c.fold_synced.ensures.later then in
-    let first = later_sync Log c.sync.result (g.D.Disk.state c.args.disk.now) (g.D.Disk.state c.sync.new.self) sound (c.sync.ensures.state word) in
+    let first = fold_sync Log c.sync.result (g.D.Disk.state c.args.disk.now) (g.D.Disk.state c.sync.new.self) sound (c.sync.ensures.state word) in
     on_ok c.count_pages.result _ (down_still _ (g.D.Disk.state c.fold_synced.new.disk) (g.D.Disk.state c.count_pages.new.disk) (c.count_pages.ensures.still (c.fold_synced.ensures.word.0 then) later.sound)
     (folded_empty c.args.page_size _ c.fold_synced.result (g.D.Disk.state c.judge_file.new.disk) (g.D.Disk.state c.fold_synced.new.disk) c.in_ok-fold_synced.was
     (c.fold_synced.ensures.folds then (still_empty (g.D.Disk.state c.sync.new.self) (g.D.Disk.state c.judge_file.new.disk) (c.judge_file.ensures.still next first.sound)
@@ -117,7 +118,7 @@ returns-in_err-judge_file-clause-refuses g c = λ word sound fits found are.
     let s = g.D.Disk.state c.args.disk.now in
     let a = g.D.Disk.state c.sync.new.self in
     let synced = c.in_ok-sync.ensures.state word in
-    let first = later_sync Log c.sync.result s a sound (c.sync.ensures.state word) in
+    let first = fold_sync Log c.sync.result s a sound (c.sync.ensures.state word) in
     let files = files_synced c.args.page_size found s a sound fits are synced in
     unjudged c.args.page_size found s a sound fits are synced (g.D.Disk.state c.judge_file.new.disk) c.judge_file.result c.from_residual-in_err-judge_file.result _ c.in_err-judge_file.was
     (passed c.from_residual-in_err-judge_file.result _ c.from_residual-in_err-judge_file.ensures.1)
@@ -129,7 +130,7 @@ returns-in_err-fold_synced-clause-refuses g c = λ word sound fits found are.
     let a = g.D.Disk.state c.sync.new.self in
     let b = g.D.Disk.state c.judge_file.new.disk in
     let synced = c.in_ok-sync.ensures.state word in
-    let first = later_sync Log c.sync.result s a sound (c.sync.ensures.state word) in
+    let first = fold_sync Log c.sync.result s a sound (c.sync.ensures.state word) in
     let next = c.sync.ensures.word.0 word in
     let still = c.judge_file.ensures.still next first.sound in
     let files = files_looked c.args.page_size found s a sound fits are synced b still in
@@ -143,7 +144,7 @@ returns-clause-refuses g c = λ word sound fits found are.
     let a = g.D.Disk.state c.sync.new.self in
     let b = g.D.Disk.state c.judge_file.new.disk in
     let synced = c.in_ok-sync.ensures.state word in
-    let first = later_sync Log c.sync.result s a sound (c.sync.ensures.state word) in
+    let first = fold_sync Log c.sync.result s a sound (c.sync.ensures.state word) in
     let next = c.sync.ensures.word.0 word in
     let still = c.judge_file.ensures.still next first.sound in
     let then = c.judge_file.ensures.word.0 next in
@@ -161,7 +162,7 @@ returns-clause-opens g c = λ word sound fits found are.
     let a = g.D.Disk.state c.sync.new.self in
     let b = g.D.Disk.state c.judge_file.new.disk in
     let synced = c.in_ok-sync.ensures.state word in
-    let first = later_sync Log c.sync.result s a sound (c.sync.ensures.state word) in
+    let first = fold_sync Log c.sync.result s a sound (c.sync.ensures.state word) in
     let next = c.sync.ensures.word.0 word in
     let still = c.judge_file.ensures.still next first.sound in
     let seen = files_synced c.args.page_size found s a sound fits are synced in
@@ -181,7 +182,7 @@ returns-in_err-judge_file-clause-synced g c = λ word sound.
     let s = g.D.Disk.state c.args.disk.now in
     let a = g.D.Disk.state c.sync.new.self in
     let b = g.D.Disk.state c.judge_file.new.disk in
-    let first = later_sync Log c.sync.result s a sound (c.sync.ensures.state word) in
+    let first = fold_sync Log c.sync.result s a sound (c.sync.ensures.state word) in
     synced_first c.args.page_size s a b c.sync.result _ c.from_residual-in_err-judge_file.result c.in_ok-sync.was (c.sync.ensures.state word)
     (λ w d down alone. alone_still c.args.page_size d a b first.sound (c.judge_file.ensures.still (c.sync.ensures.word.0 word) first.sound) alone)
 
@@ -191,7 +192,7 @@ returns-in_err-fold_synced-clause-synced g c = λ word sound.
     let a = g.D.Disk.state c.sync.new.self in
     let b = g.D.Disk.state c.judge_file.new.disk in
     let next = c.sync.ensures.word.0 word in
-    let first = later_sync Log c.sync.result s a sound (c.sync.ensures.state word) in
+    let first = fold_sync Log c.sync.result s a sound (c.sync.ensures.state word) in
     synced_first c.args.page_size s a (g.D.Disk.state c.fold_synced.new.disk) c.sync.result _ c.from_residual-in_err-fold_synced.result c.in_ok-sync.was (c.sync.ensures.state word)
     (agrees_looked c.args.page_size a b (g.D.Disk.state c.fold_synced.new.disk) first.sound (c.judge_file.ensures.still next first.sound) (c.fold_synced.ensures.agrees (c.judge_file.ensures.word.0 next)))
 
@@ -205,7 +206,7 @@ returns-clause-synced g c = λ word sound.
     let next = c.sync.ensures.word.0 word in
     let then = c.judge_file.ensures.word.0 next in
     let later = c.fold_synced.ensures.later then in
-    let first = later_sync Log c.sync.result s a sound (c.sync.ensures.state word) in
+    let first = fold_sync Log c.sync.result s a sound (c.sync.ensures.state word) in
     synced_first c.args.page_size s a t c.sync.result _ c.count_pages.result c.in_ok-sync.was (c.sync.ensures.state word)
     (agrees_then c.args.page_size a f t
     (agrees_looked c.args.page_size a b f first.sound (c.judge_file.ensures.still next first.sound) (c.fold_synced.ensures.agrees then))

@@ -1,0 +1,16 @@
+use Rattle.std.proofs.Common.{refl}
+use Rattle.std.specs.Prelude.{Ok}
+use Rattle.sqval.specs.Answers.{Files}
+use Rattle.crashdisk.specs.State.{byte}
+use Rattle.crashdisk.proofs.Images.{table}
+use Rattle.crashdisk.proofs.Steps.{present_list}
+use Rattle.rollcore.specs.Fits.{AreFiles}
+use Rattle.rollcore.proofs.Recovered.{is_found, settled_one}
+use Rattle.rollcore.proofs.laws.one_is_shown.Goals as goal
+
+pub returns : goal.returns
+returns c past old mid fits synced =
+    let files : Files = record { db = table old.db.len (byte old.db); log = table old.log.len (byte old.log) } in
+    let are : AreFiles old files = record { db = present_list old.db; log = present_list old.log } in
+    let found = is_found past files old fits are in
+    (found.place, found.floor, found.within, found.newest_is, (settled_one past files old fits are {T = Unit {0}} tt (Ok tt) mid refl (Ok tt, tt, synced)).alone)

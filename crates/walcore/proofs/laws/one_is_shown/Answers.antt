@@ -1,0 +1,13 @@
+use Rattle.std.specs.Prelude.{Ok}
+use Rattle.crashdisk.specs.declared.file.File.TheVariants.{Log}
+use Rattle.crashdisk.proofs.Keeping.{sound_syncs}
+use Rattle.crashdisk.proofs.Down.{synced_down}
+use Rattle.walcore.proofs.Reopening.{is_found, found_syncs, found_alone}
+use Rattle.walcore.proofs.laws.one_is_shown.Goals as goal
+
+pub returns : goal.returns
+returns c past files old mid fits are chance synced =
+    let sound = fits.suits.sound in
+    let found = found_syncs past files.log (Ok tt) old mid sound synced (is_found past files old fits are chance) in
+    let down = synced_down files.log old mid sound are.log synced in
+    (found.place, found.floor, found.within, found.newest, found_alone past files.log mid (sound_syncs Log (Ok tt) old mid sound synced) down found)
