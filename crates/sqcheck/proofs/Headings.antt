@@ -1,15 +1,14 @@
 -- The header is in the first hundred bytes of page 1.
-use Rattle.std.proofs.Common.{◌≡◌, ◌≢◌, ℕ, zero, suc, ◌+◌, ◌<◌, ◌≤◌, List, [], ◌∷◌, take, refl, sym, ap, subst, ◌∙◌, inl, inr, arith}
+use Rattle.std.proofs.Common.{◌≡◌, ◌≢◌, ℕ, zero, suc, ◌+◌, ◌<◌, ◌≤◌, List, [], ◌∷◌, take, refl, sym, ap, subst, ◌∙◌, inr, arith}
 use Rattle.std.proofs.lemmas.List.{get_or-take}
 use Rattle.byteorder.specs.Endian.{big_number}
 use Rattle.sqval.specs.Bytes.{part, word}
 use Rattle.sqval.specs.Database.{Database, page}
-use Rattle.sqval.specs.PageSize.{IsPageSize}
 use Rattle.sqcheck.specs.Stands.{Stands}
 use Rattle.sqpage.specs.declared.fault.Fault.{Fault}
 use Rattle.sqpage.specs.declared.fault.Fault.TheVariants as faults
 use Rattle.sqpage.specs.declared.header.DbHeader.{DbHeader}
-use Rattle.sqpage.specs.Header.{byte, size_named, size_named_by, IsHeader, HeaderRefused}
+use Rattle.sqpage.specs.Header.{byte, HasMagic, HasPageSize, HasFractions, HasRoom, size_named, size_named_by, IsHeader, HeaderRefused}
 use Rattle.sqcheck.specs.Heading.{HasHeaderOf, HeaderFault}
 
 -- a part of a front that ends in it
@@ -34,30 +33,43 @@ byte_front at b lt = get_or-take 100 b at 0 lt
 size_front : (b : List ℕ) → size_named (take 100 b) ≡ size_named b
 size_front b = ap (λ l. size_named_by (big_number 2 l)) (part_front 100 16 2 b (omega arith))
 
-pub heading_is : (h : DbHeader) (size : ℕ) (b : List ℕ) → IsHeader h (take 100 b) → h.page_size ≡ size → h.largest_root ≡ 0 → HasHeaderOf h size b
+-- the magic, as the first bytes and all of them have it
+magic_front : (b : List ℕ) → HasMagic (take 100 b) → HasMagic b
+magic_front b m = sym (part_front 100 0 16 b (omega arith)) ∙ m
+
+fractions_front : (b : List ℕ) → HasFractions (take 100 b) → HasFractions b
+fractions_front b m = sym (part_front 100 21 3 b (omega arith)) ∙ m
+
+room_front : (b : List ℕ) → HasRoom (take 100 b) → HasRoom b
+room_front b room = (let r : 480 + byte (take 100 b) 20 ≤ size_named (take 100 b) = room in let f = byte_front 20 b (omega arith) in let g = size_front b in omega (arith, r, f, g))
+
+pub heading_is : (h : DbHeader) (size : ℕ) (b : List ℕ) → IsHeader h (take 100 b) → size_named (take 100 b) ≡ size → h.largest_root ≡ 0 → HasHeaderOf h size b
 heading_is h size b is e plain = record {
-  magic = sym (part_front 100 0 16 b (omega arith)) ∙ is.magic;
-  page_size = sym (size_front b) ∙ sym is.page_size ∙ e;
-  fractions = sym (part_front 100 21 3 b (omega arith)) ∙ is.fractions;
-  room = (let r : 480 + byte (take 100 b) 20 ≤ size_named (take 100 b) = is.room in let f = byte_front 20 b (omega arith) in let g = size_front b in omega (arith, r, f, g));
+  magic = magic_front b is.magic;
+  page_size = sym (size_front b) ∙ e;
+  fractions = fractions_front b is.fractions;
+  room = room_front b is.room;
   plain = sym (word_front 52 b (omega arith)) ∙ sym is.largest_root ∙ plain;
   reserved = is.reserved ∙ byte_front 20 b (omega arith);
   first_trunk = is.first_trunk ∙ word_front 32 b (omega arith);
   free_pages = is.free_pages ∙ word_front 36 b (omega arith);
 }
 
-pub heading_refused : (fault : Fault) (size : ℕ) (b : List ℕ) → HeaderRefused fault (take 100 b) → HeaderFault fault size b
-heading_refused faults.Magic size b h = λ m. h (part_front 100 0 16 b (omega arith) ∙ m)
-heading_refused faults.PageSize size b h = inl (λ is. h.1 (subst IsPageSize (sym (size_front b)) is))
-heading_refused faults.Fraction size b h = λ m. h.2 (part_front 100 21 3 b (omega arith) ∙ m)
-heading_refused faults.Reserved size b h = λ r. h.3 (let r' : 480 + byte b 20 ≤ size_named b = r in let f = byte_front 20 b (omega arith) in let g = size_front b in let out : 480 + byte (take 100 b) 20 ≤ size_named (take 100 b) = omega (arith, r', f, g) in out)
-heading_refused _ size b h = absurd h
+-- Where the magic is there, the page size is this one.
+pub heading_refused : (fault : Fault) (size : ℕ) (b : List ℕ) → (HasMagic (take 100 b) → HasPageSize (take 100 b) × (size_named (take 100 b) ≡ size)) → HeaderRefused fault (take 100 b) → HeaderFault fault size b
+heading_refused faults.Magic size b named h = λ m. h (part_front 100 0 16 b (omega arith) ∙ m)
+heading_refused faults.PageSize size b named h = absurd (h.1 (named h.0).0)
+heading_refused faults.Fraction size b named h = (magic_front b h.0, sym (size_front b) ∙ (named h.0).1, λ m. h.2 (part_front 100 21 3 b (omega arith) ∙ m))
+heading_refused faults.Reserved size b named h =
+    (magic_front b h.0, sym (size_front b) ∙ (named h.0).1, fractions_front b h.2, λ r. h.3 (let r' : 480 + byte b 20 ≤ size_named b = r in let f = byte_front 20 b (omega arith) in let g = size_front b in let out : 480 + byte (take 100 b) 20 ≤ size_named (take 100 b) = omega (arith, r', f, g) in out))
+heading_refused _ size b named h = absurd h
 
-pub size_differs : (h : DbHeader) (size : ℕ) (b : List ℕ) → IsHeader h (take 100 b) → h.page_size ≢ size → HeaderFault faults.PageSize size b
-size_differs h size b is ne = inr (λ e. ne (is.page_size ∙ size_front b ∙ e))
+pub size_differs : (size : ℕ) (b : List ℕ) → HasMagic (take 100 b) → size_named (take 100 b) ≢ size → HeaderFault faults.PageSize size b
+size_differs size b magic ne = (magic_front b magic, λ e. ne (size_front b ∙ e))
 
-pub not_plain : (h : DbHeader) (size : ℕ) (b : List ℕ) → IsHeader h (take 100 b) → h.largest_root ≢ 0 → HeaderFault faults.AutoVacuum size b
-not_plain h size b is ne = λ e. ne (is.largest_root ∙ word_front 52 b (omega arith) ∙ e)
+pub not_plain : (h : DbHeader) (size : ℕ) (b : List ℕ) → IsHeader h (take 100 b) → size_named (take 100 b) ≡ size → h.largest_root ≢ 0 → HeaderFault faults.AutoVacuum size b
+not_plain h size b is named ne =
+    (magic_front b is.magic, sym (size_front b) ∙ named, fractions_front b is.fractions, room_front b is.room, λ e. ne (is.largest_root ∙ word_front 52 b (omega arith) ∙ e))
 
 -- What is wrong with the header stands at page 1.
 pub heading_stands : (d : Database) (fault : Fault) (size : ℕ) (b : List ℕ) → b ≡ page d 1 → HeaderFault fault size b → Stands d size fault 1
@@ -65,8 +77,8 @@ heading_stands d fault size b e h = go fault (subst (HeaderFault fault size) e h
   where
     go : (fault : Fault) → HeaderFault fault size (page d 1) → Stands d size fault 1
     go faults.Magic h = (refl, h)
-    go faults.PageSize h = (refl, h)
-    go faults.Fraction h = (refl, h)
-    go faults.Reserved h = (refl, h)
-    go faults.AutoVacuum h = (refl, h)
+    go faults.PageSize h = (refl, inr h.1)
+    go faults.Fraction h = (refl, h.2)
+    go faults.Reserved h = (refl, h.3)
+    go faults.AutoVacuum h = (refl, h.4)
     go _ h = absurd h

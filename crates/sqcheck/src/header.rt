@@ -1,28 +1,46 @@
 //! The header of the file (fileformat2, 1.3).
-ghost use Rattle.std.specs.Prelude.{◌≡◌, ◌≢◌, ◌+◌, ◌<◌, ◌≤◌, length, IfOk, IfErr, take};
+ghost use Rattle.std.specs.Prelude.{◌≡◌, ◌≢◌, ◌+◌, ◌<◌, ◌≤◌, ◌↔◌, length, IfOk, IfErr, IsTrue, false, take};
 ghost use Rattle.sqval.specs.Bytes.{word};
 ghost use Rattle.sqval.specs.Database.{page};
 ghost use Rattle.sqval.specs.PageSize.{IsPageSize};
 ghost use Rattle.sqpage.specs.Lists.{Every};
 ghost use Rattle.sqpage.specs.declared.fault.Fault.{Fault};
 ghost use Rattle.sqpage.specs.declared.header.DbHeader.{DbHeader};
-ghost use Rattle.sqpage.specs.Header.{IsHeader, HeaderRefused};
+ghost use Rattle.sqpage.specs.Header.{HasMagic, HasPageSize, size_named};
 ghost use Rattle.sqcheck.specs.Stands.{Stands};
 ghost use Rattle.sqcheck.specs.Heading.{HasHeaderOf, HeaderFault};
 
 use crate::pages::read_page;
-use sqpage::{CheckError, DbHeader, Fault, PageSource};
+use sqpage::{CheckError, DbHeader, Fault, PageSource, has_magic, named_page_size};
 use sqval::PageSize;
 
-/// The header in the bytes of page 1.
-fn header_in(bytes: &[u8]) -> Result<DbHeader, Fault>
+/// The bytes of the header in those of page 1.
+fn head_in(bytes: &[u8]) -> [u8; 100]
     requires { 100 ≤ length bytes.now }
-    ensures ok { IfOk result (λ header. IsHeader header (take 100 bytes.now)) }
-    ensures err { IfErr result (λ fault. HeaderRefused fault (take 100 bytes.now)) }
+    ensures { result ≡ take 100 bytes.now }
 {
     let mut head = [0; 100];
     head.copy_from_slice(&bytes[..100]);
-    DbHeader::read(&head)
+    head
+}
+
+/// Whether a header names this page size.
+fn names(head: &[u8; 100], size: PageSize) -> bool
+    ensures is { IsTrue result ↔ size_named head.now ≡ size }
+    ensures valid { IsTrue result → HasPageSize head.now }
+{
+    match named_page_size(head) {
+        Some(named) => named.get() == size.get(),
+        None => false,
+    }
+}
+
+/// Whether a header has the magic, and names another page size.
+fn names_another(head: &[u8; 100], size: PageSize) -> bool
+    ensures another { IsTrue result → HasMagic head.now × (size_named head.now ≢ size) }
+    ensures same { result ≡ false → HasMagic head.now → HasPageSize head.now × (size_named head.now ≡ size) }
+{
+    has_magic(head) && !names(head, size)
 }
 
 /// Judges the header of a database of pages of this size. Refused by Magic, PageSize, Fraction, Reserved and
@@ -34,10 +52,11 @@ fn judge(bytes: &[u8], size: PageSize) -> Result<DbHeader, Fault>
     ensures room { IfOk result (λ header. 480 + header.reserved ≤ size) }
     ensures err { IfErr result (λ fault. HeaderFault fault size bytes.now) }
 {
-    let header = header_in(bytes)?;
-    if header.page_size.get() != size.get() {
+    let head = head_in(bytes);
+    if names_another(&head, size) {
         return Err(Fault::PageSize);
     }
+    let header = DbHeader::read(&head)?;
     if header.largest_root != 0 {
         return Err(Fault::AutoVacuum);
     }

@@ -52,8 +52,8 @@ pub fn is_magic(bytes: &[u8; 8]) -> bool
     *bytes == MAGIC
 }
 
-/// Where the next header begins after the end of a segment: at the least multiple of the sector
-/// that isn't below it (own: each header begins at such a place).
+/// Where the next header begins after the end of a segment, in bytes: at the least multiple of the sector, a power of two
+/// from 512 to 65536, that isn't below it (own: each header begins at such a place). The end is at most 2^41.
 pub fn next_header_at(end: u64, sector: u32) -> u64
     requires sector { IsSector sector }
     requires within { end ≤ 2 ^ 41 }
@@ -103,7 +103,7 @@ impl JournalHeader {
         })
     }
 
-    /// Writes the header. What is written reads back.
+    /// Writes the header, whose sector is a power of two from 512 to 65536. What is written reads back.
     pub fn write(&self, out: &mut [u8; 28])
         requires { IsSector self.now.sector }
         ensures bytes { out.new ≡ header_bytes self.now }

@@ -30,7 +30,7 @@ fn local_part(kind: Kind, usable: u64, payload: u64) -> u64
 }
 
 /// How many bytes of a payload lie in its cell, and how many in overflow pages, where a page has so many
-/// usable bytes (fileformat2, 1.6, on the maximum local payload).
+/// usable bytes, at least 480 (fileformat2, 1.6, on the maximum local payload).
 pub fn split(kind: Kind, usable: u32, payload: u64) -> (u64, u64)
     requires least { 480 ≤ usable }
     requires most { usable ≤ 65536 }

@@ -1,9 +1,9 @@
 //! The database header (fileformat2, 1.3).
-ghost use Rattle.std.specs.Prelude.{◌≡◌, ℕ, ◌+◌, ◌≤◌, ◌<◌, ◌↔◌, IsTrue, ◌^◌, ◌*◌, length, flat_map, slice_index, IfOk, IfErr, replicate};
+ghost use Rattle.std.specs.Prelude.{◌≡◌, ℕ, ◌+◌, ◌≤◌, ◌<◌, ◌↔◌, IsTrue, ◌^◌, ◌*◌, length, flat_map, slice_index, IfOk, IfErr, IsSome, IfSome, replicate};
 ghost use Rattle.sqval.specs.Bytes.{part};
 ghost use Rattle.sqval.specs.PageSize.{IsPageSize};
 ghost use Rattle.byteorder.specs.Endian.{big_bytes};
-ghost use Rattle.sqpage.specs.Header.{IsHeader, HeaderRefused, HasMagic, HasFractions, size_named, size_named_by};
+ghost use Rattle.sqpage.specs.Header.{IsHeader, HeaderRefused, HasMagic, HasPageSize, HasFractions, size_named, size_named_by};
 ghost use Rattle.sqpage.specs.declared.header.DbHeader.{DbHeader};
 
 use crate::bytes::word_at;
@@ -62,8 +62,8 @@ pub struct DbHeader {
     pub writer_version: u32,
 }
 
-/// Whether the bytes begin as those of a database do.
-fn has_magic(bytes: &[u8; 100]) -> bool
+/// Whether the bytes begin as those of a database do (fileformat2, 1.3.1).
+pub fn has_magic(bytes: &[u8; 100]) -> bool
     ensures { IsTrue result ↔ HasMagic bytes.now }
 {
     &bytes[..16] == MAGIC.as_slice()
@@ -83,6 +83,15 @@ fn named_size(bytes: &[u8; 100]) -> u32
         1 => 65536,
         size => u32::from(size),
     }
+}
+
+/// The page size that a header names, in bytes (fileformat2, 1.3.2). None where it is none that a database can have. Nothing
+/// else of the header is judged.
+pub fn named_page_size(bytes: &[u8; 100]) -> Option<PageSize>
+    ensures valid { IsSome result ↔ HasPageSize bytes.now }
+    ensures value { IfSome result (λ size. size ≡ size_named bytes.now) }
+{
+    PageSize::new(named_size(bytes))
 }
 
 /// How a header names a page size: 65536, which doesn't fit, is 1.
@@ -144,7 +153,8 @@ impl DbHeader {
         })
     }
 
-    /// Writes the header. The bytes 72 to 91, which have no meaning yet, are zeros (own).
+    /// Writes the header, by which at least 480 bytes of a page are usable. The bytes 72 to 91, which have no meaning yet, are
+    /// zeros (own).
     pub fn write(&self, out: &mut [u8; 100])
         requires { 480 + self.now.reserved ≤ self.now.page_size }
         ensures written { IsHeader self.now out.new }

@@ -17,7 +17,7 @@ mod taken;
 pub use cell::{Cell, split};
 pub use fault::{CheckError, Fault};
 pub use free_pages::freelist;
-pub use header::DbHeader;
+pub use header::{DbHeader, has_magic, named_page_size};
 pub use kind::Kind;
 pub use overflow::{links_of, payload};
 pub use page::BtreePage;

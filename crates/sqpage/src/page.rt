@@ -114,7 +114,7 @@ fn cells_lie_within(kind: Kind, used: &[u8], number: u32) -> bool
 }
 
 impl<'a> BtreePage<'a> {
-    /// The page of these bytes and this number, of which the first `usable` bytes are used. Refused by Kind
+    /// The page of these bytes and this number, of which the first `usable` bytes, at least 480, are used. Refused by Kind
     /// where its type byte is none, otherwise by CellOutside where the pointers, the start of the cells or a
     /// cell lie outside.
     pub fn new(bytes: &'a [u8], number: u32, usable: u32) -> Result<BtreePage<'a>, Fault>

@@ -1,17 +1,13 @@
 //! The first bytes of a database file.
-ghost use Rattle.std.specs.Prelude.{◌≡◌, ◌↔◌, ◌+◌, ◌-◌, ◌*◌, ◌<◌, ◌≤◌, length, IsOk, Ok, IsTrue, IsSome, IfSome};
+ghost use Rattle.std.specs.Prelude.{◌≡◌, ◌+◌, ◌-◌, ◌*◌, ◌<◌, ◌≤◌, length, IsOk, Ok};
 ghost use Rattle.sqval.specs.Bytes.{word};
 ghost use Rattle.sqval.specs.Database.{file_page};
-ghost use Rattle.sqpage.specs.Header.{HasMagic, HasPageSize, size_named};
 ghost use Rattle.sqrescue.specs.LogView.{head_of, own_pages};
 
 use crate::file_bytes::FileBytes;
 use byteorder::{BigEndian, ByteOrder};
 use sqpage::SourceError;
 use sqval::PageSize;
-
-/// What each database file begins with (fileformat2, 1.3.1).
-const MAGIC: [u8; 16] = *b"SQLite format 3\0";
 
 /// How many bytes the header of a database file has.
 pub const HEAD: usize = 100;
@@ -37,24 +33,6 @@ pub fn read_head<F: FileBytes>(file: &mut F) -> Result<[u8; 100], SourceError>
     let mut head = [0u8; HEAD];
     read_page(file, 1, &mut head)?;
     Ok(head)
-}
-
-/// Whether they begin as those of a database do.
-pub fn has_magic(head: &[u8; 100]) -> bool
-    ensures { IsTrue result ↔ HasMagic head.now }
-{
-    &head[..16] == MAGIC.as_slice()
-}
-
-/// The page size that they name. None where it is none that a database can have.
-pub fn named_page_size(head: &[u8; 100]) -> Option<PageSize>
-    ensures valid { IsSome result ↔ HasPageSize head.now }
-    ensures value { IfSome result (λ size. size ≡ size_named head.now) }
-{
-    PageSize::new(match BigEndian::read_u16(&head[16..18]) {
-        1 => 65536,
-        size => u32::from(size),
-    })
 }
 
 fn word_at(head: &[u8; 100], at: usize) -> u32

@@ -2,11 +2,11 @@
 ghost use Rattle.std.specs.Prelude.{◌≡◌};
 
 use crate::file_disk::{FileDisk, read_or_zeros};
-use crate::file_head::{has_magic, named_page_size};
 use crate::logs::{LogInUse, file_length, log_in_use, scan_file};
 use crate::outcome::{Outcome, Refusal};
 use rollcore::replay;
 use sqjournal::is_magic;
+use sqpage::{has_magic, named_page_size};
 use sqval::PageSize;
 use sqwal::{WalFormatError, WalHeader};
 use std::alloc::Global;

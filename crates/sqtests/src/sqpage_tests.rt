@@ -4,7 +4,7 @@ ghost use Rattle.sqval.specs.PageSize.{IsPageSize};
 
 use sqpage::{
     BtreePage, Cell, CheckError, DbHeader, Fault, Kind, PageSource, SliceSource, freelist,
-    links_of, payload, split,
+    has_magic, links_of, named_page_size, payload, split,
 };
 use sqval::PageSize;
 use std::alloc::{AllocError, Global};
@@ -83,6 +83,9 @@ fn headers(rt: HostRuntime) {
     assert!(rt; bytes[68..72] == [1, 2, 3, 4]);
     assert!(rt; bytes[72..92] == [0; 20]);
     assert_eq!(rt; DbHeader::read(&bytes), Ok(written));
+    assert!(rt; has_magic(&bytes) && !has_magic(&[0; 100]));
+    assert_eq!(rt; named_page_size(&bytes), Some(size));
+    assert_eq!(rt; named_page_size(&[0; 100]), None);
     for (at, value, fault) in [
         (0, 0, Fault::Magic),
         (17, 2, Fault::PageSize),

@@ -9,11 +9,11 @@ ghost use Rattle.sqrescue.specs.ViewParts.{ScannedAnswer, ReplayedAnswer, LimitA
 
 use super::View;
 use crate::file_bytes::FileBytes;
-use crate::file_head::{count_pages, has_magic, named_page_size, read_head};
+use crate::file_head::{count_pages, read_head};
 use crate::places::{frame_places, record_places};
 use crate::view_error::ViewError;
 use sqjournal::{JournalError, JournalHeader, Replay};
-use sqpage::Fault;
+use sqpage::{Fault, has_magic, named_page_size};
 use sqval::PageSize;
 use sqwal::{Scan, WalFormatError};
 use std::alloc::Global;

@@ -1,20 +1,36 @@
-use Rattle.std.proofs.Common.{◌∙◌, sym, arith}
+use Rattle.std.proofs.Common.{◌≡◌, ◌≢◌, ℕ, ◌+◌, ◌≤◌, List, take, sym, subst}
+use Rattle.sqpage.specs.Header.{HasMagic, HasPageSize, size_named, IsHeader, HeaderRefused}
 use Rattle.sqcheck.specs.Heading.{HeaderFault}
 use Rattle.sqcheck.proofs.Results.{exits}
 use Rattle.sqcheck.proofs.Headings.{heading_is, heading_refused, size_differs, not_plain}
 use Rattle.sqcheck.proofs.header.judge.Goals as goal
 
-pub header_in-requires : goal.header_in-requires
-header_in-requires c = omega (arith, c.requires.large)
+pub returns-then-names_another-clause-err : goal.returns-then-names_another-clause-err
+returns-then-names_another-clause-err c =
+    let another = subst (λ (h : List ℕ). HasMagic h × (size_named h ≢ c.args.size)) c.head_in-head.ensures (c.names_another.ensures.another c.if-names_another.true) in
+    size_differs c.args.size c.args.bytes.now another.0 another.1
 
 pub returns-in_err-header-clause-err : goal.returns-in_err-header-clause-err
-returns-in_err-header-clause-err c = exits (λ fault. HeaderFault fault c.args.size c.args.bytes.now) c.in_err-header.field-0.0 c.from_residual.result c.from_residual.ensures.1 (heading_refused c.in_err-header.field-0.0 c.args.size c.args.bytes.now c.in_err-header.ensures.err)
-
-pub returns-then-get-clause-err : goal.returns-then-get-clause-err
-returns-then-get-clause-err c = size_differs c.in_ok-header.header c.args.size c.args.bytes.now c.in_ok-header.ensures.ok (λ e. c.if-get.true (c.get.ensures.value ∙ e ∙ sym c.get-2.ensures.value))
+returns-in_err-header-clause-err c = exits (λ fault. HeaderFault fault c.args.size c.args.bytes.now) c.in_err-header.field-0.0 c.from_residual.result c.from_residual.ensures.1
+    (heading_refused c.in_err-header.field-0.0 c.args.size c.args.bytes.now
+    (subst (λ (h : List ℕ). HasMagic h → HasPageSize h × (size_named h ≡ c.args.size)) c.head_in-head.ensures (c.names_another.ensures.same c.if-names_another.false))
+    (subst (λ (h : List ℕ). HeaderRefused c.in_err-header.field-0.0 h) c.head_in-head.ensures c.in_err-header.ensures.err))
 
 pub returns-then-header-ne0-clause-err : goal.returns-then-header-ne0-clause-err
-returns-then-header-ne0-clause-err c = not_plain c.in_ok-header.header c.args.size c.args.bytes.now c.in_ok-header.ensures.ok c.if-header-ne0.true
+returns-then-header-ne0-clause-err c =
+    let is = subst (λ (h : List ℕ). IsHeader c.in_ok-header.header h) c.head_in-head.ensures c.in_ok-header.ensures.ok in
+    let same = subst (λ (h : List ℕ). HasMagic h → HasPageSize h × (size_named h ≡ c.args.size)) c.head_in-head.ensures (c.names_another.ensures.same c.if-names_another.false) in
+    not_plain c.in_ok-header.header c.args.size c.args.bytes.now is (same is.magic).1 c.if-header-ne0.true
 
 pub returns-clause-ok : goal.returns-clause-ok
-returns-clause-ok c = heading_is c.in_ok-header.header c.args.size c.args.bytes.now c.in_ok-header.ensures.ok (sym c.get.ensures.value ∙ c.if-get.false ∙ c.get-2.ensures.value) c.if-header-ne0.false
+returns-clause-ok c =
+    let is = subst (λ (h : List ℕ). IsHeader c.in_ok-header.header h) c.head_in-head.ensures c.in_ok-header.ensures.ok in
+    let same = subst (λ (h : List ℕ). HasMagic h → HasPageSize h × (size_named h ≡ c.args.size)) c.head_in-head.ensures (c.names_another.ensures.same c.if-names_another.false) in
+    heading_is c.in_ok-header.header c.args.size c.args.bytes.now is (same is.magic).1 c.if-header-ne0.false
+
+pub returns-clause-room : goal.returns-clause-room
+returns-clause-room c =
+    let is = subst (λ (h : List ℕ). IsHeader c.in_ok-header.header h) c.head_in-head.ensures c.in_ok-header.ensures.ok in
+    let same = subst (λ (h : List ℕ). HasMagic h → HasPageSize h × (size_named h ≡ c.args.size)) c.head_in-head.ensures (c.names_another.ensures.same c.if-names_another.false) in
+    let room : 480 + c.in_ok-header.header.reserved ≤ size_named (take 100 c.args.bytes.now) = subst (λ (n : ℕ). 480 + n ≤ size_named (take 100 c.args.bytes.now)) (sym is.reserved) is.room in
+    subst (λ (n : ℕ). 480 + c.in_ok-header.header.reserved ≤ n) (same is.magic).1 room
