@@ -1,4 +1,4 @@
-use Rattle.std.proofs.Common.{◌≡◌, ◌-◌, ◌*◌, ◌∙◌, length, ap, arith}
+use Rattle.std.proofs.Common.{◌≡◌, ◌-◌, ◌*◌, ◌∙◌, length, ap}
 use Rattle.sqrescue.specs.Laid.{part_or_zeros}
 use Rattle.sqrescue.proofs.FileHeads.{page_is_part}
 use Rattle.sqrescue.proofs.file_head.read_page.Goals as goal

@@ -1,4 +1,4 @@
-use Rattle.std.proofs.Common.{◌≡◌, ℕ, List, inl}
+use Rattle.std.proofs.Common.{ℕ, List, inl}
 use Rattle.std.specs.Prelude.{IfOk, IfErr, Result, Ok, Err}
 use Rattle.sqrescue.specs.LogView.{IsShown, pages_of}
 use Rattle.sqrescue.specs.Verdicts.{IsVerdict, IsVerdictOf, IsUnjudged, AreUnjudged}
