@@ -1,6 +1,6 @@
 use Rattle.std.proofs.Common.{◌≡◌, ◌+◌, List, ℕ, cond, get_or, arith, ap, sym, ◌∙◌, ne_eqb, eq-eqb}
 use Rattle.std.specs.Prelude.{unwrap_or, vec_capacity}
-use Rattle.sqwal.proofs.Finding.{begin, go_on, found}
+use Rattle.sqwal.proofs.Finding.{begin, go_on, found, unnamed_above}
 use Rattle.sqwal.proofs.index.FrameIndex.find.Goals as goal
 
 pub loop-frame-init : goal.loop-frame-init
@@ -24,7 +24,11 @@ loop-frame-smaller c =
     next.1
 
 pub returns-then-frame-ne0 : goal.returns-then-frame-ne0
-returns-then-frame-ne0 c = found c.args.self.now c.args.page c.args.mark _ c.loop-frame.steps c.if-page-eq0.false c.loop-frame.invariant.way (omega arith) (ap (λ b. c.loop-frame.steps + cond b 0 1) (sym (ne_eqb c.loop-frame.frame 0 c.if-frame-ne0.true)))
+returns-then-frame-ne0 c = found c.args.self.now c.args.page c.args.mark _ c.loop-frame.steps c.if-page-eq0.false
+    (unnamed_above c.self.inside.newest.items c.self.inside.earlier.items c.self.inside.room (vec_capacity c.self.inside.earlier) c.args.page c.args.self.now c.self.invariant c.self.view_is)
+    c.loop-frame.invariant.way (omega arith) (ap (λ b. c.loop-frame.steps + cond b 0 1) (sym (ne_eqb c.loop-frame.frame 0 c.if-frame-ne0.true)))
 
 pub returns-else-frame-ne0 : goal.returns-else-frame-ne0
-returns-else-frame-ne0 c = found c.args.self.now c.args.page c.args.mark _ c.loop-frame.steps c.if-page-eq0.false c.loop-frame.invariant.way (omega arith) (let e : c.loop-frame.steps ≡ c.loop-frame.steps + 0 = omega arith in e ∙ ap (λ b. c.loop-frame.steps + cond b 0 1) (sym (eq-eqb c.loop-frame.frame 0 c.if-frame-ne0.false)))
+returns-else-frame-ne0 c = found c.args.self.now c.args.page c.args.mark _ c.loop-frame.steps c.if-page-eq0.false
+    (unnamed_above c.self.inside.newest.items c.self.inside.earlier.items c.self.inside.room (vec_capacity c.self.inside.earlier) c.args.page c.args.self.now c.self.invariant c.self.view_is)
+    c.loop-frame.invariant.way (omega arith) (let e : c.loop-frame.steps ≡ c.loop-frame.steps + 0 = omega arith in e ∙ ap (λ b. c.loop-frame.steps + cond b 0 1) (sym (eq-eqb c.loop-frame.frame 0 c.if-frame-ne0.false)))
