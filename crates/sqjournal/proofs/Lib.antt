@@ -9,3 +9,4 @@ pub mod Taking
 pub mod Unique
 pub mod Contents
 pub mod OneRestored
+pub mod Settled

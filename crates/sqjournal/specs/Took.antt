@@ -66,3 +66,13 @@ pub record HasCount (b : List ℕ) (n : ℕ) : Type 0 where
 pub record GoesOn (b piece : List ℕ) (s : Replay) (r : Reading) : Type 0 where
   pub stands : Stands (b ++ piece) r s.records.items
   pub keeps : Keeps b r s.begun.items
+
+-- a journal of these bytes has these records and ends so
+pub record Says (b : List ℕ) (es : List Record) (stop : Stop) : Type 0 where
+  pub segments : List Segment
+  pub is : IsJournal b segments stop.at stop.why
+  pub records : entries (sizes_of b) 0 segments ≡ es
+
+-- whatever bytes follow, the journal of them all says the same
+abbrev pub IsSettled : List ℕ → Type 0
+IsSettled b = (more : List ℕ) (es : List Record) (stop : Stop) → Says b es stop → Says (b ++ more) es stop

@@ -1,5 +1,5 @@
 //! A reading of a journal: where it goes on, and with what (fileformat2, 3; later segments and why it ends are own).
-ghost use Rattle.std.specs.Prelude.{◌≡◌, ◌⊎◌, ℕ, ◌+◌, ◌-◌, ◌*◌, ◌^◌, min, ◌<◌, ◌≤◌, ◌++◌, List, length, MatchOption, option_to_list};
+ghost use Rattle.std.specs.Prelude.{IsTrue, ◌≡◌, ◌⊎◌, ℕ, ◌+◌, ◌-◌, ◌*◌, ◌^◌, min, ◌<◌, ◌≤◌, ◌++◌, List, length, MatchOption, option_to_list};
 ghost use Rattle.sqval.specs.Bytes.{part};
 ghost use Rattle.sqjournal.specs.Header.{next_header};
 ghost use Rattle.sqjournal.specs.Reading.{Stands, IsNext, next_len, why_of, IsOver, UnlessOver};
@@ -55,6 +55,13 @@ pub(crate) struct Reading {
 }
 
 impl Reading {
+    /// Whether the journal ended.
+    pub fn is_over(&self) -> bool
+        ensures { IsTrue result → IsOver self.now.next }
+    {
+        matches!(self.next, Next::Over(_))
+    }
+
     /// The bytes of the next header's sector or record.
     pub fn next_len(&self) -> usize
         ensures value { result ≡ next_len self.now }

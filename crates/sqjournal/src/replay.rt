@@ -39,11 +39,11 @@ pub struct Replay {
 }
 
 impl Replay {
-    ghost use Rattle.std.specs.Prelude.{◌++◌, ◌+◌, List, [], Option, Some, None, IfOk, MatchOption, MatchResult};
+    ghost use Rattle.std.specs.Prelude.{IsTrue, ◌++◌, ◌+◌, List, [], Option, Some, None, IfOk, MatchOption, MatchResult};
     ghost use Rattle.sqjournal.specs.Header.{IsRefused};
     ghost use Rattle.sqjournal.specs.Journal.{IsFirst};
     ghost use Rattle.sqjournal.specs.declared.error.JournalError.TheVariants.{NoMemory};
-    ghost use Rattle.sqjournal.specs.Took.{Took, GoesOn, Feeds, StopsSo, HasEntry, HasCount};
+    ghost use Rattle.sqjournal.specs.Took.{Took, IsSettled, GoesOn, Feeds, StopsSo, HasEntry, HasCount};
 
     /// A replay of which no byte came.
     pub fn new(alloc: Global) -> Replay
@@ -172,6 +172,17 @@ impl Replay {
                 at: 0,
                 why: Why::Header,
             },
+        }
+    }
+
+    /// Whether the journal ends at a header or a record that is whole. No bytes that may follow change what it says then, and
+    /// they needn't be fed.
+    pub fn is_over(&self) -> bool
+        ensures { IsTrue result → (b : List ℕ) → Took b self.now → IsSettled b }
+    {
+        match self.reading {
+            Some(reading) => reading.is_over(),
+            None => false,
         }
     }
 }

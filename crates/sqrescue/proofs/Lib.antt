@@ -1,6 +1,1 @@
-pub mod Laying
-pub mod FileHeads
-pub mod Recorded
-pub mod Framed
-pub mod Opening
 pub mod Lines

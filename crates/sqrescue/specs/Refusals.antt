@@ -6,9 +6,11 @@ use Rattle.rollcore.specs.declared.error.RollError.TheVariants as rolls
 use Rattle.walcore.specs.declared.error.WalError.{WalError}
 use Rattle.walcore.specs.declared.error.WalError.TheVariants as wals
 use Rattle.sqrescue.specs.declared.outcome.Refusal.{Refusal}
-use Rattle.sqrescue.specs.declared.outcome.Refusal.TheVariants.{FileFailed, PageSizesDiffer, TooLarge, TwoLogs, NotADatabase, NoMemory}
-use Rattle.sqrescue.specs.declared.view_error.ViewError.{ViewError}
-use Rattle.sqrescue.specs.declared.view_error.ViewError.TheVariants as views
+use Rattle.sqrescue.specs.declared.outcome.Refusal.TheVariants.{FileFailed, PageSizesDiffer, TooLarge, TwoLogs, NotADatabase, AutoVacuum, NoMemory}
+use Rattle.sqview.specs.declared.view_error.ViewError.{ViewError}
+use Rattle.sqview.specs.declared.view_error.ViewError.TheVariants as views
+use Rattle.sqview.specs.declared.judge_error.JudgeError.{JudgeError}
+use Rattle.sqview.specs.declared.judge_error.JudgeError.TheVariants as judged
 
 abbrev pub refusal_of_kind : ErrorKind → Refusal
 refusal_of_kind kinds.OutOfMemory = NoMemory
@@ -20,6 +22,13 @@ refusal_of views.TooLarge = TooLarge
 refusal_of (views.Header fault) = NotADatabase
 refusal_of views.Unread = FileFailed
 refusal_of views.NoMemory = NoMemory
+
+abbrev pub refusal_of_judge : JudgeError → Refusal
+refusal_of_judge judged.TwoLogs = TwoLogs
+refusal_of_judge judged.TooLarge = TooLarge
+refusal_of_judge judged.AutoVacuum = AutoVacuum
+refusal_of_judge judged.Unread = FileFailed
+refusal_of_judge judged.NoMemory = NoMemory
 
 abbrev pub refusal_of_wal : WalError → Refusal
 refusal_of_wal wals.TooLarge = TooLarge

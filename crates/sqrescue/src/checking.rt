@@ -1,8 +1,9 @@
 //! What `check` prints.
 use crate::logs::{Contents, read_all};
+use crate::outcome::Refusal;
 use crate::showing::ShowError;
 use crate::texts::{write_fault, write_report};
-use crate::verdict::{Verdict, judge};
+use sqview::{Verdict, judge};
 use std::io::Write;
 use std::os::unix::fs::FileExt;
 use std::rt::Files;
@@ -18,7 +19,7 @@ where
     R::File: FileExt,
 {
     let Contents { db, wal, journal } = read_all(rt, file)?;
-    let verdict = judge(rt.alloc(), db, &wal, &journal)?;
+    let verdict = judge(rt.alloc(), db, &wal, &journal).map_err(Refusal::from)?;
     let is_well_formed = match verdict {
         Verdict::Clean(report) => {
             write_report(out, &report)?;

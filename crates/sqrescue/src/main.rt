@@ -4,21 +4,15 @@
 ghost use Rattle.std.specs.Prelude.{◌≤◌, IfOk};
 
 mod checking;
-mod file_bytes;
 mod file_disk;
-mod file_head;
 mod logs;
 mod opened_file;
 mod outcome;
-mod places;
 mod program;
 mod recovery;
 mod requests;
 mod showing;
 mod texts;
-mod verdict;
-mod view;
-mod view_error;
 mod words;
 
 use std::env::{self, Env};

@@ -1,9 +1,9 @@
 //! A real file as the bytes of a database.
 ghost use Rattle.std.specs.Prelude.{[]};
 
-use crate::file_bytes::FileBytes;
 use crate::file_disk::read_or_zeros;
 use sqpage::SourceError;
+use sqview::FileBytes;
 use std::os::unix::fs::FileExt;
 
 /// An opened file of this length. What it holds no contract can say.

@@ -1,11 +1,11 @@
 //! What a recovery did, or why a command was refused.
 ghost use Rattle.std.specs.Prelude.{◌≡◌};
 ghost use Rattle.std.specs.IoError.{error_kind};
-ghost use Rattle.sqrescue.specs.Refusals.{refusal_of, refusal_of_kind, refusal_of_roll, refusal_of_wal};
+ghost use Rattle.sqrescue.specs.Refusals.{refusal_of, refusal_of_judge, refusal_of_kind, refusal_of_roll, refusal_of_wal};
 ghost use Rattle.sqrescue.specs.declared.outcome.Refusal.TheVariants.{NoMemory};
 
-use crate::view_error::ViewError;
 use rollcore::RollError;
+use sqview::{JudgeError, ViewError};
 use std::alloc::AllocError;
 use std::{fmt, io};
 use thiserror::Error;
@@ -101,6 +101,20 @@ impl From<ViewError> for Refusal {
             ViewError::Header(_) => Refusal::NotADatabase,
             ViewError::Unread => Refusal::FileFailed,
             ViewError::NoMemory => Refusal::NoMemory,
+        }
+    }
+}
+
+impl From<JudgeError> for Refusal {
+    ghost from_gives = { λ error refusal. refusal ≡ refusal_of_judge error };
+
+    fn from(error: JudgeError) -> Refusal {
+        match error {
+            JudgeError::TwoLogs => Refusal::TwoLogs,
+            JudgeError::TooLarge => Refusal::TooLarge,
+            JudgeError::AutoVacuum => Refusal::AutoVacuum,
+            JudgeError::Unread => Refusal::FileFailed,
+            JudgeError::NoMemory => Refusal::NoMemory,
         }
     }
 }

@@ -3,20 +3,19 @@ ghost use Rattle.std.specs.Prelude.{◌≡◌, ◌<◌, ◌≤◌, length, IfOk,
 ghost use Rattle.sqval.specs.PageSize.{IsPageSize};
 ghost use Rattle.sqpage.specs.Chain.{payload_size};
 ghost use Rattle.sqval.specs.Database.{page as page_at};
-ghost use Rattle.sqrescue.specs.LogView.{IsShown, pages_of};
+ghost use Rattle.sqview.specs.LogView.{IsShown, pages_of};
 ghost use Rattle.sqrescue.specs.declared.outcome.Refusal.TheVariants.{FileFailed, NoMemory};
 ghost use Rattle.sqrescue.specs.declared.showing.ShowError.TheVariants.{Refused, Unwritten};
 
-use crate::file_bytes::FileBytes;
 use crate::logs::{Contents, LogInUse, log_in_use, opened, read_all, replay_file, scan_file};
 use crate::outcome::Refusal;
 use crate::requests::Part;
 use crate::texts::{
     write_bytes, write_cell, write_column, write_header, write_journal, write_log, write_page,
 };
-use crate::view::View;
 use sqpage::{BtreePage, Cell, DbHeader, Fault, PageSource, SourceError, payload};
 use sqval::Record;
+use sqview::{FileBytes, View};
 use std::alloc::{AllocError, Global};
 use std::io::{self, BufWriter, Write};
 use std::os::unix::fs::FileExt;

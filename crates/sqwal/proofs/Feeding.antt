@@ -93,7 +93,7 @@ fed-refused b piece w held es p o e t none is r = (
 
 -- ---- what a scan answers to a piece
 
-are_bytes : (b piece : List ℕ) → AreBytes b → AreBytes piece → AreBytes (b ++ piece)
+pub are_bytes : (b piece : List ℕ) → AreBytes b → AreBytes piece → AreBytes (b ++ piece)
 are_bytes b piece x y i = ⊎_elim
     (λ lt. rw (get_or_append_left b piece 0 i lt) (x i))
     (λ le. rw (get_or-append_right b piece (length b) i 0 refl le) (y (i - length b)))

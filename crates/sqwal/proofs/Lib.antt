@@ -12,3 +12,4 @@ pub mod Scanning
 pub mod FrameSteps
 pub mod ScanAnswers
 pub mod Feeding
+pub mod Settled

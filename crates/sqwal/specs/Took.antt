@@ -1,5 +1,5 @@
 -- What a scan has taken (own).
-use Rattle.std.specs.Prelude.{◌≡◌, ◌≢◌, ℕ, suc, ◌+◌, ◌<◌, ◌≤◌, List, [], length, drop, get_or, Option, Some, None}
+use Rattle.std.specs.Prelude.{◌≡◌, ◌≢◌, ℕ, suc, ◌+◌, ◌<◌, ◌≤◌, List, [], ◌++◌, length, drop, get_or, Option, Some, None}
 use Rattle.sqval.specs.Bytes.{AreBytes}
 use Rattle.sqwal.specs.Sums.{IsSumOf}
 use Rattle.sqwal.specs.Header.{IsHeaderOf}
@@ -67,3 +67,7 @@ TookParts b held entries p (Some h) = TookFrames h b held entries p
 -- the scan is one of these bytes
 unfoldable pub Took : List ℕ → Scan → Type 0
 Took b s = AreBytes b × TookParts b s.held.items s.frames.entries.items s.frames.progress s.header
+
+-- whatever bytes follow, the scan is one of them all
+abbrev pub IsSettled : List ℕ → Scan → Type 0
+IsSettled b s = (more : List ℕ) → AreBytes more → Took (b ++ more) s

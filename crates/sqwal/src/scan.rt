@@ -289,7 +289,7 @@ pub struct Scan {
 }
 
 impl Scan {
-    ghost use Rattle.sqwal.specs.Took.{Took};
+    ghost use Rattle.sqwal.specs.Took.{Took, IsSettled};
     ghost use Rattle.sqwal.specs.Stops.{IsStop};
     ghost use Rattle.sqwal.specs.Answers.{FeedAnswer, HeaderFound, EntryFound, AreEntries, IsCommitted};
     ghost use Rattle.sqwal.specs.ScanParts.{ListTook, ScanTook, HasTaken, KeepsHeld, KeepsFrames, IsFed, IsBegunScan, IsCompleted, FramesRefused};
@@ -371,6 +371,13 @@ impl Scan {
             frame: self.frames.progress.next,
             why: self.frames.progress.refused.unwrap_or(short),
         }
+    }
+
+    /// Whether the log stops at a whole frame. The scan is then one of all bytes that may follow, too, and they needn't be fed.
+    pub fn is_over(&self) -> bool
+        ensures { (b : List ℕ) → Took b self.now → (IsTrue result ↔ IsSettled b self.now) }
+    {
+        self.frames.progress.refused.is_some()
     }
 
     /// The scan of a header and what follows it.

@@ -1,9 +1,0 @@
-use Rattle.std.proofs.Common.{◌≡◌, ◌-◌, length}
-use Rattle.sqrescue.specs.ViewParts.{AreNoted}
-use Rattle.sqrescue.proofs.places.record_places.Given as goal
-
-abbrev pub invariant-loop-number : goal.invariant-loop-number
-invariant-loop-number l = record {
-  long : length l.places.items ≡ l.count;
-  noted : AreNoted l.replay (l.number - 1) l.count l.places.items;
-}

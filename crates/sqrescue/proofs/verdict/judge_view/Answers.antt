@@ -1,4 +1,0 @@
-use Rattle.sqrescue.proofs.verdict.judge_view.Goals as goal
-
-pub returns-in-Ok-clause-found : goal.returns-in-Ok-clause-found
-returns-in-Ok-clause-found g c = λ gives. c.in-Ok.ensures.ok gives

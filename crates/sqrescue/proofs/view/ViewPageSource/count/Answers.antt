@@ -1,6 +1,0 @@
-use Rattle.std.proofs.Common.{sym}
-use Rattle.sqrescue.proofs.Laying.{length_laid}
-use Rattle.sqrescue.proofs.view.ViewPageSource.count.Goals as goal
-
-pub returns : goal.returns
-returns g c = let v = c.args.self.now in sym (length_laid v.page_size v.count (g.F.FileBytes.bytes v.db) v.log.now v.places.items)

@@ -1,0 +1,5 @@
+pub mod Laying
+pub mod FileHeads
+pub mod Recorded
+pub mod Framed
+pub mod Opening

@@ -1,0 +1,5 @@
+pub mod Laid
+pub mod LogView
+pub mod Numbers
+pub mod ViewParts
+pub mod Verdicts

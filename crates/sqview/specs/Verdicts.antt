@@ -1,0 +1,46 @@
+-- What a check of files finds.
+use Rattle.std.specs.Prelude.{◌≡◌, ◌≢◌, ◌⊎◌, ℕ, List}
+use Rattle.sqval.specs.Bytes.{word}
+use Rattle.sqval.specs.Database.{Database, page}
+use Rattle.sqcheck.specs.WellFormed.{WellFormed, IsReport}
+use Rattle.sqcheck.specs.Stands.{Stands}
+use Rattle.sqview.specs.LogView.{Views, ViewRefused, pages_of}
+use Rattle.sqview.specs.declared.judge_error.JudgeError.{JudgeError}
+use Rattle.sqview.specs.declared.judge_error.JudgeError.TheVariants as refusals
+use Rattle.sqview.specs.declared.view.View.{View}
+use Rattle.sqview.specs.declared.verdict.Verdict.{Verdict}
+use Rattle.sqview.specs.declared.verdict.Verdict.TheVariants.{Clean, Damaged}
+use Rattle.sqview.specs.declared.view_error.ViewError.TheVariants.{TwoLogs, TooLarge, Header}
+
+-- of a database of pages of this size: it is well formed, and the report is its; or it isn't, and the fault stands at the page
+abbrev pub Finds : Database → (size : ℕ) → Verdict → Type 0
+Finds d size (Clean report) = (w : WellFormed d size) × IsReport d w.places report
+Finds d size (Damaged e) = Stands d size e.fault e.page × ¬ WellFormed d size
+
+-- the same of a view
+abbrev pub IsVerdictOf : {F : Type 0} → (bytes : F → List ℕ) → View F → Verdict → Type 0
+IsVerdictOf bytes v verdict = Finds (pages_of bytes v) v.page_size verdict
+
+-- the file's own header names no database
+abbrev pub IsHeadless : (db wal journal : List ℕ) → Verdict → Type 0
+IsHeadless db wal journal (Clean report) = ⊥
+IsHeadless db wal journal (Damaged e) = (e.page ≡ 1) × ViewRefused db wal journal (Header e.fault)
+
+-- Of files: the same of the database that they show, or the fault of a header that names none.
+abbrev pub IsVerdict : (db wal journal : List ℕ) → Verdict → Type 0
+IsVerdict db wal journal verdict =
+    ((size : ℕ) × (d : Database) × Views size db wal journal d × Finds d size verdict) ⊎ IsHeadless db wal journal verdict
+
+-- why a database isn't judged: its header says that it has pointer maps, or memory ran out
+abbrev pub IsUnjudged : Database → JudgeError → Type 0
+IsUnjudged d refusals.AutoVacuum = word (page d 1) 52 ≢ 0
+IsUnjudged d refusals.NoMemory = Unit {0}
+IsUnjudged d _ = ⊥
+
+-- Why files aren't judged: what refuses their view, where a header that names no database doesn't, or the database that they
+-- show isn't judged.
+abbrev pub AreUnjudged : (db wal journal : List ℕ) → JudgeError → Type 0
+AreUnjudged db wal journal refusals.TwoLogs = ViewRefused db wal journal TwoLogs
+AreUnjudged db wal journal refusals.TooLarge = ViewRefused db wal journal TooLarge
+AreUnjudged db wal journal refusals.NoMemory = Unit {0}
+AreUnjudged db wal journal refusal = (size : ℕ) × (d : Database) × Views size db wal journal d × IsUnjudged d refusal

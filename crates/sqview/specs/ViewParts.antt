@@ -1,0 +1,79 @@
+-- What the parts of a view promise one another.
+use Rattle.std.specs.Prelude.{◌≡◌, ◌⊎◌, ℕ, suc, ◌+◌, ◌*◌, ◌^◌, ◌<◌, ◌≤◌, ◌==◌, cond, List, [], ◌∷◌, length, drop, Option, Some, None, Result, Ok, Err}
+use Rattle.sqwal.specs.Header.{named_size, IsHeader}
+use Rattle.sqwal.specs.Frames.{frame_at, IsValidFrame}
+use Rattle.sqwal.specs.View.{Unnamed, IsLast}
+use Rattle.sqwal.specs.Refusal.{most_frames}
+use Rattle.sqwal.specs.Took.{Took}
+use Rattle.sqwal.specs.declared.scan.Scan.{Scan}
+use Rattle.sqpage.specs.Header.{HasMagic}
+use Rattle.sqpage.specs.declared.fault.Fault.TheVariants as faults
+use Rattle.sqjournal.specs.Journal.{Segment, IsJournal, entries, sizes_of}
+use Rattle.sqjournal.specs.Took.{Took as ReplayTook}
+use Rattle.sqjournal.specs.declared.replay.Replay.{Replay}
+use Rattle.sqjournal.specs.declared.reading.Record.{Record}
+use Rattle.sqjournal.specs.declared.reading.Why.{Why}
+use Rattle.sqview.specs.LogView.{most_bytes}
+use Rattle.sqview.specs.Laid.{place_of}
+use Rattle.sqview.specs.declared.view_error.ViewError.{ViewError}
+use Rattle.sqview.specs.declared.view_error.ViewError.TheVariants.{TooLarge, Header, NoMemory}
+
+-- the scan of a log, where it has a valid header
+abbrev pub ScannedAnswer : List ℕ → Result (Option Scan) ViewError → Type 0
+ScannedAnswer w (Ok (Some s)) = Took w s
+ScannedAnswer w (Ok None) = ¬ IsHeader (named_size w) w
+ScannedAnswer w (Err TooLarge) = IsValidFrame (named_size w) w (suc most_frames)
+ScannedAnswer w (Err NoMemory) = Unit {0}
+ScannedAnswer w (Err _) = ⊥
+
+-- the replay of a hot journal
+abbrev pub ReplayedAnswer : List ℕ → Result Replay ViewError → Type 0
+ReplayedAnswer b (Ok r) = (length b ≤ 2 ^ 40) × ReplayTook b r
+ReplayedAnswer b (Err TooLarge) = 2 ^ 40 < length b
+ReplayedAnswer b (Err NoMemory) = Unit {0}
+ReplayedAnswer b (Err _) = ⊥
+
+-- so many pages of this size, where they are within the limit
+abbrev pub LimitAnswer : (size count : ℕ) → Result ℕ ViewError → Type 0
+LimitAnswer size count (Ok n) = (n ≡ count) × (count * size ≤ most_bytes)
+LimitAnswer size count (Err TooLarge) = most_bytes < count * size
+LimitAnswer size count (Err _) = ⊥
+
+-- why a header that names no page size is refused
+abbrev pub IsUnsized : (head : List ℕ) → ViewError → Type 0
+IsUnsized head (Header faults.Magic) = ¬ HasMagic head
+IsUnsized head (Header faults.PageSize) = HasMagic head
+IsUnsized head _ = ⊥
+
+-- ---- frames
+
+-- where page p's bytes begin in the log, 0 where none of the frames 1 to m names it
+abbrev pub IsFramePlace : (size : ℕ) → List ℕ → (m p at : ℕ) → Type 0
+IsFramePlace size w m p at = ((at ≡ 0) × Unnamed size w m p) ⊎ ((i : ℕ) × IsLast size w m p i × (at ≡ frame_at size i + 24))
+
+pub record AreFramePlaces (size : ℕ) (w : List ℕ) (m count : ℕ) (places : List ℕ) : Type 0 where
+  pub long : length places ≡ count
+  pub each : (p : ℕ) → 1 ≤ p → p ≤ count → IsFramePlace size w m p (place_of places p)
+
+-- ---- records
+
+-- the place of the last of these records that names page p, `was` where none does
+abbrev pub last_place : List Record → (p was : ℕ) → ℕ
+last_place [] p was = was
+last_place (e ∷ es) p was = last_place es p (cond (e.page == p) e.at was)
+
+-- the page's number and place are put down, where it is a page up to the count
+abbrev pub Noted : (page at : ℕ) → (old new : List ℕ) → Type 0
+Noted page at old new = (length new ≡ length old)
+    × ((p : ℕ) → 1 ≤ p → p ≤ length old → place_of new p ≡ cond (page == p) at (place_of old p))
+
+-- the first n records of a journal were put down
+abbrev pub AreNoted : Replay → (n count : ℕ) → (places : List ℕ) → Type 0
+AreNoted r n count places = (b : List ℕ) (segments : List Segment) (at : ℕ) (why : Why) → ReplayTook b r → IsJournal b segments at why
+    → (p : ℕ) → 1 ≤ p → p ≤ count
+    → last_place (drop n (entries (sizes_of b) 0 segments)) p (place_of places p) ≡ last_place (entries (sizes_of b) 0 segments) p 0
+
+-- the places of the last records of all pages up to the count
+pub record AreRecordPlaces (b : List ℕ) (count : ℕ) (places : List ℕ) : Type 0 where
+  pub long : length places ≡ count
+  pub each : (segments : List Segment) (at : ℕ) (why : Why) → IsJournal b segments at why → (p : ℕ) → 1 ≤ p → p ≤ count → place_of places p ≡ last_place (entries (sizes_of b) 0 segments) p 0

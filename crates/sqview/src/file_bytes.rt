@@ -1,0 +1,44 @@
+//! Where the bytes of a database file come from.
+ghost use Rattle.std.specs.Prelude.{◌≡◌, ℕ, List, length, IsOk};
+ghost use Rattle.sqview.specs.Laid.{part_or_zeros};
+
+use sqpage::SourceError;
+
+/// The bytes of a database file, read in parts.
+pub trait FileBytes {
+    /// Its bytes.
+    ghost bytes: { Self → List ℕ };
+
+    /// Each read gives them. Nothing can be said of the bytes that are read where it doesn't.
+    ghost gives_bytes: { Self → Type 0 };
+
+    /// How many there are.
+    fn len(&self) -> u64
+        ensures { gives_bytes self.now → result ≡ length (bytes self.now) };
+
+    /// Fills the buffer from a place on, with zeros past the end.
+    fn read_at(&mut self, at: u64, out: &mut [u8]) -> Result<(), SourceError>
+        ensures read { gives_bytes self.old → IsOk result × (out.new ≡ part_or_zeros (length out.old) at (bytes self.old)) }
+        ensures still_gives { gives_bytes self.old → gives_bytes self.new }
+        ensures same_bytes { bytes self.new ≡ bytes self.old };
+}
+
+impl FileBytes for &[u8] {
+    ghost bytes = { λ file. file.now };
+
+    ghost gives_bytes = { λ _. Unit {0} };
+
+    fn len(&self) -> u64 {
+        (**self).len() as u64
+    }
+
+    fn read_at(&mut self, at: u64, out: &mut [u8]) -> Result<(), SourceError> {
+        let file = *self;
+        let rest = &file[at.min(file.len() as u64) as usize..];
+        let count = rest.len().min(out.len());
+        let (front, back) = out.split_at_mut(count);
+        front.copy_from_slice(&rest[..count]);
+        back.fill(0);
+        Ok(())
+    }
+}

@@ -1,0 +1,17 @@
+//! The database that a file shows with the logs beside it, a write-ahead log and a rollback journal: its pages, and whether
+//! it is well formed. Nothing is written (fileformat2, 3 and 4.5; the choice of the log is own).
+#![tactic(auto)]
+
+mod file_bytes;
+mod file_head;
+mod judge_error;
+mod places;
+mod verdict;
+mod view;
+mod view_error;
+
+pub use file_bytes::FileBytes;
+pub use judge_error::JudgeError;
+pub use verdict::{Verdict, judge};
+pub use view::View;
+pub use view_error::ViewError;

@@ -1,0 +1,80 @@
+//! Where a log has the pages of a database.
+ghost use Rattle.std.specs.Prelude.{◌≡◌, ◌+◌, ◌*◌, ◌^◌, ◌<◌, ◌≤◌, ℕ, List, length, IfOk, OnOk, OnErr, slice_index};
+ghost use Rattle.sqwal.specs.Took.{Took};
+ghost use Rattle.sqwal.specs.Header.{named_size};
+ghost use Rattle.sqwal.specs.Frames.{IsValidFrame, frame_at};
+ghost use Rattle.sqjournal.specs.Took.{Took as ReplayTook};
+ghost use Rattle.sqview.specs.ViewParts.{AreFramePlaces, AreRecordPlaces, Noted};
+
+use crate::view_error::ViewError;
+use sqjournal::Replay;
+use sqval::PageSize;
+use sqwal::{Front, Scan};
+use std::alloc::Global;
+use walcore::index_of;
+
+/// Where the page of a frame begins, 0 for no frame.
+fn place(frame: u32, page_size: PageSize) -> u64
+    ensures none { frame ≡ 0 → result ≡ 0 }
+    ensures some { 1 ≤ frame → result ≡ frame_at page_size frame + 24 }
+{
+    match frame {
+        0 => 0,
+        _ => 32 + u64::from(frame - 1) * (24 + u64::from(page_size.get())) + 24,
+    }
+}
+
+/// Where the log has each page of the database at its front, by the last frame that names it; 0 where none does.
+pub fn frame_places(
+    alloc: Global,
+    scan: &Scan,
+    page_size: PageSize,
+    front: Front,
+) -> Result<Vec<u64>, ViewError>
+    ensures places { IfOk result (λ v. (w : List ℕ) → Took w scan.now → named_size w ≡ page_size → IsValidFrame (named_size w) w front.frames → AreFramePlaces page_size w front.frames front.size v.items) }
+    ensures memory { OnErr result (result ≡ Err ViewError.NoMemory) }
+{
+    let Ok(index) = index_of(alloc, scan, front) else {
+        return Err(ViewError::NoMemory);
+    };
+    let mut places = Vec::new(alloc);
+    places.reserve(front.size as usize)?;
+    for k in 0..front.size {
+        let hit = index.find(k + 1, front.frames);
+        places.push(place(hit.frame, page_size))?;
+    }
+    Ok(places)
+}
+
+/// Puts down where a page is, if it is one up to the last.
+fn note(places: &mut Vec<u64>, page: u32, at: u64)
+    ensures { Noted page at places.old.items places.new.items }
+{
+    let page = page as usize;
+    if 0 < page && page <= places.len() {
+        places[page - 1] = at;
+    }
+}
+
+/// So many zeros.
+fn zeros(alloc: Global, count: usize) -> Result<Vec<u64>, ViewError>
+    ensures zeros { IfOk result (λ v. (length v.items ≡ count) × ((i : ℕ) → slice_index v.items i ≡ 0)) }
+    ensures memory { OnErr result (result ≡ Err ViewError.NoMemory) }
+{
+    Ok(vec![in alloc; 0u64; count]?)
+}
+
+/// Where the journal has each page up to the count, by the last record that names it; 0 where none does.
+pub fn record_places(alloc: Global, replay: &Replay, count: u32) -> Result<Vec<u64>, ViewError>
+    ensures places { IfOk result (λ v. (b : List ℕ) → ReplayTook b replay.now → length b ≤ 2 ^ 40 → AreRecordPlaces b count v.items) }
+    ensures memory { OnErr result (result ≡ Err ViewError.NoMemory) }
+{
+    let mut places = zeros(alloc, count as usize)?;
+    for number in 1..usize::MAX {
+        let Some(record) = replay.entry(number) else {
+            break;
+        };
+        note(&mut places, record.page, record.at);
+    }
+    Ok(places)
+}

@@ -1,0 +1,60 @@
+//! What a check of files finds.
+ghost use Rattle.std.specs.Prelude.{IfOk, IfErr};
+ghost use Rattle.sqview.specs.LogView.{pages_of};
+ghost use Rattle.sqview.specs.Verdicts.{IsVerdict, IsVerdictOf, IsUnjudged, AreUnjudged};
+
+use crate::file_bytes::FileBytes;
+use crate::judge_error::JudgeError;
+use crate::view::View;
+use crate::view_error::ViewError;
+use sqcheck::{Report, check};
+use sqpage::{CheckError, Fault};
+use std::alloc::Global;
+
+/// What a check of files finds.
+#[derive(Clone, Copy, Debug, PartialEq, Eq)]
+pub enum Verdict {
+    /// The database that they show is well formed.
+    Clean(Report),
+    /// It isn't, or they show none.
+    Damaged(CheckError),
+}
+
+/// What a check finds of a view. Refused by AutoVacuum and NoMemory, which say that a database can't be checked and not
+/// that it is damaged.
+fn judge_view<F: FileBytes>(alloc: Global, view: &mut View<'_, F>) -> Result<Verdict, JudgeError>
+    ensures found { F.gives_bytes view.old.db → IfOk result (IsVerdictOf F.bytes view.old) }
+    ensures refused { F.gives_bytes view.old.db → IfErr result (IsUnjudged (pages_of F.bytes view.old)) }
+{
+    match check(alloc, view) {
+        Ok(report) => Ok(Verdict::Clean(report)),
+        Err(error) => match error.fault {
+            Fault::AutoVacuum => Err(JudgeError::AutoVacuum),
+            Fault::Source => Err(JudgeError::Unread),
+            Fault::NoMemory => Err(JudgeError::NoMemory),
+            _ => Ok(Verdict::Damaged(error)),
+        },
+    }
+}
+
+/// What a check finds of the database that a file shows with the bytes of its write-ahead log and its rollback journal, where
+/// a missing file is an empty slice. A header that names no database is damage at page 1. Refused by TwoLogs, TooLarge,
+/// AutoVacuum and NoMemory, and by Unread where the file could not be read.
+pub fn judge<F: FileBytes + Drop>(
+    alloc: Global,
+    db: F,
+    wal: &[u8],
+    journal: &[u8],
+) -> Result<Verdict, JudgeError>
+    ensures found { F.gives_bytes db → IfOk result (IsVerdict (F.bytes db) wal.now journal.now) }
+    ensures refused { F.gives_bytes db → IfErr result (AreUnjudged (F.bytes db) wal.now journal.now) }
+{
+    match View::new(alloc, db, wal, journal) {
+        Ok(mut view) => judge_view(alloc, &mut view),
+        Err(ViewError::Header(fault)) => Ok(Verdict::Damaged(CheckError { page: 1, fault })),
+        Err(ViewError::TwoLogs) => Err(JudgeError::TwoLogs),
+        Err(ViewError::TooLarge) => Err(JudgeError::TooLarge),
+        Err(ViewError::Unread) => Err(JudgeError::Unread),
+        Err(ViewError::NoMemory) => Err(JudgeError::NoMemory),
+    }
+}
