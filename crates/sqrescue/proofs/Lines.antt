@@ -1,12 +1,12 @@
 -- The words of a command line.
-use Rattle.std.proofs.Common.{◌≡◌, ◌≢◌, ◌⊎◌, inl, inr, ⊎_elim, ℕ, suc, ◌+◌, ◌-◌, ◌<◌, ◌≤◌, List, [], Bor, ◌++◌, map, length, drop, take, get_or, sym, refl, ◌∙◌, ap, subst, arith}
+use Rattle.std.proofs.Common.{◌≡◌, ◌≢◌, ◌⊎◌, inl, inr, ⊎_elim, ℕ, suc, ◌+◌, ◌-◌, ◌<◌, ◌≤◌, List, [], Bor, ◌++◌, map, length, length-drop, min, drop, take, get_or, sym, refl, ◌∙◌, ap, subst, arith}
 use Rattle.std.specs.Prelude.{Bool, true, false, not, IsTrue, Some, slice_get, codes, option_map, nat_eq}
 use Rattle.std.specs.List.{Contains}
 use Rattle.std.specs.Cmp.Lexicographic.{bytes_decides, pointwise}
 use Rattle.std.proofs.lemmas.Option.{slice_get-map, slice_get-get_or, slice_get_within, get_or_from_slice_get, same_Some}
 use Rattle.std.proofs.lemmas.Bool.{cases_lt}
-use Rattle.std.proofs.lemmas.List.{length-map, drop-take, take-map, drop-map}
-use Rattle.sqrescue.specs.Line.{HasPageText, IsFile, IsPlain, StandsFree}
+use Rattle.std.proofs.lemmas.List.{length-map, drop-take, take-map, drop-map, drop_all, take_all}
+use Rattle.sqrescue.specs.Line.{AreOptions, ArePlain, HasPageText, IsFile, IsPlain, StandsFree}
 
 -- word i
 pub at_word : (ws : List (Bor (List ℕ))) (i : ℕ) (d : Bor (List ℕ)) → i < length ws → slice_get (map (λ w. w.now) ws) i ≡ Some (get_or ws i d).now
@@ -78,6 +78,17 @@ module _ (ws : List (Bor (List ℕ))) (i : ℕ) (d : Bor (List ℕ)) (lt : i < l
 pub page_value_here : (ws : List (Bor (List ℕ))) (i : ℕ) (d : Bor (List ℕ)) (text : List ℕ) → i < length ws → (get_or ws i d).now ≡ codes "--page=" ++ text → HasPageText (map (λ w. w.now) ws) text
 page_value_here ws i d text lt is = page_there (map (λ w. w.now) ws) text i (inr (at_word ws i d lt ∙ ap Some is))
 
+-- words of which one is an option, and of which one more is none
+pub option_there : (ws : List (Bor (List ℕ))) (i : ℕ) (d : Bor (List ℕ)) → i < length ws → ¬ IsPlain (get_or ws i d).now → ¬ ArePlain (map (λ w. w.now) ws)
+option_there ws i d lt option plain = option (plain i (get_or ws i d).now (at_word ws i d lt))
+
+pub plain_more : (ws : List (Bor (List ℕ))) (i : ℕ) (d : Bor (List ℕ)) → i < length ws → ((k : ℕ) (word : List ℕ) → k < i → slice_get (map (λ w. w.now) ws) k ≡ Some word → IsPlain word)
+    → IsPlain (get_or ws i d).now → (k : ℕ) (word : List ℕ) → k < i + 1 → slice_get (map (λ w. w.now) ws) k ≡ Some word → IsPlain word
+plain_more ws i d lt before here k word below is = ⊎_elim (λ less. before k word less is)
+    (λ ge. let same : k ≡ i = omega arith in
+    λ rest begins. here rest (is_word ws i d word lt (ap (λ n. slice_get (map (λ w. w.now) ws) n) (sym same) ∙ is) ∙ begins))
+    (cases_lt k i)
+
 -- the options up to a place
 pub options_are : (ws : List (Bor (List ℕ))) (from end : ℕ) → from ≡ 2 → 2 ≤ end → map (λ w. w.now) (take (end - from) (drop from ws)) ≡ drop 2 (take end (map (λ w. w.now) ws))
 options_are ws from end is le =
@@ -87,6 +98,24 @@ options_are ws from end is le =
     ∙ ap (take (end - 2)) (sym (drop-map (λ (w : Bor (List ℕ)). w.now) 2 ws))
     ∙ sym (drop-take 2 (end - 2) (map (λ (w : Bor (List ℕ)). w.now) ws))
     ∙ ap (λ n. drop 2 (take n (map (λ (w : Bor (List ℕ)). w.now) ws))) split
+
+-- all words behind the command are options where none is a "--"
+pub options_rest : (ws : List (Bor (List ℕ))) (from end : ℕ) → from ≡ min (length ws) 2 → length ws ≤ end → ((i : ℕ) → 2 ≤ i → i < end → slice_get (map (λ w. w.now) ws) i ≢ Some (codes "--"))
+    → AreOptions (map (λ w. w.now) ws) (map (λ w. w.now) (take (length ws - from) (drop from ws)))
+options_rest ws from end is within none =
+    let now : Bor (List ℕ) → List ℕ = λ w. w.now in
+    let long : length (map now ws) ≤ end + 2 = omega (arith, words_long ws) in
+    let same : take (length ws - from) (drop from ws) ≡ drop 2 ws = take_all (length ws - from) (drop from ws) (omega (arith, length-drop from ws)) ∙ ⊎_elim
+    (λ few. drop_all from ws (omega arith) ∙ sym (drop_all 2 ws (omega arith)))
+    (λ many. let two : from ≡ 2 = omega arith in ap (λ n. drop n ws) two) (cases_lt (length ws) 2) in
+    record {
+      end = end + 2;
+      behind = omega arith;
+      are = ap (map now) same ∙ sym (drop-map now 2 ws) ∙ ap (drop 2) (sym (take_all (end + 2) (map now ws) long));
+      none = λ i two below is_dashes. ⊎_elim (λ less. none i two less is_dashes)
+          (λ past. let there : i < length (map now ws) = slice_get_within (map now ws) i (codes "--") is_dashes in omega (arith, words_long ws)) (cases_lt i end);
+      last = inl long;
+    }
 
 -- ---- words that stand for themselves
 

@@ -10,6 +10,7 @@ use Rattle.sqrescue.specs.declared.requests.Request.TheVariants.{Show, Check, Re
 -- the words behind the command, up to a "--"
 pub record AreOptions (words options : List (List ℕ)) : Type 0 where
   pub end : ℕ
+  pub behind : 2 ≤ end
   pub are : options ≡ drop 2 (take end words)
   pub none : (i : ℕ) → 2 ≤ i → i < end → slice_get words i ≢ Some (codes "--")
   pub last : (length words ≤ end) ⊎ (slice_get words end ≡ Some (codes "--"))
@@ -43,6 +44,18 @@ AsksNoPart options =
 abbrev pub IsPlain : (word : List ℕ) → Type 0
 IsPlain word = (rest : List ℕ) → word ≡ codes "-" ++ rest → rest ≡ []
 
+-- no word is an option
+abbrev pub ArePlain : (words : List (List ℕ)) → Type 0
+ArePlain words = (i : ℕ) (word : List ℕ) → slice_get words i ≡ Some word → IsPlain word
+
+-- no option stands behind the command
+abbrev pub HasNoOption : (words : List (List ℕ)) → Type 0
+HasNoOption words = (options : List (List ℕ)) × AreOptions words options × ArePlain options
+
+-- an option does
+abbrev pub HasOption : (words : List (List ℕ)) → Type 0
+HasOption words = (options : List (List ℕ)) × AreOptions words options × (¬ ArePlain options)
+
 -- a word behind the command that stands for itself: behind a "--", or else plain and not the value of "--page"
 pub record StandsFree (words : List (List ℕ)) (i : ℕ) (word : List ℕ) : Type 0 where
   pub behind : 2 ≤ i
@@ -53,16 +66,18 @@ pub record StandsFree (words : List (List ℕ)) (i : ℕ) (word : List ℕ) : Ty
 abbrev pub IsFile : (words : List (List ℕ)) → (file : List ℕ) → Type 0
 IsFile words file = (i : ℕ) × StandsFree words i file × ((j : ℕ) (other : List ℕ) → StandsFree words j other → j ≡ i)
 
--- the second word is the command, the file stands behind it, and the options name the part
+-- the second word is the command, the file stands behind it, and the options name the part; behind `check` and `recover`
+-- there are none
 abbrev pub Asks : List (List ℕ) → Request → Type 0
 Asks words (Show file part) =
     (slice_get words 1 ≡ Some (codes "show")) × IsFile words file.now
     × ((options : List (List ℕ)) × AreOptions words options × AsksPart options part)
-Asks words (Check file) = (slice_get words 1 ≡ Some (codes "check")) × IsFile words file.now
-Asks words (Recover file) = (slice_get words 1 ≡ Some (codes "recover")) × IsFile words file.now
+Asks words (Check file) = (slice_get words 1 ≡ Some (codes "check")) × IsFile words file.now × HasNoOption words
+Asks words (Recover file) = (slice_get words 1 ≡ Some (codes "recover")) × IsFile words file.now × HasNoOption words
 
--- the words, of this command and this file, ask for nothing: the command is another one, or the options of `show` ask for no part
+-- the words, of this command and this file, ask for nothing: the command is another one, the options of `show` ask for no
+-- part, or an option stands behind `check` or `recover`
 abbrev pub AsksNothing : (words : List (List ℕ)) → (command file : List ℕ) → Type 0
 AsksNothing words command file = slice_get words 1 ≡ Some command → IsFile words file
-    → (command ≢ codes "check") × (command ≢ codes "recover")
+    → (command ≡ codes "check" → HasOption words) × (command ≡ codes "recover" → HasOption words)
     × (command ≡ codes "show" → (options : List (List ℕ)) × AreOptions words options × AsksNoPart options)

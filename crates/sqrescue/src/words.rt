@@ -1,7 +1,7 @@
 //! The words of a command line.
 ghost use Rattle.std.specs.Prelude.{◌≡◌, ◌≢◌, ◌<◌, ◌≤◌, ◌++◌, ℕ, false, List, map, length, slice_get, codes, IfOk, IfSome, IsTrue, MatchOption};
 ghost use Rattle.std.specs.List.{Contains};
-ghost use Rattle.sqrescue.specs.Line.{Asks, AreOptions, AsksNoPart, AsksNothing, AsksPart, HasPageText, IsFile, IsPageNumber, IsPlain, StandsFree};
+ghost use Rattle.sqrescue.specs.Line.{ArePlain, Asks, AreOptions, AsksNoPart, AsksNothing, AsksPart, HasNoOption, HasOption, HasPageText, IsFile, IsPageNumber, IsPlain, StandsFree};
 
 use crate::requests::{LineError, Part, Request};
 use clap::error::ErrorKind;
@@ -80,6 +80,19 @@ fn is_plain(word: &str) -> bool
         Some(rest) => rest.is_empty(),
         None => true,
     }
+}
+
+/// Whether no word is an option.
+fn are_plain(words: &[&str]) -> bool
+    ensures yes { IsTrue result → ArePlain (map (λ w. w.now) words.entry.now) }
+    ensures not { result ≡ false → ¬ ArePlain (map (λ w. w.now) words.entry.now) }
+{
+    for word in words {
+        if !is_plain(word) {
+            return false;
+        }
+    }
+    true
 }
 
 /// Whether a word behind the command stands for itself.
@@ -194,6 +207,14 @@ fn part_of(words: &[&str]) -> Option<Part>
     }
 }
 
+/// Whether an option stands behind the command.
+fn has_option(words: &[&str]) -> bool
+    ensures yes { IsTrue result → HasOption (map (λ w. w.now) words.entry.now) }
+    ensures not { result ≡ false → HasNoOption (map (λ w. w.now) words.entry.now) }
+{
+    !are_plain(options_of(words))
+}
+
 /// What the words ask for where the command is this one and the file that one; None where they don't say so.
 fn asked<'a>(words: &'a [&'a str], command: &str, file: &'a str) -> Option<Request<'a>>
     ensures { MatchOption result (AsksNothing (map (λ w. w.now) words.entry.now) command.now file.entry.now) (Asks (map (λ w. w.now) words.entry.now)) }
@@ -204,6 +225,9 @@ fn asked<'a>(words: &'a [&'a str], command: &str, file: &'a str) -> Option<Reque
     if command == "show" {
         let part = part_of(words)?;
         return Some(Request::Show { file, part });
+    }
+    if has_option(words) {
+        return None;
     }
     if command == "check" {
         return Some(Request::Check { file });

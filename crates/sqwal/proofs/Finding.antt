@@ -116,17 +116,17 @@ unnamed_above newest earlier room capacity page t is view =
 ends_at_once : (pages : List ℕ) (page mark frame steps : ℕ) → IsOnWay pages page mark frame steps → ((i : ℕ) → i < length pages → get_or pages i 0 ≢ page) → (frame ≡ 0) × (steps ≡ 0)
 ends_at_once pages page mark frame steps way none =
     let first : frame ≡ 0 = ⊎_elim (λ lt. omega arith)
-        (λ some. absurd (none (frame - 1) (omega (arith, way.there)) (way.names some))) (cases_lt frame 1) in
+    (λ some. absurd (none (frame - 1) (omega (arith, way.there)) (way.names some))) (cases_lt frame 1) in
     let counted : behind pages page frame ≡ 0 =
-        behind_between pages page frame (frame + length pages) (omega arith) (λ i above _ within. none (i - 1) (omega arith)) ∙ behind_none pages page (frame + length pages) (omega arith) in
+    behind_between pages page frame (frame + length pages) (omega arith) (λ i above _ within. none (i - 1) (omega arith)) ∙ behind_none pages page (frame + length pages) (omega arith) in
     (first, way.steps_are ∙ counted)
 
 pub found : (t : FrameTable) (page mark : ℕ) (hit : Hit) (steps : ℕ) → page ≢ 0 → (t.bound < page → (i : ℕ) → i < length t.pages → get_or t.pages i 0 ≢ page)
     → IsOnWay t.pages page mark hit.frame steps → hit.frame ≤ mark → hit.steps ≡ steps + cond (hit.frame == 0) 0 1 → IsHit t page mark hit
 found t page mark hit steps some unnamed way le count = record {
   none = ⊎_elim (λ z. absurd (some z)) (λ above.
-    let end = ends_at_once t.pages page mark hit.frame steps way (unnamed above) in
-    (end.0, count ∙ ap (λ b. steps + cond b 0 1) (eq-eqb hit.frame 0 end.0) ∙ omega (arith, end.1)));
+      let end = ends_at_once t.pages page mark hit.frame steps way (unnamed above) in
+      (end.0, count ∙ ap (λ b. steps + cond b 0 1) (eq-eqb hit.frame 0 end.0) ∙ omega (arith, end.1)));
   newest = λ _. record { within = le; there = way.there; names = way.names; newest = way.newest };
   steps = λ _. count ∙ ap (λ n. n + cond (hit.frame == 0) 0 1) (way.steps_are ∙ behind_between t.pages page hit.frame mark le way.newest);
 }
