@@ -1,15 +1,16 @@
 //! Pages of b-trees (fileformat2, 1.6).
-ghost use Rattle.std.specs.Prelude.{◌≡◌, ◌≢◌, ◌⊎◌, ◌+◌, ◌<◌, ◌≤◌, ℕ, List, false, IsTrue, IfOk, IfErr, OnOk, OnErr, length, take, replicate};
+ghost use Rattle.std.specs.Prelude.{◌≡◌, ◌≢◌, ◌⊎◌, ◌+◌, ◌*◌, ◌<◌, ◌≤◌, ℕ, List, false, IsTrue, IfOk, IfErr, OnOk, OnErr, length, take, replicate, slice_get};
 ghost use Rattle.sqval.specs.Bytes.{word};
 ghost use Rattle.sqval.specs.PageSize.{IsPageSize};
+ghost use Rattle.sqpage.specs.declared.cell.Parts.{Parts};
 ghost use Rattle.sqpage.specs.declared.fault.Fault.{Fault};
 ghost use Rattle.sqpage.specs.Chain.{payload_size};
 ghost use Rattle.sqpage.specs.Layout.{IsLaidOut, LayoutRefused};
 ghost use Rattle.sqpage.specs.Marking.{MarksCells, TouchesCells, MarksAll};
-ghost use Rattle.sqpage.specs.Page.{Page, IsBtreePage, PageRefused, IsCell, HasCell, if_present, is_interior, head_at, cell_count, cell_count_in, content_start_in, pointers_at, pointer_in, pointers_end_in};
+ghost use Rattle.sqpage.specs.Page.{Page, IsBtreePage, PageRefused, IsCell, HasCell, HasParts, HasPartsOf, if_present, is_interior, head_at, cell_count, cell_count_in, content_start_in, pointers_at, pointer as cell_pointer, pointer_in, pointers_end_in};
 
 use crate::bytes::{half_at, word_at};
-use crate::cell::{Cell, parts_at};
+use crate::cell::{Cell, Parts, parts_at};
 use crate::fault::Fault;
 use crate::kind::Kind;
 use crate::layout::{clear, count_bare, mark, mark_freeblocks, marks};
@@ -113,6 +114,33 @@ fn cells_lie_within(kind: Kind, used: &[u8], number: u32) -> bool
     true
 }
 
+/// Reads the parts of the cells, and answers whether these lie between the start of the content and the end of
+/// the usable part.
+fn read_parts(kind: Kind, used: &[u8], number: u32, parts: &mut [Parts]) -> bool
+    requires least { 480 ≤ length used.now }
+    requires most { length used.now ≤ 65536 }
+    requires pointers { pointers_end_in kind used.now number ≤ length used.now }
+    requires room { cell_count_in used.now number ≤ length parts.old }
+    ensures yes { IsTrue result → (i : ℕ) (c : Parts) → i < cell_count_in used.now number → slice_get parts.new i ≡ Some c
+        → (content_start_in used.now number ≤ pointer_in kind used.now number i) × HasParts kind used.now (pointer_in kind used.now number i) c }
+    ensures not { result ≡ false → (i : ℕ) × (i < cell_count_in used.now number)
+        × ((pointer_in kind used.now number i < content_start_in used.now number) ⊎ ¬ HasCell kind used.now (pointer_in kind used.now number i)) }
+    ensures length { length parts.new ≡ length parts.old }
+{
+    let start = content_start(used, number);
+    'cells: for i in 0..count(used, number) {
+        let at = pointer(kind, used, number, i);
+        if at < start {
+            return false;
+        }
+        match parts_at(kind, used, at) {
+            Some(found) => parts[i] = found,
+            None => return false,
+        }
+    }
+    true
+}
+
 impl<'a> BtreePage<'a> {
     /// The page of these bytes and this number, of which the first `usable` bytes, at least 480, are used. Refused by Kind
     /// where its type byte is none, otherwise by CellOutside where the pointers, the start of the cells or a
@@ -135,6 +163,37 @@ impl<'a> BtreePage<'a> {
             return Err(Fault::CellOutside);
         }
         if content_start(used, number) > used.len() || !cells_lie_within(kind, used, number) {
+            return Err(Fault::CellOutside);
+        }
+        Ok(BtreePage { used, number, kind })
+    }
+
+    /// The same, and the parts of its cells, each of which is read once. `parts` is room for a cell in each two bytes.
+    pub fn parse(
+        bytes: &'a [u8],
+        number: u32,
+        usable: u32,
+        parts: &mut [Parts],
+    ) -> Result<BtreePage<'a>, Fault>
+        requires page { IsPageSize (length bytes.now) }
+        requires number { 0 < number }
+        requires least { 480 ≤ usable }
+        requires most { usable ≤ length bytes.now }
+        requires room { usable ≤ 2 * length parts.old }
+        ensures ok { IfOk result (λ page. IsBtreePage page) }
+        ensures part { IfOk result (λ page. (page.used ≡ take usable bytes.entry.now) × (page.number ≡ number)) }
+        ensures parts { IfOk result (λ page. HasPartsOf page parts.new) }
+        ensures err { IfErr result (λ fault. PageRefused fault (take usable bytes.entry.now) number) }
+        ensures length { length parts.new ≡ length parts.old }
+    {
+        let used = &bytes[..usable as usize];
+        let Some(kind) = Kind::of(used[head(number)]) else {
+            return Err(Fault::Kind);
+        };
+        if pointers(kind, number) + 2 * count(used, number) > used.len() {
+            return Err(Fault::CellOutside);
+        }
+        if content_start(used, number) > used.len() || !read_parts(kind, used, number, parts) {
             return Err(Fault::CellOutside);
         }
         Ok(BtreePage { used, number, kind })
@@ -172,19 +231,32 @@ impl<'a> BtreePage<'a> {
     {
         let at = pointer(self.kind, self.used, self.number, i);
         match parts_at(self.kind, self.used, at) {
-            Some(parts) => Cell {
-                page: self.number,
-                usable: self.used.len() as u32,
-                at,
-                child: self.kind.is_interior().then_some(parts.child),
-                rowid: self.kind.is_table().then_some(parts.rowid.cast_signed()),
-                payload: self.kind.has_payload().then_some(parts.payload),
-                local: &self.used[parts.body..parts.body + parts.local as usize],
-                overflow: parts.overflow,
-            },
+            Some(parts) => self.cell_with(i, &parts),
             None => unreachable!(),
         }
     }
+
+    /// Cell `i`, of which these are the parts.
+    pub fn cell_with(&self, i: usize, parts: &Parts) -> Cell<'a>
+        requires below { i < cell_count self.now }
+        requires parts { HasParts self.now.kind self.now.used (cell_pointer self.now i) parts.now }
+        ensures cell { IsCell self.now i result }
+        // What of the payload is in the page is not more than the payload.
+        ensures part { length result.local.now ≤ payload_size result }
+        ensures least { 480 ≤ result.usable }
+    {
+        Cell {
+            page: self.number,
+            usable: self.used.len() as u32,
+            at: pointer(self.kind, self.used, self.number, i),
+            child: self.kind.is_interior().then_some(parts.child),
+            rowid: self.kind.is_table().then_some(parts.rowid.cast_signed()),
+            payload: self.kind.has_payload().then_some(parts.payload),
+            local: &self.used[parts.body..parts.body + parts.local as usize],
+            overflow: parts.overflow,
+        }
+    }
+
     /// Marks the cells, each with four bytes at least. False where one shares a byte with what is marked.
     fn mark_cells(&self, map: &mut [bool]) -> bool
         requires room { length map.old ≡ length self.now.used + 4 }
