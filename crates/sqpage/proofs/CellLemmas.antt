@@ -11,7 +11,7 @@ use Rattle.std.specs.Int.{cast_signed, w64}
 use Rattle.sqval.specs.Bytes.{part}
 use Rattle.sqpage.specs.declared.kind.Kind.{Kind}
 use Rattle.sqval.proofs.Varints.{begins_once}
-use Rattle.sqpage.specs.Page.{FourBytes, VarintAt, HasParts, HasCell, Page, IsCell, pointer, content_start_in, pointer_in, is_interior, is_table, has_payload, if_present, local_size, least_local, even_local}
+use Rattle.sqpage.specs.Page.{FourBytes, VarintAt, HasParts, HasCell, HasPartsOf, Page, IsCell, cell_count, pointer, content_start_in, pointer_in, is_interior, is_table, has_payload, if_present, local_size, least_local, even_local}
 use Rattle.sqpage.specs.declared.kind.Kind.TheVariants.{TableLeaf, TableInterior, IndexLeaf, IndexInterior}
 
 -- what a read of a varint says
@@ -100,6 +100,13 @@ read_within kind used number n parts room read = λ k lt.
     let none : Parts = record { child = 0; payload = 0; rowid = 0; body = 0; local = 0; overflow = 0; end = 0 } in
     let found = read k (get_or parts k none) lt (slice_get-get_or parts k none (omega arith)) in
     (found.0, (get_or parts k none, found.1))
+
+-- the parts of a cell as they are read from the parts of all
+abbrev pub parts_in : List Parts → (i : ℕ) → Parts
+parts_in parts i = get_or parts i (record { child = 0; payload = 0; rowid = 0; body = 0; local = 0; overflow = 0; end = 0 })
+
+pub parts_are : (p : Page) (parts : List Parts) (i : ℕ) → HasPartsOf p parts → i < cell_count p → HasParts p.kind p.used (pointer p i) (parts_in parts i)
+parts_are p parts i h lt = h.each i (parts_in parts i) lt (slice_get-get_or parts i _ (omega (arith, h.room)))
 
 four_rise : (present : Bool) (used : List ℕ) (from to n : ℕ) → FourBytes present used from to n → from ≤ to
 four_rise true used from to n h = let e : to ≡ from + 4 = h.0 in omega arith
