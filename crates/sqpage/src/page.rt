@@ -181,7 +181,8 @@ impl<'a> BtreePage<'a> {
         requires most { usable ≤ length bytes.now }
         requires room { usable ≤ 2 * length parts.old }
         ensures ok { IfOk result (λ page. IsBtreePage page) }
-        ensures part { IfOk result (λ page. (page.used ≡ take usable bytes.entry.now) × (page.number ≡ number)) }
+        ensures part { IfOk result (λ page. page.used ≡ take usable bytes.entry.now) }
+        ensures number { IfOk result (λ page. page.number ≡ number) }
         ensures parts { IfOk result (λ page. HasPartsOf page parts.new) }
         ensures err { IfErr result (λ fault. PageRefused fault (take usable bytes.entry.now) number) }
         ensures length { length parts.new ≡ length parts.old }
