@@ -6,6 +6,7 @@ use Rattle.sqpage.specs.declared.header.DbHeader.{DbHeader}
 use Rattle.sqpage.specs.Freelist.{first_trunk, free_pages}
 use Rattle.sqcheck.specs.declared.checker.Checker.{Checker}
 use Rattle.sqcheck.specs.Places.{Spot}
+use Rattle.sqcheck.specs.Room.{HoldsPage}
 use Rattle.sqcheck.specs.Agenda.{Stood}
 
 -- A check of n pages of this size has room for what it does, and nothing on its stack.
@@ -16,7 +17,7 @@ pub record Fits (size n : ℕ) (c : Checker) : Type 0 where
   pub bytes : length c.bytes.items ≡ size
   pub least : 480 ≤ c.usable
   pub most : c.usable ≤ size
-  pub map : c.usable + 4 ≤ length c.map.items
+  pub room : HoldsPage c.usable c.room
   pub counts : c.counts.btree + c.counts.overflow + c.counts.free + count_by not c.marks.items ≤ length c.marks.items
   pub trees : c.counts.trees ≤ c.counts.btree
   pub empty : c.walk.stack.items ≡ []

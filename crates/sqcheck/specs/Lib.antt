@@ -7,3 +7,4 @@ pub mod Agenda
 pub mod Heading
 pub mod Checking
 pub mod Schema
+pub mod Room

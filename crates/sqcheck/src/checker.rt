@@ -17,14 +17,14 @@ ghost use Rattle.sqcheck.specs.declared.tree.Tree.{Tree};
 
 use crate::header::judge_header;
 use crate::item::{Item, Task, push};
-use crate::node::Walk;
+use crate::node::{Room, Walk};
 use crate::pages::read_page;
 use crate::report::Report;
 use crate::schema::{Root, roots_in};
 use crate::tree::Tree;
 use crate::unused::judge_unused;
 use crate::walk::{Counts, walk_on};
-use sqpage::{CheckError, DbHeader, Fault, PageSource};
+use sqpage::{CheckError, DbHeader, Fault, PageSource, Parts};
 use sqval::PageSize;
 use std::alloc::{AllocError, Global};
 
@@ -35,8 +35,8 @@ pub(crate) struct Checker {
     pub usable: u32,
     /// Room for a page.
     pub bytes: Vec<u8>,
-    /// Room for marks on a page's bytes.
-    pub map: Vec<bool>,
+    /// Room for the cells of a page, and for marks on its bytes.
+    pub room: Room,
     /// A mark for each page: whether it was taken.
     pub marks: Vec<bool>,
     pub walk: Walk,
@@ -74,7 +74,7 @@ impl Checker {
         walk_on(
             source,
             &mut self.bytes,
-            &mut self.map,
+            &mut self.room,
             self.usable,
             tree,
             &mut self.marks,
@@ -303,7 +303,10 @@ fn new_checker(alloc: Global, size: PageSize, count: u32) -> Result<Checker, All
     Ok(Checker {
         usable: size.get(),
         bytes: vec![in alloc; 0; bytes]?,
-        map: vec![in alloc; false; bytes + 4]?,
+        room: Room {
+            parts: vec![in alloc; Parts::NONE; bytes / 2]?,
+            map: vec![in alloc; 0; (bytes + 67) / 64]?,
+        },
         marks: vec![in alloc; false; count as usize]?,
         walk: Walk {
             stack: Vec::new(alloc),

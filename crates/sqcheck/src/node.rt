@@ -5,19 +5,29 @@ ghost use Rattle.sqval.specs.PageSize.{IsPageSize};
 ghost use Rattle.sqpage.specs.declared.fault.Fault.{Fault};
 ghost use Rattle.sqpage.specs.declared.kind.Kind.{Kind};
 ghost use Rattle.sqpage.specs.Header.{byte};
-ghost use Rattle.sqpage.specs.Page.{Page, code_of, is_interior, is_table, head_at};
+ghost use Rattle.sqpage.specs.Page.{Page, HasPartsOf, code_of, is_interior, is_table, head_at};
 ghost use Rattle.sqcheck.specs.Places.{Node, InCell, used_in};
 ghost use Rattle.sqcheck.specs.WellFormed.{IsBefore, IsAtMost, KeysRise, FirstLeaf, first_child};
+ghost use Rattle.sqcheck.specs.Room.{HoldsPage};
 ghost use Rattle.sqcheck.specs.Stands.{HasKeyOutOfOrder, NodeRefused};
 ghost use Rattle.sqcheck.specs.Walking.{node_in, Pushes, IsChild, IsBelow, TopLeads, IsLevelOf, Judged, KnowsAt, Enters};
 ghost use Rattle.sqcheck.specs.declared.tree.Tree.{Tree};
 
 use crate::item::{Item, Task, push};
 use crate::tree::Tree;
-use sqpage::{BtreePage, CheckError, Fault, Kind, links_of};
+use sqpage::{BtreePage, CheckError, Fault, Kind, Parts, links_of};
 
 /// Where the header of page 1 as a b-tree page begins, behind the file's header.
 const FIRST_HEAD: usize = 100;
+
+/// Room for what is read and marked of one page.
+#[derive(Drop)]
+pub(crate) struct Room {
+    /// For the parts of its cells.
+    pub parts: Vec<Parts>,
+    /// For a bit for each of its bytes.
+    pub map: Vec<u64>,
+}
 
 /// What is known of a page of a tree: its level, and the bounds of its keys.
 #[derive(Clone, Copy, Debug)]
@@ -82,13 +92,14 @@ fn is_at_most(high: Option<i64>, key: Option<i64>) -> bool
 }
 
 /// Whether the keys of a page rise within its bounds.
-fn keys_rise(page: &BtreePage, low: Option<i64>, high: Option<i64>) -> bool
+fn keys_rise(page: &BtreePage, parts: &[Parts], low: Option<i64>, high: Option<i64>) -> bool
+    requires { HasPartsOf page.now parts.now }
     ensures yes { (x : Node) → x.low ≡ low → x.high ≡ high → IsTrue result → KeysRise page.now x }
     ensures not { (x : Node) → x.low ≡ low → x.high ≡ high → result ≡ false → HasKeyOutOfOrder page.now x }
 {
     let mut before = low;
     'cells: for i in 0..page.len() {
-        let key = page.cell(i).rowid;
+        let key = page.cell_with(i, &parts[i]).rowid;
         if !is_behind(before, key) || !is_at_most(high, key) {
             return false;
         }
@@ -101,9 +112,11 @@ fn keys_rise(page: &BtreePage, low: Option<i64>, high: Option<i64>) -> bool
 pub(crate) fn push_chains(
     number: u32,
     page: &BtreePage,
+    parts: &[Parts],
     stack: &mut Vec<Item>,
 ) -> Result<(), CheckError>
-    requires { number ≡ page.now.number }
+    requires number { number ≡ page.now.number }
+    requires parts { HasPartsOf page.now parts.now }
     ensures ok { OnOk result ((tree : Tree) → Pushes tree (InCell page.now) stack.old.items stack.new.items) }
     ensures leads { OnOk result ((d : Database) (root : ℕ) → TopLeads d root (reverse stack.old.items) → TopLeads d root (reverse stack.new.items)) }
     ensures err { IfErr result (λ e. e.fault ≡ Fault.NoMemory) }
@@ -111,7 +124,7 @@ pub(crate) fn push_chains(
     let mut left = page.len();
     'cells: while left > 0 {
         left -= 1;
-        let cell = page.cell(left);
+        let cell = page.cell_with(left, &parts[left]);
         let needed = links_of(&cell);
         if needed > 0 {
             push(
@@ -131,10 +144,12 @@ pub(crate) fn push_chains(
 pub(crate) fn push_children(
     number: u32,
     page: &BtreePage,
+    parts: &[Parts],
     bounds: Bounds,
     stack: &mut Vec<Item>,
 ) -> Result<(), CheckError>
     requires number { number ≡ page.now.number }
+    requires parts { HasPartsOf page.now parts.now }
     requires interior { is_interior page.now.kind ≡ true }
     requires shallow { bounds.level ≤ 20 }
     ensures ok { OnOk result ((tree : Tree) → Pushes tree (IsChild page.now (node_in tree bounds.level bounds.low bounds.high)) stack.old.items stack.new.items) }
@@ -148,7 +163,7 @@ pub(crate) fn push_children(
     let mut left = page.len();
     'cells: while left > 0 {
         left -= 1;
-        let cell = page.cell(left);
+        let cell = page.cell_with(left, &parts[left]);
         let task = Task::Node {
             level,
             low: cell.rowid,
@@ -189,27 +204,28 @@ pub(crate) fn judge<'a>(
     usable: u32,
     bounds: Bounds,
     first: &mut Option<u32>,
-    map: &mut [bool],
+    room: &mut Room,
 ) -> Result<BtreePage<'a>, Fault>
     requires page { IsPageSize (length bytes.now) }
     requires number { 0 < number }
     requires least { 480 ≤ usable }
     requires most { usable ≤ length bytes.now }
-    requires room { usable + 4 ≤ length map.old }
+    requires room { HoldsPage usable room.old }
     ensures ok { IfOk result (λ page. Judged page (node_in tree.now bounds.level bounds.low bounds.high) first.old first.new) }
     ensures number { IfOk result (λ page. page.number ≡ number) }
     ensures part { IfOk result (λ page. page.used ≡ take usable bytes.entry.now) }
     ensures err { (d : Database) → used_in d number ≡ take usable bytes.entry.now → IsLevelOf d tree.now.root first.old
         → IfErr result (λ fault. NodeRefused d fault number (node_in tree.now bounds.level bounds.low bounds.high)) }
-    ensures length { length map.new ≡ length map.old }
+    ensures parts { IfOk result (λ page. HasPartsOf page room.new.parts.items) }
+    ensures room { HoldsPage usable room.new }
 {
     let kind = kind_in(tree, number, &bytes[..usable as usize])?;
     if !kind.is_interior() {
         *first = Some(leaf_level(*first, bounds.level)?);
     }
-    let page = BtreePage::new(bytes, number, usable)?;
-    page.layout_in(map)?;
-    if !keys_rise(&page, bounds.low, bounds.high) {
+    let page = BtreePage::parse(bytes, number, usable, &mut room.parts)?;
+    page.layout_in(&room.parts, &mut room.map)?;
+    if !keys_rise(&page, &room.parts, bounds.low, bounds.high) {
         return Err(Fault::KeyOrder);
     }
     Ok(page)
@@ -248,10 +264,12 @@ fn put_aside(tree: &Tree, kind: Kind, number: u32, rows: &mut Vec<u32>) -> Resul
 fn push_below(
     number: u32,
     page: &BtreePage,
+    parts: &[Parts],
     bounds: Bounds,
     stack: &mut Vec<Item>,
 ) -> Result<(), CheckError>
     requires number { number ≡ page.now.number }
+    requires parts { HasPartsOf page.now parts.now }
     requires shallow { bounds.level ≤ 20 }
     ensures ok { OnOk result ((tree : Tree) → Pushes tree (IsBelow page.now (node_in tree bounds.level bounds.low bounds.high)) stack.old.items stack.new.items) }
     ensures leads { OnOk result ((d : Database) (root : ℕ) → is_interior page.now.kind ≡ true → ((on : ℕ) → FirstLeaf d (first_child page.now) (suc bounds.level) on → FirstLeaf d root 1 on)
@@ -259,7 +277,7 @@ fn push_below(
     ensures err { IfErr result (λ e. e.fault ≡ Fault.NoMemory) }
 {
     if page.kind().is_interior() {
-        push_children(number, page, bounds, stack)
+        push_children(number, page, parts, bounds, stack)
     } else {
         Ok(())
     }
@@ -272,20 +290,20 @@ pub(crate) fn enter(
     bytes: &[u8],
     usable: u32,
     bounds: Bounds,
-    map: &mut [bool],
+    room: &mut Room,
     walk: &mut Walk,
 ) -> Result<(), CheckError>
     requires page { IsPageSize (length bytes.now) }
     requires number { 0 < number }
     requires least { 480 ≤ usable }
     requires most { usable ≤ length bytes.now }
-    requires room { usable + 4 ≤ length map.old }
+    requires room { HoldsPage usable room.old }
     requires shallow { bounds.level ≤ 20 }
     ensures ok { (d : Database) → used_in d number ≡ take usable bytes.now → KnowsAt d tree.now.root walk.old.leaf_level number bounds.level
         → OnOk result (Enters d tree.now number (node_in tree.now bounds.level bounds.low bounds.high) walk.old walk.new) }
     ensures err { (d : Database) → used_in d number ≡ take usable bytes.now → IsLevelOf d tree.now.root walk.old.leaf_level
         → IfErr result (λ e. ((e.page ≡ number) × NodeRefused d e.fault number (node_in tree.now bounds.level bounds.low bounds.high)) ⊎ (e.fault ≡ Fault.NoMemory)) }
-    ensures length { length map.new ≡ length map.old }
+    ensures room { HoldsPage usable room.new }
 {
     let page = match judge(
         tree,
@@ -294,7 +312,7 @@ pub(crate) fn enter(
         usable,
         bounds,
         &mut walk.leaf_level,
-        map,
+        room,
     ) {
         Ok(page) => page,
         Err(fault) => return Err(CheckError {
@@ -303,6 +321,6 @@ pub(crate) fn enter(
         }),
     };
     put_aside(tree, page.kind(), number, &mut walk.rows)?;
-    push_below(number, &page, bounds, &mut walk.stack)?;
-    push_chains(number, &page, &mut walk.stack)
+    push_below(number, &page, &room.parts, bounds, &mut walk.stack)?;
+    push_chains(number, &page, &room.parts, &mut walk.stack)
 }

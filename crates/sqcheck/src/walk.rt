@@ -8,6 +8,7 @@ ghost use Rattle.sqcheck.specs.Places.{Spot};
 ghost use Rattle.sqcheck.specs.Walking.{Follows, FollowRefused, Knows, IsProper};
 ghost use Rattle.sqcheck.specs.Counting.{AddsTask};
 ghost use Rattle.sqcheck.specs.Agenda.{Walking, WalksOn};
+ghost use Rattle.sqcheck.specs.Room.{HoldsPage};
 ghost use Rattle.sqcheck.specs.Stands.{Stands};
 ghost use Rattle.sqcheck.specs.declared.item.Item.{Item};
 ghost use Rattle.sqcheck.specs.declared.item.Task.{Task};
@@ -15,7 +16,7 @@ ghost use Rattle.sqcheck.specs.declared.item.Task.TheVariants.{Node};
 ghost use Rattle.sqcheck.specs.declared.tree.Tree.{Tree};
 
 use crate::item::{Item, Task};
-use crate::node::{Bounds, Walk, enter};
+use crate::node::{Bounds, Room, Walk, enter};
 use crate::pages::{read_page, take};
 use crate::tree::Tree;
 use crate::trunk::{follow_link, follow_trunk};
@@ -58,7 +59,7 @@ impl Counts {
 fn follow_node<S: PageSource>(
     source: &mut S,
     bytes: &mut [u8],
-    map: &mut [bool],
+    room: &mut Room,
     usable: u32,
     tree: &Tree,
     item: Item,
@@ -72,7 +73,7 @@ fn follow_node<S: PageSource>(
     requires size { IsPageSize (S.size source.old) }
     requires least { 480 ≤ usable }
     requires most { usable ≤ S.size source.old }
-    requires map { usable + 4 ≤ length map.old }
+    requires holds { HoldsPage usable room.old }
     ensures ok { S.gives_pages source.old → usable ≡ usable_size (S.pages source.old) → Knows (S.pages source.old) tree.now.root walk.old.leaf_level (item ∷ reverse walk.old.stack.items)
         → OnOk result (Follows (S.pages source.old) tree.now item marks.old marks.new walk.old walk.new) }
     ensures err { S.gives_pages source.old → usable ≡ usable_size (S.pages source.old) → Knows (S.pages source.old) tree.now.root walk.old.leaf_level (item ∷ reverse walk.old.stack.items)
@@ -83,7 +84,7 @@ fn follow_node<S: PageSource>(
     ensures marks { length marks.new ≡ length marks.old }
     ensures fewer { OnOk result (count_by not marks.new < count_by not marks.old) }
     ensures room { length bytes.new ≡ length bytes.old }
-    ensures map { length map.new ≡ length map.old }
+    ensures holds { HoldsPage usable room.new }
 {
     take(marks, item.holder, item.page)?;
     if bounds.level > DEEPEST {
@@ -93,14 +94,14 @@ fn follow_node<S: PageSource>(
         });
     }
     read_page(source, item.page, bytes)?;
-    enter(tree, item.page, bytes, usable, bounds, map, walk)
+    enter(tree, item.page, bytes, usable, bounds, room, walk)
 }
 
 /// Takes the page of an item and puts what stands in it on the stack.
 fn follow<S: PageSource>(
     source: &mut S,
     bytes: &mut [u8],
-    map: &mut [bool],
+    room: &mut Room,
     usable: u32,
     tree: &Tree,
     item: Item,
@@ -112,7 +113,7 @@ fn follow<S: PageSource>(
     requires size { IsPageSize (S.size source.old) }
     requires least { 480 ≤ usable }
     requires most { usable ≤ S.size source.old }
-    requires map { usable + 4 ≤ length map.old }
+    requires holds { HoldsPage usable room.old }
     ensures ok { S.gives_pages source.old → usable ≡ usable_size (S.pages source.old) → IsProper item.task → Knows (S.pages source.old) tree.now.root walk.old.leaf_level (item ∷ reverse walk.old.stack.items)
         → OnOk result (Follows (S.pages source.old) tree.now item marks.old marks.new walk.old walk.new) }
     ensures err { S.gives_pages source.old → usable ≡ usable_size (S.pages source.old) → IsProper item.task → Knows (S.pages source.old) tree.now.root walk.old.leaf_level (item ∷ reverse walk.old.stack.items)
@@ -123,7 +124,7 @@ fn follow<S: PageSource>(
     ensures marks { length marks.new ≡ length marks.old }
     ensures fewer { OnOk result (count_by not marks.new < count_by not marks.old) }
     ensures room { length bytes.new ≡ length bytes.old }
-    ensures map { length map.new ≡ length map.old }
+    ensures holds { HoldsPage usable room.new }
 {
     match item.task {
         Task::Trunk => {
@@ -133,7 +134,7 @@ fn follow<S: PageSource>(
         Task::Link(needed) => { follow_link(source, bytes, item, needed, marks, &mut walk.stack) }
         Task::Node { level, low, high } => {
             let bounds = Bounds { level, low, high };
-            follow_node(source, bytes, map, usable, tree, item, bounds, marks, walk)
+            follow_node(source, bytes, room, usable, tree, item, bounds, marks, walk)
         }
     }
 }
@@ -142,7 +143,7 @@ fn follow<S: PageSource>(
 pub(crate) fn walk_on<S: PageSource>(
     source: &mut S,
     bytes: &mut [u8],
-    map: &mut [bool],
+    room: &mut Room,
     usable: u32,
     tree: &Tree,
     marks: &mut [bool],
@@ -155,7 +156,7 @@ pub(crate) fn walk_on<S: PageSource>(
     requires size { IsPageSize (S.size source.old) }
     requires least { 480 ≤ usable }
     requires most { usable ≤ S.size source.old }
-    requires map { usable + 4 ≤ length map.old }
+    requires holds { HoldsPage usable room.old }
     requires counts { counts.old.btree + counts.old.overflow + counts.old.free + count_by not marks.old ≤ length marks.old }
     requires trees { counts.old.trees ≤ counts.old.btree }
     ensures ok { S.gives_pages source.old → usable ≡ usable_size (S.pages source.old) → (late : Bool) (visited rest : List Spot) → Walking (S.pages source.old) late tree.now visited rest marks.old walk.old counts.old
@@ -170,10 +171,10 @@ pub(crate) fn walk_on<S: PageSource>(
     ensures counts { OnOk result (counts.new.btree + counts.new.overflow + counts.new.free + count_by not marks.new ≤ length marks.new) }
     ensures trees { OnOk result (counts.new.trees ≤ counts.new.btree) }
     ensures room { length bytes.new ≡ length bytes.old }
-    ensures map { length map.new ≡ length map.old }
+    ensures holds { HoldsPage usable room.new }
 {
     'places: while let Some(item) = walk.stack.pop() {
-        follow(source, bytes, map, usable, tree, item, marks, walk)?;
+        follow(source, bytes, room, usable, tree, item, marks, walk)?;
         counts.add(item.task);
     }
     Ok(())

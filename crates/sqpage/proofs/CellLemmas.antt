@@ -1,6 +1,8 @@
 -- The parts of cells.
-use Rattle.std.proofs.Common.{◌≡◌, ℕ, ◌+◌, ◌-◌, ◌<◌, ◌≤◌, ◌↔◌, ◌*◌, ◌/◌, if◌then◌else◌, nat_lt, nat_le, List, length, take, drop, Bool, true, false, Option, Some, None, unwrap_or, below_more, sym, ap, subst, ◌∙◌, arith}
-use Rattle.std.proofs.lemmas.List.{length-take-le, length-drop}
+use Rattle.std.proofs.Common.{◌≡◌, ℕ, get_or, ◌+◌, ◌-◌, ◌<◌, ◌≤◌, ◌↔◌, ◌*◌, ◌/◌, if◌then◌else◌, nat_lt, nat_le, List, length, take, drop, Bool, true, false, Option, Some, None, unwrap_or, below_more, slice_get, set, inl, inr, sym, ap, subst, ◌∙◌, arith}
+use Rattle.std.proofs.lemmas.Bool.{cases_eq}
+use Rattle.std.proofs.lemmas.List.{length-take-le, length-drop, get_or-set_same, get_or-set_other, length-set}
+use Rattle.std.proofs.lemmas.Option.{slice_get-get_or, slice_get_within, get_or_from_slice_get}
 use Rattle.std.proofs.Math.Seq.{take-length}
 use Rattle.sqval.specs.Varint.{Begins}
 use Rattle.sqpage.specs.declared.cell.Parts.{Parts}
@@ -9,7 +11,7 @@ use Rattle.std.specs.Int.{cast_signed, w64}
 use Rattle.sqval.specs.Bytes.{part}
 use Rattle.sqpage.specs.declared.kind.Kind.{Kind}
 use Rattle.sqval.proofs.Varints.{begins_once}
-use Rattle.sqpage.specs.Page.{FourBytes, VarintAt, HasParts, HasCell, Page, IsCell, pointer, content_start_in, pointer_in, is_interior, is_table, has_payload, if_present, local_size, least_local, even_local}
+use Rattle.sqpage.specs.Page.{FourBytes, VarintAt, HasParts, HasCell, HasPartsOf, Page, IsCell, cell_count, pointer, content_start_in, pointer_in, is_interior, is_table, has_payload, if_present, local_size, least_local, even_local}
 use Rattle.sqpage.specs.declared.kind.Kind.TheVariants.{TableLeaf, TableInterior, IndexLeaf, IndexInterior}
 
 -- what a read of a varint says
@@ -69,6 +71,42 @@ pub one_more : (kind : Kind) (used : List ℕ) (number n start at : ℕ) (r : Op
 one_more kind used number n start at r parts before es ea le finds is =
     below_more (λ k. (content_start_in used number ≤ pointer_in kind used number k) × HasCell kind used (pointer_in kind used number k)) n before
     (subst (λ s. s ≤ pointer_in kind used number n) es (subst (λ a. start ≤ a) ea le), has_cell kind used at (pointer_in kind used number n) r parts ea finds is)
+
+-- Cells whose parts were read: each lies within, and these are its parts.
+abbrev pub AreRead : Kind → List ℕ → (number n : ℕ) → List Parts → Type 0
+AreRead kind used number n parts =
+    (i : ℕ) (c : Parts) → i < n → slice_get parts i ≡ Some c → (content_start_in used number ≤ pointer_in kind used number i) × HasParts kind used (pointer_in kind used number i) c
+
+pub one_more_read : (kind : Kind) (used : List ℕ) (number n start at : ℕ) (found : Parts) (parts : List Parts) → AreRead kind used number n parts → n < length parts → start ≡ content_start_in used number
+    → at ≡ pointer_in kind used number n → start ≤ at → HasParts kind used at found → AreRead kind used number (n + 1) (set parts n found)
+one_more_read kind used number n start at found parts before within es ea le has = λ i c lt is. elim (cases_eq i n) [
+  | inl same ↦
+      let here : get_or (set parts n found) i c ≡ c = get_or_from_slice_get (set parts n found) i c c is in
+      let there : get_or (set parts n found) n c ≡ found = get_or-set_same parts n found c within in
+      let e : found ≡ c = sym there ∙ ap (λ j. get_or (set parts n found) j c) (sym same) ∙ here in (
+        subst (λ j. content_start_in used number ≤ pointer_in kind used number j) (sym same) (rw (← es, ← ea) le),
+        subst (λ j. HasParts kind used (pointer_in kind used number j) c) (sym same) (subst (λ z. HasParts kind used (pointer_in kind used number n) z) e (subst (λ z. HasParts kind used z found) ea has)),
+      )
+  | inr other ↦
+      let here : get_or (set parts n found) i c ≡ c = get_or_from_slice_get (set parts n found) i c c is in
+      let there : get_or (set parts n found) i c ≡ get_or parts i c = get_or-set_other parts n i found c other in
+      let inside : i < length parts = omega arith in
+      let was : slice_get parts i ≡ Some c = slice_get-get_or parts i c inside ∙ ap (λ (z : Parts). Some z) (sym there ∙ here) in
+      before i c (omega arith) was
+]
+
+pub read_within : (kind : Kind) (used : List ℕ) (number n : ℕ) (parts : List Parts) → n ≤ length parts → AreRead kind used number n parts → LieWithin kind used number n
+read_within kind used number n parts room read = λ k lt.
+    let none : Parts = record { child = 0; payload = 0; rowid = 0; body = 0; local = 0; overflow = 0; end = 0 } in
+    let found = read k (get_or parts k none) lt (slice_get-get_or parts k none (omega arith)) in
+    (found.0, (get_or parts k none, found.1))
+
+-- the parts of a cell as they are read from the parts of all
+abbrev pub parts_in : List Parts → (i : ℕ) → Parts
+parts_in parts i = get_or parts i (record { child = 0; payload = 0; rowid = 0; body = 0; local = 0; overflow = 0; end = 0 })
+
+pub parts_are : (p : Page) (parts : List Parts) (i : ℕ) → HasPartsOf p parts → i < cell_count p → HasParts p.kind p.used (pointer p i) (parts_in parts i)
+parts_are p parts i h lt = h.each i (parts_in parts i) lt (slice_get-get_or parts i _ (omega (arith, h.room)))
 
 four_rise : (present : Bool) (used : List ℕ) (from to n : ℕ) → FourBytes present used from to n → from ≤ to
 four_rise true used from to n h = let e : to ≡ from + 4 = h.0 in omega arith

@@ -1,111 +1,18 @@
--- Marks on the bytes of a page.
-use Rattle.std.proofs.Common.{◌≡◌, ◌≢◌, ℕ, zero, suc, ◌+◌, ◌-◌, ◌<◌, ◌≤◌, ◌⊎◌, List, [], ◌∷◌, ◌++◌, length, max, take, drop, replicate, get_or, Option, Some, None, ◌↔◌, Bool, true, false, not, cond, ◌&&◌, eqb, count_by, refl, sym, ap, subst, ◌∙◌, inl, inr, arith, append_assoc, append-nil, length-append, length-drop, ⊎_elim}
-use mathlib.Core.Bool.{beq}
-use Rattle.std.proofs.lemmas.Bool.{cases_lt}
-use Rattle.std.proofs.lemmas.List.{length-take-le, get_or-take, get_or-drop, get_or-replicate, get_or_append_left, get_or-append_right}
-use Rattle.std.proofs.lemmas.List.Sums.{sum_by-append, sum_by-cons}
-use Rattle.std.proofs.Math.Seq.{drop-cons}
-use Rattle.std.specs.List.{IsAnyAnswer, range_with_len}
-use Rattle.std.specs.Prelude.{Result, Ok, Err, IfErr, OnErr}
+-- The layout of a page.
+use Rattle.std.proofs.Common.{◌≡◌, ◌≢◌, ℕ, zero, suc, ◌+◌, ◌-◌, ◌<◌, ◌≤◌, ◌⊎◌, List, [], ◌∷◌, ◌++◌, length, max, replicate, Option, Some, None, ◌↔◌, Bool, true, false, cond, ◌&&◌, refl, sym, ap, subst, ◌∙◌, inl, inr, arith, append_assoc, append-nil, length-append, ⊎_elim}
+use Rattle.std.proofs.lemmas.List.Sums.{sum_by-append, sum_by_push}
+use Rattle.std.specs.Prelude.{Result, Ok, Err, IfErr, OnErr, IsErrAnd}
 use Rattle.sqpage.specs.Header.{half}
-use Rattle.sqpage.specs.Layout.{Span, covers, times_covered, ShareNone, bare_bytes, IsFreeblock, AreFreeblocks, IsCellSpan, AreCellSpans, PointersEndBefore, fragmented, fragments_named, IsLaidOut, LayoutRefused}
+use Rattle.sqpage.specs.Lists.{Every}
+use Rattle.sqpage.specs.Layout.{Span, covers, times_covered, ShareNone, IsFreeblock, AreFreeblocks, IsCellSpan, AreCellSpans, PointersEndBefore, fragmented, fragments_named, IsLaidOut, LayoutRefused}
 use Rattle.sqpage.specs.declared.fault.Fault.{Fault}
 use Rattle.sqpage.specs.declared.fault.Fault.TheVariants as faults
-use Rattle.sqpage.proofs.CellLemmas.{parts_once}
-use Rattle.sqpage.specs.Page.{Page, HasParts, head_at, content_start_in, cell_count, pointer}
+use Rattle.sqpage.proofs.CellLemmas.{parts_once, parts_in, parts_are, cell_rise}
+use Rattle.sqpage.proofs.Marks.{unmarked, mark_at_most}
+use Rattle.sqpage.proofs.BareBytes.{all_before, bare_and_taken}
+use Rattle.sqpage.specs.Page.{Page, HasParts, HasPartsOf, head_at, content_start_in, cell_count, pointer}
 use Rattle.sqpage.specs.declared.cell.Parts.{Parts}
-use Rattle.sqpage.specs.Marking.{MarksSpan, IsTouched, AreMarks, MarksFreeblocks, MarksCells, TouchesCells, MarksAll}
-
-span_of : (at size : ℕ) → Span
-span_of at size = record { start = at; size = size }
-
--- a place in a span, and one that isn't
-pub covered : (at size place : ℕ) → covers (record { start = at; size = size }) place ≡ true → (at ≤ place) × (place < at + size)
-covered at size place e = (grind arith, grind arith)
-
-pub covering : (at size place : ℕ) → at ≤ place → place < at + size → covers (record { start = at; size = size }) place ≡ true
-covering at size place le lt = grind arith
-
-pub not_covered : (at size place : ℕ) → covers (record { start = at; size = size }) place ≡ false → (place < at) ⊎ (at + size ≤ place)
-not_covered at size place e = elim (cases_lt place at) [
-  | inl lt ↦ inl lt
-  | inr ge ↦ elim (cases_lt place (at + size)) [
-    | inl lt ↦ absurd (let h = covering at size place ge lt in cc)
-    | inr ge' ↦ inr ge'
-  ]
-]
-
--- A place is in the part of a list or outside it.
-part_at : (map : List Bool) (at size k : ℕ) → at + size ≤ length map → k < size → get_or (take (at + size - at) (drop at map)) k false ≡ get_or map (at + k) false
-part_at map at size k le lt = let lt' : k < at + size - at = omega arith in get_or-take (at + size - at) (drop at map) k false lt' ∙ get_or-drop at map k false
-
-pub length_part : (map : List Bool) (at size : ℕ) → at + size ≤ length map → length (take (at + size - at) (drop at map)) ≡ size
-length_part map at size le =
-    let n : at + size - at ≡ size = omega arith in
-    let h : at + size - at ≤ length (drop at map) = omega (arith, length-drop at map) in
-    length-take-le (at + size - at) (drop at map) h ∙ n
-
-pub touched : (map : List Bool) (at size : ℕ) (found : Bool) → at + size ≤ length map
-    → IsAnyAnswer (λ y b. beq y true ≡ b) (take (at + size - at) (drop at map)) found → found ≡ true → IsTouched map (record { start = at; size = size })
-touched map at size true le h e =
-    let len = length_part map at size le in
-    let lt : h.0 < size = omega (arith, h.1, len) in
-    record { place = at + h.0; in_it = covering at size (at + h.0) (omega arith) (omega arith); marked = sym (part_at map at size h.0 le lt) ∙ is_true _ (h.2 false) }
-  where
-    is_true : (b : Bool) → beq b true ≡ true → b ≡ true
-    is_true true e = refl
-    is_true false e = absurd (cc)
-touched map at size false le h e = absurd (cc)
-
-pub untouched : (map : List Bool) (at size : ℕ) (found : Bool) → at + size ≤ length map
-    → IsAnyAnswer (λ y b. beq y true ≡ b) (take (at + size - at) (drop at map)) found → found ≡ false → (k : ℕ) → at ≤ k → k < at + size → get_or map k false ≡ false
-untouched map at size true le h e = absurd (cc)
-untouched map at size false le h e = λ k low high.
-    let j : ℕ = k - at in
-    let back : at + j ≡ k = omega arith in
-    let lt : j < size = omega arith in
-    let len = length_part map at size le in
-    let h' = h j false (omega arith) (omega (arith, len)) in
-    ap (λ i. get_or map i false) (sym back) ∙ sym (part_at map at size j le lt) ∙ not_true _ h'
-  where
-    not_true : (b : Bool) → beq b true ≡ false → b ≡ false
-    not_true true n = absurd (cc)
-    not_true false n = refl
-
--- a part that is filled, between the rest
-pub filled : (map ys : List Bool) (at size : ℕ) → at + size ≤ length map → ys ≡ replicate size true → ((k : ℕ) → at ≤ k → k < at + size → get_or map k false ≡ false)
-    → MarksSpan map (take at map ++ (ys ++ drop size (drop at map))) (record { start = at; size = size })
-filled map ys at size le e free = record {
-  free = λ k c. let b = covered at size k c in free k b.0 b.1;
-  marked = λ k c.
-      let b = covered at size k c in
-      let j : ℕ = k - at in
-      let lt : j < size = omega (arith, b.1, b.0) in
-      get_or-append_right (take at map) (ys ++ drop size (drop at map)) at k false before b.0
-      ∙ get_or_append_left ys (drop size (drop at map)) false j (omega (arith, len))
-      ∙ ap (λ l. get_or l j false) e ∙ get_or-replicate size j true false lt;
-  kept = λ k c. elim (not_covered at size k c) [
-    | inl lt ↦ get_or_append_left (take at map) (ys ++ drop size (drop at map)) false k (omega (arith, before)) ∙ get_or-take at map k false lt
-    | inr ge ↦
-        let j : ℕ = k - at in
-        let back : at + (size + (j - size)) ≡ k = omega (arith, ge) in
-        let low : at ≤ k = omega (arith, ge) in
-        let low' : size ≤ j = omega (arith, ge) in
-        get_or-append_right (take at map) (ys ++ drop size (drop at map)) at k false before low
-        ∙ get_or-append_right ys (drop size (drop at map)) size j false len low'
-        ∙ get_or-drop size (drop at map) (j - size) false ∙ get_or-drop at map (size + (j - size)) false ∙ ap (λ i. get_or map i false) back
-  ];
-}
-  where
-    before : length (take at map) ≡ at
-    before = length-take-le at map (omega arith)
-
-    len : length ys ≡ size
-    len = ap length e ∙ go size
-      where
-        go : (n : ℕ) → length (replicate n true) ≡ n
-        go zero = refl
-        go (suc n) = ap suc (go n)
+use Rattle.sqpage.specs.Marking.{mark_at, MarksSpan, IsTouched, AreMarks, MarksFreeblocks, FreeblocksRefused, MarksCells, TouchesCells, TakesBytes, bytes_before, taken_before}
 
 -- Spans and marks.
 pub one_more_covered : (spans : List Span) (s : Span) (k : ℕ) → times_covered (spans ++ s ∷ []) k ≡ times_covered spans k + cond (covers s k) 1 0
@@ -116,81 +23,57 @@ either : (b : Bool) → (b ≡ true) ⊎ (b ≡ false)
 either true = inl refl
 either false = inr refl
 
-pub none_marked : (map : List Bool) (n : ℕ) → map ≡ replicate n false → AreMarks map []
-none_marked map n e = λ k. sym (ap (λ b. cond b 1 0) (ap (λ l. get_or l k false) e ∙ go n k))
-  where
-    go : (n k : ℕ) → get_or (replicate n false) k false ≡ false
-    go zero k = refl
-    go (suc n) zero = refl
-    go (suc n) (suc k) = go n k
+pub none_marked : (map : List ℕ) (n : ℕ) → map ≡ replicate n 0 → AreMarks map []
+none_marked map n e = λ k. sym (ap (λ l. mark_at l k) e ∙ unmarked n k)
 
-pub span_marked : (old new : List Bool) (spans : List Span) (s : Span) → AreMarks old spans → MarksSpan old new s → AreMarks new (spans ++ s ∷ [])
+pub span_marked : (old new : List ℕ) (spans : List Span) (s : Span) → AreMarks old spans → MarksSpan old new s → AreMarks new (spans ++ s ∷ [])
 span_marked old new spans s a m = λ k. one_more_covered spans s k ∙ elim (either (covers s k)) [
   | inl e ↦
-      let was : ◌≡◌ {A = ℕ} (cond (get_or old k false) 1 0) 0 = ap (λ b. cond b 1 0) (m.free k e) in
-      let now : ◌≡◌ {A = ℕ} (cond (get_or new k false) 1 0) 1 = ap (λ b. cond b 1 0) (m.marked k e) in
       let one : ◌≡◌ {A = ℕ} (cond (covers s k) 1 0) 1 = ap (λ b. cond b 1 0) e in
-      omega (arith, a k, was, now, one)
+      omega (arith, a k, m.free k e, m.marked k e, one)
   | inr e ↦
-      let same : ◌≡◌ {A = ℕ} (cond (get_or new k false) 1 0) (cond (get_or old k false) 1 0) = ap (λ b. cond b 1 0) (m.kept k e) in
       let none : ◌≡◌ {A = ℕ} (cond (covers s k) 1 0) 0 = ap (λ b. cond b 1 0) e in
-      omega (arith, a k, same, none)
+      omega (arith, a k, m.kept k e, none)
 ]
 
-pub span_shared : (map : List Bool) (spans : List Span) (s : Span) → AreMarks map spans → IsTouched map s → ¬ ShareNone (spans ++ s ∷ [])
+pub span_shared : (map : List ℕ) (spans : List Span) (s : Span) → AreMarks map spans → IsTouched map s → ¬ ShareNone (spans ++ s ∷ [])
 span_shared map spans s a t = λ none.
     let one : ◌≡◌ {A = ℕ} (cond (covers s t.place) 1 0) 1 = ap (λ b. cond b 1 0) t.in_it in
-    let was : ◌≡◌ {A = ℕ} (cond (get_or map t.place false) 1 0) 1 = ap (λ b. cond b 1 0) t.marked in
-    absurd (omega (arith, one_more_covered spans s t.place, a t.place, one, was, none t.place))
+    absurd (omega (arith, one_more_covered spans s t.place, a t.place, one, t.marked, none t.place))
 
 -- More spans share no less.
 pub still_shared : (spans more : List Span) → ¬ ShareNone spans → ¬ ShareNone (spans ++ more)
 still_shared spans more shared = λ none. shared (λ k. let e = sum_by-append (λ (x : Span). cond (covers x k) 1 0) spans more in omega (arith, e, none k))
 
 -- Marked bytes are in one span.
-pub marks_share_none : (map : List Bool) (spans : List Span) → AreMarks map spans → ShareNone spans
-marks_share_none map spans a = λ k. elim (either (get_or map k false)) [
-  | inl e ↦ let one : ◌≡◌ {A = ℕ} (cond (get_or map k false) 1 0) 1 = ap (λ b. cond b 1 0) e in omega (arith, a k, one)
-  | inr e ↦ let none : ◌≡◌ {A = ℕ} (cond (get_or map k false) 1 0) 0 = ap (λ b. cond b 1 0) e in omega (arith, a k, none)
-]
-
--- The bytes that aren't marked are in no span.
-pub bare_counted : (n from : ℕ) (map : List Bool) (spans : List Span) → AreMarks map spans → from + n ≤ length map → count_by not (take n (drop from map)) ≡ bare_bytes spans from n
-bare_counted zero from map spans a le = refl
-bare_counted (suc n) from map spans a le =
-    let le' : (from + 1) + n ≤ length map = omega arith in
-    let e : suc from ≡ from + 1 = omega arith in
-    let cut : take (suc n) (drop from map) ≡ get_or map from false ∷ take n (drop (suc from) map) = let lt : from < length map = omega arith in ap (take (suc n)) (drop-cons map from false lt) in
-    let rest : count_by not (take n (drop (suc from) map)) ≡ bare_bytes spans (from + 1) n = ap (λ i. count_by not (take n (drop i map))) e ∙ bare_counted n (from + 1) map spans a le' in
-    let first : ◌≡◌ {A = ℕ} (cond (not (get_or map from false)) 1 0) (cond (eqb (times_covered spans from) 0) 1 0) = same (get_or map from false) (times_covered spans from) (a from) in
-    ap (count_by not) cut ∙ sum_by-cons (λ b. cond (not b) 1 0) (get_or map from false) (take n (drop (suc from) map)) ∙ ap (λ m. cond (not (get_or map from false)) 1 0 + m) rest ∙ ap (λ m. m + bare_bytes spans (from + 1) n) first ∙ sym (sum_by-cons (λ k. cond (eqb (times_covered spans k) 0) 1 0) from (range_with_len (from + 1) n))
-  where
-    same : (b : Bool) (m : ℕ) → m ≡ cond b 1 0 → ◌≡◌ {A = ℕ} (cond (not b) 1 0) (cond (eqb m 0) 1 0)
-    same true m e = rw e refl
-    same false m e = rw e refl
+pub marks_share_none : (map : List ℕ) (spans : List Span) → AreMarks map spans → ShareNone spans
+marks_share_none map spans a = λ k. omega (arith, a k, mark_at_most map k)
 
 -- The freeblocks that were walked over, up to the one at `at`.
-pub record Walked (used : List ℕ) (start first least at : ℕ) (apart : Bool) (map : List Bool) : Type 0 where
+pub record Walked (used : List ℕ) (start first least at : ℕ) (apart : Bool) (map : List ℕ) (taken : ℕ) : Type 0 where
   pub blocks : List Span
+  pub taken_are : taken ≡ taken_before (length used) blocks
   pub joined : (rest : List Span) → AreFreeblocks used least at rest → AreFreeblocks used start first (blocks ++ rest)
   pub only : (whole : List Span) → AreFreeblocks used start first whole → (rest : List Span) × AreFreeblocks used least at rest
   pub marked : apart ≡ true → AreMarks map blocks
   pub shared : apart ≡ false → ¬ ShareNone blocks
 
-pub walk_begins : (used : List ℕ) (start first n : ℕ) (map : List Bool) → map ≡ replicate n false → Walked used start first start first true map
+pub walk_begins : (used : List ℕ) (start first n : ℕ) (map : List ℕ) → map ≡ replicate n 0 → Walked used start first start first true map 0
 walk_begins used start first n map e = record {
   blocks = [];
+  taken_are = refl;
   joined = λ rest h. h;
   only = λ whole h. (whole, h);
   marked = λ _. none_marked map n e;
   shared = λ e. absurd (cc);
 }
 
-pub walk_goes_on : (used : List ℕ) (start first least at size next : ℕ) (apart now both : Bool) (old new : List Bool) → Walked used start first least at apart old → at ≢ 0
+pub walk_goes_on : (used : List ℕ) (start first least at size next taken : ℕ) (apart now both : Bool) (old new : List ℕ) → Walked used start first least at apart old taken → at ≢ 0
     → IsFreeblock used least (record { start = at; size = size }) → (now ≡ true → MarksSpan old new (record { start = at; size = size })) → (now ≡ false → IsTouched old (record { start = at; size = size }))
-    → both ≡ (apart && now) → next ≡ half used at → Walked used start first (at + 1) next both new
-walk_goes_on used start first least at size next apart now both old new w nonzero is marks touches e n = record {
+    → both ≡ (apart && now) → next ≡ half used at → Walked used start first (at + 1) next both new (taken + size)
+walk_goes_on used start first least at size next taken apart now both old new w nonzero is marks touches e n = record {
   blocks = w.blocks ++ s ∷ [];
+  taken_are = let whole = all_before (length used) at size is.within in omega (arith, w.taken_are, sum_by_push (bytes_before (length used)) w.blocks s, whole);
   joined = λ rest h. subst (AreFreeblocks used start first) (sym (append_assoc w.blocks (s ∷ []) rest)) (w.joined (s ∷ rest) (nonzero, refl, is, rw (one, ← n) h));
   only = λ whole h. let o = w.only whole h in further o.0 o.1;
   marked = λ b. go_marked now apart marks w.marked (sym e ∙ b);
@@ -218,18 +101,21 @@ walk_goes_on used start first least at size next apart now both old new w nonzer
     go_shared false true t a f e = span_shared old w.blocks s (a refl) (t refl)
 
 -- The last freeblock names 0.
-pub walk_ends : (used : List ℕ) (start first least at : ℕ) (apart : Bool) (map : List Bool) → Walked used start first least at apart map → at ≡ 0 → MarksFreeblocks used start first apart map
-walk_ends used start first least at apart map w e = record {
+pub walk_ends : (used : List ℕ) (start first least at taken : ℕ) (apart : Bool) (map : List ℕ) → Walked used start first least at apart map taken → at ≡ 0 → apart ≡ true → MarksFreeblocks used start first map taken
+walk_ends used start first least at taken apart map w e all = record {
   blocks = w.blocks;
   are = subst (AreFreeblocks used start first) (append-nil w.blocks) (w.joined [] e);
-  marked = w.marked;
-  shared = w.shared;
+  marked = w.marked all;
+  taken_are = w.taken_are;
 }
 
+pub walk_shares : (used : List ℕ) (start first least at taken : ℕ) (apart : Bool) (map : List ℕ) → Walked used start first least at apart map taken → at ≡ 0 → apart ≡ false → FreeblocksRefused used start first faults.Overlap
+walk_shares used start first least at taken apart map w e not = (w.blocks, subst (AreFreeblocks used start first) (append-nil w.blocks) (w.joined [] e), w.shared not)
+
 -- Where no freeblock can stand there are no sound freeblocks.
-pub walk_breaks : (used : List ℕ) (start first least at : ℕ) (apart : Bool) (map : List Bool) (found : Option ℕ) → Walked used start first least at apart map → at ≢ 0
+pub walk_breaks : (used : List ℕ) (start first least at taken : ℕ) (apart : Bool) (map : List ℕ) (found : Option ℕ) → Walked used start first least at apart map taken → at ≢ 0
     → ((size : ℕ) → (found ≡ Some size) ↔ IsFreeblock used least (record { start = at; size = size })) → found ≡ None → (blocks : List Span) → ¬ AreFreeblocks used start first blocks
-walk_breaks used start first least at apart map found w nonzero finds none blocks h = let o = w.only blocks h in go o.0 o.1
+walk_breaks used start first least at taken apart map found w nonzero finds none blocks h = let o = w.only blocks h in go o.0 o.1
   where
     go : (rest : List Span) → AreFreeblocks used least at rest → ⊥
     go [] h = nonzero h
@@ -244,29 +130,69 @@ cells_more p i [] s h lt is = let e : i + 0 ≡ i = omega arith in (rw e at lt, 
 cells_more p i (x ∷ cells) s h lt is = let e : suc i + length cells ≡ i + suc (length cells) = omega arith in (h.0, h.1, cells_more p (suc i) cells s h.2 (rw e lt) (rw e is))
 
 -- The cells that were marked.
-pub record Marking (p : Page) (old new : List Bool) (i : ℕ) : Type 0 where
+pub record Marking (p : Page) (old new : List ℕ) (i taken : ℕ) : Type 0 where
   pub cells : List Span
   pub are : AreCellSpans p 0 cells
   pub count : length cells ≡ i
   pub marked : (spans : List Span) → AreMarks old spans → AreMarks new (spans ++ cells)
+  pub taken_are : taken ≡ taken_before (length p.used) cells
 
-pub marking_begins : (p : Page) (map : List Bool) → Marking p map map 0
-marking_begins p map = record { cells = []; are = tt; count = refl; marked = λ spans a. subst (AreMarks map) (sym (append-nil spans)) a }
+pub marking_begins : (p : Page) (map : List ℕ) → Marking p map map 0 0
+marking_begins p map = record { cells = []; are = tt; count = refl; marked = λ spans a. subst (AreMarks map) (sym (append-nil spans)) a; taken_are = refl }
 
--- the span of a cell with these parts
-pub cell_span : (p : Page) (i at size : ℕ) (parts : Parts) → at ≡ pointer p i → size ≡ max (parts.end - at) 4 → HasParts p.kind p.used at parts → IsCellSpan p i (record { start = at; size = size })
-cell_span p i at size parts e n has = record { parts = parts; has = rw (← e) has; start = e; size = rw (← e) n }
+-- The span of a cell, by its parts. The page is one in two ways.
+pub record SpanHere (p q : Page) (i at end : ℕ) : Type 0 where
+  pub below : i < cell_count q
+  pub low : at ≤ length q.used
+  pub enough : at + 4 ≤ end
+  pub high : end ≤ length q.used + 4
+  pub is : IsCellSpan q i (record { start = at; size = end - at })
+  pub same_size : length p.used ≡ length q.used
 
-module _ (p : Page) (old map new : List Bool) (i : ℕ) (m : Marking p old map i) (s : Span) (below : i < cell_count p) (is : IsCellSpan p i s) where
+pub span_here : (p q : Page) (parts : List Parts) (i n at end : ℕ) → p ≡ q → HasPartsOf q parts → n ≡ cell_count q → i < n → at ≡ pointer p i → end ≡ max (parts_in parts i).end (at + 4) → SpanHere p q i at end
+span_here p q parts i n at end e h count lt place m = record {
+  below = below;
+  low = omega (arith, has.within, rise, there);
+  enough = grind arith;
+  high = highest (parts_in parts i).end at end (length q.used) m has.within (omega (arith, has.within, rise, there));
+  is = record {
+    parts = parts_in parts i;
+    has = has;
+    start = there;
+    size = longer (parts_in parts i).end at end m ∙ ap (λ a. max ((parts_in parts i).end - a) 4) there;
+  };
+  same_size = ap (λ (p : Page). length p.used) e;
+}
+  where
+    below : i < cell_count q
+    below = omega (arith, count, lt)
+
+    has : HasParts q.kind q.used (pointer q i) (parts_in parts i)
+    has = parts_are q parts i h below
+
+    rise : pointer q i ≤ (parts_in parts i).end
+    rise = cell_rise q.kind q.used (pointer q i) (parts_in parts i) has
+
+    there : at ≡ pointer q i
+    there = place ∙ ap (λ (p : Page). pointer p i) e
+
+    longer : (n at end : ℕ) → end ≡ max n (at + 4) → end - at ≡ max (n - at) 4
+    longer n at end m = grind arith
+
+    highest : (n at end len : ℕ) → end ≡ max n (at + 4) → n ≤ len → at ≤ len → end ≤ len + 4
+    highest n at end len m a b = grind arith
+
+module _ (p : Page) (old map new : List ℕ) (i taken : ℕ) (m : Marking p old map i taken) (s : Span) (below : i < cell_count p) (is : IsCellSpan p i s) where
   more_are : AreCellSpans p 0 (m.cells ++ s ∷ [])
   more_are = let e : 0 + length m.cells ≡ i = omega (arith, m.count) in cells_more p 0 m.cells s m.are (rw e below) (rw e is)
 
-  pub marking_goes_on : MarksSpan map new s → Marking p old new (i + 1)
-  marking_goes_on marks = record {
+  pub marking_goes_on : (more : ℕ) → more ≡ bytes_before (length p.used) s → MarksSpan map new s → Marking p old new (i + 1) (taken + more)
+  marking_goes_on more counted marks = record {
     cells = m.cells ++ s ∷ [];
     are = more_are;
     count = length-append m.cells (s ∷ []) ∙ ap (λ n. n + 1) m.count;
     marked = λ spans a. subst (AreMarks new) (append_assoc spans m.cells (s ∷ [])) (span_marked map new (spans ++ m.cells) s (m.marked spans a) marks);
+    taken_are = omega (arith, counted, m.taken_are, sum_by_push (bytes_before (length p.used)) m.cells s);
   }
 
   pub marking_touches : IsTouched map s → TouchesCells p old
@@ -276,74 +202,86 @@ module _ (p : Page) (old map new : List Bool) (i : ℕ) (m : Marking p old map i
     shared = λ spans a. subst (λ l. ¬ ShareNone l) (append_assoc spans m.cells (s ∷ [])) (span_shared map (spans ++ m.cells) s (m.marked spans a) touches);
   }
 
-pub marking_ends : (p : Page) (old new : List Bool) (i : ℕ) → Marking p old new i → i ≡ cell_count p → MarksCells p old new
-marking_ends p old new i m e = record { cells = m.cells; are = m.are; all = m.count ∙ e; marked = m.marked }
+pub marking_ends : (p : Page) (old new : List ℕ) (i taken : ℕ) → Marking p old new i taken → i ≡ cell_count p → MarksCells p old new taken
+marking_ends p old new i taken m e = record { cells = m.cells; are = m.are; all = m.count ∙ e; marked = m.marked; taken_are = m.taken_are }
 
 -- The layout of a page, once its freeblocks are marked.
-pub blocks_share : (p : Page) (start first : ℕ) (map : List Bool) (apart : Bool) → MarksFreeblocks p.used start first apart map → start ≡ content_start_in p.used p.number
-    → first ≡ half p.used (head_at p.number + 1) → apart ≡ false → LayoutRefused faults.Overlap p
-blocks_share p start first map apart m s f e =
-    (m.blocks, rw (← s, ← f) m.are, inr ([], tt, subst (λ l. ¬ ShareNone l) (sym (append-nil m.blocks)) (m.shared e)))
+pub freeblocks_refused : (p : Page) (start first : ℕ) (fault : Fault) → FreeblocksRefused p.used start first fault → start ≡ content_start_in p.used p.number
+    → first ≡ half p.used (head_at p.number + 1) → LayoutRefused fault p × (fault ≢ faults.NoMemory)
+freeblocks_refused p start first faults.Freeblock none s f = (λ blocks h. none blocks (rw (s, f) h), λ e. cc)
+freeblocks_refused p start first faults.Overlap (blocks, are, shared) s f = ((blocks, rw (← s, ← f) are, inr ([], tt, subst (λ l. ¬ ShareNone l) (sym (append-nil blocks)) shared)), λ e. cc)
+freeblocks_refused p start first _ h s f = absurd h
 
-pub pointers_reach : (p : Page) (start first : ℕ) (map : List Bool) (apart : Bool) → MarksFreeblocks p.used start first apart map → start ≡ content_start_in p.used p.number
+pub pointers_reach : (p : Page) (start first taken : ℕ) (map : List ℕ) → MarksFreeblocks p.used start first map taken → start ≡ content_start_in p.used p.number
     → first ≡ half p.used (head_at p.number + 1) → ¬ PointersEndBefore p → LayoutRefused faults.Overlap p
-pointers_reach p start first map apart m s f never = (m.blocks, rw (← s, ← f) m.are, inl never)
+pointers_reach p start first taken map m s f never = (m.blocks, rw (← s, ← f) m.are, inl never)
 
-pub cells_share : (p : Page) (start first : ℕ) (map : List Bool) (apart : Bool) → MarksFreeblocks p.used start first apart map → start ≡ content_start_in p.used p.number
-    → first ≡ half p.used (head_at p.number + 1) → apart ≡ true → TouchesCells p map → LayoutRefused faults.Overlap p
-cells_share p start first map apart m s f e t = (m.blocks, rw (← s, ← f) m.are, inr (t.cells, t.are, t.shared m.blocks (m.marked e)))
+pub cells_share : (p : Page) (start first taken : ℕ) (map : List ℕ) → MarksFreeblocks p.used start first map taken → start ≡ content_start_in p.used p.number
+    → first ≡ half p.used (head_at p.number + 1) → TouchesCells p map → LayoutRefused faults.Overlap p
+cells_share p start first taken map m s f t = (m.blocks, rw (← s, ← f) m.are, inr (t.cells, t.are, t.shared m.blocks m.marked))
 
-pub all_marked : (p : Page) (start first : ℕ) (map new : List Bool) (apart : Bool) → MarksFreeblocks p.used start first apart map → start ≡ content_start_in p.used p.number
-    → first ≡ half p.used (head_at p.number + 1) → apart ≡ true → PointersEndBefore p → MarksCells p map new → MarksAll p new
-all_marked p start first map new apart m s f e before c = record {
+pub all_marked : (p : Page) (start first taken more : ℕ) (map new : List ℕ) → MarksFreeblocks p.used start first map taken → start ≡ content_start_in p.used p.number
+    → first ≡ half p.used (head_at p.number + 1) → PointersEndBefore p → MarksCells p map new more → TakesBytes p (taken + more)
+all_marked p start first taken more map new m s f before c = record {
   blocks = m.blocks;
   cells = c.cells;
   freeblocks = rw (← s, ← f) m.are;
   cells_are = c.are;
   all = c.all;
   pointers = before;
-  marked = c.marked m.blocks (m.marked e);
+  apart = marks_share_none new (m.blocks ++ c.cells) (c.marked m.blocks m.marked);
+  taken_are = omega (arith, m.taken_are, c.taken_are, sum_by-append (bytes_before (length p.used)) m.blocks c.cells);
 }
-
-pub no_freeblocks : (p : Page) (start first : ℕ) → start ≡ content_start_in p.used p.number → first ≡ half p.used (head_at p.number + 1)
-    → ((blocks : List Span) → ¬ AreFreeblocks p.used start first blocks) → LayoutRefused faults.Freeblock p
-no_freeblocks p start first s f none = λ blocks h. none blocks (rw (s, f) h)
 
 -- The bytes that are left.
-abbrev pub CountsBare : Page → (map : List Bool) → (bare : ℕ) → Type 0
-CountsBare p map bare = bare ≡ count_by not (take (length p.used - content_start_in p.used p.number) (drop (content_start_in p.used p.number) map))
+blocks_behind : (used : List ℕ) (low least at : ℕ) (blocks : List Span) → low ≤ least → AreFreeblocks used least at blocks → Every (λ s. low ≤ s.start) blocks
+blocks_behind used low least at [] le h = tt
+blocks_behind used low least at (s ∷ blocks) le h =
+    let here : low ≤ s.start = omega (arith, h.2.after) in
+    (here, blocks_behind used low (suc at) (half used at) blocks (omega (arith, h.2.after, h.1)) h.3)
 
-counted : (p : Page) (map : List Bool) (bare : ℕ) (m : MarksAll p map) → content_start_in p.used p.number ≤ length p.used → length p.used ≤ length map → CountsBare p map bare → bare ≡ fragmented p (m.blocks ++ m.cells)
-counted p map bare m le len c =
-    let within : content_start_in p.used p.number + (length p.used - content_start_in p.used p.number) ≤ length map = omega arith in
-    c ∙ bare_counted (length p.used - content_start_in p.used p.number) (content_start_in p.used p.number) map (m.blocks ++ m.cells) m.marked within
+cells_behind : (p : Page) (low i : ℕ) (cells : List Span) → ((j : ℕ) → j < cell_count p → low ≤ pointer p j) → AreCellSpans p i cells → Every (λ s. low ≤ s.start) cells
+cells_behind p low i [] above h = tt
+cells_behind p low i (s ∷ cells) above h = (rw h.1.start (above i h.0), cells_behind p low (suc i) cells above h.2)
 
-pub laid_out : (p : Page) (map : List Bool) (bare : ℕ) → MarksAll p map → content_start_in p.used p.number ≤ length p.used → length p.used ≤ length map → CountsBare p map bare
-    → fragments_named p ≤ 60 → bare ≡ fragments_named p → IsLaidOut p
-laid_out p map bare m le len c few same = record {
-  blocks = m.blocks;
-  cells = m.cells;
-  freeblocks = m.freeblocks;
-  cells_are = m.cells_are;
-  all = m.all;
-  pointers = m.pointers;
-  apart = marks_share_none map (m.blocks ++ m.cells) m.marked;
-  fragments = sym (counted p map bare m le len c) ∙ same;
-  few = few;
-}
+every_both : (P : Span → Type 0) (xs ys : List Span) → Every P xs → Every P ys → Every P (xs ++ ys)
+every_both P [] ys h k = k
+every_both P (x ∷ xs) ys h k = (h.0, every_both P xs ys h.1 k)
 
-pub wrong_fragments : (p : Page) (map : List Bool) (bare : ℕ) → MarksAll p map → content_start_in p.used p.number ≤ length p.used → length p.used ≤ length map → CountsBare p map bare
-    → (bare ≢ fragments_named p) ⊎ (60 < fragments_named p) → LayoutRefused faults.Fragments p
-wrong_fragments p map bare m le len c wrong = (
-  m.blocks,
-  m.cells,
-  m.freeblocks,
-  m.cells_are,
-  m.all,
-  m.pointers,
-  marks_share_none map (m.blocks ++ m.cells) m.marked,
-  ⊎_elim (λ ne. inl (λ e. ne (counted p map bare m le len c ∙ e))) (λ more. inr more) wrong,
-)
+module _ (p : Page) (taken : ℕ) (t : TakesBytes p taken) (start : content_start_in p.used p.number ≤ length p.used) (above : (i : ℕ) → i < cell_count p → content_start_in p.used p.number ≤ pointer p i) where
+  pub bare_is : fragmented p (t.blocks ++ t.cells) + taken ≡ length p.used - content_start_in p.used p.number
+  bare_is =
+      let low : ℕ = content_start_in p.used p.number in
+      let n : ℕ = length p.used - low in
+      let end : low + n ≡ length p.used = omega arith in
+      let behind = every_both (λ s. low ≤ s.start) t.blocks t.cells (blocks_behind p.used low low _ t.blocks (let r : low ≤ low = omega arith in r) t.freeblocks) (cells_behind p low 0 t.cells above t.cells_are) in
+      let e = bare_and_taken n low (t.blocks ++ t.cells) t.apart behind in
+      ap (λ m. fragmented p (t.blocks ++ t.cells) + m) (t.taken_are ∙ ap (λ m. taken_before m (t.blocks ++ t.cells)) (sym end)) ∙ e
+
+  pub laid_out : (bare : ℕ) → bare ≡ length p.used - content_start_in p.used p.number - taken → fragments_named p ≤ 60 → bare ≡ fragments_named p → IsLaidOut p
+  laid_out bare e few same = record {
+    blocks = t.blocks;
+    cells = t.cells;
+    freeblocks = t.freeblocks;
+    cells_are = t.cells_are;
+    all = t.all;
+    pointers = t.pointers;
+    apart = t.apart;
+    fragments = omega (arith, bare_is, e, same);
+    few = few;
+  }
+
+  pub wrong_fragments : (bare : ℕ) → bare ≡ length p.used - content_start_in p.used p.number - taken → (bare ≢ fragments_named p) ⊎ (60 < fragments_named p) → LayoutRefused faults.Fragments p
+  wrong_fragments bare e wrong = (
+    t.blocks,
+    t.cells,
+    t.freeblocks,
+    t.cells_are,
+    t.all,
+    t.pointers,
+    t.apart,
+    ⊎_elim (λ ne. inl (λ same. ne (let b : bare ≡ fragments_named p = omega (arith, bare_is, e, same) in b))) (λ more. inr more) wrong,
+  )
 
 -- A page that is refused isn't laid out.
 blocks_once : (used : List ℕ) (least at : ℕ) (xs ys : List Span) → AreFreeblocks used least at xs → AreFreeblocks used least at ys → xs ≡ ys
@@ -401,3 +339,8 @@ refuses_layout p (Err fault) h = not_laid_out p fault h.0 h.1
 pub on_err : (P : Type 0) (r : Result (Unit {0}) Fault) → P → OnErr r P
 on_err P (Ok x) h = tt
 on_err P (Err fault) h = h
+
+-- What the exit of a `?` answers, where errors stay what they are.
+pub exits : {T E : Type 0} (R : E → Type 0) (x : E) (r : Result T E) → IsErrAnd r (λ y. y ≡ x) → R x → IfErr r R
+exits R x (Ok v) h p = absurd h
+exits R x (Err y) h p = subst R (sym h) p

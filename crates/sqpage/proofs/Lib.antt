@@ -6,3 +6,5 @@ pub mod Takings
 pub mod Freelists
 pub mod CellLemmas
 pub mod Chains
+pub mod Marks
+pub mod BareBytes

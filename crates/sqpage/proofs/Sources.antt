@@ -1,5 +1,5 @@
 -- Pages of bytes in memory.
-use Rattle.std.proofs.Common.{◌≡◌, ℕ, zero, suc, ◌+◌, ◌-◌, ◌*◌, ◌<◌, ◌≤◌, List, [], length, take, drop, get_or, ◌/◌, ◌^◌, refl, ap, ◌∙◌, arith}
+use Rattle.std.proofs.Common.{◌≡◌, ℕ, zero, suc, ◌+◌, ◌-◌, ◌*◌, ◌<◌, ◌≤◌, List, [], length, take, drop, get_or, ◌/◌, ◌%◌, ◌^◌, refl, ap, ◌∙◌, arith}
 use Rattle.std.proofs.Math.Nat.{mul-le-mul, mul-le-mul_right, mul-div_cancel}
 use Rattle.sqval.specs.PageSize.{IsPageSize}
 use Rattle.sqval.proofs.PageSizes.{one_of}
@@ -23,6 +23,9 @@ most_page_size n s = grind (arith, one_of n s)
 
 pub least_page_size : (n : ℕ) → IsPageSize n → 512 ≤ n
 least_page_size n s = grind (arith, one_of n s)
+
+pub even_page_size : (n : ℕ) → IsPageSize n → n % 2 ≡ 0
+even_page_size n s = grind (arith, one_of n s)
 
 -- the end of page p
 page_end : (p size : ℕ) → 0 < p → (p - 1) * size + size ≡ p * size

@@ -1,6 +1,6 @@
 -- Pages of b-trees and their cells (fileformat2, 1.6). All places count from the page's first byte, and `used` is the
 -- usable part of the page.
-use Rattle.std.specs.Prelude.{◌≡◌, ◌≢◌, ℕ, ◌+◌, ◌-◌, ◌*◌, ◌/◌, ◌%◌, ◌<◌, ◌≤◌, ◌⊎◌, ◌==◌, nat_lt, nat_le, if◌then◌else◌, Bool, true, false, List, length, drop, Option, Some, None}
+use Rattle.std.specs.Prelude.{◌≡◌, ◌≢◌, ℕ, ◌+◌, ◌-◌, ◌*◌, ◌/◌, ◌%◌, ◌<◌, ◌≤◌, ◌⊎◌, ◌==◌, nat_lt, nat_le, if◌then◌else◌, Bool, true, false, List, length, drop, slice_get, Option, Some, None}
 use Rattle.std.specs.Int.{cast_signed, w64}
 use Rattle.sqval.specs.Bytes.{part, word}
 use Rattle.sqval.specs.Varint.{Begins}
@@ -141,6 +141,11 @@ PageRefused _ used number = ⊥
 abbrev pub if_present : {A : Type 0} → Bool → A → Option A
 if_present true x = Some x
 if_present false x = None
+
+-- The parts of the page's cells are the first ones of these, in order.
+pub record HasPartsOf (p : Page) (parts : List Parts) : Type 0 where
+  pub room : cell_count p ≤ length parts
+  pub each : (i : ℕ) (c : Parts) → i < cell_count p → slice_get parts i ≡ Some c → HasParts p.kind p.used (pointer p i) c
 
 -- This is cell i of the page.
 pub record IsCell (p : Page) (i : ℕ) (cell : Cell) : Type 0 where

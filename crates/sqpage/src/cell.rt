@@ -65,16 +65,34 @@ pub struct Cell<'a> {
 
 /// The parts of a cell, in numbers. Those that its kind doesn't have are 0.
 #[derive(Clone, Copy, Debug)]
-pub(crate) struct Parts {
+pub struct Parts {
+    /// The left child.
     pub child: u32,
+    /// The size of the whole payload in bytes.
     pub payload: u64,
+    /// The rowid as it stands there, without a sign.
     pub rowid: u64,
-    /// Where the local payload begins.
+    /// Where in the page the local payload begins.
     pub body: usize,
     /// How many bytes of the payload are local.
     pub local: u64,
+    /// The first overflow page.
     pub overflow: u32,
+    /// Where in the page the cell ends.
     pub end: usize,
+}
+
+impl Parts {
+    /// Those of no cell, for room that is to be filled.
+    pub const NONE: Parts = Parts {
+        child: 0,
+        payload: 0,
+        rowid: 0,
+        body: 0,
+        local: 0,
+        overflow: 0,
+        end: 0,
+    };
 }
 
 /// A number of four bytes from `from` on and its end, or 0 in no byte where it isn't present. None where it

@@ -1,39 +1,69 @@
 //! Marks on the bytes of a page that its cells and freeblocks take (fileformat2, 1.6; marks are own).
-ghost use Rattle.std.specs.Prelude.{◌≡◌, ◌↔◌, ◌+◌, ◌-◌, ◌<◌, ◌≤◌, ◌^◌, ℕ, List, false, IsTrue, IfOk, IfErr, length, replicate, count_by, not, Some, None, Bool};
+ghost use Rattle.std.specs.Prelude.{◌≡◌, ◌↔◌, ◌+◌, ◌-◌, ◌*◌, ◌<◌, ◌≤◌, ◌^◌, ℕ, List, false, IsTrue, IfOk, IfErr, length, replicate, Some, None};
 ghost use Rattle.sqpage.specs.Header.{half};
 ghost use Rattle.sqpage.specs.Layout.{Span, IsFreeblock, AreFreeblocks};
-ghost use Rattle.sqpage.specs.Marking.{AreMarks, MarksSpan, IsTouched, MarksFreeblocks};
+ghost use Rattle.sqpage.specs.Marking.{SetsBits, HasBit, MarksSpan, IsTouched, MarksFreeblocks, FreeblocksRefused};
 
 use crate::bytes::half_at;
+use crate::fault::Fault;
 use std::alloc::{AllocError, Global};
 
-/// So many bytes, none of them marked.
-pub(crate) fn marks(alloc: Global, count: usize) -> Result<Vec<bool>, AllocError>
+/// So many words, none of whose bits is set.
+pub(crate) fn words(alloc: Global, count: usize) -> Result<Vec<u64>, AllocError>
     ensures { IfOk result (λ map. length map.items ≡ count) }
 {
-    vec![in alloc; false; count]
+    vec![in alloc; 0; count]
 }
 
-/// Unmarks each byte.
-pub(crate) fn clear(map: &mut [bool])
-    ensures { map.new ≡ replicate (length map.old) false }
+/// Clears each word.
+pub(crate) fn clear(map: &mut [u64])
+    ensures { map.new ≡ replicate (length map.old) 0 }
 {
-    map.fill(false);
+    map.fill(0);
 }
 
-/// Marks so many bytes from `at` on, unless one of them is marked.
-pub(crate) fn mark(map: &mut [bool], at: usize, size: usize) -> bool
-    requires within { at + size ≤ length map.old }
-    requires fits { at + size < 2 ^ 64 }
+/// A word whose bits from `low` up to `high` are set.
+fn bits_between(low: usize, high: usize) -> u64
+    requires order { low < high }
+    requires most { high ≤ 64 }
+    ensures { result ≡ 2 ^ high - 2 ^ low }
+{
+    (u64::MAX >> (64 - (high - low))) << low
+}
+
+/// Sets the bits of a word from `low` up to `high`, unless one of them is set.
+fn set_bits(word: &mut u64, low: usize, high: usize) -> bool
+    requires order { low < high }
+    requires most { high ≤ 64 }
+    ensures sets { IsTrue result → SetsBits word.old word.new low high }
+    ensures has { result ≡ false → HasBit word.old low high }
+{
+    let bits = bits_between(low, high);
+    if *word & bits != 0 {
+        return false;
+    }
+    *word |= bits;
+    true
+}
+
+/// Marks so many bytes from `at` on, unless one of them is marked: a bit for each, word by word.
+pub(crate) fn mark(map: &mut [u64], at: usize, size: usize) -> bool
+    requires within { at + size ≤ 64 * length map.old }
+    requires fits { at + size < 2 ^ 63 }
     ensures marked { IsTrue result → MarksSpan map.old map.new (record { start = at; size = size }) }
     ensures touched { result ≡ false → IsTouched map.old (record { start = at; size = size }) }
     ensures length { length map.new ≡ length map.old }
 {
-    let part = &mut map[at..at + size];
-    if part.contains(&true) {
-        return false;
+    let end = at + size;
+    let mut from = at;
+    'words: while from < end {
+        let index = from / 64;
+        let to = end.min(index * 64 + 64);
+        if !set_bits(&mut map[index], from % 64, to - index * 64) {
+            return false;
+        }
+        from = to;
     }
-    part.fill(true);
     true
 }
 
@@ -49,42 +79,34 @@ fn freeblock_size(used: &[u8], least: usize, at: usize) -> Option<usize>
     (size >= 4 && at + size <= used.len()).then_some(size)
 }
 
-/// Marks the freeblocks of a page, of which the first begins at `first`, and none before `start`. None where
-/// one stands where none can, and otherwise whether they share no byte.
+/// Marks the freeblocks of a page, of which the first begins at `first`, and none before `start`, and counts
+/// their bytes. Refused by Freeblock where one stands where none can, otherwise by Overlap where they share a byte.
 pub(crate) fn mark_freeblocks(
     used: &[u8],
     start: usize,
     first: usize,
-    map: &mut [bool],
-) -> Option<bool>
+    map: &mut [u64],
+) -> Result<usize, Fault>
     requires first { first < 65536 }
     requires most { length used.now ≤ 65536 }
-    requires room { length used.now ≤ length map.old }
-    requires clear { map.old ≡ replicate (length map.old) false }
-    ensures found { (apart : Bool) → result ≡ Some apart → MarksFreeblocks used.now start first apart map.new }
-    ensures none { result ≡ None → (blocks : List Span) → ¬ AreFreeblocks used.now start first blocks }
+    requires room { length used.now ≤ 64 * length map.old }
+    requires clear { map.old ≡ replicate (length map.old) 0 }
+    ensures ok { IfOk result (λ taken. MarksFreeblocks used.now start first map.new taken) }
+    ensures err { IfErr result (FreeblocksRefused used.now start first) }
     ensures length { length map.new ≡ length map.old }
 {
     let mut least = start;
     let mut at = first;
     let mut apart = true;
+    let mut taken = 0;
     'blocks: while at != 0 {
-        let size = freeblock_size(used, least, at)?;
+        let Some(size) = freeblock_size(used, least, at) else {
+            return Err(Fault::Freeblock);
+        };
         apart &= mark(map, at, size);
+        taken += size;
         least = at + 1;
         at = half_at(used, at);
     }
-    Some(apart)
-}
-
-/// How many bytes are not marked. A count of 16 bits is quick to take, several bytes at once.
-pub(crate) fn count_bare(map: &[bool]) -> u16
-    requires { length map.now < 65536 }
-    ensures { result ≡ count_by not map.now }
-{
-    let mut bare: u16 = 0;
-    'bytes: for marked in map {
-        bare += u16::from(!*marked);
-    }
-    bare
+    if apart { Ok(taken) } else { Err(Fault::Overlap) }
 }

@@ -14,7 +14,7 @@ mod page;
 mod source;
 mod taken;
 
-pub use cell::{Cell, split};
+pub use cell::{Cell, Parts, split};
 pub use fault::{CheckError, Fault};
 pub use free_pages::freelist;
 pub use header::{DbHeader, has_magic, named_page_size};

@@ -1,26 +1,27 @@
 //! Pages of b-trees (fileformat2, 1.6).
-ghost use Rattle.std.specs.Prelude.{◌≡◌, ◌≢◌, ◌⊎◌, ◌+◌, ◌<◌, ◌≤◌, ℕ, List, false, IsTrue, IfOk, IfErr, OnOk, OnErr, length, take, replicate};
+ghost use Rattle.std.specs.Prelude.{◌≡◌, ◌≢◌, ◌⊎◌, ◌+◌, ◌*◌, ◌<◌, ◌≤◌, ℕ, List, false, IsTrue, IfOk, IfErr, OnOk, OnErr, IfSome, IfNone, length, take, replicate, slice_get};
 ghost use Rattle.sqval.specs.Bytes.{word};
 ghost use Rattle.sqval.specs.PageSize.{IsPageSize};
+ghost use Rattle.sqpage.specs.declared.cell.Parts.{Parts};
 ghost use Rattle.sqpage.specs.declared.fault.Fault.{Fault};
 ghost use Rattle.sqpage.specs.Chain.{payload_size};
 ghost use Rattle.sqpage.specs.Layout.{IsLaidOut, LayoutRefused};
-ghost use Rattle.sqpage.specs.Marking.{MarksCells, TouchesCells, MarksAll};
-ghost use Rattle.sqpage.specs.Page.{Page, IsBtreePage, PageRefused, IsCell, HasCell, if_present, is_interior, head_at, cell_count, cell_count_in, content_start_in, pointers_at, pointer_in, pointers_end_in};
+ghost use Rattle.sqpage.specs.Marking.{MarksCells, TouchesCells, TakesBytes};
+ghost use Rattle.sqpage.specs.Page.{Page, IsBtreePage, PageRefused, IsCell, HasCell, HasParts, HasPartsOf, if_present, is_interior, head_at, cell_count, cell_count_in, content_start_in, pointers_at, pointer as cell_pointer, pointer_in, pointers_end_in};
 
 use crate::bytes::{half_at, word_at};
-use crate::cell::{Cell, parts_at};
+use crate::cell::{Cell, Parts, parts_at};
 use crate::fault::Fault;
 use crate::kind::Kind;
-use crate::layout::{clear, count_bare, mark, mark_freeblocks, marks};
-use std::alloc::Global;
+use crate::layout::{clear, mark, mark_freeblocks, words};
+use std::alloc::{AllocError, Global};
 use std::marker::Model;
 
 /// Where the header of page 1 as a b-tree page begins, behind the file's header.
 const FIRST_HEAD: usize = 100;
 
 /// How many bytes of a page may lie in no cell and no freeblock.
-const MOST_FRAGMENTS: u16 = 60;
+const MOST_FRAGMENTS: usize = 60;
 
 /// A page of a b-tree whose cells lie within it (fileformat2, 1.6, "B-tree Pages").
 #[derive(Drop)]
@@ -113,6 +114,33 @@ fn cells_lie_within(kind: Kind, used: &[u8], number: u32) -> bool
     true
 }
 
+/// Reads the parts of the cells, and answers whether these lie between the start of the content and the end of
+/// the usable part.
+fn read_parts(kind: Kind, used: &[u8], number: u32, parts: &mut [Parts]) -> bool
+    requires least { 480 ≤ length used.now }
+    requires most { length used.now ≤ 65536 }
+    requires pointers { pointers_end_in kind used.now number ≤ length used.now }
+    requires room { cell_count_in used.now number ≤ length parts.old }
+    ensures yes { IsTrue result → (i : ℕ) (c : Parts) → i < cell_count_in used.now number → slice_get parts.new i ≡ Some c
+        → (content_start_in used.now number ≤ pointer_in kind used.now number i) × HasParts kind used.now (pointer_in kind used.now number i) c }
+    ensures not { result ≡ false → (i : ℕ) × (i < cell_count_in used.now number)
+        × ((pointer_in kind used.now number i < content_start_in used.now number) ⊎ ¬ HasCell kind used.now (pointer_in kind used.now number i)) }
+    ensures length { length parts.new ≡ length parts.old }
+{
+    let start = content_start(used, number);
+    'cells: for i in 0..count(used, number) {
+        let at = pointer(kind, used, number, i);
+        if at < start {
+            return false;
+        }
+        match parts_at(kind, used, at) {
+            Some(found) => parts[i] = found,
+            None => return false,
+        }
+    }
+    true
+}
+
 impl<'a> BtreePage<'a> {
     /// The page of these bytes and this number, of which the first `usable` bytes, at least 480, are used. Refused by Kind
     /// where its type byte is none, otherwise by CellOutside where the pointers, the start of the cells or a
@@ -135,6 +163,38 @@ impl<'a> BtreePage<'a> {
             return Err(Fault::CellOutside);
         }
         if content_start(used, number) > used.len() || !cells_lie_within(kind, used, number) {
+            return Err(Fault::CellOutside);
+        }
+        Ok(BtreePage { used, number, kind })
+    }
+
+    /// The same, and the parts of its cells, each of which is read once. `parts` is room for a cell in each two bytes.
+    pub fn parse(
+        bytes: &'a [u8],
+        number: u32,
+        usable: u32,
+        parts: &mut [Parts],
+    ) -> Result<BtreePage<'a>, Fault>
+        requires page { IsPageSize (length bytes.now) }
+        requires number { 0 < number }
+        requires least { 480 ≤ usable }
+        requires most { usable ≤ length bytes.now }
+        requires room { usable ≤ 2 * length parts.old }
+        ensures ok { IfOk result (λ page. IsBtreePage page) }
+        ensures part { IfOk result (λ page. page.used ≡ take usable bytes.entry.now) }
+        ensures number { IfOk result (λ page. page.number ≡ number) }
+        ensures parts { IfOk result (λ page. HasPartsOf page parts.new) }
+        ensures err { IfErr result (λ fault. PageRefused fault (take usable bytes.entry.now) number) }
+        ensures length { length parts.new ≡ length parts.old }
+    {
+        let used = &bytes[..usable as usize];
+        let Some(kind) = Kind::of(used[head(number)]) else {
+            return Err(Fault::Kind);
+        };
+        if pointers(kind, number) + 2 * count(used, number) > used.len() {
+            return Err(Fault::CellOutside);
+        }
+        if content_start(used, number) > used.len() || !read_parts(kind, used, number, parts) {
             return Err(Fault::CellOutside);
         }
         Ok(BtreePage { used, number, kind })
@@ -172,68 +232,84 @@ impl<'a> BtreePage<'a> {
     {
         let at = pointer(self.kind, self.used, self.number, i);
         match parts_at(self.kind, self.used, at) {
-            Some(parts) => Cell {
-                page: self.number,
-                usable: self.used.len() as u32,
-                at,
-                child: self.kind.is_interior().then_some(parts.child),
-                rowid: self.kind.is_table().then_some(parts.rowid.cast_signed()),
-                payload: self.kind.has_payload().then_some(parts.payload),
-                local: &self.used[parts.body..parts.body + parts.local as usize],
-                overflow: parts.overflow,
-            },
+            Some(parts) => self.cell_with(i, &parts),
             None => unreachable!(),
         }
     }
-    /// Marks the cells, each with four bytes at least. False where one shares a byte with what is marked.
-    fn mark_cells(&self, map: &mut [bool]) -> bool
-        requires room { length map.old ≡ length self.now.used + 4 }
-        ensures marked { IsTrue result → MarksCells self.now map.old map.new }
-        ensures touched { result ≡ false → TouchesCells self.now map.old }
-        ensures length { length map.new ≡ length map.old }
+
+    /// Cell `i`, of which these are the parts.
+    pub fn cell_with(&self, i: usize, parts: &Parts) -> Cell<'a>
+        requires below { i < cell_count self.now }
+        requires parts { HasParts self.now.kind self.now.used (cell_pointer self.now i) parts.now }
+        ensures cell { IsCell self.now i result }
+        // What of the payload is in the page is not more than the payload.
+        ensures part { length result.local.now ≤ payload_size result }
+        ensures least { 480 ≤ result.usable }
     {
-        'cells: for i in 0..self.len() {
-            let at = pointer(self.kind, self.used, self.number, i);
-            match parts_at(self.kind, self.used, at) {
-                Some(parts) => if !mark(map, at, (parts.end - at).max(4)) {
-                    return false;
-                },
-                None => unreachable!(),
-            }
+        Cell {
+            page: self.number,
+            usable: self.used.len() as u32,
+            at: pointer(self.kind, self.used, self.number, i),
+            child: self.kind.is_interior().then_some(parts.child),
+            rowid: self.kind.is_table().then_some(parts.rowid.cast_signed()),
+            payload: self.kind.has_payload().then_some(parts.payload),
+            local: &self.used[parts.body..parts.body + parts.local as usize],
+            overflow: parts.overflow,
         }
-        true
     }
 
-    /// Marks what the cells and freeblocks take. Refused by Freeblock and Overlap.
-    fn mark_all(&self, map: &mut [bool]) -> Result<(), Fault>
-        requires room { length map.old ≡ length self.now.used + 4 }
-        requires clear { map.old ≡ replicate (length map.old) false }
-        ensures ok { OnOk result (MarksAll self.now map.new) }
+    /// Marks the cells, each with four bytes at least, and counts their bytes. None where one shares a byte with
+    /// what is marked.
+    fn mark_cells(&self, parts: &[Parts], map: &mut [u64]) -> Option<usize>
+        requires parts { HasPartsOf self.now parts.now }
+        requires room { length self.now.used + 4 ≤ 64 * length map.old }
+        ensures marked { IfSome result (MarksCells self.now map.old map.new) }
+        ensures touched { IfNone result (TouchesCells self.now map.old) }
+        ensures length { length map.new ≡ length map.old }
+    {
+        let mut taken = 0;
+        'cells: for i in 0..self.len() {
+            let at = pointer(self.kind, self.used, self.number, i);
+            let end = parts[i].end.max(at + 4);
+            if !mark(map, at, end - at) {
+                return None;
+            }
+            taken += end.min(self.used.len()) - at;
+        }
+        Some(taken)
+    }
+
+    /// Marks what the cells and freeblocks take, and counts it in bytes. Refused by Freeblock and Overlap.
+    fn mark_all(&self, parts: &[Parts], map: &mut [u64]) -> Result<usize, Fault>
+        requires parts { HasPartsOf self.now parts.now }
+        requires room { length self.now.used + 4 ≤ 64 * length map.old }
+        requires clear { map.old ≡ replicate (length map.old) 0 }
+        ensures ok { IfOk result (TakesBytes self.now) }
         ensures err { IfErr result (λ fault. (LayoutRefused fault self.now) × (fault ≢ Fault.NoMemory)) }
         ensures length { length map.new ≡ length map.old }
     {
         let start = content_start(self.used, self.number);
         let first = half_at(self.used, head(self.number) + 1);
-        let Some(apart) = mark_freeblocks(self.used, start, first, map) else {
-            return Err(Fault::Freeblock);
-        };
+        let blocks = mark_freeblocks(self.used, start, first, map)?;
         let end = pointers(self.kind, self.number) + 2 * self.len();
-        if !apart || end > start || !self.mark_cells(map) {
+        if end > start {
             return Err(Fault::Overlap);
         }
-        Ok(())
+        match self.mark_cells(parts, map) {
+            Some(cells) => Ok(blocks + cells),
+            None => Err(Fault::Overlap),
+        }
     }
 
-    /// Counts the bytes that are not marked. Refused by Fragments.
-    fn judge_fragments(&self, map: &[bool]) -> Result<(), Fault>
-        requires marked { MarksAll self.now map.now }
-        requires room { length self.now.used ≤ length map.now }
+    /// Judges how many bytes of the content are not taken. Refused by Fragments.
+    fn judge_fragments(&self, taken: usize) -> Result<(), Fault>
+        requires { TakesBytes self.now taken }
         ensures ok { OnOk result (IsLaidOut self.now) }
         ensures err { IfErr result (λ fault. (LayoutRefused fault self.now) × (fault ≢ Fault.NoMemory)) }
     {
         let start = content_start(self.used, self.number);
-        let bare = count_bare(&map[start..self.used.len()]);
-        let fragments = u16::from(self.used[head(self.number) + 7]);
+        let bare = self.used.len() - start - taken;
+        let fragments = usize::from(self.used[head(self.number) + 7]);
         if bare != fragments || fragments > MOST_FRAGMENTS {
             return Err(Fault::Fragments);
         }
@@ -241,31 +317,46 @@ impl<'a> BtreePage<'a> {
     }
 
     /// Whether the cells and freeblocks of the page lie in it as they should (fileformat2, 1.6). Refused by
-    /// Freeblock, Overlap or Fragments, the first that applies. `map` is room for a mark on each usable byte
-    /// and four more; what it holds doesn't matter.
-    pub fn layout_in(&self, map: &mut [bool]) -> Result<(), Fault>
-        requires room { length self.now.used + 4 ≤ length map.old }
+    /// Freeblock, Overlap or Fragments, the first that applies. `parts` are those of its cells. `map` is room for a
+    /// bit for each usable byte and four more; what it holds doesn't matter.
+    pub fn layout_in(&self, parts: &[Parts], map: &mut [u64]) -> Result<(), Fault>
+        requires parts { HasPartsOf self.now parts.now }
+        requires room { length self.now.used + 4 ≤ 64 * length map.old }
         ensures ok { OnOk result (IsLaidOut self.now) }
         ensures err { IfErr result (λ fault. LayoutRefused fault self.now × (fault ≢ Fault.NoMemory)) }
         // The page isn't laid out so.
         ensures none { OnErr result (¬ IsLaidOut self.now) }
         ensures length { length map.new ≡ length map.old }
     {
-        let map = &mut map[..self.used.len() + 4];
+        let map = &mut map[..(self.used.len() + 67) / 64];
         clear(map);
-        self.mark_all(map)?;
-        self.judge_fragments(map)
+        let taken = self.mark_all(parts, map)?;
+        self.judge_fragments(taken)
     }
 
-    /// The same with marks of its own. Refused by NoMemory too.
+    /// The parts of its cells.
+    fn parts(&self, alloc: Global) -> Result<Vec<Parts>, AllocError>
+        ensures { IfOk result (λ parts. HasPartsOf self.now parts.items) }
+    {
+        let mut parts = vec![in alloc; Parts::NONE; self.len()]?;
+        if !read_parts(self.kind, self.used, self.number, &mut parts) {
+            unreachable!();
+        }
+        Ok(parts)
+    }
+
+    /// The same with room of its own. Refused by NoMemory too.
     pub fn layout(&self, alloc: Global) -> Result<(), Fault>
         ensures ok { OnOk result (IsLaidOut self.now) }
         ensures err { IfErr result (λ fault. LayoutRefused fault self.now) }
         // The page isn't laid out so, unless memory ran out.
         ensures none { IfErr result (λ fault. fault ≢ Fault.NoMemory → ¬ IsLaidOut self.now) }
     {
-        match marks(alloc, self.used.len() + 4) {
-            Ok(mut map) => self.layout_in(&mut map),
+        let Ok(parts) = self.parts(alloc) else {
+            return Err(Fault::NoMemory);
+        };
+        match words(alloc, (self.used.len() + 67) / 64) {
+            Ok(mut map) => self.layout_in(&parts, &mut map),
             Err(_) => Err(Fault::NoMemory),
         }
     }

@@ -49,7 +49,7 @@ check_pages-requires g c =
         bytes = ap (λ (l : List ℕ). length l) written ∙ c.judge_header.ensures.length ∙ ap (λ (l : List ℕ). length l) c.deref_mut.ensures.value ∙ f.bytes ∙ size;
         least = omega (arith, c.in_ok-header.ensures.room, c.get.ensures.value, c.from.ensures);
         most = omega (arith, size, c.get.ensures.value);
-        map = omega (arith, f.map, c.in-Ok.ensures.usable, c.get.ensures.value);
+        room = record { parts = omega (arith, f.room.parts, c.in-Ok.ensures.usable, c.get.ensures.value); map = omega (arith, f.room.map, c.in-Ok.ensures.usable, c.get.ensures.value) };
         counts = f.counts;
         trees = f.trees;
         empty = f.empty;
@@ -65,7 +65,7 @@ returns-clause-ok g c = λ gives.
     let sized = c.judge_header.ensures.sized gives in
     let some : 0 < length d = omega (arith, c.count-count.ensures, c.if-count-eq0.false) in
     let new = c.in-Ok.ensures.new in
-    let k : Checker = record { usable = c.get.result - c.from.result; bytes = with_items c.in-Ok.checker.bytes c.judge_header.new.bytes; map = c.in-Ok.checker.map; marks = c.in-Ok.checker.marks; walk = c.in-Ok.checker.walk; counts = c.in-Ok.checker.counts } in
+    let k : Checker = record { usable = c.get.result - c.from.result; bytes = with_items c.in-Ok.checker.bytes c.judge_header.new.bytes; room = c.in-Ok.checker.room; marks = c.in-Ok.checker.marks; walk = c.in-Ok.checker.walk; counts = c.in-Ok.checker.counts } in
     let says = subst (λ (n : ℕ). g.S.PageSource.gives_pages read → k.usable ≡ usable_size d → Every (λ b. length b ≡ n) d → HasLists c.in_ok-header.header d → IsNew k → HasSoundHeader d n → IfOk c.check_pages.result (λ report. (w : WellFormed d n) × IsReport d w.places report)) c.judge_header.ensures.same_size
     (subst (λ (q : Database). g.S.PageSource.gives_pages read → k.usable ≡ usable_size q → Every (λ b. length b ≡ g.S.PageSource.size read) q → HasLists c.in_ok-header.header q → IsNew k → HasSoundHeader q (g.S.PageSource.size read)
     → IfOk c.check_pages.result (λ report. (w : WellFormed q (g.S.PageSource.size read)) × IsReport q w.places report)) c.judge_header.ensures.same_pages c.check_pages.ensures.ok) in
@@ -82,7 +82,7 @@ returns-clause-err g c = λ gives.
     let sized = c.judge_header.ensures.sized gives in
     let some : 0 < length d = omega (arith, c.count-count.ensures, c.if-count-eq0.false) in
     let new = c.in-Ok.ensures.new in
-    let k : Checker = record { usable = c.get.result - c.from.result; bytes = with_items c.in-Ok.checker.bytes c.judge_header.new.bytes; map = c.in-Ok.checker.map; marks = c.in-Ok.checker.marks; walk = c.in-Ok.checker.walk; counts = c.in-Ok.checker.counts } in
+    let k : Checker = record { usable = c.get.result - c.from.result; bytes = with_items c.in-Ok.checker.bytes c.judge_header.new.bytes; room = c.in-Ok.checker.room; marks = c.in-Ok.checker.marks; walk = c.in-Ok.checker.walk; counts = c.in-Ok.checker.counts } in
     let says = subst (λ (n : ℕ). g.S.PageSource.gives_pages read → k.usable ≡ usable_size d → Every (λ b. length b ≡ n) d → HasLists c.in_ok-header.header d → IsNew k → IfErr c.check_pages.result (λ e. (size : ℕ) → Stands d size e.fault e.page)) c.judge_header.ensures.same_size
     (subst (λ (q : Database). g.S.PageSource.gives_pages read → k.usable ≡ usable_size q → Every (λ b. length b ≡ g.S.PageSource.size read) q → HasLists c.in_ok-header.header q → IsNew k
     → IfErr c.check_pages.result (λ e. (size : ℕ) → Stands q size e.fault e.page)) c.judge_header.ensures.same_pages c.check_pages.ensures.err) in

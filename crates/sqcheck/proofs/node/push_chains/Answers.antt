@@ -19,11 +19,11 @@ cells-preserved-in-Continue-1 c =
     let i = c.cells.invariant in
     let back : c.cells.left - 1 + 1 ≡ c.cells.left = omega arith in
     let lt : c.cells.left - 1 < cell_count c.args.page.now = omega (arith, i.within) in
-    let some : 0 < bytes_beyond c.cell-cell.result = (needs c.cell-cell.result c.cell-cell.ensures.least).0 (omega (arith, c.links_of-needed.ensures, c.if-needed-gt0.true)) in
-    let it : Item = record { holder = c.args.number; page = c.cell-cell.result.overflow; task = Link c.links_of-needed.result } in
+    let some : 0 < bytes_beyond c.cell_with-cell.result = (needs c.cell_with-cell.result c.cell_with-cell.ensures.least).0 (omega (arith, c.links_of-needed.ensures, c.if-needed-gt0.true)) in
+    let it : Item = record { holder = c.args.number; page = c.cell_with-cell.result.overflow; task = Link c.links_of-needed.result } in
     record {
-      chains = λ tree. chain_more tree c.args.page.now (c.cells.left - 1) c.cell-cell.result c.args.stack.now.items c.cells.stack.items c.push.new.stack.items it (lt, c.cell-cell.ensures.cell) some (omega (arith, c.links_of-needed.ensures, c.if-needed-gt0.true))
-          (ap (λ n. record { holder = n; page = c.cell-cell.result.overflow; task = Link c.links_of-needed.result }) c.requires ∙ ap (λ n. record { holder = c.args.page.now.number; page = c.cell-cell.result.overflow; task = Link n }) c.links_of-needed.ensures)
+      chains = λ tree. chain_more tree c.args.page.now (c.cells.left - 1) c.cell_with-cell.result c.args.stack.now.items c.cells.stack.items c.push.new.stack.items it (lt, c.cell_with-cell.ensures.cell) some (omega (arith, c.links_of-needed.ensures, c.if-needed-gt0.true))
+          (ap (λ n. record { holder = n; page = c.cell_with-cell.result.overflow; task = Link c.links_of-needed.result }) c.requires.number ∙ ap (λ n. record { holder = c.args.page.now.number; page = c.cell_with-cell.result.overflow; task = Link n }) c.links_of-needed.ensures)
           c.in_ok-push.ensures.ok (subst (λ n. Pushes tree (InCellFrom c.args.page.now n) c.args.stack.now.items c.cells.stack.items) (sym back) (i.chains tree));
       leads = λ d root h. link_leads d root c.cells.stack.items c.push.new.stack.items it c.links_of-needed.result refl c.in_ok-push.ensures.ok (i.leads d root h);
       within = omega (arith, i.within);
@@ -34,9 +34,9 @@ cells-preserved c =
     let i = c.cells.invariant in
     let back : c.cells.left - 1 + 1 ≡ c.cells.left = omega arith in
     let lt : c.cells.left - 1 < cell_count c.args.page.now = omega (arith, i.within) in
-    let none : bytes_beyond c.cell-cell.result ≡ 0 = (needs c.cell-cell.result c.cell-cell.ensures.least).1 (omega (arith, c.links_of-needed.ensures, c.if-needed-gt0.false)) in
+    let none : bytes_beyond c.cell_with-cell.result ≡ 0 = (needs c.cell_with-cell.result c.cell_with-cell.ensures.least).1 (omega (arith, c.links_of-needed.ensures, c.if-needed-gt0.false)) in
     record {
-      chains = λ tree. chain_not tree c.args.page.now (c.cells.left - 1) c.cell-cell.result c.args.stack.now.items c.cells.stack.items (lt, c.cell-cell.ensures.cell) none
+      chains = λ tree. chain_not tree c.args.page.now (c.cells.left - 1) c.cell_with-cell.result c.args.stack.now.items c.cells.stack.items (lt, c.cell_with-cell.ensures.cell) none
           (subst (λ n. Pushes tree (InCellFrom c.args.page.now n) c.args.stack.now.items c.cells.stack.items) (sym back) (i.chains tree));
       leads = i.leads;
       within = omega (arith, i.within);

@@ -22,14 +22,14 @@ cells-preserved c =
     let b = c.args.page.now in
     let lt : c.cells.left - 1 < cell_count c.args.page.now = omega (arith, i.within) in
     let up : c.cells.left ≡ suc (c.cells.left - 1) = omega arith in
-    let it : Item = record { holder = c.args.number; page = c.cells.child; task = Node (c.args.bounds.level + 1) c.cell-cell.result.rowid c.cells.high } in
+    let it : Item = record { holder = c.args.number; page = c.cells.child; task = Node (c.args.bounds.level + 1) c.cell_with-cell.result.rowid c.cells.high } in
     let back : c.cells.left - 1 + 1 ≡ c.cells.left = omega arith in
     record {
       children = λ tree. subst (λ n. Pushes tree (ChildFrom c.args.page.now (node_in tree c.args.bounds.level c.args.bounds.low c.args.bounds.high) n) c.args.stack.now.items c.push.new.stack.items) (sym back)
-          (child_more tree c.args.page.now c.args.bounds.level (c.args.bounds.level + 1) c.cells.left c.cells.child c.args.bounds.low c.args.bounds.high c.cell-cell.result.rowid c.cells.high c.args.stack.now.items c.cells.stack.items c.push.new.stack.items it
-          i.next (inr (inl (c.cells.left - 1, c.cell-cell.result, up, (lt, c.cell-cell.ensures.cell), refl))) (let e : c.args.bounds.level + 1 ≡ suc c.args.bounds.level = omega arith in e)
-          (ap (λ n. record { holder = n; page = c.cells.child; task = Node (c.args.bounds.level + 1) c.cell-cell.result.rowid c.cells.high }) c.requires.number) c.in_ok-push.ensures.ok (i.children tree));
-      next = inr (c.cell-cell.result, (lt, c.cell-cell.ensures.cell), c.unwrap_or-child-in-cells.ensures, refl);
+          (child_more tree c.args.page.now c.args.bounds.level (c.args.bounds.level + 1) c.cells.left c.cells.child c.args.bounds.low c.args.bounds.high c.cell_with-cell.result.rowid c.cells.high c.args.stack.now.items c.cells.stack.items c.push.new.stack.items it
+          i.next (inr (inl (c.cells.left - 1, c.cell_with-cell.result, up, (lt, c.cell_with-cell.ensures.cell), refl))) (let e : c.args.bounds.level + 1 ≡ suc c.args.bounds.level = omega arith in e)
+          (ap (λ n. record { holder = n; page = c.cells.child; task = Node (c.args.bounds.level + 1) c.cell_with-cell.result.rowid c.cells.high }) c.requires.number) c.in_ok-push.ensures.ok (i.children tree));
+      next = inr (c.cell_with-cell.result, (lt, c.cell_with-cell.ensures.cell), c.unwrap_or-child-in-cells.ensures, refl);
       within = omega (arith, i.within);
     }
 

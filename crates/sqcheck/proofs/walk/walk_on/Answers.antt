@@ -42,7 +42,7 @@ places-preserved g c =
       same_size = c.follow.ensures.same_size ∙ i.same_size;
       marks = c.follow.ensures.marks ∙ i.marks;
       room = c.follow.ensures.room ∙ i.room;
-      map = c.follow.ensures.map ∙ i.map;
+      holds = c.follow.ensures.holds;
       counts = omega (arith, c.add.ensures.one_more, i.counts, c.in_ok-follow.ensures.fewer, c.follow.ensures.marks);
       trees = c.add.ensures.trees;
     }

@@ -1,6 +1,7 @@
 use Rattle.std.proofs.Common.{◌≡◌, ◌+◌, ◌≤◌, length, List, Bool, count_by, not}
 use Rattle.sqpage.specs.Freelist.{usable_size}
 use Rattle.sqcheck.specs.Places.{Spot}
+use Rattle.sqcheck.specs.Room.{HoldsPage}
 use Rattle.sqcheck.specs.Agenda.{Walking, WalksOn}
 use Rattle.sqcheck.proofs.walk.walk_on.Given as goal
 
@@ -14,7 +15,7 @@ invariant-places g l =
       same_size : g.S.PageSource.size l.source ≡ g.S.PageSource.size l.fn.source;
       marks : length l.marks ≡ length l.fn.marks;
       room : length l.bytes ≡ length l.fn.bytes;
-      map : length l.map ≡ length l.fn.map;
+      holds : HoldsPage l.usable l.room;
       counts : l.counts.btree + l.counts.overflow + l.counts.free + count_by not l.marks ≤ length l.marks;
       trees : l.counts.trees ≤ l.counts.btree;
     }

@@ -1,13 +1,23 @@
-use Rattle.std.proofs.Common.{◌≡◌, ◌+◌, ◌-◌, true, replicate, ap, ◌∙◌, arith}
-use Rattle.sqpage.proofs.Layouts.{touched, untouched, filled, length_part}
+use Rattle.std.proofs.Common.{◌≡◌, ◌+◌, ◌-◌, ◌*◌, ◌/◌, ◌<◌, ◌≤◌, ◌∙◌, length, ap, subst, arith, rules, refl}
+use Rattle.std.proofs.lemmas.List.{length-set}
+use Rattle.sqpage.specs.Marking.{MarksSpan, IsTouched}
+use Rattle.sqpage.proofs.Marks.{part_touched, part_marked}
 use Rattle.sqpage.proofs.layout.mark.Goals as goal
 
-pub returns-then-contains-clause-touched : goal.returns-then-contains-clause-touched
-returns-then-contains-clause-touched c = λ _. touched c.args.map.now c.args.at c.args.size c.contains.result c.requires.within c.contains.ensures.cases c.if-contains.true
-
-pub returns-clause-marked : goal.returns-clause-marked
-returns-clause-marked c = λ _.
+pub returns-then-not-set_bits-clause-touched : goal.returns-then-not-set_bits-clause-touched
+returns-then-not-set_bits-clause-touched c = λ _.
+    let i = c.words.invariant in
     let size : c.args.at + c.args.size - c.args.at ≡ c.args.size = omega arith in
-    let free = untouched c.args.map.now c.args.at c.args.size c.contains.result c.requires.within c.contains.ensures.cases c.if-contains.false in
-    rw size (filled c.args.map.now c.fill.new.self c.args.at c.args.size c.requires.within
-    (c.fill.ensures.after (λ y e. e) ∙ ap (λ n. replicate n true) (length_part c.args.map.now c.args.at c.args.size c.requires.within)) free)
+    subst (λ n. IsTouched c.args.map.now (record { start = c.args.at; size = n })) size
+    (part_touched c.args.map.now c.words.map c.args.at c.words.from c.min-to.result (c.words.from / 64) i.marked i.begun (search rules) refl (search rules) (c.args.at + c.args.size) (search rules) (c.set_bits.ensures.has c.if-not-set_bits.true))
+
+pub words-preserved : goal.words-preserved
+words-preserved c =
+    let i = c.words.invariant in
+    let inside : c.words.from / 64 < length c.words.map = omega (arith, c.words-test.true, i.same_length, c.requires.within) in
+    record {
+      begun = search rules;
+      within = search rules;
+      marked = part_marked c.args.map.now c.words.map c.args.at c.words.from c.min-to.result (c.words.from / 64) i.marked i.begun (search rules) refl (search rules) c.set_bits.new.word inside (c.set_bits.ensures.sets c.if-not-set_bits.false);
+      same_length = length-set c.words.map (c.words.from / 64) c.set_bits.new.word ∙ i.same_length;
+    }

@@ -1,11 +1,13 @@
-use Rattle.std.proofs.Common.{◌≡◌, ◌-◌, ◌<◌, length}
+use Rattle.std.proofs.Common.{◌≡◌, ◌-◌, ◌*◌, ◌<◌, ◌≤◌, length}
 use Rattle.sqpage.proofs.Layouts.{Walked}
 use Rattle.sqpage.proofs.layout.mark_freeblocks.Given as goal
 
 abbrev pub invariant-blocks-2 : goal.invariant-blocks-2
 invariant-blocks-2 l = record {
-  walked : Walked l.used l.start l.first l.least l.at l.apart l.map;
+  walked : Walked l.used l.start l.first l.least l.at l.apart l.map l.taken;
   small : l.at < 65536;
+  bounded : l.taken ≤ 65536 * (l.least - l.start);
+  ordered : l.start ≤ l.least;
   same_length : length l.map ≡ length l.fn.map;
 }
 

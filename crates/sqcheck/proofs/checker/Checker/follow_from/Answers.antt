@@ -13,10 +13,10 @@ returns-clause-ok g c = λ gives usable late visited rest s stood is leads.
     let walk : Walk = record { stack = c.push.new.stack; rows = c.args.self.now.walk.rows; leaf_level = None } in
     let w = starts_walk d late tree visited rest s c.args.self.now.marks.items c.args.self.now.walk.rows.items walk c.args.self.now.counts c.args.item stood is leads
     (c.in_ok-push.ensures.ok ∙ ap (λ l. l ++ c.args.item ∷ []) c.requires.fits.empty) refl refl in
-    let written = with_items_is c.args.self.now.marks c.walk_on.new.marks (c.walk_on.ensures.marks ∙ c.deref_mut-3.ensures.len) in
+    let written = with_items_is c.args.self.now.marks c.walk_on.new.marks (c.walk_on.ensures.marks ∙ c.deref_mut-2.ensures.len) in
     on_ok _ _ c.walk_on.result (λ both. let ended = ends_walk d late tree rest c.walk_on.new.marks c.walk_on.new.walk c.walk_on.new.counts both.1 both.0 in
     (ended.0, subst (λ m. Stood d late ended.0 rest m c.walk_on.new.walk.rows.items c.walk_on.new.counts) (sym written) ended.1))
-    (both_ok _ _ c.walk_on.result (c.walk_on.ensures.ok gives usable late visited rest (subst (λ m. Walking d late tree visited rest m walk c.args.self.now.counts) (sym c.deref_mut-3.ensures.value) w)) c.walk_on.ensures.empty)
+    (both_ok _ _ c.walk_on.result (c.walk_on.ensures.ok gives usable late visited rest (subst (λ m. Walking d late tree visited rest m walk c.args.self.now.counts) (sym c.deref_mut-2.ensures.value) w)) c.walk_on.ensures.empty)
 
 pub returns-clause-err : goal.returns-clause-err
 returns-clause-err g c = λ gives usable late visited rest s stood is leads.
@@ -25,4 +25,4 @@ returns-clause-err g c = λ gives usable late visited rest s stood is leads.
     let walk : Walk = record { stack = c.push.new.stack; rows = c.args.self.now.walk.rows; leaf_level = None } in
     let w = starts_walk d late tree visited rest s c.args.self.now.marks.items c.args.self.now.walk.rows.items walk c.args.self.now.counts c.args.item stood is leads
     (c.in_ok-push.ensures.ok ∙ ap (λ l. l ++ c.args.item ∷ []) c.requires.fits.empty) refl refl in
-    c.walk_on.ensures.err gives usable late visited rest (subst (λ m. Walking d late tree visited rest m walk c.args.self.now.counts) (sym c.deref_mut-3.ensures.value) w)
+    c.walk_on.ensures.err gives usable late visited rest (subst (λ m. Walking d late tree visited rest m walk c.args.self.now.counts) (sym c.deref_mut-2.ensures.value) w)

@@ -1,36 +1,68 @@
-use Rattle.std.proofs.Common.{◌≡◌, ◌+◌, ◌*◌, ◌∙◌, ℕ, sym, subst, ap, arith}
+use Rattle.std.proofs.Common.{◌≡◌, ◌≢◌, ◌+◌, ◌*◌, ◌≤◌, ◌<◌, ◌∙◌, ◌-◌, ℕ, List, length, sym, subst, ap, arith, rules}
+use Rattle.sqpage.specs.declared.fault.Fault.{Fault}
 use Rattle.sqpage.specs.declared.fault.Fault.TheVariants as faults
 use Rattle.sqpage.specs.Header.{half}
-use Rattle.sqpage.specs.Layout.{LayoutRefused}
-use Rattle.sqpage.specs.Marking.{MarksAll, MarksCells, TouchesCells}
-use Rattle.sqpage.specs.Page.{Page, head_at, cell_count, content_start_in, pointers_at, pointers_end_in}
-use Rattle.sqpage.proofs.Layouts.{blocks_share, pointers_reach, cells_share, all_marked}
-use Rattle.sqpage.proofs.page.BtreePage.mark_all.Goals.{then-not-apart-via-then-not-apart, then-not-apart-via-else-not-apart+then-end-start, then-not-apart-via-else-not-apart+else-end-start+then-not-mark_cells}
+use Rattle.sqpage.specs.Layout.{LayoutRefused, PointersEndBefore}
+use Rattle.sqpage.specs.Marking.{MarksFreeblocks, FreeblocksRefused, TakesBytes}
+use Rattle.sqpage.specs.Page.{Page, head_at, cell_count, content_start_in, pointer, pointers_at, pointers_end_in}
+use Rattle.sqpage.proofs.Layouts.{freeblocks_refused, pointers_reach, cells_share, all_marked, bare_is}
+use Rattle.sqpage.proofs.Layouts.{exits}
 use Rattle.sqpage.proofs.page.BtreePage.mark_all.Goals as goal
 
-the_end : (p q : Page) (pointers count start : ℕ) → p ≡ q → pointers ≡ pointers_at p.kind p.number → count ≡ cell_count q → start ≡ content_start_in p.used p.number → pointers + 2 * count ≡ pointers_end_in p.kind p.used p.number
-the_end p q pointers count start e a b s = let n : cell_count p ≡ cell_count q = ap (λ (p : Page). cell_count p) e in omega (arith, n, a, b)
+-- what is read of the page, which is one in two ways
+module _ (p q : Page) (e : p ≡ q) where
+  start_in : (start : ℕ) → start ≡ content_start_in p.used p.number → start ≡ content_start_in q.used q.number
+  start_in start s = s ∙ ap (λ (p : Page). content_start_in p.used p.number) e
 
-pub returns-then-not-apart-clause-err : goal.returns-then-not-apart-clause-err
-returns-then-not-apart-clause-err c =
-    let p : Page = record { used = c.self.inside.used.now; number = c.self.inside.number; kind = c.self.inside.kind } in
-    let m = c.mark_freeblocks.ensures.found c.in-Some.apart c.in-Some.is in
-    let f : c.half_at-first.result ≡ half p.used (head_at p.number + 1) = c.half_at-first.ensures.value ∙ ap (λ n. half c.self.inside.used.now (n + 1)) c.head.ensures.value in
-    subst (λ p. LayoutRefused faults.Overlap p × (faults.Overlap ≡ faults.NoMemory → ⊥)) c.self.view_is (
-      (elim c.then-not-apart.branch [
-        | then-not-apart-via-then-not-apart w ↦ blocks_share p c.content_start-start.result c.half_at-first.result c.mark_freeblocks.new.map c.in-Some.apart m c.content_start-start.ensures f w.if-not-apart.true
-        | then-not-apart-via-else-not-apart+then-end-start w ↦ pointers_reach p c.content_start-start.result c.half_at-first.result c.mark_freeblocks.new.map c.in-Some.apart m c.content_start-start.ensures f (λ before. absurd (omega (arith, before, w.if-end-start.true, the_end p c.args.self.now c.pointers.result c.len.result c.content_start-start.result c.self.view_is c.pointers.ensures.value c.len.ensures c.content_start-start.ensures, c.content_start-start.ensures)))
-        | then-not-apart-via-else-not-apart+else-end-start+then-not-mark_cells w ↦ cells_share p c.content_start-start.result c.half_at-first.result c.mark_freeblocks.new.map c.in-Some.apart m c.content_start-start.ensures f w.if-not-apart.false (subst (λ p. TouchesCells p c.mark_freeblocks.new.map) (sym c.self.view_is) (w.mark_cells.ensures.touched w.if-not-mark_cells.true))
-      ]),
-      λ e. cc,
-    )
+  first_in : (first head : ℕ) → head ≡ head_at p.number → first ≡ half p.used (head + 1) → first ≡ half q.used (head_at q.number + 1)
+  first_in first head h f = f ∙ ap (λ n. half p.used (n + 1)) h ∙ ap (λ (p : Page). half p.used (head_at p.number + 1)) e
 
-pub returns-clause-ok : goal.returns-clause-ok
-returns-clause-ok c =
-    let p : Page = record { used = c.self.inside.used.now; number = c.self.inside.number; kind = c.self.inside.kind } in
-    let m = c.mark_freeblocks.ensures.found c.in-Some.apart c.in-Some.is in
-    let f : c.half_at-first.result ≡ half p.used (head_at p.number + 1) = c.half_at-first.ensures.value ∙ ap (λ n. half c.self.inside.used.now (n + 1)) c.head.ensures.value in
-    subst (λ p. MarksAll p c.mark_cells.new.map) c.self.view_is
-    (all_marked p c.content_start-start.result c.half_at-first.result c.mark_freeblocks.new.map c.mark_cells.new.map c.in-Some.apart m c.content_start-start.ensures f c.if-not-apart.false
-    (omega (arith, c.if-end-start.false, the_end p c.args.self.now c.pointers.result c.len.result c.content_start-start.result c.self.view_is c.pointers.ensures.value c.len.ensures c.content_start-start.ensures, c.content_start-start.ensures))
-    (subst (λ p. MarksCells p c.mark_freeblocks.new.map c.mark_cells.new.map) (sym c.self.view_is) (c.mark_cells.ensures.marked c.if-not-mark_cells.false)))
+  the_end : (pointers count : ℕ) → pointers ≡ pointers_at p.kind p.number → count ≡ cell_count q → pointers + 2 * count ≡ pointers_end_in q.kind q.used q.number
+  the_end pointers count a b = let n : pointers ≡ pointers_at q.kind q.number = a ∙ ap (λ (p : Page). pointers_at p.kind p.number) e in omega (arith, n, b)
+
+  blocks_in : (start first taken : ℕ) (map : List ℕ) → MarksFreeblocks p.used start first map taken → MarksFreeblocks q.used start first map taken
+  blocks_in start first taken map m = subst (λ (p : Page). MarksFreeblocks p.used start first map taken) e m
+
+pub returns-in_err-blocks-clause-err : goal.returns-in_err-blocks-clause-err
+returns-in_err-blocks-clause-err c =
+    let q : Page = c.args.self.now in
+    let s = start_in _ q c.self.view_is c.content_start-start.result c.content_start-start.ensures in
+    let f = first_in _ q c.self.view_is c.half_at-first.result c.head.result c.head.ensures.value c.half_at-first.ensures.value in
+    exits (λ fault. LayoutRefused fault q × (fault ≢ faults.NoMemory)) c.in_err-blocks.field-0.0 c.from_residual.result c.from_residual.ensures.1
+    (freeblocks_refused q c.content_start-start.result c.half_at-first.result _ (subst (λ (p : Page). FreeblocksRefused p.used c.content_start-start.result c.half_at-first.result c.in_err-blocks.field-0.0) c.self.view_is c.in_err-blocks.ensures.err) s f)
+
+pub returns-then-end-start-clause-err : goal.returns-then-end-start-clause-err
+returns-then-end-start-clause-err c =
+    let q : Page = c.args.self.now in
+    let s = start_in _ q c.self.view_is c.content_start-start.result c.content_start-start.ensures in
+    let f = first_in _ q c.self.view_is c.half_at-first.result c.head.result c.head.ensures.value c.half_at-first.ensures.value in
+    let m = blocks_in _ q c.self.view_is c.content_start-start.result c.half_at-first.result c.in_ok-blocks.blocks c.mark_freeblocks.new.map c.in_ok-blocks.ensures.ok in
+    let late = the_end _ q c.self.view_is c.pointers.result c.len.result c.pointers.ensures.value c.len.ensures in
+    (pointers_reach q c.content_start-start.result c.half_at-first.result c.in_ok-blocks.blocks c.mark_freeblocks.new.map m s f (λ before. absurd (omega (arith, before, c.if-end-start.true, late, s))), λ e. cc)
+
+pub returns-in-None-clause-err : goal.returns-in-None-clause-err
+returns-in-None-clause-err c =
+    let q : Page = c.args.self.now in
+    let s = start_in _ q c.self.view_is c.content_start-start.result c.content_start-start.ensures in
+    let f = first_in _ q c.self.view_is c.half_at-first.result c.head.result c.head.ensures.value c.half_at-first.ensures.value in
+    let m = blocks_in _ q c.self.view_is c.content_start-start.result c.half_at-first.result c.in_ok-blocks.blocks c.mark_freeblocks.new.map c.in_ok-blocks.ensures.ok in
+    (cells_share q c.content_start-start.result c.half_at-first.result c.in_ok-blocks.blocks c.mark_freeblocks.new.map m s f c.in-None.ensures.touched, λ e. cc)
+
+taken_all : (c : goal.In-Some) → TakesBytes c.args.self.now (c.in_ok-blocks.blocks + c.in-Some.cells)
+taken_all c =
+    let q : Page = c.args.self.now in
+    let s = start_in _ q c.self.view_is c.content_start-start.result c.content_start-start.ensures in
+    let f = first_in _ q c.self.view_is c.half_at-first.result c.head.result c.head.ensures.value c.half_at-first.ensures.value in
+    let m = blocks_in _ q c.self.view_is c.content_start-start.result c.half_at-first.result c.in_ok-blocks.blocks c.mark_freeblocks.new.map c.in_ok-blocks.ensures.ok in
+    let late = the_end _ q c.self.view_is c.pointers.result c.len.result c.pointers.ensures.value c.len.ensures in
+    all_marked q c.content_start-start.result c.half_at-first.result c.in_ok-blocks.blocks c.in-Some.cells c.mark_freeblocks.new.map c.mark_cells.new.map m s f (omega (arith, c.if-end-start.false, late, s)) c.in-Some.ensures.marked
+
+pub overflow_add-result : goal.overflow_add-result
+overflow_add-result c =
+    let q : Page = c.args.self.now in
+    let start = subst (λ (p : Page). content_start_in p.used p.number ≤ length p.used) c.self.view_is c.self.invariant.start in
+    let above = subst (λ (p : Page). (i : ℕ) → i < cell_count p → content_start_in p.used p.number ≤ pointer p i) c.self.view_is c.self.invariant.above in
+    omega (arith, bare_is q (c.in_ok-blocks.blocks + c.in-Some.cells) (taken_all c) start above, c.self.invariant.most, ap (λ (p : Page). length p.used) c.self.view_is)
+
+pub returns-in-Some-clause-ok : goal.returns-in-Some-clause-ok
+returns-in-Some-clause-ok c = taken_all c
