@@ -29,20 +29,28 @@ def preloaded(folder, name):
 
 
 def contents(folder):
-    """The files of a folder with their bytes."""
+    """The files of a folder with their bytes, and its links with the names that they lead to."""
     found = {}
     for name in sorted(os.listdir(folder)):
-        with open(os.path.join(folder, name), "rb") as file:
+        path = os.path.join(folder, name)
+        if os.path.islink(path):
+            found[name] = os.readlink(path)
+            continue
+        with open(path, "rb") as file:
             found[name] = file.read()
     return found
 
 
 def fill(folder, files):
-    """Makes a folder hold just these files."""
+    """Makes a folder hold just these files and links."""
     shutil.rmtree(folder, ignore_errors=True)
     os.mkdir(folder)
     for name, content in files.items():
-        with open(os.path.join(folder, name), "wb") as file:
+        path = os.path.join(folder, name)
+        if isinstance(content, str):
+            os.symlink(content, path)
+            continue
+        with open(path, "wb") as file:
             file.write(content)
 
 

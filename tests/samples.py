@@ -42,16 +42,17 @@ def sum_over(sums, content):
     return first, second
 
 
-def log_of(*frames):
-    """A log: for each frame the page that it names, the size after its commit and the byte that fills it."""
-    salts = words(1, 2)
-    head = words(0x377F0683, 3007000, PAGE, 0) + salts
+def log_of(*frames, size=PAGE, sequence=0, salts=(1, 2)):
+    """A log: for each frame the page that it names, the size after its commit, the byte that fills it, and, where these
+    aren't the log's, its salts."""
+    own = words(*salts)
+    head = words(0x377F0683, 3007000, size, sequence) + own
     sums = sum_over((0, 0), head)
     log = head + words(*sums)
-    for page, size, fill in frames:
-        content = fill * PAGE
-        sums = sum_over(sums, words(page, size) + content)
-        log += words(page, size) + salts + words(*sums) + content
+    for page, end, fill, *other in frames:
+        content = fill * size
+        sums = sum_over(sums, words(page, end) + content)
+        log += words(page, end) + (words(*other) if other else own) + words(*sums) + content
     return log
 
 
@@ -60,14 +61,26 @@ def page_sum(nonce, page):
     return (nonce + sum(page[at] for at in range(len(page) - 200, 0, -200))) % 2**32
 
 
-def journal_of(first_size, *records):
-    """A journal with sectors of 512 bytes, with the database's size before the transaction: for each record its page
-    and the byte that fills it."""
+def journal_of(first_size, *records, sector=512, size=PAGE):
+    """A journal with the database's size before the transaction: for each record its page and the byte that fills
+    it."""
     nonce = 7
-    journal = put(bytes(512), 0, JOURNAL_MAGIC + words(0xFFFFFFFF, nonce, first_size, 512, PAGE))
+    journal = put(bytes(sector), 0, JOURNAL_MAGIC + words(0xFFFFFFFF, nonce, first_size, sector, size))
     for page, fill in records:
-        content = fill * PAGE
+        content = fill * size
         journal += words(page) + content + words(page_sum(nonce, content))
+    return journal
+
+
+def journal_in_segments(first_size, *segments):
+    """A journal with sectors of 512 bytes, and a header for each segment of records, each with the next nonce."""
+    journal = b""
+    for nonce, records in enumerate(segments, 7):
+        journal += bytes(-len(journal) % 512)
+        journal += put(bytes(512), 0, JOURNAL_MAGIC + words(len(records), nonce, first_size, 512, PAGE))
+        for page, fill in records:
+            content = fill * PAGE
+            journal += words(page) + content + words(page_sum(nonce, content))
     return journal
 
 
