@@ -2,7 +2,7 @@
 ghost use Rattle.std.specs.Prelude.{◌≡◌, ◌≢◌, ◌↔◌, ◌+◌, ◌≤◌, ℕ, List, length, OnOk, OnErr, IfErr, IsTrue, false, if◌then◌else◌};
 ghost use Rattle.crashdisk.specs.Call.{DiskState, IsSoundDisk};
 ghost use Rattle.walcore.specs.Machine.{at, last, Checkpoints};
-ghost use Rattle.crashdisk.specs.Keeps.{KeepsLog};
+ghost use Rattle.crashdisk.specs.Keeps.{KeepsLog, TellsRefusal};
 ghost use Rattle.walcore.specs.Fits.{Past, Fits, answered, Steps};
 ghost use Rattle.walcore.specs.Bringing.{answer_of, IsOldest, LeavesJust, IsLeast, SizeAnswer, Brings, BroughtDown, ClosedBy};
 
@@ -33,6 +33,7 @@ fn size_at<D: Disk>(disk: &mut D, page_size: usize, frame: u32) -> Result<u32, W
     requires some { 1 ≤ frame }
     requires size { page_size ≤ 65536 }
     ensures word { D.keeps_word disk.old ↔ D.keeps_word disk.new }
+    ensures told { D.keeps_word disk.old → TellsRefusal WalError.Device result (D.state disk.old) (D.state disk.new) }
     ensures size { D.keeps_word disk.old → IsSoundDisk (D.state disk.old) → SizeAnswer page_size frame result (D.state disk.old) (D.state disk.new) }
     ensures error { OnErr result (result ≡ Err WalError.Device) }
 {
@@ -52,6 +53,7 @@ fn bring_over<D: Disk>(
     requires { length page.old ≤ 65536 }
     ensures word { D.keeps_word disk.old ↔ D.keeps_word disk.new }
     ensures log { D.keeps_word disk.old → IsSoundDisk (D.state disk.old) → KeepsLog (D.state disk.old) (D.state disk.new) }
+    ensures told { D.keeps_word disk.old → IsSoundDisk (D.state disk.old) → TellsRefusal WalError.Device result (D.state disk.old) (D.state disk.new) }
     ensures brings { D.keeps_word disk.old → IsSoundDisk (D.state disk.old) → Brings (length page.old) frame index.now result (D.state disk.old) (D.state disk.new) }
     ensures error { OnErr result (result ≡ Err WalError.Device) }
 {
