@@ -77,3 +77,4 @@ pub mod Foremost
 pub mod Based
 pub mod ToldRefusals
 pub mod PageCalls
+pub mod Uncommitted

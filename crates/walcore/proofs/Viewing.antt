@@ -1,6 +1,6 @@
 -- What a reader is given is what its database has.
 use Rattle.std.proofs.Common.{◌≡◌, inl, ℕ, ◌+◌, ◌-◌, ◌*◌, ◌<◌, ◌≤◌, Bool, false, List, length, get_or, take, drop, refl, sym, ◌∙◌, ap, subst, arith, length-drop}
-use Rattle.std.specs.Prelude.{Result, Ok, Err, IsErrAnd, IsTrue, Option, Some, None, slice_get}
+use Rattle.std.specs.Prelude.{Result, Ok, Err, OnErr, IsTrue, Option, Some, None, slice_get}
 use Rattle.std.proofs.lemmas.List.{get_or-take, get_or-drop, length-take-le}
 use Rattle.std.proofs.lemmas.Grind.{same_number_lists}
 use Rattle.sqval.specs.Database.{Database, page, file_page}
@@ -22,7 +22,7 @@ use Rattle.walcore.specs.Era.{IsBoundary, shown}
 use Rattle.walcore.specs.Standing.{Stands, IsPresent}
 use Rattle.crashdisk.specs.Keeps.{Still, PlaceAnswer, TellsRefusal}
 use Rattle.walcore.specs.Plans.{IsTable}
-use Rattle.walcore.specs.Paging.{IsRefusedRead, ReadJudged, Finds}
+use Rattle.walcore.specs.Paging.{ReadAnswer, Finds}
 use Rattle.walcore.specs.Fits.{Past, IsIndexed, IsBound, IsCore, FitsCore, StepsTo, answered}
 use Rattle.walcore.specs.declared.error.WalError.{WalError}
 use Rattle.walcore.specs.declared.error.WalError.TheVariants.{Closed, PageZero, PageAboveSize, BadLength, Device}
@@ -89,16 +89,18 @@ read_file size p place s out same long bytes =
 
 -- ---- the rows of the machine
 
--- a read into a buffer of another length
-pub read_refused : {T U : Type 0} (is_open : Bool) (page size room page_size : ℕ) (was : Result U WalError) (result : Result T WalError) (e : WalError) → was ≡ Err e → result ≡ Err e
-    → ReadJudged is_open page size room page_size was → IsErrAnd result (IsRefusedRead is_open page size)
-unfolding ReadJudged
-read_refused {T = T} {U = U} is_open page size room page_size was result e is_was is bad =
-    subst (λ (x : Result T WalError). IsErrAnd x (IsRefusedRead is_open page size)) (sym is) (subst (λ (x : Result U WalError). ReadJudged is_open page size room page_size x) is_was bad).0
+-- what a read answers, that was refused before the disk was asked, or that asked it
+pub read_unasked : {T U : Type 0} (is_open : Bool) (page size room page_size : ℕ) (was : Result U WalError) (result : Result T WalError) (e : WalError) → was ≡ Err e → result ≡ Err e
+    → ReadAnswer is_open page size room page_size was → ReadAnswer is_open page size room page_size result
+read_unasked {T = T} {U = U} is_open page size room page_size was result e is_was is bad =
+    subst (λ (x : Result T WalError). ReadAnswer is_open page size room page_size x) (sym is) (let same = subst (λ (x : Result U WalError). ReadAnswer is_open page size room page_size x) is_was bad in same)
 
-pub read_long : {T : Type 0} (is_open : Bool) (page size room page_size : ℕ) (was : Result T WalError) (v : T) → was ≡ Ok v → ReadJudged is_open page size room page_size was → room ≡ page_size
-unfolding ReadJudged
-read_long {T = T} is_open page size room page_size was v is good = (subst (λ (x : Result T WalError). ReadJudged is_open page size room page_size x) is good).3
+pub read_asked : {T U : Type 0} (is_open : Bool) (page size room page_size : ℕ) (was : Result U WalError) (v : U) (result : Result T WalError) → was ≡ Ok v → ReadAnswer is_open page size room page_size was → OnErr result (result ≡ Err Device)
+    → ReadAnswer is_open page size room page_size result
+read_asked {U = U} is_open page size room page_size was v (Ok x) is good refused = let same = subst (λ (y : Result U WalError). ReadAnswer is_open page size room page_size y) is good in same
+read_asked {T = T} {U = U} is_open page size room page_size was v (Err e) is good refused =
+    let same = subst (λ (y : Result U WalError). ReadAnswer is_open page size room page_size y) is good in
+    subst (λ (x : Result T WalError). ReadAnswer is_open page size room page_size x) (sym refused) same
 
 module _ (a b : Core) (s t : DiskState) (past : Past) (fits : FitsCore past a s) (same : SameCore a b) (marks : b.marks.items ≡ a.marks.items)
     (number : ℕ) (r : Reader) (token : slice_get past.tokens number ≡ Some (Some r)) (p : ℕ) where
@@ -117,30 +119,29 @@ module _ (a b : Core) (s t : DiskState) (past : Past) (fits : FitsCore past a s)
       (subst (λ (o : Option ℕ). ReadStep o past.state p answer s.refused t.refused past.state) (sym e) step) refl
 
   -- refused before the disk is asked
-  judged : {T : Type 0} (out : List ℕ) (room : ℕ) (result : Result T WalError) (e : WalError) → Still s t → (s.refused < t.refused → ⊥) → result ≡ Err e → room ≡ past.state.page_size → ReadJudged {T = T} a.is_open p r.size room a.page_size (Err e)
+  judged : {T : Type 0} (out : List ℕ) (room : ℕ) (result : Result T WalError) (e : WalError) → Still s t → (s.refused < t.refused → ⊥) → result ≡ Err e → (e ≡ Device → ⊥) → room ≡ past.state.page_size → ReadAnswer {T = T} a.is_open p r.size room a.page_size (Err e)
       → StepsTo past past.tokens (Reads number p) (answered (λ (v : T). Page out) result) b s t
-  unfolding ReadJudged
-  judged {T = T} out room result e still quiet was full bad = subst (λ (x : Result T WalError). StepsTo past past.tokens (Reads number p) (answered (λ (v : T). Page out) x) b s t) (sym was) (by e bad)
+  judged {T = T} out room result e still quiet was never full bad = subst (λ (x : Result T WalError). StepsTo past past.tokens (Reads number p) (answered (λ (v : T). Page out) x) b s t) (sym was) (by e never bad)
     where
-      by : (e : WalError) → ReadJudged {T = T} a.is_open p r.size room a.page_size (Err e) → StepsTo past past.tokens (Reads number p) (Refused (number_of e)) b s t
-      by Closed shut =
+      by : (e : WalError) → (e ≡ Device → ⊥) → ReadAnswer {T = T} a.is_open p r.size room a.page_size (Err e) → StepsTo past past.tokens (Reads number p) (Refused (number_of e)) b s t
+      by Closed never shut =
           let i = place_of in
-          step_at i.0 (Refused 1) i.1 still (λ more. absurd (quiet more)) (refuses_first (read_refusal past.state i.0 p) 1 false past.state past.state s.refused t.refused (is_closed past.state.is_open p (length (at past.state i.0)) (sym fits.is_open ∙ shut.0)))
-      by PageZero zero =
+          step_at i.0 (Refused 1) i.1 still (λ more. absurd (quiet more)) (refuses_first (read_refusal past.state i.0 p) 1 false past.state past.state s.refused t.refused (is_closed past.state.is_open p (length (at past.state i.0)) (sym fits.is_open ∙ shut)))
+      by PageZero never zero =
           let i = place_of in
-          step_at i.0 (Refused 4) i.1 still (λ more. absurd (quiet more)) (refuses_first (read_refusal past.state i.0 p) 4 false past.state past.state s.refused t.refused (is_zero past.state.is_open p (length (at past.state i.0)) (sym fits.is_open ∙ zero.0.0) zero.0.1))
-      by PageAboveSize above =
-          let core = fits.core above.0.0 in
+          step_at i.0 (Refused 4) i.1 still (λ more. absurd (quiet more)) (refuses_first (read_refusal past.state i.0 p) 4 false past.state past.state s.refused t.refused (is_zero past.state.is_open p (length (at past.state i.0)) (sym fits.is_open ∙ zero.0) zero.1))
+      by PageAboveSize never above =
+          let core = fits.core above.0 in
           let i = bound_of core.0 core.1 core.2 core.3 core.4 in
           step_at i.0 (Refused 5) i.1 still (λ more. absurd (quiet more)) (refuses_first (read_refusal past.state i.0 p) 5 false past.state past.state s.refused t.refused
-          (is_above past.state.is_open p (length (at past.state i.0)) (sym fits.is_open ∙ above.0.0) above.0.1 (omega (arith, above.0.2, i.2.size_is))))
-      by BadLength other = absurd (other.1 refl (full ∙ sym fits.page_size))
-      by _ none = absurd none.0
+          (is_above past.state.is_open p (length (at past.state i.0)) (sym fits.is_open ∙ above.0) above.1 (omega (arith, above.2, i.2.size_is))))
+      by BadLength never other = absurd (other.3 (full ∙ sym fits.page_size))
+      by Device never asked = absurd (never refl)
+      by _ never none = absurd none
 
-  pub read_judged : {T U : Type 0} (out : List ℕ) (room : ℕ) (was : Result U WalError) (result : Result T WalError) (e : WalError) → Still s t → (s.refused < t.refused → ⊥) → was ≡ Err e → result ≡ Err e → room ≡ past.state.page_size
-      → ReadJudged a.is_open p r.size room a.page_size was → StepsTo past past.tokens (Reads number p) (answered (λ (v : T). Page out) result) b s t
-  unfolding ReadJudged
-  read_judged {U = U} out room was result e still quiet is_was is full bad = judged out room result e still quiet is full (subst (λ (x : Result U WalError). ReadJudged a.is_open p r.size room a.page_size x) is_was bad)
+  pub read_judged : {T U : Type 0} (out : List ℕ) (room : ℕ) (was : Result U WalError) (result : Result T WalError) (e : WalError) → Still s t → (s.refused < t.refused → ⊥) → was ≡ Err e → result ≡ Err e → (was ≡ Err Device → ⊥) → room ≡ past.state.page_size
+      → ReadAnswer a.is_open p r.size room a.page_size was → StepsTo past past.tokens (Reads number p) (answered (λ (v : T). Page out) result) b s t
+  read_judged {U = U} out room was result e still quiet is_was is never full bad = judged out room result e still quiet is (λ same. never (is_was ∙ ap Err same)) full (subst (λ (x : Result U WalError). ReadAnswer a.is_open p r.size room a.page_size x) is_was bad)
 
   -- read from a place where the page stands
   read_by : {T : Type 0} (f : File) (place : ℕ) (out : List ℕ) (result : Result T WalError) (i : ℕ) → reader_at past.state number ≡ Some i → read_refusal past.state i p ≡ None → PlaceAnswer Device f place out result s t → TellsRefusal Device result s t
@@ -151,7 +152,7 @@ module _ (a b : Core) (s t : DiskState) (past : Past) (fits : FitsCore past a s)
   read_by {T = T} f place out (Err x) i e none answer told good within = subst (λ (y : WalError). StepsTo past past.tokens (Reads number p) (Refused (number_of y)) b s t) (sym answer.1)
       (step_at i (Refused 15) e answer.0 (λ more. refl) (refuses_cause (read_refusal past.state i p) past.state past.state s.refused t.refused none (answer.2 within)))
 
-  module _ (room : ℕ) (full : room ≡ past.state.page_size) (good : ReadJudged {T = Unit {0}} a.is_open p r.size room a.page_size (Ok tt)) (frame : ℕ) (hit : IsNewest a.index.pages p r.mark frame) where
+  module _ (room : ℕ) (full : room ≡ past.state.page_size) (good : ReadAnswer {T = Unit {0}} a.is_open p r.size room a.page_size (Ok tt)) (frame : ℕ) (hit : IsNewest a.index.pages p r.mark frame) where
     abbrev size : ℕ
     size = a.page_size
 
@@ -160,7 +161,6 @@ module _ (a b : Core) (s t : DiskState) (past : Past) (fits : FitsCore past a s)
 
     pub read_from_file : {T : Type 0} (place : ℕ) (out : List ℕ) (result : Result T WalError) → frame ≡ 0 → place ≡ (p - 1) * room → length out ≡ room → PlaceAnswer Device Db place out result s t → TellsRefusal Device result s t
         → StepsTo past past.tokens (Reads number p) (answered (λ (v : T). Page out) result) b s t
-    unfolding ReadJudged
     read_from_file place out result zero same_place long answer told =
         let core = fits.core good.0 in
         let is : IsCore past core.0 core.1 core.2 core.3 a s = core.4 in
@@ -182,7 +182,6 @@ module _ (a b : Core) (s t : DiskState) (past : Past) (fits : FitsCore past a s)
 
     pub read_from_log : {T : Type 0} (place : ℕ) (out : List ℕ) (result : Result T WalError) → 1 ≤ frame → place ≡ 32 + (frame - 1) * (24 + room) + 24 → length out ≡ room → PlaceAnswer Device Log place out result s t → TellsRefusal Device result s t
         → StepsTo past past.tokens (Reads number p) (answered (λ (v : T). Page out) result) b s t
-    unfolding ReadJudged
     read_from_log place out result some same_place long answer told =
         let core = fits.core good.0 in
         let is : IsCore past core.0 core.1 core.2 core.3 a s = core.4 in
