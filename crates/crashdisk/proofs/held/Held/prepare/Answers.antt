@@ -1,4 +1,4 @@
-use Rattle.std.proofs.Common.{◌≡◌, ◌/◌, IfOk, ◌-◌, ◌∙◌, sym, ap, subst, arith, List, ℕ, length, [], ◌∷◌, ◌++◌, replicate}
+use Rattle.std.proofs.Common.{◌≡◌, IfOk, ◌-◌, ◌∙◌, sym, ap, subst, arith, List, ℕ, length, [], ◌∷◌, ◌++◌, replicate}
 use Rattle.crashdisk.specs.State.{FileState}
 use Rattle.crashdisk.specs.Held.{AreWhole, file_by, Touches, IsListOf}
 use Rattle.crashdisk.proofs.Changing.{grown_same}
