@@ -18,7 +18,7 @@ use Rattle.rollcore.specs.Machine.{State, newest, recorded, segments_of, refusal
 use Rattle.rollcore.specs.declared.state.Core.{Core}
 use Rattle.rollcore.specs.declared.changes.Change.{Change}
 use Rattle.rollcore.specs.declared.error.RollError.{RollError}
-use Rattle.rollcore.specs.declared.error.RollError.TheVariants.{NoMemory, Device}
+use Rattle.rollcore.specs.declared.error.RollError.TheVariants.{Closed, NoMemory, Device}
 
 -- whatever is left of the log shows, with whatever is left of the file, the one database or the other
 abbrev pub ShowsEither : (size : ℕ) (d e : Database) → DiskState → Type 0
@@ -98,6 +98,11 @@ pub record Ends (size : ℕ) (old new : Core) : Type 0 where
 pub record Closes (old new : Core) : Type 0 where
   pub page_size : new.page_size ≡ old.page_size
   pub is_open : new.is_open ≡ false
+
+-- Whether its disk keeps its word or not, Device closes an engine; one that was closed answers Closed, and nothing changes.
+pub record ClosesOnDevice {T D : Type 0} (result : Result T RollError) (core_old core_new : Core) (old new : D) : Type 0 where
+  pub device : result ≡ Err Device → core_new.is_open ≡ false
+  pub closed : core_old.is_open ≡ false → (result ≡ Err Closed) × (core_new ≡ core_old) × (new ≡ old)
 
 -- the commit is the newest one, or the core is closed
 abbrev pub EndAnswer : {T : Type 0} → (size : ℕ) → Result T RollError → (old new : Core) → Type 0
