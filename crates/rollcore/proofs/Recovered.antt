@@ -32,7 +32,7 @@ use Rattle.rollcore.specs.declared.replaying.Replayed.{Replayed}
 use Rattle.rollcore.specs.declared.error.RollError.{RollError}
 use Rattle.rollcore.specs.declared.error.RollError.TheVariants.{TooLarge, PageSize, NoMemory, Device, SectorAbovePage}
 use Rattle.rollcore.proofs.Agreeing.{scanning_begins, scanning_still, scanning_shows}
-use Rattle.rollcore.proofs.Breaking.{zero_gate, cold_one}
+use Rattle.rollcore.proofs.Breaking.{zero_gate, lost_magic, cold_one}
 use Rattle.rollcore.proofs.Down.{shows_by, down_left}
 use Rattle.crashdisk.proofs.Down.{present_image, down_present, down_by, file_syncs}
 use Rattle.rollcore.proofs.Lengths.{may_down, down_read, ends_down, named_by}
@@ -176,19 +176,19 @@ module _ (size : ℕ) (d : Database) (w : List ℕ) (s : DiskState) (suits : Sui
 
         -- the front of the log has no magic any more
         module _ (c : DiskState) (sound : IsSoundDisk c) (sector : c.sector ≡ b.sector) (tears : c.tears ≡ b.tears) (same : c.db ≡ b.db) where
-          pub unbroken : {T : Type 0} (e : RollError) (r : Result T RollError) (q : Result ℕ RollError) → r ≡ Err e → FrontAnswer r b c → q ≡ Err e → RecoverAnswer size d q s c
+          pub unbroken : {T : Type 0} (e : RollError) (r : Result T RollError) (q : Result ℕ RollError) → r ≡ Err e → FrontAnswer w r b c → q ≡ Err e → RecoverAnswer size d q s c
           unbroken {T = T} e r q was answer given =
-              let front = subst (λ (x : Result T RollError). FrontAnswer x b c) was answer in
+              let front = subst (λ (x : Result T RollError). FrontAnswer w x b c) was answer in
               subst (λ (x : Result ℕ RollError). RecoverAnswer size d x s c) (sym given) (
                 may_after e s b c (omega (arith, is.refused, then.refused)) (inr front.refused),
                 cold_one size d w b c down_b cold sound sector tears same front.cold one_b,
               )
 
-          pub broken : {T : Type 0} (v : T) (n : ℕ) (r : Result T RollError) (q : Result ℕ RollError) → r ≡ Ok v → FrontAnswer r b c → q ≡ Ok n → CountAnswer size a.db.len q a b → RecoverAnswer size d (Ok n) s c
+          pub broken : {T : Type 0} (v : T) (n : ℕ) (r : Result T RollError) (q : Result ℕ RollError) → r ≡ Ok v → FrontAnswer w r b c → q ≡ Ok n → CountAnswer size a.db.len q a b → RecoverAnswer size d (Ok n) s c
           broken {T = T} v n r q was answer ok count =
-              let front = subst (λ (x : Result T RollError). FrontAnswer x b c) was answer in (
+              let front = subst (λ (x : Result T RollError). FrontAnswer w x b c) was answer in (
                 counted n (subst (λ (x : Result ℕ RollError). CountAnswer size a.db.len x a b) ok count),
-                rests_by size d front.done.0 c (cold_one size d w b c down_b cold sound sector tears same front.cold one_b) front.done.1 front.done.2,
+                rests_by size d front.done.0 c (cold_one size d w b c down_b cold sound sector tears same front.cold one_b) front.done.1 (lost_magic w front.done.0 front.done.2),
               )
 
 -- ---- a file and a journal show one database
