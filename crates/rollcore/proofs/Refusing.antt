@@ -4,7 +4,7 @@ use Rattle.std.specs.Prelude.{Result, Ok, Err, IfErr, Option}
 use Rattle.sqval.specs.Bytes.{word}
 use Rattle.sqjournal.specs.Journal.{IsHot}
 use Rattle.crashdisk.specs.State.{FileState}
-use Rattle.crashdisk.specs.Call.{DiskState, IsSoundDisk, ArePresent, Syncs, Nothing}
+use Rattle.crashdisk.specs.Call.{DiskState, IsSoundDisk, ArePresent, Syncs, InFile}
 use Rattle.crashdisk.specs.declared.file.File.TheVariants.{Log}
 use Rattle.crashdisk.specs.declared.error.DiskError.{DiskError}
 use Rattle.crashdisk.specs.Keeps.{HadRefusal, KeepsBytes, IsLogDown, Still, SyncStep, TearsPages, Later}
@@ -160,7 +160,7 @@ module _ {T : Type 0} (v : T) (r : Result T RollError) (s a : DiskState) (sound 
   after size db w TooLarge b x = (x.0, bytes_before b x.1)
   after size db w PageSize b x = (x.0, λ tears. x.1 (tears_before w tears), x.2, bytes_before b x.3)
   after size db w NoMemory b x = bytes_before b x
-  after size db w Device b x = (let goes : Later Nothing s a = sync_later Device Log r s a sound step in refusal_after s a b goes.refused x)
+  after size db w Device b x = (let goes : Later (InFile Log) s a = sync_later Device Log r s a refl sound step in refusal_after s a b goes.refused x)
   after size db w _ b x = absurd x
 
   files_after : {U : Type 0} (size : ℕ) (db w : List ℕ) (q : Result U RollError) (b : DiskState) → FilesAnswer size db w q a b → FilesAnswer size db w q s b

@@ -1,10 +1,10 @@
 -- What the steps of a commit promise one another (fileformat2, 3; segments are own).
-use Rattle.std.specs.Prelude.{◌≡◌, ◌≢◌, ◌⊎◌, ℕ, ◌<◌, ◌≤◌, false, Result, Ok, Err, List, [], length, take, get_or, Some, None, OnOk}
+use Rattle.std.specs.Prelude.{◌≡◌, ◌≢◌, ◌⊎◌, ℕ, ◌*◌, ◌<◌, ◌≤◌, false, Result, Ok, Err, List, [], length, take, get_or, Some, None, OnOk}
 use Rattle.std.specs.List.{All, Contains}
 use Rattle.std.specs.Borrow.{Bor}
 use Rattle.sqval.specs.Bytes.{AreBytes}
 use Rattle.sqval.specs.Database.{Database, Pages, supplied}
-use Rattle.sqval.specs.CommitFaults.{first_true, page_faults}
+use Rattle.sqval.specs.CommitFaults.{most_bytes, first_true, page_faults}
 use Rattle.sqval.specs.JudgedPages.{lent}
 use Rattle.crashdisk.specs.State.{IsImage}
 use Rattle.crashdisk.specs.Call.{DiskState}
@@ -69,6 +69,14 @@ pub record AreChanges (pages : Pages) (old_size size : ℕ) (changes : List Chan
   pub cut : (i : ℕ) → i < length changes → (change_at changes i).content ≡ None → size < (change_at changes i).page
   pub all : (p : ℕ) → 1 ≤ p → p ≤ old_size → (supplied pages p ≢ None) ⊎ (size < p) → (i : ℕ) × (i < length changes) × ((change_at changes i).page ≡ p)
   pub count : length changes ≡ recorded pages old_size size
+
+-- pages of this size, each within the limit
+abbrev pub ArePlaced : (size : ℕ) → List (ℕ × Bor (List ℕ)) → Type 0
+ArePlaced size pages = All (λ x. (length x.1.now ≡ size) × (x.0 * size ≤ most_bytes)) pages
+
+-- changes of pages of this size within the limit
+abbrev pub AreWithin : (size : ℕ) → List Change → Type 0
+AreWithin size changes = (i : ℕ) → i < length changes → (change_at changes i).page * size ≤ most_bytes
 
 -- a commit of these pages isn't refused, and there is memory for it
 pub record IsReady (pages : List (ℕ × Bor (List ℕ))) (size nonces : ℕ) (core : Core) : Type 0 where

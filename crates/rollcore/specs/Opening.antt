@@ -9,9 +9,9 @@ use Rattle.crashdisk.specs.Call.{DiskState, ArePresent, Writes, Syncs}
 use Rattle.crashdisk.specs.declared.file.File.TheVariants.{Log}
 use Rattle.crashdisk.specs.declared.error.DiskError.{DiskError}
 use Rattle.rollcore.specs.Replaying.{TearsJournal, IsTooLarge, IsRolled, Agrees}
-use Rattle.crashdisk.specs.Keeps.{HadRefusal, KeepsBytes, IsLogDown, Still, TearsPages, Later}
+use Rattle.crashdisk.specs.Keeps.{HadRefusal, KeepsBytes, IsLogDown, Still, TearsPages}
 use Rattle.sqval.specs.Answers.{Files}
-use Rattle.rollcore.specs.Changes.{MayChange}
+use Rattle.rollcore.specs.Changes.{MayRecover, Asks}
 use Rattle.rollcore.specs.Alone.{Show}
 use Rattle.rollcore.specs.Machine.{State, at, last}
 use Rattle.rollcore.specs.Fits.{MayBeRead, ShowsHistory, NamesSectors, Rests}
@@ -84,8 +84,8 @@ pub record IsRecovered (past : State) (found : Files) (pages : ℕ) (s : DiskSta
 
 -- what the recovery of an opening answers, and what it leaves
 abbrev pub RecoveredAt : State → Files → Result ℕ RollError → (old new : DiskState) → Type 0
-RecoveredAt past found (Ok n) old new = Later (MayChange past.page_size old.sector) old new × IsRecovered past found n new
-RecoveredAt past found (Err e) old new = Later (MayChange past.page_size old.sector) old new × MayRefuse e old new × ShowsHistory past.page_size past.history past.floor new × NamesSectors new
+RecoveredAt past found (Ok n) old new = Asks (MayRecover past.page_size) (Ok n) old new × IsRecovered past found n new
+RecoveredAt past found (Err e) old new = Asks {T = ℕ} (MayRecover past.page_size) (Err e) old new × MayRefuse e old new × ShowsHistory past.page_size past.history past.floor new × NamesSectors new
 
 -- what an open core holds
 pub record IsNewCore (page_bytes pages sector : ℕ) (core : Core) : Type 0 where

@@ -5,12 +5,12 @@ ghost use Rattle.sqval.specs.Database.{Database, apply};
 ghost use Rattle.sqval.specs.Held.{IsHeld};
 ghost use Rattle.sqval.specs.JudgedPages.{lent};
 ghost use Rattle.sqval.specs.Answers.{Done};
-ghost use Rattle.crashdisk.specs.Keeps.{Suits, Later};
+ghost use Rattle.crashdisk.specs.Keeps.{Suits};
 ghost use Rattle.rollcore.specs.Machine.{State, Commits, segments_of};
 ghost use Rattle.rollcore.specs.Journaling.{sizes, parts_of};
 ghost use Rattle.rollcore.specs.Segments.{pages_of};
 ghost use Rattle.rollcore.specs.Fits.{Rests, FitsCore, StepsTo, Fits, Steps, answered};
-ghost use Rattle.rollcore.specs.Changes.{MayChange};
+ghost use Rattle.rollcore.specs.Changes.{MayCommit, Asks};
 ghost use Rattle.rollcore.specs.Commits.{KeepsCore, IsReady, PagesJudged, PrepareAnswer, PutAnswer, EndAnswer, LeavesParts, TakesNonces, ClosesOnDevice};
 
 use crate::changes::{count_records, list_changes};
@@ -62,8 +62,8 @@ fn put_commit<D: Disk>(
     requires { IsReady pages.now size (length nonces.now) core.old }
     ensures word { D.keeps_word disk.old ↔ D.keeps_word disk.new }
     ensures device { IfErr result (λ e. e ≡ RollError.Device) }
-    ensures goes { D.keeps_word disk.old → length core.old.header.items ≡ (D.state disk.old).sector
-        → Later (MayChange core.old.page_size (D.state disk.old).sector) (D.state disk.old) (D.state disk.new) }
+    ensures asks { D.keeps_word disk.old → length core.old.header.items ≡ (D.state disk.old).sector
+        → Asks (MayCommit core.old.page_size (D.state disk.old).sector) result (D.state disk.old) (D.state disk.new) }
     ensures keeps { KeepsCore core.old core.new }
     ensures put { D.keeps_word disk.old → (d : Database) → Suits core.old.page_size (D.state disk.old) → IsHeld core.old.page_size d
         → length d ≡ core.old.size → length core.old.header.items ≡ (D.state disk.old).sector → Rests core.old.page_size d (D.state disk.old)

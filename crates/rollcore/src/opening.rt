@@ -7,8 +7,8 @@ ghost use Rattle.sqval.specs.Answers.{Files};
 ghost use Rattle.sqval.specs.Database.{Database};
 ghost use Rattle.sqval.specs.Held.{IsHeld};
 ghost use Rattle.rollcore.specs.Machine.{State};
-ghost use Rattle.crashdisk.specs.Keeps.{Suits, HadRefusal, IsLogDown, Still, SyncStep, Later};
-ghost use Rattle.rollcore.specs.Changes.{MayChange};
+ghost use Rattle.crashdisk.specs.Keeps.{Suits, HadRefusal, IsLogDown, Still, SyncStep, TellsRefusal};
+ghost use Rattle.rollcore.specs.Changes.{MayRecover, Asks};
 ghost use Rattle.rollcore.specs.Plans.{IsPlan};
 ghost use Rattle.rollcore.specs.Replaying.{Agrees};
 ghost use Rattle.rollcore.specs.Steps.{torn_sector};
@@ -35,6 +35,7 @@ fn count_pages<D: Disk>(disk: &mut D, page_size: PageSize) -> Result<u32, RollEr
     ensures count { D.keeps_word disk.old → IsSoundDisk (D.state disk.old)
         → CountAnswer page_size (D.state disk.old).db.len result (D.state disk.old) (D.state disk.new) }
     ensures few { IfOk result (λ n. n * page_size ≤ 1073741824) }
+    ensures told { D.keeps_word disk.old → TellsRefusal RollError.Device result (D.state disk.old) (D.state disk.new) }
 {
     let long = disk.len(File::Db)?;
     let size = u64::from(page_size.get());
@@ -64,6 +65,7 @@ pub(crate) fn break_magic<D: Disk>(disk: &mut D, at: u64) -> Result<bool, RollEr
     ensures word { D.keeps_word disk.old ↔ D.keeps_word disk.new }
     ensures device { IfErr result (λ e. e ≡ RollError.Device) }
     ensures steps { D.keeps_word disk.old → IsSoundDisk (D.state disk.old) → BreakSteps at result (D.state disk.old) (D.state disk.new) }
+    ensures told { D.keeps_word disk.old → TellsRefusal RollError.Device result (D.state disk.old) (D.state disk.new) }
 {
     let mut front = [0; 8];
     disk.read_at(File::Log, at, &mut front)?;
@@ -87,8 +89,7 @@ pub(crate) fn settle_log<D: Disk>(disk: &mut D) -> Result<(), RollError>
 /// Leaves no magic at the front of a log that isn't hot, so that no later write makes it hot.
 fn break_front<D: Disk>(disk: &mut D) -> Result<(), RollError>
     ensures word { D.keeps_word disk.old ↔ D.keeps_word disk.new }
-    ensures goes { D.keeps_word disk.old → IsSoundDisk (D.state disk.old) → (size sector : ℕ)
-        → Later (MayChange size sector) (D.state disk.old) (D.state disk.new) }
+    ensures asks { D.keeps_word disk.old → (size : ℕ) → Asks (MayRecover size) result (D.state disk.old) (D.state disk.new) }
     ensures file { D.keeps_word disk.old → IsSoundDisk (D.state disk.old) → (D.state disk.new).db ≡ (D.state disk.old).db }
     ensures front { D.keeps_word disk.old → IsSoundDisk (D.state disk.old) → IsSectorSize (D.state disk.old).sector
         → (w : List ℕ) → IsLogDown (D.state disk.old) w → (IsHot w → ⊥) → FrontAnswer w result (D.state disk.old) (D.state disk.new) }
@@ -108,7 +109,7 @@ fn recover_synced<D: Disk>(
     page_size: PageSize,
 ) -> Result<u32, RollError>
     ensures word { D.keeps_word disk.old ↔ D.keeps_word disk.new }
-    ensures goes { D.keeps_word disk.old → (size sector : ℕ) → Later (MayChange size sector) (D.state disk.old) (D.state disk.new) }
+    ensures asks { D.keeps_word disk.old → Asks (MayRecover page_size) result (D.state disk.old) (D.state disk.new) }
     ensures recovered { D.keeps_word disk.old → (w : List ℕ) (d : Database) → Suits page_size (D.state disk.old) → IsHeld page_size d
         → IsLogDown (D.state disk.old) w → ShowsOne page_size d (D.state disk.old) → RecoverAnswer page_size d result (D.state disk.old) (D.state disk.new) }
     ensures agrees { D.keeps_word disk.old → Agrees (D.state disk.old) (D.state disk.new) }

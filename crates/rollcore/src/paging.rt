@@ -6,7 +6,7 @@ ghost use Rattle.sqval.specs.Answers.{Page};
 ghost use Rattle.rollcore.specs.Machine.{State, Reads};
 ghost use Rattle.rollcore.specs.Fits.{Fits, Steps, answered};
 ghost use Rattle.rollcore.specs.Paging.{ReadJudged, ReadAnswers};
-ghost use Rattle.crashdisk.specs.Keeps.{PlaceAnswer, LooksOnce};
+ghost use Rattle.crashdisk.specs.Keeps.{PlaceAnswer, LooksOnce, TellsRefusal};
 
 use crate::error::RollError;
 use crate::roll::Roll;
@@ -51,6 +51,7 @@ pub(crate) fn read_place<D: Disk>(
     ensures device { IfErr result (λ e. e ≡ RollError.Device) }
     ensures place { D.keeps_word disk.old → IsSoundDisk (D.state disk.old) → PlaceAnswer RollError.Device file at out.new result (D.state disk.old) (D.state disk.new) }
     ensures looks { D.keeps_word disk.old → LooksOnce (D.state disk.old) (D.state disk.new) }
+    ensures told { D.keeps_word disk.old → TellsRefusal RollError.Device result (D.state disk.old) (D.state disk.new) }
 {
     disk.read_at(file, at, out)?;
     Ok(())

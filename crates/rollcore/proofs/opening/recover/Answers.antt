@@ -18,7 +18,7 @@ pub returns-clause-recovered : goal.returns-clause-recovered
 returns-clause-recovered g c = λ word past found are same fits.
     let next = c.settle_log.ensures.word.0 word in
     settled past found (g.D.Disk.state c.args.disk.now) fits are _ c.settle_log.result (g.D.Disk.state c.settle_log.new.disk) c.in_ok-settle_log.was (c.settle_log.ensures.state word) c.args.page_size same
-    c.recover_synced.result (g.D.Disk.state c.recover_synced.new.disk) (c.recover_synced.ensures.goes next past.page_size (g.D.Disk.state c.args.disk.now).sector) (λ d. c.recover_synced.ensures.recovered next found.log d)
+    c.recover_synced.result (g.D.Disk.state c.recover_synced.new.disk) (c.recover_synced.ensures.asks next) (λ d. c.recover_synced.ensures.recovered next found.log d)
 
 pub returns-in_err-settle_log-clause-agrees : goal.returns-in_err-settle_log-clause-agrees
 returns-in_err-settle_log-clause-agrees g c = λ word sound.

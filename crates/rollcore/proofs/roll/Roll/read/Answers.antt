@@ -16,7 +16,7 @@ pub returns-clause-step : goal.returns-clause-step
 returns-clause-step g c = λ word past fits full.
     read_file past c.args.self.now.core (g.D.Disk.state c.args.self.now.disk) fits c.args.page (length c.args.out.now) full c.in_ok-judge_read.ensures.judged
     (c.from.result * length c.args.out.now) (ap (λ (n : ℕ). n * length c.args.out.now) c.from.ensures) c.read_place.new.out c.read_place.auto.out (g.D.Disk.state c.read_place.new.disk) c.read_place.result
-    (c.read_place.ensures.place word fits.disk.suits.sound)
+    (c.read_place.ensures.told word) (c.read_place.ensures.place word fits.disk.suits.sound)
 
 pub returns-clause-answer : goal.returns-clause-answer
 returns-clause-answer g c = read_answer c.args.self.now.core c.args.page (length c.args.out.now) c.judge_read.result _ c.read_place.result _ _ c.in_ok-judge_read.was c.read_place.ensures.device c.judge_read.ensures.judged
