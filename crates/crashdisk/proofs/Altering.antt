@@ -115,7 +115,7 @@ module _ (f : File) (from to : ℕ) where
     sector = synced.elsewhere.sector;
     tears = synced.elsewhere.tears;
     other = synced.elsewhere.other;
-    calls = one_sync f result mid new synced;
+    calls = one_sync f result mid new refl synced;
     file = file_synced mid.sector mid.tears from to result (of f mid) (of f new) (sound_now old mid so_far) (sound_sync mid.sector result (of f mid) (of f new) (sound_now old mid so_far) synced.file) synced.file;
   })
 

@@ -1,7 +1,7 @@
 -- Calls of a disk, one after another.
 use Rattle.std.proofs.Common.{◌≡◌, inl, inr, ℕ, Bool, true, false, List, [], ◌∷◌, ◌++◌, refl, ◌∙◌, subst}
 use Rattle.std.specs.Prelude.{Result, Ok, Err}
-use Rattle.crashdisk.specs.Call.{DiskState, Elsewhere, Writes, Cuts, Syncs, SinceSync, Looks, with_write, Change, write, set_len, IsCall, GoesThrough, HasCalls}
+use Rattle.crashdisk.specs.Call.{DiskState, Elsewhere, Writes, Cuts, Syncs, SinceSync, Looks, with_write, Change, write, set_len, sync, IsCall, GoesThrough, HasCalls}
 use Rattle.crashdisk.specs.declared.file.File.{File}
 use Rattle.crashdisk.specs.declared.file.File.TheVariants.{Db, Log}
 use Rattle.crashdisk.specs.declared.error.DiskError.{DiskError}
@@ -25,7 +25,8 @@ module _ {May Might : Change → Type 0} (more : (change : Change) → May chang
   wider_call : (a b : DiskState) → IsCall May a b → IsCall Might a b
   wider_call a b (inl is) = inl (is.0, is.1, is.2, is.3, more (write is.0 is.1 is.2) is.4, is.5)
   wider_call a b (inr (inl is)) = inr (inl (is.0, is.1, is.2, more (set_len is.0 is.1) is.3, is.4))
-  wider_call a b (inr (inr other)) = inr (inr other)
+  wider_call a b (inr (inr (inl is))) = inr (inr (inl (is.0, is.1, more (sync is.0) is.2, is.3)))
+  wider_call a b (inr (inr (inr look))) = inr (inr (inr look))
 
   wider_states : (states : List DiskState) (a b : DiskState) → GoesThrough May states a b → GoesThrough Might states a b
   wider_states [] a b same = same
@@ -100,5 +101,5 @@ module _ {T : Type 0} where
   bare_sync f (Err TooLong) a b is = record { elsewhere = bare_place f (Err TooLong) a b is.elsewhere; since = bare_since a.tears f (Err TooLong) a b is.since; settings = is.settings; heeds = is.heeds; within = is.within; file = is.file }
   bare_sync f (Err NoMemory) a b is = record { elsewhere = bare_place f (Err NoMemory) a b is.elsewhere; since = bare_since a.tears f (Err NoMemory) a b is.since; settings = is.settings; heeds = is.heeds; within = is.within; file = is.file }
 
-  pub one_sync : {May : Change → Type 0} (f : File) (r : Result T DiskError) (a b : DiskState) → Syncs f r a b → HasCalls May a b
-  one_sync f r a b is = one a b (inr (inr (inl (f, bare r, bare_sync f r a b is))))
+  pub one_sync : {May : Change → Type 0} (f : File) (r : Result T DiskError) (a b : DiskState) → May (sync f) → Syncs f r a b → HasCalls May a b
+  one_sync f r a b may is = one a b (inr (inr (inl (f, bare r, may, bare_sync f r a b is))))

@@ -8,7 +8,7 @@ use Rattle.crashdisk.specs.State.{Changed, longest}
 use Rattle.crashdisk.specs.Held.{value_of, last_of, before_last, file_by, AreWhole, Touches, put_byte, IsListOf, EachOf, AreRising, Gets, Takes, swapped, is_odd, IsPicked}
 use Rattle.crashdisk.proofs.Each.{find}
 use Rattle.crashdisk.proofs.Changing.{Long, long_append, long_one, long_before, Taken, Left, changed_by, swapped_pushed, taken_one, left_one}
-use Rattle.crashdisk.proofs.Touching.{touched_to}
+use Rattle.crashdisk.proofs.Touching.{touched_there}
 
 -- more sectors of zeros
 pub whole_grown : (sector m : ℕ) (xs : List (List (List ℕ))) → AreWhole sector xs → AreWhole sector (xs ++ replicate m (replicate sector 0 ∷ []))
@@ -54,12 +54,12 @@ room_grown sector a n end positive room within le = elim (cases_lt a (end / sect
     above : end / sector + 1 ≤ a → n ≤ a
     above ge = omega arith
 
--- the touched sectors are there
-pub all_there : (sector from to end len count : ℕ) (xs : List (List (List ℕ))) (list : List ℕ) → 0 < sector → to ≤ max end len → max end len / sector + 1 ≤ count
-    → IsListOf (Touches sector (file_by sector xs len 0 0) from to end) list → AreRising count list
-all_there sector from to end len count xs list positive fits enough all = record {
+-- each touched sector is held
+pub all_there : (sector from to end len : ℕ) (xs : List (List (List ℕ))) (list : List ℕ) → 0 < sector → (from < to → to / sector < length xs)
+    → IsListOf (Touches sector (file_by sector xs len 0 0) from to end) list → AreRising (length xs) list
+all_there sector from to end len xs list positive there all = record {
   rising = all.rising;
-  below = λ i lt. omega (arith, enough, touched_to sector from to end len xs positive (get_or list i 0) (max end len) (λ l. omega arith) (λ l. omega arith) fits (all.touched i lt));
+  below = λ i lt. touched_there sector from to end len xs positive (get_or list i 0) there (all.touched i lt);
 }
 
 module _ (sector from keep : ℕ) (bytes list : List ℕ) (touches : ℕ → Type 0) (xs mid : List (List (List ℕ))) (whole : AreWhole sector xs) (all : IsListOf touches list) (rising : AreRising (length xs) list)

@@ -2,7 +2,7 @@
 use Rattle.std.proofs.Common.{◌≡◌, ℕ, ◌+◌, ◌<◌, List, length, get_or, refl, sym, ◌∙◌, subst, arith}
 use Rattle.std.specs.Prelude.{Result, Ok, Err, IsErr}
 use Rattle.crashdisk.specs.State.{byte, IsSettled}
-use Rattle.crashdisk.specs.Call.{DiskState, IsSoundDisk, of, ArePresent, Elsewhere, Writes, Cuts, Syncs, Looks, Change, write, set_len, HasCalls, InFile}
+use Rattle.crashdisk.specs.Call.{DiskState, IsSoundDisk, of, ArePresent, Elsewhere, Writes, Cuts, Syncs, Looks, Change, write, set_len, sync, HasCalls, InFile}
 use Rattle.crashdisk.specs.Keeps.{Still, KeepsLog, Later, HadRefusal, Told, SyncStep, PlaceAnswer}
 use Rattle.crashdisk.specs.declared.file.File.{File}
 use Rattle.crashdisk.specs.declared.file.File.TheVariants.{Db}
@@ -29,8 +29,8 @@ module _ {May : Change → Type 0} where
   later_by : {T : Type 0} (f : File) (r : Result T DiskError) (a b : DiskState) → IsSoundDisk a → Elsewhere f r a b → HasCalls May a b → IsSoundDisk b → Later May a b
   later_by f r a b sound elsewhere calls after = record { sector = elsewhere.sector; tears = elsewhere.tears; refused = omega (arith, counted_grows r a.refused sound.refused, elsewhere.refused); sound = after; calls = calls }
 
-  pub later_sync : {T : Type 0} (f : File) (r : Result T DiskError) (a b : DiskState) → IsSoundDisk a → Syncs f r a b → Later May a b
-  later_sync f r a b sound synced = later_by f r a b sound synced.elsewhere (one_sync f r a b synced) (sound_syncs f r a b sound synced)
+  pub later_sync : {T : Type 0} (f : File) (r : Result T DiskError) (a b : DiskState) → May (sync f) → IsSoundDisk a → Syncs f r a b → Later May a b
+  later_sync f r a b may sound synced = later_by f r a b sound synced.elsewhere (one_sync f r a b may synced) (sound_syncs f r a b sound synced)
 
   pub later_write : {T : Type 0} (f : File) (at : ℕ) (bytes : List ℕ) (r : Result T DiskError) (a b : DiskState) → May (write f at bytes) → IsSoundDisk a → Writes f at bytes r a b → Later May a b
   later_write f at bytes r a b may sound wrote = later_by f r a b sound wrote.elsewhere (one_write f at bytes r a b may wrote) (sound_writes f at bytes r a b sound wrote)
@@ -66,8 +66,8 @@ module _ {T E : Type 0} (device : E) where
   pub told_refused : (called : Result T DiskError) (r : Result T E) (x : DiskError) → called ≡ Err x → r ≡ Err device → Told device called r
   told_refused called r x is same = subst (λ (q : Result T E). Told device called q) (sym same) (subst (λ (q : Result T DiskError). Told device q (Err device)) (sym is) refl)
 
-  pub sync_later : {May : Change → Type 0} (f : File) (r : Result T E) (a b : DiskState) → IsSoundDisk a → SyncStep device f r a b → Later May a b
-  sync_later f r a b sound step = later_sync f step.0 a b sound step.2
+  pub sync_later : {May : Change → Type 0} (f : File) (r : Result T E) (a b : DiskState) → May (sync f) → IsSoundDisk a → SyncStep device f r a b → Later May a b
+  sync_later f r a b may sound step = later_sync f step.0 a b may sound step.2
 
   pub sync_refused : (f : File) (r : Result T E) (e : E) (a b : DiskState) → IsSoundDisk a → r ≡ Err e → SyncStep device f r a b → (e ≡ device) × HadRefusal a b
   sync_refused f r e a b sound is step =

@@ -7,6 +7,7 @@ pub mod Each
 pub mod Filling
 pub mod Fixed
 pub mod Images
+pub mod ImagesOfCalls
 pub mod Judging
 pub mod Keeping
 pub mod Leaving

@@ -14,7 +14,8 @@ use Rattle.crashdisk.specs.Solid.{is_sector_size}
 use Rattle.crashdisk.specs.Choice.{Naming, or_else, last_torn, torn_here, byte_by, listed, image_of, CanBeSaid, EachImageIsNamed}
 use Rattle.crashdisk.proofs.Places.{inside, place_in, sector_le}
 use Rattle.crashdisk.proofs.Leaving.{image_at, image_len}
-use Rattle.crashdisk.proofs.Solid.{size_positive, size_least}
+use Rattle.crashdisk.specs.SoundModel.{size_positive}
+use Rattle.crashdisk.proofs.Solid.{size_least}
 
 module _ (sector : ℕ) (tears : Bool) (s : FileState) (c : List ℕ) (positive : 0 < sector) (image : IsImage sector tears s c) where
   -- the number of the value that sector k has

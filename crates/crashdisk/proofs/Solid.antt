@@ -1,10 +1,10 @@
--- A modelled file is sound exactly where it is solid.
+-- What is sound is solid, and the sizes of a sector.
 use Rattle.std.proofs.Common.{◌≡◌, inl, inr, ℕ, ◌^◌, ◌<◌, ◌≤◌, IsTrue, refl, ◌∙◌, arith}
 use Rattle.std.proofs.lemmas.Bool.{cases_eq}
 use Rattle.std.proofs.lemmas.Bool.Decides.{nat_tests}
 use Rattle.crashdisk.specs.State.{FileState, IsSound, IsSectorSize}
 use Rattle.crashdisk.specs.Solid.{IsSolid, is_sector_size}
-use Rattle.crashdisk.proofs.Places.{meets_range, range_meets}
+use Rattle.crashdisk.proofs.Places.{meets_range}
 
 module _ (sector : ℕ) (s : FileState) (positive : 0 < sector) where
   pub solid : IsSound sector s → IsSolid sector s
@@ -19,22 +19,6 @@ module _ (sector : ℕ) (s : FileState) (positive : 0 < sector) where
     is_byte = sound.is_byte;
     earlier_is_byte = sound.earlier_is_byte;
   }
-
-  pub sound : IsSolid sector s → IsSound sector s
-  sound is = record {
-    least = is.least;
-    greatest = is.greatest;
-    within = is.within;
-    touched = λ k some. let first = is.touched k some in range_meets sector 0 s.greatest k positive (omega (arith, first)) (omega arith) first;
-    present_end = is.present_end;
-    earlier_end = is.earlier_end;
-    stale = is.stale;
-    is_byte = is.is_byte;
-    earlier_is_byte = is.earlier_is_byte;
-  }
-
-pub size_positive : (n : ℕ) → IsTrue (is_sector_size n) → (0 < n) × (n < 2 ^ 17)
-size_positive n is = (grind (arith, nat_tests), grind (arith, nat_tests))
 
 pub size_is : (n : ℕ) → IsTrue (is_sector_size n) → IsSectorSize n
 size_is n is = one 512 9 (omega arith) (omega arith) refl (λ a. one 1024 10 (omega arith) (omega arith) refl (λ b. one 2048 11 (omega arith) (omega arith) refl (λ d. one 4096 12 (omega arith) (omega arith) refl

@@ -106,3 +106,11 @@ module _ (sector from to end len : ℕ) (sectors : List (List (List ℕ))) (posi
   pub touched_to : (k place : ℕ) → (len < end → end ≤ place) → (end ≤ len → to ≤ place) → to ≤ max end len → Touches sector (file_by sector sectors len 0 0) from to end k → k < place / sector + 1
   touched_to k place a b c (inl meets) = omega (arith, sector_le sector meets.0 place positive (⊎_elim (λ lt. omega (arith, a lt, c, meets.2)) (λ le. omega (arith, b le, meets.2)) (cases_lt len end)), meets.3)
   touched_to k place a b c (inr stale) = omega (arith, sector_le sector stale.1.0 place positive (omega (arith, a stale.0, stale.1.2)), stale.1.3)
+
+  -- each is held where those of the range are
+  pub touched_there : (k : ℕ) → (from < to → to / sector < length sectors) → Touches sector (file_by sector sectors len 0 0) from to end k → k < length sectors
+  touched_there k there (inl meets) = omega (arith, sector_le sector meets.0 to positive (omega (arith, meets.2)), meets.3, there (omega (arith, meets.1, meets.2)))
+  touched_there k there (inr stale) = ⊎_elim
+      (λ lt. lt)
+      (λ past. absurd (none_past sector k len sectors past stale.2))
+      (cases_lt k (length sectors))

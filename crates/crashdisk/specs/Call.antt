@@ -98,7 +98,7 @@ pub record Writes {T : Type 0} (f : File) (at : ℕ) (bytes : List ℕ) (result 
   pub handed : new.handed ≡ with_write old.tears f result at bytes old.handed
   pub are_bytes : (i : ℕ) → get_or bytes i 0 < 256
   pub settings : new.settings ≡ past_call old.settings
-  pub heeds : Heeds (stops_call old.settings.stops) (fails_call old.settings.stops) result
+  pub heeds : Heeds old.settings.scripted (stops_call old.settings.stops) (fails_call old.settings.stops) result
   pub within : EndsWithin result (at + length bytes)
   pub file : ChangedBy old.sector (WriteTouches old.sector (of f old) at bytes) (written (of f old) at bytes) (max (of f old).len (at + length bytes)) result (of f old) (of f new)
 
@@ -108,7 +108,7 @@ pub record Cuts {T : Type 0} (f : File) (n : ℕ) (result : Result T DiskError) 
   pub kept : new.kept ≡ old.kept
   pub handed : new.handed ≡ old.handed
   pub settings : new.settings ≡ past_call old.settings
-  pub heeds : Heeds (stops_call old.settings.stops) (fails_call old.settings.stops) result
+  pub heeds : Heeds old.settings.scripted (stops_call old.settings.stops) (fails_call old.settings.stops) result
   pub within : EndsWithin result n
   pub file : ChangedBy old.sector (CutTouches old.sector (of f old) n) (cut_to (of f old) n) n result (of f old) (of f new)
 
@@ -117,7 +117,7 @@ pub record Syncs {T : Type 0} (f : File) (result : Result T DiskError) (old new 
   pub elsewhere : Elsewhere f result old new
   pub since : SinceSync old.tears f result old new
   pub settings : new.settings ≡ past_sync old.settings
-  pub heeds : Heeds (stops_sync old.settings.stops) (fails_call old.settings.stops) result
+  pub heeds : Heeds old.settings.scripted (stops_sync old.settings.stops) (fails_call old.settings.stops) result
   pub within : EndsWithin result 0
   pub file : SyncedBy old.sector result (of f old) (of f new)
 
@@ -132,18 +132,19 @@ pub record Looks {T : Type 0} (end : ℕ) (result : Result T DiskError) (old new
   pub kept : new.kept ≡ old.kept
   pub handed : new.handed ≡ old.handed
   pub settings : new.settings ≡ past_call old.settings
-  pub heeds : Heeds (stops_call old.settings.stops) (fails_call old.settings.stops) result
+  pub heeds : Heeds old.settings.scripted (stops_call old.settings.stops) (fails_call old.settings.stops) result
 
--- a change that is asked for: these bytes at a place of a file, or another length of a file
+-- what is asked for: these bytes at a place of a file, another length of a file, or a sync of it
 pub data Change : Type 0 where
   write : (f : File) → (at : ℕ) → (bytes : List ℕ) → Change
   set_len : (f : File) → (n : ℕ) → Change
+  sync : (f : File) → Change
 
--- one call of a disk, whatever it answers; what it is to change may be asked for
+-- one call of a disk, whatever it answers; what it asks for may be asked for
 abbrev pub IsCall : (May : Change → Type 0) → (old new : DiskState) → Type 0
 IsCall May old new = ((f : File) × (at : ℕ) × (bytes : List ℕ) × (result : Result (Unit {0}) DiskError) × May (write f at bytes) × Writes f at bytes result old new)
     ⊎ (((f : File) × (n : ℕ) × (result : Result (Unit {0}) DiskError) × May (set_len f n) × Cuts f n result old new)
-    ⊎ (((f : File) × (result : Result (Unit {0}) DiskError) × Syncs f result old new)
+    ⊎ (((f : File) × (result : Result (Unit {0}) DiskError) × May (sync f) × Syncs f result old new)
     ⊎ ((end : ℕ) × (result : Result (Unit {0}) DiskError) × Looks end result old new)))
 
 -- from state to state of a disk by one call each
@@ -160,10 +161,11 @@ pub record HasCalls (May : Change → Type 0) (old new : DiskState) : Type 0 whe
 abbrev pub Nothing : Change → Type 0
 Nothing change = ⊥
 
--- any change of one file
+-- any change of one file, and its sync
 abbrev pub InFile : File → Change → Type 0
 InFile f (write g at bytes) = g ≡ f
 InFile f (set_len g n) = g ≡ f
+InFile f (sync g) = g ≡ f
 
 -- what is kept while nothing of the log is unsynced
 abbrev pub kept_of : Bool → List ℕ → List ℕ

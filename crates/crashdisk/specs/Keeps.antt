@@ -72,6 +72,10 @@ HadRefusal old new = (old.refused < new.refused) ⊎ (new.refused ≡ 2 ^ 64 - 1
 
 -- ---- What is told of a call.
 
+-- a call of the disk that was refused is told: the answer is the error `device`
+abbrev pub TellsRefusal : {T E : Type 0} → (device : E) → Result T E → (old new : DiskState) → Type 0
+TellsRefusal device result old new = old.refused < new.refused → result ≡ Err device
+
 -- a refusal of a call of the disk is answered by the error `device`
 abbrev pub Told : {T E : Type 0} → (device : E) → Result T DiskError → Result T E → Type 0
 Told device (Ok _) (Ok _) = Unit {0}

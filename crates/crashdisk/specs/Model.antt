@@ -12,7 +12,7 @@ use Rattle.crashdisk.specs.declared.error.DiskError.TheVariants.{Failed}
 
 -- what is set of it
 abbrev pub settings_of : ModelDisk → Settings
-settings_of disk = record { stops = disk.stops; pick = disk.part.pick.items; new_len = disk.part.new_len }
+settings_of disk = record { scripted = true; stops = disk.stops; pick = disk.part.pick.items; new_len = disk.part.new_len }
 
 -- what it lists
 abbrev pub state_of : ModelDisk → DiskState

@@ -36,9 +36,10 @@ after_call stops = record { stopped = stops_call stops; calls = one_less stops.c
 abbrev pub after_sync : Stops → Stops
 after_sync stops = record { stopped = stops_sync stops; calls = one_less stops.calls; syncs = stops.syncs - 1; fails = stops.fails - 1 }
 
--- What is set of a disk for the calls to come: its stops, and what the one that fails leaves. Of a real disk nothing is, and
--- that stays so.
+-- What is set of a disk for the calls to come: whether it is a modelled one, of which a call is Stopped or Failed only where
+-- that is set; its stops, and what the call that fails leaves. Of a real disk nothing is set, and that stays so.
 pub record Settings : Type 0 where
+  pub scripted : Bool
   pub stops : Stops
   pub pick : List ℕ
   pub new_len : Bool
@@ -50,13 +51,13 @@ past_call settings = record settings { stops = after_call settings.stops }
 abbrev pub past_sync : Settings → Settings
 past_sync settings = record settings { stops = after_sync settings.stops }
 
--- what a call answers that is to stop, or to fail: Stopped, or no Ok
-abbrev pub Heeds : {T : Type 0} → (stopped fails : Bool) → Result T DiskError → Type 0
-Heeds stopped fails (Ok _) = (stopped ≡ false) × (fails ≡ false)
-Heeds stopped fails (Err Stopped) = Unit {0}
-Heeds stopped fails (Err TooLong) = stopped ≡ false
-Heeds stopped fails (Err NoMemory) = stopped ≡ false
-Heeds stopped fails (Err Failed) = stopped ≡ false
+-- A call that is to stop answers Stopped, and one that is to fail no Ok; of a modelled disk no other call is Stopped or Failed.
+abbrev pub Heeds : {T : Type 0} → (scripted stopped fails : Bool) → Result T DiskError → Type 0
+Heeds scripted stopped fails (Ok _) = (stopped ≡ false) × (fails ≡ false)
+Heeds scripted stopped fails (Err Stopped) = scripted ≡ true → stopped ≡ true
+Heeds scripted stopped fails (Err TooLong) = stopped ≡ false
+Heeds scripted stopped fails (Err NoMemory) = stopped ≡ false
+Heeds scripted stopped fails (Err Failed) = (stopped ≡ false) × (scripted ≡ true → fails ≡ true)
 
 -- Stopped is answered exactly where a call is stopped; one that isn't fails exactly where it is the one to fail, unless it is
 -- refused for its place, or for want of memory where it takes some.

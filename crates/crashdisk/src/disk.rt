@@ -61,4 +61,7 @@ pub trait Disk {
     fn sync(&mut self, file: File) -> Result<(), DiskError>
         ensures word { keeps_word self.old ↔ keeps_word self.new }
         ensures state { keeps_word self.old → Syncs file result (state self.old) (state self.new) };
+
+    /// A disk that keeps its word is sound.
+    ghost sound: { (disk : Self) → keeps_word disk → IsSoundDisk (state disk) };
 }

@@ -83,7 +83,8 @@ impl Part {
     }
 }
 
-/// A file: for each sector its values, and its length now and at its shortest and longest since the last sync.
+/// A file: for each sector its values, up to the last one that was touched, and its length now and at its shortest and longest
+/// since the last sync. The sectors behind them hold zeros.
 #[derive(Drop)]
 pub(crate) struct Held {
     pub(crate) sectors: Vec<Values>,
@@ -156,7 +157,21 @@ fn is_touched(sectors: &[Values], sector: usize, len: usize, change: &Change<'_>
     len < change.end && meets(sector, 0, change.end, k) && holds_past(sectors, sector, len, k)
 }
 
-/// The sectors that the call touches, rising.
+/// How many sectors are to be held for a change: those up to the last place that it touches.
+fn needed(sector: usize, change: &Change<'_>) -> usize
+    requires positive { 0 < sector }
+    requires small { change.now.to < 2 ^ 60 }
+    ensures enough { change.now.from < change.now.to → change.now.to / sector < result }
+    ensures within { result ≤ change.now.to / sector + 1 }
+{
+    if change.from < change.to {
+        change.to / sector + 1
+    } else {
+        0
+    }
+}
+
+/// The sectors that the call touches, rising. One that isn't held holds zeros.
 fn touched(
     alloc: Global,
     sectors: &[Values],
@@ -168,6 +183,7 @@ fn touched(
     requires small { sector < 2 ^ 17 }
     requires ends { (change.now.end < 2 ^ 60) × (change.now.to < 2 ^ 60) }
     requires fits { change.now.to ≤ max change.now.end len }
+    requires there { change.now.from < change.now.to → change.now.to / sector < length sectors.now }
     requires whole { AreWhole sector sectors.now }
     ensures { IfOk result (λ v. IsListOf (Touches sector (file_by sector sectors.now len 0 0) change.now.from change.now.to change.now.end) v.items) }
 {
@@ -177,7 +193,7 @@ fn touched(
         change.to
     };
     let mut list = Vec::new(alloc);
-    for k in change.from.min(len) / sector..place / sector + 1 {
+    for k in change.from.min(len) / sector..(place / sector + 1).min(sectors.len()) {
         if is_touched(sectors, sector, len, change, k) {
             list.push(k)?;
         }
@@ -271,7 +287,7 @@ impl Held {
     ghost use Rattle.crashdisk.specs.State.{Changed, IsDone, IsSynced, byte, longest};
     ghost use Rattle.crashdisk.specs.Held.{file_of, IsHeld, IsPicked, IsTurned, picked};
 
-    /// The sectors that a change touches, rising; each is there afterwards.
+    /// The sectors that a change touches, rising; each is held afterwards.
     fn prepare(
         &mut self,
         alloc: Global,
@@ -287,8 +303,7 @@ impl Held {
         ensures same { file_of sector self.new ≡ file_of sector self.old }
         ensures list { IfOk result (λ v. IsListOf (Touches sector (file_of sector self.old) change.now.from change.now.to change.now.end) v.items × AreRising (length self.new.sectors.items) v.items) }
     {
-        let end = change.end.max(self.len);
-        grow(&mut self.sectors, alloc, sector, end / sector + 1)?;
+        grow(&mut self.sectors, alloc, sector, needed(sector, change))?;
         touched(alloc, &self.sectors, sector, self.len, change)
     }
 

@@ -193,10 +193,13 @@ impl Disk for ModelDisk {
     ghost use Rattle.crashdisk.specs.State.{byte, written, WriteTouches, cut_to, CutTouches};
     ghost use Rattle.crashdisk.specs.Call.{of, Writes, Cuts, Syncs, Looks};
     ghost use Rattle.crashdisk.specs.Model.{state_of, IsCounted, IsSyncCounted, PickedBy, TurnedBy};
+    ghost use Rattle.crashdisk.specs.SoundModel.{sound_disk};
 
     ghost state = { state_of };
 
     ghost keeps_word = { λ _. Unit {0} };
+
+    ghost sound = { λ disk word. sound_disk (state_of disk) disk.is_size disk.db_solid disk.log_solid disk.counted disk.untorn };
 
     fn sector(&self) -> usize {
         self.sector

@@ -1,8 +1,8 @@
 -- The first byte of a magic is made a zero at the front of a log that isn't hot: no log that may be read is.
-use Rattle.std.proofs.Common.{◌≡◌, inl, inr, ⊎_elim, ℕ, ◌+◌, ◌/◌, ◌<◌, ◌≤◌, max, Bool, true, false, List, ◌∷◌, ◌++◌, length, get_or, take, drop, refl, sym, ◌∙◌, ap, subst, arith, length-drop, length-take, []}
+use Rattle.std.proofs.Common.{◌≡◌, inl, inr, ⊎_elim, ℕ, ◌+◌, ◌-◌, ◌/◌, ◌<◌, ◌≤◌, max, Bool, true, false, List, ◌∷◌, ◌++◌, length, get_or, take, drop, refl, sym, ◌∙◌, ap, subst, arith, length-drop, length-take, []}
 use Rattle.std.specs.Prelude.{Result, Ok, Err}
 use Rattle.std.specs.List.{Contains}
-use Rattle.std.proofs.lemmas.List.{get_or-take, ext_get_or}
+use Rattle.std.proofs.lemmas.List.{get_or-take, get_or-drop, get_or-append_right, ext_get_or}
 use Rattle.std.proofs.lemmas.List.Elements.{Contains-push_cases}
 use Rattle.std.proofs.lemmas.Bool.{cases_lt}
 use Rattle.sqval.specs.Bytes.{word}
@@ -18,13 +18,12 @@ use Rattle.crashdisk.specs.declared.error.DiskError.{DiskError}
 use Rattle.crashdisk.specs.declared.error.DiskError.TheVariants.{Stopped, Failed, TooLong, NoMemory}
 use Rattle.crashdisk.proofs.Fixed.{alters_write, whole_write}
 use Rattle.crashdisk.proofs.Settled.{settled_one}
-use Rattle.crashdisk.proofs.Images.{table}
-use Rattle.crashdisk.proofs.Sound.{written_inside}
-use Rattle.crashdisk.proofs.Steps.{present_list, present_written}
+use Rattle.crashdisk.proofs.Sound.{written_inside, written_outside}
+use Rattle.crashdisk.proofs.Steps.{present_written}
 use Rattle.rollcore.specs.Alone.{AreWhole, Show, ShowsAlone}
 use Rattle.crashdisk.specs.Keeps.{IsLogDown, Still, SyncStep, Later}
 use Rattle.rollcore.specs.Lengths.{ShowsOne}
-use Rattle.rollcore.specs.Opening.{PutsZero, BreakSteps, AreCold, FrontAnswer}
+use Rattle.rollcore.specs.Opening.{PutsZero, BreakSteps, AreCold, LosesMagic, FrontAnswer}
 use Rattle.rollcore.specs.declared.error.RollError.{RollError}
 use Rattle.rollcore.proofs.Journals.{zeros_cold, part_same, word_same}
 use Rattle.crashdisk.proofs.Stills.{still_sound, refusal_after}
@@ -62,6 +61,27 @@ hot_by w v long front hot =
       };
       whole = omega (arith, hot.whole, long, same 20 (omega arith));
     }
+
+-- a log that lost its magic has none
+pub lost_magic : (w v : List ℕ) → LosesMagic w v → HasMagic v 0 → ⊥
+lost_magic w v loses is =
+    let none : HasMagic w 0 → ⊥ = λ had. zero_gate v (ap (λ (l : List ℕ). get_or l 0 0) (loses.broken had)) is in
+    none (subst (λ (l : List ℕ). HasMagic l 0) (loses.same none) is)
+
+-- a log whose first byte was made a zero
+zero_present : (w : List ℕ) (a b : DiskState) → ArePresent a.log w → 8 ≤ length w → (u : Unit {0}) → Writes Log 0 (0 ∷ []) (Ok u) a b → ArePresent b.log (0 ∷ drop 1 w)
+zero_present w a b are some u wrote = record {
+  len = omega (arith, length-drop 1 w, are.len, wrote.file.1.len, some);
+  each = λ i lt. ⊎_elim
+      (λ first. let z : i ≡ 0 = omega arith in
+      ap (λ (j : ℕ). get_or (0 ∷ drop 1 w) j 0) z ∙ sym (ap (λ (j : ℕ). byte b.log j) z ∙ present_written Log 0 (0 ∷ []) a b wrote 0 ∙ written_inside a.log 0 (0 ∷ []) 0 (omega arith) (omega arith)))
+      (λ rest. get_or-append_right (0 ∷ []) (drop 1 w) 1 i 0 refl rest ∙ get_or-drop 1 w (i - 1) 0 ∙ ap (λ (n : ℕ). get_or w n 0) (back i rest)
+      ∙ present_byte a.log w are i ∙ sym (present_written Log 0 (0 ∷ []) a b wrote i ∙ written_outside a.log 0 (0 ∷ []) i (inr (omega arith))))
+      (cases_lt i 1);
+}
+  where
+    back : (i : ℕ) → 1 ≤ i → 1 + (i - 1) ≡ i
+    back i le = omega arith
 
 one_write : (write : ℕ × List ℕ) → Contains ((0, 0 ∷ []) ∷ []) write → (0, 0 ∷ []) ≡ write
 one_write write has = ⊎_elim (λ empty. absurd (omega (arith, empty.1))) (λ e. e) (Contains-push_cases [] (0, 0 ∷ []) write has)
@@ -185,16 +205,16 @@ module _ (w : List ℕ) (a b : DiskState) (sound : IsSoundDisk a) (sectors : IsS
   failed_cold : (e : RollError) → BreakSteps 0 (Err e) a b → AreCold b
   failed_cold e steps = ⊎_elim (λ is. still_cold is) (λ puts. puts_cold puts.0 puts.1) steps.2
 
-  pub front_failed : {T : Type 0} (e : RollError) (r : Result Bool RollError) (q : Result T RollError) → r ≡ Err e → BreakSteps 0 r a b → q ≡ Err e → FrontAnswer q a b
+  pub front_failed : {T : Type 0} (e : RollError) (r : Result Bool RollError) (q : Result T RollError) → r ≡ Err e → BreakSteps 0 r a b → q ≡ Err e → FrontAnswer w q a b
   front_failed {T = T} e r q was steps given =
       let failed = subst (λ (x : Result Bool RollError). BreakSteps 0 x a b) was steps in
-      subst (λ (x : Result T RollError). FrontAnswer x a b) (sym given) (record { cold = failed_cold e failed; done = tt; refused = (failed.0, failed.1) })
+      subst (λ (x : Result T RollError). FrontAnswer w x a b) (sym given) (record { cold = failed_cold e failed; done = tt; refused = (failed.0, failed.1) })
 
   -- no magic stood there
-  pub front_none : (r : Result Bool RollError) → r ≡ Ok false → BreakSteps 0 r a b → FrontAnswer {T = Unit {0}} (Ok tt) a b
+  pub front_none : (r : Result Bool RollError) → r ≡ Ok false → BreakSteps 0 r a b → FrontAnswer {T = Unit {0}} w (Ok tt) a b
   front_none r was steps =
       let none = subst (λ (x : Result Bool RollError). BreakSteps 0 x a b) was steps in
-      record { cold = still_cold none.0; done = (w, still_down none.0, none.1 w (down_present w a down)); refused = tt }
+      record { cold = still_cold none.0; done = (w, still_down none.0, record { broken = λ magic. absurd (none.1 w (down_present w a down) magic); same = λ _. refl }); refused = tt }
 
   -- one stood there, and the log is synced
   module _ (r : Result Bool RollError) (was : r ≡ Ok true) (steps : BreakSteps 0 r a b) (c : DiskState) where
@@ -207,24 +227,27 @@ module _ (w : List ℕ) (a b : DiskState) (sound : IsSoundDisk a) (sectors : IsS
     synced_cold : {T : Type 0} (q : Result T RollError) → SyncStep Device Log q b c → AreCold c
     synced_cold q step v may hot = puts_cold (Ok tt) puts v ((narrows_syncs Log step.0 b c goes.sound step.2).log v may) hot
 
-    pub front_unsynced : {T U : Type 0} (e : RollError) (q : Result T RollError) (x : Result U RollError) → q ≡ Err e → SyncStep Device Log q b c → x ≡ Err e → FrontAnswer x a c
+    pub front_unsynced : {T U : Type 0} (e : RollError) (q : Result T RollError) (x : Result U RollError) → q ≡ Err e → SyncStep Device Log q b c → x ≡ Err e → FrontAnswer w x a c
     front_unsynced {U = U} e q x is step given =
         let refused = sync_refused Device Log q e b c goes.sound is step in
-        subst (λ (y : Result U RollError). FrontAnswer y a c) (sym given) (record { cold = synced_cold q step; done = tt; refused = (refused.0, refusal_after a b c goes.refused refused.1) })
+        subst (λ (y : Result U RollError). FrontAnswer w y a c) (sym given) (record { cold = synced_cold q step; done = tt; refused = (refused.0, refusal_after a b c goes.refused refused.1) })
 
-    there : List ℕ
-    there = table b.log.len (byte b.log)
+    there_magic : HasMagic w 0
+    there_magic = puts.magic w (down_present w a down)
 
-    there_are : ArePresent b.log there
-    unfolding there
-    there_are = present_list b.log
+    there_are : ArePresent b.log (0 ∷ drop 1 w)
+    there_are =
+        let is = puts.still in
+        let are = down_present w puts.mid (down_by w a puts.mid down is.log is.tears is.kept is.handed) in
+        zero_present w puts.mid b are (magic_long w there_magic) tt puts.wrote
 
-    there_zero : get_or there 0 0 ≡ 0
-    there_zero = present_byte b.log there there_are 0 ∙ present_written Log 0 (0 ∷ []) puts.mid b puts.wrote 0 ∙ written_inside puts.mid.log 0 (0 ∷ []) 0 (omega arith) (omega arith)
-
-    pub front_synced : {T : Type 0} (v : T) (q : Result T RollError) → q ≡ Ok v → SyncStep Device Log q b c → FrontAnswer {T = Unit {0}} (Ok tt) a c
+    pub front_synced : {T : Type 0} (v : T) (q : Result T RollError) → q ≡ Ok v → SyncStep Device Log q b c → FrontAnswer {T = Unit {0}} w (Ok tt) a c
     front_synced v q is step = record {
       cold = synced_cold q step;
-      done = (there, sync_down q v there b c goes.sound is step there_are, zero_gate there there_zero);
+      done = (
+        0 ∷ drop 1 w,
+        sync_down q v (0 ∷ drop 1 w) b c goes.sound is step there_are,
+        record { broken = λ _. refl; same = λ none. absurd (none there_magic) },
+      );
       refused = tt;
     }

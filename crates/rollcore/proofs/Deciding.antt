@@ -12,15 +12,15 @@ use Rattle.sqval.specs.Answers.{Done, Refused, Refuses}
 use Rattle.sqval.proofs.Faultless.{IsFaultless, faultless, held_applied}
 use Rattle.sqval.proofs.Supplied.{length-apply}
 use Rattle.crashdisk.specs.Call.{DiskState, HasCalls}
-use Rattle.crashdisk.specs.Keeps.{Suits, HadRefusal, IsSameDisk, Later}
-use Rattle.rollcore.specs.Changes.{MayChange}
+use Rattle.crashdisk.specs.Keeps.{Suits, HadRefusal, IsSameDisk, Later, TellsRefusal}
+use Rattle.rollcore.specs.Changes.{MayChange, MayCommit}
 use Rattle.crashdisk.proofs.Called.{no_calls}
 use Rattle.rollcore.specs.Machine.{State, last, newest, closed, appended, committed, recorded, refusal_of, commit_refusal, Commits}
 use Rattle.rollcore.specs.Refusal.{number_of}
 use Rattle.rollcore.specs.Fits.{ShowsWhole, NamesSectors, Rests, FitsCore, StepsTo, answered}
 use Rattle.rollcore.specs.Commits.{ShowsEither, KeepsCore, AreChanges, AreChanged, PutAnswer, IsReady, Ends, Closes, EndAnswer}
 use Rattle.rollcore.specs.declared.error.RollError.{RollError}
-use Rattle.rollcore.specs.declared.error.RollError.TheVariants.{NoMemory}
+use Rattle.rollcore.specs.declared.error.RollError.TheVariants.{NoMemory, Device}
 use Rattle.rollcore.specs.declared.state.Core.{Core}
 use Rattle.rollcore.proofs.Granting.{granted}
 use Rattle.rollcore.proofs.Listed.{recorded_few}
@@ -74,6 +74,7 @@ module _ {T : Type 0} (past : State) (core mid : Core) (s : DiskState) (fits : F
         next = past;
         same = record { sector = refl; tears = refl; calls = no_calls s };
         refused = omega arith;
+        told = λ lt. absurd (omega arith);
         row = ⊎_elim
             (λ found. subst (λ (x : Option ℕ). Refuses x true (closed (appended past pages size)) s.refused s.refused past (number_of e) past) (sym found) (refl, refl))
             (λ want. subst (λ (x : Option ℕ). Refuses x true (closed (appended past pages size)) s.refused s.refused past (number_of e) past) (sym want.0) (inl (refl, ap number_of want.1, refl)))
@@ -105,7 +106,7 @@ module _ (h : List Database) (d : Database) where
       (cases_lt i (length h))
 
 module _ (past : State) (core mid : Core) (s t : DiskState) (fits : FitsCore past core s) (opened : IsTrue core.is_open) (lended : List (ℕ × Bor (List ℕ))) (size : ℕ) (nonces : List ℕ)
-    (ready : IsReady lended size (length nonces) core) (keeps : KeepsCore core mid) (goes : Later (MayChange core.page_size s.sector) s t) where
+    (ready : IsReady lended size (length nonces) core) (keeps : KeepsCore core mid) (goes : Later (MayCommit core.page_size s.sector) s t) where
   abbrev pub pages : Pages
   pages = lent lended
 
@@ -136,12 +137,12 @@ module _ (past : State) (core mid : Core) (s t : DiskState) (fits : FitsCore pas
   suits : Suits past.page_size t
   suits = suits_go past.page_size s t goes fits.disk.suits
 
-  same_disk : IsSameDisk (MayChange past.page_size s.sector) s t
-  same_disk = record { sector = goes.sector; tears = goes.tears; calls = subst (λ (n : ℕ). HasCalls (MayChange n s.sector) s t) fits.page_size goes.calls }
+  same_disk : IsSameDisk (MayChange (Commits pages size nonces) past.page_size s.sector) s t
+  same_disk = record { sector = goes.sector; tears = goes.tears; calls = subst (λ (n : ℕ). HasCalls (MayCommit n s.sector) s t) fits.page_size goes.calls }
 
   -- it is done
-  done : (then : Core) → Ends size mid then → Rests past.page_size e t → StepsTo past (Commits pages size nonces) Done then s t
-  done then ends rests =
+  done : (s.refused < t.refused → ⊥) → (then : Core) → Ends size mid then → Rests past.page_size e t → StepsTo past (Commits pages size nonces) Done then s t
+  done calm then ends rests =
       let same : newest (committed past pages size) ≡ e = more_last past.history e in
       let here = subst (λ (x : Database). Rests past.page_size x t) (sym same) rests in
       let down : length past.history + 1 ≡ length (past.history ++ e ∷ []) = sym (more_long past.history e) in
@@ -149,6 +150,7 @@ module _ (past : State) (core mid : Core) (s t : DiskState) (fits : FitsCore pas
         next = committed past pages size;
         same = same_disk;
         refused = goes.refused;
+        told = λ lt. absurd (calm lt);
         row = (none, refl);
         fits = record {
           disk = fits_rested (committed past pages size) t suits down all_held here;
@@ -170,6 +172,7 @@ module _ (past : State) (core mid : Core) (s t : DiskState) (fits : FitsCore pas
     next = closed (appended past pages size);
     same = same_disk;
     refused = goes.refused;
+    told = λ lt. refl;
     row = subst (λ (x : Option ℕ). Refuses x true (closed (appended past pages size)) s.refused t.refused past 15 (closed (appended past pages size))) (sym none) (inr (refl, had, refl));
     fits = record {
       disk = record {
@@ -203,10 +206,10 @@ module _ (past : State) (core mid : Core) (s t : DiskState) (fits : FitsCore pas
   pub changed_here : AreChanged pages (length (newest past)) size (pages_of core.changes.items)
   changed_here = are_changed past.page_size (newest past) pages size right core.changes.items (subst (λ (n : ℕ). AreChanges pages n size core.changes.items) count ready.changes)
 
-  pub commit_step : {T : Type 0} (put : Result T RollError) (then : Core) → PutAnswer past.page_size (newest past) e put s t → EndAnswer size put mid then
+  pub commit_step : {T : Type 0} (put : Result T RollError) (then : Core) → TellsRefusal Device put s t → PutAnswer past.page_size (newest past) e put s t → EndAnswer size put mid then
       → StepsTo past (Commits pages size nonces) (answered (λ _. Done) put) then s t
-  commit_step (Ok v) then answer ends = done then ends answer
-  commit_step (Err x) then answer closes = subst (λ (y : RollError). StepsTo past (Commits pages size nonces) (Refused (number_of y)) then s t) (sym answer.0) (stopped then closes answer.1 answer.2 answer.3)
+  commit_step (Ok v) then told answer ends = done (λ lt. let e = told lt in cc) then ends answer
+  commit_step (Err x) then told answer closes = subst (λ (y : RollError). StepsTo past (Commits pages size nonces) (Refused (number_of y)) then s t) (sym answer.0) (stopped then closes answer.1 answer.2 answer.3)
 
   pub put_here : (P : ℕ → Database → Type 0) → ((d : Database) → Suits core.page_size s → IsHeld core.page_size d → length d ≡ core.size → length core.header.items ≡ s.sector → Rests core.page_size d s → P core.page_size d)
       → P past.page_size (newest past)

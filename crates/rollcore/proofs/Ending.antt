@@ -4,13 +4,12 @@ use Rattle.std.specs.Prelude.{Result, Ok, Err}
 use Rattle.std.proofs.lemmas.List.{length-replicate, get_or-replicate, get_or_append_left, get_or-append_right, get_or-drop}
 use Rattle.std.proofs.lemmas.Bool.{cases_lt}
 use Rattle.crashdisk.specs.State.{FileState, IsSettled}
-use Rattle.crashdisk.specs.Call.{DiskState, IsSoundDisk, ArePresent, Writes, Syncs}
+use Rattle.crashdisk.specs.Call.{DiskState, IsSoundDisk, ArePresent, Writes, Syncs, InFile}
 use Rattle.crashdisk.specs.declared.file.File.TheVariants.{Db, Log}
 use Rattle.crashdisk.specs.declared.error.DiskError.{DiskError}
 use Rattle.crashdisk.proofs.Steps.{present_written}
 use Rattle.crashdisk.proofs.Sound.{written_inside, written_outside}
 use Rattle.crashdisk.proofs.Keeping.{sound_writes}
-use Rattle.rollcore.specs.Changes.{MayReplay}
 use Rattle.rollcore.specs.Replaying.{zeroed}
 use Rattle.crashdisk.specs.Keeps.{HadRefusal, IsLogDown, SyncStep, Later}
 use Rattle.rollcore.specs.Steps.{ZeroSteps, EndAnswer}
@@ -18,23 +17,16 @@ use Rattle.rollcore.specs.declared.error.RollError.{RollError}
 use Rattle.rollcore.specs.declared.error.RollError.TheVariants.{Device}
 use Rattle.crashdisk.proofs.Stills.{refusal_after, had_refusal}
 use Rattle.crashdisk.proofs.Down.{present_byte, synced_down}
-use Rattle.crashdisk.proofs.Later.{later_then, later_write, told_err, told_ok, none_ok, sync_later, sync_refused, sync_done}
+use Rattle.crashdisk.proofs.Later.{later_write, told_err, told_ok, none_ok, sync_later, sync_refused, sync_done}
 
 module _ {T : Type 0} where
   -- ---- The header is zeroed.
-
-  pub zero_later : (r : Result T RollError) (a b : DiskState) → IsSoundDisk a → ZeroSteps r a b → Later MayReplay a b
-  zero_later r a b sound steps = ⊎_elim
-      (λ failed. later_write Log 0 (replicate 28 0) failed.0 a b (refl, refl) sound failed.3)
-      (λ done. let mid : Later MayReplay a done.0 = later_write Log 0 (replicate 28 0) (Ok done.1.0) a done.0 (refl, refl) sound done.1.1 in
-      later_then a done.0 b mid (sync_later Device Log r done.0 b mid.sound done.2))
-      steps
 
   pub zero_refused : (r : Result T RollError) (e : RollError) (a b : DiskState) → IsSoundDisk a → r ≡ Err e → ZeroSteps r a b → (e ≡ Device) × HadRefusal a b
   zero_refused r e a b sound is steps = ⊎_elim
       (λ failed. let t = told_err Device failed.0 r e is failed.2 in
       (t.0, had_refusal failed.0 t.1.0 (0 + length {A = ℕ} (replicate 28 0)) a b sound.refused t.1.1 failed.3.within (omega (arith, length-replicate {A = ℕ} 28 0)) failed.3.elsewhere.refused))
-      (λ done. let mid : Later MayReplay a done.0 = later_write Log 0 (replicate 28 0) (Ok done.1.0) a done.0 (refl, refl) sound done.1.1 in
+      (λ done. let mid : Later (InFile Log) a done.0 = later_write Log 0 (replicate 28 0) (Ok done.1.0) a done.0 refl sound done.1.1 in
       let last = sync_refused Device Log r e done.0 b mid.sound is done.2 in (last.0, refusal_after a done.0 b mid.refused last.1))
       steps
 
@@ -82,7 +74,7 @@ module _ {T : Type 0} where
   pub end_done : (r1 r2 : Result T RollError) (v1 v2 : T) (a b c : DiskState) → IsSoundDisk a → r1 ≡ Ok v1 → r2 ≡ Ok v2 → SyncStep Device Db r1 a b → ZeroSteps r2 b c → EndAnswer {T = T} (Ok v2) a c
   unfolding EndAnswer
   end_done r1 r2 v1 v2 a b c sound is1 is2 first second =
-      let at_b : Later MayReplay a b = sync_later Device Db r1 a b sound first in (
+      let at_b : Later (InFile Db) a b = sync_later Device Db r1 a b refl sound first in (
         λ db are. subst (λ (s : FileState). IsSettled s db) (sym (zero_db r2 b c second)) (sync_done Device Db r1 v1 db a b sound is1 first are),
         λ w are enough. zero_done r2 v2 w b c at_b.sound is2 second (subst (λ (s : FileState). ArePresent s w) (sym first.2.elsewhere.other) are) enough,
       )

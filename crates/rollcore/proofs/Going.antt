@@ -1,14 +1,15 @@
 -- What calls of a disk leave as it was.
-use Rattle.std.proofs.Common.{⊎_elim, ℕ, ◌-◌, ◌*◌, List, length, ◌∷◌, refl, sym, subst, []}
+use Rattle.std.proofs.Common.{⊎_elim, ℕ, ◌∷◌, sym, subst, []}
 use Rattle.std.specs.Prelude.{Result, Ok, Err, Bool, true, false}
 use Rattle.crashdisk.specs.State.{IsSectorSize}
-use Rattle.crashdisk.specs.Call.{DiskState, IsSoundDisk, Change, write, InFile}
-use Rattle.crashdisk.specs.declared.file.File.TheVariants.{Db, Log}
+use Rattle.crashdisk.specs.Call.{DiskState, IsSoundDisk, Change, write}
+use Rattle.crashdisk.specs.declared.file.File.TheVariants.{Log}
 use Rattle.crashdisk.specs.declared.error.DiskError.{DiskError}
-use Rattle.crashdisk.specs.Keeps.{Suits, Later}
-use Rattle.rollcore.specs.Segments.{PageStep}
+use Rattle.crashdisk.specs.Keeps.{Suits, Later, TellsRefusal}
+use Rattle.rollcore.specs.Changes.{Asks}
 use Rattle.rollcore.specs.Opening.{PutsZero, BreakSteps}
 use Rattle.rollcore.specs.declared.error.RollError.{RollError}
+use Rattle.rollcore.specs.declared.error.RollError.TheVariants.{Device}
 use Rattle.crashdisk.proofs.Suiting.{suits_by}
 use Rattle.crashdisk.proofs.Later.{later_still, later_then, later_write}
 
@@ -19,9 +20,6 @@ pub suits_go : {May : Change → Type 0} (size : ℕ) (a b : DiskState) → Late
 suits_go size a b goes suits = suits_by size a b suits goes.sound goes.sector goes.tears
 
 module _ {T : Type 0} where
-  pub goes_page : (number : ℕ) (content : List ℕ) (r : Result T RollError) (a b : DiskState) → IsSoundDisk a → PageStep number content r a b → Later (InFile Db) a b
-  goes_page number content r a b sound step = later_write Db ((number - 1) * length content) content step.0 a b refl sound step.2
-
   pub goes_puts : {May : Change → Type 0} (at : ℕ) (r : Result T DiskError) (a b : DiskState) → May (write Log at (0 ∷ [])) → IsSoundDisk a → PutsZero at r a b → Later May a b
   goes_puts at r a b may sound puts =
       let mid = later_still a puts.mid sound puts.still in
@@ -31,3 +29,6 @@ pub goes_broken : {May : Change → Type 0} (at : ℕ) (r : Result Bool RollErro
 goes_broken at (Ok true) a b may sound puts = goes_puts at (Ok tt) a b may sound puts
 goes_broken at (Ok false) a b may sound none = later_still a b sound none.0
 goes_broken at (Err e) a b may sound failed = ⊎_elim (λ is. later_still a b sound is) (λ puts. goes_puts at puts.0 a b may sound puts.1) failed.2
+
+pub asks_broken : {May : Change → Type 0} (at : ℕ) (r : Result Bool RollError) (a b : DiskState) → May (write Log at (0 ∷ [])) → IsSoundDisk a → BreakSteps at r a b → TellsRefusal Device r a b → Asks May r a b
+asks_broken at r a b may sound steps told = record { later = goes_broken at r a b may sound steps; told = told }

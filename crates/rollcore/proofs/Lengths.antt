@@ -1,5 +1,5 @@
 -- How long the file is that may be left, while a journal is replayed into it.
-use Rattle.std.proofs.Common.{◌≡◌, inr, ⊎_elim, ℕ, ◌+◌, ◌*◌, ◌≤◌, max, Bool, true, false, cond, List, ◌∷◌, ◌++◌, length, get_or, replicate, sym, ◌∙◌, ap, subst, arith, []}
+use Rattle.std.proofs.Common.{◌≡◌, inr, ⊎_elim, ℕ, ◌+◌, ◌*◌, ◌≤◌, max, Bool, true, false, cond, List, ◌∷◌, ◌++◌, length, get_or, replicate, sym, ◌∙◌, ap, subst, arith, [], refl}
 use Rattle.std.specs.Prelude.{Result, Ok, Err}
 use Rattle.std.proofs.lemmas.List.{get_or-replicate, get_or_past, length-replicate}
 use Rattle.std.proofs.lemmas.Bool.{cases_lt}
@@ -8,7 +8,7 @@ use Rattle.sqval.specs.Database.{Database}
 use Rattle.sqjournal.specs.Journal.{IsHot}
 use Rattle.sqjournal.specs.Restored.{IsRolledBack}
 use Rattle.crashdisk.specs.State.{FileState, IsImage, IsSound, IsSectorSize, WriteTouches, written, Changed}
-use Rattle.crashdisk.specs.Call.{DiskState, IsSoundDisk, ChangedBy, Writes, Syncs, with_write, Nothing}
+use Rattle.crashdisk.specs.Call.{DiskState, IsSoundDisk, ChangedBy, Writes, Syncs, with_write, InFile}
 use Rattle.crashdisk.proofs.Keeping.{sound_writes}
 use Rattle.crashdisk.specs.declared.file.File.TheVariants.{Db, Log}
 use Rattle.crashdisk.specs.declared.error.DiskError.{DiskError}
@@ -158,7 +158,7 @@ module _ {T : Type 0} (w : List ℕ) (old new : DiskState) (sound : IsSoundDisk 
 pub ends_finished : {T U : Type 0} (w : List ℕ) (old mid new : DiskState) → IsSoundDisk old → IsSectorSize old.sector → IsLogDown old w → IsHot w → IsNamed w old → (v : T) → SyncStep {T = T} Device Db (Ok v) old mid
     → (r : Result U RollError) → ZeroSteps r mid new → EndsBy old.db.len new
 ends_finished {T = T} w old mid new sound sectors down hot names v step r steps =
-    let goes : Later Nothing old mid = sync_later Device Db (Ok v) old mid sound step in
+    let goes : Later (InFile Db) old mid = sync_later Device Db (Ok v) old mid refl sound step in
     ends_zeroed w mid new goes.sound (sectors_go old mid goes sectors) (down_syncs w Db step.0 old mid down step.2) hot (named_by w old mid goes.sector goes.tears names) old.db.len r steps (long_done old mid v step)
 
 -- the pages that a hot journal restores

@@ -1,5 +1,6 @@
 pub mod Journals
 pub mod Asking
+pub mod Told
 pub mod Stills
 pub mod Down
 pub mod Records

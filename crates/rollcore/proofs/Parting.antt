@@ -5,10 +5,11 @@ use Rattle.std.specs.Borrow.{Bor}
 use Rattle.std.specs.List.{Contains}
 use Rattle.std.proofs.lemmas.List.{take_all, take-map, drop-map, length-map, length-replicate, get_or-map, get_or-take, length-take-le, drop-drop}
 use Rattle.std.proofs.lemmas.Bool.{cases_lt}
-use Rattle.std.proofs.Math.Nat.{mul-le-mul_left}
+use Rattle.std.proofs.Math.Nat.{mul-le-mul_left, mul-le-mul_right}
 use Rattle.std.proofs.Math.Seq.{take-add, take-suc}
 use Rattle.sqval.specs.Database.{Database, Pages, apply}
 use Rattle.sqval.specs.Held.{IsJust, IsHeld}
+use Rattle.sqval.specs.CommitFaults.{most_bytes}
 use Rattle.sqval.specs.JudgedPages.{lent}
 use Rattle.sqval.proofs.Faultless.{IsFaultless}
 use Rattle.crashdisk.specs.Call.{DiskState}
@@ -16,7 +17,7 @@ use Rattle.rollcore.specs.Fits.{Rests}
 use Rattle.rollcore.specs.Journaling.{old_pages, sizes, HasParts, parts_of}
 use Rattle.rollcore.specs.Machine.{segments_of, refusal_of}
 use Rattle.crashdisk.specs.Keeps.{Suits}
-use Rattle.rollcore.specs.Commits.{KeepsCore, AreChanges, IsReady, change_at}
+use Rattle.rollcore.specs.Commits.{KeepsCore, AreChanges, ArePlaced, AreWithin, IsReady, change_at}
 use Rattle.rollcore.specs.Segments.{Journaled, SegmentAnswer, Parted, PartAnswer, SegmentsAnswer, ArePut, AreSome, AreFresh, AreTurned, pages_of}
 use Rattle.rollcore.specs.declared.changes.Change.{Change}
 use Rattle.rollcore.specs.declared.error.RollError.{RollError}
@@ -84,6 +85,25 @@ module _ (pages : List (ℕ × Bor (List ℕ))) (n nonces : ℕ) where
   part_short core ready sizes k d lt =
       let full = (granted core.size core.page_size (lent pages) n nonces ready.granted).full k (omega (arith, lt, lent_length pages)) in
       omega (arith, full, ap (λ (l : List ℕ). length l) (lent_at pages k d lt).1, sizes.1)
+
+  -- what is written of the database is within the limit
+  pub ready_placed : (core : Core) → IsReady pages n nonces core → ArePlaced core.page_size pages
+  ready_placed core ready k d lt =
+      let right = granted core.size core.page_size (lent pages) n nonces ready.granted in
+      let below : k < length (lent pages) = omega (arith, lt, lent_length pages) in
+      let here = lent_at pages k d lt in
+      let top : (get_or (lent pages) k (0, [])).0 * core.page_size ≤ n * core.page_size = mul-le-mul_right core.page_size (right.within k below) in
+      let same : (get_or (lent pages) k (0, [])).0 * core.page_size ≡ (get_or pages k d).0 * core.page_size = ap (λ (p : ℕ). p * core.page_size) here.0 in
+      (ap (λ (l : List ℕ). length l) (sym here.1) ∙ right.full k below, omega (arith, top, same, right.bytes))
+
+  pub part_limit : (core : Core) (changes : List Change) → IsReady pages n nonces core → changes ≡ core.changes.items → core.size * core.page_size ≤ most_bytes → (from m : ℕ) → AreWithin core.page_size (take m (drop from changes))
+  part_limit core changes ready same few from m i lt =
+      let are : AreChanges (lent pages) core.size n changes = subst (λ (l : List Change). AreChanges (lent pages) core.size n l) (sym same) ready.changes in
+      let in_range = slice_within changes from m i lt in
+      let at = slice_at changes from m i in_range.0 in
+      let top : (change_at changes (from + i)).page * core.page_size ≤ core.size * core.page_size = mul-le-mul_right core.page_size (are.within (from + i) in_range.1).1 in
+      let page : (change_at (take m (drop from changes)) i).page * core.page_size ≡ (change_at changes (from + i)).page * core.page_size = ap (λ (c : Change). c.page * core.page_size) at in
+      omega (arith, top, few, page)
 
 pub kept_same : (a : Core) → KeepsCore a a
 kept_same a = record { page_size = refl; is_open = refl; size = refl; header_room = refl }

@@ -15,9 +15,9 @@ use Rattle.crashdisk.specs.Call.{DiskState, IsSoundDisk, ArePresent}
 use Rattle.crashdisk.proofs.Images.{table}
 use Rattle.crashdisk.proofs.Steps.{present_list}
 use Rattle.rollcore.specs.Alone.{Show, ShowsAlone}
-use Rattle.crashdisk.specs.Keeps.{Suits, IsLogDown, Still, SyncStep, Later}
-use Rattle.rollcore.specs.Changes.{MayChange}
-use Rattle.rollcore.specs.Plans.{IsBelow, PlanAnswer, ReadAnswer}
+use Rattle.crashdisk.specs.Keeps.{Suits, IsLogDown, Still, SyncStep}
+use Rattle.rollcore.specs.Changes.{MayRecover, Asks}
+use Rattle.rollcore.specs.Plans.{IsBelow, IsSmall, PlanAnswer, ReadAnswer}
 use Rattle.rollcore.specs.Replaying.{zeroed}
 use Rattle.rollcore.specs.Steps.{torn_sector, RolledAnswer}
 use Rattle.sqval.specs.Answers.{Files}
@@ -32,12 +32,13 @@ use Rattle.rollcore.specs.declared.replaying.Replayed.{Replayed}
 use Rattle.rollcore.specs.declared.error.RollError.{RollError}
 use Rattle.rollcore.specs.declared.error.RollError.TheVariants.{TooLarge, PageSize, NoMemory, Device, SectorAbovePage}
 use Rattle.rollcore.proofs.Agreeing.{scanning_begins, scanning_still, scanning_shows}
-use Rattle.rollcore.proofs.Breaking.{zero_gate, cold_one}
+use Rattle.rollcore.proofs.Breaking.{zero_gate, lost_magic, cold_one}
 use Rattle.rollcore.proofs.Down.{shows_by, down_left}
 use Rattle.crashdisk.proofs.Down.{present_image, down_present, down_by, file_syncs}
 use Rattle.rollcore.proofs.Lengths.{may_down, down_read, ends_down, named_by}
 use Rattle.rollcore.proofs.Ending.{sync_down}
-use Rattle.crashdisk.proofs.Later.{sync_refused, later_then, sync_later}
+use Rattle.crashdisk.proofs.Later.{sync_refused}
+use Rattle.rollcore.proofs.Told.{asks_err, asks_step, asks_then}
 use Rattle.rollcore.proofs.Going.{suits_go}
 use Rattle.crashdisk.specs.declared.file.File.TheVariants.{Log}
 use Rattle.rollcore.proofs.Narrowing.{narrows_still, narrows_syncs, ends_narrow, history_narrows, sectors_narrow}
@@ -176,19 +177,19 @@ module _ (size : ℕ) (d : Database) (w : List ℕ) (s : DiskState) (suits : Sui
 
         -- the front of the log has no magic any more
         module _ (c : DiskState) (sound : IsSoundDisk c) (sector : c.sector ≡ b.sector) (tears : c.tears ≡ b.tears) (same : c.db ≡ b.db) where
-          pub unbroken : {T : Type 0} (e : RollError) (r : Result T RollError) (q : Result ℕ RollError) → r ≡ Err e → FrontAnswer r b c → q ≡ Err e → RecoverAnswer size d q s c
+          pub unbroken : {T : Type 0} (e : RollError) (r : Result T RollError) (q : Result ℕ RollError) → r ≡ Err e → FrontAnswer w r b c → q ≡ Err e → RecoverAnswer size d q s c
           unbroken {T = T} e r q was answer given =
-              let front = subst (λ (x : Result T RollError). FrontAnswer x b c) was answer in
+              let front = subst (λ (x : Result T RollError). FrontAnswer w x b c) was answer in
               subst (λ (x : Result ℕ RollError). RecoverAnswer size d x s c) (sym given) (
                 may_after e s b c (omega (arith, is.refused, then.refused)) (inr front.refused),
                 cold_one size d w b c down_b cold sound sector tears same front.cold one_b,
               )
 
-          pub broken : {T : Type 0} (v : T) (n : ℕ) (r : Result T RollError) (q : Result ℕ RollError) → r ≡ Ok v → FrontAnswer r b c → q ≡ Ok n → CountAnswer size a.db.len q a b → RecoverAnswer size d (Ok n) s c
+          pub broken : {T : Type 0} (v : T) (n : ℕ) (r : Result T RollError) (q : Result ℕ RollError) → r ≡ Ok v → FrontAnswer w r b c → q ≡ Ok n → CountAnswer size a.db.len q a b → RecoverAnswer size d (Ok n) s c
           broken {T = T} v n r q was answer ok count =
-              let front = subst (λ (x : Result T RollError). FrontAnswer x b c) was answer in (
+              let front = subst (λ (x : Result T RollError). FrontAnswer w x b c) was answer in (
                 counted n (subst (λ (x : Result ℕ RollError). CountAnswer size a.db.len x a b) ok count),
-                rests_by size d front.done.0 c (cold_one size d w b c down_b cold sound sector tears same front.cold one_b) front.done.1 front.done.2,
+                rests_by size d front.done.0 c (cold_one size d w b c down_b cold sound sector tears same front.cold one_b) front.done.1 (lost_magic w front.done.0 front.done.2),
               )
 
 -- ---- a file and a journal show one database
@@ -277,7 +278,7 @@ module _ (past : State) (found : Files) (s : DiskState) (fits : FitsDisk past s)
       let sound = fits.suits.sound in
       let narrows = narrows_syncs Log step.0 s a sound step.2 in
       subst (λ (x : Result ℕ RollError). RecoveredAt past found x s a) (sym given) (
-        sync_later Device Log r s a sound step,
+        asks_err {T = ℕ} (Err e) r e s a was refl (asks_step Log r s a (inl tt) sound step),
         inr (sync_refused Device Log r e s a sound was step),
         history_narrows s a narrows past.page_size past.history past.floor fits.left,
         sectors_narrow s a narrows fits.sectors,
@@ -287,46 +288,46 @@ module _ (past : State) (found : Files) (s : DiskState) (fits : FitsDisk past s)
     abbrev is : IsFound past found.log s
     is = is_found
 
-    goes : Later (MayChange past.page_size s.sector) s a
-    goes = sync_later Device Log r s a fits.suits.sound step
+    goes : Asks (MayRecover past.page_size) r s a
+    goes = asks_step Log r s a (inl tt) fits.suits.sound step
 
     settled_down : IsLogDown a found.log
     settled_down = sync_down r v found.log s a fits.suits.sound was step are.log
 
     settled_suits : Suits past.page_size a
-    settled_suits = suits_go past.page_size s a goes fits.suits
+    settled_suits = suits_go past.page_size s a goes.later fits.suits
 
     shows_a : (db : List ℕ) → IsImage a.sector a.tears a.db db → ShowsWhole past.page_size db found.log (at past is.place)
     shows_a db image = is.shows db (file_syncs Log step.0 s a fits.suits.sound step.2 db image)
 
     pub settled_one : ShowsOne past.page_size (at past is.place) a
     settled_one = record {
-      alone = shows_by past.page_size (at past is.place) a goes.sound (λ u. u ≡ found.log)
+      alone = shows_by past.page_size (at past is.place) a goes.later.sound (λ u. u ≡ found.log)
           (λ u left. down_read found.log a settled_down u (inr left))
           (λ u image. down_read found.log a settled_down u (inl image))
           (λ db u image e. subst (λ (x : List ℕ). Show past.page_size db x (at past is.place)) (sym e) (shows_a db image).shows);
       ends = ends_down found.log a settled_down (length (at past is.place) * past.page_size) (λ cold db image. (shows_a db image).whole cold)
-          (λ hot. named_by found.log s a goes.sector goes.tears (λ torn. fits.sectors torn found.log found_read hot));
+          (λ hot. named_by found.log s a goes.later.sector goes.later.tears (λ torn. fits.sectors torn found.log found_read hot));
     }
 
     settled_held : IsHeld past.page_size (at past is.place)
     settled_held = fits.held is.place is.within
 
-    by_answer : (q : Result ℕ RollError) (b : DiskState) → Later (MayChange past.page_size s.sector) a b → RecoverAnswer past.page_size (at past is.place) q a b → RecoveredAt past found q s b
+    by_answer : (q : Result ℕ RollError) (b : DiskState) → Asks (MayRecover past.page_size) q a b → RecoverAnswer past.page_size (at past is.place) q a b → RecoveredAt past found q s b
     by_answer (Ok n) b then answer = (
-      later_then s a b goes then,
+      asks_then (Ok n) r v s a b was goes then,
       record { place = is.place; floor = is.floor; within = is.within; newest_is = is.newest_is; shown = (is.shows found.db found_db).shows; rests = answer.1; count = answer.0 },
     )
     by_answer (Err e) b then answer = (
-      later_then s a b goes then,
-      may_after e s a b goes.refused answer.0,
+      asks_then {T = ℕ} (Err e) r v s a b was goes then,
+      may_after e s a b goes.later.refused answer.0,
       one_history past.page_size past.history past.floor is.place b is.floor is.within answer.1,
       answer.1.ends.sectors,
     )
 
-    pub settled : (size : ℕ) → past.page_size ≡ size → (q : Result ℕ RollError) (b : DiskState) → Later (MayChange past.page_size s.sector) a b
+    pub settled : (size : ℕ) → past.page_size ≡ size → (q : Result ℕ RollError) (b : DiskState) → Asks (MayRecover size) q a b
         → ((d : Database) → Suits size a → IsHeld size d → IsLogDown a found.log → ShowsOne size d a → RecoverAnswer size d q a b) → RecoveredAt past found q s b
-    settled size same q b then recovers = by_answer q b then
+    settled size same q b then recovers = by_answer q b (subst (λ (n : ℕ). Asks (MayRecover n) q a b) (sym same) then)
         (subst (λ (n : ℕ). (d : Database) → Suits n a → IsHeld n d → IsLogDown a found.log → ShowsOne n d a → RecoverAnswer n d q a b) (sym same) recovers (at past is.place) settled_suits settled_held settled_down settled_one)
 
 -- ---- what an opening leaves to hold
@@ -367,11 +368,12 @@ module _ (past : State) (found : Files) (s : DiskState) (fits : FitsDisk past s)
       let x = subst (λ (y : Result ℕ RollError). RecoveredAt past found y s b) was answer in
       record {
         next = closed past;
-        same = record { sector = x.0.sector; tears = x.0.tears; calls = x.0.calls };
-        refused = x.0.refused;
+        same = record { sector = x.0.later.sector; tears = x.0.later.tears; calls = x.0.later.calls };
+        refused = x.0.later.refused;
+        told = λ lt. (let d = x.0.told lt in cc);
         row = (⊎_elim (λ none. inl (ap number_of none)) (λ is. inr (ap number_of is.0, is.1)) x.1, refl);
         fits = record {
-          suits = suits_go past.page_size s b x.0 fits.suits;
+          suits = suits_go past.page_size s b x.0.later fits.suits;
           floor = fits.floor;
           held = fits.held;
           left = x.2;
@@ -389,11 +391,12 @@ module _ (past : State) (found : Files) (s : DiskState) (fits : FitsDisk past s)
       let down : at_k.place + 1 ≡ length (take (at_k.place + 1) past.history) = sym (cut_long past.history at_k.place at_k.within) in
       record {
         next = opened past at_k.place;
-        same = record { sector = x.0.sector; tears = x.0.tears; calls = x.0.calls };
-        refused = x.0.refused;
+        same = record { sector = x.0.later.sector; tears = x.0.later.tears; calls = x.0.later.calls };
+        refused = x.0.later.refused;
+        told = λ lt. absurd (let d = x.0.told lt in cc);
         row = (at_k.place, at_k.floor, at_k.within, at_k.shown, at_k.newest_is, refl);
         fits = record {
-          disk = fits_rested (opened past at_k.place) b (suits_go past.page_size s b x.0 fits.suits) down
+          disk = fits_rested (opened past at_k.place) b (suits_go past.page_size s b x.0.later fits.suits) down
               (λ i lt. subst (λ (d : Database). IsHeld past.page_size d) (sym (cut_at past.history at_k.place at_k.within i lt)) (fits.held i (omega (arith, cut_long past.history at_k.place at_k.within)))) rests;
           page_size = is.page_size ∙ sym same;
           is_open = is.is_open;
@@ -402,13 +405,16 @@ module _ (past : State) (found : Files) (s : DiskState) (fits : FitsDisk past s)
             rests = rests;
             down = down;
             record_room = core.record_room ∙ ap (λ (m : ℕ). m + 8) (is.page_size ∙ sym same);
-            header_room = is.header_room ∙ whole ∙ sym x.0.sector;
+            header_room = is.header_room ∙ whole ∙ sym x.0.later.sector;
           };
         };
       }
 
 -- a plan keeps the database within the limit
-pub few_some : (o : Option Plan) (p : Plan) (n size : ℕ) → o ≡ Some p → MatchOption o (Unit {0}) (λ x. x.header.first_size * x.header.page_size ≤ 1073741824) → p.header.page_size ≡ size → n ≡ p.header.first_size → n * size ≤ 1073741824
-few_some o p n size is few same count =
-    let have : p.header.first_size * p.header.page_size ≤ 1073741824 = subst (λ (x : Option Plan). MatchOption x (Unit {0}) (λ y. y.header.first_size * y.header.page_size ≤ 1073741824)) is few in
-    subst (λ (k : ℕ). k * size ≤ 1073741824) (sym count) (subst (λ (k : ℕ). p.header.first_size * k ≤ 1073741824) same have)
+pub few_some : (o : Option Plan) (p : Plan) (n size : ℕ) → o ≡ Some p → MatchOption o (Unit {0}) IsSmall → p.header.page_size ≡ size → n ≡ p.header.first_size → n * size ≤ 1073741824
+few_some o p n size is small same count =
+    let have : IsSmall p = subst (λ (x : Option Plan). MatchOption x (Unit {0}) IsSmall) is small in
+    subst (λ (k : ℕ). k * size ≤ 1073741824) (sym count) (subst (λ (k : ℕ). p.header.first_size * k ≤ 1073741824) same have.few)
+
+pub small_some : (o : Option Plan) (p : Plan) → o ≡ Some p → MatchOption o (Unit {0}) IsSmall → IsSmall p
+small_some o p is small = subst (λ (x : Option Plan). MatchOption x (Unit {0}) IsSmall) is small

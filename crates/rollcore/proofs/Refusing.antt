@@ -1,19 +1,18 @@
 -- What refuses an opening, whatever stands on the disk.
 use Rattle.std.proofs.Common.{◌≡◌, ◌⊎◌, inl, inr, ⊎_elim, ℕ, ◌*◌, ◌<◌, ◌≤◌, Bool, true, false, cond, List, length, refl, sym, ◌∙◌, ap, subst, arith}
-use Rattle.std.specs.Prelude.{Result, Ok, Err, IfErr, OnOk, Option}
-use Rattle.std.proofs.lemmas.Result.{on_ok_weaker}
+use Rattle.std.specs.Prelude.{Result, Ok, Err, IfErr, Option}
 use Rattle.sqval.specs.Bytes.{word}
 use Rattle.sqjournal.specs.Journal.{IsHot}
 use Rattle.crashdisk.specs.State.{FileState}
-use Rattle.crashdisk.specs.Call.{DiskState, IsSoundDisk, ArePresent, Syncs, Nothing}
+use Rattle.crashdisk.specs.Call.{DiskState, IsSoundDisk, ArePresent, Syncs, InFile}
 use Rattle.crashdisk.specs.declared.file.File.TheVariants.{Log}
 use Rattle.crashdisk.specs.declared.error.DiskError.{DiskError}
-use Rattle.crashdisk.specs.Keeps.{HadRefusal, KeepsBytes, Still, SyncStep, TearsPages, Later}
+use Rattle.crashdisk.specs.Keeps.{HadRefusal, KeepsBytes, IsLogDown, Still, SyncStep, TearsPages, Later}
 use Rattle.rollcore.specs.Steps.{torn_sector, RolledAnswer}
 use Rattle.rollcore.specs.Plans.{IsFit, PlanAnswer, ReadAnswer}
 use Rattle.rollcore.specs.Replaying.{TearsJournal}
 use Rattle.sqval.specs.CommitFaults.{most_bytes}
-use Rattle.rollcore.specs.Opening.{CountAnswer, SizeJudged, BreakSteps, IsAboveLimit, RefusedFor, MayOpen}
+use Rattle.rollcore.specs.Opening.{CountAnswer, SizeJudged, BreakSteps, FrontAnswer, IsAboveLimit, RefusedFor, MayOpen, LeavesFiles, FilesAnswer}
 use Rattle.rollcore.specs.declared.plan.Plan.{Plan}
 use Rattle.rollcore.specs.declared.replaying.Replayed.{Replayed}
 use Rattle.rollcore.specs.declared.error.RollError.{RollError}
@@ -22,6 +21,7 @@ use Rattle.crashdisk.proofs.Later.{sync_refused, told_ok, sync_later}
 use Rattle.rollcore.proofs.Recovering.{tears_by, fits_whole, short, small}
 use Rattle.crashdisk.proofs.Stills.{refusal_after, present_in}
 use Rattle.crashdisk.proofs.Steps.{present_synced}
+use Rattle.rollcore.proofs.Ending.{sync_down}
 use Rattle.sqval.proofs.Answering.{if_err}
 
 pub from_err : {T : Type 0} (q : Result T RollError) (e : RollError) (P : RollError → Type 0) → q ≡ Err e → IfErr q P → P e
@@ -105,6 +105,35 @@ settled_refused a b c r q e le sound was step is =
     let x = sync_refused Device Log r e b c sound was step in
     if_err q e (λ y. (y ≡ Device) × HadRefusal a c) is (x.0, refusal_after a b c le x.1)
 
+-- ---- what is answered of the files
+
+pub files_err : {T : Type 0} (size : ℕ) (db w : List ℕ) (q : Result T RollError) (e : RollError) (a b : DiskState) → q ≡ Err e → RefusedFor size db w e a b → FilesAnswer size db w q a b
+files_err {T = T} size db w q e a b is had = subst (λ (x : Result T RollError). FilesAnswer size db w x a b) (sym is) had
+
+pub files_refused : {T : Type 0} (size : ℕ) (db w : List ℕ) (q : Result T RollError) (a b : DiskState) → FilesAnswer size db w q a b → IfErr q (λ e. RefusedFor size db w e a b)
+files_refused size db w (Ok v) a b x = tt
+files_refused size db w (Err e) a b x = x
+
+pub files_opened : {T : Type 0} (size : ℕ) (db w : List ℕ) (q : Result T RollError) (v : T) (a b : DiskState) → q ≡ Ok v → FilesAnswer size db w q a b → MayOpen size db w a × LeavesFiles db w a b
+files_opened {T = T} size db w q v a b is answer = subst (λ (x : Result T RollError). FilesAnswer size db w x a b) is answer
+
+-- a hot journal was replayed
+pub hot_leaves : (db w : List ℕ) (r : Result Replayed RollError) (x : Replayed) (s a b : DiskState) → IsHot w → r ≡ Ok x → RolledAnswer db w r a b → LeavesFiles db w s b
+unfolding RolledAnswer
+hot_leaves db w r x s a b hot was answer = record {
+  hot = λ h. (x, subst (λ (y : Result Replayed RollError). RolledAnswer db w y a b) was answer);
+  file = λ cold. absurd (cold hot);
+  log = λ cold. absurd (cold hot);
+}
+
+-- none was hot, and the front of the log is broken
+pub cold_leaves : {T : Type 0} (db w : List ℕ) (r : Result T RollError) (v : T) (s b c : DiskState) → (IsHot w → ⊥) → r ≡ Ok v → c.db ≡ s.db → FrontAnswer w r b c → LeavesFiles db w s c
+cold_leaves {T = T} db w r v s b c cold was same front = record {
+  hot = λ hot. absurd (cold hot);
+  file = λ none. same;
+  log = λ none. (let x = subst (λ (y : Result T RollError). FrontAnswer w y b c) was front in x.done);
+}
+
 -- ---- the log is synced first
 
 module _ {T : Type 0} (v : T) (r : Result T RollError) (s a : DiskState) (sound : IsSoundDisk s) (was : r ≡ Ok v) (step : SyncStep Device Log r s a) where
@@ -131,22 +160,19 @@ module _ {T : Type 0} (v : T) (r : Result T RollError) (s a : DiskState) (sound 
   after size db w TooLarge b x = (x.0, bytes_before b x.1)
   after size db w PageSize b x = (x.0, λ tears. x.1 (tears_before w tears), x.2, bytes_before b x.3)
   after size db w NoMemory b x = bytes_before b x
-  after size db w Device b x = (let goes : Later Nothing s a = sync_later Device Log r s a sound step in refusal_after s a b goes.refused x)
+  after size db w Device b x = (let goes : Later (InFile Log) s a = sync_later Device Log r s a refl sound step in refusal_after s a b goes.refused x)
   after size db w _ b x = absurd x
 
-  pub synced_refuses : {U : Type 0} (size : ℕ) (db w : List ℕ) (q : Result U RollError) (b : DiskState) → ArePresent s.db db → ArePresent s.log w
-      → (ArePresent a.db db → ArePresent a.log w → IfErr q (λ e. RefusedFor size db w e a b)) → IfErr q (λ e. RefusedFor size db w e s b)
-  synced_refuses size db w q b are_db are rest = by q (rest (present_in s.db a.db db step.2.elsewhere.other are_db) (present_a w are))
-    where
-      by : {U : Type 0} (q : Result U RollError) → IfErr q (λ e. RefusedFor size db w e a b) → IfErr q (λ e. RefusedFor size db w e s b)
-      by (Ok u) x = x
-      by (Err e) x = after size db w e b x
+  files_after : {U : Type 0} (size : ℕ) (db w : List ℕ) (q : Result U RollError) (b : DiskState) → FilesAnswer size db w q a b → FilesAnswer size db w q s b
+  files_after size db w (Ok u) b x = (
+    record { within = x.0.within; sectors = λ tears. x.0.sectors (tears_before w tears); hot = x.0.hot; cold = x.0.cold },
+    record { hot = x.1.hot; file = λ cold. x.1.file cold ∙ step.2.elsewhere.other; log = x.1.log },
+  )
+  files_after size db w (Err e) b x = after size db w e b x
 
-  pub synced_opens : {U : Type 0} (size : ℕ) (db w : List ℕ) (q : Result U RollError) → ArePresent s.db db → ArePresent s.log w
-      → (ArePresent a.db db → ArePresent a.log w → OnOk q (MayOpen size db w a)) → OnOk q (MayOpen size db w s)
-  synced_opens size db w q are_db are rest = on_ok_weaker q
-      (λ x. record { within = x.within; sectors = λ tears. x.sectors (tears_before w tears); hot = x.hot; cold = x.cold })
-      (rest (present_in s.db a.db db step.2.elsewhere.other are_db) (present_a w are))
+  pub synced_files : {U : Type 0} (size : ℕ) (db w : List ℕ) (q : Result U RollError) (b : DiskState) → ArePresent s.db db → ArePresent s.log w
+      → (ArePresent a.db db → IsLogDown a w → FilesAnswer size db w q a b) → FilesAnswer size db w q s b
+  synced_files size db w q b are_db are rest = files_after size db w q b (rest (present_in s.db a.db db step.2.elsewhere.other are_db) (sync_down r v w s a sound was step are))
 
 -- ---- sectors that tear are larger than the pages
 

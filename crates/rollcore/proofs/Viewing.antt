@@ -1,6 +1,6 @@
 -- What a read answers is what the newest database has.
 use Rattle.std.proofs.Common.{◌≡◌, ℕ, ◌+◌, ◌-◌, ◌*◌, ◌<◌, ◌≤◌, false, List, length, get_or, refl, sym, ◌∙◌, ap, subst, arith}
-use Rattle.std.specs.Prelude.{Result, Ok, Err, Some, None}
+use Rattle.std.specs.Prelude.{Result, Ok, Err, IfErr, Some, None}
 use Rattle.std.proofs.Math.Nat.{mul-le-mul_right}
 use Rattle.sqval.specs.Database.{page}
 use Rattle.sqval.specs.Answers.{Answer, Page, Refused}
@@ -12,8 +12,8 @@ use Rattle.crashdisk.proofs.Fixed.{image_present}
 use Rattle.crashdisk.proofs.Steps.{present_list}
 use Rattle.rollcore.specs.Machine.{State, newest, Act, Reads, Step, read_refusal}
 use Rattle.rollcore.specs.Refusal.{number_of}
-use Rattle.crashdisk.specs.Keeps.{SameFiles, Still, PlaceAnswer}
-use Rattle.rollcore.specs.Paging.{ReadJudged, IsRefusedRead}
+use Rattle.crashdisk.specs.Keeps.{SameFiles, Still, TellsRefusal, PlaceAnswer}
+use Rattle.rollcore.specs.Paging.{ReadJudged, ReadAnswers}
 use Rattle.rollcore.specs.Fits.{FitsDisk, IsCore, FitsCore, Rests, StepsTo, answered}
 use Rattle.rollcore.specs.declared.error.RollError.{RollError}
 use Rattle.rollcore.specs.declared.error.RollError.TheVariants.{Closed, PageZero, PageAboveSize, BadLength, Device}
@@ -54,8 +54,8 @@ fits_still past core s t is fits = record {
 }
 
 -- a row of the machine that doesn't step
-pub stays : (past : State) (core : Core) (s t : DiskState) → Still s t → FitsCore past core s → (act : Act) (answer : Answer) → Step past act answer s.refused t.refused past → StepsTo past act answer core s t
-stays past core s t is fits act answer step = record { next = past; same = record { sector = is.sector; tears = is.tears; calls = calls_wider (λ change none. absurd none) s t is.calls }; refused = is.refused; row = step; fits = fits_still past core s t (same_files s t is) fits }
+pub stays : (past : State) (core : Core) (s t : DiskState) → Still s t → FitsCore past core s → (act : Act) (answer : Answer) → (s.refused < t.refused → answer ≡ Refused 15) → Step past act answer s.refused t.refused past → StepsTo past act answer core s t
+stays past core s t is fits act answer told step = record { next = past; same = record { sector = is.sector; tears = is.tears; calls = calls_wider (λ change none. absurd none) s t is.calls }; refused = is.refused; told = told; row = step; fits = fits_still past core s t (same_files s t is) fits }
 
 -- ---- the rows of the machine
 
@@ -70,7 +70,7 @@ module _ (past : State) (core : Core) (s : DiskState) (fits : FitsCore past core
       same = still s sound
 
       step : (n : ℕ) → read_refusal past p ≡ Some n → StepsTo past (Reads p) (Refused n) core s s
-      step n e = stays past core s s same fits (Reads p) (Refused n) (refuses_first (read_refusal past p) n false past past s.refused s.refused e)
+      step n e = stays past core s s same fits (Reads p) (Refused n) (λ lt. absurd (omega arith)) (refuses_first (read_refusal past p) n false past past s.refused s.refused e)
 
       by : (e : RollError) → ReadJudged {T = U} core.is_open p core.size room core.page_size (Err e) → StepsTo past (Reads p) (Refused (number_of e)) core s s
       by Closed shut = step 1 (is_closed past.is_open p (length (newest past)) (sym fits.is_open ∙ shut))
@@ -115,25 +115,31 @@ module _ (past : State) (core : Core) (s : DiskState) (fits : FitsCore past core
         let here : place ≡ (p - 1) * past.page_size = at_place ∙ ap (λ (n : ℕ). (p - 1) * n) full in
         omega (arith, few, end, here, page_end past.page_size p low.0, long, full)
 
-    pub read_file : {T : Type 0} (result : Result T RollError) → PlaceAnswer Device Db place out result s t → StepsTo past (Reads p) (answered (λ (v : T). Page out) result) core s t
+    pub read_file : {T : Type 0} (result : Result T RollError) → TellsRefusal Device result s t → PlaceAnswer Device Db place out result s t → StepsTo past (Reads p) (answered (λ (v : T). Page out) result) core s t
     unfolding PlaceAnswer
-    read_file (Ok v) answer = stays past core s t answer.0 fits (Reads p) (Page out) (none, the_page answer.1, refl)
-    read_file {T = T} (Err x) answer = subst (λ (y : RollError). StepsTo past (Reads p) (Refused (number_of y)) core s t) (sym answer.1)
-        (stays past core s t answer.0 fits (Reads p) (Refused 15) (refuses_cause (read_refusal past p) past past s.refused t.refused none (answer.2 within)))
+    read_file (Ok v) told answer = stays past core s t answer.0 fits (Reads p) (Page out) (λ lt. absurd (let e = told lt in cc)) (none, the_page answer.1, refl)
+    read_file {T = T} (Err x) told answer = subst (λ (y : RollError). StepsTo past (Reads p) (Refused (number_of y)) core s t) (sym answer.1)
+        (stays past core s t answer.0 fits (Reads p) (Refused 15) (λ lt. refl) (refuses_cause (read_refusal past p) past past s.refused t.refused none (answer.2 within)))
 
--- a buffer of another length
-pub refused_read : {T U : Type 0} (core : Core) (p room : ℕ) (was : Result U RollError) (result : Result T RollError) (e : RollError) → was ≡ Err e → result ≡ Err e → ReadJudged core.is_open p core.size room core.page_size was → IsRefusedRead core p result
+-- whatever the disk does
+pub refused_answer : {T U D : Type 0} (core : Core) (p room : ℕ) (was : Result U RollError) (result : Result T RollError) (e : RollError) (d : D) → was ≡ Err e → result ≡ Err e
+    → ReadJudged core.is_open p core.size room core.page_size was → ReadAnswers core p room result d d
 unfolding ReadJudged
-refused_read {T = T} {U = U} core p room was result e is_was is bad = subst (λ (x : Result T RollError). IsRefusedRead core p x) (sym is)
+refused_answer {T = T} {U = U} core p room was result e d is_was is bad = subst (λ (x : Result T RollError). ReadAnswers core p room x d d) (sym is)
     (by e (subst (λ (x : Result U RollError). ReadJudged core.is_open p core.size room core.page_size x) is_was bad))
   where
-    by : (e : RollError) → ReadJudged {T = U} core.is_open p core.size room core.page_size (Err e) → IsRefusedRead {T = T} core p (Err e)
-    by Closed h = h
-    by PageZero h = h
-    by PageAboveSize h = h
-    by BadLength h = (h.0, h.1, h.2)
-    by _ h = h
+    by : (e : RollError) → ReadJudged {T = U} core.is_open p core.size room core.page_size (Err e) → ReadAnswers {T = T} core p room (Err e) d d
+    by Device h = absurd h
+    by _ h = (h, refl)
 
-pub other_room : {U : Type 0} (core : Core) (p room : ℕ) (was : Result U RollError) (v : U) → was ≡ Ok v → ReadJudged core.is_open p core.size room core.page_size was → room ≡ core.page_size
+pub read_answer : {T D : Type 0} (core : Core) (p room : ℕ) (was : Result (Unit {0}) RollError) (v : Unit {0}) (result : Result T RollError) (a b : D) → was ≡ Ok v → IfErr result (λ e. e ≡ Device)
+    → ReadJudged core.is_open p core.size room core.page_size was → ReadAnswers core p room result a b
 unfolding ReadJudged
-other_room {U = U} core p room was v is good = (subst (λ (x : Result U RollError). ReadJudged core.is_open p core.size room core.page_size x) is good).3
+read_answer {T = T} core p room was v result a b is device good = by result device
+  where
+    granted : ReadJudged {T = Unit {0}} core.is_open p core.size room core.page_size (Ok tt)
+    granted = subst (λ (x : Result (Unit {0}) RollError). ReadJudged core.is_open p core.size room core.page_size x) is good
+
+    by : (r : Result T RollError) → IfErr r (λ e. e ≡ Device) → ReadAnswers core p room r a b
+    by (Ok done) h = granted
+    by (Err e) h = subst (λ (x : RollError). ReadAnswers {T = T} core p room (Err x) a b) (sym h) granted

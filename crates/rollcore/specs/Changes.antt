@@ -1,17 +1,33 @@
--- What a replay and an engine over a rollback journal may ask of their disk to change (fileformat2, 3; zeros are own).
-use Rattle.std.specs.Prelude.{◌≡◌, ◌⊎◌, ℕ, ◌-◌, List, [], ◌∷◌, ◌++◌, length, replicate}
+-- What a replay and an engine over a rollback journal may ask of their disk (fileformat2, 3; zeros are own).
+use Rattle.std.specs.Prelude.{◌≡◌, ◌⊎◌, ℕ, ◌+◌, ◌-◌, ◌*◌, ◌≤◌, List, [], ◌∷◌, ◌++◌, length, replicate, Result}
+use Rattle.sqval.specs.CommitFaults.{most_bytes}
 use Rattle.sqjournal.specs.Header.{header_bytes}
 use Rattle.sqjournal.specs.declared.header.JournalHeader.{JournalHeader}
-use Rattle.crashdisk.specs.Call.{Change, write, set_len}
+use Rattle.crashdisk.specs.State.{longest}
+use Rattle.crashdisk.specs.Call.{DiskState, Change, write, set_len, sync, Nothing}
+use Rattle.crashdisk.specs.Keeps.{Later, TellsRefusal}
 use Rattle.crashdisk.specs.declared.file.File.TheVariants.{Db, Log}
 use Rattle.rollcore.specs.Journaling.{record_bytes}
+use Rattle.rollcore.specs.Machine.{Act, Opens, Commits, Reads, Crashes, Sets}
+use Rattle.rollcore.specs.declared.error.RollError.{RollError}
+use Rattle.rollcore.specs.declared.error.RollError.TheVariants.{Device}
 
--- A replay: the database file at will; of the journal, 28 zero bytes over its first header.
-abbrev pub MayReplay : Change → Type 0
-MayReplay (write Db at bytes) = Unit {0}
-MayReplay (write Log at bytes) = (at ≡ 0) × (bytes ≡ replicate 28 0)
-MayReplay (set_len Db n) = Unit {0}
-MayReplay (set_len Log n) = ⊥
+-- one page of this size, whole, at its place in a database within the limit
+abbrev pub IsWholePage : (size at : ℕ) → (bytes : List ℕ) → Type 0
+IsWholePage size at bytes = (p : ℕ) × (at ≡ p * size) × (length bytes ≡ size) × (at + size ≤ most_bytes)
+
+-- the length of so many pages of this size, within the limit
+abbrev pub IsWholeLength : (size n : ℕ) → Type 0
+IsWholeLength size n = (count : ℕ) × (n ≡ count * size) × (n ≤ most_bytes)
+
+-- A replay of a journal of pages of this size: pages of the database and its length; 28 zero bytes over the journal's first
+-- header; and syncs.
+abbrev pub MayReplay : (size : ℕ) → Change → Type 0
+MayReplay size (write Db at bytes) = IsWholePage size at bytes
+MayReplay size (write Log at bytes) = (at ≡ 0) × (bytes ≡ replicate 28 0)
+MayReplay size (set_len Db n) = IsWholeLength size n
+MayReplay size (set_len Log n) = ⊥
+MayReplay size (sync f) = Unit {0}
 
 -- a record of a page of this size
 abbrev pub IsWholeRecord : (size : ℕ) (bytes : List ℕ) → Type 0
@@ -21,9 +37,30 @@ IsWholeRecord size bytes = (number : ℕ) × (nonce : ℕ) × (content : List �
 abbrev pub IsWholeHeader : (sector : ℕ) (bytes : List ℕ) → Type 0
 IsWholeHeader sector bytes = (h : JournalHeader) × (h.sector ≡ sector) × (bytes ≡ header_bytes h ++ replicate (sector - 28) 0)
 
--- A call of an engine: what a replay may; and of the journal, one zero byte, and records and headers, each whole, by one write.
-abbrev pub MayChange : (size sector : ℕ) → Change → Type 0
-MayChange size sector (write Db at bytes) = Unit {0}
-MayChange size sector (write Log at bytes) = MayReplay (write Log at bytes) ⊎ ((bytes ≡ 0 ∷ []) ⊎ (IsWholeRecord size bytes ⊎ IsWholeHeader sector bytes))
-MayChange size sector (set_len Db n) = Unit {0}
-MayChange size sector (set_len Log n) = ⊥
+-- one zero byte, a record or a header of the journal, whole, by one write within the limit of a file
+abbrev pub IsJournaling : (size sector : ℕ) → Change → Type 0
+IsJournaling size sector (write Db at bytes) = ⊥
+IsJournaling size sector (write Log at bytes) = (at + length bytes ≤ longest) × ((bytes ≡ 0 ∷ []) ⊎ (IsWholeRecord size bytes ⊎ IsWholeHeader sector bytes))
+IsJournaling size sector (set_len f n) = ⊥
+IsJournaling size sector (sync f) = ⊥
+
+-- An opening: what a replay may, and one zero byte at the front of the journal.
+abbrev pub MayRecover : (size : ℕ) → Change → Type 0
+MayRecover size change = MayReplay size change ⊎ (change ≡ write Log 0 (0 ∷ []))
+
+-- A commit: what a replay may, and what journals pages.
+abbrev pub MayCommit : (size sector : ℕ) → Change → Type 0
+MayCommit size sector change = MayReplay size change ⊎ IsJournaling size sector change
+
+-- what a call of an engine may ask for; a read looks alone
+abbrev pub MayChange : Act → (size sector : ℕ) → Change → Type 0
+MayChange (Opens found) size sector = MayRecover size
+MayChange (Commits pages count nonces) size sector = MayCommit size sector
+MayChange (Reads page) size sector = Nothing
+MayChange (Crashes left) size sector = Nothing
+MayChange Sets size sector = Nothing
+
+-- Calls of a disk that asked for nothing else. That one was refused is told.
+pub record Asks {T : Type 0} (May : Change → Type 0) (result : Result T RollError) (old new : DiskState) : Type 0 where
+  pub later : Later May old new
+  pub told : TellsRefusal Device result old new

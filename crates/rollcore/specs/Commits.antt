@@ -1,10 +1,10 @@
 -- What the steps of a commit promise one another (fileformat2, 3; segments are own).
-use Rattle.std.specs.Prelude.{◌≡◌, ◌≢◌, ◌⊎◌, ℕ, ◌<◌, ◌≤◌, false, Result, Ok, Err, List, [], length, take, get_or, Some, None, OnOk}
+use Rattle.std.specs.Prelude.{◌≡◌, ◌≢◌, ◌⊎◌, ℕ, ◌*◌, ◌<◌, ◌≤◌, false, Result, Ok, Err, List, [], length, take, get_or, Some, None, OnOk}
 use Rattle.std.specs.List.{All, Contains}
 use Rattle.std.specs.Borrow.{Bor}
 use Rattle.sqval.specs.Bytes.{AreBytes}
 use Rattle.sqval.specs.Database.{Database, Pages, supplied}
-use Rattle.sqval.specs.CommitFaults.{first_true, page_faults}
+use Rattle.sqval.specs.CommitFaults.{most_bytes, first_true, page_faults}
 use Rattle.sqval.specs.JudgedPages.{lent}
 use Rattle.crashdisk.specs.State.{IsImage}
 use Rattle.crashdisk.specs.Call.{DiskState}
@@ -18,7 +18,7 @@ use Rattle.rollcore.specs.Machine.{State, newest, recorded, segments_of, refusal
 use Rattle.rollcore.specs.declared.state.Core.{Core}
 use Rattle.rollcore.specs.declared.changes.Change.{Change}
 use Rattle.rollcore.specs.declared.error.RollError.{RollError}
-use Rattle.rollcore.specs.declared.error.RollError.TheVariants.{NoMemory, Device}
+use Rattle.rollcore.specs.declared.error.RollError.TheVariants.{Closed, NoMemory, Device}
 
 -- whatever is left of the log shows, with whatever is left of the file, the one database or the other
 abbrev pub ShowsEither : (size : ℕ) (d e : Database) → DiskState → Type 0
@@ -70,6 +70,14 @@ pub record AreChanges (pages : Pages) (old_size size : ℕ) (changes : List Chan
   pub all : (p : ℕ) → 1 ≤ p → p ≤ old_size → (supplied pages p ≢ None) ⊎ (size < p) → (i : ℕ) × (i < length changes) × ((change_at changes i).page ≡ p)
   pub count : length changes ≡ recorded pages old_size size
 
+-- pages of this size, each within the limit
+abbrev pub ArePlaced : (size : ℕ) → List (ℕ × Bor (List ℕ)) → Type 0
+ArePlaced size pages = All (λ x. (length x.1.now ≡ size) × (x.0 * size ≤ most_bytes)) pages
+
+-- changes of pages of this size within the limit
+abbrev pub AreWithin : (size : ℕ) → List Change → Type 0
+AreWithin size changes = (i : ℕ) → i < length changes → (change_at changes i).page * size ≤ most_bytes
+
 -- a commit of these pages isn't refused, and there is memory for it
 pub record IsReady (pages : List (ℕ × Bor (List ℕ))) (size nonces : ℕ) (core : Core) : Type 0 where
   pub granted : refusal_of core.size core.page_size (lent pages) size nonces ≡ None
@@ -98,6 +106,11 @@ pub record Ends (size : ℕ) (old new : Core) : Type 0 where
 pub record Closes (old new : Core) : Type 0 where
   pub page_size : new.page_size ≡ old.page_size
   pub is_open : new.is_open ≡ false
+
+-- Whether its disk keeps its word or not, Device closes an engine; one that was closed answers Closed, and nothing changes.
+pub record ClosesOnDevice {T D : Type 0} (result : Result T RollError) (core_old core_new : Core) (old new : D) : Type 0 where
+  pub device : result ≡ Err Device → core_new.is_open ≡ false
+  pub closed : core_old.is_open ≡ false → (result ≡ Err Closed) × (core_new ≡ core_old) × (new ≡ old)
 
 -- the commit is the newest one, or the core is closed
 abbrev pub EndAnswer : {T : Type 0} → (size : ℕ) → Result T RollError → (old new : Core) → Type 0

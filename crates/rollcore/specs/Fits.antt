@@ -14,6 +14,7 @@ use Rattle.crashdisk.specs.Keeps.{Suits, IsLogDown, IsSameDisk}
 use Rattle.rollcore.specs.Machine.{State, at, newest, Act, Opens, Step}
 use Rattle.rollcore.specs.Refusal.{number_of}
 use Rattle.rollcore.specs.declared.error.RollError.{RollError}
+use Rattle.rollcore.specs.declared.error.RollError.TheVariants.{Device}
 use Rattle.rollcore.specs.declared.state.Core.{Core}
 use Rattle.rollcore.specs.declared.roll.Roll.{Roll}
 use Rattle.rollcore.specs.declared.roll.Refused.{Refused as RefusedOpen}
@@ -82,11 +83,12 @@ abbrev pub answered : {T : Type 0} → (T → Answer) → Result T RollError →
 answered good (Ok value) = good value
 answered good (Err error) = Refused (number_of error)
 
--- One call: the machine goes on by a row of its table, and its state fits again.
+-- One call: the machine goes on by a row of its table, and its state fits again. A call of the disk that was refused is told.
 pub record StepsTo (past : State) (act : Act) (answer : Answer) (core : Core) (old new : DiskState) : Type 0 where
   pub next : State
-  pub same : IsSameDisk (MayChange past.page_size old.sector) old new
+  pub same : IsSameDisk (MayChange act past.page_size old.sector) old new
   pub refused : old.refused ≤ new.refused
+  pub told : old.refused < new.refused → answer ≡ Refused 15
   pub row : Step past act answer old.refused new.refused next
   pub fits : FitsCore next core new
 
@@ -101,8 +103,9 @@ OpenedTo past found core before after = StepsTo past (Opens found) Done core bef
 -- and one that is refused
 pub record GivenUpTo (past : State) (found : Files) (error : RollError) (before after : DiskState) : Type 0 where
   pub next : State
-  pub same : IsSameDisk (MayChange past.page_size before.sector) before after
+  pub same : IsSameDisk (MayChange (Opens found) past.page_size before.sector) before after
   pub refused : before.refused ≤ after.refused
+  pub told : before.refused < after.refused → error ≡ Device
   pub row : Step past (Opens found) (Refused (number_of error)) before.refused after.refused next
   pub fits : FitsDisk next after
 

@@ -1,5 +1,5 @@
 -- What the steps of an opening do to a disk (own).
-use Rattle.std.specs.Prelude.{◌≡◌, ◌≢◌, ◌⊎◌, ℕ, ◌*◌, ◌<◌, ◌≤◌, true, false, Bool, IsTrue, List, ◌∷◌, length, Result, Ok, Err, OnOk, IfErr, []}
+use Rattle.std.specs.Prelude.{◌≡◌, ◌≢◌, ◌⊎◌, ℕ, ◌*◌, ◌<◌, ◌≤◌, true, false, Bool, IsTrue, List, ◌∷◌, length, drop, Result, Ok, Err, OnOk, IfErr, []}
 use Rattle.sqval.specs.Bytes.{word}
 use Rattle.sqval.specs.CommitFaults.{most_bytes}
 use Rattle.sqval.specs.Database.{Database}
@@ -8,15 +8,16 @@ use Rattle.sqjournal.specs.Journal.{IsHot}
 use Rattle.crashdisk.specs.Call.{DiskState, ArePresent, Writes, Syncs}
 use Rattle.crashdisk.specs.declared.file.File.TheVariants.{Log}
 use Rattle.crashdisk.specs.declared.error.DiskError.{DiskError}
-use Rattle.rollcore.specs.Replaying.{TearsJournal, IsTooLarge, Agrees}
-use Rattle.crashdisk.specs.Keeps.{HadRefusal, KeepsBytes, IsLogDown, Still, TearsPages, Later}
+use Rattle.rollcore.specs.Replaying.{TearsJournal, IsTooLarge, IsRolled, Agrees}
+use Rattle.crashdisk.specs.Keeps.{HadRefusal, KeepsBytes, IsLogDown, Still, TearsPages}
 use Rattle.sqval.specs.Answers.{Files}
-use Rattle.rollcore.specs.Changes.{MayChange}
+use Rattle.rollcore.specs.Changes.{MayRecover, Asks}
 use Rattle.rollcore.specs.Alone.{Show}
 use Rattle.rollcore.specs.Machine.{State, at, last}
 use Rattle.rollcore.specs.Fits.{MayBeRead, ShowsHistory, NamesSectors, Rests}
 use Rattle.rollcore.specs.declared.state.Core.{Core}
 use Rattle.rollcore.specs.Lengths.{ShowsOne}
+use Rattle.rollcore.specs.declared.replaying.Replayed.{Replayed}
 use Rattle.rollcore.specs.declared.error.RollError.{RollError}
 use Rattle.rollcore.specs.declared.error.RollError.TheVariants.{TooLarge, PageSize, NoMemory, Device, SectorAbovePage}
 
@@ -51,10 +52,15 @@ BreakSteps at (Err e) old new = (e ≡ Device) × HadRefusal old new × (Still o
 abbrev pub AreCold : DiskState → Type 0
 AreCold s = (w : List ℕ) → MayBeRead s w → IsHot w → ⊥
 
--- no header begins at the front of the log that is down
-pub record FrontAnswer {T : Type 0} (result : Result T RollError) (old new : DiskState) : Type 0 where
+-- a log whose first byte is made a zero where a magic stood there, and that is as it was where none did
+pub record LosesMagic (w v : List ℕ) : Type 0 where
+  pub broken : HasMagic w 0 → v ≡ 0 ∷ drop 1 w
+  pub same : (HasMagic w 0 → ⊥) → v ≡ w
+
+-- no header begins at the front of the log that is down, which was w
+pub record FrontAnswer {T : Type 0} (w : List ℕ) (result : Result T RollError) (old new : DiskState) : Type 0 where
   pub cold : AreCold new
-  pub done : OnOk result ((w : List ℕ) × IsLogDown new w × (HasMagic w 0 → ⊥))
+  pub done : OnOk result ((v : List ℕ) × IsLogDown new v × LosesMagic w v)
   pub refused : IfErr result (λ e. (e ≡ Device) × HadRefusal old new)
 
 -- an opening may be refused so
@@ -78,8 +84,8 @@ pub record IsRecovered (past : State) (found : Files) (pages : ℕ) (s : DiskSta
 
 -- what the recovery of an opening answers, and what it leaves
 abbrev pub RecoveredAt : State → Files → Result ℕ RollError → (old new : DiskState) → Type 0
-RecoveredAt past found (Ok n) old new = Later (MayChange past.page_size old.sector) old new × IsRecovered past found n new
-RecoveredAt past found (Err e) old new = Later (MayChange past.page_size old.sector) old new × MayRefuse e old new × ShowsHistory past.page_size past.history past.floor new × NamesSectors new
+RecoveredAt past found (Ok n) old new = Asks (MayRecover past.page_size) (Ok n) old new × IsRecovered past found n new
+RecoveredAt past found (Err e) old new = Asks {T = ℕ} (MayRecover past.page_size) (Err e) old new × MayRefuse e old new × ShowsHistory past.page_size past.history past.floor new × NamesSectors new
 
 -- what an open core holds
 pub record IsNewCore (page_bytes pages sector : ℕ) (core : Core) : Type 0 where
@@ -123,6 +129,24 @@ pub record MayOpen (size : ℕ) (db w : List ℕ) (s : DiskState) : Type 0 where
   pub sectors : TearsJournal s w → ⊥
   pub hot : IsHot w → (word w 24 ≡ size) × (1 ≤ word w 16)
   pub cold : (IsHot w → ⊥) → (n : ℕ) × (1 ≤ n) × (n * size ≡ length db)
+
+-- What an opening that is done leaves of the file db and the journal w: a hot journal is replayed; where it isn't hot, the
+-- file is left alone, and of the log at most the first byte is changed.
+pub record LeavesFiles (db w : List ℕ) (old new : DiskState) : Type 0 where
+  pub hot : IsHot w → (r : Replayed) × IsRolled db w r new
+  pub file : (IsHot w → ⊥) → new.db ≡ old.db
+  pub log : (IsHot w → ⊥) → (v : List ℕ) × IsLogDown new v × LosesMagic w v
+
+-- an opening of the file db with the journal w is granted, or refused
+abbrev pub FilesAnswer : {T : Type 0} → (size : ℕ) (db w : List ℕ) → Result T RollError → (old new : DiskState) → Type 0
+FilesAnswer size db w (Ok _) old new = MayOpen size db w old × LeavesFiles db w old new
+FilesAnswer size db w (Err e) old new = RefusedFor size db w e old new
+
+-- An opening that is done: no page is smaller than a sector that tears, the files are what an opening is granted for, and
+-- they are left so.
+pub record OpensFiles (size : ℕ) (old new : DiskState) : Type 0 where
+  pub whole : TearsPages size old → ⊥
+  pub files : (db w : List ℕ) → ArePresent old.db db → ArePresent old.log w → MayOpen size db w old × LeavesFiles db w old new
 
 -- ---- The log is synced first.
 

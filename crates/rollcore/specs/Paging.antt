@@ -2,7 +2,7 @@
 use Rattle.std.specs.Prelude.{◌≡◌, ◌≢◌, ℕ, ◌<◌, ◌≤◌, Bool, true, false, Result, Ok, Err}
 use Rattle.rollcore.specs.declared.state.Core.{Core}
 use Rattle.rollcore.specs.declared.error.RollError.{RollError}
-use Rattle.rollcore.specs.declared.error.RollError.TheVariants.{Closed, PageZero, PageAboveSize, BadLength}
+use Rattle.rollcore.specs.declared.error.RollError.TheVariants.{Closed, PageZero, PageAboveSize, BadLength, Device}
 
 -- the first refusal that holds of a read of this page, of a database of `size` pages, into a buffer of `room` bytes
 unfoldable pub ReadJudged : {T : Type 0} → (is_open : Bool) (page size room page_size : ℕ) → Result T RollError → Type 0
@@ -13,11 +13,9 @@ ReadJudged is_open page size room page_size (Err PageAboveSize) = (is_open ≡ t
 ReadJudged is_open page size room page_size (Err BadLength) = (is_open ≡ true) × (1 ≤ page) × (page ≤ size) × (room ≢ page_size)
 ReadJudged is_open page size room page_size (Err _) = ⊥
 
--- a read into a buffer of another length is refused: by the first refusal that holds, BadLength being the last
-abbrev pub IsRefusedRead : {T : Type 0} → Core → (page : ℕ) → Result T RollError → Type 0
-IsRefusedRead core page (Ok _) = ⊥
-IsRefusedRead core page (Err Closed) = core.is_open ≡ false
-IsRefusedRead core page (Err PageZero) = (core.is_open ≡ true) × (page ≡ 0)
-IsRefusedRead core page (Err PageAboveSize) = (core.is_open ≡ true) × (1 ≤ page) × (core.size < page)
-IsRefusedRead core page (Err BadLength) = (core.is_open ≡ true) × (1 ≤ page) × (page ≤ core.size)
-IsRefusedRead core page (Err _) = ⊥
+-- What a read of this page into a buffer of `room` bytes answers, whether its disk keeps its word or not: the first refusal
+-- that holds, which changes nothing; where none holds it is done, or refused by Device.
+abbrev pub ReadAnswers : {T D : Type 0} → Core → (page room : ℕ) → Result T RollError → (old new : D) → Type 0
+ReadAnswers core page room (Ok done) old new = ReadJudged core.is_open page core.size room core.page_size (Ok done)
+ReadAnswers core page room (Err Device) old new = ReadJudged {T = Unit {0}} core.is_open page core.size room core.page_size (Ok tt)
+ReadAnswers {T = T} core page room (Err e) old new = ReadJudged {T = T} core.is_open page core.size room core.page_size (Err e) × (new ≡ old)

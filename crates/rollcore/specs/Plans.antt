@@ -29,6 +29,12 @@ pub record IsPlan (w : List ℕ) (plan : Plan) : Type 0 where
   pub names : Names w plan.header
   pub room : length plan.page.items ≡ word w 24
 
+-- room for one page, and a database within the limit
+pub record IsSmall (plan : Plan) : Type 0 where
+  pub short : length plan.page.items ≤ 65536
+  pub page : length plan.page.items ≡ plan.header.page_size
+  pub few : plan.header.first_size * plan.header.page_size ≤ most_bytes
+
 -- what the judging of a hot journal answers: the first of these that holds
 unfoldable pub JudgeAnswer : (torn : ℕ) → List ℕ → Result (Unit {0}) RollError → Type 0
 JudgeAnswer torn w (Ok _) = IsFit torn w

@@ -1,17 +1,17 @@
 //! Commits.
-ghost use Rattle.std.specs.Prelude.{◌≡◌, ◌≢◌, ◌↔◌, ◌*◌, ◌≤◌, ℕ, List, length, take, IsTrue, OnOk, IfErr};
+ghost use Rattle.std.specs.Prelude.{◌≡◌, ◌≢◌, ◌↔◌, ◌*◌, ◌≤◌, ℕ, List, length, take, false, Err, IsTrue, OnOk, OnErr, IfErr};
 ghost use Rattle.crashdisk.specs.Call.{DiskState};
 ghost use Rattle.sqval.specs.Database.{Database, apply};
 ghost use Rattle.sqval.specs.Held.{IsHeld};
 ghost use Rattle.sqval.specs.JudgedPages.{lent};
 ghost use Rattle.sqval.specs.Answers.{Done};
-ghost use Rattle.crashdisk.specs.Keeps.{Suits, Later};
+ghost use Rattle.crashdisk.specs.Keeps.{Suits};
 ghost use Rattle.rollcore.specs.Machine.{State, Commits, segments_of};
 ghost use Rattle.rollcore.specs.Journaling.{sizes, parts_of};
 ghost use Rattle.rollcore.specs.Segments.{pages_of};
 ghost use Rattle.rollcore.specs.Fits.{Rests, FitsCore, StepsTo, Fits, Steps, answered};
-ghost use Rattle.rollcore.specs.Changes.{MayChange};
-ghost use Rattle.rollcore.specs.Commits.{KeepsCore, IsReady, PagesJudged, PrepareAnswer, PutAnswer, EndAnswer, LeavesParts, TakesNonces};
+ghost use Rattle.rollcore.specs.Changes.{MayCommit, Asks};
+ghost use Rattle.rollcore.specs.Commits.{KeepsCore, IsReady, PagesJudged, PrepareAnswer, PutAnswer, EndAnswer, LeavesParts, TakesNonces, ClosesOnDevice};
 
 use crate::changes::{count_records, list_changes};
 use crate::error::RollError;
@@ -26,6 +26,7 @@ use sqval::judge_pages;
 fn judge(core: &mut Core, pages: &[(u32, &[u8])], size: u32) -> Result<(), RollError>
     ensures keeps { KeepsCore core.old core.new }
     ensures answer { PagesJudged pages.now size result core.old }
+    ensures own { IfErr result (λ e. e ≢ RollError.Device) }
 {
     judge_pages(pages, size, core.size, core.page_size, &mut core.numbers)?;
     Ok(())
@@ -40,6 +41,7 @@ fn prepare(
 ) -> Result<(), RollError>
     ensures keeps { KeepsCore core.old core.new }
     ensures answer { PrepareAnswer pages.now size nonces result core.old core.new }
+    ensures own { IfErr result (λ e. e ≢ RollError.Device) }
 {
     judge(core, pages, size)?;
     if nonces < count_segments(count_records(pages, core.size, size)) {
@@ -60,8 +62,8 @@ fn put_commit<D: Disk>(
     requires { IsReady pages.now size (length nonces.now) core.old }
     ensures word { D.keeps_word disk.old ↔ D.keeps_word disk.new }
     ensures device { IfErr result (λ e. e ≡ RollError.Device) }
-    ensures goes { D.keeps_word disk.old → length core.old.header.items ≡ (D.state disk.old).sector
-        → Later (MayChange core.old.page_size (D.state disk.old).sector) (D.state disk.old) (D.state disk.new) }
+    ensures asks { D.keeps_word disk.old → length core.old.header.items ≡ (D.state disk.old).sector
+        → Asks (MayCommit core.old.page_size (D.state disk.old).sector) result (D.state disk.old) (D.state disk.new) }
     ensures keeps { KeepsCore core.old core.new }
     ensures put { D.keeps_word disk.old → (d : Database) → Suits core.old.page_size (D.state disk.old) → IsHeld core.old.page_size d
         → length d ≡ core.old.size → length core.old.header.items ≡ (D.state disk.old).sector → Rests core.old.page_size d (D.state disk.old)
@@ -99,7 +101,8 @@ fn write_commit<D: Disk>(
 ) -> Result<(), RollError>
     requires { IsReady pages.now size (length nonces.now) core.old }
     ensures word { D.keeps_word disk.old ↔ D.keeps_word disk.new }
-    ensures device { IfErr result (λ e. e ≡ RollError.Device) }
+    ensures device { OnErr result (result ≡ Err RollError.Device) }
+    ensures closes { OnErr result (core.new.is_open ≡ false) }
     ensures step { D.keeps_word disk.old → (past : State) → FitsCore past core.old (D.state disk.old) → IsTrue core.old.is_open
         → StepsTo past (Commits (lent pages.now) size nonces.now) (answered (λ _. Done) result) core.new (D.state disk.old) (D.state disk.new) }
     ensures nonces { D.keeps_word disk.old → (past : State) → FitsCore past core.old (D.state disk.old) → IsTrue core.old.is_open → TakesNonces past (lent pages.now) size nonces.now result (D.state disk.old) (D.state disk.new) }
@@ -118,6 +121,7 @@ fn commit_pages<D: Disk>(
 ) -> Result<(), RollError>
     ensures word { D.keeps_word disk.old ↔ D.keeps_word disk.new }
     ensures kept { IfErr result (λ e. e ≢ RollError.Device → (disk.new ≡ disk.old) × KeepsCore core.old core.new) }
+    ensures closes { ClosesOnDevice result core.old core.new disk.old disk.new }
     ensures step { D.keeps_word disk.old → (past : State) → FitsCore past core.old (D.state disk.old)
         → StepsTo past (Commits (lent pages.now) size nonces.now) (answered (λ _. Done) result) core.new (D.state disk.old) (D.state disk.new) }
     ensures nonces { D.keeps_word disk.old → (past : State) → FitsCore past core.old (D.state disk.old) → TakesNonces past (lent pages.now) size nonces.now result (D.state disk.old) (D.state disk.new) }
@@ -144,6 +148,7 @@ impl<D: Disk> Roll<D> {
         ensures word { D.keeps_word self.old.disk ↔ D.keeps_word self.new.disk }
         // a refusal other than Device changes nothing but what its buffers hold
         ensures kept { IfErr result (λ e. e ≢ RollError.Device → (self.new.disk ≡ self.old.disk) × KeepsCore self.old.core self.new.core) }
+        ensures closes { ClosesOnDevice result self.old.core self.new.core self.old.disk self.new.disk }
         ensures step { D.keeps_word self.old.disk → (past : State) → Fits D.state self.old past
             → Steps D.state self.old self.new past (Commits (lent pages.now) size nonces.now) (answered (λ _. Done) result) }
         // where it is done, segment s of the journal has nonce s, and the old contents of the next 64 pages

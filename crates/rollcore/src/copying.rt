@@ -10,8 +10,8 @@ ghost use Rattle.crashdisk.specs.Call.{DiskState, IsSoundDisk, ArePresent};
 ghost use Rattle.crashdisk.specs.declared.file.File.TheVariants.{Db, Log};
 ghost use Rattle.sqval.specs.CommitFaults.{most_bytes};
 ghost use Rattle.rollcore.specs.Steps.{RecordAnswer, EntryAnswer, ArePages, CopyAnswer, ZeroSteps, EndAnswer};
-ghost use Rattle.crashdisk.specs.Keeps.{Still, KeepsLog, SyncStep, IsLogDown, Later};
-ghost use Rattle.rollcore.specs.Changes.{MayReplay};
+ghost use Rattle.crashdisk.specs.Keeps.{Still, KeepsLog, SyncStep, IsLogDown};
+ghost use Rattle.rollcore.specs.Changes.{MayReplay, Asks};
 ghost use Rattle.rollcore.specs.Phases.{Writing};
 ghost use Rattle.rollcore.specs.Alone.{ShowsAlone};
 ghost use Rattle.rollcore.specs.Commits.{PutAnswer};
@@ -33,6 +33,7 @@ fn copy_record<D: Disk>(
     requires { length page.old ≤ 65536 }
     ensures word { D.keeps_word disk.old ↔ D.keeps_word disk.new }
     ensures log { D.keeps_word disk.old → IsSoundDisk (D.state disk.old) → KeepsLog (D.state disk.old) (D.state disk.new) }
+    ensures asks { D.keeps_word disk.old → count * length page.old ≤ most_bytes → Asks (MayReplay (length page.old)) result (D.state disk.old) (D.state disk.new) }
     ensures page { D.keeps_word disk.old → IsSoundDisk (D.state disk.old)
         → (w : List ℕ) → ArePresent (D.state disk.old).log w → entry.at + length page.old ≤ length w → count * length page.old ≤ most_bytes
         → RecordAnswer (length page.old) w count entry result (D.state disk.old) (D.state disk.new) }
@@ -57,6 +58,7 @@ fn copy_entry<D: Disk>(
     requires { length page.old ≤ 65536 }
     ensures word { D.keeps_word disk.old ↔ D.keeps_word disk.new }
     ensures log { D.keeps_word disk.old → IsSoundDisk (D.state disk.old) → KeepsLog (D.state disk.old) (D.state disk.new) }
+    ensures asks { D.keeps_word disk.old → count * length page.old ≤ most_bytes → Asks (MayReplay (length page.old)) result (D.state disk.old) (D.state disk.new) }
     ensures page { D.keeps_word disk.old → IsSoundDisk (D.state disk.old)
         → (w : List ℕ) → ArePresent (D.state disk.old).log w → Took w scan.now → count * length page.old ≤ most_bytes
         → EntryAnswer (length page.old) w count i result (D.state disk.old) (D.state disk.new) }
@@ -77,6 +79,7 @@ pub fn copy_records<D: Disk>(
     requires { length page.old ≤ 65536 }
     ensures word { D.keeps_word disk.old ↔ D.keeps_word disk.new }
     ensures log { D.keeps_word disk.old → IsSoundDisk (D.state disk.old) → KeepsLog (D.state disk.old) (D.state disk.new) }
+    ensures asks { D.keeps_word disk.old → count * length page.old ≤ most_bytes → Asks (MayReplay (length page.old)) result (D.state disk.old) (D.state disk.new) }
     ensures pages { D.keeps_word disk.old → IsSoundDisk (D.state disk.old)
         → (db w : List ℕ) (d : Database) → ArePresent (D.state disk.old).db db → ArePresent (D.state disk.old).log w → Took w scan.now → IsHot w
         → length page.old ≡ word w 24 → count ≡ word w 16 → count * length page.old ≤ most_bytes → IsRolledBack db w d
@@ -121,7 +124,7 @@ pub fn finish<D: Disk>(disk: &mut D) -> Result<(), RollError>
     ensures ends { D.keeps_word disk.old → IsSoundDisk (D.state disk.old) → EndAnswer result (D.state disk.old) (D.state disk.new) }
     ensures shows { D.keeps_word disk.old → (size : ℕ) (w : List ℕ) (d : Database) → Writing size w d (D.state disk.old) → ArePages size d (D.state disk.old).db
         → ShowsAlone size d (D.state disk.new) }
-    ensures goes { D.keeps_word disk.old → IsSoundDisk (D.state disk.old) → Later MayReplay (D.state disk.old) (D.state disk.new) }
+    ensures asks { D.keeps_word disk.old → (size : ℕ) → Asks (MayReplay size) result (D.state disk.old) (D.state disk.new) }
     ensures lengths { D.keeps_word disk.old → IsSoundDisk (D.state disk.old) → IsSectorSize (D.state disk.old).sector
         → (w : List ℕ) → IsLogDown (D.state disk.old) w → IsHot w → ((D.state disk.old).tears ≡ true → (D.state disk.old).sector ≤ word w 20)
         → EndsBy (D.state disk.old).db.len (D.state disk.new) }

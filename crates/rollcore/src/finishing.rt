@@ -1,14 +1,15 @@
 //! The end of a commit, once the journal is down.
-ghost use Rattle.std.specs.Prelude.{◌≡◌, ◌↔◌, ◌<◌, ◌≤◌, ℕ, List, length, None, OnOk, IfErr};
+ghost use Rattle.std.specs.Prelude.{◌≡◌, ◌↔◌, ◌*◌, ◌<◌, ◌≤◌, ℕ, List, length, None, OnOk, IfErr};
 ghost use Rattle.std.specs.List.{All};
 ghost use Rattle.sqval.specs.Database.{Database, apply};
+ghost use Rattle.sqval.specs.CommitFaults.{most_bytes};
 ghost use Rattle.sqval.specs.JudgedPages.{lent};
-ghost use Rattle.crashdisk.specs.Call.{DiskState, IsSoundDisk};
+ghost use Rattle.crashdisk.specs.Call.{DiskState};
 ghost use Rattle.rollcore.specs.Machine.{refusal_of};
 ghost use Rattle.rollcore.specs.Replaying.{zeroed};
-ghost use Rattle.crashdisk.specs.Keeps.{IsLogDown, Later};
-ghost use Rattle.rollcore.specs.Changes.{MayReplay};
-ghost use Rattle.rollcore.specs.Commits.{AreChanges, PutAnswer};
+ghost use Rattle.crashdisk.specs.Keeps.{IsLogDown};
+ghost use Rattle.rollcore.specs.Changes.{MayReplay, Asks};
+ghost use Rattle.rollcore.specs.Commits.{AreChanges, PutAnswer, ArePlaced};
 ghost use Rattle.rollcore.specs.Segments.{Journaled, ArePut, pages_of};
 ghost use Rattle.rollcore.specs.declared.changes.Change.{Change};
 
@@ -29,7 +30,8 @@ pub fn end_commit<D: Disk>(
     requires pages { All (λ x. (1 ≤ x.0) × (length x.1.now ≤ 65536)) pages.now }
     ensures word { D.keeps_word disk.old ↔ D.keeps_word disk.new }
     ensures device { IfErr result (λ e. e ≡ RollError.Device) }
-    ensures goes { D.keeps_word disk.old → IsSoundDisk (D.state disk.old) → Later MayReplay (D.state disk.old) (D.state disk.new) }
+    ensures asks { D.keeps_word disk.old → ArePlaced page_size pages.now → size * page_size ≤ most_bytes
+        → Asks (MayReplay page_size) result (D.state disk.old) (D.state disk.new) }
     ensures ends { D.keeps_word disk.old → (sector nonces : ℕ) (d : Database) (changes : List Change) (place : ℕ) (w : List ℕ)
         → Journaled page_size sector d (pages_of changes) place w (D.state disk.old) → 0 < place
         → ArePut page_size (apply d (lent pages.now) size) (pages_of changes) (D.state disk.old).db

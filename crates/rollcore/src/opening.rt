@@ -7,13 +7,13 @@ ghost use Rattle.sqval.specs.Answers.{Files};
 ghost use Rattle.sqval.specs.Database.{Database};
 ghost use Rattle.sqval.specs.Held.{IsHeld};
 ghost use Rattle.rollcore.specs.Machine.{State};
-ghost use Rattle.crashdisk.specs.Keeps.{Suits, HadRefusal, IsLogDown, Still, SyncStep, TearsPages, Later};
-ghost use Rattle.rollcore.specs.Changes.{MayChange};
+ghost use Rattle.crashdisk.specs.Keeps.{Suits, HadRefusal, IsLogDown, Still, SyncStep, TellsRefusal};
+ghost use Rattle.rollcore.specs.Changes.{MayRecover, Asks};
 ghost use Rattle.rollcore.specs.Plans.{IsPlan};
 ghost use Rattle.rollcore.specs.Replaying.{Agrees};
 ghost use Rattle.rollcore.specs.Steps.{torn_sector};
 ghost use Rattle.rollcore.specs.Lengths.{ShowsOne};
-ghost use Rattle.rollcore.specs.Opening.{CountAnswer, SizeJudged, BreakSteps, FrontAnswer, RecoverAnswer, RecoveredAt, IsNewCore, RefusedFor, OpenRefused, MayOpen, AgreesSynced, RefusedSynced};
+ghost use Rattle.rollcore.specs.Opening.{CountAnswer, SizeJudged, BreakSteps, FrontAnswer, RecoverAnswer, RecoveredAt, IsNewCore, FilesAnswer, OpenRefused, OpensFiles, AgreesSynced, RefusedSynced};
 ghost use Rattle.rollcore.specs.Fits.{FitsDisk, AreFiles, OpenedTo, GivenUpTo, Opened, GivenUp};
 
 use crate::error::RollError;
@@ -35,6 +35,7 @@ fn count_pages<D: Disk>(disk: &mut D, page_size: PageSize) -> Result<u32, RollEr
     ensures count { D.keeps_word disk.old → IsSoundDisk (D.state disk.old)
         → CountAnswer page_size (D.state disk.old).db.len result (D.state disk.old) (D.state disk.new) }
     ensures few { IfOk result (λ n. n * page_size ≤ 1073741824) }
+    ensures told { D.keeps_word disk.old → TellsRefusal RollError.Device result (D.state disk.old) (D.state disk.new) }
 {
     let long = disk.len(File::Db)?;
     let size = u64::from(page_size.get());
@@ -64,6 +65,7 @@ pub(crate) fn break_magic<D: Disk>(disk: &mut D, at: u64) -> Result<bool, RollEr
     ensures word { D.keeps_word disk.old ↔ D.keeps_word disk.new }
     ensures device { IfErr result (λ e. e ≡ RollError.Device) }
     ensures steps { D.keeps_word disk.old → IsSoundDisk (D.state disk.old) → BreakSteps at result (D.state disk.old) (D.state disk.new) }
+    ensures told { D.keeps_word disk.old → TellsRefusal RollError.Device result (D.state disk.old) (D.state disk.new) }
 {
     let mut front = [0; 8];
     disk.read_at(File::Log, at, &mut front)?;
@@ -87,11 +89,10 @@ pub(crate) fn settle_log<D: Disk>(disk: &mut D) -> Result<(), RollError>
 /// Leaves no magic at the front of a log that isn't hot, so that no later write makes it hot.
 fn break_front<D: Disk>(disk: &mut D) -> Result<(), RollError>
     ensures word { D.keeps_word disk.old ↔ D.keeps_word disk.new }
-    ensures goes { D.keeps_word disk.old → IsSoundDisk (D.state disk.old) → (size sector : ℕ)
-        → Later (MayChange size sector) (D.state disk.old) (D.state disk.new) }
+    ensures asks { D.keeps_word disk.old → (size : ℕ) → Asks (MayRecover size) result (D.state disk.old) (D.state disk.new) }
     ensures file { D.keeps_word disk.old → IsSoundDisk (D.state disk.old) → (D.state disk.new).db ≡ (D.state disk.old).db }
     ensures front { D.keeps_word disk.old → IsSoundDisk (D.state disk.old) → IsSectorSize (D.state disk.old).sector
-        → (w : List ℕ) → IsLogDown (D.state disk.old) w → (IsHot w → ⊥) → FrontAnswer result (D.state disk.old) (D.state disk.new) }
+        → (w : List ℕ) → IsLogDown (D.state disk.old) w → (IsHot w → ⊥) → FrontAnswer w result (D.state disk.old) (D.state disk.new) }
     ensures refused { D.keeps_word disk.old → IsSoundDisk (D.state disk.old)
         → IfErr result (λ e. (e ≡ RollError.Device) × HadRefusal (D.state disk.old) (D.state disk.new)) }
 {
@@ -108,14 +109,12 @@ fn recover_synced<D: Disk>(
     page_size: PageSize,
 ) -> Result<u32, RollError>
     ensures word { D.keeps_word disk.old ↔ D.keeps_word disk.new }
-    ensures goes { D.keeps_word disk.old → (size sector : ℕ) → Later (MayChange size sector) (D.state disk.old) (D.state disk.new) }
+    ensures asks { D.keeps_word disk.old → Asks (MayRecover page_size) result (D.state disk.old) (D.state disk.new) }
     ensures recovered { D.keeps_word disk.old → (w : List ℕ) (d : Database) → Suits page_size (D.state disk.old) → IsHeld page_size d
         → IsLogDown (D.state disk.old) w → ShowsOne page_size d (D.state disk.old) → RecoverAnswer page_size d result (D.state disk.old) (D.state disk.new) }
     ensures agrees { D.keeps_word disk.old → Agrees (D.state disk.old) (D.state disk.new) }
-    ensures refused { D.keeps_word disk.old → (db w : List ℕ) → ArePresent (D.state disk.old).db db → ArePresent (D.state disk.old).log w
-        → IfErr result (λ e. RefusedFor page_size db w e (D.state disk.old) (D.state disk.new)) }
-    ensures opens { D.keeps_word disk.old → (db w : List ℕ) → ArePresent (D.state disk.old).db db → ArePresent (D.state disk.old).log w
-        → OnOk result (MayOpen page_size db w (D.state disk.old)) }
+    ensures files { D.keeps_word disk.old → (db w : List ℕ) → ArePresent (D.state disk.old).db db → IsLogDown (D.state disk.old) w
+        → FilesAnswer page_size db w result (D.state disk.old) (D.state disk.new) }
     ensures few { IfOk result (λ n. n * page_size ≤ 1073741824) }
 {
     match find_plan(alloc, disk)? {
@@ -141,10 +140,8 @@ fn recover<D: Disk>(alloc: Global, disk: &mut D, page_size: PageSize) -> Result<
     ensures synced { D.keeps_word disk.old → MatchResult result
         (λ _. AgreesSynced (D.state disk.old) (D.state disk.new))
         (λ e. RefusedSynced e (D.state disk.old) (D.state disk.new)) }
-    ensures refused { D.keeps_word disk.old → IsSoundDisk (D.state disk.old) → (db w : List ℕ) → ArePresent (D.state disk.old).db db → ArePresent (D.state disk.old).log w
-        → IfErr result (λ e. RefusedFor page_size db w e (D.state disk.old) (D.state disk.new)) }
-    ensures opens { D.keeps_word disk.old → IsSoundDisk (D.state disk.old) → (db w : List ℕ) → ArePresent (D.state disk.old).db db → ArePresent (D.state disk.old).log w
-        → OnOk result (MayOpen page_size db w (D.state disk.old)) }
+    ensures files { D.keeps_word disk.old → IsSoundDisk (D.state disk.old) → (db w : List ℕ) → ArePresent (D.state disk.old).db db → ArePresent (D.state disk.old).log w
+        → FilesAnswer page_size db w result (D.state disk.old) (D.state disk.new) }
     ensures few { IfOk result (λ n. n * page_size ≤ 1073741824) }
 {
     settle_log(disk)?;
@@ -184,9 +181,7 @@ fn open_core<D: Disk>(alloc: Global, disk: &mut D, page_size: PageSize) -> Resul
         (λ _. AgreesSynced (D.state disk.old) (D.state disk.new))
         (λ e. RefusedSynced e (D.state disk.old) (D.state disk.new)) }
     ensures refused { D.keeps_word disk.old → IfErr result (λ e. OpenRefused page_size e (D.state disk.old) (D.state disk.new)) }
-    ensures whole { D.keeps_word disk.old → OnOk result (TearsPages page_size (D.state disk.old) → ⊥) }
-    ensures opens { D.keeps_word disk.old → (db w : List ℕ) → ArePresent (D.state disk.old).db db → ArePresent (D.state disk.old).log w
-        → OnOk result (MayOpen page_size db w (D.state disk.old)) }
+    ensures opens { D.keeps_word disk.old → OnOk result (OpensFiles page_size (D.state disk.old) (D.state disk.new)) }
 {
     let size = page_size.get() as usize;
     if size < sector_that_tears(disk) {
@@ -216,11 +211,7 @@ impl<D: Disk> Roll<D> {
             (λ roll. AgreesSynced (D.state disk) (D.state roll.disk))
             (λ refused. RefusedSynced refused.error (D.state disk) (D.state refused.disk)) }
         ensures refused { D.keeps_word disk → IfErr result (λ refused. OpenRefused page_size refused.error (D.state disk) (D.state refused.disk)) }
-        // no page is smaller than a sector that tears
-        ensures whole { D.keeps_word disk → OnOk result (TearsPages page_size (D.state disk) → ⊥) }
-        // and the files are what an opening is granted for
-        ensures opens { D.keeps_word disk → (db w : List ℕ) → ArePresent (D.state disk).db db → ArePresent (D.state disk).log w
-            → OnOk result (MayOpen page_size db w (D.state disk)) }
+        ensures opens { D.keeps_word disk → IfOk result (λ roll. OpensFiles page_size (D.state disk) (D.state roll.disk)) }
     {
         let mut disk = disk;
         match open_core(alloc, &mut disk, page_size) {

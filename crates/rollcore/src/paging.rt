@@ -1,12 +1,12 @@
 //! Pages are read, and the disk is lent.
-ghost use Rattle.std.specs.Prelude.{◌≡◌, ◌≢◌, ◌↔◌, ◌≤◌, ℕ, length, OnOk, IfErr};
+ghost use Rattle.std.specs.Prelude.{◌≡◌, ◌↔◌, ◌≤◌, ℕ, length, OnOk, IfErr};
 ghost use Rattle.std.specs.Borrow.{Lends, sem};
 ghost use Rattle.crashdisk.specs.Call.{DiskState, IsSoundDisk};
 ghost use Rattle.sqval.specs.Answers.{Page};
 ghost use Rattle.rollcore.specs.Machine.{State, Reads};
 ghost use Rattle.rollcore.specs.Fits.{Fits, Steps, answered};
-ghost use Rattle.rollcore.specs.Paging.{ReadJudged, IsRefusedRead};
-ghost use Rattle.crashdisk.specs.Keeps.{PlaceAnswer, LooksOnce};
+ghost use Rattle.rollcore.specs.Paging.{ReadJudged, ReadAnswers};
+ghost use Rattle.crashdisk.specs.Keeps.{PlaceAnswer, LooksOnce, TellsRefusal};
 
 use crate::error::RollError;
 use crate::roll::Roll;
@@ -51,6 +51,7 @@ pub(crate) fn read_place<D: Disk>(
     ensures device { IfErr result (λ e. e ≡ RollError.Device) }
     ensures place { D.keeps_word disk.old → IsSoundDisk (D.state disk.old) → PlaceAnswer RollError.Device file at out.new result (D.state disk.old) (D.state disk.new) }
     ensures looks { D.keeps_word disk.old → LooksOnce (D.state disk.old) (D.state disk.new) }
+    ensures told { D.keeps_word disk.old → TellsRefusal RollError.Device result (D.state disk.old) (D.state disk.new) }
 {
     disk.read_at(file, at, out)?;
     Ok(())
@@ -63,10 +64,9 @@ impl<D: Disk> Roll<D> {
     /// doesn't close the core. After a refusal `out` may hold anything.
     pub fn read(&mut self, page: u32, out: &mut [u8]) -> Result<(), RollError>
         ensures word { D.keeps_word self.old.disk ↔ D.keeps_word self.new.disk }
-        ensures kept { IfErr result (λ e. e ≢ RollError.Device → self.new ≡ self.old) }
+        ensures answer { ReadAnswers self.old.core page (length out.old) result self.old self.new }
         ensures step { D.keeps_word self.old.disk → (past : State) → Fits D.state self.old past → length out.old ≡ past.page_size
             → Steps D.state self.old self.new past (Reads page) (answered (λ _. Page out.new) result) }
-        ensures size { length out.old ≢ self.old.core.page_size → IsRefusedRead self.old.core page result × (self.new ≡ self.old) }
         // whatever is answered
         ensures core { self.new.core ≡ self.old.core }
         ensures looks { D.keeps_word self.old.disk → LooksOnce (D.state self.old.disk) (D.state self.new.disk) }

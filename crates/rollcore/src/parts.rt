@@ -4,11 +4,10 @@ ghost use Rattle.sqval.specs.Database.{Database, apply};
 ghost use Rattle.sqval.specs.Held.{IsHeld};
 ghost use Rattle.sqval.specs.JudgedPages.{lent};
 ghost use Rattle.sqjournal.specs.Header.{IsSector};
-ghost use Rattle.crashdisk.specs.Call.{IsSoundDisk};
 ghost use Rattle.rollcore.specs.Fits.{Rests};
 ghost use Rattle.rollcore.specs.Machine.{segments_of};
-ghost use Rattle.crashdisk.specs.Keeps.{Suits, Later};
-ghost use Rattle.rollcore.specs.Changes.{MayChange};
+ghost use Rattle.crashdisk.specs.Keeps.{Suits};
+ghost use Rattle.rollcore.specs.Changes.{MayCommit, Asks};
 ghost use Rattle.rollcore.specs.Commits.{KeepsCore, IsReady};
 ghost use Rattle.rollcore.specs.Segments.{pages_of, Parted, PartAnswer, SegmentsAnswer};
 
@@ -42,8 +41,8 @@ fn put_part<D: Disk>(
     requires sector { IsSector sector }
     ensures word { D.keeps_word disk.old ↔ D.keeps_word disk.new }
     ensures device { IfErr result (λ e. e ≡ RollError.Device) }
-    ensures goes { D.keeps_word disk.old → IsSoundDisk (D.state disk.old) → length core.old.header.items ≡ sector
-        → Later (MayChange core.old.page_size sector) (D.state disk.old) (D.state disk.new) }
+    ensures asks { D.keeps_word disk.old → length core.old.header.items ≡ sector
+        → Asks (MayCommit core.old.page_size sector) result (D.state disk.old) (D.state disk.new) }
     ensures near { IfOk result (λ next. next ≤ place + 2 ^ 23) }
     ensures keeps { KeepsCore core.old core.new }
     ensures changes { core.new.changes ≡ core.old.changes }
@@ -84,8 +83,8 @@ pub(crate) fn put_segments<D: Disk>(
     requires sector { IsSector sector }
     ensures word { D.keeps_word disk.old ↔ D.keeps_word disk.new }
     ensures device { IfErr result (λ e. e ≡ RollError.Device) }
-    ensures goes { D.keeps_word disk.old → IsSoundDisk (D.state disk.old) → length core.old.header.items ≡ sector
-        → Later (MayChange core.old.page_size sector) (D.state disk.old) (D.state disk.new) }
+    ensures asks { D.keeps_word disk.old → length core.old.header.items ≡ sector
+        → Asks (MayCommit core.old.page_size sector) result (D.state disk.old) (D.state disk.new) }
     ensures keeps { KeepsCore core.old core.new }
     ensures changes { core.new.changes ≡ core.old.changes }
     ensures segments { D.keeps_word disk.old → (n : ℕ) (d : Database) → IsReady pages.now n (length nonces.now) core.old

@@ -4,8 +4,8 @@ ghost use Rattle.crashdisk.specs.Call.{DiskState, IsSoundDisk, ArePresent};
 ghost use Rattle.sqjournal.specs.Took.{Took};
 ghost use Rattle.sqjournal.specs.Header.{Names};
 ghost use Rattle.sqjournal.specs.Journal.{IsHot};
-ghost use Rattle.crashdisk.specs.Keeps.{Still};
-ghost use Rattle.rollcore.specs.Plans.{JudgeAnswer, PlanAnswer, ReadAnswer};
+ghost use Rattle.crashdisk.specs.Keeps.{Still, TellsRefusal};
+ghost use Rattle.rollcore.specs.Plans.{IsSmall, JudgeAnswer, PlanAnswer, ReadAnswer};
 
 use crate::error::RollError;
 use crate::reading::{scan_log, zeros};
@@ -43,8 +43,7 @@ fn judge(header: &JournalHeader, torn: usize) -> Result<(), RollError>
 /// Judges the scanned journal, and takes all memory that its replay needs. None where it isn't hot.
 fn plan_of(alloc: Global, scan: Replay, torn: usize) -> Result<Option<Plan>, RollError>
     ensures plan { (w : List ℕ) → Took w scan → PlanAnswer torn w result }
-    ensures room { IfOk result (λ o. MatchOption o (Unit {0}) (λ p. length p.page.items ≤ 65536)) }
-    ensures few { IfOk result (λ o. MatchOption o (Unit {0}) (λ p. p.header.first_size * p.header.page_size ≤ 1073741824)) }
+    ensures small { IfOk result (λ o. MatchOption o (Unit {0}) IsSmall) }
 {
     let Some(header) = scan.first() else {
         return Ok(None);
@@ -66,8 +65,8 @@ pub fn read_plan<D: Disk>(
     ensures plan { D.keeps_word disk.old → IsSoundDisk (D.state disk.old)
         → (w : List ℕ) → ArePresent (D.state disk.old).log w → length w ≡ long
         → ReadAnswer torn w result (D.state disk.old) (D.state disk.new) }
-    ensures room { IfOk result (λ o. MatchOption o (Unit {0}) (λ p. length p.page.items ≤ 65536)) }
-    ensures few { IfOk result (λ o. MatchOption o (Unit {0}) (λ p. p.header.first_size * p.header.page_size ≤ 1073741824)) }
+    ensures small { IfOk result (λ o. MatchOption o (Unit {0}) IsSmall) }
+    ensures told { D.keeps_word disk.old → TellsRefusal RollError.Device result (D.state disk.old) (D.state disk.new) }
 {
     match scan_log(alloc, disk, long)? {
         Some(scan) => plan_of(alloc, scan, torn),

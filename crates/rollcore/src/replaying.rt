@@ -25,9 +25,9 @@ ghost use Rattle.sqval.specs.Database.{Database};
 ghost use Rattle.rollcore.specs.Alone.{ShowsAlone};
 ghost use Rattle.rollcore.specs.Phases.{Scanning};
 ghost use Rattle.rollcore.specs.Steps.{torn_sector, RolledAnswer};
-ghost use Rattle.crashdisk.specs.Keeps.{Still, IsLogDown, Later};
-ghost use Rattle.rollcore.specs.Plans.{IsPlan, IsFit, ReadAnswer};
-ghost use Rattle.rollcore.specs.Changes.{MayReplay};
+ghost use Rattle.crashdisk.specs.Keeps.{Still, IsLogDown, TellsRefusal};
+ghost use Rattle.rollcore.specs.Plans.{IsPlan, IsFit, IsSmall, ReadAnswer};
+ghost use Rattle.rollcore.specs.Changes.{MayReplay, Asks};
 ghost use Rattle.rollcore.specs.Replaying.{Replays, Agrees, SyncsFirst};
 ghost use Rattle.rollcore.specs.Lengths.{EndsBy, KeepsLength};
 ghost use Rattle.sqval.specs.Bytes.{word};
@@ -45,13 +45,12 @@ pub(crate) fn sector_that_tears<D: Disk>(disk: &D) -> usize
 /// Reads the journal and judges it. None where it isn't hot.
 pub(crate) fn find_plan<D: Disk>(alloc: Global, disk: &mut D) -> Result<Option<Plan>, RollError>
     ensures word { D.keeps_word disk.old ↔ D.keeps_word disk.new }
-    ensures sound { D.keeps_word disk.old → IsSoundDisk (D.state disk.old) }
     ensures sectors { D.keeps_word disk.old → IsSectorSize (D.state disk.old).sector }
     ensures still { D.keeps_word disk.old → Still (D.state disk.old) (D.state disk.new) }
     ensures plan { D.keeps_word disk.old → (w : List ℕ) → ArePresent (D.state disk.old).log w
         → ReadAnswer (torn_sector (D.state disk.old)) w result (D.state disk.old) (D.state disk.new) }
-    ensures room { IfOk result (λ o. MatchOption o (Unit {0}) (λ p. length p.page.items ≤ 65536)) }
-    ensures few { IfOk result (λ o. MatchOption o (Unit {0}) (λ p. p.header.first_size * p.header.page_size ≤ 1073741824)) }
+    ensures small { IfOk result (λ o. MatchOption o (Unit {0}) IsSmall) }
+    ensures told { D.keeps_word disk.old → TellsRefusal RollError.Device result (D.state disk.old) (D.state disk.new) }
 {
     let torn = sector_that_tears(disk);
     let long = disk.len(File::Log)?;
@@ -60,7 +59,7 @@ pub(crate) fn find_plan<D: Disk>(alloc: Global, disk: &mut D) -> Result<Option<P
 
 /// Replays what is planned.
 pub(crate) fn replay_plan<D: Disk>(disk: &mut D, plan: Plan) -> Result<Replayed, RollError>
-    requires { length plan.page.items ≤ 65536 }
+    requires { IsSmall plan }
     ensures word { D.keeps_word disk.old ↔ D.keeps_word disk.new }
     ensures replays { D.keeps_word disk.old → IsSoundDisk (D.state disk.old)
         → (db w : List ℕ) (torn : ℕ) → ArePresent (D.state disk.old).db db → ArePresent (D.state disk.old).log w → IsFit torn w → IsPlan w plan
@@ -68,7 +67,7 @@ pub(crate) fn replay_plan<D: Disk>(disk: &mut D, plan: Plan) -> Result<Replayed,
     ensures shows { D.keeps_word disk.old → IsSoundDisk (D.state disk.old) → IsSectorSize (D.state disk.old).sector
         → (size : ℕ) (w : List ℕ) (d : Database) → Scanning size d w (D.state disk.old)
         → IsFit (torn_sector (D.state disk.old)) w → IsPlan w plan → ShowsAlone size d (D.state disk.new) }
-    ensures goes { D.keeps_word disk.old → IsSoundDisk (D.state disk.old) → Later MayReplay (D.state disk.old) (D.state disk.new) }
+    ensures asks { D.keeps_word disk.old → Asks (MayReplay plan.header.page_size) result (D.state disk.old) (D.state disk.new) }
     ensures ends { D.keeps_word disk.old → IsSoundDisk (D.state disk.old) → IsSectorSize (D.state disk.old).sector
         → (w : List ℕ) → IsLogDown (D.state disk.old) w → IsFit (torn_sector (D.state disk.old)) w → IsPlan w plan → EndsBy (word w 16 * word w 24) (D.state disk.new) }
     ensures size { IfOk result (λ r. r.size ≡ plan.header.first_size) }
@@ -100,7 +99,9 @@ pub fn replay<D: Disk>(alloc: Global, disk: &mut D) -> Result<Replayed, RollErro
     ensures agrees { D.keeps_word disk.old → Agrees (D.state disk.old) (D.state disk.new) }
     ensures lengths { D.keeps_word disk.old → KeepsLength (D.state disk.old) (D.state disk.new) }
     ensures synced { D.keeps_word disk.old → SyncsFirst result (D.state disk.old) (D.state disk.new) }
-    ensures later { D.keeps_word disk.old → IsSoundDisk (D.state disk.old) → Later MayReplay (D.state disk.old) (D.state disk.new) }
+    // pages of the size that the journal names; and a call of the disk that was refused is told
+    ensures asks { D.keeps_word disk.old → (w : List ℕ) → ArePresent (D.state disk.old).log w
+        → Asks (MayReplay (word w 24)) result (D.state disk.old) (D.state disk.new) }
 {
     disk.sync(File::Log)?;
     replay_synced(alloc, disk)
@@ -112,7 +113,8 @@ pub fn replay_synced<D: Disk>(alloc: Global, disk: &mut D) -> Result<Replayed, R
     ensures replays { D.keeps_word disk.old → Replays result (D.state disk.old) (D.state disk.new) }
     ensures agrees { D.keeps_word disk.old → Agrees (D.state disk.old) (D.state disk.new) }
     ensures lengths { D.keeps_word disk.old → KeepsLength (D.state disk.old) (D.state disk.new) }
-    ensures later { D.keeps_word disk.old → Later MayReplay (D.state disk.old) (D.state disk.new) }
+    ensures asks { D.keeps_word disk.old → (w : List ℕ) → ArePresent (D.state disk.old).log w
+        → Asks (MayReplay (word w 24)) result (D.state disk.old) (D.state disk.new) }
 {
     match find_plan(alloc, disk)? {
         Some(plan) => replay_plan(disk, plan),

@@ -9,11 +9,11 @@ ghost use Rattle.sqval.specs.Database.{Database};
 ghost use Rattle.sqval.specs.JudgedPages.{lent};
 ghost use Rattle.sqjournal.specs.Header.{IsSector, Names, header_bytes, next_header};
 ghost use Rattle.sqjournal.specs.Journal.{records_end};
-ghost use Rattle.crashdisk.specs.Call.{DiskState, IsSoundDisk, InFile};
-ghost use Rattle.crashdisk.specs.declared.file.File.TheVariants.{Db, Log};
-ghost use Rattle.crashdisk.specs.Keeps.{SyncStep, Later};
-ghost use Rattle.rollcore.specs.Changes.{MayChange};
-ghost use Rattle.rollcore.specs.Commits.{change_at};
+ghost use Rattle.crashdisk.specs.Call.{DiskState, IsSoundDisk};
+ghost use Rattle.crashdisk.specs.declared.file.File.TheVariants.{Log};
+ghost use Rattle.crashdisk.specs.Keeps.{SyncStep};
+ghost use Rattle.rollcore.specs.Changes.{MayReplay, MayCommit, Asks};
+ghost use Rattle.rollcore.specs.Commits.{change_at, ArePlaced, AreWithin};
 ghost use Rattle.rollcore.specs.Journaling.{old_pages, sizes, next_place, record_bytes, IsHeaderOf};
 ghost use Rattle.rollcore.specs.Segments.{Recording, Recorded, Ended, Prepared, Journaled, RecordStep, pages_of, AreFresh, RecordsAnswer, PreparedAnswer, HeaderAnswer, PageStep, ArePut, AreTurned, AreSome, PutPagesAnswer, AreOf, new_numbers, SegmentAnswer};
 
@@ -57,8 +57,7 @@ fn write_record<D: Disk>(
     requires place { at ≤ 2 ^ 39 + 2 ^ 23 }
     ensures word { D.keeps_word disk.old ↔ D.keeps_word disk.new }
     ensures device { IfErr result (λ e. e ≡ RollError.Device) }
-    ensures goes { D.keeps_word disk.old → IsSoundDisk (D.state disk.old) → (sector : ℕ)
-        → Later (MayChange (length buffer.old - 8) sector) (D.state disk.old) (D.state disk.new) }
+    ensures asks { D.keeps_word disk.old → (sector : ℕ) → Asks (MayCommit (length buffer.old - 8) sector) result (D.state disk.old) (D.state disk.new) }
     ensures record { D.keeps_word disk.old → IsSoundDisk (D.state disk.old) → page * (length buffer.old - 8) ≤ most_bytes
         → RecordStep (length buffer.old - 8) page nonce at result (D.state disk.old) (D.state disk.new) }
 {
@@ -85,8 +84,7 @@ fn write_records<D: Disk>(
     requires place { at ≤ 2 ^ 39 }
     ensures word { D.keeps_word disk.old ↔ D.keeps_word disk.new }
     ensures device { IfErr result (λ e. e ≡ RollError.Device) }
-    ensures goes { D.keeps_word disk.old → IsSoundDisk (D.state disk.old) → (sector : ℕ)
-        → Later (MayChange (length buffer.old - 8) sector) (D.state disk.old) (D.state disk.new) }
+    ensures asks { D.keeps_word disk.old → (sector : ℕ) → Asks (MayCommit (length buffer.old - 8) sector) result (D.state disk.old) (D.state disk.new) }
     ensures end { IfOk result (λ end. end ≡ at + length changes.now * length buffer.old) }
     ensures records { D.keeps_word disk.old → (sector : ℕ) (d : Database) (named : List ℕ) (place : ℕ) (w : List ℕ)
         → Recording (length buffer.old - 8) sector d named place w (D.state disk.old) → at ≡ place + sector → AreFresh d named (pages_of changes.now)
@@ -118,8 +116,7 @@ fn prepare_segment<D: Disk>(
     requires sector { IsSector sector }
     ensures word { D.keeps_word disk.old ↔ D.keeps_word disk.new }
     ensures device { IfErr result (λ e. e ≡ RollError.Device) }
-    ensures goes { D.keeps_word disk.old → IsSoundDisk (D.state disk.old)
-        → Later (MayChange (length buffer.old - 8) sector) (D.state disk.old) (D.state disk.new) }
+    ensures asks { D.keeps_word disk.old → Asks (MayCommit (length buffer.old - 8) sector) result (D.state disk.old) (D.state disk.new) }
     ensures near { IfOk result (λ next. next ≤ place + 2 ^ 23) }
     ensures prepared { D.keeps_word disk.old → (d : Database) (named w : List ℕ)
         → Journaled (length buffer.old - 8) sector d named place w (D.state disk.old) → AreFresh d named (pages_of changes.now) → (place ≡ 0) ⊎ (1 ≤ length changes.now)
@@ -151,7 +148,8 @@ fn put_page<D: Disk>(disk: &mut D, page: u32, content: &[u8]) -> Result<(), Roll
     requires short { length content.now ≤ 65536 }
     ensures word { D.keeps_word disk.old ↔ D.keeps_word disk.new }
     ensures device { IfErr result (λ e. e ≡ RollError.Device) }
-    ensures goes { D.keeps_word disk.old → IsSoundDisk (D.state disk.old) → Later (InFile Db) (D.state disk.old) (D.state disk.new) }
+    ensures asks { D.keeps_word disk.old → page * length content.now ≤ most_bytes
+        → Asks (MayReplay (length content.now)) result (D.state disk.old) (D.state disk.new) }
     ensures step { D.keeps_word disk.old → PageStep page content.now result (D.state disk.old) (D.state disk.new) }
 {
     let at = u64::from(page - 1) * content.len() as u64;
@@ -170,7 +168,8 @@ fn put_pages<D: Disk>(
     requires short { All (λ x. length x.1.now ≤ 65536) pages.now }
     ensures word { D.keeps_word disk.old ↔ D.keeps_word disk.new }
     ensures device { IfErr result (λ e. e ≡ RollError.Device) }
-    ensures goes { D.keeps_word disk.old → IsSoundDisk (D.state disk.old) → Later (InFile Db) (D.state disk.old) (D.state disk.new) }
+    ensures asks { D.keeps_word disk.old → (size : ℕ) → ArePlaced size pages.now → AreWithin size changes.now
+        → Asks (MayReplay size) result (D.state disk.old) (D.state disk.new) }
     ensures put { D.keeps_word disk.old → (size sector : ℕ) (d e : Database) (named : List ℕ) (place : ℕ) (w before : List ℕ)
         → Journaled size sector d named place w (D.state disk.old) → 0 < place → AreTurned size e named (lent pages.now) changes.now
         → AreSome before → ArePut size e before (D.state disk.old).db
@@ -201,8 +200,8 @@ fn write_header<D: Disk>(
     requires short { length header.old ≤ 65536 }
     ensures word { D.keeps_word disk.old ↔ D.keeps_word disk.new }
     ensures device { IfErr result (λ e. e ≡ RollError.Device) }
-    ensures goes { D.keeps_word disk.old → IsSoundDisk (D.state disk.old) → length header.old ≡ head.now.sector → (size : ℕ)
-        → Later (MayChange size head.now.sector) (D.state disk.old) (D.state disk.new) }
+    ensures asks { D.keeps_word disk.old → length header.old ≡ head.now.sector → (size : ℕ)
+        → Asks (MayCommit size head.now.sector) result (D.state disk.old) (D.state disk.new) }
     ensures header { D.keeps_word disk.old → (size sector : ℕ) (d : Database) (named part w : List ℕ) (nonce : ℕ)
         → Prepared size sector d named place part nonce w (D.state disk.old) → length header.old ≡ sector → length part ≤ 64 → IsHeaderOf size sector d part nonce head.now
         → HeaderAnswer size sector d named place w part nonce result (D.state disk.old) (D.state disk.new) }
@@ -222,7 +221,7 @@ pub(crate) fn put_new_pages<D: Disk>(
     requires pages { All (λ x. (1 ≤ x.0) × (length x.1.now ≤ 65536)) pages.now }
     ensures word { D.keeps_word disk.old ↔ D.keeps_word disk.new }
     ensures device { IfErr result (λ e. e ≡ RollError.Device) }
-    ensures goes { D.keeps_word disk.old → IsSoundDisk (D.state disk.old) → Later (InFile Db) (D.state disk.old) (D.state disk.new) }
+    ensures asks { D.keeps_word disk.old → (size : ℕ) → ArePlaced size pages.now → Asks (MayReplay size) result (D.state disk.old) (D.state disk.new) }
     ensures put { D.keeps_word disk.old → (size sector : ℕ) (d e : Database) (named : List ℕ) (place : ℕ) (w before : List ℕ)
         → Journaled size sector d named place w (D.state disk.old) → 0 < place → old_size ≡ length d → AreOf size e (lent pages.now)
         → AreSome before → ArePut size e before (D.state disk.old).db
@@ -259,8 +258,9 @@ pub(crate) fn put_segment<D: Disk>(
     requires header { length header.old ≤ 65536 }
     ensures word { D.keeps_word disk.old ↔ D.keeps_word disk.new }
     ensures device { IfErr result (λ e. e ≡ RollError.Device) }
-    ensures goes { D.keeps_word disk.old → IsSoundDisk (D.state disk.old) → length header.old ≡ head.now.sector
-        → Later (MayChange (length buffer.old - 8) head.now.sector) (D.state disk.old) (D.state disk.new) }
+    ensures asks { D.keeps_word disk.old → length header.old ≡ head.now.sector
+        → ArePlaced (length buffer.old - 8) pages.now → AreWithin (length buffer.old - 8) changes.now
+        → Asks (MayCommit (length buffer.old - 8) head.now.sector) result (D.state disk.old) (D.state disk.new) }
     ensures near { IfOk result (λ next. next ≤ place + 2 ^ 23) }
     ensures segment { D.keeps_word disk.old → (d e : Database) (named w before : List ℕ)
         → Journaled (length buffer.old - 8) head.now.sector d named place w (D.state disk.old) → AreFresh d named (pages_of changes.now) → (place ≡ 0) ⊎ (1 ≤ length changes.now)

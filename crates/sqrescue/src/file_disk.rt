@@ -59,6 +59,8 @@ impl<F: FileExt + OpenFile + Drop> Disk for FileDisk<F> {
 
     ghost keeps_word = { λ _. ⊥ };
 
+    ghost sound = { λ disk word. absurd word };
+
     fn sector(&self) -> usize {
         4096
     }

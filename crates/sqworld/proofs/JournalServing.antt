@@ -35,7 +35,7 @@ use Rattle.sqworld.specs.declared.reply.Crashed.{Crashed as CrashedLog}
 use Rattle.rollcore.proofs.Crashing.{fits_crash}
 use Rattle.rollcore.proofs.Viewing.{fits_disk_still, fits_still}
 use Rattle.sqworld.proofs.Serving.{and_is}
-use Rattle.sqworld.proofs.Setting.{same_model, stopped_after, stopped_at_sync, failing}
+use Rattle.sqworld.proofs.Setting.{same_model, stopped_after, stopped_at_sync, failing, same_count, stopped_after_count, stopped_at_sync_count, failing_count, untold}
 
 -- what fits an engine fits its disk
 engine_disk : (past : State) (engine : JournalEngine) → FitsEngine past engine → FitsDisk past (disk_of engine)
@@ -43,7 +43,7 @@ engine_disk past (Closed disk) fits = fits.disk
 engine_disk past (Open roll) fits = fits.disk
 
 module _ (size sector : ℕ) where
-  only : (act : Act) (s t : DiskState) → HasCalls (MayChange size sector) s t → OnlyCalls size sector act s t
+  only : (act : Act) (s t : DiskState) → HasCalls (MayChange act size sector) s t → OnlyCalls size sector act s t
   only (Opens found) s t calls = calls
   only (Commits pages n nonces) s t calls = calls
   only (Reads page) s t calls = calls
@@ -57,6 +57,7 @@ pub stepped : (page_size : ℕ) (old new : Roll ModelDisk) (act : Act) (told ans
 stepped page_size old new act told answer same h past size fits may = let steps = h past size fits in record {
   next = steps.next;
   refused = steps.refused;
+  told = λ more. sym same ∙ steps.told more;
   row = subst (λ a. Step past act a (state_of old.disk).refused (state_of new.disk).refused steps.next) same steps.row;
   fits = steps.fits;
   sector = steps.same.sector;
@@ -68,13 +69,14 @@ stepped page_size old new act told answer same h past size fits may = let steps 
 
 pub opened : (past : State) (found : Files) (s : DiskState) (roll : Roll ModelDisk) → StepsTo past (Opens found) Done roll.core s (state_of roll.disk)
     → ServesTo past (Opens found) Done (λ next. FitsEngine next (Open roll)) s (state_of roll.disk)
-opened past found s roll steps = record { next = steps.next; refused = steps.refused; row = steps.row; fits = steps.fits; sector = steps.same.sector; tears = steps.same.tears; calls = steps.same.calls }
+opened past found s roll steps = record { next = steps.next; refused = steps.refused; told = steps.told; row = steps.row; fits = steps.fits; sector = steps.same.sector; tears = steps.same.tears; calls = steps.same.calls }
 
 pub given_up : (past : State) (found : Files) (error : RollError) (n : ℕ) (s : DiskState) (disk : ModelDisk) → n ≡ number_of error → GivenUpTo past found error s (state_of disk)
     → ServesTo past (Opens found) (Refused n) (λ next. FitsEngine next (Closed disk)) s (state_of disk)
 given_up past found error n s disk is up = record {
   next = up.next;
   refused = up.refused;
+  told = λ more. ap Refused (is ∙ ap number_of (up.told more));
   row = subst (λ k. Step past (Opens found) (Refused k) s.refused (state_of disk).refused up.next) (sym is) up.row;
   fits = record { disk = up.fits; is_closed = ap (λ (x : State). x.is_open) up.row.1 };
   sector = up.same.sector;
@@ -131,6 +133,7 @@ crash_answers page_size tears choice old disk crashed s same left cleared = reco
       subst (λ t. ServesTo past (act_of (Crash choice) None crashed) Done (λ next. FitsEngine next (Closed disk)) t (state_of disk)) same (record {
         next = closed past;
         refused = let r = c.refused in omega (arith, r);
+        told = untold s.refused (state_of disk).refused c.refused;
         row = crash_row past choice crashed s.refused (state_of disk).refused;
         fits = record {
           disk = fits_crash past (chosen choice.db Db s) (chosen choice.log Log s) s (state_of disk) c (permitted tears s (chosen choice.log Log s) crashed choice e (left.says e) may) fit;
@@ -166,6 +169,15 @@ closed_files (StopAfter calls) old new set calm = stopped_after old new calls se
 closed_files (StopAtSync syncs) old new set calm = stopped_at_sync old new syncs set
 closed_files (Fail call part) old new set calm = failing old new call part set
 
+closed_count : (event : JEvent) (old new : ModelDisk) → IsSetTo event old new → IsCalm event old new → (state_of new).refused ≡ (state_of old).refused
+closed_count Opening old new set calm = same_count old new calm
+closed_count (Crash choice) old new set calm = same_count old new calm
+closed_count (Commit pages size nonces) old new set calm = same_count old new calm
+closed_count (Read page) old new set calm = same_count old new calm
+closed_count (StopAfter calls) old new set calm = stopped_after_count old new calls set
+closed_count (StopAtSync syncs) old new set calm = stopped_at_sync_count old new syncs set
+closed_count (Fail call part) old new set calm = failing_count old new call part set
+
 closed_only : (size sector : ℕ) (event : JEvent) (old new : ModelDisk) → IsCalm event old new → OnlyCalls size sector (act_of event None None) (state_of old) (state_of new)
 closed_only size sector Opening old new calm = tt
 closed_only size sector (Crash choice) old new calm = tt
@@ -183,6 +195,7 @@ closed_serves (Ok reply) page_size event old new told set calm = λ o k past siz
     subst (λ a. ServesTo past (act_of event None None) a (λ next. FitsEngine next (Closed new)) (state_of old) (state_of new)) (sym told) (record {
       next = past;
       refused = files.refused;
+      told = untold (state_of old).refused (state_of new).refused (closed_count event old new set calm);
       row = closed_row past event (state_of old).refused (state_of new).refused fits.is_closed o k;
       fits = record { disk = fits_disk_still past (state_of old) (state_of new) files fits.disk; is_closed = fits.is_closed };
       sector = files.sector;
@@ -206,6 +219,15 @@ event_files (StopAfter calls) old new o is set = stopped_after old new calls set
 event_files (StopAtSync syncs) old new o is set = stopped_at_sync old new syncs set
 event_files (Fail call part) old new o is set = failing old new call part set
 
+event_count : (event : JEvent) (old new : ModelDisk) → is_opening event ≡ false → act_of event None None ≡ Sets → IsSetTo event old new → (state_of new).refused ≡ (state_of old).refused
+event_count Opening old new o is set = absurd (cc o)
+event_count (Crash choice) old new o is set = absurd (cc is)
+event_count (Commit pages size nonces) old new o is set = absurd (cc is)
+event_count (Read page) old new o is set = absurd (cc is)
+event_count (StopAfter calls) old new o is set = stopped_after_count old new calls set
+event_count (StopAtSync syncs) old new o is set = stopped_at_sync_count old new syncs set
+event_count (Fail call part) old new o is set = failing_count old new call part set
+
 pub set_serves : (page_size : ℕ) (old new : Roll ModelDisk) (event : JEvent) → is_opening event ≡ false → act_of event None None ≡ Sets → new.core ≡ old.core → IsSetTo event old.disk new.disk
     → RollServes page_size old new (act_of event None None) Done
 set_serves page_size old new event o is core set past size fits may =
@@ -213,6 +235,7 @@ set_serves page_size old new event o is core set past size fits may =
     subst (λ act. ServesTo past act Done (λ next. Fits state_of new next) (state_of old.disk) (state_of new.disk)) (sym is) (record {
       next = past;
       refused = files.refused;
+      told = untold (state_of old.disk).refused (state_of new.disk).refused (event_count event old.disk new.disk o is set);
       row = refl;
       fits = subst (λ (x : Core). FitsCore past x (state_of new.disk)) (sym core) (fits_still past old.core (state_of old.disk) (state_of new.disk) files fits);
       sector = files.sector;

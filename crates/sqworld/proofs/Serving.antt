@@ -36,7 +36,7 @@ use Rattle.sqworld.specs.declared.reply.Crashed.{Crashed as CrashedLog}
 use Rattle.sqworld.specs.declared.session.Session.{Session}
 use Rattle.walcore.proofs.Fitting.{same_core, fits_disk_still, fits_same}
 use Rattle.walcore.proofs.Crashing.{fits_crash}
-use Rattle.sqworld.proofs.Setting.{same_model, stopped_after, stopped_at_sync, failing}
+use Rattle.sqworld.proofs.Setting.{same_model, stopped_after, stopped_at_sync, failing, same_count, stopped_after_count, stopped_at_sync_count, failing_count, untold}
 
 -- ---- Tokens.
 
@@ -84,6 +84,7 @@ opened_session past salts found s wal session begun same first slots count steps
     record {
       next = record { state = is.next; made = is.made; tokens = none_open past.tokens };
       refused = is.refused;
+      told = is.told;
       row = is.row;
       makes = is.makes;
       fits = record {
@@ -101,6 +102,7 @@ pub given_up : (past : Past) (salts : ℕ × ℕ) (found : Files) (error : WalEr
 given_up past salts found error number s disk begun is count up = record {
   next = record { state = up.next; made = up.made; tokens = none_open past.tokens };
   refused = up.refused;
+  told = λ more. ap Refused (is ∙ ap number_of (up.told more));
   row = subst (λ n. Step past.state (Opens salts found) (Refused n) s.refused (state_of disk).refused up.next) (sym is) up.row;
   makes = subst (λ n. Makes past.state.page_size s.sector s.tears past.made (Opens salts found) (Refused n) up.made) (sym is) up.makes;
   fits = record {
@@ -189,6 +191,7 @@ crash_answers page_size tears event choice old disk begun crashed s named same c
       subst (λ t. ServesTo past (act_of event None crashed) Done (λ next. FitsEngine next (Closed disk begun)) t (state_of disk)) same (record {
         next = record { state = gone past.state; made = past.made; tokens = none_open past.tokens };
         refused = let r = c.refused in omega (arith, r);
+        told = untold s.refused (state_of disk).refused c.refused;
         row = crash_row past.state event crashed s.refused (state_of disk).refused is;
         makes = crash_makes past.state.page_size s.sector s.tears past.made event crashed is;
         fits = record {
@@ -250,6 +253,20 @@ closed_files (StopAfter calls) old new set calm = stopped_after old new calls se
 closed_files (StopAtSync syncs) old new set calm = stopped_at_sync old new syncs set
 closed_files (Fail call part) old new set calm = failing old new call part set
 
+closed_count : (event : Event) (old new : ModelDisk) → IsSetTo event old new → IsCalm event old new → (state_of new).refused ≡ (state_of old).refused
+closed_count (OpenEvent salts) old new set calm = same_count old new calm
+closed_count (Crash choice) old new set calm = same_count old new calm
+closed_count (Commit pages s) old new set calm = same_count old new calm
+closed_count Sync old new set calm = same_count old new calm
+closed_count Checkpoint old new set calm = same_count old new calm
+closed_count (Restart salt2) old new set calm = same_count old new calm
+closed_count Begin old new set calm = same_count old new calm
+closed_count (Read reader page) old new set calm = same_count old new calm
+closed_count (End reader) old new set calm = same_count old new calm
+closed_count (StopAfter calls) old new set calm = stopped_after_count old new calls set
+closed_count (StopAtSync syncs) old new set calm = stopped_at_sync_count old new syncs set
+closed_count (Fail call part) old new set calm = failing_count old new call part set
+
 uncalled : {May : Change → Type 0} (old new : ModelDisk) → new ≡ old → HasCalls May (state_of old) (state_of new)
 uncalled old new same = record { states = []; each = ap state_of same }
 
@@ -275,6 +292,7 @@ closed_serves (Ok reply) page_size event old new begun told set calm = λ o k pa
     subst (λ a. ServesTo past (act_of event None None) a (λ next. FitsEngine next (Closed new begun)) (state_of old) (state_of new)) (sym told) (record {
       next = past;
       refused = files.refused;
+      told = untold (state_of old).refused (state_of new).refused (closed_count event old new set calm);
       row = closed_row past.state event (state_of old).refused (state_of new).refused fits.is_closed fits.readers o k;
       makes = closed_makes past.state.page_size (state_of old).sector (state_of old).tears past.made event o k;
       fits = record {
@@ -313,6 +331,20 @@ event_files (StopAfter calls) old new o is set = stopped_after old new calls set
 event_files (StopAtSync syncs) old new o is set = stopped_at_sync old new syncs set
 event_files (Fail call part) old new o is set = failing old new call part set
 
+event_count : (event : Event) (old new : ModelDisk) → is_opening event ≡ false → act_of event None None ≡ Sets → IsSetTo event old new → (state_of new).refused ≡ (state_of old).refused
+event_count (OpenEvent salts) old new o is set = absurd (cc o)
+event_count (Crash choice) old new o is set = absurd (cc is)
+event_count (Commit pages s) old new o is set = absurd (cc is)
+event_count Sync old new o is set = absurd (cc is)
+event_count Checkpoint old new o is set = absurd (cc is)
+event_count (Restart salt2) old new o is set = absurd (cc is)
+event_count Begin old new o is set = absurd (cc is)
+event_count (Read reader page) old new o is set = absurd (cc is)
+event_count (End reader) old new o is set = absurd (cc is)
+event_count (StopAfter calls) old new o is set = stopped_after_count old new calls set
+event_count (StopAtSync syncs) old new o is set = stopped_at_sync_count old new syncs set
+event_count (Fail call part) old new o is set = failing_count old new call part set
+
 pub set_serves : (page_size : ℕ) (old new : Session) (event : Event) → is_opening event ≡ false → act_of event None None ≡ Sets → new.wal.core ≡ old.wal.core → IsSetTo event old.wal.disk new.wal.disk → new.first ≡ old.first → new.slots ≡ old.slots
     → SessionServes page_size old new (act_of event None None) Done
 set_serves page_size old new event o is core set first slots past size fits may =
@@ -320,6 +352,7 @@ set_serves page_size old new event o is core set first slots past size fits may 
     subst (λ act. ServesTo past act Done (λ next. FitsSession next new) (state_of old.wal.disk) (state_of new.wal.disk)) (sym is) (record {
       next = past;
       refused = files.refused;
+      told = untold (state_of old.wal.disk).refused (state_of new.wal.disk).refused (event_count event old.wal.disk new.wal.disk o is set);
       row = refl;
       makes = refl;
       fits = record {

@@ -20,7 +20,7 @@ use Rattle.sqworld.specs.Sessions.{tokens_by, tokens_of, FitsSession, OnlyCalls,
 use Rattle.sqworld.specs.declared.session.Session.{Session}
 
 module _ (size : ℕ) (logs : List (List ℕ)) where
-  only : (act : Act) (s t : DiskState) → HasCalls (MayChange size logs) s t → OnlyCalls size logs act s t
+  only : (act : Act) (s t : DiskState) → HasCalls (MayChange act size logs) s t → OnlyCalls size logs act s t
   only (Opens salts found) s t calls = calls
   only (Commits pages n) s t calls = calls
   only Syncs s t calls = calls
@@ -39,6 +39,7 @@ pub stepped : (past : Past) (old new : Session) (tokens : List (Option Reader)) 
 stepped past old new tokens act told answer same are steps = record {
   next = record { state = steps.next; made = steps.made; tokens = tokens };
   refused = steps.refused;
+  told = λ more. sym same ∙ steps.told more;
   row = subst (λ a. Step past.state act a (state_of old.wal.disk).refused (state_of new.wal.disk).refused steps.next) same steps.row;
   makes = subst (λ a. Makes past.state.page_size (state_of old.wal.disk).sector (state_of old.wal.disk).tears past.made act a steps.made) same steps.makes;
   fits = record { core = steps.fits; tokens = are };
@@ -68,6 +69,7 @@ pub no_read : (page_size : ℕ) (old : Session) (number page : ℕ) → get_or (
 no_read page_size old number page none past size fits may = record {
   next = past;
   refused = omega arith;
+  told = λ more. absurd (omega arith);
   row = subst (λ place. ReadStep place past.state page NoReader (state_of old.wal.disk).refused (state_of old.wal.disk).refused past.state) (sym (not_open past old number fits none)) refl;
   makes = refl;
   fits = fits;
@@ -80,6 +82,7 @@ pub no_end : (page_size : ℕ) (old : Session) (number : ℕ) → get_or (tokens
 no_end page_size old number none past size fits may = record {
   next = past;
   refused = omega arith;
+  told = λ more. absurd (omega arith);
   row = subst (λ place. EndStep place past.state number NoReader past.state) (sym (not_open past old number fits none)) refl;
   makes = refl;
   fits = fits;

@@ -1,5 +1,5 @@
 -- How the engine of a run over a rollback journal, or the disk without one, goes from one event to the next (own).
-use Rattle.std.specs.Prelude.{◌≡◌, ℕ, ◌≤◌, Bool, false, ◌&&◌, Option, is_some, IfSome}
+use Rattle.std.specs.Prelude.{◌≡◌, ℕ, ◌<◌, ◌≤◌, Bool, false, ◌&&◌, Option, is_some, IfSome}
 use Rattle.crashdisk.specs.Call.{DiskState, HasCalls}
 use Rattle.crashdisk.specs.Model.{state_of}
 use Rattle.crashdisk.specs.Stop.{no_stops}
@@ -39,17 +39,19 @@ abbrev pub Happens : (tears : Bool) → JEvent → Option CrashedLog → (old ne
 Happens tears (Crash choice) left old new = IsLeftBy tears choice left (state_of old) (state_of new) × (new.stops ≡ no_stops)
 Happens tears event left old new = IsSetTo event old new
 
--- Nothing is done to the disk but calls of it, which ask for no other changes than an engine may, with pages of this size
--- and on these sectors; unless the event sets a stop or a failure, or is a crash.
+-- Nothing is done to the disk but calls of it, which ask for no other changes than this call of an engine may, with pages of
+-- this size and on these sectors; unless the event sets a stop or a failure, or is a crash.
 abbrev pub OnlyCalls : (size sector : ℕ) → Act → (old new : DiskState) → Type 0
 OnlyCalls size sector Sets old new = Unit {0}
 OnlyCalls size sector (Crashes left) old new = Unit {0}
-OnlyCalls size sector act old new = HasCalls (MayChange size sector) old new
+OnlyCalls size sector act old new = HasCalls (MayChange act size sector) old new
 
 -- The machine goes on by a row of its table, what is handed along fits again, and the disk's sectors are the same.
 pub record ServesTo (past : State) (act : Act) (answer : Answer) (FitsNext : State → Type 0) (old new : DiskState) : Type 0 where
   pub next : State
   pub refused : old.refused ≤ new.refused
+  -- a refused call of the disk is told
+  pub told : old.refused < new.refused → answer ≡ Refused 15
   pub row : Step past act answer old.refused new.refused next
   pub fits : FitsNext next
   pub sector : new.sector ≡ old.sector

@@ -1,8 +1,8 @@
 -- How an engine and its readers go from one call to the next (own).
-use Rattle.std.specs.Prelude.{◌≡◌, ℕ, ◌+◌, ◌≤◌, List, ◌++◌, length, replicate, Option, None}
+use Rattle.std.specs.Prelude.{◌≡◌, ℕ, ◌+◌, ◌<◌, ◌≤◌, List, ◌++◌, length, replicate, Option, None}
 use Rattle.crashdisk.specs.Call.{DiskState, HasCalls}
 use Rattle.crashdisk.specs.Model.{state_of}
-use Rattle.sqval.specs.Answers.{Answer}
+use Rattle.sqval.specs.Answers.{Answer, Refused}
 use Rattle.walcore.specs.Machine.{Act, Crashes, Sets, Step}
 use Rattle.walcore.specs.Changes.{MayChange}
 use Rattle.walcore.specs.Making.{Makes, Permits}
@@ -26,17 +26,19 @@ pub record FitsSession (past : Past) (session : Session) : Type 0 where
   pub core : FitsCore past session.wal.core (state_of session.wal.disk)
   pub tokens : past.tokens ≡ tokens_of session
 
--- Nothing is done to the disk but calls of it, which ask for no other changes than an engine may, with pages of this size
--- and with these logs made; unless the event sets a stop or a failure, or is a crash.
+-- Nothing is done to the disk but calls of it, which ask for no other changes than this call of an engine may, with pages of
+-- this size and with these logs made; unless the event sets a stop or a failure, or is a crash.
 abbrev pub OnlyCalls : (size : ℕ) (logs : List (List ℕ)) → Act → (old new : DiskState) → Type 0
 OnlyCalls size logs Sets old new = Unit {0}
 OnlyCalls size logs (Crashes left) old new = Unit {0}
-OnlyCalls size logs act old new = HasCalls (MayChange size logs) old new
+OnlyCalls size logs act old new = HasCalls (MayChange act size logs) old new
 
 -- The machine goes on by a row of its table, what is handed along fits again, and the disk's sectors are the same.
 pub record ServesTo (past : Past) (act : Act) (answer : Answer) (FitsNext : Past → Type 0) (old new : DiskState) : Type 0 where
   pub next : Past
   pub refused : old.refused ≤ new.refused
+  -- a refused call of the disk is told
+  pub told : old.refused < new.refused → answer ≡ Refused 15
   pub row : Step past.state act answer old.refused new.refused next.state
   pub makes : Makes past.state.page_size old.sector old.tears past.made act answer next.made
   pub fits : FitsNext next

@@ -36,6 +36,9 @@ by_open true first n h f = f h
 by_open false first n h f = let e : 1 ≡ n = cc h in rw (← e) (lit< tt)
 
 -- no commit is refused by more than 10
+pub few_faults : (old_size page_size used : ℕ) (pages : Pages) (size n : ℕ) → refusal_of old_size page_size used pages size ≡ Some n → n < 11
+few_faults old_size page_size used pages size n e =
+    first_below 11 (page_faults old_size page_size pages size ++ (nat_lt most_pages (used + length pages), 10) ∷ []) n (lit< tt, (lit< tt, (lit< tt, (lit< tt, (lit< tt, (lit< tt, (lit< tt, (lit< tt, (lit< tt, tt))))))))) e
+
 pub few_refusals : (s : State) (pages : Pages) (size n : ℕ) → commit_refusal s pages size ≡ Some n → n < 11
-few_refusals s pages size n h = by_open s.is_open (refusal_of (length (newest s)) s.page_size s.used pages size) n h (λ e.
-    first_below 11 (page_faults (length (newest s)) s.page_size pages size ++ (nat_lt most_pages (s.used + length pages), 10) ∷ []) n (lit< tt, (lit< tt, (lit< tt, (lit< tt, (lit< tt, (lit< tt, (lit< tt, (lit< tt, (lit< tt, tt))))))))) e)
+few_refusals s pages size n h = by_open s.is_open (refusal_of (length (newest s)) s.page_size s.used pages size) n h (λ e. few_faults (length (newest s)) s.page_size s.used pages size n e)

@@ -68,10 +68,10 @@ module _ (size : ℕ) (d : Database) where
   short_front : (w : List ℕ) → length w ≤ 32 → IsFront (named_size w) w 0
   short_front w short = record { is = inl refl; greatest = λ i valid commit. absurd (omega (arith, (valid.each 1 (omega arith) valid.first).whole, frame_end-suc (named_size w) 0, frame_end-zero (named_size w))) }
 
-  short_shows : (db w : List ℕ) → length w ≤ 32 → Show size db [] d → Show size db w d
-  short_shows db w short shows k front =
+  short_shows : (db v w : List ℕ) → length v ≤ 32 → length w ≤ 32 → Show size db v d → Show size db w d
+  short_shows db v w old_short short shows k front =
       let z : k ≡ 0 = front_unique (named_size w) w k 0 front (short_front w short) in
-      let view = (shows 0 (none_front size)).1 in
+      let view = (shows 0 (short_front v old_short)).1 in
       let here : IsView size db w 0 d = record {
         none = view.none;
         some = λ one. absurd (omega arith);
@@ -82,12 +82,12 @@ module _ (size : ℕ) (d : Database) where
       } in
       (λ one. absurd (omega arith), subst (λ (j : ℕ). IsView size db w j d) (sym z) here)
 
-  module _ {T : Type 0} (f : List ℕ) (long : length f ≡ 32) (s : DiskState) (sound : IsSoundDisk s) (down : IsLogDown s []) (alone : ShowsAlone size d s) where
+  module _ {T : Type 0} (f v : List ℕ) (long : length f ≡ 32) (old_short : length v ≤ 32) (s : DiskState) (sound : IsSoundDisk s) (down : IsLogDown s v) (alone : ShowsAlone size d s) where
     written_read : (called : Result T DiskError) (t : DiskState) → Writes Log 0 f called s t → (db w : List ℕ) → IsImage t.sector t.tears t.db db → MayBeRead t w → Show size db w d
     written_read called t wrote db w image may =
         let top = greatest_changed s.sector (WriteTouches s.sector s.log 0 f) (written s.log 0 f) (max s.log.len (0 + length f)) called s.log t.log wrote.file in
-        let short : length w ≤ 32 = ⊎_elim (λ listed. omega (arith, listed.greatest, top, down.settled.greatest, down.settled.len, long)) (λ left. omega (arith, left.1.greatest, top, down.settled.greatest, down.settled.len, long)) (read_cases t w may) in
-        short_shows db w short (alone.images db [] (image_elsewhere Log called s t wrote.elsewhere db image) (down_left [] s down))
+        let short : length w ≤ 32 = ⊎_elim (λ listed. omega (arith, listed.greatest, top, down.settled.greatest, down.settled.len, long, old_short)) (λ left. omega (arith, left.1.greatest, top, down.settled.greatest, down.settled.len, long, old_short)) (read_cases t w may) in
+        short_shows db v w old_short short (alone.images db v (image_elsewhere Log called s t wrote.elsewhere db image) (down_left v s down))
 
     -- the header is written, or not
     pub header_alone : (r : Result T WalError) (t : DiskState) → HeaderSteps f r s t → ShowsAlone size d t

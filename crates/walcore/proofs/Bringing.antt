@@ -10,7 +10,7 @@ use Rattle.sqwal.specs.Index.{FrameTable}
 use Rattle.sqwal.specs.View.{IsView}
 use Rattle.sqwal.proofs.Same.{frame_at-end, frame_end-le, page_same, size_same}
 use Rattle.crashdisk.specs.State.{byte}
-use Rattle.crashdisk.specs.Call.{DiskState, IsSoundDisk, ArePresent, Syncs}
+use Rattle.crashdisk.specs.Call.{DiskState, IsSoundDisk, ArePresent, Syncs, HasCalls}
 use Rattle.crashdisk.specs.declared.file.File.TheVariants.{Db, Log}
 use Rattle.crashdisk.specs.declared.error.DiskError.{DiskError}
 use Rattle.crashdisk.proofs.Images.{table}
@@ -29,7 +29,9 @@ use Rattle.walcore.specs.declared.error.WalError.{WalError}
 use Rattle.crashdisk.proofs.Stills.{refusal_after}
 use Rattle.crashdisk.proofs.Later.{sync_refused}
 use Rattle.crashdisk.proofs.Down.{since_db}
-use Rattle.crashdisk.proofs.Called.{one_sync}
+use Rattle.crashdisk.proofs.Called.{one_sync, no_calls, calls_then}
+use Rattle.walcore.specs.Changes.{MayFill}
+use Rattle.walcore.proofs.Changes.{nothing_may}
 use Rattle.walcore.proofs.Fronting.{same_front}
 use Rattle.walcore.proofs.Present.{present_by}
 use Rattle.walcore.proofs.Stepping.{stands_syncs}
@@ -89,7 +91,7 @@ keeps_synced {T = T} r a b sound step =
       handed = since.1;
       refused = omega (arith, counted_grows step.0 a.refused sound.refused, step.2.elsewhere.refused);
       sound = sound_syncs Db step.0 a b sound step.2;
-      calls = one_sync Db step.0 a b step.2;
+      calls = one_sync Db step.0 a b refl step.2;
     }
 
 -- ---- a database is brought over
@@ -98,16 +100,21 @@ keeps_synced {T = T} r a b sound step =
 pub brings_none : {T : Type 0} (size m : ℕ) (t : FrameTable) (v : T) (s : DiskState) → m ≡ 0 → Brings size m t (Ok v) s s
 brings_none size m t v s zero logs e n h index mark d c can ends later within =
     let none : c ≡ m = omega arith in (
-      subst (λ (k : ℕ). Stands size logs e n h index mark d k s) none can.stands,
-      λ db image. subst (λ (k : ℕ). IsJust size (shown h index k) db) (sym zero) ((can.stands.file db image).untouched (none ∙ zero)),
+      (
+        subst (λ (k : ℕ). Stands size logs e n h index mark d k s) none can.stands,
+        λ db image. subst (λ (k : ℕ). IsJust size (shown h index k) db) (sym zero) ((can.stands.file db image).untouched (none ∙ zero)),
+      ),
+      no_calls s,
     )
 
 pub brings_unread : {T : Type 0} (size m : ℕ) (t : FrameTable) (r : Result ℕ WalError) (q : Result T WalError) (x : WalError) (a b : DiskState) → r ≡ Err x → q ≡ Err x → SizeAnswer size m r a b → Brings size m t q a b
 unfolding SizeAnswer
 brings_unread {T = T} size m t r q x a b was is answer logs e n h index mark d c can ends later within =
-    let got = subst (λ (y : Result ℕ WalError). SizeAnswer size m y a b) was answer in
-    subst (λ (y : Result T WalError). BroughtTo size logs e n h index mark d m y a b) (sym is)
-    (got.1, got.2 e n can.present (omega (arith, can.stands.marks.down)), (c, stands_still size logs e n h index mark d c a can.stands b got.0))
+    let got = subst (λ (y : Result ℕ WalError). SizeAnswer size m y a b) was answer in (
+      subst (λ (y : Result T WalError). BroughtTo size logs e n h index mark d m y a b) (sym is)
+          (got.1, got.2 e n can.present (omega (arith, can.stands.marks.down)), (c, stands_still size logs e n h index mark d c a can.stands b got.0)),
+      nothing_may a b got.0.calls,
+    )
 
 module _ (size m count : ℕ) (t : FrameTable) (a b : DiskState) (some : 1 ≤ m) (read : Still a b × ((e : List ℕ) (k : ℕ) → IsPresent size e k a → frame_end size k ≤ length e → m ≤ k → count ≡ size_of size e m))
     (logs : List (List ℕ)) (e : List ℕ) (n : ℕ) (h : List Database) (index : ℕ → ℕ) (mark d c : ℕ) (can : CanBring size logs e n h index mark d c t a) (ends : IsBoundary size e m) (later : c ≤ m) (within : m ≤ d) where
@@ -158,6 +165,13 @@ module _ (size m count : ℕ) (t : FrameTable) (a b : DiskState) (some : 1 ≤ m
 
   pub copy : IsCopy size count now m t
   copy = record { valid = filling.valid; size_is = count_is; within = small; table = in_table }
+
+  -- by whole pages alone
+  pub copies_calls : (g : DiskState) → (count * size ≤ most_bytes → HasCalls (MayFill size) b g) → HasCalls (MayFill size) a g
+  copies_calls g calls = calls_then a b g (nothing_may a b read.0.calls) (calls small)
+
+  pub settles_calls : {U : Type 0} (g : DiskState) → (count * size ≤ most_bytes → HasCalls (MayFill size) b g) → (z : DiskState) (q : Result U WalError) → SyncStep Device Db q g z → HasCalls (MayFill size) a z
+  settles_calls g calls z q step = calls_then a g z (copies_calls g calls) (one_sync Db step.0 g z tt step.2)
 
   module _ {T : Type 0} (g : DiskState) (r : Result T WalError) (keeps : KeepsLog b g)
       (fills : (w : List ℕ) (x : Database) → ArePresent b.log w → IsCopy size count w m t → Filling size w m x b → Filling size w m x g)

@@ -5,7 +5,7 @@ use Rattle.std.proofs.lemmas.Bool.{cases_eq}
 use Rattle.std.proofs.lemmas.List.{length-take-le}
 use Rattle.std.proofs.lemmas.Bool.Decides.{nat_tests}
 use Rattle.sqval.specs.Database.{Database}
-use Rattle.crashdisk.specs.Call.{DiskState, InFile}
+use Rattle.crashdisk.specs.Call.{DiskState, HasCalls}
 use Rattle.crashdisk.specs.declared.file.File.TheVariants.{Db}
 use Rattle.sqval.specs.Answers.{Files, Done, Refused, Refuses, HasCause}
 use Rattle.walcore.specs.Machine.{State, at, last, newest, reader_at, call_refusal, all_newest, closed, synced, checkpointed, Syncs, Checkpoints, CheckpointStep}
@@ -16,9 +16,9 @@ use Rattle.sqval.specs.Held.{IsJust}
 use Rattle.walcore.specs.Made.{NoChance}
 use Rattle.sqwal.specs.Frames.{frame_end}
 use Rattle.walcore.specs.Era.{shown}
-use Rattle.walcore.specs.Changes.{MayChange}
+use Rattle.walcore.specs.Changes.{MayFill, MayChange}
 use Rattle.walcore.specs.Standing.{ShowsWhole, Stands, IsPresent}
-use Rattle.crashdisk.specs.Keeps.{KeepsLog, IsSameDisk}
+use Rattle.crashdisk.specs.Keeps.{KeepsLog, IsSameDisk, TellsRefusal}
 use Rattle.walcore.specs.Bringing.{answer_of, IsOldest, LeavesJust, IsLeast, BroughtTo, Brings, BroughtDown, ClosedBy}
 use Rattle.walcore.specs.Fits.{Past, AreFiles, IsLeft, FitsDisk, IsBound, AreTogether, IsNewestDown, IsCore, FitsCore, StepsTo, answered, times}
 use Rattle.walcore.specs.declared.state.Core.{Core}
@@ -26,14 +26,16 @@ use Rattle.walcore.specs.declared.reader.Reader.{Reader}
 use Rattle.walcore.specs.declared.wal.Checkpointed.{Checkpointed}
 use Rattle.walcore.specs.declared.wal.Checkpointed.TheVariants.{Complete as AllOfIt, Partial as PartOfIt}
 use Rattle.walcore.specs.declared.error.WalError.{WalError}
+use Rattle.walcore.specs.declared.error.WalError.TheVariants.{Device}
 use Rattle.crashdisk.proofs.Down.{present_image}
 use Rattle.walcore.proofs.Present.{present_by}
 use Rattle.walcore.proofs.Standing.{stands_shows, present_last}
 use Rattle.crashdisk.proofs.Stills.{still, same_files}
 use Rattle.crashdisk.proofs.Called.{calls_then, calls_wider}
-use Rattle.walcore.proofs.Changes.{file_may}
+use Rattle.walcore.proofs.Changes.{synced_same, filled_same}
 use Rattle.walcore.proofs.Fitting.{SameCore, core_same}
 use Rattle.walcore.proofs.Joining.{open_refusal}
+use Rattle.walcore.proofs.ToldRefusals.{quiet_same}
 use Rattle.walcore.proofs.Repeating.{behind_same}
 use Rattle.walcore.proofs.Oldest.{reader_above, least_ends, least_begun, oldest_place, all_are_newest, some_is_older}
 
@@ -111,16 +113,20 @@ module _ (past : Past) (a : Core) (s t : DiskState) (fits : FitsCore past a s) (
   open_state : past.state.is_open ≡ true
   open_state = sym fits.is_open ∙ opened
 
-  brought : {T : Type 0} (n : ℕ) (r : Result T WalError) → n ≡ a.page_size → Brings n least a.index r s t → BroughtTo a.page_size past.made.logs e a.frames past.state.history index a.mark d least r s t
+  brought : {T : Type 0} (n : ℕ) (r : Result T WalError) → n ≡ a.page_size → Brings n least a.index r s t
+      → BroughtTo a.page_size past.made.logs e a.frames past.state.history index a.mark d least r s t × HasCalls (MayFill a.page_size) s t
   brought n r same brings = subst (λ (x : ℕ). Brings x least a.index r s t) same brings past.made.logs e a.frames past.state.history index a.mark d c
       (record { stands = is.stands; present = is.present; table = is.table })
       (least_ends past e index d c a s is fits.marks least low) (least_begun past e index d c a s is fits.marks least low)
       (omega (arith, low.low, newest_down.commit))
 
+  filled : {T : Type 0} (n : ℕ) (r : Result T WalError) → n ≡ a.page_size → Brings n least a.index r s t → IsSameDisk (MayFill past.state.page_size) s t
+  filled n r same brings = record { sector = keeps.sector; tears = keeps.tears; calls = subst (λ (k : ℕ). HasCalls (MayFill k) s t) fits.page_size (brought n r same brings).1 }
+
   pub down_refused : {T : Type 0} (b : Core) (n : ℕ) (r : Result T WalError) (q : Result Checkpointed WalError) (x : WalError) → n ≡ a.page_size → Brings n least a.index r s t → r ≡ Err x → q ≡ Err x
       → b.page_size ≡ a.page_size → b.marks.items ≡ a.marks.items → BroughtDown past q a b s t
   down_refused {T = T} b n r q x same brings was is_err size marks =
-      let got = subst (λ (y : Result T WalError). BroughtTo a.page_size past.made.logs e a.frames past.state.history index a.mark d least y s t) was (brought n r same brings) in
+      let got = subst (λ (y : Result T WalError). BroughtTo a.page_size past.made.logs e a.frames past.state.history index a.mark d least y s t) was (brought n r same brings).0 in
       let stands = subst (λ (k : ℕ). Stands k past.made.logs e a.frames past.state.history index a.mark d got.2.0 t) fits.page_size got.2.1 in
       let shut : Past = record { state = closed past.state; made = past.made; tokens = past.tokens } in
       subst (λ (y : Result Checkpointed WalError). BroughtDown past y a b s t) (sym is_err) (
@@ -130,12 +136,12 @@ module _ (past : Past) (a : Core) (s t : DiskState) (fits : FitsCore past a s) (
         disk_of shut e a.frames index a.mark d got.2.0 t stands fits.disk.floor is.floor (λ opened_shut. absurd (let no : false ≡ true = opened_shut in cc)),
         size,
         marks,
-        record { sector = keeps.sector; tears = keeps.tears; calls = keeps.calls },
+        filled n r same brings,
       )
 
-  module _ {T : Type 0} (n : ℕ) (r : Result T WalError) (v : T) (same : n ≡ a.page_size) (brings : Brings n least a.index r s t) (was : r ≡ Ok v) (all : Bool) (all_is : all ≡ (least == a.mark)) where
+  module _ {T : Type 0} (n : ℕ) (r : Result T WalError) (v : T) (same : n ≡ a.page_size) (brings : Brings n least a.index r s t) (was : r ≡ Ok v) (told : TellsRefusal Device r s t) (all : Bool) (all_is : all ≡ (least == a.mark)) where
     got : Stands a.page_size past.made.logs e a.frames past.state.history index a.mark d least t × LeavesJust a.page_size (shown past.state.history index least) t
-    got = let answer = subst (λ (y : Result T WalError). BroughtTo a.page_size past.made.logs e a.frames past.state.history index a.mark d least y s t) was (brought n r same brings) in answer
+    got = let answer = subst (λ (y : Result T WalError). BroughtTo a.page_size past.made.logs e a.frames past.state.history index a.mark d least y s t) was (brought n r same brings).0 in answer
 
     all_newest_is : all ≡ all_newest past.state
     all_newest_is = ⊎_elim
@@ -202,7 +208,7 @@ module _ (past : Past) (a : Core) (s t : DiskState) (fits : FitsCore past a s) (
     pub down_done : (b : Core) (x : Checkpointed) → x ≡ (if all then AllOfIt else PartOfIt) → SameCore (record a { drained = all }) b → b.marks.items ≡ a.marks.items → BroughtDown past (Ok x) a b s t
     unfolding after
     down_done b x is_x core marks = subst (λ (y : Checkpointed). BroughtDown past (Ok y) a b s t) (sym is_x) (
-      keeps.refused,
+      quiet_same r v s t was keeps.refused told,
       row_of all past.state s.refused t.refused all_newest_is (open_refusal past.state open_state),
       record {
         disk = disk;
@@ -215,7 +221,7 @@ module _ (past : Past) (a : Core) (s t : DiskState) (fits : FitsCore past a s) (
       },
       λ i oldest db image. subst (λ (k : ℕ). IsJust k (at past.state i) db) fits.page_size
           (subst (λ (k : ℕ). IsJust a.page_size (at past.state k) db) (oldest_place past e index d c a s is fits.marks least low i oldest) (got.1 db image)),
-      record { sector = keeps.sector; tears = keeps.tears; calls = keeps.calls },
+      filled n r same brings,
     )
 
 -- the room for a page behind that for a frame's head
@@ -246,7 +252,7 @@ module _ (past : Past) (a : Core) (s : DiskState) (fits : FitsCore past a s) whe
   checkpoint_unsynced {T = T} b t r q x was is_err steps =
       let got : StepsTo past past.tokens Syncs (Refused (number_of x)) b s t = subst (λ (y : Result T WalError). StepsTo past past.tokens Syncs (answered (λ (v : T). Done) y) b s t) was steps in
       subst (λ (y : Result Checkpointed WalError). StepsTo past past.tokens Checkpoints (answered answer_of y) b s t) (sym is_err)
-      (record { next = got.next; made = got.made; same = got.same; refused = got.refused; row = got.row; makes = got.makes; fits = got.fits })
+      (record { next = got.next; made = got.made; same = synced_same past.state.page_size got.made.logs s t got.same; refused = got.refused; told = got.told; row = got.row; makes = got.makes; fits = got.fits })
 
   module _ {T : Type 0} (m : Core) (g : DiskState) (r : Result T WalError) (v : T) (was : r ≡ Ok v) (steps : StepsTo past past.tokens Syncs (answered (λ (x : T). Done) r) m s g) where
     pub done : StepsTo past past.tokens Syncs Done m s g
@@ -273,19 +279,13 @@ module _ (past : Past) (a : Core) (s : DiskState) (fits : FitsCore past a s) whe
     oldest_between i oldest = record { least = oldest.least; is = oldest.is }
 
     module _ (b f : Core) (t : DiskState) where
-      same_then : IsSameDisk (InFile Db) g t → IsSameDisk (MayChange past.state.page_size done.made.logs) s t
-      same_then then_same = record {
-        sector = then_same.sector ∙ done.same.sector;
-        tears = then_same.tears ∙ done.same.tears;
-        calls = calls_then s g t done.same.calls (calls_wider (file_may past.state.page_size done.made.logs) g t then_same.calls);
-      }
-
       step_by : (q : Result Checkpointed WalError) → BroughtDown between q m b g t → ClosedBy q b f → StepsTo past past.tokens Checkpoints (answered answer_of q) f s t
       step_by (Ok x) down same = record {
         next = checkpointed past.state;
         made = done.made;
-        same = same_then down.4;
+        same = filled_same past.state.page_size done.made.logs s g done.same t down.4;
         refused = omega (arith, done.refused, down.0);
+        told = λ more. absurd (let bad : Done ≡ Refused 15 = done.told (omega (arith, down.0, more)) in cc);
         row = row_moves x past.state g.refused t.refused s.refused t.refused down.1;
         makes = made_by x;
         fits = subst (λ (core : Core). FitsCore (record { state = checkpointed past.state; made = done.made; tokens = past.tokens }) core t) (sym same) down.2;
@@ -297,8 +297,9 @@ module _ (past : Past) (a : Core) (s : DiskState) (fits : FitsCore past a s) whe
       step_by (Err x) down shut = subst (λ (y : WalError). StepsTo past past.tokens Checkpoints (Refused (number_of y)) f s t) (sym down.1) (record {
         next = closed past.state;
         made = done.made;
-        same = same_then down.6;
+        same = filled_same past.state.page_size done.made.logs s g done.same t down.6;
         refused = omega (arith, done.refused, down.0);
+        told = λ more. refl;
         row = refuses_device past.state s.refused t.refused done.row.0 (⊎_elim (λ lt. inl (omega (arith, done.refused))) (λ most. inr most) down.2);
         makes = done.makes;
         fits = record {

@@ -1,5 +1,5 @@
 -- What fits an engine still fits after calls that change nothing of its files.
-use Rattle.std.proofs.Common.{◌≡◌, inl, inr, ℕ, ◌+◌, ◌*◌, ◌≤◌, Bool, false, cond, List, get_or, refl, sym, ◌∙◌, ap, subst}
+use Rattle.std.proofs.Common.{◌≡◌, inl, inr, ℕ, ◌+◌, ◌*◌, ◌≤◌, Bool, false, cond, List, get_or, refl, sym, ◌∙◌, ap, subst, ◌<◌}
 use Rattle.std.specs.Prelude.{IsTrue, None}
 use Rattle.crashdisk.specs.State.{FileState, IsImage}
 use Rattle.crashdisk.specs.Call.{DiskState}
@@ -13,7 +13,7 @@ use Rattle.sqval.specs.Database.{Database}
 use Rattle.walcore.specs.Alone.{AreWhole}
 use Rattle.sqval.specs.Held.{IsJust}
 use Rattle.walcore.specs.Machine.{newest, reader_at, Act, Step}
-use Rattle.sqval.specs.Answers.{Answer}
+use Rattle.sqval.specs.Answers.{Answer, Refused}
 use Rattle.walcore.specs.Making.{Makes}
 use Rattle.walcore.specs.CommitRefusals.{most_pages}
 use Rattle.walcore.specs.Standing.{MayBeRead, IsBehind, Stands, IsPresent}
@@ -139,8 +139,8 @@ module _ (a b : Core) (s t : DiskState) (same : SameCore a b) (still : SameFiles
 
 module _ (a b : Core) (s t : DiskState) (same : SameCore a b) (still : Still s t) where
   -- a row of the machine that doesn't step
-  pub stays : (past : Past) (act : Act) (answer : Answer) → b.marks.items ≡ a.marks.items → FitsCore past a s
+  pub stays : (past : Past) (act : Act) (answer : Answer) → b.marks.items ≡ a.marks.items → FitsCore past a s → (s.refused < t.refused → answer ≡ Refused 15)
       → Step past.state act answer s.refused t.refused past.state
       → Makes past.state.page_size s.sector s.tears past.made act answer past.made
       → StepsTo past past.tokens act answer b s t
-  stays past act answer marks fits step makes = record { next = past.state; made = past.made; same = record { sector = still.sector; tears = still.tears; calls = nothing_may s t still.calls }; refused = still.refused; row = step; makes = makes; fits = fits_same a b s t same (same_files s t still) past marks fits }
+  stays past act answer marks fits told step makes = record { next = past.state; made = past.made; same = record { sector = still.sector; tears = still.tears; calls = nothing_may s t still.calls }; refused = still.refused; told = told; row = step; makes = makes; fits = fits_same a b s t same (same_files s t still) past marks fits }

@@ -1,19 +1,19 @@
 -- The frames of a commit are written one after another, and the log goes on by them.
-use Rattle.std.proofs.Common.{◌≡◌, ◌≢◌, inr, ⊎_elim, ℕ, suc, ◌+◌, ◌-◌, ◌*◌, ◌<◌, ◌≤◌, List, ◌∷◌, ◌++◌, length, drop, get_or, refl, sym, ◌∙◌, ap, subst, arith, length-append, length-drop, []}
+use Rattle.std.proofs.Common.{◌≡◌, ◌≢◌, ⊎_elim, ℕ, suc, ◌+◌, ◌-◌, ◌*◌, ◌<◌, ◌≤◌, List, ◌∷◌, ◌++◌, length, drop, get_or, refl, sym, ◌∙◌, ap, subst, arith, length-append, length-drop, []}
 use Rattle.std.specs.Prelude.{Result, Ok, Err, IsOk}
 use Rattle.std.proofs.Math.Nat.{mul-le-mul_left}
 use Rattle.std.proofs.lemmas.Bool.{cases_eq}
 use Rattle.std.proofs.lemmas.List.{get_or_append_left, length-take-le}
 use Rattle.std.proofs.Math.Seq.{get_or-append_right}
 use Rattle.crashdisk.specs.State.{longest}
-use Rattle.crashdisk.specs.Call.{DiskState, IsSoundDisk, Writes, write}
+use Rattle.crashdisk.specs.Call.{DiskState, IsSoundDisk, Writes, write, counted}
 use Rattle.crashdisk.specs.declared.file.File.TheVariants.{Log}
 use Rattle.crashdisk.specs.declared.error.DiskError.{DiskError}
 use Rattle.sqval.specs.Bytes.{part, AreBytes}
 use Rattle.sqval.specs.Database.{Database}
 use Rattle.sqwal.specs.Sums.{IsSumOf}
 use Rattle.sqwal.specs.Header.{IsHeaderOf}
-use Rattle.sqwal.specs.Frames.{frame_end, page_of, size_of, content_of, summed, IsFrameHead}
+use Rattle.sqwal.specs.Frames.{frame_at, frame_end, page_of, size_of, content_of, summed, IsFrameHead}
 use Rattle.sqwal.specs.Log.{IsLog}
 use Rattle.sqwal.specs.Refusal.{most_frames}
 use Rattle.sqwal.specs.declared.sum.Sum.{Sum}
@@ -21,7 +21,7 @@ use Rattle.sqwal.specs.declared.header.WalHeader.{WalHeader}
 use Rattle.sqwal.specs.Index.{FrameTable}
 use Rattle.sqwal.proofs.Same.{frame_end-le, frame_at-suc, frame_end-suc}
 use Rattle.crashdisk.specs.Keeps.{HadRefusal, Told}
-use Rattle.walcore.specs.Changes.{IsPiece, MayChange}
+use Rattle.walcore.specs.Changes.{MayExtend}
 use Rattle.walcore.specs.Standing.{IsBehind, Stands, IsPresent}
 use Rattle.walcore.specs.Fits.{IsIndexed}
 use Rattle.walcore.specs.Going.{HasFrame, FrameStep, KnowsLog}
@@ -29,7 +29,6 @@ use Rattle.walcore.specs.declared.state.Core.{Core}
 use Rattle.walcore.specs.declared.error.WalError.{WalError}
 use Rattle.walcore.specs.declared.error.WalError.TheVariants.{Device}
 use Rattle.crashdisk.proofs.Stills.{had_refusal}
-use Rattle.walcore.proofs.Makings.{made_here}
 use Rattle.walcore.proofs.NextFrame.{next_frame}
 use Rattle.walcore.proofs.Present.{present_writes}
 use Rattle.walcore.proofs.Stepping.{stands_writes}
@@ -97,6 +96,12 @@ table_more size f n page old new table is same names within =
           (cases_eq i (suc n));
     }
 
+-- a frame that is written leaves the count of refused calls
+pub frame_quiet : {T : Type 0} (page count : ℕ) (content : List ℕ) (old new : Core) (s t : DiskState) (result : Result T WalError) (step : FrameStep page count content result old new s t) (v : T) → result ≡ Ok v → t.refused ≡ s.refused
+frame_quiet {T = T} page count content old new s t result step v is =
+    let called = told_ok Device step.called result v is step.told in
+    subst (λ (r : Result T DiskError). t.refused ≡ counted r s.refused) called.1 step.wrote.elsewhere.refused
+
 module _ {T : Type 0} (f : List ℕ) (m n : ℕ) (old new : Core) (s t : DiskState) (reaches : Reaches f m n old s) (lt : n < m) (sound : IsSoundDisk s) (page count : ℕ) (content : List ℕ)
     (at : IsFrameAt old.page_size f (suc n) page count content) (headed : old.header.page_size ≡ old.page_size) (result : Result T WalError) (step : FrameStep page count content result old new s t) where
   made : (step.head ++ content ≡ part f (frame_end old.page_size n) (frame_end old.page_size (suc n) - frame_end old.page_size n)) × IsSumOf old.header.order (summed old.page_size f (suc n)) step.after
@@ -111,7 +116,7 @@ module _ {T : Type 0} (f : List ℕ) (m n : ℕ) (old new : Core) (s t : DiskSta
   fits = omega (arith, reaches.log.whole, frame_end-le old.page_size (suc n) m lt)
 
   -- a whole frame of the log is asked for, at its place
-  frame_piece : IsPiece old.page_size f (frame_end old.page_size old.frames) (step.head ++ content)
+  frame_piece : (step.head ++ content ≡ part f (frame_end old.page_size old.frames) (length (step.head ++ content))) × (frame_end old.page_size old.frames ≡ frame_at old.page_size (suc n)) × (length (step.head ++ content) ≡ 24 + old.page_size)
   frame_piece =
       let a : ℕ = frame_end old.page_size n in
       let b : ℕ = frame_end old.page_size (suc n) in
@@ -119,11 +124,12 @@ module _ {T : Type 0} (f : List ℕ) (m n : ℕ) (old new : Core) (s t : DiskSta
       let whole : length (step.head ++ content) ≡ b - a = ap (λ (x : List ℕ). length x) made.0 ∙ long in
       let place : frame_end old.page_size old.frames ≡ a = ap (λ (k : ℕ). frame_end old.page_size k) reaches.knows.frames in (
         made.0 ∙ ap (λ (k : ℕ). part f a k) (sym whole) ∙ ap (λ (k : ℕ). part f k (length (step.head ++ content))) (sym place),
-        inr (suc n, omega arith, place ∙ sym (frame_at-suc old.page_size n), omega (arith, whole, frame_end-suc old.page_size n)),
+        place ∙ sym (frame_at-suc old.page_size n),
+        omega (arith, whole, frame_end-suc old.page_size n),
       )
 
-  pub frame_may : (logs : List (List ℕ)) → MayChange old.page_size (f ∷ logs) (write Log (frame_end old.page_size old.frames) (step.head ++ content))
-  frame_may logs = inr (f, made_here f logs, frame_piece)
+  pub frame_may : (logs : List (List ℕ)) → MayExtend old.page_size (f ∷ logs) (write Log (frame_end old.page_size old.frames) (step.head ++ content))
+  frame_may logs = (f, suc n, (logs, refl), omega arith, frame_piece.1, frame_piece.0, frame_piece.2)
 
   pub frame_known : (v : T) → result ≡ Ok v → KeepsLog old new → page ≤ old.index.bound → KnowsLog f (suc n) new t
   frame_known v is keeps within =

@@ -67,13 +67,13 @@ open_refusal s e = ap (λ b. first_true ((not b, 1) ∷ [])) e
 pub refuses_memory : {S : Type 0} (o : Option ℕ) (failed s : S) (before after : ℕ) → o ≡ None → Refuses o true failed before after s 14 s
 refuses_memory o failed s before after e = subst (λ (x : Option ℕ). Refuses x true failed before after s 14 s) (sym e) (inl (refl, refl, refl))
 
-module _ (a b : Core) (s t : DiskState) (past : Past) (fits : FitsCore past a s) (same : SameCore a b) (still : Still s t) where
+module _ (a b : Core) (s t : DiskState) (past : Past) (fits : FitsCore past a s) (same : SameCore a b) (still : Still s t) (quiet : t.refused ≡ s.refused) where
   pub begin_closed : a.is_open ≡ false → b.marks.items ≡ a.marks.items → StepsTo past past.tokens Begins (Refused 1) b s t
-  begin_closed shut marks = stays a b s t same still past Begins (Refused 1) marks fits
+  begin_closed shut marks = stays a b s t same still past Begins (Refused 1) marks fits (λ more. absurd (omega (arith, quiet, more)))
       (refuses_first (call_refusal past.state) 1 true _ past.state _ _ (closed_refusal past.state (sym fits.is_open ∙ shut))) refl
 
   pub begin_memory : a.is_open ≡ true → b.marks.items ≡ a.marks.items → StepsTo past past.tokens Begins (Refused 14) b s t
-  begin_memory is marks = stays a b s t same still past Begins (Refused 14) marks fits
+  begin_memory is marks = stays a b s t same still past Begins (Refused 14) marks fits (λ more. absurd (omega (arith, quiet, more)))
       (refuses_memory (call_refusal past.state) _ past.state _ _ (open_refusal past.state (sym fits.is_open ∙ is))) refl
 
   bound_new : (e : List ℕ) (index : ℕ → ℕ) (d c : ℕ) (r : Reader) → IsCore past e index d c b t → r.mark ≡ b.mark → r.size ≡ b.size
@@ -96,6 +96,7 @@ module _ (a b : Core) (s t : DiskState) (past : Past) (fits : FitsCore past a s)
         made = past.made;
         same = record { sector = still.sector; tears = still.tears; calls = nothing_may s t still.calls };
         refused = still.refused;
+        told = λ more. absurd (omega (arith, quiet, more));
         row = (open_refusal past.state (sym fits.is_open ∙ is), refl, refl);
         makes = refl;
         fits = record {
@@ -133,6 +134,7 @@ module _ (a b : Core) (s t : DiskState) (past : Past) (fits : FitsCore past a s)
         made = past.made;
         same = record { sector = still.sector; tears = still.tears; calls = nothing_may s t still.calls };
         refused = still.refused;
+        told = λ more. absurd (omega (arith, quiet, more));
         row = subst (λ (p : Option ℕ). EndStep p past.state number Done (ended past.state number)) (sym bound.1) refl;
         makes = refl;
         fits = record {

@@ -32,7 +32,7 @@ use Rattle.walcore.proofs.Present.{present_by}
 use Rattle.walcore.proofs.Checkpointing.{stands_still}
 use Rattle.walcore.proofs.Repeating.{behind_same}
 use Rattle.walcore.proofs.Fulfilling.{knows_more}
-use Rattle.walcore.proofs.Going.{IsFrameAt, KeepsLog, Reaches, frame_place, frame_may, frame_known, frame_refused, frame_stands}
+use Rattle.walcore.proofs.Going.{IsFrameAt, KeepsLog, Reaches, frame_place, frame_may, frame_known, frame_quiet, frame_refused, frame_stands}
 use Rattle.walcore.proofs.Pacing.{size_most}
 use Rattle.walcore.specs.declared.error.WalError.TheVariants.{Device}
 
@@ -129,11 +129,12 @@ module _ (e f : List ℕ) (old : Core) (s : DiskState) (last : KnowsLast e f old
                 (behind_same old.page_size d (frame_end old.page_size old.frames) s t still.sector still.tears behind);
           }
 
-      pub copied_known : (v : T) → result ≡ Ok v → KeepsLog old new → old.last_page ≤ old.index.bound → Going old.page_size f (old.frames + 1) old.frames s u × KnowsLog f (old.frames + 1) new u
-      copied_known v was keeps low = (
+      pub copied_known : (v : T) → result ≡ Ok v → KeepsLog old new → old.last_page ≤ old.index.bound → t.refused ≡ s.refused → Going old.page_size f (old.frames + 1) old.frames s u × KnowsLog f (old.frames + 1) new u × (u.refused ≡ s.refused)
+      copied_known v was keeps low quiet = (
         going_on,
         subst (λ (i : ℕ). KnowsLog f i new u) (let z : suc old.frames ≡ old.frames + 1 = omega arith in z)
             (frame_known f (old.frames + 1) old.frames old new t u reaches (omega arith) (still_sound s t sound still) old.last_page old.size content (here content is) old.headed result step v was keeps low),
+        frame_quiet old.last_page old.size content old new t u result step v was ∙ quiet,
       )
 
       pub copied_refused : {V : Type 0} → (x : WalError) (r : Result V WalError) (next : Core) → result ≡ Err x → r ≡ Err x → FramesAnswer old.page_size f (old.frames + 1) old.frames r next s u

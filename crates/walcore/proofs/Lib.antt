@@ -75,3 +75,6 @@ pub mod Resting
 pub mod Unopened
 pub mod Foremost
 pub mod Based
+pub mod ToldRefusals
+pub mod PageCalls
+pub mod Uncommitted

@@ -19,10 +19,10 @@ use Rattle.crashdisk.proofs.Steps.{present_written}
 use Rattle.walcore.specs.Refusal.{number_of}
 use Rattle.sqval.specs.Answers.{HasCause, Files}
 use Rattle.sqval.specs.Held.{IsJust, IsHeld}
-use Rattle.crashdisk.specs.Keeps.{HadRefusal, Later, Suits}
-use Rattle.walcore.specs.Machine.{opened, gone, forgotten}
+use Rattle.crashdisk.specs.Keeps.{HadRefusal, Later, Suits, TellsRefusal}
+use Rattle.walcore.specs.Machine.{Opens, opened, gone, forgotten}
 use Rattle.walcore.specs.Made.{AreMade, HasNewSalts, IsBegun}
-use Rattle.walcore.specs.Changes.{MayFold, MayChange}
+use Rattle.walcore.specs.Changes.{MayFold, MayBegin, MayChange}
 use Rattle.walcore.specs.Standing.{ShowsWhole, ShowsHistory, HasMadeHeader, Stands, IsPresent}
 use Rattle.walcore.specs.Fits.{Past, IsLeft, FitsDisk, FitsAlone, has_mark, none_open, OpenedTo, GivenUpTo}
 use Rattle.walcore.specs.Opening.{IsNewLog, IsNewCore, HeaderSteps, MayRefuse, IsRecovered, RecoverAnswer}
@@ -33,7 +33,8 @@ use Rattle.walcore.specs.declared.error.WalError.{WalError}
 use Rattle.walcore.specs.declared.error.WalError.TheVariants.{NoMemory, Device}
 use Rattle.crashdisk.proofs.Later.{told_err, told_ok, none_ok, later_sync, later_write, later_then, later_same, later_wider}
 use Rattle.crashdisk.proofs.Keeping.{sound_writes}
-use Rattle.walcore.proofs.Changes.{fold_may, header_may}
+use Rattle.walcore.proofs.Changes.{header_may}
+use Rattle.walcore.proofs.ToldRefusals.{tells_then, quiet_ok, tells_header}
 use Rattle.walcore.proofs.Fresh.{at_last, HasNoReader, fresh_core}
 use Rattle.walcore.proofs.Makings.{made_begun}
 use Rattle.walcore.proofs.Narrowing.{narrows_syncs, history_narrows, headers_narrow, left_grown}
@@ -49,12 +50,12 @@ same_error x y r a b = cc (a, b)
 -- ---- the steps of a header
 
 module _ {T : Type 0} (f : List ℕ) (alone : length f ≡ 32) (r : Result T WalError) (s t : DiskState) (sound : IsSoundDisk s) (steps : HeaderSteps f r s t) where
-  pub header_later : (size : ℕ) (logs : List (List ℕ)) → Later (MayChange size (f ∷ logs)) s t
-  header_later size logs = ⊎_elim
-      (λ failed. later_write Log 0 f failed.0 s t (header_may size logs f alone) sound failed.3)
+  pub header_later : (logs : List (List ℕ)) → Later (MayBegin (f ∷ logs)) s t
+  header_later logs = ⊎_elim
+      (λ failed. later_write Log 0 f failed.0 s t (header_may logs f alone) sound failed.3)
       (λ done.
-      let mid : Later (MayChange size (f ∷ logs)) s done.0 = later_write Log 0 f (Ok done.1.0) s done.0 (header_may size logs f alone) sound done.1.1 in
-      later_then s done.0 t mid (later_sync Log done.2.0 done.0 t mid.sound done.2.2))
+      let mid : Later (MayBegin (f ∷ logs)) s done.0 = later_write Log 0 f (Ok done.1.0) s done.0 (header_may logs f alone) sound done.1.1 in
+      later_then s done.0 t mid (later_sync Log done.2.0 done.0 t tt mid.sound done.2.2))
       steps
 
   pub header_refused : (e : WalError) → r ≡ Err e → (e ≡ Device) × HadRefusal s t
@@ -63,7 +64,7 @@ module _ {T : Type 0} (f : List ℕ) (alone : length f ≡ 32) (r : Result T Wal
       let was = told_err Device failed.0 r e is failed.2 in
       (was.0, had_refusal failed.0 was.1.0 (0 + length f) s t sound.refused was.1.1 failed.3.within (omega (arith, alone)) failed.3.elsewhere.refused))
       (λ done.
-      let mid : Later (MayChange 0 (f ∷ [])) s done.0 = later_write Log 0 f (Ok done.1.0) s done.0 (header_may 0 [] f alone) sound done.1.1 in
+      let mid : Later (MayBegin (f ∷ [])) s done.0 = later_write Log 0 f (Ok done.1.0) s done.0 (header_may [] f alone) sound done.1.1 in
       let was = told_err Device done.2.0 r e is done.2.1 in
       (was.0, refusal_after s done.0 t mid.refused (had_refusal done.2.0 was.1.0 0 done.0 t mid.sound.refused was.1.1 done.2.2.within (omega arith) done.2.2.elsewhere.refused)))
       steps
@@ -140,12 +141,13 @@ module _ (past : Past) (found : Files) (salts : ℕ × ℕ) (s : DiskState) (alo
   counts : length (none_open past.tokens) ≡ length (forgotten past.state.readers)
   counts = length_map None past.tokens ∙ alone.count ∙ sym (length_map None past.state.readers)
 
-  pub given_up : (e : WalError) (t : DiskState) → MayRefuse e s t → Later (MayChange past.state.page_size (f ∷ past.made.logs)) s t → IsLeft past.state.page_size (f ∷ past.made.logs) past.state.history past.state.floor t → GivenUpTo past salts found e s t
-  given_up e t may later left = record {
+  pub given_up : (e : WalError) (t : DiskState) → MayRefuse e s t → (s.refused < t.refused → e ≡ Device) → Later (MayChange (Opens salts found) past.state.page_size (f ∷ past.made.logs)) s t → IsLeft past.state.page_size (f ∷ past.made.logs) past.state.history past.state.floor t → GivenUpTo past salts found e s t
+  given_up e t may told later left = record {
     next = gone past.state;
     made = record { logs = f ∷ past.made.logs; unsynced = false };
     same = record { sector = later.sector; tears = later.tears; calls = later.calls };
     refused = later.refused;
+    told = told;
     row = (refusal e t may, refl);
     makes = (f, begun, refl);
     fits = record {
@@ -162,19 +164,19 @@ module _ (past : Past) (found : Files) (salts : ℕ × ℕ) (s : DiskState) (alo
   }
 
   -- the recovery was refused
-  pub unrecovered : (e : WalError) (r : Result ℕ WalError) (t : DiskState) → r ≡ Err e → RecoverAnswer past found r s t → GivenUpTo past salts found e s t
-  unrecovered e r t is answer =
+  pub unrecovered : (e : WalError) (r : Result ℕ WalError) (t : DiskState) → r ≡ Err e → TellsRefusal Device r s t → RecoverAnswer past found r s t → GivenUpTo past salts found e s t
+  unrecovered e r t is told answer =
       let x = subst (λ (y : Result ℕ WalError). RecoverAnswer past found y s t) is answer in
-      given_up e t x.1 (later_wider s t (fold_may past.state.page_size (f ∷ past.made.logs)) x.0) (left_grown past.state.page_size past.made.logs f past.state.history past.state.floor t begun.alone x.2)
+      given_up e t x.1 (λ more. let bad : r ≡ Err Device = told more in same_error e Device r is bad) (later_wider s t (λ change may. inl may) x.0) (left_grown past.state.page_size past.made.logs f past.state.history past.state.floor t begun.alone x.2)
 
   -- no memory was there at the start
   pub without_memory : (e : WalError) → e ≡ NoMemory → GivenUpTo past salts found e s s
-  without_memory e is = given_up e s (inl is) (later_same s fits.suits.sound)
+  without_memory e is = given_up e s (inl is) (λ more. absurd (omega (arith, more))) (later_same s fits.suits.sound)
       (left_grown past.state.page_size past.made.logs f past.state.history past.state.floor s begun.alone fits.left)
 
   -- after the recovery
-  module _ (n : ℕ) (r : Result ℕ WalError) (a : DiskState) (was : r ≡ Ok n) (answer : RecoverAnswer past found r s a) where
-    given : Later MayFold s a × IsRecovered past found n a
+  module _ (n : ℕ) (r : Result ℕ WalError) (a : DiskState) (was : r ≡ Ok n) (told : TellsRefusal Device r s a) (answer : RecoverAnswer past found r s a) where
+    given : Later (MayFold past.state.page_size) s a × IsRecovered past found n a
     given = subst (λ (y : Result ℕ WalError). RecoverAnswer past found y s a) was answer
 
     is : IsRecovered past found n a
@@ -213,14 +215,19 @@ module _ (past : Past) (found : Files) (salts : ℕ × ℕ) (s : DiskState) (alo
         ))
         steps
 
-    later_header : {T : Type 0} (q : Result T WalError) (t : DiskState) → HeaderSteps f q a t → Later (MayChange past.state.page_size (f ∷ past.made.logs)) s t
-    later_header q t steps = later_then s a t (later_wider s a (fold_may past.state.page_size (f ∷ past.made.logs)) given.0)
-        (header_later f begun.alone q a t suits.sound steps past.state.page_size past.made.logs)
+    later_header : {T : Type 0} (q : Result T WalError) (t : DiskState) → HeaderSteps f q a t → Later (MayChange (Opens salts found) past.state.page_size (f ∷ past.made.logs)) s t
+    later_header q t steps = later_then s a t (later_wider s a (λ change may. inl may) given.0)
+        (later_wider a t (λ change may. inr may) (header_later f begun.alone q a t suits.sound steps past.made.logs))
+
+    -- the header tells of a refused call, since none was before it
+    header_tells : {T : Type 0} (q : Result T WalError) (t : DiskState) → HeaderSteps f q a t → TellsRefusal Device q s t
+    header_tells q t steps = tells_then q s a t (quiet_ok r n s a was told) (tells_header f q a t steps)
 
     -- the header was refused
     pub unbegun : {T : Type 0} (e : WalError) (q : Result T WalError) (t : DiskState) → q ≡ Err e → HeaderSteps f q a t → GivenUpTo past salts found e s t
     unbegun e q t refused steps = given_up e t
         (may_after e s a t given.0.refused (inr (header_refused f begun.alone q a t suits.sound steps e refused)))
+        (λ more. let bad : q ≡ Err Device = header_tells q t steps more in same_error e Device q refused bad)
         (later_header q t steps)
         (header_left q t steps)
 
@@ -229,7 +236,7 @@ module _ (past : Past) (found : Files) (salts : ℕ × ℕ) (s : DiskState) (alo
       done : HeaderDone f begun.alone q a t suits.sound steps T
       done = header_done f begun.alone q a t suits.sound steps v ok
 
-      all : Later (MayChange past.state.page_size (f ∷ past.made.logs)) s t
+      all : Later (MayChange (Opens salts found) past.state.page_size (f ∷ past.made.logs)) s t
       all = later_header q t steps
 
       stands : Stands past.state.page_size (f ∷ past.made.logs) f 0 (take (is.place + 1) past.state.history) (at_last (take (is.place + 1) past.state.history)) 0 0 0 t
@@ -256,6 +263,7 @@ module _ (past : Past) (found : Files) (salts : ℕ × ℕ) (s : DiskState) (alo
         made = record { logs = f ∷ past.made.logs; unsynced = false };
         same = record { sector = all.sector; tears = all.tears; calls = all.calls };
         refused = all.refused;
+        told = λ more. absurd (quiet_ok q v s t ok (header_tells q t steps) more);
         row = (is.place, is.floor, is.within, is.shown, is.newest, refl);
         makes = (f, begun, refl);
         fits = fresh_core after f t (omega (arith, cut_long past.state.history is.place is.within)) stands present past.made.logs refl refl refl refl refl none
@@ -267,11 +275,11 @@ module _ (past : Past) (found : Files) (salts : ℕ × ℕ) (s : DiskState) (alo
   pub begun_here : IsBegun past.state.page_size 0 salts.0 salts.1 l.bytes
   begun_here = subst (λ (n : ℕ). IsBegun n 0 salts.0 salts.1 l.bytes) (sym same) log.begun
 
-  pub opened_here : {T : Type 0} (n : ℕ) (r : Result ℕ WalError) (a : DiskState) → r ≡ Ok n → RecoverAnswer past found r s a → (v : T) (q : Result T WalError) (t : DiskState) → q ≡ Ok v → HeaderSteps l.bytes q a t
+  pub opened_here : {T : Type 0} (n : ℕ) (r : Result ℕ WalError) (a : DiskState) → r ≡ Ok n → TellsRefusal Device r s a → RecoverAnswer past found r s a → (v : T) (q : Result T WalError) (t : DiskState) → q ≡ Ok v → HeaderSteps l.bytes q a t
       → (core : Core) → IsNewCore l.header.page_size n l core → OpenedTo past salts found core s t
-  opened_here n r a was answer v q t ok steps core held =
+  opened_here n r a was told answer v q t ok steps core held =
       let here = subst (λ (k : ℕ). IsNewCore k n l core) (log.page_size ∙ sym same) held in
-      opened_to past found salts s alone new l.bytes begun_here n r a was answer v q t ok steps l core here
+      opened_to past found salts s alone new l.bytes begun_here n r a was told answer v q t ok steps l core here
       (subst (λ (h : WalHeader). IsHeaderOf l.bytes h) (sym held.header) log.header)
       (subst (λ (h : WalHeader). IsSumOf h.order (summed past.state.page_size l.bytes 0) core.sum) (sym held.header)
       (subst (λ (x : Sum). IsSumOf l.header.order (summed past.state.page_size l.bytes 0) x) (sym held.sum)

@@ -14,7 +14,7 @@ use Rattle.sqwal.specs.Refusal.{most_frames}
 use Rattle.sqwal.proofs.Same.{frame_end-le}
 use Rattle.walcore.specs.Made.{IsExtended}
 use Rattle.sqval.specs.JudgedPages.{lent}
-use Rattle.walcore.specs.Changes.{MayChange}
+use Rattle.walcore.specs.Changes.{MayExtend}
 use Rattle.walcore.specs.Standing.{IsBehind, Stands}
 use Rattle.walcore.specs.Going.{KeepsCore, FrameStep, KnowsLog, Going, FramesAnswer}
 use Rattle.walcore.specs.declared.state.Core.{Core}
@@ -24,7 +24,7 @@ use Rattle.crashdisk.proofs.Pages.{sector_some}
 use Rattle.crashdisk.proofs.Called.{no_calls, one_write, calls_then}
 use Rattle.crashdisk.proofs.Stills.{refusal_after}
 use Rattle.walcore.proofs.Repeating.{behind_same, behind_later}
-use Rattle.walcore.proofs.Going.{IsFrameAt, Reaches, frame_may, frame_known, frame_refused, frame_stands}
+use Rattle.walcore.proofs.Going.{IsFrameAt, Reaches, frame_may, frame_known, frame_quiet, frame_refused, frame_stands}
 
 pub size_most : (size : ℕ) → IsPageSize size → size ≤ 65536
 size_most size is = let m : 2 ^ is.0 ≤ 2 ^ 16 = pow_mono is.2 in omega (arith, is.3)
@@ -67,7 +67,7 @@ module _ (start core next : Core) (s t u : DiskState) (pages : List (ℕ × Bor 
       sector = step.wrote.elsewhere.sector ∙ going.sector;
       tears = step.wrote.elsewhere.tears ∙ going.tears;
       calls = calls_then s t u going.calls (one_write Log (frame_end core.page_size core.frames) (step.head ++ content) step.called t u
-          (subst (λ (z : ℕ). MayChange z (f ∷ []) (write Log (frame_end core.page_size core.frames) (step.head ++ content))) keeps.page_size
+          (subst (λ (z : ℕ). MayExtend z (f ∷ []) (write Log (frame_end core.page_size core.frames) (step.head ++ content))) keeps.page_size
           (frame_may f (n + length (lent pages)) (n + k) core next t u reaches (omega (arith, within)) going.sound page size content at headed result step [])) step.wrote);
       stands = λ logs h index mark d c stands behind.
           let was = going.stands logs h index mark d c stands behind in
@@ -80,11 +80,12 @@ module _ (start core next : Core) (s t u : DiskState) (pages : List (ℕ × Bor 
           (frame_stands f (n + length (lent pages)) (n + k) core next t u reaches (omega (arith, within)) going.sound page size content at headed result step logs h index mark d c was_core here);
     }
 
-    pub frames_on : (v : T) → result ≡ Ok v → KeepsCore core next → page ≤ core.index.bound → Going start.page_size f (n + length (lent pages)) n s u × KnowsLog f (n + (k + 1)) next u
-    frames_on v is keeps_next low = (
+    pub frames_on : (v : T) → result ≡ Ok v → KeepsCore core next → page ≤ core.index.bound → t.refused ≡ s.refused → Going start.page_size f (n + length (lent pages)) n s u × KnowsLog f (n + (k + 1)) next u × (u.refused ≡ s.refused)
+    frames_on v is keeps_next low quiet = (
       later,
       subst (λ (i : ℕ). KnowsLog f i next u) (let z : suc (n + k) ≡ n + (k + 1) = omega arith in z)
           (frame_known f (n + length (lent pages)) (n + k) core next t u reaches (omega (arith, within)) going.sound page size content at headed result step v is (record { page_size = keeps_next.page_size; header = keeps_next.header; bound = keeps_next.bound }) low),
+      frame_quiet page size content core next t u result step v is ∙ quiet,
     )
 
     pub frames_off : {V : Type 0} → (err : WalError) (r : Result V WalError) → result ≡ Err err → r ≡ Err err → FramesAnswer start.page_size f (n + length (lent pages)) n r next s u

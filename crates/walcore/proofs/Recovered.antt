@@ -103,7 +103,7 @@ no_bytes (x ∷ xs) n a b = absurd (omega (arith, a, b))
 
 -- The found files stand there, with nothing of the log unsynced.
 pub record IsReady (past : Past) (found : Files) (s a : DiskState) : Type 0 where
-  pub later : Later MayFold s a
+  pub later : Later (MayFold past.state.page_size) s a
   pub is : IsFound past found.log a
   pub down : IsLogDown a found.log
   pub db : ArePresent a.db found.db
@@ -121,14 +121,14 @@ count_is n m size db some a b = file_count size db n some a ∙ sym (file_count 
 module _ (past : Past) (found : Files) (s : DiskState) (fits : FitsDisk past s) (are : AreFiles s found) (chance : NoChance past.made.logs found.log) where
   pub recover_unsynced : {T : Type 0} (e : DiskError) (called : Result T DiskError) (q : Result ℕ WalError) (t : DiskState) → called ≡ Err e → Syncs Log called s t → q ≡ Err Device → RecoverAnswer past found q s t
   recover_unsynced e called q t was synced is = subst (λ (x : Result ℕ WalError). RecoverAnswer past found x s t) (sym is) (
-    later_sync Log called s t fits.suits.sound synced,
+    later_sync Log called s t (inr tt) fits.suits.sound synced,
     inr (refl, had_refusal called e 0 s t fits.suits.sound.refused was synced.within (omega arith) synced.elsewhere.refused),
     left_narrows s t (narrows_syncs Log called s t fits.suits.sound synced) past.state.page_size past.made.logs past.state.history past.state.floor fits.left,
   )
 
   pub ready_synced : {T : Type 0} {u : T} (a : DiskState) → Syncs Log (Ok u) s a → IsReady past found s a
   ready_synced {T = T} {u = u} a synced = record {
-    later = later_sync Log (Ok u) s a fits.suits.sound synced;
+    later = later_sync Log (Ok u) s a (inr tt) fits.suits.sound synced;
     is = found_syncs past found.log (Ok u) s a fits.suits.sound synced (is_found past found s fits are chance);
     down = synced_down found.log s a fits.suits.sound are.log synced;
     db = present_in s.db a.db found.db synced.elsewhere.other are.db;
@@ -146,7 +146,7 @@ module _ (past : Past) (found : Files) (s : DiskState) (fits : FitsDisk past s) 
 
   -- when all is ready
   module _ (a : DiskState) (ready : IsReady past found s a) where
-    first : Later MayFold s a
+    first : Later (MayFold past.state.page_size) s a
     first = ready.later
 
     is : IsFound past found.log a
@@ -197,7 +197,10 @@ module _ (past : Past) (found : Files) (s : DiskState) (fits : FitsDisk past s) 
         no_fault _ long x = x
 
     -- then a fold
-    module _ (size : ℕ) (same : past.state.page_size ≡ size) (b : DiskState) (then : Later MayFold a b) (agreed : Agrees size a b) (lasted : KeepsLength size a b) where
+    module _ (size : ℕ) (same : past.state.page_size ≡ size) (b : DiskState) (called : Later (MayFold size) a b) (agreed : Agrees size a b) (lasted : KeepsLength size a b) where
+      then : Later (MayFold past.state.page_size) a b
+      then = subst (λ (n : ℕ). Later (MayFold n) a b) (sym same) called
+
       agrees : Agrees past.state.page_size a b
       agrees = subst (λ (n : ℕ). Agrees n a b) (sym same) agreed
 
@@ -232,10 +235,10 @@ module _ (past : Past) (found : Files) (s : DiskState) (fits : FitsDisk past s) 
         just : (db : List ℕ) → IsImage b.sector b.tears b.db db → IsJust past.state.page_size (at past.state is.place) db
         just = just_alone past.state.page_size (at past.state is.place) b empty alone ends
 
-        last : Later MayFold b c
+        last : Later (MayFold past.state.page_size) b c
         last = later_still b c then.sound still
 
-        all : Later MayFold s c
+        all : Later (MayFold past.state.page_size) s c
         all = later_then s a c first (later_then a b c then last)
 
         db_long : b.db.len ≡ length (at past.state is.place) * past.state.page_size

@@ -21,7 +21,7 @@ use Rattle.walcore.specs.Machine.{newest, reader_at, restart_refusal, closed, re
 use Rattle.walcore.specs.Made.{HasNewSalts, IsBegun}
 use Rattle.walcore.specs.Making.{has_begun, RestartsAnew, MadeByRestart}
 use Rattle.walcore.specs.Era.{shown}
-use Rattle.walcore.specs.Changes.{MayChange}
+use Rattle.walcore.specs.Changes.{MayBegin}
 use Rattle.walcore.specs.Standing.{ShowsHistory, HasMadeHeader, Stands}
 use Rattle.walcore.specs.Fits.{Past, AreTogether, IsCore, FitsCore, StepsTo, times, has_mark, answered}
 use Rattle.walcore.specs.Opening.{IsNewLog, IsNewCore, HeaderSteps}
@@ -40,6 +40,7 @@ use Rattle.walcore.proofs.Narrowing.{narrows_syncs, history_narrows, headers_nar
 use Rattle.walcore.proofs.Opened.{header_later, header_refused, HeaderDone, header_done, present_header}
 use Rattle.walcore.proofs.Readers.{same_one}
 use Rattle.walcore.proofs.Restarting.{restart_shows, begin_stands}
+use Rattle.walcore.proofs.ToldRefusals.{quiet_ok, tells_header}
 use Rattle.crashdisk.proofs.Stills.{still}
 use Rattle.crashdisk.proofs.Suiting.{suits_by}
 
@@ -128,11 +129,11 @@ module _ (past : Past) (core : Core) (s : DiskState) (fits : FitsCore past core 
 
   -- what is refused before a call of the disk
   restart_judged : (T : Type 0) (salt2 : ℕ) (e : WalError) → RestartJudged {T = T} core (Err e) → StepsTo past past.tokens (Restarts salt2) (Refused (number_of e)) core s s
-  restart_judged T salt2 Closed shut = stays core core s s (same_core core) (still s fits.disk.suits.sound) past (Restarts salt2) (Refused 1) refl fits
+  restart_judged T salt2 Closed shut = stays core core s s (same_core core) (still s fits.disk.suits.sound) past (Restarts salt2) (Refused 1) refl fits (λ more. absurd (omega (arith, more)))
       (refuses_first (restart_refusal past.state) 1 false _ past.state _ _ (first_closed past.state.is_open past.state.drained (list_any is_some past.state.readers) (sym fits.is_open ∙ shut))) refl
-  restart_judged T salt2 NotDrained is = stays core core s s (same_core core) (still s fits.disk.suits.sound) past (Restarts salt2) (Refused 11) refl fits
+  restart_judged T salt2 NotDrained is = stays core core s s (same_core core) (still s fits.disk.suits.sound) past (Restarts salt2) (Refused 11) refl fits (λ more. absurd (omega (arith, more)))
       (refuses_first (restart_refusal past.state) 11 false _ past.state _ _ (first_undrained past.state.is_open past.state.drained (list_any is_some past.state.readers) (sym fits.is_open ∙ is.0) (sym (core_drained is.0) ∙ is.1))) refl
-  restart_judged T salt2 ReadersOpen is = stays core core s s (same_core core) (still s fits.disk.suits.sound) past (Restarts salt2) (Refused 12) refl fits
+  restart_judged T salt2 ReadersOpen is = stays core core s s (same_core core) (still s fits.disk.suits.sound) past (Restarts salt2) (Refused 12) refl fits (λ more. absurd (omega (arith, more)))
       (refuses_first (restart_refusal past.state) 12 false _ past.state _ _ (first_read past.state.is_open past.state.drained (list_any is_some past.state.readers) (sym fits.is_open ∙ is.0) (sym (core_drained is.0) ∙ is.1) (some_read is.2))) refl
   restart_judged T salt2 _ is = absurd is
 
@@ -202,8 +203,8 @@ module _ (past : Past) (core : Core) (s : DiskState) (fits : FitsCore past core 
           (subst (λ (k : ℕ). HasNewSalts (e ∷ is.newest_log.0) ((k + 1) % 2 ^ 32) salt2) (sym is.header.salt1)
           (subst (λ (ls : List (List ℕ)). RestartsAnew ls salt2) is.newest_log.1 permits))
 
-      later : Later (MayChange past.state.page_size (l.bytes ∷ past.made.logs)) s t
-      later = header_later l.bytes begun.alone r s t fits.disk.suits.sound steps past.state.page_size past.made.logs
+      later : Later (MayBegin (l.bytes ∷ past.made.logs)) s t
+      later = header_later l.bytes begun.alone r s t fits.disk.suits.sound steps past.made.logs
 
       left : ShowsHistory past.state.page_size (l.bytes ∷ past.made.logs) past.state.history past.state.floor t × HasMadeHeader (l.bytes ∷ past.made.logs) t
       left = ⊎_elim
@@ -225,6 +226,7 @@ module _ (past : Past) (core : Core) (s : DiskState) (fits : FitsCore past core 
             made = record { logs = l.bytes ∷ past.made.logs; unsynced = false };
             same = record { sector = later.sector; tears = later.tears; calls = later.calls };
             refused = later.refused;
+            told = λ more. refl;
             row = refuses_device (restart_refusal past.state) (closed past.state) past.state s t allowed why.1;
             makes = makes;
             fits = record {
@@ -255,6 +257,7 @@ module _ (past : Past) (core : Core) (s : DiskState) (fits : FitsCore past core 
             made = record { logs = l.bytes ∷ past.made.logs; unsynced = false };
             same = record { sector = later.sector; tears = later.tears; calls = later.calls };
             refused = later.refused;
+            told = λ more. absurd (quiet_ok r v s t was (tells_header l.bytes r s t steps) more);
             row = (allowed, refl);
             makes = makes;
             fits = fresh_core (record { state = restarted past.state; made = record { logs = l.bytes ∷ past.made.logs; unsynced = false }; tokens = past.tokens }) l.bytes t fits.disk.floor

@@ -35,7 +35,7 @@ use Rattle.walcore.proofs.Stepping.{stands_syncs, stands_synced, stands_fewer}
 use Rattle.walcore.proofs.Present.{present_syncs}
 use Rattle.crashdisk.proofs.Pages.{sector_some}
 use Rattle.crashdisk.proofs.Called.{one_sync, calls_then}
-use Rattle.walcore.proofs.Changes.{newest_calls}
+use Rattle.walcore.proofs.Changes.{copies_may}
 use Rattle.walcore.proofs.Fronting.{boundary_same}
 use Rattle.walcore.proofs.Extending.{extended_front}
 use Rattle.walcore.proofs.Repeating.{index_to, index_to-low, repeated_stands, behind_whole, behind_even, behind_copy, behind_same}
@@ -68,7 +68,7 @@ record Stays (past : Past) (core : Core) (f : List ℕ) (index : ℕ → ℕ) (c
 -- ---- the step, where the log is f with n frames from then on
 
 module _ (past : Past) (core mid then : Core) (s t : DiskState) (fits : FitsCore past core s) (opened : IsTrue core.is_open) (repeats : Repeats core mid) (f : List ℕ) (rest : List (List ℕ)) (n : ℕ) (index : ℕ → ℕ) (d c : ℕ)
-    (made : MadeBySync past.state.page_size s.sector s.tears past.made.logs past.made (record { logs = f ∷ rest; unsynced = false })) (same : IsSameDisk (MayChange past.state.page_size (f ∷ rest)) s t) (refused : s.refused ≤ t.refused)
+    (made : MadeBySync past.state.page_size s.sector s.tears past.made.logs past.made (record { logs = f ∷ rest; unsynced = false })) (same : IsSameDisk (MayChange Syncs past.state.page_size (f ∷ rest)) s t) (refused : s.refused ≤ t.refused)
     (stands : Stands core.page_size (f ∷ rest) f n past.state.history index core.mark d c t) where
   granted : call_refusal past.state ≡ None
   granted = ap (λ (b : Bool). cond (not b) (Some 1) (let none : Option ℕ = None in none)) (sym fits.is_open ∙ opened)
@@ -79,9 +79,9 @@ module _ (past : Past) (core mid then : Core) (s t : DiskState) (fits : FitsCore
   reads_on : (size mark i : ℕ) (r : Reader) → IsBound size f index mark c past.state i r → IsBound size f index mark c (synced past.state) i r
   reads_on size mark i r bound = record { within = bound.within; boundary = bound.boundary; begun = bound.begun; place = bound.place; size_is = bound.size_is }
 
-  sync_done : Lies core mid f n d t → Stays past core f index c t → Rests mid then → StepsTo past past.tokens Syncs Done then s t
+  sync_done : t.refused ≡ s.refused → Lies core mid f n d t → Stays past core f index c t → Rests mid then → StepsTo past past.tokens Syncs Done then s t
   unfolding logs_new
-  sync_done down stays rests =
+  sync_done quiet down stays rests =
       let knows : KnowsLog f n then t = knows_same f n mid then t rests.log down.knows in
       let low : last past.state ≤ index d = omega (arith, stands.era.last, stands.era.marked.2, stands.era.rises core.mark d down.newest.commit stands.marks.down) in
       let new : Past = record { state = synced past.state; made = logs_new; tokens = past.tokens } in
@@ -96,6 +96,7 @@ module _ (past : Past) (core mid then : Core) (s t : DiskState) (fits : FitsCore
         made = logs_new;
         same = same;
         refused = refused;
+        told = λ more. absurd (omega (arith, quiet, more));
         row = (granted, refl);
         makes = made;
         fits = record {
@@ -151,6 +152,7 @@ module _ (past : Past) (core mid then : Core) (s t : DiskState) (fits : FitsCore
         made = logs_new;
         same = same;
         refused = refused;
+        told = λ more. refl;
         row = subst (λ (y : Option ℕ). Refuses y false (closed past.state) s.refused t.refused past.state 15 (closed past.state)) (sym granted) (inr (refl, had, refl));
         makes = made;
         fits = record {
@@ -258,12 +260,12 @@ module _ (past : Past) (core : Core) (s : DiskState) (fits : FitsCore past core 
       plain_done : Rests core then → StepsTo past past.tokens Syncs Done then s t
       unfolding Down
       plain_done rests =
-          sync_done past core core then s t fits opened itself e is.newest_log.0 core.frames index down_then.0 c made_same (record { sector = call.elsewhere.sector; tears = call.elsewhere.tears; calls = one_sync Log (Ok u) s t call }) (omega (arith, call.elsewhere.refused))
-          down_then.1.0 down_then.1.1 stays_then rests
+          sync_done past core core then s t fits opened itself e is.newest_log.0 core.frames index down_then.0 c made_same (record { sector = call.elsewhere.sector; tears = call.elsewhere.tears; calls = one_sync Log (Ok u) s t (inr tt) call }) (omega (arith, call.elsewhere.refused))
+          down_then.1.0 (let quiet : t.refused ≡ s.refused = call.elsewhere.refused in quiet) down_then.1.1 stays_then rests
 
     plain_failed : {T : Type 0} → (called : Result T DiskError) (x : DiskError) → called ≡ Err x → CallSyncs Log called s t → Closes core then → StepsTo past past.tokens Syncs (Refused 15) then s t
     plain_failed called x was call closes =
-        sync_failed past core core then s t fits opened itself e is.newest_log.0 core.frames index d c made_same (record { sector = call.elsewhere.sector; tears = call.elsewhere.tears; calls = one_sync Log called s t call })
+        sync_failed past core core then s t fits opened itself e is.newest_log.0 core.frames index d c made_same (record { sector = call.elsewhere.sector; tears = call.elsewhere.tears; calls = one_sync Log called s t (inr tt) call })
         (omega (arith, counted_grows called s.refused is.stands.suits.sound.refused, call.elsewhere.refused))
         (stands_syncs core.page_size (e ∷ is.newest_log.0) e core.frames past.state.history index core.mark d c s t stands_here Log called call) is.floor
         (had_refusal called x 0 s t is.stands.suits.sound.refused was call.within (lit≤ tt) call.elsewhere.refused) closes
@@ -334,21 +336,21 @@ module _ (past : Past) (core : Core) (s : DiskState) (fits : FitsCore past core 
 
       copy_failed : HadRefusal s g → Closes mid then → StepsTo past past.tokens Syncs (Refused 15) then s g
       copy_failed had closes =
-          sync_failed past core mid then s g fits opened repeats f is.newest_log.0 (core.frames + 1) to d c made_copy (record { sector = going.sector; tears = going.tears; calls = newest_calls core.page_size past.state.page_size f is.newest_log.0 s g fits.page_size going.calls }) going.refused stands_copy (omega (arith, at_down, is.floor)) had closes
+          sync_failed past core mid then s g fits opened repeats f is.newest_log.0 (core.frames + 1) to d c made_copy (record { sector = going.sector; tears = going.tears; calls = copies_may core.page_size past.state.page_size f is.newest_log.0 s g fits.page_size going.calls }) going.refused stands_copy (omega (arith, at_down, is.floor)) had closes
 
       copy_unsynced : {T : Type 0} → (called : Result T DiskError) (x : DiskError) → called ≡ Err x → CallSyncs Log called g t → Closes mid then → StepsTo past past.tokens Syncs (Refused 15) then s t
       copy_unsynced called x was call closes =
           sync_failed past core mid then s t fits opened repeats f is.newest_log.0 (core.frames + 1) to d c made_copy (record {
             sector = call.elsewhere.sector ∙ going.sector;
             tears = call.elsewhere.tears ∙ going.tears;
-            calls = calls_then s g t (newest_calls core.page_size past.state.page_size f is.newest_log.0 s g fits.page_size going.calls) (one_sync Log called g t call);
+            calls = calls_then s g t (copies_may core.page_size past.state.page_size f is.newest_log.0 s g fits.page_size going.calls) (one_sync Log called g t (inr tt) call);
           })
           (omega (arith, going.refused, counted_grows called g.refused going.sound.refused, call.elsewhere.refused))
           (stands_syncs core.page_size (f ∷ is.newest_log.0) f (core.frames + 1) past.state.history to core.mark d c g t stands_copy Log called call) (omega (arith, at_down, is.floor))
           (refusal_after s g t going.refused (had_refusal called x 0 g t going.sound.refused was call.within (lit≤ tt) call.elsewhere.refused)) closes
 
       -- the frame that was copied is down, and its copy apart from what comes next
-      module _ {T : Type 0} {u : T} (call : CallSyncs Log (Ok u) g t) (knows : KnowsLog f (core.frames + 1) mid g) where
+      module _ {T : Type 0} {u : T} (quiet : g.refused ≡ s.refused) (call : CallSyncs Log (Ok u) g t) (knows : KnowsLog f (core.frames + 1) mid g) where
         tears_then : t.tears ≡ true
         tears_then = call.elsewhere.tears ∙ going.tears ∙ torn
 
@@ -399,18 +401,18 @@ module _ (past : Past) (core : Core) (s : DiskState) (fits : FitsCore past core 
             sync_done past core mid then s t fits opened repeats f is.newest_log.0 (core.frames + 1) to core.frames c made_copy (record {
               sector = call.elsewhere.sector ∙ going.sector;
               tears = call.elsewhere.tears ∙ going.tears;
-              calls = calls_then s g t (newest_calls core.page_size past.state.page_size f is.newest_log.0 s g fits.page_size going.calls) (one_sync Log (Ok u) g t call);
+              calls = calls_then s g t (copies_may core.page_size past.state.page_size f is.newest_log.0 s g fits.page_size going.calls) (one_sync Log (Ok u) g t (inr tt) call);
             })
-            (omega (arith, going.refused, call.elsewhere.refused)) stands_last lies_copy stays_copy rests
+            (omega (arith, going.refused, call.elsewhere.refused)) stands_last (let same : t.refused ≡ s.refused = omega (arith, quiet, call.elsewhere.refused) in same) lies_copy stays_copy rests
 
-      copy_synced : {T : Type 0} → (r : Result T WalError) → KnowsLog f (core.frames + 1) mid g → SyncStep Device Log r g t → RestAnswer r mid then → StepsTo past past.tokens Syncs (answered (λ _. Done) r) then s t
-      copy_synced {T = T} (Ok v) knows step rests = let ok = told_ok Device step.0 (Ok v) v refl step.1 in copy_done (subst (λ (q : Result T DiskError). CallSyncs Log q g t) ok.1 step.2) knows rests
-      copy_synced {T = T} (Err x) knows step closes = let bad = told_err Device step.0 (Err x) x refl step.1 in
+      copy_synced : {T : Type 0} → (r : Result T WalError) → KnowsLog f (core.frames + 1) mid g → g.refused ≡ s.refused → SyncStep Device Log r g t → RestAnswer r mid then → StepsTo past past.tokens Syncs (answered (λ _. Done) r) then s t
+      copy_synced {T = T} (Ok v) knows quiet step rests = let ok = told_ok Device step.0 (Ok v) v refl step.1 in copy_done quiet (subst (λ (q : Result T DiskError). CallSyncs Log q g t) ok.1 step.2) knows rests
+      copy_synced {T = T} (Err x) knows quiet step closes = let bad = told_err Device step.0 (Err x) x refl step.1 in
           subst (λ (y : WalError). StepsTo past past.tokens Syncs (Refused (number_of y)) then s t) (sym bad.0) (copy_unsynced step.0 bad.1.0 bad.1.1 step.2 closes)
 
     copy_by : {T : Type 0} → (copied r : Result T WalError) (g : DiskState) → Repeats core mid → FramesAnswer core.page_size f (core.frames + 1) core.frames copied mid s g → SyncsBehind copied r g t → RestAnswer r mid then
         → StepsTo past past.tokens Syncs (answered (λ _. Done) r) then s t
-    copy_by {T = T} (Ok v) r g repeats frames synced answer = copy_synced g frames.0 repeats r frames.1 synced answer
+    copy_by {T = T} (Ok v) r g repeats frames synced answer = copy_synced g frames.0 repeats r frames.1 frames.2 synced answer
     copy_by {T = T} (Err x) r g repeats frames synced answer =
         subst (λ (q : Result T WalError). StepsTo past past.tokens Syncs (answered (λ _. Done) q) then s t) (sym synced.0)
         (subst (λ (y : WalError). StepsTo past past.tokens Syncs (Refused (number_of y)) then s t) (sym frames.1)

@@ -73,13 +73,14 @@ module _ (past : Past) (core mid next : Core) (pages : List (ℕ × Bor (List �
     granted_row : commit_refusal past.state (lent pages) count ≡ None
     granted_row = refusal_same past e index d c core s fits is open_past (lent pages) count ∙ ready.granted
 
-    done : (then : Core) → Going mid.page_size plan.f (core.frames + length (lent pages)) core.frames s t → KnowsLog plan.f (core.frames + length (lent pages)) next t → Ends count next then
+    done : (then : Core) → t.refused ≡ s.refused → Going mid.page_size plan.f (core.frames + length (lent pages)) core.frames s t → KnowsLog plan.f (core.frames + length (lent pages)) next t → Ends count next then
         → StepsTo past past.tokens (Commits (lent pages) count) Done then s t
-    done then going knows ends = record {
+    done then quiet going knows ends = record {
       next = state_new past e is.newest_log.0 index d c core pages count s is ready plan fits.page_size true;
       made = record { logs = plan.f ∷ is.newest_log.0; unsynced = true };
       refused = going.refused;
       same = record { sector = going.sector; tears = going.tears; calls = newest_calls mid.page_size past.state.page_size plan.f is.newest_log.0 s t (counts.log.page_size ∙ fits.page_size) going.calls };
+      told = λ more. absurd (omega (arith, quiet, more));
       row = (granted_row, ap (λ (b : Bool). state_new past e is.newest_log.0 index d c core pages count s is ready plan fits.page_size b) (sym open_past));
       makes = row_made;
       fits = fits_new past e is.newest_log.0 index d c core pages count s is ready plan fits.page_size t (stands_then going) fits going.sector going.tears next then knows ends.log page_next ends.mark ends.size_is
@@ -93,6 +94,7 @@ module _ (past : Past) (core mid next : Core) (pages : List (ℕ × Bor (List �
       made = record { logs = plan.f ∷ is.newest_log.0; unsynced = true };
       refused = going.refused;
       same = record { sector = going.sector; tears = going.tears; calls = newest_calls mid.page_size past.state.page_size plan.f is.newest_log.0 s t (counts.log.page_size ∙ fits.page_size) going.calls };
+      told = λ more. refl;
       row = subst (λ (x : Option ℕ). Refuses x true (closed (committed past.state (lent pages) count)) s.refused t.refused past.state 15 (state_new past e is.newest_log.0 index d c core pages count s is ready plan fits.page_size false)) (sym granted_row)
           (inr (refl, had, refl));
       makes = row_made;
@@ -101,7 +103,7 @@ module _ (past : Past) (core mid next : Core) (pages : List (ℕ × Bor (List �
 
     by : {T : Type 0} → (written : Result T WalError) (then : Core) → FramesAnswer mid.page_size plan.f (core.frames + length (lent pages)) core.frames written next s t → EndAnswer count written next then
         → StepsTo past past.tokens (Commits (lent pages) count) (answered (λ _. Done) written) then s t
-    by (Ok u) then answer ends = done then answer.0 answer.1 ends
+    by (Ok u) then answer ends = done then answer.2 answer.0 answer.1 ends
     by (Err x) then answer closes = subst (λ (y : WalError). StepsTo past past.tokens (Commits (lent pages) count) (Refused (number_of y)) then s t) (sym answer.1) (failed then answer.0 answer.2 closes)
 
   pub commit_step : {T : Type 0} → (written : Result T WalError) (then : Core)
@@ -130,6 +132,7 @@ commit_refused {T} past core mid pages count s fits opened sound keeps r error i
       made = past.made;
       refused = omega arith;
       same = record { sector = refl; tears = refl; calls = no_calls s };
+      told = λ more. absurd (omega (arith, more));
       row = subst (λ (x : Option ℕ). Refuses x true (closed (committed past.state (lent pages) count)) s.refused s.refused past.state (number_of error) past.state) (sym row) (refl, refl);
       makes = unbegun past.state.page_size (number_of error) past.made _ (λ z. omega arith);
       fits = fits_prepared past core mid s keeps fits;
@@ -141,6 +144,7 @@ commit_refused {T} past core mid pages count s fits opened sound keeps r error i
       made = past.made;
       refused = omega arith;
       same = record { sector = refl; tears = refl; calls = no_calls s };
+      told = λ more. absurd (omega (arith, more));
       row = subst (λ (x : WalError). CommitStep past.state (lent pages) count (Refused (number_of x)) s.refused s.refused past.state) (sym want.1)
           (subst (λ (x : Option ℕ). Refuses x true (closed (committed past.state (lent pages) count)) s.refused s.refused past.state 14 past.state) (sym row) (inl (refl, refl, refl)));
       makes = subst (λ (x : WalError). Makes past.state.page_size s.sector s.tears past.made (Commits (lent pages) count) (Refused (number_of x)) past.made) (sym want.1) refl;

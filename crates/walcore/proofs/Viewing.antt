@@ -1,6 +1,6 @@
 -- What a reader is given is what its database has.
 use Rattle.std.proofs.Common.{◌≡◌, inl, ℕ, ◌+◌, ◌-◌, ◌*◌, ◌<◌, ◌≤◌, Bool, false, List, length, get_or, take, drop, refl, sym, ◌∙◌, ap, subst, arith, length-drop}
-use Rattle.std.specs.Prelude.{Result, Ok, Err, IsErrAnd, IsTrue, Option, Some, None, slice_get}
+use Rattle.std.specs.Prelude.{Result, Ok, Err, OnErr, IsTrue, Option, Some, None, slice_get}
 use Rattle.std.proofs.lemmas.List.{get_or-take, get_or-drop, length-take-le}
 use Rattle.std.proofs.lemmas.Grind.{same_number_lists}
 use Rattle.sqval.specs.Database.{Database, page, file_page}
@@ -20,9 +20,9 @@ use Rattle.walcore.specs.Machine.{at, reader_at, Reads, ReadStep, read_refusal}
 use Rattle.walcore.specs.Refusal.{number_of}
 use Rattle.walcore.specs.Era.{IsBoundary, shown}
 use Rattle.walcore.specs.Standing.{Stands, IsPresent}
-use Rattle.crashdisk.specs.Keeps.{Still, PlaceAnswer}
+use Rattle.crashdisk.specs.Keeps.{Still, PlaceAnswer, TellsRefusal}
 use Rattle.walcore.specs.Plans.{IsTable}
-use Rattle.walcore.specs.Paging.{IsRefusedRead, ReadJudged, Finds}
+use Rattle.walcore.specs.Paging.{ReadAnswer, Finds}
 use Rattle.walcore.specs.Fits.{Past, IsIndexed, IsBound, IsCore, FitsCore, StepsTo, answered}
 use Rattle.walcore.specs.declared.error.WalError.{WalError}
 use Rattle.walcore.specs.declared.error.WalError.TheVariants.{Closed, PageZero, PageAboveSize, BadLength, Device}
@@ -32,6 +32,7 @@ use Rattle.sqval.proofs.FilePages.{page_by_bytes}
 use Rattle.walcore.proofs.Copies.{hit_none, hit_last, page_fits}
 use Rattle.crashdisk.proofs.Down.{present_byte}
 use Rattle.walcore.proofs.Fitting.{SameCore, same_core, stays}
+use Rattle.walcore.proofs.ToldRefusals.{quiet_ok}
 use Rattle.sqval.proofs.Answering.{refuses_first, none_above, is_zero, is_above, is_closed, refuses_cause}
 use Rattle.walcore.proofs.Readers.{at_slot, bound_at}
 
@@ -88,16 +89,18 @@ read_file size p place s out same long bytes =
 
 -- ---- the rows of the machine
 
--- a read into a buffer of another length
-pub read_refused : {T U : Type 0} (is_open : Bool) (page size room page_size : ℕ) (was : Result U WalError) (result : Result T WalError) (e : WalError) → was ≡ Err e → result ≡ Err e
-    → ReadJudged is_open page size room page_size was → IsErrAnd result (IsRefusedRead is_open page size)
-unfolding ReadJudged
-read_refused {T = T} {U = U} is_open page size room page_size was result e is_was is bad =
-    subst (λ (x : Result T WalError). IsErrAnd x (IsRefusedRead is_open page size)) (sym is) (subst (λ (x : Result U WalError). ReadJudged is_open page size room page_size x) is_was bad).0
+-- what a read answers, that was refused before the disk was asked, or that asked it
+pub read_unasked : {T U : Type 0} (is_open : Bool) (page size room page_size : ℕ) (was : Result U WalError) (result : Result T WalError) (e : WalError) → was ≡ Err e → result ≡ Err e
+    → ReadAnswer is_open page size room page_size was → ReadAnswer is_open page size room page_size result
+read_unasked {T = T} {U = U} is_open page size room page_size was result e is_was is bad =
+    subst (λ (x : Result T WalError). ReadAnswer is_open page size room page_size x) (sym is) (let same = subst (λ (x : Result U WalError). ReadAnswer is_open page size room page_size x) is_was bad in same)
 
-pub read_long : {T : Type 0} (is_open : Bool) (page size room page_size : ℕ) (was : Result T WalError) (v : T) → was ≡ Ok v → ReadJudged is_open page size room page_size was → room ≡ page_size
-unfolding ReadJudged
-read_long {T = T} is_open page size room page_size was v is good = (subst (λ (x : Result T WalError). ReadJudged is_open page size room page_size x) is good).3
+pub read_asked : {T U : Type 0} (is_open : Bool) (page size room page_size : ℕ) (was : Result U WalError) (v : U) (result : Result T WalError) → was ≡ Ok v → ReadAnswer is_open page size room page_size was → OnErr result (result ≡ Err Device)
+    → ReadAnswer is_open page size room page_size result
+read_asked {U = U} is_open page size room page_size was v (Ok x) is good refused = let same = subst (λ (y : Result U WalError). ReadAnswer is_open page size room page_size y) is good in same
+read_asked {T = T} {U = U} is_open page size room page_size was v (Err e) is good refused =
+    let same = subst (λ (y : Result U WalError). ReadAnswer is_open page size room page_size y) is good in
+    subst (λ (x : Result T WalError). ReadAnswer is_open page size room page_size x) (sym refused) same
 
 module _ (a b : Core) (s t : DiskState) (past : Past) (fits : FitsCore past a s) (same : SameCore a b) (marks : b.marks.items ≡ a.marks.items)
     (number : ℕ) (r : Reader) (token : slice_get past.tokens number ≡ Some (Some r)) (p : ℕ) where
@@ -111,56 +114,54 @@ module _ (a b : Core) (s t : DiskState) (past : Past) (fits : FitsCore past a s)
   bound_of : (e : List ℕ) (index : ℕ → ℕ) (d c : ℕ) → IsCore past e index d c a s → (i : ℕ) × (reader_at past.state number ≡ Some i) × IsBound a.page_size e index a.mark c past.state i r
   bound_of e index d c core = bound_at (IsBound a.page_size e index a.mark c past.state) (reader_at past.state number) (get_or past.tokens number None) r (at_slot past.tokens number r token).1 (core.readers number)
 
-  step_at : (i : ℕ) (answer : Answer) → reader_at past.state number ≡ Some i → Still s t → ReadStep (Some i) past.state p answer s.refused t.refused past.state → StepsTo past past.tokens (Reads number p) answer b s t
-  step_at i answer e still step = stays a b s t same still past (Reads number p) answer marks fits
+  step_at : (i : ℕ) (answer : Answer) → reader_at past.state number ≡ Some i → Still s t → (s.refused < t.refused → answer ≡ Refused 15) → ReadStep (Some i) past.state p answer s.refused t.refused past.state → StepsTo past past.tokens (Reads number p) answer b s t
+  step_at i answer e still told step = stays a b s t same still past (Reads number p) answer marks fits told
       (subst (λ (o : Option ℕ). ReadStep o past.state p answer s.refused t.refused past.state) (sym e) step) refl
 
   -- refused before the disk is asked
-  judged : {T : Type 0} (out : List ℕ) (room : ℕ) (result : Result T WalError) (e : WalError) → Still s t → result ≡ Err e → room ≡ past.state.page_size → ReadJudged {T = T} a.is_open p r.size room a.page_size (Err e)
+  judged : {T : Type 0} (out : List ℕ) (room : ℕ) (result : Result T WalError) (e : WalError) → Still s t → (s.refused < t.refused → ⊥) → result ≡ Err e → (e ≡ Device → ⊥) → room ≡ past.state.page_size → ReadAnswer {T = T} a.is_open p r.size room a.page_size (Err e)
       → StepsTo past past.tokens (Reads number p) (answered (λ (v : T). Page out) result) b s t
-  unfolding ReadJudged
-  judged {T = T} out room result e still was full bad = subst (λ (x : Result T WalError). StepsTo past past.tokens (Reads number p) (answered (λ (v : T). Page out) x) b s t) (sym was) (by e bad)
+  judged {T = T} out room result e still quiet was never full bad = subst (λ (x : Result T WalError). StepsTo past past.tokens (Reads number p) (answered (λ (v : T). Page out) x) b s t) (sym was) (by e never bad)
     where
-      by : (e : WalError) → ReadJudged {T = T} a.is_open p r.size room a.page_size (Err e) → StepsTo past past.tokens (Reads number p) (Refused (number_of e)) b s t
-      by Closed shut =
+      by : (e : WalError) → (e ≡ Device → ⊥) → ReadAnswer {T = T} a.is_open p r.size room a.page_size (Err e) → StepsTo past past.tokens (Reads number p) (Refused (number_of e)) b s t
+      by Closed never shut =
           let i = place_of in
-          step_at i.0 (Refused 1) i.1 still (refuses_first (read_refusal past.state i.0 p) 1 false past.state past.state s.refused t.refused (is_closed past.state.is_open p (length (at past.state i.0)) (sym fits.is_open ∙ shut.0)))
-      by PageZero zero =
+          step_at i.0 (Refused 1) i.1 still (λ more. absurd (quiet more)) (refuses_first (read_refusal past.state i.0 p) 1 false past.state past.state s.refused t.refused (is_closed past.state.is_open p (length (at past.state i.0)) (sym fits.is_open ∙ shut)))
+      by PageZero never zero =
           let i = place_of in
-          step_at i.0 (Refused 4) i.1 still (refuses_first (read_refusal past.state i.0 p) 4 false past.state past.state s.refused t.refused (is_zero past.state.is_open p (length (at past.state i.0)) (sym fits.is_open ∙ zero.0.0) zero.0.1))
-      by PageAboveSize above =
-          let core = fits.core above.0.0 in
+          step_at i.0 (Refused 4) i.1 still (λ more. absurd (quiet more)) (refuses_first (read_refusal past.state i.0 p) 4 false past.state past.state s.refused t.refused (is_zero past.state.is_open p (length (at past.state i.0)) (sym fits.is_open ∙ zero.0) zero.1))
+      by PageAboveSize never above =
+          let core = fits.core above.0 in
           let i = bound_of core.0 core.1 core.2 core.3 core.4 in
-          step_at i.0 (Refused 5) i.1 still (refuses_first (read_refusal past.state i.0 p) 5 false past.state past.state s.refused t.refused
-          (is_above past.state.is_open p (length (at past.state i.0)) (sym fits.is_open ∙ above.0.0) above.0.1 (omega (arith, above.0.2, i.2.size_is))))
-      by BadLength other = absurd (other.1 refl (full ∙ sym fits.page_size))
-      by _ none = absurd none.0
+          step_at i.0 (Refused 5) i.1 still (λ more. absurd (quiet more)) (refuses_first (read_refusal past.state i.0 p) 5 false past.state past.state s.refused t.refused
+          (is_above past.state.is_open p (length (at past.state i.0)) (sym fits.is_open ∙ above.0) above.1 (omega (arith, above.2, i.2.size_is))))
+      by BadLength never other = absurd (other.3 (full ∙ sym fits.page_size))
+      by Device never asked = absurd (never refl)
+      by _ never none = absurd none
 
-  pub read_judged : {T U : Type 0} (out : List ℕ) (room : ℕ) (was : Result U WalError) (result : Result T WalError) (e : WalError) → Still s t → was ≡ Err e → result ≡ Err e → room ≡ past.state.page_size
-      → ReadJudged a.is_open p r.size room a.page_size was → StepsTo past past.tokens (Reads number p) (answered (λ (v : T). Page out) result) b s t
-  unfolding ReadJudged
-  read_judged {U = U} out room was result e still is_was is full bad = judged out room result e still is full (subst (λ (x : Result U WalError). ReadJudged a.is_open p r.size room a.page_size x) is_was bad)
+  pub read_judged : {T U : Type 0} (out : List ℕ) (room : ℕ) (was : Result U WalError) (result : Result T WalError) (e : WalError) → Still s t → (s.refused < t.refused → ⊥) → was ≡ Err e → result ≡ Err e → (was ≡ Err Device → ⊥) → room ≡ past.state.page_size
+      → ReadAnswer a.is_open p r.size room a.page_size was → StepsTo past past.tokens (Reads number p) (answered (λ (v : T). Page out) result) b s t
+  read_judged {U = U} out room was result e still quiet is_was is never full bad = judged out room result e still quiet is (λ same. never (is_was ∙ ap Err same)) full (subst (λ (x : Result U WalError). ReadAnswer a.is_open p r.size room a.page_size x) is_was bad)
 
   -- read from a place where the page stands
-  read_by : {T : Type 0} (f : File) (place : ℕ) (out : List ℕ) (result : Result T WalError) (i : ℕ) → reader_at past.state number ≡ Some i → read_refusal past.state i p ≡ None → PlaceAnswer Device f place out result s t
+  read_by : {T : Type 0} (f : File) (place : ℕ) (out : List ℕ) (result : Result T WalError) (i : ℕ) → reader_at past.state number ≡ Some i → read_refusal past.state i p ≡ None → PlaceAnswer Device f place out result s t → TellsRefusal Device result s t
       → (((j : ℕ) → j < length out → get_or out j 0 ≡ byte (of f s) (place + j)) → out ≡ page (at past.state i) p) → place + length out ≤ longest
       → StepsTo past past.tokens (Reads number p) (answered (λ (v : T). Page out) result) b s t
   unfolding PlaceAnswer
-  read_by f place out (Ok v) i e none answer good within = step_at i (Page out) e answer.0 (none, good answer.1, refl)
-  read_by {T = T} f place out (Err x) i e none answer good within = subst (λ (y : WalError). StepsTo past past.tokens (Reads number p) (Refused (number_of y)) b s t) (sym answer.1)
-      (step_at i (Refused 15) e answer.0 (refuses_cause (read_refusal past.state i p) past.state past.state s.refused t.refused none (answer.2 within)))
+  read_by f place out (Ok v) i e none answer told good within = step_at i (Page out) e answer.0 (λ more. absurd (quiet_ok (Ok v) v s t refl told more)) (none, good answer.1, refl)
+  read_by {T = T} f place out (Err x) i e none answer told good within = subst (λ (y : WalError). StepsTo past past.tokens (Reads number p) (Refused (number_of y)) b s t) (sym answer.1)
+      (step_at i (Refused 15) e answer.0 (λ more. refl) (refuses_cause (read_refusal past.state i p) past.state past.state s.refused t.refused none (answer.2 within)))
 
-  module _ (room : ℕ) (full : room ≡ past.state.page_size) (good : ReadJudged {T = Unit {0}} a.is_open p r.size room a.page_size (Ok tt)) (frame : ℕ) (hit : IsNewest a.index.pages p r.mark frame) where
+  module _ (room : ℕ) (full : room ≡ past.state.page_size) (good : ReadAnswer {T = Unit {0}} a.is_open p r.size room a.page_size (Ok tt)) (frame : ℕ) (hit : IsNewest a.index.pages p r.mark frame) where
     abbrev size : ℕ
     size = a.page_size
 
     page_in : (e : List ℕ) (index : ℕ → ℕ) (d c i : ℕ) → IsBound size e index a.mark c past.state i r → shown past.state.history index r.mark ≡ at past.state i
     page_in e index d c i bound = ap (λ (k : ℕ). at past.state k) bound.place
 
-    pub read_from_file : {T : Type 0} (place : ℕ) (out : List ℕ) (result : Result T WalError) → frame ≡ 0 → place ≡ (p - 1) * room → length out ≡ room → PlaceAnswer Device Db place out result s t
+    pub read_from_file : {T : Type 0} (place : ℕ) (out : List ℕ) (result : Result T WalError) → frame ≡ 0 → place ≡ (p - 1) * room → length out ≡ room → PlaceAnswer Device Db place out result s t → TellsRefusal Device result s t
         → StepsTo past past.tokens (Reads number p) (answered (λ (v : T). Page out) result) b s t
-    unfolding ReadJudged
-    read_from_file place out result zero same_place long answer =
+    read_from_file place out result zero same_place long answer told =
         let core = fits.core good.0 in
         let is : IsCore past core.0 core.1 core.2 core.3 a s = core.4 in
         let i = bound_of core.0 core.1 core.2 core.3 is in
@@ -173,16 +174,15 @@ module _ (a b : Core) (s t : DiskState) (past : Past) (fits : FitsCore past a s)
         let place_is : place ≡ (p - 1) * size = same_place ∙ ap (λ (x : ℕ). (p - 1) * x) room_is in
         let held = fits.disk.held i.0 (omega (arith, bound.place, is.stands.era.rises r.mark a.frames to (omega arith), is.stands.era.last)) in
         let un : Unnamed size core.0 r.mark p = hit_none size (length (at past.state i.0)) core.0 r.mark p frame a.index (table_upto size core.0 a.frames r.mark (length (at past.state i.0)) a.index is.table to) hit good.1 low zero in
-        read_by Db place out result i.0 i.1 (none_above past.state.is_open p (length (at past.state i.0)) (sym fits.is_open ∙ good.0) good.1 low) answer
+        read_by Db place out result i.0 i.1 (none_above past.state.is_open p (length (at past.state i.0)) (sym fits.is_open ∙ good.0) good.1 low) answer told
         (λ bytes. read_file size p place s out place_is (long ∙ room_is) bytes
         ∙ sym (other_page size past.made.logs core.0 a.frames past.state.history core.1 a.mark core.2 core.3 s is.stands r.mark p bound.boundary to good.1 low_shown bound.begun un (table s.db.len (byte s.db)) (image_present s.sector s.tears s.db is.stands.suits.sound.db))
         ∙ ap (λ (x : Database). page x p) here)
         (omega (arith, place_is, long, room_is, page_fits size p (length (at past.state i.0)) good.1 low (subst (λ (x : ℕ). length (at past.state i.0) * x ≤ 1073741824) (sym fits.page_size) held.few)))
 
-    pub read_from_log : {T : Type 0} (place : ℕ) (out : List ℕ) (result : Result T WalError) → 1 ≤ frame → place ≡ 32 + (frame - 1) * (24 + room) + 24 → length out ≡ room → PlaceAnswer Device Log place out result s t
+    pub read_from_log : {T : Type 0} (place : ℕ) (out : List ℕ) (result : Result T WalError) → 1 ≤ frame → place ≡ 32 + (frame - 1) * (24 + room) + 24 → length out ≡ room → PlaceAnswer Device Log place out result s t → TellsRefusal Device result s t
         → StepsTo past past.tokens (Reads number p) (answered (λ (v : T). Page out) result) b s t
-    unfolding ReadJudged
-    read_from_log place out result some same_place long answer =
+    read_from_log place out result some same_place long answer told =
         let core = fits.core good.0 in
         let is : IsCore past core.0 core.1 core.2 core.3 a s = core.4 in
         let i = bound_of core.0 core.1 core.2 core.3 is in
@@ -195,7 +195,7 @@ module _ (a b : Core) (s t : DiskState) (past : Past) (fits : FitsCore past a s)
         let place_is : place ≡ 32 + (frame - 1) * (24 + size) + 24 = same_place ∙ ap (λ (x : ℕ). 32 + (frame - 1) * (24 + x) + 24) room_is in
         let last : IsLast size core.0 r.mark p frame = hit_last size (length (at past.state i.0)) core.0 r.mark p frame a.index (table_upto size core.0 a.frames r.mark (length (at past.state i.0)) a.index is.table to) hit good.1 low some in
         let below : frame ≤ a.frames = omega (arith, last.within) in
-        read_by Log place out result i.0 i.1 (none_above past.state.is_open p (length (at past.state i.0)) (sym fits.is_open ∙ good.0) good.1 low) answer
+        read_by Log place out result i.0 i.1 (none_above past.state.is_open p (length (at past.state i.0)) (sym fits.is_open ∙ good.0) good.1 low) answer told
         (λ bytes. read_frame size core.0 a.frames frame place s out is.present (omega (arith, is.stands.era.log.whole)) some below place_is (long ∙ room_is) bytes
         ∙ sym (logged_page size past.made.logs core.0 a.frames past.state.history core.1 a.mark core.2 core.3 s is.stands r.mark p bound.boundary to good.1 low_shown frame last)
         ∙ ap (λ (x : Database). page x p) here)

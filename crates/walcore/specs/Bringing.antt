@@ -4,12 +4,12 @@ use Rattle.sqval.specs.Database.{Database}
 use Rattle.sqwal.specs.Frames.{frame_end, size_of}
 use Rattle.sqwal.specs.Index.{FrameTable}
 use Rattle.crashdisk.specs.State.{IsImage}
-use Rattle.crashdisk.specs.Call.{DiskState, InFile}
-use Rattle.crashdisk.specs.declared.file.File.TheVariants.{Db}
+use Rattle.crashdisk.specs.Call.{DiskState, HasCalls}
 use Rattle.sqval.specs.Answers.{Answer, Complete, Partial, HasCause}
 use Rattle.walcore.specs.Machine.{State, at, last, reader_at, closed, checkpointed, CheckpointStep}
 use Rattle.sqval.specs.Held.{IsJust}
 use Rattle.crashdisk.specs.Keeps.{HadRefusal, Still, IsSameDisk}
+use Rattle.walcore.specs.Changes.{MayFill}
 use Rattle.walcore.specs.Era.{IsBoundary, shown}
 use Rattle.walcore.specs.Standing.{Stands, IsPresent}
 use Rattle.walcore.specs.Fits.{Past, IsIndexed, FitsDisk, FitsCore}
@@ -54,24 +54,24 @@ abbrev pub BroughtTo : {T : Type 0} → (size : ℕ) (logs : List (List ℕ)) (e
 BroughtTo size logs e n h index mark d m (Ok _) old new = Stands size logs e n h index mark d m new × LeavesJust size (shown h index m) new
 BroughtTo size logs e n h index mark d m (Err x) old new = (x ≡ Device) × HadRefusal old new × ((c : ℕ) × Stands size logs e n h index mark d c new)
 
--- at a boundary that is down, and that no checkpoint went beyond
+-- at a boundary that is down, and that no checkpoint went beyond; by whole pages
 abbrev pub Brings : {T : Type 0} → (size m : ℕ) → FrameTable → Result T WalError → (old new : DiskState) → Type 0
 Brings size m t result old new = (logs : List (List ℕ)) (e : List ℕ) (n : ℕ) (h : List Database) (index : ℕ → ℕ) (mark d c : ℕ)
-    → CanBring size logs e n h index mark d c t old → IsBoundary size e m → c ≤ m → m ≤ d → BroughtTo size logs e n h index mark d m result old new
+    → CanBring size logs e n h index mark d c t old → IsBoundary size e m → c ≤ m → m ≤ d → BroughtTo size logs e n h index mark d m result old new × HasCalls (MayFill size) old new
 
 -- The last step of a checkpoint, after the sync of the log.
 abbrev pub BroughtDown : Past → Result Checkpointed WalError → (core core_new : Core) → (old new : DiskState) → Type 0
 BroughtDown past (Ok done) core core_new old new =
-    (old.refused ≤ new.refused)
+    (new.refused ≡ old.refused)
     × CheckpointStep past.state (answer_of done) old.refused new.refused (checkpointed past.state)
     × FitsCore (record { state = checkpointed past.state; made = past.made; tokens = past.tokens }) core_new new
     × ((i : ℕ) → IsOldest past.state i → LeavesJust past.state.page_size (at past.state i) new)
-    × IsSameDisk (InFile Db) old new
+    × IsSameDisk (MayFill past.state.page_size) old new
 BroughtDown past (Err x) core core_new old new =
     (old.refused ≤ new.refused)
     × (x ≡ Device) × HasCause old.refused new.refused
     × FitsDisk (record { state = closed past.state; made = past.made; tokens = past.tokens }) new
-    × (core_new.page_size ≡ core.page_size) × (core_new.marks.items ≡ core.marks.items) × IsSameDisk (InFile Db) old new
+    × (core_new.page_size ≡ core.page_size) × (core_new.marks.items ≡ core.marks.items) × IsSameDisk (MayFill past.state.page_size) old new
 
 -- a core is closed where its call was refused
 abbrev pub ClosedBy : {T : Type 0} → Result T WalError → (old new : Core) → Type 0

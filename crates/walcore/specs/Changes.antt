@@ -1,26 +1,62 @@
--- What a fold and an engine over a write-ahead log may ask of their disk to change (fileformat2, 4.1 and 4.3; zeros are own).
-use Rattle.std.specs.Prelude.{◌≡◌, ◌⊎◌, ℕ, ◌+◌, ◌≤◌, List, length, replicate}
-use Rattle.std.specs.List.{Contains}
+-- What a fold and the calls of an engine over a write-ahead log may ask of their disk (fileformat2, 4.1 and 4.3; zeros, syncs
+-- and the limit are own).
+use Rattle.std.specs.Prelude.{◌≡◌, ◌⊎◌, ℕ, ◌+◌, ◌*◌, ◌≤◌, List, ◌∷◌, length, replicate}
 use Rattle.sqval.specs.Bytes.{part}
+use Rattle.sqval.specs.CommitFaults.{most_bytes}
 use Rattle.sqwal.specs.Frames.{frame_at}
-use Rattle.crashdisk.specs.Call.{Change, write, set_len}
+use Rattle.crashdisk.specs.Call.{Change, write, set_len, sync}
 use Rattle.crashdisk.specs.declared.file.File.TheVariants.{Db, Log}
+use Rattle.walcore.specs.Machine.{Act, Opens, Commits, Syncs, Checkpoints, Restarts}
 
--- A fold: the database file at will; of the log, 32 zero bytes over its header, and to have no bytes.
-abbrev pub MayFold : Change → Type 0
-MayFold (write Db at bytes) = Unit {0}
-MayFold (write Log at bytes) = (at ≡ 0) × (bytes ≡ replicate 32 0)
-MayFold (set_len Db n) = Unit {0}
-MayFold (set_len Log n) = n ≡ 0
+-- Of the database file: a whole page at its place, a length of whole pages, both within the limit, and a sync.
+abbrev pub MayFill : (size : ℕ) → Change → Type 0
+MayFill size (write Db at bytes) = (p : ℕ) × (at ≡ p * size) × (length bytes ≡ size) × (at + size ≤ most_bytes)
+MayFill size (set_len Db n) = (count : ℕ) × (n ≡ count * size) × (n ≤ most_bytes)
+MayFill size (sync Db) = Unit {0}
+MayFill size (write Log at bytes) = ⊥
+MayFill size (set_len Log n) = ⊥
+MayFill size (sync Log) = ⊥
 
--- these bytes are the header of the log e, or one of its frames, whole, at their place
-abbrev pub IsPiece : (size : ℕ) (e : List ℕ) (at : ℕ) (bytes : List ℕ) → Type 0
-IsPiece size e at bytes =
-    (bytes ≡ part e at (length bytes)) × (((at ≡ 0) × (length bytes ≡ 32)) ⊎ ((i : ℕ) × (1 ≤ i) × (at ≡ frame_at size i) × (length bytes ≡ 24 + size)))
+-- Of the log: 32 zero bytes over its header, to have no bytes, and a sync.
+abbrev pub MayEmpty : Change → Type 0
+MayEmpty (write Log at bytes) = (at ≡ 0) × (bytes ≡ replicate 32 0)
+MayEmpty (set_len Log n) = n ≡ 0
+MayEmpty (sync Log) = Unit {0}
+MayEmpty (write Db at bytes) = ⊥
+MayEmpty (set_len Db n) = ⊥
+MayEmpty (sync Db) = ⊥
 
--- A call of an engine: what a fold may; and of the log, headers and frames of logs that were made, each whole, by one write.
-abbrev pub MayChange : (size : ℕ) (logs : List (List ℕ)) → Change → Type 0
-MayChange size logs (write Db at bytes) = Unit {0}
-MayChange size logs (write Log at bytes) = MayFold (write Log at bytes) ⊎ ((e : List ℕ) × Contains logs e × IsPiece size e at bytes)
-MayChange size logs (set_len Db n) = Unit {0}
-MayChange size logs (set_len Log n) = n ≡ 0
+-- a fold
+abbrev pub MayFold : (size : ℕ) → Change → Type 0
+MayFold size change = MayFill size change ⊎ MayEmpty change
+
+-- the newest log is e
+abbrev pub IsInForce : List (List ℕ) → List ℕ → Type 0
+IsInForce logs e = (earlier : List (List ℕ)) × (logs ≡ e ∷ earlier)
+
+-- a frame of the newest log, whole, at its place
+abbrev pub MayExtend : (size : ℕ) (logs : List (List ℕ)) → Change → Type 0
+MayExtend size logs (write Log at bytes) = (e : List ℕ) × (i : ℕ) × IsInForce logs e × (1 ≤ i) × (at ≡ frame_at size i) × (bytes ≡ part e at (length bytes)) × (length bytes ≡ 24 + size)
+MayExtend size logs _ = ⊥
+
+-- the newest log, a header alone, from the front of the file on, and a sync
+abbrev pub MayBegin : (logs : List (List ℕ)) → Change → Type 0
+MayBegin logs (write Log at bytes) = IsInForce logs bytes × (at ≡ 0) × (length bytes ≡ 32)
+MayBegin logs (sync Log) = Unit {0}
+MayBegin logs _ = ⊥
+
+-- a sync of the log
+abbrev pub MaySync : Change → Type 0
+MaySync (sync Log) = Unit {0}
+MaySync _ = ⊥
+
+-- Each call, where these logs are made once it is done: an opening folds and begins a log, a commit writes frames and syncs
+-- nothing, a sync copies a frame, a checkpoint fills the database file too, a restart begins a log, and no other call changes
+-- anything.
+abbrev pub MayChange : Act → (size : ℕ) (logs : List (List ℕ)) → Change → Type 0
+MayChange (Opens salts found) size logs change = MayFold size change ⊎ MayBegin logs change
+MayChange (Commits pages s) size logs change = MayExtend size logs change
+MayChange Syncs size logs change = MayExtend size logs change ⊎ MaySync change
+MayChange Checkpoints size logs change = MayExtend size logs change ⊎ (MaySync change ⊎ MayFill size change)
+MayChange (Restarts salt2) size logs change = MayBegin logs change
+MayChange _ size logs change = ⊥

@@ -111,9 +111,9 @@ pub record IsRecovered (past : Past) (found : Files) (pages : ℕ) (s : DiskStat
 
 -- what the recovery of an opening answers, and what it leaves
 abbrev pub RecoverAnswer : Past → Files → Result ℕ WalError → (old new : DiskState) → Type 0
-RecoverAnswer past found (Ok n) old new = Later MayFold old new × IsRecovered past found n new
+RecoverAnswer past found (Ok n) old new = Later (MayFold past.state.page_size) old new × IsRecovered past found n new
 RecoverAnswer past found (Err e) old new =
-    Later MayFold old new × MayRefuse e old new × IsLeft past.state.page_size past.made.logs past.state.history past.state.floor new
+    Later (MayFold past.state.page_size) old new × MayRefuse e old new × IsLeft past.state.page_size past.made.logs past.state.history past.state.floor new
 
 -- what an open core holds of a log without frames
 pub record IsNewCore (page_bytes pages : ℕ) (l : NewLog) (core : Core) : Type 0 where

@@ -14,7 +14,8 @@ use Rattle.crashdisk.specs.Call.{DiskState, ArePresent, Writes, Cuts}
 use Rattle.crashdisk.specs.declared.file.File.TheVariants.{Db, Log}
 use Rattle.crashdisk.specs.declared.error.DiskError.{DiskError}
 use Rattle.walcore.specs.Folding.{IsFolded}
-use Rattle.crashdisk.specs.Keeps.{HadRefusal, IsLogDown, Still, Told, SyncStep}
+use Rattle.crashdisk.specs.Keeps.{HadRefusal, IsLogDown, Still, Later, Told, TellsRefusal, SyncStep}
+use Rattle.walcore.specs.Changes.{MayFold}
 use Rattle.walcore.specs.Phases.{Writing, Filed}
 use Rattle.walcore.specs.declared.folding.Folded.{Folded}
 use Rattle.walcore.specs.declared.error.WalError.{WalError}
@@ -99,3 +100,8 @@ EndAnswer (Err e) old new = (e ≡ Device) × HadRefusal old new
 unfoldable pub FoldedAnswer : (size : ℕ) (db w : List ℕ) → Result Folded WalError → (old new : DiskState) → Type 0
 FoldedAnswer size db w (Ok f) old new = IsFolded size db w f new
 FoldedAnswer size db w (Err e) old new = (e ≡ Device) × HadRefusal old new
+
+-- which calls a fold made of the disk, and that one which was refused is told
+pub record FoldCalls {T : Type 0} (size : ℕ) (result : Result T WalError) (old new : DiskState) : Type 0 where
+  pub later : Later (MayFold size) old new
+  pub told : TellsRefusal Device result old new

@@ -20,11 +20,10 @@ pub struct Folded {
 ghost use Rattle.crashdisk.specs.Call.{DiskState, IsSoundDisk, ArePresent};
 ghost use Rattle.crashdisk.specs.State.{IsSectorSize};
 ghost use Rattle.sqval.specs.Database.{Database};
-ghost use Rattle.walcore.specs.Changes.{MayFold};
 ghost use Rattle.walcore.specs.Alone.{ShowsAlone};
 ghost use Rattle.walcore.specs.Phases.{Scanning};
-ghost use Rattle.crashdisk.specs.Keeps.{Suits, Later, IsLogDown, TearsPages};
-ghost use Rattle.walcore.specs.Steps.{FoldedAnswer};
+ghost use Rattle.crashdisk.specs.Keeps.{Suits, Still, IsLogDown, TearsPages};
+ghost use Rattle.walcore.specs.Steps.{FoldedAnswer, FoldCalls};
 ghost use Rattle.walcore.specs.Plans.{IsPlan, IsFit};
 ghost use Rattle.walcore.specs.Folding.{Folds, Agrees, IsEmptyDown, SyncsFirst};
 ghost use Rattle.walcore.specs.Lengths.{EndsBy, IsLengthOf, KeepsLength};
@@ -47,7 +46,8 @@ pub fn judge_sector<D: Disk>(disk: &D, page_size: PageSize) -> Result<(), WalErr
 fn fold_plan<D: Disk>(disk: &mut D, plan: Plan) -> Result<Folded, WalError>
     requires { length plan.page.items ≤ 65536 }
     ensures word { D.keeps_word disk.old ↔ D.keeps_word disk.new }
-    ensures later { D.keeps_word disk.old → IsSoundDisk (D.state disk.old) → Later MayFold (D.state disk.old) (D.state disk.new) }
+    ensures calls { D.keeps_word disk.old → IsSoundDisk (D.state disk.old)
+        → (size : ℕ) (w : List ℕ) → IsPlan size w plan → FoldCalls size result (D.state disk.old) (D.state disk.new) }
     ensures folds { D.keeps_word disk.old → IsSoundDisk (D.state disk.old)
         → (size : ℕ) (db w : List ℕ) → ArePresent (D.state disk.old).db db → ArePresent (D.state disk.old).log w → IsPlan size w plan
         → FoldedAnswer size db w result (D.state disk.old) (D.state disk.new) }
@@ -77,7 +77,8 @@ fn fold_log<D: Disk>(
     page_size: PageSize,
 ) -> Result<Folded, WalError>
     ensures word { D.keeps_word disk.old ↔ D.keeps_word disk.new }
-    ensures later { D.keeps_word disk.old → IsSoundDisk (D.state disk.old) → Later MayFold (D.state disk.old) (D.state disk.new) }
+    ensures calls { D.keeps_word disk.old → IsSoundDisk (D.state disk.old) → (D.state disk.old).log.len ≡ long
+        → FoldCalls page_size result (D.state disk.old) (D.state disk.new) }
     ensures folds { D.keeps_word disk.old → IsSoundDisk (D.state disk.old) → (TearsPages page_size (D.state disk.old) → ⊥) → (D.state disk.old).log.len ≡ long
         → Folds page_size result (D.state disk.old) (D.state disk.new) }
     ensures shows { D.keeps_word disk.old → (D.state disk.old).log.len ≡ long
@@ -105,7 +106,7 @@ pub fn fold<D: Disk>(alloc: Global, disk: &mut D, page_size: PageSize) -> Result
     ensures agrees { D.keeps_word disk.old → Agrees page_size (D.state disk.old) (D.state disk.new) }
     ensures lengths { D.keeps_word disk.old → KeepsLength page_size (D.state disk.old) (D.state disk.new) }
     ensures synced { D.keeps_word disk.old → (TearsPages page_size (D.state disk.old) → ⊥) → SyncsFirst page_size result (D.state disk.old) (D.state disk.new) }
-    ensures later { D.keeps_word disk.old → Later MayFold (D.state disk.old) (D.state disk.new) }
+    ensures calls { D.keeps_word disk.old → FoldCalls page_size result (D.state disk.old) (D.state disk.new) }
 {
     judge_sector(disk, page_size)?;
     disk.sync(File::Log)?;
@@ -120,9 +121,10 @@ pub fn fold_synced<D: Disk>(
 ) -> Result<Folded, WalError>
     ensures word { D.keeps_word disk.old ↔ D.keeps_word disk.new }
     ensures folds { D.keeps_word disk.old → IsEmptyDown (D.state disk.old) → Folds page_size result (D.state disk.old) (D.state disk.new) }
+    ensures empty { D.keeps_word disk.old → (D.state disk.old).log.len ≡ 0 → Still (D.state disk.old) (D.state disk.new) }
     ensures agrees { D.keeps_word disk.old → Agrees page_size (D.state disk.old) (D.state disk.new) }
     ensures lengths { D.keeps_word disk.old → KeepsLength page_size (D.state disk.old) (D.state disk.new) }
-    ensures later { D.keeps_word disk.old → Later MayFold (D.state disk.old) (D.state disk.new) }
+    ensures calls { D.keeps_word disk.old → FoldCalls page_size result (D.state disk.old) (D.state disk.new) }
 {
     judge_sector(disk, page_size)?;
     let long = disk.len(File::Log)?;

@@ -4,7 +4,7 @@ ghost use Rattle.crashdisk.specs.Call.{DiskState, IsSoundDisk, ArePresent};
 ghost use Rattle.sqwal.specs.Took.{Took};
 ghost use Rattle.sqwal.specs.Header.{named_size, IsHeader};
 ghost use Rattle.sqwal.specs.Frames.{IsValidFrame};
-ghost use Rattle.crashdisk.specs.Keeps.{Still};
+ghost use Rattle.crashdisk.specs.Keeps.{Still, TellsRefusal};
 ghost use Rattle.walcore.specs.Plans.{wanted_page, IsTable, IsFit, IsPlan, JudgeAnswer, PlanAnswer, ReadAnswer};
 
 use crate::error::WalError;
@@ -132,6 +132,7 @@ pub fn read_plan<D: Disk>(
 ) -> Result<Plan, WalError>
     ensures word { D.keeps_word disk.old ↔ D.keeps_word disk.new }
     ensures still { D.keeps_word disk.old → IsSoundDisk (D.state disk.old) → Still (D.state disk.old) (D.state disk.new) }
+    ensures told { D.keeps_word disk.old → TellsRefusal WalError.Device result (D.state disk.old) (D.state disk.new) }
     ensures plan { D.keeps_word disk.old → IsSoundDisk (D.state disk.old)
         → (w : List ℕ) → ArePresent (D.state disk.old).log w → length w ≡ long
         → ReadAnswer page_size w result (D.state disk.old) (D.state disk.new) }

@@ -3,7 +3,7 @@ ghost use Rattle.std.specs.Prelude.{◌≡◌, ◌↔◌, ◌+◌, ◌<◌, ◌�
 ghost use Rattle.crashdisk.specs.Call.{DiskState, IsSoundDisk, ArePresent};
 ghost use Rattle.sqwal.specs.Took.{Took};
 ghost use Rattle.walcore.specs.Steps.{IsWithoutHeader, PieceAnswer, ScanAnswer};
-ghost use Rattle.crashdisk.specs.Keeps.{Still};
+ghost use Rattle.crashdisk.specs.Keeps.{Still, TellsRefusal};
 
 use crate::error::WalError;
 use crashdisk::{Disk, File};
@@ -36,6 +36,7 @@ fn feed_piece<D: Disk>(
 ) -> Result<bool, WalError>
     ensures word { D.keeps_word disk.old ↔ D.keeps_word disk.new }
     ensures still { D.keeps_word disk.old → IsSoundDisk (D.state disk.old) → Still (D.state disk.old) (D.state disk.new) }
+    ensures told { D.keeps_word disk.old → TellsRefusal WalError.Device result (D.state disk.old) (D.state disk.new) }
     ensures took { D.keeps_word disk.old → IsSoundDisk (D.state disk.old)
         → (w : List ℕ) → ArePresent (D.state disk.old).log w → at + length piece.old ≤ length w → Took (take at w) scan.old
         → PieceAnswer w (at + length piece.old) result scan.new (D.state disk.old) (D.state disk.new) }
@@ -57,6 +58,7 @@ fn scan_pieces<D: Disk>(
     requires { 0 < length buffer.old }
     ensures word { D.keeps_word disk.old ↔ D.keeps_word disk.new }
     ensures still { D.keeps_word disk.old → IsSoundDisk (D.state disk.old) → Still (D.state disk.old) (D.state disk.new) }
+    ensures told { D.keeps_word disk.old → TellsRefusal WalError.Device result (D.state disk.old) (D.state disk.new) }
     ensures took { D.keeps_word disk.old → IsSoundDisk (D.state disk.old)
         → (w : List ℕ) → ArePresent (D.state disk.old).log w → length w ≡ long → Took [] scan.old
         → PieceAnswer w long result scan.new (D.state disk.old) (D.state disk.new) }
@@ -85,6 +87,7 @@ pub fn zeros(alloc: Global, long: usize) -> Result<Vec<u8>, WalError>
 pub fn scan_log<D: Disk>(alloc: Global, disk: &mut D, long: u64) -> Result<Option<Scan>, WalError>
     ensures word { D.keeps_word disk.old ↔ D.keeps_word disk.new }
     ensures still { D.keeps_word disk.old → IsSoundDisk (D.state disk.old) → Still (D.state disk.old) (D.state disk.new) }
+    ensures told { D.keeps_word disk.old → TellsRefusal WalError.Device result (D.state disk.old) (D.state disk.new) }
     ensures took { D.keeps_word disk.old → IsSoundDisk (D.state disk.old)
         → (w : List ℕ) → ArePresent (D.state disk.old).log w → length w ≡ long
         → ScanAnswer w result (D.state disk.old) (D.state disk.new) }

@@ -6,7 +6,8 @@ use Rattle.crashdisk.specs.Held.{file_of, put_byte}
 use Rattle.crashdisk.proofs.Keeping.{sound_cut}
 use Rattle.crashdisk.proofs.Changing.{cut_is}
 use Rattle.crashdisk.proofs.Judging.{ends_at}
-use Rattle.crashdisk.proofs.Solid.{solid, sound, size_positive}
+use Rattle.crashdisk.specs.SoundModel.{sound, size_positive}
+use Rattle.crashdisk.proofs.Solid.{solid}
 use Rattle.crashdisk.proofs.calls.cut_held.Goals as goal
 
 pub returns-clause-changed : goal.returns-clause-changed

@@ -1,6 +1,7 @@
 use Rattle.crashdisk.specs.Held.{file_of}
 use Rattle.crashdisk.proofs.Sound.{sound_synced}
-use Rattle.crashdisk.proofs.Solid.{solid, sound, size_positive}
+use Rattle.crashdisk.specs.SoundModel.{sound, size_positive}
+use Rattle.crashdisk.proofs.Solid.{solid}
 use Rattle.crashdisk.proofs.calls.sync_held.Goals as goal
 
 pub returns-clause-solid : goal.returns-clause-solid

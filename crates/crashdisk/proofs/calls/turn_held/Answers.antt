@@ -1,7 +1,8 @@
 use Rattle.std.proofs.Common.{ℕ, suc, true, length, arith}
 use Rattle.crashdisk.specs.Held.{file_of, picked}
 use Rattle.crashdisk.proofs.Shuffled.{sound_shuffled}
-use Rattle.crashdisk.proofs.Solid.{solid, sound, size_positive}
+use Rattle.crashdisk.specs.SoundModel.{sound, size_positive}
+use Rattle.crashdisk.proofs.Solid.{solid}
 use Rattle.crashdisk.proofs.Turning.{picked_below, turned_shuffled}
 use Rattle.crashdisk.proofs.calls.turn_held.Goals as goal
 

@@ -5,7 +5,8 @@ use Rattle.crashdisk.specs.Model.{PickedBy}
 use Rattle.crashdisk.specs.Held.{file_of, Touches}
 use Rattle.crashdisk.proofs.Keeping.{sound_written}
 use Rattle.crashdisk.proofs.Judging.{ends_at}
-use Rattle.crashdisk.proofs.Solid.{solid, sound, size_positive}
+use Rattle.crashdisk.specs.SoundModel.{sound, size_positive}
+use Rattle.crashdisk.proofs.Solid.{solid}
 use Rattle.crashdisk.proofs.calls.write_held.Goals as goal
 
 pub returns-clause-changed : goal.returns-clause-changed

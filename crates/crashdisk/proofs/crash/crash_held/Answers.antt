@@ -4,7 +4,8 @@ use Rattle.crashdisk.specs.Choice.{naming_of, image_of}
 use Rattle.crashdisk.proofs.Leaving.{left_whole, left_settled, image_named, image_len, len_between}
 use Rattle.crashdisk.proofs.Settled.{settled_sound}
 use Rattle.crashdisk.proofs.Carrying.{same_room}
-use Rattle.crashdisk.proofs.Solid.{solid, sound, size_positive}
+use Rattle.crashdisk.specs.SoundModel.{sound, size_positive}
+use Rattle.crashdisk.proofs.Solid.{solid}
 use Rattle.crashdisk.proofs.crash.crash_held.Goals as goal
 
 pub returns-clause-settled : goal.returns-clause-settled

@@ -1,4 +1,4 @@
-use Rattle.std.proofs.Common.{◌≡◌, ◌<◌, ◌∙◌, ℕ, List, length, sym, subst, arith}
+use Rattle.std.proofs.Common.{◌≡◌, ◌*◌, ◌<◌, ◌≤◌, ◌∙◌, ℕ, List, length, sym, subst, arith}
 use Rattle.std.specs.Prelude.{Result, None, OnOk, take}
 use Rattle.std.proofs.lemmas.Result.{on_ok_weaker}
 use Rattle.sqval.specs.Database.{Database, apply}
@@ -6,18 +6,19 @@ use Rattle.sqval.specs.JudgedPages.{lent}
 use Rattle.rollcore.specs.Machine.{refusal_of, segments_of}
 use Rattle.rollcore.specs.Journaling.{sizes, HasParts, parts_of}
 use Rattle.rollcore.specs.Replaying.{zeroed}
-use Rattle.crashdisk.specs.Keeps.{IsLogDown, Later}
-use Rattle.rollcore.specs.Commits.{AreChanges, PutAnswer}
+use Rattle.crashdisk.specs.Keeps.{IsLogDown}
+use Rattle.rollcore.specs.Commits.{AreChanges, PutAnswer, ArePlaced}
 use Rattle.rollcore.specs.Segments.{Journaled, ArePut, pages_of}
 use Rattle.rollcore.specs.declared.changes.Change.{Change}
 use Rattle.rollcore.specs.declared.error.RollError.{RollError}
 use Rattle.sqval.proofs.Answering.{passed}
-use Rattle.rollcore.proofs.Parting.{part_short}
+use Rattle.rollcore.proofs.Parting.{part_short, ready_placed}
 use Rattle.rollcore.proofs.Granting.{granted}
 use Rattle.rollcore.proofs.Growing.{lent_at, lent_length}
 use Rattle.rollcore.proofs.Closed.{put_harmless, put_after}
-use Rattle.crashdisk.proofs.Later.{later_then, later_wider}
-use Rattle.rollcore.specs.Changes.{MayChange}
+use Rattle.sqval.specs.CommitFaults.{most_bytes}
+use Rattle.rollcore.specs.Changes.{MayReplay, MayCommit, Asks}
+use Rattle.rollcore.proofs.Told.{asks_err, asks_then, asks_wider}
 use Rattle.rollcore.proofs.Asking.{replay_may}
 use Rattle.rollcore.proofs.commits.put_commit.Goals as goal
 
@@ -80,15 +81,21 @@ returns-clause-nonces g c = λ word d suits held many wide rests.
     on_ok_weaker c.end_commit.result (λ log. (down.0, down.1, parts, log))
     (by_count c.sector-sector.result (length c.args.nonces.now) d core.changes.items down.0 down.1 down.3 down.2 down.4 (sym many) c.requires.changes c.requires.granted)
 
-pub returns-in_err-put_segments-clause-goes : goal.returns-in_err-put_segments-clause-goes
-returns-in_err-put_segments-clause-goes g c = λ word wide.
+pub returns-in_err-put_segments-clause-asks : goal.returns-in_err-put_segments-clause-asks
+returns-in_err-put_segments-clause-asks g c = λ word wide.
     let sector = c.sector-sector.ensures.answer word in
-    subst (λ (n : ℕ). Later (MayChange c.args.core.now.page_size n) (g.D.Disk.state c.args.disk.now) (g.D.Disk.state c.put_segments.new.disk)) sector
-    (c.put_segments.ensures.goes word (c.sector-sector.ensures.sound word) (wide ∙ sym sector))
+    subst (λ (n : ℕ). Asks (MayCommit c.args.core.now.page_size n) c.from_residual.result (g.D.Disk.state c.args.disk.now) (g.D.Disk.state c.put_segments.new.disk)) sector
+    (asks_err c.from_residual.result c.put_segments.result _ _ _ c.in_err-put_segments.was (passed c.from_residual.result _ c.from_residual.ensures.1) (c.put_segments.ensures.asks word (wide ∙ sym sector)))
 
-pub returns-clause-goes : goal.returns-clause-goes
-returns-clause-goes g c = λ word wide.
+pub returns-clause-asks : goal.returns-clause-asks
+returns-clause-asks g c = λ word wide.
+    let core = c.args.core.now in
     let sector = c.sector-sector.ensures.answer word in
-    let mid = subst (λ (n : ℕ). Later (MayChange c.args.core.now.page_size n) (g.D.Disk.state c.args.disk.now) (g.D.Disk.state c.put_segments.new.disk)) sector
-    (c.put_segments.ensures.goes word (c.sector-sector.ensures.sound word) (wide ∙ sym sector)) in
-    later_then _ _ _ mid (later_wider _ _ (replay_may _ _) (c.end_commit.ensures.goes (c.put_segments.ensures.word.0 word) mid.sound))
+    let kept = c.put_segments.ensures.keeps.page_size in
+    let first = subst (λ (n : ℕ). Asks (MayCommit core.page_size n) c.put_segments.result (g.D.Disk.state c.args.disk.now) (g.D.Disk.state c.put_segments.new.disk)) sector
+    (c.put_segments.ensures.asks word (wide ∙ sym sector)) in
+    let placed = ready_placed c.args.pages.now c.args.size (length c.args.nonces.now) core c.requires in
+    let within = (granted core.size core.page_size (lent c.args.pages.now) c.args.size (length c.args.nonces.now) c.requires.granted).bytes in
+    let last = subst (λ (n : ℕ). Asks (MayReplay n) c.end_commit.result (g.D.Disk.state c.put_segments.new.disk) (g.D.Disk.state c.end_commit.new.disk)) kept
+    (c.end_commit.ensures.asks (c.put_segments.ensures.word.0 word) (subst (λ (n : ℕ). ArePlaced n c.args.pages.now) (sym kept) placed) (subst (λ (n : ℕ). c.args.size * n ≤ most_bytes) (sym kept) within)) in
+    asks_then _ c.put_segments.result _ _ _ _ c.in_ok-put_segments.was first (asks_wider c.end_commit.result _ _ (replay_may core.page_size (g.D.Disk.state c.args.disk.now).sector) last)

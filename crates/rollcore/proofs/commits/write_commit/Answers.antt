@@ -17,9 +17,9 @@ pub returns-clause-step : goal.returns-clause-step
 returns-clause-step g c = λ word past fits opened.
     subst (λ (r : Result (Unit {0}) RollError). StepsTo past (Commits (lent c.args.pages.now) c.args.size c.args.nonces.now) (answered (λ _. Done) r) c.end_put.new.core (g.D.Disk.state c.args.disk.now) (g.D.Disk.state c.put_commit-put.new.disk)) (sym c.end_put.ensures.same)
     (commit_step past c.args.core.now c.put_commit-put.new.core (g.D.Disk.state c.args.disk.now) (g.D.Disk.state c.put_commit-put.new.disk) fits opened c.args.pages.now c.args.size c.args.nonces.now c.requires c.put_commit-put.ensures.keeps
-    (c.put_commit-put.ensures.goes word (fits.core opened).header_room) c.put_commit-put.result c.end_put.new.core
+    (c.put_commit-put.ensures.asks word (fits.core opened).header_room).later c.put_commit-put.result c.end_put.new.core (c.put_commit-put.ensures.asks word (fits.core opened).header_room).told
     (put_here past c.args.core.now c.put_commit-put.new.core (g.D.Disk.state c.args.disk.now) (g.D.Disk.state c.put_commit-put.new.disk) fits opened c.args.pages.now c.args.size c.args.nonces.now c.requires c.put_commit-put.ensures.keeps
-    (c.put_commit-put.ensures.goes word (fits.core opened).header_room)
+    (c.put_commit-put.ensures.asks word (fits.core opened).header_room).later
     (λ n d. PutAnswer n d (apply d (lent c.args.pages.now) c.args.size) c.put_commit-put.result (g.D.Disk.state c.args.disk.now) (g.D.Disk.state c.put_commit-put.new.disk)) (c.put_commit-put.ensures.put word))
     c.end_put.ensures.answer)
 
@@ -31,10 +31,10 @@ returns-clause-nonces g c = λ word past fits opened.
     (λ leaves. (
       pages_of c.args.core.now.changes.items,
       changed_here past c.args.core.now c.put_commit-put.new.core (g.D.Disk.state c.args.disk.now) new fits opened c.args.pages.now c.args.size c.args.nonces.now c.requires c.put_commit-put.ensures.keeps
-          (c.put_commit-put.ensures.goes word (fits.core opened).header_room),
+          (c.put_commit-put.ensures.asks word (fits.core opened).header_room).later,
       leaves,
     ))
     (put_here past c.args.core.now c.put_commit-put.new.core (g.D.Disk.state c.args.disk.now) new fits opened c.args.pages.now c.args.size c.args.nonces.now c.requires c.put_commit-put.ensures.keeps
-    (c.put_commit-put.ensures.goes word (fits.core opened).header_room)
+    (c.put_commit-put.ensures.asks word (fits.core opened).header_room).later
     (λ n d. OnOk c.put_commit-put.result (LeavesParts (sizes (g.D.Disk.state c.args.disk.now).sector n) (parts_of d (pages_of c.args.core.now.changes.items) (take (segments_of (length (pages_of c.args.core.now.changes.items))) c.args.nonces.now)) new))
     (c.put_commit-put.ensures.nonces word)))

@@ -1,7 +1,12 @@
-use Rattle.std.proofs.Common.{◌≡◌, ◌≤◌, ◌+◌, ◌-◌, ◌*◌, inl, inr, ℕ, length, arith, subst}
+use Rattle.std.proofs.Common.{◌≡◌, ◌≤◌, ◌+◌, ◌-◌, ◌*◌, inl, inr, ℕ, length, refl, arith, subst}
 use Rattle.std.specs.Prelude.{Ok}
 use Rattle.crashdisk.specs.State.{longest}
+use Rattle.sqval.specs.CommitFaults.{most_bytes}
 use Rattle.crashdisk.specs.Call.{Writes}
+use Rattle.crashdisk.specs.Keeps.{Later}
+use Rattle.crashdisk.proofs.Later.{later_still, later_then, later_write}
+use Rattle.rollcore.specs.Changes.{MayReplay}
+use Rattle.rollcore.proofs.Told.{asks_same, asks_device, asks_done, asks_then, page_limit}
 use Rattle.crashdisk.specs.declared.file.File.TheVariants.{Db}
 use Rattle.rollcore.specs.declared.error.RollError.TheVariants.{Device}
 use Rattle.sqval.proofs.Answering.{passed}
@@ -56,3 +61,39 @@ returns-clause-page g c = λ word sound w are fits within.
 
 pub returns-in_err-read_at-clause-log : goal.returns-in_err-read_at-clause-log
 returns-in_err-read_at-clause-log g c = λ word sound. keeps_still _ _ sound (still_looks _ c.read_at.result _ _ sound (c.read_at.ensures.state word))
+
+pub returns-then-entry-eq0-clause-asks : goal.returns-then-entry-eq0-clause-asks
+returns-then-entry-eq0-clause-asks g c = λ word within. asks_same _ _ (g.met.D.Disk.sound c.args.disk.now word)
+
+pub returns-in_err-read_at-clause-asks : goal.returns-in_err-read_at-clause-asks
+returns-in_err-read_at-clause-asks g c = λ word within.
+    let sound = g.met.D.Disk.sound c.args.disk.now word in
+    asks_device c.from_residual.result _ _ (passed c.from_residual.result Device c.from_residual.ensures.1) (later_still _ _ sound (still_looks _ c.read_at.result _ _ sound (c.read_at.ensures.state word)))
+
+pub returns-in_err-write_at-clause-asks : goal.returns-in_err-write_at-clause-asks
+returns-in_err-write_at-clause-asks g c = λ word within.
+    let sound = g.met.D.Disk.sound c.args.disk.now word in
+    let size = length c.args.page.now in
+    let one : 1 ≤ c.args.entry.page = omega (arith, c.if-entry-eq0.false) in
+    let le : c.args.entry.page ≤ c.args.count = omega (arith, c.if-entry-count.false) in
+    let looked = c.read_at.ensures.state word in
+    let first : Later (MayReplay size) (g.D.Disk.state c.args.disk.now) (g.D.Disk.state c.read_at.new.self) = later_still _ _ sound (still_looks _ c.read_at.result _ _ sound looked) in
+    let place : c.from.result * length c.read_at.new.out ≡ (c.args.entry.page - 1) * size = cc in
+    let end : (c.args.entry.page - 1) * size + size ≤ most_bytes = page_limit size c.args.entry.page c.args.count one le within in
+    let wrote = c.write_at.ensures.state (c.read_at.ensures.word.0 word) in
+    let last : Later (MayReplay size) (g.D.Disk.state c.read_at.new.self) (g.D.Disk.state c.write_at.new.self) = later_write Db _ _ c.write_at.result _ _ (c.args.entry.page - 1, place, c.read_at.auto.out, omega (arith, place, end)) first.sound wrote in
+    asks_device c.from_residual-in_err-write_at.result _ _ (passed c.from_residual-in_err-write_at.result Device c.from_residual-in_err-write_at.ensures.1) (later_then _ _ _ first last)
+
+pub returns-clause-asks : goal.returns-clause-asks
+returns-clause-asks g c = λ word within.
+    let sound = g.met.D.Disk.sound c.args.disk.now word in
+    let size = length c.args.page.now in
+    let one : 1 ≤ c.args.entry.page = omega (arith, c.if-entry-eq0.false) in
+    let le : c.args.entry.page ≤ c.args.count = omega (arith, c.if-entry-count.false) in
+    let looked = c.read_at.ensures.state word in
+    let first : Later (MayReplay size) (g.D.Disk.state c.args.disk.now) (g.D.Disk.state c.read_at.new.self) = later_still _ _ sound (still_looks _ c.read_at.result _ _ sound looked) in
+    let place : c.from.result * length c.read_at.new.out ≡ (c.args.entry.page - 1) * size = cc in
+    let end : (c.args.entry.page - 1) * size + size ≤ most_bytes = page_limit size c.args.entry.page c.args.count one le within in
+    let wrote = c.write_at.ensures.state (c.read_at.ensures.word.0 word) in
+    let last : Later (MayReplay size) (g.D.Disk.state c.read_at.new.self) (g.D.Disk.state c.write_at.new.self) = later_write Db _ _ c.write_at.result _ _ (c.args.entry.page - 1, place, c.read_at.auto.out, omega (arith, place, end)) first.sound wrote in
+    asks_then {U = Unit {0}} (Ok tt) (Ok tt) tt _ _ _ refl (asks_done (Ok tt) c.read_at.result _ _ _ c.in_ok-read_at.was looked.refused first) (asks_done (Ok tt) c.write_at.result _ _ _ c.in_ok-write_at.was wrote.elsewhere.refused last)

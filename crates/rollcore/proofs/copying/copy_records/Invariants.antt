@@ -10,6 +10,8 @@ use Rattle.crashdisk.specs.Keeps.{KeepsLog}
 use Rattle.rollcore.specs.Phases.{Writing}
 use Rattle.rollcore.proofs.Copies.{Upto}
 use Rattle.rollcore.proofs.Records.{entries_of}
+use Rattle.std.specs.Prelude.{Ok}
+use Rattle.rollcore.specs.Changes.{MayReplay, Asks}
 use Rattle.rollcore.proofs.copying.copy_records.Given as goal
 
 abbrev pub invariant-loop-i : goal.invariant-loop-i
@@ -17,6 +19,7 @@ invariant-loop-i g l = record {
   kept : g.D.Disk.keeps_word l.initial.disk ↔ g.D.Disk.keeps_word l.disk;
   all : (w : List ℕ) → Took w l.scan → HasCount w l.i-end;
   log : g.D.Disk.keeps_word l.initial.disk → IsSoundDisk (g.D.Disk.state l.initial.disk) → KeepsLog (g.D.Disk.state l.initial.disk) (g.D.Disk.state l.disk);
+  asks : g.D.Disk.keeps_word l.fn.disk → l.count * length l.fn.page ≤ most_bytes → Asks {T = Unit {0}} (MayReplay (length l.fn.page)) (Ok tt) (g.D.Disk.state l.fn.disk) (g.D.Disk.state l.disk);
   pages : g.D.Disk.keeps_word l.initial.disk → IsSoundDisk (g.D.Disk.state l.initial.disk) → (db w : List ℕ) (segments : List Segment) (end : ℕ) (why : Why)
       → ArePresent (g.D.Disk.state l.initial.disk).db db → ArePresent (g.D.Disk.state l.initial.disk).log w → Took w l.scan → length l.initial.page ≡ word w 24 → l.count * length l.initial.page ≤ most_bytes
       → IsJournal w segments end why → Upto w db l.count (entries_of w segments) l.i (g.D.Disk.state l.disk);

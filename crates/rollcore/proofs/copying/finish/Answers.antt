@@ -1,10 +1,12 @@
-use Rattle.std.proofs.Common.{arith}
+use Rattle.std.proofs.Common.{refl, arith}
 use Rattle.crashdisk.specs.declared.file.File.TheVariants.{Db}
 use Rattle.sqval.proofs.Answering.{passed}
 use Rattle.crashdisk.specs.Keeps.{Later}
-use Rattle.rollcore.specs.Changes.{MayReplay}
-use Rattle.rollcore.proofs.Ending.{zero_refused, end_refused, end_done, zero_later}
-use Rattle.crashdisk.proofs.Later.{sync_later, sync_refused, later_then}
+use Rattle.crashdisk.specs.Call.{InFile}
+use Rattle.rollcore.specs.Changes.{MayReplay, Asks}
+use Rattle.rollcore.proofs.Told.{asks_step, asks_as, asks_err, asks_then, asks_zeros}
+use Rattle.rollcore.proofs.Ending.{zero_refused, end_refused, end_done}
+use Rattle.crashdisk.proofs.Later.{sync_later, sync_refused}
 use Rattle.rollcore.proofs.Agreeing.{synced_shows, synced_filed, zeroed_shows}
 use Rattle.rollcore.proofs.Lengths.{ends_settled, ends_finished}
 use Rattle.rollcore.proofs.Closed.{synced_failed, zero_failed, zero_closed}
@@ -21,7 +23,7 @@ returns-in_err-settle_database-clause-shows g c = λ word size w d is pages. syn
 
 pub returns-in_err-zero_header-clause-ends : goal.returns-in_err-zero_header-clause-ends
 returns-in_err-zero_header-clause-ends g c = λ word sound.
-    let first : Later MayReplay (g.D.Disk.state c.args.disk.now) (g.D.Disk.state c.settle_database.new.disk) = sync_later Device Db c.settle_database.result _ _ sound (c.settle_database.ensures.state word) in
+    let first : Later (InFile Db) (g.D.Disk.state c.args.disk.now) (g.D.Disk.state c.settle_database.new.disk) = sync_later Device Db c.settle_database.result _ _ refl sound (c.settle_database.ensures.state word) in
     end_refused c.zero_header.result c.from_residual-in_err-zero_header.result _ (g.D.Disk.state c.args.disk.now) (g.D.Disk.state c.settle_database.new.disk) (g.D.Disk.state c.zero_header.new.disk) first.refused (passed c.from_residual-in_err-zero_header.result _ c.from_residual-in_err-zero_header.ensures.1)
     (zero_refused c.zero_header.result _ _ _ first.sound c.in_err-zero_header.was (c.zero_header.ensures.state (c.settle_database.ensures.word.0 word)))
 
@@ -38,20 +40,26 @@ pub returns-clause-shows : goal.returns-clause-shows
 returns-clause-shows g c = λ word size w d is pages.
     zeroed_shows size w d c.zero_header.result _ _ (synced_filed size w d _ _ _ is pages (c.in_ok-settle_database.ensures.state word)) (c.zero_header.ensures.state (c.settle_database.ensures.word.0 word))
 
-pub returns-in_err-settle_database-clause-goes : goal.returns-in_err-settle_database-clause-goes
-returns-in_err-settle_database-clause-goes g c = λ word sound. sync_later Device Db c.settle_database.result (g.D.Disk.state c.args.disk.now) (g.D.Disk.state c.settle_database.new.disk) sound (c.settle_database.ensures.state word)
+pub returns-in_err-settle_database-clause-asks : goal.returns-in_err-settle_database-clause-asks
+returns-in_err-settle_database-clause-asks g c = λ word size.
+    asks_err c.from_residual.result c.settle_database.result _ _ _ c.in_err-settle_database.was (passed c.from_residual.result _ c.from_residual.ensures.1)
+    (asks_step Db c.settle_database.result _ _ tt (g.met.D.Disk.sound c.args.disk.now word) (c.settle_database.ensures.state word))
 
-pub returns-in_err-zero_header-clause-goes : goal.returns-in_err-zero_header-clause-goes
-returns-in_err-zero_header-clause-goes g c = λ word sound.
-    let mid : Later MayReplay (g.D.Disk.state c.args.disk.now) (g.D.Disk.state c.settle_database.new.disk) = sync_later Device Db c.settle_database.result (g.D.Disk.state c.args.disk.now) (g.D.Disk.state c.settle_database.new.disk) sound (c.settle_database.ensures.state word) in
-    later_then (g.D.Disk.state c.args.disk.now) (g.D.Disk.state c.settle_database.new.disk) (g.D.Disk.state c.zero_header.new.disk) mid
-    (zero_later c.zero_header.result (g.D.Disk.state c.settle_database.new.disk) (g.D.Disk.state c.zero_header.new.disk) mid.sound (c.zero_header.ensures.state (c.settle_database.ensures.word.0 word)))
+pub returns-in_err-zero_header-clause-asks : goal.returns-in_err-zero_header-clause-asks
+returns-in_err-zero_header-clause-asks g c = λ word size.
+    let first : Asks (MayReplay size) c.settle_database.result (g.D.Disk.state c.args.disk.now) (g.D.Disk.state c.settle_database.new.disk) =
+    asks_step Db c.settle_database.result _ _ tt (g.met.D.Disk.sound c.args.disk.now word) (c.settle_database.ensures.state word) in
+    asks_then _ c.settle_database.result _ _ _ _ c.in_ok-settle_database.was first
+    (asks_err c.from_residual-in_err-zero_header.result c.zero_header.result _ _ _ c.in_err-zero_header.was (passed c.from_residual-in_err-zero_header.result _ c.from_residual-in_err-zero_header.ensures.1)
+    (asks_zeros c.zero_header.result _ _ (refl, refl) tt first.later.sound (c.zero_header.ensures.state (c.settle_database.ensures.word.0 word))))
 
-pub returns-clause-goes : goal.returns-clause-goes
-returns-clause-goes g c = λ word sound.
-    let mid : Later MayReplay (g.D.Disk.state c.args.disk.now) (g.D.Disk.state c.settle_database.new.disk) = sync_later Device Db c.settle_database.result (g.D.Disk.state c.args.disk.now) (g.D.Disk.state c.settle_database.new.disk) sound (c.settle_database.ensures.state word) in
-    later_then (g.D.Disk.state c.args.disk.now) (g.D.Disk.state c.settle_database.new.disk) (g.D.Disk.state c.zero_header.new.disk) mid
-    (zero_later c.zero_header.result (g.D.Disk.state c.settle_database.new.disk) (g.D.Disk.state c.zero_header.new.disk) mid.sound (c.zero_header.ensures.state (c.settle_database.ensures.word.0 word)))
+pub returns-clause-asks : goal.returns-clause-asks
+returns-clause-asks g c = λ word size.
+    let first : Asks (MayReplay size) c.settle_database.result (g.D.Disk.state c.args.disk.now) (g.D.Disk.state c.settle_database.new.disk) =
+    asks_step Db c.settle_database.result _ _ tt (g.met.D.Disk.sound c.args.disk.now word) (c.settle_database.ensures.state word) in
+    asks_then _ c.settle_database.result _ _ _ _ c.in_ok-settle_database.was first
+    (asks_as _ c.zero_header.result _ _ _ c.in_ok-zero_header.was
+    (asks_zeros c.zero_header.result _ _ (refl, refl) tt first.later.sound (c.zero_header.ensures.state (c.settle_database.ensures.word.0 word))))
 
 pub returns-in_err-settle_database-clause-lengths : goal.returns-in_err-settle_database-clause-lengths
 returns-in_err-settle_database-clause-lengths g c = λ word sound sectors w down hot names.

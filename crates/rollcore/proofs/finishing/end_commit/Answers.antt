@@ -1,5 +1,5 @@
-use Rattle.std.proofs.Common.{◌≡◌, ◌*◌, ◌∙◌, ℕ, sym, ap, subst, arith}
-use Rattle.std.specs.Prelude.{Result}
+use Rattle.std.proofs.Common.{◌≡◌, ◌*◌, ◌∙◌, ℕ, refl, sym, ap, subst, arith}
+use Rattle.std.specs.Prelude.{Result, Ok}
 use Rattle.sqval.specs.Database.{apply}
 use Rattle.sqval.specs.JudgedPages.{lent}
 use Rattle.crashdisk.specs.declared.file.File.TheVariants.{Db}
@@ -10,24 +10,33 @@ use Rattle.rollcore.specs.declared.error.RollError.TheVariants.{Device}
 use Rattle.sqval.proofs.Answering.{passed}
 use Rattle.rollcore.proofs.Closed.{put_harmless, put_after, ends_log, of_pages, some_changes, held_after, cut_failed, cut_done, cut_pages}
 use Rattle.rollcore.proofs.finishing.end_commit.Goals as goal
-use Rattle.crashdisk.proofs.Later.{later_cut, later_then, later_wider}
+use Rattle.crashdisk.proofs.Later.{later_cut}
 use Rattle.crashdisk.specs.Keeps.{Later}
 use Rattle.rollcore.specs.Changes.{MayReplay}
-use Rattle.rollcore.proofs.Asking.{file_replays}
+use Rattle.rollcore.proofs.Told.{asks_err, asks_then, asks_device, asks_done}
 
-pub returns-in_err-put_new_pages-clause-goes : goal.returns-in_err-put_new_pages-clause-goes
-returns-in_err-put_new_pages-clause-goes g c = λ word sound. later_wider _ _ file_replays (c.put_new_pages.ensures.goes word sound)
+pub returns-in_err-put_new_pages-clause-asks : goal.returns-in_err-put_new_pages-clause-asks
+returns-in_err-put_new_pages-clause-asks g c = λ word placed within.
+    asks_err c.from_residual.result c.put_new_pages.result _ _ _ c.in_err-put_new_pages.was (passed c.from_residual.result _ c.from_residual.ensures.1) (c.put_new_pages.ensures.asks word c.args.page_size placed)
 
-pub returns-in_err-set_len-clause-goes : goal.returns-in_err-set_len-clause-goes
-returns-in_err-set_len-clause-goes g c = λ word sound.
-    let first : Later MayReplay (g.D.Disk.state c.args.disk.now) (g.D.Disk.state c.put_new_pages.new.disk) = later_wider _ _ file_replays (c.put_new_pages.ensures.goes word sound) in
-    later_then _ _ _ first (later_cut Db _ c.set_len.result _ _ tt first.sound (c.set_len.ensures.state (c.put_new_pages.ensures.word.0 word)))
+pub returns-in_err-set_len-clause-asks : goal.returns-in_err-set_len-clause-asks
+returns-in_err-set_len-clause-asks g c = λ word placed within.
+    let first = (c.put_new_pages.ensures.asks word c.args.page_size placed) in
+    let end : c.from.result * c.from-2.result ≡ c.args.size * c.args.page_size = ap (λ (k : ℕ). k * c.from-2.result) c.from.ensures ∙ ap (λ (k : ℕ). c.args.size * k) (c.from-2.ensures ∙ c.get.ensures.value) in
+    let cut = c.set_len.ensures.state (c.put_new_pages.ensures.word.0 word) in
+    let mid : Later (MayReplay c.args.page_size) (g.D.Disk.state c.put_new_pages.new.disk) (g.D.Disk.state c.set_len.new.self) = later_cut Db _ c.set_len.result _ _ (c.args.size, end, omega (arith, end, within)) first.later.sound cut in
+    asks_then _ c.put_new_pages.result _ _ _ _ c.in_ok-put_new_pages.was first
+    (asks_device c.from_residual-in_err-set_len.result _ _ (passed c.from_residual-in_err-set_len.result Device c.from_residual-in_err-set_len.ensures.1) mid)
 
-pub returns-clause-goes : goal.returns-clause-goes
-returns-clause-goes g c = λ word sound.
-    let first : Later MayReplay (g.D.Disk.state c.args.disk.now) (g.D.Disk.state c.put_new_pages.new.disk) = later_wider _ _ file_replays (c.put_new_pages.ensures.goes word sound) in
-    let then = later_then _ _ _ first (later_cut Db _ c.set_len.result _ _ tt first.sound (c.set_len.ensures.state (c.put_new_pages.ensures.word.0 word))) in
-    later_then _ _ _ then (c.finish.ensures.goes (c.set_len.ensures.word.0 (c.put_new_pages.ensures.word.0 word)) then.sound)
+pub returns-clause-asks : goal.returns-clause-asks
+returns-clause-asks g c = λ word placed within.
+    let first = (c.put_new_pages.ensures.asks word c.args.page_size placed) in
+    let end : c.from.result * c.from-2.result ≡ c.args.size * c.args.page_size = ap (λ (k : ℕ). k * c.from-2.result) c.from.ensures ∙ ap (λ (k : ℕ). c.args.size * k) (c.from-2.ensures ∙ c.get.ensures.value) in
+    let cut = c.set_len.ensures.state (c.put_new_pages.ensures.word.0 word) in
+    let mid : Later (MayReplay c.args.page_size) (g.D.Disk.state c.put_new_pages.new.disk) (g.D.Disk.state c.set_len.new.self) = later_cut Db _ c.set_len.result _ _ (c.args.size, end, omega (arith, end, within)) first.later.sound cut in
+    asks_then _ c.put_new_pages.result _ _ _ _ c.in_ok-put_new_pages.was first
+    (asks_then {U = Unit {0}} _ (Ok tt) tt _ _ _ refl (asks_done (Ok tt) c.set_len.result _ _ _ c.in_ok-set_len.was cut.elsewhere.refused mid)
+    (c.finish.ensures.asks (c.set_len.ensures.word.0 (c.put_new_pages.ensures.word.0 word)) c.args.page_size))
 
 pub returns-in_err-put_new_pages-clause-ends : goal.returns-in_err-put_new_pages-clause-ends
 returns-in_err-put_new_pages-clause-ends g c = λ word sector nonces d changes place w is begun put many listed none.

@@ -1,31 +1,32 @@
-use Rattle.std.proofs.Common.{◌∙◌, refl, ap}
+use Rattle.std.proofs.Common.{◌∙◌, inl, refl, ap}
 use Rattle.std.specs.Prelude.{Ok}
 use Rattle.crashdisk.specs.declared.file.File.TheVariants.{Log}
 use Rattle.sqval.proofs.Answering.{passed}
 use Rattle.crashdisk.specs.Call.{InFile}
 use Rattle.crashdisk.specs.Keeps.{Later}
-use Rattle.rollcore.proofs.Asking.{zero_may}
-use Rattle.rollcore.proofs.Going.{goes_broken}
+use Rattle.rollcore.proofs.Asking.{front_may}
+use Rattle.rollcore.proofs.Going.{goes_broken, asks_broken}
+use Rattle.rollcore.proofs.Told.{asks_step, asks_as, asks_err, asks_then}
 use Rattle.rollcore.proofs.Breaking.{front_failed, front_none, front_unsynced, front_synced}
 use Rattle.rollcore.proofs.Refusing.{broken_refused, settled_refused}
 use Rattle.rollcore.proofs.opening.break_front.Goals as goal
-use Rattle.crashdisk.proofs.Later.{later_then, sync_later}
-use Rattle.rollcore.specs.declared.error.RollError.TheVariants.{Device}
 
-pub returns-in_err-break_magic-clause-goes : goal.returns-in_err-break_magic-clause-goes
-returns-in_err-break_magic-clause-goes g c = λ word sound size sector. goes_broken 0 c.break_magic.result (g.D.Disk.state c.args.disk.now) (g.D.Disk.state c.break_magic.new.disk) (zero_may size sector 0) sound (c.break_magic.ensures.steps word sound)
+pub returns-in_err-break_magic-clause-asks : goal.returns-in_err-break_magic-clause-asks
+returns-in_err-break_magic-clause-asks g c = λ word size.
+    let sound = g.met.D.Disk.sound c.args.disk.now word in
+    asks_err c.from_residual.result c.break_magic.result _ _ _ c.in_err-break_magic.was (passed c.from_residual.result _ c.from_residual.ensures.1) (asks_broken 0 c.break_magic.result (g.D.Disk.state c.args.disk.now) (g.D.Disk.state c.break_magic.new.disk) (front_may size) sound (c.break_magic.ensures.steps word sound) (c.break_magic.ensures.told word))
 
-pub returns-in_err-settle_log-clause-goes : goal.returns-in_err-settle_log-clause-goes
-returns-in_err-settle_log-clause-goes g c = λ word sound size sector.
-    let mid = goes_broken 0 c.break_magic.result (g.D.Disk.state c.args.disk.now) (g.D.Disk.state c.break_magic.new.disk) (zero_may size sector 0) sound (c.break_magic.ensures.steps word sound) in
-    later_then (g.D.Disk.state c.args.disk.now) (g.D.Disk.state c.break_magic.new.disk) (g.D.Disk.state c.settle_log.new.disk) mid
-    (sync_later Device Log c.settle_log.result (g.D.Disk.state c.break_magic.new.disk) (g.D.Disk.state c.settle_log.new.disk) mid.sound (c.settle_log.ensures.state (c.break_magic.ensures.word.0 word)))
+pub returns-in_err-settle_log-clause-asks : goal.returns-in_err-settle_log-clause-asks
+returns-in_err-settle_log-clause-asks g c = λ word size.
+    let sound = g.met.D.Disk.sound c.args.disk.now word in
+    let first = (asks_broken 0 c.break_magic.result (g.D.Disk.state c.args.disk.now) (g.D.Disk.state c.break_magic.new.disk) (front_may size) sound (c.break_magic.ensures.steps word sound) (c.break_magic.ensures.told word)) in
+    asks_then _ c.break_magic.result _ _ _ _ c.in_ok-break_magic.was first (asks_err c.from_residual-in_err-settle_log.result c.settle_log.result _ _ _ c.in_err-settle_log.was (passed c.from_residual-in_err-settle_log.result _ c.from_residual-in_err-settle_log.ensures.1) (asks_step Log c.settle_log.result _ _ (inl tt) first.later.sound (c.settle_log.ensures.state (c.break_magic.ensures.word.0 word))))
 
-pub returns-in_ok-settle_log-clause-goes : goal.returns-in_ok-settle_log-clause-goes
-returns-in_ok-settle_log-clause-goes g c = λ word sound size sector.
-    let mid = goes_broken 0 c.break_magic.result (g.D.Disk.state c.args.disk.now) (g.D.Disk.state c.break_magic.new.disk) (zero_may size sector 0) sound (c.break_magic.ensures.steps word sound) in
-    later_then (g.D.Disk.state c.args.disk.now) (g.D.Disk.state c.break_magic.new.disk) (g.D.Disk.state c.settle_log.new.disk) mid
-    (sync_later Device Log c.settle_log.result (g.D.Disk.state c.break_magic.new.disk) (g.D.Disk.state c.settle_log.new.disk) mid.sound (c.settle_log.ensures.state (c.break_magic.ensures.word.0 word)))
+pub returns-in_ok-settle_log-clause-asks : goal.returns-in_ok-settle_log-clause-asks
+returns-in_ok-settle_log-clause-asks g c = λ word size.
+    let sound = g.met.D.Disk.sound c.args.disk.now word in
+    let first = (asks_broken 0 c.break_magic.result (g.D.Disk.state c.args.disk.now) (g.D.Disk.state c.break_magic.new.disk) (front_may size) sound (c.break_magic.ensures.steps word sound) (c.break_magic.ensures.told word)) in
+    asks_then _ c.break_magic.result _ _ _ _ c.in_ok-break_magic.was first (asks_as _ c.settle_log.result _ _ _ c.in_ok-settle_log.was (asks_step Log c.settle_log.result _ _ (inl tt) first.later.sound (c.settle_log.ensures.state (c.break_magic.ensures.word.0 word))))
 
 pub returns-in_err-break_magic-clause-front : goal.returns-in_err-break_magic-clause-front
 returns-in_err-break_magic-clause-front g c = λ word sound sectors w down cold.
@@ -57,5 +58,7 @@ returns-in_err-settle_log-clause-refused g c = λ word sound.
     settled_refused (g.D.Disk.state c.args.disk.now) (g.D.Disk.state c.break_magic.new.disk) (g.D.Disk.state c.settle_log.new.disk) c.settle_log.result c.from_residual-in_err-settle_log.result _ mid.refused mid.sound c.in_err-settle_log.was
     (c.settle_log.ensures.state (c.break_magic.ensures.word.0 word)) (passed c.from_residual-in_err-settle_log.result _ c.from_residual-in_err-settle_log.ensures.1)
 
-pub returns-else-branch-clause-goes : goal.returns-else-branch-clause-goes
-returns-else-branch-clause-goes g c = λ word sound size sector. goes_broken 0 c.break_magic.result (g.D.Disk.state c.args.disk.now) (g.D.Disk.state c.break_magic.new.disk) (zero_may size sector 0) sound (c.break_magic.ensures.steps word sound)
+pub returns-else-branch-clause-asks : goal.returns-else-branch-clause-asks
+returns-else-branch-clause-asks g c = λ word size.
+    let sound = g.met.D.Disk.sound c.args.disk.now word in
+    asks_as _ c.break_magic.result _ _ _ c.in_ok-break_magic.was (asks_broken 0 c.break_magic.result (g.D.Disk.state c.args.disk.now) (g.D.Disk.state c.break_magic.new.disk) (front_may size) sound (c.break_magic.ensures.steps word sound) (c.break_magic.ensures.told word))

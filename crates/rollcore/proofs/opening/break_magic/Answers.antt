@@ -1,4 +1,6 @@
-use Rattle.std.specs.Prelude.{Ok, IsTrue}
+use Rattle.std.proofs.Common.{refl}
+use Rattle.std.specs.Prelude.{Ok, IsTrue, Bool, true, false}
+use Rattle.rollcore.proofs.Told.{told_device, told_done, told_then}
 use Rattle.rollcore.specs.declared.error.RollError.TheVariants.{Device}
 use Rattle.sqval.proofs.Answering.{passed}
 use Rattle.crashdisk.proofs.Stills.{still_looks}
@@ -37,3 +39,16 @@ returns-clause-steps g c = λ word sound.
 pub returns-in_err-read_at-clause-steps : goal.returns-in_err-read_at-clause-steps
 returns-in_err-read_at-clause-steps g c = λ word sound.
     break_unread c.args.at _ _ sound _ c.read_at.result _ _ c.in_err-read_at.was (c.read_at.ensures.state word) c.requires (passed c.from_residual.result Device c.from_residual.ensures.1)
+
+pub returns-in_err-read_at-clause-told : goal.returns-in_err-read_at-clause-told
+returns-in_err-read_at-clause-told g c = λ word. told_device c.from_residual.result (g.D.Disk.state c.args.disk.now) (g.D.Disk.state c.read_at.new.self) (passed c.from_residual.result Device c.from_residual.ensures.1)
+
+pub returns-then-not-is_magic-clause-told : goal.returns-then-not-is_magic-clause-told
+returns-then-not-is_magic-clause-told g c = λ word. told_done {T = Bool} (Ok false) c.read_at.result _ (g.D.Disk.state c.args.disk.now) (g.D.Disk.state c.read_at.new.self) c.in_ok-read_at.was (c.read_at.ensures.state word).refused
+
+pub returns-in_err-write_at-clause-told : goal.returns-in_err-write_at-clause-told
+returns-in_err-write_at-clause-told g c = λ word. told_device c.from_residual-in_err-write_at.result (g.D.Disk.state c.args.disk.now) (g.D.Disk.state c.write_at.new.self) (passed c.from_residual-in_err-write_at.result Device c.from_residual-in_err-write_at.ensures.1)
+
+pub returns-clause-told : goal.returns-clause-told
+returns-clause-told g c = λ word. told_then {T = Bool} (Ok true) {U = Unit {0}} (Ok tt) tt (g.D.Disk.state c.args.disk.now) (g.D.Disk.state c.read_at.new.self) (g.D.Disk.state c.write_at.new.self) refl (told_done {T = Unit {0}} (Ok tt) c.read_at.result _ (g.D.Disk.state c.args.disk.now) (g.D.Disk.state c.read_at.new.self) c.in_ok-read_at.was (c.read_at.ensures.state word).refused)
+    (told_done {T = Bool} (Ok true) c.write_at.result _ (g.D.Disk.state c.read_at.new.self) (g.D.Disk.state c.write_at.new.self) c.in_ok-write_at.was (c.write_at.ensures.state (c.read_at.ensures.word.0 word)).elsewhere.refused)

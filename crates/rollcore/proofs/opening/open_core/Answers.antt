@@ -4,7 +4,7 @@ use Rattle.crashdisk.proofs.Pages.{sector_some}
 use Rattle.sqval.proofs.Answering.{passed, match_err, if_err}
 use Rattle.rollcore.proofs.Recovered.{given_up, opened_to}
 use Rattle.rollcore.specs.Opening.{RefusedFor, OpenRefused}
-use Rattle.rollcore.proofs.Refusing.{from_err, tears_pages, no_tears}
+use Rattle.rollcore.proofs.Refusing.{from_err, files_refused, files_opened, tears_pages, no_tears}
 use Rattle.rollcore.proofs.Syncing.{opens_err}
 use Rattle.rollcore.proofs.opening.open_core.Goals as goal
 
@@ -36,10 +36,13 @@ returns-then-size-sector_that_tears-clause-refused g c = λ word.
 pub returns-in_err-pages-clause-refused : goal.returns-in_err-pages-clause-refused
 returns-in_err-pages-clause-refused g c = λ word.
     if_err c.from_residual-in_err-pages.result _ (λ e. OpenRefused c.args.page_size e (g.D.Disk.state c.args.disk.now) (g.D.Disk.state c.recover.new.disk)) (passed c.from_residual-in_err-pages.result _ c.from_residual-in_err-pages.ensures.1)
-    (inr (no_tears c.args.page_size (g.D.Disk.state c.args.disk.now) (omega (arith, c.if-size-sector_that_tears.false, c.get-size.ensures.value, c.sector_that_tears.ensures.value word)), λ db w are_db are. from_err c.recover.result _ (λ e. RefusedFor c.args.page_size db w e (g.D.Disk.state c.args.disk.now) (g.D.Disk.state c.recover.new.disk)) c.in_err-pages.was (c.recover.ensures.refused word (c.sector_that_tears.ensures.sound word) db w are_db are)))
+    (inr (no_tears c.args.page_size (g.D.Disk.state c.args.disk.now) (omega (arith, c.if-size-sector_that_tears.false, c.get-size.ensures.value, c.sector_that_tears.ensures.value word)), λ db w are_db are. from_err c.recover.result _ (λ e. RefusedFor c.args.page_size db w e (g.D.Disk.state c.args.disk.now) (g.D.Disk.state c.recover.new.disk)) c.in_err-pages.was (files_refused c.args.page_size db w c.recover.result (g.D.Disk.state c.args.disk.now) (g.D.Disk.state c.recover.new.disk) (c.recover.ensures.files word (c.sector_that_tears.ensures.sound word) db w are_db are))))
 
-pub returns-clause-whole : goal.returns-clause-whole
-returns-clause-whole g c = λ word. no_tears c.args.page_size (g.D.Disk.state c.args.disk.now) (omega (arith, c.if-size-sector_that_tears.false, c.get-size.ensures.value, c.sector_that_tears.ensures.value word))
+pub returns-clause-opens : goal.returns-clause-opens
+returns-clause-opens g c = λ word. record {
+  whole = no_tears c.args.page_size (g.D.Disk.state c.args.disk.now) (omega (arith, c.if-size-sector_that_tears.false, c.get-size.ensures.value, c.sector_that_tears.ensures.value word));
+  files = λ db w are_db are. files_opened c.args.page_size db w c.recover.result _ (g.D.Disk.state c.args.disk.now) (g.D.Disk.state c.recover.new.disk) c.in_ok-pages.was (c.recover.ensures.files word (c.sector_that_tears.ensures.sound word) db w are_db are);
+}
 
 pub returns-in_err-pages-clause-synced : goal.returns-in_err-pages-clause-synced
 returns-in_err-pages-clause-synced g c = λ word.

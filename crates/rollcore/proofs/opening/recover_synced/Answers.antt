@@ -5,19 +5,17 @@ use Rattle.crashdisk.proofs.Images.{table}
 use Rattle.crashdisk.proofs.Steps.{present_list}
 use Rattle.rollcore.specs.Plans.{IsFit}
 use Rattle.rollcore.specs.Steps.{torn_sector}
-use Rattle.sqval.proofs.Answering.{passed, if_err}
+use Rattle.sqval.proofs.Answering.{passed}
 use Rattle.crashdisk.proofs.Stills.{present_in, still_sound, still_then}
 use Rattle.crashdisk.proofs.Down.{down_present, down_by}
 use Rattle.rollcore.proofs.Recovering.{torn_still, read_plans, plan_cold}
 use Rattle.rollcore.proofs.Agreeing.{agrees_by, scanning_begins, scanning_shows, scanning_still}
 use Rattle.rollcore.proofs.Breaking.{cold_alone}
-use Rattle.rollcore.proofs.Recovered.{unplanned, misjudged, unreplayed, replayed, uncounted, unbroken, broken, few_some}
-use Rattle.rollcore.specs.Opening.{RefusedFor}
-use Rattle.rollcore.proofs.Refusing.{read_refuses, size_refuses, replay_refuses, count_refuses, break_refuses, hot_opens, count_opens}
-use Rattle.crashdisk.proofs.Later.{later_then, later_still, later_wider}
-use Rattle.crashdisk.specs.Keeps.{Later}
-use Rattle.rollcore.specs.Changes.{MayChange}
-use Rattle.rollcore.proofs.Asking.{replay_may}
+use Rattle.rollcore.proofs.Recovered.{unplanned, misjudged, unreplayed, replayed, uncounted, unbroken, broken, few_some, small_some}
+use Rattle.rollcore.proofs.Refusing.{read_refuses, size_refuses, replay_refuses, count_refuses, break_refuses, hot_opens, count_opens, files_err, hot_leaves, cold_leaves}
+use Rattle.rollcore.specs.Changes.{MayReplay, MayRecover, Asks}
+use Rattle.rollcore.proofs.Asking.{recover_may}
+use Rattle.rollcore.proofs.Told.{asks_still, asks_as, asks_err, asks_then, asks_wider}
 use Rattle.rollcore.proofs.opening.recover_synced.Goals as goal
 
 pub returns-in_err-plan-clause-recovered : goal.returns-in_err-plan-clause-recovered
@@ -25,7 +23,7 @@ returns-in_err-plan-clause-recovered g c = λ word w d suits held down one.
     let s = g.D.Disk.state c.args.disk.now in
     let a = g.D.Disk.state c.find_plan.new.disk in
     let is = c.find_plan.ensures.still word in
-    let sound = c.find_plan.ensures.sound word in
+    let sound = g.met.D.Disk.sound c.args.disk.now word in
     unplanned c.args.page_size d w s suits held down one a is _ c.find_plan.result c.from_residual.result c.in_err-plan.was (passed c.from_residual.result _ c.from_residual.ensures.1) (c.find_plan.ensures.plan word w (down_present w s down))
 
 pub returns-in_err-plan-clause-agrees : goal.returns-in_err-plan-clause-agrees
@@ -37,7 +35,7 @@ returns-in_err-judge_size-in-Some-clause-recovered g c = λ word w d suits held 
     let s = g.D.Disk.state c.args.disk.now in
     let a = g.D.Disk.state c.find_plan.new.disk in
     let is = c.find_plan.ensures.still word in
-    let sound = c.find_plan.ensures.sound word in
+    let sound = g.met.D.Disk.sound c.args.disk.now word in
     let plans = read_plans (torn_sector s) w c.find_plan.result c.in-Some.plan s a (c.in_ok-plan.was ∙ ap Ok c.in-Some.is) (c.find_plan.ensures.plan word w (down_present w s down)) in
     misjudged c.args.page_size d w s suits held down one a is _ c.judge_size.result c.from_residual-in_err-judge_size-in-Some.result plans.0.hot c.in_err-judge_size-in-Some.was (c.judge_size.ensures.judged w plans.1)
     (passed c.from_residual-in_err-judge_size-in-Some.result _ c.from_residual-in_err-judge_size-in-Some.ensures.1)
@@ -51,7 +49,7 @@ returns-in_err-replayed-in-Some-clause-recovered g c = λ word w d suits held do
     let s = g.D.Disk.state c.args.disk.now in
     let a = g.D.Disk.state c.find_plan.new.disk in
     let is = c.find_plan.ensures.still word in
-    let sound = c.find_plan.ensures.sound word in
+    let sound = g.met.D.Disk.sound c.args.disk.now word in
     let plans = read_plans (torn_sector s) w c.find_plan.result c.in-Some.plan s a (c.in_ok-plan.was ∙ ap Ok c.in-Some.is) (c.find_plan.ensures.plan word w (down_present w s down)) in
     let next = c.find_plan.ensures.word.0 word in
     let after = still_sound s a sound is in
@@ -69,7 +67,7 @@ returns-in_ok-replayed-in-Some-clause-recovered g c = λ word w d suits held dow
     let s = g.D.Disk.state c.args.disk.now in
     let a = g.D.Disk.state c.find_plan.new.disk in
     let is = c.find_plan.ensures.still word in
-    let sound = c.find_plan.ensures.sound word in
+    let sound = g.met.D.Disk.sound c.args.disk.now word in
     let plans = read_plans (torn_sector s) w c.find_plan.result c.in-Some.plan s a (c.in_ok-plan.was ∙ ap Ok c.in-Some.is) (c.find_plan.ensures.plan word w (down_present w s down)) in
     let next = c.find_plan.ensures.word.0 word in
     let after = still_sound s a sound is in
@@ -86,7 +84,7 @@ returns-in_err-replayed-in-Some-clause-agrees g c = λ word.
     let s = g.D.Disk.state c.args.disk.now in
     let a = g.D.Disk.state c.find_plan.new.disk in
     let is = c.find_plan.ensures.still word in
-    let sound = c.find_plan.ensures.sound word in
+    let sound = g.met.D.Disk.sound c.args.disk.now word in
     let next = c.find_plan.ensures.word.0 word in
     let after = still_sound s a sound is in
     agrees_by s (g.D.Disk.state c.replay_plan.new.disk) (λ size w d scanning.
@@ -99,7 +97,7 @@ returns-in_ok-replayed-in-Some-clause-agrees g c = λ word.
     let s = g.D.Disk.state c.args.disk.now in
     let a = g.D.Disk.state c.find_plan.new.disk in
     let is = c.find_plan.ensures.still word in
-    let sound = c.find_plan.ensures.sound word in
+    let sound = g.met.D.Disk.sound c.args.disk.now word in
     let next = c.find_plan.ensures.word.0 word in
     let after = still_sound s a sound is in
     agrees_by s (g.D.Disk.state c.replay_plan.new.disk) (λ size w d scanning.
@@ -108,14 +106,14 @@ returns-in_ok-replayed-in-Some-clause-agrees g c = λ word.
     (subst (λ (n : ℕ). IsFit n w) (sym (torn_still s a is)) plans.0) plans.1)
 
 pub returns-in_ok-replayed-in-Some-clause-few : goal.returns-in_ok-replayed-in-Some-clause-few
-returns-in_ok-replayed-in-Some-clause-few g c = few_some c.in_ok-plan.field-0 c.in-Some.plan c.in_ok-replayed-in-Some.replayed.size c.args.page_size c.in-Some.is c.in_ok-plan.ensures.few c.in_ok-judge_size-in-Some.ensures.same c.in_ok-replayed-in-Some.ensures.size
+returns-in_ok-replayed-in-Some-clause-few g c = few_some c.in_ok-plan.field-0 c.in-Some.plan c.in_ok-replayed-in-Some.replayed.size c.args.page_size c.in-Some.is c.in_ok-plan.ensures.small c.in_ok-judge_size-in-Some.ensures.same c.in_ok-replayed-in-Some.ensures.size
 
 pub returns-in_err-pages-in-None-clause-recovered : goal.returns-in_err-pages-in-None-clause-recovered
 returns-in_err-pages-in-None-clause-recovered g c = λ word w d suits held down one.
     let s = g.D.Disk.state c.args.disk.now in
     let a = g.D.Disk.state c.find_plan.new.disk in
     let is = c.find_plan.ensures.still word in
-    let sound = c.find_plan.ensures.sound word in
+    let sound = g.met.D.Disk.sound c.args.disk.now word in
     let cold = plan_cold (torn_sector s) w c.find_plan.result s a (c.in_ok-plan.was ∙ ap Ok c.in-None.is) (c.find_plan.ensures.plan word w (down_present w s down)) in
     let next = c.find_plan.ensures.word.0 word in
     let after = still_sound s a sound is in
@@ -129,7 +127,7 @@ returns-in_err-pages-in-None-clause-agrees g c = λ word.
     let s = g.D.Disk.state c.args.disk.now in
     let a = g.D.Disk.state c.find_plan.new.disk in
     let is = c.find_plan.ensures.still word in
-    let sound = c.find_plan.ensures.sound word in
+    let sound = g.met.D.Disk.sound c.args.disk.now word in
     let next = c.find_plan.ensures.word.0 word in
     let after = still_sound s a sound is in
     let b = g.D.Disk.state c.count_pages.new.disk in
@@ -141,7 +139,7 @@ returns-in_err-break_front-in-None-clause-recovered g c = λ word w d suits held
     let s = g.D.Disk.state c.args.disk.now in
     let a = g.D.Disk.state c.find_plan.new.disk in
     let is = c.find_plan.ensures.still word in
-    let sound = c.find_plan.ensures.sound word in
+    let sound = g.met.D.Disk.sound c.args.disk.now word in
     let cold = plan_cold (torn_sector s) w c.find_plan.result s a (c.in_ok-plan.was ∙ ap Ok c.in-None.is) (c.find_plan.ensures.plan word w (down_present w s down)) in
     let next = c.find_plan.ensures.word.0 word in
     let after = still_sound s a sound is in
@@ -149,7 +147,7 @@ returns-in_err-break_front-in-None-clause-recovered g c = λ word w d suits held
     let then = c.count_pages.ensures.still next after in
     let last = c.count_pages.ensures.word.0 next in
     let sound_b = still_sound a b after then in
-    let goes = c.break_front.ensures.goes last sound_b 0 0 in
+    let goes = (c.break_front.ensures.asks last 0).later in
     let same = c.break_front.ensures.file last sound_b in
     let sectors = subst IsSectorSize (sym is.sector ∙ sym then.sector) (c.find_plan.ensures.sectors word) in
     let all = still_then s a b is then in
@@ -162,7 +160,7 @@ returns-in_ok-break_front-in-None-clause-recovered g c = λ word w d suits held 
     let s = g.D.Disk.state c.args.disk.now in
     let a = g.D.Disk.state c.find_plan.new.disk in
     let is = c.find_plan.ensures.still word in
-    let sound = c.find_plan.ensures.sound word in
+    let sound = g.met.D.Disk.sound c.args.disk.now word in
     let cold = plan_cold (torn_sector s) w c.find_plan.result s a (c.in_ok-plan.was ∙ ap Ok c.in-None.is) (c.find_plan.ensures.plan word w (down_present w s down)) in
     let next = c.find_plan.ensures.word.0 word in
     let after = still_sound s a sound is in
@@ -170,7 +168,7 @@ returns-in_ok-break_front-in-None-clause-recovered g c = λ word w d suits held 
     let then = c.count_pages.ensures.still next after in
     let last = c.count_pages.ensures.word.0 next in
     let sound_b = still_sound a b after then in
-    let goes = c.break_front.ensures.goes last sound_b 0 0 in
+    let goes = (c.break_front.ensures.asks last 0).later in
     let same = c.break_front.ensures.file last sound_b in
     let sectors = subst IsSectorSize (sym is.sector ∙ sym then.sector) (c.find_plan.ensures.sectors word) in
     let all = still_then s a b is then in
@@ -183,14 +181,14 @@ returns-in_err-break_front-in-None-clause-agrees g c = λ word.
     let s = g.D.Disk.state c.args.disk.now in
     let a = g.D.Disk.state c.find_plan.new.disk in
     let is = c.find_plan.ensures.still word in
-    let sound = c.find_plan.ensures.sound word in
+    let sound = g.met.D.Disk.sound c.args.disk.now word in
     let next = c.find_plan.ensures.word.0 word in
     let after = still_sound s a sound is in
     let b = g.D.Disk.state c.count_pages.new.disk in
     let then = c.count_pages.ensures.still next after in
     let last = c.count_pages.ensures.word.0 next in
     let sound_b = still_sound a b after then in
-    let goes = c.break_front.ensures.goes last sound_b 0 0 in
+    let goes = (c.break_front.ensures.asks last 0).later in
     let same = c.break_front.ensures.file last sound_b in
     let sectors = subst IsSectorSize (sym is.sector ∙ sym then.sector) (c.find_plan.ensures.sectors word) in
     let all = still_then s a b is then in
@@ -205,14 +203,14 @@ returns-in_ok-break_front-in-None-clause-agrees g c = λ word.
     let s = g.D.Disk.state c.args.disk.now in
     let a = g.D.Disk.state c.find_plan.new.disk in
     let is = c.find_plan.ensures.still word in
-    let sound = c.find_plan.ensures.sound word in
+    let sound = g.met.D.Disk.sound c.args.disk.now word in
     let next = c.find_plan.ensures.word.0 word in
     let after = still_sound s a sound is in
     let b = g.D.Disk.state c.count_pages.new.disk in
     let then = c.count_pages.ensures.still next after in
     let last = c.count_pages.ensures.word.0 next in
     let sound_b = still_sound a b after then in
-    let goes = c.break_front.ensures.goes last sound_b 0 0 in
+    let goes = (c.break_front.ensures.asks last 0).later in
     let same = c.break_front.ensures.file last sound_b in
     let sectors = subst IsSectorSize (sym is.sector ∙ sym then.sector) (c.find_plan.ensures.sectors word) in
     let all = still_then s a b is then in
@@ -222,115 +220,148 @@ returns-in_ok-break_front-in-None-clause-agrees g c = λ word.
     let front = c.break_front.ensures.front last sound_b sectors w here.down cold in
     cold_alone size d w b (g.D.Disk.state c.break_front.new.disk) here.down cold goes.sound goes.sector goes.tears same front.cold here.images)
 
-pub returns-in_err-plan-clause-refused : goal.returns-in_err-plan-clause-refused
-returns-in_err-plan-clause-refused g c = λ word db w are_db are.
+pub returns-in_err-plan-clause-files : goal.returns-in_err-plan-clause-files
+returns-in_err-plan-clause-files g c = λ word db w are_db down.
     let s = g.D.Disk.state c.args.disk.now in
     let a = g.D.Disk.state c.find_plan.new.disk in
     let is = c.find_plan.ensures.still word in
-    let sound = c.find_plan.ensures.sound word in
-    if_err c.from_residual.result _ (λ e. RefusedFor c.args.page_size db w e s (a)) (passed c.from_residual.result _ c.from_residual.ensures.1)
+    let sound = g.met.D.Disk.sound c.args.disk.now word in
+    let are = down_present w s down in
+    files_err c.args.page_size db w c.from_residual.result _ s (a) (passed c.from_residual.result _ c.from_residual.ensures.1)
     (read_refuses c.args.page_size db w s sound are_db are a is c.find_plan.result _ c.in_err-plan.was (c.find_plan.ensures.plan word w are))
 
-pub returns-in_err-judge_size-in-Some-clause-refused : goal.returns-in_err-judge_size-in-Some-clause-refused
-returns-in_err-judge_size-in-Some-clause-refused g c = λ word db w are_db are.
+pub returns-in_err-judge_size-in-Some-clause-files : goal.returns-in_err-judge_size-in-Some-clause-files
+returns-in_err-judge_size-in-Some-clause-files g c = λ word db w are_db down.
     let s = g.D.Disk.state c.args.disk.now in
     let a = g.D.Disk.state c.find_plan.new.disk in
     let is = c.find_plan.ensures.still word in
-    let sound = c.find_plan.ensures.sound word in
+    let sound = g.met.D.Disk.sound c.args.disk.now word in
+    let are = down_present w s down in
     let plans = read_plans (torn_sector s) w c.find_plan.result c.in-Some.plan s a (c.in_ok-plan.was ∙ ap Ok c.in-Some.is) (c.find_plan.ensures.plan word w are) in
-    if_err c.from_residual-in_err-judge_size-in-Some.result _ (λ e. RefusedFor c.args.page_size db w e s (a)) (passed c.from_residual-in_err-judge_size-in-Some.result _ c.from_residual-in_err-judge_size-in-Some.ensures.1)
+    files_err c.args.page_size db w c.from_residual-in_err-judge_size-in-Some.result _ s (a) (passed c.from_residual-in_err-judge_size-in-Some.result _ c.from_residual-in_err-judge_size-in-Some.ensures.1)
     (size_refuses c.args.page_size db w s sound are_db are a is plans.0 c.judge_size.result _ c.in_err-judge_size-in-Some.was (c.judge_size.ensures.judged w plans.1))
 
-pub returns-in_err-replayed-in-Some-clause-refused : goal.returns-in_err-replayed-in-Some-clause-refused
-returns-in_err-replayed-in-Some-clause-refused g c = λ word db w are_db are.
+pub returns-in_err-replayed-in-Some-clause-files : goal.returns-in_err-replayed-in-Some-clause-files
+returns-in_err-replayed-in-Some-clause-files g c = λ word db w are_db down.
     let s = g.D.Disk.state c.args.disk.now in
     let a = g.D.Disk.state c.find_plan.new.disk in
     let is = c.find_plan.ensures.still word in
-    let sound = c.find_plan.ensures.sound word in
+    let sound = g.met.D.Disk.sound c.args.disk.now word in
+    let are = down_present w s down in
     let plans = read_plans (torn_sector s) w c.find_plan.result c.in-Some.plan s a (c.in_ok-plan.was ∙ ap Ok c.in-Some.is) (c.find_plan.ensures.plan word w are) in
     let next = c.find_plan.ensures.word.0 word in
     let after = still_sound s a sound is in
-    if_err c.from_residual-in_err-replayed-in-Some.result _ (λ e. RefusedFor c.args.page_size db w e s (g.D.Disk.state c.replay_plan.new.disk)) (passed c.from_residual-in_err-replayed-in-Some.result _ c.from_residual-in_err-replayed-in-Some.ensures.1)
+    files_err c.args.page_size db w c.from_residual-in_err-replayed-in-Some.result _ s (g.D.Disk.state c.replay_plan.new.disk) (passed c.from_residual-in_err-replayed-in-Some.result _ c.from_residual-in_err-replayed-in-Some.ensures.1)
     (replay_refuses c.args.page_size db w s sound are_db are a is (g.D.Disk.state c.replay_plan.new.disk) c.replay_plan.result _ c.in_err-replayed-in-Some.was (c.replay_plan.ensures.replays next after db w (torn_sector s) (present_in s.db a.db db is.db are_db) (present_in s.log a.log w is.log are) plans.0 plans.1))
 
-pub returns-in_err-pages-in-None-clause-refused : goal.returns-in_err-pages-in-None-clause-refused
-returns-in_err-pages-in-None-clause-refused g c = λ word db w are_db are.
+pub returns-in_err-pages-in-None-clause-files : goal.returns-in_err-pages-in-None-clause-files
+returns-in_err-pages-in-None-clause-files g c = λ word db w are_db down.
     let s = g.D.Disk.state c.args.disk.now in
     let a = g.D.Disk.state c.find_plan.new.disk in
     let is = c.find_plan.ensures.still word in
-    let sound = c.find_plan.ensures.sound word in
+    let sound = g.met.D.Disk.sound c.args.disk.now word in
+    let are = down_present w s down in
     let cold = plan_cold (torn_sector s) w c.find_plan.result s a (c.in_ok-plan.was ∙ ap Ok c.in-None.is) (c.find_plan.ensures.plan word w are) in
     let next = c.find_plan.ensures.word.0 word in
     let after = still_sound s a sound is in
     let b = g.D.Disk.state c.count_pages.new.disk in
     let then = c.count_pages.ensures.still next after in
-    if_err c.from_residual-in_err-pages-in-None.result _ (λ e. RefusedFor c.args.page_size db w e s (b)) (passed c.from_residual-in_err-pages-in-None.result _ c.from_residual-in_err-pages-in-None.ensures.1)
+    files_err c.args.page_size db w c.from_residual-in_err-pages-in-None.result _ s (b) (passed c.from_residual-in_err-pages-in-None.result _ c.from_residual-in_err-pages-in-None.ensures.1)
     (count_refuses c.args.page_size db w s sound are_db are a is cold b (still_then s a b is then) c.count_pages.result _ c.in_err-pages-in-None.was (c.count_pages.ensures.count next after))
 
-pub returns-in_err-break_front-in-None-clause-refused : goal.returns-in_err-break_front-in-None-clause-refused
-returns-in_err-break_front-in-None-clause-refused g c = λ word db w are_db are.
+pub returns-in_err-break_front-in-None-clause-files : goal.returns-in_err-break_front-in-None-clause-files
+returns-in_err-break_front-in-None-clause-files g c = λ word db w are_db down.
     let s = g.D.Disk.state c.args.disk.now in
     let a = g.D.Disk.state c.find_plan.new.disk in
     let is = c.find_plan.ensures.still word in
-    let sound = c.find_plan.ensures.sound word in
+    let sound = g.met.D.Disk.sound c.args.disk.now word in
+    let are = down_present w s down in
     let next = c.find_plan.ensures.word.0 word in
     let after = still_sound s a sound is in
     let b = g.D.Disk.state c.count_pages.new.disk in
     let then = c.count_pages.ensures.still next after in
-    if_err c.from_residual-in_err-break_front-in-None.result _ (λ e. RefusedFor c.args.page_size db w e s (g.D.Disk.state c.break_front.new.disk)) (passed c.from_residual-in_err-break_front-in-None.result _ c.from_residual-in_err-break_front-in-None.ensures.1)
+    files_err c.args.page_size db w c.from_residual-in_err-break_front-in-None.result _ s (g.D.Disk.state c.break_front.new.disk) (passed c.from_residual-in_err-break_front-in-None.result _ c.from_residual-in_err-break_front-in-None.ensures.1)
     (break_refuses c.args.page_size db w s sound are_db are a is b (g.D.Disk.state c.break_front.new.disk) (still_then s a b is then) c.break_front.result _ c.in_err-break_front-in-None.was (c.break_front.ensures.refused (c.count_pages.ensures.word.0 next) (still_sound a b after then)))
 
-pub returns-in_ok-replayed-in-Some-clause-opens : goal.returns-in_ok-replayed-in-Some-clause-opens
-returns-in_ok-replayed-in-Some-clause-opens g c = λ word db w are_db are.
-    let s = g.D.Disk.state c.args.disk.now in
-    let a = g.D.Disk.state c.find_plan.new.disk in
-    let plans = read_plans (torn_sector s) w c.find_plan.result c.in-Some.plan s a (c.in_ok-plan.was ∙ ap Ok c.in-Some.is) (c.find_plan.ensures.plan word w are) in
-    let size = c.in_ok-judge_size-in-Some.ensures.judged w plans.1 in
-    hot_opens c.args.page_size db w s (c.find_plan.ensures.sound word) are_db are plans.0 size.0 size.1
-
-pub returns-in_ok-break_front-in-None-clause-opens : goal.returns-in_ok-break_front-in-None-clause-opens
-returns-in_ok-break_front-in-None-clause-opens g c = λ word db w are_db are.
+pub returns-in_ok-replayed-in-Some-clause-files : goal.returns-in_ok-replayed-in-Some-clause-files
+returns-in_ok-replayed-in-Some-clause-files g c = λ word db w are_db down.
     let s = g.D.Disk.state c.args.disk.now in
     let a = g.D.Disk.state c.find_plan.new.disk in
     let is = c.find_plan.ensures.still word in
-    let sound = c.find_plan.ensures.sound word in
+    let sound = g.met.D.Disk.sound c.args.disk.now word in
+    let are = down_present w s down in
+    let plans = read_plans (torn_sector s) w c.find_plan.result c.in-Some.plan s a (c.in_ok-plan.was ∙ ap Ok c.in-Some.is) (c.find_plan.ensures.plan word w are) in
+    let size = c.in_ok-judge_size-in-Some.ensures.judged w plans.1 in
+    let rolled = c.replay_plan.ensures.replays (c.find_plan.ensures.word.0 word) (still_sound s a sound is) db w (torn_sector s) (present_in s.db a.db db is.db are_db) (present_in s.log a.log w is.log are) plans.0 plans.1 in (
+      hot_opens c.args.page_size db w s sound are_db are plans.0 size.0 size.1,
+      hot_leaves db w c.replay_plan.result c.in_ok-replayed-in-Some.replayed s a (g.D.Disk.state c.replay_plan.new.disk) plans.0.hot c.in_ok-replayed-in-Some.was rolled,
+    )
+
+pub returns-in_ok-break_front-in-None-clause-files : goal.returns-in_ok-break_front-in-None-clause-files
+returns-in_ok-break_front-in-None-clause-files g c = λ word db w are_db down.
+    let s = g.D.Disk.state c.args.disk.now in
+    let a = g.D.Disk.state c.find_plan.new.disk in
+    let is = c.find_plan.ensures.still word in
+    let sound = g.met.D.Disk.sound c.args.disk.now word in
+    let are = down_present w s down in
     let cold = plan_cold (torn_sector s) w c.find_plan.result s a (c.in_ok-plan.was ∙ ap Ok c.in-None.is) (c.find_plan.ensures.plan word w are) in
     let next = c.find_plan.ensures.word.0 word in
     let after = still_sound s a sound is in
     let b = g.D.Disk.state c.count_pages.new.disk in
-    count_opens c.args.page_size db w s sound are_db are a is cold b (still_then s a b is (c.count_pages.ensures.still next after)) c.count_pages.result _ c.in_ok-pages-in-None.was (c.count_pages.ensures.count next after)
+    let then = c.count_pages.ensures.still next after in
+    let last = c.count_pages.ensures.word.0 next in
+    let sound_b = still_sound a b after then in
+    let sectors = subst IsSectorSize (sym is.sector ∙ sym then.sector) (c.find_plan.ensures.sectors word) in
+    let all = still_then s a b is then in
+    let front = c.break_front.ensures.front last sound_b sectors w (down_by w s b down all.log all.tears all.kept all.handed) cold in (
+      count_opens c.args.page_size db w s sound are_db are a is cold b all c.count_pages.result _ c.in_ok-pages-in-None.was (c.count_pages.ensures.count next after),
+      cold_leaves db w c.break_front.result _ s b (g.D.Disk.state c.break_front.new.disk) cold c.in_ok-break_front-in-None.was (c.break_front.ensures.file last sound_b ∙ all.db) front,
+    )
 
-pub returns-in_err-replayed-in-Some-clause-goes : goal.returns-in_err-replayed-in-Some-clause-goes
-returns-in_err-replayed-in-Some-clause-goes g c = λ word size sector.
-    let mid : Later (MayChange size sector) _ _ = later_still _ _ (c.find_plan.ensures.sound word) (c.find_plan.ensures.still word) in
-    later_then _ _ _ mid (later_wider _ _ (replay_may size sector) (c.replay_plan.ensures.goes (c.find_plan.ensures.word.0 word) mid.sound))
+pub returns-in_err-replayed-in-Some-clause-asks : goal.returns-in_err-replayed-in-Some-clause-asks
+returns-in_err-replayed-in-Some-clause-asks g c = λ word.
+    asks_then _ c.find_plan.result _ _ _ _ c.in_ok-plan.was (asks_still c.find_plan.result _ _ (g.met.D.Disk.sound c.args.disk.now word) (c.find_plan.ensures.still word) (c.find_plan.ensures.told word))
+    (asks_err c.from_residual-in_err-replayed-in-Some.result c.replay_plan.result _ _ _ c.in_err-replayed-in-Some.was (passed c.from_residual-in_err-replayed-in-Some.result _ c.from_residual-in_err-replayed-in-Some.ensures.1)
+    (asks_wider c.replay_plan.result _ _ (recover_may c.args.page_size) (subst (λ (n : ℕ). Asks (MayReplay n) c.replay_plan.result (g.D.Disk.state c.find_plan.new.disk) (g.D.Disk.state c.replay_plan.new.disk)) c.in_ok-judge_size-in-Some.ensures.same (c.replay_plan.ensures.asks (c.find_plan.ensures.word.0 word)))))
 
-pub returns-in_ok-replayed-in-Some-clause-goes : goal.returns-in_ok-replayed-in-Some-clause-goes
-returns-in_ok-replayed-in-Some-clause-goes g c = λ word size sector.
-    let mid : Later (MayChange size sector) _ _ = later_still _ _ (c.find_plan.ensures.sound word) (c.find_plan.ensures.still word) in
-    later_then _ _ _ mid (later_wider _ _ (replay_may size sector) (c.replay_plan.ensures.goes (c.find_plan.ensures.word.0 word) mid.sound))
+pub returns-in_ok-replayed-in-Some-clause-asks : goal.returns-in_ok-replayed-in-Some-clause-asks
+returns-in_ok-replayed-in-Some-clause-asks g c = λ word.
+    asks_then _ c.find_plan.result _ _ _ _ c.in_ok-plan.was (asks_still c.find_plan.result _ _ (g.met.D.Disk.sound c.args.disk.now word) (c.find_plan.ensures.still word) (c.find_plan.ensures.told word))
+    (asks_as _ c.replay_plan.result _ _ _ c.in_ok-replayed-in-Some.was
+    (asks_wider c.replay_plan.result _ _ (recover_may c.args.page_size) (subst (λ (n : ℕ). Asks (MayReplay n) c.replay_plan.result (g.D.Disk.state c.find_plan.new.disk) (g.D.Disk.state c.replay_plan.new.disk)) c.in_ok-judge_size-in-Some.ensures.same (c.replay_plan.ensures.asks (c.find_plan.ensures.word.0 word)))))
 
-pub returns-in_err-pages-in-None-clause-goes : goal.returns-in_err-pages-in-None-clause-goes
-returns-in_err-pages-in-None-clause-goes g c = λ word size sector.
-    let mid : Later (MayChange size sector) _ _ = later_still _ _ (c.find_plan.ensures.sound word) (c.find_plan.ensures.still word) in
-    later_then _ _ _ mid (later_still _ _ mid.sound (c.count_pages.ensures.still (c.find_plan.ensures.word.0 word) mid.sound))
-
-pub returns-in_err-break_front-in-None-clause-goes : goal.returns-in_err-break_front-in-None-clause-goes
-returns-in_err-break_front-in-None-clause-goes g c = λ word size sector.
-    let first : Later (MayChange size sector) _ _ = later_still _ _ (c.find_plan.ensures.sound word) (c.find_plan.ensures.still word) in
+pub returns-in_err-pages-in-None-clause-asks : goal.returns-in_err-pages-in-None-clause-asks
+returns-in_err-pages-in-None-clause-asks g c = λ word.
+    let first : Asks (MayRecover c.args.page_size) c.find_plan.result (g.D.Disk.state c.args.disk.now) (g.D.Disk.state c.find_plan.new.disk) = asks_still c.find_plan.result _ _ (g.met.D.Disk.sound c.args.disk.now word) (c.find_plan.ensures.still word) (c.find_plan.ensures.told word) in
     let next = c.find_plan.ensures.word.0 word in
-    let mid : Later (MayChange size sector) _ _ = later_then _ _ _ first (later_still _ _ first.sound (c.count_pages.ensures.still next first.sound)) in
-    later_then _ _ _ mid (c.break_front.ensures.goes (c.count_pages.ensures.word.0 next) mid.sound size sector)
+    let counted : Asks (MayRecover c.args.page_size) c.count_pages.result (g.D.Disk.state c.find_plan.new.disk) (g.D.Disk.state c.count_pages.new.disk) =
+    asks_still c.count_pages.result _ _ first.later.sound (c.count_pages.ensures.still next first.later.sound) (c.count_pages.ensures.told next) in
+    asks_then _ c.find_plan.result _ _ _ _ c.in_ok-plan.was first (asks_err c.from_residual-in_err-pages-in-None.result c.count_pages.result _ _ _ c.in_err-pages-in-None.was (passed c.from_residual-in_err-pages-in-None.result _ c.from_residual-in_err-pages-in-None.ensures.1) counted)
 
-pub returns-in_ok-break_front-in-None-clause-goes : goal.returns-in_ok-break_front-in-None-clause-goes
-returns-in_ok-break_front-in-None-clause-goes g c = λ word size sector.
-    let first : Later (MayChange size sector) _ _ = later_still _ _ (c.find_plan.ensures.sound word) (c.find_plan.ensures.still word) in
+pub returns-in_err-break_front-in-None-clause-asks : goal.returns-in_err-break_front-in-None-clause-asks
+returns-in_err-break_front-in-None-clause-asks g c = λ word.
+    let first : Asks (MayRecover c.args.page_size) c.find_plan.result (g.D.Disk.state c.args.disk.now) (g.D.Disk.state c.find_plan.new.disk) = asks_still c.find_plan.result _ _ (g.met.D.Disk.sound c.args.disk.now word) (c.find_plan.ensures.still word) (c.find_plan.ensures.told word) in
     let next = c.find_plan.ensures.word.0 word in
-    let mid : Later (MayChange size sector) _ _ = later_then _ _ _ first (later_still _ _ first.sound (c.count_pages.ensures.still next first.sound)) in
-    later_then _ _ _ mid (c.break_front.ensures.goes (c.count_pages.ensures.word.0 next) mid.sound size sector)
+    let counted : Asks (MayRecover c.args.page_size) c.count_pages.result (g.D.Disk.state c.find_plan.new.disk) (g.D.Disk.state c.count_pages.new.disk) =
+    asks_still c.count_pages.result _ _ first.later.sound (c.count_pages.ensures.still next first.later.sound) (c.count_pages.ensures.told next) in
+    asks_then _ c.find_plan.result _ _ _ _ c.in_ok-plan.was first (asks_then _ c.count_pages.result _ _ _ _ c.in_ok-pages-in-None.was counted
+    (asks_err c.from_residual-in_err-break_front-in-None.result c.break_front.result _ _ _ c.in_err-break_front-in-None.was (passed c.from_residual-in_err-break_front-in-None.result _ c.from_residual-in_err-break_front-in-None.ensures.1) (c.break_front.ensures.asks (c.count_pages.ensures.word.0 next) c.args.page_size)))
 
-pub returns-in_err-plan-clause-goes : goal.returns-in_err-plan-clause-goes
-returns-in_err-plan-clause-goes g c = λ word size sector. later_still _ _ (c.find_plan.ensures.sound word) (c.find_plan.ensures.still word)
+pub returns-in_ok-break_front-in-None-clause-asks : goal.returns-in_ok-break_front-in-None-clause-asks
+returns-in_ok-break_front-in-None-clause-asks g c = λ word.
+    let first : Asks (MayRecover c.args.page_size) c.find_plan.result (g.D.Disk.state c.args.disk.now) (g.D.Disk.state c.find_plan.new.disk) = asks_still c.find_plan.result _ _ (g.met.D.Disk.sound c.args.disk.now word) (c.find_plan.ensures.still word) (c.find_plan.ensures.told word) in
+    let next = c.find_plan.ensures.word.0 word in
+    let counted : Asks (MayRecover c.args.page_size) c.count_pages.result (g.D.Disk.state c.find_plan.new.disk) (g.D.Disk.state c.count_pages.new.disk) =
+    asks_still c.count_pages.result _ _ first.later.sound (c.count_pages.ensures.still next first.later.sound) (c.count_pages.ensures.told next) in
+    asks_then _ c.find_plan.result _ _ _ _ c.in_ok-plan.was first (asks_then _ c.count_pages.result _ _ _ _ c.in_ok-pages-in-None.was counted (asks_as _ c.break_front.result _ _ _ c.in_ok-break_front-in-None.was (c.break_front.ensures.asks (c.count_pages.ensures.word.0 next) c.args.page_size)))
 
-pub returns-in_err-judge_size-in-Some-clause-goes : goal.returns-in_err-judge_size-in-Some-clause-goes
-returns-in_err-judge_size-in-Some-clause-goes g c = λ word size sector. later_still _ _ (c.find_plan.ensures.sound word) (c.find_plan.ensures.still word)
+pub returns-in_err-plan-clause-asks : goal.returns-in_err-plan-clause-asks
+returns-in_err-plan-clause-asks g c = λ word.
+    asks_err c.from_residual.result c.find_plan.result _ _ _ c.in_err-plan.was (passed c.from_residual.result _ c.from_residual.ensures.1) (asks_still c.find_plan.result _ _ (g.met.D.Disk.sound c.args.disk.now word) (c.find_plan.ensures.still word) (c.find_plan.ensures.told word))
+
+pub returns-in_err-judge_size-in-Some-clause-asks : goal.returns-in_err-judge_size-in-Some-clause-asks
+returns-in_err-judge_size-in-Some-clause-asks g c = λ word.
+    asks_as _ c.find_plan.result _ _ _ c.in_ok-plan.was (asks_still c.find_plan.result _ _ (g.met.D.Disk.sound c.args.disk.now word) (c.find_plan.ensures.still word) (c.find_plan.ensures.told word))
+
+pub replay_plan-requires : goal.replay_plan-requires
+replay_plan-requires g c = small_some c.in_ok-plan.field-0 c.in-Some.plan c.in-Some.is c.in_ok-plan.ensures.small

@@ -2,6 +2,8 @@ use Rattle.std.proofs.Common.{◌+◌, inr, sym, ap}
 use Rattle.rollcore.specs.declared.error.RollError.TheVariants.{Device}
 use Rattle.sqval.proofs.Answering.{passed}
 use Rattle.crashdisk.proofs.Later.{place_read, place_refused}
+use Rattle.std.specs.Prelude.{Ok}
+use Rattle.rollcore.proofs.Told.{told_device, told_done}
 use Rattle.rollcore.proofs.paging.read_place.Goals as goal
 
 pub returns-in_err-read_at-clause-place : goal.returns-in_err-read_at-clause-place
@@ -17,3 +19,9 @@ returns-in_err-read_at-clause-looks g c = λ word. inr (_, c.read_at.result, c.r
 
 pub returns-clause-looks : goal.returns-clause-looks
 returns-clause-looks g c = λ word. inr (_, c.read_at.result, c.read_at.ensures.state word)
+
+pub returns-in_err-read_at-clause-told : goal.returns-in_err-read_at-clause-told
+returns-in_err-read_at-clause-told g c = λ word. told_device c.from_residual.result (g.D.Disk.state c.args.disk.now) (g.D.Disk.state c.read_at.new.self) (passed c.from_residual.result Device c.from_residual.ensures.1)
+
+pub returns-clause-told : goal.returns-clause-told
+returns-clause-told g c = λ word. told_done {T = Unit {0}} (Ok tt) c.read_at.result _ (g.D.Disk.state c.args.disk.now) (g.D.Disk.state c.read_at.new.self) c.in_ok-read_at.was (c.read_at.ensures.state word).refused

@@ -3,12 +3,12 @@ use Rattle.std.proofs.lemmas.List.{length-map}
 use Rattle.sqval.specs.Database.{Database, apply}
 use Rattle.sqval.specs.JudgedPages.{lent}
 use Rattle.sqjournal.proofs.Journals.{size_bounds}
-use Rattle.crashdisk.specs.Keeps.{Later}
-use Rattle.rollcore.specs.Changes.{MayChange}
+use Rattle.rollcore.specs.Changes.{MayCommit, Asks}
+use Rattle.rollcore.specs.Commits.{ArePlaced, AreWithin}
 use Rattle.rollcore.specs.Machine.{segments_of}
 use Rattle.rollcore.specs.Segments.{pages_of}
 use Rattle.rollcore.specs.declared.changes.Change.{Change}
-use Rattle.rollcore.proofs.Parting.{part_within, part_short, before_part, part_back, part_after, part_some, part_cases, part_fresh, part_turned, part_somes}
+use Rattle.rollcore.proofs.Parting.{ready_placed, part_limit, part_within, part_short, before_part, part_back, part_after, part_some, part_cases, part_fresh, part_turned, part_somes}
 use Rattle.rollcore.proofs.parts.put_part.Goals as goal
 
 pub put_segment-requires-clause-short : goal.put_segment-requires-clause-short
@@ -51,8 +51,13 @@ returns-clause-segment g c = λ word n count d nonces ready many wide lt at part
     (part_turned size c.args.sector d pages n nonces c.args.k c.args.place v s before m)
     (part_somes size c.args.sector d pages n nonces c.args.k c.args.place v s before m) before.parted.put))
 
-pub returns-clause-goes : goal.returns-clause-goes
-returns-clause-goes g c = λ word sound wide.
-    let one : length c.deref_mut.result.now - 8 ≡ c.args.core.now.page_size = omega (arith, ap (λ (l : List ℕ). length l) c.deref_mut.ensures.value, c.args.core.now.record_room) in
-    subst (λ (k : ℕ). Later (MayChange k c.args.sector) (g.D.Disk.state c.args.disk.now) (g.D.Disk.state c.put_segment.new.disk)) one
-    (c.put_segment.ensures.goes word sound (ap (λ (l : List ℕ). length l) c.deref_mut-2.ensures.value ∙ wide))
+pub returns-clause-asks : goal.returns-clause-asks
+returns-clause-asks g c = λ word wide.
+    let core = c.args.core.now in
+    let one : length c.deref_mut.result.now - 8 ≡ core.page_size = omega (arith, ap (λ (l : List ℕ). length l) c.deref_mut.ensures.value, core.record_room) in
+    let placed = ready_placed c.args.pages.now c.requires.ready.0 c.requires.ready.1 core c.requires.ready.2 in
+    let within = part_limit c.args.pages.now c.requires.ready.0 c.requires.ready.1 core c.deref.result.now c.requires.ready.2 c.deref.ensures.value core.few (c.args.k * 64) (c.min-to.result - c.args.k * 64) in
+    subst (λ (k : ℕ). Asks (MayCommit k c.args.sector) c.put_segment.result (g.D.Disk.state c.args.disk.now) (g.D.Disk.state c.put_segment.new.disk)) one
+    (c.put_segment.ensures.asks word (ap (λ (l : List ℕ). length l) c.deref_mut-2.ensures.value ∙ wide)
+    (subst (λ (k : ℕ). ArePlaced k c.args.pages.now) (sym one) placed)
+    (subst (λ (k : ℕ). AreWithin k (take (c.min-to.result - c.args.k * 64) (drop (c.args.k * 64) c.deref.result.now))) (sym one) within))

@@ -4,8 +4,8 @@ use Rattle.std.proofs.lemmas.List.{length-map}
 use Rattle.sqval.specs.Database.{apply}
 use Rattle.sqval.specs.JudgedPages.{lent}
 use Rattle.rollcore.specs.Machine.{segments_of}
-use Rattle.crashdisk.specs.Keeps.{Later}
-use Rattle.rollcore.specs.Changes.{MayChange}
+use Rattle.rollcore.specs.Changes.{MayCommit, Asks}
+use Rattle.rollcore.proofs.Told.{asks_same, asks_as, asks_err, asks_then}
 use Rattle.rollcore.specs.Segments.{pages_of, SegmentsAnswer}
 use Rattle.rollcore.specs.declared.changes.Change.{Change}
 use Rattle.rollcore.specs.declared.error.RollError.{RollError}
@@ -13,12 +13,11 @@ use Rattle.sqval.proofs.Answering.{passed}
 use Rattle.rollcore.proofs.Preparing.{harmless_after}
 use Rattle.rollcore.proofs.Parting.{enough, parts_begin, parts_end, parts_all, part_forth, part_back, ready_kept, places_few, kept_same, kept_then}
 use Rattle.rollcore.proofs.parts.put_segments.Goals as goal
-use Rattle.crashdisk.proofs.Later.{later_same, later_then}
 
 pub loop-k-init : goal.loop-k-init
 loop-k-init g c = record {
   word = search rules;
-  goes = λ word sound wide. later_same _ sound;
+  asks = λ word wide. asks_same _ _ (g.met.D.Disk.sound c.args.disk.now word);
   place = omega arith;
   keeps = kept_same c.args.core.now;
   changes = refl;
@@ -34,12 +33,10 @@ put_part-requires-clause-place g c =
 pub loop-k-preserved : goal.loop-k-preserved
 loop-k-preserved g c = record {
   word = search rules;
-  goes = λ word sound wide.
-      let before = c.loop-k.invariant.goes word sound wide in
-      let kept = c.loop-k.invariant.keeps in
-      later_then _ _ _ before
-      (subst (λ (n : ℕ). Later (MayChange n c.args.sector) (g.D.Disk.state c.loop-k.disk) (g.D.Disk.state c.put_part.new.disk)) kept.page_size
-      (c.put_part.ensures.goes (c.loop-k.invariant.word.0 word) before.sound (kept.header_room ∙ wide)));
+  asks = λ word wide.
+      asks_then {U = Unit {0}} (Ok tt) (Ok tt) tt _ _ _ refl (c.loop-k.invariant.asks word wide) (asks_as (Ok tt) c.put_part.result _ _ _ c.in_ok-place.was
+      (subst (λ (n : ℕ). Asks (MayCommit n c.args.sector) c.put_part.result (g.D.Disk.state c.loop-k.disk) (g.D.Disk.state c.put_part.new.disk)) c.loop-k.invariant.keeps.page_size
+      (c.put_part.ensures.asks (c.loop-k.invariant.word.0 word) (c.loop-k.invariant.keeps.header_room ∙ wide))));
   place = omega (arith, c.in_ok-place.ensures.near, c.loop-k.invariant.place);
   keeps = kept_then c.args.core.now c.loop-k.core c.put_part.new.core c.loop-k.invariant.keeps c.put_part.ensures.keeps;
   changes = c.put_part.ensures.changes ∙ c.loop-k.invariant.changes;
@@ -80,13 +77,11 @@ returns-clause-segments g c = λ word n d ready suits held many wide same rests.
     (omega (arith, all.0, length-map c.args.core.now.changes.items (λ (c : Change). c.page))) all.1
     (whole ∙ sym (ap segments_of (length-map c.args.core.now.changes.items (λ (c : Change). c.page)))) was.0 was.1
 
-pub returns-clause-goes : goal.returns-clause-goes
-returns-clause-goes g c = λ word sound wide. c.loop-k.invariant.goes word sound wide
+pub returns-clause-asks : goal.returns-clause-asks
+returns-clause-asks g c = λ word wide. asks_as {U = Unit {0}} _ (Ok tt) tt _ _ refl (c.loop-k.invariant.asks word wide)
 
-pub returns-in_err-place-clause-goes : goal.returns-in_err-place-clause-goes
-returns-in_err-place-clause-goes g c = λ word sound wide.
-    let before = c.loop-k.invariant.goes word sound wide in
-    let kept = c.loop-k.invariant.keeps in
-    later_then _ _ _ before
-    (subst (λ (n : ℕ). Later (MayChange n c.args.sector) (g.D.Disk.state c.loop-k.disk) (g.D.Disk.state c.put_part.new.disk)) kept.page_size
-    (c.put_part.ensures.goes (c.loop-k.invariant.word.0 word) before.sound (kept.header_room ∙ wide)))
+pub returns-in_err-place-clause-asks : goal.returns-in_err-place-clause-asks
+returns-in_err-place-clause-asks g c = λ word wide.
+    asks_then {U = Unit {0}} _ (Ok tt) tt _ _ _ refl (c.loop-k.invariant.asks word wide) (asks_err c.from_residual.result c.put_part.result _ _ _ c.in_err-place.was (passed c.from_residual.result _ c.from_residual.ensures.1)
+    (subst (λ (n : ℕ). Asks (MayCommit n c.args.sector) c.put_part.result (g.D.Disk.state c.loop-k.disk) (g.D.Disk.state c.put_part.new.disk)) c.loop-k.invariant.keeps.page_size
+    (c.put_part.ensures.asks (c.loop-k.invariant.word.0 word) (c.loop-k.invariant.keeps.header_room ∙ wide))))

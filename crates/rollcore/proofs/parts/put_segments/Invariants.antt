@@ -2,10 +2,10 @@ use Rattle.std.proofs.Common.{◌≡◌, ◌↔◌, ◌*◌, ◌^◌, ◌≤◌,
 use Rattle.sqval.specs.Database.{Database, apply}
 use Rattle.sqval.specs.Held.{IsHeld}
 use Rattle.sqval.specs.JudgedPages.{lent}
-use Rattle.crashdisk.specs.Call.{IsSoundDisk}
+use Rattle.std.specs.Prelude.{Ok}
 use Rattle.rollcore.specs.Fits.{Rests}
-use Rattle.crashdisk.specs.Keeps.{Suits, Later}
-use Rattle.rollcore.specs.Changes.{MayChange}
+use Rattle.crashdisk.specs.Keeps.{Suits}
+use Rattle.rollcore.specs.Changes.{MayCommit, Asks}
 use Rattle.rollcore.specs.Commits.{KeepsCore, IsReady}
 use Rattle.rollcore.specs.Segments.{pages_of, Parted}
 use Rattle.rollcore.proofs.parts.put_segments.Given as goal
@@ -13,8 +13,8 @@ use Rattle.rollcore.proofs.parts.put_segments.Given as goal
 abbrev pub invariant-loop-k : goal.invariant-loop-k
 invariant-loop-k g l = record {
   word : g.D.Disk.keeps_word l.fn.disk ↔ g.D.Disk.keeps_word l.disk;
-  goes : g.D.Disk.keeps_word l.fn.disk → IsSoundDisk (g.D.Disk.state l.fn.disk) → length l.fn.core.header.items ≡ l.sector
-      → Later (MayChange l.fn.core.page_size l.sector) (g.D.Disk.state l.fn.disk) (g.D.Disk.state l.disk);
+  asks : g.D.Disk.keeps_word l.fn.disk → length l.fn.core.header.items ≡ l.sector
+      → Asks {T = Unit {0}} (MayCommit l.fn.core.page_size l.sector) (Ok tt) (g.D.Disk.state l.fn.disk) (g.D.Disk.state l.disk);
   place : l.place ≤ l.k * 2 ^ 23;
   keeps : KeepsCore l.fn.core l.core;
   changes : l.core.changes ≡ l.fn.core.changes;

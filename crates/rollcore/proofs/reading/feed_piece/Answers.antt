@@ -3,6 +3,8 @@ use Rattle.rollcore.specs.declared.error.RollError.TheVariants.{Device}
 use Rattle.sqval.proofs.Answering.{passed}
 use Rattle.rollcore.proofs.Scans.{fed, not_fed, scan_refusal}
 use Rattle.crashdisk.proofs.Stills.{still_looks}
+use Rattle.std.specs.Prelude.{Ok, Bool, true}
+use Rattle.rollcore.proofs.Told.{told_device, told_done}
 use Rattle.rollcore.proofs.reading.feed_piece.Goals as goal
 
 pub returns-in_err-read_at-clause-took : goal.returns-in_err-read_at-clause-took
@@ -25,3 +27,12 @@ returns-in-Ok-clause-still g c = λ word sound. still_looks _ c.read_at.result _
 
 pub returns-in-Err-clause-still : goal.returns-in-Err-clause-still
 returns-in-Err-clause-still g c = λ word sound. still_looks _ c.read_at.result _ _ sound (c.read_at.ensures.state word)
+
+pub returns-in_err-read_at-clause-told : goal.returns-in_err-read_at-clause-told
+returns-in_err-read_at-clause-told g c = λ word. told_device c.from_residual.result (g.D.Disk.state c.args.disk.now) (g.D.Disk.state c.read_at.new.self) (passed c.from_residual.result Device c.from_residual.ensures.1)
+
+pub returns-in-Ok-clause-told : goal.returns-in-Ok-clause-told
+returns-in-Ok-clause-told g c = λ word. told_done {T = Bool} (Ok true) c.read_at.result _ (g.D.Disk.state c.args.disk.now) (g.D.Disk.state c.read_at.new.self) c.in_ok-read_at.was (c.read_at.ensures.state word).refused
+
+pub returns-in-Err-clause-told : goal.returns-in-Err-clause-told
+returns-in-Err-clause-told g c = λ word. told_done c.without_header.result c.read_at.result _ (g.D.Disk.state c.args.disk.now) (g.D.Disk.state c.read_at.new.self) c.in_ok-read_at.was (c.read_at.ensures.state word).refused

@@ -1,5 +1,6 @@
-use Rattle.std.proofs.Common.{◌+◌, ◌≡◌, ℕ, take, length, sym, subst, arith}
-use Rattle.std.specs.Prelude.{Bool, Result}
+use Rattle.std.proofs.Common.{◌+◌, ◌≡◌, ℕ, take, length, refl, sym, subst, arith}
+use Rattle.std.specs.Prelude.{Bool, true, false, Result, Ok}
+use Rattle.rollcore.proofs.Told.{told_same, told_as, told_err, told_then}
 use Rattle.std.proofs.lemmas.List.{length-take-le}
 use Rattle.sqjournal.specs.Took.{Took}
 use Rattle.rollcore.specs.Steps.{PieceAnswer}
@@ -10,7 +11,7 @@ use Rattle.rollcore.proofs.Scans.{piece_after, piece_none, piece_some, piece_don
 use Rattle.rollcore.proofs.reading.scan_pieces.Goals as goal
 
 pub loop-at-init : goal.loop-at-init
-loop-at-init g c = record { word = (λ k. k, λ k. k); still = λ word sound. still _ sound; took = λ word sound w are long took. took; place = omega arith }
+loop-at-init g c = record { word = (λ k. k, λ k. k); still = λ word sound. still _ sound; told = λ word. told_same {T = Bool} (Ok true) (g.D.Disk.state c.args.disk.now) (g.D.Disk.state c.args.disk.now) (omega arith); took = λ word sound w are long took. took; place = omega arith }
 
 pub returns-in_err-feed_piece-clause-word : goal.returns-in_err-feed_piece-clause-word
 returns-in_err-feed_piece-clause-word g c = (λ k. c.feed_piece.ensures.word.0 (c.loop-at.invariant.word.0 k), λ k. c.loop-at.invariant.word.1 (c.feed_piece.ensures.word.1 k))
@@ -49,6 +50,7 @@ loop-at-preserved g c = record {
   still = λ word sound.
       let before = c.loop-at.invariant.still word sound in
       still_then _ _ _ before (c.feed_piece.ensures.still (c.loop-at.invariant.word.0 word) (still_sound _ _ sound before));
+  told = λ word. told_then {T = Bool} (Ok true) {U = Bool} (Ok true) true (g.D.Disk.state c.args.disk.now) (g.D.Disk.state c.loop-at.disk) (g.D.Disk.state c.feed_piece.new.disk) refl (c.loop-at.invariant.told word) (told_as {T = Bool} (Ok true) c.feed_piece.result _ (g.D.Disk.state c.loop-at.disk) (g.D.Disk.state c.feed_piece.new.disk) c.in_ok-feed_piece.was (c.feed_piece.ensures.told (c.loop-at.invariant.word.0 word)));
   took = λ word sound w are long took.
       let before = c.loop-at.invariant.still word sound in
       let n : length (take c.min-n.result c.loop-at.buffer) ≡ c.min-n.result = length-take-le c.min-n.result c.loop-at.buffer (omega (arith, c.loop-at.auto.buffer)) in
@@ -67,3 +69,13 @@ pub returns-clause-took : goal.returns-clause-took
 returns-clause-took g c = λ word sound w are long took.
     let all : c.loop-at.at ≡ c.args.long = omega arith in
     piece_done w c.loop-at.scan _ _ c.args.long (subst (λ (k : ℕ). Took (take k w) c.loop-at.scan) all (c.loop-at.invariant.took word sound w are long took))
+
+pub returns-in_err-feed_piece-clause-told : goal.returns-in_err-feed_piece-clause-told
+returns-in_err-feed_piece-clause-told g c = λ word. told_then c.from_residual.result {U = Bool} (Ok true) true (g.D.Disk.state c.args.disk.now) (g.D.Disk.state c.loop-at.disk) (g.D.Disk.state c.feed_piece.new.disk) refl (c.loop-at.invariant.told word)
+    (told_err c.from_residual.result c.feed_piece.result _ (g.D.Disk.state c.loop-at.disk) (g.D.Disk.state c.feed_piece.new.disk) c.in_err-feed_piece.was (passed c.from_residual.result _ c.from_residual.ensures.1) (c.feed_piece.ensures.told (c.loop-at.invariant.word.0 word)))
+
+pub returns-then-not-branch-clause-told : goal.returns-then-not-branch-clause-told
+returns-then-not-branch-clause-told g c = λ word. told_then {T = Bool} (Ok false) {U = Bool} (Ok true) true (g.D.Disk.state c.args.disk.now) (g.D.Disk.state c.loop-at.disk) (g.D.Disk.state c.feed_piece.new.disk) refl (c.loop-at.invariant.told word) (told_as {T = Bool} (Ok false) c.feed_piece.result _ (g.D.Disk.state c.loop-at.disk) (g.D.Disk.state c.feed_piece.new.disk) c.in_ok-feed_piece.was (c.feed_piece.ensures.told (c.loop-at.invariant.word.0 word)))
+
+pub returns-clause-told : goal.returns-clause-told
+returns-clause-told g c = λ word. c.loop-at.invariant.told word

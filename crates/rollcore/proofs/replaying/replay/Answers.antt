@@ -1,11 +1,17 @@
+use Rattle.std.proofs.Common.{refl}
+use Rattle.std.specs.Prelude.{Ok}
 use Rattle.rollcore.specs.declared.error.RollError.TheVariants.{Device}
 use Rattle.sqval.proofs.Answering.{passed}
-use Rattle.rollcore.proofs.Recovering.{sync_unreplayed, replay_after, goes_on, stays}
+use Rattle.rollcore.proofs.Recovering.{sync_unreplayed, synced_present, replay_after, goes_on, stays}
 use Rattle.rollcore.proofs.Agreeing.{agrees_by, scanning_shows, scanning_syncs}
 use Rattle.crashdisk.specs.declared.file.File.TheVariants.{Log}
 use Rattle.crashdisk.proofs.Down.{down_syncs}
 use Rattle.rollcore.proofs.Lengths.{ends_resynced}
-use Rattle.crashdisk.proofs.Later.{later_sync, later_then}
+use Rattle.crashdisk.proofs.Later.{later_sync}
+use Rattle.crashdisk.specs.Keeps.{Later}
+use Rattle.sqval.specs.Bytes.{word}
+use Rattle.rollcore.specs.Changes.{MayReplay}
+use Rattle.rollcore.proofs.Told.{asks_device, asks_done, asks_then}
 use Rattle.rollcore.proofs.replaying.replay.Goals as goal
 
 pub returns-in_err-sync-clause-replays : goal.returns-in_err-sync-clause-replays
@@ -54,10 +60,13 @@ returns-clause-lengths g c = λ word w n down same ends.
     c.replay_synced.ensures.lengths (c.sync.ensures.word.0 word) w n (down_syncs w Log c.sync.result _ _ down (c.sync.ensures.state word)) same
     (ends_resynced n w c.sync.result (g.D.Disk.state c.args.disk.now) (g.D.Disk.state c.sync.new.self) down (c.sync.ensures.state word) ends)
 
-pub returns-in_err-sync-clause-later : goal.returns-in_err-sync-clause-later
-returns-in_err-sync-clause-later g c = λ word sound. later_sync Log c.sync.result _ _ sound (c.sync.ensures.state word)
+pub returns-in_err-sync-clause-asks : goal.returns-in_err-sync-clause-asks
+returns-in_err-sync-clause-asks g c = λ word w are.
+    asks_device c.from_residual.result _ _ (passed c.from_residual.result Device c.from_residual.ensures.1) (later_sync Log c.sync.result _ _ tt (g.met.D.Disk.sound c.args.disk.now word) (c.sync.ensures.state word))
 
-pub returns-clause-later : goal.returns-clause-later
-returns-clause-later g c = λ word sound.
-    let mid = later_sync Log c.sync.result _ _ sound (c.sync.ensures.state word) in
-    later_then _ _ _ mid (c.replay_synced.ensures.later (c.sync.ensures.word.0 word))
+pub returns-clause-asks : goal.returns-clause-asks
+returns-clause-asks g c = λ keeps w are.
+    let synced = c.sync.ensures.state keeps in
+    let first : Later (MayReplay (word w 24)) (g.D.Disk.state c.args.disk.now) (g.D.Disk.state c.sync.new.self) = later_sync Log c.sync.result _ _ tt (g.met.D.Disk.sound c.args.disk.now keeps) synced in
+    asks_then {U = Unit {0}} _ (Ok tt) tt _ _ _ refl (asks_done (Ok tt) c.sync.result _ _ _ c.in_ok-sync.was synced.elsewhere.refused first)
+    (c.replay_synced.ensures.asks (c.sync.ensures.word.0 keeps) w (synced_present w w (g.D.Disk.state c.args.disk.now) (g.D.Disk.state c.sync.new.self) (g.D.Disk.state c.sync.new.self) (c.in_ok-sync.ensures.state keeps) w are))

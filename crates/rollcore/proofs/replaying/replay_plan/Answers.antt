@@ -1,4 +1,4 @@
-use Rattle.std.proofs.Common.{◌≡◌, ℕ, length, refl, sym, subst}
+use Rattle.std.proofs.Common.{◌≡◌, ◌≤◌, ◌*◌, ◌∙◌, ℕ, length, refl, sym, subst}
 use Rattle.crashdisk.specs.State.{byte, IsSectorSize}
 use Rattle.rollcore.specs.Lengths.{EndsBy}
 use Rattle.crashdisk.proofs.Images.{table}
@@ -10,10 +10,9 @@ use Rattle.rollcore.proofs.Recovering.{planned, rolled_copy, rolled_end, rolled_
 use Rattle.rollcore.proofs.Lengths.{ends_hot, named_by, fit_named, rolled_length}
 use Rattle.rollcore.proofs.Writing.{writing_shows}
 use Rattle.rollcore.proofs.Agreeing.{fit_begins}
-use Rattle.crashdisk.specs.Keeps.{Later}
-use Rattle.rollcore.specs.Changes.{MayReplay}
-use Rattle.rollcore.proofs.Asking.{file_replays}
-use Rattle.crashdisk.proofs.Later.{later_then, later_keeps}
+use Rattle.sqval.specs.CommitFaults.{most_bytes}
+use Rattle.rollcore.specs.Changes.{MayReplay, Asks}
+use Rattle.rollcore.proofs.Told.{asks_as, asks_err, asks_then}
 use Rattle.rollcore.proofs.replaying.replay_plan.Goals as goal
 
 pub returns-in_err-copy_records-clause-replays : goal.returns-in_err-copy_records-clause-replays
@@ -106,15 +105,24 @@ returns-clause-ends g c = λ word sound sectors w down fit is.
     subst (λ (n : ℕ). EndsBy n (g.D.Disk.state c.finish.new.disk)) (rolled_length w now p.pages (length c.deref_mut.result.now) b pages p.rolled p.same)
     (c.finish.ensures.lengths (c.copy_records.ensures.word.0 word) log.sound (subst IsSectorSize (sym log.sector) sectors) w (down_by w a b down log.log log.tears log.kept log.handed) fit.hot (named_by w a b log.sector log.tears (fit_named w a fit)))
 
-pub returns-in_err-finish-clause-goes : goal.returns-in_err-finish-clause-goes
-returns-in_err-finish-clause-goes g c = λ word sound.
-    let mid : Later MayReplay (g.D.Disk.state c.args.disk.now) (g.D.Disk.state c.copy_records.new.disk) = later_keeps _ _ file_replays (c.copy_records.ensures.log word sound) in
-    later_then _ _ _ mid (c.finish.ensures.goes (c.copy_records.ensures.word.0 word) mid.sound)
+pub returns-in_err-copy_records-clause-asks : goal.returns-in_err-copy_records-clause-asks
+returns-in_err-copy_records-clause-asks g c = λ word.
+    let e : length c.deref_mut.result.now ≡ c.args.plan.header.page_size = (let same : length c.deref_mut.result.now ≡ length c.args.plan.page.items = cc in same) ∙ c.requires.page in
+    let within = subst (λ (n : ℕ). c.args.plan.header.first_size * n ≤ most_bytes) (sym e) c.requires.few in
+    let first = subst (λ (n : ℕ). Asks (MayReplay n) c.copy_records.result (g.D.Disk.state c.args.disk.now) (g.D.Disk.state c.copy_records.new.disk)) e (c.copy_records.ensures.asks word within) in
+    asks_err c.from_residual.result c.copy_records.result _ _ _ c.in_err-copy_records.was (passed c.from_residual.result _ c.from_residual.ensures.1) first
 
-pub returns-clause-goes : goal.returns-clause-goes
-returns-clause-goes g c = λ word sound.
-    let mid : Later MayReplay (g.D.Disk.state c.args.disk.now) (g.D.Disk.state c.copy_records.new.disk) = later_keeps _ _ file_replays (c.copy_records.ensures.log word sound) in
-    later_then _ _ _ mid (c.finish.ensures.goes (c.copy_records.ensures.word.0 word) mid.sound)
+pub returns-in_err-finish-clause-asks : goal.returns-in_err-finish-clause-asks
+returns-in_err-finish-clause-asks g c = λ word.
+    let e : length c.deref_mut.result.now ≡ c.args.plan.header.page_size = (let same : length c.deref_mut.result.now ≡ length c.args.plan.page.items = cc in same) ∙ c.requires.page in
+    let within = subst (λ (n : ℕ). c.args.plan.header.first_size * n ≤ most_bytes) (sym e) c.requires.few in
+    let first = subst (λ (n : ℕ). Asks (MayReplay n) c.copy_records.result (g.D.Disk.state c.args.disk.now) (g.D.Disk.state c.copy_records.new.disk)) e (c.copy_records.ensures.asks word within) in
+    asks_then _ c.copy_records.result _ _ _ _ c.in_ok-copy_records.was first
+    (asks_err c.from_residual-in_err-finish.result c.finish.result _ _ _ c.in_err-finish.was (passed c.from_residual-in_err-finish.result _ c.from_residual-in_err-finish.ensures.1) (c.finish.ensures.asks (c.copy_records.ensures.word.0 word) c.args.plan.header.page_size))
 
-pub returns-in_err-copy_records-clause-goes : goal.returns-in_err-copy_records-clause-goes
-returns-in_err-copy_records-clause-goes g c = λ word sound. later_keeps _ _ file_replays (c.copy_records.ensures.log word sound)
+pub returns-clause-asks : goal.returns-clause-asks
+returns-clause-asks g c = λ word.
+    let e : length c.deref_mut.result.now ≡ c.args.plan.header.page_size = (let same : length c.deref_mut.result.now ≡ length c.args.plan.page.items = cc in same) ∙ c.requires.page in
+    let within = subst (λ (n : ℕ). c.args.plan.header.first_size * n ≤ most_bytes) (sym e) c.requires.few in
+    let first = subst (λ (n : ℕ). Asks (MayReplay n) c.copy_records.result (g.D.Disk.state c.args.disk.now) (g.D.Disk.state c.copy_records.new.disk)) e (c.copy_records.ensures.asks word within) in
+    asks_then _ c.copy_records.result _ _ _ _ c.in_ok-copy_records.was first (asks_as _ c.finish.result _ _ _ c.in_ok-finish.was (c.finish.ensures.asks (c.copy_records.ensures.word.0 word) c.args.plan.header.page_size))

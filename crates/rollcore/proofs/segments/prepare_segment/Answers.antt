@@ -1,24 +1,29 @@
-use Rattle.std.proofs.Common.{◌≡◌, ◌⊎◌, ◌≤◌, ◌+◌, ◌-◌, ◌*◌, ◌∙◌, inl, inr, ⊎_elim, ℕ, length, sym, ap, subst, arith}
+use Rattle.std.proofs.Common.{◌≡◌, ◌⊎◌, ◌≤◌, ◌+◌, ◌-◌, ◌*◌, ◌∙◌, inl, inr, ⊎_elim, ℕ, ◌<◌, ◌^◌, length, refl, sym, ap, subst, arith}
 use Rattle.std.specs.Prelude.{Ok, Err, Result}
 use Rattle.std.proofs.Math.Nat.{mul-le-mul_right}
 use Rattle.std.proofs.lemmas.List.{length-map}
 use Rattle.sqjournal.specs.Header.{next_header}
 use Rattle.sqjournal.proofs.Journals.{size_bounds}
-use Rattle.crashdisk.specs.Call.{Nothing}
+use Rattle.crashdisk.specs.State.{longest}
+use Rattle.crashdisk.specs.Call.{InFile}
 use Rattle.crashdisk.specs.Keeps.{Later}
 use Rattle.rollcore.specs.Opening.{BreakSteps}
 use Rattle.rollcore.specs.Segments.{PreparedAnswer, pages_of}
 use Rattle.rollcore.specs.declared.changes.Change.{Change}
 use Rattle.rollcore.specs.declared.error.RollError.{RollError}
 use Rattle.sqval.proofs.Answering.{passed}
-use Rattle.crashdisk.proofs.Later.{sync_later, later_then}
+use Rattle.crashdisk.proofs.Later.{sync_later}
 use Rattle.rollcore.proofs.Recording.{recording_begins}
 use Rattle.rollcore.proofs.Preparing.{ended, break_failed, settle_failed, settled, break_later, break_file, harmless_after}
 use Rattle.crashdisk.specs.declared.file.File.TheVariants.{Log}
 use Rattle.rollcore.proofs.Asking.{zero_may}
-use Rattle.rollcore.proofs.Going.{goes_broken}
+use Rattle.rollcore.proofs.Going.{asks_broken}
+use Rattle.rollcore.proofs.Told.{asks_step, asks_as, asks_err, asks_then}
 use Rattle.rollcore.specs.declared.error.RollError.TheVariants.{Device}
 use Rattle.rollcore.proofs.segments.prepare_segment.Goals as goal
+
+near_place : (place count size sector end next : ℕ) → count ≤ 64 → size ≤ 65544 → sector ≤ 65536 → place ≤ 2 ^ 38 → end ≡ place + sector + count * size → next < end + sector → next + 1 ≤ longest
+near_place place count size sector end next few short high near is least = let product : count * size ≤ 64 * size = mul-le-mul_right size few in omega arith
 
 pub returns-clause-near : goal.returns-clause-near
 returns-clause-near g c =
@@ -77,26 +82,30 @@ returns-clause-prepared g c = λ word d named w is fresh more.
     let is_ended = ended n c.args.sector d named c.args.place w numbers c.args.nonce c.in_ok-break_magic.field-0 _ _ done.1 step in
     let later = break_later _ c.in_ok-break_magic.field-0 _ _ step in
     let sync = c.settle_log.ensures.state (c.break_magic.ensures.word.0 (c.write_records.ensures.word.0 word)) in
-    let last : Later Nothing (g.D.Disk.state c.break_magic.new.disk) (g.D.Disk.state c.settle_log.new.disk) = sync_later Device _ c.settle_log.result _ _ is_ended.recorded.recording.at.suits.sound sync in
+    let last : Later (InFile Log) (g.D.Disk.state c.break_magic.new.disk) (g.D.Disk.state c.settle_log.new.disk) = sync_later Device Log c.settle_log.result _ _ refl is_ended.recorded.recording.at.suits.sound sync in
     let many : (c.args.place ≡ 0) ⊎ (1 ≤ length numbers) = ⊎_elim (λ zero. inl zero) (λ one. inr (omega (arith, one, length-map c.args.changes.now (λ (c : Change). c.page)))) more in
     (at, settled n c.args.sector d named c.args.place w numbers c.args.nonce c.settle_log.result c.in_ok-settle_log.field-0 _ _ is_ended many c.in_ok-settle_log.was sync, omega (arith, done.2, later, last.refused), sync.2.elsewhere.other ∙ break_file _ c.in_ok-break_magic.field-0 _ _ step ∙ done.3)
 
-pub returns-in_err-end-clause-goes : goal.returns-in_err-end-clause-goes
-returns-in_err-end-clause-goes g c = λ word sound. c.write_records.ensures.goes word sound c.args.sector
+pub returns-in_err-end-clause-asks : goal.returns-in_err-end-clause-asks
+returns-in_err-end-clause-asks g c = λ word. asks_err c.from_residual.result c.write_records.result _ _ _ c.in_err-end.was (passed c.from_residual.result _ c.from_residual.ensures.1) (c.write_records.ensures.asks word c.args.sector)
 
-pub returns-in_err-break_magic-clause-goes : goal.returns-in_err-break_magic-clause-goes
-returns-in_err-break_magic-clause-goes g c = λ word sound.
-    let first = c.write_records.ensures.goes word sound c.args.sector in
-    later_then _ _ _ first (goes_broken _ c.break_magic.result _ _ (zero_may _ c.args.sector _) first.sound (c.break_magic.ensures.steps (c.write_records.ensures.word.0 word) first.sound))
+pub returns-in_err-break_magic-clause-asks : goal.returns-in_err-break_magic-clause-asks
+returns-in_err-break_magic-clause-asks g c = λ word.
+    let first = c.write_records.ensures.asks word c.args.sector in
+    asks_then _ c.write_records.result _ _ _ _ c.in_ok-end.was first (asks_err c.from_residual-in_err-break_magic.result c.break_magic.result _ _ _ c.in_err-break_magic.was (passed c.from_residual-in_err-break_magic.result _ c.from_residual-in_err-break_magic.ensures.1)
+    (asks_broken _ c.break_magic.result _ _ (zero_may _ c.args.sector _ (near_place c.args.place (length c.args.changes.now) (length c.args.buffer.now) c.args.sector c.in_ok-end.end c.next_header_at-next.result c.requires.few c.requires.short (size_bounds c.args.sector c.requires.sector).1 c.requires.place (c.in_ok-end.ensures.end ∙ ap (λ (k : ℕ). c.args.place + k + length c.args.changes.now * length c.args.buffer.now) c.from.ensures) c.next_header_at-next.ensures.least)) first.later.sound (c.break_magic.ensures.steps (c.write_records.ensures.word.0 word) first.later.sound) (c.break_magic.ensures.told (c.write_records.ensures.word.0 word))))
 
-pub returns-in_err-settle_log-clause-goes : goal.returns-in_err-settle_log-clause-goes
-returns-in_err-settle_log-clause-goes g c = λ word sound.
-    let first = c.write_records.ensures.goes word sound c.args.sector in
-    let mid = later_then _ _ _ first (goes_broken _ c.break_magic.result _ _ (zero_may _ c.args.sector _) first.sound (c.break_magic.ensures.steps (c.write_records.ensures.word.0 word) first.sound)) in
-    later_then _ _ _ mid (sync_later Device Log c.settle_log.result _ _ mid.sound (c.settle_log.ensures.state (c.break_magic.ensures.word.0 (c.write_records.ensures.word.0 word))))
+pub returns-in_err-settle_log-clause-asks : goal.returns-in_err-settle_log-clause-asks
+returns-in_err-settle_log-clause-asks g c = λ word.
+    let first = c.write_records.ensures.asks word c.args.sector in
+    let broken = asks_broken _ c.break_magic.result _ _ (zero_may _ c.args.sector _ (near_place c.args.place (length c.args.changes.now) (length c.args.buffer.now) c.args.sector c.in_ok-end.end c.next_header_at-next.result c.requires.few c.requires.short (size_bounds c.args.sector c.requires.sector).1 c.requires.place (c.in_ok-end.ensures.end ∙ ap (λ (k : ℕ). c.args.place + k + length c.args.changes.now * length c.args.buffer.now) c.from.ensures) c.next_header_at-next.ensures.least)) first.later.sound (c.break_magic.ensures.steps (c.write_records.ensures.word.0 word) first.later.sound) (c.break_magic.ensures.told (c.write_records.ensures.word.0 word)) in
+    asks_then _ c.write_records.result _ _ _ _ c.in_ok-end.was first (asks_then _ c.break_magic.result _ _ _ _ c.in_ok-break_magic.was broken
+    (asks_err c.from_residual-in_err-settle_log.result c.settle_log.result _ _ _ c.in_err-settle_log.was (passed c.from_residual-in_err-settle_log.result _ c.from_residual-in_err-settle_log.ensures.1)
+    (asks_step Log c.settle_log.result _ _ (inl tt) broken.later.sound (c.settle_log.ensures.state (c.break_magic.ensures.word.0 (c.write_records.ensures.word.0 word))))))
 
-pub returns-clause-goes : goal.returns-clause-goes
-returns-clause-goes g c = λ word sound.
-    let first = c.write_records.ensures.goes word sound c.args.sector in
-    let mid = later_then _ _ _ first (goes_broken _ c.break_magic.result _ _ (zero_may _ c.args.sector _) first.sound (c.break_magic.ensures.steps (c.write_records.ensures.word.0 word) first.sound)) in
-    later_then _ _ _ mid (sync_later Device Log c.settle_log.result _ _ mid.sound (c.settle_log.ensures.state (c.break_magic.ensures.word.0 (c.write_records.ensures.word.0 word))))
+pub returns-clause-asks : goal.returns-clause-asks
+returns-clause-asks g c = λ word.
+    let first = c.write_records.ensures.asks word c.args.sector in
+    let broken = asks_broken _ c.break_magic.result _ _ (zero_may _ c.args.sector _ (near_place c.args.place (length c.args.changes.now) (length c.args.buffer.now) c.args.sector c.in_ok-end.end c.next_header_at-next.result c.requires.few c.requires.short (size_bounds c.args.sector c.requires.sector).1 c.requires.place (c.in_ok-end.ensures.end ∙ ap (λ (k : ℕ). c.args.place + k + length c.args.changes.now * length c.args.buffer.now) c.from.ensures) c.next_header_at-next.ensures.least)) first.later.sound (c.break_magic.ensures.steps (c.write_records.ensures.word.0 word) first.later.sound) (c.break_magic.ensures.told (c.write_records.ensures.word.0 word)) in
+    asks_then _ c.write_records.result _ _ _ _ c.in_ok-end.was first (asks_then _ c.break_magic.result _ _ _ _ c.in_ok-break_magic.was broken
+    (asks_as _ c.settle_log.result _ _ _ c.in_ok-settle_log.was (asks_step Log c.settle_log.result _ _ (inl tt) broken.later.sound (c.settle_log.ensures.state (c.break_magic.ensures.word.0 (c.write_records.ensures.word.0 word))))))

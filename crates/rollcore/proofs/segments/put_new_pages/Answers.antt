@@ -1,35 +1,36 @@
-use Rattle.std.proofs.Common.{◌<◌, ◌++◌, ◌+◌, ℕ, length, sym, ap, subst, arith, rules, []}
+use Rattle.std.proofs.Common.{◌<◌, ◌++◌, ◌+◌, ℕ, length, refl, sym, ap, subst, arith, rules, []}
 use Rattle.std.specs.Prelude.{Result, Ok}
 use Rattle.sqval.specs.JudgedPages.{lent}
-use Rattle.crashdisk.specs.Call.{DiskState, InFile}
-use Rattle.crashdisk.specs.declared.file.File.TheVariants.{Db}
-use Rattle.crashdisk.specs.Keeps.{Later}
+use Rattle.crashdisk.specs.Call.{DiskState}
+use Rattle.rollcore.specs.Changes.{MayReplay, Asks}
+use Rattle.rollcore.proofs.Told.{asks_same, asks_as, asks_err, asks_then, page_within}
 use Rattle.rollcore.specs.Segments.{PutPagesAnswer, new_numbers}
 use Rattle.rollcore.specs.declared.error.RollError.{RollError}
 use Rattle.sqval.proofs.Answering.{passed}
-use Rattle.rollcore.proofs.Going.{goes_page}
 use Rattle.rollcore.proofs.Growing.{Grown, grown_none, grown_all, grown_old, grown_put, grown_failed, lent_at, lent_length}
 use Rattle.rollcore.proofs.segments.put_new_pages.Goals as goal
 use Rattle.rollcore.proofs.segments.put_new_pages.Goals.{then-page-old_size+in_ok-put_page, else-page-old_size}
-use Rattle.crashdisk.proofs.Later.{later_same, later_then}
 
 pub loop-x-init : goal.loop-x-init
 loop-x-init g c = record {
   word = search rules;
-  goes = λ word sound. later_same _ sound;
+  asks = λ word size placed. asks_same _ _ (g.met.D.Disk.sound c.args.disk.now word);
   put = λ word size sector d e named place w before is begun many are somes put. grown_none size sector d e named place w begun (lent c.args.pages.now) are before somes (g.D.Disk.state c.args.disk.now) is put;
 }
 
 pub loop-x-preserved : goal.loop-x-preserved
 loop-x-preserved g c = record {
   word = search rules;
-  goes = λ word sound.
-      let before = c.loop-x.invariant.goes word sound in
+  asks = λ word size placed.
+      let before = c.loop-x.invariant.asks word size placed in
       elim c.if-page-old_size.branch [
         | then-page-old_size+in_ok-put_page x ↦
-            subst (λ (s : DiskState). Later (InFile Db) (g.D.Disk.state c.args.disk.now) s) (sym (ap g.D.Disk.state x.disk-is))
-            (later_then _ _ _ before (goes_page _ _ x.put_page.result _ _ before.sound (x.put_page.ensures.step (c.loop-x.invariant.word.0 word))))
-        | else-page-old_size x ↦ subst (λ (s : DiskState). Later (InFile Db) (g.D.Disk.state c.args.disk.now) s) (sym (ap g.D.Disk.state x.disk-is)) before
+            let here = placed c.loop-x.x-index (0, record { ref_ptr = (0, 0); now = [] }) c.loop-x-test.true in
+            subst (λ (s : DiskState). Asks {T = Unit {0}} (MayReplay size) (Ok tt) (g.D.Disk.state c.args.disk.now) s) (sym (ap g.D.Disk.state x.disk-is))
+            (asks_then {U = Unit {0}} (Ok tt) (Ok tt) tt _ _ _ refl before (asks_as (Ok tt) x.put_page.result _ _ _ x.in_ok-put_page.was
+            (subst (λ (n : ℕ). Asks (MayReplay n) x.put_page.result (g.D.Disk.state c.loop-x.disk) (g.D.Disk.state x.put_page.new.disk)) here.0
+            (x.put_page.ensures.asks (c.loop-x.invariant.word.0 word) (page_within size _ _ here.0 here.1)))))
+        | else-page-old_size x ↦ subst (λ (s : DiskState). Asks {T = Unit {0}} (MayReplay size) (Ok tt) (g.D.Disk.state c.args.disk.now) s) (sym (ap g.D.Disk.state x.disk-is)) before
       ];
   put = λ word size sector d e named place w before is begun many are somes put.
       let was = c.loop-x.invariant.put word size sector d e named place w before is begun many are somes put in
@@ -62,10 +63,13 @@ returns-in_err-put_page-clause-put g c = λ word size sector d e named place w b
     (grown_failed size sector d e named place w begun (lent c.args.pages.now) are before somes c.loop-x.x-index lt _ _ c.put_page.result _ _ _ (sym here.0) (sym here.1) (omega (arith, c.if-page-old_size.true, many)) was
     (c.put_page.ensures.step (c.loop-x.invariant.word.0 word)) c.in_err-put_page.field-0.0 c.in_err-put_page.was)
 
-pub returns-clause-goes : goal.returns-clause-goes
-returns-clause-goes g c = λ word sound. c.loop-x.invariant.goes word sound
+pub returns-clause-asks : goal.returns-clause-asks
+returns-clause-asks g c = λ word size placed. asks_as {U = Unit {0}} _ (Ok tt) tt _ _ refl (c.loop-x.invariant.asks word size placed)
 
-pub returns-in_err-put_page-clause-goes : goal.returns-in_err-put_page-clause-goes
-returns-in_err-put_page-clause-goes g c = λ word sound.
-    let before = c.loop-x.invariant.goes word sound in
-    later_then _ _ _ before (goes_page _ _ c.put_page.result _ _ before.sound (c.put_page.ensures.step (c.loop-x.invariant.word.0 word)))
+pub returns-in_err-put_page-clause-asks : goal.returns-in_err-put_page-clause-asks
+returns-in_err-put_page-clause-asks g c = λ word size placed.
+    let here = placed c.loop-x.x-index (0, record { ref_ptr = (0, 0); now = [] }) c.loop-x-test.true in
+    asks_then {U = Unit {0}} _ (Ok tt) tt _ _ _ refl (c.loop-x.invariant.asks word size placed)
+    (asks_err c.from_residual.result c.put_page.result _ _ _ c.in_err-put_page.was (passed c.from_residual.result _ c.from_residual.ensures.1)
+    (subst (λ (n : ℕ). Asks (MayReplay n) c.put_page.result (g.D.Disk.state c.loop-x.disk) (g.D.Disk.state c.put_page.new.disk)) here.0
+    (c.put_page.ensures.asks (c.loop-x.invariant.word.0 word) (page_within size _ _ here.0 here.1))))

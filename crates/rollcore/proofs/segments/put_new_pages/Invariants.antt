@@ -1,9 +1,9 @@
 use Rattle.std.proofs.Common.{◌≡◌, ◌↔◌, ◌<◌, ℕ, List, length}
 use Rattle.sqval.specs.Database.{Database}
 use Rattle.sqval.specs.JudgedPages.{lent}
-use Rattle.crashdisk.specs.Call.{IsSoundDisk, InFile}
-use Rattle.crashdisk.specs.declared.file.File.TheVariants.{Db}
-use Rattle.crashdisk.specs.Keeps.{Later}
+use Rattle.std.specs.Prelude.{Ok}
+use Rattle.rollcore.specs.Changes.{MayReplay, Asks}
+use Rattle.rollcore.specs.Commits.{ArePlaced}
 use Rattle.rollcore.specs.Segments.{Journaled, ArePut, AreSome, AreOf}
 use Rattle.rollcore.proofs.Growing.{Grown}
 use Rattle.rollcore.proofs.segments.put_new_pages.Given as goal
@@ -11,7 +11,7 @@ use Rattle.rollcore.proofs.segments.put_new_pages.Given as goal
 abbrev pub invariant-loop-x : goal.invariant-loop-x
 invariant-loop-x g l = record {
   word : g.D.Disk.keeps_word l.fn.disk ↔ g.D.Disk.keeps_word l.disk;
-  goes : g.D.Disk.keeps_word l.fn.disk → IsSoundDisk (g.D.Disk.state l.fn.disk) → Later (InFile Db) (g.D.Disk.state l.fn.disk) (g.D.Disk.state l.disk);
+  asks : g.D.Disk.keeps_word l.fn.disk → (size : ℕ) → ArePlaced size l.pages → Asks {T = Unit {0}} (MayReplay size) (Ok tt) (g.D.Disk.state l.fn.disk) (g.D.Disk.state l.disk);
   put : g.D.Disk.keeps_word l.fn.disk → (size sector : ℕ) (d e : Database) (named : List ℕ) (place : ℕ) (w before : List ℕ)
       → Journaled size sector d named place w (g.D.Disk.state l.fn.disk) → (begun : 0 < place) → l.old_size ≡ length d → (are : AreOf size e (lent l.pages))
       → (somes : AreSome before) → ArePut size e before (g.D.Disk.state l.fn.disk).db

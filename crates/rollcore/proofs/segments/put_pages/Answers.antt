@@ -1,21 +1,22 @@
-use Rattle.std.proofs.Common.{◌++◌, ◌+◌, sym, ap, subst, arith, rules, []}
-use Rattle.std.specs.Prelude.{Result}
+use Rattle.std.proofs.Common.{◌++◌, ◌+◌, ◌*◌, ◌≤◌, ℕ, refl, sym, ap, subst, arith, rules, []}
+use Rattle.std.specs.Prelude.{Result, Ok}
 use Rattle.sqval.specs.JudgedPages.{lent}
-use Rattle.crashdisk.specs.Call.{DiskState, InFile}
-use Rattle.crashdisk.specs.declared.file.File.TheVariants.{Db}
-use Rattle.crashdisk.specs.Keeps.{Later}
+use Rattle.crashdisk.specs.Call.{DiskState}
+use Rattle.sqval.specs.CommitFaults.{most_bytes}
+use Rattle.rollcore.specs.Changes.{MayReplay, Asks}
+use Rattle.rollcore.specs.Commits.{change_at}
+use Rattle.rollcore.proofs.Told.{asks_same, asks_as, asks_err, asks_then}
 use Rattle.rollcore.specs.Segments.{PutPagesAnswer, pages_of}
 use Rattle.rollcore.specs.declared.error.RollError.{RollError}
 use Rattle.sqval.proofs.Answering.{passed}
 use Rattle.rollcore.proofs.Putting.{turned_none, turned_all, turned_cut, turned_put, turned_failed, lent_content, Turned}
 use Rattle.rollcore.proofs.segments.put_pages.Goals as goal
 use Rattle.rollcore.proofs.segments.put_pages.Goals.{in-Some+in_ok-put_page-in-Some, in-None}
-use Rattle.crashdisk.proofs.Later.{later_same, later_then}
 
 pub loop-change-init : goal.loop-change-init
 loop-change-init g c = record {
   word = search rules;
-  goes = λ word sound. later_same _ sound;
+  asks = λ word size placed within. asks_same _ _ (g.met.D.Disk.sound c.args.disk.now word);
   put = λ word size sector d e named place w before is begun turned somes put. turned_none size sector d e named place w begun (lent c.args.pages.now) c.args.changes.now turned before somes (g.D.Disk.state c.args.disk.now) is put;
 }
 
@@ -37,12 +38,16 @@ returns-in_err-put_page-in-Some-clause-put g c = λ word size sector d e named p
 pub loop-change-preserved : goal.loop-change-preserved
 loop-change-preserved g c = record {
   word = search rules;
-  goes = λ word sound.
-      let before = c.loop-change.invariant.goes word sound in
+  asks = λ word size placed within.
+      let before = c.loop-change.invariant.asks word size placed within in
       elim c.match-change.branch [
-        | in-Some+in_ok-put_page-in-Some x ↦ subst (λ (s : DiskState). Later (InFile Db) (g.D.Disk.state c.args.disk.now) s) (sym (ap g.D.Disk.state x.disk-is))
-            (later_then _ _ _ before (x.put_page.ensures.goes (c.loop-change.invariant.word.0 word) before.sound))
-        | in-None x ↦ subst (λ (s : DiskState). Later (InFile Db) (g.D.Disk.state c.args.disk.now) s) (sym (ap g.D.Disk.state x.disk-is)) before
+        | in-Some+in_ok-put_page-in-Some x ↦
+            let full = (placed x.in-Some.k (0, record { ref_ptr = (0, 0); now = [] }) (c.requires.within c.loop-change.change-index x.in-Some.k c.loop-change-test.true x.in-Some.is)).0 in
+            let fits = subst (λ (n : ℕ). (change_at c.args.changes.now c.loop-change.change-index).page * n ≤ most_bytes) (sym full) (within c.loop-change.change-index c.loop-change-test.true) in
+            subst (λ (s : DiskState). Asks {T = Unit {0}} (MayReplay size) (Ok tt) (g.D.Disk.state c.args.disk.now) s) (sym (ap g.D.Disk.state x.disk-is))
+            (asks_then {U = Unit {0}} (Ok tt) (Ok tt) tt _ _ _ refl before (asks_as (Ok tt) x.put_page.result _ _ _ x.in_ok-put_page-in-Some.was
+            (subst (λ (n : ℕ). Asks (MayReplay n) x.put_page.result (g.D.Disk.state c.loop-change.disk) (g.D.Disk.state x.put_page.new.disk)) full (x.put_page.ensures.asks (c.loop-change.invariant.word.0 word) fits))))
+        | in-None x ↦ subst (λ (s : DiskState). Asks {T = Unit {0}} (MayReplay size) (Ok tt) (g.D.Disk.state c.args.disk.now) s) (sym (ap g.D.Disk.state x.disk-is)) before
       ];
   put = λ word size sector d e named place w before is begun turned somes put.
       let was = c.loop-change.invariant.put word size sector d e named place w before is begun turned somes put in
@@ -58,10 +63,13 @@ loop-change-preserved g c = record {
       ];
 }
 
-pub returns-clause-goes : goal.returns-clause-goes
-returns-clause-goes g c = λ word sound. c.loop-change.invariant.goes word sound
+pub returns-clause-asks : goal.returns-clause-asks
+returns-clause-asks g c = λ word size placed within. asks_as {U = Unit {0}} _ (Ok tt) tt _ _ refl (c.loop-change.invariant.asks word size placed within)
 
-pub returns-in_err-put_page-in-Some-clause-goes : goal.returns-in_err-put_page-in-Some-clause-goes
-returns-in_err-put_page-in-Some-clause-goes g c = λ word sound.
-    let before = c.loop-change.invariant.goes word sound in
-    later_then _ _ _ before (c.put_page.ensures.goes (c.loop-change.invariant.word.0 word) before.sound)
+pub returns-in_err-put_page-in-Some-clause-asks : goal.returns-in_err-put_page-in-Some-clause-asks
+returns-in_err-put_page-in-Some-clause-asks g c = λ word size placed within.
+    let full = (placed c.in-Some.k (0, record { ref_ptr = (0, 0); now = [] }) (c.requires.within c.loop-change.change-index c.in-Some.k c.loop-change-test.true c.in-Some.is)).0 in
+    let fits = subst (λ (n : ℕ). (change_at c.args.changes.now c.loop-change.change-index).page * n ≤ most_bytes) (sym full) (within c.loop-change.change-index c.loop-change-test.true) in
+    asks_then {U = Unit {0}} _ (Ok tt) tt _ _ _ refl (c.loop-change.invariant.asks word size placed within)
+    (asks_err c.from_residual.result c.put_page.result _ _ _ c.in_err-put_page-in-Some.was (passed c.from_residual.result _ c.from_residual.ensures.1)
+    (subst (λ (n : ℕ). Asks (MayReplay n) c.put_page.result (g.D.Disk.state c.loop-change.disk) (g.D.Disk.state c.put_page.new.disk)) full (c.put_page.ensures.asks (c.loop-change.invariant.word.0 word) fits)))

@@ -1,9 +1,9 @@
 use Rattle.std.proofs.Common.{◌↔◌, ◌<◌, ℕ, List}
 use Rattle.sqval.specs.Database.{Database}
 use Rattle.sqval.specs.JudgedPages.{lent}
-use Rattle.crashdisk.specs.Call.{IsSoundDisk, InFile}
-use Rattle.crashdisk.specs.declared.file.File.TheVariants.{Db}
-use Rattle.crashdisk.specs.Keeps.{Later}
+use Rattle.std.specs.Prelude.{Ok}
+use Rattle.rollcore.specs.Changes.{MayReplay, Asks}
+use Rattle.rollcore.specs.Commits.{ArePlaced, AreWithin}
 use Rattle.rollcore.specs.Segments.{Journaled, ArePut, AreTurned, AreSome}
 use Rattle.rollcore.proofs.Putting.{Turned}
 use Rattle.rollcore.proofs.segments.put_pages.Given as goal
@@ -11,7 +11,7 @@ use Rattle.rollcore.proofs.segments.put_pages.Given as goal
 abbrev pub invariant-loop-change : goal.invariant-loop-change
 invariant-loop-change g l = record {
   word : g.D.Disk.keeps_word l.fn.disk ↔ g.D.Disk.keeps_word l.disk;
-  goes : g.D.Disk.keeps_word l.fn.disk → IsSoundDisk (g.D.Disk.state l.fn.disk) → Later (InFile Db) (g.D.Disk.state l.fn.disk) (g.D.Disk.state l.disk);
+  asks : g.D.Disk.keeps_word l.fn.disk → (size : ℕ) → ArePlaced size l.pages → AreWithin size l.changes → Asks {T = Unit {0}} (MayReplay size) (Ok tt) (g.D.Disk.state l.fn.disk) (g.D.Disk.state l.disk);
   put : g.D.Disk.keeps_word l.fn.disk → (size sector : ℕ) (d e : Database) (named : List ℕ) (place : ℕ) (w before : List ℕ)
       → Journaled size sector d named place w (g.D.Disk.state l.fn.disk) → (begun : 0 < place) → (turned : AreTurned size e named (lent l.pages) l.changes)
       → (somes : AreSome before) → ArePut size e before (g.D.Disk.state l.fn.disk).db

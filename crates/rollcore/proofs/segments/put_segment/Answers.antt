@@ -11,8 +11,8 @@ use Rattle.sqval.proofs.Answering.{passed}
 use Rattle.rollcore.proofs.Preparing.{harmless_after}
 use Rattle.rollcore.proofs.WholeSegments.{next_of}
 use Rattle.rollcore.proofs.segments.put_segment.Goals as goal
-use Rattle.crashdisk.proofs.Later.{later_then, later_wider}
-use Rattle.rollcore.proofs.Asking.{file_may}
+use Rattle.rollcore.proofs.Asking.{replay_may}
+use Rattle.rollcore.proofs.Told.{asks_as, asks_err, asks_then, asks_wider}
 
 pub returns-in_err-next-clause-segment : goal.returns-in_err-next-clause-segment
 returns-in_err-next-clause-segment g c = λ word d e named w before is fresh more wide head turned somes put.
@@ -70,22 +70,26 @@ returns-clause-segment g c = λ word d e named w before is fresh more wide head 
       omega (arith, ready.2, down.1, all.2),
     )
 
-pub returns-in_err-next-clause-goes : goal.returns-in_err-next-clause-goes
-returns-in_err-next-clause-goes g c = λ word sound wide. c.prepare_segment.ensures.goes word sound
+pub returns-in_err-next-clause-asks : goal.returns-in_err-next-clause-asks
+returns-in_err-next-clause-asks g c = λ word wide placed within.
+    asks_err c.from_residual.result c.prepare_segment.result _ _ _ c.in_err-next.was (passed c.from_residual.result _ c.from_residual.ensures.1) (c.prepare_segment.ensures.asks word)
 
-pub returns-in_err-write_header-clause-goes : goal.returns-in_err-write_header-clause-goes
-returns-in_err-write_header-clause-goes g c = λ word sound wide.
-    let first = c.prepare_segment.ensures.goes word sound in
-    later_then _ _ _ first (c.write_header.ensures.goes (c.prepare_segment.ensures.word.0 word) first.sound wide (length c.args.buffer.now - 8))
+pub returns-in_err-write_header-clause-asks : goal.returns-in_err-write_header-clause-asks
+returns-in_err-write_header-clause-asks g c = λ word wide placed within.
+    asks_then _ c.prepare_segment.result _ _ _ _ c.in_ok-next.was (c.prepare_segment.ensures.asks word)
+    (asks_err c.from_residual-in_err-write_header.result c.write_header.result _ _ _ c.in_err-write_header.was (passed c.from_residual-in_err-write_header.result _ c.from_residual-in_err-write_header.ensures.1)
+    (c.write_header.ensures.asks (c.prepare_segment.ensures.word.0 word) wide (length c.args.buffer.now - 8)))
 
-pub returns-in_err-put_pages-clause-goes : goal.returns-in_err-put_pages-clause-goes
-returns-in_err-put_pages-clause-goes g c = λ word sound wide.
-    let first = c.prepare_segment.ensures.goes word sound in
-    let mid = later_then _ _ _ first (c.write_header.ensures.goes (c.prepare_segment.ensures.word.0 word) first.sound wide (length c.args.buffer.now - 8)) in
-    later_then _ _ _ mid (later_wider _ _ (file_may _ c.args.head.now.sector) (c.put_pages.ensures.goes (c.write_header.ensures.word.0 (c.prepare_segment.ensures.word.0 word)) mid.sound))
+pub returns-in_err-put_pages-clause-asks : goal.returns-in_err-put_pages-clause-asks
+returns-in_err-put_pages-clause-asks g c = λ word wide placed within.
+    asks_then _ c.prepare_segment.result _ _ _ _ c.in_ok-next.was (c.prepare_segment.ensures.asks word)
+    (asks_then _ c.write_header.result _ _ _ _ c.in_ok-write_header.was (c.write_header.ensures.asks (c.prepare_segment.ensures.word.0 word) wide (length c.args.buffer.now - 8))
+    (asks_err c.from_residual-in_err-put_pages.result c.put_pages.result _ _ _ c.in_err-put_pages.was (passed c.from_residual-in_err-put_pages.result _ c.from_residual-in_err-put_pages.ensures.1)
+    (asks_wider c.put_pages.result _ _ (replay_may _ c.args.head.now.sector) (c.put_pages.ensures.asks (c.write_header.ensures.word.0 (c.prepare_segment.ensures.word.0 word)) (length c.args.buffer.now - 8) placed within))))
 
-pub returns-clause-goes : goal.returns-clause-goes
-returns-clause-goes g c = λ word sound wide.
-    let first = c.prepare_segment.ensures.goes word sound in
-    let mid = later_then _ _ _ first (c.write_header.ensures.goes (c.prepare_segment.ensures.word.0 word) first.sound wide (length c.args.buffer.now - 8)) in
-    later_then _ _ _ mid (later_wider _ _ (file_may _ c.args.head.now.sector) (c.put_pages.ensures.goes (c.write_header.ensures.word.0 (c.prepare_segment.ensures.word.0 word)) mid.sound))
+pub returns-clause-asks : goal.returns-clause-asks
+returns-clause-asks g c = λ word wide placed within.
+    asks_then _ c.prepare_segment.result _ _ _ _ c.in_ok-next.was (c.prepare_segment.ensures.asks word)
+    (asks_then _ c.write_header.result _ _ _ _ c.in_ok-write_header.was (c.write_header.ensures.asks (c.prepare_segment.ensures.word.0 word) wide (length c.args.buffer.now - 8))
+    (asks_as _ c.put_pages.result _ _ _ c.in_ok-put_pages.was
+    (asks_wider c.put_pages.result _ _ (replay_may _ c.args.head.now.sector) (c.put_pages.ensures.asks (c.write_header.ensures.word.0 (c.prepare_segment.ensures.word.0 word)) (length c.args.buffer.now - 8) placed within))))

@@ -1,11 +1,14 @@
-use Rattle.std.proofs.Common.{◌≡◌, ◌-◌, ◌∙◌, ◌++◌, ℕ, length, replicate, refl, sym, ap, subst}
-use Rattle.std.specs.Prelude.{Result}
+use Rattle.std.proofs.Common.{◌≡◌, ◌-◌, ◌∙◌, ◌++◌, ℕ, length, replicate, inl, refl, sym, ap, subst, arith}
+use Rattle.std.specs.Prelude.{Result, Ok}
 use Rattle.sqjournal.specs.Header.{header_bytes}
 use Rattle.rollcore.specs.Segments.{HeaderAnswer}
 use Rattle.rollcore.specs.declared.error.RollError.{RollError}
 use Rattle.rollcore.specs.declared.error.RollError.TheVariants.{Device}
 use Rattle.sqval.proofs.Answering.{passed}
+use Rattle.crashdisk.specs.Keeps.{Later}
+use Rattle.rollcore.specs.Changes.{MayCommit}
 use Rattle.rollcore.proofs.Asking.{header_may}
+use Rattle.rollcore.proofs.Told.{asks_device, asks_done, asks_then}
 use Rattle.rollcore.proofs.HeaderSteps.{header_failed, header_unsynced, header_done}
 use Rattle.crashdisk.specs.declared.file.File.TheVariants.{Log}
 use Rattle.rollcore.proofs.segments.write_header.Goals as goal
@@ -35,19 +38,30 @@ returns-clause-header g c = λ word size sector d named part w nonce is wide few
     header_done size sector d named part nonce c.args.place c.args.head.now w c.fill_header.new.header few head c.fill_header.ensures.names padded long _ is c.requires.place _ _ (c.in_ok-write_at.ensures.state word)
     (c.in_ok-sync.ensures.state (c.write_at.ensures.word.0 word))
 
-pub returns-in_err-write_at-clause-goes : goal.returns-in_err-write_at-clause-goes
-returns-in_err-write_at-clause-goes g c = λ word sound wide size.
+pub returns-in_err-write_at-clause-asks : goal.returns-in_err-write_at-clause-asks
+returns-in_err-write_at-clause-asks g c = λ word wide size.
     let padded = c.fill_header.ensures.bytes ∙ ap (λ (n : ℕ). header_bytes c.args.head.now ++ replicate (n - 28) 0) wide in
-    later_write Log c.args.place _ c.write_at.result _ _ (header_may size c.args.head.now.sector c.args.place c.args.head.now _ refl padded) sound (c.write_at.ensures.state word)
+    let wrote = c.write_at.ensures.state word in
+    let first : Later (MayCommit size c.args.head.now.sector) (g.D.Disk.state c.args.disk.now) (g.D.Disk.state c.write_at.new.self) =
+    later_write Log c.args.place _ c.write_at.result _ _ (header_may size c.args.head.now.sector c.args.place c.args.head.now _ refl padded (omega (arith, c.fill_header.auto.header))) (g.met.D.Disk.sound c.args.disk.now word) wrote in
+    asks_device c.from_residual.result _ _ (passed c.from_residual.result Device c.from_residual.ensures.1) first
 
-pub returns-in_err-sync-clause-goes : goal.returns-in_err-sync-clause-goes
-returns-in_err-sync-clause-goes g c = λ word sound wide size.
+pub returns-in_err-sync-clause-asks : goal.returns-in_err-sync-clause-asks
+returns-in_err-sync-clause-asks g c = λ word wide size.
     let padded = c.fill_header.ensures.bytes ∙ ap (λ (n : ℕ). header_bytes c.args.head.now ++ replicate (n - 28) 0) wide in
-    let mid = later_write Log c.args.place _ c.write_at.result _ _ (header_may size c.args.head.now.sector c.args.place c.args.head.now _ refl padded) sound (c.write_at.ensures.state word) in
-    later_then _ _ _ mid (later_sync Log c.sync.result _ _ mid.sound (c.sync.ensures.state (c.write_at.ensures.word.0 word)))
+    let wrote = c.write_at.ensures.state word in
+    let first : Later (MayCommit size c.args.head.now.sector) (g.D.Disk.state c.args.disk.now) (g.D.Disk.state c.write_at.new.self) =
+    later_write Log c.args.place _ c.write_at.result _ _ (header_may size c.args.head.now.sector c.args.place c.args.head.now _ refl padded (omega (arith, c.fill_header.auto.header))) (g.met.D.Disk.sound c.args.disk.now word) wrote in
+    let synced = c.sync.ensures.state (c.write_at.ensures.word.0 word) in
+    let last : Later (MayCommit size c.args.head.now.sector) (g.D.Disk.state c.write_at.new.self) (g.D.Disk.state c.sync.new.self) = later_sync Log c.sync.result _ _ (inl tt) first.sound synced in
+    asks_device c.from_residual-in_err-sync.result _ _ (passed c.from_residual-in_err-sync.result Device c.from_residual-in_err-sync.ensures.1) (later_then _ _ _ first last)
 
-pub returns-clause-goes : goal.returns-clause-goes
-returns-clause-goes g c = λ word sound wide size.
+pub returns-clause-asks : goal.returns-clause-asks
+returns-clause-asks g c = λ word wide size.
     let padded = c.fill_header.ensures.bytes ∙ ap (λ (n : ℕ). header_bytes c.args.head.now ++ replicate (n - 28) 0) wide in
-    let mid = later_write Log c.args.place _ c.write_at.result _ _ (header_may size c.args.head.now.sector c.args.place c.args.head.now _ refl padded) sound (c.write_at.ensures.state word) in
-    later_then _ _ _ mid (later_sync Log c.sync.result _ _ mid.sound (c.sync.ensures.state (c.write_at.ensures.word.0 word)))
+    let wrote = c.write_at.ensures.state word in
+    let first : Later (MayCommit size c.args.head.now.sector) (g.D.Disk.state c.args.disk.now) (g.D.Disk.state c.write_at.new.self) =
+    later_write Log c.args.place _ c.write_at.result _ _ (header_may size c.args.head.now.sector c.args.place c.args.head.now _ refl padded (omega (arith, c.fill_header.auto.header))) (g.met.D.Disk.sound c.args.disk.now word) wrote in
+    let synced = c.sync.ensures.state (c.write_at.ensures.word.0 word) in
+    let last : Later (MayCommit size c.args.head.now.sector) (g.D.Disk.state c.write_at.new.self) (g.D.Disk.state c.sync.new.self) = later_sync Log c.sync.result _ _ (inl tt) first.sound synced in
+    asks_then {U = Unit {0}} (Ok tt) (Ok tt) tt _ _ _ refl (asks_done (Ok tt) c.write_at.result _ _ _ c.in_ok-write_at.was wrote.elsewhere.refused first) (asks_done (Ok tt) c.sync.result _ _ _ c.in_ok-sync.was synced.elsewhere.refused last)

@@ -1,11 +1,14 @@
-use Rattle.std.proofs.Common.{◌≡◌, ◌+◌, ◌-◌, ◌*◌, ◌∙◌, ℕ, length, take, drop, List, ap, arith, subst, length-drop}
+use Rattle.std.proofs.Common.{◌≡◌, ◌+◌, ◌-◌, ◌*◌, ◌∙◌, ℕ, length, take, drop, List, refl, ap, arith, subst, length-drop}
 use Rattle.std.specs.Prelude.{Ok}
 use Rattle.std.proofs.lemmas.List.{length-take-le}
 use Rattle.crashdisk.specs.State.{byte}
 use Rattle.crashdisk.specs.Call.{Writes, Looks}
 use Rattle.crashdisk.specs.declared.file.File.TheVariants.{Log}
 use Rattle.rollcore.specs.Journaling.{record_bytes}
+use Rattle.crashdisk.specs.Keeps.{Later}
+use Rattle.rollcore.specs.Changes.{MayCommit}
 use Rattle.rollcore.proofs.Asking.{record_may}
+use Rattle.rollcore.proofs.Told.{asks_device, asks_done, asks_then}
 use Rattle.rollcore.specs.declared.error.RollError.TheVariants.{Device}
 use Rattle.sqval.proofs.Answering.{passed}
 use Rattle.crashdisk.proofs.Stills.{still_looks}
@@ -59,25 +62,35 @@ returns-clause-record g c = λ word sound fits.
     (λ i lt. c.in_ok-read_at.ensures.bytes word i (omega (arith, full)) ∙ ap (λ (k : ℕ). byte (g.D.Disk.state c.args.disk.now).db (k + i)) place)
     (still_looks _ c.read_at.result _ _ sound (c.read_at.ensures.state word)) tt wrote
 
-pub returns-in_err-read_at-clause-goes : goal.returns-in_err-read_at-clause-goes
-returns-in_err-read_at-clause-goes g c = λ word sound sector. later_still _ _ sound (still_looks _ c.read_at.result _ _ sound (c.read_at.ensures.state word))
+pub returns-in_err-read_at-clause-asks : goal.returns-in_err-read_at-clause-asks
+returns-in_err-read_at-clause-asks g c = λ word sector.
+    let sound = g.met.D.Disk.sound c.args.disk.now word in
+    asks_device c.from_residual.result _ _ (passed c.from_residual.result Device c.from_residual.ensures.1) (later_still _ _ sound (still_looks _ c.read_at.result _ _ sound (c.read_at.ensures.state word)))
 
-pub returns-in_err-write_at-clause-goes : goal.returns-in_err-write_at-clause-goes
-returns-in_err-write_at-clause-goes g c = λ word sound sector.
+pub returns-in_err-write_at-clause-asks : goal.returns-in_err-write_at-clause-asks
+returns-in_err-write_at-clause-asks g c = λ word sector.
+    let sound = g.met.D.Disk.sound c.args.disk.now word in
     let r = c.args.buffer.now in
     let out = c.read_at.new.out in
     let full : length out ≡ length r - 8 = c.read_at.auto.out ∙ length-take-le (length r - 4 - 4) (drop 4 r) (omega (arith, length-drop 4 r)) ∙ (let short : length r - 4 - 4 ≡ length r - 8 = omega arith in short) in
     let all = same_len_mid 4 (length r - 4 - 4) r out c.read_at.auto.out in
     let bytes = c.frame_record.ensures ∙ ap (λ (x : List ℕ). record_bytes c.args.page c.args.nonce x) (middle r out (drop (length r - 4 - 4) (drop 4 r)) (omega arith) (omega (arith, all, full))) in
-    let mid = later_still _ _ sound (still_looks _ c.read_at.result _ _ sound (c.read_at.ensures.state word)) in
-    later_then _ _ _ mid (later_write Log c.args.at _ c.write_at.result _ _ (record_may (length r - 8) sector c.args.at c.args.page c.args.nonce out _ full bytes) mid.sound (c.write_at.ensures.state (c.read_at.ensures.word.0 word)))
+    let looked = c.read_at.ensures.state word in
+    let first : Later (MayCommit (length r - 8) sector) (g.D.Disk.state c.args.disk.now) (g.D.Disk.state c.read_at.new.self) = later_still _ _ sound (still_looks _ c.read_at.result _ _ sound looked) in
+    let wrote = c.write_at.ensures.state (c.read_at.ensures.word.0 word) in
+    let last : Later (MayCommit (length r - 8) sector) (g.D.Disk.state c.read_at.new.self) (g.D.Disk.state c.write_at.new.self) = later_write Log c.args.at _ c.write_at.result _ _ (record_may (length r - 8) sector c.args.at c.args.page c.args.nonce out _ full bytes (omega (arith, c.frame_record.auto.buffer, all))) first.sound wrote in
+    asks_device c.from_residual-in_err-write_at.result _ _ (passed c.from_residual-in_err-write_at.result Device c.from_residual-in_err-write_at.ensures.1) (later_then _ _ _ first last)
 
-pub returns-clause-goes : goal.returns-clause-goes
-returns-clause-goes g c = λ word sound sector.
+pub returns-clause-asks : goal.returns-clause-asks
+returns-clause-asks g c = λ word sector.
+    let sound = g.met.D.Disk.sound c.args.disk.now word in
     let r = c.args.buffer.now in
     let out = c.read_at.new.out in
     let full : length out ≡ length r - 8 = c.read_at.auto.out ∙ length-take-le (length r - 4 - 4) (drop 4 r) (omega (arith, length-drop 4 r)) ∙ (let short : length r - 4 - 4 ≡ length r - 8 = omega arith in short) in
     let all = same_len_mid 4 (length r - 4 - 4) r out c.read_at.auto.out in
     let bytes = c.frame_record.ensures ∙ ap (λ (x : List ℕ). record_bytes c.args.page c.args.nonce x) (middle r out (drop (length r - 4 - 4) (drop 4 r)) (omega arith) (omega (arith, all, full))) in
-    let mid = later_still _ _ sound (still_looks _ c.read_at.result _ _ sound (c.read_at.ensures.state word)) in
-    later_then _ _ _ mid (later_write Log c.args.at _ c.write_at.result _ _ (record_may (length r - 8) sector c.args.at c.args.page c.args.nonce out _ full bytes) mid.sound (c.write_at.ensures.state (c.read_at.ensures.word.0 word)))
+    let looked = c.read_at.ensures.state word in
+    let first : Later (MayCommit (length r - 8) sector) (g.D.Disk.state c.args.disk.now) (g.D.Disk.state c.read_at.new.self) = later_still _ _ sound (still_looks _ c.read_at.result _ _ sound looked) in
+    let wrote = c.write_at.ensures.state (c.read_at.ensures.word.0 word) in
+    let last : Later (MayCommit (length r - 8) sector) (g.D.Disk.state c.read_at.new.self) (g.D.Disk.state c.write_at.new.self) = later_write Log c.args.at _ c.write_at.result _ _ (record_may (length r - 8) sector c.args.at c.args.page c.args.nonce out _ full bytes (omega (arith, c.frame_record.auto.buffer, all))) first.sound wrote in
+    asks_then {U = Unit {0}} (Ok tt) (Ok tt) tt _ _ _ refl (asks_done (Ok tt) c.read_at.result _ _ _ c.in_ok-read_at.was looked.refused first) (asks_done (Ok tt) c.write_at.result _ _ _ c.in_ok-write_at.was wrote.elsewhere.refused last)

@@ -1,21 +1,20 @@
-use Rattle.std.proofs.Common.{◌≡◌, ◌<◌, ◌≤◌, ◌+◌, ◌-◌, ◌*◌, ◌∙◌, ℕ, length, sym, ap, subst, arith, rules}
+use Rattle.std.proofs.Common.{◌≡◌, ◌<◌, ◌≤◌, ◌+◌, ◌-◌, ◌*◌, ◌∙◌, ℕ, length, refl, sym, ap, subst, arith, rules}
 use Rattle.std.proofs.lemmas.List.{length-map}
 use Rattle.sqval.specs.CommitFaults.{most_bytes}
-use Rattle.crashdisk.specs.Keeps.{Later}
-use Rattle.rollcore.specs.Changes.{MayChange}
+use Rattle.rollcore.specs.Changes.{MayCommit, Asks}
+use Rattle.rollcore.proofs.Told.{asks_same, asks_as, asks_err, asks_then}
 use Rattle.rollcore.specs.Segments.{RecordStep, RecordsAnswer, pages_of}
-use Rattle.std.specs.Prelude.{None}
+use Rattle.std.specs.Prelude.{None, Ok}
 use Rattle.rollcore.specs.Commits.{change_at}
 use Rattle.rollcore.specs.declared.changes.Change.{Change}
 use Rattle.sqval.proofs.Answering.{passed}
 use Rattle.rollcore.proofs.Recorded.{gone_none, gone_on, gone_off, gone_fits, page_in, gone_end}
 use Rattle.rollcore.proofs.segments.write_records.Goals as goal
-use Rattle.crashdisk.proofs.Later.{later_same, later_then}
 
 pub loop-change-init : goal.loop-change-init
 loop-change-init g c = record {
   word = search rules;
-  goes = λ word sound sector. later_same _ sound;
+  asks = λ word sector. asks_same _ _ (g.met.D.Disk.sound c.args.disk.now word);
   end = omega arith;
   going = λ word sector d named place w is at fresh. gone_none _ sector d named place w (pages_of c.args.changes.now) c.args.nonce c.args.at (g.D.Disk.state c.args.disk.now) at is;
 }
@@ -23,11 +22,10 @@ loop-change-init g c = record {
 pub loop-change-preserved : goal.loop-change-preserved
 loop-change-preserved g c = record {
   word = search rules;
-  goes = λ word sound sector.
-      let before = c.loop-change.invariant.goes word sound sector in
-      later_then _ _ _ before
-      (subst (λ (k : ℕ). Later (MayChange (k - 8) sector) (g.D.Disk.state c.loop-change.disk) (g.D.Disk.state c.write_record.new.disk)) c.loop-change.auto.buffer
-      (c.write_record.ensures.goes (c.loop-change.invariant.word.0 word) before.sound sector));
+  asks = λ word sector.
+      asks_then {U = Unit {0}} (Ok tt) (Ok tt) tt _ _ _ refl (c.loop-change.invariant.asks word sector) (asks_as (Ok tt) c.write_record.result _ _ _ c.in_ok-write_record.was
+      (subst (λ (k : ℕ). Asks (MayCommit (k - 8) sector) c.write_record.result (g.D.Disk.state c.loop-change.disk) (g.D.Disk.state c.write_record.new.disk)) c.loop-change.auto.buffer
+      (c.write_record.ensures.asks (c.loop-change.invariant.word.0 word) sector)));
   end =
       let so_far : c.loop-change.end ≡ c.args.at + c.loop-change.change-index * length c.write_record.new.buffer = c.loop-change.invariant.end ∙ ap (λ (n : ℕ). c.args.at + c.loop-change.change-index * n) (sym c.write_record.auto.buffer) in
       omega arith;
@@ -61,12 +59,11 @@ returns-in_err-write_record-clause-records g c = λ word sector d named place w 
     (c.write_record.ensures.record (c.loop-change.invariant.word.0 word) gone.recorded.recording.at.suits.sound (subst (λ (k : ℕ). (change_at c.args.changes.now c.loop-change.change-index).page * k ≤ most_bytes) (sym same) fits)))
     (λ x. RecordsAnswer n sector d named place w (pages_of c.args.changes.now) c.args.nonce x (g.D.Disk.state c.args.disk.now) (g.D.Disk.state c.write_record.new.disk)) (λ off. off)
 
-pub returns-clause-goes : goal.returns-clause-goes
-returns-clause-goes g c = λ word sound sector. c.loop-change.invariant.goes word sound sector
+pub returns-clause-asks : goal.returns-clause-asks
+returns-clause-asks g c = λ word sector. asks_as {U = Unit {0}} _ (Ok tt) tt _ _ refl (c.loop-change.invariant.asks word sector)
 
-pub returns-in_err-write_record-clause-goes : goal.returns-in_err-write_record-clause-goes
-returns-in_err-write_record-clause-goes g c = λ word sound sector.
-    let before = c.loop-change.invariant.goes word sound sector in
-    later_then _ _ _ before
-    (subst (λ (k : ℕ). Later (MayChange (k - 8) sector) (g.D.Disk.state c.loop-change.disk) (g.D.Disk.state c.write_record.new.disk)) c.loop-change.auto.buffer
-    (c.write_record.ensures.goes (c.loop-change.invariant.word.0 word) before.sound sector))
+pub returns-in_err-write_record-clause-asks : goal.returns-in_err-write_record-clause-asks
+returns-in_err-write_record-clause-asks g c = λ word sector.
+    asks_then {U = Unit {0}} _ (Ok tt) tt _ _ _ refl (c.loop-change.invariant.asks word sector) (asks_err c.from_residual.result c.write_record.result _ _ _ c.in_err-write_record.was (passed c.from_residual.result _ c.from_residual.ensures.1)
+    (subst (λ (k : ℕ). Asks (MayCommit (k - 8) sector) c.write_record.result (g.D.Disk.state c.loop-change.disk) (g.D.Disk.state c.write_record.new.disk)) c.loop-change.auto.buffer
+    (c.write_record.ensures.asks (c.loop-change.invariant.word.0 word) sector)))

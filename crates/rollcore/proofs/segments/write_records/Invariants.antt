@@ -1,8 +1,7 @@
 use Rattle.std.proofs.Common.{◌≡◌, ◌↔◌, ◌+◌, ◌-◌, ◌*◌, ℕ, List, length}
 use Rattle.sqval.specs.Database.{Database}
-use Rattle.crashdisk.specs.Call.{IsSoundDisk}
-use Rattle.crashdisk.specs.Keeps.{Later}
-use Rattle.rollcore.specs.Changes.{MayChange}
+use Rattle.std.specs.Prelude.{Ok}
+use Rattle.rollcore.specs.Changes.{MayCommit, Asks}
 use Rattle.rollcore.specs.Segments.{Recording, pages_of, AreFresh}
 use Rattle.rollcore.proofs.Recorded.{GoneTo}
 use Rattle.rollcore.proofs.segments.write_records.Given as goal
@@ -10,7 +9,7 @@ use Rattle.rollcore.proofs.segments.write_records.Given as goal
 abbrev pub invariant-loop-change : goal.invariant-loop-change
 invariant-loop-change g l = record {
   word : g.D.Disk.keeps_word l.fn.disk ↔ g.D.Disk.keeps_word l.disk;
-  goes : g.D.Disk.keeps_word l.fn.disk → IsSoundDisk (g.D.Disk.state l.fn.disk) → (sector : ℕ) → Later (MayChange (length l.fn.buffer - 8) sector) (g.D.Disk.state l.fn.disk) (g.D.Disk.state l.disk);
+  asks : g.D.Disk.keeps_word l.fn.disk → (sector : ℕ) → Asks {T = Unit {0}} (MayCommit (length l.fn.buffer - 8) sector) (Ok tt) (g.D.Disk.state l.fn.disk) (g.D.Disk.state l.disk);
   end : l.end ≡ l.fn.at + l.change-index * length l.buffer;
   going : g.D.Disk.keeps_word l.fn.disk → (sector : ℕ) (d : Database) (named : List ℕ) (place : ℕ) (w : List ℕ)
       → Recording (length l.fn.buffer - 8) sector d named place w (g.D.Disk.state l.fn.disk) → l.fn.at ≡ place + sector → AreFresh d named (pages_of l.changes)

@@ -7,7 +7,9 @@ use Rattle.walcore.proofs.Looking.{scanning_shows, scanning_syncs}
 use Rattle.walcore.proofs.Agreeing.{agrees_by}
 use Rattle.crashdisk.proofs.Down.{down_syncs}
 use Rattle.walcore.proofs.Lengths.{ends_down, length_syncs}
-use Rattle.crashdisk.proofs.Later.{later_same, later_sync, later_then}
+use Rattle.std.proofs.Common.{arith}
+use Rattle.crashdisk.proofs.Later.{later_same, later_then}
+use Rattle.walcore.proofs.ToldRefusals.{called_quiet, tells_then}
 use Rattle.walcore.proofs.Changes.{fold_sync}
 use Rattle.walcore.proofs.folding.fold.Goals as goal
 
@@ -68,13 +70,20 @@ returns-clause-synced g c = λ word whole.
           (c.fold_synced.ensures.folds next (synced_empty (g.D.Disk.state c.args.disk.now) (g.D.Disk.state c.sync.new.self) suits.sound (c.in_ok-sync.ensures.state word))) (c.fold_synced.ensures.agrees next);
     }
 
-pub returns-in_err-judge_sector-clause-later : goal.returns-in_err-judge_sector-clause-later
-returns-in_err-judge_sector-clause-later g c = λ word. later_same _ (c.judge_sector.ensures.sound word)
+pub returns-in_err-judge_sector-clause-calls : goal.returns-in_err-judge_sector-clause-calls
+returns-in_err-judge_sector-clause-calls g c = λ word. record { later = later_same _ (c.judge_sector.ensures.sound word); told = λ more. absurd (omega (arith, more)) }
 
-pub returns-in_err-sync-clause-later : goal.returns-in_err-sync-clause-later
-returns-in_err-sync-clause-later g c = λ word. later_sync Log c.sync.result _ _ (c.judge_sector.ensures.sound word) (c.sync.ensures.state word)
+pub returns-in_err-sync-clause-calls : goal.returns-in_err-sync-clause-calls
+returns-in_err-sync-clause-calls g c = λ word. record {
+  later = fold_sync c.args.page_size Log c.sync.result (g.D.Disk.state c.args.disk.now) (g.D.Disk.state c.sync.new.self) (c.judge_sector.ensures.sound word) (c.sync.ensures.state word);
+  told = λ more. passed c.from_residual-in_err-sync.result Device c.from_residual-in_err-sync.ensures.1;
+}
 
-pub returns-clause-later : goal.returns-clause-later
-returns-clause-later g c = λ word.
-    let mid = fold_sync Log c.sync.result _ _ (c.judge_sector.ensures.sound word) (c.sync.ensures.state word) in
-    later_then _ _ _ mid (c.fold_synced.ensures.later (c.sync.ensures.word.0 word))
+pub returns-clause-calls : goal.returns-clause-calls
+returns-clause-calls g c = λ word.
+    let mid = fold_sync c.args.page_size Log c.sync.result (g.D.Disk.state c.args.disk.now) (g.D.Disk.state c.sync.new.self) (c.judge_sector.ensures.sound word) (c.sync.ensures.state word) in
+    let folded = c.fold_synced.ensures.calls (c.sync.ensures.word.0 word) in
+    record {
+      later = later_then (g.D.Disk.state c.args.disk.now) (g.D.Disk.state c.sync.new.self) (g.D.Disk.state c.fold_synced.new.disk) mid folded.later;
+      told = tells_then c.fold_synced.result (g.D.Disk.state c.args.disk.now) (g.D.Disk.state c.sync.new.self) (g.D.Disk.state c.fold_synced.new.disk) (called_quiet c.sync.result _ (g.D.Disk.state c.args.disk.now) (g.D.Disk.state c.sync.new.self) c.in_ok-sync.was (c.sync.ensures.state word).elsewhere.refused) folded.told;
+    }

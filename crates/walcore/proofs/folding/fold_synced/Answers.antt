@@ -1,11 +1,14 @@
-use Rattle.std.proofs.Common.{◌≡◌, refl, sym, ◌∙◌, ap}
+use Rattle.std.proofs.Common.{◌≡◌, refl, sym, ◌∙◌, ap, arith}
 use Rattle.crashdisk.specs.State.{FileState}
 use Rattle.crashdisk.proofs.Stills.{present_in, still_looks, still_sound, still}
 use Rattle.walcore.proofs.Recovering.{fold_empty, fold_looked, fits_still}
 use Rattle.walcore.proofs.Looking.{scanning_shows, scanning_looks}
 use Rattle.walcore.proofs.Agreeing.{agrees_by}
 use Rattle.walcore.proofs.Lengths.{ends_down, down_still, length_still}
-use Rattle.crashdisk.proofs.Later.{later_then, later_still}
+use Rattle.crashdisk.proofs.Later.{later_then, later_same, later_still}
+use Rattle.sqval.proofs.Answering.{passed}
+use Rattle.walcore.specs.declared.error.WalError.TheVariants.{Device}
+use Rattle.walcore.proofs.ToldRefusals.{called_quiet, tells_then}
 use Rattle.walcore.proofs.folding.fold_synced.Goals as goal
 
 pub returns-in_err-long-clause-agrees : goal.returns-in_err-long-clause-agrees
@@ -62,21 +65,41 @@ returns-clause-lengths g c = λ word w n down len.
     let long : (g.D.Disk.state c.len.new.self).log.len ≡ c.in_ok-long.long = ap (λ (s : FileState). s.len) is.log ∙ sym (c.in_ok-long.ensures.answer word) in
     c.fold_log.ensures.lengths (c.len.ensures.word.0 word) (still_sound _ _ suits.sound is) long w n (down_still w _ _ is down) (length_still c.args.page_size w n _ _ is len)
 
-pub returns-in_err-judge_sector-clause-later : goal.returns-in_err-judge_sector-clause-later
-returns-in_err-judge_sector-clause-later g c = λ word. let sound = c.judge_sector.ensures.sound word in later_still _ _ sound (still _ sound)
+pub returns-in_err-judge_sector-clause-calls : goal.returns-in_err-judge_sector-clause-calls
+returns-in_err-judge_sector-clause-calls g c = λ word. record { later = later_same _ (c.judge_sector.ensures.sound word); told = λ more. absurd (omega (arith, more)) }
 
-pub returns-in_err-long-clause-later : goal.returns-in_err-long-clause-later
-returns-in_err-long-clause-later g c = λ word.
+pub returns-in_err-long-clause-calls : goal.returns-in_err-long-clause-calls
+returns-in_err-long-clause-calls g c = λ word.
     let sound = c.judge_sector.ensures.sound word in
-    later_still _ _ sound (still_looks _ c.len.result _ _ sound (c.len.ensures.state word))
+    record { later = later_still _ _ sound (still_looks _ c.len.result _ _ sound (c.len.ensures.state word)); told = λ more. passed c.from_residual-in_err-long.result Device c.from_residual-in_err-long.ensures.1 }
 
-pub returns-then-long-eq0-clause-later : goal.returns-then-long-eq0-clause-later
-returns-then-long-eq0-clause-later g c = λ word.
+pub returns-then-long-eq0-clause-calls : goal.returns-then-long-eq0-clause-calls
+returns-then-long-eq0-clause-calls g c = λ word.
     let sound = c.judge_sector.ensures.sound word in
-    later_still _ _ sound (still_looks _ c.len.result _ _ sound (c.len.ensures.state word))
+    record {
+      later = later_still _ _ sound (still_looks _ c.len.result _ _ sound (c.len.ensures.state word));
+      told = λ more. absurd (called_quiet c.len.result _ (g.D.Disk.state c.args.disk.now) (g.D.Disk.state c.len.new.self) c.in_ok-long.was (c.len.ensures.state word).refused more);
+    }
 
-pub returns-clause-later : goal.returns-clause-later
-returns-clause-later g c = λ word.
+pub returns-clause-calls : goal.returns-clause-calls
+returns-clause-calls g c = λ word.
     let sound = c.judge_sector.ensures.sound word in
-    let is = still_looks _ c.len.result _ _ sound (c.len.ensures.state word) in
-    later_then _ _ _ (later_still _ _ sound is) (c.fold_log.ensures.later (c.len.ensures.word.0 word) (still_sound _ _ sound is))
+    let is = still_looks _ c.len.result (g.D.Disk.state c.args.disk.now) (g.D.Disk.state c.len.new.self) sound (c.len.ensures.state word) in
+    let long : (g.D.Disk.state c.len.new.self).log.len ≡ c.in_ok-long.long = ap (λ (s : FileState). s.len) is.log ∙ sym (c.in_ok-long.ensures.answer word) in
+    let folded = c.fold_log.ensures.calls (c.len.ensures.word.0 word) (still_sound _ _ sound is) long in
+    record {
+      later = later_then (g.D.Disk.state c.args.disk.now) (g.D.Disk.state c.len.new.self) (g.D.Disk.state c.fold_log.new.disk) (later_still (g.D.Disk.state c.args.disk.now) (g.D.Disk.state c.len.new.self) sound is) folded.later;
+      told = tells_then c.fold_log.result (g.D.Disk.state c.args.disk.now) (g.D.Disk.state c.len.new.self) (g.D.Disk.state c.fold_log.new.disk) (called_quiet c.len.result _ (g.D.Disk.state c.args.disk.now) (g.D.Disk.state c.len.new.self) c.in_ok-long.was (c.len.ensures.state word).refused) folded.told;
+    }
+
+pub returns-in_err-judge_sector-clause-empty : goal.returns-in_err-judge_sector-clause-empty
+returns-in_err-judge_sector-clause-empty g c = λ word zero. still _ (c.judge_sector.ensures.sound word)
+
+pub returns-in_err-long-clause-empty : goal.returns-in_err-long-clause-empty
+returns-in_err-long-clause-empty g c = λ word zero. still_looks _ c.len.result _ _ (c.judge_sector.ensures.sound word) (c.len.ensures.state word)
+
+pub returns-then-long-eq0-clause-empty : goal.returns-then-long-eq0-clause-empty
+returns-then-long-eq0-clause-empty g c = λ word zero. still_looks _ c.len.result _ _ (c.judge_sector.ensures.sound word) (c.len.ensures.state word)
+
+pub returns-clause-empty : goal.returns-clause-empty
+returns-clause-empty g c = λ word zero. absurd (c.if-long-eq0.false (c.in_ok-long.ensures.answer word ∙ zero))

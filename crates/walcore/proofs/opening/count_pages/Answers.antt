@@ -1,6 +1,10 @@
-use Rattle.std.proofs.Common.{◌∙◌, sym, subst, arith}
+use Rattle.std.proofs.Common.{◌∙◌, ℕ, sym, subst, arith}
 use Rattle.sqval.specs.PageSize.{IsPageSize}
 use Rattle.sqval.proofs.FilePages.{count_zero, count_rest}
+use Rattle.walcore.proofs.ToldRefusals.{tells_ok}
+use Rattle.std.specs.Prelude.{Err}
+use Rattle.walcore.specs.declared.error.WalError.TheVariants.{TooLarge, PageSize, Device}
+use Rattle.sqval.proofs.Answering.{passed}
 use Rattle.walcore.proofs.opening.count_pages.Goals.{then-long-eq0-via-then-long-eq0, then-long-eq0-via-else-long-eq0+then-long-size-ne0}
 use Rattle.crashdisk.proofs.Stills.{still_looks}
 use Rattle.walcore.proofs.opening.count_pages.Goals as goal
@@ -25,3 +29,15 @@ returns-then-long-eq0-clause-still g c = λ word sound. still_looks _ c.len.resu
 
 pub returns-clause-still : goal.returns-clause-still
 returns-clause-still g c = λ word sound. still_looks _ c.len.result _ _ sound (c.len.ensures.state word)
+
+pub returns-then-long-gt-MOST_BYTES-clause-told : goal.returns-then-long-gt-MOST_BYTES-clause-told
+returns-then-long-gt-MOST_BYTES-clause-told g c = λ word. tells_ok {T = ℕ} (Err TooLarge) c.len.result _ (g.D.Disk.state c.args.disk.now) (g.D.Disk.state c.len.new.self) c.in_ok-long.was (c.len.ensures.state word).refused
+
+pub returns-then-long-eq0-clause-told : goal.returns-then-long-eq0-clause-told
+returns-then-long-eq0-clause-told g c = λ word. tells_ok {T = ℕ} (Err PageSize) c.len.result _ (g.D.Disk.state c.args.disk.now) (g.D.Disk.state c.len.new.self) c.in_ok-long.was (c.len.ensures.state word).refused
+
+pub returns-clause-told : goal.returns-clause-told
+returns-clause-told g c = λ word. tells_ok _ c.len.result _ (g.D.Disk.state c.args.disk.now) (g.D.Disk.state c.len.new.self) c.in_ok-long.was (c.len.ensures.state word).refused
+
+pub returns-in_err-long-clause-told : goal.returns-in_err-long-clause-told
+returns-in_err-long-clause-told g c = λ word more. passed c.from_residual.result Device c.from_residual.ensures.1

@@ -7,6 +7,7 @@ use Rattle.crashdisk.proofs.Stills.{present_in, still_looks, still_sound, still_
 use Rattle.walcore.proofs.Recovering.{fits_still, read_plans}
 use Rattle.walcore.proofs.Lengths.{front_none}
 use Rattle.walcore.proofs.Files.{front_unlooked, front_unread}
+use Rattle.walcore.proofs.ToldRefusals.{called_quiet, tells_then, tells_quiet, passes_device}
 use Rattle.walcore.proofs.opening.judge_front.Goals as goal
 
 pub returns-in_err-long-clause-judged : goal.returns-in_err-long-clause-judged
@@ -52,3 +53,16 @@ returns-clause-judged g c = λ word sound fits w are none.
 
 pub returns-in_err-long-clause-still : goal.returns-in_err-long-clause-still
 returns-in_err-long-clause-still g c = λ word sound. still_looks _ c.len.result _ _ sound (c.len.ensures.state word)
+
+pub returns-in_err-long-clause-told : goal.returns-in_err-long-clause-told
+returns-in_err-long-clause-told g c = λ word more. passed c.from_residual.result Device c.from_residual.ensures.1
+
+pub returns-in_err-plan-clause-told : goal.returns-in_err-plan-clause-told
+returns-in_err-plan-clause-told g c = λ word more. passes_device c.read_plan.result c.from_residual-in_err-plan.result _ c.in_err-plan.was c.from_residual-in_err-plan.ensures.1
+    (tells_then c.read_plan.result (g.D.Disk.state c.args.disk.now) (g.D.Disk.state c.len.new.self) (g.D.Disk.state c.read_plan.new.disk) (called_quiet c.len.result _ (g.D.Disk.state c.args.disk.now) (g.D.Disk.state c.len.new.self) c.in_ok-long.was (c.len.ensures.state word).refused) (c.read_plan.ensures.told (c.len.ensures.word.0 word)) more)
+
+pub returns-then-plan-eq0-clause-told : goal.returns-then-plan-eq0-clause-told
+returns-then-plan-eq0-clause-told g c = λ word more. absurd (tells_quiet c.read_plan.result _ (g.D.Disk.state c.args.disk.now) (g.D.Disk.state c.len.new.self) (g.D.Disk.state c.read_plan.new.disk) c.in_ok-plan.was (called_quiet c.len.result _ (g.D.Disk.state c.args.disk.now) (g.D.Disk.state c.len.new.self) c.in_ok-long.was (c.len.ensures.state word).refused) (c.read_plan.ensures.told (c.len.ensures.word.0 word)) more)
+
+pub returns-clause-told : goal.returns-clause-told
+returns-clause-told g c = λ word more. absurd (tells_quiet c.read_plan.result _ (g.D.Disk.state c.args.disk.now) (g.D.Disk.state c.len.new.self) (g.D.Disk.state c.read_plan.new.disk) c.in_ok-plan.was (called_quiet c.len.result _ (g.D.Disk.state c.args.disk.now) (g.D.Disk.state c.len.new.self) c.in_ok-long.was (c.len.ensures.state word).refused) (c.read_plan.ensures.told (c.len.ensures.word.0 word)) more)

@@ -8,6 +8,7 @@ use Rattle.walcore.proofs.Lengths.{down_still}
 use Rattle.walcore.proofs.Agreed.{alone_still, agrees_then, agrees_synced, agrees_after, agrees_looked, synced_empty, still_empty, folded_empty, on_ok}
 use Rattle.walcore.proofs.Unopened.{whole_synced, files_synced, files_looked, unjudged, unfolded, uncounted, may_open}
 use Rattle.walcore.proofs.Foremost.{unsynced, synced_first}
+use Rattle.walcore.proofs.ToldRefusals.{called_quiet, tells_quiet, tells_then, passes_device}
 use Rattle.walcore.proofs.opening.recover.Goals as goal
 
 pub returns-in_err-sync-clause-recovered : goal.returns-in_err-sync-clause-recovered
@@ -32,7 +33,7 @@ returns-in_err-fold_synced-clause-recovered g c = λ word past found are same fi
     let ready = ready_still past found (g.D.Disk.state c.args.disk.now) fits are chance (g.D.Disk.state c.sync.new.self) (g.D.Disk.state c.judge_file.new.disk) first (c.judge_file.ensures.still next first.later.sound) in
     let files = synced_files past found (g.D.Disk.state c.args.disk.now) fits are chance (g.D.Disk.state c.judge_file.new.disk) ready in
     recover_unfolded past found (g.D.Disk.state c.args.disk.now) fits are chance (g.D.Disk.state c.judge_file.new.disk) ready c.args.page_size same (g.D.Disk.state c.fold_synced.new.disk)
-    (c.fold_synced.ensures.later then) (c.fold_synced.ensures.agrees then) (c.fold_synced.ensures.lengths then) _ c.fold_synced.result c.from_residual-in_err-fold_synced.result c.in_err-fold_synced.was
+    (c.fold_synced.ensures.calls then).later (c.fold_synced.ensures.agrees then) (c.fold_synced.ensures.lengths then) _ c.fold_synced.result c.from_residual-in_err-fold_synced.result c.in_err-fold_synced.was
     (c.fold_synced.ensures.folds then files.empty found.db found.log files.db files.log) (passed c.from_residual-in_err-fold_synced.result _ c.from_residual-in_err-fold_synced.ensures.1)
 
 pub returns-clause-recovered : goal.returns-clause-recovered
@@ -43,32 +44,32 @@ returns-clause-recovered g c = λ word past found are same fits chance.
     let ready = ready_still past found (g.D.Disk.state c.args.disk.now) fits are chance (g.D.Disk.state c.sync.new.self) (g.D.Disk.state c.judge_file.new.disk) first (c.judge_file.ensures.still next first.later.sound) in
     let files = synced_files past found (g.D.Disk.state c.args.disk.now) fits are chance (g.D.Disk.state c.judge_file.new.disk) ready in
     let last = c.fold_synced.ensures.word.0 then in
-    let later = c.fold_synced.ensures.later then in
+    let later = (c.fold_synced.ensures.calls then).later in
     recover_counted past found (g.D.Disk.state c.args.disk.now) fits are chance (g.D.Disk.state c.judge_file.new.disk) ready c.args.page_size same (g.D.Disk.state c.fold_synced.new.disk)
     later (c.fold_synced.ensures.agrees then) (c.fold_synced.ensures.lengths then) _ c.fold_synced.result c.in_ok-fold_synced.was
     (c.fold_synced.ensures.folds then files.empty found.db found.log files.db files.log) (g.D.Disk.state c.count_pages.new.disk) (c.count_pages.ensures.still last later.sound) c.count_pages.result (c.count_pages.ensures.count last later.sound)
 
 pub returns-in_err-sync-clause-later : goal.returns-in_err-sync-clause-later
-returns-in_err-sync-clause-later g c = λ word sound. fold_sync Log c.sync.result (g.D.Disk.state c.args.disk.now) (g.D.Disk.state c.sync.new.self) sound (c.sync.ensures.state word)
+returns-in_err-sync-clause-later g c = λ word sound. fold_sync c.args.page_size Log c.sync.result (g.D.Disk.state c.args.disk.now) (g.D.Disk.state c.sync.new.self) sound (c.sync.ensures.state word)
 
 pub returns-in_err-judge_file-clause-later : goal.returns-in_err-judge_file-clause-later
 returns-in_err-judge_file-clause-later g c = λ word sound.
-    let first = fold_sync Log c.sync.result (g.D.Disk.state c.args.disk.now) (g.D.Disk.state c.sync.new.self) sound (c.sync.ensures.state word) in
+    let first = fold_sync c.args.page_size Log c.sync.result (g.D.Disk.state c.args.disk.now) (g.D.Disk.state c.sync.new.self) sound (c.sync.ensures.state word) in
     later_then (g.D.Disk.state c.args.disk.now) (g.D.Disk.state c.sync.new.self) (g.D.Disk.state c.judge_file.new.disk) first (later_still (g.D.Disk.state c.sync.new.self) (g.D.Disk.state c.judge_file.new.disk) first.sound (c.judge_file.ensures.still (c.sync.ensures.word.0 word) first.sound))
 
 pub returns-in_err-fold_synced-clause-later : goal.returns-in_err-fold_synced-clause-later
 returns-in_err-fold_synced-clause-later g c = λ word sound.
     let next = c.sync.ensures.word.0 word in
-    let first = fold_sync Log c.sync.result (g.D.Disk.state c.args.disk.now) (g.D.Disk.state c.sync.new.self) sound (c.sync.ensures.state word) in
+    let first = fold_sync c.args.page_size Log c.sync.result (g.D.Disk.state c.args.disk.now) (g.D.Disk.state c.sync.new.self) sound (c.sync.ensures.state word) in
     let second = later_then (g.D.Disk.state c.args.disk.now) (g.D.Disk.state c.sync.new.self) (g.D.Disk.state c.judge_file.new.disk) first (later_still (g.D.Disk.state c.sync.new.self) (g.D.Disk.state c.judge_file.new.disk) first.sound (c.judge_file.ensures.still next first.sound)) in
-    later_then (g.D.Disk.state c.args.disk.now) (g.D.Disk.state c.judge_file.new.disk) (g.D.Disk.state c.fold_synced.new.disk) second (c.fold_synced.ensures.later (c.judge_file.ensures.word.0 next))
+    later_then (g.D.Disk.state c.args.disk.now) (g.D.Disk.state c.judge_file.new.disk) (g.D.Disk.state c.fold_synced.new.disk) second (c.fold_synced.ensures.calls (c.judge_file.ensures.word.0 next)).later
 
 pub returns-clause-later : goal.returns-clause-later
 returns-clause-later g c = λ word sound.
     let next = c.sync.ensures.word.0 word in
     let then = c.judge_file.ensures.word.0 next in
-    let later = c.fold_synced.ensures.later then in
-    let first = fold_sync Log c.sync.result (g.D.Disk.state c.args.disk.now) (g.D.Disk.state c.sync.new.self) sound (c.sync.ensures.state word) in
+    let later = (c.fold_synced.ensures.calls then).later in
+    let first = fold_sync c.args.page_size Log c.sync.result (g.D.Disk.state c.args.disk.now) (g.D.Disk.state c.sync.new.self) sound (c.sync.ensures.state word) in
     let second = later_then (g.D.Disk.state c.args.disk.now) (g.D.Disk.state c.sync.new.self) (g.D.Disk.state c.judge_file.new.disk) first (later_still (g.D.Disk.state c.sync.new.self) (g.D.Disk.state c.judge_file.new.disk) first.sound (c.judge_file.ensures.still next first.sound)) in
     later_then (g.D.Disk.state c.args.disk.now) (g.D.Disk.state c.judge_file.new.disk) (g.D.Disk.state c.count_pages.new.disk) second
     (later_then (g.D.Disk.state c.judge_file.new.disk) (g.D.Disk.state c.fold_synced.new.disk) (g.D.Disk.state c.count_pages.new.disk) later
@@ -79,7 +80,7 @@ returns-in_err-sync-clause-agrees g c = λ word sound. agrees_synced c.args.page
 
 pub returns-in_err-judge_file-clause-agrees : goal.returns-in_err-judge_file-clause-agrees
 returns-in_err-judge_file-clause-agrees g c = λ word sound.
-    let first = fold_sync Log c.sync.result (g.D.Disk.state c.args.disk.now) (g.D.Disk.state c.sync.new.self) sound (c.sync.ensures.state word) in
+    let first = fold_sync c.args.page_size Log c.sync.result (g.D.Disk.state c.args.disk.now) (g.D.Disk.state c.sync.new.self) sound (c.sync.ensures.state word) in
     agrees_then c.args.page_size (g.D.Disk.state c.args.disk.now) (g.D.Disk.state c.sync.new.self) (g.D.Disk.state c.judge_file.new.disk)
     (agrees_synced c.args.page_size c.sync.result (g.D.Disk.state c.args.disk.now) (g.D.Disk.state c.sync.new.self) sound (c.sync.ensures.state word))
     (λ d alone. alone_still c.args.page_size d (g.D.Disk.state c.sync.new.self) (g.D.Disk.state c.judge_file.new.disk) first.sound (c.judge_file.ensures.still (c.sync.ensures.word.0 word) first.sound) alone)
@@ -87,7 +88,7 @@ returns-in_err-judge_file-clause-agrees g c = λ word sound.
 pub returns-in_err-fold_synced-clause-agrees : goal.returns-in_err-fold_synced-clause-agrees
 returns-in_err-fold_synced-clause-agrees g c = λ word sound.
     let next = c.sync.ensures.word.0 word in
-    let first = fold_sync Log c.sync.result (g.D.Disk.state c.args.disk.now) (g.D.Disk.state c.sync.new.self) sound (c.sync.ensures.state word) in
+    let first = fold_sync c.args.page_size Log c.sync.result (g.D.Disk.state c.args.disk.now) (g.D.Disk.state c.sync.new.self) sound (c.sync.ensures.state word) in
     agrees_after c.args.page_size c.sync.result (g.D.Disk.state c.args.disk.now) (g.D.Disk.state c.sync.new.self) (g.D.Disk.state c.fold_synced.new.disk) sound (c.sync.ensures.state word)
     (agrees_looked c.args.page_size (g.D.Disk.state c.sync.new.self) (g.D.Disk.state c.judge_file.new.disk) (g.D.Disk.state c.fold_synced.new.disk) first.sound (c.judge_file.ensures.still next first.sound) (c.fold_synced.ensures.agrees (c.judge_file.ensures.word.0 next)))
 
@@ -95,8 +96,8 @@ pub returns-clause-agrees : goal.returns-clause-agrees
 returns-clause-agrees g c = λ word sound.
     let next = c.sync.ensures.word.0 word in
     let then = c.judge_file.ensures.word.0 next in
-    let later = c.fold_synced.ensures.later then in
-    let first = fold_sync Log c.sync.result (g.D.Disk.state c.args.disk.now) (g.D.Disk.state c.sync.new.self) sound (c.sync.ensures.state word) in
+    let later = (c.fold_synced.ensures.calls then).later in
+    let first = fold_sync c.args.page_size Log c.sync.result (g.D.Disk.state c.args.disk.now) (g.D.Disk.state c.sync.new.self) sound (c.sync.ensures.state word) in
     agrees_then c.args.page_size (g.D.Disk.state c.args.disk.now) (g.D.Disk.state c.fold_synced.new.disk) (g.D.Disk.state c.count_pages.new.disk)
     (agrees_after c.args.page_size c.sync.result (g.D.Disk.state c.args.disk.now) (g.D.Disk.state c.sync.new.self) (g.D.Disk.state c.fold_synced.new.disk) sound (c.sync.ensures.state word)
     (agrees_looked c.args.page_size (g.D.Disk.state c.sync.new.self) (g.D.Disk.state c.judge_file.new.disk) (g.D.Disk.state c.fold_synced.new.disk) first.sound (c.judge_file.ensures.still next first.sound) (c.fold_synced.ensures.agrees then)))
@@ -106,8 +107,8 @@ pub returns-clause-empty : goal.returns-clause-empty
 returns-clause-empty g c = λ word sound.
     let next = c.sync.ensures.word.0 word in
     let then = c.judge_file.ensures.word.0 next in
-    let later = c.fold_synced.ensures.later then in
-    let first = fold_sync Log c.sync.result (g.D.Disk.state c.args.disk.now) (g.D.Disk.state c.sync.new.self) sound (c.sync.ensures.state word) in
+    let later = (c.fold_synced.ensures.calls then).later in
+    let first = fold_sync c.args.page_size Log c.sync.result (g.D.Disk.state c.args.disk.now) (g.D.Disk.state c.sync.new.self) sound (c.sync.ensures.state word) in
     on_ok c.count_pages.result _ (down_still _ (g.D.Disk.state c.fold_synced.new.disk) (g.D.Disk.state c.count_pages.new.disk) (c.count_pages.ensures.still (c.fold_synced.ensures.word.0 then) later.sound)
     (folded_empty c.args.page_size _ c.fold_synced.result (g.D.Disk.state c.judge_file.new.disk) (g.D.Disk.state c.fold_synced.new.disk) c.in_ok-fold_synced.was
     (c.fold_synced.ensures.folds then (still_empty (g.D.Disk.state c.sync.new.self) (g.D.Disk.state c.judge_file.new.disk) (c.judge_file.ensures.still next first.sound)
@@ -118,7 +119,7 @@ returns-in_err-judge_file-clause-refuses g c = λ word sound fits found are.
     let s = g.D.Disk.state c.args.disk.now in
     let a = g.D.Disk.state c.sync.new.self in
     let synced = c.in_ok-sync.ensures.state word in
-    let first = fold_sync Log c.sync.result s a sound (c.sync.ensures.state word) in
+    let first = fold_sync c.args.page_size Log c.sync.result s a sound (c.sync.ensures.state word) in
     let files = files_synced c.args.page_size found s a sound fits are synced in
     unjudged c.args.page_size found s a sound fits are synced (g.D.Disk.state c.judge_file.new.disk) c.judge_file.result c.from_residual-in_err-judge_file.result _ c.in_err-judge_file.was
     (passed c.from_residual-in_err-judge_file.result _ c.from_residual-in_err-judge_file.ensures.1)
@@ -130,7 +131,7 @@ returns-in_err-fold_synced-clause-refuses g c = λ word sound fits found are.
     let a = g.D.Disk.state c.sync.new.self in
     let b = g.D.Disk.state c.judge_file.new.disk in
     let synced = c.in_ok-sync.ensures.state word in
-    let first = fold_sync Log c.sync.result s a sound (c.sync.ensures.state word) in
+    let first = fold_sync c.args.page_size Log c.sync.result s a sound (c.sync.ensures.state word) in
     let next = c.sync.ensures.word.0 word in
     let still = c.judge_file.ensures.still next first.sound in
     let files = files_looked c.args.page_size found s a sound fits are synced b still in
@@ -144,11 +145,11 @@ returns-clause-refuses g c = λ word sound fits found are.
     let a = g.D.Disk.state c.sync.new.self in
     let b = g.D.Disk.state c.judge_file.new.disk in
     let synced = c.in_ok-sync.ensures.state word in
-    let first = fold_sync Log c.sync.result s a sound (c.sync.ensures.state word) in
+    let first = fold_sync c.args.page_size Log c.sync.result s a sound (c.sync.ensures.state word) in
     let next = c.sync.ensures.word.0 word in
     let still = c.judge_file.ensures.still next first.sound in
     let then = c.judge_file.ensures.word.0 next in
-    let later = c.fold_synced.ensures.later then in
+    let later = (c.fold_synced.ensures.calls then).later in
     let seen = files_synced c.args.page_size found s a sound fits are synced in
     let files = files_looked c.args.page_size found s a sound fits are synced b still in
     uncounted c.args.page_size found s a sound fits are synced b still (g.D.Disk.state c.fold_synced.new.disk) (g.D.Disk.state c.count_pages.new.disk) c.judge_file.result _ c.fold_synced.result _ c.count_pages.result
@@ -162,7 +163,7 @@ returns-clause-opens g c = λ word sound fits found are.
     let a = g.D.Disk.state c.sync.new.self in
     let b = g.D.Disk.state c.judge_file.new.disk in
     let synced = c.in_ok-sync.ensures.state word in
-    let first = fold_sync Log c.sync.result s a sound (c.sync.ensures.state word) in
+    let first = fold_sync c.args.page_size Log c.sync.result s a sound (c.sync.ensures.state word) in
     let next = c.sync.ensures.word.0 word in
     let still = c.judge_file.ensures.still next first.sound in
     let seen = files_synced c.args.page_size found s a sound fits are synced in
@@ -182,7 +183,7 @@ returns-in_err-judge_file-clause-synced g c = λ word sound.
     let s = g.D.Disk.state c.args.disk.now in
     let a = g.D.Disk.state c.sync.new.self in
     let b = g.D.Disk.state c.judge_file.new.disk in
-    let first = fold_sync Log c.sync.result s a sound (c.sync.ensures.state word) in
+    let first = fold_sync c.args.page_size Log c.sync.result s a sound (c.sync.ensures.state word) in
     synced_first c.args.page_size s a b c.sync.result _ c.from_residual-in_err-judge_file.result c.in_ok-sync.was (c.sync.ensures.state word)
     (λ w d down alone. alone_still c.args.page_size d a b first.sound (c.judge_file.ensures.still (c.sync.ensures.word.0 word) first.sound) alone)
 
@@ -192,7 +193,7 @@ returns-in_err-fold_synced-clause-synced g c = λ word sound.
     let a = g.D.Disk.state c.sync.new.self in
     let b = g.D.Disk.state c.judge_file.new.disk in
     let next = c.sync.ensures.word.0 word in
-    let first = fold_sync Log c.sync.result s a sound (c.sync.ensures.state word) in
+    let first = fold_sync c.args.page_size Log c.sync.result s a sound (c.sync.ensures.state word) in
     synced_first c.args.page_size s a (g.D.Disk.state c.fold_synced.new.disk) c.sync.result _ c.from_residual-in_err-fold_synced.result c.in_ok-sync.was (c.sync.ensures.state word)
     (agrees_looked c.args.page_size a b (g.D.Disk.state c.fold_synced.new.disk) first.sound (c.judge_file.ensures.still next first.sound) (c.fold_synced.ensures.agrees (c.judge_file.ensures.word.0 next)))
 
@@ -205,9 +206,23 @@ returns-clause-synced g c = λ word sound.
     let t = g.D.Disk.state c.count_pages.new.disk in
     let next = c.sync.ensures.word.0 word in
     let then = c.judge_file.ensures.word.0 next in
-    let later = c.fold_synced.ensures.later then in
-    let first = fold_sync Log c.sync.result s a sound (c.sync.ensures.state word) in
+    let later = (c.fold_synced.ensures.calls then).later in
+    let first = fold_sync c.args.page_size Log c.sync.result s a sound (c.sync.ensures.state word) in
     synced_first c.args.page_size s a t c.sync.result _ c.count_pages.result c.in_ok-sync.was (c.sync.ensures.state word)
     (agrees_then c.args.page_size a f t
     (agrees_looked c.args.page_size a b f first.sound (c.judge_file.ensures.still next first.sound) (c.fold_synced.ensures.agrees then))
     (λ d alone. alone_still c.args.page_size d f t later.sound (c.count_pages.ensures.still (c.fold_synced.ensures.word.0 then) later.sound) alone))
+
+pub returns-in_err-sync-clause-told : goal.returns-in_err-sync-clause-told
+returns-in_err-sync-clause-told g c = λ word sound more. passed c.from_residual.result Device c.from_residual.ensures.1
+
+pub returns-in_err-judge_file-clause-told : goal.returns-in_err-judge_file-clause-told
+returns-in_err-judge_file-clause-told g c = λ word sound more. passes_device c.judge_file.result c.from_residual-in_err-judge_file.result _ c.in_err-judge_file.was c.from_residual-in_err-judge_file.ensures.1
+    (tells_then c.judge_file.result (g.D.Disk.state c.args.disk.now) (g.D.Disk.state c.sync.new.self) (g.D.Disk.state c.judge_file.new.disk) (called_quiet c.sync.result _ (g.D.Disk.state c.args.disk.now) (g.D.Disk.state c.sync.new.self) c.in_ok-sync.was (c.sync.ensures.state word).elsewhere.refused) (c.judge_file.ensures.told (c.sync.ensures.word.0 word)) more)
+
+pub returns-in_err-fold_synced-clause-told : goal.returns-in_err-fold_synced-clause-told
+returns-in_err-fold_synced-clause-told g c = λ word sound more. passes_device c.fold_synced.result c.from_residual-in_err-fold_synced.result _ c.in_err-fold_synced.was c.from_residual-in_err-fold_synced.ensures.1
+    (tells_then c.fold_synced.result (g.D.Disk.state c.args.disk.now) (g.D.Disk.state c.judge_file.new.disk) (g.D.Disk.state c.fold_synced.new.disk) (tells_quiet c.judge_file.result _ (g.D.Disk.state c.args.disk.now) (g.D.Disk.state c.sync.new.self) (g.D.Disk.state c.judge_file.new.disk) c.in_ok-judge_file.was (called_quiet c.sync.result _ (g.D.Disk.state c.args.disk.now) (g.D.Disk.state c.sync.new.self) c.in_ok-sync.was (c.sync.ensures.state word).elsewhere.refused) (c.judge_file.ensures.told (c.sync.ensures.word.0 word))) (c.fold_synced.ensures.calls (c.judge_file.ensures.word.0 (c.sync.ensures.word.0 word))).told more)
+
+pub returns-clause-told : goal.returns-clause-told
+returns-clause-told g c = λ word sound. tells_then c.count_pages.result (g.D.Disk.state c.args.disk.now) (g.D.Disk.state c.fold_synced.new.disk) (g.D.Disk.state c.count_pages.new.disk) (tells_quiet c.fold_synced.result _ (g.D.Disk.state c.args.disk.now) (g.D.Disk.state c.judge_file.new.disk) (g.D.Disk.state c.fold_synced.new.disk) c.in_ok-fold_synced.was (tells_quiet c.judge_file.result _ (g.D.Disk.state c.args.disk.now) (g.D.Disk.state c.sync.new.self) (g.D.Disk.state c.judge_file.new.disk) c.in_ok-judge_file.was (called_quiet c.sync.result _ (g.D.Disk.state c.args.disk.now) (g.D.Disk.state c.sync.new.self) c.in_ok-sync.was (c.sync.ensures.state word).elsewhere.refused) (c.judge_file.ensures.told (c.sync.ensures.word.0 word))) (c.fold_synced.ensures.calls (c.judge_file.ensures.word.0 (c.sync.ensures.word.0 word))).told) (c.count_pages.ensures.told (c.fold_synced.ensures.word.0 (c.judge_file.ensures.word.0 (c.sync.ensures.word.0 word))))

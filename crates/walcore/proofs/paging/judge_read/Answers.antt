@@ -1,23 +1,11 @@
 use Rattle.std.proofs.Common.{arith, ◌∙◌, sym}
-use Rattle.walcore.specs.Paging.{ReadJudged}
 use Rattle.walcore.proofs.paging.judge_read.Goals as goal
 
-pub returns-then-not-is_open-clause-judged : goal.returns-then-not-is_open-clause-judged
-unfolding ReadJudged
-returns-then-not-is_open-clause-judged c = (c.if-not-is_open.true, λ e. absurd (cc e))
-
-pub returns-then-page-eq0-clause-judged : goal.returns-then-page-eq0-clause-judged
-unfolding ReadJudged
-returns-then-page-eq0-clause-judged c = ((c.if-not-is_open.false, c.if-page-eq0.true), λ e. absurd (cc e))
-
 pub returns-then-page-size-clause-judged : goal.returns-then-page-size-clause-judged
-unfolding ReadJudged
-returns-then-page-size-clause-judged c = ((c.if-not-is_open.false, omega arith, omega arith), λ e. absurd (cc e))
+returns-then-page-size-clause-judged c = (c.if-not-is_open.false, omega arith, omega arith)
 
 pub returns-then-room-get-clause-judged : goal.returns-then-room-get-clause-judged
-unfolding ReadJudged
-returns-then-room-get-clause-judged c = ((c.if-not-is_open.false, omega arith, c.if-page-size.false), λ e same. c.if-room-get.true (same ∙ sym c.get.ensures.value))
+returns-then-room-get-clause-judged c = (c.if-not-is_open.false, omega arith, c.if-page-size.false, λ same. c.if-room-get.true (same ∙ sym c.get.ensures.value))
 
 pub returns-clause-judged : goal.returns-clause-judged
-unfolding ReadJudged
 returns-clause-judged c = (c.if-not-is_open.false, omega arith, c.if-page-size.false, c.if-room-get.false ∙ c.get.ensures.value)

@@ -1,4 +1,4 @@
-use Rattle.std.proofs.Common.{◌≡◌, ◌/◌, IfOk, ◌-◌, ◌∙◌, sym, ap, subst, arith, List, ℕ, length, [], ◌∷◌, ◌++◌, replicate}
+use Rattle.std.proofs.Common.{◌≡◌, IfOk, ◌-◌, ◌∙◌, sym, ap, subst, arith, List, ℕ, length, [], ◌∷◌, ◌++◌, replicate}
 use Rattle.crashdisk.specs.State.{FileState}
 use Rattle.crashdisk.specs.Held.{AreWhole, file_by, Touches, IsListOf}
 use Rattle.crashdisk.proofs.Changing.{grown_same}
@@ -18,14 +18,14 @@ pub returns-in_err-grow-clause-held : goal.returns-in_err-grow-clause-held
 returns-in_err-grow-clause-held c =
     let old = c.args.self.now in record {
       whole = subst (λ l. AreWhole c.args.sector l) (sym c.grow.ensures.grown) (whole_grown c.args.sector (length c.grow.new.sectors.items - length old.sectors.items) old.sectors.items c.requires.held.whole);
-      room = room_grown c.args.sector (length old.sectors.items) (length c.grow.new.sectors.items) c.max-end.result c.requires.positive c.requires.held.room (omega (arith, c.max-end.ensures, c.requires.ends)) c.grow.ensures.bounded;
+      room = room_grown c.args.sector (length old.sectors.items) (length c.grow.new.sectors.items) c.args.change.now.to c.requires.positive c.requires.held.room (omega (arith, c.requires.ends)) (omega (arith, c.needed.ensures.within, c.grow.ensures.bounded));
     }
 
 pub returns-clause-held : goal.returns-clause-held
 returns-clause-held c =
     let old = c.args.self.now in record {
       whole = subst (λ l. AreWhole c.args.sector l) (sym c.grow.ensures.grown) (whole_grown c.args.sector (length c.grow.new.sectors.items - length old.sectors.items) old.sectors.items c.requires.held.whole);
-      room = room_grown c.args.sector (length old.sectors.items) (length c.grow.new.sectors.items) c.max-end.result c.requires.positive c.requires.held.room (omega (arith, c.max-end.ensures, c.requires.ends)) c.grow.ensures.bounded;
+      room = room_grown c.args.sector (length old.sectors.items) (length c.grow.new.sectors.items) c.args.change.now.to c.requires.positive c.requires.held.room (omega (arith, c.requires.ends)) (omega (arith, c.needed.ensures.within, c.grow.ensures.bounded));
     }
 
 pub returns-clause-same : goal.returns-clause-same
@@ -41,5 +41,5 @@ returns-clause-list c =
     let is = same c.args.sector (length now - length old.sectors.items) old.len 0 0 old.sectors.items now c.grow.ensures.grown in
     if_ok _ _ c.touched.result (λ v all. (
       subst (λ (s : FileState). IsListOf (Touches c.args.sector s change.from change.to change.end) v.items) is all,
-      all_there c.args.sector change.from change.to change.end old.len (length now) now v.items c.requires.positive c.requires.fits (omega (arith, c.in_ok-grow.ensures.enough, ap (λ (n : ℕ). n / c.args.sector) c.max-end.ensures)) all,
+      all_there c.args.sector change.from change.to change.end old.len now v.items c.requires.positive (λ some. omega (arith, c.in_ok-grow.ensures.enough, c.needed.ensures.enough some)) all,
     )) (subst (λ l. IfOk c.touched.result (λ v. IsListOf (Touches c.args.sector (file_by c.args.sector l old.len 0 0) change.from change.to change.end) v.items)) c.deref.ensures.value c.touched.ensures)

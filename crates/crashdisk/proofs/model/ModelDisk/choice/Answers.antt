@@ -3,7 +3,7 @@ use Rattle.crashdisk.specs.Held.{file_of}
 use Rattle.crashdisk.specs.Choice.{Naming, image_of}
 use Rattle.crashdisk.specs.Count.{choice_count, naming_at, HasDigits}
 use Rattle.crashdisk.proofs.Digits.{none_left, some_choice, some_both, has_digits}
-use Rattle.crashdisk.proofs.Solid.{size_positive}
+use Rattle.crashdisk.specs.SoundModel.{size_positive}
 use Rattle.crashdisk.proofs.model.ModelDisk.choice.Goals as goal
 
 pub returns-then-rest-gt0-clause-found : goal.returns-then-rest-gt0-clause-found

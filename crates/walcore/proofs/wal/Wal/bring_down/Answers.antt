@@ -25,6 +25,6 @@ returns-clause-brings g c = λ word past fits opened floor none.
     let sound = fits.disk.suits.sound in
     let low = subst (λ (l : List ℕ). IsLeast l core.mark c.least_mark-frame.result) c.deref.ensures.value c.least_mark-frame.ensures in
     down_done past core _ _ fits opened floor none c.least_mark-frame.result low (c.bring_over.ensures.log word sound) _ c.bring_over.result c.in_ok-bring_over.field-0
-    (page_room c.deref_mut.result.now core.frame.items c.get-size.result core.page_size c.get-size.ensures.value c.deref_mut.ensures.value core.framed) (c.bring_over.ensures.brings word sound) c.in_ok-bring_over.was
+    (page_room c.deref_mut.result.now core.frame.items c.get-size.result core.page_size c.get-size.ensures.value c.deref_mut.ensures.value core.framed) (c.bring_over.ensures.brings word sound) c.in_ok-bring_over.was (c.bring_over.ensures.told word sound)
     _ refl _ c.reached.result c.reached.ensures
     (record { page_size = refl; is_open = refl; drained = refl; header = refl; sum = refl; frames = refl; mark = refl; last_page = refl; size = refl; used = refl; unsynced = refl; index = refl }) refl

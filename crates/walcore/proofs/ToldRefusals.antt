@@ -1,0 +1,71 @@
+-- A refused call of the disk is told: by one call, by calls after others that weren't refused, and by the steps of the log.
+use Rattle.std.proofs.Common.{◌≡◌, ⊎_elim, ℕ, ◌<◌, ◌≤◌, List, refl, ◌∙◌, ap, subst, arith}
+use Rattle.std.specs.Prelude.{Result, Ok, Err, IsErrAnd}
+use Rattle.sqval.proofs.Answering.{passed}
+use Rattle.crashdisk.specs.Call.{DiskState, counted}
+use Rattle.crashdisk.specs.Keeps.{Told, TellsRefusal, SyncStep}
+use Rattle.crashdisk.specs.declared.file.File.{File}
+use Rattle.crashdisk.specs.declared.error.DiskError.{DiskError}
+use Rattle.walcore.specs.Opening.{HeaderSteps}
+use Rattle.walcore.specs.Steps.{ZeroSteps, CutSteps}
+use Rattle.walcore.specs.declared.error.WalError.{WalError}
+use Rattle.walcore.specs.declared.error.WalError.TheVariants.{Device}
+
+module _ {T : Type 0} (r : Result T WalError) where
+  -- the call was done
+  pub tells_ok : {U : Type 0} (called : Result U DiskError) (u : U) (a b : DiskState) → called ≡ Ok u → b.refused ≡ counted called a.refused → TellsRefusal Device r a b
+  tells_ok {U = U} called u a b was count more = absurd (let same = subst (λ (q : Result U DiskError). b.refused ≡ counted q a.refused) was count in omega (arith, same, more))
+
+  pub quiet_ok : (v : T) (a b : DiskState) → r ≡ Ok v → TellsRefusal Device r a b → a.refused < b.refused → ⊥
+  quiet_ok v a b is told more = let bad : r ≡ Err Device = told more in cc
+
+  pub quiet_same : (v : T) (a b : DiskState) → r ≡ Ok v → a.refused ≤ b.refused → TellsRefusal Device r a b → b.refused ≡ a.refused
+  quiet_same v a b is le told = let quiet : a.refused < b.refused → ⊥ = quiet_ok v a b is told in omega (arith, quiet)
+
+  -- what another answer tells, where that is done
+  pub tells_again : {U : Type 0} (q : Result U WalError) (v : U) (a b : DiskState) → q ≡ Ok v → TellsRefusal Device q a b → TellsRefusal Device r a b
+  tells_again q v a b is told more = absurd (let bad : q ≡ Err Device = told more in cc)
+
+  -- no call was refused, and then none either
+  pub tells_quiet : (v : T) (a b c : DiskState) → r ≡ Ok v → (a.refused < b.refused → ⊥) → TellsRefusal Device r b c → a.refused < c.refused → ⊥
+  tells_quiet v a b c is quiet told more = quiet_ok v b c is told (omega (arith, quiet))
+
+  pub passes_device : {U : Type 0} (q : Result U WalError) (e : WalError) → r ≡ Err e → IsErrAnd q (λ x. x ≡ e) → r ≡ Err Device → q ≡ Err Device
+  passes_device q e is end said = passed q e end ∙ ap Err (let same : e ≡ Device = cc in same)
+
+  -- nor where it is refused by another error
+  pub quiet_err : (e : WalError) (a b : DiskState) → r ≡ Err e → (e ≡ Device → ⊥) → TellsRefusal Device r a b → a.refused < b.refused → ⊥
+  quiet_err e a b is other told more = other (let said : r ≡ Err Device = told more in cc)
+
+  -- after calls that were done
+  pub tells_then : (a b c : DiskState) → (a.refused < b.refused → ⊥) → TellsRefusal Device r b c → TellsRefusal Device r a c
+  tells_then a b c quiet told more = told (omega (arith, quiet))
+
+pub called_quiet : {U : Type 0} (called : Result U DiskError) (u : U) (a b : DiskState) → called ≡ Ok u → b.refused ≡ counted called a.refused → a.refused < b.refused → ⊥
+called_quiet {U = U} called u a b was count more = let same = subst (λ (q : Result U DiskError). b.refused ≡ counted q a.refused) was count in omega (arith, same, more)
+
+pub tells_called : {T : Type 0} (called : Result T DiskError) (r : Result T WalError) (a b : DiskState) → b.refused ≡ counted called a.refused → Told Device called r → TellsRefusal Device r a b
+tells_called (Ok u) r a b count told more = absurd (called_quiet (Ok u) u a b refl count more)
+tells_called (Err x) (Ok v) a b count told more = absurd told
+tells_called (Err x) (Err e) a b count told more = ap Err told
+
+pub tells_sync : {T : Type 0} (f : File) (r : Result T WalError) (a b : DiskState) → SyncStep Device f r a b → TellsRefusal Device r a b
+tells_sync f r a b step = tells_called step.0 r a b step.2.elsewhere.refused step.1
+
+pub tells_header : {T : Type 0} (f : List ℕ) (r : Result T WalError) (a b : DiskState) → HeaderSteps f r a b → TellsRefusal Device r a b
+tells_header f r a b steps = ⊎_elim
+    (λ failed. tells_called failed.0 r a b failed.3.elsewhere.refused failed.2)
+    (λ done. tells_then r a done.0 b (λ more. omega (arith, done.1.1.elsewhere.refused)) (tells_sync _ r done.0 b done.2))
+    steps
+
+pub tells_zero : {T : Type 0} (r : Result T WalError) (a b : DiskState) → ZeroSteps r a b → TellsRefusal Device r a b
+tells_zero r a b steps = ⊎_elim
+    (λ failed. tells_called failed.0 r a b failed.3.elsewhere.refused failed.2)
+    (λ done. tells_then r a done.0 b (λ more. omega (arith, done.1.1.elsewhere.refused)) (tells_sync _ r done.0 b done.2))
+    steps
+
+pub tells_cut : {T : Type 0} (r : Result T WalError) (a b : DiskState) → CutSteps r a b → TellsRefusal Device r a b
+tells_cut r a b steps = ⊎_elim
+    (λ failed. tells_called failed.0 r a b failed.3.elsewhere.refused failed.2)
+    (λ done. tells_then r a done.0 b (λ more. omega (arith, done.1.1.elsewhere.refused)) (tells_sync _ r done.0 b done.2))
+    steps
