@@ -1,9 +1,9 @@
 //! Worked rows.
-ghost use Rattle.std.specs.Prelude.{◌+◌, ◌<◌, ◌≤◌, ◌^◌, ◌≡◌, IfOk, length};
+ghost use Rattle.std.specs.Prelude.{◌+◌, ◌*◌, ◌<◌, ◌≤◌, ◌^◌, ◌≡◌, IfOk, length};
 ghost use Rattle.sqval.specs.PageSize.{IsPageSize};
 
 use sqpage::{
-    BtreePage, Cell, CheckError, DbHeader, Fault, Kind, PageSource, SliceSource, freelist,
+    BtreePage, Cell, CheckError, DbHeader, Fault, Kind, PageSource, Parts, SliceSource, freelist,
     has_magic, links_of, named_page_size, payload, split,
 };
 use sqval::PageSize;
@@ -497,15 +497,21 @@ fn kinds(rt: HostRuntime) {
     assert_eq!(rt; Kind::of(0), None);
 }
 
-/// The fault in the layout of a page 2 with these bytes, judged with these marks.
-fn fault_in(bytes: &[u8], usable: u32, map: &mut [bool]) -> Result<Option<Fault>, Fault>
+/// The fault in the layout of a page 2 with these bytes, read into these parts and judged with these marks.
+fn fault_in(
+    bytes: &[u8],
+    usable: u32,
+    parts: &mut [Parts],
+    map: &mut [u64],
+) -> Result<Option<Fault>, Fault>
     requires page { IsPageSize (length bytes.now) }
     requires least { 480 ≤ usable }
     requires most { usable ≤ length bytes.now }
-    requires room { usable + 4 ≤ length map.old }
+    requires parts { usable ≤ 2 * length parts.old }
+    requires room { usable + 4 ≤ 64 * length map.old }
 {
-    let page = BtreePage::new(bytes, 2, usable)?;
-    Ok(page.layout_in(map).err())
+    let page = BtreePage::parse(bytes, 2, usable, parts)?;
+    Ok(page.layout_in(parts, map).err())
 }
 
 // A page of one cell whose right child is page 3, without a fragment and with one. The marks hold anything before.
@@ -519,9 +525,12 @@ fn an_interior_page(rt: HostRuntime) -> Result<(), Fail> {
     let page = BtreePage::new(&bytes, 2, 512)?;
     assert_eq!(rt; page.kind(), Kind::TableInterior);
     assert_eq!(rt; page.right(), Some(3));
-    let mut map = [true; 516];
-    assert_eq!(rt; fault_in(&bytes, 512, &mut map)?, None);
+    let mut parts = [Parts::NONE; 256];
+    let mut map = [u64::MAX; 9];
+    let fault = fault_in(&bytes, 512, &mut parts, &mut map)?;
+    assert_eq!(rt; fault, None);
     bytes[7] = 1;
-    assert_eq!(rt; fault_in(&bytes, 512, &mut map)?, Some(Fault::Fragments));
+    let fault = fault_in(&bytes, 512, &mut parts, &mut map)?;
+    assert_eq!(rt; fault, Some(Fault::Fragments));
     Ok(())
 }
