@@ -51,7 +51,7 @@ run_of_bits low high lt most =
     let shifted : (2 ^ 64 - 1) / 2 ^ (64 - n) ≡ 2 ^ n - 1 = ones_shr 64 (64 - n) (omega arith) ∙ ap (λ m. 2 ^ m - 1) k in
     let whole : n + low ≡ high = omega arith in
     let product : (2 ^ n - 1) * 2 ^ low ≡ 2 ^ high - 2 ^ low =
-        mul_comm (2 ^ n - 1) (2 ^ low) ∙ mul-sub (2 ^ low) (2 ^ n) 1 ∙ (let e : 2 ^ low * 2 ^ n ≡ 2 ^ high = mul_comm (2 ^ low) (2 ^ n) ∙ sym (pow-add 2 n low) ∙ ap (λ m. 2 ^ m) whole in omega (arith, e)) in
+    mul_comm (2 ^ n - 1) (2 ^ low) ∙ mul-sub (2 ^ low) (2 ^ n) 1 ∙ (let e : 2 ^ low * 2 ^ n ≡ 2 ^ high = mul_comm (2 ^ low) (2 ^ n) ∙ sym (pow-add 2 n low) ∙ ap (λ m. 2 ^ m) whole in omega (arith, e)) in
     let top : 2 ^ high ≤ 2 ^ 64 = pow-le-pow_right (let two : 0 < 2 = omega arith in two) most in
     let small : 2 ^ high - 2 ^ low < 2 ^ 64 = omega (arith, top, pow_pos low) in
     ap (λ m. (m * 2 ^ low) % 2 ^ 64) shifted ∙ ap (λ m. m % 2 ^ 64) product ∙ mod-eq_of_lt small

@@ -108,5 +108,9 @@ pub(crate) fn mark_freeblocks(
         least = at + 1;
         at = half_at(used, at);
     }
-    if apart { Ok(taken) } else { Err(Fault::Overlap) }
+    if apart {
+        Ok(taken)
+    } else {
+        Err(Fault::Overlap)
+    }
 }

@@ -33,7 +33,7 @@ cells-preserved c =
     let s : Span = record { start = c.pointer-at.result; size = c.max-end.result - c.pointer-at.result } in
     let end : c.pointer-at.result + (c.max-end.result - c.pointer-at.result) ≡ c.max-end.result = omega (arith, h.enough) in
     let counted : c.min.result - c.pointer-at.result ≡ bytes_before (length c.args.self.now.used) s =
-        ap (λ m. m - c.pointer-at.result) (c.min.ensures ∙ ap (λ n. min c.max-end.result n) h.same_size ∙ ap (λ n. min n (length c.args.self.now.used)) (sym end)) in
+    ap (λ m. m - c.pointer-at.result) (c.min.ensures ∙ ap (λ n. min c.max-end.result n) h.same_size ∙ ap (λ n. min n (length c.args.self.now.used)) (sym end)) in
     record {
       marking = marking_goes_on c.args.self.now c.args.map.now c.cells.map c.mark.new.map c.cells.i c.cells.taken c.cells.invariant.marking s h.below h.is (c.min.result - c.pointer-at.result) counted
           (c.mark.ensures.marked c.if-not-mark.false);
