@@ -281,3 +281,16 @@ front_of begun piece x y a k la ek fits ex ey =
     let z : 28 - k ≡ 0 = omega (arith, all) in
     ap (λ n. take k begun ++ take n piece) z ∙ append-nil (take k begun) ∙ ap (λ n. take n begun) all ∙ sym (take-append-le 28 begun piece long))
     (cases_lt (length begun) 28)
+
+-- a first header stays refused as bytes are added
+pub refused_more : (b more : List ℕ) (e : JournalError) → 28 ≤ length b → IsRefused b e → IsRefused (b ++ more) e
+refused_more b more NotAJournal long bad = λ m. bad (sym (part_more b more 0 8 (omega arith)) ∙ m)
+refused_more b more SectorSize long bad =
+    (part_more b more 0 8 (omega arith) ∙ bad.0, λ s. bad.1 (subst IsPageSize (word_more b more 20 (omega arith)) s))
+refused_more b more PageSize long bad = (
+  part_more b more 0 8 (omega arith) ∙ bad.0,
+  subst IsPageSize (sym (word_more b more 20 (omega arith))) bad.1,
+  λ s. bad.2 (subst IsPageSize (word_more b more 24 (omega arith)) s),
+)
+refused_more b more NoMemory long bad = bad
+refused_more b more TooLong long bad = bad

@@ -1,5 +1,5 @@
 //! What `check` prints.
-use crate::logs::{Contents, read_all};
+use crate::logs::{Contents, open_all};
 use crate::outcome::Refusal;
 use crate::showing::ShowError;
 use crate::texts::{write_fault, write_report};
@@ -18,8 +18,8 @@ pub(crate) fn check<R: Files + AllocGlobal, O: Write>(
 where
     R::File: FileExt,
 {
-    let Contents { db, wal, journal } = read_all(rt, file)?;
-    let verdict = judge(rt.alloc(), db, &wal, &journal).map_err(Refusal::from)?;
+    let Contents { db, wal, journal } = open_all(rt, file)?;
+    let verdict = judge(rt.alloc(), db, wal, journal).map_err(Refusal::from)?;
     let is_well_formed = match verdict {
         Verdict::Clean(report) => {
             write_report(out, &report)?;

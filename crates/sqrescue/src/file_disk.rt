@@ -35,19 +35,22 @@ impl<F: FileExt + OpenFile + Drop> FileDisk<F> {
     }
 }
 
-/// Fills the buffer from a place on, with zeros past the end of the file.
+/// Fills the buffer from a place on, with zeros past the end of the file. A read that a signal ends is made again.
 pub(crate) fn read_or_zeros<F: FileExt>(file: &F, at: u64, out: &mut [u8]) -> io::Result<()> {
     let mut from = 0;
     for _ in 0..u64::MAX {
         if from >= out.len() {
             break;
         }
-        let got = file.read_at(&mut out[from..], at.wrapping_add(from as u64))?;
-        if got == 0 {
-            out[from..].fill(0);
-            break;
+        match file.read_at(&mut out[from..], at.wrapping_add(from as u64)) {
+            Ok(0) => {
+                out[from..].fill(0);
+                break;
+            }
+            Ok(got) => from += got,
+            Err(error) if error.kind() == io::ErrorKind::Interrupted => {}
+            Err(error) => return Err(error),
         }
-        from += got;
     }
     Ok(())
 }

@@ -2,9 +2,10 @@
 ghost use Rattle.std.specs.Prelude.{◌≡◌};
 ghost use Rattle.std.specs.IoError.{error_kind};
 ghost use Rattle.sqrescue.specs.Refusals.{refusal_of, refusal_of_judge, refusal_of_kind, refusal_of_roll, refusal_of_wal};
-ghost use Rattle.sqrescue.specs.declared.outcome.Refusal.TheVariants.{NoMemory};
+ghost use Rattle.sqrescue.specs.declared.outcome.Refusal.TheVariants.{FileFailed, NoMemory};
 
 use rollcore::RollError;
+use sqpage::SourceError;
 use sqview::{JudgeError, ViewError};
 use std::alloc::AllocError;
 use std::{fmt, io};
@@ -88,6 +89,14 @@ impl From<io::Error> for Refusal {
             io::ErrorKind::OutOfMemory => Refusal::NoMemory,
             _ => Refusal::FileFailed,
         }
+    }
+}
+
+impl From<SourceError> for Refusal {
+    ghost from_gives = { λ _ refusal. refusal ≡ FileFailed };
+
+    fn from(_unread: SourceError) -> Refusal {
+        Refusal::FileFailed
     }
 }
 

@@ -2,12 +2,14 @@
 ghost use Rattle.std.specs.Prelude.{◌≡◌};
 
 use crate::file_disk::{FileDisk, read_or_zeros};
-use crate::logs::{LogInUse, file_length, log_in_use, scan_file};
+use crate::logs::{Beside, file_length, open_logs};
+use crate::opened_file::OpenedFile;
 use crate::outcome::{Outcome, Refusal};
 use rollcore::replay;
 use sqjournal::is_magic;
 use sqpage::{has_magic, named_page_size};
 use sqval::PageSize;
+use sqview::{FileBytes, LogInUse, log_in_use, scan_log};
 use sqwal::{WalFormatError, WalHeader};
 use std::alloc::Global;
 use std::fs::{OpenFile, OpenOptions};
@@ -21,10 +23,15 @@ pub(crate) fn recover<R: Files + AllocGlobal>(rt: &R, file: &str) -> Result<Outc
 where
     R::File: FileExt,
 {
-    match log_in_use(rt, file)? {
+    let Beside { wal, journal, .. } = open_logs(rt, file)?;
+    let log_path = wal.path;
+    let log = wal.bytes;
+    let journal_path = journal.path;
+    let mut journal = journal.bytes;
+    match log_in_use(&log, &mut journal)? {
         LogInUse::Neither => Ok(Outcome::Nothing),
-        LogInUse::Wal(log) => fold_log(rt, file, log.as_str()),
-        LogInUse::Journal(journal) => roll_back(rt, file, journal.as_str()),
+        LogInUse::Wal => fold_log(rt, file, log_path.as_str(), log),
+        LogInUse::Journal(_) => roll_back(rt, file, journal_path.as_str()),
     }
 }
 
@@ -54,15 +61,19 @@ where
 }
 
 /// Folds a log that isn't empty.
-fn fold_log<R: Files + AllocGlobal>(rt: &R, file: &str, log_path: &str) -> Result<Outcome, Refusal>
+fn fold_log<R: Files + AllocGlobal>(
+    rt: &R,
+    file: &str,
+    log_path: &str,
+    bytes: OpenedFile<R::File>,
+) -> Result<Outcome, Refusal>
 where
     R::File: FileExt,
 {
     let alloc = rt.alloc();
     let db = open(rt, file)?;
     let log = open(rt, log_path)?;
-    let log_len = file_length(rt, log_path)?;
-    let page_size = page_size_of(alloc, &db, &log, log_len)?;
+    let page_size = page_size_of(alloc, &db, bytes)?;
     let mut disk = FileDisk::new(db, log);
     let folded = fold(alloc, &mut disk, page_size)?;
     Ok(match folded.frames {
@@ -79,24 +90,24 @@ fn open<R: Files>(rt: &R, path: &str) -> Result<R::File, Refusal> {
 }
 
 /// The page size to fold by: the log header's, or 512 where there is no valid one, since then there is no frame.
-fn page_size_of<F: FileExt + OpenFile>(
+fn page_size_of<F: FileExt + OpenFile + Drop>(
     alloc: Global,
     db: &F,
-    log: &F,
-    log_len: u64,
+    log: OpenedFile<F>,
 ) -> Result<PageSize, Refusal> {
+    let mut log = log;
     let mut head = [0u8; 32];
-    if log_len < 32 {
+    if log.len() < 32 {
         return Ok(smallest());
     }
-    read_or_zeros(log, 0, &mut head)?;
+    log.read_at(0, &mut head)?;
     let page_size = match WalHeader::read(&head) {
         Ok(header) => header.page_size,
         Err(WalFormatError::UnknownVersion) => return Err(Refusal::UnknownLogVersion),
         Err(_) => return Ok(smallest()),
     };
     match database_page_size(db)? {
-        Some(own) if own != page_size && has_front(alloc, log, log_len)? => Err(
+        Some(own) if own != page_size && has_front(alloc, &mut log)? => Err(
             Refusal::PageSizesDiffer,
         ),
         _ => Ok(page_size),
@@ -124,9 +135,11 @@ fn database_page_size<F: FileExt + OpenFile>(db: &F) -> Result<Option<PageSize>,
 }
 
 /// Whether a log has a committed frame.
-fn has_front<F: FileExt>(alloc: Global, log: &F, log_len: u64) -> Result<bool, Refusal> {
-    match scan_file(alloc, log, log_len)? {
+fn has_front<F: FileBytes>(alloc: Global, log: &mut F) -> Result<bool, Refusal> {
+    match scan_log(alloc, log)? {
         Ok(scan) => Ok(scan.committed().frames != 0),
+        Err(WalFormatError::TooLong) => Err(Refusal::TooLarge),
+        Err(WalFormatError::NoMemory) => Err(Refusal::NoMemory),
         Err(_) => Ok(false),
     }
 }

@@ -7,15 +7,17 @@ ghost use Rattle.sqview.specs.LogView.{IsShown, pages_of};
 ghost use Rattle.sqrescue.specs.declared.outcome.Refusal.TheVariants.{FileFailed, NoMemory};
 ghost use Rattle.sqrescue.specs.declared.showing.ShowError.TheVariants.{Refused, Unwritten};
 
-use crate::logs::{Contents, LogInUse, log_in_use, opened, read_all, replay_file, scan_file};
+use crate::logs::{Beside, Contents, open_all, open_logs};
 use crate::outcome::Refusal;
 use crate::requests::Part;
 use crate::texts::{
     write_bytes, write_cell, write_column, write_header, write_journal, write_log, write_page,
 };
+use sqjournal::JournalError;
 use sqpage::{BtreePage, Cell, DbHeader, Fault, PageSource, SourceError, payload};
 use sqval::Record;
-use sqview::{FileBytes, View};
+use sqview::{FileBytes, LogInUse, View, log_in_use, replay_log, scan_log};
+use sqwal::WalFormatError;
 use std::alloc::{AllocError, Global};
 use std::io::{self, BufWriter, Write};
 use std::os::unix::fs::FileExt;
@@ -92,8 +94,8 @@ where
     R::File: FileExt,
 {
     let alloc = rt.alloc();
-    let Contents { db, wal, journal } = read_all(rt, file)?;
-    let mut view = view_of(alloc, db, &wal, &journal)?;
+    let Contents { db, wal, journal } = open_all(rt, file)?;
+    let mut view = view_of(alloc, db, wal, journal)?;
     if view.count() == 0 {
         return Err(ShowError::Refused(Refusal::NotADatabase));
     }
@@ -109,13 +111,14 @@ where
 }
 
 /// The view of a file with its logs.
-fn view_of<'a, F: FileBytes + Drop>(
+fn view_of<F: FileBytes + Drop>(
     alloc: Global,
     db: F,
-    wal: &'a [u8],
-    journal: &'a [u8],
-) -> Result<View<'a, F>, Refusal>
-    ensures { F.gives_bytes db → IfOk result (IsShown F.bytes (F.bytes db) wal.entry.now journal.entry.now) }
+    wal: F,
+    journal: F,
+) -> Result<View<F>, Refusal>
+    ensures { F.gives_bytes db × F.gives_bytes wal × F.gives_bytes journal
+        → IfOk result (IsShown F.bytes (F.bytes db) (F.bytes wal) (F.bytes journal)) }
 {
     let view = View::new(alloc, db, wal, journal)?;
     Ok(view)
@@ -124,11 +127,11 @@ fn view_of<'a, F: FileBytes + Drop>(
 /// A page of a view. Refused where there is no such page.
 fn page_of<F: FileBytes>(
     alloc: Global,
-    view: &mut View<'_, F>,
+    view: &mut View<F>,
     number: u32,
 ) -> Result<Vec<u8>, ShowError>
     ensures page { IfOk result (λ page. (length page.items ≡ view.old.page_size) × IsPageSize (length page.items)) }
-    ensures content { F.gives_bytes view.old.db → IfOk result (λ page. page.items ≡ page_at (pages_of F.bytes view.old) number) }
+    ensures content { F.gives_bytes view.old.db × F.gives_bytes view.old.log → IfOk result (λ page. page.items ≡ page_at (pages_of F.bytes view.old) number) }
     ensures number { OnOk result (0 < number) }
     ensures size { view.new.page_size ≡ view.old.page_size }
 {
@@ -162,8 +165,8 @@ where
     R::File: FileExt,
 {
     let alloc = rt.alloc();
-    let Contents { db, wal, journal } = read_all(rt, file)?;
-    let mut view = view_of(alloc, db, &wal, &journal)?;
+    let Contents { db, wal, journal } = open_all(rt, file)?;
+    let mut view = view_of(alloc, db, wal, journal)?;
     let first = page_of(alloc, &mut view, 1)?;
     let usable = usable_size(&first);
     let page = page_of(alloc, &mut view, number)?;
@@ -176,7 +179,7 @@ where
 /// Prints a b-tree page of the view with its cells.
 fn show_cells<F: FileBytes, W: Write>(
     alloc: Global,
-    view: &mut View<'_, F>,
+    view: &mut View<F>,
     number: u32,
     page: &BtreePage<'_>,
     out: &mut W,
@@ -198,7 +201,7 @@ fn show_cells<F: FileBytes, W: Write>(
 /// Prints the columns of a cell's record, where it has a payload, or what refuses the payload or the record.
 fn show_payload<F: FileBytes, W: Write>(
     alloc: Global,
-    view: &mut View<'_, F>,
+    view: &mut View<F>,
     cell: &Cell<'_>,
     out: &mut W,
 ) -> Result<(), ShowError>
@@ -242,20 +245,23 @@ where
     R::File: FileExt,
 {
     let alloc = rt.alloc();
-    match log_in_use(rt, file)? {
+    let Beside { wal, journal, .. } = open_logs(rt, file)?;
+    let mut wal = wal.bytes;
+    let mut journal = journal.bytes;
+    match log_in_use(&wal, &mut journal).map_err(Refusal::from)? {
         LogInUse::Neither => writeln!(out, "no log")?,
-        LogInUse::Wal(path) => {
-            let (log, length) = opened(rt, path.as_str())?;
-            match scan_file(alloc, &log, length)? {
-                Ok(scan) => write_log(out, &scan)?,
-                Err(error) => writeln!(out, "wal refused {}", error.number())?,
-            }
-        }
-        LogInUse::Journal(path) => {
-            let (journal, length) = opened(rt, path.as_str())?;
-            let replay = replay_file(alloc, &journal, length)?;
-            write_journal(out, &replay)?;
-        }
+        LogInUse::Wal => match scan_log(alloc, &mut wal)? {
+            Ok(scan) => write_log(out, &scan)?,
+            Err(WalFormatError::TooLong) => return Err(ShowError::Refused(Refusal::TooLarge)),
+            Err(WalFormatError::NoMemory) => return Err(ShowError::Refused(Refusal::NoMemory)),
+            Err(error) => writeln!(out, "wal refused {}", error.number())?,
+        },
+        LogInUse::Journal(_) => match replay_log(alloc, &mut journal)? {
+            Ok(replay) => write_journal(out, &replay)?,
+            Err(JournalError::TooLong) => return Err(ShowError::Refused(Refusal::TooLarge)),
+            Err(JournalError::NoMemory) => return Err(ShowError::Refused(Refusal::NoMemory)),
+            Err(_) => return Err(ShowError::Refused(Refusal::FileFailed)),
+        },
     }
     Ok(())
 }

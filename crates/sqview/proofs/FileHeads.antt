@@ -8,7 +8,7 @@ use Rattle.std.proofs.lemmas.Grind.{div_ceil_times}
 use Rattle.std.proofs.Math.Nat.{lt-div-mul-add, div-mul-le_self, mul-le-mul_right}
 use Rattle.std.proofs.lemmas.List.{get_or-take, get_or-drop, get_or_past, get_or-replicate, get_or_append_left, get_or-append_right, length-take-le, length-replicate, drop_all}
 use Rattle.std.proofs.lemmas.List.FromFn.{fill_by_all}
-use Rattle.sqval.specs.Bytes.{word}
+use Rattle.sqval.specs.Bytes.{part, word}
 use Rattle.sqval.specs.Database.{file_page, file_pages}
 use Rattle.sqview.specs.Laid.{part_or_zeros}
 use Rattle.sqview.specs.LogView.{head_of, own_pages}
@@ -35,6 +35,13 @@ module _ (size at count : ℕ) (file rest : List ℕ) (is : rest ≡ drop at fil
   pub filled_part : take count rest ++ replicate (size - count) 0 ≡ map (λ i. get_or file (at + i) 0) (range_with_len 0 size)
   filled_part = fill_by_all (λ i. get_or file (at + i) 0) (take count rest ++ replicate (size - count) 0) size 0
       (length-append (take count rest) (replicate (size - count) 0) ∙ omega (arith, front_long, length-replicate {A = ℕ} (size - count) 0)) each
+
+-- so many bytes that are all there
+pub part_is : (size at : ℕ) (file : List ℕ) → at + size ≤ length file → part_or_zeros size at file ≡ part file at size
+unfolding part_or_zeros
+part_is size at file le = sym (fill_by_all (λ i. get_or file (at + i) 0) (take size (drop at file)) size 0
+    (length-take-le size (drop at file) (omega (arith, length-drop at file)))
+    (λ k lt. get_or-take size (drop at file) k 0 lt ∙ get_or-drop at file k 0))
 
 -- what is copied and what is filled is the part
 pub part_copied : (size at count : ℕ) (file rest head back out : List ℕ) → rest ≡ drop (min at (length file)) file → count ≡ min (length rest) size

@@ -1,14 +1,12 @@
 -- The pages that a view gives.
-use Rattle.std.proofs.Common.{◌≡◌, ◌≢◌, ℕ, ◌+◌, ◌-◌, ◌*◌, ◌≤◌, List, [], length, get_or, map, true, false, refl, ◌∙◌, ap, arith, eq-eqb, ne_eqb, zero, suc, ⊎_elim, drop, length-drop}
+use Rattle.std.proofs.Common.{◌≡◌, ◌≢◌, ℕ, ◌+◌, ◌-◌, ◌*◌, ◌≤◌, List, [], length, get_or, map, true, false, refl, ◌∙◌, ap, arith, eq-eqb, ne_eqb, zero, suc, ⊎_elim}
 use Rattle.std.specs.Prelude.{◌==◌}
 use Rattle.std.proofs.lemmas.List.FromFn.{get_or-map-range_with_len, length-map-range_with_len}
 use Rattle.std.specs.List.{range_with_len}
 use Rattle.std.proofs.lemmas.Bool.{cases_eq}
-use Rattle.std.proofs.lemmas.List.{length-take-le}
 use Rattle.sqpage.specs.Lists.{Every}
-use Rattle.sqval.specs.Bytes.{part}
 use Rattle.sqval.specs.Database.{page, file_page}
-use Rattle.sqview.specs.Laid.{place_of, laid_page, laid, ArePlaces}
+use Rattle.sqview.specs.Laid.{part_or_zeros, place_of, laid_page, laid}
 
 pub length_laid : (size count : ℕ) (file log places : List ℕ) → length (laid size count file log places) ≡ count
 unfolding laid
@@ -22,7 +20,7 @@ pub laid_own : (size : ℕ) (file log places : List ℕ) (p : ℕ) → place_of 
 unfolding laid_page
 laid_own size file log places p e = let t : (place_of places p == 0) ≡ true = eq-eqb (place_of places p) 0 e in rw t refl
 
-pub laid_log : (size : ℕ) (file log places : List ℕ) (p : ℕ) → place_of places p ≢ 0 → laid_page size file log places p ≡ part log (place_of places p) size
+pub laid_log : (size : ℕ) (file log places : List ℕ) (p : ℕ) → place_of places p ≢ 0 → laid_page size file log places p ≡ part_or_zeros size (place_of places p) log
 unfolding laid_page
 laid_log size file log places p ne = let t : (place_of places p == 0) ≡ false = ne_eqb (place_of places p) 0 ne in rw t refl
 
@@ -33,7 +31,7 @@ module _ (size count : ℕ) (file log places : List ℕ) (p : ℕ) (one : 1 ≤ 
   pub page_own : place_of places p ≡ 0 → page (laid size count file log places) p ≡ file_page size file p
   page_own none = page_laid size count file log places p one most ∙ laid_own size file log places p none
 
-  pub page_logged : place_of places p ≢ 0 → page (laid size count file log places) p ≡ part log (place_of places p) size
+  pub page_logged : place_of places p ≢ 0 → page (laid size count file log places) p ≡ part_or_zeros size (place_of places p) log
   page_logged some = page_laid size count file log places p one most ∙ laid_log size file log places p some
 
 -- ---- each page has the size of one
@@ -46,12 +44,15 @@ file_page_long : (size : ℕ) (file : List ℕ) (p : ℕ) → length (file_page 
 unfolding file_page
 file_page_long size file p = length-map-range_with_len (λ i. get_or file ((p - 1) * size + i) 0) 0 size
 
-module _ (size : ℕ) (file log places : List ℕ) (are : ArePlaces size log places) where
+part_long : (size at : ℕ) (file : List ℕ) → length (part_or_zeros size at file) ≡ size
+unfolding part_or_zeros
+part_long size at file = length-map-range_with_len (λ i. get_or file (at + i) 0) 0 size
+
+module _ (size : ℕ) (file log places : List ℕ) where
   page_long : (p : ℕ) → length (laid_page size file log places p) ≡ size
   page_long p = ⊎_elim
       (λ none. ap length (laid_own size file log places p none) ∙ file_page_long size file p)
-      (λ some. ap length (laid_log size file log places p some)
-      ∙ length-take-le size (drop (place_of places p) log) (omega (arith, length-drop (place_of places p) log, are.within (p - 1) some)))
+      (λ some. ap length (laid_log size file log places p some) ∙ part_long size (place_of places p) log)
       (cases_eq (place_of places p) 0)
 
   pub laid_sized : (count : ℕ) → Every (λ bytes. length bytes ≡ size) (laid size count file log places)

@@ -3,3 +3,4 @@ pub mod FileHeads
 pub mod Recorded
 pub mod Framed
 pub mod Opening
+pub mod Pieces

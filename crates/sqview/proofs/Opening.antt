@@ -24,7 +24,8 @@ use Rattle.sqjournal.specs.declared.header.JournalHeader.{JournalHeader}
 use Rattle.sqjournal.proofs.Standing.{front_first, front_names, front_refused}
 use Rattle.sqpage.specs.Header.{HasMagic, HasPageSize, size_named}
 use Rattle.sqpage.specs.declared.fault.Fault.TheVariants as faults
-use Rattle.sqview.specs.LogView.{most_bytes, head_of, own_pages, IsLogged, IsAlone, AreTwoLogs, IsTooLong, IsAbove, ViewRefused, pages_of, IsShown, ViewAnswer}
+use Rattle.sqview.specs.LogView.{most_bytes, head_of, own_pages, IsLogged, IsAlone, IsTooLong, IsAbove, ViewRefused, pages_of, IsShown, ViewAnswer}
+use Rattle.sqview.specs.Logs.{AreTwoLogs}
 use Rattle.sqview.specs.ViewParts.{ReplayedAnswer, ScannedAnswer, LimitAnswer, IsUnsized}
 use Rattle.sqview.specs.declared.view.View.{View}
 use Rattle.sqview.specs.declared.view_error.ViewError.{ViewError}
@@ -98,9 +99,9 @@ module _ (db wal journal : List ℕ) (alone : IsAlone wal journal) where
           record {
             size_is = subst IsPageSize (sym s) is;
             named = s ∙ named;
-            count = length_laid v.page_size v.count (bytes v.db) v.log.now v.places.items ∙ le.0 ∙ ap (λ n. own_pages n db) (sym s);
-            each = λ p one most. page_laid v.page_size v.count (bytes v.db) v.log.now v.places.items p one (omega (arith, length_laid v.page_size v.count (bytes v.db) v.log.now v.places.items))
-                ∙ laid_own v.page_size (bytes v.db) v.log.now v.places.items p (ap (λ l. get_or l (p - 1) 0) none) ∙ ap (λ l. file_page v.page_size l p) d;
+            count = length_laid v.page_size v.count (bytes v.db) (bytes v.log) v.places.items ∙ le.0 ∙ ap (λ n. own_pages n db) (sym s);
+            each = λ p one most. page_laid v.page_size v.count (bytes v.db) (bytes v.log) v.places.items p one (omega (arith, length_laid v.page_size v.count (bytes v.db) (bytes v.log) v.places.items))
+                ∙ laid_own v.page_size (bytes v.db) (bytes v.log) v.places.items p (ap (λ l. get_or l (p - 1) 0) none) ∙ ap (λ l. file_page v.page_size l p) d;
           },
         ));
         one = not_two;

@@ -1,8 +1,8 @@
 -- The places of a journal's last records.
-use Rattle.std.proofs.Common.{◌≡◌, ◌≢◌, ◌⊎◌, inl, inr, ⊎_elim, ℕ, ◌+◌, ◌-◌, ◌*◌, ◌/◌, ◌<◌, ◌≤◌, cond, true, false, List, [], ◌∷◌, ◌++◌, map, length, drop, get_or, refl, sym, ◌∙◌, ap, subst, arith, eq-eqb, ne_eqb, length-append, reverse}
+use Rattle.std.proofs.Common.{◌≡◌, ◌≢◌, ◌⊎◌, inl, inr, ⊎_elim, ℕ, ◌+◌, ◌-◌, ◌*◌, ◌/◌, ◌^◌, ◌<◌, ◌≤◌, cond, true, false, List, [], ◌∷◌, ◌++◌, map, length, drop, get_or, refl, sym, ◌∙◌, ap, subst, arith, eq-eqb, ne_eqb, length-append, reverse}
 use Rattle.std.specs.Prelude.{◌==◌, Some, None, unwrap_or, slice_get}
 use Rattle.std.proofs.lemmas.Bool.{cases_lt, cases_eq}
-use Rattle.std.proofs.lemmas.List.{reverse-append, drop_more, drop_all, get_or_past}
+use Rattle.std.proofs.lemmas.List.{append-nil, reverse-append, drop_more, drop_all}
 use Rattle.std.proofs.lemmas.Option.{slice_get_within, get_or_from_slice_get, slice_get-get_or}
 use Rattle.std.proofs.Math.Nat.{lt-div-mul-add}
 use Rattle.sqval.specs.Bytes.{part, word}
@@ -10,16 +10,19 @@ use Rattle.sqval.specs.Database.{Pages, file_page, supplied}
 use Rattle.sqjournal.specs.Header.{next_header}
 use Rattle.sqjournal.specs.Journal.{Segment, Sizes, sizes_of, record_len, records_end, AreRecords, AreSegments, IsHot, IsJournal, placed, entries}
 use Rattle.sqjournal.specs.Restored.{all_records, last_content, IsRolledBack}
-use Rattle.sqjournal.specs.Took.{Took, HasEntry}
+use Rattle.sqjournal.specs.Took.{Took, HasEntry, Says}
 use Rattle.sqjournal.specs.declared.replay.Replay.{Replay}
 use Rattle.sqjournal.specs.declared.reading.Record.{Record}
 use Rattle.sqjournal.specs.declared.reading.Why.{Why}
+use Rattle.sqjournal.specs.declared.replay.Stop.{Stop}
 use Rattle.sqjournal.proofs.Contents.{content_at, contents}
 use Rattle.sqjournal.proofs.Journals.{size_bounds}
 use Rattle.sqjournal.proofs.Taking.{has_entry}
 use Rattle.sqjournal.proofs.Unique.{one_journal}
-use Rattle.sqview.specs.Laid.{place_of, laid, ArePlaces}
+use Rattle.sqview.specs.Laid.{part_or_zeros, place_of, laid}
+use Rattle.sqview.specs.Logs.{HasRead}
 use Rattle.sqview.specs.ViewParts.{last_place, Noted, AreNoted, AreRecordPlaces}
+use Rattle.sqview.proofs.FileHeads.{part_is}
 use Rattle.sqview.proofs.Laying.{length_laid, page_laid, laid_own, laid_log}
 
 -- ---- Each entry is the place of a whole page, above 0.
@@ -124,9 +127,6 @@ module _ (z : Sizes) (b : List ℕ) (p : ℕ) (x : List ℕ) where
 
 -- ---- Putting the places down.
 
-pub has_journal : (b : List ℕ) (s : Replay) → Took b s → (segments : List Segment) × (at : ℕ) × (why : Why) × IsJournal b segments at why
-has_journal b s t = let has = has_entry b s 0 _ t refl in (has.segments, has.stop.at, has.stop.why, has.is)
-
 same_entries : (b : List ℕ) (ss us : List Segment) (m n : ℕ) (v w : Why) → IsJournal b ss m v → IsJournal b us n w → entries (sizes_of b) 0 ss ≡ entries (sizes_of b) 0 us
 same_entries b ss us m n v w p q = ap (λ l. entries (sizes_of b) 0 l) (one_journal b ss us m n v w p q).0
 
@@ -177,18 +177,6 @@ module _ (b : List ℕ) (count : ℕ) (places : List ℕ) (are : AreRecordPlaces
   inside : AreWithin (word b 24) (length b) (entries (sizes_of b) 0 segments)
   inside = within_entries (sizes_of b) b 0 segments at why segs
 
-  pub record_places_within : ArePlaces (word b 24) b places
-  record_places_within = record {
-    within = λ i some. ⊎_elim
-        (λ lt. let here : place_of places (i + 1) ≡ last_place (entries (sizes_of b) 0 segments) (i + 1) 0 = are.each segments at why is (i + 1) (omega arith) (omega (arith, are.long)) in
-        let same : i + 1 - 1 ≡ i = omega arith in
-        let at_i : get_or places i 0 ≡ last_place (entries (sizes_of b) 0 segments) (i + 1) 0 = ap (λ n. get_or places n 0) (sym same) ∙ here in
-        let end : last_place (entries (sizes_of b) 0 segments) (i + 1) 0 + word b 24 ≤ length b = last_within (sizes_of b) b (i + 1) [] (entries (sizes_of b) 0 segments) 0 inside (λ ne. absurd (ne refl)) (λ e. some (at_i ∙ e)) in
-        subst (λ (n : ℕ). n + word b 24 ≤ length b) (sym at_i) end)
-        (λ ge. absurd (some (get_or_past places i 0 ge)))
-        (cases_lt i (length places));
-  }
-
   pub rolled_back : (size : ℕ) (file : List ℕ) → size ≡ word b 24 → count ≡ word b 16 → IsRolledBack file b (laid size count file b places)
   rolled_back size file e f = record {
     segments = segments;
@@ -208,7 +196,46 @@ module _ (b : List ℕ) (count : ℕ) (places : List ℕ) (are : AreRecordPlaces
         page_laid size count file b places p one most
         ∙ ⊎_elim
         (λ none. laid_own size file b places p none ∙ ap (λ n. file_page n file p) e ∙ sym (value_none (word b 24) b own (place_of places p) none))
-        (λ some. laid_log size file b places p some ∙ ap (λ n. part b (place_of places p) n) e ∙ sym (value_some (word b 24) b own (place_of places p) some))
+        (λ some.
+        let end : last_place (entries (sizes_of b) 0 segments) p 0 + word b 24 ≤ length b = last_within (sizes_of b) b p [] (entries (sizes_of b) 0 segments) 0 inside (λ ne. absurd (ne refl)) (λ z. some (here ∙ z)) in
+        let there : place_of places p + word b 24 ≤ length b = subst (λ (n : ℕ). n + word b 24 ≤ length b) (sym here) end in
+        laid_log size file b places p some ∙ ap (λ n. part_or_zeros n (place_of places p) b) e ∙ part_is (word b 24) (place_of places p) b there
+        ∙ sym (value_some (word b 24) b own (place_of places p) some))
         (cases_eq (place_of places p) 0)
         ∙ sym last;
   }
+
+-- ---- A journal of which a front was read.
+
+module _ (b : List ℕ) (r : Replay) (read : HasRead b r) where
+  -- what the front says the whole journal says
+  front_says : (es : List Record) (stop : Stop) → Says read.front es stop → Says b es stop
+  front_says es stop says = subst (λ (l : List ℕ). Says l es stop) (sym read.split) (⊎_elim
+      (λ none. subst (λ (l : List ℕ). Says l es stop) (sym (ap (λ l. read.front ++ l) none ∙ append-nil read.front)) says)
+      (λ settled. settled read.more es stop says)
+      read.rest)
+
+  read_says : (es : List Record) × (stop : Stop) × Says read.front es stop
+  read_says =
+      let has = has_entry read.front r 0 _ read.took refl in
+      (entries (sizes_of read.front) 0 has.segments, has.stop, record { segments = has.segments; is = has.is; records = refl })
+
+  pub read_journal : (segments : List Segment) × (at : ℕ) × (why : Why) × IsJournal b segments at why
+  read_journal = let s = read_says in let is = front_says s.0 s.1 s.2 in (is.segments, s.1.at, s.1.why, is.is)
+
+  front_short : length read.front ≤ length b
+  front_short = omega (arith, ap length read.split, length-append read.front read.more)
+
+  pub read_places : (count : ℕ) (places : List ℕ) → length b ≤ 2 ^ 40
+      → ((c : List ℕ) → Took c r → length c ≤ 2 ^ 40 → AreRecordPlaces c count places) → AreRecordPlaces b count places
+  read_places count places short are =
+      let s = read_says in
+      let here = s.2 in
+      let all = front_says s.0 s.1 s.2 in
+      let front = are read.front read.took (omega (arith, front_short)) in
+      record {
+        long = front.long;
+        each = λ segments at why is p one le.
+            front.each here.segments s.1.at s.1.why here.is p one le
+            ∙ ap (λ l. last_place l p 0) (here.records ∙ sym all.records ∙ same_entries b all.segments segments s.1.at at s.1.why why all.is is);
+      }

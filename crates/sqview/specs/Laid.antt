@@ -1,7 +1,6 @@
 -- How a view holds its pages.
-use Rattle.std.specs.Prelude.{◌≢◌, ℕ, ◌+◌, ◌-◌, ◌≤◌, ◌==◌, cond, List, length, map, get_or}
+use Rattle.std.specs.Prelude.{ℕ, ◌+◌, ◌-◌, ◌==◌, cond, List, map, get_or}
 use Rattle.std.specs.List.{range_with_len}
-use Rattle.sqval.specs.Bytes.{part}
 use Rattle.sqval.specs.Database.{Database, file_page}
 
 -- so many bytes of a file from a place on, with zeros past the file's end
@@ -13,12 +12,8 @@ abbrev pub place_of : (places : List ℕ) → (p : ℕ) → ℕ
 place_of places p = get_or places (p - 1) 0
 
 unfoldable pub laid_page : (size : ℕ) (file log places : List ℕ) → (p : ℕ) → List ℕ
-laid_page size file log places p = cond (place_of places p == 0) (file_page size file p) (part log (place_of places p) size)
+laid_page size file log places p = cond (place_of places p == 0) (file_page size file p) (part_or_zeros size (place_of places p) log)
 
 -- the pages of a file over which pages of a log are laid
 unfoldable pub laid : (size count : ℕ) (file log places : List ℕ) → Database
 laid size count file log places = map (laid_page size file log places) (range_with_len 1 count)
-
--- each place is that of a whole page
-pub record ArePlaces (size : ℕ) (log places : List ℕ) : Type 0 where
-  pub within : (i : ℕ) → get_or places i 0 ≢ 0 → get_or places i 0 + size ≤ length log

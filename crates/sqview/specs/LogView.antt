@@ -1,5 +1,5 @@
 -- The database that a file and the log beside it show.
-use Rattle.std.specs.Prelude.{◌≡◌, ◌≢◌, ◌⊎◌, ℕ, suc, ◌*◌, ◌^◌, ◌<◌, ◌≤◌, ◌==◌, cond, List, [], length, Result, Ok, Err}
+use Rattle.std.specs.Prelude.{◌≡◌, ◌⊎◌, ℕ, suc, ◌*◌, ◌^◌, ◌<◌, ◌≤◌, ◌==◌, cond, List, length, Result, Ok, Err}
 use Rattle.sqval.specs.Bytes.{word}
 use Rattle.sqval.specs.Database.{Database, page, file_page, file_pages}
 use Rattle.sqval.specs.PageSize.{IsPageSize}
@@ -12,6 +12,7 @@ use Rattle.sqjournal.specs.Restored.{IsRolledBack}
 use Rattle.sqpage.specs.Header.{HasMagic, HasPageSize, size_named}
 use Rattle.sqpage.specs.declared.fault.Fault.TheVariants as faults
 use Rattle.sqview.specs.Laid.{laid}
+use Rattle.sqview.specs.Logs.{AreTwoLogs}
 use Rattle.sqview.specs.declared.view.View.{View}
 use Rattle.sqview.specs.declared.view_error.ViewError.{ViewError}
 use Rattle.sqview.specs.declared.view_error.ViewError.TheVariants.{TwoLogs, TooLarge, Header, Unread, NoMemory}
@@ -64,10 +65,6 @@ HasSizes size count db wal journal =
     ⊎ ((front : ℕ) × IsLogged wal journal front × (size ≡ named_size wal) × (count ≡ size_of size wal front))
     ⊎ (IsAlone wal journal × IsPageSize size × (size ≡ size_named (head_of db)) × (count ≡ own_pages size db))
 
--- a hot journal and a log that isn't empty
-abbrev pub AreTwoLogs : (wal journal : List ℕ) → Type 0
-AreTwoLogs wal journal = IsHot journal × (wal ≢ [])
-
 -- the one that counts is longer than one that is scanned
 abbrev pub IsTooLong : (wal journal : List ℕ) → Type 0
 IsTooLong wal journal = (IsHot journal × (2 ^ 40 < length journal)) ⊎ ((¬ IsHot journal) × IsValidFrame (named_size wal) wal (suc most_frames))
@@ -86,9 +83,9 @@ ViewRefused db wal journal (Header _) = ⊥
 ViewRefused db wal journal Unread = ⊥
 ViewRefused db wal journal NoMemory = Unit {0}
 
--- the pages of a view, by what its file has
+-- the pages of a view, by what its file and its log have
 abbrev pub pages_of : {F : Type 0} → (bytes : F → List ℕ) → View F → Database
-pages_of bytes v = laid v.page_size v.count (bytes v.db) v.log.now v.places.items
+pages_of bytes v = laid v.page_size v.count (bytes v.db) (bytes v.log) v.places.items
 
 -- a view of these files that is not refused
 pub record IsShown {F : Type 0} (bytes : F → List ℕ) (db wal journal : List ℕ) (v : View F) : Type 0 where

@@ -1,22 +1,41 @@
 -- What the parts of a view promise one another.
-use Rattle.std.specs.Prelude.{◌≡◌, ◌⊎◌, ℕ, suc, ◌+◌, ◌*◌, ◌^◌, ◌<◌, ◌≤◌, ◌==◌, cond, List, [], ◌∷◌, length, drop, Option, Some, None, Result, Ok, Err}
+use Rattle.std.specs.Prelude.{◌≡◌, ◌⊎◌, ℕ, suc, ◌+◌, ◌*◌, ◌^◌, ◌<◌, ◌≤◌, ◌==◌, cond, List, [], ◌∷◌, length, drop, take, Option, Some, None, Result, Ok, Err}
 use Rattle.sqwal.specs.Header.{named_size, IsHeader}
 use Rattle.sqwal.specs.Frames.{frame_at, IsValidFrame}
 use Rattle.sqwal.specs.View.{Unnamed, IsLast}
 use Rattle.sqwal.specs.Refusal.{most_frames}
 use Rattle.sqwal.specs.Took.{Took}
+use Rattle.sqwal.specs.Answers.{LogRefused}
+use Rattle.sqwal.specs.declared.error.WalFormatError.{WalFormatError}
+use Rattle.sqpage.specs.declared.source.SourceError.{SourceError}
 use Rattle.sqwal.specs.declared.scan.Scan.{Scan}
 use Rattle.sqpage.specs.Header.{HasMagic}
 use Rattle.sqpage.specs.declared.fault.Fault.TheVariants as faults
 use Rattle.sqjournal.specs.Journal.{Segment, IsJournal, entries, sizes_of}
-use Rattle.sqjournal.specs.Took.{Took as ReplayTook}
+use Rattle.sqjournal.specs.Took.{Took as ReplayTook, Refuses}
+use Rattle.sqjournal.specs.declared.error.JournalError.{JournalError}
+use Rattle.sqjournal.specs.declared.error.JournalError.TheVariants.{NoMemory as NoReplayMemory}
 use Rattle.sqjournal.specs.declared.replay.Replay.{Replay}
 use Rattle.sqjournal.specs.declared.reading.Record.{Record}
 use Rattle.sqjournal.specs.declared.reading.Why.{Why}
 use Rattle.sqview.specs.LogView.{most_bytes}
+use Rattle.sqview.specs.Logs.{HasRead}
 use Rattle.sqview.specs.Laid.{place_of}
 use Rattle.sqview.specs.declared.view_error.ViewError.{ViewError}
 use Rattle.sqview.specs.declared.view_error.ViewError.TheVariants.{TooLarge, Header, NoMemory}
+
+-- the bytes of a log up to the end were handed to the scan
+abbrev pub ScanPiece : List ℕ → (end : ℕ) → Result (Result (Unit {0}) WalFormatError) SourceError → Scan → Type 0
+ScanPiece w end (Ok (Ok x)) s = Took (take end w) s
+ScanPiece w end (Ok (Err e)) s = LogRefused w e
+ScanPiece w end (Err e) s = ⊥
+
+-- those of a journal to the replay
+abbrev pub ReplayPiece : List ℕ → (end : ℕ) → Result (Result (Unit {0}) JournalError) SourceError → Replay → Type 0
+ReplayPiece b end (Ok (Ok x)) r = ReplayTook (take end b) r
+ReplayPiece b end (Ok (Err NoReplayMemory)) r = Unit {0}
+ReplayPiece b end (Ok (Err e)) r = Refuses b e
+ReplayPiece b end (Err e) r = ⊥
 
 -- the scan of a log, where it has a valid header
 abbrev pub ScannedAnswer : List ℕ → Result (Option Scan) ViewError → Type 0
@@ -28,7 +47,7 @@ ScannedAnswer w (Err _) = ⊥
 
 -- the replay of a hot journal
 abbrev pub ReplayedAnswer : List ℕ → Result Replay ViewError → Type 0
-ReplayedAnswer b (Ok r) = (length b ≤ 2 ^ 40) × ReplayTook b r
+ReplayedAnswer b (Ok r) = (length b ≤ 2 ^ 40) × HasRead b r
 ReplayedAnswer b (Err TooLarge) = 2 ^ 40 < length b
 ReplayedAnswer b (Err NoMemory) = Unit {0}
 ReplayedAnswer b (Err _) = ⊥

@@ -1,10 +1,11 @@
-//! Where the bytes of a database file come from.
+//! Where the bytes of a file come from (own).
 ghost use Rattle.std.specs.Prelude.{◌≡◌, ℕ, List, length, IsOk};
+ghost use Rattle.sqval.specs.Bytes.{AreBytes};
 ghost use Rattle.sqview.specs.Laid.{part_or_zeros};
 
 use sqpage::SourceError;
 
-/// The bytes of a database file, read in parts.
+/// The bytes of a file, a database's or a log's, read in parts. A missing file has none.
 pub trait FileBytes {
     /// Its bytes.
     ghost bytes: { Self → List ℕ };
@@ -14,13 +15,23 @@ pub trait FileBytes {
 
     /// How many there are.
     fn len(&self) -> u64
-        ensures { gives_bytes self.now → result ≡ length (bytes self.now) };
+        ensures count { gives_bytes self.now → result ≡ length (bytes self.now) }
+        ensures bytes { gives_bytes self.now → AreBytes (bytes self.now) };
 
-    /// Fills the buffer from a place on, with zeros past the end.
+    /// Fills the buffer from a place on, with zeros past the end. Refused by `SourceError` where a byte before the end can't
+    /// be read; the buffer may then hold anything.
     fn read_at(&mut self, at: u64, out: &mut [u8]) -> Result<(), SourceError>
         ensures read { gives_bytes self.old → IsOk result × (out.new ≡ part_or_zeros (length out.old) at (bytes self.old)) }
         ensures still_gives { gives_bytes self.old → gives_bytes self.new }
         ensures same_bytes { bytes self.new ≡ bytes self.old };
+}
+
+/// How many bytes there are.
+fn count_of(file: &[u8]) -> u64
+    ensures count { result ≡ length file.now }
+    ensures bytes { AreBytes file.now }
+{
+    file.len() as u64
 }
 
 impl FileBytes for &[u8] {
@@ -29,7 +40,7 @@ impl FileBytes for &[u8] {
     ghost gives_bytes = { λ _. Unit {0} };
 
     fn len(&self) -> u64 {
-        (**self).len() as u64
+        count_of(self)
     }
 
     fn read_at(&mut self, at: u64, out: &mut [u8]) -> Result<(), SourceError> {

@@ -1,7 +1,6 @@
 //! The first bytes of a database file.
-ghost use Rattle.std.specs.Prelude.{◌≡◌, ◌+◌, ◌-◌, ◌*◌, ◌<◌, ◌≤◌, length, IsOk, Ok};
+ghost use Rattle.std.specs.Prelude.{◌≡◌, ◌+◌, ◌≤◌, Ok};
 ghost use Rattle.sqval.specs.Bytes.{word};
-ghost use Rattle.sqval.specs.Database.{file_page};
 ghost use Rattle.sqview.specs.LogView.{head_of, own_pages};
 
 use crate::file_bytes::FileBytes;
@@ -12,18 +11,6 @@ use sqval::PageSize;
 /// How many bytes the header of a database file has.
 pub const HEAD: usize = 100;
 
-/// Reads page `p` of a file, with zeros past the file's end.
-pub fn read_page<F: FileBytes>(file: &mut F, p: u32, out: &mut [u8]) -> Result<(), SourceError>
-    requires above { 0 < p }
-    requires size { length out.old ≤ 65536 }
-    ensures read { F.gives_bytes file.old → IsOk result × (out.new ≡ file_page (length out.old) (F.bytes file.old) p) }
-    ensures still_gives { F.gives_bytes file.old → F.gives_bytes file.new }
-    ensures same_bytes { F.bytes file.new ≡ F.bytes file.old }
-{
-    let at = u64::from(p - 1) * out.len() as u64;
-    file.read_at(at, out)
-}
-
 /// The first 100 bytes of a file, with zeros past its end.
 pub fn read_head<F: FileBytes>(file: &mut F) -> Result<[u8; 100], SourceError>
     ensures read { F.gives_bytes file.old → result ≡ Ok (head_of (F.bytes file.old)) }
@@ -31,7 +18,7 @@ pub fn read_head<F: FileBytes>(file: &mut F) -> Result<[u8; 100], SourceError>
     ensures same_bytes { F.bytes file.new ≡ F.bytes file.old }
 {
     let mut head = [0u8; HEAD];
-    read_page(file, 1, &mut head)?;
+    file.read_at(0, &mut head)?;
     Ok(head)
 }
 

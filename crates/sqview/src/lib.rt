@@ -5,6 +5,7 @@
 mod file_bytes;
 mod file_head;
 mod judge_error;
+mod logs;
 mod places;
 mod verdict;
 mod view;
@@ -12,6 +13,7 @@ mod view_error;
 
 pub use file_bytes::FileBytes;
 pub use judge_error::JudgeError;
+pub use logs::{LogInUse, hot_header, log_in_use, replay_log, scan_log};
 pub use verdict::{Verdict, judge};
 pub use view::View;
 pub use view_error::ViewError;

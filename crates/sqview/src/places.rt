@@ -11,40 +11,6 @@ use sqjournal::Replay;
 use sqval::PageSize;
 use sqwal::{Front, Scan};
 use std::alloc::Global;
-use walcore::index_of;
-
-/// Where the page of a frame begins, 0 for no frame.
-fn place(frame: u32, page_size: PageSize) -> u64
-    ensures none { frame ≡ 0 → result ≡ 0 }
-    ensures some { 1 ≤ frame → result ≡ frame_at page_size frame + 24 }
-{
-    match frame {
-        0 => 0,
-        _ => 32 + u64::from(frame - 1) * (24 + u64::from(page_size.get())) + 24,
-    }
-}
-
-/// Where the log has each page of the database at its front, by the last frame that names it; 0 where none does.
-pub fn frame_places(
-    alloc: Global,
-    scan: &Scan,
-    page_size: PageSize,
-    front: Front,
-) -> Result<Vec<u64>, ViewError>
-    ensures places { IfOk result (λ v. (w : List ℕ) → Took w scan.now → named_size w ≡ page_size → IsValidFrame (named_size w) w front.frames → AreFramePlaces page_size w front.frames front.size v.items) }
-    ensures memory { OnErr result (result ≡ Err ViewError.NoMemory) }
-{
-    let Ok(index) = index_of(alloc, scan, front) else {
-        return Err(ViewError::NoMemory);
-    };
-    let mut places = Vec::new(alloc);
-    places.reserve(front.size as usize)?;
-    for k in 0..front.size {
-        let hit = index.find(k + 1, front.frames);
-        places.push(place(hit.frame, page_size))?;
-    }
-    Ok(places)
-}
 
 /// Puts down where a page is, if it is one up to the last.
 fn note(places: &mut Vec<u64>, page: u32, at: u64)
@@ -62,6 +28,34 @@ fn zeros(alloc: Global, count: usize) -> Result<Vec<u64>, ViewError>
     ensures memory { OnErr result (result ≡ Err ViewError.NoMemory) }
 {
     Ok(vec![in alloc; 0u64; count]?)
+}
+
+/// Where the page of a frame begins in the log.
+fn place(frame: u32, page_size: PageSize) -> u64
+    requires { 1 ≤ frame }
+    ensures { result ≡ frame_at page_size frame + 24 }
+{
+    32 + u64::from(frame - 1) * (24 + u64::from(page_size.get())) + 24
+}
+
+/// Where the log has each page of the database at its front, by the last frame that names it; 0 where none does.
+pub fn frame_places(
+    alloc: Global,
+    scan: &Scan,
+    page_size: PageSize,
+    front: Front,
+) -> Result<Vec<u64>, ViewError>
+    ensures places { IfOk result (λ v. (w : List ℕ) → Took w scan.now → named_size w ≡ page_size → IsValidFrame (named_size w) w front.frames → AreFramePlaces page_size w front.frames front.size v.items) }
+    ensures memory { OnErr result (result ≡ Err ViewError.NoMemory) }
+{
+    let mut places = zeros(alloc, front.size as usize)?;
+    for i in 0..front.frames {
+        let Some(entry) = scan.entry(i as usize + 1) else {
+            break;
+        };
+        note(&mut places, entry.page, place(i + 1, page_size));
+    }
+    Ok(places)
 }
 
 /// Where the journal has each page up to the count, by the last record that names it; 0 where none does.

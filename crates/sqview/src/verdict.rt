@@ -22,9 +22,9 @@ pub enum Verdict {
 
 /// What a check finds of a view. Refused by AutoVacuum and NoMemory, which say that a database can't be checked and not
 /// that it is damaged.
-fn judge_view<F: FileBytes>(alloc: Global, view: &mut View<'_, F>) -> Result<Verdict, JudgeError>
-    ensures found { F.gives_bytes view.old.db → IfOk result (IsVerdictOf F.bytes view.old) }
-    ensures refused { F.gives_bytes view.old.db → IfErr result (IsUnjudged (pages_of F.bytes view.old)) }
+fn judge_view<F: FileBytes>(alloc: Global, view: &mut View<F>) -> Result<Verdict, JudgeError>
+    ensures found { F.gives_bytes view.old.db × F.gives_bytes view.old.log → IfOk result (IsVerdictOf F.bytes view.old) }
+    ensures refused { F.gives_bytes view.old.db × F.gives_bytes view.old.log → IfErr result (IsUnjudged (pages_of F.bytes view.old)) }
 {
     match check(alloc, view) {
         Ok(report) => Ok(Verdict::Clean(report)),
@@ -37,17 +37,19 @@ fn judge_view<F: FileBytes>(alloc: Global, view: &mut View<'_, F>) -> Result<Ver
     }
 }
 
-/// What a check finds of the database that a file shows with the bytes of its write-ahead log and its rollback journal, where
-/// a missing file is an empty slice. A header that names no database is damage at page 1. Refused by TwoLogs, TooLarge,
-/// AutoVacuum and NoMemory, and by Unread where the file could not be read.
+/// What a check finds of the database that a file shows with its write-ahead log and its rollback journal, where a missing
+/// file has no bytes. A header that names no database is damage at page 1. Refused by TwoLogs, TooLarge, AutoVacuum and
+/// NoMemory, and by Unread where a file could not be read.
 pub fn judge<F: FileBytes + Drop>(
     alloc: Global,
     db: F,
-    wal: &[u8],
-    journal: &[u8],
+    wal: F,
+    journal: F,
 ) -> Result<Verdict, JudgeError>
-    ensures found { F.gives_bytes db → IfOk result (IsVerdict (F.bytes db) wal.now journal.now) }
-    ensures refused { F.gives_bytes db → IfErr result (AreUnjudged (F.bytes db) wal.now journal.now) }
+    ensures found { F.gives_bytes db × F.gives_bytes wal × F.gives_bytes journal
+        → IfOk result (IsVerdict (F.bytes db) (F.bytes wal) (F.bytes journal)) }
+    ensures refused { F.gives_bytes db × F.gives_bytes wal × F.gives_bytes journal
+        → IfErr result (AreUnjudged (F.bytes db) (F.bytes wal) (F.bytes journal)) }
 {
     match View::new(alloc, db, wal, journal) {
         Ok(mut view) => judge_view(alloc, &mut view),

@@ -1,29 +1,27 @@
 //! The database that a file and the log beside it show, as a source of pages.
 ghost use Rattle.std.specs.Prelude.{◌≡◌, ◌<◌};
-ghost use Rattle.sqview.specs.Laid.{place_of, laid, ArePlaces};
+ghost use Rattle.sqview.specs.Laid.{place_of, laid};
 
 mod opening;
 
 use crate::file_bytes::FileBytes;
-use crate::file_head::read_page;
 use sqpage::{PageSource, SourceError};
 use sqval::PageSize;
 
-/// The pages of a database file as the log beside it has them. It reads the file in parts, borrows the bytes of the log,
-/// and keeps 8 bytes for each page where a log counts.
+/// The pages of a database file as the log beside it has them. Each is read where it lies, and 8 bytes are kept for each
+/// page where a log counts.
 #[derive(Drop)]
-pub struct View<'a, F> {
+pub struct View<F> {
     db: F,
-    /// The log that counts; empty where none does.
-    log: &'a [u8],
+    /// The log that counts, or one of which nothing is read.
+    log: F,
     page_size: PageSize,
     count: u32,
     /// By page: where its bytes begin in the log. 0, or none, where the file's count.
     places: Vec<u64>,
-    ghost within: { ArePlaces page_size log.now places.items },
 }
 
-impl<'a, F> View<'a, F> {
+impl<F> View<F> {
     /// Where page `p` begins in the log, 0 where the file's counts.
     fn place(&self, p: u32) -> u64
         requires { 0 < p }
@@ -33,12 +31,12 @@ impl<'a, F> View<'a, F> {
     }
 }
 
-impl<'a, F: FileBytes> PageSource for View<'a, F> {
-    ghost pages = { λ v. laid v.page_size v.count (F.bytes v.db) v.log.now v.places.items };
+impl<F: FileBytes> PageSource for View<F> {
+    ghost pages = { λ v. laid v.page_size v.count (F.bytes v.db) (F.bytes v.log) v.places.items };
 
     ghost size = { λ v. v.page_size };
 
-    ghost gives_pages = { λ v. F.gives_bytes v.db };
+    ghost gives_pages = { λ v. F.gives_bytes v.db × F.gives_bytes v.log };
 
     fn page_size(&self) -> PageSize {
         self.page_size
@@ -49,12 +47,11 @@ impl<'a, F: FileBytes> PageSource for View<'a, F> {
     }
 
     fn page(&mut self, p: u32, out: &mut [u8]) -> Result<(), SourceError> {
-        let size = self.page_size.get() as usize;
-        let at = self.place(p) as usize;
+        let size = u64::from(self.page_size.get());
+        let at = self.place(p);
         if at == 0 {
-            return read_page(&mut self.db, p, out);
+            return self.db.read_at(u64::from(p - 1) * size, out);
         }
-        out.copy_from_slice(&self.log[at..at + size]);
-        Ok(())
+        self.log.read_at(at, out)
     }
 }

@@ -183,7 +183,7 @@ log_refused h w HeaderSum is r = absurd r
 log_refused h w UnknownVersion is r = absurd r
 
 -- a header that is refused, with more bytes
-module _ (head more : List ℕ) (long : length head ≡ 32) where
+module _ (head more : List ℕ) (long : 32 ≤ length head) where
   word-more : (at : ℕ) → at + 4 ≤ 32 → word (head ++ more) at ≡ word head at
   word-more at l = sym (word_same head (head ++ more) (length head) at (same head more) (omega arith))
 
@@ -217,10 +217,20 @@ module _ (head more : List ℕ) (long : length head ≡ 32) where
   whole-more : 32 ≤ length (head ++ more)
   whole-more = omega (arith, length-append head more)
 
-pub header_refused-more : (head more : List ℕ) (e : WalFormatError) → length head ≡ 32 → HeaderRefused head e → LogRefused (head ++ more) e
+pub header_refused-more : (head more : List ℕ) (e : WalFormatError) → 32 ≤ length head → HeaderRefused head e → LogRefused (head ++ more) e
 header_refused-more head more NotAWal long is = (whole-more head more long, λ m. is (magic-less head more long m))
 header_refused-more head more PageSize long is = (whole-more head more long, (magic-more head more long is.0, λ s. is.1 (subst (λ (n : ℕ). IsPageSize n) (sym (named-same head more long)) s)))
 header_refused-more head more HeaderSum long is = (whole-more head more long, (magic-more head more long is.0, size-is-more head more long is.1, λ s. is.2 (header_sums-less head more long s)))
 header_refused-more head more UnknownVersion long is = (whole-more head more long, (magic-more head more long is.0, size-is-more head more long is.1, header_sums-more head more long is.2, λ v. is.3 (sym (word-more head more long 4 (omega arith)) ∙ v)))
 header_refused-more head more TooLong long is = absurd is
 header_refused-more head more NoMemory long is = tt
+
+pub log_refused-more : (w more : List ℕ) (e : WalFormatError) → LogRefused w e → LogRefused (w ++ more) e
+log_refused-more w more TooLong is =
+    let long : 32 ≤ length w = (is.each 1 (omega arith) (omega arith)).header.whole in
+    subst (λ (n : ℕ). IsValidFrame n (w ++ more) (suc most_frames)) (named-more w more long) (too_long-more w more (named_size w) (suc most_frames) is)
+log_refused-more w more NoMemory is = tt
+log_refused-more w more NotAWal is = header_refused-more w more NotAWal is.0 is.1
+log_refused-more w more PageSize is = header_refused-more w more PageSize is.0 is.1
+log_refused-more w more HeaderSum is = header_refused-more w more HeaderSum is.0 is.1
+log_refused-more w more UnknownVersion is = header_refused-more w more UnknownVersion is.0 is.1

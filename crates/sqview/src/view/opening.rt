@@ -3,13 +3,14 @@ ghost use Rattle.std.specs.Prelude.{◌≡◌, ℕ, List, [], IfOk};
 ghost use Rattle.sqwal.specs.Header.{IsHeader};
 ghost use Rattle.sqwal.specs.Took.{Took};
 ghost use Rattle.sqjournal.specs.Header.{Names};
-ghost use Rattle.sqjournal.specs.Journal.{IsHot, IsFirst};
+ghost use Rattle.sqjournal.specs.Journal.{IsHot};
 ghost use Rattle.sqview.specs.LogView.{ViewAnswer, IsTooLong, IsAlone};
 ghost use Rattle.sqview.specs.ViewParts.{ScannedAnswer, ReplayedAnswer, LimitAnswer, IsUnsized};
 
 use super::View;
 use crate::file_bytes::FileBytes;
 use crate::file_head::{count_pages, read_head};
+use crate::logs::{LogInUse, log_in_use, replay_log, scan_log};
 use crate::places::{frame_places, record_places};
 use crate::view_error::ViewError;
 use sqjournal::{JournalError, JournalHeader, Replay};
@@ -21,20 +22,6 @@ use std::alloc::Global;
 /// The most bytes of a database.
 const MOST_BYTES: u64 = 1_073_741_824;
 
-/// The first header of a journal that is hot.
-fn hot_header(journal: &[u8]) -> Option<JournalHeader>
-    ensures { IsFirst journal.now result }
-{
-    let front = journal.first_chunk::<28>()?;
-    let Ok(header) = JournalHeader::read(front) else {
-        return None;
-    };
-    if journal.len() < header.sector as usize {
-        return None;
-    }
-    Some(header)
-}
-
 /// So many pages of this size. TooLarge where they are above the limit.
 fn within_limit(count: u64, page_size: PageSize) -> Result<u32, ViewError>
     ensures { LimitAnswer page_size count result }
@@ -45,27 +32,28 @@ fn within_limit(count: u64, page_size: PageSize) -> Result<u32, ViewError>
     Ok(count as u32)
 }
 
-/// The replay of a hot journal.
-fn replayed(alloc: Global, journal: &[u8]) -> Result<Replay, ViewError>
-    requires { IsHot journal.now }
-    ensures { ReplayedAnswer journal.now result }
+/// The replay of a hot journal. Unread where it isn't hot any more.
+fn replayed<F: FileBytes>(alloc: Global, journal: &mut F) -> Result<Replay, ViewError>
+    ensures answer { F.gives_bytes journal.old → IsHot (F.bytes journal.old) → ReplayedAnswer (F.bytes journal.old) result }
+    ensures still_gives { F.gives_bytes journal.old → F.gives_bytes journal.new }
+    ensures same_bytes { F.bytes journal.new ≡ F.bytes journal.old }
 {
-    let mut replay = Replay::new(alloc);
-    match replay.feed(journal) {
-        Ok(()) => Ok(replay),
+    match replay_log(alloc, journal)? {
+        Ok(replay) => Ok(replay),
         Err(JournalError::TooLong) => Err(ViewError::TooLarge),
         Err(JournalError::NoMemory) => Err(ViewError::NoMemory),
-        Err(_) => unreachable!(),
+        Err(_) => Err(ViewError::Unread),
     }
 }
 
 /// The scan of a log. None where it has no valid header.
-fn scanned(alloc: Global, wal: &[u8]) -> Result<Option<Scan>, ViewError>
-    ensures { ScannedAnswer wal.now result }
+fn scanned<F: FileBytes>(alloc: Global, wal: &mut F) -> Result<Option<Scan>, ViewError>
+    ensures answer { F.gives_bytes wal.old → ScannedAnswer (F.bytes wal.old) result }
+    ensures still_gives { F.gives_bytes wal.old → F.gives_bytes wal.new }
+    ensures same_bytes { F.bytes wal.new ≡ F.bytes wal.old }
 {
-    let mut scan = Scan::new(alloc);
-    match scan.feed(wal) {
-        Ok(()) => Ok(Some(scan)),
+    match scan_log(alloc, wal)? {
+        Ok(scan) => Ok(Some(scan)),
         Err(WalFormatError::TooLong) => Err(ViewError::TooLarge),
         Err(WalFormatError::NoMemory) => Err(ViewError::NoMemory),
         Err(_) => Ok(None),
@@ -73,24 +61,24 @@ fn scanned(alloc: Global, wal: &[u8]) -> Result<Option<Scan>, ViewError>
 }
 
 /// The view of a file beside a hot journal with this first header.
-fn restored<'a, F: FileBytes + Drop>(
+fn restored<F: FileBytes + Drop>(
     alloc: Global,
     db: F,
-    journal: &'a [u8],
+    journal: F,
     header: &JournalHeader,
-) -> Result<View<'a, F>, ViewError>
-    requires hot { IsHot journal.now }
-    requires names { Names journal.now header.now }
-    ensures answer { ViewAnswer F.bytes (F.bytes db) [] journal.entry.now result }
-    ensures still_gives { F.gives_bytes db → IfOk result (λ view. F.gives_bytes view.db) }
+) -> Result<View<F>, ViewError>
+    ensures answer { F.gives_bytes journal → IsHot (F.bytes journal) → Names (F.bytes journal) header.now
+        → ViewAnswer F.bytes (F.bytes db) [] (F.bytes journal) result }
+    ensures still_gives { F.gives_bytes db → F.gives_bytes journal → IfOk result (λ view. F.gives_bytes view.db × F.gives_bytes view.log) }
 {
-    let replay = replayed(alloc, journal)?;
+    let mut log = journal;
+    let replay = replayed(alloc, &mut log)?;
     let page_size = header.page_size;
     let count = within_limit(u64::from(header.first_size), page_size)?;
     let places = record_places(alloc, &replay, count)?;
     Ok(View {
         db,
-        log: journal,
+        log,
         page_size,
         count,
         places,
@@ -98,27 +86,26 @@ fn restored<'a, F: FileBytes + Drop>(
 }
 
 /// The view of a file at the front of its log.
-fn committed<'a, F: FileBytes + Drop>(
+fn committed<F: FileBytes + Drop>(
     alloc: Global,
     db: F,
-    wal: &'a [u8],
+    log: F,
     scan: &Scan,
     page_size: PageSize,
-) -> Result<View<'a, F>, ViewError>
-    requires took { Took wal.now scan.now }
-    requires header { IsHeader page_size wal.now }
-    ensures answer { F.gives_bytes db → (journal : List ℕ) → ¬ IsHot journal → ViewAnswer F.bytes (F.bytes db) wal.entry.now journal result }
-    ensures still_gives { F.gives_bytes db → IfOk result (λ view. F.gives_bytes view.db) }
+) -> Result<View<F>, ViewError>
+    ensures answer { F.gives_bytes db → Took (F.bytes log) scan.now → IsHeader page_size (F.bytes log)
+        → (journal : List ℕ) → ¬ IsHot journal → ViewAnswer F.bytes (F.bytes db) (F.bytes log) journal result }
+    ensures still_gives { F.gives_bytes db → F.gives_bytes log → IfOk result (λ view. F.gives_bytes view.db × F.gives_bytes view.log) }
 {
     let front = scan.committed();
     if front.frames == 0 {
-        return own(alloc, db);
+        return own(alloc, db, log);
     }
     let count = within_limit(u64::from(front.size), page_size)?;
     let places = frame_places(alloc, scan, page_size, front)?;
     Ok(View {
         db,
-        log: wal,
+        log,
         page_size,
         count,
         places,
@@ -126,27 +113,26 @@ fn committed<'a, F: FileBytes + Drop>(
 }
 
 /// The view of a file beside a log, where no hot journal is.
-fn logged<'a, F: FileBytes + Drop>(
-    alloc: Global,
-    db: F,
-    wal: &'a [u8],
-) -> Result<View<'a, F>, ViewError>
-    ensures answer { F.gives_bytes db → (journal : List ℕ) → ¬ IsHot journal → ViewAnswer F.bytes (F.bytes db) wal.entry.now journal result }
-    ensures still_gives { F.gives_bytes db → IfOk result (λ view. F.gives_bytes view.db) }
+fn logged<F: FileBytes + Drop>(alloc: Global, db: F, wal: F) -> Result<View<F>, ViewError>
+    ensures answer { F.gives_bytes db → F.gives_bytes wal → (journal : List ℕ) → ¬ IsHot journal
+        → ViewAnswer F.bytes (F.bytes db) (F.bytes wal) journal result }
+    ensures still_gives { F.gives_bytes db → F.gives_bytes wal → IfOk result (λ view. F.gives_bytes view.db × F.gives_bytes view.log) }
 {
-    let Some(scan) = scanned(alloc, wal)? else {
-        return own(alloc, db);
+    let mut log = wal;
+    let Some(scan) = scanned(alloc, &mut log)? else {
+        return own(alloc, db, log);
     };
     match scan.header() {
-        Some(header) => committed(alloc, db, wal, &scan, header.page_size),
-        None => own(alloc, db),
+        Some(header) => committed(alloc, db, log, &scan, header.page_size),
+        None => own(alloc, db, log),
     }
 }
 
-/// The view of a file without a log.
-fn own<'a, F: FileBytes + Drop>(alloc: Global, db: F) -> Result<View<'a, F>, ViewError>
-    ensures answer { F.gives_bytes db → (wal journal : List ℕ) → ¬ IsTooLong wal journal → IsAlone wal journal → ViewAnswer F.bytes (F.bytes db) wal journal result }
-    ensures still_gives { F.gives_bytes db → IfOk result (λ view. F.gives_bytes view.db) }
+/// The view of a file without a log that counts.
+fn own<F: FileBytes + Drop>(alloc: Global, db: F, log: F) -> Result<View<F>, ViewError>
+    ensures answer { F.gives_bytes db → (wal journal : List ℕ) → ¬ IsTooLong wal journal → IsAlone wal journal
+        → ViewAnswer F.bytes (F.bytes db) wal journal result }
+    ensures still_gives { F.gives_bytes db → F.gives_bytes log → IfOk result (λ view. F.gives_bytes view.db × F.gives_bytes view.log) }
 {
     let mut db = db;
     let head = read_head(&mut db)?;
@@ -159,7 +145,7 @@ fn own<'a, F: FileBytes + Drop>(alloc: Global, db: F) -> Result<View<'a, F>, Vie
     }
     Ok(View {
         db,
-        log: &[],
+        log,
         page_size,
         count,
         places: Vec::new(alloc),
@@ -177,23 +163,22 @@ fn without_size(head: &[u8; 100]) -> ViewError
     })
 }
 
-impl<'a, F: FileBytes + Drop> View<'a, F> {
-    /// The view of a file with the bytes of its write-ahead log and its rollback journal, where a missing file is an empty
-    /// slice. A hot journal counts, or a log that isn't empty. Refused, in this order, by TwoLogs, TooLarge and Header;
-    /// NoMemory may stand in place of any answer, and Unread where the file could not be read.
-    pub fn new(
-        alloc: Global,
-        db: F,
-        wal: &'a [u8],
-        journal: &'a [u8],
-    ) -> Result<View<'a, F>, ViewError>
-        ensures answer { F.gives_bytes db → ViewAnswer F.bytes (F.bytes db) wal.entry.now journal.entry.now result }
-        ensures still_gives { F.gives_bytes db → IfOk result (λ view. F.gives_bytes view.db) }
+impl<F: FileBytes + Drop> View<F> {
+    /// The view of a file with its write-ahead log and its rollback journal, where a missing file has no bytes. A hot journal
+    /// counts, or a log that isn't empty. It reads no log behind its stop, and keeps 8 bytes for each page where one counts;
+    /// while it reads also 8 for each valid frame, or 16 for each record. Refused, in this order, by TwoLogs, TooLarge and
+    /// Header; NoMemory may stand in place of any answer, and Unread where a file could not be read.
+    pub fn new(alloc: Global, db: F, wal: F, journal: F) -> Result<View<F>, ViewError>
+        ensures answer { F.gives_bytes db × F.gives_bytes wal × F.gives_bytes journal
+            → ViewAnswer F.bytes (F.bytes db) (F.bytes wal) (F.bytes journal) result }
+        ensures still_gives { F.gives_bytes db × F.gives_bytes wal × F.gives_bytes journal
+            → IfOk result (λ view. F.gives_bytes view.db × F.gives_bytes view.log) }
     {
-        match hot_header(journal) {
-            Some(_) if !wal.is_empty() => Err(ViewError::TwoLogs),
-            Some(header) => restored(alloc, db, journal, &header),
-            None => logged(alloc, db, wal),
+        let mut journal = journal;
+        match log_in_use(&wal, &mut journal)? {
+            LogInUse::Neither => own(alloc, db, wal),
+            LogInUse::Wal => logged(alloc, db, wal),
+            LogInUse::Journal(header) => restored(alloc, db, journal, &header),
         }
     }
 }

@@ -15,7 +15,7 @@ returns g c = λ gives head.
     let file = g.F.FileBytes.bytes c.args.file.now in
     let some : 0 < c.args.page_size = omega (arith, (size_bounds c.get.result c.get.ensures.valid).0, c.get.ensures.value) in
     pages_counted c.args.page_size file c.args.head.now head c.div_ceil.result some
-    (c.div_ceil.ensures ∙ ap (λ n. div_ceil n c.from-2.result) (c.len.ensures gives) ∙ ap (div_ceil (length file)) (c.from-2.ensures ∙ c.get.ensures.value))
+    (c.div_ceil.ensures ∙ ap (λ n. div_ceil n c.from-2.result) (c.len.ensures.count gives) ∙ ap (div_ceil (length file)) (c.from-2.ensures ∙ c.get.ensures.value))
     (elim c.else-named-ne0.branch [
       | else-named-ne0-via-then-named-ne0+else-word_at w ↦ inr (λ e. w.if-word_at.false (w.word_at.ensures ∙ e ∙ sym w.word_at-then-named-ne0.ensures))
       | else-named-ne0-via-else-named-ne0 w ↦ inl (sym c.word_at-named.ensures ∙ w.if-named-ne0.false)

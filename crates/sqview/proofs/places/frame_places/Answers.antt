@@ -1,21 +1,25 @@
-use Rattle.std.proofs.Common.{◌≡◌, ◌+◌, ◌∙◌, ℕ, arith, subst}
-use Rattle.walcore.specs.Plans.{IsTable}
-use Rattle.sqview.proofs.Framed.{ArePlaced, placed_none, placed_more, found_place, all_placed}
+use Rattle.std.proofs.Common.{◌≡◌, ◌+◌, ◌∙◌, ℕ, ap, arith, subst}
+use Rattle.sqwal.specs.Frames.{page_of}
+use Rattle.sqview.specs.ViewParts.{AreFramePlaces}
+use Rattle.sqview.proofs.Framed.{placed_none, placed_more}
 use Rattle.sqview.proofs.places.frame_places.Goals as goal
+use Rattle.sqview.proofs.places.frame_places.Goals.{else-loop-i-test, then-loop-i-test+in_default}
 
-pub loop-k-init : goal.loop-k-init
-loop-k-init c = λ w took named valid. placed_none c.args.page_size w c.args.front.frames _ (c.in_ok-reserve.ensures.items ∙ c.new-places.ensures.items)
+pub loop-i-init : goal.loop-i-init
+loop-i-init c = λ w took named valid. placed_none c.args.page_size w c.args.front.size c.in_ok-places.places.items c.in_ok-places.ensures.zeros.0 c.in_ok-places.ensures.zeros.1
 
-pub loop-k-preserved : goal.loop-k-preserved
-loop-k-preserved c = λ w took named valid.
-    let table : IsTable c.args.page_size c.args.front.size w c.args.front.frames c.in-Ok.index =
-    subst (λ (n : ℕ). IsTable n c.args.front.size w c.args.front.frames c.in-Ok.index) named (c.in-Ok.ensures.table w took valid) in
-    placed_more c.args.page_size w c.args.front.frames c.loop-k.k c.place.result c.loop-k.places.items _ (c.loop-k.invariant w took named valid) c.in_ok-push.ensures.items
-    (found_place c.args.page_size c.args.front.size w c.args.front.frames (c.loop-k.k + 1) c.find-hit.result.frame c.place.result c.in-Ok.index table
-    (c.find-hit.ensures.newest (λ z. omega arith)) (omega arith) (omega (arith, c.loop-k-test.true)) c.place.ensures.none c.place.ensures.some)
+pub loop-i-preserved : goal.loop-i-preserved
+loop-i-preserved c = λ w took named valid.
+    let i = c.loop-i.i in
+    placed_more c.args.page_size w i c.args.front.size c.in-Some.entry.page c.place.result c.loop-i.places.items c.note.new.places.items (c.loop-i.invariant w took named valid) c.note.ensures
+    ((c.in-Some.ensures w took).1 ∙ ap (λ n. page_of n w (i + 1)) named) c.place.ensures
 
 pub returns-clause-places : goal.returns-clause-places
 returns-clause-places c = λ w took named valid.
-    let all : c.loop-k.k ≡ c.args.front.size = omega (arith, c.loop-k-test.false, c.loop-k.auto.k-end) in
-    all_placed c.args.page_size w c.args.front.frames c.args.front.size c.loop-k.places.items
-    (subst (λ (n : ℕ). ArePlaced c.args.page_size w c.args.front.frames n c.loop-k.places.items) all (c.loop-k.invariant w took named valid))
+    let size = c.args.page_size in
+    let all : (n : ℕ) → n ≡ c.args.front.frames → AreFramePlaces size w n c.args.front.size c.loop-i.places.items → AreFramePlaces size w c.args.front.frames c.args.front.size c.loop-i.places.items =
+    λ n e are. subst (λ (k : ℕ). AreFramePlaces size w k c.args.front.size c.loop-i.places.items) e are in
+    elim c.loop-i-test.branch [
+      | else-loop-i-test w' ↦ all c.loop-i.i (omega (arith, w'.loop-i-test.false, c.loop-i.auto.i-end)) (c.loop-i.invariant w took named valid)
+      | then-loop-i-test+in_default w' ↦ absurd (w'.in_default.ensures w took (record { first = omega arith; each = λ j one le. valid.each j one (omega (arith, w'.loop-i-test.true)) }))
+    ]

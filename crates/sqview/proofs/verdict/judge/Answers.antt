@@ -24,9 +24,9 @@ unjudged_files bytes db wal journal v (Err refusal) shown refused = (v.page_size
 pub returns-in-Ok : goal.returns-in-Ok
 returns-in-Ok g c = record {
   found = λ gives.
-      of_files g.F.FileBytes.bytes (g.F.FileBytes.bytes c.args.db) c.args.wal.now c.args.journal.now c.in-Ok.view c.judge_view.result (c.in-Ok.ensures.answer gives) (c.judge_view.ensures.found (c.in-Ok.ensures.still_gives gives));
+      of_files g.F.FileBytes.bytes (g.F.FileBytes.bytes c.args.db) (g.F.FileBytes.bytes c.args.wal) (g.F.FileBytes.bytes c.args.journal) c.in-Ok.view c.judge_view.result (c.in-Ok.ensures.answer gives) (c.judge_view.ensures.found (c.in-Ok.ensures.still_gives gives));
   refused = λ gives.
-      unjudged_files g.F.FileBytes.bytes (g.F.FileBytes.bytes c.args.db) c.args.wal.now c.args.journal.now c.in-Ok.view c.judge_view.result (c.in-Ok.ensures.answer gives) (c.judge_view.ensures.refused (c.in-Ok.ensures.still_gives gives));
+      unjudged_files g.F.FileBytes.bytes (g.F.FileBytes.bytes c.args.db) (g.F.FileBytes.bytes c.args.wal) (g.F.FileBytes.bytes c.args.journal) c.in-Ok.view c.judge_view.result (c.in-Ok.ensures.answer gives) (c.judge_view.ensures.refused (c.in-Ok.ensures.still_gives gives));
 }
 
 pub returns-in-Err-TooLarge-clause-refused : goal.returns-in-Err-TooLarge-clause-refused

@@ -3,44 +3,30 @@ use Rattle.std.specs.Prelude.{Ok, Err}
 use Rattle.sqwal.specs.Frames.{size_of, IsValidFrame}
 use Rattle.sqwal.specs.Header.{named_size}
 use Rattle.sqview.specs.ViewParts.{LimitAnswer, AreFramePlaces}
-use Rattle.sqview.proofs.Framed.{frame_places_within, view_laid}
+use Rattle.sqview.proofs.Framed.{view_laid}
 use Rattle.sqwal.proofs.ScanAnswers.{few_frames}
 use Rattle.sqview.proofs.Opening.{answers, alone_zero, logged_limited, logged_shown, front_valid}
 use Rattle.sqview.proofs.view.opening.committed.Goals as goal
 
 pub returns-then-front-eq0-clause-answer : goal.returns-then-front-eq0-clause-answer
-returns-then-front-eq0-clause-answer g c = λ gives journal cold.
-    let took = c.requires.took in
-    let w = c.args.wal.now in
+returns-then-front-eq0-clause-answer g c = λ gives took header journal cold.
+    let w = g.F.FileBytes.bytes c.args.log in
     let alone = alone_zero (g.F.FileBytes.bytes c.args.db) w journal cold (few_frames w c.args.scan.now took) c.committed-front.result (c.committed-front.ensures w took) c.if-front-eq0.true in
     c.own.ensures.answer gives w journal alone.0 alone.1
 
 pub returns-in_err-count-clause-answer : goal.returns-in_err-count-clause-answer
-returns-in_err-count-clause-answer g c = λ gives journal cold.
+returns-in_err-count-clause-answer g c = λ gives took header journal cold.
     let db = g.F.FileBytes.bytes c.args.db in
-    let took = c.requires.took in
-    let w = c.args.wal.now in
+    let w = g.F.FileBytes.bytes c.args.log in
     let e = c.in_err-count.field-0.0 in
     let bad : LimitAnswer c.args.page_size c.committed-front.result.size (Err e) = subst (λ (n : ℕ). LimitAnswer c.args.page_size n (Err e)) c.from.ensures c.in_err-count.ensures in
     answers g.F.FileBytes.bytes db w journal c.from_residual.result e c.from_residual.ensures.1
-    (logged_limited db w journal cold (few_frames w c.args.scan.now took) c.args.page_size c.requires.header.named c.committed-front.result (c.committed-front.ensures w took) c.if-front-eq0.false e bad)
-
-pub invariant_of-result : goal.invariant_of-result
-invariant_of-result g c =
-    let w = c.args.wal.now in
-    let f = c.committed-front.result in
-    let took = c.requires.took in
-    let named = c.requires.header.named in
-    let valid = front_valid (named_size w) w f.frames (c.committed-front.ensures w took).front c.if-front-eq0.false in
-    let sized : IsValidFrame c.args.page_size w f.frames = subst (λ (n : ℕ). IsValidFrame n w f.frames) named valid in
-    record { within = frame_places_within c.args.page_size w f.frames f.size c.in_ok-places.places.items (c.in_ok-places.ensures.places w took named valid) sized }
+    (logged_limited db w journal cold (few_frames w c.args.scan.now took) c.args.page_size header.named c.committed-front.result (c.committed-front.ensures w took) c.if-front-eq0.false e bad)
 
 pub returns-clause-answer : goal.returns-clause-answer
-returns-clause-answer g c = λ gives journal cold.
+returns-clause-answer g c = λ gives took header journal cold.
     let db = g.F.FileBytes.bytes c.args.db in
-    let took = c.requires.took in
-    let header = c.requires.header in
-    let w = c.args.wal.now in
+    let w = g.F.FileBytes.bytes c.args.log in
     let f = c.committed-front.result in
     let is = c.committed-front.ensures w took in
     let valid = front_valid (named_size w) w f.frames is.front c.if-front-eq0.false in

@@ -1,34 +1,37 @@
-use Rattle.std.proofs.Common.{◌∙◌, ℕ, [], sym, subst}
-use Rattle.sqview.specs.Laid.{ArePlaces}
-use Rattle.sqview.proofs.Recorded.{has_journal, record_places_within, rolled_back}
-use Rattle.sqview.proofs.Opening.{answers, restored_limited, restored_shown}
+use Rattle.std.proofs.Common.{◌∙◌, ℕ, List, [], sym, subst}
+use Rattle.sqjournal.specs.Restored.{IsRolledBack}
+use Rattle.sqview.specs.Laid.{laid}
+use Rattle.sqview.proofs.Recorded.{read_journal, read_places, rolled_back}
+use Rattle.sqview.proofs.Opening.{answers, replay_refused, restored_limited, restored_shown}
 use Rattle.sqview.proofs.view.opening.restored.Goals as goal
 
-pub returns-in_err-count-clause-answer : goal.returns-in_err-count-clause-answer
-returns-in_err-count-clause-answer g c =
-    let db = g.F.FileBytes.bytes c.args.db in
-    let e = c.in_err-count.field-0.0 in
-    let size = c.requires.names.size in
-    let count = c.from.ensures ∙ c.requires.names.first_size in
-    answers g.F.FileBytes.bytes db [] c.args.journal.now c.from_residual-in_err-count.result e c.from_residual-in_err-count.ensures.1
-    (restored_limited db c.args.journal.now c.requires.hot c.args.header.now.page_size c.from.result size count c.in_ok-replay.ensures.0 e c.in_err-count.ensures)
+pub returns-in_err-replay-clause-answer : goal.returns-in_err-replay-clause-answer
+returns-in_err-replay-clause-answer g c = λ gives hot names.
+    let bytes = g.F.FileBytes.bytes in
+    let e = c.in_err-replay.field-0.0 in
+    answers bytes (bytes c.args.db) [] (bytes c.args.journal) c.from_residual.result e c.from_residual.ensures.1
+    (replay_refused (bytes c.args.db) (bytes c.args.journal) hot e (c.in_err-replay.ensures.answer gives hot))
 
-pub invariant_of-result : goal.invariant_of-result
-invariant_of-result g c =
-    let b = c.args.journal.now in
-    let j = has_journal b c.in_ok-replay.replay c.in_ok-replay.ensures.1 in
-    let are = c.in_ok-places.ensures.places b c.in_ok-replay.ensures.1 c.in_ok-replay.ensures.0 in
-    record {
-      within = subst (λ (n : ℕ). ArePlaces n b c.in_ok-places.places.items) (sym c.requires.names.size) (record_places_within b c.in_ok-count.count c.in_ok-places.places.items are j.0 j.1 j.2 j.3 c.requires.hot);
-    }
+pub returns-in_err-count-clause-answer : goal.returns-in_err-count-clause-answer
+returns-in_err-count-clause-answer g c = λ gives hot names.
+    let bytes = g.F.FileBytes.bytes in
+    let b = bytes c.args.journal in
+    let e = c.in_err-count.field-0.0 in
+    answers bytes (bytes c.args.db) [] b c.from_residual-in_err-count.result e c.from_residual-in_err-count.ensures.1
+    (restored_limited (bytes c.args.db) b hot c.args.header.now.page_size c.from.result names.size (c.from.ensures ∙ names.first_size) (c.in_ok-replay.ensures.answer gives hot).0 e c.in_err-count.ensures)
 
 pub returns-clause-answer : goal.returns-clause-answer
-returns-clause-answer g c =
-    let db = g.F.FileBytes.bytes c.args.db in
-    let b = c.args.journal.now in
-    let size = c.requires.names.size in
-    let count = c.from.ensures ∙ c.requires.names.first_size in
-    let j = has_journal b c.in_ok-replay.replay c.in_ok-replay.ensures.1 in
-    let are = c.in_ok-places.ensures.places b c.in_ok-replay.ensures.1 c.in_ok-replay.ensures.0 in
-    restored_shown db b c.requires.hot c.args.header.now.page_size c.from.result size count c.in_ok-replay.ensures.0 g.F.FileBytes.bytes _ c.in_ok-count.ensures size
-    (rolled_back b c.in_ok-count.count c.in_ok-places.places.items are j.0 j.1 j.2 j.3 c.requires.hot c.args.header.now.page_size db size (c.in_ok-count.ensures.0 ∙ count))
+returns-clause-answer g c = λ gives hot names.
+    let bytes = g.F.FileBytes.bytes in
+    let db = bytes c.args.db in
+    let b = bytes c.args.journal in
+    let size = c.args.header.now.page_size in
+    let read = c.in_ok-replay.ensures.answer gives hot in
+    let places = c.in_ok-places.places.items in
+    let n = c.in_ok-count.count in
+    let count = c.from.ensures ∙ names.first_size in
+    let j = read_journal b c.in_ok-replay.replay read.1 in
+    let are = read_places b c.in_ok-replay.replay read.1 n places read.0 c.in_ok-places.ensures.places in
+    let back : IsRolledBack db b (laid size n db b places) = rolled_back b n places are j.0 j.1 j.2 j.3 hot size db names.size (c.in_ok-count.ensures.0 ∙ count) in
+    restored_shown db b hot size c.from.result names.size count read.0 bytes _ c.in_ok-count.ensures names.size
+    (subst (λ (l : List ℕ). IsRolledBack db b (laid size n db l places)) (sym c.replayed.ensures.same_bytes) back)

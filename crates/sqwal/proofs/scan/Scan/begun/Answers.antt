@@ -1,4 +1,4 @@
-use Rattle.std.proofs.Common.{◌++◌, sym, subst}
+use Rattle.std.proofs.Common.{arith, ◌++◌, sym, subst}
 use Rattle.std.proofs.lemmas.Result.{err_from_is_err_and}
 use Rattle.sqwal.specs.Answers.{LogRefused}
 use Rattle.sqwal.specs.declared.error.WalFormatError.{WalFormatError}
@@ -8,7 +8,7 @@ use Rattle.sqwal.proofs.scan.Scan.begun.Goals as goal
 pub returns-in_err-header : goal.returns-in_err-header
 returns-in_err-header c =
     let p = err_from_is_err_and c.from_residual.result c.from_residual.ensures.1 in
-    rw (p.1, p.2) (header_refused-more c.args.head.now c.args.bytes.now c.in_err-header.field-0.0 c.told-head c.in_err-header.ensures)
+    rw (p.1, p.2) (header_refused-more c.args.head.now c.args.bytes.now c.in_err-header.field-0.0 (omega (arith, c.told-head)) c.in_err-header.ensures)
 
 pub returns-in_err-rest : goal.returns-in_err-rest
 returns-in_err-rest c =
