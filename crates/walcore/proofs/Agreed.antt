@@ -27,7 +27,6 @@ use Rattle.crashdisk.proofs.Keeping.{sound_writes, sound_syncs}
 use Rattle.walcore.proofs.Fitting.{may_still}
 use Rattle.walcore.proofs.Lengths.{down_still}
 use Rattle.walcore.proofs.Narrowing.{narrows_looks, narrows_syncs}
-use Rattle.walcore.proofs.Recovered.{none_front}
 use Rattle.walcore.proofs.Restarting.{greatest_changed}
 use Rattle.walcore.proofs.Standing.{read_cases}
 use Rattle.crashdisk.proofs.Stills.{image_same, present_in, same_sound, same_files}

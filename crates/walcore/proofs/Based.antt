@@ -17,11 +17,11 @@ use Rattle.walcore.proofs.Recovered.{none_front}
 use Rattle.walcore.proofs.Standing.{read_cases}
 use Rattle.walcore.proofs.Turning.{just_shows}
 
-held_at : (size : ℕ) (base : Database) → IsHeld size base → (i : ℕ) → i < 1 → IsHeld size (get_or (base ∷ []) i [])
+pub held_at : (size : ℕ) (base : Database) → IsHeld size base → (i : ℕ) → i < 1 → IsHeld size (get_or (base ∷ []) i [])
 held_at size base held zero lt = held
 held_at size base held (suc i) lt = absurd (omega arith)
 
-made_nothing : (size : ℕ) → AreMade size []
+pub made_nothing : (size : ℕ) → AreMade size []
 made_nothing size = record {
   each = λ e is. absurd (let i = is.1 in omega arith);
   new_salts = λ i j l m. absurd (omega arith);

@@ -6,7 +6,6 @@ use Rattle.std.proofs.lemmas.List.{length-take-le}
 use Rattle.std.proofs.lemmas.Bool.Decides.{nat_tests}
 use Rattle.sqval.specs.Database.{Database}
 use Rattle.crashdisk.specs.Call.{DiskState, HasCalls}
-use Rattle.crashdisk.specs.declared.file.File.TheVariants.{Db}
 use Rattle.sqval.specs.Answers.{Files, Done, Refused, Refuses, HasCause}
 use Rattle.walcore.specs.Machine.{State, at, last, newest, reader_at, call_refusal, all_newest, closed, synced, checkpointed, Syncs, Checkpoints, CheckpointStep}
 use Rattle.sqval.specs.CommitFaults.{first_true}
@@ -16,7 +15,7 @@ use Rattle.sqval.specs.Held.{IsJust}
 use Rattle.walcore.specs.Made.{NoChance}
 use Rattle.sqwal.specs.Frames.{frame_end}
 use Rattle.walcore.specs.Era.{shown}
-use Rattle.walcore.specs.Changes.{MayFill, MayChange}
+use Rattle.walcore.specs.Changes.{MayFill}
 use Rattle.walcore.specs.Standing.{ShowsWhole, Stands, IsPresent}
 use Rattle.crashdisk.specs.Keeps.{KeepsLog, IsSameDisk, TellsRefusal}
 use Rattle.walcore.specs.Bringing.{answer_of, IsOldest, LeavesJust, IsLeast, BroughtTo, Brings, BroughtDown, ClosedBy}
@@ -31,7 +30,6 @@ use Rattle.crashdisk.proofs.Down.{present_image}
 use Rattle.walcore.proofs.Present.{present_by}
 use Rattle.walcore.proofs.Standing.{stands_shows, present_last}
 use Rattle.crashdisk.proofs.Stills.{still, same_files}
-use Rattle.crashdisk.proofs.Called.{calls_then, calls_wider}
 use Rattle.walcore.proofs.Changes.{synced_same, filled_same}
 use Rattle.walcore.proofs.Fitting.{SameCore, core_same}
 use Rattle.walcore.proofs.Joining.{open_refusal}

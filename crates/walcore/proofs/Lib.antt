@@ -75,6 +75,7 @@ pub mod Resting
 pub mod Unopened
 pub mod Foremost
 pub mod Based
+pub mod Beside
 pub mod ToldRefusals
 pub mod PageCalls
 pub mod Uncommitted

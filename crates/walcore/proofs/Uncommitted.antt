@@ -1,8 +1,7 @@
 -- Before the first commit: a log of no more than a header, and the calls that keep what it shows.
-use Rattle.std.proofs.Common.{◌≡◌, ⊎_elim, ℕ, ◌-◌, ◌<◌, ◌≤◌, ◌&&◌, Bool, true, false, not, List, length, get_or, refl, sym, ◌∙◌, ap, subst, arith}
+use Rattle.std.proofs.Common.{◌≡◌, ℕ, ◌-◌, ◌<◌, ◌≤◌, ◌&&◌, Bool, true, false, not, List, length, get_or, refl, sym, ◌∙◌, ap, subst, arith}
 use Rattle.std.specs.Prelude.{Result, Ok, Err, IsOk}
-use Rattle.crashdisk.specs.State.{byte}
-use Rattle.crashdisk.specs.Call.{DiskState, IsSoundDisk, ArePresent, Writes, Syncs}
+use Rattle.crashdisk.specs.Call.{DiskState, IsSoundDisk, ArePresent}
 use Rattle.crashdisk.specs.Keeps.{IsLogDown, SyncStep}
 use Rattle.crashdisk.specs.declared.file.File.TheVariants.{Log}
 use Rattle.crashdisk.proofs.Down.{down_syncs, synced_down}
@@ -11,9 +10,9 @@ use Rattle.crashdisk.proofs.Sound.{written_inside}
 use Rattle.crashdisk.proofs.Steps.{present_written}
 use Rattle.walcore.specs.Opening.{HeaderSteps}
 use Rattle.walcore.specs.Commits.{RestAnswer}
-use Rattle.walcore.specs.Syncing.{is_due, BringsDown, DownBy}
+use Rattle.walcore.specs.Syncing.{BringsDown, DownBy}
 use Rattle.walcore.specs.Restarts.{MayRestart, TakesOver}
-use Rattle.walcore.specs.Uncommitted.{IsUncommitted, StaysUncommitted, KeepsUncommitted}
+use Rattle.walcore.specs.Uncommitted.{IsUncommitted, KeepsUncommitted}
 use Rattle.walcore.specs.declared.opening.NewLog.{NewLog}
 use Rattle.walcore.specs.declared.state.Core.{Core}
 use Rattle.walcore.specs.declared.error.WalError.{WalError}

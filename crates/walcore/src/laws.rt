@@ -1,34 +1,54 @@
 //! What holds of every run of the machine.
-ghost use Rattle.std.specs.Prelude.{◌≡◌, ◌<◌, ◌≤◌, ℕ, Bool, List, length, Result, Ok, true, false, IsTrue};
+ghost use Rattle.std.specs.Prelude.{◌≡◌, ◌<◌, ◌≤◌, ℕ, Bool, List, [], length, Result, Ok, true, false, IsTrue};
 ghost use Rattle.sqval.specs.Database.{Database};
 ghost use Rattle.sqval.specs.Answers.{Answer, Files};
 ghost use Rattle.sqval.specs.PageSize.{IsPageSize};
 ghost use Rattle.sqval.specs.Held.{IsJust, IsHeld};
 ghost use Rattle.sqval.specs.Runs.{Moment, Runs};
-ghost use Rattle.crashdisk.specs.State.{IsSectorSize};
+ghost use Rattle.crashdisk.specs.State.{IsSectorSize, IsSettled};
 ghost use Rattle.crashdisk.specs.Call.{DiskState, IsSoundDisk, Syncs, Looks, IsCrash, IsNew};
 ghost use Rattle.crashdisk.specs.declared.file.File.{File};
 ghost use Rattle.crashdisk.specs.declared.file.File.TheVariants.{Log};
 ghost use Rattle.crashdisk.specs.declared.error.DiskError.{DiskError};
-ghost use Rattle.crashdisk.specs.Keeps.{SameFiles};
+ghost use Rattle.crashdisk.specs.Keeps.{SameFiles, IsLogDown, Suits};
 ghost use Rattle.walcore.specs.Alone.{AreWhole, ShowsAlone};
-ghost use Rattle.walcore.specs.Fits.{Past, AreFiles, FitsDisk, FitsAlone, FitsCore, none_open, beginning};
+ghost use Rattle.walcore.specs.Fits.{Past, AreFiles, FitsDisk, FitsAlone, FitsCore, none_open, beginning, beginning_beside};
 ghost use Rattle.walcore.specs.Laws.{IsSane, Keeps, KeepsShown, IsExpected, is_opening};
 ghost use Rattle.walcore.specs.Machine.{State, Act, Reads, Step, at, last, gone, start};
-ghost use Rattle.walcore.specs.Made.{NoChance};
+ghost use Rattle.walcore.specs.Made.{AreMade, NoChance};
+ghost use Rattle.walcore.specs.Opening.{MayOpen};
+ghost use Rattle.walcore.specs.Plans.{IsFit};
+ghost use Rattle.walcore.specs.Standing.{ShowsWhole};
 ghost use Rattle.walcore.specs.declared.state.Core.{Core};
 
-/// A disk that is new with a base of pages that no sector that tears exceeds, and with an empty log, fits where a world
-/// begins.
+/// A disk with a base in its file and an empty log, both down, fits where a world begins, whatever was called of it before;
+/// so does one that is new.
 pub fn a_base_fits()
-    ensures { (size sector : ℕ) (torn : Bool) (base : Database) (bytes : List ℕ) (s : DiskState) → IsPageSize size → IsSectorSize sector
+    ensures down { (size : ℕ) (base : Database) (bytes : List ℕ) (s : DiskState) → Suits size s → IsHeld size base
+        → IsJust size base bytes → IsSettled s.db bytes → IsLogDown s [] → FitsAlone (beginning size base) s }
+    // no sector that tears exceeds a page
+    ensures new { (size sector : ℕ) (torn : Bool) (base : Database) (bytes : List ℕ) (s : DiskState) → IsPageSize size → IsSectorSize sector
         → (torn ≡ true → sector ≤ size) → IsHeld size base → IsJust size base bytes → IsNew sector torn bytes s → FitsAlone (beginning size base) s }
 {}
 
-/// What fits an engine fits it after calls that changed no byte of the disk, and whatever was set of it, as a borrower of it may
-/// do (own).
+/// Two files that are down fit where a world begins with the database that they show together, whatever the log holds (own).
+/// Files that an opening may take show one, and what their log holds may count as made, so that an opening finds
+/// nothing that passes by chance.
+pub fn settled_files_fit()
+    ensures fits { (size : ℕ) (base : Database) (logs : List (List ℕ)) (files : Files) (s : DiskState) → Suits size s
+        → IsHeld size base → AreMade size logs → IsSettled s.db files.db → IsLogDown s files.log
+        → ShowsWhole size files.db files.log base → FitsAlone (beginning_beside size base logs) s }
+    ensures shown { (size : ℕ) (files : Files) (s : DiskState) → IsPageSize size → MayOpen size files s
+        → (base : Database) × IsHeld size base × ShowsWhole size files.db files.log base }
+    ensures made { (size : ℕ) (log : List ℕ) → IsFit size log
+        → (logs : List (List ℕ)) × AreMade size logs × NoChance logs log }
+{}
+
+/// What fits an engine, or a disk that no engine holds, fits it after calls that changed no byte of the disk, and whatever was
+/// set of it, as a borrower of it may do (own).
 pub fn a_look_fits()
-    ensures { (past : Past) (core : Core) (old new : DiskState) → SameFiles old new → FitsCore past core old → FitsCore past core new }
+    ensures alone { (past : Past) (old new : DiskState) → SameFiles old new → FitsAlone past old → FitsAlone past new }
+    ensures core { (past : Past) (core : Core) (old new : DiskState) → SameFiles old new → FitsCore past core old → FitsCore past core new }
 {}
 
 /// What fits a disk that no engine holds fits it after a crash, once every reader is forgotten; where the disk tears, if no

@@ -25,7 +25,7 @@ pub use error::WalError;
 pub use folding::{Folded, fold, fold_synced};
 pub use laws::{
     a_base_fits, a_crash_fits, a_look_fits, one_is_shown, one_step, runs_are_sane,
-    what_is_down_stays, what_is_shown_stays,
+    settled_files_fit, what_is_down_stays, what_is_shown_stays,
 };
 pub use logs::logs_are_determined;
 pub use plan::index_of;

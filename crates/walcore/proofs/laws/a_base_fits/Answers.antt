@@ -1,5 +1,14 @@
-use Rattle.walcore.proofs.Based.{base_fits}
+use Rattle.std.proofs.Common.{[]}
+use Rattle.walcore.proofs.Based.{base_fits, made_nothing}
+use Rattle.walcore.proofs.Beside.{beside_fits}
+use Rattle.walcore.proofs.Fronting.{just_file}
+use Rattle.walcore.proofs.Recovered.{none_front}
+use Rattle.walcore.proofs.Turning.{just_shows}
 use Rattle.walcore.proofs.laws.a_base_fits.Goals as goal
 
-pub returns : goal.returns
-returns c size sector torn base bytes s pages sectors whole held just is = base_fits size sector torn base bytes s pages held just is sectors whole
+pub returns-clause-down : goal.returns-clause-down
+returns-clause-down c size base bytes s suits held just file down =
+    beside_fits size base [] (record { db = bytes; log = [] }) s file down (just_shows size bytes [] base just (just_file size base bytes suits.pages just) (none_front size)) suits held (made_nothing size)
+
+pub returns-clause-new : goal.returns-clause-new
+returns-clause-new c size sector torn base bytes s pages sectors whole held just is = base_fits size sector torn base bytes s pages held just is sectors whole
