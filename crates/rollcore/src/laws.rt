@@ -1,27 +1,38 @@
 //! What holds of every run of the machine, and of what a disk shows.
-ghost use Rattle.std.specs.Prelude.{◌≡◌, ◌<◌, ◌≤◌, ℕ, Bool, List, length, true, false, IsTrue, Result, Ok};
+ghost use Rattle.std.specs.Prelude.{◌≡◌, ◌<◌, ◌≤◌, ℕ, Bool, List, length, true, false, IsTrue, Result, Ok, []};
 ghost use Rattle.sqval.specs.Database.{Database};
 ghost use Rattle.sqval.specs.Answers.{Answer};
 ghost use Rattle.sqval.specs.PageSize.{IsPageSize};
 ghost use Rattle.sqval.specs.Held.{IsJust, IsHeld};
-ghost use Rattle.crashdisk.specs.State.{IsSectorSize};
+ghost use Rattle.crashdisk.specs.State.{IsSectorSize, IsSettled};
 ghost use Rattle.crashdisk.specs.Call.{DiskState, IsSoundDisk, IsNew, Syncs, Looks, IsCrash};
 ghost use Rattle.crashdisk.specs.declared.file.File.{File};
 ghost use Rattle.crashdisk.specs.declared.file.File.TheVariants.{Log};
 ghost use Rattle.crashdisk.specs.declared.error.DiskError.{DiskError};
-ghost use Rattle.crashdisk.specs.Keeps.{SameFiles};
+ghost use Rattle.crashdisk.specs.Keeps.{SameFiles, Suits, IsLogDown};
 ghost use Rattle.rollcore.specs.Alone.{AreWhole, ShowsAlone};
-ghost use Rattle.rollcore.specs.Fits.{FitsDisk, FitsCore};
+ghost use Rattle.rollcore.specs.Fits.{ShowsWhole, FitsDisk, FitsCore};
+ghost use Rattle.rollcore.specs.Replaying.{TearsJournal};
 ghost use Rattle.rollcore.specs.Laws.{IsSane, Keeps, IsExpected, is_opening};
 ghost use Rattle.sqval.specs.Runs.{Moment, Runs};
 ghost use Rattle.rollcore.specs.Machine.{State, Act, Reads, Step, at, last, start, closed};
 ghost use Rattle.rollcore.specs.declared.state.Core.{Core};
 
-/// A disk that is new with a base of pages that no sector that tears exceeds, and with an empty log, fits where the
-/// machine begins (own).
+/// A disk with a base of pages that no sector that tears exceeds, and with an empty log, fits where the machine begins: one
+/// that is new, and one on which both files are down, whatever calls of it there were (own).
 pub fn a_base_fits()
-    ensures { (size sector : ℕ) (torn : Bool) (base : Database) (bytes : List ℕ) (s : DiskState) → IsPageSize size → IsSectorSize sector
+    ensures new { (size sector : ℕ) (torn : Bool) (base : Database) (bytes : List ℕ) (s : DiskState) → IsPageSize size → IsSectorSize sector
         → (torn ≡ true → sector ≤ size) → IsHeld size base → IsJust size base bytes → IsNew sector torn bytes s → FitsDisk (start size base) s }
+    ensures down { (size : ℕ) (base : Database) (bytes : List ℕ) (s : DiskState) → Suits size s → IsHeld size base → IsJust size base bytes
+        → IsSettled s.db bytes → IsLogDown s [] → FitsDisk (start size base) s }
+{}
+
+/// A disk on which both files are down fits where the machine begins with the database that they show together: a hot
+/// journal that is rolled back, or one that isn't hot beside a file of whole pages. On a disk that tears a hot one names no
+/// smaller pages and no smaller sectors (own).
+pub fn a_settled_disk_fits()
+    ensures { (size : ℕ) (d : Database) (db log : List ℕ) (s : DiskState) → Suits size s → IsHeld size d → IsSettled s.db db
+        → IsLogDown s log → (TearsJournal s log → ⊥) → ShowsWhole size db log d → FitsDisk (start size d) s }
 {}
 
 /// In every run the floor is a place of the history (own).
@@ -37,10 +48,11 @@ pub fn what_is_down_stays()
         → Runs Step (start page_size base) 0 before old count → Runs Step old count later new after → Keeps old new }
 {}
 
-/// What fits an engine fits it after calls that changed no byte of the disk, and whatever was set of it, as a borrower of it may
-/// do (own).
+/// What fits an engine, or a disk that none holds, fits it after calls that changed no byte of the disk, and whatever was set
+/// of it, as a borrower of it may do (own).
 pub fn a_look_fits()
-    ensures { (past : State) (core : Core) (old new : DiskState) → SameFiles old new → FitsCore past core old → FitsCore past core new }
+    ensures core { (past : State) (core : Core) (old new : DiskState) → SameFiles old new → FitsCore past core old → FitsCore past core new }
+    ensures disk { (past : State) (old new : DiskState) → SameFiles old new → FitsDisk past old → FitsDisk past new }
 {}
 
 /// What fits a disk fits it after a crash, as the machine is then: on a disk that tears, after one that puts no header of the
