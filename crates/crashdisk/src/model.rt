@@ -138,8 +138,7 @@ impl ModelDisk {
         self.stops = Stops::new();
     }
 
-    /// Appends the present bytes of a file; NoMemory alone, and then `out` is as it was. It isn't counted as a call, and is
-    /// answered also while the disk is stopped.
+    /// Appends the present bytes of a file; NoMemory alone, and then `out` is as it was. It isn't counted as a call.
     pub fn present(&self, file: File, out: &mut Vec<u8>) -> Result<(), DiskError>
         ensures ok { OnOk result ((bytes : List ℕ) × (out.new.items ≡ out.old.items ++ bytes) × ArePresent (of file (state_of self.now)) bytes) }
         ensures err { OnErr result (out.new.items ≡ out.old.items) }

@@ -1,5 +1,5 @@
 -- An event of a run over a rollback journal, with an engine and without one.
-use Rattle.std.proofs.Common.{◌≡◌, ◌==◌, nat_lt, [], ◌∷◌, ℕ, Bool, true, false, ◌&&◌, List, length, Option, Some, None, Result, Ok, Err, IfOk, OnOk, cond, not, Vec, Global, refl, sym, ◌∙◌, ap, subst, arith}
+use Rattle.std.proofs.Common.{◌≡◌, inl, ◌==◌, nat_lt, [], ◌∷◌, ℕ, Bool, true, false, ◌&&◌, List, length, Option, Some, None, Result, Ok, Err, IfOk, OnOk, cond, not, Vec, Global, refl, sym, ◌∙◌, ap, subst, arith}
 use Rattle.crashdisk.specs.Call.{DiskState, HasCalls}
 use Rattle.crashdisk.specs.Model.{state_of}
 use Rattle.crashdisk.specs.Stop.{no_stops}
@@ -10,7 +10,7 @@ use Rattle.sqval.specs.Answers.{Answer, Files, Done, Refused, Refuses, Crashed}
 use Rattle.sqval.specs.CommitFaults.{first_true}
 use Rattle.walcore.specs.Fits.{AreFiles as AreWalFiles}
 use Rattle.rollcore.specs.Alone.{AreWhole}
-use Rattle.rollcore.specs.Machine.{State, Act, Opens, Commits, Reads, Crashes, Sets, Step, closed, newest, commit_refusal, read_refusal, refusal_of}
+use Rattle.rollcore.specs.Machine.{State, Act, Opens, Sets, Step, closed, newest, commit_refusal, read_refusal, refusal_of}
 use Rattle.rollcore.specs.Changes.{MayChange}
 use Rattle.rollcore.specs.Premises.{Permits}
 use Rattle.rollcore.specs.Refusal.{number_of}
@@ -42,19 +42,12 @@ engine_disk : (past : State) (engine : JournalEngine) → FitsEngine past engine
 engine_disk past (Closed disk) fits = fits.disk
 engine_disk past (Open roll) fits = fits.disk
 
-module _ (size sector : ℕ) where
-  only : (act : Act) (s t : DiskState) → HasCalls (MayChange act size sector) s t → OnlyCalls size sector act s t
-  only (Opens found) s t calls = calls
-  only (Commits pages n nonces) s t calls = calls
-  only (Reads page) s t calls = calls
-  only (Crashes left) s t calls = tt
-  only Sets s t calls = tt
-
 -- a call's step is an event's
 pub stepped : (page_size : ℕ) (old new : Roll ModelDisk) (act : Act) (told answer : Answer) → told ≡ answer
+    → ((size sector : ℕ) → HasCalls (MayChange act size sector) (state_of old.disk) (state_of new.disk) → OnlyCalls size sector act (state_of old.disk) (state_of new.disk))
     → ((past : State) → past.page_size ≡ page_size → Fits state_of old past → StepsTo past act told new.core (state_of old.disk) (state_of new.disk))
     → RollServes page_size old new act answer
-stepped page_size old new act told answer same h past size fits may = let steps = h past size fits in record {
+stepped page_size old new act told answer same only h past size fits may = let steps = h past size fits in record {
   next = steps.next;
   refused = steps.refused;
   told = λ more. sym same ∙ steps.told more;
@@ -62,7 +55,7 @@ stepped page_size old new act told answer same h past size fits may = let steps 
   fits = steps.fits;
   sector = steps.same.sector;
   tears = steps.same.tears;
-  calls = only past.page_size (state_of old.disk).sector act (state_of old.disk) (state_of new.disk) steps.same.calls;
+  calls = only past.page_size (state_of old.disk).sector steps.same.calls;
 }
 
 -- ---- Openings.
@@ -182,7 +175,7 @@ closed_only : (size sector : ℕ) (event : JEvent) (old new : ModelDisk) → IsC
 closed_only size sector Opening old new calm = tt
 closed_only size sector (Crash choice) old new calm = tt
 closed_only size sector (Commit pages n nonces) old new calm = record { states = []; each = ap state_of calm }
-closed_only size sector (Read page) old new calm = record { states = []; each = ap state_of calm }
+closed_only size sector (Read page) old new calm = inl (ap state_of calm)
 closed_only size sector (StopAfter calls) old new calm = tt
 closed_only size sector (StopAtSync syncs) old new calm = tt
 closed_only size sector (Fail call part) old new calm = tt

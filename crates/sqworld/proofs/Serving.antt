@@ -1,5 +1,5 @@
 -- An event, with an engine and without one.
-use Rattle.std.proofs.Common.{◌≡◌, ℕ, zero, suc, ◌+◌, Bool, true, false, ◌&&◌, List, [], ◌∷◌, ◌++◌, length, replicate, get_or, Option, Some, None, is_some, Result, Ok, Err, IfOk, OnOk, cond, not, Vec, Global, refl, sym, ◌∙◌, ap, subst, arith}
+use Rattle.std.proofs.Common.{◌≡◌, inl, ℕ, zero, suc, ◌+◌, Bool, true, false, ◌&&◌, List, [], ◌∷◌, ◌++◌, length, replicate, get_or, Option, Some, None, is_some, Result, Ok, Err, IfOk, OnOk, cond, not, Vec, Global, refl, sym, ◌∙◌, ap, subst, arith}
 use Rattle.std.proofs.lemmas.List.{length-replicate, append-nil}
 use Rattle.crashdisk.specs.Call.{DiskState, Change, HasCalls}
 use Rattle.crashdisk.specs.Model.{state_of}
@@ -277,9 +277,9 @@ closed_only size logs (Commit pages s) old new calm = uncalled old new calm
 closed_only size logs Sync old new calm = uncalled old new calm
 closed_only size logs Checkpoint old new calm = uncalled old new calm
 closed_only size logs (Restart salt2) old new calm = uncalled old new calm
-closed_only size logs Begin old new calm = uncalled old new calm
-closed_only size logs (Read reader page) old new calm = uncalled old new calm
-closed_only size logs (End reader) old new calm = uncalled old new calm
+closed_only size logs Begin old new calm = ap state_of calm
+closed_only size logs (Read reader page) old new calm = inl (ap state_of calm)
+closed_only size logs (End reader) old new calm = ap state_of calm
 closed_only size logs (StopAfter calls) old new calm = tt
 closed_only size logs (StopAtSync syncs) old new calm = tt
 closed_only size logs (Fail call part) old new calm = tt

@@ -1,12 +1,12 @@
 -- What a call of an engine is in a run.
-use Rattle.std.proofs.Common.{◌≡◌, ℕ, zero, suc, ◌+◌, ◌<◌, List, [], ◌∷◌, ◌++◌, length, take, drop, replicate, set, slice_get, get_or, Option, Some, None, Result, Ok, Err, IfOk, Vec, Global, length-append, refl, sym, ◌∙◌, ap, subst, arith, append_assoc}
+use Rattle.std.proofs.Common.{◌≡◌, ℕ, zero, suc, ◌+◌, ◌<◌, List, [], ◌∷◌, ◌++◌, length, take, drop, replicate, set, slice_get, get_or, Option, Some, None, Result, Ok, Err, IfOk, Vec, Global, length-append, refl, sym, inl, ◌∙◌, ap, subst, arith, append_assoc}
 use Rattle.std.proofs.lemmas.List.{length-replicate}
 use Rattle.std.proofs.lemmas.Grind.{common_steps}
 use Rattle.crashdisk.specs.Call.{DiskState, HasCalls}
 use Rattle.crashdisk.specs.Model.{state_of}
-use Rattle.crashdisk.proofs.Called.{no_calls}
+use Rattle.crashdisk.specs.Keeps.{LooksOnce}
 use Rattle.sqval.specs.Answers.{Answer, Done, NoReader, Reader as ReaderAnswer}
-use Rattle.walcore.specs.Machine.{Act, Opens, Commits, Syncs, Begins, Reads, Ends, Checkpoints, Restarts, Crashes, Sets, reader_at, Step, ReadStep, EndStep}
+use Rattle.walcore.specs.Machine.{Act, Begins, Reads, Ends, reader_at, Step, ReadStep, EndStep}
 use Rattle.walcore.specs.Changes.{MayChange}
 use Rattle.walcore.specs.Making.{Makes, Permits}
 use Rattle.walcore.specs.declared.wal.Wal.{Wal}
@@ -19,24 +19,16 @@ use Rattle.sqworld.specs.declared.reply.Reply.TheVariants.{Reader as ReplyReader
 use Rattle.sqworld.specs.Sessions.{tokens_by, tokens_of, FitsSession, OnlyCalls, ServesTo, SessionServes}
 use Rattle.sqworld.specs.declared.session.Session.{Session}
 
-module _ (size : ℕ) (logs : List (List ℕ)) where
-  only : (act : Act) (s t : DiskState) → HasCalls (MayChange act size logs) s t → OnlyCalls size logs act s t
-  only (Opens salts found) s t calls = calls
-  only (Commits pages n) s t calls = calls
-  only Syncs s t calls = calls
-  only Begins s t calls = calls
-  only (Reads reader page) s t calls = calls
-  only (Ends reader) s t calls = calls
-  only Checkpoints s t calls = calls
-  only (Restarts salt2) s t calls = calls
-  only (Crashes left) s t calls = tt
-  only Sets s t calls = tt
+-- the calls of an engine are no more than those of an event
+abbrev pub AreOnly : (size : ℕ) → Act → (s t : DiskState) → Type 0
+AreOnly size act s t = (logs : List (List ℕ)) → HasCalls (MayChange act size logs) s t → OnlyCalls size logs act s t
 
 -- a call's step is an event's
 pub stepped : (past : Past) (old new : Session) (tokens : List (Option Reader)) (act : Act) (told answer : Answer) → told ≡ answer → tokens ≡ tokens_of new
+    → AreOnly past.state.page_size act (state_of old.wal.disk) (state_of new.wal.disk)
     → StepsTo past tokens act told new.wal.core (state_of old.wal.disk) (state_of new.wal.disk)
     → ServesTo past act answer (λ p. FitsSession p new) (state_of old.wal.disk) (state_of new.wal.disk)
-stepped past old new tokens act told answer same are steps = record {
+stepped past old new tokens act told answer same are only steps = record {
   next = record { state = steps.next; made = steps.made; tokens = tokens };
   refused = steps.refused;
   told = λ more. sym same ∙ steps.told more;
@@ -45,15 +37,16 @@ stepped past old new tokens act told answer same are steps = record {
   fits = record { core = steps.fits; tokens = are };
   sector = steps.same.sector;
   tears = steps.same.tears;
-  calls = only past.state.page_size steps.made.logs act (state_of old.wal.disk) (state_of new.wal.disk) steps.same.calls;
+  calls = only steps.made.logs steps.same.calls;
 }
 
 -- of one that leaves the readers alone
 pub stepped_still : (page_size : ℕ) (old : Session) (wal : Wal ModelDisk) (act : Act) (told answer : Answer) → told ≡ answer
+    → ((size : ℕ) → AreOnly size act (state_of old.wal.disk) (state_of wal.disk))
     → ((past : Past) → FitsCore past old.wal.core (state_of old.wal.disk) → Permits past.made act told → StepsTo past past.tokens act told wal.core (state_of old.wal.disk) (state_of wal.disk))
     → SessionServes page_size old (record { wal = wal; first = old.first; slots = old.slots }) act answer
-stepped_still page_size old wal act told answer same h past size fits may =
-    stepped past old (record { wal = wal; first = old.first; slots = old.slots }) past.tokens act told answer same fits.tokens
+stepped_still page_size old wal act told answer same only h past size fits may =
+    stepped past old (record { wal = wal; first = old.first; slots = old.slots }) past.tokens act told answer same fits.tokens (only past.state.page_size)
     (h past fits.core (subst (λ a. Permits past.made act a) (sym same) may))
 
 -- the row of a reader that isn't open
@@ -75,7 +68,7 @@ no_read page_size old number page none past size fits may = record {
   fits = fits;
   sector = refl;
   tears = refl;
-  calls = no_calls (state_of old.wal.disk);
+  calls = inl refl;
 }
 
 pub no_end : (page_size : ℕ) (old : Session) (number : ℕ) → get_or (tokens_of old) number None ≡ None → SessionServes page_size old old (Ends number) NoReader
@@ -88,7 +81,7 @@ no_end page_size old number none past size fits may = record {
   fits = fits;
   sector = refl;
   tears = refl;
-  calls = no_calls (state_of old.wal.disk);
+  calls = refl;
 }
 
 -- ---- Tokens behind those that are forgotten.
@@ -117,33 +110,35 @@ at_slot (x ∷ slots) (suc i) r l h = at_slot slots i r (omega arith) h
 
 pub began : {E : Type 0} (page_size : ℕ) (old new : Session) (mid : Wal ModelDisk) (reader : Reader) (number : ℕ) (r : Result Reply E)
     → IfOk r (λ _. new.wal ≡ mid) → new.first ≡ old.first → IfOk r (λ _. new.slots.items ≡ old.slots.items ++ Some reader ∷ []) → IfOk r (λ reply. reply ≡ ReplyReader number)
-    → number ≡ old.first + length old.slots.items
+    → number ≡ old.first + length old.slots.items → mid.disk ≡ old.wal.disk
     → ((past : Past) → FitsCore past old.wal.core (state_of old.wal.disk) → StepsTo past (past.tokens ++ Some reader ∷ []) Begins (ReaderAnswer (length past.state.readers)) mid.core (state_of old.wal.disk) (state_of mid.disk))
     → IfOk r (λ reply. SessionServes page_size old new Begins (answer_of reply))
-began page_size old new mid reader number (Err e) wal first slots reply is h = tt
-began page_size old new mid reader number (Ok answer) wal first slots reply is h = λ past size fits may.
+began page_size old new mid reader number (Err e) wal first slots reply is disk h = tt
+began page_size old new mid reader number (Ok answer) wal first slots reply is disk h = λ past size fits may.
     let tokens : past.tokens ++ Some reader ∷ [] ≡ tokens_of new =
     ap (λ t. t ++ Some reader ∷ []) fits.tokens ∙ (append_assoc (replicate old.first None) old.slots.items (Some reader ∷ []) ∙ (ap (λ x. replicate old.first None ++ x) (sym slots) ∙ ap (λ n. replicate n None ++ new.slots.items) (sym first))) in
     let long : length past.tokens ≡ old.first + length old.slots.items = ap length fits.tokens ∙ (length-append (replicate old.first None) old.slots.items ∙ ap (λ n. n + length old.slots.items) (length-replicate old.first None)) in
     let count : length past.state.readers ≡ number = let same = fits.core.count in omega (arith, long, is, same) in
     stepped past old new (past.tokens ++ Some reader ∷ []) Begins (ReaderAnswer (length past.state.readers)) (answer_of answer) (ap ReaderAnswer count ∙ sym (ap answer_of reply)) tokens
+    (λ logs calls. ap (λ (w : Wal ModelDisk). state_of w.disk) wal ∙ ap state_of disk)
     (subst (λ (w : Wal ModelDisk). StepsTo past (past.tokens ++ Some reader ∷ []) Begins (ReaderAnswer (length past.state.readers)) w.core (state_of old.wal.disk) (state_of w.disk)) (sym wal) (h past fits.core))
 
 pub ended : (page_size : ℕ) (old : Session) (wal : Wal ModelDisk) (slots : Vec (Option Reader) Global) (number i : ℕ) (reader : Reader) → number ≡ old.first + i → i < length old.slots.items
-    → get_or old.slots.items i None ≡ Some reader → slots.items ≡ set old.slots.items i None
+    → get_or old.slots.items i None ≡ Some reader → slots.items ≡ set old.slots.items i None → wal.disk ≡ old.wal.disk
     → ((past : Past) (n : ℕ) → FitsCore past old.wal.core (state_of old.wal.disk) → slice_get past.tokens n ≡ Some (Some reader) → StepsTo past (without_token past.tokens n) (Ends n) Done wal.core (state_of old.wal.disk) (state_of wal.disk))
     → SessionServes page_size old (record { wal = wal; first = old.first; slots = slots }) (Ends number) Done
-ended page_size old wal slots number i reader is within here emptied h past size fits may =
+ended page_size old wal slots number i reader is within here emptied disk h past size fits may =
     stepped past old (record { wal = wal; first = old.first; slots = slots }) (without_token past.tokens number) (Ends number) Done Done refl
     (ap (λ t. set t number None) fits.tokens ∙ (put_none old.first i number old.slots.items is ∙ ap (λ x. tokens_by old.first x) (sym emptied)))
+    (λ logs calls. ap state_of disk)
     (h past number fits.core (ap (λ t. slice_get t number) fits.tokens ∙ got_token old.first i number old.slots.items (Some reader) is (at_slot old.slots.items i reader within here)))
 
 pub was_read : (page_size : ℕ) (old : Session) (wal : Wal ModelDisk) (number page i : ℕ) (reader : Reader) (told answer : Answer) → told ≡ answer → number ≡ old.first + i → i < length old.slots.items
-    → get_or old.slots.items i None ≡ Some reader
+    → get_or old.slots.items i None ≡ Some reader → LooksOnce (state_of old.wal.disk) (state_of wal.disk)
     → ((past : Past) (n : ℕ) → FitsCore past old.wal.core (state_of old.wal.disk) → slice_get past.tokens n ≡ Some (Some reader) → past.state.page_size ≡ page_size → StepsTo past past.tokens (Reads n page) told wal.core (state_of old.wal.disk) (state_of wal.disk))
     → SessionServes page_size old (record { wal = wal; first = old.first; slots = old.slots }) (Reads number page) answer
-was_read page_size old wal number page i reader told answer same is within here h past size fits may =
-    stepped past old (record { wal = wal; first = old.first; slots = old.slots }) past.tokens (Reads number page) told answer same fits.tokens
+was_read page_size old wal number page i reader told answer same is within here looks h past size fits may =
+    stepped past old (record { wal = wal; first = old.first; slots = old.slots }) past.tokens (Reads number page) told answer same fits.tokens (λ logs calls. looks)
     (h past number fits.core (ap (λ t. slice_get t number) fits.tokens ∙ got_token old.first i number old.slots.items (Some reader) is (at_slot old.slots.items i reader within here)) size)
 
 pub found_slot : (slots : List (Option Reader)) (i : ℕ) (x y : Option Reader) → i < length slots → x ≡ get_or slots i x → x ≡ y → get_or slots i None ≡ y

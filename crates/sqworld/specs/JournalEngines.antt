@@ -1,11 +1,12 @@
 -- How the engine of a run over a rollback journal, or the disk without one, goes from one event to the next (own).
 use Rattle.std.specs.Prelude.{◌≡◌, ℕ, ◌<◌, ◌≤◌, Bool, false, ◌&&◌, Option, is_some, IfSome}
 use Rattle.crashdisk.specs.Call.{DiskState, HasCalls}
+use Rattle.crashdisk.specs.Keeps.{LooksOnce}
 use Rattle.crashdisk.specs.Model.{state_of}
 use Rattle.crashdisk.specs.Stop.{no_stops}
 use Rattle.crashdisk.specs.declared.model.ModelDisk.{ModelDisk}
 use Rattle.sqval.specs.Answers.{Answer, Done, Refused}
-use Rattle.rollcore.specs.Machine.{State, Act, Crashes, Sets, Step}
+use Rattle.rollcore.specs.Machine.{State, Act, Reads, Crashes, Sets, Step}
 use Rattle.rollcore.specs.Changes.{MayChange}
 use Rattle.rollcore.specs.Premises.{Permits}
 use Rattle.rollcore.specs.Fits.{FitsDisk, Fits, AreFiles}
@@ -39,11 +40,13 @@ abbrev pub Happens : (tears : Bool) → JEvent → Option CrashedLog → (old ne
 Happens tears (Crash choice) left old new = IsLeftBy tears choice left (state_of old) (state_of new) × (new.stops ≡ no_stops)
 Happens tears event left old new = IsSetTo event old new
 
--- Nothing is done to the disk but calls of it, which ask for no other changes than this call of an engine may, with pages of
--- this size and on these sectors; unless the event sets a stop or a failure, or is a crash.
+-- Where a page is read nothing is done to the disk, or one call that changes no byte. Otherwise nothing is done but calls of
+-- the disk, which ask for no other changes than this call of an engine may, with pages of this size and on these sectors;
+-- unless the event sets a stop or a failure, or is a crash.
 abbrev pub OnlyCalls : (size sector : ℕ) → Act → (old new : DiskState) → Type 0
 OnlyCalls size sector Sets old new = Unit {0}
 OnlyCalls size sector (Crashes left) old new = Unit {0}
+OnlyCalls size sector (Reads page) old new = LooksOnce old new
 OnlyCalls size sector act old new = HasCalls (MayChange act size sector) old new
 
 -- The machine goes on by a row of its table, what is handed along fits again, and the disk's sectors are the same.

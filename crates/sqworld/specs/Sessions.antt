@@ -1,9 +1,10 @@
 -- How an engine and its readers go from one call to the next (own).
 use Rattle.std.specs.Prelude.{◌≡◌, ℕ, ◌+◌, ◌<◌, ◌≤◌, List, ◌++◌, length, replicate, Option, None}
 use Rattle.crashdisk.specs.Call.{DiskState, HasCalls}
+use Rattle.crashdisk.specs.Keeps.{LooksOnce}
 use Rattle.crashdisk.specs.Model.{state_of}
 use Rattle.sqval.specs.Answers.{Answer, Refused}
-use Rattle.walcore.specs.Machine.{Act, Crashes, Sets, Step}
+use Rattle.walcore.specs.Machine.{Act, Begins, Reads, Ends, Crashes, Sets, Step}
 use Rattle.walcore.specs.Changes.{MayChange}
 use Rattle.walcore.specs.Making.{Makes, Permits}
 use Rattle.walcore.specs.Fits.{Past, FitsCore}
@@ -26,11 +27,15 @@ pub record FitsSession (past : Past) (session : Session) : Type 0 where
   pub core : FitsCore past session.wal.core (state_of session.wal.disk)
   pub tokens : past.tokens ≡ tokens_of session
 
--- Nothing is done to the disk but calls of it, which ask for no other changes than this call of an engine may, with pages of
--- this size and with these logs made; unless the event sets a stop or a failure, or is a crash.
+-- Where a reader begins or ends nothing is done to the disk, and where it reads at most one call that changes no byte.
+-- Otherwise nothing is done but calls of the disk, which ask for no other changes than this call of an engine may, with pages
+-- of this size and with these logs made; unless the event sets a stop or a failure, or is a crash.
 abbrev pub OnlyCalls : (size : ℕ) (logs : List (List ℕ)) → Act → (old new : DiskState) → Type 0
 OnlyCalls size logs Sets old new = Unit {0}
 OnlyCalls size logs (Crashes left) old new = Unit {0}
+OnlyCalls size logs Begins old new = new ≡ old
+OnlyCalls size logs (Ends reader) old new = new ≡ old
+OnlyCalls size logs (Reads reader page) old new = LooksOnce old new
 OnlyCalls size logs act old new = HasCalls (MayChange act size logs) old new
 
 -- The machine goes on by a row of its table, what is handed along fits again, and the disk's sectors are the same.
