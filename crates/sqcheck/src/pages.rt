@@ -23,7 +23,7 @@ pub(crate) fn read_page<S: PageSource>(
     ensures still_gives { S.gives_pages source.old → S.gives_pages source.new }
     ensures same_pages { S.pages source.new ≡ S.pages source.old }
     ensures same_size { S.size source.new ≡ S.size source.old }
-    ensures err { IfErr result (λ e. e.fault ≡ Fault.Source) }
+    ensures err { IfErr result (λ e. (e.page ≡ p) × (e.fault ≡ Fault.Source)) }
 {
     source.page(p, out).map_err(|_| CheckError {
         page: p,
