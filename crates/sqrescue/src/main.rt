@@ -4,6 +4,7 @@
 ghost use Rattle.std.specs.Prelude.{◌≤◌, IfOk};
 
 mod checking;
+mod commands;
 mod file_disk;
 mod logs;
 mod opened_file;
