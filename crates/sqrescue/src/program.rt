@@ -46,7 +46,7 @@ where
             Err(ShowError::Refused(refusal)) => refused(err, &refusal),
             Err(ShowError::Unwritten) => REFUSED,
         },
-        Ok(Request::Recover { file, .. }) => match recover(rt, file) {
+        Ok(Request::Recover { file, force, .. }) => match recover(rt, file, force) {
             Ok(outcome) => printed(out, &outcome, DONE),
             Err(refusal) => refused(err, &refusal),
         },
