@@ -6,7 +6,7 @@ use Rattle.std.specs.Cmp.Lexicographic.{bytes_decides, pointwise}
 use Rattle.std.proofs.lemmas.Option.{slice_get-map, slice_get-get_or, slice_get_within, get_or_from_slice_get, same_Some}
 use Rattle.std.proofs.lemmas.Bool.{cases_lt}
 use Rattle.std.proofs.lemmas.List.{length-map, drop-take, take-map, drop-map, drop_all, take_all}
-use Rattle.sqrescue.specs.Line.{AreOptions, ArePlain, HasPageText, IsFile, IsPlain, StandsFree}
+use Rattle.sqrescue.specs.Line.{AreKnown, AreOptions, HasPageText, IsFile, IsKnown, IsPlain, StandsFree}
 
 -- word i
 pub at_word : (ws : List (Bor (List ℕ))) (i : ℕ) (d : Bor (List ℕ)) → i < length ws → slice_get (map (λ w. w.now) ws) i ≡ Some (get_or ws i d).now
@@ -78,15 +78,18 @@ module _ (ws : List (Bor (List ℕ))) (i : ℕ) (d : Bor (List ℕ)) (lt : i < l
 pub page_value_here : (ws : List (Bor (List ℕ))) (i : ℕ) (d : Bor (List ℕ)) (text : List ℕ) → i < length ws → (get_or ws i d).now ≡ codes "--page=" ++ text → HasPageText (map (λ w. w.now) ws) text
 page_value_here ws i d text lt is = page_there (map (λ w. w.now) ws) text i (inr (at_word ws i d lt ∙ ap Some is))
 
--- words of which one is an option, and of which one more is none
-pub option_there : (ws : List (Bor (List ℕ))) (i : ℕ) (d : Bor (List ℕ)) → i < length ws → ¬ IsPlain (get_or ws i d).now → ¬ ArePlain (map (λ w. w.now) ws)
-option_there ws i d lt option plain = option (plain i (get_or ws i d).now (at_word ws i d lt))
+-- words of which one isn't known, and of which one more is
+pub unknown_there : (recovers : Bool) (ws : List (Bor (List ℕ))) (i : ℕ) (d : Bor (List ℕ)) → i < length ws → ¬ IsKnown recovers (get_or ws i d).now
+    → ¬ AreKnown recovers (map (λ w. w.now) ws)
+unknown_there recovers ws i d lt unknown known = unknown (known i (get_or ws i d).now (at_word ws i d lt))
 
-pub plain_more : (ws : List (Bor (List ℕ))) (i : ℕ) (d : Bor (List ℕ)) → i < length ws → ((k : ℕ) (word : List ℕ) → k < i → slice_get (map (λ w. w.now) ws) k ≡ Some word → IsPlain word)
-    → IsPlain (get_or ws i d).now → (k : ℕ) (word : List ℕ) → k < i + 1 → slice_get (map (λ w. w.now) ws) k ≡ Some word → IsPlain word
-plain_more ws i d lt before here k word below is = ⊎_elim (λ less. before k word less is)
+pub known_more : (recovers : Bool) (ws : List (Bor (List ℕ))) (i : ℕ) (d : Bor (List ℕ)) → i < length ws
+    → ((k : ℕ) (word : List ℕ) → k < i → slice_get (map (λ w. w.now) ws) k ≡ Some word → IsKnown recovers word)
+    → IsKnown recovers (get_or ws i d).now → (k : ℕ) (word : List ℕ) → k < i + 1 → slice_get (map (λ w. w.now) ws) k ≡ Some word → IsKnown recovers word
+known_more recovers ws i d lt before here k word below is = ⊎_elim (λ less. before k word less is)
     (λ ge. let same : k ≡ i = omega arith in
-    λ rest begins. here rest (is_word ws i d word lt (ap (λ n. slice_get (map (λ w. w.now) ws) n) (sym same) ∙ is) ∙ begins))
+    let P : List ℕ → Type 0 = λ w. IsKnown recovers w in
+    subst P (is_word ws i d word lt (ap (λ n. slice_get (map (λ w. w.now) ws) n) (sym same) ∙ is)) here)
     (cases_lt k i)
 
 -- the options up to a place
@@ -151,6 +154,11 @@ module _ (ws : List (Bor (List ℕ))) (i : ℕ) (two : 2 ≤ i) (lt : i < length
 
 pub clash : (b : Bool) → b ≡ true → b ≡ false → ⊥
 clash b t f = let g : true ≡ false = sym t ∙ f in cc
+
+-- what holds makes a test true that is false only where it doesn't hold
+pub told : (b : Bool) (P : Type 0) → (b ≡ false → ¬ P) → P → IsTrue b
+told true P not p = refl
+told false P not p = absurd (not refl p)
 
 -- what a test whether two words differ has told
 pub differ : (xs ys : List ℕ) (r : Bool) → r ≡ not (pointwise nat_eq xs ys) → IsTrue r → xs ≢ ys

@@ -1,3 +1,5 @@
 pub mod FileDisk
 pub mod Line
+pub mod Locks
+pub mod Paths
 pub mod Refusals

@@ -1,11 +1,14 @@
 -- What the words of a command line ask for.
-use Rattle.std.specs.Prelude.{◌≡◌, ◌≢◌, ◌⊎◌, ℕ, suc, ◌-◌, ◌^◌, ◌<◌, ◌≤◌, List, [], ◌++◌, length, take, drop, slice_get, Some, codes}
+use Rattle.std.specs.Prelude.{◌≡◌, ◌≢◌, ◌⊎◌, ◌↔◌, Bool, true, false, IsTrue, Option, None, ℕ, suc, ◌-◌, ◌^◌, ◌<◌, ◌≤◌, List, [], ◌++◌, length, take, drop, slice_get, Some, codes}
 use Rattle.std.specs.List.{Contains}
 use Rattle.std.specs.Str.Parse.{IsNumeral, digits_value, without_leading_plus}
 use Rattle.sqrescue.specs.declared.requests.Part.{Part}
 use Rattle.sqrescue.specs.declared.requests.Part.TheVariants.{Header, Page, Log}
+use Rattle.sqrescue.specs.declared.requests.SuperJournal.{SuperJournal}
+use Rattle.sqrescue.specs.declared.requests.SuperJournal.TheVariants.{Present, Gone}
+use Rattle.sqrescue.specs.declared.requests.Options.{Options}
 use Rattle.sqrescue.specs.declared.requests.Request.{Request}
-use Rattle.sqrescue.specs.declared.requests.Request.TheVariants.{Show, Check, Recover}
+use Rattle.sqrescue.specs.declared.requests.Request.TheVariants.{Show, Check, Recover, Version}
 
 -- the words behind the command, up to a "--"
 pub record AreOptions (words options : List (List ℕ)) : Type 0 where
@@ -44,17 +47,30 @@ AsksNoPart options =
 abbrev pub IsPlain : (word : List ℕ) → Type 0
 IsPlain word = (rest : List ℕ) → word ≡ codes "-" ++ rest → rest ≡ []
 
--- no word is an option
-abbrev pub ArePlain : (words : List (List ℕ)) → Type 0
-ArePlain words = (i : ℕ) (word : List ℕ) → slice_get words i ≡ Some word → IsPlain word
+-- a word behind `check`, or behind `recover`, that is no option, or one of the command's
+abbrev pub IsKnown : (recovers : Bool) → (word : List ℕ) → Type 0
+IsKnown recovers word = IsPlain word ⊎ (word ≡ codes "-v") ⊎ (word ≡ codes "--verbose")
+    ⊎ (word ≡ codes "--super-journal=present") ⊎ (word ≡ codes "--super-journal=gone")
+    ⊎ (IsTrue recovers × (word ≡ codes "--force"))
 
--- no option stands behind the command
-abbrev pub HasNoOption : (words : List (List ℕ)) → Type 0
-HasNoOption words = (options : List (List ℕ)) × AreOptions words options × ArePlain options
+-- all are
+abbrev pub AreKnown : (recovers : Bool) → (words : List (List ℕ)) → Type 0
+AreKnown recovers words = (i : ℕ) (word : List ℕ) → slice_get words i ≡ Some word → IsKnown recovers word
 
--- an option does
-abbrev pub HasOption : (words : List (List ℕ)) → Type 0
-HasOption words = (options : List (List ℕ)) × AreOptions words options × (¬ ArePlain options)
+-- what the options say of the super-journal
+abbrev pub AsksOf : (options : List (List ℕ)) → Option SuperJournal → Type 0
+AsksOf options None = (¬ Contains options (codes "--super-journal=present")) × (¬ Contains options (codes "--super-journal=gone"))
+AsksOf options (Some Present) = Contains options (codes "--super-journal=present") × (¬ Contains options (codes "--super-journal=gone"))
+AsksOf options (Some Gone) = (¬ Contains options (codes "--super-journal=present")) × Contains options (codes "--super-journal=gone")
+
+-- they say both
+abbrev pub AsksBoth : (options : List (List ℕ)) → Type 0
+AsksBoth options = Contains options (codes "--super-journal=present") × Contains options (codes "--super-journal=gone")
+
+-- what each command is asked besides, exactly where an option says so
+abbrev pub AsksBesides : (options : List (List ℕ)) → Options → Type 0
+AsksBesides options o =
+    (IsTrue o.verbose ↔ (Contains options (codes "-v") ⊎ Contains options (codes "--verbose"))) × AsksOf options o.super_journal
 
 -- a word behind the command that stands for itself: behind a "--", or else plain and not the value of "--page"
 pub record StandsFree (words : List (List ℕ)) (i : ℕ) (word : List ℕ) : Type 0 where
@@ -66,18 +82,33 @@ pub record StandsFree (words : List (List ℕ)) (i : ℕ) (word : List ℕ) : Ty
 abbrev pub IsFile : (words : List (List ℕ)) → (file : List ℕ) → Type 0
 IsFile words file = (i : ℕ) × StandsFree words i file × ((j : ℕ) (other : List ℕ) → StandsFree words j other → j ≡ i)
 
--- the second word is the command, the file stands behind it, and the options name the part; behind `check` and `recover`
--- there are none
-abbrev pub Asks : List (List ℕ) → Request → Type 0
-Asks words (Show file part) =
-    (slice_get words 1 ≡ Some (codes "show")) × IsFile words file.now
-    × ((options : List (List ℕ)) × AreOptions words options × AsksPart options part)
-Asks words (Check file) = (slice_get words 1 ≡ Some (codes "check")) × IsFile words file.now × HasNoOption words
-Asks words (Recover file) = (slice_get words 1 ≡ Some (codes "recover")) × IsFile words file.now × HasNoOption words
+-- the first word behind the program's name asks for the version
+abbrev pub AsksVersion : List (List ℕ) → Type 0
+AsksVersion words = slice_get words 1 ≡ Some (codes "--version")
 
--- the words, of this command and this file, ask for nothing: the command is another one, the options of `show` ask for no
--- part, or an option stands behind `check` or `recover`
+-- The second word is the command, the file stands behind it, and the options before a "--" say the rest, each exactly where
+-- it stands; behind `check` and `recover` there are no others.
+abbrev pub Asks : List (List ℕ) → Request → Type 0
+Asks words (Show file part o) =
+    (slice_get words 1 ≡ Some (codes "show")) × IsFile words file.now
+    × ((options : List (List ℕ)) × AreOptions words options × AsksPart options part × AsksBesides options o)
+Asks words (Check file o) =
+    (slice_get words 1 ≡ Some (codes "check")) × IsFile words file.now
+    × ((options : List (List ℕ)) × AreOptions words options × AreKnown false options × AsksBesides options o)
+Asks words (Recover file force o) =
+    (slice_get words 1 ≡ Some (codes "recover")) × IsFile words file.now
+    × ((options : List (List ℕ)) × AreOptions words options × AreKnown true options × AsksBesides options o
+    × (IsTrue force ↔ Contains options (codes "--force")))
+Asks words Version = AsksVersion words
+
+-- what the options of a command can't be: those of `show` ask for no part, those of `check` and `recover` have another among them
+abbrev pub AreAmiss : (command : List ℕ) → (options : List (List ℕ)) → Type 0
+AreAmiss command options =
+    (command ≡ codes "check" → ¬ AreKnown false options) × (command ≡ codes "recover" → ¬ AreKnown true options)
+    × (command ≡ codes "show" → AsksNoPart options)
+
+-- The words, of this command and this file, ask for nothing: the command is another one, or its options say both of the
+-- super-journal, or are amiss.
 abbrev pub AsksNothing : (words : List (List ℕ)) → (command file : List ℕ) → Type 0
 AsksNothing words command file = slice_get words 1 ≡ Some command → IsFile words file
-    → (command ≡ codes "check" → HasOption words) × (command ≡ codes "recover" → HasOption words)
-    × (command ≡ codes "show" → (options : List (List ℕ)) × AreOptions words options × AsksNoPart options)
+    → (options : List (List ℕ)) × AreOptions words options × (AsksBoth options ⊎ AreAmiss command options)

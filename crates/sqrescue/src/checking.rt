@@ -1,6 +1,7 @@
 //! What `check` prints.
 use crate::logs::{Contents, open_all};
 use crate::outcome::Refusal;
+use crate::paths::paths_of;
 use crate::showing::ShowError;
 use crate::texts::{write_fault, write_report};
 use sqview::{Verdict, judge};
@@ -18,7 +19,8 @@ pub(crate) fn check<R: Files + AllocGlobal, O: Write>(
 where
     R::File: FileExt,
 {
-    let Contents { db, wal, journal } = open_all(rt, file)?;
+    let paths = paths_of(rt, file).map_err(Refusal::from)?;
+    let Contents { db, wal, journal } = open_all(rt, &paths)?;
     let verdict = judge(rt.alloc(), db, wal, journal).map_err(Refusal::from)?;
     let is_well_formed = match verdict {
         Verdict::Clean(report) => {

@@ -1,27 +1,48 @@
 //! A disk over two real files.
-ghost use Rattle.std.specs.Prelude.{◌≡◌};
+ghost use Rattle.std.specs.Prelude.{◌≡◌, IsSome, IsTrue, OnErr, OnOk};
 ghost use Rattle.crashdisk.specs.declared.file.File.TheVariants.{Db, Log};
 
+use crate::in_use::Guard;
+use crate::outcome::Refusal;
 use crashdisk::{Disk, DiskError, File};
-use std::fs::OpenFile;
+use std::fs::{Metadata, OpenFile};
 use std::io;
 use std::os::unix::fs::FileExt;
 
-/// A database file and its log as a disk of sectors of 4096 bytes. Each fault of the system is `Failed`. That the
-/// files keep the word of a disk no contract can say: it is the user's premise.
+/// A database file and its log as a disk of sectors of 4096 bytes. Each fault of the system is `Failed`. Before the first
+/// change of each file the guard is asked, and where it refuses, the change is `Failed`. That the files keep the word of a
+/// disk no contract can say: it is the user's premise.
 #[derive(Drop)]
-pub struct FileDisk<F: FileExt + OpenFile + Drop> {
+pub struct FileDisk<F: FileExt + OpenFile + Drop, G: Guard> {
     db: F,
     log: F,
+    guard: G,
+    changes_db: bool,
+    changes_log: bool,
+    refusal: Option<Refusal>,
 }
 
-impl<F: FileExt + OpenFile + Drop> FileDisk<F> {
+impl<F: FileExt + OpenFile + Drop, G: Guard> FileDisk<F, G> {
     /// A disk over an opened database file and its opened log.
-    pub fn new(db: F, log: F) -> FileDisk<F>
+    pub fn new(db: F, log: F, guard: G) -> FileDisk<F, G>
         ensures db { result.db ≡ db }
         ensures log { result.log ≡ log }
     {
-        FileDisk { db, log }
+        FileDisk {
+            db,
+            log,
+            guard,
+            changes_db: false,
+            changes_log: false,
+            refusal: None,
+        }
+    }
+
+    /// Why the guard refused a change, if it did.
+    pub fn refusal(&self) -> Option<Refusal>
+        ensures { result ≡ self.now.refusal }
+    {
+        self.refusal
     }
 
     fn file(&self, file: File) -> &F
@@ -33,6 +54,41 @@ impl<F: FileExt + OpenFile + Drop> FileDisk<F> {
             File::Log => &self.log,
         }
     }
+
+    /// Asks the guard before the first change of a file.
+    fn may_change(&mut self, file: File) -> Result<(), DiskError>
+        ensures db { OnOk result (file ≡ Db → IsTrue self.new.changes_db) }
+        ensures log { OnOk result (file ≡ Log → IsTrue self.new.changes_log) }
+        ensures told { OnErr result (IsSome self.new.refusal) }
+    {
+        let changes = match file {
+            File::Db => self.changes_db,
+            File::Log => self.changes_log,
+        };
+        if changes {
+            return Ok(());
+        }
+        if let Err(refusal) = self.guard.ask() {
+            self.refusal = Some(refusal);
+            return Err(DiskError::Failed);
+        }
+        match file {
+            File::Db => self.changes_db = true,
+            File::Log => self.changes_log = true,
+        }
+        Ok(())
+    }
+}
+
+/// What the system says of an opened file. A call that a signal ends is made again.
+pub(crate) fn metadata_of<F: OpenFile>(file: &F) -> io::Result<Metadata> {
+    for _ in 0..u64::MAX {
+        match file.metadata() {
+            Err(error) if error.kind() == io::ErrorKind::Interrupted => {}
+            answer => return answer,
+        }
+    }
+    Err(io::Error::from(io::ErrorKind::Interrupted))
 }
 
 /// Fills the buffer from a place on, with zeros past the end of the file. A read that a signal ends is made again.
@@ -55,7 +111,7 @@ pub(crate) fn read_or_zeros<F: FileExt>(file: &F, at: u64, out: &mut [u8]) -> io
     Ok(())
 }
 
-impl<F: FileExt + OpenFile + Drop> Disk for FileDisk<F> {
+impl<F: FileExt + OpenFile + Drop, G: Guard> Disk for FileDisk<F, G> {
     ghost use Rattle.sqrescue.specs.FileDisk.{nothing};
 
     ghost state = { λ _. nothing };
@@ -73,7 +129,7 @@ impl<F: FileExt + OpenFile + Drop> Disk for FileDisk<F> {
     }
 
     fn len(&mut self, file: File) -> Result<u64, DiskError> {
-        let metadata = self.file(file).metadata().map_err(|_| DiskError::Failed)?;
+        let metadata = metadata_of(self.file(file)).map_err(|_| DiskError::Failed)?;
         Ok(metadata.len())
     }
 
@@ -82,12 +138,14 @@ impl<F: FileExt + OpenFile + Drop> Disk for FileDisk<F> {
     }
 
     fn write_at(&mut self, file: File, at: u64, bytes: &[u8]) -> Result<(), DiskError> {
+        self.may_change(file)?;
         self.file(file)
             .write_all_at(bytes, at)
             .map_err(|_| DiskError::Failed)
     }
 
     fn set_len(&mut self, file: File, end: u64) -> Result<(), DiskError> {
+        self.may_change(file)?;
         self.file(file).set_len(end).map_err(|_| DiskError::Failed)
     }
 

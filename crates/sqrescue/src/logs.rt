@@ -1,98 +1,72 @@
-//! The files beside a database file.
+//! The opened files of a database.
+use crate::locks::identity_of;
 use crate::opened_file::OpenedFile;
 use crate::outcome::Refusal;
-use std::alloc::{AllocError, Global};
+use crate::paths::{Paths, are_apart, look_at};
 use std::fs::{Metadata, OpenOptions};
+use std::io::ErrorKind;
 use std::rt::Files;
-use std::{fs, io};
 
 /// The shortest journal that can be hot, in bytes: a shorter one isn't opened.
 const SHORTEST: u64 = 28;
 
-/// The paths of a database file's logs.
-fn log_paths(alloc: Global, file: &str) -> Result<(String, String), AllocError> {
-    Ok((
-        format!(in alloc; "{file}-wal")?,
-        format!(in alloc; "{file}-journal")?,
-    ))
-}
-
-/// What the system says of a file. A call that a signal ends is made again.
-fn metadata<R: Files>(rt: &R, path: &str) -> io::Result<Metadata> {
-    for _ in 0..u64::MAX {
-        match fs::metadata(rt, path) {
-            Err(error) if error.kind() == io::ErrorKind::Interrupted => {}
-            answer => return answer,
-        }
-    }
-    Err(io::Error::from(io::ErrorKind::Interrupted))
-}
-
-/// The length of a file in bytes, 0 where there is none, also where its name is too long for one.
-pub(crate) fn file_length<R: Files>(rt: &R, path: &str) -> Result<u64, Refusal> {
-    match metadata(rt, path) {
-        Ok(metadata) if metadata.is_file() => Ok(metadata.len()),
+/// What the system says of a log; none where there is no file, also where its name is too long for one. Refused by
+/// `FileFailed` where something else lies there, a symbolic link too.
+fn found_log<R: Files>(rt: &R, path: &str) -> Result<Option<Metadata>, Refusal> {
+    match look_at(rt, path) {
+        Ok(found) if found.is_file() => Ok(Some(found)),
         Ok(_) => Err(Refusal::FileFailed),
         Err(error) => match error.kind() {
-            io::ErrorKind::NotFound | io::ErrorKind::InvalidFilename => Ok(0),
+            ErrorKind::NotFound | ErrorKind::InvalidFilename => Ok(None),
             _ => Err(Refusal::from(error)),
         },
     }
 }
 
-/// Opens a file of this length; none where it is below the least.
+/// Opens a file that was found; none where it is shorter than the least.
 fn opened<R: Files>(
     rt: &R,
     path: &str,
-    length: u64,
+    found: Option<Metadata>,
     least: u64,
 ) -> Result<OpenedFile<R::File>, Refusal> {
-    if length < least {
-        return Ok(OpenedFile::missing());
+    match found {
+        Some(found) if found.len() >= least => {
+            let file = OpenOptions::new().read(true).open(rt, path)?;
+            Ok(OpenedFile::new(file, found.len()))
+        }
+        _ => Ok(OpenedFile::missing()),
     }
-    let file = OpenOptions::new().read(true).open(rt, path)?;
-    Ok(OpenedFile::new(file, length))
 }
 
-/// The path and the bytes of a log.
-#[derive(Drop)]
-pub(crate) struct Log<F> {
-    pub path: String,
-    pub bytes: OpenedFile<F>,
-}
-
-/// A database file that is there, by its length in bytes, and the logs beside it, of which each may be missing.
+/// What the system says of a database file, and the opened logs beside it, of which each may be missing.
 #[derive(Drop)]
 pub(crate) struct Beside<F> {
-    pub db_length: u64,
-    pub wal: Log<F>,
-    pub journal: Log<F>,
+    pub db: Metadata,
+    pub wal: OpenedFile<F>,
+    pub journal: OpenedFile<F>,
 }
 
-/// Opens the logs beside a database file. Refused by `FileFailed` where a file can't be opened or isn't one.
-pub(crate) fn open_logs<R: Files + AllocGlobal>(
-    rt: &R,
-    file: &str,
-) -> Result<Beside<R::File>, Refusal> {
-    let (wal, journal) = log_paths(rt.alloc(), file)?;
-    let found = metadata(rt, file)?;
-    if !found.is_file() {
+/// Opens the logs beside a database file. Refused by `FileFailed` where a file can't be opened, isn't a regular one, or is
+/// another of them.
+pub(crate) fn open_logs<R: Files>(rt: &R, paths: &Paths) -> Result<Beside<R::File>, Refusal> {
+    let db = look_at(rt, paths.db.as_str())?;
+    if !db.is_file() {
         return Err(Refusal::FileFailed);
     }
-    let wal_length = file_length(rt, wal.as_str())?;
-    let journal_length = file_length(rt, journal.as_str())?;
-    let wal_bytes = opened(rt, wal.as_str(), wal_length, 1)?;
-    let journal_bytes = opened(rt, journal.as_str(), journal_length, SHORTEST)?;
+    let wal = found_log(rt, paths.wal.as_str())?;
+    let journal = found_log(rt, paths.journal.as_str())?;
+    let identities = (
+        wal.as_ref().map(identity_of),
+        journal.as_ref().map(identity_of),
+    );
+    if !are_apart(identity_of(&db), identities.0, identities.1) {
+        return Err(Refusal::FileFailed);
+    }
     Ok(Beside {
-        db_length: found.len(),
-        wal: Log {
-            path: wal,
-            bytes: wal_bytes,
-        },
-        journal: Log {
-            path: journal,
-            bytes: journal_bytes,
-        },
+        db,
+        wal: opened(rt, paths.wal.as_str(), wal, 1)?,
+        journal: opened(rt, paths.journal.as_str(), journal, SHORTEST)?,
     })
 }
 
@@ -105,18 +79,11 @@ pub(crate) struct Contents<F> {
 }
 
 /// Opens a database file and its logs, of which each may be missing.
-pub(crate) fn open_all<R: Files + AllocGlobal>(
-    rt: &R,
-    file: &str,
-) -> Result<Contents<R::File>, Refusal> {
-    let Beside {
-        db_length,
+pub(crate) fn open_all<R: Files>(rt: &R, paths: &Paths) -> Result<Contents<R::File>, Refusal> {
+    let Beside { db, wal, journal } = open_logs(rt, paths)?;
+    Ok(Contents {
+        db: opened(rt, paths.db.as_str(), Some(db), 0)?,
         wal,
         journal,
-    } = open_logs(rt, file)?;
-    Ok(Contents {
-        db: opened(rt, file, db_length, 0)?,
-        wal: wal.bytes,
-        journal: journal.bytes,
     })
 }

@@ -4,10 +4,14 @@
 ghost use Rattle.std.specs.Prelude.{◌≤◌, IfOk};
 
 mod checking;
+mod commands;
 mod file_disk;
+mod in_use;
+mod locks;
 mod logs;
 mod opened_file;
 mod outcome;
+mod paths;
 mod program;
 mod recovery;
 mod requests;

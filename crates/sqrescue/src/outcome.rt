@@ -41,6 +41,9 @@ impl fmt::Display for Outcome {
 /// Why a command was refused. Nothing was written but where a file failed.
 #[derive(Clone, Copy, Debug, PartialEq, Eq, Error)]
 pub enum Refusal {
+    /// Another process has the database file open.
+    #[error("in use")]
+    InUse,
     /// A file is missing, is no file, or its system refused a call.
     #[error("file failed")]
     FileFailed,

@@ -11,6 +11,9 @@ use std::io::{self, Write};
 use std::os::unix::fs::FileExt;
 use std::rt::Files;
 
+/// The line of `--version`.
+const VERSION: &str = "sqrescue 0.1.0";
+
 const DONE: u8 = 0;
 
 const DAMAGED: u8 = 1;
@@ -32,21 +35,22 @@ where
     ensures { result ≤ 3 }
 {
     match request(rt.alloc(), words) {
-        Ok(Request::Show { file, part }) => match show(rt, file, part, out) {
+        Ok(Request::Show { file, part, .. }) => match show(rt, file, part, out) {
             Ok(()) => DONE,
             Err(ShowError::Refused(refusal)) => refused(err, &refusal),
             Err(ShowError::Unwritten) => REFUSED,
         },
-        Ok(Request::Check { file }) => match check(rt, file, out) {
+        Ok(Request::Check { file, .. }) => match check(rt, file, out) {
             Ok(true) => DONE,
             Ok(false) => DAMAGED,
             Err(ShowError::Refused(refusal)) => refused(err, &refusal),
             Err(ShowError::Unwritten) => REFUSED,
         },
-        Ok(Request::Recover { file }) => match recover(rt, file) {
+        Ok(Request::Recover { file, force, .. }) => match recover(rt, file, force) {
             Ok(outcome) => printed(out, &outcome, DONE),
             Err(refusal) => refused(err, &refusal),
         },
+        Ok(Request::Version) => printed(out, &VERSION, DONE),
         Err(LineError::Help(help)) => printed(out, &help, DONE),
         Err(LineError::NotUnderstood(fault)) => printed(err, &fault, NOT_UNDERSTOOD),
         Err(LineError::NoMemory) => refused(err, &LineError::NoMemory),

@@ -1,10 +1,12 @@
 //! The recovery of a database file from the log beside it.
 ghost use Rattle.std.specs.Prelude.{◌≡◌};
 
-use crate::file_disk::{FileDisk, read_or_zeros};
-use crate::logs::{Beside, file_length, open_logs};
+use crate::file_disk::{FileDisk, metadata_of, read_or_zeros};
+use crate::in_use::{Guard, OpenElsewhere};
+use crate::logs::{Beside, open_logs};
 use crate::opened_file::OpenedFile;
 use crate::outcome::{Outcome, Refusal};
+use crate::paths::{Paths, paths_of};
 use rollcore::replay;
 use sqjournal::is_magic;
 use sqpage::{has_magic, named_page_size};
@@ -19,70 +21,83 @@ use walcore::fold;
 
 /// Recovers a database file from the log that counts beside it: folds FILE-wal into it and empties FILE-wal, or replays
 /// a hot FILE-journal into it and zeroes the journal's header. No file is made, and where no log counts none is written.
-pub(crate) fn recover<R: Files + AllocGlobal>(rt: &R, file: &str) -> Result<Outcome, Refusal>
+/// Whether another process has it open is
+/// asked first, and again before each of the two files is changed; by force it isn't asked.
+pub(crate) fn recover<R: Files + AllocGlobal>(
+    rt: &R,
+    file: &str,
+    forced: bool,
+) -> Result<Outcome, Refusal>
 where
     R::File: FileExt,
 {
-    let Beside { wal, journal, .. } = open_logs(rt, file)?;
-    let log_path = wal.path;
-    let log = wal.bytes;
-    let journal_path = journal.path;
-    let mut journal = journal.bytes;
-    match log_in_use(&log, &mut journal)? {
+    let paths = paths_of(rt, file)?;
+    let guard = OpenElsewhere {
+        rt,
+        paths: &paths,
+        forced,
+    };
+    guard.ask()?;
+    let Beside { wal, journal, .. } = open_logs(rt, &paths)?;
+    let mut journal = journal;
+    match log_in_use(&wal, &mut journal)? {
         LogInUse::Neither => Ok(Outcome::Nothing),
-        LogInUse::Wal => fold_log(rt, file, log_path.as_str(), log),
-        LogInUse::Journal(_) => roll_back(rt, file, journal_path.as_str()),
+        LogInUse::Wal => fold_log(rt, &paths, wal, guard),
+        LogInUse::Journal(_) => roll_back(rt, &paths, journal.len(), guard),
     }
 }
 
-/// Replays a hot journal, unless it is one of a transaction over several files.
-fn roll_back<R: Files + AllocGlobal>(rt: &R, file: &str, path: &str) -> Result<Outcome, Refusal>
+/// Replays a hot journal of this length, unless it is one of a transaction over several files.
+fn roll_back<R: Files + AllocGlobal, G: Guard>(
+    rt: &R,
+    paths: &Paths,
+    length: u64,
+    guard: G,
+) -> Result<Outcome, Refusal>
 where
     R::File: FileExt,
 {
-    let length = file_length(rt, path)?;
-    let db = open(rt, file)?;
-    let journal = open(rt, path)?;
+    let db = open(rt, paths.db.as_str())?;
+    let journal = open(rt, paths.journal.as_str())?;
     let mut end = [0u8; 8];
     read_or_zeros(&journal, length.saturating_sub(8), &mut end)?;
     if is_magic(&end) {
         return Err(Refusal::SuperJournal);
     }
-    let mut disk = FileDisk::new(db, journal);
-    let replayed = replay(rt.alloc(), &mut disk)?;
-    Ok(if replayed.hot {
-        Outcome::RolledBack {
+    let mut disk = FileDisk::new(db, journal, guard);
+    match replay(rt.alloc(), &mut disk) {
+        Ok(replayed) if replayed.hot => Ok(Outcome::RolledBack {
             records: replayed.records,
             pages: replayed.size,
-        }
-    } else {
-        Outcome::Nothing
-    })
+        }),
+        Ok(_) => Ok(Outcome::Nothing),
+        Err(error) => Err(disk.refusal().unwrap_or(Refusal::from(error))),
+    }
 }
 
 /// Folds a log that isn't empty.
-fn fold_log<R: Files + AllocGlobal>(
+fn fold_log<R: Files + AllocGlobal, G: Guard>(
     rt: &R,
-    file: &str,
-    log_path: &str,
+    paths: &Paths,
     bytes: OpenedFile<R::File>,
+    guard: G,
 ) -> Result<Outcome, Refusal>
 where
     R::File: FileExt,
 {
     let alloc = rt.alloc();
-    let db = open(rt, file)?;
-    let log = open(rt, log_path)?;
+    let db = open(rt, paths.db.as_str())?;
+    let log = open(rt, paths.wal.as_str())?;
     let page_size = page_size_of(alloc, &db, bytes)?;
-    let mut disk = FileDisk::new(db, log);
-    let folded = fold(alloc, &mut disk, page_size)?;
-    Ok(match folded.frames {
-        0 => Outcome::NoFront,
-        frames => Outcome::Folded {
-            frames,
+    let mut disk = FileDisk::new(db, log, guard);
+    match fold(alloc, &mut disk, page_size) {
+        Ok(folded) if folded.frames == 0 => Ok(Outcome::NoFront),
+        Ok(folded) => Ok(Outcome::Folded {
+            frames: folded.frames,
             pages: folded.size,
-        },
-    })
+        }),
+        Err(error) => Err(disk.refusal().unwrap_or(Refusal::from(error))),
+    }
 }
 
 fn open<R: Files>(rt: &R, path: &str) -> Result<R::File, Refusal> {
@@ -122,7 +137,7 @@ fn smallest() -> PageSize
 
 /// The page size that a database file's header names, where its magic and that size are right.
 fn database_page_size<F: FileExt + OpenFile>(db: &F) -> Result<Option<PageSize>, Refusal> {
-    if db.metadata()?.len() < 18 {
+    if metadata_of(db)?.len() < 18 {
         return Ok(None);
     }
     let mut head = [0u8; 100];

@@ -12,15 +12,47 @@ pub enum Part {
     Log,
 }
 
+/// Whether the super-journal that a hot journal names is there.
+#[derive(Clone, Copy, Debug, PartialEq, Eq)]
+pub enum SuperJournal {
+    /// It is: the journal counts.
+    Present,
+    /// It is gone: the transaction was committed, and the journal doesn't count.
+    Gone,
+}
+
+/// What each command may be asked besides.
+#[derive(Clone, Copy, Debug, PartialEq, Eq)]
+pub struct Options {
+    /// To say on standard error what is done and why.
+    pub verbose: bool,
+    /// To take the super-journal as there or as gone. None: as nothing is known of it.
+    pub super_journal: Option<SuperJournal>,
+}
+
 /// What a line asks for.
 #[derive(Clone, Copy, Debug, PartialEq, Eq)]
 pub enum Request<'a> {
     /// To show a part of this database file.
-    Show { file: &'a str, part: Part },
+    Show {
+        file: &'a str,
+        part: Part,
+        options: Options,
+    },
     /// To check this database file as its log has it.
-    Check { file: &'a str },
-    /// To recover this database file: to fold its write-ahead log into it, or to roll it back by its hot journal.
-    Recover { file: &'a str },
+    Check {
+        file: &'a str,
+        options: Options,
+    },
+    /// To recover this database file: to fold its write-ahead log into it, or to roll it back by its hot journal; by force:
+    /// even while another process has it open.
+    Recover {
+        file: &'a str,
+        force: bool,
+        options: Options,
+    },
+    /// To say which version this is.
+    Version,
 }
 
 /// Why a line asks for nothing.

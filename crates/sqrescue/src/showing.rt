@@ -9,6 +9,7 @@ ghost use Rattle.sqrescue.specs.declared.showing.ShowError.TheVariants.{Refused,
 
 use crate::logs::{Beside, Contents, open_all, open_logs};
 use crate::outcome::Refusal;
+use crate::paths::{Paths, paths_of};
 use crate::requests::Part;
 use crate::texts::{
     write_bytes, write_cell, write_column, write_header, write_journal, write_log, write_page,
@@ -76,10 +77,11 @@ where
     let Ok(mut lines) = BufWriter::new(rt.alloc(), out) else {
         return Err(ShowError::Refused(Refusal::NoMemory));
     };
+    let paths = paths_of(rt, file).map_err(Refusal::from)?;
     match part {
-        Part::Header => show_header(rt, file, &mut lines)?,
-        Part::Page(number) => show_page(rt, file, number, &mut lines)?,
-        Part::Log => show_log(rt, file, &mut lines)?,
+        Part::Header => show_header(rt, &paths, &mut lines)?,
+        Part::Page(number) => show_page(rt, &paths, number, &mut lines)?,
+        Part::Log => show_log(rt, &paths, &mut lines)?,
     }
     lines.flush()?;
     Ok(())
@@ -87,14 +89,14 @@ where
 
 fn show_header<R: Files + AllocGlobal, W: Write>(
     rt: &R,
-    file: &str,
+    paths: &Paths,
     out: &mut W,
 ) -> Result<(), ShowError>
 where
     R::File: FileExt,
 {
     let alloc = rt.alloc();
-    let Contents { db, wal, journal } = open_all(rt, file)?;
+    let Contents { db, wal, journal } = open_all(rt, paths)?;
     let mut view = view_of(alloc, db, wal, journal)?;
     if view.count() == 0 {
         return Err(ShowError::Refused(Refusal::NotADatabase));
@@ -157,7 +159,7 @@ fn usable_size(first: &[u8]) -> u32
 
 fn show_page<R: Files + AllocGlobal, W: Write>(
     rt: &R,
-    file: &str,
+    paths: &Paths,
     number: u32,
     out: &mut W,
 ) -> Result<(), ShowError>
@@ -165,7 +167,7 @@ where
     R::File: FileExt,
 {
     let alloc = rt.alloc();
-    let Contents { db, wal, journal } = open_all(rt, file)?;
+    let Contents { db, wal, journal } = open_all(rt, paths)?;
     let mut view = view_of(alloc, db, wal, journal)?;
     let first = page_of(alloc, &mut view, 1)?;
     let usable = usable_size(&first);
@@ -238,16 +240,16 @@ fn show_record<W: Write>(bytes: &[u8], out: &mut W) -> Result<(), ShowError> {
 
 fn show_log<R: Files + AllocGlobal, W: Write>(
     rt: &R,
-    file: &str,
+    paths: &Paths,
     out: &mut W,
 ) -> Result<(), ShowError>
 where
     R::File: FileExt,
 {
     let alloc = rt.alloc();
-    let Beside { wal, journal, .. } = open_logs(rt, file)?;
-    let mut wal = wal.bytes;
-    let mut journal = journal.bytes;
+    let Beside { wal, journal, .. } = open_logs(rt, paths)?;
+    let mut wal = wal;
+    let mut journal = journal;
     match log_in_use(&wal, &mut journal).map_err(Refusal::from)? {
         LogInUse::Neither => writeln!(out, "no log")?,
         LogInUse::Wal => match scan_log(alloc, &mut wal)? {

@@ -1,55 +1,13 @@
 //! The words of a command line.
 ghost use Rattle.std.specs.Prelude.{◌≡◌, ◌≢◌, ◌<◌, ◌≤◌, ◌++◌, ℕ, false, List, map, length, slice_get, codes, IfOk, IfSome, IsTrue, MatchOption};
 ghost use Rattle.std.specs.List.{Contains};
-ghost use Rattle.sqrescue.specs.Line.{ArePlain, Asks, AreOptions, AsksNoPart, AsksNothing, AsksPart, HasNoOption, HasOption, HasPageText, IsFile, IsPageNumber, IsPlain, StandsFree};
+ghost use Rattle.sqrescue.specs.Line.{AreKnown, AreOptions, Asks, AsksBesides, AsksBoth, AsksNoPart, AsksNothing, AsksPart, AsksVersion, HasPageText, IsFile, IsKnown, IsPageNumber, IsPlain, StandsFree};
 
-use crate::requests::{LineError, Part, Request};
+use crate::commands::command;
+use crate::requests::{LineError, Options, Part, Request, SuperJournal};
 use clap::error::ErrorKind;
-use clap::{Arg, ArgAction, ArgMatches, Command, value_parser};
-use std::alloc::{AllocError, Global};
-
-/// The argument that names the database file.
-fn file_arg<'a>(alloc: Global) -> Arg<'a> {
-    Arg::new(alloc, "FILE")
-        .required(true)
-        .action(ArgAction::Set)
-        .help("The database file; its logs are FILE-wal and FILE-journal")
-}
-
-fn show_command<'a>(alloc: Global) -> Result<Command<'a>, AllocError> {
-    let page = Arg::new(alloc, "page")
-        .long("page")
-        .value_name("N")
-        .value_parser(value_parser!(u32).range(1..))
-        .help("Shows this page instead");
-    let log = Arg::new(alloc, "log")
-        .long("log")
-        .action(ArgAction::SetTrue)
-        .help("Shows the log instead");
-    Command::new(alloc, "show")
-        .about("Shows the header of the database as its log has it; writes nothing")
-        .arg(file_arg(alloc))?
-        .arg(page)?
-        .arg(log)
-}
-
-fn command<'a>(alloc: Global) -> Result<Command<'a>, AllocError> {
-    let check = Command::new(alloc, "check")
-        .about("Checks the database as its log has it; writes nothing")
-        .arg(file_arg(alloc))?;
-    let recover = Command::new(alloc, "recover")
-        .about(
-            "Recovers the database: folds its write-ahead log into it, or rolls it back by its hot journal",
-        )
-        .arg(file_arg(alloc))?;
-    Command::new(alloc, "sqrescue")
-        .about("Reads and recovers SQLite databases with their logs")
-        .subcommand_required(true)
-        .arg_required_else_help(true)
-        .subcommand(show_command(alloc)?)?
-        .subcommand(check)?
-        .subcommand(recover)
-}
+use clap::{ArgMatches, Command};
+use std::alloc::Global;
 
 /// Whether a word is this text.
 fn stands_in(words: &[&str], text: &str) -> bool
@@ -82,13 +40,26 @@ fn is_plain(word: &str) -> bool
     }
 }
 
-/// Whether no word is an option.
-fn are_plain(words: &[&str]) -> bool
-    ensures yes { IsTrue result → ArePlain (map (λ w. w.now) words.entry.now) }
-    ensures not { result ≡ false → ¬ ArePlain (map (λ w. w.now) words.entry.now) }
+/// Whether a word behind `check`, or behind `recover`, is no option, or one that the command has.
+fn is_known(word: &str, recovers: bool) -> bool
+    ensures yes { IsTrue result → IsKnown recovers word.now }
+    ensures not { result ≡ false → ¬ IsKnown recovers word.now }
+{
+    is_plain(word)
+        || word == "-v"
+        || word == "--verbose"
+        || word == "--super-journal=present"
+        || word == "--super-journal=gone"
+        || (recovers && word == "--force")
+}
+
+/// Whether each word behind `check`, or behind `recover`, is no option, or one that the command has.
+fn are_known(words: &[&str], recovers: bool) -> bool
+    ensures yes { IsTrue result → AreKnown recovers (map (λ w. w.now) words.entry.now) }
+    ensures not { result ≡ false → ¬ AreKnown recovers (map (λ w. w.now) words.entry.now) }
 {
     for word in words {
-        if !is_plain(word) {
+        if !is_known(word, recovers) {
             return false;
         }
     }
@@ -189,11 +160,10 @@ fn page_number(text: &str) -> Option<u32>
     }
 }
 
-/// The part that the words ask for. None where its number is none, or where a page and the log are asked for.
-fn part_of(words: &[&str]) -> Option<Part>
-    ensures { (options : List (List ℕ)) × AreOptions (map (λ w. w.now) words.entry.now) options × MatchOption result (AsksNoPart options) (AsksPart options) }
+/// The part that the options ask for. None where its number is none, or where a page and the log are asked for.
+fn part_of(options: &[&str]) -> Option<Part>
+    ensures { MatchOption result (AsksNoPart (map (λ w. w.now) options.entry.now)) (AsksPart (map (λ w. w.now) options.entry.now)) }
 {
-    let options = options_of(words);
     let log = stands_in(options, "--log");
     match page_text(options) {
         Some(text) => {
@@ -207,12 +177,23 @@ fn part_of(words: &[&str]) -> Option<Part>
     }
 }
 
-/// Whether an option stands behind the command.
-fn has_option(words: &[&str]) -> bool
-    ensures yes { IsTrue result → HasOption (map (λ w. w.now) words.entry.now) }
-    ensures not { result ≡ false → HasNoOption (map (λ w. w.now) words.entry.now) }
+/// What the options ask besides. None where they say both of the super-journal.
+fn besides(options: &[&str]) -> Option<Options>
+    ensures { MatchOption result (AsksBoth (map (λ w. w.now) options.entry.now)) (AsksBesides (map (λ w. w.now) options.entry.now)) }
 {
-    !are_plain(options_of(words))
+    let verbose = stands_in(options, "-v") || stands_in(options, "--verbose");
+    let present = stands_in(options, "--super-journal=present");
+    let gone = stands_in(options, "--super-journal=gone");
+    let super_journal = match (present, gone) {
+        (true, true) => return None,
+        (true, false) => Some(SuperJournal::Present),
+        (false, true) => Some(SuperJournal::Gone),
+        (false, false) => None,
+    };
+    Some(Options {
+        verbose,
+        super_journal,
+    })
 }
 
 /// What the words ask for where the command is this one and the file that one; None where they don't say so.
@@ -222,26 +203,44 @@ fn asked<'a>(words: &'a [&'a str], command: &str, file: &'a str) -> Option<Reque
     if !is_asked(words, command, file) {
         return None;
     }
+    let given = options_of(words);
+    let options = besides(given)?;
     if command == "show" {
-        let part = part_of(words)?;
-        return Some(Request::Show { file, part });
+        let part = part_of(given)?;
+        return Some(Request::Show {
+            file,
+            part,
+            options,
+        });
     }
-    if has_option(words) {
-        return None;
+    if command == "check" && are_known(given, false) {
+        return Some(Request::Check { file, options });
     }
-    if command == "check" {
-        return Some(Request::Check { file });
-    }
-    if command == "recover" {
-        return Some(Request::Recover { file });
+    if command == "recover" && are_known(given, true) {
+        let force = stands_in(given, "--force");
+        return Some(Request::Recover {
+            file,
+            force,
+            options,
+        });
     }
     None
 }
 
-/// Reads a line, whose first word is the program's name. `NotUnderstood` too where a page and the log are to be shown.
+/// Whether the first word behind the program's name asks for the version.
+fn asks_version(words: &[&str]) -> bool
+    ensures { IsTrue result → AsksVersion (map (λ w. w.now) words.entry.now) }
+{
+    words.len() > 1 && words[1] == "--version"
+}
+
+/// Reads a line, whose first word is the program's name. `NotUnderstood` too where options contradict one another.
 pub fn request<'a>(alloc: Global, words: &'a [&'a str]) -> Result<Request<'a>, LineError>
     ensures { IfOk result (Asks (map (λ w. w.now) words.entry.now)) }
 {
+    if asks_version(words) {
+        return Ok(Request::Version);
+    }
     let mut command = command(alloc).map_err(|_| LineError::NoMemory)?;
     let matches = command.try_get_matches_from_mut(words).map_err(refused)?;
     match matched(words, &matches) {
@@ -258,11 +257,11 @@ fn matched<'a>(words: &'a [&'a str], matches: &ArgMatches<'a>) -> Option<Request
     asked(words, command, file)
 }
 
-/// The fault of words that ask for a page and for the log.
+/// The fault of options that clap takes one by one, and that contradict one another.
 fn not_understood(command: &mut Command<'_>) -> LineError {
     match command.error(
         ErrorKind::ArgumentConflict,
-        "the argument '--page <N>' cannot be used with '--log'",
+        "the options contradict one another",
     ) {
         Ok(error) => LineError::NotUnderstood(error),
         Err(_) => LineError::NoMemory,

@@ -1,0 +1,101 @@
+//! The commands and their options, as clap reads them.
+use clap::{Arg, ArgAction, Command, value_parser};
+use std::alloc::{AllocError, Global};
+
+/// The argument that names the database file.
+fn file_arg<'a>(alloc: Global) -> Arg<'a> {
+    Arg::new(alloc, "FILE")
+        .required(true)
+        .action(ArgAction::Set)
+        .help("The database file; its logs are FILE-wal and FILE-journal")
+}
+
+fn verbose_arg<'a>(alloc: Global) -> Arg<'a> {
+    Arg::new(alloc, "verbose")
+        .short('v')
+        .long("verbose")
+        .action(ArgAction::SetTrue)
+        .help(
+            "Says on standard error which files are read, which log counts, and why a command is refused",
+        )
+}
+
+fn super_journal_arg<'a>(alloc: Global) -> Arg<'a> {
+    let answers: &'static [&'static str] = &["present", "gone"];
+    Arg::new(alloc, "super-journal")
+        .long("super-journal")
+        .value_name("STATE")
+        .require_equals(true)
+        .action(ArgAction::Set)
+        .value_parser(answers)
+        .help(
+            "Says whether the super-journal that a journal names is there; the journal counts only where it is",
+        )
+}
+
+/// A command with the file and the options that each has.
+fn base_command<'a>(
+    alloc: Global,
+    name: &'a str,
+    about: &'a str,
+) -> Result<Command<'a>, AllocError> {
+    Command::new(alloc, name)
+        .about(about)
+        .arg(file_arg(alloc))?
+        .arg(verbose_arg(alloc))?
+        .arg(super_journal_arg(alloc))
+}
+
+fn show_command<'a>(alloc: Global) -> Result<Command<'a>, AllocError> {
+    let page = Arg::new(alloc, "page")
+        .long("page")
+        .value_name("N")
+        .value_parser(value_parser!(u32).range(1..))
+        .conflicts_with("log")?
+        .help("Shows this page instead");
+    let log = Arg::new(alloc, "log")
+        .long("log")
+        .action(ArgAction::SetTrue)
+        .help("Shows the log instead");
+    base_command(
+        alloc,
+        "show",
+        "Shows the header of the database as its log has it; writes nothing",
+    )?
+    .arg(page)?
+    .arg(log)
+}
+
+fn recover_command<'a>(alloc: Global) -> Result<Command<'a>, AllocError> {
+    let force = Arg::new(alloc, "force")
+        .long("force")
+        .action(ArgAction::SetTrue)
+        .help("Doesn't ask whether another process has the file open");
+    base_command(
+        alloc,
+        "recover",
+        "Recovers the database: folds its write-ahead log into it, or rolls it back by its hot journal",
+    )?
+    .arg(force)
+}
+
+/// The program's command line.
+pub(crate) fn command<'a>(alloc: Global) -> Result<Command<'a>, AllocError> {
+    let version = Arg::new(alloc, "version")
+        .long("version")
+        .action(ArgAction::SetTrue)
+        .help("Prints the version");
+    let check = base_command(
+        alloc,
+        "check",
+        "Checks the database as its log has it; writes nothing",
+    )?;
+    Command::new(alloc, "sqrescue")
+        .about("Reads and recovers SQLite databases with their logs")
+        .subcommand_required(true)
+        .arg_required_else_help(true)
+        .arg(version)?
+        .subcommand(show_command(alloc)?)?
+        .subcommand(check)?
+        .subcommand(recover_command(alloc)?)
+}
