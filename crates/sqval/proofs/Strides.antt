@@ -6,43 +6,87 @@ use Rattle.std.proofs.lemmas.Bool.{cases_lt}
 use Rattle.std.proofs.Math.Nat.{mul-le-mul_right}
 use borrow.Rule.Slice.PartMut.{put_mid}
 
--- bytes, once some in their middle were written over
-module _ (a k : ℕ) (xs ys : List ℕ) (long : length ys ≡ k) (fits : a + k ≤ length xs) where
-  pasted : put_mid a k xs ys ≡ (take a xs ++ ys) ++ drop (a + k) xs
-  pasted = put_mid-paste a k xs ys ys k refl refl (sym long) ∙ ap (λ (l : List ℕ). (take a xs ++ l) ++ drop (a + k) xs) (take_all k ys (omega arith))
+-- Bytes that were split at m; then k of those in front, from a on, were written over.
+module _ (m a k : ℕ) (xs ys : List ℕ) (long : length ys ≡ k) (fits : a + k ≤ m) (within : m ≤ length xs) where
+  abbrev front : List ℕ
+  front = take m xs
 
-  front_long : length (take a xs) ≡ a
-  front_long = length-take-le a xs (omega arith)
+  front_long : length front ≡ m
+  front_long = length-take-le m xs within
 
-  both_long : length (take a xs ++ ys) ≡ a + k
-  both_long = omega (arith, length-append (take a xs) ys, front_long)
+  before_long : length (take a front) ≡ a
+  before_long = length-take-le a front (omega (arith, front_long))
 
-  inside : (i : ℕ) → a ≤ i → i < a + k → get_or (put_mid a k xs ys) i 0 ≡ get_or ys (i - a) 0
-  inside i le lt = ap (λ (l : List ℕ). get_or l i 0) pasted
-      ∙ get_or_append_left (take a xs ++ ys) (drop (a + k) xs) 0 i (omega (arith, both_long)) ∙ get_or-append_right (take a xs) ys a i 0 front_long le
+  both_long : length (take a front ++ ys) ≡ a + k
+  both_long = omega (arith, length-append (take a front) ys, before_long)
 
-  before : (i : ℕ) → i < a → get_or (put_mid a k xs ys) i 0 ≡ get_or xs i 0
-  before i lt = ap (λ (l : List ℕ). get_or l i 0) pasted
-      ∙ get_or_append_left (take a xs ++ ys) (drop (a + k) xs) 0 i (omega (arith, both_long)) ∙ get_or_append_left (take a xs) ys 0 i (omega (arith, front_long)) ∙ get_or-take a xs i 0 lt
+  rest_long : length (drop (a + k) front) ≡ m - (a + k)
+  rest_long = omega (arith, length-drop (a + k) front, front_long)
+
+  pasted : put_mid a k front ys ≡ (take a front ++ ys) ++ drop (a + k) front
+  pasted = put_mid-paste a k front ys ys k refl refl (sym long) ∙ ap (λ (l : List ℕ). (take a front ++ l) ++ drop (a + k) front) (take_all k ys (omega arith))
+
+  put_long : length (put_mid a k front ys) ≡ m
+  put_long = ap length pasted ∙ length-append (take a front ++ ys) (drop (a + k) front) ∙ (let e : length (take a front ++ ys) + length (drop (a + k) front) ≡ m = omega (arith, both_long, rest_long) in e)
+
+  abbrev now : List ℕ
+  now = put_mid a k front ys ++ drop m xs
+
+  now_front : (i : ℕ) → i < m → get_or now i 0 ≡ get_or ((take a front ++ ys) ++ drop (a + k) front) i 0
+  now_front i lt = get_or_append_left (put_mid a k front ys) (drop m xs) 0 i (omega (arith, put_long)) ∙ ap (λ (l : List ℕ). get_or l i 0) pasted
+
+  before : (i : ℕ) → i < a → get_or now i 0 ≡ get_or xs i 0
+  before i lt = now_front i (omega arith) ∙ get_or_append_left (take a front ++ ys) (drop (a + k) front) 0 i (omega (arith, both_long))
+      ∙ get_or_append_left (take a front) ys 0 i (omega (arith, before_long)) ∙ get_or-take a front i 0 lt ∙ get_or-take m xs i 0 (omega arith)
+
+  inside : (i : ℕ) → i < k → get_or now (a + i) 0 ≡ get_or ys i 0
+  inside i lt = now_front (a + i) (omega arith) ∙ get_or_append_left (take a front ++ ys) (drop (a + k) front) 0 (a + i) (omega (arith, both_long))
+      ∙ get_or-append_right (take a front) ys a (a + i) 0 before_long (omega arith) ∙ ap (λ (n : ℕ). get_or ys n 0) (let e : a + i - a ≡ i = omega arith in e)
+
+  behind : (i : ℕ) → a + k ≤ i → get_or now i 0 ≡ get_or xs i 0
+  behind i le = ⊎_elim
+      (λ lt. now_front i lt ∙ get_or-append_right (take a front ++ ys) (drop (a + k) front) (a + k) i 0 both_long le ∙ get_or-drop (a + k) front (i - (a + k)) 0
+      ∙ ap (λ (n : ℕ). get_or front n 0) (let e : a + k + (i - (a + k)) ≡ i = omega arith in e) ∙ get_or-take m xs i 0 lt)
+      (λ ge. get_or-append_right (put_mid a k front ys) (drop m xs) m i 0 put_long ge ∙ get_or-drop m xs (i - m) 0 ∙ ap (λ (n : ℕ). get_or xs n 0) (let e : m + (i - m) ≡ i = omega arith in e))
+      (cases_lt i m)
 
 next_place : (j k size : ℕ) → j < k → j * size + size ≤ k * size
 next_place j k size lt = let more : (j + 1) * size ≤ k * size = mul-le-mul_right size (let le : j + 1 ≤ k = omega arith in le) in omega arith
 
+-- the first k parts are where they belong, and nothing else has changed
+pub record Gathered (first size gap k : ℕ) (old new : List ℕ) : Type 0 where
+  pub done : (j i : ℕ) → j < k → i < size → get_or new (j * size + i) 0 ≡ get_or old (first + j * (size + gap) + i) 0
+  pub rest : (i : ℕ) → k * size ≤ i → get_or new i 0 ≡ get_or old i 0
+
 -- one part more
-pub gathered : (bytes out ys : List ℕ) (k size gap n : ℕ) → n ≡ size → k * size + size ≤ length out → k * (size + gap) + size ≤ length bytes → ys ≡ take n (drop (k * (size + gap)) bytes)
-    → ((j i : ℕ) → j < k → i < size → get_or out (j * size + i) 0 ≡ get_or bytes (j * (size + gap) + i) 0)
-    → (j i : ℕ) → j < k + 1 → i < size → get_or (put_mid (k * size) n out ys) (j * size + i) 0 ≡ get_or bytes (j * (size + gap) + i) 0
-gathered bytes out ys k size gap n is room whole same so_far j i lt lt_i =
-    let from : ℕ = k * (size + gap) in
-    let long : length ys ≡ n = ap length same ∙ length-take-le n (drop from bytes) (omega (arith, length-drop from bytes)) in
-    let fits : k * size + n ≤ length out = omega arith in
-    ⊎_elim
-    (λ below. before (k * size) n out ys long fits (j * size + i) (omega (arith, next_place j k size below)) ∙ so_far j i below lt_i)
-    (λ above. let e : j ≡ k = omega arith in
-    let place : j * size + i ≡ k * size + i = ap (λ (m : ℕ). m * size + i) e in
-    ap (λ (m : ℕ). get_or (put_mid (k * size) n out ys) m 0) place
-    ∙ inside (k * size) n out ys long fits (k * size + i) (omega arith) (omega arith)
-    ∙ ap (λ (m : ℕ). get_or ys m 0) (let back : k * size + i - k * size ≡ i = omega arith in back)
-    ∙ ap (λ (l : List ℕ). get_or l i 0) same ∙ get_or-take n (drop from bytes) i 0 (omega arith) ∙ get_or-drop from bytes i 0
-    ∙ ap (λ (m : ℕ). get_or bytes (m * (size + gap) + i) 0) (sym e))
-    (cases_lt j k)
+module _ (old xs ys fr bk : List ℕ) (first size gap k n : ℕ) (is : n ≡ size) (apart : k * size + size ≤ first + k * (size + gap)) (fits : first + k * (size + gap) + size ≤ length xs)
+    (fr_is : fr ≡ take (first + k * (size + gap)) xs) (bk_is : bk ≡ drop (first + k * (size + gap)) xs) (part : ys ≡ take size bk) (so_far : Gathered first size gap k old xs) where
+  abbrev m : ℕ
+  m = first + k * (size + gap)
+
+  part_is : ys ≡ take size (drop m xs)
+  part_is = part ∙ ap (λ (l : List ℕ). take size l) bk_is
+
+  long : length ys ≡ n
+  long = ap length part_is ∙ length-take-le size (drop m xs) (omega (arith, length-drop m xs)) ∙ sym is
+
+  abbrev out : List ℕ
+  out = put_mid (k * size) n (take m xs) ys ++ drop m xs
+
+  one_more : Gathered first size gap (k + 1) old out
+  one_more = record {
+    done = λ j i lt lt_i. ⊎_elim
+        (λ below. before m (k * size) n xs ys long (omega arith) (omega arith) (j * size + i) (omega (arith, next_place j k size below)) ∙ so_far.done j i below lt_i)
+        (λ above. let e : j ≡ k = omega arith in
+        ap (λ (z : ℕ). get_or out (z * size + i) 0) e
+        ∙ inside m (k * size) n xs ys long (omega arith) (omega arith) i (omega arith)
+        ∙ ap (λ (l : List ℕ). get_or l i 0) part_is ∙ get_or-take size (drop m xs) i 0 lt_i ∙ get_or-drop m xs i 0
+        ∙ so_far.rest (m + i) (omega arith)
+        ∙ ap (λ (z : ℕ). get_or old (first + z * (size + gap) + i) 0) (sym e))
+        (cases_lt j k);
+    rest = λ i le. behind m (k * size) n xs ys long (omega arith) (omega arith) i (omega arith) ∙ so_far.rest i (omega arith);
+  }
+
+  pub gathered : Gathered first size gap (k + 1) old (put_mid (k * size) n fr ys ++ bk)
+  gathered = subst (λ (l : List ℕ). Gathered first size gap (k + 1) old (put_mid (k * size) n l ys ++ bk)) (sym fr_is)
+      (subst (λ (l : List ℕ). Gathered first size gap (k + 1) old (put_mid (k * size) n (take m xs) ys ++ l)) (sym bk_is) one_more)

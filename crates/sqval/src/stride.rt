@@ -1,17 +1,21 @@
 //! Parts of bytes that stand at equal distances, brought together (own).
-ghost use Rattle.std.specs.Prelude.{◌≡◌, ℕ, ◌+◌, ◌*◌, ◌^◌, ◌<◌, ◌≤◌, length, slice_index};
+ghost use Rattle.std.specs.Prelude.{◌≡◌, ℕ, ◌+◌, ◌-◌, ◌*◌, ◌^◌, ◌<◌, ◌≤◌, length, slice_index};
 
-/// Copies `count` parts of `size` bytes to the front of `out`, one behind the other. In `bytes` each begins `gap` bytes
-/// behind the end of the one before it, the first at 0. What `out` has behind them stays.
-pub fn gather(bytes: &[u8], size: usize, gap: usize, count: usize, out: &mut [u8])
-    requires bytes { count * (size + gap) ≤ length bytes.now + gap }
-    requires out { count * size ≤ length out.old }
+/// Copies `count` parts of `size` bytes to the front of the room, one behind the other. They stand behind room for one part
+/// fewer, each `gap` bytes behind the end of the one before it; so a single one stands there already.
+pub fn gather(room: &mut [u8], size: usize, gap: usize, count: usize)
+    requires some { 1 ≤ count }
+    requires room { (count - 1) * size + count * (size + gap) ≤ length room.old + gap }
     requires small { size + gap < 2 ^ 32 }
-    ensures { (k i : ℕ) → k < count → i < size → slice_index out.new (k * size + i) ≡ slice_index bytes.now (k * (size + gap) + i) }
+    ensures { (k i : ℕ) → k < count → i < size
+        → slice_index room.new (k * size + i) ≡ slice_index room.old ((count - 1) * size + k * (size + gap) + i) }
 {
+    if count == 1 {
+        return;
+    }
+    let first = (count - 1) * size;
     for k in 0..count {
-        let from = k * (size + gap);
-        let to = k * size;
-        out[to..to + size].copy_from_slice(&bytes[from..from + size]);
+        let (front, back) = room.split_at_mut(first + k * (size + gap));
+        front[k * size..k * size + size].copy_from_slice(&back[..size]);
     }
 }
