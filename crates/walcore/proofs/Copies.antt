@@ -170,6 +170,9 @@ module _ (size : ℕ) (w : List ℕ) (m p : ℕ) where
     unfolding RunAnswer
     run_put wrote = inr (puts (Ok (tt {0})) wrote)
 
+pub page_fits : (size p count : ℕ) → 1 ≤ p → p ≤ count → count * size ≤ most_bytes → (p - 1) * size + size ≤ longest
+page_fits size p count one le within = let more : p * size ≤ count * size = mul-le-mul_right size le in omega (arith, place_step size (p - 1) p (omega arith))
+
 pub run_fits : (size p most k count : ℕ) → 1 ≤ p → k ≤ most → p - 1 + most ≤ count → count * size ≤ most_bytes → (p - 1) * size + k * size ≤ most_bytes
 run_fits size p most k count one le within small =
     let up : (p - 1 + k) * size ≤ count * size = mul-le-mul_right size (let b : p - 1 + k ≤ count = omega arith in b) in
@@ -177,6 +180,9 @@ run_fits size p most k count one le within small =
   where
     times_more : (a n c : ℕ) → a * c + n * c ≡ (a + n) * c
     times_more a n c = omega arith
+
+pub run_end_within : (size n count : ℕ) → n ≤ count → count * size ≤ most_bytes → n * size ≤ most_bytes
+run_end_within size n count le within = let up : n * size ≤ count * size = mul-le-mul_right size le in omega arith
 
 -- ---- Page after page.
 

@@ -1,15 +1,28 @@
-use Rattle.std.proofs.Common.{◌-◌, ◌≡◌, ◌+◌, ◌*◌, ◌^◌, ◌<◌, ◌≤◌, ℕ, length, IfOk, OnErr}
-use Rattle.crashdisk.specs.declared.file.File.TheVariants.{Db}
-use Rattle.crashdisk.specs.Keeps.{SyncStep}
-use Rattle.crashdisk.specs.During.{During, OnSound}
-use Rattle.walcore.specs.Copying.{CopiesRun, CopiesPages, Finishes}
-use Rattle.walcore.specs.Steps.{ZeroSteps, CutSteps}
-use Rattle.sqwal.specs.Index.{IsNewest}
+use Rattle.std.proofs.Common.{◌≡◌, ◌↔◌, ◌-◌, ◌*◌, ◌<◌, ◌≤◌, ℕ, List, length}
+use Rattle.crashdisk.specs.Call.{IsSoundDisk, ArePresent, HasCalls}
+use Rattle.sqval.specs.CommitFaults.{most_bytes}
+use Rattle.walcore.specs.Changes.{MayFill}
+use Rattle.sqval.specs.Database.{Database}
+use Rattle.sqwal.specs.View.{IsView}
+use Rattle.crashdisk.specs.Keeps.{KeepsLog}
+use Rattle.walcore.specs.Plans.{IsCopy}
+use Rattle.walcore.specs.Phases.{Filling}
+use Rattle.walcore.proofs.Copies.{Upto}
 use Rattle.walcore.proofs.copying.copy_pages.Given as goal
 
 abbrev pub invariant-loop-done : goal.invariant-loop-done
-invariant-loop-done g l = ?
+invariant-loop-done g l = record {
+  within : l.done ≤ l.count;
+  word : g.D.Disk.keeps_word l.initial.disk ↔ g.D.Disk.keeps_word l.disk;
+  log : g.D.Disk.keeps_word l.initial.disk → IsSoundDisk (g.D.Disk.state l.initial.disk) → KeepsLog (g.D.Disk.state l.initial.disk) (g.D.Disk.state l.disk);
+  calls : g.D.Disk.keeps_word l.initial.disk → IsSoundDisk (g.D.Disk.state l.initial.disk) → l.count * l.size ≤ most_bytes → HasCalls (MayFill l.size) (g.D.Disk.state l.initial.disk) (g.D.Disk.state l.disk);
+  quiet : g.D.Disk.keeps_word l.initial.disk → IsSoundDisk (g.D.Disk.state l.initial.disk) → (g.D.Disk.state l.initial.disk).refused < (g.D.Disk.state l.disk).refused → ⊥;
+  pages : g.D.Disk.keeps_word l.initial.disk → IsSoundDisk (g.D.Disk.state l.initial.disk) → (db w : List ℕ) (d : Database)
+      → ArePresent (g.D.Disk.state l.initial.disk).db db → ArePresent (g.D.Disk.state l.initial.disk).log w → IsCopy l.size l.count w l.frames l.index → length d ≡ l.count
+      → IsView l.size db w l.frames d → Upto l.size d (g.D.Disk.state l.initial.disk) l.done (g.D.Disk.state l.disk);
+  filling : g.D.Disk.keeps_word l.initial.disk → IsSoundDisk (g.D.Disk.state l.initial.disk) → (w : List ℕ) (d : Database) → ArePresent (g.D.Disk.state l.initial.disk).log w
+      → IsCopy l.size l.count w l.frames l.index → Filling l.size w l.frames d (g.D.Disk.state l.initial.disk) → Filling l.size w l.frames d (g.D.Disk.state l.disk);
+}
 
--- proposed from the loop's first test
 abbrev pub decreases-loop-done : goal.decreases-loop-done
 decreases-loop-done g l = l.count - l.done

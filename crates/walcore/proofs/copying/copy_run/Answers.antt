@@ -70,12 +70,12 @@ returns-in_err-write_at-clause-disk g c = record {
       let read = still_looks _ c.read_at.result _ _ sound (c.read_at.ensures.state word) in
       let call = c.write_at.ensures.state (c.read_at.ensures.word.0 word) in
       let last = λ (w : List ℕ) (count : ℕ) (table : IsTable size count w c.args.frames c.args.index.now) (le : c.args.number - 1 + c.args.most ≤ count) (j : ℕ) (lt : j < n).
-          hit_last size count w c.args.frames (c.args.number + j) (frame + j) c.args.index.now table (c.run_from-count.ensures.each j lt) (omega (arith, c.requires.number)) (omega (arith, c.requires.number, c.run_from-count.ensures.count, le)) (omega (arith, some)) in
+      hit_last size count w c.args.frames (c.args.number + j) (frame + j) c.args.index.now table (c.run_from-count.ensures.each j lt) (omega (arith, c.requires.number)) (omega (arith, c.requires.number, c.run_from-count.ensures.count, le)) (omega (arith, some)) in
       let each = λ (w : List ℕ) (count : ℕ) (are : ArePresent (g.D.Disk.state c.args.disk.now).log w) (valid : IsValidFrame size w c.args.frames) (table : IsTable size count w c.args.frames c.args.index.now) (le : c.args.number - 1 + c.args.most ≤ count).
-          run_content size c.args.frames frame n ((n - 1) * size) at w c.read_at.new.out _ c.gather.new.room _ (g.D.Disk.state c.args.disk.now).log valid some one (last w count table le (n - 1) (omega (arith, one))).within are place
-          (piece_there ((n - 1) * size) (n * (size + 24) - 24) ((n - 1) * size + n * (size + 24) - 24 - (n - 1) * size) c.args.room.now c.read_at.new.out (omega arith) room c.read_at.auto.out)
-          (λ i lt. c.in_ok-read_at.ensures.bytes word i (omega (arith, lt, c.read_at.auto.out, piece_long ((n - 1) * size) (n * (size + 24) - 24) ((n - 1) * size + n * (size + 24) - 24 - (n - 1) * size) c.args.room.now [] (omega arith) room)))
-          c.gather.ensures (front_kept (n * size) (n * size) c.gather.new.room refl) in
+      run_content size c.args.frames frame n ((n - 1) * size) at w c.read_at.new.out _ c.gather.new.room _ (g.D.Disk.state c.args.disk.now).log valid some one (last w count table le (n - 1) (omega (arith, one))).within are place
+      (piece_there ((n - 1) * size) (n * (size + 24) - 24) ((n - 1) * size + n * (size + 24) - 24 - (n - 1) * size) c.args.room.now c.read_at.new.out (omega arith) room c.read_at.auto.out)
+      (λ i lt. c.in_ok-read_at.ensures.bytes word i (omega (arith, lt, c.read_at.auto.out, piece_long ((n - 1) * size) (n * (size + 24) - 24) ((n - 1) * size + n * (size + 24) - 24 - (n - 1) * size) c.args.room.now [] (omega arith) room)))
+      c.gather.ensures (front_kept (n * size) (n * size) c.gather.new.room refl) in
       record {
         log = keeps_then _ _ _ (keeps_still _ _ sound read) (keeps_write _ _ c.write_at.result _ _ (still_sound _ _ sound read) call);
         calls = λ within. run_calls size c.args.number n c.args.most _ _ c.write_at.result (g.D.Disk.state c.args.disk.now) (g.D.Disk.state c.read_at.new.self) (g.D.Disk.state c.write_at.new.self) one c.run_from-count.ensures.count.1 to long within read call;
@@ -105,12 +105,12 @@ returns-clause-disk g c = record {
       let read = still_looks _ c.read_at.result _ _ sound (c.read_at.ensures.state word) in
       let call = c.write_at.ensures.state (c.read_at.ensures.word.0 word) in
       let last = λ (w : List ℕ) (count : ℕ) (table : IsTable size count w c.args.frames c.args.index.now) (le : c.args.number - 1 + c.args.most ≤ count) (j : ℕ) (lt : j < n).
-          hit_last size count w c.args.frames (c.args.number + j) (frame + j) c.args.index.now table (c.run_from-count.ensures.each j lt) (omega (arith, c.requires.number)) (omega (arith, c.requires.number, c.run_from-count.ensures.count, le)) (omega (arith, some)) in
+      hit_last size count w c.args.frames (c.args.number + j) (frame + j) c.args.index.now table (c.run_from-count.ensures.each j lt) (omega (arith, c.requires.number)) (omega (arith, c.requires.number, c.run_from-count.ensures.count, le)) (omega (arith, some)) in
       let each = λ (w : List ℕ) (count : ℕ) (are : ArePresent (g.D.Disk.state c.args.disk.now).log w) (valid : IsValidFrame size w c.args.frames) (table : IsTable size count w c.args.frames c.args.index.now) (le : c.args.number - 1 + c.args.most ≤ count).
-          run_content size c.args.frames frame n ((n - 1) * size) at w c.read_at.new.out _ c.gather.new.room _ (g.D.Disk.state c.args.disk.now).log valid some one (last w count table le (n - 1) (omega (arith, one))).within are place
-          (piece_there ((n - 1) * size) (n * (size + 24) - 24) ((n - 1) * size + n * (size + 24) - 24 - (n - 1) * size) c.args.room.now c.read_at.new.out (omega arith) room c.read_at.auto.out)
-          (λ i lt. c.in_ok-read_at.ensures.bytes word i (omega (arith, lt, c.read_at.auto.out, piece_long ((n - 1) * size) (n * (size + 24) - 24) ((n - 1) * size + n * (size + 24) - 24 - (n - 1) * size) c.args.room.now [] (omega arith) room)))
-          c.gather.ensures (front_kept (n * size) (n * size) c.gather.new.room refl) in
+      run_content size c.args.frames frame n ((n - 1) * size) at w c.read_at.new.out _ c.gather.new.room _ (g.D.Disk.state c.args.disk.now).log valid some one (last w count table le (n - 1) (omega (arith, one))).within are place
+      (piece_there ((n - 1) * size) (n * (size + 24) - 24) ((n - 1) * size + n * (size + 24) - 24 - (n - 1) * size) c.args.room.now c.read_at.new.out (omega arith) room c.read_at.auto.out)
+      (λ i lt. c.in_ok-read_at.ensures.bytes word i (omega (arith, lt, c.read_at.auto.out, piece_long ((n - 1) * size) (n * (size + 24) - 24) ((n - 1) * size + n * (size + 24) - 24 - (n - 1) * size) c.args.room.now [] (omega arith) room)))
+      c.gather.ensures (front_kept (n * size) (n * size) c.gather.new.room refl) in
       record {
         log = keeps_then _ _ _ (keeps_still _ _ sound read) (keeps_write _ _ c.write_at.result _ _ (still_sound _ _ sound read) call);
         calls = λ within. run_calls size c.args.number n c.args.most _ _ c.write_at.result (g.D.Disk.state c.args.disk.now) (g.D.Disk.state c.read_at.new.self) (g.D.Disk.state c.write_at.new.self) one c.run_from-count.ensures.count.1 to long within read call;
