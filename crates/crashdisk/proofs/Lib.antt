@@ -31,3 +31,4 @@ pub mod Suiting
 pub mod Pages
 pub mod Clear
 pub mod Later
+pub mod Runs

@@ -9,3 +9,4 @@ pub mod Supplied
 pub mod Faultless
 pub mod FilePages
 pub mod Answering
+pub mod Strides

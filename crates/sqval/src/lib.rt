@@ -6,6 +6,7 @@ mod encoding;
 mod error;
 mod page_size;
 mod record;
+mod stride;
 mod value;
 pub mod varint;
 
@@ -14,4 +15,5 @@ pub use encoding::encode;
 pub use error::RecordError;
 pub use page_size::PageSize;
 pub use record::{Columns, MOST_BYTES, Record};
+pub use stride::gather;
 pub use value::Value;

@@ -1,5 +1,5 @@
 -- Pages of a log are written into the file, which has the other ones.
-use Rattle.std.proofs.Common.{◌≡◌, ◌≢◌, ⊎_elim, ℕ, ◌+◌, ◌-◌, ◌*◌, ◌/◌, ◌<◌, ◌≤◌, List, length, get_or, drop, sym, ◌∙◌, ap, subst, arith, length-drop}
+use Rattle.std.proofs.Common.{◌≡◌, ◌⊎◌, ⊎_elim, ℕ, ◌+◌, ◌-◌, ◌*◌, ◌/◌, ◌<◌, ◌≤◌, List, length, get_or, drop, sym, ◌∙◌, ap, subst, arith, length-drop}
 use Rattle.std.specs.Prelude.{Result, Ok, Err}
 use Rattle.std.proofs.lemmas.List.{length-take-le}
 use Rattle.sqval.specs.Database.{Database, page, file_page}
@@ -17,9 +17,10 @@ use Rattle.crashdisk.proofs.Steps.{steady_writes, steady_cuts}
 use Rattle.sqval.specs.Held.{IsJust}
 use Rattle.walcore.specs.Phases.{Filling}
 use Rattle.crashdisk.specs.Keeps.{Suits, Still}
-use Rattle.walcore.specs.Steps.{PutsPage, PageAnswer, ArePages}
+use Rattle.walcore.specs.Steps.{PutsRun, RunAnswer, ArePages}
 use Rattle.walcore.specs.declared.error.WalError.{WalError}
-use Rattle.crashdisk.proofs.Pages.{page_at, page_apart, page_within, sector_some, page_clear, cut_clear}
+use Rattle.crashdisk.proofs.Pages.{page_at, page_within, sector_some, cut_clear}
+use Rattle.crashdisk.proofs.Runs.{run_cases, run_apart, run_clear}
 use Rattle.sqval.proofs.FilePages.{page_by_bytes}
 use Rattle.crashdisk.proofs.Stills.{image_still, still}
 use Rattle.crashdisk.proofs.Suiting.{suits_still, suits_syncs, suits_writes, suits_cuts}
@@ -49,17 +50,17 @@ module _ (size : ℕ) (w : List ℕ) (m : ℕ) (d : Database) where
   clear : (s : DiskState) → Filling size w m d s → (p i : ℕ) → 1 ≤ p → p ≤ length d → Unnamed size w m p → i < size → IsClear s.sector s.tears s.db (page_at size p + i)
   clear s is p i a b un lt = page_is_clear size s p (page d p) is.suits a (λ j lt_j. is.steady p j a b un lt_j) i lt
 
-  -- a page that a frame names is written
-  filling_writes : {T : Type 0} (q : ℕ) (bytes : List ℕ) (result : Result T DiskError) (old new : DiskState) → Filling size w m d old → 1 ≤ q → (Unnamed size w m q → ⊥) → length bytes ≡ size
+  -- pages that frames name are written
+  filling_writes : (q k : ℕ) (bytes : List ℕ) (result : Result (Unit {0}) DiskError) (old new : DiskState) → Filling size w m d old → 1 ≤ q → ((j : ℕ) → j < k → Unnamed size w m (q + j) → ⊥) → length bytes ≡ k * size
       → Writes Db ((q - 1) * size) bytes result old new → Filling size w m d new
-  filling_writes q bytes result old new is one named full wrote = filling_by old new is (suits_writes size Db (page_at size q) bytes result old new is.suits wrote)
+  filling_writes q k bytes result old new is one named full wrote = filling_by old new is (suits_writes size Db (page_at size q) bytes result old new is.suits wrote)
       (λ p i a b un lt.
-      let ne : p ≢ q = λ e. named (subst (λ (k : ℕ). Unnamed size w m k) e un) in
+      let other : (p < q) ⊎ (q + k ≤ p) = ⊎_elim (λ run. absurd (named run.0 run.1 (subst (λ (n : ℕ). Unnamed size w m n) run.2 un))) (λ out. out) (run_cases q k p) in
       steady_writes Db (page_at size q) bytes result old new (page_at size p + i) (get_or (page d p) i 0) is.suits.sound.db wrote (is.steady p i a b un lt)
       (λ spreads.
-      let in_q = page_clear size old.sector q (page_at size p + i) old.tears (whole_pages size old is.suits) (omega (arith, sector_some old.sector is.suits.sectors)) one
-      (subst (λ (k : ℕ). Spreads old.sector old.tears (page_at size q) (page_at size q + k) (page_at size p + i)) full spreads) in
-      page_apart size p q (page_at size p + i) a one ne (omega arith) (omega arith) in_q.0 in_q.1)
+      let in_q = run_clear size old.sector q k (page_at size p + i) old.tears (whole_pages size old is.suits) (omega (arith, sector_some old.sector is.suits.sectors)) one
+      (subst (λ (n : ℕ). Spreads old.sector old.tears (page_at size q) (page_at size q + n) (page_at size p + i)) full spreads) in
+      ⊎_elim (λ below. omega (arith, in_q.0)) (λ above. omega (arith, in_q.1)) (run_apart size q k p i a one other lt))
       (clear old is p i a b un lt))
 
   -- the length is set
@@ -87,17 +88,17 @@ module _ (size : ℕ) (w : List ℕ) (m : ℕ) (d : Database) where
       (λ last. ap length (is.logged p last.0 a b last.1) ∙ content_length s is last.0 last.1.first last.1.within)
       (named_or_not size w m p)
 
-  puts_page : {T : Type 0} (p : ℕ) (called : Result T DiskError) (old new : DiskState) → 1 ≤ p → Filling size w m d old → PutsPage size w m p called old new → Filling size w m d new
-  puts_page p called old new one is puts = filling_writes p (content_of size w puts.frame) called puts.mid new (filling_still old puts.mid is puts.read) one
-      (λ un. un puts.frame puts.last.first puts.last.within puts.last.names)
-      (content_length old is puts.frame puts.last.first puts.last.within) puts.write
+  puts_run : (p k : ℕ) (called : Result (Unit {0}) DiskError) (old new : DiskState) → 1 ≤ p → Filling size w m d old → PutsRun size w m p k called old new → Filling size w m d new
+  puts_run p k called old new one is puts = filling_writes p k puts.bytes called puts.mid new (filling_still old puts.mid is puts.read) one
+      (λ j lt un. let last = puts.last j lt in un (puts.frame + j) last.first last.within last.names)
+      puts.long puts.write
 
-  pub filling_page : {T : Type 0} (p : ℕ) (result : Result T WalError) (old new : DiskState) → 1 ≤ p → Filling size w m d old → PageAnswer size w m p result old new → Filling size w m d new
-  unfolding PageAnswer
-  filling_page p (Ok done) old new one is answer = ⊎_elim
-      (λ none. subst (λ (s : DiskState). Filling size w m d s) (sym none.1) is)
-      (λ puts. puts_page p (Ok done) old new one is puts) answer
-  filling_page p (Err e) old new one is answer = ⊎_elim (λ still. filling_still old new is still) (λ puts. puts_page p puts.0 old new one is puts.1) answer.2
+  pub filling_run : (p : ℕ) (result : Result ℕ WalError) (old new : DiskState) → 1 ≤ p → Filling size w m d old → RunAnswer size w m p result old new → Filling size w m d new
+  unfolding RunAnswer
+  filling_run p (Ok k) old new one is answer = ⊎_elim
+      (λ none. subst (λ (s : DiskState). Filling size w m d s) (sym none.2) is)
+      (λ puts. puts_run p k (Ok tt) old new one is puts) answer
+  filling_run p (Err e) old new one is answer = ⊎_elim (λ still. filling_still old new is still) (λ puts. puts_run p puts.0 puts.1 old new one is puts.2) answer.2
 
   -- the pages that no frame names, in a file that may be left
   pub filling_other : (s : DiskState) (db : List ℕ) → Filling size w m d s → IsImage s.sector s.tears s.db db → (p : ℕ) → 1 ≤ p → p ≤ length d → Unnamed size w m p → page d p ≡ file_page size db p

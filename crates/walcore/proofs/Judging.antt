@@ -156,9 +156,9 @@ module _ (size : ℕ) (w : List ℕ) where
   )
 
   pub plan_some : (f : Front) (plan : Plan) → JudgeAnswer size w (Ok f) → 1 ≤ f.frames → plan.frames ≡ f.frames → plan.size ≡ f.size
-      → (IsValidFrame (named_size w) w f.frames → IsTable (named_size w) f.size w f.frames plan.index) → length plan.page.items ≡ size → PlanAnswer size w (Ok plan)
+      → (IsValidFrame (named_size w) w f.frames → IsTable (named_size w) f.size w f.frames plan.index) → plan.page_size ≡ size → PlanAnswer size w (Ok plan)
   unfolding JudgeAnswer PlanAnswer
-  plan_some f plan is one frames count table room =
+  plan_some f plan is one frames count table sized =
       let valid : IsValidFrame (named_size w) w f.frames = ⊎_elim (λ e. absurd (omega arith)) (λ v. v.0) is.front.is in
       let facts = is.some one in (
         is.fit,
@@ -173,7 +173,7 @@ module _ (size : ℕ) (w : List ℕ) where
               within = subst (λ (n : ℕ). n * size ≤ most_bytes) (sym count) facts.2;
               table = subst (λ (n : ℕ). IsTable size n w plan.frames plan.index) (sym count) (subst (λ (n : ℕ). IsTable size f.size w n plan.index) (sym frames) (subst (λ (n : ℕ). IsTable n f.size w f.frames plan.index) facts.0 (table valid)));
             };
-            room = room;
+            sized = sized;
           };
         },
       )
@@ -214,6 +214,12 @@ module _ (size : ℕ) (w : List ℕ) where
     pub read_none : (r : Result (Option Scan) WalError) → r ≡ Ok None → ScanAnswer w r a b → IsHeader (named_size w) w → ⊥
     unfolding ScanAnswer
     read_none r was answer = let got = subst (λ (x : Result (Option Scan) WalError). ScanAnswer w x a b) was answer in got
+
+pub page_least : (n : ℕ) → IsPageSize n → 1 ≤ n
+page_least n is = by (one_of n is)
+  where
+    by : IsOneOf n → 1 ≤ n
+    by = ⊎_elim (λ e. omega arith) (⊎_elim (λ e. omega arith) (⊎_elim (λ e. omega arith) (⊎_elim (λ e. omega arith) (⊎_elim (λ e. omega arith) (⊎_elim (λ e. omega arith) (⊎_elim (λ e. omega arith) (λ e. omega arith)))))))
 
 pub page_most : (n : ℕ) → IsPageSize n → n ≤ 65536
 page_most n is = by (one_of n is)

@@ -8,9 +8,10 @@ use Rattle.crashdisk.specs.Call.{Change, write, set_len, sync}
 use Rattle.crashdisk.specs.declared.file.File.TheVariants.{Db, Log}
 use Rattle.walcore.specs.Machine.{Act, Opens, Commits, Syncs, Checkpoints, Restarts}
 
--- Of the database file: a whole page at its place, a length of whole pages, both within the limit, and a sync.
+-- Of the database file: whole pages, one or more one behind the other, at the place of the first, a length of whole pages, both
+-- within the limit, and a sync.
 abbrev pub MayFill : (size : ℕ) → Change → Type 0
-MayFill size (write Db at bytes) = (p : ℕ) × (at ≡ p * size) × (length bytes ≡ size) × (at + size ≤ most_bytes)
+MayFill size (write Db at bytes) = (p : ℕ) × (k : ℕ) × (at ≡ p * size) × (1 ≤ k) × (length bytes ≡ k * size) × (at + length bytes ≤ most_bytes)
 MayFill size (set_len Db n) = (count : ℕ) × (n ≡ count * size) × (n ≤ most_bytes)
 MayFill size (sync Db) = Unit {0}
 MayFill size (write Log at bytes) = ⊥

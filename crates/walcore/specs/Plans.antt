@@ -1,5 +1,5 @@
 -- What a fold plans of a scanned log (own).
-use Rattle.std.specs.Prelude.{◌≡◌, ℕ, ◌-◌, ◌*◌, ◌≤◌, nat_le, cond, List, length, get_or, Result, Ok, Err}
+use Rattle.std.specs.Prelude.{◌≡◌, ℕ, ◌-◌, ◌*◌, ◌^◌, ◌≤◌, nat_le, cond, List, length, get_or, Result, Ok, Err}
 use Rattle.sqwal.specs.Header.{named_size}
 use Rattle.sqwal.specs.Frames.{page_of, size_of, IsValidFrame, IsFront}
 use Rattle.sqwal.specs.Index.{FrameTable}
@@ -34,7 +34,11 @@ pub record IsCopy (size count : ℕ) (w : List ℕ) (m : ℕ) (t : FrameTable) :
 pub record IsReady (size : ℕ) (w : List ℕ) (plan : Plan) : Type 0 where
   pub named : named_size w ≡ size
   pub copy : IsCopy size plan.size w plan.frames plan.index
-  pub room : length plan.page.items ≡ size
+  pub sized : plan.page_size ≡ size
+
+-- where frames are to be folded there is room for a page, and no more than for a few
+abbrev pub HasRoom : Plan → Type 0
+HasRoom plan = 1 ≤ plan.frames → (plan.page_size ≤ length plan.room.items) × (length plan.room.items ≤ 2 ^ 24)
 
 -- what is planned for the log w, up to its front
 pub record IsPlan (size : ℕ) (w : List ℕ) (plan : Plan) : Type 0 where

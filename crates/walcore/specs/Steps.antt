@@ -50,18 +50,22 @@ ScanAnswer w (Err e) old new = ScanRefused w e old new
 
 -- ---- The copying.
 
--- the last frame that names page p, of the frames 1 to m, is read and written to its place
-pub record PutsPage {T : Type 0} (size : ℕ) (w : List ℕ) (m p : ℕ) (called : Result T DiskError) (old new : DiskState) : Type 0 where
+-- k pages from page p on: the last frames that name them, of the frames 1 to m, stand one behind the other; they are read, and
+-- the pages are written to their places at once
+pub record PutsRun (size : ℕ) (w : List ℕ) (m p k : ℕ) (called : Result (Unit {0}) DiskError) (old new : DiskState) : Type 0 where
   pub frame : ℕ
-  pub last : IsLast size w m p frame
+  pub last : (j : ℕ) → j < k → IsLast size w m (p + j) (frame + j)
+  pub bytes : List ℕ
+  pub long : length bytes ≡ k * size
+  pub each : (j i : ℕ) → j < k → i < size → get_or bytes (j * size + i) 0 ≡ get_or (content_of size w (frame + j)) i 0
   pub mid : DiskState
   pub read : Still old mid
-  pub write : Writes Db ((p - 1) * size) (content_of size w frame) called mid new
+  pub write : Writes Db ((p - 1) * size) bytes called mid new
 
--- page p was put, or none of these frames names it
-unfoldable pub PageAnswer : {T : Type 0} → (size : ℕ) → List ℕ → (m p : ℕ) → Result T WalError → (old new : DiskState) → Type 0
-PageAnswer size w m p (Ok done) old new = (Unnamed size w m p × (new ≡ old)) ⊎ PutsPage size w m p (Ok done) old new
-PageAnswer {T = T} size w m p (Err e) old new = (e ≡ Device) × HadRefusal old new × (Still old new ⊎ ((called : Result T DiskError) × PutsPage size w m p called old new))
+-- so many pages from page p on were put, or it alone was looked for and none of these frames names it
+unfoldable pub RunAnswer : (size : ℕ) → List ℕ → (m p : ℕ) → Result ℕ WalError → (old new : DiskState) → Type 0
+RunAnswer size w m p (Ok k) old new = ((k ≡ 1) × Unnamed size w m p × (new ≡ old)) ⊎ PutsRun size w m p k (Ok tt) old new
+RunAnswer size w m p (Err e) old new = (e ≡ Device) × HadRefusal old new × (Still old new ⊎ ((k : ℕ) × (called : Result (Unit {0}) DiskError) × PutsRun size w m p k called old new))
 
 -- the present bytes are just these pages
 pub record ArePages (size : ℕ) (d : Database) (s : FileState) : Type 0 where

@@ -53,7 +53,7 @@ fn bring_over<D: Disk>(
     frame: u32,
     page: &mut [u8],
 ) -> Result<(), WalError>
-    requires { length page.old ≤ 65536 }
+    requires { (1 ≤ length page.old) × (length page.old ≤ 65536) }
     ensures word { D.keeps_word disk.old ↔ D.keeps_word disk.new }
     ensures log { D.keeps_word disk.old → IsSoundDisk (D.state disk.old) → KeepsLog (D.state disk.old) (D.state disk.new) }
     ensures told { D.keeps_word disk.old → IsSoundDisk (D.state disk.old) → TellsRefusal WalError.Device result (D.state disk.old) (D.state disk.new) }
@@ -65,7 +65,7 @@ fn bring_over<D: Disk>(
         return Ok(());
     }
     let size = size_at(disk, page.len(), frame)?;
-    copy_pages(disk, index, frame, size, page)?;
+    copy_pages(disk, index, frame, size, page.len(), page)?;
     settle_database(disk)
 }
 

@@ -24,7 +24,7 @@ ghost use Rattle.walcore.specs.Alone.{ShowsAlone};
 ghost use Rattle.walcore.specs.Phases.{Scanning};
 ghost use Rattle.crashdisk.specs.Keeps.{Suits, Still, IsLogDown, TearsPages};
 ghost use Rattle.walcore.specs.Steps.{FoldedAnswer, FoldCalls};
-ghost use Rattle.walcore.specs.Plans.{IsPlan, IsFit};
+ghost use Rattle.walcore.specs.Plans.{IsPlan, IsFit, HasRoom};
 ghost use Rattle.walcore.specs.Folding.{Folds, Agrees, IsEmptyDown, SyncsFirst};
 ghost use Rattle.walcore.specs.Lengths.{EndsBy, IsLengthOf, KeepsLength};
 
@@ -44,7 +44,7 @@ pub fn judge_sector<D: Disk>(disk: &D, page_size: PageSize) -> Result<(), WalErr
 
 /// Folds what is planned.
 fn fold_plan<D: Disk>(disk: &mut D, plan: Plan) -> Result<Folded, WalError>
-    requires { length plan.page.items ≤ 65536 }
+    requires { HasRoom plan }
     ensures word { D.keeps_word disk.old ↔ D.keeps_word disk.new }
     ensures calls { D.keeps_word disk.old → IsSoundDisk (D.state disk.old)
         → (size : ℕ) (w : List ℕ) → IsPlan size w plan → FoldCalls size result (D.state disk.old) (D.state disk.new) }
@@ -60,8 +60,9 @@ fn fold_plan<D: Disk>(disk: &mut D, plan: Plan) -> Result<Folded, WalError>
         finish(disk)?;
         return Ok(Folded { frames: 0, size: 0 });
     }
-    let mut page = plan.page;
-    copy_pages(disk, &plan.index, plan.frames, plan.size, &mut page)?;
+    let mut room = plan.room;
+    let page = plan.page_size.get() as usize;
+    copy_pages(disk, &plan.index, plan.frames, plan.size, page, &mut room)?;
     finish(disk)?;
     Ok(Folded {
         frames: plan.frames,

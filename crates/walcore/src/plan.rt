@@ -5,7 +5,7 @@ ghost use Rattle.sqwal.specs.Took.{Took};
 ghost use Rattle.sqwal.specs.Header.{named_size, IsHeader};
 ghost use Rattle.sqwal.specs.Frames.{IsValidFrame};
 ghost use Rattle.crashdisk.specs.Keeps.{Still, TellsRefusal};
-ghost use Rattle.walcore.specs.Plans.{wanted_page, IsTable, IsFit, IsPlan, JudgeAnswer, PlanAnswer, ReadAnswer};
+ghost use Rattle.walcore.specs.Plans.{wanted_page, HasRoom, IsTable, IsFit, IsPlan, JudgeAnswer, PlanAnswer, ReadAnswer};
 
 use crate::error::WalError;
 use crate::reading::{scan_log, zeros};
@@ -17,14 +17,18 @@ use std::alloc::Global;
 /// The most bytes of a database.
 const MOST_BYTES: u64 = 1073741824;
 
-/// The committed frames of a log, the size of the database there in pages, the frames by their pages, and room for
-/// one page.
+/// More room than for one page in which pages are copied, in bytes.
+const RUN: usize = 196_608;
+
+/// The committed frames of a log, the size of the database there in pages, the size of a page, the frames by their pages,
+/// and room for some pages.
 #[derive(Drop)]
 pub struct Plan {
     pub frames: u32,
     pub size: u32,
+    pub page_size: PageSize,
     pub index: FrameIndex,
-    pub page: Vec<u8>,
+    pub room: Vec<u8>,
 }
 
 /// Whether a log of pages of the named size is too large, or one of pages of another size.
@@ -91,35 +95,36 @@ pub fn index_of(alloc: Global, scan: &Scan, front: Front) -> Result<FrameIndex, 
 }
 
 /// With no committed frames there is nothing to do.
-fn no_plan(alloc: Global) -> Plan
+fn no_plan(alloc: Global, page_size: PageSize) -> Plan
     ensures frames { result.frames ≡ 0 }
     ensures size { result.size ≡ 0 }
-    ensures room { length result.page.items ≡ 0 }
 {
     Plan {
         frames: 0,
         size: 0,
+        page_size,
         index: FrameIndex::new(alloc),
-        page: Vec::new(alloc),
+        room: Vec::new(alloc),
     }
 }
 
 /// Judges the scanned log, and takes all memory that the fold needs.
 fn plan_of(alloc: Global, scan: &Scan, page_size: PageSize) -> Result<Plan, WalError>
     ensures plan { (w : List ℕ) → Took w scan.now → PlanAnswer page_size w result }
-    ensures room { IfOk result (λ p. length p.page.items ≤ 65536) }
+    ensures room { IfOk result HasRoom }
 {
     let front = judge(scan, page_size)?;
     if front.frames == 0 {
-        return Ok(no_plan(alloc));
+        return Ok(no_plan(alloc, page_size));
     }
     let index = index_of(alloc, scan, front)?;
-    let page = zeros(alloc, page_size.get() as usize)?;
+    let room = zeros(alloc, page_size.get() as usize + RUN)?;
     Ok(Plan {
         frames: front.frames,
         size: front.size,
+        page_size,
         index,
-        page,
+        room,
     })
 }
 
@@ -136,11 +141,11 @@ pub fn read_plan<D: Disk>(
     ensures plan { D.keeps_word disk.old → IsSoundDisk (D.state disk.old)
         → (w : List ℕ) → ArePresent (D.state disk.old).log w → length w ≡ long
         → ReadAnswer page_size w result (D.state disk.old) (D.state disk.new) }
-    ensures room { IfOk result (λ p. length p.page.items ≤ 65536) }
+    ensures room { IfOk result HasRoom }
 {
     let scanned = scan_log(alloc, disk, long)?;
     match scanned {
         Some(scan) => plan_of(alloc, &scan, page_size),
-        None => Ok(no_plan(alloc)),
+        None => Ok(no_plan(alloc, page_size)),
     }
 }

@@ -13,13 +13,16 @@ returns-then-front-eq0-clause-plan c = λ w took. plan_none c.args.page_size w c
 pub returns-in_err-index-clause-plan : goal.returns-in_err-index-clause-plan
 returns-in_err-index-clause-plan c = λ w took. plan_memory c.args.page_size w c.from_residual-in_err-index.result (no_memory c.index_of.result c.from_residual-in_err-index.result _ c.in_err-index.was (c.in_err-index.was ∙ c.in_err-index.ensures.memory) c.from_residual-in_err-index.ensures.1)
 
-pub returns-in_err-page-clause-plan : goal.returns-in_err-page-clause-plan
-returns-in_err-page-clause-plan c = λ w took. plan_memory c.args.page_size w c.from_residual-in_err-page.result (no_memory c.zeros.result c.from_residual-in_err-page.result _ c.in_err-page.was (c.in_err-page.was ∙ c.in_err-page.ensures.memory) c.from_residual-in_err-page.ensures.1)
+pub returns-in_err-room-clause-plan : goal.returns-in_err-room-clause-plan
+returns-in_err-room-clause-plan c = λ w took. plan_memory c.args.page_size w c.from_residual-in_err-room.result (no_memory c.zeros.result c.from_residual-in_err-room.result _ c.in_err-room.was (c.in_err-room.was ∙ c.in_err-room.ensures.memory) c.from_residual-in_err-room.ensures.1)
 
 pub returns-clause-plan : goal.returns-clause-plan
 returns-clause-plan c = λ w took.
     let one : 1 ≤ c.in_ok-front.front.frames = omega (arith, c.if-front-eq0.false) in
-    plan_some c.args.page_size w c.in_ok-front.front _ (c.in_ok-front.ensures w took) one refl refl (c.in_ok-index.ensures.table w took) (c.in_ok-page.ensures.long ∙ c.get.ensures.value)
+    plan_some c.args.page_size w c.in_ok-front.front _ (c.in_ok-front.ensures w took) one refl refl (c.in_ok-index.ensures.table w took) refl
+
+pub returns-then-front-eq0-clause-room : goal.returns-then-front-eq0-clause-room
+returns-then-front-eq0-clause-room c = λ one. absurd (omega (arith, one, c.no_plan.ensures.frames))
 
 pub returns-clause-room : goal.returns-clause-room
-returns-clause-room c = omega (arith, page_most c.get.result c.get.ensures.valid, c.in_ok-page.ensures.long)
+returns-clause-room c = λ one. (omega (arith, c.get.ensures.value, c.in_ok-room.ensures.long), omega (arith, page_most c.get.result c.get.ensures.valid, c.in_ok-room.ensures.long))

@@ -1,6 +1,6 @@
 use Rattle.std.proofs.Common.{ℕ, List, refl, subst, arith}
 use Rattle.walcore.specs.Bringing.{IsLeast}
-use Rattle.walcore.proofs.Judging.{page_most}
+use Rattle.walcore.proofs.Judging.{page_least, page_most}
 use Rattle.sqval.proofs.Answering.{passed}
 use Rattle.walcore.proofs.Draining.{down_refused, down_done, page_room}
 use Rattle.walcore.proofs.wal.Wal.bring_down.Goals as goal
@@ -8,7 +8,7 @@ use Rattle.walcore.proofs.wal.Wal.bring_down.Goals as goal
 pub bring_over-requires : goal.bring_over-requires
 bring_over-requires g c =
     let core = c.args.self.now.core in
-    omega (arith, page_most c.get-size.result c.get-size.ensures.valid, c.get-size.ensures.value, page_room c.deref_mut.result.now core.frame.items c.get-size.result core.page_size c.get-size.ensures.value c.deref_mut.ensures.value core.framed)
+    omega (arith, page_least c.get-size.result c.get-size.ensures.valid, page_most c.get-size.result c.get-size.ensures.valid, c.get-size.ensures.value, page_room c.deref_mut.result.now core.frame.items c.get-size.result core.page_size c.get-size.ensures.value c.deref_mut.ensures.value core.framed)
 
 pub returns-in_err-bring_over-clause-brings : goal.returns-in_err-bring_over-clause-brings
 returns-in_err-bring_over-clause-brings g c = λ word past fits opened floor none.
