@@ -1,6 +1,7 @@
-//! Calls whose allocations are refused, one call a test. A test says where its call begins and where it has ended; in between,
-//! the script tests/refused refuses each allocation in turn, alone and with all that come after it. Then the call answers that
-//! there is no memory, and all stands as before. Where nothing is refused, as in a plain run of the tests, the call is done.
+//! Calls whose allocations are refused, one call a test. A test says where its call begins and where it has ended; in
+//! between, the script tests/refused refuses each allocation in turn, alone and with all that come after it. Then the
+//! call answers that there is no memory, and all stands as before. Where nothing is refused, as in a plain run of the
+//! tests, the call is done.
 mod disks;
 mod engines;
 mod formats;

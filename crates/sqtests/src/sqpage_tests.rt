@@ -131,7 +131,8 @@ fn free_pages(rt: &impl Abort, alloc: Global, file: &[u8]) -> Result<Vec<u32>, C
     }
 }
 
-/// A sound header, and on page 1 an empty leaf, in a file of so many pages, all others of which are free, from page 2 on.
+/// A sound header, and on page 1 an empty leaf, in a file of so many pages, all others of which are free, from page 2
+/// on.
 fn put_page_1(rt: &impl Abort, file: &mut [u8], pages: u32)
     requires { 0 < pages }
 {

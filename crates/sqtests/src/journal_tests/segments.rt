@@ -7,8 +7,8 @@ use sqjournal::{Record, Replay, Stop, Why};
 use std::alloc::Global;
 use std::test::Fail;
 
-/// The answer to a commit of so many pages `B`, which are all of the database then, over 65 pages `A`, on a disk that stops
-/// at a sync of this number, if there is one, and the journal and the database that are there then.
+/// The answer to a commit of so many pages `B`, which are all of the database then, over 65 pages `A`, on a disk that
+/// stops at a sync of this number, if there is one, and the journal and the database that are there then.
 fn committed(
     alloc: Global,
     count: u32,

@@ -29,7 +29,7 @@ fn disk(alloc: Global, tears: bool) -> Result<ModelDisk, Fail> {
 }
 
 /// Carries a change out, or lets it fail and leave everything new, with this answer where it is refused no memory.
-fn change(
+fn make_change(
     rt: &impl Abort,
     alloc: Global,
     disk: ModelDisk,
@@ -57,8 +57,8 @@ fn a_change(rt: HostRuntime) -> Result<(), Fail> {
     let alloc = rt.alloc();
     for tears in [false, true] {
         for file in [File::Db, File::Log] {
-            change(&rt, alloc, disk(alloc, tears)?, Change::Write(file), Ok(()))?;
-            change(&rt, alloc, disk(alloc, tears)?, Change::Cut(file), Ok(()))?;
+            make_change(&rt, alloc, disk(alloc, tears)?, Change::Write(file), Ok(()))?;
+            make_change(&rt, alloc, disk(alloc, tears)?, Change::Cut(file), Ok(()))?;
         }
     }
     Ok(())
@@ -77,7 +77,7 @@ fn a_change_that_fails(rt: HostRuntime) -> Result<(), Fail> {
                 let mut failing = disk(alloc, tears)?;
                 failing.fail(1, part);
                 let failed = Err(DiskError::Failed);
-                change(&rt, alloc, failing, change_of, failed)?;
+                make_change(&rt, alloc, failing, change_of, failed)?;
             }
         }
     }

@@ -1,5 +1,6 @@
-//! Both engines. A call answers 14 where the engine found no memory: then both files and what is shown are as they were. It
-//! answers 15 where the modelled disk found none: then the engine is closed, and an opening shows one of the two databases.
+//! Both engines. A call answers 14 where the engine found no memory: then both files and what is shown are as they
+//! were. It answers 15 where the modelled disk found none: then the engine is closed, and an opening shows one of the
+//! two databases.
 use super::{begin, was_refused};
 use crate::sweeps::driving::{Answer, Step, Swept, Wrong, database_of, disk_with, shown};
 use crate::sweeps::history::{Commit, Database};
@@ -83,8 +84,15 @@ fn ask<E: Swept>(alloc: Global, engine: &mut E, step: Step) -> Told {
     }
 }
 
-/// What was answered to a step is right: the sights before and after it, and the answer to the same step asked once more.
-fn judge(step: Step, told: Told, before: &Sight, after: &Sight, again: Answer) -> Result<(), Wrong> {
+/// What was answered to a step is right: the sights before and after it, and the answer to the same step asked once
+/// more.
+fn judge(
+    step: Step,
+    told: Told,
+    before: &Sight,
+    after: &Sight,
+    again: Answer,
+) -> Result<(), Wrong> {
     let is_right = match (told.is_refused, told.answer) {
         (false, answer) => answer == step.wanted() && after.refused == before.refused,
         (true, NO_MEMORY) => {
@@ -148,11 +156,7 @@ fn judge_opening(
 
 /// Opens a disk, which may be refused memory, and, where it was, a second time, after a crash. In the end it shows this
 /// database.
-fn refuse_opening<E: Swept>(
-    alloc: Global,
-    disk: ModelDisk,
-    wanted: Database,
-) -> Result<(), Wrong> {
+fn refuse_opening<E: Swept>(alloc: Global, disk: ModelDisk, wanted: Database) -> Result<(), Wrong> {
     let files = Files::new(alloc, &disk)?;
     let refused = disk.refused();
     begin(alloc);

@@ -29,12 +29,6 @@ fn a_record(rt: HostRuntime) -> Result<(), Fail> {
     Ok(())
 }
 
-/// The pages of a file in pages of 512 bytes.
-fn source(file: &[u8]) -> Result<SliceSource<'_>, Fail> {
-    let size = PageSize::new(512).ok_or("a page size")?;
-    Ok(SliceSource::new(file, size).ok_or("whole pages")?)
-}
-
 /// The fault of what is refused, wherever it stands.
 fn fault<T: Drop>(answer: Result<T, CheckError>) -> Option<Fault> {
     match answer {
@@ -47,7 +41,10 @@ fn fault<T: Drop>(answer: Result<T, CheckError>) -> Option<Fault> {
 fn a_check(rt: HostRuntime) -> Result<(), Fail> {
     let alloc = rt.alloc();
     let file = sample(alloc)?;
-    let mut pages = source(&file)?;
+    let size = PageSize::new(512).ok_or("a page size")?;
+    let Some(mut pages) = SliceSource::new(&file, size) else {
+        return Err("whole pages".into());
+    };
     begin(alloc);
     let answer = check(alloc, &mut pages);
     if was_refused(alloc) {
@@ -63,7 +60,10 @@ fn a_check(rt: HostRuntime) -> Result<(), Fail> {
 fn a_freelist(rt: HostRuntime) -> Result<(), Fail> {
     let alloc = rt.alloc();
     let file = sample(alloc)?;
-    let mut pages = source(&file)?;
+    let size = PageSize::new(512).ok_or("a page size")?;
+    let Some(mut pages) = SliceSource::new(&file, size) else {
+        return Err("whole pages".into());
+    };
     begin(alloc);
     let answer = freelist(alloc, &mut pages);
     if was_refused(alloc) {
@@ -90,34 +90,51 @@ fn a_layout(rt: HostRuntime) -> Result<(), Fail> {
     Ok(())
 }
 
-/// A cell with 600 bytes, of which 92 are local and the others on page 5.
-fn cell(local: &[u8; 92]) -> Cell<'_> {
-    Cell {
+/// Appends the payload of a cell with 600 bytes, of which 92 are local and the others on page 5, which may be refused
+/// memory: the fault, and whether it was.
+fn append_payload(
+    alloc: Global,
+    file: &[u8],
+    out: &mut Vec<u8>,
+) -> Result<(Option<Fault>, bool), Fail> {
+    let size = PageSize::new(512).ok_or("a page size")?;
+    let Some(mut pages) = SliceSource::new(file, size) else {
+        return Err("whole pages".into());
+    };
+    let local = [9; 92];
+    let cell = Cell {
         page: 4,
         usable: 512,
         at: 413,
         child: None,
         rowid: Some(6),
         payload: Some(600),
-        local,
+        local: &local,
         overflow: 5,
-    }
+    };
+    begin(alloc);
+    let answer = payload(alloc, &mut pages, &cell, out);
+    let is_refused = was_refused(alloc);
+    Ok((fault(answer), is_refused))
 }
 
-/// The payload of that cell is asked for behind a byte 7, where the chain goes on at this page, or ends.
-fn ask_for_payload(rt: &impl Abort, alloc: Global, next: u8, wanted: Option<Fault>) -> Result<(), Fail> {
+/// That payload is asked for behind a byte 7, where the chain goes on at this page, or ends.
+fn ask_for_payload(
+    rt: &impl Abort,
+    alloc: Global,
+    next: u8,
+    wanted: Option<Fault>,
+) -> Result<(), Fail> {
     let mut file = sample(alloc)?;
     *file.get_mut(2051).ok_or("page 5")? = next;
-    let size = PageSize::new(512).expect(rt, "a page size");
-    let mut pages = SliceSource::new(&file, size).expect(rt, "whole pages");
     let mut out = [7].to_vec(alloc)?;
-    let local = [9; 92];
-    begin(alloc);
-    let answer = payload(alloc, &mut pages, &cell(&local), &mut out);
-    let is_refused = was_refused(alloc);
-    let long = if is_refused || wanted.is_some() { 1 } else { 601 };
-    let wanted = if is_refused { Some(Fault::NoMemory) } else { wanted };
-    assert_eq!(rt; fault(answer), wanted);
+    let (found, is_refused) = append_payload(alloc, &file, &mut out)?;
+    if is_refused {
+        assert_eq!(rt; found, Some(Fault::NoMemory));
+    } else {
+        assert_eq!(rt; found, wanted);
+    }
+    let long = if found.is_none() { 601 } else { 1 };
     assert!(rt; out.starts_with(&[7]) && out.len() == long);
     Ok(())
 }

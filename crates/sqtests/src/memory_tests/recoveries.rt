@@ -19,8 +19,8 @@ fn has(alloc: Global, disk: &ModelDisk, count: usize, byte: u8) -> Result<bool, 
     Ok(db.len() / 512 == count && db.iter().all(|it| *it == byte))
 }
 
-/// A refusal that says whether the disk was the one to find no memory. In the first case the disk has refused a call more than
-/// before, and otherwise the files are as they were.
+/// A refusal that says whether the disk was the one to find no memory. In the first case the disk has refused a call
+/// more than before, and otherwise the files are as they were.
 fn judge(
     rt: &impl Abort,
     alloc: Global,
@@ -53,7 +53,15 @@ fn a_fold(rt: HostRuntime) -> Result<(), Fail> {
             judge(&rt, alloc, &disk, is_device, (&files, refused))?;
             answer = fold(alloc, &mut disk, page_size);
         }
-        assert!(rt; matches!(&answer, Ok(Folded { frames: 6 | 7, size: 4 })));
+        assert!(rt;
+            matches!(
+                &answer,
+                Ok(Folded {
+                    frames: 6 | 7,
+                    size: 4
+                })
+            )
+        );
         assert!(rt; has(alloc, &disk, 4, b'C')?);
     }
     Ok(())

@@ -1,10 +1,9 @@
-//! Whole runs. Either there is no memory for what a run answers; or it goes on, and the first answer that isn't as with all memory
-//! is a refusal by 14 or, where the modelled disk found no memory, by 15.
+//! Whole runs. Either there is no memory for what a run answers; or it goes on, and the first answer that isn't as
+//! with all memory is a refusal by 14 or, where the modelled disk found no memory, by 15.
 use super::{begin, was_refused};
-use crate::journal_tests;
 use crate::journal_tests::COMMIT;
-use crate::world_tests;
 use crate::world_tests::{Ask, Told, Unlike, answers_are};
+use crate::{journal_tests, world_tests};
 use sqworld::{NoMemory, Run, run_journal, run_wal};
 use std::process::Abort;
 use std::test::Fail;

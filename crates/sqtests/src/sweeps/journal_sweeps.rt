@@ -2,7 +2,7 @@
 
 use super::driving::{Answer, OverModel, Step, Swept, Wrong};
 use super::history::{Commit, Database};
-use super::lying::{CUTS_ALONE, FAILS_ALONE, ASKS_TOO_MUCH, Lying, SYNCS_NOTHING, TELLS_NOTHING};
+use super::lying::{ASKS_TOO_MUCH, CUTS_ALONE, FAILS_ALONE, Lying, SYNCS_NOTHING, TELLS_NOTHING};
 use super::pages::{numbered, page_of};
 use super::playing::Script;
 use super::sweeping::sweep;

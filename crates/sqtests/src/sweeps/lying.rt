@@ -1,5 +1,5 @@
-//! What a wrong engine would make of a disk: a call that it is to make isn't carried out, or another one is. A sweep over such a
-//! disk finds it.
+//! What a wrong engine would make of a disk: a call that it is to make isn't carried out, or another one is. A sweep
+//! over such a disk finds it.
 ghost use Rattle.std.specs.Prelude.{◌≡◌};
 
 use super::driving::OverModel;
@@ -8,10 +8,10 @@ use crashdisk::{Disk, DiskError, File, ModelDisk};
 /// Zeros at the front of a log aren't written: the header stays, and a log is cut before it is zeroed.
 pub const CUTS_ALONE: u8 = 0;
 
-/// A sync of the database fails, though no failure was set.
+/// A write behind the header of a log fails, though no failure was set.
 pub const FAILS_ALONE: u8 = 1;
 
-/// In place of a sync of the database a length is asked for that no file may have.
+/// In place of a write behind the header of a log a length is asked for that no file may have.
 pub const ASKS_TOO_MUCH: u8 = 2;
 
 /// A sync of the log that is refused is answered all the same.
@@ -71,8 +71,15 @@ impl<const LIE: u8> Disk for Lying<LIE> {
     }
 
     fn write_at(&mut self, file: File, at: u64, bytes: &[u8]) -> Result<(), DiskError> {
-        if LIE == CUTS_ALONE && file == File::Log && at == 0 && is_zero(bytes) {
+        let is_log = file == File::Log;
+        if LIE == CUTS_ALONE && is_log && at == 0 && is_zero(bytes) {
             return Ok(());
+        }
+        if LIE == FAILS_ALONE && is_log && at > 0 {
+            return Err(DiskError::Failed);
+        }
+        if LIE == ASKS_TOO_MUCH && is_log && at > 0 {
+            return self.model.set_len(file, u64::MAX);
         }
         self.model.write_at(file, at, bytes)
     }
@@ -83,12 +90,6 @@ impl<const LIE: u8> Disk for Lying<LIE> {
 
     fn sync(&mut self, file: File) -> Result<(), DiskError> {
         let is_log = file == File::Log;
-        if LIE == FAILS_ALONE && !is_log {
-            return Err(DiskError::Failed);
-        }
-        if LIE == ASKS_TOO_MUCH && !is_log {
-            return self.model.set_len(file, u64::MAX);
-        }
         if LIE == SYNCS_NOTHING && is_log {
             return Ok(());
         }

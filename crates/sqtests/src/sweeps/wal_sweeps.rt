@@ -2,7 +2,7 @@
 
 use super::driving::{Answer, OverModel, Step, Swept, Wrong};
 use super::history::{Commit, Database};
-use super::lying::{CUTS_ALONE, FAILS_ALONE, ASKS_TOO_MUCH, Lying, SYNCS_NOTHING, TELLS_NOTHING};
+use super::lying::{ASKS_TOO_MUCH, CUTS_ALONE, FAILS_ALONE, Lying, SYNCS_NOTHING, TELLS_NOTHING};
 use super::pages::{numbered, page_of};
 use super::playing::Script;
 use super::sweeping::sweep;
@@ -279,12 +279,11 @@ fn a_log_that_is_cut_alone(rt: HostRuntime) {
 // The engine answers 15, and the disk was told to refuse nothing.
 #[test]
 fn a_refusal_without_a_cause(rt: HostRuntime) {
-    let refused = Err(Wrong::Uncaused(Step::Checkpoint, Answer::DEVICE));
     for tears in [false, true] {
-        let found = lie_found::<FAILS_ALONE>(rt.alloc(), tears, &RESTART, 3);
-        assert_eq!(rt; found, refused);
-        let found = lie_found::<ASKS_TOO_MUCH>(rt.alloc(), tears, &RESTART, 3);
-        assert_eq!(rt; found, refused);
+        let found = lie_found::<FAILS_ALONE>(rt.alloc(), tears, &COMMITS, 1);
+        assert_eq!(rt; found, Err(Wrong::Uncaused(ONE_B, Answer::DEVICE)));
+        let found = lie_found::<ASKS_TOO_MUCH>(rt.alloc(), tears, &COMMITS, 1);
+        assert_eq!(rt; found, Err(Wrong::Uncaused(ONE_B, Answer::DEVICE)));
     }
 }
 
