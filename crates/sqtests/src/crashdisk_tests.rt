@@ -184,6 +184,27 @@ fn what_was_kept(rt: HostRuntime) -> Result<(), Fail> {
     Ok(())
 }
 
+// A log of 1,099,511,627,776 bytes of which four were written: what wasn't takes no memory and no time.
+#[test]
+fn a_long_log(rt: HostRuntime) -> Result<(), Fail> {
+    let alloc = rt.alloc();
+    let long = 1 << 40;
+    let mut bytes = [7; 4];
+    let mut disk = ModelDisk::new(alloc, 512, Vec::new(alloc))?;
+    disk.set_len(File::Log, long)?;
+    disk.write_at(File::Log, 510, b"BBBB")?;
+    disk.read_at(File::Log, 512, &mut bytes)?;
+    assert_eq!(rt; bytes, [66, 66, 0, 0]);
+    disk.sync(File::Log)?;
+    disk.crash(&Choice::oldest(alloc));
+    assert_eq!(rt; disk.len(File::Log), Ok(long));
+    disk.read_at(File::Log, long - 4, &mut bytes)?;
+    assert_eq!(rt; bytes, [0; 4]);
+    let longer = disk.set_len(File::Log, long + 1);
+    assert_eq!(rt; longer, Err(DiskError::TooLong));
+    Ok(())
+}
+
 // The choices are counted by digits: of both sectors, and then of the length.
 #[test]
 fn choices(rt: HostRuntime) -> Result<(), Fail> {

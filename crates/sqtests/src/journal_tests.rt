@@ -16,7 +16,7 @@ const READS: u32 = 66;
 
 /// What a run is asked.
 #[derive(Clone, Copy)]
-enum Ask {
+pub(crate) enum Ask {
     Open,
     /// A commit of one page `B`, which is all of the database then, with so many nonces from this one on.
     Commit { nonce: u32, nonces: u32 },
@@ -50,12 +50,12 @@ enum Shown {
 }
 
 /// A commit with the one nonce that a journal of one segment takes.
-const COMMIT: Ask = Ask::Commit {
+pub(crate) const COMMIT: Ask = Ask::Commit {
     nonce: 7,
     nonces: 1,
 };
 
-fn base(alloc: Global, tears: bool, count: u32) -> Result<Base, Fail> {
+pub(crate) fn base(alloc: Global, tears: bool, count: u32) -> Result<Base, Fail> {
     let page_size = PageSize::new(512).ok_or("a page size")?;
     let mut pages = Vec::new(alloc);
     for _ in 0..count {
@@ -184,14 +184,23 @@ fn page_told(shown: Shown, page: u32) -> Told {
     }
 }
 
-/// The run of these asks, of which each is answered by what stands beside it, and of a read of each page.
-fn run_as(alloc: Global, base: &Base, rows: &[(Ask, Told)], shown: Shown) -> Result<Run, Fail> {
+/// What a run is asked, and what it is to answer.
+pub(crate) fn events_of(
+    alloc: Global,
+    rows: &[(Ask, Told)],
+) -> Result<(Vec<JEvent>, Vec<Told>), AllocError> {
     let mut events = Vec::new(alloc);
     let mut wanted = Vec::new(alloc);
     for (ask, told) in rows {
         events.push(event(alloc, *ask)?)?;
         wanted.push(*told)?;
     }
+    Ok((events, wanted))
+}
+
+/// The run of these asks, of which each is answered by what stands beside it, and of a read of each page.
+fn run_as(alloc: Global, base: &Base, rows: &[(Ask, Told)], shown: Shown) -> Result<Run, Fail> {
+    let (mut events, mut wanted) = events_of(alloc, rows)?;
     for page in 1..=READS {
         events.push(JEvent::Read { page })?;
         wanted.push(page_told(shown, page))?;

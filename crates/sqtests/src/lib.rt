@@ -6,6 +6,8 @@ mod crashdisk_tests;
 #[cfg(test)]
 mod journal_tests;
 #[cfg(test)]
+mod memory_tests;
+#[cfg(test)]
 mod rollcore_tests;
 #[cfg(test)]
 mod sqcheck_tests;

@@ -9,7 +9,7 @@ use std::alloc::{AllocError, Global};
 use std::test::Fail;
 
 /// The header of a journal in sectors and pages of 512 bytes, padded to its sector.
-fn header(alloc: Global, count: u32, first_size: u32) -> Result<Vec<u8>, Fail> {
+pub(crate) fn header(alloc: Global, count: u32, first_size: u32) -> Result<Vec<u8>, Fail> {
     let page_size = PageSize::new(512).ok_or("a page size")?;
     let header = JournalHeader {
         count,
@@ -28,7 +28,7 @@ fn header(alloc: Global, count: u32, first_size: u32) -> Result<Vec<u8>, Fail> {
 }
 
 /// Appends a record of a page of 512 times this byte.
-fn push_record(out: &mut Vec<u8>, page: u32, byte: u8) -> Result<(), AllocError> {
+pub(crate) fn push_record(out: &mut Vec<u8>, page: u32, byte: u8) -> Result<(), AllocError> {
     let bytes = [byte; 512];
     out.extend_from_slice(&page.to_be_bytes())?;
     out.extend_from_slice(&bytes)?;

@@ -1,5 +1,5 @@
 //! Worked rows.
-mod failing;
+pub(crate) mod failing;
 
 use sqcheck::{Report, check};
 use sqpage::{CheckError, Fault, SliceSource};

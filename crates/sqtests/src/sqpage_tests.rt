@@ -131,11 +131,29 @@ fn free_pages(rt: &impl Abort, alloc: Global, file: &[u8]) -> Result<Vec<u32>, C
     }
 }
 
+/// A sound header, and on page 1 an empty leaf, in a file of so many pages, all others of which are free, from page 2
+/// on.
+fn put_page_1(rt: &impl Abort, file: &mut [u8], pages: u32)
+    requires { 0 < pages }
+{
+    let size = PageSize::new(512).expect(rt, "a page size");
+    let mut sound = header(size, pages);
+    sound.first_trunk = 2;
+    sound.free_pages = pages - 1;
+    let mut front = [0; 108];
+    let mut bytes = [0; 100];
+    sound.write(&mut bytes);
+    front[..100].copy_from_slice(&bytes);
+    front[100..].copy_from_slice(&[0x0d, 0, 0, 0, 0, 2, 0, 0]);
+    for (place, byte) in file.iter_mut().zip(front.iter()) {
+        *place = *byte;
+    }
+}
+
 #[test]
 fn a_long_freelist(rt: HostRuntime) -> Result<(), Fail> {
     let mut file = zeros(rt.alloc(), 12701 * 512)?;
-    put(&mut file, 32, 2);
-    put(&mut file, 36, 12700);
+    put_page_1(&rt, &mut file, 12701);
     for k in 0..100usize {
         let trunk = 127 * k + 2;
         let at = (trunk - 1) * 512;

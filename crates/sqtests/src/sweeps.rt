@@ -1,10 +1,11 @@
 //! Engines are stopped, and their calls of the disk fail, at every place of a run.
 
 mod crashing;
-mod driving;
-mod history;
+pub(crate) mod driving;
+pub(crate) mod history;
 mod journal_sweeps;
-mod pages;
+mod lying;
+pub(crate) mod pages;
 mod playing;
-mod sweeping;
+pub(crate) mod sweeping;
 mod wal_sweeps;

@@ -1,6 +1,6 @@
 //! The engine over a write-ahead log.
 mod commits;
-mod folds;
+pub(crate) mod folds;
 mod openings;
 
 use crashdisk::{Disk, File, ModelDisk};

@@ -42,13 +42,13 @@ pub(crate) fn filled(alloc: Global, count: usize, byte: u8) -> Result<Vec<u8>, A
 /// An answer of a run that isn't the one that is wanted: its place, from 0, and what it is, if there is one.
 #[derive(Clone, Copy, Debug, PartialEq, Eq)]
 pub(crate) struct Unlike {
-    place: usize,
-    told: Option<Told>,
+    pub place: usize,
+    pub told: Option<Told>,
 }
 
 /// What a run is asked.
 #[derive(Clone, Copy)]
-enum Ask {
+pub(crate) enum Ask {
     /// An opening, with these salts.
     Open(u32, u32),
     /// A commit of so many pages, from 1 on, each of this byte, which are all of the database.
@@ -79,7 +79,7 @@ enum Ask {
     Torn,
 }
 
-fn base(alloc: Global, tears: bool) -> Result<Base, Fail> {
+pub(crate) fn base(alloc: Global, tears: bool) -> Result<Base, Fail> {
     let page_size = PageSize::new(512).ok_or("a page size")?;
     let mut pages = Vec::new(alloc);
     pages.push(filled(alloc, 512, b'A')?)?;
@@ -198,15 +198,24 @@ pub(crate) fn answers_are(run: &Run, wanted: &[Told]) -> Result<(), Unlike> {
     }
 }
 
-/// The run of these asks, of which each is answered by what stands beside it.
-fn run_as(alloc: Global, tears: bool, rows: &[(Ask, Told)]) -> Result<Run, Fail> {
-    let base = base(alloc, tears)?;
+/// What a run is asked, and what it is to answer.
+pub(crate) fn events_of(
+    alloc: Global,
+    rows: &[(Ask, Told)],
+) -> Result<(Vec<Event>, Vec<Told>), AllocError> {
     let mut events = Vec::new(alloc);
     let mut wanted = Vec::new(alloc);
     for (ask, told) in rows {
         events.push(event(alloc, *ask)?)?;
         wanted.push(*told)?;
     }
+    Ok((events, wanted))
+}
+
+/// The run of these asks, of which each is answered by what stands beside it.
+fn run_as(alloc: Global, tears: bool, rows: &[(Ask, Told)]) -> Result<Run, Fail> {
+    let base = base(alloc, tears)?;
+    let (events, wanted) = events_of(alloc, rows)?;
     let run = run_wal(alloc, &base, &events)?;
     answers_are(&run, &wanted)?;
     Ok(run)
@@ -475,6 +484,28 @@ fn readers_are_forgotten(rt: HostRuntime) -> Result<(), Fail> {
     let found = run.found.get(1).map(|found| found.log.as_slice());
     assert_eq!(rt; found, Some(log.as_slice()));
     assert_eq!(rt; (run.found.len(), run.crashed.len()), (3, 0));
+    Ok(())
+}
+
+// A reader that a crash finds is no reader any more, though nothing is opened in between.
+#[test]
+fn a_reader_over_a_crash(rt: HostRuntime) -> Result<(), Fail> {
+    let alloc = rt.alloc();
+    run_as(
+        alloc,
+        false,
+        &[
+            (Ask::Open(7, 1), Told::Done),
+            (Ask::Begin, Told::Reader(0)),
+            (Ask::Commit(1, b'B'), Told::Done),
+            (Ask::Newest, Told::Done),
+            (Ask::Read(0, 1), Told::NoReader),
+            (Ask::End(0), Told::NoReader),
+            (Ask::Open(7, 2), Told::Done),
+            (Ask::Begin, Told::Reader(1)),
+            (Ask::Read(1, 1), Told::Page(b'B')),
+        ],
+    )?;
     Ok(())
 }
 

@@ -1,4 +1,4 @@
-//! What a commit of 65 pages leaves in the journal: a segment of 64 records, and one of a single record.
+//! What commits over 65 pages `A` leave in the journal: a segment of 64 records, and one of a single record.
 use super::opened;
 use crate::world_tests::filled;
 use crashdisk::{File, ModelDisk};
@@ -7,16 +7,17 @@ use sqjournal::{Record, Replay, Stop, Why};
 use std::alloc::Global;
 use std::test::Fail;
 
-/// The answer to a commit of 65 pages `B` over 65 pages `A`, on a disk that stops at a sync of this number, if there is
-/// one, and the journal and the database that are there then.
+/// The answer to a commit of so many pages `B`, which are all of the database then, over 65 pages `A`, on a disk that
+/// stops at a sync of this number, if there is one, and the journal and the database that are there then.
 fn committed(
     alloc: Global,
+    count: u32,
     stop: Option<u64>,
 ) -> Result<(Result<(), RollError>, Vec<u8>, Vec<u8>), Fail> {
     let mut log = Vec::new(alloc);
     let mut db = Vec::new(alloc);
     let mut pages: Vec<(u32, &[u8])> = Vec::new(alloc);
-    for page in 1..=65 {
+    for page in 1..=count {
         pages.push((page, &[b'B'; 512]))?;
     }
     let disk = ModelDisk::new(alloc, 512, filled(alloc, 65 * 512, b'A')?)?;
@@ -24,7 +25,7 @@ fn committed(
     if let Some(sync) = stop {
         roll.disk().stop_at_sync(sync);
     }
-    let answer = roll.commit(&pages, 65, &[1, 2]);
+    let answer = roll.commit(&pages, count, &[1, 2]);
     let disk = roll.into_disk();
     disk.present(File::Log, &mut log)?;
     disk.present(File::Db, &mut db)?;
@@ -33,34 +34,57 @@ fn committed(
 
 // The first segment takes the header's sector and 64 records, up to 33792; the second one ends at 34824.
 #[test]
-fn a_commit_of_65_pages(rt: HostRuntime) -> Result<(), Fail> {
+fn a_commit_that_is_done(rt: HostRuntime) -> Result<(), Fail> {
     let alloc = rt.alloc();
-    let (answer, log, db) = committed(alloc, None)?;
-    assert_eq!(rt; answer, Ok(()));
-    assert_eq!(rt; log.len(), 34824);
-    assert!(rt; log.iter().take(28).all(|byte| *byte == 0));
-    assert!(rt; db.len() == 33280 && db.iter().all(|byte| *byte == b'B'));
+    for (count, long) in [(1, 512), (65, 33280)] {
+        let (answer, log, db) = committed(alloc, count, None)?;
+        assert_eq!(rt; answer, Ok(()));
+        assert_eq!(rt; log.len(), 34824);
+        assert!(rt; log.iter().take(28).all(|byte| *byte == 0));
+        assert!(rt; db.len() == long && db.iter().all(|byte| *byte == b'B'));
+    }
     Ok(())
 }
+
+/// The records that are looked at: the first and the last of the first segment, and that of the second one.
+const RECORDS: [(usize, Record); 3] = [
+    (1, Record { page: 1, at: 516 }),
+    (
+        64,
+        Record {
+            page: 64,
+            at: 33276,
+        },
+    ),
+    (
+        65,
+        Record {
+            page: 65,
+            at: 34308,
+        },
+    ),
+];
 
 // The fifth sync is that of the database, once both segments are down.
 #[test]
 fn its_journal_before_the_end(rt: HostRuntime) -> Result<(), Fail> {
     let alloc = rt.alloc();
-    let (answer, log, _) = committed(alloc, Some(5))?;
-    assert_eq!(rt; answer.map_err(|error| error.number()), Err(15));
-    let mut replay = Replay::new(alloc);
-    replay.feed(&log)?;
-    assert_eq!(rt; replay.count(), 65);
-    for (i, at) in [(1, 516), (64, 33276), (65, 34308)] {
-        assert_eq!(rt; replay.entry(i), Some(Record { page: i as u32, at }));
-        let page = log.iter().skip(at as usize).take(512);
-        assert!(rt; page.eq([b'A'; 512].iter()));
-    }
     let end = Stop {
         at: 35328,
         why: Why::End,
     };
-    assert_eq!(rt; replay.stop(), end);
+    for count in [1, 65] {
+        let (answer, log, _) = committed(alloc, count, Some(5))?;
+        assert_eq!(rt; answer.map_err(|error| error.number()), Err(15));
+        let mut replay = Replay::new(alloc);
+        replay.feed(&log)?;
+        assert_eq!(rt; replay.count(), 65);
+        for (i, record) in RECORDS {
+            assert_eq!(rt; replay.entry(i), Some(record));
+            let page = log.iter().skip(record.at as usize).take(512);
+            assert!(rt; page.eq([b'A'; 512].iter()));
+        }
+        assert_eq!(rt; replay.stop(), end);
+    }
     Ok(())
 }

@@ -57,7 +57,7 @@ impl<'a> PageSource for FailingSource<'a> {
 
 /// Seven pages: a schema's leaf that names the tree of pages 2 to 4, the last with a chain on page 5, and a trunk on page 6
 /// with the leaf 7.
-fn sample(alloc: Global) -> Result<Vec<u8>, AllocError> {
+pub(crate) fn sample(alloc: Global) -> Result<Vec<u8>, AllocError> {
     let pieces = [
         (32, [0, 0, 0, 6, 0, 0, 0, 2].as_slice()),
         (100, ONE_CELL.as_slice()),
@@ -76,7 +76,7 @@ fn sample(alloc: Global) -> Result<Vec<u8>, AllocError> {
     file_of(alloc, 7, &pieces)
 }
 
-const SOUND: Report = Report {
+pub(crate) const SOUND: Report = Report {
     pages: 7,
     trees: 2,
     btree: 4,

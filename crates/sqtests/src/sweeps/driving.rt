@@ -49,6 +49,32 @@ impl Answer {
     pub const DEVICE: Answer = Answer::Refused(15);
 }
 
+/// A disk that is a modelled one, or is made of one.
+pub trait OverModel: Disk + Sized {
+    /// Is made of a modelled disk.
+    fn over(model: ModelDisk) -> Self;
+
+    /// Lends the modelled disk.
+    fn model(&mut self) -> &mut ModelDisk;
+
+    /// Gives the modelled disk back.
+    fn into_model(self) -> ModelDisk;
+}
+
+impl OverModel for ModelDisk {
+    fn over(model: ModelDisk) -> ModelDisk {
+        model
+    }
+
+    fn model(&mut self) -> &mut ModelDisk {
+        self
+    }
+
+    fn into_model(self) -> ModelDisk {
+        self
+    }
+}
+
 /// An engine over pages of 512 bytes.
 pub trait Swept: Sized {
     /// Opens the files of a disk. Each opening is given another number.
@@ -71,12 +97,14 @@ pub trait Swept: Sized {
 }
 
 /// What a sweep found that may not be.
-#[derive(Debug, Drop)]
+#[derive(Debug, PartialEq, Eq, Drop)]
 pub enum Wrong {
     NoMemory,
     Disk(DiskError),
     /// Another answer to a step.
     Answered(Step, Answer),
+    /// A refusal by 15 to a step in which the disk refused no call, or another answer where it did.
+    Uncaused(Step, Answer),
     /// A step is never answered, however many calls are carried out.
     Endless,
     /// An opening after a crash is refused.

@@ -1,11 +1,12 @@
 //! Sweeps of the engine over a rollback journal.
 
-use super::driving::{Answer, Step, Swept};
+use super::driving::{Answer, OverModel, Step, Swept, Wrong};
 use super::history::{Commit, Database};
+use super::lying::{ASKS_TOO_MUCH, CUTS_ALONE, FAILS_ALONE, Lying, SYNCS_NOTHING, TELLS_NOTHING};
 use super::pages::{numbered, page_of};
 use super::playing::Script;
 use super::sweeping::sweep;
-use crashdisk::ModelDisk;
+use crashdisk::{Disk, ModelDisk};
 use rollcore::{Refused, Roll, RollError};
 use sqval::PageSize;
 use std::alloc::Global;
@@ -19,7 +20,7 @@ fn outcome(answer: Result<(), RollError>) -> Answer {
 }
 
 /// The nonce is the byte of the pages.
-fn commit_pages(roll: &mut Roll<ModelDisk>, commit: Commit) -> Answer {
+fn commit_pages<D: Disk>(roll: &mut Roll<D>, commit: Commit) -> Answer {
     let content = page_of(commit.byte);
     let all = numbered(&content);
     match all.get(..commit.count as usize) {
@@ -28,14 +29,16 @@ fn commit_pages(roll: &mut Roll<ModelDisk>, commit: Commit) -> Answer {
     }
 }
 
-impl Swept for Roll<ModelDisk> {
+impl<D: OverModel> Swept for Roll<D> {
     fn start(alloc: Global, disk: ModelDisk, _number: u32) -> Result<Self, (ModelDisk, Answer)> {
         let Some(page_size) = PageSize::new(512) else {
             return Err((disk, Answer::UNKNOWN));
         };
-        match Roll::open(alloc, disk, page_size) {
+        match Roll::open(alloc, D::over(disk), page_size) {
             Ok(roll) => Ok(roll),
-            Err(Refused { error, disk }) => Err((disk, Answer::Refused(error.number()))),
+            Err(Refused { error, disk }) => {
+                Err((disk.into_model(), Answer::Refused(error.number())))
+            }
         }
     }
 
@@ -55,11 +58,11 @@ impl Swept for Roll<ModelDisk> {
     }
 
     fn lend(&mut self) -> &mut ModelDisk {
-        self.disk()
+        self.disk().model()
     }
 
     fn give_back(self) -> ModelDisk {
-        self.into_disk()
+        self.into_disk().into_model()
     }
 }
 
@@ -104,49 +107,103 @@ static AGAIN: [Step; 2] = [Step::Open, TWO_D];
 
 /// Each call of these steps is refused in each way; after a failure another engine goes on. Each opening after a crash is
 /// stopped.
-fn sweep_calls(
+fn sweep_calls<D: OverModel>(
     alloc: Global,
     tears: bool,
     base: [u8; 5],
-    (steps, again): (&[Step], &[Step]),
+    steps: &[Step],
     swept: &[usize],
-) -> Result<(), Fail> {
+) -> Result<(), Wrong> {
     let script = Script {
         tears,
         base: Database(base),
         steps,
-        again,
+        again: &AGAIN,
     };
-    sweep::<Roll<ModelDisk>>(alloc, &script, swept)?;
+    sweep::<Roll<D>>(alloc, &script, swept)
+}
+
+/// Over three pages.
+fn sweep_sizes(alloc: Global, tears: bool, swept: &[usize]) -> Result<(), Fail> {
+    sweep_calls::<ModelDisk>(alloc, tears, *b"AAA\0\0", &SIZES, swept)?;
     Ok(())
+}
+
+/// Over four pages with a header in what a journal keeps of them.
+fn sweep_stale(alloc: Global, tears: bool) -> Result<(), Fail> {
+    sweep_calls::<ModelDisk>(alloc, tears, *b"A234\0", &STALE, &[1, 2])?;
+    Ok(())
+}
+
+/// What the sweep of the first commit finds over three pages and a disk that lies.
+fn lie_found<const LIE: u8>(alloc: Global, tears: bool) -> Result<(), Wrong> {
+    sweep_calls::<Lying<LIE>>(alloc, tears, *b"AAA\0\0", &SIZES, &[1])
 }
 
 #[test]
 fn a_shorter_database(rt: HostRuntime) -> Result<(), Fail> {
-    sweep_calls(rt.alloc(), false, *b"AAA\0\0", (&SIZES, &AGAIN), &[0, 1])
+    sweep_sizes(rt.alloc(), false, &[0, 1])
 }
 
 #[test]
 fn a_shorter_database_torn(rt: HostRuntime) -> Result<(), Fail> {
-    sweep_calls(rt.alloc(), true, *b"AAA\0\0", (&SIZES, &AGAIN), &[0, 1])
+    sweep_sizes(rt.alloc(), true, &[0, 1])
 }
 
 #[test]
 fn a_longer_database(rt: HostRuntime) -> Result<(), Fail> {
-    sweep_calls(rt.alloc(), false, *b"AAA\0\0", (&SIZES, &AGAIN), &[2])
+    sweep_sizes(rt.alloc(), false, &[2])
 }
 
 #[test]
 fn a_longer_database_torn(rt: HostRuntime) -> Result<(), Fail> {
-    sweep_calls(rt.alloc(), true, *b"AAA\0\0", (&SIZES, &AGAIN), &[2])
+    sweep_sizes(rt.alloc(), true, &[2])
 }
 
 #[test]
 fn a_stale_header(rt: HostRuntime) -> Result<(), Fail> {
-    sweep_calls(rt.alloc(), false, *b"A234\0", (&STALE, &AGAIN), &[1, 2])
+    sweep_stale(rt.alloc(), false)
 }
 
 #[test]
 fn a_stale_header_torn(rt: HostRuntime) -> Result<(), Fail> {
-    sweep_calls(rt.alloc(), true, *b"A234\0", (&STALE, &AGAIN), &[1, 2])
+    sweep_stale(rt.alloc(), true)
+}
+
+// A header that isn't zeroed undoes a commit that was done.
+#[test]
+fn a_header_that_stays(rt: HostRuntime) {
+    for tears in [false, true] {
+        let found = lie_found::<CUTS_ALONE>(rt.alloc(), tears);
+        assert!(rt; matches!(&found, Err(Wrong::Shown(_))), "{found:?}");
+    }
+}
+
+// The engine answers 15, and the disk was told to refuse nothing.
+#[test]
+fn a_refusal_without_a_cause(rt: HostRuntime) {
+    for tears in [false, true] {
+        let found = lie_found::<FAILS_ALONE>(rt.alloc(), tears);
+        assert_eq!(rt; found, Err(Wrong::Uncaused(ONE_B, Answer::DEVICE)));
+        let found = lie_found::<ASKS_TOO_MUCH>(rt.alloc(), tears);
+        assert_eq!(rt; found, Err(Wrong::Uncaused(ONE_B, Answer::DEVICE)));
+    }
+}
+
+// A call of the disk is refused, and the commit is done.
+#[test]
+fn a_refusal_that_is_not_told(rt: HostRuntime) {
+    for tears in [false, true] {
+        let found = lie_found::<TELLS_NOTHING>(rt.alloc(), tears);
+        assert_eq!(rt; found, Err(Wrong::Uncaused(ONE_B, Answer::Done)));
+    }
+}
+
+// The records of a journal that isn't synced may be lost, and the database written.
+#[test]
+fn a_sync_of_nothing(rt: HostRuntime) {
+    for tears in [false, true] {
+        let found = lie_found::<SYNCS_NOTHING>(rt.alloc(), tears);
+        assert!(rt; matches!(&found, Err(Wrong::Shown(_))), "{found:?}");
+    }
 }

@@ -194,9 +194,8 @@ impl<E: Swept> Course<E> {
         answer
     }
 
-    fn serve(self, alloc: Global, step: Step) -> (Course<E>, Answer) {
+    fn answer(self, alloc: Global, step: Step) -> (Course<E>, Answer) {
         let mut course = self;
-        course.number = course.number.saturating_add(1);
         match step {
             Step::Open => course.open(alloc),
             _ => {
@@ -204,6 +203,19 @@ impl<E: Swept> Course<E> {
                 (course, answer)
             }
         }
+    }
+
+    /// Answers a step, and notes a refusal by 15 without a call that the disk refused, or such a call that isn't told.
+    fn serve(self, alloc: Global, step: Step) -> (Course<E>, Answer) {
+        let mut course = self;
+        course.number = course.number.saturating_add(1);
+        let before = course.seat.lend().refused();
+        let (mut course, answer) = course.answer(alloc, step);
+        let has_cause = course.seat.lend().refused() > before;
+        if has_cause != (answer == Answer::DEVICE) {
+            course.note(Err(Wrong::Uncaused(step, answer)));
+        }
+        (course, answer)
     }
 
     /// Steps that are answered, up to this place.

@@ -1,7 +1,7 @@
 //! Every fault of a run, every crash after it, and every stop of the opening that recovers.
 
 use super::crashing::{CRASHES, crash};
-use super::driving::{Swept, Wrong, disk_of, shown};
+use super::driving::{Answer, Swept, Wrong, disk_of, shown};
 use super::history::Database;
 use super::playing::{Fault, KINDS, Kind, Played, Script, play};
 use crashdisk::{File, ModelDisk};
@@ -17,15 +17,15 @@ const STOPPED: u32 = 1001;
 const LAST: u32 = 1002;
 
 /// The files that a crash left; in order by a sum of their bytes.
-#[derive(Drop, PartialEq, Eq, PartialOrd, Ord)]
-struct Files {
+#[derive(Debug, Drop, PartialEq, Eq, PartialOrd, Ord)]
+pub struct Files {
     sum: u64,
     db: Vec<u8>,
     log: Vec<u8>,
 }
 
 impl Files {
-    fn new(alloc: Global, disk: &ModelDisk) -> Result<Files, Wrong> {
+    pub fn new(alloc: Global, disk: &ModelDisk) -> Result<Files, Wrong> {
         let mut db = Vec::new(alloc);
         let mut log = Vec::new(alloc);
         disk.present(File::Db, &mut db)?;
@@ -81,10 +81,11 @@ fn open_stopped<E: Swept>(
 ) -> Result<(ModelDisk, bool), Wrong> {
     let mut disk = disk_of(alloc, tears, &files.db, &files.log)?;
     disk.stop_after(calls);
-    Ok(match E::start(alloc, disk, STOPPED) {
-        Ok(engine) => (engine.give_back(), true),
-        Err((disk, _)) => (disk, false),
-    })
+    match E::start(alloc, disk, STOPPED) {
+        Ok(engine) => Ok((engine.give_back(), true)),
+        Err((disk, Answer::DEVICE)) => Ok((disk, false)),
+        Err((_, answer)) => Err(Wrong::Opened(answer)),
+    }
 }
 
 /// The opening of files is stopped after so many calls, then crashed by each choice, and made again: they show the same.

@@ -1,11 +1,12 @@
 //! Sweeps of the engine over a write-ahead log.
 
-use super::driving::{Answer, Step, Swept};
+use super::driving::{Answer, OverModel, Step, Swept, Wrong};
 use super::history::{Commit, Database};
+use super::lying::{ASKS_TOO_MUCH, CUTS_ALONE, FAILS_ALONE, Lying, SYNCS_NOTHING, TELLS_NOTHING};
 use super::pages::{numbered, page_of};
 use super::playing::Script;
 use super::sweeping::sweep;
-use crashdisk::ModelDisk;
+use crashdisk::{Disk, ModelDisk};
 use sqval::PageSize;
 use std::alloc::Global;
 use std::test::Fail;
@@ -26,7 +27,7 @@ fn checkpoint_outcome(answer: Result<Checkpointed, WalError>) -> Answer {
     }
 }
 
-fn commit_pages(wal: &mut Wal<ModelDisk>, commit: Commit) -> Answer {
+fn commit_pages<D: Disk>(wal: &mut Wal<D>, commit: Commit) -> Answer {
     let content = page_of(commit.byte);
     let all = numbered(&content);
     match all.get(..commit.count as usize) {
@@ -35,14 +36,16 @@ fn commit_pages(wal: &mut Wal<ModelDisk>, commit: Commit) -> Answer {
     }
 }
 
-impl Swept for Wal<ModelDisk> {
+impl<D: OverModel> Swept for Wal<D> {
     fn start(alloc: Global, disk: ModelDisk, number: u32) -> Result<Self, (ModelDisk, Answer)> {
         let Some(page_size) = PageSize::new(512) else {
             return Err((disk, Answer::UNKNOWN));
         };
-        match Wal::open(alloc, disk, page_size, (7, number)) {
+        match Wal::open(alloc, D::over(disk), page_size, (7, number)) {
             Ok(wal) => Ok(wal),
-            Err(Refused { error, disk }) => Err((disk, Answer::Refused(error.number()))),
+            Err(Refused { error, disk }) => {
+                Err((disk.into_model(), Answer::Refused(error.number())))
+            }
         }
     }
 
@@ -74,11 +77,11 @@ impl Swept for Wal<ModelDisk> {
     }
 
     fn lend(&mut self) -> &mut ModelDisk {
-        self.disk()
+        self.disk().model()
     }
 
     fn give_back(self) -> ModelDisk {
-        self.into_disk()
+        self.into_disk().into_model()
     }
 }
 
@@ -153,36 +156,50 @@ static RESTART: [Step; 7] = [
 /// An engine is given up before its last commit is synced, and another one opened.
 static GIVEN_UP: [Step; 5] = [Step::Open, BOTH_C, Step::Open, ONE_D, Step::Sync];
 
+/// A commit goes into the log that a checkpoint brought down.
+static BEHIND: [Step; 5] = [Step::Open, ONE_B, Step::Checkpoint, BOTH_C, Step::Sync];
+
 /// What another engine is asked after a failure.
 static AGAIN: [Step; 3] = [Step::Open, BOTH_E, Step::Sync];
 
 /// Each call of these steps is refused in each way; after a failure another engine goes on. Each opening after a crash is
 /// stopped.
-fn sweep_calls(
+fn sweep_calls<D: OverModel>(
     alloc: Global,
     tears: bool,
     base: [u8; 5],
-    (steps, again): (&[Step], &[Step]),
+    steps: &[Step],
     swept: &[usize],
-) -> Result<(), Fail> {
+) -> Result<(), Wrong> {
     let script = Script {
         tears,
         base: Database(base),
         steps,
-        again,
+        again: &AGAIN,
     };
-    sweep::<Wal<ModelDisk>>(alloc, &script, swept)?;
-    Ok(())
+    sweep::<Wal<D>>(alloc, &script, swept)
 }
 
 /// Over one page.
 fn sweep_alone(alloc: Global, tears: bool, swept: &[usize]) -> Result<(), Fail> {
-    sweep_calls(alloc, tears, *b"A\0\0\0\0", (&ALONE, &AGAIN), swept)
+    sweep_calls::<ModelDisk>(alloc, tears, *b"A\0\0\0\0", &ALONE, swept)?;
+    Ok(())
 }
 
 /// Over two pages.
 fn sweep_both(alloc: Global, tears: bool, steps: &[Step], swept: &[usize]) -> Result<(), Fail> {
-    sweep_calls(alloc, tears, *b"AA\0\0\0", (steps, &AGAIN), swept)
+    sweep_calls::<ModelDisk>(alloc, tears, *b"AA\0\0\0", steps, swept)?;
+    Ok(())
+}
+
+/// What the sweep of a step finds over two pages and a disk that lies.
+fn lie_found<const LIE: u8>(
+    alloc: Global,
+    tears: bool,
+    steps: &[Step],
+    swept: usize,
+) -> Result<(), Wrong> {
+    sweep_calls::<Lying<LIE>>(alloc, tears, *b"AA\0\0\0", steps, &[swept])
 }
 
 #[test]
@@ -238,4 +255,52 @@ fn given_up(rt: HostRuntime) -> Result<(), Fail> {
 #[test]
 fn given_up_torn(rt: HostRuntime) -> Result<(), Fail> {
     sweep_both(rt.alloc(), true, &GIVEN_UP, &[1, 2, 3, 4])
+}
+
+#[test]
+fn behind_a_checkpoint(rt: HostRuntime) -> Result<(), Fail> {
+    sweep_both(rt.alloc(), false, &BEHIND, &[3, 4])
+}
+
+#[test]
+fn behind_a_checkpoint_torn(rt: HostRuntime) -> Result<(), Fail> {
+    sweep_both(rt.alloc(), true, &BEHIND, &[3, 4])
+}
+
+// A log that is cut and whose header isn't zeroed may be left with a commit that isn't the last, over a newer database.
+#[test]
+fn a_log_that_is_cut_alone(rt: HostRuntime) {
+    for tears in [false, true] {
+        let found = lie_found::<CUTS_ALONE>(rt.alloc(), tears, &COMMITS, 3);
+        assert!(rt; matches!(&found, Err(Wrong::Again(_, _))), "{found:?}");
+    }
+}
+
+// The engine answers 15, and the disk was told to refuse nothing.
+#[test]
+fn a_refusal_without_a_cause(rt: HostRuntime) {
+    for tears in [false, true] {
+        let found = lie_found::<FAILS_ALONE>(rt.alloc(), tears, &COMMITS, 1);
+        assert_eq!(rt; found, Err(Wrong::Uncaused(ONE_B, Answer::DEVICE)));
+        let found = lie_found::<ASKS_TOO_MUCH>(rt.alloc(), tears, &COMMITS, 1);
+        assert_eq!(rt; found, Err(Wrong::Uncaused(ONE_B, Answer::DEVICE)));
+    }
+}
+
+// A call of the disk is refused, and the step is done.
+#[test]
+fn a_refusal_that_is_not_told(rt: HostRuntime) {
+    for tears in [false, true] {
+        let found = lie_found::<TELLS_NOTHING>(rt.alloc(), tears, &COMMITS, 2);
+        assert_eq!(rt; found, Err(Wrong::Uncaused(Step::Sync, Answer::Done)));
+    }
+}
+
+// A commit is lost that was synced.
+#[test]
+fn a_sync_of_nothing(rt: HostRuntime) {
+    for tears in [false, true] {
+        let found = lie_found::<SYNCS_NOTHING>(rt.alloc(), tears, &COMMITS, 2);
+        assert!(rt; matches!(&found, Err(Wrong::Shown(_))), "{found:?}");
+    }
 }
