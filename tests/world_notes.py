@@ -60,8 +60,7 @@ def a_super_journal_that_is_gone():
         line = line.replace("a.db", "a.db --super-journal=gone")
         out = CLEAN if line.startswith("check") else "no log\n" if "--log" in line else TEXT
         yield line, unchanged(line, 0, out)
-    for line in "recover --super-journal=gone a.db", "recover --super-journal gone a.db":
-        yield line, unchanged(line, 0, "nothing to recover\n")
+    yield "recover", unchanged("recover --super-journal=gone a.db", 0, "nothing to recover\n")
     fill(DB, WAL, SUPER)
     yield "a log beside it", wrong(run("recover --super-journal=gone a.db"), 0, "wal: front 3, 3 pages\n")
 
