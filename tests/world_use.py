@@ -313,10 +313,10 @@ def a_file_that_changes():
         processes.make(base, rows=2000)
         for name, change in CHANGES.items():
             fill(read(base))
-            yield name, beside_change("check a.db", ("read a.db", 60), change, True)
+            yield name, beside_change("check a.db", ("read a.db", 12), change, True)
         fill(read(base))
         for name, change in ("nothing", int), ("a reader", lambda: read("a.db")):
-            yield name, beside_change("check a.db", ("read a.db", 60), change, False)
+            yield name, beside_change("check a.db", ("read a.db", 12), change, False)
 
 
 @test
