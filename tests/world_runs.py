@@ -79,7 +79,8 @@ def snapshot():
         for path in (os.path.join(folder, name) for name in folders + files):
             now = os.lstat(path)
             is_file = stat.S_ISREG(now.st_mode)
-            found[path] = now.st_mode, now.st_ino, now.st_size, now.st_mtime_ns, is_file and read(path)
+            content = read(path) if is_file and os.access(path, os.R_OK) else None
+            found[path] = now.st_mode, now.st_ino, now.st_size, now.st_mtime_ns, content
     return found
 
 
