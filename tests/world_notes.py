@@ -1,0 +1,308 @@
+"""Notes, the options that decide, and what can't be written."""
+import contextlib, os, re, shutil, tempfile
+import world_processes as processes
+from common import top
+from samples import JOURNAL_MAGIC, PAGE, first_page, head_of, journal_of, log_of, put, words
+from world_files import fifo, folder, link
+from world_runs import (
+    ANY, CLEAN, DB, EACH_LINE, FAILED, JOURNAL, LOOKING, SUPER, TEXT, WAL, Noted, Stopped, copied, fill, nobody, read,
+    refused_as_locked, run, test, unchanged, write, wrong,
+)
+
+
+SUPER_NOTE = "sqrescue: note: the journal names a super-journal, which decides whether it counts\n"
+
+
+def either(first, second):
+    """Two texts, in either order."""
+    first, second = re.escape(first), re.escape(second)
+    return re.compile(f"{first}{second}|{second}{first}")
+
+
+@test
+def a_super_journal():
+    """Whether such a journal counts isn't known: `check` and `show` take it as one that does, and note it; `recover`
+    refuses."""
+    for line in LOOKING:
+        fill(DB, None, put(SUPER, len(SUPER) - 1, [0]))
+        status, out, err = run(line)
+        fill(DB, None, SUPER)
+        yield line, unchanged(line, status, out, either(SUPER_NOTE, err))
+    fill(DB, None, SUPER)
+    refusal = "sqrescue: super-journal\n"
+    yield "recover", unchanged("recover a.db", 3, "", re.compile(f"({SUPER_NOTE})?{refusal}"))
+    fill(DB, WAL, SUPER)
+    yield "two logs", unchanged("recover a.db", 3, "", re.compile(f"({SUPER_NOTE})?sqrescue: two logs\n"))
+
+
+@test
+def a_super_journal_that_is_there():
+    """The journal counts."""
+    for line in LOOKING:
+        fill(DB, None, put(SUPER, len(SUPER) - 1, [0]))
+        alone = run(line)
+        fill(DB, None, SUPER)
+        line = re.sub("^(show|check)", r"\1 --super-journal=present", line)
+        yield line, unchanged(line, *alone)
+    fill(DB, None, SUPER)
+    yield "recover", wrong(run("recover --super-journal=present a.db"), 0, "journal: 1 records, 1 pages\n")
+    left = read("a.db"), read("a.db-journal")[:28]
+    yield "what is left", None if left == (b"j" * PAGE, bytes(28)) else f"{left}"
+    fill(DB, WAL, SUPER)
+    yield "two logs", unchanged("recover --super-journal=present a.db", 3, "", "sqrescue: two logs\n")
+
+
+@test
+def a_super_journal_that_is_gone():
+    """The journal doesn't count."""
+    fill(DB, None, SUPER)
+    for line in LOOKING:
+        line = line.replace("a.db", "a.db --super-journal=gone")
+        out = CLEAN if line.startswith("check") else "no log\n" if "--log" in line else TEXT
+        yield line, unchanged(line, 0, out)
+    yield "recover", unchanged("recover --super-journal=gone a.db", 0, "nothing to recover\n")
+    fill(DB, WAL, SUPER)
+    yield "a log beside it", wrong(run("recover --super-journal=gone a.db"), 0, "wal: front 3, 3 pages\n")
+
+
+@test
+def a_super_journal_of_another_word():
+    """The option takes two words, stands before `--`, and says nothing of other logs."""
+    fill(DB, None, SUPER)
+    for line in "recover --super-journal=maybe a.db", "check --super-journal a.db", "recover --super-journal= a.db":
+        yield line, unchanged(line, 2, "", TEXT)
+    yield "behind --", unchanged("recover -- --super-journal=gone", 3, "", FAILED)
+    for files in (DB, None, JOURNAL), (DB, WAL), (DB,):
+        for line in EACH_LINE:
+            fill(*files)
+            right = run(line)
+            for answer in "present", "gone":
+                fill(*files)
+                yield f"{answer}, {line}", wrong(run(f"{line} --super-journal={answer}"), *right)
+
+
+@test
+def a_transaction_over_two_files():
+    """sqlite3 is stopped before it unlinks the super-journal: while it is there both files are rolled back, and once it
+    is gone the transaction is committed."""
+    fill()
+    for name in "a.db", "b.db":
+        processes.make(name)
+    sql = "ATTACH 'b.db' AS two; BEGIN; UPDATE main.a SET n = 7; UPDATE two.a SET n = 7; COMMIT;"
+    stopped = Stopped(["sqlite3", "-batch", "a.db", sql], "unlink a.db-mj")
+    yield "in the middle", refused_as_locked() if stopped.is_stopped else "never stopped"
+    stopped.child.kill()
+    stopped.child.communicate()
+    supers = [name for name in os.listdir(".") if "-mj" in name]
+    yield "a super-journal", None if len(supers) == 1 else f"{os.listdir('.')}"
+    for answer in "present", "gone":
+        if answer == "gone":
+            os.remove(supers[0])
+        for name in "a.db", "b.db":
+            with tempfile.TemporaryDirectory() as folder:
+                ours = copied(name, os.path.join(folder, "a.db"))
+                out = re.compile("journal: [1-9].*\n") if answer == "present" else "nothing to recover\n"
+                yield f"{name}, {answer}", wrong(run(f"recover --super-journal={answer} {ours}"), 0, out)
+                if answer == "gone":
+                    os.remove(ours + "-journal")
+                is_right = processes.rows_of(ours) == wanted_rows_beside(name)
+                yield f"{name}, {answer}, what is left", None if is_right else "other rows"
+
+
+def wanted_rows_beside(name):
+    """The rows that sqlite3 finds in a copy of the folder."""
+    with tempfile.TemporaryDirectory() as folder:
+        shutil.copytree(".", folder, dirs_exist_ok=True)
+        journal = os.path.join(folder, name + "-journal")
+        here, there = os.getcwd().encode(), folder.encode()
+        if os.path.exists(journal):
+            write(journal, renamed(read(journal), here, there))
+        return processes.rows_of(os.path.join(folder, name))
+
+
+def renamed(journal, here, there):
+    """A journal whose super-journal's name begins with another folder."""
+    length = int.from_bytes(journal[-16:-12], "big")
+    name = journal[-16 - length:-16].replace(here, there)
+    return journal[:-16 - length] + name + words(len(name), sum(name)) + JOURNAL_MAGIC
+
+
+@test
+def a_log_named_directly():
+    """FILE that begins as a log does, and whose name ends as a log's."""
+    text = "sqrescue: note: this is a log; name its database\n"
+    little = put(WAL, 3, [0x82])
+    rows = [("a.db-wal", WAL, True), ("a.db-journal", JOURNAL, True), ("-wal", WAL, True), ("x-wal", JOURNAL, True)]
+    rows += [("b.db-wal", little, True), ("y-wal", WAL[:4], True), ("a.db-journal2", JOURNAL, False)]
+    rows += [("a.wal", WAL, False), ("z-wal", DB, False), ("q-journal", b"", False), ("r-wal", WAL[:3], False)]
+    for name, content, is_noted in rows:
+        fill()
+        write("plain", content)
+        write(name, content)
+        for line in EACH_LINE:
+            right = run(line.replace("a.db", "plain"))
+            err = either(text, right.err) if is_noted else right.err
+            yield f"{name}, {line}", unchanged(f"{line.replace(' a.db', '')} -- {name}", right.status, right.out, err)
+
+
+EMPTY_BESIDE = {"check a.db": (1, "page 1: fault 1 Magic\n"), "show a.db": (3, "")}
+
+
+@test
+def an_empty_file_beside_a_log():
+    """SQLite deletes such a log, and leaves FILE empty; the answer stays."""
+    for name, files in ("WAL", (WAL,)), ("journal", (None, JOURNAL)):
+        for line in EACH_LINE:
+            fill(b"", *files)
+            refusal = "not a database" if line == "show a.db" else ""
+            err = Noted("empty|0 bytes|no bytes", refusal)
+            yield f"{name}, {line}", wrong(run(line), *EMPTY_BESIDE.get(line, (0, TEXT)), err)
+        fill(b"", *files)
+        out = "wal: front 3, 3 pages\n" if name == "WAL" else "journal: 1 records, 1 pages\n"
+        yield f"{name}, what is done", wrong(run("recover a.db"), 0, out, TEXT)
+        fill(DB, *files)
+        yield f"{name}, a file that isn't empty", wrong(run("recover a.db"), 0, out)
+    fill(b"")
+    yield "no log", unchanged("recover a.db", 0, "nothing to recover\n")
+
+
+NOT_HOT = {"check a.db": CLEAN, "show a.db --log": "no log\n", "recover a.db": "nothing to recover\n"}
+
+
+@test
+def a_header_that_sqlite_takes():
+    """A journal that sqlite3 rolls back, and that isn't hot here."""
+    taken = [(32, PAGE), (64, PAGE), (128, PAGE), (256, PAGE), (512, 0), (4096, 0), (32, 0)]
+    untaken = [(16, PAGE), (48, PAGE), (0, PAGE), (512, 100), (512, 1000), (32, 256), (131072, PAGE)]
+    for sector, size in taken + untaken:
+        fill(DB, None, put(journal_of(1, (1, b"j")), 20, words(sector, size)) + bytes(8192))
+        for line in EACH_LINE:
+            out = NOT_HOT.get(line, TEXT)
+            err = Noted("journal") if (sector, size) in taken else ""
+            yield f"sector {sector}, pages of {size}, {line}", unchanged(line, 0, out, err)
+
+
+# ---- what -v notes
+
+
+BEHIND = log_of((2, 0, b"x"), (1, 3, b"y"), (3, 0, b"z"), (2, 0, b"v"), (2, 0, b"w"), (1, 1, b"u"))
+COLD = put(JOURNAL, 0, bytes(28))
+NO_FILE = r"a\.db\b.*(No such file|not found|os error 2|doesn't exist|no file)"
+VERBOSE = [  # files, line, status, standard output, what notes say in any order, the refusal
+    ((DB,), "check", 0, CLEAN, [r"a\.db\b.*\b512\b"], ""),
+    ((DB, WAL), "show --log", 0, TEXT, [r"a\.db\b.*\b512\b", rf"a\.db-wal\b.*\b{len(WAL)}\b", "count"], ""),
+    ((DB, WAL, COLD), "show --log", 0, TEXT, ["(wal|log).*count", "journal.*(hot|count)"], ""),
+    ((DB, None, JOURNAL), "show --log", 0, TEXT, [rf"a\.db-journal\b.*\b{len(JOURNAL)}\b", "journal.*count"], ""),
+    ((DB, b""), "check", 0, CLEAN, [r"a\.db-wal\b.*(empty|\b0 bytes|count)|log.*count"], ""),
+    ((DB, WAL, JOURNAL), "recover", 3, "", [r"a\.db-wal", r"a\.db-journal"], "two logs"),
+    ((put(DB, 28, words(2_097_153)),), "check", 3, "", ["--large|1,?073,?741,?824"], "too large"),
+    ((None,), "check", 3, "", [NO_FILE], "file failed"),
+    ((None, WAL), "recover", 3, "", [NO_FILE, "empty"], "file failed"),
+    ((first_page(2),), "show", 0, TEXT, ["shorter"], ""),
+    ((first_page(2),), "check", 1, TEXT, ["shorter"], ""),
+]
+
+
+@test
+def verbose():
+    """Notes are lines of their own on standard error, and change nothing else."""
+    for number, (files, line, status, out, patterns, refusal) in enumerate(VERBOSE, 1):
+        fill(*files)
+        alone = run(f"{line} a.db")
+        yield f"{number}, without", wrong(alone, status, out, refusal and f"sqrescue: {refusal}\n")
+        first, second = (run(f"{line} a.db {option}") for option in ("-v", "--verbose"))
+        yield f"{number}, both words", None if first == second else f"{first}, {second}"
+        for pattern in patterns:
+            err = Noted(pattern, refusal)
+            yield f"{number}, {line}, {pattern}", wrong(first, status, alone.out, err)
+
+
+@test
+def verbose_of_causes():
+    """What is no regular file, a link as a log, and a file that may not be opened, by their paths."""
+    rows = [("a.db-wal", link("other"), "link"), ("a.db-wal", folder, "regular file|folder|directory")]
+    rows += [("a.db-journal", fifo, "regular file|FIFO|pipe"), ("b.db", link("b.db"), "[Ll]oop|[Ll]evels|os error 40")]
+    for name, make, cause in rows:
+        fill(DB)
+        make(name)
+        file = "b.db" if name == "b.db" else "a.db"
+        pattern = rf"{re.escape(name)}\b.*({cause})"
+        yield f"{name}, {cause}", unchanged(f"check -v {file}", 3, "", Noted(pattern, "file failed"))
+    fill(DB)
+    os.link("a.db", "a.db-wal")
+    yield "FILE by another name", unchanged("recover -v a.db", 3, "", Noted(r"a\.db-wal", "file failed"))
+    with tempfile.TemporaryDirectory() as place, contextlib.chdir(place):
+        os.chmod(place, 0o755)
+        fill(DB, WAL)
+        os.chmod("a.db-wal", 0o000)
+        pattern = r"a\.db-wal\b.*([Pp]ermission|denied|os error 13)"
+        yield "no permission", nobody("check -v a.db", 3, "", Noted(pattern, "file failed"))
+
+
+@test
+def verbose_of_what_is_dropped():
+    """What `recover` leaves behind the front."""
+    size = PAGE + 24
+    ends = [32 + frames * size for frames in range(7)]
+    rows = [
+        (BEHIND[:ends[5]], f"3 frames, {3 * size} bytes behind the front are dropped: stop End at 6"),
+        (put(BEHIND, ends[4] + 30, [1]), f"4 frames, {4 * size} bytes behind the front are dropped: stop Sum at 5"),
+        (BEHIND[:ends[4] + 100], f"2 frames, {2 * size + 100} bytes behind the front are dropped: stop Cut at 5"),
+    ]
+    for log, told in rows:
+        fill(DB, log)
+        err = re.compile(f"(sqrescue: note: .*\n)*sqrescue: note: {told}\n(sqrescue: note: .*\n)*")
+        yield told, wrong(run("recover -v a.db"), 0, "wal: front 2, 3 pages\n", err)
+    fill(DB, BEHIND[:ends[2]])
+    err = re.compile("(sqrescue: note: (?!.*dropped).*\n)+")
+    yield "nothing", wrong(run("recover -v a.db"), 0, "wal: front 2, 3 pages\n", err)
+
+
+@test
+def verbose_in_use():
+    """The refusal's next step is told."""
+    fill(DB, WAL)
+    with processes.locking("a.db", "write", 0, 0):
+        yield "in use", unchanged("recover -v a.db", 3, "", Noted("--force|process", "in use"))
+        yield "behind --", unchanged("recover -- -v", 3, "", FAILED)
+
+
+# ---- the line, and what can't be written
+
+
+@test
+def version():
+    yield "--version", wrong(run("--version"), 0, re.compile(r"sqrescue \d+\.\d+\.\d+\n"))
+
+
+@test
+def helps():
+    """The help and the manual page say what the user has to see to."""
+    out = run("recover --help").out
+    for option in "--force", "--super-journal", "--verbose":
+        yield f"help: {option}", None if option in out else f"{out!r}"
+    for command in "check", "show":
+        out = run(f"{command} --help").out
+        for option in "--super-journal", "--verbose":
+            yield f"help of {command}: {option}", None if option in out else f"{out!r}"
+    page = read(os.path.join(top, "docs", "sqrescue.1")).decode()
+    for word in "Fl -force", "in use", "file changed", "Fl -super-journal", "Fl -version", "Fl -verbose":
+        yield f"manual page: {word}", None if word in page else "it isn't named"
+
+
+@test
+def lines_that_cannot_be_written():
+    """On either stream, with notes and without."""
+    fill(DB, b"")
+    with open("/dev/full", "wb") as full:
+        for line in [*EACH_LINE, "--version", "--help", "recover --help"]:
+            yield line, wrong(run(line, stdout=full), 3)
+        for line in [f"{line} {option}" for line in EACH_LINE for option in ("-v", "--verbose")]:
+            yield f"{line}, notes", wrong(run(line, stderr=full), 3, ANY)
+            yield f"{line}, lines", wrong(run(line, stdout=full), 3, "", TEXT)
+        fill(DB, None, SUPER)
+        for line in EACH_LINE:
+            yield f"{line}, a note", wrong(run(line, stderr=full), 3, ANY)
+        yield "words", wrong(run("recover", stderr=full), 3)
+
+
