@@ -12,7 +12,8 @@ ghost use Rattle.crashdisk.specs.declared.file.File.TheVariants.{Log};
 ghost use Rattle.crashdisk.specs.declared.error.DiskError.{DiskError};
 ghost use Rattle.crashdisk.specs.Keeps.{SameFiles, IsLogDown, Suits};
 ghost use Rattle.walcore.specs.Alone.{AreWhole, ShowsAlone};
-ghost use Rattle.walcore.specs.Fits.{Past, AreFiles, FitsDisk, FitsAlone, FitsCore, none_open, beginning, beginning_beside};
+ghost use Rattle.walcore.specs.Fits.{Past, AreFiles, FitsDisk, FitsAlone, FitsCore, none_open};
+ghost use Rattle.walcore.specs.Fits.{beginning, beginning_beside};
 ghost use Rattle.walcore.specs.Laws.{IsSane, Keeps, KeepsShown, IsExpected, is_opening};
 ghost use Rattle.walcore.specs.Machine.{State, Act, Reads, Step, at, last, gone, start};
 ghost use Rattle.walcore.specs.Made.{AreMade, NoChance};
@@ -21,8 +22,8 @@ ghost use Rattle.walcore.specs.Plans.{IsFit};
 ghost use Rattle.walcore.specs.Standing.{ShowsWhole};
 ghost use Rattle.walcore.specs.declared.state.Core.{Core};
 
-/// A disk with a base in its file and an empty log, both down, fits where a world begins, whatever was called of it before;
-/// so does one that is new.
+/// A disk with a base in its file and an empty log, both down, fits where a world begins, whatever was called of it
+/// before; so does one that is new.
 pub fn a_base_fits()
     ensures down { (size : ℕ) (base : Database) (bytes : List ℕ) (s : DiskState) → Suits size s → IsHeld size base
         → IsJust size base bytes → IsSettled s.db bytes → IsLogDown s [] → FitsAlone (beginning size base) s }
@@ -31,8 +32,8 @@ pub fn a_base_fits()
         → (torn ≡ true → sector ≤ size) → IsHeld size base → IsJust size base bytes → IsNew sector torn bytes s → FitsAlone (beginning size base) s }
 {}
 
-/// Two files that are down fit where a world begins with the database that they show together, whatever the log holds (own).
-/// Files that an opening may take show one, and what their log holds may count as made, so that an opening finds
+/// Two files that are down fit where a world begins with the database that they show together, whatever the log holds
+/// (own). Files that an opening may take show one, and what their log holds may count as made, so that an opening finds
 /// nothing that passes by chance.
 pub fn settled_files_fit()
     ensures fits { (size : ℕ) (base : Database) (logs : List (List ℕ)) (files : Files) (s : DiskState) → Suits size s
@@ -44,11 +45,12 @@ pub fn settled_files_fit()
         → (logs : List (List ℕ)) × AreMade size logs × NoChance logs log }
 {}
 
-/// What fits an engine, or a disk that no engine holds, fits it after calls that changed no byte of the disk, and whatever was
-/// set of it, as a borrower of it may do (own).
+/// What fits an engine, or a disk that no engine holds, fits it after calls that changed no byte of the disk, and
+/// whatever was set of it, as a borrower of it may do (own).
 pub fn a_look_fits()
     ensures alone { (past : Past) (old new : DiskState) → SameFiles old new → FitsAlone past old → FitsAlone past new }
-    ensures core { (past : Past) (core : Core) (old new : DiskState) → SameFiles old new → FitsCore past core old → FitsCore past core new }
+    ensures core { (past : Past) (core : Core) (old new : DiskState) → SameFiles old new → FitsCore past core old
+        → FitsCore past core new }
 {}
 
 /// What fits a disk that no engine holds fits it after a crash, once every reader is forgotten; where the disk tears, if no
