@@ -22,7 +22,7 @@ use Rattle.rollcore.specs.declared.state.Core.{Core}
 use Rattle.sqworld.specs.Run.{numbered, answer_of, files_of}
 use Rattle.sqworld.specs.Engines.{SaysLeft, IsLeftBy, chosen, IsAlone}
 use Rattle.sqworld.specs.JournalRun.{act_of, is_opening, is_crash}
-use Rattle.sqworld.specs.JournalEngines.{IsSetTo, IsCalm, Happens, OnlyCalls, ServesTo, Serves, RollServes, FitsEngine, model_of, disk_of, EngineServes, closed_answer, Answers}
+use Rattle.sqworld.specs.JournalEngines.{IsSetTo, IsCalm, Happens, Rests, OnlyCalls, ServesTo, Serves, RollServes, FitsEngine, model_of, disk_of, EngineServes, closed_answer, Answers}
 use Rattle.sqworld.specs.declared.engine.Given.{Given}
 use Rattle.sqworld.specs.declared.journal_engine.JournalEngine.{JournalEngine}
 use Rattle.sqworld.specs.declared.journal_engine.JournalEngine.TheVariants.{Closed, Open}
@@ -58,6 +58,24 @@ stepped page_size old new act told answer same only h past size fits may = let s
   calls = only past.page_size (state_of old.disk).sector steps.same.calls;
 }
 
+-- ---- Rest.
+
+opening_rests : (old new : JournalEngine) → Rests Opening old new
+opening_rests (Closed disk) new = λ o k. absurd (cc o)
+opening_rests (Open roll) new = tt
+
+crash_rests : (choice : Choice) (old new : JournalEngine) → Rests (Crash choice) old new
+crash_rests choice (Closed disk) new = λ o k. absurd (cc k)
+crash_rests choice (Open roll) new = tt
+
+pub closed_rests : {E : Type 0} (r : Result Reply E) (event : JEvent) (old new : ModelDisk) → OnOk r (IsCalm event old new) → OnOk r (Rests event (Closed old) (Closed new))
+closed_rests (Err e) event old new calm = tt
+closed_rests (Ok reply) event old new calm = λ o k. calm
+
+pub open_rests : {E : Type 0} (r : Result Reply E) (event : JEvent) (old : Roll ModelDisk) (new : JournalEngine) → OnOk r (Rests event (Open old) new)
+open_rests (Err e) event old new = tt
+open_rests (Ok reply) event old new = tt
+
 -- ---- Openings.
 
 pub opened : (past : State) (found : Files) (s : DiskState) (roll : Roll ModelDisk) → StepsTo past (Opens found) Done roll.core s (state_of roll.disk)
@@ -92,6 +110,7 @@ open_answers page_size tears old new reply found s same files serves = record {
   present = subst (λ t. AreFiles t (files_of found)) same (are_files s (files_of found) files);
   crashed = no_left tears;
   happens = tt;
+  rests = opening_rests old new;
   serves = λ torn. subst (λ t. Serves page_size (λ past. FitsEngine past old) (λ past. FitsEngine past new) t (disk_of new) (Opens (files_of found)) (answer_of reply)) same
       (λ past size fits may. serves past (files_of found) (are_files s (files_of found) files) size (subst (λ t. FitsDisk past t) (sym same) (engine_disk past old fits)));
 }
@@ -119,6 +138,7 @@ crash_answers page_size tears choice old disk crashed s same left cleared = reco
   present = tt;
   crashed = left.some ∙ and_is tears true refl;
   happens = (subst (λ t. IsLeftBy tears choice crashed t (state_of disk)) same left, cleared);
+  rests = crash_rests choice old (Closed disk);
   serves = λ torn past size fits may.
       let e : s.tears ≡ tears = ap (λ (t : DiskState). t.tears) same ∙ torn in
       let fit : FitsDisk past s = subst (λ t. FitsDisk past t) (sym same) (engine_disk past old fits) in
@@ -263,17 +283,18 @@ no_crashed false event k = refl
 
 pub call_answers : {E : Type 0} (r : Result Reply E) (given : Result Given E) (page_size : ℕ) (tears : Bool) (event : JEvent) (old new : JournalEngine) → is_opening event ≡ false → is_crash event ≡ false → IsAlone r given
     → IfOk r (λ reply. is_opening event ≡ false → is_crash event ≡ false → EngineServes page_size old new (act_of event None None) (answer_of reply))
-    → OnOk r (IsSetTo event (model_of old) (model_of new))
+    → OnOk r (IsSetTo event (model_of old) (model_of new)) → OnOk r (Rests event old new)
     → IfOk given (λ g. Answers page_size tears event old g new)
-call_answers (Err e) (Err f) page_size tears event old new o k alone h set = tt
-call_answers (Err e) (Ok g) page_size tears event old new o k alone h set = absurd alone
-call_answers (Ok reply) (Err f) page_size tears event old new o k alone h set = absurd alone
-call_answers (Ok reply) (Ok g) page_size tears event old new o k alone h set =
+call_answers (Err e) (Err f) page_size tears event old new o k alone h set rests = tt
+call_answers (Err e) (Ok g) page_size tears event old new o k alone h set rests = absurd alone
+call_answers (Ok reply) (Err f) page_size tears event old new o k alone h set rests = absurd alone
+call_answers (Ok reply) (Ok g) page_size tears event old new o k alone h set rests =
     subst (λ x. Answers page_size tears event old x new) (sym alone) (record {
       found = sym o;
       present = tt;
       crashed = no_crashed tears event k;
       happens = set_happens tears event (model_of old) (model_of new) k set;
+      rests = rests;
       serves = λ torn. h o k;
     })
 

@@ -23,7 +23,7 @@ use Rattle.walcore.specs.declared.reader.Reader.{Reader}
 use Rattle.walcore.specs.declared.wal.Wal.{Wal}
 use Rattle.sqworld.specs.Run.{numbered, act_of, answer_of, files_of, is_opening, is_crash}
 use Rattle.sqworld.specs.Sessions.{FitsSession, OnlyCalls, Serves, ServesTo, SessionServes}
-use Rattle.sqworld.specs.Engines.{SaysLeft, IsLeftBy, chosen, IsSetTo, IsCalm, Happens, FitsEngine, model_of, disk_of, begun_of, EngineServes, closed_answer, Answers, IsAlone}
+use Rattle.sqworld.specs.Engines.{SaysLeft, IsLeftBy, chosen, IsSetTo, IsCalm, Happens, Rests, FitsEngine, model_of, disk_of, begun_of, EngineServes, closed_answer, Answers, IsAlone}
 use Rattle.sqworld.specs.declared.engine.Engine.{Engine}
 use Rattle.sqworld.specs.declared.engine.Engine.TheVariants.{Closed, Open}
 use Rattle.sqworld.specs.declared.engine.Given.{Given}
@@ -71,6 +71,24 @@ engine_tokens past (Open session) fits = ap length fits.tokens ∙ tokens_long s
     tokens_long : (first : ℕ) (slots : List (Option Reader)) → length (replicate first None ++ slots) ≡ first + length slots
     tokens_long zero slots = omega arith
     tokens_long (suc first) slots = ap suc (tokens_long first slots) ∙ omega arith
+
+-- ---- Rest.
+
+opening_rests : (event : Event) (old new : Engine) → is_opening event ≡ true → Rests event old new
+opening_rests event (Closed disk begun) new is = λ o k. absurd (cc (is, o))
+opening_rests event (Open session) new is = tt
+
+crash_rests : (event : Event) (old new : Engine) → is_crash event ≡ true → Rests event old new
+crash_rests event (Closed disk begun) new is = λ o k. absurd (cc (is, k))
+crash_rests event (Open session) new is = tt
+
+pub closed_rests : {E : Type 0} (r : Result Reply E) (event : Event) (old new : ModelDisk) (begun : ℕ) → OnOk r (IsCalm event old new) → OnOk r (Rests event (Closed old begun) (Closed new begun))
+closed_rests (Err e) event old new begun calm = tt
+closed_rests (Ok reply) event old new begun calm = λ o k. calm
+
+pub open_rests : {E : Type 0} (r : Result Reply E) (event : Event) (old : Session) (new : Engine) → OnOk r (Rests event (Open old) new)
+open_rests (Err e) event old new = tt
+open_rests (Ok reply) event old new = tt
 
 -- ---- Openings.
 
@@ -125,6 +143,7 @@ open_answers page_size tears event old new salts reply found s is same files ser
   present = subst (λ t. AreFiles t (files_of found)) same files;
   crashed = none_left tears ∙ ap (λ e. tears && is_crash e) (sym is);
   happens = subst (λ e. Happens tears e None (model_of old) (model_of new)) (sym is) tt;
+  rests = opening_rests event old new (ap is_opening is);
   serves = λ torn. subst (λ e. EngineServes page_size old new (act_of e (Some found) None) (answer_of reply)) (sym is)
       (subst (λ t. Serves page_size (λ past. FitsEngine past old) (λ past. FitsEngine past new) t (disk_of new) (Opens salts (files_of found)) (answer_of reply)) same
       (λ past size fits may. serves past (files_of found) files size (subst (λ t. FitsAlone past t) (sym same) (engine_disk past old fits)) (engine_tokens past old fits) may));
@@ -184,6 +203,7 @@ crash_answers page_size tears event choice old disk begun crashed s named same c
   present = tt;
   crashed = left.some ∙ and_is tears (is_crash event) is;
   happens = subst (λ e. Happens tears e crashed (model_of old) disk) (sym named) (subst (λ t. IsLeftBy tears choice crashed t (state_of disk)) same left, cleared);
+  rests = crash_rests event old (Closed disk begun) is;
   serves = λ torn past size fits may.
       let e : s.tears ≡ tears = ap (λ (t : DiskState). t.tears) same ∙ torn in
       let fit : FitsAlone past s = subst (λ t. FitsAlone past t) (sym same) (engine_disk past old fits) in
@@ -396,17 +416,18 @@ no_crash false event k = refl
 
 pub call_answers : {E : Type 0} (r : Result Reply E) (given : Result Given E) (page_size : ℕ) (tears : Bool) (event : Event) (old new : Engine) → is_opening event ≡ false → is_crash event ≡ false → IsAlone r given
     → IfOk r (λ reply. is_opening event ≡ false → is_crash event ≡ false → EngineServes page_size old new (act_of event None None) (answer_of reply))
-    → OnOk r (IsSetTo event (model_of old) (model_of new))
+    → OnOk r (IsSetTo event (model_of old) (model_of new)) → OnOk r (Rests event old new)
     → IfOk given (λ g. Answers page_size tears event old g new)
-call_answers (Err e) (Err f) page_size tears event old new o k alone h set = tt
-call_answers (Err e) (Ok g) page_size tears event old new o k alone h set = absurd alone
-call_answers (Ok reply) (Err f) page_size tears event old new o k alone h set = absurd alone
-call_answers (Ok reply) (Ok g) page_size tears event old new o k alone h set =
+call_answers (Err e) (Err f) page_size tears event old new o k alone h set rests = tt
+call_answers (Err e) (Ok g) page_size tears event old new o k alone h set rests = absurd alone
+call_answers (Ok reply) (Err f) page_size tears event old new o k alone h set rests = absurd alone
+call_answers (Ok reply) (Ok g) page_size tears event old new o k alone h set rests =
     subst (λ x. Answers page_size tears event old x new) (sym alone) (record {
       found = sym o;
       present = tt;
       crashed = no_crash tears event k;
       happens = set_happens tears event (model_of old) (model_of new) k set;
+      rests = rests;
       serves = λ torn. h o k;
     })
 

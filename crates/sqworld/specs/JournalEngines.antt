@@ -100,11 +100,17 @@ closed_answer (StopAtSync n) = Done
 closed_answer (Fail call part) = Done
 closed_answer event = Refused 1
 
+-- without an engine nothing is done to the disk but what is set, unless the event is an opening or a crash
+abbrev pub Rests : JEvent → (old new : JournalEngine) → Type 0
+Rests event (Closed disk) new = is_opening event ≡ false → is_crash event ≡ false → IsCalm event disk (model_of new)
+Rests event (Open roll) new = Unit {0}
+
 -- What was found is given at an opening, and that was there; what was left at a crash of a disk that tears; and the event
--- happens, and is served.
+-- happens, rests without an engine, and is served.
 pub record Answers (page_size : ℕ) (tears : Bool) (event : JEvent) (old : JournalEngine) (given : Given) (new : JournalEngine) : Type 0 where
   pub found : is_some given.found ≡ is_opening event
   pub present : IfSome given.found (λ found. AreFiles (disk_of old) (files_of found))
   pub crashed : is_some given.crashed ≡ (tears && is_crash event)
   pub happens : Happens tears event given.crashed (model_of old) (model_of new)
+  pub rests : Rests event old new
   pub serves : (disk_of old).tears ≡ tears → EngineServes page_size old new (act_of event given.found given.crashed) (answer_of given.reply)

@@ -9,7 +9,7 @@ ghost use Rattle.walcore.specs.Making.{Permits};
 ghost use Rattle.walcore.specs.Fits.{Past, FitsAlone, AreFiles};
 ghost use Rattle.sqworld.specs.Run.{act_of, answer_of, files_of, is_opening, is_crash, numbered};
 ghost use Rattle.sqworld.specs.Sessions.{ServesTo, SessionServes, begun_by};
-ghost use Rattle.sqworld.specs.Engines.{IsLeftBy, FailsAt, IsSetTo, IsCalm, IsAlone, closed_answer, FitsEngine, model_of, disk_of, begun_of, EngineServes, Answers};
+ghost use Rattle.sqworld.specs.Engines.{IsLeftBy, FailsAt, IsSetTo, IsCalm, Rests, IsAlone, closed_answer, FitsEngine, model_of, disk_of, begun_of, EngineServes, Answers};
 
 use crate::event::Event;
 use crate::reply::{Crashed, Found, Reply};
@@ -290,6 +290,7 @@ impl Engine {
         requires { begun_of self < 2 ^ 63 }
         ensures serves { IfOk result.1 (λ reply. is_opening event.now ≡ false → is_crash event.now ≡ false → EngineServes page_size self result.0 (act_of event.now None None) (answer_of reply)) }
         ensures set { OnOk result.1 (IsSetTo event.now (model_of self) (model_of result.0)) }
+        ensures rests { OnOk result.1 (Rests event.now self result.0) }
         ensures begun { begun_of result.0 ≤ begun_of self + 1 }
     {
         match self {

@@ -6,7 +6,7 @@ ghost use Rattle.rollcore.specs.Machine.{State, Opens, Commits, Reads};
 ghost use Rattle.rollcore.specs.Fits.{FitsDisk, AreFiles, answered};
 ghost use Rattle.sqworld.specs.Run.{answer_of, numbered};
 ghost use Rattle.sqworld.specs.JournalRun.{act_of, is_opening, is_crash};
-ghost use Rattle.sqworld.specs.JournalEngines.{IsSetTo, IsCalm, ServesTo, RollServes, closed_answer, FitsEngine, model_of, disk_of, EngineServes, Answers};
+ghost use Rattle.sqworld.specs.JournalEngines.{IsSetTo, IsCalm, Rests, ServesTo, RollServes, closed_answer, FitsEngine, model_of, disk_of, EngineServes, Answers};
 
 use crate::engine::{Given, alone, crash_disk, fail_disk, find};
 use crate::journal_event::JEvent;
@@ -219,6 +219,7 @@ impl JournalEngine {
     ) -> (JournalEngine, Result<Reply, AllocError>)
         ensures serves { IfOk result.1 (λ reply. is_opening event.now ≡ false → is_crash event.now ≡ false → EngineServes page_size self result.0 (act_of event.now None None) (answer_of reply)) }
         ensures set { OnOk result.1 (IsSetTo event.now (model_of self) (model_of result.0)) }
+        ensures rests { OnOk result.1 (Rests event.now self result.0) }
     {
         match self {
             JournalEngine::Closed(mut disk) => {

@@ -1,9 +1,9 @@
-use Rattle.std.proofs.Common.{subst, sym, false, IfOk, None, ◌≡◌}
+use Rattle.std.proofs.Common.{subst, sym, false, IfOk, OnOk, None, ◌≡◌}
 use Rattle.sqworld.specs.Run.{act_of, answer_of, is_opening, is_crash}
-use Rattle.sqworld.specs.Engines.{EngineServes}
+use Rattle.sqworld.specs.Engines.{Rests, EngineServes}
 use Rattle.sqworld.specs.declared.engine.Engine.{Engine}
 use Rattle.sqworld.specs.declared.engine.Engine.TheVariants.{Closed, Open}
-use Rattle.sqworld.proofs.Serving.{closed_serves, open_serves}
+use Rattle.sqworld.proofs.Serving.{closed_serves, open_serves, closed_rests, open_rests}
 use Rattle.sqworld.proofs.engine.Engine.call.Goals as goal
 
 pub returns-in-Closed-clause-serves : goal.returns-in-Closed-clause-serves
@@ -15,3 +15,13 @@ pub returns-in-Open-clause-serves : goal.returns-in-Open-clause-serves
 returns-in-Open-clause-serves c =
     subst (λ (old : Engine). IfOk c.call-reply.result (λ reply. is_opening c.args.event.now ≡ false → is_crash c.args.event.now ≡ false → EngineServes c.args.page_size old (Open c.call-reply.new.self) (act_of c.args.event.now None None) (answer_of reply)))
     (sym c.in-Open.is) (open_serves c.call-reply.result c.args.page_size c.args.event.now c.in-Open.session c.call-reply.new.self c.call-reply.ensures.serves)
+
+pub returns-in-Closed-clause-rests : goal.returns-in-Closed-clause-rests
+returns-in-Closed-clause-rests c =
+    subst (λ (old : Engine). OnOk c.refuse-reply.result (Rests c.args.event.now old (Closed c.refuse-reply.new.disk c.in-Closed.begun)))
+    (sym c.in-Closed.is) (closed_rests c.refuse-reply.result c.args.event.now c.in-Closed.disk c.refuse-reply.new.disk c.in-Closed.begun c.refuse-reply.ensures.calm)
+
+pub returns-in-Open-clause-rests : goal.returns-in-Open-clause-rests
+returns-in-Open-clause-rests c =
+    subst (λ (old : Engine). OnOk c.call-reply.result (Rests c.args.event.now old (Open c.call-reply.new.self)))
+    (sym c.in-Open.is) (open_rests c.call-reply.result c.args.event.now c.in-Open.session (Open c.call-reply.new.self))

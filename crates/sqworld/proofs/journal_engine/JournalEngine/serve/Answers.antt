@@ -12,4 +12,4 @@ returns-in-Crash c = subst (λ (e : JEvent). IfOk c.crash.result.1 (λ given. An
 
 pub returns-in_default : goal.returns-in_default
 returns-in_default c = call_answers c.call-engine.result.1 c.alone.result c.args.page_size c.args.tears c.args.event.now c.args.self c.call-engine.result.0
-    (not_open c.args.event.now c.in_default.not-Open) (not_crash c.args.event.now c.in_default.not-Crash) c.alone.ensures c.call-engine.ensures.serves c.call-engine.ensures.set
+    (not_open c.args.event.now c.in_default.not-Open) (not_crash c.args.event.now c.in_default.not-Crash) c.alone.ensures c.call-engine.ensures.serves c.call-engine.ensures.set c.call-engine.ensures.rests
