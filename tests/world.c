@@ -1,6 +1,6 @@
 /* Loaded into a program, stops it (as `kill -STOP` does) before the call whose line begins with what STOP says and, of
-   these, has the number that NUMBER says, from 1. The lines: `read NAME`, `write NAME`, `length NAME`, `sync NAME` and
-   `unlink NAME`, NAME being the file's name without its folder. */
+   these, has the number that NUMBER says, from 1. The lines: `read NAME;`, `write NAME;`, `length NAME;`, `sync NAME;`
+   and `unlink NAME;`, NAME being the file's name without its folder. */
 typedef unsigned long size_t;
 typedef long ssize_t;
 typedef long off_t;
@@ -32,7 +32,7 @@ static void meet_path(const char *call, const char *path) {
     const char *wanted = getenv("STOP"), *number = getenv("NUMBER"), *slash = strrchr(path, '/');
     char line[LONGEST + 16];
     if (!wanted || !number) return;
-    snprintf(line, sizeof line, "%s %s", call, slash ? slash + 1 : path);
+    snprintf(line, sizeof line, "%s %s;", call, slash ? slash + 1 : path);
     if (strncmp(line, wanted, strlen(wanted))) return;
     if (++seen == strtoul(number, (void *)0, 10)) raise(STOP);
 }

@@ -235,7 +235,7 @@ def a_lock_that_comes_later():
     """One taken before the first byte is written, and one taken before the log is emptied."""
     after = {"a.db-wal": b"y" * PAGE + b"x" * PAGE + b"z" * PAGE, "a.db-journal": b"j" * PAGE}
     for log, files in ("a.db-wal", (DB, WAL)), ("a.db-journal", (DB, None, JOURNAL)):
-        for call, is_written in (f"sync {log}", False), ("sync a.db", True):
+        for call, is_written in (f"sync {log};", False), ("sync a.db;", True):
             for name in "a.db", "a.db-shm":
                 fill(*files)
                 write("a.db-shm", bytes(32768))
@@ -248,7 +248,7 @@ def a_lock_that_comes_later():
                 again = wrong(run("recover a.db"), 0, TEXT)
                 yield f"{log}, {call}, {name}, again", again or (None if read("a.db") == after[log] else "other bytes")
         fill(*files)
-        stopped = Stopped([program, "recover", "--force", "a.db"], "sync a.db")
+        stopped = Stopped([program, "recover", "--force", "a.db"], "sync a.db;")
         with processes.locking("a.db", "read", 0, 1):
             yield f"{log}, forced", wrong(stopped.goes_on(), 0, TEXT)
 
@@ -313,10 +313,10 @@ def a_file_that_changes():
         processes.make(base, rows=2000)
         for name, change in CHANGES.items():
             fill(read(base))
-            yield name, beside_change("check a.db", ("read a.db", 12), change, True)
+            yield name, beside_change("check a.db", ("read a.db;", 12), change, True)
         fill(read(base))
         for name, change in ("nothing", int), ("a reader", lambda: read("a.db")):
-            yield name, beside_change("check a.db", ("read a.db", 12), change, False)
+            yield name, beside_change("check a.db", ("read a.db;", 12), change, False)
 
 
 @test
@@ -330,7 +330,7 @@ def a_log_that_changes():
             for name, change in {**CHANGES_OF_LOG, "nothing": int}.items():
                 fill()
                 copied(base, "a.db")
-                call = "read a.db-wal", 4
+                call = "read a.db-wal;", 4
                 yield f"{line}, {name}", beside_change(line, call, change, name != "nothing")
 
 
