@@ -1,11 +1,12 @@
 /* Loaded into a program, stops it (as `kill -STOP` does) before the call whose line begins with what STOP says and, of
-   these, has the number that NUMBER says, from 1. The lines: `read NAME`, `write NAME`, `length NAME`, `sync NAME` and
-   `unlink NAME`, NAME being the file's name without its folder. */
+   these, has the number that NUMBER says, from 1. The lines: `read NAME;`, `write NAME;`, `length NAME;`, `sync NAME;`
+   and `unlink NAME;`, NAME being the file's name without its folder. Where FROZEN is set, all files seem to have been
+   changed at the same time, as on a system whose clock hasn't ticked. */
 typedef unsigned long size_t;
 typedef long ssize_t;
 typedef long off_t;
 
-enum { LONGEST = 4096, STOP = 19 };
+enum { LONGEST = 4096, STOP = 19, TIMES_OF_CHANGE = 96, BEHIND_TIMES = 128 };
 
 char *getenv(const char *);
 unsigned long strtoul(const char *, char **, int);
@@ -25,6 +26,7 @@ typedef ssize_t (*writes_at)(int, const void *, size_t, off_t);
 typedef int (*cuts)(int, off_t);
 typedef int (*syncs)(int);
 typedef int (*unlinks)(const char *);
+typedef int (*looks)(int, const char *, int, unsigned, void *);
 
 static unsigned long seen;
 
@@ -32,7 +34,7 @@ static void meet_path(const char *call, const char *path) {
     const char *wanted = getenv("STOP"), *number = getenv("NUMBER"), *slash = strrchr(path, '/');
     char line[LONGEST + 16];
     if (!wanted || !number) return;
-    snprintf(line, sizeof line, "%s %s", call, slash ? slash + 1 : path);
+    snprintf(line, sizeof line, "%s %s;", call, slash ? slash + 1 : path);
     if (strncmp(line, wanted, strlen(wanted))) return;
     if (++seen == strtoul(number, (void *)0, 10)) raise(STOP);
 }
@@ -85,4 +87,10 @@ int fdatasync(int file) {
 int unlink(const char *path) {
     meet_path("unlink", path);
     return NEXT(unlinks, "unlink")(path);
+}
+
+int statx(int file, const char *path, int how, unsigned mask, void *out) {
+    int done = NEXT(looks, "statx")(file, path, how, mask, out);
+    for (int at = TIMES_OF_CHANGE; getenv("FROZEN") && at < BEHIND_TIMES; at++) ((char *)out)[at] = 0;
+    return done;
 }

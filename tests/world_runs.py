@@ -184,8 +184,8 @@ def begun(kind, mode="wal", *lines):
 class Stopped:
     """A run of a command that is stopped before the call of this line and number; `world.c` has the lines."""
 
-    def __init__(self, command, call, number=1):
-        setting = dict(os.environ, LD_PRELOAD=library, STOP=call, NUMBER=str(number))
+    def __init__(self, command, call, number=1, **more):
+        setting = dict(os.environ, LD_PRELOAD=library, STOP=call, NUMBER=str(number), **more)
         pipes = dict(stdin=subprocess.DEVNULL, stdout=subprocess.PIPE, stderr=subprocess.PIPE)
         self.child = subprocess.Popen(command, env=setting, **pipes)
         self.is_stopped = self.stops()

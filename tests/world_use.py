@@ -235,7 +235,7 @@ def a_lock_that_comes_later():
     """One taken before the first byte is written, and one taken before the log is emptied."""
     after = {"a.db-wal": b"y" * PAGE + b"x" * PAGE + b"z" * PAGE, "a.db-journal": b"j" * PAGE}
     for log, files in ("a.db-wal", (DB, WAL)), ("a.db-journal", (DB, None, JOURNAL)):
-        for call, is_written in (f"sync {log}", False), ("sync a.db", True):
+        for call, is_written in (f"sync {log};", False), ("sync a.db;", True):
             for name in "a.db", "a.db-shm":
                 fill(*files)
                 write("a.db-shm", bytes(32768))
@@ -248,7 +248,7 @@ def a_lock_that_comes_later():
                 again = wrong(run("recover a.db"), 0, TEXT)
                 yield f"{log}, {call}, {name}, again", again or (None if read("a.db") == after[log] else "other bytes")
         fill(*files)
-        stopped = Stopped([program, "recover", "--force", "a.db"], "sync a.db")
+        stopped = Stopped([program, "recover", "--force", "a.db"], "sync a.db;")
         with processes.locking("a.db", "read", 0, 1):
             yield f"{log}, forced", wrong(stopped.goes_on(), 0, TEXT)
 
@@ -295,33 +295,43 @@ CHANGES_OF_LOG = {
 }
 
 
-def beside_change(line, call, change, is_seen):
+def beside_change(line, call, change, is_seen, **more):
     """What is wrong with a run of a line, during which a.db is changed."""
     alone = run(line)
-    stopped = Stopped([program, *line.split()], *call)
+    stopped = Stopped([program, *line.split()], *call, **more)
     change()
     if not is_seen:
         return wrong(stopped.goes_on(), *alone)
     return wrong(stopped.goes_on(), 3, TEXT if "--log" in line else "", CHANGED)
 
 
+# Changes that the time of change alone tells.
+BY_TIME = "the same bytes"
+
+
 @test
 def a_file_that_changes():
-    """A change during a run is told in place of what was read; to read a file isn't one."""
+    """A change during a run is told in place of what was read, also while the clock doesn't tick; to read a file isn't
+    one."""
     with tempfile.TemporaryDirectory() as folder:
         base = os.path.join(folder, "a.db")
         processes.make(base, rows=2000)
+        call = "read a.db;", 12
         for name, change in CHANGES.items():
             fill(read(base))
-            yield name, beside_change("check a.db", ("read a.db", 12), change, True)
+            yield name, beside_change("check a.db", call, change, True)
+            if name != BY_TIME:
+                fill(read(base))
+                yield f"{name}, at once", beside_change("check a.db", call, change, True, FROZEN="1")
         fill(read(base))
         for name, change in ("nothing", int), ("a reader", lambda: read("a.db")):
-            yield name, beside_change("check a.db", ("read a.db", 12), change, False)
+            yield name, beside_change("check a.db", call, change, False)
 
 
 @test
 def a_log_that_changes():
     """The same of a log that counts, for each command that looks."""
+    call = "read a.db-wal;", 4
     with tempfile.TemporaryDirectory() as folder:
         base = os.path.join(folder, "a.db")
         with begun("module", "wal", *[SPILLS] * 3):
@@ -330,8 +340,12 @@ def a_log_that_changes():
             for name, change in {**CHANGES_OF_LOG, "nothing": int}.items():
                 fill()
                 copied(base, "a.db")
-                call = "read a.db-wal", 4
                 yield f"{line}, {name}", beside_change(line, call, change, name != "nothing")
+                if name != BY_TIME:
+                    fill()
+                    copied(base, "a.db")
+                    fault = beside_change(line, call, change, name != "nothing", FROZEN="1")
+                    yield f"{line}, {name}, at once", fault
 
 
 def is_whole(pages, trees, b_tree, overflow, free):
