@@ -118,7 +118,7 @@ pub fn copy_records<D: Disk>(
 ) -> Result<(), RollError>
     requires size { (1 ≤ size) × (size ≤ 65536) }
     requires room { (size ≤ length room.old) × (length room.old ≤ 2 ^ 24) }
-    ensures disk { During D.keeps_word D.state disk.old disk.new (OnSound (CopiesRecords size scan.now count result)) }
+    ensures { During D.keeps_word D.state disk.old disk.new (OnSound (CopiesRecords size scan.now count result)) }
 {
     let most = fitting(room.len(), size);
     let total = scan.count();

@@ -50,7 +50,7 @@ returns-in_err-read_at-clause-disk g c = record {
       let room = run_room n c.args.most size (length c.args.room.now) one few c.requires.room.1 in
       let are = λ (w : List ℕ) (took : Took w c.args.scan.now). c.run_from-run.ensures.each w took (c.in-Some.ensures w took) in
       let last = λ (w : List ℕ) (took : Took w c.args.scan.now) (same : size ≡ word_of w 24).
-          has_within w size (c.args.number + (n - 1)) (record { page = first.page + (n - 1); at = first.at + (n - 1) * (size + 8) }) (omega (arith, c.requires.number.0)) same (are w took (n - 1) (omega (arith, one))) in
+      has_within w size (c.args.number + (n - 1)) (record { page = first.page + (n - 1); at = first.at + (n - 1) * (size + 8) }) (omega (arith, c.requires.number.0)) same (are w took (n - 1) (omega (arith, one))) in
       let read = still_looks _ c.read_at.result _ _ sound (c.read_at.ensures.state word) in
       record {
         log = keeps_still _ _ sound read;
@@ -76,17 +76,17 @@ returns-in_err-write_at-clause-disk g c = record {
       let room = run_room n c.args.most size (length c.args.room.now) one few c.requires.room.1 in
       let are = λ (w : List ℕ) (took : Took w c.args.scan.now). c.run_from-run.ensures.each w took (c.in-Some.ensures w took) in
       let last = λ (w : List ℕ) (took : Took w c.args.scan.now) (same : size ≡ word_of w 24).
-          has_within w size (c.args.number + (n - 1)) (record { page = first.page + (n - 1); at = first.at + (n - 1) * (size + 8) }) (omega (arith, c.requires.number.0)) same (are w took (n - 1) (omega (arith, one))) in
+      has_within w size (c.args.number + (n - 1)) (record { page = first.page + (n - 1); at = first.at + (n - 1) * (size + 8) }) (omega (arith, c.requires.number.0)) same (are w took (n - 1) (omega (arith, one))) in
       let read = still_looks _ c.read_at.result _ _ sound (c.read_at.ensures.state word) in
       let wide : n * size ≤ length c.gather.new.room = omega (arith, c.gather.auto.room, run_bytes n c.args.most size (length c.args.room.now) one few c.requires.room.1) in
       let long = front_long (n * size) (n * size) c.gather.new.room refl wide in
       let to : c.from.result * size ≡ (first.page - 1) * size = ap (λ (k : ℕ). k * size) c.from.ensures in
       let call = c.write_at.ensures.state (c.read_at.ensures.word.0 word) in
       let each = λ (w : List ℕ) (took : Took w c.args.scan.now) (same : size ≡ word_of w 24) (there : ArePresent (g.D.Disk.state c.args.disk.now).log w).
-          run_content size n ((n - 1) * size) first.at w c.read_at.new.out _ c.gather.new.room _ (g.D.Disk.state c.args.disk.now).log one (last w took same) there
-          (piece_there ((n - 1) * size) (n * (size + 8) - 8) ((n - 1) * size + n * (size + 8) - 8 - (n - 1) * size) c.args.room.now c.read_at.new.out (omega arith) room c.read_at.auto.out)
-          (λ i lt. c.in_ok-read_at.ensures.bytes word i (omega (arith, lt, c.read_at.auto.out, piece_long ((n - 1) * size) (n * (size + 8) - 8) ((n - 1) * size + n * (size + 8) - 8 - (n - 1) * size) c.args.room.now [] (omega arith) room)))
-          c.gather.ensures (front_kept (n * size) (n * size) c.gather.new.room refl) in
+      run_content size n ((n - 1) * size) first.at w c.read_at.new.out _ c.gather.new.room _ (g.D.Disk.state c.args.disk.now).log one (last w took same) there
+      (piece_there ((n - 1) * size) (n * (size + 8) - 8) ((n - 1) * size + n * (size + 8) - 8 - (n - 1) * size) c.args.room.now c.read_at.new.out (omega arith) room c.read_at.auto.out)
+      (λ i lt. c.in_ok-read_at.ensures.bytes word i (omega (arith, lt, c.read_at.auto.out, piece_long ((n - 1) * size) (n * (size + 8) - 8) ((n - 1) * size + n * (size + 8) - 8 - (n - 1) * size) c.args.room.now [] (omega arith) room)))
+      c.gather.ensures (front_kept (n * size) (n * size) c.gather.new.room refl) in
       let first_part : Later (MayReplay size) (g.D.Disk.state c.args.disk.now) (g.D.Disk.state c.read_at.new.self) = later_still _ _ sound read in
       let may = λ (within : c.args.count * size ≤ most_bytes). run_may size first.page n c.args.count (c.from.result * size) (take (n * size) c.gather.new.room) one under to long within in
       record {
@@ -114,17 +114,17 @@ returns-clause-disk g c = record {
       let room = run_room n c.args.most size (length c.args.room.now) one few c.requires.room.1 in
       let are = λ (w : List ℕ) (took : Took w c.args.scan.now). c.run_from-run.ensures.each w took (c.in-Some.ensures w took) in
       let last = λ (w : List ℕ) (took : Took w c.args.scan.now) (same : size ≡ word_of w 24).
-          has_within w size (c.args.number + (n - 1)) (record { page = first.page + (n - 1); at = first.at + (n - 1) * (size + 8) }) (omega (arith, c.requires.number.0)) same (are w took (n - 1) (omega (arith, one))) in
+      has_within w size (c.args.number + (n - 1)) (record { page = first.page + (n - 1); at = first.at + (n - 1) * (size + 8) }) (omega (arith, c.requires.number.0)) same (are w took (n - 1) (omega (arith, one))) in
       let read = still_looks _ c.read_at.result _ _ sound (c.read_at.ensures.state word) in
       let wide : n * size ≤ length c.gather.new.room = omega (arith, c.gather.auto.room, run_bytes n c.args.most size (length c.args.room.now) one few c.requires.room.1) in
       let long = front_long (n * size) (n * size) c.gather.new.room refl wide in
       let to : c.from.result * size ≡ (first.page - 1) * size = ap (λ (k : ℕ). k * size) c.from.ensures in
       let call = c.write_at.ensures.state (c.read_at.ensures.word.0 word) in
       let each = λ (w : List ℕ) (took : Took w c.args.scan.now) (same : size ≡ word_of w 24) (there : ArePresent (g.D.Disk.state c.args.disk.now).log w).
-          run_content size n ((n - 1) * size) first.at w c.read_at.new.out _ c.gather.new.room _ (g.D.Disk.state c.args.disk.now).log one (last w took same) there
-          (piece_there ((n - 1) * size) (n * (size + 8) - 8) ((n - 1) * size + n * (size + 8) - 8 - (n - 1) * size) c.args.room.now c.read_at.new.out (omega arith) room c.read_at.auto.out)
-          (λ i lt. c.in_ok-read_at.ensures.bytes word i (omega (arith, lt, c.read_at.auto.out, piece_long ((n - 1) * size) (n * (size + 8) - 8) ((n - 1) * size + n * (size + 8) - 8 - (n - 1) * size) c.args.room.now [] (omega arith) room)))
-          c.gather.ensures (front_kept (n * size) (n * size) c.gather.new.room refl) in
+      run_content size n ((n - 1) * size) first.at w c.read_at.new.out _ c.gather.new.room _ (g.D.Disk.state c.args.disk.now).log one (last w took same) there
+      (piece_there ((n - 1) * size) (n * (size + 8) - 8) ((n - 1) * size + n * (size + 8) - 8 - (n - 1) * size) c.args.room.now c.read_at.new.out (omega arith) room c.read_at.auto.out)
+      (λ i lt. c.in_ok-read_at.ensures.bytes word i (omega (arith, lt, c.read_at.auto.out, piece_long ((n - 1) * size) (n * (size + 8) - 8) ((n - 1) * size + n * (size + 8) - 8 - (n - 1) * size) c.args.room.now [] (omega arith) room)))
+      c.gather.ensures (front_kept (n * size) (n * size) c.gather.new.room refl) in
       let first_part : Later (MayReplay size) (g.D.Disk.state c.args.disk.now) (g.D.Disk.state c.read_at.new.self) = later_still _ _ sound read in
       let may = λ (within : c.args.count * size ≤ most_bytes). run_may size first.page n c.args.count (c.from.result * size) (take (n * size) c.gather.new.room) one under to long within in
       record {
