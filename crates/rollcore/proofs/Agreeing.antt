@@ -1,5 +1,5 @@
 -- The parts of a replay keep what shows one database, so the replay does at each of its exits.
-use Rattle.std.proofs.Common.{◌≡◌, ⊎_elim, ℕ, ◌+◌, ◌≤◌, Bool, true, false, cond, List, length, get_or, replicate, sym, ◌∙◌, ap, subst, arith}
+use Rattle.std.proofs.Common.{◌≡◌, ⊎_elim, ℕ, ◌+◌, ◌-◌, ◌*◌, ◌≤◌, Bool, true, false, cond, List, length, get_or, replicate, sym, ◌∙◌, ap, subst, arith}
 use Rattle.std.specs.Prelude.{Result, Ok, Err, Option, Some, None, slice_get}
 use Rattle.std.proofs.lemmas.List.{get_or-replicate, get_or_past, length-replicate}
 use Rattle.std.proofs.lemmas.Bool.{cases_lt}
@@ -21,7 +21,7 @@ use Rattle.crashdisk.proofs.Steps.{present_list, settled_sync, image_elsewhere}
 use Rattle.rollcore.specs.Alone.{Show, ShowsAlone}
 use Rattle.rollcore.specs.Replaying.{Agrees}
 use Rattle.crashdisk.specs.Keeps.{IsLogDown, Still, Told, SyncStep}
-use Rattle.rollcore.specs.Steps.{torn_sector, PutsRecord, RecordAnswer, EntryStep, EntryAnswer, ArePages, ZeroSteps}
+use Rattle.rollcore.specs.Steps.{torn_sector, PutsRun, RunAnswer, ArePages, ZeroSteps}
 use Rattle.rollcore.specs.Phases.{Unnamed, Scanning, Writing, Filed}
 use Rattle.rollcore.specs.Plans.{IsFit}
 use Rattle.rollcore.specs.declared.error.RollError.{RollError}
@@ -87,41 +87,24 @@ module _ (size : ℕ) (w : List ℕ) (d : Database) where
       (down_by w old new is.down still.log still.tears still.kept still.handed) still.sector still.tears
       (λ p i a b un lt db image. is.steady p i a b un lt db (subst (λ (n : ℕ). IsImage n old.tears old.db db) still.sector (subst (λ (b : Bool). IsImage new.sector b old.db db) still.tears (subst (λ (s : FileState). IsImage new.sector new.tears s db) still.db image))))
 
-  module _ (k : ℕ) (r : Record) (old : DiskState) (is : Writing size w d old) (found : slice_get (entries_of w is.segments) k ≡ Some r) where
-    named : (s : DiskState) (it : Writing size w d s) → Unnamed (all_records it.segments) r.page → ⊥
-    named s it un_it =
-        let same : it.segments ≡ is.segments = (one_journal w it.segments is.segments it.at is.at it.why is.why it.is is.is).0 in
-        let un : Unnamed (all_records is.segments) r.page = subst (λ (l : List Segment). Unnamed (all_records l) r.page) same un_it in
-        entry_named w (entries_of w is.segments) k r found (ap (λ (l : Pages). last_content l r.page) (sym (records_are w is.segments is.at is.why is.is is.hot)) ∙ un)
+  -- the pages of entries from number i on
+  puts_run : (i k count : ℕ) (called : Result (Unit {0}) DiskError) (old new : DiskState) → 1 ≤ i → (is : Writing size w d old) → PutsRun size w count i k called old new → Writing size w d new
+  puts_run i k count called old new some is puts =
+      let mid = writing_still old puts.mid is puts.read in
+      writing_writes size w d puts.first.page k puts.bytes called puts.mid new mid puts.one
+      (λ j lt un.
+      let r : Record = record { page = puts.first.page + j; at = puts.first.at + j * (size + 8) } in
+      let has : HasEntry w (i + j - 1 + 1) (Some r) = subst (λ (n : ℕ). HasEntry w n (Some r)) (let e : i + j ≡ i + j - 1 + 1 = omega (arith, some) in e) (puts.are j lt) in
+      let found = entry_is w mid.segments mid.at mid.why mid.is (i + j - 1) r has in
+      entry_named w (entries_of w mid.segments) (i + j - 1) r found (ap (λ (l : Pages). last_content l r.page) (sym (records_are w mid.segments mid.at mid.why mid.is mid.hot)) ∙ un))
+      puts.long puts.write
 
-    fits : r.at + size ≤ length w
-    fits = subst (λ (n : ℕ). r.at + n ≤ length w) (sym is.named) (entry_within w is.segments is.at is.why is.is k r found)
-
-    puts_record : {T : Type 0} (count : ℕ) (called : Result T DiskError) (new : DiskState) → PutsRecord size w count r called old new → Writing size w d new
-    puts_record count called new puts =
-        let mid = writing_still old puts.mid is puts.read in
-        writing_writes size w d r.page (part w r.at size) called puts.mid new mid puts.one (named puts.mid mid) (part_long size r.at w fits) puts.write
-
-    pub writing_record : {T : Type 0} (count : ℕ) (result : Result T RollError) (new : DiskState) → RecordAnswer size w count r result old new → Writing size w d new
-    unfolding RecordAnswer
-    writing_record count (Ok done) new answer = ⊎_elim
-        (λ none. subst (λ (s : DiskState). Writing size w d s) (sym none.1) is)
-        (λ puts. puts_record count (Ok done) new puts) answer
-    writing_record count (Err e) new answer = ⊎_elim (λ still. writing_still old new is still) (λ puts. puts_record count puts.0 new puts.1) answer.2
-
-  -- the journal's entry k + 1
-  pub writing_entry : {T : Type 0} (k count : ℕ) (result : Result T RollError) (old new : DiskState) → Writing size w d old → EntryAnswer size w count (k + 1) result old new → Writing size w d new
-  writing_entry {T = T} k count result old new is answer = by answer.0 answer.1 answer.2
-    where
-      none : (q : Result T RollError) → EntryStep size w count None q old new → Writing size w d new
-      none (Ok _) same = subst (λ (s : DiskState). Writing size w d s) (sym same) is
-      none (Err _) same = absurd same
-
-      by : (entry : Option Record) → HasEntry w (k + 1) entry → EntryStep size w count entry result old new → Writing size w d new
-      by None has step = none result step
-      by (Some r) has step =
-          let found = entry_is w is.segments is.at is.why is.is k r has in
-          writing_record k r old is found count result new (step (fits k r old is found))
+  pub writing_run : (i count : ℕ) (result : Result ℕ RollError) (old new : DiskState) → 1 ≤ i → Writing size w d old → RunAnswer size w count i result old new → Writing size w d new
+  unfolding RunAnswer
+  writing_run i count (Ok k) old new some is answer = ⊎_elim
+      (λ none. subst (λ (s : DiskState). Writing size w d s) (sym none.2) is)
+      (λ puts. puts_run i k count (Ok (tt {0})) old new some is puts) answer
+  writing_run i count (Err e) old new some is answer = ⊎_elim (λ still. writing_still old new is still) (λ puts. puts_run i puts.0 count puts.1 old new some is puts.2) answer.2
 
   -- ---- The end.
 

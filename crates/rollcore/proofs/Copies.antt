@@ -1,7 +1,6 @@
 -- The copying of records.
 use Rattle.std.proofs.Common.{◌≡◌, ◌≢◌, ◌⊎◌, inl, inr, ⊎_elim, ℕ, ◌+◌, ◌-◌, ◌*◌, ◌<◌, ◌≤◌, List, length, get_or, take, drop, refl, sym, ◌∙◌, ap, subst, arith, length-drop}
-use Rattle.std.specs.Prelude.{Result, Ok, Err, Option, Some, None, slice_get}
-use Rattle.std.proofs.lemmas.Bool.{cases_lt, cases_eq}
+use Rattle.std.specs.Prelude.{Result, Ok, Err, Option, MatchOption, Some, None, slice_get}
 use Rattle.std.proofs.lemmas.List.{get_or-take, get_or-drop, length-take-le, take_all}
 use Rattle.std.proofs.lemmas.Grind.{same_number_lists}
 use Rattle.std.proofs.Math.Nat.{mul-le-mul_right}
@@ -16,59 +15,128 @@ use Rattle.crashdisk.specs.State.{FileState, byte, written, longest}
 use Rattle.crashdisk.specs.Call.{DiskState, IsSoundDisk, ArePresent, Writes, Cuts, Looks}
 use Rattle.crashdisk.specs.declared.file.File.TheVariants.{Db}
 use Rattle.crashdisk.specs.declared.error.DiskError.{DiskError}
-use Rattle.crashdisk.proofs.Sound.{cut_below, written_inside, written_outside}
-use Rattle.crashdisk.proofs.Steps.{present_written, present_cut}
+use Rattle.crashdisk.proofs.Sound.{cut_below}
+use Rattle.crashdisk.proofs.Steps.{present_cut}
 use Rattle.sqval.specs.CommitFaults.{most_bytes}
-use Rattle.rollcore.specs.Steps.{PutsRecord, RecordAnswer, EntryStep, EntryAnswer, CopyAnswer}
+use Rattle.rollcore.specs.Changes.{AreWholePages}
+use Rattle.rollcore.specs.Steps.{PutsRun, RunAnswer, CopyAnswer}
+use borrow.Rule.Slice.PartMut.{put_mid}
+use Rattle.crashdisk.proofs.Reading.{mid_inside}
+use Rattle.crashdisk.proofs.Runs.{run_cases, run_apart, run_inside, run_outside}
 use Rattle.crashdisk.specs.Keeps.{Still, KeepsLog}
 use Rattle.rollcore.specs.declared.error.RollError.{RollError}
 use Rattle.rollcore.specs.declared.error.RollError.TheVariants.{Device}
-use Rattle.crashdisk.proofs.Pages.{page_end, page_before, page_within}
+use Rattle.crashdisk.proofs.Pages.{page_within}
 use Rattle.sqval.proofs.FilePages.{get_or-file_page}
 use Rattle.crashdisk.proofs.Stills.{still_looks, refusal_after, had_refusal}
-use Rattle.rollcore.proofs.Records.{made, made_none, made_here, made_other, made_all, entries_of, entry_is, entry_within, no_entry}
+use Rattle.rollcore.proofs.Records.{made, made_none, made_other, made_apart, made_run, made_all, entries_of, entry_is, entry_within, no_entry}
 use Rattle.crashdisk.proofs.Down.{present_byte}
 
--- ---- What is read of a record.
+-- ---- What is read of records.
 
 pub part_long : (size at : ℕ) (w : List ℕ) → at + size ≤ length w → length (part w at size) ≡ size
 part_long size at w fits = length-take-le size (drop at w) (omega (arith, length-drop at w))
 
-pub record_read : (size at : ℕ) (w out : List ℕ) (log : FileState) → ArePresent log w → at + size ≤ length w → length out ≡ size
-    → ((j : ℕ) → j < length out → get_or out j 0 ≡ byte log (at + j)) → out ≡ part w at size
-record_read size at w out log are fits long same =
-    same_number_lists out (take size (drop at w)) (long ∙ sym (part_long size at w fits))
-    (λ j lt. same j lt ∙ sym (are.each (at + j) (omega (arith, are.len))) ∙ sym (get_or-take size (drop at w) j 0 (omega arith) ∙ get_or-drop at w j 0))
+place_step : (size k n : ℕ) → k + 1 ≡ n → k * size + size ≡ n * size
+place_step size k n e = rw (sym e) (omega arith)
 
--- ---- One record.
+-- a run that was found fits into the room
+module _ (n most size long : ℕ) (some : 1 ≤ n) (le : n ≤ most) (fits : most * (2 * size + 8) ≤ long + size + 8) where
+  n_size : (n - 1) * size + size ≡ n * size
+  n_size = place_step size (n - 1) n (omega arith)
 
-pub page_fits : (size p count : ℕ) → 1 ≤ p → p ≤ count → count * size ≤ most_bytes → (p - 1) * size + size ≤ longest
-page_fits size p count one le within = let more : p * size ≤ count * size = mul-le-mul_right size le in omega (arith, page_end size p one)
+  wide : n * (2 * size + 8) ≤ long + size + 8
+  wide = let up : n * (2 * size + 8) ≤ most * (2 * size + 8) = mul-le-mul_right (2 * size + 8) le in omega arith
 
-module _ {T : Type 0} (size : ℕ) (w : List ℕ) (count : ℕ) (r : Record) where
-  pub record_none : (done : T) (s : DiskState) → (r.page ≡ 0) ⊎ (count < r.page) → RecordAnswer size w count r (Ok done) s s
-  unfolding RecordAnswer
-  record_none done s out = inl (out, refl)
+  pub run_room : (n - 1) * size + (n * (size + 8) - 8) ≤ long
+  run_room = let least : 1 * (size + 8) ≤ n * (size + 8) = mul-le-mul_right (size + 8) some in omega (arith, n_size, wide)
 
-  pub record_unread : {U : Type 0} (at : ℕ) (called : Result U DiskError) (e : DiskError) (q : Result T RollError) (a b : DiskState) → IsSoundDisk a → at ≤ length w → ArePresent a.log w
-      → called ≡ Err e → q ≡ Err Device → Looks at called a b → RecordAnswer size w count r q a b
-  unfolding RecordAnswer
-  record_unread at called e q a b sound fits are was is looked = subst (λ (x : Result T RollError). RecordAnswer size w count r x a b) (sym is)
+  pub run_bytes : n * size ≤ long
+  run_bytes = let least : 1 * size ≤ n * size = mul-le-mul_right size some in omega (arith, n_size, wide)
+
+-- where the last of k records ends, from the page of the first on
+pub run_long : (size at k : ℕ) (w : List ℕ) → 1 ≤ k → at + (k - 1) * (size + 8) + size ≤ length w → at + (k * (size + 8) - 8) ≤ length w
+run_long size at k w some last = omega (arith, last, place_step (size + 8) (k - 1) k (omega (arith, some)))
+
+-- what is read behind the front of a room
+module _ (from k e : ℕ) (xs ys : List ℕ) (is : e ≡ k) (fits : from + k ≤ length xs) where
+  pub piece_long : length (take e (drop from xs)) ≡ k
+  piece_long = length-take-le e (drop from xs) (omega (arith, length-drop from xs)) ∙ is
+
+  pub piece_there : length ys ≡ length (take e (drop from xs)) → (i : ℕ) → i < k → get_or (put_mid from e xs ys) (from + i) 0 ≡ get_or ys i 0
+  piece_there long i lt = mid_inside from e xs ys (long ∙ piece_long ∙ sym is) (omega arith) (from + i) (omega arith) (omega arith)
+      ∙ ap (λ (n : ℕ). get_or ys n 0) (let b : from + i - from ≡ i = omega arith in b)
+
+-- the front of a room
+pub front_long : (e k : ℕ) (xs : List ℕ) → e ≡ k → k ≤ length xs → length (take e xs) ≡ k
+front_long e k xs is fits = length-take-le e xs (omega arith) ∙ is
+
+pub front_kept : (e k : ℕ) (xs : List ℕ) → e ≡ k → (i : ℕ) → i < k → get_or (take e xs) i 0 ≡ get_or xs i 0
+front_kept e k xs is i lt = get_or-take e xs i 0 (omega arith)
+
+-- the pages of the records that were read, once they are brought together
+pub run_content : (size k from at : ℕ) (w read room out bytes : List ℕ) (log : FileState) → 1 ≤ k → at + (k - 1) * (size + 8) + size ≤ length w → ArePresent log w
+    → ((i : ℕ) → i < k * (size + 8) - 8 → get_or room (from + i) 0 ≡ get_or read i 0)
+    → ((i : ℕ) → i < k * (size + 8) - 8 → get_or read i 0 ≡ byte log (at + i))
+    → ((j i : ℕ) → j < k → i < size → get_or out (j * size + i) 0 ≡ get_or room (from + j * (size + 8) + i) 0)
+    → ((i : ℕ) → i < k * size → get_or bytes i 0 ≡ get_or out i 0)
+    → (j i : ℕ) → j < k → i < size → get_or bytes (j * size + i) 0 ≡ get_or (part w (at + j * (size + 8)) size) i 0
+run_content size k from at w read room out bytes log some last are there same brought kept j i lt lt_i =
+    let within : j * (size + 8) + i < k * (size + 8) - 8 = let up : (j + 1) * (size + 8) ≤ k * (size + 8) = mul-le-mul_right (size + 8) (let b : j + 1 ≤ k = omega arith in b) in omega arith in
+    let below : j * size + i < k * size = let up : (j + 1) * size ≤ k * size = mul-le-mul_right size (let b : j + 1 ≤ k = omega arith in b) in omega arith in
+    let far : at + (j * (size + 8) + i) < length w = omega (arith, run_long size at k w some last) in
+    kept (j * size + i) below ∙ brought j i lt lt_i ∙ ap (λ (n : ℕ). get_or room n 0) (let e : from + j * (size + 8) + i ≡ from + (j * (size + 8) + i) = omega arith in e)
+    ∙ there (j * (size + 8) + i) within ∙ same (j * (size + 8) + i) within
+    ∙ sym (are.each (at + (j * (size + 8) + i)) (omega (arith, are.len)))
+    ∙ ap (λ (n : ℕ). get_or w n 0) (let e : at + (j * (size + 8) + i) ≡ at + j * (size + 8) + i = omega arith in e)
+    ∙ sym (get_or-take size (drop (at + j * (size + 8)) w) i 0 lt_i ∙ get_or-drop (at + j * (size + 8)) w i 0)
+
+-- ---- One run.
+
+-- an entry's page lies in the journal
+pub has_within : (w : List ℕ) (size i : ℕ) (r : Record) → 1 ≤ i → size ≡ word w 24 → HasEntry w i (Some r) → r.at + size ≤ length w
+has_within w size i r one same has =
+    let at : HasEntry w (i - 1 + 1) (Some r) = subst (λ (n : ℕ). HasEntry w n (Some r)) (let e : i ≡ i - 1 + 1 = omega arith in e) has in
+    subst (λ (n : ℕ). r.at + n ≤ length w) (sym same) (entry_within w has.segments has.stop.at has.stop.why has.is (i - 1) r (entry_is w has.segments has.stop.at has.stop.why has.is (i - 1) r at))
+
+module _ (size : ℕ) (w : List ℕ) (count i : ℕ) where
+  pub run_none : (k : ℕ) (s : DiskState) → k ≡ 1 → (entry : Option Record) → HasEntry w i entry → MatchOption entry (Unit {0}) (λ r. (r.page ≡ 0) ⊎ (count < r.page)) → RunAnswer size w count i (Ok k) s s
+  unfolding RunAnswer
+  run_none k s one entry has out = inl (one, record { entry = entry; has = has; out = out }, refl)
+
+  pub run_unread : {U : Type 0} (at : ℕ) (called : Result U DiskError) (e : DiskError) (q : Result ℕ RollError) (a b : DiskState) → IsSoundDisk a → at ≤ length w → ArePresent a.log w
+      → called ≡ Err e → q ≡ Err Device → Looks at called a b → RunAnswer size w count i q a b
+  unfolding RunAnswer
+  run_unread at called e q a b sound fits are was is looked = subst (λ (x : Result ℕ RollError). RunAnswer size w count i x a b) (sym is)
       (refl, had_refusal called e at a b sound.refused was looked.within (omega (arith, are.len, sound.log.greatest, sound.log.within)) looked.refused, inl (still_looks at called a b sound looked))
 
-  module _ (one : 1 ≤ r.page) (le : r.page ≤ count) (out : List ℕ) (a b c : DiskState) (is : out ≡ part w r.at size) (read : Still a b) where
-    puts : (called : Result T DiskError) → Writes Db ((r.page - 1) * size) out called b c → PutsRecord size w count r called a c
-    puts called wrote = record { one = one; within = le; mid = b; read = read; write = subst (λ (x : List ℕ). Writes Db ((r.page - 1) * size) x called b c) is wrote }
+  module _ (first : Record) (k : ℕ) (one : 1 ≤ first.page) (within : first.page - 1 + k ≤ count) (out : List ℕ) (a b c : DiskState)
+      (are : (j : ℕ) → j < k → HasEntry w (i + j) (Some (record { page = first.page + j; at = first.at + j * (size + 8) }))) (long : length out ≡ k * size)
+      (each : (j x : ℕ) → j < k → x < size → get_or out (j * size + x) 0 ≡ get_or (part w (first.at + j * (size + 8)) size) x 0) (read : Still a b) where
+    puts : (called : Result (Unit {0}) DiskError) → Writes Db ((first.page - 1) * size) out called b c → PutsRun size w count i k called a c
+    puts called wrote = record { first = first; one = one; within = within; are = are; bytes = out; long = long; each = each; mid = b; read = read; write = wrote }
 
-    pub record_unwritten : (called : Result T DiskError) (e : DiskError) (q : Result T RollError) → (r.page - 1) * size + length out ≤ longest
-        → called ≡ Err e → q ≡ Err Device → Writes Db ((r.page - 1) * size) out called b c → RecordAnswer size w count r q a c
-    unfolding RecordAnswer
-    record_unwritten called e q fits was device wrote = subst (λ (x : Result T RollError). RecordAnswer size w count r x a c) (sym device)
-        (refl, refusal_after a b c read.refused (had_refusal called e ((r.page - 1) * size + length out) b c read.count was wrote.within fits wrote.elsewhere.refused), inr (called, puts called wrote))
+    pub run_unwritten : (called : Result (Unit {0}) DiskError) (e : DiskError) (q : Result ℕ RollError) → (first.page - 1) * size + length out ≤ longest
+        → called ≡ Err e → q ≡ Err Device → Writes Db ((first.page - 1) * size) out called b c → RunAnswer size w count i q a c
+    unfolding RunAnswer
+    run_unwritten called e q fits was device wrote = subst (λ (x : Result ℕ RollError). RunAnswer size w count i x a c) (sym device)
+        (refl, refusal_after a b c read.refused (had_refusal called e ((first.page - 1) * size + length out) b c read.count was wrote.within fits wrote.elsewhere.refused), inr (k, called, puts called wrote))
 
-    pub record_put : (done : T) → Writes Db ((r.page - 1) * size) out (Ok done) b c → RecordAnswer size w count r (Ok done) a c
-    unfolding RecordAnswer
-    record_put done wrote = inr (puts (Ok done) wrote)
+    pub run_put : Writes Db ((first.page - 1) * size) out (Ok (tt {0})) b c → RunAnswer size w count i (Ok k) a c
+    unfolding RunAnswer
+    run_put wrote = inr (puts (Ok (tt {0})) wrote)
+
+pub run_fits : (size p k count : ℕ) → p - 1 + k ≤ count → count * size ≤ most_bytes → (p - 1) * size + k * size ≤ most_bytes
+run_fits size p k count within small =
+    let up : (p - 1 + k) * size ≤ count * size = mul-le-mul_right size within in
+    let e : (p - 1) * size + k * size ≡ (p - 1 + k) * size = times_more (p - 1) k size in omega arith
+  where
+    times_more : (a n c : ℕ) → a * c + n * c ≡ (a + n) * c
+    times_more a n c = omega arith
+
+-- what a run asks for
+pub run_may : (size p k count at : ℕ) (bytes : List ℕ) → 1 ≤ k → p - 1 + k ≤ count → at ≡ (p - 1) * size → length bytes ≡ k * size → count * size ≤ most_bytes → AreWholePages size at bytes
+run_may size p k count at bytes some le is long small = (p - 1, k, is, some, long, omega (arith, is, long, run_fits size p k count le small))
 
 -- ---- Record after record.
 
@@ -80,71 +148,51 @@ pub upto_none : (w db : List ℕ) (count : ℕ) (es : List Record) (s : DiskStat
 upto_none w db count es s are p a b j lt =
     sym (present_byte s.db db are ((p - 1) * word w 24 + j)) ∙ sym (get_or-file_page (word w 24) db p j lt) ∙ ap (λ (c : List ℕ). get_or c j 0) (sym (made_none w db p))
 
-module _ (w db : List ℕ) (count : ℕ) (es : List Record) (k : ℕ) (r : Record) (is : slice_get es k ≡ Some r) (fits : r.at + word w 24 ≤ length w) where
-  -- the record isn't written
-  upto_same : (s : DiskState) → Upto w db count es k s → (r.page ≡ 0) ⊎ (count < r.page) → Upto w db count es (k + 1) s
-  upto_same s so_far out p a b j lt =
-      let ne : r.page ≢ p = λ e. ⊎_elim (λ z. omega (arith, e, z, a)) (λ l. omega (arith, e, l, b)) out in
-      so_far p a b j lt ∙ ap (λ (c : List ℕ). get_or c j 0) (sym (made_other w db es k r is p ne))
+-- an entry is left out
+upto_same : (w db : List ℕ) (count : ℕ) (es : List Record) (k : ℕ) (r : Record) → slice_get es k ≡ Some r → (s : DiskState) → Upto w db count es k s → (r.page ≡ 0) ⊎ (count < r.page) → Upto w db count es (k + 1) s
+upto_same w db count es k r is s so_far out p a b j lt =
+    let ne : r.page ≢ p = λ e. ⊎_elim (λ z. omega (arith, e, z, a)) (λ l. omega (arith, e, l, b)) out in
+    so_far p a b j lt ∙ ap (λ (c : List ℕ). get_or c j 0) (sym (made_other w db es k r is p ne))
 
-  upto_put : {T : Type 0} {u : T} (a b : DiskState) → Upto w db count es k a → PutsRecord (word w 24) w count r (Ok u) a b → Upto w db count es (k + 1) b
-  upto_put a b so_far puts p one le j lt =
-      let bytes : List ℕ = part w r.at (word w 24) in
-      let long : length bytes ≡ word w 24 = part_long (word w 24) r.at w fits in
-      let now : (i : ℕ) → byte b.db i ≡ written puts.mid.db ((r.page - 1) * word w 24) bytes i = λ i. present_written Db ((r.page - 1) * word w 24) bytes puts.mid b puts.write i in
-      ⊎_elim
-      (λ e.
-      let place : (p - 1) * word w 24 + j ≡ (r.page - 1) * word w 24 + j = ap (λ (n : ℕ). (n - 1) * word w 24 + j) (sym e) in
-      let back : (r.page - 1) * word w 24 + j - (r.page - 1) * word w 24 ≡ j = omega arith in
-      ap (λ (i : ℕ). byte b.db i) place ∙ now ((r.page - 1) * word w 24 + j)
-      ∙ written_inside puts.mid.db ((r.page - 1) * word w 24) bytes ((r.page - 1) * word w 24 + j) (omega arith) (omega (arith, long))
-      ∙ ap (λ (n : ℕ). get_or bytes n 0) back ∙ ap (λ (c : List ℕ). get_or c j 0) (sym (ap (λ (q : ℕ). made w db (take (k + 1) es) q) (sym e) ∙ made_here w db es k r is)))
-      (λ ne.
-      let outside : ((p - 1) * word w 24 + j < (r.page - 1) * word w 24) ⊎ ((r.page - 1) * word w 24 + length bytes ≤ (p - 1) * word w 24 + j) = ⊎_elim
-      (λ below. inl (omega (arith, page_before (word w 24) p r.page one below)))
-      (λ above. inr (let lt_p : r.page < p = omega (arith, above, ne) in omega (arith, page_before (word w 24) r.page p puts.one lt_p, long)))
-      (cases_lt p r.page) in
-      now ((p - 1) * word w 24 + j) ∙ written_outside puts.mid.db ((r.page - 1) * word w 24) bytes ((p - 1) * word w 24 + j) outside
-      ∙ ap (λ (s : FileState). byte s ((p - 1) * word w 24 + j)) puts.read.db ∙ so_far p one le j lt ∙ ap (λ (c : List ℕ). get_or c j 0) (sym (made_other w db es k r is p ne)))
-      (cases_eq r.page p)
+-- a run is put
+upto_put : (w db : List ℕ) (count : ℕ) (es : List Record) (k n : ℕ) (a b : DiskState) → Upto w db count es k a → (puts : PutsRun (word w 24) w count (k + 1) n (Ok (tt {0})) a b)
+    → ((j : ℕ) → j < n → slice_get es (k + j) ≡ Some (record { page = puts.first.page + j; at = puts.first.at + j * (word w 24 + 8) })) → Upto w db count es (k + n) b
+upto_put w db count es k n a b so_far puts are p one le j lt = ⊎_elim
+    (λ run. let place : p ≡ puts.first.page + run.0 = run.2 in
+    ap (λ (q : ℕ). byte b.db ((q - 1) * word w 24 + j)) place ∙ run_inside (word w 24) puts.first.page n puts.bytes puts.mid b puts.one puts.long puts.write run.0 j run.1 lt
+    ∙ puts.each run.0 j run.1 lt ∙ ap (λ (c : List ℕ). get_or c j 0) (sym (ap (λ (q : ℕ). made w db (take (k + n) es) q) place
+    ∙ made_run w db es k puts.first.page puts.first.at (word w 24 + 8) n run.0 are run.1)))
+    (λ out. run_outside (word w 24) puts.first.page n puts.bytes puts.mid b puts.one puts.long puts.write ((p - 1) * word w 24 + j) (run_apart (word w 24) puts.first.page n p j one puts.one out lt)
+    ∙ ap (λ (s : FileState). byte s ((p - 1) * word w 24 + j)) puts.read.db ∙ so_far p one le j lt
+    ∙ ap (λ (c : List ℕ). get_or c j 0) (sym (made_apart w db es k puts.first.page puts.first.at (word w 24 + 8) n p are out)))
+    (run_cases puts.first.page n p)
 
-  pub upto_more : {T : Type 0} (done : T) (q : Result T RollError) (a b : DiskState) → Upto w db count es k a → q ≡ Ok done → RecordAnswer (word w 24) w count r q a b → Upto w db count es (k + 1) b
-  unfolding RecordAnswer
-  upto_more {T = T} done q a b so_far was answer =
-      let got = subst (λ (x : Result T RollError). RecordAnswer (word w 24) w count r x a b) was answer in
-      ⊎_elim (λ none. subst (λ (s : DiskState). Upto w db count es (k + 1) s) (sym none.1) (upto_same a so_far none.0)) (λ puts. upto_put a b so_far puts) got
-
--- an entry, of a journal
+-- of a journal
 module _ (w db : List ℕ) (count size : ℕ) (segments : List Segment) (end : ℕ) (why : Why) (is : IsJournal w segments end why) (same : size ≡ word w 24) (k : ℕ) where
-  pub entry_fits : (r : Record) → HasEntry w (k + 1) (Some r) → r.at + size ≤ length w
-  entry_fits r has = subst (λ (n : ℕ). r.at + n ≤ length w) (sym same) (entry_within w segments end why is k r (entry_is w segments end why is k r has))
-
-  pub upto_entry : {T : Type 0} (done : T) (q : Result T RollError) (a b : DiskState) → k < length (entries_of w segments) → Upto w db count (entries_of w segments) k a → q ≡ Ok done
-      → EntryAnswer size w count (k + 1) q a b → Upto w db count (entries_of w segments) (k + 1) b
-  upto_entry {T = T} done q a b below so_far was answer = by answer.0 answer.1 answer.2
+  pub upto_run : (n : ℕ) (q : Result ℕ RollError) (a b : DiskState) → k < length (entries_of w segments) → Upto w db count (entries_of w segments) k a → q ≡ Ok n
+      → RunAnswer size w count (k + 1) q a b → Upto w db count (entries_of w segments) (k + n) b
+  unfolding RunAnswer
+  upto_run n q a b below so_far was answer =
+      let got = subst (λ (z : ℕ). RunAnswer z w count (k + 1) (Ok n) a b) same (subst (λ (x : Result ℕ RollError). RunAnswer size w count (k + 1) x a b) was answer) in
+      ⊎_elim
+      (λ none. subst (λ (m : ℕ). Upto w db count (entries_of w segments) (k + m) b) (sym none.0)
+      (subst (λ (s : DiskState). Upto w db count (entries_of w segments) (k + 1) s) (sym none.2) (left none.1.entry none.1.has none.1.out)))
+      (λ puts. upto_put w db count (entries_of w segments) k n a b so_far puts
+      (λ j lt. entry_is w segments end why is (k + j) (record { page = puts.first.page + j; at = puts.first.at + j * (word w 24 + 8) })
+      (subst (λ (m : ℕ). HasEntry w m (Some (record { page = puts.first.page + j; at = puts.first.at + j * (word w 24 + 8) }))) (let e : k + 1 + j ≡ k + j + 1 = omega arith in e) (puts.are j lt))))
+      got
     where
-      by : (entry : Option Record) → HasEntry w (k + 1) entry → EntryStep size w count entry q a b → Upto w db count (entries_of w segments) (k + 1) b
-      by None has step = absurd (no_entry w segments end why is k below has)
-      by (Some r) has step =
-          let found = entry_is w segments end why is k r has in
-          upto_more w db count (entries_of w segments) k r found (entry_within w segments end why is k r found) done q a b so_far was
-          (subst (λ (n : ℕ). RecordAnswer n w count r q a b) same (step (entry_fits r has)))
+      left : (entry : Option Record) → HasEntry w (k + 1) entry → MatchOption entry (Unit {0}) (λ r. (r.page ≡ 0) ⊎ (count < r.page)) → Upto w db count (entries_of w segments) (k + 1) a
+      left None has out = absurd (no_entry w segments end why is k below has)
+      left (Some r) has out = upto_same w db count (entries_of w segments) k r (entry_is w segments end why is k r has) a so_far out
 
-pub copy_refused : {T U : Type 0} (size : ℕ) (w : List ℕ) (count : ℕ) (x : Record) (d : Database) (r : Result T RollError) (q : Result U RollError) (e : RollError) (s0 a b : DiskState) → s0.refused ≤ a.refused
-    → r ≡ Err e → q ≡ Err e → RecordAnswer size w count x r a b → CopyAnswer size d q s0 b
-unfolding RecordAnswer CopyAnswer
-copy_refused {T = T} {U = U} size w count x d r q e s0 a b le was is answer =
-    let got = subst (λ (y : Result T RollError). RecordAnswer size w count x y a b) was answer in
+-- a refused copy of a run
+pub run_refused : {U : Type 0} (size : ℕ) (w : List ℕ) (count i : ℕ) (d : Database) (r : Result ℕ RollError) (q : Result U RollError) (e : RollError) (s0 a b : DiskState) → s0.refused ≤ a.refused
+    → r ≡ Err e → q ≡ Err e → RunAnswer size w count i r a b → CopyAnswer size d q s0 b
+unfolding RunAnswer CopyAnswer
+run_refused {U = U} size w count i d r q e s0 a b le was is answer =
+    let got = subst (λ (y : Result ℕ RollError). RunAnswer size w count i y a b) was answer in
     subst (λ (y : Result U RollError). CopyAnswer size d y s0 b) (sym is) (got.0, refusal_after s0 a b le got.1)
-
--- a refused copy of an entry
-pub entry_refused : {T U : Type 0} (size : ℕ) (w : List ℕ) (count i : ℕ) (d : Database) (r : Result T RollError) (q : Result U RollError) (e : RollError) (s0 a b : DiskState) → s0.refused ≤ a.refused
-    → ((x : Record) → HasEntry w i (Some x) → x.at + size ≤ length w) → r ≡ Err e → q ≡ Err e → EntryAnswer size w count i r a b → CopyAnswer size d q s0 b
-entry_refused {T = T} {U = U} size w count i d r q e s0 a b le fits was is answer = by answer.0 answer.1 (subst (λ (y : Result T RollError). EntryStep size w count answer.0 y a b) was answer.2)
-  where
-    by : (entry : Option Record) → HasEntry w i entry → EntryStep {T = T} size w count entry (Err e) a b → CopyAnswer size d q s0 b
-    by None has step = absurd step
-    by (Some x) has step = copy_refused {T = T} {U = U} size w count x d (Err e) q e s0 a b le refl is (step (fits x has))
 
 -- the length is set
 pub copied : {T : Type 0} {u : T} (w db : List ℕ) (count n : ℕ) (es : List Record) (k : ℕ) (d : Database) (s0 a b : DiskState) → length d ≡ count → n ≡ count * word w 24 → k ≡ length es

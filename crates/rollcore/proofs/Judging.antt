@@ -50,10 +50,10 @@ module _ (torn : ℕ) (w : List ℕ) where
   unfolding PlanAnswer
   plan_memory q is = subst (λ (x : Result (Option Plan) RollError). PlanAnswer torn w x) (sym is) tt
 
-  pub plan_some : (r : Result (Unit {0}) RollError) (done : Unit {0}) (plan : Plan) → r ≡ Ok done → JudgeAnswer torn w r → Took w plan.scan → Names w plan.header → length plan.page.items ≡ plan.header.page_size → PlanAnswer torn w (Ok (Some plan))
+  pub plan_some : (r : Result (Unit {0}) RollError) (done : Unit {0}) (plan : Plan) → r ≡ Ok done → JudgeAnswer torn w r → Took w plan.scan → Names w plan.header → PlanAnswer torn w (Ok (Some plan))
   unfolding JudgeAnswer PlanAnswer
-  plan_some r done plan was answer took names room =
-      (subst (λ (x : Result (Unit {0}) RollError). JudgeAnswer torn w x) was answer, record { took = took; names = names; room = room ∙ names.size })
+  plan_some r done plan was answer took names =
+      (subst (λ (x : Result (Unit {0}) RollError). JudgeAnswer torn w x) was answer, record { took = took; names = names })
 
   module _ (a b : DiskState) where
     pub read_planned : (r : Result (Option Plan) RollError) → PlanAnswer torn w r → ReadAnswer torn w r a b

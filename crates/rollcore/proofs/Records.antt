@@ -6,6 +6,7 @@ use Rattle.std.proofs.lemmas.List.{reverse-append, map-append, get_or-drop, get_
 use Rattle.std.proofs.Math.Seq.{take-add}
 use Rattle.std.proofs.lemmas.Option.{get_or_from_slice_get, slice_get-get_or, slice_get_within}
 use Rattle.std.proofs.lemmas.List.FromFn.{get_or-map-range_with_len, length-map-range_with_len}
+use Rattle.std.proofs.lemmas.Bool.{cases_lt}
 use Rattle.std.proofs.lemmas.Bool.Decides.{nat_tests}
 use Rattle.sqval.specs.Bytes.{part, word}
 use Rattle.sqval.specs.Database.{Database, Pages, page, file_page, supplied}
@@ -264,6 +265,34 @@ module _ (w db : List ℕ) (es : List Record) (k : ℕ) (r : Record) (is : slice
   unfolding made
   made_other p ne = ap (λ (l : Pages). unwrap_or (last_content l p) (file_page (word w 24) db p)) (records_more w es k r is)
       ∙ ap (λ (o : Option (List ℕ)). unwrap_or o (file_page (word w 24) db p)) (last_other (records_of w (take k es)) (content_at (sizes_of w) w r) p ne)
+
+-- n entries more, of pages one behind the other
+module _ (w db : List ℕ) (es : List Record) (k page at step : ℕ) where
+  abbrev from : ℕ → ℕ → List ℕ
+  from n p = made w db (take (k + n) es) p
+
+  made_step : (n : ℕ) → (p : ℕ) → slice_get es (k + n) ≡ Some (record { page = page + n; at = at + n * step }) → page + n ≢ p → from (n + 1) p ≡ from n p
+  made_step n p is ne = ap (λ (i : ℕ). made w db (take i es) p) (let e : k + (n + 1) ≡ k + n + 1 = omega arith in e) ∙ made_other w db es (k + n) (record { page = page + n; at = at + n * step }) is p ne
+
+  pub made_apart : (n p : ℕ) → ((j : ℕ) → j < n → slice_get es (k + j) ≡ Some (record { page = page + j; at = at + j * step })) → (p < page) ⊎ (page + n ≤ p) → from n p ≡ made w db (take k es) p
+  made_apart zero p are out = ap (λ (i : ℕ). made w db (take i es) p) (let e : k + 0 ≡ k = omega arith in e)
+  made_apart (suc n) p are out =
+      let up : suc n ≡ n + 1 = omega arith in
+      ap (λ (i : ℕ). from i p) up ∙ made_step n p (are n (omega arith)) (λ e. ⊎_elim (λ lt. omega (arith, e, lt)) (λ le. omega (arith, e, le)) out)
+      ∙ made_apart n p (λ j lt. are j (omega arith)) (⊎_elim (λ lt. inl lt) (λ le. inr (omega arith)) out)
+
+  pub made_run : (n j : ℕ) → ((i : ℕ) → i < n → slice_get es (k + i) ≡ Some (record { page = page + i; at = at + i * step })) → j < n → from n (page + j) ≡ part w (at + j * step) (word w 24)
+  made_run zero j are lt = absurd (omega arith)
+  made_run (suc n) j are lt =
+      let up : suc n ≡ n + 1 = omega arith in
+      ap (λ (i : ℕ). from i (page + j)) up ∙ ⊎_elim
+      (λ below. made_step n (page + j) (are n (omega arith)) (λ e. omega (arith, e, below)) ∙ made_run n j (λ i l. are i (omega arith)) below)
+      (λ here. let e : j ≡ n = omega arith in
+      ap (λ (i : ℕ). made w db (take i es) (page + j)) (let f : k + (n + 1) ≡ k + n + 1 = omega arith in f)
+      ∙ ap (λ (i : ℕ). made w db (take (k + n + 1) es) (page + i)) e
+      ∙ made_here w db es (k + n) (record { page = page + n; at = at + n * step }) (are n (omega arith))
+      ∙ ap (λ (i : ℕ). part w (at + i * step) (word w 24)) (sym e))
+      (let c : (j < n) ⊎ (n ≤ j) = cases_lt j n in c)
 
 -- ---- Its bytes.
 

@@ -94,9 +94,9 @@ pub record Planned (w db : List ℕ) (count n : ℕ) : Type 0 where
   pub first : count ≡ word w 16
   pub within : count * n ≤ most_bytes
 
-pub planned : (w db : List ℕ) (torn n : ℕ) (plan : Plan) → IsFit torn w → IsPlan w plan → n ≡ length plan.page.items → Planned w db plan.header.first_size n
+pub planned : (w db : List ℕ) (torn n : ℕ) (plan : Plan) → IsFit torn w → IsPlan w plan → n ≡ plan.header.page_size → Planned w db plan.header.first_size n
 planned w db torn n plan fit is e =
-    let same : n ≡ word w 24 = e ∙ is.room in
+    let same : n ≡ word w 24 = e ∙ is.names.size in
     let count = has_count w plan.scan (length plan.scan.records.items) is.took refl in
     let made = rolled_exists w db count.segments count.stop.at count.stop.why count.is fit.hot in
     record {

@@ -56,6 +56,9 @@ page_within size content number full within = subst (λ (n : ℕ). number * n �
 pub page_limit : (size page count : ℕ) → 1 ≤ page → page ≤ count → count * size ≤ most_bytes → (page - 1) * size + size ≤ most_bytes
 page_limit size page count one le within = let top : page * size ≤ count * size = mul-le-mul_right size le in omega (arith, top, within, page_end size page one)
 
+pub one_page : (size : ℕ) → size ≡ 1 * size
+one_page size = omega arith
+
 -- ---- What is asked for, as well.
 
 module _ {May : Change → Type 0} where

@@ -1,5 +1,5 @@
 -- While pages are written into the file, what is left shows what it showed.
-use Rattle.std.proofs.Common.{◌≡◌, ◌≢◌, ⊎_elim, ℕ, ◌+◌, ◌-◌, ◌*◌, ◌/◌, ◌<◌, ◌≤◌, true, false, List, length, get_or, sym, ◌∙◌, ap, subst, arith}
+use Rattle.std.proofs.Common.{◌≡◌, ◌≢◌, ◌⊎◌, ⊎_elim, ℕ, ◌+◌, ◌-◌, ◌*◌, ◌/◌, ◌<◌, ◌≤◌, true, false, List, length, get_or, sym, ◌∙◌, ap, subst, arith}
 use Rattle.std.specs.Prelude.{Result, Option, unwrap_or}
 use Rattle.sqval.specs.Database.{Database, page, file_page, IsFile}
 use Rattle.sqval.specs.Bytes.{word}
@@ -21,7 +21,8 @@ use Rattle.rollcore.specs.Alone.{Show, ShowsAlone}
 use Rattle.crashdisk.specs.Keeps.{IsLogDown, Suits}
 use Rattle.rollcore.specs.Phases.{Scanning, Unnamed, Writing, Filed}
 use Rattle.rollcore.specs.Steps.{ArePages}
-use Rattle.crashdisk.proofs.Pages.{page_at, page_apart, page_within, sector_some, page_clear, cut_clear}
+use Rattle.crashdisk.proofs.Pages.{page_at, page_within, sector_some, cut_clear}
+use Rattle.crashdisk.proofs.Runs.{run_cases, run_apart, run_clear}
 use Rattle.sqval.proofs.FilePages.{size_some, get_or-file_page, page_by_bytes, file_count}
 use Rattle.crashdisk.proofs.Suiting.{suits_syncs, suits_writes, suits_cuts}
 use Rattle.rollcore.proofs.Down.{shows_by}
@@ -110,18 +111,18 @@ module _ (size : ℕ) (w : List ℕ) (d : Database) where
   clear : (s : DiskState) → (is : Writing size w d s) → (p i : ℕ) → 1 ≤ p → p ≤ length d → Unnamed (all_records is.segments) p → i < size → IsClear s.sector s.tears s.db (page_at size p + i)
   clear s is p i a b un lt = page_is_clear size s p (page d p) is.suits a (λ j lt_j. is.steady p j a b un lt_j) i lt
 
-  -- a page that a record names is written
-  pub writing_writes : {T : Type 0} (q : ℕ) (bytes : List ℕ) (result : Result T DiskError) (old new : DiskState) → (is : Writing size w d old) → 1 ≤ q → (Unnamed (all_records is.segments) q → ⊥) → length bytes ≡ size
+  -- pages that records name are written
+  pub writing_writes : (q k : ℕ) (bytes : List ℕ) (result : Result (Unit {0}) DiskError) (old new : DiskState) → (is : Writing size w d old) → 1 ≤ q → ((j : ℕ) → j < k → Unnamed (all_records is.segments) (q + j) → ⊥) → length bytes ≡ k * size
       → Writes Db ((q - 1) * size) bytes result old new → Writing size w d new
-  writing_writes q bytes result old new is one named full wrote = writing_by old new is (suits_writes size Db (page_at size q) bytes result old new is.suits wrote)
+  writing_writes q k bytes result old new is one named full wrote = writing_by old new is (suits_writes size Db (page_at size q) bytes result old new is.suits wrote)
       (down_writes w (page_at size q) bytes result old new is.down wrote) wrote.elsewhere.sector wrote.elsewhere.tears
       (λ p i a b un lt.
-      let ne : p ≢ q = λ e. named (subst (λ (k : ℕ). Unnamed (all_records is.segments) k) e un) in
+      let other : (p < q) ⊎ (q + k ≤ p) = ⊎_elim (λ run. absurd (named run.0 run.1 (subst (λ (n : ℕ). Unnamed (all_records is.segments) n) run.2 un))) (λ out. out) (run_cases q k p) in
       steady_writes Db (page_at size q) bytes result old new (page_at size p + i) (get_or (page d p) i 0) is.suits.sound.db wrote (is.steady p i a b un lt)
       (λ spreads.
-      let in_q = page_clear size old.sector q (page_at size p + i) old.tears (whole_pages size old is.suits) (omega (arith, sector_some old.sector is.suits.sectors)) one
-      (subst (λ (k : ℕ). Spreads old.sector old.tears (page_at size q) (page_at size q + k) (page_at size p + i)) full spreads) in
-      page_apart size p q (page_at size p + i) a one ne (omega arith) (omega arith) in_q.0 in_q.1)
+      let in_q = run_clear size old.sector q k (page_at size p + i) old.tears (whole_pages size old is.suits) (omega (arith, sector_some old.sector is.suits.sectors)) one
+      (subst (λ (n : ℕ). Spreads old.sector old.tears (page_at size q) (page_at size q + n) (page_at size p + i)) full spreads) in
+      ⊎_elim (λ below. omega (arith, in_q.0)) (λ above. omega (arith, in_q.1)) (run_apart size q k p i a one other lt))
       (clear old is p i a b un lt))
 
   -- the length is set

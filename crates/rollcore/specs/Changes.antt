@@ -12,9 +12,9 @@ use Rattle.rollcore.specs.Machine.{Act, Opens, Commits, Reads, Crashes, Sets}
 use Rattle.rollcore.specs.declared.error.RollError.{RollError}
 use Rattle.rollcore.specs.declared.error.RollError.TheVariants.{Device}
 
--- one page of this size, whole, at its place in a database within the limit
-abbrev pub IsWholePage : (size at : ℕ) → (bytes : List ℕ) → Type 0
-IsWholePage size at bytes = (p : ℕ) × (at ≡ p * size) × (length bytes ≡ size) × (at + size ≤ most_bytes)
+-- whole pages of this size, one or more one behind the other, at the place of the first in a database within the limit
+abbrev pub AreWholePages : (size at : ℕ) → (bytes : List ℕ) → Type 0
+AreWholePages size at bytes = (p : ℕ) × (k : ℕ) × (at ≡ p * size) × (1 ≤ k) × (length bytes ≡ k * size) × (at + length bytes ≤ most_bytes)
 
 -- the length of so many pages of this size, within the limit
 abbrev pub IsWholeLength : (size n : ℕ) → Type 0
@@ -23,7 +23,7 @@ IsWholeLength size n = (count : ℕ) × (n ≡ count * size) × (n ≤ most_byte
 -- A replay of a journal of pages of this size: pages of the database and its length; 28 zero bytes over the journal's first
 -- header; and syncs.
 abbrev pub MayReplay : (size : ℕ) → Change → Type 0
-MayReplay size (write Db at bytes) = IsWholePage size at bytes
+MayReplay size (write Db at bytes) = AreWholePages size at bytes
 MayReplay size (write Log at bytes) = (at ≡ 0) × (bytes ≡ replicate 28 0)
 MayReplay size (set_len Db n) = IsWholeLength size n
 MayReplay size (set_len Log n) = ⊥

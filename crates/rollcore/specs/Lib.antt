@@ -5,6 +5,7 @@ pub mod Replaying
 pub mod Phases
 pub mod Steps
 pub mod Plans
+pub mod Copying
 pub mod Machine
 pub mod Premises
 pub mod Fits

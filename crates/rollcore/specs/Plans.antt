@@ -1,5 +1,5 @@
 -- What a replay plans of a scanned journal (own).
-use Rattle.std.specs.Prelude.{◌≡◌, ◌⊎◌, ℕ, ◌*◌, ◌<◌, ◌≤◌, List, length, Result, Ok, Err, Option, Some, None}
+use Rattle.std.specs.Prelude.{◌≡◌, ◌⊎◌, ℕ, ◌*◌, ◌^◌, ◌<◌, ◌≤◌, List, length, Result, Ok, Err, Option, Some, None}
 use Rattle.sqval.specs.Bytes.{word}
 use Rattle.sqjournal.specs.Header.{Names}
 use Rattle.sqjournal.specs.Journal.{IsHot}
@@ -27,12 +27,11 @@ pub record IsFit (torn : ℕ) (w : List ℕ) : Type 0 where
 pub record IsPlan (w : List ℕ) (plan : Plan) : Type 0 where
   pub took : Took w plan.scan
   pub names : Names w plan.header
-  pub room : length plan.page.items ≡ word w 24
 
--- room for one page, and a database within the limit
+-- room for a page and no more than for a few, and a database within the limit
 pub record IsSmall (plan : Plan) : Type 0 where
-  pub short : length plan.page.items ≤ 65536
-  pub page : length plan.page.items ≡ plan.header.page_size
+  pub room : plan.header.page_size ≤ length plan.room.items
+  pub short : length plan.room.items ≤ 2 ^ 24
   pub few : plan.header.first_size * plan.header.page_size ≤ most_bytes
 
 -- what the judging of a hot journal answers: the first of these that holds

@@ -1,5 +1,5 @@
 -- What the parts of a replay do to a disk (fileformat2, 3).
-use Rattle.std.specs.Prelude.{◌≡◌, ◌⊎◌, ℕ, ◌+◌, ◌-◌, ◌*◌, ◌<◌, ◌≤◌, Bool, true, false, cond, List, length, get_or, take, replicate, Result, Ok, Err, IsErr, Option, Some, None}
+use Rattle.std.specs.Prelude.{◌≡◌, ◌⊎◌, ℕ, ◌+◌, ◌-◌, ◌*◌, ◌<◌, ◌≤◌, Bool, true, false, cond, List, length, get_or, take, replicate, Result, Ok, Err, IsErr, Option, MatchOption, Some, None}
 use Rattle.sqval.specs.Bytes.{part}
 use Rattle.sqval.specs.Database.{Database, page}
 use Rattle.sqjournal.specs.Journal.{IsHot}
@@ -51,28 +51,30 @@ ScanAnswer w (Err e) old new = ScanRefused w e old new
 
 -- ---- The copying.
 
--- the page of a record is read and written to its place
-pub record PutsRecord {T : Type 0} (size : ℕ) (w : List ℕ) (count : ℕ) (r : Record) (called : Result T DiskError) (old new : DiskState) : Type 0 where
-  pub one : 1 ≤ r.page
-  pub within : r.page ≤ count
+-- k entries of a journal from number i on hold the pages of the database from one on, and stand one behind the other: they are
+-- read, and the pages are written to their places at once
+pub record PutsRun (size : ℕ) (w : List ℕ) (count i k : ℕ) (called : Result (Unit {0}) DiskError) (old new : DiskState) : Type 0 where
+  pub first : Record
+  pub one : 1 ≤ first.page
+  pub within : first.page - 1 + k ≤ count
+  pub are : (j : ℕ) → j < k → HasEntry w (i + j) (Some (record { page = first.page + j; at = first.at + j * (size + 8) }))
+  pub bytes : List ℕ
+  pub long : length bytes ≡ k * size
+  pub each : (j x : ℕ) → j < k → x < size → get_or bytes (j * size + x) 0 ≡ get_or (part w (first.at + j * (size + 8)) size) x 0
   pub mid : DiskState
   pub read : Still old mid
-  pub write : Writes Db ((r.page - 1) * size) (part w r.at size) called mid new
+  pub write : Writes Db ((first.page - 1) * size) bytes called mid new
 
--- the page of a record was put, or is above the count
-unfoldable pub RecordAnswer : {T : Type 0} → (size : ℕ) → List ℕ → (count : ℕ) → Record → Result T RollError → (old new : DiskState) → Type 0
-RecordAnswer size w count r (Ok done) old new = (((r.page ≡ 0) ⊎ (count < r.page)) × (new ≡ old)) ⊎ PutsRecord size w count r (Ok done) old new
-RecordAnswer {T = T} size w count r (Err e) old new = (e ≡ Device) × HadRefusal old new × (Still old new ⊎ ((called : Result T DiskError) × PutsRecord size w count r called old new))
+-- entry number i is none of a page of the database
+pub record IsLeftOut (w : List ℕ) (count i : ℕ) : Type 0 where
+  pub entry : Option Record
+  pub has : HasEntry w i entry
+  pub out : MatchOption entry (Unit {0}) (λ r. (r.page ≡ 0) ⊎ (count < r.page))
 
--- where an entry is a record whose page lies in the journal, that is copied; where there is none, nothing is done
-abbrev pub EntryStep : {T : Type 0} → (size : ℕ) → List ℕ → (count : ℕ) → Option Record → Result T RollError → (old new : DiskState) → Type 0
-EntryStep size w count (Some r) result old new = r.at + size ≤ length w → RecordAnswer size w count r result old new
-EntryStep size w count None (Ok _) old new = new ≡ old
-EntryStep size w count None (Err _) old new = ⊥
-
--- the same of the journal's entry of this number
-abbrev pub EntryAnswer : {T : Type 0} → (size : ℕ) → List ℕ → (count i : ℕ) → Result T RollError → (old new : DiskState) → Type 0
-EntryAnswer size w count i result old new = (entry : Option Record) × HasEntry w i entry × EntryStep size w count entry result old new
+-- so many entries from number i on were put, or it alone is left out
+unfoldable pub RunAnswer : (size : ℕ) → List ℕ → (count i : ℕ) → Result ℕ RollError → (old new : DiskState) → Type 0
+RunAnswer size w count i (Ok k) old new = ((k ≡ 1) × IsLeftOut w count i × (new ≡ old)) ⊎ PutsRun size w count i k (Ok tt) old new
+RunAnswer size w count i (Err e) old new = (e ≡ Device) × HadRefusal old new × (Still old new ⊎ ((k : ℕ) × (called : Result (Unit {0}) DiskError) × PutsRun size w count i k called old new))
 
 -- the present bytes are just these pages
 pub record ArePages (size : ℕ) (d : Database) (s : FileState) : Type 0 where

@@ -1,5 +1,5 @@
 //! The pages of a journal's records are copied into the database, and the journal's header is zeroed.
-ghost use Rattle.std.specs.Prelude.{◌≡◌, ◌↔◌, ◌+◌, ◌*◌, ◌<◌, ◌≤◌, ℕ, List, length, true, IfErr};
+ghost use Rattle.std.specs.Prelude.{◌≡◌, ◌↔◌, ◌+◌, ◌-◌, ◌*◌, ◌^◌, ◌<◌, ◌≤◌, ℕ, List, length, Some, true, IsTrue, IfOk, IfErr};
 ghost use Rattle.sqval.specs.Bytes.{word};
 ghost use Rattle.sqval.specs.Database.{Database};
 ghost use Rattle.sqval.specs.Held.{IsHeld};
@@ -9,7 +9,10 @@ ghost use Rattle.sqjournal.specs.Journal.{IsHot};
 ghost use Rattle.crashdisk.specs.Call.{DiskState, IsSoundDisk, ArePresent};
 ghost use Rattle.crashdisk.specs.declared.file.File.TheVariants.{Db, Log};
 ghost use Rattle.sqval.specs.CommitFaults.{most_bytes};
-ghost use Rattle.rollcore.specs.Steps.{RecordAnswer, EntryAnswer, ArePages, CopyAnswer, ZeroSteps, EndAnswer};
+ghost use Rattle.crashdisk.specs.During.{During, OnSound};
+ghost use Rattle.sqjournal.specs.Took.{HasEntry};
+ghost use Rattle.rollcore.specs.Copying.{CopiesRun, CopiesRecords};
+ghost use Rattle.rollcore.specs.Steps.{ArePages, ZeroSteps, EndAnswer};
 ghost use Rattle.crashdisk.specs.Keeps.{Still, KeepsLog, SyncStep, IsLogDown};
 ghost use Rattle.rollcore.specs.Changes.{MayReplay, Asks};
 ghost use Rattle.rollcore.specs.Phases.{Writing};
@@ -22,77 +25,109 @@ ghost use Rattle.crashdisk.specs.State.{IsSectorSize};
 use crate::error::RollError;
 use crashdisk::{Disk, File};
 use sqjournal::{Record, Replay};
+use sqval::gather;
 
-/// Copies the page of a record, unless it is above the database of so many pages.
-fn copy_record<D: Disk>(
-    disk: &mut D,
-    entry: Record,
-    count: u32,
-    page: &mut [u8],
-) -> Result<(), RollError>
-    requires { length page.old ≤ 65536 }
-    ensures word { D.keeps_word disk.old ↔ D.keeps_word disk.new }
-    ensures log { D.keeps_word disk.old → IsSoundDisk (D.state disk.old) → KeepsLog (D.state disk.old) (D.state disk.new) }
-    ensures asks { D.keeps_word disk.old → count * length page.old ≤ most_bytes → Asks (MayReplay (length page.old)) result (D.state disk.old) (D.state disk.new) }
-    ensures page { D.keeps_word disk.old → IsSoundDisk (D.state disk.old)
-        → (w : List ℕ) → ArePresent (D.state disk.old).log w → entry.at + length page.old ≤ length w → count * length page.old ≤ most_bytes
-        → RecordAnswer (length page.old) w count entry result (D.state disk.old) (D.state disk.new) }
+/// How many bytes a record has round its page: the page's number before it, and its sum behind it.
+const ROUND: usize = 8;
+
+/// How many pages are copied at once in a room of so many bytes: they are read with what stands between them, behind room for
+/// one page fewer, and then brought together.
+fn fitting(room: usize, size: usize) -> usize
+    requires some { 1 ≤ size }
+    requires least { size ≤ room }
+    requires most { room ≤ 2 ^ 24 }
+    ensures some { 1 ≤ result }
+    ensures fits { result * (2 * size + ROUND) ≤ room + size + ROUND }
 {
-    if entry.page == 0 || entry.page > count {
-        return Ok(());
-    }
-    disk.read_at(File::Log, entry.at, page)?;
-    let at = u64::from(entry.page - 1) * page.len() as u64;
-    disk.write_at(File::Db, at, page)?;
-    Ok(())
+    (room + size + ROUND) / (2 * size + ROUND)
 }
 
-/// Copies the page of the record of this number, where there is one.
-fn copy_entry<D: Disk>(
+/// Whether a record is of the page that comes so many behind another's, and stands so many records behind it.
+fn follows(next: Record, first: Record, run: usize, size: usize) -> bool
+    requires { (run < 2 ^ 25) × (size ≤ 65536) }
+    ensures { IsTrue result → next ≡ record { page = first.page + run; at = first.at + run * (size + ROUND) } }
+{
+    let page = u64::from(first.page) + run as u64;
+    let at = u128::from(first.at) + (run * (size + ROUND)) as u128;
+    u64::from(next.page) == page && u128::from(next.at) == at
+}
+
+/// How many records from this one on, at most so many, are of one page behind the other, and stand one behind the other.
+fn run_from(scan: &Replay, number: usize, first: Record, size: usize, most: usize) -> usize
+    requires number { (1 ≤ number) × (number - 1 + most < 2 ^ 64) }
+    requires most { (1 ≤ most) × (most ≤ 2 ^ 25) × (size ≤ 65536) }
+    ensures count { (1 ≤ result) × (result ≤ most) }
+    ensures each { (w : List ℕ) → Took w scan.now → HasEntry w number (Some first)
+        → (j : ℕ) → j < result → HasEntry w (number + j) (Some (record { page = first.page + j; at = first.at + j * (size + ROUND) })) }
+{
+    let mut run = 1;
+    while run < most {
+        let Some(next) = scan.entry(number + run) else {
+            break;
+        };
+        if !follows(next, first, run, size) {
+            break;
+        }
+        run += 1;
+    }
+    run
+}
+
+/// Copies the page of the record of this number, and of some behind it, at most so many, where it is one of the database of so
+/// many pages. How many records.
+fn copy_run<D: Disk>(
     disk: &mut D,
     scan: &Replay,
-    i: usize,
+    number: usize,
     count: u32,
-    page: &mut [u8],
-) -> Result<(), RollError>
-    requires { length page.old ≤ 65536 }
-    ensures word { D.keeps_word disk.old ↔ D.keeps_word disk.new }
-    ensures log { D.keeps_word disk.old → IsSoundDisk (D.state disk.old) → KeepsLog (D.state disk.old) (D.state disk.new) }
-    ensures asks { D.keeps_word disk.old → count * length page.old ≤ most_bytes → Asks (MayReplay (length page.old)) result (D.state disk.old) (D.state disk.new) }
-    ensures page { D.keeps_word disk.old → IsSoundDisk (D.state disk.old)
-        → (w : List ℕ) → ArePresent (D.state disk.old).log w → Took w scan.now → count * length page.old ≤ most_bytes
-        → EntryAnswer (length page.old) w count i result (D.state disk.old) (D.state disk.new) }
+    most: usize,
+    size: usize,
+    room: &mut [u8],
+) -> Result<usize, RollError>
+    requires number { (1 ≤ number) × (number - 1 + most < 2 ^ 64) × (1 ≤ most) × (most ≤ 2 ^ 25) }
+    requires room { (size ≤ 65536) × (most * (2 * size + ROUND) ≤ length room.old + size + ROUND) }
+    ensures disk { During D.keeps_word D.state disk.old disk.new (OnSound (CopiesRun size scan.now count number result)) }
+    ensures count { IfOk result (λ k. (1 ≤ k) × (k ≤ most)) }
+    ensures room { length room.new ≡ length room.old }
 {
-    match scan.entry(i) {
-        Some(entry) => copy_record(disk, entry, count, page),
-        None => Ok(()),
+    let Some(first) = scan.entry(number) else {
+        return Ok(1);
+    };
+    if first.page == 0 || first.page > count {
+        return Ok(1);
     }
+    let left = (count - first.page) as usize + 1;
+    let run = run_from(scan, number, first, size, most.min(left));
+    let from = (run - 1) * size;
+    let end = from + run * (size + ROUND) - ROUND;
+    disk.read_at(File::Log, first.at, &mut room[from..end])?;
+    gather(room, size, ROUND, run);
+    let at = u64::from(first.page - 1) * size as u64;
+    disk.write_at(File::Db, at, &room[..run * size])?;
+    Ok(run)
 }
 
-/// Copies the pages of a journal's records in order, and sets the database's length to so many pages (fileformat2, 3).
+/// Copies the pages of a journal's records in order, each of this size, and sets the database's length to so many pages
+/// (fileformat2, 3). In a room for more than a page several are copied at once.
 pub fn copy_records<D: Disk>(
     disk: &mut D,
     scan: &Replay,
     count: u32,
-    page: &mut [u8],
+    size: usize,
+    room: &mut [u8],
 ) -> Result<(), RollError>
-    requires { length page.old ≤ 65536 }
-    ensures word { D.keeps_word disk.old ↔ D.keeps_word disk.new }
-    ensures log { D.keeps_word disk.old → IsSoundDisk (D.state disk.old) → KeepsLog (D.state disk.old) (D.state disk.new) }
-    ensures asks { D.keeps_word disk.old → count * length page.old ≤ most_bytes → Asks (MayReplay (length page.old)) result (D.state disk.old) (D.state disk.new) }
-    ensures pages { D.keeps_word disk.old → IsSoundDisk (D.state disk.old)
-        → (db w : List ℕ) (d : Database) → ArePresent (D.state disk.old).db db → ArePresent (D.state disk.old).log w → Took w scan.now → IsHot w
-        → length page.old ≡ word w 24 → count ≡ word w 16 → count * length page.old ≤ most_bytes → IsRolledBack db w d
-        → CopyAnswer (length page.old) d result (D.state disk.old) (D.state disk.new) }
-    ensures writing { D.keeps_word disk.old → IsSoundDisk (D.state disk.old)
-        → (w : List ℕ) (d : Database) → ArePresent (D.state disk.old).log w → Took w scan.now
-        → count * length page.old ≤ most_bytes → count ≡ word w 16
-        → Writing (length page.old) w d (D.state disk.old) → Writing (length page.old) w d (D.state disk.new) }
+    requires size { (1 ≤ size) × (size ≤ 65536) }
+    requires room { (size ≤ length room.old) × (length room.old ≤ 2 ^ 24) }
+    ensures { During D.keeps_word D.state disk.old disk.new (OnSound (CopiesRecords size scan.now count result)) }
 {
-    for i in 0..scan.count() {
-        copy_entry(disk, scan, i + 1, count, page)?;
+    let most = fitting(room.len(), size);
+    let total = scan.count();
+    let mut done = 0;
+    while done < total {
+        let left = total - done;
+        done += copy_run(disk, scan, done + 1, count, most.min(left), size, room)?;
     }
-    disk.set_len(File::Db, u64::from(count) * page.len() as u64)?;
+    disk.set_len(File::Db, u64::from(count) * size as u64)?;
     Ok(())
 }
 

@@ -16,12 +16,15 @@ use std::alloc::Global;
 /// The most bytes of a database.
 pub const MOST_BYTES: u64 = 1073741824;
 
-/// A scanned journal that is hot, its first header, and room for one page.
+/// More room than for one page in which pages are copied, in bytes.
+const RUN: usize = 196_608;
+
+/// A scanned journal that is hot, its first header, and room for some pages.
 #[derive(Drop)]
 pub struct Plan {
     pub scan: Replay,
     pub header: JournalHeader,
-    pub page: Vec<u8>,
+    pub room: Vec<u8>,
 }
 
 /// Whether the database of a hot journal is too large, or sectors that tear, of this size, are larger than its pages
@@ -49,8 +52,8 @@ fn plan_of(alloc: Global, scan: Replay, torn: usize) -> Result<Option<Plan>, Rol
         return Ok(None);
     };
     judge(&header, torn)?;
-    let page = zeros(alloc, header.page_size.get() as usize)?;
-    Ok(Some(Plan { scan, header, page }))
+    let room = zeros(alloc, header.page_size.get() as usize + RUN)?;
+    Ok(Some(Plan { scan, header, room }))
 }
 
 /// Reads the journal, which has this many bytes, and judges it. None where it isn't hot.

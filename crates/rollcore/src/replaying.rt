@@ -75,9 +75,10 @@ pub(crate) fn replay_plan<D: Disk>(disk: &mut D, plan: Plan) -> Result<Replayed,
     let Plan {
         scan,
         header,
-        mut page,
+        mut room,
     } = plan;
-    copy_records(disk, &scan, header.first_size, &mut page)?;
+    let page = header.page_size.get() as usize;
+    copy_records(disk, &scan, header.first_size, page, &mut room)?;
     finish(disk)?;
     Ok(Replayed {
         hot: true,

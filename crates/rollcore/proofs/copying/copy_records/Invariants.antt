@@ -1,4 +1,4 @@
-use Rattle.std.proofs.Common.{◌≡◌, ◌↔◌, ◌*◌, ◌≤◌, ℕ, List, length}
+use Rattle.std.proofs.Common.{◌≡◌, ◌↔◌, ◌-◌, ◌*◌, ◌≤◌, ℕ, List, length}
 use Rattle.sqval.specs.Bytes.{word}
 use Rattle.sqval.specs.Database.{Database}
 use Rattle.sqjournal.specs.Journal.{Segment, IsJournal}
@@ -14,15 +14,19 @@ use Rattle.std.specs.Prelude.{Ok}
 use Rattle.rollcore.specs.Changes.{MayReplay, Asks}
 use Rattle.rollcore.proofs.copying.copy_records.Given as goal
 
-abbrev pub invariant-loop-i : goal.invariant-loop-i
-invariant-loop-i g l = record {
+abbrev pub invariant-loop-done : goal.invariant-loop-done
+invariant-loop-done g l = record {
+  within : l.done ≤ l.total;
   kept : g.D.Disk.keeps_word l.initial.disk ↔ g.D.Disk.keeps_word l.disk;
-  all : (w : List ℕ) → Took w l.scan → HasCount w l.i-end;
+  all : (w : List ℕ) → Took w l.scan → HasCount w l.total;
   log : g.D.Disk.keeps_word l.initial.disk → IsSoundDisk (g.D.Disk.state l.initial.disk) → KeepsLog (g.D.Disk.state l.initial.disk) (g.D.Disk.state l.disk);
-  asks : g.D.Disk.keeps_word l.fn.disk → l.count * length l.fn.page ≤ most_bytes → Asks {T = Unit {0}} (MayReplay (length l.fn.page)) (Ok tt) (g.D.Disk.state l.fn.disk) (g.D.Disk.state l.disk);
+  asks : g.D.Disk.keeps_word l.initial.disk → IsSoundDisk (g.D.Disk.state l.initial.disk) → l.count * l.size ≤ most_bytes → Asks {T = Unit {0}} (MayReplay l.size) (Ok tt) (g.D.Disk.state l.initial.disk) (g.D.Disk.state l.disk);
   pages : g.D.Disk.keeps_word l.initial.disk → IsSoundDisk (g.D.Disk.state l.initial.disk) → (db w : List ℕ) (segments : List Segment) (end : ℕ) (why : Why)
-      → ArePresent (g.D.Disk.state l.initial.disk).db db → ArePresent (g.D.Disk.state l.initial.disk).log w → Took w l.scan → length l.initial.page ≡ word w 24 → l.count * length l.initial.page ≤ most_bytes
-      → IsJournal w segments end why → Upto w db l.count (entries_of w segments) l.i (g.D.Disk.state l.disk);
+      → ArePresent (g.D.Disk.state l.initial.disk).db db → ArePresent (g.D.Disk.state l.initial.disk).log w → Took w l.scan → l.size ≡ word w 24 → l.count * l.size ≤ most_bytes
+      → IsJournal w segments end why → Upto w db l.count (entries_of w segments) l.done (g.D.Disk.state l.disk);
   writing : g.D.Disk.keeps_word l.initial.disk → IsSoundDisk (g.D.Disk.state l.initial.disk) → (w : List ℕ) (d : Database) → ArePresent (g.D.Disk.state l.initial.disk).log w
-      → Took w l.scan → l.count * length l.initial.page ≤ most_bytes → Writing (length l.initial.page) w d (g.D.Disk.state l.initial.disk) → Writing (length l.initial.page) w d (g.D.Disk.state l.disk);
+      → Took w l.scan → l.count * l.size ≤ most_bytes → Writing l.size w d (g.D.Disk.state l.initial.disk) → Writing l.size w d (g.D.Disk.state l.disk);
 }
+
+abbrev pub decreases-loop-done : goal.decreases-loop-done
+decreases-loop-done g l = l.total - l.done

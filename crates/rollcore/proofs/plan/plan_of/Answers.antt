@@ -12,10 +12,10 @@ returns-in_err-judge-clause-plan c = λ w took.
     let first = c.in-Some.ensures w took in
     plan_refused c.args.torn w c.judge.result c.from_residual.result _ first.0 c.in_err-judge.was (passed c.from_residual.result _ c.from_residual.ensures.1) (c.judge.ensures.judged w first.0 first.1)
 
-pub returns-in_err-page-clause-plan : goal.returns-in_err-page-clause-plan
-returns-in_err-page-clause-plan c = λ w took. plan_memory c.args.torn w c.from_residual-in_err-page.result (no_memory c.zeros.result c.from_residual-in_err-page.result _ c.in_err-page.was (c.in_err-page.was ∙ c.in_err-page.ensures.memory) c.from_residual-in_err-page.ensures.1)
+pub returns-in_err-room-clause-plan : goal.returns-in_err-room-clause-plan
+returns-in_err-room-clause-plan c = λ w took. plan_memory c.args.torn w c.from_residual-in_err-room.result (no_memory c.zeros.result c.from_residual-in_err-room.result _ c.in_err-room.was (c.in_err-room.was ∙ c.in_err-room.ensures.memory) c.from_residual-in_err-room.ensures.1)
 
 pub returns-clause-plan : goal.returns-clause-plan
 returns-clause-plan c = λ w took.
     let first = c.in-Some.ensures w took in
-    plan_some c.args.torn w c.judge.result _ _ c.in_ok-judge.was (c.judge.ensures.judged w first.0 first.1) took first.1 (c.in_ok-page.ensures.long ∙ c.get.ensures.value)
+    plan_some c.args.torn w c.judge.result _ _ c.in_ok-judge.was (c.judge.ensures.judged w first.0 first.1) took first.1
