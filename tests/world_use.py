@@ -207,7 +207,7 @@ def lines_of_the_list():
     named |= {"device 0": line(major=0, minor=37), "no end of line": own.rstrip("\n")}
     named |= {"the last of 300": line(7) * 300 + own, "the first of 3000": own + line(7) * 3000}
     named |= {"behind what is no line": "\n1:\n:::\nfe:00\n" + "x" * 5000 + "\n" + own}
-    unnamed = {"an empty list": "", "another file": line(inode + 1), "flock": line(kind="FLOCK"), "its log": line(log)}
+    unnamed = {"an empty list": "", "another file": line(inode + 10**9), "flock": line(kind="FLOCK"), "its log": line(log)}
     unnamed |= {"a longer number": line(inode * 10) + line(f"1{inode}"), "a shorter one": line(inode // 10)}
     unnamed |= {"another device": line(major=major + 1), "another part": line(minor=minor + 1)}
     unnamed |= {"a process of that number": line(7, process=inode), "cut": own[:own.index(":", 30)]}
