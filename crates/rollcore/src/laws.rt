@@ -1,7 +1,7 @@
 //! What holds of every run of the machine, and of what a disk shows.
 ghost use Rattle.std.specs.Prelude.{◌≡◌, ◌<◌, ◌≤◌, ℕ, Bool, List, length, true, false, IsTrue, Result, Ok, []};
 ghost use Rattle.sqval.specs.Database.{Database};
-ghost use Rattle.sqval.specs.Answers.{Answer};
+ghost use Rattle.sqval.specs.Answers.{Files, Answer};
 ghost use Rattle.sqval.specs.PageSize.{IsPageSize};
 ghost use Rattle.sqval.specs.Held.{IsJust, IsHeld};
 ghost use Rattle.crashdisk.specs.State.{IsSectorSize, IsSettled};
@@ -27,12 +27,12 @@ pub fn a_base_fits()
         → IsSettled s.db bytes → IsLogDown s [] → FitsDisk (start size base) s }
 {}
 
-/// A disk on which both files are down fits where the machine begins with the database that they show together: a hot
-/// journal that is rolled back, or one that isn't hot beside a file of whole pages. On a disk that tears a hot one names no
-/// smaller pages and no smaller sectors (own).
-pub fn a_settled_disk_fits()
-    ensures { (size : ℕ) (d : Database) (db log : List ℕ) (s : DiskState) → Suits size s → IsHeld size d → IsSettled s.db db
-        → IsLogDown s log → (TearsJournal s log → ⊥) → ShowsWhole size db log d → FitsDisk (start size d) s }
+/// Two files that are down fit where the machine begins with the database that they show together: a hot journal that is
+/// rolled back, or one that isn't hot beside a file of whole pages. On a disk that tears a hot one names no smaller pages and
+/// no smaller sectors (own).
+pub fn settled_files_fit()
+    ensures { (size : ℕ) (base : Database) (files : Files) (s : DiskState) → Suits size s → IsHeld size base → IsSettled s.db files.db
+        → IsLogDown s files.log → (TearsJournal s files.log → ⊥) → ShowsWhole size files.db files.log base → FitsDisk (start size base) s }
 {}
 
 /// In every run the floor is a place of the history (own).
@@ -52,7 +52,7 @@ pub fn what_is_down_stays()
 /// of it, as a borrower of it may do (own).
 pub fn a_look_fits()
     ensures core { (past : State) (core : Core) (old new : DiskState) → SameFiles old new → FitsCore past core old → FitsCore past core new }
-    ensures disk { (past : State) (old new : DiskState) → SameFiles old new → FitsDisk past old → FitsDisk past new }
+    ensures alone { (past : State) (old new : DiskState) → SameFiles old new → FitsDisk past old → FitsDisk past new }
 {}
 
 /// What fits a disk fits it after a crash, as the machine is then: on a disk that tears, after one that puts no header of the

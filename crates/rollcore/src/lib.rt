@@ -20,8 +20,8 @@ mod worked;
 
 pub use error::RollError;
 pub use laws::{
-    a_base_fits, a_crash_fits, a_look_fits, a_settled_disk_fits, one_is_shown, one_step,
-    runs_are_sane, what_is_down_stays, what_is_shown_stays,
+    a_base_fits, a_crash_fits, a_look_fits, one_is_shown, one_step, runs_are_sane,
+    settled_files_fit, what_is_down_stays, what_is_shown_stays,
 };
 pub use replaying::{Replayed, replay, replay_synced};
 pub use roll::{Refused, Roll, SEGMENT_RECORDS};

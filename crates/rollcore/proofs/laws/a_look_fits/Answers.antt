@@ -4,5 +4,5 @@ use Rattle.rollcore.proofs.laws.a_look_fits.Goals as goal
 pub returns-clause-core : goal.returns-clause-core
 returns-clause-core c past core old new still fits = fits_still past core old new still fits
 
-pub returns-clause-disk : goal.returns-clause-disk
-returns-clause-disk c past old new still fits = fits_disk_still past old new still fits
+pub returns-clause-alone : goal.returns-clause-alone
+returns-clause-alone c past old new still fits = fits_disk_still past old new still fits
