@@ -52,13 +52,13 @@ fn settled_verdict<R: Files + AllocGlobal + Clock, E: Write>(
 where
     R::File: FileExt,
 {
-    let before = readings_of(rt, paths);
+    let before = readings_of(rt, paths, false)?;
     let wait = time_to_wait(rt, &before);
     let answer = open_all(rt, paths, super_journal, notes);
     match watched(rt, paths, &before, answer)? {
         Verdict::Damaged(_) if !wait.is_zero() => {
             thread::sleep(rt, wait);
-            let settled = readings_of(rt, paths);
+            let settled = readings_of(rt, paths, false)?;
             unchanged(&before, &settled, Ok(()))?;
             let mut nowhere = io::sink();
             let mut unheard = Notes::new(&mut nowhere, false);
@@ -85,5 +85,5 @@ where
         }
         Err(refusal) => Err(refusal),
     };
-    unchanged(before, &readings_of(rt, paths), answer)
+    unchanged(before, &readings_of(rt, paths, false)?, answer)
 }

@@ -5,14 +5,18 @@ ghost use Rattle.sqrescue.specs.declared.requests.SuperJournal.TheVariants.{Gone
 use crate::opened_file::OpenedFile;
 use crate::requests::SuperJournal;
 use sqjournal::{JournalHeader, is_magic};
+use sqpage::SourceError;
 use sqview::FileBytes;
 use std::os::unix::fs::FileExt;
 
-/// Whether a journal ends as one does that names a super-journal: with the magic. Not where it can't be read.
-pub(crate) fn names_super_journal<F: FileExt>(journal: &mut OpenedFile<F>) -> bool {
+/// Whether a journal ends as one does that names a super-journal: with the magic.
+pub(crate) fn names_super_journal<F: FileExt>(
+    journal: &mut OpenedFile<F>,
+) -> Result<bool, SourceError> {
     let mut end = [0u8; 8];
     let length = journal.len();
-    length >= 8 && journal.read_at(length - 8, &mut end).is_ok() && is_magic(&end)
+    journal.read_at(length.saturating_sub(8), &mut end)?;
+    Ok(is_magic(&end))
 }
 
 /// Whether a hot journal is out of force: it names a super-journal, and that one is gone.
@@ -35,11 +39,11 @@ fn loosened(front: &[u8; 28]) -> [u8; 28] {
     header
 }
 
-/// Whether SQLite takes the journal's header though it isn't a valid one here. Not where it can't be read.
-pub(crate) fn is_valid_for_sqlite_alone<F: FileExt>(journal: &mut OpenedFile<F>) -> bool {
+/// Whether SQLite takes the journal's header though it isn't a valid one here.
+pub(crate) fn is_valid_for_sqlite_alone<F: FileExt>(
+    journal: &mut OpenedFile<F>,
+) -> Result<bool, SourceError> {
     let mut front = [0u8; 28];
-    journal.len() >= 28
-        && journal.read_at(0, &mut front).is_ok()
-        && JournalHeader::read(&front).is_err()
-        && JournalHeader::read(&loosened(&front)).is_ok()
+    journal.read_at(0, &mut front)?;
+    Ok(JournalHeader::read(&front).is_err() && JournalHeader::read(&loosened(&front)).is_ok())
 }

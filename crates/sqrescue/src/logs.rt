@@ -48,6 +48,8 @@ pub(crate) struct Beside<F> {
     pub db: Metadata,
     pub wal: OpenedFile<F>,
     pub journal: OpenedFile<F>,
+    /// Whether the journal is hot and names a super-journal of which nothing is said.
+    pub is_undecided: bool,
 }
 
 /// What the system says of a database file and of each of its logs that is there. Refused by `FileFailed` where the file is
@@ -86,15 +88,13 @@ where
     let (db, wal, journal) = found_files(rt, paths)?;
     let wal = opened(rt, paths.wal.as_str(), wal, 1)?;
     let mut journal = opened(rt, paths.journal.as_str(), journal, SHORTEST)?;
-    let names_super = names_super_journal(&mut journal);
+    let mut is_hot = hot_header(&mut journal)?.is_some();
+    let names_super = is_hot && names_super_journal(&mut journal)?;
     if is_out_of_force(names_super, super_journal) {
         journal = OpenedFile::missing();
+        is_hot = false;
     }
-    let is_hot = matches!(hot_header(&mut journal), Ok(Some(_)));
-    if is_hot && names_super && super_journal.is_none() {
-        notes.say(&"the journal names a super-journal, which decides whether it counts");
-    }
-    if is_valid_for_sqlite_alone(&mut journal) {
+    if is_valid_for_sqlite_alone(&mut journal)? {
         notes.say(
             &"the journal doesn't count, but SQLite takes its sector and page size, and would roll it back",
         );
@@ -102,7 +102,29 @@ where
     if db.len() == 0 && (is_hot || wal.len() != 0) {
         notes.say(&"the file is empty (0 bytes): SQLite would delete its log, and leave it empty");
     }
-    Ok(Beside { db, wal, journal })
+    Ok(Beside {
+        db,
+        wal,
+        journal,
+        is_undecided: is_hot && names_super && super_journal.is_none(),
+    })
+}
+
+/// The same, of logs that are only looked at: says where it isn't decided whether the journal counts.
+pub(crate) fn open_noted<R: Files, E: Write>(
+    rt: &R,
+    paths: &Paths,
+    super_journal: Option<SuperJournal>,
+    notes: &mut Notes<'_, E>,
+) -> Result<Beside<R::File>, Refusal>
+where
+    R::File: FileExt,
+{
+    let logs = open_logs(rt, paths, super_journal, notes)?;
+    if logs.is_undecided {
+        notes.say(&"the journal names a super-journal, which decides whether it counts");
+    }
+    Ok(logs)
 }
 
 /// An opened database file, and its logs.
@@ -123,7 +145,12 @@ pub(crate) fn open_all<R: Files, E: Write>(
 where
     R::File: FileExt,
 {
-    let Beside { db, wal, journal } = open_logs(rt, paths, super_journal, notes)?;
+    let Beside {
+        db,
+        wal,
+        journal,
+        ..
+    } = open_noted(rt, paths, super_journal, notes)?;
     Ok(Contents {
         db: opened(rt, paths.db.as_str(), Some(db), 0)?,
         wal,

@@ -7,7 +7,7 @@ ghost use Rattle.sqview.specs.LogView.{IsShown, pages_of};
 ghost use Rattle.sqrescue.specs.declared.outcome.Refusal.TheVariants.{FileFailed, NoMemory};
 ghost use Rattle.sqrescue.specs.declared.showing.ShowError.TheVariants.{Refused, Unwritten};
 
-use crate::logs::{Beside, Contents, open_all, open_logs};
+use crate::logs::{Beside, Contents, open_all, open_noted};
 use crate::notes::Notes;
 use crate::outcome::Refusal;
 use crate::paths::{Paths, paths_of};
@@ -87,9 +87,10 @@ where
         return Err(ShowError::Refused(Refusal::NoMemory));
     };
     let paths = paths_of(rt, file, notes)?;
-    let before = readings_of(rt, &paths);
+    let only_logs = part == Part::Log;
+    let before = readings_of(rt, &paths, only_logs)?;
     let answer = show_part(rt, &paths, part, super_journal, &mut lines, notes);
-    if let Err(changed) = unchanged(&before, &readings_of(rt, &paths), Ok(())) {
+    if let Err(changed) = unchanged(&before, &readings_of(rt, &paths, only_logs)?, Ok(())) {
         let (_, _) = lines.into_parts();
         return Err(ShowError::Refused(changed));
     }
@@ -114,7 +115,7 @@ where
         Part::Page(number) => {
             show_page(rt, open_all(rt, paths, super_journal, notes)?, number, out)
         }
-        Part::Log => show_log(rt, open_logs(rt, paths, super_journal, notes)?, out),
+        Part::Log => show_log(rt, open_noted(rt, paths, super_journal, notes)?, out),
     }
 }
 

@@ -1,13 +1,14 @@
 //! Whether files changed while they were read.
 ghost use Rattle.std.specs.Prelude.{◌≡◌, ◌≤◌, Err, IsTrue, false};
-ghost use Rattle.sqrescue.specs.Readings.{AreSame, IsSame, IsSameFile};
+ghost use Rattle.sqrescue.specs.Readings.{AreSame, IsSame, IsSameFile, IsSameFront};
 ghost use Rattle.sqrescue.specs.declared.outcome.Refusal.TheVariants.{FileChanged};
 
 use crate::file_disk::read_or_zeros;
 use crate::locks::{Identity, identity_of};
 use crate::outcome::Refusal;
-use crate::paths::{Paths, look_at};
+use crate::paths::{Paths, is_missing, look_at};
 use std::fs::OpenOptions;
+use std::io;
 use std::os::unix::fs::{FileExt, MetadataExt};
 use std::rt::Files;
 use std::time::{Clock, Duration};
@@ -24,8 +25,9 @@ pub struct Reading {
     /// When it was last changed, in seconds since 1970, and the nanoseconds behind them.
     pub seconds: i64,
     pub nanoseconds: i64,
-    /// Of a database file the 16 bytes from 24 on, which have the change counter, and zeros; of a log its first 32 bytes.
-    pub front: [u8; 32],
+    /// Of a database file the 16 bytes from 24 on, which have the change counter, and zeros; of a log its first 32 bytes;
+    /// none where they can't be read and needn't be.
+    pub front: Option<[u8; 32]>,
 }
 
 /// What a database file and its logs are at one time; none where there is no such file.
@@ -34,6 +36,17 @@ pub struct Readings {
     pub db: Option<Reading>,
     pub wal: Option<Reading>,
     pub journal: Option<Reading>,
+}
+
+/// Whether bytes are as they were, where both are there.
+fn is_same_front(before: &Option<[u8; 32]>, after: &Option<[u8; 32]>) -> bool
+    ensures yes { IsTrue result → IsSameFront before.now after.now }
+    ensures not { result ≡ false → ¬ IsSameFront before.now after.now }
+{
+    match (before, after) {
+        (Some(before), Some(after)) => *before == *after,
+        _ => true,
+    }
 }
 
 /// Whether a file is as it was.
@@ -45,7 +58,7 @@ fn is_same(before: &Reading, after: &Reading) -> bool
         && before.length == after.length
         && before.seconds == after.seconds
         && before.nanoseconds == after.nanoseconds
-        && before.front == after.front
+        && is_same_front(&before.front, &after.front)
 }
 
 /// Whether a file is as it was, or is missing as it was.
@@ -86,50 +99,65 @@ pub fn unchanged<T: Drop>(
     }
 }
 
-/// The bytes of a file at a place. Zeros where they can't be read: such bytes aren't compared.
-fn front_of<R: Files>(rt: &R, path: &str, at: u64, count: usize) -> [u8; 32]
+/// The bytes of a file at a place, with zeros behind them.
+fn front_of<R: Files>(rt: &R, path: &str, at: u64, count: usize) -> io::Result<[u8; 32]>
 where
     R::File: FileExt,
     requires { count ≤ 32 }
 {
     let mut front = [0u8; 32];
-    if let Ok(file) = OpenOptions::new().read(true).open(rt, path) {
-        if read_or_zeros(&file, at, &mut front[..count]).is_err() {
-            front = [0u8; 32];
-        }
-    }
-    front
+    let file = OpenOptions::new().read(true).open(rt, path)?;
+    read_or_zeros(&file, at, &mut front[..count])?;
+    Ok(front)
 }
 
-/// What a file is now, with so many bytes from a place on.
-fn reading_of<R: Files>(rt: &R, path: &str, at: u64, count: usize) -> Option<Reading>
+/// What a file is now, with so many bytes from a place on; none where there is no regular file.
+fn reading_of<R: Files>(
+    rt: &R,
+    path: &str,
+    at: u64,
+    count: usize,
+    must_be_read: bool,
+) -> Result<Option<Reading>, Refusal>
 where
     R::File: FileExt,
     requires { count ≤ 32 }
 {
-    let found = look_at(rt, path).ok()?;
-    if !found.is_file() {
-        return None;
-    }
-    Some(Reading {
+    let found = match look_at(rt, path) {
+        Ok(found) if found.is_file() => found,
+        Ok(_) => return Ok(None),
+        Err(error) if is_missing(&error) => return Ok(None),
+        Err(error) => return Err(Refusal::from(error)),
+    };
+    let front = match front_of(rt, path, at, count) {
+        Ok(front) => Some(front),
+        Err(error) if is_missing(&error) => return Ok(None),
+        Err(error) if must_be_read => return Err(Refusal::from(error)),
+        Err(_) => None,
+    };
+    Ok(Some(Reading {
         identity: identity_of(&found),
         length: found.len(),
         seconds: found.ctime(),
         nanoseconds: found.ctime_nsec(),
-        front: front_of(rt, path, at, count),
-    })
+        front,
+    }))
 }
 
-/// What a database file and its logs are now.
-pub(crate) fn readings_of<R: Files>(rt: &R, paths: &Paths) -> Readings
+/// What a database file and its logs are now. Where only the logs are read, the database file needn't be readable.
+pub(crate) fn readings_of<R: Files>(
+    rt: &R,
+    paths: &Paths,
+    only_logs: bool,
+) -> Result<Readings, Refusal>
 where
     R::File: FileExt,
 {
-    Readings {
-        db: reading_of(rt, paths.db.as_str(), 24, 16),
-        wal: reading_of(rt, paths.wal.as_str(), 0, 32),
-        journal: reading_of(rt, paths.journal.as_str(), 0, 32),
-    }
+    Ok(Readings {
+        db: reading_of(rt, paths.db.as_str(), 24, 16, !only_logs)?,
+        wal: reading_of(rt, paths.wal.as_str(), 0, 32, true)?,
+        journal: reading_of(rt, paths.journal.as_str(), 0, 32, true)?,
+    })
 }
 
 /// How long it is until a change of a file is dated later than its last one.
