@@ -1,28 +1,33 @@
 //! What `check` prints.
 use crate::logs::{Contents, open_all};
+use crate::notes::Notes;
 use crate::outcome::Refusal;
-use crate::paths::paths_of;
+use crate::paths::{Paths, paths_of};
+use crate::requests::SuperJournal;
 use crate::showing::ShowError;
 use crate::texts::{write_fault, write_report};
+use crate::watch::{Readings, readings_of, time_to_wait, unchanged};
 use sqview::{Verdict, judge};
-use std::io::Write;
+use std::io::{self, Write};
 use std::os::unix::fs::FileExt;
 use std::rt::Files;
+use std::thread;
+use std::time::Clock;
 
 /// Checks a database file as its log has it, and prints what is in it or its first fault. Whether it is well formed. No
-/// file is opened for writing, and none is made.
-pub(crate) fn check<R: Files + AllocGlobal, O: Write>(
+/// file is opened for writing, and none is made. Refused by `FileChanged` where a file changed meanwhile.
+pub(crate) fn check<R: Files + AllocGlobal + Clock, O: Write, E: Write>(
     rt: &R,
     file: &str,
+    super_journal: Option<SuperJournal>,
     out: &mut O,
+    notes: &mut Notes<'_, E>,
 ) -> Result<bool, ShowError>
 where
     R::File: FileExt,
 {
-    let paths = paths_of(rt, file).map_err(Refusal::from)?;
-    let Contents { db, wal, journal } = open_all(rt, &paths)?;
-    let verdict = judge(rt.alloc(), db, wal, journal).map_err(Refusal::from)?;
-    let is_well_formed = match verdict {
+    let paths = paths_of(rt, file, notes)?;
+    let is_well_formed = match settled_verdict(rt, &paths, super_journal, notes)? {
         Verdict::Clean(report) => {
             write_report(out, &report)?;
             true
@@ -34,4 +39,51 @@ where
     };
     out.flush()?;
     Ok(is_well_formed)
+}
+
+/// The verdict on files that don't change meanwhile. Where they were changed so shortly before that a further change might
+/// be dated like it, a fault is looked for again once any change is dated later.
+fn settled_verdict<R: Files + AllocGlobal + Clock, E: Write>(
+    rt: &R,
+    paths: &Paths,
+    super_journal: Option<SuperJournal>,
+    notes: &mut Notes<'_, E>,
+) -> Result<Verdict, Refusal>
+where
+    R::File: FileExt,
+{
+    let before = readings_of(rt, paths, false)?;
+    let wait = time_to_wait(rt, &before);
+    let answer = open_all(rt, paths, super_journal, notes);
+    match watched(rt, paths, &before, answer)? {
+        Verdict::Damaged(_) if !wait.is_zero() => {
+            thread::sleep(rt, wait);
+            let settled = readings_of(rt, paths, false)?;
+            unchanged(&before, &settled, Ok(()))?;
+            let mut nowhere = io::sink();
+            let mut unheard = Notes::new(&mut nowhere, false);
+            let answer = open_all(rt, paths, super_journal, &mut unheard);
+            watched(rt, paths, &settled, answer)
+        }
+        verdict => Ok(verdict),
+    }
+}
+
+/// The verdict on opened files, if they are as they were before.
+fn watched<R: Files + AllocGlobal>(
+    rt: &R,
+    paths: &Paths,
+    before: &Readings,
+    opened: Result<Contents<R::File>, Refusal>,
+) -> Result<Verdict, Refusal>
+where
+    R::File: FileExt,
+{
+    let answer = match opened {
+        Ok(Contents { db, wal, journal }) => {
+            judge(rt.alloc(), db, wal, journal).map_err(Refusal::from)
+        }
+        Err(refusal) => Err(refusal),
+    };
+    unchanged(before, &readings_of(rt, paths, false)?, answer)
 }

@@ -70,11 +70,12 @@ fn recover_command<'a>(alloc: Global) -> Result<Command<'a>, AllocError> {
     let force = Arg::new(alloc, "force")
         .long("force")
         .action(ArgAction::SetTrue)
-        .help("Doesn't ask whether another process has the file open");
+        .help("Goes on while another process has the file locked, which may leave it malformed");
     base_command(
         alloc,
         "recover",
-        "Recovers the database: folds its write-ahead log into it, or rolls it back by its hot journal",
+        "Recovers the database: folds its write-ahead log into it, or rolls it back by its hot journal; \
+         nobody else may have it open meanwhile",
     )?
     .arg(force)
 }

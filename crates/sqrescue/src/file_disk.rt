@@ -55,7 +55,7 @@ impl<F: FileExt + OpenFile + Drop, G: Guard> FileDisk<F, G> {
         }
     }
 
-    /// Asks the guard before the first change of a file.
+    /// Asks the guard before the first change of a file. For want of memory nothing is refused once the database was changed.
     fn may_change(&mut self, file: File) -> Result<(), DiskError>
         ensures db { OnOk result (file ≡ Db → IsTrue self.new.changes_db) }
         ensures log { OnOk result (file ≡ Log → IsTrue self.new.changes_log) }
@@ -68,9 +68,13 @@ impl<F: FileExt + OpenFile + Drop, G: Guard> FileDisk<F, G> {
         if changes {
             return Ok(());
         }
-        if let Err(refusal) = self.guard.ask() {
-            self.refusal = Some(refusal);
-            return Err(DiskError::Failed);
+        match self.guard.ask() {
+            Ok(()) => {}
+            Err(Refusal::NoMemory) if self.changes_db => {}
+            Err(refusal) => {
+                self.refusal = Some(refusal);
+                return Err(DiskError::Failed);
+            }
         }
         match file {
             File::Db => self.changes_db = true,

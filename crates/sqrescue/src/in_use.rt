@@ -1,7 +1,7 @@
 //! Whether another process has a database open.
 use crate::locks::{identity_of, is_locked};
 use crate::outcome::Refusal;
-use crate::paths::{Paths, look_at};
+use crate::paths::{Paths, is_missing, look_at};
 use std::fs;
 use std::io::ErrorKind;
 use std::rt::Files;
@@ -35,7 +35,7 @@ impl<R: Files + AllocGlobal> Drop for OpenElsewhere<'_, R> {
 }
 
 impl<R: Files + AllocGlobal> Guard for OpenElsewhere<'_, R> {
-    /// Refused by `InUse`, or for want of memory.
+    /// Refused by `InUse`, also for want of memory, or where the system doesn't say which file is which.
     fn ask(&self) -> Result<(), Refusal> {
         if self.forced {
             return Ok(());
@@ -45,13 +45,16 @@ impl<R: Files + AllocGlobal> Guard for OpenElsewhere<'_, R> {
             Err(error) if error.kind() == ErrorKind::OutOfMemory => return Err(Refusal::NoMemory),
             Err(_) => return Ok(()),
         };
-        for path in [self.paths.db.as_str(), self.paths.shm.as_str()] {
-            if let Ok(found) = look_at(self.rt, path) {
-                if is_locked(self.rt.alloc(), locks.as_str(), identity_of(&found))? {
-                    return Err(Refusal::InUse);
-                }
-            }
+        let alloc = self.rt.alloc();
+        let db = look_at(self.rt, self.paths.db.as_str())?;
+        if is_locked(alloc, locks.as_str(), identity_of(&db))? {
+            return Err(Refusal::InUse);
         }
-        Ok(())
+        match look_at(self.rt, self.paths.shm.as_str()) {
+            Ok(shm) if is_locked(alloc, locks.as_str(), identity_of(&shm))? => Err(Refusal::InUse),
+            Ok(_) => Ok(()),
+            Err(error) if is_missing(&error) => Ok(()),
+            Err(error) => Err(Refusal::from(error)),
+        }
     }
 }

@@ -7,8 +7,10 @@ mod checking;
 mod commands;
 mod file_disk;
 mod in_use;
+mod journals;
 mod locks;
 mod logs;
+mod notes;
 mod opened_file;
 mod outcome;
 mod paths;
@@ -17,6 +19,7 @@ mod recovery;
 mod requests;
 mod showing;
 mod texts;
+mod watch;
 mod words;
 
 use std::env::{self, Env};
@@ -24,9 +27,10 @@ use std::io::{self, Write};
 use std::os::unix::fs::FileExt;
 use std::process::ExitCode;
 use std::rt::Files;
+use std::time::Clock;
 
 /// Reads the words and carries them out.
-fn answer<R: Env + Files + AllocGlobal, O: Write, E: Write>(
+fn answer<R: Env + Files + AllocGlobal + Clock, O: Write, E: Write>(
     rt: &R,
     out: &mut O,
     err: &mut E,

@@ -44,6 +44,9 @@ pub enum Refusal {
     /// Another process has the database file open.
     #[error("in use")]
     InUse,
+    /// A file changed while it was read.
+    #[error("file changed")]
+    FileChanged,
     /// A file is missing, is no file, or its system refused a call.
     #[error("file failed")]
     FileFailed,

@@ -2,9 +2,15 @@
 ghost use Rattle.std.specs.Prelude.{◌↔◌, IsTrue};
 ghost use Rattle.sqrescue.specs.Paths.{AreApart};
 
+use crate::file_disk::read_or_zeros;
 use crate::locks::Identity;
+use crate::notes::Notes;
+use crate::outcome::Refusal;
+use sqjournal::is_magic;
 use std::alloc::Global;
-use std::fs::Metadata;
+use std::fs::{Metadata, OpenOptions};
+use std::io::Write;
+use std::os::unix::fs::FileExt;
 use std::rt::Files;
 use std::{fs, io};
 
@@ -28,6 +34,14 @@ pub(crate) fn look_at<R: Files>(rt: &R, path: &str) -> io::Result<Metadata> {
     Err(io::Error::from(io::ErrorKind::Interrupted))
 }
 
+/// Whether the system says that there is no such file, also as its name is too long for one.
+pub(crate) fn is_missing(error: &io::Error) -> bool {
+    matches!(
+        error.kind(),
+        io::ErrorKind::NotFound | io::ErrorKind::InvalidFilename
+    )
+}
+
 /// The path of a file behind symbolic links. One that is no link is left as it is given.
 fn resolved<R: Files + AllocGlobal>(rt: &R, file: &str) -> io::Result<String> {
     if look_at(rt, file)?.is_symlink() {
@@ -37,16 +51,51 @@ fn resolved<R: Files + AllocGlobal>(rt: &R, file: &str) -> io::Result<String> {
     Ok(String::from_str(rt.alloc(), file)?)
 }
 
-/// The paths of a database, whose other files lie beside the file that the links lead to, as for SQLite.
-pub(crate) fn paths_of<R: Files + AllocGlobal>(rt: &R, file: &str) -> io::Result<Paths> {
+/// The paths of a database, whose other files lie beside the file that the links lead to, as for SQLite. Says so where that
+/// file is a log.
+pub(crate) fn paths_of<R: Files + AllocGlobal, E: Write>(
+    rt: &R,
+    file: &str,
+    notes: &mut Notes<'_, E>,
+) -> Result<Paths, Refusal>
+where
+    R::File: FileExt,
+{
     let alloc = rt.alloc();
     let db = resolved(rt, file)?;
+    if is_log(rt, db.as_str()) {
+        notes.say(&"this is a log; name its database");
+    }
     Ok(Paths {
         wal: format!(in alloc; "{db}-wal")?,
         journal: format!(in alloc; "{db}-journal")?,
         shm: format!(in alloc; "{db}-shm")?,
         db,
     })
+}
+
+/// Whether a file begins and is named as a log: a WAL or a journal. Not where it can't be read.
+fn is_log<R: Files>(rt: &R, path: &str) -> bool
+where
+    R::File: FileExt,
+{
+    if !path.ends_with("-wal") && !path.ends_with("-journal") {
+        return false;
+    }
+    let mut front = [0u8; 8];
+    match look_at(rt, path) {
+        Ok(found) if found.is_file() => {}
+        _ => return false,
+    }
+    let Ok(file) = OpenOptions::new().read(true).open(rt, path) else {
+        return false;
+    };
+    read_or_zeros(&file, 0, &mut front).is_ok() && begins_as_log(&front)
+}
+
+/// Whether these are the first bytes of a WAL or of a journal.
+fn begins_as_log(front: &[u8; 8]) -> bool {
+    is_magic(front) || matches!(front, [0x37, 0x7f, 0x06, 0x82 | 0x83, ..])
 }
 
 /// Whether a database file and its logs are different files, as far as each log is there.

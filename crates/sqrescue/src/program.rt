@@ -2,6 +2,7 @@
 ghost use Rattle.std.specs.Prelude.{◌≤◌};
 
 use crate::checking::check;
+use crate::notes::Notes;
 use crate::recovery::recover;
 use crate::requests::{LineError, Request};
 use crate::showing::{ShowError, show};
@@ -10,6 +11,7 @@ use std::fmt::Display;
 use std::io::{self, Write};
 use std::os::unix::fs::FileExt;
 use std::rt::Files;
+use std::time::Clock;
 
 /// The line of `--version`.
 const VERSION: &str = "sqrescue 0.1.0";
@@ -23,8 +25,9 @@ const NOT_UNDERSTOOD: u8 = 2;
 const REFUSED: u8 = 3;
 
 /// Carries out a command line, whose first word is the program's name, and answers the program's status: 0 where it is
-/// done (also for help), 1 where `check` found damage, 2 for words that aren't understood, 3 where it was refused or a file or a writer failed.
-pub fn run<R: Files + AllocGlobal, O: Write, E: Write>(
+/// done (also for help), 1 where `check` found damage, 2 for words that aren't understood, 3 where it was refused or a file
+/// or a writer failed.
+pub fn run<R: Files + AllocGlobal + Clock, O: Write, E: Write>(
     rt: &R,
     words: &[&str],
     out: &mut O,
@@ -34,27 +37,72 @@ where
     R::File: FileExt,
     ensures { result ≤ 3 }
 {
-    match request(rt.alloc(), words) {
-        Ok(Request::Show { file, part, .. }) => match show(rt, file, part, out) {
-            Ok(()) => DONE,
-            Err(ShowError::Refused(refusal)) => refused(err, &refusal),
-            Err(ShowError::Unwritten) => REFUSED,
-        },
-        Ok(Request::Check { file, .. }) => match check(rt, file, out) {
-            Ok(true) => DONE,
-            Ok(false) => DAMAGED,
-            Err(ShowError::Refused(refusal)) => refused(err, &refusal),
-            Err(ShowError::Unwritten) => REFUSED,
-        },
-        Ok(Request::Recover { file, force, .. }) => match recover(rt, file, force) {
-            Ok(outcome) => printed(out, &outcome, DONE),
-            Err(refusal) => refused(err, &refusal),
-        },
-        Ok(Request::Version) => printed(out, &VERSION, DONE),
-        Err(LineError::Help(help)) => printed(out, &help, DONE),
-        Err(LineError::NotUnderstood(fault)) => printed(err, &fault, NOT_UNDERSTOOD),
-        Err(LineError::NoMemory) => refused(err, &LineError::NoMemory),
+    let request = match request(rt.alloc(), words) {
+        Ok(request) => request,
+        Err(LineError::Help(help)) => return printed(out, &help, DONE),
+        Err(LineError::NotUnderstood(fault)) => return printed(err, &fault, NOT_UNDERSTOOD),
+        Err(LineError::NoMemory) => return refused(err, &LineError::NoMemory),
+    };
+    let mut notes = Notes::new(err, is_verbose(&request));
+    let answer = carried_out(rt, request, out, &mut notes);
+    let failed = notes.have_failed();
+    drop(notes);
+    match answer {
+        Ok(_) if failed => REFUSED,
+        Ok(Answer::Done) => DONE,
+        Ok(Answer::Damaged) => DAMAGED,
+        Err(ShowError::Refused(refusal)) => refused(err, &refusal),
+        Err(ShowError::Unwritten) => REFUSED,
     }
+}
+
+/// What a request that was carried out comes to.
+#[derive(Clone, Copy)]
+enum Answer {
+    Done,
+    Damaged,
+}
+
+fn is_verbose(request: &Request<'_>) -> bool {
+    match request {
+        Request::Show { options, .. }
+        | Request::Check { options, .. }
+        | Request::Recover { options, .. } => options.verbose,
+        Request::Version => false,
+    }
+}
+
+fn carried_out<R: Files + AllocGlobal + Clock, O: Write, E: Write>(
+    rt: &R,
+    request: Request<'_>,
+    out: &mut O,
+    notes: &mut Notes<'_, E>,
+) -> Result<Answer, ShowError>
+where
+    R::File: FileExt,
+{
+    match request {
+        Request::Show {
+            file,
+            part,
+            options,
+        } => show(rt, file, part, options.super_journal, out, notes)?,
+        Request::Check { file, options } => {
+            if !check(rt, file, options.super_journal, out, notes)? {
+                return Ok(Answer::Damaged);
+            }
+        }
+        Request::Recover {
+            file,
+            force,
+            options,
+        } => {
+            let outcome = recover(rt, file, force, options.super_journal, notes)?;
+            line(out, &outcome)?;
+        }
+        Request::Version => line(out, &VERSION)?,
+    }
+    Ok(Answer::Done)
 }
 
 /// The status where the words can't be read: 3 for want of memory, 2 where they aren't text.

@@ -4,9 +4,11 @@ ghost use Rattle.std.specs.Prelude.{◌≡◌};
 use crate::file_disk::{FileDisk, metadata_of, read_or_zeros};
 use crate::in_use::{Guard, OpenElsewhere};
 use crate::logs::{Beside, open_logs};
+use crate::notes::Notes;
 use crate::opened_file::OpenedFile;
 use crate::outcome::{Outcome, Refusal};
 use crate::paths::{Paths, paths_of};
+use crate::requests::SuperJournal;
 use rollcore::replay;
 use sqjournal::is_magic;
 use sqpage::{has_magic, named_page_size};
@@ -15,6 +17,7 @@ use sqview::{FileBytes, LogInUse, log_in_use, scan_log};
 use sqwal::{WalFormatError, WalHeader};
 use std::alloc::Global;
 use std::fs::{OpenFile, OpenOptions};
+use std::io::Write;
 use std::os::unix::fs::FileExt;
 use std::rt::Files;
 use walcore::fold;
@@ -23,35 +26,44 @@ use walcore::fold;
 /// a hot FILE-journal into it and zeroes the journal's header. No file is made, and where no log counts none is written.
 /// Whether another process has it open is
 /// asked first, and again before each of the two files is changed; by force it isn't asked.
-pub(crate) fn recover<R: Files + AllocGlobal>(
+pub(crate) fn recover<R: Files + AllocGlobal, E: Write>(
     rt: &R,
     file: &str,
     forced: bool,
+    super_journal: Option<SuperJournal>,
+    notes: &mut Notes<'_, E>,
 ) -> Result<Outcome, Refusal>
 where
     R::File: FileExt,
 {
-    let paths = paths_of(rt, file)?;
+    let paths = paths_of(rt, file, notes)?;
     let guard = OpenElsewhere {
         rt,
         paths: &paths,
         forced,
     };
     guard.ask()?;
-    let Beside { wal, journal, .. } = open_logs(rt, &paths)?;
-    let mut journal = journal;
+    let Beside {
+        wal,
+        mut journal,
+        ..
+    } = open_logs(rt, &paths, super_journal, notes)?;
     match log_in_use(&wal, &mut journal)? {
         LogInUse::Neither => Ok(Outcome::Nothing),
         LogInUse::Wal => fold_log(rt, &paths, wal, guard),
-        LogInUse::Journal(_) => roll_back(rt, &paths, journal.len(), guard),
+        LogInUse::Journal(_) => {
+            let counts = super_journal == Some(SuperJournal::Present);
+            roll_back(rt, &paths, journal.len(), counts, guard)
+        }
     }
 }
 
-/// Replays a hot journal of this length, unless it is one of a transaction over several files.
+/// Replays a hot journal of this length; one of a transaction over several files only where it is said to count.
 fn roll_back<R: Files + AllocGlobal, G: Guard>(
     rt: &R,
     paths: &Paths,
     length: u64,
+    counts: bool,
     guard: G,
 ) -> Result<Outcome, Refusal>
 where
@@ -61,7 +73,7 @@ where
     let journal = open(rt, paths.journal.as_str())?;
     let mut end = [0u8; 8];
     read_or_zeros(&journal, length.saturating_sub(8), &mut end)?;
-    if is_magic(&end) {
+    if is_magic(&end) && !counts {
         return Err(Refusal::SuperJournal);
     }
     let mut disk = FileDisk::new(db, journal, guard);

@@ -7,13 +7,15 @@ ghost use Rattle.sqview.specs.LogView.{IsShown, pages_of};
 ghost use Rattle.sqrescue.specs.declared.outcome.Refusal.TheVariants.{FileFailed, NoMemory};
 ghost use Rattle.sqrescue.specs.declared.showing.ShowError.TheVariants.{Refused, Unwritten};
 
-use crate::logs::{Beside, Contents, open_all, open_logs};
+use crate::logs::{Beside, Contents, open_all, open_noted};
+use crate::notes::Notes;
 use crate::outcome::Refusal;
 use crate::paths::{Paths, paths_of};
-use crate::requests::Part;
+use crate::requests::{Part, SuperJournal};
 use crate::texts::{
     write_bytes, write_cell, write_column, write_header, write_journal, write_log, write_page,
 };
+use crate::watch::{readings_of, unchanged};
 use sqjournal::JournalError;
 use sqpage::{BtreePage, Cell, DbHeader, Fault, PageSource, SourceError, payload};
 use sqval::Record;
@@ -64,39 +66,69 @@ impl From<SourceError> for ShowError {
     }
 }
 
-/// Prints a part of a database file as its log has it, or its log. No file is opened for writing, and none is made.
-pub(crate) fn show<R: Files + AllocGlobal, O: Write>(
+/// How many bytes of lines are kept back, so that nothing is printed of files that changed: as many as a header and what a
+/// page itself holds come to.
+const KEPT: usize = 1 << 19;
+
+/// Prints a part of a database file as its log has it, or its log. No file is opened for writing, and none is made. Refused
+/// by `FileChanged` where a file changed meanwhile; lines may have been printed then.
+pub(crate) fn show<R: Files + AllocGlobal, O: Write, E: Write>(
     rt: &R,
     file: &str,
     part: Part,
+    super_journal: Option<SuperJournal>,
     out: &mut O,
+    notes: &mut Notes<'_, E>,
 ) -> Result<(), ShowError>
 where
     R::File: FileExt,
 {
-    let Ok(mut lines) = BufWriter::new(rt.alloc(), out) else {
+    let Ok(mut lines) = BufWriter::with_capacity(rt.alloc(), KEPT, out) else {
         return Err(ShowError::Refused(Refusal::NoMemory));
     };
-    let paths = paths_of(rt, file).map_err(Refusal::from)?;
-    match part {
-        Part::Header => show_header(rt, &paths, &mut lines)?,
-        Part::Page(number) => show_page(rt, &paths, number, &mut lines)?,
-        Part::Log => show_log(rt, &paths, &mut lines)?,
+    let paths = paths_of(rt, file, notes)?;
+    let only_logs = part == Part::Log;
+    let before = readings_of(rt, &paths, only_logs)?;
+    let answer = show_part(rt, &paths, part, super_journal, &mut lines, notes);
+    if let Err(changed) = unchanged(&before, &readings_of(rt, &paths, only_logs)?, Ok(())) {
+        let (_, _) = lines.into_parts();
+        return Err(ShowError::Refused(changed));
     }
+    answer?;
     lines.flush()?;
     Ok(())
 }
 
-fn show_header<R: Files + AllocGlobal, W: Write>(
+fn show_part<R: Files + AllocGlobal, W: Write, E: Write>(
     rt: &R,
     paths: &Paths,
+    part: Part,
+    super_journal: Option<SuperJournal>,
+    out: &mut W,
+    notes: &mut Notes<'_, E>,
+) -> Result<(), ShowError>
+where
+    R::File: FileExt,
+{
+    match part {
+        Part::Header => show_header(rt, open_all(rt, paths, super_journal, notes)?, out),
+        Part::Page(number) => {
+            show_page(rt, open_all(rt, paths, super_journal, notes)?, number, out)
+        }
+        Part::Log => show_log(rt, open_noted(rt, paths, super_journal, notes)?, out),
+    }
+}
+
+fn show_header<R: Files + AllocGlobal, W: Write>(
+    rt: &R,
+    files: Contents<R::File>,
     out: &mut W,
 ) -> Result<(), ShowError>
 where
     R::File: FileExt,
 {
     let alloc = rt.alloc();
-    let Contents { db, wal, journal } = open_all(rt, paths)?;
+    let Contents { db, wal, journal } = files;
     let mut view = view_of(alloc, db, wal, journal)?;
     if view.count() == 0 {
         return Err(ShowError::Refused(Refusal::NotADatabase));
@@ -159,7 +191,7 @@ fn usable_size(first: &[u8]) -> u32
 
 fn show_page<R: Files + AllocGlobal, W: Write>(
     rt: &R,
-    paths: &Paths,
+    files: Contents<R::File>,
     number: u32,
     out: &mut W,
 ) -> Result<(), ShowError>
@@ -167,7 +199,7 @@ where
     R::File: FileExt,
 {
     let alloc = rt.alloc();
-    let Contents { db, wal, journal } = open_all(rt, paths)?;
+    let Contents { db, wal, journal } = files;
     let mut view = view_of(alloc, db, wal, journal)?;
     let first = page_of(alloc, &mut view, 1)?;
     let usable = usable_size(&first);
@@ -240,14 +272,14 @@ fn show_record<W: Write>(bytes: &[u8], out: &mut W) -> Result<(), ShowError> {
 
 fn show_log<R: Files + AllocGlobal, W: Write>(
     rt: &R,
-    paths: &Paths,
+    logs: Beside<R::File>,
     out: &mut W,
 ) -> Result<(), ShowError>
 where
     R::File: FileExt,
 {
     let alloc = rt.alloc();
-    let Beside { wal, journal, .. } = open_logs(rt, paths)?;
+    let Beside { wal, journal, .. } = logs;
     let mut wal = wal;
     let mut journal = journal;
     match log_in_use(&wal, &mut journal).map_err(Refusal::from)? {
