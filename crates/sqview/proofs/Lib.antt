@@ -4,3 +4,4 @@ pub mod Recorded
 pub mod Framed
 pub mod Opening
 pub mod Pieces
+pub mod Ahead

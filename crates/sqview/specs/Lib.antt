@@ -4,3 +4,4 @@ pub mod LogView
 pub mod Numbers
 pub mod ViewParts
 pub mod Verdicts
+pub mod Ahead

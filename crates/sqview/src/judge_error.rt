@@ -1,7 +1,9 @@
 //! Why files aren't judged (own).
 ghost use Rattle.std.specs.Prelude.{◌≡◌};
 ghost use Rattle.sqview.specs.Numbers.{judge_number};
+ghost use Rattle.sqview.specs.declared.judge_error.JudgeError.TheVariants.{NoMemory};
 
+use std::alloc::AllocError;
 use thiserror::Error;
 
 /// Why it isn't judged whether the database that files show is well formed.
@@ -36,5 +38,13 @@ impl JudgeError {
             JudgeError::Unread => 4,
             JudgeError::NoMemory => 5,
         }
+    }
+}
+
+impl From<AllocError> for JudgeError {
+    ghost from_gives = { λ _ e. e ≡ NoMemory };
+
+    fn from(_refused: AllocError) -> JudgeError {
+        JudgeError::NoMemory
     }
 }

@@ -7,6 +7,7 @@ mod file_head;
 mod judge_error;
 mod logs;
 mod places;
+mod read_ahead;
 mod verdict;
 mod view;
 mod view_error;

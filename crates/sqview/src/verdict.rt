@@ -5,6 +5,7 @@ ghost use Rattle.sqview.specs.Verdicts.{IsVerdict, IsVerdictOf, IsUnjudged, AreU
 
 use crate::file_bytes::FileBytes;
 use crate::judge_error::JudgeError;
+use crate::read_ahead::ReadAhead;
 use crate::view::View;
 use crate::view_error::ViewError;
 use sqcheck::{Report, check};
@@ -37,10 +38,8 @@ fn judge_view<F: FileBytes>(alloc: Global, view: &mut View<F>) -> Result<Verdict
     }
 }
 
-/// What a check finds of the database that a file shows with its write-ahead log and its rollback journal, where a missing
-/// file has no bytes. A header that names no database is damage at page 1. Refused by TwoLogs, TooLarge, AutoVacuum and
-/// NoMemory, and by Unread where a file could not be read.
-pub fn judge<F: FileBytes + Drop>(
+/// What a check finds of files, of which nothing is read ahead.
+fn judge_files<F: FileBytes + Drop>(
     alloc: Global,
     db: F,
     wal: F,
@@ -59,4 +58,27 @@ pub fn judge<F: FileBytes + Drop>(
         Err(ViewError::Unread) => Err(JudgeError::Unread),
         Err(ViewError::NoMemory) => Err(JudgeError::NoMemory),
     }
+}
+
+/// How many bytes of a database file are read at once, where its pages are read one behind the other.
+const PIECE: usize = 32_768;
+
+/// What a check finds of the database that a file shows with its write-ahead log and its rollback journal, where a missing
+/// file has no bytes. A header that names no database is damage at page 1. Refused by TwoLogs, TooLarge, AutoVacuum and
+/// NoMemory, and by Unread where a file could not be read.
+pub fn judge<F: FileBytes + Drop>(
+    alloc: Global,
+    db: F,
+    wal: F,
+    journal: F,
+) -> Result<Verdict, JudgeError>
+    ensures found { F.gives_bytes db × F.gives_bytes wal × F.gives_bytes journal
+        → IfOk result (IsVerdict (F.bytes db) (F.bytes wal) (F.bytes journal)) }
+    ensures refused { F.gives_bytes db × F.gives_bytes wal × F.gives_bytes journal
+        → IfErr result (AreUnjudged (F.bytes db) (F.bytes wal) (F.bytes journal)) }
+{
+    let db = ReadAhead::new(alloc, db, PIECE)?;
+    let wal = ReadAhead::new(alloc, wal, 0)?;
+    let journal = ReadAhead::new(alloc, journal, 0)?;
+    judge_files(alloc, db, wal, journal)
 }

@@ -1,33 +1,33 @@
-use Rattle.std.proofs.Common.{ℕ, List, inl}
-use Rattle.std.specs.Prelude.{IfOk, IfErr, Result, Ok, Err}
-use Rattle.sqview.specs.LogView.{IsShown, pages_of}
-use Rattle.sqview.specs.Verdicts.{IsVerdict, IsVerdictOf, IsUnjudged, AreUnjudged}
-use Rattle.sqview.specs.declared.judge_error.JudgeError.TheVariants as refusals
+use Rattle.std.proofs.Common.{◌≡◌, ℕ, List, [], sym, ◌∙◌, ap, subst, refl}
+use Rattle.std.specs.Prelude.{IfOk, IfErr, Result}
+use Rattle.sqview.specs.Ahead.{IsUnread}
+use Rattle.sqview.specs.Laid.{HoldsPart}
+use Rattle.sqview.specs.Verdicts.{IsVerdict, AreUnjudged}
 use Rattle.sqview.specs.declared.judge_error.JudgeError.{JudgeError}
 use Rattle.sqview.specs.declared.verdict.Verdict.{Verdict}
-use Rattle.sqview.specs.declared.view.View.{View}
+use Rattle.sqview.specs.declared.read_ahead.ReadAhead.{ReadAhead}
+use Rattle.sqview.proofs.Ahead.{holds_nothing}
 use Rattle.sqview.proofs.verdict.judge.Goals as goal
 
--- what is found of a view is found of the files that it is of
-of_files : {F : Type 0} (bytes : F → List ℕ) (db wal journal : List ℕ) (v : View F) (r : Result Verdict JudgeError) → IsShown bytes db wal journal v → IfOk r (IsVerdictOf bytes v) → IfOk r (IsVerdict db wal journal)
-of_files bytes db wal journal v (Ok verdict) shown finds = inl (v.page_size, pages_of bytes v, shown.shows, finds)
-of_files bytes db wal journal v (Err e) shown finds = finds
+-- the same files
+along : (P : (db wal journal : List ℕ) → Type 0) (a b c x y z : List ℕ) → a ≡ x → b ≡ y → c ≡ z → P a b c → P x y z
+along P a b c x y z e f h p = subst (λ (l : List ℕ). P x y l) h (subst (λ (l : List ℕ). P x l c) f (subst (λ (l : List ℕ). P l b c) e p))
 
--- and why that isn't judged is why the files aren't
-unjudged_files : {F : Type 0} (bytes : F → List ℕ) (db wal journal : List ℕ) (v : View F) (r : Result Verdict JudgeError) → IsShown bytes db wal journal v → IfErr r (IsUnjudged (pages_of bytes v)) → IfErr r (AreUnjudged db wal journal)
-unjudged_files bytes db wal journal v (Ok verdict) shown refused = refused
-unjudged_files bytes db wal journal v (Err refusals.NoMemory) shown refused = tt
-unjudged_files bytes db wal journal v (Err refusals.TwoLogs) shown refused = absurd refused
-unjudged_files bytes db wal journal v (Err refusals.TooLarge) shown refused = absurd refused
-unjudged_files bytes db wal journal v (Err refusal) shown refused = (v.page_size, pages_of bytes v, shown.shows, refused)
+gives_unread : {F : Type 0} (bytes : F → List ℕ) (gives : F → Type 0) (file : F) (a : ReadAhead F) → IsUnread file a → gives file → gives a.file × HoldsPart (bytes a.file) a.from a.held a.piece.items
+gives_unread {F = F} bytes gives file a is given = (subst gives (sym is.same) given, holds_nothing (bytes a.file) a.from a.held a.piece.items is.nothing)
 
-pub returns-in-Ok : goal.returns-in-Ok
-returns-in-Ok g c = record {
-  found = λ gives.
-      of_files g.F.FileBytes.bytes (g.F.FileBytes.bytes c.args.db) (g.F.FileBytes.bytes c.args.wal) (g.F.FileBytes.bytes c.args.journal) c.in-Ok.view c.judge_view.result (c.in-Ok.ensures.answer gives) (c.judge_view.ensures.found (c.in-Ok.ensures.still_gives gives));
-  refused = λ gives.
-      unjudged_files g.F.FileBytes.bytes (g.F.FileBytes.bytes c.args.db) (g.F.FileBytes.bytes c.args.wal) (g.F.FileBytes.bytes c.args.journal) c.in-Ok.view c.judge_view.result (c.in-Ok.ensures.answer gives) (c.judge_view.ensures.refused (c.in-Ok.ensures.still_gives gives));
-}
+pub returns-clause-found : goal.returns-clause-found
+returns-clause-found g c = λ gives.
+    let bytes = g.F.FileBytes.bytes in
+    let given = g.F.FileBytes.gives_bytes in
+    along (λ db wal journal. IfOk c.judge_files.result (IsVerdict db wal journal)) _ _ _ _ _ _
+    (ap bytes c.in_ok-db.ensures.same) (ap bytes c.in_ok-wal.ensures.same) (ap bytes c.in_ok-journal.ensures.same)
+    (c.judge_files.ensures.found (gives_unread bytes given c.args.db c.in_ok-db.db c.in_ok-db.ensures gives.0, gives_unread bytes given c.args.wal c.in_ok-wal.wal c.in_ok-wal.ensures gives.1, gives_unread bytes given c.args.journal c.in_ok-journal.journal c.in_ok-journal.ensures gives.2))
 
-pub returns-in-Err-TooLarge-clause-refused : goal.returns-in-Err-TooLarge-clause-refused
-returns-in-Err-TooLarge-clause-refused g c = λ gives. rw c.in-Err-TooLarge.field-0-is at (c.in-Err-TooLarge.ensures.answer gives)
+pub returns-clause-refused : goal.returns-clause-refused
+returns-clause-refused g c = λ gives.
+    let bytes = g.F.FileBytes.bytes in
+    let given = g.F.FileBytes.gives_bytes in
+    along (λ db wal journal. IfErr c.judge_files.result (AreUnjudged db wal journal)) _ _ _ _ _ _
+    (ap bytes c.in_ok-db.ensures.same) (ap bytes c.in_ok-wal.ensures.same) (ap bytes c.in_ok-journal.ensures.same)
+    (c.judge_files.ensures.refused (gives_unread bytes given c.args.db c.in_ok-db.db c.in_ok-db.ensures gives.0, gives_unread bytes given c.args.wal c.in_ok-wal.wal c.in_ok-wal.ensures gives.1, gives_unread bytes given c.args.journal c.in_ok-journal.journal c.in_ok-journal.ensures gives.2))

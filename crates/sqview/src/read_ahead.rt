@@ -1,0 +1,88 @@
+//! A file of which some bytes are read ahead.
+ghost use Rattle.std.specs.Prelude.{◌≡◌, ◌+◌, ◌≤◌, ℕ, List, length, IfOk, MatchOption};
+ghost use Rattle.sqview.specs.Laid.{HoldsPart};
+
+use crate::file_bytes::FileBytes;
+use sqpage::SourceError;
+use std::alloc::{AllocError, Global};
+
+/// A file's bytes. Where a part is read that follows the one before, some bytes behind it are read at once, and given from
+/// memory when they are asked for.
+#[derive(Drop)]
+pub(crate) struct ReadAhead<F> {
+    file: F,
+    /// Room for what is read at once.
+    piece: Vec<u8>,
+    /// Where its bytes begin in the file, and how many are held.
+    from: u64,
+    held: usize,
+    /// Behind the part that was asked for last.
+    next: u64,
+    ghost within: { held ≤ length piece.items },
+}
+
+impl<F: FileBytes + Drop> ReadAhead<F> {
+    ghost use Rattle.sqview.specs.Ahead.{IsUnread};
+
+    /// A file of which up to so many bytes are read at once.
+    pub(crate) fn new(alloc: Global, file: F, most: usize) -> Result<ReadAhead<F>, AllocError>
+        ensures { IfOk result (IsUnread file) }
+    {
+        let piece = vec![in alloc; 0u8; most]?;
+        Ok(ReadAhead {
+            file,
+            piece,
+            from: 0,
+            held: 0,
+            next: 0,
+        })
+    }
+
+    /// Where so many bytes from this place on stand in the piece, if they are held.
+    fn place(&self, at: u64, count: usize) -> Option<usize>
+        ensures { MatchOption result (Unit {0}) (λ place. (self.now.from + place ≡ at) × (place + count ≤ self.now.held)) }
+    {
+        let before = at.checked_sub(self.from)?;
+        if before > self.held as u64 || count as u64 > self.held as u64 - before {
+            return None;
+        }
+        Some(before as usize)
+    }
+
+    /// Reads a piece from this place on; nothing is held where it can't be read.
+    fn fill(&mut self, at: u64)
+        ensures holds { F.gives_bytes self.old.file → F.gives_bytes self.new.file × HoldsPart (F.bytes self.new.file) self.new.from self.new.held self.new.piece.items }
+        ensures same { F.bytes self.new.file ≡ F.bytes self.old.file }
+        ensures room { length self.new.piece.items ≡ length self.old.piece.items }
+    {
+        self.held = 0;
+        if self.file.read_at(at, &mut self.piece).is_ok() {
+            self.from = at;
+            self.held = self.piece.len();
+        }
+    }
+}
+
+impl<F: FileBytes + Drop> FileBytes for ReadAhead<F> {
+    ghost bytes = { λ a. F.bytes a.file };
+
+    ghost gives_bytes = { λ a. F.gives_bytes a.file × HoldsPart (F.bytes a.file) a.from a.held a.piece.items };
+
+    fn len(&self) -> u64 {
+        self.file.len()
+    }
+
+    fn read_at(&mut self, at: u64, out: &mut [u8]) -> Result<(), SourceError> {
+        if at == self.next && out.len() < self.piece.len() && self.place(at, out.len()).is_none() {
+            self.fill(at);
+        }
+        self.next = at.saturating_add(out.len() as u64);
+        match self.place(at, out.len()) {
+            Some(place) => {
+                out.copy_from_slice(&self.piece[place..place + out.len()]);
+                Ok(())
+            }
+            None => self.file.read_at(at, out),
+        }
+    }
+}
