@@ -1,12 +1,14 @@
-/* Loaded into a program, writes the calls that it makes of its files to the file that CALLS names, a line each. To the
-   call whose number CALL names, from 1, or to each where CALL is 0, it does what MANNER says: `fail` refuses it; `half`
-   carries out half of a read or write, and says so; `torn` carries out half of a write, and refuses it; `kill` ends the
-   program in its place, and `torn kill` behind half of a write; `interrupt` refuses it as for a signal. */
+/* Loaded into a program, writes the calls that it makes of its files to the file that CALLS names, a line each. To
+   the call whose number CALL names, from 1, or to each where CALL is 0, it does what MANNER says: `fail` refuses it;
+   `half` carries out half of a read or write, and says so; `torn` carries out half of a write, and refuses it; `kill`
+   ends the program in its place, and `torn kill` behind half of a write; `interrupt` refuses it as for a signal, and
+   where CALL is 0 each other call. In the place of /proc/locks the file that FREE names is opened, and from the
+   opening on whose number FROM names, from 1, the one that HELD names. */
 typedef unsigned long size_t;
 typedef long ssize_t;
 typedef long off_t;
 
-enum { INTERRUPTED = 4, IO_FAILED = 5, WRITE_ON = 01 | 0100 | 02000, LONGEST = 4096, KILL = 9 };
+enum { INTERRUPTED = 4, IO_FAILED = 5, WRITE_ON = 01 | 0100 | 02000, LONGEST = 4096, KILL = 9, PAGE = 512 };
 
 enum { HALVES = 1, REFUSES = 2, ENDS = 4, STOPS = 8 };
 
@@ -30,17 +32,23 @@ typedef ssize_t (*reads)(int, void *, size_t);
 typedef ssize_t (*reads_at)(int, void *, size_t, off_t);
 typedef ssize_t (*writes_at)(int, const void *, size_t, off_t);
 typedef int (*cuts)(int, off_t);
-typedef int (*syncs)(int);
 
 static int told = -1;
-static unsigned long made, chosen;
+static unsigned long made, chosen, openings, held_from;
+static int was_interrupted;
 static const char *manner;
 
+static unsigned long number(const char *name) {
+    const char *text = getenv(name);
+    return text ? strtoul(text, (void *)0, 10) : 0;
+}
+
 __attribute__((constructor)) static void begin(void) {
-    const char *path = getenv("CALLS"), *call = getenv("CALL");
+    const char *path = getenv("CALLS");
     manner = getenv("MANNER");
     if (!manner) manner = "";
-    chosen = call ? strtoul(call, (void *)0, 10) : 0;
+    chosen = number("CALL");
+    held_from = number("FROM");
     told = path ? NEXT(opens, "open")(path, WRITE_ON, 0600) : -1;
 }
 
@@ -69,8 +77,9 @@ static int fate(void) {
     if (!strcmp(manner, "torn")) return HALVES | REFUSES;
     if (!strcmp(manner, "kill")) return ENDS;
     if (!strcmp(manner, "torn kill")) return HALVES | ENDS;
-    if (!strcmp(manner, "interrupt")) return STOPS;
-    return 0;
+    if (strcmp(manner, "interrupt")) return 0;
+    was_interrupted = !was_interrupted;
+    return was_interrupted ? STOPS : 0;
 }
 
 /* Whether a call is refused or the program ended, before it is made. */
@@ -82,9 +91,20 @@ static int is_over(int fate) {
 
 static size_t part_of(size_t n, int fate) { return fate & HALVES && n > 1 ? n / 2 : n; }
 
+/* The file that is opened by this path. */
+static const char *place_of(const char *path) {
+    const char *list;
+    if (strcmp(path, "/proc/locks")) return path;
+    list = getenv(held_from && openings >= held_from ? "HELD" : "FREE");
+    return list ? list : path;
+}
+
+/* One that is refused is an opening, too, but not one that is interrupted. */
 int open(const char *path, int how, unsigned mode) {
+    int does = fate();
     dprintf(told, "open %s\n", last_of(path));
-    return is_over(fate()) ? -1 : NEXT(opens, "open")(path, how, mode);
+    if (!strcmp(path, "/proc/locks") && !(does & STOPS)) openings++;
+    return is_over(does) ? -1 : NEXT(opens, "open")(place_of(path), how, mode);
 }
 
 int statx(int file, const char *path, int how, unsigned mask, void *out) {
@@ -109,14 +129,21 @@ ssize_t pread(int file, void *out, size_t n, off_t at) {
 
 ssize_t pread64(int file, void *out, size_t n, off_t at) { return pread(file, out, n, at); }
 
-/* A write names the byte that fills all of it, if there is one. */
+/* A write names for each page of its bytes the one that fills it, or `x`. */
+static void tell_write(int file, const unsigned char *bytes, size_t n, off_t at) {
+    char found[LONGEST], line[2 * LONGEST];
+    size_t length = snprintf(line, sizeof line, "write %s %ld %lu of", name_of(file, found), at, n);
+    for (size_t from = 0; from < n && length < sizeof line - 5; from += PAGE) {
+        size_t end = from + PAGE < n ? from + PAGE : n, same = from;
+        while (same < end && bytes[same] == bytes[from]) same++;
+        length += snprintf(line + length, sizeof line - length, same == end ? " %d" : " x", bytes[from]);
+    }
+    dprintf(told, "%s\n", line);
+}
+
 ssize_t pwrite(int file, const void *from, size_t n, off_t at) {
-    char found[LONGEST];
-    const unsigned char *bytes = from;
-    size_t same = 0;
     int does = fate();
-    while (same < n && bytes[same] == bytes[0]) same++;
-    dprintf(told, same == n ? "write %s %ld %lu of %d\n" : "write %s %ld %lu\n", name_of(file, found), at, n, bytes[0]);
+    tell_write(file, from, n, at);
     if (!(does & HALVES)) return is_over(does) ? -1 : NEXT(writes_at, "pwrite")(file, from, n, at);
     ssize_t done = NEXT(writes_at, "pwrite")(file, from, part_of(n, does), at);
     return is_over(does) ? -1 : done;
@@ -132,12 +159,13 @@ int ftruncate(int file, off_t end) {
 
 int ftruncate64(int file, off_t end) { return ftruncate(file, end); }
 
-static int synced(int file, const char *call) {
+/* What a sync brings down no other process sees: it is told, and not made. */
+static int synced(int file) {
     char found[LONGEST];
     dprintf(told, "sync %s\n", name_of(file, found));
-    return is_over(fate()) ? -1 : NEXT(syncs, call)(file);
+    return is_over(fate()) ? -1 : 0;
 }
 
-int fsync(int file) { return synced(file, "fsync"); }
+int fsync(int file) { return synced(file); }
 
-int fdatasync(int file) { return synced(file, "fdatasync"); }
+int fdatasync(int file) { return synced(file); }
