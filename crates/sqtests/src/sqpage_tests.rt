@@ -145,8 +145,10 @@ fn put_page_1(rt: &impl Abort, file: &mut [u8], pages: u32)
     sound.write(&mut bytes);
     front[..100].copy_from_slice(&bytes);
     front[100..].copy_from_slice(&[0x0d, 0, 0, 0, 0, 2, 0, 0]);
-    for (place, byte) in file.iter_mut().zip(front.iter()) {
-        *place = *byte;
+    for (i, byte) in front.iter().enumerate() {
+        if let Some(place) = file.get_mut(i) {
+            *place = *byte;
+        }
     }
 }
 
