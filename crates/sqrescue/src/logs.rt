@@ -58,7 +58,7 @@ pub(crate) struct Beside<F> {
     pub db: Metadata,
     pub wal: OpenedFile<F>,
     pub journal: OpenedFile<F>,
-    /// Whether the journal is hot and names a super-journal of which nothing is said.
+    /// Whether the only log is a hot journal that names a super-journal, of which nothing is said.
     pub is_undecided: bool,
 }
 
@@ -131,7 +131,7 @@ where
         db,
         wal,
         journal,
-        is_undecided: is_hot && names_super && super_journal.is_none(),
+        is_undecided: names_super && super_journal.is_none() && logs.wal == 0,
     })
 }
 
