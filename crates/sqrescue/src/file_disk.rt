@@ -3,10 +3,11 @@ ghost use Rattle.std.specs.Prelude.{◌≡◌, IsSome, IsTrue, OnErr, OnOk};
 ghost use Rattle.crashdisk.specs.declared.file.File.TheVariants.{Db, Log};
 
 use crate::in_use::Guard;
+use crate::notes::Notes;
 use crate::outcome::Refusal;
 use crashdisk::{Disk, DiskError, File};
 use std::fs::{Metadata, OpenFile};
-use std::io;
+use std::io::{self, Write};
 use std::os::unix::fs::FileExt;
 
 /// A database file and its log as a disk of sectors of 4096 bytes. Each fault of the system is `Failed`. Before the first
@@ -20,6 +21,7 @@ pub struct FileDisk<F: FileExt + OpenFile + Drop, G: Guard> {
     changes_db: bool,
     changes_log: bool,
     refusal: Option<Refusal>,
+    failure: Option<(File, io::Error)>,
 }
 
 impl<F: FileExt + OpenFile + Drop, G: Guard> FileDisk<F, G> {
@@ -35,6 +37,7 @@ impl<F: FileExt + OpenFile + Drop, G: Guard> FileDisk<F, G> {
             changes_db: false,
             changes_log: false,
             refusal: None,
+            failure: None,
         }
     }
 
@@ -43,6 +46,28 @@ impl<F: FileExt + OpenFile + Drop, G: Guard> FileDisk<F, G> {
         ensures { result ≡ self.now.refusal }
     {
         self.refusal
+    }
+
+    /// Says which call the system refused last, if it did, of files with these paths.
+    pub(crate) fn tell<E: Write>(&self, db: &str, log: &str, notes: &mut Notes<'_, E>) {
+        if let Some((file, error)) = &self.failure {
+            let path = match file {
+                File::Db => db,
+                File::Log => log,
+            };
+            notes.tell(&format_args!("{path}: {error}"));
+        }
+    }
+
+    /// What a call of the system answered, of which a refusal is kept.
+    fn answered<T: Drop>(&mut self, file: File, answer: io::Result<T>) -> Result<T, DiskError> {
+        match answer {
+            Ok(value) => Ok(value),
+            Err(error) => {
+                self.failure = Some((file, error));
+                Err(DiskError::Failed)
+            }
+        }
     }
 
     fn file(&self, file: File) -> &F
@@ -133,27 +158,29 @@ impl<F: FileExt + OpenFile + Drop, G: Guard> Disk for FileDisk<F, G> {
     }
 
     fn len(&mut self, file: File) -> Result<u64, DiskError> {
-        let metadata = metadata_of(self.file(file)).map_err(|_| DiskError::Failed)?;
-        Ok(metadata.len())
+        let answer = metadata_of(self.file(file));
+        Ok(self.answered(file, answer)?.len())
     }
 
     fn read_at(&mut self, file: File, at: u64, out: &mut [u8]) -> Result<(), DiskError> {
-        read_or_zeros(self.file(file), at, out).map_err(|_| DiskError::Failed)
+        let answer = read_or_zeros(self.file(file), at, out);
+        self.answered(file, answer)
     }
 
     fn write_at(&mut self, file: File, at: u64, bytes: &[u8]) -> Result<(), DiskError> {
         self.may_change(file)?;
-        self.file(file)
-            .write_all_at(bytes, at)
-            .map_err(|_| DiskError::Failed)
+        let answer = self.file(file).write_all_at(bytes, at);
+        self.answered(file, answer)
     }
 
     fn set_len(&mut self, file: File, end: u64) -> Result<(), DiskError> {
         self.may_change(file)?;
-        self.file(file).set_len(end).map_err(|_| DiskError::Failed)
+        let answer = self.file(file).set_len(end);
+        self.answered(file, answer)
     }
 
     fn sync(&mut self, file: File) -> Result<(), DiskError> {
-        self.file(file).sync_all().map_err(|_| DiskError::Failed)
+        let answer = self.file(file).sync_all();
+        self.answered(file, answer)
     }
 }

@@ -1,4 +1,5 @@
 //! The opened files of a database.
+use crate::hints::{Logs, tell_choice, tell_length, told, told_kind};
 use crate::journals::{is_out_of_force, is_valid_for_sqlite_alone, names_super_journal};
 use crate::locks::identity_of;
 use crate::notes::Notes;
@@ -17,28 +18,37 @@ const SHORTEST: u64 = 28;
 
 /// What the system says of a log; none where there is no file, also where its name is too long for one. Refused by
 /// `FileFailed` where something else lies there, a symbolic link too.
-fn found_log<R: Files>(rt: &R, path: &str) -> Result<Option<Metadata>, Refusal> {
+fn found_log<R: Files, E: Write>(
+    rt: &R,
+    path: &str,
+    notes: &mut Notes<'_, E>,
+) -> Result<Option<Metadata>, Refusal> {
     match look_at(rt, path) {
         Ok(found) if found.is_file() => Ok(Some(found)),
-        Ok(_) => Err(Refusal::FileFailed),
+        Ok(found) => Err(told_kind(notes, path, &found)),
         Err(error) if is_missing(&error) => Ok(None),
-        Err(error) => Err(Refusal::from(error)),
+        Err(error) => Err(told(notes, path, error)),
     }
 }
 
 /// Opens a file that was found; none where it is shorter than the least.
-fn opened<R: Files>(
+pub(crate) fn opened<R: Files, E: Write>(
     rt: &R,
     path: &str,
     found: Option<Metadata>,
     least: u64,
+    notes: &mut Notes<'_, E>,
 ) -> Result<OpenedFile<R::File>, Refusal> {
-    match found {
-        Some(found) if found.len() >= least => {
-            let file = OpenOptions::new().read(true).open(rt, path)?;
-            Ok(OpenedFile::new(file, found.len()))
+    let length = match found {
+        Some(found) if found.len() >= least => found.len(),
+        _ => return Ok(OpenedFile::missing()),
+    };
+    match OpenOptions::new().read(true).open(rt, path) {
+        Ok(file) => {
+            notes.tell(&format_args!("{path}: {length} bytes"));
+            Ok(OpenedFile::new(file, length))
         }
-        _ => Ok(OpenedFile::missing()),
+        Err(error) => Err(told(notes, path, error)),
     }
 }
 
@@ -48,27 +58,33 @@ pub(crate) struct Beside<F> {
     pub db: Metadata,
     pub wal: OpenedFile<F>,
     pub journal: OpenedFile<F>,
-    /// Whether the journal is hot and names a super-journal of which nothing is said.
+    /// Whether the only log is a hot journal that names a super-journal, of which nothing is said.
     pub is_undecided: bool,
 }
 
 /// What the system says of a database file and of each of its logs that is there. Refused by `FileFailed` where the file is
 /// missing, or one of them isn't a regular file, or is another of them.
-fn found_files<R: Files>(
+fn found_files<R: Files, E: Write>(
     rt: &R,
     paths: &Paths,
+    notes: &mut Notes<'_, E>,
 ) -> Result<(Metadata, Option<Metadata>, Option<Metadata>), Refusal> {
-    let db = look_at(rt, paths.db.as_str())?;
-    if !db.is_file() {
-        return Err(Refusal::FileFailed);
-    }
-    let wal = found_log(rt, paths.wal.as_str())?;
-    let journal = found_log(rt, paths.journal.as_str())?;
+    let db = match look_at(rt, paths.db.as_str()) {
+        Ok(db) if db.is_file() => db,
+        Ok(db) => return Err(told_kind(notes, paths.db.as_str(), &db)),
+        Err(error) => return Err(told(notes, paths.db.as_str(), error)),
+    };
+    let wal = found_log(rt, paths.wal.as_str(), notes)?;
+    let journal = found_log(rt, paths.journal.as_str(), notes)?;
     let logs = (
         wal.as_ref().map(identity_of),
         journal.as_ref().map(identity_of),
     );
     if !are_apart(identity_of(&db), logs.0, logs.1) {
+        let (wal, journal) = (paths.wal.as_str(), paths.journal.as_str());
+        notes.tell(&format_args!(
+            "{wal} or {journal}: a link to the database file, or both are one file"
+        ));
         return Err(Refusal::FileFailed);
     }
     Ok((db, wal, journal))
@@ -85,12 +101,14 @@ pub(crate) fn open_logs<R: Files, E: Write>(
 where
     R::File: FileExt,
 {
-    let (db, wal, journal) = found_files(rt, paths)?;
-    let wal = opened(rt, paths.wal.as_str(), wal, 1)?;
-    let mut journal = opened(rt, paths.journal.as_str(), journal, SHORTEST)?;
+    let (db, wal, journal) = found_files(rt, paths, notes)?;
+    let wal = opened(rt, paths.wal.as_str(), wal, 1, notes)?;
+    let mut journal = opened(rt, paths.journal.as_str(), journal, SHORTEST, notes)?;
+    let has_journal = journal.len() != 0;
     let mut is_hot = hot_header(&mut journal)?.is_some();
     let names_super = is_hot && names_super_journal(&mut journal)?;
-    if is_out_of_force(names_super, super_journal) {
+    let is_out_of_force = is_out_of_force(names_super, super_journal);
+    if is_out_of_force {
         journal = OpenedFile::missing();
         is_hot = false;
     }
@@ -102,11 +120,18 @@ where
     if db.len() == 0 && (is_hot || wal.len() != 0) {
         notes.say(&"the file is empty (0 bytes): SQLite would delete its log, and leave it empty");
     }
+    let logs = Logs {
+        wal: wal.len(),
+        has_journal,
+        is_hot,
+        is_out_of_force,
+    };
+    tell_choice(notes, paths, logs);
     Ok(Beside {
         db,
         wal,
         journal,
-        is_undecided: is_hot && names_super && super_journal.is_none(),
+        is_undecided: names_super && super_journal.is_none() && logs.wal == 0,
     })
 }
 
@@ -151,9 +176,7 @@ where
         journal,
         ..
     } = open_noted(rt, paths, super_journal, notes)?;
-    Ok(Contents {
-        db: opened(rt, paths.db.as_str(), Some(db), 0)?,
-        wal,
-        journal,
-    })
+    let mut db = opened(rt, paths.db.as_str(), Some(db), 0, notes)?;
+    tell_length(notes, paths.db.as_str(), &mut db);
+    Ok(Contents { db, wal, journal })
 }

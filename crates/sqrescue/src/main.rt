@@ -6,6 +6,7 @@ ghost use Rattle.std.specs.Prelude.{◌≤◌, IfOk};
 mod checking;
 mod commands;
 mod file_disk;
+mod hints;
 mod in_use;
 mod journals;
 mod locks;

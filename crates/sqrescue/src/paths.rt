@@ -3,6 +3,7 @@ ghost use Rattle.std.specs.Prelude.{◌↔◌, IsTrue};
 ghost use Rattle.sqrescue.specs.Paths.{AreApart};
 
 use crate::file_disk::read_or_zeros;
+use crate::hints::told;
 use crate::locks::Identity;
 use crate::notes::Notes;
 use crate::outcome::Refusal;
@@ -62,7 +63,15 @@ where
     R::File: FileExt,
 {
     let alloc = rt.alloc();
-    let db = resolved(rt, file)?;
+    let db = match resolved(rt, file) {
+        Ok(db) => db,
+        Err(error) => {
+            if notes.are_asked() && is_missing(&error) {
+                tell_of_log(rt, file, notes)?;
+            }
+            return Err(told(notes, file, error));
+        }
+    };
     if is_log(rt, db.as_str()) {
         notes.say(&"this is a log; name its database");
     }
@@ -72,6 +81,21 @@ where
         shm: format!(in alloc; "{db}-shm")?,
         db,
     })
+}
+
+/// Says what recovers a log whose database file is missing.
+fn tell_of_log<R: Files + AllocGlobal, E: Write>(
+    rt: &R,
+    file: &str,
+    notes: &mut Notes<'_, E>,
+) -> Result<(), Refusal> {
+    let wal = format!(in rt.alloc(); "{file}-wal")?;
+    if look_at(rt, wal.as_str()).is_ok() {
+        notes.tell(&format_args!(
+            "{wal} is there without its database: make {file} as an empty file, and recover restores it from the log"
+        ));
+    }
+    Ok(())
 }
 
 /// Whether a file begins and is named as a log: a WAL or a journal. Not where it can't be read.

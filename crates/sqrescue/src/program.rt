@@ -2,6 +2,7 @@
 ghost use Rattle.std.specs.Prelude.{◌≤◌};
 
 use crate::checking::check;
+use crate::hints::next_step;
 use crate::notes::Notes;
 use crate::recovery::recover;
 use crate::requests::{LineError, Request};
@@ -45,6 +46,9 @@ where
     };
     let mut notes = Notes::new(err, is_verbose(&request));
     let answer = carried_out(rt, request, out, &mut notes);
+    if let Err(ShowError::Refused(refusal)) = answer {
+        notes.tell(&next_step(refusal));
+    }
     let failed = notes.have_failed();
     drop(notes);
     match answer {

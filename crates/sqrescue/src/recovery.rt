@@ -2,8 +2,9 @@
 ghost use Rattle.std.specs.Prelude.{◌≡◌};
 
 use crate::file_disk::{FileDisk, metadata_of, read_or_zeros};
+use crate::hints::{tell_dropped, tell_length, told};
 use crate::in_use::{Guard, OpenElsewhere};
-use crate::logs::{Beside, open_logs};
+use crate::logs::{Beside, open_logs, opened};
 use crate::notes::Notes;
 use crate::opened_file::OpenedFile;
 use crate::outcome::{Outcome, Refusal};
@@ -14,9 +15,9 @@ use sqjournal::is_magic;
 use sqpage::{has_magic, named_page_size};
 use sqval::PageSize;
 use sqview::{FileBytes, LogInUse, log_in_use, scan_log};
-use sqwal::{WalFormatError, WalHeader};
+use sqwal::{Scan, WalFormatError, WalHeader};
 use std::alloc::Global;
-use std::fs::{OpenFile, OpenOptions};
+use std::fs::{Metadata, OpenFile, OpenOptions};
 use std::io::Write;
 use std::os::unix::fs::FileExt;
 use std::rt::Files;
@@ -24,8 +25,8 @@ use walcore::fold;
 
 /// Recovers a database file from the log that counts beside it: folds FILE-wal into it and empties FILE-wal, or replays
 /// a hot FILE-journal into it and zeroes the journal's header. No file is made, and where no log counts none is written.
-/// Whether another process has it open is
-/// asked first, and again before each of the two files is changed; by force it isn't asked.
+/// Whether another process has it open is asked first, and again before each of the two files is changed; by force it
+/// isn't asked.
 pub(crate) fn recover<R: Files + AllocGlobal, E: Write>(
     rt: &R,
     file: &str,
@@ -44,33 +45,53 @@ where
     };
     guard.ask()?;
     let Beside {
+        db,
         wal,
         mut journal,
         ..
     } = open_logs(rt, &paths, super_journal, notes)?;
+    if notes.are_asked() {
+        tell_database(rt, &paths, db, notes);
+    }
     match log_in_use(&wal, &mut journal)? {
         LogInUse::Neither => Ok(Outcome::Nothing),
-        LogInUse::Wal => fold_log(rt, &paths, wal, guard),
+        LogInUse::Wal => fold_log(rt, &paths, wal, guard, notes),
         LogInUse::Journal(_) => {
             let counts = super_journal == Some(SuperJournal::Present);
-            roll_back(rt, &paths, journal.len(), counts, guard)
+            roll_back(rt, &paths, journal.len(), counts, guard, notes)
         }
     }
 }
 
+/// Says how long a database file is that was found, if it can be opened.
+fn tell_database<R: Files, E: Write>(
+    rt: &R,
+    paths: &Paths,
+    found: Metadata,
+    notes: &mut Notes<'_, E>,
+)
+where
+    R::File: FileExt,
+{
+    if let Ok(mut db) = opened(rt, paths.db.as_str(), Some(found), 0, notes) {
+        tell_length(notes, paths.db.as_str(), &mut db);
+    }
+}
+
 /// Replays a hot journal of this length; one of a transaction over several files only where it is said to count.
-fn roll_back<R: Files + AllocGlobal, G: Guard>(
+fn roll_back<R: Files + AllocGlobal, G: Guard, E: Write>(
     rt: &R,
     paths: &Paths,
     length: u64,
     counts: bool,
     guard: G,
+    notes: &mut Notes<'_, E>,
 ) -> Result<Outcome, Refusal>
 where
     R::File: FileExt,
 {
-    let db = open(rt, paths.db.as_str())?;
-    let journal = open(rt, paths.journal.as_str())?;
+    let db = open(rt, paths.db.as_str(), notes)?;
+    let journal = open(rt, paths.journal.as_str(), notes)?;
     let mut end = [0u8; 8];
     read_or_zeros(&journal, length.saturating_sub(8), &mut end)?;
     if is_magic(&end) && !counts {
@@ -83,37 +104,72 @@ where
             pages: replayed.size,
         }),
         Ok(_) => Ok(Outcome::Nothing),
-        Err(error) => Err(disk.refusal().unwrap_or(Refusal::from(error))),
+        Err(error) => {
+            disk.tell(paths.db.as_str(), paths.journal.as_str(), notes);
+            Err(disk.refusal().unwrap_or(Refusal::from(error)))
+        }
     }
 }
 
-/// Folds a log that isn't empty.
-fn fold_log<R: Files + AllocGlobal, G: Guard>(
+/// Folds a log that isn't empty, and says what of it is dropped.
+fn fold_log<R: Files + AllocGlobal, G: Guard, E: Write>(
     rt: &R,
     paths: &Paths,
     bytes: OpenedFile<R::File>,
     guard: G,
+    notes: &mut Notes<'_, E>,
 ) -> Result<Outcome, Refusal>
 where
     R::File: FileExt,
 {
     let alloc = rt.alloc();
-    let db = open(rt, paths.db.as_str())?;
-    let log = open(rt, paths.wal.as_str())?;
+    let mut bytes = bytes;
+    let db = open(rt, paths.db.as_str(), notes)?;
+    let log = open(rt, paths.wal.as_str(), notes)?;
+    let length = bytes.len();
+    let scan = if notes.are_asked() {
+        scan_of(alloc, &mut bytes)
+    } else {
+        None
+    };
     let page_size = page_size_of(alloc, &db, bytes)?;
     let mut disk = FileDisk::new(db, log, guard);
-    match fold(alloc, &mut disk, page_size) {
-        Ok(folded) if folded.frames == 0 => Ok(Outcome::NoFront),
-        Ok(folded) => Ok(Outcome::Folded {
-            frames: folded.frames,
+    let folded = match fold(alloc, &mut disk, page_size) {
+        Ok(folded) => folded,
+        Err(error) => {
+            disk.tell(paths.db.as_str(), paths.wal.as_str(), notes);
+            return Err(disk.refusal().unwrap_or(Refusal::from(error)));
+        }
+    };
+    if let Some(scan) = scan {
+        tell_dropped(notes, length, &scan);
+    }
+    Ok(match folded.frames {
+        0 => Outcome::NoFront,
+        frames => Outcome::Folded {
+            frames,
             pages: folded.size,
-        }),
-        Err(error) => Err(disk.refusal().unwrap_or(Refusal::from(error))),
+        },
+    })
+}
+
+/// The scan of a log, if it can be scanned.
+fn scan_of<F: FileBytes>(alloc: Global, log: &mut F) -> Option<Scan> {
+    match scan_log(alloc, log) {
+        Ok(Ok(scan)) => Some(scan),
+        _ => None,
     }
 }
 
-fn open<R: Files>(rt: &R, path: &str) -> Result<R::File, Refusal> {
-    Ok(OpenOptions::new().read(true).write(true).open(rt, path)?)
+fn open<R: Files, E: Write>(
+    rt: &R,
+    path: &str,
+    notes: &mut Notes<'_, E>,
+) -> Result<R::File, Refusal> {
+    match OpenOptions::new().read(true).write(true).open(rt, path) {
+        Ok(file) => Ok(file),
+        Err(error) => Err(told(notes, path, error)),
+    }
 }
 
 /// The page size to fold by: the log header's, or 512 where there is no valid one, since then there is no frame.

@@ -90,9 +90,13 @@ where
     let only_logs = part == Part::Log;
     let before = readings_of(rt, &paths, only_logs)?;
     let answer = show_part(rt, &paths, part, super_journal, &mut lines, notes);
-    if let Err(changed) = unchanged(&before, &readings_of(rt, &paths, only_logs)?, Ok(())) {
+    let same = match readings_of(rt, &paths, only_logs) {
+        Ok(after) => unchanged(&before, &after, Ok(())),
+        Err(refusal) => Err(refusal),
+    };
+    if let Err(refusal) = same {
         let (_, _) = lines.into_parts();
-        return Err(ShowError::Refused(changed));
+        return Err(ShowError::Refused(refusal));
     }
     answer?;
     lines.flush()?;
