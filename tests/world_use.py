@@ -3,7 +3,7 @@ import collections, contextlib, os, re, shutil, sys, tempfile, threading, time
 import world_processes as processes
 from samples import OTHER_VERSION, PAGE, log_of
 from world_runs import (
-    CHANGED, DB, EACH_LINE, FAILED, IN_USE, IS_ROOT, JOURNAL, LIVE, LOOKING, MODES, SPILLS, SUPER, TEXT, WAL, Stopped,
+    ANY, CHANGED, DB, EACH_LINE, FAILED, IN_USE, IS_ROOT, JOURNAL, LIVE, LOOKING, MODES, SPILLS, SUPER, TEXT, WAL, Stopped,
     begun, copied, fill, holder, program, read, refused_as_locked, run, test, unchanged, wanted_rows, write, wrong,
 )
 
@@ -302,7 +302,7 @@ def beside_change(line, call, change, is_seen, **more):
     change()
     if not is_seen:
         return wrong(stopped.goes_on(), *alone)
-    return wrong(stopped.goes_on(), 3, TEXT if "--log" in line else "", CHANGED)
+    return wrong(stopped.goes_on(), 3, ANY if "--log" in line else "", CHANGED)
 
 
 # Changes that the time of change alone tells.
