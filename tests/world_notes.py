@@ -298,11 +298,19 @@ def lines_that_cannot_be_written():
         for line in [*EACH_LINE, "--version", "--help", "recover --help"]:
             yield line, wrong(run(line, stdout=full), 3)
         for line in [f"{line} {option}" for line in EACH_LINE for option in ("-v", "--verbose")]:
-            yield f"{line}, notes", wrong(run(line, stderr=full), 3, ANY)
-            yield f"{line}, lines", wrong(run(line, stdout=full), 3, "", ANY)
+            yield line, wrong(run(line, stdout=full), 3, "", ANY)
         fill(DB, None, SUPER)
         for line in EACH_LINE:
             yield f"{line}, a note", wrong(run(line, stderr=full), 3, ANY)
         yield "words", wrong(run("recover", stderr=full), 3)
+
+
+@test
+def verbose_notes_that_cannot_be_written():
+    """Then what is printed says nothing of the status."""
+    fill(DB, b"")
+    with open("/dev/full", "wb") as full:
+        for line in [f"{line} {option}" for line in EACH_LINE for option in ("-v", "--verbose")]:
+            yield line, wrong(run(line, stderr=full), 3, ANY)
 
 

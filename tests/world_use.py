@@ -3,8 +3,9 @@ import collections, contextlib, os, re, shutil, sys, tempfile, threading, time
 import world_processes as processes
 from samples import OTHER_VERSION, PAGE, log_of
 from world_runs import (
-    CHANGED, DB, EACH_LINE, FAILED, IN_USE, IS_ROOT, JOURNAL, LIVE, LOOKING, MODES, SPILLS, SUPER, TEXT, WAL, Stopped,
-    begun, copied, fill, holder, program, read, refused_as_locked, run, test, unchanged, wanted_rows, write, wrong,
+    ANY, CHANGED, DB, EACH_LINE, FAILED, IN_USE, IS_ROOT, JOURNAL, LIVE, LOOKING, MODES, SPILLS, SUPER, TEXT, WAL,
+    Stopped, begun, copied, fill, holder, program, read, refused_as_locked, run, test, unchanged, wanted_rows, write,
+    wrong,
 )
 
 WRITES = 60 if "--long" in sys.argv[1:] else 20  # seconds for which a writer writes
@@ -207,7 +208,8 @@ def lines_of_the_list():
     named |= {"device 0": line(major=0, minor=37), "no end of line": own.rstrip("\n")}
     named |= {"the last of 300": line(7) * 300 + own, "the first of 3000": own + line(7) * 3000}
     named |= {"behind what is no line": "\n1:\n:::\nfe:00\n" + "x" * 5000 + "\n" + own}
-    unnamed = {"an empty list": "", "another file": line(inode + 10**9), "flock": line(kind="FLOCK"), "its log": line(log)}
+    unnamed = {"an empty list": "", "another file": line(inode + 10**9), "its log": line(log)}
+    unnamed |= {"flock": line(kind="FLOCK")}
     unnamed |= {"a longer number": line(inode * 10) + line(f"1{inode}"), "a shorter one": line(inode // 10)}
     unnamed |= {"another device": line(major=major + 1), "another part": line(minor=minor + 1)}
     unnamed |= {"a process of that number": line(7, process=inode), "cut": own[:own.index(":", 30)]}
@@ -302,7 +304,7 @@ def beside_change(line, call, change, is_seen, **more):
     change()
     if not is_seen:
         return wrong(stopped.goes_on(), *alone)
-    return wrong(stopped.goes_on(), 3, TEXT if "--log" in line else "", CHANGED)
+    return wrong(stopped.goes_on(), 3, ANY if "--log" in line else "", CHANGED)
 
 
 # Changes that the time of change alone tells.
