@@ -6,7 +6,7 @@ typedef unsigned long size_t;
 typedef long ssize_t;
 typedef long off_t;
 
-enum { INTERRUPTED = 4, IO_FAILED = 5, WRITE_ON = 01 | 0100 | 02000, LONGEST = 4096, KILL = 9 };
+enum { INTERRUPTED = 4, IO_FAILED = 5, WRITE_ON = 01 | 0100 | 02000, LONGEST = 4096, KILL = 9, MOST_NAMED = 16 };
 
 enum { HALVES = 1, REFUSES = 2, ENDS = 4, STOPS = 8 };
 
@@ -109,14 +109,18 @@ ssize_t pread(int file, void *out, size_t n, off_t at) {
 
 ssize_t pread64(int file, void *out, size_t n, off_t at) { return pread(file, out, n, at); }
 
-/* A write names the byte that fills all of it, if there is one. */
+/* A write names the first bytes that fill it, each once for as long as it stays the same. */
 ssize_t pwrite(int file, const void *from, size_t n, off_t at) {
     char found[LONGEST];
     const unsigned char *bytes = from;
-    size_t same = 0;
-    int does = fate();
-    while (same < n && bytes[same] == bytes[0]) same++;
-    dprintf(told, same == n ? "write %s %ld %lu of %d\n" : "write %s %ld %lu\n", name_of(file, found), at, n, bytes[0]);
+    int does = fate(), named = 0;
+    dprintf(told, "write %s %ld %lu of", name_of(file, found), at, n);
+    for (size_t i = 0; i < n && named < MOST_NAMED; i++) {
+        if (i && bytes[i] == bytes[i - 1]) continue;
+        dprintf(told, " %d", bytes[i]);
+        named++;
+    }
+    dprintf(told, "\n");
     if (!(does & HALVES)) return is_over(does) ? -1 : NEXT(writes_at, "pwrite")(file, from, n, at);
     ssize_t done = NEXT(writes_at, "pwrite")(file, from, part_of(n, does), at);
     return is_over(does) ? -1 : done;
