@@ -1,5 +1,5 @@
 //! A file of which some bytes are read ahead.
-ghost use Rattle.std.specs.Prelude.{◌≡◌, ◌+◌, ◌≤◌, ℕ, List, length, IfOk, MatchOption};
+ghost use Rattle.std.specs.Prelude.{◌≡◌, ◌+◌, ◌≤◌, ℕ, List, length, IsOk, IfOk, MatchOption};
 ghost use Rattle.sqview.specs.Laid.{HoldsPart};
 
 use crate::file_bytes::FileBytes;
@@ -49,17 +49,18 @@ impl<F: FileBytes + Drop> ReadAhead<F> {
         Some(before as usize)
     }
 
-    /// Reads a piece from this place on; nothing is held where it can't be read.
-    fn fill(&mut self, at: u64)
-        ensures holds { F.gives_bytes self.old.file → F.gives_bytes self.new.file × HoldsPart (F.bytes self.new.file) self.new.from self.new.held self.new.piece.items }
+    /// Reads a piece from this place on. Where it can't be read nothing is held.
+    fn fill(&mut self, at: u64) -> Result<(), SourceError>
+        ensures holds { F.gives_bytes self.old.file → IsOk result × F.gives_bytes self.new.file
+            × HoldsPart (F.bytes self.new.file) self.new.from self.new.held self.new.piece.items }
         ensures same { F.bytes self.new.file ≡ F.bytes self.old.file }
         ensures room { length self.new.piece.items ≡ length self.old.piece.items }
     {
         self.held = 0;
-        if self.file.read_at(at, &mut self.piece).is_ok() {
-            self.from = at;
-            self.held = self.piece.len();
-        }
+        self.file.read_at(at, &mut self.piece)?;
+        self.from = at;
+        self.held = self.piece.len();
+        Ok(())
     }
 }
 
@@ -74,7 +75,7 @@ impl<F: FileBytes + Drop> FileBytes for ReadAhead<F> {
 
     fn read_at(&mut self, at: u64, out: &mut [u8]) -> Result<(), SourceError> {
         if at == self.next && out.len() < self.piece.len() && self.place(at, out.len()).is_none() {
-            self.fill(at);
+            self.fill(at)?;
         }
         self.next = at.saturating_add(out.len() as u64);
         match self.place(at, out.len()) {
