@@ -52,29 +52,30 @@ fn settled_verdict<R: Files + AllocGlobal + Clock, E: Write>(
 where
     R::File: FileExt,
 {
-    let before = readings_of(rt, paths, false)?;
+    let before = readings_of(rt, paths, false, notes)?;
     let wait = time_to_wait(rt, &before);
     let answer = open_all(rt, paths, super_journal, notes);
-    match watched(rt, paths, &before, answer)? {
+    match watched(rt, paths, &before, answer, notes)? {
         Verdict::Damaged(_) if !wait.is_zero() => {
             thread::sleep(rt, wait);
-            let settled = readings_of(rt, paths, false)?;
+            let settled = readings_of(rt, paths, false, notes)?;
             unchanged(&before, &settled, Ok(()))?;
             let mut nowhere = io::sink();
             let mut unheard = Notes::new(&mut nowhere, false);
             let answer = open_all(rt, paths, super_journal, &mut unheard);
-            watched(rt, paths, &settled, answer)
+            watched(rt, paths, &settled, answer, notes)
         }
         verdict => Ok(verdict),
     }
 }
 
 /// The verdict on opened files, if they are as they were before.
-fn watched<R: Files + AllocGlobal>(
+fn watched<R: Files + AllocGlobal, E: Write>(
     rt: &R,
     paths: &Paths,
     before: &Readings,
     opened: Result<Contents<R::File>, Refusal>,
+    notes: &mut Notes<'_, E>,
 ) -> Result<Verdict, Refusal>
 where
     R::File: FileExt,
@@ -85,5 +86,5 @@ where
         }
         Err(refusal) => Err(refusal),
     };
-    unchanged(before, &readings_of(rt, paths, false)?, answer)
+    unchanged(before, &readings_of(rt, paths, false, notes)?, answer)
 }

@@ -15,7 +15,7 @@ use crate::requests::{Part, SuperJournal};
 use crate::texts::{
     write_bytes, write_cell, write_column, write_header, write_journal, write_log, write_page,
 };
-use crate::watch::{readings_of, unchanged};
+use crate::watch::{Readings, readings_of, unchanged};
 use sqjournal::JournalError;
 use sqpage::{BtreePage, Cell, DbHeader, Fault, PageSource, SourceError, payload};
 use sqval::Record;
@@ -88,9 +88,12 @@ where
     };
     let paths = paths_of(rt, file, notes)?;
     let only_logs = part == Part::Log;
-    let before = readings_of(rt, &paths, only_logs)?;
+    let before = readings_of(rt, &paths, only_logs, notes)?;
+    if only_logs {
+        tell_length(&paths, &before, notes);
+    }
     let answer = show_part(rt, &paths, part, super_journal, &mut lines, notes);
-    let same = match readings_of(rt, &paths, only_logs) {
+    let same = match readings_of(rt, &paths, only_logs, notes) {
         Ok(after) => unchanged(&before, &after, Ok(())),
         Err(refusal) => Err(refusal),
     };
@@ -101,6 +104,14 @@ where
     answer?;
     lines.flush()?;
     Ok(())
+}
+
+/// Says how long a database file is of which nothing else is read.
+fn tell_length<E: Write>(paths: &Paths, before: &Readings, notes: &mut Notes<'_, E>) {
+    if let Some(db) = before.db {
+        let (path, length) = (paths.db.as_str(), db.length);
+        notes.tell(&format_args!("{path}: {length} bytes"));
+    }
 }
 
 fn show_part<R: Files + AllocGlobal, W: Write, E: Write>(

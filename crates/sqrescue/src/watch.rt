@@ -4,11 +4,13 @@ ghost use Rattle.sqrescue.specs.Readings.{AreSame, IsSame, IsSameFile, IsSameFro
 ghost use Rattle.sqrescue.specs.declared.outcome.Refusal.TheVariants.{FileChanged};
 
 use crate::file_disk::read_or_zeros;
+use crate::hints::told;
 use crate::locks::{Identity, identity_of};
+use crate::notes::Notes;
 use crate::outcome::Refusal;
 use crate::paths::{Paths, is_missing, look_at};
 use std::fs::OpenOptions;
-use std::io;
+use std::io::{self, Write};
 use std::os::unix::fs::{FileExt, MetadataExt};
 use std::rt::Files;
 use std::time::{Clock, Duration};
@@ -112,12 +114,13 @@ where
 }
 
 /// What a file is now, with so many bytes from a place on; none where there is no regular file.
-fn reading_of<R: Files>(
+fn reading_of<R: Files, E: Write>(
     rt: &R,
     path: &str,
     at: u64,
     count: usize,
     must_be_read: bool,
+    notes: &mut Notes<'_, E>,
 ) -> Result<Option<Reading>, Refusal>
 where
     R::File: FileExt,
@@ -127,12 +130,12 @@ where
         Ok(found) if found.is_file() => found,
         Ok(_) => return Ok(None),
         Err(error) if is_missing(&error) => return Ok(None),
-        Err(error) => return Err(Refusal::from(error)),
+        Err(error) => return Err(told(notes, path, error)),
     };
     let front = match front_of(rt, path, at, count) {
         Ok(front) => Some(front),
         Err(error) if is_missing(&error) => return Ok(None),
-        Err(error) if must_be_read => return Err(Refusal::from(error)),
+        Err(error) if must_be_read => return Err(told(notes, path, error)),
         Err(_) => None,
     };
     Ok(Some(Reading {
@@ -145,18 +148,19 @@ where
 }
 
 /// What a database file and its logs are now. Where only the logs are read, the database file needn't be readable.
-pub(crate) fn readings_of<R: Files>(
+pub(crate) fn readings_of<R: Files, E: Write>(
     rt: &R,
     paths: &Paths,
     only_logs: bool,
+    notes: &mut Notes<'_, E>,
 ) -> Result<Readings, Refusal>
 where
     R::File: FileExt,
 {
     Ok(Readings {
-        db: reading_of(rt, paths.db.as_str(), 24, 16, !only_logs)?,
-        wal: reading_of(rt, paths.wal.as_str(), 0, 32, true)?,
-        journal: reading_of(rt, paths.journal.as_str(), 0, 32, true)?,
+        db: reading_of(rt, paths.db.as_str(), 24, 16, !only_logs, notes)?,
+        wal: reading_of(rt, paths.wal.as_str(), 0, 32, true, notes)?,
+        journal: reading_of(rt, paths.journal.as_str(), 0, 32, true, notes)?,
     })
 }
 
