@@ -53,27 +53,10 @@ image_named sector tears s naming sound are = record {
           | inr past ↦ inl (λ i at lt. shows i at lt ∙ ap (λ (v : Value). v i) (get_or_past (s.earlier k) n s.present past))
         ]
 
--- Each sector was left with the value that is named.
-module _ (sector : ℕ) (tears : Bool) (naming : Naming) (xs ys : List (List (List ℕ))) (len least greatest end : ℕ) (positive : 0 < sector) (whole : AreWhole sector xs) (count : length ys ≡ length xs)
-    (is_end : end ≡ named_len naming.len least len greatest)
-    (each : (k : ℕ) → k < length xs → IsLeft tears naming k (end - k * sector) (get_or xs k []) (get_or ys k [])) where
-  at : ℕ → ℕ
-  at k = picked naming.pick naming.newest k (length (get_or xs k []))
-
-  long_left : (k : ℕ) → k < length xs → length (get_or (get_or ys k []) 0 []) ≡ sector
-  long_left k lt = (each k lt).long ∙ whole.long k (picked naming.pick naming.newest k (length (get_or xs k []))) lt (picked_below naming.pick naming.newest k (length (get_or xs k [])) (whole.some k lt))
-
-  pub left_whole : AreWhole sector ys
-  left_whole = record {
-    some = λ k lt. omega (arith, (each k (omega (arith, count))).one);
-    long = λ k n lt lt_n.
-        let lt_k : k < length xs = omega (arith, count) in
-        let first : n ≡ 0 = omega (arith, (each k lt_k).one) in
-        ap (λ (m : ℕ). length (get_or (get_or ys k []) m [])) first ∙ long_left k lt_k;
-  }
-
+-- What is named of the sectors that are held.
+module _ (sector : ℕ) (tears : Bool) (naming : Naming) (xs : List (List (List ℕ))) (len least greatest : ℕ) (whole : AreWhole sector xs) where
   -- the value that is picked, as it is listed
-  listed_at : (k i : ℕ) → i / sector ≡ k → k < length xs → listed (file_by sector xs len least greatest) k (picked naming.pick naming.newest k (suc (length (map (value_of sector) (before_last (get_or xs k [])))))) i
+  pub listed_at : (k i : ℕ) → i / sector ≡ k → k < length xs → listed (file_by sector xs len least greatest) k (picked naming.pick naming.newest k (suc (length (map (value_of sector) (before_last (get_or xs k [])))))) i
       ≡ get_or (get_or (get_or xs k []) (picked naming.pick naming.newest k (length (get_or xs k []))) []) (i % sector) 0
   listed_at k i is lt =
       let vs = get_or xs k [] in
@@ -97,7 +80,7 @@ module _ (sector : ℕ) (tears : Bool) (naming : Naming) (xs ys : List (List (Li
       last m n c e lt le = omega arith
 
   -- a sector that isn't there holds zeros
-  past_byte : (k i : ℕ) → i / sector ≡ k → length xs ≤ k → named_byte sector tears (file_by sector xs len least greatest) naming k i ≡ 0
+  pub past_byte : (k i : ℕ) → i / sector ≡ k → length xs ≤ k → named_byte sector tears (file_by sector xs len least greatest) naming k i ≡ 0
   past_byte k i is past =
       let none = get_or_past xs k [] past in
       ap (λ (v : List (List ℕ)). byte_by (torn_here tears (nat_lt 0 (length (map (value_of sector) (before_last v)))) naming k) (i % sector) (get_or (map (value_of sector) (before_last v)) (picked naming.pick naming.newest k (suc (length (map (value_of sector) (before_last v))))) (file_by sector xs len least greatest).present i)) none
@@ -108,6 +91,25 @@ module _ (sector : ℕ) (tears : Bool) (naming : Naming) (xs ys : List (List (Li
       untorn : (t : Bool) → torn_here t (nat_lt 0 0) naming k ≡ None
       untorn true = refl
       untorn false = refl
+
+-- Each sector was left with the value that is named.
+module _ (sector : ℕ) (tears : Bool) (naming : Naming) (xs ys : List (List (List ℕ))) (len least greatest end : ℕ) (positive : 0 < sector) (whole : AreWhole sector xs) (count : length ys ≡ length xs)
+    (is_end : end ≡ named_len naming.len least len greatest)
+    (each : (k : ℕ) → k < length xs → IsLeft tears naming k (end - k * sector) (get_or xs k []) (get_or ys k [])) where
+  at : ℕ → ℕ
+  at k = picked naming.pick naming.newest k (length (get_or xs k []))
+
+  long_left : (k : ℕ) → k < length xs → length (get_or (get_or ys k []) 0 []) ≡ sector
+  long_left k lt = (each k lt).long ∙ whole.long k (picked naming.pick naming.newest k (length (get_or xs k []))) lt (picked_below naming.pick naming.newest k (length (get_or xs k [])) (whole.some k lt))
+
+  pub left_whole : AreWhole sector ys
+  left_whole = record {
+    some = λ k lt. omega (arith, (each k (omega (arith, count))).one);
+    long = λ k n lt lt_n.
+        let lt_k : k < length xs = omega (arith, count) in
+        let first : n ≡ 0 = omega (arith, (each k lt_k).one) in
+        ap (λ (m : ℕ). length (get_or (get_or ys k []) m [])) first ∙ long_left k lt_k;
+  }
 
   within : (k i : ℕ) → i / sector ≡ k → nat_lt (i % sector) (end - k * sector) ≡ nat_lt i end
   within k i is =
@@ -137,11 +139,11 @@ module _ (sector : ℕ) (tears : Bool) (naming : Naming) (xs ys : List (List (Li
             ∙ left.each (i % sector) (omega (arith, long_left k lt, mod-lt i positive))
             ∙ ap (λ (b : Bool). cond b (byte_by (torn_here tears (nat_lt 0 (length vs - 1)) naming k) (i % sector) value) 0) (within k i is)
             ∙ ap (λ (m : ℕ). cond (nat_lt i end) (byte_by (torn_here tears (nat_lt 0 m) naming k) (i % sector) value) 0) less
-            ∙ ap (λ (v : ℕ). cond (nat_lt i end) (byte_by (torn_here tears (nat_lt 0 (length (s.earlier k))) naming k) (i % sector) v) 0) (sym (listed_at k i is lt))
+            ∙ ap (λ (v : ℕ). cond (nat_lt i end) (byte_by (torn_here tears (nat_lt 0 (length (s.earlier k))) naming k) (i % sector) v) 0) (sym (listed_at sector tears naming xs len least greatest whole k i is lt))
         | inr past ↦
             ap (λ (v : List (List ℕ)). get_or (last_of v) (i % sector) 0) (get_or_past ys k [] (omega (arith, count)))
             ∙ zero_both (nat_lt i end)
-            ∙ ap (λ (v : ℕ). cond (nat_lt i end) v 0) (sym (past_byte k i is past))
+            ∙ ap (λ (v : ℕ). cond (nat_lt i end) v 0) (sym (past_byte sector tears naming xs len least greatest whole k i is past))
       ]
 
   pub left_settled : IsSettled (file_by sector ys end end end) (image_of sector tears (file_by sector xs len least greatest) naming)

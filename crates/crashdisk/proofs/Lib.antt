@@ -13,6 +13,7 @@ pub mod Keeping
 pub mod Leaving
 pub mod Naming
 pub mod Places
+pub mod Putting
 pub mod Reaching
 pub mod Reading
 pub mod Settled

@@ -68,6 +68,11 @@ named_byte sector tears s naming k i =
 abbrev pub image_of : (sector : ℕ) (tears : Bool) → FileState → Naming → List ℕ
 image_of sector tears s naming = map (λ i. named_byte sector tears s naming (i / sector) i) (range_with_len 0 (named_len naming.len s.least s.len s.greatest))
 
+-- the bytes of sector k that are named where it has these values, oldest first, with zeros behind them
+abbrev pub Names : (tears : Bool) → Naming → (k : ℕ) → (values : List (List ℕ)) → (bytes : List ℕ) → Type 0
+Names tears naming k values bytes =
+    (j : ℕ) → get_or bytes j 0 ≡ byte_by (torn_here tears (nat_lt 0 (length values - 1)) naming k) j (get_or (get_or values (picked naming.pick naming.newest k (length values)) []) j 0)
+
 -- of the values of sector k the one that is named, alone, with zeros from a place on
 pub record IsLeft (tears : Bool) (naming : Naming) (k end : ℕ) (old new : List (List ℕ)) : Type 0 where
   pub one : length new ≡ 1

@@ -1,6 +1,8 @@
 //! What the calls of a modelled disk do to one file.
-ghost use Rattle.std.specs.Prelude.{◌≡◌, ◌↔◌, IsTrue, ◌<◌, ◌≤◌, ◌+◌, ◌^◌, [], Bool, ◌-◌, true, false, min, max, suc, length, slice_index, OnOk, OnErr, IfOk, IfErr, ℕ, List, ◌++◌};
-ghost use Rattle.crashdisk.specs.State.{byte, longest, IsSettled, IsSynced, IsShuffled, written, WriteTouches, cut_to, CutTouches};
+ghost use Rattle.std.specs.Prelude.{◌≡◌, ◌↔◌, IsTrue, ◌<◌, ◌≤◌, ◌+◌, ◌^◌, [], Bool, ◌-◌, true, false, min, max, suc};
+ghost use Rattle.std.specs.Prelude.{length, slice_index, OnOk, OnErr, IfOk, IfErr, ℕ, List, ◌++◌};
+ghost use Rattle.crashdisk.specs.State.{byte, longest, IsSettled, IsSynced, IsShuffled, written, WriteTouches, cut_to};
+ghost use Rattle.crashdisk.specs.State.{CutTouches};
 ghost use Rattle.crashdisk.specs.Call.{ChangedBy, counted, EndsWithin};
 ghost use Rattle.crashdisk.specs.Held.{file_of, IsHeld, Touches, put_byte, IsTurned, picked};
 ghost use Rattle.crashdisk.specs.Solid.{IsSolid, is_sector_size};
@@ -45,8 +47,14 @@ fn change_held(
     requires room { change.now.from + length change.now.bytes.now < 2 ^ 62 }
     requires held { IsHeld manner.now.sector held.old }
     ensures held { IsHeld manner.now.sector held.new }
-    ensures changed { ChangedBy manner.now.sector (Touches manner.now.sector (file_of manner.now.sector held.old) change.now.from change.now.to change.now.end) (λ i. put_byte change.now.from change.now.keep change.now.bytes.now i ((file_of manner.now.sector held.old).present i)) change.now.end result (file_of manner.now.sector held.old) (file_of manner.now.sector held.new) }
-    ensures picked { PickedBy manner.now.sector (Touches manner.now.sector (file_of manner.now.sector held.old) change.now.from change.now.to change.now.end) (λ i. put_byte change.now.from change.now.keep change.now.bytes.now i ((file_of manner.now.sector held.old).present i)) change.now.end manner.now.part.now result (file_of manner.now.sector held.old) (file_of manner.now.sector held.new) }
+    ensures changed { ChangedBy manner.now.sector (Touches manner.now.sector (file_of manner.now.sector held.old)
+        change.now.from change.now.to change.now.end) (λ i. put_byte change.now.from change.now.keep
+        change.now.bytes.now i ((file_of manner.now.sector held.old).present i)) change.now.end result
+        (file_of manner.now.sector held.old) (file_of manner.now.sector held.new) }
+    ensures picked { PickedBy manner.now.sector (Touches manner.now.sector (file_of manner.now.sector held.old)
+        change.now.from change.now.to change.now.end) (λ i. put_byte change.now.from change.now.keep
+        change.now.bytes.now i ((file_of manner.now.sector held.old).present i)) change.now.end
+        manner.now.part.now result (file_of manner.now.sector held.old) (file_of manner.now.sector held.new) }
     ensures counted { refused.new ≡ counted result refused.old }
     ensures judged { Judged false manner.now.fails true result }
     ensures within { EndsWithin result 0 }
@@ -86,8 +94,14 @@ pub(crate) fn write_held(
     requires solid { IsSolid manner.now.sector (file_of manner.now.sector held.old) }
     ensures held { IsHeld manner.now.sector held.new }
     ensures solid { IsSolid manner.now.sector (file_of manner.now.sector held.new) }
-    ensures changed { ChangedBy manner.now.sector (WriteTouches manner.now.sector (file_of manner.now.sector held.old) at bytes.now) (written (file_of manner.now.sector held.old) at bytes.now) (max held.old.len (at + length bytes.now)) result (file_of manner.now.sector held.old) (file_of manner.now.sector held.new) }
-    ensures picked { PickedBy manner.now.sector (WriteTouches manner.now.sector (file_of manner.now.sector held.old) at bytes.now) (written (file_of manner.now.sector held.old) at bytes.now) (max held.old.len (at + length bytes.now)) manner.now.part.now result (file_of manner.now.sector held.old) (file_of manner.now.sector held.new) }
+    ensures changed { ChangedBy manner.now.sector
+        (WriteTouches manner.now.sector (file_of manner.now.sector held.old) at bytes.now)
+        (written (file_of manner.now.sector held.old) at bytes.now) (max held.old.len (at + length bytes.now))
+        result (file_of manner.now.sector held.old) (file_of manner.now.sector held.new) }
+    ensures picked { PickedBy manner.now.sector
+        (WriteTouches manner.now.sector (file_of manner.now.sector held.old) at bytes.now)
+        (written (file_of manner.now.sector held.old) at bytes.now) (max held.old.len (at + length bytes.now))
+        manner.now.part.now result (file_of manner.now.sector held.old) (file_of manner.now.sector held.new) }
     ensures counted { refused.new ≡ counted result refused.old }
     ensures judged { Judged false manner.now.fails true result }
     ensures within { EndsWithin result (at + length bytes.now) }
@@ -118,8 +132,14 @@ pub(crate) fn cut_held(
     requires solid { IsSolid manner.now.sector (file_of manner.now.sector held.old) }
     ensures held { IsHeld manner.now.sector held.new }
     ensures solid { IsSolid manner.now.sector (file_of manner.now.sector held.new) }
-    ensures changed { ChangedBy manner.now.sector (CutTouches manner.now.sector (file_of manner.now.sector held.old) end) (cut_to (file_of manner.now.sector held.old) end) end result (file_of manner.now.sector held.old) (file_of manner.now.sector held.new) }
-    ensures picked { PickedBy manner.now.sector (CutTouches manner.now.sector (file_of manner.now.sector held.old) end) (cut_to (file_of manner.now.sector held.old) end) end manner.now.part.now result (file_of manner.now.sector held.old) (file_of manner.now.sector held.new) }
+    ensures changed { ChangedBy manner.now.sector
+        (CutTouches manner.now.sector (file_of manner.now.sector held.old) end)
+        (cut_to (file_of manner.now.sector held.old) end) end result (file_of manner.now.sector held.old)
+        (file_of manner.now.sector held.new) }
+    ensures picked { PickedBy manner.now.sector
+        (CutTouches manner.now.sector (file_of manner.now.sector held.old) end)
+        (cut_to (file_of manner.now.sector held.old) end) end manner.now.part.now result
+        (file_of manner.now.sector held.old) (file_of manner.now.sector held.new) }
     ensures counted { refused.new ≡ counted result refused.old }
     ensures judged { Judged false manner.now.fails true result }
     ensures within { EndsWithin result end }
@@ -156,7 +176,8 @@ pub(crate) fn turn_held(held: &mut Held, sector: usize, pick: &[u32])
     ensures held { IsHeld sector held.new }
     ensures solid { IsSolid sector (file_of sector held.new) }
     ensures shuffled { IsShuffled sector (file_of sector held.old) (file_of sector held.new) }
-    ensures turned { (k : ℕ) → IsTurned sector (file_of sector held.old) (file_of sector held.new) k (picked pick.now true k (suc (length ((file_of sector held.old).earlier k)))) }
+    ensures turned { (k : ℕ) → IsTurned sector (file_of sector held.old) (file_of sector held.new) k
+        (picked pick.now true k (suc (length ((file_of sector held.old).earlier k)))) }
 {
     held.turn(sector, pick);
 }
@@ -216,7 +237,9 @@ pub(crate) fn append_present(
     requires is_size { IsTrue (is_sector_size sector) }
     requires held { IsHeld sector held.now }
     requires short { held.now.len ≤ longest }
-    ensures ok { OnOk result ((bytes : List ℕ) × (out.new.items ≡ out.old.items ++ bytes) × (length bytes ≡ held.now.len) × ((i : ℕ) → i < held.now.len → slice_index bytes i ≡ byte (file_of sector held.now) i)) }
+    ensures ok { OnOk result ((bytes : List ℕ) × (out.new.items ≡ out.old.items ++ bytes) × (length bytes ≡
+        held.now.len) × ((i : ℕ) → i < held.now.len → slice_index bytes i ≡ byte (file_of sector held.now)
+        i)) }
     ensures err { OnErr result (out.new.items ≡ out.old.items) }
     ensures error { IfErr result (λ e. number_of e ≡ 4) }
 {

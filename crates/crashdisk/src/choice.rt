@@ -1,6 +1,7 @@
 //! What a crash is told to leave (own).
 ghost use Rattle.std.specs.Prelude.{◌≡◌, ◌<◌, length, min, max, suc, Option, Some, None, MatchOption, []};
-ghost use Rattle.crashdisk.specs.Choice.{naming_of, newest, oldest, is_newest, named_len, last_torn, IsLeft, EachImageIsNamed};
+ghost use Rattle.crashdisk.specs.Choice.{naming_of, newest, oldest, is_newest, named_len, last_torn, torn_here, Names};
+ghost use Rattle.crashdisk.specs.Choice.{IsLeft, EachImageIsNamed};
 ghost use Rattle.crashdisk.specs.Held.{picked};
 
 use crate::values::Values;
@@ -87,7 +88,8 @@ impl FileChoice {
 
     /// The bytes of the last torn entry of sector k.
     pub(crate) fn torn_bytes(&self, k: usize) -> Option<&[u8]>
-        ensures { MatchOption result (last_torn (naming_of self.now).torn k ≡ None) (λ bytes. last_torn (naming_of self.now).torn k ≡ Some bytes.now) }
+        ensures { MatchOption result (last_torn (naming_of self.now).torn k ≡ None)
+            (λ bytes. last_torn (naming_of self.now).torn k ≡ Some bytes.now) }
     {
         let mut found = None;
         for entry in self.torn.iter() {
@@ -100,6 +102,30 @@ impl FileChoice {
 }
 
 impl FileChoice {
+    /// The bytes of sector k where it is torn, which only a touched one is.
+    fn torn_here(&self, tears: bool, touched: bool, k: usize) -> Option<&[u8]>
+        ensures { MatchOption result (torn_here tears touched (naming_of self.now) k ≡ None)
+            (λ bytes. torn_here tears touched (naming_of self.now) k ≡ Some bytes.now) }
+    {
+        if tears && touched {
+            self.torn_bytes(k)
+        } else {
+            None
+        }
+    }
+
+    /// The bytes that it names of sector k, which has these values. Behind them are zeros.
+    pub(crate) fn named<'a>(&'a self, values: &'a Values, tears: bool, k: usize) -> &'a [u8]
+        requires { 0 < length values.now }
+        ensures { Names tears (naming_of self.now) k values.now result.now }
+    {
+        let touched = values.count() - 1 > 0;
+        match self.torn_here(tears, touched, k) {
+            Some(bytes) => bytes,
+            None => values.value(self.number(k, values.count())),
+        }
+    }
+
     /// Leaves of a sector the one value that it names, with zeros from a place on.
     pub(crate) fn leave(&self, values: &mut Values, tears: bool, k: usize, end: usize)
         requires { 0 < length values.old }
@@ -107,10 +133,8 @@ impl FileChoice {
     {
         let touched = values.count() - 1 > 0;
         values.keep(self.number(k, values.count()));
-        if tears && touched {
-            if let Some(bytes) = self.torn_bytes(k) {
-                values.replace(bytes);
-            }
+        if let Some(bytes) = self.torn_here(tears, touched, k) {
+            values.replace(bytes);
         }
         values.settle(end);
     }

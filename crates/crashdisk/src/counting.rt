@@ -1,12 +1,14 @@
 //! The choices of a crash, counted.
-ghost use Rattle.std.specs.Prelude.{◌≡◌, IsTrue, ◌<◌, ◌≤◌, ◌+◌, ◌-◌, ◌*◌, ◌/◌, ◌^◌, ℕ, suc, [], length, map, slice_index_or, OnOk, IfOk, IfErr};
+ghost use Rattle.std.specs.Prelude.{◌≡◌, IsTrue, ◌<◌, ◌≤◌, ◌+◌, ◌-◌, ◌*◌, ◌/◌, ◌^◌, ℕ, suc, [], length, map};
+ghost use Rattle.std.specs.Prelude.{slice_index_or, OnOk, IfOk, IfErr};
 ghost use Rattle.std.specs.List.{range_with_len};
 ghost use Rattle.crashdisk.specs.State.{longest};
 ghost use Rattle.crashdisk.specs.Held.{file_of, file_by, IsHeld, AreWhole};
 ghost use Rattle.crashdisk.specs.Solid.{IsSolid, is_sector_size};
 ghost use Rattle.crashdisk.specs.Choice.{naming_of};
 ghost use Rattle.crashdisk.specs.Refusal.{number_of};
-ghost use Rattle.crashdisk.specs.Count.{sector_count, value_count, ways, digit, length_count, length_at, choice_count, naming_at};
+ghost use Rattle.crashdisk.specs.Count.{sector_count, value_count, ways, digit, length_count, length_at, choice_count};
+ghost use Rattle.crashdisk.specs.Count.{naming_at};
 
 use crate::choice::{FileChoice, Rest};
 use crate::error::DiskError;
@@ -61,7 +63,7 @@ fn file_choice(
 }
 
 /// How many values sector k has.
-fn count_values(sectors: &[Values], sector: usize, k: usize) -> usize
+pub(crate) fn count_values(sectors: &[Values], sector: usize, k: usize) -> usize
     requires whole { AreWhole sector sectors.now }
     ensures { result ≡ value_count (file_by sector sectors.now 0 0 0) k }
 {
@@ -80,7 +82,8 @@ fn picks(
     n: &mut u64,
 ) -> Result<Vec<u64>, AllocError>
     requires whole { AreWhole sector sectors.now }
-    ensures named { IfOk result (λ v. v.items ≡ map (digit (value_count (file_by sector sectors.now 0 0 0)) n.old) (range_with_len 0 count)) }
+    ensures named { IfOk result (λ v. v.items ≡ map (digit (value_count (file_by sector sectors.now 0 0 0)) n.old)
+        (range_with_len 0 count)) }
     ensures rest { OnOk result (n.new ≡ n.old / ways (value_count (file_by sector sectors.now 0 0 0)) count) }
 {
     let mut pick = Vec::new(alloc);

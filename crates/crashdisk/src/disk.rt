@@ -5,10 +5,11 @@ ghost use Rattle.crashdisk.specs.State.{byte, IsSectorSize};
 use crate::error::DiskError;
 use crate::file::File;
 
-/// Two files, of which a crash may leave, for each sector, any value that it had since the file was last synced, or, on a
-/// disk that tears, anything where the sector was written since then; and for each file any length from the least to the
-/// greatest that it had since then. Places and lengths are in bytes. Stops and failures may be set
-/// of it for the calls to come (of a real disk none is): each call but `sector` and `tears` heeds them and counts them down.
+/// Two files, of which a crash may leave, for each sector, any value that it had since the file was last synced, or, on
+/// a disk that tears, anything where the sector was written since then; and for each file any length from the least to
+/// the greatest that it had since then. Places and lengths are in bytes. Stops and failures may be set
+/// of it for the calls to come (of a real disk none is): each call but `sector` and `tears` heeds them and counts them
+/// down.
 pub trait Disk {
     ghost use Rattle.crashdisk.specs.declared.file.File.{File};
     ghost use Rattle.crashdisk.specs.Call.{DiskState, of, IsSoundDisk, Writes, Cuts, Syncs, Looks};
@@ -36,11 +37,13 @@ pub trait Disk {
         ensures answer { keeps_word self.old → IfOk result (λ n. n ≡ (of file (state self.old)).len) }
         ensures state { keeps_word self.old → Looks 0 result (state self.old) (state self.new) };
 
-    /// Reads the bytes from a place on; past the end of the file they are zeros. Refused by Stopped, by TooLong where it
-    /// would end above 1,099,511,627,776, by Failed or NoMemory. A refusal changes nothing, but `out` may hold anything.
+    /// Reads the bytes from a place on; past the end of the file they are zeros. Refused by Stopped, by TooLong where
+    /// it would end above 1,099,511,627,776, by Failed or NoMemory. A refusal changes nothing, but `out` may hold
+    /// anything.
     fn read_at(&mut self, file: File, at: u64, out: &mut [u8]) -> Result<(), DiskError>
         ensures word { keeps_word self.old ↔ keeps_word self.new }
-        ensures bytes { keeps_word self.old → OnOk result (EachIndex out.new (λ i. slice_index out.new i ≡ byte (of file (state self.old)) (at + i))) }
+        ensures bytes { keeps_word self.old
+            → OnOk result (EachIndex out.new (λ i. slice_index out.new i ≡ byte (of file (state self.old)) (at + i))) }
         ensures state { keeps_word self.old → Looks (at + length out.old) result (state self.old) (state self.new) };
 
     /// Writes the bytes at a place, and lengthens the file where they end past its end. Refused by Stopped, by TooLong

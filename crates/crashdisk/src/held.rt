@@ -1,7 +1,10 @@
 //! A file as the modelled disk keeps it (own).
-ghost use Rattle.std.specs.Prelude.{◌≡◌, ◌≢◌, ◌⊎◌, ◌<◌, ◌≤◌, ◌+◌, ◌-◌, ◌*◌, ◌/◌, ◌%◌, ◌^◌, ◌↔◌, ℕ, IsTrue, List, [], ◌∷◌, ◌++◌, length, take, drop, replicate, slice_index, slice_index_or, OnOk, OnErr, IfOk, max, set, cond, EachIndex, suc, true};
+ghost use Rattle.std.specs.Prelude.{◌≡◌, ◌≢◌, ◌⊎◌, ◌<◌, ◌≤◌, ◌+◌, ◌-◌, ◌*◌, ◌/◌, ◌%◌, ◌^◌, ◌↔◌, ℕ, IsTrue, List, []};
+ghost use Rattle.std.specs.Prelude.{◌∷◌, ◌++◌, length, take, drop, replicate, slice_index, slice_index_or, OnOk, OnErr};
+ghost use Rattle.std.specs.Prelude.{IfOk, max, set, cond, EachIndex, suc, true};
 ghost use Rattle.crashdisk.specs.State.{Meets};
-ghost use Rattle.crashdisk.specs.Held.{last_of, file_by, AreWhole, Touches, put_byte, IsListOf, EachOf, AreRising, IsPut, Gets, Loses, Takes, is_odd, IsCutTo, picked, turned};
+ghost use Rattle.crashdisk.specs.Held.{last_of, file_by, AreWhole, Touches, put_byte, IsListOf, EachOf, AreRising};
+ghost use Rattle.crashdisk.specs.Held.{IsPut, Gets, Loses, Takes, is_odd, IsCutTo, picked, turned};
 
 use crate::values::{Bytes, Values};
 use std::alloc::{AllocError, Global};
@@ -36,7 +39,8 @@ impl Change<'_> {
     fn value(&self, alloc: Global, start: usize, was: &[u8]) -> Result<Bytes, AllocError>
         requires room { self.now.from + length self.now.bytes.now < 2 ^ 62 }
         requires places { start + length was.now < 2 ^ 62 }
-        ensures { IfOk result (λ b. (length b ≡ length was.now) × ((j : ℕ) → j < length was.now → slice_index b j ≡ put_byte self.now.from self.now.keep self.now.bytes.now (start + j) (slice_index was.now j))) }
+        ensures { IfOk result (λ b. (length b ≡ length was.now) × ((j : ℕ) → j < length was.now → slice_index b j ≡
+            put_byte self.now.from self.now.keep self.now.bytes.now (start + j) (slice_index was.now j))) }
     {
         let mut value = Vec::from_slice(alloc, was)?;
         self.put(start, &mut value);
@@ -46,7 +50,8 @@ impl Change<'_> {
     fn put(&self, start: usize, value: &mut [u8])
         requires room { self.now.from + length self.now.bytes.now < 2 ^ 62 }
         requires places { start + length value.old < 2 ^ 62 }
-        ensures { (j : ℕ) → j < length value.old → slice_index value.new j ≡ put_byte self.now.from self.now.keep self.now.bytes.now (start + j) (slice_index value.old j) }
+        ensures { (j : ℕ) → j < length value.old → slice_index value.new j ≡ put_byte self.now.from self.now.keep
+            self.now.bytes.now (start + j) (slice_index value.old j) }
     {
         for (j, byte) in value.iter_mut().enumerate() {
             *byte = self.byte(start + j, *byte);
@@ -55,9 +60,9 @@ impl Change<'_> {
 }
 
 /// What a failing call leaves: for a write or a change of the length, touched sector number i, from the lowest on, is
-/// new where `pick[i]` is odd, and the length is new where `new_len` holds; for a sync, sector number i takes the listed
-/// value number `pick[i]` modulo their count. Where an entry is missing, a write leaves the old value, and a sync the
-/// present one.
+/// new where `pick[i]` is odd, and the length is new where `new_len` holds; for a sync, sector number i takes the
+/// listed value number `pick[i]` modulo their count. Where an entry is missing, a write leaves the old value, and a
+/// sync the present one.
 #[derive(Debug, Drop)]
 pub struct Part {
     /// By the touched sectors; of a sync by all sectors.
@@ -75,6 +80,17 @@ impl Part {
         }
     }
 
+    pub(crate) fn copy(&self, alloc: Global) -> Result<Part, AllocError>
+        ensures pick { IfOk result (λ p. p.pick.items ≡ self.now.pick.items) }
+        ensures new_len { IfOk result (λ p. p.new_len ≡ self.now.new_len) }
+    {
+        let pick = Vec::from_slice(alloc, self.pick.as_slice())?;
+        Ok(Part {
+            pick,
+            new_len: self.new_len,
+        })
+    }
+
     /// The length that it takes.
     fn len(&self, new: usize, old: usize) -> usize
         ensures { result ≡ cond self.now.new_len new old }
@@ -83,8 +99,8 @@ impl Part {
     }
 }
 
-/// A file: for each sector its values, up to the last one that was touched, and its length now and at its shortest and longest
-/// since the last sync. The sectors behind them hold zeros.
+/// A file: for each sector its values, up to the last one that was touched, and its length now and at its shortest and
+/// longest since the last sync. The sectors behind them hold zeros.
 #[derive(Drop)]
 pub(crate) struct Held {
     pub(crate) sectors: Vec<Values>,
@@ -100,7 +116,8 @@ fn grow(
     sector: usize,
     count: usize,
 ) -> Result<(), AllocError>
-    ensures grown { sectors.new.items ≡ sectors.old.items ++ replicate (length sectors.new.items - length sectors.old.items) (replicate sector 0 ∷ []) }
+    ensures grown { sectors.new.items ≡ sectors.old.items ++ replicate
+        (length sectors.new.items - length sectors.old.items) (replicate sector 0 ∷ []) }
     ensures longer { length sectors.old.items ≤ length sectors.new.items }
     ensures enough { OnOk result (count ≤ length sectors.new.items) }
     ensures bounded { length sectors.new.items ≤ max (length sectors.old.items) count }
@@ -124,7 +141,8 @@ fn holds_past(sectors: &[Values], sector: usize, place: usize, k: usize) -> bool
     requires positive { 0 < sector }
     requires places { k * sector + sector < 2 ^ 62 }
     requires whole { AreWhole sector sectors.now }
-    ensures { IsTrue result ↔ ((i : ℕ) × (place ≤ i) × (i / sector ≡ k) × ((file_by sector sectors.now 0 0 0).present i ≢ 0)) }
+    ensures { IsTrue result
+        ↔ ((i : ℕ) × (place ≤ i) × (i / sector ≡ k) × ((file_by sector sectors.now 0 0 0).present i ≢ 0)) }
 {
     match sectors.get(k) {
         Some(values) => {
@@ -149,7 +167,8 @@ fn is_touched(sectors: &[Values], sector: usize, len: usize, change: &Change<'_>
     requires positive { 0 < sector }
     requires places { k * sector + sector < 2 ^ 62 }
     requires whole { AreWhole sector sectors.now }
-    ensures { IsTrue result ↔ Touches sector (file_by sector sectors.now len 0 0) change.now.from change.now.to change.now.end k }
+    ensures { IsTrue result
+        ↔ Touches sector (file_by sector sectors.now len 0 0) change.now.from change.now.to change.now.end k }
 {
     if meets(sector, change.from, change.to, k) {
         return true;
@@ -185,7 +204,9 @@ fn touched(
     requires fits { change.now.to ≤ max change.now.end len }
     requires there { change.now.from < change.now.to → change.now.to / sector < length sectors.now }
     requires whole { AreWhole sector sectors.now }
-    ensures { IfOk result (λ v. IsListOf (Touches sector (file_by sector sectors.now len 0 0) change.now.from change.now.to change.now.end) v.items) }
+    ensures { IfOk result (λ v. IsListOf
+        (Touches sector (file_by sector sectors.now len 0 0) change.now.from change.now.to change.now.end)
+        v.items) }
 {
     let place = if len < change.end {
         change.end
@@ -214,7 +235,9 @@ fn append_one(
     requires long { length (last_of (slice_index_or sectors.old.items k [])) ≡ sector }
     requires places { k * sector + sector < 2 ^ 62 }
     requires room { change.now.from + length change.now.bytes.now < 2 ^ 62 }
-    ensures ok { OnOk result ((values : _) × (sectors.new.items ≡ set sectors.old.items k values) × ((value : _) × (values ≡ slice_index_or sectors.old.items k [] ++ value ∷ []) × IsPut sector change.now.from change.now.keep change.now.bytes.now k (last_of (slice_index_or sectors.old.items k [])) value)) }
+    ensures ok { OnOk result ((values : _) × (sectors.new.items ≡ set sectors.old.items k values) × ((value : _) ×
+        (values ≡ slice_index_or sectors.old.items k [] ++ value ∷ []) × IsPut sector change.now.from
+        change.now.keep change.now.bytes.now k (last_of (slice_index_or sectors.old.items k [])) value)) }
     ensures err { OnErr result (sectors.new.items ≡ sectors.old.items) }
 {
     let values = &mut sectors[k];
@@ -244,7 +267,9 @@ fn append(
     requires whole { AreWhole sector sectors.old.items }
     requires places { length sectors.old.items * sector + sector < 2 ^ 62 }
     requires room { change.now.from + length change.now.bytes.now < 2 ^ 62 }
-    ensures ok { OnOk result (EachOf list.now (Gets sector change.now.from change.now.keep change.now.bytes.now list.now) sectors.old.items sectors.new.items) }
+    ensures ok { OnOk result (EachOf list.now
+        (Gets sector change.now.from change.now.keep change.now.bytes.now list.now) sectors.old.items
+        sectors.new.items) }
     ensures err { OnErr result (sectors.new.items ≡ sectors.old.items) }
 {
     for (done, k) in list.iter().enumerate() {
@@ -262,7 +287,8 @@ fn append(
 /// Lets the value before it stand in place of the newest one, but where the newest is taken.
 fn take_picked(sectors: &mut Vec<Values>, list: &[usize], pick: &[u32])
     requires rising { AreRising (length sectors.old.items) list.now }
-    requires two { (i : ℕ) → i < length list.now → 2 ≤ length (slice_index_or sectors.old.items (slice_index list.now i) []) }
+    requires two { (i : ℕ) → i < length list.now
+        → 2 ≤ length (slice_index_or sectors.old.items (slice_index list.now i) []) }
     ensures { EachOf list.now (Takes pick.now) sectors.old.items sectors.new.items }
 {
     for (i, k) in list.iter().enumerate() {
@@ -287,6 +313,23 @@ impl Held {
     ghost use Rattle.crashdisk.specs.State.{Changed, IsDone, IsSynced, byte, longest};
     ghost use Rattle.crashdisk.specs.Held.{file_of, IsHeld, IsPicked, IsTurned, picked};
 
+    /// The same file.
+    pub(crate) fn copy(&self, alloc: Global) -> Result<Held, AllocError>
+        ensures sectors { IfOk result (λ h. h.sectors.items ≡ self.now.sectors.items) }
+        ensures len { IfOk result (λ h. (h.len ≡ self.now.len) × (h.least ≡ self.now.least) × (h.greatest ≡ self.now.greatest)) }
+    {
+        let mut sectors = Vec::new(alloc);
+        for values in self.sectors.iter() {
+            sectors.push(values.copy(alloc)?)?;
+        }
+        Ok(Held {
+            sectors,
+            len: self.len,
+            least: self.least,
+            greatest: self.greatest,
+        })
+    }
+
     /// The sectors that a change touches, rising; each is held afterwards.
     fn prepare(
         &mut self,
@@ -301,7 +344,9 @@ impl Held {
         requires held { IsHeld sector self.old }
         ensures held { IsHeld sector self.new }
         ensures same { file_of sector self.new ≡ file_of sector self.old }
-        ensures list { IfOk result (λ v. IsListOf (Touches sector (file_of sector self.old) change.now.from change.now.to change.now.end) v.items × AreRising (length self.new.sectors.items) v.items) }
+        ensures list { IfOk result (λ v. IsListOf
+            (Touches sector (file_of sector self.old) change.now.from change.now.to change.now.end) v.items ×
+            AreRising (length self.new.sectors.items) v.items) }
     {
         grow(&mut self.sectors, alloc, sector, needed(sector, change))?;
         touched(alloc, &self.sectors, sector, self.len, change)
@@ -321,8 +366,15 @@ impl Held {
         requires room { change.now.from + length change.now.bytes.now < 2 ^ 62 }
         requires held { IsHeld sector self.old }
         ensures held { IsHeld sector self.new }
-        ensures changed { OnOk result (Changed sector (Touches sector (file_of sector self.old) change.now.from change.now.to change.now.end) (λ i. put_byte change.now.from change.now.keep change.now.bytes.now i ((file_of sector self.old).present i)) change.now.end (file_of sector self.old) (file_of sector self.new)) }
-        ensures done { OnOk result (IsDone sector (Touches sector (file_of sector self.old) change.now.from change.now.to change.now.end) (λ i. put_byte change.now.from change.now.keep change.now.bytes.now i ((file_of sector self.old).present i)) change.now.end (file_of sector self.new)) }
+        ensures changed { OnOk result (Changed sector
+            (Touches sector (file_of sector self.old) change.now.from change.now.to change.now.end) (λ i.
+            put_byte change.now.from change.now.keep change.now.bytes.now i
+            ((file_of sector self.old).present i)) change.now.end (file_of sector self.old)
+            (file_of sector self.new)) }
+        ensures done { OnOk result (IsDone sector
+            (Touches sector (file_of sector self.old) change.now.from change.now.to change.now.end) (λ i.
+            put_byte change.now.from change.now.keep change.now.bytes.now i
+            ((file_of sector self.old).present i)) change.now.end (file_of sector self.new)) }
         ensures same { OnErr result (file_of sector self.new ≡ file_of sector self.old) }
     {
         let list = self.prepare(alloc, sector, change)?;
@@ -348,8 +400,16 @@ impl Held {
         requires room { change.now.from + length change.now.bytes.now < 2 ^ 62 }
         requires held { IsHeld sector self.old }
         ensures held { IsHeld sector self.new }
-        ensures changed { OnOk result (Changed sector (Touches sector (file_of sector self.old) change.now.from change.now.to change.now.end) (λ i. put_byte change.now.from change.now.keep change.now.bytes.now i ((file_of sector self.old).present i)) change.now.end (file_of sector self.old) (file_of sector self.new)) }
-        ensures picked { OnOk result (IsPicked sector (Touches sector (file_of sector self.old) change.now.from change.now.to change.now.end) (λ i. put_byte change.now.from change.now.keep change.now.bytes.now i ((file_of sector self.old).present i)) change.now.end part.now.pick.items part.now.new_len (file_of sector self.old) (file_of sector self.new)) }
+        ensures changed { OnOk result (Changed sector
+            (Touches sector (file_of sector self.old) change.now.from change.now.to change.now.end) (λ i.
+            put_byte change.now.from change.now.keep change.now.bytes.now i
+            ((file_of sector self.old).present i)) change.now.end (file_of sector self.old)
+            (file_of sector self.new)) }
+        ensures picked { OnOk result (IsPicked sector
+            (Touches sector (file_of sector self.old) change.now.from change.now.to change.now.end) (λ i.
+            put_byte change.now.from change.now.keep change.now.bytes.now i
+            ((file_of sector self.old).present i)) change.now.end part.now.pick.items part.now.new_len
+            (file_of sector self.old) (file_of sector self.new)) }
         ensures same { OnErr result (file_of sector self.new ≡ file_of sector self.old) }
     {
         let touched = self.prepare(alloc, sector, change)?;
@@ -379,8 +439,10 @@ impl Held {
     pub(crate) fn turn(&mut self, sector: usize, pick: &[u32])
         requires held { IsHeld sector self.old }
         ensures held { IsHeld sector self.new }
-        ensures len { (self.new.len ≡ self.old.len) × (self.new.least ≡ self.old.least) × (self.new.greatest ≡ self.old.greatest) }
-        ensures turned { (k : ℕ) → IsTurned sector (file_of sector self.old) (file_of sector self.new) k (picked pick.now true k (suc (length ((file_of sector self.old).earlier k)))) }
+        ensures len { (self.new.len ≡ self.old.len) × (self.new.least ≡ self.old.least)
+            × (self.new.greatest ≡ self.old.greatest) }
+        ensures turned { (k : ℕ) → IsTurned sector (file_of sector self.old) (file_of sector self.new) k
+            (picked pick.now true k (suc (length ((file_of sector self.old).earlier k)))) }
     {
         turn_each(&mut self.sectors, pick);
     }
@@ -418,7 +480,9 @@ fn number(pick: &[u32], k: usize, count: usize) -> usize
 fn turn_each(sectors: &mut Vec<Values>, pick: &[u32])
     requires some { (k : ℕ) → k < length sectors.old.items → 0 < length (slice_index_or sectors.old.items k []) }
     ensures count { length sectors.new.items ≡ length sectors.old.items }
-    ensures each { (k : ℕ) → k < length sectors.old.items → slice_index_or sectors.new.items k [] ≡ turned (picked pick.now true k (length (slice_index_or sectors.old.items k []))) (slice_index_or sectors.old.items k []) }
+    ensures each { (k : ℕ) → k < length sectors.old.items → slice_index_or sectors.new.items k [] ≡ turned
+        (picked pick.now true k (length (slice_index_or sectors.old.items k [])))
+        (slice_index_or sectors.old.items k []) }
 {
     for k in 0..sectors.len() {
         let values = &mut sectors[k];
@@ -431,7 +495,8 @@ fn settle(sectors: &mut Vec<Values>, sector: usize, end: usize)
     requires whole { AreWhole sector sectors.old.items }
     requires room { length sectors.old.items * sector < 2 ^ 62 }
     ensures count { length sectors.new.items ≡ length sectors.old.items }
-    ensures each { (k : ℕ) → k < length sectors.old.items → IsCutTo (end - k * sector) (slice_index_or sectors.old.items k []) (slice_index_or sectors.new.items k []) }
+    ensures each { (k : ℕ) → k < length sectors.old.items
+        → IsCutTo (end - k * sector) (slice_index_or sectors.old.items k []) (slice_index_or sectors.new.items k []) }
 {
     for k in 0..sectors.len() {
         let values = &mut sectors[k];
@@ -443,8 +508,10 @@ fn settle(sectors: &mut Vec<Values>, sector: usize, end: usize)
 fn copy_part(present: &[u8], start: usize, at: usize, end: usize, out: &mut [u8])
     requires room { (at + length out.old < 2 ^ 60) × (start + length present.now < 2 ^ 61) }
     requires end { end ≤ at + length out.old }
-    ensures inside { (i : ℕ) → i < length out.old → start ≤ at + i → at + i < start + length present.now → at + i < end → slice_index out.new i ≡ slice_index present.now (at + i - start) }
-    ensures outside { (i : ℕ) → i < length out.old → (at + i < start) ⊎ ((start + length present.now ≤ at + i) ⊎ (end ≤ at + i)) → slice_index out.new i ≡ slice_index out.old i }
+    ensures inside { (i : ℕ) → i < length out.old → start ≤ at + i → at + i < start + length present.now
+        → at + i < end → slice_index out.new i ≡ slice_index present.now (at + i - start) }
+    ensures outside { (i : ℕ) → i < length out.old → (at + i < start)
+        ⊎ ((start + length present.now ≤ at + i) ⊎ (end ≤ at + i)) → slice_index out.new i ≡ slice_index out.old i }
 {
     let from = at.max(start);
     let to = end.min(start + present.len());

@@ -1,6 +1,7 @@
 //! What the calls of a modelled disk do to its log, and to what a disk that tears keeps of it.
 ghost use Rattle.std.specs.Prelude.{◌≡◌, ◌≤◌, ◌+◌, [], IsTrue, true, false, max, suc, length, ℕ};
-ghost use Rattle.crashdisk.specs.State.{longest, IsImage, IsSettled, IsSynced, written, WriteTouches, cut_to, CutTouches};
+ghost use Rattle.crashdisk.specs.State.{longest, IsImage, IsSettled, IsSynced, written, WriteTouches, cut_to};
+ghost use Rattle.crashdisk.specs.State.{CutTouches};
 ghost use Rattle.crashdisk.specs.Call.{ChangedBy, counted, EndsWithin, with_write, ArePresent, kept_of};
 ghost use Rattle.crashdisk.specs.Held.{file_of, IsHeld};
 ghost use Rattle.crashdisk.specs.Solid.{IsSolid, is_sector_size};
@@ -33,8 +34,14 @@ pub(crate) fn write_log(
     requires kept_room { IsTrue manner.now.tears → held.old.greatest ≤ length since.old.room.items }
     ensures held { IsHeld manner.now.sector held.new }
     ensures solid { IsSolid manner.now.sector (file_of manner.now.sector held.new) }
-    ensures changed { ChangedBy manner.now.sector (WriteTouches manner.now.sector (file_of manner.now.sector held.old) at bytes.now) (written (file_of manner.now.sector held.old) at bytes.now) (max held.old.len (at + length bytes.now)) result (file_of manner.now.sector held.old) (file_of manner.now.sector held.new) }
-    ensures picked { PickedBy manner.now.sector (WriteTouches manner.now.sector (file_of manner.now.sector held.old) at bytes.now) (written (file_of manner.now.sector held.old) at bytes.now) (max held.old.len (at + length bytes.now)) manner.now.part.now result (file_of manner.now.sector held.old) (file_of manner.now.sector held.new) }
+    ensures changed { ChangedBy manner.now.sector
+        (WriteTouches manner.now.sector (file_of manner.now.sector held.old) at bytes.now)
+        (written (file_of manner.now.sector held.old) at bytes.now) (max held.old.len (at + length bytes.now))
+        result (file_of manner.now.sector held.old) (file_of manner.now.sector held.new) }
+    ensures picked { PickedBy manner.now.sector
+        (WriteTouches manner.now.sector (file_of manner.now.sector held.old) at bytes.now)
+        (written (file_of manner.now.sector held.old) at bytes.now) (max held.old.len (at + length bytes.now))
+        manner.now.part.now result (file_of manner.now.sector held.old) (file_of manner.now.sector held.new) }
     ensures counted { refused.new ≡ counted result refused.old }
     ensures judged { Judged false manner.now.fails true result }
     ensures within { EndsWithin result (at + length bytes.now) }
@@ -69,8 +76,14 @@ pub(crate) fn cut_log(
     requires kept_room { IsTrue manner.now.tears → held.old.greatest ≤ length since.old.room.items }
     ensures held { IsHeld manner.now.sector held.new }
     ensures solid { IsSolid manner.now.sector (file_of manner.now.sector held.new) }
-    ensures changed { ChangedBy manner.now.sector (CutTouches manner.now.sector (file_of manner.now.sector held.old) end) (cut_to (file_of manner.now.sector held.old) end) end result (file_of manner.now.sector held.old) (file_of manner.now.sector held.new) }
-    ensures picked { PickedBy manner.now.sector (CutTouches manner.now.sector (file_of manner.now.sector held.old) end) (cut_to (file_of manner.now.sector held.old) end) end manner.now.part.now result (file_of manner.now.sector held.old) (file_of manner.now.sector held.new) }
+    ensures changed { ChangedBy manner.now.sector
+        (CutTouches manner.now.sector (file_of manner.now.sector held.old) end)
+        (cut_to (file_of manner.now.sector held.old) end) end result (file_of manner.now.sector held.old)
+        (file_of manner.now.sector held.new) }
+    ensures picked { PickedBy manner.now.sector
+        (CutTouches manner.now.sector (file_of manner.now.sector held.old) end)
+        (cut_to (file_of manner.now.sector held.old) end) end manner.now.part.now result
+        (file_of manner.now.sector held.old) (file_of manner.now.sector held.new) }
     ensures counted { refused.new ≡ counted result refused.old }
     ensures judged { Judged false manner.now.fails true result }
     ensures within { EndsWithin result end }
@@ -117,7 +130,8 @@ pub(crate) fn crash_log(
     requires kept_room { IsTrue tears → held.old.greatest ≤ length since.old.room.items }
     ensures held { IsHeld sector held.new }
     ensures solid { IsSolid sector (file_of sector held.new) }
-    ensures image { IsImage sector tears (file_of sector held.old) (image_of sector tears (file_of sector held.old) (naming_of choice.now)) }
+    ensures image { IsImage sector tears (file_of sector held.old)
+        (image_of sector tears (file_of sector held.old) (naming_of choice.now)) }
     ensures settled { IsSettled (file_of sector held.new) (image_of sector tears (file_of sector held.old) (naming_of choice.now)) }
     ensures kept_room { IsTrue tears → held.new.greatest ≤ length since.new.room.items }
     ensures since { Left tears (image_of sector tears (file_of sector held.old) (naming_of choice.now)) since.old since.new }

@@ -1,5 +1,7 @@
 //! A disk in memory that keeps what a crash may bring back.
-ghost use Rattle.std.specs.Prelude.{◌≡◌, ◌↔◌, IsTrue, ◌<◌, ◌≤◌, ◌+◌, ◌^◌, [], Bool, true, false, max, length, slice_index, OnOk, EachIndex, OnErr, IfOk, IfErr, ℕ, List, ◌++◌, cond, nat_lt, Some, map, IsSome, IfSome, ◌*◌, ◌/◌};
+ghost use Rattle.std.specs.Prelude.{◌≡◌, ◌↔◌, IsTrue, ◌<◌, ◌≤◌, ◌+◌, ◌^◌, [], Bool, true, false, max, length};
+ghost use Rattle.std.specs.Prelude.{slice_index, OnOk, EachIndex, OnErr, IfOk, IfErr, ℕ, List, ◌++◌, cond, nat_lt};
+ghost use Rattle.std.specs.Prelude.{Some, map, IsSome, IfSome, ◌*◌, ◌/◌};
 ghost use Rattle.crashdisk.specs.State.{longest};
 ghost use Rattle.crashdisk.specs.Call.{IsNew};
 ghost use Rattle.crashdisk.specs.Held.{file_of, IsHeld};
@@ -11,9 +13,9 @@ use crate::calls::{
     LIMIT, Manner, append_present, cut_held, empty, filled, is_too_long, refuse, sync_held,
     turn_held, write_held,
 };
-use crate::choice::Choice;
-use crate::counting::next_choice;
-use crate::crash::crash_held;
+use crate::choice::{Choice, FileChoice};
+use crate::counting::{count_values, next_choice};
+use crate::crash::{append_image, crash_held};
 use crate::disk::Disk;
 use crate::error::DiskError;
 use crate::file::File;
@@ -21,7 +23,7 @@ use crate::held::{Held, Part};
 use crate::log::{crash_log, cut_log, sync_log, write_log};
 use crate::since::Since;
 use crate::stops::Stops;
-use std::alloc::Global;
+use std::alloc::{AllocError, Global};
 
 /// A disk in memory, of which a crash leaves what is chosen (own). It keeps its word always.
 #[derive(Drop)]
@@ -49,12 +51,12 @@ impl ModelDisk {
     ghost use Rattle.crashdisk.specs.Call.{of, ArePresent, IsCrash};
     ghost use Rattle.crashdisk.specs.Choice.{naming_of, image_of};
     ghost use Rattle.crashdisk.specs.Stop.{no_stops};
-    ghost use Rattle.crashdisk.specs.Count.{choice_count, IsChoice, HasDigits};
+    ghost use Rattle.crashdisk.specs.Count.{value_count, choice_count, IsChoice, HasDigits};
     ghost use Rattle.crashdisk.specs.Model.{state_of};
 
-    /// A disk of sectors of this size, a power of two from 512 to 65536 bytes, which doesn't tear: the database holds these
-    /// bytes, the log is empty, both are down, and no stop and no failure is set. TooLong where the bytes are more than
-    /// 1,099,511,627,776, otherwise NoMemory alone.
+    /// A disk of sectors of this size, a power of two from 512 to 65536 bytes, which doesn't tear: the database holds
+    /// these bytes, the log is empty, both are down, and no stop and no failure is set. TooLong where the bytes are
+    /// more than 1,099,511,627,776, otherwise NoMemory alone.
     pub fn new(alloc: Global, sector: usize, db: Vec<u8>) -> Result<ModelDisk, DiskError>
         requires { IsTrue (is_sector_size sector) }
         ensures made { IfOk result (λ d. IsNew sector false db.items (state_of d)) }
@@ -100,8 +102,8 @@ impl ModelDisk {
         })
     }
 
-    /// The next so many calls, other than of `sector` and `tears`, are carried out, and all later ones answer Stopped. It
-    /// replaces what was set before, but once a call was stopped the disk stays so.
+    /// The next so many calls, other than of `sector` and `tears`, are carried out, and all later ones answer Stopped.
+    /// It replaces what was set before, but once a call was stopped the disk stays so.
     pub fn stop_after(&mut self, calls: u64)
         ensures { self.new ≡ record self.old { stops = record self.old.stops { calls = Some calls } } }
     {
@@ -116,9 +118,9 @@ impl ModelDisk {
         self.stops.syncs = syncs;
     }
 
-    /// The call of this number from now, other than of `sector` and `tears`, answers Failed and leaves what the part says; 0
-    /// only takes away what was set before. It is judged after Stopped, TooLong and NoMemory, and counts whatever those calls
-    /// answer.
+    /// The call of this number from now, other than of `sector` and `tears`, answers Failed and leaves what the part
+    /// says; 0 only takes away what was set before. It is judged after Stopped, TooLong and NoMemory, and counts
+    /// whatever those calls answer.
     pub fn fail(&mut self, calls: u64, part: Part)
         ensures { self.new ≡ record self.old { stops = record self.old.stops { fails = calls }; part = part } }
     {
@@ -126,10 +128,13 @@ impl ModelDisk {
         self.part = part;
     }
 
-    /// The machine stops and begins again: of each file what the choice names is left, alone. It clears stops and failures, and takes
-    /// no memory. How many calls were refused stays.
+    /// The machine stops and begins again: of each file what the choice names is left, alone. It clears stops and
+    /// failures, and takes no memory. How many calls were refused stays.
     pub fn crash(&mut self, choice: &Choice)
-        ensures left { IsCrash (image_of self.old.sector self.old.tears (state_of self.old).db (naming_of choice.now.db)) (image_of self.old.sector self.old.tears (state_of self.old).log (naming_of choice.now.log)) (state_of self.old) (state_of self.new) }
+        ensures left { IsCrash
+            (image_of self.old.sector self.old.tears (state_of self.old).db (naming_of choice.now.db))
+            (image_of self.old.sector self.old.tears (state_of self.old).log (naming_of choice.now.log))
+            (state_of self.old) (state_of self.new) }
         ensures cleared { self.new.stops ≡ no_stops }
     {
         let since = &mut self.since;
@@ -140,7 +145,8 @@ impl ModelDisk {
 
     /// Appends the present bytes of a file; NoMemory alone, and then `out` is as it was. It isn't counted as a call.
     pub fn present(&self, file: File, out: &mut Vec<u8>) -> Result<(), DiskError>
-        ensures ok { OnOk result ((bytes : List ℕ) × (out.new.items ≡ out.old.items ++ bytes) × ArePresent (of file (state_of self.now)) bytes) }
+        ensures ok { OnOk result ((bytes : List ℕ) × (out.new.items ≡ out.old.items ++ bytes) × ArePresent (of file
+            (state_of self.now)) bytes) }
         ensures err { OnErr result (out.new.items ≡ out.old.items) }
         ensures error { IfErr result (λ e. number_of e ≡ 4) }
     {
@@ -150,15 +156,86 @@ impl ModelDisk {
         }
     }
 
-    /// The choice of this number, counted from 0, and None from the count of choices on; NoMemory alone. The digits of the number
-    /// are, the first one changing fastest: for the database and then for the log, of each sector from 0 to the one with the last
-    /// byte of the greatest length the number of its value, the oldest first, and then the length: the least, each multiple of
-    /// the sector size strictly between, the greatest. It isn't counted as a call.
+    /// Appends what a crash by this choice would leave of a file, without a crash; NoMemory alone, and then `out` is as
+    /// it was. It isn't counted as a call.
+    pub fn image(&self, file: File, choice: &FileChoice, out: &mut Vec<u8>) -> Result<(), DiskError>
+        ensures ok { OnOk result (out.new.items ≡ out.old.items ++ image_of self.now.sector self.now.tears
+            (of file (state_of self.now)) (naming_of choice.now)) }
+        ensures err { OnErr result (out.new.items ≡ out.old.items) }
+        ensures error { IfErr result (λ e. number_of e ≡ 4) }
+    {
+        match file {
+            File::Db => append_image(&self.db, self.sector, self.tears, choice, out),
+            File::Log => append_image(&self.log, self.sector, self.tears, choice, out),
+        }
+    }
+
+    /// How many values sector k of a file has, counted from 0. It isn't counted as a call.
+    pub fn values(&self, file: File, k: usize) -> usize
+        ensures { result ≡ value_count (of file (state_of self.now)) k }
+    {
+        match file {
+            File::Db => count_values(&self.db.sectors, self.sector, k),
+            File::Log => count_values(&self.log.sectors, self.sector, k),
+        }
+    }
+
+    /// The least and the greatest length in bytes that a crash may leave of a file. It isn't counted as a call.
+    pub fn lengths(&self, file: File) -> (u64, u64)
+        ensures least { result.0 ≡ (of file (state_of self.now)).least }
+        ensures greatest { result.1 ≡ (of file (state_of self.now)).greatest }
+    {
+        match file {
+            File::Db => (self.db.least as u64, self.db.greatest as u64),
+            File::Log => (self.log.least as u64, self.log.greatest as u64),
+        }
+    }
+
+    /// A disk of its own that lists the same, and of which the same is set; NoMemory alone. It isn't counted as a call.
+    pub fn copy(&self) -> Result<ModelDisk, DiskError>
+        ensures same { IfOk result (λ d. state_of d ≡ state_of self.now) }
+        ensures error { IfErr result (λ e. number_of e ≡ 4) }
+    {
+        match self.copy_all() {
+            Ok(disk) => Ok(disk),
+            Err(_) => Err(DiskError::NoMemory),
+        }
+    }
+
+    fn copy_all(&self) -> Result<ModelDisk, AllocError>
+        ensures { IfOk result (λ d. state_of d ≡ state_of self.now) }
+    {
+        let db = self.db.copy(self.alloc)?;
+        let log = self.log.copy(self.alloc)?;
+        let part = self.part.copy(self.alloc)?;
+        let since = self.since.copy(self.alloc)?;
+        Ok(ModelDisk {
+            alloc: self.alloc,
+            sector: self.sector,
+            tears: self.tears,
+            db,
+            log,
+            refused: self.refused,
+            stops: self.stops,
+            part,
+            since,
+        })
+    }
+
+    /// The choice of this number, counted from 0, and None from the count of choices on; NoMemory alone. The digits of
+    /// the number are, the first one changing fastest: for the database and then for the log, of each sector from 0 to
+    /// the one with the last byte of the greatest length the number of its value, the oldest first, and then the
+    /// length: the least, each multiple of the sector size strictly between, the greatest. It isn't counted as a call.
     pub fn choice(&self, n: u64) -> Result<Option<Choice>, DiskError>
-        ensures found { IfOk result (λ found. IsSome found ↔ n < choice_count self.now.sector (state_of self.now).db * choice_count self.now.sector (state_of self.now).log) }
-        ensures named { IfOk result (λ found. IfSome found (λ choice. IsChoice self.now.sector (state_of self.now).db (state_of self.now).log n (naming_of choice.db) (naming_of choice.log))) }
-        ensures db { IfOk result (λ found. IfSome found (λ choice. HasDigits self.now.sector (state_of self.now).db n (image_of self.now.sector self.now.tears (state_of self.now).db (naming_of choice.db)))) }
-        ensures log { IfOk result (λ found. IfSome found (λ choice. HasDigits self.now.sector (state_of self.now).log (n / choice_count self.now.sector (state_of self.now).db) (image_of self.now.sector self.now.tears (state_of self.now).log (naming_of choice.log)))) }
+        ensures found { IfOk result (λ found. IsSome found ↔ n < choice_count self.now.sector (state_of self.now).db
+            * choice_count self.now.sector (state_of self.now).log) }
+        ensures named { IfOk result (λ found. IfSome found (λ choice. IsChoice self.now.sector (state_of self.now).db
+            (state_of self.now).log n (naming_of choice.db) (naming_of choice.log))) }
+        ensures db { IfOk result (λ found. IfSome found (λ choice. HasDigits self.now.sector (state_of self.now).db n
+            (image_of self.now.sector self.now.tears (state_of self.now).db (naming_of choice.db)))) }
+        ensures log { IfOk result (λ found. IfSome found (λ choice. HasDigits self.now.sector (state_of self.now).log
+            (n / choice_count self.now.sector (state_of self.now).db)
+            (image_of self.now.sector self.now.tears (state_of self.now).log (naming_of choice.log)))) }
         ensures error { IfErr result (λ e. number_of e ≡ 4) }
     {
         let mut rest = n;
@@ -170,8 +247,9 @@ impl ModelDisk {
         Ok(Some(Choice { db, log }))
     }
 
-    /// Of a disk that tears, the bytes of the log when it last had nothing unsynced, and the place and bytes of each write into
-    /// it since then that was made, or failed. Both are empty on a disk that doesn't tear. It isn't counted as a call.
+    /// Of a disk that tears, the bytes of the log when it last had nothing unsynced, and the place and bytes of each
+    /// write into it since then that was made, or failed. Both are empty on a disk that doesn't tear. It isn't counted
+    /// as a call.
     pub fn since(&self) -> (&[u8], &[(u64, Vec<u8>)])
         ensures kept { result.0.now ≡ (state_of self.now).kept }
         ensures handed { map (λ entry. (entry.0, entry.1.items)) result.1.now ≡ (state_of self.now).handed }
@@ -179,7 +257,8 @@ impl ModelDisk {
         (self.since.kept(), self.since.handed())
     }
 
-    /// How many calls were refused by Stopped, Failed or NoMemory; it stays at its greatest. It isn't counted as a call.
+    /// How many calls were refused by Stopped, Failed or NoMemory; it stays at its greatest. It isn't counted as a
+    /// call.
     pub fn refused(&self) -> u64
         ensures { result ≡ (state_of self.now).refused }
     {
@@ -233,7 +312,8 @@ impl Disk for ModelDisk {
     /// It takes no memory.
     fn read_at(&mut self, file: File, at: u64, out: &mut [u8]) -> Result<(), DiskError>
         ensures word { Unit {0} ↔ Unit {0} }
-        ensures bytes { Unit {0} → OnOk result (EachIndex out.new (λ i. slice_index out.new i ≡ byte (of file (state_of self.old)) (at + i))) }
+        ensures bytes { Unit {0} → OnOk result
+            (EachIndex out.new (λ i. slice_index out.new i ≡ byte (of file (state_of self.old)) (at + i))) }
         ensures state { Unit {0} → Looks (at + length out.old) result (state_of self.old) (state_of self.new) }
         ensures counted { IsCounted false result self.old self.new }
     {
@@ -261,7 +341,11 @@ impl Disk for ModelDisk {
         ensures word { Unit {0} ↔ Unit {0} }
         ensures state { Unit {0} → Writes file at bytes.now result (state_of self.old) (state_of self.new) }
         ensures counted { IsCounted true result self.old self.new }
-        ensures picked { PickedBy self.old.sector (WriteTouches self.old.sector (of file (state_of self.old)) at bytes.now) (written (of file (state_of self.old)) at bytes.now) (max (of file (state_of self.old)).len (at + length bytes.now)) self.old.part result (of file (state_of self.old)) (of file (state_of self.new)) }
+        ensures picked { PickedBy self.old.sector
+            (WriteTouches self.old.sector (of file (state_of self.old)) at bytes.now)
+            (written (of file (state_of self.old)) at bytes.now)
+            (max (of file (state_of self.old)).len (at + length bytes.now)) self.old.part result
+            (of file (state_of self.old)) (of file (state_of self.new)) }
     {
         let fails = self.stops.fails();
         if self.stops.call() {
@@ -292,7 +376,9 @@ impl Disk for ModelDisk {
         ensures word { Unit {0} ↔ Unit {0} }
         ensures state { Unit {0} → Cuts file end result (state_of self.old) (state_of self.new) }
         ensures counted { IsCounted true result self.old self.new }
-        ensures picked { PickedBy self.old.sector (CutTouches self.old.sector (of file (state_of self.old)) end) (cut_to (of file (state_of self.old)) end) end self.old.part result (of file (state_of self.old)) (of file (state_of self.new)) }
+        ensures picked { PickedBy self.old.sector (CutTouches self.old.sector (of file (state_of self.old)) end)
+            (cut_to (of file (state_of self.old)) end) end self.old.part result (of file (state_of self.old))
+            (of file (state_of self.new)) }
     {
         let fails = self.stops.fails();
         if self.stops.call() {

@@ -1,5 +1,6 @@
 //! What a disk that tears keeps of its log.
-ghost use Rattle.std.specs.Prelude.{◌≡◌, ◌<◌, ◌≤◌, ◌+◌, ◌^◌, ◌++◌, [], ◌∷◌, IsTrue, List, length, slice_index, ℕ, map, OnOk, OnErr};
+ghost use Rattle.std.specs.Prelude.{◌≡◌, ◌<◌, ◌≤◌, ◌+◌, ◌^◌, ◌++◌, [], ◌∷◌, IsTrue, List, length, slice_index, ℕ, map};
+ghost use Rattle.std.specs.Prelude.{OnOk, OnErr, IfOk};
 ghost use Rattle.crashdisk.specs.State.{byte, longest};
 ghost use Rattle.crashdisk.specs.Call.{ArePresent};
 ghost use Rattle.crashdisk.specs.Held.{file_of, IsHeld};
@@ -9,7 +10,8 @@ use crate::error::DiskError;
 use crate::held::Held;
 use std::alloc::{AllocError, Global};
 
-/// The bytes of the log when it last had nothing unsynced, and each write since then. It has room for all bytes of the log.
+/// The bytes of the log when it last had nothing unsynced, and each write since then. It has room for all bytes of the
+/// log.
 #[derive(Drop)]
 pub(crate) struct Since {
     room: Vec<u8>,
@@ -32,6 +34,23 @@ impl Since {
             kept: 0,
             handed: Vec::new(alloc),
         }
+    }
+
+    pub(crate) fn copy(&self, alloc: Global) -> Result<Since, AllocError>
+        ensures room { IfOk result (λ s. length s.room.items ≡ length self.now.room.items) }
+        ensures kept { IfOk result (λ s. kept_bytes s ≡ kept_bytes self.now) }
+        ensures handed { IfOk result (λ s. handed_writes s ≡ handed_writes self.now) }
+    {
+        let room = Vec::from_slice(alloc, self.room.as_slice())?;
+        let mut handed = Vec::new(alloc);
+        for (at, bytes) in self.handed.iter() {
+            handed.push((*at, Vec::from_slice(alloc, bytes)?))?;
+        }
+        Ok(Since {
+            room,
+            kept: self.kept,
+            handed,
+        })
     }
 
     /// The bytes.

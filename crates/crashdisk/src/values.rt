@@ -1,5 +1,6 @@
 //! What a modelled disk keeps of one sector.
-ghost use Rattle.std.specs.Prelude.{◌≡◌, ◌<◌, ◌≤◌, ◌+◌, ◌-◌, ℕ, List, [], ◌∷◌, ◌++◌, length, take, drop, replicate, slice_index, slice_index_or, OnOk, OnErr, IfOk, cond, nat_lt};
+ghost use Rattle.std.specs.Prelude.{◌≡◌, ◌<◌, ◌≤◌, ◌+◌, ◌-◌, ℕ, List, [], ◌∷◌, ◌++◌, length, take, drop, replicate};
+ghost use Rattle.std.specs.Prelude.{slice_index, slice_index_or, OnOk, OnErr, IfOk, cond, nat_lt};
 
 use std::alloc::{AllocError, Global};
 use std::marker::Model;
@@ -55,18 +56,23 @@ impl Bytes {
     {
         self.bytes.as_slice()
     }
+
+    fn copy(&self, alloc: Global) -> Result<Bytes, AllocError>
+        ensures { IfOk result (λ b. b ≡ self.now) }
+    {
+        let bytes = Vec::from_slice(alloc, self.as_slice())?;
+        Ok(Bytes { bytes })
+    }
 }
 
 /// Puts these bytes there, cut or filled with zeros.
-fn fill_with(out: &mut [u8], bytes: &[u8])
+pub(crate) fn fill_with(out: &mut [u8], bytes: &[u8])
     ensures { (j : ℕ) → j < length out.old → slice_index out.new j ≡ slice_index bytes.now j }
 {
-    for (j, byte) in out.iter_mut().enumerate() {
-        *byte = match bytes.get(j) {
-            Some(byte) => *byte,
-            None => 0,
-        };
-    }
+    let count = bytes.len().min(out.len());
+    let (front, back) = out.split_at_mut(count);
+    front.copy_from_slice(&bytes[..count]);
+    back.fill(0);
 }
 
 /// The values of a sector, the oldest first and the present one last.
@@ -102,6 +108,24 @@ impl Values {
         ensures { result.now ≡ slice_index_or self.now (length self.now - 1) [] }
     {
         self.list[self.list.len() - 1].as_slice()
+    }
+
+    /// Value number n, counted from the oldest.
+    pub(crate) fn value(&self, n: usize) -> &[u8]
+        requires { n < length self.now }
+        ensures { result.now ≡ slice_index_or self.now n [] }
+    {
+        self.list[n].as_slice()
+    }
+
+    pub(crate) fn copy(&self, alloc: Global) -> Result<Values, AllocError>
+        ensures { IfOk result (λ v. v ≡ self.now) }
+    {
+        let mut list = Vec::new(alloc);
+        for value in self.list.iter() {
+            list.push(value.copy(alloc)?)?;
+        }
+        Ok(Values { list })
     }
 
     /// One value more, which is the present one now.
@@ -142,7 +166,8 @@ impl Values {
         requires { 0 < length self.old }
         ensures one { length self.new ≡ 1 }
         ensures long { length (slice_index_or self.new 0 []) ≡ length (slice_index_or self.old (length self.old - 1) []) }
-        ensures each { (j : ℕ) → slice_index (slice_index_or self.new 0 []) j ≡ cond (nat_lt j end) (slice_index (slice_index_or self.old (length self.old - 1) []) j) 0 }
+        ensures each { (j : ℕ) → slice_index (slice_index_or self.new 0 []) j ≡ cond (nat_lt j end)
+            (slice_index (slice_index_or self.old (length self.old - 1) []) j) 0 }
         ensures are_bytes { (j : ℕ) → slice_index (slice_index_or self.new 0 []) j < 256 }
     {
         self.keep(self.count() - 1);
@@ -154,8 +179,10 @@ impl Values {
     pub(crate) fn replace(&mut self, bytes: &[u8])
         requires { 0 < length self.old }
         ensures count { length self.new ≡ length self.old }
-        ensures long { length (slice_index_or self.new (length self.old - 1) []) ≡ length (slice_index_or self.old (length self.old - 1) []) }
-        ensures each { (j : ℕ) → j < length (slice_index_or self.old (length self.old - 1) []) → slice_index (slice_index_or self.new (length self.old - 1) []) j ≡ slice_index bytes.now j }
+        ensures long { length (slice_index_or self.new (length self.old - 1) []) ≡ length
+            (slice_index_or self.old (length self.old - 1) []) }
+        ensures each { (j : ℕ) → j < length (slice_index_or self.old (length self.old - 1) [])
+            → slice_index (slice_index_or self.new (length self.old - 1) []) j ≡ slice_index bytes.now j }
     {
         let last = self.list.len() - 1;
         self.list[last].replace(bytes);

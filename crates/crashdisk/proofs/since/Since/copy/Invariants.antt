@@ -1,0 +1,5 @@
+use Rattle.std.proofs.Common.{◌≡◌, take, map, ℕ, List}
+use Rattle.crashdisk.proofs.since.Since.copy.Given as goal
+
+abbrev pub invariant-loop-at : goal.invariant-loop-at
+invariant-loop-at l = map {B = ℕ × List ℕ} (λ entry. (entry.0, entry.1.items)) l.handed.items ≡ map {B = ℕ × List ℕ} (λ entry. (entry.0, entry.1.items)) (take l.at-index l.self.handed.items)
