@@ -1,6 +1,7 @@
 -- The phases of a check: the freelist, the schema's tree, its rows, the other trees, and the end.
-use Rattle.std.proofs.Common.{◌≡◌, ◌≢◌, ℕ, zero, suc, ◌+◌, ◌-◌, ◌<◌, ◌≤◌, List, [], ◌∷◌, ◌++◌, length, take, drop, replicate, get_or, Bool, true, false, not, cond, nat_lt, unwrap_or, refl, sym, ap, subst, ◌∙◌, inl, inr, ⊎_elim, arith}
-use Rattle.std.proofs.lemmas.List.{length-take-le}
+use Rattle.std.proofs.Common.{◌≡◌, ◌≢◌, ℕ, zero, suc, ◌+◌, ◌-◌, ◌<◌, ◌≤◌, ◌⊎◌, List, [], ◌∷◌, ◌++◌, length, take, drop, replicate, get_or, Bool, true, false, not, cond, nat_lt, unwrap_or, refl, sym, ap, subst, ◌∙◌, inl, inr, ⊎_elim, arith}
+use Rattle.std.proofs.lemmas.Bool.{cases_lt}
+use Rattle.std.proofs.lemmas.List.{drop_all, length-take-le, take-append-drop}
 use Rattle.std.proofs.lemmas.List.Sums.{count_by-le-length}
 use Rattle.sqval.specs.Database.{Database, page}
 use Rattle.sqval.specs.PageSize.{IsPageSize}
@@ -13,7 +14,7 @@ use Rattle.sqpage.specs.Freelist.{IsPage, IsWithin, Leads, next_in, first_trunk,
 use Rattle.sqpage.specs.Page.{Page, is_interior, is_table, IsBtreePage, IsCell, FourBytes, local_size, has_payload, if_present}
 use Rattle.sqpage.specs.Chain.{IsPayload, links, bytes_beyond, payload_size, contents}
 use Rattle.sqpage.specs.Taking.{is_marked}
-use Rattle.sqpage.proofs.ListLemmas.{every_in, every_from_in}
+use Rattle.sqpage.proofs.ListLemmas.{every_in, every_from_in, in_left, in_right}
 use Rattle.sqpage.proofs.Takings.{none_taken_yet}
 use Rattle.sqcheck.specs.declared.schema.Root.{Root}
 use Rattle.sqcheck.specs.declared.walk.Counts.{Counts}
@@ -24,7 +25,7 @@ use Rattle.sqcheck.specs.Stands.{Stands}
 use Rattle.sqcheck.specs.Walking.{IsSchemaLeaf}
 use Rattle.sqcheck.specs.Schema.{IsRowsPage, AllSchemaRows, InRowsOf, Finds, IsRootAt, RootsMatch}
 use Rattle.sqcheck.specs.Agenda.{home, places, Off, IsHome, NotRoot, NotSchema, LinkFits, Agenda, AreCounted, Stood}
-use Rattle.sqcheck.proofs.Lists.{every_weaker, in_map, passing, either}
+use Rattle.sqcheck.proofs.Lists.{every_weaker, in_map, no_more, passing, either}
 use Rattle.sqcheck.proofs.Refuted.{kind_once}
 use Rattle.sqcheck.proofs.Nodes.{needs}
 
@@ -243,6 +244,19 @@ rows_pages d marks visited rows counts least long w = every_weaker _ (IsRowsPage
                   (payload_there d visited w.agenda.sound closed w.agenda.taken.distinct s x TableLeaf i r b.kind (used_long s.page is.named));
             }
 
+-- A root that a row of the schema names stands in a row of a visited page.
+row_from : (d : Database) (marks : List Bool) (visited : List Spot) (rows : List ℕ) (counts : Counts) → Stood d false visited [] marks rows counts → (t : Spot) → (h : InRowsOf d rows t)
+    → (s : Spot) × In s visited × StandsInRow d s t × (s.page ≡ h.0)
+row_from d marks visited rows counts w t h =
+    let k = every_in (λ p. (s : Spot) × In s visited × (s.page ≡ p) × IsSchemaLeaf d p s.role) h.0 rows w.rows.only h.1 in
+    (k.0, k.1, ((every_in (IsSound d) k.0 visited w.agenda.sound k.1).named, in_role k.0.page h.0 k.0.role k.3 (subst (λ q. InRow d q t) (sym k.2) h.2)), k.2)
+  where
+    in_role : (q p : ℕ) (role : Role) → IsSchemaLeaf d p role → InRow d q t → InRowAs d q role t
+    in_role q p trunk l i = absurd l
+    in_role q p free_leaf l i = absurd l
+    in_role q p (link n) l i = absurd l
+    in_role q p (node x) l i = (l.0, i)
+
 -- The roots that the rows name come next.
 pub becomes_late : (d : Database) (marks : List Bool) (visited : List Spot) (rows : List ℕ) (counts : Counts) (roots : List Root) → Stood d false visited [] marks rows counts → (f : Finds d (InRowsOf d rows) [] roots) → Every (AllSchemaRows d) rows
     → Stood d true visited f.spots marks rows counts
@@ -252,7 +266,7 @@ becomes_late d marks visited rows counts roots w f sound_rows = record {
     taken = a.taken;
     room = a.room;
     reached = a.reached;
-    waiting = every_weaker (InRowsOf d rows) (IsReached d) (λ t h. let s = from t h in stands_in_row (every_in (IsReached d) s.0 visited a.reached s.1) s.2) f.spots f.only;
+    waiting = every_weaker (InRowsOf d rows) (IsReached d) (λ t h. let s = row_from d marks visited rows counts w t h in stands_in_row (every_in (IsReached d) s.0 visited a.reached s.1) s.2) f.spots f.only;
     sound = a.sound;
     starts = λ s h. ⊎_elim (λ v. inl v) (λ none. absurd none) (a.starts s h);
     closed = λ s t i h. ⊎_elim (λ v. inl v) (λ none. absurd none) (a.closed s t i h);
@@ -260,7 +274,7 @@ becomes_late d marks visited rows counts roots w f sound_rows = record {
     off = every_weaker (λ v. NotRoot v.place) (λ v. Off v.place f.spots) (λ v n. every_weaker (InRowsOf d rows) (λ t. t.place ≡ v.place → ⊥) (λ t h e. subst NotRoot (sym e ∙ ap (λ (z : Spot). z.place) h.2.7) n) f.spots f.only) visited (a.early refl).0;
     homes = a.homes;
     waiting_homes = every_weaker (InRowsOf d rows) (λ t. IsHome marks t.place) (λ t h.
-        let s = from t h in
+        let s = row_from d marks visited rows counts w t h in
         let place : home t.place ≡ s.0.page = ap (λ (z : Spot). home z.place) h.2.7 ∙ sym s.3 in
         let taken : In s.0.page (numbers visited) = in_map (λ z. z.page) s.0 visited s.1 in
         inr (subst (IsWithin (length marks)) (sym place) (every_in (IsWithin (length marks)) s.0.page (numbers visited) a.taken.within taken), ap (is_marked marks) place ∙ a.taken.all s.0.page taken)) f.spots f.only;
@@ -276,17 +290,6 @@ becomes_late d marks visited rows counts roots w f sound_rows = record {
   where
     a : Agenda d false marks visited []
     a = w.agenda
-
-    from : (t : Spot) → (h : InRowsOf d rows t) → (s : Spot) × In s visited × StandsInRow d s t × (s.page ≡ h.0)
-    from t h =
-        let k = every_in (λ p. (s : Spot) × In s visited × (s.page ≡ p) × IsSchemaLeaf d p s.role) h.0 rows w.rows.only h.1 in
-        (k.0, k.1, ((every_in (IsSound d) k.0 visited a.sound k.1).named, in_role k.0.page h.0 k.0.role k.3 (subst (λ q. InRow d q t) (sym k.2) h.2)), k.2)
-      where
-        in_role : (q p : ℕ) (role : Role) → IsSchemaLeaf d p role → InRow d q t → InRowAs d q role t
-        in_role q p trunk l i = absurd l
-        in_role q p free_leaf l i = absurd l
-        in_role q p (link n) l i = absurd l
-        in_role q p (node x) l i = (l.0, i)
 
     in_rows : (s t : Spot) → In s visited → StandsInRow d s t → In t f.spots
     in_rows s t i h = go s.role refl h.1
@@ -309,6 +312,96 @@ becomes_late d marks visited rows counts roots w f sound_rows = record {
         let leaf_kind : kind ≡ TableLeaf = table_leaf kind (ap is_table (sym kind_is) ∙ n.same ∙ table) flat in
         let there : In v.page rows = w.rows.all v i (subst (IsSchemaLeaf d v.page) (sym r) (schema, kind, has, flat)) in
         every_in (AllSchemaRows d) v.page rows sound_rows there k bytes (subst (λ m. Rattle.sqcheck.specs.Places.IsRow d (page_as d m v.page) k bytes) leaf_kind row)
+
+-- the page is one of the schema's tree
+abbrev pub IsOfSchema : Role → Type 0
+IsOfSchema (node x) = x.schema ≡ true
+IsOfSchema _ = ⊥
+
+not_pending : (d : Database) (marks : List Bool) (visited rest : List Spot) (s : Spot) → Agenda d true marks visited rest → IsOfSchema s.role → In s visited ⊎ In s rest → In s visited
+not_pending d marks visited rest s a h (inl v) = v
+not_pending d marks visited rest s a h (inr p) = absurd (go s.role h (every_in (λ z. NotSchema z.role) s rest (a.plain refl) p))
+  where
+    go : (role : Role) → IsOfSchema role → NotSchema role → ⊥
+    go trunk h k = h
+    go free_leaf h k = h
+    go (link n) h k = h
+    go (node x) h k = let both : true ≡ false = sym h ∙ k in cc
+
+-- While roots are followed, all pages of the schema's tree are visited.
+schema_visited : (d : Database) (marks : List Bool) (visited rest : List Spot) → Agenda d true marks visited rest → {s : Spot} → IsReached d s → IsOfSchema s.role → In s visited
+schema_visited d marks visited rest a (first f) h = not_pending d marks visited rest _ a h (a.starts _ f)
+schema_visited d marks visited rest a (stands_in {s = s} {t = t} r i) h = not_pending d marks visited rest t a h (a.closed s t (go s.role i.1 (λ e. schema_visited d marks visited rest a r e)) i)
+  where
+    of : (u : Spot) → t ≡ u → IsOfSchema u.role
+    of u e = subst (λ (z : Spot). IsOfSchema z.role) e h
+
+    go : (role : Role) → InPageAs d s.page role t → (IsOfSchema role → In s visited) → In s visited
+    go trunk (inl i) before = absurd (of _ i.3)
+    go trunk (inr i) before = absurd (of _ i.1)
+    go free_leaf i before = absurd i
+    go (link n) i before = absurd (of _ i.1)
+    go (node x) (kind, has, inl i) before = absurd (of _ i.4)
+    go (node x) (kind, has, inr (int, inl i)) before = before (of _ i.5)
+    go (node x) (kind, has, inr (int, inr i)) before = before (of _ i.2)
+schema_visited d marks visited rest a (stands_in_row {s = s} {t = t} r i) h = absurd (go s.role i.1)
+  where
+    go : (role : Role) → InRowAs d s.page role t → ⊥
+    go trunk k = k
+    go free_leaf k = k
+    go (link n) k = k
+    go (node x) k = let both : false ≡ true = subst (λ (z : Spot). IsOfSchema z.role) k.1.7 h in cc
+
+-- So all roots in the schema's rows are visited or pending.
+root_visited : (d : Database) (marks : List Bool) (visited rest : List Spot) (s t : Spot) → Agenda d true marks visited rest → IsReached d s → StandsInRow d s t → In t visited ⊎ In t rest
+root_visited d marks visited rest s t a r h = a.rooted refl s t (schema_visited d marks visited rest a r (go s.role h.1)) h
+  where
+    go : (role : Role) → InRowAs d s.page role t → IsOfSchema role
+    go trunk k = k
+    go free_leaf k = k
+    go (link n) k = k
+    go (node x) k = k.0
+
+-- Spots of which a part is left, at places that are apart.
+not_left : (xs ys : List Spot) (t : Spot) → Apart (places (xs ++ ys)) → In t xs → In t ys → ⊥
+not_left [] ys t h i j = i
+not_left (x ∷ xs) ys t h (inl e) j = every_in (λ q. x.place ≡ q → ⊥) t.place (places (xs ++ ys)) h.0 (in_map (λ z. z.place) t (xs ++ ys) (in_right t xs ys j)) (ap (λ (z : Spot). z.place) (sym e))
+not_left (x ∷ xs) ys t h (inr i) j = not_left xs ys t h.1 i j
+
+first_apart : (xs ys : List Spot) → Apart (places (xs ++ ys)) → Apart xs
+first_apart [] ys h = tt
+first_apart (x ∷ xs) ys h = (
+  every_from_in (λ y. x ≡ y → ⊥) xs (λ y i e. every_in (λ q. x.place ≡ q → ⊥) y.place (places (xs ++ ys)) h.0 (in_map (λ z. z.place) y (xs ++ ys) (in_left y xs ys i)) (ap (λ (z : Spot). z.place) e)),
+  first_apart xs ys h.1,
+)
+
+-- One root more than there are pages can't be followed: so none was left out.
+pub none_left : (d : Database) (marks after : List Bool) (visited done : List Spot) (rows kept : List ℕ) (counts counted : Counts) (roots : List Root) → Stood d false visited [] marks rows counts → (f : Finds d (InRowsOf d rows) [] roots)
+    → Stood d true done (drop (suc (length d)) f.spots) after kept counted → Stood d true done [] after kept counted
+none_left d marks after visited done rows kept counts counted roots w f all =
+    subst (λ l. Stood d true done l after kept counted) (drop_all n f.spots (⊎_elim (λ lt. absurd (too_many lt)) (λ le. le) (cases_lt n (length f.spots)))) all
+  where
+    n : ℕ
+    n = suc (length d)
+
+    whole : take n f.spots ++ drop n f.spots ≡ f.spots
+    whole = take-append-drop n f.spots
+
+    apart : Apart (places (take n f.spots ++ drop n f.spots))
+    apart = subst (λ l. Apart (places l)) (sym whole) f.distinct
+
+    followed : (t : Spot) → In t (take n f.spots) → In t done
+    followed t i =
+        let h = every_in (InRowsOf d rows) t f.spots f.only (subst (In t) whole (in_left t (take n f.spots) (drop n f.spots) i)) in
+        let s = row_from d marks visited rows counts w t h in
+        ⊎_elim (λ v. v) (λ left. absurd (not_left (take n f.spots) (drop n f.spots) t apart i left))
+        (root_visited d after done (drop n f.spots) s.0 t all.agenda (every_in (IsReached d) s.0 visited w.agenda.reached s.1) s.2)
+
+    too_many : n < length f.spots → ⊥
+    too_many lt =
+        let is : length (take n f.spots) ≡ n = length-take-le n f.spots (omega (arith, lt)) in
+        let few : length (take n f.spots) ≤ length done = no_more (take n f.spots) done (first_apart (take n f.spots) (drop n f.spots) apart) followed in
+        omega (arith, is, few, all.agenda.room)
 
 -- At the start nothing was visited.
 pub begins : (d : Database) (marks : List Bool) (pending : List Spot) (counts : Counts) (rows : List ℕ) → length marks ≡ length d → marks ≡ replicate (length marks) false → rows ≡ []
@@ -455,3 +548,10 @@ last_root d roots spots e m = go spots (subst (λ l. RootsMatch d l spots) e m)
     go : (spots : List Spot) → RootsMatch d [] spots → spots ≡ []
     go [] m = refl
     go (s ∷ rest) m = absurd m
+
+pub first_roots : (d : Database) (n : ℕ) (roots : List Root) (spots : List Spot) → RootsMatch d roots spots → RootsMatch d (take n roots) (take n spots)
+first_roots d zero roots spots m = tt
+first_roots d (suc n) [] [] m = tt
+first_roots d (suc n) [] (s ∷ spots) m = absurd m
+first_roots d (suc n) (found ∷ roots) [] m = absurd m
+first_roots d (suc n) (found ∷ roots) (s ∷ spots) m = (m.0, first_roots d n roots spots m.1)

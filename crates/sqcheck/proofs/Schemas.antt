@@ -1,6 +1,7 @@
 -- The rows of the schema.
-use Rattle.std.proofs.Common.{◌≡◌, ◌≢◌, ℕ, zero, suc, ◌+◌, ◌-◌, ◌/◌, ◌<◌, ◌≤◌, ◌⊎◌, List, [], ◌∷◌, ◌++◌, length, map, take, drop, flat_map, true, false, refl, sym, ap, subst, ◌∙◌, inl, inr, ⊎_elim, arith, append_assoc, append-nil}
-use Rattle.std.proofs.lemmas.Bool.{cases_eq}
+use Rattle.std.proofs.Common.{◌≡◌, ◌≢◌, ℕ, zero, suc, ◌+◌, ◌-◌, ◌/◌, ◌<◌, ◌≤◌, ◌⊎◌, List, [], ◌∷◌, ◌++◌, length, map, take, drop, flat_map, true, false, refl, sym, ap, subst, ◌∙◌, inl, inr, ⊎_elim, arith, append_assoc, append-nil, length-append}
+use Rattle.std.proofs.lemmas.Bool.{cases_eq, cases_lt}
+use Rattle.std.proofs.lemmas.List.{length-take-le, take_all, take-append-le}
 use Rattle.sqval.specs.Database.{Database, page}
 use Rattle.sqpage.specs.declared.cell.Cell.{Cell}
 use Rattle.sqpage.specs.declared.fault.Fault.{Fault}
@@ -15,7 +16,7 @@ use Rattle.sqpage.proofs.ListLemmas.{in_left, in_right, in_cases, every_append}
 use Rattle.sqcheck.specs.declared.schema.Root.{Root}
 use Rattle.sqcheck.specs.Places.{root, Spot, spot, page_as, HasKind, IsCellAt, IsRow, IsSchemaRow, InRow, root_of_tree}
 use Rattle.sqcheck.specs.Stands.{Stands}
-use Rattle.sqcheck.specs.Schema.{IsRowsPage, AreSchemaRows, AllSchemaRows, InRowBelow, InRowsOf, IsRootAt, RootsMatch, Finds}
+use Rattle.sqcheck.specs.Schema.{IsRowsPage, AreSchemaRows, AllSchemaRows, InRowBelow, InRowsOf, IsRootAt, RootsMatch, Finds, KeepsFound}
 use Rattle.sqcheck.proofs.Lists.{every_weaker, every_map, map_append, apart_append}
 
 -- a fault that can't be another than want of memory
@@ -74,7 +75,7 @@ roots_append d (x ∷ xs) ys [] ts m n = absurd m
 roots_append d (x ∷ xs) ys (s ∷ ss) ts m n = (m.0, roots_append d xs ys ss ts m.1 n)
 
 -- Roots are found, and then others.
-pub find_both : (d : Database) (P Q R : Spot → Type 0) (old mid new : List Root) → Finds d P old mid → Finds d Q mid new → ((t : Spot) → P t → R t) → ((t : Spot) → Q t → R t) → ((t : Spot) → R t → P t ⊎ Q t)
+find_both : (d : Database) (P Q R : Spot → Type 0) (old mid new : List Root) → Finds d P old mid → Finds d Q mid new → ((t : Spot) → P t → R t) → ((t : Spot) → Q t → R t) → ((t : Spot) → R t → P t ⊎ Q t)
     → ((s t : Spot) → P s → Q t → s.place ≢ t.place) → Finds d R old new
 find_both d P Q R old mid new p q from_p from_q either differ = record {
   roots = p.roots ++ q.roots;
@@ -88,14 +89,44 @@ find_both d P Q R old mid new p q from_p from_q either differ = record {
       (λ s h. every_map (λ z. s.place ≡ z → ⊥) (λ t. t.place) q.spots (every_weaker Q (λ t. s.place ≡ t.place → ⊥) (λ t k. differ s t h k) q.spots q.only)) p.spots p.only)));
 }
 
-pub find_nothing : (d : Database) (P : Spot → Type 0) (old : List Root) → ((t : Spot) → ¬ P t) → Finds d P old old
+find_nothing : (d : Database) (P : Spot → Type 0) (old : List Root) → ((t : Spot) → ¬ P t) → Finds d P old old
 find_nothing d P old never = record { roots = []; spots = []; added = sym (append-nil old); match = tt; only = tt; all = λ t h. never t h; distinct = tt }
 
-pub find_as : (d : Database) (P Q : Spot → Type 0) (old new : List Root) → Finds d P old new → ((t : Spot) → P t → Q t) → ((t : Spot) → Q t → P t) → Finds d Q old new
+find_as : (d : Database) (P Q : Spot → Type 0) (old new : List Root) → Finds d P old new → ((t : Spot) → P t → Q t) → ((t : Spot) → Q t → P t) → Finds d Q old new
 find_as d P Q old new p out back = record { roots = p.roots; spots = p.spots; added = p.added; match = p.match; only = every_weaker P Q out p.spots p.only; all = λ t h. p.all t (back t h); distinct = p.distinct }
 
 find_one : (d : Database) (P : Spot → Type 0) (old new : List Root) (found : Root) (s : Spot) → new ≡ old ++ found ∷ [] → IsRootAt d found s → P s → ((t : Spot) → P t → t ≡ s) → Finds d P old new
 find_one d P old new found s e is p once = record { roots = found ∷ []; spots = s ∷ []; added = e; match = (is, tt); only = (p, tt); all = λ t h. inl (once t h); distinct = (tt, tt) }
+
+keep_both : (d : Database) (P Q R : Spot → Type 0) (old mid new : List Root) → KeepsFound d P old mid → KeepsFound d Q mid new → ((t : Spot) → P t → R t) → ((t : Spot) → Q t → R t) → ((t : Spot) → R t → P t ⊎ Q t)
+    → ((s t : Spot) → P s → Q t → s.place ≢ t.place) → KeepsFound d R old new
+keep_both d P Q R old mid new p q from_p from_q either differ = λ all are. let a = p all are in let b = q a.0 a.2 in (b.0, find_both d P Q R all a.0 b.0 a.1 b.1 from_p from_q either differ, b.2)
+
+pub keep_nothing : (d : Database) (P : Spot → Type 0) (old : List Root) → ((t : Spot) → ¬ P t) → KeepsFound d P old old
+keep_nothing d P old never = λ all are. (all, find_nothing d P all never, are)
+
+keep_as : (d : Database) (P Q : Spot → Type 0) (old new : List Root) → KeepsFound d P old new → ((t : Spot) → P t → Q t) → ((t : Spot) → Q t → P t) → KeepsFound d Q old new
+keep_as d P Q old new p out back = λ all are. let a = p all are in (a.0, find_as d P Q all a.0 a.1 out back, a.2)
+
+-- what is kept of a list with an element more
+kept_more : (n : ℕ) (all old new : List Root) (x : Root) → old ≡ take (suc n) all → (n < length old → new ≡ old) → (length old ≤ n → new ≡ old ++ x ∷ []) → new ≡ take (suc n) (all ++ x ∷ [])
+kept_more n all old new x are full room = ⊎_elim many few (cases_lt n (length all))
+  where
+    few : length all ≤ n → new ≡ take (suc n) (all ++ x ∷ [])
+    few le =
+        let same : old ≡ all = are ∙ take_all (suc n) all (omega (arith, le)) in
+        let short : length old ≤ n = omega (arith, le, ap length same) in
+        let whole : take (suc n) (all ++ x ∷ []) ≡ all ++ x ∷ [] = take_all (suc n) (all ++ x ∷ []) (omega (arith, le, length-append all (x ∷ []))) in
+        room short ∙ ap (λ l. l ++ x ∷ []) same ∙ sym whole
+
+    many : n < length all → new ≡ take (suc n) (all ++ x ∷ [])
+    many lt =
+        let is : length (take (suc n) all) ≡ suc n = length-take-le (suc n) all (omega (arith, lt)) in
+        let long : n < length old = omega (arith, is, ap length are) in
+        full long ∙ are ∙ sym (take-append-le (suc n) all (x ∷ []) (omega (arith, lt)))
+
+keep_one : (d : Database) (P : Spot → Type 0) (old new : List Root) (found : Root) (s : Spot) → (length d < length old → new ≡ old) → (length old ≤ length d → new ≡ old ++ found ∷ []) → IsRootAt d found s → P s → ((t : Spot) → P t → t ≡ s) → KeepsFound d P old new
+keep_one d P old new found s full room is p once = λ all are. (all ++ found ∷ [], find_one d P all (all ++ found ∷ []) found s refl is p once, kept_more (length d) all old new found are full room)
 
 -- the place of the root in row n alone
 InRowAt : Database → (p n : ℕ) → Spot → Type 0
@@ -103,10 +134,10 @@ InRowAt d p n t = (bytes : List ℕ) × (r : ℕ) × IsRow d (page_as d TableLea
 
 -- A row more.
 pub row_more : (d : Database) (p n r : ℕ) (bytes : List ℕ) (cell : Cell) (old mid new : List Root) → IsCellAt (page_as d TableLeaf p) n cell → IsPayload d cell bytes → IsSchemaRow bytes r → ((q : ℕ) → IsSchemaRow bytes q → q ≡ r)
-    → (r ≡ 0 → new ≡ mid) → (r ≢ 0 → new ≡ mid ++ record { holder = p; page = r } ∷ []) → Finds d (InRowBelow d p n) old mid → AreSchemaRows d p n
-    → Finds d (InRowBelow d p (n + 1)) old new × AreSchemaRows d p (n + 1)
-row_more d p n r bytes cell old mid new is payload row once zero' found finds rows = (
-  find_both d (InRowBelow d p n) (InRowAt' n) (InRowBelow d p (n + 1)) old mid new finds here
+    → (r ≡ 0 → new ≡ mid) → (length d < length mid → new ≡ mid) → (r ≢ 0 → length mid ≤ length d → new ≡ mid ++ record { holder = p; page = r } ∷ []) → KeepsFound d (InRowBelow d p n) old mid → AreSchemaRows d p n
+    → KeepsFound d (InRowBelow d p (n + 1)) old new × AreSchemaRows d p (n + 1)
+row_more d p n r bytes cell old mid new is payload row once zero' full found finds rows = (
+  keep_both d (InRowBelow d p n) (InRowAt' n) (InRowBelow d p (n + 1)) old mid new finds here
       (λ t h. (h.0, h.1, h.2, (let lt : h.0 < n = h.3 in let k : h.0 < n + 1 = omega arith in k), h.4, h.5, h.6, h.7))
       (λ t h. (n, h.0, h.1, (let k : n < n + 1 = omega arith in k), h.2, h.3, h.4, h.5))
       (λ t h. elim (cases_eq h.0 n) [
@@ -129,10 +160,10 @@ row_more d p n r bytes cell old mid new is payload row once zero' found finds ro
     only : (t : Spot) → (h : InRowAt' n t) → h.1 ≡ r
     only t h = once h.1 (subst (λ b. IsSchemaRow b h.1) (row_once d (page_as d TableLeaf p) n h.0 bytes h.2 this) h.3)
 
-    here : Finds d (InRowAt' n) mid new
+    here : KeepsFound d (InRowAt' n) mid new
     here = elim (cases_eq r 0) [
-      | inl z ↦ subst (Finds d (InRowAt' n) mid) (sym (zero' z)) (find_nothing d (InRowAt' n) mid (λ t h. h.4 (only t h ∙ z)))
-      | inr nz ↦ find_one d (InRowAt' n) mid new (record { holder = p; page = r }) (spot (root p n) r (root_of_tree d r)) (found nz) (record { page = refl; stands = refl; role = refl }) (bytes, r, this, row, nz, refl)
+      | inl z ↦ subst (KeepsFound d (InRowAt' n) mid) (sym (zero' z)) (keep_nothing d (InRowAt' n) mid (λ t h. h.4 (only t h ∙ z)))
+      | inr nz ↦ keep_one d (InRowAt' n) mid new (record { holder = p; page = r }) (spot (root p n) r (root_of_tree d r)) full (found nz) (record { page = refl; stands = refl; role = refl }) (bytes, r, this, row, nz, refl)
           (λ t h. h.5 ∙ ap (λ q. spot (root p n) q (root_of_tree d q)) (only t h))
     ]
 
@@ -142,25 +173,25 @@ row_stands d size p n bytes cell w is payload never =
     (w.spot, w.x, w.reached, w.names, w.page, w.role, (w.schema, (TableLeaf, w.page_is, (refl, n, bytes, record { cell = cell; is = is; payload = payload }, never))))
 
 -- All rows of a page.
-pub all_rows : (d : Database) (p n : ℕ) (old new : List Root) → HasKind d TableLeaf p → n ≡ cell_count (page_as d TableLeaf p) → Finds d (InRowBelow d p n) old new × AreSchemaRows d p n → Finds d (InRow d p) old new × AllSchemaRows d p
+pub all_rows : (d : Database) (p n : ℕ) (old new : List Root) → HasKind d TableLeaf p → n ≡ cell_count (page_as d TableLeaf p) → KeepsFound d (InRowBelow d p n) old new × AreSchemaRows d p n → KeepsFound d (InRow d p) old new × AllSchemaRows d p
 all_rows d p n old new has e both = (
-  find_as d (InRowBelow d p n) (InRow d p) old new both.0
+  keep_as d (InRowBelow d p n) (InRow d p) old new both.0
       (λ t h. (has, h.0, h.1, h.2, h.4, h.5, h.6, h.7))
       (λ t h. (h.1, h.2, h.3, (let lt : h.1 < cell_count (page_as d TableLeaf p) = h.4.is.0 in subst (λ m. h.1 < m) (sym e) lt), h.4, h.5, h.6, h.7)),
   (λ i bytes row. both.1 i bytes (let lt : i < cell_count (page_as d TableLeaf p) = row.is.0 in subst (λ m. i < m) (sym e) lt) row),
 )
 
 -- A page of rows more.
-pub page_more : (d : Database) (pages : List ℕ) (p : ℕ) (old mid new : List Root) → ¬ In p pages → Finds d (InRowsOf d pages) old mid → Finds d (InRow d p) mid new → Finds d (InRowsOf d (pages ++ p ∷ [])) old new
+pub page_more : (d : Database) (pages : List ℕ) (p : ℕ) (old mid new : List Root) → ¬ In p pages → KeepsFound d (InRowsOf d pages) old mid → KeepsFound d (InRow d p) mid new → KeepsFound d (InRowsOf d (pages ++ p ∷ [])) old new
 page_more d pages p old mid new fresh a b =
-    find_both d (InRowsOf d pages) (InRow d p) (InRowsOf d (pages ++ p ∷ [])) old mid new a b
+    keep_both d (InRowsOf d pages) (InRow d p) (InRowsOf d (pages ++ p ∷ [])) old mid new a b
     (λ t h. (h.0, in_left h.0 pages (p ∷ []) h.1, h.2))
     (λ t h. (p, in_right p pages (p ∷ []) (inl refl), h))
     (λ t h. ⊎_elim (λ was. inl (h.0, was, h.2)) (λ one. elim one [ inl e ↦ inr (subst (λ q. InRow d q t) e h.2) | inr none ↦ absurd none ]) (in_cases h.0 pages (p ∷ []) h.1))
     (λ s t x y e. let both : root x.0 x.2.1 ≡ root p y.1 = sym (ap (λ (z : Spot). z.place) x.2.7) ∙ e ∙ ap (λ (z : Spot). z.place) y.7 in let q : x.0 ≡ p = cc in fresh (subst (λ z. In z pages) q x.1))
 
-pub pages_none : (d : Database) (old : List Root) → Finds d (InRowsOf d []) old old
-pages_none d old = find_nothing d (InRowsOf d []) old (λ t h. h.1)
+pub pages_none : (d : Database) (old : List Root) → KeepsFound d (InRowsOf d []) old old
+pages_none d old = keep_nothing d (InRowsOf d []) old (λ t h. h.1)
 
 -- an element is not among those before it
 pub not_before : (xs : List ℕ) (i x : ℕ) → i < length xs → x ≡ Rattle.std.proofs.Common.get_or xs i 0 → Apart xs → ¬ In x (take i xs)

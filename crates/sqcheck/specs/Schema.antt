@@ -1,5 +1,5 @@
 -- The rows of the schema as a check reads them (fileformat2, 2.6). No public contract cites these words.
-use Rattle.std.specs.Prelude.{◌≡◌, ◌≢◌, ℕ, ◌<◌, List, [], ◌∷◌, ◌++◌, map, true}
+use Rattle.std.specs.Prelude.{◌≡◌, ◌≢◌, ℕ, suc, ◌<◌, List, [], ◌∷◌, ◌++◌, length, map, take, true}
 use Rattle.sqval.specs.Database.{Database}
 use Rattle.sqpage.specs.declared.cell.Cell.{Cell}
 use Rattle.sqpage.specs.declared.kind.Kind.TheVariants.{TableLeaf}
@@ -56,6 +56,14 @@ pub record Finds (d : Database) (P : Spot → Type 0) (old new : List Root) : Ty
   pub only : Every P spots
   pub all : (t : Spot) → P t → In t spots
   pub distinct : Apart (map (λ t. t.place) spots)
+
+-- Of the roots that were found the first ones are kept, one more than there are pages.
+abbrev pub AreKept : Database → (found kept : List Root) → Type 0
+AreKept d found kept = kept ≡ take (suc (length d)) found
+
+-- The same roots were found as by `Finds`, behind those of which `old` are kept, and `new` are kept of all.
+abbrev pub KeepsFound : Database → (P : Spot → Type 0) → (old new : List Root) → Type 0
+KeepsFound d P old new = (all : List Root) → AreKept d all old → (more : List Root) × Finds d P all more × AreKept d more new
 
 -- each row of page p is one of the schema
 abbrev pub AllSchemaRows : Database → (p : ℕ) → Type 0

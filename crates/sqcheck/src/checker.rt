@@ -1,5 +1,6 @@
 //! The check of a whole database (own).
-ghost use Rattle.std.specs.Prelude.{◌≡◌, ◌≢◌, ◌⊎◌, ◌+◌, ◌<◌, ◌≤◌, ◌^◌, ◌∷◌, [], ℕ, List, Bool, true, false, length, IfOk, IfErr, OnOk, OnErr};
+ghost use Rattle.std.specs.Prelude.{◌≡◌, ◌≢◌, ◌⊎◌, ◌+◌, ◌<◌, ◌≤◌, ◌^◌, ◌∷◌, ◌++◌, [], ℕ, List, Bool, true, false};
+ghost use Rattle.std.specs.Prelude.{length, IfOk, IfErr, OnOk, OnErr};
 ghost use Rattle.sqval.specs.Database.{Database, page};
 ghost use Rattle.sqpage.specs.Freelist.{usable_size, first_trunk, free_pages};
 ghost use Rattle.sqpage.specs.declared.fault.Fault.{Fault};
@@ -59,10 +60,16 @@ impl Checker {
         item: Item,
     ) -> Result<(), CheckError>
         requires fits { Fits (S.size source.old) (length (S.pages source.old)) self.old }
-        ensures ok { S.gives_pages source.old → self.old.usable ≡ usable_size (S.pages source.old) → (late : Bool) (visited rest : List Spot) (s : Spot) → Visited (S.pages source.old) late visited (s ∷ rest) self.old
-            → IsItemOf tree.now item s → TopLeads (S.pages source.old) tree.now.root (item ∷ []) → OnOk result ((visited : List Spot) × Visited (S.pages source.old) late visited rest self.new) }
-        ensures err { S.gives_pages source.old → self.old.usable ≡ usable_size (S.pages source.old) → (late : Bool) (visited rest : List Spot) (s : Spot) → Visited (S.pages source.old) late visited (s ∷ rest) self.old
-            → IsItemOf tree.now item s → TopLeads (S.pages source.old) tree.now.root (item ∷ []) → IfErr result (λ e. (size : ℕ) → Stands (S.pages source.old) size e.fault e.page) }
+        ensures ok { S.gives_pages source.old → self.old.usable ≡ usable_size (S.pages source.old)
+            → (late : Bool) (visited rest : List Spot) (s : Spot)
+            → Visited (S.pages source.old) late visited (s ∷ rest) self.old → IsItemOf tree.now item s
+            → TopLeads (S.pages source.old) tree.now.root (item ∷ [])
+            → OnOk result ((visited : List Spot) × Visited (S.pages source.old) late visited rest self.new) }
+        ensures err { S.gives_pages source.old → self.old.usable ≡ usable_size (S.pages source.old)
+            → (late : Bool) (visited rest : List Spot) (s : Spot)
+            → Visited (S.pages source.old) late visited (s ∷ rest) self.old → IsItemOf tree.now item s
+            → TopLeads (S.pages source.old) tree.now.root (item ∷ [])
+            → IfErr result (λ e. (size : ℕ) → Stands (S.pages source.old) size e.fault e.page) }
         ensures fits { OnOk result (Fits (S.size source.old) (length (S.pages source.old)) self.new) }
         ensures usable { self.new.usable ≡ self.old.usable }
         ensures still_gives { S.gives_pages source.old → S.gives_pages source.new }
@@ -94,7 +101,8 @@ fn names_table<S: PageSource>(
     requires within { page ≤ length (S.pages source.old) }
     requires room { length bytes.old ≡ S.size source.old }
     requires large { 480 ≤ length bytes.old }
-    ensures ok { S.gives_pages source.old → 480 ≤ usable_size (S.pages source.old) → IfOk result (λ table. table ≡ names_table (S.pages source.old) page) }
+    ensures ok { S.gives_pages source.old → 480 ≤ usable_size (S.pages source.old)
+        → IfOk result (λ table. table ≡ names_table (S.pages source.old) page) }
     ensures err { S.gives_pages source.old → IfErr result (λ e. ⊥) }
     ensures still_gives { S.gives_pages source.old → S.gives_pages source.new }
     ensures same_pages { S.pages source.new ≡ S.pages source.old }
@@ -110,9 +118,11 @@ impl Checker {
     /// Follows the trunks of the freelist.
     fn follow_trunks<S: PageSource>(&mut self, source: &mut S, first: u32) -> Result<(), CheckError>
         requires fits { Fits (S.size source.old) (length (S.pages source.old)) self.old }
-        ensures ok { S.gives_pages source.old → self.old.usable ≡ usable_size (S.pages source.old) → first ≡ first_trunk (S.pages source.old) → IsNew self.old
-            → OnOk result ((visited : List Spot) × Visited (S.pages source.old) false visited (first_root_spot ∷ []) self.new) }
-        ensures err { S.gives_pages source.old → self.old.usable ≡ usable_size (S.pages source.old) → first ≡ first_trunk (S.pages source.old) → IsNew self.old
+        ensures ok { S.gives_pages source.old → self.old.usable ≡ usable_size (S.pages source.old)
+            → first ≡ first_trunk (S.pages source.old) → IsNew self.old → OnOk result
+            ((visited : List Spot) × Visited (S.pages source.old) false visited (first_root_spot ∷ []) self.new) }
+        ensures err { S.gives_pages source.old → self.old.usable ≡ usable_size (S.pages source.old)
+            → first ≡ first_trunk (S.pages source.old) → IsNew self.old
             → IfErr result (λ e. (size : ℕ) → Stands (S.pages source.old) size e.fault e.page) }
         ensures fits { OnOk result (Fits (S.size source.old) (length (S.pages source.old)) self.new) }
         ensures usable { self.new.usable ≡ self.old.usable }
@@ -148,9 +158,11 @@ impl Checker {
     /// Follows the schema's tree.
     fn follow_schema<S: PageSource>(&mut self, source: &mut S) -> Result<(), CheckError>
         requires fits { Fits (S.size source.old) (length (S.pages source.old)) self.old }
-        ensures ok { S.gives_pages source.old → self.old.usable ≡ usable_size (S.pages source.old) → (visited : List Spot) → Visited (S.pages source.old) false visited (first_root_spot ∷ []) self.old
+        ensures ok { S.gives_pages source.old → self.old.usable ≡ usable_size (S.pages source.old)
+            → (visited : List Spot) → Visited (S.pages source.old) false visited (first_root_spot ∷ []) self.old
             → OnOk result ((visited : List Spot) × Visited (S.pages source.old) false visited [] self.new) }
-        ensures err { S.gives_pages source.old → self.old.usable ≡ usable_size (S.pages source.old) → (visited : List Spot) → Visited (S.pages source.old) false visited (first_root_spot ∷ []) self.old
+        ensures err { S.gives_pages source.old → self.old.usable ≡ usable_size (S.pages source.old)
+            → (visited : List Spot) → Visited (S.pages source.old) false visited (first_root_spot ∷ []) self.old
             → IfErr result (λ e. (size : ℕ) → Stands (S.pages source.old) size e.fault e.page) }
         ensures fits { OnOk result (Fits (S.size source.old) (length (S.pages source.old)) self.new) }
         ensures usable { self.new.usable ≡ self.old.usable }
@@ -178,9 +190,13 @@ impl Checker {
     /// Follows the tree of a root. Refused by PageOutside at the row's page where there is no such page.
     fn follow_root<S: PageSource>(&mut self, source: &mut S, root: Root) -> Result<(), CheckError>
         requires fits { Fits (S.size source.old) (length (S.pages source.old)) self.old }
-        ensures ok { S.gives_pages source.old → self.old.usable ≡ usable_size (S.pages source.old) → (visited rest : List Spot) (s : Spot) → Visited (S.pages source.old) true visited (s ∷ rest) self.old → IsRootAt (S.pages source.old) root s
+        ensures ok { S.gives_pages source.old → self.old.usable ≡ usable_size (S.pages source.old)
+            → (visited rest : List Spot) (s : Spot) → Visited (S.pages source.old) true visited (s ∷ rest) self.old
+            → IsRootAt (S.pages source.old) root s
             → OnOk result ((visited : List Spot) × Visited (S.pages source.old) true visited rest self.new) }
-        ensures err { S.gives_pages source.old → self.old.usable ≡ usable_size (S.pages source.old) → (visited rest : List Spot) (s : Spot) → Visited (S.pages source.old) true visited (s ∷ rest) self.old → IsRootAt (S.pages source.old) root s
+        ensures err { S.gives_pages source.old → self.old.usable ≡ usable_size (S.pages source.old)
+            → (visited rest : List Spot) (s : Spot) → Visited (S.pages source.old) true visited (s ∷ rest) self.old
+            → IsRootAt (S.pages source.old) root s
             → IfErr result (λ e. (size : ℕ) → Stands (S.pages source.old) size e.fault e.page) }
         ensures fits { OnOk result (Fits (S.size source.old) (length (S.pages source.old)) self.new) }
         ensures usable { self.new.usable ≡ self.old.usable }
@@ -222,9 +238,13 @@ impl Checker {
         roots: &[Root],
     ) -> Result<(), CheckError>
         requires fits { Fits (S.size source.old) (length (S.pages source.old)) self.old }
-        ensures ok { S.gives_pages source.old → self.old.usable ≡ usable_size (S.pages source.old) → (visited spots : List Spot) → Visited (S.pages source.old) true visited spots self.old → RootsMatch (S.pages source.old) roots.now spots
-            → OnOk result ((visited : List Spot) × Visited (S.pages source.old) true visited [] self.new) }
-        ensures err { S.gives_pages source.old → self.old.usable ≡ usable_size (S.pages source.old) → (visited spots : List Spot) → Visited (S.pages source.old) true visited spots self.old → RootsMatch (S.pages source.old) roots.now spots
+        ensures ok { S.gives_pages source.old → self.old.usable ≡ usable_size (S.pages source.old)
+            → (visited spots rest : List Spot) → Visited (S.pages source.old) true visited (spots ++ rest) self.old
+            → RootsMatch (S.pages source.old) roots.now spots
+            → OnOk result ((visited : List Spot) × Visited (S.pages source.old) true visited rest self.new) }
+        ensures err { S.gives_pages source.old → self.old.usable ≡ usable_size (S.pages source.old)
+            → (visited spots rest : List Spot) → Visited (S.pages source.old) true visited (spots ++ rest) self.old
+            → RootsMatch (S.pages source.old) roots.now spots
             → IfErr result (λ e. (size : ℕ) → Stands (S.pages source.old) size e.fault e.page) }
         ensures fits { OnOk result (Fits (S.size source.old) (length (S.pages source.old)) self.new) }
         ensures usable { self.new.usable ≡ self.old.usable }
@@ -246,9 +266,11 @@ impl Checker {
         header: &DbHeader,
     ) -> Result<(), CheckError>
         requires fits { Fits (S.size source.old) (length (S.pages source.old)) self.old }
-        ensures ok { S.gives_pages source.old → self.old.usable ≡ usable_size (S.pages source.old) → HasLists header.now (S.pages source.old) → IsNew self.old
+        ensures ok { S.gives_pages source.old → self.old.usable ≡ usable_size (S.pages source.old)
+            → HasLists header.now (S.pages source.old) → IsNew self.old
             → OnOk result ((visited : List Spot) × Visited (S.pages source.old) false visited [] self.new) }
-        ensures err { S.gives_pages source.old → self.old.usable ≡ usable_size (S.pages source.old) → HasLists header.now (S.pages source.old) → IsNew self.old
+        ensures err { S.gives_pages source.old → self.old.usable ≡ usable_size (S.pages source.old)
+            → HasLists header.now (S.pages source.old) → IsNew self.old
             → IfErr result (λ e. (size : ℕ) → Stands (S.pages source.old) size e.fault e.page) }
         ensures fits { OnOk result (Fits (S.size source.old) (length (S.pages source.old)) self.new) }
         ensures usable { self.new.usable ≡ self.old.usable }
@@ -268,9 +290,13 @@ impl Checker {
         source: &mut S,
     ) -> Result<(), CheckError>
         requires fits { Fits (S.size source.old) (length (S.pages source.old)) self.old }
-        ensures ok { S.gives_pages source.old → self.old.usable ≡ usable_size (S.pages source.old) → Every (λ b. usable_size (S.pages source.old) ≤ length b) (S.pages source.old) → (visited : List Spot) → Visited (S.pages source.old) false visited [] self.old
+        ensures ok { S.gives_pages source.old → self.old.usable ≡ usable_size (S.pages source.old)
+            → Every (λ b. usable_size (S.pages source.old) ≤ length b) (S.pages source.old) → (visited : List Spot)
+            → Visited (S.pages source.old) false visited [] self.old
             → OnOk result ((visited : List Spot) × Visited (S.pages source.old) true visited [] self.new) }
-        ensures err { S.gives_pages source.old → self.old.usable ≡ usable_size (S.pages source.old) → Every (λ b. usable_size (S.pages source.old) ≤ length b) (S.pages source.old) → (visited : List Spot) → Visited (S.pages source.old) false visited [] self.old
+        ensures err { S.gives_pages source.old → self.old.usable ≡ usable_size (S.pages source.old)
+            → Every (λ b. usable_size (S.pages source.old) ≤ length b) (S.pages source.old) → (visited : List Spot)
+            → Visited (S.pages source.old) false visited [] self.old
             → IfErr result (λ e. (size : ℕ) → Stands (S.pages source.old) size e.fault e.page) }
         ensures fits { OnOk result (Fits (S.size source.old) (length (S.pages source.old)) self.new) }
         ensures usable { self.new.usable ≡ self.old.usable }
@@ -285,8 +311,10 @@ impl Checker {
     /// Whether all pages were taken, and as many of them are free as the header says.
     fn judge_end(&self, header: &DbHeader) -> Result<(), CheckError>
         requires { length self.now.marks.items < 2 ^ 32 }
-        ensures ok { OnOk result (((p : ℕ) → IsWithin (length self.now.marks.items) p → is_marked self.now.marks.items p ≡ true) × (self.now.counts.free ≡ header.now.free_pages)) }
-        ensures err { (d : Database) (visited : List Spot) → HasLists header.now d → Visited d true visited [] self.now → IfErr result (λ e. (size : ℕ) → Stands d size e.fault e.page) }
+        ensures ok { OnOk result (((p : ℕ) → IsWithin (length self.now.marks.items) p → is_marked
+            self.now.marks.items p ≡ true) × (self.now.counts.free ≡ header.now.free_pages)) }
+        ensures err { (d : Database) (visited : List Spot) → HasLists header.now d
+            → Visited d true visited [] self.now → IfErr result (λ e. (size : ℕ) → Stands d size e.fault e.page) }
     {
         judge_unused(&self.marks)?;
         self.judge_free_count(header.free_pages)
@@ -348,9 +376,15 @@ impl Checker {
         header: &DbHeader,
     ) -> Result<Report, CheckError>
         requires fits { Fits (S.size source.old) (length (S.pages source.old)) self.old }
-        ensures ok { S.gives_pages source.old → self.old.usable ≡ usable_size (S.pages source.old) → Every (λ b. length b ≡ S.size source.old) (S.pages source.old) → HasLists header.now (S.pages source.old) → IsNew self.old → HasSoundHeader (S.pages source.old) (S.size source.old)
-            → IfOk result (λ report. (w : WellFormed (S.pages source.old) (S.size source.old)) × IsReport (S.pages source.old) w.places report) }
-        ensures err { S.gives_pages source.old → self.old.usable ≡ usable_size (S.pages source.old) → Every (λ b. length b ≡ S.size source.old) (S.pages source.old) → HasLists header.now (S.pages source.old) → IsNew self.old
+        ensures ok { S.gives_pages source.old → self.old.usable ≡ usable_size (S.pages source.old)
+            → Every (λ b. length b ≡ S.size source.old) (S.pages source.old)
+            → HasLists header.now (S.pages source.old) → IsNew self.old
+            → HasSoundHeader (S.pages source.old) (S.size source.old) → IfOk result (λ report.
+            (w : WellFormed (S.pages source.old) (S.size source.old)) × IsReport (S.pages source.old)
+            w.places report) }
+        ensures err { S.gives_pages source.old → self.old.usable ≡ usable_size (S.pages source.old)
+            → Every (λ b. length b ≡ S.size source.old) (S.pages source.old)
+            → HasLists header.now (S.pages source.old) → IsNew self.old
             → IfErr result (λ e. (size : ℕ) → Stands (S.pages source.old) size e.fault e.page) }
         ensures still_gives { S.gives_pages source.old → S.gives_pages source.new }
         ensures same_pages { S.pages source.new ≡ S.pages source.old }
@@ -369,11 +403,15 @@ impl Checker {
 /// page that nothing names. Refused by Source where a page could not be read, and by NoMemory.
 pub fn check<S: PageSource>(alloc: Global, source: &mut S) -> Result<Report, CheckError>
     // The database is well formed, and the report is its.
-    ensures ok { S.gives_pages source.old → IfOk result (λ report. (w : WellFormed (S.pages source.old) (S.size source.old)) × IsReport (S.pages source.old) w.places report) }
+    ensures ok { S.gives_pages source.old → IfOk result (λ report.
+        (w : WellFormed (S.pages source.old) (S.size source.old)) × IsReport (S.pages source.old) w.places
+        report) }
     // The condition stands at the page.
-    ensures err { S.gives_pages source.old → IfErr result (λ e. Stands (S.pages source.old) (S.size source.old) e.fault e.page) }
+    ensures err { S.gives_pages source.old
+        → IfErr result (λ e. Stands (S.pages source.old) (S.size source.old) e.fault e.page) }
     // The database isn't well formed, unless memory ran out.
-    ensures none { S.gives_pages source.old → IfErr result (λ e. e.fault ≢ Fault.NoMemory → ¬ WellFormed (S.pages source.old) (S.size source.old)) }
+    ensures none { S.gives_pages source.old
+        → IfErr result (λ e. e.fault ≢ Fault.NoMemory → ¬ WellFormed (S.pages source.old) (S.size source.old)) }
     ensures still_gives { S.gives_pages source.old → S.gives_pages source.new }
     ensures same_pages { S.pages source.new ≡ S.pages source.old }
     ensures same_size { S.size source.new ≡ S.size source.old }

@@ -73,7 +73,8 @@ pub(crate) fn judge_header<S: PageSource>(
     requires room { length bytes.old ≡ S.size source.old }
     requires size { size ≡ S.size source.old }
     requires large { 512 ≤ size }
-    ensures ok { S.gives_pages source.old → IfOk result (λ header. HasHeaderOf header size (page (S.pages source.old) 1)) }
+    ensures ok { S.gives_pages source.old
+        → IfOk result (λ header. HasHeaderOf header size (page (S.pages source.old) 1)) }
     ensures room { IfOk result (λ header. 480 + header.reserved ≤ size) }
     ensures sized { S.gives_pages source.old → Every (λ bytes. length bytes ≡ S.size source.old) (S.pages source.old) }
     ensures err { S.gives_pages source.old → IfErr result (λ e. Stands (S.pages source.old) size e.fault e.page) }

@@ -1,5 +1,6 @@
 //! Pages of trees (fileformat2, 1.6).
-ghost use Rattle.std.specs.Prelude.{◌≡◌, ◌≢◌, ◌⊎◌, ◌↔◌, Some, None, ◌+◌, ◌<◌, ◌≤◌, ◌^◌, ℕ, suc, true, false, IsTrue, IsSome, IfOk, IfErr, OnOk, OnErr, length, take, reverse, ◌++◌, ◌∷◌, []};
+ghost use Rattle.std.specs.Prelude.{◌≡◌, ◌≢◌, ◌⊎◌, ◌↔◌, Some, None, ◌+◌, ◌<◌, ◌≤◌, ◌^◌, ℕ, suc, true, false, IsTrue};
+ghost use Rattle.std.specs.Prelude.{IsSome, IfOk, IfErr, OnOk, OnErr, length, take, reverse, ◌++◌, ◌∷◌, []};
 ghost use Rattle.sqval.specs.Database.{Database};
 ghost use Rattle.sqval.specs.PageSize.{IsPageSize};
 ghost use Rattle.sqpage.specs.declared.fault.Fault.{Fault};
@@ -10,7 +11,8 @@ ghost use Rattle.sqcheck.specs.Places.{Node, InCell, used_in};
 ghost use Rattle.sqcheck.specs.WellFormed.{IsBefore, IsAtMost, KeysRise, FirstLeaf, first_child};
 ghost use Rattle.sqcheck.specs.Room.{HoldsPage};
 ghost use Rattle.sqcheck.specs.Stands.{HasKeyOutOfOrder, NodeRefused};
-ghost use Rattle.sqcheck.specs.Walking.{node_in, Pushes, IsChild, IsBelow, TopLeads, IsLevelOf, Judged, KnowsAt, Enters};
+ghost use Rattle.sqcheck.specs.Walking.{node_in, Pushes, IsChild, IsBelow, TopLeads, IsLevelOf, Judged, KnowsAt};
+ghost use Rattle.sqcheck.specs.Walking.{Enters};
 ghost use Rattle.sqcheck.specs.declared.tree.Tree.{Tree};
 
 use crate::item::{Item, Task, push};
@@ -42,7 +44,8 @@ pub(crate) struct Bounds {
 fn kind_in(tree: &Tree, number: u32, used: &[u8]) -> Result<Kind, Fault>
     requires { 480 ≤ length used.now }
     ensures ok { IfOk result (λ kind. (byte used.now (head_at number) ≡ code_of kind) × (is_table kind ≡ tree.now.table)) }
-    ensures err { IfErr result (λ fault. (fault ≡ Fault.Kind) × ((kind : Kind) → byte used.now (head_at number) ≡ code_of kind → is_table kind ≢ tree.now.table)) }
+    ensures err { IfErr result (λ fault. (fault ≡ Fault.Kind) ×
+        ((kind : Kind) → byte used.now (head_at number) ≡ code_of kind → is_table kind ≢ tree.now.table)) }
 {
     let head = if number == 1 { FIRST_HEAD } else { 0 };
     match Kind::of(used[head]) {
@@ -118,7 +121,8 @@ pub(crate) fn push_chains(
     requires number { number ≡ page.now.number }
     requires parts { HasPartsOf page.now parts.now }
     ensures ok { OnOk result ((tree : Tree) → Pushes tree (InCell page.now) stack.old.items stack.new.items) }
-    ensures leads { OnOk result ((d : Database) (root : ℕ) → TopLeads d root (reverse stack.old.items) → TopLeads d root (reverse stack.new.items)) }
+    ensures leads { OnOk result ((d : Database) (root : ℕ) → TopLeads d root (reverse stack.old.items) → TopLeads d
+        root (reverse stack.new.items)) }
     ensures err { IfErr result (λ e. e.fault ≡ Fault.NoMemory) }
 {
     let mut left = page.len();
@@ -152,9 +156,10 @@ pub(crate) fn push_children(
     requires parts { HasPartsOf page.now parts.now }
     requires interior { is_interior page.now.kind ≡ true }
     requires shallow { bounds.level ≤ 20 }
-    ensures ok { OnOk result ((tree : Tree) → Pushes tree (IsChild page.now (node_in tree bounds.level bounds.low bounds.high)) stack.old.items stack.new.items) }
-    ensures leads { OnOk result ((d : Database) (root : ℕ) → ((on : ℕ) → FirstLeaf d (first_child page.now) (suc bounds.level) on → FirstLeaf d root 1 on)
-        → TopLeads d root (reverse stack.new.items)) }
+    ensures ok { OnOk result ((tree : Tree) → Pushes tree (IsChild page.now
+        (node_in tree bounds.level bounds.low bounds.high)) stack.old.items stack.new.items) }
+    ensures leads { OnOk result ((d : Database) (root : ℕ) → ((on : ℕ) → FirstLeaf d (first_child page.now)
+        (suc bounds.level) on → FirstLeaf d root 1 on) → TopLeads d root (reverse stack.new.items)) }
     ensures err { IfErr result (λ e. e.fault ≡ Fault.NoMemory) }
 {
     let level = bounds.level + 1;
@@ -244,8 +249,9 @@ pub(crate) struct Walk {
 
 /// Puts a leaf of the schema's tree aside.
 fn put_aside(tree: &Tree, kind: Kind, number: u32, rows: &mut Vec<u32>) -> Result<(), CheckError>
-    ensures ok { OnOk result (((tree.now.schema ≡ true) × (is_interior kind ≡ false) × (rows.new.items ≡ rows.old.items ++ number ∷ []))
-        ⊎ (((tree.now.schema ≡ true) → is_interior kind ≢ false) × (rows.new.items ≡ rows.old.items))) }
+    ensures ok { OnOk result (((tree.now.schema ≡ true) × (is_interior kind ≡ false) × (rows.new.items ≡
+        rows.old.items ++ number ∷ [])) ⊎ (((tree.now.schema ≡ true) → is_interior kind ≢ false) ×
+        (rows.new.items ≡ rows.old.items))) }
     ensures err { IfErr result (λ e. e.fault ≡ Fault.NoMemory) }
 {
     if kind.is_interior() || !tree.schema {
@@ -271,9 +277,11 @@ fn push_below(
     requires number { number ≡ page.now.number }
     requires parts { HasPartsOf page.now parts.now }
     requires shallow { bounds.level ≤ 20 }
-    ensures ok { OnOk result ((tree : Tree) → Pushes tree (IsBelow page.now (node_in tree bounds.level bounds.low bounds.high)) stack.old.items stack.new.items) }
-    ensures leads { OnOk result ((d : Database) (root : ℕ) → is_interior page.now.kind ≡ true → ((on : ℕ) → FirstLeaf d (first_child page.now) (suc bounds.level) on → FirstLeaf d root 1 on)
-        → TopLeads d root (reverse stack.new.items)) }
+    ensures ok { OnOk result ((tree : Tree) → Pushes tree (IsBelow page.now
+        (node_in tree bounds.level bounds.low bounds.high)) stack.old.items stack.new.items) }
+    ensures leads { OnOk result ((d : Database) (root : ℕ) → is_interior page.now.kind ≡ true → ((on : ℕ) → FirstLeaf
+        d (first_child page.now) (suc bounds.level) on → FirstLeaf d root 1 on) → TopLeads d root (reverse
+        stack.new.items)) }
     ensures err { IfErr result (λ e. e.fault ≡ Fault.NoMemory) }
 {
     if page.kind().is_interior() {
@@ -299,10 +307,13 @@ pub(crate) fn enter(
     requires most { usable ≤ length bytes.now }
     requires room { HoldsPage usable room.old }
     requires shallow { bounds.level ≤ 20 }
-    ensures ok { (d : Database) → used_in d number ≡ take usable bytes.now → KnowsAt d tree.now.root walk.old.leaf_level number bounds.level
-        → OnOk result (Enters d tree.now number (node_in tree.now bounds.level bounds.low bounds.high) walk.old walk.new) }
-    ensures err { (d : Database) → used_in d number ≡ take usable bytes.now → IsLevelOf d tree.now.root walk.old.leaf_level
-        → IfErr result (λ e. ((e.page ≡ number) × NodeRefused d e.fault number (node_in tree.now bounds.level bounds.low bounds.high)) ⊎ (e.fault ≡ Fault.NoMemory)) }
+    ensures ok { (d : Database) → used_in d number ≡ take usable bytes.now
+        → KnowsAt d tree.now.root walk.old.leaf_level number bounds.level → OnOk result
+        (Enters d tree.now number (node_in tree.now bounds.level bounds.low bounds.high) walk.old walk.new) }
+    ensures err { (d : Database) → used_in d number ≡ take usable bytes.now
+        → IsLevelOf d tree.now.root walk.old.leaf_level → IfErr result (λ e. ((e.page ≡ number) × NodeRefused d
+        e.fault number (node_in tree.now bounds.level bounds.low bounds.high)) ⊎
+        (e.fault ≡ Fault.NoMemory)) }
     ensures room { HoldsPage usable room.new }
 {
     let page = match judge(

@@ -1,5 +1,6 @@
 //! The rows of the schema (fileformat2, 2.6).
-ghost use Rattle.std.specs.Prelude.{◌≡◌, ◌≢◌, ◌⊎◌, ◌↔◌, ◌+◌, ◌<◌, ◌≤◌, ◌^◌, ◌++◌, [], ℕ, List, Some, true, length, take, IsSome, IfOk, IfErr, OnOk, OnErr, ◌∷◌};
+ghost use Rattle.std.specs.Prelude.{◌≡◌, ◌≢◌, ◌⊎◌, ◌↔◌, ◌+◌, ◌<◌, ◌≤◌, ◌^◌, ◌++◌, [], ℕ, List, Some, true, length};
+ghost use Rattle.std.specs.Prelude.{take, IsSome, IfOk, IfErr, OnOk, OnErr, ◌∷◌};
 ghost use Rattle.sqval.specs.Database.{Database, page};
 ghost use Rattle.sqval.specs.PageSize.{IsPageSize};
 ghost use Rattle.sqpage.specs.Lists.{Every, Apart};
@@ -10,7 +11,7 @@ ghost use Rattle.sqpage.specs.declared.fault.Fault.{Fault};
 ghost use Rattle.sqpage.specs.declared.kind.Kind.TheVariants.{TableLeaf};
 ghost use Rattle.sqcheck.specs.Places.{IsRootOf, IsSchemaRow, InRow, page_as};
 ghost use Rattle.sqcheck.specs.Stands.{Stands};
-ghost use Rattle.sqcheck.specs.Schema.{IsRowsPage, AreSchemaRows, AllSchemaRows, InRowBelow, InRowsOf, Finds};
+ghost use Rattle.sqcheck.specs.Schema.{IsRowsPage, AreSchemaRows, AllSchemaRows, InRowBelow, InRowsOf, KeepsFound};
 
 use crate::pages::read_page;
 use sqpage::{BtreePage, Cell, CheckError, Fault, Kind, PageSource, payload};
@@ -61,9 +62,12 @@ fn row_root<S: PageSource>(
     requires least { 480 ≤ cell.now.usable }
     requires most { cell.now.usable ≤ S.size source.old }
     requires part { length cell.now.local.now ≤ payload_size cell.now }
-    ensures ok { S.gives_pages source.old → IfOk result (λ r. (bytes : List ℕ) × IsPayload (S.pages source.old) cell.now bytes × IsSchemaRow bytes r × ((q : ℕ) → IsSchemaRow bytes q → q ≡ r)) }
-    ensures err { S.gives_pages source.old → (bytes : List ℕ) → IsPayload (S.pages source.old) cell.now bytes
-        → IfErr result (λ e. (e.fault ≡ Fault.NoMemory) ⊎ ((e.fault ≡ Fault.SchemaRecord) × (e.page ≡ cell.now.page) × (bytes : List ℕ) × IsPayload (S.pages source.old) cell.now bytes × ((r : ℕ) → ¬ IsSchemaRow bytes r))) }
+    ensures ok { S.gives_pages source.old → IfOk result (λ r. (bytes : List ℕ) × IsPayload (S.pages source.old)
+        cell.now bytes × IsSchemaRow bytes r × ((q : ℕ) → IsSchemaRow bytes q → q ≡ r)) }
+    ensures err { S.gives_pages source.old → (bytes : List ℕ) → IsPayload (S.pages source.old) cell.now bytes → IfErr
+        result (λ e. (e.fault ≡ Fault.NoMemory) ⊎ ((e.fault ≡ Fault.SchemaRecord) × (e.page ≡ cell.now.page) ×
+        (bytes : List ℕ) × IsPayload (S.pages source.old) cell.now bytes × ((r : ℕ) → ¬ IsSchemaRow bytes
+        r))) }
     ensures still_gives { S.gives_pages source.old → S.gives_pages source.new }
     ensures same_pages { S.pages source.new ≡ S.pages source.old }
     ensures same_size { S.size source.new ≡ S.size source.old }
@@ -79,13 +83,15 @@ fn row_root<S: PageSource>(
     }
 }
 
-/// Adds a root that was found, where it isn't 0.
-fn add_root(roots: &mut Vec<Root>, holder: u32, page: u64) -> Result<(), CheckError>
+/// Adds a root that was found, where it isn't 0, and where no more are kept than there are pages.
+fn add_root(roots: &mut Vec<Root>, count: u32, holder: u32, page: u64) -> Result<(), CheckError>
     ensures zero { OnOk result (page ≡ 0 → roots.new.items ≡ roots.old.items) }
-    ensures found { OnOk result (page ≢ 0 → roots.new.items ≡ roots.old.items ++ record { holder = holder; page = page } ∷ []) }
+    ensures full { OnOk result (count < length roots.old.items → roots.new.items ≡ roots.old.items) }
+    ensures found { OnOk result (page ≢ 0 → length roots.old.items ≤ count → roots.new.items ≡ roots.old.items ++
+        record { holder = holder; page = page } ∷ []) }
     ensures err { IfErr result (λ e. e.fault ≡ Fault.NoMemory) }
 {
-    if page == 0 {
+    if page == 0 || roots.len() > count as usize {
         return Ok(());
     }
     match roots.push(Root { holder, page }) {
@@ -97,7 +103,8 @@ fn add_root(roots: &mut Vec<Root>, holder: u32, page: u64) -> Result<(), CheckEr
     }
 }
 
-/// Adds the roots that the rows in a leaf of the schema's tree name, in their order.
+/// Adds the roots that the rows in a leaf of the schema's tree name, in their order, while no more are kept
+/// than there are pages.
 fn take_rows<S: PageSource>(
     alloc: Global,
     source: &mut S,
@@ -109,23 +116,27 @@ fn take_rows<S: PageSource>(
     requires leaf { page.now.kind ≡ TableLeaf }
     requires most { length page.now.used ≤ S.size source.old }
     requires number { number ≡ page.now.number }
-    ensures ok { S.gives_pages source.old → page.now ≡ page_as (S.pages source.old) TableLeaf number
-        → OnOk result (Finds (S.pages source.old) (InRowBelow (S.pages source.old) number (cell_count page.now)) roots.old.items roots.new.items × AreSchemaRows (S.pages source.old) number (cell_count page.now)) }
-    ensures err { S.gives_pages source.old → page.now ≡ page_as (S.pages source.old) TableLeaf number → IsRowsPage (S.pages source.old) number
+    ensures ok { S.gives_pages source.old → page.now ≡ page_as (S.pages source.old) TableLeaf number → OnOk result
+        (KeepsFound (S.pages source.old) (InRowBelow (S.pages source.old) number (cell_count page.now))
+        roots.old.items roots.new.items × AreSchemaRows (S.pages source.old) number (cell_count page.now)) }
+    ensures err { S.gives_pages source.old → page.now ≡ page_as (S.pages source.old) TableLeaf number
+        → IsRowsPage (S.pages source.old) number
         → IfErr result (λ e. (size : ℕ) → Stands (S.pages source.old) size e.fault e.page) }
     ensures still_gives { S.gives_pages source.old → S.gives_pages source.new }
     ensures same_pages { S.pages source.new ≡ S.pages source.old }
     ensures same_size { S.size source.new ≡ S.size source.old }
 {
+    let count = source.count();
     'rows: for i in 0..page.len() {
         let cell = page.cell(i);
         let root = row_root(alloc, source, &cell, content)?;
-        add_root(roots, number, root)?;
+        add_root(roots, count, number, root)?;
     }
     Ok(())
 }
 
-/// Adds the roots that the rows of page `number` name, which is a leaf of the schema's tree.
+/// Adds the roots that the rows of page `number` name, which is a leaf of the schema's tree, while no more
+/// are kept than there are pages.
 fn page_roots<S: PageSource>(
     alloc: Global,
     source: &mut S,
@@ -139,9 +150,12 @@ fn page_roots<S: PageSource>(
     requires size { IsPageSize (S.size source.old) }
     requires least { 480 ≤ usable }
     requires most { usable ≤ S.size source.old }
-    ensures ok { S.gives_pages source.old → usable ≡ usable_size (S.pages source.old) → IsRowsPage (S.pages source.old) number
-        → OnOk result (Finds (S.pages source.old) (InRow (S.pages source.old) number) roots.old.items roots.new.items × AllSchemaRows (S.pages source.old) number) }
-    ensures err { S.gives_pages source.old → usable ≡ usable_size (S.pages source.old) → IsRowsPage (S.pages source.old) number
+    ensures ok { S.gives_pages source.old → usable ≡ usable_size (S.pages source.old)
+        → IsRowsPage (S.pages source.old) number → OnOk result (KeepsFound (S.pages source.old)
+        (InRow (S.pages source.old) number) roots.old.items roots.new.items × AllSchemaRows
+        (S.pages source.old) number) }
+    ensures err { S.gives_pages source.old → usable ≡ usable_size (S.pages source.old)
+        → IsRowsPage (S.pages source.old) number
         → IfErr result (λ e. (size : ℕ) → Stands (S.pages source.old) size e.fault e.page) }
     ensures still_gives { S.gives_pages source.old → S.gives_pages source.new }
     ensures same_pages { S.pages source.new ≡ S.pages source.old }
@@ -171,7 +185,8 @@ fn page_roots<S: PageSource>(
     }
 }
 
-/// The roots that the rows of the schema name, in their order. `rows` are the leaves of its tree.
+/// The roots that the rows of the schema name, in their order, but not those behind one more than there are
+/// pages: one of so many is no page's, or another's. `rows` are the leaves of its tree.
 pub(crate) fn roots_in<S: PageSource>(
     alloc: Global,
     source: &mut S,
@@ -183,9 +198,12 @@ pub(crate) fn roots_in<S: PageSource>(
     requires size { IsPageSize (S.size source.old) }
     requires least { 480 ≤ usable }
     requires most { usable ≤ S.size source.old }
-    ensures ok { S.gives_pages source.old → usable ≡ usable_size (S.pages source.old) → Every (IsRowsPage (S.pages source.old)) rows.now → Apart rows.now
-        → IfOk result (λ roots. Finds (S.pages source.old) (InRowsOf (S.pages source.old) rows.now) [] roots.items × Every (AllSchemaRows (S.pages source.old)) rows.now) }
-    ensures err { S.gives_pages source.old → usable ≡ usable_size (S.pages source.old) → Every (IsRowsPage (S.pages source.old)) rows.now
+    ensures ok { S.gives_pages source.old → usable ≡ usable_size (S.pages source.old)
+        → Every (IsRowsPage (S.pages source.old)) rows.now → Apart rows.now → IfOk result (λ roots. KeepsFound
+        (S.pages source.old) (InRowsOf (S.pages source.old) rows.now) [] roots.items × Every
+        (AllSchemaRows (S.pages source.old)) rows.now) }
+    ensures err { S.gives_pages source.old → usable ≡ usable_size (S.pages source.old)
+        → Every (IsRowsPage (S.pages source.old)) rows.now
         → IfErr result (λ e. (size : ℕ) → Stands (S.pages source.old) size e.fault e.page) }
     ensures still_gives { S.gives_pages source.old → S.gives_pages source.new }
     ensures same_pages { S.pages source.new ≡ S.pages source.old }

@@ -1,5 +1,6 @@
 //! Trunks of the freelist, and links of overflow chains (fileformat2, 1.5 and 1.7).
-ghost use Rattle.std.specs.Prelude.{◌≡◌, ◌≢◌, ◌+◌, ◌-◌, ◌*◌, ◌/◌, ◌<◌, ◌≤◌, ◌^◌, ℕ, length, reverse, IfErr, OnOk, OnErr, count_by, not};
+ghost use Rattle.std.specs.Prelude.{◌≡◌, ◌≢◌, ◌+◌, ◌-◌, ◌*◌, ◌/◌, ◌<◌, ◌≤◌, ◌^◌, ℕ, length, reverse, IfErr, OnOk};
+ghost use Rattle.std.specs.Prelude.{OnErr, count_by, not};
 ghost use Rattle.sqval.specs.Database.{Database, page};
 ghost use Rattle.sqpage.specs.Freelist.{usable_size, leaf_count_in};
 ghost use Rattle.sqpage.specs.declared.fault.Fault.{Fault};
@@ -15,7 +16,8 @@ use sqpage::{CheckError, Fault, PageSource};
 fn push_next(trunk: u32, bytes: &[u8], stack: &mut Vec<Item>) -> Result<(), CheckError>
     requires { 8 ≤ length bytes.now }
     ensures ok { OnOk result ((tree : Tree) → Pushes tree (IsNextTrunk bytes.now trunk) stack.old.items stack.new.items) }
-    ensures leads { OnOk result ((d : Database) (root : ℕ) → TopLeads d root (reverse stack.old.items) → TopLeads d root (reverse stack.new.items)) }
+    ensures leads { OnOk result ((d : Database) (root : ℕ) → TopLeads d root (reverse stack.old.items) → TopLeads d
+        root (reverse stack.new.items)) }
     ensures err { IfErr result (λ e. e.fault ≡ Fault.NoMemory) }
 {
     let next = word_at(bytes, 0);
@@ -36,7 +38,8 @@ fn push_next(trunk: u32, bytes: &[u8], stack: &mut Vec<Item>) -> Result<(), Chec
 fn push_leaves(trunk: u32, bytes: &[u8], stack: &mut Vec<Item>) -> Result<(), CheckError>
     requires room { 8 + 4 * leaf_count_in bytes.now ≤ length bytes.now }
     ensures ok { OnOk result ((tree : Tree) → Pushes tree (IsLeafFrom bytes.now trunk 0) stack.old.items stack.new.items) }
-    ensures leads { OnOk result ((d : Database) (root : ℕ) → TopLeads d root (reverse stack.old.items) → TopLeads d root (reverse stack.new.items)) }
+    ensures leads { OnOk result ((d : Database) (root : ℕ) → TopLeads d root (reverse stack.old.items) → TopLeads d
+        root (reverse stack.new.items)) }
     ensures err { IfErr result (λ e. e.fault ≡ Fault.NoMemory) }
 {
     let mut left = word_at(bytes, 4);
@@ -69,9 +72,12 @@ pub(crate) fn follow_trunk<S: PageSource>(
     requires room { length bytes.old ≡ S.size source.old }
     requires large { 16 ≤ usable }
     requires most { usable ≤ length bytes.old }
-    ensures ok { S.gives_pages source.old → usable ≡ usable_size (S.pages source.old) → OnOk result ((tree : Tree) → Visits (S.pages source.old) tree item marks.old marks.new stack.old.items stack.new.items) }
-    ensures leads { OnOk result ((d : Database) (root : ℕ) → TopLeads d root (reverse stack.old.items) → TopLeads d root (reverse stack.new.items)) }
-    ensures err { S.gives_pages source.old → usable ≡ usable_size (S.pages source.old) → IfErr result (λ e. (tree : Tree) → FollowRefused (S.pages source.old) tree item marks.old e.fault e.page) }
+    ensures ok { S.gives_pages source.old → usable ≡ usable_size (S.pages source.old) → OnOk result ((tree : Tree) →
+        Visits (S.pages source.old) tree item marks.old marks.new stack.old.items stack.new.items) }
+    ensures leads { OnOk result ((d : Database) (root : ℕ) → TopLeads d root (reverse stack.old.items) → TopLeads d
+        root (reverse stack.new.items)) }
+    ensures err { S.gives_pages source.old → usable ≡ usable_size (S.pages source.old)
+        → IfErr result (λ e. (tree : Tree) → FollowRefused (S.pages source.old) tree item marks.old e.fault e.page) }
     ensures still_gives { S.gives_pages source.old → S.gives_pages source.new }
     ensures same_pages { S.pages source.new ≡ S.pages source.old }
     ensures same_size { S.size source.new ≡ S.size source.old }
@@ -106,9 +112,12 @@ pub(crate) fn follow_link<S: PageSource>(
     requires marks { length marks.old ≡ length (S.pages source.old) }
     requires room { length bytes.old ≡ S.size source.old }
     requires large { 16 ≤ length bytes.old }
-    ensures ok { S.gives_pages source.old → OnOk result ((tree : Tree) → Visits (S.pages source.old) tree item marks.old marks.new stack.old.items stack.new.items) }
-    ensures leads { OnOk result ((d : Database) (root : ℕ) → TopLeads d root (reverse stack.old.items) → TopLeads d root (reverse stack.new.items)) }
-    ensures err { S.gives_pages source.old → 0 < needed → IfErr result (λ e. (tree : Tree) → FollowRefused (S.pages source.old) tree item marks.old e.fault e.page) }
+    ensures ok { S.gives_pages source.old → OnOk result ((tree : Tree) → Visits (S.pages source.old) tree item
+        marks.old marks.new stack.old.items stack.new.items) }
+    ensures leads { OnOk result ((d : Database) (root : ℕ) → TopLeads d root (reverse stack.old.items) → TopLeads d
+        root (reverse stack.new.items)) }
+    ensures err { S.gives_pages source.old → 0 < needed
+        → IfErr result (λ e. (tree : Tree) → FollowRefused (S.pages source.old) tree item marks.old e.fault e.page) }
     ensures still_gives { S.gives_pages source.old → S.gives_pages source.new }
     ensures same_pages { S.pages source.new ≡ S.pages source.old }
     ensures same_size { S.size source.new ≡ S.size source.old }

@@ -10,7 +10,8 @@ use sqpage::{CheckError, Fault};
 pub(crate) fn judge_unused(marks: &[bool]) -> Result<(), CheckError>
     requires { length marks.now < 2 ^ 32 }
     ensures ok { OnOk result ((p : ℕ) → IsWithin (length marks.now) p → is_marked marks.now p ≡ true) }
-    ensures err { IfErr result (λ e. (e.fault ≡ Fault.PageUnused) × IsWithin (length marks.now) e.page × (is_marked marks.now e.page ≡ false)) }
+    ensures err { IfErr result (λ e. (e.fault ≡ Fault.PageUnused) × IsWithin (length marks.now) e.page ×
+        (is_marked marks.now e.page ≡ false)) }
 {
     'pages: for i in 0..marks.len() {
         if !marks[i] {

@@ -1,5 +1,6 @@
 //! The walk over all places (own).
-ghost use Rattle.std.specs.Prelude.{◌≡◌, ◌≢◌, ◌⊎◌, ◌+◌, ◌-◌, ◌<◌, ◌≤◌, ◌^◌, ◌∷◌, [], ℕ, List, Bool, length, take, reverse, IfErr, OnOk, OnErr, count_by, not};
+ghost use Rattle.std.specs.Prelude.{◌≡◌, ◌≢◌, ◌⊎◌, ◌+◌, ◌-◌, ◌<◌, ◌≤◌, ◌^◌, ◌∷◌, [], ℕ, List, Bool, length, take};
+ghost use Rattle.std.specs.Prelude.{reverse, IfErr, OnOk, OnErr, count_by, not};
 ghost use Rattle.sqval.specs.Database.{Database, page};
 ghost use Rattle.sqval.specs.PageSize.{IsPageSize};
 ghost use Rattle.sqpage.specs.Freelist.{usable_size};
@@ -42,7 +43,8 @@ impl Counts {
         requires trees { self.old.trees ≤ self.old.btree }
         ensures trees { self.new.trees ≤ self.new.btree }
         ensures counted { AddsTask self.old self.new task }
-        ensures one_more { self.new.btree + self.new.overflow + self.new.free ≡ self.old.btree + self.old.overflow + self.old.free + 1 }
+        ensures one_more { self.new.btree + self.new.overflow + self.new.free ≡ self.old.btree + self.old.overflow +
+            self.old.free + 1 }
     {
         match task {
             Task::Trunk | Task::Leaf => self.free += 1,
@@ -74,9 +76,11 @@ fn follow_node<S: PageSource>(
     requires least { 480 ≤ usable }
     requires most { usable ≤ S.size source.old }
     requires holds { HoldsPage usable room.old }
-    ensures ok { S.gives_pages source.old → usable ≡ usable_size (S.pages source.old) → Knows (S.pages source.old) tree.now.root walk.old.leaf_level (item ∷ reverse walk.old.stack.items)
+    ensures ok { S.gives_pages source.old → usable ≡ usable_size (S.pages source.old)
+        → Knows (S.pages source.old) tree.now.root walk.old.leaf_level (item ∷ reverse walk.old.stack.items)
         → OnOk result (Follows (S.pages source.old) tree.now item marks.old marks.new walk.old walk.new) }
-    ensures err { S.gives_pages source.old → usable ≡ usable_size (S.pages source.old) → Knows (S.pages source.old) tree.now.root walk.old.leaf_level (item ∷ reverse walk.old.stack.items)
+    ensures err { S.gives_pages source.old → usable ≡ usable_size (S.pages source.old)
+        → Knows (S.pages source.old) tree.now.root walk.old.leaf_level (item ∷ reverse walk.old.stack.items)
         → IfErr result (λ e. FollowRefused (S.pages source.old) tree.now item marks.old e.fault e.page) }
     ensures still_gives { S.gives_pages source.old → S.gives_pages source.new }
     ensures same_pages { S.pages source.new ≡ S.pages source.old }
@@ -114,9 +118,11 @@ fn follow<S: PageSource>(
     requires least { 480 ≤ usable }
     requires most { usable ≤ S.size source.old }
     requires holds { HoldsPage usable room.old }
-    ensures ok { S.gives_pages source.old → usable ≡ usable_size (S.pages source.old) → IsProper item.task → Knows (S.pages source.old) tree.now.root walk.old.leaf_level (item ∷ reverse walk.old.stack.items)
+    ensures ok { S.gives_pages source.old → usable ≡ usable_size (S.pages source.old) → IsProper item.task
+        → Knows (S.pages source.old) tree.now.root walk.old.leaf_level (item ∷ reverse walk.old.stack.items)
         → OnOk result (Follows (S.pages source.old) tree.now item marks.old marks.new walk.old walk.new) }
-    ensures err { S.gives_pages source.old → usable ≡ usable_size (S.pages source.old) → IsProper item.task → Knows (S.pages source.old) tree.now.root walk.old.leaf_level (item ∷ reverse walk.old.stack.items)
+    ensures err { S.gives_pages source.old → usable ≡ usable_size (S.pages source.old) → IsProper item.task
+        → Knows (S.pages source.old) tree.now.root walk.old.leaf_level (item ∷ reverse walk.old.stack.items)
         → IfErr result (λ e. FollowRefused (S.pages source.old) tree.now item marks.old e.fault e.page) }
     ensures still_gives { S.gives_pages source.old → S.gives_pages source.new }
     ensures same_pages { S.pages source.new ≡ S.pages source.old }
@@ -159,16 +165,21 @@ pub(crate) fn walk_on<S: PageSource>(
     requires holds { HoldsPage usable room.old }
     requires counts { counts.old.btree + counts.old.overflow + counts.old.free + count_by not marks.old ≤ length marks.old }
     requires trees { counts.old.trees ≤ counts.old.btree }
-    ensures ok { S.gives_pages source.old → usable ≡ usable_size (S.pages source.old) → (late : Bool) (visited rest : List Spot) → Walking (S.pages source.old) late tree.now visited rest marks.old walk.old counts.old
+    ensures ok { S.gives_pages source.old → usable ≡ usable_size (S.pages source.old)
+        → (late : Bool) (visited rest : List Spot)
+        → Walking (S.pages source.old) late tree.now visited rest marks.old walk.old counts.old
         → OnOk result (WalksOn (S.pages source.old) late tree.now rest marks.new walk.new counts.new) }
     ensures empty { OnOk result (walk.new.stack.items ≡ []) }
-    ensures err { S.gives_pages source.old → usable ≡ usable_size (S.pages source.old) → (late : Bool) (visited rest : List Spot) → Walking (S.pages source.old) late tree.now visited rest marks.old walk.old counts.old
+    ensures err { S.gives_pages source.old → usable ≡ usable_size (S.pages source.old)
+        → (late : Bool) (visited rest : List Spot)
+        → Walking (S.pages source.old) late tree.now visited rest marks.old walk.old counts.old
         → IfErr result (λ e. (size : ℕ) → Stands (S.pages source.old) size e.fault e.page) }
     ensures still_gives { S.gives_pages source.old → S.gives_pages source.new }
     ensures same_pages { S.pages source.new ≡ S.pages source.old }
     ensures same_size { S.size source.new ≡ S.size source.old }
     ensures marks { length marks.new ≡ length marks.old }
-    ensures counts { OnOk result (counts.new.btree + counts.new.overflow + counts.new.free + count_by not marks.new ≤ length marks.new) }
+    ensures counts { OnOk result
+        (counts.new.btree + counts.new.overflow + counts.new.free + count_by not marks.new ≤ length marks.new) }
     ensures trees { OnOk result (counts.new.trees ≤ counts.new.btree) }
     ensures room { length bytes.new ≡ length bytes.old }
     ensures holds { HoldsPage usable room.new }

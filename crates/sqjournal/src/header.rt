@@ -52,8 +52,8 @@ pub fn is_magic(bytes: &[u8; 8]) -> bool
     *bytes == MAGIC
 }
 
-/// Where the next header begins after the end of a segment, in bytes: at the least multiple of the sector, a power of two
-/// from 512 to 65536, that isn't below it (own: each header begins at such a place). The end is at most 2^41.
+/// Where the next header begins after the end of a segment, in bytes: at the least multiple of the sector, a power of
+/// two from 512 to 65536, that isn't below it (own: each header begins at such a place). The end is at most 2^41.
 pub fn next_header_at(end: u64, sector: u32) -> u64
     requires sector { IsSector sector }
     requires within { end ≤ 2 ^ 41 }

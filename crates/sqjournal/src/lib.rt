@@ -1,4 +1,5 @@
-//! Rollback journals (fileformat2, 3): their headers, the sums of their records, and what a journal says, read in pieces.
+//! Rollback journals (fileformat2, 3): their headers, the sums of their records, and what a journal says, read in
+//! pieces.
 #![tactic(auto)]
 
 mod error;

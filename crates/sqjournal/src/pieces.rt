@@ -1,5 +1,6 @@
 //! Taking a piece of a journal (own).
-ghost use Rattle.std.specs.Prelude.{◌≡◌, ◌⊎◌, ℕ, ◌+◌, ◌^◌, ◌<◌, ◌≤◌, ◌++◌, List, [], length, take, drop, IfOk, OnOk, OnErr, MatchOption, MatchResult};
+ghost use Rattle.std.specs.Prelude.{◌≡◌, ◌⊎◌, ℕ, ◌+◌, ◌^◌, ◌<◌, ◌≤◌, ◌++◌, List, [], length, take, drop, IfOk, OnOk};
+ghost use Rattle.std.specs.Prelude.{OnErr, MatchOption, MatchResult};
 ghost use Rattle.sqjournal.specs.Header.{IsFirstHeader, IsRefused, Names};
 ghost use Rattle.sqjournal.specs.Reading.{Stands, IsNext, next_len, IsOver, UnlessOver, Keeps, Waits, IsSound};
 ghost use Rattle.sqjournal.specs.declared.reading.Record.{Record};

@@ -1,5 +1,6 @@
 //! A reading of a journal: where it goes on, and with what (fileformat2, 3; later segments and why it ends are own).
-ghost use Rattle.std.specs.Prelude.{IsTrue, ◌≡◌, ◌⊎◌, ℕ, ◌+◌, ◌-◌, ◌*◌, ◌^◌, min, ◌<◌, ◌≤◌, ◌++◌, List, length, MatchOption, option_to_list};
+ghost use Rattle.std.specs.Prelude.{IsTrue, ◌≡◌, ◌⊎◌, ℕ, ◌+◌, ◌-◌, ◌*◌, ◌^◌, min, ◌<◌, ◌≤◌, ◌++◌, List, length};
+ghost use Rattle.std.specs.Prelude.{MatchOption, option_to_list};
 ghost use Rattle.sqval.specs.Bytes.{part};
 ghost use Rattle.sqjournal.specs.Header.{next_header};
 ghost use Rattle.sqjournal.specs.Reading.{Stands, IsNext, next_len, why_of, IsOver, UnlessOver};

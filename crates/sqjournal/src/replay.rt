@@ -39,7 +39,8 @@ pub struct Replay {
 }
 
 impl Replay {
-    ghost use Rattle.std.specs.Prelude.{IsTrue, ◌++◌, ◌+◌, List, [], Option, Some, None, IfOk, MatchOption, MatchResult};
+    ghost use Rattle.std.specs.Prelude.{IsTrue, ◌++◌, ◌+◌, List, [], Option, Some, None, IfOk, MatchOption};
+    ghost use Rattle.std.specs.Prelude.{MatchResult};
     ghost use Rattle.sqjournal.specs.Header.{IsRefused};
     ghost use Rattle.sqjournal.specs.Journal.{IsFirst};
     ghost use Rattle.sqjournal.specs.declared.error.JournalError.TheVariants.{NoMemory};
@@ -175,8 +176,8 @@ impl Replay {
         }
     }
 
-    /// Whether the journal ends at a header or a record that is whole. No bytes that may follow change what it says then, and
-    /// they needn't be fed.
+    /// Whether the journal ends at a header or a record that is whole. No bytes that may follow change what it says
+    /// then, and they needn't be fed.
     pub fn is_over(&self) -> bool
         ensures { IsTrue result → (b : List ℕ) → Took b self.now → IsSettled b }
     {

@@ -1,8 +1,10 @@
 //! The freelist (fileformat2, 1.5).
-ghost use Rattle.std.specs.Prelude.{◌≡◌, ◌≢◌, ℕ, ◌+◌, ◌-◌, ◌*◌, ◌/◌, ◌<◌, ◌≤◌, List, [], ◌∷◌, ◌++◌, length, IfOk, IfErr, OnOk, OnErr, count_by, not};
+ghost use Rattle.std.specs.Prelude.{◌≡◌, ◌≢◌, ℕ, ◌+◌, ◌-◌, ◌*◌, ◌/◌, ◌<◌, ◌≤◌, List, [], ◌∷◌, ◌++◌, length, IfOk};
+ghost use Rattle.std.specs.Prelude.{IfErr, OnOk, OnErr, count_by, not};
 ghost use Rattle.sqval.specs.Database.{Database, page};
 ghost use Rattle.sqpage.specs.Lists.{In, each_from};
-ghost use Rattle.sqpage.specs.Freelist.{IsFreelist, FreelistRefused, free_pages, usable_size, most_leaves, next_in, leaf_count_in, leaves_in, leaf_in};
+ghost use Rattle.sqpage.specs.Freelist.{IsFreelist, FreelistRefused, free_pages, usable_size, most_leaves, next_in};
+ghost use Rattle.sqpage.specs.Freelist.{leaf_count_in, leaves_in, leaf_in};
 ghost use Rattle.sqpage.specs.Taking.{AreTaken, TakesAll, LeafRefused, TakeRefused, TrunkRefused};
 ghost use Rattle.sqpage.specs.declared.fault.Fault.{Fault};
 
@@ -45,10 +47,12 @@ impl Found {
     /// Takes page `p`, which page `holder` names.
     fn take(&mut self, holder: u32, p: u32) -> Result<(), CheckError>
         requires { AreTaken self.old.taken.marks.items self.old.pages.items }
-        ensures ok { OnOk result (TakesAll self.old.taken.marks.items self.old.pages.items self.new.taken.marks.items self.new.pages.items (p ∷ [])) }
+        ensures ok { OnOk result (TakesAll self.old.taken.marks.items self.old.pages.items self.new.taken.marks.items
+            self.new.pages.items (p ∷ [])) }
         ensures fresh { OnOk result (¬ In p self.old.pages.items) }
         ensures fewer { OnOk result (count_by not self.new.taken.marks.items < count_by not self.old.taken.marks.items) }
-        ensures err { IfErr result (λ e. TakeRefused (length self.old.taken.marks.items) self.old.pages.items holder p e.fault e.page) }
+        ensures err { IfErr result
+            (λ e. TakeRefused (length self.old.taken.marks.items) self.old.pages.items holder p e.fault e.page) }
     {
         self.taken.take(holder, p)?;
         match self.pages.push(p) {
@@ -64,8 +68,10 @@ impl Found {
     fn take_leaves(&mut self, trunk: u32, page: &[u8]) -> Result<(), CheckError>
         requires taken { AreTaken self.old.taken.marks.items self.old.pages.items }
         requires room { 8 + 4 * leaf_count_in page.now ≤ length page.now }
-        ensures ok { OnOk result (TakesAll self.old.taken.marks.items self.old.pages.items self.new.taken.marks.items self.new.pages.items (leaves_in page.now)) }
-        ensures err { IfErr result (λ e. LeafRefused (length self.old.taken.marks.items) self.old.pages.items trunk page.now e.fault e.page) }
+        ensures ok { OnOk result (TakesAll self.old.taken.marks.items self.old.pages.items self.new.taken.marks.items
+            self.new.pages.items (leaves_in page.now)) }
+        ensures err { IfErr result (λ e. LeafRefused (length self.old.taken.marks.items) self.old.pages.items trunk
+            page.now e.fault e.page) }
     {
         let count = word_at(page, 4);
         'leaves: for i in 0..count {
@@ -89,13 +95,18 @@ impl Found {
         requires room { length bytes.old ≡ S.size source.old }
         requires large { 16 ≤ usable }
         requires within { usable ≤ length bytes.old }
-        ensures ok { S.gives_pages source.old → usable ≡ usable_size (S.pages source.old) → IfOk result (λ next. next ≡ next_in (page (S.pages source.old) trunk)) }
-        ensures few { S.gives_pages source.old → usable ≡ usable_size (S.pages source.old) → OnOk result (leaf_count_in (page (S.pages source.old) trunk) ≤ most_leaves (S.pages source.old)) }
-        ensures takes { S.gives_pages source.old → OnOk result (TakesAll self.old.taken.marks.items self.old.pages.items self.new.taken.marks.items self.new.pages.items (trunk ∷ leaves_in (page (S.pages source.old) trunk))) }
+        ensures ok { S.gives_pages source.old → usable ≡ usable_size (S.pages source.old)
+            → IfOk result (λ next. next ≡ next_in (page (S.pages source.old) trunk)) }
+        ensures few { S.gives_pages source.old → usable ≡ usable_size (S.pages source.old)
+            → OnOk result (leaf_count_in (page (S.pages source.old) trunk) ≤ most_leaves (S.pages source.old)) }
+        ensures takes { S.gives_pages source.old → OnOk result (TakesAll self.old.taken.marks.items
+            self.old.pages.items self.new.taken.marks.items self.new.pages.items
+            (trunk ∷ leaves_in (page (S.pages source.old) trunk))) }
         ensures taken { OnOk result (AreTaken self.new.taken.marks.items self.new.pages.items) }
         ensures marks { OnOk result (length self.new.taken.marks.items ≡ length self.old.taken.marks.items) }
         ensures fewer { OnOk result (count_by not self.new.taken.marks.items < count_by not self.old.taken.marks.items) }
-        ensures err { S.gives_pages source.old → usable ≡ usable_size (S.pages source.old) → IfErr result (λ e. TrunkRefused (S.pages source.old) self.old.pages.items holder trunk e.fault e.page) }
+        ensures err { S.gives_pages source.old → usable ≡ usable_size (S.pages source.old)
+            → IfErr result (λ e. TrunkRefused (S.pages source.old) self.old.pages.items holder trunk e.fault e.page) }
         ensures still_gives { S.gives_pages source.old → S.gives_pages source.new }
         ensures same_pages { S.pages source.new ≡ S.pages source.old }
         ensures same_size { S.size source.new ≡ S.size source.old }
@@ -123,7 +134,8 @@ fn collect<S: PageSource>(
     requires room { length bytes.old ≡ S.size source.old }
     requires large { 512 ≤ length bytes.old }
     ensures found { S.gives_pages source.old → IfOk result (λ pages. IsFreelist (S.pages source.old) pages.items) }
-    ensures count { S.gives_pages source.old → IfOk result (λ pages. length pages.items ≡ free_pages (S.pages source.old)) }
+    ensures count { S.gives_pages source.old
+        → IfOk result (λ pages. length pages.items ≡ free_pages (S.pages source.old)) }
     ensures err { S.gives_pages source.old → IfErr result (λ e. FreelistRefused (S.pages source.old) e.fault e.page) }
     ensures still_gives { S.gives_pages source.old → S.gives_pages source.new }
     ensures same_pages { S.pages source.new ≡ S.pages source.old }
@@ -158,7 +170,8 @@ fn collect_in<S: PageSource>(
     requires some { 0 < length (S.pages source.old) }
     requires room { length buffer.old ≡ 65536 }
     ensures found { S.gives_pages source.old → IfOk result (λ pages. IsFreelist (S.pages source.old) pages.items) }
-    ensures count { S.gives_pages source.old → IfOk result (λ pages. length pages.items ≡ free_pages (S.pages source.old)) }
+    ensures count { S.gives_pages source.old
+        → IfOk result (λ pages. length pages.items ≡ free_pages (S.pages source.old)) }
     ensures err { S.gives_pages source.old → IfErr result (λ e. FreelistRefused (S.pages source.old) e.fault e.page) }
     ensures still_gives { S.gives_pages source.old → S.gives_pages source.new }
     ensures same_pages { S.pages source.new ≡ S.pages source.old }
@@ -173,7 +186,8 @@ fn collect_in<S: PageSource>(
 /// FreeCount at a trunk that names too many leaves or at page 1 where the header's count isn't the
 /// list's, Source and NoMemory. A source of no pages has an empty one.
 pub fn freelist<S: PageSource>(alloc: Global, source: &mut S) -> Result<Vec<u32>, CheckError>
-    ensures found { S.gives_pages source.old → IfOk result (λ pages. IsFreelist (S.pages source.old) pages.items × (length pages.items ≡ free_pages (S.pages source.old))) }
+    ensures found { S.gives_pages source.old → IfOk result (λ pages. IsFreelist (S.pages source.old) pages.items ×
+        (length pages.items ≡ free_pages (S.pages source.old))) }
     // The condition stands at the page.
     ensures err { S.gives_pages source.old → IfErr result (λ e. FreelistRefused (S.pages source.old) e.fault e.page) }
     // No list of pages is one, unless memory ran out.

@@ -1,9 +1,11 @@
 //! The database header (fileformat2, 1.3).
-ghost use Rattle.std.specs.Prelude.{◌≡◌, ℕ, ◌+◌, ◌≤◌, ◌<◌, ◌↔◌, IsTrue, ◌^◌, ◌*◌, length, flat_map, slice_index, IfOk, IfErr, IsSome, IfSome, replicate};
+ghost use Rattle.std.specs.Prelude.{◌≡◌, ℕ, ◌+◌, ◌≤◌, ◌<◌, ◌↔◌, IsTrue, ◌^◌, ◌*◌, length, flat_map, slice_index, IfOk};
+ghost use Rattle.std.specs.Prelude.{IfErr, IsSome, IfSome, replicate};
 ghost use Rattle.sqval.specs.Bytes.{part};
 ghost use Rattle.sqval.specs.PageSize.{IsPageSize};
 ghost use Rattle.byteorder.specs.Endian.{big_bytes};
-ghost use Rattle.sqpage.specs.Header.{IsHeader, HeaderRefused, HasMagic, HasPageSize, HasFractions, size_named, size_named_by};
+ghost use Rattle.sqpage.specs.Header.{IsHeader, HeaderRefused, HasMagic, HasPageSize, HasFractions, size_named};
+ghost use Rattle.sqpage.specs.Header.{size_named_by};
 ghost use Rattle.sqpage.specs.declared.header.DbHeader.{DbHeader};
 
 use crate::bytes::word_at;
@@ -85,8 +87,8 @@ fn named_size(bytes: &[u8; 100]) -> u32
     }
 }
 
-/// The page size that a header names, in bytes (fileformat2, 1.3.2). None where it is none that a database can have. Nothing
-/// else of the header is judged.
+/// The page size that a header names, in bytes (fileformat2, 1.3.2). None where it is none that a database can have.
+/// Nothing else of the header is judged.
 pub fn named_page_size(bytes: &[u8; 100]) -> Option<PageSize>
     ensures valid { IsSome result ↔ HasPageSize bytes.now }
     ensures value { IfSome result (λ size. size ≡ size_named bytes.now) }
@@ -153,8 +155,8 @@ impl DbHeader {
         })
     }
 
-    /// Writes the header, by which at least 480 bytes of a page are usable. The bytes 72 to 91, which have no meaning yet, are
-    /// zeros (own).
+    /// Writes the header, by which at least 480 bytes of a page are usable. The bytes 72 to 91, which have no meaning
+    /// yet, are zeros (own).
     pub fn write(&self, out: &mut [u8; 100])
         requires { 480 + self.now.reserved ≤ self.now.page_size }
         ensures written { IsHeader self.now out.new }

@@ -1,5 +1,6 @@
 //! Marks on the bytes of a page that its cells and freeblocks take (fileformat2, 1.6; marks are own).
-ghost use Rattle.std.specs.Prelude.{◌≡◌, ◌↔◌, ◌+◌, ◌-◌, ◌*◌, ◌<◌, ◌≤◌, ◌^◌, ℕ, List, false, IsTrue, IfOk, IfErr, length, replicate, Some, None};
+ghost use Rattle.std.specs.Prelude.{◌≡◌, ◌↔◌, ◌+◌, ◌-◌, ◌*◌, ◌<◌, ◌≤◌, ◌^◌, ℕ, List, false, IsTrue, IfOk, IfErr};
+ghost use Rattle.std.specs.Prelude.{length, replicate, Some, None};
 ghost use Rattle.sqpage.specs.Header.{half};
 ghost use Rattle.sqpage.specs.Layout.{Span, IsFreeblock, AreFreeblocks};
 ghost use Rattle.sqpage.specs.Marking.{SetsBits, HasBit, MarksSpan, IsTouched, MarksFreeblocks, FreeblocksRefused};
@@ -70,7 +71,8 @@ pub(crate) fn mark(map: &mut [u64], at: usize, size: usize) -> bool
 /// The size of the freeblock at `at`, which is to begin at `least` or later. None where none is there.
 fn freeblock_size(used: &[u8], least: usize, at: usize) -> Option<usize>
     requires { at < 65536 }
-    ensures found { (size : ℕ) → (result ≡ Some size) ↔ IsFreeblock used.now least (record { start = at; size = size }) }
+    ensures found { (size : ℕ) → (result ≡ Some size)
+        ↔ IsFreeblock used.now least (record { start = at; size = size }) }
 {
     if at < least || at + 4 > used.len() {
         return None;

@@ -1,5 +1,6 @@
 //! Payloads and their overflow chains.
-ghost use Rattle.std.specs.Prelude.{◌≡◌, ◌≢◌, ℕ, ◌+◌, ◌-◌, ◌/◌, ◌<◌, ◌≤◌, List, [], ◌++◌, true, false, length, take, drop, IfOk, IfErr, OnOk, OnErr, IsSome};
+ghost use Rattle.std.specs.Prelude.{◌≡◌, ◌≢◌, ℕ, ◌+◌, ◌-◌, ◌/◌, ◌<◌, ◌≤◌, List, [], ◌++◌, true, false, length, take};
+ghost use Rattle.std.specs.Prelude.{drop, IfOk, IfErr, OnOk, OnErr, IsSome};
 ghost use Rattle.sqval.specs.Database.{Database, page};
 ghost use Rattle.sqpage.specs.Freelist.{IsPage, next_in};
 ghost use Rattle.sqpage.specs.Taking.{AreTaken, LinkRefused, AppendsChain, GoesOn, ChainStops};
@@ -39,7 +40,8 @@ fn append_page<S: PageSource>(
     requires most { usable ≤ length used.old }
     ensures ok { S.gives_pages source.old → IfOk result (λ next. next ≡ next_in (page (S.pages source.old) p)) }
     ensures within { OnOk result (IsPage (S.pages source.old) p) }
-    ensures content { S.gives_pages source.old → OnOk result (out.new.items ≡ out.old.items ++ take (usable - 4) (drop 4 (page (S.pages source.old) p))) }
+    ensures content { S.gives_pages source.old
+        → OnOk result (out.new.items ≡ out.old.items ++ take (usable - 4) (drop 4 (page (S.pages source.old) p))) }
     ensures appended { (more : List ℕ) × (out.new.items ≡ out.old.items ++ more) }
     ensures err { S.gives_pages source.old → IfErr result (λ e. LinkRefused (S.pages source.old) at p e.fault e.page) }
     ensures still_gives { S.gives_pages source.old → S.gives_pages source.new }
@@ -76,10 +78,13 @@ fn append_chain<S: PageSource>(
     requires least { 480 ≤ cell.now.usable }
     requires most { cell.now.usable ≤ length used.old }
     requires needed { needed ≡ links cell.now }
-    ensures ok { S.gives_pages source.old → IfOk result (λ ends. ends ≡ true → AppendsChain (S.pages source.old) cell.now out.old.items out.new.items) }
-    ensures goes_on { S.gives_pages source.old → IfOk result (λ ends. ends ≡ false → GoesOn (S.pages source.old) cell.now) }
+    ensures ok { S.gives_pages source.old
+        → IfOk result (λ ends. ends ≡ true → AppendsChain (S.pages source.old) cell.now out.old.items out.new.items) }
+    ensures goes_on { S.gives_pages source.old
+        → IfOk result (λ ends. ends ≡ false → GoesOn (S.pages source.old) cell.now) }
     ensures appended { (more : List ℕ) × (out.new.items ≡ out.old.items ++ more) }
-    ensures err { S.gives_pages source.old → IfErr result (λ e. ChainBroken (S.pages source.old) cell.now e.fault e.page) }
+    ensures err { S.gives_pages source.old
+        → IfErr result (λ e. ChainBroken (S.pages source.old) cell.now e.fault e.page) }
     ensures still_gives { S.gives_pages source.old → S.gives_pages source.new }
     ensures same_pages { S.pages source.new ≡ S.pages source.old }
     ensures same_size { S.size source.new ≡ S.size source.old }
@@ -126,8 +131,10 @@ fn mark_chain<S: PageSource>(
     requires room { length used.old ≡ S.size source.old }
     requires least { 480 ≤ length used.old }
     requires needed { needed ≡ links cell.now }
-    ensures ok { S.gives_pages source.old → IfOk result (λ last. (pages : List ℕ) × (p : ℕ) × Follows (S.pages source.old) cell.now pages last p × (length pages ≡ links cell.now)) }
-    ensures err { S.gives_pages source.old → IfErr result (λ e. ChainStops (S.pages source.old) cell.now e.fault e.page) }
+    ensures ok { S.gives_pages source.old → IfOk result (λ last. (pages : List ℕ) × (p : ℕ) × Follows
+        (S.pages source.old) cell.now pages last p × (length pages ≡ links cell.now)) }
+    ensures err { S.gives_pages source.old
+        → IfErr result (λ e. ChainStops (S.pages source.old) cell.now e.fault e.page) }
     ensures still_gives { S.gives_pages source.old → S.gives_pages source.new }
     ensures same_pages { S.pages source.new ≡ S.pages source.old }
     ensures same_size { S.size source.new ≡ S.size source.old }
@@ -156,7 +163,8 @@ fn judge_chain<S: PageSource>(
     requires room { length used.old ≡ S.size source.old }
     requires least { 480 ≤ length used.old }
     requires needed { needed ≡ links cell.now }
-    ensures stands { S.gives_pages source.old → GoesOn (S.pages source.old) cell.now → ChainBroken (S.pages source.old) cell.now result.fault result.page }
+    ensures stands { S.gives_pages source.old → GoesOn (S.pages source.old) cell.now
+        → ChainBroken (S.pages source.old) cell.now result.fault result.page }
     ensures still_gives { S.gives_pages source.old → S.gives_pages source.new }
     ensures same_pages { S.pages source.new ≡ S.pages source.old }
     ensures same_size { S.size source.new ≡ S.size source.old }
@@ -187,9 +195,11 @@ fn append_pages<S: PageSource>(
     requires least { 480 ≤ cell.now.usable }
     requires most { cell.now.usable ≤ S.size source.old }
     requires needed { needed ≡ links cell.now }
-    ensures ok { S.gives_pages source.old → OnOk result (AppendsChain (S.pages source.old) cell.now out.old.items out.new.items) }
+    ensures ok { S.gives_pages source.old
+        → OnOk result (AppendsChain (S.pages source.old) cell.now out.old.items out.new.items) }
     ensures appended { (more : List ℕ) × (out.new.items ≡ out.old.items ++ more) }
-    ensures err { S.gives_pages source.old → IfErr result (λ e. ChainBroken (S.pages source.old) cell.now e.fault e.page) }
+    ensures err { S.gives_pages source.old
+        → IfErr result (λ e. ChainBroken (S.pages source.old) cell.now e.fault e.page) }
     ensures still_gives { S.gives_pages source.old → S.gives_pages source.new }
     ensures same_pages { S.pages source.new ≡ S.pages source.old }
     ensures same_size { S.size source.new ≡ S.size source.old }
@@ -221,9 +231,11 @@ fn append<S: PageSource>(
     requires least { 480 ≤ cell.now.usable }
     requires most { cell.now.usable ≤ S.size source.old }
     requires needed { needed ≡ links cell.now }
-    ensures ok { S.gives_pages source.old → OnOk result (AppendsChain (S.pages source.old) cell.now (out.old.items ++ cell.now.local.now) out.new.items) }
+    ensures ok { S.gives_pages source.old → OnOk result
+        (AppendsChain (S.pages source.old) cell.now (out.old.items ++ cell.now.local.now) out.new.items) }
     ensures appended { (more : List ℕ) × (out.new.items ≡ out.old.items ++ more) }
-    ensures err { S.gives_pages source.old → IfErr result (λ e. ChainBroken (S.pages source.old) cell.now e.fault e.page) }
+    ensures err { S.gives_pages source.old
+        → IfErr result (λ e. ChainBroken (S.pages source.old) cell.now e.fault e.page) }
     ensures still_gives { S.gives_pages source.old → S.gives_pages source.new }
     ensures same_pages { S.pages source.new ≡ S.pages source.old }
     ensures same_size { S.size source.new ≡ S.size source.old }
@@ -265,11 +277,14 @@ pub fn payload<S: PageSource>(
     requires least { 480 ≤ cell.now.usable }
     requires most { cell.now.usable ≤ S.size source.old }
     requires part { length cell.now.local.now ≤ payload_size cell.now }
-    ensures ok { S.gives_pages source.old → OnOk result ((content : List ℕ) × IsPayload (S.pages source.old) cell.now content × (out.new.items ≡ out.old.items ++ content)) }
+    ensures ok { S.gives_pages source.old → OnOk result ((content : List ℕ) × IsPayload (S.pages source.old) cell.now
+        content × (out.new.items ≡ out.old.items ++ content)) }
     // The condition stands at the page.
-    ensures err { S.gives_pages source.old → IfErr result (λ e. ChainRefused (S.pages source.old) cell.now e.fault e.page) }
+    ensures err { S.gives_pages source.old
+        → IfErr result (λ e. ChainRefused (S.pages source.old) cell.now e.fault e.page) }
     // The cell has no payload, unless memory ran out.
-    ensures none { S.gives_pages source.old → IfErr result (λ e. e.fault ≢ Fault.NoMemory → (content : List ℕ) → ¬ IsPayload (S.pages source.old) cell.now content) }
+    ensures none { S.gives_pages source.old → IfErr result
+        (λ e. e.fault ≢ Fault.NoMemory → (content : List ℕ) → ¬ IsPayload (S.pages source.old) cell.now content) }
     ensures unchanged { OnErr result (out.new.items ≡ out.old.items) }
     ensures still_gives { S.gives_pages source.old → S.gives_pages source.new }
     ensures same_pages { S.pages source.new ≡ S.pages source.old }

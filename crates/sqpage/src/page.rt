@@ -1,5 +1,6 @@
 //! Pages of b-trees (fileformat2, 1.6).
-ghost use Rattle.std.specs.Prelude.{◌≡◌, ◌≢◌, ◌⊎◌, ◌+◌, ◌*◌, ◌<◌, ◌≤◌, ℕ, List, false, IsTrue, IfOk, IfErr, OnOk, OnErr, IfSome, IfNone, length, take, replicate, slice_get};
+ghost use Rattle.std.specs.Prelude.{◌≡◌, ◌≢◌, ◌⊎◌, ◌+◌, ◌*◌, ◌<◌, ◌≤◌, ℕ, List, false, IsTrue, IfOk, IfErr, OnOk};
+ghost use Rattle.std.specs.Prelude.{OnErr, IfSome, IfNone, length, take, replicate, slice_get};
 ghost use Rattle.sqval.specs.Bytes.{word};
 ghost use Rattle.sqval.specs.PageSize.{IsPageSize};
 ghost use Rattle.sqpage.specs.declared.cell.Parts.{Parts};
@@ -7,7 +8,9 @@ ghost use Rattle.sqpage.specs.declared.fault.Fault.{Fault};
 ghost use Rattle.sqpage.specs.Chain.{payload_size};
 ghost use Rattle.sqpage.specs.Layout.{IsLaidOut, LayoutRefused};
 ghost use Rattle.sqpage.specs.Marking.{MarksCells, TouchesCells, TakesBytes};
-ghost use Rattle.sqpage.specs.Page.{Page, IsBtreePage, PageRefused, IsCell, HasCell, HasParts, HasPartsOf, if_present, is_interior, head_at, cell_count, cell_count_in, content_start_in, pointers_at, pointer as cell_pointer, pointer_in, pointers_end_in};
+ghost use Rattle.sqpage.specs.Page.{Page, IsBtreePage, PageRefused, IsCell, HasCell, HasParts, HasPartsOf, if_present};
+ghost use Rattle.sqpage.specs.Page.{is_interior, head_at, cell_count, cell_count_in, content_start_in, pointers_at};
+ghost use Rattle.sqpage.specs.Page.{pointer as cell_pointer, pointer_in, pointers_end_in};
 
 use crate::bytes::{half_at, word_at};
 use crate::cell::{Cell, Parts, parts_at};
@@ -96,9 +99,10 @@ fn cells_lie_within(kind: Kind, used: &[u8], number: u32) -> bool
     requires most { length used.now ≤ 65536 }
     requires pointers { pointers_end_in kind used.now number ≤ length used.now }
     ensures yes { IsTrue result → (i : ℕ) → i < cell_count_in used.now number
-        → (content_start_in used.now number ≤ pointer_in kind used.now number i) × HasCell kind used.now (pointer_in kind used.now number i) }
-    ensures not { result ≡ false → (i : ℕ) × (i < cell_count_in used.now number)
-        × ((pointer_in kind used.now number i < content_start_in used.now number) ⊎ ¬ HasCell kind used.now (pointer_in kind used.now number i)) }
+        → (content_start_in used.now number ≤ pointer_in kind used.now number i)
+        × HasCell kind used.now (pointer_in kind used.now number i) }
+    ensures not { result ≡ false → (i : ℕ) × (i < cell_count_in used.now number) × ((pointer_in kind used.now number
+        i < content_start_in used.now number) ⊎ ¬ HasCell kind used.now (pointer_in kind used.now number i)) }
 {
     let start = content_start(used, number);
     'cells: for i in 0..count(used, number) {
@@ -121,10 +125,11 @@ fn read_parts(kind: Kind, used: &[u8], number: u32, parts: &mut [Parts]) -> bool
     requires most { length used.now ≤ 65536 }
     requires pointers { pointers_end_in kind used.now number ≤ length used.now }
     requires room { cell_count_in used.now number ≤ length parts.old }
-    ensures yes { IsTrue result → (i : ℕ) (c : Parts) → i < cell_count_in used.now number → slice_get parts.new i ≡ Some c
-        → (content_start_in used.now number ≤ pointer_in kind used.now number i) × HasParts kind used.now (pointer_in kind used.now number i) c }
-    ensures not { result ≡ false → (i : ℕ) × (i < cell_count_in used.now number)
-        × ((pointer_in kind used.now number i < content_start_in used.now number) ⊎ ¬ HasCell kind used.now (pointer_in kind used.now number i)) }
+    ensures yes { IsTrue result → (i : ℕ) (c : Parts) → i < cell_count_in used.now number
+        → slice_get parts.new i ≡ Some c → (content_start_in used.now number ≤ pointer_in kind used.now number i)
+        × HasParts kind used.now (pointer_in kind used.now number i) c }
+    ensures not { result ≡ false → (i : ℕ) × (i < cell_count_in used.now number) × ((pointer_in kind used.now number
+        i < content_start_in used.now number) ⊎ ¬ HasCell kind used.now (pointer_in kind used.now number i)) }
     ensures length { length parts.new ≡ length parts.old }
 {
     let start = content_start(used, number);
@@ -142,8 +147,8 @@ fn read_parts(kind: Kind, used: &[u8], number: u32, parts: &mut [Parts]) -> bool
 }
 
 impl<'a> BtreePage<'a> {
-    /// The page of these bytes and this number, of which the first `usable` bytes, at least 480, are used. Refused by Kind
-    /// where its type byte is none, otherwise by CellOutside where the pointers, the start of the cells or a
+    /// The page of these bytes and this number, of which the first `usable` bytes, at least 480, are used. Refused by
+    /// Kind where its type byte is none, otherwise by CellOutside where the pointers, the start of the cells or a
     /// cell lie outside.
     pub fn new(bytes: &'a [u8], number: u32, usable: u32) -> Result<BtreePage<'a>, Fault>
         requires page { IsPageSize (length bytes.now) }

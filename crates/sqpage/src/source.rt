@@ -59,7 +59,8 @@ pub struct SliceSource<'a> {
 impl<'a> SliceSource<'a> {
     /// The pages in the bytes. None where these are not whole pages, or are above `u32::MAX` pages.
     pub fn new(bytes: &'a [u8], page_size: PageSize) -> Option<SliceSource<'a>>
-        ensures whole { IsSome result ↔ ((count : ℕ) × (count < 2 ^ 32) × (length bytes.entry.now ≡ count * page_size)) }
+        ensures whole { IsSome result
+            ↔ ((count : ℕ) × (count < 2 ^ 32) × (length bytes.entry.now ≡ count * page_size)) }
         ensures bytes { IfSome result (λ source. source.bytes.now ≡ bytes.entry.now) }
         ensures size { IfSome result (λ source. source.page_size ≡ page_size) }
     {

@@ -6,7 +6,8 @@ ghost use Rattle.std.specs.List.Sorted.{IsPermutation, IsNonDecreasing, IsStrict
 ghost use Rattle.sqval.specs.Bytes.{AreBytes};
 ghost use Rattle.sqval.specs.Database.{Pages};
 ghost use Rattle.sqval.specs.CommitFaults.{most_bytes, has_twice, first_true, page_faults};
-ghost use Rattle.sqval.specs.JudgedPages.{fault_number, lent, numbers_of, Misses, Judged, number_faults, set_faults, size_faults};
+ghost use Rattle.sqval.specs.JudgedPages.{fault_number, lent, numbers_of, Misses, Judged, number_faults, set_faults};
+ghost use Rattle.sqval.specs.JudgedPages.{size_faults};
 
 use crate::page_size::PageSize;
 use thiserror::Error;
@@ -162,7 +163,8 @@ fn misses(numbers: &[u32], old_size: u32, size: u32) -> bool
 /// Judges the page numbers together, when they are in order.
 fn judge_sorted(numbers: &[u32], old_size: u32, size: u32) -> Result<(), CommitFault>
     requires { IsNonDecreasing numbers.now }
-    ensures { (pages : Pages) → IsPermutation (numbers_of pages) numbers.now → Judged fault_number (first_true (set_faults old_size pages size)) result }
+    ensures { (pages : Pages) → IsPermutation (numbers_of pages) numbers.now
+        → Judged fault_number (first_true (set_faults old_size pages size)) result }
 {
     if !rises(numbers) {
         return Err(CommitFault::PageTwice);

@@ -1,9 +1,11 @@
 //! How records are written (fileformat2, 2.1; that it is the shortest one is own).
-ghost use Rattle.std.specs.Prelude.{◌≡◌, ◌⊎◌, ℕ, ◌+◌, ◌<◌, ◌≤◌, ◌↔◌, List, [], ◌++◌, length, take, map, All, IfErr, IfSome, IfNone, OnOk, OnErr, MatchOption};
+ghost use Rattle.std.specs.Prelude.{◌≡◌, ◌⊎◌, ℕ, ◌+◌, ◌<◌, ◌≤◌, ◌↔◌, List, [], ◌++◌, length, take, map, All, IfErr};
+ghost use Rattle.std.specs.Prelude.{IfSome, IfNone, OnOk, OnErr, MatchOption};
 ghost use Rattle.sqval.specs.Varint.{Spells};
 ghost use Rattle.sqval.specs.Datum.{datum_of, integer, row_of};
 ghost use Rattle.sqval.specs.Record.{Lead, Hold, IsRecord, most_bytes};
-ghost use Rattle.sqval.specs.Shortest.{IsShortestRecord, AreTooLong, IsTooLarge, shortest_serial, varint_size, types_size, bodies_size, IsSizeOfHeaderSize, IsWritable, IsShortestBody};
+ghost use Rattle.sqval.specs.Shortest.{IsShortestRecord, AreTooLong, IsTooLarge, shortest_serial, varint_size};
+ghost use Rattle.sqval.specs.Shortest.{types_size, bodies_size, IsSizeOfHeaderSize, IsWritable, IsShortestBody};
 ghost use Rattle.sqval.specs.declared.error.RecordError.{RecordError};
 
 use crate::error::RecordError;

@@ -1,4 +1,5 @@
-//! The values that a database file, its journal and its write-ahead log are made of (fileformat2, 1.2, 1.3, 1.6 and 2.1).
+//! The values that a database file, its journal and its write-ahead log are made of (fileformat2, 1.2, 1.3, 1.6 and
+//! 2.1).
 #![tactic(auto)]
 
 mod commit;

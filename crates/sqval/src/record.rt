@@ -1,5 +1,6 @@
 //! Records: the values of a row, or of an index entry, as they stand in a file (fileformat2, 2.1).
-ghost use Rattle.std.specs.Prelude.{◌≡◌, ℕ, ◌+◌, ◌<◌, ◌≤◌, ◌^◌, ◌-◌, ◌↔◌, List, [], length, drop, take, min, sum_by, IsOkAnd, IfOk, IfErr, MatchOption, IsTrue, option_map, slice_get};
+ghost use Rattle.std.specs.Prelude.{◌≡◌, ℕ, ◌+◌, ◌<◌, ◌≤◌, ◌^◌, ◌-◌, ◌↔◌, List, [], length, drop, take, min, sum_by};
+ghost use Rattle.std.specs.Prelude.{IsOkAnd, IfOk, IfErr, MatchOption, IsTrue, option_map, slice_get};
 ghost use Rattle.sqval.specs.Serial.{body_size, held};
 ghost use Rattle.sqval.specs.Record.{HasHeader, Lead, Fails};
 

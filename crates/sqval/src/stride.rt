@@ -1,8 +1,8 @@
 //! Parts of bytes that stand at equal distances, brought together (own).
 ghost use Rattle.std.specs.Prelude.{◌≡◌, ℕ, ◌+◌, ◌-◌, ◌*◌, ◌^◌, ◌<◌, ◌≤◌, length, slice_index};
 
-/// Copies `count` parts of `size` bytes to the front of the room, one behind the other. They stand behind room for one part
-/// fewer, each `gap` bytes behind the end of the one before it; so a single one stands there already.
+/// Copies `count` parts of `size` bytes to the front of the room, one behind the other. They stand behind room for one
+/// part fewer, each `gap` bytes behind the end of the one before it; so a single one stands there already.
 pub fn gather(room: &mut [u8], size: usize, gap: usize, count: usize)
     requires some { 1 ≤ count }
     requires room { (count - 1) * size + count * (size + gap) ≤ length room.old + gap }

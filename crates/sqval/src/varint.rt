@@ -1,5 +1,6 @@
 //! Varints: numbers of 64 bits in one to nine bytes, the highest bits first (fileformat2, 1.6).
-ghost use Rattle.std.specs.Prelude.{◌≡◌, ℕ, ◌+◌, ◌-◌, ◌^◌, ◌<◌, ◌≤◌, ◌↔◌, List, ◌++◌, length, take, drop, IsNone, EachIndex, slice_index, ◌*◌};
+ghost use Rattle.std.specs.Prelude.{◌≡◌, ℕ, ◌+◌, ◌-◌, ◌^◌, ◌<◌, ◌≤◌, ◌↔◌, List, ◌++◌, length, take, drop, IsNone};
+ghost use Rattle.std.specs.Prelude.{EachIndex, slice_index, ◌*◌};
 ghost use Rattle.sqval.specs.Varint.{number_of_sevens, Spells, Begins};
 ghost use Rattle.sqval.specs.Shortest.{varint_size};
 

@@ -13,3 +13,4 @@ pub mod FrameSteps
 pub mod ScanAnswers
 pub mod Feeding
 pub mod Settled
+pub mod Listing

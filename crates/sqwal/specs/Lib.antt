@@ -10,4 +10,5 @@ pub mod Chains
 pub mod Refusal
 pub mod Took
 pub mod Answers
+pub mod Commits
 pub mod ScanParts

@@ -1,6 +1,8 @@
-//! Write-ahead logs (fileformat2, 4): their sums, headers and frames, the scan of a log in any pieces, and its frames by page.
+//! Write-ahead logs (fileformat2, 4): their sums, headers and frames, the scan of a log in any pieces, and its frames
+//! by page.
 #![tactic(auto)]
 
+mod commits;
 mod error;
 mod frame;
 mod header;

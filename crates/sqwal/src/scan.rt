@@ -1,5 +1,6 @@
 //! The scan of a log (fileformat2, 4.1 and 4.5; pieces and stops are own).
-ghost use Rattle.std.specs.Prelude.{◌≡◌, ◌↔◌, IsTrue, ℕ, ◌+◌, ◌-◌, ◌<◌, ◌≤◌, List, [], ◌++◌, length, take, if◌then◌else◌, is_ok, OnErr, IfOk, IfErr, MatchResult};
+ghost use Rattle.std.specs.Prelude.{◌≡◌, ◌↔◌, IsTrue, ℕ, ◌+◌, ◌-◌, ◌<◌, ◌≤◌, List, [], ◌++◌, length, take};
+ghost use Rattle.std.specs.Prelude.{if◌then◌else◌, is_ok, OnErr, IfOk, IfErr, MatchResult};
 ghost use Rattle.sqval.specs.Bytes.{word};
 ghost use Rattle.sqval.specs.PageSize.{IsPageSize};
 ghost use Rattle.sqwal.specs.Header.{IsHeaderOf};
@@ -241,8 +242,9 @@ impl FrameList {
     fn take(&mut self, header: &WalHeader, frame: &[u8]) -> Result<(), WalFormatError>
         requires whole { length frame.now ≡ 24 + header.now.page_size }
         requires page_size { IsPageSize header.now.page_size }
-        ensures took { (b held first : List ℕ) → ListTook header.now b held self.old → frame.now ≡ held ++ first
-            → MatchResult result (λ _. ListTook header.now (b ++ first) [] self.new) (FramesRefused header.now.page_size (b ++ first)) }
+        ensures took { (b held first : List ℕ) → ListTook header.now b held self.old → frame.now ≡ held ++ first →
+            MatchResult result (λ _. ListTook header.now (b ++ first) [] self.new)
+            (FramesRefused header.now.page_size (b ++ first)) }
         ensures keeps { KeepsFrames self.old self.new }
     {
         if self.progress.refused.is_some() {
@@ -263,8 +265,9 @@ impl FrameList {
         header: &WalHeader,
         bytes: &'a [u8],
     ) -> Result<&'a [u8], WalFormatError>
-        ensures took { (b : List ℕ) → ListTook header.now b [] self.old
-            → MatchResult result (λ rest. ListTook header.now (b ++ bytes.now) rest.now self.new) (FramesRefused header.now.page_size (b ++ bytes.now)) }
+        ensures took { (b : List ℕ) → ListTook header.now b [] self.old → MatchResult result
+            (λ rest. ListTook header.now (b ++ bytes.now) rest.now self.new)
+            (FramesRefused header.now.page_size (b ++ bytes.now)) }
         ensures keeps { KeepsFrames self.old self.new }
     {
         let length = frame_length(header);
@@ -292,7 +295,8 @@ impl Scan {
     ghost use Rattle.sqwal.specs.Took.{Took, IsSettled};
     ghost use Rattle.sqwal.specs.Stops.{IsStop};
     ghost use Rattle.sqwal.specs.Answers.{FeedAnswer, HeaderFound, EntryFound, AreEntries, IsCommitted};
-    ghost use Rattle.sqwal.specs.ScanParts.{ListTook, ScanTook, HasTaken, KeepsHeld, KeepsFrames, IsFed, IsBegunScan, IsCompleted, FramesRefused};
+    ghost use Rattle.sqwal.specs.ScanParts.{ListTook, ScanTook, HasTaken, KeepsHeld, KeepsFrames, IsFed, IsBegunScan};
+    ghost use Rattle.sqwal.specs.ScanParts.{IsCompleted, FramesRefused};
 
     /// A scan of no bytes.
     pub fn new(alloc: Global) -> Scan
@@ -317,9 +321,10 @@ impl Scan {
         }
     }
 
-    /// Takes the next piece of the log. Refused by NotAWal, PageSize, HeaderSum or UnknownVersion, the first that holds,
-    /// once the header's 32 bytes are there; by TooLong once frame 2,097,153 is there and valid; or by NoMemory. After a
-    /// refusal the scan stands as before the piece. Bytes behind a frame that isn't valid are taken and not looked at.
+    /// Takes the next piece of the log. Refused by NotAWal, PageSize, HeaderSum or UnknownVersion, the first that
+    /// holds, once the header's 32 bytes are there; by TooLong once frame 2,097,153 is there and valid; or by NoMemory.
+    /// After a refusal the scan stands as before the piece. Bytes behind a frame that isn't valid are taken and not
+    /// looked at.
     pub fn feed(&mut self, piece: &[u8]) -> Result<(), WalFormatError>
         ensures { (b : List ℕ) → Took b self.old → FeedAnswer b piece.now result self.new }
     {
@@ -373,7 +378,8 @@ impl Scan {
         }
     }
 
-    /// Whether the log stops at a whole frame. The scan is then one of all bytes that may follow, too, and they needn't be fed.
+    /// Whether the log stops at a whole frame. The scan is then one of all bytes that may follow, too, and they needn't
+    /// be fed.
     pub fn is_over(&self) -> bool
         ensures { (b : List ℕ) → Took b self.now → (IsTrue result ↔ IsSettled b self.now) }
     {
@@ -428,7 +434,8 @@ impl Scan {
 
     /// Takes a piece behind the header.
     fn feed_frames(&mut self, header: &WalHeader, piece: &[u8]) -> Result<(), WalFormatError>
-        ensures { (b : List ℕ) → self.old.header ≡ Some header.now → ScanTook header.now b self.old → IsFed b piece.now result self.new }
+        ensures { (b : List ℕ) → self.old.header ≡ Some header.now → ScanTook header.now b self.old
+            → IsFed b piece.now result self.new }
     {
         if self.frames.progress.refused.is_some() {
             return Ok(());
@@ -493,9 +500,10 @@ impl Scan {
 
     /// Takes the frame that is held back with the bytes that complete it.
     fn finish(&mut self, header: &WalHeader, first: &[u8]) -> Result<(), WalFormatError>
-        ensures took { (b : List ℕ) → ScanTook header.now b self.old
-            → self.old.frames.progress.refused ≡ None → IsCompleted header.now self.old.held.items first.now
-            → MatchResult result (λ _. ListTook header.now (b ++ first.now) [] self.new.frames) (FramesRefused header.now.page_size (b ++ first.now)) }
+        ensures took { (b : List ℕ) → ScanTook header.now b self.old → self.old.frames.progress.refused ≡ None
+            → IsCompleted header.now self.old.held.items first.now → MatchResult result
+            (λ _. ListTook header.now (b ++ first.now) [] self.new.frames)
+            (FramesRefused header.now.page_size (b ++ first.now)) }
         ensures header { self.new.header ≡ self.old.header }
         ensures held { KeepsHeld self.old self.new }
         ensures entries { KeepsFrames self.old.frames self.new.frames }

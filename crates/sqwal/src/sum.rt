@@ -77,7 +77,8 @@ impl Sum {
 
     fn over<T: ByteOrder>(self, bytes: &[u8]) -> Sum
         requires { length bytes.now % 8 ≡ 0 }
-        ensures { (order : Order) → ((x : List ℕ) → number order (take 4 x) ≡ T.number_of 4 x) → GoesOn order bytes.now self result }
+        ensures { (order : Order) → ((x : List ℕ) → number order (take 4 x) ≡ T.number_of 4 x)
+            → GoesOn order bytes.now self result }
     {
         let mut sum = self;
         let (pairs, _) = bytes.as_chunks::<8>();

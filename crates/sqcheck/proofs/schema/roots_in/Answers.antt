@@ -6,7 +6,7 @@ use Rattle.sqpage.specs.Lists.{Every}
 use Rattle.sqpage.proofs.ListLemmas.{every_append}
 use Rattle.sqcheck.specs.Places.{InRow}
 use Rattle.sqcheck.specs.Stands.{Stands}
-use Rattle.sqcheck.specs.Schema.{IsRowsPage, Finds, InRowsOf, AllSchemaRows}
+use Rattle.sqcheck.specs.Schema.{IsRowsPage, KeepsFound, InRowsOf, AllSchemaRows}
 use Rattle.sqcheck.proofs.Results.{exits}
 use Rattle.sqcheck.proofs.Schemas.{page_more, not_before, every_index}
 use Rattle.sqcheck.proofs.schema.roots_in.Goals as goal
@@ -31,10 +31,10 @@ pages-preserved g c =
     record {
       finds = λ gives usable all apart.
           let w : IsRowsPage d n = every_index (IsRowsPage d) rows c.pages.number-index n c.pages-test.true refl all in
-          let says = subst (λ (q : Database). g.S.PageSource.gives_pages c.pages.source → c.args.usable ≡ usable_size q → IsRowsPage q n → Finds q (InRow q n) c.pages.roots.items c.page_roots.new.roots.items × AllSchemaRows q n) i.same_pages c.in_ok-page_roots.ensures.ok in
+          let says = subst (λ (q : Database). g.S.PageSource.gives_pages c.pages.source → c.args.usable ≡ usable_size q → IsRowsPage q n → KeepsFound q (InRow q n) c.pages.roots.items c.page_roots.new.roots.items × AllSchemaRows q n) i.same_pages c.in_ok-page_roots.ensures.ok in
           let h = says (i.still_gives gives) usable w in
           let f = i.finds gives usable all apart in
-          subst (λ l. Finds d (InRowsOf d l) [] c.page_roots.new.roots.items × Every (AllSchemaRows d) l) (sym more) (
+          subst (λ l. KeepsFound d (InRowsOf d l) [] c.page_roots.new.roots.items × Every (AllSchemaRows d) l) (sym more) (
             page_more d (take c.pages.number-index rows) n [] c.pages.roots.items c.page_roots.new.roots.items (not_before rows c.pages.number-index n c.pages-test.true refl apart) f.0 h.0,
             every_append (AllSchemaRows d) (take c.pages.number-index rows) (n ∷ []) f.1 (h.1, tt),
           );

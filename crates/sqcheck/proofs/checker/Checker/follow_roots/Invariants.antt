@@ -1,4 +1,4 @@
-use Rattle.std.proofs.Common.{◌≡◌, List, drop, length, true}
+use Rattle.std.proofs.Common.{◌≡◌, ◌++◌, List, drop, length, true}
 use Rattle.sqpage.specs.Freelist.{usable_size}
 use Rattle.sqcheck.specs.Places.{Spot}
 use Rattle.sqcheck.specs.Schema.{RootsMatch}
@@ -9,8 +9,8 @@ abbrev pub invariant-roots : goal.invariant-roots
 invariant-roots g l =
     let d = g.S.PageSource.pages l.fn.source in
     record {
-      walks : g.S.PageSource.gives_pages l.fn.source → l.fn.self.usable ≡ usable_size d → (visited spots : List Spot) → Visited d true visited spots l.fn.self → RootsMatch d l.roots spots
-          → (visited rest : List Spot) × Visited d true visited rest l.self × RootsMatch d (drop l.root-index l.roots) rest;
+      walks : g.S.PageSource.gives_pages l.fn.source → l.fn.self.usable ≡ usable_size d → (visited spots rest : List Spot) → Visited d true visited (spots ++ rest) l.fn.self → RootsMatch d l.roots spots
+          → (visited left : List Spot) × Visited d true visited (left ++ rest) l.self × RootsMatch d (drop l.root-index l.roots) left;
       fits : Fits (g.S.PageSource.size l.fn.source) (length d) l.self;
       usable : l.self.usable ≡ l.fn.self.usable;
       still_gives : g.S.PageSource.gives_pages l.fn.source → g.S.PageSource.gives_pages l.source;
