@@ -4,12 +4,11 @@ use Rattle.std.specs.Prelude.{Option, Some, None, Result, Ok, Err}
 use Rattle.sqval.specs.Bytes.{word}
 use Rattle.sqjournal.specs.Header.{Names}
 use Rattle.sqjournal.specs.Journal.{IsHot}
-use Rattle.sqjournal.specs.Took.{Took}
 use Rattle.sqjournal.specs.declared.header.JournalHeader.{JournalHeader}
 use Rattle.sqjournal.specs.declared.replay.Replay.{Replay}
 use Rattle.crashdisk.specs.Call.{DiskState}
 use Rattle.sqval.specs.CommitFaults.{most_bytes}
-use Rattle.rollcore.specs.Steps.{ScanRefused, ScanAnswer}
+use Rattle.rollcore.specs.Steps.{HasRead, ScanRefused, ScanAnswer}
 use Rattle.rollcore.specs.Plans.{JudgeAnswer, PlanAnswer, ReadAnswer}
 use Rattle.rollcore.specs.declared.plan.Plan.{Plan}
 use Rattle.rollcore.specs.declared.error.RollError.{RollError}
@@ -50,10 +49,10 @@ module _ (torn : ℕ) (w : List ℕ) where
   unfolding PlanAnswer
   plan_memory q is = subst (λ (x : Result (Option Plan) RollError). PlanAnswer torn w x) (sym is) tt
 
-  pub plan_some : (r : Result (Unit {0}) RollError) (done : Unit {0}) (plan : Plan) → r ≡ Ok done → JudgeAnswer torn w r → Took w plan.scan → Names w plan.header → PlanAnswer torn w (Ok (Some plan))
+  pub plan_some : (r : Result (Unit {0}) RollError) (done : Unit {0}) (plan : Plan) → r ≡ Ok done → JudgeAnswer torn w r → HasRead w plan.scan → Names w plan.header → PlanAnswer torn w (Ok (Some plan))
   unfolding JudgeAnswer PlanAnswer
-  plan_some r done plan was answer took names =
-      (subst (λ (x : Result (Unit {0}) RollError). JudgeAnswer torn w x) was answer, record { took = took; names = names })
+  plan_some r done plan was answer read names =
+      (subst (λ (x : Result (Unit {0}) RollError). JudgeAnswer torn w x) was answer, record { read = read; names = names })
 
   module _ (a b : DiskState) where
     pub read_planned : (r : Result (Option Plan) RollError) → PlanAnswer torn w r → ReadAnswer torn w r a b
@@ -72,9 +71,9 @@ module _ (torn : ℕ) (w : List ℕ) where
         by Device x = x
         by _ x = absurd x
 
-    pub scan_took : (r : Result (Option Replay) RollError) (s : Replay) → r ≡ Ok (Some s) → ScanAnswer w r a b → Took w s
+    pub scan_read : (r : Result (Option Replay) RollError) (s : Replay) → r ≡ Ok (Some s) → ScanAnswer w r a b → HasRead w s
     unfolding ScanAnswer
-    scan_took r s was answer = subst (λ (x : Result (Option Replay) RollError). ScanAnswer w x a b) was answer
+    scan_read r s was answer = subst (λ (x : Result (Option Replay) RollError). ScanAnswer w x a b) was answer
 
     pub scan_cold : (r : Result (Option Replay) RollError) → r ≡ Ok None → ScanAnswer w r a b → IsHot w → ⊥
     unfolding ScanAnswer

@@ -12,6 +12,7 @@ pub mod Zeroing
 pub mod Ending
 pub mod Agreeing
 pub mod Judging
+pub mod ReadFronts
 pub mod Recovering
 pub mod Unharmed
 pub mod Recording

@@ -26,6 +26,7 @@ use Rattle.rollcore.specs.declared.replaying.Replayed.{Replayed}
 use Rattle.rollcore.specs.declared.error.RollError.{RollError}
 use Rattle.rollcore.specs.declared.error.RollError.TheVariants.{TooLarge, NoMemory, Device, SectorAbovePage}
 use Rattle.rollcore.proofs.Journals.{hot_long, zeros_cold}
+use Rattle.rollcore.proofs.ReadFronts.{read_count}
 use Rattle.crashdisk.proofs.Stills.{refusal_after, present_in, had_refusal}
 use Rattle.crashdisk.proofs.Down.{down_by, down_syncs}
 use Rattle.rollcore.proofs.Scans.{had_refusal_any}
@@ -97,7 +98,7 @@ pub record Planned (w db : List ℕ) (count n : ℕ) : Type 0 where
 pub planned : (w db : List ℕ) (torn n : ℕ) (plan : Plan) → IsFit torn w → IsPlan w plan → n ≡ plan.header.page_size → Planned w db plan.header.first_size n
 planned w db torn n plan fit is e =
     let same : n ≡ word w 24 = e ∙ is.names.size in
-    let count = has_count w plan.scan (length plan.scan.records.items) is.took refl in
+    let count = read_count w plan.scan is.read (length plan.scan.records.items) (λ b took. has_count b plan.scan (length plan.scan.records.items) took refl) in
     let made = rolled_exists w db count.segments count.stop.at count.stop.why count.is fit.hot in
     record {
       pages = made.0;

@@ -1,7 +1,7 @@
 -- What a scan of the first bytes of a log says of the log, and the count of refused calls.
-use Rattle.std.proofs.Common.{◌≡◌, inl, inr, ⊎_elim, ℕ, ◌+◌, ◌-◌, ◌^◌, ◌<◌, ◌≤◌, min, List, ◌++◌, length, get_or, take, refl, sym, ◌∙◌, ap, subst, arith}
+use Rattle.std.proofs.Common.{◌≡◌, inl, inr, ⊎_elim, ℕ, ◌+◌, ◌-◌, ◌^◌, ◌<◌, ◌≤◌, min, List, ◌++◌, length, get_or, take, drop, refl, sym, ◌∙◌, ap, subst, arith}
 use Rattle.std.specs.Prelude.{Bool, true, false, Option, Some, None, Result, Ok, Err}
-use Rattle.std.proofs.lemmas.List.{length-take-le, take-take, take_all}
+use Rattle.std.proofs.lemmas.List.{length-take-le, take-take, take-append-drop, drop_all}
 use Rattle.std.proofs.lemmas.Bool.{cases_lt}
 use Rattle.sqval.specs.PageSize.{IsPageSize}
 use Rattle.sqval.specs.Bytes.{part, word}
@@ -10,16 +10,16 @@ use Rattle.sqjournal.specs.Journal.{IsHot}
 use Rattle.sqjournal.specs.declared.error.JournalError.{JournalError}
 use Rattle.sqjournal.specs.declared.error.JournalError.TheVariants.{NotAJournal, SectorSize, PageSize, NoMemory, TooLong}
 use Rattle.sqjournal.proofs.Parts.{word_part}
-use Rattle.crashdisk.specs.State.{FileState, byte}
+use Rattle.crashdisk.specs.State.{FileState, byte, longest}
 use Rattle.crashdisk.specs.Call.{DiskState, IsSoundDisk, Looks, ArePresent, EndsWithin, counted}
 use Rattle.crashdisk.specs.declared.error.DiskError.{DiskError}
 use Rattle.crashdisk.specs.declared.error.DiskError.TheVariants.{Stopped, Failed, TooLong as DiskTooLong, NoMemory as DiskNoMemory}
 use Rattle.rollcore.proofs.Stills.{scan_refused_after}
 use Rattle.crashdisk.specs.Keeps.{HadRefusal}
-use Rattle.rollcore.specs.Steps.{IsWithoutHeader, ScanRefused, PieceAnswer, ScanAnswer}
+use Rattle.rollcore.specs.Steps.{IsWithoutHeader, ScanRefused, PieceAnswer, PiecesAnswer, ScanAnswer}
 use Rattle.rollcore.specs.declared.error.RollError.{RollError}
 use Rattle.rollcore.specs.declared.error.RollError.TheVariants.{TooLarge, Device, NoMemory as WalNoMemory}
-use Rattle.sqjournal.specs.Took.{Took, Refuses}
+use Rattle.sqjournal.specs.Took.{Took, Refuses, IsSettled}
 use Rattle.sqjournal.specs.declared.replay.Replay.{Replay}
 use Rattle.crashdisk.proofs.Stills.{had_refusal}
 use Rattle.crashdisk.proofs.Down.{piece_read}
@@ -97,35 +97,45 @@ scan_refusal w end end2 result e s r old new sound are fits is looked device =
 -- ---- One piece after another.
 
 module _ (w : List ℕ) (s : Replay) (a b c : DiskState) (le : a.refused ≤ b.refused) where
-  pub piece_after : (end end2 : ℕ) (r : Result Bool RollError) (e : RollError) → r ≡ Err e → PieceAnswer w end r s b c → PieceAnswer w end2 (Err e) s a c
-  unfolding PieceAnswer
-  piece_after end end2 r e is answer = scan_refused_after w e a b c le (let got = subst (λ (x : Result Bool RollError). PieceAnswer w end x s b c) is answer in got)
+  pub piece_after : (end : ℕ) (r : Result Bool RollError) (e : RollError) → r ≡ Err e → PieceAnswer w end r s b c → PiecesAnswer w (Err e) s a c
+  unfolding PieceAnswer PiecesAnswer
+  piece_after end r e is answer = scan_refused_after w e a b c le (let got = subst (λ (x : Result Bool RollError). PieceAnswer w end x s b c) is answer in got)
 
-  pub piece_none : (end end2 : ℕ) (r : Result Bool RollError) (go : Bool) → r ≡ Ok go → go ≡ false → PieceAnswer w end r s b c → PieceAnswer w end2 (Ok false) s a c
-  unfolding PieceAnswer
-  piece_none end end2 r go is off answer = let got = subst (λ (x : Result Bool RollError). PieceAnswer w end x s b c) (is ∙ ap Ok off) answer in got
+  pub piece_none : (end : ℕ) (r : Result Bool RollError) (go : Bool) → r ≡ Ok go → go ≡ false → PieceAnswer w end r s b c → PiecesAnswer w (Ok false) s a c
+  unfolding PieceAnswer PiecesAnswer
+  piece_none end r go is off answer = let got = subst (λ (x : Result Bool RollError). PieceAnswer w end x s b c) (is ∙ ap Ok off) answer in got
 
 pub piece_some : (w : List ℕ) (s : Replay) (a b : DiskState) (end : ℕ) (r : Result Bool RollError) (go : Bool) → r ≡ Ok go → go ≡ true → PieceAnswer w end r s a b → Took (take end w) s
 unfolding PieceAnswer
 piece_some w s a b end r go is on answer = let got = subst (λ (x : Result Bool RollError). PieceAnswer w end x s a b) (is ∙ ap Ok on) answer in got
 
-pub piece_done : (w : List ℕ) (s : Replay) (a b : DiskState) (end : ℕ) → Took (take end w) s → PieceAnswer w end (Ok true) s a b
-unfolding PieceAnswer
-piece_done w s a b end took = took
+-- the journal was read up to its end, or up to where it ends
+module _ (w : List ℕ) (s : Replay) (a b : DiskState) (end : ℕ) (took : Took (take end w) s) where
+  pub pieces_done : length w ≡ end → PiecesAnswer w (Ok true) s a b
+  unfolding PiecesAnswer
+  pieces_done long = record { front = take end w; more = drop end w; split = sym (take-append-drop end w); took = took; rest = inl (drop_all end w (omega arith)) }
 
-module _ (w : List ℕ) (s : Replay) (a b : DiskState) (n : ℕ) (long : length w ≡ n) where
-  pub scan_some : (r : Result Bool RollError) (go : Bool) → r ≡ Ok go → go ≡ true → PieceAnswer w n r s a b → ScanAnswer w (Ok (Some s)) a b
-  unfolding ScanAnswer
-  scan_some r go is on answer = subst (λ (x : List ℕ). Took x s) (take_all n w (omega arith)) (piece_some w s a b n r go is on answer)
+  pub pieces_over : IsSettled (take end w) → PiecesAnswer w (Ok true) s a b
+  unfolding PiecesAnswer
+  pieces_over settled = record { front = take end w; more = drop end w; split = sym (take-append-drop end w); took = took; rest = inr settled }
 
-  pub scan_none : (r : Result Bool RollError) (go : Bool) → r ≡ Ok go → go ≡ false → PieceAnswer w n r s a b → ScanAnswer w (Ok None) a b
-  unfolding PieceAnswer ScanAnswer
-  scan_none r go is off answer = let got = subst (λ (x : Result Bool RollError). PieceAnswer w n x s a b) (is ∙ ap Ok off) answer in got
+module _ (w : List ℕ) (s : Replay) (a b : DiskState) where
+  pub scan_some : (r : Result Bool RollError) (go : Bool) → r ≡ Ok go → go ≡ true → PiecesAnswer w r s a b → ScanAnswer w (Ok (Some s)) a b
+  unfolding PiecesAnswer ScanAnswer
+  scan_some r go is on answer = let got = subst (λ (x : Result Bool RollError). PiecesAnswer w x s a b) (is ∙ ap Ok on) answer in got
 
-  pub scan_after : (r : Result Bool RollError) (e : RollError) (q : Result (Option Replay) RollError) → r ≡ Err e → q ≡ Err e → PieceAnswer w n r s a b → ScanAnswer w q a b
-  unfolding PieceAnswer ScanAnswer
-  scan_after r e q is same answer = subst (λ (x : Result (Option Replay) RollError). ScanAnswer w x a b) (sym same) (let got = subst (λ (x : Result Bool RollError). PieceAnswer w n x s a b) is answer in got)
+  pub scan_none : (r : Result Bool RollError) (go : Bool) → r ≡ Ok go → go ≡ false → PiecesAnswer w r s a b → ScanAnswer w (Ok None) a b
+  unfolding PiecesAnswer ScanAnswer
+  scan_none r go is off answer = let got = subst (λ (x : Result Bool RollError). PiecesAnswer w x s a b) (is ∙ ap Ok off) answer in got
+
+  pub scan_after : (r : Result Bool RollError) (e : RollError) (q : Result (Option Replay) RollError) → r ≡ Err e → q ≡ Err e → PiecesAnswer w r s a b → ScanAnswer w q a b
+  unfolding PiecesAnswer ScanAnswer
+  scan_after r e q is same answer = subst (λ (x : Result (Option Replay) RollError). ScanAnswer w x a b) (sym same) (let got = subst (λ (x : Result Bool RollError). PiecesAnswer w x s a b) is answer in got)
 
 pub scan_memory : (w : List ℕ) (a b : DiskState) (q : Result (Option Replay) RollError) → q ≡ Err WalNoMemory → ScanAnswer w q a b
 unfolding ScanAnswer ScanRefused
 scan_memory w a b q is = subst (λ (x : Result (Option Replay) RollError). ScanAnswer w x a b) (sym is) tt
+
+pub scan_long : (w : List ℕ) (a b : DiskState) (n : ℕ) → length w ≡ n → longest < n → ScanAnswer w (Err TooLarge) a b
+unfolding ScanAnswer ScanRefused
+scan_long w a b n long more = omega arith

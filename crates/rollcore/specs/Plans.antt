@@ -3,10 +3,10 @@ use Rattle.std.specs.Prelude.{◌≡◌, ◌⊎◌, ℕ, ◌*◌, ◌^◌, ◌<�
 use Rattle.sqval.specs.Bytes.{word}
 use Rattle.sqjournal.specs.Header.{Names}
 use Rattle.sqjournal.specs.Journal.{IsHot}
-use Rattle.sqjournal.specs.Took.{Took}
 use Rattle.crashdisk.specs.Call.{DiskState}
 use Rattle.sqval.specs.CommitFaults.{most_bytes}
 use Rattle.rollcore.specs.Replaying.{IsTooLarge}
+use Rattle.rollcore.specs.Steps.{HasRead}
 use Rattle.crashdisk.specs.Keeps.{HadRefusal}
 use Rattle.rollcore.specs.declared.plan.Plan.{Plan}
 use Rattle.rollcore.specs.declared.error.RollError.{RollError}
@@ -25,7 +25,7 @@ pub record IsFit (torn : ℕ) (w : List ℕ) : Type 0 where
 
 -- all that is needed to replay it
 pub record IsPlan (w : List ℕ) (plan : Plan) : Type 0 where
-  pub took : Took w plan.scan
+  pub read : HasRead w plan.scan
   pub names : Names w plan.header
 
 -- room for a page and no more than for a few, and a database within the limit

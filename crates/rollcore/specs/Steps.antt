@@ -1,9 +1,9 @@
 -- What the parts of a replay do to a disk (fileformat2, 3).
-use Rattle.std.specs.Prelude.{◌≡◌, ◌⊎◌, ℕ, ◌+◌, ◌-◌, ◌*◌, ◌<◌, ◌≤◌, Bool, true, false, cond, List, length, get_or, take, replicate, Result, Ok, Err, IsErr, Option, MatchOption, Some, None}
+use Rattle.std.specs.Prelude.{◌≡◌, ◌⊎◌, ℕ, ◌+◌, ◌-◌, ◌*◌, ◌<◌, ◌≤◌, Bool, true, false, cond, List, [], ◌++◌, length, get_or, take, replicate, Result, Ok, Err, IsErr, Option, MatchOption, Some, None}
 use Rattle.sqval.specs.Bytes.{part}
 use Rattle.sqval.specs.Database.{Database, page}
 use Rattle.sqjournal.specs.Journal.{IsHot}
-use Rattle.sqjournal.specs.Took.{Took, HasEntry}
+use Rattle.sqjournal.specs.Took.{Took, IsSettled as IsSettledFront, HasEntry}
 use Rattle.sqjournal.specs.declared.reading.Record.{Record}
 use Rattle.sqjournal.specs.declared.replay.Replay.{Replay}
 use Rattle.sqjournal.specs.declared.error.JournalError.{JournalError}
@@ -43,9 +43,23 @@ PieceAnswer w end (Ok true) s old new = Took (take end w) s
 PieceAnswer w end (Ok false) s old new = IsHot w → ⊥
 PieceAnswer w end (Err e) s old new = ScanRefused w e old new
 
+-- the scan has taken the journal, or a front of it behind which no bytes change what it says
+pub record HasRead (w : List ℕ) (s : Replay) : Type 0 where
+  pub front : List ℕ
+  pub more : List ℕ
+  pub split : w ≡ front ++ more
+  pub took : Took front s
+  pub rest : (more ≡ []) ⊎ IsSettledFront front
+
+-- the scan has read the journal, or it has no first header
+unfoldable pub PiecesAnswer : List ℕ → Result Bool RollError → Replay → (old new : DiskState) → Type 0
+PiecesAnswer w (Ok true) s old new = HasRead w s
+PiecesAnswer w (Ok false) s old new = IsHot w → ⊥
+PiecesAnswer w (Err e) s old new = ScanRefused w e old new
+
 -- what the scan of the whole journal answers: none where its first header is refused
 unfoldable pub ScanAnswer : List ℕ → Result (Option Replay) RollError → (old new : DiskState) → Type 0
-ScanAnswer w (Ok (Some s)) old new = Took w s
+ScanAnswer w (Ok (Some s)) old new = HasRead w s
 ScanAnswer w (Ok None) old new = IsHot w → ⊥
 ScanAnswer w (Err e) old new = ScanRefused w e old new
 

@@ -72,7 +72,8 @@ pub fn list_changes(
     size: u32,
     changes: &mut Vec<Change>,
 ) -> Result<(), RollError>
-    ensures changes { OnOk result ((page_size : ℕ) → first_true (page_faults old_size page_size (lent pages.now) size) ≡ None → AreChanges (lent pages.now) old_size size changes.new.items) }
+    ensures changes { OnOk result ((page_size : ℕ) → first_true (page_faults old_size page_size (lent pages.now)
+        size) ≡ None → AreChanges (lent pages.now) old_size size changes.new.items) }
     ensures memory { OnErr result (result ≡ Err NoMemory) }
 {
     list_written(pages, old_size, changes)?;

@@ -1,10 +1,10 @@
 //! The pages of a journal's records are copied into the database, and the journal's header is zeroed.
-ghost use Rattle.std.specs.Prelude.{◌≡◌, ◌↔◌, ◌+◌, ◌-◌, ◌*◌, ◌^◌, ◌<◌, ◌≤◌, ℕ, List, length, Some, true, IsTrue, IfOk, IfErr};
+ghost use Rattle.std.specs.Prelude.{◌≡◌, ◌↔◌, ◌+◌, ◌-◌, ◌*◌, ◌^◌, ◌<◌, ◌≤◌, ℕ, List, length, Some, true, IsTrue, IfOk};
+ghost use Rattle.std.specs.Prelude.{IfErr};
 ghost use Rattle.sqval.specs.Bytes.{word};
 ghost use Rattle.sqval.specs.Database.{Database};
 ghost use Rattle.sqval.specs.Held.{IsHeld};
 ghost use Rattle.sqjournal.specs.Restored.{IsRolledBack};
-ghost use Rattle.sqjournal.specs.Took.{Took};
 ghost use Rattle.sqjournal.specs.Journal.{IsHot};
 ghost use Rattle.crashdisk.specs.Call.{DiskState, IsSoundDisk, ArePresent};
 ghost use Rattle.crashdisk.specs.declared.file.File.TheVariants.{Db, Log};
@@ -12,7 +12,7 @@ ghost use Rattle.sqval.specs.CommitFaults.{most_bytes};
 ghost use Rattle.crashdisk.specs.During.{During, OnSound};
 ghost use Rattle.sqjournal.specs.Took.{HasEntry};
 ghost use Rattle.rollcore.specs.Copying.{CopiesRun, CopiesRecords};
-ghost use Rattle.rollcore.specs.Steps.{ArePages, ZeroSteps, EndAnswer};
+ghost use Rattle.rollcore.specs.Steps.{HasRead, ArePages, ZeroSteps, EndAnswer};
 ghost use Rattle.crashdisk.specs.Keeps.{Still, KeepsLog, SyncStep, IsLogDown};
 ghost use Rattle.rollcore.specs.Changes.{MayReplay, Asks};
 ghost use Rattle.rollcore.specs.Phases.{Writing};
@@ -30,8 +30,8 @@ use sqval::gather;
 /// How many bytes a record has round its page: the page's number before it, and its sum behind it.
 const ROUND: usize = 8;
 
-/// How many pages are copied at once in a room of so many bytes: they are read with what stands between them, behind room for
-/// one page fewer, and then brought together.
+/// How many pages are copied at once in a room of so many bytes: they are read with what stands between them, behind
+/// room for one page fewer, and then brought together.
 fn fitting(room: usize, size: usize) -> usize
     requires some { 1 ≤ size }
     requires least { size ≤ room }
@@ -52,13 +52,14 @@ fn follows(next: Record, first: Record, run: usize, size: usize) -> bool
     u64::from(next.page) == page && u128::from(next.at) == at
 }
 
-/// How many records from this one on, at most so many, are of one page behind the other, and stand one behind the other.
+/// How many records from this one on, at most so many, are of one page behind the other, and stand one behind the
+/// other.
 fn run_from(scan: &Replay, number: usize, first: Record, size: usize, most: usize) -> usize
     requires number { (1 ≤ number) × (number - 1 + most < 2 ^ 64) }
     requires most { (1 ≤ most) × (most ≤ 2 ^ 25) × (size ≤ 65536) }
     ensures count { (1 ≤ result) × (result ≤ most) }
-    ensures each { (w : List ℕ) → Took w scan.now → HasEntry w number (Some first)
-        → (j : ℕ) → j < result → HasEntry w (number + j) (Some (record { page = first.page + j; at = first.at + j * (size + ROUND) })) }
+    ensures each { (w : List ℕ) → HasRead w scan.now → HasEntry w number (Some first) → (j : ℕ) → j < result
+        → HasEntry w (number + j) (Some (record { page = first.page + j; at = first.at + j * (size + ROUND) })) }
 {
     let mut run = 1;
     while run < most {
@@ -73,8 +74,8 @@ fn run_from(scan: &Replay, number: usize, first: Record, size: usize, most: usiz
     run
 }
 
-/// Copies the page of the record of this number, and of some behind it, at most so many, where it is one of the database of so
-/// many pages. How many records.
+/// Copies the page of the record of this number, and of some behind it, at most so many, where it is one of the
+/// database of so many pages. How many records.
 fn copy_run<D: Disk>(
     disk: &mut D,
     scan: &Replay,
@@ -135,7 +136,8 @@ pub fn copy_records<D: Disk>(
 fn settle_database<D: Disk>(disk: &mut D) -> Result<(), RollError>
     ensures word { D.keeps_word disk.old ↔ D.keeps_word disk.new }
     ensures device { IfErr result (λ e. e ≡ RollError.Device) }
-    ensures state { D.keeps_word disk.old → SyncStep RollError.Device File.Db result (D.state disk.old) (D.state disk.new) }
+    ensures state { D.keeps_word disk.old
+        → SyncStep RollError.Device File.Db result (D.state disk.old) (D.state disk.new) }
 {
     disk.sync(File::Db)?;
     Ok(())
@@ -156,15 +158,21 @@ fn zero_header<D: Disk>(disk: &mut D) -> Result<(), RollError>
 pub fn finish<D: Disk>(disk: &mut D) -> Result<(), RollError>
     ensures word { D.keeps_word disk.old ↔ D.keeps_word disk.new }
     ensures device { IfErr result (λ e. e ≡ RollError.Device) }
-    ensures ends { D.keeps_word disk.old → IsSoundDisk (D.state disk.old) → EndAnswer result (D.state disk.old) (D.state disk.new) }
-    ensures shows { D.keeps_word disk.old → (size : ℕ) (w : List ℕ) (d : Database) → Writing size w d (D.state disk.old) → ArePages size d (D.state disk.old).db
+    ensures ends { D.keeps_word disk.old → IsSoundDisk (D.state disk.old)
+        → EndAnswer result (D.state disk.old) (D.state disk.new) }
+    ensures shows { D.keeps_word disk.old → (size : ℕ) (w : List ℕ) (d : Database)
+        → Writing size w d (D.state disk.old) → ArePages size d (D.state disk.old).db
         → ShowsAlone size d (D.state disk.new) }
-    ensures asks { D.keeps_word disk.old → (size : ℕ) → Asks (MayReplay size) result (D.state disk.old) (D.state disk.new) }
+    ensures asks { D.keeps_word disk.old → (size : ℕ)
+        → Asks (MayReplay size) result (D.state disk.old) (D.state disk.new) }
     ensures lengths { D.keeps_word disk.old → IsSoundDisk (D.state disk.old) → IsSectorSize (D.state disk.old).sector
-        → (w : List ℕ) → IsLogDown (D.state disk.old) w → IsHot w → ((D.state disk.old).tears ≡ true → (D.state disk.old).sector ≤ word w 20)
+        → (w : List ℕ) → IsLogDown (D.state disk.old) w → IsHot w
+        → ((D.state disk.old).tears ≡ true → (D.state disk.old).sector ≤ word w 20)
         → EndsBy (D.state disk.old).db.len (D.state disk.new) }
-    ensures commit { D.keeps_word disk.old → (size sector : ℕ) (d e : Database) (named : List ℕ) (place : ℕ) (w : List ℕ)
-        → Journaled size sector d named place w (D.state disk.old) → 0 < place → ArePages size e (D.state disk.old).db → IsHeld size e
+    ensures commit { D.keeps_word disk.old
+        → (size sector : ℕ) (d e : Database) (named : List ℕ) (place : ℕ) (w : List ℕ)
+        → Journaled size sector d named place w (D.state disk.old) → 0 < place
+        → ArePages size e (D.state disk.old).db → IsHeld size e
         → PutAnswer size d e result (D.state disk.old) (D.state disk.new) }
 {
     settle_database(disk)?;

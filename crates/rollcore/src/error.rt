@@ -39,8 +39,8 @@ pub enum RollError {
     /// The database is or would be above 1,073,741,824 bytes, or the journal is above 1,099,511,627,776.
     #[error("too large")]
     TooLarge,
-    /// A hot journal names another page size or a database of no pages; or where none is hot, the database file is empty
-    /// or has no whole number of pages.
+    /// A hot journal names another page size or a database of no pages; or where none is hot, the database file is
+    /// empty or has no whole number of pages.
     #[error("another page size")]
     PageSize,
     /// No memory.

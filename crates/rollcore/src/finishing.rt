@@ -19,7 +19,8 @@ use crate::segments::put_new_pages;
 use crashdisk::{Disk, File};
 use sqval::PageSize;
 
-/// Writes the pages that the database doesn't have yet, sets its length, and makes it stay; then ends the journal (own).
+/// Writes the pages that the database doesn't have yet, sets its length, and makes it stay; then ends the journal
+/// (own).
 pub fn end_commit<D: Disk>(
     disk: &mut D,
     pages: &[(u32, &[u8])],
@@ -32,15 +33,19 @@ pub fn end_commit<D: Disk>(
     ensures device { IfErr result (λ e. e ≡ RollError.Device) }
     ensures asks { D.keeps_word disk.old → ArePlaced page_size pages.now → size * page_size ≤ most_bytes
         → Asks (MayReplay page_size) result (D.state disk.old) (D.state disk.new) }
-    ensures ends { D.keeps_word disk.old → (sector nonces : ℕ) (d : Database) (changes : List Change) (place : ℕ) (w : List ℕ)
+    ensures ends { D.keeps_word disk.old
+        → (sector nonces : ℕ) (d : Database) (changes : List Change) (place : ℕ) (w : List ℕ)
         → Journaled page_size sector d (pages_of changes) place w (D.state disk.old) → 0 < place
         → ArePut page_size (apply d (lent pages.now) size) (pages_of changes) (D.state disk.old).db
-        → old_size ≡ length d → AreChanges (lent pages.now) old_size size changes → refusal_of old_size page_size (lent pages.now) size nonces ≡ None
+        → old_size ≡ length d → AreChanges (lent pages.now) old_size size changes
+        → refusal_of old_size page_size (lent pages.now) size nonces ≡ None
         → PutAnswer page_size d (apply d (lent pages.now) size) result (D.state disk.old) (D.state disk.new) }
-    ensures log { D.keeps_word disk.old → (sector nonces : ℕ) (d : Database) (changes : List Change) (place : ℕ) (w : List ℕ)
+    ensures log { D.keeps_word disk.old
+        → (sector nonces : ℕ) (d : Database) (changes : List Change) (place : ℕ) (w : List ℕ)
         → Journaled page_size sector d (pages_of changes) place w (D.state disk.old) → 0 < place
         → ArePut page_size (apply d (lent pages.now) size) (pages_of changes) (D.state disk.old).db
-        → old_size ≡ length d → AreChanges (lent pages.now) old_size size changes → refusal_of old_size page_size (lent pages.now) size nonces ≡ None
+        → old_size ≡ length d → AreChanges (lent pages.now) old_size size changes
+        → refusal_of old_size page_size (lent pages.now) size nonces ≡ None
         → OnOk result (IsLogDown (D.state disk.new) (zeroed w)) }
 {
     put_new_pages(disk, pages, old_size)?;

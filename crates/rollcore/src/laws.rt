@@ -18,21 +18,23 @@ ghost use Rattle.sqval.specs.Runs.{Moment, Runs};
 ghost use Rattle.rollcore.specs.Machine.{State, Act, Reads, Step, at, last, start, closed};
 ghost use Rattle.rollcore.specs.declared.state.Core.{Core};
 
-/// A disk with a base of pages that no sector that tears exceeds, and with an empty log, fits where the machine begins: one
-/// that is new, and one on which both files are down, whatever calls of it there were (own).
+/// A disk with a base of pages that no sector that tears exceeds, and with an empty log, fits where the machine begins:
+/// one that is new, and one on which both files are down, whatever calls of it there were (own).
 pub fn a_base_fits()
-    ensures new { (size sector : ℕ) (torn : Bool) (base : Database) (bytes : List ℕ) (s : DiskState) → IsPageSize size → IsSectorSize sector
-        → (torn ≡ true → sector ≤ size) → IsHeld size base → IsJust size base bytes → IsNew sector torn bytes s → FitsDisk (start size base) s }
-    ensures down { (size : ℕ) (base : Database) (bytes : List ℕ) (s : DiskState) → Suits size s → IsHeld size base → IsJust size base bytes
-        → IsSettled s.db bytes → IsLogDown s [] → FitsDisk (start size base) s }
+    ensures new { (size sector : ℕ) (torn : Bool) (base : Database) (bytes : List ℕ) (s : DiskState)
+        → IsPageSize size → IsSectorSize sector → (torn ≡ true → sector ≤ size) → IsHeld size base
+        → IsJust size base bytes → IsNew sector torn bytes s → FitsDisk (start size base) s }
+    ensures down { (size : ℕ) (base : Database) (bytes : List ℕ) (s : DiskState) → Suits size s → IsHeld size base
+        → IsJust size base bytes → IsSettled s.db bytes → IsLogDown s [] → FitsDisk (start size base) s }
 {}
 
-/// Two files that are down fit where the machine begins with the database that they show together: a hot journal that is
-/// rolled back, or one that isn't hot beside a file of whole pages. On a disk that tears a hot one names no smaller pages and
-/// no smaller sectors (own).
+/// Two files that are down fit where the machine begins with the database that they show together: a hot journal that
+/// is rolled back, or one that isn't hot beside a file of whole pages. On a disk that tears a hot one names no smaller
+/// pages and no smaller sectors (own).
 pub fn settled_files_fit()
-    ensures { (size : ℕ) (base : Database) (files : Files) (s : DiskState) → Suits size s → IsHeld size base → IsSettled s.db files.db
-        → IsLogDown s files.log → (TearsJournal s files.log → ⊥) → ShowsWhole size files.db files.log base → FitsDisk (start size base) s }
+    ensures { (size : ℕ) (base : Database) (files : Files) (s : DiskState) → Suits size s → IsHeld size base
+        → IsSettled s.db files.db → IsLogDown s files.log → (TearsJournal s files.log → ⊥)
+        → ShowsWhole size files.db files.log base → FitsDisk (start size base) s }
 {}
 
 /// In every run the floor is a place of the history (own).
@@ -48,47 +50,49 @@ pub fn what_is_down_stays()
         → Runs Step (start page_size base) 0 before old count → Runs Step old count later new after → Keeps old new }
 {}
 
-/// What fits an engine, or a disk that none holds, fits it after calls that changed no byte of the disk, and whatever was set
-/// of it, as a borrower of it may do (own).
+/// What fits an engine, or a disk that none holds, fits it after calls that changed no byte of the disk, and whatever
+/// was set of it, as a borrower of it may do (own).
 pub fn a_look_fits()
-    ensures core { (past : State) (core : Core) (old new : DiskState) → SameFiles old new → FitsCore past core old → FitsCore past core new }
+    ensures core { (past : State) (core : Core) (old new : DiskState) → SameFiles old new → FitsCore past core old
+        → FitsCore past core new }
     ensures alone { (past : State) (old new : DiskState) → SameFiles old new → FitsDisk past old → FitsDisk past new }
 {}
 
-/// What fits a disk fits it after a crash, as the machine is then: on a disk that tears, after one that puts no header of the
-/// journal together (own).
+/// What fits a disk fits it after a crash, as the machine is then: on a disk that tears, after one that puts no header
+/// of the journal together (own).
 pub fn a_crash_fits()
     ensures { (past : State) (db log : List ℕ) (old new : DiskState) → IsCrash db log old new
         → (old.tears ≡ true → AreWhole old.kept old.handed log) → FitsDisk past old → FitsDisk (closed past) new }
 {}
 
-/// What fits a disk shows, once the journal is synced, one database of the history alone, at the floor or later, and the
-/// newest where the machine is open: so what is said of interrupted recovery holds of each opening of a run.
+/// What fits a disk shows, once the journal is synced, one database of the history alone, at the floor or later, and
+/// the newest where the machine is open: so what is said of interrupted recovery holds of each opening of a run.
 pub fn one_is_shown()
     ensures { (past : State) (old mid : DiskState) → FitsDisk past old → Syncs {T = Unit {0}} Log (Ok tt) old mid
         → (k : ℕ) × (past.floor ≤ k) × (k < length past.history) × (IsTrue past.is_open → k ≡ last past)
         × ShowsAlone past.page_size (at past k) mid }
 {}
 
-/// What a disk shows alone stays shown: after a sync of either file, also one that is refused or fails; after a look; after
-/// calls that changed no byte, and whatever was set; and after a crash, on a disk that tears one that puts no header of the
-/// journal together.
+/// What a disk shows alone stays shown: after a sync of either file, also one that is refused or fails; after a look;
+/// after calls that changed no byte, and whatever was set; and after a crash, on a disk that tears one that puts no
+/// header of the journal together.
 pub fn what_is_shown_stays()
-    ensures sync { (size : ℕ) (d : Database) (f : File) (called : Result (Unit {0}) DiskError) (old new : DiskState) → IsSoundDisk old
-        → ShowsAlone size d old → Syncs f called old new → ShowsAlone size d new }
+    ensures sync { (size : ℕ) (d : Database) (f : File) (called : Result (Unit {0}) DiskError) (old new : DiskState)
+        → IsSoundDisk old → ShowsAlone size d old → Syncs f called old new → ShowsAlone size d new }
     ensures length { (size : ℕ) (d : Database) (called : Result ℕ DiskError) (old new : DiskState) → IsSoundDisk old
         → ShowsAlone size d old → Looks 0 called old new → ShowsAlone size d new }
-    ensures read { (size : ℕ) (d : Database) (end : ℕ) (called : Result (Unit {0}) DiskError) (old new : DiskState) → IsSoundDisk old
-        → ShowsAlone size d old → Looks end called old new → ShowsAlone size d new }
-    ensures same { (size : ℕ) (d : Database) (old new : DiskState) → IsSoundDisk old → ShowsAlone size d old → SameFiles old new
-        → ShowsAlone size d new }
+    ensures read { (size : ℕ) (d : Database) (end : ℕ) (called : Result (Unit {0}) DiskError) (old new : DiskState)
+        → IsSoundDisk old → ShowsAlone size d old → Looks end called old new → ShowsAlone size d new }
+    ensures same { (size : ℕ) (d : Database) (old new : DiskState) → IsSoundDisk old → ShowsAlone size d old
+        → SameFiles old new → ShowsAlone size d new }
     ensures crash { (size : ℕ) (d : Database) (db log : List ℕ) (old new : DiskState) → IsSoundDisk old
-        → ShowsAlone size d old → IsCrash db log old new → (old.tears ≡ true → AreWhole old.kept old.handed log) → ShowsAlone size d new }
+        → ShowsAlone size d old → IsCrash db log old new → (old.tears ≡ true → AreWhole old.kept old.handed log)
+        → ShowsAlone size d new }
 {}
 
-/// The machine chooses nothing but the database that an opening shows. It answers what is expected; in place of an answer
-/// that is no refusal, want of memory (an opening and a commit alone), or a refused call of the disk that has a cause
-/// (each call of the engine). A read changes nothing (own).
+/// The machine chooses nothing but the database that an opening shows. It answers what is expected; in place of an
+/// answer that is no refusal, want of memory (an opening and a commit alone), or a refused call of the disk that has a
+/// cause (each call of the engine). A read changes nothing (own).
 pub fn one_step()
     ensures next { (old : State) (act : Act) (answer : Answer) (b a c d : ℕ) (new other : State)
         → is_opening act ≡ false → Step old act answer b a new → Step old act answer c d other → new ≡ other }

@@ -13,7 +13,8 @@ ghost use Rattle.rollcore.specs.Plans.{IsPlan};
 ghost use Rattle.rollcore.specs.Replaying.{Agrees};
 ghost use Rattle.rollcore.specs.Steps.{torn_sector};
 ghost use Rattle.rollcore.specs.Lengths.{ShowsOne};
-ghost use Rattle.rollcore.specs.Opening.{CountAnswer, SizeJudged, BreakSteps, FrontAnswer, RecoverAnswer, RecoveredAt, IsNewCore, FilesAnswer, OpenRefused, OpensFiles, AgreesSynced, RefusedSynced};
+ghost use Rattle.rollcore.specs.Opening.{CountAnswer, SizeJudged, BreakSteps, FrontAnswer, RecoverAnswer, RecoveredAt};
+ghost use Rattle.rollcore.specs.Opening.{IsNewCore, FilesAnswer, OpenRefused, OpensFiles, AgreesSynced, RefusedSynced};
 ghost use Rattle.rollcore.specs.Fits.{FitsDisk, AreFiles, OpenedTo, GivenUpTo, Opened, GivenUp};
 
 use crate::error::RollError;
@@ -31,7 +32,8 @@ use std::alloc::Global;
 /// number, or 0.
 fn count_pages<D: Disk>(disk: &mut D, page_size: PageSize) -> Result<u32, RollError>
     ensures word { D.keeps_word disk.old ↔ D.keeps_word disk.new }
-    ensures still { D.keeps_word disk.old → IsSoundDisk (D.state disk.old) → Still (D.state disk.old) (D.state disk.new) }
+    ensures still { D.keeps_word disk.old → IsSoundDisk (D.state disk.old)
+        → Still (D.state disk.old) (D.state disk.new) }
     ensures count { D.keeps_word disk.old → IsSoundDisk (D.state disk.old)
         → CountAnswer page_size (D.state disk.old).db.len result (D.state disk.old) (D.state disk.new) }
     ensures few { IfOk result (λ n. n * page_size ≤ 1073741824) }
@@ -64,7 +66,8 @@ pub(crate) fn break_magic<D: Disk>(disk: &mut D, at: u64) -> Result<bool, RollEr
     requires { at + 8 ≤ 1099511627776 }
     ensures word { D.keeps_word disk.old ↔ D.keeps_word disk.new }
     ensures device { IfErr result (λ e. e ≡ RollError.Device) }
-    ensures steps { D.keeps_word disk.old → IsSoundDisk (D.state disk.old) → BreakSteps at result (D.state disk.old) (D.state disk.new) }
+    ensures steps { D.keeps_word disk.old → IsSoundDisk (D.state disk.old)
+        → BreakSteps at result (D.state disk.old) (D.state disk.new) }
     ensures told { D.keeps_word disk.old → TellsRefusal RollError.Device result (D.state disk.old) (D.state disk.new) }
 {
     let mut front = [0; 8];
@@ -80,7 +83,8 @@ pub(crate) fn break_magic<D: Disk>(disk: &mut D, at: u64) -> Result<bool, RollEr
 pub(crate) fn settle_log<D: Disk>(disk: &mut D) -> Result<(), RollError>
     ensures word { D.keeps_word disk.old ↔ D.keeps_word disk.new }
     ensures device { IfErr result (λ e. e ≡ RollError.Device) }
-    ensures state { D.keeps_word disk.old → SyncStep RollError.Device File.Log result (D.state disk.old) (D.state disk.new) }
+    ensures state { D.keeps_word disk.old
+        → SyncStep RollError.Device File.Log result (D.state disk.old) (D.state disk.new) }
 {
     disk.sync(File::Log)?;
     Ok(())
@@ -89,10 +93,13 @@ pub(crate) fn settle_log<D: Disk>(disk: &mut D) -> Result<(), RollError>
 /// Leaves no magic at the front of a log that isn't hot, so that no later write makes it hot.
 fn break_front<D: Disk>(disk: &mut D) -> Result<(), RollError>
     ensures word { D.keeps_word disk.old ↔ D.keeps_word disk.new }
-    ensures asks { D.keeps_word disk.old → (size : ℕ) → Asks (MayRecover size) result (D.state disk.old) (D.state disk.new) }
-    ensures file { D.keeps_word disk.old → IsSoundDisk (D.state disk.old) → (D.state disk.new).db ≡ (D.state disk.old).db }
+    ensures asks { D.keeps_word disk.old → (size : ℕ)
+        → Asks (MayRecover size) result (D.state disk.old) (D.state disk.new) }
+    ensures file { D.keeps_word disk.old → IsSoundDisk (D.state disk.old)
+        → (D.state disk.new).db ≡ (D.state disk.old).db }
     ensures front { D.keeps_word disk.old → IsSoundDisk (D.state disk.old) → IsSectorSize (D.state disk.old).sector
-        → (w : List ℕ) → IsLogDown (D.state disk.old) w → (IsHot w → ⊥) → FrontAnswer w result (D.state disk.old) (D.state disk.new) }
+        → (w : List ℕ) → IsLogDown (D.state disk.old) w → (IsHot w → ⊥)
+        → FrontAnswer w result (D.state disk.old) (D.state disk.new) }
     ensures refused { D.keeps_word disk.old → IsSoundDisk (D.state disk.old)
         → IfErr result (λ e. (e ≡ RollError.Device) × HadRefusal (D.state disk.old) (D.state disk.new)) }
 {
@@ -110,11 +117,12 @@ fn recover_synced<D: Disk>(
 ) -> Result<u32, RollError>
     ensures word { D.keeps_word disk.old ↔ D.keeps_word disk.new }
     ensures asks { D.keeps_word disk.old → Asks (MayRecover page_size) result (D.state disk.old) (D.state disk.new) }
-    ensures recovered { D.keeps_word disk.old → (w : List ℕ) (d : Database) → Suits page_size (D.state disk.old) → IsHeld page_size d
-        → IsLogDown (D.state disk.old) w → ShowsOne page_size d (D.state disk.old) → RecoverAnswer page_size d result (D.state disk.old) (D.state disk.new) }
+    ensures recovered { D.keeps_word disk.old → (w : List ℕ) (d : Database) → Suits page_size (D.state disk.old)
+        → IsHeld page_size d → IsLogDown (D.state disk.old) w → ShowsOne page_size d (D.state disk.old)
+        → RecoverAnswer page_size d result (D.state disk.old) (D.state disk.new) }
     ensures agrees { D.keeps_word disk.old → Agrees (D.state disk.old) (D.state disk.new) }
-    ensures files { D.keeps_word disk.old → (db w : List ℕ) → ArePresent (D.state disk.old).db db → IsLogDown (D.state disk.old) w
-        → FilesAnswer page_size db w result (D.state disk.old) (D.state disk.new) }
+    ensures files { D.keeps_word disk.old → (db w : List ℕ) → ArePresent (D.state disk.old).db db
+        → IsLogDown (D.state disk.old) w → FilesAnswer page_size db w result (D.state disk.old) (D.state disk.new) }
     ensures few { IfOk result (λ n. n * page_size ≤ 1073741824) }
 {
     match find_plan(alloc, disk)? {
@@ -134,13 +142,16 @@ fn recover_synced<D: Disk>(
 /// The same, once the log is synced: what is read is what a crash leaves.
 fn recover<D: Disk>(alloc: Global, disk: &mut D, page_size: PageSize) -> Result<u32, RollError>
     ensures word { D.keeps_word disk.old ↔ D.keeps_word disk.new }
-    ensures recovered { D.keeps_word disk.old → (past : State) (found : Files) → AreFiles (D.state disk.old) found → past.page_size ≡ page_size
-        → FitsDisk past (D.state disk.old) → RecoveredAt past found result (D.state disk.old) (D.state disk.new) }
-    ensures agrees { D.keeps_word disk.old → IsSoundDisk (D.state disk.old) → Agrees (D.state disk.old) (D.state disk.new) }
+    ensures recovered { D.keeps_word disk.old → (past : State) (found : Files) → AreFiles (D.state disk.old) found
+        → past.page_size ≡ page_size → FitsDisk past (D.state disk.old)
+        → RecoveredAt past found result (D.state disk.old) (D.state disk.new) }
+    ensures agrees { D.keeps_word disk.old → IsSoundDisk (D.state disk.old)
+        → Agrees (D.state disk.old) (D.state disk.new) }
     ensures synced { D.keeps_word disk.old → MatchResult result
         (λ _. AgreesSynced (D.state disk.old) (D.state disk.new))
         (λ e. RefusedSynced e (D.state disk.old) (D.state disk.new)) }
-    ensures files { D.keeps_word disk.old → IsSoundDisk (D.state disk.old) → (db w : List ℕ) → ArePresent (D.state disk.old).db db → ArePresent (D.state disk.old).log w
+    ensures files { D.keeps_word disk.old → IsSoundDisk (D.state disk.old) → (db w : List ℕ)
+        → ArePresent (D.state disk.old).db db → ArePresent (D.state disk.old).log w
         → FilesAnswer page_size db w result (D.state disk.old) (D.state disk.new) }
     ensures few { IfOk result (λ n. n * page_size ≤ 1073741824) }
 {
@@ -171,16 +182,16 @@ fn new_core(alloc: Global, page_size: PageSize, size: u32, room: Vec<u8>, header
 /// What an opening leaves to hold.
 fn open_core<D: Disk>(alloc: Global, disk: &mut D, page_size: PageSize) -> Result<Core, RollError>
     ensures word { D.keeps_word disk.old ↔ D.keeps_word disk.new }
-    ensures step { D.keeps_word disk.old → (past : State) (found : Files) → AreFiles (D.state disk.old) found → past.page_size ≡ page_size
-        → FitsDisk past (D.state disk.old)
-        → MatchResult result
+    ensures step { D.keeps_word disk.old → (past : State) (found : Files) → AreFiles (D.state disk.old) found
+        → past.page_size ≡ page_size → FitsDisk past (D.state disk.old) → MatchResult result
         (λ core. OpenedTo past found core (D.state disk.old) (D.state disk.new))
         (λ error. GivenUpTo past found error (D.state disk.old) (D.state disk.new)) }
     ensures agrees { D.keeps_word disk.old → Agrees (D.state disk.old) (D.state disk.new) }
     ensures synced { D.keeps_word disk.old → MatchResult result
         (λ _. AgreesSynced (D.state disk.old) (D.state disk.new))
         (λ e. RefusedSynced e (D.state disk.old) (D.state disk.new)) }
-    ensures refused { D.keeps_word disk.old → IfErr result (λ e. OpenRefused page_size e (D.state disk.old) (D.state disk.new)) }
+    ensures refused { D.keeps_word disk.old
+        → IfErr result (λ e. OpenRefused page_size e (D.state disk.old) (D.state disk.new)) }
     ensures opens { D.keeps_word disk.old → OnOk result (OpensFiles page_size (D.state disk.old) (D.state disk.new)) }
 {
     let size = page_size.get() as usize;
@@ -198,9 +209,10 @@ impl<D: Disk> Roll<D> {
     /// the page size handed in, TooLarge, SectorAbovePage for a hot journal, PageSize; NoMemory or Device may stand in
     /// place of the last three.
     pub fn open(alloc: Global, disk: D, page_size: PageSize) -> Result<Roll<D>, Refused<D>>
-        ensures word { D.keeps_word disk ↔ MatchResult result (λ roll. D.keeps_word roll.disk) (λ refused. D.keeps_word refused.disk) }
-        ensures step { D.keeps_word disk → (past : State) (found : Files) → AreFiles (D.state disk) found → past.page_size ≡ page_size → FitsDisk past (D.state disk)
-            → MatchResult result
+        ensures word { D.keeps_word disk
+            ↔ MatchResult result (λ roll. D.keeps_word roll.disk) (λ refused. D.keeps_word refused.disk) }
+        ensures step { D.keeps_word disk → (past : State) (found : Files) → AreFiles (D.state disk) found
+            → past.page_size ≡ page_size → FitsDisk past (D.state disk) → MatchResult result
             (λ roll. Opened D.state (D.state disk) past found roll)
             (λ refused. GivenUp D.state (D.state disk) past found refused) }
         ensures agrees { D.keeps_word disk → MatchResult result
@@ -210,8 +222,10 @@ impl<D: Disk> Roll<D> {
         ensures synced { D.keeps_word disk → MatchResult result
             (λ roll. AgreesSynced (D.state disk) (D.state roll.disk))
             (λ refused. RefusedSynced refused.error (D.state disk) (D.state refused.disk)) }
-        ensures refused { D.keeps_word disk → IfErr result (λ refused. OpenRefused page_size refused.error (D.state disk) (D.state refused.disk)) }
-        ensures opens { D.keeps_word disk → IfOk result (λ roll. OpensFiles page_size (D.state disk) (D.state roll.disk)) }
+        ensures refused { D.keeps_word disk
+            → IfErr result (λ refused. OpenRefused page_size refused.error (D.state disk) (D.state refused.disk)) }
+        ensures opens { D.keeps_word disk
+            → IfOk result (λ roll. OpensFiles page_size (D.state disk) (D.state roll.disk)) }
     {
         let mut disk = disk;
         match open_core(alloc, &mut disk, page_size) {

@@ -49,7 +49,8 @@ pub(crate) fn read_place<D: Disk>(
 ) -> Result<(), RollError>
     ensures word { D.keeps_word disk.old ↔ D.keeps_word disk.new }
     ensures device { IfErr result (λ e. e ≡ RollError.Device) }
-    ensures place { D.keeps_word disk.old → IsSoundDisk (D.state disk.old) → PlaceAnswer RollError.Device file at out.new result (D.state disk.old) (D.state disk.new) }
+    ensures place { D.keeps_word disk.old → IsSoundDisk (D.state disk.old)
+        → PlaceAnswer RollError.Device file at out.new result (D.state disk.old) (D.state disk.new) }
     ensures looks { D.keeps_word disk.old → LooksOnce (D.state disk.old) (D.state disk.new) }
     ensures told { D.keeps_word disk.old → TellsRefusal RollError.Device result (D.state disk.old) (D.state disk.new) }
 {
@@ -65,7 +66,8 @@ impl<D: Disk> Roll<D> {
     pub fn read(&mut self, page: u32, out: &mut [u8]) -> Result<(), RollError>
         ensures word { D.keeps_word self.old.disk ↔ D.keeps_word self.new.disk }
         ensures answer { ReadAnswers self.old.core page (length out.old) result self.old self.new }
-        ensures step { D.keeps_word self.old.disk → (past : State) → Fits D.state self.old past → length out.old ≡ past.page_size
+        ensures step { D.keeps_word self.old.disk → (past : State) → Fits D.state self.old past
+            → length out.old ≡ past.page_size
             → Steps D.state self.old self.new past (Reads page) (answered (λ _. Page out.new) result) }
         // whatever is answered
         ensures core { self.new.core ≡ self.old.core }

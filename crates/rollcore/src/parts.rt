@@ -46,10 +46,12 @@ fn put_part<D: Disk>(
     ensures near { IfOk result (λ next. next ≤ place + 2 ^ 23) }
     ensures keeps { KeepsCore core.old core.new }
     ensures changes { core.new.changes ≡ core.old.changes }
-    ensures segment { D.keeps_word disk.old → (n count : ℕ) (d : Database) (nonces : List ℕ) → IsReady pages.now n count core.old → length d ≡ core.old.size
-        → length core.old.header.items ≡ sector → k < length nonces → nonce ≡ get_or nonces k 0
-        → Parted core.old.page_size sector d (apply d (lent pages.now) n) (pages_of core.old.changes.items) nonces k place (D.state disk.old)
-        → PartAnswer core.old.page_size sector d (apply d (lent pages.now) n) (pages_of core.old.changes.items) nonces k result (D.state disk.old) (D.state disk.new) }
+    ensures segment { D.keeps_word disk.old → (n count : ℕ) (d : Database) (nonces : List ℕ)
+        → IsReady pages.now n count core.old → length d ≡ core.old.size → length core.old.header.items ≡ sector
+        → k < length nonces → nonce ≡ get_or nonces k 0 → Parted core.old.page_size sector d
+        (apply d (lent pages.now) n) (pages_of core.old.changes.items) nonces k place (D.state disk.old) →
+        PartAnswer core.old.page_size sector d (apply d (lent pages.now) n) (pages_of core.old.changes.items)
+        nonces k result (D.state disk.old) (D.state disk.new) }
 {
     let from = k * SEGMENT_RECORDS;
     let to = core.changes.len().min(from + SEGMENT_RECORDS);
@@ -87,10 +89,13 @@ pub(crate) fn put_segments<D: Disk>(
         → Asks (MayCommit core.old.page_size sector) result (D.state disk.old) (D.state disk.new) }
     ensures keeps { KeepsCore core.old core.new }
     ensures changes { core.new.changes ≡ core.old.changes }
-    ensures segments { D.keeps_word disk.old → (n : ℕ) (d : Database) → IsReady pages.now n (length nonces.now) core.old
-        → Suits core.old.page_size (D.state disk.old) → IsHeld core.old.page_size d → length d ≡ core.old.size
-        → length core.old.header.items ≡ (D.state disk.old).sector → sector ≡ (D.state disk.old).sector → Rests core.old.page_size d (D.state disk.old)
-        → SegmentsAnswer core.old.page_size sector d (apply d (lent pages.now) n) (pages_of core.old.changes.items) nonces.now result (D.state disk.old) (D.state disk.new) }
+    ensures segments { D.keeps_word disk.old → (n : ℕ) (d : Database)
+        → IsReady pages.now n (length nonces.now) core.old → Suits core.old.page_size (D.state disk.old)
+        → IsHeld core.old.page_size d → length d ≡ core.old.size
+        → length core.old.header.items ≡ (D.state disk.old).sector → sector ≡ (D.state disk.old).sector
+        → Rests core.old.page_size d (D.state disk.old) → SegmentsAnswer core.old.page_size sector d
+        (apply d (lent pages.now) n) (pages_of core.old.changes.items) nonces.now result (D.state disk.old)
+        (D.state disk.new) }
 {
     let mut place = 0;
     for k in 0..count_segments(core.changes.len()) {

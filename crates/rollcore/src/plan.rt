@@ -1,11 +1,11 @@
 //! What a replay is going to do (own).
 ghost use Rattle.std.specs.Prelude.{◌≡◌, ◌↔◌, ◌+◌, ◌*◌, ◌≤◌, ℕ, List, length, OnOk, IfOk, MatchOption};
 ghost use Rattle.crashdisk.specs.Call.{DiskState, IsSoundDisk, ArePresent};
-ghost use Rattle.sqjournal.specs.Took.{Took};
 ghost use Rattle.sqjournal.specs.Header.{Names};
 ghost use Rattle.sqjournal.specs.Journal.{IsHot};
 ghost use Rattle.crashdisk.specs.Keeps.{Still, TellsRefusal};
 ghost use Rattle.rollcore.specs.Plans.{IsSmall, JudgeAnswer, PlanAnswer, ReadAnswer};
+ghost use Rattle.rollcore.specs.Steps.{HasRead};
 
 use crate::error::RollError;
 use crate::reading::{scan_log, zeros};
@@ -45,7 +45,7 @@ fn judge(header: &JournalHeader, torn: usize) -> Result<(), RollError>
 
 /// Judges the scanned journal, and takes all memory that its replay needs. None where it isn't hot.
 fn plan_of(alloc: Global, scan: Replay, torn: usize) -> Result<Option<Plan>, RollError>
-    ensures plan { (w : List ℕ) → Took w scan → PlanAnswer torn w result }
+    ensures plan { (w : List ℕ) → HasRead w scan → PlanAnswer torn w result }
     ensures small { IfOk result (λ o. MatchOption o (Unit {0}) IsSmall) }
 {
     let Some(header) = scan.first() else {
@@ -64,7 +64,8 @@ pub fn read_plan<D: Disk>(
     torn: usize,
 ) -> Result<Option<Plan>, RollError>
     ensures word { D.keeps_word disk.old ↔ D.keeps_word disk.new }
-    ensures still { D.keeps_word disk.old → IsSoundDisk (D.state disk.old) → Still (D.state disk.old) (D.state disk.new) }
+    ensures still { D.keeps_word disk.old → IsSoundDisk (D.state disk.old)
+        → Still (D.state disk.old) (D.state disk.new) }
     ensures plan { D.keeps_word disk.old → IsSoundDisk (D.state disk.old)
         → (w : List ℕ) → ArePresent (D.state disk.old).log w → length w ≡ long
         → ReadAnswer torn w result (D.state disk.old) (D.state disk.new) }

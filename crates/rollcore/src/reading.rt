@@ -2,7 +2,7 @@
 ghost use Rattle.std.specs.Prelude.{◌≡◌, ◌↔◌, ◌+◌, ◌<◌, ◌≤◌, ℕ, List, [], length, take, IfOk, OnErr};
 ghost use Rattle.crashdisk.specs.Call.{DiskState, IsSoundDisk, ArePresent};
 ghost use Rattle.sqjournal.specs.Took.{Took};
-ghost use Rattle.rollcore.specs.Steps.{IsWithoutHeader, PieceAnswer, ScanAnswer};
+ghost use Rattle.rollcore.specs.Steps.{IsWithoutHeader, PieceAnswer, PiecesAnswer, ScanAnswer};
 ghost use Rattle.crashdisk.specs.Keeps.{Still, TellsRefusal};
 
 use crate::error::RollError;
@@ -12,6 +12,9 @@ use std::alloc::Global;
 
 /// How many bytes of the journal are read at once.
 const PIECE: usize = 131072;
+
+/// The longest journal that is read, in bytes.
+const LONGEST: u64 = 1 << 40;
 
 /// A journal whose first header isn't valid isn't hot.
 fn without_header(error: JournalError) -> Result<bool, RollError>
@@ -34,10 +37,11 @@ fn feed_piece<D: Disk>(
     piece: &mut [u8],
 ) -> Result<bool, RollError>
     ensures word { D.keeps_word disk.old ↔ D.keeps_word disk.new }
-    ensures still { D.keeps_word disk.old → IsSoundDisk (D.state disk.old) → Still (D.state disk.old) (D.state disk.new) }
+    ensures still { D.keeps_word disk.old → IsSoundDisk (D.state disk.old)
+        → Still (D.state disk.old) (D.state disk.new) }
     ensures told { D.keeps_word disk.old → TellsRefusal RollError.Device result (D.state disk.old) (D.state disk.new) }
-    ensures took { D.keeps_word disk.old → IsSoundDisk (D.state disk.old)
-        → (w : List ℕ) → ArePresent (D.state disk.old).log w → at + length piece.old ≤ length w → Took (take at w) scan.old
+    ensures took { D.keeps_word disk.old → IsSoundDisk (D.state disk.old) → (w : List ℕ)
+        → ArePresent (D.state disk.old).log w → at + length piece.old ≤ length w → Took (take at w) scan.old
         → PieceAnswer w (at + length piece.old) result scan.new (D.state disk.old) (D.state disk.new) }
 {
     disk.read_at(File::Log, at, piece)?;
@@ -47,7 +51,8 @@ fn feed_piece<D: Disk>(
     }
 }
 
-/// Hands the journal, which has this many bytes, to the scan. Whether it may be hot.
+/// Hands the journal, which has this many bytes, to the scan, no further than the piece in which it ends. Whether it
+/// may be hot.
 fn scan_pieces<D: Disk>(
     disk: &mut D,
     scan: &mut Replay,
@@ -56,11 +61,12 @@ fn scan_pieces<D: Disk>(
 ) -> Result<bool, RollError>
     requires { 0 < length buffer.old }
     ensures word { D.keeps_word disk.old ↔ D.keeps_word disk.new }
-    ensures still { D.keeps_word disk.old → IsSoundDisk (D.state disk.old) → Still (D.state disk.old) (D.state disk.new) }
+    ensures still { D.keeps_word disk.old → IsSoundDisk (D.state disk.old)
+        → Still (D.state disk.old) (D.state disk.new) }
     ensures told { D.keeps_word disk.old → TellsRefusal RollError.Device result (D.state disk.old) (D.state disk.new) }
     ensures took { D.keeps_word disk.old → IsSoundDisk (D.state disk.old)
         → (w : List ℕ) → ArePresent (D.state disk.old).log w → length w ≡ long → Took [] scan.old
-        → PieceAnswer w long result scan.new (D.state disk.old) (D.state disk.new) }
+        → PiecesAnswer w result scan.new (D.state disk.old) (D.state disk.new) }
 {
     let most = buffer.len();
     let mut at = 0;
@@ -70,6 +76,9 @@ fn scan_pieces<D: Disk>(
             return Ok(false);
         }
         at += n as u64;
+        if scan.is_over() {
+            return Ok(true);
+        }
     }
     Ok(true)
 }
@@ -82,19 +91,24 @@ pub fn zeros(alloc: Global, long: usize) -> Result<Vec<u8>, RollError>
     Ok(vec![in alloc; 0u8; long]?)
 }
 
-/// Scans the journal, which has this many bytes. None where its first header is refused.
+/// Scans the journal, which has this many bytes. None where its first header is refused. Of one that is too long
+/// nothing is read.
 pub fn scan_log<D: Disk>(
     alloc: Global,
     disk: &mut D,
     long: u64,
 ) -> Result<Option<Replay>, RollError>
     ensures word { D.keeps_word disk.old ↔ D.keeps_word disk.new }
-    ensures still { D.keeps_word disk.old → IsSoundDisk (D.state disk.old) → Still (D.state disk.old) (D.state disk.new) }
+    ensures still { D.keeps_word disk.old → IsSoundDisk (D.state disk.old)
+        → Still (D.state disk.old) (D.state disk.new) }
     ensures told { D.keeps_word disk.old → TellsRefusal RollError.Device result (D.state disk.old) (D.state disk.new) }
     ensures took { D.keeps_word disk.old → IsSoundDisk (D.state disk.old)
         → (w : List ℕ) → ArePresent (D.state disk.old).log w → length w ≡ long
         → ScanAnswer w result (D.state disk.old) (D.state disk.new) }
 {
+    if long > LONGEST {
+        return Err(RollError::TooLarge);
+    }
     let mut buffer = zeros(alloc, PIECE)?;
     let mut scan = Replay::new(alloc);
     if scan_pieces(disk, &mut scan, long, &mut buffer)? {

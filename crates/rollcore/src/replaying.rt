@@ -61,15 +61,17 @@ pub(crate) fn find_plan<D: Disk>(alloc: Global, disk: &mut D) -> Result<Option<P
 pub(crate) fn replay_plan<D: Disk>(disk: &mut D, plan: Plan) -> Result<Replayed, RollError>
     requires { IsSmall plan }
     ensures word { D.keeps_word disk.old ↔ D.keeps_word disk.new }
-    ensures replays { D.keeps_word disk.old → IsSoundDisk (D.state disk.old)
-        → (db w : List ℕ) (torn : ℕ) → ArePresent (D.state disk.old).db db → ArePresent (D.state disk.old).log w → IsFit torn w → IsPlan w plan
+    ensures replays { D.keeps_word disk.old → IsSoundDisk (D.state disk.old) → (db w : List ℕ) (torn : ℕ)
+        → ArePresent (D.state disk.old).db db → ArePresent (D.state disk.old).log w → IsFit torn w → IsPlan w plan
         → RolledAnswer db w result (D.state disk.old) (D.state disk.new) }
     ensures shows { D.keeps_word disk.old → IsSoundDisk (D.state disk.old) → IsSectorSize (D.state disk.old).sector
         → (size : ℕ) (w : List ℕ) (d : Database) → Scanning size d w (D.state disk.old)
         → IsFit (torn_sector (D.state disk.old)) w → IsPlan w plan → ShowsAlone size d (D.state disk.new) }
-    ensures asks { D.keeps_word disk.old → Asks (MayReplay plan.header.page_size) result (D.state disk.old) (D.state disk.new) }
+    ensures asks { D.keeps_word disk.old
+        → Asks (MayReplay plan.header.page_size) result (D.state disk.old) (D.state disk.new) }
     ensures ends { D.keeps_word disk.old → IsSoundDisk (D.state disk.old) → IsSectorSize (D.state disk.old).sector
-        → (w : List ℕ) → IsLogDown (D.state disk.old) w → IsFit (torn_sector (D.state disk.old)) w → IsPlan w plan → EndsBy (word w 16 * word w 24) (D.state disk.new) }
+        → (w : List ℕ) → IsLogDown (D.state disk.old) w → IsFit (torn_sector (D.state disk.old)) w → IsPlan w plan
+        → EndsBy (word w 16 * word w 24) (D.state disk.new) }
     ensures size { IfOk result (λ r. r.size ≡ plan.header.first_size) }
 {
     let Plan {
@@ -92,8 +94,8 @@ pub(crate) fn replay_plan<D: Disk>(disk: &mut D, plan: Plan) -> Result<Replayed,
 ///
 /// Refused with, in this order, `TooLarge` where the first size is above 1,073,741,824 bytes or the journal above
 /// 1,099,511,627,776, and `SectorAbovePage` where a disk that tears has larger sectors than the journal's pages or the
-/// sectors that it names; with `NoMemory`; and with `Device` where the disk refused a call, either of which may stand in
-/// place of these two. All but `Device` change no byte. After `Device` the replay is to be called again.
+/// sectors that it names; with `NoMemory`; and with `Device` where the disk refused a call, either of which may stand
+/// in place of these two. All but `Device` change no byte. After `Device` the replay is to be called again.
 pub fn replay<D: Disk>(alloc: Global, disk: &mut D) -> Result<Replayed, RollError>
     ensures word { D.keeps_word disk.old ↔ D.keeps_word disk.new }
     ensures replays { D.keeps_word disk.old → Replays result (D.state disk.old) (D.state disk.new) }

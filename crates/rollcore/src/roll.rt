@@ -8,8 +8,8 @@ use crashdisk::Disk;
 /// How many records a segment of the journal has (own); the last one may have fewer.
 pub const SEGMENT_RECORDS: usize = 64;
 
-/// An engine that commits pages in place, behind a rollback journal, and reads them back. A commit that is done is down,
-/// whatever a crash does. After a refusal by Device it is closed until the disk is opened again.
+/// An engine that commits pages in place, behind a rollback journal, and reads them back. A commit that is done is
+/// down, whatever a crash does. After a refusal by Device it is closed until the disk is opened again.
 pub struct Roll<D> {
     pub(crate) disk: D,
     pub(crate) core: Core,

@@ -1,6 +1,7 @@
 //! A segment of the journal: old pages are copied from the database to the journal, and once they are down, the header
 //! is written.
-ghost use Rattle.std.specs.Prelude.{◌≡◌, ◌⊎◌, ◌↔◌, ◌+◌, ◌-◌, ◌*◌, ◌^◌, ◌<◌, ◌≤◌, ◌++◌, ℕ, List, [], ◌∷◌, length, take, drop, replicate, Some, IfOk, IfErr};
+ghost use Rattle.std.specs.Prelude.{◌≡◌, ◌⊎◌, ◌↔◌, ◌+◌, ◌-◌, ◌*◌, ◌^◌, ◌<◌, ◌≤◌, ◌++◌, ℕ, List, [], ◌∷◌, length, take};
+ghost use Rattle.std.specs.Prelude.{drop, replicate, Some, IfOk, IfErr};
 ghost use Rattle.std.specs.List.{All};
 ghost use Rattle.byteorder.specs.Endian.{big_bytes};
 ghost use Rattle.sqval.specs.Bytes.{part};
@@ -15,7 +16,9 @@ ghost use Rattle.crashdisk.specs.Keeps.{SyncStep};
 ghost use Rattle.rollcore.specs.Changes.{MayReplay, MayCommit, Asks};
 ghost use Rattle.rollcore.specs.Commits.{change_at, ArePlaced, AreWithin};
 ghost use Rattle.rollcore.specs.Journaling.{old_pages, sizes, next_place, record_bytes, IsHeaderOf};
-ghost use Rattle.rollcore.specs.Segments.{Recording, Recorded, Ended, Prepared, Journaled, RecordStep, pages_of, AreFresh, RecordsAnswer, PreparedAnswer, HeaderAnswer, PageStep, ArePut, AreTurned, AreSome, PutPagesAnswer, AreOf, new_numbers, SegmentAnswer};
+ghost use Rattle.rollcore.specs.Segments.{Recording, Recorded, Ended, Prepared, Journaled, RecordStep, pages_of};
+ghost use Rattle.rollcore.specs.Segments.{AreFresh, RecordsAnswer, PreparedAnswer, HeaderAnswer, PageStep, ArePut};
+ghost use Rattle.rollcore.specs.Segments.{AreTurned, AreSome, PutPagesAnswer, AreOf, new_numbers, SegmentAnswer};
 
 use crate::changes::Change;
 use crate::error::RollError;
@@ -57,8 +60,10 @@ fn write_record<D: Disk>(
     requires place { at ≤ 2 ^ 39 + 2 ^ 23 }
     ensures word { D.keeps_word disk.old ↔ D.keeps_word disk.new }
     ensures device { IfErr result (λ e. e ≡ RollError.Device) }
-    ensures asks { D.keeps_word disk.old → (sector : ℕ) → Asks (MayCommit (length buffer.old - 8) sector) result (D.state disk.old) (D.state disk.new) }
-    ensures record { D.keeps_word disk.old → IsSoundDisk (D.state disk.old) → page * (length buffer.old - 8) ≤ most_bytes
+    ensures asks { D.keeps_word disk.old → (sector : ℕ)
+        → Asks (MayCommit (length buffer.old - 8) sector) result (D.state disk.old) (D.state disk.new) }
+    ensures record { D.keeps_word disk.old → IsSoundDisk (D.state disk.old)
+        → page * (length buffer.old - 8) ≤ most_bytes
         → RecordStep (length buffer.old - 8) page nonce at result (D.state disk.old) (D.state disk.new) }
 {
     let end = buffer.len() - 4;
@@ -84,11 +89,13 @@ fn write_records<D: Disk>(
     requires place { at ≤ 2 ^ 39 }
     ensures word { D.keeps_word disk.old ↔ D.keeps_word disk.new }
     ensures device { IfErr result (λ e. e ≡ RollError.Device) }
-    ensures asks { D.keeps_word disk.old → (sector : ℕ) → Asks (MayCommit (length buffer.old - 8) sector) result (D.state disk.old) (D.state disk.new) }
+    ensures asks { D.keeps_word disk.old → (sector : ℕ)
+        → Asks (MayCommit (length buffer.old - 8) sector) result (D.state disk.old) (D.state disk.new) }
     ensures end { IfOk result (λ end. end ≡ at + length changes.now * length buffer.old) }
     ensures records { D.keeps_word disk.old → (sector : ℕ) (d : Database) (named : List ℕ) (place : ℕ) (w : List ℕ)
-        → Recording (length buffer.old - 8) sector d named place w (D.state disk.old) → at ≡ place + sector → AreFresh d named (pages_of changes.now)
-        → RecordsAnswer (length buffer.old - 8) sector d named place w (pages_of changes.now) nonce result (D.state disk.old) (D.state disk.new) }
+        → Recording (length buffer.old - 8) sector d named place w (D.state disk.old) → at ≡ place + sector
+        → AreFresh d named (pages_of changes.now) → RecordsAnswer (length buffer.old - 8) sector d named place w
+        (pages_of changes.now) nonce result (D.state disk.old) (D.state disk.new) }
 {
     let mut end = at;
     for change in changes {
@@ -116,11 +123,14 @@ fn prepare_segment<D: Disk>(
     requires sector { IsSector sector }
     ensures word { D.keeps_word disk.old ↔ D.keeps_word disk.new }
     ensures device { IfErr result (λ e. e ≡ RollError.Device) }
-    ensures asks { D.keeps_word disk.old → Asks (MayCommit (length buffer.old - 8) sector) result (D.state disk.old) (D.state disk.new) }
+    ensures asks { D.keeps_word disk.old
+        → Asks (MayCommit (length buffer.old - 8) sector) result (D.state disk.old) (D.state disk.new) }
     ensures near { IfOk result (λ next. next ≤ place + 2 ^ 23) }
     ensures prepared { D.keeps_word disk.old → (d : Database) (named w : List ℕ)
-        → Journaled (length buffer.old - 8) sector d named place w (D.state disk.old) → AreFresh d named (pages_of changes.now) → (place ≡ 0) ⊎ (1 ≤ length changes.now)
-        → PreparedAnswer (length buffer.old - 8) sector d named place w (pages_of changes.now) nonce result (D.state disk.old) (D.state disk.new) }
+        → Journaled (length buffer.old - 8) sector d named place w (D.state disk.old)
+        → AreFresh d named (pages_of changes.now) → (place ≡ 0) ⊎ (1 ≤ length changes.now) → PreparedAnswer
+        (length buffer.old - 8) sector d named place w (pages_of changes.now) nonce result (D.state disk.old)
+        (D.state disk.new) }
 {
     let end = write_records(disk, buffer, changes, place + u64::from(sector), nonce)?;
     let next = next_header_at(end, sector);
@@ -164,16 +174,19 @@ fn put_pages<D: Disk>(
     pages: &[(u32, &[u8])],
 ) -> Result<(), RollError>
     requires pages { (i : ℕ) → i < length changes.now → 1 ≤ (change_at changes.now i).page }
-    requires within { (i k : ℕ) → i < length changes.now → (change_at changes.now i).content ≡ Some k → k < length pages.now }
+    requires within { (i k : ℕ) → i < length changes.now → (change_at changes.now i).content ≡ Some k
+        → k < length pages.now }
     requires short { All (λ x. length x.1.now ≤ 65536) pages.now }
     ensures word { D.keeps_word disk.old ↔ D.keeps_word disk.new }
     ensures device { IfErr result (λ e. e ≡ RollError.Device) }
     ensures asks { D.keeps_word disk.old → (size : ℕ) → ArePlaced size pages.now → AreWithin size changes.now
         → Asks (MayReplay size) result (D.state disk.old) (D.state disk.new) }
-    ensures put { D.keeps_word disk.old → (size sector : ℕ) (d e : Database) (named : List ℕ) (place : ℕ) (w before : List ℕ)
-        → Journaled size sector d named place w (D.state disk.old) → 0 < place → AreTurned size e named (lent pages.now) changes.now
-        → AreSome before → ArePut size e before (D.state disk.old).db
-        → PutPagesAnswer size sector d e named place w (before ++ pages_of changes.now) result (D.state disk.old) (D.state disk.new) }
+    ensures put { D.keeps_word disk.old
+        → (size sector : ℕ) (d e : Database) (named : List ℕ) (place : ℕ) (w before : List ℕ)
+        → Journaled size sector d named place w (D.state disk.old) → 0 < place
+        → AreTurned size e named (lent pages.now) changes.now → AreSome before
+        → ArePut size e before (D.state disk.old).db → PutPagesAnswer size sector d e named place w
+        (before ++ pages_of changes.now) result (D.state disk.old) (D.state disk.new) }
 {
     for change in changes {
         match change.content {
@@ -203,7 +216,8 @@ fn write_header<D: Disk>(
     ensures asks { D.keeps_word disk.old → length header.old ≡ head.now.sector → (size : ℕ)
         → Asks (MayCommit size head.now.sector) result (D.state disk.old) (D.state disk.new) }
     ensures header { D.keeps_word disk.old → (size sector : ℕ) (d : Database) (named part w : List ℕ) (nonce : ℕ)
-        → Prepared size sector d named place part nonce w (D.state disk.old) → length header.old ≡ sector → length part ≤ 64 → IsHeaderOf size sector d part nonce head.now
+        → Prepared size sector d named place part nonce w (D.state disk.old) → length header.old ≡ sector
+        → length part ≤ 64 → IsHeaderOf size sector d part nonce head.now
         → HeaderAnswer size sector d named place w part nonce result (D.state disk.old) (D.state disk.new) }
 {
     fill_header(header, head);
@@ -221,11 +235,14 @@ pub(crate) fn put_new_pages<D: Disk>(
     requires pages { All (λ x. (1 ≤ x.0) × (length x.1.now ≤ 65536)) pages.now }
     ensures word { D.keeps_word disk.old ↔ D.keeps_word disk.new }
     ensures device { IfErr result (λ e. e ≡ RollError.Device) }
-    ensures asks { D.keeps_word disk.old → (size : ℕ) → ArePlaced size pages.now → Asks (MayReplay size) result (D.state disk.old) (D.state disk.new) }
-    ensures put { D.keeps_word disk.old → (size sector : ℕ) (d e : Database) (named : List ℕ) (place : ℕ) (w before : List ℕ)
-        → Journaled size sector d named place w (D.state disk.old) → 0 < place → old_size ≡ length d → AreOf size e (lent pages.now)
-        → AreSome before → ArePut size e before (D.state disk.old).db
-        → PutPagesAnswer size sector d e named place w (before ++ new_numbers old_size (lent pages.now)) result (D.state disk.old) (D.state disk.new) }
+    ensures asks { D.keeps_word disk.old → (size : ℕ) → ArePlaced size pages.now
+        → Asks (MayReplay size) result (D.state disk.old) (D.state disk.new) }
+    ensures put { D.keeps_word disk.old
+        → (size sector : ℕ) (d e : Database) (named : List ℕ) (place : ℕ) (w before : List ℕ)
+        → Journaled size sector d named place w (D.state disk.old) → 0 < place → old_size ≡ length d
+        → AreOf size e (lent pages.now) → AreSome before → ArePut size e before (D.state disk.old).db →
+        PutPagesAnswer size sector d e named place w (before ++ new_numbers old_size (lent pages.now)) result
+        (D.state disk.old) (D.state disk.new) }
 {
     for x in pages {
         let (page, content) = *x;
@@ -250,7 +267,8 @@ pub(crate) fn put_segment<D: Disk>(
     requires short { length buffer.old ≤ 65544 }
     requires few { length changes.now ≤ 64 }
     requires some { (i : ℕ) → i < length changes.now → 1 ≤ (change_at changes.now i).page }
-    requires within { (i k : ℕ) → i < length changes.now → (change_at changes.now i).content ≡ Some k → k < length pages.now }
+    requires within { (i k : ℕ) → i < length changes.now → (change_at changes.now i).content ≡ Some k
+        → k < length pages.now }
     requires pages { All (λ x. length x.1.now ≤ 65536) pages.now }
     requires place { place ≤ 2 ^ 38 }
     requires sector { IsSector head.now.sector }
@@ -263,10 +281,14 @@ pub(crate) fn put_segment<D: Disk>(
         → Asks (MayCommit (length buffer.old - 8) head.now.sector) result (D.state disk.old) (D.state disk.new) }
     ensures near { IfOk result (λ next. next ≤ place + 2 ^ 23) }
     ensures segment { D.keeps_word disk.old → (d e : Database) (named w before : List ℕ)
-        → Journaled (length buffer.old - 8) head.now.sector d named place w (D.state disk.old) → AreFresh d named (pages_of changes.now) → (place ≡ 0) ⊎ (1 ≤ length changes.now)
-        → length header.old ≡ head.now.sector → IsHeaderOf (length buffer.old - 8) head.now.sector d (pages_of changes.now) head.now.nonce head.now
-        → AreTurned (length buffer.old - 8) e (named ++ pages_of changes.now) (lent pages.now) changes.now → AreSome before → ArePut (length buffer.old - 8) e before (D.state disk.old).db
-        → SegmentAnswer (length buffer.old - 8) head.now.sector d e named before place w (pages_of changes.now) head.now.nonce result (D.state disk.old) (D.state disk.new) }
+        → Journaled (length buffer.old - 8) head.now.sector d named place w (D.state disk.old)
+        → AreFresh d named (pages_of changes.now) → (place ≡ 0) ⊎ (1 ≤ length changes.now)
+        → length header.old ≡ head.now.sector
+        → IsHeaderOf (length buffer.old - 8) head.now.sector d (pages_of changes.now) head.now.nonce head.now
+        → AreTurned (length buffer.old - 8) e (named ++ pages_of changes.now) (lent pages.now) changes.now
+        → AreSome before → ArePut (length buffer.old - 8) e before (D.state disk.old).db → SegmentAnswer
+        (length buffer.old - 8) head.now.sector d e named before place w (pages_of changes.now) head.now.nonce
+        result (D.state disk.old) (D.state disk.new) }
 {
     let next = prepare_segment(disk, buffer, changes, place, head.sector, head.nonce)?;
     write_header(disk, header, place, head)?;

@@ -50,8 +50,8 @@ pub struct Base {
 impl Base {
     ghost use Rattle.sqworld.specs.Bases.{IsBaseOf};
 
-    /// On a disk that doesn't tear. None where the sector is no power of two from 512 to 65536, where there is no page or
-    /// one of another size, and where they are more than 1,073,741,824 bytes.
+    /// On a disk that doesn't tear. None where the sector is no power of two from 512 to 65536, where there is no page
+    /// or one of another size, and where they are more than 1,073,741,824 bytes.
     pub fn new(page_size: PageSize, sector: usize, pages: Vec<Vec<u8>>) -> Option<Base>
         ensures some { IsSome result ↔ IsBase page_size sector false (pages_of pages.items) }
         ensures is { IfSome result (λ base. IsBaseOf page_size sector false (pages_of pages.items) base) }

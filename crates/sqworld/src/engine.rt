@@ -9,7 +9,8 @@ ghost use Rattle.walcore.specs.Making.{Permits};
 ghost use Rattle.walcore.specs.Fits.{Past, FitsAlone, AreFiles};
 ghost use Rattle.sqworld.specs.Run.{act_of, answer_of, files_of, is_opening, is_crash, numbered};
 ghost use Rattle.sqworld.specs.Sessions.{ServesTo, SessionServes, begun_by};
-ghost use Rattle.sqworld.specs.Engines.{IsLeftBy, FailsAt, IsSetTo, IsCalm, Rests, IsAlone, closed_answer, FitsEngine, model_of, disk_of, begun_of, EngineServes, Answers};
+ghost use Rattle.sqworld.specs.Engines.{IsLeftBy, FailsAt, IsSetTo, IsCalm, Rests, IsAlone, closed_answer, FitsEngine};
+ghost use Rattle.sqworld.specs.Engines.{model_of, disk_of, begun_of, EngineServes, Answers};
 
 use crate::event::Event;
 use crate::reply::{Crashed, Found, Reply};
@@ -159,7 +160,8 @@ impl Session {
         event: &Event,
     ) -> Result<Reply, AllocError>
         requires { begun_by self.old < 2 ^ 63 }
-        ensures serves { IfOk result (λ reply. is_opening event.now ≡ false → is_crash event.now ≡ false → SessionServes page_size self.old self.new (act_of event.now None None) (answer_of reply)) }
+        ensures serves { IfOk result (λ reply. is_opening event.now ≡ false → is_crash event.now ≡ false →
+            SessionServes page_size self.old self.new (act_of event.now None None) (answer_of reply)) }
         ensures set { OnOk result (IsSetTo event.now self.old.wal.disk self.new.wal.disk) }
         ensures begun { begun_by self.new ≤ begun_by self.old + 1 }
     {
@@ -187,9 +189,10 @@ fn open_disk(
     page_size: PageSize,
     salts: (u32, u32),
 ) -> (Engine, Reply)
-    ensures opens { (past : Past) (found : Files) → AreFiles (state_of disk) found → past.state.page_size ≡ page_size → FitsAlone past (state_of disk)
-        → length past.tokens ≡ begun → Permits past.made (Opens salts found) (answer_of result.1)
-        → ServesTo past (Opens salts found) (answer_of result.1) (λ next. FitsEngine next result.0) (state_of disk) (disk_of result.0) }
+    ensures opens { (past : Past) (found : Files) → AreFiles (state_of disk) found → past.state.page_size ≡ page_size
+        → FitsAlone past (state_of disk) → length past.tokens ≡ begun
+        → Permits past.made (Opens salts found) (answer_of result.1) → ServesTo past (Opens salts found)
+        (answer_of result.1) (λ next. FitsEngine next result.0) (state_of disk) (disk_of result.0) }
     ensures begun { begun_of result.0 ≡ begun }
 {
     match Wal::open(alloc, disk, page_size, salts) {
@@ -237,7 +240,8 @@ impl Engine {
         salts: (u32, u32),
     ) -> (Engine, Result<Given, AllocError>)
         requires { begun_of self < 2 ^ 63 }
-        ensures answers { (tears : Bool) (event : Event) → event ≡ Event.Open salts → IfOk result.1 (λ given. Answers page_size tears event self given result.0) }
+        ensures answers { (tears : Bool) (event : Event) → event ≡ Event.Open salts
+            → IfOk result.1 (λ given. Answers page_size tears event self given result.0) }
         ensures begun { begun_of result.0 ≡ begun_of self }
     {
         let (disk, begun) = self.close();
@@ -263,7 +267,8 @@ impl Engine {
         choice: &Choice,
     ) -> (Engine, Result<Given, AllocError>)
         requires { begun_of self < 2 ^ 63 }
-        ensures answers { (page_size : ℕ) (event : Event) → event ≡ Event.Crash choice.now → IfOk result.1 (λ given. Answers page_size tears event self given result.0) }
+        ensures answers { (page_size : ℕ) (event : Event) → event ≡ Event.Crash choice.now
+            → IfOk result.1 (λ given. Answers page_size tears event self given result.0) }
         ensures begun { begun_of result.0 ≡ begun_of self }
     {
         let (mut disk, begun) = self.close();
@@ -288,7 +293,8 @@ impl Engine {
         event: &Event,
     ) -> (Engine, Result<Reply, AllocError>)
         requires { begun_of self < 2 ^ 63 }
-        ensures serves { IfOk result.1 (λ reply. is_opening event.now ≡ false → is_crash event.now ≡ false → EngineServes page_size self result.0 (act_of event.now None None) (answer_of reply)) }
+        ensures serves { IfOk result.1 (λ reply. is_opening event.now ≡ false → is_crash event.now ≡ false →
+            EngineServes page_size self result.0 (act_of event.now None None) (answer_of reply)) }
         ensures set { OnOk result.1 (IsSetTo event.now (model_of self) (model_of result.0)) }
         ensures rests { OnOk result.1 (Rests event.now self result.0) }
         ensures begun { begun_of result.0 ≤ begun_of self + 1 }

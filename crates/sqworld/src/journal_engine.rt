@@ -6,7 +6,8 @@ ghost use Rattle.rollcore.specs.Machine.{State, Opens, Commits, Reads};
 ghost use Rattle.rollcore.specs.Fits.{FitsDisk, AreFiles, answered};
 ghost use Rattle.sqworld.specs.Run.{answer_of, numbered};
 ghost use Rattle.sqworld.specs.JournalRun.{act_of, is_opening, is_crash};
-ghost use Rattle.sqworld.specs.JournalEngines.{IsSetTo, IsCalm, Rests, ServesTo, RollServes, closed_answer, FitsEngine, model_of, disk_of, EngineServes, Answers};
+ghost use Rattle.sqworld.specs.JournalEngines.{IsSetTo, IsCalm, Rests, ServesTo, RollServes, closed_answer, FitsEngine};
+ghost use Rattle.sqworld.specs.JournalEngines.{model_of, disk_of, EngineServes, Answers};
 
 use crate::engine::{Given, alone, crash_disk, fail_disk, find};
 use crate::journal_event::JEvent;
@@ -51,7 +52,8 @@ fn commit(
     size: u32,
     nonces: &[u32],
 ) -> Result<Reply, AllocError>
-    ensures { (page_size : ℕ) → IfOk result (λ reply. RollServes page_size roll.old roll.new (Commits (numbered pages.now) size nonces.now) (answer_of reply)) }
+    ensures { (page_size : ℕ) → IfOk result (λ reply. RollServes page_size roll.old roll.new
+        (Commits (numbered pages.now) size nonces.now) (answer_of reply)) }
 {
     let all = lend(alloc, pages)?;
     Ok(outcome(roll.commit(&all, size, nonces)))
@@ -99,7 +101,8 @@ fn answer(
     page_size: PageSize,
     event: &JEvent,
 ) -> Result<Reply, AllocError>
-    ensures serves { IfOk result (λ reply. is_opening event.now ≡ false → is_crash event.now ≡ false → RollServes page_size roll.old roll.new (act_of event.now None None) (answer_of reply)) }
+    ensures serves { IfOk result (λ reply. is_opening event.now ≡ false → is_crash event.now ≡ false → RollServes
+        page_size roll.old roll.new (act_of event.now None None) (answer_of reply)) }
     ensures set { OnOk result (IsSetTo event.now roll.old.disk roll.new.disk) }
 {
     match event {
@@ -133,8 +136,9 @@ fn refuse(alloc: Global, disk: &mut ModelDisk, event: &JEvent) -> Result<Reply, 
 
 /// Opens an engine on a disk.
 fn open_disk(alloc: Global, disk: ModelDisk, page_size: PageSize) -> (JournalEngine, Reply)
-    ensures { (past : State) (found : Files) → AreFiles (state_of disk) found → past.page_size ≡ page_size → FitsDisk past (state_of disk)
-        → ServesTo past (Opens found) (answer_of result.1) (λ next. FitsEngine next result.0) (state_of disk) (disk_of result.0) }
+    ensures { (past : State) (found : Files) → AreFiles (state_of disk) found → past.page_size ≡ page_size
+        → FitsDisk past (state_of disk) → ServesTo past (Opens found) (answer_of result.1)
+        (λ next. FitsEngine next result.0) (state_of disk) (disk_of result.0) }
 {
     match Roll::open(alloc, disk, page_size) {
         Ok(roll) => (JournalEngine::Open(roll), Reply::Done),
@@ -194,7 +198,8 @@ impl JournalEngine {
         tears: bool,
         choice: &Choice,
     ) -> (JournalEngine, Result<Given, AllocError>)
-        ensures { (page_size : ℕ) → IfOk result.1 (λ given. Answers page_size tears (JEvent.Crash choice.now) self given result.0) }
+        ensures { (page_size : ℕ)
+            → IfOk result.1 (λ given. Answers page_size tears (JEvent.Crash choice.now) self given result.0) }
     {
         let mut disk = self.close();
         match crash_disk(alloc, &mut disk, tears, choice) {
@@ -217,7 +222,8 @@ impl JournalEngine {
         page_size: PageSize,
         event: &JEvent,
     ) -> (JournalEngine, Result<Reply, AllocError>)
-        ensures serves { IfOk result.1 (λ reply. is_opening event.now ≡ false → is_crash event.now ≡ false → EngineServes page_size self result.0 (act_of event.now None None) (answer_of reply)) }
+        ensures serves { IfOk result.1 (λ reply. is_opening event.now ≡ false → is_crash event.now ≡ false →
+            EngineServes page_size self result.0 (act_of event.now None None) (answer_of reply)) }
         ensures set { OnOk result.1 (IsSetTo event.now (model_of self) (model_of result.0)) }
         ensures rests { OnOk result.1 (Rests event.now self result.0) }
     {

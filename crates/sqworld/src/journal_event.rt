@@ -6,8 +6,9 @@ use crashdisk::{Choice, Part};
 pub enum JEvent {
     /// The engine is opened. One that is there is given up first, without a crash.
     Open,
-    /// These pages are committed, by their numbers, after which the database has `size` pages. Each segment of the journal
-    /// takes a nonce: a commit has one for each 64 pages of the old database that are written or cut off, one at least.
+    /// These pages are committed, by their numbers, after which the database has `size` pages. Each segment of the
+    /// journal takes a nonce: a commit has one for each 64 pages of the old database that are written or cut off, one
+    /// at least.
     Commit {
         pages: Vec<(u32, Vec<u8>)>,
         size: u32,

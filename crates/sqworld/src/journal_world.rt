@@ -37,14 +37,17 @@ fn go(
     }
 }
 
-/// Answers the events one after another, with an engine over a rollback journal on a modelled disk of the base. NoMemory
-/// alone, where a vector of the run's own finds none. Up to the first crash at which a disk that tears puts the header of a
-/// journal together, the replies are a run of the machine; on a disk that doesn't tear, all of them are.
+/// Answers the events one after another, with an engine over a rollback journal on a modelled disk of the base.
+/// NoMemory alone, where a vector of the run's own finds none. Up to the first crash at which a disk that tears puts
+/// the header of a journal together, the replies are a run of the machine; on a disk that doesn't tear, all of them
+/// are.
 pub fn run_journal(alloc: Global, base: &Base, events: &[JEvent]) -> Result<Run, NoMemory>
     ensures complete { IfOk result (λ run. IsComplete base.now.tears events.now run) }
     ensures life { IfOk result (λ run. HasLife base.now events.now run) }
-    ensures runs { IfOk result (λ run. (n : ℕ) → Holds (take n (moments_of events.now run)) → IsRun Step (start_of base.now) (take n (moments_of events.now run))) }
-    ensures untorn { base.now.tears ≡ false → IfOk result (λ run. IsRun Step (start_of base.now) (moments_of events.now run)) }
+    ensures runs { IfOk result (λ run. (n : ℕ) → Holds (take n (moments_of events.now run)) → IsRun Step
+        (start_of base.now) (take n (moments_of events.now run))) }
+    ensures untorn { base.now.tears ≡ false
+        → IfOk result (λ run. IsRun Step (start_of base.now) (moments_of events.now run)) }
 {
     let Ok(disk) = base_disk(alloc, base) else {
         return Err(NoMemory);

@@ -31,8 +31,8 @@ pub struct Found {
     pub log: Vec<u8>,
 }
 
-/// What a crash left of the log of a disk that tears; the bytes of the log at the last moment before it at which nothing of
-/// the log was unsynced; and place and bytes of each write into it since then that was made, or failed.
+/// What a crash left of the log of a disk that tears; the bytes of the log at the last moment before it at which
+/// nothing of the log was unsynced; and place and bytes of each write into it since then that was made, or failed.
 #[derive(Debug, PartialEq, Eq, Drop)]
 pub struct Crashed {
     /// The bytes that it left.
@@ -43,8 +43,8 @@ pub struct Crashed {
     pub handed: Vec<(u64, Vec<u8>)>,
 }
 
-/// What a run answered: for each event a reply, and how many calls the disk had refused when it ended; for each opening what it
-/// found; and on a disk that tears, for each crash what it left.
+/// What a run answered: for each event a reply, and how many calls the disk had refused when it ended; for each opening
+/// what it found; and on a disk that tears, for each crash what it left.
 #[derive(Debug, PartialEq, Eq, Drop)]
 pub struct Run {
     /// One for each event.

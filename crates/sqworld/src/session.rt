@@ -1,5 +1,6 @@
 //! An engine that is there, and its readers (own).
-ghost use Rattle.std.specs.Prelude.{◌≡◌, ◌+◌, ◌<◌, ◌≤◌, ◌^◌, ◌++◌, ◌∷◌, ℕ, [], IfOk, MatchOption, length, get_or, Some, None};
+ghost use Rattle.std.specs.Prelude.{◌≡◌, ◌+◌, ◌<◌, ◌≤◌, ◌^◌, ◌++◌, ◌∷◌, ℕ, [], IfOk, MatchOption, length, get_or, Some};
+ghost use Rattle.std.specs.Prelude.{None};
 ghost use Rattle.crashdisk.specs.Model.{state_of};
 ghost use Rattle.sqval.specs.Answers.{Done, Page};
 ghost use Rattle.walcore.specs.Machine.{Commits, Syncs, Checkpoints, Restarts, Begins, Reads, Ends};
@@ -106,7 +107,8 @@ impl Session {
         pages: &[(u32, Vec<u8>)],
         size: u32,
     ) -> Result<Reply, AllocError>
-        ensures serves { (page_size : ℕ) → IfOk result (λ reply. SessionServes page_size self.old self.new (Commits (numbered pages.now) size) (answer_of reply)) }
+        ensures serves { (page_size : ℕ) → IfOk result (λ reply. SessionServes page_size self.old self.new
+            (Commits (numbered pages.now) size) (answer_of reply)) }
         ensures begun { begun_by self.new ≡ begun_by self.old }
     {
         let all = lend(alloc, pages)?;
@@ -131,7 +133,8 @@ impl Session {
 
     /// Begins the log anew.
     pub fn restart(&mut self, salt2: u32) -> Reply
-        ensures serves { (page_size : ℕ) → SessionServes page_size self.old self.new (Restarts salt2) (answer_of result) }
+        ensures serves { (page_size : ℕ)
+            → SessionServes page_size self.old self.new (Restarts salt2) (answer_of result) }
         ensures begun { begun_by self.new ≡ begun_by self.old }
     {
         outcome(self.wal.restart(salt2))
@@ -140,7 +143,8 @@ impl Session {
     /// A reader begins.
     pub fn begin(&mut self) -> Result<Reply, AllocError>
         requires { begun_by self.old < 2 ^ 63 }
-        ensures serves { (page_size : ℕ) → IfOk result (λ reply. SessionServes page_size self.old self.new Begins (answer_of reply)) }
+        ensures serves { (page_size : ℕ)
+            → IfOk result (λ reply. SessionServes page_size self.old self.new Begins (answer_of reply)) }
         ensures begun { begun_by self.new ≤ begun_by self.old + 1 }
     {
         let number = (self.first + self.slots.len()) as u64;

@@ -89,8 +89,9 @@ fn go(
 pub fn run_wal(alloc: Global, base: &Base, events: &[Event]) -> Result<Run, NoMemory>
     ensures complete { IfOk result (λ run. IsComplete base.now.tears events.now run) }
     ensures life { IfOk result (λ run. HasLife base.now events.now run) }
-    ensures runs { IfOk result (λ run. (n : ℕ) → Holds base.now.page_size base.now.sector base.now.tears nothing (take n (moments_of events.now run))
-        → IsRun Step (start_of base.now) (take n (moments_of events.now run))) }
+    ensures runs { IfOk result (λ run. (n : ℕ) → Holds base.now.page_size base.now.sector base.now.tears nothing
+        (take n (moments_of events.now run)) → IsRun Step (start_of base.now)
+        (take n (moments_of events.now run))) }
 {
     let Ok(disk) = base_disk(alloc, base) else {
         return Err(NoMemory);

@@ -11,7 +11,7 @@ use Rattle.sqwal.specs.Frames.{frame_at, frame_end, content_of, IsValidFrame}
 use Rattle.sqwal.specs.View.{Unnamed, IsLast, IsView}
 use Rattle.sqwal.specs.Index.{FrameTable, IsNewest}
 use Rattle.sqwal.proofs.Same.{frame_at-end}
-use Rattle.crashdisk.specs.State.{FileState, byte, written, longest}
+use Rattle.crashdisk.specs.State.{FileState, byte, longest}
 use Rattle.crashdisk.specs.Call.{DiskState, IsSoundDisk, ArePresent, Writes, Cuts, Looks}
 use Rattle.crashdisk.specs.declared.file.File.TheVariants.{Db}
 use Rattle.crashdisk.specs.declared.error.DiskError.{DiskError}
@@ -24,7 +24,7 @@ use Rattle.crashdisk.proofs.Reading.{mid_inside}
 use Rattle.crashdisk.proofs.Pages.{page_at}
 use Rattle.crashdisk.proofs.Runs.{run_end, run_cases, run_apart, run_inside, run_outside}
 use Rattle.crashdisk.specs.Keeps.{Still, KeepsLog}
-use Rattle.walcore.specs.Plans.{IsTable, IsCopy}
+use Rattle.walcore.specs.Plans.{IsTable}
 use Rattle.walcore.specs.declared.error.WalError.{WalError}
 use Rattle.walcore.specs.declared.error.WalError.TheVariants.{Device}
 use Rattle.crashdisk.proofs.Stills.{still_looks, refusal_after, had_refusal}

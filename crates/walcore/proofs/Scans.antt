@@ -1,7 +1,8 @@
 -- What a scan of the first bytes of a log says of the log, and the count of refused calls.
-use Rattle.std.proofs.Common.{◌≡◌, ℕ, suc, ◌+◌, ◌<◌, ◌≤◌, List, ◌++◌, length, get_or, take, refl, sym, ◌∙◌, ap, subst, arith}
+use Rattle.std.proofs.Common.{◌≡◌, ℕ, suc, ◌+◌, ◌<◌, ◌≤◌, List, ◌++◌, length, get_or, take, drop, refl, sym, ◌∙◌, ap, subst, arith, inl, inr}
 use Rattle.std.specs.Prelude.{Bool, true, false, Option, Some, None, Result, Ok, Err}
-use Rattle.std.proofs.lemmas.List.{length-take-le, take-take, take_all}
+use Rattle.std.proofs.lemmas.List.{length-take-le, take-take, take_all, take-append-drop, get_or-drop, get_or_past}
+use Rattle.std.proofs.lemmas.Bool.{cases_lt}
 use Rattle.sqval.specs.PageSize.{IsPageSize}
 use Rattle.sqwal.specs.Header.{IsHeader, HeaderRefused, named_size}
 use Rattle.sqwal.specs.Frames.{AllPass, IsValidFrame}
@@ -10,14 +11,16 @@ use Rattle.sqwal.specs.Answers.{LogRefused}
 use Rattle.sqwal.specs.declared.error.WalFormatError.{WalFormatError}
 use Rattle.sqwal.specs.declared.error.WalFormatError.TheVariants.{NotAWal, PageSize, HeaderSum, UnknownVersion, TooLong, NoMemory}
 use Rattle.sqwal.proofs.Same.{header_same, word_same, all_same}
-use Rattle.crashdisk.specs.State.{FileState, byte}
+use Rattle.crashdisk.specs.State.{FileState, IsSound, byte}
+use Rattle.crashdisk.proofs.Sound.{byte_is_byte}
+use Rattle.sqval.specs.Bytes.{AreBytes}
 use Rattle.crashdisk.specs.Call.{DiskState, IsSoundDisk, Looks, ArePresent}
 use Rattle.crashdisk.specs.declared.error.DiskError.{DiskError}
 use Rattle.walcore.proofs.Stills.{scan_refused_after}
 use Rattle.walcore.specs.Steps.{IsWithoutHeader, ScanRefused, PieceAnswer, ScanAnswer}
 use Rattle.walcore.specs.declared.error.WalError.{WalError}
 use Rattle.walcore.specs.declared.error.WalError.TheVariants.{TooLarge, Device, NoMemory as WalNoMemory}
-use Rattle.sqwal.specs.Took.{Took}
+use Rattle.sqwal.specs.Took.{Took, IsSettled}
 use Rattle.sqwal.specs.declared.scan.Scan.{Scan}
 use Rattle.crashdisk.proofs.Stills.{had_refusal}
 use Rattle.crashdisk.proofs.Down.{piece_read}
@@ -103,6 +106,21 @@ piece_some w s a b end r go is on answer = let got = subst (λ (x : Result Bool 
 pub piece_done : (w : List ℕ) (s : Scan) (a b : DiskState) (end : ℕ) → Took (take end w) s → PieceAnswer w end (Ok true) s a b
 unfolding PieceAnswer
 piece_done w s a b end took = took
+
+-- the bytes of a log are bytes
+present_bytes : (sector : ℕ) (log : FileState) (w : List ℕ) → IsSound sector log → ArePresent log w → AreBytes w
+present_bytes sector log w sound are i = elim (cases_lt i log.len) [
+  | inl lt ↦ subst (λ (b : ℕ). b < 256) (sym (are.each i lt)) (byte_is_byte sector log sound i)
+  | inr le ↦ subst (λ (b : ℕ). b < 256) (sym (get_or_past w i 0 (omega (arith, are.len)))) (omega arith)
+]
+
+-- a scan that no further bytes change is one of the whole log
+pub piece_settled : (w : List ℕ) (s : Scan) (first a b : DiskState) (end at : ℕ) → IsSoundDisk first → ArePresent first.log w → length w ≡ end → IsSettled (take at w) s → PieceAnswer w end (Ok true) s a b
+unfolding PieceAnswer
+piece_settled w s first a b end at sound are long settled =
+    let bytes = present_bytes first.sector first.log w sound.log are in
+    let whole = subst (λ (l : List ℕ). Took l s) (take-append-drop at w) (settled (drop at w) (λ i. rw (get_or-drop at w i 0) (bytes (at + i)))) in
+    subst (λ (l : List ℕ). Took l s) (sym (take_all end w (omega arith))) whole
 
 module _ (w : List ℕ) (s : Scan) (a b : DiskState) (n : ℕ) (long : length w ≡ n) where
   pub scan_some : (r : Result Bool WalError) (go : Bool) → r ≡ Ok go → go ≡ true → PieceAnswer w n r s a b → ScanAnswer w (Ok (Some s)) a b

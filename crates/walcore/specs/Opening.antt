@@ -14,10 +14,12 @@ use Rattle.walcore.specs.Machine.{at, last}
 use Rattle.walcore.specs.Made.{IsBegun}
 use Rattle.walcore.specs.Folding.{FoldAnswer, Agrees}
 use Rattle.walcore.specs.Plans.{IsFit}
+use Rattle.walcore.specs.Steps.{FoldCalls}
+use Rattle.walcore.specs.Uncommitted.{IsUncommitted}
 use Rattle.crashdisk.specs.Keeps.{HadRefusal, TearsPages, KeepsBytes, IsLogDown, Later, Told, SyncStep}
 use Rattle.sqval.specs.Held.{IsJust}
 use Rattle.walcore.specs.Changes.{MayFold}
-use Rattle.walcore.specs.Fits.{Past, IsLeft}
+use Rattle.walcore.specs.Fits.{Past, AreFiles, IsLeft}
 use Rattle.walcore.specs.declared.opening.NewLog.{NewLog}
 use Rattle.walcore.specs.declared.state.Core.{Core}
 use Rattle.walcore.specs.declared.error.WalError.{WalError}
@@ -67,6 +69,11 @@ pub record MayOpen (size : ℕ) (found : Files) (s : DiskState) : Type 0 where
   pub fit : IsFit size found.log
   pub counted : IsFront (named_size found.log) found.log 0 → IsCounted size (length found.db)
 
+-- An opening that is done: it may be done for the files that are found, and nothing is committed yet.
+pub record OpensFiles (size : ℕ) (core : Core) (old new : DiskState) : Type 0 where
+  pub files : (found : Files) → AreFiles old found → MayOpen size found old
+  pub begun : IsUncommitted core new
+
 -- what an opening does once a sync of the log was answered
 abbrev pub OpensOn : {S T : Type 0} → (size : ℕ) → Result S DiskError → Result T WalError → (old new : DiskState) → Type 0
 OpensOn size (Ok _) result old new = Agrees size old new
@@ -78,6 +85,13 @@ pub record OpensSynced {T : Type 0} (size : ℕ) (result : Result T WalError) (o
   pub mid : DiskState
   pub sync : Syncs Log called old mid
   pub rest : OpensOn size called result mid new
+
+-- What the recovery of an opening does to a sound disk: it asks for what a fold may, and tells that a call was refused; the
+-- database that all which may be left shows stays shown; and so it does from the sync of the log on.
+pub record Recovers {T : Type 0} (size : ℕ) (result : Result T WalError) (old new : DiskState) : Type 0 where
+  pub calls : FoldCalls size result old new
+  pub agrees : Agrees size old new
+  pub synced : OpensSynced size result old new
 
 -- an opening without memory may call nothing
 abbrev pub OpensFirst : {T : Type 0} → (size : ℕ) → Result T WalError → (old new : DiskState) → Type 0

@@ -1,5 +1,6 @@
 //! Checkpoints: what the log has is brought into the database file.
-ghost use Rattle.std.specs.Prelude.{◌≡◌, ◌≢◌, ◌↔◌, ◌+◌, ◌≤◌, ℕ, List, length, OnOk, OnErr, IfErr, IsTrue, IsOk, false, if◌then◌else◌};
+ghost use Rattle.std.specs.Prelude.{◌≡◌, ◌≢◌, ◌↔◌, ◌+◌, ◌≤◌, ℕ, List, length, OnOk, OnErr, IfErr, IsTrue, IsOk, false};
+ghost use Rattle.std.specs.Prelude.{if◌then◌else◌};
 ghost use Rattle.crashdisk.specs.Call.{DiskState, IsSoundDisk};
 ghost use Rattle.walcore.specs.Machine.{at, last, Checkpoints};
 ghost use Rattle.crashdisk.specs.Keeps.{KeepsLog, TellsRefusal};
@@ -7,7 +8,8 @@ ghost use Rattle.walcore.specs.Fits.{Past, Fits, answered, Steps};
 ghost use Rattle.crashdisk.specs.During.{During};
 ghost use Rattle.walcore.specs.Closing.{ClosesOnDevice};
 ghost use Rattle.walcore.specs.Uncommitted.{KeepsUncommitted, BringsNothing};
-ghost use Rattle.walcore.specs.Bringing.{answer_of, IsOldest, LeavesJust, IsLeast, SizeAnswer, Brings, BroughtDown, ClosedBy};
+ghost use Rattle.walcore.specs.Bringing.{answer_of, IsOldest, LeavesJust, IsLeast, SizeAnswer, Brings, BroughtDown};
+ghost use Rattle.walcore.specs.Bringing.{ClosedBy};
 
 use crate::copying::{copy_pages, settle_database};
 use crate::error::WalError;
@@ -37,7 +39,8 @@ fn size_at<D: Disk>(disk: &mut D, page_size: usize, frame: u32) -> Result<u32, W
     requires size { page_size ≤ 65536 }
     ensures word { D.keeps_word disk.old ↔ D.keeps_word disk.new }
     ensures told { D.keeps_word disk.old → TellsRefusal WalError.Device result (D.state disk.old) (D.state disk.new) }
-    ensures size { D.keeps_word disk.old → IsSoundDisk (D.state disk.old) → SizeAnswer page_size frame result (D.state disk.old) (D.state disk.new) }
+    ensures size { D.keeps_word disk.old → IsSoundDisk (D.state disk.old)
+        → SizeAnswer page_size frame result (D.state disk.old) (D.state disk.new) }
     ensures error { OnErr result (result ≡ Err WalError.Device) }
 {
     let mut bytes = [0; 4];
@@ -55,9 +58,12 @@ fn bring_over<D: Disk>(
 ) -> Result<(), WalError>
     requires { (1 ≤ length page.old) × (length page.old ≤ 65536) }
     ensures word { D.keeps_word disk.old ↔ D.keeps_word disk.new }
-    ensures log { D.keeps_word disk.old → IsSoundDisk (D.state disk.old) → KeepsLog (D.state disk.old) (D.state disk.new) }
-    ensures told { D.keeps_word disk.old → IsSoundDisk (D.state disk.old) → TellsRefusal WalError.Device result (D.state disk.old) (D.state disk.new) }
-    ensures brings { D.keeps_word disk.old → IsSoundDisk (D.state disk.old) → Brings (length page.old) frame index.now result (D.state disk.old) (D.state disk.new) }
+    ensures log { D.keeps_word disk.old → IsSoundDisk (D.state disk.old)
+        → KeepsLog (D.state disk.old) (D.state disk.new) }
+    ensures told { D.keeps_word disk.old → IsSoundDisk (D.state disk.old)
+        → TellsRefusal WalError.Device result (D.state disk.old) (D.state disk.new) }
+    ensures brings { D.keeps_word disk.old → IsSoundDisk (D.state disk.old)
+        → Brings (length page.old) frame index.now result (D.state disk.old) (D.state disk.new) }
     ensures error { OnErr result (result ≡ Err WalError.Device) }
     ensures none { frame ≡ 0 → IsOk result × (disk.new ≡ disk.old) }
 {
@@ -96,8 +102,8 @@ impl<D: Disk> Wal<D> {
     /// Brings the database of the oldest open reader into the database file, once the log is down.
     fn bring_down(&mut self) -> Result<Checkpointed, WalError>
         ensures word { D.keeps_word self.old.disk ↔ D.keeps_word self.new.disk }
-        ensures brings { D.keeps_word self.old.disk → (past : Past) → Fits D.state self.old past → IsTrue self.old.core.is_open
-            → past.state.floor ≡ last past.state → past.made.unsynced ≡ false
+        ensures brings { D.keeps_word self.old.disk → (past : Past) → Fits D.state self.old past
+            → IsTrue self.old.core.is_open → past.state.floor ≡ last past.state → past.made.unsynced ≡ false
             → BroughtDown past result self.old.core self.new.core (D.state self.old.disk) (D.state self.new.disk) }
         ensures error { OnErr result (result ≡ Err WalError.Device) }
         ensures none { self.old.core.mark ≡ 0 → IsOk result × BringsNothing self.old self.new }
@@ -120,13 +126,15 @@ impl<D: Disk> Wal<D> {
     pub fn checkpoint(&mut self) -> Result<Checkpointed, WalError>
         ensures step { D.keeps_word self.old.disk → (past : Past) → Fits D.state self.old past
             → Steps D.state self.old self.new past past.tokens Checkpoints (answered answer_of result) }
-        ensures file { D.keeps_word self.old.disk → (past : Past) (i : ℕ) → Fits D.state self.old past → IsOldest past.state i
+        ensures file { D.keeps_word self.old.disk → (past : Past) (i : ℕ) → Fits D.state self.old past
+            → IsOldest past.state i
             → OnOk result (LeavesJust past.state.page_size (at past.state i) (D.state self.new.disk)) }
         ensures kept { IfErr result (λ e. e ≢ WalError.Device → self.new ≡ self.old) }
         ensures closes { ClosesOnDevice result self.old.disk self.new.disk self.old.core self.new.core }
         ensures memory { result ≢ Err WalError.NoMemory }
         // before the first commit
-        ensures agrees { During D.keeps_word D.state self.old.disk self.new.disk (KeepsUncommitted result self.old.core self.new.core) }
+        ensures agrees { During D.keeps_word D.state self.old.disk self.new.disk
+            (KeepsUncommitted result self.old.core self.new.core) }
     {
         self.sync()?;
         let done = self.bring_down();

@@ -20,8 +20,9 @@ fn is_full(used: u32, pages: usize) -> bool
 }
 
 /// Why a commit of these pages, after which the database has `size` of them, would be refused: it has `old_size` now,
-/// and `used` pages were committed into the log. The first of EmptyCommit, SizeZero, PageZero, PageAboveSize, PageTwice,
-/// HoleInGrowth, BadLength, TooLarge and WalFull that holds, whatever memory there is. `numbers` may hold anything.
+/// and `used` pages were committed into the log. The first of EmptyCommit, SizeZero, PageZero, PageAboveSize,
+/// PageTwice, HoleInGrowth, BadLength, TooLarge and WalFull that holds, whatever memory there is. `numbers` may hold
+/// anything.
 pub fn judge(
     pages: &[(u32, &[u8])],
     size: u32,

@@ -48,13 +48,15 @@ fn fold_plan<D: Disk>(disk: &mut D, plan: Plan) -> Result<Folded, WalError>
     ensures word { D.keeps_word disk.old ↔ D.keeps_word disk.new }
     ensures calls { D.keeps_word disk.old → IsSoundDisk (D.state disk.old)
         → (size : ℕ) (w : List ℕ) → IsPlan size w plan → FoldCalls size result (D.state disk.old) (D.state disk.new) }
-    ensures folds { D.keeps_word disk.old → IsSoundDisk (D.state disk.old)
-        → (size : ℕ) (db w : List ℕ) → ArePresent (D.state disk.old).db db → ArePresent (D.state disk.old).log w → IsPlan size w plan
+    ensures folds { D.keeps_word disk.old → IsSoundDisk (D.state disk.old) → (size : ℕ) (db w : List ℕ)
+        → ArePresent (D.state disk.old).db db → ArePresent (D.state disk.old).log w → IsPlan size w plan
         → FoldedAnswer size db w result (D.state disk.old) (D.state disk.new) }
-    ensures shows { D.keeps_word disk.old → (size : ℕ) (w : List ℕ) (d : Database) → Scanning size d w (D.state disk.old)
-        → IsPlan size w plan → IsFit size w → ShowsAlone size d (D.state disk.new) }
-    ensures lengths { D.keeps_word disk.old → IsSoundDisk (D.state disk.old) → (size : ℕ) (w : List ℕ) (n : ℕ) → IsLogDown (D.state disk.old) w
-        → IsPlan size w plan → IsLengthOf size w n (D.state disk.old) → EndsBy n (D.state disk.new) }
+    ensures shows { D.keeps_word disk.old → (size : ℕ) (w : List ℕ) (d : Database)
+        → Scanning size d w (D.state disk.old) → IsPlan size w plan → IsFit size w
+        → ShowsAlone size d (D.state disk.new) }
+    ensures lengths { D.keeps_word disk.old → IsSoundDisk (D.state disk.old) → (size : ℕ) (w : List ℕ) (n : ℕ)
+        → IsLogDown (D.state disk.old) w → IsPlan size w plan → IsLengthOf size w n (D.state disk.old)
+        → EndsBy n (D.state disk.new) }
 {
     if plan.frames == 0 {
         finish(disk)?;
@@ -80,21 +82,23 @@ fn fold_log<D: Disk>(
     ensures word { D.keeps_word disk.old ↔ D.keeps_word disk.new }
     ensures calls { D.keeps_word disk.old → IsSoundDisk (D.state disk.old) → (D.state disk.old).log.len ≡ long
         → FoldCalls page_size result (D.state disk.old) (D.state disk.new) }
-    ensures folds { D.keeps_word disk.old → IsSoundDisk (D.state disk.old) → (TearsPages page_size (D.state disk.old) → ⊥) → (D.state disk.old).log.len ≡ long
+    ensures folds { D.keeps_word disk.old → IsSoundDisk (D.state disk.old)
+        → (TearsPages page_size (D.state disk.old) → ⊥) → (D.state disk.old).log.len ≡ long
         → Folds page_size result (D.state disk.old) (D.state disk.new) }
-    ensures shows { D.keeps_word disk.old → (D.state disk.old).log.len ≡ long
-        → (w : List ℕ) (d : Database) → Scanning page_size d w (D.state disk.old) → ShowsAlone page_size d (D.state disk.new) }
+    ensures shows { D.keeps_word disk.old → (D.state disk.old).log.len ≡ long → (w : List ℕ) (d : Database)
+        → Scanning page_size d w (D.state disk.old) → ShowsAlone page_size d (D.state disk.new) }
     ensures lengths { D.keeps_word disk.old → IsSoundDisk (D.state disk.old) → (D.state disk.old).log.len ≡ long
-        → (w : List ℕ) (n : ℕ) → IsLogDown (D.state disk.old) w → IsLengthOf page_size w n (D.state disk.old) → EndsBy n (D.state disk.new) }
+        → (w : List ℕ) (n : ℕ) → IsLogDown (D.state disk.old) w → IsLengthOf page_size w n (D.state disk.old)
+        → EndsBy n (D.state disk.new) }
 {
     let plan = read_plan(alloc, disk, long, page_size)?;
     fold_plan(disk, plan)
 }
 
 /// Folds the log into the database and empties it: writes each page of the database at the log's front from the last
-/// committed frame that names it, sets the database's length, and once that is down zeroes the log's header and cuts the
-/// log to no bytes. With no committed frame the database's bytes stay. `page_size` must be the one that the log's header
-/// names, and can be any where the log has no valid header.
+/// committed frame that names it, sets the database's length, and once that is down zeroes the log's header and cuts
+/// the log to no bytes. With no committed frame the database's bytes stay. `page_size` must be the one that the log's
+/// header names, and can be any where the log has no valid header.
 ///
 /// Refused with, in this order, `SectorAbovePage` where a disk that tears has larger sectors than such a page,
 /// `TooLarge` where the log has more than 2,097,152 valid frames or its front's database is above 1,073,741,824 bytes,
@@ -106,7 +110,8 @@ pub fn fold<D: Disk>(alloc: Global, disk: &mut D, page_size: PageSize) -> Result
     ensures folds { D.keeps_word disk.old → Folds page_size result (D.state disk.old) (D.state disk.new) }
     ensures agrees { D.keeps_word disk.old → Agrees page_size (D.state disk.old) (D.state disk.new) }
     ensures lengths { D.keeps_word disk.old → KeepsLength page_size (D.state disk.old) (D.state disk.new) }
-    ensures synced { D.keeps_word disk.old → (TearsPages page_size (D.state disk.old) → ⊥) → SyncsFirst page_size result (D.state disk.old) (D.state disk.new) }
+    ensures synced { D.keeps_word disk.old → (TearsPages page_size (D.state disk.old) → ⊥)
+        → SyncsFirst page_size result (D.state disk.old) (D.state disk.new) }
     ensures calls { D.keeps_word disk.old → FoldCalls page_size result (D.state disk.old) (D.state disk.new) }
 {
     judge_sector(disk, page_size)?;
@@ -121,8 +126,10 @@ pub fn fold_synced<D: Disk>(
     page_size: PageSize,
 ) -> Result<Folded, WalError>
     ensures word { D.keeps_word disk.old ↔ D.keeps_word disk.new }
-    ensures folds { D.keeps_word disk.old → IsEmptyDown (D.state disk.old) → Folds page_size result (D.state disk.old) (D.state disk.new) }
-    ensures empty { D.keeps_word disk.old → (D.state disk.old).log.len ≡ 0 → Still (D.state disk.old) (D.state disk.new) }
+    ensures folds { D.keeps_word disk.old → IsEmptyDown (D.state disk.old)
+        → Folds page_size result (D.state disk.old) (D.state disk.new) }
+    ensures empty { D.keeps_word disk.old → (D.state disk.old).log.len ≡ 0
+        → Still (D.state disk.old) (D.state disk.new) }
     ensures agrees { D.keeps_word disk.old → Agrees page_size (D.state disk.old) (D.state disk.new) }
     ensures lengths { D.keeps_word disk.old → KeepsLength page_size (D.state disk.old) (D.state disk.new) }
     ensures calls { D.keeps_word disk.old → FoldCalls page_size result (D.state disk.old) (D.state disk.new) }

@@ -28,8 +28,9 @@ pub fn a_base_fits()
     ensures down { (size : ℕ) (base : Database) (bytes : List ℕ) (s : DiskState) → Suits size s → IsHeld size base
         → IsJust size base bytes → IsSettled s.db bytes → IsLogDown s [] → FitsAlone (beginning size base) s }
     // no sector that tears exceeds a page
-    ensures new { (size sector : ℕ) (torn : Bool) (base : Database) (bytes : List ℕ) (s : DiskState) → IsPageSize size → IsSectorSize sector
-        → (torn ≡ true → sector ≤ size) → IsHeld size base → IsJust size base bytes → IsNew sector torn bytes s → FitsAlone (beginning size base) s }
+    ensures new { (size sector : ℕ) (torn : Bool) (base : Database) (bytes : List ℕ) (s : DiskState)
+        → IsPageSize size → IsSectorSize sector → (torn ≡ true → sector ≤ size) → IsHeld size base
+        → IsJust size base bytes → IsNew sector torn bytes s → FitsAlone (beginning size base) s }
 {}
 
 /// Two files that are down fit where a world begins with the database that they show together, whatever the log holds
@@ -53,28 +54,31 @@ pub fn a_look_fits()
         → FitsCore past core new }
 {}
 
-/// What fits a disk that no engine holds fits it after a crash, once every reader is forgotten; where the disk tears, if no
-/// valid header or frame is put together by chance (own).
+/// What fits a disk that no engine holds fits it after a crash, once every reader is forgotten; where the disk tears,
+/// if no valid header or frame is put together by chance (own).
 pub fn a_crash_fits()
     ensures { (past : Past) (db log : List ℕ) (old new : DiskState) → FitsAlone past old → IsCrash db log old new
         → (old.tears ≡ true → AreWhole old.kept old.handed log)
         → FitsAlone (record { state = gone past.state; made = past.made; tokens = none_open past.tokens }) new }
 {}
 
-/// What fits a disk shows, once the log is synced, one database of the history alone, at the floor or later, and the newest
-/// where the machine is open: so what is said of interrupted recovery holds of each opening of a run.
+/// What fits a disk shows, once the log is synced, one database of the history alone, at the floor or later, and the
+/// newest where the machine is open: so what is said of interrupted recovery holds of each opening of a run.
 pub fn one_is_shown()
-    ensures { (past : Past) (files : Files) (old mid : DiskState) → FitsDisk past old → AreFiles old files → NoChance past.made.logs files.log
-        → Syncs {T = Unit {0}} Log (Ok tt) old mid → (k : ℕ) × (past.state.floor ≤ k) × (k < length past.state.history)
+    ensures { (past : Past) (files : Files) (old mid : DiskState) → FitsDisk past old → AreFiles old files
+        → NoChance past.made.logs files.log → Syncs {T = Unit {0}} Log (Ok tt) old mid → (k : ℕ)
+        × (past.state.floor ≤ k) × (k < length past.state.history)
         × (IsTrue past.state.is_open → k ≡ last past.state) × ShowsAlone past.state.page_size (at past.state k) mid }
 {}
 
-/// The one database that a disk shows alone stays shown: after a look, after a sync of either file, done or refused, after
-/// calls that changed no byte and whatever was set, and after a crash, where a disk that tears puts no valid header or frame
-/// together by chance.
+/// The one database that a disk shows alone stays shown: after a look, after a sync of either file, done or refused,
+/// after calls that changed no byte and whatever was set, and after a crash, where a disk that tears puts no valid
+/// header or frame together by chance.
 pub fn what_is_shown_stays()
-    ensures len { (end : ℕ) (result : Result ℕ DiskError) (old new : DiskState) → Looks end result old new → KeepsShown old new }
-    ensures read { (end : ℕ) (result : Result (Unit {0}) DiskError) (old new : DiskState) → Looks end result old new → KeepsShown old new }
+    ensures len { (end : ℕ) (result : Result ℕ DiskError) (old new : DiskState) → Looks end result old new
+        → KeepsShown old new }
+    ensures read { (end : ℕ) (result : Result (Unit {0}) DiskError) (old new : DiskState) → Looks end result old new
+        → KeepsShown old new }
     ensures sync { (file : File) (result : Result (Unit {0}) DiskError) (old new : DiskState)
         → IsSoundDisk old → Syncs file result old new → KeepsShown old new }
     ensures same { (old new : DiskState) → IsSoundDisk old → SameFiles old new → KeepsShown old new }
@@ -96,9 +100,9 @@ pub fn what_is_down_stays()
         → Runs Step (start page_size base) 0 before old count → Runs Step old count later new after → Keeps old new }
 {}
 
-/// The machine chooses nothing but the database that an opening shows. It answers what is expected; in place of an answer
-/// that is no refusal, want of memory (an opening, a commit and a begin alone), or a refused call of the disk that has a
-/// cause (every call of the engine but the end of a reader). A read changes nothing (own).
+/// The machine chooses nothing but the database that an opening shows. It answers what is expected; in place of an
+/// answer that is no refusal, want of memory (an opening, a commit and a begin alone), or a refused call of the disk
+/// that has a cause (every call of the engine but the end of a reader). A read changes nothing (own).
 pub fn one_step()
     ensures next { (old : State) (act : Act) (answer : Answer) (b a c d : ℕ) (new other : State)
         → is_opening act ≡ false → Step old act answer b a new → Step old act answer c d other → new ≡ other }

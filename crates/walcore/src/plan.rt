@@ -5,7 +5,8 @@ ghost use Rattle.sqwal.specs.Took.{Took};
 ghost use Rattle.sqwal.specs.Header.{named_size, IsHeader};
 ghost use Rattle.sqwal.specs.Frames.{IsValidFrame};
 ghost use Rattle.crashdisk.specs.Keeps.{Still, TellsRefusal};
-ghost use Rattle.walcore.specs.Plans.{wanted_page, HasRoom, IsTable, IsFit, IsPlan, JudgeAnswer, PlanAnswer, ReadAnswer};
+ghost use Rattle.walcore.specs.Plans.{wanted_page, HasRoom, IsTable, IsFit, IsPlan, JudgeAnswer, PlanAnswer};
+ghost use Rattle.walcore.specs.Plans.{ReadAnswer};
 
 use crate::error::WalError;
 use crate::reading::{scan_log, zeros};
@@ -17,11 +18,11 @@ use std::alloc::Global;
 /// The most bytes of a database.
 const MOST_BYTES: u64 = 1073741824;
 
-/// More room than for one page in which pages are copied, in bytes.
+/// The most room beyond one page in which pages are copied, in bytes.
 const RUN: usize = 196_608;
 
-/// The committed frames of a log, the size of the database there in pages, the size of a page, the frames by their pages,
-/// and room for some pages.
+/// The committed frames of a log, the size of the database there in pages, the size of a page, the frames by their
+/// pages, and room for some pages.
 #[derive(Drop)]
 pub struct Plan {
     pub frames: u32,
@@ -58,7 +59,8 @@ fn judge(scan: &Scan, page_size: PageSize) -> Result<Front, WalError>
 /// The page that a frame names, 0 where it is above the size.
 fn wanted(scan: &Scan, frame: usize, size: u32) -> u32
     ensures bound { result ≤ size }
-    ensures page { (w : List ℕ) → Took w scan.now → IsValidFrame (named_size w) w frame → result ≡ wanted_page (named_size w) size w frame }
+    ensures page { (w : List ℕ) → Took w scan.now → IsValidFrame (named_size w) w frame
+        → result ≡ wanted_page (named_size w) size w frame }
 {
     match scan.entry(frame) {
         Some(entry) => { if entry.page <= size { entry.page } else { 0 } }
@@ -83,7 +85,8 @@ pub fn grow(index: &mut FrameIndex, bound: u32, frames: u32) -> Result<(), WalEr
 
 /// The frames of a log up to its front by their pages (own). NoMemory alone.
 pub fn index_of(alloc: Global, scan: &Scan, front: Front) -> Result<FrameIndex, WalError>
-    ensures table { IfOk result (λ t. (w : List ℕ) → Took w scan.now → IsValidFrame (named_size w) w front.frames → IsTable (named_size w) front.size w front.frames t) }
+    ensures table { IfOk result (λ t. (w : List ℕ) → Took w scan.now → IsValidFrame (named_size w) w front.frames →
+        IsTable (named_size w) front.size w front.frames t) }
     ensures memory { OnErr result (result ≡ Err WalError.NoMemory) }
 {
     let mut index = FrameIndex::new(alloc);
@@ -118,7 +121,8 @@ fn plan_of(alloc: Global, scan: &Scan, page_size: PageSize) -> Result<Plan, WalE
         return Ok(no_plan(alloc, page_size));
     }
     let index = index_of(alloc, scan, front)?;
-    let room = zeros(alloc, page_size.get() as usize + RUN)?;
+    let page = page_size.get() as usize;
+    let room = zeros(alloc, page + RUN.min(front.frames as usize * page))?;
     Ok(Plan {
         frames: front.frames,
         size: front.size,
@@ -136,7 +140,8 @@ pub fn read_plan<D: Disk>(
     page_size: PageSize,
 ) -> Result<Plan, WalError>
     ensures word { D.keeps_word disk.old ↔ D.keeps_word disk.new }
-    ensures still { D.keeps_word disk.old → IsSoundDisk (D.state disk.old) → Still (D.state disk.old) (D.state disk.new) }
+    ensures still { D.keeps_word disk.old → IsSoundDisk (D.state disk.old)
+        → Still (D.state disk.old) (D.state disk.new) }
     ensures told { D.keeps_word disk.old → TellsRefusal WalError.Device result (D.state disk.old) (D.state disk.new) }
     ensures plan { D.keeps_word disk.old → IsSoundDisk (D.state disk.old)
         → (w : List ℕ) → ArePresent (D.state disk.old).log w → length w ≡ long

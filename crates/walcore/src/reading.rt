@@ -35,10 +35,11 @@ fn feed_piece<D: Disk>(
     piece: &mut [u8],
 ) -> Result<bool, WalError>
     ensures word { D.keeps_word disk.old ↔ D.keeps_word disk.new }
-    ensures still { D.keeps_word disk.old → IsSoundDisk (D.state disk.old) → Still (D.state disk.old) (D.state disk.new) }
+    ensures still { D.keeps_word disk.old → IsSoundDisk (D.state disk.old)
+        → Still (D.state disk.old) (D.state disk.new) }
     ensures told { D.keeps_word disk.old → TellsRefusal WalError.Device result (D.state disk.old) (D.state disk.new) }
-    ensures took { D.keeps_word disk.old → IsSoundDisk (D.state disk.old)
-        → (w : List ℕ) → ArePresent (D.state disk.old).log w → at + length piece.old ≤ length w → Took (take at w) scan.old
+    ensures took { D.keeps_word disk.old → IsSoundDisk (D.state disk.old) → (w : List ℕ)
+        → ArePresent (D.state disk.old).log w → at + length piece.old ≤ length w → Took (take at w) scan.old
         → PieceAnswer w (at + length piece.old) result scan.new (D.state disk.old) (D.state disk.new) }
 {
     disk.read_at(File::Log, at, piece)?;
@@ -48,7 +49,8 @@ fn feed_piece<D: Disk>(
     }
 }
 
-/// Hands the log, which has this many bytes, to the scan. Whether it may have a valid header.
+/// Hands the log, which has this many bytes, to the scan, no further than the piece in which it stops. Whether it may
+/// have a valid header.
 fn scan_pieces<D: Disk>(
     disk: &mut D,
     scan: &mut Scan,
@@ -57,7 +59,8 @@ fn scan_pieces<D: Disk>(
 ) -> Result<bool, WalError>
     requires { 0 < length buffer.old }
     ensures word { D.keeps_word disk.old ↔ D.keeps_word disk.new }
-    ensures still { D.keeps_word disk.old → IsSoundDisk (D.state disk.old) → Still (D.state disk.old) (D.state disk.new) }
+    ensures still { D.keeps_word disk.old → IsSoundDisk (D.state disk.old)
+        → Still (D.state disk.old) (D.state disk.new) }
     ensures told { D.keeps_word disk.old → TellsRefusal WalError.Device result (D.state disk.old) (D.state disk.new) }
     ensures took { D.keeps_word disk.old → IsSoundDisk (D.state disk.old)
         → (w : List ℕ) → ArePresent (D.state disk.old).log w → length w ≡ long → Took [] scan.old
@@ -71,6 +74,9 @@ fn scan_pieces<D: Disk>(
             return Ok(false);
         }
         at += n as u64;
+        if scan.is_over() {
+            return Ok(true);
+        }
     }
     Ok(true)
 }
@@ -86,7 +92,8 @@ pub fn zeros(alloc: Global, long: usize) -> Result<Vec<u8>, WalError>
 /// Scans the log, which has this many bytes. None where its header isn't valid.
 pub fn scan_log<D: Disk>(alloc: Global, disk: &mut D, long: u64) -> Result<Option<Scan>, WalError>
     ensures word { D.keeps_word disk.old ↔ D.keeps_word disk.new }
-    ensures still { D.keeps_word disk.old → IsSoundDisk (D.state disk.old) → Still (D.state disk.old) (D.state disk.new) }
+    ensures still { D.keeps_word disk.old → IsSoundDisk (D.state disk.old)
+        → Still (D.state disk.old) (D.state disk.new) }
     ensures told { D.keeps_word disk.old → TellsRefusal WalError.Device result (D.state disk.old) (D.state disk.new) }
     ensures took { D.keeps_word disk.old → IsSoundDisk (D.state disk.old)
         → (w : List ℕ) → ArePresent (D.state disk.old).log w → length w ≡ long

@@ -23,8 +23,8 @@ pub fn readers_are_waited_for()
     ensures commits_refused { CommitsRefused }
 {}
 
-/// No runs: a synced commit is lost; a commit is shown without the one before it; a lost one comes back; a reader is given
-/// a later page; a checkpoint is complete with a reader behind.
+/// No runs: a synced commit is lost; a commit is shown without the one before it; a lost one comes back; a reader is
+/// given a later page; a checkpoint is complete with a reader behind.
 pub fn no_runs()
     ensures lost_sync { NoLostSync }
     ensures skipped { NoSkipped }

@@ -13,6 +13,7 @@ use Rattle.crashdisk.proofs.Stills.{present_in, keeps_same, keeps_then, keeps_cu
 use Rattle.rollcore.proofs.Copies.{upto_none, upto_run, run_refused, copied_at, cut_refused}
 use Rattle.rollcore.proofs.Records.{entries_of, count_is}
 use Rattle.rollcore.proofs.Agreeing.{writing_run}
+use Rattle.rollcore.proofs.ReadFronts.{read_count}
 use Rattle.rollcore.proofs.Writing.{writing_cuts}
 use Rattle.rollcore.proofs.copying.copy_records.Goals as goal
 
@@ -20,11 +21,11 @@ pub loop-done-init : goal.loop-done-init
 loop-done-init g c = record {
   within = omega arith;
   kept = (λ k. k, λ k. k);
-  all = c.count-total.ensures;
+  all = λ w read. read_count w c.args.scan.now read c.count-total.result c.count-total.ensures;
   log = λ word sound. keeps_same _ sound;
   asks = λ word sound within. asks_same _ _ sound;
-  pages = λ word sound db w segments end why db_are are took size within is. upto_none w db c.args.count (entries_of w segments) (g.D.Disk.state c.args.disk.now) db_are;
-  writing = λ word sound w d are took within is. is;
+  pages = λ word sound db w segments end why db_are are has size within is. upto_none w db c.args.count (entries_of w segments) (g.D.Disk.state c.args.disk.now) db_are;
+  writing = λ word sound w d are has within is. is;
 }
 
 pub copy_run-requires-clause-number : goal.copy_run-requires-clause-number
@@ -46,17 +47,17 @@ loop-done-preserved g c =
       asks = λ word sound within.
           asks_then {U = Unit {0}} (Ok tt) (Ok tt) tt _ _ _ refl (i.asks word sound within) (asks_as (Ok tt) c.copy_run.result _ _ _ c.in_ok-done.was
           ((c.copy_run.ensures.disk.holds (i.kept.0 word) (i.log word sound).sound).asks within));
-      pages = λ word sound db w segments end why db_are are took size within is.
+      pages = λ word sound db w segments end why db_are are has size within is.
           let before = i.log word sound in
-          let n = count_is w segments end why is c.count-total.result (i.all w took) in
+          let n = count_is w segments end why is c.count-total.result (i.all w has) in
           let below : c.loop-done.done < length (entries_of w segments) = omega (arith, c.loop-done-test.true, n) in
           upto_run w db c.args.count c.args.size segments end why is size c.loop-done.done c.in_ok-done.field-0 c.copy_run.result _ _ below
-          (i.pages word sound db w segments end why db_are are took size within is) c.in_ok-done.was
-          ((c.copy_run.ensures.disk.holds (i.kept.0 word) before.sound).pages w (present_in _ _ w before.log are) took size within);
-      writing = λ word sound w d are took within is.
+          (i.pages word sound db w segments end why db_are are has size within is) c.in_ok-done.was
+          ((c.copy_run.ensures.disk.holds (i.kept.0 word) before.sound).pages w (present_in _ _ w before.log are) has size within);
+      writing = λ word sound w d are has within is.
           let before = i.log word sound in
-          writing_run c.args.size w d (c.loop-done.done + 1) c.args.count c.copy_run.result _ _ (omega arith) (i.writing word sound w d are took within is)
-          ((c.copy_run.ensures.disk.holds (i.kept.0 word) before.sound).pages w (present_in _ _ w before.log are) took is.named within);
+          writing_run c.args.size w d (c.loop-done.done + 1) c.args.count c.copy_run.result _ _ (omega arith) (i.writing word sound w d are has within is)
+          ((c.copy_run.ensures.disk.holds (i.kept.0 word) before.sound).pages w (present_in _ _ w before.log are) has is.named within);
     }
 
 pub returns-in_err-done : goal.returns-in_err-done
@@ -69,12 +70,12 @@ returns-in_err-done g c = record {
       record {
         log = keeps_then _ _ _ before now.log;
         asks = λ within. asks_then {U = Unit {0}} _ (Ok tt) tt _ _ _ refl (i.asks word sound within) (asks_err c.from_residual.result c.copy_run.result _ _ _ c.in_err-done.was (passed c.from_residual.result _ c.from_residual.ensures.1) (now.asks within));
-        pages = λ db w d db_are are took hot size first within rolled.
+        pages = λ db w d db_are are has hot size first within rolled.
             run_refused c.args.size w c.args.count (c.loop-done.done + 1) d c.copy_run.result c.from_residual.result _ _ _ _ before.refused c.in_err-done.was (passed c.from_residual.result _ c.from_residual.ensures.1)
-            (now.pages w (present_in _ _ w before.log are) took size within);
-        writing = λ w d are took within first is.
-            writing_run c.args.size w d (c.loop-done.done + 1) c.args.count c.copy_run.result _ _ (omega arith) (i.writing word sound w d are took within is)
-            (now.pages w (present_in _ _ w before.log are) took is.named within);
+            (now.pages w (present_in _ _ w before.log are) has size within);
+        writing = λ w d are has within first is.
+            writing_run c.args.size w d (c.loop-done.done + 1) c.args.count c.copy_run.result _ _ (omega arith) (i.writing word sound w d are has within is)
+            (now.pages w (present_in _ _ w before.log are) has is.named within);
       };
 }
 
@@ -92,10 +93,10 @@ returns-in_err-set_len g c = record {
             let so_far = i.asks word sound within in
             let last : Later (MayReplay c.args.size) (g.D.Disk.state c.loop-done.disk) (g.D.Disk.state c.set_len.new.self) = later_cut Db _ c.set_len.result _ _ (c.args.count, same, omega (arith, same, within)) so_far.later.sound cut in
             asks_then {U = Unit {0}} _ (Ok tt) tt _ _ _ refl so_far (asks_device c.from_residual-in_err-set_len.result _ _ (passed c.from_residual-in_err-set_len.result Device c.from_residual-in_err-set_len.ensures.1) last);
-        pages = λ db w d db_are are took hot size first within rolled.
+        pages = λ db w d db_are are has hot size first within rolled.
             cut_refused c.args.size c.args.count _ d c.set_len.result _ c.from_residual-in_err-set_len.result _ _ _ before same within c.in_err-set_len.was (passed c.from_residual-in_err-set_len.result Device c.from_residual-in_err-set_len.ensures.1) cut;
-        writing = λ w d are took within first is.
-            writing_cuts c.args.size w d _ c.set_len.result _ _ (i.writing word sound w d are took within is) (same ∙ ap (λ (n : ℕ). n * c.args.size) first) cut;
+        writing = λ w d are has within first is.
+            writing_cuts c.args.size w d _ c.set_len.result _ _ (i.writing word sound w d are has within is) (same ∙ ap (λ (n : ℕ). n * c.args.size) first) cut;
       };
 }
 
@@ -113,14 +114,14 @@ returns g c = record {
             let so_far = i.asks word sound within in
             let last : Later (MayReplay c.args.size) (g.D.Disk.state c.loop-done.disk) (g.D.Disk.state c.set_len.new.self) = later_cut Db _ c.set_len.result _ _ (c.args.count, same, omega (arith, same, within)) so_far.later.sound cut in
             asks_then {U = Unit {0}} (Ok tt) (Ok tt) tt _ _ _ refl so_far (asks_done (Ok tt) c.set_len.result _ _ _ c.in_ok-set_len.was cut.elsewhere.refused last);
-        pages = λ db w d db_are are took hot size first within rolled.
-            let count = i.all w took in
+        pages = λ db w d db_are are has hot size first within rolled.
+            let count = i.all w has in
             let n = count_is w count.segments count.stop.at count.stop.why count.is c.count-total.result count in
             let all : c.loop-done.done ≡ length (entries_of w count.segments) = omega (arith, i.within, c.loop-done-test.false, n) in
             copied_at w db c.args.count _ c.args.size count.segments count.stop.at count.stop.why count.is hot c.loop-done.done d _ _ _ rolled size first same all
-            (i.pages word sound db w count.segments count.stop.at count.stop.why db_are are took size within count.is)
+            (i.pages word sound db w count.segments count.stop.at count.stop.why db_are are has size within count.is)
             (c.in_ok-set_len.ensures.state (i.kept.0 word));
-        writing = λ w d are took within first is.
-            writing_cuts c.args.size w d _ c.set_len.result _ _ (i.writing word sound w d are took within is) (same ∙ ap (λ (n : ℕ). n * c.args.size) first) cut;
+        writing = λ w d are has within first is.
+            writing_cuts c.args.size w d _ c.set_len.result _ _ (i.writing word sound w d are has within is) (same ∙ ap (λ (n : ℕ). n * c.args.size) first) cut;
       };
 }

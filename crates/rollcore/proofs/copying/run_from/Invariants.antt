@@ -1,13 +1,14 @@
 use Rattle.std.proofs.Common.{ℕ, List, ◌+◌, ◌-◌, ◌*◌, ◌<◌, ◌≤◌}
 use Rattle.std.specs.Prelude.{Some}
-use Rattle.sqjournal.specs.Took.{Took, HasEntry}
+use Rattle.sqjournal.specs.Took.{HasEntry}
+use Rattle.rollcore.specs.Steps.{HasRead}
 use Rattle.rollcore.proofs.copying.run_from.Given as goal
 
 abbrev pub invariant-loop-run : goal.invariant-loop-run
 invariant-loop-run l = record {
   some : 1 ≤ l.run;
   within : l.run ≤ l.most;
-  each : (w : List ℕ) → Took w l.scan → HasEntry w l.number (Some l.first) → (j : ℕ) → j < l.run → HasEntry w (l.number + j) (Some (record { page = l.first.page + j; at = l.first.at + j * (l.size + 8) }));
+  each : (w : List ℕ) → HasRead w l.scan → HasEntry w l.number (Some l.first) → (j : ℕ) → j < l.run → HasEntry w (l.number + j) (Some (record { page = l.first.page + j; at = l.first.at + j * (l.size + 8) }));
 }
 
 abbrev pub decreases-loop-run : goal.decreases-loop-run

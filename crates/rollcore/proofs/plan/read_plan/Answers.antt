@@ -3,7 +3,7 @@ use Rattle.std.specs.Prelude.{Ok, Option, None}
 use Rattle.rollcore.specs.declared.plan.Plan.{Plan}
 use Rattle.rollcore.proofs.Told.{told_as, told_err}
 use Rattle.sqval.proofs.Answering.{passed}
-use Rattle.rollcore.proofs.Judging.{plan_none, read_planned, read_scan, scan_took, scan_cold}
+use Rattle.rollcore.proofs.Judging.{plan_none, read_planned, read_scan, scan_read, scan_cold}
 use Rattle.rollcore.proofs.plan.read_plan.Goals as goal
 
 pub returns-in_err-scan-clause-plan : goal.returns-in_err-scan-clause-plan
@@ -12,7 +12,7 @@ returns-in_err-scan-clause-plan g c = λ word sound w are long.
 
 pub returns-in-Some-clause-plan : goal.returns-in-Some-clause-plan
 returns-in-Some-clause-plan g c = λ word sound w are long.
-    read_planned c.args.torn w _ _ c.plan_of.result (c.plan_of.ensures.plan w (scan_took c.args.torn w _ _ c.scan_log.result c.in-Some.scan (c.in_ok-scan.was ∙ ap Ok c.in-Some.is) (c.scan_log.ensures.took word sound w are long)))
+    read_planned c.args.torn w _ _ c.plan_of.result (c.plan_of.ensures.plan w (scan_read c.args.torn w _ _ c.scan_log.result c.in-Some.scan (c.in_ok-scan.was ∙ ap Ok c.in-Some.is) (c.scan_log.ensures.took word sound w are long)))
 
 pub returns-in-None-clause-plan : goal.returns-in-None-clause-plan
 returns-in-None-clause-plan g c = λ word sound w are long.

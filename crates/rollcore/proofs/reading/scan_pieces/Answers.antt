@@ -3,11 +3,11 @@ use Rattle.std.specs.Prelude.{Bool, true, false, Result, Ok}
 use Rattle.rollcore.proofs.Told.{told_same, told_as, told_err, told_then}
 use Rattle.std.proofs.lemmas.List.{length-take-le}
 use Rattle.sqjournal.specs.Took.{Took}
-use Rattle.rollcore.specs.Steps.{PieceAnswer}
+use Rattle.rollcore.specs.Steps.{PiecesAnswer}
 use Rattle.rollcore.specs.declared.error.RollError.{RollError}
 use Rattle.sqval.proofs.Answering.{passed}
 use Rattle.crashdisk.proofs.Stills.{still, still_then, still_sound, present_in}
-use Rattle.rollcore.proofs.Scans.{piece_after, piece_none, piece_some, piece_done}
+use Rattle.rollcore.proofs.Scans.{piece_after, piece_none, piece_some, pieces_done, pieces_over}
 use Rattle.rollcore.proofs.reading.scan_pieces.Goals as goal
 
 pub loop-at-init : goal.loop-at-init
@@ -26,8 +26,8 @@ returns-in_err-feed_piece-clause-took g c = λ word sound w are long took.
     let before = c.loop-at.invariant.still word sound in
     let n : length (take c.min-n.result c.loop-at.buffer) ≡ c.min-n.result = length-take-le c.min-n.result c.loop-at.buffer (omega (arith, c.loop-at.auto.buffer)) in
     let answer = c.feed_piece.ensures.took (c.loop-at.invariant.word.0 word) (still_sound _ _ sound before) w (present_in _ _ w before.log are) (omega arith) (c.loop-at.invariant.took word sound w are long took) in
-    subst (λ (r : Result Bool RollError). PieceAnswer w c.args.long r c.feed_piece.new.scan (g.D.Disk.state c.args.disk.now) (g.D.Disk.state c.feed_piece.new.disk))
-    (sym (passed c.from_residual.result _ c.from_residual.ensures.1)) (piece_after w c.feed_piece.new.scan _ _ _ before.refused _ c.args.long c.feed_piece.result _ c.in_err-feed_piece.was answer)
+    subst (λ (r : Result Bool RollError). PiecesAnswer w r c.feed_piece.new.scan (g.D.Disk.state c.args.disk.now) (g.D.Disk.state c.feed_piece.new.disk))
+    (sym (passed c.from_residual.result _ c.from_residual.ensures.1)) (piece_after w c.feed_piece.new.scan _ _ _ before.refused _ c.feed_piece.result _ c.in_err-feed_piece.was answer)
 
 pub returns-then-not-branch-clause-word : goal.returns-then-not-branch-clause-word
 returns-then-not-branch-clause-word g c = (λ k. c.feed_piece.ensures.word.0 (c.loop-at.invariant.word.0 k), λ k. c.loop-at.invariant.word.1 (c.feed_piece.ensures.word.1 k))
@@ -42,7 +42,7 @@ returns-then-not-branch-clause-took g c = λ word sound w are long took.
     let before = c.loop-at.invariant.still word sound in
     let n : length (take c.min-n.result c.loop-at.buffer) ≡ c.min-n.result = length-take-le c.min-n.result c.loop-at.buffer (omega (arith, c.loop-at.auto.buffer)) in
     let answer = c.feed_piece.ensures.took (c.loop-at.invariant.word.0 word) (still_sound _ _ sound before) w (present_in _ _ w before.log are) (omega arith) (c.loop-at.invariant.took word sound w are long took) in
-    piece_none w c.feed_piece.new.scan _ _ _ before.refused _ c.args.long c.feed_piece.result _ c.in_ok-feed_piece.was c.if-not-branch.true answer
+    piece_none w c.feed_piece.new.scan _ _ _ before.refused _ c.feed_piece.result _ c.in_ok-feed_piece.was c.if-not-branch.true answer
 
 pub loop-at-preserved : goal.loop-at-preserved
 loop-at-preserved g c = record {
@@ -68,7 +68,7 @@ returns-clause-still g c = c.loop-at.invariant.still
 pub returns-clause-took : goal.returns-clause-took
 returns-clause-took g c = λ word sound w are long took.
     let all : c.loop-at.at ≡ c.args.long = omega arith in
-    piece_done w c.loop-at.scan _ _ c.args.long (subst (λ (k : ℕ). Took (take k w) c.loop-at.scan) all (c.loop-at.invariant.took word sound w are long took))
+    pieces_done w c.loop-at.scan _ _ c.args.long (subst (λ (k : ℕ). Took (take k w) c.loop-at.scan) all (c.loop-at.invariant.took word sound w are long took)) long
 
 pub returns-in_err-feed_piece-clause-told : goal.returns-in_err-feed_piece-clause-told
 returns-in_err-feed_piece-clause-told g c = λ word. told_then c.from_residual.result {U = Bool} (Ok true) true (g.D.Disk.state c.args.disk.now) (g.D.Disk.state c.loop-at.disk) (g.D.Disk.state c.feed_piece.new.disk) refl (c.loop-at.invariant.told word)
@@ -79,3 +79,22 @@ returns-then-not-branch-clause-told g c = λ word. told_then {T = Bool} (Ok fals
 
 pub returns-clause-told : goal.returns-clause-told
 returns-clause-told g c = λ word. c.loop-at.invariant.told word
+
+pub returns-then-is_over-clause-word : goal.returns-then-is_over-clause-word
+returns-then-is_over-clause-word g c = (λ k. c.feed_piece.ensures.word.0 (c.loop-at.invariant.word.0 k), λ k. c.loop-at.invariant.word.1 (c.feed_piece.ensures.word.1 k))
+
+pub returns-then-is_over-clause-still : goal.returns-then-is_over-clause-still
+returns-then-is_over-clause-still g c = λ word sound.
+    let before = c.loop-at.invariant.still word sound in
+    still_then _ _ _ before (c.feed_piece.ensures.still (c.loop-at.invariant.word.0 word) (still_sound _ _ sound before))
+
+pub returns-then-is_over-clause-told : goal.returns-then-is_over-clause-told
+returns-then-is_over-clause-told g c = λ word. told_then {T = Bool} (Ok true) {U = Bool} (Ok true) true (g.D.Disk.state c.args.disk.now) (g.D.Disk.state c.loop-at.disk) (g.D.Disk.state c.feed_piece.new.disk) refl (c.loop-at.invariant.told word) (told_as {T = Bool} (Ok true) c.feed_piece.result _ (g.D.Disk.state c.loop-at.disk) (g.D.Disk.state c.feed_piece.new.disk) c.in_ok-feed_piece.was (c.feed_piece.ensures.told (c.loop-at.invariant.word.0 word)))
+
+pub returns-then-is_over-clause-took : goal.returns-then-is_over-clause-took
+returns-then-is_over-clause-took g c = λ word sound w are long took.
+    let before = c.loop-at.invariant.still word sound in
+    let n : length (take c.min-n.result c.loop-at.buffer) ≡ c.min-n.result = length-take-le c.min-n.result c.loop-at.buffer (omega (arith, c.loop-at.auto.buffer)) in
+    let answer = c.feed_piece.ensures.took (c.loop-at.invariant.word.0 word) (still_sound _ _ sound before) w (present_in _ _ w before.log are) (omega arith) (c.loop-at.invariant.took word sound w are long took) in
+    let fed = piece_some w c.feed_piece.new.scan _ _ _ c.feed_piece.result _ c.in_ok-feed_piece.was c.if-not-branch.false answer in
+    pieces_over w c.feed_piece.new.scan _ _ _ fed (c.is_over.ensures c.if-is_over.true _ fed)

@@ -13,6 +13,7 @@ use Rattle.rollcore.proofs.Agreeing.{fit_begins}
 use Rattle.sqval.specs.CommitFaults.{most_bytes}
 use Rattle.rollcore.specs.Changes.{MayReplay, Asks}
 use Rattle.rollcore.proofs.Told.{asks_as, asks_err, asks_then}
+use Rattle.rollcore.proofs.ReadFronts.{read_count}
 use Rattle.rollcore.proofs.replaying.replay_plan.Goals as goal
 
 pub returns-in_err-copy_records-clause-replays : goal.returns-in_err-copy_records-clause-replays
@@ -20,14 +21,14 @@ returns-in_err-copy_records-clause-replays g c = λ word sound db w torn are_db 
     let e : c.get-page.result ≡ c.args.plan.header.page_size = c.get-page.ensures.value in
     let p = planned w db torn c.get-page.result c.args.plan fit is e in
     rolled_copy db w (g.D.Disk.state c.args.disk.now) c.get-page.result p.pages c.copy_records.result c.from_residual.result _ _ c.in_err-copy_records.was (passed c.from_residual.result _ c.from_residual.ensures.1)
-    ((c.copy_records.ensures.holds word sound).pages db w p.pages are_db are is.took fit.hot p.same p.first p.within p.rolled)
+    ((c.copy_records.ensures.holds word sound).pages db w p.pages are_db are is.read fit.hot p.same p.first p.within p.rolled)
 
 pub returns-in_err-copy_records-clause-shows : goal.returns-in_err-copy_records-clause-shows
 returns-in_err-copy_records-clause-shows g c = λ word sound sectors size w d scanning fit is.
     let e : c.get-page.result ≡ c.args.plan.header.page_size = c.get-page.ensures.value in
     let p = planned w w _ c.get-page.result c.args.plan fit is e in
     writing_shows size w d _ (writing_at c.get-page.result size w d _ _ p.same
-    ((c.copy_records.ensures.holds word sound).writing w d (down_present w _ scanning.down) is.took p.within p.first)
+    ((c.copy_records.ensures.holds word sound).writing w d (down_present w _ scanning.down) is.read p.within p.first)
     (fit_begins size d w _ sound sectors fit scanning))
 
 pub returns-in_err-finish-clause-replays : goal.returns-in_err-finish-clause-replays
@@ -45,9 +46,9 @@ returns-in_err-finish-clause-shows g c = λ word sound sectors size w d scanning
     let are = down_present w s scanning.down in
     let now = table s.db.len (byte s.db) in
     c.finish.ensures.shows (c.copy_records.ensures.word.0 word) size w d
-    (writing_at c.get-page.result size w d _ _ p.same ((c.copy_records.ensures.holds word sound).writing w d are is.took p.within p.first) begun)
+    (writing_at c.get-page.result size w d _ _ p.same ((c.copy_records.ensures.holds word sound).writing w d are is.read p.within p.first) begun)
     (pages_at c.get-page.result size w d s (g.D.Disk.state c.copy_records.new.disk) p.same begun (copy_done c.get-page.result d c.copy_records.result _ _ _ c.in_ok-copy_records.was
-    ((c.copy_records.ensures.holds word sound).pages now w d (present_list s.db) are is.took fit.hot p.same p.first p.within (rolled_present size w d s fit.hot scanning))))
+    ((c.copy_records.ensures.holds word sound).pages now w d (present_list s.db) are is.read fit.hot p.same p.first p.within (rolled_present size w d s fit.hot scanning))))
 
 pub returns-clause-replays : goal.returns-clause-replays
 returns-clause-replays g c = λ word sound db w torn are_db are fit is.
@@ -56,8 +57,8 @@ returns-clause-replays g c = λ word sound db w torn are_db are fit is.
     let log = (c.copy_records.ensures.holds word sound).log in
     rolled_done db w (g.D.Disk.state c.args.disk.now) c.get-page.result p.pages c.finish.result _ _ (g.D.Disk.state c.copy_records.new.disk) _ fit.hot p.rolled p.sized
     (copy_done c.get-page.result p.pages c.copy_records.result _ _ _ c.in_ok-copy_records.was
-    ((c.copy_records.ensures.holds word sound).pages db w p.pages are_db are is.took fit.hot p.same p.first p.within p.rolled))
-    (present_in _ _ w log.log are) c.in_ok-finish.was (c.finish.ensures.ends (c.copy_records.ensures.word.0 word) log.sound) refl (c.count.ensures w is.took) is.names.first_size
+    ((c.copy_records.ensures.holds word sound).pages db w p.pages are_db are is.read fit.hot p.same p.first p.within p.rolled))
+    (present_in _ _ w log.log are) c.in_ok-finish.was (c.finish.ensures.ends (c.copy_records.ensures.word.0 word) log.sound) refl (read_count w c.args.plan.scan is.read c.count.result c.count.ensures) is.names.first_size
 
 pub returns-clause-shows : goal.returns-clause-shows
 returns-clause-shows g c = λ word sound sectors size w d scanning fit is.
@@ -68,9 +69,9 @@ returns-clause-shows g c = λ word sound sectors size w d scanning fit is.
     let are = down_present w s scanning.down in
     let now = table s.db.len (byte s.db) in
     c.finish.ensures.shows (c.copy_records.ensures.word.0 word) size w d
-    (writing_at c.get-page.result size w d _ _ p.same ((c.copy_records.ensures.holds word sound).writing w d are is.took p.within p.first) begun)
+    (writing_at c.get-page.result size w d _ _ p.same ((c.copy_records.ensures.holds word sound).writing w d are is.read p.within p.first) begun)
     (pages_at c.get-page.result size w d s (g.D.Disk.state c.copy_records.new.disk) p.same begun (copy_done c.get-page.result d c.copy_records.result _ _ _ c.in_ok-copy_records.was
-    ((c.copy_records.ensures.holds word sound).pages now w d (present_list s.db) are is.took fit.hot p.same p.first p.within (rolled_present size w d s fit.hot scanning))))
+    ((c.copy_records.ensures.holds word sound).pages now w d (present_list s.db) are is.read fit.hot p.same p.first p.within (rolled_present size w d s fit.hot scanning))))
 
 pub returns-in_err-copy_records-clause-ends : goal.returns-in_err-copy_records-clause-ends
 returns-in_err-copy_records-clause-ends g c = λ word sound sectors w down fit is.
@@ -88,7 +89,7 @@ returns-in_err-finish-clause-ends g c = λ word sound sectors w down fit is.
     let e : c.get-page.result ≡ c.args.plan.header.page_size = c.get-page.ensures.value in
     let p = planned w now _ c.get-page.result c.args.plan fit is e in
     let pages = copy_done c.get-page.result p.pages c.copy_records.result _ _ _ c.in_ok-copy_records.was
-    ((c.copy_records.ensures.holds word sound).pages now w p.pages (present_list a.db) (down_present w a down) is.took fit.hot p.same p.first p.within p.rolled) in
+    ((c.copy_records.ensures.holds word sound).pages now w p.pages (present_list a.db) (down_present w a down) is.read fit.hot p.same p.first p.within p.rolled) in
     subst (λ (n : ℕ). EndsBy n (g.D.Disk.state c.finish.new.disk)) (rolled_length w now p.pages c.get-page.result b pages p.rolled p.same)
     (c.finish.ensures.lengths (c.copy_records.ensures.word.0 word) log.sound (subst IsSectorSize (sym log.sector) sectors) w (down_by w a b down log.log log.tears log.kept log.handed) fit.hot (named_by w a b log.sector log.tears (fit_named w a fit)))
 
@@ -101,7 +102,7 @@ returns-clause-ends g c = λ word sound sectors w down fit is.
     let e : c.get-page.result ≡ c.args.plan.header.page_size = c.get-page.ensures.value in
     let p = planned w now _ c.get-page.result c.args.plan fit is e in
     let pages = copy_done c.get-page.result p.pages c.copy_records.result _ _ _ c.in_ok-copy_records.was
-    ((c.copy_records.ensures.holds word sound).pages now w p.pages (present_list a.db) (down_present w a down) is.took fit.hot p.same p.first p.within p.rolled) in
+    ((c.copy_records.ensures.holds word sound).pages now w p.pages (present_list a.db) (down_present w a down) is.read fit.hot p.same p.first p.within p.rolled) in
     subst (λ (n : ℕ). EndsBy n (g.D.Disk.state c.finish.new.disk)) (rolled_length w now p.pages c.get-page.result b pages p.rolled p.same)
     (c.finish.ensures.lengths (c.copy_records.ensures.word.0 word) log.sound (subst IsSectorSize (sym log.sector) sectors) w (down_by w a b down log.log log.tears log.kept log.handed) fit.hot (named_by w a b log.sector log.tears (fit_named w a fit)))
 

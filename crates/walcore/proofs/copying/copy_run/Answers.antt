@@ -1,9 +1,7 @@
-use Rattle.std.proofs.Common.{◌≡◌, ◌≤◌, ◌+◌, ◌-◌, ◌*◌, ◌<◌, ◌∙◌, ℕ, List, [], length, take, refl, sym, arith, ap, subst, rules}
+use Rattle.std.proofs.Common.{◌≡◌, ◌≤◌, ◌+◌, ◌-◌, ◌*◌, ◌<◌, ℕ, List, [], length, take, refl, arith, ap, subst, rules}
 use Rattle.std.specs.Prelude.{Ok}
-use Rattle.crashdisk.specs.State.{longest}
 use Rattle.crashdisk.specs.Call.{Writes, ArePresent}
 use Rattle.crashdisk.specs.declared.file.File.TheVariants.{Db}
-use Rattle.sqval.specs.CommitFaults.{most_bytes}
 use Rattle.sqval.proofs.Answering.{passed}
 use Rattle.sqwal.specs.Frames.{IsValidFrame}
 use Rattle.sqwal.specs.View.{IsLast}

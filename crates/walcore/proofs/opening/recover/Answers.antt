@@ -49,60 +49,6 @@ returns-clause-recovered g c = λ word past found are same fits chance.
     later (c.fold_synced.ensures.agrees then) (c.fold_synced.ensures.lengths then) _ c.fold_synced.result c.in_ok-fold_synced.was
     (c.fold_synced.ensures.folds then files.empty found.db found.log files.db files.log) (g.D.Disk.state c.count_pages.new.disk) (c.count_pages.ensures.still last later.sound) c.count_pages.result (c.count_pages.ensures.count last later.sound)
 
-pub returns-in_err-sync-clause-later : goal.returns-in_err-sync-clause-later
-returns-in_err-sync-clause-later g c = λ word sound. fold_sync c.args.page_size Log c.sync.result (g.D.Disk.state c.args.disk.now) (g.D.Disk.state c.sync.new.self) sound (c.sync.ensures.state word)
-
-pub returns-in_err-judge_file-clause-later : goal.returns-in_err-judge_file-clause-later
-returns-in_err-judge_file-clause-later g c = λ word sound.
-    let first = fold_sync c.args.page_size Log c.sync.result (g.D.Disk.state c.args.disk.now) (g.D.Disk.state c.sync.new.self) sound (c.sync.ensures.state word) in
-    later_then (g.D.Disk.state c.args.disk.now) (g.D.Disk.state c.sync.new.self) (g.D.Disk.state c.judge_file.new.disk) first (later_still (g.D.Disk.state c.sync.new.self) (g.D.Disk.state c.judge_file.new.disk) first.sound (c.judge_file.ensures.still (c.sync.ensures.word.0 word) first.sound))
-
-pub returns-in_err-fold_synced-clause-later : goal.returns-in_err-fold_synced-clause-later
-returns-in_err-fold_synced-clause-later g c = λ word sound.
-    let next = c.sync.ensures.word.0 word in
-    let first = fold_sync c.args.page_size Log c.sync.result (g.D.Disk.state c.args.disk.now) (g.D.Disk.state c.sync.new.self) sound (c.sync.ensures.state word) in
-    let second = later_then (g.D.Disk.state c.args.disk.now) (g.D.Disk.state c.sync.new.self) (g.D.Disk.state c.judge_file.new.disk) first (later_still (g.D.Disk.state c.sync.new.self) (g.D.Disk.state c.judge_file.new.disk) first.sound (c.judge_file.ensures.still next first.sound)) in
-    later_then (g.D.Disk.state c.args.disk.now) (g.D.Disk.state c.judge_file.new.disk) (g.D.Disk.state c.fold_synced.new.disk) second (c.fold_synced.ensures.calls (c.judge_file.ensures.word.0 next)).later
-
-pub returns-clause-later : goal.returns-clause-later
-returns-clause-later g c = λ word sound.
-    let next = c.sync.ensures.word.0 word in
-    let then = c.judge_file.ensures.word.0 next in
-    let later = (c.fold_synced.ensures.calls then).later in
-    let first = fold_sync c.args.page_size Log c.sync.result (g.D.Disk.state c.args.disk.now) (g.D.Disk.state c.sync.new.self) sound (c.sync.ensures.state word) in
-    let second = later_then (g.D.Disk.state c.args.disk.now) (g.D.Disk.state c.sync.new.self) (g.D.Disk.state c.judge_file.new.disk) first (later_still (g.D.Disk.state c.sync.new.self) (g.D.Disk.state c.judge_file.new.disk) first.sound (c.judge_file.ensures.still next first.sound)) in
-    later_then (g.D.Disk.state c.args.disk.now) (g.D.Disk.state c.judge_file.new.disk) (g.D.Disk.state c.count_pages.new.disk) second
-    (later_then (g.D.Disk.state c.judge_file.new.disk) (g.D.Disk.state c.fold_synced.new.disk) (g.D.Disk.state c.count_pages.new.disk) later
-    (later_still (g.D.Disk.state c.fold_synced.new.disk) (g.D.Disk.state c.count_pages.new.disk) later.sound (c.count_pages.ensures.still (c.fold_synced.ensures.word.0 then) later.sound)))
-
-pub returns-in_err-sync-clause-agrees : goal.returns-in_err-sync-clause-agrees
-returns-in_err-sync-clause-agrees g c = λ word sound. agrees_synced c.args.page_size c.sync.result (g.D.Disk.state c.args.disk.now) (g.D.Disk.state c.sync.new.self) sound (c.sync.ensures.state word)
-
-pub returns-in_err-judge_file-clause-agrees : goal.returns-in_err-judge_file-clause-agrees
-returns-in_err-judge_file-clause-agrees g c = λ word sound.
-    let first = fold_sync c.args.page_size Log c.sync.result (g.D.Disk.state c.args.disk.now) (g.D.Disk.state c.sync.new.self) sound (c.sync.ensures.state word) in
-    agrees_then c.args.page_size (g.D.Disk.state c.args.disk.now) (g.D.Disk.state c.sync.new.self) (g.D.Disk.state c.judge_file.new.disk)
-    (agrees_synced c.args.page_size c.sync.result (g.D.Disk.state c.args.disk.now) (g.D.Disk.state c.sync.new.self) sound (c.sync.ensures.state word))
-    (λ d alone. alone_still c.args.page_size d (g.D.Disk.state c.sync.new.self) (g.D.Disk.state c.judge_file.new.disk) first.sound (c.judge_file.ensures.still (c.sync.ensures.word.0 word) first.sound) alone)
-
-pub returns-in_err-fold_synced-clause-agrees : goal.returns-in_err-fold_synced-clause-agrees
-returns-in_err-fold_synced-clause-agrees g c = λ word sound.
-    let next = c.sync.ensures.word.0 word in
-    let first = fold_sync c.args.page_size Log c.sync.result (g.D.Disk.state c.args.disk.now) (g.D.Disk.state c.sync.new.self) sound (c.sync.ensures.state word) in
-    agrees_after c.args.page_size c.sync.result (g.D.Disk.state c.args.disk.now) (g.D.Disk.state c.sync.new.self) (g.D.Disk.state c.fold_synced.new.disk) sound (c.sync.ensures.state word)
-    (agrees_looked c.args.page_size (g.D.Disk.state c.sync.new.self) (g.D.Disk.state c.judge_file.new.disk) (g.D.Disk.state c.fold_synced.new.disk) first.sound (c.judge_file.ensures.still next first.sound) (c.fold_synced.ensures.agrees (c.judge_file.ensures.word.0 next)))
-
-pub returns-clause-agrees : goal.returns-clause-agrees
-returns-clause-agrees g c = λ word sound.
-    let next = c.sync.ensures.word.0 word in
-    let then = c.judge_file.ensures.word.0 next in
-    let later = (c.fold_synced.ensures.calls then).later in
-    let first = fold_sync c.args.page_size Log c.sync.result (g.D.Disk.state c.args.disk.now) (g.D.Disk.state c.sync.new.self) sound (c.sync.ensures.state word) in
-    agrees_then c.args.page_size (g.D.Disk.state c.args.disk.now) (g.D.Disk.state c.fold_synced.new.disk) (g.D.Disk.state c.count_pages.new.disk)
-    (agrees_after c.args.page_size c.sync.result (g.D.Disk.state c.args.disk.now) (g.D.Disk.state c.sync.new.self) (g.D.Disk.state c.fold_synced.new.disk) sound (c.sync.ensures.state word)
-    (agrees_looked c.args.page_size (g.D.Disk.state c.sync.new.self) (g.D.Disk.state c.judge_file.new.disk) (g.D.Disk.state c.fold_synced.new.disk) first.sound (c.judge_file.ensures.still next first.sound) (c.fold_synced.ensures.agrees then)))
-    (λ d alone. alone_still c.args.page_size d (g.D.Disk.state c.fold_synced.new.disk) (g.D.Disk.state c.count_pages.new.disk) later.sound (c.count_pages.ensures.still (c.fold_synced.ensures.word.0 then) later.sound) alone)
-
 pub returns-clause-empty : goal.returns-clause-empty
 returns-clause-empty g c = λ word sound.
     let next = c.sync.ensures.word.0 word in
@@ -172,57 +118,87 @@ returns-clause-opens g c = λ word sound fits found are.
     c.in_ok-judge_file.was (c.judge_file.ensures.judged next first.sound (whole_synced c.args.page_size found s a sound fits are synced) found.db found.log seen.db seen.log)
     c.in_ok-fold_synced.was (c.fold_synced.ensures.folds (c.judge_file.ensures.word.0 next) (still_empty a b still (synced_empty s a sound synced)) found.db found.log files.db files.log))
 
-pub returns-in_err-sync-clause-synced : goal.returns-in_err-sync-clause-synced
-returns-in_err-sync-clause-synced g c = λ word sound.
+pub returns-in_err-sync-clause-recovers : goal.returns-in_err-sync-clause-recovers
+returns-in_err-sync-clause-recovers g c = λ word sound.
     let s = g.D.Disk.state c.args.disk.now in
     let a = g.D.Disk.state c.sync.new.self in
-    unsynced c.args.page_size s a c.sync.result _ c.from_residual.result c.in_err-sync.was (passed c.from_residual.result Device c.from_residual.ensures.1) (c.sync.ensures.state word)
+    let call = c.sync.ensures.state word in
+    let device = passed c.from_residual.result Device c.from_residual.ensures.1 in
+    record {
+      calls = record { later = fold_sync c.args.page_size Log c.sync.result s a sound call; told = λ more. device };
+      agrees = agrees_synced c.args.page_size c.sync.result s a sound call;
+      synced = unsynced c.args.page_size s a c.sync.result _ c.from_residual.result c.in_err-sync.was device call;
+    }
 
-pub returns-in_err-judge_file-clause-synced : goal.returns-in_err-judge_file-clause-synced
-returns-in_err-judge_file-clause-synced g c = λ word sound.
+pub returns-in_err-judge_file-clause-recovers : goal.returns-in_err-judge_file-clause-recovers
+returns-in_err-judge_file-clause-recovers g c = λ word sound.
     let s = g.D.Disk.state c.args.disk.now in
     let a = g.D.Disk.state c.sync.new.self in
     let b = g.D.Disk.state c.judge_file.new.disk in
-    let first = fold_sync c.args.page_size Log c.sync.result s a sound (c.sync.ensures.state word) in
-    synced_first c.args.page_size s a b c.sync.result _ c.from_residual-in_err-judge_file.result c.in_ok-sync.was (c.sync.ensures.state word)
-    (λ w d down alone. alone_still c.args.page_size d a b first.sound (c.judge_file.ensures.still (c.sync.ensures.word.0 word) first.sound) alone)
-
-pub returns-in_err-fold_synced-clause-synced : goal.returns-in_err-fold_synced-clause-synced
-returns-in_err-fold_synced-clause-synced g c = λ word sound.
-    let s = g.D.Disk.state c.args.disk.now in
-    let a = g.D.Disk.state c.sync.new.self in
-    let b = g.D.Disk.state c.judge_file.new.disk in
+    let call = c.sync.ensures.state word in
     let next = c.sync.ensures.word.0 word in
-    let first = fold_sync c.args.page_size Log c.sync.result s a sound (c.sync.ensures.state word) in
-    synced_first c.args.page_size s a (g.D.Disk.state c.fold_synced.new.disk) c.sync.result _ c.from_residual-in_err-fold_synced.result c.in_ok-sync.was (c.sync.ensures.state word)
-    (agrees_looked c.args.page_size a b (g.D.Disk.state c.fold_synced.new.disk) first.sound (c.judge_file.ensures.still next first.sound) (c.fold_synced.ensures.agrees (c.judge_file.ensures.word.0 next)))
+    let first = fold_sync c.args.page_size Log c.sync.result s a sound call in
+    let still = c.judge_file.ensures.still next first.sound in
+    let quiet = called_quiet c.sync.result _ s a c.in_ok-sync.was call.elsewhere.refused in
+    record {
+      calls = record {
+        later = later_then s a b first (later_still a b first.sound still);
+        told = λ more. passes_device c.judge_file.result c.from_residual-in_err-judge_file.result _ c.in_err-judge_file.was c.from_residual-in_err-judge_file.ensures.1
+            (tells_then c.judge_file.result s a b quiet (c.judge_file.ensures.told next) more);
+      };
+      agrees = agrees_then c.args.page_size s a b (agrees_synced c.args.page_size c.sync.result s a sound call) (λ d alone. alone_still c.args.page_size d a b first.sound still alone);
+      synced = synced_first c.args.page_size s a b c.sync.result _ c.from_residual-in_err-judge_file.result c.in_ok-sync.was call
+          (λ w d down alone. alone_still c.args.page_size d a b first.sound still alone);
+    }
 
-pub returns-clause-synced : goal.returns-clause-synced
-returns-clause-synced g c = λ word sound.
+pub returns-in_err-fold_synced-clause-recovers : goal.returns-in_err-fold_synced-clause-recovers
+returns-in_err-fold_synced-clause-recovers g c = λ word sound.
+    let s = g.D.Disk.state c.args.disk.now in
+    let a = g.D.Disk.state c.sync.new.self in
+    let b = g.D.Disk.state c.judge_file.new.disk in
+    let f = g.D.Disk.state c.fold_synced.new.disk in
+    let call = c.sync.ensures.state word in
+    let next = c.sync.ensures.word.0 word in
+    let then = c.judge_file.ensures.word.0 next in
+    let first = fold_sync c.args.page_size Log c.sync.result s a sound call in
+    let still = c.judge_file.ensures.still next first.sound in
+    let quiet = tells_quiet c.judge_file.result _ s a b c.in_ok-judge_file.was (called_quiet c.sync.result _ s a c.in_ok-sync.was call.elsewhere.refused) (c.judge_file.ensures.told next) in
+    let agrees = agrees_looked c.args.page_size a b f first.sound still (c.fold_synced.ensures.agrees then) in
+    record {
+      calls = record {
+        later = later_then s b f (later_then s a b first (later_still a b first.sound still)) (c.fold_synced.ensures.calls then).later;
+        told = λ more. passes_device c.fold_synced.result c.from_residual-in_err-fold_synced.result _ c.in_err-fold_synced.was c.from_residual-in_err-fold_synced.ensures.1
+            (tells_then c.fold_synced.result s b f quiet (c.fold_synced.ensures.calls then).told more);
+      };
+      agrees = agrees_after c.args.page_size c.sync.result s a f sound call agrees;
+      synced = synced_first c.args.page_size s a f c.sync.result _ c.from_residual-in_err-fold_synced.result c.in_ok-sync.was call agrees;
+    }
+
+pub returns-clause-recovers : goal.returns-clause-recovers
+returns-clause-recovers g c = λ word sound.
     let s = g.D.Disk.state c.args.disk.now in
     let a = g.D.Disk.state c.sync.new.self in
     let b = g.D.Disk.state c.judge_file.new.disk in
     let f = g.D.Disk.state c.fold_synced.new.disk in
     let t = g.D.Disk.state c.count_pages.new.disk in
+    let call = c.sync.ensures.state word in
     let next = c.sync.ensures.word.0 word in
     let then = c.judge_file.ensures.word.0 next in
+    let last = c.fold_synced.ensures.word.0 then in
     let later = (c.fold_synced.ensures.calls then).later in
-    let first = fold_sync c.args.page_size Log c.sync.result s a sound (c.sync.ensures.state word) in
-    synced_first c.args.page_size s a t c.sync.result _ c.count_pages.result c.in_ok-sync.was (c.sync.ensures.state word)
-    (agrees_then c.args.page_size a f t
-    (agrees_looked c.args.page_size a b f first.sound (c.judge_file.ensures.still next first.sound) (c.fold_synced.ensures.agrees then))
-    (λ d alone. alone_still c.args.page_size d f t later.sound (c.count_pages.ensures.still (c.fold_synced.ensures.word.0 then) later.sound) alone))
-
-pub returns-in_err-sync-clause-told : goal.returns-in_err-sync-clause-told
-returns-in_err-sync-clause-told g c = λ word sound more. passed c.from_residual.result Device c.from_residual.ensures.1
-
-pub returns-in_err-judge_file-clause-told : goal.returns-in_err-judge_file-clause-told
-returns-in_err-judge_file-clause-told g c = λ word sound more. passes_device c.judge_file.result c.from_residual-in_err-judge_file.result _ c.in_err-judge_file.was c.from_residual-in_err-judge_file.ensures.1
-    (tells_then c.judge_file.result (g.D.Disk.state c.args.disk.now) (g.D.Disk.state c.sync.new.self) (g.D.Disk.state c.judge_file.new.disk) (called_quiet c.sync.result _ (g.D.Disk.state c.args.disk.now) (g.D.Disk.state c.sync.new.self) c.in_ok-sync.was (c.sync.ensures.state word).elsewhere.refused) (c.judge_file.ensures.told (c.sync.ensures.word.0 word)) more)
-
-pub returns-in_err-fold_synced-clause-told : goal.returns-in_err-fold_synced-clause-told
-returns-in_err-fold_synced-clause-told g c = λ word sound more. passes_device c.fold_synced.result c.from_residual-in_err-fold_synced.result _ c.in_err-fold_synced.was c.from_residual-in_err-fold_synced.ensures.1
-    (tells_then c.fold_synced.result (g.D.Disk.state c.args.disk.now) (g.D.Disk.state c.judge_file.new.disk) (g.D.Disk.state c.fold_synced.new.disk) (tells_quiet c.judge_file.result _ (g.D.Disk.state c.args.disk.now) (g.D.Disk.state c.sync.new.self) (g.D.Disk.state c.judge_file.new.disk) c.in_ok-judge_file.was (called_quiet c.sync.result _ (g.D.Disk.state c.args.disk.now) (g.D.Disk.state c.sync.new.self) c.in_ok-sync.was (c.sync.ensures.state word).elsewhere.refused) (c.judge_file.ensures.told (c.sync.ensures.word.0 word))) (c.fold_synced.ensures.calls (c.judge_file.ensures.word.0 (c.sync.ensures.word.0 word))).told more)
-
-pub returns-clause-told : goal.returns-clause-told
-returns-clause-told g c = λ word sound. tells_then c.count_pages.result (g.D.Disk.state c.args.disk.now) (g.D.Disk.state c.fold_synced.new.disk) (g.D.Disk.state c.count_pages.new.disk) (tells_quiet c.fold_synced.result _ (g.D.Disk.state c.args.disk.now) (g.D.Disk.state c.judge_file.new.disk) (g.D.Disk.state c.fold_synced.new.disk) c.in_ok-fold_synced.was (tells_quiet c.judge_file.result _ (g.D.Disk.state c.args.disk.now) (g.D.Disk.state c.sync.new.self) (g.D.Disk.state c.judge_file.new.disk) c.in_ok-judge_file.was (called_quiet c.sync.result _ (g.D.Disk.state c.args.disk.now) (g.D.Disk.state c.sync.new.self) c.in_ok-sync.was (c.sync.ensures.state word).elsewhere.refused) (c.judge_file.ensures.told (c.sync.ensures.word.0 word))) (c.fold_synced.ensures.calls (c.judge_file.ensures.word.0 (c.sync.ensures.word.0 word))).told) (c.count_pages.ensures.told (c.fold_synced.ensures.word.0 (c.judge_file.ensures.word.0 (c.sync.ensures.word.0 word))))
+    let first = fold_sync c.args.page_size Log c.sync.result s a sound call in
+    let still = c.judge_file.ensures.still next first.sound in
+    let counted = c.count_pages.ensures.still last later.sound in
+    let judged = tells_quiet c.judge_file.result _ s a b c.in_ok-judge_file.was (called_quiet c.sync.result _ s a c.in_ok-sync.was call.elsewhere.refused) (c.judge_file.ensures.told next) in
+    let folded = tells_quiet c.fold_synced.result _ s b f c.in_ok-fold_synced.was judged (c.fold_synced.ensures.calls then).told in
+    let agrees = agrees_looked c.args.page_size a b f first.sound still (c.fold_synced.ensures.agrees then) in
+    record {
+      calls = record {
+        later = later_then s b t (later_then s a b first (later_still a b first.sound still)) (later_then b f t later (later_still f t later.sound counted));
+        told = tells_then c.count_pages.result s f t folded (c.count_pages.ensures.told last);
+      };
+      agrees = agrees_then c.args.page_size s f t (agrees_after c.args.page_size c.sync.result s a f sound call agrees)
+          (λ d alone. alone_still c.args.page_size d f t later.sound counted alone);
+      synced = synced_first c.args.page_size s a t c.sync.result _ c.count_pages.result c.in_ok-sync.was call
+          (agrees_then c.args.page_size a f t agrees (λ d alone. alone_still c.args.page_size d f t later.sound counted alone));
+    }

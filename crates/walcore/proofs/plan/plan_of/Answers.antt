@@ -25,4 +25,8 @@ pub returns-then-front-eq0-clause-room : goal.returns-then-front-eq0-clause-room
 returns-then-front-eq0-clause-room c = λ one. absurd (omega (arith, one, c.no_plan.ensures.frames))
 
 pub returns-clause-room : goal.returns-clause-room
-returns-clause-room c = λ one. (omega (arith, c.get.ensures.value, c.in_ok-room.ensures.long), omega (arith, page_most c.get.result c.get.ensures.valid, c.in_ok-room.ensures.long))
+returns-clause-room c = λ one.
+    let page = c.get-page in (
+      omega (arith, page.ensures.value, c.in_ok-room.ensures.long),
+      omega (arith, page_most page.result page.ensures.valid, c.min.ensures, c.in_ok-room.ensures.long),
+    )

@@ -7,7 +7,7 @@ use Rattle.walcore.specs.Steps.{PieceAnswer}
 use Rattle.walcore.specs.declared.error.WalError.{WalError}
 use Rattle.sqval.proofs.Answering.{passed}
 use Rattle.crashdisk.proofs.Stills.{still, still_then, still_sound, present_in}
-use Rattle.walcore.proofs.Scans.{piece_after, piece_none, piece_some, piece_done}
+use Rattle.walcore.proofs.Scans.{piece_after, piece_none, piece_some, piece_done, piece_settled}
 use Rattle.walcore.proofs.ToldRefusals.{tells_quiet, tells_then, passes_device}
 use Rattle.walcore.proofs.reading.scan_pieces.Goals as goal
 
@@ -81,3 +81,16 @@ returns-then-not-branch-clause-told g c = λ word more. absurd (tells_quiet c.fe
 
 pub returns-clause-told : goal.returns-clause-told
 returns-clause-told g c = λ word more. absurd (c.loop-at.invariant.quiet word more)
+
+pub returns-then-is_over-clause-still : goal.returns-then-is_over-clause-still
+returns-then-is_over-clause-still g c = λ word sound.
+    let before = c.loop-at.invariant.still word sound in
+    still_then _ _ _ before (c.feed_piece.ensures.still (c.loop-at.invariant.word.0 word) (still_sound _ _ sound before))
+
+pub returns-then-is_over-clause-took : goal.returns-then-is_over-clause-took
+returns-then-is_over-clause-took g c = λ word sound w are long took.
+    let before = c.loop-at.invariant.still word sound in
+    let n : length (take c.min-n.result c.loop-at.buffer) ≡ c.min-n.result = length-take-le c.min-n.result c.loop-at.buffer (omega (arith, c.loop-at.auto.buffer)) in
+    let answer = c.feed_piece.ensures.took (c.loop-at.invariant.word.0 word) (still_sound _ _ sound before) w (present_in _ _ w before.log are) (omega arith) (c.loop-at.invariant.took word sound w are long took) in
+    let fed = piece_some w c.feed_piece.new.scan _ _ _ c.feed_piece.result _ c.in_ok-feed_piece.was c.if-not-branch.false answer in
+    piece_settled w c.feed_piece.new.scan _ _ _ c.args.long _ sound are long ((c.is_over.ensures _ fed).0 c.if-is_over.true)
