@@ -3,5 +3,7 @@ pub mod FileHeads
 pub mod Recorded
 pub mod Framed
 pub mod Opening
+pub mod Commits
 pub mod Pieces
 pub mod Ahead
+pub mod Runs

@@ -26,7 +26,7 @@ use Rattle.sqpage.specs.Header.{HasMagic, HasPageSize, size_named}
 use Rattle.sqpage.specs.declared.fault.Fault.TheVariants as faults
 use Rattle.sqview.specs.LogView.{most_bytes, head_of, own_pages, IsLogged, IsAlone, IsTooLong, IsAbove, ViewRefused, pages_of, IsShown, ViewAnswer}
 use Rattle.sqview.specs.Logs.{AreTwoLogs}
-use Rattle.sqview.specs.ViewParts.{ReplayedAnswer, ScannedAnswer, LimitAnswer, IsUnsized}
+use Rattle.sqview.specs.ViewParts.{ReplayedAnswer, ScannedAnswer, LimitAnswer, IsUnsized, PlacedAnswer}
 use Rattle.sqview.specs.declared.view.View.{View}
 use Rattle.sqview.specs.declared.view_error.ViewError.{ViewError}
 use Rattle.sqview.specs.declared.view_error.ViewError.TheVariants.{TooLarge, Header, NoMemory}
@@ -39,6 +39,14 @@ passed r e is = let p = err_from_is_err_and r is in p.1 ∙ ap Err p.2
 pub answers : {F : Type 0} (bytes : F → List ℕ) (db wal journal : List ℕ) (q : Result (View F) ViewError) (e : ViewError) → IsErrAnd q (λ x. x ≡ e) → ViewRefused db wal journal e
     → ViewAnswer bytes db wal journal q
 answers {F = F} bytes db wal journal q e is bad = subst (λ (x : Result (View F) ViewError). ViewAnswer bytes db wal journal x) (sym (passed q e is)) bad
+
+pub placed_refused : {F : Type 0} (bytes : F → List ℕ) (size m count : ℕ) (db w : List ℕ) (q : Result (View F) ViewError) (e : ViewError) → IsErrAnd q (λ x. x ≡ e) → LimitAnswer size count (Err e)
+    → PlacedAnswer bytes size m count db w q
+placed_refused {F = F} bytes size m count db w q e is bad = subst (λ (x : Result (View F) ViewError). PlacedAnswer bytes size m count db w x) (sym (passed q e is)) (limited e bad)
+  where
+    limited : (e : ViewError) → LimitAnswer size count (Err e) → PlacedAnswer bytes size m count db w (Err e)
+    limited NoMemory bad = tt
+    limited e bad = bad
 
 -- ---- The first header of a journal.
 
@@ -92,8 +100,8 @@ module _ (db wal journal : List ℕ) (alone : IsAlone wal journal) where
       own_magic n le bad = (short, own_within le.1, alone, bad)
 
       pub own_shown : {F : Type 0} (bytes : F → List ℕ) (v : View F) → LimitAnswer size (own_pages size db) (Ok v.count) → HasMagic (head_of db) → v.page_size ≡ size → bytes v.db ≡ db → v.places.items ≡ []
-          → IsShown bytes db wal journal v
-      own_shown bytes v le magic s d none = record {
+          → v.front ≡ 0 → IsShown bytes db wal journal v
+      own_shown bytes v le magic s d none zero = record {
         shows = inr (inr (
           alone,
           record {
@@ -108,6 +116,9 @@ module _ (db wal journal : List ℕ) (alone : IsAlone wal journal) where
         short = short;
         within = own_within le.1;
         headed = λ _. magic;
+        stands = inr (zero, λ m logged. omega (arith, logged.some, front_unique (named_size wal) wal m 0 logged.is alone.none));
+        unplaced = λ _. none;
+        placed = λ counts. absurd (counts alone);
       }
 
 -- ---- A hot journal.
@@ -135,13 +146,17 @@ module _ (db journal : List ℕ) (hot : IsHot journal) where
         let more : most_bytes < count * size = subst (λ (n : ℕ). most_bytes < n * size) f (subst (λ (n : ℕ). most_bytes < above.1 * n) e above.3) in omega arith)
         (⊎_elim (λ x. x.1.cold hot) (λ x. x.0.cold hot)) above.2
 
-    pub restored_shown : {F : Type 0} (bytes : F → List ℕ) (v : View F) → LimitAnswer size count (Ok v.count) → v.page_size ≡ word journal 24 → IsRolledBack db journal (pages_of bytes v) → IsShown bytes db [] journal v
-    restored_shown bytes v le e is = record {
+    pub restored_shown : {F : Type 0} (bytes : F → List ℕ) (v : View F) → LimitAnswer size count (Ok v.count) → v.page_size ≡ word journal 24 → IsRolledBack db journal (pages_of bytes v) → v.front ≡ 0
+        → length v.places.items ≡ v.count → IsShown bytes db [] journal v
+    restored_shown bytes v le e is zero long = record {
       shows = inl (hot, e, is);
       one = just_one;
       short = not_long;
       within = not_above le.1;
       headed = λ alone. absurd (alone.cold hot);
+      stands = inr (zero, λ m logged. logged.cold hot);
+      unplaced = λ alone. absurd (alone.cold hot);
+      placed = λ _. long;
     }
 
 -- ---- A log.
@@ -198,11 +213,20 @@ module _ (db wal journal : List ℕ) (cold : ¬ IsHot journal) where
           (λ x. let zero : f.frames ≡ 0 = front_unique (named_size wal) wal f.frames 0 is.front x.0.none in some zero))
           above.2
 
-      pub logged_shown : {F : Type 0} (bytes : F → List ℕ) (v : View F) → LimitAnswer size f.size (Ok v.count) → v.page_size ≡ size → IsView size db wal f.frames (pages_of bytes v) → IsShown bytes db wal journal v
-      logged_shown bytes v le e view = record {
+      pub logged_shown : {F : Type 0} (bytes : F → List ℕ) (v : View F) → LimitAnswer size f.size (Ok v.count) → v.page_size ≡ size → v.front ≡ f.frames → IsView size db wal f.frames (pages_of bytes v)
+          → length v.places.items ≡ v.count → IsShown bytes db wal journal v
+      logged_shown bytes v le e stands view long = record {
         shows = inr (inl (f.frames, here, e ∙ sym named, subst (λ (n : ℕ). IsView n db wal f.frames (pages_of bytes v)) (sym e) view));
         one = cold_one;
         short = not_so_long;
         within = logged_within le.1;
         headed = λ alone. absurd (some (front_unique (named_size wal) wal f.frames 0 is.front alone.none));
+        stands = inl (subst (λ (n : ℕ). IsLogged wal journal n) (sym stands) here);
+        unplaced = λ alone. absurd (some (front_unique (named_size wal) wal f.frames 0 is.front alone.none));
+        placed = λ _. long;
       }
+
+      pub placed_logged : {F : Type 0} (bytes : F → List ℕ) (q : Result (View F) ViewError) → PlacedAnswer bytes size f.frames f.size db wal q → ViewAnswer bytes db wal journal q
+      placed_logged bytes (Ok v) placed = logged_shown bytes v placed.2 placed.0 placed.1 placed.3 placed.4
+      placed_logged bytes (Err NoMemory) placed = tt
+      placed_logged bytes (Err e) placed = logged_limited e placed

@@ -1,5 +1,5 @@
 -- The database that a file and the log beside it show.
-use Rattle.std.specs.Prelude.{◌≡◌, ◌⊎◌, ℕ, suc, ◌*◌, ◌^◌, ◌<◌, ◌≤◌, ◌==◌, cond, List, length, Result, Ok, Err}
+use Rattle.std.specs.Prelude.{◌≡◌, ◌⊎◌, ℕ, suc, ◌*◌, ◌^◌, ◌<◌, ◌≤◌, ◌==◌, cond, List, [], length, Result, Ok, Err}
 use Rattle.sqval.specs.Bytes.{word}
 use Rattle.sqval.specs.Database.{Database, page, file_page, file_pages}
 use Rattle.sqval.specs.PageSize.{IsPageSize}
@@ -15,7 +15,7 @@ use Rattle.sqview.specs.Laid.{laid}
 use Rattle.sqview.specs.Logs.{AreTwoLogs}
 use Rattle.sqview.specs.declared.view.View.{View}
 use Rattle.sqview.specs.declared.view_error.ViewError.{ViewError}
-use Rattle.sqview.specs.declared.view_error.ViewError.TheVariants.{TwoLogs, TooLarge, Header, Unread, NoMemory}
+use Rattle.sqview.specs.declared.view_error.ViewError.TheVariants.{TwoLogs, TooLarge, Header, Unread, NoMemory, NoSuchCommit}
 
 -- the most bytes of a database (own)
 abbrev pub most_bytes : ℕ
@@ -82,10 +82,15 @@ ViewRefused db wal journal (Header faults.PageSize) = (¬ IsTooLong wal journal)
 ViewRefused db wal journal (Header _) = ⊥
 ViewRefused db wal journal Unread = ⊥
 ViewRefused db wal journal NoMemory = Unit {0}
+ViewRefused db wal journal NoSuchCommit = ⊥
 
 -- the pages of a view, by what its file and its log have
 abbrev pub pages_of : {F : Type 0} → (bytes : F → List ℕ) → View F → Database
 pages_of bytes v = laid v.page_size v.count (bytes v.db) (bytes v.log) v.places.items
+
+-- the frame at which a view stands: the front of the log where that counts, otherwise 0
+abbrev pub StandsAt : (wal journal : List ℕ) (front : ℕ) → Type 0
+StandsAt wal journal front = IsLogged wal journal front ⊎ ((front ≡ 0) × ((m : ℕ) → ¬ IsLogged wal journal m))
 
 -- a view of these files that is not refused
 pub record IsShown {F : Type 0} (bytes : F → List ℕ) (db wal journal : List ℕ) (v : View F) : Type 0 where
@@ -94,7 +99,16 @@ pub record IsShown {F : Type 0} (bytes : F → List ℕ) (db wal journal : List 
   pub short : ¬ IsTooLong wal journal
   pub within : ¬ IsAbove db wal journal
   pub headed : IsAlone wal journal → HasMagic (head_of db)
+  pub stands : StandsAt wal journal v.front
+  pub unplaced : IsAlone wal journal → v.places.items ≡ []
+  pub placed : (¬ IsAlone wal journal) → length v.places.items ≡ v.count
 
 abbrev pub ViewAnswer : {F : Type 0} → (bytes : F → List ℕ) → (db wal journal : List ℕ) → Result (View F) ViewError → Type 0
 ViewAnswer bytes db wal journal (Ok v) = IsShown bytes db wal journal v
 ViewAnswer bytes db wal journal (Err e) = ViewRefused db wal journal e
+
+-- whose bytes a view reads: the file's, and a hot journal's, otherwise the write-ahead log's
+pub record ReadsFrom (db wal journal file log : List ℕ) : Type 0 where
+  pub file_is : file ≡ db
+  pub hot : IsHot journal → log ≡ journal
+  pub cold : (¬ IsHot journal) → log ≡ wal

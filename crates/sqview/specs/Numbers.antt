@@ -11,6 +11,7 @@ view_number viewed.TooLarge = 2
 view_number (viewed.Header fault) = 3
 view_number viewed.Unread = 4
 view_number viewed.NoMemory = 5
+view_number viewed.NoSuchCommit = 6
 
 abbrev pub judge_number : JudgeError → ℕ
 judge_number judged.TwoLogs = 1
@@ -18,3 +19,4 @@ judge_number judged.TooLarge = 2
 judge_number judged.AutoVacuum = 3
 judge_number judged.Unread = 4
 judge_number judged.NoMemory = 5
+judge_number judged.NoSuchCommit = 6

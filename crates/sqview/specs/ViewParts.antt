@@ -1,8 +1,8 @@
 -- What the parts of a view promise one another.
 use Rattle.std.specs.Prelude.{◌≡◌, ◌⊎◌, ℕ, suc, ◌+◌, ◌*◌, ◌^◌, ◌<◌, ◌≤◌, ◌==◌, cond, List, [], ◌∷◌, length, drop, take, Option, Some, None, Result, Ok, Err}
 use Rattle.sqwal.specs.Header.{named_size, IsHeader}
-use Rattle.sqwal.specs.Frames.{frame_at, IsValidFrame}
-use Rattle.sqwal.specs.View.{Unnamed, IsLast}
+use Rattle.sqwal.specs.Frames.{frame_at, size_of, IsValidFrame, IsCommit}
+use Rattle.sqwal.specs.View.{Unnamed, IsLast, IsView}
 use Rattle.sqwal.specs.Refusal.{most_frames}
 use Rattle.sqwal.specs.Took.{Took}
 use Rattle.sqwal.specs.Answers.{LogRefused}
@@ -18,9 +18,11 @@ use Rattle.sqjournal.specs.declared.error.JournalError.TheVariants.{NoMemory as 
 use Rattle.sqjournal.specs.declared.replay.Replay.{Replay}
 use Rattle.sqjournal.specs.declared.reading.Record.{Record}
 use Rattle.sqjournal.specs.declared.reading.Why.{Why}
-use Rattle.sqview.specs.LogView.{most_bytes}
+use Rattle.sqview.specs.LogView.{most_bytes, pages_of}
 use Rattle.sqview.specs.Logs.{HasRead}
 use Rattle.sqview.specs.Laid.{place_of}
+use Rattle.sqview.specs.declared.view.View.{View}
+use Rattle.sqview.specs.declared.view.at_commit.Commit.{Commit}
 use Rattle.sqview.specs.declared.view_error.ViewError.{ViewError}
 use Rattle.sqview.specs.declared.view_error.ViewError.TheVariants.{TooLarge, Header, NoMemory}
 
@@ -57,6 +59,18 @@ abbrev pub LimitAnswer : (size count : ℕ) → Result ℕ ViewError → Type 0
 LimitAnswer size count (Ok n) = (n ≡ count) × (count * size ≤ most_bytes)
 LimitAnswer size count (Err TooLarge) = most_bytes < count * size
 LimitAnswer size count (Err _) = ⊥
+
+-- the view of a file with the frames 1 to m of a log, where frame m names this count of pages
+abbrev pub PlacedAnswer : {F : Type 0} → (bytes : F → List ℕ) → (size m count : ℕ) → (db w : List ℕ) → Result (View F) ViewError → Type 0
+PlacedAnswer bytes size m count db w (Ok v) = (v.page_size ≡ size) × (v.front ≡ m) × LimitAnswer size count (Ok v.count) × IsView size db w m (pages_of bytes v)
+    × (length v.places.items ≡ v.count)
+PlacedAnswer bytes size m count db w (Err NoMemory) = Unit {0}
+PlacedAnswer bytes size m count db w (Err e) = LimitAnswer size count (Err e)
+
+-- what a scan has of a commit frame: the size of the log's pages, and how many the database has there
+abbrev pub CommitFound : List ℕ → (m : ℕ) → Option Commit → Type 0
+CommitFound w m None = ¬ (IsValidFrame (named_size w) w m × IsCommit (named_size w) w m)
+CommitFound w m (Some it) = IsHeader it.page_size w × IsValidFrame (named_size w) w m × IsCommit (named_size w) w m × (it.size ≡ size_of (named_size w) w m)
 
 -- why a header that names no page size is refused
 abbrev pub IsUnsized : (head : List ℕ) → ViewError → Type 0

@@ -18,10 +18,11 @@ pub trait FileBytes {
         ensures count { gives_bytes self.now → result ≡ length (bytes self.now) }
         ensures bytes { gives_bytes self.now → AreBytes (bytes self.now) };
 
-    /// Fills the buffer from a place on, with zeros past the end. Refused by `SourceError` where a byte before the end can't
-    /// be read; the buffer may then hold anything.
+    /// Fills the buffer from a place on, with zeros past the end. Refused by `SourceError` where a byte before the end
+    /// can't be read; the buffer may then hold anything.
     fn read_at(&mut self, at: u64, out: &mut [u8]) -> Result<(), SourceError>
-        ensures read { gives_bytes self.old → IsOk result × (out.new ≡ part_or_zeros (length out.old) at (bytes self.old)) }
+        ensures read { gives_bytes self.old → IsOk result
+            × (out.new ≡ part_or_zeros (length out.old) at (bytes self.old)) }
         ensures still_gives { gives_bytes self.old → gives_bytes self.new }
         ensures same_bytes { bytes self.new ≡ bytes self.old };
 }

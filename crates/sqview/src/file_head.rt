@@ -29,10 +29,11 @@ fn word_at(head: &[u8; 100], at: usize) -> u32
     BigEndian::read_u32(&head[at..at + 4])
 }
 
-/// How many pages of this size a file with this header has: as many as the header says where that counts, otherwise by the
-/// file's length.
+/// How many pages of this size a file with this header has: as many as the header says where that counts, otherwise by
+/// the file's length.
 pub fn count_pages<F: FileBytes>(file: &F, head: &[u8; 100], page_size: PageSize) -> u64
-    ensures { F.gives_bytes file.now → head.now ≡ head_of (F.bytes file.now) → result ≡ own_pages page_size (F.bytes file.now) }
+    ensures { F.gives_bytes file.now → head.now ≡ head_of (F.bytes file.now)
+        → result ≡ own_pages page_size (F.bytes file.now) }
 {
     let named = word_at(head, 28);
     if named != 0 && word_at(head, 24) == word_at(head, 92) {

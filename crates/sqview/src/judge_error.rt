@@ -24,10 +24,13 @@ pub enum JudgeError {
     /// No memory.
     #[error("no memory")]
     NoMemory,
+    /// The log has no such commit frame, or a hot journal lies beside it.
+    #[error("no such commit")]
+    NoSuchCommit,
 }
 
 impl JudgeError {
-    /// From TwoLogs, 1, to NoMemory, 5, in the order of the enum.
+    /// From TwoLogs, 1, to NoSuchCommit, 6, in the order of the enum.
     pub fn number(&self) -> u8
         ensures { result ≡ judge_number self.now }
     {
@@ -37,6 +40,7 @@ impl JudgeError {
             JudgeError::AutoVacuum => 3,
             JudgeError::Unread => 4,
             JudgeError::NoMemory => 5,
+            JudgeError::NoSuchCommit => 6,
         }
     }
 }

@@ -1,7 +1,8 @@
-//! The database that a file shows with the logs beside it, a write-ahead log and a rollback journal: its pages, and whether
-//! it is well formed. Nothing is written (fileformat2, 3 and 4.5; the choice of the log is own).
+//! The database that a file shows with the logs beside it, a write-ahead log and a rollback journal: its pages, and
+//! whether it is well formed. Nothing is written (fileformat2, 3 and 4.5; the choice of the log is own).
 #![tactic(auto)]
 
+mod copying;
 mod file_bytes;
 mod file_head;
 mod judge_error;
@@ -12,9 +13,11 @@ mod verdict;
 mod view;
 mod view_error;
 
+pub use copying::{CopyError, copy};
 pub use file_bytes::FileBytes;
 pub use judge_error::JudgeError;
 pub use logs::{LogInUse, hot_header, log_in_use, replay_log, scan_log};
+pub use read_ahead::ReadAhead;
 pub use verdict::{Verdict, judge};
-pub use view::View;
+pub use view::{View, front_is_shown};
 pub use view_error::ViewError;

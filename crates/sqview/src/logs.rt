@@ -51,10 +51,11 @@ pub fn hot_header<F: FileBytes>(journal: &mut F) -> Result<Option<JournalHeader>
     Ok(Some(header))
 }
 
-/// The log that counts: a journal that is hot, otherwise a write-ahead log that isn't empty. Refused by TwoLogs where both
-/// are so, and by Unread. Nothing is read but the journal's first 28 bytes.
+/// The log that counts: a journal that is hot, otherwise a write-ahead log that isn't empty. Refused by TwoLogs where
+/// both are so, and by Unread. Nothing is read but the journal's first 28 bytes.
 pub fn log_in_use<F: FileBytes>(wal: &F, journal: &mut F) -> Result<LogInUse, ViewError>
-    ensures answer { F.gives_bytes wal.now → F.gives_bytes journal.old → CountsAnswer (F.bytes wal.now) (F.bytes journal.old) result }
+    ensures answer { F.gives_bytes wal.now → F.gives_bytes journal.old
+        → CountsAnswer (F.bytes wal.now) (F.bytes journal.old) result }
     ensures still_gives { F.gives_bytes journal.old → F.gives_bytes journal.new }
     ensures same_bytes { F.bytes journal.new ≡ F.bytes journal.old }
 {
@@ -75,7 +76,8 @@ fn scan_piece<F: FileBytes>(
     at: u64,
     piece: &mut [u8],
 ) -> Result<Result<(), WalFormatError>, SourceError>
-    ensures fed { F.gives_bytes log.old → at + length piece.old ≤ length (F.bytes log.old) → Took (take at (F.bytes log.old)) scan.old
+    ensures fed { F.gives_bytes log.old → at + length piece.old ≤ length (F.bytes log.old)
+        → Took (take at (F.bytes log.old)) scan.old
         → ScanPiece (F.bytes log.old) (at + length piece.old) result scan.new }
     ensures still_gives { F.gives_bytes log.old → F.gives_bytes log.new }
     ensures same_bytes { F.bytes log.new ≡ F.bytes log.old }
@@ -84,8 +86,8 @@ fn scan_piece<F: FileBytes>(
     Ok(scan.feed(piece))
 }
 
-/// The scan of a write-ahead log, or what refuses its bytes. It is read in pieces of 65536 bytes, none of them behind the
-/// one in which the log stops. Refused by `SourceError` where a piece can't be read.
+/// The scan of a write-ahead log, or what refuses its bytes. It is read in pieces of 65536 bytes, none of them behind
+/// the one in which the log stops. Refused by `SourceError` where a piece can't be read.
 pub fn scan_log<F: FileBytes>(
     alloc: Global,
     log: &mut F,
@@ -120,8 +122,9 @@ fn replay_piece<F: FileBytes>(
     at: u64,
     piece: &mut [u8],
 ) -> Result<Result<(), JournalError>, SourceError>
-    ensures fed { F.gives_bytes journal.old → at + length piece.old ≤ length (F.bytes journal.old) → length (F.bytes journal.old) ≤ 2 ^ 40
-        → ReplayTook (take at (F.bytes journal.old)) replay.old → ReplayPiece (F.bytes journal.old) (at + length piece.old) result replay.new }
+    ensures fed { F.gives_bytes journal.old → at + length piece.old ≤ length (F.bytes journal.old)
+        → length (F.bytes journal.old) ≤ 2 ^ 40 → ReplayTook (take at (F.bytes journal.old)) replay.old
+        → ReplayPiece (F.bytes journal.old) (at + length piece.old) result replay.new }
     ensures still_gives { F.gives_bytes journal.old → F.gives_bytes journal.new }
     ensures same_bytes { F.bytes journal.new ≡ F.bytes journal.old }
 {
@@ -129,9 +132,9 @@ fn replay_piece<F: FileBytes>(
     Ok(replay.feed(piece))
 }
 
-/// The replay of a journal, or what refuses its bytes: TooLong by its length, of which nothing is read then. It is read in
-/// pieces of 65536 bytes, none of them behind the one in which the journal ends. Refused by `SourceError` where a piece
-/// can't be read.
+/// The replay of a journal, or what refuses its bytes: TooLong by its length, of which nothing is read then. It is read
+/// in pieces of 65536 bytes, none of them behind the one in which the journal ends. Refused by `SourceError` where a
+/// piece can't be read.
 pub fn replay_log<F: FileBytes>(
     alloc: Global,
     journal: &mut F,

@@ -9,7 +9,7 @@ ghost use Rattle.sqview.specs.ViewParts.{AreFramePlaces, AreRecordPlaces, Noted}
 use crate::view_error::ViewError;
 use sqjournal::Replay;
 use sqval::PageSize;
-use sqwal::{Front, Scan};
+use sqwal::Scan;
 use std::alloc::Global;
 
 /// Puts down where a page is, if it is one up to the last.
@@ -38,18 +38,20 @@ fn place(frame: u32, page_size: PageSize) -> u64
     32 + u64::from(frame - 1) * (24 + u64::from(page_size.get())) + 24
 }
 
-/// Where the log has each page of the database at its front, by the last frame that names it; 0 where none does.
+/// Where the log has each page up to the count, by the last of its first frames that names it; 0 where none does.
 pub fn frame_places(
     alloc: Global,
     scan: &Scan,
     page_size: PageSize,
-    front: Front,
+    frames: u32,
+    count: u32,
 ) -> Result<Vec<u64>, ViewError>
-    ensures places { IfOk result (λ v. (w : List ℕ) → Took w scan.now → named_size w ≡ page_size → IsValidFrame (named_size w) w front.frames → AreFramePlaces page_size w front.frames front.size v.items) }
+    ensures places { IfOk result (λ v. (w : List ℕ) → Took w scan.now → named_size w ≡ page_size → IsValidFrame
+        (named_size w) w frames → AreFramePlaces page_size w frames count v.items) }
     ensures memory { OnErr result (result ≡ Err ViewError.NoMemory) }
 {
-    let mut places = zeros(alloc, front.size as usize)?;
-    for i in 0..front.frames {
+    let mut places = zeros(alloc, count as usize)?;
+    for i in 0..frames {
         let Some(entry) = scan.entry(i as usize + 1) else {
             break;
         };
@@ -60,7 +62,8 @@ pub fn frame_places(
 
 /// Where the journal has each page up to the count, by the last record that names it; 0 where none does.
 pub fn record_places(alloc: Global, replay: &Replay, count: u32) -> Result<Vec<u64>, ViewError>
-    ensures places { IfOk result (λ v. (b : List ℕ) → ReplayTook b replay.now → length b ≤ 2 ^ 40 → AreRecordPlaces b count v.items) }
+    ensures places { IfOk result
+        (λ v. (b : List ℕ) → ReplayTook b replay.now → length b ≤ 2 ^ 40 → AreRecordPlaces b count v.items) }
     ensures memory { OnErr result (result ≡ Err ViewError.NoMemory) }
 {
     let mut places = zeros(alloc, count as usize)?;

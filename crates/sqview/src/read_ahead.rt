@@ -6,10 +6,10 @@ use crate::file_bytes::FileBytes;
 use sqpage::SourceError;
 use std::alloc::{AllocError, Global};
 
-/// A file's bytes. Where a part is read that follows the one before, some bytes behind it are read at once, and given from
-/// memory when they are asked for.
+/// A file's bytes. Where a part is read that follows the one before, some bytes behind it are read at once, and given
+/// from memory when they are asked for.
 #[derive(Drop)]
-pub(crate) struct ReadAhead<F> {
+pub struct ReadAhead<F> {
     file: F,
     /// Room for what is read at once.
     piece: Vec<u8>,
@@ -24,8 +24,8 @@ pub(crate) struct ReadAhead<F> {
 impl<F: FileBytes + Drop> ReadAhead<F> {
     ghost use Rattle.sqview.specs.Ahead.{IsUnread};
 
-    /// A file of which up to so many bytes are read at once.
-    pub(crate) fn new(alloc: Global, file: F, most: usize) -> Result<ReadAhead<F>, AllocError>
+    /// A file of which up to so many bytes are read at once, and kept; none where `most` is 0.
+    pub fn new(alloc: Global, file: F, most: usize) -> Result<ReadAhead<F>, AllocError>
         ensures { IfOk result (IsUnread file) }
     {
         let piece = vec![in alloc; 0u8; most]?;

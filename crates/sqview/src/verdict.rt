@@ -24,8 +24,10 @@ pub enum Verdict {
 /// What a check finds of a view. Refused by AutoVacuum and NoMemory, which say that a database can't be checked and not
 /// that it is damaged.
 fn judge_view<F: FileBytes>(alloc: Global, view: &mut View<F>) -> Result<Verdict, JudgeError>
-    ensures found { F.gives_bytes view.old.db × F.gives_bytes view.old.log → IfOk result (IsVerdictOf F.bytes view.old) }
-    ensures refused { F.gives_bytes view.old.db × F.gives_bytes view.old.log → IfErr result (IsUnjudged (pages_of F.bytes view.old)) }
+    ensures found { F.gives_bytes view.old.db × F.gives_bytes view.old.log
+        → IfOk result (IsVerdictOf F.bytes view.old) }
+    ensures refused { F.gives_bytes view.old.db × F.gives_bytes view.old.log
+        → IfErr result (IsUnjudged (pages_of F.bytes view.old)) }
 {
     match check(alloc, view) {
         Ok(report) => Ok(Verdict::Clean(report)),
@@ -57,15 +59,16 @@ fn judge_files<F: FileBytes + Drop>(
         Err(ViewError::TooLarge) => Err(JudgeError::TooLarge),
         Err(ViewError::Unread) => Err(JudgeError::Unread),
         Err(ViewError::NoMemory) => Err(JudgeError::NoMemory),
+        Err(ViewError::NoSuchCommit) => Err(JudgeError::NoSuchCommit),
     }
 }
 
 /// How many bytes of a database file are read at once, where its pages are read one behind the other.
 const PIECE: usize = 32_768;
 
-/// What a check finds of the database that a file shows with its write-ahead log and its rollback journal, where a missing
-/// file has no bytes. A header that names no database is damage at page 1. Refused by TwoLogs, TooLarge, AutoVacuum and
-/// NoMemory, and by Unread where a file could not be read.
+/// What a check finds of the database that a file shows with its write-ahead log and its rollback journal, where a
+/// missing file has no bytes. A header that names no database is damage at page 1. Refused by TwoLogs, TooLarge,
+/// AutoVacuum and NoMemory, and by Unread where a file could not be read.
 pub fn judge<F: FileBytes + Drop>(
     alloc: Global,
     db: F,

@@ -2,14 +2,16 @@
 ghost use Rattle.std.specs.Prelude.{◌≡◌, ◌<◌};
 ghost use Rattle.sqview.specs.Laid.{place_of, laid};
 
+mod at_commit;
 mod opening;
 
 use crate::file_bytes::FileBytes;
+pub use at_commit::front_is_shown;
 use sqpage::{PageSource, SourceError};
 use sqval::PageSize;
 
-/// The pages of a database file as the log beside it has them. Each is read where it lies, and 8 bytes are kept for each
-/// page where a log counts.
+/// The pages of a database file as the log beside it has them. Each is read where it lies, and 8 bytes are kept for
+/// each page where a log counts.
 #[derive(Drop)]
 pub struct View<F> {
     db: F,
@@ -17,11 +19,42 @@ pub struct View<F> {
     log: F,
     page_size: PageSize,
     count: u32,
+    /// The frame of the log at which the view stands, or 0.
+    front: u32,
     /// By page: where its bytes begin in the log. 0, or none, where the file's count.
     places: Vec<u64>,
 }
 
 impl<F> View<F> {
+    /// The frame of the write-ahead log at which the view stands, the last one that counts; 0 where none does.
+    pub fn front(&self) -> u32
+        ensures { result ≡ self.now.front }
+    {
+        self.front
+    }
+
+    /// The database file (own).
+    pub fn file(&self) -> &F
+        ensures { result.now ≡ self.now.db }
+    {
+        &self.db
+    }
+
+    /// The log that counts, or one of which nothing is read (own).
+    pub fn log(&self) -> &F
+        ensures { result.now ≡ self.now.log }
+    {
+        &self.log
+    }
+
+    /// By page, from 1: where its bytes begin in the log, in bytes; 0 where the file's count. None where no log counts
+    /// (own).
+    pub fn places(&self) -> &[u64]
+        ensures { result.now ≡ self.now.places.items }
+    {
+        &self.places
+    }
+
     /// Where page `p` begins in the log, 0 where the file's counts.
     fn place(&self, p: u32) -> u64
         requires { 0 < p }

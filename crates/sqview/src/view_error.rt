@@ -25,10 +25,13 @@ pub enum ViewError {
     /// No memory.
     #[error("no memory")]
     NoMemory,
+    /// The log has no such commit frame, or a hot journal lies beside it.
+    #[error("no such commit")]
+    NoSuchCommit,
 }
 
 impl ViewError {
-    /// From TwoLogs, 1, to NoMemory, 5, in the order of the enum.
+    /// From TwoLogs, 1, to NoSuchCommit, 6, in the order of the enum.
     pub fn number(&self) -> u8
         ensures { result ≡ view_number self.now }
     {
@@ -38,6 +41,7 @@ impl ViewError {
             ViewError::Header(_) => 3,
             ViewError::Unread => 4,
             ViewError::NoMemory => 5,
+            ViewError::NoSuchCommit => 6,
         }
     }
 }

@@ -1,11 +1,12 @@
 //! The view of a file with the log that counts.
 ghost use Rattle.std.specs.Prelude.{◌≡◌, ℕ, List, [], IfOk};
-ghost use Rattle.sqwal.specs.Header.{IsHeader};
+ghost use Rattle.sqwal.specs.Frames.{size_of, IsValidFrame};
+ghost use Rattle.sqwal.specs.Header.{named_size, IsHeader};
 ghost use Rattle.sqwal.specs.Took.{Took};
 ghost use Rattle.sqjournal.specs.Header.{Names};
 ghost use Rattle.sqjournal.specs.Journal.{IsHot};
-ghost use Rattle.sqview.specs.LogView.{ViewAnswer, IsTooLong, IsAlone};
-ghost use Rattle.sqview.specs.ViewParts.{ScannedAnswer, ReplayedAnswer, LimitAnswer, IsUnsized};
+ghost use Rattle.sqview.specs.LogView.{ViewAnswer, ReadsFrom, IsTooLong, IsAlone};
+ghost use Rattle.sqview.specs.ViewParts.{ScannedAnswer, ReplayedAnswer, LimitAnswer, IsUnsized, PlacedAnswer};
 
 use super::View;
 use crate::file_bytes::FileBytes;
@@ -34,7 +35,8 @@ fn within_limit(count: u64, page_size: PageSize) -> Result<u32, ViewError>
 
 /// The replay of a hot journal. Unread where it isn't hot any more.
 fn replayed<F: FileBytes>(alloc: Global, journal: &mut F) -> Result<Replay, ViewError>
-    ensures answer { F.gives_bytes journal.old → IsHot (F.bytes journal.old) → ReplayedAnswer (F.bytes journal.old) result }
+    ensures answer { F.gives_bytes journal.old → IsHot (F.bytes journal.old)
+        → ReplayedAnswer (F.bytes journal.old) result }
     ensures still_gives { F.gives_bytes journal.old → F.gives_bytes journal.new }
     ensures same_bytes { F.bytes journal.new ≡ F.bytes journal.old }
 {
@@ -47,7 +49,7 @@ fn replayed<F: FileBytes>(alloc: Global, journal: &mut F) -> Result<Replay, View
 }
 
 /// The scan of a log. None where it has no valid header.
-fn scanned<F: FileBytes>(alloc: Global, wal: &mut F) -> Result<Option<Scan>, ViewError>
+pub(super) fn scanned<F: FileBytes>(alloc: Global, wal: &mut F) -> Result<Option<Scan>, ViewError>
     ensures answer { F.gives_bytes wal.old → ScannedAnswer (F.bytes wal.old) result }
     ensures still_gives { F.gives_bytes wal.old → F.gives_bytes wal.new }
     ensures same_bytes { F.bytes wal.new ≡ F.bytes wal.old }
@@ -69,7 +71,9 @@ fn restored<F: FileBytes + Drop>(
 ) -> Result<View<F>, ViewError>
     ensures answer { F.gives_bytes journal → IsHot (F.bytes journal) → Names (F.bytes journal) header.now
         → ViewAnswer F.bytes (F.bytes db) [] (F.bytes journal) result }
-    ensures still_gives { F.gives_bytes db → F.gives_bytes journal → IfOk result (λ view. F.gives_bytes view.db × F.gives_bytes view.log) }
+    ensures still_gives { F.gives_bytes db → F.gives_bytes journal
+        → IfOk result (λ view. F.gives_bytes view.db × F.gives_bytes view.log) }
+    ensures reads { IfOk result (λ view. (F.bytes view.db ≡ F.bytes db) × (F.bytes view.log ≡ F.bytes journal)) }
 {
     let mut log = journal;
     let replay = replayed(alloc, &mut log)?;
@@ -81,6 +85,7 @@ fn restored<F: FileBytes + Drop>(
         log,
         page_size,
         count,
+        front: 0,
         places,
     })
 }
@@ -95,19 +100,42 @@ fn committed<F: FileBytes + Drop>(
 ) -> Result<View<F>, ViewError>
     ensures answer { F.gives_bytes db → Took (F.bytes log) scan.now → IsHeader page_size (F.bytes log)
         → (journal : List ℕ) → ¬ IsHot journal → ViewAnswer F.bytes (F.bytes db) (F.bytes log) journal result }
-    ensures still_gives { F.gives_bytes db → F.gives_bytes log → IfOk result (λ view. F.gives_bytes view.db × F.gives_bytes view.log) }
+    ensures still_gives { F.gives_bytes db → F.gives_bytes log
+        → IfOk result (λ view. F.gives_bytes view.db × F.gives_bytes view.log) }
+    ensures reads { IfOk result (λ view. (F.bytes view.db ≡ F.bytes db) × (F.bytes view.log ≡ F.bytes log)) }
 {
     let front = scan.committed();
     if front.frames == 0 {
         return own(alloc, db, log);
     }
-    let count = within_limit(u64::from(front.size), page_size)?;
-    let places = frame_places(alloc, scan, page_size, front)?;
+    placed(alloc, db, log, scan, page_size, front.frames, front.size)
+}
+
+/// The view of a file with the frames of its log up to a commit frame, which names this size in pages.
+pub(super) fn placed<F: FileBytes + Drop>(
+    alloc: Global,
+    db: F,
+    log: F,
+    scan: &Scan,
+    page_size: PageSize,
+    frame: u32,
+    size: u32,
+) -> Result<View<F>, ViewError>
+    ensures answer { Took (F.bytes log) scan.now → named_size (F.bytes log) ≡ page_size
+        → IsValidFrame page_size (F.bytes log) frame → size ≡ size_of page_size (F.bytes log) frame
+        → PlacedAnswer F.bytes page_size frame size (F.bytes db) (F.bytes log) result }
+    ensures still_gives { F.gives_bytes db → F.gives_bytes log
+        → IfOk result (λ view. F.gives_bytes view.db × F.gives_bytes view.log) }
+    ensures reads { IfOk result (λ view. (F.bytes view.db ≡ F.bytes db) × (F.bytes view.log ≡ F.bytes log)) }
+{
+    let count = within_limit(u64::from(size), page_size)?;
+    let places = frame_places(alloc, scan, page_size, frame, size)?;
     Ok(View {
         db,
         log,
         page_size,
         count,
+        front: frame,
         places,
     })
 }
@@ -116,7 +144,9 @@ fn committed<F: FileBytes + Drop>(
 fn logged<F: FileBytes + Drop>(alloc: Global, db: F, wal: F) -> Result<View<F>, ViewError>
     ensures answer { F.gives_bytes db → F.gives_bytes wal → (journal : List ℕ) → ¬ IsHot journal
         → ViewAnswer F.bytes (F.bytes db) (F.bytes wal) journal result }
-    ensures still_gives { F.gives_bytes db → F.gives_bytes wal → IfOk result (λ view. F.gives_bytes view.db × F.gives_bytes view.log) }
+    ensures still_gives { F.gives_bytes db → F.gives_bytes wal
+        → IfOk result (λ view. F.gives_bytes view.db × F.gives_bytes view.log) }
+    ensures reads { IfOk result (λ view. (F.bytes view.db ≡ F.bytes db) × (F.bytes view.log ≡ F.bytes wal)) }
 {
     let mut log = wal;
     let Some(scan) = scanned(alloc, &mut log)? else {
@@ -129,10 +159,12 @@ fn logged<F: FileBytes + Drop>(alloc: Global, db: F, wal: F) -> Result<View<F>, 
 }
 
 /// The view of a file without a log that counts.
-fn own<F: FileBytes + Drop>(alloc: Global, db: F, log: F) -> Result<View<F>, ViewError>
+pub(super) fn own<F: FileBytes + Drop>(alloc: Global, db: F, log: F) -> Result<View<F>, ViewError>
     ensures answer { F.gives_bytes db → (wal journal : List ℕ) → ¬ IsTooLong wal journal → IsAlone wal journal
         → ViewAnswer F.bytes (F.bytes db) wal journal result }
-    ensures still_gives { F.gives_bytes db → F.gives_bytes log → IfOk result (λ view. F.gives_bytes view.db × F.gives_bytes view.log) }
+    ensures still_gives { F.gives_bytes db → F.gives_bytes log
+        → IfOk result (λ view. F.gives_bytes view.db × F.gives_bytes view.log) }
+    ensures reads { IfOk result (λ view. (F.bytes view.db ≡ F.bytes db) × (F.bytes view.log ≡ F.bytes log)) }
 {
     let mut db = db;
     let head = read_head(&mut db)?;
@@ -148,6 +180,7 @@ fn own<F: FileBytes + Drop>(alloc: Global, db: F, log: F) -> Result<View<F>, Vie
         log,
         page_size,
         count,
+        front: 0,
         places: Vec::new(alloc),
     })
 }
@@ -164,15 +197,18 @@ fn without_size(head: &[u8; 100]) -> ViewError
 }
 
 impl<F: FileBytes + Drop> View<F> {
-    /// The view of a file with its write-ahead log and its rollback journal, where a missing file has no bytes. A hot journal
-    /// counts, or a log that isn't empty. It reads no log behind its stop, and keeps 8 bytes for each page where one counts;
-    /// while it reads also 8 for each valid frame, or 16 for each record. Refused, in this order, by TwoLogs, TooLarge and
-    /// Header; NoMemory may stand in place of any answer, and Unread where a file could not be read.
+    /// The view of a file with its write-ahead log and its rollback journal, where a missing file has no bytes. A hot
+    /// journal counts, or a log that isn't empty. It reads no log behind its stop, and keeps 8 bytes for each page
+    /// where one counts; while it reads also 8 for each valid frame, or 16 for each record. Refused, in this order, by
+    /// TwoLogs, TooLarge and Header; NoMemory may stand in place of any answer, and Unread where a file could not be
+    /// read.
     pub fn new(alloc: Global, db: F, wal: F, journal: F) -> Result<View<F>, ViewError>
         ensures answer { F.gives_bytes db × F.gives_bytes wal × F.gives_bytes journal
             → ViewAnswer F.bytes (F.bytes db) (F.bytes wal) (F.bytes journal) result }
         ensures still_gives { F.gives_bytes db × F.gives_bytes wal × F.gives_bytes journal
             → IfOk result (λ view. F.gives_bytes view.db × F.gives_bytes view.log) }
+        ensures reads { F.gives_bytes wal × F.gives_bytes journal → IfOk result
+            (λ view. ReadsFrom (F.bytes db) (F.bytes wal) (F.bytes journal) (F.bytes view.db) (F.bytes view.log)) }
     {
         let mut journal = journal;
         match log_in_use(&wal, &mut journal)? {

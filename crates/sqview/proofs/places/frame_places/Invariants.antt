@@ -6,4 +6,4 @@ use Rattle.sqview.specs.ViewParts.{AreFramePlaces}
 use Rattle.sqview.proofs.places.frame_places.Given as goal
 
 abbrev pub invariant-loop-i : goal.invariant-loop-i
-invariant-loop-i l = (w : List ℕ) → Took w l.scan → named_size w ≡ l.page_size → IsValidFrame (named_size w) w l.fn.front.frames → AreFramePlaces l.page_size w l.i l.fn.front.size l.places.items
+invariant-loop-i l = (w : List ℕ) → Took w l.scan → named_size w ≡ l.page_size → IsValidFrame (named_size w) w l.fn.frames → AreFramePlaces l.page_size w l.i l.fn.count l.places.items

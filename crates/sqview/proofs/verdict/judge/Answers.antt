@@ -1,10 +1,8 @@
-use Rattle.std.proofs.Common.{◌≡◌, ℕ, List, [], sym, ◌∙◌, ap, subst, refl}
-use Rattle.std.specs.Prelude.{IfOk, IfErr, Result}
+use Rattle.std.proofs.Common.{◌≡◌, ℕ, List, sym, ap, subst}
+use Rattle.std.specs.Prelude.{IfOk, IfErr}
 use Rattle.sqview.specs.Ahead.{IsUnread}
 use Rattle.sqview.specs.Laid.{HoldsPart}
 use Rattle.sqview.specs.Verdicts.{IsVerdict, AreUnjudged}
-use Rattle.sqview.specs.declared.judge_error.JudgeError.{JudgeError}
-use Rattle.sqview.specs.declared.verdict.Verdict.{Verdict}
 use Rattle.sqview.specs.declared.read_ahead.ReadAhead.{ReadAhead}
 use Rattle.sqview.proofs.Ahead.{holds_nothing}
 use Rattle.sqview.proofs.verdict.judge.Goals as goal

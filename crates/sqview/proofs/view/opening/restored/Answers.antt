@@ -1,4 +1,4 @@
-use Rattle.std.proofs.Common.{◌∙◌, ℕ, List, [], sym, subst}
+use Rattle.std.proofs.Common.{◌∙◌, ℕ, List, [], refl, sym, subst}
 use Rattle.sqjournal.specs.Restored.{IsRolledBack}
 use Rattle.sqview.specs.Laid.{laid}
 use Rattle.sqview.proofs.Recorded.{read_journal, read_places, rolled_back}
@@ -33,5 +33,6 @@ returns-clause-answer g c = λ gives hot names.
     let j = read_journal b c.in_ok-replay.replay read.1 in
     let are = read_places b c.in_ok-replay.replay read.1 n places read.0 c.in_ok-places.ensures.places in
     let back : IsRolledBack db b (laid size n db b places) = rolled_back b n places are j.0 j.1 j.2 j.3 hot size db names.size (c.in_ok-count.ensures.0 ∙ count) in
-    restored_shown db b hot size c.from.result names.size count read.0 bytes _ c.in_ok-count.ensures names.size
-    (subst (λ (l : List ℕ). IsRolledBack db b (laid size n db l places)) (sym c.replayed.ensures.same_bytes) back)
+    restored_shown db b hot size c.from.result names.size count read.0 bytes
+    (record { db = c.args.db; log = c.replayed.new.journal; page_size = size; count = n; front = 0; places = c.in_ok-places.places }) c.in_ok-count.ensures names.size
+    (subst (λ (l : List ℕ). IsRolledBack db b (laid size n db l places)) (sym c.replayed.ensures.same_bytes) back) refl are.long

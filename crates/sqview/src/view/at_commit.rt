@@ -1,0 +1,93 @@
+//! The view of a file at a commit of its log (fileformat2, 4.5).
+ghost use Rattle.std.specs.Prelude.{◌≡◌, ◌≤◌, ℕ, List, IfOk};
+ghost use Rattle.sqwal.specs.Took.{Took};
+ghost use Rattle.sqjournal.specs.Journal.{IsHot};
+ghost use Rattle.sqview.specs.At.{AtAnswer, FrontIsShown, ZeroIsShown};
+ghost use Rattle.sqview.specs.ViewParts.{CommitFound};
+
+use super::View;
+use super::opening::{own, placed, scanned};
+use crate::file_bytes::FileBytes;
+use crate::logs::{LogInUse, log_in_use};
+use crate::view_error::ViewError;
+use sqval::PageSize;
+use sqwal::Scan;
+use std::alloc::Global;
+
+/// A commit of a log: the size of the log's pages, and how many the database has there.
+#[derive(Clone, Copy)]
+struct Commit {
+    page_size: PageSize,
+    size: u32,
+}
+
+/// The commit that a frame of the log ends. None where it ends none.
+fn commit_of(scan: &Scan, frame: u32) -> Option<Commit>
+    ensures { (w : List ℕ) → Took w scan.now → CommitFound w frame result }
+{
+    let header = scan.header()?;
+    let entry = scan.entry(frame as usize)?;
+    if entry.size == 0 {
+        return None;
+    }
+    Some(Commit {
+        page_size: header.page_size,
+        size: entry.size,
+    })
+}
+
+/// The view of a file at a frame of its log, where no hot journal is.
+fn at_frame<F: FileBytes + Drop>(
+    alloc: Global,
+    db: F,
+    wal: F,
+    frame: u32,
+) -> Result<View<F>, ViewError>
+    ensures answer { F.gives_bytes wal → 1 ≤ frame → (journal : List ℕ) → ¬ IsHot journal
+        → AtAnswer F.bytes frame (F.bytes db) (F.bytes wal) journal result }
+    ensures still_gives { F.gives_bytes db → F.gives_bytes wal
+        → IfOk result (λ view. F.gives_bytes view.db × F.gives_bytes view.log) }
+    ensures reads { IfOk result (λ view. (F.bytes view.db ≡ F.bytes db) × (F.bytes view.log ≡ F.bytes wal)) }
+{
+    let mut log = wal;
+    let Some(scan) = scanned(alloc, &mut log)? else {
+        return Err(ViewError::NoSuchCommit);
+    };
+    match commit_of(&scan, frame) {
+        Some(it) => placed(alloc, db, log, &scan, it.page_size, frame, it.size),
+        None => Err(ViewError::NoSuchCommit),
+    }
+}
+
+impl<F: FileBytes + Drop> View<F> {
+    /// The view of a file with its write-ahead log up to a commit frame, where a missing file has no bytes. At frame 0
+    /// it is the file without its log, also beside a hot journal, and has no places. What is read and kept is otherwise
+    /// as for `new`. Refused, in this order, by TwoLogs, by TooLarge where the log is too long, by NoSuchCommit where
+    /// the frame isn't 0 and the journal is hot or the log has no such commit frame, by TooLarge where that database is
+    /// above the limit, and by Header at frame 0; NoMemory may stand in place of any answer, and Unread where a file
+    /// could not be read.
+    pub fn at(alloc: Global, db: F, wal: F, journal: F, frame: u32) -> Result<View<F>, ViewError>
+        ensures answer { F.gives_bytes db × F.gives_bytes wal × F.gives_bytes journal
+            → AtAnswer F.bytes frame (F.bytes db) (F.bytes wal) (F.bytes journal) result }
+        ensures still_gives { F.gives_bytes db × F.gives_bytes wal × F.gives_bytes journal
+            → IfOk result (λ view. F.gives_bytes view.db × F.gives_bytes view.log) }
+        ensures reads { IfOk result (λ view. (F.bytes view.db ≡ F.bytes db) × (F.bytes view.log ≡ F.bytes wal)) }
+    {
+        let mut journal = journal;
+        let in_use = log_in_use(&wal, &mut journal)?;
+        if frame == 0 {
+            return own(alloc, db, wal);
+        }
+        match in_use {
+            LogInUse::Wal => at_frame(alloc, db, wal, frame),
+            _ => Err(ViewError::NoSuchCommit),
+        }
+    }
+}
+
+/// The view at the front of a log that counts is the view of the file with its logs, and where no log counts the view
+/// at frame 0 is. It does nothing; its contract is that law.
+pub fn front_is_shown()
+    ensures front { FrontIsShown }
+    ensures zero { ZeroIsShown }
+{}
