@@ -1,0 +1,3 @@
+pub mod Records
+pub mod Lasts
+pub mod Playing

@@ -1,0 +1,4 @@
+pub mod Trace
+pub mod Files
+pub mod Names
+pub mod Plays

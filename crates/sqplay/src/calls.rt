@@ -1,0 +1,49 @@
+//! What the call of a record does to the name that it speaks of (own).
+ghost use Rattle.std.specs.Prelude.{IsTrue, OnOk, IfErr};
+ghost use Rattle.crashdisk.specs.Solid.{is_sector_size};
+ghost use Rattle.sqplay.specs.Names.{name_of};
+ghost use Rattle.sqplay.specs.Plays.{CallDoes, CallRefused};
+
+use crate::error::PlayError;
+use crate::name::{Manner, Name};
+use crate::trace::{Kind, Record};
+
+/// Plays a record that speaks of a name.
+pub(crate) fn play_call(
+    name: &mut Name,
+    manner: &Manner,
+    trace: &[u8],
+    call: &Record,
+) -> Result<(), PlayError>
+    requires { IsTrue (is_sector_size manner.now.sector) }
+    ensures does { OnOk result (CallDoes call.now.kind manner.now.sector manner.now.tears trace.now call.now
+        (name_of name.old) (name_of name.new)) }
+    ensures refused { IfErr result (CallRefused call.now.kind trace.now call.now) }
+{
+    let fails = call.has_failed();
+    match call.kind {
+        Kind::Base => {
+            *name = Name::base(manner, call.bytes(trace))?;
+            Ok(())
+        }
+        Kind::Open => {
+            if call.place == 1 {
+                name.make(manner)?;
+            }
+            Ok(())
+        }
+        Kind::Write => name.write(manner.alloc, call.place, call.bytes(trace), fails),
+        Kind::Cut => name.cut(manner.alloc, call.place, fails),
+        Kind::Sync => name.sync(manner.alloc, fails),
+        Kind::Unlink => {
+            if !fails {
+                name.unlink();
+            }
+            Ok(())
+        }
+        Kind::Rename if fails => Ok(()),
+        Kind::Rename => Err(PlayError::Renamed),
+        Kind::NotHeld => Err(PlayError::NotHeld),
+        Kind::Close | Kind::FolderSync | Kind::Mark => Ok(()),
+    }
+}

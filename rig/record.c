@@ -1,0 +1,485 @@
+/* Records what a program does to a database file and its two logs, as docs/TRACE.md says. rig/record builds it and runs
+   a program with it, loaded before the C library. Each call is made first and then recorded, under one lock, so that the
+   records stand in the order of the calls' effects. A record that can't be written ends the process with status 97: no
+   trace is better than one with a gap. */
+#define _GNU_SOURCE
+#include <dlfcn.h>
+#include <errno.h>
+#include <fcntl.h>
+#include <pthread.h>
+#include <stdarg.h>
+#include <stdint.h>
+#include <stdio.h>
+#include <stdlib.h>
+#include <string.h>
+#include <sys/mman.h>
+#include <sys/stat.h>
+#include <sys/syscall.h>
+#include <sys/uio.h>
+#include <unistd.h>
+
+enum kind { BASE = 1, OPEN, CLOSE, WRITE, CUT, SYNC, UNLINK, RENAME, FOLDER_SYNC, MARK, NOT_HELD };
+enum file { DB, WAL, JOURNAL, FOLDER, MARKS, OTHER = 255 };
+enum not_held { SHARED_MAP = 1, FALLOCATE, VECTORED_WRITE, LINK };
+
+enum { DESCRIPTORS = 65536, PATH_ROOM = 4096, NAME_ROOM = PATH_ROOM + 16, NO_TRACE = 97, FIRST_DESCRIPTOR = 900 };
+
+struct head {
+    uint32_t kind, file, making, thread;
+    int64_t answer;
+    uint64_t place, length;
+};
+
+static pthread_mutex_t lock = PTHREAD_RECURSIVE_MUTEX_INITIALIZER_NP;
+static int ready, trace = -1;
+static char names[3][NAME_ROOM], folder[NAME_ROOM], marks[NAME_ROOM];
+static uint32_t makings[3];                      /* how often this process saw the name made */
+static struct { uint8_t file; uint32_t making; } held[DESCRIPTORS]; /* by descriptor: 0, or the file and 1 */
+
+/* ---- The C library's own calls. */
+
+#define NEXT(answer, call, ...) static answer (*next_##call)(__VA_ARGS__)
+NEXT(int, openat64, int, const char *, int, ...);
+NEXT(int, close, int);
+NEXT(ssize_t, write, int, const void *, size_t);
+NEXT(ssize_t, pwrite64, int, const void *, size_t, off64_t);
+NEXT(ssize_t, writev, int, const struct iovec *, int);
+NEXT(ssize_t, pwritev64, int, const struct iovec *, int, off64_t);
+NEXT(ssize_t, pwritev64v2, int, const struct iovec *, int, off64_t, int);
+NEXT(int, ftruncate64, int, off64_t);
+NEXT(int, truncate64, const char *, off64_t);
+NEXT(int, fsync, int);
+NEXT(int, fdatasync, int);
+NEXT(int, unlinkat, int, const char *, int);
+NEXT(int, remove, const char *);
+NEXT(int, renameat, int, const char *, int, const char *);
+NEXT(int, renameat2, int, const char *, int, const char *, unsigned);
+NEXT(int, linkat, int, const char *, int, const char *, int);
+NEXT(int, dup, int);
+NEXT(int, dup2, int, int);
+NEXT(int, dup3, int, int, int);
+NEXT(int, fcntl64, int, int, ...);
+NEXT(FILE *, fopen64, const char *, const char *);
+NEXT(void *, mmap64, void *, size_t, int, int, int, off64_t);
+NEXT(int, fallocate64, int, int, off64_t, off64_t);
+NEXT(int, posix_fallocate64, int, off64_t, off64_t);
+
+static void find_calls(void) {
+#define FIND(call) next_##call = (__typeof__(next_##call))dlsym(RTLD_NEXT, #call)
+    FIND(openat64), FIND(close), FIND(write), FIND(pwrite64), FIND(writev);
+    FIND(pwritev64), FIND(pwritev64v2);
+    FIND(ftruncate64), FIND(truncate64), FIND(fsync), FIND(fdatasync);
+    FIND(unlinkat), FIND(remove), FIND(renameat), FIND(renameat2), FIND(linkat);
+    FIND(dup), FIND(dup2), FIND(dup3), FIND(fcntl64), FIND(fopen64);
+    FIND(mmap64), FIND(fallocate64), FIND(posix_fallocate64);
+}
+
+/* ---- Records. */
+
+static void put_all(const void *bytes, size_t count) {
+    const char *rest = bytes;
+    while (count > 0) {
+        ssize_t done = syscall(SYS_write, trace, rest, count);
+        if (done > 0) rest += done, count -= done;
+        else if (done == 0 || errno != EINTR) _exit(NO_TRACE);
+    }
+}
+
+/* A record in one write, which the kernel appends whole: other processes add marks to the same trace. */
+static void put(enum kind kind, enum file file, uint32_t making, int64_t answer, uint64_t place, uint64_t length,
+                const void *bytes) {
+    if (trace < 0) return;
+    int kept = errno;
+    struct head head = { kind, file, making, syscall(SYS_gettid), answer, place, length };
+    struct iovec parts[2] = { { &head, sizeof head }, { (void *)bytes, bytes ? length : 0 } };
+    ssize_t done;
+    do done = syscall(SYS_writev, trace, parts, 2);
+    while (done < 0 && errno == EINTR);
+    if (done < 0) _exit(NO_TRACE);
+    for (int i = 0; i < 2; i++) {
+        size_t part = (size_t)done < parts[i].iov_len ? (size_t)done : parts[i].iov_len;
+        put_all((char *)parts[i].iov_base + part, parts[i].iov_len - part);
+        done -= part;
+    }
+    errno = kept;
+}
+
+static void put_base(enum file file) {
+    struct stat state;
+    int from = syscall(SYS_openat, AT_FDCWD, names[file], O_RDONLY | O_CLOEXEC);
+    if (from < 0) return;
+    if (fstat(from, &state) == 0 && S_ISREG(state.st_mode)) {
+        char *bytes = malloc(state.st_size + 1);
+        ssize_t count = 0, more;
+        if (!bytes) _exit(NO_TRACE);
+        while ((more = read(from, bytes + count, state.st_size - count)) > 0) count += more;
+        put(BASE, file, 0, 0, 0, count, bytes);
+        free(bytes);
+    }
+    syscall(SYS_close, from);
+}
+
+/* ---- Names. */
+
+static void set_names(const char *path) {
+    char *real = realpath(path, NULL);
+    snprintf(names[DB], sizeof names[DB], "%s", real ? real : path);
+    free(real);
+    snprintf(names[WAL], sizeof names[WAL], "%.*s-wal", PATH_ROOM, names[DB]);
+    snprintf(names[JOURNAL], sizeof names[JOURNAL], "%.*s-journal", PATH_ROOM, names[DB]);
+    snprintf(folder, sizeof folder, "%s", names[DB]);
+    char *end = strrchr(folder, '/');
+    if (end) end[end == folder] = 0;
+}
+
+/* The file that this path names, as its letters say. */
+static enum file file_of(int at, const char *path) {
+    char full[2 * NAME_ROOM], current[NAME_ROOM];
+    if (trace < 0 || !path || (path[0] != '/' && at != AT_FDCWD)) return OTHER;
+    if (path[0] != '/') {
+        if (!getcwd(current, sizeof current)) return OTHER;
+        while (path[0] == '.' && path[1] == '/') path += 2;
+        snprintf(full, sizeof full, "%.*s/%.*s", PATH_ROOM, current, PATH_ROOM, path);
+        path = full;
+    }
+    for (int i = DB; i <= JOURNAL; i++) if (!strcmp(path, names[i])) return i;
+    if (!strcmp(path, folder)) return FOLDER;
+    return marks[0] && !strcmp(path, marks) ? MARKS : OTHER;
+}
+
+static enum file held_by(int descriptor) {
+    return descriptor >= 0 && descriptor < DESCRIPTORS && held[descriptor].file ? held[descriptor].file - 1 : OTHER;
+}
+
+static void hold(int descriptor, enum file file, uint32_t making) {
+    if (descriptor < 0) return;
+    if (descriptor < DESCRIPTORS) {
+        held[descriptor].file = file == OTHER ? 0 : file + 1;
+        held[descriptor].making = making;
+    } else if (file <= JOURNAL) _exit(NO_TRACE);
+}
+
+static void hold_copy(int descriptor, int copy) {
+    enum file file = held_by(descriptor);
+    if (copy >= 0 && copy != descriptor) hold(copy, file, file == OTHER ? 0 : held[descriptor].making);
+}
+
+/* ---- The beginning. */
+
+static void begin(void) {
+    const char *file = getenv("SQCRASH_FILE"), *to = getenv("SQCRASH_TRACE"), *lines = getenv("SQCRASH_MARKS");
+    struct stat state;
+    find_calls();
+    if (!file || !to || strlen(file) >= PATH_ROOM) return;
+    set_names(file);
+    if (lines) snprintf(marks, sizeof marks, "%s", lines);
+    int opened = syscall(SYS_openat, AT_FDCWD, to, O_WRONLY | O_CREAT | O_APPEND | O_CLOEXEC, 0644);
+    if (opened < 0) _exit(NO_TRACE);
+    trace = syscall(SYS_fcntl, opened, F_DUPFD_CLOEXEC, FIRST_DESCRIPTOR); /* out of the way of the program's own */
+    if (trace < 0) trace = opened;
+    else syscall(SYS_close, opened);
+    if (fstat(trace, &state) != 0) _exit(NO_TRACE);
+    if (state.st_size > 0) return; /* another process has begun it */
+    put_all("SQCRTR1\n", 8);
+    for (int i = DB; i <= JOURNAL; i++) put_base(i);
+}
+
+static void enter(void) {
+    pthread_mutex_lock(&lock);
+    if (!ready) {
+        ready = 1;
+        begin();
+    }
+}
+
+static void leave(void) {
+    int kept = errno;
+    pthread_mutex_unlock(&lock);
+    errno = kept;
+}
+
+__attribute__((constructor)) static void start(void) {
+    enter();
+    leave();
+}
+
+static int64_t told(int64_t answer) {
+    return answer < 0 ? -errno : answer;
+}
+
+/* ---- Opening and closing. */
+
+static int open_one(int at, const char *path, int flags, mode_t mode) {
+    struct stat state = { 0 };
+    enter();
+    enum file file = file_of(at, path);
+    int there = file <= JOURNAL && stat(path, &state) == 0;
+    if (file > JOURNAL) leave(); /* another file's opening may wait, as that of a FIFO does */
+    int opened = next_openat64(at, path, flags, mode);
+    if (file > JOURNAL) enter();
+    if (file <= JOURNAL) {
+        int made = opened >= 0 && !there;
+        makings[file] += made;
+        put(OPEN, file, makings[file], told(opened), made, (uint32_t)flags, NULL);
+        if (opened >= 0 && (flags & O_TRUNC) && state.st_size > 0) put(CUT, file, makings[file], 0, 0, 0, NULL);
+    }
+    hold(opened, file, file <= JOURNAL ? makings[file] : 0);
+    leave();
+    return opened;
+}
+
+#define MODE_OF(flags)                     \
+    mode_t mode = 0;                       \
+    if ((flags) & (O_CREAT | O_TMPFILE)) { \
+        va_list rest;                      \
+        va_start(rest, flags);             \
+        mode = va_arg(rest, mode_t);       \
+        va_end(rest);                      \
+    }
+
+int open(const char *path, int flags, ...) { MODE_OF(flags) return open_one(AT_FDCWD, path, flags, mode); }
+int open64(const char *path, int flags, ...) { MODE_OF(flags) return open_one(AT_FDCWD, path, flags, mode); }
+int openat(int at, const char *path, int flags, ...) { MODE_OF(flags) return open_one(at, path, flags, mode); }
+int openat64(int at, const char *path, int flags, ...) { MODE_OF(flags) return open_one(at, path, flags, mode); }
+int creat(const char *path, mode_t mode) { return open_one(AT_FDCWD, path, O_CREAT | O_WRONLY | O_TRUNC, mode); }
+int creat64(const char *path, mode_t mode) { return open_one(AT_FDCWD, path, O_CREAT | O_WRONLY | O_TRUNC, mode); }
+
+int close(int descriptor) {
+    enter();
+    enum file file = held_by(descriptor);
+    int answer = next_close(descriptor);
+    if (file <= JOURNAL) put(CLOSE, file, held[descriptor].making, told(answer), 0, 0, NULL);
+    if (file != OTHER) held[descriptor].file = 0;
+    leave();
+    return answer;
+}
+
+static int copied(int descriptor, int copy) {
+    hold_copy(descriptor, copy);
+    leave();
+    return copy;
+}
+
+int dup(int descriptor) { return enter(), copied(descriptor, next_dup(descriptor)); }
+int dup2(int descriptor, int to) { return enter(), copied(descriptor, next_dup2(descriptor, to)); }
+int dup3(int descriptor, int to, int flags) { return enter(), copied(descriptor, next_dup3(descriptor, to, flags)); }
+
+static int control(int descriptor, int command, void *rest) {
+    enter();
+    if (command == F_DUPFD || command == F_DUPFD_CLOEXEC)
+        return copied(descriptor, next_fcntl64(descriptor, command, rest));
+    leave(); /* a lock may be waited for */
+    return next_fcntl64(descriptor, command, rest);
+}
+
+#define REST_OF(command)            \
+    va_list rest;                   \
+    va_start(rest, command);        \
+    void *one = va_arg(rest, void *); \
+    va_end(rest);
+
+int fcntl(int descriptor, int command, ...) { REST_OF(command) return control(descriptor, command, one); }
+int fcntl64(int descriptor, int command, ...) { REST_OF(command) return control(descriptor, command, one); }
+
+/* ---- Marks. */
+
+static void put_marks(const char *lines, size_t count) {
+    while (count > 0) {
+        const char *end = memchr(lines, '\n', count);
+        size_t line = end ? (size_t)(end - lines) : count;
+        if (line > 0) put(MARK, MARKS, 0, 0, 0, line, lines);
+        line += end != NULL;
+        lines += line;
+        count -= line;
+    }
+}
+
+/* A FILE * to the marks, as a shell's .print has it, is one that hands each line on. */
+static ssize_t print_marks(void *cookie, const char *lines, size_t count) {
+    (void)cookie;
+    enter();
+    put_marks(lines, count);
+    leave();
+    return count;
+}
+
+static FILE *open_stream(const char *path, const char *mode) {
+    enter();
+    enum file file = file_of(AT_FDCWD, path);
+    leave();
+    if (file != MARKS || !mode || (mode[0] != 'w' && mode[0] != 'a')) return next_fopen64(path, mode);
+    FILE *stream = fopencookie(NULL, "w", (cookie_io_functions_t){ NULL, print_marks, NULL, NULL });
+    if (stream) setvbuf(stream, NULL, _IOLBF, 0);
+    return stream;
+}
+
+FILE *fopen(const char *path, const char *mode) { return open_stream(path, mode); }
+FILE *fopen64(const char *path, const char *mode) { return open_stream(path, mode); }
+
+/* ---- Writing, cutting, syncing. */
+
+/* Where the next write goes: to the end, or to the descriptor's own place. */
+static off64_t place_of(int descriptor) {
+    struct stat state;
+    int flags = next_fcntl64(descriptor, F_GETFL);
+    if (flags >= 0 && (flags & O_APPEND) && fstat(descriptor, &state) == 0) return state.st_size;
+    return lseek64(descriptor, 0, SEEK_CUR);
+}
+
+static void put_write(enum file file, int descriptor, const void *bytes, size_t count, off64_t place, ssize_t done) {
+    size_t length = done < 0 ? count : (size_t)done;
+    if (file <= JOURNAL) put(WRITE, file, held[descriptor].making, told(done), place, length, bytes);
+    else if (file == MARKS && done > 0) put_marks(bytes, done);
+}
+
+ssize_t write(int descriptor, const void *bytes, size_t count) {
+    enter();
+    enum file file = held_by(descriptor);
+    off64_t place = file <= JOURNAL ? place_of(descriptor) : 0;
+    ssize_t done = next_write(descriptor, bytes, count);
+    put_write(file, descriptor, bytes, count, place, done);
+    leave();
+    return done;
+}
+
+ssize_t pwrite64(int descriptor, const void *bytes, size_t count, off64_t place) {
+    enter();
+    ssize_t done = next_pwrite64(descriptor, bytes, count, place);
+    put_write(held_by(descriptor), descriptor, bytes, count, place, done);
+    leave();
+    return done;
+}
+
+ssize_t pwrite(int descriptor, const void *bytes, size_t count, off_t place) {
+    return pwrite64(descriptor, bytes, count, place);
+}
+
+int ftruncate64(int descriptor, off64_t length) {
+    enter();
+    enum file file = held_by(descriptor);
+    int answer = next_ftruncate64(descriptor, length);
+    if (file <= JOURNAL) put(CUT, file, held[descriptor].making, told(answer), length, 0, NULL);
+    leave();
+    return answer;
+}
+
+int ftruncate(int descriptor, off_t length) { return ftruncate64(descriptor, length); }
+
+int truncate64(const char *path, off64_t length) {
+    enter();
+    enum file file = file_of(AT_FDCWD, path);
+    int answer = next_truncate64(path, length);
+    if (file <= JOURNAL) put(CUT, file, makings[file], told(answer), length, 0, NULL);
+    leave();
+    return answer;
+}
+
+int truncate(const char *path, off_t length) { return truncate64(path, length); }
+
+static int sync_one(int descriptor, int data_alone) {
+    enter();
+    enum file file = held_by(descriptor);
+    int answer = data_alone ? next_fdatasync(descriptor) : next_fsync(descriptor);
+    if (file <= JOURNAL) put(SYNC, file, held[descriptor].making, told(answer), data_alone, 0, NULL);
+    else if (file == FOLDER) put(FOLDER_SYNC, file, 0, told(answer), data_alone, 0, NULL);
+    leave();
+    return answer;
+}
+
+int fsync(int descriptor) { return sync_one(descriptor, 0); }
+int fdatasync(int descriptor) { return sync_one(descriptor, 1); }
+
+/* ---- Names that go, change or come. */
+
+static int unlinked(enum file file, int answer) {
+    if (file <= JOURNAL) put(UNLINK, file, makings[file], told(answer), 0, 0, NULL);
+    leave();
+    return answer;
+}
+
+int unlinkat(int at, const char *path, int flags) {
+    enter();
+    enum file file = file_of(at, path);
+    return unlinked(file, next_unlinkat(at, path, flags));
+}
+int unlink(const char *path) { return unlinkat(AT_FDCWD, path, 0); }
+int remove(const char *path) {
+    enter();
+    enum file file = file_of(AT_FDCWD, path);
+    return unlinked(file, next_remove(path));
+}
+
+/* A name that is none of the three counts as OTHER. */
+static enum file data_file_of(int at, const char *path) {
+    enum file file = file_of(at, path);
+    return file <= JOURNAL ? file : OTHER;
+}
+
+int renameat2(int at, const char *path, int at_to, const char *to_path, unsigned flags) {
+    enter();
+    enum file from = data_file_of(at, path), to = data_file_of(at_to, to_path);
+    int answer = flags ? next_renameat2(at, path, at_to, to_path, flags) : next_renameat(at, path, at_to, to_path);
+    if (from != to) put(RENAME, from, from == OTHER ? 0 : makings[from], told(answer), to, 0, NULL);
+    leave();
+    return answer;
+}
+int renameat(int at, const char *path, int at_to, const char *to) { return renameat2(at, path, at_to, to, 0); }
+int rename(const char *path, const char *to) { return renameat2(AT_FDCWD, path, AT_FDCWD, to, 0); }
+
+/* ---- Calls that change bytes or names, and that a trace can't hold: it says so, and who plays it refuses it. */
+
+static void put_not_held(enum file file, enum not_held call) {
+    if (file <= JOURNAL) put(NOT_HELD, file, makings[file], call, 0, 0, NULL);
+}
+
+static void note(int descriptor, enum not_held call) {
+    enter();
+    put_not_held(held_by(descriptor), call);
+    leave();
+}
+
+void *mmap64(void *at, size_t count, int rights, int flags, int descriptor, off64_t place) {
+    if ((rights & PROT_WRITE) && (flags & MAP_SHARED)) note(descriptor, SHARED_MAP);
+    if (!next_mmap64) return (void *)syscall(SYS_mmap, at, count, rights, flags, descriptor, place);
+    return next_mmap64(at, count, rights, flags, descriptor, place);
+}
+void *mmap(void *at, size_t count, int rights, int flags, int descriptor, off_t place) {
+    return mmap64(at, count, rights, flags, descriptor, place);
+}
+int fallocate64(int descriptor, int mode, off64_t from, off64_t count) {
+    note(descriptor, FALLOCATE);
+    return next_fallocate64(descriptor, mode, from, count);
+}
+int fallocate(int descriptor, int mode, off_t from, off_t count) { return fallocate64(descriptor, mode, from, count); }
+int posix_fallocate64(int descriptor, off64_t from, off64_t count) {
+    note(descriptor, FALLOCATE);
+    return next_posix_fallocate64(descriptor, from, count);
+}
+int posix_fallocate(int descriptor, off_t from, off_t count) { return posix_fallocate64(descriptor, from, count); }
+ssize_t writev(int descriptor, const struct iovec *parts, int count) {
+    note(descriptor, VECTORED_WRITE);
+    return next_writev(descriptor, parts, count);
+}
+ssize_t pwritev64(int descriptor, const struct iovec *parts, int count, off64_t place) {
+    note(descriptor, VECTORED_WRITE);
+    return next_pwritev64(descriptor, parts, count, place);
+}
+ssize_t pwritev(int descriptor, const struct iovec *parts, int count, off_t place) {
+    return pwritev64(descriptor, parts, count, place);
+}
+ssize_t pwritev64v2(int descriptor, const struct iovec *parts, int count, off64_t place, int flags) {
+    note(descriptor, VECTORED_WRITE);
+    return next_pwritev64v2(descriptor, parts, count, place, flags);
+}
+ssize_t pwritev2(int descriptor, const struct iovec *parts, int count, off_t place, int flags) {
+    return pwritev64v2(descriptor, parts, count, place, flags);
+}
+int linkat(int at, const char *from, int at_to, const char *to, int flags) {
+    enter();
+    put_not_held(file_of(at, from), LINK);
+    put_not_held(file_of(at_to, to), LINK);
+    int answer = next_linkat(at, from, at_to, to, flags);
+    leave();
+    return answer;
+}
+int link(const char *from, const char *to) { return linkat(AT_FDCWD, from, AT_FDCWD, to, 0); }
