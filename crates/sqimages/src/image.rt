@@ -1,0 +1,90 @@
+//! What a crash left of a database file and its logs (own).
+ghost use Rattle.std.specs.Prelude.{◌≡◌, ◌++◌, ◌%◌, ◌/◌, OnOk};
+ghost use Rattle.sqplay.specs.Names.{name_of};
+ghost use Rattle.sqimages.specs.Ways.{files_way};
+
+use crate::counts::{Counts, file_count};
+use crashdisk::{DiskError, File};
+use sqplay::{Name, Player};
+use std::alloc::Global;
+
+/// What a crash left: the bytes of each file. One that is gone has none.
+#[derive(Drop)]
+pub struct Image {
+    pub db: Vec<u8>,
+    pub wal: Vec<u8>,
+    pub journal: Vec<u8>,
+}
+
+/// Appends the file that is left under a name in the way of this number, or nothing: the choices of the files that were
+/// made under it, the oldest file first, and then none.
+fn append_way(name: &Name, n: u64, out: &mut Vec<u8>) -> Result<(), DiskError>
+    ensures { OnOk result (out.new.items ≡ out.old.items ++ files_way (name_of name.now).files n) }
+{
+    let mut rest = n;
+    for disk in name.files() {
+        match file_count(disk, rest) {
+            Some(count) => rest -= count,
+            None => {
+                let Some(choice) = disk.choice(rest)? else {
+                    return Ok(());
+                };
+                return disk.image(File::Db, &choice.db, out);
+            }
+        }
+    }
+    Ok(())
+}
+
+/// Puts there the file that is left under a name in the way of this number.
+fn put_way(name: &Name, n: u64, out: &mut Vec<u8>) -> Result<(), DiskError>
+    ensures { OnOk result (out.new.items ≡ files_way (name_of name.now).files n) }
+{
+    out.clear();
+    append_way(name, n, out)
+}
+
+impl Image {
+    ghost use Rattle.std.specs.Prelude.{OnOk};
+    ghost use Rattle.sqplay.specs.Plays.{files_of};
+    ghost use Rattle.sqimages.specs.Images.{IsNumbered};
+
+    /// No files.
+    pub fn none(alloc: Global) -> Image {
+        Image {
+            db: Vec::new(alloc),
+            wal: Vec::new(alloc),
+            journal: Vec::new(alloc),
+        }
+    }
+
+    /// Takes the image of this number, counted from 0, in place of what it has. The way of the database file changes
+    /// fastest, and that of the journal slowest. NoMemory alone, and then nothing is said of it.
+    pub fn set(&mut self, player: &Player, counts: &Counts, n: u64) -> Result<(), DiskError>
+        ensures { OnOk result (IsNumbered (files_of player.now) counts.now n self.new) }
+    {
+        let logs = n / counts.db;
+        put_way(player.db(), n % counts.db, &mut self.db)?;
+        put_way(player.wal(), logs % counts.wal, &mut self.wal)?;
+        put_way(player.journal(), logs / counts.wal, &mut self.journal)
+    }
+
+    /// Takes the present files in place of what it has. NoMemory alone, and then nothing is said of it.
+    pub fn set_present(&mut self, player: &Player) -> Result<(), DiskError> {
+        put_present(player.db(), &mut self.db)?;
+        put_present(player.wal(), &mut self.wal)?;
+        put_present(player.journal(), &mut self.journal)
+    }
+}
+
+/// Puts there the present bytes of what is under a name.
+fn put_present(name: &Name, out: &mut Vec<u8>) -> Result<(), DiskError> {
+    out.clear();
+    if name.is_gone() {
+        return Ok(());
+    }
+    match name.files().last() {
+        Some(disk) => disk.present(File::Db, out),
+        None => Ok(()),
+    }
+}

@@ -1,0 +1,10 @@
+//! The images that a crash may leave of a recorded run's files, counted and drawn (own).
+#![tactic(auto)]
+
+mod counts;
+mod draws;
+mod image;
+
+pub use counts::Counts;
+pub use draws::draw;
+pub use image::Image;

@@ -1,0 +1,3 @@
+pub mod LeavesAmong
+pub mod Counting
+pub mod Judging

@@ -1,0 +1,29 @@
+use Rattle.std.proofs.Common.{◌≡◌, ◌+◌, ◌++◌, length, take, drop, ◌∙◌, ap, subst, arith}
+use Rattle.std.proofs.lemmas.List.{take_at}
+use Rattle.sqval.specs.Database.{Database, page}
+use Rattle.sqjudge.specs.Shown.{AgreesAt, commit_of}
+use Rattle.sqjudge.proofs.Counting.{more_agree}
+use Rattle.sqjudge.proofs.snapshot.Snapshot.is_shown.Goals as goal
+
+pub loop-i-preserved : goal.loop-i-preserved
+loop-i-preserved g c =
+    let d = g.S.PageSource.pages c.args.source.now in
+    let n = c.loop-i.i in
+    let was = c.loop-i.invariant in
+    let out = c.page.new.out in
+    let items = c.loop-i.bytes.items in
+    let commit = commit_of c.args.self.now in
+    let long : length out ≡ length items = omega (arith, ap length c.deref_mut.ensures.value) in
+    let whole : length out ≡ c.loop-i.bytes.len = omega (arith, long, c.loop-i.bytes.ok.0) in
+    let kept : take c.loop-i.bytes.len (out ++ drop (length out) items) ≡ out = take_at out (drop (length out) items) c.loop-i.bytes.len whole in (
+      c.page.ensures.same_pages ∙ was.0,
+      c.page.ensures.same_size ∙ was.1,
+      ap length kept ∙ long ∙ was.2,
+      λ gives.
+          let old = was.3 gives in
+          let bytes : c.deref.result.now ≡ page d (n + 1) = c.deref.ensures.value ∙ kept ∙ (c.page.ensures.read old.0).1 ∙ ap (λ (x : Database). page x (n + 1)) was.0 in
+          let here : AgreesAt commit (n + 1) (page d (n + 1)) = subst (AgreesAt commit (n + 1)) bytes (c.agrees.ensures.0 c.if-not-agrees.false) in (
+            c.page.ensures.still_gives old.0,
+            more_agree commit d n old.1 here,
+          ),
+    )

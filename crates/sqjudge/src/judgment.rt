@@ -1,0 +1,124 @@
+//! What is wrong with the files that a crash left (own).
+ghost use Rattle.std.specs.Prelude.{◌≡◌, ◌↔◌, ℕ, List, [], IfOk, IsTrue};
+ghost use Rattle.sqview.specs.LogView.{ViewRefused};
+ghost use Rattle.sqview.specs.declared.view_error.ViewError.TheVariants.{Header};
+ghost use Rattle.sqjudge.specs.Shown.{Commit, IsLastShown, commits_of};
+ghost use Rattle.sqjudge.specs.Judged.{IsPlaced, IsJudged, IsFilesJudgment};
+
+use crate::error::SnapshotError;
+use crate::history::History;
+use sqcheck::check;
+use sqpage::{CheckError, Fault, PageSource};
+use sqview::{View, ViewError};
+use std::alloc::Global;
+
+/// What files show that a crash left.
+#[derive(Clone, Copy, Debug, PartialEq, Eq)]
+pub enum Judgment {
+    /// The database of this commit, which is the known one or a later one.
+    Kept(usize),
+    /// The database of this commit, which is before the known one.
+    Lost(usize),
+    /// A database of no commit, which is well formed or has pointer maps.
+    Mixed,
+    /// A database of no commit, which isn't well formed.
+    Fault(CheckError),
+    /// None.
+    Refused(ViewError),
+}
+
+/// The judgment of the last commit that is shown.
+fn placed(shown: usize, known: usize) -> Judgment
+    ensures { IsPlaced shown known result }
+{
+    if shown < known {
+        Judgment::Lost(shown)
+    } else {
+        Judgment::Kept(shown)
+    }
+}
+
+/// The judgment of a database of no commit.
+fn unshown<S: PageSource>(alloc: Global, source: &mut S) -> Result<Judgment, SnapshotError>
+    ensures { S.gives_pages source.old → IfOk result (λ j. (commits : List Commit) (known : ℕ) → IsLastShown commits
+        (S.pages source.old) None → IsJudged commits known (S.pages source.old) (S.size source.old) j) }
+{
+    match check(alloc, source) {
+        Ok(_) => Ok(Judgment::Mixed),
+        Err(error) => match error.fault {
+            Fault::NoMemory => Err(SnapshotError::NoMemory),
+            Fault::Source => Err(SnapshotError::Unread),
+            Fault::AutoVacuum => Ok(Judgment::Mixed),
+            _ => Ok(Judgment::Fault(error)),
+        },
+    }
+}
+
+/// The judgment of a database, where a commit is known to be down. Refused by Unread and NoMemory.
+pub fn judge_source<S: PageSource>(
+    alloc: Global,
+    history: &History,
+    known: usize,
+    source: &mut S,
+) -> Result<Judgment, SnapshotError>
+    ensures { S.gives_pages source.old
+        → IfOk result (IsJudged (commits_of history.now) known (S.pages source.old) (S.size source.old)) }
+{
+    match history.shown(alloc, source)? {
+        Some(shown) => Ok(placed(shown, known)),
+        None => unshown(alloc, source),
+    }
+}
+
+/// The judgment of files that show no database by their header, which has this fault. A file without bytes shows the
+/// database of no pages.
+fn headless(history: &History, known: usize, is_empty: bool, fault: Fault) -> Judgment
+    ensures { (db wal journal : List ℕ) → ViewRefused db wal journal (Header fault) → IsTrue is_empty ↔ (db ≡ [])
+        → IsFilesJudgment (commits_of history.now) known db wal journal result }
+{
+    if !is_empty {
+        return Judgment::Refused(ViewError::Header(fault));
+    }
+    match history.shown_by_nothing() {
+        Some(shown) => placed(shown, known),
+        None => Judgment::Refused(ViewError::Header(fault)),
+    }
+}
+
+/// The judgment of files that are refused.
+fn refused(
+    history: &History,
+    known: usize,
+    is_empty: bool,
+    refusal: ViewError,
+) -> Result<Judgment, SnapshotError>
+    ensures { (db wal journal : List ℕ) → ViewRefused db wal journal refusal → IsTrue is_empty ↔ (db ≡ [])
+        → IfOk result (IsFilesJudgment (commits_of history.now) known db wal journal) }
+{
+    match refusal {
+        ViewError::NoMemory => Err(SnapshotError::NoMemory),
+        ViewError::Unread => Err(SnapshotError::Unread),
+        ViewError::Header(fault) => Ok(headless(history, known, is_empty, fault)),
+        ViewError::TwoLogs => Ok(Judgment::Refused(ViewError::TwoLogs)),
+        ViewError::TooLarge => Ok(Judgment::Refused(ViewError::TooLarge)),
+        ViewError::NoSuchCommit => Ok(Judgment::Refused(ViewError::NoSuchCommit)),
+    }
+}
+
+/// The judgment of files that a crash left, where a commit is known to be down. A missing file has no bytes, and a
+/// database file without bytes shows the database of no pages where no log counts. Refused by Unread and NoMemory.
+pub fn judge_files(
+    alloc: Global,
+    history: &History,
+    known: usize,
+    db: &[u8],
+    wal: &[u8],
+    journal: &[u8],
+) -> Result<Judgment, SnapshotError>
+    ensures { IfOk result (IsFilesJudgment (commits_of history.now) known db.now wal.now journal.now) }
+{
+    match View::new(alloc, db, wal, journal) {
+        Ok(mut view) => judge_source(alloc, history, known, &mut view),
+        Err(refusal) => refused(history, known, db.is_empty(), refusal),
+    }
+}

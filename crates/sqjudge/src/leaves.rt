@@ -1,0 +1,76 @@
+//! The leaves of the freelist (fileformat2, 1.5).
+ghost use Rattle.std.specs.Prelude.{◌≡◌, ◌≤◌, ◌<◌, [], length, IfOk};
+ghost use Rattle.sqval.specs.Database.{page};
+ghost use Rattle.sqpage.specs.Freelist.{leaf_count_in};
+ghost use Rattle.sqjudge.specs.Leaves.{AreLeaves, leaves_of};
+
+use crate::error::SnapshotError;
+use byteorder::{BigEndian, ByteOrder};
+use sqpage::{Fault, PageSource, freelist};
+use std::alloc::Global;
+
+/// How many leaves the bytes of a trunk name.
+fn leaf_count_of(bytes: &[u8]) -> u32
+    requires { 8 ≤ length bytes.now }
+    ensures { result ≡ leaf_count_in bytes.now }
+{
+    BigEndian::read_u32(&bytes[4..8])
+}
+
+/// How many leaves the trunk `p` names.
+fn leaf_count<S: PageSource>(alloc: Global, source: &mut S, p: u32) -> Result<u32, SnapshotError>
+    ensures count { S.gives_pages source.old → IfOk result (λ n. n ≡ leaf_count_in (page (S.pages source.old) p)) }
+    ensures still_gives { S.gives_pages source.old → S.gives_pages source.new }
+    ensures same_pages { S.pages source.new ≡ S.pages source.old }
+    ensures same_size { S.size source.new ≡ S.size source.old }
+{
+    if p == 0 || p > source.count() {
+        return Err(SnapshotError::Unread);
+    }
+    let mut bytes = vec![in alloc; 0u8; source.page_size().get() as usize]?;
+    source.page(p, &mut bytes)?;
+    Ok(leaf_count_of(&bytes))
+}
+
+/// The leaves among the pages of a freelist, each trunk before its leaves.
+fn leaves_among<S: PageSource>(
+    alloc: Global,
+    source: &mut S,
+    pages: &[u32],
+) -> Result<Vec<u32>, SnapshotError>
+    ensures leaves { S.gives_pages source.old
+        → IfOk result (λ v. v.items ≡ leaves_of (S.pages source.old) 0 pages.now) }
+    ensures still_gives { S.gives_pages source.old → S.gives_pages source.new }
+    ensures same_pages { S.pages source.new ≡ S.pages source.old }
+    ensures same_size { S.size source.new ≡ S.size source.old }
+{
+    let mut leaves = Vec::new(alloc);
+    let mut left = 0u32;
+    for p in pages {
+        if left > 0 {
+            leaves.push(*p)?;
+            left -= 1;
+        } else {
+            left = leaf_count(alloc, source, *p)?;
+        }
+    }
+    Ok(leaves)
+}
+
+/// The leaves of the freelist, whose bytes SQLite neither journals nor logs; none where the freelist isn't sound.
+/// Refused by Unread and NoMemory.
+pub fn free_leaves<S: PageSource>(alloc: Global, source: &mut S) -> Result<Vec<u32>, SnapshotError>
+    ensures leaves { S.gives_pages source.old → IfOk result (λ v. AreLeaves (S.pages source.old) v.items) }
+    ensures still_gives { S.gives_pages source.old → S.gives_pages source.new }
+    ensures same_pages { S.pages source.new ≡ S.pages source.old }
+    ensures same_size { S.size source.new ≡ S.size source.old }
+{
+    match freelist(alloc, source) {
+        Ok(pages) => leaves_among(alloc, source, &pages),
+        Err(error) => match error.fault {
+            Fault::NoMemory => Err(SnapshotError::NoMemory),
+            Fault::Source => Err(SnapshotError::Unread),
+            _ => Ok(Vec::new(alloc)),
+        },
+    }
+}
