@@ -233,3 +233,32 @@ fn choices(rt: HostRuntime) -> Result<(), Fail> {
     assert_eq!(rt; disk.len(File::Log), Ok(1024));
     Ok(())
 }
+
+// A crash leaves the image that was shown before it, and a copy is a disk of its own.
+#[test]
+fn images_and_copies(rt: HostRuntime) -> Result<(), Fail> {
+    let alloc = rt.alloc();
+    let mut disk = written(alloc)?;
+    let copy = disk.copy()?;
+    let choice = picks(alloc, [1, 0])?;
+    let mut image = b"::".to_vec(alloc)?;
+    disk.image(File::Db, &choice.db, &mut image)?;
+    disk.image(File::Log, &choice.log, &mut image)?;
+    disk.crash(&choice);
+    assert!(rt; ends_in(alloc, &disk, b"ABB\0\0")?);
+    let mut left = b"::".to_vec(alloc)?;
+    disk.present(File::Db, &mut left)?;
+    assert!(rt; image == left);
+    assert_eq!(rt;
+        (disk.values(File::Db, 0), copy.values(File::Db, 0)),
+        (1, 2)
+    );
+    assert_eq!(rt; disk.lengths(File::Db), (514, 514));
+    assert_eq!(rt; copy.lengths(File::Db), (512, 514));
+    assert_eq!(rt;
+        (copy.values(File::Db, 2), copy.lengths(File::Log)),
+        (1, (0, 0))
+    );
+    assert!(rt; ends_in(alloc, &copy, b"ABBBB")?);
+    Ok(())
+}

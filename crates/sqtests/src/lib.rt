@@ -1,10 +1,8 @@
-//! Tests of the libraries by their public calls: worked rows, and sweeps of the engines in whole runs.
+//! Tests of the libraries by their public calls, one call at a time: worked rows, and files that SQLite left.
 #![tactic(auto)]
 
 #[cfg(test)]
 mod crashdisk_tests;
-#[cfg(test)]
-mod journal_tests;
 #[cfg(test)]
 mod memory_tests;
 #[cfg(test)]
@@ -16,12 +14,12 @@ mod sqjournal_tests;
 #[cfg(test)]
 mod sqpage_tests;
 #[cfg(test)]
+mod sqplay_tests;
+#[cfg(test)]
 mod sqval_tests;
+#[cfg(test)]
+mod sqview_tests;
 #[cfg(test)]
 mod sqwal_tests;
 #[cfg(test)]
-mod sweeps;
-#[cfg(test)]
 mod walcore_tests;
-#[cfg(test)]
-mod world_tests;

@@ -2,11 +2,7 @@
 //! between, the script tests/refused refuses each allocation in turn, alone and with all that come after it. Then the
 //! call answers that there is no memory, and all stands as before. Where nothing is refused, as in a plain run of the
 //! tests, the call is done.
-mod disks;
-mod engines;
 mod formats;
-mod recoveries;
-mod runs;
 mod views;
 
 use std::alloc::Global;

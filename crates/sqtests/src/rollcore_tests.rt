@@ -110,6 +110,32 @@ fn sets_the_first_size(rt: HostRuntime) -> Result<(), Fail> {
     Ok(())
 }
 
+/// A tail of 4 GiB behind where a journal ends isn't read: a sync, its length, one piece, the record and its page, the
+/// length of the database, its sync, the zeros and their sync are all that the disk is asked for.
+#[test]
+fn reads_no_tail(rt: HostRuntime) -> Result<(), Fail> {
+    let alloc = rt.alloc();
+    let mut log = header(alloc, 2, 2)?;
+    push_record(&mut log, 1, b'x')?;
+    let mut disk = ModelDisk::new(alloc, 512, [b'a'; 1024].to_vec(alloc)?)?;
+    disk.write_at(File::Log, 0, &log)?;
+    disk.set_len(File::Log, 1 << 32)?;
+    disk.stop_after(9);
+    let replayed = replay(alloc, &mut disk)?;
+    assert_eq!(rt;
+        replayed,
+        Replayed {
+            hot: true,
+            records: 1,
+            size: 2
+        }
+    );
+    assert_eq!(rt; disk.refused(), 0);
+    let db = present(alloc, &disk, File::Db)?;
+    assert!(rt; db.starts_with(&[b'x'; 512]) && db.ends_with(&[b'a'; 512]) && db.len() == 1024);
+    Ok(())
+}
+
 /// No log, one that isn't a journal, and one that is cut in its first sector aren't hot.
 #[test]
 fn leaves_what_is_not_hot(rt: HostRuntime) -> Result<(), Fail> {

@@ -11,6 +11,7 @@ use sqwal::{FrameIndex, Hit, Scan, WalFormatError};
 use std::alloc::Global;
 use std::process::Abort;
 use std::test::Fail;
+use walcore::{WalError, index_of};
 
 #[test]
 fn a_record(rt: HostRuntime) -> Result<(), Fail> {
@@ -220,5 +221,21 @@ fn an_index(rt: HostRuntime) -> Result<(), Fail> {
     index.grow(1000, 1000)?;
     index.push(1000);
     assert_eq!(rt; index.find(1000, 2), Hit { frame: 2, steps: 1 });
+    Ok(())
+}
+
+#[test]
+fn an_index_of_a_log(rt: HostRuntime) -> Result<(), Fail> {
+    let alloc = rt.alloc();
+    let mut scan = Scan::new(alloc);
+    scan.feed(&log(alloc, &[(1, 0), (2, 2)])?)?;
+    begin(alloc);
+    let answer = index_of(alloc, &scan, scan.committed());
+    let wanted = if was_refused(alloc) {
+        Err(WalError::NoMemory)
+    } else {
+        Ok(Hit { frame: 2, steps: 1 })
+    };
+    assert_eq!(rt; answer.map(|index| index.find(2, 2)), wanted);
     Ok(())
 }

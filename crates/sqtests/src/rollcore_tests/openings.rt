@@ -1,6 +1,5 @@
 //! What an opening refuses, by its number. No byte is changed then.
 use super::present;
-use crate::world_tests::filled;
 use crashdisk::{Disk, File, ModelDisk};
 use rollcore::{Refused, Roll};
 use sqjournal::JournalHeader;
@@ -28,7 +27,7 @@ fn journal(alloc: Global, bytes: u32, sector: u32, first_size: u32) -> Result<Ve
 
 /// A disk that tears sectors of 1024 bytes, or has whole ones of 512, with a database of so many bytes and this log.
 fn disk(alloc: Global, tears: bool, long: usize, log: &[u8]) -> Result<ModelDisk, Fail> {
-    let db = filled(alloc, long, b'A')?;
+    let db = vec![in alloc; b'A'; long]?;
     let mut disk = if tears {
         ModelDisk::tearing(alloc, 1024, db)?
     } else {

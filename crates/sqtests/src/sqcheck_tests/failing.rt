@@ -55,8 +55,8 @@ impl<'a> PageSource for FailingSource<'a> {
     }
 }
 
-/// Seven pages: a schema's leaf that names the tree of pages 2 to 4, the last with a chain on page 5, and a trunk on page 6
-/// with the leaf 7.
+/// Seven pages: a schema's leaf that names the tree of pages 2 to 4, the last with a chain on page 5, and a trunk on
+/// page 6 with the leaf 7.
 pub(crate) fn sample(alloc: Global) -> Result<Vec<u8>, AllocError> {
     let pieces = [
         (32, [0, 0, 0, 6, 0, 0, 0, 2].as_slice()),

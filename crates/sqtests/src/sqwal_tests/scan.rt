@@ -134,6 +134,14 @@ fn stops_at_a_frame_that_is_not_valid(rt: HostRuntime) -> Result<(), Fail> {
     Ok(())
 }
 
+#[test]
+fn lists_the_commits(rt: HostRuntime) -> Result<(), Fail> {
+    let log = log(rt.alloc(), &[(1, 0), (2, 2), (1, 2), (2, 0)])?;
+    let scan = scan(rt.alloc(), &log, 1024)?;
+    assert_eq!(rt; scan.commits(rt.alloc())?.as_slice(), [2u32, 3].as_slice());
+    Ok(())
+}
+
 /// The front and the stop of a log of commit frames that is cut at this length.
 fn cut_at(length: usize) -> (u32, Stop) {
     if length < HEADER_LENGTH {

@@ -7,7 +7,7 @@ use std::test::Fail;
 use walcore::{Folded, fold_synced, index_of};
 
 /// A log of pages of 512 bytes `b`: for each frame the page that it names, and the size after its commit.
-pub fn log(alloc: Global, frames: &[(u32, u32)]) -> Result<Vec<u8>, Fail> {
+pub(crate) fn log(alloc: Global, frames: &[(u32, u32)]) -> Result<Vec<u8>, Fail> {
     let header = WalHeader {
         order: Order::Big,
         page_size: PageSize::new(512).ok_or("a page size")?,
@@ -30,7 +30,7 @@ pub fn log(alloc: Global, frames: &[(u32, u32)]) -> Result<Vec<u8>, Fail> {
 }
 
 /// The present bytes of a file.
-pub fn present(alloc: Global, disk: &ModelDisk, file: File) -> Result<Vec<u8>, Fail> {
+pub(crate) fn present(alloc: Global, disk: &ModelDisk, file: File) -> Result<Vec<u8>, Fail> {
     let mut bytes = Vec::new(alloc);
     disk.present(file, &mut bytes)?;
     Ok(bytes)

@@ -1,6 +1,5 @@
 //! What an opening refuses, by its number. No byte is changed then.
 use super::folds::{log, present};
-use crate::world_tests::filled;
 use crashdisk::{Disk, File, ModelDisk};
 use sqval::PageSize;
 use std::alloc::Global;
@@ -9,7 +8,7 @@ use walcore::{Refused, Wal};
 
 /// A disk that tears sectors of 1024 bytes, or has whole ones of 512, with a database of so many bytes and this log.
 fn disk(alloc: Global, tears: bool, long: usize, log: &[u8]) -> Result<ModelDisk, Fail> {
-    let db = filled(alloc, long, b'a')?;
+    let db = vec![in alloc; b'a'; long]?;
     let mut disk = if tears {
         ModelDisk::tearing(alloc, 1024, db)?
     } else {

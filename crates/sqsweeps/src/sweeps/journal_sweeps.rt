@@ -105,8 +105,8 @@ static STALE: [Step; 3] = [Step::Open, ALL_B, ONE_C];
 /// What another engine is asked after a failure.
 static AGAIN: [Step; 2] = [Step::Open, TWO_D];
 
-/// Each call of these steps is refused in each way; after a failure another engine goes on. Each opening after a crash is
-/// stopped.
+/// Each call of these steps is refused in each way; after a failure another engine goes on. Each opening after a crash
+/// is stopped.
 fn sweep_calls<D: OverModel>(
     alloc: Global,
     tears: bool,

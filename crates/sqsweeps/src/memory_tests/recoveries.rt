@@ -3,19 +3,18 @@
 use super::engines::{hot, logged};
 use super::{begin, was_refused};
 use crate::sweeps::sweeping::Files;
-use crate::walcore_tests::folds::{log, present};
 use crashdisk::{File, ModelDisk};
 use rollcore::{Replayed, RollError, replay};
 use sqval::PageSize;
-use sqwal::{Hit, Scan};
 use std::alloc::Global;
 use std::process::Abort;
 use std::test::Fail;
-use walcore::{Folded, WalError, fold, index_of};
+use walcore::{Folded, WalError, fold};
 
 /// The database has so many pages of this byte.
 fn has(alloc: Global, disk: &ModelDisk, count: usize, byte: u8) -> Result<bool, Fail> {
-    let db = present(alloc, disk, File::Db)?;
+    let mut db = Vec::new(alloc);
+    disk.present(File::Db, &mut db)?;
     Ok(db.len() / 512 == count && db.iter().all(|it| *it == byte))
 }
 
@@ -47,20 +46,24 @@ fn a_fold(rt: HostRuntime) -> Result<(), Fail> {
         let refused = disk.refused();
         begin(alloc);
         let mut answer = fold(alloc, &mut disk, page_size);
+        let mut is_emptied = false;
         if was_refused(alloc) {
             assert!(rt; matches!(&answer, Err(WalError::NoMemory | WalError::Device)));
             let is_device = answer == Err(WalError::Device);
             judge(&rt, alloc, &disk, is_device, (&files, refused))?;
             answer = fold(alloc, &mut disk, page_size);
+            // the disk may have refused a call behind the one that left no valid header
+            is_emptied = is_device && answer == Ok(Folded { frames: 0, size: 0 });
         }
         assert!(rt;
-            matches!(
-                &answer,
-                Ok(Folded {
-                    frames: 6 | 7,
-                    size: 4
-                })
-            )
+            is_emptied
+                || matches!(
+                    &answer,
+                    Ok(Folded {
+                        frames: 6 | 7,
+                        size: 4
+                    })
+                )
         );
         assert!(rt; has(alloc, &disk, 4, b'C')?);
     }
@@ -90,21 +93,5 @@ fn a_replay(rt: HostRuntime) -> Result<(), Fail> {
         assert_eq!(rt; answer, Ok(wanted));
         assert!(rt; has(alloc, &disk, 2, b'A')?);
     }
-    Ok(())
-}
-
-#[test]
-fn an_index_of_a_log(rt: HostRuntime) -> Result<(), Fail> {
-    let alloc = rt.alloc();
-    let mut scan = Scan::new(alloc);
-    scan.feed(&log(alloc, &[(1, 0), (2, 2)])?)?;
-    begin(alloc);
-    let answer = index_of(alloc, &scan, scan.committed());
-    let wanted = if was_refused(alloc) {
-        Err(WalError::NoMemory)
-    } else {
-        Ok(Hit { frame: 2, steps: 1 })
-    };
-    assert_eq!(rt; answer.map(|index| index.find(2, 2)), wanted);
     Ok(())
 }

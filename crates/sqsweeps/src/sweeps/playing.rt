@@ -29,7 +29,7 @@ pub enum Kind {
 }
 
 /// Each kind.
-pub static KINDS: [Kind; 4] = [Kind::Stop, Kind::Nothing, Kind::Everything, Kind::Oldest];
+pub(crate) static KINDS: [Kind; 4] = [Kind::Stop, Kind::Nothing, Kind::Everything, Kind::Oldest];
 
 /// A call that the disk refuses: of those from this step on, the one behind so many.
 #[derive(Clone, Copy, Debug, PartialEq, Eq)]
@@ -314,9 +314,9 @@ fn set_fault(disk: &mut ModelDisk, fault: Fault, part: Part) {
     }
 }
 
-/// Plays the steps up to that of the fault, where it is answered, and otherwise on to the next opening; in the second case also
-/// the steps after it, up to another stop. A fault behind the last step has no effect.
-pub fn play<E: Swept>(
+/// Plays the steps up to that of the fault, where it is answered, and otherwise on to the next opening; in the second
+/// case also the steps after it, up to another stop. A fault behind the last step has no effect.
+pub(crate) fn play<E: Swept>(
     alloc: Global,
     script: &Script,
     fault: Fault,

@@ -27,7 +27,7 @@ pub enum Answer {
 
 impl Step {
     /// What is answered where nothing is refused.
-    pub fn wanted(self) -> Answer {
+    pub(crate) fn wanted(self) -> Answer {
         match self {
             Step::Checkpoint => Answer::Complete,
             _ => Answer::Done,
@@ -37,16 +37,16 @@ impl Step {
 
 impl Answer {
     /// The engine has no such call.
-    pub const UNKNOWN: Answer = Answer::Refused(0);
+    pub(crate) const UNKNOWN: Answer = Answer::Refused(0);
 
     /// The engine is closed.
-    pub const CLOSED: Answer = Answer::Refused(1);
+    pub(crate) const CLOSED: Answer = Answer::Refused(1);
 
     /// There is no such page.
-    pub const ABOVE: Answer = Answer::Refused(5);
+    pub(crate) const ABOVE: Answer = Answer::Refused(5);
 
     /// The disk refused a call.
-    pub const DEVICE: Answer = Answer::Refused(15);
+    pub(crate) const DEVICE: Answer = Answer::Refused(15);
 }
 
 /// A disk that is a modelled one, or is made of one.
@@ -144,7 +144,12 @@ impl From<DiskError> for Wrong {
 }
 
 /// A disk of sectors of 512 bytes that holds these files, which are down.
-pub fn disk_of(alloc: Global, tears: bool, db: &[u8], log: &[u8]) -> Result<ModelDisk, Wrong> {
+pub(crate) fn disk_of(
+    alloc: Global,
+    tears: bool,
+    db: &[u8],
+    log: &[u8],
+) -> Result<ModelDisk, Wrong> {
     let bytes = Vec::from_slice(alloc, db)?;
     let mut disk = if tears {
         ModelDisk::tearing(alloc, 512, bytes)?
@@ -157,7 +162,11 @@ pub fn disk_of(alloc: Global, tears: bool, db: &[u8], log: &[u8]) -> Result<Mode
 }
 
 /// A disk that holds this database, and no log.
-pub fn disk_with(alloc: Global, tears: bool, database: Database) -> Result<ModelDisk, Wrong> {
+pub(crate) fn disk_with(
+    alloc: Global,
+    tears: bool,
+    database: Database,
+) -> Result<ModelDisk, Wrong> {
     let mut db = Vec::new(alloc);
     for byte in database.0 {
         if byte != 0 {
@@ -168,7 +177,7 @@ pub fn disk_with(alloc: Global, tears: bool, database: Database) -> Result<Model
 }
 
 /// What an engine shows.
-pub fn database_of<E: Swept>(engine: &mut E) -> Result<Database, Wrong> {
+pub(crate) fn database_of<E: Swept>(engine: &mut E) -> Result<Database, Wrong> {
     let mut database = Database::EMPTY;
     let mut page = [0u8; PAGE];
     let mut number = 1u32;
@@ -184,7 +193,11 @@ pub fn database_of<E: Swept>(engine: &mut E) -> Result<Database, Wrong> {
 }
 
 /// Opens a disk and says what it shows.
-pub fn shown<E: Swept>(alloc: Global, disk: ModelDisk, number: u32) -> Result<Database, Wrong> {
+pub(crate) fn shown<E: Swept>(
+    alloc: Global,
+    disk: ModelDisk,
+    number: u32,
+) -> Result<Database, Wrong> {
     match E::start(alloc, disk, number) {
         Ok(engine) => {
             let mut engine = engine;

@@ -85,12 +85,13 @@ fn ask<E: Swept>(alloc: Global, engine: &mut E, step: Step) -> Told {
 }
 
 /// What was answered to a step is right: the sights before and after it, and the answer to the same step asked once
-/// more.
+/// more. An engine's first commit may be done without the memory in which its page numbers are put in order, since it
+/// can be judged without that.
 fn judge(
+    is_first: bool,
     step: Step,
     told: Told,
-    before: &Sight,
-    after: &Sight,
+    (before, after): (&Sight, &Sight),
     again: Answer,
 ) -> Result<(), Wrong> {
     let is_right = match (told.is_refused, told.answer) {
@@ -101,7 +102,12 @@ fn judge(
         (true, Answer::DEVICE) => {
             after.refused == before.refused.saturating_add(1) && again == Answer::CLOSED
         }
-        _ => false,
+        (true, answer) => {
+            is_first
+                && answer == step.wanted()
+                && after.refused == before.refused
+                && after != before
+        }
     };
     if is_right {
         Ok(())
@@ -125,7 +131,7 @@ fn refuse_step<E: Swept>(
     let again = engine.serve(step, 4);
     let disk = engine.give_back();
     done?;
-    judge(step, told, &before, &after, again)?;
+    judge(steps.is_empty(), step, told, (&before, &after), again)?;
     let database = shown::<E>(alloc, disk, 5)?;
     if databases.contains(&database) {
         Ok(())
@@ -154,28 +160,35 @@ fn judge_opening(
     }
 }
 
-/// Opens a disk, which may be refused memory, and, where it was, a second time, after a crash. In the end it shows this
-/// database.
-fn refuse_opening<E: Swept>(alloc: Global, disk: ModelDisk, wanted: Database) -> Result<(), Wrong> {
+/// Opens a disk, which may be refused memory, and, where it was, a second time, after a crash that leaves no more than
+/// what is down. An opening that is done shows the newest database; one after the crash that or the one that is down
+/// before the opening.
+fn refuse_opening<E: Swept>(
+    alloc: Global,
+    disk: ModelDisk,
+    [down, newest]: [Database; 2],
+) -> Result<(), Wrong> {
     let files = Files::new(alloc, &disk)?;
     let refused = disk.refused();
     begin(alloc);
     let opened = E::start(alloc, disk, 6);
     let is_refused = was_refused(alloc);
-    let database = match opened {
+    let (database, is_right) = match opened {
         Ok(mut engine) => {
-            let database = database_of(&mut engine);
+            let shown = database_of(&mut engine);
             let _ = engine.give_back();
-            database?
+            let database = shown?;
+            (database, !is_refused && database == newest)
         }
         Err((mut disk, answer)) => {
             let told = Told { answer, is_refused };
             judge_opening(alloc, &disk, told, &files, refused)?;
             disk.crash(&Choice::oldest(alloc));
-            shown::<E>(alloc, disk, 7)?
+            let database = shown::<E>(alloc, disk, 7)?;
+            (database, database == down || database == newest)
         }
     };
-    if database == wanted {
+    if is_right {
         Ok(())
     } else {
         Err(Wrong::Shown(database))
@@ -255,26 +268,40 @@ fn a_commit_that_grows_under_a_journal(rt: HostRuntime) -> Result<(), Fail> {
 fn an_opening_of_a_database(rt: HostRuntime) -> Result<(), Fail> {
     let alloc = rt.alloc();
     for tears in [false, true] {
-        refuse_opening::<Wal<ModelDisk>>(alloc, disk_with(alloc, tears, BASE)?, BASE)?;
-        refuse_opening::<Roll<ModelDisk>>(alloc, disk_with(alloc, tears, BASE)?, BASE)?;
+        refuse_opening::<Wal<ModelDisk>>(alloc, disk_with(alloc, tears, BASE)?, [BASE, BASE])?;
+        refuse_opening::<Roll<ModelDisk>>(alloc, disk_with(alloc, tears, BASE)?, [BASE, BASE])?;
     }
     Ok(())
 }
 
-/// A disk with six frames in the log, of which the last four aren't down.
-pub(super) fn logged(alloc: Global, tears: bool) -> Result<ModelDisk, Wrong> {
-    let steps = [BOTH_B, Step::Sync, FOUR_C];
-    let (engine, done) = engine_after::<Wal<ModelDisk>>(alloc, tears, &steps)?;
+/// The disk of a write-ahead log after these steps.
+fn disk_after(alloc: Global, tears: bool, steps: &[Step]) -> Result<ModelDisk, Wrong> {
+    let (engine, done) = engine_after::<Wal<ModelDisk>>(alloc, tears, steps)?;
     let disk = engine.give_back();
     done?;
     Ok(disk)
+}
+
+/// A disk with six frames in the log, of which the last four aren't down.
+pub(super) fn logged(alloc: Global, tears: bool) -> Result<ModelDisk, Wrong> {
+    disk_after(alloc, tears, &[BOTH_B, Step::Sync, FOUR_C])
 }
 
 #[test]
 fn an_opening_of_a_log(rt: HostRuntime) -> Result<(), Fail> {
     let alloc = rt.alloc();
     for tears in [false, true] {
-        refuse_opening::<Wal<ModelDisk>>(alloc, logged(alloc, tears)?, FOUR)?;
+        let disk = disk_after(alloc, tears, &[BOTH_B, Step::Sync, FOUR_C, Step::Sync])?;
+        refuse_opening::<Wal<ModelDisk>>(alloc, disk, [FOUR, FOUR])?;
+    }
+    Ok(())
+}
+
+#[test]
+fn an_opening_of_a_log_that_is_not_down(rt: HostRuntime) -> Result<(), Fail> {
+    let alloc = rt.alloc();
+    for tears in [false, true] {
+        refuse_opening::<Wal<ModelDisk>>(alloc, logged(alloc, tears)?, [TWO, FOUR])?;
     }
     Ok(())
 }
@@ -298,7 +325,7 @@ pub(super) fn hot(alloc: Global, tears: bool) -> Result<ModelDisk, Wrong> {
 fn an_opening_of_a_hot_journal(rt: HostRuntime) -> Result<(), Fail> {
     let alloc = rt.alloc();
     for tears in [false, true] {
-        refuse_opening::<Roll<ModelDisk>>(alloc, hot(alloc, tears)?, BASE)?;
+        refuse_opening::<Roll<ModelDisk>>(alloc, hot(alloc, tears)?, [BASE, BASE])?;
     }
     Ok(())
 }

@@ -8,7 +8,7 @@ use std::alloc::Global;
 const CHOICES: u64 = 4096;
 
 /// More crashes than there are of any disk.
-pub const CRASHES: u64 = 8192;
+pub(crate) const CRASHES: u64 = 8192;
 
 /// Sectors of a file that are torn together, from the first to the last.
 const TORN: [(File, u32, u32); 7] = [
@@ -21,8 +21,8 @@ const TORN: [(File, u32, u32); 7] = [
     (File::Log, 1, 2),
 ];
 
-/// What a torn sector is left with: zeros, or the front of its present bytes and zeros. What other sectors are left with: the
-/// newest bytes, or the oldest.
+/// What a torn sector is left with: zeros, or the front of its present bytes and zeros. What other sectors are left
+/// with: the newest bytes, or the oldest.
 #[derive(Clone, Copy)]
 struct Manner {
     half: bool,
@@ -99,7 +99,7 @@ fn choice_of(alloc: Global, disk: &ModelDisk, n: u64) -> Result<Option<Choice>, 
 }
 
 /// Crashes a disk by the choice of this number; false where there is none.
-pub fn crash(alloc: Global, disk: &mut ModelDisk, n: u64) -> Result<bool, Wrong> {
+pub(crate) fn crash(alloc: Global, disk: &mut ModelDisk, n: u64) -> Result<bool, Wrong> {
     let Some(choice) = choice_of(alloc, disk, n)? else {
         return Ok(false);
     };

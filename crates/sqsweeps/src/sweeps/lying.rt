@@ -6,19 +6,19 @@ use super::driving::OverModel;
 use crashdisk::{Disk, DiskError, File, ModelDisk};
 
 /// Zeros at the front of a log aren't written: the header stays, and a log is cut before it is zeroed.
-pub const CUTS_ALONE: u8 = 0;
+pub(crate) const CUTS_ALONE: u8 = 0;
 
 /// A write behind the header of a log fails, though no failure was set.
-pub const FAILS_ALONE: u8 = 1;
+pub(crate) const FAILS_ALONE: u8 = 1;
 
 /// In place of a write behind the header of a log a length is asked for that no file may have.
-pub const ASKS_TOO_MUCH: u8 = 2;
+pub(crate) const ASKS_TOO_MUCH: u8 = 2;
 
 /// A sync of the log that is refused is answered all the same.
-pub const TELLS_NOTHING: u8 = 3;
+pub(crate) const TELLS_NOTHING: u8 = 3;
 
 /// A sync of the log isn't made.
-pub const SYNCS_NOTHING: u8 = 4;
+pub(crate) const SYNCS_NOTHING: u8 = 4;
 
 /// A modelled disk under one of these.
 #[derive(Drop)]

@@ -162,8 +162,8 @@ static BEHIND: [Step; 5] = [Step::Open, ONE_B, Step::Checkpoint, BOTH_C, Step::S
 /// What another engine is asked after a failure.
 static AGAIN: [Step; 3] = [Step::Open, BOTH_E, Step::Sync];
 
-/// Each call of these steps is refused in each way; after a failure another engine goes on. Each opening after a crash is
-/// stopped.
+/// Each call of these steps is refused in each way; after a failure another engine goes on. Each opening after a crash
+/// is stopped.
 fn sweep_calls<D: OverModel>(
     alloc: Global,
     tears: bool,

@@ -16,7 +16,7 @@ pub struct Commit {
 
 impl Database {
     /// No page.
-    pub const EMPTY: Database = Database([0; 5]);
+    pub(crate) const EMPTY: Database = Database([0; 5]);
 
     /// The database after a commit.
     fn after(self, commit: Commit) -> Database {
@@ -41,14 +41,14 @@ pub struct History {
 }
 
 impl History {
-    pub fn new(alloc: Global, base: Database) -> Result<History, AllocError> {
+    pub(crate) fn new(alloc: Global, base: Database) -> Result<History, AllocError> {
         Ok(History {
             databases: vec![in alloc; base; 1]?,
             floor: 0,
         })
     }
 
-    pub fn newest(&self) -> Database {
+    pub(crate) fn newest(&self) -> Database {
         match self.databases.last() {
             Some(database) => *database,
             None => Database::EMPTY,
@@ -56,19 +56,19 @@ impl History {
     }
 
     /// A commit that isn't known to be down.
-    pub fn commit(&mut self, commit: Commit) -> Result<(), AllocError> {
+    pub(crate) fn commit(&mut self, commit: Commit) -> Result<(), AllocError> {
         let next = self.newest().after(commit);
         self.databases.push(next)?;
         Ok(())
     }
 
     /// All commits are down.
-    pub fn settle(&mut self) {
+    pub(crate) fn settle(&mut self) {
         self.floor = self.databases.len().saturating_sub(1);
     }
 
     /// The place of a database, at the floor or later.
-    pub fn place_of(&self, database: Database) -> Option<usize> {
+    pub(crate) fn place_of(&self, database: Database) -> Option<usize> {
         for (place, other) in self.databases.iter().enumerate() {
             if place >= self.floor && *other == database {
                 return Some(place);
@@ -78,7 +78,7 @@ impl History {
     }
 
     /// The database at a place is the newest, and down.
-    pub fn cut(&mut self, place: usize) {
+    pub(crate) fn cut(&mut self, place: usize) {
         self.databases.truncate(place.saturating_add(1));
         self.floor = place;
     }

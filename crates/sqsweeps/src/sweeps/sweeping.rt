@@ -25,7 +25,7 @@ pub struct Files {
 }
 
 impl Files {
-    pub fn new(alloc: Global, disk: &ModelDisk) -> Result<Files, Wrong> {
+    pub(crate) fn new(alloc: Global, disk: &ModelDisk) -> Result<Files, Wrong> {
         let mut db = Vec::new(alloc);
         let mut log = Vec::new(alloc);
         disk.present(File::Db, &mut db)?;
@@ -53,7 +53,7 @@ pub struct Seen {
 }
 
 impl Seen {
-    pub fn new(alloc: Global) -> Seen {
+    pub(crate) fn new(alloc: Global) -> Seen {
         Seen {
             shown: BTreeMap::new(alloc),
             stopped: BTreeMap::new(alloc),
@@ -88,8 +88,8 @@ fn open_stopped<E: Swept>(
     }
 }
 
-/// The opening of files is stopped after so many calls, then crashed by each choice, and made again: they show the same.
-/// Whether it came to its end.
+/// The opening of files is stopped after so many calls, then crashed by each choice, and made again: they show the
+/// same. Whether it came to its end.
 fn stop_opening<E: Swept>(
     alloc: Global,
     seen: &mut Seen,
@@ -134,8 +134,8 @@ fn stop_openings<E: Swept>(
     Err(Wrong::Endless)
 }
 
-/// A crash of a run by the choice of a number: what is shown is one commit's, the last that is down or a later one. The files
-/// that it leaves, and what they show; None where there is no such choice.
+/// A crash of a run by the choice of a number: what is shown is one commit's, the last that is down or a later one. The
+/// files that it leaves, and what they show; None where there is no such choice.
 fn crash_played<E: Swept>(
     alloc: Global,
     seen: &mut Seen,
@@ -197,8 +197,8 @@ fn sweep_behind<E: Swept>(
     Ok(is_answered)
 }
 
-/// After a failure all steps that follow are done; and the opening that follows is stopped before each of its calls, and behind
-/// the last.
+/// After a failure all steps that follow are done; and the opening that follows is stopped before each of its calls,
+/// and behind the last.
 fn sweep_again<E: Swept>(
     alloc: Global,
     seen: &mut Seen,
@@ -246,7 +246,11 @@ fn sweep_step<E: Swept>(
 }
 
 /// These steps of a script, and each kind of fault.
-pub fn sweep<E: Swept>(alloc: Global, script: &Script, steps: &[usize]) -> Result<(), Wrong> {
+pub(crate) fn sweep<E: Swept>(
+    alloc: Global,
+    script: &Script,
+    steps: &[usize],
+) -> Result<(), Wrong> {
     let mut seen = Seen::new(alloc);
     for step in steps {
         for kind in KINDS {

@@ -1,6 +1,6 @@
-//! Whole runs over a rollback journal, with ample memory: what is asked, beside it what is answered, and what each page is at
-//! the end. The database begins with pages of 512 bytes `A`. A commit of one page `B`, which cuts off the others, syncs the
-//! records and the header of each segment, then the database, then the zeros over the first header.
+//! Whole runs over a rollback journal, with ample memory: what is asked, beside it what is answered, and what each page
+//! is at the end. The database begins with pages of 512 bytes `A`. A commit of one page `B`, which cuts off the others,
+//! syncs the records and the header of each segment, then the database, then the zeros over the first header.
 mod segments;
 
 use crate::world_tests::{Left, Told, answers_are, filled, left_by_crash};
@@ -434,8 +434,8 @@ fn page_with(alloc: Global, at: usize, bytes: &[u8]) -> Result<Vec<u8>, Fail> {
     Ok(page)
 }
 
-/// Four pages. A journal of a record for each has the header of a later segment at 1536, with a record behind it, in what it
-/// keeps of pages 2 to 4.
+/// Four pages. A journal of a record for each has the header of a later segment at 1536, with a record behind it, in
+/// what it keeps of pages 2 to 4.
 fn base_with_a_header(alloc: Global) -> Result<Base, Fail> {
     let page_size = PageSize::new(512).ok_or("a page size")?;
     let mut pages = Vec::new(alloc);

@@ -73,7 +73,8 @@ pub(crate) enum Ask {
     Oldest,
     /// A crash that leaves the newest of everything.
     Newest,
-    /// A crash that leaves of each of the first so many sectors of the log the value of this number, and else what is newest.
+    /// A crash that leaves of each of the first so many sectors of the log the value of this number, and else what is
+    /// newest.
     Sectors(usize, u64),
     /// A crash that tears sectors 1 and 2 of the log, and leaves else what is newest.
     Torn,
@@ -596,8 +597,8 @@ fn engine(alloc: Global) -> Result<Wal<ModelDisk>, Fail> {
     }
 }
 
-/// A commit of `B`, a reader, commits of `C` and `D`, and another reader: how page 1 is found for the first, and pages 1
-/// and 2 for the second.
+/// A commit of `B`, a reader, commits of `C` and `D`, and another reader: how page 1 is found for the first, and pages
+/// 1 and 2 for the second.
 fn hits(wal: &mut Wal<ModelDisk>) -> Result<[Hit; 3], WalError> {
     wal.commit(&[(1, &[b'B'; 512])], 1)?;
     let first = wal.begin()?;
