@@ -1,12 +1,12 @@
 """Notes, the options that decide, and what can't be written."""
 import contextlib, os, re, shutil, tempfile
 import world_processes as processes
-from common import top
-from samples import JOURNAL_MAGIC, PAGE, first_page, head_of, journal_of, log_of, put, words
+from common import preloaded, top
+from samples import JOURNAL_MAGIC, PAGE, first_page, head_of, journal_of, leaf, log_of, put, words
 from world_files import fifo, folder, link
 from world_runs import (
-    ANY, CLEAN, DB, EACH_LINE, FAILED, JOURNAL, LOOKING, SUPER, TEXT, WAL, Noted, Stopped, copied, fill, nobody, read,
-    refused_as_locked, run, test, unchanged, write, wrong,
+    ANY, CLEAN, DB, EACH_LINE, FAILED, JOURNAL, LOOKING, SUPER, TEXT, WAL, Noted, Stopped, copied, fill, holder, nobody,
+    read, refused_as_locked, run, test, unchanged, write, wrong,
 )
 
 
@@ -21,18 +21,20 @@ def either(first, second):
 
 @test
 def a_super_journal():
-    """Whether such a journal counts isn't known: `check` and `show` take it as one that does, and note it; `recover`
-    refuses."""
+    """Whether such a journal counts isn't known, which each command notes: `check` and `show` take it as one that does;
+    `recover` refuses."""
     for line in LOOKING:
         fill(DB, None, put(SUPER, len(SUPER) - 1, [0]))
         status, out, err = run(line)
         fill(DB, None, SUPER)
         yield line, unchanged(line, status, out, either(SUPER_NOTE, err))
     fill(DB, None, SUPER)
-    refusal = "sqrescue: super-journal\n"
-    yield "recover", unchanged("recover a.db", 3, "", re.compile(f"({SUPER_NOTE})?{refusal}"))
+    yield "recover", unchanged("recover a.db", 3, "", f"{SUPER_NOTE}sqrescue: super-journal\n")
     fill(DB, WAL, SUPER)
-    yield "two logs", unchanged("recover a.db", 3, "", re.compile(f"({SUPER_NOTE})?sqrescue: two logs\n"))
+    for line in EACH_LINE:
+        yield f"two logs, {line}", unchanged(line, 3, "", f"{SUPER_NOTE}sqrescue: two logs\n")
+    fill(DB, WAL, put(SUPER, 0, bytes(28)))
+    yield "a log beside one that isn't hot", wrong(run("recover a.db"), 0, "wal: front 3, 3 pages\n")
 
 
 @test
@@ -237,6 +239,30 @@ def verbose_of_causes():
         os.chmod("a.db-wal", 0o000)
         pattern = r"a\.db-wal\b.*([Pp]ermission|denied|os error 13)"
         yield "no permission", nobody("check -v a.db", 3, "", Noted(pattern, "file failed"))
+
+
+UNREAD = [  # files, which of them can't be read and from where, and the lines of which that is said
+    ((first_page(2) + leaf(),), "a.db", 40, ["check", "show", "show --page 1", "show --page 2"]),
+    ((first_page(2) + leaf(),), "a.db", PAGE, ["show --page 2"]),
+    ((DB, WAL), "a.db-wal", 32, [*LOOKING, "recover"]),
+    ((DB, WAL), "a.db", 0, ["check", "show", "recover"]),
+    ((DB, None, JOURNAL), "a.db-journal", 40, [*LOOKING, "recover"]),
+]
+
+
+@test
+def verbose_of_what_cannot_be_read():
+    """The file, and what the system says of it, also where it was open by then."""
+    unread = preloaded(holder.name, "unread")
+    for files, name, place, lines in UNREAD:
+        fill(*files)
+        setting = dict(os.environ, LD_PRELOAD=unread, FAILS=os.path.realpath(name), FROM=str(place))
+        for line in lines:
+            line = f"{line.replace(' a.db', '')} a.db"
+            yield f"{name}, {line}", unchanged(line, 3, ANY if "--log" in line else "", FAILED, env=setting)
+            err = Noted(rf"/?{re.escape(name)}: .*(Input/output|os error 5)", "file failed")
+            out = ANY if "--log" in line else ""
+            yield f"{name}, {line} -v", unchanged(f"{line} -v", 3, out, err, env=setting)
 
 
 @test

@@ -1,2 +1,4 @@
 pub mod Lines
 pub mod LockLines
+pub mod LockLists
+pub mod Asking

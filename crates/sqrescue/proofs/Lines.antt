@@ -6,7 +6,7 @@ use Rattle.std.specs.Cmp.Lexicographic.{bytes_decides, pointwise}
 use Rattle.std.proofs.lemmas.Option.{slice_get-map, slice_get-get_or, slice_get_within, get_or_from_slice_get, same_Some}
 use Rattle.std.proofs.lemmas.Bool.{cases_lt}
 use Rattle.std.proofs.lemmas.List.{length-map, drop-take, take-map, drop-map, drop_all, take_all}
-use Rattle.sqrescue.specs.Line.{AreKnown, AreOptions, HasPageText, IsFile, IsKnown, IsPlain, StandsFree}
+use Rattle.sqrescue.specs.Line.{AreKnown, AreOptions, HasText, IsFile, IsKnown, IsPlain, StandsFree, TakesValue}
 
 -- word i
 pub at_word : (ws : List (Bor (List ℕ))) (i : ℕ) (d : Bor (List ℕ)) → i < length ws → slice_get (map (λ w. w.now) ws) i ≡ Some (get_or ws i d).now
@@ -30,17 +30,20 @@ not_there xs text none there = none there.0 there.1 (slice_get-get_or xs there.0
 pub is_there : (xs : List (List ℕ)) (text : List ℕ) (k : ℕ) → slice_get xs k ≡ Some text → Contains xs text
 is_there xs text k e = (k, slice_get_within xs k text e, get_or_from_slice_get xs k text text e)
 
--- word k gives this text for the number of a page
-abbrev pub NamesPage : List (List ℕ) → List ℕ → (k : ℕ) → Type 0
-NamesPage xs text k = ((slice_get xs k ≡ Some (codes "--page")) × (slice_get xs (suc k) ≡ Some text)) ⊎ (slice_get xs k ≡ Some (codes "--page=" ++ text))
+-- word k gives this text by an option of this name
+abbrev pub NamesText : (name : List ℕ) → List (List ℕ) → List ℕ → (k : ℕ) → Type 0
+NamesText name xs text k =
+    ((slice_get xs k ≡ Some name) × (slice_get xs (suc k) ≡ Some text)) ⊎ (slice_get xs k ≡ Some (name ++ (codes "=" ++ text)))
 
-pub page_there : (xs : List (List ℕ)) (text : List ℕ) (k : ℕ) → NamesPage xs text k → HasPageText xs text
-page_there xs text k named = ⊎_elim (λ n. inl (k, n.0, n.1)) (λ e. inr (is_there xs (codes "--page=" ++ text) k e)) named
+pub text_there : (name : List ℕ) (xs : List (List ℕ)) (text : List ℕ) (k : ℕ) → NamesText name xs text k → HasText name xs text
+text_there name xs text k named =
+    ⊎_elim (λ n. inl (k, n.0, n.1)) (λ e. inr (is_there xs (name ++ (codes "=" ++ text)) k e)) named
 
-pub no_page : (xs : List (List ℕ)) (text : List ℕ) → ((k : ℕ) → k < length xs → NamesPage xs text k → ⊥) → ¬ HasPageText xs text
-no_page xs text none has = ⊎_elim
-    (λ n. none n.0 (slice_get_within xs n.0 (codes "--page") n.1) (inl (n.1, n.2)))
-    (λ there. none there.0 there.1 (inr (slice_get-get_or xs there.0 (codes "--page=" ++ text) there.1 ∙ ap Some there.2)))
+pub no_text : (name : List ℕ) (xs : List (List ℕ)) (text : List ℕ) → ((k : ℕ) → k < length xs → NamesText name xs text k → ⊥)
+    → ¬ HasText name xs text
+no_text name xs text none has = ⊎_elim
+    (λ n. none n.0 (slice_get_within xs n.0 name n.1) (inl (n.1, n.2)))
+    (λ there. none there.0 there.1 (inr (slice_get-get_or xs there.0 (name ++ (codes "=" ++ text)) there.1 ∙ ap Some there.2)))
     has
 
 -- ---- one word more
@@ -57,26 +60,27 @@ module _ (ws : List (Bor (List ℕ))) (i : ℕ) (d : Bor (List ℕ)) (lt : i < l
       (λ ge. let same : k ≡ i = omega arith in ne (is_word ws i d text lt (ap (λ n. slice_get (map (λ w. w.now) ws) n) (sym same) ∙ e)))
       (cases_lt k i)
 
-  pub no_page_more : ((k : ℕ) (text : List ℕ) → k < i → NamesPage (map (λ w. w.now) ws) text k → ⊥)
-      → ((get_or ws i d).now ≢ codes "--page") ⊎ (length ws ≤ i + 1) → ((text : List ℕ) → (get_or ws i d).now ≢ codes "--page=" ++ text)
-      → (k : ℕ) (text : List ℕ) → k < i + 1 → NamesPage (map (λ w. w.now) ws) text k → ⊥
-  no_page_more none other value k text below named = ⊎_elim (λ less. none k text less named)
+  pub no_text_more : (name : List ℕ) → ((k : ℕ) (text : List ℕ) → k < i → NamesText name (map (λ w. w.now) ws) text k → ⊥)
+      → ((get_or ws i d).now ≢ name) ⊎ (length ws ≤ i + 1) → ((text : List ℕ) → (get_or ws i d).now ≢ name ++ (codes "=" ++ text))
+      → (k : ℕ) (text : List ℕ) → k < i + 1 → NamesText name (map (λ w. w.now) ws) text k → ⊥
+  no_text_more name none other value k text below named = ⊎_elim (λ less. none k text less named)
       (λ ge. let same : k ≡ i = omega arith in ⊎_elim
-      (λ n. let first : slice_get (map (λ w. w.now) ws) i ≡ Some (codes "--page") = ap (λ j. slice_get (map (λ w. w.now) ws) j) (sym same) ∙ n.0 in
-      ⊎_elim (λ ne. ne (is_word ws i d (codes "--page") lt first))
+      (λ n. let first : slice_get (map (λ w. w.now) ws) i ≡ Some name = ap (λ j. slice_get (map (λ w. w.now) ws) j) (sym same) ∙ n.0 in
+      ⊎_elim (λ ne. ne (is_word ws i d name lt first))
       (λ le. let within : suc k < length (map (λ w. w.now) ws) = slice_get_within (map (λ w. w.now) ws) (suc k) text n.1 in
       omega (arith, words_long ws)) other)
-      (λ e. value text (is_word ws i d (codes "--page=" ++ text) lt (ap (λ j. slice_get (map (λ w. w.now) ws) j) (sym same) ∙ e))) named)
+      (λ e. value text (is_word ws i d (name ++ (codes "=" ++ text)) lt (ap (λ j. slice_get (map (λ w. w.now) ws) j) (sym same) ∙ e))) named)
       (cases_lt k i)
 
-  pub page_here : (e : Bor (List ℕ)) → (get_or ws i d).now ≡ codes "--page" → i + 1 < length ws → HasPageText (map (λ w. w.now) ws) (get_or ws (i + 1) e).now
-  page_here e is next = page_there (map (λ w. w.now) ws) (get_or ws (i + 1) e).now i (inl (
+  pub text_here : (e : Bor (List ℕ)) (name : List ℕ) → (get_or ws i d).now ≡ name → i + 1 < length ws
+      → HasText name (map (λ w. w.now) ws) (get_or ws (i + 1) e).now
+  text_here e name is next = text_there name (map (λ w. w.now) ws) (get_or ws (i + 1) e).now i (inl (
     at_word ws i d lt ∙ ap Some is,
     (let same : suc i ≡ i + 1 = omega arith in ap (λ j. slice_get (map (λ w. w.now) ws) j) same ∙ at_word ws (i + 1) e next),
   ))
 
-pub page_value_here : (ws : List (Bor (List ℕ))) (i : ℕ) (d : Bor (List ℕ)) (text : List ℕ) → i < length ws → (get_or ws i d).now ≡ codes "--page=" ++ text → HasPageText (map (λ w. w.now) ws) text
-page_value_here ws i d text lt is = page_there (map (λ w. w.now) ws) text i (inr (at_word ws i d lt ∙ ap Some is))
+  pub joined_here : (name text : List ℕ) → (get_or ws i d).now ≡ name ++ (codes "=" ++ text) → HasText name (map (λ w. w.now) ws) text
+  joined_here name text is = text_there name (map (λ w. w.now) ws) text i (inr (at_word ws i d lt ∙ ap Some is))
 
 -- words of which one isn't known, and of which one more is
 pub unknown_there : (recovers : Bool) (ws : List (Bor (List ℕ))) (i : ℕ) (d : Bor (List ℕ)) → i < length ws → ¬ IsKnown recovers (get_or ws i d).now
@@ -130,13 +134,16 @@ module _ (ws : List (Bor (List ℕ))) (i : ℕ) (two : 2 ≤ i) (lt : i < length
     free = inl (rw (← options_are ws 2 i refl two) there);
   }
 
-  pub free_plain : (d e : Bor (List ℕ)) → IsPlain (get_or ws i d).now → (get_or ws (i - 1) e).now ≢ codes "--page" → (word : List ℕ) → slice_get (map (λ w. w.now) ws) i ≡ Some word → StandsFree (map (λ w. w.now) ws) i word
+  pub free_plain : (d e : Bor (List ℕ)) → IsPlain (get_or ws i d).now → ¬ TakesValue (get_or ws (i - 1) e).now → (word : List ℕ)
+      → slice_get (map (λ w. w.now) ws) i ≡ Some word → StandsFree (map (λ w. w.now) ws) i word
   free_plain d e plain other word is = record {
     behind = two;
     is = is;
     free = inr (
       (λ rest begins. plain rest (is_word ws i d word lt is ∙ begins)),
-      (λ named. let before : i - 1 < length ws = omega arith in other (is_word ws (i - 1) e (codes "--page") before named)),
+      (λ option named takes. let before : i - 1 < length ws = omega arith in
+          let P : List ℕ → Type 0 = λ w. TakesValue w in
+          other (subst P (sym (is_word ws (i - 1) e option before named)) takes)),
     );
   }
 
@@ -146,10 +153,11 @@ module _ (ws : List (Bor (List ℕ))) (i : ℕ) (two : 2 ≤ i) (lt : i < length
       (λ plain. option (λ rest begins. plain.0 rest (sym (is_word ws i d word lt free.is) ∙ begins)))
       free.free
 
-  pub value_not_free : (e : Bor (List ℕ)) → ¬ Contains (map (λ w. w.now) (take (i - 2) (drop 2 ws))) (codes "--") → (get_or ws (i - 1) e).now ≡ codes "--page" → (word : List ℕ) → ¬ StandsFree (map (λ w. w.now) ws) i word
-  value_not_free e none named word free = ⊎_elim
+  pub value_not_free : (e : Bor (List ℕ)) → ¬ Contains (map (λ w. w.now) (take (i - 2) (drop 2 ws))) (codes "--")
+      → TakesValue (get_or ws (i - 1) e).now → (word : List ℕ) → ¬ StandsFree (map (λ w. w.now) ws) i word
+  value_not_free e none takes word free = ⊎_elim
       (λ there. none (rw (options_are ws 2 i refl two) there))
-      (λ plain. let before : i - 1 < length ws = omega arith in plain.1 (at_word ws (i - 1) e before ∙ ap Some named))
+      (λ plain. let before : i - 1 < length ws = omega arith in plain.1 (get_or ws (i - 1) e).now (at_word ws (i - 1) e before) takes)
       free.free
 
 pub clash : (b : Bool) → b ≡ true → b ≡ false → ⊥
@@ -164,7 +172,11 @@ told false P not p = absurd (not refl p)
 pub differ : (xs ys : List ℕ) (r : Bool) → r ≡ not (pointwise nat_eq xs ys) → IsTrue r → xs ≢ ys
 differ xs ys r e t same = clash r t (e ∙ ap not ((bytes_decides xs ys).1 same))
 
-not_false : (b : Bool) → not b ≡ false → b ≡ true
+pub not_true : (b : Bool) → IsTrue (not b) → b ≡ false
+not_true true t = sym t
+not_true false t = refl
+
+pub not_false : (b : Bool) → not b ≡ false → b ≡ true
 not_false true e = refl
 not_false false e = sym e
 

@@ -1,7 +1,9 @@
 -- How /proc/locks names a file that is locked.
 use Rattle.std.specs.Prelude.{◌≡◌, ◌⊎◌, ◌++◌, ℕ, ◌-◌, ◌^◌, List, [], false, codes}
 use Rattle.std.specs.Fmt.{decimal, digits, format_spec, padded_integral}
+use Rattle.std.specs.List.{Any}
 use Rattle.std.specs.Str.Iter.{HasSubslice}
+use Rattle.std.specs.Str.Lines.{lines}
 use Rattle.sqrescue.specs.declared.locks.Identity.{Identity}
 
 -- a number in lower-case hex, of two digits at least
@@ -21,3 +23,7 @@ place_text file = codes " " ++ (hex_pair file.major ++ (codes ":" ++ (hex_pair f
 abbrev pub IsLockOn : (line : List ℕ) → Identity → Type 0
 IsLockOn line file = HasSubslice line (codes " POSIX ")
     × (HasSubslice line (place_text file) ⊎ (HasSubslice line (inode_text file) × ((file.major ≡ 0) ⊎ HasSubslice line (codes " 00:"))))
+
+-- a text one of whose lines is such a one
+abbrev pub HasLockOn : (text : List ℕ) → Identity → Type 0
+HasLockOn text file = Any (λ line. IsLockOn line file) (lines text)

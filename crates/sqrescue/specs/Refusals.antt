@@ -6,7 +6,7 @@ use Rattle.rollcore.specs.declared.error.RollError.TheVariants as rolls
 use Rattle.walcore.specs.declared.error.WalError.{WalError}
 use Rattle.walcore.specs.declared.error.WalError.TheVariants as wals
 use Rattle.sqrescue.specs.declared.outcome.Refusal.{Refusal}
-use Rattle.sqrescue.specs.declared.outcome.Refusal.TheVariants.{FileFailed, PageSizesDiffer, TooLarge, TwoLogs, NotADatabase, AutoVacuum, NoMemory}
+use Rattle.sqrescue.specs.declared.outcome.Refusal.TheVariants.{FileFailed, PageSizesDiffer, TooLarge, TwoLogs, NotADatabase, AutoVacuum, NoSuchCommit, NoMemory}
 use Rattle.sqview.specs.declared.view_error.ViewError.{ViewError}
 use Rattle.sqview.specs.declared.view_error.ViewError.TheVariants as views
 use Rattle.sqview.specs.declared.judge_error.JudgeError.{JudgeError}
@@ -22,6 +22,7 @@ refusal_of views.TooLarge = TooLarge
 refusal_of (views.Header fault) = NotADatabase
 refusal_of views.Unread = FileFailed
 refusal_of views.NoMemory = NoMemory
+refusal_of views.NoSuchCommit = NoSuchCommit
 
 abbrev pub refusal_of_judge : JudgeError → Refusal
 refusal_of_judge judged.TwoLogs = TwoLogs
@@ -29,6 +30,7 @@ refusal_of_judge judged.TooLarge = TooLarge
 refusal_of_judge judged.AutoVacuum = AutoVacuum
 refusal_of_judge judged.Unread = FileFailed
 refusal_of_judge judged.NoMemory = NoMemory
+refusal_of_judge judged.NoSuchCommit = NoSuchCommit
 
 abbrev pub refusal_of_wal : WalError → Refusal
 refusal_of_wal wals.TooLarge = TooLarge

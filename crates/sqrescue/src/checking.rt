@@ -3,7 +3,7 @@ use crate::logs::{Contents, open_all};
 use crate::notes::Notes;
 use crate::outcome::Refusal;
 use crate::paths::{Paths, paths_of};
-use crate::requests::SuperJournal;
+use crate::requests::{Options, SuperJournal};
 use crate::showing::ShowError;
 use crate::texts::{write_fault, write_report};
 use crate::watch::{Readings, readings_of, time_to_wait, unchanged};
@@ -19,7 +19,7 @@ use std::time::Clock;
 pub(crate) fn check<R: Files + AllocGlobal + Clock, O: Write, E: Write>(
     rt: &R,
     file: &str,
-    super_journal: Option<SuperJournal>,
+    options: Options,
     out: &mut O,
     notes: &mut Notes<'_, E>,
 ) -> Result<bool, ShowError>
@@ -27,22 +27,24 @@ where
     R::File: FileExt,
 {
     let paths = paths_of(rt, file, notes)?;
-    let is_well_formed = match settled_verdict(rt, &paths, super_journal, notes)? {
-        Verdict::Clean(report) => {
-            write_report(out, &report)?;
+    let verdict = settled_verdict(rt, &paths, options.super_journal, notes);
+    let is_well_formed = match verdict {
+        Ok(Verdict::Clean(report)) => {
+            write_report(out, options.style, &report)?;
             true
         }
-        Verdict::Damaged(error) => {
-            write_fault(out, &error)?;
+        Ok(Verdict::Damaged(error)) => {
+            write_fault(out, options.style, &error)?;
             false
         }
+        Err(refusal) => return Err(ShowError::Refused(paths.told(notes, refusal))),
     };
     out.flush()?;
     Ok(is_well_formed)
 }
 
-/// The verdict on files that don't change meanwhile. Where they were changed so shortly before that a further change might
-/// be dated like it, a fault is looked for again once any change is dated later.
+/// The verdict on files that don't change meanwhile. Where they were changed so shortly before that a further change
+/// might be dated like it, a fault is looked for again once any change is dated later.
 fn settled_verdict<R: Files + AllocGlobal + Clock, E: Write>(
     rt: &R,
     paths: &Paths,
@@ -74,7 +76,7 @@ fn watched<R: Files + AllocGlobal, E: Write>(
     rt: &R,
     paths: &Paths,
     before: &Readings,
-    opened: Result<Contents<R::File>, Refusal>,
+    opened: Result<Contents<'_, R::File>, Refusal>,
     notes: &mut Notes<'_, E>,
 ) -> Result<Verdict, Refusal>
 where

@@ -33,6 +33,13 @@ fn super_journal_arg<'a>(alloc: Global) -> Arg<'a> {
         )
 }
 
+fn json_arg<'a>(alloc: Global) -> Arg<'a> {
+    Arg::new(alloc, "json")
+        .long("json")
+        .action(ArgAction::SetTrue)
+        .help("Prints a JSON object a line; a refusal is one too, on standard output")
+}
+
 /// A command with the file and the options that each has.
 fn base_command<'a>(
     alloc: Global,
@@ -43,6 +50,7 @@ fn base_command<'a>(
         .about(about)
         .arg(file_arg(alloc))?
         .arg(verbose_arg(alloc))?
+        .arg(json_arg(alloc))?
         .arg(super_journal_arg(alloc))
 }
 
@@ -52,21 +60,35 @@ fn show_command<'a>(alloc: Global) -> Result<Command<'a>, AllocError> {
         .value_name("N")
         .value_parser(value_parser!(u32).range(1..))
         .conflicts_with("log")?
+        .conflicts_with("commits")?
         .help("Shows this page instead");
     let log = Arg::new(alloc, "log")
         .long("log")
         .action(ArgAction::SetTrue)
         .help("Shows the log instead");
+    let commits = Arg::new(alloc, "commits")
+        .long("commits")
+        .action(ArgAction::SetTrue)
+        .conflicts_with("log")?
+        .help("Shows the commits in the write-ahead log instead");
     base_command(
         alloc,
         "show",
         "Shows the header of the database as its log has it; writes nothing",
     )?
     .arg(page)?
-    .arg(log)
+    .arg(log)?
+    .arg(commits)
 }
 
 fn recover_command<'a>(alloc: Global) -> Result<Command<'a>, AllocError> {
+    let to = Arg::new(alloc, "to")
+        .long("to")
+        .value_name("OUT")
+        .action(ArgAction::Set)
+        .help(
+            "Makes the file OUT instead, which holds what FILE would, and writes neither FILE nor its logs",
+        );
     let force = Arg::new(alloc, "force")
         .long("force")
         .action(ArgAction::SetTrue)
@@ -77,6 +99,7 @@ fn recover_command<'a>(alloc: Global) -> Result<Command<'a>, AllocError> {
         "Recovers the database: folds its write-ahead log into it, or rolls it back by its hot journal; \
          nobody else may have it open meanwhile",
     )?
+    .arg(to)?
     .arg(force)
 }
 

@@ -10,9 +10,9 @@ use std::fs::{Metadata, OpenFile};
 use std::io::{self, Write};
 use std::os::unix::fs::FileExt;
 
-/// A database file and its log as a disk of sectors of 4096 bytes. Each fault of the system is `Failed`. Before the first
-/// change of each file the guard is asked, and where it refuses, the change is `Failed`. That the files keep the word of a
-/// disk no contract can say: it is the user's premise.
+/// A database file and its log as a disk of sectors of 4096 bytes. Each fault of the system is `Failed`. Before the
+/// first change of each file the guard is asked, and where it refuses, the change is `Failed`. That the files keep the
+/// word of a disk no contract can say: it is the user's premise.
 #[derive(Drop)]
 pub struct FileDisk<F: FileExt + OpenFile + Drop, G: Guard> {
     db: F,
@@ -80,7 +80,8 @@ impl<F: FileExt + OpenFile + Drop, G: Guard> FileDisk<F, G> {
         }
     }
 
-    /// Asks the guard before the first change of a file. For want of memory nothing is refused once the database was changed.
+    /// Asks the guard before the first change of a file. For want of memory nothing is refused once the database was
+    /// changed.
     fn may_change(&mut self, file: File) -> Result<(), DiskError>
         ensures db { OnOk result (file ≡ Db → IsTrue self.new.changes_db) }
         ensures log { OnOk result (file ≡ Log → IsTrue self.new.changes_log) }

@@ -100,7 +100,7 @@ fn number_at(head: &[u8; 100], at: usize) -> u32
 pub(crate) fn tell_length<F: FileExt, E: Write>(
     notes: &mut Notes<'_, E>,
     path: &str,
-    db: &mut OpenedFile<F>,
+    db: &mut OpenedFile<'_, F>,
 ) {
     let mut head = [0u8; 100];
     if !notes.are_asked() || db.read_at(0, &mut head).is_err() || !has_magic(&head) {
@@ -154,6 +154,8 @@ pub(crate) fn next_step(refusal: Refusal) -> &'static str {
         Refusal::NotADatabase =>
             "the header that is to be shown isn't a database's: see show --log and check",
         Refusal::AutoVacuum => "the database has pointer maps, which aren't read yet",
+        Refusal::NoSuchCommit =>
+            "show --log names the size after each commit, in the lines of its frames",
         Refusal::NoSuchPage => "show names the number of pages, in the line that begins with pages",
         Refusal::NoMemory => "the system refused memory: call this again where there is more",
     }

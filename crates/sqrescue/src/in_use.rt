@@ -1,13 +1,19 @@
 //! Whether another process has a database open.
-use crate::locks::{identity_of, is_locked};
+ghost use Rattle.std.specs.Prelude.{◌≡◌, ◌<◌, ◌≤◌, ◌-◌, ℕ, length, slice_index, EachIndex, IfOk};
+
+use crate::locks::{Identity, identity_of, is_locked};
 use crate::outcome::Refusal;
 use crate::paths::{Paths, is_missing, look_at};
-use std::fs;
-use std::io::ErrorKind;
+use std::fs::OpenOptions;
+use std::io::{self, ErrorKind, Read};
 use std::rt::Files;
+use std::str;
 
 /// Where Linux lists the locks that processes hold.
 const LOCKS: &str = "/proc/locks";
+
+/// How many bytes of the list are held at once. A line of it has some 80, and what is longer is no line of a lock.
+const ROOM: usize = 8192;
 
 /// What is asked before files are changed.
 pub trait Guard: Drop {
@@ -16,15 +22,16 @@ pub trait Guard: Drop {
 }
 
 /// Asks whether a process holds a POSIX lock on a database file or on its FILE-shm, as each connection of SQLite does
-/// that reads, writes, or has a database in WAL mode open. Where the locks can't be read, nothing is refused.
-pub(crate) struct OpenElsewhere<'a, R: Files + AllocGlobal> {
+/// that reads, writes, or has a database in WAL mode open. Where the locks can't be read, nothing is refused. It asks
+/// for no memory, so that it can be asked also once a file was changed.
+pub(crate) struct OpenElsewhere<'a, R: Files> {
     pub rt: &'a R,
     pub paths: &'a Paths,
     /// Nothing is asked.
     pub forced: bool,
 }
 
-impl<R: Files + AllocGlobal> Drop for OpenElsewhere<'_, R> {
+impl<R: Files> Drop for OpenElsewhere<'_, R> {
     fn drop(self) {
         let OpenElsewhere {
             rt: _,
@@ -34,27 +41,91 @@ impl<R: Files + AllocGlobal> Drop for OpenElsewhere<'_, R> {
     }
 }
 
-impl<R: Files + AllocGlobal> Guard for OpenElsewhere<'_, R> {
-    /// Refused by `InUse`, also for want of memory, or where the system doesn't say which file is which.
+impl<R: Files> Guard for OpenElsewhere<'_, R> {
+    /// Refused by `InUse`, or where the system doesn't say which file is which.
     fn ask(&self) -> Result<(), Refusal> {
         if self.forced {
             return Ok(());
         }
-        let locks = match fs::read_to_string(self.rt, LOCKS) {
-            Ok(locks) => locks,
-            Err(error) if error.kind() == ErrorKind::OutOfMemory => return Err(Refusal::NoMemory),
-            Err(_) => return Ok(()),
+        let db = identity_of(&look_at(self.rt, self.paths.db.as_str())?);
+        let shm = match look_at(self.rt, self.paths.shm.as_str()) {
+            Ok(shm) => identity_of(&shm),
+            Err(error) if is_missing(&error) => db,
+            Err(error) => return Err(Refusal::from(error)),
         };
-        let alloc = self.rt.alloc();
-        let db = look_at(self.rt, self.paths.db.as_str())?;
-        if is_locked(alloc, locks.as_str(), identity_of(&db))? {
-            return Err(Refusal::InUse);
-        }
-        match look_at(self.rt, self.paths.shm.as_str()) {
-            Ok(shm) if is_locked(alloc, locks.as_str(), identity_of(&shm))? => Err(Refusal::InUse),
-            Ok(_) => Ok(()),
-            Err(error) if is_missing(&error) => Ok(()),
-            Err(error) => Err(Refusal::from(error)),
+        let Ok(mut list) = OpenOptions::new().read(true).open(self.rt, LOCKS) else {
+            return Ok(());
+        };
+        match has_lock(&mut list, db, shm) {
+            Ok(true) => Err(Refusal::InUse),
+            _ => Ok(()),
         }
     }
+}
+
+/// Reads what comes next, and says how many bytes. A read that a signal ends is made again.
+fn read_next<F: Read>(file: &mut F, out: &mut [u8]) -> io::Result<usize>
+    ensures { IfOk result (λ count. count ≤ length out.old) }
+{
+    for _ in 0..u64::MAX {
+        match file.read(out) {
+            Err(error) if error.kind() == ErrorKind::Interrupted => {}
+            answer => return answer,
+        }
+    }
+    Err(io::Error::from(ErrorKind::Interrupted))
+}
+
+/// Where the last whole line of these bytes ends: behind their last newline.
+fn end_of_lines(bytes: &[u8]) -> usize
+    ensures within { result ≤ length bytes.now }
+    ensures ends { 0 < result → slice_index bytes.now (result - 1) ≡ 10 }
+    ensures last { (k : ℕ) → result ≤ k → k < length bytes.now → ¬ (slice_index bytes.now k ≡ 10) }
+{
+    let mut end = 0;
+    for (i, byte) in bytes.iter().enumerate() {
+        if *byte == b'\n' {
+            end = i + 1;
+        }
+    }
+    end
+}
+
+/// Whether bytes that are whole lines of the list have a lock on either file. Refused where they are no text.
+fn have_lock(bytes: &[u8], db: Identity, shm: Identity) -> io::Result<bool> {
+    let Ok(lines) = str::from_utf8(bytes) else {
+        return Err(io::Error::from(ErrorKind::InvalidData));
+    };
+    match (is_locked(lines, db), is_locked(lines, shm)) {
+        (Ok(first), Ok(second)) => Ok(first || second),
+        _ => Err(io::Error::from(ErrorKind::InvalidData)),
+    }
+}
+
+/// Whether the list has a lock on either file. It is read in pieces; a line that a piece ends in is looked at with the
+/// next.
+fn has_lock<F: Read>(list: &mut F, db: Identity, shm: Identity) -> io::Result<bool> {
+    let mut room = [0u8; ROOM];
+    let mut held = 0;
+    for _ in 0..u64::MAX {
+        let count = read_next(list, &mut room[held..])?;
+        let end = held + count;
+        let lines = if count == 0 {
+            end
+        } else {
+            end_of_lines(&room[..end])
+        };
+        if have_lock(&room[..lines], db, shm)? {
+            return Ok(true);
+        }
+        if count == 0 {
+            break;
+        }
+        room.copy_within(lines..end, 0);
+        held = end - lines;
+        if held == ROOM {
+            held = 0;
+        }
+    }
+    Ok(false)
 }

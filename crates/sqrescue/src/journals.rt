@@ -11,7 +11,7 @@ use std::os::unix::fs::FileExt;
 
 /// Whether a journal ends as one does that names a super-journal: with the magic.
 pub(crate) fn names_super_journal<F: FileExt>(
-    journal: &mut OpenedFile<F>,
+    journal: &mut OpenedFile<'_, F>,
 ) -> Result<bool, SourceError> {
     let mut end = [0u8; 8];
     let length = journal.len();
@@ -26,8 +26,8 @@ pub(crate) fn is_out_of_force(names_super: bool, said: Option<SuperJournal>) -> 
     names_super && said == Some(SuperJournal::Gone)
 }
 
-/// A header with the smallest sector and page size in place of those that SQLite takes and that aren't a journal's here: a
-/// sector of 32 to 256 bytes, and a page size of 0.
+/// A header with the smallest sector and page size in place of those that SQLite takes and that aren't a journal's
+/// here: a sector of 32 to 256 bytes, and a page size of 0.
 fn loosened(front: &[u8; 28]) -> [u8; 28] {
     let mut header = *front;
     if matches!(&front[20..24], [0, 0, 0, 32 | 64 | 128] | [0, 0, 1, 0]) {
@@ -41,7 +41,7 @@ fn loosened(front: &[u8; 28]) -> [u8; 28] {
 
 /// Whether SQLite takes the journal's header though it isn't a valid one here.
 pub(crate) fn is_valid_for_sqlite_alone<F: FileExt>(
-    journal: &mut OpenedFile<F>,
+    journal: &mut OpenedFile<'_, F>,
 ) -> Result<bool, SourceError> {
     let mut front = [0u8; 28];
     journal.read_at(0, &mut front)?;

@@ -1,9 +1,10 @@
 //! Which lines of /proc/locks are of a file.
-ghost use Rattle.std.specs.Prelude.{◌≡◌, ◌↔◌, ◌⊎◌, codes, IfOk, IsTrue, string_bytes};
+ghost use Rattle.std.specs.Prelude.{◌≡◌, ◌↔◌, ◌⊎◌, codes, IfOk, IsTrue};
 ghost use Rattle.std.specs.Str.Iter.{HasSubslice};
-ghost use Rattle.sqrescue.specs.Locks.{IsLockOn, inode_text, place_text};
+ghost use Rattle.sqrescue.specs.Locks.{HasLockOn, IsLockOn, inode_text, place_text};
 
-use std::alloc::{AllocError, Global};
+use arrayvec::ArrayString;
+use std::fmt::{self, Write};
 use std::fs::Metadata;
 use std::os::unix::fs::MetadataExt;
 
@@ -27,24 +28,31 @@ pub(crate) fn identity_of(metadata: &Metadata) -> Identity {
     }
 }
 
+/// The most bytes of a text that names a file: two numbers of 8 digits, one of 20, two colons and two blanks.
+const LONGEST: usize = 40;
+
 /// How a line names a file.
-fn place_text(alloc: Global, file: Identity) -> Result<String, AllocError>
-    ensures { IfOk result (λ text. string_bytes text ≡ place_text file) }
+fn place_text(file: Identity) -> Result<ArrayString<LONGEST>, fmt::Error>
+    ensures { IfOk result (λ text. text.bytes ≡ place_text file) }
 {
     let Identity {
         major,
         minor,
         inode,
     } = file;
-    format!(in alloc; " {major:02x}:{minor:02x}:{inode} ")
+    let mut text = ArrayString::new();
+    write!(text, " {major:02x}:{minor:02x}:{inode} ")?;
+    Ok(text)
 }
 
 /// How a line names a file whose device isn't looked at.
-fn inode_text(alloc: Global, file: Identity) -> Result<String, AllocError>
-    ensures { IfOk result (λ text. string_bytes text ≡ inode_text file) }
+fn inode_text(file: Identity) -> Result<ArrayString<LONGEST>, fmt::Error>
+    ensures { IfOk result (λ text. text.bytes ≡ inode_text file) }
 {
     let inode = file.inode;
-    format!(in alloc; ":{inode} ")
+    let mut text = ArrayString::new();
+    write!(text, ":{inode} ")?;
+    Ok(text)
 }
 
 /// Whether the text stands in the line.
@@ -70,14 +78,12 @@ fn is_lock_on(line: &str, file: Identity, place: &str, inode: &str) -> bool
     has(line, " POSIX ") && (has(line, place) || (has(line, inode) && is_unnumbered(line, file)))
 }
 
-/// Whether a text of such lines has a POSIX lock on this file.
-pub(crate) fn is_locked(alloc: Global, locks: &str, file: Identity) -> Result<bool, AllocError> {
-    let place = place_text(alloc, file)?;
-    let inode = inode_text(alloc, file)?;
-    for line in locks.lines() {
-        if is_lock_on(line, file, place.as_str(), inode.as_str()) {
-            return Ok(true);
-        }
-    }
-    Ok(false)
+/// Whether a text of such lines has a POSIX lock on this file. No memory is asked for; that a text that names a file
+/// finds no room doesn't come.
+pub(crate) fn is_locked(lines: &str, file: Identity) -> Result<bool, fmt::Error>
+    ensures { IfOk result (λ found. IsTrue found ↔ HasLockOn lines.now file) }
+{
+    let place = place_text(file)?;
+    let inode = inode_text(file)?;
+    Ok(lines.lines().any(|line| is_lock_on(line, file, place.as_str(), inode.as_str())))
 }

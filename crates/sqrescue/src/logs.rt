@@ -6,6 +6,7 @@ use crate::notes::Notes;
 use crate::opened_file::OpenedFile;
 use crate::outcome::Refusal;
 use crate::paths::{Paths, are_apart, is_missing, look_at};
+use crate::place::Place;
 use crate::requests::SuperJournal;
 use sqview::{FileBytes, hot_header};
 use std::fs::{Metadata, OpenOptions};
@@ -32,21 +33,22 @@ fn found_log<R: Files, E: Write>(
 }
 
 /// Opens a file that was found; none where it is shorter than the least.
-pub(crate) fn opened<R: Files, E: Write>(
+pub(crate) fn opened<'a, R: Files, E: Write>(
     rt: &R,
-    path: &str,
+    place: &'a Place,
     found: Option<Metadata>,
     least: u64,
     notes: &mut Notes<'_, E>,
-) -> Result<OpenedFile<R::File>, Refusal> {
+) -> Result<OpenedFile<'a, R::File>, Refusal> {
     let length = match found {
         Some(found) if found.len() >= least => found.len(),
         _ => return Ok(OpenedFile::missing()),
     };
+    let path = place.as_str();
     match OpenOptions::new().read(true).open(rt, path) {
         Ok(file) => {
             notes.tell(&format_args!("{path}: {length} bytes"));
-            Ok(OpenedFile::new(file, length))
+            Ok(OpenedFile::new(file, length, place))
         }
         Err(error) => Err(told(notes, path, error)),
     }
@@ -54,16 +56,14 @@ pub(crate) fn opened<R: Files, E: Write>(
 
 /// What the system says of a database file, and the opened logs beside it, of which each may be missing.
 #[derive(Drop)]
-pub(crate) struct Beside<F> {
+pub(crate) struct Beside<'a, F> {
     pub db: Metadata,
-    pub wal: OpenedFile<F>,
-    pub journal: OpenedFile<F>,
-    /// Whether the only log is a hot journal that names a super-journal, of which nothing is said.
-    pub is_undecided: bool,
+    pub wal: OpenedFile<'a, F>,
+    pub journal: OpenedFile<'a, F>,
 }
 
-/// What the system says of a database file and of each of its logs that is there. Refused by `FileFailed` where the file is
-/// missing, or one of them isn't a regular file, or is another of them.
+/// What the system says of a database file and of each of its logs that is there. Refused by `FileFailed` where the
+/// file is missing, or one of them isn't a regular file, or is another of them.
 fn found_files<R: Files, E: Write>(
     rt: &R,
     paths: &Paths,
@@ -90,20 +90,20 @@ fn found_files<R: Files, E: Write>(
     Ok((db, wal, journal))
 }
 
-/// Opens the logs beside a database file, and says what is to be noted of them. A hot journal that is out of force is taken
-/// as a missing one.
-pub(crate) fn open_logs<R: Files, E: Write>(
+/// Opens the logs beside a database file, and says what is to be noted of them. A hot journal that is out of force is
+/// taken as a missing one.
+pub(crate) fn open_logs<'a, R: Files, E: Write>(
     rt: &R,
-    paths: &Paths,
+    paths: &'a Paths,
     super_journal: Option<SuperJournal>,
     notes: &mut Notes<'_, E>,
-) -> Result<Beside<R::File>, Refusal>
+) -> Result<Beside<'a, R::File>, Refusal>
 where
     R::File: FileExt,
 {
     let (db, wal, journal) = found_files(rt, paths, notes)?;
-    let wal = opened(rt, paths.wal.as_str(), wal, 1, notes)?;
-    let mut journal = opened(rt, paths.journal.as_str(), journal, SHORTEST, notes)?;
+    let wal = opened(rt, &paths.wal, wal, 1, notes)?;
+    let mut journal = opened(rt, &paths.journal, journal, SHORTEST, notes)?;
     let has_journal = journal.len() != 0;
     let mut is_hot = hot_header(&mut journal)?.is_some();
     let names_super = is_hot && names_super_journal(&mut journal)?;
@@ -127,56 +127,32 @@ where
         is_out_of_force,
     };
     tell_choice(notes, paths, logs);
-    Ok(Beside {
-        db,
-        wal,
-        journal,
-        is_undecided: names_super && super_journal.is_none() && logs.wal == 0,
-    })
-}
-
-/// The same, of logs that are only looked at: says where it isn't decided whether the journal counts.
-pub(crate) fn open_noted<R: Files, E: Write>(
-    rt: &R,
-    paths: &Paths,
-    super_journal: Option<SuperJournal>,
-    notes: &mut Notes<'_, E>,
-) -> Result<Beside<R::File>, Refusal>
-where
-    R::File: FileExt,
-{
-    let logs = open_logs(rt, paths, super_journal, notes)?;
-    if logs.is_undecided {
+    if names_super && super_journal.is_none() {
         notes.say(&"the journal names a super-journal, which decides whether it counts");
     }
-    Ok(logs)
+    Ok(Beside { db, wal, journal })
 }
 
 /// An opened database file, and its logs.
 #[derive(Drop)]
-pub(crate) struct Contents<F> {
-    pub db: OpenedFile<F>,
-    pub wal: OpenedFile<F>,
-    pub journal: OpenedFile<F>,
+pub(crate) struct Contents<'a, F> {
+    pub db: OpenedFile<'a, F>,
+    pub wal: OpenedFile<'a, F>,
+    pub journal: OpenedFile<'a, F>,
 }
 
 /// Opens a database file and its logs, of which each may be missing.
-pub(crate) fn open_all<R: Files, E: Write>(
+pub(crate) fn open_all<'a, R: Files, E: Write>(
     rt: &R,
-    paths: &Paths,
+    paths: &'a Paths,
     super_journal: Option<SuperJournal>,
     notes: &mut Notes<'_, E>,
-) -> Result<Contents<R::File>, Refusal>
+) -> Result<Contents<'a, R::File>, Refusal>
 where
     R::File: FileExt,
 {
-    let Beside {
-        db,
-        wal,
-        journal,
-        ..
-    } = open_noted(rt, paths, super_journal, notes)?;
-    let mut db = opened(rt, paths.db.as_str(), Some(db), 0, notes)?;
+    let Beside { db, wal, journal } = open_logs(rt, paths, super_journal, notes)?;
+    let mut db = opened(rt, &paths.db, Some(db), 0, notes)?;
     tell_length(notes, paths.db.as_str(), &mut db);
     Ok(Contents { db, wal, journal })
 }

@@ -5,6 +5,8 @@ ghost use Rattle.std.specs.Prelude.{◌≤◌, IfOk};
 
 mod checking;
 mod commands;
+mod copies;
+mod facts;
 mod file_disk;
 mod hints;
 mod in_use;
@@ -15,6 +17,8 @@ mod notes;
 mod opened_file;
 mod outcome;
 mod paths;
+mod payloads;
+mod place;
 mod program;
 mod recovery;
 mod requests;

@@ -1,26 +1,28 @@
 //! A real file as the bytes of a database or a log.
 ghost use Rattle.std.specs.Prelude.{[]};
 
+use crate::place::Place;
 use sqpage::SourceError;
 use sqview::FileBytes;
 use std::os::unix::fs::FileExt;
 
-/// An opened file of this length, or a missing one, which has none. What it holds no contract can say.
+/// An opened file of this length, or a missing one, which has none. What it holds no contract can say. Why a read
+/// failed is kept at the file's place.
 #[derive(Drop)]
-pub(crate) struct OpenedFile<F> {
-    file: Option<F>,
+pub(crate) struct OpenedFile<'a, F> {
+    file: Option<(F, &'a Place)>,
     length: u64,
 }
 
-impl<F> OpenedFile<F> {
-    pub(crate) fn new(file: F, length: u64) -> OpenedFile<F> {
+impl<'a, F> OpenedFile<'a, F> {
+    pub(crate) fn new(file: F, length: u64, place: &'a Place) -> OpenedFile<'a, F> {
         OpenedFile {
-            file: Some(file),
+            file: Some((file, place)),
             length,
         }
     }
 
-    pub(crate) fn missing() -> OpenedFile<F> {
+    pub(crate) fn missing() -> OpenedFile<'a, F> {
         OpenedFile {
             file: None,
             length: 0,
@@ -28,7 +30,7 @@ impl<F> OpenedFile<F> {
     }
 }
 
-impl<F: FileExt> FileBytes for OpenedFile<F> {
+impl<F: FileExt> FileBytes for OpenedFile<'_, F> {
     ghost bytes = { λ _. [] };
 
     ghost gives_bytes = { λ _. ⊥ };
@@ -42,9 +44,12 @@ impl<F: FileExt> FileBytes for OpenedFile<F> {
         let count = self.length.saturating_sub(at).min(out.len() as u64) as usize;
         let (there, behind) = out.split_at_mut(count);
         behind.fill(0);
-        match &self.file {
-            Some(file) => file.read_exact_at(there, at).map_err(|_| SourceError),
-            None => Ok(()),
+        let Some((file, place)) = &self.file else {
+            return Ok(());
+        };
+        match file.read_exact_at(there, at) {
+            Ok(()) => Ok(()),
+            Err(error) => Err(place.failed(error)),
         }
     }
 }

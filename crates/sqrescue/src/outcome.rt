@@ -1,7 +1,8 @@
 //! What a recovery did, or why a command was refused.
 ghost use Rattle.std.specs.Prelude.{◌≡◌};
 ghost use Rattle.std.specs.IoError.{error_kind};
-ghost use Rattle.sqrescue.specs.Refusals.{refusal_of, refusal_of_judge, refusal_of_kind, refusal_of_roll, refusal_of_wal};
+ghost use Rattle.sqrescue.specs.Refusals.{refusal_of, refusal_of_judge, refusal_of_kind, refusal_of_roll};
+ghost use Rattle.sqrescue.specs.Refusals.{refusal_of_wal};
 ghost use Rattle.sqrescue.specs.declared.outcome.Refusal.TheVariants.{FileFailed, NoMemory};
 
 use rollcore::RollError;
@@ -74,6 +75,9 @@ pub enum Refusal {
     /// The database has no page of this number.
     #[error("no such page")]
     NoSuchPage,
+    /// The log has no such commit.
+    #[error("no such commit")]
+    NoSuchCommit,
     /// No memory.
     #[error("no memory")]
     NoMemory,
@@ -116,6 +120,7 @@ impl From<ViewError> for Refusal {
             ViewError::Header(_) => Refusal::NotADatabase,
             ViewError::Unread => Refusal::FileFailed,
             ViewError::NoMemory => Refusal::NoMemory,
+            ViewError::NoSuchCommit => Refusal::NoSuchCommit,
         }
     }
 }
@@ -130,6 +135,7 @@ impl From<JudgeError> for Refusal {
             JudgeError::AutoVacuum => Refusal::AutoVacuum,
             JudgeError::Unread => Refusal::FileFailed,
             JudgeError::NoMemory => Refusal::NoMemory,
+            JudgeError::NoSuchCommit => Refusal::NoSuchCommit,
         }
     }
 }

@@ -4,24 +4,38 @@ ghost use Rattle.sqrescue.specs.Paths.{AreApart};
 
 use crate::file_disk::read_or_zeros;
 use crate::hints::told;
-use crate::locks::Identity;
+use crate::locks::{Identity, identity_of};
 use crate::notes::Notes;
 use crate::outcome::Refusal;
+use crate::place::Place;
 use sqjournal::is_magic;
 use std::alloc::Global;
 use std::fs::{Metadata, OpenOptions};
 use std::io::Write;
 use std::os::unix::fs::FileExt;
+use std::path::Path;
 use std::rt::Files;
 use std::{fs, io};
 
 /// The paths of a database file and of the files beside it.
 #[derive(Drop)]
 pub(crate) struct Paths {
-    pub db: String,
-    pub wal: String,
-    pub journal: String,
-    pub shm: String,
+    pub db: Place,
+    pub wal: Place,
+    pub journal: Place,
+    pub shm: Place,
+}
+
+impl Paths {
+    /// The refusal, of which it is told why a file couldn't be read.
+    pub(crate) fn told<E: Write>(&self, notes: &mut Notes<'_, E>, refusal: Refusal) -> Refusal {
+        if refusal == Refusal::FileFailed {
+            self.db.tell(notes);
+            self.wal.tell(notes);
+            self.journal.tell(notes);
+        }
+        refusal
+    }
 }
 
 /// What the system says of a file; of a symbolic link itself. A call that a signal ends is made again.
@@ -52,8 +66,8 @@ fn resolved<R: Files + AllocGlobal>(rt: &R, file: &str) -> io::Result<String> {
     Ok(String::from_str(rt.alloc(), file)?)
 }
 
-/// The paths of a database, whose other files lie beside the file that the links lead to, as for SQLite. Says so where that
-/// file is a log.
+/// The paths of a database, whose other files lie beside the file that the links lead to, as for SQLite. Says so where
+/// that file is a log.
 pub(crate) fn paths_of<R: Files + AllocGlobal, E: Write>(
     rt: &R,
     file: &str,
@@ -76,10 +90,10 @@ where
         notes.say(&"this is a log; name its database");
     }
     Ok(Paths {
-        wal: format!(in alloc; "{db}-wal")?,
-        journal: format!(in alloc; "{db}-journal")?,
-        shm: format!(in alloc; "{db}-shm")?,
-        db,
+        wal: Place::new(format!(in alloc; "{db}-wal")?),
+        journal: Place::new(format!(in alloc; "{db}-journal")?),
+        shm: Place::new(format!(in alloc; "{db}-shm")?),
+        db: Place::new(db),
     })
 }
 
@@ -130,5 +144,27 @@ pub(crate) fn are_apart(db: Identity, wal: Option<Identity>, journal: Option<Ide
         (Some(wal), Some(journal)) => wal != db && journal != db && wal != journal,
         (Some(log), None) | (None, Some(log)) => log != db,
         (None, None) => true,
+    }
+}
+
+/// The folder in which a file lies.
+pub(crate) fn folder_of(path: &str) -> &str {
+    match Path::new(path).parent() {
+        Some(folder) if !folder.as_str().is_empty() => folder.as_str(),
+        _ => ".",
+    }
+}
+
+/// Whether a path names a file that SQLite takes for one of a database's, as it lies in the same folder.
+pub(crate) fn is_log_of<R: Files>(rt: &R, paths: &Paths, path: &str) -> bool {
+    let name = Path::new(path).file_name();
+    let is_named = [&paths.wal, &paths.journal, &paths.shm]
+        .iter()
+        .any(|log| Path::new(log.as_str()).file_name() == name);
+    let here = fs::metadata(rt, folder_of(path));
+    let there = fs::metadata(rt, folder_of(paths.db.as_str()));
+    match (here, there) {
+        (Ok(here), Ok(there)) if is_named => identity_of(&here) == identity_of(&there),
+        _ => false,
     }
 }

@@ -2,11 +2,14 @@
 ghost use Rattle.std.specs.Prelude.{◌≤◌};
 
 use crate::checking::check;
+use crate::copies::recover_to;
 use crate::hints::next_step;
 use crate::notes::Notes;
+use crate::outcome::Refusal;
 use crate::recovery::recover;
-use crate::requests::{LineError, Request};
+use crate::requests::{LineError, Options, Request, Style};
 use crate::showing::{ShowError, show};
+use crate::texts::write_outcome;
 use crate::words::request;
 use std::fmt::Display;
 use std::io::{self, Write};
@@ -26,8 +29,8 @@ const NOT_UNDERSTOOD: u8 = 2;
 const REFUSED: u8 = 3;
 
 /// Carries out a command line, whose first word is the program's name, and answers the program's status: 0 where it is
-/// done (also for help), 1 where `check` found damage, 2 for words that aren't understood, 3 where it was refused or a file
-/// or a writer failed.
+/// done (also for help), 1 where `check` found damage, 2 for words that aren't understood, 3 where it was refused or a
+/// file or a writer failed.
 pub fn run<R: Files + AllocGlobal + Clock, O: Write, E: Write>(
     rt: &R,
     words: &[&str],
@@ -44,7 +47,8 @@ where
         Err(LineError::NotUnderstood(fault)) => return printed(err, &fault, NOT_UNDERSTOOD),
         Err(LineError::NoMemory) => return refused(err, &LineError::NoMemory),
     };
-    let mut notes = Notes::new(err, is_verbose(&request));
+    let options = options_of(&request);
+    let mut notes = Notes::new(err, options.is_some_and(|options| options.verbose));
     let answer = carried_out(rt, request, out, &mut notes);
     if let Err(ShowError::Refused(refusal)) = answer {
         notes.tell(&next_step(refusal));
@@ -55,6 +59,7 @@ where
         Ok(_) if failed => REFUSED,
         Ok(Answer::Done) => DONE,
         Ok(Answer::Damaged) => DAMAGED,
+        Err(ShowError::Refused(refusal)) if is_json(options) => refused_as_object(out, refusal),
         Err(ShowError::Refused(refusal)) => refused(err, &refusal),
         Err(ShowError::Unwritten) => REFUSED,
     }
@@ -67,13 +72,23 @@ enum Answer {
     Damaged,
 }
 
-fn is_verbose(request: &Request<'_>) -> bool {
+fn options_of(request: &Request<'_>) -> Option<Options> {
     match request {
         Request::Show { options, .. }
         | Request::Check { options, .. }
-        | Request::Recover { options, .. } => options.verbose,
-        Request::Version => false,
+        | Request::Recover { options, .. } => Some(*options),
+        Request::Version => None,
     }
+}
+
+fn is_json(options: Option<Options>) -> bool {
+    matches!(
+        options,
+        Some(Options {
+            style: Style::Json,
+            ..
+        })
+    )
 }
 
 fn carried_out<R: Files + AllocGlobal + Clock, O: Write, E: Write>(
@@ -90,19 +105,27 @@ where
             file,
             part,
             options,
-        } => show(rt, file, part, options.super_journal, out, notes)?,
+        } => show(rt, file, part, options, out, notes)?,
         Request::Check { file, options } => {
-            if !check(rt, file, options.super_journal, out, notes)? {
+            if !check(rt, file, options, out, notes)? {
                 return Ok(Answer::Damaged);
             }
         }
         Request::Recover {
             file,
+            to: Some(to),
+            options,
+            ..
+        } => recover_to(rt, file, to, options, out, notes)?,
+        Request::Recover {
+            file,
+            to: None,
             force,
             options,
         } => {
             let outcome = recover(rt, file, force, options.super_journal, notes)?;
-            line(out, &outcome)?;
+            write_outcome(out, options.style, outcome)?;
+            out.flush()?;
         }
         Request::Version => line(out, &VERSION)?,
     }
@@ -140,4 +163,17 @@ fn refused<W: Write, T: Display>(err: &mut W, text: &T) -> u8
 {
     let _ = line(err, &format_args!("sqrescue: {text}"));
     REFUSED
+}
+
+/// A refusal on standard output.
+fn refused_as_object<W: Write>(out: &mut W, refusal: Refusal) -> u8
+    ensures { result ≤ 3 }
+{
+    let _ = write_refusal(out, refusal);
+    REFUSED
+}
+
+fn write_refusal<W: Write>(out: &mut W, refusal: Refusal) -> io::Result<()> {
+    writeln!(out, "{{\"refused\":\"{refusal}\"}}")?;
+    out.flush()
 }

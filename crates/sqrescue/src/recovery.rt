@@ -18,15 +18,15 @@ use sqview::{FileBytes, LogInUse, log_in_use, scan_log};
 use sqwal::{Scan, WalFormatError, WalHeader};
 use std::alloc::Global;
 use std::fs::{Metadata, OpenFile, OpenOptions};
-use std::io::Write;
+use std::io::{self, Write};
 use std::os::unix::fs::FileExt;
 use std::rt::Files;
 use walcore::fold;
 
 /// Recovers a database file from the log that counts beside it: folds FILE-wal into it and empties FILE-wal, or replays
-/// a hot FILE-journal into it and zeroes the journal's header. No file is made, and where no log counts none is written.
-/// Whether another process has it open is asked first, and again before each of the two files is changed; by force it
-/// isn't asked.
+/// a hot FILE-journal into it and zeroes the journal's header. No file is made, and where no log counts none is
+/// written. Whether another process has it open is asked first, and again before each of the two files is changed; by
+/// force it isn't asked.
 pub(crate) fn recover<R: Files + AllocGlobal, E: Write>(
     rt: &R,
     file: &str,
@@ -44,21 +44,37 @@ where
         forced,
     };
     guard.ask()?;
+    match recover_logged(rt, &paths, guard, super_journal, notes) {
+        Ok(outcome) => Ok(outcome),
+        Err(refusal) => Err(paths.told(notes, refusal)),
+    }
+}
+
+/// The same, of the files with these paths.
+fn recover_logged<R: Files + AllocGlobal, G: Guard, E: Write>(
+    rt: &R,
+    paths: &Paths,
+    guard: G,
+    super_journal: Option<SuperJournal>,
+    notes: &mut Notes<'_, E>,
+) -> Result<Outcome, Refusal>
+where
+    R::File: FileExt,
+{
     let Beside {
         db,
         wal,
         mut journal,
-        ..
-    } = open_logs(rt, &paths, super_journal, notes)?;
+    } = open_logs(rt, paths, super_journal, notes)?;
     if notes.are_asked() {
-        tell_database(rt, &paths, db, notes);
+        tell_database(rt, paths, db, notes);
     }
     match log_in_use(&wal, &mut journal)? {
         LogInUse::Neither => Ok(Outcome::Nothing),
-        LogInUse::Wal => fold_log(rt, &paths, wal, guard, notes),
+        LogInUse::Wal => fold_log(rt, paths, wal, guard, notes),
         LogInUse::Journal(_) => {
             let counts = super_journal == Some(SuperJournal::Present);
-            roll_back(rt, &paths, journal.len(), counts, guard, notes)
+            roll_back(rt, paths, journal.len(), counts, guard, notes)
         }
     }
 }
@@ -73,7 +89,7 @@ fn tell_database<R: Files, E: Write>(
 where
     R::File: FileExt,
 {
-    if let Ok(mut db) = opened(rt, paths.db.as_str(), Some(found), 0, notes) {
+    if let Ok(mut db) = opened(rt, &paths.db, Some(found), 0, notes) {
         tell_length(notes, paths.db.as_str(), &mut db);
     }
 }
@@ -93,7 +109,9 @@ where
     let db = open(rt, paths.db.as_str(), notes)?;
     let journal = open(rt, paths.journal.as_str(), notes)?;
     let mut end = [0u8; 8];
-    read_or_zeros(&journal, length.saturating_sub(8), &mut end)?;
+    if let Err(error) = read_or_zeros(&journal, length.saturating_sub(8), &mut end) {
+        return Err(told(notes, paths.journal.as_str(), error));
+    }
     if is_magic(&end) && !counts {
         return Err(Refusal::SuperJournal);
     }
@@ -115,7 +133,7 @@ where
 fn fold_log<R: Files + AllocGlobal, G: Guard, E: Write>(
     rt: &R,
     paths: &Paths,
-    bytes: OpenedFile<R::File>,
+    bytes: OpenedFile<'_, R::File>,
     guard: G,
     notes: &mut Notes<'_, E>,
 ) -> Result<Outcome, Refusal>
@@ -132,7 +150,7 @@ where
     } else {
         None
     };
-    let page_size = page_size_of(alloc, &db, bytes)?;
+    let page_size = page_size_of(alloc, &db, paths.db.as_str(), bytes, notes)?;
     let mut disk = FileDisk::new(db, log, guard);
     let folded = match fold(alloc, &mut disk, page_size) {
         Ok(folded) => folded,
@@ -172,11 +190,14 @@ fn open<R: Files, E: Write>(
     }
 }
 
-/// The page size to fold by: the log header's, or 512 where there is no valid one, since then there is no frame.
-fn page_size_of<F: FileExt + OpenFile + Drop>(
+/// The page size to fold by into a database file with this path: the log header's, or 512 where there is no valid one,
+/// since then there is no frame.
+fn page_size_of<F: FileExt + OpenFile + Drop, E: Write>(
     alloc: Global,
     db: &F,
-    log: OpenedFile<F>,
+    path: &str,
+    log: OpenedFile<'_, F>,
+    notes: &mut Notes<'_, E>,
 ) -> Result<PageSize, Refusal> {
     let mut log = log;
     let mut head = [0u8; 32];
@@ -189,7 +210,11 @@ fn page_size_of<F: FileExt + OpenFile + Drop>(
         Err(WalFormatError::UnknownVersion) => return Err(Refusal::UnknownLogVersion),
         Err(_) => return Ok(smallest()),
     };
-    match database_page_size(db)? {
+    let own = match database_page_size(db) {
+        Ok(own) => own,
+        Err(error) => return Err(told(notes, path, error)),
+    };
+    match own {
         Some(own) if own != page_size && has_front(alloc, &mut log)? => Err(
             Refusal::PageSizesDiffer,
         ),
@@ -204,7 +229,7 @@ fn smallest() -> PageSize
 }
 
 /// The page size that a database file's header names, where its magic and that size are right.
-fn database_page_size<F: FileExt + OpenFile>(db: &F) -> Result<Option<PageSize>, Refusal> {
+fn database_page_size<F: FileExt + OpenFile>(db: &F) -> io::Result<Option<PageSize>> {
     if metadata_of(db)?.len() < 18 {
         return Ok(None);
     }

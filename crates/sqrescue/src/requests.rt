@@ -8,8 +8,10 @@ pub enum Part {
     Header,
     /// The page of this number, from 1.
     Page(u32),
-    /// Its log.
-    Log,
+    /// Its log; all: also what stands behind the log's stop.
+    Log { all: bool },
+    /// The commits in its write-ahead log.
+    Commits,
 }
 
 /// Whether the super-journal that a hot journal names is there.
@@ -21,6 +23,15 @@ pub enum SuperJournal {
     Gone,
 }
 
+/// How what is found is written.
+#[derive(Clone, Copy, Debug, PartialEq, Eq)]
+pub enum Style {
+    /// As lines of words and numbers.
+    Lines,
+    /// As a JSON object a line.
+    Json,
+}
+
 /// What each command may be asked besides.
 #[derive(Clone, Copy, Debug, PartialEq, Eq)]
 pub struct Options {
@@ -28,6 +39,11 @@ pub struct Options {
     pub verbose: bool,
     /// To take the super-journal as there or as gone. None: as nothing is known of it.
     pub super_journal: Option<SuperJournal>,
+    /// To take the database as it was at this commit frame of the write-ahead log, 0 for the file without its log.
+    /// None: as it was at the last one.
+    pub at: Option<u32>,
+    /// How to write what is found.
+    pub style: Style,
 }
 
 /// What a line asks for.
@@ -44,10 +60,11 @@ pub enum Request<'a> {
         file: &'a str,
         options: Options,
     },
-    /// To recover this database file: to fold its write-ahead log into it, or to roll it back by its hot journal; by force:
-    /// even while another process has it open.
+    /// To recover this database file: to fold its write-ahead log into it, or to roll it back by its hot journal; by
+    /// force: even while another process has it open. To another file, which is made: this one isn't written.
     Recover {
         file: &'a str,
+        to: Option<&'a str>,
         force: bool,
         options: Options,
     },

@@ -1,26 +1,30 @@
 //! What `show` prints.
-ghost use Rattle.std.specs.Prelude.{◌≡◌, ◌<◌, ◌≤◌, length, IfOk, OnOk};
+ghost use Rattle.std.specs.Prelude.{◌≡◌, ◌-◌, ◌<◌, ◌≤◌, length, IfOk, IsSome, OnOk};
 ghost use Rattle.sqval.specs.PageSize.{IsPageSize};
 ghost use Rattle.sqpage.specs.Chain.{payload_size};
+ghost use Rattle.sqpage.specs.Header.{byte};
 ghost use Rattle.sqval.specs.Database.{page as page_at};
 ghost use Rattle.sqview.specs.LogView.{IsShown, pages_of};
 ghost use Rattle.sqrescue.specs.declared.outcome.Refusal.TheVariants.{FileFailed, NoMemory};
 ghost use Rattle.sqrescue.specs.declared.showing.ShowError.TheVariants.{Refused, Unwritten};
 
-use crate::logs::{Beside, Contents, open_all, open_noted};
+use crate::facts::{number, write_facts};
+use crate::logs::{Beside, Contents, open_all, open_logs};
 use crate::notes::Notes;
 use crate::outcome::Refusal;
 use crate::paths::{Paths, paths_of};
-use crate::requests::{Part, SuperJournal};
+use crate::payloads::{Payloads, Unfit};
+use crate::requests::{Options, Part, Style};
 use crate::texts::{
-    write_bytes, write_cell, write_column, write_header, write_journal, write_log, write_page,
+    write_bytes, write_cell, write_commits, write_header, write_journal, write_log, write_none,
+    write_page, write_record, write_unfit,
 };
 use crate::watch::{Readings, readings_of, unchanged};
 use sqjournal::JournalError;
 use sqpage::{BtreePage, Cell, DbHeader, Fault, PageSource, SourceError, payload};
 use sqval::Record;
 use sqview::{FileBytes, LogInUse, View, log_in_use, replay_log, scan_log};
-use sqwal::WalFormatError;
+use sqwal::{Scan, WalFormatError};
 use std::alloc::{AllocError, Global};
 use std::io::{self, BufWriter, Write};
 use std::os::unix::fs::FileExt;
@@ -66,17 +70,17 @@ impl From<SourceError> for ShowError {
     }
 }
 
-/// How many bytes of lines are kept back, so that nothing is printed of files that changed: as many as a header and what a
-/// page itself holds come to.
+/// How many bytes of lines are kept back, so that nothing is printed of files that changed: as many as a header and
+/// what a page itself holds come to.
 const KEPT: usize = 1 << 19;
 
-/// Prints a part of a database file as its log has it, or its log. No file is opened for writing, and none is made. Refused
-/// by `FileChanged` where a file changed meanwhile; lines may have been printed then.
+/// Prints a part of a database file as its log has it, or its log. No file is opened for writing, and none is made.
+/// Refused by `FileChanged` where a file changed meanwhile; lines may have been printed then.
 pub(crate) fn show<R: Files + AllocGlobal, O: Write, E: Write>(
     rt: &R,
     file: &str,
     part: Part,
-    super_journal: Option<SuperJournal>,
+    options: Options,
     out: &mut O,
     notes: &mut Notes<'_, E>,
 ) -> Result<(), ShowError>
@@ -87,12 +91,12 @@ where
         return Err(ShowError::Refused(Refusal::NoMemory));
     };
     let paths = paths_of(rt, file, notes)?;
-    let only_logs = part == Part::Log;
+    let only_logs = matches!(part, Part::Log { .. } | Part::Commits);
     let before = readings_of(rt, &paths, only_logs, notes)?;
     if only_logs {
         tell_length(&paths, &before, notes);
     }
-    let answer = show_part(rt, &paths, part, super_journal, &mut lines, notes);
+    let answer = show_part(rt, &paths, part, options, &mut lines, notes);
     let same = match readings_of(rt, &paths, only_logs, notes) {
         Ok(after) => unchanged(&before, &after, Ok(())),
         Err(refusal) => Err(refusal),
@@ -100,6 +104,9 @@ where
     if let Err(refusal) = same {
         let (_, _) = lines.into_parts();
         return Err(ShowError::Refused(refusal));
+    }
+    if let Err(ShowError::Refused(refusal)) = answer {
+        return Err(ShowError::Refused(paths.told(notes, refusal)));
     }
     answer?;
     lines.flush()?;
@@ -118,25 +125,37 @@ fn show_part<R: Files + AllocGlobal, W: Write, E: Write>(
     rt: &R,
     paths: &Paths,
     part: Part,
-    super_journal: Option<SuperJournal>,
+    options: Options,
     out: &mut W,
     notes: &mut Notes<'_, E>,
 ) -> Result<(), ShowError>
 where
     R::File: FileExt,
 {
+    let Options {
+        super_journal,
+        style,
+        ..
+    } = options;
     match part {
-        Part::Header => show_header(rt, open_all(rt, paths, super_journal, notes)?, out),
+        Part::Header => show_header(rt, open_all(rt, paths, super_journal, notes)?, style, out),
         Part::Page(number) => {
-            show_page(rt, open_all(rt, paths, super_journal, notes)?, number, out)
+            let files = open_all(rt, paths, super_journal, notes)?;
+            show_page(rt, files, number, style, out)
         }
-        Part::Log => show_log(rt, open_noted(rt, paths, super_journal, notes)?, out),
+        Part::Log { .. } => {
+            show_log(rt, open_logs(rt, paths, super_journal, notes)?, style, out)
+        }
+        Part::Commits => {
+            show_commits(rt, open_logs(rt, paths, super_journal, notes)?, style, out)
+        }
     }
 }
 
 fn show_header<R: Files + AllocGlobal, W: Write>(
     rt: &R,
-    files: Contents<R::File>,
+    files: Contents<'_, R::File>,
+    style: Style,
     out: &mut W,
 ) -> Result<(), ShowError>
 where
@@ -155,7 +174,7 @@ where
     let Ok(header) = DbHeader::read(head) else {
         return Err(ShowError::Refused(Refusal::NotADatabase));
     };
-    write_header(out, &header, view.count())?;
+    write_header(out, style, &header, view.count())?;
     Ok(())
 }
 
@@ -180,7 +199,8 @@ fn page_of<F: FileBytes>(
     number: u32,
 ) -> Result<Vec<u8>, ShowError>
     ensures page { IfOk result (λ page. (length page.items ≡ view.old.page_size) × IsPageSize (length page.items)) }
-    ensures content { F.gives_bytes view.old.db × F.gives_bytes view.old.log → IfOk result (λ page. page.items ≡ page_at (pages_of F.bytes view.old) number) }
+    ensures content { F.gives_bytes view.old.db × F.gives_bytes view.old.log
+        → IfOk result (λ page. page.items ≡ page_at (pages_of F.bytes view.old) number) }
     ensures number { OnOk result (0 < number) }
     ensures size { view.new.page_size ≡ view.old.page_size }
 {
@@ -198,6 +218,8 @@ fn usable_size(first: &[u8]) -> u32
     requires { IsPageSize (length first.now) }
     ensures least { 480 ≤ result }
     ensures most { result ≤ length first.now }
+    ensures named { 480 ≤ length first.now - byte first.now 20 → result ≡ length first.now - byte first.now 20 }
+    ensures all { length first.now - byte first.now 20 < 480 → result ≡ length first.now }
 {
     let size = first.len() as u32;
     let usable = size - u32::from(first[20]);
@@ -206,8 +228,9 @@ fn usable_size(first: &[u8]) -> u32
 
 fn show_page<R: Files + AllocGlobal, W: Write>(
     rt: &R,
-    files: Contents<R::File>,
+    files: Contents<'_, R::File>,
     number: u32,
+    style: Style,
     out: &mut W,
 ) -> Result<(), ShowError>
 where
@@ -220,8 +243,8 @@ where
     let usable = usable_size(&first);
     let page = page_of(alloc, &mut view, number)?;
     match BtreePage::new(&page, number, usable) {
-        Ok(btree) => show_cells(alloc, &mut view, number, &btree, out),
-        Err(_) => Ok(write_bytes(out, &page)?),
+        Ok(btree) => show_cells(alloc, &mut view, &btree, number, style, out),
+        Err(_) => Ok(write_bytes(out, style, &page)?),
     }
 }
 
@@ -229,65 +252,77 @@ where
 fn show_cells<F: FileBytes, W: Write>(
     alloc: Global,
     view: &mut View<F>,
-    number: u32,
     page: &BtreePage<'_>,
+    page_number: u32,
+    style: Style,
     out: &mut W,
 ) -> Result<(), ShowError>
     requires { length page.now.used ≤ view.old.page_size }
 {
-    write_page(out, number, page)?;
+    write_page(out, style, page_number, page)?;
+    let mut payloads = Payloads::none(alloc, view.page_size())?;
     for i in 0..page.len() {
         let cell = page.cell(i);
-        write_cell(out, i, &cell)?;
-        show_payload(alloc, view, &cell, out)?;
+        write_cell(out, style, i, &cell)?;
+        if cell.payload.is_some() {
+            show_payload(alloc, view, &cell, &mut payloads, style, out)?;
+        }
     }
     if let Some(right) = page.right() {
-        writeln!(out, "right {right}")?;
+        write_facts(out, style, &[number("right", right)])?;
     }
     Ok(())
 }
 
-/// Prints the columns of a cell's record, where it has a payload, or what refuses the payload or the record.
+/// Prints the columns of the record in a cell's payload, or what refuses the payload or the record. Where that is known
+/// of the cell's place the payload isn't read.
 fn show_payload<F: FileBytes, W: Write>(
     alloc: Global,
     view: &mut View<F>,
     cell: &Cell<'_>,
+    payloads: &mut Payloads,
+    style: Style,
     out: &mut W,
 ) -> Result<(), ShowError>
+    requires payload { IsSome cell.now.payload }
     requires least { 480 ≤ cell.now.usable }
     requires most { cell.now.usable ≤ view.old.page_size }
     requires part { length cell.now.local.now ≤ payload_size cell.now }
     ensures { view.new.page_size ≡ view.old.page_size }
 {
-    if cell.payload.is_none() {
-        return Ok(());
+    if let Some(unfit) = payloads.known(cell.at) {
+        return Ok(write_unfit(out, style, unfit)?);
     }
-    let mut bytes = Vec::new(alloc);
-    match payload(alloc, view, cell, &mut bytes) {
-        Ok(()) => show_record(&bytes, out),
-        Err(error) => match error.fault {
-            Fault::Source => Err(ShowError::Refused(Refusal::FileFailed)),
-            Fault::NoMemory => Err(ShowError::Refused(Refusal::NoMemory)),
-            fault => Ok(writeln!(out, "  payload refused {}", fault.number())?),
+    payloads.bytes.clear();
+    let unfit = match payload(alloc, view, cell, &mut payloads.bytes) {
+        Ok(()) => match Record::new(&payloads.bytes) {
+            Ok(record) => return Ok(write_record(out, style, &record)?),
+            Err(error) => Unfit::Record(error),
         },
-    }
+        Err(error) => match error.fault {
+            Fault::Source => return Err(ShowError::Refused(Refusal::FileFailed)),
+            Fault::NoMemory => return Err(ShowError::Refused(Refusal::NoMemory)),
+            fault => Unfit::Payload(fault),
+        },
+    };
+    payloads.keep(cell.at, unfit);
+    Ok(write_unfit(out, style, unfit)?)
 }
 
-fn show_record<W: Write>(bytes: &[u8], out: &mut W) -> Result<(), ShowError> {
-    match Record::new(bytes) {
-        Ok(record) => {
-            for value in record.columns() {
-                write_column(out, &value)?;
-            }
-        }
-        Err(error) => writeln!(out, "  record refused {}", error.number())?,
+/// The scan of a log, or the number of what refuses its header.
+fn scanned<F: FileBytes>(alloc: Global, wal: &mut F) -> Result<Result<Scan, u8>, Refusal> {
+    match scan_log(alloc, wal)? {
+        Ok(scan) => Ok(Ok(scan)),
+        Err(WalFormatError::TooLong) => Err(Refusal::TooLarge),
+        Err(WalFormatError::NoMemory) => Err(Refusal::NoMemory),
+        Err(error) => Ok(Err(error.number())),
     }
-    Ok(())
 }
 
 fn show_log<R: Files + AllocGlobal, W: Write>(
     rt: &R,
-    logs: Beside<R::File>,
+    logs: Beside<'_, R::File>,
+    style: Style,
     out: &mut W,
 ) -> Result<(), ShowError>
 where
@@ -298,19 +333,45 @@ where
     let mut wal = wal;
     let mut journal = journal;
     match log_in_use(&wal, &mut journal).map_err(Refusal::from)? {
-        LogInUse::Neither => writeln!(out, "no log")?,
-        LogInUse::Wal => match scan_log(alloc, &mut wal)? {
-            Ok(scan) => write_log(out, &scan)?,
-            Err(WalFormatError::TooLong) => return Err(ShowError::Refused(Refusal::TooLarge)),
-            Err(WalFormatError::NoMemory) => return Err(ShowError::Refused(Refusal::NoMemory)),
-            Err(error) => writeln!(out, "wal refused {}", error.number())?,
+        LogInUse::Neither => write_none(out, style, "log")?,
+        LogInUse::Wal => match scanned(alloc, &mut wal)? {
+            Ok(scan) => write_log(out, style, &scan)?,
+            Err(reason) => write_facts(out, style, &[number("wal refused", reason)])?,
         },
         LogInUse::Journal(_) => match replay_log(alloc, &mut journal)? {
-            Ok(replay) => write_journal(out, &replay)?,
+            Ok(replay) => write_journal(out, style, &replay)?,
             Err(JournalError::TooLong) => return Err(ShowError::Refused(Refusal::TooLarge)),
             Err(JournalError::NoMemory) => return Err(ShowError::Refused(Refusal::NoMemory)),
             Err(_) => return Err(ShowError::Refused(Refusal::FileFailed)),
         },
+    }
+    Ok(())
+}
+
+/// The frames that end a commit.
+fn commits_of(alloc: Global, scan: &Scan) -> Result<Vec<u32>, Refusal> {
+    scan.commits(alloc).map_err(|_| Refusal::NoMemory)
+}
+
+fn show_commits<R: Files + AllocGlobal, W: Write>(
+    rt: &R,
+    logs: Beside<'_, R::File>,
+    style: Style,
+    out: &mut W,
+) -> Result<(), ShowError>
+where
+    R::File: FileExt,
+{
+    let alloc = rt.alloc();
+    let Beside { wal, journal, .. } = logs;
+    let mut wal = wal;
+    let mut journal = journal;
+    match log_in_use(&wal, &mut journal).map_err(Refusal::from)? {
+        LogInUse::Wal => match scanned(alloc, &mut wal)? {
+            Ok(scan) => write_commits(out, style, &scan, &commits_of(alloc, &scan)?)?,
+            Err(reason) => write_facts(out, style, &[number("wal refused", reason)])?,
+        },
+        LogInUse::Neither | LogInUse::Journal(_) => write_none(out, style, "commits")?,
     }
     Ok(())
 }

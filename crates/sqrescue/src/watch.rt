@@ -27,8 +27,8 @@ pub struct Reading {
     /// When it was last changed, in seconds since 1970, and the nanoseconds behind them.
     pub seconds: i64,
     pub nanoseconds: i64,
-    /// Of a database file the 16 bytes from 24 on, which have the change counter, and zeros; of a log its first 32 bytes;
-    /// none where they can't be read and needn't be.
+    /// Of a database file the 16 bytes from 24 on, which have the change counter, and zeros; of a log its first 32
+    /// bytes; none where they can't be read and needn't be.
     pub front: Option<[u8; 32]>,
 }
 

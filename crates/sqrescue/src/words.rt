@@ -1,10 +1,14 @@
 //! The words of a command line.
-ghost use Rattle.std.specs.Prelude.{◌≡◌, ◌≢◌, ◌<◌, ◌≤◌, ◌++◌, ℕ, false, List, map, length, slice_get, codes, IfOk, IfSome, IsTrue, MatchOption};
+ghost use Rattle.std.specs.Prelude.{◌≡◌, ◌≢◌, ◌⊎◌, ◌<◌, ◌≤◌, ◌++◌, ℕ, false, List, map, length, slice_get, codes, IfOk};
+ghost use Rattle.std.specs.Prelude.{IfSome, IsTrue, MatchOption};
 ghost use Rattle.std.specs.List.{Contains};
-ghost use Rattle.sqrescue.specs.Line.{AreKnown, AreOptions, Asks, AsksBesides, AsksBoth, AsksNoPart, AsksNothing, AsksPart, AsksVersion, HasPageText, IsFile, IsKnown, IsPageNumber, IsPlain, StandsFree};
+ghost use Rattle.sqrescue.specs.Line.{AreKnown, AreOptions, Asks, AsksAt, AsksBesides, AsksBoth, AsksNoPart};
+ghost use Rattle.sqrescue.specs.Line.{AsksNoneBesides, AsksNothing, AsksOf, AsksPart, AsksStyle, AsksVersion};
+ghost use Rattle.sqrescue.specs.Line.{HasNoText, HasText, IsCommon, IsFile, IsFrameNumber, IsKnown, IsNamed};
+ghost use Rattle.sqrescue.specs.Line.{IsPageNumber, IsPlain, MayBeAt, NamesNoFrame, NamesOfLog, StandsFree, TakesValue};
 
 use crate::commands::command;
-use crate::requests::{LineError, Options, Part, Request, SuperJournal};
+use crate::requests::{LineError, Options, Part, Request, Style, SuperJournal};
 use clap::error::ErrorKind;
 use clap::{ArgMatches, Command};
 use std::alloc::Global;
@@ -24,7 +28,8 @@ fn stands_in(words: &[&str], text: &str) -> bool
 
 /// What stands behind the `-` with which a word begins.
 fn behind_dash<'a>(word: &'a str) -> Option<&'a str>
-    ensures { MatchOption result ((rest : List ℕ) → word.entry.now ≢ codes "-" ++ rest) (λ rest. word.entry.now ≡ codes "-" ++ rest.now) }
+    ensures { MatchOption result ((rest : List ℕ) → word.entry.now ≢ codes "-" ++ rest)
+        (λ rest. word.entry.now ≡ codes "-" ++ rest.now) }
 {
     word.strip_prefix("-")
 }
@@ -40,17 +45,42 @@ fn is_plain(word: &str) -> bool
     }
 }
 
+/// What stands behind this name and a `=` in a word.
+fn joined_text<'a>(word: &'a str, name: &str) -> Option<&'a str>
+    ensures { MatchOption result ((text : List ℕ) → word.entry.now ≢ name.now ++ (codes "=" ++ text))
+        (λ text. word.entry.now ≡ name.now ++ (codes "=" ++ text.now)) }
+{
+    let rest = word.strip_prefix(name)?;
+    rest.strip_prefix("=")
+}
+
+/// Whether a word names an option with a value.
+fn is_named(word: &str, name: &str) -> bool
+    ensures yes { IsTrue result → IsNamed name.now word.now }
+    ensures not { result ≡ false → ¬ IsNamed name.now word.now }
+{
+    word == name || joined_text(word, name).is_some()
+}
+
+/// Whether a word is an option that each command has.
+fn is_common(word: &str) -> bool
+    ensures yes { IsTrue result → IsCommon word.now }
+    ensures not { result ≡ false → ¬ IsCommon word.now }
+{
+    word == "-v"
+        || word == "--verbose"
+        || word == "--json"
+        || word == "--super-journal=present"
+        || word == "--super-journal=gone"
+        || is_named(word, "--at")
+}
+
 /// Whether a word behind `check`, or behind `recover`, is no option, or one that the command has.
 fn is_known(word: &str, recovers: bool) -> bool
     ensures yes { IsTrue result → IsKnown recovers word.now }
     ensures not { result ≡ false → ¬ IsKnown recovers word.now }
 {
-    is_plain(word)
-        || word == "-v"
-        || word == "--verbose"
-        || word == "--super-journal=present"
-        || word == "--super-journal=gone"
-        || (recovers && word == "--force")
+    is_plain(word) || is_common(word) || (recovers && (word == "--force" || is_named(word, "--to")))
 }
 
 /// Whether each word behind `check`, or behind `recover`, is no option, or one that the command has.
@@ -66,21 +96,32 @@ fn are_known(words: &[&str], recovers: bool) -> bool
     true
 }
 
+/// Whether a value stands behind a word.
+fn takes_value(word: &str) -> bool
+    ensures yes { IsTrue result → TakesValue word.now }
+    ensures not { result ≡ false → ¬ TakesValue word.now }
+{
+    word == "--page" || word == "--to" || word == "--at"
+}
+
 /// Whether a word behind the command stands for itself.
 fn stands_free(words: &[&str], i: usize) -> bool
     requires behind { 2 ≤ i }
     requires within { i < length words.now }
-    ensures yes { IsTrue result → (word : List ℕ) → slice_get (map (λ w. w.now) words.entry.now) i ≡ Some word → StandsFree (map (λ w. w.now) words.entry.now) i word }
+    ensures yes { IsTrue result → (word : List ℕ) → slice_get (map (λ w. w.now) words.entry.now) i ≡ Some word
+        → StandsFree (map (λ w. w.now) words.entry.now) i word }
     ensures not { result ≡ false → (word : List ℕ) → ¬ StandsFree (map (λ w. w.now) words.entry.now) i word }
 {
-    stands_in(&words[2..i], "--") || (is_plain(words[i]) && words[i - 1] != "--page")
+    stands_in(&words[2..i], "--") || (is_plain(words[i]) && !takes_value(words[i - 1]))
 }
 
 /// Whether no word from a place on stands for itself.
 fn none_free(words: &[&str], from: usize) -> bool
     requires { 2 ≤ from }
-    ensures yes { IsTrue result → (i : ℕ) (word : List ℕ) → from ≤ i → ¬ StandsFree (map (λ w. w.now) words.entry.now) i word }
-    ensures not { result ≡ false → (i : ℕ) × (word : List ℕ) × (from ≤ i) × StandsFree (map (λ w. w.now) words.entry.now) i word }
+    ensures yes { IsTrue result → (i : ℕ) (word : List ℕ) → from ≤ i
+        → ¬ StandsFree (map (λ w. w.now) words.entry.now) i word }
+    ensures not { result ≡ false → (i : ℕ) × (word : List ℕ) × (from ≤ i)
+        × StandsFree (map (λ w. w.now) words.entry.now) i word }
 {
     for i in from..words.len() {
         if stands_free(words, i) {
@@ -107,7 +148,8 @@ fn names_file(words: &[&str], file: &str) -> bool
 fn is_asked(words: &[&str], command: &str, file: &str) -> bool
     ensures second { IsTrue result → slice_get (map (λ w. w.now) words.entry.now) 1 ≡ Some command.now }
     ensures file { IsTrue result → IsFile (map (λ w. w.now) words.entry.now) file.now }
-    ensures not { result ≡ false → slice_get (map (λ w. w.now) words.entry.now) 1 ≡ Some command.now → ¬ IsFile (map (λ w. w.now) words.entry.now) file.now }
+    ensures not { result ≡ false → slice_get (map (λ w. w.now) words.entry.now) 1 ≡ Some command.now
+        → ¬ IsFile (map (λ w. w.now) words.entry.now) file.now }
 {
     if words.len() < 2 {
         return false;
@@ -128,22 +170,16 @@ fn options_of<'a>(words: &'a [&'a str]) -> &'a [&'a str]
     &words[from..]
 }
 
-/// What stands behind `--page=` in a word.
-fn page_value<'a>(word: &'a str) -> Option<&'a str>
-    ensures { MatchOption result ((text : List ℕ) → word.entry.now ≢ codes "--page=" ++ text) (λ text. word.entry.now ≡ codes "--page=" ++ text.now) }
-{
-    word.strip_prefix("--page=")
-}
-
-/// The text of the page's number.
-fn page_text<'a>(options: &'a [&'a str]) -> Option<&'a str>
-    ensures { MatchOption result ((text : List ℕ) → ¬ HasPageText (map (λ w. w.now) options.entry.now) text) (λ text. HasPageText (map (λ w. w.now) options.entry.now) text.now) }
+/// The text that the option of this name gives.
+fn text_of<'a>(options: &'a [&'a str], name: &str) -> Option<&'a str>
+    ensures { MatchOption result (HasNoText name.now (map (λ w. w.now) options.entry.now))
+        (λ text. HasText name.now (map (λ w. w.now) options.entry.now) text.now) }
 {
     for i in 0..options.len() {
-        if options[i] == "--page" && i + 1 < options.len() {
+        if options[i] == name && i + 1 < options.len() {
             return Some(options[i + 1]);
         }
-        if let Some(text) = page_value(options[i]) {
+        if let Some(text) = joined_text(options[i], name) {
             return Some(text);
         }
     }
@@ -160,45 +196,121 @@ fn page_number(text: &str) -> Option<u32>
     }
 }
 
-/// The part that the options ask for. None where its number is none, or where a page and the log are asked for.
+/// The number of a commit's frame, or 0. None where the text is none.
+fn frame_number(text: &str) -> Option<u32>
+    ensures { MatchOption result ((n : ℕ) → ¬ IsFrameNumber text.now n) (IsFrameNumber text.now) }
+{
+    text.parse::<u32>().ok()
+}
+
+/// The part that the options ask for. None where its number is none, or where they ask for more than one.
 fn part_of(options: &[&str]) -> Option<Part>
-    ensures { MatchOption result (AsksNoPart (map (λ w. w.now) options.entry.now)) (AsksPart (map (λ w. w.now) options.entry.now)) }
+    ensures { MatchOption result (AsksNoPart (map (λ w. w.now) options.entry.now))
+        (AsksPart (map (λ w. w.now) options.entry.now)) }
 {
     let log = stands_in(options, "--log");
-    match page_text(options) {
-        Some(text) => {
-            let number = page_number(text)?;
-            if log {
-                return None;
-            }
-            Some(Part::Page(number))
+    let commits = stands_in(options, "--commits");
+    let all = stands_in(options, "--all");
+    if (log && commits) || (all && !log) {
+        return None;
+    }
+    if let Some(text) = text_of(options, "--page") {
+        let number = page_number(text)?;
+        if log || commits {
+            return None;
         }
-        None => Some(if log { Part::Log } else { Part::Header }),
+        return Some(Part::Page(number));
+    }
+    if log {
+        return Some(Part::Log { all });
+    }
+    Some(if commits { Part::Commits } else { Part::Header })
+}
+
+/// Whether a part is none of the whole log, or no commit is named for it.
+fn may_be_at(part: Part, at: Option<u32>) -> bool
+    ensures yes { IsTrue result → MayBeAt part at }
+    ensures not { result ≡ false → (¬ MayBeAt part at) }
+{
+    match part {
+        Part::Header | Part::Page(_) => true,
+        Part::Log { .. } | Part::Commits => at.is_none(),
     }
 }
 
-/// What the options ask besides. None where they say both of the super-journal.
-fn besides(options: &[&str]) -> Option<Options>
-    ensures { MatchOption result (AsksBoth (map (λ w. w.now) options.entry.now)) (AsksBesides (map (λ w. w.now) options.entry.now)) }
+/// What they say of the super-journal. None where they say both.
+fn super_journal_of(options: &[&str]) -> Option<Option<SuperJournal>>
+    ensures { MatchOption result (AsksBoth (map (λ w. w.now) options.entry.now))
+        (AsksOf (map (λ w. w.now) options.entry.now)) }
 {
-    let verbose = stands_in(options, "-v") || stands_in(options, "--verbose");
     let present = stands_in(options, "--super-journal=present");
     let gone = stands_in(options, "--super-journal=gone");
-    let super_journal = match (present, gone) {
-        (true, true) => return None,
-        (true, false) => Some(SuperJournal::Present),
-        (false, true) => Some(SuperJournal::Gone),
-        (false, false) => None,
-    };
+    match (present, gone) {
+        (true, true) => None,
+        (true, false) => Some(Some(SuperJournal::Present)),
+        (false, true) => Some(Some(SuperJournal::Gone)),
+        (false, false) => Some(None),
+    }
+}
+
+/// The commit that they name. None where what they name is no frame.
+fn commit_of(options: &[&str]) -> Option<Option<u32>>
+    ensures { MatchOption result (NamesNoFrame (map (λ w. w.now) options.entry.now))
+        (AsksAt (map (λ w. w.now) options.entry.now)) }
+{
+    match text_of(options, "--at") {
+        Some(text) => Some(Some(frame_number(text)?)),
+        None => Some(None),
+    }
+}
+
+/// How they ask for what is found.
+fn style_of(options: &[&str]) -> Style
+    ensures { AsksStyle (map (λ w. w.now) options.entry.now) result }
+{
+    if stands_in(options, "--json") {
+        Style::Json
+    } else {
+        Style::Lines
+    }
+}
+
+/// What the options ask besides. None where they say both of the super-journal, or name no frame for a commit.
+fn besides(options: &[&str]) -> Option<Options>
+    ensures { MatchOption result (AsksNoneBesides (map (λ w. w.now) options.entry.now))
+        (AsksBesides (map (λ w. w.now) options.entry.now)) }
+{
+    let verbose = stands_in(options, "-v") || stands_in(options, "--verbose");
+    let super_journal = super_journal_of(options)?;
+    let at = commit_of(options)?;
+    let style = style_of(options);
     Some(Options {
         verbose,
         super_journal,
+        at,
+        style,
     })
+}
+
+/// The part that they ask for at this commit, if they name one. None where they ask for none, or it can't be shown
+/// there.
+fn part_at(options: &[&str], at: Option<u32>) -> Option<Part>
+    ensures { MatchOption result
+        (AsksNoPart (map (λ w. w.now) options.entry.now) ⊎ NamesOfLog (map (λ w. w.now) options.entry.now) at)
+        (λ part. AsksPart (map (λ w. w.now) options.entry.now) part × MayBeAt part at) }
+{
+    let part = part_of(options)?;
+    if may_be_at(part, at) {
+        Some(part)
+    } else {
+        None
+    }
 }
 
 /// What the words ask for where the command is this one and the file that one; None where they don't say so.
 fn asked<'a>(words: &'a [&'a str], command: &str, file: &'a str) -> Option<Request<'a>>
-    ensures { MatchOption result (AsksNothing (map (λ w. w.now) words.entry.now) command.now file.entry.now) (Asks (map (λ w. w.now) words.entry.now)) }
+    ensures { MatchOption result (AsksNothing (map (λ w. w.now) words.entry.now) command.now file.entry.now)
+        (Asks (map (λ w. w.now) words.entry.now)) }
 {
     if !is_asked(words, command, file) {
         return None;
@@ -206,7 +318,7 @@ fn asked<'a>(words: &'a [&'a str], command: &str, file: &'a str) -> Option<Reque
     let given = options_of(words);
     let options = besides(given)?;
     if command == "show" {
-        let part = part_of(given)?;
+        let part = part_at(given, options.at)?;
         return Some(Request::Show {
             file,
             part,
@@ -216,15 +328,20 @@ fn asked<'a>(words: &'a [&'a str], command: &str, file: &'a str) -> Option<Reque
     if command == "check" && are_known(given, false) {
         return Some(Request::Check { file, options });
     }
-    if command == "recover" && are_known(given, true) {
-        let force = stands_in(given, "--force");
-        return Some(Request::Recover {
-            file,
-            force,
-            options,
-        });
+    if command != "recover" || !are_known(given, true) {
+        return None;
     }
-    None
+    let to = text_of(given, "--to");
+    if to.is_none() && options.at.is_some() {
+        return None;
+    }
+    let force = stands_in(given, "--force");
+    Some(Request::Recover {
+        file,
+        to,
+        force,
+        options,
+    })
 }
 
 /// Whether the first word behind the program's name asks for the version.

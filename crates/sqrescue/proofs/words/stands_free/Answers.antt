@@ -1,5 +1,5 @@
 use Rattle.std.proofs.Common.{refl}
-use Rattle.sqrescue.proofs.Lines.{agree, differ, free_behind, free_plain, option_not_free, value_not_free}
+use Rattle.sqrescue.proofs.Lines.{free_behind, free_plain, not_false, not_true, option_not_free, value_not_free}
 use Rattle.sqrescue.proofs.words.stands_free.Goals as goal
 
 pub returns-then-stands_in-clause-yes : goal.returns-then-stands_in-clause-yes
@@ -7,11 +7,11 @@ returns-then-stands_in-clause-yes c = λ _. free_behind c.args.words.now c.args.
 
 pub returns-then-is_plain-clause-yes : goal.returns-then-is_plain-clause-yes
 returns-then-is_plain-clause-yes c = λ t. free_plain c.args.words.now c.args.i c.requires.behind c.requires.within _ _
-    (c.if-is_plain.ensures.yes refl) (differ _ _ _ c.ne.ensures t)
+    (c.if-is_plain.ensures.yes refl) (c.takes_value.ensures.not (not_true _ t))
 
 pub returns-then-is_plain-clause-not : goal.returns-then-is_plain-clause-not
 returns-then-is_plain-clause-not c = λ f. value_not_free c.args.words.now c.args.i c.requires.behind c.requires.within _
-    (c.if-stands_in.ensures.not refl) (agree _ _ _ c.ne.ensures f)
+    (c.if-stands_in.ensures.not refl) (c.takes_value.ensures.yes (not_false _ f))
 
 pub returns-else-is_plain-clause-not : goal.returns-else-is_plain-clause-not
 returns-else-is_plain-clause-not c = λ _. option_not_free c.args.words.now c.args.i c.requires.behind c.requires.within _

@@ -1,0 +1,42 @@
+//! The path of a file, and why it couldn't be read.
+use crate::notes::Notes;
+use sqpage::SourceError;
+use std::cell::RefCell;
+use std::io::{self, Write};
+
+/// The path of a file, and what the system said where a read of it failed last.
+#[derive(Drop)]
+pub(crate) struct Place {
+    path: String,
+    failure: RefCell<Option<io::Error>>,
+}
+
+impl Place {
+    pub(crate) fn new(path: String) -> Place {
+        Place {
+            path,
+            failure: RefCell::new(None),
+        }
+    }
+
+    pub(crate) fn as_str(&self) -> &str {
+        self.path.as_str()
+    }
+
+    /// Keeps why a read of the file failed.
+    pub(crate) fn failed(&self, error: io::Error) -> SourceError {
+        let _ = self.failure.try_replace(Some(error));
+        SourceError
+    }
+
+    /// Says why a read of the file failed, if one did.
+    pub(crate) fn tell<E: Write>(&self, notes: &mut Notes<'_, E>) {
+        let Ok(failure) = self.failure.try_borrow() else {
+            return;
+        };
+        if let Some(error) = &*failure {
+            let path = self.path.as_str();
+            notes.tell(&format_args!("{path}: {error}"));
+        }
+    }
+}

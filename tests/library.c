@@ -1,0 +1,576 @@
+/* Calls the C library over databases with their logs, as include/sqrescue.h has it.
+
+   library answers LIST OUT   for each line of LIST, the path of a database, writes what the calls answer to OUT: a line
+                              'PATH', one of the view, and those that sqrescue's check and show --log print; the pages
+                              are those of the file PATH.pages, where it is there
+   library memory LIST        refuses each allocation of each call in turn
+   library threads A B        a view each on two threads, again and again
+   library none               NULL and length 0
+
+   What no line shows is checked here: the last line is 'N passed, M failed'. The calls that ask for memory are wrapped
+   by the linker (--wrap=malloc and so on). */
+#define _DEFAULT_SOURCE
+#include "sqrescue.h"
+
+#include <inttypes.h>
+#include <pthread.h>
+#include <stdio.h>
+#include <stdlib.h>
+#include <string.h>
+
+void *__real_malloc(size_t size);
+void *__real_realloc(void *old, size_t size);
+void __real_free(void *block);
+
+/* Of the library's allocations, counted while a call runs: the number of the one that is refused, 0 for none. */
+static size_t asked, refused, held;
+static int is_counting;
+static int passed, failed;
+
+static int is_refused(void) {
+    return is_counting && ++asked == refused;
+}
+
+void *__wrap_malloc(size_t size) {
+    if (is_refused()) return NULL;
+    void *block = __real_malloc(size);
+    if (is_counting && block) held++;
+    return block;
+}
+
+void *__wrap_realloc(void *old, size_t size) {
+    if (is_refused()) return NULL;
+    void *block = __real_realloc(old, size);
+    if (is_counting && block && !old) held++;
+    return block;
+}
+
+void __wrap_free(void *block) {
+    if (is_counting && block) held--;
+    __real_free(block);
+}
+
+static const char *at_hand = "";
+
+static void check(int is_right, const char *what) {
+    if (is_right) {
+        passed++;
+        return;
+    }
+    failed++;
+    printf("failed: %s: %s\n", at_hand, what);
+}
+
+/* The bytes of a file in a block of just that length, so that a read behind it is seen; none of one that is missing. */
+static uint8_t *bytes_of(const char *path, const char *end, size_t *len) {
+    char name[4096];
+    snprintf(name, sizeof name, "%s%s", path, end);
+    FILE *file = fopen(name, "rb");
+    *len = 0;
+    if (!file) return NULL;
+    fseek(file, 0, SEEK_END);
+    *len = (size_t)ftell(file);
+    rewind(file);
+    uint8_t *bytes = *len ? malloc(*len) : NULL;
+    if (*len && fread(bytes, 1, *len, file) != *len) exit(2);
+    fclose(file);
+    return bytes;
+}
+
+static struct sqr_files files_of(const char *path) {
+    size_t db_len, wal_len, journal_len;
+    const uint8_t *db = bytes_of(path, "", &db_len);
+    const uint8_t *wal = bytes_of(path, "-wal", &wal_len), *journal = bytes_of(path, "-journal", &journal_len);
+    struct sqr_files files = SQR_FILES(db, db_len, wal, wal_len, journal, journal_len);
+    return files;
+}
+
+static void give_back(struct sqr_files *files) {
+    if (files->db_len) free((void *)(uintptr_t)files->db);
+    if (files->wal_len) free((void *)(uintptr_t)files->wal);
+    if (files->journal_len) free((void *)(uintptr_t)files->journal);
+}
+
+/* Whether the pages of a view are those of a database file, of which what is missing are zeros. */
+static int are_pages(const struct sqr_view *view, uint8_t *page, const uint8_t *file, size_t len) {
+    int differ = 0;
+    for (uint32_t number = 1; number <= view->pages; number++) {
+        size_t size = view->page_size, at = (number - 1) * size;
+        size_t there = at >= len ? 0 : len - at < size ? len - at : size;
+        memset(page, 0xa5, size);
+        differ |= sqr_page(view, number, page, size) != SQR_OK;
+        if (there) differ |= memcmp(page, file + at, there);
+        for (size_t i = there; i < size; i++) differ |= page[i];
+    }
+    return !differ;
+}
+
+/* Refusals of a page leave the buffer as it was, also at lengths and fields that no view has. */
+static void refuse_pages(struct sqr_view view, uint8_t *page, uint8_t *kept) {
+    memset(page, 0xa5, view.page_size);
+    memcpy(kept, page, view.page_size);
+    check(sqr_page(&view, 0, page, view.page_size) == SQR_NO_SUCH_PAGE, "page 0");
+    check(sqr_page(&view, view.pages + 1, page, view.page_size) == SQR_NO_SUCH_PAGE, "the page behind the last");
+    check(sqr_page(&view, UINT32_MAX, page, view.page_size) == SQR_NO_SUCH_PAGE, "the greatest number");
+    if (view.pages) {
+        check(sqr_page(&view, 1, page, view.page_size - 1) == SQR_WRONG_SIZE, "a buffer that is too short");
+        check(sqr_page(&view, view.pages, page, 0) == SQR_WRONG_SIZE, "a buffer of no bytes");
+    }
+    check(memcmp(page, kept, view.page_size) == 0, "a page that is refused leaves the buffer");
+}
+
+/* Views whose fields a caller has written return. */
+static void strange_views(struct sqr_view view) {
+    static const uint32_t sizes[] = {0, 1, 3, 512, 65536, 0x80000000u, UINT32_MAX};
+    static const uint64_t places[] = {0, 1, UINT64_MAX, UINT64_MAX - 511, 1ull << 63, 1ull << 40};
+    static uint8_t page[65536];
+    for (size_t i = 0; i < sizeof sizes / sizeof *sizes; i++) {
+        struct sqr_view strange = view;
+        strange.page_size = sizes[i];
+        strange.pages = UINT32_MAX;
+        strange.places = places;
+        strange.places_len = sizeof places / sizeof *places;
+        for (uint32_t number = 1; number <= 8; number++)
+            sqr_page(&strange, number, page, sizes[i] <= sizeof page ? sizes[i] : sizeof page);
+        sqr_page(&strange, UINT32_MAX, page, sizes[i] <= sizeof page ? sizes[i] : sizeof page);
+    }
+    passed++;
+}
+
+/* The least room that is enough is the pages where a log counts, otherwise none: whatever is less is refused. */
+static void try_room(const struct sqr_files *files, uint64_t *places, uint32_t pages) {
+    struct sqr_view view = SQR_VIEW_INIT, kept = SQR_VIEW_INIT;
+    uint32_t status = sqr_open(files, places, 0, &view);
+    check(status == SQR_OK || (status == SQR_NO_ROOM && pages), "an opening without room");
+    if (status == SQR_OK) return;
+    check(memcmp(&view, &kept, sizeof view) == 0, "an opening that is refused leaves the view");
+    check(sqr_open(files, places, pages - 1, &view) == SQR_NO_ROOM, "one place too few");
+    check(memcmp(&view, &kept, sizeof view) == 0, "an opening with too little room leaves the view");
+}
+
+static void answer_view(const struct sqr_files *files, FILE *out) {
+    uint32_t page_size = 77, pages = 88;
+    struct sqr_view view = SQR_VIEW_INIT, kept = view;
+    uint64_t none = 99;
+    uint32_t status = sqr_size(files, &page_size, &pages);
+    if (status) {
+        fprintf(out, "view %s\n", sqr_status_name(status));
+        check(page_size == 77 && pages == 88, "a size that is refused leaves both");
+        check(sqr_open(files, &none, 1, &view) == status, "an opening is refused as its size is");
+        check(memcmp(&view, &kept, sizeof view) == 0 && none == 99, "an opening that is refused leaves all");
+        return;
+    }
+    uint64_t *places = malloc((size_t)pages * sizeof *places + 1);
+    uint8_t *page = malloc(page_size), *other = malloc(page_size);
+    if (!places || !page || !other) exit(2);
+    try_room(files, places, pages);
+    check(sqr_open(files, places, pages, &view) == SQR_OK, "an opening");
+    check(view.page_size == page_size && view.pages == pages, "a view has its size");
+    fprintf(out, "view %u pages of %u\n", pages, page_size);
+    size_t len;
+    uint8_t *file = bytes_of(at_hand, ".pages", &len);
+    if (file) check(are_pages(&view, page, file, len), "the pages");
+    free(file);
+    refuse_pages(view, page, other);
+    strange_views(view);
+    free(other);
+    free(page);
+    free(places);
+}
+
+static void answer_check(const struct sqr_files *files, FILE *out) {
+    struct sqr_report report = {1, 2, 3, 4, 5, 6, 7}, kept = report;
+    uint32_t status = sqr_check(files, &report);
+    if (status == SQR_OK)
+        fprintf(out, "clean: %u pages, %u trees, %u b-tree, %u overflow, %u free\n", report.pages, report.trees,
+                report.btree, report.overflow, report.free);
+    else if (status == SQR_DAMAGED)
+        fprintf(out, "page %u: fault %u %s\n", report.page, report.fault, sqr_fault_name(report.fault));
+    else
+        fprintf(out, "sqrescue: %s\n", sqr_status_name(status));
+    if (status == SQR_OK)
+        check(!report.fault && !report.page && report.btree + report.overflow + report.free == report.pages, "counts");
+    else if (status == SQR_DAMAGED)
+        check(!report.pages && !report.trees && !report.btree && !report.overflow && !report.free, "no counts");
+    else
+        check(memcmp(&report, &kept, sizeof report) == 0, "a check that is refused leaves the report");
+}
+
+static const char *wal_why(uint32_t why) {
+    static const char *const names[] = {"?", "End", "Cut", "Salt", "PageZero", "Sum"};
+    return names[why <= SQR_WAL_SUM ? why : 0];
+}
+
+static void answer_wal(const uint8_t *wal, size_t len, FILE *out) {
+    struct sqr_wal found = {1, 2, 3, 4, 5, 6}, kept = found, again = found;
+    struct sqr_frame none = {7, 8};
+    uint32_t status = sqr_wal_scan(wal, len, &none, 0, &found);
+    if (status != SQR_OK && status != SQR_NO_ROOM) {
+        fprintf(out, "wal %s\n", sqr_status_name(status));
+        check(memcmp(&found, &kept, sizeof found) == 0, "a scan that is refused leaves its answer");
+        return;
+    }
+    check((status == SQR_NO_ROOM) == (found.frames > 0) && none.page == 7 && none.size == 8, "a scan without room");
+    struct sqr_frame *frames = malloc(found.frames * sizeof *frames + 1);
+    check(sqr_wal_scan(wal, len, frames, found.frames, &again) == SQR_OK, "a scan");
+    check(memcmp(&found, &again, sizeof found) == 0, "a scan says the same with room");
+    fprintf(out, "wal pagesize %u\n", found.page_size);
+    for (uint32_t i = 0; i < found.frames; i++)
+        fprintf(out, "frame %u page %u size %u\n", i + 1, frames[i].page, frames[i].size);
+    fprintf(out, "front %u size %u stop %s at %u\n", found.front, found.pages, wal_why(found.why), found.stop);
+    free(frames);
+}
+
+/* The commits are the frames with a size, and each frame up to the front is one of a commit. */
+static int are_commits(const struct sqr_commit *commits, uint32_t count, const struct sqr_frame *frames,
+                       uint32_t last) {
+    uint32_t commit = 0, before = 0;
+    for (uint32_t frame = 1; frame <= last; frame++) {
+        if (!frames[frame - 1].size) continue;
+        if (commit == count || commits[commit].frame != frame || commits[commit].frames != frame - before) return 0;
+        if (commits[commit].pages != frames[frame - 1].size) return 0;
+        before = frame;
+        commit++;
+    }
+    return commit == count && before == last;
+}
+
+static void answer_commits(const uint8_t *wal, size_t len) {
+    struct sqr_wal found = {0, 0, 0, 0, 0, 0};
+    struct sqr_frame no_frame = {0, 0};
+    struct sqr_commit none = {7, 8, 9};
+    uint32_t count = 99, again = 98, status = sqr_wal_commits(wal, len, &none, 0, &count);
+    uint32_t scanned = sqr_wal_scan(wal, len, &no_frame, 0, &found);
+    check(none.frame == 7 && none.frames == 8 && none.pages == 9, "commits without room leave the array");
+    if (status != SQR_OK && status != SQR_NO_ROOM) {
+        check(status == scanned && count == 99, "commits are refused as a scan is, and leave their number");
+        return;
+    }
+    check((status == SQR_NO_ROOM) == (count > 0), "commits without room");
+    struct sqr_commit *commits = calloc(count + 1ul, sizeof *commits);
+    struct sqr_frame *frames = calloc(found.frames + 1ul, sizeof *frames);
+    if (!commits || !frames) exit(2);
+    if (count) status = sqr_wal_commits(wal, len, commits, count - 1, &again);
+    check(!count || (status == SQR_NO_ROOM && again == count && !commits[0].frame), "too few places for commits");
+    check(sqr_wal_commits(wal, len, commits, count + 1ul, &again) == SQR_OK && again == count, "commits with room");
+    check(!commits[count].frame, "the place behind the commits stays");
+    check(sqr_wal_scan(wal, len, frames, found.frames, &found) == SQR_OK, "a scan of commits");
+    check(are_commits(commits, count, frames, found.front), "the commits");
+    free(commits);
+    free(frames);
+}
+
+static int are_zeros(const uint64_t *places, size_t count) {
+    for (size_t i = 0; i < count; i++)
+        if (places[i]) return 0;
+    return 1;
+}
+
+/* What two openings found: the same status, and the same pages. */
+static int are_one_view(uint32_t one, const struct sqr_view *a, uint32_t other, const struct sqr_view *b) {
+    if (one != other || a->page_size != b->page_size || a->pages != b->pages) return 0;
+    if (a->places_len != b->places_len) return 0;
+    uint8_t *page = malloc(a->page_size + 1u), *same = malloc(a->page_size + 1u);
+    int differ = !page || !same;
+    for (uint32_t number = 1; !differ && number <= a->pages; number++) {
+        differ |= sqr_page(a, number, page, a->page_size) != SQR_OK;
+        differ |= sqr_page(b, number, same, a->page_size) != SQR_OK;
+        differ |= memcmp(page, same, a->page_size);
+    }
+    free(page);
+    free(same);
+    return !differ;
+}
+
+/* The view at a commit is the view of the files whose log ends behind it, and the database that recovery leaves of
+   these: the file PATH.at-FRAME, where it is there. */
+static void answer_commit(const struct sqr_files *files, struct sqr_commit commit, uint32_t page_size) {
+    struct sqr_files cut = *files;
+    struct sqr_view view = SQR_VIEW_INIT, wanted = SQR_VIEW_INIT, kept = view;
+    uint64_t *places = calloc(commit.pages + 1ul, sizeof *places), *others = calloc(commit.pages + 1ul, sizeof *others);
+    uint8_t *page = malloc(page_size + 1u);
+    if (!places || !others || !page) exit(2);
+    cut.wal_len = 32 + commit.frame * (24 + (size_t)page_size);
+    check(sqr_open_at(files, commit.frame, places, commit.pages - 1, &view) == SQR_NO_ROOM, "a commit without room");
+    check(!memcmp(&view, &kept, sizeof view) && are_zeros(places, commit.pages), "a commit without room leaves all");
+    uint32_t status = sqr_open(&cut, others, commit.pages, &wanted);
+    uint32_t found = sqr_open_at(files, commit.frame, places, commit.pages, &view);
+    check(found == SQR_OK && view.pages == commit.pages, "a view at a commit");
+    check(are_one_view(found, &view, status, &wanted), "the view at a commit is that of the log cut behind it");
+    char end[32];
+    size_t len;
+    snprintf(end, sizeof end, ".at-%u", commit.frame);
+    uint8_t *file = bytes_of(at_hand, end, &len);
+    if (file) check(len == (size_t)page_size * view.pages && are_pages(&view, page, file, len), "pages at a commit");
+    free(file);
+    free(page);
+    free(others);
+    free(places);
+}
+
+/* At 0 there is the file alone; where no commit ends there is no view. */
+static void refuse_frames(const struct sqr_files *files, const struct sqr_commit *commits, uint32_t count) {
+    struct sqr_files alone = SQR_FILES(files->db, files->db_len, NULL, 0, NULL, 0);
+    struct sqr_view view = SQR_VIEW_INIT, wanted = SQR_VIEW_INIT, kept = view;
+    uint64_t place = 99, other = 98;
+    uint32_t status = sqr_open(&alone, &other, 0, &wanted), found = sqr_open_at(files, 0, &place, 0, &view);
+    if (found != SQR_TWO_LOGS) check(are_one_view(found, &view, status, &wanted), "the view at 0 is the file's own");
+    view = kept;
+    uint32_t last = count ? commits[count - 1].frame : 0, commit = 0, right = SQR_NO_SUCH_COMMIT;
+    if (found == SQR_TWO_LOGS) right = found;
+    for (uint32_t frame = 1; frame <= last + 2; frame++) {
+        if (commit < count && commits[commit].frame == frame) commit++;
+        else if (sqr_open_at(files, frame, &place, 1, &view) != right) check(0, "a frame that ends no commit");
+    }
+    check(sqr_open_at(files, UINT32_MAX, &place, 1, &view) == right, "the greatest frame");
+    check(place == 99 && memcmp(&view, &kept, sizeof view) == 0, "a view at no commit leaves all");
+}
+
+static void answer_at(const struct sqr_files *files) {
+    enum { MOST = 40 };
+    struct sqr_commit none = {0, 0, 0};
+    struct sqr_wal found = {0, 0, 0, 0, 0, 0};
+    struct sqr_frame frame = {0, 0};
+    uint32_t count = 0, status = sqr_wal_commits(files->wal, files->wal_len, &none, 0, &count);
+    if (status != SQR_OK && status != SQR_NO_ROOM) count = 0;
+    struct sqr_commit *commits = calloc(count + 1ul, sizeof *commits);
+    if (!commits) exit(2);
+    if (count) check(sqr_wal_commits(files->wal, files->wal_len, commits, count, &count) == SQR_OK, "commits again");
+    refuse_frames(files, commits, count);
+    sqr_wal_scan(files->wal, files->wal_len, &frame, 0, &found);
+    for (uint32_t i = 0; i < count; i += 1 + count / MOST) answer_commit(files, commits[i], found.page_size);
+    free(commits);
+}
+
+static const char *journal_why(uint32_t why) {
+    static const char *const names[] = {"?", "End", "Header", "Short", "PageZero", "Sum"};
+    return names[why <= SQR_JOURNAL_SUM ? why : 0];
+}
+
+static void answer_journal(const uint8_t *journal, size_t len, FILE *out) {
+    struct sqr_journal found = {1, 2, 3, 4, 5, 6}, kept = found, again = found;
+    struct sqr_record none = {7, 8};
+    uint32_t status = sqr_journal_scan(journal, len, &none, 0, &found);
+    check(none.at == 7 && none.page == 8, "a journal's scan without room leaves the array");
+    if (status != SQR_OK && status != SQR_NO_ROOM) {
+        fprintf(out, "journal %s\n", sqr_status_name(status));
+        check(memcmp(&found, &kept, sizeof found) == 0, "a journal's scan that is refused leaves its answer");
+        return;
+    }
+    check((status == SQR_NO_ROOM) == (found.records > 0), "a journal's scan without room");
+    struct sqr_record *records = calloc(found.records + 1, sizeof *records);
+    if (!records) exit(2);
+    if (found.records) {
+        status = sqr_journal_scan(journal, len, records, found.records - 1, &again);
+        check(status == SQR_NO_ROOM && !records[0].page, "a place too few for records");
+    }
+    check(sqr_journal_scan(journal, len, records, found.records + 1, &again) == SQR_OK, "a journal's scan");
+    check(memcmp(&found, &again, sizeof found) == 0, "a journal's scan says the same with room");
+    check(!records[found.records].page, "the place behind the records stays");
+    fprintf(out, "journal pagesize %u sector %u first %u\n", found.page_size, found.sector, found.pages);
+    for (uint64_t i = 0; i < found.records; i++)
+        fprintf(out, "record %" PRIu64 " page %u at %" PRIu64 "\n", i + 1, records[i].page, records[i].at);
+    fprintf(out, "stop %s at %" PRIu64 "\n", journal_why(found.why), found.stop);
+    free(records);
+}
+
+static void answer_all(const struct sqr_files *files, FILE *out) {
+    answer_view(files, out);
+    answer_check(files, out);
+    answer_wal(files->wal, files->wal_len, out);
+    answer_commits(files->wal, files->wal_len);
+    answer_at(files);
+    answer_journal(files->journal, files->journal_len, out);
+}
+
+enum { ROOM = 4096, CALLS = 7 };
+
+/* What the calls over one database write to. */
+struct room {
+    uint32_t page_size, pages;
+    uint64_t *places;
+    size_t room;
+    struct sqr_view view;
+    struct sqr_report report;
+    struct sqr_wal wal;
+    struct sqr_frame frames[ROOM];
+    struct sqr_commit commits[ROOM];
+    uint32_t count;
+    struct sqr_journal journal;
+    struct sqr_record records[ROOM];
+};
+
+static uint32_t call(int which, const struct sqr_files *files, struct room *room) {
+    switch (which) {
+    case 0: return sqr_size(files, &room->page_size, &room->pages);
+    case 1: return sqr_open(files, room->places, room->room, &room->view);
+    case 2: return sqr_check(files, &room->report);
+    case 3: return sqr_wal_scan(files->wal, files->wal_len, room->frames, ROOM, &room->wal);
+    case 4: return sqr_wal_commits(files->wal, files->wal_len, room->commits, ROOM, &room->count);
+    case 5: return sqr_open_at(files, 4, room->places, room->room, &room->view);
+    default: return sqr_journal_scan(files->journal, files->journal_len, room->records, ROOM, &room->journal);
+    }
+}
+
+/* A call of which this allocation is refused, 0 for none. */
+static uint32_t counted_call(int which, const struct sqr_files *files, struct room *room, size_t refuse) {
+    asked = held = 0;
+    refused = refuse;
+    is_counting = 1;
+    uint32_t status = call(which, files, room);
+    is_counting = 0;
+    check(held == 0, "a call gives back what it asked for");
+    return status;
+}
+
+static size_t refuse_each(int which, const struct sqr_files *files, struct room *right, struct room *room) {
+    memset(right->places, 0, right->room * sizeof *right->places);
+    uint32_t status = counted_call(which, files, right, 0);
+    size_t count = asked;
+    for (size_t at = 1; at <= count; at++) {
+        struct room *kept = malloc(sizeof *kept);
+        memset(room->places, 0, room->room * sizeof *room->places);
+        memcpy(kept, room, sizeof *kept);
+        check(counted_call(which, files, room, at) == SQR_NO_MEMORY, "an allocation is refused");
+        check(memcmp(kept, room, sizeof *kept) == 0, "no memory leaves all that a call writes to");
+        check(are_zeros(room->places, room->room), "no memory leaves the places");
+        free(kept);
+    }
+    check(counted_call(which, files, room, 0) == status && asked == count, "the call after these");
+    return count;
+}
+
+/* Whether two hold the same answers. */
+static int are_same(const struct room *a, const struct room *b) {
+    int differ = memcmp(a->places, b->places, a->room * sizeof *a->places);
+    differ |= memcmp(&a->report, &b->report, sizeof a->report);
+    differ |= a->page_size != b->page_size || a->pages != b->pages;
+    differ |= a->view.page_size != b->view.page_size || a->view.pages != b->view.pages || a->view.log != b->view.log;
+    differ |= memcmp(&a->wal, &b->wal, sizeof a->wal) | memcmp(a->frames, b->frames, sizeof a->frames);
+    differ |= a->count != b->count || memcmp(a->commits, b->commits, sizeof a->commits);
+    differ |= memcmp(&a->journal, &b->journal, sizeof a->journal) | memcmp(a->records, b->records, sizeof a->records);
+    return !differ;
+}
+
+static size_t memory_of(const struct sqr_files *files) {
+    struct room *rooms = calloc(2, sizeof *rooms);
+    size_t count = 0;
+    uint32_t page_size = 0, pages = 0;
+    sqr_size(files, &page_size, &pages);
+    for (int i = 0; i < 2; i++) {
+        struct sqr_view none = SQR_VIEW_INIT;
+        rooms[i].view = none;
+        rooms[i].room = pages;
+        rooms[i].places = calloc((size_t)pages + 1, sizeof(uint64_t));
+    }
+    for (int which = 0; which < CALLS; which++) count += refuse_each(which, files, &rooms[0], &rooms[1]);
+    check(are_same(&rooms[0], &rooms[1]), "the calls after these answer the same");
+    free(rooms[0].places);
+    free(rooms[1].places);
+    free(rooms);
+    return count;
+}
+
+static void each_of(const char *list, void (*each)(const struct sqr_files *, FILE *), FILE *out) {
+    char line[4096];
+    FILE *lines = fopen(list, "r");
+    if (!lines) exit(2);
+    while (fgets(line, sizeof line, lines)) {
+        line[strcspn(line, "\n")] = 0;
+        at_hand = line;
+        struct sqr_files files = files_of(line);
+        if (out) fprintf(out, "%s\n", line);
+        each(&files, out);
+        give_back(&files);
+    }
+    fclose(lines);
+}
+
+static size_t refusals;
+
+static void refuse_all(const struct sqr_files *files, FILE *out) {
+    (void)out;
+    refusals += memory_of(files);
+}
+
+static void *run_thread(void *path) {
+    static const int ROUNDS = 10;
+    struct sqr_files files = files_of(path);
+    uint32_t page_size = 0, pages = 0;
+    uintptr_t wrong = 0;
+    size_t len;
+    uint8_t *file = bytes_of(path, ".pages", &len);
+    wrong += sqr_size(&files, &page_size, &pages) != SQR_OK || len != (size_t)page_size * pages;
+    uint64_t *places = malloc((size_t)pages * sizeof *places + 1);
+    uint8_t *page = malloc(page_size + 1u);
+    for (int i = 0; i < ROUNDS; i++) {
+        struct sqr_view view = SQR_VIEW_INIT;
+        struct sqr_report report = {0, 0, 0, 0, 0, 0, 0};
+        wrong += sqr_open(&files, places, pages, &view) != SQR_OK || !are_pages(&view, page, file, len);
+        wrong += sqr_check(&files, &report) != SQR_OK;
+    }
+    free(page);
+    free(places);
+    free(file);
+    give_back(&files);
+    return (void *)wrong;
+}
+
+static void run_threads(char **paths) {
+    pthread_t threads[2];
+    for (int i = 0; i < 2; i++)
+        if (pthread_create(&threads[i], NULL, run_thread, paths[i])) exit(2);
+    for (int i = 0; i < 2; i++) {
+        void *wrong = NULL;
+        pthread_join(threads[i], &wrong);
+        at_hand = paths[i];
+        check(!wrong, "a view on a thread of its own");
+    }
+}
+
+static void run_none(void) {
+    struct sqr_files files = SQR_FILES(NULL, 0, NULL, 0, NULL, 0);
+    struct sqr_view view = SQR_VIEW_INIT;
+    struct sqr_report report = {0, 0, 0, 0, 0, 0, 0};
+    struct sqr_wal wal = {1, 1, 1, 1, 1, 1};
+    struct sqr_frame frame = {0, 0};
+    struct sqr_commit commit = {0, 0, 0};
+    struct sqr_journal journal = {1, 1, 1, 1, 1, 1};
+    struct sqr_record record = {0, 0};
+    uint32_t page_size = 1, pages = 2, count = 3;
+    uint64_t place = 5;
+    uint8_t page = 6;
+    at_hand = "NULL, 0";
+    check(sqr_size(&files, &page_size, &pages) == SQR_NOT_A_DATABASE, "no database");
+    check(sqr_open(&files, &place, 0, &view) == SQR_NOT_A_DATABASE, "no view");
+    check(sqr_page(&view, 1, &page, 0) == SQR_NO_SUCH_PAGE && page == 6, "no page of a view that wasn't opened");
+    check(sqr_check(&files, &report) == SQR_DAMAGED && report.fault == SQR_FAULT_MAGIC && report.page == 1, "a fault");
+    check(sqr_wal_scan(sqr_bytes(NULL), 0, &frame, 0, &wal) == SQR_OK && !wal.frames && !wal.page_size, "no frames");
+    check(wal.front == 0 && wal.pages == 0 && wal.stop == 0, "no front");
+    check(sqr_wal_commits(sqr_bytes(NULL), 0, &commit, 0, &count) == SQR_OK && !count, "no commits");
+    check(sqr_journal_scan(sqr_bytes(NULL), 0, &record, 0, &journal) == SQR_OK && !journal.records, "no records");
+    check(!journal.page_size && !journal.stop && journal.why == SQR_JOURNAL_END, "no journal");
+    check(!strcmp(sqr_status_name(SQR_VERSION), "version") && !strcmp(sqr_status_name(15), "?"), "names of statuses");
+    check(!strcmp(sqr_fault_name(21), "SchemaRecord") && !strcmp(sqr_fault_name(0), "?"), "names of faults");
+}
+
+int main(int argc, char **argv) {
+    if (argc == 4 && !strcmp(argv[1], "answers")) {
+        FILE *out = fopen(argv[3], "w");
+        if (!out) return 2;
+        each_of(argv[2], answer_all, out);
+        if (fclose(out)) return 2;
+    } else if (argc == 3 && !strcmp(argv[1], "memory")) {
+        each_of(argv[2], refuse_all, NULL);
+        check(refusals > 20, "allocations were refused");
+        printf("%zu allocations\n", refusals);
+    } else if (argc == 4 && !strcmp(argv[1], "threads")) {
+        run_threads(argv + 2);
+    } else if (argc == 2 && !strcmp(argv[1], "none")) {
+        run_none();
+    } else {
+        return 2;
+    }
+    printf("%d passed, %d failed\n", passed, failed);
+    return failed != 0;
+}
