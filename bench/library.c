@@ -1,0 +1,73 @@
+/* Calls of the C library to be timed, and the least that a C program does in their place.
+
+   library scan FILE      sqr_wal_scan of FILE-wal
+   library page FILE N    sqr_page of each page of the view of FILE and FILE-wal, N times over
+   library copy FILE N    the same pages by a look into the places and a copy */
+#define _DEFAULT_SOURCE
+#include "sqrescue.h"
+
+#include <fcntl.h>
+#include <stdio.h>
+#include <stdlib.h>
+#include <string.h>
+#include <sys/mman.h>
+#include <sys/stat.h>
+#include <unistd.h>
+
+static const uint8_t *mapped(const char *path, const char *end, size_t *len) {
+    char name[4096];
+    struct stat status;
+    snprintf(name, sizeof name, "%s%s", path, end);
+    int file = open(name, O_RDONLY);
+    if (file < 0 || fstat(file, &status)) exit(3);
+    *len = (size_t)status.st_size;
+    void *bytes = mmap(NULL, *len, PROT_READ, MAP_PRIVATE, file, 0);
+    if (bytes == MAP_FAILED) exit(3);
+    close(file);
+    return bytes;
+}
+
+static int scan(const uint8_t *wal, size_t len) {
+    struct sqr_wal found = {0, 0, 0, 0, 0, 0};
+    size_t room = len / (24 + 512) + 1;
+    struct sqr_frame *frames = malloc(room * sizeof *frames);
+    if (!frames || sqr_wal_scan(wal, len, frames, room, &found)) return 3;
+    printf("%u frames, front %u, frame 1 page %u\n", found.frames, found.front, frames[0].page);
+    return 0;
+}
+
+static void copy(const struct sqr_view *view, uint32_t page, uint8_t *out) {
+    size_t size = view->page_size, at = view->places[page - 1];
+    const uint8_t *bytes = at ? view->log : view->db;
+    if (!at) at = (page - 1) * size;
+    memcpy(out, bytes + at, size);
+}
+
+static int read_pages(const struct sqr_view *view, int rounds, int is_plain) {
+    uint8_t *out = malloc(view->page_size);
+    uint64_t sum = 0;
+    if (!out) return 3;
+    for (int i = 0; i < rounds; i++) {
+        for (uint32_t page = 1; page <= view->pages; page++) {
+            if (is_plain) copy(view, page, out);
+            else if (sqr_page(view, page, out, view->page_size)) return 3;
+            sum = sum * 31 + out[page % view->page_size];
+        }
+    }
+    printf("%u pages, %d times, %llx\n", view->pages, rounds, (unsigned long long)sum);
+    return 0;
+}
+
+int main(int argc, char **argv) {
+    size_t db_len, wal_len;
+    if (argc < 3) return 2;
+    const uint8_t *db = mapped(argv[2], "", &db_len), *wal = mapped(argv[2], "-wal", &wal_len);
+    if (!strcmp(argv[1], "scan")) return scan(wal, wal_len);
+    struct sqr_files files = SQR_FILES(db, db_len, wal, wal_len, NULL, 0);
+    uint32_t page_size = 0, pages = 0;
+    if (argc < 4 || sqr_size(&files, &page_size, &pages)) return 3;
+    uint64_t *places = calloc((size_t)pages + 1, sizeof *places);
+    struct sqr_view view = SQR_VIEW_INIT;
+    if (!places || sqr_open(&files, places, pages, &view) || view.places_len != pages) return 3;
+    return read_pages(&view, atoi(argv[3]), !strcmp(argv[1], "copy"));
+}

@@ -1,0 +1,5 @@
+pub mod Shown
+pub mod Found
+pub mod Framing
+pub mod Committing
+pub mod Replaying

@@ -1,0 +1,21 @@
+use Rattle.std.proofs.Common.{◌∙◌, length, inl, refl, ap}
+use Rattle.sqrescue_c.specs.Statuses.{number_of}
+use Rattle.sqrescue_c.proofs.Shown.{opened, crowded}
+use Rattle.sqrescue_c.proofs.view.sqr_open.Goals as goal
+
+pub returns-in-Ok-hand_over-clause-opened : goal.returns-in-Ok-hand_over-clause-opened
+returns-in-Ok-hand_over-clause-opened c = λ _.
+    let files = c.args.files.now in
+    let out = c.hand_over.new.out in
+    let handed = c.in-Ok-hand_over.ensures in
+    opened _ files.db.now files.wal.now files.journal.now c.in-Ok.view c.in-Ok.ensures.shown
+    out.page_size out.pages out.db.now out.log.now out.places.now
+    handed.sizes.0 handed.sizes.1 c.in-Ok.ensures.reads handed.bytes.0 handed.bytes.1 handed.places.0
+
+pub returns-clause-refused : goal.returns-clause-refused
+returns-clause-refused c = λ _.
+    let files = c.args.files.now in
+    let few = c.in-Err-hand_over.ensures.crowded in
+    inl (crowded _ files.db.now files.wal.now files.journal.now c.in-Ok.view c.in-Ok.ensures.shown
+    (length c.args.places.now) (length c.in-Ok.view.places.items) c.number-in-Err-hand_over.result
+    (c.number-in-Err-hand_over.ensures ∙ ap number_of few.0) refl few.1)

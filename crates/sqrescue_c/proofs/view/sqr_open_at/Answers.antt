@@ -1,0 +1,22 @@
+use Rattle.std.proofs.Common.{◌∙◌, length, inl, ap}
+use Rattle.sqrescue_c.specs.Statuses.{number_of}
+use Rattle.sqrescue_c.proofs.Shown.{opened_at, crowded_at}
+use Rattle.sqrescue_c.proofs.view.sqr_open_at.Goals as goal
+
+pub returns-in-Ok-hand_over-clause-opened : goal.returns-in-Ok-hand_over-clause-opened
+returns-in-Ok-hand_over-clause-opened c = λ _.
+    let files = c.args.files.now in
+    let out = c.hand_over.new.out in
+    let handed = c.in-Ok-hand_over.ensures in
+    let reads = c.in-Ok.ensures.reads in
+    opened_at _ c.args.frame files.db.now files.wal.now files.journal.now c.in-Ok.view c.in-Ok.ensures.answer
+    out.page_size out.pages out.db.now out.log.now out.places.now
+    handed.sizes.0 handed.sizes.1 reads.0 reads.1 handed.bytes.0 handed.bytes.1 handed.places.0
+
+pub returns-clause-refused : goal.returns-clause-refused
+returns-clause-refused c = λ _.
+    let files = c.args.files.now in
+    let few = c.in-Err-hand_over.ensures.crowded in
+    inl (crowded_at _ c.args.frame files.db.now files.wal.now files.journal.now c.in-Ok.view c.in-Ok.ensures.answer
+    (length c.args.places.now) c.number-in-Err-hand_over.result
+    (c.number-in-Err-hand_over.ensures ∙ ap number_of few.0) few.1)

@@ -1,0 +1,3 @@
+module sqrescue.example/pages
+
+go 1.19
