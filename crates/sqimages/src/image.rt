@@ -45,12 +45,16 @@ fn put_way(name: &Name, n: u64, out: &mut Vec<u8>) -> Result<(), DiskError>
 }
 
 impl Image {
-    ghost use Rattle.std.specs.Prelude.{OnOk};
+    ghost use Rattle.std.specs.Prelude.{◌≡◌, [], OnOk};
     ghost use Rattle.sqplay.specs.Plays.{files_of};
     ghost use Rattle.sqimages.specs.Images.{IsNumbered};
 
     /// No files.
-    pub fn none(alloc: Global) -> Image {
+    pub fn none(alloc: Global) -> Image
+        ensures db { result.db.items ≡ [] }
+        ensures wal { result.wal.items ≡ [] }
+        ensures journal { result.journal.items ≡ [] }
+    {
         Image {
             db: Vec::new(alloc),
             wal: Vec::new(alloc),
@@ -67,24 +71,5 @@ impl Image {
         put_way(player.db(), n % counts.db, &mut self.db)?;
         put_way(player.wal(), logs % counts.wal, &mut self.wal)?;
         put_way(player.journal(), logs / counts.wal, &mut self.journal)
-    }
-
-    /// Takes the present files in place of what it has. NoMemory alone, and then nothing is said of it.
-    pub fn set_present(&mut self, player: &Player) -> Result<(), DiskError> {
-        put_present(player.db(), &mut self.db)?;
-        put_present(player.wal(), &mut self.wal)?;
-        put_present(player.journal(), &mut self.journal)
-    }
-}
-
-/// Puts there the present bytes of what is under a name.
-fn put_present(name: &Name, out: &mut Vec<u8>) -> Result<(), DiskError> {
-    out.clear();
-    if name.is_gone() {
-        return Ok(());
-    }
-    match name.files().last() {
-        Some(disk) => disk.present(File::Db, out),
-        None => Ok(()),
     }
 }

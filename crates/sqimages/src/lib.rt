@@ -1,10 +1,8 @@
-//! The images that a crash may leave of a recorded run's files, counted and drawn (own).
+//! The images that a crash may leave of a player's files, counted and numbered (own).
 #![tactic(auto)]
 
 mod counts;
-mod draws;
 mod image;
 
 pub use counts::Counts;
-pub use draws::draw;
 pub use image::Image;
