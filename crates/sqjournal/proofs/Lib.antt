@@ -1,6 +1,7 @@
 pub mod Totals
 pub mod Headers
 pub mod Parts
+pub mod RecordSlots
 pub mod Continuing
 pub mod Standing
 pub mod Left

@@ -14,3 +14,5 @@ pub mod ScanAnswers
 pub mod Feeding
 pub mod Settled
 pub mod Listing
+pub mod SlotParts
+pub mod HeaderWords

@@ -5,6 +5,7 @@ pub mod Frames
 pub mod Log
 pub mod View
 pub mod Stops
+pub mod Slots
 pub mod Index
 pub mod Chains
 pub mod Refusal

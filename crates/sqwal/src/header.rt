@@ -1,10 +1,25 @@
 //! The header of a log (fileformat2, 4.1).
+ghost use Rattle.std.specs.Prelude.{◌≡◌};
+ghost use Rattle.sqval.specs.Bytes.{word, AreBytes};
+
 use crate::error::WalFormatError;
 use crate::sum::{Order, Sum};
 use crate::words::{put_words, word};
 use sqval::PageSize;
 
 const VERSION: u32 = 3007000;
+
+/// The sums that stand in a header.
+fn stored_sum(bytes: &[u8; 32]) -> Sum
+    ensures first { result.s0 ≡ word bytes.now 24 }
+    ensures second { result.s1 ≡ word bytes.now 28 }
+    ensures bytes { AreBytes bytes.now }
+{
+    Sum {
+        s0: word(bytes, 24),
+        s1: word(bytes, 28),
+    }
+}
 
 /// What the 32 bytes of a log's header say (fileformat2, 4.1).
 #[derive(Clone, Copy, Debug, PartialEq, Eq)]
@@ -22,7 +37,9 @@ pub struct WalHeader {
 }
 
 impl WalHeader {
+    ghost use Rattle.std.specs.Prelude.{ℕ, List};
     ghost use Rattle.sqwal.specs.Header.{HeaderAnswer, IsHeaderOf};
+    ghost use Rattle.sqwal.specs.Slots.{stored};
 
     /// Reads a header. Refused are, in this order, NotAWal, PageSize, HeaderSum and UnknownVersion.
     pub fn read(bytes: &[u8; 32]) -> Result<WalHeader, WalFormatError>
@@ -65,5 +82,14 @@ impl WalHeader {
         put_words(&mut out[..24], &front);
         let sum = Sum::zero().add(&out[..24], self.order);
         put_words(&mut out[24..], &[sum.s0, sum.s1]);
+    }
+
+    /// The sums that stand in the header, from which those of the first frame follow.
+    pub fn sum(&self) -> Sum
+        ensures { (w : List ℕ) → AreBytes w → IsHeaderOf w self.now → result ≡ stored self.now.page_size w 0 }
+    {
+        let mut bytes = [0; 32];
+        self.write(&mut bytes);
+        stored_sum(&bytes)
     }
 }

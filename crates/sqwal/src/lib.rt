@@ -8,6 +8,7 @@ mod frame;
 mod header;
 mod index;
 mod scan;
+mod slots;
 mod sum;
 mod words;
 
@@ -16,4 +17,5 @@ pub use frame::frame_head;
 pub use header::WalHeader;
 pub use index::{FrameIndex, Hit};
 pub use scan::{Entry, Front, Scan, Stop, Why};
+pub use slots::Slot;
 pub use sum::{Order, Sum};

@@ -62,7 +62,7 @@ pub struct Stop {
 }
 
 /// How long a frame is, in bytes.
-fn frame_length(header: &WalHeader) -> usize
+pub(crate) fn frame_length(header: &WalHeader) -> usize
     ensures value { result ≡ 24 + header.now.page_size }
     ensures page_size { IsPageSize header.now.page_size }
 {
@@ -90,7 +90,7 @@ fn names_salts(header: &WalHeader, frame: &[u8]) -> bool
 }
 
 /// Whether the frame names this sum.
-fn names_sum(frame: &[u8], sum: Sum) -> bool
+pub(crate) fn names_sum(frame: &[u8], sum: Sum) -> bool
     requires { 24 ≤ length frame.now }
     ensures { IsTrue result ↔ NamesSum frame.now sum }
 {
@@ -98,7 +98,7 @@ fn names_sum(frame: &[u8], sum: Sum) -> bool
 }
 
 /// The sum that goes on over the frame's first 8 bytes and its page.
-fn sum_over(header: &WalHeader, before: Sum, frame: &[u8]) -> Sum
+pub(crate) fn sum_over(header: &WalHeader, before: Sum, frame: &[u8]) -> Sum
     requires whole { length frame.now ≡ 24 + header.now.page_size }
     requires page_size { IsPageSize header.now.page_size }
     ensures { GoesOver header.now frame.now before result }

@@ -1,4 +1,4 @@
-use Rattle.std.proofs.Common.{◌≡◌, ℕ, List}
+use Rattle.std.proofs.Common.{ℕ, List}
 use Rattle.sqwal.specs.Commits.{AreCommitsTo}
 use Rattle.sqwal.specs.Header.{named_size}
 use Rattle.sqwal.specs.Took.{Took}
