@@ -1,5 +1,6 @@
 -- Why an opening is refused before it writes.
-use Rattle.std.proofs.Common.{◌≡◌, ◌⊎◌, inl, inr, ⊎_elim, ℕ, List, refl, sym, ◌∙◌, subst, arith}
+use Rattle.std.proofs.Common.{◌≡◌, ◌⊎◌, inl, inr, ⊎_elim, ℕ, ◌*◌, ◌/◌, ◌%◌, ◌≤◌, List, refl, sym, ◌∙◌, ap, subst, arith}
+use Rattle.std.proofs.Math.Nat.{div-mul-le_self, mod-eq-sub-div-mul}
 use Rattle.std.specs.Prelude.{Result, Ok, Err}
 use Rattle.sqwal.specs.Header.{named_size}
 use Rattle.sqwal.specs.Frames.{IsFront}
@@ -22,6 +23,13 @@ module _ {T : Type 0} (size : ℕ) (w : List ℕ) (fault : WalError) where
   pub front_unread : (r : Result Plan WalError) (e : WalError) (q : Result T WalError) (a b c : DiskState) → (TearsPages size a → ⊥) → (TearsPages size b → ⊥) → Still a b → Still b c → r ≡ Err e → q ≡ Err e → ReadAnswer size w r b c → FrontJudged size w fault q a c
   front_unread r e q a b c fits fits_b first second was is answer = subst (λ (x : Result T WalError). FrontJudged size w fault x a c) (sym is)
       (inl (λ db. fold_looked size db w a b c fits first (Err e) (read_folds size db w b c fits_b second r (Err e) e was refl answer)))
+
+-- a file of whole pages has some
+pub count_whole : (size m long : ℕ) → m ≡ size → long % m ≡ 0 → (long ≡ 0 → ⊥) → (1 ≤ long / m) × (long / m * size ≡ long)
+count_whole size m long same rest some =
+    let whole : long / m * m ≡ long = omega (arith, mod-eq-sub-div-mul long m, div-mul-le_self long m, rest) in
+    let more : long / m ≡ 0 → ⊥ = λ none. some (let e : long / m * m ≡ 0 * m = ap (λ k. k * m) none in omega (arith, whole, e)) in
+    (omega (arith, more), ap (λ k. long / m * k) (sym same) ∙ whole)
 
 -- what was found wrong with the file's length
 count_fault : (size long : ℕ) (e : WalError) (a b : DiskState) → CountAnswer size long (Err e) a b → FileFault size long e ⊎ ((e ≡ Device) × HadRefusal a b)

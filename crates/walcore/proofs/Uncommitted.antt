@@ -55,9 +55,9 @@ ended (Ok u) core then s t is sound keeps rests ok = record {
 }
 ended (Err e) core then s t is sound keeps closes ok = absurd (cc ok)
 
-pub sync_uncommitted : {T : Type 0} (r : Result T WalError) (core mid then : Core) (s t : DiskState) → (IsSoundDisk s → BringsDown r core mid s t) → RestAnswer r mid then → KeepsUncommitted r core then s t
+pub sync_uncommitted : {T : Type 0} (r : Result T WalError) (core mid then : Core) (s t : DiskState) → BringsDown r core mid s t → RestAnswer r mid then → KeepsUncommitted r core then s t
 sync_uncommitted {T = T} r core mid then s t brings rests is =
-    let down : (mid ≡ core) × SyncStep Device Log r s t = subst (λ (b : Bool). DownBy b r core mid s t) (not_due s.tears core.unsynced _ is.unsynced) (brings is.sound) in
+    let down : (mid ≡ core) × SyncStep Device Log r s t = subst (λ (b : Bool). DownBy b r core mid s t) (not_due s.tears core.unsynced _ is.unsynced) brings in
     record {
       shown = λ size d alone. alone_syncs size d Log down.1.0 s t is.sound down.1.2 alone;
       uncommitted = ended r core then s t is (sound_syncs Log down.1.0 s t is.sound down.1.2) (λ w log. down_syncs w Log down.1.0 s t log down.1.2) (subst (λ (c : Core). RestAnswer r c then) down.0 rests);

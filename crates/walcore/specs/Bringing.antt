@@ -1,18 +1,19 @@
 -- What a checkpoint brings into the database file (fileformat2, 4.3).
-use Rattle.std.specs.Prelude.{◌≡◌, ◌⊎◌, ℕ, ◌<◌, ◌≤◌, false, List, length, get_or, Some, Result, Ok, Err}
+use Rattle.std.specs.Prelude.{◌≡◌, ◌⊎◌, ℕ, ◌<◌, ◌≤◌, false, IsTrue, List, length, get_or, Some, Result, Ok, Err, OnOk}
 use Rattle.sqval.specs.Database.{Database}
 use Rattle.sqwal.specs.Frames.{frame_end, size_of}
 use Rattle.sqwal.specs.Index.{FrameTable}
 use Rattle.crashdisk.specs.State.{IsImage}
 use Rattle.crashdisk.specs.Call.{DiskState, HasCalls}
 use Rattle.sqval.specs.Answers.{Answer, Complete, Partial, HasCause}
-use Rattle.walcore.specs.Machine.{State, at, last, reader_at, closed, checkpointed, CheckpointStep}
+use Rattle.walcore.specs.Machine.{State, Checkpoints, at, last, reader_at, closed, checkpointed, CheckpointStep}
 use Rattle.sqval.specs.Held.{IsJust}
-use Rattle.crashdisk.specs.Keeps.{HadRefusal, Still, IsSameDisk}
+use Rattle.crashdisk.specs.Keeps.{HadRefusal, Still, KeepsLog, TellsRefusal, IsSameDisk}
 use Rattle.walcore.specs.Changes.{MayFill}
 use Rattle.walcore.specs.Era.{IsBoundary, shown}
 use Rattle.walcore.specs.Standing.{Stands, IsPresent}
-use Rattle.walcore.specs.Fits.{Past, IsIndexed, FitsDisk, FitsCore}
+use Rattle.walcore.specs.Fits.{Past, IsIndexed, FitsDisk, FitsCore, Takes, answered}
+use Rattle.walcore.specs.Uncommitted.{KeepsUncommitted}
 use Rattle.walcore.specs.declared.state.Core.{Core}
 use Rattle.walcore.specs.declared.wal.Checkpointed.{Checkpointed}
 use Rattle.walcore.specs.declared.wal.Checkpointed.TheVariants.{Complete as AllOfIt, Partial as PartOfIt}
@@ -59,6 +60,12 @@ abbrev pub Brings : {T : Type 0} → (size m : ℕ) → FrameTable → Result T 
 Brings size m t result old new = (logs : List (List ℕ)) (e : List ℕ) (n : ℕ) (h : List Database) (index : ℕ → ℕ) (mark d c : ℕ)
     → CanBring size logs e n h index mark d c t old → IsBoundary size e m → c ≤ m → m ≤ d → BroughtTo size logs e n h index mark d m result old new × HasCalls (MayFill size) old new
 
+-- The database at a frame m of a log is brought over; no call asked for a change of the log, and one that was refused is told.
+pub record BringsOver {T : Type 0} (size m : ℕ) (t : FrameTable) (result : Result T WalError) (old new : DiskState) : Type 0 where
+  pub log : KeepsLog old new
+  pub told : TellsRefusal Device result old new
+  pub brings : Brings size m t result old new
+
 -- The last step of a checkpoint, after the sync of the log.
 abbrev pub BroughtDown : Past → Result Checkpointed WalError → (core core_new : Core) → (old new : DiskState) → Type 0
 BroughtDown past (Ok done) core core_new old new =
@@ -72,6 +79,18 @@ BroughtDown past (Err x) core core_new old new =
     × (x ≡ Device) × HasCause old.refused new.refused
     × FitsDisk (record { state = closed past.state; made = past.made; tokens = past.tokens }) new
     × (core_new.page_size ≡ core.page_size) × (core_new.marks.items ≡ core.marks.items) × IsSameDisk (MayFill past.state.page_size) old new
+
+-- of each past that fits a core whose commits are down
+abbrev pub BringsDatabase : Result Checkpointed WalError → (old new : Core) → (before after : DiskState) → Type 0
+BringsDatabase result old new before after = (past : Past) → FitsCore past old before → IsTrue old.is_open → past.state.floor ≡ last past.state → past.made.unsynced ≡ false
+    → BroughtDown past result old new before after
+
+-- What a checkpoint does: a row of the machine; where it is done, any crash leaves just the oldest reader's database; and
+-- what it keeps before the first commit.
+pub record BringsOldest (result : Result Checkpointed WalError) (old new : Core) (before after : DiskState) : Type 0 where
+  pub step : Takes Checkpoints (answered answer_of result) old new before after
+  pub file : (past : Past) (i : ℕ) → FitsCore past old before → IsOldest past.state i → OnOk result (LeavesJust past.state.page_size (at past.state i) after)
+  pub agrees : KeepsUncommitted result old new before after
 
 -- a core is closed where its call was refused
 abbrev pub ClosedBy : {T : Type 0} → Result T WalError → (old new : Core) → Type 0

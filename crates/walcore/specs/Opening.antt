@@ -1,5 +1,5 @@
 -- What the steps of an opening and of a restart do to a disk (own).
-use Rattle.std.specs.Prelude.{◌≡◌, ◌⊎◌, ℕ, ◌+◌, ◌*◌, ◌<◌, ◌≤◌, true, false, IsTrue, List, length, Result, Ok, Err, IsErr, []}
+use Rattle.std.specs.Prelude.{◌≡◌, ◌⊎◌, ℕ, ◌+◌, ◌*◌, ◌<◌, ◌≤◌, true, false, IsTrue, List, length, Result, Ok, Err, IsErr, OnOk, IfOk, IfErr, MatchResult, []}
 use Rattle.sqwal.specs.Header.{IsHeaderOf, named_size}
 use Rattle.sqwal.specs.Frames.{summed, IsFront}
 use Rattle.sqwal.specs.Sums.{IsSumOf}
@@ -11,7 +11,7 @@ use Rattle.sqval.specs.CommitFaults.{most_bytes}
 use Rattle.walcore.specs.Alone.{Show}
 use Rattle.sqval.specs.Answers.{Files}
 use Rattle.walcore.specs.Machine.{at, last}
-use Rattle.walcore.specs.Made.{IsBegun}
+use Rattle.walcore.specs.Made.{IsBegun, NoChance, HasNewSalts}
 use Rattle.walcore.specs.Folding.{FoldAnswer, Agrees}
 use Rattle.walcore.specs.Plans.{IsFit}
 use Rattle.walcore.specs.Steps.{FoldCalls}
@@ -19,7 +19,7 @@ use Rattle.walcore.specs.Uncommitted.{IsUncommitted}
 use Rattle.crashdisk.specs.Keeps.{HadRefusal, TearsPages, KeepsBytes, IsLogDown, Later, Told, SyncStep}
 use Rattle.sqval.specs.Held.{IsJust}
 use Rattle.walcore.specs.Changes.{MayFold}
-use Rattle.walcore.specs.Fits.{Past, AreFiles, IsLeft}
+use Rattle.walcore.specs.Fits.{Past, AreFiles, IsLeft, FitsDisk, FitsAlone, OpenedTo, GivenUpTo}
 use Rattle.walcore.specs.declared.opening.NewLog.{NewLog}
 use Rattle.walcore.specs.declared.state.Core.{Core}
 use Rattle.walcore.specs.declared.error.WalError.{WalError}
@@ -86,13 +86,6 @@ pub record OpensSynced {T : Type 0} (size : ℕ) (result : Result T WalError) (o
   pub sync : Syncs Log called old mid
   pub rest : OpensOn size called result mid new
 
--- What the recovery of an opening does to a sound disk: it asks for what a fold may, and tells that a call was refused; the
--- database that all which may be left shows stays shown; and so it does from the sync of the log on.
-pub record Recovers {T : Type 0} (size : ℕ) (result : Result T WalError) (old new : DiskState) : Type 0 where
-  pub calls : FoldCalls size result old new
-  pub agrees : Agrees size old new
-  pub synced : OpensSynced size result old new
-
 -- an opening without memory may call nothing
 abbrev pub OpensFirst : {T : Type 0} → (size : ℕ) → Result T WalError → (old new : DiskState) → Type 0
 OpensFirst size result old new = ((result ≡ Err NoMemory) × (new ≡ old)) ⊎ OpensSynced size result old new
@@ -144,3 +137,24 @@ pub record IsNewCore (page_bytes pages : ℕ) (l : NewLog) (core : Core) : Type 
   pub no_pages : core.index.pages ≡ []
   pub marks : core.marks.items ≡ []
   pub frame : length core.frame.items ≡ 24 + page_bytes
+
+-- What the recovery of an opening does. It asks for what a fold may, and tells that a call was refused. The database that
+-- all which may be left shows stays shown, from the sync of the log on too; and a history that fits is recovered.
+pub record Recovers (size : ℕ) (result : Result ℕ WalError) (old new : DiskState) : Type 0 where
+  pub calls : FoldCalls size result old new
+  pub agrees : Agrees size old new
+  pub synced : OpensSynced size result old new
+  pub empty : OnOk result (IsLogDown new [])
+  pub refuses : (TearsPages size old → ⊥) → (found : Files) → AreFiles old found → IfErr result (λ error. OpenRefused size found.db found.log error old new)
+  pub opens : (TearsPages size old → ⊥) → (found : Files) → AreFiles old found → OnOk result (MayOpen size found old)
+  pub recovered : (past : Past) (found : Files) → AreFiles old found → past.state.page_size ≡ size → FitsDisk past old → NoChance past.made.logs found.log → RecoverAnswer past found result old new
+
+-- What an opening with these salts does, at any history and any files. From its sync of the log on, all that a crash may
+-- leave shows one database.
+pub record OpensCore (size : ℕ) (salts : ℕ × ℕ) (result : Result Core WalError) (old new : DiskState) : Type 0 where
+  pub step : (past : Past) (found : Files) → AreFiles old found → past.state.page_size ≡ size → FitsAlone past old → NoChance past.made.logs found.log → HasNewSalts past.made.logs salts.0 salts.1
+      → MatchResult result (λ core. OpenedTo past salts found core old new) (λ error. GivenUpTo past salts found error old new)
+  pub agrees : Agrees size old new
+  pub refuses : (found : Files) → AreFiles old found → IfErr result (λ error. OpenRefused size found.db found.log error old new)
+  pub opens : IfOk result (λ core. OpensFiles size core old new)
+  pub synced : (TearsPages size old → ⊥) → OpensFirst size result old new

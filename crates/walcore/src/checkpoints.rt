@@ -1,15 +1,11 @@
 //! Checkpoints: what the log has is brought into the database file.
-ghost use Rattle.std.specs.Prelude.{◌≡◌, ◌≢◌, ◌↔◌, ◌+◌, ◌≤◌, ℕ, List, length, OnOk, OnErr, IfErr, IsTrue, IsOk, false};
+ghost use Rattle.std.specs.Prelude.{◌≡◌, ◌≢◌, ◌+◌, ◌≤◌, length, OnErr, IfErr, IsOk, false};
 ghost use Rattle.std.specs.Prelude.{if◌then◌else◌};
-ghost use Rattle.crashdisk.specs.Call.{DiskState, IsSoundDisk};
-ghost use Rattle.walcore.specs.Machine.{at, last, Checkpoints};
-ghost use Rattle.crashdisk.specs.Keeps.{KeepsLog, TellsRefusal};
-ghost use Rattle.walcore.specs.Fits.{Past, Fits, answered, Steps};
 ghost use Rattle.crashdisk.specs.During.{During};
 ghost use Rattle.walcore.specs.Closing.{ClosesOnDevice};
-ghost use Rattle.walcore.specs.Uncommitted.{KeepsUncommitted, BringsNothing};
-ghost use Rattle.walcore.specs.Bringing.{answer_of, IsOldest, LeavesJust, IsLeast, SizeAnswer, Brings, BroughtDown};
-ghost use Rattle.walcore.specs.Bringing.{ClosedBy};
+ghost use Rattle.walcore.specs.Uncommitted.{BringsNothing};
+ghost use Rattle.walcore.specs.Bringing.{IsLeast, SizeAnswer, BringsOver, BringsDatabase, BringsOldest, ClosedBy};
+ghost use Rattle.walcore.specs.Reading.{OnlyReads};
 
 use crate::copying::{copy_pages, settle_database};
 use crate::error::WalError;
@@ -37,10 +33,8 @@ fn least_mark(marks: &[u32], newest: u32) -> u32
 fn size_at<D: Disk>(disk: &mut D, page_size: usize, frame: u32) -> Result<u32, WalError>
     requires some { 1 ≤ frame }
     requires size { page_size ≤ 65536 }
-    ensures word { D.keeps_word disk.old ↔ D.keeps_word disk.new }
-    ensures told { D.keeps_word disk.old → TellsRefusal WalError.Device result (D.state disk.old) (D.state disk.new) }
-    ensures size { D.keeps_word disk.old → IsSoundDisk (D.state disk.old)
-        → SizeAnswer page_size frame result (D.state disk.old) (D.state disk.new) }
+    ensures disk { During D.keeps_word D.state disk.old disk.new
+        (OnlyReads result (SizeAnswer page_size frame result)) }
     ensures error { OnErr result (result ≡ Err WalError.Device) }
 {
     let mut bytes = [0; 4];
@@ -57,13 +51,7 @@ fn bring_over<D: Disk>(
     page: &mut [u8],
 ) -> Result<(), WalError>
     requires { (1 ≤ length page.old) × (length page.old ≤ 65536) }
-    ensures word { D.keeps_word disk.old ↔ D.keeps_word disk.new }
-    ensures log { D.keeps_word disk.old → IsSoundDisk (D.state disk.old)
-        → KeepsLog (D.state disk.old) (D.state disk.new) }
-    ensures told { D.keeps_word disk.old → IsSoundDisk (D.state disk.old)
-        → TellsRefusal WalError.Device result (D.state disk.old) (D.state disk.new) }
-    ensures brings { D.keeps_word disk.old → IsSoundDisk (D.state disk.old)
-        → Brings (length page.old) frame index.now result (D.state disk.old) (D.state disk.new) }
+    ensures disk { During D.keeps_word D.state disk.old disk.new (BringsOver (length page.old) frame index.now result) }
     ensures error { OnErr result (result ≡ Err WalError.Device) }
     ensures none { frame ≡ 0 → IsOk result × (disk.new ≡ disk.old) }
 {
@@ -101,10 +89,8 @@ fn close_on(core: &mut Core, done: Result<Checkpointed, WalError>) -> Result<Che
 impl<D: Disk> Wal<D> {
     /// Brings the database of the oldest open reader into the database file, once the log is down.
     fn bring_down(&mut self) -> Result<Checkpointed, WalError>
-        ensures word { D.keeps_word self.old.disk ↔ D.keeps_word self.new.disk }
-        ensures brings { D.keeps_word self.old.disk → (past : Past) → Fits D.state self.old past
-            → IsTrue self.old.core.is_open → past.state.floor ≡ last past.state → past.made.unsynced ≡ false
-            → BroughtDown past result self.old.core self.new.core (D.state self.old.disk) (D.state self.new.disk) }
+        ensures disk { During D.keeps_word D.state self.old.disk self.new.disk
+            (BringsDatabase result self.old.core self.new.core) }
         ensures error { OnErr result (result ≡ Err WalError.Device) }
         ensures none { self.old.core.mark ≡ 0 → IsOk result × BringsNothing self.old self.new }
     {
@@ -124,17 +110,11 @@ impl<D: Disk> Wal<D> {
     /// Brings all commits down, as `sync` does, and the database that the oldest open reader sees, or the newest where
     /// none is open, into the database file (fileformat2, 4.3). Refused are Closed and Device.
     pub fn checkpoint(&mut self) -> Result<Checkpointed, WalError>
-        ensures step { D.keeps_word self.old.disk → (past : Past) → Fits D.state self.old past
-            → Steps D.state self.old self.new past past.tokens Checkpoints (answered answer_of result) }
-        ensures file { D.keeps_word self.old.disk → (past : Past) (i : ℕ) → Fits D.state self.old past
-            → IsOldest past.state i
-            → OnOk result (LeavesJust past.state.page_size (at past.state i) (D.state self.new.disk)) }
+        ensures disk { During D.keeps_word D.state self.old.disk self.new.disk
+            (BringsOldest result self.old.core self.new.core) }
         ensures kept { IfErr result (λ e. e ≢ WalError.Device → self.new ≡ self.old) }
         ensures closes { ClosesOnDevice result self.old.disk self.new.disk self.old.core self.new.core }
         ensures memory { result ≢ Err WalError.NoMemory }
-        // before the first commit
-        ensures agrees { During D.keeps_word D.state self.old.disk self.new.disk
-            (KeepsUncommitted result self.old.core self.new.core) }
     {
         self.sync()?;
         let done = self.bring_down();

@@ -1,5 +1,5 @@
 //! Why a commit is refused (own).
-ghost use Rattle.std.specs.Prelude.{◌≡◌, ◌+◌, nat_lt, length, OnOk};
+ghost use Rattle.std.specs.Prelude.{◌≡◌, ◌+◌, nat_lt, OnOk};
 ghost use Rattle.std.specs.List.{All};
 ghost use Rattle.sqval.specs.Bytes.{AreBytes};
 ghost use Rattle.sqval.specs.JudgedPages.{lent, Judged};

@@ -1,5 +1,5 @@
 //! Recovery: a log is folded into its database (fileformat2, 4.3; what it answers is own).
-ghost use Rattle.std.specs.Prelude.{◌≡◌, ◌↔◌, ◌≤◌, ℕ, List, length, OnOk, OnErr};
+ghost use Rattle.std.specs.Prelude.{◌≡◌, OnOk, OnErr};
 
 use crate::copying::{copy_pages, finish};
 use crate::error::WalError;
@@ -17,20 +17,13 @@ pub struct Folded {
     pub size: u32,
 }
 
-ghost use Rattle.crashdisk.specs.Call.{DiskState, IsSoundDisk, ArePresent};
-ghost use Rattle.crashdisk.specs.State.{IsSectorSize};
-ghost use Rattle.sqval.specs.Database.{Database};
-ghost use Rattle.walcore.specs.Alone.{ShowsAlone};
-ghost use Rattle.walcore.specs.Phases.{Scanning};
-ghost use Rattle.crashdisk.specs.Keeps.{Suits, Still, IsLogDown, TearsPages};
-ghost use Rattle.walcore.specs.Steps.{FoldedAnswer, FoldCalls};
-ghost use Rattle.walcore.specs.Plans.{IsPlan, IsFit, HasRoom};
-ghost use Rattle.walcore.specs.Folding.{Folds, Agrees, IsEmptyDown, SyncsFirst};
-ghost use Rattle.walcore.specs.Lengths.{EndsBy, IsLengthOf, KeepsLength};
+ghost use Rattle.crashdisk.specs.During.{During};
+ghost use Rattle.crashdisk.specs.Keeps.{Suits, TearsPages};
+ghost use Rattle.walcore.specs.Plans.{HasRoom};
+ghost use Rattle.walcore.specs.Copying.{FoldsPlan, FoldsLong, FoldsSynced, FoldsFile};
 
 /// On a disk that tears, a sector may hold no more than a page. SectorAbovePage alone.
 pub fn judge_sector<D: Disk>(disk: &D, page_size: PageSize) -> Result<(), WalError>
-    ensures sound { D.keeps_word disk.now → IsSoundDisk (D.state disk.now) }
     ensures suits { D.keeps_word disk.now → OnOk result (Suits page_size (D.state disk.now)) }
     ensures refused { D.keeps_word disk.now → OnErr result (TearsPages page_size (D.state disk.now)) }
     ensures error { OnErr result (result ≡ Err WalError.SectorAbovePage) }
@@ -45,18 +38,7 @@ pub fn judge_sector<D: Disk>(disk: &D, page_size: PageSize) -> Result<(), WalErr
 /// Folds what is planned.
 fn fold_plan<D: Disk>(disk: &mut D, plan: Plan) -> Result<Folded, WalError>
     requires { HasRoom plan }
-    ensures word { D.keeps_word disk.old ↔ D.keeps_word disk.new }
-    ensures calls { D.keeps_word disk.old → IsSoundDisk (D.state disk.old)
-        → (size : ℕ) (w : List ℕ) → IsPlan size w plan → FoldCalls size result (D.state disk.old) (D.state disk.new) }
-    ensures folds { D.keeps_word disk.old → IsSoundDisk (D.state disk.old) → (size : ℕ) (db w : List ℕ)
-        → ArePresent (D.state disk.old).db db → ArePresent (D.state disk.old).log w → IsPlan size w plan
-        → FoldedAnswer size db w result (D.state disk.old) (D.state disk.new) }
-    ensures shows { D.keeps_word disk.old → (size : ℕ) (w : List ℕ) (d : Database)
-        → Scanning size d w (D.state disk.old) → IsPlan size w plan → IsFit size w
-        → ShowsAlone size d (D.state disk.new) }
-    ensures lengths { D.keeps_word disk.old → IsSoundDisk (D.state disk.old) → (size : ℕ) (w : List ℕ) (n : ℕ)
-        → IsLogDown (D.state disk.old) w → IsPlan size w plan → IsLengthOf size w n (D.state disk.old)
-        → EndsBy n (D.state disk.new) }
+    ensures { During D.keeps_word D.state disk.old disk.new (FoldsPlan plan result) }
 {
     if plan.frames == 0 {
         finish(disk)?;
@@ -79,17 +61,7 @@ fn fold_log<D: Disk>(
     long: u64,
     page_size: PageSize,
 ) -> Result<Folded, WalError>
-    ensures word { D.keeps_word disk.old ↔ D.keeps_word disk.new }
-    ensures calls { D.keeps_word disk.old → IsSoundDisk (D.state disk.old) → (D.state disk.old).log.len ≡ long
-        → FoldCalls page_size result (D.state disk.old) (D.state disk.new) }
-    ensures folds { D.keeps_word disk.old → IsSoundDisk (D.state disk.old)
-        → (TearsPages page_size (D.state disk.old) → ⊥) → (D.state disk.old).log.len ≡ long
-        → Folds page_size result (D.state disk.old) (D.state disk.new) }
-    ensures shows { D.keeps_word disk.old → (D.state disk.old).log.len ≡ long → (w : List ℕ) (d : Database)
-        → Scanning page_size d w (D.state disk.old) → ShowsAlone page_size d (D.state disk.new) }
-    ensures lengths { D.keeps_word disk.old → IsSoundDisk (D.state disk.old) → (D.state disk.old).log.len ≡ long
-        → (w : List ℕ) (n : ℕ) → IsLogDown (D.state disk.old) w → IsLengthOf page_size w n (D.state disk.old)
-        → EndsBy n (D.state disk.new) }
+    ensures { During D.keeps_word D.state disk.old disk.new (FoldsLong long page_size result) }
 {
     let plan = read_plan(alloc, disk, long, page_size)?;
     fold_plan(disk, plan)
@@ -106,13 +78,7 @@ fn fold_log<D: Disk>(
 /// refused a call, either of which may stand in place of the last two. All but `Device` change no byte. After `Device`
 /// the fold is to be called again.
 pub fn fold<D: Disk>(alloc: Global, disk: &mut D, page_size: PageSize) -> Result<Folded, WalError>
-    ensures word { D.keeps_word disk.old ↔ D.keeps_word disk.new }
-    ensures folds { D.keeps_word disk.old → Folds page_size result (D.state disk.old) (D.state disk.new) }
-    ensures agrees { D.keeps_word disk.old → Agrees page_size (D.state disk.old) (D.state disk.new) }
-    ensures lengths { D.keeps_word disk.old → KeepsLength page_size (D.state disk.old) (D.state disk.new) }
-    ensures synced { D.keeps_word disk.old → (TearsPages page_size (D.state disk.old) → ⊥)
-        → SyncsFirst page_size result (D.state disk.old) (D.state disk.new) }
-    ensures calls { D.keeps_word disk.old → FoldCalls page_size result (D.state disk.old) (D.state disk.new) }
+    ensures { During D.keeps_word D.state disk.old disk.new (FoldsFile page_size result) }
 {
     judge_sector(disk, page_size)?;
     disk.sync(File::Log)?;
@@ -125,14 +91,7 @@ pub fn fold_synced<D: Disk>(
     disk: &mut D,
     page_size: PageSize,
 ) -> Result<Folded, WalError>
-    ensures word { D.keeps_word disk.old ↔ D.keeps_word disk.new }
-    ensures folds { D.keeps_word disk.old → IsEmptyDown (D.state disk.old)
-        → Folds page_size result (D.state disk.old) (D.state disk.new) }
-    ensures empty { D.keeps_word disk.old → (D.state disk.old).log.len ≡ 0
-        → Still (D.state disk.old) (D.state disk.new) }
-    ensures agrees { D.keeps_word disk.old → Agrees page_size (D.state disk.old) (D.state disk.new) }
-    ensures lengths { D.keeps_word disk.old → KeepsLength page_size (D.state disk.old) (D.state disk.new) }
-    ensures calls { D.keeps_word disk.old → FoldCalls page_size result (D.state disk.old) (D.state disk.new) }
+    ensures { During D.keeps_word D.state disk.old disk.new (FoldsSynced page_size result) }
 {
     judge_sector(disk, page_size)?;
     let long = disk.len(File::Log)?;

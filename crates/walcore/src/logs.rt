@@ -14,7 +14,8 @@ ghost use Rattle.walcore.specs.Making.{Made, Makes, Permits, nothing};
 pub fn logs_are_determined()
     ensures once { (size sector : ℕ) (tears : Bool) (old : Made) (act : Act) (answer : Answer) (new other : Made)
         → Makes size sector tears old act answer new → Makes size sector tears old act answer other → new ≡ other }
-    ensures some { (sector : ℕ) (tears : Bool) (s : State) (old : Made) (act : Act) (answer : Answer) (b a : ℕ) (t : State)
+    ensures some { (sector : ℕ) (tears : Bool) (s : State) (old : Made) (act : Act) (answer : Answer) (b a : ℕ)
+        (t : State)
         → IsPageSize s.page_size → HasNewest s.page_size old → AreWords act → Step s act answer b a t → (new : Made)
         × Makes s.page_size sector tears old act answer new × HasNewest s.page_size new }
     ensures first { (salts : ℕ × ℕ) (db : List ℕ) (answer : Answer)

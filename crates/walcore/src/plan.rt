@@ -1,12 +1,11 @@
 //! What a fold is going to do (own).
-ghost use Rattle.std.specs.Prelude.{◌≡◌, ◌↔◌, ◌+◌, ◌≤◌, ℕ, List, length, IfOk, OnOk, OnErr};
-ghost use Rattle.crashdisk.specs.Call.{DiskState, IsSoundDisk, ArePresent};
+ghost use Rattle.std.specs.Prelude.{◌≡◌, ◌+◌, ◌≤◌, ℕ, List, IfOk, OnOk, OnErr};
+ghost use Rattle.crashdisk.specs.During.{During};
 ghost use Rattle.sqwal.specs.Took.{Took};
 ghost use Rattle.sqwal.specs.Header.{named_size, IsHeader};
 ghost use Rattle.sqwal.specs.Frames.{IsValidFrame};
-ghost use Rattle.crashdisk.specs.Keeps.{Still, TellsRefusal};
-ghost use Rattle.walcore.specs.Plans.{wanted_page, HasRoom, IsTable, IsFit, IsPlan, JudgeAnswer, PlanAnswer};
-ghost use Rattle.walcore.specs.Plans.{ReadAnswer};
+ghost use Rattle.walcore.specs.Plans.{wanted_page, HasRoom, IsTable, JudgeAnswer, PlanAnswer};
+ghost use Rattle.walcore.specs.Reading.{OnlyReads, PlansFold};
 
 use crate::error::WalError;
 use crate::reading::{scan_log, zeros};
@@ -139,13 +138,7 @@ pub fn read_plan<D: Disk>(
     long: u64,
     page_size: PageSize,
 ) -> Result<Plan, WalError>
-    ensures word { D.keeps_word disk.old ↔ D.keeps_word disk.new }
-    ensures still { D.keeps_word disk.old → IsSoundDisk (D.state disk.old)
-        → Still (D.state disk.old) (D.state disk.new) }
-    ensures told { D.keeps_word disk.old → TellsRefusal WalError.Device result (D.state disk.old) (D.state disk.new) }
-    ensures plan { D.keeps_word disk.old → IsSoundDisk (D.state disk.old)
-        → (w : List ℕ) → ArePresent (D.state disk.old).log w → length w ≡ long
-        → ReadAnswer page_size w result (D.state disk.old) (D.state disk.new) }
+    ensures disk { During D.keeps_word D.state disk.old disk.new (OnlyReads result (PlansFold long page_size result)) }
     ensures room { IfOk result HasRoom }
 {
     let scanned = scan_log(alloc, disk, long)?;

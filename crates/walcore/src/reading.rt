@@ -1,9 +1,8 @@
 //! The scan of the log on a disk (own).
-ghost use Rattle.std.specs.Prelude.{◌≡◌, ◌↔◌, ◌+◌, ◌<◌, ◌≤◌, ℕ, List, [], length, take, IfOk, OnErr};
-ghost use Rattle.crashdisk.specs.Call.{DiskState, IsSoundDisk, ArePresent};
-ghost use Rattle.sqwal.specs.Took.{Took};
-ghost use Rattle.walcore.specs.Steps.{IsWithoutHeader, PieceAnswer, ScanAnswer};
-ghost use Rattle.crashdisk.specs.Keeps.{Still, TellsRefusal};
+ghost use Rattle.std.specs.Prelude.{◌≡◌, ◌<◌, length, IfOk, OnErr};
+ghost use Rattle.crashdisk.specs.During.{During};
+ghost use Rattle.walcore.specs.Steps.{IsWithoutHeader};
+ghost use Rattle.walcore.specs.Reading.{OnlyReads, TakesPiece, TakesLog, ScansLog};
 
 use crate::error::WalError;
 use crashdisk::{Disk, File};
@@ -34,13 +33,8 @@ fn feed_piece<D: Disk>(
     at: u64,
     piece: &mut [u8],
 ) -> Result<bool, WalError>
-    ensures word { D.keeps_word disk.old ↔ D.keeps_word disk.new }
-    ensures still { D.keeps_word disk.old → IsSoundDisk (D.state disk.old)
-        → Still (D.state disk.old) (D.state disk.new) }
-    ensures told { D.keeps_word disk.old → TellsRefusal WalError.Device result (D.state disk.old) (D.state disk.new) }
-    ensures took { D.keeps_word disk.old → IsSoundDisk (D.state disk.old) → (w : List ℕ)
-        → ArePresent (D.state disk.old).log w → at + length piece.old ≤ length w → Took (take at w) scan.old
-        → PieceAnswer w (at + length piece.old) result scan.new (D.state disk.old) (D.state disk.new) }
+    ensures { During D.keeps_word D.state disk.old disk.new
+        (OnlyReads result (TakesPiece at (length piece.old) scan.old scan.new result)) }
 {
     disk.read_at(File::Log, at, piece)?;
     match scan.feed(piece) {
@@ -58,13 +52,8 @@ fn scan_pieces<D: Disk>(
     buffer: &mut [u8],
 ) -> Result<bool, WalError>
     requires { 0 < length buffer.old }
-    ensures word { D.keeps_word disk.old ↔ D.keeps_word disk.new }
-    ensures still { D.keeps_word disk.old → IsSoundDisk (D.state disk.old)
-        → Still (D.state disk.old) (D.state disk.new) }
-    ensures told { D.keeps_word disk.old → TellsRefusal WalError.Device result (D.state disk.old) (D.state disk.new) }
-    ensures took { D.keeps_word disk.old → IsSoundDisk (D.state disk.old)
-        → (w : List ℕ) → ArePresent (D.state disk.old).log w → length w ≡ long → Took [] scan.old
-        → PieceAnswer w long result scan.new (D.state disk.old) (D.state disk.new) }
+    ensures { During D.keeps_word D.state disk.old disk.new
+        (OnlyReads result (TakesLog long scan.old scan.new result)) }
 {
     let most = buffer.len();
     let mut at = 0;
@@ -91,13 +80,7 @@ pub fn zeros(alloc: Global, long: usize) -> Result<Vec<u8>, WalError>
 
 /// Scans the log, which has this many bytes. None where its header isn't valid.
 pub fn scan_log<D: Disk>(alloc: Global, disk: &mut D, long: u64) -> Result<Option<Scan>, WalError>
-    ensures word { D.keeps_word disk.old ↔ D.keeps_word disk.new }
-    ensures still { D.keeps_word disk.old → IsSoundDisk (D.state disk.old)
-        → Still (D.state disk.old) (D.state disk.new) }
-    ensures told { D.keeps_word disk.old → TellsRefusal WalError.Device result (D.state disk.old) (D.state disk.new) }
-    ensures took { D.keeps_word disk.old → IsSoundDisk (D.state disk.old)
-        → (w : List ℕ) → ArePresent (D.state disk.old).log w → length w ≡ long
-        → ScanAnswer w result (D.state disk.old) (D.state disk.new) }
+    ensures { During D.keeps_word D.state disk.old disk.new (OnlyReads result (ScansLog long result)) }
 {
     let mut buffer = zeros(alloc, PIECE)?;
     let mut scan = Scan::new(alloc);

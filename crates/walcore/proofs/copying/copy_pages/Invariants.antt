@@ -1,5 +1,5 @@
 use Rattle.std.proofs.Common.{◌≡◌, ◌↔◌, ◌-◌, ◌*◌, ◌<◌, ◌≤◌, ℕ, List, length}
-use Rattle.crashdisk.specs.Call.{IsSoundDisk, ArePresent, HasCalls}
+use Rattle.crashdisk.specs.Call.{ArePresent, HasCalls}
 use Rattle.sqval.specs.CommitFaults.{most_bytes}
 use Rattle.walcore.specs.Changes.{MayFill}
 use Rattle.sqval.specs.Database.{Database}
@@ -14,13 +14,13 @@ abbrev pub invariant-loop-done : goal.invariant-loop-done
 invariant-loop-done g l = record {
   within : l.done ≤ l.count;
   word : g.D.Disk.keeps_word l.initial.disk ↔ g.D.Disk.keeps_word l.disk;
-  log : g.D.Disk.keeps_word l.initial.disk → IsSoundDisk (g.D.Disk.state l.initial.disk) → KeepsLog (g.D.Disk.state l.initial.disk) (g.D.Disk.state l.disk);
-  calls : g.D.Disk.keeps_word l.initial.disk → IsSoundDisk (g.D.Disk.state l.initial.disk) → l.count * l.size ≤ most_bytes → HasCalls (MayFill l.size) (g.D.Disk.state l.initial.disk) (g.D.Disk.state l.disk);
-  quiet : g.D.Disk.keeps_word l.initial.disk → IsSoundDisk (g.D.Disk.state l.initial.disk) → (g.D.Disk.state l.initial.disk).refused < (g.D.Disk.state l.disk).refused → ⊥;
-  pages : g.D.Disk.keeps_word l.initial.disk → IsSoundDisk (g.D.Disk.state l.initial.disk) → (db w : List ℕ) (d : Database)
+  log : g.D.Disk.keeps_word l.initial.disk → KeepsLog (g.D.Disk.state l.initial.disk) (g.D.Disk.state l.disk);
+  calls : g.D.Disk.keeps_word l.initial.disk → l.count * l.size ≤ most_bytes → HasCalls (MayFill l.size) (g.D.Disk.state l.initial.disk) (g.D.Disk.state l.disk);
+  quiet : g.D.Disk.keeps_word l.initial.disk → (g.D.Disk.state l.initial.disk).refused < (g.D.Disk.state l.disk).refused → ⊥;
+  pages : g.D.Disk.keeps_word l.initial.disk → (db w : List ℕ) (d : Database)
       → ArePresent (g.D.Disk.state l.initial.disk).db db → ArePresent (g.D.Disk.state l.initial.disk).log w → IsCopy l.size l.count w l.frames l.index → length d ≡ l.count
       → IsView l.size db w l.frames d → Upto l.size d (g.D.Disk.state l.initial.disk) l.done (g.D.Disk.state l.disk);
-  filling : g.D.Disk.keeps_word l.initial.disk → IsSoundDisk (g.D.Disk.state l.initial.disk) → (w : List ℕ) (d : Database) → ArePresent (g.D.Disk.state l.initial.disk).log w
+  filling : g.D.Disk.keeps_word l.initial.disk → (w : List ℕ) (d : Database) → ArePresent (g.D.Disk.state l.initial.disk).log w
       → IsCopy l.size l.count w l.frames l.index → Filling l.size w l.frames d (g.D.Disk.state l.initial.disk) → Filling l.size w l.frames d (g.D.Disk.state l.disk);
 }
 

@@ -18,19 +18,22 @@ use Rattle.walcore.proofs.copying.copy_run.Goals as goal
 pub returns-then-hit-eq0-clause-disk : goal.returns-then-hit-eq0-clause-disk
 returns-then-hit-eq0-clause-disk g c = record {
   word = search rules;
-  holds = λ word sound. record {
-    log = keeps_still _ _ sound (still _ sound);
-    calls = λ within. no_calls _;
-    told = λ more. absurd (omega (arith, more));
-    pages = λ w count are valid table le within.
-        run_none c.args.size w c.args.frames c.args.number 1 _ refl (hit_none c.args.size count w c.args.frames c.args.number c.find-hit.result.frame c.args.index.now table (c.find-hit.ensures.newest (λ z. omega (arith, c.requires.number.0, z))) c.requires.number.0 (omega (arith, c.requires.number, le)) c.if-hit-eq0.true);
-  };
+  holds = λ word.
+      let sound = g.met.D.Disk.sound c.args.disk.now word in
+      record {
+        log = keeps_still _ _ sound (still _ sound);
+        calls = λ within. no_calls _;
+        told = λ more. absurd (omega (arith, more));
+        pages = λ w count are valid table le within.
+            run_none c.args.size w c.args.frames c.args.number 1 _ refl (hit_none c.args.size count w c.args.frames c.args.number c.find-hit.result.frame c.args.index.now table (c.find-hit.ensures.newest (λ z. omega (arith, c.requires.number.0, z))) c.requires.number.0 (omega (arith, c.requires.number, le)) c.if-hit-eq0.true);
+      };
 }
 
 pub returns-in_err-read_at-clause-disk : goal.returns-in_err-read_at-clause-disk
 returns-in_err-read_at-clause-disk g c = record {
   word = c.read_at.ensures.word;
-  holds = λ word sound.
+  holds = λ word.
+      let sound = g.met.D.Disk.sound c.args.disk.now word in
       let size = c.args.size in
       let frame = c.find-hit.result.frame in
       let n = c.run_from-count.result in
@@ -53,7 +56,8 @@ returns-in_err-read_at-clause-disk g c = record {
 pub returns-in_err-write_at-clause-disk : goal.returns-in_err-write_at-clause-disk
 returns-in_err-write_at-clause-disk g c = record {
   word = search rules;
-  holds = λ word sound.
+  holds = λ word.
+      let sound = g.met.D.Disk.sound c.args.disk.now word in
       let size = c.args.size in
       let frame = c.find-hit.result.frame in
       let n = c.run_from-count.result in
@@ -88,7 +92,8 @@ returns-in_err-write_at-clause-disk g c = record {
 pub returns-clause-disk : goal.returns-clause-disk
 returns-clause-disk g c = record {
   word = search rules;
-  holds = λ word sound.
+  holds = λ word.
+      let sound = g.met.D.Disk.sound c.args.disk.now word in
       let size = c.args.size in
       let frame = c.find-hit.result.frame in
       let n = c.run_from-count.result in

@@ -1,6 +1,5 @@
 use Rattle.std.proofs.Common.{◌≡◌, ℕ, ◌+◌, ◌≤◌, List, length}
 use Rattle.std.specs.Prelude.{◌↔◌}
-use Rattle.crashdisk.specs.Call.{IsSoundDisk}
 use Rattle.sqwal.specs.Refusal.{most_frames}
 use Rattle.sqval.specs.JudgedPages.{lent}
 use Rattle.walcore.specs.Made.{IsExtended}
@@ -12,7 +11,7 @@ invariant-loop-k g l = record {
   word : g.D.Disk.keeps_word l.fn.disk ↔ g.D.Disk.keeps_word l.disk;
   keeps : KeepsCore l.fn.core l.core;
   frames : l.core.frames ≡ l.fn.core.frames + l.k;
-  going : g.D.Disk.keeps_word l.fn.disk → IsSoundDisk (g.D.Disk.state l.fn.disk)
+  going : g.D.Disk.keeps_word l.fn.disk
       → (e f : List ℕ) (n : ℕ) → IsExtended l.fn.core.page_size e n (lent l.pages) l.size f → n + length (lent l.pages) ≤ most_frames → KnowsLog f n l.fn.core (g.D.Disk.state l.fn.disk)
       → Going l.fn.core.page_size f (n + length (lent l.pages)) n (g.D.Disk.state l.fn.disk) (g.D.Disk.state l.disk) × KnowsLog f (n + l.k) l.core (g.D.Disk.state l.disk) × ((g.D.Disk.state l.disk).refused ≡ (g.D.Disk.state l.fn.disk).refused);
 }

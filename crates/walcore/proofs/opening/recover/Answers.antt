@@ -1,3 +1,6 @@
+use Rattle.std.proofs.Common.{rules}
+use Rattle.sqval.specs.Database.{Database}
+use Rattle.walcore.specs.Alone.{ShowsAlone}
 use Rattle.crashdisk.specs.declared.file.File.TheVariants.{Log}
 use Rattle.walcore.specs.declared.error.WalError.TheVariants.{Device}
 use Rattle.sqval.proofs.Answering.{passed}
@@ -11,194 +14,157 @@ use Rattle.walcore.proofs.Foremost.{unsynced, synced_first}
 use Rattle.walcore.proofs.ToldRefusals.{called_quiet, tells_quiet, tells_then, passes_device}
 use Rattle.walcore.proofs.opening.recover.Goals as goal
 
-pub returns-in_err-sync-clause-recovered : goal.returns-in_err-sync-clause-recovered
-returns-in_err-sync-clause-recovered g c = λ word past found are same fits chance.
-    recover_unsynced past found (g.D.Disk.state c.args.disk.now) fits are chance _ c.sync.result c.from_residual.result _ c.in_err-sync.was (c.sync.ensures.state word) (passed c.from_residual.result Device c.from_residual.ensures.1)
-
-pub returns-in_err-judge_file-clause-recovered : goal.returns-in_err-judge_file-clause-recovered
-returns-in_err-judge_file-clause-recovered g c = λ word past found are same fits chance.
-    let next = c.sync.ensures.word.0 word in
-    let ready = ready_synced past found (g.D.Disk.state c.args.disk.now) fits are chance (g.D.Disk.state c.sync.new.self) (c.in_ok-sync.ensures.state word) in
-    let files = synced_files past found (g.D.Disk.state c.args.disk.now) fits are chance (g.D.Disk.state c.sync.new.self) ready in
-    recover_unjudged past found (g.D.Disk.state c.args.disk.now) fits are chance (g.D.Disk.state c.sync.new.self) ready c.args.page_size same (g.D.Disk.state c.judge_file.new.disk) (c.judge_file.ensures.still next ready.later.sound)
-    _ c.judge_file.result c.from_residual-in_err-judge_file.result c.in_err-judge_file.was
-    (c.judge_file.ensures.judged next ready.later.sound (whole_at past found (g.D.Disk.state c.args.disk.now) fits are chance (g.D.Disk.state c.sync.new.self) ready c.args.page_size same) found.db found.log files.db files.log)
-    (passed c.from_residual-in_err-judge_file.result _ c.from_residual-in_err-judge_file.ensures.1)
-
-pub returns-in_err-fold_synced-clause-recovered : goal.returns-in_err-fold_synced-clause-recovered
-returns-in_err-fold_synced-clause-recovered g c = λ word past found are same fits chance.
-    let next = c.sync.ensures.word.0 word in
-    let first = ready_synced past found (g.D.Disk.state c.args.disk.now) fits are chance (g.D.Disk.state c.sync.new.self) (c.in_ok-sync.ensures.state word) in
-    let then = c.judge_file.ensures.word.0 next in
-    let ready = ready_still past found (g.D.Disk.state c.args.disk.now) fits are chance (g.D.Disk.state c.sync.new.self) (g.D.Disk.state c.judge_file.new.disk) first (c.judge_file.ensures.still next first.later.sound) in
-    let files = synced_files past found (g.D.Disk.state c.args.disk.now) fits are chance (g.D.Disk.state c.judge_file.new.disk) ready in
-    recover_unfolded past found (g.D.Disk.state c.args.disk.now) fits are chance (g.D.Disk.state c.judge_file.new.disk) ready c.args.page_size same (g.D.Disk.state c.fold_synced.new.disk)
-    (c.fold_synced.ensures.calls then).later (c.fold_synced.ensures.agrees then) (c.fold_synced.ensures.lengths then) _ c.fold_synced.result c.from_residual-in_err-fold_synced.result c.in_err-fold_synced.was
-    (c.fold_synced.ensures.folds then files.empty found.db found.log files.db files.log) (passed c.from_residual-in_err-fold_synced.result _ c.from_residual-in_err-fold_synced.ensures.1)
-
-pub returns-clause-recovered : goal.returns-clause-recovered
-returns-clause-recovered g c = λ word past found are same fits chance.
-    let next = c.sync.ensures.word.0 word in
-    let first = ready_synced past found (g.D.Disk.state c.args.disk.now) fits are chance (g.D.Disk.state c.sync.new.self) (c.in_ok-sync.ensures.state word) in
-    let then = c.judge_file.ensures.word.0 next in
-    let ready = ready_still past found (g.D.Disk.state c.args.disk.now) fits are chance (g.D.Disk.state c.sync.new.self) (g.D.Disk.state c.judge_file.new.disk) first (c.judge_file.ensures.still next first.later.sound) in
-    let files = synced_files past found (g.D.Disk.state c.args.disk.now) fits are chance (g.D.Disk.state c.judge_file.new.disk) ready in
-    let last = c.fold_synced.ensures.word.0 then in
-    let later = (c.fold_synced.ensures.calls then).later in
-    recover_counted past found (g.D.Disk.state c.args.disk.now) fits are chance (g.D.Disk.state c.judge_file.new.disk) ready c.args.page_size same (g.D.Disk.state c.fold_synced.new.disk)
-    later (c.fold_synced.ensures.agrees then) (c.fold_synced.ensures.lengths then) _ c.fold_synced.result c.in_ok-fold_synced.was
-    (c.fold_synced.ensures.folds then files.empty found.db found.log files.db files.log) (g.D.Disk.state c.count_pages.new.disk) (c.count_pages.ensures.still last later.sound) c.count_pages.result (c.count_pages.ensures.count last later.sound)
-
-pub returns-clause-empty : goal.returns-clause-empty
-returns-clause-empty g c = λ word sound.
-    let next = c.sync.ensures.word.0 word in
-    let then = c.judge_file.ensures.word.0 next in
-    let later = (c.fold_synced.ensures.calls then).later in
-    let first = fold_sync c.args.page_size Log c.sync.result (g.D.Disk.state c.args.disk.now) (g.D.Disk.state c.sync.new.self) sound (c.sync.ensures.state word) in
-    on_ok c.count_pages.result _ (down_still _ (g.D.Disk.state c.fold_synced.new.disk) (g.D.Disk.state c.count_pages.new.disk) (c.count_pages.ensures.still (c.fold_synced.ensures.word.0 then) later.sound)
-    (folded_empty c.args.page_size _ c.fold_synced.result (g.D.Disk.state c.judge_file.new.disk) (g.D.Disk.state c.fold_synced.new.disk) c.in_ok-fold_synced.was
-    (c.fold_synced.ensures.folds then (still_empty (g.D.Disk.state c.sync.new.self) (g.D.Disk.state c.judge_file.new.disk) (c.judge_file.ensures.still next first.sound)
-    (synced_empty (g.D.Disk.state c.args.disk.now) (g.D.Disk.state c.sync.new.self) sound (c.in_ok-sync.ensures.state word))))))
-
-pub returns-in_err-judge_file-clause-refuses : goal.returns-in_err-judge_file-clause-refuses
-returns-in_err-judge_file-clause-refuses g c = λ word sound fits found are.
-    let s = g.D.Disk.state c.args.disk.now in
-    let a = g.D.Disk.state c.sync.new.self in
-    let synced = c.in_ok-sync.ensures.state word in
-    let first = fold_sync c.args.page_size Log c.sync.result s a sound (c.sync.ensures.state word) in
-    let files = files_synced c.args.page_size found s a sound fits are synced in
-    unjudged c.args.page_size found s a sound fits are synced (g.D.Disk.state c.judge_file.new.disk) c.judge_file.result c.from_residual-in_err-judge_file.result _ c.in_err-judge_file.was
-    (passed c.from_residual-in_err-judge_file.result _ c.from_residual-in_err-judge_file.ensures.1)
-    (c.judge_file.ensures.judged (c.sync.ensures.word.0 word) first.sound (whole_synced c.args.page_size found s a sound fits are synced) found.db found.log files.db files.log)
-
-pub returns-in_err-fold_synced-clause-refuses : goal.returns-in_err-fold_synced-clause-refuses
-returns-in_err-fold_synced-clause-refuses g c = λ word sound fits found are.
-    let s = g.D.Disk.state c.args.disk.now in
-    let a = g.D.Disk.state c.sync.new.self in
-    let b = g.D.Disk.state c.judge_file.new.disk in
-    let synced = c.in_ok-sync.ensures.state word in
-    let first = fold_sync c.args.page_size Log c.sync.result s a sound (c.sync.ensures.state word) in
-    let next = c.sync.ensures.word.0 word in
-    let still = c.judge_file.ensures.still next first.sound in
-    let files = files_looked c.args.page_size found s a sound fits are synced b still in
-    unfolded c.args.page_size found s a sound fits are synced b still (g.D.Disk.state c.fold_synced.new.disk) c.fold_synced.result c.from_residual-in_err-fold_synced.result _ c.in_err-fold_synced.was
-    (passed c.from_residual-in_err-fold_synced.result _ c.from_residual-in_err-fold_synced.ensures.1)
-    (c.fold_synced.ensures.folds (c.judge_file.ensures.word.0 next) (still_empty a b still (synced_empty s a sound synced)) found.db found.log files.db files.log)
-
-pub returns-clause-refuses : goal.returns-clause-refuses
-returns-clause-refuses g c = λ word sound fits found are.
-    let s = g.D.Disk.state c.args.disk.now in
-    let a = g.D.Disk.state c.sync.new.self in
-    let b = g.D.Disk.state c.judge_file.new.disk in
-    let synced = c.in_ok-sync.ensures.state word in
-    let first = fold_sync c.args.page_size Log c.sync.result s a sound (c.sync.ensures.state word) in
-    let next = c.sync.ensures.word.0 word in
-    let still = c.judge_file.ensures.still next first.sound in
-    let then = c.judge_file.ensures.word.0 next in
-    let later = (c.fold_synced.ensures.calls then).later in
-    let seen = files_synced c.args.page_size found s a sound fits are synced in
-    let files = files_looked c.args.page_size found s a sound fits are synced b still in
-    uncounted c.args.page_size found s a sound fits are synced b still (g.D.Disk.state c.fold_synced.new.disk) (g.D.Disk.state c.count_pages.new.disk) c.judge_file.result _ c.fold_synced.result _ c.count_pages.result
-    c.in_ok-judge_file.was (c.judge_file.ensures.judged next first.sound (whole_synced c.args.page_size found s a sound fits are synced) found.db found.log seen.db seen.log)
-    c.in_ok-fold_synced.was (c.fold_synced.ensures.folds then (still_empty a b still (synced_empty s a sound synced)) found.db found.log files.db files.log) later.refused
-    (c.count_pages.ensures.count (c.fold_synced.ensures.word.0 then) later.sound)
-
-pub returns-clause-opens : goal.returns-clause-opens
-returns-clause-opens g c = λ word sound fits found are.
-    let s = g.D.Disk.state c.args.disk.now in
-    let a = g.D.Disk.state c.sync.new.self in
-    let b = g.D.Disk.state c.judge_file.new.disk in
-    let synced = c.in_ok-sync.ensures.state word in
-    let first = fold_sync c.args.page_size Log c.sync.result s a sound (c.sync.ensures.state word) in
-    let next = c.sync.ensures.word.0 word in
-    let still = c.judge_file.ensures.still next first.sound in
-    let seen = files_synced c.args.page_size found s a sound fits are synced in
-    let files = files_looked c.args.page_size found s a sound fits are synced b still in
-    on_ok c.count_pages.result _ (may_open c.args.page_size found s a b (g.D.Disk.state c.fold_synced.new.disk) c.judge_file.result _ c.fold_synced.result _ fits
-    c.in_ok-judge_file.was (c.judge_file.ensures.judged next first.sound (whole_synced c.args.page_size found s a sound fits are synced) found.db found.log seen.db seen.log)
-    c.in_ok-fold_synced.was (c.fold_synced.ensures.folds (c.judge_file.ensures.word.0 next) (still_empty a b still (synced_empty s a sound synced)) found.db found.log files.db files.log))
-
-pub returns-in_err-sync-clause-recovers : goal.returns-in_err-sync-clause-recovers
-returns-in_err-sync-clause-recovers g c = λ word sound.
-    let s = g.D.Disk.state c.args.disk.now in
-    let a = g.D.Disk.state c.sync.new.self in
-    let call = c.sync.ensures.state word in
-    let device = passed c.from_residual.result Device c.from_residual.ensures.1 in
-    record {
-      calls = record { later = fold_sync c.args.page_size Log c.sync.result s a sound call; told = λ more. device };
-      agrees = agrees_synced c.args.page_size c.sync.result s a sound call;
-      synced = unsynced c.args.page_size s a c.sync.result _ c.from_residual.result c.in_err-sync.was device call;
-    }
-
-pub returns-in_err-judge_file-clause-recovers : goal.returns-in_err-judge_file-clause-recovers
-returns-in_err-judge_file-clause-recovers g c = λ word sound.
-    let s = g.D.Disk.state c.args.disk.now in
-    let a = g.D.Disk.state c.sync.new.self in
-    let b = g.D.Disk.state c.judge_file.new.disk in
-    let call = c.sync.ensures.state word in
-    let next = c.sync.ensures.word.0 word in
-    let first = fold_sync c.args.page_size Log c.sync.result s a sound call in
-    let still = c.judge_file.ensures.still next first.sound in
-    let quiet = called_quiet c.sync.result _ s a c.in_ok-sync.was call.elsewhere.refused in
-    record {
-      calls = record {
-        later = later_then s a b first (later_still a b first.sound still);
-        told = λ more. passes_device c.judge_file.result c.from_residual-in_err-judge_file.result _ c.in_err-judge_file.was c.from_residual-in_err-judge_file.ensures.1
-            (tells_then c.judge_file.result s a b quiet (c.judge_file.ensures.told next) more);
+pub returns-in_err-sync : goal.returns-in_err-sync
+returns-in_err-sync g c = record {
+  word = c.sync.ensures.word;
+  holds = λ word.
+      let s = g.D.Disk.state c.args.disk.now in
+      let a = g.D.Disk.state c.sync.new.self in
+      let sound = g.met.D.Disk.sound c.args.disk.now word in
+      let call = c.sync.ensures.state word in
+      let first = fold_sync c.args.page_size Log c.sync.result s a sound call in
+      let device = passed c.from_residual.result Device c.from_residual.ensures.1 in
+      record {
+        calls = record { later = first; told = λ more. device };
+        agrees = agrees_synced c.args.page_size c.sync.result s a sound call;
+        synced = unsynced c.args.page_size s a c.sync.result _ c.from_residual.result c.in_err-sync.was device call;
+        empty = search rules;
+        refuses = search rules;
+        opens = search rules;
+        recovered = λ past found are same fits chance. recover_unsynced past found s fits are chance _ c.sync.result c.from_residual.result _ c.in_err-sync.was call device;
       };
-      agrees = agrees_then c.args.page_size s a b (agrees_synced c.args.page_size c.sync.result s a sound call) (λ d alone. alone_still c.args.page_size d a b first.sound still alone);
-      synced = synced_first c.args.page_size s a b c.sync.result _ c.from_residual-in_err-judge_file.result c.in_ok-sync.was call
-          (λ w d down alone. alone_still c.args.page_size d a b first.sound still alone);
-    }
+}
 
-pub returns-in_err-fold_synced-clause-recovers : goal.returns-in_err-fold_synced-clause-recovers
-returns-in_err-fold_synced-clause-recovers g c = λ word sound.
-    let s = g.D.Disk.state c.args.disk.now in
-    let a = g.D.Disk.state c.sync.new.self in
-    let b = g.D.Disk.state c.judge_file.new.disk in
-    let f = g.D.Disk.state c.fold_synced.new.disk in
-    let call = c.sync.ensures.state word in
-    let next = c.sync.ensures.word.0 word in
-    let then = c.judge_file.ensures.word.0 next in
-    let first = fold_sync c.args.page_size Log c.sync.result s a sound call in
-    let still = c.judge_file.ensures.still next first.sound in
-    let quiet = tells_quiet c.judge_file.result _ s a b c.in_ok-judge_file.was (called_quiet c.sync.result _ s a c.in_ok-sync.was call.elsewhere.refused) (c.judge_file.ensures.told next) in
-    let agrees = agrees_looked c.args.page_size a b f first.sound still (c.fold_synced.ensures.agrees then) in
-    record {
-      calls = record {
-        later = later_then s b f (later_then s a b first (later_still a b first.sound still)) (c.fold_synced.ensures.calls then).later;
-        told = λ more. passes_device c.fold_synced.result c.from_residual-in_err-fold_synced.result _ c.in_err-fold_synced.was c.from_residual-in_err-fold_synced.ensures.1
-            (tells_then c.fold_synced.result s b f quiet (c.fold_synced.ensures.calls then).told more);
+pub returns-in_err-judge_file : goal.returns-in_err-judge_file
+returns-in_err-judge_file g c = record {
+  word = search rules;
+  holds = λ word.
+      let s = g.D.Disk.state c.args.disk.now in
+      let a = g.D.Disk.state c.sync.new.self in
+      let sound = g.met.D.Disk.sound c.args.disk.now word in
+      let call = c.sync.ensures.state word in
+      let first = fold_sync c.args.page_size Log c.sync.result s a sound call in
+      let synced = c.in_ok-sync.ensures.state word in
+      let b = g.D.Disk.state c.judge_file.new.disk in
+      let judged = c.judge_file.ensures.holds (c.sync.ensures.word.0 word) in
+      let still = judged.still in
+      let called = called_quiet c.sync.result _ s a c.in_ok-sync.was call.elsewhere.refused in
+      let end = passed c.from_residual-in_err-judge_file.result _ c.from_residual-in_err-judge_file.ensures.1 in
+      record {
+        calls = record {
+          later = later_then s a b first (later_still a b first.sound still);
+          told = λ more. passes_device c.judge_file.result c.from_residual-in_err-judge_file.result _ c.in_err-judge_file.was c.from_residual-in_err-judge_file.ensures.1 (tells_then c.judge_file.result s a b called judged.told more);
+        };
+        agrees = agrees_then c.args.page_size s a b (agrees_synced c.args.page_size c.sync.result s a sound call) (λ d alone. alone_still c.args.page_size d a b first.sound still alone);
+        synced = synced_first c.args.page_size s a b c.sync.result _ c.from_residual-in_err-judge_file.result c.in_ok-sync.was call
+            (λ w d down alone. alone_still c.args.page_size d a b first.sound still alone);
+        empty = search rules;
+        refuses = λ fits found are.
+            let files = files_synced c.args.page_size found s a sound fits are synced in
+            unjudged c.args.page_size found s a sound fits are synced b c.judge_file.result c.from_residual-in_err-judge_file.result _ c.in_err-judge_file.was end
+            (judged.found (whole_synced c.args.page_size found s a sound fits are synced) found.db found.log files.db files.log);
+        opens = search rules;
+        recovered = λ past found are same fits chance.
+            let ready = ready_synced past found s fits are chance a synced in
+            let files = synced_files past found s fits are chance a ready in
+            recover_unjudged past found s fits are chance a ready c.args.page_size same b still _ c.judge_file.result c.from_residual-in_err-judge_file.result c.in_err-judge_file.was
+            (judged.found (whole_at past found s fits are chance a ready c.args.page_size same) found.db found.log files.db files.log) end;
       };
-      agrees = agrees_after c.args.page_size c.sync.result s a f sound call agrees;
-      synced = synced_first c.args.page_size s a f c.sync.result _ c.from_residual-in_err-fold_synced.result c.in_ok-sync.was call agrees;
-    }
+}
 
-pub returns-clause-recovers : goal.returns-clause-recovers
-returns-clause-recovers g c = λ word sound.
-    let s = g.D.Disk.state c.args.disk.now in
-    let a = g.D.Disk.state c.sync.new.self in
-    let b = g.D.Disk.state c.judge_file.new.disk in
-    let f = g.D.Disk.state c.fold_synced.new.disk in
-    let t = g.D.Disk.state c.count_pages.new.disk in
-    let call = c.sync.ensures.state word in
-    let next = c.sync.ensures.word.0 word in
-    let then = c.judge_file.ensures.word.0 next in
-    let last = c.fold_synced.ensures.word.0 then in
-    let later = (c.fold_synced.ensures.calls then).later in
-    let first = fold_sync c.args.page_size Log c.sync.result s a sound call in
-    let still = c.judge_file.ensures.still next first.sound in
-    let counted = c.count_pages.ensures.still last later.sound in
-    let judged = tells_quiet c.judge_file.result _ s a b c.in_ok-judge_file.was (called_quiet c.sync.result _ s a c.in_ok-sync.was call.elsewhere.refused) (c.judge_file.ensures.told next) in
-    let folded = tells_quiet c.fold_synced.result _ s b f c.in_ok-fold_synced.was judged (c.fold_synced.ensures.calls then).told in
-    let agrees = agrees_looked c.args.page_size a b f first.sound still (c.fold_synced.ensures.agrees then) in
-    record {
-      calls = record {
-        later = later_then s b t (later_then s a b first (later_still a b first.sound still)) (later_then b f t later (later_still f t later.sound counted));
-        told = tells_then c.count_pages.result s f t folded (c.count_pages.ensures.told last);
+pub returns-in_err-fold_synced : goal.returns-in_err-fold_synced
+returns-in_err-fold_synced g c = record {
+  word = search rules;
+  holds = λ word.
+      let s = g.D.Disk.state c.args.disk.now in
+      let a = g.D.Disk.state c.sync.new.self in
+      let sound = g.met.D.Disk.sound c.args.disk.now word in
+      let call = c.sync.ensures.state word in
+      let first = fold_sync c.args.page_size Log c.sync.result s a sound call in
+      let synced = c.in_ok-sync.ensures.state word in
+      let b = g.D.Disk.state c.judge_file.new.disk in
+      let judged = c.judge_file.ensures.holds (c.sync.ensures.word.0 word) in
+      let still = judged.still in
+      let called = called_quiet c.sync.result _ s a c.in_ok-sync.was call.elsewhere.refused in
+      let quiet = tells_quiet c.judge_file.result _ s a b c.in_ok-judge_file.was called judged.told in
+      let f = g.D.Disk.state c.fold_synced.new.disk in
+      let then = c.judge_file.ensures.word.0 (c.sync.ensures.word.0 word) in
+      let folded = c.fold_synced.ensures.holds then in
+      let later = folded.calls.later in
+      let none = still_empty a b still (synced_empty s a sound synced) in
+      let looked = agrees_looked c.args.page_size a b f first.sound still folded.agrees in
+      let end = passed c.from_residual-in_err-fold_synced.result _ c.from_residual-in_err-fold_synced.ensures.1 in
+      record {
+        calls = record {
+          later = later_then s b f (later_then s a b first (later_still a b first.sound still)) later;
+          told = λ more. passes_device c.fold_synced.result c.from_residual-in_err-fold_synced.result _ c.in_err-fold_synced.was c.from_residual-in_err-fold_synced.ensures.1 (tells_then c.fold_synced.result s b f quiet folded.calls.told more);
+        };
+        agrees = agrees_after c.args.page_size c.sync.result s a f sound call looked;
+        synced = synced_first c.args.page_size s a f c.sync.result _ c.from_residual-in_err-fold_synced.result c.in_ok-sync.was call looked;
+        empty = search rules;
+        refuses = λ fits found are.
+            let files = files_looked c.args.page_size found s a sound fits are synced b still in
+            unfolded c.args.page_size found s a sound fits are synced b still f c.fold_synced.result c.from_residual-in_err-fold_synced.result _ c.in_err-fold_synced.was end
+            (folded.folds none found.db found.log files.db files.log);
+        opens = search rules;
+        recovered = λ past found are same fits chance.
+            let first = ready_synced past found s fits are chance a synced in
+            let ready = ready_still past found s fits are chance a b first still in
+            let files = synced_files past found s fits are chance b ready in
+            recover_unfolded past found s fits are chance b ready c.args.page_size same f later folded.agrees folded.lengths _ c.fold_synced.result c.from_residual-in_err-fold_synced.result c.in_err-fold_synced.was
+            (folded.folds files.empty found.db found.log files.db files.log) end;
       };
-      agrees = agrees_then c.args.page_size s f t (agrees_after c.args.page_size c.sync.result s a f sound call agrees)
-          (λ d alone. alone_still c.args.page_size d f t later.sound counted alone);
-      synced = synced_first c.args.page_size s a t c.sync.result _ c.count_pages.result c.in_ok-sync.was call
-          (agrees_then c.args.page_size a f t agrees (λ d alone. alone_still c.args.page_size d f t later.sound counted alone));
-    }
+}
+
+pub returns : goal.returns
+returns g c = record {
+  word = search rules;
+  holds = λ word.
+      let s = g.D.Disk.state c.args.disk.now in
+      let a = g.D.Disk.state c.sync.new.self in
+      let sound = g.met.D.Disk.sound c.args.disk.now word in
+      let call = c.sync.ensures.state word in
+      let first = fold_sync c.args.page_size Log c.sync.result s a sound call in
+      let synced = c.in_ok-sync.ensures.state word in
+      let b = g.D.Disk.state c.judge_file.new.disk in
+      let judged = c.judge_file.ensures.holds (c.sync.ensures.word.0 word) in
+      let still = judged.still in
+      let called = called_quiet c.sync.result _ s a c.in_ok-sync.was call.elsewhere.refused in
+      let quiet = tells_quiet c.judge_file.result _ s a b c.in_ok-judge_file.was called judged.told in
+      let f = g.D.Disk.state c.fold_synced.new.disk in
+      let then = c.judge_file.ensures.word.0 (c.sync.ensures.word.0 word) in
+      let folded = c.fold_synced.ensures.holds then in
+      let later = folded.calls.later in
+      let none = still_empty a b still (synced_empty s a sound synced) in
+      let looked = agrees_looked c.args.page_size a b f first.sound still folded.agrees in
+      let t = g.D.Disk.state c.count_pages.new.disk in
+      let counted = c.count_pages.ensures.holds (c.fold_synced.ensures.word.0 then) in
+      let kept = λ (d : Database) (alone : ShowsAlone c.args.page_size d f). alone_still c.args.page_size d f t later.sound counted.still alone in
+      record {
+        calls = record {
+          later = later_then s b t (later_then s a b first (later_still a b first.sound still)) (later_then b f t later (later_still f t later.sound counted.still));
+          told = tells_then c.count_pages.result s f t (tells_quiet c.fold_synced.result _ s b f c.in_ok-fold_synced.was quiet folded.calls.told) counted.told;
+        };
+        agrees = agrees_then c.args.page_size s f t (agrees_after c.args.page_size c.sync.result s a f sound call looked) kept;
+        synced = synced_first c.args.page_size s a t c.sync.result _ c.count_pages.result c.in_ok-sync.was call (agrees_then c.args.page_size a f t looked kept);
+        empty = on_ok c.count_pages.result _ (down_still _ f t counted.still (folded_empty c.args.page_size _ c.fold_synced.result b f c.in_ok-fold_synced.was (folded.folds none)));
+        refuses = λ fits found are.
+            let seen = files_synced c.args.page_size found s a sound fits are synced in
+            let files = files_looked c.args.page_size found s a sound fits are synced b still in
+            uncounted c.args.page_size found s a sound fits are synced b still f t c.judge_file.result _ c.fold_synced.result _ c.count_pages.result
+            c.in_ok-judge_file.was (judged.found (whole_synced c.args.page_size found s a sound fits are synced) found.db found.log seen.db seen.log)
+            c.in_ok-fold_synced.was (folded.folds none found.db found.log files.db files.log) later.refused counted.found;
+        opens = λ fits found are.
+            let seen = files_synced c.args.page_size found s a sound fits are synced in
+            let files = files_looked c.args.page_size found s a sound fits are synced b still in
+            on_ok c.count_pages.result _ (may_open c.args.page_size found s a b f c.judge_file.result _ c.fold_synced.result _ fits
+            c.in_ok-judge_file.was (judged.found (whole_synced c.args.page_size found s a sound fits are synced) found.db found.log seen.db seen.log)
+            c.in_ok-fold_synced.was (folded.folds none found.db found.log files.db files.log));
+        recovered = λ past found are same fits chance.
+            let first = ready_synced past found s fits are chance a synced in
+            let ready = ready_still past found s fits are chance a b first still in
+            let files = synced_files past found s fits are chance b ready in
+            recover_counted past found s fits are chance b ready c.args.page_size same f later folded.agrees folded.lengths _ c.fold_synced.result c.in_ok-fold_synced.was
+            (folded.folds files.empty found.db found.log files.db files.log) t counted.still c.count_pages.result counted.found;
+      };
+}

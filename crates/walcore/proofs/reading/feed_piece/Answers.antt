@@ -7,32 +7,40 @@ use Rattle.crashdisk.proofs.Stills.{still_looks}
 use Rattle.walcore.proofs.ToldRefusals.{tells_ok}
 use Rattle.walcore.proofs.reading.feed_piece.Goals as goal
 
-pub returns-in_err-read_at-clause-took : goal.returns-in_err-read_at-clause-took
-returns-in_err-read_at-clause-took g c = λ word sound w are fits took.
-    scan_refusal w (c.args.at + length c.args.piece.now) _ c.read_at.result _ _ _ _ _ sound are fits (c.in_err-read_at.was) (c.read_at.ensures.state word) (passed c.from_residual.result Device c.from_residual.ensures.1)
+pub returns-in_err-read_at : goal.returns-in_err-read_at
+returns-in_err-read_at g c = record {
+  word = c.read_at.ensures.word;
+  holds = λ word.
+      let sound = g.met.D.Disk.sound c.args.disk.now word in
+      let looked = c.read_at.ensures.state word in
+      let device = passed c.from_residual.result Device c.from_residual.ensures.1 in
+      record {
+        still = still_looks _ c.read_at.result _ _ sound looked;
+        told = λ more. device;
+        found = λ w are fits took. scan_refusal w (c.args.at + length c.args.piece.now) _ c.read_at.result _ _ _ _ _ sound are fits c.in_err-read_at.was looked device;
+      };
+}
 
-pub returns-in-Ok-clause-took : goal.returns-in-Ok-clause-took
-returns-in-Ok-clause-took g c = λ word sound w are fits took.
-    fed w (g.D.Disk.state c.args.disk.now).log c.args.at c.args.piece.now c.read_at.new.out c.read_at.auto.out are fits (c.in_ok-read_at.ensures.bytes word) c.feed.new.self _ _ (c.in-Ok.ensures (take c.args.at w) took).0
+pub returns-in-Ok : goal.returns-in-Ok
+returns-in-Ok g c = record {
+  word = c.read_at.ensures.word;
+  holds = λ word.
+      let looked = c.read_at.ensures.state word in
+      record {
+        still = still_looks _ c.read_at.result _ _ (g.met.D.Disk.sound c.args.disk.now word) looked;
+        told = tells_ok {T = Bool} (Ok true) c.read_at.result _ (g.D.Disk.state c.args.disk.now) (g.D.Disk.state c.read_at.new.self) c.in_ok-read_at.was looked.refused;
+        found = λ w are fits took. fed w (g.D.Disk.state c.args.disk.now).log c.args.at c.args.piece.now c.read_at.new.out c.read_at.auto.out are fits (c.in_ok-read_at.ensures.bytes word) c.feed.new.self _ _ (c.in-Ok.ensures (take c.args.at w) took).0;
+      };
+}
 
-pub returns-in-Err-clause-took : goal.returns-in-Err-clause-took
-returns-in-Err-clause-took g c = λ word sound w are fits took.
-    not_fed w (g.D.Disk.state c.args.disk.now).log c.args.at c.args.piece.now c.read_at.new.out c.read_at.auto.out are fits (c.in_ok-read_at.ensures.bytes word) c.in-Err.error _ _ c.feed.new.self _ _ (c.in-Err.ensures (take c.args.at w) took).1 c.without_header.ensures
-
-pub returns-in_err-read_at-clause-still : goal.returns-in_err-read_at-clause-still
-returns-in_err-read_at-clause-still g c = λ word sound. still_looks _ c.read_at.result _ _ sound (c.read_at.ensures.state word)
-
-pub returns-in-Ok-clause-still : goal.returns-in-Ok-clause-still
-returns-in-Ok-clause-still g c = λ word sound. still_looks _ c.read_at.result _ _ sound (c.read_at.ensures.state word)
-
-pub returns-in-Err-clause-still : goal.returns-in-Err-clause-still
-returns-in-Err-clause-still g c = λ word sound. still_looks _ c.read_at.result _ _ sound (c.read_at.ensures.state word)
-
-pub returns-in_err-read_at-clause-told : goal.returns-in_err-read_at-clause-told
-returns-in_err-read_at-clause-told g c = λ word more. passed c.from_residual.result Device c.from_residual.ensures.1
-
-pub returns-in-Ok-clause-told : goal.returns-in-Ok-clause-told
-returns-in-Ok-clause-told g c = λ word. tells_ok {T = Bool} (Ok true) c.read_at.result _ (g.D.Disk.state c.args.disk.now) (g.D.Disk.state c.read_at.new.self) c.in_ok-read_at.was (c.read_at.ensures.state word).refused
-
-pub returns-in-Err-clause-told : goal.returns-in-Err-clause-told
-returns-in-Err-clause-told g c = λ word. tells_ok c.without_header.result c.read_at.result _ (g.D.Disk.state c.args.disk.now) (g.D.Disk.state c.read_at.new.self) c.in_ok-read_at.was (c.read_at.ensures.state word).refused
+pub returns-in-Err : goal.returns-in-Err
+returns-in-Err g c = record {
+  word = c.read_at.ensures.word;
+  holds = λ word.
+      let looked = c.read_at.ensures.state word in
+      record {
+        still = still_looks _ c.read_at.result _ _ (g.met.D.Disk.sound c.args.disk.now word) looked;
+        told = tells_ok c.without_header.result c.read_at.result _ (g.D.Disk.state c.args.disk.now) (g.D.Disk.state c.read_at.new.self) c.in_ok-read_at.was looked.refused;
+        found = λ w are fits took. not_fed w (g.D.Disk.state c.args.disk.now).log c.args.at c.args.piece.now c.read_at.new.out c.read_at.auto.out are fits (c.in_ok-read_at.ensures.bytes word) c.in-Err.error _ _ c.feed.new.self _ _ (c.in-Err.ensures (take c.args.at w) took).1 c.without_header.ensures;
+      };
+}

@@ -15,5 +15,5 @@ returns-clause-serves c =
     let told : answered (λ _. Page c.read-answer.new.out) c.read-answer.result ≡ answer_of c.page_outcome.result =
     sym (c.page_outcome.ensures ∙ ap (λ b. answered (λ _. Page b) c.read-answer.result) (filled c.in_ok-out.out.items c.read-answer.new.out c.in_ok-out.out.len (search rules) (search rules))) in
     was_read c.args.page_size c.args.self.now c.read-answer.new.self c.args.number c.args.page c.in-Some.i c.in-Some-index.reader (answered (λ _. Page c.read-answer.new.out) c.read-answer.result) (answer_of c.page_outcome.result) told c.in-Some.ensures.1 c.in-Some.ensures.0
-    (found_slot c.args.self.now.slots.items c.in-Some.i c.index.result.now _ c.in-Some.ensures.0 c.index.ensures c.in-Some-index.is) (c.read-answer.ensures.looks.holds tt)
-    (λ past n fits got size. c.read-answer.ensures.step tt past n fits got (long ∙ sym size))
+    (found_slot c.args.self.now.slots.items c.in-Some.i c.index.result.now _ c.in-Some.ensures.0 c.index.ensures c.in-Some-index.is) (c.read-answer.ensures.disk.holds tt).looks
+    (λ past n fits got size. (c.read-answer.ensures.disk.holds tt).step past n fits got (long ∙ sym size))
