@@ -1,10 +1,8 @@
 -- The header is in the first hundred bytes of page 1.
-use Rattle.std.proofs.Common.{◌≡◌, ◌≢◌, ℕ, zero, suc, ◌+◌, ◌<◌, ◌≤◌, List, [], ◌∷◌, take, refl, sym, ap, subst, ◌∙◌, inr, arith}
+use Rattle.std.proofs.Common.{◌≡◌, ◌≢◌, ℕ, zero, suc, ◌+◌, ◌<◌, ◌≤◌, List, [], ◌∷◌, take, refl, sym, ap, ◌∙◌, arith}
 use Rattle.std.proofs.lemmas.List.{get_or-take}
 use Rattle.byteorder.specs.Endian.{big_number}
 use Rattle.sqval.specs.Bytes.{part, word}
-use Rattle.sqval.specs.Database.{Database, page}
-use Rattle.sqcheck.specs.Stands.{Stands}
 use Rattle.sqpage.specs.declared.fault.Fault.{Fault}
 use Rattle.sqpage.specs.declared.fault.Fault.TheVariants as faults
 use Rattle.sqpage.specs.declared.header.DbHeader.{DbHeader}
@@ -70,15 +68,3 @@ size_differs size b magic ne = (magic_front b magic, λ e. ne (size_front b ∙ 
 pub not_plain : (h : DbHeader) (size : ℕ) (b : List ℕ) → IsHeader h (take 100 b) → size_named (take 100 b) ≡ size → h.largest_root ≢ 0 → HeaderFault faults.AutoVacuum size b
 not_plain h size b is named ne =
     (magic_front b is.magic, sym (size_front b) ∙ named, fractions_front b is.fractions, room_front b is.room, λ e. ne (is.largest_root ∙ word_front 52 b (omega arith) ∙ e))
-
--- What is wrong with the header stands at page 1.
-pub heading_stands : (d : Database) (fault : Fault) (size : ℕ) (b : List ℕ) → b ≡ page d 1 → HeaderFault fault size b → Stands d size fault 1
-heading_stands d fault size b e h = go fault (subst (HeaderFault fault size) e h)
-  where
-    go : (fault : Fault) → HeaderFault fault size (page d 1) → Stands d size fault 1
-    go faults.Magic h = (refl, h)
-    go faults.PageSize h = (refl, inr h.1)
-    go faults.Fraction h = (refl, h.2)
-    go faults.Reserved h = (refl, h.3)
-    go faults.AutoVacuum h = (refl, h.4)
-    go _ h = absurd h

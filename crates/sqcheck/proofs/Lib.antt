@@ -9,6 +9,7 @@ pub mod Trunks
 pub mod Entering
 pub mod Following
 pub mod Walks
+pub mod Tells
 pub mod Headings
 pub mod Schemas
 pub mod Phases

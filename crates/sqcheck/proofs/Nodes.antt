@@ -191,9 +191,6 @@ ChildFrom b x from t = (i : ℕ) × (from ≤ i) × IsChildAt b x i t
 abbrev pub IsNext : Page → (high : Option ℤ) → (i p : ℕ) (key : Option ℤ) → Type 0
 IsNext b high i p key = ((i ≡ cell_count b) × (p ≡ word b.used (head_at b.number + 8)) × (key ≡ high)) ⊎ ((cell : Cell) × IsCellAt b i cell × (p ≡ unwrap_or cell.child 0) × (key ≡ cell.rowid))
 
-next_spot : Page → Node → (i p : ℕ) → (low key : Option ℤ) → Spot
-next_spot b x i p low key = spot (child b.number i) p (below x low key)
-
 next_is : (b : Page) (x : Node) (i p : ℕ) (low key : Option ℤ) → IsNext b x.high i p key → IsKeyBefore b x i low → IsChildAt b x i (spot (child b.number i) p (below x low key))
 next_is b x i p low key (inl h) before = inr (h.0, (low, subst (λ j. IsKeyBefore b x j low) h.0 before, same))
   where

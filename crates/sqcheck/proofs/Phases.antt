@@ -17,10 +17,10 @@ use Rattle.sqpage.specs.Taking.{is_marked}
 use Rattle.sqpage.proofs.ListLemmas.{every_in, every_from_in, in_left, in_right}
 use Rattle.sqpage.proofs.Takings.{none_taken_yet}
 use Rattle.sqcheck.specs.declared.schema.Root.{Root}
-use Rattle.sqcheck.specs.declared.walk.Counts.{Counts}
+use Rattle.sqcheck.specs.declared.uses.Counts.{Counts}
 use Rattle.sqcheck.specs.declared.report.Report.{Report}
 use Rattle.sqcheck.specs.Places.{Place, first_trunk_place, first_root, next, leaf, overflow, child, root, holder, Node, Role, trunk, free_leaf, link, node, Spot, spot, page_as, used_in, HasKind, IsCellAt, InLink, InPageAs, InRow, InRowAs, StandsIn, StandsInRow, IsFirst, IsReached, first, stands_in, stands_in_row, first_root_spot, first_trunk_spot, root_of_tree}
-use Rattle.sqcheck.specs.WellFormed.{WellFormed, IsSound, IsSoundAs, IsSoundNode, HasSoundRows, HasSoundHeader, numbers, is_free, IsReport}
+use Rattle.sqcheck.specs.WellFormed.{WellFormed, IsSound, IsSoundAs, IsSoundNode, HasSoundRows, HasSoundHeader, numbers, is_free, AreEachOnce, IsReport}
 use Rattle.sqcheck.specs.Stands.{Stands}
 use Rattle.sqcheck.specs.Walking.{IsSchemaLeaf}
 use Rattle.sqcheck.specs.Schema.{IsRowsPage, AllSchemaRows, InRowsOf, Finds, IsRootAt, RootsMatch}
@@ -505,6 +505,14 @@ unused_stands d size marks visited p a is free = (
   λ s r e. absurd (let m : is_marked marks p ≡ true = a.taken.all p (subst (λ q. In q (numbers visited)) e (in_map (λ z. z.page) s visited (all_visited d marks visited a r))) in let both : true ≡ false = sym m ∙ free in cc),
 )
 
+-- Each page was visited once.
+pub each_once : (d : Database) (marks : List Bool) (visited : List Spot) → Agenda d true marks visited [] → ((p : ℕ) → IsWithin (length marks) p → is_marked marks p ≡ true) → AreEachOnce (length d) (numbers visited)
+each_once d marks visited a all = record {
+  within = subst (λ n. Every (IsWithin n) (numbers visited)) a.sized a.taken.within;
+  distinct = a.taken.distinct;
+  each = λ p is. let is' = subst (λ n. IsWithin n p) (sym a.sized) is in a.taken.only p is' (all p is');
+}
+
 pub concludes : (d : Database) (size : ℕ) (marks : List Bool) (visited : List Spot) (rows : List ℕ) (counts : Counts) → IsPageSize size → Every (λ b. length b ≡ size) d → HasSoundHeader d size → Stood d true visited [] marks rows counts
     → ((p : ℕ) → IsWithin (length marks) p → is_marked marks p ≡ true) → counts.free ≡ free_pages d → (report : Report) → IsReport d visited report → (w : WellFormed d size) × IsReport d w.places report
 concludes d size marks visited rows counts size_is sized header w all free report r = (
@@ -515,11 +523,7 @@ concludes d size marks visited rows counts size_is sized header w all free repor
     places = visited;
     all = λ s r. all_visited d marks visited w.agenda r;
     reached = w.agenda.reached;
-    once = record {
-      within = subst (λ n. Every (IsWithin n) (numbers visited)) w.agenda.sized w.agenda.taken.within;
-      distinct = w.agenda.taken.distinct;
-      each = λ p is. let is' = subst (λ n. IsWithin n p) (sym w.agenda.sized) is in w.agenda.taken.only p is' (all p is');
-    };
+    once = each_once d marks visited w.agenda all;
     sound = w.agenda.sound;
     rows = w.agenda.read refl;
     free = sym w.counted.free ∙ free;

@@ -15,13 +15,14 @@ use Rattle.sqcheck.specs.declared.item.Task.{Task}
 use Rattle.sqcheck.specs.declared.item.Task.TheVariants as tasks
 use Rattle.sqcheck.specs.declared.tree.Tree.{Tree}
 use Rattle.sqcheck.specs.declared.node.Walk.{Walk}
-use Rattle.sqcheck.specs.declared.walk.Counts.{Counts}
+use Rattle.sqcheck.specs.declared.uses.Counts.{Counts}
+use Rattle.sqcheck.specs.declared.uses.Uses.{Uses}
 use Rattle.sqcheck.specs.Places.{overflow, holder, Role, trunk, free_leaf, link, node, Node, Spot, InPageAs, StandsIn, IsReached}
 use Rattle.sqcheck.specs.WellFormed.{IsSound, IsSoundAs, numbers, is_root, is_node, is_link, is_free}
 use Rattle.sqcheck.specs.Stands.{Stands, NodeRefused}
 use Rattle.sqcheck.specs.Walking.{role_of, IsItemOf, Match, IsSchemaLeaf, PutsAside, PageWrong, LinksOn, FollowRefused, Knows, Follows, IsProper, TopLeads}
 use Rattle.sqcheck.specs.Counting.{in_trees, in_btree, in_overflow, in_freelist, AddsTask}
-use Rattle.sqcheck.specs.Agenda.{LinkFits, Agenda, Stems, RowsAre, AreCounted, Walking, WalksOn, Stood}
+use Rattle.sqcheck.specs.Agenda.{LinkFits, Agenda, Stems, RowsAre, AreCounted, Walking, Stood}
 use Rattle.sqcheck.proofs.Lists.{every_weaker, in_map}
 use Rattle.sqcheck.proofs.Agenda.{follows, twice}
 use Rattle.sqcheck.proofs.Nodes.{match_append}
@@ -165,13 +166,13 @@ counted_more tree visited s task old new role c a = record {
     free_adds : ◌≡◌ {A = ℕ} (cond (is_free s.role) 1 0) (in_freelist task)
     free_adds = ap (λ r. cond (is_free r) 1 0) role ∙ free_of_task task
 
-module _ (d : Database) (late : Bool) (tree : Tree) (visited rest : List Spot) (marks : List Bool) (walk popped : Walk) (counts : Counts) (it : Item) (w : Walking d late tree visited rest marks walk counts)
+module _ (d : Database) (late : Bool) (tree : Tree) (visited rest : List Spot) (uses : Uses) (walk popped : Walk) (it : Item) (w : Walking d late tree visited rest uses walk)
     (e : walk.stack.items ≡ popped.stack.items ++ it ∷ []) (rows : popped.rows.items ≡ walk.rows.items) (level : popped.leaf_level ≡ walk.leaf_level) where
   top : Top tree it (reverse popped.stack.items) w.pending
   top = popped_top tree walk.stack.items popped.stack.items it w.pending w.match e
 
-  agenda : Agenda d late marks visited (top.spot ∷ (top.others ++ rest))
-  agenda = subst (λ l. Agenda d late marks visited (l ++ rest)) top.are w.agenda
+  agenda : Agenda d late uses.marks.items visited (top.spot ∷ (top.others ++ rest))
+  agenda = subst (λ l. Agenda d late uses.marks.items visited (l ++ rest)) top.are w.agenda
 
   pub proper_top : IsProper it.task
   proper_top = top.is.proper
@@ -180,10 +181,11 @@ module _ (d : Database) (late : Bool) (tree : Tree) (visited rest : List Spot) (
   knows_top = subst (λ n. Knows d tree.root n (it ∷ reverse popped.stack.items)) (sym level) (subst (Knows d tree.root walk.leaf_level) (ap reverse e ∙ reverse-append popped.stack.items (it ∷ [])) w.knows)
 
   -- The item is followed.
-  pub walks_on : (new_marks : List Bool) (new : Walk) (new_counts : Counts) → Follows d tree it marks new_marks popped new → AddsTask counts new_counts it.task → WalksOn d late tree rest new_marks new new_counts
-  walks_on new_marks new new_counts f adds =
+  pub walks_on : (new_uses : Uses) (new : Walk) → Follows d tree it uses new_uses popped new → (s : Spot) × IsItemOf tree it s × Walking d late tree (visited ++ s ∷ []) rest new_uses new
+  walks_on new_uses new f =
+      let new_marks : List Bool = new_uses.marks.items in
       let s : Spot = top.spot in
-      let m : Marks marks new_marks s.page = subst (Marks marks new_marks) top.is.page f.visits.marked in
+      let m : Marks uses.marks.items new_marks s.page = subst (Marks uses.marks.items new_marks) top.is.page f.visits.marked in
       let p = f.visits.pushes in
       let here : (t : Spot) → InPageAs d it.page (role_of tree it.task) t → StandsIn d s t = λ t h.
       (subst (λ n. IsWithin n s.page) w.agenda.sized (m.above, m.within), subst (λ r. InPageAs d s.page r t) (sym top.is.role) (subst (λ q. InPageAs d q (role_of tree it.task) t) top.is.page h)) in
@@ -196,42 +198,41 @@ module _ (d : Database) (late : Bool) (tree : Tree) (visited rest : List Spot) (
         named = subst (λ n. IsWithin n s.page) w.agenda.sized (m.above, m.within);
         sound_as = subst (λ r. IsSoundAs d s.page r) (sym top.is.role) (subst (λ q. IsSoundAs d q (role_of tree it.task)) top.is.page f.visits.sound);
       } in (
-        visited ++ s ∷ [],
+        s,
+        top.is,
         record {
           pending = p.spots ++ top.others;
           match = subst (λ l. Match tree l (p.spots ++ top.others)) (sym p.pushed) (match_append tree p.items (reverse popped.stack.items) p.spots top.others p.match top.match);
-          agenda = subst (Agenda d late new_marks (visited ++ s ∷ [])) (sym (append_assoc p.spots top.others rest)) (follows d late marks visited s (top.others ++ rest) agenda new_marks p.spots m sound stems);
+          agenda = subst (Agenda d late new_marks (visited ++ s ∷ [])) (sym (append_assoc p.spots top.others rest)) (follows d late uses.marks.items visited s (top.others ++ rest) agenda new_marks p.spots m sound stems);
           knows = f.knows;
-          rows = rows_more d marks new_marks visited s popped.rows.items new.rows.items w.agenda.taken m (subst (RowsAre d visited) (sym rows) w.rows)
+          rows = rows_more d uses.marks.items new_marks visited s popped.rows.items new.rows.items w.agenda.taken m (subst (RowsAre d visited) (sym rows) w.rows)
               (subst (λ r. PutsAside d s.page r popped.rows.items new.rows.items) (sym top.is.role) (subst (λ q. PutsAside d q (role_of tree it.task) popped.rows.items new.rows.items) top.is.page f.aside));
-          counted = counted_more tree visited s it.task counts new_counts top.is.role w.counted adds;
+          counted = counted_more tree visited s it.task uses.counts new_uses.counts top.is.role w.counted f.counted;
         },
       )
 
   -- Or it isn't.
-  pub walk_refused : (size : ℕ) (fault : Fault) (at : ℕ) → FollowRefused d tree it marks fault at → Stands d size fault at
-  walk_refused size fault at f = refusal_stands d size tree it top.spot top.is (agenda.waiting.0) marks fault at w.agenda.sized (agenda.fits.0) f (twice d late marks visited top.spot (top.others ++ rest) agenda)
+  pub walk_refused : (size : ℕ) (fault : Fault) (at : ℕ) → FollowRefused d tree it uses.marks.items fault at → Stands d size fault at
+  walk_refused size fault at f = refusal_stands d size tree it top.spot top.is (agenda.waiting.0) uses.marks.items fault at w.agenda.sized (agenda.fits.0) f (twice d late uses.marks.items visited top.spot (top.others ++ rest) agenda)
 
 -- Nothing was on the stack.
-pub nothing_popped : (d : Database) (late : Bool) (tree : Tree) (rest : List Spot) (marks : List Bool) (walk popped : Walk) (counts : Counts) → WalksOn d late tree rest marks walk counts → walk.stack.items ≡ popped.stack.items ++ []
-    → popped.rows.items ≡ walk.rows.items → popped.leaf_level ≡ walk.leaf_level → WalksOn d late tree rest marks popped counts
-nothing_popped d late tree rest marks walk popped counts (visited, w) e rows level =
-    let same : walk.stack.items ≡ popped.stack.items = e ∙ append-nil popped.stack.items in (
-      visited,
-      record {
-        pending = w.pending;
-        match = subst (λ l. Match tree (reverse l) w.pending) same w.match;
-        agenda = w.agenda;
-        knows = subst (λ n. Knows d tree.root n (reverse popped.stack.items)) (sym level) (subst (λ l. Knows d tree.root walk.leaf_level (reverse l)) same w.knows);
-        rows = subst (RowsAre d visited) (sym rows) w.rows;
-        counted = w.counted;
-      },
-    )
+pub nothing_popped : (d : Database) (late : Bool) (tree : Tree) (visited rest : List Spot) (uses : Uses) (walk popped : Walk) → Walking d late tree visited rest uses walk → walk.stack.items ≡ popped.stack.items ++ []
+    → popped.rows.items ≡ walk.rows.items → popped.leaf_level ≡ walk.leaf_level → Walking d late tree visited rest uses popped
+nothing_popped d late tree visited rest uses walk popped w e rows level =
+    let same : walk.stack.items ≡ popped.stack.items = e ∙ append-nil popped.stack.items in
+    record {
+      pending = w.pending;
+      match = subst (λ l. Match tree (reverse l) w.pending) same w.match;
+      agenda = w.agenda;
+      knows = subst (λ n. Knows d tree.root n (reverse popped.stack.items)) (sym level) (subst (λ l. Knows d tree.root walk.leaf_level (reverse l)) same w.knows);
+      rows = subst (RowsAre d visited) (sym rows) w.rows;
+      counted = w.counted;
+    }
 
 -- A place is put on an empty stack.
-pub starts_walk : (d : Database) (late : Bool) (tree : Tree) (visited rest : List Spot) (s : Spot) (marks : List Bool) (aside : List ℕ) (walk : Walk) (counts : Counts) (it : Item) → Stood d late visited (s ∷ rest) marks aside counts
-    → IsItemOf tree it s → TopLeads d tree.root (it ∷ []) → walk.stack.items ≡ it ∷ [] → walk.rows.items ≡ aside → walk.leaf_level ≡ None → Walking d late tree visited rest marks walk counts
-starts_walk d late tree visited rest s marks aside walk counts it w is leads stack rows level = record {
+pub starts_walk : (d : Database) (late : Bool) (tree : Tree) (visited rest : List Spot) (s : Spot) (uses : Uses) (aside : List ℕ) (walk : Walk) (it : Item) → Stood d late visited (s ∷ rest) uses.marks.items aside uses.counts
+    → IsItemOf tree it s → TopLeads d tree.root (it ∷ []) → walk.stack.items ≡ it ∷ [] → walk.rows.items ≡ aside → walk.leaf_level ≡ None → Walking d late tree visited rest uses walk
+starts_walk d late tree visited rest s uses aside walk it w is leads stack rows level = record {
   pending = s ∷ [];
   match = subst (λ l. Match tree (reverse l) (s ∷ [])) (sym stack) (is, tt);
   agenda = w.agenda;
@@ -244,10 +245,9 @@ starts_walk d late tree visited rest s marks aside walk counts it w is leads sta
 }
 
 -- Nothing is left on the stack.
-pub ends_walk : (d : Database) (late : Bool) (tree : Tree) (rest : List Spot) (marks : List Bool) (walk : Walk) (counts : Counts) → walk.stack.items ≡ [] → WalksOn d late tree rest marks walk counts
-    → (visited : List Spot) × Stood d late visited rest marks walk.rows.items counts
-ends_walk d late tree rest marks walk counts empty (visited, w) = (visited, go w.pending (subst (λ l. Match tree (reverse l) w.pending) empty w.match) w.agenda)
+pub ends_walk : (d : Database) (late : Bool) (tree : Tree) (visited rest : List Spot) (uses : Uses) (walk : Walk) → walk.stack.items ≡ [] → Walking d late tree visited rest uses walk → Stood d late visited rest uses.marks.items walk.rows.items uses.counts
+ends_walk d late tree visited rest uses walk empty w = go w.pending (subst (λ l. Match tree (reverse l) w.pending) empty w.match) w.agenda
   where
-    go : (pending : List Spot) → Match tree [] pending → Agenda d late marks visited (pending ++ rest) → Stood d late visited rest marks walk.rows.items counts
+    go : (pending : List Spot) → Match tree [] pending → Agenda d late uses.marks.items visited (pending ++ rest) → Stood d late visited rest uses.marks.items walk.rows.items uses.counts
     go [] m a = record { agenda = a; rows = w.rows; counted = w.counted }
     go (s ∷ ss) m a = absurd m

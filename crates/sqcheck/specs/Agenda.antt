@@ -5,9 +5,12 @@ use Rattle.sqpage.specs.Lists.{In, Every, Apart}
 use Rattle.sqpage.specs.Freelist.{IsWithin}
 use Rattle.sqpage.specs.Taking.{is_marked, AreTaken}
 use Rattle.sqcheck.specs.declared.node.Walk.{Walk}
-use Rattle.sqcheck.specs.declared.walk.Counts.{Counts}
+use Rattle.sqcheck.specs.declared.uses.Counts.{Counts}
+use Rattle.sqcheck.specs.declared.uses.Uses.{Uses}
 use Rattle.sqcheck.specs.declared.tree.Tree.{Tree}
 use Rattle.sqcheck.specs.Places.{Place, first_trunk_place, first_root, next, leaf, overflow, child, root, holder, Role, link, node, Spot, StandsIn, StandsInRow, IsFirst, IsReached}
+use Rattle.sqcheck.specs.declared.role.Role as roles
+use Rattle.sqcheck.specs.Roles.{TellsOf}
 use Rattle.sqcheck.specs.WellFormed.{IsSound, HasSoundRows, numbers, is_root, is_node, is_link, is_free}
 use Rattle.sqcheck.specs.Walking.{Match, Knows, IsSchemaLeaf}
 
@@ -88,17 +91,17 @@ pub record AreCounted (visited : List Spot) (counts : Counts) : Type 0 where
   pub free : counts.free ≡ count_by (λ s. is_free s.role) visited
 
 -- The walk stands so: these places were visited, those on the stack are pending, and then the rest.
-pub record Walking (d : Database) (late : Bool) (tree : Tree) (visited rest : List Spot) (marks : List Bool) (walk : Walk) (counts : Counts) : Type 0 where
+pub record Walking (d : Database) (late : Bool) (tree : Tree) (visited rest : List Spot) (uses : Uses) (walk : Walk) : Type 0 where
   pub pending : List Spot
   pub match : Match tree (reverse walk.stack.items) pending
-  pub agenda : Agenda d late marks visited (pending ++ rest)
+  pub agenda : Agenda d late uses.marks.items visited (pending ++ rest)
   pub knows : Knows d tree.root walk.leaf_level (reverse walk.stack.items)
   pub rows : RowsAre d visited walk.rows.items
-  pub counted : AreCounted visited counts
+  pub counted : AreCounted visited uses.counts
 
--- It stands so with more places visited.
-abbrev pub WalksOn : Database → (late : Bool) → Tree → (rest : List Spot) → (marks : List Bool) → Walk → Counts → Type 0
-WalksOn d late tree rest marks walk counts = (visited : List Spot) × Walking d late tree visited rest marks walk counts
+-- It stands so with more places visited, and the visitor was told of them.
+abbrev pub WalksOn : {A : Type 0} (saw : A → ℕ → roles.Role → A → Type 0) → Database → (late : Bool) → Tree → (visited rest : List Spot) → Uses → Walk → (old new : A) → Type 0
+WalksOn saw d late tree visited rest uses walk old new = (more : List Spot) × Walking d late tree (visited ++ more) rest uses walk × TellsOf saw d old more new
 
 -- Nothing is on the stack, and these places were visited.
 pub record Stood (d : Database) (late : Bool) (visited rest : List Spot) (marks : List Bool) (put_aside : List ℕ) (counts : Counts) : Type 0 where

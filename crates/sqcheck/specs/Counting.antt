@@ -2,7 +2,7 @@
 use Rattle.std.specs.Prelude.{◌≡◌, ℕ, ◌+◌, ◌==◌, if◌then◌else◌}
 use Rattle.sqcheck.specs.declared.item.Task.{Task}
 use Rattle.sqcheck.specs.declared.item.Task.TheVariants.{Trunk, Leaf, Link, Node}
-use Rattle.sqcheck.specs.declared.walk.Counts.{Counts}
+use Rattle.sqcheck.specs.declared.uses.Counts.{Counts}
 
 -- how much a page that is named so adds to each count
 abbrev pub in_btree : Task → ℕ

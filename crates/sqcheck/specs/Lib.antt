@@ -8,3 +8,5 @@ pub mod Heading
 pub mod Checking
 pub mod Schema
 pub mod Room
+pub mod Snapshots
+pub mod Roles

@@ -1,12 +1,12 @@
 -- The rows of the schema as a check reads them (fileformat2, 2.6). No public contract cites these words.
-use Rattle.std.specs.Prelude.{◌≡◌, ◌≢◌, ℕ, suc, ◌<◌, List, [], ◌∷◌, ◌++◌, length, map, take, true}
+use Rattle.std.specs.Prelude.{◌≡◌, ◌≢◌, ℕ, suc, ◌<◌, ◌≤◌, IsSome, List, [], ◌∷◌, ◌++◌, length, map, take, true}
 use Rattle.sqval.specs.Database.{Database}
 use Rattle.sqpage.specs.declared.cell.Cell.{Cell}
 use Rattle.sqpage.specs.declared.kind.Kind.TheVariants.{TableLeaf}
 use Rattle.sqpage.specs.Lists.{In, Every, Apart}
 use Rattle.sqpage.specs.Freelist.{IsPage}
 use Rattle.sqpage.specs.Page.{IsBtreePage}
-use Rattle.sqpage.specs.Chain.{IsPayload}
+use Rattle.sqpage.specs.Chain.{IsPayload, payload_size}
 use Rattle.sqcheck.specs.declared.schema.Root.{Root}
 use Rattle.sqcheck.specs.Places.{holder, root, Node, node, Spot, spot, page_as, IsCellAt, IsRow, IsSchemaRow, InRow, root_of_tree, IsReached}
 
@@ -64,6 +64,13 @@ AreKept d found kept = kept ≡ take (suc (length d)) found
 -- The same roots were found as by `Finds`, behind those of which `old` are kept, and `new` are kept of all.
 abbrev pub KeepsFound : Database → (P : Spot → Type 0) → (old new : List Root) → Type 0
 KeepsFound d P old new = (all : List Root) → AreKept d all old → (more : List Root) × Finds d P all more × AreKept d more new
+
+-- A cell with a payload, in a page of at most so many bytes.
+pub record HasPayloadWithin (size : ℕ) (cell : Cell) : Type 0 where
+  pub payload : IsSome cell.payload
+  pub least : 480 ≤ cell.usable
+  pub most : cell.usable ≤ size
+  pub part : length cell.local.now ≤ payload_size cell
 
 -- each row of page p is one of the schema
 abbrev pub AllSchemaRows : Database → (p : ℕ) → Type 0

@@ -16,6 +16,8 @@ use Rattle.sqcheck.specs.declared.item.Task.{Task}
 use Rattle.sqcheck.specs.declared.item.Task.TheVariants.{Trunk, Leaf, Link, Node}
 use Rattle.sqcheck.specs.declared.tree.Tree.{Tree}
 use Rattle.sqcheck.specs.declared.node.Walk.{Walk}
+use Rattle.sqcheck.specs.declared.uses.Uses.{Uses}
+use Rattle.sqcheck.specs.Counting.{AddsTask}
 use Rattle.sqcheck.specs.Places.{Place, holder, Role, trunk, free_leaf, link, node, Spot, page_as, HasKind, InPageAs, InNode, InCell, IsLeftChild, IsRightChild, IsCellAt, spot, overflow, next, leaf}
 use Rattle.sqcheck.specs.Places as places
 use Rattle.sqcheck.specs.WellFormed.{IsSoundAs, IsSoundNode, KeysRise, FirstLeaf}
@@ -157,7 +159,8 @@ pub record KnowsAt (d : Database) (root : ℕ) (known : Option ℕ) (p level : �
   pub leads : known ≡ None → (on : ℕ) → FirstLeaf d p level on → FirstLeaf d root 1 on
 
 -- An item was followed, with all that the walk keeps.
-pub record Follows (d : Database) (tree : Tree) (it : Item) (marks new_marks : List Bool) (old new : Walk) : Type 0 where
-  pub visits : Visits d tree it marks new_marks old.stack.items new.stack.items
+pub record Follows (d : Database) (tree : Tree) (it : Item) (uses new_uses : Uses) (old new : Walk) : Type 0 where
+  pub visits : Visits d tree it uses.marks.items new_uses.marks.items old.stack.items new.stack.items
+  pub counted : AddsTask uses.counts new_uses.counts it.task
   pub aside : PutsAside d it.page (role_of tree it.task) old.rows.items new.rows.items
   pub knows : Knows d tree.root new.leaf_level (reverse new.stack.items)

@@ -1,17 +1,12 @@
 //! The header of the file (fileformat2, 1.3).
 ghost use Rattle.std.specs.Prelude.{◌≡◌, ◌≢◌, ◌+◌, ◌<◌, ◌≤◌, ◌↔◌, length, IfOk, IfErr, IsTrue, false, take};
 ghost use Rattle.sqval.specs.Bytes.{word};
-ghost use Rattle.sqval.specs.Database.{page};
-ghost use Rattle.sqval.specs.PageSize.{IsPageSize};
-ghost use Rattle.sqpage.specs.Lists.{Every};
 ghost use Rattle.sqpage.specs.declared.fault.Fault.{Fault};
 ghost use Rattle.sqpage.specs.declared.header.DbHeader.{DbHeader};
 ghost use Rattle.sqpage.specs.Header.{HasMagic, HasPageSize, size_named};
-ghost use Rattle.sqcheck.specs.Stands.{Stands};
 ghost use Rattle.sqcheck.specs.Heading.{HasHeaderOf, HeaderFault};
 
-use crate::pages::read_page;
-use sqpage::{CheckError, DbHeader, Fault, PageSource, has_magic, named_page_size};
+use sqpage::{CheckError, DbHeader, Fault, has_magic, named_page_size};
 use sqval::PageSize;
 
 /// The bytes of the header in those of page 1.
@@ -63,27 +58,14 @@ fn judge(bytes: &[u8], size: PageSize) -> Result<DbHeader, Fault>
     Ok(header)
 }
 
-/// Reads page 1 and judges its header, at page 1.
-pub(crate) fn judge_header<S: PageSource>(
-    source: &mut S,
-    size: PageSize,
-    bytes: &mut [u8],
-) -> Result<DbHeader, CheckError>
-    requires some { 0 < length (S.pages source.old) }
-    requires room { length bytes.old ≡ S.size source.old }
-    requires size { size ≡ S.size source.old }
+/// Judges the header in the bytes of page 1, at page 1.
+pub(crate) fn judge_header(bytes: &[u8], size: PageSize) -> Result<DbHeader, CheckError>
+    requires size { size ≡ length bytes.now }
     requires large { 512 ≤ size }
-    ensures ok { S.gives_pages source.old
-        → IfOk result (λ header. HasHeaderOf header size (page (S.pages source.old) 1)) }
+    ensures ok { IfOk result (λ header. HasHeaderOf header size bytes.now) }
     ensures room { IfOk result (λ header. 480 + header.reserved ≤ size) }
-    ensures sized { S.gives_pages source.old → Every (λ bytes. length bytes ≡ S.size source.old) (S.pages source.old) }
-    ensures err { S.gives_pages source.old → IfErr result (λ e. Stands (S.pages source.old) size e.fault e.page) }
-    ensures still_gives { S.gives_pages source.old → S.gives_pages source.new }
-    ensures same_pages { S.pages source.new ≡ S.pages source.old }
-    ensures same_size { S.size source.new ≡ S.size source.old }
-    ensures length { length bytes.new ≡ length bytes.old }
+    ensures err { IfErr result (λ e. (e.page ≡ 1) × HeaderFault e.fault size bytes.now) }
 {
-    read_page(source, 1, bytes)?;
     match judge(bytes, size) {
         Ok(header) => Ok(header),
         Err(fault) => Err(CheckError { page: 1, fault }),

@@ -7,11 +7,16 @@ mod item;
 mod node;
 mod pages;
 mod report;
+mod role;
 mod schema;
+mod snapshot;
 mod tree;
 mod trunk;
 mod unused;
+mod uses;
 mod walk;
+mod walker;
 
-pub use checker::check;
+pub use checker::{check, visit_pages};
 pub use report::Report;
+pub use role::{Role, Visitor};

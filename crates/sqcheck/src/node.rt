@@ -2,14 +2,14 @@
 ghost use Rattle.std.specs.Prelude.{◌≡◌, ◌≢◌, ◌⊎◌, ◌↔◌, Some, None, ◌+◌, ◌<◌, ◌≤◌, ◌^◌, ℕ, suc, true, false, IsTrue};
 ghost use Rattle.std.specs.Prelude.{IsSome, IfOk, IfErr, OnOk, OnErr, length, take, reverse, ◌++◌, ◌∷◌, []};
 ghost use Rattle.sqval.specs.Database.{Database};
-ghost use Rattle.sqval.specs.PageSize.{IsPageSize};
 ghost use Rattle.sqpage.specs.declared.fault.Fault.{Fault};
 ghost use Rattle.sqpage.specs.declared.kind.Kind.{Kind};
 ghost use Rattle.sqpage.specs.Header.{byte};
 ghost use Rattle.sqpage.specs.Page.{Page, HasPartsOf, code_of, is_interior, is_table, head_at};
-ghost use Rattle.sqcheck.specs.Places.{Node, InCell, used_in};
+ghost use Rattle.sqcheck.specs.Places.{Node, HasKind, InCell, used_in};
 ghost use Rattle.sqcheck.specs.WellFormed.{IsBefore, IsAtMost, KeysRise, FirstLeaf, first_child};
 ghost use Rattle.sqcheck.specs.Room.{HoldsPage};
+ghost use Rattle.sqcheck.specs.Snapshots.{IsRead};
 ghost use Rattle.sqcheck.specs.Stands.{HasKeyOutOfOrder, NodeRefused};
 ghost use Rattle.sqcheck.specs.Walking.{node_in, Pushes, IsChild, IsBelow, TopLeads, IsLevelOf, Judged, KnowsAt};
 ghost use Rattle.sqcheck.specs.Walking.{Enters};
@@ -31,6 +31,15 @@ pub(crate) struct Room {
     pub map: Vec<u64>,
 }
 
+/// A page as it was read.
+#[derive(Clone, Copy)]
+pub(crate) struct RawPage<'a> {
+    pub number: u32,
+    pub bytes: &'a [u8],
+    /// How much of it is used.
+    pub usable: u32,
+}
+
 /// What is known of a page of a tree: its level, and the bounds of its keys.
 #[derive(Clone, Copy, Debug)]
 pub(crate) struct Bounds {
@@ -43,7 +52,8 @@ pub(crate) struct Bounds {
 /// kind.
 fn kind_in(tree: &Tree, number: u32, used: &[u8]) -> Result<Kind, Fault>
     requires { 480 ≤ length used.now }
-    ensures ok { IfOk result (λ kind. (byte used.now (head_at number) ≡ code_of kind) × (is_table kind ≡ tree.now.table)) }
+    ensures ok { IfOk result (λ kind. (byte used.now (head_at number) ≡ code_of kind) ×
+        (is_table kind ≡ tree.now.table)) }
     ensures err { IfErr result (λ fault. (fault ≡ Fault.Kind) ×
         ((kind : Kind) → byte used.now (head_at number) ≡ code_of kind → is_table kind ≢ tree.now.table)) }
 {
@@ -152,8 +162,7 @@ pub(crate) fn push_children(
     bounds: Bounds,
     stack: &mut Vec<Item>,
 ) -> Result<(), CheckError>
-    requires number { number ≡ page.now.number }
-    requires parts { HasPartsOf page.now parts.now }
+    requires cells { (number ≡ page.now.number) × HasPartsOf page.now parts.now }
     requires interior { is_interior page.now.kind ≡ true }
     requires shallow { bounds.level ≤ 20 }
     ensures ok { OnOk result ((tree : Tree) → Pushes tree (IsChild page.now
@@ -204,31 +213,26 @@ pub(crate) fn push_children(
 /// and KeyOrder, the first that applies. `first` is the level of the tree's first leaf, where it is known.
 pub(crate) fn judge<'a>(
     tree: &Tree,
-    number: u32,
-    bytes: &'a [u8],
-    usable: u32,
+    raw: RawPage<'a>,
     bounds: Bounds,
     first: &mut Option<u32>,
     room: &mut Room,
 ) -> Result<BtreePage<'a>, Fault>
-    requires page { IsPageSize (length bytes.now) }
-    requires number { 0 < number }
-    requires least { 480 ≤ usable }
-    requires most { usable ≤ length bytes.now }
-    requires room { HoldsPage usable room.old }
-    ensures ok { IfOk result (λ page. Judged page (node_in tree.now bounds.level bounds.low bounds.high) first.old first.new) }
-    ensures number { IfOk result (λ page. page.number ≡ number) }
-    ensures part { IfOk result (λ page. page.used ≡ take usable bytes.entry.now) }
-    ensures err { (d : Database) → used_in d number ≡ take usable bytes.entry.now → IsLevelOf d tree.now.root first.old
-        → IfErr result (λ fault. NodeRefused d fault number (node_in tree.now bounds.level bounds.low bounds.high)) }
+    requires raw { IsRead raw.number (length raw.bytes.now) raw.usable }
+    requires room { HoldsPage raw.usable room.old }
+    ensures ok { IfOk result (λ page. (page.number ≡ raw.entry.number) × (page.used ≡ take raw.entry.usable
+        raw.entry.bytes.now) × Judged page (node_in tree.now bounds.level bounds.low bounds.high) first.old first.new) }
+    ensures err { (d : Database) → used_in d raw.entry.number ≡ take raw.entry.usable raw.entry.bytes.now
+        → IsLevelOf d tree.now.root first.old → IfErr result (λ fault. NodeRefused d fault raw.entry.number
+        (node_in tree.now bounds.level bounds.low bounds.high)) }
     ensures parts { IfOk result (λ page. HasPartsOf page room.new.parts.items) }
-    ensures room { HoldsPage usable room.new }
+    ensures room { HoldsPage raw.entry.usable room.new }
 {
-    let kind = kind_in(tree, number, &bytes[..usable as usize])?;
+    let kind = kind_in(tree, raw.number, &raw.bytes[..raw.usable as usize])?;
     if !kind.is_interior() {
         *first = Some(leaf_level(*first, bounds.level)?);
     }
-    let page = BtreePage::parse(bytes, number, usable, &mut room.parts)?;
+    let page = BtreePage::parse(raw.bytes, raw.number, raw.usable, &mut room.parts)?;
     page.layout_in(&room.parts, &mut room.map)?;
     if !keys_rise(&page, &room.parts, bounds.low, bounds.high) {
         return Err(Fault::KeyOrder);
@@ -291,47 +295,39 @@ fn push_below(
     }
 }
 
-/// Judges a page of a tree, and puts what stands in it on the stack: its chains, then its children.
+/// Judges a page of a tree, and puts what stands in it on the stack: its chains, then its children. The page's
+/// kind.
 pub(crate) fn enter(
     tree: &Tree,
-    number: u32,
-    bytes: &[u8],
-    usable: u32,
+    raw: RawPage,
     bounds: Bounds,
     room: &mut Room,
     walk: &mut Walk,
-) -> Result<(), CheckError>
-    requires page { IsPageSize (length bytes.now) }
-    requires number { 0 < number }
-    requires least { 480 ≤ usable }
-    requires most { usable ≤ length bytes.now }
-    requires room { HoldsPage usable room.old }
+) -> Result<Kind, CheckError>
+    requires raw { IsRead raw.number (length raw.bytes.now) raw.usable }
+    requires room { HoldsPage raw.usable room.old }
     requires shallow { bounds.level ≤ 20 }
-    ensures ok { (d : Database) → used_in d number ≡ take usable bytes.now
-        → KnowsAt d tree.now.root walk.old.leaf_level number bounds.level → OnOk result
-        (Enters d tree.now number (node_in tree.now bounds.level bounds.low bounds.high) walk.old walk.new) }
-    ensures err { (d : Database) → used_in d number ≡ take usable bytes.now
-        → IsLevelOf d tree.now.root walk.old.leaf_level → IfErr result (λ e. ((e.page ≡ number) × NodeRefused d
-        e.fault number (node_in tree.now bounds.level bounds.low bounds.high)) ⊎
+    ensures ok { (d : Database) → used_in d raw.entry.number ≡ take raw.entry.usable raw.entry.bytes.now
+        → KnowsAt d tree.now.root walk.old.leaf_level raw.entry.number bounds.level
+        → IfOk result (λ kind. HasKind d kind raw.entry.number × Enters d tree.now raw.entry.number
+        (node_in tree.now bounds.level bounds.low bounds.high) walk.old walk.new) }
+    ensures err { (d : Database) → used_in d raw.entry.number ≡ take raw.entry.usable raw.entry.bytes.now
+        → IsLevelOf d tree.now.root walk.old.leaf_level → IfErr result (λ e. ((e.page ≡ raw.entry.number) ×
+        NodeRefused d e.fault raw.entry.number (node_in tree.now bounds.level bounds.low bounds.high)) ⊎
         (e.fault ≡ Fault.NoMemory)) }
-    ensures room { HoldsPage usable room.new }
+    ensures room { HoldsPage raw.entry.usable room.new }
 {
-    let page = match judge(
-        tree,
-        number,
-        bytes,
-        usable,
-        bounds,
-        &mut walk.leaf_level,
-        room,
-    ) {
+    let number = raw.number;
+    let page = match judge(tree, raw, bounds, &mut walk.leaf_level, room) {
         Ok(page) => page,
         Err(fault) => return Err(CheckError {
             page: number,
             fault,
         }),
     };
-    put_aside(tree, page.kind(), number, &mut walk.rows)?;
+    let kind = page.kind();
+    put_aside(tree, kind, number, &mut walk.rows)?;
     push_below(number, &page, &room.parts, bounds, &mut walk.stack)?;
-    push_chains(number, &page, &room.parts, &mut walk.stack)
+    push_chains(number, &page, &room.parts, &mut walk.stack)?;
+    Ok(kind)
 }

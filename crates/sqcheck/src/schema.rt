@@ -1,19 +1,19 @@
 //! The rows of the schema (fileformat2, 2.6).
 ghost use Rattle.std.specs.Prelude.{◌≡◌, ◌≢◌, ◌⊎◌, ◌↔◌, ◌+◌, ◌<◌, ◌≤◌, ◌^◌, ◌++◌, [], ℕ, List, Some, true, length};
 ghost use Rattle.std.specs.Prelude.{take, IsSome, IfOk, IfErr, OnOk, OnErr, ◌∷◌};
-ghost use Rattle.sqval.specs.Database.{Database, page};
-ghost use Rattle.sqval.specs.PageSize.{IsPageSize};
 ghost use Rattle.sqpage.specs.Lists.{Every, Apart};
-ghost use Rattle.sqpage.specs.Freelist.{usable_size};
 ghost use Rattle.sqpage.specs.Page.{cell_count};
-ghost use Rattle.sqpage.specs.Chain.{IsPayload, payload_size};
+ghost use Rattle.sqpage.specs.Chain.{IsPayload};
 ghost use Rattle.sqpage.specs.declared.fault.Fault.{Fault};
 ghost use Rattle.sqpage.specs.declared.kind.Kind.TheVariants.{TableLeaf};
 ghost use Rattle.sqcheck.specs.Places.{IsRootOf, IsSchemaRow, InRow, page_as};
 ghost use Rattle.sqcheck.specs.Stands.{Stands};
 ghost use Rattle.sqcheck.specs.Schema.{IsRowsPage, AreSchemaRows, AllSchemaRows, InRowBelow, InRowsOf, KeepsFound};
+ghost use Rattle.sqcheck.specs.Schema.{HasPayloadWithin};
+ghost use Rattle.sqcheck.specs.Snapshots.{SameSource};
 
-use crate::pages::read_page;
+use crate::snapshot::Snapshot;
+use crate::walker::Reader;
 use sqpage::{BtreePage, Cell, CheckError, Fault, Kind, PageSource, payload};
 use sqval::{Record, Value};
 use std::alloc::Global;
@@ -52,25 +52,22 @@ fn schema_root(bytes: &[u8]) -> Option<u64>
 
 /// The root that the row in a cell names, or 0. Refused by SchemaRecord at the cell's page. `content` is
 /// room for the row.
-fn row_root<S: PageSource>(
+fn row_root<V: Snapshot, S: PageSource>(
     alloc: Global,
     source: &mut S,
     cell: &Cell,
     content: &mut Vec<u8>,
 ) -> Result<u64, CheckError>
-    requires payload { IsSome cell.now.payload }
-    requires least { 480 ≤ cell.now.usable }
-    requires most { cell.now.usable ≤ S.size source.old }
-    requires part { length cell.now.local.now ≤ payload_size cell.now }
-    ensures ok { S.gives_pages source.old → IfOk result (λ r. (bytes : List ℕ) × IsPayload (S.pages source.old)
-        cell.now bytes × IsSchemaRow bytes r × ((q : ℕ) → IsSchemaRow bytes q → q ≡ r)) }
-    ensures err { S.gives_pages source.old → (bytes : List ℕ) → IsPayload (S.pages source.old) cell.now bytes → IfErr
-        result (λ e. (e.fault ≡ Fault.NoMemory) ⊎ ((e.fault ≡ Fault.SchemaRecord) × (e.page ≡ cell.now.page) ×
-        (bytes : List ℕ) × IsPayload (S.pages source.old) cell.now bytes × ((r : ℕ) → ¬ IsSchemaRow bytes
-        r))) }
-    ensures still_gives { S.gives_pages source.old → S.gives_pages source.new }
-    ensures same_pages { S.pages source.new ≡ S.pages source.old }
-    ensures same_size { S.size source.new ≡ S.size source.old }
+    requires cell { HasPayloadWithin V.size cell.now }
+    requires same { SameSource V.pages V.size V.given (S.pages source.old) (S.size source.old)
+        (S.gives_pages source.old) }
+    ensures ok { V.given → IfOk result (λ r. (bytes : List ℕ) × IsPayload V.pages cell.now bytes × IsSchemaRow bytes r ×
+        ((q : ℕ) → IsSchemaRow bytes q → q ≡ r)) }
+    ensures err { V.given → (bytes : List ℕ) → IsPayload V.pages cell.now bytes → IfErr result (λ e.
+        (e.fault ≡ Fault.NoMemory) ⊎ ((e.fault ≡ Fault.SchemaRecord) × (e.page ≡ cell.now.page) ×
+        (bytes : List ℕ) × IsPayload V.pages cell.now bytes × ((r : ℕ) → ¬ IsSchemaRow bytes r))) }
+    ensures same { SameSource V.pages V.size V.given (S.pages source.new) (S.size source.new)
+        (S.gives_pages source.new) }
 {
     content.clear();
     payload(alloc, source, cell, content)?;
@@ -105,62 +102,54 @@ fn add_root(roots: &mut Vec<Root>, count: u32, holder: u32, page: u64) -> Result
 
 /// Adds the roots that the rows in a leaf of the schema's tree name, in their order, while no more are kept
 /// than there are pages.
-fn take_rows<S: PageSource>(
+fn take_rows<V: Snapshot, S: PageSource>(
     alloc: Global,
     source: &mut S,
-    number: u32,
     page: &BtreePage,
     content: &mut Vec<u8>,
     roots: &mut Vec<Root>,
 ) -> Result<(), CheckError>
     requires leaf { page.now.kind ≡ TableLeaf }
-    requires most { length page.now.used ≤ S.size source.old }
-    requires number { number ≡ page.now.number }
-    ensures ok { S.gives_pages source.old → page.now ≡ page_as (S.pages source.old) TableLeaf number → OnOk result
-        (KeepsFound (S.pages source.old) (InRowBelow (S.pages source.old) number (cell_count page.now))
-        roots.old.items roots.new.items × AreSchemaRows (S.pages source.old) number (cell_count page.now)) }
-    ensures err { S.gives_pages source.old → page.now ≡ page_as (S.pages source.old) TableLeaf number
-        → IsRowsPage (S.pages source.old) number
-        → IfErr result (λ e. (size : ℕ) → Stands (S.pages source.old) size e.fault e.page) }
-    ensures still_gives { S.gives_pages source.old → S.gives_pages source.new }
-    ensures same_pages { S.pages source.new ≡ S.pages source.old }
-    ensures same_size { S.size source.new ≡ S.size source.old }
+    requires most { length page.now.used ≤ V.size }
+    requires same { SameSource V.pages V.size V.given (S.pages source.old) (S.size source.old)
+        (S.gives_pages source.old) }
+    ensures ok { V.given → page.now ≡ page_as V.pages TableLeaf page.now.number → OnOk result
+        (KeepsFound V.pages (InRowBelow V.pages page.now.number (cell_count page.now)) roots.old.items roots.new.items ×
+        AreSchemaRows V.pages page.now.number (cell_count page.now)) }
+    ensures err { V.given → page.now ≡ page_as V.pages TableLeaf page.now.number
+        → IsRowsPage V.pages page.now.number
+        → IfErr result (λ e. (size : ℕ) → Stands V.pages size e.fault e.page) }
+    ensures same { SameSource V.pages V.size V.given (S.pages source.new) (S.size source.new)
+        (S.gives_pages source.new) }
 {
     let count = source.count();
     'rows: for i in 0..page.len() {
         let cell = page.cell(i);
-        let root = row_root(alloc, source, &cell, content)?;
-        add_root(roots, count, number, root)?;
+        let root = row_root::<V, S>(alloc, source, &cell, content)?;
+        add_root(roots, count, cell.page, root)?;
     }
     Ok(())
 }
 
 /// Adds the roots that the rows of page `number` name, which is a leaf of the schema's tree, while no more
 /// are kept than there are pages.
-fn page_roots<S: PageSource>(
+fn page_roots<V: Snapshot, S: PageSource>(
     alloc: Global,
     source: &mut S,
-    bytes: &mut [u8],
-    usable: u32,
+    reader: &mut Reader<V>,
     number: u32,
     content: &mut Vec<u8>,
     roots: &mut Vec<Root>,
 ) -> Result<(), CheckError>
-    requires room { length bytes.old ≡ S.size source.old }
-    requires size { IsPageSize (S.size source.old) }
-    requires least { 480 ≤ usable }
-    requires most { usable ≤ S.size source.old }
-    ensures ok { S.gives_pages source.old → usable ≡ usable_size (S.pages source.old)
-        → IsRowsPage (S.pages source.old) number → OnOk result (KeepsFound (S.pages source.old)
-        (InRow (S.pages source.old) number) roots.old.items roots.new.items × AllSchemaRows
-        (S.pages source.old) number) }
-    ensures err { S.gives_pages source.old → usable ≡ usable_size (S.pages source.old)
-        → IsRowsPage (S.pages source.old) number
-        → IfErr result (λ e. (size : ℕ) → Stands (S.pages source.old) size e.fault e.page) }
-    ensures still_gives { S.gives_pages source.old → S.gives_pages source.new }
-    ensures same_pages { S.pages source.new ≡ S.pages source.old }
-    ensures same_size { S.size source.new ≡ S.size source.old }
-    ensures room { length bytes.new ≡ length bytes.old }
+    requires same { SameSource V.pages V.size V.given (S.pages source.old) (S.size source.old)
+        (S.gives_pages source.old) }
+    ensures ok { V.given → IsRowsPage V.pages number → OnOk result (KeepsFound V.pages (InRow V.pages number)
+        roots.old.items roots.new.items × AllSchemaRows V.pages number) }
+    ensures err { V.given → IsRowsPage V.pages number
+        → IfErr result (λ e. (size : ℕ) → Stands V.pages size e.fault e.page) }
+    ensures usable { reader.new.usable ≡ reader.old.usable }
+    ensures same { SameSource V.pages V.size V.given (S.pages source.new) (S.size source.new)
+        (S.gives_pages source.new) }
 {
     if number == 0 || number > source.count() {
         return Err(CheckError {
@@ -168,8 +157,8 @@ fn page_roots<S: PageSource>(
             fault: Fault::PageOutside,
         });
     }
-    read_page(source, number, bytes)?;
-    let page = match BtreePage::new(bytes, number, usable) {
+    reader.read(source, number)?;
+    let page = match BtreePage::new(&reader.bytes, number, reader.usable) {
         Ok(page) => page,
         Err(fault) => return Err(CheckError {
             page: number,
@@ -177,7 +166,7 @@ fn page_roots<S: PageSource>(
         }),
     };
     match page.kind() {
-        Kind::TableLeaf => take_rows(alloc, source, number, &page, content, roots),
+        Kind::TableLeaf => take_rows::<V, S>(alloc, source, &page, content, roots),
         _ => Err(CheckError {
             page: number,
             fault: Fault::Kind,
@@ -187,41 +176,26 @@ fn page_roots<S: PageSource>(
 
 /// The roots that the rows of the schema name, in their order, but not those behind one more than there are
 /// pages: one of so many is no page's, or another's. `rows` are the leaves of its tree.
-pub(crate) fn roots_in<S: PageSource>(
+pub(crate) fn roots_in<V: Snapshot, S: PageSource>(
     alloc: Global,
     source: &mut S,
-    bytes: &mut [u8],
-    usable: u32,
+    reader: &mut Reader<V>,
     rows: &[u32],
 ) -> Result<Vec<Root>, CheckError>
-    requires room { length bytes.old ≡ S.size source.old }
-    requires size { IsPageSize (S.size source.old) }
-    requires least { 480 ≤ usable }
-    requires most { usable ≤ S.size source.old }
-    ensures ok { S.gives_pages source.old → usable ≡ usable_size (S.pages source.old)
-        → Every (IsRowsPage (S.pages source.old)) rows.now → Apart rows.now → IfOk result (λ roots. KeepsFound
-        (S.pages source.old) (InRowsOf (S.pages source.old) rows.now) [] roots.items × Every
-        (AllSchemaRows (S.pages source.old)) rows.now) }
-    ensures err { S.gives_pages source.old → usable ≡ usable_size (S.pages source.old)
-        → Every (IsRowsPage (S.pages source.old)) rows.now
-        → IfErr result (λ e. (size : ℕ) → Stands (S.pages source.old) size e.fault e.page) }
-    ensures still_gives { S.gives_pages source.old → S.gives_pages source.new }
-    ensures same_pages { S.pages source.new ≡ S.pages source.old }
-    ensures same_size { S.size source.new ≡ S.size source.old }
-    ensures room { length bytes.new ≡ length bytes.old }
+    requires same { SameSource V.pages V.size V.given (S.pages source.old) (S.size source.old)
+        (S.gives_pages source.old) }
+    ensures ok { V.given → Every (IsRowsPage V.pages) rows.now → Apart rows.now → IfOk result (λ roots. KeepsFound
+        V.pages (InRowsOf V.pages rows.now) [] roots.items × Every (AllSchemaRows V.pages) rows.now) }
+    ensures err { V.given → Every (IsRowsPage V.pages) rows.now
+        → IfErr result (λ e. (size : ℕ) → Stands V.pages size e.fault e.page) }
+    ensures usable { reader.new.usable ≡ reader.old.usable }
+    ensures same { SameSource V.pages V.size V.given (S.pages source.new) (S.size source.new)
+        (S.gives_pages source.new) }
 {
     let mut roots = Vec::new(alloc);
     let mut content = Vec::new(alloc);
     'pages: for number in rows {
-        page_roots(
-            alloc,
-            source,
-            bytes,
-            usable,
-            *number,
-            &mut content,
-            &mut roots,
-        )?;
+        page_roots(alloc, source, reader, *number, &mut content, &mut roots)?;
     }
     Ok(roots)
 }

@@ -1,21 +1,25 @@
 //! Trunks of the freelist, and links of overflow chains (fileformat2, 1.5 and 1.7).
-ghost use Rattle.std.specs.Prelude.{◌≡◌, ◌≢◌, ◌+◌, ◌-◌, ◌*◌, ◌/◌, ◌<◌, ◌≤◌, ◌^◌, ℕ, length, reverse, IfErr, OnOk};
+ghost use Rattle.std.specs.Prelude.{◌≡◌, ◌≢◌, ◌+◌, ◌-◌, ◌*◌, ◌/◌, ◌<◌, ◌≤◌, ◌∷◌, ℕ, length, reverse, IfErr, OnOk};
 ghost use Rattle.std.specs.Prelude.{OnErr, count_by, not};
-ghost use Rattle.sqval.specs.Database.{Database, page};
-ghost use Rattle.sqpage.specs.Freelist.{usable_size, leaf_count_in};
+ghost use Rattle.sqval.specs.Database.{Database};
+ghost use Rattle.sqpage.specs.Freelist.{leaf_count_in};
 ghost use Rattle.sqpage.specs.declared.fault.Fault.{Fault};
-ghost use Rattle.sqcheck.specs.Walking.{Pushes, IsNextTrunk, IsLeafFrom, Visits, FollowRefused, TopLeads};
+ghost use Rattle.sqcheck.specs.Walking.{Pushes, IsNextTrunk, IsLeafFrom, Follows, FollowRefused, Knows, TopLeads};
+ghost use Rattle.sqcheck.specs.Snapshots.{SameSource};
 ghost use Rattle.sqcheck.specs.declared.item.Task.TheVariants.{Trunk, Link};
 ghost use Rattle.sqcheck.specs.declared.tree.Tree.{Tree};
 
 use crate::item::{Item, Task, push};
-use crate::pages::{read_page, take, word_at};
+use crate::pages::word_at;
+use crate::snapshot::Snapshot;
+use crate::walker::Walker;
 use sqpage::{CheckError, Fault, PageSource};
 
 /// Puts the next trunk on the stack, where there is one.
 fn push_next(trunk: u32, bytes: &[u8], stack: &mut Vec<Item>) -> Result<(), CheckError>
     requires { 8 ≤ length bytes.now }
-    ensures ok { OnOk result ((tree : Tree) → Pushes tree (IsNextTrunk bytes.now trunk) stack.old.items stack.new.items) }
+    ensures ok { OnOk result ((tree : Tree)
+        → Pushes tree (IsNextTrunk bytes.now trunk) stack.old.items stack.new.items) }
     ensures leads { OnOk result ((d : Database) (root : ℕ) → TopLeads d root (reverse stack.old.items) → TopLeads d
         root (reverse stack.new.items)) }
     ensures err { IfErr result (λ e. e.fault ≡ Fault.NoMemory) }
@@ -37,7 +41,8 @@ fn push_next(trunk: u32, bytes: &[u8], stack: &mut Vec<Item>) -> Result<(), Chec
 /// Puts the leaves of a trunk on the stack, the first one on top.
 fn push_leaves(trunk: u32, bytes: &[u8], stack: &mut Vec<Item>) -> Result<(), CheckError>
     requires room { 8 + 4 * leaf_count_in bytes.now ≤ length bytes.now }
-    ensures ok { OnOk result ((tree : Tree) → Pushes tree (IsLeafFrom bytes.now trunk 0) stack.old.items stack.new.items) }
+    ensures ok { OnOk result ((tree : Tree)
+        → Pushes tree (IsLeafFrom bytes.now trunk 0) stack.old.items stack.new.items) }
     ensures leads { OnOk result ((d : Database) (root : ℕ) → TopLeads d root (reverse stack.old.items) → TopLeads d
         root (reverse stack.new.items)) }
     ensures err { IfErr result (λ e. e.fault ≡ Fault.NoMemory) }
@@ -57,98 +62,85 @@ fn push_leaves(trunk: u32, bytes: &[u8], stack: &mut Vec<Item>) -> Result<(), Ch
     Ok(())
 }
 
-/// Takes a trunk, and puts the next one and its leaves on the stack. Refused by FreeCount where it names too
-/// many leaves.
-pub(crate) fn follow_trunk<S: PageSource>(
-    source: &mut S,
-    bytes: &mut [u8],
-    usable: usize,
-    item: Item,
-    marks: &mut [bool],
-    stack: &mut Vec<Item>,
-) -> Result<(), CheckError>
-    requires task { item.task ≡ Trunk }
-    requires marks { length marks.old ≡ length (S.pages source.old) }
-    requires room { length bytes.old ≡ S.size source.old }
-    requires large { 16 ≤ usable }
-    requires most { usable ≤ length bytes.old }
-    ensures ok { S.gives_pages source.old → usable ≡ usable_size (S.pages source.old) → OnOk result ((tree : Tree) →
-        Visits (S.pages source.old) tree item marks.old marks.new stack.old.items stack.new.items) }
-    ensures leads { OnOk result ((d : Database) (root : ℕ) → TopLeads d root (reverse stack.old.items) → TopLeads d
-        root (reverse stack.new.items)) }
-    ensures err { S.gives_pages source.old → usable ≡ usable_size (S.pages source.old)
-        → IfErr result (λ e. (tree : Tree) → FollowRefused (S.pages source.old) tree item marks.old e.fault e.page) }
-    ensures still_gives { S.gives_pages source.old → S.gives_pages source.new }
-    ensures same_pages { S.pages source.new ≡ S.pages source.old }
-    ensures same_size { S.size source.new ≡ S.size source.old }
-    ensures marks { length marks.new ≡ length marks.old }
-    ensures fewer { OnOk result (count_by not marks.new < count_by not marks.old) }
-    ensures room { length bytes.new ≡ length bytes.old }
-{
-    take(marks, item.holder, item.page)?;
-    read_page(source, item.page, bytes)?;
-    if word_at(bytes, 4) as usize > usable / 4 - 2 {
-        return Err(CheckError {
-            page: item.page,
-            fault: Fault::FreeCount,
-        });
+impl<V: Snapshot> Walker<V> {
+    /// Takes a trunk, and puts the next one and its leaves on the stack. Refused by FreeCount where it names
+    /// too many leaves.
+    pub fn follow_trunk<S: PageSource>(
+        &mut self,
+        source: &mut S,
+        item: Item,
+    ) -> Result<(), CheckError>
+        requires task { item.task ≡ Trunk }
+        requires same { SameSource V.pages V.size V.given (S.pages source.old) (S.size source.old)
+            (S.gives_pages source.old) }
+        ensures ok { V.given → OnOk result ((tree : Tree)
+            → Knows V.pages tree.root self.old.walk.leaf_level (item ∷ reverse self.old.walk.stack.items)
+            → Follows V.pages tree item self.old.uses self.new.uses self.old.walk self.new.walk) }
+        ensures err { V.given → IfErr result (λ e. (tree : Tree)
+            → FollowRefused V.pages tree item self.old.uses.marks.items e.fault e.page) }
+        ensures fewer { OnOk result (count_by not self.new.uses.marks.items < count_by not self.old.uses.marks.items) }
+        ensures same { SameSource V.pages V.size V.given (S.pages source.new) (S.size source.new)
+            (S.gives_pages source.new) }
+    {
+        self.uses.take(item)?;
+        self.reader.read(source, item.page)?;
+        let bytes = self.reader.bytes.as_slice();
+        if word_at(bytes, 4) > self.reader.usable / 4 - 2 {
+            return Err(CheckError {
+                page: item.page,
+                fault: Fault::FreeCount,
+            });
+        }
+        push_next(item.page, bytes, &mut self.walk.stack)?;
+        push_leaves(item.page, bytes, &mut self.walk.stack)
     }
-    push_next(item.page, bytes, stack)?;
-    push_leaves(item.page, bytes, stack)
-}
 
-/// Takes a page of a chain of which so many are needed, and puts the next one on the stack. Refused by
-/// ChainCut at the holder where there is no number, or where more pages are needed than there are, and by
-/// ChainLong where the last page names a next one.
-pub(crate) fn follow_link<S: PageSource>(
-    source: &mut S,
-    bytes: &mut [u8],
-    item: Item,
-    needed: u64,
-    marks: &mut [bool],
-    stack: &mut Vec<Item>,
-) -> Result<(), CheckError>
-    requires task { item.task ≡ Link needed }
-    requires marks { length marks.old ≡ length (S.pages source.old) }
-    requires room { length bytes.old ≡ S.size source.old }
-    requires large { 16 ≤ length bytes.old }
-    ensures ok { S.gives_pages source.old → OnOk result ((tree : Tree) → Visits (S.pages source.old) tree item
-        marks.old marks.new stack.old.items stack.new.items) }
-    ensures leads { OnOk result ((d : Database) (root : ℕ) → TopLeads d root (reverse stack.old.items) → TopLeads d
-        root (reverse stack.new.items)) }
-    ensures err { S.gives_pages source.old → 0 < needed
-        → IfErr result (λ e. (tree : Tree) → FollowRefused (S.pages source.old) tree item marks.old e.fault e.page) }
-    ensures still_gives { S.gives_pages source.old → S.gives_pages source.new }
-    ensures same_pages { S.pages source.new ≡ S.pages source.old }
-    ensures same_size { S.size source.new ≡ S.size source.old }
-    ensures marks { length marks.new ≡ length marks.old }
-    ensures fewer { OnOk result (count_by not marks.new < count_by not marks.old) }
-    ensures room { length bytes.new ≡ length bytes.old }
-{
-    if item.page == 0 || needed > u64::from(source.count()) {
-        return Err(CheckError {
-            page: item.holder,
-            fault: Fault::ChainCut,
-        });
+    /// Takes a page of a chain of which so many are needed, and puts the next one on the stack. Refused by
+    /// ChainCut at the holder where there is no number, or where more pages are needed than there are, and by
+    /// ChainLong where the last page names a next one.
+    pub fn follow_link<S: PageSource>(
+        &mut self,
+        source: &mut S,
+        item: Item,
+        needed: u64,
+    ) -> Result<(), CheckError>
+        requires task { item.task ≡ Link needed }
+        requires same { SameSource V.pages V.size V.given (S.pages source.old) (S.size source.old)
+            (S.gives_pages source.old) }
+        ensures ok { V.given → OnOk result ((tree : Tree)
+            → Knows V.pages tree.root self.old.walk.leaf_level (item ∷ reverse self.old.walk.stack.items)
+            → Follows V.pages tree item self.old.uses self.new.uses self.old.walk self.new.walk) }
+        ensures err { V.given → 0 < needed → IfErr result (λ e. (tree : Tree)
+            → FollowRefused V.pages tree item self.old.uses.marks.items e.fault e.page) }
+        ensures fewer { OnOk result (count_by not self.new.uses.marks.items < count_by not self.old.uses.marks.items) }
+        ensures same { SameSource V.pages V.size V.given (S.pages source.new) (S.size source.new)
+            (S.gives_pages source.new) }
+    {
+        if item.page == 0 || needed > u64::from(source.count()) {
+            return Err(CheckError {
+                page: item.holder,
+                fault: Fault::ChainCut,
+            });
+        }
+        self.uses.take(item)?;
+        self.reader.read(source, item.page)?;
+        let next = word_at(&self.reader.bytes, 0);
+        if needed > 1 {
+            return push(
+                &mut self.walk.stack,
+                Item {
+                    holder: item.page,
+                    page: next,
+                    task: Task::Link(needed - 1),
+                },
+            );
+        }
+        if next != 0 {
+            return Err(CheckError {
+                page: item.page,
+                fault: Fault::ChainLong,
+            });
+        }
+        Ok(())
     }
-    take(marks, item.holder, item.page)?;
-    read_page(source, item.page, bytes)?;
-    let next = word_at(bytes, 0);
-    if needed > 1 {
-        return push(
-            stack,
-            Item {
-                holder: item.page,
-                page: next,
-                task: Task::Link(needed - 1),
-            },
-        );
-    }
-    if next != 0 {
-        return Err(CheckError {
-            page: item.page,
-            fault: Fault::ChainLong,
-        });
-    }
-    Ok(())
 }

@@ -28,7 +28,7 @@ cells-preserved c =
       children = λ tree. subst (λ n. Pushes tree (ChildFrom c.args.page.now (node_in tree c.args.bounds.level c.args.bounds.low c.args.bounds.high) n) c.args.stack.now.items c.push.new.stack.items) (sym back)
           (child_more tree c.args.page.now c.args.bounds.level (c.args.bounds.level + 1) c.cells.left c.cells.child c.args.bounds.low c.args.bounds.high c.cell_with-cell.result.rowid c.cells.high c.args.stack.now.items c.cells.stack.items c.push.new.stack.items it
           i.next (inr (inl (c.cells.left - 1, c.cell_with-cell.result, up, (lt, c.cell_with-cell.ensures.cell), refl))) (let e : c.args.bounds.level + 1 ≡ suc c.args.bounds.level = omega arith in e)
-          (ap (λ n. record { holder = n; page = c.cells.child; task = Node (c.args.bounds.level + 1) c.cell_with-cell.result.rowid c.cells.high }) c.requires.number) c.in_ok-push.ensures.ok (i.children tree));
+          (ap (λ n. record { holder = n; page = c.cells.child; task = Node (c.args.bounds.level + 1) c.cell_with-cell.result.rowid c.cells.high }) c.requires.cells.0) c.in_ok-push.ensures.ok (i.children tree));
       next = inr (c.cell_with-cell.result, (lt, c.cell_with-cell.ensures.cell), c.unwrap_or-child-in-cells.ensures, refl);
       within = omega (arith, i.within);
     }
@@ -42,7 +42,7 @@ returns-clause-ok c = on_ok _ _ c.push-2.result (λ pushed tree.
     children_all tree c.args.page.now c.args.bounds.level c.args.bounds.low c.args.bounds.high c.args.stack.now.items c.push-2.new.stack.items
     (child_more tree c.args.page.now c.args.bounds.level (c.args.bounds.level + 1) 0 c.cells.child c.args.bounds.low c.args.bounds.high c.args.bounds.low c.cells.high c.args.stack.now.items c.cells.stack.items c.push-2.new.stack.items it
     next (inl (refl, refl)) (let e : c.args.bounds.level + 1 ≡ suc c.args.bounds.level = omega arith in e)
-    (ap (λ n. record { holder = n; page = c.cells.child; task = Node (c.args.bounds.level + 1) c.args.bounds.low c.cells.high }) c.requires.number) pushed
+    (ap (λ n. record { holder = n; page = c.cells.child; task = Node (c.args.bounds.level + 1) c.args.bounds.low c.cells.high }) c.requires.cells.0) pushed
     (subst (λ n. Pushes tree (ChildFrom c.args.page.now (node_in tree c.args.bounds.level c.args.bounds.low c.args.bounds.high) (n + 1)) c.args.stack.now.items c.cells.stack.items) z (i.children tree)))) c.push-2.ensures.ok
 
 pub returns-clause-leads : goal.returns-clause-leads

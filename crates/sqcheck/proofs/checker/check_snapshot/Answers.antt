@@ -1,0 +1,42 @@
+use Rattle.std.proofs.Common.{◌≡◌, ◌∙◌, ℕ, List, length, refl, sym, ap, subst}
+use Rattle.std.proofs.lemmas.List.{with_items_is}
+use Rattle.sqval.specs.Database.{Database, page}
+use Rattle.sqval.specs.PageSize.{IsPageSize}
+use Rattle.sqpage.proofs.Sources.{least_page_size}
+use Rattle.sqcheck.specs.Heading.{HasHeaderOf}
+use Rattle.sqcheck.specs.Stands.{Stands}
+use Rattle.sqcheck.proofs.Results.{if_err}
+use Rattle.sqcheck.proofs.Ends.{no_magic, header_sound}
+use Rattle.sqcheck.proofs.checker.check_snapshot.Goals as goal
+
+pub returns-then-count-eq0-clause-err : goal.returns-then-count-eq0-clause-err
+returns-then-count-eq0-clause-err g c = λ given. (refl, no_magic g.V.Snapshot.pages (sym (ap (λ (q : Database). length q) c.requires.same.0) ∙ sym c.count-count.ensures ∙ c.if-count-eq0.true))
+
+pub read_page-requires-clause-same : goal.read_page-requires-clause-same
+read_page-requires-clause-same g c = record {
+  sized = subst IsPageSize (c.get.ensures.value ∙ c.page_size-size.ensures ∙ c.requires.same.1) c.get.ensures.valid;
+  same_pages = c.requires.same.0;
+  same_size = c.requires.same.1;
+  still_given = c.requires.same.2;
+}
+
+pub judge_header-requires-clause-large : goal.judge_header-requires-clause-large
+judge_header-requires-clause-large g c = least_page_size c.page_size-size.result (subst IsPageSize c.get.ensures.value c.get.ensures.valid)
+
+pub returns-in-Ok-new_walker-clause-ok : goal.returns-in-Ok-new_walker-clause-ok
+returns-in-Ok-new_walker-clause-ok g c = λ given.
+    let d = g.V.Snapshot.pages in
+    let read = c.read_page.ensures.read given in
+    let first : c.deref.result.now ≡ page d 1 = c.deref.ensures.value ∙ with_items_is c.in-Ok.bytes c.read_page.new.out (c.read_page.auto.out ∙ c.deref_mut.ensures.len) ∙ read.1 in
+    let hd = subst (λ (l : List ℕ). HasHeaderOf c.in_ok-header.header c.page_size-size.result l) first c.in_ok-header.ensures.ok in
+    c.check_pages.ensures.ok given read.2 (record { first = hd.first_trunk; said = hd.free_pages }) c.in-Ok-new_walker.ensures.new
+    (header_sound d c.in_ok-header.header c.page_size-size.result g.V.Snapshot.size (c.page_size-size.ensures ∙ c.requires.same.1) hd)
+
+pub returns-in-Ok-new_walker-clause-err : goal.returns-in-Ok-new_walker-clause-err
+returns-in-Ok-new_walker-clause-err g c = λ given.
+    let d = g.V.Snapshot.pages in
+    let read = c.read_page.ensures.read given in
+    let first : c.deref.result.now ≡ page d 1 = c.deref.ensures.value ∙ with_items_is c.in-Ok.bytes c.read_page.new.out (c.read_page.auto.out ∙ c.deref_mut.ensures.len) ∙ read.1 in
+    let hd = subst (λ (l : List ℕ). HasHeaderOf c.in_ok-header.header c.page_size-size.result l) first c.in_ok-header.ensures.ok in
+    if_err _ (λ e. Stands d g.V.Snapshot.size e.fault e.page) c.check_pages.result (λ e h. h g.V.Snapshot.size)
+    (c.check_pages.ensures.err given read.2 (record { first = hd.first_trunk; said = hd.free_pages }) c.in-Ok-new_walker.ensures.new)

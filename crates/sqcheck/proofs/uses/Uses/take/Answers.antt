@@ -1,0 +1,14 @@
+use Rattle.std.proofs.Common.{◌≡◌, ◌∙◌, ◌+◌, ◌<◌, ◌≤◌, ◌^◌, List, Bool, length, count_by, not, sym, subst}
+use Rattle.std.proofs.lemmas.List.{with_items_is}
+use Rattle.std.specs.Vec.{with_items}
+use Rattle.sqcheck.proofs.uses.Uses.take.Goals as goal
+
+pub invariant_of-self : goal.invariant_of-self
+invariant_of-self c =
+    let s = c.args.self.now in
+    let same : (with_items s.marks c.mark.new.marks).items ≡ s.marks.items = with_items_is s.marks c.mark.new.marks (c.mark.ensures.length ∙ c.deref_mut.ensures.len) ∙ c.in_err-mark.ensures.unchanged ∙ c.deref_mut.ensures.value in
+    record {
+      few = subst (λ (l : List Bool). length l < 2 ^ 32) (sym same) s.few;
+      counted = subst (λ (l : List Bool). s.counts.btree + s.counts.overflow + s.counts.free + count_by not l ≤ length l) (sym same) s.counted;
+      trees = s.trees;
+    }

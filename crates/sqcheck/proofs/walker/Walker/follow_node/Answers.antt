@@ -1,0 +1,14 @@
+use Rattle.std.proofs.Common.{◌∙◌}
+use Rattle.sqcheck.proofs.Results.{if_ok}
+use Rattle.sqcheck.proofs.Following.{knows_at, used_read, node_followed}
+use Rattle.sqcheck.proofs.walker.Walker.follow_node.Goals as goal
+
+pub returns-clause-ok : goal.returns-clause-ok
+returns-clause-ok g c = λ given k.
+    let d = g.V.Snapshot.pages in
+    let tree = c.args.tree.now in
+    let s = c.args.self.now in
+    let b = c.args.bounds in
+    if_ok _ _ c.enter.result (λ kind both. (both.0, node_followed d tree c.args.item b.level b.low b.high s.uses c.take.new.self s.walk c.enter.new.walk c.requires.task c.in_ok-take.ensures.ok c.in_ok-take.ensures.counted both.1))
+    (c.enter.ensures.ok d (used_read d c.args.item.page c.read.new.self.usable c.deref.result.now (c.deref.ensures.value ∙ (c.read.ensures.read given).1) (c.read.new.self.used given))
+    (knows_at d tree.root c.args.item s.walk.leaf_level b.level b.low b.high s.walk.stack.items c.requires.task k))

@@ -1,0 +1,26 @@
+use Rattle.std.proofs.Common.{◌≡◌, ◌∙◌, None, sym, ap, Bool, true, false}
+use Rattle.sqval.specs.Database.{Database}
+use Rattle.sqcheck.specs.declared.item.Task.TheVariants as tasks
+use Rattle.sqcheck.specs.declared.schema.Root.{Root}
+use Rattle.sqcheck.specs.Places.{Spot, node, names_table, root_of_tree}
+use Rattle.sqcheck.specs.Schema.{IsRootAt}
+use Rattle.sqcheck.specs.Walking.{IsItemOf}
+use Rattle.sqcheck.proofs.walker.Walker.follow_root.Goals as goal
+
+-- the item of a root's tree
+item_of : (d : Database) (root : Root) (s : Spot) (table : Bool) → IsRootAt d root s → table ≡ names_table d root.page
+    → IsItemOf (record { root = root.page; table = table; schema = false }) (record { holder = root.holder; page = root.page; task = tasks.Node 1 None None }) s
+item_of d root s table is e = record {
+  page = is.page;
+  stands = is.stands;
+  role = is.role ∙ ap (root_of_tree d) (sym is.page) ∙ ap (λ b. node (record { tree = root.page; table = b; schema = false; level = 1; low = None; high = None })) (sym e);
+  proper = tt;
+}
+
+pub returns-clause-ok : goal.returns-clause-ok
+returns-clause-ok g c = λ given visited rest s w is.
+    c.follow_from.ensures.ok given true visited rest s w (item_of g.V.Snapshot.pages c.args.root s c.in_ok-table.table is (c.in_ok-table.ensures.ok given)) (λ on f. f)
+
+pub returns-clause-err : goal.returns-clause-err
+returns-clause-err g c = λ given visited rest s w is.
+    c.follow_from.ensures.err given true visited rest s w (item_of g.V.Snapshot.pages c.args.root s c.in_ok-table.table is (c.in_ok-table.ensures.ok given)) (λ on f. f)

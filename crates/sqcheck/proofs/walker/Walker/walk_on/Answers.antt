@@ -1,0 +1,53 @@
+use Rattle.std.proofs.Common.{◌++◌, [], ℕ, sym, subst, refl, append-nil}
+use Rattle.sqcheck.specs.declared.node.Walk.{Walk}
+use Rattle.sqcheck.specs.Agenda.{Walking}
+use Rattle.sqcheck.specs.Stands.{Stands}
+use Rattle.sqcheck.proofs.Results.{exits}
+use Rattle.sqcheck.proofs.Walks.{walks_on, walk_refused, proper_top, knows_top, nothing_popped}
+use Rattle.sqcheck.proofs.Tells.{walks_more}
+use Rattle.sqcheck.proofs.walker.Walker.walk_on.Goals as goal
+
+pub places-init : goal.places-init
+places-init g c = record {
+  walks = λ given late visited rest start. ([], subst (λ l. Walking g.V.Snapshot.pages late c.args.tree.now l rest c.args.self.now.uses c.args.self.now.walk) (sym (append-nil visited)) start, refl);
+  same = c.requires.same;
+}
+
+pub returns-in_err-role-clause-err : goal.returns-in_err-role-clause-err
+returns-in_err-role-clause-err g c = λ given late visited rest start.
+    let d = g.V.Snapshot.pages in
+    let tree = c.args.tree.now in
+    let s = c.places.self in
+    let w = c.places.invariant.walks given late visited rest start in
+    let popped : Walk = record { stack = c.pop.new.self; rows = s.walk.rows; leaf_level = s.walk.leaf_level } in
+    let it = c.in-Some.item in
+    let e = c.in_err-role.field-0.0 in
+    let items = c.in-Some.ensures.items in
+    let refused = c.in_err-role.ensures.err given (proper_top d late tree (visited ++ w.0) rest s.uses s.walk popped it w.1 items refl refl) (knows_top d late tree (visited ++ w.0) rest s.uses s.walk popped it w.1 items refl refl) in
+    exits (λ e. (size : ℕ) → Stands d size e.fault e.page) e c.from_residual.result c.from_residual.ensures.1
+    (λ size. walk_refused d late tree (visited ++ w.0) rest s.uses s.walk popped it w.1 items refl refl size e.fault e.page refused)
+
+pub places-preserved : goal.places-preserved
+places-preserved g c =
+    let d = g.V.Snapshot.pages in
+    let tree = c.args.tree.now in
+    let s = c.places.self in
+    let popped : Walk = record { stack = c.pop.new.self; rows = s.walk.rows; leaf_level = s.walk.leaf_level } in
+    let it = c.in-Some.item in
+    let items = c.in-Some.ensures.items in
+    let f = c.follow.new.self in
+    record {
+      walks = λ given late visited rest start.
+          let w = c.places.invariant.walks given late visited rest start in
+          let ok = c.in_ok-role.ensures.ok given (proper_top d late tree (visited ++ w.0) rest s.uses s.walk popped it w.1 items refl refl) (knows_top d late tree (visited ++ w.0) rest s.uses s.walk popped it w.1 items refl refl) in
+          let on = walks_on d late tree (visited ++ w.0) rest s.uses s.walk popped it w.1 items refl refl f.uses f.walk ok.1 in
+          walks_more g.T.Visitor.saw d late tree visited rest w.0 f.uses f.walk it on.0 c.in_ok-role.role c.args.visitor.now c.places.visitor c.visit.new.self on.1 ok.0 c.visit.ensures w.2 on.2;
+      same = c.follow.ensures.same;
+    }
+
+pub returns-clause-ok : goal.returns-clause-ok
+returns-clause-ok g c = λ given late visited rest start.
+    let s = c.places.self in
+    let popped : Walk = record { stack = c.pop.new.self; rows = s.walk.rows; leaf_level = s.walk.leaf_level } in
+    let w = c.places.invariant.walks given late visited rest start in
+    (w.0, nothing_popped g.V.Snapshot.pages late c.args.tree.now (visited ++ w.0) rest s.uses s.walk popped w.1 c.in_default.ensures.items refl refl, w.2)

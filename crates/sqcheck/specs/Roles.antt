@@ -1,0 +1,41 @@
+-- What the pages of a database are used for (fileformat2, 1.5 to 1.7).
+use Rattle.std.specs.Prelude.{◌≡◌, ℕ, List, [], ◌∷◌, length, map}
+use Rattle.sqval.specs.Database.{Database}
+use Rattle.sqpage.specs.declared.kind.Kind.{Kind}
+use Rattle.sqpage.specs.Lists.{Every}
+use Rattle.sqcheck.specs.declared.role.Role.{Role}
+use Rattle.sqcheck.specs.declared.role.Role.TheVariants.{Btree, Overflow, FreeTrunk, FreeLeaf}
+use Rattle.sqcheck.specs.Places as places
+use Rattle.sqcheck.specs.Places.{holder, trunk, free_leaf, link, node, Spot, HasKind, IsReached}
+use Rattle.sqcheck.specs.WellFormed.{AreEachOnce}
+
+-- The role of page p, which page h names as this. The kind of a page of a tree is that of its type byte.
+abbrev pub IsRoleOf : Database → (h p : ℕ) → places.Role → Role → Type 0
+IsRoleOf d h p trunk role = role ≡ FreeTrunk
+IsRoleOf d h p free_leaf role = role ≡ FreeLeaf
+IsRoleOf d h p (link needed) role = role ≡ Overflow h
+IsRoleOf d h p (node x) role = (kind : Kind) × HasKind d kind p × (role ≡ Btree kind x.tree)
+
+-- Page p has the role that a reached place names it in.
+abbrev pub HasRole : Database → (p : ℕ) → Role → Type 0
+HasRole d p role = (s : Spot) × IsReached d s × (s.page ≡ p) × IsRoleOf d (holder s.place) p s.role role
+
+-- a page and its role, as a visitor is told
+pub record Visit : Type 0 where
+  pub page : ℕ
+  pub role : Role
+
+-- A visitor is told of these, one after the other, and changes so.
+abbrev pub Told : {A : Type 0} (saw : A → ℕ → Role → A → Type 0) → (old : A) → List Visit → (new : A) → Type 0
+Told saw old [] new = new ≡ old
+Told {A = A} saw old (v ∷ visits) new = (next : A) × saw old v.page v.role next × Told saw next visits new
+
+-- They are of each page once, and of the role that it has.
+pub record AreRoles (d : Database) (visits : List Visit) : Type 0 where
+  pub once : AreEachOnce (length d) (map (λ v. v.page) visits)
+  pub roles : Every (λ v. HasRole d v.page v.role) visits
+
+-- The same of the places that name the pages. No public contract cites this word.
+abbrev pub TellsOf : {A : Type 0} (saw : A → ℕ → Role → A → Type 0) → Database → (old : A) → List Spot → (new : A) → Type 0
+TellsOf saw d old [] new = new ≡ old
+TellsOf {A = A} saw d old (s ∷ spots) new = (next : A) × (role : Role) × IsRoleOf d (holder s.place) s.page s.role role × saw old s.page role next × TellsOf saw d next spots new

@@ -1,0 +1,39 @@
+//! What the pages of a database are used for (fileformat2, 1.5 to 1.7).
+ghost use Rattle.std.specs.Prelude.{ℕ};
+ghost use Rattle.sqcheck.specs.declared.role.Role.{Role};
+
+use sqpage::Kind;
+
+/// What a page of a database is used for.
+#[derive(Clone, Copy, Debug, PartialEq, Eq)]
+pub enum Role {
+    /// It is of this kind, in the tree with this root.
+    Btree { kind: Kind, root: u32 },
+    /// It holds a part of a payload. Page `holder` names it: the page of a tree that the payload begins in, or
+    /// the one with the part before.
+    Overflow { holder: u32 },
+    /// It is a trunk of the freelist.
+    FreeTrunk,
+    /// It is a leaf of the freelist.
+    FreeLeaf,
+}
+
+/// Is told what the pages of a database are used for, page by page.
+pub trait Visitor {
+    /// How it changes when it is told of a page's role.
+    ghost saw: { Self → ℕ → Role → Self → Type 0 };
+
+    /// Tells that page `page`, from 1, has this role.
+    fn visit(&mut self, page: u32, role: Role)
+        ensures { saw self.old page role self.new };
+}
+
+/// Forgets what it is told.
+#[derive(Drop)]
+pub(crate) struct Silent;
+
+impl Visitor for Silent {
+    ghost saw = { λ _ _ _ _. Unit {0} };
+
+    fn visit(&mut self, _page: u32, _role: Role) {}
+}

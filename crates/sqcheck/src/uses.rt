@@ -1,0 +1,90 @@
+//! Which pages were taken, and how many for each use (own).
+ghost use Rattle.std.specs.Prelude.{◌≡◌, ◌+◌, ◌<◌, ◌≤◌, ◌^◌, length, OnOk, OnErr, IfErr, count_by, not};
+ghost use Rattle.sqpage.specs.Taking.{Marks, MarkRefused};
+ghost use Rattle.sqcheck.specs.Counting.{AddsTask};
+
+use crate::item::{Item, Task};
+use sqpage::{CheckError, Fault};
+
+/// How many pages of each use were taken.
+#[derive(Clone, Copy, Debug)]
+pub(crate) struct Counts {
+    /// The pages that are roots of trees.
+    pub trees: u32,
+    pub btree: u32,
+    pub overflow: u32,
+    pub free: u32,
+}
+
+impl Counts {
+    /// Counts a page that is named so.
+    fn add(&mut self, task: Task)
+        requires few { self.old.btree + self.old.overflow + self.old.free + 1 < 2 ^ 32 }
+        requires trees { self.old.trees ≤ self.old.btree }
+        ensures trees { self.new.trees ≤ self.new.btree }
+        ensures counted { AddsTask self.old self.new task }
+        ensures one_more { self.new.btree + self.new.overflow + self.new.free ≡ self.old.btree + self.old.overflow +
+            self.old.free + 1 }
+    {
+        match task {
+            Task::Trunk | Task::Leaf => self.free += 1,
+            Task::Link(_) => self.overflow += 1,
+            Task::Node { level, .. } => {
+                self.btree += 1;
+                self.trees += u32::from(level == 1);
+            }
+        }
+    }
+}
+
+/// The pages that were taken: a mark for each page, and how many there are of each use.
+#[derive(Drop)]
+pub(crate) struct Uses {
+    pub marks: Vec<bool>,
+    pub counts: Counts,
+    ghost few: { length marks.items < 2 ^ 32 },
+    ghost counted: { counts.btree + counts.overflow + counts.free + count_by not marks.items ≤ length marks.items },
+    ghost trees: { counts.trees ≤ counts.btree },
+}
+
+/// Marks page `p`, which page `holder` names. Refused by PageOutside at the holder where there is no such
+/// page, and by PageTwice at the page where it is marked.
+#[tactic(auto, using(crate::proofs::Marking::fewer_left))]
+fn mark(marks: &mut [bool], holder: u32, p: u32) -> Result<(), CheckError>
+    ensures ok { OnOk result (Marks marks.old marks.new p) }
+    ensures fewer { OnOk result (count_by not marks.new < count_by not marks.old) }
+    ensures length { length marks.new ≡ length marks.old }
+    ensures unchanged { OnErr result (marks.new ≡ marks.old) }
+    ensures err { IfErr result (λ e. MarkRefused marks.old holder p e.fault e.page) }
+{
+    if p == 0 || p as usize > marks.len() {
+        return Err(CheckError {
+            page: holder,
+            fault: Fault::PageOutside,
+        });
+    }
+    let i = p as usize - 1;
+    if marks[i] {
+        return Err(CheckError {
+            page: p,
+            fault: Fault::PageTwice,
+        });
+    }
+    marks[i] = true;
+    Ok(())
+}
+
+impl Uses {
+    /// Takes the page of an item. Refused as a mark is.
+    pub fn take(&mut self, item: Item) -> Result<(), CheckError>
+        ensures ok { OnOk result (Marks self.old.marks.items self.new.marks.items item.page) }
+        ensures counted { OnOk result (AddsTask self.old.counts self.new.counts item.task) }
+        ensures fewer { OnOk result (count_by not self.new.marks.items < count_by not self.old.marks.items) }
+        ensures length { length self.new.marks.items ≡ length self.old.marks.items }
+        ensures err { IfErr result (λ e. MarkRefused self.old.marks.items item.holder item.page e.fault e.page) }
+    {
+        mark(&mut self.marks, item.holder, item.page)?;
+        self.counts.add(item.task);
+        Ok(())
+    }
+}

@@ -1,0 +1,51 @@
+//! What a check keeps while it goes on (own).
+ghost use Rattle.std.specs.Prelude.{◌≡◌, ◌≤◌, length, IsOk, IfOk};
+ghost use Rattle.sqval.specs.Database.{page};
+ghost use Rattle.sqpage.specs.Freelist.{IsPage, usable_size};
+ghost use Rattle.sqcheck.specs.Room.{HoldsPage};
+ghost use Rattle.sqcheck.specs.Snapshots.{SameSource};
+
+use crate::node::{Room, Walk};
+use crate::pages::read_page;
+use crate::snapshot::Snapshot;
+use crate::uses::Uses;
+use sqpage::{CheckError, PageSource};
+use std::marker::PhantomData;
+
+/// The page that was read last, and how much of each page is used.
+#[derive(Drop)]
+pub(crate) struct Reader<V: Snapshot> {
+    pub bytes: Vec<u8>,
+    pub usable: u32,
+    pub snapshot: PhantomData<V>,
+    ghost sized: { length bytes.items ≡ V.size },
+    ghost least: { 480 ≤ usable },
+    ghost most: { usable ≤ V.size },
+    ghost used: { V.given → usable ≡ usable_size V.pages },
+}
+
+impl<V: Snapshot> Reader<V> {
+    /// Reads page `p`. Refused by Source where it could not be read.
+    pub fn read<S: PageSource>(&mut self, source: &mut S, p: u32) -> Result<(), CheckError>
+        requires page { IsPage V.pages p }
+        requires same { SameSource V.pages V.size V.given (S.pages source.old) (S.size source.old)
+            (S.gives_pages source.old) }
+        ensures read { V.given → IsOk result × (self.new.bytes.items ≡ page V.pages p) }
+        ensures usable { self.new.usable ≡ self.old.usable }
+        ensures same { SameSource V.pages V.size V.given (S.pages source.new) (S.size source.new)
+            (S.gives_pages source.new) }
+    {
+        read_page::<V, S>(source, p, &mut self.bytes)
+    }
+}
+
+/// Follows the places of a database, from the first one on.
+#[derive(Drop)]
+pub(crate) struct Walker<V: Snapshot> {
+    pub reader: Reader<V>,
+    pub room: Room,
+    pub uses: Uses,
+    pub walk: Walk,
+    ghost marks: { length uses.marks.items ≡ length V.pages },
+    ghost holds: { HoldsPage reader.usable room },
+}
