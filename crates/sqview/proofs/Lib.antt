@@ -7,3 +7,4 @@ pub mod Commits
 pub mod Pieces
 pub mod Ahead
 pub mod Runs
+pub mod Judging

@@ -1,16 +1,18 @@
 -- What a check of files finds.
-use Rattle.std.specs.Prelude.{◌≡◌, ◌≢◌, ◌⊎◌, ℕ, List}
+use Rattle.std.specs.Prelude.{◌≡◌, ◌≢◌, ◌⊎◌, ℕ, List, Result, Ok, Err}
 use Rattle.sqval.specs.Bytes.{word}
 use Rattle.sqval.specs.Database.{Database, page}
 use Rattle.sqcheck.specs.WellFormed.{WellFormed, IsReport}
 use Rattle.sqcheck.specs.Stands.{Stands}
+use Rattle.sqview.specs.At.{ViewsAt, AtRefused}
 use Rattle.sqview.specs.LogView.{Views, ViewRefused, pages_of}
 use Rattle.sqview.specs.declared.judge_error.JudgeError.{JudgeError}
 use Rattle.sqview.specs.declared.judge_error.JudgeError.TheVariants as refusals
 use Rattle.sqview.specs.declared.view.View.{View}
 use Rattle.sqview.specs.declared.verdict.Verdict.{Verdict}
 use Rattle.sqview.specs.declared.verdict.Verdict.TheVariants.{Clean, Damaged}
-use Rattle.sqview.specs.declared.view_error.ViewError.TheVariants.{TwoLogs, TooLarge, Header}
+use Rattle.sqview.specs.declared.view_error.ViewError.{ViewError}
+use Rattle.sqview.specs.declared.view_error.ViewError.TheVariants.{TwoLogs, TooLarge, Header, Unread, NoMemory, NoSuchCommit}
 
 -- of a database of pages of this size: it is well formed, and the report is its; or it isn't, and the fault stands at the page
 abbrev pub Finds : Database → (size : ℕ) → Verdict → Type 0
@@ -20,6 +22,15 @@ Finds d size (Damaged e) = Stands d size e.fault e.page × ¬ WellFormed d size
 -- the same of a view
 abbrev pub IsVerdictOf : {F : Type 0} → (bytes : F → List ℕ) → View F → Verdict → Type 0
 IsVerdictOf bytes v verdict = Finds (pages_of bytes v) v.page_size verdict
+
+-- what is found where there is no view: damage at page 1, where the header names no database
+abbrev pub verdict_without : ViewError → Result Verdict JudgeError
+verdict_without (Header fault) = Ok (Damaged (record { page = 1; fault = fault }))
+verdict_without TwoLogs = Err refusals.TwoLogs
+verdict_without TooLarge = Err refusals.TooLarge
+verdict_without Unread = Err refusals.Unread
+verdict_without NoMemory = Err refusals.NoMemory
+verdict_without NoSuchCommit = Err refusals.NoSuchCommit
 
 -- the file's own header names no database
 abbrev pub IsHeadless : (db wal journal : List ℕ) → Verdict → Type 0
@@ -44,3 +55,21 @@ AreUnjudged db wal journal refusals.TwoLogs = ViewRefused db wal journal TwoLogs
 AreUnjudged db wal journal refusals.TooLarge = ViewRefused db wal journal TooLarge
 AreUnjudged db wal journal refusals.NoMemory = Unit {0}
 AreUnjudged db wal journal refusal = (size : ℕ) × (d : Database) × Views size db wal journal d × IsUnjudged d refusal
+
+-- the fault of the file's own header, which names no database, where no log is to be taken
+abbrev pub IsHeadlessAt : (m : ℕ) (db wal journal : List ℕ) → Verdict → Type 0
+IsHeadlessAt m db wal journal (Clean report) = ⊥
+IsHeadlessAt m db wal journal (Damaged e) = (e.page ≡ 1) × AtRefused m db wal journal (Header e.fault)
+
+-- Of files at commit frame m: the same of the database there, or the fault of a header that names none.
+abbrev pub IsVerdictAt : (m : ℕ) (db wal journal : List ℕ) → Verdict → Type 0
+IsVerdictAt m db wal journal verdict =
+    ((size : ℕ) × (d : Database) × ViewsAt m size db wal journal d × Finds d size verdict) ⊎ IsHeadlessAt m db wal journal verdict
+
+-- why files aren't judged at commit frame m: what refuses their view there, or the database there isn't judged
+abbrev pub AreUnjudgedAt : (m : ℕ) (db wal journal : List ℕ) → JudgeError → Type 0
+AreUnjudgedAt m db wal journal refusals.TwoLogs = AtRefused m db wal journal TwoLogs
+AreUnjudgedAt m db wal journal refusals.TooLarge = AtRefused m db wal journal TooLarge
+AreUnjudgedAt m db wal journal refusals.NoSuchCommit = AtRefused m db wal journal NoSuchCommit
+AreUnjudgedAt m db wal journal refusals.NoMemory = Unit {0}
+AreUnjudgedAt m db wal journal refusal = (size : ℕ) × (d : Database) × ViewsAt m size db wal journal d × IsUnjudged d refusal

@@ -18,6 +18,6 @@ pub use file_bytes::FileBytes;
 pub use judge_error::JudgeError;
 pub use logs::{LogInUse, hot_header, log_in_use, replay_log, scan_log};
 pub use read_ahead::ReadAhead;
-pub use verdict::{Verdict, judge};
+pub use verdict::{Verdict, judge, judge_at};
 pub use view::{View, front_is_shown};
 pub use view_error::ViewError;

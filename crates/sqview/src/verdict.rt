@@ -1,7 +1,8 @@
 //! What a check of files finds.
-ghost use Rattle.std.specs.Prelude.{IfOk, IfErr};
+ghost use Rattle.std.specs.Prelude.{◌≡◌, IfOk, IfErr};
 ghost use Rattle.sqview.specs.LogView.{pages_of};
-ghost use Rattle.sqview.specs.Verdicts.{IsVerdict, IsVerdictOf, IsUnjudged, AreUnjudged};
+ghost use Rattle.sqview.specs.Verdicts.{IsVerdict, IsVerdictAt, IsVerdictOf, IsUnjudged, AreUnjudged, AreUnjudgedAt};
+ghost use Rattle.sqview.specs.Verdicts.{verdict_without};
 
 use crate::file_bytes::FileBytes;
 use crate::judge_error::JudgeError;
@@ -40,6 +41,20 @@ fn judge_view<F: FileBytes>(alloc: Global, view: &mut View<F>) -> Result<Verdict
     }
 }
 
+/// What a check finds of files that have no view: damage at page 1, where the header names no database.
+fn without_view(error: ViewError) -> Result<Verdict, JudgeError>
+    ensures { result ≡ verdict_without error }
+{
+    match error {
+        ViewError::Header(fault) => Ok(Verdict::Damaged(CheckError { page: 1, fault })),
+        ViewError::TwoLogs => Err(JudgeError::TwoLogs),
+        ViewError::TooLarge => Err(JudgeError::TooLarge),
+        ViewError::Unread => Err(JudgeError::Unread),
+        ViewError::NoMemory => Err(JudgeError::NoMemory),
+        ViewError::NoSuchCommit => Err(JudgeError::NoSuchCommit),
+    }
+}
+
 /// What a check finds of files, of which nothing is read ahead.
 fn judge_files<F: FileBytes + Drop>(
     alloc: Global,
@@ -54,12 +69,26 @@ fn judge_files<F: FileBytes + Drop>(
 {
     match View::new(alloc, db, wal, journal) {
         Ok(mut view) => judge_view(alloc, &mut view),
-        Err(ViewError::Header(fault)) => Ok(Verdict::Damaged(CheckError { page: 1, fault })),
-        Err(ViewError::TwoLogs) => Err(JudgeError::TwoLogs),
-        Err(ViewError::TooLarge) => Err(JudgeError::TooLarge),
-        Err(ViewError::Unread) => Err(JudgeError::Unread),
-        Err(ViewError::NoMemory) => Err(JudgeError::NoMemory),
-        Err(ViewError::NoSuchCommit) => Err(JudgeError::NoSuchCommit),
+        Err(error) => without_view(error),
+    }
+}
+
+/// The same at a commit frame.
+fn judge_files_at<F: FileBytes + Drop>(
+    alloc: Global,
+    db: F,
+    wal: F,
+    journal: F,
+    frame: u32,
+) -> Result<Verdict, JudgeError>
+    ensures found { F.gives_bytes db × F.gives_bytes wal × F.gives_bytes journal
+        → IfOk result (IsVerdictAt frame (F.bytes db) (F.bytes wal) (F.bytes journal)) }
+    ensures refused { F.gives_bytes db × F.gives_bytes wal × F.gives_bytes journal
+        → IfErr result (AreUnjudgedAt frame (F.bytes db) (F.bytes wal) (F.bytes journal)) }
+{
+    match View::at(alloc, db, wal, journal, frame) {
+        Ok(mut view) => judge_view(alloc, &mut view),
+        Err(error) => without_view(error),
     }
 }
 
@@ -84,4 +113,24 @@ pub fn judge<F: FileBytes + Drop>(
     let wal = ReadAhead::new(alloc, wal, 0)?;
     let journal = ReadAhead::new(alloc, journal, 0)?;
     judge_files(alloc, db, wal, journal)
+}
+
+/// What a check finds of the database at a commit frame of the write-ahead log, as `View::at` gives it; at frame 0 of
+/// the file without its log. Else as for `judge`; refused by NoSuchCommit too.
+pub fn judge_at<F: FileBytes + Drop>(
+    alloc: Global,
+    db: F,
+    wal: F,
+    journal: F,
+    frame: u32,
+) -> Result<Verdict, JudgeError>
+    ensures found { F.gives_bytes db × F.gives_bytes wal × F.gives_bytes journal
+        → IfOk result (IsVerdictAt frame (F.bytes db) (F.bytes wal) (F.bytes journal)) }
+    ensures refused { F.gives_bytes db × F.gives_bytes wal × F.gives_bytes journal
+        → IfErr result (AreUnjudgedAt frame (F.bytes db) (F.bytes wal) (F.bytes journal)) }
+{
+    let db = ReadAhead::new(alloc, db, PIECE)?;
+    let wal = ReadAhead::new(alloc, wal, 0)?;
+    let journal = ReadAhead::new(alloc, journal, 0)?;
+    judge_files_at(alloc, db, wal, journal, frame)
 }
