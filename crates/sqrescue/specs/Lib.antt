@@ -4,3 +4,4 @@ pub mod Locks
 pub mod Paths
 pub mod Readings
 pub mod Refusals
+pub mod Views

@@ -3,11 +3,12 @@ use crate::logs::{Contents, open_all};
 use crate::notes::Notes;
 use crate::outcome::Refusal;
 use crate::paths::{Paths, paths_of};
-use crate::requests::{Options, SuperJournal};
+use crate::requests::Options;
 use crate::showing::ShowError;
 use crate::texts::{write_fault, write_report};
+use crate::views::verdict_of;
 use crate::watch::{Readings, readings_of, time_to_wait, unchanged};
-use sqview::{Verdict, judge};
+use sqview::Verdict;
 use std::io::{self, Write};
 use std::os::unix::fs::FileExt;
 use std::rt::Files;
@@ -27,8 +28,7 @@ where
     R::File: FileExt,
 {
     let paths = paths_of(rt, file, notes)?;
-    let verdict = settled_verdict(rt, &paths, options.super_journal, notes);
-    let is_well_formed = match verdict {
+    let is_well_formed = match settled_verdict(rt, &paths, options, notes) {
         Ok(Verdict::Clean(report)) => {
             write_report(out, options.style, &report)?;
             true
@@ -48,15 +48,20 @@ where
 fn settled_verdict<R: Files + AllocGlobal + Clock, E: Write>(
     rt: &R,
     paths: &Paths,
-    super_journal: Option<SuperJournal>,
+    options: Options,
     notes: &mut Notes<'_, E>,
 ) -> Result<Verdict, Refusal>
 where
     R::File: FileExt,
 {
+    let Options {
+        super_journal,
+        at,
+        ..
+    } = options;
     let before = readings_of(rt, paths, false, notes)?;
     let wait = time_to_wait(rt, &before);
-    let answer = open_all(rt, paths, super_journal, notes);
+    let answer = verdict(rt, open_all(rt, paths, super_journal, notes), at);
     match watched(rt, paths, &before, answer, notes)? {
         Verdict::Damaged(_) if !wait.is_zero() => {
             thread::sleep(rt, wait);
@@ -64,29 +69,36 @@ where
             unchanged(&before, &settled, Ok(()))?;
             let mut nowhere = io::sink();
             let mut unheard = Notes::new(&mut nowhere, false);
-            let answer = open_all(rt, paths, super_journal, &mut unheard);
+            let answer = verdict(rt, open_all(rt, paths, super_journal, &mut unheard), at);
             watched(rt, paths, &settled, answer, notes)
         }
         verdict => Ok(verdict),
     }
 }
 
-/// The verdict on opened files, if they are as they were before.
-fn watched<R: Files + AllocGlobal, E: Write>(
+/// The verdict on opened files, at a commit or as their log has them.
+fn verdict<R: Files + AllocGlobal>(
+    rt: &R,
+    opened: Result<Contents<'_, R::File>, Refusal>,
+    at: Option<u32>,
+) -> Result<Verdict, Refusal>
+where
+    R::File: FileExt,
+{
+    let Contents { db, wal, journal } = opened?;
+    verdict_of(rt.alloc(), db, wal, journal, at)
+}
+
+/// The verdict on files, if they are as they were before.
+fn watched<R: Files, E: Write>(
     rt: &R,
     paths: &Paths,
     before: &Readings,
-    opened: Result<Contents<'_, R::File>, Refusal>,
+    answer: Result<Verdict, Refusal>,
     notes: &mut Notes<'_, E>,
 ) -> Result<Verdict, Refusal>
 where
     R::File: FileExt,
 {
-    let answer = match opened {
-        Ok(Contents { db, wal, journal }) => {
-            judge(rt.alloc(), db, wal, journal).map_err(Refusal::from)
-        }
-        Err(refusal) => Err(refusal),
-    };
     unchanged(before, &readings_of(rt, paths, false, notes)?, answer)
 }

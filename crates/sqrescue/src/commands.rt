@@ -40,17 +40,29 @@ fn json_arg<'a>(alloc: Global) -> Arg<'a> {
         .help("Prints a JSON object a line; a refusal is one too, on standard output")
 }
 
+fn at_arg<'a>(alloc: Global) -> Arg<'a> {
+    Arg::new(alloc, "at")
+        .long("at")
+        .value_name("M")
+        .value_parser(value_parser!(u32))
+        .help(
+            "Takes the database as it was at commit frame M of the write-ahead log; 0: without the log",
+        )
+}
+
 /// A command with the file and the options that each has.
 fn base_command<'a>(
     alloc: Global,
     name: &'a str,
     about: &'a str,
+    at: Arg<'a>,
 ) -> Result<Command<'a>, AllocError> {
     Command::new(alloc, name)
         .about(about)
         .arg(file_arg(alloc))?
         .arg(verbose_arg(alloc))?
         .arg(json_arg(alloc))?
+        .arg(at)?
         .arg(super_journal_arg(alloc))
 }
 
@@ -65,19 +77,28 @@ fn show_command<'a>(alloc: Global) -> Result<Command<'a>, AllocError> {
     let log = Arg::new(alloc, "log")
         .long("log")
         .action(ArgAction::SetTrue)
+        .conflicts_with("at")?
         .help("Shows the log instead");
+    let all = Arg::new(alloc, "all")
+        .long("all")
+        .action(ArgAction::SetTrue)
+        .requires_arg("log")?
+        .help("Shows behind the log what stands behind its stop, which is no part of the database");
     let commits = Arg::new(alloc, "commits")
         .long("commits")
         .action(ArgAction::SetTrue)
         .conflicts_with("log")?
+        .conflicts_with("at")?
         .help("Shows the commits in the write-ahead log instead");
     base_command(
         alloc,
         "show",
         "Shows the header of the database as its log has it; writes nothing",
+        at_arg(alloc),
     )?
     .arg(page)?
     .arg(log)?
+    .arg(all)?
     .arg(commits)
 }
 
@@ -98,6 +119,7 @@ fn recover_command<'a>(alloc: Global) -> Result<Command<'a>, AllocError> {
         "recover",
         "Recovers the database: folds its write-ahead log into it, or rolls it back by its hot journal; \
          nobody else may have it open meanwhile",
+        at_arg(alloc).requires_arg("to")?,
     )?
     .arg(to)?
     .arg(force)
@@ -113,6 +135,7 @@ pub(crate) fn command<'a>(alloc: Global) -> Result<Command<'a>, AllocError> {
         alloc,
         "check",
         "Checks the database as its log has it; writes nothing",
+        at_arg(alloc),
     )?;
     Command::new(alloc, "sqrescue")
         .about("Reads and recovers SQLite databases with their logs")

@@ -9,12 +9,13 @@ use crate::paths::{Paths, folder_of, is_log_of, paths_of};
 use crate::requests::{Options, SuperJournal};
 use crate::showing::ShowError;
 use crate::texts::write_outcome;
+use crate::views::view_of;
 use crate::watch::{Readings, readings_of, time_to_wait, unchanged};
 use sqjournal::JournalError;
 use sqpage::{PageSource, has_magic, named_page_size};
 use sqval::PageSize;
 use sqview::{CopyError, FileBytes, LogInUse, View, copy, log_in_use, replay_log, scan_log};
-use sqwal::{Front, WalFormatError};
+use sqwal::WalFormatError;
 use std::alloc::Global;
 use std::fs::{self, OpenFile, OpenOptions};
 use std::io::Write;
@@ -124,10 +125,13 @@ where
     let mut db = opened(rt, &paths.db, Some(said), 0, notes)?;
     tell_length(notes, paths.db.as_str(), &mut db);
     let alloc = rt.alloc();
-    let (outcome, content) = match log_in_use(&wal, &mut journal)? {
-        LogInUse::Neither => (Outcome::Nothing, Content::File(db)),
-        LogInUse::Wal => folded(alloc, db, wal)?,
-        LogInUse::Journal(_) => {
+    let in_use = log_in_use(&wal, &mut journal)?;
+    let (outcome, content) = match (in_use, options.at) {
+        (_, Some(0)) => (Outcome::NoFront, Content::File(db)),
+        (LogInUse::Wal, at) => folded(alloc, db, wal, at)?,
+        (_, Some(_)) => return Err(Refusal::NoSuchCommit),
+        (LogInUse::Neither, None) => (Outcome::Nothing, Content::File(db)),
+        (LogInUse::Journal(_), None) => {
             let counts = options.super_journal == Some(SuperJournal::Present);
             rolled_back(alloc, db, journal, counts)?
         }
@@ -139,11 +143,8 @@ where
     })
 }
 
-/// The front of a log. None where its header isn't valid, or it has none.
-fn front_of<F: FileBytes>(
-    alloc: Global,
-    wal: &mut F,
-) -> Result<Option<(Front, PageSize)>, Refusal> {
+/// The size of a log's pages. None where its header isn't valid, or it has no front.
+fn page_size_of<F: FileBytes>(alloc: Global, wal: &mut F) -> Result<Option<PageSize>, Refusal> {
     let scan = match scan_log(alloc, wal)? {
         Ok(scan) => scan,
         Err(WalFormatError::TooLong) => return Err(Refusal::TooLarge),
@@ -152,29 +153,31 @@ fn front_of<F: FileBytes>(
         Err(_) => return Ok(None),
     };
     Ok(match scan.header() {
-        Some(header) if scan.committed().frames != 0 => {
-            Some((scan.committed(), header.page_size))
-        }
+        Some(header) if scan.committed().frames != 0 => Some(header.page_size),
         _ => None,
     })
 }
 
-/// What is left where a log that isn't empty is folded.
+/// What is left where a log that isn't empty is folded, up to a commit frame or the front.
 fn folded<'a, F: FileExt + Drop>(
     alloc: Global,
     db: OpenedFile<'a, F>,
     wal: OpenedFile<'a, F>,
+    at: Option<u32>,
 ) -> Result<(Outcome, Content<'a, F>), Refusal> {
     let (mut db, mut wal) = (db, wal);
-    let Some((front, page_size)) = front_of(alloc, &mut wal)? else {
-        return Ok((Outcome::NoFront, Content::File(db)));
+    let Some(page_size) = page_size_of(alloc, &mut wal)? else {
+        return match at {
+            Some(_) => Err(Refusal::NoSuchCommit),
+            None => Ok((Outcome::NoFront, Content::File(db))),
+        };
     };
     if has_other_size(&mut db, page_size)? {
         return Err(Refusal::PageSizesDiffer);
     }
-    let view = View::new(alloc, db, wal, OpenedFile::missing())?;
+    let view = view_of(alloc, db, wal, OpenedFile::missing(), at)?;
     let outcome = Outcome::Folded {
-        frames: front.frames,
+        frames: view.front(),
         pages: view.count(),
     };
     Ok((outcome, Content::Pages(view)))
@@ -208,7 +211,7 @@ fn rolled_back<'a, F: FileExt + Drop>(
         Err(JournalError::NoMemory) => return Err(Refusal::NoMemory),
         Err(_) => return Err(Refusal::FileFailed),
     };
-    let view = View::new(alloc, db, OpenedFile::missing(), journal)?;
+    let view = view_of(alloc, db, OpenedFile::missing(), journal, None)?;
     let outcome = Outcome::RolledBack {
         records,
         pages: view.count(),

@@ -154,8 +154,7 @@ pub(crate) fn next_step(refusal: Refusal) -> &'static str {
         Refusal::NotADatabase =>
             "the header that is to be shown isn't a database's: see show --log and check",
         Refusal::AutoVacuum => "the database has pointer maps, which aren't read yet",
-        Refusal::NoSuchCommit =>
-            "show --log names the size after each commit, in the lines of its frames",
+        Refusal::NoSuchCommit => "show --commits has a line for each commit, which names its frame",
         Refusal::NoSuchPage => "show names the number of pages, in the line that begins with pages",
         Refusal::NoMemory => "the system refused memory: call this again where there is more",
     }

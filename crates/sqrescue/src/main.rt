@@ -3,6 +3,7 @@
 
 ghost use Rattle.std.specs.Prelude.{◌≤◌, IfOk};
 
+mod behind;
 mod checking;
 mod commands;
 mod copies;
@@ -24,6 +25,7 @@ mod recovery;
 mod requests;
 mod showing;
 mod texts;
+mod views;
 mod watch;
 mod words;
 

@@ -4,10 +4,11 @@ ghost use Rattle.sqval.specs.PageSize.{IsPageSize};
 ghost use Rattle.sqpage.specs.Chain.{payload_size};
 ghost use Rattle.sqpage.specs.Header.{byte};
 ghost use Rattle.sqval.specs.Database.{page as page_at};
-ghost use Rattle.sqview.specs.LogView.{IsShown, pages_of};
+ghost use Rattle.sqview.specs.LogView.{pages_of};
 ghost use Rattle.sqrescue.specs.declared.outcome.Refusal.TheVariants.{FileFailed, NoMemory};
 ghost use Rattle.sqrescue.specs.declared.showing.ShowError.TheVariants.{Refused, Unwritten};
 
+use crate::behind::{Shown, show_behind};
 use crate::facts::{number, write_facts};
 use crate::logs::{Beside, Contents, open_all, open_logs};
 use crate::notes::Notes;
@@ -19,6 +20,7 @@ use crate::texts::{
     write_bytes, write_cell, write_commits, write_header, write_journal, write_log, write_none,
     write_page, write_record, write_unfit,
 };
+use crate::views::view_of;
 use crate::watch::{Readings, readings_of, unchanged};
 use sqjournal::JournalError;
 use sqpage::{BtreePage, Cell, DbHeader, Fault, PageSource, SourceError, payload};
@@ -91,7 +93,7 @@ where
         return Err(ShowError::Refused(Refusal::NoMemory));
     };
     let paths = paths_of(rt, file, notes)?;
-    let only_logs = matches!(part, Part::Log { .. } | Part::Commits);
+    let only_logs = matches!(part, Part::Log { all: false } | Part::Commits);
     let before = readings_of(rt, &paths, only_logs, notes)?;
     if only_logs {
         tell_length(&paths, &before, notes);
@@ -138,13 +140,23 @@ where
         ..
     } = options;
     match part {
-        Part::Header => show_header(rt, open_all(rt, paths, super_journal, notes)?, style, out),
+        Part::Header => {
+            let files = open_all(rt, paths, super_journal, notes)?;
+            show_header(rt, files, options, out)
+        }
         Part::Page(number) => {
             let files = open_all(rt, paths, super_journal, notes)?;
-            show_page(rt, files, number, style, out)
+            show_page(rt, files, number, options, out)
         }
-        Part::Log { .. } => {
-            show_log(rt, open_logs(rt, paths, super_journal, notes)?, style, out)
+        Part::Log { all: false } => {
+            let Beside { wal, journal, .. } = open_logs(rt, paths, super_journal, notes)?;
+            let (mut wal, mut journal) = (wal, journal);
+            show_log(rt.alloc(), &mut wal, &mut journal, style, out)?;
+            Ok(())
+        }
+        Part::Log { all: true } => {
+            let files = open_all(rt, paths, super_journal, notes)?;
+            show_whole_log(rt, files, style, out)
         }
         Part::Commits => {
             show_commits(rt, open_logs(rt, paths, super_journal, notes)?, style, out)
@@ -155,7 +167,7 @@ where
 fn show_header<R: Files + AllocGlobal, W: Write>(
     rt: &R,
     files: Contents<'_, R::File>,
-    style: Style,
+    options: Options,
     out: &mut W,
 ) -> Result<(), ShowError>
 where
@@ -163,7 +175,7 @@ where
 {
     let alloc = rt.alloc();
     let Contents { db, wal, journal } = files;
-    let mut view = view_of(alloc, db, wal, journal)?;
+    let mut view = view_of(alloc, db, wal, journal, options.at).map_err(Refusal::from)?;
     if view.count() == 0 {
         return Err(ShowError::Refused(Refusal::NotADatabase));
     }
@@ -174,22 +186,8 @@ where
     let Ok(header) = DbHeader::read(head) else {
         return Err(ShowError::Refused(Refusal::NotADatabase));
     };
-    write_header(out, style, &header, view.count())?;
+    write_header(out, options.style, &header, view.count())?;
     Ok(())
-}
-
-/// The view of a file with its logs.
-fn view_of<F: FileBytes + Drop>(
-    alloc: Global,
-    db: F,
-    wal: F,
-    journal: F,
-) -> Result<View<F>, Refusal>
-    ensures { F.gives_bytes db × F.gives_bytes wal × F.gives_bytes journal
-        → IfOk result (IsShown F.bytes (F.bytes db) (F.bytes wal) (F.bytes journal)) }
-{
-    let view = View::new(alloc, db, wal, journal)?;
-    Ok(view)
 }
 
 /// A page of a view. Refused where there is no such page.
@@ -230,7 +228,7 @@ fn show_page<R: Files + AllocGlobal, W: Write>(
     rt: &R,
     files: Contents<'_, R::File>,
     number: u32,
-    style: Style,
+    options: Options,
     out: &mut W,
 ) -> Result<(), ShowError>
 where
@@ -238,13 +236,13 @@ where
 {
     let alloc = rt.alloc();
     let Contents { db, wal, journal } = files;
-    let mut view = view_of(alloc, db, wal, journal)?;
+    let mut view = view_of(alloc, db, wal, journal, options.at).map_err(Refusal::from)?;
     let first = page_of(alloc, &mut view, 1)?;
     let usable = usable_size(&first);
     let page = page_of(alloc, &mut view, number)?;
     match BtreePage::new(&page, number, usable) {
-        Ok(btree) => show_cells(alloc, &mut view, &btree, number, style, out),
-        Err(_) => Ok(write_bytes(out, style, &page)?),
+        Ok(btree) => show_cells(alloc, &mut view, &btree, number, options.style, out),
+        Err(_) => Ok(write_bytes(out, options.style, &page)?),
     }
 }
 
@@ -319,33 +317,61 @@ fn scanned<F: FileBytes>(alloc: Global, wal: &mut F) -> Result<Result<Scan, u8>,
     }
 }
 
-fn show_log<R: Files + AllocGlobal, W: Write>(
+/// Prints the log that counts.
+fn show_log<F: FileBytes, W: Write>(
+    alloc: Global,
+    wal: &mut F,
+    journal: &mut F,
+    style: Style,
+    out: &mut W,
+) -> Result<Shown, ShowError> {
+    match log_in_use(wal, journal).map_err(Refusal::from)? {
+        LogInUse::Neither => {
+            write_none(out, style, "log")?;
+            Ok(Shown::Neither)
+        }
+        LogInUse::Wal => match scanned(alloc, wal)? {
+            Ok(scan) => {
+                write_log(out, style, &scan)?;
+                Ok(Shown::Wal(scan))
+            }
+            Err(reason) => {
+                write_facts(out, style, &[number("wal refused", reason)])?;
+                Ok(Shown::Refused)
+            }
+        },
+        LogInUse::Journal(_) => match replay_log(alloc, journal)? {
+            Ok(replay) => {
+                write_journal(out, style, &replay)?;
+                Ok(Shown::Journal(replay))
+            }
+            Err(JournalError::TooLong) => Err(ShowError::Refused(Refusal::TooLarge)),
+            Err(JournalError::NoMemory) => Err(ShowError::Refused(Refusal::NoMemory)),
+            Err(_) => Err(ShowError::Refused(Refusal::FileFailed)),
+        },
+    }
+}
+
+/// Prints the log that counts, and what stands behind its stop.
+fn show_whole_log<R: Files + AllocGlobal, W: Write>(
     rt: &R,
-    logs: Beside<'_, R::File>,
+    files: Contents<'_, R::File>,
     style: Style,
     out: &mut W,
 ) -> Result<(), ShowError>
 where
     R::File: FileExt,
 {
-    let alloc = rt.alloc();
-    let Beside { wal, journal, .. } = logs;
-    let mut wal = wal;
-    let mut journal = journal;
-    match log_in_use(&wal, &mut journal).map_err(Refusal::from)? {
-        LogInUse::Neither => write_none(out, style, "log")?,
-        LogInUse::Wal => match scanned(alloc, &mut wal)? {
-            Ok(scan) => write_log(out, style, &scan)?,
-            Err(reason) => write_facts(out, style, &[number("wal refused", reason)])?,
-        },
-        LogInUse::Journal(_) => match replay_log(alloc, &mut journal)? {
-            Ok(replay) => write_journal(out, style, &replay)?,
-            Err(JournalError::TooLong) => return Err(ShowError::Refused(Refusal::TooLarge)),
-            Err(JournalError::NoMemory) => return Err(ShowError::Refused(Refusal::NoMemory)),
-            Err(_) => return Err(ShowError::Refused(Refusal::FileFailed)),
-        },
-    }
-    Ok(())
+    let Contents { db, wal, journal } = files;
+    let (mut db, mut wal, mut journal) = (db, wal, journal);
+    let shown = show_log(rt.alloc(), &mut wal, &mut journal, style, out)?;
+    show_behind(
+        rt.alloc(),
+        (&mut db, &mut wal, &mut journal),
+        &shown,
+        style,
+        out,
+    )
 }
 
 /// The frames that end a commit.
