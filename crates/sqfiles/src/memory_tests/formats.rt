@@ -1,8 +1,7 @@
 //! Records, pages, and logs in pieces.
 use super::{begin, was_refused};
-use crate::rollcore_tests::{header, push_record};
+use crate::logs::{header, log, push_record};
 use crate::sqcheck_tests::failing::{SOUND, sample};
-use crate::walcore_tests::folds::log;
 use sqcheck::check;
 use sqjournal::Replay;
 use sqpage::{BtreePage, Cell, CheckError, Fault, SliceSource, freelist, payload};

@@ -1,8 +1,7 @@
 //! The view of a file with its logs, and the verdict on it.
 use super::{begin, was_refused};
-use crate::rollcore_tests::{header, push_record};
+use crate::logs::{header, log, push_record};
 use crate::sqcheck_tests::failing::{SOUND, sample};
-use crate::walcore_tests::folds::log;
 use sqpage::PageSource;
 use sqview::{JudgeError, Verdict, View, ViewError, judge};
 use std::alloc::Global;

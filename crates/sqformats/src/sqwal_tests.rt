@@ -3,4 +3,5 @@ mod frame;
 mod header;
 mod index;
 mod scan;
+mod slot;
 mod sum;

@@ -18,7 +18,11 @@ fn put(file: &mut Vec<u8>, at: usize, bytes: &[u8]) {
 }
 
 /// A file of so many pages of 512 bytes, zero but for a sound header, an empty leaf on page 1 and these pieces.
-fn file_of(alloc: Global, pages: usize, pieces: &[(usize, &[u8])]) -> Result<Vec<u8>, AllocError> {
+pub(crate) fn file_of(
+    alloc: Global,
+    pages: usize,
+    pieces: &[(usize, &[u8])],
+) -> Result<Vec<u8>, AllocError> {
     let mut file = vec![in alloc; 0; pages.saturating_mul(512)]?;
     put(&mut file, 0, b"SQLite format 3\0");
     put(&mut file, 16, &[2, 0, 1, 1, 0, 64, 32, 32]);

@@ -1,6 +1,9 @@
 //! Rows of the journal format, worked by hand, and a journal that SQLite left in the middle of a
 //! transaction.
-use sqjournal::{JournalError, JournalHeader, Replay, Why, is_magic, next_header_at, page_sum};
+use sqjournal::{
+    JournalError, JournalHeader, RecordSlot, Replay, Why, is_magic, is_zeroed, next_header_at,
+    page_sum,
+};
 use sqval::PageSize;
 use std::alloc::{AllocError, Global};
 use std::test::Fail;
@@ -92,6 +95,28 @@ fn sums_places_and_headers(rt: HostRuntime) -> Result<(), Fail> {
     set(&mut bytes, 20, 1);
     let refused = JournalHeader::read(bytes.first_chunk().expect(&rt, "there"));
     assert!(rt; refused.is_err_and(|e| e.number() == 2));
+    Ok(())
+}
+
+#[test]
+fn places_of_records(rt: HostRuntime) -> Result<(), Fail> {
+    let page_size = PageSize::new(512).ok_or("a page size")?;
+    let mut record = [7; 520];
+    record[..4].copy_from_slice(&[0, 0, 0, 3]);
+    record[516..].copy_from_slice(&[0, 0, 0, 12]);
+    let slot = RecordSlot::read(page_size, &record).ok_or("a record")?;
+    assert_eq!(rt;
+        slot,
+        RecordSlot {
+            page: 3,
+            nonce: 0xfffffffe
+        }
+    );
+    assert!(rt; RecordSlot::read(page_size, &record[..519]).is_none());
+    let mut head = [0; 28];
+    assert!(rt; is_zeroed(&head));
+    head[27] = 1;
+    assert!(rt; !is_zeroed(&head));
     Ok(())
 }
 

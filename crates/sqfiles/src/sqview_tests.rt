@@ -1,7 +1,9 @@
 //! The view of a file at each commit of its log, and its pages.
-use crate::walcore_tests::folds::log;
-use sqpage::PageSource;
-use sqview::{View, ViewError, copy};
+use crate::logs::log;
+use crate::sqcheck_tests::file_of;
+use sqcheck::Report;
+use sqpage::{CheckError, Fault, PageSource};
+use sqview::{JudgeError, Verdict, View, ViewError, copy, judge_at};
 use std::test::Fail;
 
 // A log of pages of `b`, of which frame 2 ends a commit of two pages and frame 3 one of three, over a file of one page.
@@ -26,6 +28,36 @@ fn views_at_commits(rt: HostRuntime) -> Result<(), Fail> {
             answer.map(|view| view.count()),
             Err(ViewError::NoSuchCommit)
         );
+    }
+    Ok(())
+}
+
+// A file of one sound page, and a log of which frame 2 ends a commit of a page 1 of `b`.
+#[test]
+fn judges_at_commits(rt: HostRuntime) -> Result<(), Fail> {
+    let alloc = rt.alloc();
+    let file = file_of(alloc, 1, &[])?;
+    let log = log(alloc, &[(1, 0), (1, 1)])?;
+    let report = Report {
+        pages: 1,
+        trees: 1,
+        btree: 1,
+        overflow: 0,
+        free: 0,
+    };
+    let damage = CheckError {
+        page: 1,
+        fault: Fault::Magic,
+    };
+    let rows = [
+        (0, Ok(Verdict::Clean(report))),
+        (1, Err(JudgeError::NoSuchCommit)),
+        (2, Ok(Verdict::Damaged(damage))),
+        (3, Err(JudgeError::NoSuchCommit)),
+    ];
+    for (frame, wanted) in rows {
+        let answer = judge_at(alloc, file.as_slice(), log.as_slice(), [].as_slice(), frame);
+        assert_eq!(rt; answer, wanted);
     }
     Ok(())
 }

@@ -1,0 +1,11 @@
+//! Tests of the modelled disk, the player of a trace and the engines by their public calls, one call at a time.
+#![tactic(auto)]
+
+#[cfg(test)]
+mod crashdisk_tests;
+#[cfg(test)]
+mod rollcore_tests;
+#[cfg(test)]
+mod sqplay_tests;
+#[cfg(test)]
+mod walcore_tests;

@@ -1,0 +1,12 @@
+//! Tests of the libraries of the formats by their public calls, one call at a time: rows worked by hand, and files that
+//! SQLite left.
+#![tactic(auto)]
+
+#[cfg(test)]
+mod sqjournal_tests;
+#[cfg(test)]
+mod sqpage_tests;
+#[cfg(test)]
+mod sqval_tests;
+#[cfg(test)]
+mod sqwal_tests;
