@@ -1,5 +1,5 @@
 -- In how many ways a crash may leave what is under a name, and what each leaves (own).
-use Rattle.std.specs.Prelude.{ℕ, ◌+◌, ◌-◌, ◌||◌, cond, nat_eq, nat_lt, List, [], ◌∷◌, length}
+use Rattle.std.specs.Prelude.{ℕ, ◌+◌, ◌-◌, ◌||◌, Bool, cond, nat_eq, nat_lt, List, [], ◌∷◌, length}
 use Rattle.crashdisk.specs.Call.{DiskState}
 use Rattle.crashdisk.specs.Choice.{image_of}
 use Rattle.crashdisk.specs.Count.{choice_count, naming_at}
@@ -21,9 +21,13 @@ abbrev pub files_way : List DiskState → (n : ℕ) → List ℕ
 files_way [] n = []
 files_way (f ∷ files) n = cond (nat_lt n (file_ways f)) (file_way f n) (files_way files (n - file_ways f))
 
--- one where a crash may leave nothing under a name: it may be gone, or no file is left
+-- a crash may leave nothing under a name: it may be gone, or no file is left
+abbrev pub may_be_none : NameState → Bool
+may_be_none s = s.maybe_none || nat_eq (length s.files) 0
+
+-- in how many ways: one or none
 abbrev pub none_ways : NameState → ℕ
-none_ways s = cond (s.maybe_none || nat_eq (length s.files) 0) 1 0
+none_ways s = cond (may_be_none s) 1 0
 
 -- in how many ways a crash may leave what is under a name
 abbrev pub name_ways : NameState → ℕ

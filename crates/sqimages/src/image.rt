@@ -2,6 +2,7 @@
 ghost use Rattle.std.specs.Prelude.{◌≡◌, ◌++◌, ◌%◌, ◌/◌, OnOk};
 ghost use Rattle.sqplay.specs.Names.{name_of};
 ghost use Rattle.sqimages.specs.Ways.{files_way};
+ghost use Rattle.sqimages.specs.Left.{ArePresentOf, file_now};
 
 use crate::counts::{Counts, file_count};
 use crashdisk::{DiskError, File};
@@ -44,10 +45,25 @@ fn put_way(name: &Name, n: u64, out: &mut Vec<u8>) -> Result<(), DiskError>
     append_way(name, n, out)
 }
 
+/// Puts there the file that has a name now.
+fn put_present(name: &Name, out: &mut Vec<u8>) -> Result<(), DiskError>
+    ensures { OnOk result (ArePresentOf (file_now (name_of name.now)) out.new.items) }
+{
+    out.clear();
+    if name.is_gone() {
+        return Ok(());
+    }
+    match name.files().last() {
+        Some(disk) => disk.present(File::Db, out),
+        None => Ok(()),
+    }
+}
+
 impl Image {
     ghost use Rattle.std.specs.Prelude.{◌≡◌, [], OnOk};
     ghost use Rattle.sqplay.specs.Plays.{files_of};
     ghost use Rattle.sqimages.specs.Images.{IsNumbered};
+    ghost use Rattle.sqimages.specs.Left.{IsPresent};
 
     /// No files.
     pub fn none(alloc: Global) -> Image
@@ -71,5 +87,14 @@ impl Image {
         put_way(player.db(), n % counts.db, &mut self.db)?;
         put_way(player.wal(), logs % counts.wal, &mut self.wal)?;
         put_way(player.journal(), logs / counts.wal, &mut self.journal)
+    }
+
+    /// Takes the present files in place of what it has. NoMemory alone, and then nothing is said of it.
+    pub fn set_present(&mut self, player: &Player) -> Result<(), DiskError>
+        ensures { OnOk result (IsPresent (files_of player.now) self.new) }
+    {
+        put_present(player.db(), &mut self.db)?;
+        put_present(player.wal(), &mut self.wal)?;
+        put_present(player.journal(), &mut self.journal)
     }
 }

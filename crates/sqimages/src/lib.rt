@@ -1,8 +1,10 @@
-//! The images that a crash may leave of a player's files, counted and numbered (own).
+//! The images that a crash may leave of a player's files, counted, numbered and drawn (own).
 #![tactic(auto)]
 
 mod counts;
+mod draws;
 mod image;
 
 pub use counts::Counts;
+pub use draws::draw;
 pub use image::Image;

@@ -1,0 +1,80 @@
+-- One more image is judged, counted and told.
+use Rattle.std.proofs.Common.{◌≡◌, ℕ, zero, suc, ◌+◌, Bool, cond, List, [], ◌∷◌, ◌++◌, length, sym, ◌∙◌, ap, subst, append_assoc, length-append, arith}
+use Rattle.std.specs.List.{All, count_by}
+use Rattle.std.proofs.lemmas.List.{map-append, append-nil, length-map}
+use Rattle.std.proofs.lemmas.List.Elements.{All-append}
+use Rattle.std.proofs.lemmas.List.Sums.{sum_by-append}
+use Rattle.sqimages.specs.Images.{IsNumbered}
+use Rattle.sqimages.specs.declared.counts.Counts.{Counts}
+use Rattle.sqjudge.specs.declared.judgment.Judgment.{Judgment}
+use Rattle.sqcrash.specs.Runs.{RunState}
+use Rattle.sqcrash.specs.Surveys.{is_lost, is_mixed, is_fault, one_if, with_image, with_images, Judged, judgments, finding_of, findings_from, IsJudgedBy, Tells, AreNumbered}
+use Rattle.sqcrash.specs.declared.survey.Tally.{Tally}
+use Rattle.sqcrash.specs.declared.survey.Finding.{Finding}
+use Rattle.sqcrash.specs.declared.survey.Survey.{Survey}
+
+one_more : {X : Type 0} (p : X → Bool) (xs : List X) (x : X) (n : ℕ) → n + count_by p (xs ++ x ∷ []) ≡ n + count_by p xs + one_if (p x)
+one_more p xs x n = let e = sum_by-append (λ y. cond (p y) 1 0) xs (x ∷ []) in omega (arith, e)
+
+-- a tally with these images and one more
+pub images_more : (t : Tally) (js : List Judgment) (j : Judgment) → with_images t (js ++ j ∷ []) ≡ with_image (with_images t js) j
+images_more t js j =
+    let a : t.images + length (js ++ j ∷ []) ≡ t.images + length js + 1 = omega (arith, length-append js (j ∷ [])) in
+    let b = one_more is_lost js j t.lost in
+    let d = one_more is_mixed js j t.mixed in
+    let e = one_more is_fault js j t.faults in
+    cc
+
+-- what is told of one more
+pub findings_more : (n : ℕ) (js : List Judgment) (j : Judgment) → findings_from n (js ++ j ∷ []) ≡ findings_from n js ++ finding_of (n + length js) j
+findings_more n [] j = append-nil (finding_of n j) ∙ ap (λ (k : ℕ). finding_of k j) (omega arith)
+findings_more n (first ∷ js) j =
+    ap (λ (l : List Finding). finding_of n first ++ l) (findings_more (suc n) js j)
+    ∙ sym (append_assoc (finding_of n first) (findings_from (suc n) js) (finding_of (suc n + length js) j))
+    ∙ ap (λ (k : ℕ). (finding_of n first ++ findings_from (suc n) js) ++ finding_of k j) (omega arith)
+
+-- one more by its number
+pub numbered_more : (run : RunState) (c : Counts) (n : ℕ) (judged : List Judged) (x : Judged) → AreNumbered run c n judged → IsNumbered run.files c (n + length judged) x.image → AreNumbered run c n (judged ++ x ∷ [])
+numbered_more run c n [] x are is = (subst (λ (k : ℕ). IsNumbered run.files c k x.image) (omega arith) is, tt)
+numbered_more run c n (first ∷ judged) x are is = (are.0, numbered_more run c (suc n) judged x are.1 (subst (λ (k : ℕ). IsNumbered run.files c k x.image) (omega arith) is))
+
+-- what holds of one holds of all of it alone, and anything of all of none
+pub all_one : {X : Type 0} (P : X → Type 0) (x : X) → P x → All P (x ∷ [])
+all_one P x is zero d below = is
+all_one P x is (suc k) d below = absurd (omega arith)
+
+pub all_none : {X : Type 0} (P : X → Type 0) → All P []
+all_none P k d below = absurd (omega arith)
+
+-- one more that is judged
+pub tells_more : (run : RunState) (judged : List Judged) (x : Judged) (old mid new : Survey) → Tells run judged old mid → IsJudgedBy run x → new.tally ≡ with_image mid.tally x.judgment
+    → new.findings.items ≡ mid.findings.items ++ finding_of (length judged) x.judgment → Tells run (judged ++ x ∷ []) old new
+tells_more run judged x old mid new told is counted found =
+    let js = judgments judged in
+    let all : judgments (judged ++ x ∷ []) ≡ js ++ x.judgment ∷ [] = map-append (λ (y : Judged). y.judgment) judged (x ∷ []) in
+    let long : length js ≡ length judged = length-map judged (λ (y : Judged). y.judgment) in
+    record {
+      each = All-append (IsJudgedBy run) judged (x ∷ []) told.each (all_one (IsJudgedBy run) x is);
+      tally = counted ∙ ap (λ (t : Tally). with_image t x.judgment) told.tally ∙ sym (images_more old.tally js x.judgment) ∙ ap (λ (l : List Judgment). with_images old.tally l) (sym all);
+      findings = found
+          ∙ ap (λ (l : List Finding). l ++ finding_of (length judged) x.judgment) told.findings
+          ∙ append_assoc old.findings.items (findings_from 0 js) (finding_of (length judged) x.judgment)
+          ∙ ap (λ (k : ℕ). old.findings.items ++ (findings_from 0 js ++ finding_of k x.judgment)) (let e : length judged ≡ 0 + length js = omega (arith, long) in e)
+          ∙ ap (λ (l : List Finding). old.findings.items ++ l) (sym (findings_more 0 js x.judgment) ∙ ap (λ (l : List Judgment). findings_from 0 l) (sym all));
+    }
+
+-- none are told
+pub tells_none : (run : RunState) (s : Survey) → Tells run [] s s
+tells_none run s = record { each = all_none (IsJudgedBy run); tally = no_images s.tally; findings = sym (append-nil s.findings.items) }
+  where
+    no_images : (t : Tally) → t ≡ with_images t []
+    no_images t =
+        let make : ℕ → ℕ → ℕ → ℕ → Tally = λ i l m f. record t { images = i; lost = l; mixed = m; faults = f } in
+        let a : t.images ≡ t.images + 0 = omega arith in
+        let b : t.lost ≡ t.lost + 0 = omega arith in
+        let d : t.mixed ≡ t.mixed + 0 = omega arith in
+        let e : t.faults ≡ t.faults + 0 = omega arith in
+        ap (λ i. make i t.lost t.mixed t.faults) a
+        ∙ ap (λ l. make (t.images + 0) l t.mixed t.faults) b
+        ∙ ap (λ m. make (t.images + 0) (t.lost + 0) m t.faults) d
+        ∙ ap (λ f. make (t.images + 0) (t.lost + 0) (t.mixed + 0) f) e

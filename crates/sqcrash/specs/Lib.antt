@@ -1,0 +1,4 @@
+pub mod Promises
+pub mod Runs
+pub mod Surveys
+pub mod Rigs

@@ -1,0 +1,112 @@
+-- What is counted and told of the images at a point (own).
+use Rattle.std.specs.Prelude.{◌≡◌, ◌⊎◌, ℕ, suc, ◌+◌, ◌<◌, ◌≤◌, Bool, true, false, cond, List, [], ◌∷◌, ◌++◌, length, map}
+use Rattle.std.specs.List.{All, count_by}
+use Rattle.sqimages.specs.Images.{AreCounts, IsNumbered, image_count}
+use Rattle.sqimages.specs.Left.{MayLeave}
+use Rattle.sqimages.specs.declared.counts.Counts.{Counts}
+use Rattle.sqimages.specs.declared.image.Image.{Image}
+use Rattle.sqjudge.specs.Judged.{IsFilesJudgment}
+use Rattle.sqjudge.specs.declared.judgment.Judgment.{Judgment}
+use Rattle.sqjudge.specs.declared.judgment.Judgment.TheVariants.{Kept, Lost, Mixed, Fault, Refused}
+use Rattle.sqcrash.specs.Runs.{RunState}
+use Rattle.sqcrash.specs.declared.survey.Tally.{Tally}
+use Rattle.sqcrash.specs.declared.survey.Finding.{Finding}
+use Rattle.sqcrash.specs.declared.survey.Survey.{Survey}
+
+abbrev pub is_lost : Judgment → Bool
+is_lost (Lost k) = true
+is_lost _ = false
+
+abbrev pub is_mixed : Judgment → Bool
+is_mixed Mixed = true
+is_mixed _ = false
+
+-- no well-formed database is shown, or none
+abbrev pub is_fault : Judgment → Bool
+is_fault (Fault e) = true
+is_fault (Refused e) = true
+is_fault _ = false
+
+abbrev pub no_tally : Tally
+no_tally = record { points = 0; images = 0; lost = 0; mixed = 0; faults = 0 }
+
+-- nothing is wrong
+pub record IsClean (t : Tally) : Type 0 where
+  pub lost : t.lost ≡ 0
+  pub mixed : t.mixed ≡ 0
+  pub faults : t.faults ≡ 0
+
+abbrev pub with_point : Tally → Tally
+with_point t = record t { points = t.points + 1 }
+
+-- one, if so
+abbrev pub one_if : Bool → ℕ
+one_if b = cond b 1 0
+
+-- with one more image, which is judged so
+abbrev pub with_image : Tally → Judgment → Tally
+with_image t j = record t { images = t.images + 1; lost = t.lost + one_if (is_lost j); mixed = t.mixed + one_if (is_mixed j); faults = t.faults + one_if (is_fault j) }
+
+-- an image, and its judgment
+pub record Judged : Type 0 where
+  pub image : Image
+  pub judgment : Judgment
+
+abbrev pub judgments : List Judged → List Judgment
+judgments judged = map (λ x. x.judgment) judged
+
+-- with more images
+abbrev pub with_images : Tally → List Judgment → Tally
+with_images t js = record t { images = t.images + length js; lost = t.lost + count_by is_lost js; mixed = t.mixed + count_by is_mixed js; faults = t.faults + count_by is_fault js }
+
+-- what is told of the image of a number: its judgment, where something is wrong
+abbrev pub finding_of : (n : ℕ) → Judgment → List Finding
+finding_of n (Kept k) = []
+finding_of n j = record { image = n; judgment = j } ∷ []
+
+-- and of images one after the other, from a number on
+abbrev pub findings_from : (n : ℕ) → List Judgment → List Finding
+findings_from n [] = []
+findings_from n (j ∷ js) = finding_of n j ++ findings_from (suc n) js
+
+-- nothing is found yet at the next point
+pub record IsBegun (before : Tally) (s : Survey) : Type 0 where
+  pub tally : s.tally ≡ with_point before
+  pub findings : s.findings.items ≡ []
+
+-- each image has its judgment, by the commits of the run
+abbrev pub IsJudgedBy : RunState → Judged → Type 0
+IsJudgedBy run x = IsFilesJudgment run.commits run.known x.image.db.items x.image.wal.items x.image.journal.items x.judgment
+
+-- images are judged, counted and told
+pub record Tells (run : RunState) (judged : List Judged) (old new : Survey) : Type 0 where
+  pub each : All (IsJudgedBy run) judged
+  pub tally : new.tally ≡ with_images old.tally (judgments judged)
+  pub findings : new.findings.items ≡ old.findings.items ++ findings_from 0 (judgments judged)
+
+-- images are those of the numbers from n on
+abbrev pub AreNumbered : RunState → Counts → (n : ℕ) → List Judged → Type 0
+AreNumbered run c n [] = Unit {0}
+AreNumbered run c n (x ∷ judged) = IsNumbered run.files c n x.image × AreNumbered run c (suc n) judged
+
+-- all images, by their numbers
+pub record IsNumberedSurvey (run : RunState) (old new : Survey) : Type 0 where
+  pub judged : List Judged
+  pub counts : Counts
+  pub are : AreCounts run.files counts
+  pub numbered : AreNumbered run counts 0 judged
+  pub all : length judged ≡ image_count run.files
+  pub told : Tells run judged old new
+
+-- so many images that a crash may leave
+pub record IsDrawnSurvey (run : RunState) (limit : ℕ) (old new : Survey) : Type 0 where
+  pub judged : List Judged
+  pub left : All (λ x. MayLeave run.files x.image) judged
+  pub many : length judged ≡ limit
+  pub told : Tells run judged old new
+
+-- The images of a point: all that a crash may leave there, where they are no more than the limit, otherwise so many of them.
+pub record IsSurvey (run : RunState) (limit : ℕ) (before : Tally) (s : Survey) : Type 0 where
+  pub begun : Survey
+  pub begins : IsBegun before begun
+  pub images : ((image_count run.files ≤ limit) × IsNumberedSurvey run begun s) ⊎ ((limit < image_count run.files) × IsDrawnSurvey run limit begun s)

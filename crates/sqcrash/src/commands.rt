@@ -1,0 +1,125 @@
+//! The options, as clap reads them.
+use crate::plan::Plan;
+use crate::promise::Promise;
+use crate::requests::{LineError, Request};
+use clap::error::ErrorKind;
+use clap::{Arg, ArgAction, ArgMatches, Command, value_parser};
+use std::alloc::{AllocError, Global};
+
+/// An option with a value.
+fn option<'a>(
+    alloc: Global,
+    name: &'static str,
+    value: &'static str,
+    help: &'static str,
+) -> Arg<'a> {
+    Arg::new(alloc, name)
+        .long(name)
+        .value_name(value)
+        .action(ArgAction::Set)
+        .help(help)
+}
+
+/// An option without one.
+fn flag<'a>(alloc: Global, name: &'static str, help: &'static str) -> Arg<'a> {
+    Arg::new(alloc, name)
+        .long(name)
+        .action(ArgAction::SetTrue)
+        .help(help)
+}
+
+/// The program's command line.
+fn command<'a>(alloc: Global) -> Result<Command<'a>, AllocError> {
+    let promises: &'static [&'static str] = &["full", "last", "ordered", "none"];
+    let sectors: &'static [&'static str] = &["512", "4096"];
+    let trace = Arg::new(alloc, "TRACE")
+        .required(true)
+        .action(ArgAction::Set)
+        .help("What rig/record wrote");
+    Command::new(alloc, "sqcrash")
+        .about("Judges what crashes may leave of a recorded run of SQLite")
+        .arg(trace)?
+        .arg(option(
+            alloc,
+            "sector",
+            "BYTES",
+            "The size of a disk's sectors; 512 if left out",
+        )
+        .value_parser(sectors))?
+        .arg(flag(
+            alloc,
+            "tears",
+            "A sector that was being written may hold anything",
+        ))?
+        .arg(option(
+            alloc,
+            "images",
+            "N",
+            "The most images at a point, 1000 if left out; all where they are no more",
+        )
+        .value_parser(value_parser!(u64).range(1..)))?
+        .arg(option(
+            alloc,
+            "seed",
+            "S",
+            "The number that the draws begin with; 1 if left out",
+        )
+        .value_parser(value_parser!(u64)))?
+        .arg(flag(
+            alloc,
+            "every",
+            "A crash may come after each call, not only at marks",
+        ))?
+        .arg(option(
+            alloc,
+            "promise",
+            "WHAT",
+            "What is known at a mark; full if left out",
+        )
+        .value_parser(promises))
+}
+
+/// What the words ask for.
+fn matched<'a>(matches: &ArgMatches<'a>) -> Option<Request<'a>> {
+    let promise = match matches.get_str("promise") {
+        None | Some("full") => Promise::Full,
+        Some("last") => Promise::Last,
+        Some("ordered") => Promise::Ordered,
+        Some(_) => Promise::Nothing,
+    };
+    let sector = if matches.get_str("sector") == Some("4096") {
+        4096
+    } else {
+        512
+    };
+    let plan = Plan {
+        sector,
+        tears: matches.get_flag("tears"),
+        images: matches.get_one::<u64>("images").unwrap_or(1000),
+        seed: matches.get_one::<u64>("seed").unwrap_or(1),
+        every: matches.get_flag("every"),
+        promise,
+    };
+    Some(Request {
+        trace: matches.get_str("TRACE")?,
+        plan,
+    })
+}
+
+fn refused(error: clap::Error) -> LineError {
+    match error.kind() {
+        ErrorKind::DisplayHelp => LineError::Help(error),
+        ErrorKind::OutOfMemory => LineError::NoMemory,
+        _ => LineError::NotUnderstood(error),
+    }
+}
+
+/// Reads a line, whose first word is the program's name.
+pub fn request<'a>(alloc: Global, words: &'a [&'a str]) -> Result<Request<'a>, LineError> {
+    let mut command = command(alloc).map_err(|_| LineError::NoMemory)?;
+    let matches = command.try_get_matches_from_mut(words).map_err(refused)?;
+    match matched(&matches) {
+        Some(request) => Ok(request),
+        None => Err(LineError::NoMemory),
+    }
+}

@@ -1,0 +1,78 @@
+//! What comes of a run, or why it was refused.
+use crashdisk::DiskError;
+use sqjudge::SnapshotError;
+use sqplay::{PlayError, TraceError};
+use std::alloc::{AllocError, AllocFailed};
+use std::io;
+use thiserror::Error;
+
+/// Why a run was refused.
+#[derive(Debug, Drop, Error)]
+pub enum Refusal {
+    /// The trace is missing, or its system refused a call.
+    #[error("file failed")]
+    FileFailed,
+    /// It is none.
+    #[error("{0}")]
+    Trace(TraceError),
+    /// The record at this byte can't be played.
+    #[error("{1} at byte {0}")]
+    Record(usize, PlayError),
+    /// A count would pass its greatest number.
+    #[error("too many images")]
+    TooMany,
+    /// A line can't be written.
+    #[error("can't write")]
+    Unwritten,
+    /// No memory.
+    #[error("no memory")]
+    NoMemory,
+}
+
+impl From<AllocError> for Refusal {
+    ghost from_gives = { λ _ _. Unit {0} };
+
+    fn from(_error: AllocError) -> Refusal {
+        Refusal::NoMemory
+    }
+}
+
+impl<T: Drop> From<AllocFailed<T>> for Refusal {
+    ghost from_gives = { λ _ _. Unit {0} };
+
+    fn from(_error: AllocFailed<T>) -> Refusal {
+        Refusal::NoMemory
+    }
+}
+
+impl From<DiskError> for Refusal {
+    ghost from_gives = { λ _ _. Unit {0} };
+
+    fn from(_error: DiskError) -> Refusal {
+        Refusal::NoMemory
+    }
+}
+
+impl From<SnapshotError> for Refusal {
+    ghost from_gives = { λ _ _. Unit {0} };
+
+    fn from(_error: SnapshotError) -> Refusal {
+        Refusal::NoMemory
+    }
+}
+
+impl From<TraceError> for Refusal {
+    ghost from_gives = { λ _ _. Unit {0} };
+
+    fn from(error: TraceError) -> Refusal {
+        Refusal::Trace(error)
+    }
+}
+
+impl From<io::Error> for Refusal {
+    ghost from_gives = { λ _ _. Unit {0} };
+
+    fn from(_error: io::Error) -> Refusal {
+        Refusal::Unwritten
+    }
+}

@@ -1,0 +1,144 @@
+//! The program over a runtime's files and two writers.
+ghost use Rattle.std.specs.Prelude.{◌≤◌, IfOk};
+ghost use Rattle.sqcrash.specs.Rigs.{IsJudgment};
+
+use crate::commands::request;
+use crate::outcome::Refusal;
+use crate::plan::Plan;
+use crate::requests::{LineError, Request};
+use crate::rig::Rig;
+use crate::survey::{Finding, Tally};
+use sqjudge::Judgment;
+use sqplay::Trace;
+use std::alloc::Global;
+use std::fmt::Display;
+use std::fs;
+use std::io::{self, Write};
+use std::rt::Files;
+
+const DONE: u8 = 0;
+
+const WRONG: u8 = 1;
+
+const NOT_UNDERSTOOD: u8 = 2;
+
+const REFUSED: u8 = 3;
+
+/// Carries out a command line, whose first word is the program's name, and answers the program's status: 0 where
+/// nothing is wrong (also for help), 1 where something is with an image, 2 for words that aren't understood, 3 where
+/// it was refused or a file or a writer failed.
+pub fn run<R: Files + AllocGlobal, O: Write, E: Write>(
+    rt: &R,
+    words: &[&str],
+    out: &mut O,
+    err: &mut E,
+) -> u8
+    ensures { result ≤ 3 }
+{
+    let request = match request(rt.alloc(), words) {
+        Ok(request) => request,
+        Err(LineError::Help(help)) => return printed(out, &help, DONE),
+        Err(LineError::NotUnderstood(fault)) => return printed(err, &fault, NOT_UNDERSTOOD),
+        Err(LineError::NoMemory) => return refused(err, &LineError::NoMemory),
+    };
+    match carried_out(rt, &request, out) {
+        Ok(tally) if tally.is_clean() => DONE,
+        Ok(_) => WRONG,
+        Err(refusal) => refused(err, &refusal),
+    }
+}
+
+/// The bytes of a file.
+fn read<R: Files + AllocGlobal>(rt: &R, path: &str) -> Result<Vec<u8>, Refusal> {
+    match fs::read(rt, path) {
+        Ok(bytes) => Ok(bytes),
+        Err(error) if error.kind() == io::ErrorKind::OutOfMemory => Err(Refusal::NoMemory),
+        Err(_) => Err(Refusal::FileFailed),
+    }
+}
+
+/// Judges the trace that is asked for.
+fn carried_out<R: Files + AllocGlobal, O: Write>(
+    rt: &R,
+    request: &Request<'_>,
+    out: &mut O,
+) -> Result<Tally, Refusal> {
+    let bytes = read(rt, request.trace)?;
+    let tally = judge_trace(rt.alloc(), request.plan, &bytes, out)?;
+    line(out, &tally)?;
+    Ok(tally)
+}
+
+/// Judges a trace, and writes a line for each image with something wrong. Answers what there was.
+pub(crate) fn judge_trace<O: Write>(
+    alloc: Global,
+    plan: Plan,
+    bytes: &[u8],
+    out: &mut O,
+) -> Result<Tally, Refusal>
+    ensures { IfOk result (IsJudgment plan bytes.now) }
+{
+    let trace = Trace::read(alloc, bytes)?;
+    let mut rig = Rig::new(alloc, plan);
+    for call in &trace.records {
+        let findings = rig.play(bytes, call)?;
+        write_findings(out, rig.tally().points, rig.known(), &findings)?;
+    }
+    Ok(rig.tally())
+}
+
+/// Writes a line for each finding of a point.
+fn write_findings<O: Write>(
+    out: &mut O,
+    point: u64,
+    known: usize,
+    findings: &[Finding],
+) -> io::Result<()> {
+    for finding in findings {
+        let image = finding.image;
+        write!(out, "point {point} image {image}: ")?;
+        match finding.judgment {
+            Judgment::Kept(shown) => writeln!(out, "kept (commit {shown} shown)")?,
+            Judgment::Lost(shown) => {
+                writeln!(out, "lost (commit {shown} shown, {known} known)")?;
+            }
+            Judgment::Mixed => writeln!(out, "mixed")?,
+            Judgment::Fault(error) => writeln!(out, "{error}")?,
+            Judgment::Refused(refusal) => writeln!(out, "fault {refusal}")?,
+        }
+    }
+    Ok(())
+}
+
+/// The status where the words can't be read: 3 for want of memory, 2 where they aren't text.
+pub(crate) fn unread<E: Write>(err: &mut E, error: &io::Error) -> u8
+    ensures { result ≤ 3 }
+{
+    match error.kind() {
+        io::ErrorKind::OutOfMemory => refused(err, &LineError::NoMemory),
+        _ => printed(err, &"sqcrash: the words aren't text", NOT_UNDERSTOOD),
+    }
+}
+
+fn line<W: Write, T: Display>(writer: &mut W, text: &T) -> io::Result<()> {
+    writeln!(writer, "{text}")?;
+    writer.flush()
+}
+
+/// The status, or 3 where the line can't be written.
+fn printed<W: Write, T: Display>(writer: &mut W, text: &T, status: u8) -> u8
+    requires { status ≤ 3 }
+    ensures { result ≤ 3 }
+{
+    match line(writer, text) {
+        Ok(()) => status,
+        Err(_) => REFUSED,
+    }
+}
+
+fn refused<W: Write, T: Display>(err: &mut W, text: &T) -> u8
+    ensures { result ≤ 3 }
+{
+    let _ = line(err, &format_args!("sqcrash: {text}"));
+    REFUSED
+}

@@ -1,0 +1,26 @@
+//! What a command line asks for, or why it asks for nothing.
+use crate::plan::Plan;
+use thiserror::Error;
+
+/// What is asked for.
+#[derive(Clone, Copy, Debug, PartialEq, Eq)]
+pub struct Request<'a> {
+    /// The path of the trace.
+    pub trace: &'a str,
+    /// How it is to be judged.
+    pub plan: Plan,
+}
+
+/// Why a line asks for nothing.
+#[derive(Debug, Drop, Error)]
+pub enum LineError {
+    /// The words aren't understood; the text says which.
+    #[error("{0}")]
+    NotUnderstood(clap::Error),
+    /// They ask for help, which the text is.
+    #[error("{0}")]
+    Help(clap::Error),
+    /// No memory to read them.
+    #[error("no memory")]
+    NoMemory,
+}

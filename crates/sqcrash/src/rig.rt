@@ -1,0 +1,90 @@
+//! A trace is played, and what crashes may leave at its points is judged (own).
+ghost use Rattle.std.specs.Prelude.{◌≡◌};
+ghost use Rattle.sqcrash.specs.Rigs.{is_point};
+
+use crate::outcome::Refusal;
+use crate::plan::Plan;
+use crate::run::Run;
+use crate::survey::{Finding, Tally, judge_images};
+use rand_pcg::Pcg32;
+use sqplay::{Kind, Record};
+use std::alloc::Global;
+
+/// A run that is being played and judged.
+#[derive(Drop)]
+pub struct Rig {
+    alloc: Global,
+    plan: Plan,
+    rng: Pcg32,
+    run: Run,
+    tally: Tally,
+}
+
+/// Whether a crash is judged behind a record.
+fn is_point(every: bool, call: &Record) -> bool
+    ensures { result ≡ is_point every call.now }
+{
+    match call.kind {
+        Kind::Mark => true,
+        Kind::Base | Kind::Close => false,
+        Kind::Open => every && call.place == 1,
+        _ => every,
+    }
+}
+
+impl Rig {
+    ghost use Rattle.std.specs.Prelude.{◌≡◌, OnOk, IfOk};
+    ghost use Rattle.sqcrash.specs.Runs.{no_run, run_of};
+    ghost use Rattle.sqcrash.specs.Surveys.{no_tally};
+    ghost use Rattle.sqcrash.specs.Rigs.{rig_of, Judges};
+
+    /// Nothing is played yet.
+    pub fn new(alloc: Global, plan: Plan) -> Rig
+        ensures run { run_of result.run ≡ no_run plan.promise plan.sector plan.tears }
+        ensures tally { result.tally ≡ no_tally }
+        ensures plan { result.plan ≡ plan }
+    {
+        Rig {
+            alloc,
+            plan,
+            rng: Pcg32::new(plan.seed, 1),
+            run: Run::new(alloc, plan.promise, plan.sector, plan.tears),
+            tally: Tally::none(),
+        }
+    }
+
+    /// What was counted so far.
+    pub fn tally(&self) -> Tally
+        ensures { result ≡ self.now.tally }
+    {
+        self.tally
+    }
+
+    /// The number of the last commit that is known to be down.
+    pub fn known(&self) -> usize
+        ensures { result ≡ (run_of self.now.run).known }
+    {
+        self.run.known()
+    }
+
+    /// Plays one record of its trace, and where it is a point judges what a crash may leave there. Answers what is
+    /// wrong. Refused by Record, TooMany and NoMemory, after which nothing is said of the run.
+    pub fn play(&mut self, trace: &[u8], call: &Record) -> Result<Vec<Finding>, Refusal>
+        ensures judged { OnOk result (Judges self.old.plan trace.now call.now (rig_of self.old) (rig_of self.new)) }
+        ensures plan { OnOk result (self.new.plan ≡ self.old.plan) }
+    {
+        self.run.play(trace, call)?;
+        if !is_point(self.plan.every, call) {
+            return Ok(Vec::new(self.alloc));
+        }
+        let found = judge_images(
+            self.alloc,
+            &self.run,
+            self.plan.images,
+            &mut self.rng,
+            self.tally,
+        )?;
+        self.tally = found.tally;
+        Ok(found.findings)
+    }
+}

@@ -1,0 +1,194 @@
+//! The images of a point are judged, counted and told (own).
+ghost use Rattle.std.specs.Prelude.{◌≡◌, ◌+◌, ◌∷◌, ◌++◌, [], OnOk, IfOk};
+ghost use Rattle.sqplay.specs.Plays.{files_of};
+ghost use Rattle.sqimages.specs.Images.{AreCounts, image_count};
+ghost use Rattle.sqcrash.specs.Runs.{run_of};
+ghost use Rattle.sqcrash.specs.Surveys.{IsNumberedSurvey, IsDrawnSurvey, IsSurvey};
+
+use crate::outcome::Refusal;
+use crate::run::Run;
+use rand_core::Rng;
+use sqimages::{Counts, Image, draw};
+use sqjudge::Judgment;
+use std::alloc::Global;
+use std::fmt;
+
+/// How many points and images there were, and of these how many with something wrong.
+#[derive(Clone, Copy, Debug, PartialEq, Eq)]
+pub struct Tally {
+    pub points: u64,
+    pub images: u64,
+    /// A commit that was known to be down is gone.
+    pub lost: u64,
+    /// A database that no commit had.
+    pub mixed: u64,
+    /// One that isn't well formed either, or none.
+    pub faults: u64,
+}
+
+/// One more.
+fn more(count: u64) -> Result<u64, Refusal>
+    ensures { IfOk result (λ n. n ≡ count + 1) }
+{
+    match count.checked_add(1) {
+        Some(n) => Ok(n),
+        None => Err(Refusal::TooMany),
+    }
+}
+
+impl Tally {
+    ghost use Rattle.std.specs.Prelude.{◌≡◌, ◌↔◌, IsTrue, IfOk};
+    ghost use Rattle.sqcrash.specs.Surveys.{no_tally, with_point, with_image, IsClean};
+
+    /// None.
+    pub fn none() -> Tally
+        ensures { result ≡ no_tally }
+    {
+        Tally {
+            points: 0,
+            images: 0,
+            lost: 0,
+            mixed: 0,
+            faults: 0,
+        }
+    }
+
+    /// Whether nothing is wrong.
+    pub fn is_clean(&self) -> bool
+        ensures { IsTrue result ↔ IsClean self.now }
+    {
+        self.lost == 0 && self.mixed == 0 && self.faults == 0
+    }
+
+    /// With one more point.
+    fn with_point(mut self) -> Result<Tally, Refusal>
+        ensures { IfOk result (λ t. t ≡ with_point self) }
+    {
+        self.points = more(self.points)?;
+        Ok(self)
+    }
+
+    /// With one more image, which is judged so.
+    fn with_image(mut self, judgment: &Judgment) -> Result<Tally, Refusal>
+        ensures { IfOk result (λ t. t ≡ with_image self judgment.now) }
+    {
+        self.images = more(self.images)?;
+        match judgment {
+            Judgment::Kept(_) => {}
+            Judgment::Lost(_) => self.lost = more(self.lost)?,
+            Judgment::Mixed => self.mixed = more(self.mixed)?,
+            Judgment::Fault(_) | Judgment::Refused(_) => self.faults = more(self.faults)?,
+        }
+        Ok(self)
+    }
+}
+
+impl fmt::Display for Tally {
+    fn fmt<W: fmt::Write>(&self, f: &mut fmt::Formatter<W>) -> fmt::Result {
+        write!(
+            f,
+            "{} points, {} images, {} lost, {} mixed, {} faults",
+            self.points, self.images, self.lost, self.mixed, self.faults
+        )
+    }
+}
+
+/// What is wrong with an image.
+#[derive(Clone, Copy, Debug, PartialEq, Eq)]
+pub struct Finding {
+    /// The number of the image at its point, counted from 0.
+    pub image: u64,
+    pub judgment: Judgment,
+}
+
+/// What was found at a point so far.
+#[derive(Drop)]
+pub struct Survey {
+    /// With the points before it.
+    pub tally: Tally,
+    /// In the order of the images.
+    pub findings: Vec<Finding>,
+}
+
+impl Survey {
+    ghost use Rattle.std.specs.Prelude.{◌≡◌, ◌++◌, OnOk, IfOk};
+    ghost use Rattle.sqcrash.specs.Surveys.{with_image, finding_of, IsBegun};
+
+    /// At the next point.
+    fn new(alloc: Global, before: Tally) -> Result<Survey, Refusal>
+        ensures { IfOk result (IsBegun before) }
+    {
+        Ok(Survey {
+            tally: before.with_point()?,
+            findings: Vec::new(alloc),
+        })
+    }
+
+    /// Counts an image, and keeps what is wrong with it.
+    fn add(&mut self, image: u64, judgment: Judgment) -> Result<(), Refusal>
+        ensures tally { OnOk result (self.new.tally ≡ with_image self.old.tally judgment) }
+        ensures found { OnOk result (self.new.findings.items ≡ self.old.findings.items ++ finding_of image judgment) }
+    {
+        self.tally = self.tally.with_image(&judgment)?;
+        if !matches!(judgment, Judgment::Kept(_)) {
+            self.findings.push(Finding { image, judgment })?;
+        }
+        Ok(())
+    }
+}
+
+/// Judges all images, by their numbers.
+fn survey_numbered(
+    run: &Run,
+    counts: &Counts,
+    image: &mut Image,
+    survey: &mut Survey,
+) -> Result<(), Refusal>
+    requires { AreCounts (run_of run.now).files counts.now }
+    ensures { OnOk result (IsNumberedSurvey (run_of run.now) survey.old survey.new) }
+{
+    for n in 0..counts.images() {
+        image.set(run.player(), counts, n)?;
+        survey.add(n, run.judge(image)?)?;
+    }
+    Ok(())
+}
+
+/// Judges so many images that are drawn.
+fn survey_drawn<R: Rng>(
+    alloc: Global,
+    run: &Run,
+    limit: u64,
+    rng: &mut R,
+    image: &mut Image,
+    survey: &mut Survey,
+) -> Result<(), Refusal>
+    ensures { OnOk result (IsDrawnSurvey (run_of run.now) limit survey.old survey.new) }
+{
+    for n in 0..limit {
+        draw(alloc, rng, run.player(), image)?;
+        survey.add(n, run.judge(image)?)?;
+    }
+    Ok(())
+}
+
+/// Judges what a crash may leave of a run now: all images where they are no more than the limit, otherwise so many that
+/// are drawn. What was counted before is counted on. Refused by NoMemory, and by TooMany where a count would pass
+/// 18,446,744,073,709,551,615.
+pub fn judge_images<R: Rng>(
+    alloc: Global,
+    run: &Run,
+    limit: u64,
+    rng: &mut R,
+    before: Tally,
+) -> Result<Survey, Refusal>
+    ensures { IfOk result (IsSurvey (run_of run.now) limit before) }
+{
+    let mut survey = Survey::new(alloc, before)?;
+    let mut image = Image::none(alloc);
+    match Counts::of(run.player(), limit) {
+        Some(counts) => survey_numbered(run, &counts, &mut image, &mut survey)?,
+        None => survey_drawn(alloc, run, limit, rng, &mut image, &mut survey)?,
+    }
+    Ok(survey)
+}

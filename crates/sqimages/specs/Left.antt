@@ -1,0 +1,35 @@
+-- What a crash may leave of a database file and its logs, and what is there now (own).
+use Rattle.std.specs.Prelude.{◌≡◌, ◌⊎◌, ℕ, ◌-◌, IsTrue, cond, List, [], length, Option, Some, None, slice_get}
+use Rattle.std.specs.List.{Contains}
+use Rattle.crashdisk.specs.Call.{DiskState, ArePresent}
+use Rattle.crashdisk.specs.State.{IsImage}
+use Rattle.sqplay.specs.Names.{NameState}
+use Rattle.sqplay.specs.Plays.{Files}
+use Rattle.sqimages.specs.Ways.{may_be_none}
+use Rattle.sqimages.specs.declared.image.Image.{Image}
+
+-- the bytes of a file that a crash may leave under a name: those of an image of one of its files, or none where it may be gone
+abbrev pub MayBeLeft : NameState → List ℕ → Type 0
+MayBeLeft s bytes =
+    ((f : DiskState) × Contains s.files f × IsImage f.sector f.tears f.db bytes) ⊎ (IsTrue (may_be_none s) × (bytes ≡ []))
+
+-- A crash may leave this: the three files crash independently of each other.
+pub record MayLeave (s : Files) (image : Image) : Type 0 where
+  pub db : MayBeLeft s.db image.db.items
+  pub wal : MayBeLeft s.wal image.wal.items
+  pub journal : MayBeLeft s.journal image.journal.items
+
+-- the file that has a name now: the one that was made last, or none where the name is gone
+abbrev pub file_now : NameState → Option DiskState
+file_now s = cond s.gone None (slice_get s.files (length s.files - 1))
+
+-- the present bytes of a file; none where there is no file
+abbrev pub ArePresentOf : Option DiskState → List ℕ → Type 0
+ArePresentOf None bytes = bytes ≡ []
+ArePresentOf (Some f) bytes = ArePresent f.db bytes
+
+-- the three files as they are now, where no crash comes
+pub record IsPresent (s : Files) (image : Image) : Type 0 where
+  pub db : ArePresentOf (file_now s.db) image.db.items
+  pub wal : ArePresentOf (file_now s.wal) image.wal.items
+  pub journal : ArePresentOf (file_now s.journal) image.journal.items

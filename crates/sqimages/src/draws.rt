@@ -1,0 +1,186 @@
+//! Images that are drawn (own).
+ghost use Rattle.std.specs.Prelude.{◌≡◌, ◌<◌, ◌++◌, [], ℕ, List, length, OnOk, IfOk};
+ghost use Rattle.crashdisk.specs.State.{IsImage};
+ghost use Rattle.crashdisk.specs.Model.{state_of};
+ghost use Rattle.sqplay.specs.Names.{name_of};
+ghost use Rattle.sqplay.specs.Plays.{files_of};
+ghost use Rattle.sqimages.specs.Left.{MayBeLeft, MayLeave};
+
+use crate::image::Image;
+use crashdisk::{Disk, DiskError, File, FileChoice, ModelDisk, Rest};
+use rand_core::Rng;
+use sqplay::{Name, Player};
+use std::alloc::{AllocError, Global};
+
+/// A number below another.
+fn below<R: Rng>(rng: &mut R, count: u64) -> u64
+    requires { 0 < count }
+    ensures { result < count }
+{
+    rng.next_u64() % count
+}
+
+/// A length that a crash may leave, each in four draws one: the least, the greatest, the present one, one between.
+fn draw_length<R: Rng>(rng: &mut R, least: u64, greatest: u64, sector: u64) -> Option<u64> {
+    match rng.next_u32() % 4 {
+        0 => Some(least),
+        1 => Some(greatest),
+        2 => None,
+        _ => {
+            let sectors = greatest.saturating_sub(least) / sector.max(1);
+            let more = below(rng, sectors.saturating_add(1));
+            Some(least.saturating_add(more.saturating_mul(sector)))
+        }
+    }
+}
+
+/// A number for each of so many sectors.
+fn draw_picks<R: Rng>(alloc: Global, rng: &mut R, sectors: u64) -> Result<Vec<u64>, AllocError> {
+    let mut picks = Vec::new(alloc);
+    for _ in 0..sectors {
+        picks.push(rng.next_u64() >> 1)?;
+    }
+    Ok(picks)
+}
+
+/// All sectors by one rule, and this length.
+fn plain(alloc: Global, rest: Rest, len: Option<u64>) -> FileChoice {
+    FileChoice {
+        pick: Vec::new(alloc),
+        torn: Vec::new(alloc),
+        rest,
+        len,
+    }
+}
+
+/// What is left of a sector that tears: the present bytes up to some place, and behind it the oldest ones, or in every
+/// second draw one byte, as of a sector that was being written when power failed.
+fn torn_sector<R: Rng>(
+    alloc: Global,
+    rng: &mut R,
+    newest: &[u8],
+    oldest: &[u8],
+) -> Result<Vec<u8>, AllocError> {
+    let count = newest.len().min(oldest.len());
+    let at = (below(rng, (count as u64).saturating_add(1)) as usize).min(count);
+    let mut bytes = Vec::from_slice(alloc, &newest[..at])?;
+    if below(rng, 2) == 0 {
+        bytes.extend_from_slice(&oldest[at..])?;
+    } else {
+        bytes.resize(count, below(rng, 256) as u8)?;
+    }
+    Ok(bytes)
+}
+
+/// Torn sectors, one in eight of those that have more than one value.
+fn draw_torn<R: Rng>(
+    alloc: Global,
+    rng: &mut R,
+    disk: &ModelDisk,
+    greatest: u64,
+) -> Result<Vec<(u32, Vec<u8>)>, DiskError> {
+    let sector = disk.sector();
+    let mut newest = Vec::new(alloc);
+    let mut oldest = Vec::new(alloc);
+    disk.image(
+        File::Db,
+        &plain(alloc, Rest::Newest, Some(greatest)),
+        &mut newest,
+    )?;
+    disk.image(
+        File::Db,
+        &plain(alloc, Rest::Oldest, Some(greatest)),
+        &mut oldest,
+    )?;
+    let mut torn = Vec::new(alloc);
+    for (k, (new, old)) in newest.chunks(sector).zip(oldest.chunks(sector)).enumerate() {
+        let Ok(number) = u32::try_from(k) else {
+            break;
+        };
+        if disk.values(File::Db, k) > 1 && below(rng, 8) == 0 {
+            let bytes = torn_sector(alloc, rng, new, old).map_err(|_| DiskError::NoMemory)?;
+            if torn.push((number, bytes)).is_err() {
+                return Err(DiskError::NoMemory);
+            }
+        }
+    }
+    Ok(torn)
+}
+
+/// What a crash leaves of a file: in eight draws one the newest values, one the oldest, otherwise each sector one of
+/// its values, or where it tears a torn one.
+fn draw_choice<R: Rng>(
+    alloc: Global,
+    rng: &mut R,
+    disk: &ModelDisk,
+) -> Result<FileChoice, DiskError> {
+    let sector = disk.sector() as u64;
+    let (least, greatest) = disk.lengths(File::Db);
+    let len = draw_length(rng, least, greatest, sector);
+    match below(rng, 8) {
+        0 => return Ok(plain(alloc, Rest::Newest, len)),
+        1 => return Ok(plain(alloc, Rest::Oldest, len)),
+        _ => {}
+    }
+    let Ok(pick) = draw_picks(alloc, rng, greatest.div_ceil(sector)) else {
+        return Err(DiskError::NoMemory);
+    };
+    let torn = if disk.tears() {
+        draw_torn(alloc, rng, disk, greatest)?
+    } else {
+        Vec::new(alloc)
+    };
+    Ok(FileChoice {
+        pick,
+        torn,
+        rest: Rest::Newest,
+        len,
+    })
+}
+
+/// Appends what a crash by this choice leaves of the file of a disk.
+fn append_image(disk: &ModelDisk, choice: &FileChoice, out: &mut Vec<u8>) -> Result<(), DiskError>
+    ensures { OnOk result ((bytes : List ℕ) × (out.new.items ≡ out.old.items ++ bytes)
+        × IsImage (state_of disk.now).sector (state_of disk.now).tears (state_of disk.now).db bytes) }
+{
+    disk.image(File::Db, choice, out)
+}
+
+/// Puts there a file that may be left under a name: each that was made under it, or none, as often as any other.
+fn put_draw<R: Rng>(
+    alloc: Global,
+    rng: &mut R,
+    name: &Name,
+    out: &mut Vec<u8>,
+) -> Result<(), DiskError>
+    ensures { OnOk result (MayBeLeft (name_of name.now) out.new.items) }
+{
+    out.clear();
+    let files = name.files();
+    let ways = (files.len() as u64).saturating_add(u64::from(name.maybe_none()));
+    if ways == 0 {
+        return Ok(());
+    }
+    match files.get(below(rng, ways) as usize) {
+        Some(disk) => {
+            let choice = draw_choice(alloc, rng, disk)?;
+            append_image(disk, &choice, out)
+        }
+        None => Ok(()),
+    }
+}
+
+/// Takes an image that is drawn in place of what it has: one of those that a crash may leave. NoMemory alone, and then
+/// nothing is said of it.
+pub fn draw<R: Rng>(
+    alloc: Global,
+    rng: &mut R,
+    player: &Player,
+    image: &mut Image,
+) -> Result<(), DiskError>
+    ensures { OnOk result (MayLeave (files_of player.now) image.new) }
+{
+    put_draw(alloc, rng, player.db(), &mut image.db)?;
+    put_draw(alloc, rng, player.wal(), &mut image.wal)?;
+    put_draw(alloc, rng, player.journal(), &mut image.journal)
+}
