@@ -33,3 +33,5 @@ pub mod Pages
 pub mod Clear
 pub mod Later
 pub mod Runs
+pub mod Ending
+pub mod Ended

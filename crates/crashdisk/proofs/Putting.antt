@@ -1,5 +1,5 @@
 -- The bytes that a choice names, put to their places.
-use Rattle.std.proofs.Common.{◌≡◌, ◌⊎◌, inl, inr, ⊎_elim, ℕ, suc, ◌+◌, ◌-◌, ◌*◌, ◌/◌, ◌<◌, ◌≤◌, Bool, List, [], ◌++◌, length, length-append, length-drop, get_or, take, drop, map, replicate, sym, ◌∙◌, ap, arith, Option, nat_lt, refl}
+use Rattle.std.proofs.Common.{◌≡◌, ◌⊎◌, inl, inr, ⊎_elim, ℕ, ◌+◌, ◌-◌, ◌*◌, ◌/◌, ◌<◌, ◌≤◌, Bool, List, [], ◌++◌, length, length-append, length-drop, get_or, take, drop, map, replicate, sym, ◌∙◌, ap, arith, nat_lt, refl}
 use Rattle.std.specs.Prelude.{◌%◌}
 use Rattle.std.proofs.lemmas.List.{ext_get_or, length-replicate, take_all, take_at, drop_all, append-nil}
 use Rattle.std.proofs.lemmas.Slice.{put_mid-paste}
@@ -7,8 +7,8 @@ use Rattle.std.proofs.lemmas.Bool.{cases_lt, cases_eq}
 use Rattle.std.proofs.Math.Nat.{le-div_iff_mul-le, div-lt_iff_lt-mul}
 use borrow.Rule.Slice.PartMut.{put_mid}
 use Rattle.crashdisk.specs.State.{FileState}
-use Rattle.crashdisk.specs.Held.{value_of, last_of, before_last, file_by, AreWhole, picked}
-use Rattle.crashdisk.specs.Choice.{Naming, Names, named_len, torn_here, byte_by, listed, named_byte, image_of}
+use Rattle.crashdisk.specs.Held.{value_of, before_last, file_by, AreWhole, picked}
+use Rattle.crashdisk.specs.Choice.{Naming, Names, named_len, torn_here, byte_by, named_byte, image_of}
 use Rattle.crashdisk.proofs.Places.{inside, place_in}
 use Rattle.crashdisk.proofs.Leaving.{image_at, image_len, listed_at, past_byte}
 use Rattle.crashdisk.proofs.Turning.{listed_count}

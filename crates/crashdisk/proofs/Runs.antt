@@ -1,10 +1,10 @@
 -- Runs of pages: k pages from page q on, written at once.
-use Rattle.std.proofs.Common.{◌≡◌, ◌≢◌, ◌⊎◌, inl, inr, ⊎_elim, ℕ, ◌+◌, ◌-◌, ◌*◌, ◌/◌, ◌<◌, ◌≤◌, Bool, List, length, get_or, sym, ◌∙◌, ap, subst, arith, mul_assoc}
+use Rattle.std.proofs.Common.{◌≡◌, ◌⊎◌, inl, inr, ⊎_elim, ℕ, ◌+◌, ◌-◌, ◌*◌, ◌/◌, ◌<◌, ◌≤◌, Bool, List, length, get_or, sym, ◌∙◌, ap, subst, arith, mul_assoc}
 use Rattle.std.specs.Prelude.{IsTrue, Ok}
 use Rattle.std.proofs.lemmas.Bool.{cases_lt}
 use Rattle.std.proofs.lemmas.Nat.{le-div}
 use Rattle.std.proofs.Math.Nat.{div-mul-le_self, mul-le-mul_right, lt-div-mul-add, div-lt_iff_lt-mul}
-use Rattle.crashdisk.specs.State.{FileState, Meets, byte, written}
+use Rattle.crashdisk.specs.State.{byte}
 use Rattle.crashdisk.specs.Facts.{Spreads}
 use Rattle.crashdisk.specs.Call.{DiskState, Writes}
 use Rattle.crashdisk.specs.declared.file.File.TheVariants.{Db}

@@ -102,6 +102,12 @@ pub record IsCutTo (end : ℕ) (old new : List (List ℕ)) : Type 0 where
   pub long : length (get_or new 0 []) ≡ length (last_of old)
   pub each : (j : ℕ) → get_or (get_or new 0 []) j 0 ≡ cond (nat_lt j end) (get_or (last_of old) j 0) 0
 
+-- of some values each, with zeros from a place on
+pub record IsEndedTo (end : ℕ) (old new : List (List ℕ)) : Type 0 where
+  pub count : length new ≡ length old
+  pub long : (n : ℕ) → n < length old → length (get_or new n []) ≡ length (get_or old n [])
+  pub each : (n j : ℕ) → n < length old → get_or (get_or new n []) j 0 ≡ cond (nat_lt j end) (get_or (get_or old n []) j 0) 0
+
 -- Of so many values of sector k, the number of the one that is picked, counted from the oldest; without an entry it is the newest
 -- one, or the oldest.
 abbrev pub picked : (pick : List ℕ) (newest : Bool) (k count : ℕ) → ℕ

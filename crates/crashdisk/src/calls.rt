@@ -4,6 +4,7 @@ ghost use Rattle.std.specs.Prelude.{length, slice_index, OnOk, OnErr, IfOk, IfEr
 ghost use Rattle.crashdisk.specs.State.{byte, longest, IsSettled, IsSynced, IsShuffled, written, WriteTouches, cut_to};
 ghost use Rattle.crashdisk.specs.State.{CutTouches};
 ghost use Rattle.crashdisk.specs.Call.{ChangedBy, counted, EndsWithin};
+ghost use Rattle.crashdisk.specs.Ending.{IsEnded};
 ghost use Rattle.crashdisk.specs.Held.{file_of, IsHeld, Touches, put_byte, IsTurned, picked};
 ghost use Rattle.crashdisk.specs.Solid.{IsSolid, is_sector_size};
 ghost use Rattle.crashdisk.specs.Stop.{Judged};
@@ -180,6 +181,18 @@ pub(crate) fn turn_held(held: &mut Held, sector: usize, pick: &[u32])
         (picked pick.now true k (suc (length ((file_of sector held.old).earlier k)))) }
 {
     held.turn(sector, pick);
+}
+
+/// Ends a file at a length, in each of its values.
+pub(crate) fn end_held(held: &mut Held, sector: usize, end: u64)
+    requires is_size { IsTrue (is_sector_size sector) }
+    requires held { IsHeld sector held.old }
+    requires solid { IsSolid sector (file_of sector held.old) }
+    ensures held { IsHeld sector held.new }
+    ensures solid { IsSolid sector (file_of sector held.new) }
+    ensures ended { IsEnded sector end (file_of sector held.old) (file_of sector held.new) }
+{
+    held.end(sector, end as usize);
 }
 
 /// Whether a call that ends there is too long.

@@ -4,7 +4,7 @@ ghost use Rattle.std.specs.Prelude.{◌∷◌, ◌++◌, length, take, drop, rep
 ghost use Rattle.std.specs.Prelude.{IfOk, max, set, cond, EachIndex, suc, true};
 ghost use Rattle.crashdisk.specs.State.{Meets};
 ghost use Rattle.crashdisk.specs.Held.{last_of, file_by, AreWhole, Touches, put_byte, IsListOf, EachOf, AreRising};
-ghost use Rattle.crashdisk.specs.Held.{IsPut, Gets, Loses, Takes, is_odd, IsCutTo, picked, turned};
+ghost use Rattle.crashdisk.specs.Held.{IsPut, Gets, Loses, Takes, is_odd, IsCutTo, IsEndedTo, picked, turned};
 
 use crate::values::{Bytes, Values};
 use std::alloc::{AllocError, Global};
@@ -311,6 +311,7 @@ fn is_taken(pick: &[u32], i: usize) -> bool
 
 impl Held {
     ghost use Rattle.crashdisk.specs.State.{Changed, IsDone, IsSynced, byte, longest};
+    ghost use Rattle.crashdisk.specs.Ending.{IsEnded};
     ghost use Rattle.crashdisk.specs.Held.{file_of, IsHeld, IsPicked, IsTurned, picked};
 
     /// The same file.
@@ -447,6 +448,21 @@ impl Held {
         turn_each(&mut self.sectors, pick);
     }
 
+    /// Ends the file at a length, in each of its values.
+    pub(crate) fn end(&mut self, sector: usize, end: usize)
+        requires positive { 0 < sector }
+        requires small { sector < 2 ^ 17 }
+        requires held { IsHeld sector self.old }
+        ensures held { IsHeld sector self.new }
+        ensures ended { IsEnded sector end (file_of sector self.old) (file_of sector self.new) }
+    {
+        self.sectors.truncate(end.div_ceil(sector));
+        end_each(&mut self.sectors, sector, end);
+        self.len = self.len.min(end);
+        self.least = self.least.min(end);
+        self.greatest = self.greatest.min(end);
+    }
+
     /// Reads the bytes from a place on.
     pub(crate) fn read(&self, sector: usize, at: usize, out: &mut [u8])
         requires positive { 0 < sector }
@@ -501,6 +517,19 @@ fn settle(sectors: &mut Vec<Values>, sector: usize, end: usize)
     for k in 0..sectors.len() {
         let values = &mut sectors[k];
         values.settle(end.saturating_sub(k * sector));
+    }
+}
+
+/// Ends each value of these sectors at a place of the file.
+fn end_each(sectors: &mut Vec<Values>, sector: usize, end: usize)
+    requires room { length sectors.old.items * sector < 2 ^ 62 }
+    ensures count { length sectors.new.items ≡ length sectors.old.items }
+    ensures each { (k : ℕ) → k < length sectors.old.items
+        → IsEndedTo (end - k * sector) (slice_index_or sectors.old.items k []) (slice_index_or sectors.new.items k []) }
+{
+    for k in 0..sectors.len() {
+        let values = &mut sectors[k];
+        values.end(end.saturating_sub(k * sector));
     }
 }
 

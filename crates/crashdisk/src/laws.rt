@@ -1,4 +1,5 @@
 //! What every disk that keeps its word has in common.
+ghost use Rattle.crashdisk.specs.Ending.{EndsEachImage};
 ghost use Rattle.crashdisk.specs.Images.{ImagesAreListed, WritesAddTheNew, CutsAddTheNew, SyncsSettle};
 ghost use Rattle.crashdisk.specs.Images.{OthersAddNothing, CrashesSettle};
 
@@ -11,4 +12,9 @@ pub fn what_a_crash_may_leave()
     ensures sync { SyncsSettle }
     ensures other { OthersAddNothing }
     ensures crash { CrashesSettle }
+{}
+
+/// Which images a file has that was ended at a length. It does nothing; its contract is that law.
+pub fn what_an_end_leaves()
+    ensures { EndsEachImage }
 {}

@@ -21,5 +21,5 @@ pub use disk::Disk;
 pub use error::DiskError;
 pub use file::File;
 pub use held::Part;
-pub use laws::what_a_crash_may_leave;
+pub use laws::{what_a_crash_may_leave, what_an_end_leaves};
 pub use model::ModelDisk;

@@ -10,8 +10,8 @@ ghost use Rattle.crashdisk.specs.Refusal.{number_of};
 ghost use Rattle.crashdisk.specs.Since.{kept_bytes, handed_writes};
 
 use crate::calls::{
-    LIMIT, Manner, append_present, cut_held, empty, filled, is_too_long, refuse, sync_held,
-    turn_held, write_held,
+    LIMIT, Manner, append_present, cut_held, empty, end_held, filled, is_too_long, refuse,
+    sync_held, turn_held, write_held,
 };
 use crate::choice::{Choice, FileChoice};
 use crate::counting::{count_values, next_choice};
@@ -52,6 +52,7 @@ impl ModelDisk {
     ghost use Rattle.crashdisk.specs.Choice.{naming_of, image_of};
     ghost use Rattle.crashdisk.specs.Stop.{no_stops};
     ghost use Rattle.crashdisk.specs.Count.{value_count, choice_count, IsChoice, HasDigits};
+    ghost use Rattle.crashdisk.specs.Ending.{EndsDb};
     ghost use Rattle.crashdisk.specs.Model.{state_of};
 
     /// A disk of sectors of this size, a power of two from 512 to 65536 bytes, which doesn't tear: the database holds
@@ -189,6 +190,25 @@ impl ModelDisk {
             File::Db => (self.db.least as u64, self.db.greatest as u64),
             File::Log => (self.log.least as u64, self.log.greatest as u64),
         }
+    }
+
+    /// The present length of a file in bytes. It isn't counted as a call.
+    pub fn present_len(&self, file: File) -> u64
+        ensures { result ≡ (of file (state_of self.now)).len }
+    {
+        let held = match file {
+            File::Db => &self.db,
+            File::Log => &self.log,
+        };
+        held.len as u64
+    }
+
+    /// Ends the database at a length, where it is longer, at once and in each of its values: nothing says any more what
+    /// stood behind that. It takes no memory, and isn't counted as a call.
+    pub fn end_db(&mut self, end: u64)
+        ensures { EndsDb end (state_of self.old) (state_of self.new) }
+    {
+        end_held(&mut self.db, self.sector, end);
     }
 
     /// A disk of its own that lists the same, and of which the same is set; NoMemory alone. It isn't counted as a call.

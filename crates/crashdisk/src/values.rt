@@ -175,6 +175,20 @@ impl Values {
         present.cut(end);
     }
 
+    /// Has each value end at a place, with zeros from there on.
+    pub(crate) fn end(&mut self, end: usize)
+        ensures count { length self.new ≡ length self.old }
+        ensures long { (n : ℕ) → n < length self.old
+            → length (slice_index_or self.new n []) ≡ length (slice_index_or self.old n []) }
+        ensures each { (n j : ℕ) → n < length self.old → slice_index (slice_index_or self.new n []) j ≡
+            cond (nat_lt j end) (slice_index (slice_index_or self.old n []) j) 0 }
+    {
+        for k in 0..self.list.len() {
+            let value = &mut self.list[k];
+            value.cut(end);
+        }
+    }
+
     /// Puts these bytes in place of the present value.
     pub(crate) fn replace(&mut self, bytes: &[u8])
         requires { 0 < length self.old }

@@ -1,2 +1,5 @@
 pub mod Numbering
 pub mod Multiplying
+pub mod Holding
+pub mod Placing
+pub mod Ordering

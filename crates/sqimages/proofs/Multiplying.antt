@@ -1,5 +1,5 @@
 -- Choices and ways, counted.
-use Rattle.std.proofs.Common.{◌≡◌, ℕ, zero, suc, ◌+◌, ◌-◌, ◌*◌, ◌/◌, ◌<◌, ◌≤◌, Bool, true, false, cond, List, [], ◌∷◌, length, drop, get_or, sym, ◌∙◌, ap, subst, mul-suc, arith}
+use Rattle.std.proofs.Common.{◌≡◌, ℕ, zero, suc, ◌+◌, ◌-◌, ◌*◌, ◌/◌, ◌<◌, ◌≤◌, Bool, true, false, cond, List, [], ◌∷◌, length, drop, get_or, refl, sym, ◌∙◌, ap, subst, mul-suc, arith}
 use Rattle.std.specs.Prelude.{nat_eq, ◌||◌}
 use Rattle.std.proofs.Math.Seq.{drop-cons}
 use Rattle.crashdisk.specs.State.{FileState}
@@ -7,7 +7,9 @@ use Rattle.crashdisk.specs.Call.{DiskState}
 use Rattle.crashdisk.specs.Count.{ways, value_count, length_count, sector_count, choice_count}
 use Rattle.crashdisk.proofs.Digits.{ways_more, some_both, some_choice}
 use Rattle.sqplay.specs.Names.{NameState}
-use Rattle.sqimages.specs.Ways.{file_ways, files_ways, name_ways}
+use Rattle.sqplay.specs.declared.meta.Holds.{Holds}
+use Rattle.sqplay.specs.declared.meta.Holds.TheVariants.{Any, Nothing, File}
+use Rattle.sqimages.specs.Ways.{file_ways, files_ways, held_files, may_be_none, name_ways}
 
 -- sectors more are no fewer ways
 ways_le : (s : FileState) (k m : ℕ) → ways (value_count s) k ≤ ways (value_count s) (k + m)
@@ -41,13 +43,22 @@ files_step files i f h e =
     ap files_ways (drop-cons files i f h) ∙ ap (λ (x : DiskState). file_ways x + files_ways (drop (suc i) files)) (sym e) ∙ ap (λ (k : ℕ). file_ways f + files_ways (drop k files)) next
 
 -- there is a way at least
-some_of : (b : Bool) (files : List DiskState) → 0 < cond (b || nat_eq (length files) 0) 1 0 + files_ways files
-some_of true [] = omega arith
-some_of false [] = omega arith
-some_of b (f ∷ files) = let some : 0 < file_ways f = some_choice f.sector f.db in omega (arith, some)
+one : (b : Bool) → b ≡ true → 0 < cond b 1 0 + files_ways []
+one true e = omega arith
+one false e = absurd (let no : false ≡ true = e in cc)
 
-pub some_name : (s : NameState) → 0 < name_ways s
-some_name s = some_of s.maybe_none s.files
+some_files : (b : Bool) (files : List DiskState) → (nat_eq (length files) 0 ≡ true → b ≡ true) → 0 < cond b 1 0 + files_ways files
+some_files b [] none = one b (none refl)
+some_files b (f ∷ files) none = let some : 0 < file_ways f = some_choice f.sector f.db in omega (arith, some)
+
+or_true : (a b : Bool) → b ≡ true → (a || b) ≡ true
+or_true true b e = refl
+or_true false b e = e
+
+pub some_name : (s : NameState) (holds : Holds) → 0 < name_ways s holds
+some_name s Any = some_files (may_be_none s Any) s.files (λ e. or_true s.maybe_none (nat_eq (length s.files) 0) e)
+some_name s Nothing = some_files (may_be_none s Nothing) [] (λ e. e)
+some_name s (File i) = some_files (may_be_none s (File i)) (held_files s (File i)) (λ e. e)
 
 -- one factor above the limit, where the others aren't 0
 pub above_logs : (limit a y : ℕ) → limit < y → 0 < a → limit < a * y

@@ -4,20 +4,27 @@ use Rattle.std.specs.List.{Contains}
 use Rattle.crashdisk.specs.Call.{DiskState, ArePresent}
 use Rattle.crashdisk.specs.State.{IsImage}
 use Rattle.sqplay.specs.Names.{NameState}
-use Rattle.sqplay.specs.Plays.{Files}
-use Rattle.sqimages.specs.Ways.{may_be_none}
+use Rattle.sqplay.specs.Plays.{Files, epochs_of}
+use Rattle.sqplay.specs.declared.meta.Epoch.{Epoch}
+use Rattle.sqplay.specs.declared.meta.Holds.{Holds}
+use Rattle.sqimages.specs.Ways.{held_files, may_be_none}
 use Rattle.sqimages.specs.declared.image.Image.{Image}
 
--- the bytes of a file that a crash may leave under a name: those of an image of one of its files, or none where it may be gone
-abbrev pub MayBeLeft : NameState → List ℕ → Type 0
-MayBeLeft s bytes =
-    ((f : DiskState) × Contains s.files f × IsImage f.sector f.tears f.db bytes) ⊎ (IsTrue (may_be_none s) × (bytes ≡ []))
+-- the bytes that a crash may leave under a name where it holds this: those of an image of one of its files, or none where it may
+-- be gone
+abbrev pub MayBeLeft : NameState → Holds → List ℕ → Type 0
+MayBeLeft s holds bytes =
+    ((f : DiskState) × Contains (held_files s holds) f × IsImage f.sector f.tears f.db bytes) ⊎ (IsTrue (may_be_none s holds) × (bytes ≡ []))
 
--- A crash may leave this: the three files crash independently of each other.
-pub record MayLeave (s : Files) (image : Image) : Type 0 where
-  pub db : MayBeLeft s.db image.db.items
-  pub wal : MayBeLeft s.wal image.wal.items
-  pub journal : MayBeLeft s.journal image.journal.items
+-- what a crash may leave in an epoch: there the three files crash independently of each other
+pub record MayLeaveIn (s : Files) (e : Epoch) (image : Image) : Type 0 where
+  pub db : MayBeLeft s.db e.db image.db.items
+  pub wal : MayBeLeft s.wal e.wal image.wal.items
+  pub journal : MayBeLeft s.journal e.journal image.journal.items
+
+-- what a crash may leave: that of one of the epochs, of which there is one alone unless metadata goes down in order
+abbrev pub MayLeave : Files → Image → Type 0
+MayLeave s image = (e : Epoch) × Contains (epochs_of s) e × MayLeaveIn s e image
 
 -- the file that has a name now: the one that was made last, or none where the name is gone
 abbrev pub file_now : NameState → Option DiskState

@@ -1,3 +1,5 @@
 pub mod Ways
 pub mod Images
 pub mod Left
+pub mod Adding
+pub mod Including

@@ -1,13 +1,14 @@
 //! In how many ways a crash may leave a database file and its logs (own).
-ghost use Rattle.std.specs.Prelude.{◌≡◌, ◌<◌, ◌≤◌, ◌*◌, ◌^◌, MatchOption};
+ghost use Rattle.std.specs.Prelude.{◌≡◌, ◌<◌, ◌≤◌, ◌+◌, ◌*◌, ◌^◌, MatchOption, IfOk, cond, map};
 ghost use Rattle.crashdisk.specs.Count.{length_count};
 ghost use Rattle.crashdisk.specs.Model.{state_of};
 ghost use Rattle.crashdisk.specs.State.{longest};
 ghost use Rattle.sqplay.specs.Names.{name_of};
-ghost use Rattle.sqimages.specs.Ways.{file_ways, name_ways, none_ways};
+ghost use Rattle.sqimages.specs.Ways.{file_ways, files_ways, held_files, may_be_none, name_ways};
 
 use crashdisk::{Disk, File, ModelDisk};
-use sqplay::{Name, Player};
+use sqplay::{Epoch, Holds, Name, Player};
+use std::alloc::{AllocError, Global};
 
 /// How many lengths a choice can name: the least, each multiple of the sector size strictly between, and the greatest.
 fn lengths(sector: u64, least: u64, greatest: u64) -> u64
@@ -50,27 +51,41 @@ pub(crate) fn file_count(disk: &ModelDisk, limit: u64) -> Option<u64>
     times(count, lengths(sector, least, greatest), limit)
 }
 
-/// One where a crash may leave nothing under a name.
-fn none_count(name: &Name) -> u64
-    ensures { result ≡ none_ways (name_of name.now) }
+/// The files of a name that a crash may leave where it holds this.
+pub(crate) fn held_files<'a>(name: &'a Name, holds: Holds) -> &'a [ModelDisk]
+    ensures { map (λ d. state_of d) result.now ≡ held_files (name_of name.now) holds }
 {
-    if name.maybe_none() || name.files().is_empty() {
-        1
-    } else {
-        0
+    let files = name.files();
+    match holds {
+        Holds::Any => files,
+        Holds::Nothing => &files[..0],
+        Holds::File(i) => {
+            let from = &files[i.min(files.len())..];
+            &from[..from.len().min(1)]
+        }
     }
 }
 
-/// In how many ways a crash may leave what is under a name. None where they are above the limit.
-fn name_count(name: &Name, limit: u64) -> Option<u64>
-    ensures { MatchOption result (limit < name_ways (name_of name.now))
-        (λ n. (n ≡ name_ways (name_of name.now)) × (n ≤ limit)) }
+/// Whether a crash may leave nothing under a name that holds this.
+pub(crate) fn may_be_none(name: &Name, holds: Holds) -> bool
+    ensures { result ≡ may_be_none (name_of name.now) holds }
 {
-    let mut count = none_count(name);
+    match holds {
+        Holds::Any if name.maybe_none() => true,
+        _ => held_files(name, holds).is_empty(),
+    }
+}
+
+/// In how many ways a crash may leave these files, and one more where it may leave none. None where they are above the
+/// limit.
+fn files_count(files: &[ModelDisk], none: bool, limit: u64) -> Option<u64>
+    ensures { MatchOption result (limit < cond none 1 0 + files_ways (map (λ d. state_of d) files.now))
+        (λ n. (n ≡ cond none 1 0 + files_ways (map (λ d. state_of d) files.now)) × (n ≤ limit)) }
+{
+    let mut count = u64::from(none);
     if count > limit {
         return None;
     }
-    let files = name.files();
     for disk in files {
         let Some(more) = file_count(disk, limit - count) else {
             return None;
@@ -80,57 +95,138 @@ fn name_count(name: &Name, limit: u64) -> Option<u64>
     Some(count)
 }
 
-/// In how many ways a crash may leave what is under each name. The three files crash independently of each other.
-#[derive(Clone, Copy, Debug, PartialEq, Eq)]
-pub struct Counts {
-    /// Of the database file.
-    pub db: u64,
-    /// Of the write-ahead log.
-    pub wal: u64,
-    /// Of the rollback journal.
-    pub journal: u64,
-    ghost some_db: { 0 < db },
-    ghost some_wal: { 0 < wal },
-    ghost fits: { db * (wal * journal) < 2 ^ 64 },
-    ghost logs_fit: { wal * journal < 2 ^ 64 },
+/// In how many ways a crash may leave what is under a name that holds this. None where they are above the limit.
+fn name_count(name: &Name, holds: Holds, limit: u64) -> Option<u64>
+    ensures { MatchOption result (limit < name_ways (name_of name.now) holds)
+        (λ n. (n ≡ name_ways (name_of name.now) holds) × (n ≤ limit)) }
+{
+    files_count(held_files(name, holds), may_be_none(name, holds), limit)
 }
 
-impl Counts {
-    ghost use Rattle.std.specs.Prelude.{◌≡◌, ◌*◌};
+/// In how many ways a crash may leave what is under each name in an epoch, where the three files crash independently of
+/// each other.
+#[derive(Clone, Copy, Debug, PartialEq, Eq)]
+pub(crate) struct EpochCounts {
+    pub(crate) epoch: Epoch,
+    /// Of the database file.
+    pub(crate) db: u64,
+    /// Of the write-ahead log.
+    pub(crate) wal: u64,
+    /// Of the rollback journal.
+    pub(crate) journal: u64,
+    /// Of all three.
+    pub(crate) images: u64,
+    ghost some_db: { 0 < db },
+    ghost some_wal: { 0 < wal },
+}
+
+impl EpochCounts {
     ghost use Rattle.sqplay.specs.Plays.{files_of};
-    ghost use Rattle.sqimages.specs.Images.{CountsAnswer, EachIsNumbered};
+    ghost use Rattle.sqimages.specs.Images.{epoch_count, IsCounted};
 
     /// Those of a player's files. None where the images are more than the limit.
-    pub fn of(player: &Player, limit: u64) -> Option<Counts>
-        ensures { CountsAnswer (files_of player.now) limit result }
+    fn of(player: &Player, epoch: Epoch, limit: u64) -> Option<EpochCounts>
+        ensures { MatchOption result (limit < epoch_count (files_of player.now) epoch)
+            (λ c. IsCounted (files_of player.now) epoch c × (c.images ≤ limit)) }
     {
-        let Some(db) = name_count(player.db(), limit) else {
+        let Some(db) = name_count(player.db(), epoch.db, limit) else {
             return None;
         };
-        let Some(wal) = name_count(player.wal(), limit) else {
+        let Some(wal) = name_count(player.wal(), epoch.wal, limit) else {
             return None;
         };
-        let Some(journal) = name_count(player.journal(), limit) else {
+        let Some(journal) = name_count(player.journal(), epoch.journal, limit) else {
             return None;
         };
         let Some(logs) = times(wal, journal, limit) else {
             return None;
         };
-        match times(db, logs, limit) {
-            Some(_) => Some(Counts { db, wal, journal }),
-            None => None,
+        let Some(images) = times(db, logs, limit) else {
+            return None;
+        };
+        Some(EpochCounts {
+            epoch,
+            db,
+            wal,
+            journal,
+            images,
+        })
+    }
+}
+
+/// In how many ways a crash may leave what is under the names of a player: those of each epoch, one after the other.
+#[derive(Drop)]
+pub struct Counts {
+    epochs: Vec<EpochCounts>,
+    images: u64,
+}
+
+impl Counts {
+    ghost use Rattle.std.specs.Prelude.{◌≡◌, ◌+◌};
+    ghost use Rattle.sqplay.specs.Plays.{files_of};
+    ghost use Rattle.sqimages.specs.Images.{CountsAnswer, numbered, EachIsNumbered, EachHasPlace};
+    ghost use Rattle.sqimages.specs.Adding.{IsAdded};
+
+    /// Those of a player's files. None where the images are more than the limit.
+    pub fn of(alloc: Global, player: &Player, limit: u64) -> Result<Option<Counts>, AllocError>
+        ensures { CountsAnswer (files_of player.now) limit result }
+    {
+        let mut counts = Counts {
+            epochs: Vec::new(alloc),
+            images: 0,
+        };
+        for epoch in player.earlier() {
+            if !counts.add(player, *epoch, limit)? {
+                return Ok(None);
+            }
         }
+        if !counts.add(player, player.epoch(), limit)? {
+            return Ok(None);
+        }
+        Ok(Some(counts))
+    }
+
+    /// Counts one epoch more, or answers false where the images are more than the limit then.
+    fn add(&mut self, player: &Player, epoch: Epoch, limit: u64) -> Result<bool, AllocError>
+        requires { self.old.images ≤ limit }
+        ensures { IfOk result (IsAdded (files_of player.now) epoch limit self.old self.new) }
+    {
+        let Some(more) = EpochCounts::of(player, epoch, limit - self.images) else {
+            return Ok(false);
+        };
+        self.epochs.push(more)?;
+        self.images += more.images;
+        Ok(true)
     }
 
     /// How many images there are.
     pub fn images(&self) -> u64
-        ensures { result ≡ self.now.db * (self.now.wal * self.now.journal) }
+        ensures { result ≡ self.now.images }
     {
-        self.db * (self.wal * self.journal)
+        self.images
     }
 
-    /// Each image has one number, below the count. It does nothing; its contract is that law.
+    /// Of which epoch the image of a number is, and its number there.
+    pub(crate) fn place(&self, n: u64) -> Option<(EpochCounts, u64)>
+        ensures { result ≡ numbered self.now.epochs.items n }
+    {
+        let mut rest = n;
+        for counts in &self.epochs {
+            if rest < counts.images {
+                return Some((*counts, rest));
+            }
+            rest -= counts.images;
+        }
+        None
+    }
+
+    /// Each three ways of the files are those of one image of an epoch. It does nothing; its contract is that law.
     pub fn number_each_image()
         ensures { EachIsNumbered }
+    {}
+
+    /// Each image of an epoch has one number, below the count. It does nothing; its contract is that law.
+    pub fn number_each_epoch(&self)
+        ensures { EachHasPlace self.now.epochs.items }
     {}
 }

@@ -3,13 +3,15 @@ ghost use Rattle.std.specs.Prelude.{◌≡◌, ◌<◌, ◌++◌, [], ℕ, List,
 ghost use Rattle.crashdisk.specs.State.{IsImage};
 ghost use Rattle.crashdisk.specs.Model.{state_of};
 ghost use Rattle.sqplay.specs.Names.{name_of};
-ghost use Rattle.sqplay.specs.Plays.{files_of};
+ghost use Rattle.std.specs.List.{Contains};
+ghost use Rattle.sqplay.specs.Plays.{files_of, epochs_of};
 ghost use Rattle.sqimages.specs.Left.{MayBeLeft, MayLeave};
 
+use crate::counts::{held_files, may_be_none};
 use crate::image::Image;
 use crashdisk::{Disk, DiskError, File, FileChoice, ModelDisk, Rest};
 use rand_core::Rng;
-use sqplay::{Name, Player};
+use sqplay::{Epoch, Holds, Name, Player};
 use std::alloc::{AllocError, Global};
 
 /// A number below another.
@@ -146,18 +148,20 @@ fn append_image(disk: &ModelDisk, choice: &FileChoice, out: &mut Vec<u8>) -> Res
     disk.image(File::Db, choice, out)
 }
 
-/// Puts there a file that may be left under a name: each that was made under it, or none, as often as any other.
+/// Puts there a file that may be left under a name that holds this: each of its files, or none, as often as any other.
 fn put_draw<R: Rng>(
     alloc: Global,
     rng: &mut R,
     name: &Name,
+    holds: Holds,
     out: &mut Vec<u8>,
 ) -> Result<(), DiskError>
-    ensures { OnOk result (MayBeLeft (name_of name.now) out.new.items) }
+    ensures { OnOk result (MayBeLeft (name_of name.now) holds out.new.items) }
 {
     out.clear();
-    let files = name.files();
-    let ways = (files.len() as u64).saturating_add(u64::from(name.maybe_none()));
+    let files = held_files(name, holds);
+    let none = may_be_none(name, holds);
+    let ways = (files.len() as u64).saturating_add(u64::from(none));
     if ways == 0 {
         return Ok(());
     }
@@ -167,6 +171,21 @@ fn put_draw<R: Rng>(
             append_image(disk, &choice, out)
         }
         None => Ok(()),
+    }
+}
+
+/// One of the epochs of a player, as often as any other.
+fn draw_epoch<R: Rng>(rng: &mut R, player: &Player) -> Epoch
+    ensures { Contains (epochs_of (files_of player.now)) result }
+{
+    let earlier = player.earlier();
+    if earlier.is_empty() {
+        return player.epoch();
+    }
+    let count = (earlier.len() as u64).saturating_add(1);
+    match earlier.get(below(rng, count) as usize) {
+        Some(epoch) => *epoch,
+        None => player.epoch(),
     }
 }
 
@@ -180,7 +199,14 @@ pub fn draw<R: Rng>(
 ) -> Result<(), DiskError>
     ensures { OnOk result (MayLeave (files_of player.now) image.new) }
 {
-    put_draw(alloc, rng, player.db(), &mut image.db)?;
-    put_draw(alloc, rng, player.wal(), &mut image.wal)?;
-    put_draw(alloc, rng, player.journal(), &mut image.journal)
+    let epoch = draw_epoch(rng, player);
+    put_draw(alloc, rng, player.db(), epoch.db, &mut image.db)?;
+    put_draw(alloc, rng, player.wal(), epoch.wal, &mut image.wal)?;
+    put_draw(
+        alloc,
+        rng,
+        player.journal(),
+        epoch.journal,
+        &mut image.journal,
+    )
 }

@@ -1,12 +1,13 @@
 //! What a crash left of a database file and its logs (own).
-ghost use Rattle.std.specs.Prelude.{◌≡◌, ◌++◌, ◌%◌, ◌/◌, OnOk};
+ghost use Rattle.std.specs.Prelude.{◌≡◌, ◌++◌, ◌%◌, ◌/◌, OnOk, map};
 ghost use Rattle.sqplay.specs.Names.{name_of};
-ghost use Rattle.sqimages.specs.Ways.{files_way};
+ghost use Rattle.crashdisk.specs.Model.{state_of};
+ghost use Rattle.sqimages.specs.Ways.{files_way, held_files};
 ghost use Rattle.sqimages.specs.Left.{ArePresentOf, file_now};
 
-use crate::counts::{Counts, file_count};
-use crashdisk::{DiskError, File};
-use sqplay::{Name, Player};
+use crate::counts::{Counts, EpochCounts, file_count, held_files};
+use crashdisk::{DiskError, File, ModelDisk};
+use sqplay::{Holds, Name, Player};
 use std::alloc::Global;
 
 /// What a crash left: the bytes of each file. One that is gone has none.
@@ -17,13 +18,13 @@ pub struct Image {
     pub journal: Vec<u8>,
 }
 
-/// Appends the file that is left under a name in the way of this number, or nothing: the choices of the files that were
-/// made under it, the oldest file first, and then none.
-fn append_way(name: &Name, n: u64, out: &mut Vec<u8>) -> Result<(), DiskError>
-    ensures { OnOk result (out.new.items ≡ out.old.items ++ files_way (name_of name.now).files n) }
+/// Appends one of these files in the way of this number, or nothing: the choices of each file, one file after the
+/// other, and then none.
+fn append_way(files: &[ModelDisk], n: u64, out: &mut Vec<u8>) -> Result<(), DiskError>
+    ensures { OnOk result (out.new.items ≡ out.old.items ++ files_way (map (λ d. state_of d) files.now) n) }
 {
     let mut rest = n;
-    for disk in name.files() {
+    for disk in files {
         match file_count(disk, rest) {
             Some(count) => rest -= count,
             None => {
@@ -37,12 +38,12 @@ fn append_way(name: &Name, n: u64, out: &mut Vec<u8>) -> Result<(), DiskError>
     Ok(())
 }
 
-/// Puts there the file that is left under a name in the way of this number.
-fn put_way(name: &Name, n: u64, out: &mut Vec<u8>) -> Result<(), DiskError>
-    ensures { OnOk result (out.new.items ≡ files_way (name_of name.now).files n) }
+/// Puts there the file that is left under a name that holds this, in the way of this number.
+fn put_way(name: &Name, holds: Holds, n: u64, out: &mut Vec<u8>) -> Result<(), DiskError>
+    ensures { OnOk result (out.new.items ≡ files_way (held_files (name_of name.now) holds) n) }
 {
     out.clear();
-    append_way(name, n, out)
+    append_way(held_files(name, holds), n, out)
 }
 
 /// Puts there the file that has a name now.
@@ -62,7 +63,7 @@ fn put_present(name: &Name, out: &mut Vec<u8>) -> Result<(), DiskError>
 impl Image {
     ghost use Rattle.std.specs.Prelude.{◌≡◌, [], OnOk};
     ghost use Rattle.sqplay.specs.Plays.{files_of};
-    ghost use Rattle.sqimages.specs.Images.{IsNumbered};
+    ghost use Rattle.sqimages.specs.Images.{IsNumbered, IsNumberedIn, IsNone};
     ghost use Rattle.sqimages.specs.Left.{IsPresent};
 
     /// No files.
@@ -78,15 +79,41 @@ impl Image {
         }
     }
 
-    /// Takes the image of this number, counted from 0, in place of what it has. The way of the database file changes
-    /// fastest, and that of the journal slowest. NoMemory alone, and then nothing is said of it.
+    /// Takes the image of this number, counted from 0, in place of what it has: those of the first epoch come first,
+    /// and in an epoch the way of the database file changes fastest, and that of the journal slowest. From the count
+    /// of images on there are no bytes. NoMemory alone, and then nothing is said of it.
     pub fn set(&mut self, player: &Player, counts: &Counts, n: u64) -> Result<(), DiskError>
         ensures { OnOk result (IsNumbered (files_of player.now) counts.now n self.new) }
     {
+        let Some((counts, number)) = counts.place(n) else {
+            self.clear();
+            return Ok(());
+        };
+        self.set_in(player, &counts, number)
+    }
+
+    /// Takes the image of this number of an epoch.
+    fn set_in(&mut self, player: &Player, counts: &EpochCounts, n: u64) -> Result<(), DiskError>
+        ensures { OnOk result (IsNumberedIn (files_of player.now) counts.now n self.new) }
+    {
+        let epoch = counts.epoch;
         let logs = n / counts.db;
-        put_way(player.db(), n % counts.db, &mut self.db)?;
-        put_way(player.wal(), logs % counts.wal, &mut self.wal)?;
-        put_way(player.journal(), logs / counts.wal, &mut self.journal)
+        put_way(player.db(), epoch.db, n % counts.db, &mut self.db)?;
+        put_way(player.wal(), epoch.wal, logs % counts.wal, &mut self.wal)?;
+        put_way(
+            player.journal(),
+            epoch.journal,
+            logs / counts.wal,
+            &mut self.journal,
+        )
+    }
+
+    fn clear(&mut self)
+        ensures { IsNone self.new }
+    {
+        self.db.clear();
+        self.wal.clear();
+        self.journal.clear();
     }
 
     /// Takes the present files in place of what it has. NoMemory alone, and then nothing is said of it.

@@ -4,7 +4,9 @@
 mod counts;
 mod draws;
 mod image;
+mod laws;
 
 pub use counts::Counts;
 pub use draws::draw;
 pub use image::Image;
+pub use laws::what_order_leaves;

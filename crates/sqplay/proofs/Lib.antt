@@ -1,3 +1,4 @@
 pub mod Records
 pub mod Lasts
 pub mod Playing
+pub mod Settling

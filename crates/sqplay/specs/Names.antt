@@ -1,22 +1,29 @@
 -- What a crash may leave under a name (own).
-use Rattle.std.specs.Prelude.{◌≡◌, ◌⊎◌, ℕ, ◌-◌, Bool, true, false, cond, List, [], ◌∷◌, ◌++◌, length, drop, map}
+use Rattle.std.specs.Prelude.{◌≡◌, ◌⊎◌, ℕ, ◌-◌, ◌<◌, min, Bool, true, false, cond, List, [], ◌∷◌, ◌++◌, length, take, drop, map}
 use Rattle.crashdisk.specs.Call.{DiskState, IsNew}
+use Rattle.crashdisk.specs.Ending.{EndsDb}
 use Rattle.crashdisk.specs.Model.{state_of}
+use Rattle.sqplay.specs.Files.{IsCut, IsSynced}
+use Rattle.sqplay.specs.declared.meta.Meta.{Meta}
+use Rattle.sqplay.specs.declared.meta.Meta.TheVariants.{Parts}
 use Rattle.sqplay.specs.declared.name.Name.{Name}
 
 -- The files that a crash may leave under a name, each the database of a disk: those that were made under it since the folder was
--- last synced, or stood there then, the oldest first; whether it may leave none; and whether the name is gone now.
+-- last synced, or stood there then, the oldest first, and behind each those that whole truncations left of it; the place in that list
+-- of the file that was made last, as it was before the first of its truncations that may not be down; whether a crash may leave none;
+-- and whether the name is gone now. The present file is the last.
 pub record NameState : Type 0 where
   pub files : List DiskState
+  pub made : ℕ
   pub maybe_none : Bool
   pub gone : Bool
 
 abbrev pub name_of : Name → NameState
-name_of n = record { files = map (λ d. state_of d) n.files.items; maybe_none = n.maybe_none; gone = n.gone }
+name_of n = record { files = map (λ d. state_of d) n.files.items; made = n.made; maybe_none = n.maybe_none; gone = n.gone }
 
 -- nothing is there, and that is down
 abbrev pub no_file : NameState
-no_file = record { files = []; maybe_none = true; gone = true }
+no_file = record { files = []; made = 0; maybe_none = true; gone = true }
 
 -- the file that was made last goes over so; where there is none nothing does
 abbrev pub LastGoes : (DiskState → DiskState → Type 0) → (old new : NameState) → Type 0
@@ -25,12 +32,42 @@ LastGoes P old new = ((old.files ≡ []) × (new ≡ old))
 
 -- a file with these bytes alone, which is down
 abbrev pub IsBase : (sector : ℕ) (tears : Bool) (bytes : List ℕ) → NameState → Type 0
-IsBase sector tears bytes s = (d : DiskState) × IsNew sector tears bytes d × (s ≡ record { files = d ∷ []; maybe_none = false; gone = false })
+IsBase sector tears bytes s = (d : DiskState) × IsNew sector tears bytes d × (s ≡ record { files = d ∷ []; made = 0; maybe_none = false; gone = false })
 
 -- a new file without bytes, beside those that were there
 abbrev pub Makes : (sector : ℕ) (tears : Bool) (old new : NameState) → Type 0
-Makes sector tears old new = (d : DiskState) × IsNew sector tears [] d × (new ≡ record old { files = old.files ++ d ∷ []; gone = false })
+Makes sector tears old new =
+    (d : DiskState) × IsNew sector tears [] d × (new ≡ record old { files = old.files ++ d ∷ []; made = length old.files; gone = false })
 
--- after a sync of the folder: the file that is there now, or none
+-- the present file is longer than this
+abbrev pub IsLonger : (n : ℕ) → NameState → Type 0
+IsLonger n s = (front : List DiskState) × (last : DiskState) × (s.files ≡ front ++ last ∷ []) × (n < last.db.len)
+
+-- A whole truncation: the present file stays among those that a crash may leave, and the present one is the same, ended at n.
+-- One that failed does nothing.
+abbrev pub CutsWhole : (n : ℕ) (fails : Bool) → (old new : NameState) → Type 0
+CutsWhole n true old new = new ≡ old
+CutsWhole n false old new =
+    (front : List DiskState) × (was : DiskState) × (now : DiskState) × (old.files ≡ front ++ was ∷ []) × EndsDb n was now × (new ≡ record old { files = old.files ++ now ∷ [] })
+
+-- Another length. In parts it changes the present file; otherwise one that shortens it does so as a whole.
+abbrev pub Cuts : Meta → (n : ℕ) (fails : Bool) → (old new : NameState) → Type 0
+Cuts Parts n fails old new = LastGoes (IsCut n fails) old new
+Cuts _ n fails old new = (IsLonger n old × CutsWhole n fails old new) ⊎ (¬ IsLonger n old × LastGoes (IsCut n fails) old new)
+
+-- the truncations of the present file are down: of what was made last it alone is left
+abbrev pub without_uncut : NameState → NameState
+without_uncut s = record s { files = take (min s.made (length s.files - 1)) s.files ++ drop (length s.files - 1) s.files }
+
+-- a sync; where truncations go down as a whole, one that succeeded has them down
+abbrev pub Syncs : Meta → (fails : Bool) → (old new : NameState) → Type 0
+Syncs Parts fails old new = LastGoes (IsSynced fails) old new
+Syncs _ fails old new = (mid : NameState) × LastGoes (IsSynced fails) old mid × (new ≡ cond fails mid (without_uncut mid))
+
+-- of what was made the last alone is left, with what whole truncations left of it
+abbrev pub last_made : NameState → NameState
+last_made s = record s { files = drop (min s.made (length s.files - 1)) s.files }
+
+-- after a sync of the folder: what is there now, or none
 abbrev pub only_now : NameState → NameState
-only_now s = record { files = cond s.gone [] (drop (length s.files - 1) s.files); maybe_none = s.gone; gone = s.gone }
+only_now s = record { files = cond s.gone [] (last_made s).files; made = 0; maybe_none = s.gone; gone = s.gone }

@@ -1,10 +1,15 @@
 -- What the records of a trace do to a database file and its two logs (own).
-use Rattle.std.specs.Prelude.{◌≡◌, ◌⊎◌, ℕ, ◌+◌, Bool, true, false, cond, List, [], ◌∷◌, length}
+use Rattle.std.specs.Prelude.{◌≡◌, ◌≢◌, ◌⊎◌, ℕ, ◌+◌, ◌-◌, Bool, true, false, cond, List, [], ◌∷◌, ◌++◌, length}
 use Rattle.sqplay.specs.Trace.{has_failed, bytes_of}
-use Rattle.sqplay.specs.Files.{IsWritten, IsCut, IsSynced, FileRefused}
+use Rattle.sqplay.specs.Files.{IsWritten, FileRefused}
 use Rattle.sqplay.specs.declared.error.PlayError.{PlayError}
-use Rattle.sqplay.specs.declared.error.PlayError.TheVariants.{NotHeld, Renamed}
-use Rattle.sqplay.specs.Names.{NameState, name_of, no_file, LastGoes, IsBase, Makes, only_now}
+use Rattle.sqplay.specs.declared.error.PlayError.TheVariants.{NotHeld, Renamed, NoMemory}
+use Rattle.sqplay.specs.Names.{NameState, name_of, no_file, LastGoes, IsBase, Makes, Cuts, Syncs, only_now}
+use Rattle.sqplay.specs.declared.meta.Epoch.{Epoch}
+use Rattle.sqplay.specs.declared.meta.Holds.{Holds}
+use Rattle.sqplay.specs.declared.meta.Holds.TheVariants.{Any, Nothing, File}
+use Rattle.sqplay.specs.declared.meta.Meta.{Meta}
+use Rattle.sqplay.specs.declared.meta.Meta.TheVariants.{Ordered}
 use Rattle.sqplay.specs.declared.trace.Kind.{Kind}
 use Rattle.sqplay.specs.declared.trace.Kind.TheVariants as kinds
 use Rattle.sqplay.specs.declared.trace.Subject.{Subject}
@@ -12,32 +17,47 @@ use Rattle.sqplay.specs.declared.trace.Subject.TheVariants as subjects
 use Rattle.sqplay.specs.declared.trace.Record.{Record}
 use Rattle.sqplay.specs.declared.player.Player.{Player}
 
--- what is under the three names, and how the files were made
+-- How the files were made and go down, what is under the three names, and where metadata goes down in order what these held before
+-- each change that may not be down, the oldest first.
 pub record Files : Type 0 where
   pub sector : ℕ
   pub tears : Bool
+  pub meta : Meta
   pub db : NameState
   pub wal : NameState
   pub journal : NameState
+  pub earlier : List Epoch
 
 abbrev pub files_of : Player → Files
-files_of p = record { sector = p.manner.sector; tears = p.manner.tears; db = name_of p.db; wal = name_of p.wal; journal = name_of p.journal }
+files_of p = record { sector = p.manner.sector; tears = p.manner.tears; meta = p.manner.meta; db = name_of p.db; wal = name_of p.wal; journal = name_of p.journal; earlier = p.earlier.items }
 
 -- none is there
-abbrev pub no_files : (sector : ℕ) (tears : Bool) → Files
-no_files sector tears = record { sector = sector; tears = tears; db = no_file; wal = no_file; journal = no_file }
+abbrev pub no_files : (sector : ℕ) (tears : Bool) → Meta → Files
+no_files sector tears meta = record { sector = sector; tears = tears; meta = meta; db = no_file; wal = no_file; journal = no_file; earlier = [] }
+
+-- what a name holds after a crash that comes now, where all changes are down: where metadata goes down in order, what it has
+abbrev pub holds_now : Meta → NameState → Holds
+holds_now Ordered s = cond s.gone Nothing (File (length s.files - 1))
+holds_now _ s = Any
+
+abbrev pub epoch_now : Files → Epoch
+epoch_now s = record { db = holds_now s.meta s.db; wal = holds_now s.meta s.wal; journal = holds_now s.meta s.journal }
+
+-- each state of the three names that a crash may leave
+abbrev pub epochs_of : Files → List Epoch
+epochs_of s = s.earlier ++ epoch_now s ∷ []
 
 -- what the call of a record does to the name that it speaks of
-abbrev pub CallDoes : Kind → (sector : ℕ) (tears : Bool) → List ℕ → Record → (old new : NameState) → Type 0
-CallDoes kinds.Base sector tears b r old new = IsBase sector tears (bytes_of b r) new
-CallDoes kinds.Open sector tears b r old new = ((r.place ≡ 1) × Makes sector tears old new) ⊎ ((r.place ≡ 1 → ⊥) × (new ≡ old))
-CallDoes kinds.Write sector tears b r old new = LastGoes (IsWritten r.place (bytes_of b r) (has_failed r)) old new
-CallDoes kinds.Cut sector tears b r old new = LastGoes (IsCut r.place (has_failed r)) old new
-CallDoes kinds.Sync sector tears b r old new = LastGoes (IsSynced (has_failed r)) old new
-CallDoes kinds.Unlink sector tears b r old new = new ≡ cond (has_failed r) old (record old { maybe_none = true; gone = true })
-CallDoes kinds.Rename sector tears b r old new = (has_failed r ≡ true) × (new ≡ old)
-CallDoes kinds.NotHeld sector tears b r old new = ⊥
-CallDoes _ sector tears b r old new = new ≡ old
+abbrev pub CallDoes : Kind → (sector : ℕ) (tears : Bool) → Meta → List ℕ → Record → (old new : NameState) → Type 0
+CallDoes kinds.Base sector tears meta b r old new = IsBase sector tears (bytes_of b r) new
+CallDoes kinds.Open sector tears meta b r old new = ((r.place ≡ 1) × Makes sector tears old new) ⊎ ((r.place ≡ 1 → ⊥) × (new ≡ old))
+CallDoes kinds.Write sector tears meta b r old new = LastGoes (IsWritten r.place (bytes_of b r) (has_failed r)) old new
+CallDoes kinds.Cut sector tears meta b r old new = Cuts meta r.place (has_failed r) old new
+CallDoes kinds.Sync sector tears meta b r old new = Syncs meta (has_failed r) old new
+CallDoes kinds.Unlink sector tears meta b r old new = new ≡ cond (has_failed r) old (record old { maybe_none = true; gone = true })
+CallDoes kinds.Rename sector tears meta b r old new = (has_failed r ≡ true) × (new ≡ old)
+CallDoes kinds.NotHeld sector tears meta b r old new = ⊥
+CallDoes _ sector tears meta b r old new = new ≡ old
 
 -- one name changes so, and nothing else; what is under another name isn't kept
 abbrev pub OneGoes : Subject → (NameState → NameState → Type 0) → (old new : Files) → Type 0
@@ -50,11 +70,39 @@ OneGoes _ P old new = ((other : NameState) × P no_file other) × (new ≡ old)
 abbrev pub all_now : Files → Files
 all_now s = record s { db = only_now s.db; wal = only_now s.wal; journal = only_now s.journal }
 
+-- what a record does to the names
+abbrev pub NamesGo : List ℕ → Record → (old new : Files) → Type 0
+NamesGo b r old new =
+    ((r.subject ≡ subjects.Folder) × (new ≡ cond (has_failed r) old (all_now old)))
+    ⊎ ((r.subject ≡ subjects.Folder → ⊥) × OneGoes r.subject (CallDoes r.kind old.sector old.tears old.meta b r) old new)
+
+-- A record of this has all changes of names and lengths before it down: a sync of a file or of the folder that succeeded, and a
+-- file that was there at first.
+abbrev pub file_brings_down : Kind → (fails : Bool) → Bool
+file_brings_down kinds.Base fails = true
+file_brings_down kinds.Sync fails = cond fails false true
+file_brings_down _ fails = false
+
+abbrev pub brings_down : Subject → Kind → (fails : Bool) → Bool
+brings_down subjects.Db kind fails = file_brings_down kind fails
+brings_down subjects.Wal kind fails = file_brings_down kind fails
+brings_down subjects.Journal kind fails = file_brings_down kind fails
+brings_down subjects.Folder kind fails = cond fails false true
+brings_down _ kind fails = false
+
+abbrev pub has_all_down : Record → Bool
+has_all_down r = brings_down r.subject r.kind (has_failed r)
+
+-- What the names held before each change that may not be down: nothing where all are down, and what they held last where that is
+-- something else now.
+abbrev pub Follows : (all_down : Bool) (before after : Epoch) (old new : List Epoch) → Type 0
+Follows true before after old new = new ≡ []
+Follows false before after old new = ((after ≡ before) × (new ≡ old)) ⊎ ((after ≢ before) × (new ≡ old ++ before ∷ []))
+
 -- one record is played
 abbrev pub Step : List ℕ → Record → (old new : Files) → Type 0
-Step b r old new =
-    ((r.subject ≡ subjects.Folder) × (new ≡ cond (has_failed r) old (all_now old)))
-    ⊎ ((r.subject ≡ subjects.Folder → ⊥) × OneGoes r.subject (CallDoes r.kind old.sector old.tears b r) old new)
+Step b r old new = (mid : Files) × NamesGo b r old mid × Follows (has_all_down r) (epoch_now old) (epoch_now mid) mid.earlier new.earlier
+    × (new ≡ record mid { earlier = new.earlier })
 
 -- records are played, one after the other
 abbrev pub Plays : List ℕ → List Record → (old new : Files) → Type 0
@@ -72,11 +120,11 @@ CallRefused kinds.Rename b r e = (e ≡ Renamed) × (has_failed r ≡ false)
 CallRefused kinds.NotHeld b r e = e ≡ NotHeld
 CallRefused _ b r e = ⊥
 
--- what refuses to play a record
-abbrev pub StepRefused : List ℕ → Record → PlayError → Type 0
-StepRefused b r e = (r.subject ≡ subjects.Folder → ⊥) × CallRefused r.kind b r e
+-- what refuses to play a record; where metadata goes down in order, what the names held may want memory
+abbrev pub StepRefused : Meta → List ℕ → Record → PlayError → Type 0
+StepRefused meta b r e = ((r.subject ≡ subjects.Folder → ⊥) × CallRefused r.kind b r e) ⊎ ((meta ≡ Ordered) × (e ≡ NoMemory))
 
 -- what refuses to play records: the first that can't be played
 abbrev pub PlaysRefused : List ℕ → List Record → (old : Files) → PlayError → Type 0
 PlaysRefused b [] old e = ⊥
-PlaysRefused b (r ∷ records) old e = StepRefused b r e ⊎ ((mid : Files) × Step b r old mid × PlaysRefused b records mid e)
+PlaysRefused b (r ∷ records) old e = StepRefused old.meta b r e ⊎ ((mid : Files) × Step b r old mid × PlaysRefused b records mid e)

@@ -1,12 +1,12 @@
 //! What the call of a record does to the name that it speaks of (own).
-ghost use Rattle.std.specs.Prelude.{IsTrue, OnOk, IfErr};
+ghost use Rattle.std.specs.Prelude.{◌≡◌, IsTrue, OnOk, IfErr};
 ghost use Rattle.crashdisk.specs.Solid.{is_sector_size};
 ghost use Rattle.sqplay.specs.Names.{name_of};
-ghost use Rattle.sqplay.specs.Plays.{CallDoes, CallRefused};
+ghost use Rattle.sqplay.specs.Plays.{CallDoes, CallRefused, has_all_down};
 
 use crate::error::PlayError;
 use crate::name::{Manner, Name};
-use crate::trace::{Kind, Record};
+use crate::trace::{Kind, Record, Subject};
 
 /// Plays a record that speaks of a name.
 pub(crate) fn play_call(
@@ -16,8 +16,8 @@ pub(crate) fn play_call(
     call: &Record,
 ) -> Result<(), PlayError>
     requires { IsTrue (is_sector_size manner.now.sector) }
-    ensures does { OnOk result (CallDoes call.now.kind manner.now.sector manner.now.tears trace.now call.now
-        (name_of name.old) (name_of name.new)) }
+    ensures does { OnOk result (CallDoes call.now.kind manner.now.sector manner.now.tears manner.now.meta trace.now
+        call.now (name_of name.old) (name_of name.new)) }
     ensures refused { IfErr result (CallRefused call.now.kind trace.now call.now) }
 {
     let fails = call.has_failed();
@@ -33,8 +33,8 @@ pub(crate) fn play_call(
             Ok(())
         }
         Kind::Write => name.write(manner.alloc, call.place, call.bytes(trace), fails),
-        Kind::Cut => name.cut(manner.alloc, call.place, fails),
-        Kind::Sync => name.sync(manner.alloc, fails),
+        Kind::Cut => name.cut(manner, call.place, fails),
+        Kind::Sync => name.sync(manner, fails),
         Kind::Unlink => {
             if !fails {
                 name.unlink();
@@ -45,5 +45,20 @@ pub(crate) fn play_call(
         Kind::Rename => Err(PlayError::Renamed),
         Kind::NotHeld => Err(PlayError::NotHeld),
         Kind::Close | Kind::FolderSync | Kind::Mark => Ok(()),
+    }
+}
+
+/// Whether all changes of names and lengths before a record are down behind it.
+pub(crate) fn has_all_down(call: &Record) -> bool
+    ensures { result ≡ has_all_down call.now }
+{
+    match call.subject {
+        Subject::Folder => !call.has_failed(),
+        Subject::Db | Subject::Wal | Subject::Journal => match call.kind {
+            Kind::Base => true,
+            Kind::Sync => !call.has_failed(),
+            _ => false,
+        },
+        Subject::Marks | Subject::Other => false,
     }
 }

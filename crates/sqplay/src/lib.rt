@@ -3,11 +3,13 @@
 
 mod calls;
 mod error;
+mod meta;
 mod name;
 mod player;
 mod trace;
 
 pub use error::PlayError;
+pub use meta::{Epoch, Holds, Meta};
 pub use name::Name;
 pub use player::Player;
 pub use trace::{Kind, Record, Subject, Trace, TraceError};

@@ -1,20 +1,23 @@
 //! A name, and the files that a crash may leave under it (own).
 ghost use Rattle.std.specs.Prelude.{◌≡◌, ◌<◌, ◌≤◌, ◌+◌, ◌^◌, IsTrue, [], ℕ, length, OnOk, IfOk, IfErr};
 ghost use Rattle.crashdisk.specs.Call.{IsNew, EndsWithin};
+ghost use Rattle.crashdisk.specs.Ending.{EndsDb};
 ghost use Rattle.crashdisk.specs.Model.{state_of};
 ghost use Rattle.crashdisk.specs.Solid.{is_sector_size};
 ghost use Rattle.sqplay.specs.Files.{answer_of, IsWritten, IsCut, IsSynced, FileRefused};
 
 use crate::error::PlayError;
+use crate::meta::{Holds, Meta};
 use crashdisk::{Disk, DiskError, File, ModelDisk, Part};
 use std::alloc::Global;
 
-/// What a modelled disk is made with.
+/// What a modelled disk is made with, and how metadata goes down.
 #[derive(Clone, Copy)]
 pub(crate) struct Manner {
     pub(crate) alloc: Global,
     pub(crate) sector: usize,
     pub(crate) tears: bool,
+    pub(crate) meta: Meta,
 }
 
 impl Manner {
@@ -94,6 +97,16 @@ fn cut_file(disk: &mut ModelDisk, alloc: Global, end: u64, fails: bool) -> Resul
     told(disk.set_len(File::Db, end), fails)
 }
 
+/// The file of a disk, ended at a length.
+fn ended(disk: &ModelDisk, end: u64) -> Result<ModelDisk, PlayError>
+    ensures does { IfOk result (λ d. EndsDb end (state_of disk.now) (state_of d)) }
+    ensures refused { IfErr result (FileRefused end) }
+{
+    let mut cut = disk.copy()?;
+    cut.end_db(end);
+    Ok(cut)
+}
+
 /// Syncs the file of a disk.
 fn sync_file(disk: &mut ModelDisk, alloc: Global, fails: bool) -> Result<(), PlayError>
     ensures does { OnOk result (IsSynced fails (state_of disk.old) (state_of disk.new)) }
@@ -106,8 +119,11 @@ fn sync_file(disk: &mut ModelDisk, alloc: Global, fails: bool) -> Result<(), Pla
 /// The files that a crash may leave under a name. Each is the database file of a modelled disk.
 #[derive(Drop)]
 pub struct Name {
-    /// Those that were made under it and are not gone for good, the oldest first.
+    /// Those that were made under it and are not gone for good, the oldest first, and behind each those that whole
+    /// truncations left of it.
     pub(crate) files: Vec<ModelDisk>,
+    /// Where in that list the one stands that was made last, as it was before the truncations that may not be down.
+    pub(crate) made: usize,
     /// Whether a crash may leave none.
     pub(crate) maybe_none: bool,
     /// Whether the name is gone now.
@@ -115,14 +131,16 @@ pub struct Name {
 }
 
 impl Name {
-    ghost use Rattle.std.specs.Prelude.{◌≡◌, IsTrue, true, ◌+◌, length, OnOk, IfOk, IfErr, map};
+    ghost use Rattle.std.specs.Prelude.{◌≡◌, ◌↔◌, IsTrue, true, ◌+◌, length, OnOk, IfOk, IfErr, map};
     ghost use Rattle.crashdisk.specs.Model.{state_of};
     ghost use Rattle.crashdisk.specs.Solid.{is_sector_size};
     ghost use Rattle.sqplay.specs.Files.{IsWritten, IsCut, IsSynced, FileRefused};
-    ghost use Rattle.sqplay.specs.Names.{name_of, no_file, LastGoes, IsBase, Makes, only_now};
+    ghost use Rattle.sqplay.specs.Names.{name_of, no_file, LastGoes, IsBase, Makes, IsLonger, CutsWhole, Cuts, Syncs};
+    ghost use Rattle.sqplay.specs.Names.{without_uncut, last_made, only_now};
+    ghost use Rattle.sqplay.specs.Plays.{holds_now};
 
-    /// Those that were made under it and are not gone for good, the oldest first. A crash may leave an image of one of
-    /// them.
+    /// Those that were made under it and are not gone for good, the oldest first, and behind each those that whole
+    /// truncations left of it. A crash may leave an image of one of them.
     pub fn files(&self) -> &[ModelDisk]
         ensures { map (λ d. state_of d) result.now ≡ (name_of self.now).files }
     {
@@ -143,12 +161,24 @@ impl Name {
         self.gone
     }
 
+    /// What it holds after a crash that comes when all changes are down.
+    pub(crate) fn holds(&self, meta: Meta) -> Holds
+        ensures { result ≡ holds_now meta (name_of self.now) }
+    {
+        match meta {
+            Meta::Ordered if self.gone => Holds::Nothing,
+            Meta::Ordered => Holds::File(self.files.len().saturating_sub(1)),
+            Meta::Parts | Meta::Whole => Holds::Any,
+        }
+    }
+
     /// Nothing is there, and that is down.
     pub(crate) fn nothing(alloc: Global) -> Name
         ensures { name_of result ≡ no_file }
     {
         Name {
             files: Vec::new(alloc),
+            made: 0,
             maybe_none: true,
             gone: true,
         }
@@ -165,6 +195,7 @@ impl Name {
         files.push(manner.disk(copy)?)?;
         Ok(Name {
             files,
+            made: 0,
             maybe_none: false,
             gone: false,
         })
@@ -177,7 +208,9 @@ impl Name {
         ensures refused { IfErr result (FileRefused 0) }
     {
         let disk = manner.disk(Vec::new(manner.alloc))?;
+        let made = self.files.len();
         self.files.push(disk)?;
+        self.made = made;
         self.gone = false;
         Ok(())
     }
@@ -190,7 +223,7 @@ impl Name {
         self.gone = true;
     }
 
-    /// Bytes were written into the file that was made last.
+    /// Bytes were written into the present file.
     pub(crate) fn write(
         &mut self,
         alloc: Global,
@@ -208,8 +241,30 @@ impl Name {
         write_file(&mut self.files[last], alloc, at, bytes, fails)
     }
 
-    /// The length of the file that was made last was changed.
-    pub(crate) fn cut(&mut self, alloc: Global, end: u64, fails: bool) -> Result<(), PlayError>
+    /// The length of the present file was changed.
+    pub(crate) fn cut(&mut self, manner: &Manner, end: u64, fails: bool) -> Result<(), PlayError>
+        ensures does { OnOk result (Cuts manner.now.meta end fails (name_of self.old) (name_of self.new)) }
+        ensures refused { IfErr result (FileRefused end) }
+    {
+        match manner.meta {
+            Meta::Whole | Meta::Ordered if self.is_longer(end) => self.cut_whole(end, fails),
+            _ => self.cut_parts(manner.alloc, end, fails),
+        }
+    }
+
+    /// Whether the present file is longer than this.
+    fn is_longer(&self, end: u64) -> bool
+        ensures { IsTrue result ↔ IsLonger end (name_of self.now) }
+    {
+        if self.files.is_empty() {
+            return false;
+        }
+        let last = self.files.len() - 1;
+        end < self.files[last].present_len(File::Db)
+    }
+
+    /// The present file gets another length, which may be there in part.
+    fn cut_parts(&mut self, alloc: Global, end: u64, fails: bool) -> Result<(), PlayError>
         ensures does { OnOk result (LastGoes (IsCut end fails) (name_of self.old) (name_of self.new)) }
         ensures refused { IfErr result (FileRefused end) }
     {
@@ -220,8 +275,36 @@ impl Name {
         cut_file(&mut self.files[last], alloc, end, fails)
     }
 
-    /// The file that was made last was synced.
-    pub(crate) fn sync(&mut self, alloc: Global, fails: bool) -> Result<(), PlayError>
+    /// It is ended at a length, and stays beside that.
+    fn cut_whole(&mut self, end: u64, fails: bool) -> Result<(), PlayError>
+        requires { IsLonger end (name_of self.old) }
+        ensures does { OnOk result (CutsWhole end fails (name_of self.old) (name_of self.new)) }
+        ensures refused { IfErr result (FileRefused end) }
+    {
+        if fails || self.files.is_empty() {
+            return Ok(());
+        }
+        let last = self.files.len() - 1;
+        let cut = ended(&self.files[last], end)?;
+        self.files.push(cut)?;
+        Ok(())
+    }
+
+    /// The present file was synced.
+    pub(crate) fn sync(&mut self, manner: &Manner, fails: bool) -> Result<(), PlayError>
+        ensures does { OnOk result (Syncs manner.now.meta fails (name_of self.old) (name_of self.new)) }
+        ensures refused { IfErr result (FileRefused 0) }
+    {
+        self.sync_last(manner.alloc, fails)?;
+        match manner.meta {
+            Meta::Whole | Meta::Ordered if !fails => self.forget_uncut(),
+            _ => {}
+        }
+        Ok(())
+    }
+
+    /// It was synced, and nothing is said of its truncations.
+    fn sync_last(&mut self, alloc: Global, fails: bool) -> Result<(), PlayError>
         ensures does { OnOk result (LastGoes (IsSynced fails) (name_of self.old) (name_of self.new)) }
         ensures refused { IfErr result (FileRefused 0) }
     {
@@ -232,17 +315,42 @@ impl Name {
         sync_file(&mut self.files[last], alloc, fails)
     }
 
-    /// The folder was synced: what the name has now stays.
+    /// The truncations of the present file are down.
+    fn forget_uncut(&mut self)
+        ensures { name_of self.new ≡ without_uncut (name_of self.old) }
+    {
+        if self.files.is_empty() {
+            return;
+        }
+        let last = self.files.len() - 1;
+        let first = self.made.min(last);
+        self.files.swap(first, last);
+        self.files.truncate(first + 1);
+    }
+
+    /// Of what was made under it the last alone is left, with what truncations may leave of that.
+    fn forget_older(&mut self)
+        ensures { name_of self.new ≡ last_made (name_of self.old) }
+    {
+        if self.files.is_empty() {
+            return;
+        }
+        let count = self.files.len();
+        let first = self.made.min(count - 1);
+        self.files.rotate_left(first);
+        self.files.truncate(count - first);
+    }
+
+    /// The folder was synced: what the name has now stays, with what truncations may leave of it.
     pub(crate) fn settle(&mut self)
         ensures { name_of self.new ≡ only_now (name_of self.old) }
     {
         if self.gone {
             self.files.clear();
-        } else if self.files.len() > 1 {
-            let last = self.files.len() - 1;
-            self.files.swap(0, last);
-            self.files.truncate(1);
+        } else {
+            self.forget_older();
         }
+        self.made = 0;
         self.maybe_none = self.gone;
     }
 }

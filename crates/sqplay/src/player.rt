@@ -3,8 +3,9 @@ ghost use Rattle.std.specs.Prelude.{◌≡◌, ◌⊎◌, IsTrue, OnOk};
 ghost use Rattle.crashdisk.specs.Solid.{is_sector_size};
 ghost use Rattle.sqplay.specs.Names.{name_of};
 
-use crate::calls::play_call;
+use crate::calls::{has_all_down, play_call};
 use crate::error::PlayError;
+use crate::meta::{Epoch, Meta};
 use crate::name::{Manner, Name};
 use crate::trace::{Record, Subject};
 use std::alloc::Global;
@@ -16,30 +17,37 @@ pub struct Player {
     db: Name,
     wal: Name,
     journal: Name,
+    /// What the names held before each change that may not be down, the oldest first.
+    earlier: Vec<Epoch>,
     ghost is_size: { IsTrue (is_sector_size manner.sector) },
 }
 
 impl Player {
-    ghost use Rattle.std.specs.Prelude.{◌≡◌, IsTrue, OnOk, IfErr};
+    ghost use Rattle.std.specs.Prelude.{◌≡◌, ◌≢◌, IsTrue, OnOk, IfErr};
     ghost use Rattle.crashdisk.specs.Solid.{is_sector_size};
+    ghost use Rattle.sqplay.specs.declared.error.PlayError.TheVariants.{NoMemory};
+    ghost use Rattle.sqplay.specs.declared.trace.Subject.TheVariants.{Folder};
     ghost use Rattle.sqplay.specs.Names.{name_of};
-    ghost use Rattle.sqplay.specs.Plays.{files_of, no_files, Step, StepRefused, Plays, PlaysRefused};
+    ghost use Rattle.sqplay.specs.Plays.{files_of, no_files, epoch_now, NamesGo, Step, StepRefused, Plays};
+    ghost use Rattle.sqplay.specs.Plays.{Follows, CallRefused, PlaysRefused};
 
     /// None of the files is there. The disks have sectors of this size, a power of two from 512 to 65536 bytes, and
-    /// tear or not.
-    pub fn new(alloc: Global, sector: usize, tears: bool) -> Player
+    /// tear or not; metadata goes down so.
+    pub fn new(alloc: Global, sector: usize, tears: bool, meta: Meta) -> Player
         requires { IsTrue (is_sector_size sector) }
-        ensures { files_of result ≡ no_files sector tears }
+        ensures { files_of result ≡ no_files sector tears meta }
     {
         Player {
             manner: Manner {
                 alloc,
                 sector,
                 tears,
+                meta,
             },
             db: Name::nothing(alloc),
             wal: Name::nothing(alloc),
             journal: Name::nothing(alloc),
+            earlier: Vec::new(alloc),
         }
     }
 
@@ -64,11 +72,42 @@ impl Player {
         &self.journal
     }
 
+    /// What the names held before each change that may not be down, the oldest first. Only where metadata goes down in
+    /// order there are any: a crash leaves what one of these epochs holds, or the present one.
+    pub fn earlier(&self) -> &[Epoch]
+        ensures { result.now ≡ (files_of self.now).earlier }
+    {
+        self.earlier.as_slice()
+    }
+
+    /// What the names hold after a crash that comes when all changes of names and lengths are down.
+    pub fn epoch(&self) -> Epoch
+        ensures { result ≡ epoch_now (files_of self.now) }
+    {
+        let meta = self.manner.meta;
+        Epoch {
+            db: self.db.holds(meta),
+            wal: self.wal.holds(meta),
+            journal: self.journal.holds(meta),
+        }
+    }
+
     /// Plays one record of a trace. Refused by NotHeld, Renamed (of a rename that didn't fail), TooLong and NoMemory,
     /// after which nothing is said of the files.
     pub fn play(&mut self, trace: &[u8], call: &Record) -> Result<(), PlayError>
         ensures step { OnOk result (Step trace.now call.now (files_of self.old) (files_of self.new)) }
-        ensures refused { IfErr result (StepRefused trace.now call.now) }
+        ensures refused { IfErr result (StepRefused (files_of self.old).meta trace.now call.now) }
+    {
+        let before = self.epoch();
+        self.go(trace, call)?;
+        self.follow(before, has_all_down(call))
+    }
+
+    /// Plays a record on the names.
+    fn go(&mut self, trace: &[u8], call: &Record) -> Result<(), PlayError>
+        ensures goes { OnOk result (NamesGo trace.now call.now (files_of self.old) (files_of self.new)) }
+        ensures refused { IfErr result
+            (λ e. (call.now.subject ≡ Folder → ⊥) × CallRefused call.now.kind trace.now call.now e) }
     {
         let manner = self.manner;
         match call.subject {
@@ -88,6 +127,21 @@ impl Player {
                 play_call(&mut other, &manner, trace, call)
             }
         }
+    }
+
+    /// Keeps what the names held before a record, where they hold something else now and not all is down.
+    fn follow(&mut self, before: Epoch, all_down: bool) -> Result<(), PlayError>
+        ensures follows { OnOk result (Follows all_down before (epoch_now (files_of self.old))
+            (files_of self.old).earlier (files_of self.new).earlier) }
+        ensures rest { files_of self.new ≡ record (files_of self.old) { earlier = (files_of self.new).earlier } }
+        ensures refused { IfErr result (λ e. (epoch_now (files_of self.old) ≢ before) × (e ≡ NoMemory)) }
+    {
+        if all_down {
+            self.earlier.clear();
+        } else if self.epoch() != before {
+            self.earlier.push(before)?;
+        }
+        Ok(())
     }
 
     /// Plays records of a trace, one after the other. Refused as `play` is.

@@ -6,6 +6,8 @@ use Rattle.crashdisk.specs.Call.{DiskState}
 use Rattle.crashdisk.specs.Model.{state_of}
 use Rattle.crashdisk.specs.State.{IsImage}
 use Rattle.crashdisk.specs.declared.model.ModelDisk.{ModelDisk}
+use Rattle.sqplay.specs.Names.{name_of}
+use Rattle.sqimages.specs.Ways.{held_files}
 use Rattle.sqimages.proofs.draws.put_draw.Goals as goal
 
 -- a disk of a list is one of the states of its disks
@@ -20,7 +22,7 @@ returns-in_ok-choice-in-Some g c =
     let at = c.in-Some.ensures.lookup in
     let x = c.in-Some.disk.now in
     let s = state_of x in
-    let has = contains_state c.files-files.result.now (map (λ d. state_of d) c.args.name.now.files.items) c.below.result x c.files-files.ensures at.3.0 at.1 in
+    let has = contains_state c.held_files-files.result.now (held_files (name_of c.args.name.now) c.args.holds) c.below.result x c.held_files-files.ensures at.3.0 at.1 in
     IfOk-weaker c.append_image.result _ _ (λ done h.
     let is : c.append_image.new.out.items ≡ h.0 = h.1 ∙ ap (λ (l : List ℕ). l ++ h.0) c.clear.ensures.items in
     inl (s, has, subst (λ (bytes : List ℕ). IsImage s.sector s.tears s.db bytes) (sym is) h.2)) c.append_image.ensures

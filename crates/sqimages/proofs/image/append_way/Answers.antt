@@ -1,4 +1,4 @@
-use Rattle.std.proofs.Common.{◌≡◌, ℕ, ◌+◌, ◌-◌, ◌*◌, ◌<◌, ◌≤◌, ◌++◌, List, cond, true, false, length, drop, map, get_or, sym, ◌∙◌, ap, suc, arith}
+use Rattle.std.proofs.Common.{◌≡◌, ℕ, ◌+◌, ◌-◌, ◌*◌, ◌<◌, ◌≤◌, ◌++◌, List, cond, true, false, length, drop, map, get_or, refl, sym, ◌∙◌, ap, suc, arith}
 use Rattle.std.proofs.Math.Seq.{drop-cons}
 use Rattle.std.proofs.lemmas.Bool.{lt-ltb, le-ltb}
 use Rattle.std.proofs.lemmas.List.{get_or-map, length-map}
@@ -29,7 +29,7 @@ way_step xs files i rest x same less is =
 
 pub loop-disk-preserved : goal.loop-disk-preserved
 loop-disk-preserved c =
-    let files = map (λ d. state_of d) c.args.name.now.files.items in
+    let files = map (λ d. state_of d) c.args.files.now in
     let i = c.loop-disk.disk-index in
     let rest = c.loop-disk.rest in
     let x = state_of c.disk-item.result in
@@ -37,7 +37,7 @@ loop-disk-preserved c =
     let le : file_ways x ≤ rest = omega (arith, count, c.in-Some.ensures.1) in
     let later : nat_lt rest (file_ways x) ≡ false = le-ltb _ _ le in (
       c.loop-disk.invariant.0
-          ∙ way_step c.files-disk-items.result.now files i rest c.disk-item.result c.files-disk-items.ensures c.loop-disk-test.true c.disk-item.is
+          ∙ way_step c.args.files.now files i rest c.disk-item.result refl c.loop-disk-test.true c.disk-item.is
           ∙ ap (λ b. cond b (file_way x rest) (files_way (drop (i + 1) files) (rest - file_ways x))) later
           ∙ ap (λ (n : ℕ). files_way (drop (i + 1) files) (rest - n)) (sym count),
       c.loop-disk.invariant.1,
@@ -45,7 +45,7 @@ loop-disk-preserved c =
 
 pub returns-in-None : goal.returns-in-None
 returns-in-None c =
-    let files = map (λ d. state_of d) c.args.name.now.files.items in
+    let files = map (λ d. state_of d) c.args.files.now in
     let i = c.loop-disk.disk-index in
     let rest = c.loop-disk.rest in
     let x = state_of c.disk-item.result in
@@ -53,7 +53,7 @@ returns-in-None c =
     let here : nat_lt rest (file_ways x) ≡ true = lt-ltb _ _ c.in-None.ensures in
     let way : files_way files c.args.n ≡ file_way x rest =
     c.loop-disk.invariant.0
-    ∙ way_step c.files-disk-items.result.now files i rest c.disk-item.result c.files-disk-items.ensures c.loop-disk-test.true c.disk-item.is
+    ∙ way_step c.args.files.now files i rest c.disk-item.result refl c.loop-disk-test.true c.disk-item.is
     ∙ ap (λ b. cond b (file_way x rest) (files_way (drop (i + 1) files) (rest - file_ways x))) here in
     let named = rw c.in-Some-2.is at c.in_ok-choice-in-None.ensures.named in
     IfOk-weaker c.image.result _ _ (λ done h. h ∙ ap (λ (l : List ℕ). l ++ image_of x.sector x.tears x.db (naming_of c.in-Some-2.choice.db)) c.loop-disk.invariant.1 ∙ ap (λ (n : Naming). out ++ image_of x.sector x.tears x.db n) named.db_named ∙ ap (λ (l : List ℕ). out ++ l) (sym way)) c.image.ensures.ok

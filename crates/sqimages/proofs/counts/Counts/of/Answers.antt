@@ -1,44 +1,43 @@
-use Rattle.std.proofs.Common.{◌≡◌, ℕ, ◌*◌, ◌<◌, ◌≤◌, ◌^◌, ◌∙◌, ap, subst, arith}
-use Rattle.sqplay.specs.Names.{NameState, name_of}
+use Rattle.std.proofs.Common.{◌<◌, ◌≤◌, Bool, true, false, List, length, get_or, subst}
 use Rattle.sqplay.specs.Plays.{files_of}
-use Rattle.sqimages.specs.Ways.{name_ways}
-use Rattle.sqimages.proofs.Multiplying.{some_name, above_logs, above_one, above_two, above_three}
+use Rattle.sqplay.specs.declared.meta.Epoch.{Epoch}
+use Rattle.sqplay.specs.declared.meta.Holds.TheVariants.{Any}
+use Rattle.sqimages.specs.Adding.{IsAdded}
+use Rattle.sqimages.proofs.Placing.{one_more, last_more, too_many, last_too_many}
 use Rattle.sqimages.proofs.counts.Counts.of.Goals as goal
 
-pub returns-in_default : goal.returns-in_default
-returns-in_default c =
+-- what stands for an epoch behind the last
+abbrev behind : Epoch
+behind = record { db = Any; wal = Any; journal = Any }
+
+pub returns-then-not-branch : goal.returns-then-not-branch
+returns-then-not-branch c =
     let s = files_of c.args.player.now in
-    above_one c.args.limit (name_ways s.db) (name_ways s.wal) (name_ways s.journal) (subst (λ (n : NameState). c.args.limit < name_ways n) c.db.ensures c.in_default.ensures) (some_name s.wal) (some_name s.journal)
+    let i = c.loop-epoch.epoch-index in
+    let lt : i < length s.earlier = subst (λ (l : List Epoch). i < length l) c.earlier-epoch-items.ensures c.loop-epoch-test.true in
+    let added = subst (λ (b : Bool). IsAdded s (get_or c.earlier-epoch-items.result.now i behind) c.args.limit c.loop-epoch.counts c.add.new.self b) c.if-not-branch.true c.in_ok-add.ensures in
+    too_many s c.args.limit i behind c.loop-epoch.counts c.add.new.self lt c.loop-epoch.invariant (subst (λ (l : List Epoch). IsAdded s (get_or l i behind) c.args.limit c.loop-epoch.counts c.add.new.self false) c.earlier-epoch-items.ensures added)
 
-pub returns-in_default-name_count : goal.returns-in_default-name_count
-returns-in_default-name_count c =
+pub loop-epoch-preserved : goal.loop-epoch-preserved
+loop-epoch-preserved c =
     let s = files_of c.args.player.now in
-    above_two c.args.limit (name_ways s.db) (name_ways s.wal) (name_ways s.journal) (subst (λ (n : NameState). c.args.limit < name_ways n) c.wal.ensures c.in_default-name_count.ensures) (some_name s.db) (some_name s.journal)
+    let i = c.loop-epoch.epoch-index in
+    let lt : i < length s.earlier = subst (λ (l : List Epoch). i < length l) c.earlier-epoch-items.ensures c.loop-epoch-test.true in
+    let added = subst (λ (b : Bool). IsAdded s (get_or c.earlier-epoch-items.result.now i behind) c.args.limit c.loop-epoch.counts c.add.new.self b) c.if-not-branch.false c.in_ok-add.ensures in
+    one_more s c.args.limit i behind c.loop-epoch.counts c.add.new.self lt c.loop-epoch.invariant (subst (λ (l : List Epoch). IsAdded s (get_or l i behind) c.args.limit c.loop-epoch.counts c.add.new.self true) c.earlier-epoch-items.ensures added)
 
-pub returns-in_default-name_count-2 : goal.returns-in_default-name_count-2
-returns-in_default-name_count-2 c =
+pub returns-then-not-branch-2 : goal.returns-then-not-branch-2
+returns-then-not-branch-2 c =
     let s = files_of c.args.player.now in
-    above_three c.args.limit (name_ways s.db) (name_ways s.wal) (name_ways s.journal) (subst (λ (n : NameState). c.args.limit < name_ways n) c.journal.ensures c.in_default-name_count-2.ensures) (some_name s.db) (some_name s.wal)
+    let i = c.loop-epoch.epoch-index in
+    let past : length s.earlier ≤ i = subst (λ (l : List Epoch). length l ≤ i) c.earlier-epoch-items.ensures c.loop-epoch-test.false in
+    let added = subst (λ (b : Bool). IsAdded s c.epoch.result c.args.limit c.loop-epoch.counts c.add-2.new.self b) c.if-not-branch-2.true c.in_ok-add-2.ensures in
+    last_too_many s c.args.limit i c.loop-epoch.counts c.add-2.new.self past c.loop-epoch.invariant (subst (λ (e : Epoch). IsAdded s e c.args.limit c.loop-epoch.counts c.add-2.new.self false) c.epoch.ensures added)
 
-pub returns-in_default-times : goal.returns-in_default-times
-returns-in_default-times c =
+pub returns : goal.returns
+returns c =
     let s = files_of c.args.player.now in
-    let wal : c.in-Some-name_count.wal ≡ name_ways s.wal = c.in-Some-name_count.ensures.0 ∙ ap (λ (n : NameState). name_ways n) c.wal.ensures in
-    let journal : c.in-Some-name_count-2.journal ≡ name_ways s.journal = c.in-Some-name_count-2.ensures.0 ∙ ap (λ (n : NameState). name_ways n) c.journal.ensures in
-    let product : c.in-Some-name_count.wal * c.in-Some-name_count-2.journal ≡ name_ways s.wal * name_ways s.journal =
-    ap (λ (x : ℕ). x * c.in-Some-name_count-2.journal) wal ∙ ap (λ (y : ℕ). name_ways s.wal * y) journal in
-    above_logs c.args.limit (name_ways s.db) (name_ways s.wal * name_ways s.journal) (subst (λ (n : ℕ). c.args.limit < n) product c.in_default-times.ensures) (some_name s.db)
-
--- a product within a limit fits
-fits_within : (n product limit : ℕ) → n ≡ product → n ≤ limit → limit < 2 ^ 64 → product < 2 ^ 64
-fits_within n product limit e within small = omega arith
-
-pub invariant_of-result : goal.invariant_of-result
-invariant_of-result c =
-    let logs : c.in-Some-times.logs ≡ c.in-Some-name_count.wal * c.in-Some-name_count-2.journal = c.in-Some-times.ensures.0 in
-    record {
-      some_db = omega (arith, c.in-Some.ensures.0, some_name (name_of c.db.result.now));
-      some_wal = omega (arith, c.in-Some-name_count.ensures.0, some_name (name_of c.wal.result.now));
-      fits = fits_within c.in-Some-times-2.field-0 _ c.args.limit (c.in-Some-times-2.ensures.0 ∙ ap (λ (x : ℕ). c.in-Some.db * x) logs) c.in-Some-times-2.ensures.1 c.ranges.limit.fits;
-      logs_fit = fits_within c.in-Some-times.logs _ c.args.limit logs c.in-Some-times.ensures.1 c.ranges.limit.fits;
-    }
+    let i = c.loop-epoch.epoch-index in
+    let past : length s.earlier ≤ i = subst (λ (l : List Epoch). length l ≤ i) c.earlier-epoch-items.ensures c.loop-epoch-test.false in
+    let added = subst (λ (b : Bool). IsAdded s c.epoch.result c.args.limit c.loop-epoch.counts c.add-2.new.self b) c.if-not-branch-2.false c.in_ok-add-2.ensures in
+    last_more s c.args.limit i c.loop-epoch.counts c.add-2.new.self past c.loop-epoch.invariant (subst (λ (e : Epoch). IsAdded s e c.args.limit c.loop-epoch.counts c.add-2.new.self true) c.epoch.ensures added)

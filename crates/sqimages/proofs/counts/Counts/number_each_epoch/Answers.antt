@@ -1,0 +1,5 @@
+use Rattle.sqimages.proofs.Placing.{each_has_place}
+use Rattle.sqimages.proofs.counts.Counts.number_each_epoch.Goals as goal
+
+pub returns : goal.returns
+returns c = each_has_place c.args.self.now.epochs.items
