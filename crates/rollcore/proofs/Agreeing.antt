@@ -1,14 +1,12 @@
 -- The parts of a replay keep what shows one database, so the replay does at each of its exits.
-use Rattle.std.proofs.Common.{◌≡◌, ⊎_elim, ℕ, ◌+◌, ◌-◌, ◌*◌, ◌≤◌, Bool, true, false, cond, List, length, get_or, replicate, sym, ◌∙◌, ap, subst, arith}
-use Rattle.std.specs.Prelude.{Result, Ok, Err, Option, Some, None, slice_get}
+use Rattle.std.proofs.Common.{◌≡◌, ⊎_elim, ℕ, ◌+◌, ◌-◌, ◌*◌, ◌≤◌, Bool, true, false, cond, List, get_or, replicate, sym, ◌∙◌, ap, subst, arith}
+use Rattle.std.specs.Prelude.{Result, Ok, Err, Some}
 use Rattle.std.proofs.lemmas.List.{get_or-replicate, get_or_past, length-replicate}
 use Rattle.std.proofs.lemmas.Bool.{cases_lt}
-use Rattle.sqval.specs.Bytes.{part, word}
+use Rattle.sqval.specs.Bytes.{word}
 use Rattle.sqval.specs.PageSize.{IsPageSize}
 use Rattle.sqval.specs.Database.{Database, Pages}
-use Rattle.sqjournal.specs.Journal.{Segment}
-use Rattle.sqjournal.proofs.Unique.{one_journal}
-use Rattle.sqjournal.specs.Restored.{all_records, last_content}
+use Rattle.sqjournal.specs.Restored.{last_content}
 use Rattle.sqjournal.specs.Took.{HasEntry}
 use Rattle.sqjournal.specs.declared.reading.Record.{Record}
 use Rattle.crashdisk.specs.State.{FileState, byte, IsImage, IsSectorSize}
@@ -22,15 +20,14 @@ use Rattle.rollcore.specs.Alone.{Show, ShowsAlone}
 use Rattle.rollcore.specs.Replaying.{Agrees}
 use Rattle.crashdisk.specs.Keeps.{IsLogDown, Still, Told, SyncStep}
 use Rattle.rollcore.specs.Steps.{torn_sector, PutsRun, RunAnswer, ArePages, ZeroSteps}
-use Rattle.rollcore.specs.Phases.{Unnamed, Scanning, Writing, Filed}
+use Rattle.rollcore.specs.Phases.{Scanning, Writing, Filed}
 use Rattle.rollcore.specs.Plans.{IsFit}
 use Rattle.rollcore.specs.declared.error.RollError.{RollError}
 use Rattle.crashdisk.proofs.Stills.{still_sound, present_in}
 use Rattle.crashdisk.proofs.Suiting.{suits_by}
 use Rattle.rollcore.proofs.Down.{down_left}
 use Rattle.crashdisk.proofs.Down.{down_by, down_one, down_present, down_present_one, down_syncs}
-use Rattle.rollcore.proofs.Copies.{part_long}
-use Rattle.rollcore.proofs.Records.{entries_of, records_are, entry_is, entry_named, entry_within}
+use Rattle.rollcore.proofs.Records.{entries_of, records_are, entry_is, entry_named}
 use Rattle.rollcore.proofs.Writing.{writing_by, writing_begins, writing_writes, writing_syncs, writing_shows, pages_file, filed_written}
 use Rattle.rollcore.proofs.Zeroing.{zeroing_writes, zeroing_syncs, zeroing_shows}
 use Rattle.rollcore.specs.declared.error.RollError.TheVariants.{Device}

@@ -2,7 +2,6 @@
 use Rattle.std.proofs.Common.{◌≡◌, ◌≢◌, ◌⊎◌, inl, inr, ⊎_elim, ℕ, ◌+◌, ◌-◌, ◌*◌, ◌<◌, ◌≤◌, List, length, get_or, take, drop, refl, sym, ◌∙◌, ap, subst, arith, length-drop}
 use Rattle.std.specs.Prelude.{Result, Ok, Err, Option, MatchOption, Some, None, slice_get}
 use Rattle.std.proofs.lemmas.List.{get_or-take, get_or-drop, length-take-le, take_all}
-use Rattle.std.proofs.lemmas.Grind.{same_number_lists}
 use Rattle.std.proofs.Math.Nat.{mul-le-mul_right}
 use Rattle.sqval.specs.Bytes.{part, word}
 use Rattle.sqval.specs.Database.{Database, page}
@@ -11,7 +10,7 @@ use Rattle.sqjournal.specs.Took.{HasEntry}
 use Rattle.sqjournal.specs.declared.reading.Why.{Why}
 use Rattle.sqjournal.specs.Restored.{IsRolledBack}
 use Rattle.sqjournal.specs.declared.reading.Record.{Record}
-use Rattle.crashdisk.specs.State.{FileState, byte, written, longest}
+use Rattle.crashdisk.specs.State.{FileState, byte, longest}
 use Rattle.crashdisk.specs.Call.{DiskState, IsSoundDisk, ArePresent, Writes, Cuts, Looks}
 use Rattle.crashdisk.specs.declared.file.File.TheVariants.{Db}
 use Rattle.crashdisk.specs.declared.error.DiskError.{DiskError}
@@ -33,9 +32,6 @@ use Rattle.rollcore.proofs.Records.{made, made_none, made_other, made_apart, mad
 use Rattle.crashdisk.proofs.Down.{present_byte}
 
 -- ---- What is read of records.
-
-pub part_long : (size at : ℕ) (w : List ℕ) → at + size ≤ length w → length (part w at size) ≡ size
-part_long size at w fits = length-take-le size (drop at w) (omega (arith, length-drop at w))
 
 place_step : (size k n : ℕ) → k + 1 ≡ n → k * size + size ≡ n * size
 place_step size k n e = rw (sym e) (omega arith)

@@ -17,6 +17,7 @@ use Rattle.rollcore.specs.Changes.{MayChange, MayCommit}
 use Rattle.crashdisk.proofs.Called.{no_calls}
 use Rattle.rollcore.specs.Machine.{State, last, newest, closed, appended, committed, recorded, refusal_of, commit_refusal, Commits}
 use Rattle.rollcore.specs.Refusal.{number_of}
+use Rattle.rollcore.specs.Committing.{RestsAt}
 use Rattle.rollcore.specs.Fits.{ShowsWhole, NamesSectors, Rests, FitsCore, StepsTo, answered}
 use Rattle.rollcore.specs.Commits.{ShowsEither, KeepsCore, AreChanges, AreChanged, PutAnswer, IsReady, Ends, Closes, EndAnswer}
 use Rattle.rollcore.specs.declared.error.RollError.{RollError}
@@ -211,10 +212,15 @@ module _ (past : State) (core mid : Core) (s t : DiskState) (fits : FitsCore pas
   commit_step (Ok v) then told answer ends = done (λ lt. let e = told lt in cc) then ends answer
   commit_step (Err x) then told answer closes = subst (λ (y : RollError). StepsTo past (Commits pages size nonces) (Refused (number_of y)) then s t) (sym answer.0) (stopped then closes answer.1 answer.2 answer.3)
 
-  pub put_here : (P : ℕ → Database → Type 0) → ((d : Database) → Suits core.page_size s → IsHeld core.page_size d → length d ≡ core.size → length core.header.items ≡ s.sector → Rests core.page_size d s → P core.page_size d)
+  pub put_here : (P : ℕ → Database → Type 0) → ((d : Database) → RestsAt core d s → P core.page_size d)
       → P past.page_size (newest past)
   put_here P put =
       let is = fits.core opened in
       subst (λ (n : ℕ). P n (newest past)) fits.page_size
-      (put (newest past) (subst (λ (n : ℕ). Suits n s) (sym fits.page_size) fits.disk.suits) (subst (λ (n : ℕ). IsHeld n (newest past)) (sym fits.page_size) held_old) (sym count) is.header_room
-      (subst (λ (n : ℕ). Rests n (newest past) s) (sym fits.page_size) is.rests))
+      (put (newest past) (record {
+        suits = subst (λ (n : ℕ). Suits n s) (sym fits.page_size) fits.disk.suits;
+        held = subst (λ (n : ℕ). IsHeld n (newest past)) (sym fits.page_size) held_old;
+        size = sym count;
+        header_room = is.header_room;
+        rests = subst (λ (n : ℕ). Rests n (newest past) s) (sym fits.page_size) is.rests;
+      }))

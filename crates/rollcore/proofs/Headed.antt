@@ -291,10 +291,6 @@ module _ (size sector : ℕ) (d : Database) (sectors : IsPageSize sector) (pages
       (magic_or v place))
       (cases_eq place 0)
 
-  -- nothing was handed over
-  pub headed_still : AreWhole w [] v → Tells size sector d named place v
-  headed_still whole = ⊎_elim (λ same. same) (λ lies. absurd (omega (arith, lies.0.1.1))) (torn_or [] whole)
-
   one_write : (bytes : List ℕ) (write : ℕ × List ℕ) → Contains ((place, bytes) ∷ []) write → (place, bytes) ≡ write
   one_write bytes write has = ⊎_elim (λ empty. absurd (omega (arith, empty.1))) (λ e. e) (Contains-push_cases [] (place, bytes) write has)
 

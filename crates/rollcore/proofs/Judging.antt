@@ -1,5 +1,6 @@
 -- What a scanned journal is judged by, and what is planned of it.
-use Rattle.std.proofs.Common.{◌≡◌, ◌⊎◌, inl, inr, ⊎_elim, ℕ, ◌*◌, ◌<◌, ◌≤◌, List, length, sym, ◌∙◌, ap, subst, arith}
+use Rattle.std.proofs.Common.{◌≡◌, ◌⊎◌, inl, inr, ⊎_elim, ℕ, ◌*◌, ◌/◌, ◌%◌, ◌<◌, ◌≤◌, List, sym, ◌∙◌, ap, subst, arith}
+use Rattle.std.proofs.Math.Nat.{div-mul-le_self, mod-eq-sub-div-mul}
 use Rattle.std.specs.Prelude.{Option, Some, None, Result, Ok, Err}
 use Rattle.sqval.specs.Bytes.{word}
 use Rattle.sqjournal.specs.Header.{Names}
@@ -78,3 +79,10 @@ module _ (torn : ℕ) (w : List ℕ) where
     pub scan_cold : (r : Result (Option Replay) RollError) → r ≡ Ok None → ScanAnswer w r a b → IsHot w → ⊥
     unfolding ScanAnswer
     scan_cold r was answer = subst (λ (x : Result (Option Replay) RollError). ScanAnswer w x a b) was answer
+
+-- a length that has a whole number of pages, one at least
+pub count_whole : (size m long : ℕ) → m ≡ size → long % m ≡ 0 → (long ≡ 0 → ⊥) → (1 ≤ long / m) × (long / m * size ≡ long)
+count_whole size m long same rest some =
+    let whole : long / m * m ≡ long = omega (arith, mod-eq-sub-div-mul long m, div-mul-le_self long m, rest) in
+    let more : long / m ≡ 0 → ⊥ = λ none. some (let e : long / m * m ≡ 0 * m = ap (λ k. k * m) none in omega (arith, whole, e)) in
+    (omega (arith, more), ap (λ k. long / m * k) (sym same) ∙ whole)

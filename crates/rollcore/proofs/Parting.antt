@@ -81,6 +81,14 @@ module _ (pages : List (ℕ × Bor (List ℕ))) (n nonces : ℕ) where
       let at = slice_at changes from m i in_range.0 in
       omega (arith, (are.content (from + i) k in_range.1 (sym (ap (λ (c : Change). c.content) at) ∙ some)).0, lent_length pages)
 
+  -- and none is of page 0
+  pub part_numbered : (core : Core) (changes : List Change) → IsReady pages n nonces core → changes ≡ core.changes.items → (from m i : ℕ) → i < length (take m (drop from changes)) → 1 ≤ (change_at (take m (drop from changes)) i).page
+  part_numbered core changes ready same from m i lt =
+      let are : AreChanges (lent pages) core.size n changes = subst (λ (l : List Change). AreChanges (lent pages) core.size n l) (sym same) ready.changes in
+      let in_range = slice_within changes from m i lt in
+      let at = slice_at changes from m i in_range.0 in
+      omega (arith, (are.within (from + i) in_range.1).0, ap (λ (c : Change). c.page) at)
+
   pub part_short : (core : Core) → IsReady pages n nonces core → (512 ≤ core.page_size) × (core.page_size ≤ 65536) → (k : ℕ) (d : ℕ × Bor (List ℕ)) → k < length pages → length (get_or pages k d).1.now ≤ 65536
   part_short core ready sizes k d lt =
       let full = (granted core.size core.page_size (lent pages) n nonces ready.granted).full k (omega (arith, lt, lent_length pages)) in

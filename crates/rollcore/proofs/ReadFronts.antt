@@ -1,12 +1,12 @@
 -- A journal of which a front was read behind which no bytes change what it says.
-use Rattle.std.proofs.Common.{◌≡◌, inr, ⊎_elim, ℕ, ◌+◌, ◌<◌, ◌≤◌, List, [], ◌∷◌, ◌++◌, length, refl, sym, ◌∙◌, ap, subst, arith, length-append}
+use Rattle.std.proofs.Common.{◌≡◌, inr, ⊎_elim, ℕ, ◌+◌, ◌≤◌, List, [], ◌∷◌, ◌++◌, length, refl, sym, ◌∙◌, ap, subst, arith, length-append}
 use Rattle.std.specs.Prelude.{Option, Some, None}
 use Rattle.std.proofs.lemmas.List.{append-nil}
 use Rattle.std.proofs.lemmas.Bool.{cases_lt}
 use Rattle.sqval.specs.Bytes.{word}
 use Rattle.sqval.specs.PageSize.{IsPageSize}
 use Rattle.sqjournal.specs.Header.{next_header, Names}
-use Rattle.sqjournal.specs.Journal.{Segment, Sizes, sizes_of, records_end, AreSegments, IsHot, IsJournal, IsFirst, entries, entry_of}
+use Rattle.sqjournal.specs.Journal.{Segment, Sizes, sizes_of, records_end, AreSegments, IsHot, IsFirst, entries, entry_of}
 use Rattle.sqjournal.specs.Took.{Took, Says, IsSettled, HasEntry, HasCount}
 use Rattle.sqjournal.specs.declared.header.JournalHeader.{JournalHeader}
 use Rattle.sqjournal.specs.declared.reading.Record.{Record}

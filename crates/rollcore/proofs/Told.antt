@@ -1,10 +1,8 @@
 -- Calls of a disk, one after another: that one was refused is told.
-use Rattle.std.proofs.Common.{◌≡◌, ⊎_elim, ℕ, ◌≤◌, ◌+◌, ◌-◌, ◌*◌, List, replicate, length, refl, sym, subst, arith}
+use Rattle.std.proofs.Common.{◌≡◌, ⊎_elim, ℕ, ◌≤◌, ◌*◌, List, replicate, length, refl, sym, subst, arith}
 use Rattle.std.specs.Prelude.{Result, Ok, Err}
 use Rattle.std.proofs.lemmas.Bool.{cases_lt}
-use Rattle.std.proofs.Math.Nat.{mul-le-mul_right}
 use Rattle.sqval.specs.CommitFaults.{most_bytes}
-use Rattle.crashdisk.proofs.Pages.{page_end}
 use Rattle.crashdisk.specs.Call.{DiskState, IsSoundDisk, Change, write, sync, counted}
 use Rattle.crashdisk.specs.declared.file.File.{File}
 use Rattle.crashdisk.specs.declared.file.File.TheVariants.{Log}
@@ -52,9 +50,6 @@ module _ {T : Type 0} (q : Result T RollError) where
 -- a page of the size that is wanted
 pub page_within : (size : ℕ) (content : List ℕ) (number : ℕ) → length content ≡ size → number * size ≤ most_bytes → number * length content ≤ most_bytes
 page_within size content number full within = subst (λ (n : ℕ). number * n ≤ most_bytes) (sym full) within
-
-pub page_limit : (size page count : ℕ) → 1 ≤ page → page ≤ count → count * size ≤ most_bytes → (page - 1) * size + size ≤ most_bytes
-page_limit size page count one le within = let top : page * size ≤ count * size = mul-le-mul_right size le in omega (arith, top, within, page_end size page one)
 
 pub one_page : (size : ℕ) → size ≡ 1 * size
 one_page size = omega arith

@@ -61,7 +61,7 @@ stays past core s t is fits act answer told step = record { next = past; same = 
 
 module _ (past : State) (core : Core) (s : DiskState) (fits : FitsCore past core s) (p : ℕ) where
   -- refused before the disk is asked
-  judged : {T : Type 0} (U : Type 0) (out : List ℕ) (room : ℕ) (result : Result T RollError) (e : RollError) → IsSoundDisk s → result ≡ Err e → room ≡ past.page_size → ReadJudged {T = U} core.is_open p core.size room core.page_size (Err e)
+  judged : {T : Type 0} (U : Type 0) (out : List ℕ) (room : ℕ) (result : Result T RollError) (e : RollError) → IsSoundDisk s → result ≡ Err e → room ≡ past.page_size → ReadJudged {T = U} core p room (Err e)
       → StepsTo past (Reads p) (answered (λ (v : T). Page out) result) core s s
   unfolding ReadJudged
   judged {T = T} U out room result e sound was full bad = subst (λ (x : Result T RollError). StepsTo past (Reads p) (answered (λ (v : T). Page out) x) core s s) (sym was) (by e bad)
@@ -72,7 +72,7 @@ module _ (past : State) (core : Core) (s : DiskState) (fits : FitsCore past core
       step : (n : ℕ) → read_refusal past p ≡ Some n → StepsTo past (Reads p) (Refused n) core s s
       step n e = stays past core s s same fits (Reads p) (Refused n) (λ lt. absurd (omega arith)) (refuses_first (read_refusal past p) n false past past s.refused s.refused e)
 
-      by : (e : RollError) → ReadJudged {T = U} core.is_open p core.size room core.page_size (Err e) → StepsTo past (Reads p) (Refused (number_of e)) core s s
+      by : (e : RollError) → ReadJudged {T = U} core p room (Err e) → StepsTo past (Reads p) (Refused (number_of e)) core s s
       by Closed shut = step 1 (is_closed past.is_open p (length (newest past)) (sym fits.is_open ∙ shut))
       by PageZero zero = step 4 (is_zero past.is_open p (length (newest past)) (sym fits.is_open ∙ zero.0) zero.1)
       by PageAboveSize above = step 5 (is_above past.is_open p (length (newest past)) (sym fits.is_open ∙ above.0) above.1 (omega (arith, above.2, (fits.core above.0).size)))
@@ -80,12 +80,12 @@ module _ (past : State) (core : Core) (s : DiskState) (fits : FitsCore past core
       by _ none = absurd none
 
   pub read_judged : {T U : Type 0} (out : List ℕ) (room : ℕ) (was : Result U RollError) (result : Result T RollError) (e : RollError) → IsSoundDisk s → was ≡ Err e → result ≡ Err e → room ≡ past.page_size
-      → ReadJudged core.is_open p core.size room core.page_size was → StepsTo past (Reads p) (answered (λ (v : T). Page out) result) core s s
+      → ReadJudged core p room was → StepsTo past (Reads p) (answered (λ (v : T). Page out) result) core s s
   read_judged {T = T} {U = U} out room was result e sound is_was is full bad = judged {T = T} U out room result e sound is full
-      (subst (λ (x : Result U RollError). ReadJudged core.is_open p core.size room core.page_size x) is_was bad)
+      (subst (λ (x : Result U RollError). ReadJudged core p room x) is_was bad)
 
   -- read from the file, where the page stands
-  module _ (room : ℕ) (full : room ≡ past.page_size) (good : ReadJudged {T = Unit {0}} core.is_open p core.size room core.page_size (Ok tt)) (place : ℕ) (at_place : place ≡ (p - 1) * room) (out : List ℕ) (long : length out ≡ room) (t : DiskState) where
+  module _ (room : ℕ) (full : room ≡ past.page_size) (good : ReadJudged {T = Unit {0}} core p room (Ok tt)) (place : ℕ) (at_place : place ≡ (p - 1) * room) (out : List ℕ) (long : length out ≡ room) (t : DiskState) where
     held : IsCore past core s
     unfolding ReadJudged
     held = fits.core good.0
@@ -123,22 +123,22 @@ module _ (past : State) (core : Core) (s : DiskState) (fits : FitsCore past core
 
 -- whatever the disk does
 pub refused_answer : {T U D : Type 0} (core : Core) (p room : ℕ) (was : Result U RollError) (result : Result T RollError) (e : RollError) (d : D) → was ≡ Err e → result ≡ Err e
-    → ReadJudged core.is_open p core.size room core.page_size was → ReadAnswers core p room result d d
+    → ReadJudged core p room was → ReadAnswers core p room result d d
 unfolding ReadJudged
 refused_answer {T = T} {U = U} core p room was result e d is_was is bad = subst (λ (x : Result T RollError). ReadAnswers core p room x d d) (sym is)
-    (by e (subst (λ (x : Result U RollError). ReadJudged core.is_open p core.size room core.page_size x) is_was bad))
+    (by e (subst (λ (x : Result U RollError). ReadJudged core p room x) is_was bad))
   where
-    by : (e : RollError) → ReadJudged {T = U} core.is_open p core.size room core.page_size (Err e) → ReadAnswers {T = T} core p room (Err e) d d
+    by : (e : RollError) → ReadJudged {T = U} core p room (Err e) → ReadAnswers {T = T} core p room (Err e) d d
     by Device h = absurd h
     by _ h = (h, refl)
 
 pub read_answer : {T D : Type 0} (core : Core) (p room : ℕ) (was : Result (Unit {0}) RollError) (v : Unit {0}) (result : Result T RollError) (a b : D) → was ≡ Ok v → IfErr result (λ e. e ≡ Device)
-    → ReadJudged core.is_open p core.size room core.page_size was → ReadAnswers core p room result a b
+    → ReadJudged core p room was → ReadAnswers core p room result a b
 unfolding ReadJudged
 read_answer {T = T} core p room was v result a b is device good = by result device
   where
-    granted : ReadJudged {T = Unit {0}} core.is_open p core.size room core.page_size (Ok tt)
-    granted = subst (λ (x : Result (Unit {0}) RollError). ReadJudged core.is_open p core.size room core.page_size x) is good
+    granted : ReadJudged {T = Unit {0}} core p room (Ok tt)
+    granted = subst (λ (x : Result (Unit {0}) RollError). ReadJudged core p room x) is good
 
     by : (r : Result T RollError) → IfErr r (λ e. e ≡ Device) → ReadAnswers core p room r a b
     by (Ok done) h = granted

@@ -1,7 +1,7 @@
 -- Whole segments of a journal, from a place up to where the next header may stand.
 use Rattle.std.proofs.Common.{◌≡◌, ◌⊎◌, inl, inr, ℕ, ◌+◌, ◌-◌, ◌*◌, ◌/◌, ◌<◌, ◌≤◌, List, [], ◌∷◌, ◌++◌, length, get_or, drop, refl, sym, ◌∙◌, ap, subst, arith, length-drop}
 use Rattle.std.proofs.lemmas.List.{ext_get_or, get_or-take, get_or-drop, length-take-le}
-use Rattle.std.proofs.Math.Nat.{div-mul-le_self, lt-div-mul-add}
+use Rattle.std.proofs.Math.Nat.{lt-div-mul-add}
 use Rattle.byteorder.specs.Endian.{big_number}
 use Rattle.sqval.specs.Bytes.{part, word}
 use Rattle.sqval.specs.Database.{Pages}
@@ -50,9 +50,6 @@ end_within z w nonce at (r ∷ rs) n le long are = end_within z w nonce (at + re
 
 pub next_above : (sector end : ℕ) → 1 ≤ sector → end ≤ next_header sector end
 next_above sector end some = let lt : end + sector - 1 < (end + sector - 1) / sector * sector + sector = lt-div-mul-add some in omega arith
-
-pub next_near : (sector end : ℕ) → 1 ≤ sector → next_header sector end < end + sector
-next_near sector end some = let le : (end + sector - 1) / sector * sector ≤ end + sector - 1 = div-mul-le_self (end + sector - 1) sector in omega arith
 
 -- a place is one of whole sectors
 abbrev pub IsMultiple : (sector place : ℕ) → Type 0

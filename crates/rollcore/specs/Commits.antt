@@ -1,20 +1,21 @@
 -- What the steps of a commit promise one another (fileformat2, 3; segments are own).
-use Rattle.std.specs.Prelude.{◌≡◌, ◌≢◌, ◌⊎◌, ℕ, ◌*◌, ◌<◌, ◌≤◌, false, Result, Ok, Err, List, [], length, take, get_or, Some, None, OnOk}
+use Rattle.std.specs.Prelude.{◌≡◌, ◌≢◌, ◌⊎◌, ℕ, ◌*◌, ◌<◌, ◌≤◌, false, IsTrue, Result, Ok, Err, List, [], length, take, get_or, Some, None, OnOk}
 use Rattle.std.specs.List.{All, Contains}
 use Rattle.std.specs.Borrow.{Bor}
 use Rattle.sqval.specs.Bytes.{AreBytes}
 use Rattle.sqval.specs.Database.{Database, Pages, supplied}
 use Rattle.sqval.specs.CommitFaults.{most_bytes, first_true, page_faults}
 use Rattle.sqval.specs.JudgedPages.{lent}
+use Rattle.sqval.specs.Answers.{Done}
 use Rattle.crashdisk.specs.State.{IsImage}
 use Rattle.crashdisk.specs.Call.{DiskState}
-use Rattle.rollcore.specs.Fits.{MayBeRead, ShowsWhole, NamesSectors, Rests}
+use Rattle.rollcore.specs.Fits.{MayBeRead, ShowsWhole, NamesSectors, Rests, FitsCore, Takes, answered}
 use Rattle.rollcore.specs.Refusal.{number_of}
 use Rattle.rollcore.specs.Replaying.{zeroed}
 use Rattle.crashdisk.specs.Keeps.{HadRefusal, IsLogDown}
 use Rattle.sqjournal.specs.Journal.{Sizes}
 use Rattle.rollcore.specs.Journaling.{sizes, HasParts, parts_of}
-use Rattle.rollcore.specs.Machine.{State, newest, recorded, segments_of, refusal_of}
+use Rattle.rollcore.specs.Machine.{State, Commits, newest, recorded, segments_of, refusal_of}
 use Rattle.rollcore.specs.declared.state.Core.{Core}
 use Rattle.rollcore.specs.declared.changes.Change.{Change}
 use Rattle.rollcore.specs.declared.error.RollError.{RollError}
@@ -70,8 +71,12 @@ pub record AreChanges (pages : Pages) (old_size size : ℕ) (changes : List Chan
   pub all : (p : ℕ) → 1 ≤ p → p ≤ old_size → (supplied pages p ≢ None) ⊎ (size < p) → (i : ℕ) × (i < length changes) × ((change_at changes i).page ≡ p)
   pub count : length changes ≡ recorded pages old_size size
 
+-- the pages of a commit, lent by its caller
+abbrev pub Lent : Type 0
+Lent = List (ℕ × Bor (List ℕ))
+
 -- pages of this size, each within the limit
-abbrev pub ArePlaced : (size : ℕ) → List (ℕ × Bor (List ℕ)) → Type 0
+abbrev pub ArePlaced : (size : ℕ) → Lent → Type 0
 ArePlaced size pages = All (λ x. (length x.1.now ≡ size) × (x.0 * size ≤ most_bytes)) pages
 
 -- changes of pages of this size within the limit
@@ -79,18 +84,18 @@ abbrev pub AreWithin : (size : ℕ) → List Change → Type 0
 AreWithin size changes = (i : ℕ) → i < length changes → (change_at changes i).page * size ≤ most_bytes
 
 -- a commit of these pages isn't refused, and there is memory for it
-pub record IsReady (pages : List (ℕ × Bor (List ℕ))) (size nonces : ℕ) (core : Core) : Type 0 where
+pub record IsReady (pages : Lent) (size nonces : ℕ) (core : Core) : Type 0 where
   pub granted : refusal_of core.size core.page_size (lent pages) size nonces ≡ None
   pub changes : AreChanges (lent pages) core.size size core.changes.items
   pub bytes : All (λ x. AreBytes x.1.now) pages
 
 -- the faults of the pages of a commit are judged
-abbrev pub PagesJudged : {T : Type 0} → List (ℕ × Bor (List ℕ)) → (size : ℕ) → Result T RollError → (old : Core) → Type 0
+abbrev pub PagesJudged : {T : Type 0} → Lent → (size : ℕ) → Result T RollError → (old : Core) → Type 0
 PagesJudged pages size (Ok _) old = (first_true (page_faults old.size old.page_size (lent pages) size) ≡ None) × All (λ x. AreBytes x.1.now) pages
 PagesJudged pages size (Err e) old = first_true (page_faults old.size old.page_size (lent pages) size) ≡ Some (number_of e)
 
 -- a commit is granted, with memory for it; or refused by the first condition that holds, or by want of memory where none does
-abbrev pub PrepareAnswer : {T : Type 0} → List (ℕ × Bor (List ℕ)) → (size nonces : ℕ) → Result T RollError → (old new : Core) → Type 0
+abbrev pub PrepareAnswer : {T : Type 0} → Lent → (size nonces : ℕ) → Result T RollError → (old new : Core) → Type 0
 PrepareAnswer pages size nonces (Ok _) old new = IsReady pages size nonces new
 PrepareAnswer pages size nonces (Err e) old new =
     (refusal_of old.size old.page_size (lent pages) size nonces ≡ Some (number_of e)) ⊎ ((refusal_of old.size old.page_size (lent pages) size nonces ≡ None) × (e ≡ NoMemory))
@@ -116,3 +121,13 @@ pub record ClosesOnDevice {T D : Type 0} (result : Result T RollError) (core_old
 abbrev pub EndAnswer : {T : Type 0} → (size : ℕ) → Result T RollError → (old new : Core) → Type 0
 EndAnswer size (Ok _) old new = Ends size old new
 EndAnswer size (Err e) old new = Closes old new
+
+-- A commit takes a core from state to state of the disk, by a row of the machine. Where it is done, segment s of the journal
+-- has nonce s, and the old contents of the next 64 pages.
+pub record CommitsPages {T : Type 0} (pages : Pages) (size : ℕ) (nonces : List ℕ) (result : Result T RollError) (old new : Core) (before after : DiskState) : Type 0 where
+  pub step : Takes (Commits pages size nonces) (answered (λ _. Done) result) old new before after
+  pub taken : (past : State) → FitsCore past old before → TakesNonces past pages size nonces result before after
+
+-- the same, of a core that is open
+abbrev pub CommitsOpen : {T : Type 0} → Pages → (size : ℕ) → (nonces : List ℕ) → Result T RollError → (old new : Core) → (before after : DiskState) → Type 0
+CommitsOpen pages size nonces result old new before after = IsTrue old.is_open → CommitsPages pages size nonces result old new before after

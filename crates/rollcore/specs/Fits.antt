@@ -17,7 +17,6 @@ use Rattle.rollcore.specs.declared.error.RollError.{RollError}
 use Rattle.rollcore.specs.declared.error.RollError.TheVariants.{Device}
 use Rattle.rollcore.specs.declared.state.Core.{Core}
 use Rattle.rollcore.specs.declared.roll.Roll.{Roll}
-use Rattle.rollcore.specs.declared.roll.Refused.{Refused as RefusedOpen}
 
 -- the present bytes of both files
 pub record AreFiles (s : DiskState) (files : Files) : Type 0 where
@@ -88,13 +87,17 @@ pub record StepsTo (past : State) (act : Act) (answer : Answer) (core : Core) (o
   pub next : State
   pub same : IsSameDisk (MayChange act past.page_size old.sector) old new
   pub refused : old.refused ≤ new.refused
-  pub told : old.refused < new.refused → answer ≡ Refused 15
+  pub told : old.refused < new.refused → answer ≡ Refused (number_of Device)
   pub row : Step past act answer old.refused new.refused next
   pub fits : FitsCore next core new
 
 -- the same of an engine
 abbrev pub Steps : {D : Type 0} → (state_of : D → DiskState) → (old new : Roll D) → State → Act → Answer → Type 0
 Steps state_of old new past act answer = StepsTo past act answer new.core (state_of old.disk) (state_of new.disk)
+
+-- a call takes a core from state to state of the disk, of each past that fits
+abbrev pub Takes : Act → Answer → (old new : Core) → (before after : DiskState) → Type 0
+Takes act answer old new before after = (past : State) → FitsCore past old before → StepsTo past act answer new before after
 
 -- an opening that is done, from one state of the disk to another
 abbrev pub OpenedTo : State → Files → Core → (before after : DiskState) → Type 0
@@ -108,10 +111,3 @@ pub record GivenUpTo (past : State) (found : Files) (error : RollError) (before 
   pub told : before.refused < after.refused → error ≡ Device
   pub row : Step past (Opens found) (Refused (number_of error)) before.refused after.refused next
   pub fits : FitsDisk next after
-
--- both of an engine, or of the disk that is given back
-abbrev pub Opened : {D : Type 0} → (state_of : D → DiskState) → (before : DiskState) → State → Files → Roll D → Type 0
-Opened state_of before past found roll = OpenedTo past found roll.core before (state_of roll.disk)
-
-abbrev pub GivenUp : {D : Type 0} → (state_of : D → DiskState) → (before : DiskState) → State → Files → RefusedOpen D → Type 0
-GivenUp state_of before past found refused = GivenUpTo past found refused.error before (state_of refused.disk)

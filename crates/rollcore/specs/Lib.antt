@@ -13,8 +13,10 @@ pub mod Commits
 pub mod Listing
 pub mod Journaling
 pub mod Segments
+pub mod Committing
 pub mod Lengths
 pub mod Opening
+pub mod Reading
 pub mod Paging
 pub mod Laws
 pub mod Rows

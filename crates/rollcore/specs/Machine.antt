@@ -4,6 +4,8 @@ use Rattle.sqval.specs.Database.{Database, Pages, page, apply}
 use Rattle.sqval.specs.CommitFaults.{first_true, page_faults}
 use Rattle.sqval.specs.Answers.{HasCause, Files, Crashed, Answer, Done, Page, Refused, Refuses, PlainStep}
 use Rattle.rollcore.specs.Alone.{Show}
+use Rattle.rollcore.specs.Refusal.{number_of}
+use Rattle.rollcore.specs.declared.error.RollError.TheVariants.{Closed, PageZero, PageAboveSize, NoMemory, Device, NonceMissing}
 
 -- what happens
 pub data Act : Type 0 where
@@ -74,13 +76,13 @@ segments_of records = max 1 ((records + 63) / segment_records)
 -- what refuses a commit to a database of so many pages: the faults of its pages, and then too few nonces for its segments
 abbrev pub refusal_of : (old_size page_size : ℕ) → Pages → (size nonces : ℕ) → Option ℕ
 refusal_of old_size page_size pages size nonces =
-    first_true (page_faults old_size page_size pages size ++ (nat_lt nonces (segments_of (recorded pages old_size size)), 16) ∷ [])
+    first_true (page_faults old_size page_size pages size ++ (nat_lt nonces (segments_of (recorded pages old_size size)), number_of NonceMissing) ∷ [])
 
 abbrev pub commit_refusal : State → Pages → (size : ℕ) → (nonces : List ℕ) → Option ℕ
-commit_refusal s pages size nonces = cond s.is_open (refusal_of (length (newest s)) s.page_size pages size (length nonces)) (Some 1)
+commit_refusal s pages size nonces = cond s.is_open (refusal_of (length (newest s)) s.page_size pages size (length nonces)) (Some (number_of Closed))
 
 abbrev pub read_refusal : State → (number : ℕ) → Option ℕ
-read_refusal s number = first_true ((not s.is_open, 1) ∷ (number == 0, 4) ∷ (nat_lt (length (newest s)) number, 5) ∷ [])
+read_refusal s number = first_true ((not s.is_open, number_of Closed) ∷ (number == 0, number_of PageZero) ∷ (nat_lt (length (newest s)) number, number_of PageAboveSize) ∷ [])
 
 -- ---- Calls, each with its answers. No other answer is given.
 
@@ -89,7 +91,7 @@ read_refusal s number = first_true ((not s.is_open, 1) ∷ (number == 0, 4) ∷ 
 abbrev pub OpenStep : State → Files → Answer → (before after : ℕ) → State → Type 0
 OpenStep old found Done before after new =
     (k : ℕ) × (old.floor ≤ k) × (k < length old.history) × Show old.page_size found.db found.log (at old k) × (IsTrue old.is_open → k ≡ last old) × (new ≡ opened old k)
-OpenStep old found (Refused number) before after new = ((number ≡ 14) ⊎ ((number ≡ 15) × HasCause before after)) × (new ≡ closed old)
+OpenStep old found (Refused number) before after new = ((number ≡ number_of NoMemory) ⊎ ((number ≡ number_of Device) × HasCause before after)) × (new ≡ closed old)
 OpenStep old found _ before after new = ⊥
 
 -- A commit that is done is down. One that the disk refuses may be there; the machine is closed.

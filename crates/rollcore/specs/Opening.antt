@@ -1,20 +1,22 @@
 -- What the steps of an opening do to a disk (own).
-use Rattle.std.specs.Prelude.{◌≡◌, ◌≢◌, ◌⊎◌, ℕ, ◌*◌, ◌<◌, ◌≤◌, true, false, Bool, IsTrue, List, ◌∷◌, length, drop, Result, Ok, Err, OnOk, IfErr, []}
+use Rattle.std.specs.Prelude.{◌≡◌, ◌≢◌, ◌⊎◌, ℕ, ◌*◌, ◌<◌, ◌≤◌, true, false, Bool, IsTrue, List, ◌∷◌, length, drop, Result, Ok, Err, OnOk, IfErr, MatchResult, []}
 use Rattle.sqval.specs.Bytes.{word}
 use Rattle.sqval.specs.CommitFaults.{most_bytes}
 use Rattle.sqval.specs.Database.{Database}
+use Rattle.sqval.specs.Held.{IsHeld}
 use Rattle.sqjournal.specs.Header.{HasMagic}
 use Rattle.sqjournal.specs.Journal.{IsHot}
+use Rattle.crashdisk.specs.State.{IsSectorSize}
 use Rattle.crashdisk.specs.Call.{DiskState, ArePresent, Writes, Syncs}
 use Rattle.crashdisk.specs.declared.file.File.TheVariants.{Log}
 use Rattle.crashdisk.specs.declared.error.DiskError.{DiskError}
 use Rattle.rollcore.specs.Replaying.{TearsJournal, IsTooLarge, IsRolled, Agrees}
-use Rattle.crashdisk.specs.Keeps.{HadRefusal, KeepsBytes, IsLogDown, Still, TearsPages}
+use Rattle.crashdisk.specs.Keeps.{Suits, HadRefusal, KeepsBytes, IsLogDown, Still, TearsPages, TellsRefusal}
 use Rattle.sqval.specs.Answers.{Files}
 use Rattle.rollcore.specs.Changes.{MayRecover, Asks}
 use Rattle.rollcore.specs.Alone.{Show}
 use Rattle.rollcore.specs.Machine.{State, at, last}
-use Rattle.rollcore.specs.Fits.{MayBeRead, ShowsHistory, NamesSectors, Rests}
+use Rattle.rollcore.specs.Fits.{MayBeRead, ShowsHistory, NamesSectors, Rests, FitsDisk, AreFiles, OpenedTo, GivenUpTo}
 use Rattle.rollcore.specs.declared.state.Core.{Core}
 use Rattle.rollcore.specs.Lengths.{ShowsOne}
 use Rattle.rollcore.specs.declared.replaying.Replayed.{Replayed}
@@ -161,3 +163,42 @@ pub record AgreesSynced (old new : DiskState) : Type 0 where
 abbrev pub RefusedSynced : RollError → (old new : DiskState) → Type 0
 RefusedSynced error old new =
     (new ≡ old) ⊎ (((failure : DiskError) × (error ≡ Device) × Syncs {T = Unit {0}} Log (Err failure) old new) ⊎ AgreesSynced old new)
+
+-- ---- What the steps of an opening answer, in one record each.
+
+-- a magic that stands at a place of the log is broken, and a call that was refused is told
+pub record BreaksMagic (at : ℕ) (result : Result Bool RollError) (old new : DiskState) : Type 0 where
+  pub steps : BreakSteps at result old new
+  pub told : TellsRefusal Device result old new
+
+-- no magic is left at the front of a log that isn't hot
+pub record BreaksFront {T : Type 0} (result : Result T RollError) (old new : DiskState) : Type 0 where
+  pub asks : (size : ℕ) → Asks (MayRecover size) result old new
+  pub file : new.db ≡ old.db
+  pub front : IsSectorSize old.sector → (w : List ℕ) → IsLogDown old w → (IsHot w → ⊥) → FrontAnswer w result old new
+  pub refused : IfErr result (λ e. (e ≡ Device) × HadRefusal old new)
+
+-- recovery from a log that is down
+pub record RecoversSynced (size : ℕ) (result : Result ℕ RollError) (old new : DiskState) : Type 0 where
+  pub asks : Asks (MayRecover size) result old new
+  pub recovered : (w : List ℕ) (d : Database) → Suits size old → IsHeld size d → IsLogDown old w → ShowsOne size d old → RecoverAnswer size d result old new
+  pub agrees : Agrees old new
+  pub files : (db w : List ℕ) → ArePresent old.db db → IsLogDown old w → FilesAnswer size db w result old new
+
+-- What the recovery of an opening does: a history that fits is recovered. From its sync of the log on the database that all
+-- which may be left shows stays shown.
+pub record Recovers (size : ℕ) (result : Result ℕ RollError) (old new : DiskState) : Type 0 where
+  pub recovered : (past : State) (found : Files) → AreFiles old found → past.page_size ≡ size → FitsDisk past old → RecoveredAt past found result old new
+  pub agrees : Agrees old new
+  pub synced : MatchResult result (λ _. AgreesSynced old new) (λ e. RefusedSynced e old new)
+  pub files : (db w : List ℕ) → ArePresent old.db db → ArePresent old.log w → FilesAnswer size db w result old new
+
+-- What an opening does, at any history and any files: a row of the machine for a history that fits. The log is synced first:
+-- from then on all that a crash may leave shows the database that it showed.
+pub record OpensCore (size : ℕ) (result : Result Core RollError) (old new : DiskState) : Type 0 where
+  pub step : (past : State) (found : Files) → AreFiles old found → past.page_size ≡ size → FitsDisk past old
+      → MatchResult result (λ core. OpenedTo past found core old new) (λ error. GivenUpTo past found error old new)
+  pub agrees : Agrees old new
+  pub synced : MatchResult result (λ _. AgreesSynced old new) (λ e. RefusedSynced e old new)
+  pub refuses : IfErr result (λ e. OpenRefused size e old new)
+  pub opens : OnOk result (OpensFiles size old new)

@@ -1,5 +1,5 @@
 -- What a replay plans of a scanned journal (own).
-use Rattle.std.specs.Prelude.{◌≡◌, ◌⊎◌, ℕ, ◌*◌, ◌^◌, ◌<◌, ◌≤◌, List, length, Result, Ok, Err, Option, Some, None}
+use Rattle.std.specs.Prelude.{◌⊎◌, ℕ, ◌*◌, ◌^◌, ◌<◌, ◌≤◌, List, length, Result, Ok, Err, Option, Some, None}
 use Rattle.sqval.specs.Bytes.{word}
 use Rattle.sqjournal.specs.Header.{Names}
 use Rattle.sqjournal.specs.Journal.{IsHot}

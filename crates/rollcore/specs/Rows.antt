@@ -4,6 +4,9 @@ use Rattle.sqval.specs.Database.{Database}
 use Rattle.sqval.specs.Answers.{Files, Answer, Done, Page, Refused}
 use Rattle.sqval.specs.Runs.{Moment, IsRun}
 use Rattle.rollcore.specs.Alone.{Show}
+use Rattle.rollcore.specs.Refusal.{number_of}
+use Rattle.rollcore.specs.declared.error.RollError.{RollError}
+use Rattle.rollcore.specs.declared.error.RollError.TheVariants.{Closed, EmptyCommit, PageZero, PageAboveSize, Device, NonceMissing}
 use Rattle.rollcore.specs.Machine.{Act, Opens, Commits, Reads, Crashes, Sets, start, Step}
 
 -- a moment, where the disk has refused no call
@@ -13,6 +16,10 @@ did act answer = record { act = act; answer = answer; refused = 0 }
 -- where it has refused one
 abbrev pub then_did : Act → Answer → Moment Act
 then_did act answer = record { act = act; answer = answer; refused = 1 }
+
+-- a call is refused, by this error
+abbrev pub Fails : RollError → Answer
+Fails error = Refused (number_of error)
 
 -- three pages of this content
 abbrev pub three : List ℕ → Database
@@ -44,20 +51,20 @@ Committed = ForAll (λ a b first second. Finds second (b ∷ []) → IsRunOn a
 -- a commit that the disk stops closes the machine; an opening shows the base
 abbrev pub Stopped : Type 0
 Stopped = ForAll (λ a b first second. Finds second (three a) → IsRunOn a
-    (did (Opens first) Done ∷ did Sets Done ∷ then_did (puts b) (Refused 15) ∷ then_did (Reads 1) (Refused 1) ∷ then_did (Crashes None) Done
+    (did (Opens first) Done ∷ did Sets Done ∷ then_did (puts b) (Fails Device) ∷ then_did (Reads 1) (Fails Closed) ∷ then_did (Crashes None) Done
     ∷ then_did (Opens second) Done ∷ then_did (Reads 3) (Page a) ∷ []))
 
 -- or what was to be committed
 abbrev pub StoppedLate : Type 0
 StoppedLate = ForAll (λ a b first second. Finds second (b ∷ []) → IsRunOn a
-    (did (Opens first) Done ∷ did Sets Done ∷ then_did (puts b) (Refused 15) ∷ then_did (Crashes None) Done
+    (did (Opens first) Done ∷ did Sets Done ∷ then_did (puts b) (Fails Device) ∷ then_did (Crashes None) Done
     ∷ then_did (Opens second) Done ∷ then_did (Reads 1) (Page b) ∷ []))
 
 -- what is refused changes nothing
 abbrev pub CallsRefused : Type 0
 CallsRefused = ForAll (λ a b first second. IsRunOn a
-    (did (puts b) (Refused 1) ∷ did (Opens first) Done ∷ did (Reads 0) (Refused 4) ∷ did (Reads 4) (Refused 5)
-    ∷ did (Commits ((1, b) ∷ []) 1 []) (Refused 16) ∷ did (Commits [] 1 []) (Refused 2) ∷ did (Reads 3) (Page a) ∷ []))
+    (did (puts b) (Fails Closed) ∷ did (Opens first) Done ∷ did (Reads 0) (Fails PageZero) ∷ did (Reads 4) (Fails PageAboveSize)
+    ∷ did (Commits ((1, b) ∷ []) 1 []) (Fails NonceMissing) ∷ did (Commits [] 1 []) (Fails EmptyCommit) ∷ did (Reads 3) (Page a) ∷ []))
 
 -- ---- No runs.
 
@@ -69,4 +76,4 @@ NoLostCommit = ForAll (λ a b first second. Finds second (three a) → IsRunOn a
 -- half of a commit is shown
 abbrev pub NoHalf : Type 0
 NoHalf = ForAll (λ a b first second. a ≢ b → Finds second (b ∷ a ∷ a ∷ []) → IsRunOn a
-    (did (Opens first) Done ∷ did Sets Done ∷ then_did (puts b) (Refused 15) ∷ then_did (Crashes None) Done ∷ then_did (Opens second) Done ∷ []) → ⊥)
+    (did (Opens first) Done ∷ did Sets Done ∷ then_did (puts b) (Fails Device) ∷ then_did (Crashes None) Done ∷ then_did (Opens second) Done ∷ []) → ⊥)

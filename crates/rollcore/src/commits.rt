@@ -1,19 +1,12 @@
 //! Commits.
-ghost use Rattle.std.specs.Prelude.{◌≡◌, ◌≢◌, ◌↔◌, ◌*◌, ◌≤◌, ℕ, List, length, take, false, Err, IsTrue, OnOk, OnErr};
+ghost use Rattle.std.specs.Prelude.{◌≡◌, ◌≢◌, ◌*◌, ◌≤◌, length, false, Err, OnErr};
 ghost use Rattle.std.specs.Prelude.{IfErr};
-ghost use Rattle.crashdisk.specs.Call.{DiskState};
-ghost use Rattle.sqval.specs.Database.{Database, apply};
-ghost use Rattle.sqval.specs.Held.{IsHeld};
 ghost use Rattle.sqval.specs.JudgedPages.{lent};
-ghost use Rattle.sqval.specs.Answers.{Done};
-ghost use Rattle.crashdisk.specs.Keeps.{Suits};
-ghost use Rattle.rollcore.specs.Machine.{State, Commits, segments_of};
-ghost use Rattle.rollcore.specs.Journaling.{sizes, parts_of};
-ghost use Rattle.rollcore.specs.Segments.{pages_of};
-ghost use Rattle.rollcore.specs.Fits.{Rests, FitsCore, StepsTo, Fits, Steps, answered};
-ghost use Rattle.rollcore.specs.Changes.{MayCommit, Asks};
-ghost use Rattle.rollcore.specs.Commits.{KeepsCore, IsReady, PagesJudged, PrepareAnswer, PutAnswer, EndAnswer};
-ghost use Rattle.rollcore.specs.Commits.{LeavesParts, TakesNonces, ClosesOnDevice};
+ghost use Rattle.crashdisk.specs.During.{During};
+ghost use Rattle.rollcore.specs.Committing.{PutsCommit};
+ghost use Rattle.rollcore.specs.Commits.{CommitsPages, CommitsOpen};
+ghost use Rattle.rollcore.specs.Commits.{KeepsCore, IsReady, PagesJudged, PrepareAnswer, EndAnswer};
+ghost use Rattle.rollcore.specs.Commits.{ClosesOnDevice};
 
 use crate::changes::{count_records, list_changes};
 use crate::error::RollError;
@@ -62,21 +55,10 @@ fn put_commit<D: Disk>(
     nonces: &[u32],
 ) -> Result<(), RollError>
     requires { IsReady pages.now size (length nonces.now) core.old }
-    ensures word { D.keeps_word disk.old ↔ D.keeps_word disk.new }
-    ensures device { IfErr result (λ e. e ≡ RollError.Device) }
-    ensures asks { D.keeps_word disk.old → length core.old.header.items ≡ (D.state disk.old).sector
-        → Asks (MayCommit core.old.page_size (D.state disk.old).sector) result (D.state disk.old) (D.state disk.new) }
+    ensures disk { During D.keeps_word D.state disk.old disk.new
+        (PutsCommit core.old pages.now size nonces.now result) }
+    ensures error { IfErr result (λ e. e ≡ RollError.Device) }
     ensures keeps { KeepsCore core.old core.new }
-    ensures put { D.keeps_word disk.old → (d : Database) → Suits core.old.page_size (D.state disk.old)
-        → IsHeld core.old.page_size d → length d ≡ core.old.size
-        → length core.old.header.items ≡ (D.state disk.old).sector → Rests core.old.page_size d (D.state disk.old)
-        → PutAnswer core.old.page_size d (apply d (lent pages.now) size) result (D.state disk.old) (D.state disk.new) }
-    ensures nonces { D.keeps_word disk.old → (d : Database) → Suits core.old.page_size (D.state disk.old)
-        → IsHeld core.old.page_size d → length d ≡ core.old.size
-        → length core.old.header.items ≡ (D.state disk.old).sector → Rests core.old.page_size d (D.state disk.old) →
-        OnOk result (LeavesParts (sizes (D.state disk.old).sector core.old.page_size) (parts_of d
-        (pages_of core.old.changes.items)
-        (take (segments_of (length (pages_of core.old.changes.items))) nonces.now)) (D.state disk.new)) }
 {
     let sector = disk.sector() as u32;
     put_segments(disk, core, pages, nonces, sector)?;
@@ -105,15 +87,10 @@ fn write_commit<D: Disk>(
     nonces: &[u32],
 ) -> Result<(), RollError>
     requires { IsReady pages.now size (length nonces.now) core.old }
-    ensures word { D.keeps_word disk.old ↔ D.keeps_word disk.new }
-    ensures device { OnErr result (result ≡ Err RollError.Device) }
-    ensures closes { OnErr result (core.new.is_open ≡ false) }
-    ensures step { D.keeps_word disk.old → (past : State) → FitsCore past core.old (D.state disk.old)
-        → IsTrue core.old.is_open → StepsTo past (Commits (lent pages.now) size nonces.now)
-        (answered (λ _. Done) result) core.new (D.state disk.old) (D.state disk.new) }
-    ensures nonces { D.keeps_word disk.old → (past : State) → FitsCore past core.old (D.state disk.old)
-        → IsTrue core.old.is_open
-        → TakesNonces past (lent pages.now) size nonces.now result (D.state disk.old) (D.state disk.new) }
+    ensures disk { During D.keeps_word D.state disk.old disk.new
+        (CommitsOpen (lent pages.now) size nonces.now result core.old core.new) }
+    ensures error { OnErr result (result ≡ Err RollError.Device) }
+    ensures shut { OnErr result (core.new.is_open ≡ false) }
 {
     let put = put_commit(disk, core, pages, size, nonces);
     end_put(core, size, put)
@@ -127,14 +104,10 @@ fn commit_pages<D: Disk>(
     size: u32,
     nonces: &[u32],
 ) -> Result<(), RollError>
-    ensures word { D.keeps_word disk.old ↔ D.keeps_word disk.new }
+    ensures disk { During D.keeps_word D.state disk.old disk.new
+        (CommitsPages (lent pages.now) size nonces.now result core.old core.new) }
     ensures kept { IfErr result (λ e. e ≢ RollError.Device → (disk.new ≡ disk.old) × KeepsCore core.old core.new) }
     ensures closes { ClosesOnDevice result core.old core.new disk.old disk.new }
-    ensures step { D.keeps_word disk.old → (past : State) → FitsCore past core.old (D.state disk.old) → StepsTo past
-        (Commits (lent pages.now) size nonces.now) (answered (λ _. Done) result) core.new (D.state disk.old)
-        (D.state disk.new) }
-    ensures nonces { D.keeps_word disk.old → (past : State) → FitsCore past core.old (D.state disk.old)
-        → TakesNonces past (lent pages.now) size nonces.now result (D.state disk.old) (D.state disk.new) }
 {
     if !core.is_open {
         return Err(RollError::Closed);
@@ -155,16 +128,12 @@ impl<D: Disk> Roll<D> {
         size: u32,
         nonces: &[u32],
     ) -> Result<(), RollError>
-        ensures word { D.keeps_word self.old.disk ↔ D.keeps_word self.new.disk }
+        ensures disk { During D.keeps_word D.state self.old.disk self.new.disk
+            (CommitsPages (lent pages.now) size nonces.now result self.old.core self.new.core) }
         // a refusal other than Device changes nothing but what its buffers hold
         ensures kept { IfErr result
             (λ e. e ≢ RollError.Device → (self.new.disk ≡ self.old.disk) × KeepsCore self.old.core self.new.core) }
         ensures closes { ClosesOnDevice result self.old.core self.new.core self.old.disk self.new.disk }
-        ensures step { D.keeps_word self.old.disk → (past : State) → Fits D.state self.old past → Steps D.state
-            self.old self.new past (Commits (lent pages.now) size nonces.now) (answered (λ _. Done) result) }
-        // where it is done, segment s of the journal has nonce s, and the old contents of the next 64 pages
-        ensures nonces { D.keeps_word self.old.disk → (past : State) → Fits D.state self.old past
-            → TakesNonces past (lent pages.now) size nonces.now result (D.state self.old.disk) (D.state self.new.disk) }
     {
         commit_pages(&mut self.disk, &mut self.core, pages, size, nonces)
     }

@@ -1,26 +1,12 @@
 //! The pages of a journal's records are copied into the database, and the journal's header is zeroed.
-ghost use Rattle.std.specs.Prelude.{◌≡◌, ◌↔◌, ◌+◌, ◌-◌, ◌*◌, ◌^◌, ◌<◌, ◌≤◌, ℕ, List, length, Some, true, IsTrue, IfOk};
+ghost use Rattle.std.specs.Prelude.{◌≡◌, ◌+◌, ◌-◌, ◌*◌, ◌^◌, ◌<◌, ◌≤◌, ℕ, List, length, Some, IsTrue, IfOk};
 ghost use Rattle.std.specs.Prelude.{IfErr};
-ghost use Rattle.sqval.specs.Bytes.{word};
-ghost use Rattle.sqval.specs.Database.{Database};
-ghost use Rattle.sqval.specs.Held.{IsHeld};
-ghost use Rattle.sqjournal.specs.Restored.{IsRolledBack};
-ghost use Rattle.sqjournal.specs.Journal.{IsHot};
-ghost use Rattle.crashdisk.specs.Call.{DiskState, IsSoundDisk, ArePresent};
 ghost use Rattle.crashdisk.specs.declared.file.File.TheVariants.{Db, Log};
-ghost use Rattle.sqval.specs.CommitFaults.{most_bytes};
-ghost use Rattle.crashdisk.specs.During.{During, OnSound};
+ghost use Rattle.crashdisk.specs.During.{During};
 ghost use Rattle.sqjournal.specs.Took.{HasEntry};
-ghost use Rattle.rollcore.specs.Copying.{CopiesRun, CopiesRecords};
-ghost use Rattle.rollcore.specs.Steps.{HasRead, ArePages, ZeroSteps, EndAnswer};
-ghost use Rattle.crashdisk.specs.Keeps.{Still, KeepsLog, SyncStep, IsLogDown};
-ghost use Rattle.rollcore.specs.Changes.{MayReplay, Asks};
-ghost use Rattle.rollcore.specs.Phases.{Writing};
-ghost use Rattle.rollcore.specs.Alone.{ShowsAlone};
-ghost use Rattle.rollcore.specs.Commits.{PutAnswer};
-ghost use Rattle.rollcore.specs.Segments.{Journaled};
-ghost use Rattle.rollcore.specs.Lengths.{EndsBy};
-ghost use Rattle.crashdisk.specs.State.{IsSectorSize};
+ghost use Rattle.rollcore.specs.Copying.{CopiesRun, CopiesRecords, Finishes};
+ghost use Rattle.rollcore.specs.Steps.{HasRead, ZeroSteps};
+ghost use Rattle.crashdisk.specs.Keeps.{SyncStep};
 
 use crate::error::RollError;
 use crashdisk::{Disk, File};
@@ -74,26 +60,34 @@ fn run_from(scan: &Replay, number: usize, first: Record, size: usize, most: usiz
     run
 }
 
-/// Copies the page of the record of this number, and of some behind it, at most so many, where it is one of the
-/// database of so many pages. How many records.
+/// How many pages a database has, and how many bytes a page.
+#[derive(Clone, Copy)]
+struct Shape {
+    count: u32,
+    size: usize,
+}
+
+/// Copies the page of the record of this number, and of some behind it, at most so many, where it is one of a database
+/// of this shape. How many records.
 fn copy_run<D: Disk>(
     disk: &mut D,
     scan: &Replay,
+    shape: Shape,
     number: usize,
-    count: u32,
     most: usize,
-    size: usize,
     room: &mut [u8],
 ) -> Result<usize, RollError>
     requires number { (1 ≤ number) × (number - 1 + most < 2 ^ 64) × (1 ≤ most) × (most ≤ 2 ^ 25) }
-    requires room { (size ≤ 65536) × (most * (2 * size + ROUND) ≤ length room.old + size + ROUND) }
-    ensures disk { During D.keeps_word D.state disk.old disk.new (OnSound (CopiesRun size scan.now count number result)) }
+    requires room { (shape.size ≤ 65536) × (most * (2 * shape.size + ROUND) ≤ length room.old + shape.size + ROUND) }
+    ensures disk { During D.keeps_word D.state disk.old disk.new
+        (CopiesRun shape.size scan.now shape.count number result) }
     ensures count { IfOk result (λ k. (1 ≤ k) × (k ≤ most)) }
     ensures room { length room.new ≡ length room.old }
 {
     let Some(first) = scan.entry(number) else {
         return Ok(1);
     };
+    let Shape { count, size } = shape;
     if first.page == 0 || first.page > count {
         return Ok(1);
     }
@@ -119,14 +113,15 @@ pub fn copy_records<D: Disk>(
 ) -> Result<(), RollError>
     requires size { (1 ≤ size) × (size ≤ 65536) }
     requires room { (size ≤ length room.old) × (length room.old ≤ 2 ^ 24) }
-    ensures { During D.keeps_word D.state disk.old disk.new (OnSound (CopiesRecords size scan.now count result)) }
+    ensures { During D.keeps_word D.state disk.old disk.new (CopiesRecords size scan.now count result) }
 {
+    let shape = Shape { count, size };
     let most = fitting(room.len(), size);
     let total = scan.count();
     let mut done = 0;
     while done < total {
         let left = total - done;
-        done += copy_run(disk, scan, done + 1, count, most.min(left), size, room)?;
+        done += copy_run(disk, scan, shape, done + 1, most.min(left), room)?;
     }
     disk.set_len(File::Db, u64::from(count) * size as u64)?;
     Ok(())
@@ -134,10 +129,8 @@ pub fn copy_records<D: Disk>(
 
 /// Makes the database stay.
 fn settle_database<D: Disk>(disk: &mut D) -> Result<(), RollError>
-    ensures word { D.keeps_word disk.old ↔ D.keeps_word disk.new }
-    ensures device { IfErr result (λ e. e ≡ RollError.Device) }
-    ensures state { D.keeps_word disk.old
-        → SyncStep RollError.Device File.Db result (D.state disk.old) (D.state disk.new) }
+    ensures disk { During D.keeps_word D.state disk.old disk.new (SyncStep RollError.Device Db result) }
+    ensures error { IfErr result (λ e. e ≡ RollError.Device) }
 {
     disk.sync(File::Db)?;
     Ok(())
@@ -145,9 +138,8 @@ fn settle_database<D: Disk>(disk: &mut D) -> Result<(), RollError>
 
 /// Makes the journal's first header invalid, for good.
 fn zero_header<D: Disk>(disk: &mut D) -> Result<(), RollError>
-    ensures word { D.keeps_word disk.old ↔ D.keeps_word disk.new }
-    ensures device { IfErr result (λ e. e ≡ RollError.Device) }
-    ensures state { D.keeps_word disk.old → ZeroSteps result (D.state disk.old) (D.state disk.new) }
+    ensures disk { During D.keeps_word D.state disk.old disk.new (ZeroSteps result) }
+    ensures error { IfErr result (λ e. e ≡ RollError.Device) }
 {
     disk.write_at(File::Log, 0, &[0; 28])?;
     disk.sync(File::Log)?;
@@ -156,24 +148,8 @@ fn zero_header<D: Disk>(disk: &mut D) -> Result<(), RollError>
 
 /// Makes the database stay, and then zeroes the journal's first header (fileformat2, 3).
 pub fn finish<D: Disk>(disk: &mut D) -> Result<(), RollError>
-    ensures word { D.keeps_word disk.old ↔ D.keeps_word disk.new }
-    ensures device { IfErr result (λ e. e ≡ RollError.Device) }
-    ensures ends { D.keeps_word disk.old → IsSoundDisk (D.state disk.old)
-        → EndAnswer result (D.state disk.old) (D.state disk.new) }
-    ensures shows { D.keeps_word disk.old → (size : ℕ) (w : List ℕ) (d : Database)
-        → Writing size w d (D.state disk.old) → ArePages size d (D.state disk.old).db
-        → ShowsAlone size d (D.state disk.new) }
-    ensures asks { D.keeps_word disk.old → (size : ℕ)
-        → Asks (MayReplay size) result (D.state disk.old) (D.state disk.new) }
-    ensures lengths { D.keeps_word disk.old → IsSoundDisk (D.state disk.old) → IsSectorSize (D.state disk.old).sector
-        → (w : List ℕ) → IsLogDown (D.state disk.old) w → IsHot w
-        → ((D.state disk.old).tears ≡ true → (D.state disk.old).sector ≤ word w 20)
-        → EndsBy (D.state disk.old).db.len (D.state disk.new) }
-    ensures commit { D.keeps_word disk.old
-        → (size sector : ℕ) (d e : Database) (named : List ℕ) (place : ℕ) (w : List ℕ)
-        → Journaled size sector d named place w (D.state disk.old) → 0 < place
-        → ArePages size e (D.state disk.old).db → IsHeld size e
-        → PutAnswer size d e result (D.state disk.old) (D.state disk.new) }
+    ensures disk { During D.keeps_word D.state disk.old disk.new (Finishes result) }
+    ensures error { IfErr result (λ e. e ≡ RollError.Device) }
 {
     settle_database(disk)?;
     zero_header(disk)?; // once the database is down

@@ -1,11 +1,11 @@
 //! What a replay is going to do (own).
-ghost use Rattle.std.specs.Prelude.{◌≡◌, ◌↔◌, ◌+◌, ◌*◌, ◌≤◌, ℕ, List, length, OnOk, IfOk, MatchOption};
-ghost use Rattle.crashdisk.specs.Call.{DiskState, IsSoundDisk, ArePresent};
+ghost use Rattle.std.specs.Prelude.{◌+◌, ◌*◌, ◌≤◌, ℕ, List, OnOk, IfOk, MatchOption};
 ghost use Rattle.sqjournal.specs.Header.{Names};
 ghost use Rattle.sqjournal.specs.Journal.{IsHot};
-ghost use Rattle.crashdisk.specs.Keeps.{Still, TellsRefusal};
-ghost use Rattle.rollcore.specs.Plans.{IsSmall, JudgeAnswer, PlanAnswer, ReadAnswer};
+ghost use Rattle.rollcore.specs.Plans.{IsSmall, JudgeAnswer, PlanAnswer};
 ghost use Rattle.rollcore.specs.Steps.{HasRead};
+ghost use Rattle.crashdisk.specs.During.{During};
+ghost use Rattle.rollcore.specs.Reading.{OnlyReads, PlansReplay};
 
 use crate::error::RollError;
 use crate::reading::{scan_log, zeros};
@@ -63,14 +63,8 @@ pub fn read_plan<D: Disk>(
     long: u64,
     torn: usize,
 ) -> Result<Option<Plan>, RollError>
-    ensures word { D.keeps_word disk.old ↔ D.keeps_word disk.new }
-    ensures still { D.keeps_word disk.old → IsSoundDisk (D.state disk.old)
-        → Still (D.state disk.old) (D.state disk.new) }
-    ensures plan { D.keeps_word disk.old → IsSoundDisk (D.state disk.old)
-        → (w : List ℕ) → ArePresent (D.state disk.old).log w → length w ≡ long
-        → ReadAnswer torn w result (D.state disk.old) (D.state disk.new) }
+    ensures disk { During D.keeps_word D.state disk.old disk.new (OnlyReads result (PlansReplay long torn result)) }
     ensures small { IfOk result (λ o. MatchOption o (Unit {0}) IsSmall) }
-    ensures told { D.keeps_word disk.old → TellsRefusal RollError.Device result (D.state disk.old) (D.state disk.new) }
 {
     match scan_log(alloc, disk, long)? {
         Some(scan) => plan_of(alloc, scan, torn),

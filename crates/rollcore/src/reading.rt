@@ -1,9 +1,8 @@
 //! The scan of the journal on a disk (own).
-ghost use Rattle.std.specs.Prelude.{◌≡◌, ◌↔◌, ◌+◌, ◌<◌, ◌≤◌, ℕ, List, [], length, take, IfOk, OnErr};
-ghost use Rattle.crashdisk.specs.Call.{DiskState, IsSoundDisk, ArePresent};
-ghost use Rattle.sqjournal.specs.Took.{Took};
-ghost use Rattle.rollcore.specs.Steps.{IsWithoutHeader, PieceAnswer, PiecesAnswer, ScanAnswer};
-ghost use Rattle.crashdisk.specs.Keeps.{Still, TellsRefusal};
+ghost use Rattle.std.specs.Prelude.{◌≡◌, ◌+◌, ◌<◌, length, IfOk, OnErr};
+ghost use Rattle.rollcore.specs.Steps.{IsWithoutHeader};
+ghost use Rattle.crashdisk.specs.During.{During};
+ghost use Rattle.rollcore.specs.Reading.{OnlyReads, TakesPiece, TakesLog, ScansLog};
 
 use crate::error::RollError;
 use crashdisk::{Disk, File};
@@ -36,13 +35,8 @@ fn feed_piece<D: Disk>(
     at: u64,
     piece: &mut [u8],
 ) -> Result<bool, RollError>
-    ensures word { D.keeps_word disk.old ↔ D.keeps_word disk.new }
-    ensures still { D.keeps_word disk.old → IsSoundDisk (D.state disk.old)
-        → Still (D.state disk.old) (D.state disk.new) }
-    ensures told { D.keeps_word disk.old → TellsRefusal RollError.Device result (D.state disk.old) (D.state disk.new) }
-    ensures took { D.keeps_word disk.old → IsSoundDisk (D.state disk.old) → (w : List ℕ)
-        → ArePresent (D.state disk.old).log w → at + length piece.old ≤ length w → Took (take at w) scan.old
-        → PieceAnswer w (at + length piece.old) result scan.new (D.state disk.old) (D.state disk.new) }
+    ensures { During D.keeps_word D.state disk.old disk.new
+        (OnlyReads result (TakesPiece at (length piece.old) scan.old scan.new result)) }
 {
     disk.read_at(File::Log, at, piece)?;
     match scan.feed(piece) {
@@ -60,13 +54,8 @@ fn scan_pieces<D: Disk>(
     buffer: &mut [u8],
 ) -> Result<bool, RollError>
     requires { 0 < length buffer.old }
-    ensures word { D.keeps_word disk.old ↔ D.keeps_word disk.new }
-    ensures still { D.keeps_word disk.old → IsSoundDisk (D.state disk.old)
-        → Still (D.state disk.old) (D.state disk.new) }
-    ensures told { D.keeps_word disk.old → TellsRefusal RollError.Device result (D.state disk.old) (D.state disk.new) }
-    ensures took { D.keeps_word disk.old → IsSoundDisk (D.state disk.old)
-        → (w : List ℕ) → ArePresent (D.state disk.old).log w → length w ≡ long → Took [] scan.old
-        → PiecesAnswer w result scan.new (D.state disk.old) (D.state disk.new) }
+    ensures { During D.keeps_word D.state disk.old disk.new
+        (OnlyReads result (TakesLog long scan.old scan.new result)) }
 {
     let most = buffer.len();
     let mut at = 0;
@@ -98,13 +87,7 @@ pub fn scan_log<D: Disk>(
     disk: &mut D,
     long: u64,
 ) -> Result<Option<Replay>, RollError>
-    ensures word { D.keeps_word disk.old ↔ D.keeps_word disk.new }
-    ensures still { D.keeps_word disk.old → IsSoundDisk (D.state disk.old)
-        → Still (D.state disk.old) (D.state disk.new) }
-    ensures told { D.keeps_word disk.old → TellsRefusal RollError.Device result (D.state disk.old) (D.state disk.new) }
-    ensures took { D.keeps_word disk.old → IsSoundDisk (D.state disk.old)
-        → (w : List ℕ) → ArePresent (D.state disk.old).log w → length w ≡ long
-        → ScanAnswer w result (D.state disk.old) (D.state disk.new) }
+    ensures { During D.keeps_word D.state disk.old disk.new (OnlyReads result (ScansLog long result)) }
 {
     if long > LONGEST {
         return Err(RollError::TooLarge);

@@ -1,5 +1,5 @@
 //! Recovery: a hot journal is replayed into its database (fileformat2, 3; what it answers is own).
-ghost use Rattle.std.specs.Prelude.{◌≡◌, ◌↔◌, ◌*◌, ◌≤◌, ℕ, List, length, IfOk, MatchOption};
+ghost use Rattle.std.specs.Prelude.{◌≡◌, IfOk, MatchOption};
 
 use crate::copying::{copy_records, finish};
 use crate::error::RollError;
@@ -19,22 +19,15 @@ pub struct Replayed {
     pub size: u32,
 }
 
-ghost use Rattle.crashdisk.specs.Call.{DiskState, IsSoundDisk, ArePresent};
 ghost use Rattle.crashdisk.specs.State.{IsSectorSize};
-ghost use Rattle.sqval.specs.Database.{Database};
-ghost use Rattle.rollcore.specs.Alone.{ShowsAlone};
-ghost use Rattle.rollcore.specs.Phases.{Scanning};
-ghost use Rattle.rollcore.specs.Steps.{torn_sector, RolledAnswer};
-ghost use Rattle.crashdisk.specs.Keeps.{Still, IsLogDown, TellsRefusal};
-ghost use Rattle.rollcore.specs.Plans.{IsPlan, IsFit, IsSmall, ReadAnswer};
-ghost use Rattle.rollcore.specs.Changes.{MayReplay, Asks};
-ghost use Rattle.rollcore.specs.Replaying.{Replays, Agrees, SyncsFirst};
-ghost use Rattle.rollcore.specs.Lengths.{EndsBy, KeepsLength};
-ghost use Rattle.sqval.specs.Bytes.{word};
+ghost use Rattle.rollcore.specs.Steps.{torn_sector};
+ghost use Rattle.rollcore.specs.Plans.{IsSmall};
+ghost use Rattle.crashdisk.specs.During.{During};
+ghost use Rattle.rollcore.specs.Reading.{OnlyReads, FindsPlan};
+ghost use Rattle.rollcore.specs.Copying.{ReplaysPlan, ReplaysSynced, ReplaysFile};
 
 /// The size in bytes of a sector that may tear, 0 on a disk that doesn't tear.
 pub(crate) fn sector_that_tears<D: Disk>(disk: &D) -> usize
-    ensures sound { D.keeps_word disk.now → IsSoundDisk (D.state disk.now) }
     ensures sectors { D.keeps_word disk.now → IsSectorSize (D.state disk.now).sector }
     ensures value { D.keeps_word disk.now → result ≡ torn_sector (D.state disk.now) }
 {
@@ -44,13 +37,8 @@ pub(crate) fn sector_that_tears<D: Disk>(disk: &D) -> usize
 
 /// Reads the journal and judges it. None where it isn't hot.
 pub(crate) fn find_plan<D: Disk>(alloc: Global, disk: &mut D) -> Result<Option<Plan>, RollError>
-    ensures word { D.keeps_word disk.old ↔ D.keeps_word disk.new }
-    ensures sectors { D.keeps_word disk.old → IsSectorSize (D.state disk.old).sector }
-    ensures still { D.keeps_word disk.old → Still (D.state disk.old) (D.state disk.new) }
-    ensures plan { D.keeps_word disk.old → (w : List ℕ) → ArePresent (D.state disk.old).log w
-        → ReadAnswer (torn_sector (D.state disk.old)) w result (D.state disk.old) (D.state disk.new) }
+    ensures disk { During D.keeps_word D.state disk.old disk.new (OnlyReads result (FindsPlan result)) }
     ensures small { IfOk result (λ o. MatchOption o (Unit {0}) IsSmall) }
-    ensures told { D.keeps_word disk.old → TellsRefusal RollError.Device result (D.state disk.old) (D.state disk.new) }
 {
     let torn = sector_that_tears(disk);
     let long = disk.len(File::Log)?;
@@ -60,18 +48,7 @@ pub(crate) fn find_plan<D: Disk>(alloc: Global, disk: &mut D) -> Result<Option<P
 /// Replays what is planned.
 pub(crate) fn replay_plan<D: Disk>(disk: &mut D, plan: Plan) -> Result<Replayed, RollError>
     requires { IsSmall plan }
-    ensures word { D.keeps_word disk.old ↔ D.keeps_word disk.new }
-    ensures replays { D.keeps_word disk.old → IsSoundDisk (D.state disk.old) → (db w : List ℕ) (torn : ℕ)
-        → ArePresent (D.state disk.old).db db → ArePresent (D.state disk.old).log w → IsFit torn w → IsPlan w plan
-        → RolledAnswer db w result (D.state disk.old) (D.state disk.new) }
-    ensures shows { D.keeps_word disk.old → IsSoundDisk (D.state disk.old) → IsSectorSize (D.state disk.old).sector
-        → (size : ℕ) (w : List ℕ) (d : Database) → Scanning size d w (D.state disk.old)
-        → IsFit (torn_sector (D.state disk.old)) w → IsPlan w plan → ShowsAlone size d (D.state disk.new) }
-    ensures asks { D.keeps_word disk.old
-        → Asks (MayReplay plan.header.page_size) result (D.state disk.old) (D.state disk.new) }
-    ensures ends { D.keeps_word disk.old → IsSoundDisk (D.state disk.old) → IsSectorSize (D.state disk.old).sector
-        → (w : List ℕ) → IsLogDown (D.state disk.old) w → IsFit (torn_sector (D.state disk.old)) w → IsPlan w plan
-        → EndsBy (word w 16 * word w 24) (D.state disk.new) }
+    ensures disk { During D.keeps_word D.state disk.old disk.new (ReplaysPlan plan result) }
     ensures size { IfOk result (λ r. r.size ≡ plan.header.first_size) }
 {
     let Plan {
@@ -97,14 +74,7 @@ pub(crate) fn replay_plan<D: Disk>(disk: &mut D, plan: Plan) -> Result<Replayed,
 /// sectors that it names; with `NoMemory`; and with `Device` where the disk refused a call, either of which may stand
 /// in place of these two. All but `Device` change no byte. After `Device` the replay is to be called again.
 pub fn replay<D: Disk>(alloc: Global, disk: &mut D) -> Result<Replayed, RollError>
-    ensures word { D.keeps_word disk.old ↔ D.keeps_word disk.new }
-    ensures replays { D.keeps_word disk.old → Replays result (D.state disk.old) (D.state disk.new) }
-    ensures agrees { D.keeps_word disk.old → Agrees (D.state disk.old) (D.state disk.new) }
-    ensures lengths { D.keeps_word disk.old → KeepsLength (D.state disk.old) (D.state disk.new) }
-    ensures synced { D.keeps_word disk.old → SyncsFirst result (D.state disk.old) (D.state disk.new) }
-    // pages of the size that the journal names; and a call of the disk that was refused is told
-    ensures asks { D.keeps_word disk.old → (w : List ℕ) → ArePresent (D.state disk.old).log w
-        → Asks (MayReplay (word w 24)) result (D.state disk.old) (D.state disk.new) }
+    ensures { During D.keeps_word D.state disk.old disk.new (ReplaysFile result) }
 {
     disk.sync(File::Log)?;
     replay_synced(alloc, disk)
@@ -112,12 +82,7 @@ pub fn replay<D: Disk>(alloc: Global, disk: &mut D) -> Result<Replayed, RollErro
 
 /// What a replay does once it has synced the log. Refused as `replay` is.
 pub fn replay_synced<D: Disk>(alloc: Global, disk: &mut D) -> Result<Replayed, RollError>
-    ensures word { D.keeps_word disk.old ↔ D.keeps_word disk.new }
-    ensures replays { D.keeps_word disk.old → Replays result (D.state disk.old) (D.state disk.new) }
-    ensures agrees { D.keeps_word disk.old → Agrees (D.state disk.old) (D.state disk.new) }
-    ensures lengths { D.keeps_word disk.old → KeepsLength (D.state disk.old) (D.state disk.new) }
-    ensures asks { D.keeps_word disk.old → (w : List ℕ) → ArePresent (D.state disk.old).log w
-        → Asks (MayReplay (word w 24)) result (D.state disk.old) (D.state disk.new) }
+    ensures { During D.keeps_word D.state disk.old disk.new (ReplaysSynced result) }
 {
     match find_plan(alloc, disk)? {
         Some(plan) => replay_plan(disk, plan),

@@ -1,24 +1,17 @@
 //! A segment of the journal: old pages are copied from the database to the journal, and once they are down, the header
 //! is written.
-ghost use Rattle.std.specs.Prelude.{◌≡◌, ◌⊎◌, ◌↔◌, ◌+◌, ◌-◌, ◌*◌, ◌^◌, ◌<◌, ◌≤◌, ◌++◌, ℕ, List, [], ◌∷◌, length, take};
-ghost use Rattle.std.specs.Prelude.{drop, replicate, Some, IfOk, IfErr};
+ghost use Rattle.std.specs.Prelude.{◌≡◌, ◌+◌, ◌-◌, ◌*◌, ◌^◌, ◌<◌, ◌≤◌, ◌++◌, length, take};
+ghost use Rattle.std.specs.Prelude.{drop, replicate, Some, IfErr};
 ghost use Rattle.std.specs.List.{All};
 ghost use Rattle.byteorder.specs.Endian.{big_bytes};
 ghost use Rattle.sqval.specs.Bytes.{part};
-ghost use Rattle.sqval.specs.CommitFaults.{most_bytes};
-ghost use Rattle.sqval.specs.Database.{Database};
-ghost use Rattle.sqval.specs.JudgedPages.{lent};
-ghost use Rattle.sqjournal.specs.Header.{IsSector, Names, header_bytes, next_header};
-ghost use Rattle.sqjournal.specs.Journal.{records_end};
-ghost use Rattle.crashdisk.specs.Call.{DiskState, IsSoundDisk};
+ghost use Rattle.crashdisk.specs.During.{During};
+ghost use Rattle.rollcore.specs.Committing.{AreNumbered, AreAmong, ArePart, WritesRecord, WritesRecords};
+ghost use Rattle.rollcore.specs.Committing.{PreparesSegment, WritesHeader, PutsPage, PutsPages, PutsNewPages, PutsSegment};
+ghost use Rattle.std.specs.Prelude.{MatchResult};
+ghost use Rattle.sqjournal.specs.Header.{IsSector, Names, header_bytes};
 ghost use Rattle.crashdisk.specs.declared.file.File.TheVariants.{Log};
-ghost use Rattle.crashdisk.specs.Keeps.{SyncStep};
-ghost use Rattle.rollcore.specs.Changes.{MayReplay, MayCommit, Asks};
-ghost use Rattle.rollcore.specs.Commits.{change_at, ArePlaced, AreWithin};
-ghost use Rattle.rollcore.specs.Journaling.{old_pages, sizes, next_place, record_bytes, IsHeaderOf};
-ghost use Rattle.rollcore.specs.Segments.{Recording, Recorded, Ended, Prepared, Journaled, RecordStep, pages_of};
-ghost use Rattle.rollcore.specs.Segments.{AreFresh, RecordsAnswer, PreparedAnswer, HeaderAnswer, PageStep, ArePut};
-ghost use Rattle.rollcore.specs.Segments.{AreTurned, AreSome, PutPagesAnswer, AreOf, new_numbers, SegmentAnswer};
+ghost use Rattle.rollcore.specs.Journaling.{record_bytes};
 
 use crate::changes::Change;
 use crate::error::RollError;
@@ -26,6 +19,13 @@ use crate::opening::{break_magic, settle_log};
 use byteorder::{BigEndian, ByteOrder};
 use crashdisk::{Disk, File};
 use sqjournal::{JournalHeader, next_header_at, page_sum};
+
+/// A segment's header, and where it is going to stand in the journal.
+#[derive(Clone, Copy)]
+pub(crate) struct Head {
+    pub place: u64,
+    pub header: JournalHeader,
+}
 
 /// Writes a number as four bytes at a place, the highest byte first.
 fn put_word(bytes: &mut [u8], at: usize, value: u32)
@@ -54,17 +54,12 @@ fn write_record<D: Disk>(
     page: u32,
     nonce: u32,
 ) -> Result<(), RollError>
-    requires room { 8 ≤ length buffer.old }
-    requires short { length buffer.old ≤ 65544 }
+    requires buffer { (8 ≤ length buffer.old) × (length buffer.old ≤ 65544) }
     requires page { 1 ≤ page }
     requires place { at ≤ 2 ^ 39 + 2 ^ 23 }
-    ensures word { D.keeps_word disk.old ↔ D.keeps_word disk.new }
-    ensures device { IfErr result (λ e. e ≡ RollError.Device) }
-    ensures asks { D.keeps_word disk.old → (sector : ℕ)
-        → Asks (MayCommit (length buffer.old - 8) sector) result (D.state disk.old) (D.state disk.new) }
-    ensures record { D.keeps_word disk.old → IsSoundDisk (D.state disk.old)
-        → page * (length buffer.old - 8) ≤ most_bytes
-        → RecordStep (length buffer.old - 8) page nonce at result (D.state disk.old) (D.state disk.new) }
+    ensures disk { During D.keeps_word D.state disk.old disk.new
+        (WritesRecord (length buffer.old - 8) page nonce at result) }
+    ensures error { IfErr result (λ e. e ≡ RollError.Device) }
 {
     let end = buffer.len() - 4;
     let from = u64::from(page - 1) * (end - 4) as u64;
@@ -82,20 +77,13 @@ fn write_records<D: Disk>(
     at: u64,
     nonce: u32,
 ) -> Result<u64, RollError>
-    requires room { 8 ≤ length buffer.old }
-    requires short { length buffer.old ≤ 65544 }
-    requires few { length changes.now ≤ 64 }
-    requires pages { (i : ℕ) → i < length changes.now → 1 ≤ (change_at changes.now i).page }
+    requires buffer { (8 ≤ length buffer.old) × (length buffer.old ≤ 65544) }
+    requires changes { (length changes.now ≤ 64) × AreNumbered changes.now }
     requires place { at ≤ 2 ^ 39 }
-    ensures word { D.keeps_word disk.old ↔ D.keeps_word disk.new }
-    ensures device { IfErr result (λ e. e ≡ RollError.Device) }
-    ensures asks { D.keeps_word disk.old → (sector : ℕ)
-        → Asks (MayCommit (length buffer.old - 8) sector) result (D.state disk.old) (D.state disk.new) }
-    ensures end { IfOk result (λ end. end ≡ at + length changes.now * length buffer.old) }
-    ensures records { D.keeps_word disk.old → (sector : ℕ) (d : Database) (named : List ℕ) (place : ℕ) (w : List ℕ)
-        → Recording (length buffer.old - 8) sector d named place w (D.state disk.old) → at ≡ place + sector
-        → AreFresh d named (pages_of changes.now) → RecordsAnswer (length buffer.old - 8) sector d named place w
-        (pages_of changes.now) nonce result (D.state disk.old) (D.state disk.new) }
+    ensures disk { During D.keeps_word D.state disk.old disk.new
+        (WritesRecords (length buffer.old - 8) at nonce changes.now result) }
+    ensures answer { MatchResult result (λ end. end ≡ at + length changes.now * length buffer.old)
+        (λ e. e ≡ RollError.Device) }
 {
     let mut end = at;
     for change in changes {
@@ -115,22 +103,13 @@ fn prepare_segment<D: Disk>(
     sector: u32,
     nonce: u32,
 ) -> Result<u64, RollError>
-    requires room { 8 ≤ length buffer.old }
-    requires short { length buffer.old ≤ 65544 }
-    requires few { length changes.now ≤ 64 }
-    requires pages { (i : ℕ) → i < length changes.now → 1 ≤ (change_at changes.now i).page }
+    requires buffer { (8 ≤ length buffer.old) × (length buffer.old ≤ 65544) }
+    requires changes { (length changes.now ≤ 64) × AreNumbered changes.now }
     requires place { place ≤ 2 ^ 38 }
     requires sector { IsSector sector }
-    ensures word { D.keeps_word disk.old ↔ D.keeps_word disk.new }
-    ensures device { IfErr result (λ e. e ≡ RollError.Device) }
-    ensures asks { D.keeps_word disk.old
-        → Asks (MayCommit (length buffer.old - 8) sector) result (D.state disk.old) (D.state disk.new) }
-    ensures near { IfOk result (λ next. next ≤ place + 2 ^ 23) }
-    ensures prepared { D.keeps_word disk.old → (d : Database) (named w : List ℕ)
-        → Journaled (length buffer.old - 8) sector d named place w (D.state disk.old)
-        → AreFresh d named (pages_of changes.now) → (place ≡ 0) ⊎ (1 ≤ length changes.now) → PreparedAnswer
-        (length buffer.old - 8) sector d named place w (pages_of changes.now) nonce result (D.state disk.old)
-        (D.state disk.new) }
+    ensures disk { During D.keeps_word D.state disk.old disk.new
+        (PreparesSegment (length buffer.old - 8) sector nonce place changes.now result) }
+    ensures answer { MatchResult result (λ next. next ≤ place + 2 ^ 23) (λ e. e ≡ RollError.Device) }
 {
     let end = write_records(disk, buffer, changes, place + u64::from(sector), nonce)?;
     let next = next_header_at(end, sector);
@@ -156,11 +135,8 @@ fn fill_header(header: &mut [u8], head: &JournalHeader)
 fn put_page<D: Disk>(disk: &mut D, page: u32, content: &[u8]) -> Result<(), RollError>
     requires page { 1 ≤ page }
     requires short { length content.now ≤ 65536 }
-    ensures word { D.keeps_word disk.old ↔ D.keeps_word disk.new }
-    ensures device { IfErr result (λ e. e ≡ RollError.Device) }
-    ensures asks { D.keeps_word disk.old → page * length content.now ≤ most_bytes
-        → Asks (MayReplay (length content.now)) result (D.state disk.old) (D.state disk.new) }
-    ensures step { D.keeps_word disk.old → PageStep page content.now result (D.state disk.old) (D.state disk.new) }
+    ensures disk { During D.keeps_word D.state disk.old disk.new (PutsPage page content.now result) }
+    ensures error { IfErr result (λ e. e ≡ RollError.Device) }
 {
     let at = u64::from(page - 1) * content.len() as u64;
     disk.write_at(File::Db, at, content)?;
@@ -173,20 +149,11 @@ fn put_pages<D: Disk>(
     changes: &[Change],
     pages: &[(u32, &[u8])],
 ) -> Result<(), RollError>
-    requires pages { (i : ℕ) → i < length changes.now → 1 ≤ (change_at changes.now i).page }
-    requires within { (i k : ℕ) → i < length changes.now → (change_at changes.now i).content ≡ Some k
-        → k < length pages.now }
+    requires pages { AreNumbered changes.now }
+    requires within { AreAmong (length pages.now) changes.now }
     requires short { All (λ x. length x.1.now ≤ 65536) pages.now }
-    ensures word { D.keeps_word disk.old ↔ D.keeps_word disk.new }
-    ensures device { IfErr result (λ e. e ≡ RollError.Device) }
-    ensures asks { D.keeps_word disk.old → (size : ℕ) → ArePlaced size pages.now → AreWithin size changes.now
-        → Asks (MayReplay size) result (D.state disk.old) (D.state disk.new) }
-    ensures put { D.keeps_word disk.old
-        → (size sector : ℕ) (d e : Database) (named : List ℕ) (place : ℕ) (w before : List ℕ)
-        → Journaled size sector d named place w (D.state disk.old) → 0 < place
-        → AreTurned size e named (lent pages.now) changes.now → AreSome before
-        → ArePut size e before (D.state disk.old).db → PutPagesAnswer size sector d e named place w
-        (before ++ pages_of changes.now) result (D.state disk.old) (D.state disk.new) }
+    ensures disk { During D.keeps_word D.state disk.old disk.new (PutsPages changes.now pages.now result) }
+    ensures error { IfErr result (λ e. e ≡ RollError.Device) }
 {
     for change in changes {
         match change.content {
@@ -207,18 +174,12 @@ fn write_header<D: Disk>(
     place: u64,
     head: &JournalHeader,
 ) -> Result<(), RollError>
-    requires long { 512 ≤ length header.old }
+    requires header { (512 ≤ length header.old) × (length header.old ≤ 65536) }
     requires sector { IsSector head.now.sector }
     requires place { place ≤ 2 ^ 38 }
-    requires short { length header.old ≤ 65536 }
-    ensures word { D.keeps_word disk.old ↔ D.keeps_word disk.new }
-    ensures device { IfErr result (λ e. e ≡ RollError.Device) }
-    ensures asks { D.keeps_word disk.old → length header.old ≡ head.now.sector → (size : ℕ)
-        → Asks (MayCommit size head.now.sector) result (D.state disk.old) (D.state disk.new) }
-    ensures header { D.keeps_word disk.old → (size sector : ℕ) (d : Database) (named part w : List ℕ) (nonce : ℕ)
-        → Prepared size sector d named place part nonce w (D.state disk.old) → length header.old ≡ sector
-        → length part ≤ 64 → IsHeaderOf size sector d part nonce head.now
-        → HeaderAnswer size sector d named place w part nonce result (D.state disk.old) (D.state disk.new) }
+    ensures disk { During D.keeps_word D.state disk.old disk.new
+        (WritesHeader (length header.old) place head.now result) }
+    ensures error { IfErr result (λ e. e ≡ RollError.Device) }
 {
     fill_header(header, head);
     disk.write_at(File::Log, place, header)?;
@@ -233,16 +194,8 @@ pub(crate) fn put_new_pages<D: Disk>(
     old_size: u32,
 ) -> Result<(), RollError>
     requires pages { All (λ x. (1 ≤ x.0) × (length x.1.now ≤ 65536)) pages.now }
-    ensures word { D.keeps_word disk.old ↔ D.keeps_word disk.new }
-    ensures device { IfErr result (λ e. e ≡ RollError.Device) }
-    ensures asks { D.keeps_word disk.old → (size : ℕ) → ArePlaced size pages.now
-        → Asks (MayReplay size) result (D.state disk.old) (D.state disk.new) }
-    ensures put { D.keeps_word disk.old
-        → (size sector : ℕ) (d e : Database) (named : List ℕ) (place : ℕ) (w before : List ℕ)
-        → Journaled size sector d named place w (D.state disk.old) → 0 < place → old_size ≡ length d
-        → AreOf size e (lent pages.now) → AreSome before → ArePut size e before (D.state disk.old).db →
-        PutPagesAnswer size sector d e named place w (before ++ new_numbers old_size (lent pages.now)) result
-        (D.state disk.old) (D.state disk.new) }
+    ensures disk { During D.keeps_word D.state disk.old disk.new (PutsNewPages pages.now old_size result) }
+    ensures error { IfErr result (λ e. e ≡ RollError.Device) }
 {
     for x in pages {
         let (page, content) = *x;
@@ -260,38 +213,20 @@ pub(crate) fn put_segment<D: Disk>(
     header: &mut [u8],
     changes: &[Change],
     pages: &[(u32, &[u8])],
-    place: u64,
-    head: &JournalHeader,
+    head: &Head,
 ) -> Result<u64, RollError>
-    requires room { 8 ≤ length buffer.old }
-    requires short { length buffer.old ≤ 65544 }
-    requires few { length changes.now ≤ 64 }
-    requires some { (i : ℕ) → i < length changes.now → 1 ≤ (change_at changes.now i).page }
-    requires within { (i k : ℕ) → i < length changes.now → (change_at changes.now i).content ≡ Some k
-        → k < length pages.now }
-    requires pages { All (λ x. length x.1.now ≤ 65536) pages.now }
-    requires place { place ≤ 2 ^ 38 }
-    requires sector { IsSector head.now.sector }
-    requires long { 512 ≤ length header.old }
-    requires header { length header.old ≤ 65536 }
-    ensures word { D.keeps_word disk.old ↔ D.keeps_word disk.new }
-    ensures device { IfErr result (λ e. e ≡ RollError.Device) }
-    ensures asks { D.keeps_word disk.old → length header.old ≡ head.now.sector
-        → ArePlaced (length buffer.old - 8) pages.now → AreWithin (length buffer.old - 8) changes.now
-        → Asks (MayCommit (length buffer.old - 8) head.now.sector) result (D.state disk.old) (D.state disk.new) }
-    ensures near { IfOk result (λ next. next ≤ place + 2 ^ 23) }
-    ensures segment { D.keeps_word disk.old → (d e : Database) (named w before : List ℕ)
-        → Journaled (length buffer.old - 8) head.now.sector d named place w (D.state disk.old)
-        → AreFresh d named (pages_of changes.now) → (place ≡ 0) ⊎ (1 ≤ length changes.now)
-        → length header.old ≡ head.now.sector
-        → IsHeaderOf (length buffer.old - 8) head.now.sector d (pages_of changes.now) head.now.nonce head.now
-        → AreTurned (length buffer.old - 8) e (named ++ pages_of changes.now) (lent pages.now) changes.now
-        → AreSome before → ArePut (length buffer.old - 8) e before (D.state disk.old).db → SegmentAnswer
-        (length buffer.old - 8) head.now.sector d e named before place w (pages_of changes.now) head.now.nonce
-        result (D.state disk.old) (D.state disk.new) }
+    requires buffer { (8 ≤ length buffer.old) × (length buffer.old ≤ 65544) }
+    requires header { (512 ≤ length header.old) × (length header.old ≤ 65536) }
+    requires changes { ArePart changes.now pages.now }
+    requires place { (head.now.place ≤ 2 ^ 38) × IsSector head.now.header.sector }
+    ensures disk { During D.keeps_word D.state disk.old disk.new
+        (PutsSegment (length buffer.old - 8) (length header.old) head.now.place changes.now pages.now
+        head.now.header result) }
+    ensures answer { MatchResult result (λ next. next ≤ head.now.place + 2 ^ 23) (λ e. e ≡ RollError.Device) }
 {
-    let next = prepare_segment(disk, buffer, changes, place, head.sector, head.nonce)?;
-    write_header(disk, header, place, head)?;
+    let named = &head.header;
+    let next = prepare_segment(disk, buffer, changes, head.place, named.sector, named.nonce)?;
+    write_header(disk, header, head.place, named)?;
     put_pages(disk, changes, pages)?;
     Ok(next)
 }

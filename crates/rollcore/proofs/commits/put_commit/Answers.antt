@@ -1,4 +1,4 @@
-use Rattle.std.proofs.Common.{◌≡◌, ◌*◌, ◌<◌, ◌≤◌, ◌∙◌, ℕ, List, length, sym, subst, arith}
+use Rattle.std.proofs.Common.{rules, ◌≡◌, ◌*◌, ◌<◌, ◌≤◌, ◌∙◌, ℕ, List, length, sym, subst, arith}
 use Rattle.std.specs.Prelude.{Result, None, OnOk, take}
 use Rattle.std.proofs.lemmas.Result.{on_ok_weaker}
 use Rattle.sqval.specs.Database.{Database, apply}
@@ -17,18 +17,30 @@ use Rattle.rollcore.proofs.Granting.{granted}
 use Rattle.rollcore.proofs.Growing.{lent_at, lent_length}
 use Rattle.rollcore.proofs.Closed.{put_harmless, put_after}
 use Rattle.sqval.specs.CommitFaults.{most_bytes}
+use Rattle.rollcore.specs.Committing.{RestsAt}
 use Rattle.rollcore.specs.Changes.{MayReplay, MayCommit, Asks}
 use Rattle.rollcore.proofs.Told.{asks_err, asks_then, asks_wider}
 use Rattle.rollcore.proofs.Asking.{replay_may}
 use Rattle.rollcore.proofs.commits.put_commit.Goals as goal
 
-pub returns-in_err-put_segments-clause-put : goal.returns-in_err-put_segments-clause-put
-returns-in_err-put_segments-clause-put g c = λ word d suits held many wide rests.
-    let size : ℕ = c.args.core.now.page_size in
-    let e : Database = apply d (lent c.args.pages.now) c.args.size in
-    subst (λ (x : Result (Unit {0}) RollError). PutAnswer size d e x (g.D.Disk.state c.args.disk.now) (g.D.Disk.state c.put_segments.new.disk))
-    (sym (passed c.from_residual.result _ c.from_residual.ensures.1))
-    (put_harmless (Unit {0}) size d e _ _ _ (c.in_err-put_segments.ensures.segments word c.args.size d c.requires suits held many wide (c.sector-sector.ensures.answer word) rests))
+pub returns-in_err-put_segments-clause-disk : goal.returns-in_err-put_segments-clause-disk
+returns-in_err-put_segments-clause-disk g c = record {
+  word = search rules;
+  holds = λ word.
+      record {
+        asks = λ wide.
+            let sector = c.sector-sector.ensures.answer word in
+            subst (λ (n : ℕ). Asks (MayCommit c.args.core.now.page_size n) c.from_residual.result (g.D.Disk.state c.args.disk.now) (g.D.Disk.state c.put_segments.new.disk)) sector
+            (asks_err c.from_residual.result c.put_segments.result _ _ _ c.in_err-put_segments.was (passed c.from_residual.result _ c.from_residual.ensures.1) ((c.put_segments.ensures.disk.holds word).asks (wide ∙ sym sector)));
+        put = λ d at.
+            let size : ℕ = c.args.core.now.page_size in
+            let e : Database = apply d (lent c.args.pages.now) c.args.size in
+            subst (λ (x : Result (Unit {0}) RollError). PutAnswer size d e x (g.D.Disk.state c.args.disk.now) (g.D.Disk.state c.put_segments.new.disk))
+            (sym (passed c.from_residual.result _ c.from_residual.ensures.1))
+            (put_harmless (Unit {0}) size d e _ _ _ ((c.in_err-put_segments.ensures.disk.holds word).segments c.args.size d c.requires at (c.sector-sector.ensures.answer word)));
+        taken = search rules;
+      };
+}
 
 pub end_commit-requires : goal.end_commit-requires
 end_commit-requires g c = record {
@@ -39,63 +51,41 @@ end_commit-requires g c = record {
       (omega (arith, here.0, right.above_zero k (omega (arith, lt, lent_length c.args.pages.now))), part_short c.args.pages.now c.args.size (length c.args.nonces.now) core c.requires core.sized k d lt);
 }
 
-pub returns-clause-put : goal.returns-clause-put
-returns-clause-put g c = λ word d suits held many wide rests.
-    let core = c.args.core.now in
-    let pages = lent c.args.pages.now in
-    let e : Database = apply d pages c.args.size in
-    let mid = g.D.Disk.state c.put_segments.new.disk in
-    let new = g.D.Disk.state c.end_commit.new.disk in
-    let keeps = c.put_segments.ensures.keeps in
-    let down = c.in_ok-put_segments.ensures.segments word c.args.size d c.requires suits held many wide (c.sector-sector.ensures.answer word) rests in
-    let ends = c.end_commit.ensures.ends (c.put_segments.ensures.word.0 word) in
-    let by_size = subst (λ (n : ℕ). (sector nonces : ℕ) (d : Database) (changes : List Change) (place : ℕ) (w : List ℕ)
-    → Journaled n sector d (pages_of changes) place w mid → 0 < place → ArePut n (apply d pages c.args.size) (pages_of changes) mid.db
-    → c.put_segments.new.core.size ≡ length d → AreChanges pages c.put_segments.new.core.size c.args.size changes → refusal_of c.put_segments.new.core.size n pages c.args.size nonces ≡ None
-    → PutAnswer n d (apply d pages c.args.size) c.end_commit.result mid new) keeps.page_size ends in
-    let by_count = subst (λ (n : ℕ). (sector nonces : ℕ) (d : Database) (changes : List Change) (place : ℕ) (w : List ℕ)
-    → Journaled core.page_size sector d (pages_of changes) place w mid → 0 < place → ArePut core.page_size (apply d pages c.args.size) (pages_of changes) mid.db
-    → n ≡ length d → AreChanges pages n c.args.size changes → refusal_of n core.page_size pages c.args.size nonces ≡ None
-    → PutAnswer core.page_size d (apply d pages c.args.size) c.end_commit.result mid new) keeps.size by_size in
-    put_after core.page_size d e c.end_commit.result (g.D.Disk.state c.args.disk.now) mid new down.5
-    (by_count c.sector-sector.result (length c.args.nonces.now) d core.changes.items down.0 down.1 down.3 down.2 down.4 (sym many) c.requires.changes c.requires.granted)
-
-pub returns-clause-nonces : goal.returns-clause-nonces
-returns-clause-nonces g c = λ word d suits held many wide rests.
-    let core = c.args.core.now in
-    let pages = lent c.args.pages.now in
-    let mid = g.D.Disk.state c.put_segments.new.disk in
-    let new = g.D.Disk.state c.end_commit.new.disk in
-    let sector = c.sector-sector.ensures.answer word in
-    let keeps = c.put_segments.ensures.keeps in
-    let down = c.in_ok-put_segments.ensures.segments word c.args.size d c.requires suits held many wide sector rests in
-    let by_size = subst (λ (n : ℕ). (sector nonces : ℕ) (d : Database) (changes : List Change) (place : ℕ) (w : List ℕ)
-    → Journaled n sector d (pages_of changes) place w mid → 0 < place → ArePut n (apply d pages c.args.size) (pages_of changes) mid.db
-    → c.put_segments.new.core.size ≡ length d → AreChanges pages c.put_segments.new.core.size c.args.size changes → refusal_of c.put_segments.new.core.size n pages c.args.size nonces ≡ None
-    → OnOk c.end_commit.result (IsLogDown new (zeroed w))) keeps.page_size (c.end_commit.ensures.log (c.put_segments.ensures.word.0 word)) in
-    let by_count = subst (λ (n : ℕ). (sector nonces : ℕ) (d : Database) (changes : List Change) (place : ℕ) (w : List ℕ)
-    → Journaled core.page_size sector d (pages_of changes) place w mid → 0 < place → ArePut core.page_size (apply d pages c.args.size) (pages_of changes) mid.db
-    → n ≡ length d → AreChanges pages n c.args.size changes → refusal_of n core.page_size pages c.args.size nonces ≡ None
-    → OnOk c.end_commit.result (IsLogDown new (zeroed w))) keeps.size by_size in
-    let parts = subst (λ (n : ℕ). HasParts (sizes n core.page_size) down.1 down.0 (parts_of d (pages_of core.changes.items) (take (segments_of (length (pages_of core.changes.items))) c.args.nonces.now))) sector down.6 in
-    on_ok_weaker c.end_commit.result (λ log. (down.0, down.1, parts, log))
-    (by_count c.sector-sector.result (length c.args.nonces.now) d core.changes.items down.0 down.1 down.3 down.2 down.4 (sym many) c.requires.changes c.requires.granted)
-
-pub returns-in_err-put_segments-clause-asks : goal.returns-in_err-put_segments-clause-asks
-returns-in_err-put_segments-clause-asks g c = λ word wide.
-    let sector = c.sector-sector.ensures.answer word in
-    subst (λ (n : ℕ). Asks (MayCommit c.args.core.now.page_size n) c.from_residual.result (g.D.Disk.state c.args.disk.now) (g.D.Disk.state c.put_segments.new.disk)) sector
-    (asks_err c.from_residual.result c.put_segments.result _ _ _ c.in_err-put_segments.was (passed c.from_residual.result _ c.from_residual.ensures.1) (c.put_segments.ensures.asks word (wide ∙ sym sector)))
-
-pub returns-clause-asks : goal.returns-clause-asks
-returns-clause-asks g c = λ word wide.
-    let core = c.args.core.now in
-    let sector = c.sector-sector.ensures.answer word in
-    let kept = c.put_segments.ensures.keeps.page_size in
-    let first = subst (λ (n : ℕ). Asks (MayCommit core.page_size n) c.put_segments.result (g.D.Disk.state c.args.disk.now) (g.D.Disk.state c.put_segments.new.disk)) sector
-    (c.put_segments.ensures.asks word (wide ∙ sym sector)) in
-    let placed = ready_placed c.args.pages.now c.args.size (length c.args.nonces.now) core c.requires in
-    let within = (granted core.size core.page_size (lent c.args.pages.now) c.args.size (length c.args.nonces.now) c.requires.granted).bytes in
-    let last = subst (λ (n : ℕ). Asks (MayReplay n) c.end_commit.result (g.D.Disk.state c.put_segments.new.disk) (g.D.Disk.state c.end_commit.new.disk)) kept
-    (c.end_commit.ensures.asks (c.put_segments.ensures.word.0 word) (subst (λ (n : ℕ). ArePlaced n c.args.pages.now) (sym kept) placed) (subst (λ (n : ℕ). c.args.size * n ≤ most_bytes) (sym kept) within)) in
-    asks_then _ c.put_segments.result _ _ _ _ c.in_ok-put_segments.was first (asks_wider c.end_commit.result _ _ (replay_may core.page_size (g.D.Disk.state c.args.disk.now).sector) last)
+pub returns-clause-disk : goal.returns-clause-disk
+returns-clause-disk g c = record {
+  word = search rules;
+  holds = λ word.
+      let by_put_segments = c.in_ok-put_segments.ensures.disk.holds word in
+      let by_end_commit = c.end_commit.ensures.disk.holds (c.put_segments.ensures.disk.word.0 word) in
+      let core = c.args.core.now in
+      let sector = c.sector-sector.ensures.answer word in
+      let pages = lent c.args.pages.now in
+      let mid = g.D.Disk.state c.put_segments.new.disk in
+      let new = g.D.Disk.state c.end_commit.new.disk in
+      let keeps = c.put_segments.ensures.core.keeps in
+      let down = λ (d : Database) (at : RestsAt core d (g.D.Disk.state c.args.disk.now)). by_put_segments.segments c.args.size d c.requires at sector in
+      let by_size = subst (λ (n : ℕ). (sector nonces : ℕ) (d : Database) (changes : List Change) (place : ℕ) (w : List ℕ)
+      → Journaled n sector d (pages_of changes) place w mid → 0 < place → ArePut n (apply d pages c.args.size) (pages_of changes) mid.db
+      → c.put_segments.new.core.size ≡ length d → AreChanges pages c.put_segments.new.core.size c.args.size changes → refusal_of c.put_segments.new.core.size n pages c.args.size nonces ≡ None
+      → PutAnswer n d (apply d pages c.args.size) c.end_commit.result mid new × OnOk c.end_commit.result (IsLogDown new (zeroed w))) keeps.page_size by_end_commit.ends in
+      let by_count = subst (λ (n : ℕ). (sector nonces : ℕ) (d : Database) (changes : List Change) (place : ℕ) (w : List ℕ)
+      → Journaled core.page_size sector d (pages_of changes) place w mid → 0 < place → ArePut core.page_size (apply d pages c.args.size) (pages_of changes) mid.db
+      → n ≡ length d → AreChanges pages n c.args.size changes → refusal_of n core.page_size pages c.args.size nonces ≡ None
+      → PutAnswer core.page_size d (apply d pages c.args.size) c.end_commit.result mid new × OnOk c.end_commit.result (IsLogDown new (zeroed w))) keeps.size by_size in
+      let ends = λ (d : Database) (at : RestsAt core d (g.D.Disk.state c.args.disk.now)).
+      by_count c.sector-sector.result (length c.args.nonces.now) d core.changes.items (down d at).0 (down d at).1 (down d at).3 (down d at).2 (down d at).4 (sym at.size) c.requires.changes c.requires.granted in
+      record {
+        asks = λ wide.
+            let first = subst (λ (n : ℕ). Asks (MayCommit core.page_size n) c.put_segments.result (g.D.Disk.state c.args.disk.now) (g.D.Disk.state c.put_segments.new.disk)) sector
+            ((c.put_segments.ensures.disk.holds word).asks (wide ∙ sym sector)) in
+            let placed = ready_placed c.args.pages.now c.args.size (length c.args.nonces.now) core c.requires in
+            let within = (granted core.size core.page_size (lent c.args.pages.now) c.args.size (length c.args.nonces.now) c.requires.granted).bytes in
+            let last = subst (λ (n : ℕ). Asks (MayReplay n) c.end_commit.result (g.D.Disk.state c.put_segments.new.disk) new) keeps.page_size
+            (by_end_commit.asks (subst (λ (n : ℕ). ArePlaced n c.args.pages.now) (sym keeps.page_size) placed) (subst (λ (n : ℕ). c.args.size * n ≤ most_bytes) (sym keeps.page_size) within)) in
+            asks_then _ c.put_segments.result _ _ _ _ c.in_ok-put_segments.was first (asks_wider c.end_commit.result _ _ (replay_may core.page_size (g.D.Disk.state c.args.disk.now).sector) last);
+        put = λ d at. put_after core.page_size d (apply d pages c.args.size) c.end_commit.result (g.D.Disk.state c.args.disk.now) mid new (down d at).5 (ends d at).0;
+        taken = λ d at.
+            let parts = subst (λ (n : ℕ). HasParts (sizes n core.page_size) (down d at).1 (down d at).0 (parts_of d (pages_of core.changes.items) (take (segments_of (length (pages_of core.changes.items))) c.args.nonces.now))) sector (down d at).6 in
+            on_ok_weaker c.end_commit.result (λ log. ((down d at).0, (down d at).1, parts, log)) (ends d at).1;
+      };
+}

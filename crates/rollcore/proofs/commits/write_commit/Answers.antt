@@ -1,4 +1,4 @@
-use Rattle.std.proofs.Common.{sym, subst}
+use Rattle.std.proofs.Common.{rules, sym, subst}
 use Rattle.std.specs.Prelude.{Result, length, take, OnOk}
 use Rattle.sqval.specs.Database.{apply}
 use Rattle.sqval.specs.JudgedPages.{lent}
@@ -13,28 +13,33 @@ use Rattle.rollcore.specs.Segments.{pages_of}
 use Rattle.std.proofs.lemmas.Result.{on_ok_weaker}
 use Rattle.rollcore.proofs.commits.write_commit.Goals as goal
 
-pub returns-clause-step : goal.returns-clause-step
-returns-clause-step g c = λ word past fits opened.
-    subst (λ (r : Result (Unit {0}) RollError). StepsTo past (Commits (lent c.args.pages.now) c.args.size c.args.nonces.now) (answered (λ _. Done) r) c.end_put.new.core (g.D.Disk.state c.args.disk.now) (g.D.Disk.state c.put_commit-put.new.disk)) (sym c.end_put.ensures.same)
-    (commit_step past c.args.core.now c.put_commit-put.new.core (g.D.Disk.state c.args.disk.now) (g.D.Disk.state c.put_commit-put.new.disk) fits opened c.args.pages.now c.args.size c.args.nonces.now c.requires c.put_commit-put.ensures.keeps
-    (c.put_commit-put.ensures.asks word (fits.core opened).header_room).later c.put_commit-put.result c.end_put.new.core (c.put_commit-put.ensures.asks word (fits.core opened).header_room).told
-    (put_here past c.args.core.now c.put_commit-put.new.core (g.D.Disk.state c.args.disk.now) (g.D.Disk.state c.put_commit-put.new.disk) fits opened c.args.pages.now c.args.size c.args.nonces.now c.requires c.put_commit-put.ensures.keeps
-    (c.put_commit-put.ensures.asks word (fits.core opened).header_room).later
-    (λ n d. PutAnswer n d (apply d (lent c.args.pages.now) c.args.size) c.put_commit-put.result (g.D.Disk.state c.args.disk.now) (g.D.Disk.state c.put_commit-put.new.disk)) (c.put_commit-put.ensures.put word))
-    c.end_put.ensures.answer)
-
-pub returns-clause-nonces : goal.returns-clause-nonces
-returns-clause-nonces g c = λ word past fits opened.
-    let new = g.D.Disk.state c.put_commit-put.new.disk in
-    subst (λ (r : Result (Unit {0}) RollError). TakesNonces past (lent c.args.pages.now) c.args.size c.args.nonces.now r (g.D.Disk.state c.args.disk.now) new) (sym c.end_put.ensures.same)
-    (on_ok_weaker c.put_commit-put.result
-    (λ leaves. (
-      pages_of c.args.core.now.changes.items,
-      changed_here past c.args.core.now c.put_commit-put.new.core (g.D.Disk.state c.args.disk.now) new fits opened c.args.pages.now c.args.size c.args.nonces.now c.requires c.put_commit-put.ensures.keeps
-          (c.put_commit-put.ensures.asks word (fits.core opened).header_room).later,
-      leaves,
-    ))
-    (put_here past c.args.core.now c.put_commit-put.new.core (g.D.Disk.state c.args.disk.now) new fits opened c.args.pages.now c.args.size c.args.nonces.now c.requires c.put_commit-put.ensures.keeps
-    (c.put_commit-put.ensures.asks word (fits.core opened).header_room).later
-    (λ n d. OnOk c.put_commit-put.result (LeavesParts (sizes (g.D.Disk.state c.args.disk.now).sector n) (parts_of d (pages_of c.args.core.now.changes.items) (take (segments_of (length (pages_of c.args.core.now.changes.items))) c.args.nonces.now)) new))
-    (c.put_commit-put.ensures.nonces word)))
+pub returns-clause-disk : goal.returns-clause-disk
+returns-clause-disk g c = record {
+  word = search rules;
+  holds = λ word opened.
+      let by_put_commit = c.put_commit-put.ensures.disk.holds word in
+      record {
+        step = λ past fits.
+            subst (λ (r : Result (Unit {0}) RollError). StepsTo past (Commits (lent c.args.pages.now) c.args.size c.args.nonces.now) (answered (λ _. Done) r) c.end_put.new.core (g.D.Disk.state c.args.disk.now) (g.D.Disk.state c.put_commit-put.new.disk)) (sym c.end_put.ensures.same)
+            (commit_step past c.args.core.now c.put_commit-put.new.core (g.D.Disk.state c.args.disk.now) (g.D.Disk.state c.put_commit-put.new.disk) fits opened c.args.pages.now c.args.size c.args.nonces.now c.requires c.put_commit-put.ensures.keeps
+            (by_put_commit.asks (fits.core opened).header_room).later c.put_commit-put.result c.end_put.new.core (by_put_commit.asks (fits.core opened).header_room).told
+            (put_here past c.args.core.now c.put_commit-put.new.core (g.D.Disk.state c.args.disk.now) (g.D.Disk.state c.put_commit-put.new.disk) fits opened c.args.pages.now c.args.size c.args.nonces.now c.requires c.put_commit-put.ensures.keeps
+            (by_put_commit.asks (fits.core opened).header_room).later
+            (λ n d. PutAnswer n d (apply d (lent c.args.pages.now) c.args.size) c.put_commit-put.result (g.D.Disk.state c.args.disk.now) (g.D.Disk.state c.put_commit-put.new.disk)) by_put_commit.put)
+            c.end_put.ensures.answer);
+        taken = λ past fits.
+            let new = g.D.Disk.state c.put_commit-put.new.disk in
+            subst (λ (r : Result (Unit {0}) RollError). TakesNonces past (lent c.args.pages.now) c.args.size c.args.nonces.now r (g.D.Disk.state c.args.disk.now) new) (sym c.end_put.ensures.same)
+            (on_ok_weaker c.put_commit-put.result
+            (λ leaves. (
+              pages_of c.args.core.now.changes.items,
+              changed_here past c.args.core.now c.put_commit-put.new.core (g.D.Disk.state c.args.disk.now) new fits opened c.args.pages.now c.args.size c.args.nonces.now c.requires c.put_commit-put.ensures.keeps
+                  (by_put_commit.asks (fits.core opened).header_room).later,
+              leaves,
+            ))
+            (put_here past c.args.core.now c.put_commit-put.new.core (g.D.Disk.state c.args.disk.now) new fits opened c.args.pages.now c.args.size c.args.nonces.now c.requires c.put_commit-put.ensures.keeps
+            (by_put_commit.asks (fits.core opened).header_room).later
+            (λ n d. OnOk c.put_commit-put.result (LeavesParts (sizes (g.D.Disk.state c.args.disk.now).sector n) (parts_of d (pages_of c.args.core.now.changes.items) (take (segments_of (length (pages_of c.args.core.now.changes.items))) c.args.nonces.now)) new))
+            by_put_commit.taken));
+      };
+}

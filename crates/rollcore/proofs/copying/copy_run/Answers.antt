@@ -1,4 +1,4 @@
-use Rattle.std.proofs.Common.{◌≡◌, ◌≤◌, ◌+◌, ◌-◌, ◌*◌, ◌<◌, ◌∙◌, inl, inr, ⊎_elim, ℕ, List, [], length, take, refl, sym, arith, ap, subst, rules}
+use Rattle.std.proofs.Common.{◌≡◌, ◌≤◌, ◌+◌, ◌-◌, ◌*◌, inl, inr, ⊎_elim, ℕ, List, [], length, take, refl, arith, ap, subst, rules}
 use Rattle.std.specs.Prelude.{Ok, Some, None}
 use Rattle.sqval.specs.Bytes.{word as word_of}
 use Rattle.sqval.specs.CommitFaults.{most_bytes}
@@ -19,35 +19,40 @@ use Rattle.rollcore.proofs.copying.copy_run.Goals as goal
 pub returns-in_default-clause-disk : goal.returns-in_default-clause-disk
 returns-in_default-clause-disk g c = record {
   word = search rules;
-  holds = λ word sound. record {
-    log = keeps_still _ _ sound (still _ sound);
-    asks = λ within. asks_same _ _ sound;
-    pages = λ w there has same within. run_none c.args.size w c.args.count c.args.number 1 _ refl None (read_entry w c.args.scan.now has c.args.number None c.in_default.ensures) tt;
-  };
+  holds = λ word.
+      let sound = g.met.D.Disk.sound c.args.disk.now word in
+      record {
+        log = keeps_still _ _ sound (still _ sound);
+        asks = λ within. asks_same _ _ sound;
+        pages = λ w there has same within. run_none c.args.shape.size w c.args.shape.count c.args.number 1 _ refl None (read_entry w c.args.scan.now has c.args.number None c.in_default.ensures) tt;
+      };
 }
 
 pub returns-then-first-eq0-clause-disk : goal.returns-then-first-eq0-clause-disk
 returns-then-first-eq0-clause-disk g c = record {
   word = search rules;
-  holds = λ word sound. record {
-    log = keeps_still _ _ sound (still _ sound);
-    asks = λ within. asks_same _ _ sound;
-    pages = λ w there has same within. run_none c.args.size w c.args.count c.args.number 1 _ refl (Some c.in-Some.first) (read_entry w c.args.scan.now has c.args.number (Some c.in-Some.first) c.in-Some.ensures)
-        (⊎_elim (λ zero. inl zero) (λ above. inr above.1) c.then-first-eq0.either);
-  };
+  holds = λ word.
+      let sound = g.met.D.Disk.sound c.args.disk.now word in
+      record {
+        log = keeps_still _ _ sound (still _ sound);
+        asks = λ within. asks_same _ _ sound;
+        pages = λ w there has same within. run_none c.args.shape.size w c.args.shape.count c.args.number 1 _ refl (Some c.in-Some.first) (read_entry w c.args.scan.now has c.args.number (Some c.in-Some.first) c.in-Some.ensures)
+            (⊎_elim (λ zero. inl zero) (λ above. inr above.1) c.then-first-eq0.either);
+      };
 }
 
 pub returns-in_err-read_at-clause-disk : goal.returns-in_err-read_at-clause-disk
 returns-in_err-read_at-clause-disk g c = record {
   word = c.read_at.ensures.word;
-  holds = λ word sound.
-      let size = c.args.size in
+  holds = λ word.
+      let sound = g.met.D.Disk.sound c.args.disk.now word in
+      let size = c.args.shape.size in
       let first = c.in-Some.first in
       let n = c.run_from-run.result in
       let one = c.run_from-run.ensures.count.0 in
       let some : 1 ≤ first.page = omega (arith, c.if-first-eq0.false) in
       let few : n ≤ c.args.most = omega (arith, c.run_from-run.ensures.count, c.min.ensures) in
-      let under : first.page - 1 + n ≤ c.args.count = omega (arith, c.run_from-run.ensures.count, c.min.ensures, some, c.if-first-count.false) in
+      let under : first.page - 1 + n ≤ c.args.shape.count = omega (arith, c.run_from-run.ensures.count, c.min.ensures, some, c.if-first-count.false) in
       let room = run_room n c.args.most size (length c.args.room.now) one few c.requires.room.1 in
       let are = λ (w : List ℕ) (has : HasRead w c.args.scan.now). c.run_from-run.ensures.each w has (read_entry w c.args.scan.now has c.args.number (Some c.in-Some.first) c.in-Some.ensures) in
       let last = λ (w : List ℕ) (has : HasRead w c.args.scan.now) (same : size ≡ word_of w 24).
@@ -59,21 +64,22 @@ returns-in_err-read_at-clause-disk g c = record {
         pages = λ w there has same within.
             let long = piece_long ((n - 1) * size) (n * (size + 8) - 8) ((n - 1) * size + n * (size + 8) - 8 - (n - 1) * size) c.args.room.now [] (omega arith) room in
             let fits = run_long size first.at n w one (last w has same) in
-            run_unread size w c.args.count c.args.number _ c.read_at.result _ c.from_residual.result _ _ sound (omega (arith, long, fits)) there c.in_err-read_at.was (passed c.from_residual.result Device c.from_residual.ensures.1) (c.read_at.ensures.state word);
+            run_unread size w c.args.shape.count c.args.number _ c.read_at.result _ c.from_residual.result _ _ sound (omega (arith, long, fits)) there c.in_err-read_at.was (passed c.from_residual.result Device c.from_residual.ensures.1) (c.read_at.ensures.state word);
       };
 }
 
 pub returns-in_err-write_at-clause-disk : goal.returns-in_err-write_at-clause-disk
 returns-in_err-write_at-clause-disk g c = record {
   word = search rules;
-  holds = λ word sound.
-      let size = c.args.size in
+  holds = λ word.
+      let sound = g.met.D.Disk.sound c.args.disk.now word in
+      let size = c.args.shape.size in
       let first = c.in-Some.first in
       let n = c.run_from-run.result in
       let one = c.run_from-run.ensures.count.0 in
       let some : 1 ≤ first.page = omega (arith, c.if-first-eq0.false) in
       let few : n ≤ c.args.most = omega (arith, c.run_from-run.ensures.count, c.min.ensures) in
-      let under : first.page - 1 + n ≤ c.args.count = omega (arith, c.run_from-run.ensures.count, c.min.ensures, some, c.if-first-count.false) in
+      let under : first.page - 1 + n ≤ c.args.shape.count = omega (arith, c.run_from-run.ensures.count, c.min.ensures, some, c.if-first-count.false) in
       let room = run_room n c.args.most size (length c.args.room.now) one few c.requires.room.1 in
       let are = λ (w : List ℕ) (has : HasRead w c.args.scan.now). c.run_from-run.ensures.each w has (read_entry w c.args.scan.now has c.args.number (Some c.in-Some.first) c.in-Some.ensures) in
       let last = λ (w : List ℕ) (has : HasRead w c.args.scan.now) (same : size ≡ word_of w 24).
@@ -89,29 +95,30 @@ returns-in_err-write_at-clause-disk g c = record {
       (λ i lt. c.in_ok-read_at.ensures.bytes word i (omega (arith, lt, c.read_at.auto.out, piece_long ((n - 1) * size) (n * (size + 8) - 8) ((n - 1) * size + n * (size + 8) - 8 - (n - 1) * size) c.args.room.now [] (omega arith) room)))
       c.gather.ensures (front_kept (n * size) (n * size) c.gather.new.room refl) in
       let first_part : Later (MayReplay size) (g.D.Disk.state c.args.disk.now) (g.D.Disk.state c.read_at.new.self) = later_still _ _ sound read in
-      let may = λ (within : c.args.count * size ≤ most_bytes). run_may size first.page n c.args.count (c.from.result * size) (take (n * size) c.gather.new.room) one under to long within in
+      let may = λ (within : c.args.shape.count * size ≤ most_bytes). run_may size first.page n c.args.shape.count (c.from.result * size) (take (n * size) c.gather.new.room) one under to long within in
       record {
         log = keeps_then _ _ _ (keeps_still _ _ sound read) (keeps_write _ _ c.write_at.result _ _ (still_sound _ _ sound read) call);
         asks = λ within. asks_device c.from_residual-in_err-write_at.result _ _ (passed c.from_residual-in_err-write_at.result Device c.from_residual-in_err-write_at.ensures.1)
             (later_then _ _ _ first_part (later_write Db _ _ c.write_at.result _ _ (may within) first_part.sound call));
         pages = λ w there has same within.
             let wrote = subst (λ (k : ℕ). Writes Db k (take (n * size) c.gather.new.room) c.write_at.result (g.D.Disk.state c.read_at.new.self) (g.D.Disk.state c.write_at.new.self)) to call in
-            let fits = run_fits size first.page n c.args.count under within in
-            run_unwritten size w c.args.count c.args.number first n some under _ _ _ _ (are w has) long (each w has same there) read c.write_at.result _ c.from_residual-in_err-write_at.result (omega (arith, fits, long)) c.in_err-write_at.was (passed c.from_residual-in_err-write_at.result Device c.from_residual-in_err-write_at.ensures.1) wrote;
+            let fits = run_fits size first.page n c.args.shape.count under within in
+            run_unwritten size w c.args.shape.count c.args.number first n some under _ _ _ _ (are w has) long (each w has same there) read c.write_at.result _ c.from_residual-in_err-write_at.result (omega (arith, fits, long)) c.in_err-write_at.was (passed c.from_residual-in_err-write_at.result Device c.from_residual-in_err-write_at.ensures.1) wrote;
       };
 }
 
 pub returns-clause-disk : goal.returns-clause-disk
 returns-clause-disk g c = record {
   word = search rules;
-  holds = λ word sound.
-      let size = c.args.size in
+  holds = λ word.
+      let sound = g.met.D.Disk.sound c.args.disk.now word in
+      let size = c.args.shape.size in
       let first = c.in-Some.first in
       let n = c.run_from-run.result in
       let one = c.run_from-run.ensures.count.0 in
       let some : 1 ≤ first.page = omega (arith, c.if-first-eq0.false) in
       let few : n ≤ c.args.most = omega (arith, c.run_from-run.ensures.count, c.min.ensures) in
-      let under : first.page - 1 + n ≤ c.args.count = omega (arith, c.run_from-run.ensures.count, c.min.ensures, some, c.if-first-count.false) in
+      let under : first.page - 1 + n ≤ c.args.shape.count = omega (arith, c.run_from-run.ensures.count, c.min.ensures, some, c.if-first-count.false) in
       let room = run_room n c.args.most size (length c.args.room.now) one few c.requires.room.1 in
       let are = λ (w : List ℕ) (has : HasRead w c.args.scan.now). c.run_from-run.ensures.each w has (read_entry w c.args.scan.now has c.args.number (Some c.in-Some.first) c.in-Some.ensures) in
       let last = λ (w : List ℕ) (has : HasRead w c.args.scan.now) (same : size ≡ word_of w 24).
@@ -127,7 +134,7 @@ returns-clause-disk g c = record {
       (λ i lt. c.in_ok-read_at.ensures.bytes word i (omega (arith, lt, c.read_at.auto.out, piece_long ((n - 1) * size) (n * (size + 8) - 8) ((n - 1) * size + n * (size + 8) - 8 - (n - 1) * size) c.args.room.now [] (omega arith) room)))
       c.gather.ensures (front_kept (n * size) (n * size) c.gather.new.room refl) in
       let first_part : Later (MayReplay size) (g.D.Disk.state c.args.disk.now) (g.D.Disk.state c.read_at.new.self) = later_still _ _ sound read in
-      let may = λ (within : c.args.count * size ≤ most_bytes). run_may size first.page n c.args.count (c.from.result * size) (take (n * size) c.gather.new.room) one under to long within in
+      let may = λ (within : c.args.shape.count * size ≤ most_bytes). run_may size first.page n c.args.shape.count (c.from.result * size) (take (n * size) c.gather.new.room) one under to long within in
       record {
         log = keeps_then _ _ _ (keeps_still _ _ sound read) (keeps_write _ _ c.write_at.result _ _ (still_sound _ _ sound read) call);
         asks = λ within.
@@ -135,6 +142,6 @@ returns-clause-disk g c = record {
             asks_then {U = ℕ} (Ok n) (Ok n) n _ _ _ refl (asks_done (Ok n) c.read_at.result _ _ _ c.in_ok-read_at.was (c.read_at.ensures.state word).refused first_part) (asks_done (Ok n) c.write_at.result _ _ _ c.in_ok-write_at.was call.elsewhere.refused last_part);
         pages = λ w there has same within.
             let wrote = subst (λ (k : ℕ). Writes Db k (take (n * size) c.gather.new.room) (Ok (tt {0})) (g.D.Disk.state c.read_at.new.self) (g.D.Disk.state c.write_at.new.self)) to (c.in_ok-write_at.ensures.state (c.read_at.ensures.word.0 word)) in
-            run_put size w c.args.count c.args.number first n some under _ _ _ _ (are w has) long (each w has same there) read wrote;
+            run_put size w c.args.shape.count c.args.number first n some under _ _ _ _ (are w has) long (each w has same there) read wrote;
       };
 }

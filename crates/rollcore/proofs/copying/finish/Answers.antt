@@ -1,4 +1,4 @@
-use Rattle.std.proofs.Common.{refl, arith}
+use Rattle.std.proofs.Common.{rules, refl, arith}
 use Rattle.crashdisk.specs.declared.file.File.TheVariants.{Db}
 use Rattle.sqval.proofs.Answering.{passed}
 use Rattle.crashdisk.specs.Keeps.{Later}
@@ -13,80 +13,79 @@ use Rattle.rollcore.proofs.Closed.{synced_failed, zero_failed, zero_closed}
 use Rattle.rollcore.specs.declared.error.RollError.TheVariants.{Device}
 use Rattle.rollcore.proofs.copying.finish.Goals as goal
 
-pub returns-in_err-settle_database-clause-ends : goal.returns-in_err-settle_database-clause-ends
-returns-in_err-settle_database-clause-ends g c = λ word sound.
-    end_refused c.settle_database.result c.from_residual.result _ (g.D.Disk.state c.args.disk.now) (g.D.Disk.state c.args.disk.now) _ (omega arith) (passed c.from_residual.result _ c.from_residual.ensures.1)
-    (sync_refused Device Db c.settle_database.result _ _ _ sound c.in_err-settle_database.was (c.settle_database.ensures.state word))
+pub returns-in_err-settle_database-clause-disk : goal.returns-in_err-settle_database-clause-disk
+returns-in_err-settle_database-clause-disk g c = record {
+  word = search rules;
+  holds = λ word.
+      let sound = g.met.D.Disk.sound c.args.disk.now word in
+      let by_settle_database = c.settle_database.ensures.disk.holds word in
+      record {
+        asks = λ size.
+            asks_err c.from_residual.result c.settle_database.result _ _ _ c.in_err-settle_database.was (passed c.from_residual.result _ c.from_residual.ensures.1)
+            (asks_step Db c.settle_database.result _ _ tt (g.met.D.Disk.sound c.args.disk.now word) by_settle_database);
+        ends =
+            end_refused c.settle_database.result c.from_residual.result _ (g.D.Disk.state c.args.disk.now) (g.D.Disk.state c.args.disk.now) _ (omega arith) (passed c.from_residual.result _ c.from_residual.ensures.1)
+            (sync_refused Device Db c.settle_database.result _ _ _ sound c.in_err-settle_database.was by_settle_database);
+        shows = λ size w d is pages. synced_shows size w d c.settle_database.result _ _ is by_settle_database;
+        lengths = λ sectors w down hot names. ends_settled (g.D.Disk.state c.args.disk.now) (g.D.Disk.state c.settle_database.new.disk) _ w c.settle_database.result by_settle_database down hot names;
+        commit = λ size sector d e named place w is begun pages held.
+            synced_failed size sector d named place w begun e c.settle_database.result c.from_residual.result _ _ _ is c.in_err-settle_database.was (passed c.from_residual.result _ c.from_residual.ensures.1)
+            by_settle_database;
+      };
+}
 
-pub returns-in_err-settle_database-clause-shows : goal.returns-in_err-settle_database-clause-shows
-returns-in_err-settle_database-clause-shows g c = λ word size w d is pages. synced_shows size w d c.settle_database.result _ _ is (c.settle_database.ensures.state word)
+pub returns-in_err-zero_header-clause-disk : goal.returns-in_err-zero_header-clause-disk
+returns-in_err-zero_header-clause-disk g c = record {
+  word = search rules;
+  holds = λ word.
+      let sound = g.met.D.Disk.sound c.args.disk.now word in
+      let by_settle_database = c.settle_database.ensures.disk.holds word in
+      let by_zero_header = c.zero_header.ensures.disk.holds (c.settle_database.ensures.disk.word.0 word) in
+      record {
+        asks = λ size.
+            let first : Asks (MayReplay size) c.settle_database.result (g.D.Disk.state c.args.disk.now) (g.D.Disk.state c.settle_database.new.disk) =
+            asks_step Db c.settle_database.result _ _ tt (g.met.D.Disk.sound c.args.disk.now word) by_settle_database in
+            asks_then _ c.settle_database.result _ _ _ _ c.in_ok-settle_database.was first
+            (asks_err c.from_residual-in_err-zero_header.result c.zero_header.result _ _ _ c.in_err-zero_header.was (passed c.from_residual-in_err-zero_header.result _ c.from_residual-in_err-zero_header.ensures.1)
+            (asks_zeros c.zero_header.result _ _ (refl, refl) tt first.later.sound by_zero_header));
+        ends =
+            let first : Later (InFile Db) (g.D.Disk.state c.args.disk.now) (g.D.Disk.state c.settle_database.new.disk) = sync_later Device Db c.settle_database.result _ _ refl sound by_settle_database in
+            end_refused c.zero_header.result c.from_residual-in_err-zero_header.result _ (g.D.Disk.state c.args.disk.now) (g.D.Disk.state c.settle_database.new.disk) (g.D.Disk.state c.zero_header.new.disk) first.refused (passed c.from_residual-in_err-zero_header.result _ c.from_residual-in_err-zero_header.ensures.1)
+            (zero_refused c.zero_header.result _ _ _ first.sound c.in_err-zero_header.was by_zero_header);
+        shows = λ size w d is pages. zeroed_shows size w d c.zero_header.result _ _ (synced_filed size w d _ _ _ is pages (c.in_ok-settle_database.ensures.disk.holds word)) by_zero_header;
+        lengths = λ sectors w down hot names.
+            ends_finished w (g.D.Disk.state c.args.disk.now) (g.D.Disk.state c.settle_database.new.disk) (g.D.Disk.state c.zero_header.new.disk) sound sectors down hot names _ (c.in_ok-settle_database.ensures.disk.holds word)
+            c.zero_header.result by_zero_header;
+        commit = λ size sector d e named place w is begun pages held.
+            zero_failed size sector d named place w begun e c.settle_database.result _ (g.D.Disk.state c.args.disk.now) (g.D.Disk.state c.settle_database.new.disk) (g.D.Disk.state c.zero_header.new.disk) is pages held
+            c.in_ok-settle_database.was by_settle_database c.zero_header.result c.from_residual-in_err-zero_header.result _ c.in_err-zero_header.was
+            (passed c.from_residual-in_err-zero_header.result _ c.from_residual-in_err-zero_header.ensures.1) by_zero_header;
+      };
+}
 
-pub returns-in_err-zero_header-clause-ends : goal.returns-in_err-zero_header-clause-ends
-returns-in_err-zero_header-clause-ends g c = λ word sound.
-    let first : Later (InFile Db) (g.D.Disk.state c.args.disk.now) (g.D.Disk.state c.settle_database.new.disk) = sync_later Device Db c.settle_database.result _ _ refl sound (c.settle_database.ensures.state word) in
-    end_refused c.zero_header.result c.from_residual-in_err-zero_header.result _ (g.D.Disk.state c.args.disk.now) (g.D.Disk.state c.settle_database.new.disk) (g.D.Disk.state c.zero_header.new.disk) first.refused (passed c.from_residual-in_err-zero_header.result _ c.from_residual-in_err-zero_header.ensures.1)
-    (zero_refused c.zero_header.result _ _ _ first.sound c.in_err-zero_header.was (c.zero_header.ensures.state (c.settle_database.ensures.word.0 word)))
-
-pub returns-in_err-zero_header-clause-shows : goal.returns-in_err-zero_header-clause-shows
-returns-in_err-zero_header-clause-shows g c = λ word size w d is pages.
-    zeroed_shows size w d c.zero_header.result _ _ (synced_filed size w d _ _ _ is pages (c.in_ok-settle_database.ensures.state word)) (c.zero_header.ensures.state (c.settle_database.ensures.word.0 word))
-
-pub returns-clause-ends : goal.returns-clause-ends
-returns-clause-ends g c = λ word sound.
-    end_done c.settle_database.result c.zero_header.result _ _ _ _ _ sound c.in_ok-settle_database.was c.in_ok-zero_header.was
-    (c.settle_database.ensures.state word) (c.zero_header.ensures.state (c.settle_database.ensures.word.0 word))
-
-pub returns-clause-shows : goal.returns-clause-shows
-returns-clause-shows g c = λ word size w d is pages.
-    zeroed_shows size w d c.zero_header.result _ _ (synced_filed size w d _ _ _ is pages (c.in_ok-settle_database.ensures.state word)) (c.zero_header.ensures.state (c.settle_database.ensures.word.0 word))
-
-pub returns-in_err-settle_database-clause-asks : goal.returns-in_err-settle_database-clause-asks
-returns-in_err-settle_database-clause-asks g c = λ word size.
-    asks_err c.from_residual.result c.settle_database.result _ _ _ c.in_err-settle_database.was (passed c.from_residual.result _ c.from_residual.ensures.1)
-    (asks_step Db c.settle_database.result _ _ tt (g.met.D.Disk.sound c.args.disk.now word) (c.settle_database.ensures.state word))
-
-pub returns-in_err-zero_header-clause-asks : goal.returns-in_err-zero_header-clause-asks
-returns-in_err-zero_header-clause-asks g c = λ word size.
-    let first : Asks (MayReplay size) c.settle_database.result (g.D.Disk.state c.args.disk.now) (g.D.Disk.state c.settle_database.new.disk) =
-    asks_step Db c.settle_database.result _ _ tt (g.met.D.Disk.sound c.args.disk.now word) (c.settle_database.ensures.state word) in
-    asks_then _ c.settle_database.result _ _ _ _ c.in_ok-settle_database.was first
-    (asks_err c.from_residual-in_err-zero_header.result c.zero_header.result _ _ _ c.in_err-zero_header.was (passed c.from_residual-in_err-zero_header.result _ c.from_residual-in_err-zero_header.ensures.1)
-    (asks_zeros c.zero_header.result _ _ (refl, refl) tt first.later.sound (c.zero_header.ensures.state (c.settle_database.ensures.word.0 word))))
-
-pub returns-clause-asks : goal.returns-clause-asks
-returns-clause-asks g c = λ word size.
-    let first : Asks (MayReplay size) c.settle_database.result (g.D.Disk.state c.args.disk.now) (g.D.Disk.state c.settle_database.new.disk) =
-    asks_step Db c.settle_database.result _ _ tt (g.met.D.Disk.sound c.args.disk.now word) (c.settle_database.ensures.state word) in
-    asks_then _ c.settle_database.result _ _ _ _ c.in_ok-settle_database.was first
-    (asks_as _ c.zero_header.result _ _ _ c.in_ok-zero_header.was
-    (asks_zeros c.zero_header.result _ _ (refl, refl) tt first.later.sound (c.zero_header.ensures.state (c.settle_database.ensures.word.0 word))))
-
-pub returns-in_err-settle_database-clause-lengths : goal.returns-in_err-settle_database-clause-lengths
-returns-in_err-settle_database-clause-lengths g c = λ word sound sectors w down hot names.
-    ends_settled (g.D.Disk.state c.args.disk.now) (g.D.Disk.state c.settle_database.new.disk) _ w c.settle_database.result (c.settle_database.ensures.state word) down hot names
-
-pub returns-in_err-zero_header-clause-lengths : goal.returns-in_err-zero_header-clause-lengths
-returns-in_err-zero_header-clause-lengths g c = λ word sound sectors w down hot names.
-    ends_finished w (g.D.Disk.state c.args.disk.now) (g.D.Disk.state c.settle_database.new.disk) (g.D.Disk.state c.zero_header.new.disk) sound sectors down hot names _ (c.in_ok-settle_database.ensures.state word)
-    c.zero_header.result (c.zero_header.ensures.state (c.settle_database.ensures.word.0 word))
-
-pub returns-clause-lengths : goal.returns-clause-lengths
-returns-clause-lengths g c = λ word sound sectors w down hot names.
-    ends_finished w (g.D.Disk.state c.args.disk.now) (g.D.Disk.state c.settle_database.new.disk) (g.D.Disk.state c.zero_header.new.disk) sound sectors down hot names _ (c.in_ok-settle_database.ensures.state word)
-    c.zero_header.result (c.zero_header.ensures.state (c.settle_database.ensures.word.0 word))
-
-pub returns-in_err-settle_database-clause-commit : goal.returns-in_err-settle_database-clause-commit
-returns-in_err-settle_database-clause-commit g c = λ word size sector d e named place w is begun pages held.
-    synced_failed size sector d named place w begun e c.settle_database.result c.from_residual.result _ _ _ is c.in_err-settle_database.was (passed c.from_residual.result _ c.from_residual.ensures.1)
-    (c.settle_database.ensures.state word)
-
-pub returns-in_err-zero_header-clause-commit : goal.returns-in_err-zero_header-clause-commit
-returns-in_err-zero_header-clause-commit g c = λ word size sector d e named place w is begun pages held.
-    zero_failed size sector d named place w begun e c.settle_database.result _ (g.D.Disk.state c.args.disk.now) (g.D.Disk.state c.settle_database.new.disk) (g.D.Disk.state c.zero_header.new.disk) is pages held
-    c.in_ok-settle_database.was (c.settle_database.ensures.state word) c.zero_header.result c.from_residual-in_err-zero_header.result _ c.in_err-zero_header.was
-    (passed c.from_residual-in_err-zero_header.result _ c.from_residual-in_err-zero_header.ensures.1) (c.zero_header.ensures.state (c.settle_database.ensures.word.0 word))
-
-pub returns-clause-commit : goal.returns-clause-commit
-returns-clause-commit g c = λ word size sector d e named place w is begun pages held.
-    zero_closed size sector d named place w begun e c.settle_database.result _ (g.D.Disk.state c.args.disk.now) (g.D.Disk.state c.settle_database.new.disk) (g.D.Disk.state c.zero_header.new.disk) is pages held
-    c.in_ok-settle_database.was (c.settle_database.ensures.state word) c.zero_header.result _ tt c.in_ok-zero_header.was (c.zero_header.ensures.state (c.settle_database.ensures.word.0 word))
+pub returns-clause-disk : goal.returns-clause-disk
+returns-clause-disk g c = record {
+  word = search rules;
+  holds = λ word.
+      let sound = g.met.D.Disk.sound c.args.disk.now word in
+      let by_settle_database = c.settle_database.ensures.disk.holds word in
+      let by_zero_header = c.zero_header.ensures.disk.holds (c.settle_database.ensures.disk.word.0 word) in
+      record {
+        asks = λ size.
+            let first : Asks (MayReplay size) c.settle_database.result (g.D.Disk.state c.args.disk.now) (g.D.Disk.state c.settle_database.new.disk) =
+            asks_step Db c.settle_database.result _ _ tt (g.met.D.Disk.sound c.args.disk.now word) by_settle_database in
+            asks_then _ c.settle_database.result _ _ _ _ c.in_ok-settle_database.was first
+            (asks_as _ c.zero_header.result _ _ _ c.in_ok-zero_header.was
+            (asks_zeros c.zero_header.result _ _ (refl, refl) tt first.later.sound by_zero_header));
+        ends =
+            end_done c.settle_database.result c.zero_header.result _ _ _ _ _ sound c.in_ok-settle_database.was c.in_ok-zero_header.was
+            by_settle_database by_zero_header;
+        shows = λ size w d is pages. zeroed_shows size w d c.zero_header.result _ _ (synced_filed size w d _ _ _ is pages (c.in_ok-settle_database.ensures.disk.holds word)) by_zero_header;
+        lengths = λ sectors w down hot names.
+            ends_finished w (g.D.Disk.state c.args.disk.now) (g.D.Disk.state c.settle_database.new.disk) (g.D.Disk.state c.zero_header.new.disk) sound sectors down hot names _ (c.in_ok-settle_database.ensures.disk.holds word)
+            c.zero_header.result by_zero_header;
+        commit = λ size sector d e named place w is begun pages held.
+            zero_closed size sector d named place w begun e c.settle_database.result _ (g.D.Disk.state c.args.disk.now) (g.D.Disk.state c.settle_database.new.disk) (g.D.Disk.state c.zero_header.new.disk) is pages held
+            c.in_ok-settle_database.was by_settle_database c.zero_header.result _ tt c.in_ok-zero_header.was by_zero_header;
+      };
+}

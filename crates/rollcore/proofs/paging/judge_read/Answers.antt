@@ -2,22 +2,22 @@ use Rattle.std.proofs.Common.{arith, ◌∙◌, sym}
 use Rattle.rollcore.specs.Paging.{ReadJudged}
 use Rattle.rollcore.proofs.paging.judge_read.Goals as goal
 
-pub returns-then-not-is_open-clause-judged : goal.returns-then-not-is_open-clause-judged
+pub returns-then-not-core-clause-judged : goal.returns-then-not-core-clause-judged
 unfolding ReadJudged
-returns-then-not-is_open-clause-judged c = c.if-not-is_open.true
+returns-then-not-core-clause-judged c = c.if-not-core.true
 
 pub returns-then-page-eq0-clause-judged : goal.returns-then-page-eq0-clause-judged
 unfolding ReadJudged
-returns-then-page-eq0-clause-judged c = (c.if-not-is_open.false, c.if-page-eq0.true)
+returns-then-page-eq0-clause-judged c = (c.if-not-core.false, c.if-page-eq0.true)
 
-pub returns-then-page-size-clause-judged : goal.returns-then-page-size-clause-judged
+pub returns-then-page-core-clause-judged : goal.returns-then-page-core-clause-judged
 unfolding ReadJudged
-returns-then-page-size-clause-judged c = (c.if-not-is_open.false, omega arith, omega arith)
+returns-then-page-core-clause-judged c = (c.if-not-core.false, omega arith, omega arith)
 
 pub returns-then-room-get-clause-judged : goal.returns-then-room-get-clause-judged
 unfolding ReadJudged
-returns-then-room-get-clause-judged c = (c.if-not-is_open.false, omega arith, c.if-page-size.false, λ same. c.if-room-get.true (same ∙ sym c.get.ensures.value))
+returns-then-room-get-clause-judged c = (c.if-not-core.false, omega arith, c.if-page-core.false, λ same. c.if-room-get.true (same ∙ sym c.get.ensures.value))
 
 pub returns-clause-judged : goal.returns-clause-judged
 unfolding ReadJudged
-returns-clause-judged c = (c.if-not-is_open.false, omega arith, c.if-page-size.false, c.if-room-get.false ∙ c.get.ensures.value)
+returns-clause-judged c = (c.if-not-core.false, omega arith, c.if-page-core.false, c.if-room-get.false ∙ c.get.ensures.value)

@@ -1,10 +1,8 @@
 use Rattle.std.proofs.Common.{◌≡◌, ◌↔◌, ◌*◌, ◌^◌, ◌≤◌, ℕ, length}
 use Rattle.sqval.specs.Database.{Database, apply}
-use Rattle.sqval.specs.Held.{IsHeld}
 use Rattle.sqval.specs.JudgedPages.{lent}
 use Rattle.std.specs.Prelude.{Ok}
-use Rattle.rollcore.specs.Fits.{Rests}
-use Rattle.crashdisk.specs.Keeps.{Suits}
+use Rattle.rollcore.specs.Committing.{RestsAt}
 use Rattle.rollcore.specs.Changes.{MayCommit, Asks}
 use Rattle.rollcore.specs.Commits.{KeepsCore, IsReady}
 use Rattle.rollcore.specs.Segments.{pages_of, Parted}
@@ -19,8 +17,7 @@ invariant-loop-k g l = record {
   keeps : KeepsCore l.fn.core l.core;
   changes : l.core.changes ≡ l.fn.core.changes;
   going : g.D.Disk.keeps_word l.fn.disk → (n : ℕ) (d : Database) → IsReady l.pages n (length l.nonces) l.fn.core
-      → Suits l.fn.core.page_size (g.D.Disk.state l.fn.disk) → IsHeld l.fn.core.page_size d → length d ≡ l.fn.core.size
-      → length l.fn.core.header.items ≡ (g.D.Disk.state l.fn.disk).sector → l.sector ≡ (g.D.Disk.state l.fn.disk).sector → Rests l.fn.core.page_size d (g.D.Disk.state l.fn.disk)
+      → RestsAt l.fn.core d (g.D.Disk.state l.fn.disk) → l.sector ≡ (g.D.Disk.state l.fn.disk).sector
       → Parted l.fn.core.page_size l.sector d (apply d (lent l.pages) n) (pages_of l.fn.core.changes.items) l.nonces l.k l.place (g.D.Disk.state l.disk)
       × ((g.D.Disk.state l.fn.disk).refused ≤ (g.D.Disk.state l.disk).refused);
 }

@@ -1,4 +1,4 @@
-use Rattle.std.proofs.Common.{◌+◌, take, length}
+use Rattle.std.proofs.Common.{rules, ◌+◌, take, length}
 use Rattle.rollcore.specs.declared.error.RollError.TheVariants.{Device}
 use Rattle.sqval.proofs.Answering.{passed}
 use Rattle.rollcore.proofs.Scans.{fed, not_fed, scan_refusal}
@@ -7,32 +7,38 @@ use Rattle.std.specs.Prelude.{Ok, Bool, true}
 use Rattle.rollcore.proofs.Told.{told_device, told_done}
 use Rattle.rollcore.proofs.reading.feed_piece.Goals as goal
 
-pub returns-in_err-read_at-clause-took : goal.returns-in_err-read_at-clause-took
-returns-in_err-read_at-clause-took g c = λ word sound w are fits took.
-    scan_refusal w (c.args.at + length c.args.piece.now) _ c.read_at.result _ _ _ _ _ sound are fits (c.in_err-read_at.was) (c.read_at.ensures.state word) (passed c.from_residual.result Device c.from_residual.ensures.1)
+pub returns-in_err-read_at : goal.returns-in_err-read_at
+returns-in_err-read_at g c = record {
+  word = search rules;
+  holds = λ word.
+      let sound = g.met.D.Disk.sound c.args.disk.now word in
+      record {
+        still = still_looks _ c.read_at.result _ _ sound (c.read_at.ensures.state word);
+        told = told_device c.from_residual.result (g.D.Disk.state c.args.disk.now) (g.D.Disk.state c.read_at.new.self) (passed c.from_residual.result Device c.from_residual.ensures.1);
+        found = λ w are fits took. scan_refusal w (c.args.at + length c.args.piece.now) _ c.read_at.result _ _ _ _ _ sound are fits (c.in_err-read_at.was) (c.read_at.ensures.state word) (passed c.from_residual.result Device c.from_residual.ensures.1);
+      };
+}
 
-pub returns-in-Ok-clause-took : goal.returns-in-Ok-clause-took
-returns-in-Ok-clause-took g c = λ word sound w are fits took.
-    fed w (g.D.Disk.state c.args.disk.now).log c.args.at c.args.piece.now c.read_at.new.out c.read_at.auto.out are fits (c.in_ok-read_at.ensures.bytes word) c.feed.new.self _ _ (c.in-Ok.ensures (take c.args.at w) took).1
+pub returns-in-Ok : goal.returns-in-Ok
+returns-in-Ok g c = record {
+  word = search rules;
+  holds = λ word.
+      let sound = g.met.D.Disk.sound c.args.disk.now word in
+      record {
+        still = still_looks _ c.read_at.result _ _ sound (c.read_at.ensures.state word);
+        told = told_done {T = Bool} (Ok true) c.read_at.result _ (g.D.Disk.state c.args.disk.now) (g.D.Disk.state c.read_at.new.self) c.in_ok-read_at.was (c.read_at.ensures.state word).refused;
+        found = λ w are fits took. fed w (g.D.Disk.state c.args.disk.now).log c.args.at c.args.piece.now c.read_at.new.out c.read_at.auto.out are fits (c.in_ok-read_at.ensures.bytes word) c.feed.new.self _ _ (c.in-Ok.ensures (take c.args.at w) took).1;
+      };
+}
 
-pub returns-in-Err-clause-took : goal.returns-in-Err-clause-took
-returns-in-Err-clause-took g c = λ word sound w are fits took.
-    not_fed w (g.D.Disk.state c.args.disk.now).log c.args.at c.args.piece.now c.read_at.new.out c.read_at.auto.out are fits (c.in_ok-read_at.ensures.bytes word) c.in-Err.error _ _ c.feed.new.self _ _ (c.in-Err.ensures (take c.args.at w) took).0 c.without_header.ensures
-
-pub returns-in_err-read_at-clause-still : goal.returns-in_err-read_at-clause-still
-returns-in_err-read_at-clause-still g c = λ word sound. still_looks _ c.read_at.result _ _ sound (c.read_at.ensures.state word)
-
-pub returns-in-Ok-clause-still : goal.returns-in-Ok-clause-still
-returns-in-Ok-clause-still g c = λ word sound. still_looks _ c.read_at.result _ _ sound (c.read_at.ensures.state word)
-
-pub returns-in-Err-clause-still : goal.returns-in-Err-clause-still
-returns-in-Err-clause-still g c = λ word sound. still_looks _ c.read_at.result _ _ sound (c.read_at.ensures.state word)
-
-pub returns-in_err-read_at-clause-told : goal.returns-in_err-read_at-clause-told
-returns-in_err-read_at-clause-told g c = λ word. told_device c.from_residual.result (g.D.Disk.state c.args.disk.now) (g.D.Disk.state c.read_at.new.self) (passed c.from_residual.result Device c.from_residual.ensures.1)
-
-pub returns-in-Ok-clause-told : goal.returns-in-Ok-clause-told
-returns-in-Ok-clause-told g c = λ word. told_done {T = Bool} (Ok true) c.read_at.result _ (g.D.Disk.state c.args.disk.now) (g.D.Disk.state c.read_at.new.self) c.in_ok-read_at.was (c.read_at.ensures.state word).refused
-
-pub returns-in-Err-clause-told : goal.returns-in-Err-clause-told
-returns-in-Err-clause-told g c = λ word. told_done c.without_header.result c.read_at.result _ (g.D.Disk.state c.args.disk.now) (g.D.Disk.state c.read_at.new.self) c.in_ok-read_at.was (c.read_at.ensures.state word).refused
+pub returns-in-Err : goal.returns-in-Err
+returns-in-Err g c = record {
+  word = search rules;
+  holds = λ word.
+      let sound = g.met.D.Disk.sound c.args.disk.now word in
+      record {
+        still = still_looks _ c.read_at.result _ _ sound (c.read_at.ensures.state word);
+        told = told_done c.without_header.result c.read_at.result _ (g.D.Disk.state c.args.disk.now) (g.D.Disk.state c.read_at.new.self) c.in_ok-read_at.was (c.read_at.ensures.state word).refused;
+        found = λ w are fits took. not_fed w (g.D.Disk.state c.args.disk.now).log c.args.at c.args.piece.now c.read_at.new.out c.read_at.auto.out are fits (c.in_ok-read_at.ensures.bytes word) c.in-Err.error _ _ c.feed.new.self _ _ (c.in-Err.ensures (take c.args.at w) took).0 c.without_header.ensures;
+      };
+}

@@ -3,8 +3,8 @@ use Rattle.sqworld.proofs.JournalServing.{opened, given_up}
 use Rattle.sqworld.proofs.journal_engine.open_disk.Goals as goal
 
 pub returns-in-Ok : goal.returns-in-Ok
-returns-in-Ok c past found are size fits = opened past found (state_of c.args.disk) c.in-Ok.roll (c.in-Ok.ensures.step tt past found are size fits)
+returns-in-Ok c past found are size fits = opened past found (state_of c.args.disk) c.in-Ok.roll ((c.in-Ok.ensures.holds tt).step past found are size fits)
 
 pub returns-in-Err : goal.returns-in-Err
 returns-in-Err c past found are size fits =
-    given_up past found c.in-Err.refused.error c.number.result (state_of c.args.disk) c.in-Err.refused.disk c.number.ensures (c.in-Err.ensures.step tt past found are size fits)
+    given_up past found c.in-Err.refused.error c.number.result (state_of c.args.disk) c.in-Err.refused.disk c.number.ensures ((c.in-Err.ensures.holds tt).step past found are size fits)
