@@ -8,3 +8,4 @@ pub mod CellLemmas
 pub mod Chains
 pub mod Marks
 pub mod BareBytes
+pub mod PointerGroups

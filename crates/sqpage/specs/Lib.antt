@@ -9,3 +9,4 @@ pub mod Chain
 pub mod SoundPage
 pub mod Layout
 pub mod Marking
+pub mod PointerMaps

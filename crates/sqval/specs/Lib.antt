@@ -13,3 +13,4 @@ pub mod Runs
 pub mod CommitFaults
 pub mod Held
 pub mod JudgedPages
+pub mod Limits

@@ -9,11 +9,9 @@ ghost use Rattle.sqval.specs.CommitFaults.{most_bytes, has_twice, first_true, pa
 ghost use Rattle.sqval.specs.JudgedPages.{fault_number, lent, numbers_of, Misses, Judged, number_faults, set_faults};
 ghost use Rattle.sqval.specs.JudgedPages.{size_faults};
 
+use crate::limits::Limits;
 use crate::page_size::PageSize;
 use thiserror::Error;
-
-/// The most bytes of a database.
-const MOST_BYTES: u64 = 1073741824;
 
 /// What is wrong with the pages of a commit (own).
 #[derive(Clone, Copy, Debug, PartialEq, Eq, Error)]
@@ -239,7 +237,7 @@ fn judge_set(
 fn is_too_large(size: u32, page_size: u32) -> bool
     ensures { result ≡ nat_lt most_bytes (size * page_size) }
 {
-    MOST_BYTES < u64::from(size) * u64::from(page_size)
+    Limits::USUAL.bytes() < u64::from(size) * u64::from(page_size)
 }
 
 /// Judges the contents and the size.

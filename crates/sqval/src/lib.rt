@@ -5,6 +5,7 @@
 mod commit;
 mod encoding;
 mod error;
+mod limits;
 mod page_size;
 mod record;
 mod stride;
@@ -14,6 +15,7 @@ pub mod varint;
 pub use commit::{CommitFault, judge_pages};
 pub use encoding::encode;
 pub use error::RecordError;
+pub use limits::Limits;
 pub use page_size::PageSize;
 pub use record::{Columns, MOST_BYTES, Record};
 pub use stride::gather;

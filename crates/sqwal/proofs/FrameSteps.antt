@@ -4,12 +4,12 @@ use Rattle.std.specs.Prelude.{◌==◌, Bool, Result, Ok, Err, MatchResult}
 use Rattle.std.proofs.lemmas.List.{drop-append-le, drop-drop, drop_all, length-drop, length-take, take-take, length-take-le, length_push, take_at, take_all, get_or_append_left, get_or_push}
 use Rattle.std.proofs.lemmas.Bool.{cases_lt, cases_eq, ne_eqb}
 use Rattle.sqval.specs.Bytes.{part, word}
+use Rattle.sqval.specs.Limits.{Bounds}
 use Rattle.byteorder.specs.Endian.{big_number}
 use Rattle.sqwal.specs.Sums.{words, sum_0, sum_1, IsSumOf, GoesOn}
 use Rattle.sqwal.specs.Header.{IsHeaderOf}
 use Rattle.sqwal.specs.Frames.{frame_at, frame_end, page_of, size_of, content_of, summed, HasSalts, HasSums, Passes, AllPass, IsValidFrame}
 use Rattle.sqwal.specs.Stops.{StopsFor}
-use Rattle.sqwal.specs.Refusal.{most_frames}
 use Rattle.sqwal.specs.Took.{IsFrontTo, IsBegun, IsBehind, TookFrames}
 use Rattle.sqwal.specs.ScanParts.{NamesSalts, NamesSum, GoesOver, IsJudged, progress_behind, FramesRefused, IsPushed}
 use Rattle.sqwal.specs.declared.header.WalHeader.{WalHeader}
@@ -152,9 +152,9 @@ module _ (h : WalHeader) (b held first : List ℕ) (es : List Entry) (p : Progre
         (λ ne. valid-more b first h.page_size (length es) t.valid j q (omega arith))
         (cases_eq j (suc (length es)))
 
-    pub is_too_long : most_frames < p.next → IsValidFrame h.page_size (b ++ first) (suc most_frames)
+    pub is_too_long : p.limits.frames < p.next → IsValidFrame h.page_size (b ++ first) (suc p.limits.frames)
     is_too_long l =
-        let e : length es ≡ most_frames = omega (arith, t.next, t.most) in
+        let e : length es ≡ p.limits.frames = omega (arith, t.next, t.most) in
         record { first = omega arith; each = subst (λ (x : ℕ). AllPass h.page_size (b ++ first) (suc x)) e valid }
 
     module _ (e : Entry) (page_is : e.page ≡ word (held ++ first) 0) (size_is : e.size ≡ word (held ++ first) 4) where
@@ -210,7 +210,7 @@ module _ (h : WalHeader) (b held first : List ℕ) (es : List Entry) (p : Progre
         short = omega arith;
       }
 
-      pub took-pass : p.next ≤ most_frames → TookFrames h (b ++ first) [] (es ++ e ∷ []) (progress_behind h e after p)
+      pub took-pass : p.next ≤ p.limits.frames → TookFrames h (b ++ first) [] (es ++ e ∷ []) (progress_behind h e after p)
       took-pass l = record {
         header = header;
         next = omega (arith, t.next, more);
@@ -226,9 +226,9 @@ module _ (h : WalHeader) (b held first : List ℕ) (es : List Entry) (p : Progre
 -- ---- the parts of the code
 
 -- a log of a whole header and nothing else
-pub took-header : (h : WalHeader) (head : List ℕ) (es : List Entry) (zero_sum sum : Sum) → IsHeaderOf head h → length head ≡ 32 → es ≡ [] → ((order : Order) → IsSumOf order [] zero_sum) → GoesOn h.order (take 24 head) zero_sum sum → TookFrames h head [] es (record { next = 1; sum = sum; front = record { frames = 0; size = 0; end = 32 }; refused = None })
+pub took-header : (limits : Bounds) (h : WalHeader) (head : List ℕ) (es : List Entry) (zero_sum sum : Sum) → IsHeaderOf head h → length head ≡ 32 → es ≡ [] → ((order : Order) → IsSumOf order [] zero_sum) → GoesOn h.order (take 24 head) zero_sum sum → TookFrames h head [] es (record { limits = limits; next = 1; sum = sum; front = record { frames = 0; size = 0; end = 32 }; refused = None })
 unfolding summed
-took-header h head es zero_sum sum is long none zeros on =
+took-header limits h head es zero_sum sum is long none zeros on =
     let n : length es ≡ 0 = ap length none in
     let begins : IsBegun h head [] 0 sum = record {
       sum_before = on [] refl (zeros h.order);
@@ -263,14 +263,23 @@ module _ (h : WalHeader) (e : Entry) (sum : Sum) (s t : FrameList) where
   pub push-keeps : {T : Type 0} (r : Result T WalFormatError) → IsPushed h e sum s r t → take (length s.entries.items) t.entries.items ≡ s.entries.items
   push-keeps (Ok x) is = ap (take (length s.entries.items)) is.1 ∙ take_at s.entries.items (e ∷ []) (length s.entries.items) refl
   push-keeps (Err TooLong) is = ap (take (length s.entries.items)) is.1 ∙ take_all (length s.entries.items) s.entries.items (omega arith)
-  push-keeps (Err NoMemory) is = ap (take (length s.entries.items)) is ∙ take_all (length s.entries.items) s.entries.items (omega arith)
+  push-keeps (Err NoMemory) is = ap (take (length s.entries.items)) is.0 ∙ take_all (length s.entries.items) s.entries.items (omega arith)
   push-keeps (Err NotAWal) is = absurd is
   push-keeps (Err PageSize) is = absurd is
   push-keeps (Err HeaderSum) is = absurd is
   push-keeps (Err UnknownVersion) is = absurd is
 
+  pub push-limits : {T : Type 0} (r : Result T WalFormatError) → IsPushed h e sum s r t → t.progress.limits ≡ s.progress.limits
+  push-limits (Ok x) is = ap (λ (p : Progress). p.limits) is.2
+  push-limits (Err TooLong) is = ap (λ (p : Progress). p.limits) is.2
+  push-limits (Err NoMemory) is = ap (λ (p : Progress). p.limits) is.1
+  push-limits (Err NotAWal) is = absurd is
+  push-limits (Err PageSize) is = absurd is
+  push-limits (Err HeaderSum) is = absurd is
+  push-limits (Err UnknownVersion) is = absurd is
+
   module _ (b held first : List ℕ) (took : TookFrames h b held s.entries.items s.progress) (unrefused : s.progress.refused ≡ None) (long : length (held ++ first) ≡ 24 + h.page_size) (judged : IsJudged h s.progress.sum (held ++ first) (Ok sum)) (page_is : e.page ≡ word (held ++ first) 0) (size_is : e.size ≡ word (held ++ first) 4) where
-    took-push : {T : Type 0} (r : Result T WalFormatError) → IsPushed h e sum s r t → MatchResult r (λ _. TookFrames h (b ++ first) [] t.entries.items t.progress) (FramesRefused h.page_size (b ++ first))
+    took-push : {T : Type 0} (r : Result T WalFormatError) → IsPushed h e sum s r t → MatchResult r (λ _. TookFrames h (b ++ first) [] t.entries.items t.progress) (FramesRefused s.progress.limits.frames h.page_size (b ++ first))
     took-push (Ok x) is =
         let k : TookFrames h (b ++ first) [] (s.entries.items ++ e ∷ []) (progress_behind h e sum s.progress) = took-pass h b held first s.entries.items s.progress took unrefused long sum judged.0 judged.1 judged.2 judged.3 e page_is size_is is.0 in
         subst (λ (p : Progress). TookFrames h (b ++ first) [] t.entries.items p) (sym is.2) (subst (λ (es : List Entry). TookFrames h (b ++ first) [] es (progress_behind h e sum s.progress)) (sym is.1) k)
@@ -283,7 +292,7 @@ module _ (h : WalHeader) (e : Entry) (sum : Sum) (s t : FrameList) where
 
   -- a whole frame that passes was pushed
   pub took-pushed : {T : Type 0} (f b held first : List ℕ) (r : Result T WalFormatError) → f ≡ held ++ first → TookFrames h b held s.entries.items s.progress → s.progress.refused ≡ None → length f ≡ 24 + h.page_size → IsJudged h s.progress.sum f (Ok sum) → e.page ≡ word f 0 → e.size ≡ word f 4 → IsPushed h e sum s r t
-      → MatchResult r (λ _. TookFrames h (b ++ first) [] t.entries.items t.progress) (FramesRefused h.page_size (b ++ first))
+      → MatchResult r (λ _. TookFrames h (b ++ first) [] t.entries.items t.progress) (FramesRefused s.progress.limits.frames h.page_size (b ++ first))
   took-pushed f b held first r is took unrefused long judged page_is size_is = took-push b held first took unrefused
       (sym (ap length is) ∙ long)
       (subst (λ (x : List ℕ). IsJudged h s.progress.sum x (Ok sum)) is judged)
@@ -309,8 +318,8 @@ module _ (h : WalHeader) (w rest frame more : List ℕ) (es : List Entry) (p : P
   come-cut : (is.0 ++ frame) ++ more ≡ w
   come-cut = append_assoc is.0 frame more ∙ ap (λ x. is.0 ++ x) (sym cut) ∙ is.1.0
 
-  pub come-error : (e : WalFormatError) → FramesRefused h.page_size (is.0 ++ frame) e → FramesRefused h.page_size w e
-  come-error e r = subst (λ (x : List ℕ). FramesRefused h.page_size x e) come-cut (frames_refused-more h.page_size (is.0 ++ frame) more e r)
+  pub come-error : (most : ℕ) (e : WalFormatError) → FramesRefused most h.page_size (is.0 ++ frame) e → FramesRefused most h.page_size w e
+  come-error most e r = subst (λ (x : List ℕ). FramesRefused most h.page_size x e) come-cut (frames_refused-more most h.page_size (is.0 ++ frame) more e r)
 
   pub come-next : (es' : List Entry) (p' : Progress) → TookFrames h (is.0 ++ frame) [] es' p' → HasComeTo h w more es' p'
   come-next es' p' t = (is.0 ++ frame, (come-cut, t))
@@ -322,13 +331,13 @@ keeps-keeps a b c e f =
     sym (take-take (length a) (length b) c l) ∙ ap (take (length a)) f ∙ e
 
 module _ (h : WalHeader) (e : Entry) (sum : Sum) (p : Progress) (f : Front) where
-  behind_with : f ≡ cond (e.size == 0) p.front (record { frames = p.next; size = e.size; end = frame_end h.page_size p.next }) → ◌≡◌ {A = Progress} (record { next = p.next + 1; sum = sum; front = f; refused = p.refused }) (progress_behind h e sum p)
+  behind_with : f ≡ cond (e.size == 0) p.front (record { frames = p.next; size = e.size; end = frame_end h.page_size p.next }) → ◌≡◌ {A = Progress} (record { limits = p.limits; next = p.next + 1; sum = sum; front = f; refused = p.refused }) (progress_behind h e sum p)
   behind_with is = ap (λ (x : Front). record p { next = p.next + 1; sum = sum; front = x }) is
 
-  pub behind_none : e.size ≡ 0 → f ≡ p.front → ◌≡◌ {A = Progress} (record { next = p.next + 1; sum = sum; front = f; refused = p.refused }) (progress_behind h e sum p)
+  pub behind_none : e.size ≡ 0 → f ≡ p.front → ◌≡◌ {A = Progress} (record { limits = p.limits; next = p.next + 1; sum = sum; front = f; refused = p.refused }) (progress_behind h e sum p)
   behind_none z is = behind_with (is ∙ ap (λ c. cond c p.front (record { frames = p.next; size = e.size; end = frame_end h.page_size p.next })) (sym (eq-eqb e.size 0 z)))
 
-  pub behind_commit : (from size : ℕ) → e.size ≢ 0 → f ≡ record { frames = p.next; size = e.size; end = 32 + from * (24 + size) } → from ≡ p.next → size ≡ h.page_size → ◌≡◌ {A = Progress} (record { next = p.next + 1; sum = sum; front = f; refused = p.refused }) (progress_behind h e sum p)
+  pub behind_commit : (from size : ℕ) → e.size ≢ 0 → f ≡ record { frames = p.next; size = e.size; end = 32 + from * (24 + size) } → from ≡ p.next → size ≡ h.page_size → ◌≡◌ {A = Progress} (record { limits = p.limits; next = p.next + 1; sum = sum; front = f; refused = p.refused }) (progress_behind h e sum p)
   unfolding frame_end
   behind_commit from size ne is a b = behind_with (is
       ∙ ap (λ n. record { frames = p.next; size = e.size; end = 32 + n * (24 + size) }) a

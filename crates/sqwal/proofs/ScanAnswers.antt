@@ -10,9 +10,8 @@ use Rattle.std.proofs.lemmas.Option.{slice_get-get_or, slice_get_past, slice_get
 use Rattle.sqwal.specs.Header.{named_size}
 use Rattle.sqwal.specs.Frames.{frame_end, page_of, size_of, Passes, AllPass, IsValidFrame, IsFront}
 use Rattle.sqwal.specs.Stops.{StopsFor, IsStop}
-use Rattle.sqwal.specs.Answers.{HeaderFound, EntryFound, AreEntries, IsCommitted}
-use Rattle.sqwal.specs.Refusal.{most_frames}
-use Rattle.sqwal.specs.Took.{IsBegun, IsRefused, IsBehind, TookFrames, TookParts, Took}
+use Rattle.sqwal.specs.Answers.{HeaderFound, EntryFound, AreEntriesWithin, IsCommittedWithin}
+use Rattle.sqwal.specs.Took.{IsBegun, IsRefused, IsBehind, TookFrames, TookParts, TookWithin}
 use Rattle.sqwal.specs.declared.header.WalHeader.{WalHeader}
 use Rattle.sqwal.specs.declared.scan.Entry.{Entry}
 use Rattle.sqwal.specs.declared.scan.Front.{Front}
@@ -79,7 +78,7 @@ module _ (h : WalHeader) (b held : List ℕ) (es : List Entry) (p : Progress) (t
   entry_none index l = subst (λ (o : Option Entry). EntryFound b (suc index) o) (sym (slice_get_past es index l))
       (λ is. omega (arith, valid_within (suc index) (subst (λ (n : ℕ). IsValidFrame n b (suc index)) named is)))
 
-  entries_frames : AreEntries b es
+  entries_frames : AreEntriesWithin p.limits.frames b es
   entries_frames = record {
     most = t.most;
     valid = λ i q l. subst (λ (n : ℕ). IsValidFrame n b i) (sym named) (valid i q l);
@@ -100,7 +99,7 @@ module _ (h : WalHeader) (b held : List ℕ) (es : List Entry) (p : Progress) (t
         (cases_lt p.front.frames i);
   }
 
-  committed_frames : IsCommitted b p.front
+  committed_frames : IsCommittedWithin p.limits.frames b p.front
   committed_frames = record {
     front = subst (λ (n : ℕ). IsFront n b p.front.frames) (sym named) front_is;
     most = omega (arith, t.front.within, t.most);
@@ -142,8 +141,8 @@ module _ (b held : List ℕ) (es : List Entry) (p : Progress) where
   entry_found None index t = subst (λ (x : List Entry). EntryFound b (suc index) (slice_get x index)) (sym t.nothing) (λ is. no_header (named_size b) b (suc index) t.short is)
   entry_found (Some h) index t = ⊎_elim (entry_some h b held es p t index) (entry_none h b held es p t index) (cases_lt index (length es))
 
-  pub entries_are : (o : Option WalHeader) → TookParts b held es p o → AreEntries b es
-  entries_are None t = subst (λ (x : List Entry). AreEntries b x) (sym t.nothing) (record {
+  pub entries_are : (o : Option WalHeader) → TookParts b held es p o → AreEntriesWithin p.limits.frames b es
+  entries_are None t = subst (λ (x : List Entry). AreEntriesWithin p.limits.frames b x) (sym t.nothing) (record {
     most = omega arith;
     valid = λ i q l. absurd (omega arith);
     all = λ i is. absurd (no_header (named_size b) b i t.short is);
@@ -152,8 +151,8 @@ module _ (b held : List ℕ) (es : List Entry) (p : Progress) where
   })
   entries_are (Some h) t = entries_frames h b held es p t
 
-  pub committed_is : (o : Option WalHeader) → TookParts b held es p o → IsCommitted b p.front
-  committed_is None t = subst (λ (f : Front). IsCommitted b f) (sym t.front) (record {
+  pub committed_is : (o : Option WalHeader) → TookParts b held es p o → IsCommittedWithin p.limits.frames b p.front
+  committed_is None t = subst (λ (f : Front). IsCommittedWithin p.limits.frames b f) (sym t.front) (record {
     front = record { is = inl refl; greatest = λ i is commit. absurd (no_header (named_size b) b i t.short is) };
     most = omega arith;
     none = λ z. refl;
@@ -170,13 +169,22 @@ module _ (b held : List ℕ) (es : List Entry) (p : Progress) where
   stop_is (Some h) short t is = stop_frames h b held es p t short is
 
 -- a scan takes no more frames
-pub few_frames : (w : List ℕ) (scan : Scan) → Took w scan → IsValidFrame (named_size w) w (suc most_frames) → ⊥
-unfolding Took
-few_frames w scan took valid =
-    let are = entries_are w scan.held.items scan.frames.entries.items scan.frames.progress scan.header took.1 in
-    let most : length scan.frames.entries.items ≤ most_frames = are.most in
-    let le : suc most_frames ≤ length scan.frames.entries.items = are.all (suc most_frames) valid in
+pub few_frames : {most : ℕ} (w : List ℕ) (scan : Scan) → TookWithin most w scan → IsValidFrame (named_size w) w (suc most) → ⊥
+few_frames {most} w scan took valid =
+    let are = entries_are w scan.held.items scan.frames.entries.items scan.frames.progress scan.header took.parts in
+    let few : length scan.frames.entries.items ≤ scan.frames.progress.limits.frames = are.most in
+    let limit : scan.frames.progress.limits.frames ≡ most = took.limit in
+    let le : suc most ≤ length scan.frames.entries.items = are.all (suc most) valid in
     omega arith
+
+-- what a scan says of its frames, at its limit
+pub entries_within : (most : ℕ) (w : List ℕ) (scan : Scan) → TookWithin most w scan → AreEntriesWithin most w scan.frames.entries.items
+entries_within most w scan took = subst (λ (n : ℕ). AreEntriesWithin n w scan.frames.entries.items) took.limit
+    (entries_are w scan.held.items scan.frames.entries.items scan.frames.progress scan.header took.parts)
+
+pub committed_within : (most : ℕ) (w : List ℕ) (scan : Scan) → TookWithin most w scan → IsCommittedWithin most w scan.frames.progress.front
+committed_within most w scan took = subst (λ (n : ℕ). IsCommittedWithin n w scan.frames.progress.front) took.limit
+    (committed_is w scan.held.items scan.frames.entries.items scan.frames.progress scan.header took.parts)
 
 -- what `get` lends, copied
 pub copied_get : {X : Type 0} (xs : List X) (i : ℕ) (r : Option (Bor X)) → IsItemAt xs i r → option_copied r ≡ slice_get xs i

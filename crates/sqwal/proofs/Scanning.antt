@@ -10,8 +10,7 @@ use Rattle.sqwal.specs.Sums.{words, sum_0, sum_1, IsSumOf}
 use Rattle.sqwal.specs.Header.{HasMagic, HasHeaderSums, order_of, named_size, IsHeaderOf, HeaderRefused}
 use Rattle.sqwal.specs.Frames.{frame_at, frame_end, page_of, size_of, summed, HasSalts, HasSums, AllPass, IsValidFrame}
 use Rattle.sqwal.specs.Stops.{StopsFor}
-use Rattle.sqwal.specs.Refusal.{most_frames}
-use Rattle.sqwal.specs.Answers.{LogRefused}
+use Rattle.sqwal.specs.Answers.{LogRefusedWithin}
 use Rattle.sqwal.specs.Took.{IsFrontTo, IsBegun, IsRefused, IsBehind, TookFrames}
 use Rattle.sqwal.specs.ScanParts.{FramesRefused}
 use Rattle.sqwal.specs.declared.header.WalHeader.{WalHeader}
@@ -166,21 +165,21 @@ module _ (b more : List ℕ) where
 
 -- ---- why bytes are refused
 
-pub frames_refused-more : (size : ℕ) (w more : List ℕ) (e : WalFormatError) → FramesRefused size w e → FramesRefused size (w ++ more) e
-frames_refused-more size w more TooLong is = too_long-more w more size (suc most_frames) is
-frames_refused-more size w more NoMemory is = tt
-frames_refused-more size w more NotAWal is = is
-frames_refused-more size w more PageSize is = is
-frames_refused-more size w more HeaderSum is = is
-frames_refused-more size w more UnknownVersion is = is
+pub frames_refused-more : (most size : ℕ) (w more : List ℕ) (e : WalFormatError) → FramesRefused most size w e → FramesRefused most size (w ++ more) e
+frames_refused-more most size w more TooLong is = too_long-more w more size (suc most) is
+frames_refused-more most size w more NoMemory is = tt
+frames_refused-more most size w more NotAWal is = is
+frames_refused-more most size w more PageSize is = is
+frames_refused-more most size w more HeaderSum is = is
+frames_refused-more most size w more UnknownVersion is = is
 
-pub log_refused : (h : WalHeader) (w : List ℕ) (e : WalFormatError) → IsHeaderOf w h → FramesRefused h.page_size w e → LogRefused w e
-log_refused h w TooLong is r = subst (λ (n : ℕ). IsValidFrame n w (suc most_frames)) (sym is.valid.named) r
-log_refused h w NoMemory is r = tt
-log_refused h w NotAWal is r = absurd r
-log_refused h w PageSize is r = absurd r
-log_refused h w HeaderSum is r = absurd r
-log_refused h w UnknownVersion is r = absurd r
+pub log_refused : (most : ℕ) (h : WalHeader) (w : List ℕ) (e : WalFormatError) → IsHeaderOf w h → FramesRefused most h.page_size w e → LogRefusedWithin most w e
+log_refused most h w TooLong is r = subst (λ (n : ℕ). IsValidFrame n w (suc most)) (sym is.valid.named) r
+log_refused most h w NoMemory is r = tt
+log_refused most h w NotAWal is r = absurd r
+log_refused most h w PageSize is r = absurd r
+log_refused most h w HeaderSum is r = absurd r
+log_refused most h w UnknownVersion is r = absurd r
 
 -- a header that is refused, with more bytes
 module _ (head more : List ℕ) (long : 32 ≤ length head) where
@@ -217,20 +216,20 @@ module _ (head more : List ℕ) (long : 32 ≤ length head) where
   whole-more : 32 ≤ length (head ++ more)
   whole-more = omega (arith, length-append head more)
 
-pub header_refused-more : (head more : List ℕ) (e : WalFormatError) → 32 ≤ length head → HeaderRefused head e → LogRefused (head ++ more) e
-header_refused-more head more NotAWal long is = (whole-more head more long, λ m. is (magic-less head more long m))
-header_refused-more head more PageSize long is = (whole-more head more long, (magic-more head more long is.0, λ s. is.1 (subst (λ (n : ℕ). IsPageSize n) (sym (named-same head more long)) s)))
-header_refused-more head more HeaderSum long is = (whole-more head more long, (magic-more head more long is.0, size-is-more head more long is.1, λ s. is.2 (header_sums-less head more long s)))
-header_refused-more head more UnknownVersion long is = (whole-more head more long, (magic-more head more long is.0, size-is-more head more long is.1, header_sums-more head more long is.2, λ v. is.3 (sym (word-more head more long 4 (omega arith)) ∙ v)))
-header_refused-more head more TooLong long is = absurd is
-header_refused-more head more NoMemory long is = tt
+pub header_refused-more : (most : ℕ) (head more : List ℕ) (e : WalFormatError) → 32 ≤ length head → HeaderRefused head e → LogRefusedWithin most (head ++ more) e
+header_refused-more most head more NotAWal long is = (whole-more head more long, λ m. is (magic-less head more long m))
+header_refused-more most head more PageSize long is = (whole-more head more long, (magic-more head more long is.0, λ s. is.1 (subst (λ (n : ℕ). IsPageSize n) (sym (named-same head more long)) s)))
+header_refused-more most head more HeaderSum long is = (whole-more head more long, (magic-more head more long is.0, size-is-more head more long is.1, λ s. is.2 (header_sums-less head more long s)))
+header_refused-more most head more UnknownVersion long is = (whole-more head more long, (magic-more head more long is.0, size-is-more head more long is.1, header_sums-more head more long is.2, λ v. is.3 (sym (word-more head more long 4 (omega arith)) ∙ v)))
+header_refused-more most head more TooLong long is = absurd is
+header_refused-more most head more NoMemory long is = tt
 
-pub log_refused-more : (w more : List ℕ) (e : WalFormatError) → LogRefused w e → LogRefused (w ++ more) e
-log_refused-more w more TooLong is =
+pub log_refused-more : (most : ℕ) (w more : List ℕ) (e : WalFormatError) → LogRefusedWithin most w e → LogRefusedWithin most (w ++ more) e
+log_refused-more most w more TooLong is =
     let long : 32 ≤ length w = (is.each 1 (omega arith) (omega arith)).header.whole in
-    subst (λ (n : ℕ). IsValidFrame n (w ++ more) (suc most_frames)) (named-more w more long) (too_long-more w more (named_size w) (suc most_frames) is)
-log_refused-more w more NoMemory is = tt
-log_refused-more w more NotAWal is = header_refused-more w more NotAWal is.0 is.1
-log_refused-more w more PageSize is = header_refused-more w more PageSize is.0 is.1
-log_refused-more w more HeaderSum is = header_refused-more w more HeaderSum is.0 is.1
-log_refused-more w more UnknownVersion is = header_refused-more w more UnknownVersion is.0 is.1
+    subst (λ (n : ℕ). IsValidFrame n (w ++ more) (suc most)) (named-more w more long) (too_long-more w more (named_size w) (suc most) is)
+log_refused-more most w more NoMemory is = tt
+log_refused-more most w more NotAWal is = header_refused-more most w more NotAWal is.0 is.1
+log_refused-more most w more PageSize is = header_refused-more most w more PageSize is.0 is.1
+log_refused-more most w more HeaderSum is = header_refused-more most w more HeaderSum is.0 is.1
+log_refused-more most w more UnknownVersion is = header_refused-more most w more UnknownVersion is.0 is.1

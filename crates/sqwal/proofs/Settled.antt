@@ -2,7 +2,7 @@
 use Rattle.std.proofs.Common.{◌≡◌, ℕ, zero, suc, ◌+◌, ◌≤◌, List, [], ◌∷◌, ◌++◌, length, Option, Some, None, ap, arith, length-append, length-drop, lit<}
 use Rattle.sqval.specs.Bytes.{AreBytes}
 use Rattle.sqwal.specs.Frames.{frame_end}
-use Rattle.sqwal.specs.Took.{IsBegun, TookParts, Took, IsSettled}
+use Rattle.sqwal.specs.Took.{IsBegun, TookParts, TookWithin, IsSettledWithin}
 use Rattle.sqwal.specs.declared.header.WalHeader.{WalHeader}
 use Rattle.sqwal.specs.declared.scan.Entry.{Entry}
 use Rattle.sqwal.specs.declared.scan.Progress.{Progress}
@@ -35,14 +35,13 @@ module _ (b held : List ℕ) (es : List Entry) (p : Progress) where
     length-append b (0 ∷ []),
   )
 
-pub settled_over : (b : List ℕ) (s : Scan) (why : Why) → Took b s → s.frames.progress.refused ≡ Some why → IsSettled b s
-unfolding Took
-settled_over b s why t e more are = (
-  are_bytes b more t.0 are,
-  settled_parts b s.held.items s.frames.entries.items s.frames.progress s.header why e t.1 more,
-)
+pub settled_over : (most : ℕ) (b : List ℕ) (s : Scan) (why : Why) → TookWithin most b s → s.frames.progress.refused ≡ Some why → IsSettledWithin most b s
+settled_over most b s why t e more are = record {
+  bytes = are_bytes b more t.bytes are;
+  limit = t.limit;
+  parts = settled_parts b s.held.items s.frames.entries.items s.frames.progress s.header why e t.parts more;
+}
 
-pub unsettled_open : (b : List ℕ) (s : Scan) → Took b s → s.frames.progress.refused ≡ None → IsSettled b s → ⊥
-unfolding Took
-unsettled_open b s t e settled =
-    begun_grows b s.held.items s.frames.entries.items s.frames.progress s.header e t.1 (settled (0 ∷ []) zero_byte).1
+pub unsettled_open : (most : ℕ) (b : List ℕ) (s : Scan) → TookWithin most b s → s.frames.progress.refused ≡ None → IsSettledWithin most b s → ⊥
+unsettled_open most b s t e settled =
+    begun_grows b s.held.items s.frames.entries.items s.frames.progress s.header e t.parts (settled (0 ∷ []) zero_byte).parts

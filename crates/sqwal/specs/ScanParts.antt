@@ -3,9 +3,8 @@ use Rattle.std.specs.Prelude.{◌≡◌, ◌≢◌, ◌⊎◌, ℕ, suc, ◌+◌
 use Rattle.sqval.specs.Bytes.{part, word}
 use Rattle.sqwal.specs.Sums.{IsSumOf}
 use Rattle.sqwal.specs.Frames.{frame_end, IsValidFrame}
-use Rattle.sqwal.specs.Refusal.{most_frames}
 use Rattle.sqwal.specs.Took.{TookFrames, TookParts}
-use Rattle.sqwal.specs.Answers.{LogRefused}
+use Rattle.sqwal.specs.Answers.{LogRefusedWithin}
 use Rattle.sqwal.specs.declared.header.WalHeader.{WalHeader}
 use Rattle.sqwal.specs.declared.sum.Sum.{Sum}
 use Rattle.sqwal.specs.declared.scan.Entry.{Entry}
@@ -24,12 +23,17 @@ ListTook h b held f = TookFrames h b held f.entries.items f.progress
 abbrev pub ScanTook : WalHeader → List ℕ → Scan → Type 0
 ScanTook h b s = ListTook h b s.held.items s.frames
 
-abbrev pub HasTaken : List ℕ → Scan → Type 0
-HasTaken b s = TookParts b s.held.items s.frames.entries.items s.frames.progress s.header
+pub record HasTaken (most : ℕ) (b : List ℕ) (s : Scan) : Type 0 where
+  pub limit : s.frames.progress.limits.frames ≡ most
+  pub parts : TookParts b s.held.items s.frames.entries.items s.frames.progress s.header
 
 -- frames were added, or none
 abbrev pub KeepsFrames : (old new : FrameList) → Type 0
 KeepsFrames old new = take (length old.entries.items) new.entries.items ≡ old.entries.items
+
+-- the limits stay
+abbrev pub KeepsLimits : (old new : FrameList) → Type 0
+KeepsLimits old new = new.progress.limits ≡ old.progress.limits
 
 -- bytes were added, or none
 abbrev pub KeepsHeld : (old new : Scan) → Type 0
@@ -65,27 +69,27 @@ progress_behind h e sum p = record p {
 }
 
 -- why the frames of w can't be taken
-abbrev pub FramesRefused : (size : ℕ) → List ℕ → WalFormatError → Type 0
-FramesRefused size w TooLong = IsValidFrame size w (suc most_frames)
-FramesRefused size w NoMemory = Unit {0}
-FramesRefused size w _ = ⊥
+abbrev pub FramesRefused : (most size : ℕ) → List ℕ → WalFormatError → Type 0
+FramesRefused most size w TooLong = IsValidFrame size w (suc most)
+FramesRefused most size w NoMemory = Unit {0}
+FramesRefused most size w _ = ⊥
 
 -- a valid frame more, or none after an error
 abbrev pub IsPushed : {T : Type 0} → WalHeader → Entry → Sum → FrameList → Result T WalFormatError → FrameList → Type 0
-IsPushed h e sum s (Ok _) t = (s.progress.next ≤ most_frames) × (t.entries.items ≡ s.entries.items ++ e ∷ []) × (t.progress ≡ progress_behind h e sum s.progress)
-IsPushed h e sum s (Err TooLong) t = (most_frames < s.progress.next) × (t.entries.items ≡ s.entries.items)
-IsPushed h e sum s (Err NoMemory) t = t.entries.items ≡ s.entries.items
+IsPushed h e sum s (Ok _) t = (s.progress.next ≤ s.progress.limits.frames) × (t.entries.items ≡ s.entries.items ++ e ∷ []) × (t.progress ≡ progress_behind h e sum s.progress)
+IsPushed h e sum s (Err TooLong) t = (s.progress.limits.frames < s.progress.next) × (t.entries.items ≡ s.entries.items) × (t.progress ≡ s.progress)
+IsPushed h e sum s (Err NoMemory) t = (t.entries.items ≡ s.entries.items) × (t.progress ≡ s.progress)
 IsPushed h e sum s (Err _) t = ⊥
 
 -- a new scan of w, which begins with a whole header
-abbrev pub IsBegunScan : List ℕ → Result Scan WalFormatError → Type 0
-IsBegunScan w (Ok s) = HasTaken w s
-IsBegunScan w (Err e) = LogRefused w e
+abbrev pub IsBegunScan : (most : ℕ) → List ℕ → Result Scan WalFormatError → Type 0
+IsBegunScan most w (Ok s) = HasTaken most w s
+IsBegunScan most w (Err e) = LogRefusedWithin most w e
 
 -- a scan of b was given a piece: after an error it is one of b still
-abbrev pub IsFed : {T : Type 0} → (b piece : List ℕ) → Result T WalFormatError → Scan → Type 0
-IsFed b piece (Ok _) s = HasTaken (b ++ piece) s
-IsFed b piece (Err e) s = HasTaken b s × LogRefused (b ++ piece) e
+abbrev pub IsFed : {T : Type 0} → (most : ℕ) (b piece : List ℕ) → Result T WalFormatError → Scan → Type 0
+IsFed most b piece (Ok _) s = HasTaken most (b ++ piece) s
+IsFed most b piece (Err e) s = HasTaken most b s × LogRefusedWithin most (b ++ piece) e
 
 -- the bytes complete the frame that is held back, if one is
 abbrev pub IsCompleted : WalHeader → (held first : List ℕ) → Type 0

@@ -43,7 +43,7 @@ IsBehind h b held n sum (Some why) = IsRefused h.page_size b n why
 pub record TookFrames (h : WalHeader) (b held : List ℕ) (entries : List Entry) (p : Progress) : Type 0 where
   pub header : IsHeaderOf b h
   pub next : p.next ≡ suc (length entries)
-  pub most : length entries ≤ most_frames
+  pub most : length entries ≤ p.limits.frames
   pub valid : AllPass h.page_size b (length entries)
   pub pages : (i : ℕ) (d : Entry) → i < length entries → (get_or entries i d).page ≡ page_of h.page_size b (suc i)
   pub sizes : (i : ℕ) (d : Entry) → i < length entries → (get_or entries i d).size ≡ size_of h.page_size b (suc i)
@@ -64,10 +64,19 @@ abbrev pub TookParts : (b held : List ℕ) (entries : List Entry) (p : Progress)
 TookParts b held entries p None = TookNone b held entries p
 TookParts b held entries p (Some h) = TookFrames h b held entries p
 
--- the scan is one of these bytes
-unfoldable pub Took : List ℕ → Scan → Type 0
-Took b s = AreBytes b × TookParts b s.held.items s.frames.entries.items s.frames.progress s.header
+-- a scan that takes at most so many frames is one of these bytes
+pub record TookWithin (most : ℕ) (b : List ℕ) (s : Scan) : Type 0 where
+  pub bytes : AreBytes b
+  pub limit : s.frames.progress.limits.frames ≡ most
+  pub parts : TookParts b s.held.items s.frames.entries.items s.frames.progress s.header
+
+-- the same at the usual limit
+abbrev pub Took : List ℕ → Scan → Type 0
+Took b s = TookWithin most_frames b s
 
 -- whatever bytes follow, the scan is one of them all
+abbrev pub IsSettledWithin : (most : ℕ) → List ℕ → Scan → Type 0
+IsSettledWithin most b s = (more : List ℕ) → AreBytes more → TookWithin most (b ++ more) s
+
 abbrev pub IsSettled : List ℕ → Scan → Type 0
-IsSettled b s = (more : List ℕ) → AreBytes more → Took (b ++ more) s
+IsSettled b s = IsSettledWithin most_frames b s

@@ -2,7 +2,7 @@
 ghost use Rattle.std.specs.Prelude.{◌≡◌, ℕ, List, IfOk, IfErr};
 ghost use Rattle.sqwal.specs.Commits.{AreCommits};
 ghost use Rattle.sqwal.specs.Header.{named_size};
-ghost use Rattle.sqwal.specs.Took.{Took};
+ghost use Rattle.sqwal.specs.Took.{TookWithin};
 
 use crate::error::WalFormatError;
 use crate::scan::Scan;
@@ -12,7 +12,8 @@ impl Scan {
     /// The frames that end a commit, from 1 and rising; the last one is the front. They take 4 bytes each. Refused by
     /// NoMemory alone.
     pub fn commits(&self, alloc: Global) -> Result<Vec<u32>, WalFormatError>
-        ensures commits { IfOk result (λ list. (b : List ℕ) → Took b self.now → AreCommits (named_size b) b list.items) }
+        ensures commits { IfOk result (λ list. (most : ℕ) (b : List ℕ) → TookWithin most b self.now
+            → AreCommits (named_size b) b list.items) }
         ensures memory { IfErr result (λ e. e ≡ WalFormatError.NoMemory) }
     {
         let mut commits = Vec::new(alloc);

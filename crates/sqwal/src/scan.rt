@@ -10,11 +10,10 @@ use crate::error::WalFormatError;
 use crate::header::WalHeader;
 use crate::sum::Sum;
 use crate::words::word;
+use sqval::Limits;
 use std::alloc::Global;
 
 const HEADER_LENGTH: usize = 32;
-
-const MOST_FRAMES: u32 = 2_097_152;
 
 /// A valid frame: the page that it names, and the database's size in pages where it ends a commit, otherwise 0.
 #[derive(Clone, Copy, Debug, PartialEq, Eq)]
@@ -157,9 +156,10 @@ fn missing_of(header: &WalHeader, begun: &[u8]) -> usize
     frame_length(header).saturating_sub(begun.len())
 }
 
-/// How far a scan has come.
+/// How far a scan has come, and how far it may go.
 #[derive(Clone, Copy)]
 struct Progress {
+    limits: Limits,
     /// The first frame that isn't known to be valid, from 1; 0 while the header isn't whole.
     next: u32,
     /// The sum of all before that frame.
@@ -170,11 +170,12 @@ struct Progress {
 }
 
 impl Progress {
+    ghost use Rattle.sqval.specs.Limits.{greatest};
     ghost use Rattle.sqwal.specs.ScanParts.{progress_behind};
 
     /// One valid frame further.
     fn behind(self, header: &WalHeader, entry: Entry, sum: Sum) -> Progress
-        requires { self.next ≤ MOST_FRAMES }
+        requires { self.next ≤ greatest.frames }
         ensures { result ≡ progress_behind header.now entry sum self }
     {
         let front = if entry.size == 0 {
@@ -187,6 +188,7 @@ impl Progress {
             }
         };
         Progress {
+            limits: self.limits,
             next: self.next + 1,
             sum,
             front,
@@ -203,15 +205,17 @@ struct FrameList {
 }
 
 impl FrameList {
-    ghost use Rattle.sqwal.specs.ScanParts.{ListTook, KeepsFrames, IsPushed, FramesRefused};
+    ghost use Rattle.sqwal.specs.ScanParts.{ListTook, KeepsFrames, KeepsLimits, IsPushed, FramesRefused};
 
     /// No frames yet, behind a whole header.
-    fn new(alloc: Global, header: &WalHeader, head: &[u8; 32]) -> FrameList
-        ensures { IsHeaderOf head.now header.now → ListTook header.now head.now [] result }
+    fn new(alloc: Global, limits: Limits, header: &WalHeader, head: &[u8; 32]) -> FrameList
+        ensures took { IsHeaderOf head.now header.now → ListTook header.now head.now [] result }
+        ensures limits { result.progress.limits ≡ limits }
     {
         FrameList {
             entries: Vec::new(alloc),
             progress: Progress {
+                limits,
                 next: 1,
                 sum: Sum::zero().add(&head[..24], header.order),
                 front: Front {
@@ -228,7 +232,7 @@ impl FrameList {
     fn push(&mut self, header: &WalHeader, entry: Entry, sum: Sum) -> Result<(), WalFormatError>
         ensures { IsPushed header.now entry sum self.old result self.new }
     {
-        if self.progress.next > MOST_FRAMES {
+        if self.progress.next > self.progress.limits.frames() {
             return Err(WalFormatError::TooLong);
         }
         self.entries
@@ -244,8 +248,9 @@ impl FrameList {
         requires page_size { IsPageSize header.now.page_size }
         ensures took { (b held first : List ℕ) → ListTook header.now b held self.old → frame.now ≡ held ++ first →
             MatchResult result (λ _. ListTook header.now (b ++ first) [] self.new)
-            (FramesRefused header.now.page_size (b ++ first)) }
+            (FramesRefused self.old.progress.limits.frames header.now.page_size (b ++ first)) }
         ensures keeps { KeepsFrames self.old self.new }
+        ensures limits { KeepsLimits self.old self.new }
     {
         if self.progress.refused.is_some() {
             return Ok(());
@@ -267,8 +272,9 @@ impl FrameList {
     ) -> Result<&'a [u8], WalFormatError>
         ensures took { (b : List ℕ) → ListTook header.now b [] self.old → MatchResult result
             (λ rest. ListTook header.now (b ++ bytes.now) rest.now self.new)
-            (FramesRefused header.now.page_size (b ++ bytes.now)) }
+            (FramesRefused self.old.progress.limits.frames header.now.page_size (b ++ bytes.now)) }
         ensures keeps { KeepsFrames self.old self.new }
+        ensures limits { KeepsLimits self.old self.new }
     {
         let length = frame_length(header);
         let mut rest = bytes;
@@ -292,15 +298,24 @@ pub struct Scan {
 }
 
 impl Scan {
-    ghost use Rattle.sqwal.specs.Took.{Took, IsSettled};
+    ghost use Rattle.sqwal.specs.Took.{Took, TookWithin, IsSettledWithin};
     ghost use Rattle.sqwal.specs.Stops.{IsStop};
-    ghost use Rattle.sqwal.specs.Answers.{FeedAnswer, HeaderFound, EntryFound, AreEntries, IsCommitted};
-    ghost use Rattle.sqwal.specs.ScanParts.{ListTook, ScanTook, HasTaken, KeepsHeld, KeepsFrames, IsFed, IsBegunScan};
+    ghost use Rattle.sqwal.specs.Answers.{FeedAnswerWithin, HeaderFound, EntryFound, AreEntriesWithin};
+    ghost use Rattle.sqwal.specs.Answers.{IsCommittedWithin};
+    ghost use Rattle.sqwal.specs.ScanParts.{ListTook, ScanTook, HasTaken, KeepsHeld, KeepsFrames, KeepsLimits, IsFed};
+    ghost use Rattle.sqwal.specs.ScanParts.{IsBegunScan};
     ghost use Rattle.sqwal.specs.ScanParts.{IsCompleted, FramesRefused};
 
-    /// A scan of no bytes.
+    /// A scan of no bytes, at the usual limit.
     pub fn new(alloc: Global) -> Scan
         ensures { Took [] result }
+    {
+        Scan::within(alloc, Limits::USUAL)
+    }
+
+    /// A scan of no bytes that takes no more valid frames than these limits allow.
+    pub fn within(alloc: Global, limits: Limits) -> Scan
+        ensures { TookWithin limits.frames [] result }
     {
         Scan {
             held: Vec::new(alloc),
@@ -308,6 +323,7 @@ impl Scan {
             frames: FrameList {
                 entries: Vec::new(alloc),
                 progress: Progress {
+                    limits,
                     next: 0,
                     sum: Sum::zero(),
                     front: Front {
@@ -322,11 +338,12 @@ impl Scan {
     }
 
     /// Takes the next piece of the log. Refused by NotAWal, PageSize, HeaderSum or UnknownVersion, the first that
-    /// holds, once the header's 32 bytes are there; by TooLong once frame 2,097,153 is there and valid; or by NoMemory.
+    /// holds, once the header's 32 bytes are there; by TooLong once the frame behind the last one of the limits is there
+    /// and valid; or by NoMemory.
     /// After a refusal the scan stands as before the piece. Bytes behind a frame that isn't valid are taken and not
     /// looked at.
     pub fn feed(&mut self, piece: &[u8]) -> Result<(), WalFormatError>
-        ensures { (b : List ℕ) → Took b self.old → FeedAnswer b piece.now result self.new }
+        ensures { (most : ℕ) (b : List ℕ) → TookWithin most b self.old → FeedAnswerWithin most b piece.now result self.new }
     {
         match self.header {
             Some(header) => self.feed_frames(&header, piece),
@@ -336,14 +353,14 @@ impl Scan {
 
     /// The header, once it is whole.
     pub fn header(&self) -> Option<WalHeader>
-        ensures { (b : List ℕ) → Took b self.now → HeaderFound b result }
+        ensures { (most : ℕ) (b : List ℕ) → TookWithin most b self.now → HeaderFound b result }
     {
         self.header
     }
 
     /// Valid frame i, from 1. None where it isn't valid.
     pub fn entry(&self, i: usize) -> Option<Entry>
-        ensures { (b : List ℕ) → Took b self.now → EntryFound b i result }
+        ensures { (most : ℕ) (b : List ℕ) → TookWithin most b self.now → EntryFound b i result }
     {
         let index = i.checked_sub(1)?;
         self.frames.entries.get(index).copied()
@@ -351,21 +368,21 @@ impl Scan {
 
     /// All valid frames, the first one first.
     pub fn entries(&self) -> &[Entry]
-        ensures { (b : List ℕ) → Took b self.now → AreEntries b result.now }
+        ensures { (most : ℕ) (b : List ℕ) → TookWithin most b self.now → AreEntriesWithin most b result.now }
     {
         &self.frames.entries
     }
 
     /// The front. With no committed frame its size is 0, and its end 32, or 0 while the header isn't whole.
     pub fn committed(&self) -> Front
-        ensures { (b : List ℕ) → Took b self.now → IsCommitted b result }
+        ensures { (most : ℕ) (b : List ℕ) → TookWithin most b self.now → IsCommittedWithin most b result }
     {
         self.frames.progress.front
     }
 
     /// Where the log stops and why, if it ends here.
     pub fn stop(&self) -> Stop
-        ensures { (b : List ℕ) → Took b self.now → IsStop b result.frame result.why }
+        ensures { (most : ℕ) (b : List ℕ) → TookWithin most b self.now → IsStop b result.frame result.why }
     {
         let short = if self.held.is_empty() {
             Why::End
@@ -381,17 +398,23 @@ impl Scan {
     /// Whether the log stops at a whole frame. The scan is then one of all bytes that may follow, too, and they needn't
     /// be fed.
     pub fn is_over(&self) -> bool
-        ensures { (b : List ℕ) → Took b self.now → (IsTrue result ↔ IsSettled b self.now) }
+        ensures { (most : ℕ) (b : List ℕ) → TookWithin most b self.now
+            → (IsTrue result ↔ IsSettledWithin most b self.now) }
     {
         self.frames.progress.refused.is_some()
     }
 
     /// The scan of a header and what follows it.
-    fn begun(alloc: Global, head: &[u8; 32], bytes: &[u8]) -> Result<Scan, WalFormatError>
-        ensures { IsBegunScan (head.now ++ bytes.now) result }
+    fn begun(
+        alloc: Global,
+        limits: Limits,
+        head: &[u8; 32],
+        bytes: &[u8],
+    ) -> Result<Scan, WalFormatError>
+        ensures { IsBegunScan limits.frames (head.now ++ bytes.now) result }
     {
         let header = WalHeader::read(head)?;
-        let mut frames = FrameList::new(alloc, &header, head);
+        let mut frames = FrameList::new(alloc, limits, &header, head);
         let rest = frames.take_whole(&header, bytes)?;
         let held = kept(alloc, rest)?;
         Ok(Scan {
@@ -403,7 +426,8 @@ impl Scan {
 
     /// Takes a piece while the header isn't whole.
     fn feed_header(&mut self, piece: &[u8]) -> Result<(), WalFormatError>
-        ensures { (b : List ℕ) → self.old.header ≡ None → HasTaken b self.old → IsFed b piece.now result self.new }
+        ensures { (most : ℕ) (b : List ℕ) → self.old.header ≡ None → HasTaken most b self.old
+            → IsFed most b piece.now result self.new }
     {
         let missing = HEADER_LENGTH.saturating_sub(self.held.len());
         if piece.len() < missing {
@@ -415,7 +439,7 @@ impl Scan {
         let Some(head) = head.first_chunk::<HEADER_LENGTH>() else {
             return Ok(());
         };
-        *self = Scan::begun(alloc, head, rest)?;
+        *self = Scan::begun(alloc, self.frames.progress.limits, head, rest)?;
         Ok(())
     }
 
@@ -435,7 +459,7 @@ impl Scan {
     /// Takes a piece behind the header.
     fn feed_frames(&mut self, header: &WalHeader, piece: &[u8]) -> Result<(), WalFormatError>
         ensures { (b : List ℕ) → self.old.header ≡ Some header.now → ScanTook header.now b self.old
-            → IsFed b piece.now result self.new }
+            → IsFed self.old.frames.progress.limits.frames b piece.now result self.new }
     {
         if self.frames.progress.refused.is_some() {
             return Ok(());
@@ -457,7 +481,7 @@ impl Scan {
     ) -> Result<(), WalFormatError>
         ensures { (b : List ℕ) → self.old.header ≡ Some header.now → ScanTook header.now b self.old
             → self.old.frames.progress.refused ≡ None → IsCompleted header.now self.old.held.items first.now
-            → IsFed b (first.now ++ rest.now) result self.new }
+            → IsFed self.old.frames.progress.limits.frames b (first.now ++ rest.now) result self.new }
     {
         let held = self.held.len();
         let count = self.frames.entries.len();
@@ -487,10 +511,12 @@ impl Scan {
         ensures took { (b : List ℕ) → ScanTook header.now b self.old
             → self.old.frames.progress.refused ≡ None → IsCompleted header.now self.old.held.items first.now
             → MatchResult result (λ left. ListTook header.now (b ++ (first.now ++ rest.now)) left.items self.new.frames)
-            (FramesRefused header.now.page_size (b ++ (first.now ++ rest.now))) }
+            (FramesRefused self.old.frames.progress.limits.frames header.now.page_size
+            (b ++ (first.now ++ rest.now))) }
         ensures header { self.new.header ≡ self.old.header }
         ensures held { KeepsHeld self.old self.new }
         ensures entries { KeepsFrames self.old.frames self.new.frames }
+        ensures limits { KeepsLimits self.old.frames self.new.frames }
     {
         let alloc = *self.held.allocator();
         self.finish(header, first)?;
@@ -503,10 +529,11 @@ impl Scan {
         ensures took { (b : List ℕ) → ScanTook header.now b self.old → self.old.frames.progress.refused ≡ None
             → IsCompleted header.now self.old.held.items first.now → MatchResult result
             (λ _. ListTook header.now (b ++ first.now) [] self.new.frames)
-            (FramesRefused header.now.page_size (b ++ first.now)) }
+            (FramesRefused self.old.frames.progress.limits.frames header.now.page_size (b ++ first.now)) }
         ensures header { self.new.header ≡ self.old.header }
         ensures held { KeepsHeld self.old self.new }
         ensures entries { KeepsFrames self.old.frames self.new.frames }
+        ensures limits { KeepsLimits self.old.frames self.new.frames }
     {
         self.hold(first)?;
         if self.held.len() == frame_length(header) {

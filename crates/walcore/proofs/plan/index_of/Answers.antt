@@ -1,6 +1,7 @@
-use Rattle.std.proofs.Common.{◌≡◌, ◌+◌, [], ap, ◌∙◌, length, arith, length-append}
+use Rattle.std.proofs.Common.{◌≡◌, ◌+◌, ℕ, [], ap, subst, ◌∙◌, length, arith, length-append}
 use Rattle.sqwal.specs.Header.{named_size}
 use Rattle.sqwal.specs.Index.{FrameTable}
+use Rattle.walcore.specs.Plans.{IsTable}
 use Rattle.walcore.proofs.Judging.{table_none, table_more, valid_below}
 use Rattle.walcore.proofs.plan.index_of.Goals as goal
 
@@ -19,3 +20,8 @@ loop-k-preserved c =
       table = λ w took valid. table_more (named_size w) c.args.front.size w c.loop-k.k c.wanted.result c.loop-k.index c.push.new.self c.loop-k.invariant.long (c.loop-k.invariant.table w took valid)
           (c.wanted.ensures.page w took (valid_below (named_size w) w c.args.front.frames (c.loop-k.k + 1) valid (omega arith) (omega arith))) c.push.ensures;
     }
+
+pub returns-clause-table : goal.returns-clause-table
+returns-clause-table c = λ w took valid.
+    let all : c.loop-k.k ≡ c.args.front.frames = omega (arith, c.loop-k-test.false, c.loop-k.auto.k-end) in
+    subst (λ (n : ℕ). IsTable (named_size w) c.args.front.size w n c.loop-k.index) all (c.loop-k.invariant.table w took valid)

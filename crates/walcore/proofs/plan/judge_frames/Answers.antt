@@ -7,13 +7,13 @@ pub returns-then-from-gt-MOST_BYTES : goal.returns-then-from-gt-MOST_BYTES
 returns-then-from-gt-MOST_BYTES c = λ w took header.
     let same : c.from.result * c.from-2.result ≡ c.committed-front.result.size * c.args.named = cc in
     let more : 1073741824 < c.committed-front.result.size * c.args.named = omega (arith, c.if-from-gt-MOST_BYTES.true) in
-    judged_large c.args.page_size c.args.named w header c.committed-front.result (c.committed-front.ensures w took) more
+    judged_large c.args.page_size c.args.named w header c.committed-front.result (c.committed-front.ensures _ w took) more
 
 pub returns-then-get : goal.returns-then-get
 returns-then-get c = λ w took header.
     let same : c.from.result * c.from-2.result ≡ c.committed-front.result.size * c.args.named = cc in
     let less : c.committed-front.result.size * c.args.named ≤ 1073741824 = omega (arith, c.if-from-gt-MOST_BYTES.false) in
-    judged_other c.args.page_size c.args.named w header c.committed-front.result (c.committed-front.ensures w took)
+    judged_other c.args.page_size c.args.named w header c.committed-front.result (c.committed-front.ensures _ w took)
     (few_frames w c.args.scan.now took) less
     (λ e. c.if-get.true (c.get-2.ensures.value ∙ e ∙ sym c.get-3.ensures.value))
 
@@ -21,6 +21,6 @@ pub returns : goal.returns
 returns c = λ w took header.
     let same : c.from.result * c.from-2.result ≡ c.committed-front.result.size * c.args.named = cc in
     let less : c.committed-front.result.size * c.args.named ≤ 1073741824 = omega (arith, c.if-from-gt-MOST_BYTES.false) in
-    judged c.args.page_size c.args.named w header c.committed-front.result (c.committed-front.ensures w took)
+    judged c.args.page_size c.args.named w header c.committed-front.result (c.committed-front.ensures _ w took)
     (few_frames w c.args.scan.now took) less
     (sym c.get-2.ensures.value ∙ c.if-get.false ∙ c.get-3.ensures.value)

@@ -71,7 +71,7 @@ returns-then-is_over g c = record {
             let n : length (take c.min-n.result c.loop-at.buffer) ≡ c.min-n.result = length-take-le c.min-n.result c.loop-at.buffer (omega (arith, c.loop-at.auto.buffer)) in
             let answer = now.found w (present_in _ _ w before.log are) (omega arith) (i.took word w are long took) in
             let fed = piece_some w c.feed_piece.new.scan _ _ _ c.feed_piece.result _ c.in_ok-feed_piece.was c.if-not-branch.false answer in
-            piece_settled w c.feed_piece.new.scan _ _ _ c.args.long _ (g.met.D.Disk.sound c.args.disk.now word) are long ((c.is_over.ensures _ fed).0 c.if-is_over.true);
+            piece_settled w c.feed_piece.new.scan _ _ _ c.args.long _ (g.met.D.Disk.sound c.args.disk.now word) are long ((c.is_over.ensures _ _ fed).0 c.if-is_over.true);
       };
 }
 

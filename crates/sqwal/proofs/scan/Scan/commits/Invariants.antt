@@ -1,8 +1,8 @@
 use Rattle.std.proofs.Common.{ℕ, List}
 use Rattle.sqwal.specs.Commits.{AreCommitsTo}
 use Rattle.sqwal.specs.Header.{named_size}
-use Rattle.sqwal.specs.Took.{Took}
+use Rattle.sqwal.specs.Took.{TookWithin}
 use Rattle.sqwal.proofs.scan.Scan.commits.Given as goal
 
 abbrev pub invariant-loop-before : goal.invariant-loop-before
-invariant-loop-before l = (b : List ℕ) → Took b l.self → AreCommitsTo (named_size b) b l.before l.commits.items
+invariant-loop-before l = (most : ℕ) (b : List ℕ) → TookWithin most b l.self → AreCommitsTo (named_size b) b l.before l.commits.items

@@ -1,7 +1,5 @@
-use Rattle.sqwal.specs.Took.{Took}
 use Rattle.sqwal.proofs.ScanAnswers.{header_found}
 use Rattle.sqwal.proofs.scan.Scan.header.Goals as goal
 
 pub returns : goal.returns
-unfolding Took
-returns c b t = header_found b c.args.self.now.held.items c.args.self.now.frames.entries.items c.args.self.now.frames.progress c.args.self.now.header t.1
+returns c most b t = header_found b c.args.self.now.held.items c.args.self.now.frames.entries.items c.args.self.now.frames.progress c.args.self.now.header t.parts
