@@ -33,7 +33,7 @@ under_it d s t h = go s.place s.page s.role h.1
     go q p trunk (inl h) = moved q p trunk _ h.3 (record { at_home = refl; no_root = tt; same_tree = λ n. tt })
     go q p trunk (inr h) = moved q p trunk _ h.1 (record { at_home = refl; no_root = tt; same_tree = λ n. tt })
     go q p free_leaf h = absurd h
-    go q p (link n) h = moved q p (link n) _ h.1 (record { at_home = refl; no_root = tt; same_tree = λ n. tt })
+    go q p (link o n) h = moved q p (link o n) _ h.1 (record { at_home = refl; no_root = tt; same_tree = λ n. tt })
     go q p (node x) (kind, has, inl h) = moved q p (node x) _ h.4 (record { at_home = refl; no_root = tt; same_tree = λ n. tt })
     go q p (node x) (kind, has, inr (i, inl h)) = moved q p (node x) _ h.5 (record { at_home = refl; no_root = tt; same_tree = λ n. n })
     go q p (node x) (kind, has, inr (i, inr h)) = moved q p (node x) _ h.2 (record { at_home = refl; no_root = tt; same_tree = λ n. n })
@@ -43,13 +43,13 @@ fits_under : (d : Database) (s t : Spot) → IsSound d s → StandsIn d s t → 
 fits_under d s t sound h = go s.page s.role sound.sound_as h.1
   where
     go : (p : ℕ) (r : Role) → IsSoundAs d p r → Rattle.sqcheck.specs.Places.InPageAs d p r t → LinkFits d t
-    go p trunk is (inl h) = subst (LinkFits d) (sym h.3) (λ n e. absurd (cc))
-    go p trunk is (inr h) = subst (LinkFits d) (sym h.1) (λ n e. absurd (cc))
+    go p trunk is (inl h) = subst (LinkFits d) (sym h.3) (λ o n e. absurd (cc))
+    go p trunk is (inr h) = subst (LinkFits d) (sym h.1) (λ o n e. absurd (cc))
     go p free_leaf is h = absurd h
-    go p (link n) is h = subst (LinkFits d) (sym h.1) (λ m e. inr (let same : n - 1 ≡ m = cc in let le : n ≤ length d = is.0 in omega arith))
-    go p (node x) is (kind, has, inl h) = subst (LinkFits d) (sym h.4) (λ n e. inl (h.0, refl))
-    go p (node x) is (kind, has, inr (i, inl h)) = subst (LinkFits d) (sym h.5) (λ n e. absurd (cc))
-    go p (node x) is (kind, has, inr (i, inr h)) = subst (LinkFits d) (sym h.2) (λ n e. absurd (cc))
+    go p (link o n) is h = subst (LinkFits d) (sym h.1) (λ w m e. inr (let same : n - 1 ≡ m = cc in let le : n ≤ length d = is.0 in omega arith))
+    go p (node x) is (kind, has, inl h) = subst (LinkFits d) (sym h.4) (λ o n e. inl (h.0, refl))
+    go p (node x) is (kind, has, inr (i, inl h)) = subst (LinkFits d) (sym h.5) (λ o n e. absurd (cc))
+    go p (node x) is (kind, has, inr (i, inr h)) = subst (LinkFits d) (sym h.2) (λ o n e. absurd (cc))
 
 -- A page more is marked.
 now_marked : (old new : List Bool) (p : ℕ) → Marks old new p → is_marked new p ≡ true
@@ -153,13 +153,13 @@ module _ (d : Database) (late : Bool) (marks : List Bool) (visited : List Spot) 
       plain_rows : (p : ℕ) (r : Role) → NotSchema r → HasSoundRows d p r
       plain_rows p trunk n = tt
       plain_rows p free_leaf n = tt
-      plain_rows p (link k) n = tt
+      plain_rows p (link o k) n = tt
       plain_rows p (node x) n = λ schema. absurd (let both : true ≡ false = sym schema ∙ n in cc)
 
       no_rows : (p : ℕ) (r : Role) (t : Spot) → NotSchema r → Rattle.sqcheck.specs.Places.InRowAs d p r t → ⊥
       no_rows p trunk t n h = h
       no_rows p free_leaf t n h = h
-      no_rows p (link k) t n h = h
+      no_rows p (link o k) t n h = h
       no_rows p (node x) t n h = let both : true ≡ false = sym h.0 ∙ n in absurd (cc)
 
   -- The next place names a page that was taken: a visited place names it too.

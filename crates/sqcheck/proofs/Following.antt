@@ -18,13 +18,13 @@ use Rattle.sqcheck.proofs.Nodes.{IsNoNode}
 unpassed : (d : Database) (root p : ℕ) (task : Task) (further : Type 0) → IsNoNode task → LeadsOn d root p task further → further
 unpassed d root p tasks.Trunk further h f = f
 unpassed d root p tasks.Leaf further h f = f
-unpassed d root p (tasks.Link n) further h f = f
+unpassed d root p (tasks.Link o n) further h f = f
 unpassed d root p (tasks.Node level low high) further h f = absurd h
 
 no_rows : (d : Database) (tree : Tree) (p : ℕ) (task : Task) → IsNoNode task → ¬ IsSchemaLeaf d p (role_of tree task)
 no_rows d tree p tasks.Trunk h f = f
 no_rows d tree p tasks.Leaf h f = f
-no_rows d tree p (tasks.Link n) h f = f
+no_rows d tree p (tasks.Link o n) h f = f
 no_rows d tree p (tasks.Node level low high) h f = h
 
 -- one that is no page of a tree

@@ -14,3 +14,4 @@ pub mod Headings
 pub mod Schemas
 pub mod Phases
 pub mod Ends
+mod Surveys

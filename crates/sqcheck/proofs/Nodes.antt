@@ -108,10 +108,10 @@ needs cell least =
     )
 
 -- A chain more.
-pub chain_more : (tree : Tree) (b : Page) (left : ℕ) (cell : Cell) (old mid new : List Item) (it : Item) → IsCellAt b left cell → 0 < bytes_beyond cell → 0 < links cell → it ≡ record { holder = b.number; page = cell.overflow; task = Link (links cell) }
+pub chain_more : (tree : Tree) (b : Page) (left : ℕ) (cell : Cell) (old mid new : List Item) (it : Item) → IsCellAt b left cell → 0 < bytes_beyond cell → 0 < links cell → it ≡ record { holder = b.number; page = cell.overflow; task = Link b.number (links cell) }
     → new ≡ mid ++ it ∷ [] → Pushes tree (InCellFrom b (left + 1)) old mid → Pushes tree (InCellFrom b left) old new
 chain_more tree b left cell old mid new it is some needed e pushed p =
-    let s : Spot = spot (overflow b.number left) cell.overflow (link (links cell)) in
+    let s : Spot = spot (overflow b.number left) cell.overflow (link b.number (links cell)) in
     push_one tree (InCellFrom b (left + 1)) (InCellFrom b left) old mid p new it s pushed
     (rw e (record { page = refl; stands = refl; role = refl; proper = needed }))
     (left, cell, (let r : left ≤ left = omega arith in r), is, some, refl)
@@ -119,8 +119,8 @@ chain_more tree b left cell old mid new it is some needed e pushed p =
     (λ t h. elim (cases_eq h.0 left) [
       | inl same ↦
           let c = cell_once b left h.1 cell (subst (λ j. IsCell b j h.1) same h.3.1) is.1 in
-          inl (h.5 ∙ ap (λ i. spot (overflow b.number i) h.1.overflow (link (links h.1))) same ∙ ap (λ o. spot (overflow b.number left) o (link (links h.1))) c.overflow
-          ∙ ap (λ n. spot (overflow b.number left) cell.overflow (link n)) (links_same h.1 cell c.usable c.payload (ap length c.local)))
+          inl (h.5 ∙ ap (λ i. spot (overflow b.number i) h.1.overflow (link b.number (links h.1))) same ∙ ap (λ o. spot (overflow b.number left) o (link b.number (links h.1))) c.overflow
+          ∙ ap (λ n. spot (overflow b.number left) cell.overflow (link b.number n)) (links_same h.1 cell c.usable c.payload (ap length c.local)))
       | inr ne ↦ inr (h.0, h.1, (let le : left ≤ h.0 = h.2 in let r : left + 1 ≤ h.0 = omega arith in r), h.3, h.4, h.5)
     ])
     (λ t h e. let le : left + 1 ≤ h.0 = h.2 in let same : overflow b.number left ≡ overflow b.number h.0 = e ∙ ap (λ (z : Spot). z.place) h.5 in let i : left ≡ h.0 = cc in absurd (omega arith))
@@ -166,7 +166,7 @@ IsNoNode _ = Unit {0}
 passes : (d : Database) (root p : ℕ) (task : Task) (further : Type 0) → IsNoNode task → further → LeadsOn d root p task further
 passes d root p tasks.Trunk further h f = f
 passes d root p tasks.Leaf further h f = f
-passes d root p (tasks.Link n) further h f = f
+passes d root p (tasks.Link o n) further h f = f
 passes d root p (tasks.Node level low high) further h f = absurd h
 
 pub free_leads : (d : Database) (root : ℕ) (mid new : List Item) (it : Item) (task : Task) → IsNoNode task → it.task ≡ task → new ≡ mid ++ it ∷ [] → TopLeads d root (reverse mid) → TopLeads d root (reverse new)
@@ -174,8 +174,8 @@ free_leads d root mid new it task none same e leads =
     let top : reverse new ≡ it ∷ reverse mid = ap reverse e ∙ reverse-append mid (it ∷ []) in
     subst (TopLeads d root) (sym top) (passes d root it.page it.task (TopLeads d root (reverse mid)) (subst IsNoNode (sym same) none) leads)
 
-pub link_leads : (d : Database) (root : ℕ) (mid new : List Item) (it : Item) (needed : ℕ) → it.task ≡ Link needed → new ≡ mid ++ it ∷ [] → TopLeads d root (reverse mid) → TopLeads d root (reverse new)
-link_leads d root mid new it needed task e leads = free_leads d root mid new it (Link needed) tt task e leads
+pub link_leads : (d : Database) (root : ℕ) (mid new : List Item) (it : Item) (owner needed : ℕ) → it.task ≡ Link owner needed → new ≡ mid ++ it ∷ [] → TopLeads d root (reverse mid) → TopLeads d root (reverse new)
+link_leads d root mid new it owner needed task e leads = free_leads d root mid new it (Link owner needed) tt task e leads
 
 -- The children of a page, from one on.
 abbrev pub IsLeftAt : Page → Node → (i : ℕ) → Spot → Type 0

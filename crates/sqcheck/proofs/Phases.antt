@@ -36,7 +36,7 @@ record Chained (d : Database) (visited : List Spot) (h from n : ℕ) : Type 0 wh
   pub count : length pages ≡ n
   pub leads : Leads d h from pages last 0
   pub distinct : Apart pages
-  pub named : Every (λ p. (v : Spot) × In v visited × (v.page ≡ p) × (m : ℕ) × (v.role ≡ link m) × (m ≤ n)) pages
+  pub named : Every (λ p. (v : Spot) × In v visited × (v.page ≡ p) × (o m : ℕ) × (v.role ≡ link o m) × (m ≤ n)) pages
 
 one_place : (ss : List Spot) (s t : Spot) → Apart (numbers ss) → In s ss → In t ss → s.page ≡ t.page → s ≡ t
 one_place [] s t h i j e = absurd i
@@ -66,7 +66,7 @@ schema_table d (stands_in {s = s} {t = t} r h) = go s.role t h.1 (schema_table d
     go trunk t (inl i) k = subst (λ (z : Spot). IsTableIfSchema z.role) (sym i.3) tt
     go trunk t (inr i) k = subst (λ (z : Spot). IsTableIfSchema z.role) (sym i.1) tt
     go free_leaf t i k = absurd i
-    go (link n) t i k = subst (λ (z : Spot). IsTableIfSchema z.role) (sym i.1) tt
+    go (link o n) t i k = subst (λ (z : Spot). IsTableIfSchema z.role) (sym i.1) tt
     go (node x) t (kind, has, inl i) k = subst (λ (z : Spot). IsTableIfSchema z.role) (sym i.4) tt
     go (node x) t (kind, has, inr (int, inl i)) k = subst (λ (z : Spot). IsTableIfSchema z.role) (sym i.5) k
     go (node x) t (kind, has, inr (int, inr i)) k = subst (λ (z : Spot). IsTableIfSchema z.role) (sym i.2) k
@@ -75,7 +75,7 @@ schema_table d (stands_in_row {s = s} {t = t} r h) = go s.role h.1
     go : (role : Role) → InRowAs d s.page role t → IsTableIfSchema t.role
     go trunk i = absurd i
     go free_leaf i = absurd i
-    go (link n) i = absurd i
+    go (link o n) i = absurd i
     go (node x) i = subst (λ (z : Spot). IsTableIfSchema z.role) (sym i.1.7) (λ e. absurd (let both : false ≡ true = e in cc))
 
 -- what a part of a cell's overflow says
@@ -106,8 +106,8 @@ no_overflow b i cell is none = is.overflow ∙ go (nat_lt is.parts.local is.part
     go false e f = f.1
 
 module _ (d : Database) (visited : List Spot) (sound : Every (IsSound d) visited) (closed : (s t : Spot) → In s visited → StandsIn d s t → In t visited) (once : Apart (numbers visited)) where
-  chain : (n : ℕ) (h : ℕ) (s : Spot) → In s visited → s.role ≡ link (suc n) → Chained d visited h s.page (suc n)
-  chain zero h s i role =
+  chain : (n : ℕ) (o h : ℕ) (s : Spot) → In s visited → s.role ≡ link o (suc n) → Chained d visited h s.page (suc n)
+  chain zero o h s i role =
       let is : IsSound d s = every_in (IsSound d) s visited sound i in
       record {
         pages = s.page ∷ [];
@@ -115,31 +115,31 @@ module _ (d : Database) (visited : List Spot) (sound : Every (IsSound d) visited
         count = refl;
         leads = (refl, is.named, (refl, (subst (IsSoundAs d s.page) role is.sound_as).1 refl));
         distinct = (tt, tt);
-        named = ((s, i, refl, 1, role, (let r : 1 ≤ 1 = omega arith in r)), tt);
+        named = ((s, i, refl, o, 1, role, (let r : 1 ≤ 1 = omega arith in r)), tt);
       }
-  chain (suc n) h s i role =
+  chain (suc n) o h s i role =
       let is : IsSound d s = every_in (IsSound d) s visited sound i in
-      let t : Spot = spot (next s.page) (next_in (page d s.page)) (link (suc n)) in
+      let t : Spot = spot (next s.page) (next_in (page d s.page)) (link o (suc n)) in
       let same : suc (suc n) - 1 ≡ suc n = omega arith in
-      let stands : StandsIn d s t = (is.named, subst (λ r. InPageAs d s.page r t) (sym role) ((let r : 1 < suc (suc n) = omega arith in r), ap (λ m. spot (next s.page) (next_in (page d s.page)) (link m)) (sym same))) in
-      let c = chain n s.page t (closed s t i stands) refl in
+      let stands : StandsIn d s t = (is.named, subst (λ r. InPageAs d s.page r t) (sym role) ((let r : 1 < suc (suc n) = omega arith in r), ap (λ m. spot (next s.page) (next_in (page d s.page)) (link o m)) (sym same))) in
+      let c = chain n o s.page t (closed s t i stands) refl in
       record {
         pages = s.page ∷ c.pages;
         last = c.last;
         count = ap suc c.count;
         leads = (refl, is.named, c.leads);
         distinct = (
-          every_weaker (λ p. (v : Spot) × In v visited × (v.page ≡ p) × (m : ℕ) × (v.role ≡ link m) × (m ≤ suc n)) (λ p. s.page ≡ p → ⊥) (λ p k e.
+          every_weaker (λ p. (v : Spot) × In v visited × (v.page ≡ p) × (o m : ℕ) × (v.role ≡ link o m) × (m ≤ suc n)) (λ p. s.page ≡ p → ⊥) (λ p k e.
               let v = one_place visited k.0 s once k.1 i (k.2 ∙ sym e) in
-              let r : link k.3 ≡ link (suc (suc n)) = sym k.4 ∙ ap (λ (z : Spot). z.role) v ∙ role in
-              let m : k.3 ≡ suc (suc n) = cc in
-              let le : k.3 ≤ suc n = k.5 in omega arith) c.pages c.named,
+              let r : link k.3 k.4 ≡ link o (suc (suc n)) = sym k.5 ∙ ap (λ (z : Spot). z.role) v ∙ role in
+              let m : k.4 ≡ suc (suc n) = cc in
+              let le : k.4 ≤ suc n = k.6 in omega arith) c.pages c.named,
           c.distinct,
         );
         named = (
-          (s, i, refl, suc (suc n), role, (let r : suc (suc n) ≤ suc (suc n) = omega arith in r)),
-          every_weaker (λ p. (v : Spot) × In v visited × (v.page ≡ p) × (m : ℕ) × (v.role ≡ link m) × (m ≤ suc n)) (λ p. (v : Spot) × In v visited × (v.page ≡ p) × (m : ℕ) × (v.role ≡ link m) × (m ≤ suc (suc n)))
-              (λ p k. (k.0, k.1, k.2, k.3, k.4, (let le : k.3 ≤ suc n = k.5 in let r : k.3 ≤ suc (suc n) = omega arith in r))) c.pages c.named,
+          (s, i, refl, o, suc (suc n), role, (let r : suc (suc n) ≤ suc (suc n) = omega arith in r)),
+          every_weaker (λ p. (v : Spot) × In v visited × (v.page ≡ p) × (o m : ℕ) × (v.role ≡ link o m) × (m ≤ suc n)) (λ p. (v : Spot) × In v visited × (v.page ≡ p) × (o m : ℕ) × (v.role ≡ link o m) × (m ≤ suc (suc n)))
+              (λ p k. (k.0, k.1, k.2, k.3, k.4, k.5, (let le : k.4 ≤ suc n = k.6 in let r : k.4 ≤ suc (suc n) = omega arith in r))) c.pages c.named,
         );
       }
 
@@ -168,9 +168,9 @@ module _ (d : Database) (visited : List Spot) (sound : Every (IsSound d) visited
           )
       go (suc n) e =
           let some : 0 < bytes_beyond cell = (needs cell room).0 (omega (arith, e)) in
-          let t : Spot = spot (overflow s.page i) cell.overflow (link (links cell)) in
+          let t : Spot = spot (overflow s.page i) cell.overflow (link s.page (links cell)) in
           let stands : StandsIn d s t = (named, subst (λ r. InPageAs d s.page r t) (sym role) (kind, has, inl (i, cell, at, some, refl))) in
-          let c = chain n cell.page t (closed s t here stands) (ap link (sym e)) in (
+          let c = chain n s.page cell.page t (closed s t here stands) (ap (link s.page) (sym e)) in (
             take (payload_size cell) (cell.local.now ++ contents d cell.usable c.pages),
             record {
               pages = c.pages;
@@ -218,7 +218,7 @@ rows_pages d marks visited rows counts least long w = every_weaker _ (IsRowsPage
         at : (role : Role) → s.role ≡ role → IsSchemaLeaf d p role → IsRowsPage d p
         at trunk r l = absurd l
         at free_leaf r l = absurd l
-        at (link n) r l = absurd l
+        at (link o n) r l = absurd l
         at (node x) r l =
             let schema = l.0 in
             let kind : Kind = l.1 in
@@ -254,7 +254,7 @@ row_from d marks visited rows counts w t h =
     in_role : (q p : ℕ) (role : Role) → IsSchemaLeaf d p role → InRow d q t → InRowAs d q role t
     in_role q p trunk l i = absurd l
     in_role q p free_leaf l i = absurd l
-    in_role q p (link n) l i = absurd l
+    in_role q p (link o n) l i = absurd l
     in_role q p (node x) l i = (l.0, i)
 
 -- The roots that the rows name come next.
@@ -278,7 +278,7 @@ becomes_late d marks visited rows counts roots w f sound_rows = record {
         let place : home t.place ≡ s.0.page = ap (λ (z : Spot). home z.place) h.2.7 ∙ sym s.3 in
         let taken : In s.0.page (numbers visited) = in_map (λ z. z.page) s.0 visited s.1 in
         inr (subst (IsWithin (length marks)) (sym place) (every_in (IsWithin (length marks)) s.0.page (numbers visited) a.taken.within taken), ap (is_marked marks) place ∙ a.taken.all s.0.page taken)) f.spots f.only;
-    fits = every_weaker (InRowsOf d rows) (LinkFits d) (λ t h. subst (LinkFits d) (sym h.2.7) (λ n e. absurd (cc))) f.spots f.only;
+    fits = every_weaker (InRowsOf d rows) (LinkFits d) (λ t h. subst (LinkFits d) (sym h.2.7) (λ o n e. absurd (cc))) f.spots f.only;
     early = λ e. absurd (let both : true ≡ false = e in cc);
     rooted = λ e s t i h. inr (in_rows s t i h);
     plain = λ e. every_weaker (InRowsOf d rows) (λ t. NotSchema t.role) (λ t h. subst (λ (z : Spot). NotSchema z.role) (sym h.2.7) refl) f.spots f.only;
@@ -297,13 +297,13 @@ becomes_late d marks visited rows counts roots w f sound_rows = record {
         go : (role : Role) → s.role ≡ role → InRowAs d s.page role t → In t f.spots
         go trunk r h = absurd h
         go free_leaf r h = absurd h
-        go (link n) r h = absurd h
+        go (link o n) r h = absurd h
         go (node x) r h = f.all t (s.page, w.rows.all s i (subst (IsSchemaLeaf d s.page) (sym r) (h.0, TableLeaf, h.1.0, refl)), h.1)
 
     sound_at : (v : Spot) → In v visited → (role : Role) → v.role ≡ role → HasSoundRows d v.page role
     sound_at v i trunk r = tt
     sound_at v i free_leaf r = tt
-    sound_at v i (link n) r = tt
+    sound_at v i (link o n) r = tt
     sound_at v i (node x) r = λ schema kind has flat k bytes row.
         let is = every_in (IsSound d) v visited a.sound i in
         let n : IsSoundNode d v.page x = subst (IsSoundAs d v.page) r is.sound_as in
@@ -325,7 +325,7 @@ not_pending d marks visited rest s a h (inr p) = absurd (go s.role h (every_in (
     go : (role : Role) → IsOfSchema role → NotSchema role → ⊥
     go trunk h k = h
     go free_leaf h k = h
-    go (link n) h k = h
+    go (link o n) h k = h
     go (node x) h k = let both : true ≡ false = sym h ∙ k in cc
 
 -- While roots are followed, all pages of the schema's tree are visited.
@@ -340,7 +340,7 @@ schema_visited d marks visited rest a (stands_in {s = s} {t = t} r i) h = not_pe
     go trunk (inl i) before = absurd (of _ i.3)
     go trunk (inr i) before = absurd (of _ i.1)
     go free_leaf i before = absurd i
-    go (link n) i before = absurd (of _ i.1)
+    go (link o n) i before = absurd (of _ i.1)
     go (node x) (kind, has, inl i) before = absurd (of _ i.4)
     go (node x) (kind, has, inr (int, inl i)) before = before (of _ i.5)
     go (node x) (kind, has, inr (int, inr i)) before = before (of _ i.2)
@@ -349,7 +349,7 @@ schema_visited d marks visited rest a (stands_in_row {s = s} {t = t} r i) h = ab
     go : (role : Role) → InRowAs d s.page role t → ⊥
     go trunk k = k
     go free_leaf k = k
-    go (link n) k = k
+    go (link o n) k = k
     go (node x) k = let both : false ≡ true = subst (λ (z : Spot). IsOfSchema z.role) k.1.7 h in cc
 
 -- So all roots in the schema's rows are visited or pending.
@@ -359,7 +359,7 @@ root_visited d marks visited rest s t a r h = a.rooted refl s t (schema_visited 
     go : (role : Role) → InRowAs d s.page role t → IsOfSchema role
     go trunk k = k
     go free_leaf k = k
-    go (link n) k = k
+    go (link o n) k = k
     go (node x) k = k.0
 
 -- Spots of which a part is left, at places that are apart.
@@ -421,7 +421,7 @@ begins d marks pending counts rows sized none rows_none trees btree over free al
     off = tt;
     homes = tt;
     waiting_homes = every_weaker (IsFirst d) (λ s. IsHome marks s.place) (λ s h. inl (⊎_elim (λ k. ap (λ (z : Spot). home z.place) k.1) (λ k. ap (λ (z : Spot). home z.place) k) h)) pending firsts;
-    fits = every_weaker (IsFirst d) (LinkFits d) (λ s h. ⊎_elim (λ k. subst (LinkFits d) (sym k.1) (λ n e. absurd (cc))) (λ k. subst (LinkFits d) (sym k) (λ n e. absurd (cc))) h) pending firsts;
+    fits = every_weaker (IsFirst d) (LinkFits d) (λ s h. ⊎_elim (λ k. subst (LinkFits d) (sym k.1) (λ o n e. absurd (cc))) (λ k. subst (LinkFits d) (sym k) (λ o n e. absurd (cc))) h) pending firsts;
     early = λ e. (tt, every_weaker (IsFirst d) (λ s. NotRoot s.place) (λ s h. ⊎_elim (λ k. subst (λ (z : Spot). NotRoot z.place) (sym k.1) tt) (λ k. subst (λ (z : Spot). NotRoot z.place) (sym k) tt) h) pending firsts);
     rooted = λ e s t i h. absurd i;
     plain = λ e. absurd (let both : false ≡ true = e in cc);
@@ -457,7 +457,7 @@ free_visited d marks visited a (stands_in {s = s} {t = t} r h) free = go s.role 
     go : (role : Role) → s.role ≡ role → InPageAs d s.page role t → (is_free s.role ≡ true → In s visited) → In t visited
     go trunk e i before = on (before (ap is_free e))
     go free_leaf e i before = absurd i
-    go (link n) e i before = absurd (never _ i.1 refl)
+    go (link o n) e i before = absurd (never _ i.1 refl)
     go (node x) e (kind, has, inl i) before = absurd (never _ i.4 refl)
     go (node x) e (kind, has, inr (int, inl i)) before = absurd (never _ i.5 refl)
     go (node x) e (kind, has, inr (int, inr i)) before = absurd (never _ i.2 refl)
@@ -466,7 +466,7 @@ free_visited d marks visited a (stands_in_row {s = s} {t = t} r h) free = absurd
     go : (role : Role) → InRowAs d s.page role t → ⊥
     go trunk i = i
     go free_leaf i = i
-    go (link n) i = i
+    go (link o n) i = i
     go (node x) i = let both : true ≡ false = sym free ∙ ap (λ (z : Spot). is_free z.role) i.1.7 in cc
 
 apart_of : (ss : List Spot) → Apart (numbers ss) → Apart ss

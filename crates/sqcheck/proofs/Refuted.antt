@@ -101,9 +101,9 @@ module _ (d : Database) (size : ℕ) (w : WellFormed d size) where
   none_stands faults.Overlap p (s, x, r, e, is, role, h) other = refused_layout faults.Overlap p s x r e role (λ e. cc) h
   none_stands faults.Freeblock p (s, x, r, e, is, role, h) other = refused_layout faults.Freeblock p s x r e role (λ e. cc) h
   none_stands faults.Fragments p (s, x, r, e, is, role, h) other = refused_layout faults.Fragments p s x r e role (λ e. cc) h
-  none_stands faults.ChainCut p (s, needed, r, role, at, inl zero') other = let n = (sound s r).named.0 in absurd (omega (arith, n, zero'))
-  none_stands faults.ChainCut p (s, needed, r, role, at, inr (i, in_cell, more)) other = let few = (subst (IsSoundAs d s.page) role (sound s r).sound_as).0 in absurd (omega (arith, few, more))
-  none_stands faults.ChainLong p (s, r, e, is, role, further) other = further (subst (λ q. Rattle.sqpage.specs.Freelist.next_in (page d q) ≡ 0) e ((subst (IsSoundAs d s.page) role (sound s r).sound_as).1 refl))
+  none_stands faults.ChainCut p (s, owner, needed, r, role, at, inl zero') other = let n = (sound s r).named.0 in absurd (omega (arith, n, zero'))
+  none_stands faults.ChainCut p (s, owner, needed, r, role, at, inr (i, in_cell, more)) other = let few = (subst (IsSoundAs d s.page) role (sound s r).sound_as).0 in absurd (omega (arith, few, more))
+  none_stands faults.ChainLong p (s, owner, r, e, is, role, further) other = further (subst (λ q. Rattle.sqpage.specs.Freelist.next_in (page d q) ≡ 0) e ((subst (IsSoundAs d s.page) role (sound s r).sound_as).1 refl))
   none_stands faults.PageTwice p (is, s, t, r, q, differ, e, f) other = differ (ap (λ (z : Spot). z.place) (one_page w.places s t w.once.distinct (w.all s r) (w.all t q) (e ∙ sym f)))
   none_stands faults.PageOutside p (s, r, at, never, link_zero) other = never (sound s r).named
   none_stands faults.PageUnused p (is, never) other =

@@ -8,7 +8,7 @@ use Rattle.sqcheck.specs.declared.tree.Tree.{Tree}
 use Rattle.sqcheck.specs.declared.node.Walk.{Walk}
 use Rattle.sqcheck.specs.declared.uses.Uses.{Uses}
 use Rattle.sqcheck.specs.declared.role.Role.{Role}
-use Rattle.sqcheck.specs.Places.{holder, Spot, IsReached}
+use Rattle.sqcheck.specs.Places.{Spot, IsReached}
 use Rattle.sqcheck.specs.WellFormed.{numbers}
 use Rattle.sqcheck.specs.Walking.{role_of, IsItemOf}
 use Rattle.sqcheck.specs.Agenda.{Walking, WalksOn}
@@ -16,8 +16,8 @@ use Rattle.sqcheck.specs.Checking.{Visited, VisitsMore}
 use Rattle.sqcheck.specs.Roles.{IsRoleOf, HasRole, Visit, Told, TellsOf}
 
 -- the role of an item's page
-pub role_by : (d : Database) (tree : Tree) (it : Item) (task : Task) (role : Role) → it.task ≡ task → IsRoleOf d it.holder it.page (role_of tree task) role → IsRoleOf d it.holder it.page (role_of tree it.task) role
-role_by d tree it task role e is = subst (λ t. IsRoleOf d it.holder it.page (role_of tree t) role) (sym e) is
+pub role_by : (d : Database) (tree : Tree) (it : Item) (task : Task) (role : Role) → it.task ≡ task → IsRoleOf d it.page (role_of tree task) role → IsRoleOf d it.page (role_of tree it.task) role
+role_by d tree it task role e is = subst (λ t. IsRoleOf d it.page (role_of tree t) role) (sym e) is
 
 module _ {A : Type 0} (saw : A → ℕ → Role → A → Type 0) (d : Database) where
   pub tells_append : (a b c : A) (xs ys : List Spot) → TellsOf saw d a xs b → TellsOf saw d b ys c → TellsOf saw d a (xs ++ ys) c
@@ -25,7 +25,7 @@ module _ {A : Type 0} (saw : A → ℕ → Role → A → Type 0) (d : Database)
   tells_append a b c (x ∷ xs) ys (next, role, is, step, h) k = (next, role, is, step, tells_append next b c xs ys h k)
 
   -- A place more is visited.
-  pub walks_more : (late : Bool) (tree : Tree) (visited rest more : List Spot) (uses : Uses) (walk : Walk) (it : Item) (s : Spot) (role : Role) (a b c : A) → IsItemOf tree it s → IsRoleOf d it.holder it.page (role_of tree it.task) role → saw b it.page role c
+  pub walks_more : (late : Bool) (tree : Tree) (visited rest more : List Spot) (uses : Uses) (walk : Walk) (it : Item) (s : Spot) (role : Role) (a b c : A) → IsItemOf tree it s → IsRoleOf d it.page (role_of tree it.task) role → saw b it.page role c
       → TellsOf saw d a more b → Walking d late tree ((visited ++ more) ++ s ∷ []) rest uses walk → WalksOn saw d late tree visited rest uses walk a c
   walks_more late tree visited rest more uses walk it s role a b c is has step told w = (
     more ++ s ∷ [],
@@ -33,7 +33,7 @@ module _ {A : Type 0} (saw : A → ℕ → Role → A → Type 0) (d : Database)
     tells_append a b c more (s ∷ []) told (
       c,
       role,
-      subst (λ r. IsRoleOf d (holder s.place) s.page r role) (sym is.role) (subst (λ p. IsRoleOf d (holder s.place) p (role_of tree it.task) role) is.page (subst (λ h. IsRoleOf d h it.page (role_of tree it.task) role) is.stands has)),
+      subst (λ r. IsRoleOf d s.page r role) (sym is.role) (subst (λ p. IsRoleOf d p (role_of tree it.task) role) is.page has),
       subst (λ p. saw b p role c) is.page step,
       refl,
     ),

@@ -67,23 +67,23 @@ leaf_visited d tree it marks new_marks old task m = record {
 }
 
 -- a link that isn't the last one, and the last one
-pub link_visited : (d : Database) (tree : Tree) (it next_it : Item) (needed next_needed next_page : ℕ) (marks new_marks : List Bool) (bytes : List ℕ) (old new : List Item) → it.task ≡ Link needed → Marks marks new_marks it.page → bytes ≡ page d it.page
-    → needed ≤ length d → 1 < needed → next_needed ≡ needed - 1 → next_page ≡ next_in bytes → next_it ≡ record { holder = it.page; page = next_page; task = Link next_needed } → new ≡ old ++ next_it ∷ [] → Visits d tree it marks new_marks old new
-link_visited d tree it next_it needed next_needed next_page marks new_marks bytes old new task m e few more one named is pushed =
+pub link_visited : (d : Database) (tree : Tree) (it next_it : Item) (owner needed next_needed next_page : ℕ) (marks new_marks : List Bool) (bytes : List ℕ) (old new : List Item) → it.task ≡ Link owner needed → Marks marks new_marks it.page → bytes ≡ page d it.page
+    → needed ≤ length d → 1 < needed → next_needed ≡ needed - 1 → next_page ≡ next_in bytes → next_it ≡ record { holder = it.page; page = next_page; task = Link owner next_needed } → new ≡ old ++ next_it ∷ [] → Visits d tree it marks new_marks old new
+link_visited d tree it next_it owner needed next_needed next_page marks new_marks bytes old new task m e few more one named is pushed =
     let none : Pushes tree (λ t. ⊥) old old = push_nothing tree (λ t. ⊥) old (λ t h. h) in
     let named' : next_page ≡ next_in (page d it.page) = named ∙ ap next_in e in
     record {
       marked = m;
       sound = subst (λ t. IsSoundAs d it.page (role_of tree t)) (sym task) (few, λ last. absurd (omega (arith, last, more)));
       pushes = subst (λ t. Pushes tree (InPageAs d it.page (role_of tree t)) old new) (sym task)
-          (push_one tree (λ t. ⊥) (InLink d it.page needed) old old none new next_it (spot (next it.page) (next_in (page d it.page)) (link (needed - 1))) pushed
+          (push_one tree (λ t. ⊥) (InLink d it.page owner needed) old old none new next_it (spot (next it.page) (next_in (page d it.page)) (link owner (needed - 1))) pushed
           (rw (is, named', one) (record { page = refl; stands = refl; role = refl; proper = (let r : 0 < needed - 1 = omega (arith, more) in r) })) (more, refl) (λ t h. absurd h) (λ t h. inl h.1) (λ t h f. h));
     }
 
-pub last_visited : (d : Database) (tree : Tree) (it : Item) (needed : ℕ) (marks new_marks : List Bool) (bytes : List ℕ) (old : List Item) → it.task ≡ Link needed → Marks marks new_marks it.page → bytes ≡ page d it.page
+pub last_visited : (d : Database) (tree : Tree) (it : Item) (owner needed : ℕ) (marks new_marks : List Bool) (bytes : List ℕ) (old : List Item) → it.task ≡ Link owner needed → Marks marks new_marks it.page → bytes ≡ page d it.page
     → needed ≤ length d → needed ≤ 1 → next_in bytes ≡ 0 → Visits d tree it marks new_marks old old
-last_visited d tree it needed marks new_marks bytes old task m e few last ends = record {
+last_visited d tree it owner needed marks new_marks bytes old task m e few last ends = record {
   marked = m;
   sound = subst (λ t. IsSoundAs d it.page (role_of tree t)) (sym task) (few, λ is. ap next_in (sym e) ∙ ends);
-  pushes = subst (λ t. Pushes tree (InPageAs d it.page (role_of tree t)) old old) (sym task) (push_nothing tree (InLink d it.page needed) old (λ t h. let more : 1 < needed = h.0 in omega arith));
+  pushes = subst (λ t. Pushes tree (InPageAs d it.page (role_of tree t)) old old) (sym task) (push_nothing tree (InLink d it.page owner needed) old (λ t h. let more : 1 < needed = h.0 in omega arith));
 }

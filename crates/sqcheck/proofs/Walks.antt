@@ -59,11 +59,11 @@ module _ (d : Database) (size : ℕ) (tree : Tree) (it : Item) (s : Spot) (is : 
   wrong : (p : ℕ) (role : Role) (fault : Fault) → s.page ≡ p → s.role ≡ role → IsPage d p → PageWrong d p role fault → Stands d size fault p
   wrong p trunk fault e role page h = subst (λ f. Stands d size f p) (sym h.0) (inl (s, r, e, page, role, h.1))
   wrong p free_leaf fault e role page h = absurd h
-  wrong p (link needed) fault e role page h = subst (λ f. Stands d size f p) (sym h.0) (s, r, e, page, role ∙ ap link h.1, h.2)
+  wrong p (link owner needed) fault e role page h = subst (λ f. Stands d size f p) (sym h.0) (s, owner, r, e, page, role ∙ ap (link owner) h.1, h.2)
   wrong p (node x) fault e role page h = node_stands d size s r p x fault e role page h
 
   link_named : (task : Task) → LinksOn task it.page → IsTrue (is_link (role_of tree task)) → it.page ≢ 0
-  link_named (tasks.Link n) h l = h
+  link_named (tasks.Link o n) h l = h
   link_named tasks.Trunk h l = absurd (cc)
   link_named tasks.Leaf h l = absurd (cc)
   link_named (tasks.Node level low high) h l = absurd (cc)
@@ -84,10 +84,10 @@ module _ (d : Database) (size : ℕ) (tree : Tree) (it : Item) (s : Spot) (is : 
   not_taken marks _ at len links h both = absurd h
 
   -- A chain is cut.
-  cut : (needed at : ℕ) → LinkFits d s → s.role ≡ link needed → holder s.place ≡ at → (it.page ≡ 0) ⊎ (length d < needed) → Stands d size faults.ChainCut at
-  cut needed at fits role holds (inl none) = (s, needed, r, role, holds, inl (sym is.page ∙ none))
-  cut needed at fits role holds (inr more) = elim (fits needed role) [
-    | inl o ↦ (s, needed, r, role, holds, inr (o.0, o.1 ∙ ap (λ p. overflow p o.0) holds, more))
+  cut : (owner needed at : ℕ) → LinkFits d s → s.role ≡ link owner needed → holder s.place ≡ at → (it.page ≡ 0) ⊎ (length d < needed) → Stands d size faults.ChainCut at
+  cut owner needed at fits role holds (inl none) = (s, owner, needed, r, role, holds, inl (sym is.page ∙ none))
+  cut owner needed at fits role holds (inr more) = elim (fits owner needed role) [
+    | inl o ↦ (s, owner, needed, r, role, holds, inr (o.0, o.1 ∙ ap (λ p. overflow p o.0) holds, more))
     | inr le ↦ absurd (omega (arith, le, more))
   ]
 
@@ -96,7 +96,7 @@ module _ (d : Database) (size : ℕ) (tree : Tree) (it : Item) (s : Spot) (is : 
   refusal_stands marks fault at len fits (inl h) both = not_taken marks fault at len h.0 h.1 both
   refusal_stands marks fault at len fits (inr (inl h)) both = subst (Stands d size fault) (sym h.0) (wrong it.page (role_of tree it.task) fault (sym is.page) is.role h.1 h.2)
   refusal_stands marks fault at len fits (inr (inr (inl h))) both =
-      subst (λ f. Stands d size f at) (sym h.0) (cut h.2 at fits (is.role ∙ ap (role_of tree) h.3) (sym is.stands ∙ sym h.1) h.4)
+      subst (λ f. Stands d size f at) (sym h.0) (cut h.2 h.3 at fits (is.role ∙ ap (role_of tree) h.4) (sym is.stands ∙ sym h.1) h.5)
   refusal_stands marks fault at len fits (inr (inr (inr h))) both = subst (λ f. Stands d size f at) (sym h) tt
 
 -- The pages put aside, after one more place was visited.
@@ -133,7 +133,7 @@ counted_more tree visited s task old new role c a = record {
     root_of_task : (t : Task) → ◌≡◌ {A = ℕ} (cond (is_root (role_of tree t)) 1 0) (in_trees t)
     root_of_task tasks.Trunk = refl
     root_of_task tasks.Leaf = refl
-    root_of_task (tasks.Link n) = refl
+    root_of_task (tasks.Link o n) = refl
     root_of_task (tasks.Node l a b) = refl
 
     root_adds : ◌≡◌ {A = ℕ} (cond (is_root s.role) 1 0) (in_trees task)
@@ -142,19 +142,19 @@ counted_more tree visited s task old new role c a = record {
     node_of_task : (t : Task) → ◌≡◌ {A = ℕ} (cond (is_node (role_of tree t)) 1 0) (in_btree t)
     node_of_task tasks.Trunk = refl
     node_of_task tasks.Leaf = refl
-    node_of_task (tasks.Link n) = refl
+    node_of_task (tasks.Link o n) = refl
     node_of_task (tasks.Node l a b) = refl
 
     link_of_task : (t : Task) → ◌≡◌ {A = ℕ} (cond (is_link (role_of tree t)) 1 0) (in_overflow t)
     link_of_task tasks.Trunk = refl
     link_of_task tasks.Leaf = refl
-    link_of_task (tasks.Link n) = refl
+    link_of_task (tasks.Link o n) = refl
     link_of_task (tasks.Node l a b) = refl
 
     free_of_task : (t : Task) → ◌≡◌ {A = ℕ} (cond (is_free (role_of tree t)) 1 0) (in_freelist t)
     free_of_task tasks.Trunk = refl
     free_of_task tasks.Leaf = refl
-    free_of_task (tasks.Link n) = refl
+    free_of_task (tasks.Link o n) = refl
     free_of_task (tasks.Node l a b) = refl
 
     node_adds : ◌≡◌ {A = ℕ} (cond (is_node s.role) 1 0) (in_btree task)

@@ -47,7 +47,7 @@ NotSchema _ = Unit {0}
 
 -- a link that no cell names needs no more pages than there are
 abbrev pub LinkFits : Database → Spot → Type 0
-LinkFits d s = (needed : ℕ) → s.role ≡ link needed → ((i : ℕ) × (s.place ≡ overflow (holder s.place) i)) ⊎ (needed ≤ length d)
+LinkFits d s = (owner needed : ℕ) → s.role ≡ link owner needed → ((i : ℕ) × (s.place ≡ overflow (holder s.place) i)) ⊎ (needed ≤ length d)
 
 -- The pages of the visited places are taken, in their order, and the pending ones are still to be followed. All that
 -- stands in a page of a visited one is visited or pending; in `late` that is so of the roots in its rows too, and these

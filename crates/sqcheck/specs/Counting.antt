@@ -10,7 +10,7 @@ in_btree (Node level low high) = 1
 in_btree _ = 0
 
 abbrev pub in_overflow : Task → ℕ
-in_overflow (Link needed) = 1
+in_overflow (Link owner needed) = 1
 in_overflow _ = 0
 
 abbrev pub in_freelist : Task → ℕ

@@ -10,3 +10,4 @@ pub mod Schema
 pub mod Room
 pub mod Snapshots
 pub mod Roles
+pub mod Surveys

@@ -49,11 +49,11 @@ pub record Node : Type 0 where
   pub low : Option ℤ
   pub high : Option ℤ
 
--- What a page is named as. A link is the first of so many pages of a chain that are still needed.
+-- What a page is named as. A link is the first of so many pages that are still needed, of the chain of a cell in page `owner`.
 pub data Role : Type 0 where
   trunk : Role
   free_leaf : Role
-  link : (needed : ℕ) → Role
+  link : (owner needed : ℕ) → Role
   node : Node → Role
 
 -- A place, the number that stands there, and what it names that page as.
@@ -99,12 +99,12 @@ InTrunk d p t =
     ⊎ ((next_in (page d p) ≢ 0) × (t ≡ spot (next p) (next_in (page d p)) trunk))
 
 -- The place of the next page of a chain, where one is needed.
-abbrev pub InLink : Database → (p needed : ℕ) → Spot → Type 0
-InLink d p needed t = (1 < needed) × (t ≡ spot (next p) (next_in (page d p)) (link (needed - 1)))
+abbrev pub InLink : Database → (p owner needed : ℕ) → Spot → Type 0
+InLink d p owner needed t = (1 < needed) × (t ≡ spot (next p) (next_in (page d p)) (link owner (needed - 1)))
 
 -- The place of the first overflow page of a cell, where not all of its payload is local.
 abbrev pub InCell : Page → Spot → Type 0
-InCell b t = (i : ℕ) × (cell : Cell) × IsCellAt b i cell × (0 < bytes_beyond cell) × (t ≡ spot (overflow b.number i) cell.overflow (link (links cell)))
+InCell b t = (i : ℕ) × (cell : Cell) × IsCellAt b i cell × (0 < bytes_beyond cell) × (t ≡ spot (overflow b.number i) cell.overflow (link b.number (links cell)))
 
 -- The place of a left child.
 abbrev pub IsLeftChild : Page → Node → Spot → Type 0
@@ -125,7 +125,7 @@ InNode d p x t = (kind : Kind) × HasKind d kind p
 abbrev pub InPageAs : Database → (p : ℕ) → Role → Spot → Type 0
 InPageAs d p trunk t = InTrunk d p t
 InPageAs d p free_leaf t = ⊥
-InPageAs d p (link needed) t = InLink d p needed t
+InPageAs d p (link owner needed) t = InLink d p owner needed t
 InPageAs d p (node x) t = InNode d p x t
 
 -- t is a place in the page that s names, where that is a page.

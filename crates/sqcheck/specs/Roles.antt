@@ -6,19 +6,19 @@ use Rattle.sqpage.specs.Lists.{Every}
 use Rattle.sqcheck.specs.declared.role.Role.{Role}
 use Rattle.sqcheck.specs.declared.role.Role.TheVariants.{Btree, Overflow, FreeTrunk, FreeLeaf}
 use Rattle.sqcheck.specs.Places as places
-use Rattle.sqcheck.specs.Places.{holder, trunk, free_leaf, link, node, Spot, HasKind, IsReached}
+use Rattle.sqcheck.specs.Places.{trunk, free_leaf, link, node, Spot, HasKind, IsReached}
 use Rattle.sqcheck.specs.WellFormed.{AreEachOnce}
 
--- The role of page p, which page h names as this. The kind of a page of a tree is that of its type byte.
-abbrev pub IsRoleOf : Database → (h p : ℕ) → places.Role → Role → Type 0
-IsRoleOf d h p trunk role = role ≡ FreeTrunk
-IsRoleOf d h p free_leaf role = role ≡ FreeLeaf
-IsRoleOf d h p (link needed) role = role ≡ Overflow h
-IsRoleOf d h p (node x) role = (kind : Kind) × HasKind d kind p × (role ≡ Btree kind x.tree)
+-- The role of page p, which is named as this. The kind of a page of a tree is that of its type byte.
+abbrev pub IsRoleOf : Database → (p : ℕ) → places.Role → Role → Type 0
+IsRoleOf d p trunk role = role ≡ FreeTrunk
+IsRoleOf d p free_leaf role = role ≡ FreeLeaf
+IsRoleOf d p (link owner needed) role = role ≡ Overflow owner
+IsRoleOf d p (node x) role = (kind : Kind) × HasKind d kind p × (role ≡ Btree kind x.tree)
 
 -- Page p has the role that a reached place names it in.
 abbrev pub HasRole : Database → (p : ℕ) → Role → Type 0
-HasRole d p role = (s : Spot) × IsReached d s × (s.page ≡ p) × IsRoleOf d (holder s.place) p s.role role
+HasRole d p role = (s : Spot) × IsReached d s × (s.page ≡ p) × IsRoleOf d p s.role role
 
 -- a page and its role, as a visitor is told
 pub record Visit : Type 0 where
@@ -38,4 +38,4 @@ pub record AreRoles (d : Database) (visits : List Visit) : Type 0 where
 -- The same of the places that name the pages. No public contract cites this word.
 abbrev pub TellsOf : {A : Type 0} (saw : A → ℕ → Role → A → Type 0) → Database → (old : A) → List Spot → (new : A) → Type 0
 TellsOf saw d old [] new = new ≡ old
-TellsOf {A = A} saw d old (s ∷ spots) new = (next : A) × (role : Role) × IsRoleOf d (holder s.place) s.page s.role role × saw old s.page role next × TellsOf saw d next spots new
+TellsOf {A = A} saw d old (s ∷ spots) new = (next : A) × (role : Role) × IsRoleOf d s.page s.role role × saw old s.page role next × TellsOf saw d next spots new

@@ -31,12 +31,12 @@ node_in tree level low high = record { tree = tree.root; table = tree.table; sch
 abbrev pub role_of : Tree → Task → Role
 role_of tree Trunk = trunk
 role_of tree Leaf = free_leaf
-role_of tree (Link needed) = link needed
+role_of tree (Link owner needed) = link owner needed
 role_of tree (Node level low high) = node (node_in tree level low high)
 
 -- a link is the first of one page or more
 abbrev pub IsProper : Task → Type 0
-IsProper (Link needed) = 0 < needed
+IsProper (Link owner needed) = 0 < needed
 IsProper _ = Unit {0}
 
 -- the item is that of the place
@@ -64,7 +64,7 @@ pub record Pushes (tree : Tree) (P : Spot → Type 0) (old new : List Item) : Ty
 
 -- The place of a chain's first page, in the cells from one on.
 abbrev pub InCellFrom : Page → (from : ℕ) → Spot → Type 0
-InCellFrom b from t = (i : ℕ) × (cell : Cell) × (from ≤ i) × IsCellAt b i cell × (0 < bytes_beyond cell) × (t ≡ spot (overflow b.number i) cell.overflow (link (links cell)))
+InCellFrom b from t = (i : ℕ) × (cell : Cell) × (from ≤ i) × IsCellAt b i cell × (0 < bytes_beyond cell) × (t ≡ spot (overflow b.number i) cell.overflow (link b.number (links cell)))
 
 -- the place of a left or right child
 abbrev pub IsChild : Page → places.Node → Spot → Type 0
@@ -113,15 +113,15 @@ pub record Visits (d : Database) (tree : Tree) (it : Item) (marks new_marks : Li
 abbrev pub PageWrong : Database → (p : ℕ) → Role → Fault → Type 0
 PageWrong d p trunk fault = (fault ≡ faults.FreeCount) × (most_leaves d < leaf_count_in (page d p))
 PageWrong d p free_leaf fault = ⊥
-PageWrong d p (link needed) fault = (fault ≡ faults.ChainLong) × (needed ≡ 1) × (next_in (page d p) ≢ 0)
+PageWrong d p (link owner needed) fault = (fault ≡ faults.ChainLong) × (needed ≡ 1) × (next_in (page d p) ≢ 0)
 PageWrong d p (node x) fault = NodeRefused d fault p x
 
 -- a link that isn't followed: its number is 0, or it needs more pages than there are
 abbrev pub IsCutLink : Database → Tree → Item → Fault → (at : ℕ) → Type 0
-IsCutLink d tree it fault at = (fault ≡ faults.ChainCut) × (at ≡ it.holder) × (needed : ℕ) × (it.task ≡ Link needed) × ((it.page ≡ 0) ⊎ (length d < needed))
+IsCutLink d tree it fault at = (fault ≡ faults.ChainCut) × (at ≡ it.holder) × (owner needed : ℕ) × (it.task ≡ Link owner needed) × ((it.page ≡ 0) ⊎ (length d < needed))
 
 abbrev pub LinksOn : Task → (p : ℕ) → Type 0
-LinksOn (Link needed) p = p ≢ 0
+LinksOn (Link owner needed) p = p ≢ 0
 LinksOn _ p = Unit {0}
 
 -- Why an item isn't followed: its page can't be taken, is wrong, or the chain is cut; or memory ran out.

@@ -66,7 +66,7 @@ HasSchemaRows d p x = x.schema ≡ true → (kind : Kind) → HasKind d kind p �
 abbrev pub IsSoundAs : Database → (p : ℕ) → Role → Type 0
 IsSoundAs d p trunk = leaf_count_in (page d p) ≤ most_leaves d
 IsSoundAs d p free_leaf = Unit {0}
-IsSoundAs d p (link needed) = (needed ≤ length d) × (needed ≡ 1 → next_in (page d p) ≡ 0)
+IsSoundAs d p (link owner needed) = (needed ≤ length d) × (needed ≡ 1 → next_in (page d p) ≡ 0)
 IsSoundAs d p (node x) = IsSoundNode d p x
 
 -- the same of a page that is named as this, where it is one of a tree
@@ -85,7 +85,7 @@ is_free free_leaf = true
 is_free _ = false
 
 abbrev pub is_link : Role → Bool
-is_link (link needed) = true
+is_link (link owner needed) = true
 is_link _ = false
 
 abbrev pub is_node : Role → Bool

@@ -31,21 +31,21 @@ use std::alloc::{AllocError, Global};
 use std::marker::{Brand, PhantomData};
 
 /// The tree that the freelist is said to be of, which has no tree.
-const NO_TREE: Tree = Tree {
+pub(crate) const NO_TREE: Tree = Tree {
     root: 1,
     table: true,
     schema: false,
 };
 
 /// The schema's tree.
-const SCHEMA_TREE: Tree = Tree {
+pub(crate) const SCHEMA_TREE: Tree = Tree {
     root: 1,
     table: true,
     schema: true,
 };
 
 /// What the root of a tree is named as.
-const ROOT: Task = Task::Node {
+pub(crate) const ROOT: Task = Task::Node {
     level: 1,
     low: None,
     high: None,
@@ -53,12 +53,17 @@ const ROOT: Task = Task::Node {
 
 impl<V: Snapshot> Reader<V> {
     /// Whether the page that a root names is one of a table's tree.
-    fn names_table<S: PageSource>(&mut self, source: &mut S, page: u32) -> Result<bool, CheckError>
+    pub fn names_table<S: PageSource>(
+        &mut self,
+        source: &mut S,
+        page: u32,
+    ) -> Result<bool, CheckError>
         requires page { IsPage V.pages page }
         requires same { SameSource V.pages V.size V.given (S.pages source.old) (S.size source.old)
             (S.gives_pages source.old) }
         ensures ok { V.given → IfOk result (λ table. table ≡ names_table V.pages page) }
         ensures err { V.given → IfErr result (λ e. ⊥) }
+        ensures source { IfErr result (λ e. e.fault ≡ Fault.Source) }
         ensures usable { self.new.usable ≡ self.old.usable }
         ensures same { SameSource V.pages V.size V.given (S.pages source.new) (S.size source.new)
             (S.gives_pages source.new) }
@@ -130,7 +135,7 @@ impl<V: Snapshot> Walker<V> {
     }
 
     /// Whether as many pages are free as the header says.
-    fn judge_free_count(&self, said: u32) -> Result<(), CheckError>
+    pub fn judge_free_count(&self, said: u32) -> Result<(), CheckError>
         ensures ok { OnOk result (self.now.uses.counts.free ≡ said) }
         ensures err { IfErr result (λ e. (e.fault ≡ Fault.FreeCount) × (e.page ≡ 1) ×
             (self.now.uses.counts.free ≢ said)) }
@@ -350,7 +355,7 @@ impl<V: Snapshot> Walker<V> {
 }
 
 /// A walker that has room for the pages that are read, and has taken none of so many.
-fn new_walker<V: Snapshot>(
+pub(crate) fn new_walker<V: Snapshot>(
     alloc: Global,
     reader: Reader<V>,
     count: u32,
@@ -384,7 +389,7 @@ fn new_walker<V: Snapshot>(
 }
 
 /// Memory ran out before a page was taken.
-const NO_MEMORY: CheckError = CheckError {
+pub(crate) const NO_MEMORY: CheckError = CheckError {
     page: 1,
     fault: Fault::NoMemory,
 };

@@ -11,8 +11,11 @@ pub(crate) enum Task {
     Trunk,
     /// A leaf of the freelist.
     Leaf,
-    /// The first of so many pages of a chain that are still needed.
-    Link(u64),
+    /// The first of so many pages that are still needed, of the chain of a cell in page `owner`.
+    Link {
+        owner: u32,
+        needed: u64,
+    },
     /// A page of a tree on this level, whose keys are above `low` and at most `high`.
     Node {
         level: u32,

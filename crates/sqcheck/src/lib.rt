@@ -1,6 +1,7 @@
 //! Whether a database file is well formed, and if not, where not (fileformat2, 1 and 2.6).
 #![tactic(auto)]
 
+mod chart;
 mod checker;
 mod header;
 mod item;
@@ -10,6 +11,7 @@ mod report;
 mod role;
 mod schema;
 mod snapshot;
+mod survey;
 mod tree;
 mod trunk;
 mod unused;
@@ -20,3 +22,4 @@ mod walker;
 pub use checker::{check, visit_pages};
 pub use report::Report;
 pub use role::{Role, Visitor};
+pub use survey::{Survey, survey_pages};

@@ -146,7 +146,10 @@ pub(crate) fn push_chains(
                 Item {
                     holder: number,
                     page: cell.overflow,
-                    task: Task::Link(needed),
+                    task: Task::Link {
+                        owner: number,
+                        needed,
+                    },
                 },
             )?;
         }

@@ -9,13 +9,14 @@ use sqpage::Kind;
 pub enum Role {
     /// It is of this kind, in the tree with this root.
     Btree { kind: Kind, root: u32 },
-    /// It holds a part of a payload. Page `holder` names it: the page of a tree that the payload begins in, or
-    /// the one with the part before.
-    Overflow { holder: u32 },
+    /// It holds a part of the payload of a cell in page `owner`.
+    Overflow { owner: u32 },
     /// It is a trunk of the freelist.
     FreeTrunk,
     /// It is a leaf of the freelist.
     FreeLeaf,
+    /// No place names it. A visitor is told of no such page.
+    Unused,
 }
 
 /// Is told what the pages of a database are used for, page by page.

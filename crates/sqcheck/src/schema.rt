@@ -52,7 +52,7 @@ fn schema_root(bytes: &[u8]) -> Option<u64>
 
 /// The root that the row in a cell names, or 0. Refused by SchemaRecord at the cell's page. `content` is
 /// room for the row.
-fn row_root<V: Snapshot, S: PageSource>(
+pub(crate) fn row_root<V: Snapshot, S: PageSource>(
     alloc: Global,
     source: &mut S,
     cell: &Cell,
@@ -81,7 +81,12 @@ fn row_root<V: Snapshot, S: PageSource>(
 }
 
 /// Adds a root that was found, where it isn't 0, and where no more are kept than there are pages.
-fn add_root(roots: &mut Vec<Root>, count: u32, holder: u32, page: u64) -> Result<(), CheckError>
+pub(crate) fn add_root(
+    roots: &mut Vec<Root>,
+    count: u32,
+    holder: u32,
+    page: u64,
+) -> Result<(), CheckError>
     ensures zero { OnOk result (page ≡ 0 → roots.new.items ≡ roots.old.items) }
     ensures full { OnOk result (count < length roots.old.items → roots.new.items ≡ roots.old.items) }
     ensures found { OnOk result (page ≢ 0 → length roots.old.items ≤ count → roots.new.items ≡ roots.old.items ++

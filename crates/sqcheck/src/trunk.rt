@@ -102,9 +102,10 @@ impl<V: Snapshot> Walker<V> {
         &mut self,
         source: &mut S,
         item: Item,
+        owner: u32,
         needed: u64,
     ) -> Result<(), CheckError>
-        requires task { item.task ≡ Link needed }
+        requires task { item.task ≡ Link owner needed }
         requires same { SameSource V.pages V.size V.given (S.pages source.old) (S.size source.old)
             (S.gives_pages source.old) }
         ensures ok { V.given → OnOk result ((tree : Tree)
@@ -131,7 +132,10 @@ impl<V: Snapshot> Walker<V> {
                 Item {
                     holder: item.page,
                     page: next,
-                    task: Task::Link(needed - 1),
+                    task: Task::Link {
+                        owner,
+                        needed: needed - 1,
+                    },
                 },
             );
         }

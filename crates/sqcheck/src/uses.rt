@@ -1,6 +1,7 @@
 //! Which pages were taken, and how many for each use (own).
-ghost use Rattle.std.specs.Prelude.{◌≡◌, ◌+◌, ◌<◌, ◌≤◌, ◌^◌, length, OnOk, OnErr, IfErr, count_by, not};
-ghost use Rattle.sqpage.specs.Taking.{Marks, MarkRefused};
+ghost use Rattle.std.specs.Prelude.{◌≡◌, ◌↔◌, ◌+◌, ◌<◌, ◌≤◌, ◌^◌, true, IsTrue, length, OnOk, OnErr, IfErr};
+ghost use Rattle.std.specs.Prelude.{count_by, not};
+ghost use Rattle.sqpage.specs.Taking.{Marks, MarkRefused, is_marked};
 ghost use Rattle.sqcheck.specs.Counting.{AddsTask};
 
 use crate::item::{Item, Task};
@@ -28,7 +29,7 @@ impl Counts {
     {
         match task {
             Task::Trunk | Task::Leaf => self.free += 1,
-            Task::Link(_) => self.overflow += 1,
+            Task::Link { .. } => self.overflow += 1,
             Task::Node { level, .. } => {
                 self.btree += 1;
                 self.trees += u32::from(level == 1);
@@ -86,5 +87,13 @@ impl Uses {
         mark(&mut self.marks, item.holder, item.page)?;
         self.counts.add(item.task);
         Ok(())
+    }
+    /// Whether a page was taken.
+    pub fn is_taken(&self, page: u32) -> bool
+        ensures { IsTrue result ↔ (0 < page) × (page ≤ length self.now.marks.items) ×
+            (is_marked self.now.marks.items page ≡ true) }
+    {
+        let page = page as usize;
+        0 < page && page <= self.marks.len() && self.marks[page - 1]
     }
 }

@@ -60,7 +60,7 @@ impl<V: Snapshot> Walker<V> {
     }
 
     /// Takes the page of an item and puts what stands in it on the stack. The page's role.
-    fn follow<S: PageSource>(
+    pub fn follow<S: PageSource>(
         &mut self,
         source: &mut S,
         tree: &Tree,
@@ -70,7 +70,7 @@ impl<V: Snapshot> Walker<V> {
             (S.gives_pages source.old) }
         ensures ok { V.given → IsProper item.task
             → Knows V.pages tree.now.root self.old.walk.leaf_level (item ∷ reverse self.old.walk.stack.items)
-            → IfOk result (λ role. IsRoleOf V.pages item.holder item.page (role_of tree.now item.task) role ×
+            → IfOk result (λ role. IsRoleOf V.pages item.page (role_of tree.now item.task) role ×
             Follows V.pages tree.now item self.old.uses self.new.uses self.old.walk self.new.walk) }
         ensures err { V.given → IsProper item.task
             → Knows V.pages tree.now.root self.old.walk.leaf_level (item ∷ reverse self.old.walk.stack.items)
@@ -88,11 +88,9 @@ impl<V: Snapshot> Walker<V> {
                 self.uses.take(item)?;
                 Ok(Role::FreeLeaf)
             }
-            Task::Link(needed) => {
-                self.follow_link(source, item, needed)?;
-                Ok(Role::Overflow {
-                    holder: item.holder,
-                })
+            Task::Link { owner, needed } => {
+                self.follow_link(source, item, owner, needed)?;
+                Ok(Role::Overflow { owner })
             }
             Task::Node { level, low, high } => {
                 let kind = self.follow_node(source, tree, item, Bounds { level, low, high })?;

@@ -1,7 +1,8 @@
 //! What a check keeps while it goes on (own).
-ghost use Rattle.std.specs.Prelude.{◌≡◌, ◌≤◌, length, IsOk, IfOk};
+ghost use Rattle.std.specs.Prelude.{◌≡◌, ◌≤◌, length, IsOk, IfErr};
 ghost use Rattle.sqval.specs.Database.{page};
 ghost use Rattle.sqpage.specs.Freelist.{IsPage, usable_size};
+ghost use Rattle.sqpage.specs.declared.fault.Fault.{Fault};
 ghost use Rattle.sqcheck.specs.Room.{HoldsPage};
 ghost use Rattle.sqcheck.specs.Snapshots.{SameSource};
 
@@ -31,6 +32,7 @@ impl<V: Snapshot> Reader<V> {
         requires same { SameSource V.pages V.size V.given (S.pages source.old) (S.size source.old)
             (S.gives_pages source.old) }
         ensures read { V.given → IsOk result × (self.new.bytes.items ≡ page V.pages p) }
+        ensures err { IfErr result (λ e. e.fault ≡ Fault.Source) }
         ensures usable { self.new.usable ≡ self.old.usable }
         ensures same { SameSource V.pages V.size V.given (S.pages source.new) (S.size source.new)
             (S.gives_pages source.new) }

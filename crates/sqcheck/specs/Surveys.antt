@@ -1,0 +1,43 @@
+-- What a survey finds: what the pages of a database are used for, and what is wrong with it (own).
+use Rattle.std.specs.Prelude.{◌≡◌, ℕ, ◌⊎◌, ◌-◌, ◌<◌, ◌≤◌, List, [], length, get_or, set, IfOk, IfErr}
+use Rattle.sqval.specs.Database.{Database}
+use Rattle.sqpage.specs.Freelist.{IsPage, usable_size}
+use Rattle.sqpage.specs.declared.fault.Fault.{Fault}
+use Rattle.sqpage.specs.declared.fault.Fault.TheVariants as faults
+use Rattle.sqcheck.specs.declared.role.Role.{Role}
+use Rattle.sqcheck.specs.declared.role.Role.TheVariants.{Unused}
+use Rattle.sqcheck.specs.declared.survey.Survey.{Survey}
+use Rattle.sqcheck.specs.Roles.{HasRole}
+use Rattle.sqcheck.specs.Stands.{Stands}
+use Rattle.sqcheck.specs.WellFormed.{WellFormed, IsReport}
+
+-- the role of page p in a list by page, from 1
+abbrev pub role_at : List Role → (p : ℕ) → Role
+role_at roles p = get_or roles (p - 1) Unused
+
+-- They are the roles of all pages, by page from 1.
+pub record AreAllRoles (d : Database) (roles : List Role) : Type 0 where
+  pub long : length roles ≡ length d
+  pub each : (p : ℕ) → IsPage d p → HasRole d p (role_at roles p)
+
+-- Where its answer is a report, the database is well formed, the report and the roles are its, and there is no fault.
+abbrev pub FindsClean : Database → (size : ℕ) → Survey → Type 0
+FindsClean d size survey = IfOk survey.answer (λ report. (w : WellFormed d size) × IsReport d w.places report
+    × AreAllRoles d survey.roles.items × (survey.faults.items ≡ []))
+
+-- Where its answer is a fault, that stands at its page, and the database isn't well formed.
+abbrev pub FindsDamaged : Database → (size : ℕ) → Survey → Type 0
+FindsDamaged d size survey = IfErr survey.answer (λ e. Stands d size e.fault e.page × ¬ WellFormed d size)
+
+-- a fault of the source or of memory, and not of the database
+abbrev pub IsEnd : Fault → Type 0
+IsEnd fault = (fault ≡ faults.Source) ⊎ (fault ≡ faults.NoMemory)
+
+-- Why there is no survey: page 1 isn't that of a database, or too little of each page is used; or memory or the source
+-- gave out.
+abbrev pub SurveyRefused : Database → (size : ℕ) → Fault → (p : ℕ) → Type 0
+SurveyRefused d size fault p = IsEnd fault ⊎ (Stands d size fault p × ((fault ≡ faults.Magic) ⊎ (usable_size d < 480)))
+
+-- A page's role was put down in a list by page, where it is one of the list's. No public contract cites this word.
+abbrev pub Charts : (old : List Role) → (page : ℕ) → Role → (new : List Role) → Type 0
+Charts old page role new = (length new ≡ length old) × (0 < page → page ≤ length old → new ≡ set old (page - 1) role)

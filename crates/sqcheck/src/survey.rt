@@ -1,0 +1,472 @@
+//! A map of a database file, also of a damaged one (own).
+ghost use Rattle.std.specs.Prelude.{◌≡◌, ◌↔◌, ◌⊎◌, ◌-◌, ◌<◌, ◌≤◌, [], length, replicate, false, None, IsTrue};
+ghost use Rattle.std.specs.Prelude.{IfOk, IfErr, IfSome};
+ghost use Rattle.sqpage.specs.Freelist.{IsPage, usable_size};
+ghost use Rattle.sqpage.specs.Header.{byte};
+ghost use Rattle.sqpage.specs.declared.fault.Fault.{Fault};
+ghost use Rattle.sqcheck.specs.Surveys.{FindsClean, FindsDamaged, SurveyRefused, IsEnd};
+ghost use Rattle.sqcheck.specs.declared.role.Role.TheVariants.{Unused};
+ghost use Rattle.sqcheck.specs.Snapshots.{SameSource};
+
+use crate::chart::Chart;
+use crate::checker::{NO_MEMORY, NO_TREE, ROOT, SCHEMA_TREE, new_walker, visit_pages};
+use crate::header::judge_header;
+use crate::item::{Item, Task, push};
+use crate::pages::{read_page, word_at};
+use crate::report::Report;
+use crate::role::{Role, Visitor};
+use crate::schema::{Root, add_root, row_root};
+use crate::snapshot::Snapshot;
+use crate::tree::Tree;
+use crate::walker::{Reader, Walker};
+use sqpage::{BtreePage, CheckError, Fault, Kind, PageSource};
+use std::alloc::Global;
+use std::marker::{Brand, PhantomData};
+
+/// What the pages of a database are used for, and what is wrong with it.
+#[derive(Drop)]
+pub struct Survey {
+    /// By page, from 1: its role, by the first place that names it.
+    pub roles: Vec<Role>,
+    /// The faults, in the order of the walk, at most 1,000,000 of them.
+    pub faults: Vec<CheckError>,
+    /// What `check` answers.
+    pub answer: Result<Report, CheckError>,
+}
+
+/// Where the walk begins, as the bytes of page 1 say, also where the header isn't sound.
+#[derive(Clone, Copy, Debug)]
+struct Start {
+    /// How much of each page is used.
+    usable: u32,
+    first_trunk: u32,
+    free_pages: u32,
+}
+
+/// Reads where the walk begins. None where too little of each page is used.
+fn start_in(bytes: &[u8]) -> Option<Start>
+    requires large { 512 ≤ length bytes.now }
+    requires most { length bytes.now ≤ 65536 }
+    ensures usable { IfSome result (λ start. (start.usable ≡ length bytes.now - byte bytes.now 20) ×
+        (480 ≤ start.usable)) }
+    ensures none { result ≡ None → length bytes.now - byte bytes.now 20 < 480 }
+{
+    let usable = bytes.len() as u32 - u32::from(bytes[20]);
+    if usable < 480 {
+        return None;
+    }
+    Some(Start {
+        usable,
+        first_trunk: word_at(bytes, 32),
+        free_pages: word_at(bytes, 36),
+    })
+}
+
+/// Whether a fault is one of a row, and not of its chain.
+fn is_of_row(fault: Fault) -> bool {
+    match fault {
+        Fault::SchemaRecord | Fault::Source | Fault::NoMemory => true,
+        _ => false,
+    }
+}
+
+/// Whether a survey doesn't go on behind a fault.
+fn is_end(fault: Fault) -> bool
+    ensures { IsTrue result ↔ (fault ≡ Fault.Magic) ⊎ IsEnd fault }
+{
+    match fault {
+        Fault::Magic | Fault::Source | Fault::NoMemory => true,
+        _ => false,
+    }
+}
+
+/// Adds the root that a row names, or tells of the row. A chain that can't be read was told of before.
+fn keep_root(
+    chart: &mut Chart,
+    roots: &mut Vec<Root>,
+    count: u32,
+    holder: u32,
+    found: Result<u64, CheckError>,
+) -> Result<(), CheckError>
+    ensures ends { IfErr result (λ e. IsEnd e.fault) }
+    ensures long { length chart.new.roles.items ≡ length chart.old.roles.items }
+{
+    match found {
+        Ok(root) => add_root(roots, count, holder, root),
+        Err(error) => if is_of_row(error.fault) {
+            chart.tell(error)
+        } else {
+            Ok(())
+        },
+    }
+}
+
+/// Adds the roots that the sound rows in a leaf of the schema's tree name, and tells of the others. A chain that can't
+/// be read was told of before.
+fn survey_rows<V: Snapshot, S: PageSource>(
+    alloc: Global,
+    source: &mut S,
+    reader: &mut Reader<V>,
+    chart: &mut Chart,
+    number: u32,
+    roots: &mut Vec<Root>,
+) -> Result<(), CheckError>
+    requires same { SameSource V.pages V.size V.given (S.pages source.old) (S.size source.old)
+        (S.gives_pages source.old) }
+    ensures ends { IfErr result (λ e. IsEnd e.fault) }
+    ensures long { length chart.new.roles.items ≡ length chart.old.roles.items }
+    ensures usable { reader.new.usable ≡ reader.old.usable }
+    ensures same { SameSource V.pages V.size V.given (S.pages source.new) (S.size source.new)
+        (S.gives_pages source.new) }
+{
+    if number == 0 || number > source.count() {
+        return Ok(());
+    }
+    reader.read(source, number)?;
+    let count = source.count();
+    let mut content = Vec::new(alloc);
+    let Ok(page) = BtreePage::new(&reader.bytes, number, reader.usable) else {
+        return Ok(());
+    };
+    if page.kind() != Kind::TableLeaf {
+        return Ok(());
+    }
+    'rows: for i in 0..page.len() {
+        let cell = page.cell(i);
+        let found = row_root::<V, S>(alloc, source, &cell, &mut content);
+        keep_root(chart, roots, count, number, found)?;
+    }
+    Ok(())
+}
+
+/// The roots that the sound rows of the schema name, in their order, and tells of the other rows. `rows` are the leaves
+/// of its tree.
+fn sound_roots<V: Snapshot, S: PageSource>(
+    alloc: Global,
+    source: &mut S,
+    reader: &mut Reader<V>,
+    chart: &mut Chart,
+    rows: &[u32],
+) -> Result<Vec<Root>, CheckError>
+    requires same { SameSource V.pages V.size V.given (S.pages source.old) (S.size source.old)
+        (S.gives_pages source.old) }
+    ensures ends { IfErr result (λ e. IsEnd e.fault) }
+    ensures long { length chart.new.roles.items ≡ length chart.old.roles.items }
+    ensures usable { reader.new.usable ≡ reader.old.usable }
+    ensures same { SameSource V.pages V.size V.given (S.pages source.new) (S.size source.new)
+        (S.gives_pages source.new) }
+{
+    let mut roots = Vec::new(alloc);
+    'pages: for number in rows {
+        survey_rows(alloc, source, reader, chart, *number, &mut roots)?;
+    }
+    Ok(roots)
+}
+
+impl<V: Snapshot> Reader<V> {
+    /// The role in which an item names its page. Where the type byte of a page of a tree is none, it counts as a leaf.
+    fn role_named<S: PageSource>(
+        &mut self,
+        source: &mut S,
+        tree: &Tree,
+        item: Item,
+    ) -> Result<Role, CheckError>
+        requires page { IsPage V.pages item.page }
+        requires same { SameSource V.pages V.size V.given (S.pages source.old) (S.size source.old)
+            (S.gives_pages source.old) }
+        ensures ends { IfErr result (λ e. IsEnd e.fault) }
+        ensures usable { self.new.usable ≡ self.old.usable }
+        ensures same { SameSource V.pages V.size V.given (S.pages source.new) (S.size source.new)
+            (S.gives_pages source.new) }
+    {
+        match item.task {
+            Task::Trunk => Ok(Role::FreeTrunk),
+            Task::Leaf => Ok(Role::FreeLeaf),
+            Task::Link { owner, .. } => Ok(Role::Overflow { owner }),
+            Task::Node { .. } => {
+                self.read(source, item.page)?;
+                let head = if item.page == 1 { 100 } else { 0 };
+                let leaf = if tree.table {
+                    Kind::TableLeaf
+                } else {
+                    Kind::IndexLeaf
+                };
+                Ok(Role::Btree {
+                    kind: Kind::of(self.bytes[head]).unwrap_or(leaf),
+                    root: tree.root,
+                })
+            }
+        }
+    }
+}
+
+impl<V: Snapshot> Walker<V> {
+    /// Follows the places on the stack until one of them leads to a page that is sound. Tells of those that don't.
+    /// Whether there was one.
+    fn advance<S: PageSource>(
+        &mut self,
+        source: &mut S,
+        chart: &mut Chart,
+        tree: &Tree,
+    ) -> Result<bool, CheckError>
+        requires same { SameSource V.pages V.size V.given (S.pages source.old) (S.size source.old)
+            (S.gives_pages source.old) }
+        ensures ends { IfErr result (λ e. IsEnd e.fault) }
+        ensures long { length chart.new.roles.items ≡ length chart.old.roles.items }
+        ensures same { SameSource V.pages V.size V.given (S.pages source.new) (S.size source.new)
+            (S.gives_pages source.new) }
+    {
+        'places: while let Some(item) = self.walk.stack.pop() {
+            let left = self.walk.stack.len();
+            match self.follow(source, tree, item) {
+                Ok(role) => {
+                    chart.visit(item.page, role);
+                    return Ok(true);
+                }
+                Err(error) => {
+                    chart.tell(error)?;
+                    self.walk.stack.truncate(left);
+                    if self.uses.is_taken(item.page) && chart.is_unused(item.page) {
+                        let role = self.reader.role_named(source, tree, item)?;
+                        chart.visit(item.page, role);
+                    }
+                }
+            }
+        }
+        Ok(false)
+    }
+
+    /// Follows a place, and all that stand in the pages that it leads to, also behind faults.
+    fn survey_from<S: PageSource>(
+        &mut self,
+        source: &mut S,
+        chart: &mut Chart,
+        tree: &Tree,
+        item: Item,
+    ) -> Result<(), CheckError>
+        requires same { SameSource V.pages V.size V.given (S.pages source.old) (S.size source.old)
+            (S.gives_pages source.old) }
+        ensures ends { IfErr result (λ e. IsEnd e.fault) }
+        ensures long { length chart.new.roles.items ≡ length chart.old.roles.items }
+        ensures same { SameSource V.pages V.size V.given (S.pages source.new) (S.size source.new)
+            (S.gives_pages source.new) }
+    {
+        self.walk.leaf_level = None;
+        push(&mut self.walk.stack, item)?;
+        'pages: for _ in 0..=source.count() {
+            if !self.advance(source, chart, tree)? {
+                break;
+            }
+        }
+        Ok(())
+    }
+
+    /// Follows the freelist and the schema's tree, also behind faults.
+    fn survey_first<S: PageSource>(
+        &mut self,
+        source: &mut S,
+        chart: &mut Chart,
+        start: &Start,
+    ) -> Result<(), CheckError>
+        requires same { SameSource V.pages V.size V.given (S.pages source.old) (S.size source.old)
+            (S.gives_pages source.old) }
+        ensures ends { IfErr result (λ e. IsEnd e.fault) }
+        ensures long { length chart.new.roles.items ≡ length chart.old.roles.items }
+        ensures same { SameSource V.pages V.size V.given (S.pages source.new) (S.size source.new)
+            (S.gives_pages source.new) }
+    {
+        if start.first_trunk != 0 {
+            let trunk = Item {
+                holder: 1,
+                page: start.first_trunk,
+                task: Task::Trunk,
+            };
+            self.survey_from(source, chart, &NO_TREE, trunk)?;
+        }
+        if let Err(error) = self.judge_free_count(start.free_pages) {
+            chart.tell(error)?;
+        }
+        let first = Item {
+            holder: 1,
+            page: 1,
+            task: ROOT,
+        };
+        self.survey_from(source, chart, &SCHEMA_TREE, first)
+    }
+
+    /// Follows the tree of a root, also behind faults.
+    fn survey_root<S: PageSource>(
+        &mut self,
+        source: &mut S,
+        chart: &mut Chart,
+        root: Root,
+    ) -> Result<(), CheckError>
+        requires same { SameSource V.pages V.size V.given (S.pages source.old) (S.size source.old)
+            (S.gives_pages source.old) }
+        ensures ends { IfErr result (λ e. IsEnd e.fault) }
+        ensures long { length chart.new.roles.items ≡ length chart.old.roles.items }
+        ensures same { SameSource V.pages V.size V.given (S.pages source.new) (S.size source.new)
+            (S.gives_pages source.new) }
+    {
+        if root.page == 0 || root.page > u64::from(source.count()) {
+            return chart.tell(CheckError {
+                page: root.holder,
+                fault: Fault::PageOutside,
+            });
+        }
+        let page = root.page as u32;
+        let table = self.reader.names_table(source, page)?;
+        let tree = Tree {
+            root: page,
+            table,
+            schema: false,
+        };
+        let item = Item {
+            holder: root.holder,
+            page,
+            task: ROOT,
+        };
+        self.survey_from(source, chart, &tree, item)
+    }
+
+    /// Follows the trees of the roots that the sound rows of the schema name, also behind faults.
+    fn survey_others<S: PageSource>(
+        &mut self,
+        alloc: Global,
+        source: &mut S,
+        chart: &mut Chart,
+    ) -> Result<(), CheckError>
+        requires same { SameSource V.pages V.size V.given (S.pages source.old) (S.size source.old)
+            (S.gives_pages source.old) }
+        ensures ends { IfErr result (λ e. IsEnd e.fault) }
+        ensures long { length chart.new.roles.items ≡ length chart.old.roles.items }
+        ensures same { SameSource V.pages V.size V.given (S.pages source.new) (S.size source.new)
+            (S.gives_pages source.new) }
+    {
+        let roots = sound_roots(alloc, source, &mut self.reader, chart, &self.walk.rows)?;
+        'roots: for root in &roots {
+            self.survey_root(source, chart, *root)?;
+        }
+        Ok(())
+    }
+}
+
+/// Surveys the pages of a snapshot behind faults. Whether they can be walked over.
+fn survey_snapshot<V: Snapshot, S: PageSource>(
+    alloc: Global,
+    source: &mut S,
+    chart: &mut Chart,
+) -> Result<bool, CheckError>
+    requires same { (S.pages source.old ≡ V.pages) × (S.size source.old ≡ V.size) ×
+        (V.given → S.gives_pages source.old) }
+    ensures not { V.given → IfOk result (λ walked. walked ≡ false → usable_size V.pages < 480) }
+    ensures ends { IfErr result (λ e. IsEnd e.fault) }
+    ensures long { length chart.new.roles.items ≡ length chart.old.roles.items }
+    ensures same { (S.pages source.new ≡ V.pages) × (S.size source.new ≡ V.size) ×
+        (V.given → S.gives_pages source.new) }
+{
+    let count = source.count();
+    if count == 0 {
+        return Ok(false);
+    }
+    let size = source.page_size();
+    let mut bytes = match vec![in alloc; 0; size.get() as usize] {
+        Ok(bytes) => bytes,
+        Err(_) => return Err(NO_MEMORY),
+    };
+    read_page::<V, S>(source, 1, &mut bytes)?;
+    let Some(start) = start_in(&bytes) else {
+        return Ok(false);
+    };
+    if let Err(error) = judge_header(&bytes, size) {
+        chart.tell(error)?;
+    }
+    let reader: Reader<V> = Reader {
+        bytes,
+        usable: start.usable,
+        snapshot: PhantomData,
+    };
+    match new_walker(alloc, reader, count) {
+        Ok(mut walker) => {
+            walker.survey_first(source, chart, &start)?;
+            walker.survey_others(alloc, source, chart)?;
+        }
+        Err(_) => return Err(NO_MEMORY),
+    }
+    chart.tell_unused()?;
+    Ok(true)
+}
+
+/// A chart of the pages of a source on which nothing is put down.
+fn blank_chart<S: PageSource>(alloc: Global, source: &S) -> Result<Chart, CheckError>
+    ensures blank { IfOk result (λ chart. chart.roles.items ≡ replicate (length (S.pages source.now)) Unused) }
+    ensures none { IfOk result (λ chart. chart.faults.items ≡ []) }
+    ensures ends { IfErr result (λ e. e.fault ≡ Fault.NoMemory) }
+{
+    match Chart::blank(alloc, source.count()) {
+        Ok(chart) => Ok(chart),
+        Err(_) => Err(NO_MEMORY),
+    }
+}
+
+/// Surveys a database in which `check` finds this fault first.
+fn survey_behind<S: PageSource>(
+    alloc: Global,
+    source: &mut S,
+    first: CheckError,
+) -> Result<Survey, CheckError>
+    ensures answer { IfOk result (λ survey. (survey.answer ≡ Err first) × ¬ IsEnd first.fault) }
+    ensures err { S.gives_pages source.old → IfErr result (λ e. IsEnd e.fault ⊎ ((e ≡ first) ×
+        ((first.fault ≡ Fault.Magic) ⊎ (usable_size (S.pages source.old) < 480)))) }
+    ensures each { IfOk result (λ survey. length survey.roles.items ≡ length (S.pages source.old)) }
+    ensures still_gives { S.gives_pages source.old → S.gives_pages source.new }
+    ensures same { (S.pages source.new ≡ S.pages source.old) × (S.size source.new ≡ S.size source.old) }
+{
+    if is_end(first.fault) {
+        return Err(first);
+    }
+    let mut chart = blank_chart(alloc, source)?;
+    if !survey_snapshot::<Brand, S>(alloc, source, &mut chart)? {
+        return Err(first);
+    }
+    Ok(Survey {
+        roles: chart.roles,
+        faults: chart.faults,
+        answer: Err(first),
+    })
+}
+
+/// What `check` finds, and what each page of a database is used for, also of a damaged one (own). The walk is that of
+/// `check`, and goes on behind faults: each page has the role of the first place that names it, whatever is wrong with
+/// the page, and Unused where none does. A page of a tree whose type byte is none counts as a leaf. Nothing is followed
+/// in a page that is wrong in its role, or from a row of the schema that is none. `faults` has those of the header, of
+/// each place and of each row, and PageUnused of each page that is unused. Once a page of a tree is wrong, Depth is told
+/// of leaves that aren't on the level of the first one that is sound so far.
+///
+/// Refused by the first fault where page 1 is none of a database, or leaves fewer than 480 bytes of a page to be used;
+/// by Source where a page could not be read, and by NoMemory.
+pub fn survey_pages<S: PageSource>(alloc: Global, source: &mut S) -> Result<Survey, CheckError>
+    // Where the database is well formed, it finds so, without a fault, and the roles are those of the pages.
+    ensures clean { S.gives_pages source.old
+        → IfOk result (FindsClean (S.pages source.old) (S.size source.old)) }
+    // Otherwise its answer is a fault that stands at its page.
+    ensures damaged { S.gives_pages source.old
+        → IfOk result (FindsDamaged (S.pages source.old) (S.size source.old)) }
+    ensures refused { S.gives_pages source.old
+        → IfErr result (λ e. SurveyRefused (S.pages source.old) (S.size source.old) e.fault e.page) }
+    // Each page has one role.
+    ensures each { S.gives_pages source.old
+        → IfOk result (λ survey. length survey.roles.items ≡ length (S.pages source.old)) }
+    ensures still_gives { S.gives_pages source.old → S.gives_pages source.new }
+    ensures same { (S.pages source.new ≡ S.pages source.old) × (S.size source.new ≡ S.size source.old) }
+{
+    let mut chart = blank_chart(alloc, source)?;
+    match visit_pages(alloc, source, &mut chart) {
+        Ok(report) => Ok(Survey {
+            roles: chart.roles,
+            faults: Vec::new(alloc),
+            answer: Ok(report),
+        }),
+        Err(first) => survey_behind(alloc, source, first),
+    }
+}
