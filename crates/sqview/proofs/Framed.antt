@@ -6,7 +6,8 @@ use Rattle.sqwal.specs.Frames.{frame_at, page_of, size_of, IsValidFrame}
 use Rattle.sqwal.specs.View.{IsLast, IsView}
 use Rattle.sqwal.proofs.Same.{frame_at-end}
 use Rattle.sqview.specs.Laid.{part_or_zeros, place_of, laid}
-use Rattle.sqview.specs.ViewParts.{Noted, IsFramePlace, AreFramePlaces}
+use Rattle.sqview.specs.ViewParts.{Noted}
+use Rattle.sqview.specs.Origins.{IsFramePlace, AreFramePlaces}
 use Rattle.sqview.proofs.FileHeads.{part_is}
 use Rattle.sqview.proofs.Laying.{length_laid, page_laid, laid_own, laid_log}
 

@@ -1,11 +1,12 @@
 -- What is found of a view, or without one, is found of the files.
-use Rattle.std.proofs.Common.{◌≡◌, ℕ, List, refl, sym, ap, subst, inl, inr}
+use Rattle.std.proofs.Common.{◌≡◌, ℕ, List, refl, sym, subst, inl, inr}
 use Rattle.std.specs.Prelude.{IfOk, IfErr, Result, Ok, Err}
+use Rattle.sqval.specs.Limits.{Bounds}
 use Rattle.sqview.specs.Ahead.{IsUnread}
-use Rattle.sqview.specs.At.{IsShownAt, AtRefused}
+use Rattle.sqview.specs.At.{IsShownAtWithin, AtRefusedWithin}
 use Rattle.sqview.specs.Laid.{HoldsPart}
-use Rattle.sqview.specs.LogView.{IsShown, ViewRefused, pages_of}
-use Rattle.sqview.specs.Verdicts.{IsVerdict, IsVerdictAt, IsVerdictOf, IsUnjudged, AreUnjudged, AreUnjudgedAt, verdict_without}
+use Rattle.sqview.specs.LogView.{IsShownWithin, ViewRefusedWithin, pages_of}
+use Rattle.sqview.specs.Verdicts.{IsVerdictWithin, IsVerdictAtWithin, IsVerdictOf, IsUnjudged, AreUnjudgedWithin, AreUnjudgedAtWithin, verdict_without}
 use Rattle.sqview.specs.declared.judge_error.JudgeError.TheVariants as refusals
 use Rattle.sqview.specs.declared.judge_error.JudgeError.{JudgeError}
 use Rattle.sqview.specs.declared.read_ahead.ReadAhead.{ReadAhead}
@@ -15,23 +16,23 @@ use Rattle.sqview.specs.declared.view_error.ViewError.{ViewError}
 use Rattle.sqview.specs.declared.view_error.ViewError.TheVariants.{TwoLogs, TooLarge, Header, Unread, NoMemory, NoSuchCommit}
 use Rattle.sqview.proofs.Ahead.{holds_nothing}
 
-module _ {F : Type 0} (bytes : F → List ℕ) (db wal journal : List ℕ) (v : View F) where
-  pub of_files : (r : Result Verdict JudgeError) → IsShown bytes db wal journal v → IfOk r (IsVerdictOf bytes v) → IfOk r (IsVerdict db wal journal)
+module _ {F : Type 0} (limits : Bounds) (bytes : F → List ℕ) (db wal journal : List ℕ) (v : View F) where
+  pub of_files : (r : Result Verdict JudgeError) → IsShownWithin limits bytes db wal journal v → IfOk r (IsVerdictOf bytes v) → IfOk r (IsVerdictWithin limits db wal journal)
   of_files (Ok verdict) shown finds = inl (v.page_size, pages_of bytes v, shown.shows, finds)
   of_files (Err e) shown finds = finds
 
-  pub unjudged_files : (r : Result Verdict JudgeError) → IsShown bytes db wal journal v → IfErr r (IsUnjudged (pages_of bytes v)) → IfErr r (AreUnjudged db wal journal)
+  pub unjudged_files : (r : Result Verdict JudgeError) → IsShownWithin limits bytes db wal journal v → IfErr r (IsUnjudged (pages_of bytes v)) → IfErr r (AreUnjudgedWithin limits db wal journal)
   unjudged_files (Ok verdict) shown refused = refused
   unjudged_files (Err refusals.NoMemory) shown refused = tt
   unjudged_files (Err refusals.TwoLogs) shown refused = absurd refused
   unjudged_files (Err refusals.TooLarge) shown refused = absurd refused
   unjudged_files (Err refusal) shown refused = (v.page_size, pages_of bytes v, shown.shows, refused)
 
-  pub of_files_at : (m : ℕ) (r : Result Verdict JudgeError) → IsShownAt bytes m db wal journal v → IfOk r (IsVerdictOf bytes v) → IfOk r (IsVerdictAt m db wal journal)
+  pub of_files_at : (m : ℕ) (r : Result Verdict JudgeError) → IsShownAtWithin limits bytes m db wal journal v → IfOk r (IsVerdictOf bytes v) → IfOk r (IsVerdictAtWithin limits m db wal journal)
   of_files_at m (Ok verdict) shown finds = inl (v.page_size, pages_of bytes v, shown.shows, finds)
   of_files_at m (Err e) shown finds = finds
 
-  pub unjudged_files_at : (m : ℕ) (r : Result Verdict JudgeError) → IsShownAt bytes m db wal journal v → IfErr r (IsUnjudged (pages_of bytes v)) → IfErr r (AreUnjudgedAt m db wal journal)
+  pub unjudged_files_at : (m : ℕ) (r : Result Verdict JudgeError) → IsShownAtWithin limits bytes m db wal journal v → IfErr r (IsUnjudged (pages_of bytes v)) → IfErr r (AreUnjudgedAtWithin limits m db wal journal)
   unjudged_files_at m (Ok verdict) shown refused = refused
   unjudged_files_at m (Err refusals.NoMemory) shown refused = tt
   unjudged_files_at m (Err refusals.TwoLogs) shown refused = absurd refused
@@ -40,8 +41,8 @@ module _ {F : Type 0} (bytes : F → List ℕ) (db wal journal : List ℕ) (v : 
   unjudged_files_at m (Err refusal) shown refused = (v.page_size, pages_of bytes v, shown.shows, refused)
 
 -- without a view
-module _ (db wal journal : List ℕ) where
-  pub found_without : (e : ViewError) → ViewRefused db wal journal e → IfOk (verdict_without e) (IsVerdict db wal journal)
+module _ (limits : Bounds) (db wal journal : List ℕ) where
+  pub found_without : (e : ViewError) → ViewRefusedWithin limits db wal journal e → IfOk (verdict_without e) (IsVerdictWithin limits db wal journal)
   found_without (Header fault) refused = inr (refl, refused)
   found_without TwoLogs refused = tt
   found_without TooLarge refused = tt
@@ -49,7 +50,7 @@ module _ (db wal journal : List ℕ) where
   found_without NoMemory refused = tt
   found_without NoSuchCommit refused = tt
 
-  pub unjudged_without : (e : ViewError) → ViewRefused db wal journal e → IfErr (verdict_without e) (AreUnjudged db wal journal)
+  pub unjudged_without : (e : ViewError) → ViewRefusedWithin limits db wal journal e → IfErr (verdict_without e) (AreUnjudgedWithin limits db wal journal)
   unjudged_without (Header fault) refused = tt
   unjudged_without TwoLogs refused = refused
   unjudged_without TooLarge refused = refused
@@ -57,7 +58,7 @@ module _ (db wal journal : List ℕ) where
   unjudged_without NoMemory refused = tt
   unjudged_without NoSuchCommit refused = absurd refused
 
-  pub found_without_at : (m : ℕ) (e : ViewError) → AtRefused m db wal journal e → IfOk (verdict_without e) (IsVerdictAt m db wal journal)
+  pub found_without_at : (m : ℕ) (e : ViewError) → AtRefusedWithin limits m db wal journal e → IfOk (verdict_without e) (IsVerdictAtWithin limits m db wal journal)
   found_without_at m (Header fault) refused = inr (refl, refused)
   found_without_at m TwoLogs refused = tt
   found_without_at m TooLarge refused = tt
@@ -65,7 +66,7 @@ module _ (db wal journal : List ℕ) where
   found_without_at m NoMemory refused = tt
   found_without_at m NoSuchCommit refused = tt
 
-  pub unjudged_without_at : (m : ℕ) (e : ViewError) → AtRefused m db wal journal e → IfErr (verdict_without e) (AreUnjudgedAt m db wal journal)
+  pub unjudged_without_at : (m : ℕ) (e : ViewError) → AtRefusedWithin limits m db wal journal e → IfErr (verdict_without e) (AreUnjudgedAtWithin limits m db wal journal)
   unjudged_without_at m (Header fault) refused = tt
   unjudged_without_at m TwoLogs refused = refused
   unjudged_without_at m TooLarge refused = refused

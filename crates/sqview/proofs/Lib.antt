@@ -1,3 +1,4 @@
+pub mod Limited
 pub mod Laying
 pub mod FileHeads
 pub mod Recorded
@@ -8,3 +9,4 @@ pub mod Pieces
 pub mod Ahead
 pub mod Runs
 pub mod Judging
+mod Origins

@@ -4,8 +4,8 @@ use Rattle.std.specs.Prelude.{Result, Ok, Err, MatchResult}
 use Rattle.std.proofs.lemmas.List.{take-append-drop, take_all, get_or-drop, drop_all, length-take-le}
 use Rattle.std.proofs.Math.Seq.{take-add}
 use Rattle.sqval.specs.Bytes.{AreBytes}
-use Rattle.sqwal.specs.Took.{Took, IsSettled}
-use Rattle.sqwal.specs.Answers.{FeedAnswer, LogRefused}
+use Rattle.sqwal.specs.Took.{TookWithin, IsSettledWithin}
+use Rattle.sqwal.specs.Answers.{FeedAnswerWithin, LogRefusedWithin}
 use Rattle.sqwal.specs.declared.scan.Scan.{Scan}
 use Rattle.sqwal.specs.declared.error.WalFormatError.{WalFormatError}
 use Rattle.sqwal.proofs.Scanning.{log_refused-more}
@@ -31,10 +31,10 @@ module _ (w piece : List ℕ) (at n : ℕ) (le : at + n ≤ length w) (read : pi
   front_is : take at w ++ piece ≡ take (at + n) w
   front_is = front_piece w piece at n le read
 
-  pub scan_fed : (r : Result (Unit {0}) WalFormatError) (s : Scan) → FeedAnswer (take at w) piece r s → ScanPiece w (at + n) (Ok r) s
-  scan_fed (Ok x) s a = subst (λ (l : List ℕ). Took l s) front_is a.0
-  scan_fed (Err e) s a = subst (λ (l : List ℕ). LogRefused l e) rest_is
-      (log_refused-more (take (at + n) w) (drop (at + n) w) e (subst (λ (l : List ℕ). LogRefused l e) front_is a.1))
+  pub scan_fed : (most : ℕ) (r : Result (Unit {0}) WalFormatError) (s : Scan) → FeedAnswerWithin most (take at w) piece r s → ScanPiece most w (at + n) (Ok r) s
+  scan_fed most (Ok x) s a = subst (λ (l : List ℕ). TookWithin most l s) front_is a.0
+  scan_fed most (Err e) s a = subst (λ (l : List ℕ). LogRefusedWithin most l e) rest_is
+      (log_refused-more most (take (at + n) w) (drop (at + n) w) e (subst (λ (l : List ℕ). LogRefusedWithin most l e) front_is a.1))
 
   replay_refused : (e : JournalError) → length w ≤ 2 ^ 40 → Refuses (take (at + n) w) e → (r : Replay) → ReplayPiece w (at + n) (Ok (Err e)) r
   replay_refused NoMemory short bad r = tt
@@ -52,9 +52,9 @@ module _ (w piece : List ℕ) (at n : ℕ) (le : at + n ≤ length w) (read : pi
 -- ---- one piece more
 
 module _ (w v : List ℕ) (same : v ≡ w) (at n : ℕ) (le : at + n ≤ length w) where
-  pub scan_on : (r : Result (Result (Unit {0}) WalFormatError) SourceError) (s t : Scan) → Took (take at w) s
-      → (at + n ≤ length v → Took (take at v) s → ScanPiece v (at + n) r t) → ScanPiece w (at + n) r t
-  scan_on r s t took fed = subst (λ (l : List ℕ). at + n ≤ length l → Took (take at l) s → ScanPiece l (at + n) r t) same fed le took
+  pub scan_on : (most : ℕ) (r : Result (Result (Unit {0}) WalFormatError) SourceError) (s t : Scan) → TookWithin most (take at w) s
+      → (at + n ≤ length v → TookWithin most (take at v) s → ScanPiece most v (at + n) r t) → ScanPiece most w (at + n) r t
+  scan_on most r s t took fed = subst (λ (l : List ℕ). at + n ≤ length l → TookWithin most (take at l) s → ScanPiece most l (at + n) r t) same fed le took
 
   pub replay_on : (r : Result (Result (Unit {0}) JournalError) SourceError) (s t : Replay) → length w ≤ 2 ^ 40 → ReplayTook (take at w) s
       → (at + n ≤ length v → length v ≤ 2 ^ 40 → ReplayTook (take at v) s → ReplayPiece v (at + n) r t) → ReplayPiece w (at + n) r t
@@ -62,11 +62,11 @@ module _ (w v : List ℕ) (same : v ≡ w) (at n : ℕ) (le : at + n ≤ length 
 
 -- ---- where nothing more is read
 
-pub all_taken : (w : List ℕ) (at : ℕ) (s : Scan) → length w ≤ at → Took (take at w) s → Took w s
-all_taken w at s le took = subst (λ (l : List ℕ). Took l s) (take_all at w le) took
+pub all_taken : {most : ℕ} (w : List ℕ) (at : ℕ) (s : Scan) → length w ≤ at → TookWithin most (take at w) s → TookWithin most w s
+all_taken {most} w at s le took = subst (λ (l : List ℕ). TookWithin most l s) (take_all at w le) took
 
-pub over_taken : (w : List ℕ) (at : ℕ) (s : Scan) → AreBytes w → IsSettled (take at w) s → Took w s
-over_taken w at s are settled = subst (λ (l : List ℕ). Took l s) (take-append-drop at w) (settled (drop at w) (λ i. rw (get_or-drop at w i 0) (are (at + i))))
+pub over_taken : (most : ℕ) (w : List ℕ) (at : ℕ) (s : Scan) → AreBytes w → IsSettledWithin most (take at w) s → TookWithin most w s
+over_taken most w at s are settled = subst (λ (l : List ℕ). TookWithin most l s) (take-append-drop at w) (settled (drop at w) (λ i. rw (get_or-drop at w i 0) (are (at + i))))
 
 pub all_read : (w : List ℕ) (at : ℕ) (r : Replay) → length w ≤ at → ReplayTook (take at w) r → HasRead w r
 all_read w at r le took = record { front = take at w; more = drop at w; split = sym (take-append-drop at w); took = took; rest = inl (drop_all at w le) }
@@ -84,15 +84,15 @@ piece_within xs w at end count long is lt e = omega (arith, piece_long xs at end
 
 -- ---- what became of a piece
 
-module _ (w : List ℕ) (end : ℕ) (r : Result (Result (Unit {0}) WalFormatError) SourceError) (t : Scan) (is : ScanPiece w end r t) where
+module _ (most : ℕ) (w : List ℕ) (end : ℕ) (r : Result (Result (Unit {0}) WalFormatError) SourceError) (t : Scan) (is : ScanPiece most w end r t) where
   pub scan_unread : (e : SourceError) → r ≡ Err e → ⊥
-  scan_unread e was = subst (λ (q : Result (Result (Unit {0}) WalFormatError) SourceError). ScanPiece w end q t) was is
+  scan_unread e was = subst (λ (q : Result (Result (Unit {0}) WalFormatError) SourceError). ScanPiece most w end q t) was is
 
-  pub scan_bad : (q : Result (Unit {0}) WalFormatError) (e : WalFormatError) → r ≡ Ok q → q ≡ Err e → LogRefused w e
-  scan_bad q e was bad = subst (λ (q : Result (Result (Unit {0}) WalFormatError) SourceError). ScanPiece w end q t) (was ∙ ap Ok bad) is
+  pub scan_bad : (q : Result (Unit {0}) WalFormatError) (e : WalFormatError) → r ≡ Ok q → q ≡ Err e → LogRefusedWithin most w e
+  scan_bad q e was bad = subst (λ (q : Result (Result (Unit {0}) WalFormatError) SourceError). ScanPiece most w end q t) (was ∙ ap Ok bad) is
 
-  pub scan_good : (q : Result (Unit {0}) WalFormatError) (x : Unit {0}) → r ≡ Ok q → q ≡ Ok x → Took (take end w) t
-  scan_good q x was good = subst (λ (q : Result (Result (Unit {0}) WalFormatError) SourceError). ScanPiece w end q t) (was ∙ ap Ok good) is
+  pub scan_good : (q : Result (Unit {0}) WalFormatError) (x : Unit {0}) → r ≡ Ok q → q ≡ Ok x → TookWithin most (take end w) t
+  scan_good q x was good = subst (λ (q : Result (Result (Unit {0}) WalFormatError) SourceError). ScanPiece most w end q t) (was ∙ ap Ok good) is
 
 module _ (b : List ℕ) (end : ℕ) (r : Result (Result (Unit {0}) JournalError) SourceError) (t : Replay) (is : ReplayPiece b end r t) where
   pub replay_unread : (e : SourceError) → r ≡ Err e → ⊥

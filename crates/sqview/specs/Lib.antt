@@ -1,4 +1,5 @@
 pub mod Laid
+pub mod Origins
 pub mod Logs
 pub mod LogView
 pub mod At

@@ -2,10 +2,10 @@
 use Rattle.std.specs.Prelude.{◌≡◌, ◌⊎◌, ℕ, suc, ◌*◌, ◌^◌, ◌<◌, ◌≤◌, ◌==◌, cond, List, [], length, Result, Ok, Err}
 use Rattle.sqval.specs.Bytes.{word}
 use Rattle.sqval.specs.Database.{Database, page, file_page, file_pages}
+use Rattle.sqval.specs.Limits.{Bounds, usual}
 use Rattle.sqval.specs.PageSize.{IsPageSize}
 use Rattle.sqwal.specs.Header.{named_size}
 use Rattle.sqwal.specs.Frames.{size_of, IsValidFrame, IsFront}
-use Rattle.sqwal.specs.Refusal.{most_frames}
 use Rattle.sqwal.specs.View.{IsView}
 use Rattle.sqjournal.specs.Journal.{IsHot}
 use Rattle.sqjournal.specs.Restored.{IsRolledBack}
@@ -13,13 +13,10 @@ use Rattle.sqpage.specs.Header.{HasMagic, HasPageSize, size_named}
 use Rattle.sqpage.specs.declared.fault.Fault.TheVariants as faults
 use Rattle.sqview.specs.Laid.{laid}
 use Rattle.sqview.specs.Logs.{AreTwoLogs}
+use Rattle.sqview.specs.Origins.{AreFramePlaces}
 use Rattle.sqview.specs.declared.view.View.{View}
 use Rattle.sqview.specs.declared.view_error.ViewError.{ViewError}
 use Rattle.sqview.specs.declared.view_error.ViewError.TheVariants.{TwoLogs, TooLarge, Header, Unread, NoMemory, NoSuchCommit}
-
--- the most bytes of a database (own)
-abbrev pub most_bytes : ℕ
-most_bytes = 1073741824
 
 -- the first 100 bytes of a file, with zeros past its end
 unfoldable pub head_of : (file : List ℕ) → List ℕ
@@ -65,24 +62,26 @@ HasSizes size count db wal journal =
     ⊎ ((front : ℕ) × IsLogged wal journal front × (size ≡ named_size wal) × (count ≡ size_of size wal front))
     ⊎ (IsAlone wal journal × IsPageSize size × (size ≡ size_named (head_of db)) × (count ≡ own_pages size db))
 
--- the one that counts is longer than one that is scanned
-abbrev pub IsTooLong : (wal journal : List ℕ) → Type 0
-IsTooLong wal journal = (IsHot journal × (2 ^ 40 < length journal)) ⊎ ((¬ IsHot journal) × IsValidFrame (named_size wal) wal (suc most_frames))
+-- the one that counts is longer than one that is read within these limits: a journal of more than 2 ^ 40 bytes, or a
+-- log of more valid frames
+abbrev pub IsTooLongWithin : (limits : Bounds) (wal journal : List ℕ) → Type 0
+IsTooLongWithin limits wal journal =
+    (IsHot journal × (2 ^ 40 < length journal)) ⊎ ((¬ IsHot journal) × IsValidFrame (named_size wal) wal (suc limits.frames))
 
 -- the database would be above the limit
-abbrev pub IsAbove : (db wal journal : List ℕ) → Type 0
-IsAbove db wal journal = (size : ℕ) × (count : ℕ) × HasSizes size count db wal journal × (most_bytes < count * size)
+abbrev pub IsAboveWithin : (limits : Bounds) (db wal journal : List ℕ) → Type 0
+IsAboveWithin limits db wal journal = (size : ℕ) × (count : ℕ) × HasSizes size count db wal journal × (limits.bytes < count * size)
 
--- what refuses a view, where the file is read: the first condition that holds
-abbrev pub ViewRefused : (db wal journal : List ℕ) → ViewError → Type 0
-ViewRefused db wal journal TwoLogs = AreTwoLogs wal journal
-ViewRefused db wal journal TooLarge = (¬ AreTwoLogs wal journal) × (IsTooLong wal journal ⊎ ((¬ IsTooLong wal journal) × IsAbove db wal journal))
-ViewRefused db wal journal (Header faults.Magic) = (¬ IsTooLong wal journal) × (¬ IsAbove db wal journal) × IsAlone wal journal × ¬ HasMagic (head_of db)
-ViewRefused db wal journal (Header faults.PageSize) = (¬ IsTooLong wal journal) × (¬ IsAbove db wal journal) × IsAlone wal journal × HasMagic (head_of db) × ¬ HasPageSize (head_of db)
-ViewRefused db wal journal (Header _) = ⊥
-ViewRefused db wal journal Unread = ⊥
-ViewRefused db wal journal NoMemory = Unit {0}
-ViewRefused db wal journal NoSuchCommit = ⊥
+-- what refuses a view within these limits, where the file is read: the first condition that holds
+abbrev pub ViewRefusedWithin : (limits : Bounds) (db wal journal : List ℕ) → ViewError → Type 0
+ViewRefusedWithin limits db wal journal TwoLogs = AreTwoLogs wal journal
+ViewRefusedWithin limits db wal journal TooLarge = (¬ AreTwoLogs wal journal) × (IsTooLongWithin limits wal journal ⊎ ((¬ IsTooLongWithin limits wal journal) × IsAboveWithin limits db wal journal))
+ViewRefusedWithin limits db wal journal (Header faults.Magic) = (¬ IsTooLongWithin limits wal journal) × (¬ IsAboveWithin limits db wal journal) × IsAlone wal journal × ¬ HasMagic (head_of db)
+ViewRefusedWithin limits db wal journal (Header faults.PageSize) = (¬ IsTooLongWithin limits wal journal) × (¬ IsAboveWithin limits db wal journal) × IsAlone wal journal × HasMagic (head_of db) × ¬ HasPageSize (head_of db)
+ViewRefusedWithin limits db wal journal (Header _) = ⊥
+ViewRefusedWithin limits db wal journal Unread = ⊥
+ViewRefusedWithin limits db wal journal NoMemory = Unit {0}
+ViewRefusedWithin limits db wal journal NoSuchCommit = ⊥
 
 -- the pages of a view, by what its file and its log have
 abbrev pub pages_of : {F : Type 0} → (bytes : F → List ℕ) → View F → Database
@@ -93,19 +92,30 @@ abbrev pub StandsAt : (wal journal : List ℕ) (front : ℕ) → Type 0
 StandsAt wal journal front = IsLogged wal journal front ⊎ ((front ≡ 0) × ((m : ℕ) → ¬ IsLogged wal journal m))
 
 -- a view of these files that is not refused
-pub record IsShown {F : Type 0} (bytes : F → List ℕ) (db wal journal : List ℕ) (v : View F) : Type 0 where
+pub record IsShownWithin {F : Type 0} (limits : Bounds) (bytes : F → List ℕ) (db wal journal : List ℕ) (v : View F) : Type 0 where
   pub shows : Views v.page_size db wal journal (pages_of bytes v)
   pub one : ¬ AreTwoLogs wal journal
-  pub short : ¬ IsTooLong wal journal
-  pub within : ¬ IsAbove db wal journal
+  pub short : ¬ IsTooLongWithin limits wal journal
+  pub within : ¬ IsAboveWithin limits db wal journal
   pub headed : IsAlone wal journal → HasMagic (head_of db)
   pub stands : StandsAt wal journal v.front
   pub unplaced : IsAlone wal journal → v.places.items ≡ []
   pub placed : (¬ IsAlone wal journal) → length v.places.items ≡ v.count
+  pub framed : 1 ≤ v.front → AreFramePlaces v.page_size wal v.front v.count v.places.items
+
+abbrev pub ViewAnswerWithin : {F : Type 0} → (limits : Bounds) (bytes : F → List ℕ) (db wal journal : List ℕ) → Result (View F) ViewError → Type 0
+ViewAnswerWithin limits bytes db wal journal (Ok v) = IsShownWithin limits bytes db wal journal v
+ViewAnswerWithin limits bytes db wal journal (Err e) = ViewRefusedWithin limits db wal journal e
+
+-- the same at the usual limits
+abbrev pub ViewRefused : (db wal journal : List ℕ) → ViewError → Type 0
+ViewRefused db wal journal e = ViewRefusedWithin usual db wal journal e
+
+abbrev pub IsShown : {F : Type 0} → (bytes : F → List ℕ) → (db wal journal : List ℕ) → View F → Type 0
+IsShown bytes db wal journal v = IsShownWithin usual bytes db wal journal v
 
 abbrev pub ViewAnswer : {F : Type 0} → (bytes : F → List ℕ) → (db wal journal : List ℕ) → Result (View F) ViewError → Type 0
-ViewAnswer bytes db wal journal (Ok v) = IsShown bytes db wal journal v
-ViewAnswer bytes db wal journal (Err e) = ViewRefused db wal journal e
+ViewAnswer bytes db wal journal r = ViewAnswerWithin usual bytes db wal journal r
 
 -- whose bytes a view reads: the file's, and a hot journal's, otherwise the write-ahead log's
 pub record ReadsFrom (db wal journal file log : List ℕ) : Type 0 where

@@ -1,7 +1,8 @@
 -- What is read of logs, and which of them counts (own).
 use Rattle.std.specs.Prelude.{◌≡◌, ◌≢◌, ◌⊎◌, ℕ, ◌^◌, ◌≤◌, List, [], ◌++◌, length, Option, Result, Ok, Err, MatchResult}
-use Rattle.sqwal.specs.Took.{Took}
-use Rattle.sqwal.specs.Answers.{LogRefused}
+use Rattle.sqwal.specs.Refusal.{most_frames}
+use Rattle.sqwal.specs.Took.{TookWithin}
+use Rattle.sqwal.specs.Answers.{LogRefusedWithin}
 use Rattle.sqwal.specs.declared.scan.Scan.{Scan}
 use Rattle.sqwal.specs.declared.error.WalFormatError.{WalFormatError}
 use Rattle.sqjournal.specs.Header.{Names}
@@ -33,11 +34,15 @@ CountsAnswer wal journal (Err e) = ⊥
 abbrev pub HotAnswer : (journal : List ℕ) → Result (Option JournalHeader) SourceError → Type 0
 HotAnswer journal answer = MatchResult answer (IsFirst journal) (λ e. ⊥)
 
--- the scan of a log, or what refuses it
+-- the scan of a log of at most so many frames, or what refuses it
+abbrev pub ScanAnswerWithin : (most : ℕ) → List ℕ → Result (Result Scan WalFormatError) SourceError → Type 0
+ScanAnswerWithin most w (Ok (Ok s)) = TookWithin most w s
+ScanAnswerWithin most w (Ok (Err e)) = LogRefusedWithin most w e
+ScanAnswerWithin most w (Err e) = ⊥
+
+-- the same at the usual limit
 abbrev pub ScanAnswer : List ℕ → Result (Result Scan WalFormatError) SourceError → Type 0
-ScanAnswer w (Ok (Ok s)) = Took w s
-ScanAnswer w (Ok (Err e)) = LogRefused w e
-ScanAnswer w (Err e) = ⊥
+ScanAnswer w r = ScanAnswerWithin most_frames w r
 
 -- the replay took these bytes, or a front of them behind which none change what the journal says
 pub record HasRead (b : List ℕ) (r : Replay) : Type 0 where

@@ -2,10 +2,11 @@
 use Rattle.std.specs.Prelude.{◌≡◌, ◌≢◌, ◌⊎◌, ℕ, List, Result, Ok, Err}
 use Rattle.sqval.specs.Bytes.{word}
 use Rattle.sqval.specs.Database.{Database, page}
+use Rattle.sqval.specs.Limits.{Bounds, usual}
 use Rattle.sqcheck.specs.WellFormed.{WellFormed, IsReport}
 use Rattle.sqcheck.specs.Stands.{Stands}
-use Rattle.sqview.specs.At.{ViewsAt, AtRefused}
-use Rattle.sqview.specs.LogView.{Views, ViewRefused, pages_of}
+use Rattle.sqview.specs.At.{ViewsAt, AtRefusedWithin}
+use Rattle.sqview.specs.LogView.{Views, ViewRefusedWithin, pages_of}
 use Rattle.sqview.specs.declared.judge_error.JudgeError.{JudgeError}
 use Rattle.sqview.specs.declared.judge_error.JudgeError.TheVariants as refusals
 use Rattle.sqview.specs.declared.view.View.{View}
@@ -33,14 +34,14 @@ verdict_without NoMemory = Err refusals.NoMemory
 verdict_without NoSuchCommit = Err refusals.NoSuchCommit
 
 -- the file's own header names no database
-abbrev pub IsHeadless : (db wal journal : List ℕ) → Verdict → Type 0
-IsHeadless db wal journal (Clean report) = ⊥
-IsHeadless db wal journal (Damaged e) = (e.page ≡ 1) × ViewRefused db wal journal (Header e.fault)
+abbrev pub IsHeadlessWithin : (limits : Bounds) (db wal journal : List ℕ) → Verdict → Type 0
+IsHeadlessWithin limits db wal journal (Clean report) = ⊥
+IsHeadlessWithin limits db wal journal (Damaged e) = (e.page ≡ 1) × ViewRefusedWithin limits db wal journal (Header e.fault)
 
--- Of files: the same of the database that they show, or the fault of a header that names none.
-abbrev pub IsVerdict : (db wal journal : List ℕ) → Verdict → Type 0
-IsVerdict db wal journal verdict =
-    ((size : ℕ) × (d : Database) × Views size db wal journal d × Finds d size verdict) ⊎ IsHeadless db wal journal verdict
+-- Of files within limits: the same of the database that they show, or the fault of a header that names none.
+abbrev pub IsVerdictWithin : (limits : Bounds) (db wal journal : List ℕ) → Verdict → Type 0
+IsVerdictWithin limits db wal journal verdict =
+    ((size : ℕ) × (d : Database) × Views size db wal journal d × Finds d size verdict) ⊎ IsHeadlessWithin limits db wal journal verdict
 
 -- why a database isn't judged: its header says that it has pointer maps, or memory ran out
 abbrev pub IsUnjudged : Database → JudgeError → Type 0
@@ -48,28 +49,41 @@ IsUnjudged d refusals.AutoVacuum = word (page d 1) 52 ≢ 0
 IsUnjudged d refusals.NoMemory = Unit {0}
 IsUnjudged d _ = ⊥
 
--- Why files aren't judged: what refuses their view, where a header that names no database doesn't, or the database that they
--- show isn't judged.
-abbrev pub AreUnjudged : (db wal journal : List ℕ) → JudgeError → Type 0
-AreUnjudged db wal journal refusals.TwoLogs = ViewRefused db wal journal TwoLogs
-AreUnjudged db wal journal refusals.TooLarge = ViewRefused db wal journal TooLarge
-AreUnjudged db wal journal refusals.NoMemory = Unit {0}
-AreUnjudged db wal journal refusal = (size : ℕ) × (d : Database) × Views size db wal journal d × IsUnjudged d refusal
+-- Why files aren't judged within limits: what refuses their view, where a header that names no database doesn't, or
+-- the database that they show isn't judged.
+abbrev pub AreUnjudgedWithin : (limits : Bounds) (db wal journal : List ℕ) → JudgeError → Type 0
+AreUnjudgedWithin limits db wal journal refusals.TwoLogs = ViewRefusedWithin limits db wal journal TwoLogs
+AreUnjudgedWithin limits db wal journal refusals.TooLarge = ViewRefusedWithin limits db wal journal TooLarge
+AreUnjudgedWithin limits db wal journal refusals.NoMemory = Unit {0}
+AreUnjudgedWithin limits db wal journal refusal = (size : ℕ) × (d : Database) × Views size db wal journal d × IsUnjudged d refusal
 
 -- the fault of the file's own header, which names no database, where no log is to be taken
-abbrev pub IsHeadlessAt : (m : ℕ) (db wal journal : List ℕ) → Verdict → Type 0
-IsHeadlessAt m db wal journal (Clean report) = ⊥
-IsHeadlessAt m db wal journal (Damaged e) = (e.page ≡ 1) × AtRefused m db wal journal (Header e.fault)
+abbrev pub IsHeadlessAtWithin : (limits : Bounds) (m : ℕ) (db wal journal : List ℕ) → Verdict → Type 0
+IsHeadlessAtWithin limits m db wal journal (Clean report) = ⊥
+IsHeadlessAtWithin limits m db wal journal (Damaged e) = (e.page ≡ 1) × AtRefusedWithin limits m db wal journal (Header e.fault)
 
 -- Of files at commit frame m: the same of the database there, or the fault of a header that names none.
-abbrev pub IsVerdictAt : (m : ℕ) (db wal journal : List ℕ) → Verdict → Type 0
-IsVerdictAt m db wal journal verdict =
-    ((size : ℕ) × (d : Database) × ViewsAt m size db wal journal d × Finds d size verdict) ⊎ IsHeadlessAt m db wal journal verdict
+abbrev pub IsVerdictAtWithin : (limits : Bounds) (m : ℕ) (db wal journal : List ℕ) → Verdict → Type 0
+IsVerdictAtWithin limits m db wal journal verdict =
+    ((size : ℕ) × (d : Database) × ViewsAt m size db wal journal d × Finds d size verdict) ⊎ IsHeadlessAtWithin limits m db wal journal verdict
 
 -- why files aren't judged at commit frame m: what refuses their view there, or the database there isn't judged
+abbrev pub AreUnjudgedAtWithin : (limits : Bounds) (m : ℕ) (db wal journal : List ℕ) → JudgeError → Type 0
+AreUnjudgedAtWithin limits m db wal journal refusals.TwoLogs = AtRefusedWithin limits m db wal journal TwoLogs
+AreUnjudgedAtWithin limits m db wal journal refusals.TooLarge = AtRefusedWithin limits m db wal journal TooLarge
+AreUnjudgedAtWithin limits m db wal journal refusals.NoSuchCommit = AtRefusedWithin limits m db wal journal NoSuchCommit
+AreUnjudgedAtWithin limits m db wal journal refusals.NoMemory = Unit {0}
+AreUnjudgedAtWithin limits m db wal journal refusal = (size : ℕ) × (d : Database) × ViewsAt m size db wal journal d × IsUnjudged d refusal
+
+-- the same at the usual limits
+abbrev pub IsVerdict : (db wal journal : List ℕ) → Verdict → Type 0
+IsVerdict db wal journal verdict = IsVerdictWithin usual db wal journal verdict
+
+abbrev pub AreUnjudged : (db wal journal : List ℕ) → JudgeError → Type 0
+AreUnjudged db wal journal e = AreUnjudgedWithin usual db wal journal e
+
+abbrev pub IsVerdictAt : (m : ℕ) (db wal journal : List ℕ) → Verdict → Type 0
+IsVerdictAt m db wal journal verdict = IsVerdictAtWithin usual m db wal journal verdict
+
 abbrev pub AreUnjudgedAt : (m : ℕ) (db wal journal : List ℕ) → JudgeError → Type 0
-AreUnjudgedAt m db wal journal refusals.TwoLogs = AtRefused m db wal journal TwoLogs
-AreUnjudgedAt m db wal journal refusals.TooLarge = AtRefused m db wal journal TooLarge
-AreUnjudgedAt m db wal journal refusals.NoSuchCommit = AtRefused m db wal journal NoSuchCommit
-AreUnjudgedAt m db wal journal refusals.NoMemory = Unit {0}
-AreUnjudgedAt m db wal journal refusal = (size : ℕ) × (d : Database) × ViewsAt m size db wal journal d × IsUnjudged d refusal
+AreUnjudgedAt m db wal journal e = AreUnjudgedAtWithin usual m db wal journal e

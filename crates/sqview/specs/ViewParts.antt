@@ -1,11 +1,10 @@
 -- What the parts of a view promise one another.
-use Rattle.std.specs.Prelude.{◌≡◌, ◌⊎◌, ℕ, suc, ◌+◌, ◌*◌, ◌^◌, ◌<◌, ◌≤◌, ◌==◌, cond, List, [], ◌∷◌, length, drop, take, Option, Some, None, Result, Ok, Err}
+use Rattle.std.specs.Prelude.{◌≡◌, ℕ, suc, ◌*◌, ◌^◌, ◌<◌, ◌≤◌, ◌==◌, cond, List, [], ◌∷◌, length, drop, take, Option, Some, None, Result, Ok, Err}
 use Rattle.sqwal.specs.Header.{named_size, IsHeader}
-use Rattle.sqwal.specs.Frames.{frame_at, size_of, IsValidFrame, IsCommit}
-use Rattle.sqwal.specs.View.{Unnamed, IsLast, IsView}
-use Rattle.sqwal.specs.Refusal.{most_frames}
-use Rattle.sqwal.specs.Took.{Took}
-use Rattle.sqwal.specs.Answers.{LogRefused}
+use Rattle.sqwal.specs.Frames.{size_of, IsValidFrame, IsCommit}
+use Rattle.sqwal.specs.View.{IsView}
+use Rattle.sqwal.specs.Took.{TookWithin}
+use Rattle.sqwal.specs.Answers.{LogRefusedWithin}
 use Rattle.sqwal.specs.declared.error.WalFormatError.{WalFormatError}
 use Rattle.sqpage.specs.declared.source.SourceError.{SourceError}
 use Rattle.sqwal.specs.declared.scan.Scan.{Scan}
@@ -18,7 +17,8 @@ use Rattle.sqjournal.specs.declared.error.JournalError.TheVariants.{NoMemory as 
 use Rattle.sqjournal.specs.declared.replay.Replay.{Replay}
 use Rattle.sqjournal.specs.declared.reading.Record.{Record}
 use Rattle.sqjournal.specs.declared.reading.Why.{Why}
-use Rattle.sqview.specs.LogView.{most_bytes, pages_of}
+use Rattle.sqview.specs.LogView.{pages_of}
+use Rattle.sqview.specs.Origins.{AreFramePlaces}
 use Rattle.sqview.specs.Logs.{HasRead}
 use Rattle.sqview.specs.Laid.{place_of}
 use Rattle.sqview.specs.declared.view.View.{View}
@@ -27,10 +27,10 @@ use Rattle.sqview.specs.declared.view_error.ViewError.{ViewError}
 use Rattle.sqview.specs.declared.view_error.ViewError.TheVariants.{TooLarge, Header, NoMemory}
 
 -- the bytes of a log up to the end were handed to the scan
-abbrev pub ScanPiece : List ℕ → (end : ℕ) → Result (Result (Unit {0}) WalFormatError) SourceError → Scan → Type 0
-ScanPiece w end (Ok (Ok x)) s = Took (take end w) s
-ScanPiece w end (Ok (Err e)) s = LogRefused w e
-ScanPiece w end (Err e) s = ⊥
+abbrev pub ScanPiece : (most : ℕ) → List ℕ → (end : ℕ) → Result (Result (Unit {0}) WalFormatError) SourceError → Scan → Type 0
+ScanPiece most w end (Ok (Ok x)) s = TookWithin most (take end w) s
+ScanPiece most w end (Ok (Err e)) s = LogRefusedWithin most w e
+ScanPiece most w end (Err e) s = ⊥
 
 -- those of a journal to the replay
 abbrev pub ReplayPiece : List ℕ → (end : ℕ) → Result (Result (Unit {0}) JournalError) SourceError → Replay → Type 0
@@ -40,12 +40,12 @@ ReplayPiece b end (Ok (Err e)) r = Refuses b e
 ReplayPiece b end (Err e) r = ⊥
 
 -- the scan of a log, where it has a valid header
-abbrev pub ScannedAnswer : List ℕ → Result (Option Scan) ViewError → Type 0
-ScannedAnswer w (Ok (Some s)) = Took w s
-ScannedAnswer w (Ok None) = ¬ IsHeader (named_size w) w
-ScannedAnswer w (Err TooLarge) = IsValidFrame (named_size w) w (suc most_frames)
-ScannedAnswer w (Err NoMemory) = Unit {0}
-ScannedAnswer w (Err _) = ⊥
+abbrev pub ScannedAnswer : (most : ℕ) → List ℕ → Result (Option Scan) ViewError → Type 0
+ScannedAnswer most w (Ok (Some s)) = TookWithin most w s
+ScannedAnswer most w (Ok None) = ¬ IsHeader (named_size w) w
+ScannedAnswer most w (Err TooLarge) = IsValidFrame (named_size w) w (suc most)
+ScannedAnswer most w (Err NoMemory) = Unit {0}
+ScannedAnswer most w (Err _) = ⊥
 
 -- the replay of a hot journal
 abbrev pub ReplayedAnswer : List ℕ → Result Replay ViewError → Type 0
@@ -54,18 +54,18 @@ ReplayedAnswer b (Err TooLarge) = 2 ^ 40 < length b
 ReplayedAnswer b (Err NoMemory) = Unit {0}
 ReplayedAnswer b (Err _) = ⊥
 
--- so many pages of this size, where they are within the limit
-abbrev pub LimitAnswer : (size count : ℕ) → Result ℕ ViewError → Type 0
-LimitAnswer size count (Ok n) = (n ≡ count) × (count * size ≤ most_bytes)
-LimitAnswer size count (Err TooLarge) = most_bytes < count * size
-LimitAnswer size count (Err _) = ⊥
+-- so many pages of this size, where they are at most so many bytes
+abbrev pub LimitAnswer : (most size count : ℕ) → Result ℕ ViewError → Type 0
+LimitAnswer most size count (Ok n) = (n ≡ count) × (count * size ≤ most)
+LimitAnswer most size count (Err TooLarge) = most < count * size
+LimitAnswer most size count (Err _) = ⊥
 
 -- the view of a file with the frames 1 to m of a log, where frame m names this count of pages
-abbrev pub PlacedAnswer : {F : Type 0} → (bytes : F → List ℕ) → (size m count : ℕ) → (db w : List ℕ) → Result (View F) ViewError → Type 0
-PlacedAnswer bytes size m count db w (Ok v) = (v.page_size ≡ size) × (v.front ≡ m) × LimitAnswer size count (Ok v.count) × IsView size db w m (pages_of bytes v)
-    × (length v.places.items ≡ v.count)
-PlacedAnswer bytes size m count db w (Err NoMemory) = Unit {0}
-PlacedAnswer bytes size m count db w (Err e) = LimitAnswer size count (Err e)
+abbrev pub PlacedAnswer : {F : Type 0} → (most : ℕ) → (bytes : F → List ℕ) → (size m count : ℕ) → (db w : List ℕ) → Result (View F) ViewError → Type 0
+PlacedAnswer most bytes size m count db w (Ok v) = (v.page_size ≡ size) × (v.front ≡ m) × LimitAnswer most size count (Ok v.count) × IsView size db w m (pages_of bytes v)
+    × AreFramePlaces size w m v.count v.places.items
+PlacedAnswer most bytes size m count db w (Err NoMemory) = Unit {0}
+PlacedAnswer most bytes size m count db w (Err e) = LimitAnswer most size count (Err e)
 
 -- what a scan has of a commit frame: the size of the log's pages, and how many the database has there
 abbrev pub CommitFound : List ℕ → (m : ℕ) → Option Commit → Type 0
@@ -77,16 +77,6 @@ abbrev pub IsUnsized : (head : List ℕ) → ViewError → Type 0
 IsUnsized head (Header faults.Magic) = ¬ HasMagic head
 IsUnsized head (Header faults.PageSize) = HasMagic head
 IsUnsized head _ = ⊥
-
--- ---- frames
-
--- where page p's bytes begin in the log, 0 where none of the frames 1 to m names it
-abbrev pub IsFramePlace : (size : ℕ) → List ℕ → (m p at : ℕ) → Type 0
-IsFramePlace size w m p at = ((at ≡ 0) × Unnamed size w m p) ⊎ ((i : ℕ) × IsLast size w m p i × (at ≡ frame_at size i + 24))
-
-pub record AreFramePlaces (size : ℕ) (w : List ℕ) (m count : ℕ) (places : List ℕ) : Type 0 where
-  pub long : length places ≡ count
-  pub each : (p : ℕ) → 1 ≤ p → p ≤ count → IsFramePlace size w m p (place_of places p)
 
 -- ---- records
 

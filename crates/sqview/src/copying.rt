@@ -49,7 +49,7 @@ impl From<io::Error> for CopyError {
 }
 
 /// The most bytes that are written at once.
-const RUN: usize = 196_608;
+const RUN: usize = 524_288;
 
 /// Adds a page to those that aren't written yet, and writes these before where they would be too many.
 fn add<W: Write>(run: &mut Vec<u8>, page: &[u8], out: &mut W) -> Result<(), CopyError>
@@ -65,7 +65,7 @@ fn add<W: Write>(run: &mut Vec<u8>, page: &[u8], out: &mut W) -> Result<(), Copy
     Ok(())
 }
 
-/// Writes the pages of a database, from the first to the last, and nothing else: up to 196,608 bytes at once, of which
+/// Writes the pages of a database, from the first to the last, and nothing else: up to 524,288 bytes at once, of which
 /// a copy is kept, and a flush at the end. Refused by Unread where a page can't be read, by Unwritten, and by NoMemory;
 /// some of the pages may then be written.
 pub fn copy<S: PageSource, W: Write>(

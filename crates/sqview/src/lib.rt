@@ -9,6 +9,7 @@ mod judge_error;
 mod logs;
 mod places;
 mod read_ahead;
+mod survey;
 mod verdict;
 mod view;
 mod view_error;
@@ -16,8 +17,11 @@ mod view_error;
 pub use copying::{CopyError, copy};
 pub use file_bytes::FileBytes;
 pub use judge_error::JudgeError;
-pub use logs::{LogInUse, hot_header, log_in_use, replay_log, scan_log};
+pub use logs::{LogInUse, hot_header, log_in_use, replay_log, scan_log, scan_log_within};
 pub use read_ahead::ReadAhead;
-pub use verdict::{Verdict, judge, judge_at};
-pub use view::{View, front_is_shown};
+pub use survey::survey_view;
+pub use verdict::{
+    Verdict, judge, judge_at, judge_at_within, judge_view, judge_within, without_view,
+};
+pub use view::{Origin, View, front_is_shown};
 pub use view_error::ViewError;

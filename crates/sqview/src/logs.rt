@@ -1,14 +1,15 @@
 //! Logs that lie in a source, read in pieces and no further than they count (own).
 ghost use Rattle.std.specs.Prelude.{◌≡◌, ℕ, ◌+◌, ◌^◌, ◌≤◌, List, length, take};
-ghost use Rattle.sqwal.specs.Took.{Took};
+ghost use Rattle.sqwal.specs.Took.{TookWithin};
 ghost use Rattle.sqjournal.specs.Took.{Took as ReplayTook};
-ghost use Rattle.sqview.specs.Logs.{HotAnswer, ScanAnswer, ReplayAnswer, CountsAnswer};
+ghost use Rattle.sqview.specs.Logs.{HotAnswer, ScanAnswer, ScanAnswerWithin, ReplayAnswer, CountsAnswer};
 ghost use Rattle.sqview.specs.ViewParts.{ScanPiece, ReplayPiece};
 
 use crate::file_bytes::FileBytes;
 use crate::view_error::ViewError;
 use sqjournal::{JournalError, JournalHeader, Replay};
 use sqpage::SourceError;
+use sqval::Limits;
 use sqwal::{Scan, WalFormatError};
 use std::alloc::Global;
 
@@ -76,9 +77,9 @@ fn scan_piece<F: FileBytes>(
     at: u64,
     piece: &mut [u8],
 ) -> Result<Result<(), WalFormatError>, SourceError>
-    ensures fed { F.gives_bytes log.old → at + length piece.old ≤ length (F.bytes log.old)
-        → Took (take at (F.bytes log.old)) scan.old
-        → ScanPiece (F.bytes log.old) (at + length piece.old) result scan.new }
+    ensures fed { (most : ℕ) → F.gives_bytes log.old → at + length piece.old ≤ length (F.bytes log.old)
+        → TookWithin most (take at (F.bytes log.old)) scan.old
+        → ScanPiece most (F.bytes log.old) (at + length piece.old) result scan.new }
     ensures still_gives { F.gives_bytes log.old → F.gives_bytes log.new }
     ensures same_bytes { F.bytes log.new ≡ F.bytes log.old }
 {
@@ -96,10 +97,23 @@ pub fn scan_log<F: FileBytes>(
     ensures still_gives { F.gives_bytes log.old → F.gives_bytes log.new }
     ensures same_bytes { F.bytes log.new ≡ F.bytes log.old }
 {
+    scan_log_within(alloc, Limits::USUAL, log)
+}
+
+/// The same of a log of no more valid frames than these limits allow.
+pub fn scan_log_within<F: FileBytes>(
+    alloc: Global,
+    limits: Limits,
+    log: &mut F,
+) -> Result<Result<Scan, WalFormatError>, SourceError>
+    ensures answer { F.gives_bytes log.old → ScanAnswerWithin limits.frames (F.bytes log.old) result }
+    ensures still_gives { F.gives_bytes log.old → F.gives_bytes log.new }
+    ensures same_bytes { F.bytes log.new ≡ F.bytes log.old }
+{
     let Ok(mut piece) = vec![in alloc; 0u8; PIECE] else {
         return Ok(Err(WalFormatError::NoMemory));
     };
-    let mut scan = Scan::new(alloc);
+    let mut scan = Scan::within(alloc, limits);
     let end = log.len();
     let mut at = 0;
     while at < end {

@@ -1,10 +1,11 @@
 //! Where a log has the pages of a database.
 ghost use Rattle.std.specs.Prelude.{◌≡◌, ◌+◌, ◌*◌, ◌^◌, ◌<◌, ◌≤◌, ℕ, List, length, IfOk, OnOk, OnErr, slice_index};
-ghost use Rattle.sqwal.specs.Took.{Took};
+ghost use Rattle.sqwal.specs.Took.{TookWithin};
 ghost use Rattle.sqwal.specs.Header.{named_size};
 ghost use Rattle.sqwal.specs.Frames.{IsValidFrame, frame_at};
 ghost use Rattle.sqjournal.specs.Took.{Took as ReplayTook};
-ghost use Rattle.sqview.specs.ViewParts.{AreFramePlaces, AreRecordPlaces, Noted};
+ghost use Rattle.sqview.specs.Origins.{AreFramePlaces};
+ghost use Rattle.sqview.specs.ViewParts.{AreRecordPlaces, Noted};
 
 use crate::view_error::ViewError;
 use sqjournal::Replay;
@@ -46,8 +47,8 @@ pub fn frame_places(
     frames: u32,
     count: u32,
 ) -> Result<Vec<u64>, ViewError>
-    ensures places { IfOk result (λ v. (w : List ℕ) → Took w scan.now → named_size w ≡ page_size → IsValidFrame
-        (named_size w) w frames → AreFramePlaces page_size w frames count v.items) }
+    ensures places { IfOk result (λ v. (most : ℕ) (w : List ℕ) → TookWithin most w scan.now → named_size w ≡ page_size
+        → IsValidFrame (named_size w) w frames → AreFramePlaces page_size w frames count v.items) }
     ensures memory { OnErr result (result ≡ Err ViewError.NoMemory) }
 {
     let mut places = zeros(alloc, count as usize)?;

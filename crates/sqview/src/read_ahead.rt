@@ -6,8 +6,11 @@ use crate::file_bytes::FileBytes;
 use sqpage::SourceError;
 use std::alloc::{AllocError, Global};
 
-/// A file's bytes. Where a part is read that follows the one before, some bytes behind it are read at once, and given
-/// from memory when they are asked for.
+/// How many bytes may stand between two parts of which the second follows the first: the head of a log's frame.
+const GAP: u64 = 24;
+
+/// A file's bytes. Where a part is read that follows the one before, at its end or up to 24 bytes behind it, some bytes
+/// from its beginning on are read at once, and given from memory when they are asked for.
 #[derive(Drop)]
 pub struct ReadAhead<F> {
     file: F,
@@ -36,6 +39,11 @@ impl<F: FileBytes + Drop> ReadAhead<F> {
             held: 0,
             next: 0,
         })
+    }
+
+    /// Whether a part from this place on follows the one that was asked for last.
+    fn follows(&self, at: u64) -> bool {
+        matches!(at.checked_sub(self.next), Some(gap) if gap <= GAP)
     }
 
     /// Where so many bytes from this place on stand in the piece, if they are held.
@@ -74,7 +82,7 @@ impl<F: FileBytes + Drop> FileBytes for ReadAhead<F> {
     }
 
     fn read_at(&mut self, at: u64, out: &mut [u8]) -> Result<(), SourceError> {
-        if at == self.next && out.len() < self.piece.len() && self.place(at, out.len()).is_none() {
+        if self.follows(at) && out.len() < self.piece.len() && self.place(at, out.len()).is_none() {
             self.fill(at)?;
         }
         self.next = at.saturating_add(out.len() as u64);

@@ -2,6 +2,7 @@
 ghost use Rattle.std.specs.Prelude.{◌≡◌, IfOk, IfErr};
 ghost use Rattle.sqview.specs.LogView.{pages_of};
 ghost use Rattle.sqview.specs.Verdicts.{IsVerdict, IsVerdictAt, IsVerdictOf, IsUnjudged, AreUnjudged, AreUnjudgedAt};
+ghost use Rattle.sqview.specs.Verdicts.{IsVerdictWithin, IsVerdictAtWithin, AreUnjudgedWithin, AreUnjudgedAtWithin};
 ghost use Rattle.sqview.specs.Verdicts.{verdict_without};
 
 use crate::file_bytes::FileBytes;
@@ -11,6 +12,7 @@ use crate::view::View;
 use crate::view_error::ViewError;
 use sqcheck::{Report, check};
 use sqpage::{CheckError, Fault};
+use sqval::Limits;
 use std::alloc::Global;
 
 /// What a check of files finds.
@@ -23,8 +25,8 @@ pub enum Verdict {
 }
 
 /// What a check finds of a view. Refused by AutoVacuum and NoMemory, which say that a database can't be checked and not
-/// that it is damaged.
-fn judge_view<F: FileBytes>(alloc: Global, view: &mut View<F>) -> Result<Verdict, JudgeError>
+/// that it is damaged, and by Unread where a file could not be read.
+pub fn judge_view<F: FileBytes>(alloc: Global, view: &mut View<F>) -> Result<Verdict, JudgeError>
     ensures found { F.gives_bytes view.old.db × F.gives_bytes view.old.log
         → IfOk result (IsVerdictOf F.bytes view.old) }
     ensures refused { F.gives_bytes view.old.db × F.gives_bytes view.old.log
@@ -42,7 +44,7 @@ fn judge_view<F: FileBytes>(alloc: Global, view: &mut View<F>) -> Result<Verdict
 }
 
 /// What a check finds of files that have no view: damage at page 1, where the header names no database.
-fn without_view(error: ViewError) -> Result<Verdict, JudgeError>
+pub fn without_view(error: ViewError) -> Result<Verdict, JudgeError>
     ensures { result ≡ verdict_without error }
 {
     match error {
@@ -58,16 +60,17 @@ fn without_view(error: ViewError) -> Result<Verdict, JudgeError>
 /// What a check finds of files, of which nothing is read ahead.
 fn judge_files<F: FileBytes + Drop>(
     alloc: Global,
+    limits: Limits,
     db: F,
     wal: F,
     journal: F,
 ) -> Result<Verdict, JudgeError>
     ensures found { F.gives_bytes db × F.gives_bytes wal × F.gives_bytes journal
-        → IfOk result (IsVerdict (F.bytes db) (F.bytes wal) (F.bytes journal)) }
+        → IfOk result (IsVerdictWithin limits (F.bytes db) (F.bytes wal) (F.bytes journal)) }
     ensures refused { F.gives_bytes db × F.gives_bytes wal × F.gives_bytes journal
-        → IfErr result (AreUnjudged (F.bytes db) (F.bytes wal) (F.bytes journal)) }
+        → IfErr result (AreUnjudgedWithin limits (F.bytes db) (F.bytes wal) (F.bytes journal)) }
 {
-    match View::new(alloc, db, wal, journal) {
+    match View::new_within(alloc, limits, db, wal, journal) {
         Ok(mut view) => judge_view(alloc, &mut view),
         Err(error) => without_view(error),
     }
@@ -76,17 +79,18 @@ fn judge_files<F: FileBytes + Drop>(
 /// The same at a commit frame.
 fn judge_files_at<F: FileBytes + Drop>(
     alloc: Global,
+    limits: Limits,
     db: F,
     wal: F,
     journal: F,
     frame: u32,
 ) -> Result<Verdict, JudgeError>
     ensures found { F.gives_bytes db × F.gives_bytes wal × F.gives_bytes journal
-        → IfOk result (IsVerdictAt frame (F.bytes db) (F.bytes wal) (F.bytes journal)) }
+        → IfOk result (IsVerdictAtWithin limits frame (F.bytes db) (F.bytes wal) (F.bytes journal)) }
     ensures refused { F.gives_bytes db × F.gives_bytes wal × F.gives_bytes journal
-        → IfErr result (AreUnjudgedAt frame (F.bytes db) (F.bytes wal) (F.bytes journal)) }
+        → IfErr result (AreUnjudgedAtWithin limits frame (F.bytes db) (F.bytes wal) (F.bytes journal)) }
 {
-    match View::at(alloc, db, wal, journal, frame) {
+    match View::at_within(alloc, limits, db, wal, journal, frame) {
         Ok(mut view) => judge_view(alloc, &mut view),
         Err(error) => without_view(error),
     }
@@ -109,10 +113,26 @@ pub fn judge<F: FileBytes + Drop>(
     ensures refused { F.gives_bytes db × F.gives_bytes wal × F.gives_bytes journal
         → IfErr result (AreUnjudged (F.bytes db) (F.bytes wal) (F.bytes journal)) }
 {
+    judge_within(alloc, Limits::USUAL, db, wal, journal)
+}
+
+/// The same within these limits.
+pub fn judge_within<F: FileBytes + Drop>(
+    alloc: Global,
+    limits: Limits,
+    db: F,
+    wal: F,
+    journal: F,
+) -> Result<Verdict, JudgeError>
+    ensures found { F.gives_bytes db × F.gives_bytes wal × F.gives_bytes journal
+        → IfOk result (IsVerdictWithin limits (F.bytes db) (F.bytes wal) (F.bytes journal)) }
+    ensures refused { F.gives_bytes db × F.gives_bytes wal × F.gives_bytes journal
+        → IfErr result (AreUnjudgedWithin limits (F.bytes db) (F.bytes wal) (F.bytes journal)) }
+{
     let db = ReadAhead::new(alloc, db, PIECE)?;
     let wal = ReadAhead::new(alloc, wal, 0)?;
     let journal = ReadAhead::new(alloc, journal, 0)?;
-    judge_files(alloc, db, wal, journal)
+    judge_files(alloc, limits, db, wal, journal)
 }
 
 /// What a check finds of the database at a commit frame of the write-ahead log, as `View::at` gives it; at frame 0 of
@@ -129,8 +149,25 @@ pub fn judge_at<F: FileBytes + Drop>(
     ensures refused { F.gives_bytes db × F.gives_bytes wal × F.gives_bytes journal
         → IfErr result (AreUnjudgedAt frame (F.bytes db) (F.bytes wal) (F.bytes journal)) }
 {
+    judge_at_within(alloc, Limits::USUAL, db, wal, journal, frame)
+}
+
+/// The same within these limits.
+pub fn judge_at_within<F: FileBytes + Drop>(
+    alloc: Global,
+    limits: Limits,
+    db: F,
+    wal: F,
+    journal: F,
+    frame: u32,
+) -> Result<Verdict, JudgeError>
+    ensures found { F.gives_bytes db × F.gives_bytes wal × F.gives_bytes journal
+        → IfOk result (IsVerdictAtWithin limits frame (F.bytes db) (F.bytes wal) (F.bytes journal)) }
+    ensures refused { F.gives_bytes db × F.gives_bytes wal × F.gives_bytes journal
+        → IfErr result (AreUnjudgedAtWithin limits frame (F.bytes db) (F.bytes wal) (F.bytes journal)) }
+{
     let db = ReadAhead::new(alloc, db, PIECE)?;
     let wal = ReadAhead::new(alloc, wal, 0)?;
     let journal = ReadAhead::new(alloc, journal, 0)?;
-    judge_files_at(alloc, db, wal, journal, frame)
+    judge_files_at(alloc, limits, db, wal, journal, frame)
 }

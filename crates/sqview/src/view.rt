@@ -4,9 +4,11 @@ ghost use Rattle.sqview.specs.Laid.{place_of, laid};
 
 mod at_commit;
 mod opening;
+mod origin;
 
 use crate::file_bytes::FileBytes;
 pub use at_commit::front_is_shown;
+pub use origin::Origin;
 use sqpage::{PageSource, SourceError};
 use sqval::PageSize;
 

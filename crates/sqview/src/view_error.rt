@@ -13,7 +13,8 @@ pub enum ViewError {
     /// The journal is hot, and the write-ahead log isn't empty.
     #[error("two logs")]
     TwoLogs,
-    /// The log is too long to be scanned, or the database would be above 1,073,741,824 bytes.
+    /// The log is too long to be scanned, or the database would be above the limit, 1,073,741,824 bytes where none is
+    /// named.
     #[error("too large")]
     TooLarge,
     /// No log counts, and the file's header has this fault, Magic or PageSize.

@@ -2,32 +2,30 @@
 ghost use Rattle.std.specs.Prelude.{◌≡◌, ℕ, List, [], IfOk};
 ghost use Rattle.sqwal.specs.Frames.{size_of, IsValidFrame};
 ghost use Rattle.sqwal.specs.Header.{named_size, IsHeader};
-ghost use Rattle.sqwal.specs.Took.{Took};
+ghost use Rattle.sqwal.specs.Took.{TookWithin};
 ghost use Rattle.sqjournal.specs.Header.{Names};
 ghost use Rattle.sqjournal.specs.Journal.{IsHot};
-ghost use Rattle.sqview.specs.LogView.{ViewAnswer, ReadsFrom, IsTooLong, IsAlone};
+ghost use Rattle.sqview.specs.LogView.{ViewAnswer, ViewAnswerWithin, ReadsFrom, IsTooLongWithin, IsAlone};
 ghost use Rattle.sqview.specs.ViewParts.{ScannedAnswer, ReplayedAnswer, LimitAnswer, IsUnsized, PlacedAnswer};
 
 use super::View;
+use super::at_commit::Commit;
 use crate::file_bytes::FileBytes;
 use crate::file_head::{count_pages, read_head};
-use crate::logs::{LogInUse, log_in_use, replay_log, scan_log};
+use crate::logs::{LogInUse, log_in_use, replay_log, scan_log_within};
 use crate::places::{frame_places, record_places};
 use crate::view_error::ViewError;
 use sqjournal::{JournalError, JournalHeader, Replay};
 use sqpage::{Fault, has_magic, named_page_size};
-use sqval::PageSize;
+use sqval::{Limits, PageSize};
 use sqwal::{Scan, WalFormatError};
 use std::alloc::Global;
 
-/// The most bytes of a database.
-const MOST_BYTES: u64 = 1_073_741_824;
-
 /// So many pages of this size. TooLarge where they are above the limit.
-fn within_limit(count: u64, page_size: PageSize) -> Result<u32, ViewError>
-    ensures { LimitAnswer page_size count result }
+fn within_limit(limits: Limits, count: u64, page_size: PageSize) -> Result<u32, ViewError>
+    ensures { LimitAnswer limits.bytes page_size count result }
 {
-    if count > MOST_BYTES / u64::from(page_size.get()) {
+    if count > limits.bytes() / u64::from(page_size.get()) {
         return Err(ViewError::TooLarge);
     }
     Ok(count as u32)
@@ -49,12 +47,16 @@ fn replayed<F: FileBytes>(alloc: Global, journal: &mut F) -> Result<Replay, View
 }
 
 /// The scan of a log. None where it has no valid header.
-pub(super) fn scanned<F: FileBytes>(alloc: Global, wal: &mut F) -> Result<Option<Scan>, ViewError>
-    ensures answer { F.gives_bytes wal.old → ScannedAnswer (F.bytes wal.old) result }
+pub(super) fn scanned<F: FileBytes>(
+    alloc: Global,
+    limits: Limits,
+    wal: &mut F,
+) -> Result<Option<Scan>, ViewError>
+    ensures answer { F.gives_bytes wal.old → ScannedAnswer limits.frames (F.bytes wal.old) result }
     ensures still_gives { F.gives_bytes wal.old → F.gives_bytes wal.new }
     ensures same_bytes { F.bytes wal.new ≡ F.bytes wal.old }
 {
-    match scan_log(alloc, wal)? {
+    match scan_log_within(alloc, limits, wal)? {
         Ok(scan) => Ok(Some(scan)),
         Err(WalFormatError::TooLong) => Err(ViewError::TooLarge),
         Err(WalFormatError::NoMemory) => Err(ViewError::NoMemory),
@@ -65,12 +67,13 @@ pub(super) fn scanned<F: FileBytes>(alloc: Global, wal: &mut F) -> Result<Option
 /// The view of a file beside a hot journal with this first header.
 fn restored<F: FileBytes + Drop>(
     alloc: Global,
+    limits: Limits,
     db: F,
     journal: F,
     header: &JournalHeader,
 ) -> Result<View<F>, ViewError>
     ensures answer { F.gives_bytes journal → IsHot (F.bytes journal) → Names (F.bytes journal) header.now
-        → ViewAnswer F.bytes (F.bytes db) [] (F.bytes journal) result }
+        → ViewAnswerWithin limits F.bytes (F.bytes db) [] (F.bytes journal) result }
     ensures still_gives { F.gives_bytes db → F.gives_bytes journal
         → IfOk result (λ view. F.gives_bytes view.db × F.gives_bytes view.log) }
     ensures reads { IfOk result (λ view. (F.bytes view.db ≡ F.bytes db) × (F.bytes view.log ≡ F.bytes journal)) }
@@ -78,7 +81,7 @@ fn restored<F: FileBytes + Drop>(
     let mut log = journal;
     let replay = replayed(alloc, &mut log)?;
     let page_size = header.page_size;
-    let count = within_limit(u64::from(header.first_size), page_size)?;
+    let count = within_limit(limits, u64::from(header.first_size), page_size)?;
     let places = record_places(alloc, &replay, count)?;
     Ok(View {
         db,
@@ -93,42 +96,50 @@ fn restored<F: FileBytes + Drop>(
 /// The view of a file at the front of its log.
 fn committed<F: FileBytes + Drop>(
     alloc: Global,
+    limits: Limits,
     db: F,
     log: F,
     scan: &Scan,
     page_size: PageSize,
 ) -> Result<View<F>, ViewError>
-    ensures answer { F.gives_bytes db → Took (F.bytes log) scan.now → IsHeader page_size (F.bytes log)
-        → (journal : List ℕ) → ¬ IsHot journal → ViewAnswer F.bytes (F.bytes db) (F.bytes log) journal result }
+    ensures answer { F.gives_bytes db → TookWithin limits.frames (F.bytes log) scan.now
+        → IsHeader page_size (F.bytes log) → (journal : List ℕ) → ¬ IsHot journal
+        → ViewAnswerWithin limits F.bytes (F.bytes db) (F.bytes log) journal result }
     ensures still_gives { F.gives_bytes db → F.gives_bytes log
         → IfOk result (λ view. F.gives_bytes view.db × F.gives_bytes view.log) }
     ensures reads { IfOk result (λ view. (F.bytes view.db ≡ F.bytes db) × (F.bytes view.log ≡ F.bytes log)) }
 {
     let front = scan.committed();
     if front.frames == 0 {
-        return own(alloc, db, log);
+        return own(alloc, limits, db, log);
     }
-    placed(alloc, db, log, scan, page_size, front.frames, front.size)
+    let commit = Commit {
+        page_size,
+        size: front.size,
+    };
+    placed(alloc, limits, db, log, scan, front.frames, commit)
 }
 
-/// The view of a file with the frames of its log up to a commit frame, which names this size in pages.
+/// The view of a file with the frames of its log up to a frame, which ends this commit.
 pub(super) fn placed<F: FileBytes + Drop>(
     alloc: Global,
+    limits: Limits,
     db: F,
     log: F,
     scan: &Scan,
-    page_size: PageSize,
     frame: u32,
-    size: u32,
+    commit: Commit,
 ) -> Result<View<F>, ViewError>
-    ensures answer { Took (F.bytes log) scan.now → named_size (F.bytes log) ≡ page_size
-        → IsValidFrame page_size (F.bytes log) frame → size ≡ size_of page_size (F.bytes log) frame
-        → PlacedAnswer F.bytes page_size frame size (F.bytes db) (F.bytes log) result }
+    ensures answer { TookWithin limits.frames (F.bytes log) scan.now → named_size (F.bytes log) ≡ commit.page_size
+        → IsValidFrame commit.page_size (F.bytes log) frame
+        → commit.size ≡ size_of commit.page_size (F.bytes log) frame
+        → PlacedAnswer limits.bytes F.bytes commit.page_size frame commit.size (F.bytes db) (F.bytes log) result }
     ensures still_gives { F.gives_bytes db → F.gives_bytes log
         → IfOk result (λ view. F.gives_bytes view.db × F.gives_bytes view.log) }
     ensures reads { IfOk result (λ view. (F.bytes view.db ≡ F.bytes db) × (F.bytes view.log ≡ F.bytes log)) }
 {
-    let count = within_limit(u64::from(size), page_size)?;
+    let Commit { page_size, size } = commit;
+    let count = within_limit(limits, u64::from(size), page_size)?;
     let places = frame_places(alloc, scan, page_size, frame, size)?;
     Ok(View {
         db,
@@ -141,27 +152,37 @@ pub(super) fn placed<F: FileBytes + Drop>(
 }
 
 /// The view of a file beside a log, where no hot journal is.
-fn logged<F: FileBytes + Drop>(alloc: Global, db: F, wal: F) -> Result<View<F>, ViewError>
+fn logged<F: FileBytes + Drop>(
+    alloc: Global,
+    limits: Limits,
+    db: F,
+    wal: F,
+) -> Result<View<F>, ViewError>
     ensures answer { F.gives_bytes db → F.gives_bytes wal → (journal : List ℕ) → ¬ IsHot journal
-        → ViewAnswer F.bytes (F.bytes db) (F.bytes wal) journal result }
+        → ViewAnswerWithin limits F.bytes (F.bytes db) (F.bytes wal) journal result }
     ensures still_gives { F.gives_bytes db → F.gives_bytes wal
         → IfOk result (λ view. F.gives_bytes view.db × F.gives_bytes view.log) }
     ensures reads { IfOk result (λ view. (F.bytes view.db ≡ F.bytes db) × (F.bytes view.log ≡ F.bytes wal)) }
 {
     let mut log = wal;
-    let Some(scan) = scanned(alloc, &mut log)? else {
-        return own(alloc, db, log);
+    let Some(scan) = scanned(alloc, limits, &mut log)? else {
+        return own(alloc, limits, db, log);
     };
     match scan.header() {
-        Some(header) => committed(alloc, db, log, &scan, header.page_size),
-        None => own(alloc, db, log),
+        Some(header) => committed(alloc, limits, db, log, &scan, header.page_size),
+        None => own(alloc, limits, db, log),
     }
 }
 
 /// The view of a file without a log that counts.
-pub(super) fn own<F: FileBytes + Drop>(alloc: Global, db: F, log: F) -> Result<View<F>, ViewError>
-    ensures answer { F.gives_bytes db → (wal journal : List ℕ) → ¬ IsTooLong wal journal → IsAlone wal journal
-        → ViewAnswer F.bytes (F.bytes db) wal journal result }
+pub(super) fn own<F: FileBytes + Drop>(
+    alloc: Global,
+    limits: Limits,
+    db: F,
+    log: F,
+) -> Result<View<F>, ViewError>
+    ensures answer { F.gives_bytes db → (wal journal : List ℕ) → ¬ IsTooLongWithin limits wal journal
+        → IsAlone wal journal → ViewAnswerWithin limits F.bytes (F.bytes db) wal journal result }
     ensures still_gives { F.gives_bytes db → F.gives_bytes log
         → IfOk result (λ view. F.gives_bytes view.db × F.gives_bytes view.log) }
     ensures reads { IfOk result (λ view. (F.bytes view.db ≡ F.bytes db) × (F.bytes view.log ≡ F.bytes log)) }
@@ -171,7 +192,7 @@ pub(super) fn own<F: FileBytes + Drop>(alloc: Global, db: F, log: F) -> Result<V
     let Some(page_size) = named_page_size(&head) else {
         return Err(without_size(&head));
     };
-    let count = within_limit(count_pages(&db, &head, page_size), page_size)?;
+    let count = within_limit(limits, count_pages(&db, &head, page_size), page_size)?;
     if !has_magic(&head) {
         return Err(ViewError::Header(Fault::Magic));
     }
@@ -210,11 +231,29 @@ impl<F: FileBytes + Drop> View<F> {
         ensures reads { F.gives_bytes wal × F.gives_bytes journal → IfOk result
             (λ view. ReadsFrom (F.bytes db) (F.bytes wal) (F.bytes journal) (F.bytes view.db) (F.bytes view.log)) }
     {
+        View::new_within(alloc, Limits::USUAL, db, wal, journal)
+    }
+
+    /// The same within these limits. A journal of more than 2^40 bytes is too large within any.
+    pub fn new_within(
+        alloc: Global,
+        limits: Limits,
+        db: F,
+        wal: F,
+        journal: F,
+    ) -> Result<View<F>, ViewError>
+        ensures answer { F.gives_bytes db × F.gives_bytes wal × F.gives_bytes journal
+            → ViewAnswerWithin limits F.bytes (F.bytes db) (F.bytes wal) (F.bytes journal) result }
+        ensures still_gives { F.gives_bytes db × F.gives_bytes wal × F.gives_bytes journal
+            → IfOk result (λ view. F.gives_bytes view.db × F.gives_bytes view.log) }
+        ensures reads { F.gives_bytes wal × F.gives_bytes journal → IfOk result
+            (λ view. ReadsFrom (F.bytes db) (F.bytes wal) (F.bytes journal) (F.bytes view.db) (F.bytes view.log)) }
+    {
         let mut journal = journal;
         match log_in_use(&wal, &mut journal)? {
-            LogInUse::Neither => own(alloc, db, wal),
-            LogInUse::Wal => logged(alloc, db, wal),
-            LogInUse::Journal(header) => restored(alloc, db, journal, &header),
+            LogInUse::Neither => own(alloc, limits, db, wal),
+            LogInUse::Wal => logged(alloc, limits, db, wal),
+            LogInUse::Journal(header) => restored(alloc, limits, db, journal, &header),
         }
     }
 }

@@ -1,5 +1,5 @@
-use Rattle.std.proofs.Common.{ℕ, get_or, sym, subst, arith}
-use Rattle.sqrescue_c.specs.Commits.{IsCommitOf}
+use Rattle.std.proofs.Common.{◌≡◌, ℕ, length, get_or, sym, subst, arith}
+use Rattle.sqrescue_c.specs.Commits.{IsCommitOf, AreCommitsOf}
 use Rattle.sqrescue_c.proofs.Committing.{next_before, one_commit}
 use Rattle.sqrescue_c.proofs.commits.copy_commits.Goals as goal
 
@@ -14,3 +14,8 @@ loop-i-preserved c = record {
       (subst (λ (n : ℕ). IsCommitOf w n (get_or ends i 0) c.commit_of.result) c.loop-i.invariant.behind is)
       (c.loop-i.invariant.copied w took are);
 }
+
+pub returns : goal.returns
+returns c = λ w took are.
+    let all : c.loop-i.i ≡ length c.args.ends.now = omega (arith, c.loop-i-test.false, c.loop-i.auto.i-end) in
+    subst (λ (n : ℕ). AreCommitsOf w n c.args.ends.now c.loop-i.commits) all (c.loop-i.invariant.copied w took are)

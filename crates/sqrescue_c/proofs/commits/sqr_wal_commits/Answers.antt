@@ -1,4 +1,4 @@
-use Rattle.std.proofs.Common.{◌≡◌, List, ℕ, length, subst, arith}
+use Rattle.std.proofs.Common.{◌≡◌, ◌<◌, List, ℕ, length, get_or, sym, subst, arith}
 use Rattle.sqwal.specs.Commits.{AreCommits}
 use Rattle.sqwal.specs.Header.{named_size}
 use Rattle.sqwal.proofs.ScanAnswers.{few_frames}
@@ -11,7 +11,7 @@ returns-then-len-commits-clause-counted c = λ _.
     let w = c.args.wal.now in
     let took = c.in-Ok.ensures.took in
     let ends = c.in-Ok-commits.ends.items in
-    let are = c.in-Ok-commits.ensures.commits w took in
+    let are = c.in-Ok-commits.ensures.commits _ w took in
     let few = few_commits w ends are (few_frames w c.in-Ok.scan took) in
     record { ends = ends; are = are; counted = omega (arith, few, c.min.ensures, c.len.ensures) }
 
@@ -19,7 +19,7 @@ pub returns-then-len-commits-clause-crowded : goal.returns-then-len-commits-clau
 returns-then-len-commits-clause-crowded c = λ _.
     let w = c.args.wal.now in
     let took = c.in-Ok.ensures.took in
-    let are = c.in-Ok-commits.ensures.commits w took in
+    let are = c.in-Ok-commits.ensures.commits _ w took in
     let few = few_commits w c.in-Ok-commits.ends.items are (few_frames w c.in-Ok.scan took) in
     omega (arith, few, c.min.ensures, c.len.ensures, c.len-2.ensures)
 
@@ -28,7 +28,7 @@ returns-clause-counted c = λ _.
     let w = c.args.wal.now in
     let took = c.in-Ok.ensures.took in
     let ends = c.in-Ok-commits.ends.items in
-    let are = c.in-Ok-commits.ensures.commits w took in
+    let are = c.in-Ok-commits.ensures.commits _ w took in
     let few = few_commits w ends are (few_frames w c.in-Ok.scan took) in
     record { ends = ends; are = are; counted = omega (arith, few, c.min.ensures, c.len.ensures) }
 
@@ -37,7 +37,7 @@ returns-clause-commits c = λ _.
     let w = c.args.wal.now in
     let took = c.in-Ok.ensures.took in
     let ends = c.in-Ok-commits.ends.items in
-    let are = c.in-Ok-commits.ensures.commits w took in
+    let are = c.in-Ok-commits.ensures.commits _ w took in
     let few = few_commits w ends are (few_frames w c.in-Ok.scan took) in
     let count : length ends ≡ c.min.result = omega (arith, few, c.min.ensures, c.len.ensures) in
     let copied = subst (λ (l : List ℕ). AreCommits (named_size w) w l → AreCommitsOf w (length l) l c.copy_commits.new.commits) c.deref.ensures.value (c.copy_commits.ensures w took) are in
@@ -48,3 +48,8 @@ returns-clause-commits c = λ _.
       long = omega (arith, count, c.copy_commits.auto.commits, c.len-2.ensures);
       each = λ i d within. copied i d (omega (arith, count));
     }
+
+pub copy_commits-requires-clause-rising : goal.copy_commits-requires-clause-rising
+copy_commits-requires-clause-rising c =
+    let are = c.in-Ok-commits.ensures.commits _ c.args.wal.now c.in-Ok.ensures.took in
+    subst (λ (l : List ℕ). (i j : ℕ) → i < j → j < length l → get_or l i 0 < get_or l j 0) (sym c.deref.ensures.value) are.rising

@@ -3,8 +3,8 @@ use Rattle.sqrescue_c.proofs.wal.report_of.Goals as goal
 
 pub returns : goal.returns
 returns c = λ w took.
-    let front = c.committed-front.ensures w took in
-    let entries = c.entries.ensures w took in
+    let front = c.committed-front.ensures _ w took in
+    let entries = c.entries.ensures _ w took in
     let most = entries.most in
     let all : c.min.result ≡ length c.entries.result.now = omega (arith, c.min.ensures) in
     record {
@@ -16,5 +16,5 @@ returns c = λ w took.
       some = front.some;
       why_is = c.stop-stop.result.why;
       numbered = c.why_number.ensures;
-      stops = c.stop-stop.ensures w took;
+      stops = c.stop-stop.ensures _ w took;
     }

@@ -1,6 +1,3 @@
-use Rattle.std.proofs.Common.{subst, sym}
-use Rattle.std.specs.Prelude.{IfOk, IfErr}
-use Rattle.sqview.specs.Verdicts.{IsVerdictAt, AreUnjudgedAt}
 use Rattle.sqview.proofs.Judging.{of_files_at, unjudged_files_at, found_without_at, unjudged_without_at}
 use Rattle.sqview.proofs.verdict.judge_files_at.Goals as goal
 
@@ -9,9 +6,9 @@ returns-in-Ok g c =
     let bytes = g.F.FileBytes.bytes in
     record {
       found = λ gives.
-          of_files_at bytes (bytes c.args.db) (bytes c.args.wal) (bytes c.args.journal) c.in-Ok.view c.args.frame c.judge_view.result (c.in-Ok.ensures.answer gives) (c.judge_view.ensures.found (c.in-Ok.ensures.still_gives gives));
+          of_files_at c.args.limits bytes (bytes c.args.db) (bytes c.args.wal) (bytes c.args.journal) c.in-Ok.view c.args.frame c.judge_view.result (c.in-Ok.ensures.answer gives) (c.judge_view.ensures.found (c.in-Ok.ensures.still_gives gives));
       refused = λ gives.
-          unjudged_files_at bytes (bytes c.args.db) (bytes c.args.wal) (bytes c.args.journal) c.in-Ok.view c.args.frame c.judge_view.result (c.in-Ok.ensures.answer gives) (c.judge_view.ensures.refused (c.in-Ok.ensures.still_gives gives));
+          unjudged_files_at c.args.limits bytes (bytes c.args.db) (bytes c.args.wal) (bytes c.args.journal) c.in-Ok.view c.args.frame c.judge_view.result (c.in-Ok.ensures.answer gives) (c.judge_view.ensures.refused (c.in-Ok.ensures.still_gives gives));
     }
 
 pub returns-in-Err : goal.returns-in-Err
@@ -19,7 +16,7 @@ returns-in-Err g c =
     let bytes = g.F.FileBytes.bytes in
     record {
       found = λ gives. rw c.without_view.ensures
-          (found_without_at (bytes c.args.db) (bytes c.args.wal) (bytes c.args.journal) c.args.frame c.in-Err.error (c.in-Err.ensures.answer gives));
+          (found_without_at c.args.limits (bytes c.args.db) (bytes c.args.wal) (bytes c.args.journal) c.args.frame c.in-Err.error (c.in-Err.ensures.answer gives));
       refused = λ gives. rw c.without_view.ensures
-          (unjudged_without_at (bytes c.args.db) (bytes c.args.wal) (bytes c.args.journal) c.args.frame c.in-Err.error (c.in-Err.ensures.answer gives));
+          (unjudged_without_at c.args.limits (bytes c.args.db) (bytes c.args.wal) (bytes c.args.journal) c.args.frame c.in-Err.error (c.in-Err.ensures.answer gives));
     }

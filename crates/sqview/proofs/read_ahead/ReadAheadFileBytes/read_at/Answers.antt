@@ -3,7 +3,7 @@ use Rattle.sqview.specs.Laid.{part_or_zeros, HoldsPart}
 use Rattle.sqview.specs.declared.read_ahead.ReadAhead.{ReadAhead}
 use Rattle.sqview.proofs.Ahead.{held_part}
 use Rattle.sqview.proofs.read_ahead.ReadAheadFileBytes.read_at.Goals as goal
-use Rattle.sqview.proofs.read_ahead.ReadAheadFileBytes.read_at.Goals.{then-at-self+then-out-len+then-is_none+in_ok-fill, else-at-self}
+use Rattle.sqview.proofs.read_ahead.ReadAheadFileBytes.read_at.Goals.{then-follows+then-out-len+then-is_none+in_ok-fill, else-follows}
 
 -- what is held is of the same file
 abbrev Holds : {F : Type 0} → (bytes : F → List ℕ) → (old now : ReadAhead F) → Type 0
@@ -16,10 +16,10 @@ pub returns-in-Some-clause-read : goal.returns-in-Some-clause-read
 returns-in-Some-clause-read g c = λ gives.
     let bytes = g.F.FileBytes.bytes in
     let old = c.args.self.now in
-    let s = c.if-at-self.self in
-    let now = elim c.if-at-self.branch as (λ _. Holds bytes old s) [
-      | then-at-self+then-out-len+then-is_none+in_ok-fill w ↦ at_now bytes old s _ w.self-is ((w.fill.ensures.holds gives.0).2, w.fill.ensures.same)
-      | else-at-self w ↦ at_now bytes old s _ w.self-is (gives.1, refl)
+    let s = c.if-follows.self in
+    let now = elim c.if-follows.branch as (λ _. Holds bytes old s) [
+      | then-follows+then-out-len+then-is_none+in_ok-fill w ↦ at_now bytes old s _ w.self-is ((w.fill.ensures.holds gives.0).2, w.fill.ensures.same)
+      | else-follows w ↦ at_now bytes old s _ w.self-is (gives.1, refl)
     ] in (
       refl,
       c.copy_from_slice.ensures.after ∙ ap (λ (l : List ℕ). take (c.in-Some.place + length c.args.out.now - c.in-Some.place) (drop c.in-Some.place l)) c.deref.ensures.value

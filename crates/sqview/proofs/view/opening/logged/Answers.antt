@@ -1,7 +1,7 @@
 use Rattle.std.proofs.Common.{ℕ, List, subst, arith}
 use Rattle.sqwal.specs.Header.{IsHeader}
-use Rattle.sqwal.specs.Took.{Took}
-use Rattle.sqview.specs.LogView.{ViewAnswer}
+use Rattle.sqwal.specs.Took.{TookWithin}
+use Rattle.sqview.specs.LogView.{ViewAnswerWithin}
 use Rattle.sqview.proofs.Opening.{answers, scan_refused, alone_bare, scanned_some, scanned_none}
 use Rattle.sqview.proofs.view.opening.logged.Goals as goal
 
@@ -9,29 +9,29 @@ pub returns-in_err-scan-clause-answer : goal.returns-in_err-scan-clause-answer
 returns-in_err-scan-clause-answer g c = λ gives gives_wal journal cold.
     let bytes = g.F.FileBytes.bytes in
     let e = c.in_err-scan.field-0.0 in
-    answers bytes (bytes c.args.db) (bytes c.args.wal) journal c.from_residual.result e c.from_residual.ensures.1
-    (scan_refused (bytes c.args.db) (bytes c.args.wal) journal cold e (c.in_err-scan.ensures.answer gives_wal))
+    answers c.args.limits bytes (bytes c.args.db) (bytes c.args.wal) journal c.from_residual.result e c.from_residual.ensures.1
+    (scan_refused c.args.limits (bytes c.args.db) (bytes c.args.wal) journal cold e (c.in_err-scan.ensures.answer gives_wal))
 
 pub returns-in_default-clause-answer : goal.returns-in_default-clause-answer
 returns-in_default-clause-answer g c = λ gives gives_wal journal cold.
     let w = g.F.FileBytes.bytes c.args.wal in
-    let alone = alone_bare (g.F.FileBytes.bytes c.args.db) w journal cold (scanned_none w c.in_ok-scan.field-0 c.in_default.is (c.in_ok-scan.ensures.answer gives_wal)) in
+    let alone = alone_bare c.args.limits (g.F.FileBytes.bytes c.args.db) w journal cold (scanned_none c.args.limits w c.in_ok-scan.field-0 c.in_default.is (c.in_ok-scan.ensures.answer gives_wal)) in
     c.own.ensures.answer gives w journal alone.0 alone.1
 
 pub returns-in-Some-header-clause-answer : goal.returns-in-Some-header-clause-answer
 returns-in-Some-header-clause-answer g c = λ gives gives_wal journal cold.
     let bytes = g.F.FileBytes.bytes in
     let w = bytes c.args.wal in
-    let took = scanned_some w c.in_ok-scan.field-0 c.in-Some.scan c.in-Some.is (c.in_ok-scan.ensures.answer gives_wal) in
-    let header = (c.in-Some-header.ensures w took).1.valid in
+    let took = scanned_some c.args.limits w c.in_ok-scan.field-0 c.in-Some.scan c.in-Some.is (c.in_ok-scan.ensures.answer gives_wal) in
+    let header = (c.in-Some-header.ensures _ w took).1.valid in
     let same = c.scanned.ensures.same_bytes in
     let size = c.in-Some-header.header.page_size in
-    subst (λ (l : List ℕ). Took l c.in-Some.scan → IsHeader size l → ViewAnswer bytes (bytes c.args.db) l journal c.committed.result) same
+    subst (λ (l : List ℕ). TookWithin c.args.limits.frames l c.in-Some.scan → IsHeader size l → ViewAnswerWithin c.args.limits bytes (bytes c.args.db) l journal c.committed.result) same
     (λ t h. c.committed.ensures.answer gives t h journal cold) took header
 
 pub returns-clause-answer : goal.returns-clause-answer
 returns-clause-answer g c = λ gives gives_wal journal cold.
     let w = g.F.FileBytes.bytes c.args.wal in
-    let took = scanned_some w c.in_ok-scan.field-0 c.in-Some.scan c.in-Some.is (c.in_ok-scan.ensures.answer gives_wal) in
-    let alone = alone_bare (g.F.FileBytes.bytes c.args.db) w journal cold (λ header. omega (arith, header.whole, c.in-None.ensures w took)) in
+    let took = scanned_some c.args.limits w c.in_ok-scan.field-0 c.in-Some.scan c.in-Some.is (c.in_ok-scan.ensures.answer gives_wal) in
+    let alone = alone_bare c.args.limits (g.F.FileBytes.bytes c.args.db) w journal cold (λ header. omega (arith, header.whole, c.in-None.ensures _ w took)) in
     c.own-in-None.ensures.answer gives w journal alone.0 alone.1

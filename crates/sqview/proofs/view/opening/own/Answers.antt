@@ -15,7 +15,7 @@ returns-in_default-clause-answer g c = λ gives wal journal short alone.
     let db = g.F.FileBytes.bytes c.args.db in
     let read = c.in_ok-head.ensures.read gives in
     let head : c.in_ok-head.head ≡ head_of db = cc in
-    own_unsized db wal journal alone short c.without_size.result (subst (λ (h : List ℕ). IsUnsized h c.without_size.result) head c.without_size.ensures)
+    own_unsized c.args.limits db wal journal alone short c.without_size.result (subst (λ (h : List ℕ). IsUnsized h c.without_size.result) head c.without_size.ensures)
     (λ has. let f = c.in_default.ensures.valid.1 (subst HasPageSize (sym head) has) in cc)
 
 pub returns-in_err-count-clause-answer : goal.returns-in_err-count-clause-answer
@@ -28,8 +28,8 @@ returns-in_err-count-clause-answer g c = λ gives wal journal short alone.
     let is = subst HasPageSize head (c.in-Some.ensures.valid.0 refl) in
     let size : IsPageSize c.in-Some.page_size = subst IsPageSize (sym named) is in
     let counted : c.count_pages.result ≡ own_pages c.in-Some.page_size db = c.count_pages.ensures (c.read_head.ensures.still_gives gives) (head ∙ ap head_of (sym c.read_head.ensures.same_bytes)) ∙ ap (own_pages c.in-Some.page_size) c.read_head.ensures.same_bytes in
-    let bad : LimitAnswer c.in-Some.page_size (own_pages c.in-Some.page_size db) (Err e) = subst (λ (n : ℕ). LimitAnswer c.in-Some.page_size n (Err e)) counted c.in_err-count.ensures in
-    answers g.F.FileBytes.bytes db wal journal c.from_residual-in_err-count.result e c.from_residual-in_err-count.ensures.1 (own_limited db wal journal alone short c.in-Some.page_size size named e bad)
+    let bad : LimitAnswer c.args.limits.bytes c.in-Some.page_size (own_pages c.in-Some.page_size db) (Err e) = subst (λ (n : ℕ). LimitAnswer c.args.limits.bytes c.in-Some.page_size n (Err e)) counted c.in_err-count.ensures in
+    answers c.args.limits g.F.FileBytes.bytes db wal journal c.from_residual-in_err-count.result e c.from_residual-in_err-count.ensures.1 (own_limited c.args.limits db wal journal alone short c.in-Some.page_size size named e bad)
 
 pub returns-clause-answer : goal.returns-clause-answer
 returns-clause-answer g c = λ gives wal journal short alone.
@@ -40,6 +40,6 @@ returns-clause-answer g c = λ gives wal journal short alone.
     let is = subst HasPageSize head (c.in-Some.ensures.valid.0 refl) in
     let size : IsPageSize c.in-Some.page_size = subst IsPageSize (sym named) is in
     let counted : c.count_pages.result ≡ own_pages c.in-Some.page_size db = c.count_pages.ensures (c.read_head.ensures.still_gives gives) (head ∙ ap head_of (sym c.read_head.ensures.same_bytes)) ∙ ap (own_pages c.in-Some.page_size) c.read_head.ensures.same_bytes in
-    let le : LimitAnswer c.in-Some.page_size (own_pages c.in-Some.page_size db) (Ok c.in_ok-count.count) = subst (λ (n : ℕ). LimitAnswer c.in-Some.page_size n (Ok c.in_ok-count.count)) counted c.in_ok-count.ensures in
-    own_shown db wal journal alone short c.in-Some.page_size size named g.F.FileBytes.bytes _ le
+    let le : LimitAnswer c.args.limits.bytes c.in-Some.page_size (own_pages c.in-Some.page_size db) (Ok c.in_ok-count.count) = subst (λ (n : ℕ). LimitAnswer c.args.limits.bytes c.in-Some.page_size n (Ok c.in_ok-count.count)) counted c.in_ok-count.ensures in
+    own_shown c.args.limits db wal journal alone short c.in-Some.page_size size named g.F.FileBytes.bytes _ le
     (subst HasMagic head (c.has_magic.ensures.0 c.if-not-has_magic.false)) refl c.read_head.ensures.same_bytes c.new.ensures.items refl

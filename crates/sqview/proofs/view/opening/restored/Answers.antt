@@ -9,16 +9,16 @@ pub returns-in_err-replay-clause-answer : goal.returns-in_err-replay-clause-answ
 returns-in_err-replay-clause-answer g c = λ gives hot names.
     let bytes = g.F.FileBytes.bytes in
     let e = c.in_err-replay.field-0.0 in
-    answers bytes (bytes c.args.db) [] (bytes c.args.journal) c.from_residual.result e c.from_residual.ensures.1
-    (replay_refused (bytes c.args.db) (bytes c.args.journal) hot e (c.in_err-replay.ensures.answer gives hot))
+    answers c.args.limits bytes (bytes c.args.db) [] (bytes c.args.journal) c.from_residual.result e c.from_residual.ensures.1
+    (replay_refused c.args.limits (bytes c.args.db) (bytes c.args.journal) hot e (c.in_err-replay.ensures.answer gives hot))
 
 pub returns-in_err-count-clause-answer : goal.returns-in_err-count-clause-answer
 returns-in_err-count-clause-answer g c = λ gives hot names.
     let bytes = g.F.FileBytes.bytes in
     let b = bytes c.args.journal in
     let e = c.in_err-count.field-0.0 in
-    answers bytes (bytes c.args.db) [] b c.from_residual-in_err-count.result e c.from_residual-in_err-count.ensures.1
-    (restored_limited (bytes c.args.db) b hot c.args.header.now.page_size c.from.result names.size (c.from.ensures ∙ names.first_size) (c.in_ok-replay.ensures.answer gives hot).0 e c.in_err-count.ensures)
+    answers c.args.limits bytes (bytes c.args.db) [] b c.from_residual-in_err-count.result e c.from_residual-in_err-count.ensures.1
+    (restored_limited c.args.limits (bytes c.args.db) b hot c.args.header.now.page_size c.from.result names.size (c.from.ensures ∙ names.first_size) (c.in_ok-replay.ensures.answer gives hot).0 e c.in_err-count.ensures)
 
 pub returns-clause-answer : goal.returns-clause-answer
 returns-clause-answer g c = λ gives hot names.
@@ -33,6 +33,6 @@ returns-clause-answer g c = λ gives hot names.
     let j = read_journal b c.in_ok-replay.replay read.1 in
     let are = read_places b c.in_ok-replay.replay read.1 n places read.0 c.in_ok-places.ensures.places in
     let back : IsRolledBack db b (laid size n db b places) = rolled_back b n places are j.0 j.1 j.2 j.3 hot size db names.size (c.in_ok-count.ensures.0 ∙ count) in
-    restored_shown db b hot size c.from.result names.size count read.0 bytes
+    restored_shown c.args.limits db b hot size c.from.result names.size count read.0 bytes
     (record { db = c.args.db; log = c.replayed.new.journal; page_size = size; count = n; front = 0; places = c.in_ok-places.places }) c.in_ok-count.ensures names.size
     (subst (λ (l : List ℕ). IsRolledBack db b (laid size n db l places)) (sym c.replayed.ensures.same_bytes) back) refl are.long

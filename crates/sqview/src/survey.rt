@@ -1,0 +1,25 @@
+//! A map of the database that a view gives.
+ghost use Rattle.std.specs.Prelude.{◌≡◌, length, IfOk, IfErr};
+ghost use Rattle.sqcheck.specs.Surveys.{FindsClean, FindsDamaged, SurveyRefused};
+ghost use Rattle.sqview.specs.LogView.{pages_of};
+
+use crate::file_bytes::FileBytes;
+use crate::view::View;
+use sqcheck::{Survey, survey_pages};
+use sqpage::CheckError;
+use std::alloc::Global;
+
+/// What a survey finds of a view: what `check` finds, and what each page is used for, also of a damaged database.
+/// Refused as a survey is.
+pub fn survey_view<F: FileBytes>(alloc: Global, view: &mut View<F>) -> Result<Survey, CheckError>
+    ensures clean { F.gives_bytes view.old.db × F.gives_bytes view.old.log
+        → IfOk result (FindsClean (pages_of F.bytes view.old) view.old.page_size) }
+    ensures damaged { F.gives_bytes view.old.db × F.gives_bytes view.old.log
+        → IfOk result (FindsDamaged (pages_of F.bytes view.old) view.old.page_size) }
+    ensures refused { F.gives_bytes view.old.db × F.gives_bytes view.old.log
+        → IfErr result (λ e. SurveyRefused (pages_of F.bytes view.old) view.old.page_size e.fault e.page) }
+    ensures each { F.gives_bytes view.old.db × F.gives_bytes view.old.log
+        → IfOk result (λ survey. length survey.roles.items ≡ view.old.count) }
+{
+    survey_pages(alloc, view)
+}
