@@ -1,9 +1,12 @@
 -- What the options of a command are, and can't be.
 use Rattle.std.proofs.Common.{◌≡◌, ◌≢◌, ◌⊎◌, inl, inr, ⊎_elim, ℕ, List, Bor, get_or, sym, refl, ◌∙◌, ap, subst, arith}
-use Rattle.std.specs.Prelude.{Bool, true, false, not, Option, None, Some, is_some, codes, nat_eq, MatchOption}
+use Rattle.std.specs.Prelude.{Bool, true, false, not, Option, None, Some, is_some, codes, nat_eq, slice_get, MatchOption}
 use Rattle.std.specs.Cmp.Lexicographic.{bytes_decides, pointwise}
 use Rattle.std.proofs.lemmas.Option.{none-some}
-use Rattle.sqrescue.specs.Line.{AreAmiss, AsksAt, AsksNoPart, AsksTo, HasNoText, HasText, NamesOfLog}
+use Rattle.sqrescue.specs.Line.{AreAmiss, AreNoReport, AreOptions, Asks, AsksAt, AsksBesides, AsksNoPart, AsksNothing, AsksTo}
+use Rattle.sqrescue.specs.Line.{HasNoText, HasText, IsFile, IsReport, NamesOfLog}
+use Rattle.sqrescue.specs.declared.requests.Options.{Options}
+use Rattle.sqrescue.specs.declared.requests.Request.{Request}
 
 -- what a test whether two words are equal has told
 pub others : (xs ys : List ℕ) → false ≡ pointwise nat_eq xs ys → xs ≢ ys
@@ -18,11 +21,45 @@ pub not_recover : (command : List ℕ) → command ≡ codes "show" → command 
 not_recover command show recover =
     let e : 115 ≡ 114 = ap (λ (l : List ℕ). get_or l 0 0) (sym show ∙ recover) in omega (arith, e)
 
+pub not_report : (command : List ℕ) → command ≡ codes "show" → command ≢ codes "report"
+not_report command show report =
+    let e : 115 ≡ 114 = ap (λ (l : List ℕ). get_or l 0 0) (sym show ∙ report) in omega (arith, e)
+
+pub no_check : (command : List ℕ) → command ≡ codes "report" → command ≢ codes "check"
+no_check command report check =
+    let e : 114 ≡ 99 = ap (λ (l : List ℕ). get_or l 0 0) (sym report ∙ check) in omega (arith, e)
+
+pub no_recover : (command : List ℕ) → command ≡ codes "report" → command ≢ codes "recover"
+no_recover command report recover =
+    let e : 112 ≡ 99 = ap (λ (l : List ℕ). get_or l 2 0) (sym report ∙ recover) in omega (arith, e)
+
+pub report_amiss : (command : List ℕ) (options : List (List ℕ)) → command ≡ codes "report" → AreNoReport options
+    → AreAmiss command options
+report_amiss command options is none = (
+  (λ check. absurd (no_check command is check)),
+  (λ recover. absurd (no_recover command is recover)),
+  (λ _. none),
+  (λ show. absurd (not_report command show is)),
+)
+
+-- what the options of a report are told of, as what the words ask for
+pub report_asks : (words : List (List ℕ)) (command : List ℕ) (file : Bor (List ℕ)) (options : List (List ℕ)) (o : Options)
+    (r : Option Request) → command ≡ codes "report" → slice_get words 1 ≡ Some command → IsFile words file.now
+    → AreOptions words options → AsksBesides options o
+    → MatchOption r (AreNoReport options) (IsReport options file o)
+    → MatchOption r (AsksNothing words command file.now) (Asks words)
+report_asks words command file options o None is second named are besides none =
+    λ _ _. (options, are, inr (report_amiss command options is none))
+report_asks words command file options o (Some request) is second named are besides (known, force, (to, text, same)) =
+    let P : Request → Type 0 = λ r. Asks words r in
+    subst P (sym same) (second ∙ ap Some is, named, (options, are, known, force, text, besides))
+
 pub show_amiss : (command : List ℕ) (options : List (List ℕ)) (at : Option ℕ) → command ≡ codes "show" → AsksAt options at
     → AsksNoPart options ⊎ NamesOfLog options at → AreAmiss command options
 show_amiss command options at is asks amiss = (
   (λ check. absurd (not_check command is check)),
   (λ recover. absurd (not_recover command is recover)),
+  (λ report. absurd (not_report command is report)),
   (λ show. ⊎_elim (λ none. inl none) (λ of. inr (at, asks, of)) amiss),
 )
 

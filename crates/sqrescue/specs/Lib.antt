@@ -1,6 +1,8 @@
 pub mod FileDisk
+pub mod Fronts
 pub mod Line
 pub mod Locks
+pub mod Pages
 pub mod Paths
 pub mod Readings
 pub mod Refusals

@@ -5,14 +5,14 @@ use Rattle.std.specs.Borrow.{Bor}
 use Rattle.std.specs.List.{Contains}
 use Rattle.std.specs.Str.Parse.{IsNumeral, digits_value, without_leading_plus}
 use Rattle.sqrescue.specs.declared.requests.Part.{Part}
-use Rattle.sqrescue.specs.declared.requests.Part.TheVariants.{Header, Page, Log, Commits}
+use Rattle.sqrescue.specs.declared.requests.Part.TheVariants.{Header, Page, Log, Commits, Pages}
 use Rattle.sqrescue.specs.declared.requests.SuperJournal.{SuperJournal}
 use Rattle.sqrescue.specs.declared.requests.SuperJournal.TheVariants.{Present, Gone}
 use Rattle.sqrescue.specs.declared.requests.Style.{Style}
 use Rattle.sqrescue.specs.declared.requests.Style.TheVariants.{Lines, Json}
 use Rattle.sqrescue.specs.declared.requests.Options.{Options}
 use Rattle.sqrescue.specs.declared.requests.Request.{Request}
-use Rattle.sqrescue.specs.declared.requests.Request.TheVariants.{Show, Check, Recover, Version}
+use Rattle.sqrescue.specs.declared.requests.Request.TheVariants.{Show, Check, Recover, Report, Version}
 
 -- the words behind the command, up to a "--"
 pub record AreOptions (words options : List (List ℕ)) : Type 0 where
@@ -47,23 +47,27 @@ IsFrameNumber text n = (n < 2 ^ 32) × IsNumber text n
 -- the options ask for this part
 abbrev pub AsksPart : (options : List (List ℕ)) → Part → Type 0
 AsksPart options Header = (¬ Contains options (codes "--log")) × (¬ Contains options (codes "--commits"))
-    × (¬ Contains options (codes "--all")) × HasNoText (codes "--page") options
+    × (¬ Contains options (codes "--all")) × (¬ Contains options (codes "--pages")) × HasNoText (codes "--page") options
 AsksPart options (Page n) = (¬ Contains options (codes "--log")) × (¬ Contains options (codes "--commits"))
-    × (¬ Contains options (codes "--all"))
+    × (¬ Contains options (codes "--all")) × (¬ Contains options (codes "--pages"))
     × ((text : List ℕ) × HasText (codes "--page") options text × IsPageNumber text n)
 AsksPart options (Log all) = Contains options (codes "--log") × (¬ Contains options (codes "--commits"))
-    × (IsTrue all ↔ Contains options (codes "--all")) × HasNoText (codes "--page") options
+    × (IsTrue all ↔ Contains options (codes "--all")) × (¬ Contains options (codes "--pages"))
+    × HasNoText (codes "--page") options
 AsksPart options Commits = (¬ Contains options (codes "--log")) × Contains options (codes "--commits")
-    × (¬ Contains options (codes "--all")) × HasNoText (codes "--page") options
+    × (¬ Contains options (codes "--all")) × (¬ Contains options (codes "--pages")) × HasNoText (codes "--page") options
+AsksPart options Pages = (¬ Contains options (codes "--log")) × (¬ Contains options (codes "--commits"))
+    × (¬ Contains options (codes "--all")) × Contains options (codes "--pages") × HasNoText (codes "--page") options
 
--- they ask for none: for a page by what is no page's number, for two of a page, the log and the commits, or for all of
--- what isn't the log
+-- they ask for none: for a page by what is no page's number, for two of a page, the log, the commits and the pages, or
+-- for all of what isn't the log
 abbrev pub AsksNoPart : (options : List (List ℕ)) → Type 0
 AsksNoPart options =
     ((text : List ℕ) × HasText (codes "--page") options text × (((n : ℕ) → ¬ IsPageNumber text n)
-    ⊎ Contains options (codes "--log") ⊎ Contains options (codes "--commits")))
+    ⊎ Contains options (codes "--log") ⊎ Contains options (codes "--commits") ⊎ Contains options (codes "--pages")))
     ⊎ (Contains options (codes "--log") × Contains options (codes "--commits"))
     ⊎ (Contains options (codes "--all") × ¬ Contains options (codes "--log"))
+    ⊎ (Contains options (codes "--pages") × (Contains options (codes "--log") ⊎ Contains options (codes "--commits")))
 
 -- a word that is no option: it doesn't begin with a "-", or is a "-" alone
 abbrev pub IsPlain : (word : List ℕ) → Type 0
@@ -128,11 +132,21 @@ MayBeAt Header frame = Unit {0}
 MayBeAt (Page n) frame = Unit {0}
 MayBeAt (Log all) frame = frame ≡ None
 MayBeAt Commits frame = frame ≡ None
+MayBeAt Pages frame = Unit {0}
 
 -- the file that a recovery is to make, if one is named
 abbrev pub AsksTo : (options : List (List ℕ)) → Option (Bor (List ℕ)) → Type 0
 AsksTo options None = HasNoText (codes "--to") options
 AsksTo options (Some to) = HasText (codes "--to") options to.now
+
+-- the options of a report say this: the file that it makes, and what else is asked
+abbrev pub IsReport : (options : List (List ℕ)) → (file : Bor (List ℕ)) → Options → Request → Type 0
+IsReport options file o request = AreKnown true options × (¬ Contains options (codes "--force"))
+    × ((to : Bor (List ℕ)) × HasText (codes "--to") options to.now × (request ≡ Report file to o))
+
+-- they can't be a report's: another one is among them, or the file to be made isn't named
+abbrev pub AreNoReport : (options : List (List ℕ)) → Type 0
+AreNoReport options = (¬ AreKnown true options) ⊎ Contains options (codes "--force") ⊎ HasNoText (codes "--to") options
 
 -- a word behind which a value stands
 abbrev pub TakesValue : (word : List ℕ) → Type 0
@@ -154,8 +168,8 @@ abbrev pub AsksVersion : List (List ℕ) → Type 0
 AsksVersion words = slice_get words 1 ≡ Some (codes "--version")
 
 -- The second word is the command, the file stands behind it, and the options before a "--" say the rest, each exactly where
--- it stands; behind `check` and `recover` there are no others. A commit goes with no part of the whole log, and with a
--- recovery only where that makes another file.
+-- it stands; behind `check`, `recover` and `report` there are no others. A commit goes with no part of the whole log, and
+-- with a recovery only where that makes another file; a report makes one.
 abbrev pub Asks : List (List ℕ) → Request → Type 0
 Asks words (Show file part o) =
     (slice_get words 1 ≡ Some (codes "show")) × IsFile words file.now
@@ -167,6 +181,10 @@ Asks words (Recover file to force o) =
     (slice_get words 1 ≡ Some (codes "recover")) × IsFile words file.now
     × ((options : List (List ℕ)) × AreOptions words options × AreKnown true options × AsksBesides options o
     × (IsTrue force ↔ Contains options (codes "--force")) × AsksTo options to × (to ≡ None → o.at ≡ None))
+Asks words (Report file to o) =
+    (slice_get words 1 ≡ Some (codes "report")) × IsFile words file.now
+    × ((options : List (List ℕ)) × AreOptions words options × AreKnown true options
+    × (¬ Contains options (codes "--force")) × HasText (codes "--to") options to.now × AsksBesides options o)
 Asks words Version = AsksVersion words
 
 -- a commit is named, and they ask for a part that is of the whole log
@@ -174,12 +192,14 @@ abbrev pub NamesOfLog : (options : List (List ℕ)) → (frame : Option ℕ) →
 NamesOfLog options frame = (frame ≢ None) × (Contains options (codes "--log") ⊎ Contains options (codes "--commits"))
 
 -- what the options of a command can't be: those of `show` ask for no part, or for one that has no commits; those of `check`
--- and `recover` have another among them; those of `recover` name a commit and no file to be made
+-- and `recover` have another among them; those of `recover` name a commit and no file to be made; those of `report` have
+-- another among them, or name no file to be made
 abbrev pub AreAmiss : (command : List ℕ) → (options : List (List ℕ)) → Type 0
 AreAmiss command options =
     (command ≡ codes "check" → ¬ AreKnown false options)
     × (command ≡ codes "recover" → (¬ AreKnown true options)
     ⊎ (((frame : Option ℕ) → AsksAt options frame → frame ≢ None) × HasNoText (codes "--to") options))
+    × (command ≡ codes "report" → AreNoReport options)
     × (command ≡ codes "show" → AsksNoPart options
     ⊎ ((frame : Option ℕ) × AsksAt options frame × NamesOfLog options frame))
 

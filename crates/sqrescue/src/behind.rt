@@ -2,6 +2,7 @@
 ghost use Rattle.std.specs.Prelude.{◌≡◌, ◌-◌, ◌/◌, ◌%◌, ◌<◌};
 
 use crate::facts::{Fact, number, write_facts, write_object};
+use crate::fronts::Front;
 use crate::requests::Style;
 use crate::showing::ShowError;
 use sqjournal::{JournalHeader, RecordSlot, Replay, is_zeroed};
@@ -27,6 +28,16 @@ pub(crate) enum Shown {
     Refused,
     Wal(Scan),
     Journal(Replay),
+}
+
+impl Shown {
+    /// The front of the log, if a frame of one counts.
+    pub(crate) fn front(&self) -> Option<Front> {
+        match self {
+            Shown::Wal(scan) => Front::of_scan(scan),
+            Shown::Neither | Shown::Refused | Shown::Journal(_) => None,
+        }
+    }
 }
 
 /// Where slot i begins, from 0, of slots of one length from a place on.

@@ -1,4 +1,5 @@
 //! What `check` prints.
+use crate::fronts::as_before;
 use crate::logs::{Contents, open_all};
 use crate::notes::Notes;
 use crate::outcome::Refusal;
@@ -6,14 +7,17 @@ use crate::paths::{Paths, paths_of};
 use crate::requests::Options;
 use crate::showing::ShowError;
 use crate::texts::{write_fault, write_report};
-use crate::views::verdict_of;
+use crate::views::{Finding, judged};
 use crate::watch::{Readings, readings_of, time_to_wait, unchanged};
-use sqview::Verdict;
+use sqview::{ReadAhead, Verdict};
 use std::io::{self, Write};
 use std::os::unix::fs::FileExt;
 use std::rt::Files;
 use std::thread;
 use std::time::Clock;
+
+/// How many bytes of a database file are read at once, where its pages are read one behind the other.
+const PIECE: usize = 32_768;
 
 /// Checks a database file as its log has it, and prints what is in it or its first fault. Whether it is well formed. No
 /// file is opened for writing, and none is made. Refused by `FileChanged` where a file changed meanwhile.
@@ -61,44 +65,53 @@ where
     } = options;
     let before = readings_of(rt, paths, false, notes)?;
     let wait = time_to_wait(rt, &before);
-    let answer = verdict(rt, open_all(rt, paths, super_journal, notes), at);
-    match watched(rt, paths, &before, answer, notes)? {
+    let found = judged_in(rt, open_all(rt, paths, super_journal, at, notes), at);
+    match watched(rt, paths, &before, found, notes)? {
         Verdict::Damaged(_) if !wait.is_zero() => {
             thread::sleep(rt, wait);
             let settled = readings_of(rt, paths, false, notes)?;
             unchanged(&before, &settled, Ok(()))?;
             let mut nowhere = io::sink();
             let mut unheard = Notes::new(&mut nowhere, false);
-            let answer = verdict(rt, open_all(rt, paths, super_journal, &mut unheard), at);
-            watched(rt, paths, &settled, answer, notes)
+            let found = judged_in(rt, open_all(rt, paths, super_journal, at, &mut unheard), at);
+            watched(rt, paths, &settled, found, notes)
         }
         verdict => Ok(verdict),
     }
 }
 
-/// The verdict on opened files, at a commit or as their log has them.
-fn verdict<R: Files + AllocGlobal>(
+/// What is found of opened files, at a commit or as their log has them.
+fn judged_in<R: Files + AllocGlobal>(
     rt: &R,
     opened: Result<Contents<'_, R::File>, Refusal>,
     at: Option<u32>,
-) -> Result<Verdict, Refusal>
+) -> Result<Finding, Refusal>
 where
     R::File: FileExt,
 {
     let Contents { db, wal, journal } = opened?;
-    verdict_of(rt.alloc(), db, wal, journal, at)
+    let alloc = rt.alloc();
+    let db = ReadAhead::new(alloc, db, PIECE)?;
+    let wal = ReadAhead::new(alloc, wal, 0)?;
+    let journal = ReadAhead::new(alloc, journal, 0)?;
+    judged(alloc, db, wal, journal, at)
 }
 
-/// The verdict on files, if they are as they were before.
+/// The verdict on files, if they are as they were before, and the frames of the log that counted still stand.
 fn watched<R: Files, E: Write>(
     rt: &R,
     paths: &Paths,
     before: &Readings,
-    answer: Result<Verdict, Refusal>,
+    found: Result<Finding, Refusal>,
     notes: &mut Notes<'_, E>,
 ) -> Result<Verdict, Refusal>
 where
     R::File: FileExt,
 {
-    unchanged(before, &readings_of(rt, paths, false, notes)?, answer)
+    let front = match &found {
+        Ok(found) => found.front,
+        Err(_) => None,
+    };
+    as_before(rt, paths, before, false, front, notes)?;
+    Ok(found?.verdict)
 }

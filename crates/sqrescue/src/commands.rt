@@ -73,7 +73,14 @@ fn show_command<'a>(alloc: Global) -> Result<Command<'a>, AllocError> {
         .value_parser(value_parser!(u32).range(1..))
         .conflicts_with("log")?
         .conflicts_with("commits")?
+        .conflicts_with("pages")?
         .help("Shows this page instead");
+    let pages = Arg::new(alloc, "pages")
+        .long("pages")
+        .action(ArgAction::SetTrue)
+        .conflicts_with("log")?
+        .conflicts_with("commits")?
+        .help("Shows what each page is used for instead, and checks the database");
     let log = Arg::new(alloc, "log")
         .long("log")
         .action(ArgAction::SetTrue)
@@ -97,6 +104,7 @@ fn show_command<'a>(alloc: Global) -> Result<Command<'a>, AllocError> {
         at_arg(alloc),
     )?
     .arg(page)?
+    .arg(pages)?
     .arg(log)?
     .arg(all)?
     .arg(commits)
@@ -125,6 +133,22 @@ fn recover_command<'a>(alloc: Global) -> Result<Command<'a>, AllocError> {
     .arg(force)
 }
 
+fn report_command<'a>(alloc: Global) -> Result<Command<'a>, AllocError> {
+    let to = Arg::new(alloc, "to")
+        .long("to")
+        .value_name("OUT")
+        .required(true)
+        .action(ArgAction::Set)
+        .help("Makes the file OUT, which a browser shows without a network");
+    base_command(
+        alloc,
+        "report",
+        "Makes a page of HTML that shows the database and its log; writes neither FILE nor its logs",
+        at_arg(alloc),
+    )?
+    .arg(to)
+}
+
 /// The program's command line.
 pub(crate) fn command<'a>(alloc: Global) -> Result<Command<'a>, AllocError> {
     let version = Arg::new(alloc, "version")
@@ -144,5 +168,6 @@ pub(crate) fn command<'a>(alloc: Global) -> Result<Command<'a>, AllocError> {
         .arg(version)?
         .subcommand(show_command(alloc)?)?
         .subcommand(check)?
-        .subcommand(recover_command(alloc)?)
+        .subcommand(recover_command(alloc)?)?
+        .subcommand(report_command(alloc)?)
 }

@@ -1,4 +1,5 @@
 //! A file that holds what a recovery would leave in a database file, of which nothing is written.
+use crate::fronts::{Front, as_before};
 use crate::hints::{tell_length, told};
 use crate::journals::names_super_journal;
 use crate::logs::{Beside, open_logs, opened};
@@ -10,12 +11,14 @@ use crate::requests::{Options, SuperJournal};
 use crate::showing::ShowError;
 use crate::texts::write_outcome;
 use crate::views::view_of;
-use crate::watch::{Readings, readings_of, time_to_wait, unchanged};
+use crate::watch::{Readings, readings_of, time_to_wait};
 use sqjournal::JournalError;
 use sqpage::{PageSource, has_magic, named_page_size};
 use sqval::PageSize;
-use sqview::{CopyError, FileBytes, LogInUse, View, copy, log_in_use, replay_log, scan_log};
-use sqwal::WalFormatError;
+use sqview::{
+    CopyError, FileBytes, LogInUse, ReadAhead, View, copy, log_in_use, replay_log, scan_log,
+};
+use sqwal::{Scan, WalFormatError};
 use std::alloc::Global;
 use std::fs::{self, OpenFile, OpenOptions};
 use std::io::Write;
@@ -24,7 +27,7 @@ use std::rt::Files;
 use std::thread;
 use std::time::Clock;
 
-/// How many bytes of a file are copied at once.
+/// How many bytes of a file are read at once.
 const PIECE: usize = 65_536;
 
 /// What is to be written.
@@ -32,8 +35,18 @@ const PIECE: usize = 65_536;
 enum Content<'a, F> {
     /// The database file as it stands.
     File(OpenedFile<'a, F>),
-    /// The pages of a view.
-    Pages(View<OpenedFile<'a, F>>),
+    /// The pages of a view, of which neighbours are read at once.
+    Pages(View<ReadAhead<OpenedFile<'a, F>>>),
+}
+
+impl<F: FileExt + Drop> Content<'_, F> {
+    /// The front of the log that is folded, if one is.
+    fn front(&self) -> Option<Front> {
+        match self {
+            Content::File(_) => None,
+            Content::Pages(view) => Front::of_view(view),
+        }
+    }
 }
 
 /// What a recovery comes to, what it leaves in the database file, and who may read that.
@@ -63,7 +76,7 @@ where
     let before = readings_of(rt, &paths, false, notes)?;
     thread::sleep(rt, time_to_wait(rt, &before));
     let found = found_in(rt, &paths, options, notes);
-    let found = match watched(rt, &paths, &before, found, notes) {
+    let found = match watched(rt, &paths, &before, None, found, notes) {
         Ok(found) => found,
         Err(refusal) => return Err(ShowError::Refused(paths.told(notes, refusal))),
     };
@@ -72,9 +85,9 @@ where
         return Err(ShowError::Refused(Refusal::FileFailed));
     }
     let made = new_file(rt, to, found.mode, notes)?;
-    let outcome = found.outcome;
+    let (outcome, front) = (found.outcome, found.content.front());
     let written = written(rt, found.content, made, to, notes);
-    let answer = match watched(rt, &paths, &before, written, notes) {
+    let answer = match watched(rt, &paths, &before, front, written, notes) {
         Ok(()) => printed(out, options, outcome),
         Err(refusal) => Err(ShowError::Refused(paths.told(notes, refusal))),
     };
@@ -92,18 +105,20 @@ fn printed<O: Write>(out: &mut O, options: Options, outcome: Outcome) -> Result<
     Ok(())
 }
 
-/// An answer, if the files are as they were before.
+/// An answer, if the files are as they were before, and the frames up to this front still stand.
 fn watched<R: Files + AllocGlobal, T: Drop, E: Write>(
     rt: &R,
     paths: &Paths,
     before: &Readings,
+    front: Option<Front>,
     answer: Result<T, Refusal>,
     notes: &mut Notes<'_, E>,
 ) -> Result<T, Refusal>
 where
     R::File: FileExt,
 {
-    unchanged(before, &readings_of(rt, paths, false, notes)?, answer)
+    as_before(rt, paths, before, false, front, notes)?;
+    answer
 }
 
 /// What a recovery of these files comes to.
@@ -120,7 +135,7 @@ where
         db: said,
         wal,
         mut journal,
-    } = open_logs(rt, paths, options.super_journal, notes)?;
+    } = open_logs(rt, paths, options.super_journal, options.at, notes)?;
     let mode = said.mode() & 0o777;
     let mut db = opened(rt, &paths.db, Some(said), 0, notes)?;
     tell_length(notes, paths.db.as_str(), &mut db);
@@ -143,8 +158,8 @@ where
     })
 }
 
-/// The size of a log's pages. None where its header isn't valid, or it has no front.
-fn page_size_of<F: FileBytes>(alloc: Global, wal: &mut F) -> Result<Option<PageSize>, Refusal> {
+/// The scan of a log, and the size of its pages. None where its header isn't valid, or it has no front.
+fn scanned<F: FileBytes>(alloc: Global, wal: &mut F) -> Result<Option<(Scan, PageSize)>, Refusal> {
     let scan = match scan_log(alloc, wal)? {
         Ok(scan) => scan,
         Err(WalFormatError::TooLong) => return Err(Refusal::TooLarge),
@@ -153,7 +168,7 @@ fn page_size_of<F: FileBytes>(alloc: Global, wal: &mut F) -> Result<Option<PageS
         Err(_) => return Ok(None),
     };
     Ok(match scan.header() {
-        Some(header) if scan.committed().frames != 0 => Some(header.page_size),
+        Some(header) if scan.committed().frames != 0 => Some((scan, header.page_size)),
         _ => None,
     })
 }
@@ -166,7 +181,7 @@ fn folded<'a, F: FileExt + Drop>(
     at: Option<u32>,
 ) -> Result<(Outcome, Content<'a, F>), Refusal> {
     let (mut db, mut wal) = (db, wal);
-    let Some(page_size) = page_size_of(alloc, &mut wal)? else {
+    let Some((scan, page_size)) = scanned(alloc, &mut wal)? else {
         return match at {
             Some(_) => Err(Refusal::NoSuchCommit),
             None => Ok((Outcome::NoFront, Content::File(db))),
@@ -175,7 +190,10 @@ fn folded<'a, F: FileExt + Drop>(
     if has_other_size(&mut db, page_size)? {
         return Err(Refusal::PageSizesDiffer);
     }
-    let view = view_of(alloc, db, wal, OpenedFile::missing(), at)?;
+    let frame = at.unwrap_or(scan.committed().frames);
+    let db = ReadAhead::new(alloc, db, PIECE)?;
+    let wal = ReadAhead::new(alloc, wal, PIECE)?;
+    let view = View::of_scan(alloc, db, wal, &scan, frame)?;
     let outcome = Outcome::Folded {
         frames: view.front(),
         pages: view.count(),
@@ -211,7 +229,10 @@ fn rolled_back<'a, F: FileExt + Drop>(
         Err(JournalError::NoMemory) => return Err(Refusal::NoMemory),
         Err(_) => return Err(Refusal::FileFailed),
     };
-    let view = view_of(alloc, db, OpenedFile::missing(), journal, None)?;
+    let db = ReadAhead::new(alloc, db, PIECE)?;
+    let wal = ReadAhead::new(alloc, OpenedFile::missing(), 0)?;
+    let journal = ReadAhead::new(alloc, journal, PIECE)?;
+    let view = view_of(alloc, db, wal, journal, None)?;
     let outcome = Outcome::RolledBack {
         records,
         pages: view.count(),
@@ -220,7 +241,7 @@ fn rolled_back<'a, F: FileExt + Drop>(
 }
 
 /// A new file with these permissions, as far as the process gives them.
-fn new_file<R: Files, E: Write>(
+pub(crate) fn new_file<R: Files, E: Write>(
     rt: &R,
     path: &str,
     mode: u32,
@@ -293,7 +314,7 @@ fn copy_file<F: FileBytes, W: Write>(
 }
 
 /// Syncs the folder in which a file lies, where the system lets us.
-fn sync_folder<R: Files>(rt: &R, path: &str) {
+pub(crate) fn sync_folder<R: Files>(rt: &R, path: &str) {
     if let Ok(folder) = OpenOptions::new().read(true).open(rt, folder_of(path)) {
         let _ = folder.sync_all();
     }

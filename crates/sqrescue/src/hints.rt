@@ -54,6 +54,8 @@ pub(crate) struct Logs {
     pub is_hot: bool,
     /// Whether the journal names a super-journal that is gone.
     pub is_out_of_force: bool,
+    /// Whether the file is asked for without them.
+    pub is_left_out: bool,
 }
 
 /// Why a journal doesn't count.
@@ -67,7 +69,7 @@ fn reason(logs: Logs) -> &'static str {
     }
 }
 
-/// Says which log counts, and why the other doesn't.
+/// Says which log counts or is left out, and why the other doesn't.
 pub(crate) fn tell_choice<E: Write>(notes: &mut Notes<'_, E>, paths: &Paths, logs: Logs) {
     let (wal, journal) = (paths.wal.as_str(), paths.journal.as_str());
     if logs.is_hot && logs.wal != 0 {
@@ -77,13 +79,17 @@ pub(crate) fn tell_choice<E: Write>(notes: &mut Notes<'_, E>, paths: &Paths, log
         ));
         return;
     }
-    if logs.is_hot {
+    if logs.is_hot && logs.is_left_out {
+        notes.tell(&format_args!("{journal} is left out by --at 0"));
+    } else if logs.is_hot {
         notes.tell(&format_args!("{journal} counts: it is hot"));
     } else {
         let reason = reason(logs);
         notes.tell(&format_args!("{journal} doesn't count: {reason}"));
     }
-    if logs.wal != 0 {
+    if logs.wal != 0 && logs.is_left_out {
+        notes.tell(&format_args!("{wal} is left out by --at 0"));
+    } else if logs.wal != 0 {
         notes.tell(&format_args!("{wal} counts: it isn't empty"));
     } else {
         notes.tell(&format_args!("{wal} doesn't count: there is none, or it is empty"));

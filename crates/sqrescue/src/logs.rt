@@ -90,12 +90,13 @@ fn found_files<R: Files, E: Write>(
     Ok((db, wal, journal))
 }
 
-/// Opens the logs beside a database file, and says what is to be noted of them. A hot journal that is out of force is
-/// taken as a missing one.
+/// Opens the logs beside a database file, and says what is to be noted of them, where the database is asked for at this
+/// commit frame. A hot journal that is out of force is taken as a missing one.
 pub(crate) fn open_logs<'a, R: Files, E: Write>(
     rt: &R,
     paths: &'a Paths,
     super_journal: Option<SuperJournal>,
+    at: Option<u32>,
     notes: &mut Notes<'_, E>,
 ) -> Result<Beside<'a, R::File>, Refusal>
 where
@@ -125,6 +126,7 @@ where
         has_journal,
         is_hot,
         is_out_of_force,
+        is_left_out: at == Some(0),
     };
     tell_choice(notes, paths, logs);
     if names_super && super_journal.is_none() {
@@ -146,12 +148,13 @@ pub(crate) fn open_all<'a, R: Files, E: Write>(
     rt: &R,
     paths: &'a Paths,
     super_journal: Option<SuperJournal>,
+    at: Option<u32>,
     notes: &mut Notes<'_, E>,
 ) -> Result<Contents<'a, R::File>, Refusal>
 where
     R::File: FileExt,
 {
-    let Beside { db, wal, journal } = open_logs(rt, paths, super_journal, notes)?;
+    let Beside { db, wal, journal } = open_logs(rt, paths, super_journal, at, notes)?;
     let mut db = opened(rt, &paths.db, Some(db), 0, notes)?;
     tell_length(notes, paths.db.as_str(), &mut db);
     Ok(Contents { db, wal, journal })

@@ -6,8 +6,10 @@ use crate::copies::recover_to;
 use crate::hints::next_step;
 use crate::notes::Notes;
 use crate::outcome::Refusal;
+use crate::pages::show_pages;
 use crate::recovery::recover;
-use crate::requests::{LineError, Options, Request, Style};
+use crate::reports::report_to;
+use crate::requests::{LineError, Options, Part, Request, Style};
 use crate::showing::{ShowError, show};
 use crate::texts::write_outcome;
 use crate::words::request;
@@ -18,7 +20,7 @@ use std::rt::Files;
 use std::time::Clock;
 
 /// The line of `--version`.
-const VERSION: &str = "sqrescue 0.1.0";
+pub(crate) const VERSION: &str = "sqrescue 0.1.0";
 
 const DONE: u8 = 0;
 
@@ -76,7 +78,8 @@ fn options_of(request: &Request<'_>) -> Option<Options> {
     match request {
         Request::Show { options, .. }
         | Request::Check { options, .. }
-        | Request::Recover { options, .. } => Some(*options),
+        | Request::Recover { options, .. }
+        | Request::Report { options, .. } => Some(*options),
         Request::Version => None,
     }
 }
@@ -103,6 +106,15 @@ where
     match request {
         Request::Show {
             file,
+            part: Part::Pages,
+            options,
+        } => {
+            if !show_pages(rt, file, options, out, notes)? {
+                return Ok(Answer::Damaged);
+            }
+        }
+        Request::Show {
+            file,
             part,
             options,
         } => show(rt, file, part, options, out, notes)?,
@@ -127,6 +139,7 @@ where
             write_outcome(out, options.style, outcome)?;
             out.flush()?;
         }
+        Request::Report { file, to, options } => report_to(rt, file, to, options, out, notes)?,
         Request::Version => line(out, &VERSION)?,
     }
     Ok(Answer::Done)

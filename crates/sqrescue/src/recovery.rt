@@ -65,7 +65,7 @@ where
         db,
         wal,
         mut journal,
-    } = open_logs(rt, paths, super_journal, notes)?;
+    } = open_logs(rt, paths, super_journal, None, notes)?;
     if notes.are_asked() {
         tell_database(rt, paths, db, notes);
     }

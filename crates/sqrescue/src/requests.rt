@@ -12,6 +12,8 @@ pub enum Part {
     Log { all: bool },
     /// The commits in its write-ahead log.
     Commits,
+    /// What each of its pages is used for.
+    Pages,
 }
 
 /// Whether the super-journal that a hot journal names is there.
@@ -66,6 +68,12 @@ pub enum Request<'a> {
         file: &'a str,
         to: Option<&'a str>,
         force: bool,
+        options: Options,
+    },
+    /// To make another file that reports on this database file, which a browser shows.
+    Report {
+        file: &'a str,
+        to: &'a str,
         options: Options,
     },
     /// To say which version this is.

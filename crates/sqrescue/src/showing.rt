@@ -10,6 +10,7 @@ ghost use Rattle.sqrescue.specs.declared.showing.ShowError.TheVariants.{Refused,
 
 use crate::behind::{Shown, show_behind};
 use crate::facts::{number, write_facts};
+use crate::fronts::{Front, as_before};
 use crate::logs::{Beside, Contents, open_all, open_logs};
 use crate::notes::Notes;
 use crate::outcome::Refusal;
@@ -21,7 +22,7 @@ use crate::texts::{
     write_page, write_record, write_unfit,
 };
 use crate::views::view_of;
-use crate::watch::{Readings, readings_of, unchanged};
+use crate::watch::{Readings, readings_of};
 use sqjournal::JournalError;
 use sqpage::{BtreePage, Cell, DbHeader, Fault, PageSource, SourceError, payload};
 use sqval::Record;
@@ -93,26 +94,44 @@ where
         return Err(ShowError::Refused(Refusal::NoMemory));
     };
     let paths = paths_of(rt, file, notes)?;
+    match show_watched(rt, &paths, part, options, &mut lines, notes) {
+        Ok(Err(ShowError::Refused(refusal))) => Err(ShowError::Refused(paths.told(notes, refusal))),
+        Ok(answer) => {
+            answer?;
+            lines.flush()?;
+            Ok(())
+        }
+        Err(refusal) => {
+            let (_, _) = lines.into_parts();
+            Err(ShowError::Refused(refusal))
+        }
+    }
+}
+
+/// Prints a part, or says why not all is shown. Refused where a file changed meanwhile.
+fn show_watched<R: Files + AllocGlobal, W: Write, E: Write>(
+    rt: &R,
+    paths: &Paths,
+    part: Part,
+    options: Options,
+    out: &mut W,
+    notes: &mut Notes<'_, E>,
+) -> Result<Result<Option<Front>, ShowError>, Refusal>
+where
+    R::File: FileExt,
+{
     let only_logs = matches!(part, Part::Log { all: false } | Part::Commits);
-    let before = readings_of(rt, &paths, only_logs, notes)?;
+    let before = readings_of(rt, paths, only_logs, notes)?;
     if only_logs {
-        tell_length(&paths, &before, notes);
+        tell_length(paths, &before, notes);
     }
-    let answer = show_part(rt, &paths, part, options, &mut lines, notes);
-    let same = match readings_of(rt, &paths, only_logs, notes) {
-        Ok(after) => unchanged(&before, &after, Ok(())),
-        Err(refusal) => Err(refusal),
+    let answer = show_part(rt, paths, part, options, out, notes);
+    let front = match &answer {
+        Ok(front) => *front,
+        Err(_) => None,
     };
-    if let Err(refusal) = same {
-        let (_, _) = lines.into_parts();
-        return Err(ShowError::Refused(refusal));
-    }
-    if let Err(ShowError::Refused(refusal)) = answer {
-        return Err(ShowError::Refused(paths.told(notes, refusal)));
-    }
-    answer?;
-    lines.flush()?;
-    Ok(())
+    as_before(rt, paths, &before, only_logs, front, notes)?;
+    Ok(answer)
 }
 
 /// Says how long a database file is of which nothing else is read.
@@ -123,6 +142,7 @@ fn tell_length<E: Write>(paths: &Paths, before: &Readings, notes: &mut Notes<'_,
     }
 }
 
+/// Prints a part. The front of the log that was read, if a frame of one counts.
 fn show_part<R: Files + AllocGlobal, W: Write, E: Write>(
     rt: &R,
     paths: &Paths,
@@ -130,36 +150,43 @@ fn show_part<R: Files + AllocGlobal, W: Write, E: Write>(
     options: Options,
     out: &mut W,
     notes: &mut Notes<'_, E>,
-) -> Result<(), ShowError>
+) -> Result<Option<Front>, ShowError>
 where
     R::File: FileExt,
 {
     let Options {
         super_journal,
+        at,
         style,
         ..
     } = options;
     match part {
         Part::Header => {
-            let files = open_all(rt, paths, super_journal, notes)?;
+            let files = open_all(rt, paths, super_journal, at, notes)?;
             show_header(rt, files, options, out)
         }
         Part::Page(number) => {
-            let files = open_all(rt, paths, super_journal, notes)?;
+            let files = open_all(rt, paths, super_journal, at, notes)?;
             show_page(rt, files, number, options, out)
         }
         Part::Log { all: false } => {
-            let Beside { wal, journal, .. } = open_logs(rt, paths, super_journal, notes)?;
+            let Beside { wal, journal, .. } = open_logs(rt, paths, super_journal, at, notes)?;
             let (mut wal, mut journal) = (wal, journal);
-            show_log(rt.alloc(), &mut wal, &mut journal, style, out)?;
-            Ok(())
+            Ok(show_log(rt.alloc(), &mut wal, &mut journal, style, out)?.front())
         }
         Part::Log { all: true } => {
-            let files = open_all(rt, paths, super_journal, notes)?;
+            let files = open_all(rt, paths, super_journal, at, notes)?;
             show_whole_log(rt, files, style, out)
         }
+        // Written by `show_pages`.
+        Part::Pages => Ok(None),
         Part::Commits => {
-            show_commits(rt, open_logs(rt, paths, super_journal, notes)?, style, out)
+            show_commits(
+                rt,
+                open_logs(rt, paths, super_journal, at, notes)?,
+                style,
+                out,
+            )
         }
     }
 }
@@ -169,7 +196,7 @@ fn show_header<R: Files + AllocGlobal, W: Write>(
     files: Contents<'_, R::File>,
     options: Options,
     out: &mut W,
-) -> Result<(), ShowError>
+) -> Result<Option<Front>, ShowError>
 where
     R::File: FileExt,
 {
@@ -187,7 +214,7 @@ where
         return Err(ShowError::Refused(Refusal::NotADatabase));
     };
     write_header(out, options.style, &header, view.count())?;
-    Ok(())
+    Ok(Front::of_view(&view))
 }
 
 /// A page of a view. Refused where there is no such page.
@@ -212,7 +239,7 @@ fn page_of<F: FileBytes>(
 }
 
 /// How many bytes of a page are usable, by page 1. Where these are too few, all are (own).
-fn usable_size(first: &[u8]) -> u32
+pub(crate) fn usable_size(first: &[u8]) -> u32
     requires { IsPageSize (length first.now) }
     ensures least { 480 ≤ result }
     ensures most { result ≤ length first.now }
@@ -230,7 +257,7 @@ fn show_page<R: Files + AllocGlobal, W: Write>(
     number: u32,
     options: Options,
     out: &mut W,
-) -> Result<(), ShowError>
+) -> Result<Option<Front>, ShowError>
 where
     R::File: FileExt,
 {
@@ -241,9 +268,10 @@ where
     let usable = usable_size(&first);
     let page = page_of(alloc, &mut view, number)?;
     match BtreePage::new(&page, number, usable) {
-        Ok(btree) => show_cells(alloc, &mut view, &btree, number, options.style, out),
-        Err(_) => Ok(write_bytes(out, options.style, &page)?),
+        Ok(btree) => show_cells(alloc, &mut view, &btree, number, options.style, out)?,
+        Err(_) => write_bytes(out, options.style, &page)?,
     }
+    Ok(Front::of_view(&view))
 }
 
 /// Prints a b-tree page of the view with its cells.
@@ -358,7 +386,7 @@ fn show_whole_log<R: Files + AllocGlobal, W: Write>(
     files: Contents<'_, R::File>,
     style: Style,
     out: &mut W,
-) -> Result<(), ShowError>
+) -> Result<Option<Front>, ShowError>
 where
     R::File: FileExt,
 {
@@ -371,7 +399,8 @@ where
         &shown,
         style,
         out,
-    )
+    )?;
+    Ok(shown.front())
 }
 
 /// The frames that end a commit.
@@ -384,7 +413,7 @@ fn show_commits<R: Files + AllocGlobal, W: Write>(
     logs: Beside<'_, R::File>,
     style: Style,
     out: &mut W,
-) -> Result<(), ShowError>
+) -> Result<Option<Front>, ShowError>
 where
     R::File: FileExt,
 {
@@ -394,10 +423,13 @@ where
     let mut journal = journal;
     match log_in_use(&wal, &mut journal).map_err(Refusal::from)? {
         LogInUse::Wal => match scanned(alloc, &mut wal)? {
-            Ok(scan) => write_commits(out, style, &scan, &commits_of(alloc, &scan)?)?,
+            Ok(scan) => {
+                write_commits(out, style, &scan, &commits_of(alloc, &scan)?)?;
+                return Ok(Front::of_scan(&scan));
+            }
             Err(reason) => write_facts(out, style, &[number("wal refused", reason)])?,
         },
         LogInUse::Neither | LogInUse::Journal(_) => write_none(out, style, "commits")?,
     }
-    Ok(())
+    Ok(None)
 }

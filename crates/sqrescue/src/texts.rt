@@ -13,14 +13,9 @@ use std::io::{self, Write};
 /// How many bytes are written as hex at once.
 const HEX_PIECE: usize = 512;
 
-/// A line for each field of a database's header, and one for how many pages there are; or one object of all.
-pub(crate) fn write_header<W: Write>(
-    out: &mut W,
-    style: Style,
-    header: &DbHeader,
-    pages: u32,
-) -> io::Result<()> {
-    let fields = [
+/// The fields of a database's header, by their names.
+pub(crate) fn fields_of(header: &DbHeader) -> [(&'static str, u32); 18] {
+    [
         ("page size", header.page_size.get()),
         ("write version", u32::from(header.write_version)),
         ("read version", u32::from(header.read_version)),
@@ -39,19 +34,29 @@ pub(crate) fn write_header<W: Write>(
         ("application id", header.application_id),
         ("version valid for", header.version_valid_for),
         ("writer version", header.writer_version),
-        ("pages", pages),
-    ];
+    ]
+}
+
+/// A line for each field of a database's header, and one for how many pages there are; or one object of all.
+pub(crate) fn write_header<W: Write>(
+    out: &mut W,
+    style: Style,
+    header: &DbHeader,
+    pages: u32,
+) -> io::Result<()> {
     if style == Style::Json {
         let mut line = Line::new(out, style);
-        for (name, value) in fields {
+        for (name, value) in fields_of(header) {
             line.put(number(name, value))?;
         }
+        line.put(number("pages", pages))?;
         return line.end();
     }
-    for (name, value) in fields {
+    for (name, value) in fields_of(header) {
         writeln!(out, "{name:<20}{value}")?;
     }
-    Ok(())
+    let name = "pages";
+    writeln!(out, "{name:<20}{pages}")
 }
 
 /// A well-formed database: its pages by their use.
@@ -137,7 +142,7 @@ pub(crate) fn write_outcome<W: Write>(
 }
 
 /// Bytes in lower-case hex.
-fn write_hex<W: Write>(out: &mut W, bytes: &[u8]) -> io::Result<()> {
+pub(crate) fn write_hex<W: Write>(out: &mut W, bytes: &[u8]) -> io::Result<()> {
     let mut text = [0u8; 2 * HEX_PIECE];
     let mut rest = bytes;
     while !rest.is_empty() {
@@ -172,7 +177,7 @@ fn hex_end(style: Style) -> &'static str {
     }
 }
 
-fn kind_name(kind: Kind) -> &'static str {
+pub(crate) fn kind_name(kind: Kind) -> &'static str {
     match kind {
         Kind::TableLeaf => "table leaf",
         Kind::TableInterior => "table interior",
@@ -298,7 +303,7 @@ fn write_log_start<W: Write>(
     }
 }
 
-fn stop_name(why: sqwal::Why) -> &'static str {
+pub(crate) fn stop_name(why: sqwal::Why) -> &'static str {
     match why {
         sqwal::Why::End => "End",
         sqwal::Why::Cut => "Cut",
@@ -308,7 +313,7 @@ fn stop_name(why: sqwal::Why) -> &'static str {
     }
 }
 
-fn record_stop_name(why: sqjournal::Why) -> &'static str {
+pub(crate) fn record_stop_name(why: sqjournal::Why) -> &'static str {
     match why {
         sqjournal::Why::End => "End",
         sqjournal::Why::Header => "Header",

@@ -1,9 +1,10 @@
-//! The view and the verdict that are asked for.
+//! The view that is asked for, and what is found there.
 ghost use Rattle.std.specs.Prelude.{IfOk};
 ghost use Rattle.sqrescue.specs.Views.{AskedAnswer, IsFound};
 
+use crate::fronts::Front;
 use crate::outcome::Refusal;
-use sqview::{FileBytes, Verdict, View, ViewError, judge, judge_at};
+use sqview::{FileBytes, Verdict, View, ViewError, judge_view, without_view};
 use std::alloc::Global;
 
 /// The view of a file with its logs, at a commit frame where one is named.
@@ -25,19 +26,36 @@ pub(crate) fn view_of<F: FileBytes + Drop>(
     }
 }
 
-/// The verdict on a file with its logs, at a commit frame where one is named.
-pub(crate) fn verdict_of<F: FileBytes + Drop>(
+/// What is found of a file with its logs, and the front of the log, if a frame of one counts.
+#[derive(Clone, Copy, Debug, PartialEq, Eq)]
+pub(crate) struct Finding {
+    pub verdict: Verdict,
+    pub front: Option<Front>,
+}
+
+/// What is found of a file with its logs, at a commit frame where one is named.
+pub(crate) fn judged<F: FileBytes + Drop>(
     alloc: Global,
     db: F,
     wal: F,
     journal: F,
     at: Option<u32>,
-) -> Result<Verdict, Refusal>
+) -> Result<Finding, Refusal>
     ensures { F.gives_bytes db × F.gives_bytes wal × F.gives_bytes journal
-        → IfOk result (λ verdict. IsFound at (F.bytes db) (F.bytes wal) (F.bytes journal) verdict) }
+        → IfOk result (λ found. IsFound at (F.bytes db) (F.bytes wal) (F.bytes journal) found.verdict) }
 {
-    match at {
-        Some(frame) => Ok(judge_at(alloc, db, wal, journal, frame)?),
-        None => Ok(judge(alloc, db, wal, journal)?),
+    match view_of(alloc, db, wal, journal, at) {
+        Ok(mut view) => {
+            let front = Front::of_view(&view);
+            let verdict = judge_view(alloc, &mut view)?;
+            Ok(Finding { verdict, front })
+        }
+        Err(error) => {
+            let verdict = without_view(error)?;
+            Ok(Finding {
+                verdict,
+                front: None,
+            })
+        }
     }
 }

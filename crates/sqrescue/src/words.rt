@@ -2,7 +2,8 @@
 ghost use Rattle.std.specs.Prelude.{◌≡◌, ◌≢◌, ◌⊎◌, ◌<◌, ◌≤◌, ◌++◌, ℕ, false, List, map, length, slice_get, codes, IfOk};
 ghost use Rattle.std.specs.Prelude.{IfSome, IsTrue, MatchOption};
 ghost use Rattle.std.specs.List.{Contains};
-ghost use Rattle.sqrescue.specs.Line.{AreKnown, AreOptions, Asks, AsksAt, AsksBesides, AsksBoth, AsksNoPart};
+ghost use Rattle.sqrescue.specs.Line.{AreKnown, AreNoReport, AreOptions, Asks, AsksAt, AsksBesides, AsksBoth};
+ghost use Rattle.sqrescue.specs.Line.{AsksNoPart, IsReport};
 ghost use Rattle.sqrescue.specs.Line.{AsksNoneBesides, AsksNothing, AsksOf, AsksPart, AsksStyle, AsksVersion};
 ghost use Rattle.sqrescue.specs.Line.{HasNoText, HasText, IsCommon, IsFile, IsFrameNumber, IsKnown, IsNamed};
 ghost use Rattle.sqrescue.specs.Line.{IsPageNumber, IsPlain, MayBeAt, NamesNoFrame, NamesOfLog, StandsFree, TakesValue};
@@ -211,12 +212,28 @@ fn part_of(options: &[&str]) -> Option<Part>
     let log = stands_in(options, "--log");
     let commits = stands_in(options, "--commits");
     let all = stands_in(options, "--all");
-    if (log && commits) || (all && !log) {
+    let pages = stands_in(options, "--pages");
+    if log && commits {
+        return None;
+    }
+    if all && !log {
+        return None;
+    }
+    if pages && log {
+        return None;
+    }
+    if pages && commits {
         return None;
     }
     if let Some(text) = text_of(options, "--page") {
         let number = page_number(text)?;
-        if log || commits {
+        if log {
+            return None;
+        }
+        if commits {
+            return None;
+        }
+        if pages {
             return None;
         }
         return Some(Part::Page(number));
@@ -224,7 +241,10 @@ fn part_of(options: &[&str]) -> Option<Part>
     if log {
         return Some(Part::Log { all });
     }
-    Some(if commits { Part::Commits } else { Part::Header })
+    if commits {
+        return Some(Part::Commits);
+    }
+    Some(if pages { Part::Pages } else { Part::Header })
 }
 
 /// Whether a part is none of the whole log, or no commit is named for it.
@@ -233,7 +253,7 @@ fn may_be_at(part: Part, at: Option<u32>) -> bool
     ensures not { result ≡ false → (¬ MayBeAt part at) }
 {
     match part {
-        Part::Header | Part::Page(_) => true,
+        Part::Header | Part::Page(_) | Part::Pages => true,
         Part::Log { .. } | Part::Commits => at.is_none(),
     }
 }
@@ -307,6 +327,18 @@ fn part_at(options: &[&str], at: Option<u32>) -> Option<Part>
     }
 }
 
+/// What the options of a report ask for. None where they don't say so.
+fn report_asked<'a>(given: &'a [&'a str], file: &'a str, options: Options) -> Option<Request<'a>>
+    ensures { MatchOption result (AreNoReport (map (λ w. w.now) given.entry.now))
+        (IsReport (map (λ w. w.now) given.entry.now) file.entry options) }
+{
+    if stands_in(given, "--force") || !are_known(given, true) {
+        return None;
+    }
+    let to = text_of(given, "--to")?;
+    Some(Request::Report { file, to, options })
+}
+
 /// What the words ask for where the command is this one and the file that one; None where they don't say so.
 fn asked<'a>(words: &'a [&'a str], command: &str, file: &'a str) -> Option<Request<'a>>
     ensures { MatchOption result (AsksNothing (map (λ w. w.now) words.entry.now) command.now file.entry.now)
@@ -324,6 +356,9 @@ fn asked<'a>(words: &'a [&'a str], command: &str, file: &'a str) -> Option<Reque
             part,
             options,
         });
+    }
+    if command == "report" {
+        return report_asked(given, file, options);
     }
     if command == "check" && are_known(given, false) {
         return Some(Request::Check { file, options });

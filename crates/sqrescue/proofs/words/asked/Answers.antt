@@ -3,9 +3,9 @@ use Rattle.std.specs.Prelude.{Some, codes}
 use Rattle.std.specs.Cmp.Lexicographic.{bytes_decides}
 use Rattle.sqrescue.specs.Line.{AreKnown}
 use Rattle.sqrescue.proofs.Lines.{agree, differ, told}
-use Rattle.sqrescue.proofs.Asking.{others, show_amiss, at_named, at_none, asks_to, no_to, some_to}
+use Rattle.sqrescue.proofs.Asking.{others, report_asks, show_amiss, at_named, at_none, asks_to, no_to, some_to}
 use Rattle.sqrescue.proofs.words.asked.Goals as goal
-use Rattle.sqrescue.proofs.words.asked.Goals.{else-eq-2-via-then-eq-2+else-are_known, else-eq-2-via-else-eq-2}
+use Rattle.sqrescue.proofs.words.asked.Goals.{else-eq-3-via-then-eq-3+else-are_known, else-eq-3-via-else-eq-3}
 use Rattle.sqrescue.proofs.words.asked.Goals.{then-ne-via-then-ne, then-ne-via-else-ne+then-not-are_known}
 use Rattle.sqrescue.proofs.words.asked.Goals.{else-is_none-via-then-is_none+else-is_some, else-is_none-via-else-is_none}
 
@@ -19,9 +19,23 @@ returns-in_err-part c =
           c.in_ok-options.ensures.at_commit (rw c.in_err-part.was at c.part_at.ensures)),
     ))
 
+pub returns-in_err-options : goal.returns-in_err-options
+returns-in_err-options c =
+    let options = map (λ w. w.now) c.options_of-given.result.now in
+    rw c.from_residual.ensures (λ _ _. (options, c.options_of-given.ensures, inl (rw c.in_err-options.was at c.besides.ensures)))
+
+pub returns-then-eq-2 : goal.returns-then-eq-2
+returns-then-eq-2 c = report_asks (map (λ w. w.now) c.args.words.now) c.args.command.now _ (map (λ w. w.now) c.options_of-given.result.now) _ _
+    ((bytes_decides _ _).0 (sym c.if-eq-2.ensures))
+    (c.if-not-is_asked.ensures.second refl)
+    (c.if-not-is_asked.ensures.file refl)
+    c.options_of-given.ensures
+    c.in_ok-options.ensures
+    c.report_asked.ensures
+
 pub returns-then-are_known : goal.returns-then-are_known
 returns-then-are_known c = (
-  c.if-not-is_asked.ensures.second refl ∙ ap Some ((bytes_decides _ _).0 (sym c.if-eq-2.ensures)),
+  c.if-not-is_asked.ensures.second refl ∙ ap Some ((bytes_decides _ _).0 (sym c.if-eq-3.ensures)),
   c.if-not-is_asked.ensures.file refl,
   (map (λ w. w.now) c.options_of-given.result.now, c.options_of-given.ensures, c.if-are_known.ensures.yes refl, c.in_ok-options.ensures),
 )
@@ -32,14 +46,15 @@ returns-then-ne c = λ _ _.
       options,
       c.options_of-given.ensures,
       inr (
-        (λ is. elim c.else-eq-2.branch [
-          | else-eq-2-via-then-eq-2+else-are_known w ↦ w.if-are_known.ensures.not refl
-          | else-eq-2-via-else-eq-2 w ↦ absurd (others _ _ w.if-eq-2.ensures is)
+        (λ is. elim c.else-eq-3.branch [
+          | else-eq-3-via-then-eq-3+else-are_known w ↦ w.if-are_known.ensures.not refl
+          | else-eq-3-via-else-eq-3 w ↦ absurd (others _ _ w.if-eq-3.ensures is)
         ]),
         (λ is. elim c.then-ne.branch [
           | then-ne-via-then-ne w ↦ absurd (differ _ _ true w.if-ne.ensures refl is)
           | then-ne-via-else-ne+then-not-are_known w ↦ inl (w.if-not-are_known.ensures.not refl)
         ]),
+        (λ is. absurd (others _ _ c.if-eq-2.ensures is)),
         (λ is. absurd (others _ _ c.if-eq.ensures is)),
       ),
     )
@@ -50,14 +65,15 @@ returns-then-is_some c = λ _ _.
       options,
       c.options_of-given.ensures,
       inr (
-        (λ is. elim c.else-eq-2.branch [
-          | else-eq-2-via-then-eq-2+else-are_known w ↦ w.if-are_known.ensures.not refl
-          | else-eq-2-via-else-eq-2 w ↦ absurd (others _ _ w.if-eq-2.ensures is)
+        (λ is. elim c.else-eq-3.branch [
+          | else-eq-3-via-then-eq-3+else-are_known w ↦ w.if-are_known.ensures.not refl
+          | else-eq-3-via-else-eq-3 w ↦ absurd (others _ _ w.if-eq-3.ensures is)
         ]),
         (λ _. inr (
           at_named options c.in_ok-options.options.at c.if-is_some.ensures c.in_ok-options.ensures.at_commit,
           no_to options c.text_of-to.result c.if-is_none.ensures (asks_to options c.text_of-to.result c.text_of-to.ensures),
         )),
+        (λ is. absurd (others _ _ c.if-eq-2.ensures is)),
         (λ is. absurd (others _ _ c.if-eq.ensures is)),
       ),
     )
