@@ -1,10 +1,26 @@
 -- Records that are played and judged one after the other.
-use Rattle.std.proofs.Common.{ℕ, List, [], ◌∷◌, ◌++◌, refl, subst}
+use Rattle.std.proofs.Common.{ℕ, List, [], ◌∷◌, ◌++◌, refl, sym, ◌∙◌, ap, subst, append_assoc}
+use Rattle.std.proofs.lemmas.List.{append-nil}
 use Rattle.sqplay.specs.declared.trace.Record.{Record}
-use Rattle.sqcrash.specs.Rigs.{RigState, Judges, JudgesAll}
+use Rattle.sqcrash.specs.Rigs.{RigState, Judges, JudgesAll, lines_at}
 use Rattle.sqcrash.specs.declared.plan.Plan.{Plan}
+use Rattle.sqcrash.specs.declared.survey.Finding.{Finding}
+
+-- none
+pub judges_none : (plan : Plan) (b : List ℕ) (rig : RigState) → JudgesAll plan b [] rig rig []
+judges_none plan b rig = (refl, refl)
 
 -- one more
-pub judges_more : (plan : Plan) (b : List ℕ) (records : List Record) (r : Record) (old mid new : RigState) → JudgesAll plan b records old mid → Judges plan b r mid new → JudgesAll plan b (records ++ r ∷ []) old new
-judges_more plan b [] r old mid new is judges = (new, subst (λ (s : RigState). Judges plan b r s new) is judges, refl)
-judges_more plan b (first ∷ records) r old mid new all judges = (all.0, all.1, judges_more plan b records r all.0 mid new all.2 judges)
+pub judges_more : (plan : Plan) (b : List ℕ) (records : List Record) (r : Record) (old mid new : RigState) (lines : List ℕ) (found : List Finding)
+    → JudgesAll plan b records old mid lines → Judges plan b r mid new found → JudgesAll plan b (records ++ r ∷ []) old new (lines ++ lines_at new found)
+judges_more plan b [] r old mid new lines found is judges =
+    (new, found, [], subst (λ (s : RigState). Judges plan b r s new found) is.0 judges, (refl, refl), ap (λ (l : List ℕ). l ++ lines_at new found) is.1 ∙ sym (append-nil (lines_at new found)))
+judges_more plan b (first ∷ records) r old mid new lines found all judges =
+    let more = lines_at new found in (
+      all.0,
+      all.1,
+      all.2 ++ more,
+      all.3,
+      judges_more plan b records r all.0 mid new all.2 found all.4 judges,
+      ap (λ (l : List ℕ). l ++ more) all.5 ∙ append_assoc (lines_at all.0 all.1) all.2 more,
+    )

@@ -1,4 +1,5 @@
 pub mod Promises
 pub mod Runs
 pub mod Surveys
+pub mod Lines
 pub mod Rigs

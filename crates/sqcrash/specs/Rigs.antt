@@ -1,5 +1,5 @@
 -- A trace is played, and the images of its points are judged (own).
-use Rattle.std.specs.Prelude.{◌≡◌, ℕ, Bool, true, false, ◌&&◌, nat_eq, List, [], ◌∷◌}
+use Rattle.std.specs.Prelude.{◌≡◌, ℕ, Bool, true, false, ◌&&◌, nat_eq, List, [], ◌∷◌, ◌++◌}
 use Rattle.sqplay.specs.Trace.{IsTrace}
 use Rattle.sqplay.specs.declared.trace.Kind.{Kind}
 use Rattle.sqplay.specs.declared.trace.Kind.TheVariants as kinds
@@ -7,7 +7,9 @@ use Rattle.sqplay.specs.declared.trace.Record.{Record}
 use Rattle.sqplay.specs.declared.trace.Trace.{Trace}
 use Rattle.sqcrash.specs.Runs.{RunState, run_of, no_run, PlaysOne}
 use Rattle.sqcrash.specs.Surveys.{no_tally, IsSurvey}
+use Rattle.sqcrash.specs.Lines.{lines_text}
 use Rattle.sqcrash.specs.declared.survey.Tally.{Tally}
+use Rattle.sqcrash.specs.declared.survey.Finding.{Finding}
 use Rattle.sqcrash.specs.declared.survey.Survey.{Survey}
 use Rattle.sqcrash.specs.declared.plan.Plan.{Plan}
 use Rattle.sqcrash.specs.declared.rig.Rig.{Rig}
@@ -31,24 +33,30 @@ pub record RigState : Type 0 where
 abbrev pub rig_of : Rig → RigState
 rig_of r = record { run = run_of r.run; tally = r.tally }
 
--- the images of a point are judged, or there is no point and nothing is counted
-abbrev pub JudgesWhere : (point : Bool) → (limit : ℕ) → RunState → (old new : Tally) → Type 0
-JudgesWhere true limit run old new = (s : Survey) × IsSurvey run limit old s × (new ≡ s.tally)
-JudgesWhere false limit run old new = new ≡ old
+-- the images of a point are judged, by which this is found; or there is no point, and nothing is counted or found
+abbrev pub JudgesWhere : (point : Bool) → (limit : ℕ) → RunState → (old new : Tally) → List Finding → Type 0
+JudgesWhere true limit run old new found = (s : Survey) × IsSurvey run limit old s × (new ≡ s.tally) × (found ≡ s.findings.items)
+JudgesWhere false limit run old new found = (new ≡ old) × (found ≡ [])
 
--- one record of a trace is played and judged
-abbrev pub Judges : Plan → List ℕ → Record → (old new : RigState) → Type 0
-Judges plan b r old new = PlaysOne b r old.run new.run × JudgesWhere (is_point plan.every r) plan.images new.run old.tally new.tally
+-- one record of a trace is played and judged, by which this is found
+abbrev pub Judges : Plan → List ℕ → Record → (old new : RigState) → List Finding → Type 0
+Judges plan b r old new found = PlaysOne b r old.run new.run × JudgesWhere (is_point plan.every r) plan.images new.run old.tally new.tally found
 
--- records, one after the other
-abbrev pub JudgesAll : Plan → List ℕ → List Record → (old new : RigState) → Type 0
-JudgesAll plan b [] old new = new ≡ old
-JudgesAll plan b (r ∷ records) old new = (mid : RigState) × Judges plan b r old mid × JudgesAll plan b records mid new
+-- the lines of what is found at a rig's last point
+abbrev pub lines_at : RigState → List Finding → List ℕ
+lines_at rig found = lines_text rig.tally.points rig.run.known found
 
--- What is counted of a trace: all its records, from no files on.
-pub record IsJudgment (plan : Plan) (b : List ℕ) (tally : Tally) : Type 0 where
+-- records, one after the other, and the lines of what is found
+abbrev pub JudgesAll : Plan → List ℕ → List Record → (old new : RigState) → (lines : List ℕ) → Type 0
+JudgesAll plan b [] old new lines = (new ≡ old) × (lines ≡ [])
+JudgesAll plan b (r ∷ records) old new lines =
+    (mid : RigState) × (found : List Finding) × (rest : List ℕ)
+    × Judges plan b r old mid found × JudgesAll plan b records mid new rest × (lines ≡ lines_at mid found ++ rest)
+
+-- What is counted of a trace and written of it: all its records, from no files on.
+pub record IsJudgment (plan : Plan) (b : List ℕ) (tally : Tally) (lines : List ℕ) : Type 0 where
   pub trace : Trace
   pub is_trace : IsTrace b trace
   pub last : RigState
-  pub judged : JudgesAll plan b trace.records.items (record { run = no_run plan.promise plan.sector plan.tears; tally = no_tally }) last
+  pub judged : JudgesAll plan b trace.records.items (record { run = no_run plan.promise plan.sector plan.tears plan.meta; tally = no_tally }) last lines
   pub counted : tally ≡ last.tally

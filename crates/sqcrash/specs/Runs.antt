@@ -2,6 +2,7 @@
 use Rattle.std.specs.Prelude.{◌≡◌, ◌≢◌, ◌⊎◌, ℕ, max, Bool, cond, List, [], ◌∷◌, ◌++◌}
 use Rattle.sqplay.specs.Plays.{Files, files_of, no_files, Step}
 use Rattle.sqplay.specs.Trace.{bytes_of}
+use Rattle.sqplay.specs.declared.meta.Meta.{Meta}
 use Rattle.sqplay.specs.declared.trace.Kind.{Kind}
 use Rattle.sqplay.specs.declared.trace.Kind.TheVariants as kinds
 use Rattle.sqplay.specs.declared.trace.Record.{Record}
@@ -26,8 +27,8 @@ abbrev pub run_of : Run → RunState
 run_of r = record { promise = r.promise; files = files_of r.player; commits = commits_of r.history; makers = r.makers.items; known = r.known }
 
 -- nothing was played yet
-abbrev pub no_run : Promise → (sector : ℕ) (tears : Bool) → RunState
-no_run promise sector tears = record { promise = promise; files = no_files sector tears; commits = []; makers = []; known = 0 }
+abbrev pub no_run : Promise → (sector : ℕ) (tears : Bool) → Meta → RunState
+no_run promise sector tears meta = record { promise = promise; files = no_files sector tears meta; commits = []; makers = []; known = 0 }
 
 -- the database that the present files show is one more commit, which this thread made, where it isn't the last one's
 pub record Notes (thread : ℕ) (old new : RunState) : Type 0 where

@@ -4,6 +4,7 @@ use crate::promise::Promise;
 use crate::requests::{LineError, Request};
 use clap::error::ErrorKind;
 use clap::{Arg, ArgAction, ArgMatches, Command, value_parser};
+use sqplay::Meta;
 use std::alloc::{AllocError, Global};
 
 /// An option with a value.
@@ -31,6 +32,7 @@ fn flag<'a>(alloc: Global, name: &'static str, help: &'static str) -> Arg<'a> {
 /// The program's command line.
 fn command<'a>(alloc: Global) -> Result<Command<'a>, AllocError> {
     let promises: &'static [&'static str] = &["full", "last", "ordered", "none"];
+    let metas: &'static [&'static str] = &["parts", "whole", "ordered"];
     let sectors: &'static [&'static str] = &["512", "4096"];
     let trace = Arg::new(alloc, "TRACE")
         .required(true)
@@ -51,6 +53,13 @@ fn command<'a>(alloc: Global) -> Result<Command<'a>, AllocError> {
             "tears",
             "A sector that was being written may hold anything",
         ))?
+        .arg(option(
+            alloc,
+            "meta",
+            "HOW",
+            "How names and lengths go down: in parts, as a whole, or in the order of calls; whole if left out",
+        )
+        .value_parser(metas))?
         .arg(option(
             alloc,
             "images",
@@ -76,7 +85,13 @@ fn command<'a>(alloc: Global) -> Result<Command<'a>, AllocError> {
             "WHAT",
             "What is known at a mark; full if left out",
         )
-        .value_parser(promises))
+        .value_parser(promises))?
+        .arg(option(
+            alloc,
+            "keep",
+            "DIR",
+            "Writes images with something wrong, the first 1000, to DIR/pPOINT-iIMAGE.db, -wal and -journal",
+        ))
 }
 
 /// What the words ask for.
@@ -92,9 +107,15 @@ fn matched<'a>(matches: &ArgMatches<'a>) -> Option<Request<'a>> {
     } else {
         512
     };
+    let meta = match matches.get_str("meta") {
+        Some("parts") => Meta::Parts,
+        Some("ordered") => Meta::Ordered,
+        _ => Meta::Whole,
+    };
     let plan = Plan {
         sector,
         tears: matches.get_flag("tears"),
+        meta,
         images: matches.get_one::<u64>("images").unwrap_or(1000),
         seed: matches.get_one::<u64>("seed").unwrap_or(1),
         every: matches.get_flag("every"),
@@ -103,6 +124,7 @@ fn matched<'a>(matches: &ArgMatches<'a>) -> Option<Request<'a>> {
     Some(Request {
         trace: matches.get_str("TRACE")?,
         plan,
+        keep: matches.get_str("keep"),
     })
 }
 

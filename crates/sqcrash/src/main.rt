@@ -4,6 +4,8 @@
 ghost use Rattle.std.specs.Prelude.{◌≤◌, IfOk};
 
 mod commands;
+mod keep;
+mod lines;
 mod outcome;
 mod plan;
 mod program;

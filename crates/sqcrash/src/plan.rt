@@ -3,6 +3,7 @@ ghost use Rattle.std.specs.Prelude.{IsTrue};
 ghost use Rattle.crashdisk.specs.Solid.{is_sector_size};
 
 use crate::promise::Promise;
+use sqplay::Meta;
 
 /// How a trace is to be judged.
 #[derive(Clone, Copy, Debug, PartialEq, Eq)]
@@ -11,6 +12,8 @@ pub struct Plan {
     pub sector: usize,
     /// Whether a sector that is being written may hold anything after a crash.
     pub tears: bool,
+    /// How names and lengths go down.
+    pub meta: Meta,
     /// The most images that are taken at a point.
     pub images: u64,
     /// What the draws begin with.

@@ -1,14 +1,16 @@
 //! The program over a runtime's files and two writers.
-ghost use Rattle.std.specs.Prelude.{◌≤◌, IfOk};
+ghost use Rattle.std.specs.Prelude.{◌≤◌, ℕ, List, IfOk};
+ghost use Rattle.std.specs.Io.KnownBytes.{Appends};
 ghost use Rattle.sqcrash.specs.Rigs.{IsJudgment};
 
 use crate::commands::request;
+use crate::keep::{Folder, Keeper};
+use crate::lines::write_findings;
 use crate::outcome::Refusal;
 use crate::plan::Plan;
 use crate::requests::{LineError, Request};
 use crate::rig::Rig;
-use crate::survey::{Finding, Tally};
-use sqjudge::Judgment;
+use crate::survey::Tally;
 use sqplay::Trace;
 use std::alloc::Global;
 use std::fmt::Display;
@@ -64,50 +66,31 @@ fn carried_out<R: Files + AllocGlobal, O: Write>(
     out: &mut O,
 ) -> Result<Tally, Refusal> {
     let bytes = read(rt, request.trace)?;
-    let tally = judge_trace(rt.alloc(), request.plan, &bytes, out)?;
+    let mut folder = Folder::new(rt, request.keep)?;
+    let tally = judge_trace(rt.alloc(), request.plan, &bytes, &mut folder, out)?;
     line(out, &tally)?;
     Ok(tally)
 }
 
-/// Judges a trace, and writes a line for each image with something wrong. Answers what there was.
-pub(crate) fn judge_trace<O: Write>(
+/// Judges a trace, and writes a line for each image with something wrong, which goes to the keeper, too. Answers what
+/// there was.
+pub(crate) fn judge_trace<K: Keeper, O: Write>(
     alloc: Global,
     plan: Plan,
     bytes: &[u8],
+    keeper: &mut K,
     out: &mut O,
 ) -> Result<Tally, Refusal>
-    ensures { IfOk result (IsJudgment plan bytes.now) }
+    ensures { IfOk result (λ tally. (lines : List ℕ) × IsJudgment plan bytes.now tally lines
+        × Appends (O.contents out.old) (O.contents out.new) lines) }
 {
     let trace = Trace::read(alloc, bytes)?;
     let mut rig = Rig::new(alloc, plan);
     for call in &trace.records {
-        let findings = rig.play(bytes, call)?;
+        let findings = rig.play(bytes, call, keeper)?;
         write_findings(out, rig.tally().points, rig.known(), &findings)?;
     }
     Ok(rig.tally())
-}
-
-/// Writes a line for each finding of a point.
-fn write_findings<O: Write>(
-    out: &mut O,
-    point: u64,
-    known: usize,
-    findings: &[Finding],
-) -> io::Result<()> {
-    for finding in findings {
-        let image = finding.image;
-        write!(out, "point {point} image {image}: ")?;
-        match finding.judgment {
-            Judgment::Kept(shown) => writeln!(out, "kept (commit {shown} shown)")?,
-            Judgment::Lost(shown) => {
-                writeln!(out, "lost (commit {shown} shown, {known} known)")?;
-            }
-            Judgment::Mixed => writeln!(out, "mixed")?,
-            Judgment::Fault(error) => writeln!(out, "{error}")?,
-            Judgment::Refused(refusal) => writeln!(out, "fault {refusal}")?,
-        }
-    }
-    Ok(())
 }
 
 /// The status where the words can't be read: 3 for want of memory, 2 where they aren't text.

@@ -9,6 +9,8 @@ pub struct Request<'a> {
     pub trace: &'a str,
     /// How it is to be judged.
     pub plan: Plan,
+    /// The folder in which images are kept that are found wrong.
+    pub keep: Option<&'a str>,
 }
 
 /// Why a line asks for nothing.

@@ -2,6 +2,7 @@
 ghost use Rattle.std.specs.Prelude.{◌≡◌};
 ghost use Rattle.sqcrash.specs.Rigs.{is_point};
 
+use crate::keep::Keeper;
 use crate::outcome::Refusal;
 use crate::plan::Plan;
 use crate::run::Run;
@@ -40,7 +41,7 @@ impl Rig {
 
     /// Nothing is played yet.
     pub fn new(alloc: Global, plan: Plan) -> Rig
-        ensures run { run_of result.run ≡ no_run plan.promise plan.sector plan.tears }
+        ensures run { run_of result.run ≡ no_run plan.promise plan.sector plan.tears plan.meta }
         ensures tally { result.tally ≡ no_tally }
         ensures plan { result.plan ≡ plan }
     {
@@ -48,7 +49,7 @@ impl Rig {
             alloc,
             plan,
             rng: Pcg32::new(plan.seed, 1),
-            run: Run::new(alloc, plan.promise, plan.sector, plan.tears),
+            run: Run::new(alloc, plan.promise, plan.sector, plan.tears, plan.meta),
             tally: Tally::none(),
         }
     }
@@ -68,9 +69,16 @@ impl Rig {
     }
 
     /// Plays one record of its trace, and where it is a point judges what a crash may leave there. Answers what is
-    /// wrong. Refused by Record, TooMany and NoMemory, after which nothing is said of the run.
-    pub fn play(&mut self, trace: &[u8], call: &Record) -> Result<Vec<Finding>, Refusal>
-        ensures judged { OnOk result (Judges self.old.plan trace.now call.now (rig_of self.old) (rig_of self.new)) }
+    /// wrong, and gives those images to the keeper. Refused by Record, TooMany and NoMemory, and by what refuses the
+    /// keeper, after which nothing is said of the run.
+    pub fn play<K: Keeper>(
+        &mut self,
+        trace: &[u8],
+        call: &Record,
+        keeper: &mut K,
+    ) -> Result<Vec<Finding>, Refusal>
+        ensures judged { IfOk result
+            (λ found. Judges self.old.plan trace.now call.now (rig_of self.old) (rig_of self.new) found.items) }
         ensures plan { OnOk result (self.new.plan ≡ self.old.plan) }
     {
         self.run.play(trace, call)?;
@@ -78,10 +86,10 @@ impl Rig {
             return Ok(Vec::new(self.alloc));
         }
         let found = judge_images(
-            self.alloc,
             &self.run,
             self.plan.images,
             &mut self.rng,
+            keeper,
             self.tally,
         )?;
         self.tally = found.tally;

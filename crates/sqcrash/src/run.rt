@@ -7,7 +7,7 @@ use crate::outcome::Refusal;
 use crate::promise::{Mark, Promise};
 use sqimages::Image;
 use sqjudge::{History, Judgment, judge_files};
-use sqplay::{Kind, Player, Record};
+use sqplay::{Kind, Meta, Player, Record};
 use std::alloc::Global;
 
 /// How many bytes of a record stand in front of those that it carries.
@@ -35,20 +35,25 @@ impl Run {
     ghost use Rattle.sqcrash.specs.Runs.{run_of, no_run, Notes, Begins, Goes, Calls, Marks, PlaysOne};
 
     /// Nothing is played yet. The disks have sectors of this size, a power of two from 512 to 65536 bytes, and tear or
-    /// not.
-    pub fn new(alloc: Global, promise: Promise, sector: usize, tears: bool) -> Run
+    /// not; metadata goes down so.
+    pub fn new(alloc: Global, promise: Promise, sector: usize, tears: bool, meta: Meta) -> Run
         requires { IsTrue (is_sector_size sector) }
-        ensures { run_of result ≡ no_run promise sector tears }
+        ensures { run_of result ≡ no_run promise sector tears meta }
     {
         Run {
             alloc,
             promise,
-            player: Player::new(alloc, sector, tears),
+            player: Player::new(alloc, sector, tears, meta),
             history: History::new(alloc),
             makers: Vec::new(alloc),
             known: 0,
             present: Image::none(alloc),
         }
+    }
+
+    /// Where its memory comes from.
+    pub fn alloc(&self) -> Global {
+        self.alloc
     }
 
     /// What a crash may leave of the files.

@@ -5,6 +5,7 @@ ghost use Rattle.sqimages.specs.Images.{AreCounts, image_count};
 ghost use Rattle.sqcrash.specs.Runs.{run_of};
 ghost use Rattle.sqcrash.specs.Surveys.{IsNumberedSurvey, IsDrawnSurvey, IsSurvey};
 
+use crate::keep::Keeper;
 use crate::outcome::Refusal;
 use crate::run::Run;
 use rand_core::Rng;
@@ -137,58 +138,79 @@ impl Survey {
     }
 }
 
+/// Gives an image to the keeper where something is wrong with it.
+fn keep_wrong<K: Keeper>(
+    keeper: &mut K,
+    point: u64,
+    number: u64,
+    image: &Image,
+    judgment: Judgment,
+) -> Result<(), Refusal> {
+    match judgment {
+        Judgment::Kept(_) => Ok(()),
+        _ => keeper.keep(point, number, image),
+    }
+}
+
 /// Judges all images, by their numbers.
-fn survey_numbered(
+fn survey_numbered<K: Keeper>(
     run: &Run,
     counts: &Counts,
-    image: &mut Image,
+    keeper: &mut K,
     survey: &mut Survey,
 ) -> Result<(), Refusal>
     requires { AreCounts (run_of run.now).files counts.now }
     ensures { OnOk result (IsNumberedSurvey (run_of run.now) survey.old survey.new) }
 {
+    let point = survey.tally.points;
+    let mut image = Image::none(run.alloc());
     for n in 0..counts.images() {
         image.set(run.player(), counts, n)?;
-        survey.add(n, run.judge(image)?)?;
+        let judgment = run.judge(&image)?;
+        survey.add(n, judgment)?;
+        keep_wrong(keeper, point, n, &image, judgment)?;
     }
     Ok(())
 }
 
 /// Judges so many images that are drawn.
-fn survey_drawn<R: Rng>(
-    alloc: Global,
+fn survey_drawn<R: Rng, K: Keeper>(
     run: &Run,
     limit: u64,
     rng: &mut R,
-    image: &mut Image,
+    keeper: &mut K,
     survey: &mut Survey,
 ) -> Result<(), Refusal>
     ensures { OnOk result (IsDrawnSurvey (run_of run.now) limit survey.old survey.new) }
 {
+    let point = survey.tally.points;
+    let mut image = Image::none(run.alloc());
     for n in 0..limit {
-        draw(alloc, rng, run.player(), image)?;
-        survey.add(n, run.judge(image)?)?;
+        draw(run.alloc(), rng, run.player(), &mut image)?;
+        let judgment = run.judge(&image)?;
+        survey.add(n, judgment)?;
+        keep_wrong(keeper, point, n, &image, judgment)?;
     }
     Ok(())
 }
 
 /// Judges what a crash may leave of a run now: all images where they are no more than the limit, otherwise so many that
-/// are drawn. What was counted before is counted on. Refused by NoMemory, and by TooMany where a count would pass
-/// 18,446,744,073,709,551,615.
-pub fn judge_images<R: Rng>(
-    alloc: Global,
+/// are drawn. What was counted before is counted on. Images with something wrong go to the keeper. Refused by NoMemory,
+/// by TooMany where a count would pass 18,446,744,073,709,551,615, and by what refuses the keeper.
+pub fn judge_images<R: Rng, K: Keeper>(
     run: &Run,
     limit: u64,
     rng: &mut R,
+    keeper: &mut K,
     before: Tally,
 ) -> Result<Survey, Refusal>
     ensures { IfOk result (IsSurvey (run_of run.now) limit before) }
 {
-    let mut survey = Survey::new(alloc, before)?;
-    let mut image = Image::none(alloc);
-    match Counts::of(run.player(), limit) {
-        Some(counts) => survey_numbered(run, &counts, &mut image, &mut survey)?,
-        None => survey_drawn(alloc, run, limit, rng, &mut image, &mut survey)?,
+    let mut survey = Survey::new(run.alloc(), before)?;
+    let counts = Counts::of(run.alloc(), run.player(), limit)?;
+    match counts {
+        Some(counts) => survey_numbered(run, &counts, keeper, &mut survey)?,
+        None => survey_drawn(run, limit, rng, keeper, &mut survey)?,
     }
     Ok(survey)
 }

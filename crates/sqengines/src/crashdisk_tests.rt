@@ -262,3 +262,25 @@ fn images_and_copies(rt: HostRuntime) -> Result<(), Fail> {
     assert!(rt; ends_in(alloc, &copy, b"ABBBB")?);
     Ok(())
 }
+
+// The end of `BBBB`, and then the second sector with it.
+#[test]
+fn an_end(rt: HostRuntime) -> Result<(), Fail> {
+    let alloc = rt.alloc();
+    let mut disk = written(alloc)?;
+    assert_eq!(rt;
+        (disk.present_len(File::Db), disk.present_len(File::Log)),
+        (514, 0)
+    );
+    disk.end_db(513);
+    assert!(rt; ends_in(alloc, &disk, b"ABBB")? && disk.lengths(File::Db) == (512, 513));
+    disk.end_db(511);
+    assert_eq!(rt;
+        (disk.values(File::Db, 0), disk.values(File::Db, 1)),
+        (2, 1)
+    );
+    assert!(rt; disk.present_len(File::Db) == 511 && disk.lengths(File::Db) == (511, 511));
+    disk.set_len(File::Db, 513)?;
+    assert!(rt; ends_in(alloc, &disk, b"AB\0\0")?);
+    Ok(())
+}

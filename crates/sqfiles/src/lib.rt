@@ -10,3 +10,5 @@ mod memory_tests;
 mod sqcheck_tests;
 #[cfg(test)]
 mod sqview_tests;
+#[cfg(test)]
+mod survey_tests;

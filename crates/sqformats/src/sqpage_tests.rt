@@ -3,8 +3,9 @@ ghost use Rattle.std.specs.Prelude.{◌+◌, ◌*◌, ◌<◌, ◌≤◌, ◌^�
 ghost use Rattle.sqval.specs.PageSize.{IsPageSize};
 
 use sqpage::{
-    BtreePage, Cell, CheckError, DbHeader, Fault, Kind, PageSource, Parts, SliceSource, freelist,
-    has_magic, links_of, named_page_size, payload, split,
+    BtreePage, Cell, CheckError, DbHeader, EntryPlace, Fault, Kind, MapEntry, PageSource, Parts,
+    PointerKind, SliceSource, entry_place, freelist, has_magic, is_pointer_map, links_of,
+    lock_byte_page, named_page_size, payload, split,
 };
 use sqval::PageSize;
 use std::alloc::{AllocError, Global};
@@ -553,4 +554,59 @@ fn an_interior_page(rt: HostRuntime) -> Result<(), Fail> {
     let fault = fault_in(&bytes, 512, &mut parts, &mut map)?;
     assert_eq!(rt; fault, Some(Fault::Fragments));
     Ok(())
+}
+
+// Byte 1,073,741,824 is the first one of the page behind so many whole pages.
+#[test]
+fn lock_byte_pages(rt: HostRuntime) -> Result<(), Fail> {
+    for (bytes, page) in [(512, 2_097_153), (4096, 262_145), (65_536, 16_385)] {
+        let page_size = PageSize::new(bytes).ok_or("a page size")?;
+        assert_eq!(rt; lock_byte_page(page_size), page);
+    }
+    Ok(())
+}
+
+// By fileformat2, 1.8, with 102 entries on a page of 512 bytes.
+#[test]
+fn pointer_maps(rt: HostRuntime) -> Result<(), Fail> {
+    let page_size = PageSize::new(512).ok_or("a page size")?;
+    for (p, is) in [
+        (1, false),
+        (2, true),
+        (3, false),
+        (104, false),
+        (105, true),
+        (208, true),
+    ] {
+        assert_eq!(rt; is_pointer_map(page_size, 0, p), is);
+    }
+    let place = |map, at| Some(EntryPlace { map, at });
+    for (p, wanted) in [
+        (1, None),
+        (2, None),
+        (3, place(2, 0)),
+        (104, place(2, 505)),
+        (105, None),
+        (106, place(105, 0)),
+    ] {
+        assert_eq!(rt; entry_place(page_size, 0, p), wanted);
+    }
+    Ok(())
+}
+
+// The entries of pages 3 to 6 of a file of 4096-byte pages that sqlite3 made with `pragma auto_vacuum=full`.
+#[test]
+fn map_entries(rt: HostRuntime) {
+    let entry = |kind, parent| Some(MapEntry { kind, parent });
+    for (bytes, wanted) in [
+        ([1, 0, 0, 0, 0], entry(PointerKind::Root, 0)),
+        ([3, 0, 0, 0, 14], entry(PointerKind::FirstOverflow, 14)),
+        ([4, 0, 0, 0, 4], entry(PointerKind::Overflow, 4)),
+        ([5, 0, 0, 0, 3], entry(PointerKind::Child, 3)),
+        ([2, 0, 0, 0, 0], entry(PointerKind::Free, 0)),
+        ([0, 0, 0, 0, 0], None),
+        ([6, 0, 0, 0, 1], None),
+    ] {
+        assert_eq!(rt; MapEntry::parse(&bytes), wanted);
+    }
 }

@@ -3,7 +3,7 @@ use super::{begin, was_refused};
 use crate::logs::{header, log, push_record};
 use crate::sqcheck_tests::failing::{SOUND, sample};
 use sqpage::PageSource;
-use sqview::{JudgeError, Verdict, View, ViewError, judge};
+use sqview::{JudgeError, Verdict, View, ViewError, judge, judge_view};
 use std::alloc::Global;
 use std::process::Abort;
 use std::test::Fail;
@@ -49,6 +49,22 @@ fn a_verdict(rt: HostRuntime) -> Result<(), Fail> {
     let old = log(alloc, &[(1, 0)])?;
     begin(alloc);
     let answer = judge(alloc, file.as_slice(), old.as_slice(), [].as_slice());
+    let wanted = if was_refused(alloc) {
+        Err(JudgeError::NoMemory)
+    } else {
+        Ok(Verdict::Clean(SOUND))
+    };
+    assert_eq!(rt; answer, wanted);
+    Ok(())
+}
+
+#[test]
+fn a_verdict_on_a_view(rt: HostRuntime) -> Result<(), Fail> {
+    let alloc = rt.alloc();
+    let file = sample(alloc)?;
+    let mut view = View::new(alloc, file.as_slice(), [].as_slice(), [].as_slice())?;
+    begin(alloc);
+    let answer = judge_view(alloc, &mut view);
     let wanted = if was_refused(alloc) {
         Err(JudgeError::NoMemory)
     } else {

@@ -1,6 +1,6 @@
 ghost use Rattle.std.specs.Prelude.{◌≤◌};
 
-use sqval::PageSize;
+use sqval::{Limits, PageSize};
 use sqwal::{Entry, Front, Order, Scan, Stop, Sum, WalFormatError, WalHeader, Why, frame_head};
 use std::alloc::Global;
 use std::test::Fail;
@@ -182,5 +182,21 @@ fn reads_a_log_cut_at_any_length(rt: HostRuntime) -> Result<(), Fail> {
             );
         }
     }
+    Ok(())
+}
+
+// A scan of two frames at most takes two, and refuses three.
+#[test]
+fn a_limit_of_frames(rt: HostRuntime) -> Result<(), Fail> {
+    let alloc = rt.alloc();
+    let limits = Limits::new(512, 2).ok_or("limits")?;
+    assert_eq!(rt; (limits.bytes(), limits.frames()), (512, 2));
+    let mut few = Scan::within(alloc, limits);
+    few.feed(&log(alloc, &[(1, 0), (2, 2)])?)?;
+    assert_eq!(rt; few.committed().frames, 2);
+    let mut many = Scan::within(alloc, limits);
+    let answer = many.feed(&log(alloc, &[(1, 0), (2, 2), (3, 3)])?);
+    assert_eq!(rt; answer, Err(WalFormatError::TooLong));
+    assert_eq!(rt; Limits::new(0, u32::MAX), None);
     Ok(())
 }

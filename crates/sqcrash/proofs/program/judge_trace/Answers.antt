@@ -1,14 +1,18 @@
-use Rattle.std.proofs.Common.{List, take, get_or, sym, ◌∙◌, ap, subst}
+use Rattle.std.proofs.Common.{◌≡◌, ℕ, List, [], ◌++◌, take, get_or, refl, sym, ◌∙◌, ap, subst}
 use Rattle.std.proofs.lemmas.List.{take_more, take_all}
+use Rattle.std.specs.Io.KnownBytes.{Appends}
 use Rattle.sqplay.specs.declared.trace.Kind.TheVariants.{Base}
 use Rattle.sqplay.specs.declared.trace.Subject.TheVariants.{Db}
 use Rattle.sqplay.specs.declared.trace.Record.{Record}
+use Rattle.sqcrash.specs.Lines.{lines_text}
 use Rattle.sqcrash.specs.Runs.{RunState, no_run}
 use Rattle.sqcrash.specs.Surveys.{no_tally}
-use Rattle.sqcrash.specs.Rigs.{RigState, rig_of, Judges, JudgesAll}
+use Rattle.sqcrash.specs.Rigs.{RigState, rig_of, Judges, JudgesAll, lines_at}
 use Rattle.sqcrash.specs.declared.plan.Plan.{Plan}
 use Rattle.sqcrash.specs.declared.survey.Tally.{Tally}
+use Rattle.sqcrash.specs.declared.survey.Finding.{Finding}
 use Rattle.sqcrash.proofs.Judging.{judges_more}
+use Rattle.sqcrash.proofs.Writing.{appends_none, appends_more}
 use Rattle.sqcrash.proofs.program.judge_trace.Goals as goal
 
 -- what stands for a record behind the last
@@ -17,14 +21,16 @@ behind = record { kind = Base; subject = Db; making = 0; thread = 0; answer = 0;
 
 -- a rig that plays nothing yet
 begun : Plan → RigState
-begun plan = record { run = no_run plan.promise plan.sector plan.tears; tally = no_tally }
+begun plan = record { run = no_run plan.promise plan.sector plan.tears plan.meta; tally = no_tally }
 
 pub loop-call-init : goal.loop-call-init
+unfolding begun
 loop-call-init g c =
     let rig = c.new-rig.result in
     let plan = c.args.plan in
     let make : RunState → Tally → RigState = λ r t. record { run = r; tally = t } in
-    (ap (λ (r : RunState). make r rig.tally) c.new-rig.ensures.run ∙ ap (λ (t : Tally). make (no_run plan.promise plan.sector plan.tears) t) c.new-rig.ensures.tally, c.new-rig.ensures.plan)
+    let is_begun : rig_of rig ≡ begun plan = ap (λ (r : RunState). make r rig.tally) c.new-rig.ensures.run ∙ ap (λ (t : Tally). make (no_run plan.promise plan.sector plan.tears plan.meta) t) c.new-rig.ensures.tally in
+    record { judged = ([], (is_begun, refl), appends_none (g.O.Write.contents c.args.out.now)); plan = c.new-rig.ensures.plan }
 
 pub loop-call-preserved : goal.loop-call-preserved
 unfolding behind begun
@@ -35,11 +41,27 @@ loop-call-preserved g c =
     let i = c.loop-call.call-index in
     let mid = rig_of c.loop-call.rig in
     let new = rig_of c.play.new.self in
-    let judged = subst (λ (p : Plan). Judges p bytes (get_or records i behind) mid new) c.loop-call.invariant.1 c.in_ok-findings.ensures.judged in (
-      subst (λ (played : List Record). JudgesAll plan bytes played (begun plan) new) (sym (take_more records i behind c.loop-call-test.true))
-          (judges_more plan bytes (take i records) (get_or records i behind) (begun plan) mid new c.loop-call.invariant.0 judged),
-      c.in_ok-findings.ensures.plan ∙ c.loop-call.invariant.1,
-    )
+    let found = c.in_ok-findings.findings.items in
+    let so_far = c.loop-call.invariant.judged in
+    let lines = so_far.0 ++ lines_at new found in
+    let judged = subst (λ (p : Plan). Judges p bytes (get_or records i behind) mid new found) c.loop-call.invariant.plan c.in_ok-findings.ensures.judged in
+    let before = g.O.Write.contents c.loop-call.out in
+    let after = g.O.Write.contents c.write_findings.new.out in
+    let of_found : Appends before after (lines_text c.tally.result.points c.known.result found) =
+    subst (λ (l : List Finding). Appends before after (lines_text c.tally.result.points c.known.result l)) c.deref.ensures.value c.in_ok-write_findings.ensures in
+    let at_known : Appends before after (lines_text c.tally.result.points new.run.known found) =
+    subst (λ (k : ℕ). Appends before after (lines_text c.tally.result.points k found)) c.known.ensures of_found in
+    let written : Appends before after (lines_at new found) =
+    subst (λ (t : Tally). Appends before after (lines_text t.points new.run.known found)) c.tally.ensures at_known in
+    record {
+      judged = (
+        lines,
+        subst (λ (played : List Record). JudgesAll plan bytes played (begun plan) new lines) (sym (take_more records i behind c.loop-call-test.true))
+            (judges_more plan bytes (take i records) (get_or records i behind) (begun plan) mid new so_far.0 found so_far.1 judged),
+        appends_more (g.O.Write.contents c.args.out.now) before after so_far.0 (lines_at new found) so_far.2 written,
+      );
+      plan = c.in_ok-findings.ensures.plan ∙ c.loop-call.invariant.plan;
+    }
 
 pub returns : goal.returns
 unfolding begun
@@ -47,10 +69,14 @@ returns g c =
     let plan = c.args.plan in
     let records = c.deref-call-items.result.now in
     let last = rig_of c.loop-call.rig in
-    record {
-      trace = c.in_ok-trace.trace;
-      is_trace = c.in_ok-trace.ensures;
-      last = last;
-      judged = subst (λ (played : List Record). JudgesAll plan c.args.bytes.now played (begun plan) last) (take_all c.loop-call.call-index records c.loop-call-test.false ∙ c.deref-call-items.ensures.value) c.loop-call.invariant.0;
-      counted = c.tally-2.ensures;
-    }
+    let so_far = c.loop-call.invariant.judged in (
+      so_far.0,
+      record {
+        trace = c.in_ok-trace.trace;
+        is_trace = c.in_ok-trace.ensures;
+        last = last;
+        judged = subst (λ (played : List Record). JudgesAll plan c.args.bytes.now played (begun plan) last so_far.0) (take_all c.loop-call.call-index records c.loop-call-test.false ∙ c.deref-call-items.ensures.value) so_far.1;
+        counted = c.tally-2.ensures;
+      },
+      so_far.2,
+    )

@@ -1,8 +1,14 @@
-use Rattle.std.proofs.Common.{◌≡◌, take}
+use Rattle.std.proofs.Common.{◌≡◌, ℕ, List, take}
+use Rattle.std.specs.Io.KnownBytes.{Appends}
 use Rattle.sqcrash.specs.Runs.{no_run}
 use Rattle.sqcrash.specs.Surveys.{no_tally}
 use Rattle.sqcrash.specs.Rigs.{rig_of, JudgesAll}
 use Rattle.sqcrash.proofs.program.judge_trace.Given as goal
 
 abbrev pub invariant-loop-call : goal.invariant-loop-call
-invariant-loop-call g l = JudgesAll l.fn.plan l.bytes (take l.call-index l.call-items) (record { run = no_run l.fn.plan.promise l.fn.plan.sector l.fn.plan.tears; tally = no_tally }) (rig_of l.rig) × (l.rig.plan ≡ l.fn.plan)
+invariant-loop-call g l = record {
+  judged : (lines : List ℕ)
+      × JudgesAll l.fn.plan l.bytes (take l.call-index l.call-items) (record { run = no_run l.fn.plan.promise l.fn.plan.sector l.fn.plan.tears l.fn.plan.meta; tally = no_tally }) (rig_of l.rig) lines
+      × Appends (g.O.Write.contents l.initial.out) (g.O.Write.contents l.out) lines;
+  plan : l.rig.plan ≡ l.fn.plan;
+}

@@ -15,13 +15,13 @@ loop-n-preserved g c =
     let run = run_of c.args.run.now in
     let image = c.draw.new.image in
     let so_far = c.loop-n.invariant in
-    let x : Judged = record { image = image; judgment = c.in_ok-judge.field-0 } in
+    let x : Judged = record { image = image; judgment = c.in_ok-judgment.judgment } in
     let left : MayLeave run.files image = subst (λ (s : Files). MayLeave s image) c.player.ensures c.in_ok-draw.ensures in
-    let found = c.in_ok-add.ensures.found ∙ ap (λ (k : ℕ). c.loop-n.survey.findings.items ++ finding_of k c.in_ok-judge.field-0) (sym so_far.1) in (
+    let found = c.in_ok-add.ensures.found ∙ ap (λ (k : ℕ). c.loop-n.survey.findings.items ++ finding_of k c.in_ok-judgment.judgment) (sym so_far.1) in (
       so_far.0 ++ x ∷ [],
       omega (arith, length-append so_far.0 (x ∷ []), so_far.1),
       All-append (λ (y : Judged). MayLeave run.files y.image) so_far.0 (x ∷ []) so_far.2 (all_one (λ (y : Judged). MayLeave run.files y.image) x left),
-      tells_more run so_far.0 x c.args.survey.now c.loop-n.survey c.add.new.self so_far.3 c.in_ok-judge.ensures c.in_ok-add.ensures.tally found,
+      tells_more run so_far.0 x c.args.survey.now c.loop-n.survey c.add.new.self so_far.3 c.in_ok-judgment.ensures c.in_ok-add.ensures.tally found,
     )
 
 pub returns : goal.returns

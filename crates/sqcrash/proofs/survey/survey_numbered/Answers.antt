@@ -1,46 +1,41 @@
-use Rattle.std.proofs.Common.{◌≡◌, ℕ, ◌+◌, ◌*◌, [], ◌∷◌, ◌++◌, length, length-append, refl, sym, ◌∙◌, ap, subst, arith}
+use Rattle.std.proofs.Common.{◌≡◌, ℕ, ◌+◌, [], ◌∷◌, ◌++◌, length, length-append, refl, sym, ◌∙◌, ap, subst, arith}
 use Rattle.sqplay.specs.Plays.{Files}
 use Rattle.sqimages.specs.Images.{IsNumbered}
-use Rattle.sqimages.specs.Ways.{name_ways}
 use Rattle.sqcrash.specs.Runs.{run_of}
 use Rattle.sqcrash.specs.Surveys.{Judged, finding_of}
 use Rattle.sqcrash.proofs.Surveying.{numbered_more, tells_more, tells_none}
 use Rattle.sqcrash.proofs.survey.survey_numbered.Goals as goal
 
 pub loop-n-init : goal.loop-n-init
-loop-n-init c = ([], refl, tt, tells_none (run_of c.args.run.now) c.args.survey.now)
+loop-n-init g c = ([], refl, tt, tells_none (run_of c.args.run.now) c.args.survey.now)
 
 pub loop-n-preserved : goal.loop-n-preserved
-loop-n-preserved c =
+loop-n-preserved g c =
     let run = run_of c.args.run.now in
     let counts = c.args.counts.now in
     let image = c.set.new.self in
     let so_far = c.loop-n.invariant in
-    let x : Judged = record { image = image; judgment = c.in_ok-judge.field-0 } in
+    let x : Judged = record { image = image; judgment = c.in_ok-judgment.judgment } in
     let next : c.loop-n.n ≡ 0 + length so_far.0 = omega (arith, so_far.1) in
     let is : IsNumbered run.files counts (0 + length so_far.0) image =
     subst (λ (n : ℕ). IsNumbered run.files counts n image) next (subst (λ (s : Files). IsNumbered s counts c.loop-n.n image) c.player.ensures c.in_ok-set.ensures) in
-    let found = c.in_ok-add.ensures.found ∙ ap (λ (k : ℕ). c.loop-n.survey.findings.items ++ finding_of k c.in_ok-judge.field-0) (sym so_far.1) in (
+    let found = c.in_ok-add.ensures.found ∙ ap (λ (k : ℕ). c.loop-n.survey.findings.items ++ finding_of k c.in_ok-judgment.judgment) (sym so_far.1) in (
       so_far.0 ++ x ∷ [],
       omega (arith, length-append so_far.0 (x ∷ []), so_far.1),
       numbered_more run counts 0 so_far.0 x so_far.2 is,
-      tells_more run so_far.0 x c.args.survey.now c.loop-n.survey c.add.new.self so_far.3 c.in_ok-judge.ensures c.in_ok-add.ensures.tally found,
+      tells_more run so_far.0 x c.args.survey.now c.loop-n.survey c.add.new.self so_far.3 c.in_ok-judgment.ensures c.in_ok-add.ensures.tally found,
     )
 
 pub returns : goal.returns
-returns c =
-    let s = (run_of c.args.run.now).files in
+returns g c =
     let counts = c.args.counts.now in
     let all = c.loop-n.invariant in
     let end : c.loop-n.n ≡ c.images-n-end.result = omega (arith, c.loop-n.auto.n-end, c.loop-n-test.false) in
-    let by_db = ap (λ (k : ℕ). k * (counts.wal * counts.journal)) c.requires.db in
-    let by_wal = ap (λ (k : ℕ). name_ways s.db * (k * counts.journal)) c.requires.wal in
-    let by_journal = ap (λ (k : ℕ). name_ways s.db * (name_ways s.wal * k)) c.requires.journal in
     record {
       judged = all.0;
       counts = counts;
       are = c.requires;
       numbered = all.2;
-      all = all.1 ∙ end ∙ c.images-n-end.ensures ∙ by_db ∙ by_wal ∙ by_journal;
+      all = all.1 ∙ end ∙ c.images-n-end.ensures ∙ c.requires.images;
       told = all.3;
     }

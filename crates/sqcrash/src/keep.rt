@@ -1,0 +1,84 @@
+//! Images that are found wrong are kept as files (own).
+use crate::outcome::Refusal;
+use sqimages::Image;
+use std::rt::Files;
+use std::{fs, io};
+
+/// The most images that are kept.
+const MOST: u64 = 1000;
+
+/// Where images go that are found wrong.
+pub trait Keeper {
+    /// Takes an image that was found wrong at a point, counted from 1, by its number there, counted from 0.
+    fn keep(&mut self, point: u64, number: u64, image: &Image) -> Result<(), Refusal>;
+}
+
+/// A folder in which images are kept, or none.
+#[derive(Drop)]
+pub struct Folder<'a, R> {
+    rt: &'a R,
+    path: Option<&'a str>,
+    kept: u64,
+}
+
+impl<'a, R: Files + AllocGlobal> Folder<'a, R> {
+    /// The folder of this path, which is made where it isn't there; where there is no path, nothing is kept. Refused by
+    /// FileFailed.
+    pub fn new(rt: &'a R, path: Option<&'a str>) -> Result<Folder<'a, R>, Refusal> {
+        if let Some(folder) = path {
+            make(rt, folder)?;
+        }
+        Ok(Folder { rt, path, kept: 0 })
+    }
+}
+
+/// Makes a folder where it isn't there.
+fn make<R: Files>(rt: &R, path: &str) -> Result<(), Refusal> {
+    if fs::create_dir(rt, path).is_ok() {
+        return Ok(());
+    }
+    match fs::metadata(rt, path) {
+        Ok(there) if there.is_dir() => Ok(()),
+        _ => Err(Refusal::FileFailed),
+    }
+}
+
+/// Writes a file, in place of one that is there.
+fn put<R: Files>(rt: &R, path: &str, bytes: &[u8]) -> Result<(), Refusal> {
+    match fs::write(rt, path, bytes) {
+        Ok(()) => Ok(()),
+        Err(error) if error.kind() == io::ErrorKind::OutOfMemory => Err(Refusal::NoMemory),
+        Err(_) => Err(Refusal::FileFailed),
+    }
+}
+
+/// Writes a log. One without bytes isn't written, and none is left in its place.
+fn put_log<R: Files>(rt: &R, path: &str, bytes: &[u8]) -> Result<(), Refusal> {
+    if !bytes.is_empty() {
+        return put(rt, path, bytes);
+    }
+    match fs::remove_file(rt, path) {
+        Ok(()) => Ok(()),
+        Err(error) if error.kind() == io::ErrorKind::NotFound => Ok(()),
+        Err(_) => Err(Refusal::FileFailed),
+    }
+}
+
+impl<R: Files + AllocGlobal> Keeper for Folder<'_, R> {
+    fn keep(&mut self, point: u64, number: u64, image: &Image) -> Result<(), Refusal> {
+        let Some(folder) = self.path else {
+            return Ok(());
+        };
+        if self.kept >= MOST {
+            return Ok(());
+        }
+        self.kept += 1;
+        let alloc = self.rt.alloc();
+        let db = format!(in alloc; "{folder}/p{point}-i{number}.db")?;
+        let wal = format!(in alloc; "{db}-wal")?;
+        let journal = format!(in alloc; "{db}-journal")?;
+        put(self.rt, db.as_str(), &image.db)?;
+        put_log(self.rt, wal.as_str(), &image.wal)?;
+        put_log(self.rt, journal.as_str(), &image.journal)
+    }
+}

@@ -1,0 +1,9 @@
+//! Tests of the rig's libraries by their public calls: which commit files show, and the images that a crash may leave.
+#![tactic(auto)]
+
+#[cfg(test)]
+mod sqimages_tests;
+#[cfg(test)]
+mod sqjudge_tests;
+#[cfg(test)]
+mod traces;
