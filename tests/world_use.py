@@ -300,6 +300,8 @@ CHANGES_OF_LOG = {
 def beside_change(line, call, change, is_seen, **more):
     """What is wrong with a run of a line, during which a.db is changed."""
     alone = run(line)
+    if os.path.exists("made.db"):
+        os.remove("made.db")
     stopped = Stopped([program, *line.split()], *call, **more)
     change()
     if not is_seen:
@@ -348,6 +350,27 @@ def a_log_that_changes():
                     copied(base, "a.db")
                     fault = beside_change(line, call, change, name != "nothing", FROZEN="1")
                     yield f"{line}, {name}, at once", fault
+
+
+def salts_change():
+    """The last frame of the log is given other salts."""
+    with open("a.db-wal", "r+b") as log:
+        log.seek(len(WAL) - PAGE - 24 + 8)
+        log.write(bytes(8))
+
+
+@test
+def a_last_frame_that_changes():
+    """One that counted and whose salts are others at the end is a change, though the log's header, its length and its
+    time of change are as they were."""
+    lines = ("show a.db --log", 3), ("show a.db --log --all", 3), ("show a.db --commits", 3), ("show a.db --page 1", 5)
+    for line, number in *lines, ("check a.db", 4), ("recover a.db --to made.db", 5):
+        for name, change in ("other salts", salts_change), ("nothing", int):
+            fill(DB, WAL)
+            fault = beside_change(line, ("read a.db-wal;", number), change, name != "nothing", FROZEN="1")
+            yield f"{line}, {name}", fault
+            if "--to" in line:
+                yield f"{line}, {name}, what is made", None if os.path.exists("made.db") == (name == "nothing") else "wrong"
 
 
 def is_whole(pages, trees, b_tree, overflow, free):
