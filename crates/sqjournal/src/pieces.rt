@@ -52,15 +52,12 @@ fn take_next(
     unit: &[u8],
     records: &mut Vec<Record>,
 ) -> Result<Reading, AllocError>
-    requires least { 512 ≤ reading.now.header.sector }
-    requires greatest { reading.now.header.sector ≤ 65536 }
-    requires whole { length unit.now ≡ next_len reading.now }
-    requires within { reading.now.at + length unit.now ≤ 2 ^ 40 }
+    requires sector { (512 ≤ reading.now.header.sector) × (reading.now.header.sector ≤ 65536) }
+    requires whole { (length unit.now ≡ next_len reading.now) × (reading.now.at + length unit.now ≤ 2 ^ 40) }
     ensures stands { IfOk result (λ r. (b : List ℕ) → Stands b reading.now records.old.items
         → IsNext b reading.now unit.now → Stands b r records.new.items) }
     ensures header { IfOk result (λ r. r.header ≡ reading.now.header) }
-    ensures further { IfOk result (λ r. UnlessOver r.next (reading.now.at + length unit.now ≤ r.at)) }
-    ensures near { IfOk result (λ r. r.at ≤ 2 ^ 41) }
+    ensures further { IfOk result (λ r. UnlessOver r.next (reading.now.at + length unit.now ≤ r.at) × (r.at ≤ 2 ^ 41)) }
     ensures grows { (new : List Record) × (records.new.items ≡ records.old.items ++ new) }
 {
     let (next, record) = reading.after(unit);
@@ -77,18 +74,14 @@ fn take_whole(
     piece: &[u8],
     records: &mut Vec<Record>,
 ) -> Result<Reading, AllocError>
-    requires least { 512 ≤ reading.header.sector }
-    requires greatest { reading.header.sector ≤ 65536 }
-    requires limit { reading.at ≤ 2 ^ 41 }
+    requires sector { (512 ≤ reading.header.sector) × (reading.header.sector ≤ 65536) }
+    requires ahead { UnlessOver reading.next (place ≤ reading.at) × (reading.at ≤ 2 ^ 41) }
     requires within { place + length piece.now ≤ 2 ^ 40 }
-    requires ahead { UnlessOver reading.next (place ≤ reading.at) }
     ensures stands { IfOk result (λ r. (b : List ℕ) → length b ≡ place
         → Stands (b ++ piece.now) reading records.old.items
         → Stands (b ++ piece.now) r records.new.items) }
-    ensures ahead { IfOk result (λ r. UnlessOver r.next (place ≤ r.at)) }
-    ensures short { IfOk result (λ r. UnlessOver r.next (place + length piece.now < r.at + next_len r)) }
-    ensures header { IfOk result (λ r. r.header ≡ reading.header) }
-    ensures near { IfOk result (λ r. r.at ≤ 2 ^ 41) }
+    ensures place { IfOk result (λ r. (r.header ≡ reading.header) × (r.at ≤ 2 ^ 41) × UnlessOver r.next (place ≤ r.at)
+        × UnlessOver r.next (place + length piece.now < r.at + next_len r)) }
     ensures grows { (new : List Record) × (records.new.items ≡ records.old.items ++ new) }
 {
     while let Some(start) = reading.start_in(place, piece.len()) {
@@ -116,11 +109,9 @@ fn take_rest(
     begun: &mut Vec<u8>,
     records: &mut Vec<Record>,
 ) -> Result<Reading, AllocError>
-    requires least { 512 ≤ reading.header.sector }
-    requires greatest { reading.header.sector ≤ 65536 }
-    requires limit { reading.at ≤ 2 ^ 41 }
-    requires within { place + length piece.now ≤ 2 ^ 40 }
-    requires ahead { UnlessOver reading.next (place ≤ reading.at) }
+    requires sector { (512 ≤ reading.header.sector) × (reading.header.sector ≤ 65536) }
+    requires place { UnlessOver reading.next (place ≤ reading.at) × (reading.at ≤ 2 ^ 41)
+        × (place + length piece.now ≤ 2 ^ 40) }
     ensures stands { IfOk result (λ r. (b : List ℕ) → length b ≡ place
         → Stands (b ++ piece.now) reading records.old.items
         → Stands (b ++ piece.now) r records.new.items × Waits (b ++ piece.now) r begun.new.items) }

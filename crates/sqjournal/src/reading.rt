@@ -123,14 +123,12 @@ impl Reading {
 
     /// The reading goes on at the end of a segment's header or of one of its records.
     fn goes_on(self, end: u64, nonce: u32, left: u32) -> Reading
-        requires sector { 0 < self.header.sector }
-        requires within { end ≤ 2 ^ 40 }
+        requires { (0 < self.header.sector) × (end ≤ 2 ^ 40) }
         ensures header { result.header ≡ self.header }
         ensures full { left ≡ 0 → (result.next ≡ NewSegment)
             × (result.at ≡ next_header self.header.sector end) }
         ensures more { 0 < left → (result.next ≡ Records nonce left) × (result.at ≡ end) }
-        ensures further { end ≤ result.at }
-        ensures near { result.at < end + self.header.sector }
+        ensures near { (end ≤ result.at) × (result.at < end + self.header.sector) }
     {
         if left == 0 {
             Reading {
@@ -149,10 +147,8 @@ impl Reading {
 
     /// The reading after the sector of a header.
     fn after_header(self, sector: &[u8]) -> Reading
-        requires next { self.next ≡ NewSegment }
-        requires least { 512 ≤ self.header.sector }
-        requires whole { length sector.now ≡ self.header.sector }
-        requires within { self.at + self.header.sector ≤ 2 ^ 40 }
+        requires next { (self.next ≡ NewSegment) × (512 ≤ self.header.sector) }
+        requires whole { (length sector.now ≡ self.header.sector) × (self.at + self.header.sector ≤ 2 ^ 40) }
         ensures stands { (b : List ℕ) (es : List Record) → Stands b self es
             → IsNext b self sector.now → Stands b result es }
         ensures header { result.header ≡ self.header }
@@ -168,10 +164,8 @@ impl Reading {
 
     /// The reading after a record, and the record where it passes.
     fn after_record(self, nonce: u32, left: u32, bytes: &[u8]) -> (Reading, Option<Record>)
-        requires next { self.next ≡ Records nonce left }
-        requires sector { 0 < self.header.sector }
-        requires whole { length bytes.now ≡ self.header.page_size + 8 }
-        requires within { self.at + length bytes.now ≤ 2 ^ 40 }
+        requires next { (self.next ≡ Records nonce left) × (0 < self.header.sector) }
+        requires whole { (length bytes.now ≡ self.header.page_size + 8) × (self.at + length bytes.now ≤ 2 ^ 40) }
         ensures stands { (b : List ℕ) (es : List Record) → Stands b self es
             → IsNext b self bytes.now → Stands b result.0 (es ++ option_to_list result.1) }
         ensures header { result.0.header ≡ self.header }
@@ -213,10 +207,8 @@ impl Reading {
 
     /// The reading after the whole header or record that is next, and the record where one passes.
     pub fn after(self, unit: &[u8]) -> (Reading, Option<Record>)
-        requires least { 512 ≤ self.header.sector }
-        requires greatest { self.header.sector ≤ 65536 }
-        requires whole { length unit.now ≡ next_len self }
-        requires within { self.at + length unit.now ≤ 2 ^ 40 }
+        requires sector { (512 ≤ self.header.sector) × (self.header.sector ≤ 65536) }
+        requires whole { (length unit.now ≡ next_len self) × (self.at + length unit.now ≤ 2 ^ 40) }
         ensures stands { (b : List ℕ) (es : List Record) → Stands b self es
             → IsNext b self unit.now → Stands b result.0 (es ++ option_to_list result.1) }
         ensures header { result.0.header ≡ self.header }

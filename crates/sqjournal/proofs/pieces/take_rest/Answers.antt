@@ -10,6 +10,6 @@ returns-clause-stands c =
     let from = c.kept_in-from in
     λ b l s. (
       next.stands b l s,
-      kept_waits b piece c.keep.new.begun.items c.in_ok-next.next c.args.place from.result l next.ahead next.short from.ensures.over from.ensures.value
+      kept_waits b piece c.keep.new.begun.items c.in_ok-next.next c.args.place from.result l next.place.2 next.place.3 from.ensures.over from.ensures.value
           (c.in_ok-keep.ensures.ok ∙ take_rest piece from.result),
     )
