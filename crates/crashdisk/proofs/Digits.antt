@@ -68,7 +68,7 @@ suc-times a b = ap (λ (m : ℕ). m * b) one ∙ suc-mul a b
 
 module _ (sector : ℕ) (tears : Bool) (s : FileState) (n : ℕ) (positive : 0 < sector) (least : s.least ≤ s.len) (greatest : s.len ≤ s.greatest) where
   -- a length that is named is one between the least and the greatest
-  between : (j : ℕ) → (s.least ≤ length_at sector s.least s.greatest j) × (length_at sector s.least s.greatest j ≤ s.greatest)
+  pub between : (j : ℕ) → (s.least ≤ length_at sector s.least s.greatest j) × (length_at sector s.least s.greatest j ≤ s.greatest)
   between j = elim (eqb_tells j 0) [
     | inl first ↦ subst (λ (b : Bool). (s.least ≤ cond b s.least (rest j)) × (cond b s.least (rest j) ≤ s.greatest)) (sym first.0) (omega arith, omega (arith, least, greatest))
     | inr later ↦ subst (λ (b : Bool). (s.least ≤ cond b s.least (rest j)) × (cond b s.least (rest j) ≤ s.greatest)) (sym later.0) (elim (cases_lt j (length_count sector s.least s.greatest - 1)) [
@@ -102,7 +102,7 @@ module _ (sector : ℕ) (tears : Bool) (s : FileState) (n : ℕ) (positive : 0 <
       ∙ ap (λ (m : ℕ). m % suc (length (s.earlier k))) (get_or-map-range_with_len (digit (value_count s) n) 0 (sector_count sector s.greatest) k k 0 lt (omega arith))
       ∙ mod-eq_of_lt (mod-lt (n / ways (value_count s) k) (omega arith))
 
-  sector_there : (i : ℕ) → i < s.greatest → i / sector < sector_count sector s.greatest
+  pub sector_there : (i : ℕ) → i < s.greatest → i / sector < sector_count sector s.greatest
   sector_there i lt = omega (arith, (le-div_iff_mul-le {k = sector} {x = i / sector + 1} {y = s.greatest + sector - 1} positive).1 (omega (arith, div-mul-le_self i sector, suc-times (i / sector) sector)))
 
   untorn : (t b : Bool) (k : ℕ) → torn_here t b (naming_at sector s n) k ≡ None

@@ -3,6 +3,7 @@ pub mod Called
 pub mod Carrying
 pub mod Changing
 pub mod Digits
+pub mod Counted
 pub mod Each
 pub mod Filling
 pub mod Fixed

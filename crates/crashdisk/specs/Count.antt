@@ -50,3 +50,17 @@ pub record HasDigits (sector : ℕ) (s : FileState) (n : ℕ) (image : List ℕ)
 pub record IsChoice (sector : ℕ) (db log : FileState) (n : ℕ) (of_db of_log : Naming) : Type 0 where
   pub db_named : of_db ≡ naming_at sector db n
   pub log_named : of_log ≡ naming_at sector log (n / choice_count sector db)
+
+-- in each sector one of its values, and one of the lengths that are counted
+pub record IsListed (sector : ℕ) (s : FileState) (image : List ℕ) : Type 0 where
+  pub values : ℕ → ℕ
+  pub below : (k : ℕ) → values k < value_count s k
+  pub each : (i : ℕ) → i < length image → get_or image i 0 ≡ listed s (i / sector) (values (i / sector)) i
+  pub j : ℕ
+  pub short : j < length_count sector s.least s.greatest
+  pub len : length image ≡ length_at sector s.least s.greatest j
+
+-- two files of that kind are those of some number below the count
+abbrev pub EachIsCounted : (sector : ℕ) (db log : FileState) → Type 0
+EachIsCounted sector db log = (of_db of_log : List ℕ) → IsListed sector db of_db → IsListed sector log of_log
+    → (n : ℕ) × (n < choice_count sector db * choice_count sector log) × HasDigits sector db n of_db × HasDigits sector log (n / choice_count sector db) of_log

@@ -17,7 +17,7 @@ pub enum Rest {
 }
 
 /// What a crash leaves of a file.
-#[derive(Drop)]
+#[derive(Clone, Debug, PartialEq, Eq, Drop)]
 pub struct FileChoice {
     /// Sector k takes the value of number `pick[k]` modulo their count, 0 being the oldest.
     pub pick: Vec<u64>,
@@ -32,7 +32,7 @@ pub struct FileChoice {
 }
 
 /// What a crash leaves of both files.
-#[derive(Drop)]
+#[derive(Clone, Debug, PartialEq, Eq, Drop)]
 pub struct Choice {
     /// Of the database.
     pub db: FileChoice,

@@ -36,7 +36,8 @@ pub(crate) fn next_choice(
     }
 }
 
-fn file_choice(
+/// The same, with memory that the caller gives.
+pub(crate) fn file_choice(
     alloc: Global,
     held: &Held,
     sector: usize,

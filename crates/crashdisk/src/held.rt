@@ -63,7 +63,7 @@ impl Change<'_> {
 /// new where `pick[i]` is odd, and the length is new where `new_len` holds; for a sync, sector number i takes the
 /// listed value number `pick[i]` modulo their count. Where an entry is missing, a write leaves the old value, and a
 /// sync the present one.
-#[derive(Debug, Drop)]
+#[derive(Clone, Debug, PartialEq, Eq, Drop)]
 pub struct Part {
     /// By the touched sectors; of a sync by all sectors.
     pub pick: Vec<u32>,

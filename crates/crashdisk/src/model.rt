@@ -14,7 +14,7 @@ use crate::calls::{
     sync_held, turn_held, write_held,
 };
 use crate::choice::{Choice, FileChoice};
-use crate::counting::{count_values, next_choice};
+use crate::counting::{count_values, file_choice, next_choice};
 use crate::crash::{append_image, crash_held};
 use crate::disk::Disk;
 use crate::error::DiskError;
@@ -51,7 +51,7 @@ impl ModelDisk {
     ghost use Rattle.crashdisk.specs.Call.{of, ArePresent, IsCrash};
     ghost use Rattle.crashdisk.specs.Choice.{naming_of, image_of};
     ghost use Rattle.crashdisk.specs.Stop.{no_stops};
-    ghost use Rattle.crashdisk.specs.Count.{value_count, choice_count, IsChoice, HasDigits};
+    ghost use Rattle.crashdisk.specs.Count.{value_count, choice_count, IsChoice, HasDigits, EachIsCounted};
     ghost use Rattle.crashdisk.specs.Ending.{EndsDb};
     ghost use Rattle.crashdisk.specs.Model.{state_of};
 
@@ -265,6 +265,26 @@ impl ModelDisk {
             return Ok(None);
         }
         Ok(Some(Choice { db, log }))
+    }
+
+    /// The choice of this number, counted as `choice` counts them; from the count of choices on they come again in the
+    /// same order. Each value of each sector, with each of the lengths that are counted, is of some number below the
+    /// count; sectors that are torn, and lengths in between, are of none. AllocError where it finds no memory. It isn't
+    /// counted as a call.
+    pub fn choice_at(&self, alloc: Global, n: u64) -> Result<Choice, AllocError>
+        ensures named { IfOk result (λ choice. IsChoice self.now.sector (state_of self.now).db (state_of self.now).log n
+            (naming_of choice.db) (naming_of choice.log)) }
+        ensures db { IfOk result (λ choice. HasDigits self.now.sector (state_of self.now).db n
+            (image_of self.now.sector self.now.tears (state_of self.now).db (naming_of choice.db))) }
+        ensures log { IfOk result (λ choice. HasDigits self.now.sector (state_of self.now).log
+            (n / choice_count self.now.sector (state_of self.now).db)
+            (image_of self.now.sector self.now.tears (state_of self.now).log (naming_of choice.log))) }
+        ensures each { EachIsCounted self.now.sector (state_of self.now).db (state_of self.now).log }
+    {
+        let mut digits = n;
+        let db = file_choice(alloc, &self.db, self.sector, &mut digits)?;
+        let log = file_choice(alloc, &self.log, self.sector, &mut digits)?;
+        Ok(Choice { db, log })
     }
 
     /// Of a disk that tears, the bytes of the log when it last had nothing unsynced, and the place and bytes of each

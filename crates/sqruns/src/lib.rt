@@ -6,4 +6,6 @@ mod journal_tests;
 #[cfg(test)]
 mod memory_tests;
 #[cfg(test)]
+mod stepping_tests;
+#[cfg(test)]
 mod world_tests;

@@ -16,6 +16,7 @@ use Rattle.sqworld.specs.declared.journal_engine.JournalEngine.{JournalEngine}
 use Rattle.sqworld.specs.declared.journal_engine.JournalEngine.TheVariants.{Closed}
 use Rattle.sqworld.specs.declared.journal_event.JEvent.{JEvent}
 use Rattle.sqworld.specs.declared.reply.Run.{Run}
+use Rattle.sqworld.specs.JournalStepping.{ServedOn, LifeOn}
 use Rattle.sqworld.proofs.Worlds.{none_due, taken_next}
 use Rattle.sqworld.proofs.Moments.{no_items}
 use Rattle.sqworld.proofs.Going.{past_end}
@@ -23,10 +24,6 @@ use Rattle.sqworld.proofs.JournalGoing.{goings_none, goings_more}
 use Rattle.sqworld.proofs.JournalMoments.{moments_more, complete_more, untorn_holds}
 use Rattle.sqworld.proofs.JournalResting.{fits_new}
 use Rattle.sqworld.proofs.Lives.{life_none, life_more}
-
--- what a base's events lead to
-abbrev pub ServedOn : Base → List JEvent → Run → JournalEngine → Type 0
-ServedOn base events run engine = Served base.page_size base.tears (start_of base) events run (λ past. FitsEngine past engine) (disk_of engine)
 
 pub served_none : (base : Base) (disk : ModelDisk) (run : Run) → BeginsOn base disk → run.replies.items ≡ [] → run.refused.items ≡ [] → run.found.items ≡ [] → run.crashed.items ≡ [] → ServedOn base [] run (Closed disk)
 served_none base disk run begins replies refused found crashed = record {
@@ -36,7 +33,7 @@ served_none base disk run begins replies refused found crashed = record {
       begins.new.refused begins.new.tears;
 }
 
-served_more : (base : Base) (events : List JEvent) (event : JEvent) (run new_run : Run) (old new : JournalEngine) → ServedOn base events run old → Goes base.page_size base.tears event old run new new_run → ServedOn base (events ++ event ∷ []) new_run new
+pub served_more : (base : Base) (events : List JEvent) (event : JEvent) (run new_run : Run) (old new : JournalEngine) → ServedOn base events run old → Goes base.page_size base.tears event old run new new_run → ServedOn base (events ++ event ∷ []) new_run new
 served_more base events event run new_run old new served goes =
     let given = goes.given in
     let count = (disk_of new).refused in
@@ -67,9 +64,6 @@ untorn_run base events run engine untorn served =
     (done.past, (disk_of engine).refused, done.runs)
 
 -- ---- The life of the disk.
-
-abbrev pub LifeOn : Base → List JEvent → Run → JournalEngine → Type 0
-LifeOn base events run engine = (disk : ModelDisk) × BeginsOn base disk × IsLifeOf base disk events run engine
 
 pub life_begins : (base : Base) (disk : ModelDisk) (run : Run) → BeginsOn base disk → run.replies.items ≡ [] → run.refused.items ≡ [] → run.found.items ≡ [] → run.crashed.items ≡ [] → LifeOn base [] run (Closed disk)
 life_begins base disk run begins replies refused found crashed =

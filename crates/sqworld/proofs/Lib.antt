@@ -8,6 +8,8 @@ pub mod Moments
 pub mod Going
 pub mod Lives
 pub mod Worlds
+pub mod ServedOnward
+pub mod JournalServedOnward
 pub mod JournalResting
 pub mod JournalServing
 pub mod JournalMoments

@@ -8,6 +8,7 @@ use Rattle.walcore.specs.Fits.{beginning}
 use Rattle.sqworld.specs.Pages.{pages_of}
 use Rattle.sqworld.specs.Run.{moment, moments_of, start_of}
 use Rattle.sqworld.specs.Engines.{FitsEngine, disk_of}
+use Rattle.sqworld.specs.Stepping.{ServedOn, LifeOn}
 use Rattle.sqworld.specs.Worlds.{BeginsOn, Goes, Goings, Served, AnswersOn, count_of, IsLifeOf, HasLife}
 use Rattle.sqworld.specs.declared.base.Base.{Base}
 use Rattle.sqworld.specs.declared.engine.Engine.{Engine}
@@ -18,10 +19,6 @@ use Rattle.sqworld.proofs.Going.{goings_none, goings_more}
 use Rattle.sqworld.proofs.Moments.{moments_more, complete_more}
 use Rattle.sqworld.proofs.Lives.{life_none, life_more}
 use Rattle.sqworld.proofs.Resting.{fits_new}
-
--- what a base's events lead to
-abbrev pub ServedOn : Base → List Event → Run → Engine → Type 0
-ServedOn base events run engine = Served base.page_size base.sector base.tears (start_of base) events run (λ past. FitsEngine past engine) (disk_of engine)
 
 pub none_due : (tears : Bool) → let none : ℕ = 0 in none ≡ cond tears 0 0
 none_due true = refl
@@ -35,7 +32,7 @@ served_none base disk run begins replies refused found crashed = record {
       begins.new.refused begins.new.sector begins.new.tears;
 }
 
-served_more : (base : Base) (events : List Event) (event : Event) (run new_run : Run) (old new : Engine) → ServedOn base events run old → Goes base.page_size base.tears event old run new new_run → ServedOn base (events ++ event ∷ []) new_run new
+pub served_more : (base : Base) (events : List Event) (event : Event) (run new_run : Run) (old new : Engine) → ServedOn base events run old → Goes base.page_size base.tears event old run new new_run → ServedOn base (events ++ event ∷ []) new_run new
 served_more base events event run new_run old new served goes =
     let given = goes.given in
     let count = (disk_of new).refused in
@@ -58,7 +55,7 @@ pub served_next : (base : Base) (events : List Event) (i : ℕ) (event : Event) 
 served_next base events i event run new_run old new l h served goes =
     rw add-one (subst (λ es. ServedOn base es new_run new) (sym (taken_next events i event l h)) (served_more base (take i events) event run new_run old new served goes))
 
-all_taken : (events : List Event) (i : ℕ) → length events ≤ i → take i events ≡ events
+pub all_taken : (events : List Event) (i : ℕ) → length events ≤ i → take i events ≡ events
 all_taken [] zero h = refl
 all_taken [] (suc i) h = refl
 all_taken (x ∷ events) zero h = absurd (omega arith)
@@ -68,9 +65,6 @@ pub served_all : (base : Base) (events : List Event) (i : ℕ) (run : Run) (engi
 served_all base events i run engine h served = subst (λ es. ServedOn base es run engine) (all_taken events i h) served
 
 -- ---- The life of the disk.
-
-abbrev pub LifeOn : Base → List Event → Run → Engine → Type 0
-LifeOn base events run engine = (disk : ModelDisk) × BeginsOn base disk × IsLifeOf base disk events run engine
 
 pub life_begins : (base : Base) (disk : ModelDisk) (run : Run) → BeginsOn base disk → run.replies.items ≡ [] → run.refused.items ≡ [] → run.found.items ≡ [] → run.crashed.items ≡ [] → LifeOn base [] run (Closed disk 0)
 life_begins base disk run begins replies refused found crashed =

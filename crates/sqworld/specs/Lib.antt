@@ -5,6 +5,8 @@ pub mod Sessions
 pub mod Engines
 pub mod Lives
 pub mod Worlds
+pub mod Stepping
+pub mod JournalStepping
 pub mod JournalRun
 pub mod JournalEngines
 pub mod JournalWorlds

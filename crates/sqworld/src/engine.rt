@@ -15,7 +15,7 @@ ghost use Rattle.sqworld.specs.Engines.{model_of, disk_of, begun_of, EngineServe
 use crate::event::Event;
 use crate::reply::{Crashed, Found, Reply};
 use crate::session::Session;
-use crashdisk::{Choice, Disk, File, ModelDisk, Part};
+use crashdisk::{Choice, Disk, DiskError, File, ModelDisk, Part};
 use sqval::PageSize;
 use std::alloc::{AllocError, Global};
 use walcore::{Refused, Wal, WalError};
@@ -217,6 +217,17 @@ impl Engine {
         match self {
             Engine::Closed { disk, .. } => disk.refused(),
             Engine::Open(session) => session.refused(),
+        }
+    }
+
+    /// A disk of its own that lists the same.
+    pub fn copy_disk(&mut self) -> Result<ModelDisk, DiskError>
+        ensures same { self.new ≡ self.old }
+        ensures listed { IfOk result (λ disk. state_of disk ≡ disk_of self.old) }
+    {
+        match self {
+            Engine::Closed { disk, .. } => disk.copy(),
+            Engine::Open(session) => session.wal.disk().copy(),
         }
     }
 

@@ -2,9 +2,11 @@
 use crashdisk::{Choice, Part};
 
 /// What happens to an engine over a write-ahead log and to its disk (own).
-#[derive(Drop)]
+#[derive(Clone, Debug, PartialEq, Eq, Drop)]
 pub enum Event {
-    /// The engine is opened with these salts. One that is there is given up first, without a crash.
+    /// The engine is opened with these salts. One that is there is given up first, without a crash. The pair of salts
+    /// must be new: from an opening on whose salts an earlier log of the run had, or that finds a header or a frame
+    /// which passes by chance, `runs` of `run_wal` says nothing.
     Open {
         salts: (u32, u32),
     },
@@ -17,7 +19,8 @@ pub enum Event {
     Sync,
     /// All commits are brought down, and what the oldest reader sees into the database file.
     Checkpoint,
-    /// The log is begun anew with this second salt.
+    /// The log is begun anew with this second salt, and with the first salt of the log in force plus 1. This pair must
+    /// be new as well.
     Restart {
         salt2: u32,
     },

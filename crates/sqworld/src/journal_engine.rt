@@ -13,7 +13,7 @@ use crate::engine::{Given, alone, crash_disk, fail_disk, find};
 use crate::journal_event::JEvent;
 use crate::reply::Reply;
 use crate::session::{lend, zeros};
-use crashdisk::{Choice, Disk, ModelDisk};
+use crashdisk::{Choice, Disk, DiskError, ModelDisk};
 use rollcore::{Refused, Roll, RollError};
 use sqval::PageSize;
 use std::alloc::{AllocError, Global};
@@ -159,6 +159,17 @@ impl JournalEngine {
         match self {
             JournalEngine::Closed(disk) => disk.refused(),
             JournalEngine::Open(roll) => roll.disk().refused(),
+        }
+    }
+
+    /// A disk of its own that lists the same.
+    pub fn copy_disk(&mut self) -> Result<ModelDisk, DiskError>
+        ensures same { self.new ≡ self.old }
+        ensures listed { IfOk result (λ disk. state_of disk ≡ disk_of self.old) }
+    {
+        match self {
+            JournalEngine::Closed(disk) => disk.copy(),
+            JournalEngine::Open(roll) => roll.disk().copy(),
         }
     }
 

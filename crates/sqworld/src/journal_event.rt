@@ -2,13 +2,13 @@
 use crashdisk::{Choice, Part};
 
 /// What happens to an engine over a rollback journal and to its disk (own).
-#[derive(Drop)]
+#[derive(Clone, Debug, PartialEq, Eq, Drop)]
 pub enum JEvent {
     /// The engine is opened. One that is there is given up first, without a crash.
     Open,
     /// These pages are committed, by their numbers, after which the database has `size` pages. Each segment of the
     /// journal takes a nonce: a commit has one for each 64 pages of the old database that are written or cut off, one
-    /// at least.
+    /// at least. A nonce need not be new: `runs` of `run_journal` rests on none.
     Commit {
         pages: Vec<(u32, Vec<u8>)>,
         size: u32,

@@ -1,9 +1,10 @@
 //! Whole runs over a rollback journal (own).
-ghost use Rattle.std.specs.Prelude.{◌≡◌, ℕ, false, IfOk, OnOk, take};
+ghost use Rattle.std.specs.Prelude.{◌≡◌, ◌≤◌, ◌^◌, ℕ, [], false, IfOk, OnOk, IsSome, IfSome, take};
 ghost use Rattle.rollcore.specs.Machine.{Step};
 ghost use Rattle.rollcore.specs.Premises.{Holds};
 ghost use Rattle.sqval.specs.Runs.{IsRun};
 ghost use Rattle.sqworld.specs.JournalRun.{moments_of, start_of, IsComplete};
+ghost use Rattle.sqworld.specs.JournalEngines.{disk_of};
 ghost use Rattle.sqworld.specs.JournalWorlds.{Goes, HasLife};
 
 use crate::base::Base;
@@ -11,6 +12,7 @@ use crate::journal_engine::JournalEngine;
 use crate::journal_event::JEvent;
 use crate::reply::Run;
 use crate::world::{NoMemory, base_disk};
+use crashdisk::ModelDisk;
 use sqval::PageSize;
 use std::alloc::{AllocError, Global};
 
@@ -37,6 +39,117 @@ fn go(
     }
 }
 
+/// The most events of a run.
+const MOST_EVENTS: usize = 4611686018427387904;
+
+/// A run over a rollback journal that goes on event by event: an engine on a modelled disk, and what was answered so
+/// far (own). It is ended by `finish`.
+pub struct JournalWorld {
+    page_size: PageSize,
+    tears: bool,
+    engine: Option<JournalEngine>,
+    run: Run,
+    served: usize,
+    failed: bool,
+    ghost there: { IsSome engine },
+    ghost few: { served ≤ 2 ^ 62 },
+}
+
+impl JournalWorld {
+    ghost use Rattle.crashdisk.specs.Model.{state_of};
+    ghost use Rattle.sqworld.specs.JournalStepping.{HasServed, IsRunOfServed, ServesNext, StaysServed};
+
+    /// A closed engine on a modelled disk of the base, before the first event; NoMemory alone.
+    pub fn new(alloc: Global, base: &Base) -> Result<JournalWorld, NoMemory>
+        ensures { IfOk result (λ world. HasServed base.now [] world) }
+    {
+        let Ok(disk) = base_disk(alloc, base) else {
+            return Err(NoMemory);
+        };
+        Ok(JournalWorld {
+            page_size: base.page_size(),
+            tears: base.tears(),
+            engine: Some(JournalEngine::Closed(disk)),
+            run: Run::new(alloc),
+            served: 0,
+            failed: false,
+        })
+    }
+
+    /// Answers one event, and notes the answer in the run. NoMemory where a vector of the run's own finds none, and
+    /// past 4,611,686,018,427,387,904 events; from then on the world answers nothing else, and is only to be finished.
+    pub fn serve(&mut self, alloc: Global, event: &JEvent) -> Result<(), NoMemory>
+        ensures { OnOk result (ServesNext event.now self.old self.new) }
+    {
+        if self.failed || self.served >= MOST_EVENTS {
+            return Err(NoMemory);
+        }
+        let Some(engine) = self.engine.take() else {
+            unreachable!()
+        };
+        let (engine, gone) = go(
+            alloc,
+            engine,
+            self.page_size,
+            self.tears,
+            event,
+            &mut self.run,
+        );
+        if let Some(engine) = self.engine.replace(engine) {
+            let _ = engine.close();
+        }
+        self.served += 1;
+        self.failed = gone.is_err();
+        match gone {
+            Ok(()) => Ok(()),
+            Err(_) => Err(NoMemory),
+        }
+    }
+
+    /// What was answered so far.
+    pub fn run(&self) -> &Run
+        ensures run { result.now ≡ self.now.run }
+        ensures served { IsRunOfServed self.now result.now }
+    {
+        &self.run
+    }
+
+    /// A disk of its own that lists the same as the world's, of which the same is set; NoMemory alone.
+    pub fn disk(&mut self) -> Result<ModelDisk, NoMemory>
+        ensures run { self.new.run ≡ self.old.run }
+        ensures served { StaysServed self.old self.new }
+        ensures listed { IfOk result (λ disk. IfSome self.old.engine (λ engine. state_of disk ≡ disk_of engine)) }
+    {
+        let copied = match &mut self.engine {
+            Some(engine) => engine.copy_disk(),
+            None => return Err(NoMemory),
+        };
+        match copied {
+            Ok(disk) => Ok(disk),
+            Err(_) => Err(NoMemory),
+        }
+    }
+
+    /// Ends the world, and gives what was answered.
+    pub fn finish(self) -> Run
+        ensures run { result ≡ self.run }
+        ensures served { IsRunOfServed self result }
+    {
+        let JournalWorld {
+            engine,
+            run,
+            page_size: _,
+            tears: _,
+            served: _,
+            failed: _,
+        } = self;
+        if let Some(engine) = engine {
+            let _ = engine.close();
+        }
+        run
+    }
+}
+
 /// Answers the events one after another, with an engine over a rollback journal on a modelled disk of the base.
 /// NoMemory alone, where a vector of the run's own finds none. Up to the first crash at which a disk that tears puts
 /// the header of a journal together, the replies are a run of the machine; on a disk that doesn't tear, all of them
@@ -49,26 +162,13 @@ pub fn run_journal(alloc: Global, base: &Base, events: &[JEvent]) -> Result<Run,
     ensures untorn { base.now.tears ≡ false
         → IfOk result (λ run. IsRun Step (start_of base.now) (moments_of events.now run)) }
 {
-    let Ok(disk) = base_disk(alloc, base) else {
-        return Err(NoMemory);
-    };
-    let mut engine = JournalEngine::Closed(disk);
-    let mut run = Run::new(alloc);
+    let mut world = JournalWorld::new(alloc, base)?;
     for event in events {
-        let (next, gone) = go(
-            alloc,
-            engine,
-            base.page_size(),
-            base.tears(),
-            event,
-            &mut run,
-        );
-        engine = next;
-        let Ok(()) = gone else {
-            let _ = engine.close();
+        let Ok(()) = world.serve(alloc, event) else {
+            let _ = world.finish();
             return Err(NoMemory);
         };
     }
-    let _ = engine.close();
+    let run = world.finish();
     Ok(run)
 }

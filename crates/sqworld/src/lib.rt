@@ -14,6 +14,6 @@ pub mod world;
 pub use base::Base;
 pub use event::Event;
 pub use journal_event::JEvent;
-pub use journal_world::run_journal;
+pub use journal_world::{JournalWorld, run_journal};
 pub use reply::{Crashed, Found, Reply, Run};
-pub use world::{NoMemory, run_wal};
+pub use world::{NoMemory, World, run_wal};

@@ -4,7 +4,7 @@ ghost use Rattle.std.specs.Prelude.{◌≡◌, []};
 use std::alloc::Global;
 
 /// What an event answers.
-#[derive(Debug, PartialEq, Eq, Drop)]
+#[derive(Clone, Debug, PartialEq, Eq, Drop)]
 pub enum Reply {
     /// It was done.
     Done,
@@ -23,7 +23,7 @@ pub enum Reply {
 }
 
 /// The bytes of both files when an opening begins.
-#[derive(Debug, PartialEq, Eq, Drop)]
+#[derive(Clone, Debug, PartialEq, Eq, Drop)]
 pub struct Found {
     /// Of the database.
     pub db: Vec<u8>,
@@ -33,7 +33,7 @@ pub struct Found {
 
 /// What a crash left of the log of a disk that tears; the bytes of the log at the last moment before it at which
 /// nothing of the log was unsynced; and place and bytes of each write into it since then that was made, or failed.
-#[derive(Debug, PartialEq, Eq, Drop)]
+#[derive(Clone, Debug, PartialEq, Eq, Drop)]
 pub struct Crashed {
     /// The bytes that it left.
     pub log: Vec<u8>,
@@ -45,7 +45,7 @@ pub struct Crashed {
 
 /// What a run answered: for each event a reply, and how many calls the disk had refused when it ended; for each opening
 /// what it found; and on a disk that tears, for each crash what it left.
-#[derive(Debug, PartialEq, Eq, Drop)]
+#[derive(Clone, Debug, PartialEq, Eq, Drop)]
 pub struct Run {
     /// One for each event.
     pub replies: Vec<Reply>,

@@ -1,10 +1,11 @@
 //! Whole runs.
-ghost use Rattle.std.specs.Prelude.{◌≡◌, ◌+◌, ◌<◌, ◌≤◌, ◌^◌, ℕ, IfOk, OnOk, take};
+ghost use Rattle.std.specs.Prelude.{◌≡◌, ◌+◌, ◌<◌, ◌≤◌, ◌^◌, ℕ, [], IfOk, OnOk, IsSome, IfSome, Some, take};
 ghost use Rattle.walcore.specs.Machine.{Step};
 ghost use Rattle.walcore.specs.Making.{Holds, nothing};
 ghost use Rattle.sqval.specs.Runs.{IsRun};
 ghost use Rattle.sqworld.specs.Run.{moments_of, start_of, IsComplete};
 ghost use Rattle.sqworld.specs.Engines.{begun_of, disk_of};
+ghost use Rattle.sqworld.specs.declared.engine.Engine.{Engine};
 ghost use Rattle.sqworld.specs.Worlds.{IsNoted, Goes, Served, BeginsOn, HasLife};
 
 use crate::base::Base;
@@ -82,6 +83,118 @@ fn go(
     }
 }
 
+/// The most events of a run.
+const MOST_EVENTS: usize = 4611686018427387904;
+
+/// A run over a write-ahead log that goes on event by event: an engine on a modelled disk, and what was answered so far
+/// (own). It is ended by `finish`.
+pub struct World {
+    page_size: PageSize,
+    tears: bool,
+    engine: Option<Engine>,
+    run: Run,
+    served: usize,
+    failed: bool,
+    ghost there: { IsSome engine },
+    ghost begun: { (e : Engine) → engine ≡ Some e → begun_of e ≤ served },
+    ghost few: { served ≤ 2 ^ 62 },
+}
+
+impl World {
+    ghost use Rattle.crashdisk.specs.Model.{state_of};
+    ghost use Rattle.sqworld.specs.Stepping.{HasServed, IsRunOfServed, ServesNext, StaysServed};
+
+    /// A closed engine on a modelled disk of the base, before the first event; NoMemory alone.
+    pub fn new(alloc: Global, base: &Base) -> Result<World, NoMemory>
+        ensures { IfOk result (λ world. HasServed base.now [] world) }
+    {
+        let Ok(disk) = base_disk(alloc, base) else {
+            return Err(NoMemory);
+        };
+        Ok(World {
+            page_size: base.page_size(),
+            tears: base.tears(),
+            engine: Some(Engine::Closed { disk, begun: 0 }),
+            run: Run::new(alloc),
+            served: 0,
+            failed: false,
+        })
+    }
+
+    /// Answers one event, and notes the answer in the run. NoMemory where a vector of the run's own finds none, and
+    /// past 4,611,686,018,427,387,904 events; from then on the world answers nothing else, and is only to be finished.
+    pub fn serve(&mut self, alloc: Global, event: &Event) -> Result<(), NoMemory>
+        ensures { OnOk result (ServesNext event.now self.old self.new) }
+    {
+        if self.failed || self.served >= MOST_EVENTS {
+            return Err(NoMemory);
+        }
+        let Some(engine) = self.engine.take() else {
+            unreachable!()
+        };
+        let (engine, gone) = go(
+            alloc,
+            engine,
+            self.page_size,
+            self.tears,
+            event,
+            &mut self.run,
+        );
+        if let Some(engine) = self.engine.replace(engine) {
+            let _ = engine.close();
+        }
+        self.served += 1;
+        self.failed = gone.is_err();
+        match gone {
+            Ok(()) => Ok(()),
+            Err(_) => Err(NoMemory),
+        }
+    }
+
+    /// What was answered so far.
+    pub fn run(&self) -> &Run
+        ensures run { result.now ≡ self.now.run }
+        ensures served { IsRunOfServed self.now result.now }
+    {
+        &self.run
+    }
+
+    /// A disk of its own that lists the same as the world's, of which the same is set; NoMemory alone.
+    pub fn disk(&mut self) -> Result<ModelDisk, NoMemory>
+        ensures run { self.new.run ≡ self.old.run }
+        ensures served { StaysServed self.old self.new }
+        ensures listed { IfOk result (λ disk. IfSome self.old.engine (λ engine. state_of disk ≡ disk_of engine)) }
+    {
+        let copied = match &mut self.engine {
+            Some(engine) => engine.copy_disk(),
+            None => return Err(NoMemory),
+        };
+        match copied {
+            Ok(disk) => Ok(disk),
+            Err(_) => Err(NoMemory),
+        }
+    }
+
+    /// Ends the world, and gives what was answered.
+    pub fn finish(self) -> Run
+        ensures run { result ≡ self.run }
+        ensures served { IsRunOfServed self result }
+    {
+        let World {
+            engine,
+            run,
+            page_size: _,
+            tears: _,
+            served: _,
+            failed: _,
+        } = self;
+        if let Some(engine) = engine {
+            let _ = engine.close();
+        }
+        run
+    }
+}
+
 /// Answers the events one after another, with an engine on a modelled disk of the base (own). NoMemory alone, where a
 /// vector of the run's own finds none. Up to the first event at which a premise fails, the replies are a run of the
 /// machine: a header or a frame passes by chance, a pair of salts comes twice, or a disk that tears puts a header or a
@@ -93,26 +206,13 @@ pub fn run_wal(alloc: Global, base: &Base, events: &[Event]) -> Result<Run, NoMe
         (take n (moments_of events.now run)) → IsRun Step (start_of base.now)
         (take n (moments_of events.now run))) }
 {
-    let Ok(disk) = base_disk(alloc, base) else {
-        return Err(NoMemory);
-    };
-    let mut engine = Engine::Closed { disk, begun: 0 };
-    let mut run = Run::new(alloc);
+    let mut world = World::new(alloc, base)?;
     for event in events {
-        let (next, gone) = go(
-            alloc,
-            engine,
-            base.page_size(),
-            base.tears(),
-            event,
-            &mut run,
-        );
-        engine = next;
-        let Ok(()) = gone else {
-            let _ = engine.close();
+        let Ok(()) = world.serve(alloc, event) else {
+            let _ = world.finish();
             return Err(NoMemory);
         };
     }
-    let _ = engine.close();
+    let run = world.finish();
     Ok(run)
 }

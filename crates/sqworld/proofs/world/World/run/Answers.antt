@@ -1,0 +1,5 @@
+use Rattle.sqworld.proofs.ServedOnward.{run_of}
+use Rattle.sqworld.proofs.world.World.run.Goals as goal
+
+pub returns-clause-served : goal.returns-clause-served
+returns-clause-served c base events h = run_of base events c.args.self.now h
