@@ -4,14 +4,14 @@ use Rattle.std.proofs.lemmas.Bool.{cases_eq}
 use Rattle.sqval.specs.Database.{Database}
 use Rattle.sqpage.specs.Lists.{In, Every, Apart}
 use Rattle.sqpage.specs.Freelist.{IsWithin}
-use Rattle.sqpage.specs.Taking.{is_marked, Marks, AreTaken}
-use Rattle.sqpage.proofs.ListLemmas.{in_left, in_right, in_cases, every_in, every_append}
-use Rattle.sqpage.proofs.Takings.{takes, fewer_unmarked}
+use Rattle.sqpage.specs.Taking.{is_marked, Marks}
+use Rattle.sqpage.proofs.ListLemmas.{in_left, in_right, in_cases, every_in, every_append, apart_snoc}
+use Rattle.sqpage.proofs.Takings.{fewer_unmarked}
 use Rattle.sqpage.proofs.Chains.{length_marked}
 use Rattle.std.proofs.lemmas.List.{get_or-set_other, get_or-set_same}
 use Rattle.sqcheck.specs.Places.{Place, first_trunk_place, first_root, next, leaf, overflow, child, root, Node, Role, trunk, free_leaf, link, node, Spot, StandsIn, StandsInRow, IsFirst, IsReached, stands_in}
 use Rattle.sqcheck.specs.WellFormed.{IsSound, IsSoundAs, HasSoundRows, numbers}
-use Rattle.sqcheck.specs.Agenda.{home, places, Off, IsHome, NotRoot, NotSchema, LinkFits, Agenda, Stems}
+use Rattle.sqcheck.specs.Agenda.{home, places, Off, IsHome, NotRoot, NotSchema, LinkFits, IsAside, AreMarked, Agenda, Stems}
 use Rattle.sqcheck.proofs.Lists.{every_weaker, every_map, map_append, from_map, apart_append}
 
 -- what every place in a page has
@@ -82,12 +82,54 @@ not_home old new p m q (inr h) same =
     let both : false ≡ true = sym m.was ∙ ap (is_marked old) (sym same) ∙ h.1 in
     absurd (cc)
 
+-- A page that is marked now was none of the marked ones.
+pub fresh_marked : (d : Database) (old new : List Bool) (ps : List ℕ) (p : ℕ) → AreMarked d old ps → Marks old new p → ¬ In p ps
+fresh_marked d old new ps p a m = λ i. let e = a.all p i in let w = m.was in cc
+
+module _ (d : Database) (old new : List Bool) (ps : List ℕ) (p : ℕ) (a : AreMarked d old ps) (m : Marks old new p) where
+  len : length new ≡ length old
+  len = length_marked old new p m
+
+  other : (q : ℕ) → 0 < q → q ≢ p → is_marked old q ≡ is_marked new q
+  other q pos ne =
+      let above : 0 < p = m.above in
+      let ne' : q - 1 ≢ p - 1 = omega arith in
+      sym (ap (λ l. Rattle.std.proofs.Common.get_or l (q - 1) false) m.now_marked ∙ get_or-set_other old (p - 1) (q - 1) true false ne')
+
+  abbrev Inside : ℕ → Type 0
+  Inside q = IsWithin (length old) q × ¬ IsAside d q
+
+  not_aside : ¬ IsAside d p
+  not_aside aside = let e = a.aside p (m.above, m.within) aside in let w = m.was in cc
+
+  -- A page more is marked.
+  pub marks_more : AreMarked d new (ps ++ p ∷ [])
+  marks_more = record {
+    only = λ q w is. elim (cases_eq q p) [
+      | inl e ↦ inl (in_right q ps (p ∷ []) (inl e))
+      | inr ne ↦ elim (a.only q (w.0, subst (λ n. q ≤ n) len w.1) (other q w.0 ne ∙ is)) [ inl i ↦ inl (in_left q ps (p ∷ []) i) | inr aside ↦ inr aside ]
+    ];
+    all = λ q i. elim (in_cases q ps (p ∷ []) i) [
+      | inl before ↦ elim (cases_eq q p) [
+        | inl e ↦ ap (is_marked new) e ∙ now_marked old new p m
+        | inr ne ↦ still_marked old new p q m (every_in Inside q ps a.within before).0.0 ne (a.all q before)
+      ]
+      | inr one ↦ elim one [ inl e ↦ ap (is_marked new) e ∙ now_marked old new p m | inr none ↦ absurd none ]
+    ];
+    aside = λ q w aside. elim (cases_eq q p) [
+      | inl e ↦ ap (is_marked new) e ∙ now_marked old new p m
+      | inr ne ↦ still_marked old new p q m w.0 ne (a.aside q (w.0, subst (λ n. q ≤ n) len w.1) aside)
+    ];
+    within = subst (λ n. Every (λ q. IsWithin n q × ¬ IsAside d q) (ps ++ p ∷ [])) (sym len) (every_append Inside ps (p ∷ []) a.within (((m.above, m.within), not_aside), tt));
+    distinct = apart_snoc ps p a.distinct (fresh_marked d old new ps p a m);
+  }
+
 module _ (d : Database) (late : Bool) (marks : List Bool) (visited : List Spot) (s : Spot) (rest : List Spot) (a : Agenda d late marks visited (s ∷ rest)) where
   -- The next place is followed: its page is taken, and the places in it come first.
   pub follows : (new : List Bool) (under : List Spot) → Marks marks new s.page → IsSound d s → Stems d s under → Agenda d late new (visited ++ s ∷ []) (under ++ rest)
   follows new under m sound stems = record {
     sized = length_marked marks new s.page m ∙ a.sized;
-    taken = subst (AreTaken new) (sym (map_append (λ x. x.page) visited (s ∷ []))) (takes marks new (numbers visited) s.page a.taken m);
+    taken = subst (AreMarked d new) (sym (map_append (λ x. x.page) visited (s ∷ []))) (marks_more d marks new (numbers visited) s.page a.taken m);
     room = omega (arith, a.room, fewer_unmarked marks new s.page m, length-append visited (s ∷ []));
     reached = every_append (IsReached d) visited (s ∷ []) a.reached (a.waiting.0, tt);
     waiting = every_append (IsReached d) under rest (every_weaker (StandsIn d s) (IsReached d) (λ t h. stands_in a.waiting.0 h) under stems.only) a.waiting.1;
@@ -162,9 +204,14 @@ module _ (d : Database) (late : Bool) (marks : List Bool) (visited : List Spot) 
       no_rows p (link o k) t n h = h
       no_rows p (node x) t n h = let both : true ≡ false = sym h.0 ∙ n in absurd (cc)
 
-  -- The next place names a page that was taken: a visited place names it too.
-  pub twice : IsWithin (length d) s.page → is_marked marks s.page ≡ true → (v : Spot) × IsReached d v × (v.place ≢ s.place) × (v.page ≡ s.page)
-  twice within is =
-      let i = a.taken.only s.page (subst (λ n. IsWithin n s.page) (sym a.sized) within) is in
-      let v = from_map (λ x. x.page) s.page visited i in
-      (v.0, every_in (IsReached d) v.0 visited a.reached v.1, (λ e. (every_in (λ v. Off v.place (s ∷ rest)) v.0 visited a.off v.1).0 (sym e)), sym v.2)
+  -- The next place names a page that is marked: a visited place names it too, or it is set aside.
+  pub twice : IsWithin (length d) s.page → is_marked marks s.page ≡ true → ((v : Spot) × IsReached d v × (v.place ≢ s.place) × (v.page ≡ s.page)) ⊎ IsAside d s.page
+  twice within is = elim (a.taken.only s.page (subst (λ n. IsWithin n s.page) (sym a.sized) within) is) [
+    | inr aside ↦ inr aside
+    | inl i ↦ inl (also i)
+  ]
+    where
+      also : In s.page (numbers visited) → (v : Spot) × IsReached d v × (v.place ≢ s.place) × (v.page ≡ s.page)
+      also i =
+          let v = from_map (λ x. x.page) s.page visited i in
+          (v.0, every_in (IsReached d) v.0 visited a.reached v.1, (λ e. (every_in (λ v. Off v.place (s ∷ rest)) v.0 visited a.off v.1).0 (sym e)), sym v.2)

@@ -15,19 +15,19 @@ use Rattle.sqpage.specs.Page.{Page, is_interior, is_table, IsBtreePage, IsCell, 
 use Rattle.sqpage.specs.Chain.{IsPayload, links, bytes_beyond, payload_size, contents}
 use Rattle.sqpage.specs.Taking.{is_marked}
 use Rattle.sqpage.proofs.ListLemmas.{every_in, every_from_in, in_left, in_right}
-use Rattle.sqpage.proofs.Takings.{none_taken_yet}
 use Rattle.sqcheck.specs.declared.schema.Root.{Root}
 use Rattle.sqcheck.specs.declared.uses.Counts.{Counts}
 use Rattle.sqcheck.specs.declared.report.Report.{Report}
 use Rattle.sqcheck.specs.Places.{Place, first_trunk_place, first_root, next, leaf, overflow, child, root, holder, Node, Role, trunk, free_leaf, link, node, Spot, spot, page_as, used_in, HasKind, IsCellAt, InLink, InPageAs, InRow, InRowAs, StandsIn, StandsInRow, IsFirst, IsReached, first, stands_in, stands_in_row, first_root_spot, first_trunk_spot, root_of_tree}
-use Rattle.sqcheck.specs.WellFormed.{WellFormed, IsSound, IsSoundAs, IsSoundNode, HasSoundRows, HasSoundHeader, numbers, is_free, AreEachOnce, IsReport}
-use Rattle.sqcheck.specs.Stands.{Stands}
+use Rattle.sqcheck.specs.WellFormed.{WellFormed, IsSetAside, IsSound, IsSoundAs, IsSoundNode, HasSoundRows, HasSoundHeader, numbers, is_free, AreEachOnce, IsReport}
+use Rattle.sqcheck.specs.Stands.{StandsWith}
 use Rattle.sqcheck.specs.Walking.{IsSchemaLeaf}
 use Rattle.sqcheck.specs.Schema.{IsRowsPage, AllSchemaRows, InRowsOf, Finds, IsRootAt, RootsMatch}
-use Rattle.sqcheck.specs.Agenda.{home, places, Off, IsHome, NotRoot, NotSchema, LinkFits, Agenda, AreCounted, Stood}
+use Rattle.sqcheck.specs.Agenda.{home, places, Off, IsHome, NotRoot, NotSchema, LinkFits, IsAside, MarksAside, Agenda, AreCounted, Stood}
 use Rattle.sqcheck.proofs.Lists.{every_weaker, in_map, no_more, passing, either}
 use Rattle.sqcheck.proofs.Refuted.{kind_once}
 use Rattle.sqcheck.proofs.Nodes.{needs}
+use Rattle.sqcheck.proofs.Ends.{first_sized}
 
 -- A record of the pages of a chain, whose links were all visited.
 record Chained (d : Database) (visited : List Spot) (h from n : ℕ) : Type 0 where
@@ -277,7 +277,7 @@ becomes_late d marks visited rows counts roots w f sound_rows = record {
         let s = row_from d marks visited rows counts w t h in
         let place : home t.place ≡ s.0.page = ap (λ (z : Spot). home z.place) h.2.7 ∙ sym s.3 in
         let taken : In s.0.page (numbers visited) = in_map (λ z. z.page) s.0 visited s.1 in
-        inr (subst (IsWithin (length marks)) (sym place) (every_in (IsWithin (length marks)) s.0.page (numbers visited) a.taken.within taken), ap (is_marked marks) place ∙ a.taken.all s.0.page taken)) f.spots f.only;
+        inr (subst (IsWithin (length marks)) (sym place) (every_in (λ p. IsWithin (length marks) p × ¬ IsAside d p) s.0.page (numbers visited) a.taken.within taken).0, ap (is_marked marks) place ∙ a.taken.all s.0.page taken)) f.spots f.only;
     fits = every_weaker (InRowsOf d rows) (LinkFits d) (λ t h. subst (LinkFits d) (sym h.2.7) (λ o n e. absurd (cc))) f.spots f.only;
     early = λ e. absurd (let both : true ≡ false = e in cc);
     rooted = λ e s t i h. inr (in_rows s t i h);
@@ -404,13 +404,19 @@ none_left d marks after visited done rows kept counts counted roots w f all =
         omega (arith, is, few, all.agenda.room)
 
 -- At the start nothing was visited.
-pub begins : (d : Database) (marks : List Bool) (pending : List Spot) (counts : Counts) (rows : List ℕ) → length marks ≡ length d → marks ≡ replicate (length marks) false → rows ≡ []
+pub begins : (d : Database) (marks : List Bool) (pending : List Spot) (counts : Counts) (rows : List ℕ) → length marks ≡ length d → MarksAside d marks → rows ≡ []
     → counts.trees ≡ 0 → counts.btree ≡ 0 → counts.overflow ≡ 0 → counts.free ≡ 0
     → ((s : Spot) → IsFirst d s → In s pending) → Every (IsFirst d) pending → Apart (places pending) → Stood d false [] pending marks rows counts
 begins d marks pending counts rows sized none rows_none trees btree over free all firsts apart = record {
   agenda = record {
     sized = sized;
-    taken = none_taken_yet (length marks) marks [] none refl;
+    taken = record {
+      only = λ p is m. inr ((none p is).0 m);
+      all = λ p i. absurd i;
+      aside = λ p is a. (none p is).1 a;
+      within = tt;
+      distinct = tt;
+    };
     room = (let c = count_by-le-length not marks in omega (arith, c, sized));
     reached = tt;
     waiting = every_weaker (IsFirst d) (IsReached d) (λ s h. first h) pending firsts;
@@ -431,13 +437,13 @@ begins d marks pending counts rows sized none rows_none trees btree over free al
   counted = record { trees = trees; btree = btree; overflow = over; free = free };
 }
 
-pub begins_trunk : (d : Database) (marks : List Bool) (counts : Counts) (rows : List ℕ) → length marks ≡ length d → marks ≡ replicate (length marks) false → rows ≡ []
+pub begins_trunk : (d : Database) (marks : List Bool) (counts : Counts) (rows : List ℕ) → length marks ≡ length d → MarksAside d marks → rows ≡ []
     → counts.trees ≡ 0 → counts.btree ≡ 0 → counts.overflow ≡ 0 → counts.free ≡ 0 → first_trunk d ≢ 0 → Stood d false [] (first_trunk_spot d ∷ first_root_spot ∷ []) marks rows counts
 begins_trunk d marks counts rows sized none rows_none trees btree over free some =
     begins d marks (first_trunk_spot d ∷ first_root_spot ∷ []) counts rows sized none rows_none trees btree over free
     (λ s h. ⊎_elim (λ k. inl k.1) (λ k. inr (inl k)) h) (inl (some, refl), (inr refl, tt)) (((λ e. cc), tt), (tt, tt))
 
-pub begins_root : (d : Database) (marks : List Bool) (counts : Counts) (rows : List ℕ) → length marks ≡ length d → marks ≡ replicate (length marks) false → rows ≡ []
+pub begins_root : (d : Database) (marks : List Bool) (counts : Counts) (rows : List ℕ) → length marks ≡ length d → MarksAside d marks → rows ≡ []
     → counts.trees ≡ 0 → counts.btree ≡ 0 → counts.overflow ≡ 0 → counts.free ≡ 0 → first_trunk d ≡ 0 → Stood d false [] (first_root_spot ∷ []) marks rows counts
 begins_root d marks counts rows sized none rows_none trees btree over free zero' =
     begins d marks (first_root_spot ∷ []) counts rows sized none rows_none trees btree over free
@@ -478,9 +484,9 @@ apart_of (s ∷ ss) h = (go ss h.0, apart_of ss h.1)
     go (t ∷ ts) h = ((λ e. h.0 (ap (λ (z : Spot). z.page) e)), go ts h.1)
 
 -- The freelist isn't as long as the header says.
-pub free_count_stands : (d : Database) (size : ℕ) (visited : List Spot) (counts : Counts) (said : ℕ) → said ≡ free_pages d → AreCounted visited counts → Apart (numbers visited) → Every (IsReached d) visited
-    → ((s : Spot) → IsReached d s → is_free s.role ≡ true → In s visited) → counts.free ≢ said → Stands d size faults.FreeCount 1
-free_count_stands d size visited counts said e c apart reached all ne =
+pub free_count_stands : (d : Database) (maps : Bool) (size : ℕ) (visited : List Spot) (counts : Counts) (said : ℕ) → said ≡ free_pages d → AreCounted visited counts → Apart (numbers visited) → Every (IsReached d) visited
+    → ((s : Spot) → IsReached d s → is_free s.role ≡ true → In s visited) → counts.free ≢ said → StandsWith maps d size faults.FreeCount 1
+free_count_stands d maps size visited counts said e c apart reached all ne =
     let p = passing (λ (s : Spot). is_free s.role) visited (apart_of visited apart) in
     inr (
       refl,
@@ -499,21 +505,30 @@ all_visited d marks visited a (first h) = ⊎_elim (λ v. v) (λ none. absurd no
 all_visited d marks visited a (stands_in {s = s} {t = t} r h) = ⊎_elim (λ v. v) (λ none. absurd none) (a.closed s t (all_visited d marks visited a r) h)
 all_visited d marks visited a (stands_in_row {s = s} {t = t} r h) = ⊎_elim (λ v. v) (λ none. absurd none) (a.rooted refl s t (all_visited d marks visited a r) h)
 
-pub unused_stands : (d : Database) (size : ℕ) (marks : List Bool) (visited : List Spot) (p : ℕ) → Agenda d true marks visited [] → IsWithin (length marks) p → is_marked marks p ≡ false → Stands d size faults.PageUnused p
-unused_stands d size marks visited p a is free = (
+pub unused_stands : (d : Database) (maps : Bool) (size : ℕ) → length (page d 1) ≡ size → (marks : List Bool) (visited : List Spot) (p : ℕ) → Agenda d true marks visited [] → IsWithin (length marks) p → is_marked marks p ≡ false → StandsWith maps d size faults.PageUnused p
+unused_stands d maps size same marks visited p a is free = (
   subst (λ n. IsWithin n p) a.sized is,
+  (λ aside. let m : is_marked marks p ≡ true = a.taken.aside p is (subst (λ n. IsSetAside d n p) (sym same) aside) in let both : true ≡ false = sym m ∙ free in cc),
   λ s r e. absurd (let m : is_marked marks p ≡ true = a.taken.all p (subst (λ q. In q (numbers visited)) e (in_map (λ z. z.page) s visited (all_visited d marks visited a r))) in let both : true ≡ false = sym m ∙ free in cc),
 )
 
 -- Each page was visited once.
-pub each_once : (d : Database) (marks : List Bool) (visited : List Spot) → Agenda d true marks visited [] → ((p : ℕ) → IsWithin (length marks) p → is_marked marks p ≡ true) → AreEachOnce (length d) (numbers visited)
+pub each_once : (d : Database) (marks : List Bool) (visited : List Spot) → Agenda d true marks visited [] → ((p : ℕ) → IsWithin (length marks) p → is_marked marks p ≡ true) → AreEachOnce (IsAside d) (length d) (numbers visited)
 each_once d marks visited a all = record {
-  within = subst (λ n. Every (IsWithin n) (numbers visited)) a.sized a.taken.within;
+  within = subst (λ n. Every (λ p. IsWithin n p × ¬ IsAside d p) (numbers visited)) a.sized a.taken.within;
   distinct = a.taken.distinct;
-  each = λ p is. let is' = subst (λ n. IsWithin n p) (sym a.sized) is in a.taken.only p is' (all p is');
+  each = λ p is off. let is' = subst (λ n. IsWithin n p) (sym a.sized) is in ⊎_elim (λ i. i) (λ aside. absurd (off aside)) (a.taken.only p is' (all p is'));
 }
 
-pub concludes : (d : Database) (size : ℕ) (marks : List Bool) (visited : List Spot) (rows : List ℕ) (counts : Counts) → IsPageSize size → Every (λ b. length b ≡ size) d → HasSoundHeader d size → Stood d true visited [] marks rows counts
+-- The first page is one of the visited ones.
+first_long : (d : Database) (size : ℕ) (marks : List Bool) (visited : List Spot) → Every (λ b. length b ≡ size) d → Agenda d true marks visited [] → length (page d 1) ≡ size
+first_long d size marks visited sized a = first_sized d size (length d) refl (λ none. let is = (every_in (IsSound d) first_root_spot visited a.sound (all_visited d marks visited a (first (inr refl)))).named in omega (arith, is.0, is.1, none)) sized
+
+pub once_of : (d : Database) (size : ℕ) (marks : List Bool) (visited : List Spot) → Every (λ b. length b ≡ size) d → Agenda d true marks visited [] → ((p : ℕ) → IsWithin (length marks) p → is_marked marks p ≡ true)
+    → AreEachOnce (IsSetAside d size) (length d) (numbers visited)
+once_of d size marks visited sized a all = subst (λ n. AreEachOnce (IsSetAside d n) (length d) (numbers visited)) (first_long d size marks visited sized a) (each_once d marks visited a all)
+
+pub concludes : (d : Database) (size : ℕ) (marks : List Bool) (visited : List Spot) (rows : List ℕ) (counts : Counts) → IsPageSize size → Every (λ b. length b ≡ size) d → HasSoundHeader false d size → Stood d true visited [] marks rows counts
     → ((p : ℕ) → IsWithin (length marks) p → is_marked marks p ≡ true) → counts.free ≡ free_pages d → (report : Report) → IsReport d visited report → (w : WellFormed d size) × IsReport d w.places report
 concludes d size marks visited rows counts size_is sized header w all free report r = (
   record {
@@ -523,10 +538,11 @@ concludes d size marks visited rows counts size_is sized header w all free repor
     places = visited;
     all = λ s r. all_visited d marks visited w.agenda r;
     reached = w.agenda.reached;
-    once = each_once d marks visited w.agenda all;
+    once = once_of d size marks visited sized w.agenda all;
     sound = w.agenda.sound;
     rows = w.agenda.read refl;
     free = sym w.counted.free ∙ free;
+    mapped = λ auto. absurd (auto (header.plain refl));
   },
   r,
 )

@@ -1,5 +1,5 @@
 -- Where the condition of a fault holds the database isn't well formed.
-use Rattle.std.proofs.Common.{◌≡◌, ◌≢◌, ℕ, suc, ◌≤◌, List, [], ◌∷◌, length, true, false, count_by, refl, sym, ap, subst, ◌∙◌, inl, inr, arith}
+use Rattle.std.proofs.Common.{◌≡◌, ◌≢◌, ℕ, suc, ◌≤◌, Bool, List, [], ◌∷◌, length, true, false, count_by, refl, sym, ap, subst, ◌∙◌, inl, inr, arith}
 use Rattle.sqval.specs.Database.{Database, page}
 use Rattle.sqval.specs.PageSize.{IsPageSize}
 use Rattle.sqpage.specs.declared.fault.Fault.{Fault}
@@ -7,14 +7,14 @@ use Rattle.sqpage.specs.declared.fault.Fault.TheVariants as faults
 use Rattle.sqpage.specs.declared.kind.Kind.{Kind}
 use Rattle.sqpage.specs.declared.kind.Kind.TheVariants.{TableLeaf, TableInterior, IndexLeaf, IndexInterior}
 use Rattle.sqpage.specs.Lists.{In, Every, Apart}
-use Rattle.sqpage.specs.Freelist.{IsPage}
+use Rattle.sqpage.specs.Freelist.{IsPage, IsWithin}
 use Rattle.sqpage.specs.Page.{code_of, is_interior, IsBtreePage}
 use Rattle.sqpage.specs.Layout.{LayoutRefused, IsLaidOut}
 use Rattle.sqpage.proofs.Layouts.{not_laid_out}
 use Rattle.sqpage.proofs.ListLemmas.{every_in}
 use Rattle.sqcheck.specs.Places.{Node, node, Spot, page_as, HasKind, IsReached}
-use Rattle.sqcheck.specs.WellFormed.{WellFormed, IsSound, IsSoundAs, IsSoundNode, HasSoundRows, FirstLeaf, here, down, first_child, is_free, is_link, numbers}
-use Rattle.sqcheck.specs.Stands.{Stands, AsBtreePage, AreFreePlaces}
+use Rattle.sqcheck.specs.WellFormed.{WellFormedWith, IsSetAside, IsSound, IsSoundAs, IsSoundNode, HasSoundRows, FirstLeaf, here, down, first_child, is_free, is_link, numbers}
+use Rattle.sqcheck.specs.Stands.{StandsWith, AsBtreePage, AreFreePlaces}
 use Rattle.sqcheck.proofs.Lists.{from_map, in_map, no_more, passing}
 
 -- a type byte is one kind's
@@ -48,7 +48,7 @@ first_leaf_once d {p = p} {level = level} {also = also} (down j h e q) (down k i
     let same = kind_once d k j p i h in
     first_leaf_once d q (subst (λ k. FirstLeaf d (first_child (page_as d k p)) (suc level) also) same r)
 
-module _ (d : Database) (size : ℕ) (w : WellFormed d size) where
+module _ (maps : Bool) (d : Database) (size : ℕ) (w : WellFormedWith maps d size) where
   sound : (s : Spot) → IsReached d s → IsSound d s
   sound s r = every_in (IsSound d) s w.places w.sound (w.all s r)
 
@@ -89,13 +89,13 @@ module _ (d : Database) (size : ℕ) (w : WellFormed d size) where
       omega (arith, more, less, r.2)
 
   -- the condition of no fault holds
-  pub none_stands : (fault : Fault) (p : ℕ) → Stands d size fault p → fault ≢ faults.NoMemory → ⊥
+  pub none_stands : (fault : Fault) (p : ℕ) → StandsWith maps d size fault p → fault ≢ faults.NoMemory → ⊥
   none_stands faults.Magic p h other = h.1 w.header.magic
   none_stands faults.PageSize p (e, inl never) other = never (subst IsPageSize (sym w.header.page_size) w.size_is)
   none_stands faults.PageSize p (e, inr ne) other = ne w.header.page_size
   none_stands faults.Fraction p h other = h.1 w.header.fractions
   none_stands faults.Reserved p h other = h.1 w.header.room
-  none_stands faults.AutoVacuum p h other = h.1 w.header.plain
+  none_stands faults.AutoVacuum p h other = h.2 (w.header.plain h.1)
   none_stands faults.Kind p (s, x, r, e, is, role, never) other = let n = on_node p s x r e role in never n.kind n.page_is.kind n.same
   none_stands faults.CellOutside p (s, x, r, e, is, role, (kind, h, never)) other = let n = on_kind p s x kind r e role h in never (subst (λ k. IsBtreePage (page_as d k p)) n.1 n.0.page_is)
   none_stands faults.Overlap p (s, x, r, e, is, role, h) other = refused_layout faults.Overlap p s x r e role (λ e. cc) h
@@ -104,10 +104,12 @@ module _ (d : Database) (size : ℕ) (w : WellFormed d size) where
   none_stands faults.ChainCut p (s, owner, needed, r, role, at, inl zero') other = let n = (sound s r).named.0 in absurd (omega (arith, n, zero'))
   none_stands faults.ChainCut p (s, owner, needed, r, role, at, inr (i, in_cell, more)) other = let few = (subst (IsSoundAs d s.page) role (sound s r).sound_as).0 in absurd (omega (arith, few, more))
   none_stands faults.ChainLong p (s, owner, r, e, is, role, further) other = further (subst (λ q. Rattle.sqpage.specs.Freelist.next_in (page d q) ≡ 0) e ((subst (IsSoundAs d s.page) role (sound s r).sound_as).1 refl))
-  none_stands faults.PageTwice p (is, s, t, r, q, differ, e, f) other = differ (ap (λ (z : Spot). z.place) (one_page w.places s t w.once.distinct (w.all s r) (w.all t q) (e ∙ sym f)))
+  none_stands faults.PageTwice p (is, inr (aside, s, r, e)) other =
+      (every_in (λ q. IsWithin (length d) q × ¬ IsSetAside d size q) s.page (numbers w.places) w.once.within (in_map (λ z. z.page) s w.places (w.all s r))).1 (subst (IsSetAside d size) (sym e) aside)
+  none_stands faults.PageTwice p (is, inl (s, t, r, q, differ, e, f)) other = differ (ap (λ (z : Spot). z.place) (one_page w.places s t w.once.distinct (w.all s r) (w.all t q) (e ∙ sym f)))
   none_stands faults.PageOutside p (s, r, at, never, link_zero) other = never (sound s r).named
-  none_stands faults.PageUnused p (is, never) other =
-      let v = from_map (λ x. x.page) p w.places (w.once.each p is) in
+  none_stands faults.PageUnused p (is, off, never) other =
+      let v = from_map (λ x. x.page) p w.places (w.once.each p is off) in
       never v.0 (every_in (IsReached d) v.0 w.places w.reached v.1) (sym v.2)
   none_stands faults.KeyOrder p (s, x, r, e, is, role, (kind, b, (i, cell, before, has, key, never))) other =
       let n = on_kind p s x kind r e role b.kind in
@@ -123,5 +125,7 @@ module _ (d : Database) (size : ℕ) (w : WellFormed d size) where
       let of_x = subst (λ q. HasSoundRows d q (node x)) e (subst (HasSoundRows d s.page) role rows) in
       let it = of_x schema kind b.kind leaf i bytes row in
       never it.0 it.1
+  none_stands faults.PointerMap p (auto, inl (s, entry, r, at, e, wrong)) other = wrong ((w.mapped auto).entries s r entry at)
+  none_stands faults.PointerMap p (auto, inr (e, none)) other = none (w.mapped auto).largest
   none_stands faults.Source p h other = h
   none_stands faults.NoMemory p h other = other refl

@@ -1,5 +1,5 @@
 -- The rows of the schema.
-use Rattle.std.proofs.Common.{◌≡◌, ◌≢◌, ℕ, zero, suc, ◌+◌, ◌-◌, ◌/◌, ◌<◌, ◌≤◌, ◌⊎◌, List, [], ◌∷◌, ◌++◌, length, map, take, drop, flat_map, true, false, refl, sym, ap, subst, ◌∙◌, inl, inr, ⊎_elim, arith, append_assoc, append-nil, length-append}
+use Rattle.std.proofs.Common.{◌≡◌, ◌≢◌, ℕ, zero, suc, ◌+◌, ◌-◌, ◌/◌, ◌<◌, ◌≤◌, ◌⊎◌, List, [], ◌∷◌, ◌++◌, length, map, take, drop, flat_map, Bool, true, false, refl, sym, ap, subst, ◌∙◌, inl, inr, ⊎_elim, arith, append_assoc, append-nil, length-append}
 use Rattle.std.proofs.lemmas.Bool.{cases_eq, cases_lt}
 use Rattle.std.proofs.lemmas.List.{length-take-le, take_all, take-append-le}
 use Rattle.sqval.specs.Database.{Database, page}
@@ -15,12 +15,13 @@ use Rattle.sqpage.proofs.CellLemmas.{SameCell, cell_once}
 use Rattle.sqpage.proofs.ListLemmas.{in_left, in_right, in_cases, every_append}
 use Rattle.sqcheck.specs.declared.schema.Root.{Root}
 use Rattle.sqcheck.specs.Places.{root, Spot, spot, page_as, HasKind, IsCellAt, IsRow, IsSchemaRow, InRow, root_of_tree}
-use Rattle.sqcheck.specs.Stands.{Stands}
+use Rattle.sqcheck.specs.Stands.{StandsWith}
 use Rattle.sqcheck.specs.Schema.{IsRowsPage, AreSchemaRows, AllSchemaRows, InRowBelow, InRowsOf, IsRootAt, RootsMatch, Finds, KeepsFound}
 use Rattle.sqcheck.proofs.Lists.{every_weaker, every_map, map_append, apart_append}
 
 -- a fault that can't be another than want of memory
 pub is_no_memory : (fault : Fault) → ((fault ≢ faults.NoMemory) → ⊥) → fault ≡ faults.NoMemory
+is_no_memory faults.PointerMap h = absurd (h (λ e. cc))
 is_no_memory faults.Magic h = absurd (h (λ e. cc))
 is_no_memory faults.PageSize h = absurd (h (λ e. cc))
 is_no_memory faults.Fraction h = absurd (h (λ e. cc))
@@ -168,8 +169,8 @@ row_more d p n r bytes cell old mid new is payload row once zero' full found fin
     ]
 
 -- A row that is none of the schema.
-pub row_stands : (d : Database) (size p n : ℕ) (bytes : List ℕ) (cell : Cell) → IsRowsPage d p → IsCellAt (page_as d TableLeaf p) n cell → IsPayload d cell bytes → ((r : ℕ) → ¬ IsSchemaRow bytes r) → Stands d size faults.SchemaRecord p
-row_stands d size p n bytes cell w is payload never =
+pub row_stands : (d : Database) (maps : Bool) (size p n : ℕ) (bytes : List ℕ) (cell : Cell) → IsRowsPage d p → IsCellAt (page_as d TableLeaf p) n cell → IsPayload d cell bytes → ((r : ℕ) → ¬ IsSchemaRow bytes r) → StandsWith maps d size faults.SchemaRecord p
+row_stands d maps size p n bytes cell w is payload never =
     (w.spot, w.x, w.reached, w.names, w.page, w.role, (w.schema, (TableLeaf, w.page_is, (refl, n, bytes, record { cell = cell; is = is; payload = payload }, never))))
 
 -- All rows of a page.

@@ -7,9 +7,8 @@ use Rattle.sqpage.specs.declared.fault.Fault.{Fault}
 use Rattle.sqpage.specs.declared.fault.Fault.TheVariants as faults
 use Rattle.sqpage.specs.Lists.{In, Every, Apart}
 use Rattle.sqpage.specs.Freelist.{IsPage, IsWithin}
-use Rattle.sqpage.specs.Taking.{is_marked, Marks, MarkRefused, AreTaken}
+use Rattle.sqpage.specs.Taking.{is_marked, Marks, MarkRefused}
 use Rattle.sqpage.proofs.ListLemmas.{in_left, in_right, in_cases, every_in, every_append, apart_snoc}
-use Rattle.sqpage.proofs.Takings.{fresh_taken}
 use Rattle.sqcheck.specs.declared.item.Item.{Item}
 use Rattle.sqcheck.specs.declared.item.Task.{Task}
 use Rattle.sqcheck.specs.declared.item.Task.TheVariants as tasks
@@ -18,13 +17,13 @@ use Rattle.sqcheck.specs.declared.node.Walk.{Walk}
 use Rattle.sqcheck.specs.declared.uses.Counts.{Counts}
 use Rattle.sqcheck.specs.declared.uses.Uses.{Uses}
 use Rattle.sqcheck.specs.Places.{overflow, holder, Role, trunk, free_leaf, link, node, Node, Spot, InPageAs, StandsIn, IsReached}
-use Rattle.sqcheck.specs.WellFormed.{IsSound, IsSoundAs, numbers, is_root, is_node, is_link, is_free}
-use Rattle.sqcheck.specs.Stands.{Stands, NodeRefused}
+use Rattle.sqcheck.specs.WellFormed.{IsSetAside, IsSound, IsSoundAs, numbers, is_root, is_node, is_link, is_free}
+use Rattle.sqcheck.specs.Stands.{StandsWith, NodeRefused}
 use Rattle.sqcheck.specs.Walking.{role_of, IsItemOf, Match, IsSchemaLeaf, PutsAside, PageWrong, LinksOn, FollowRefused, Knows, Follows, IsProper, TopLeads}
 use Rattle.sqcheck.specs.Counting.{in_trees, in_btree, in_overflow, in_freelist, AddsTask}
-use Rattle.sqcheck.specs.Agenda.{LinkFits, Agenda, Stems, RowsAre, AreCounted, Walking, Stood}
+use Rattle.sqcheck.specs.Agenda.{IsAside, AreMarked, StandsNow, LinkFits, Agenda, Stems, RowsAre, AreCounted, Walking, Stood}
 use Rattle.sqcheck.proofs.Lists.{every_weaker, in_map}
-use Rattle.sqcheck.proofs.Agenda.{follows, twice}
+use Rattle.sqcheck.proofs.Agenda.{follows, twice, fresh_marked}
 use Rattle.sqcheck.proofs.Nodes.{match_append}
 
 -- The item on top of the stack, with its place.
@@ -43,24 +42,24 @@ pub popped_top : (tree : Tree) (stack popped : List Item) (it : Item) (pending :
 popped_top tree stack popped it pending m e = top_of tree it (reverse popped) pending (subst (λ l. Match tree l pending) (ap reverse e ∙ reverse-append popped (it ∷ [])) m)
 
 -- What is wrong with a page of a tree stands at it.
-pub node_stands : (d : Database) (size : ℕ) (s : Spot) → IsReached d s → (p : ℕ) (x : Node) (fault : Fault) → s.page ≡ p → s.role ≡ node x → IsPage d p → NodeRefused d fault p x → Stands d size fault p
-node_stands d size s r p x faults.Kind e role page h = (s, x, r, e, page, role, h)
-node_stands d size s r p x faults.CellOutside e role page h = (s, x, r, e, page, role, h)
-node_stands d size s r p x faults.Overlap e role page h = (s, x, r, e, page, role, h)
-node_stands d size s r p x faults.Freeblock e role page h = (s, x, r, e, page, role, h)
-node_stands d size s r p x faults.Fragments e role page h = (s, x, r, e, page, role, h)
-node_stands d size s r p x faults.KeyOrder e role page h = (s, x, r, e, page, role, h)
-node_stands d size s r p x faults.Depth e role page h = (s, x, r, e, page, role, h)
-node_stands d size s r p x faults.SchemaRecord e role page h = (s, x, r, e, page, role, h)
-node_stands d size s r p x _ e role page h = absurd h
+pub node_stands : (d : Database) (maps : Bool) (size : ℕ) (s : Spot) → IsReached d s → (p : ℕ) (x : Node) (fault : Fault) → s.page ≡ p → s.role ≡ node x → IsPage d p → NodeRefused d fault p x → StandsWith maps d size fault p
+node_stands d maps size s r p x faults.Kind e role page h = (s, x, r, e, page, role, h)
+node_stands d maps size s r p x faults.CellOutside e role page h = (s, x, r, e, page, role, h)
+node_stands d maps size s r p x faults.Overlap e role page h = (s, x, r, e, page, role, h)
+node_stands d maps size s r p x faults.Freeblock e role page h = (s, x, r, e, page, role, h)
+node_stands d maps size s r p x faults.Fragments e role page h = (s, x, r, e, page, role, h)
+node_stands d maps size s r p x faults.KeyOrder e role page h = (s, x, r, e, page, role, h)
+node_stands d maps size s r p x faults.Depth e role page h = (s, x, r, e, page, role, h)
+node_stands d maps size s r p x faults.SchemaRecord e role page h = (s, x, r, e, page, role, h)
+node_stands d maps size s r p x _ e role page h = absurd h
 
 -- What is said of a fault at a place that comes next.
-module _ (d : Database) (size : ℕ) (tree : Tree) (it : Item) (s : Spot) (is : IsItemOf tree it s) (r : IsReached d s) where
-  wrong : (p : ℕ) (role : Role) (fault : Fault) → s.page ≡ p → s.role ≡ role → IsPage d p → PageWrong d p role fault → Stands d size fault p
-  wrong p trunk fault e role page h = subst (λ f. Stands d size f p) (sym h.0) (inl (s, r, e, page, role, h.1))
+module _ (d : Database) (maps : Bool) (size : ℕ) (same : length (page d 1) ≡ size) (tree : Tree) (it : Item) (s : Spot) (is : IsItemOf tree it s) (r : IsReached d s) where
+  wrong : (p : ℕ) (role : Role) (fault : Fault) → s.page ≡ p → s.role ≡ role → IsPage d p → PageWrong d p role fault → StandsWith maps d size fault p
+  wrong p trunk fault e role page h = subst (λ f. StandsWith maps d size f p) (sym h.0) (inl (s, r, e, page, role, h.1))
   wrong p free_leaf fault e role page h = absurd h
-  wrong p (link owner needed) fault e role page h = subst (λ f. Stands d size f p) (sym h.0) (s, owner, r, e, page, role ∙ ap (link owner) h.1, h.2)
-  wrong p (node x) fault e role page h = node_stands d size s r p x fault e role page h
+  wrong p (link owner needed) fault e role page h = subst (λ f. StandsWith maps d size f p) (sym h.0) (s, owner, r, e, page, role ∙ ap (link owner) h.1, h.2)
+  wrong p (node x) fault e role page h = node_stands d maps size s r p x fault e role page h
 
   link_named : (task : Task) → LinksOn task it.page → IsTrue (is_link (role_of tree task)) → it.page ≢ 0
   link_named (tasks.Link o n) h l = h
@@ -69,7 +68,7 @@ module _ (d : Database) (size : ℕ) (tree : Tree) (it : Item) (s : Spot) (is : 
   link_named (tasks.Node level low high) h l = absurd (cc)
 
   not_taken : (marks : List Bool) (fault : Fault) (at : ℕ) → length marks ≡ length d → LinksOn it.task it.page → MarkRefused marks it.holder it.page fault at
-      → (IsWithin (length d) s.page → is_marked marks s.page ≡ true → (v : Spot) × IsReached d v × (v.place ≢ s.place) × (v.page ≡ s.page)) → Stands d size fault at
+      → (IsWithin (length d) s.page → is_marked marks s.page ≡ true → ((v : Spot) × IsReached d v × (v.place ≢ s.place) × (v.page ≡ s.page)) ⊎ IsAside d s.page) → StandsWith maps d size fault at
   not_taken marks faults.PageOutside at len links h both = (
     s,
     r,
@@ -79,12 +78,17 @@ module _ (d : Database) (size : ℕ) (tree : Tree) (it : Item) (s : Spot) (is : 
   )
   not_taken marks faults.PageTwice at len links h both =
       let page : IsPage d it.page = subst (λ n. IsWithin n it.page) len (h.1, h.2) in
-      let v = both (subst (IsPage d) is.page page) (subst (λ n. is_marked marks n ≡ true) is.page h.3) in
-      subst (Stands d size faults.PageTwice) (sym h.0) (page, v.0, s, v.1, r, v.2, v.3 ∙ sym is.page, sym is.page)
+      subst (StandsWith maps d size faults.PageTwice) (sym h.0) (
+        page,
+        elim (both (subst (IsPage d) is.page page) (subst (λ n. is_marked marks n ≡ true) is.page h.3)) [
+          | inl v ↦ inl (v.0, s, v.1, r, v.2, v.3 ∙ sym is.page, sym is.page)
+          | inr aside ↦ inr (subst (λ n. IsSetAside d n it.page) same (subst (IsAside d) (sym is.page) aside), s, r, sym is.page)
+        ],
+      )
   not_taken marks _ at len links h both = absurd h
 
   -- A chain is cut.
-  cut : (owner needed at : ℕ) → LinkFits d s → s.role ≡ link owner needed → holder s.place ≡ at → (it.page ≡ 0) ⊎ (length d < needed) → Stands d size faults.ChainCut at
+  cut : (owner needed at : ℕ) → LinkFits d s → s.role ≡ link owner needed → holder s.place ≡ at → (it.page ≡ 0) ⊎ (length d < needed) → StandsWith maps d size faults.ChainCut at
   cut owner needed at fits role holds (inl none) = (s, owner, needed, r, role, holds, inl (sym is.page ∙ none))
   cut owner needed at fits role holds (inr more) = elim (fits owner needed role) [
     | inl o ↦ (s, owner, needed, r, role, holds, inr (o.0, o.1 ∙ ap (λ p. overflow p o.0) holds, more))
@@ -92,15 +96,15 @@ module _ (d : Database) (size : ℕ) (tree : Tree) (it : Item) (s : Spot) (is : 
   ]
 
   pub refusal_stands : (marks : List Bool) (fault : Fault) (at : ℕ) → length marks ≡ length d → LinkFits d s → FollowRefused d tree it marks fault at
-      → (IsWithin (length d) s.page → is_marked marks s.page ≡ true → (v : Spot) × IsReached d v × (v.place ≢ s.place) × (v.page ≡ s.page)) → Stands d size fault at
+      → (IsWithin (length d) s.page → is_marked marks s.page ≡ true → ((v : Spot) × IsReached d v × (v.place ≢ s.place) × (v.page ≡ s.page)) ⊎ IsAside d s.page) → StandsWith maps d size fault at
   refusal_stands marks fault at len fits (inl h) both = not_taken marks fault at len h.0 h.1 both
-  refusal_stands marks fault at len fits (inr (inl h)) both = subst (Stands d size fault) (sym h.0) (wrong it.page (role_of tree it.task) fault (sym is.page) is.role h.1 h.2)
+  refusal_stands marks fault at len fits (inr (inl h)) both = subst (StandsWith maps d size fault) (sym h.0) (wrong it.page (role_of tree it.task) fault (sym is.page) is.role h.1 h.2)
   refusal_stands marks fault at len fits (inr (inr (inl h))) both =
-      subst (λ f. Stands d size f at) (sym h.0) (cut h.2 h.3 at fits (is.role ∙ ap (role_of tree) h.4) (sym is.stands ∙ sym h.1) h.5)
-  refusal_stands marks fault at len fits (inr (inr (inr h))) both = subst (λ f. Stands d size f at) (sym h) tt
+      subst (λ f. StandsWith maps d size f at) (sym h.0) (cut h.2 h.3 at fits (is.role ∙ ap (role_of tree) h.4) (sym is.stands ∙ sym h.1) h.5)
+  refusal_stands marks fault at len fits (inr (inr (inr h))) both = subst (λ f. StandsWith maps d size f at) (sym h) tt
 
 -- The pages put aside, after one more place was visited.
-rows_more : (d : Database) (marks : List Bool) (new_marks : List Bool) (visited : List Spot) (s : Spot) (old new : List ℕ) → AreTaken marks (numbers visited) → Marks marks new_marks s.page → RowsAre d visited old → PutsAside d s.page s.role old new
+rows_more : (d : Database) (marks : List Bool) (new_marks : List Bool) (visited : List Spot) (s : Spot) (old new : List ℕ) → AreMarked d marks (numbers visited) → Marks marks new_marks s.page → RowsAre d visited old → PutsAside d s.page s.role old new
     → RowsAre d (visited ++ s ∷ []) new
 rows_more d marks new_marks visited s old new taken m rows (inr h) = record {
   all = λ t i leaf. elim (in_cases t visited (s ∷ []) i) [
@@ -119,7 +123,7 @@ rows_more d marks new_marks visited s old new taken m rows (inl h) = record {
       ((s, in_right s visited (s ∷ []) (inl refl), refl, h.0), tt));
   distinct = subst Apart (sym h.1) (apart_snoc old s.page rows.distinct (λ i.
       let k = every_in (λ p. (t : Spot) × In t visited × (t.page ≡ p) × IsSchemaLeaf d p t.role) s.page old rows.only i in
-      fresh_taken marks new_marks (numbers visited) s.page taken m (subst (λ q. In q (numbers visited)) k.2 (in_map (λ z. z.page) k.0 visited k.1))));
+      fresh_marked d marks new_marks (numbers visited) s.page taken m (subst (λ q. In q (numbers visited)) k.2 (in_map (λ z. z.page) k.0 visited k.1))));
 }
 
 counted_more : (tree : Tree) (visited : List Spot) (s : Spot) (task : Task) (old new : Counts) → s.role ≡ role_of tree task → AreCounted visited old → AddsTask old new task → AreCounted (visited ++ s ∷ []) new
@@ -212,8 +216,8 @@ module _ (d : Database) (late : Bool) (tree : Tree) (visited rest : List Spot) (
       )
 
   -- Or it isn't.
-  pub walk_refused : (size : ℕ) (fault : Fault) (at : ℕ) → FollowRefused d tree it uses.marks.items fault at → Stands d size fault at
-  walk_refused size fault at f = refusal_stands d size tree it top.spot top.is (agenda.waiting.0) uses.marks.items fault at w.agenda.sized (agenda.fits.0) f (twice d late uses.marks.items visited top.spot (top.others ++ rest) agenda)
+  pub walk_refused : (fault : Fault) (at : ℕ) → FollowRefused d tree it uses.marks.items fault at → StandsNow d fault at
+  walk_refused fault at f maps size same = refusal_stands d maps size same tree it top.spot top.is (agenda.waiting.0) uses.marks.items fault at w.agenda.sized (agenda.fits.0) f (twice d late uses.marks.items visited top.spot (top.others ++ rest) agenda)
 
 -- Nothing was on the stack.
 pub nothing_popped : (d : Database) (late : Bool) (tree : Tree) (visited rest : List Spot) (uses : Uses) (walk popped : Walk) → Walking d late tree visited rest uses walk → walk.stack.items ≡ popped.stack.items ++ []

@@ -1,9 +1,10 @@
 -- A walk with an agenda (own). No public contract cites these words.
 use Rattle.std.specs.Prelude.{◌≡◌, ℕ, ◌+◌, ◌≤◌, ◌⊎◌, List, ◌++◌, length, map, reverse, Bool, true, false, not, count_by}
-use Rattle.sqval.specs.Database.{Database}
+use Rattle.sqval.specs.Database.{Database, page}
 use Rattle.sqpage.specs.Lists.{In, Every, Apart}
 use Rattle.sqpage.specs.Freelist.{IsWithin}
-use Rattle.sqpage.specs.Taking.{is_marked, AreTaken}
+use Rattle.sqpage.specs.Taking.{is_marked}
+use Rattle.sqpage.specs.declared.fault.Fault.{Fault}
 use Rattle.sqcheck.specs.declared.node.Walk.{Walk}
 use Rattle.sqcheck.specs.declared.uses.Counts.{Counts}
 use Rattle.sqcheck.specs.declared.uses.Uses.{Uses}
@@ -11,7 +12,8 @@ use Rattle.sqcheck.specs.declared.tree.Tree.{Tree}
 use Rattle.sqcheck.specs.Places.{Place, first_trunk_place, first_root, next, leaf, overflow, child, root, holder, Role, link, node, Spot, StandsIn, StandsInRow, IsFirst, IsReached}
 use Rattle.sqcheck.specs.declared.role.Role as roles
 use Rattle.sqcheck.specs.Roles.{TellsOf}
-use Rattle.sqcheck.specs.WellFormed.{IsSound, HasSoundRows, numbers, is_root, is_node, is_link, is_free}
+use Rattle.sqcheck.specs.WellFormed.{IsSetAside, IsSound, HasSoundRows, numbers, is_root, is_node, is_link, is_free}
+use Rattle.sqcheck.specs.Stands.{StandsWith}
 use Rattle.sqcheck.specs.Walking.{Match, Knows, IsSchemaLeaf}
 
 -- the page that a place stands in, 0 for the two first ones
@@ -49,12 +51,32 @@ NotSchema _ = Unit {0}
 abbrev pub LinkFits : Database → Spot → Type 0
 LinkFits d s = (owner needed : ℕ) → s.role ≡ link owner needed → ((i : ℕ) × (s.place ≡ overflow (holder s.place) i)) ⊎ (needed ≤ length d)
 
+-- page p is set aside, where pages are as long as the first one
+abbrev pub IsAside : Database → (p : ℕ) → Type 0
+IsAside d p = IsSetAside d (length (page d 1)) p
+
+-- a fault that isn't one of the header stands, where pages are so long
+abbrev pub StandsNow : Database → Fault → (at : ℕ) → Type 0
+StandsNow d fault at = (maps : Bool) (size : ℕ) → length (page d 1) ≡ size → StandsWith maps d size fault at
+
+-- Marked are the pages that are set aside.
+abbrev pub MarksAside : Database → (marks : List Bool) → Type 0
+MarksAside d marks = (p : ℕ) → IsWithin (length marks) p → (is_marked marks p ≡ true → IsAside d p) × (IsAside d p → is_marked marks p ≡ true)
+
+-- Marked are these pages, none twice, and those set aside, which are none of them.
+pub record AreMarked (d : Database) (marks : List Bool) (pages : List ℕ) : Type 0 where
+  pub only : (p : ℕ) → IsWithin (length marks) p → is_marked marks p ≡ true → In p pages ⊎ IsAside d p
+  pub all : (p : ℕ) → In p pages → is_marked marks p ≡ true
+  pub aside : (p : ℕ) → IsWithin (length marks) p → IsAside d p → is_marked marks p ≡ true
+  pub within : Every (λ p. IsWithin (length marks) p × ¬ IsAside d p) pages
+  pub distinct : Apart pages
+
 -- The pages of the visited places are taken, in their order, and the pending ones are still to be followed. All that
 -- stands in a page of a visited one is visited or pending; in `late` that is so of the roots in its rows too, and these
 -- are sound.
 pub record Agenda (d : Database) (late : Bool) (marks : List Bool) (visited pending : List Spot) : Type 0 where
   pub sized : length marks ≡ length d
-  pub taken : AreTaken marks (numbers visited)
+  pub taken : AreMarked d marks (numbers visited)
   pub room : length visited + count_by not marks ≤ length d
   pub reached : Every (IsReached d) visited
   pub waiting : Every (IsReached d) pending

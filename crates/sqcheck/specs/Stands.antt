@@ -1,5 +1,5 @@
 -- The condition of each fault, at a page (own).
-use Rattle.std.specs.Prelude.{◌≡◌, ◌≢◌, ℕ, ◌<◌, ◌⊎◌, true, false, List, length, Option, ℤ, IsTrue}
+use Rattle.std.specs.Prelude.{◌≡◌, ◌≢◌, ℕ, ◌<◌, ◌⊎◌, Bool, true, false, List, length, Option, ℤ, IsTrue}
 use Rattle.sqval.specs.Bytes.{word}
 use Rattle.sqval.specs.Database.{Database, page}
 use Rattle.sqpage.specs.declared.cell.Cell.{Cell}
@@ -8,11 +8,13 @@ use Rattle.sqpage.specs.declared.fault.Fault.TheVariants as faults
 use Rattle.sqpage.specs.declared.kind.Kind.{Kind}
 use Rattle.sqpage.specs.Header.{HasMagic, HasPageSize, HasFractions, HasRoom, size_named}
 use Rattle.sqpage.specs.Lists.{In, Every, Apart}
-use Rattle.sqpage.specs.Freelist.{IsPage, free_pages, next_in, leaf_count_in, most_leaves}
+use Rattle.sqpage.specs.Freelist.{IsPage, usable_size, free_pages, next_in, leaf_count_in, most_leaves}
 use Rattle.sqpage.specs.Page.{Page, is_interior, is_table, IsBtreePage}
 use Rattle.sqpage.specs.Layout.{LayoutRefused}
+use Rattle.sqpage.specs.PointerMaps.{IsEntryPlace}
+use Rattle.sqpage.specs.declared.pointer_map.EntryPlace.{EntryPlace}
 use Rattle.sqcheck.specs.Places.{overflow, holder, Node, trunk, link, node, Spot, page_as, HasKind, IsCellAt, IsKeyBefore, IsRow, IsSchemaRow, IsReached}
-use Rattle.sqcheck.specs.WellFormed.{is_link, is_free, FirstLeaf, IsInOrder}
+use Rattle.sqcheck.specs.WellFormed.{IsAutoVacuum, IsSetAside, SaysSo, IsLargestRoot, is_link, is_free, FirstLeaf, IsInOrder}
 
 -- some key isn't behind the one before, or is behind the high bound
 abbrev pub HasKeyOutOfOrder : Page → Node → Type 0
@@ -48,28 +50,43 @@ pub record AreFreePlaces (d : Database) (free : List Spot) : Type 0 where
   pub reached : Every (λ s. IsReached d s × (is_free s.role ≡ true)) free
   pub distinct : Apart free
 
+-- two places name page p, or one does, and the page is set aside
+abbrev pub IsNamedTwice : Database → (size p : ℕ) → Type 0
+IsNamedTwice d size p =
+    ((s t : Spot) × IsReached d s × IsReached d t × (s.place ≢ t.place) × (s.page ≡ p) × (t.page ≡ p))
+    ⊎ (IsSetAside d size p × (s : Spot) × IsReached d s × (s.page ≡ p))
+
+-- an entry in page `map` doesn't say what names its page
+abbrev pub HasWrongEntry : Database → (size map : ℕ) → Type 0
+HasWrongEntry d size map = (s : Spot) × (entry : EntryPlace) × IsReached d s × IsEntryPlace size (usable_size d) s.page entry × (entry.map ≡ map) × ¬ SaysSo d entry s.place s.role
+
 -- The condition of a fault of the file holds at page p.
-abbrev pub Stands : Database → (size : ℕ) → Fault → (p : ℕ) → Type 0
-Stands d size faults.Magic p = (p ≡ 1) × ¬ HasMagic (page d 1)
-Stands d size faults.PageSize p = (p ≡ 1) × (¬ HasPageSize (page d 1) ⊎ (size_named (page d 1) ≢ size))
-Stands d size faults.Fraction p = (p ≡ 1) × ¬ HasFractions (page d 1)
-Stands d size faults.Reserved p = (p ≡ 1) × ¬ HasRoom (page d 1)
-Stands d size faults.AutoVacuum p = (p ≡ 1) × (word (page d 1) 52 ≢ 0)
-Stands d size faults.Kind p = OnNode d faults.Kind p
-Stands d size faults.CellOutside p = OnNode d faults.CellOutside p
-Stands d size faults.Overlap p = OnNode d faults.Overlap p
-Stands d size faults.Freeblock p = OnNode d faults.Freeblock p
-Stands d size faults.Fragments p = OnNode d faults.Fragments p
-Stands d size faults.ChainCut p = (s : Spot) × (owner needed : ℕ) × IsReached d s × (s.role ≡ link owner needed) × (holder s.place ≡ p) × ((s.page ≡ 0) ⊎ ((i : ℕ) × (s.place ≡ overflow p i) × (length d < needed)))
-Stands d size faults.ChainLong p = (s : Spot) × (owner : ℕ) × IsReached d s × (s.page ≡ p) × IsPage d p × (s.role ≡ link owner 1) × (next_in (page d p) ≢ 0)
-Stands d size faults.PageTwice p = IsPage d p × (s t : Spot) × IsReached d s × IsReached d t × (s.place ≢ t.place) × (s.page ≡ p) × (t.page ≡ p)
-Stands d size faults.PageOutside p = (s : Spot) × IsReached d s × (holder s.place ≡ p) × ¬ IsPage d s.page × (IsTrue (is_link s.role) → s.page ≢ 0)
-Stands d size faults.PageUnused p = IsPage d p × ((s : Spot) → IsReached d s → s.page ≢ p)
-Stands d size faults.KeyOrder p = OnNode d faults.KeyOrder p
-Stands d size faults.Depth p = OnNode d faults.Depth p
-Stands d size faults.FreeCount p =
+abbrev pub StandsWith : (maps : Bool) → Database → (size : ℕ) → Fault → (p : ℕ) → Type 0
+StandsWith maps d size faults.Magic p = (p ≡ 1) × ¬ HasMagic (page d 1)
+StandsWith maps d size faults.PageSize p = (p ≡ 1) × (¬ HasPageSize (page d 1) ⊎ (size_named (page d 1) ≢ size))
+StandsWith maps d size faults.Fraction p = (p ≡ 1) × ¬ HasFractions (page d 1)
+StandsWith maps d size faults.Reserved p = (p ≡ 1) × ¬ HasRoom (page d 1)
+StandsWith maps d size faults.AutoVacuum p = (p ≡ 1) × (maps ≡ false) × (word (page d 1) 52 ≢ 0)
+StandsWith maps d size faults.Kind p = OnNode d faults.Kind p
+StandsWith maps d size faults.CellOutside p = OnNode d faults.CellOutside p
+StandsWith maps d size faults.Overlap p = OnNode d faults.Overlap p
+StandsWith maps d size faults.Freeblock p = OnNode d faults.Freeblock p
+StandsWith maps d size faults.Fragments p = OnNode d faults.Fragments p
+StandsWith maps d size faults.ChainCut p = (s : Spot) × (owner needed : ℕ) × IsReached d s × (s.role ≡ link owner needed) × (holder s.place ≡ p) × ((s.page ≡ 0) ⊎ ((i : ℕ) × (s.place ≡ overflow p i) × (length d < needed)))
+StandsWith maps d size faults.ChainLong p = (s : Spot) × (owner : ℕ) × IsReached d s × (s.page ≡ p) × IsPage d p × (s.role ≡ link owner 1) × (next_in (page d p) ≢ 0)
+StandsWith maps d size faults.PageTwice p = IsPage d p × IsNamedTwice d size p
+StandsWith maps d size faults.PageOutside p = (s : Spot) × IsReached d s × (holder s.place ≡ p) × ¬ IsPage d s.page × (IsTrue (is_link s.role) → s.page ≢ 0)
+StandsWith maps d size faults.PageUnused p = IsPage d p × (¬ IsSetAside d size p) × ((s : Spot) → IsReached d s → s.page ≢ p)
+StandsWith maps d size faults.KeyOrder p = OnNode d faults.KeyOrder p
+StandsWith maps d size faults.Depth p = OnNode d faults.Depth p
+StandsWith maps d size faults.FreeCount p =
     ((s : Spot) × IsReached d s × (s.page ≡ p) × IsPage d p × (s.role ≡ trunk) × (most_leaves d < leaf_count_in (page d p)))
     ⊎ ((p ≡ 1) × (free : List Spot) × AreFreePlaces d free × (length free ≢ free_pages d))
-Stands d size faults.SchemaRecord p = OnNode d faults.SchemaRecord p
-Stands d size faults.Source p = ⊥
-Stands d size faults.NoMemory p = Unit {0}
+StandsWith maps d size faults.SchemaRecord p = OnNode d faults.SchemaRecord p
+StandsWith maps d size faults.Source p = ⊥
+StandsWith maps d size faults.NoMemory p = Unit {0}
+StandsWith maps d size faults.PointerMap p = IsAutoVacuum d × (HasWrongEntry d size p ⊎ ((p ≡ 1) × ¬ IsLargestRoot d (word (page d 1) 52)))
+
+-- the same where auto-vacuum is refused
+abbrev pub Stands : Database → (size : ℕ) → Fault → (p : ℕ) → Type 0
+Stands = StandsWith false

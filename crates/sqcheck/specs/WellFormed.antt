@@ -1,25 +1,37 @@
 -- Well-formed databases (fileformat2, 1 and 2.6).
-use Rattle.std.specs.Prelude.{◌≡◌, ℕ, suc, ◌+◌, ◌≤◌, ◌==◌, if◌then◌else◌, Bool, true, false, List, length, map, Option, Some, ℤ, ◌<ℤ◌, ◌≤ℤ◌, count_by}
+use Rattle.std.specs.Prelude.{◌≡◌, ◌≢◌, ℕ, suc, ◌+◌, ◌≤◌, ◌⊎◌, ◌==◌, if◌then◌else◌, Bool, true, false, List, length, map, Option, Some, ℤ, ◌<ℤ◌, ◌≤ℤ◌, count_by}
 use Rattle.sqval.specs.Bytes.{word}
 use Rattle.sqval.specs.Database.{Database, page}
 use Rattle.sqval.specs.PageSize.{IsPageSize}
 use Rattle.sqpage.specs.declared.cell.Cell.{Cell}
 use Rattle.sqpage.specs.declared.kind.Kind.{Kind}
-use Rattle.sqpage.specs.Header.{HasMagic, HasFractions, HasRoom, size_named}
+use Rattle.sqpage.specs.Header.{byte, HasMagic, HasFractions, HasRoom, size_named}
 use Rattle.sqpage.specs.Lists.{In, Every, Apart}
-use Rattle.sqpage.specs.Freelist.{IsPage, IsWithin, free_pages, next_in, leaf_count_in, most_leaves}
+use Rattle.sqpage.specs.Freelist.{IsPage, IsWithin, usable_size, free_pages, next_in, leaf_count_in, most_leaves}
 use Rattle.sqpage.specs.Page.{Page, is_interior, is_table, head_at, cell_count, pointer, IsBtreePage}
 use Rattle.sqpage.specs.Layout.{IsLaidOut}
-use Rattle.sqcheck.specs.Places.{Node, Role, trunk, free_leaf, link, node, Spot, page_as, HasKind, IsCellAt, IsKeyBefore, IsRow, IsSchemaRow, IsReached}
+use Rattle.sqpage.specs.PointerMaps.{lock_byte_page, IsPointerMap, IsEntryPlace, kind_code}
+use Rattle.sqpage.specs.declared.pointer_map.EntryPlace.{EntryPlace}
+use Rattle.sqpage.specs.declared.pointer_map.PointerKind.{PointerKind}
+use Rattle.sqpage.specs.declared.pointer_map.PointerKind.TheVariants as kinds
+use Rattle.sqcheck.specs.Places.{Place, next, overflow, holder, Node, Role, trunk, free_leaf, link, node, Spot, page_as, HasKind, IsCellAt, IsKeyBefore, IsRow, IsSchemaRow, IsReached}
 use Rattle.sqcheck.specs.declared.report.Report.{Report}
 
--- The header of the file: SQLite's, for pages of this size, with room in each, and without auto-vacuum.
-pub record HasSoundHeader (d : Database) (size : ℕ) : Type 0 where
+-- the header's largest root isn't 0 (fileformat2, 1.3.13)
+abbrev pub IsAutoVacuum : Database → Type 0
+IsAutoVacuum d = word (page d 1) 52 ≢ 0
+
+-- Nothing names page p, and it isn't unused: the lock-byte page, and with auto-vacuum each pointer map.
+abbrev pub IsSetAside : Database → (size p : ℕ) → Type 0
+IsSetAside d size p = (p ≡ lock_byte_page size) ⊎ (IsAutoVacuum d × IsPointerMap size (usable_size d) p)
+
+-- The header of the file: SQLite's, for pages of this size, with room in each; and without `maps` none of auto-vacuum.
+pub record HasSoundHeader (maps : Bool) (d : Database) (size : ℕ) : Type 0 where
   pub magic : HasMagic (page d 1)
   pub page_size : size_named (page d 1) ≡ size
   pub fractions : HasFractions (page d 1)
   pub room : HasRoom (page d 1)
-  pub plain : word (page d 1) 52 ≡ 0
+  pub plain : maps ≡ false → word (page d 1) 52 ≡ 0
 
 -- Keys and bounds: one comes before another, or is at most another, where there are both.
 abbrev pub IsBefore : (low key : Option ℤ) → Type 0
@@ -101,25 +113,68 @@ is_root _ = false
 abbrev pub numbers : List Spot → List ℕ
 numbers = map (λ s. s.page)
 
--- Each number from 1 to n is in the list once, and no other.
-pub record AreEachOnce (n : ℕ) (ps : List ℕ) : Type 0 where
-  pub within : Every (IsWithin n) ps
+-- Each number from 1 to n but those that are set aside is in the list once, and no other.
+pub record AreEachOnce (IsAside : ℕ → Type 0) (n : ℕ) (ps : List ℕ) : Type 0 where
+  pub within : Every (λ p. IsWithin n p × ¬ IsAside p) ps
   pub distinct : Apart ps
-  pub each : (p : ℕ) → IsWithin n p → In p ps
+  pub each : (p : ℕ) → IsWithin n p → ¬ IsAside p → In p ps
 
--- A database of pages of this size is well formed: its header is sound, its reached places together name each page once,
--- each of them is sound, each row of the schema is one, and the freelist is as long as the header says.
-pub record WellFormed (d : Database) (size : ℕ) : Type 0 where
+-- the kind that the entry of a named page says (fileformat2, 1.8)
+abbrev pub link_kind : Place → PointerKind
+link_kind (next p) = kinds.Overflow
+link_kind _ = kinds.FirstOverflow
+
+abbrev pub kind_named : Place → Role → PointerKind
+kind_named place trunk = kinds.Free
+kind_named place free_leaf = kinds.Free
+kind_named place (link owner needed) = link_kind place
+kind_named place (node x) = if x.level == 1 then kinds.Root else kinds.Child
+
+-- the page that the entry says: the one that the place stands in, and 0 for a root and for the freelist
+abbrev pub parent_by : PointerKind → (holder : ℕ) → ℕ
+parent_by kinds.Root holder = 0
+parent_by kinds.Free holder = 0
+parent_by _ holder = holder
+
+abbrev pub parent_named : Place → Role → ℕ
+parent_named place role = parent_by (kind_named place role) (holder place)
+
+-- the bytes of page `map` from `at` on are those of an entry that says so
+abbrev pub SaysSo : Database → EntryPlace → Place → Role → Type 0
+SaysSo d entry place role = (byte (page d entry.map) entry.at ≡ kind_code (kind_named place role)) × (word (page d entry.map) (entry.at + 1) ≡ parent_named place role)
+
+-- The entry of the page that s names, where it has one, says so.
+abbrev pub HasEntry : Database → (size : ℕ) → Spot → Type 0
+HasEntry d size s = (entry : EntryPlace) → IsEntryPlace size (usable_size d) s.page entry → SaysSo d entry s.place s.role
+
+-- n is the largest root that a reached place names
+abbrev pub IsLargestRoot : Database → (n : ℕ) → Type 0
+IsLargestRoot d n = ((s : Spot) → IsReached d s → is_root s.role ≡ true → s.page ≤ n) × ((s : Spot) × IsReached d s × (is_root s.role ≡ true) × (s.page ≡ n))
+
+-- The pointer maps say what names each page, and the header which root is the largest.
+pub record AreMapped (d : Database) (size : ℕ) : Type 0 where
+  pub entries : (s : Spot) → IsReached d s → HasEntry d size s
+  pub largest : IsLargestRoot d (word (page d 1) 52)
+
+-- A database of pages of this size is well formed: its header is sound, its reached places together name each page once
+-- but those set aside, each of them is sound, each row of the schema is one, the freelist is as long as the header says,
+-- and with auto-vacuum the pointer maps are right.
+pub record WellFormedWith (maps : Bool) (d : Database) (size : ℕ) : Type 0 where
   pub size_is : IsPageSize size
   pub sized : Every (λ b. length b ≡ size) d
-  pub header : HasSoundHeader d size
+  pub header : HasSoundHeader maps d size
   pub places : List Spot
   pub all : (s : Spot) → IsReached d s → In s places
   pub reached : Every (IsReached d) places
-  pub once : AreEachOnce (length d) (numbers places)
+  pub once : AreEachOnce (IsSetAside d size) (length d) (numbers places)
   pub sound : Every (IsSound d) places
   pub rows : Every (λ s. HasSoundRows d s.page s.role) places
   pub free : count_by (λ s. is_free s.role) places ≡ free_pages d
+  pub mapped : IsAutoVacuum d → AreMapped d size
+
+-- the same of one without auto-vacuum
+abbrev pub WellFormed : Database → (size : ℕ) → Type 0
+WellFormed = WellFormedWith false
 
 -- how many pages there are, how many trees, and how many pages of each use
 pub record IsReport (d : Database) (places : List Spot) (report : Report) : Type 0 where

@@ -1,6 +1,9 @@
 //! The check of a whole database (own).
 ghost use Rattle.std.specs.Prelude.{◌≡◌, ◌≢◌, ◌<◌, ◌≤◌, ◌∷◌, ◌++◌, [], ℕ, List, Bool, true, false, length, IfOk, IfErr};
-ghost use Rattle.std.specs.Prelude.{OnOk, OnErr};
+ghost use Rattle.std.specs.Prelude.{OnOk, OnErr, replicate};
+ghost use Rattle.sqval.specs.Bytes.{word};
+ghost use Rattle.sqval.specs.Database.{page};
+ghost use Rattle.sqpage.specs.PointerMaps.{lock_byte_page};
 ghost use Rattle.sqpage.specs.Freelist.{IsPage, IsWithin, usable_size, first_trunk};
 ghost use Rattle.sqpage.specs.Lists.{Every};
 ghost use Rattle.sqpage.specs.Taking.{is_marked};
@@ -10,9 +13,10 @@ ghost use Rattle.sqcheck.specs.Roles.{Visit, Told, AreRoles};
 ghost use Rattle.sqcheck.specs.Schema.{IsRootAt, RootsMatch};
 ghost use Rattle.sqcheck.specs.Snapshots.{SameSource};
 ghost use Rattle.sqcheck.specs.Stands.{Stands};
+ghost use Rattle.sqcheck.specs.Agenda.{StandsNow};
 ghost use Rattle.sqcheck.specs.WellFormed.{WellFormed, HasSoundHeader, IsReport};
 ghost use Rattle.sqcheck.specs.Walking.{IsItemOf, TopLeads};
-ghost use Rattle.sqcheck.specs.Checking.{Visited, VisitsMore, IsNew, HasLists};
+ghost use Rattle.sqcheck.specs.Checking.{Visited, VisitsMore, IsNew, HasLists, MarksOne};
 
 use crate::header::judge_header;
 use crate::item::{Item, Task, push};
@@ -26,7 +30,8 @@ use crate::tree::Tree;
 use crate::unused::judge_unused;
 use crate::uses::{Counts, Uses};
 use crate::walker::{Reader, Walker};
-use sqpage::{CheckError, DbHeader, Fault, PageSource, Parts};
+use sqpage::{CheckError, DbHeader, Fault, PageSource, Parts, lock_byte_page};
+use sqval::PageSize;
 use std::alloc::{AllocError, Global};
 use std::marker::{Brand, PhantomData};
 
@@ -94,7 +99,7 @@ impl<V: Snapshot> Walker<V> {
         ensures err { V.given → (late : Bool) (visited rest : List Spot) (s : Spot)
             → Visited V.pages late visited (s ∷ rest) self.old.uses self.old.walk → IsItemOf tree.now item s
             → TopLeads V.pages tree.now.root (item ∷ [])
-            → IfErr result (λ e. (size : ℕ) → Stands V.pages size e.fault e.page) }
+            → IfErr result (λ e. StandsNow V.pages e.fault e.page) }
         ensures empty { OnOk result (self.new.walk.stack.items ≡ []) }
         ensures same { SameSource V.pages V.size V.given (S.pages source.new) (S.size source.new)
             (S.gives_pages source.new) }
@@ -114,11 +119,11 @@ impl<V: Snapshot> Walker<V> {
         requires empty { self.old.walk.stack.items ≡ [] }
         requires same { SameSource V.pages V.size V.given (S.pages source.old) (S.size source.old)
             (S.gives_pages source.old) }
-        ensures ok { V.given → first ≡ first_trunk V.pages → IsNew self.old.uses self.old.walk
+        ensures ok { V.given → first ≡ first_trunk V.pages → IsNew V.pages self.old.uses self.old.walk
             → OnOk result (VisitsMore T.saw V.pages false [] (first_root_spot ∷ []) self.new.uses self.new.walk
             visitor.old visitor.new) }
-        ensures err { V.given → first ≡ first_trunk V.pages → IsNew self.old.uses self.old.walk
-            → IfErr result (λ e. (size : ℕ) → Stands V.pages size e.fault e.page) }
+        ensures err { V.given → first ≡ first_trunk V.pages → IsNew V.pages self.old.uses self.old.walk
+            → IfErr result (λ e. StandsNow V.pages e.fault e.page) }
         ensures empty { OnOk result (self.new.walk.stack.items ≡ []) }
         ensures same { SameSource V.pages V.size V.given (S.pages source.new) (S.size source.new)
             (S.gives_pages source.new) }
@@ -164,7 +169,7 @@ impl<V: Snapshot> Walker<V> {
             visitor.old visitor.new) }
         ensures err { V.given → (visited : List Spot)
             → Visited V.pages false visited (first_root_spot ∷ []) self.old.uses self.old.walk
-            → IfErr result (λ e. (size : ℕ) → Stands V.pages size e.fault e.page) }
+            → IfErr result (λ e. StandsNow V.pages e.fault e.page) }
         ensures empty { OnOk result (self.new.walk.stack.items ≡ []) }
         ensures same { SameSource V.pages V.size V.given (S.pages source.new) (S.size source.new)
             (S.gives_pages source.new) }
@@ -193,7 +198,7 @@ impl<V: Snapshot> Walker<V> {
             visitor.old visitor.new) }
         ensures err { V.given → (visited rest : List Spot) (s : Spot)
             → Visited V.pages true visited (s ∷ rest) self.old.uses self.old.walk → IsRootAt V.pages root s
-            → IfErr result (λ e. (size : ℕ) → Stands V.pages size e.fault e.page) }
+            → IfErr result (λ e. StandsNow V.pages e.fault e.page) }
         ensures empty { OnOk result (self.new.walk.stack.items ≡ []) }
         ensures same { SameSource V.pages V.size V.given (S.pages source.new) (S.size source.new)
             (S.gives_pages source.new) }
@@ -237,7 +242,7 @@ impl<V: Snapshot> Walker<V> {
         ensures err { V.given → (visited spots rest : List Spot)
             → Visited V.pages true visited (spots ++ rest) self.old.uses self.old.walk
             → RootsMatch V.pages roots.now spots
-            → IfErr result (λ e. (size : ℕ) → Stands V.pages size e.fault e.page) }
+            → IfErr result (λ e. StandsNow V.pages e.fault e.page) }
         ensures empty { OnOk result (self.new.walk.stack.items ≡ []) }
         ensures same { SameSource V.pages V.size V.given (S.pages source.new) (S.size source.new)
             (S.gives_pages source.new) }
@@ -259,11 +264,11 @@ impl<V: Snapshot> Walker<V> {
         requires empty { self.old.walk.stack.items ≡ [] }
         requires same { SameSource V.pages V.size V.given (S.pages source.old) (S.size source.old)
             (S.gives_pages source.old) }
-        ensures ok { V.given → HasLists header.now V.pages → IsNew self.old.uses self.old.walk
+        ensures ok { V.given → HasLists header.now V.pages → IsNew V.pages self.old.uses self.old.walk
             → OnOk result (VisitsMore T.saw V.pages false [] [] self.new.uses self.new.walk
             visitor.old visitor.new) }
-        ensures err { V.given → HasLists header.now V.pages → IsNew self.old.uses self.old.walk
-            → IfErr result (λ e. (size : ℕ) → Stands V.pages size e.fault e.page) }
+        ensures err { V.given → HasLists header.now V.pages → IsNew V.pages self.old.uses self.old.walk
+            → IfErr result (λ e. StandsNow V.pages e.fault e.page) }
         ensures empty { OnOk result (self.new.walk.stack.items ≡ []) }
         ensures same { SameSource V.pages V.size V.given (S.pages source.new) (S.size source.new)
             (S.gives_pages source.new) }
@@ -289,7 +294,7 @@ impl<V: Snapshot> Walker<V> {
             visitor.old visitor.new) }
         ensures err { V.given → Every (λ b. length b ≡ V.size) V.pages → (visited : List Spot)
             → Visited V.pages false visited [] self.old.uses self.old.walk
-            → IfErr result (λ e. (size : ℕ) → Stands V.pages size e.fault e.page) }
+            → IfErr result (λ e. StandsNow V.pages e.fault e.page) }
         ensures empty { OnOk result (self.new.walk.stack.items ≡ []) }
         ensures same { SameSource V.pages V.size V.given (S.pages source.new) (S.size source.new)
             (S.gives_pages source.new) }
@@ -304,7 +309,7 @@ impl<V: Snapshot> Walker<V> {
             self.now.uses.marks.items p ≡ true) × (self.now.uses.counts.free ≡ header.now.free_pages)) }
         ensures err { (visited : List Spot) → HasLists header.now V.pages
             → Visited V.pages true visited [] self.now.uses self.now.walk
-            → IfErr result (λ e. (size : ℕ) → Stands V.pages size e.fault e.page) }
+            → IfErr result (λ e. StandsNow V.pages e.fault e.page) }
     {
         judge_unused(&self.uses.marks)?;
         self.judge_free_count(header.free_pages)
@@ -339,11 +344,11 @@ impl<V: Snapshot> Walker<V> {
         requires same { SameSource V.pages V.size V.given (S.pages source.old) (S.size source.old)
             (S.gives_pages source.old) }
         ensures ok { V.given → Every (λ b. length b ≡ V.size) V.pages → HasLists header.now V.pages
-            → IsNew self.old.uses self.old.walk → HasSoundHeader V.pages V.size → IfOk result (λ report.
+            → IsNew V.pages self.old.uses self.old.walk → HasSoundHeader false V.pages V.size → IfOk result (λ report.
             (w : WellFormed V.pages V.size) × IsReport V.pages w.places report × (visits : List Visit) ×
-            Told T.saw visitor.old visits visitor.new × AreRoles V.pages visits) }
+            Told T.saw visitor.old visits visitor.new × AreRoles V.pages V.size visits) }
         ensures err { V.given → Every (λ b. length b ≡ V.size) V.pages → HasLists header.now V.pages
-            → IsNew self.old.uses self.old.walk → IfErr result (λ e. (size : ℕ) → Stands V.pages size e.fault e.page) }
+            → IsNew V.pages self.old.uses self.old.walk → IfErr result (λ e. StandsNow V.pages e.fault e.page) }
         ensures same { SameSource V.pages V.size V.given (S.pages source.new) (S.size source.new)
             (S.gives_pages source.new) }
     {
@@ -354,24 +359,48 @@ impl<V: Snapshot> Walker<V> {
     }
 }
 
-/// A walker that has room for the pages that are read, and has taken none of so many.
+/// So many marks, none of which is set.
+fn unmarked(alloc: Global, count: u32) -> Result<Vec<bool>, AllocError>
+    ensures { IfOk result (λ marks. marks.items ≡ replicate count false) }
+{
+    let marks = vec![in alloc; false; count as usize]?;
+    Ok(marks)
+}
+
+/// Marks the lock-byte page, where there is one.
+fn set_aside(marks: &mut [bool], size: PageSize)
+    ensures length { length marks.new ≡ length marks.old }
+    ensures lock { marks.old ≡ replicate (length marks.old) false → MarksOne marks.new (lock_byte_page size) }
+{
+    let lock = lock_byte_page(size) as usize;
+    if lock <= marks.len() {
+        marks[lock - 1] = true;
+    }
+}
+
+/// A walker that has room for the pages that are read, and has taken none of so many of this size. The lock-byte page is
+/// marked as taken.
 pub(crate) fn new_walker<V: Snapshot>(
     alloc: Global,
     reader: Reader<V>,
     count: u32,
+    size: PageSize,
 ) -> Result<Walker<V>, AllocError>
     requires { count ≡ length V.pages }
-    ensures new { IfOk result (λ w. IsNew w.uses w.walk) }
+    ensures new { length (page V.pages 1) ≡ size → word (page V.pages 1) 52 ≡ 0
+        → IfOk result (λ w. IsNew V.pages w.uses w.walk) }
     ensures empty { IfOk result (λ w. w.walk.stack.items ≡ []) }
 {
     let usable = reader.usable as usize;
+    let mut marks = unmarked(alloc, count)?;
+    set_aside(&mut marks, size);
     Ok(Walker {
         room: Room {
             parts: vec![in alloc; Parts::NONE; usable / 2 + 1]?,
             map: vec![in alloc; 0; (usable + 67) / 64]?,
         },
         uses: Uses {
-            marks: vec![in alloc; false; count as usize]?,
+            marks,
             counts: Counts {
                 trees: 0,
                 btree: 0,
@@ -404,7 +433,7 @@ fn check_snapshot<V: Snapshot, S: PageSource, T: Visitor>(
         (V.given → S.gives_pages source.old) }
     ensures ok { V.given → IfOk result (λ report.
         (w : WellFormed V.pages V.size) × IsReport V.pages w.places report × (visits : List Visit) ×
-        Told T.saw visitor.old visits visitor.new × AreRoles V.pages visits) }
+        Told T.saw visitor.old visits visitor.new × AreRoles V.pages V.size visits) }
     ensures err { V.given → IfErr result (λ e. Stands V.pages V.size e.fault e.page) }
     ensures same { (S.pages source.new ≡ V.pages) × (S.size source.new ≡ V.size) ×
         (V.given → S.gives_pages source.new) }
@@ -428,7 +457,7 @@ fn check_snapshot<V: Snapshot, S: PageSource, T: Visitor>(
         usable: size.get() - u32::from(header.reserved),
         snapshot: PhantomData,
     };
-    match new_walker(alloc, reader, count) {
+    match new_walker(alloc, reader, count, size) {
         Ok(mut walker) => walker.check_pages(alloc, source, visitor, &header),
         Err(_) => Err(NO_MEMORY),
     }
@@ -467,7 +496,7 @@ pub fn visit_pages<S: PageSource, T: Visitor>(
     ensures ok { S.gives_pages source.old → IfOk result (λ report.
         (w : WellFormed (S.pages source.old) (S.size source.old)) × IsReport (S.pages source.old) w.places
         report × (visits : List Visit) × Told T.saw visitor.old visits visitor.new ×
-        AreRoles (S.pages source.old) visits) }
+        AreRoles (S.pages source.old) (S.size source.old) visits) }
     // The condition stands at the page.
     ensures err { S.gives_pages source.old
         → IfErr result (λ e. Stands (S.pages source.old) (S.size source.old) e.fault e.page) }

@@ -1,4 +1,4 @@
-//! What the pages of a database are used for (fileformat2, 1.5 to 1.7).
+//! What the pages of a database are used for (fileformat2, 1.4 to 1.8).
 ghost use Rattle.std.specs.Prelude.{ℕ};
 ghost use Rattle.sqcheck.specs.declared.role.Role.{Role};
 
@@ -15,6 +15,10 @@ pub enum Role {
     FreeTrunk,
     /// It is a leaf of the freelist.
     FreeLeaf,
+    /// It is the lock-byte page, which no database uses. A visitor is told of no such page.
+    LockByte,
+    /// It is a pointer map, in a database of auto-vacuum. A visitor is told of no such page.
+    PointerMap,
     /// No place names it. A visitor is told of no such page.
     Unused,
 }

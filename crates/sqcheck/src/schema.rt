@@ -7,7 +7,7 @@ ghost use Rattle.sqpage.specs.Chain.{IsPayload};
 ghost use Rattle.sqpage.specs.declared.fault.Fault.{Fault};
 ghost use Rattle.sqpage.specs.declared.kind.Kind.TheVariants.{TableLeaf};
 ghost use Rattle.sqcheck.specs.Places.{IsRootOf, IsSchemaRow, InRow, page_as};
-ghost use Rattle.sqcheck.specs.Stands.{Stands};
+ghost use Rattle.sqcheck.specs.Agenda.{StandsNow};
 ghost use Rattle.sqcheck.specs.Schema.{IsRowsPage, AreSchemaRows, AllSchemaRows, InRowBelow, InRowsOf, KeepsFound};
 ghost use Rattle.sqcheck.specs.Schema.{HasPayloadWithin};
 ghost use Rattle.sqcheck.specs.Snapshots.{SameSource};
@@ -123,7 +123,7 @@ fn take_rows<V: Snapshot, S: PageSource>(
         AreSchemaRows V.pages page.now.number (cell_count page.now)) }
     ensures err { V.given → page.now ≡ page_as V.pages TableLeaf page.now.number
         → IsRowsPage V.pages page.now.number
-        → IfErr result (λ e. (size : ℕ) → Stands V.pages size e.fault e.page) }
+        → IfErr result (λ e. StandsNow V.pages e.fault e.page) }
     ensures same { SameSource V.pages V.size V.given (S.pages source.new) (S.size source.new)
         (S.gives_pages source.new) }
 {
@@ -151,7 +151,7 @@ fn page_roots<V: Snapshot, S: PageSource>(
     ensures ok { V.given → IsRowsPage V.pages number → OnOk result (KeepsFound V.pages (InRow V.pages number)
         roots.old.items roots.new.items × AllSchemaRows V.pages number) }
     ensures err { V.given → IsRowsPage V.pages number
-        → IfErr result (λ e. (size : ℕ) → Stands V.pages size e.fault e.page) }
+        → IfErr result (λ e. StandsNow V.pages e.fault e.page) }
     ensures usable { reader.new.usable ≡ reader.old.usable }
     ensures same { SameSource V.pages V.size V.given (S.pages source.new) (S.size source.new)
         (S.gives_pages source.new) }
@@ -192,7 +192,7 @@ pub(crate) fn roots_in<V: Snapshot, S: PageSource>(
     ensures ok { V.given → Every (IsRowsPage V.pages) rows.now → Apart rows.now → IfOk result (λ roots. KeepsFound
         V.pages (InRowsOf V.pages rows.now) [] roots.items × Every (AllSchemaRows V.pages) rows.now) }
     ensures err { V.given → Every (IsRowsPage V.pages) rows.now
-        → IfErr result (λ e. (size : ℕ) → Stands V.pages size e.fault e.page) }
+        → IfErr result (λ e. StandsNow V.pages e.fault e.page) }
     ensures usable { reader.new.usable ≡ reader.old.usable }
     ensures same { SameSource V.pages V.size V.given (S.pages source.new) (S.size source.new)
         (S.gives_pages source.new) }

@@ -3,9 +3,10 @@ ghost use Rattle.std.specs.Prelude.{◌≡◌, ◌↔◌, ◌⊎◌, ◌-◌, �
 ghost use Rattle.std.specs.Prelude.{IfOk, IfErr, IfSome};
 ghost use Rattle.sqpage.specs.Freelist.{IsPage, usable_size};
 ghost use Rattle.sqpage.specs.Header.{byte};
+ghost use Rattle.sqpage.specs.PointerMaps.{lock_byte_page};
 ghost use Rattle.sqpage.specs.declared.fault.Fault.{Fault};
-ghost use Rattle.sqcheck.specs.Surveys.{FindsClean, FindsDamaged, SurveyRefused, IsEnd};
-ghost use Rattle.sqcheck.specs.declared.role.Role.TheVariants.{Unused};
+ghost use Rattle.sqcheck.specs.Surveys.{Charts, FindsClean, FindsDamaged, SurveyRefused, IsEnd};
+ghost use Rattle.sqcheck.specs.declared.role.Role.TheVariants.{Unused, LockByte};
 ghost use Rattle.sqcheck.specs.Snapshots.{SameSource};
 
 use crate::chart::Chart;
@@ -19,7 +20,7 @@ use crate::schema::{Root, add_root, row_root};
 use crate::snapshot::Snapshot;
 use crate::tree::Tree;
 use crate::walker::{Reader, Walker};
-use sqpage::{BtreePage, CheckError, Fault, Kind, PageSource};
+use sqpage::{BtreePage, CheckError, Fault, Kind, PageSource, lock_byte_page};
 use std::alloc::Global;
 use std::marker::{Brand, PhantomData};
 
@@ -386,7 +387,7 @@ fn survey_snapshot<V: Snapshot, S: PageSource>(
         usable: start.usable,
         snapshot: PhantomData,
     };
-    match new_walker(alloc, reader, count) {
+    match new_walker(alloc, reader, count, size) {
         Ok(mut walker) => {
             walker.survey_first(source, chart, &start)?;
             walker.survey_others(alloc, source, chart)?;
@@ -397,14 +398,17 @@ fn survey_snapshot<V: Snapshot, S: PageSource>(
     Ok(true)
 }
 
-/// A chart of the pages of a source on which nothing is put down.
+/// A chart of the pages of a source on which the lock-byte page is put down, where there is one, and nothing else.
 fn blank_chart<S: PageSource>(alloc: Global, source: &S) -> Result<Chart, CheckError>
-    ensures blank { IfOk result (λ chart. chart.roles.items ≡ replicate (length (S.pages source.now)) Unused) }
-    ensures none { IfOk result (λ chart. chart.faults.items ≡ []) }
+    ensures blank { IfOk result (λ chart. Charts (replicate (length (S.pages source.now)) Unused)
+        (lock_byte_page (S.size source.now)) LockByte chart.roles.items) }
     ensures ends { IfErr result (λ e. e.fault ≡ Fault.NoMemory) }
 {
     match Chart::blank(alloc, source.count()) {
-        Ok(chart) => Ok(chart),
+        Ok(mut chart) => {
+            chart.visit(lock_byte_page(source.page_size()), Role::LockByte);
+            Ok(chart)
+        }
         Err(_) => Err(NO_MEMORY),
     }
 }

@@ -5,8 +5,7 @@ ghost use Rattle.sqcheck.specs.Places.{Spot, HasKind};
 ghost use Rattle.sqcheck.specs.Roles.{IsRoleOf};
 ghost use Rattle.sqcheck.specs.Snapshots.{SameSource};
 ghost use Rattle.sqcheck.specs.Walking.{Follows, FollowRefused, Knows, IsProper, role_of};
-ghost use Rattle.sqcheck.specs.Agenda.{Walking, WalksOn};
-ghost use Rattle.sqcheck.specs.Stands.{Stands};
+ghost use Rattle.sqcheck.specs.Agenda.{StandsNow, Walking, WalksOn};
 ghost use Rattle.sqcheck.specs.declared.item.Task.TheVariants.{Node};
 
 use crate::item::{Item, Task};
@@ -118,7 +117,7 @@ impl<V: Snapshot> Walker<V> {
             visitor.new) }
         ensures err { V.given → (late : Bool) (visited rest : List Spot)
             → Walking V.pages late tree.now visited rest self.old.uses self.old.walk
-            → IfErr result (λ e. (size : ℕ) → Stands V.pages size e.fault e.page) }
+            → IfErr result (λ e. StandsNow V.pages e.fault e.page) }
         ensures empty { OnOk result (self.new.walk.stack.items ≡ []) }
         ensures same { SameSource V.pages V.size V.given (S.pages source.new) (S.size source.new)
             (S.gives_pages source.new) }

@@ -1,5 +1,6 @@
 //! Worked rows.
 pub(crate) mod failing;
+mod lock_byte;
 
 use sqcheck::{Report, check};
 use sqpage::{CheckError, Fault, SliceSource};

@@ -26,6 +26,7 @@ number_of faults.FreeCount = 18
 number_of faults.Source = 19
 number_of faults.NoMemory = 20
 number_of faults.SchemaRecord = 21
+number_of faults.PointerMap = 22
 
 -- own: the name of a fault in a report
 abbrev pub name_of : Fault → List ℕ
@@ -50,3 +51,4 @@ name_of faults.FreeCount = codes "FreeCount"
 name_of faults.Source = codes "Source"
 name_of faults.NoMemory = codes "NoMemory"
 name_of faults.SchemaRecord = codes "SchemaRecord"
+name_of faults.PointerMap = codes "PointerMap"

@@ -73,10 +73,14 @@ pub enum Fault {
     /// fourth is null or a number from 0.
     #[error("a row of the schema table is unsound")]
     SchemaRecord,
+    /// An entry of the pointer map doesn't say what its page is named as, or which page names it; or at page 1, the
+    /// largest root that the header names isn't the largest one.
+    #[error("a pointer map doesn't say what names a page, or the header doesn't name the largest root")]
+    PointerMap,
 }
 
 impl Fault {
-    /// The fault's number, from 1 to 21.
+    /// The fault's number, from 1 to 22.
     pub fn number(&self) -> u8
         ensures { result ≡ number_of self.now }
     {
@@ -102,6 +106,7 @@ impl Fault {
             Fault::Source => 19,
             Fault::NoMemory => 20,
             Fault::SchemaRecord => 21,
+            Fault::PointerMap => 22,
         }
     }
 
@@ -131,6 +136,7 @@ impl Fault {
             Fault::Source => "Source",
             Fault::NoMemory => "NoMemory",
             Fault::SchemaRecord => "SchemaRecord",
+            Fault::PointerMap => "PointerMap",
         }
     }
 }

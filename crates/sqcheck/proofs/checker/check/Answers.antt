@@ -1,4 +1,4 @@
-use Rattle.std.proofs.Common.{◌≢◌}
+use Rattle.std.proofs.Common.{◌≢◌, false}
 use Rattle.sqpage.specs.declared.fault.Fault.TheVariants as faults
 use Rattle.sqcheck.specs.Stands.{Stands}
 use Rattle.sqcheck.specs.WellFormed.{WellFormed}
@@ -10,7 +10,7 @@ pub returns-clause-none : goal.returns-clause-none
 returns-clause-none g c = λ gives.
     let d = g.S.PageSource.pages c.args.source.now in
     let size = g.S.PageSource.size c.args.source.now in
-    if_err (λ e. Stands d size e.fault e.page) (λ e. e.fault ≢ faults.NoMemory → ¬ WellFormed d size) c.check_snapshot.result (λ e h other w. none_stands d size w e.fault e.page h other) (c.check_snapshot.ensures.err gives)
+    if_err (λ e. Stands d size e.fault e.page) (λ e. e.fault ≢ faults.NoMemory → ¬ WellFormed d size) c.check_snapshot.result (λ e h other w. none_stands false d size w e.fault e.page h other) (c.check_snapshot.ensures.err gives)
 
 pub returns-clause-ok : goal.returns-clause-ok
 returns-clause-ok g c = λ gives. if_ok _ _ c.check_snapshot.result (λ report h. (h.0, h.1)) (c.check_snapshot.ensures.ok gives)

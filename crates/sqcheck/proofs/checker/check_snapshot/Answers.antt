@@ -1,4 +1,4 @@
-use Rattle.std.proofs.Common.{◌≡◌, ◌∙◌, ℕ, List, length, refl, sym, ap, subst}
+use Rattle.std.proofs.Common.{◌≡◌, ◌∙◌, ℕ, List, length, false, refl, sym, ap, subst}
 use Rattle.std.proofs.lemmas.List.{with_items_is}
 use Rattle.sqval.specs.Database.{Database, page}
 use Rattle.sqval.specs.PageSize.{IsPageSize}
@@ -6,7 +6,7 @@ use Rattle.sqpage.proofs.Sources.{least_page_size}
 use Rattle.sqcheck.specs.Heading.{HasHeaderOf}
 use Rattle.sqcheck.specs.Stands.{Stands}
 use Rattle.sqcheck.proofs.Results.{if_err}
-use Rattle.sqcheck.proofs.Ends.{no_magic, header_sound}
+use Rattle.sqcheck.proofs.Ends.{no_magic, header_sound, header_stands, first_sized}
 use Rattle.sqcheck.proofs.checker.check_snapshot.Goals as goal
 
 pub returns-then-count-eq0-clause-err : goal.returns-then-count-eq0-clause-err
@@ -29,8 +29,10 @@ returns-in-Ok-new_walker-clause-ok g c = λ given.
     let read = c.read_page.ensures.read given in
     let first : c.deref.result.now ≡ page d 1 = c.deref.ensures.value ∙ with_items_is c.in-Ok.bytes c.read_page.new.out (c.read_page.auto.out ∙ c.deref_mut.ensures.len) ∙ read.1 in
     let hd = subst (λ (l : List ℕ). HasHeaderOf c.in_ok-header.header c.page_size-size.result l) first c.in_ok-header.ensures.ok in
-    c.check_pages.ensures.ok given read.2 (record { first = hd.first_trunk; said = hd.free_pages }) c.in-Ok-new_walker.ensures.new
-    (header_sound d c.in_ok-header.header c.page_size-size.result g.V.Snapshot.size (c.page_size-size.ensures ∙ c.requires.same.1) hd)
+    let size = c.page_size-size.ensures ∙ c.requires.same.1 in
+    let long = first_sized d g.V.Snapshot.size c.count-count.result (c.count-count.ensures ∙ ap (λ (q : Database). length q) c.requires.same.0) c.if-count-eq0.false read.2 in
+    c.check_pages.ensures.ok given read.2 (record { first = hd.first_trunk; said = hd.free_pages }) (c.in-Ok-new_walker.ensures.new (long ∙ sym size) hd.plain)
+    (header_sound d c.in_ok-header.header c.page_size-size.result g.V.Snapshot.size size hd)
 
 pub returns-in-Ok-new_walker-clause-err : goal.returns-in-Ok-new_walker-clause-err
 returns-in-Ok-new_walker-clause-err g c = λ given.
@@ -38,5 +40,7 @@ returns-in-Ok-new_walker-clause-err g c = λ given.
     let read = c.read_page.ensures.read given in
     let first : c.deref.result.now ≡ page d 1 = c.deref.ensures.value ∙ with_items_is c.in-Ok.bytes c.read_page.new.out (c.read_page.auto.out ∙ c.deref_mut.ensures.len) ∙ read.1 in
     let hd = subst (λ (l : List ℕ). HasHeaderOf c.in_ok-header.header c.page_size-size.result l) first c.in_ok-header.ensures.ok in
-    if_err _ (λ e. Stands d g.V.Snapshot.size e.fault e.page) c.check_pages.result (λ e h. h g.V.Snapshot.size)
-    (c.check_pages.ensures.err given read.2 (record { first = hd.first_trunk; said = hd.free_pages }) c.in-Ok-new_walker.ensures.new)
+    let size = c.page_size-size.ensures ∙ c.requires.same.1 in
+    let long = first_sized d g.V.Snapshot.size c.count-count.result (c.count-count.ensures ∙ ap (λ (q : Database). length q) c.requires.same.0) c.if-count-eq0.false read.2 in
+    if_err _ (λ e. Stands d g.V.Snapshot.size e.fault e.page) c.check_pages.result (λ e h. h false g.V.Snapshot.size long)
+    (c.check_pages.ensures.err given read.2 (record { first = hd.first_trunk; said = hd.free_pages }) (c.in-Ok-new_walker.ensures.new (long ∙ sym size) hd.plain))

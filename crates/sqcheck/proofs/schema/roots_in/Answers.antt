@@ -2,7 +2,7 @@ use Rattle.std.proofs.Common.{◌≡◌, ◌+◌, ◌∷◌, ◌++◌, ◌∙◌
 use Rattle.std.proofs.lemmas.List.{take_more}
 use Rattle.sqpage.specs.Lists.{Every}
 use Rattle.sqpage.proofs.ListLemmas.{every_append}
-use Rattle.sqcheck.specs.Stands.{Stands}
+use Rattle.sqcheck.specs.Agenda.{StandsNow}
 use Rattle.sqcheck.specs.Schema.{IsRowsPage, KeepsFound, InRowsOf, AllSchemaRows}
 use Rattle.sqcheck.proofs.Results.{exits}
 use Rattle.sqcheck.proofs.Schemas.{page_more, not_before, every_index}
@@ -14,7 +14,7 @@ returns-in_err-page_roots-clause-err g c = λ given all.
     let rows = c.args.rows.now in
     let n : ℕ = get_or rows c.pages.number-index 0 in
     let w : IsRowsPage d n = every_index (IsRowsPage d) rows c.pages.number-index n c.pages-test.true refl all in
-    exits (λ e. (size : ℕ) → Stands d size e.fault e.page) c.in_err-page_roots.field-0.0 c.from_residual.result c.from_residual.ensures.1 (c.in_err-page_roots.ensures.err given w)
+    exits (λ e. StandsNow d e.fault e.page) c.in_err-page_roots.field-0.0 c.from_residual.result c.from_residual.ensures.1 (c.in_err-page_roots.ensures.err given w)
 
 pub pages-preserved : goal.pages-preserved
 pages-preserved g c =

@@ -1,22 +1,22 @@
 use Rattle.std.proofs.Common.{◌∙◌, ◌++◌, [], ℕ, length, sym, subst, true}
-use Rattle.sqcheck.specs.Stands.{Stands}
-use Rattle.sqcheck.specs.WellFormed.{AreEachOnce}
+use Rattle.sqcheck.specs.Agenda.{StandsNow}
+use Rattle.sqcheck.specs.WellFormed.{AreEachOnce, IsSetAside}
 use Rattle.sqcheck.proofs.Results.{exits}
-use Rattle.sqcheck.proofs.Phases.{concludes, each_once, reported}
+use Rattle.sqcheck.proofs.Phases.{concludes, once_of, reported}
 use Rattle.sqcheck.proofs.Tells.{visits_more, visits_of}
 use Rattle.sqcheck.proofs.walker.Walker.check_pages.Goals as goal
 
 pub returns-in_err-follow_others-clause-err : goal.returns-in_err-follow_others-clause-err
 returns-in_err-follow_others-clause-err g c = λ given sized lists new.
     let w = c.in_ok-follow_first.ensures.ok given lists new in
-    exits (λ e. (size : ℕ) → Stands g.V.Snapshot.pages size e.fault e.page) c.in_err-follow_others.field-0.0 c.from_residual-in_err-follow_others.result c.from_residual-in_err-follow_others.ensures.1
+    exits (λ e. StandsNow g.V.Snapshot.pages e.fault e.page) c.in_err-follow_others.field-0.0 c.from_residual-in_err-follow_others.result c.from_residual-in_err-follow_others.ensures.1
     (c.in_err-follow_others.ensures.err given sized w.0 w.1)
 
 pub returns-in_err-judge_end-clause-err : goal.returns-in_err-judge_end-clause-err
 returns-in_err-judge_end-clause-err g c = λ given sized lists new.
     let w = c.in_ok-follow_first.ensures.ok given lists new in
     let z = c.in_ok-follow_others.ensures.ok given sized w.0 w.1 in
-    exits (λ e. (size : ℕ) → Stands g.V.Snapshot.pages size e.fault e.page) c.in_err-judge_end.field-0.0 c.from_residual-in_err-judge_end.result c.from_residual-in_err-judge_end.ensures.1
+    exits (λ e. StandsNow g.V.Snapshot.pages e.fault e.page) c.in_err-judge_end.field-0.0 c.from_residual-in_err-judge_end.result c.from_residual-in_err-judge_end.ensures.1
     (c.in_err-judge_end.ensures.err (w.0 ++ z.0) lists z.1)
 
 pub returns-clause-ok : goal.returns-clause-ok
@@ -29,4 +29,4 @@ returns-clause-ok g c = λ given sized lists new header.
     let x = concludes d g.V.Snapshot.size k.uses.marks.items z.0 k.walk.rows.items k.uses.counts c.requires.same.sized sized header z.1 end.0 (end.1 ∙ lists.said) c.report.result
     (reported d z.0 k.uses.counts c.report.result z.1.counted (c.report.ensures.pages ∙ z.1.agenda.sized) c.report.ensures.trees c.report.ensures.btree c.report.ensures.overflow c.report.ensures.free) in
     let v = visits_of g.T.Visitor.saw d z.0 c.args.visitor.now c.follow_others.new.visitor z.1.agenda.reached z.2 in
-    (x.0, x.1, v.visits, v.told, record { once = subst (AreEachOnce (length d)) (sym v.pages) (each_once d k.uses.marks.items z.0 z.1.agenda end.0); roles = v.roles })
+    (x.0, x.1, v.visits, v.told, record { once = subst (AreEachOnce (IsSetAside d g.V.Snapshot.size) (length d)) (sym v.pages) (once_of d g.V.Snapshot.size k.uses.marks.items z.0 sized z.1.agenda end.0); roles = v.roles })

@@ -1,6 +1,7 @@
 use Rattle.std.proofs.Common.{ℕ, [], sym, subst, false}
 use Rattle.sqpage.specs.declared.fault.Fault.TheVariants as faults
-use Rattle.sqcheck.specs.Stands.{Stands}
+use Rattle.sqcheck.specs.Stands.{StandsWith}
+use Rattle.sqcheck.specs.Agenda.{StandsNow}
 use Rattle.sqcheck.proofs.Results.{exits, on_ok}
 use Rattle.sqcheck.proofs.Tells.{visits_more}
 use Rattle.sqcheck.proofs.Phases.{free_count_stands, free_visited}
@@ -13,9 +14,9 @@ returns-in_err-judge_free_count-clause-err g c = λ given lists new.
     let k = c.follow_trunks.new.self in
     let w = c.in_ok-follow_trunks.ensures.ok given lists.first new in
     let h = c.in_err-judge_free_count.ensures.err in
-    exits (λ e. (size : ℕ) → Stands d size e.fault e.page) e c.from_residual-in_err-judge_free_count.result c.from_residual-in_err-judge_free_count.ensures.1
-    (λ size. subst (λ f. Stands d size f e.page) (sym h.0) (subst (Stands d size faults.FreeCount) (sym h.1)
-    (free_count_stands d size w.0 k.uses.counts c.args.header.now.free_pages lists.said w.1.counted w.1.agenda.taken.distinct w.1.agenda.reached (λ s r f. free_visited d k.uses.marks.items w.0 w.1.agenda r f) h.2)))
+    exits (λ e. StandsNow d e.fault e.page) e c.from_residual-in_err-judge_free_count.result c.from_residual-in_err-judge_free_count.ensures.1
+    (λ maps size same. subst (λ f. StandsWith maps d size f e.page) (sym h.0) (subst (StandsWith maps d size faults.FreeCount) (sym h.1)
+    (free_count_stands d maps size w.0 k.uses.counts c.args.header.now.free_pages lists.said w.1.counted w.1.agenda.taken.distinct w.1.agenda.reached (λ s r f. free_visited d k.uses.marks.items w.0 w.1.agenda r f) h.2)))
 
 pub returns-clause-ok : goal.returns-clause-ok
 returns-clause-ok g c = λ given lists new.

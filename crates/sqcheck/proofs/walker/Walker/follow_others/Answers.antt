@@ -7,7 +7,7 @@ use Rattle.sqcheck.specs.declared.schema.Root.{Root}
 use Rattle.sqcheck.specs.declared.node.Walk.{Walk}
 use Rattle.sqcheck.specs.declared.uses.Uses.{Uses}
 use Rattle.sqcheck.specs.Places.{Spot}
-use Rattle.sqcheck.specs.Stands.{Stands}
+use Rattle.sqcheck.specs.Agenda.{StandsNow}
 use Rattle.sqcheck.specs.Schema.{IsRowsPage, InRowsOf, AllSchemaRows, KeepsFound, Finds, RootsMatch}
 use Rattle.sqcheck.specs.Checking.{Visited}
 use Rattle.sqcheck.proofs.Results.{exits, on_ok}
@@ -44,7 +44,7 @@ returns-in_err-roots-clause-err g c = λ given sized visited w.
     let d = g.V.Snapshot.pages in
     let s = c.args.self.now in
     let e = c.in_err-roots.field-0.0 in
-    exits (λ e. (size : ℕ) → Stands d size e.fault e.page) e c.from_residual.result c.from_residual.ensures.1
+    exits (λ e. StandsNow d e.fault e.page) e c.from_residual.result c.from_residual.ensures.1
     (c.in_err-roots.ensures.err given (pages_of d g.V.Snapshot.size s.reader.usable visited s.uses s.walk c.deref.result.now c.deref.ensures.value (s.reader.used given) s.reader.least s.reader.most sized w))
 
 pub returns-clause-ok : goal.returns-clause-ok

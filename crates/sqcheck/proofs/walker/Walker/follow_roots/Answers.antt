@@ -2,7 +2,7 @@ use Rattle.std.proofs.Common.{◌≡◌, ◌+◌, ◌++◌, [], ℕ, suc, drop, 
 use Rattle.std.proofs.Math.Seq.{drop-cons}
 use Rattle.std.proofs.lemmas.List.{drop_all}
 use Rattle.sqcheck.specs.declared.schema.Root.{Root}
-use Rattle.sqcheck.specs.Stands.{Stands}
+use Rattle.sqcheck.specs.Agenda.{StandsNow}
 use Rattle.sqcheck.specs.Schema.{RootsMatch}
 use Rattle.sqcheck.specs.Checking.{Visited}
 use Rattle.sqcheck.proofs.Results.{exits}
@@ -27,7 +27,7 @@ returns-in_err-follow_root-clause-err g c = λ given visited spots rest w m.
     let k = c.roots.invariant.walks given visited spots rest w m in
     let f = first_root_at d (drop c.roots.root-index roots) found (drop (suc c.roots.root-index) roots) k.1 (drop-cons roots c.roots.root-index zero' c.roots-test.true) k.3 in
     let e = c.in_err-follow_root.field-0.0 in
-    exits (λ e. (size : ℕ) → Stands d size e.fault e.page) e c.from_residual.result c.from_residual.ensures.1
+    exits (λ e. StandsNow d e.fault e.page) e c.from_residual.result c.from_residual.ensures.1
     (c.in_err-follow_root.ensures.err given (visited ++ k.0) (f.1 ++ rest) f.0 (subst (λ l. Visited d true (visited ++ k.0) (l ++ rest) s.uses s.walk) f.2 k.2) f.3)
 
 pub roots-preserved : goal.roots-preserved

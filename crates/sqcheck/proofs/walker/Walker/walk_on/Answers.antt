@@ -1,7 +1,7 @@
 use Rattle.std.proofs.Common.{◌++◌, [], ℕ, sym, subst, refl, append-nil}
 use Rattle.sqcheck.specs.declared.node.Walk.{Walk}
 use Rattle.sqcheck.specs.Agenda.{Walking}
-use Rattle.sqcheck.specs.Stands.{Stands}
+use Rattle.sqcheck.specs.Agenda.{StandsNow}
 use Rattle.sqcheck.proofs.Results.{exits}
 use Rattle.sqcheck.proofs.Walks.{walks_on, walk_refused, proper_top, knows_top, nothing_popped}
 use Rattle.sqcheck.proofs.Tells.{walks_more}
@@ -24,8 +24,8 @@ returns-in_err-role-clause-err g c = λ given late visited rest start.
     let e = c.in_err-role.field-0.0 in
     let items = c.in-Some.ensures.items in
     let refused = c.in_err-role.ensures.err given (proper_top d late tree (visited ++ w.0) rest s.uses s.walk popped it w.1 items refl refl) (knows_top d late tree (visited ++ w.0) rest s.uses s.walk popped it w.1 items refl refl) in
-    exits (λ e. (size : ℕ) → Stands d size e.fault e.page) e c.from_residual.result c.from_residual.ensures.1
-    (λ size. walk_refused d late tree (visited ++ w.0) rest s.uses s.walk popped it w.1 items refl refl size e.fault e.page refused)
+    exits (λ e. StandsNow d e.fault e.page) e c.from_residual.result c.from_residual.ensures.1
+    (walk_refused d late tree (visited ++ w.0) rest s.uses s.walk popped it w.1 items refl refl e.fault e.page refused)
 
 pub places-preserved : goal.places-preserved
 places-preserved g c =
