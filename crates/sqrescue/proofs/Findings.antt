@@ -1,7 +1,7 @@
 -- What is found of the view that is asked for is found of the files.
 use Rattle.std.proofs.Common.{ℕ, List}
 use Rattle.std.specs.Prelude.{Option, None, Some, Result, Ok, IfOk}
-use Rattle.sqval.specs.Limits.{usual}
+use Rattle.sqval.specs.Limits.{Bounds}
 use Rattle.sqview.specs.Verdicts.{IsVerdictOf}
 use Rattle.sqview.specs.declared.judge_error.JudgeError.{JudgeError}
 use Rattle.sqview.specs.declared.verdict.Verdict.{Verdict}
@@ -9,7 +9,7 @@ use Rattle.sqview.specs.declared.view.View.{View}
 use Rattle.sqview.proofs.Judging.{of_files, of_files_at}
 use Rattle.sqrescue.specs.Views.{AskedAnswer, IsFound}
 
-module _ {F : Type 0} (bytes : F → List ℕ) (db wal journal : List ℕ) where
-  pub found_of : (at : Option ℕ) (v : View F) (r : Result Verdict JudgeError) → AskedAnswer bytes at db wal journal (Ok v) → IfOk r (IsVerdictOf bytes v) → IfOk r (IsFound at db wal journal)
-  found_of None v r shown finds = of_files usual bytes db wal journal v r shown finds
-  found_of (Some m) v r shown finds = of_files_at usual bytes db wal journal v m r shown finds
+module _ {F : Type 0} (limits : Bounds) (bytes : F → List ℕ) (db wal journal : List ℕ) where
+  pub found_of : (at : Option ℕ) (v : View F) (r : Result Verdict JudgeError) → AskedAnswer limits bytes at db wal journal (Ok v) → IfOk r (IsVerdictOf bytes v) → IfOk r (IsFound limits at db wal journal)
+  found_of None v r shown finds = of_files limits bytes db wal journal v r shown finds
+  found_of (Some m) v r shown finds = of_files_at limits bytes db wal journal v m r shown finds

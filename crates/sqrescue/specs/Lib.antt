@@ -1,9 +1,3 @@
-pub mod FileDisk
-pub mod Fronts
-pub mod Line
-pub mod Locks
 pub mod Pages
 pub mod Paths
-pub mod Readings
-pub mod Refusals
 pub mod Views

@@ -1,6 +1,6 @@
 -- Which files are one.
 use Rattle.std.specs.Prelude.{◌≢◌, Option, Some, None}
-use Rattle.sqrescue.specs.declared.locks.Identity.{Identity}
+use Rattle.sqfacts.specs.declared.locks.Identity.{Identity}
 
 -- no log is the database file, and neither is the other
 abbrev pub AreApart : (db : Identity) → (wal journal : Option Identity) → Type 0

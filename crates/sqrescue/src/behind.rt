@@ -2,14 +2,14 @@
 ghost use Rattle.std.specs.Prelude.{◌≡◌, ◌-◌, ◌/◌, ◌%◌, ◌<◌};
 
 use crate::facts::{Fact, number, write_facts, write_object};
-use crate::fronts::Front;
-use crate::requests::Style;
 use crate::showing::ShowError;
+use sqfacts::Front;
 use sqjournal::{JournalHeader, RecordSlot, Replay, is_zeroed};
 use sqpage::{DbHeader, SourceError};
 use sqval::PageSize;
 use sqview::FileBytes;
 use sqwal::{Scan, Slot, Sum, WalHeader};
+use sqwords::Style;
 use std::alloc::Global;
 use std::io::{self, Write};
 

@@ -1,15 +1,16 @@
 //! What `check` prints.
 use crate::fronts::as_before;
+use crate::limits::limits_of;
 use crate::logs::{Contents, open_all};
-use crate::notes::Notes;
-use crate::outcome::Refusal;
 use crate::paths::{Paths, paths_of};
-use crate::requests::Options;
 use crate::showing::ShowError;
 use crate::texts::{write_fault, write_report};
 use crate::views::{Finding, judged};
-use crate::watch::{Readings, readings_of, time_to_wait, unchanged};
+use crate::watch::{readings_of, time_to_wait};
+use sqfacts::{Notes, Readings, Refusal, unchanged};
+use sqval::Limits;
 use sqview::{ReadAhead, Verdict};
+use sqwords::Options;
 use std::io::{self, Write};
 use std::os::unix::fs::FileExt;
 use std::rt::Files;
@@ -63,9 +64,15 @@ where
         at,
         ..
     } = options;
+    let limits = limits_of(options);
     let before = readings_of(rt, paths, false, notes)?;
     let wait = time_to_wait(rt, &before);
-    let found = judged_in(rt, open_all(rt, paths, super_journal, at, notes), at);
+    let found = judged_in(
+        rt,
+        limits,
+        open_all(rt, paths, super_journal, at, notes),
+        at,
+    );
     match watched(rt, paths, &before, found, notes)? {
         Verdict::Damaged(_) if !wait.is_zero() => {
             thread::sleep(rt, wait);
@@ -73,16 +80,22 @@ where
             unchanged(&before, &settled, Ok(()))?;
             let mut nowhere = io::sink();
             let mut unheard = Notes::new(&mut nowhere, false);
-            let found = judged_in(rt, open_all(rt, paths, super_journal, at, &mut unheard), at);
+            let found = judged_in(
+                rt,
+                limits,
+                open_all(rt, paths, super_journal, at, &mut unheard),
+                at,
+            );
             watched(rt, paths, &settled, found, notes)
         }
         verdict => Ok(verdict),
     }
 }
 
-/// What is found of opened files, at a commit or as their log has them.
+/// What is found of opened files within limits, at a commit or as their log has them.
 fn judged_in<R: Files + AllocGlobal>(
     rt: &R,
+    limits: Limits,
     opened: Result<Contents<'_, R::File>, Refusal>,
     at: Option<u32>,
 ) -> Result<Finding, Refusal>
@@ -94,7 +107,7 @@ where
     let db = ReadAhead::new(alloc, db, PIECE)?;
     let wal = ReadAhead::new(alloc, wal, 0)?;
     let journal = ReadAhead::new(alloc, journal, 0)?;
-    judged(alloc, db, wal, journal, at)
+    judged(alloc, limits, db, wal, journal, at)
 }
 
 /// The verdict on files, if they are as they were before, and the frames of the log that counted still stand.

@@ -50,12 +50,20 @@ fn at_arg<'a>(alloc: Global) -> Arg<'a> {
         )
 }
 
+fn large_arg<'a>(alloc: Global) -> Arg<'a> {
+    Arg::new(alloc, "large")
+        .long("large")
+        .action(ArgAction::SetTrue)
+        .help("Takes a database above 1,073,741,824 bytes, and a log above 2,097,152 frames")
+}
+
 /// A command with the file and the options that each has.
 fn base_command<'a>(
     alloc: Global,
     name: &'a str,
     about: &'a str,
     at: Arg<'a>,
+    large: Arg<'a>,
 ) -> Result<Command<'a>, AllocError> {
     Command::new(alloc, name)
         .about(about)
@@ -63,6 +71,7 @@ fn base_command<'a>(
         .arg(verbose_arg(alloc))?
         .arg(json_arg(alloc))?
         .arg(at)?
+        .arg(large)?
         .arg(super_journal_arg(alloc))
 }
 
@@ -102,6 +111,7 @@ fn show_command<'a>(alloc: Global) -> Result<Command<'a>, AllocError> {
         "show",
         "Shows the header of the database as its log has it; writes nothing",
         at_arg(alloc),
+        large_arg(alloc),
     )?
     .arg(page)?
     .arg(pages)?
@@ -128,6 +138,7 @@ fn recover_command<'a>(alloc: Global) -> Result<Command<'a>, AllocError> {
         "Recovers the database: folds its write-ahead log into it, or rolls it back by its hot journal; \
          nobody else may have it open meanwhile",
         at_arg(alloc).requires_arg("to")?,
+        large_arg(alloc).requires_arg("to")?,
     )?
     .arg(to)?
     .arg(force)
@@ -145,6 +156,7 @@ fn report_command<'a>(alloc: Global) -> Result<Command<'a>, AllocError> {
         "report",
         "Makes a page of HTML that shows the database and its log; writes neither FILE nor its logs",
         at_arg(alloc),
+        large_arg(alloc),
     )?
     .arg(to)
 }
@@ -160,6 +172,7 @@ pub(crate) fn command<'a>(alloc: Global) -> Result<Command<'a>, AllocError> {
         "check",
         "Checks the database as its log has it; writes nothing",
         at_arg(alloc),
+        large_arg(alloc),
     )?;
     Command::new(alloc, "sqrescue")
         .about("Reads and recovers SQLite databases with their logs")

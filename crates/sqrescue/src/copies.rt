@@ -1,24 +1,24 @@
 //! A file that holds what a recovery would leave in a database file, of which nothing is written.
-use crate::fronts::{Front, as_before};
+use crate::fronts::as_before;
 use crate::hints::{tell_length, told};
 use crate::journals::names_super_journal;
+use crate::limits::limits_of;
 use crate::logs::{Beside, open_logs, opened};
-use crate::notes::Notes;
 use crate::opened_file::OpenedFile;
-use crate::outcome::{Outcome, Refusal};
 use crate::paths::{Paths, folder_of, is_log_of, paths_of};
-use crate::requests::{Options, SuperJournal};
 use crate::showing::ShowError;
 use crate::texts::write_outcome;
 use crate::views::view_of;
-use crate::watch::{Readings, readings_of, time_to_wait};
+use crate::watch::{readings_of, time_to_wait};
+use sqfacts::{Front, Notes, Outcome, Readings, Refusal};
 use sqjournal::JournalError;
 use sqpage::{PageSource, has_magic, named_page_size};
-use sqval::PageSize;
+use sqval::{Limits, PageSize};
 use sqview::{
-    CopyError, FileBytes, LogInUse, ReadAhead, View, copy, log_in_use, replay_log, scan_log,
+    CopyError, FileBytes, LogInUse, ReadAhead, View, copy, log_in_use, replay_log, scan_log_within,
 };
 use sqwal::{Scan, WalFormatError};
+use sqwords::{Options, SuperJournal};
 use std::alloc::Global;
 use std::fs::{self, OpenFile, OpenOptions};
 use std::io::Write;
@@ -139,16 +139,16 @@ where
     let mode = said.mode() & 0o777;
     let mut db = opened(rt, &paths.db, Some(said), 0, notes)?;
     tell_length(notes, paths.db.as_str(), &mut db);
-    let alloc = rt.alloc();
+    let (alloc, limits) = (rt.alloc(), limits_of(options));
     let in_use = log_in_use(&wal, &mut journal)?;
     let (outcome, content) = match (in_use, options.at) {
         (_, Some(0)) => (Outcome::NoFront, Content::File(db)),
-        (LogInUse::Wal, at) => folded(alloc, db, wal, at)?,
+        (LogInUse::Wal, at) => folded(alloc, limits, db, wal, at)?,
         (_, Some(_)) => return Err(Refusal::NoSuchCommit),
         (LogInUse::Neither, None) => (Outcome::Nothing, Content::File(db)),
         (LogInUse::Journal(_), None) => {
             let counts = options.super_journal == Some(SuperJournal::Present);
-            rolled_back(alloc, db, journal, counts)?
+            rolled_back(alloc, limits, db, journal, counts)?
         }
     };
     Ok(Found {
@@ -159,8 +159,12 @@ where
 }
 
 /// The scan of a log, and the size of its pages. None where its header isn't valid, or it has no front.
-fn scanned<F: FileBytes>(alloc: Global, wal: &mut F) -> Result<Option<(Scan, PageSize)>, Refusal> {
-    let scan = match scan_log(alloc, wal)? {
+fn scanned<F: FileBytes>(
+    alloc: Global,
+    limits: Limits,
+    wal: &mut F,
+) -> Result<Option<(Scan, PageSize)>, Refusal> {
+    let scan = match scan_log_within(alloc, limits, wal)? {
         Ok(scan) => scan,
         Err(WalFormatError::TooLong) => return Err(Refusal::TooLarge),
         Err(WalFormatError::NoMemory) => return Err(Refusal::NoMemory),
@@ -176,12 +180,13 @@ fn scanned<F: FileBytes>(alloc: Global, wal: &mut F) -> Result<Option<(Scan, Pag
 /// What is left where a log that isn't empty is folded, up to a commit frame or the front.
 fn folded<'a, F: FileExt + Drop>(
     alloc: Global,
+    limits: Limits,
     db: OpenedFile<'a, F>,
     wal: OpenedFile<'a, F>,
     at: Option<u32>,
 ) -> Result<(Outcome, Content<'a, F>), Refusal> {
     let (mut db, mut wal) = (db, wal);
-    let Some((scan, page_size)) = scanned(alloc, &mut wal)? else {
+    let Some((scan, page_size)) = scanned(alloc, limits, &mut wal)? else {
         return match at {
             Some(_) => Err(Refusal::NoSuchCommit),
             None => Ok((Outcome::NoFront, Content::File(db))),
@@ -193,7 +198,7 @@ fn folded<'a, F: FileExt + Drop>(
     let frame = at.unwrap_or(scan.committed().frames);
     let db = ReadAhead::new(alloc, db, PIECE)?;
     let wal = ReadAhead::new(alloc, wal, PIECE)?;
-    let view = View::of_scan(alloc, db, wal, &scan, frame)?;
+    let view = View::of_scan_within(alloc, limits, db, wal, &scan, frame)?;
     let outcome = Outcome::Folded {
         frames: view.front(),
         pages: view.count(),
@@ -215,6 +220,7 @@ fn has_other_size<F: FileBytes>(db: &mut F, page_size: PageSize) -> Result<bool,
 /// count.
 fn rolled_back<'a, F: FileExt + Drop>(
     alloc: Global,
+    limits: Limits,
     db: OpenedFile<'a, F>,
     journal: OpenedFile<'a, F>,
     counts: bool,
@@ -232,7 +238,7 @@ fn rolled_back<'a, F: FileExt + Drop>(
     let db = ReadAhead::new(alloc, db, PIECE)?;
     let wal = ReadAhead::new(alloc, OpenedFile::missing(), 0)?;
     let journal = ReadAhead::new(alloc, journal, PIECE)?;
-    let view = view_of(alloc, db, wal, journal, None)?;
+    let view = view_of(alloc, limits, db, wal, journal, None)?;
     let outcome = Outcome::RolledBack {
         records,
         pages: view.count(),

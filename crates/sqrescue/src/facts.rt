@@ -1,6 +1,6 @@
 //! Facts of a word and a value, as a line of both or as a JSON object. No text of a file stands in one but as hex, so
 //! that none needs an escape.
-use crate::requests::Style;
+use sqwords::Style;
 use std::io::{self, Write};
 
 /// A word, and what stands behind it.

@@ -1,10 +1,9 @@
 //! What `-v` says of the files, of the log that counts, and of what is to be done after a refusal.
 ghost use Rattle.std.specs.Prelude.{◌<◌};
 
-use crate::notes::Notes;
 use crate::opened_file::OpenedFile;
-use crate::outcome::Refusal;
 use crate::paths::Paths;
+use sqfacts::{Notes, Refusal};
 use sqpage::{has_magic, named_page_size};
 use sqview::FileBytes;
 use sqwal::Scan;
@@ -140,8 +139,8 @@ pub(crate) fn tell_dropped<E: Write>(notes: &mut Notes<'_, E>, length: u64, scan
     }
 }
 
-/// What to do after a refusal.
-pub(crate) fn next_step(refusal: Refusal) -> &'static str {
+/// What to do after a refusal; where large files were asked for, they aren't named.
+pub(crate) fn next_step(refusal: Refusal, is_large: bool) -> &'static str {
     match refusal {
         Refusal::InUse =>
             "another process has a lock on the file: end it, or give --force if it won't touch the file again",
@@ -152,8 +151,10 @@ pub(crate) fn next_step(refusal: Refusal) -> &'static str {
             "the log's header names another version than 3007000: look at it by show --log",
         Refusal::PageSizesDiffer =>
             "the log is of another database: look at both by show and show --log",
+        Refusal::TooLarge if is_large =>
+            "above 1,099,511,627,776 bytes, or too long a log: that can't be read",
         Refusal::TooLarge =>
-            "above 1,073,741,824 bytes, or too long a log: that needs --large, which isn't there yet",
+            "above 1,073,741,824 bytes, or too long a log: give --large, with recover also --to",
         Refusal::TwoLogs => "look at both logs, move one away, and call this again",
         Refusal::SuperJournal =>
             "see whether the super-journal is there, and give --super-journal=present or =gone",

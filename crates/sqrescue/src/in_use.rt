@@ -1,9 +1,8 @@
 //! Whether another process has a database open.
 ghost use Rattle.std.specs.Prelude.{◌≡◌, ◌<◌, ◌≤◌, ◌-◌, ℕ, length, slice_index, EachIndex, IfOk};
 
-use crate::locks::{Identity, identity_of, is_locked};
-use crate::outcome::Refusal;
 use crate::paths::{Paths, is_missing, look_at};
+use sqfacts::{Guard, Identity, Refusal, identity_of, is_locked};
 use std::fs::OpenOptions;
 use std::io::{self, ErrorKind, Read};
 use std::rt::Files;
@@ -14,12 +13,6 @@ const LOCKS: &str = "/proc/locks";
 
 /// How many bytes of the list are held at once. A line of it has some 80, and what is longer is no line of a lock.
 const ROOM: usize = 8192;
-
-/// What is asked before files are changed.
-pub trait Guard: Drop {
-    /// Refused where they aren't to be changed.
-    fn ask(&self) -> Result<(), Refusal>;
-}
 
 /// Asks whether a process holds a POSIX lock on a database file or on its FILE-shm, as each connection of SQLite does
 /// that reads, writes, or has a database in WAL mode open. Where the locks can't be read, nothing is refused. It asks

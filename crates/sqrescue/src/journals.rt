@@ -1,12 +1,12 @@
 //! What a journal says that decides whether it counts, here and for SQLite.
 ghost use Rattle.std.specs.Prelude.{◌≡◌, ◌↔◌, IsTrue, Some};
-ghost use Rattle.sqrescue.specs.declared.requests.SuperJournal.TheVariants.{Gone};
+ghost use Rattle.sqwords.specs.declared.requests.SuperJournal.TheVariants.{Gone};
 
 use crate::opened_file::OpenedFile;
-use crate::requests::SuperJournal;
 use sqjournal::{JournalHeader, is_magic};
 use sqpage::SourceError;
 use sqview::FileBytes;
+use sqwords::SuperJournal;
 use std::os::unix::fs::FileExt;
 
 /// Whether a journal ends as one does that names a super-journal: with the magic.

@@ -1,9 +1,10 @@
 //! What a report says of the log that counts.
 use crate::opened_file::OpenedFile;
-use crate::outcome::Refusal;
 use crate::texts::{record_stop_name, stop_name};
+use sqfacts::Refusal;
 use sqjournal::{JournalError, Replay};
-use sqview::{FileBytes, LogInUse, log_in_use, replay_log, scan_log};
+use sqval::Limits;
+use sqview::{FileBytes, LogInUse, log_in_use, replay_log, scan_log_within};
 use sqwal::{Scan, WalFormatError};
 use std::alloc::Global;
 use std::io::{self, Write};
@@ -23,16 +24,17 @@ pub(crate) enum LogFound {
     Journal(Replay),
 }
 
-/// The log that counts of these.
+/// The log that counts of these, within limits.
 pub(crate) fn log_of<F: FileExt + Drop>(
     alloc: Global,
+    limits: Limits,
     wal: OpenedFile<'_, F>,
     journal: OpenedFile<'_, F>,
 ) -> Result<LogFound, Refusal> {
     let (mut wal, mut journal) = (wal, journal);
     match log_in_use(&wal, &mut journal)? {
         LogInUse::Neither => Ok(LogFound::None),
-        LogInUse::Wal => match scan_log(alloc, &mut wal)? {
+        LogInUse::Wal => match scan_log_within(alloc, limits, &mut wal)? {
             Ok(scan) => match scan.commits(alloc) {
                 Ok(commits) => Ok(LogFound::Wal {
                     scan,

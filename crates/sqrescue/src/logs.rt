@@ -1,14 +1,12 @@
 //! The opened files of a database.
 use crate::hints::{Logs, tell_choice, tell_length, told, told_kind};
 use crate::journals::{is_out_of_force, is_valid_for_sqlite_alone, names_super_journal};
-use crate::locks::identity_of;
-use crate::notes::Notes;
 use crate::opened_file::OpenedFile;
-use crate::outcome::Refusal;
 use crate::paths::{Paths, are_apart, is_missing, look_at};
 use crate::place::Place;
-use crate::requests::SuperJournal;
+use sqfacts::{Notes, Refusal, identity_of};
 use sqview::{FileBytes, hot_header};
+use sqwords::SuperJournal;
 use std::fs::{Metadata, OpenOptions};
 use std::io::Write;
 use std::os::unix::fs::FileExt;

@@ -3,11 +3,9 @@ ghost use Rattle.std.specs.Prelude.{◌≡◌, ◌<◌, ◌≤◌, length, IfOk,
 ghost use Rattle.sqval.specs.PageSize.{IsPageSize};
 ghost use Rattle.sqpage.specs.Chain.{payload_size};
 
-use crate::faults::is_unsound;
-use crate::outcome::Refusal;
-use crate::runs::number_of;
 use crate::showing::usable_size;
 use sqcheck::{Role, Survey};
+use sqfacts::{Refusal, is_unsound, number_of};
 use sqpage::{BtreePage, Cell, Fault, Kind, PageSource, payload};
 use sqval::{Record, Value};
 use sqview::{FileBytes, View};

@@ -1,17 +1,14 @@
 //! What `show --pages` prints.
-use crate::faults::first_fault;
 use crate::names::Names;
-use crate::notes::Notes;
-use crate::outcome::Refusal;
 use crate::paths::paths_of;
-use crate::requests::{Options, Style};
-use crate::runs::number_of;
 use crate::showing::ShowError;
 use crate::surveys::{Found, Surveyed, settled_survey};
 use crate::texts::{kind_name, write_fault, write_hex, write_report};
 use sqcheck::Role;
+use sqfacts::{Notes, Refusal, first_fault, number_of};
 use sqpage::{Fault, PageSource};
 use sqview::FileBytes;
+use sqwords::{Options, Style};
 use std::io::{self, BufWriter, Write};
 use std::os::unix::fs::FileExt;
 use std::rt::Files;
@@ -62,6 +59,8 @@ pub(crate) fn use_of(role: Role) -> (&'static str, Option<u32>) {
         Role::FreeTrunk => ("free trunk", None),
         Role::FreeLeaf => ("free leaf", None),
         Role::Unused => ("unused", None),
+        Role::PointerMap => ("pointer map", None),
+        Role::LockByte => ("lock byte", None),
     }
 }
 

@@ -2,12 +2,9 @@
 ghost use Rattle.std.specs.Prelude.{◌↔◌, IsTrue};
 ghost use Rattle.sqrescue.specs.Paths.{AreApart};
 
-use crate::file_disk::read_or_zeros;
 use crate::hints::told;
-use crate::locks::{Identity, identity_of};
-use crate::notes::Notes;
-use crate::outcome::Refusal;
 use crate::place::Place;
+use sqfacts::{Identity, Notes, Refusal, identity_of, read_or_zeros};
 use sqjournal::is_magic;
 use std::alloc::Global;
 use std::fs::{Metadata, OpenOptions};

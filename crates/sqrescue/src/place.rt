@@ -1,5 +1,5 @@
 //! The path of a file, and why it couldn't be read.
-use crate::notes::Notes;
+use sqfacts::Notes;
 use sqpage::SourceError;
 use std::cell::RefCell;
 use std::io::{self, Write};

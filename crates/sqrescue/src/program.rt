@@ -4,15 +4,14 @@ ghost use Rattle.std.specs.Prelude.{◌≤◌};
 use crate::checking::check;
 use crate::copies::recover_to;
 use crate::hints::next_step;
-use crate::notes::Notes;
-use crate::outcome::Refusal;
 use crate::pages::show_pages;
 use crate::recovery::recover;
 use crate::reports::report_to;
-use crate::requests::{LineError, Options, Part, Request, Style};
 use crate::showing::{ShowError, show};
 use crate::texts::write_outcome;
-use crate::words::request;
+use crate::words::{LineError, request};
+use sqfacts::{Notes, Refusal, Status};
+use sqwords::{Options, Part, Request, Style};
 use std::fmt::Display;
 use std::io::{self, Write};
 use std::os::unix::fs::FileExt;
@@ -21,14 +20,6 @@ use std::time::Clock;
 
 /// The line of `--version`.
 pub(crate) const VERSION: &str = "sqrescue 0.1.0";
-
-const DONE: u8 = 0;
-
-const DAMAGED: u8 = 1;
-
-const NOT_UNDERSTOOD: u8 = 2;
-
-const REFUSED: u8 = 3;
 
 /// Carries out a command line, whose first word is the program's name, and answers the program's status: 0 where it is
 /// done (also for help), 1 where `check` found damage, 2 for words that aren't understood, 3 where it was refused or a
@@ -43,27 +34,39 @@ where
     R::File: FileExt,
     ensures { result ≤ 3 }
 {
+    status_of(rt, words, out, err).code()
+}
+
+fn status_of<R: Files + AllocGlobal + Clock, O: Write, E: Write>(
+    rt: &R,
+    words: &[&str],
+    out: &mut O,
+    err: &mut E,
+) -> Status
+where
+    R::File: FileExt,
+{
     let request = match request(rt.alloc(), words) {
         Ok(request) => request,
-        Err(LineError::Help(help)) => return printed(out, &help, DONE),
-        Err(LineError::NotUnderstood(fault)) => return printed(err, &fault, NOT_UNDERSTOOD),
+        Err(LineError::Help(help)) => return printed(out, &help, Status::Done),
+        Err(LineError::NotUnderstood(fault)) => return printed(err, &fault, Status::NotUnderstood),
         Err(LineError::NoMemory) => return refused(err, &LineError::NoMemory),
     };
     let options = options_of(&request);
     let mut notes = Notes::new(err, options.is_some_and(|options| options.verbose));
     let answer = carried_out(rt, request, out, &mut notes);
     if let Err(ShowError::Refused(refusal)) = answer {
-        notes.tell(&next_step(refusal));
+        notes.tell(&next_step(refusal, options.is_some_and(|options| options.large)));
     }
     let failed = notes.have_failed();
     drop(notes);
     match answer {
-        Ok(_) if failed => REFUSED,
-        Ok(Answer::Done) => DONE,
-        Ok(Answer::Damaged) => DAMAGED,
+        Ok(_) if failed => Status::Refused,
+        Ok(Answer::Done) => Status::Done,
+        Ok(Answer::Damaged) => Status::Damaged,
         Err(ShowError::Refused(refusal)) if is_json(options) => refused_as_object(out, refusal),
         Err(ShowError::Refused(refusal)) => refused(err, &refusal),
-        Err(ShowError::Unwritten) => REFUSED,
+        Err(ShowError::Unwritten) => Status::Refused,
     }
 }
 
@@ -149,10 +152,15 @@ where
 pub(crate) fn unread<E: Write>(err: &mut E, error: &io::Error) -> u8
     ensures { result ≤ 3 }
 {
-    match error.kind() {
+    let status = match error.kind() {
         io::ErrorKind::OutOfMemory => refused(err, &LineError::NoMemory),
-        _ => printed(err, &"sqrescue: the words aren't text", NOT_UNDERSTOOD),
-    }
+        _ => printed(
+            err,
+            &"sqrescue: the words aren't text",
+            Status::NotUnderstood,
+        ),
+    };
+    status.code()
 }
 
 fn line<W: Write, T: Display>(writer: &mut W, text: &T) -> io::Result<()> {
@@ -160,30 +168,23 @@ fn line<W: Write, T: Display>(writer: &mut W, text: &T) -> io::Result<()> {
     writer.flush()
 }
 
-/// The status, or 3 where the line can't be written.
-fn printed<W: Write, T: Display>(writer: &mut W, text: &T, status: u8) -> u8
-    requires { status ≤ 3 }
-    ensures { result ≤ 3 }
-{
+/// The status, or that of a refusal where the line can't be written.
+fn printed<W: Write, T: Display>(writer: &mut W, text: &T, status: Status) -> Status {
     match line(writer, text) {
         Ok(()) => status,
-        Err(_) => REFUSED,
+        Err(_) => Status::Refused,
     }
 }
 
-fn refused<W: Write, T: Display>(err: &mut W, text: &T) -> u8
-    ensures { result ≤ 3 }
-{
+fn refused<W: Write, T: Display>(err: &mut W, text: &T) -> Status {
     let _ = line(err, &format_args!("sqrescue: {text}"));
-    REFUSED
+    Status::Refused
 }
 
 /// A refusal on standard output.
-fn refused_as_object<W: Write>(out: &mut W, refusal: Refusal) -> u8
-    ensures { result ≤ 3 }
-{
+fn refused_as_object<W: Write>(out: &mut W, refusal: Refusal) -> Status {
     let _ = write_refusal(out, refusal);
-    REFUSED
+    Status::Refused
 }
 
 fn write_refusal<W: Write>(out: &mut W, refusal: Refusal) -> io::Result<()> {

@@ -1,5 +1,5 @@
 //! The records of a hot journal, by the place of their pages.
-use crate::outcome::Refusal;
+use sqfacts::Refusal;
 use sqjournal::{JournalError, Replay};
 use sqview::{FileBytes, hot_header, replay_log};
 use std::alloc::Global;

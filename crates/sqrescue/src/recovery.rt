@@ -1,21 +1,19 @@
 //! The recovery of a database file from the log beside it.
 ghost use Rattle.std.specs.Prelude.{◌≡◌};
 
-use crate::file_disk::{FileDisk, metadata_of, read_or_zeros};
 use crate::hints::{tell_dropped, tell_length, told};
-use crate::in_use::{Guard, OpenElsewhere};
+use crate::in_use::OpenElsewhere;
 use crate::logs::{Beside, open_logs, opened};
-use crate::notes::Notes;
 use crate::opened_file::OpenedFile;
-use crate::outcome::{Outcome, Refusal};
 use crate::paths::{Paths, paths_of};
-use crate::requests::SuperJournal;
 use rollcore::replay;
+use sqfacts::{FileDisk, Guard, Notes, Outcome, Refusal, metadata_of, read_or_zeros};
 use sqjournal::is_magic;
 use sqpage::{has_magic, named_page_size};
 use sqval::PageSize;
 use sqview::{FileBytes, LogInUse, log_in_use, scan_log};
 use sqwal::{Scan, WalFormatError, WalHeader};
+use sqwords::SuperJournal;
 use std::alloc::Global;
 use std::fs::{Metadata, OpenFile, OpenOptions};
 use std::io::{self, Write};

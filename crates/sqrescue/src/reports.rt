@@ -2,23 +2,22 @@
 use crate::copies::{new_file, sync_folder};
 use crate::fronts::as_before;
 use crate::hints::told;
+use crate::limits::limits_of;
 use crate::logged::{LogFound, log_of, write_log_facts};
 use crate::logs::open_logs;
 use crate::names::read_page;
-use crate::notes::Notes;
-use crate::outcome::Refusal;
 use crate::pages::{Logged, write_verdict};
 use crate::paths::{Paths, is_log_of, look_at, paths_of};
 use crate::program::VERSION;
 use crate::report_page::{HEAD, TAIL};
-use crate::requests::{Options, Style};
-use crate::runs::{Run, number_of, runs_of, uses_of};
 use crate::showing::ShowError;
 use crate::surveys::{Found, Surveyed, surveyed_now};
 use crate::texts::{fields_of, write_hex};
 use crate::watch::{readings_of, time_to_wait};
 use sqcheck::Role;
+use sqfacts::{Notes, Refusal, Run, number_of, runs_of, uses_of};
 use sqpage::{DbHeader, Kind, PageSource};
+use sqwords::{Options, Style};
 use std::alloc::Global;
 use std::fs::{self, OpenFile};
 use std::io::{self, BufWriter, Write};
@@ -115,7 +114,7 @@ where
     let mut nowhere = io::sink();
     let mut unheard = Notes::new(&mut nowhere, false);
     let logs = open_logs(rt, paths, options.super_journal, options.at, &mut unheard)?;
-    let log = log_of(alloc, logs.wal, logs.journal)?;
+    let log = log_of(alloc, limits_of(options), logs.wal, logs.journal)?;
     let mut found = surveyed_now(rt, paths, options, notes)?;
     let (mut head, mut trees, mut runs) = (None, Vec::new(alloc), Vec::new(alloc));
     if let Found::Pages(pages) = &mut found {
@@ -156,6 +155,8 @@ fn numbers_of(role: Role) -> (u8, u32) {
         Role::FreeTrunk => (5, 0),
         Role::FreeLeaf => (6, 0),
         Role::Unused => (7, 0),
+        Role::PointerMap => (8, 0),
+        Role::LockByte => (9, 0),
     }
 }
 

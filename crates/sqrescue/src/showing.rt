@@ -5,29 +5,29 @@ ghost use Rattle.sqpage.specs.Chain.{payload_size};
 ghost use Rattle.sqpage.specs.Header.{byte};
 ghost use Rattle.sqval.specs.Database.{page as page_at};
 ghost use Rattle.sqview.specs.LogView.{pages_of};
-ghost use Rattle.sqrescue.specs.declared.outcome.Refusal.TheVariants.{FileFailed, NoMemory};
+ghost use Rattle.sqfacts.specs.declared.outcome.Refusal.TheVariants.{FileFailed, NoMemory};
 ghost use Rattle.sqrescue.specs.declared.showing.ShowError.TheVariants.{Refused, Unwritten};
 
 use crate::behind::{Shown, show_behind};
 use crate::facts::{number, write_facts};
-use crate::fronts::{Front, as_before};
+use crate::fronts::as_before;
+use crate::limits::limits_of;
 use crate::logs::{Beside, Contents, open_all, open_logs};
-use crate::notes::Notes;
-use crate::outcome::Refusal;
 use crate::paths::{Paths, paths_of};
 use crate::payloads::{Payloads, Unfit};
-use crate::requests::{Options, Part, Style};
 use crate::texts::{
     write_bytes, write_cell, write_commits, write_header, write_journal, write_log, write_none,
     write_page, write_record, write_unfit,
 };
 use crate::views::view_of;
-use crate::watch::{Readings, readings_of};
+use crate::watch::readings_of;
+use sqfacts::{Front, Notes, Readings, Refusal};
 use sqjournal::JournalError;
 use sqpage::{BtreePage, Cell, DbHeader, Fault, PageSource, SourceError, payload};
-use sqval::Record;
-use sqview::{FileBytes, LogInUse, View, log_in_use, replay_log, scan_log};
+use sqval::{Limits, Record};
+use sqview::{FileBytes, LogInUse, View, log_in_use, replay_log, scan_log_within};
 use sqwal::{Scan, WalFormatError};
+use sqwords::{Options, Part, Style};
 use std::alloc::{AllocError, Global};
 use std::io::{self, BufWriter, Write};
 use std::os::unix::fs::FileExt;
@@ -157,7 +157,6 @@ where
     let Options {
         super_journal,
         at,
-        style,
         ..
     } = options;
     match part {
@@ -172,11 +171,11 @@ where
         Part::Log { all: false } => {
             let Beside { wal, journal, .. } = open_logs(rt, paths, super_journal, at, notes)?;
             let (mut wal, mut journal) = (wal, journal);
-            Ok(show_log(rt.alloc(), &mut wal, &mut journal, style, out)?.front())
+            Ok(show_log(rt.alloc(), &mut wal, &mut journal, options, out)?.front())
         }
         Part::Log { all: true } => {
             let files = open_all(rt, paths, super_journal, at, notes)?;
-            show_whole_log(rt, files, style, out)
+            show_whole_log(rt, files, options, out)
         }
         // Written by `show_pages`.
         Part::Pages => Ok(None),
@@ -184,7 +183,7 @@ where
             show_commits(
                 rt,
                 open_logs(rt, paths, super_journal, at, notes)?,
-                style,
+                options,
                 out,
             )
         }
@@ -202,7 +201,9 @@ where
 {
     let alloc = rt.alloc();
     let Contents { db, wal, journal } = files;
-    let mut view = view_of(alloc, db, wal, journal, options.at).map_err(Refusal::from)?;
+    let mut view = view_of(alloc, limits_of(options), db, wal, journal, options.at).map_err(
+        Refusal::from,
+    )?;
     if view.count() == 0 {
         return Err(ShowError::Refused(Refusal::NotADatabase));
     }
@@ -263,7 +264,9 @@ where
 {
     let alloc = rt.alloc();
     let Contents { db, wal, journal } = files;
-    let mut view = view_of(alloc, db, wal, journal, options.at).map_err(Refusal::from)?;
+    let mut view = view_of(alloc, limits_of(options), db, wal, journal, options.at).map_err(
+        Refusal::from,
+    )?;
     let first = page_of(alloc, &mut view, 1)?;
     let usable = usable_size(&first);
     let page = page_of(alloc, &mut view, number)?;
@@ -336,8 +339,12 @@ fn show_payload<F: FileBytes, W: Write>(
 }
 
 /// The scan of a log, or the number of what refuses its header.
-fn scanned<F: FileBytes>(alloc: Global, wal: &mut F) -> Result<Result<Scan, u8>, Refusal> {
-    match scan_log(alloc, wal)? {
+fn scanned<F: FileBytes>(
+    alloc: Global,
+    limits: Limits,
+    wal: &mut F,
+) -> Result<Result<Scan, u8>, Refusal> {
+    match scan_log_within(alloc, limits, wal)? {
         Ok(scan) => Ok(Ok(scan)),
         Err(WalFormatError::TooLong) => Err(Refusal::TooLarge),
         Err(WalFormatError::NoMemory) => Err(Refusal::NoMemory),
@@ -350,15 +357,16 @@ fn show_log<F: FileBytes, W: Write>(
     alloc: Global,
     wal: &mut F,
     journal: &mut F,
-    style: Style,
+    options: Options,
     out: &mut W,
 ) -> Result<Shown, ShowError> {
+    let style = options.style;
     match log_in_use(wal, journal).map_err(Refusal::from)? {
         LogInUse::Neither => {
             write_none(out, style, "log")?;
             Ok(Shown::Neither)
         }
-        LogInUse::Wal => match scanned(alloc, wal)? {
+        LogInUse::Wal => match scanned(alloc, limits_of(options), wal)? {
             Ok(scan) => {
                 write_log(out, style, &scan)?;
                 Ok(Shown::Wal(scan))
@@ -384,7 +392,7 @@ fn show_log<F: FileBytes, W: Write>(
 fn show_whole_log<R: Files + AllocGlobal, W: Write>(
     rt: &R,
     files: Contents<'_, R::File>,
-    style: Style,
+    options: Options,
     out: &mut W,
 ) -> Result<Option<Front>, ShowError>
 where
@@ -392,12 +400,12 @@ where
 {
     let Contents { db, wal, journal } = files;
     let (mut db, mut wal, mut journal) = (db, wal, journal);
-    let shown = show_log(rt.alloc(), &mut wal, &mut journal, style, out)?;
+    let shown = show_log(rt.alloc(), &mut wal, &mut journal, options, out)?;
     show_behind(
         rt.alloc(),
         (&mut db, &mut wal, &mut journal),
         &shown,
-        style,
+        options.style,
         out,
     )?;
     Ok(shown.front())
@@ -411,18 +419,18 @@ fn commits_of(alloc: Global, scan: &Scan) -> Result<Vec<u32>, Refusal> {
 fn show_commits<R: Files + AllocGlobal, W: Write>(
     rt: &R,
     logs: Beside<'_, R::File>,
-    style: Style,
+    options: Options,
     out: &mut W,
 ) -> Result<Option<Front>, ShowError>
 where
     R::File: FileExt,
 {
-    let alloc = rt.alloc();
+    let (alloc, style) = (rt.alloc(), options.style);
     let Beside { wal, journal, .. } = logs;
     let mut wal = wal;
     let mut journal = journal;
     match log_in_use(&wal, &mut journal).map_err(Refusal::from)? {
-        LogInUse::Wal => match scanned(alloc, &mut wal)? {
+        LogInUse::Wal => match scanned(alloc, limits_of(options), &mut wal)? {
             Ok(scan) => {
                 write_commits(out, style, &scan, &commits_of(alloc, &scan)?)?;
                 return Ok(Front::of_scan(&scan));

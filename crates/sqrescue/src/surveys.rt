@@ -3,20 +3,21 @@ ghost use Rattle.std.specs.Prelude.{IfOk};
 ghost use Rattle.sqview.specs.LogView.{pages_of};
 ghost use Rattle.sqrescue.specs.Pages.{IsSurveyed};
 
-use crate::fronts::{Front, as_before};
+use crate::fronts::as_before;
+use crate::limits::limits_of;
 use crate::logs::{Contents, open_all};
 use crate::names::{Names, names_in};
-use crate::notes::Notes;
 use crate::opened_file::OpenedFile;
-use crate::outcome::Refusal;
 use crate::paths::Paths;
 use crate::records::{Records, records_in};
-use crate::requests::Options;
 use crate::views::view_of;
-use crate::watch::{Readings, readings_of, time_to_wait, unchanged};
+use crate::watch::{readings_of, time_to_wait};
 use sqcheck::{Survey, survey_pages};
+use sqfacts::{Front, Notes, Readings, Refusal, unchanged};
 use sqpage::{CheckError, Fault};
+use sqval::Limits;
 use sqview::{FileBytes, ReadAhead, View, ViewError};
+use sqwords::Options;
 use std::alloc::Global;
 use std::io::{self, Write};
 use std::os::unix::fs::FileExt;
@@ -90,9 +91,10 @@ fn survey_of<F: FileBytes>(
     }
 }
 
-/// What a survey of opened files finds, at a commit or as their log has them.
+/// What a survey of opened files finds within limits, at a commit or as their log has them.
 fn survey_files<'a, F: FileExt + Drop>(
     alloc: Global,
+    limits: Limits,
     files: Contents<'a, F>,
     at: Option<u32>,
 ) -> Result<Found<'a, F>, Refusal> {
@@ -101,7 +103,7 @@ fn survey_files<'a, F: FileExt + Drop>(
     let records = records_in(alloc, &mut journal)?;
     let db = ReadAhead::new(alloc, db, PIECE)?;
     let wal = ReadAhead::new(alloc, wal, 0)?;
-    let mut view = match view_of(alloc, db, wal, journal, at) {
+    let mut view = match view_of(alloc, limits, db, wal, journal, at) {
         Ok(view) => view,
         Err(ViewError::Header(fault)) => return Ok(Found::Nothing(CheckError { page: 1, fault })),
         Err(error) => return Err(Refusal::from(error)),
@@ -131,7 +133,7 @@ where
     R::File: FileExt,
 {
     let files = open_all(rt, paths, options.super_journal, options.at, notes)?;
-    survey_files(rt.alloc(), files, options.at)
+    survey_files(rt.alloc(), limits_of(options), files, options.at)
 }
 
 /// What was found of files, if they are as they were before, and the frames of the log that counted still stand.

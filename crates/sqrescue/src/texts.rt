@@ -1,13 +1,13 @@
 //! What is printed of a database and its logs: lines, or a JSON object a line.
 use crate::facts::{Fact, Line, number, write_facts, write_object};
-use crate::outcome::Outcome;
 use crate::payloads::Unfit;
-use crate::requests::Style;
 use sqcheck::Report;
+use sqfacts::Outcome;
 use sqjournal::Replay;
 use sqpage::{BtreePage, Cell, CheckError, DbHeader, Kind};
 use sqval::{Record, Value};
 use sqwal::{Entry, Scan};
+use sqwords::Style;
 use std::io::{self, Write};
 
 /// How many bytes are written as hex at once.

@@ -2,27 +2,28 @@
 ghost use Rattle.std.specs.Prelude.{IfOk};
 ghost use Rattle.sqrescue.specs.Views.{AskedAnswer, IsFound};
 
-use crate::fronts::Front;
-use crate::outcome::Refusal;
+use sqfacts::{Front, Refusal};
+use sqval::Limits;
 use sqview::{FileBytes, Verdict, View, ViewError, judge_view, without_view};
 use std::alloc::Global;
 
-/// The view of a file with its logs, at a commit frame where one is named.
+/// The view of a file with its logs within limits, at a commit frame where one is named.
 pub(crate) fn view_of<F: FileBytes + Drop>(
     alloc: Global,
+    limits: Limits,
     db: F,
     wal: F,
     journal: F,
     at: Option<u32>,
 ) -> Result<View<F>, ViewError>
     ensures answer { F.gives_bytes db × F.gives_bytes wal × F.gives_bytes journal
-        → AskedAnswer F.bytes at (F.bytes db) (F.bytes wal) (F.bytes journal) result }
+        → AskedAnswer limits F.bytes at (F.bytes db) (F.bytes wal) (F.bytes journal) result }
     ensures still_gives { F.gives_bytes db × F.gives_bytes wal × F.gives_bytes journal
         → IfOk result (λ view. F.gives_bytes view.db × F.gives_bytes view.log) }
 {
     match at {
-        Some(frame) => View::at(alloc, db, wal, journal, frame),
-        None => View::new(alloc, db, wal, journal),
+        Some(frame) => View::at_within(alloc, limits, db, wal, journal, frame),
+        None => View::new_within(alloc, limits, db, wal, journal),
     }
 }
 
@@ -33,18 +34,19 @@ pub(crate) struct Finding {
     pub front: Option<Front>,
 }
 
-/// What is found of a file with its logs, at a commit frame where one is named.
+/// What is found of a file with its logs within limits, at a commit frame where one is named.
 pub(crate) fn judged<F: FileBytes + Drop>(
     alloc: Global,
+    limits: Limits,
     db: F,
     wal: F,
     journal: F,
     at: Option<u32>,
 ) -> Result<Finding, Refusal>
     ensures { F.gives_bytes db × F.gives_bytes wal × F.gives_bytes journal
-        → IfOk result (λ found. IsFound at (F.bytes db) (F.bytes wal) (F.bytes journal) found.verdict) }
+        → IfOk result (λ found. IsFound limits at (F.bytes db) (F.bytes wal) (F.bytes journal) found.verdict) }
 {
-    match view_of(alloc, db, wal, journal, at) {
+    match view_of(alloc, limits, db, wal, journal, at) {
         Ok(mut view) => {
             let front = Front::of_view(&view);
             let verdict = judge_view(alloc, &mut view)?;

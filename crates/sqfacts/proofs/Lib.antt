@@ -1,0 +1,3 @@
+pub mod LockLines
+pub mod LockLists
+pub mod Joining

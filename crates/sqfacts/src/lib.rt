@@ -1,0 +1,23 @@
+//! What the program knows of files, pages and its own end: why it refuses, what files are at one time and whether they
+//! are so later, which locks are on them, a disk over two of them, and runs of pages of one use.
+#![tactic(auto)]
+
+mod faults;
+mod file_disk;
+mod fronts;
+mod locks;
+mod notes;
+mod outcome;
+mod readings;
+mod runs;
+mod status;
+
+pub use faults::{first_fault, is_unsound};
+pub use file_disk::{FileDisk, Guard, metadata_of, read_or_zeros};
+pub use fronts::{Front, standing};
+pub use locks::{Identity, identity_of, is_locked};
+pub use notes::Notes;
+pub use outcome::{Outcome, Refusal};
+pub use readings::{Reading, Readings, unchanged};
+pub use runs::{Run, Use, number_of, runs_of, uses_of};
+pub use status::Status;

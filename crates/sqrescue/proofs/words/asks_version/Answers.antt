@@ -1,8 +1,0 @@
-use Rattle.std.proofs.Common.{◌∙◌, ap, sym}
-use Rattle.std.specs.Prelude.{Some}
-use Rattle.std.specs.Cmp.Lexicographic.{bytes_decides}
-use Rattle.sqrescue.proofs.Lines.{at_word}
-use Rattle.sqrescue.proofs.words.asks_version.Goals as goal
-
-pub returns-then-words-gt1 : goal.returns-then-words-gt1
-returns-then-words-gt1 c = λ t. at_word c.args.words.now 1 _ c.if-words-gt1.true ∙ ap Some ((bytes_decides _ _).0 (sym c.eq.ensures ∙ t))

@@ -1,0 +1,8 @@
+use Rattle.std.proofs.Common.{◌∙◌, ap, sym}
+use Rattle.std.specs.Prelude.{Some}
+use Rattle.std.specs.Cmp.Lexicographic.{bytes_decides}
+use Rattle.sqwords.proofs.Lines.{at_word}
+use Rattle.sqwords.proofs.words.asks_version.Goals as goal
+
+pub returns-then-words-gt1 : goal.returns-then-words-gt1
+returns-then-words-gt1 c = λ t. at_word c.args.words.now 1 _ c.if-words-gt1.true ∙ ap Some ((bytes_decides _ _).0 (sym c.eq.ensures ∙ t))

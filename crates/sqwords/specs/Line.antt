@@ -1,0 +1,211 @@
+-- What the words of a command line ask for.
+use Rattle.std.specs.Prelude.{◌≡◌, ◌≢◌, ◌⊎◌, ◌↔◌, Bool, true, false, IsTrue, Option, None, Some, ℕ, suc, ◌-◌, ◌^◌, ◌<◌, ◌≤◌}
+use Rattle.std.specs.Prelude.{List, [], ◌++◌, length, take, drop, slice_get, codes}
+use Rattle.std.specs.Borrow.{Bor}
+use Rattle.std.specs.List.{Contains}
+use Rattle.std.specs.Str.Parse.{IsNumeral, digits_value, without_leading_plus}
+use Rattle.sqwords.specs.declared.requests.Part.{Part}
+use Rattle.sqwords.specs.declared.requests.Part.TheVariants.{Header, Page, Log, Commits, Pages}
+use Rattle.sqwords.specs.declared.requests.SuperJournal.{SuperJournal}
+use Rattle.sqwords.specs.declared.requests.SuperJournal.TheVariants.{Present, Gone}
+use Rattle.sqwords.specs.declared.requests.Style.{Style}
+use Rattle.sqwords.specs.declared.requests.Style.TheVariants.{Lines, Json}
+use Rattle.sqwords.specs.declared.requests.Options.{Options}
+use Rattle.sqwords.specs.declared.requests.Request.{Request}
+use Rattle.sqwords.specs.declared.requests.Request.TheVariants.{Show, Check, Recover, Report, Version}
+
+-- the words behind the command, up to a "--"
+pub record AreOptions (words options : List (List ℕ)) : Type 0 where
+  pub end : ℕ
+  pub behind : 2 ≤ end
+  pub are : options ≡ drop 2 (take end words)
+  pub none : (i : ℕ) → 2 ≤ i → i < end → slice_get words i ≢ Some (codes "--")
+  pub last : (length words ≤ end) ⊎ (slice_get words end ≡ Some (codes "--"))
+
+-- an option of this name gives this text: it stands behind the name, or behind the name and a "="
+abbrev pub HasText : (name : List ℕ) → (options : List (List ℕ)) → (text : List ℕ) → Type 0
+HasText name options text =
+    ((i : ℕ) × (slice_get options i ≡ Some name) × (slice_get options (suc i) ≡ Some text))
+    ⊎ Contains options (name ++ (codes "=" ++ text))
+
+-- none does
+abbrev pub HasNoText : (name : List ℕ) → (options : List (List ℕ)) → Type 0
+HasNoText name options = (text : List ℕ) → ¬ HasText name options text
+
+-- the text is this number in decimal digits
+abbrev pub IsNumber : (text : List ℕ) → (n : ℕ) → Type 0
+IsNumber text n = IsNumeral 10 (without_leading_plus text) × (digits_value 10 (without_leading_plus text) ≡ n)
+
+-- and one that a page can have
+abbrev pub IsPageNumber : (text : List ℕ) → (n : ℕ) → Type 0
+IsPageNumber text n = (1 ≤ n) × (n < 2 ^ 32) × IsNumber text n
+
+-- and one that a frame can have, or 0
+abbrev pub IsFrameNumber : (text : List ℕ) → (n : ℕ) → Type 0
+IsFrameNumber text n = (n < 2 ^ 32) × IsNumber text n
+
+-- the options ask for this part
+abbrev pub AsksPart : (options : List (List ℕ)) → Part → Type 0
+AsksPart options Header = (¬ Contains options (codes "--log")) × (¬ Contains options (codes "--commits"))
+    × (¬ Contains options (codes "--all")) × (¬ Contains options (codes "--pages")) × HasNoText (codes "--page") options
+AsksPart options (Page n) = (¬ Contains options (codes "--log")) × (¬ Contains options (codes "--commits"))
+    × (¬ Contains options (codes "--all")) × (¬ Contains options (codes "--pages"))
+    × ((text : List ℕ) × HasText (codes "--page") options text × IsPageNumber text n)
+AsksPart options (Log all) = Contains options (codes "--log") × (¬ Contains options (codes "--commits"))
+    × (IsTrue all ↔ Contains options (codes "--all")) × (¬ Contains options (codes "--pages"))
+    × HasNoText (codes "--page") options
+AsksPart options Commits = (¬ Contains options (codes "--log")) × Contains options (codes "--commits")
+    × (¬ Contains options (codes "--all")) × (¬ Contains options (codes "--pages")) × HasNoText (codes "--page") options
+AsksPart options Pages = (¬ Contains options (codes "--log")) × (¬ Contains options (codes "--commits"))
+    × (¬ Contains options (codes "--all")) × Contains options (codes "--pages") × HasNoText (codes "--page") options
+
+-- they ask for none: for a page by what is no page's number, for two of a page, the log, the commits and the pages, or
+-- for all of what isn't the log
+abbrev pub AsksNoPart : (options : List (List ℕ)) → Type 0
+AsksNoPart options =
+    ((text : List ℕ) × HasText (codes "--page") options text × (((n : ℕ) → ¬ IsPageNumber text n)
+    ⊎ Contains options (codes "--log") ⊎ Contains options (codes "--commits") ⊎ Contains options (codes "--pages")))
+    ⊎ (Contains options (codes "--log") × Contains options (codes "--commits"))
+    ⊎ (Contains options (codes "--all") × ¬ Contains options (codes "--log"))
+    ⊎ (Contains options (codes "--pages") × (Contains options (codes "--log") ⊎ Contains options (codes "--commits")))
+
+-- a word that is no option: it doesn't begin with a "-", or is a "-" alone
+abbrev pub IsPlain : (word : List ℕ) → Type 0
+IsPlain word = (rest : List ℕ) → word ≡ codes "-" ++ rest → rest ≡ []
+
+-- a word that names an option with a value: the name, or the name with a "=" and the value
+abbrev pub IsNamed : (name : List ℕ) → (word : List ℕ) → Type 0
+IsNamed name word = (word ≡ name) ⊎ ((text : List ℕ) × (word ≡ name ++ (codes "=" ++ text)))
+
+-- a word that each command knows
+abbrev pub IsCommon : (word : List ℕ) → Type 0
+IsCommon word = (word ≡ codes "-v") ⊎ (word ≡ codes "--verbose") ⊎ (word ≡ codes "--json") ⊎ (word ≡ codes "--large")
+    ⊎ (word ≡ codes "--super-journal=present") ⊎ (word ≡ codes "--super-journal=gone") ⊎ IsNamed (codes "--at") word
+
+-- a word behind `check`, or behind `recover`, that is no option, or one of the command's
+abbrev pub IsKnown : (recovers : Bool) → (word : List ℕ) → Type 0
+IsKnown recovers word = IsPlain word ⊎ IsCommon word
+    ⊎ (IsTrue recovers × ((word ≡ codes "--force") ⊎ IsNamed (codes "--to") word))
+
+-- all are
+abbrev pub AreKnown : (recovers : Bool) → (words : List (List ℕ)) → Type 0
+AreKnown recovers words = (i : ℕ) (word : List ℕ) → slice_get words i ≡ Some word → IsKnown recovers word
+
+-- what the options say of the super-journal
+abbrev pub AsksOf : (options : List (List ℕ)) → Option SuperJournal → Type 0
+AsksOf options None = (¬ Contains options (codes "--super-journal=present")) × (¬ Contains options (codes "--super-journal=gone"))
+AsksOf options (Some Present) = Contains options (codes "--super-journal=present") × (¬ Contains options (codes "--super-journal=gone"))
+AsksOf options (Some Gone) = (¬ Contains options (codes "--super-journal=present")) × Contains options (codes "--super-journal=gone")
+
+-- they say both
+abbrev pub AsksBoth : (options : List (List ℕ)) → Type 0
+AsksBoth options = Contains options (codes "--super-journal=present") × Contains options (codes "--super-journal=gone")
+
+-- at which commit they ask for the database, if at one in particular
+abbrev pub AsksAt : (options : List (List ℕ)) → Option ℕ → Type 0
+AsksAt options None = HasNoText (codes "--at") options
+AsksAt options (Some n) = (text : List ℕ) × HasText (codes "--at") options text × IsFrameNumber text n
+
+-- how they ask for what is found
+abbrev pub AsksStyle : (options : List (List ℕ)) → Style → Type 0
+AsksStyle options Lines = ¬ Contains options (codes "--json")
+AsksStyle options Json = Contains options (codes "--json")
+
+-- what each command is asked besides, exactly where an option says so
+pub record AsksBesides (options : List (List ℕ)) (o : Options) : Type 0 where
+  pub verbose : IsTrue o.verbose ↔ (Contains options (codes "-v") ⊎ Contains options (codes "--verbose"))
+  pub super_journal : AsksOf options o.super_journal
+  pub at_commit : AsksAt options o.at
+  pub style : AsksStyle options o.style
+  pub large : IsTrue o.large ↔ Contains options (codes "--large")
+
+-- they name no frame for a commit
+abbrev pub NamesNoFrame : (options : List (List ℕ)) → Type 0
+NamesNoFrame options = (text : List ℕ) × HasText (codes "--at") options text × ((n : ℕ) → ¬ IsFrameNumber text n)
+
+-- they ask for nothing besides
+abbrev pub AsksNoneBesides : (options : List (List ℕ)) → Type 0
+AsksNoneBesides options = AsksBoth options ⊎ NamesNoFrame options
+
+-- a commit isn't named for a part that is of the whole log
+abbrev pub MayBeAt : Part → (frame : Option ℕ) → Type 0
+MayBeAt Header frame = Unit {0}
+MayBeAt (Page n) frame = Unit {0}
+MayBeAt (Log all) frame = frame ≡ None
+MayBeAt Commits frame = frame ≡ None
+MayBeAt Pages frame = Unit {0}
+
+-- the file that a recovery is to make, if one is named
+abbrev pub AsksTo : (options : List (List ℕ)) → Option (Bor (List ℕ)) → Type 0
+AsksTo options None = HasNoText (codes "--to") options
+AsksTo options (Some to) = HasText (codes "--to") options to.now
+
+-- the options of a report say this: the file that it makes, and what else is asked
+abbrev pub IsReport : (options : List (List ℕ)) → (file : Bor (List ℕ)) → Options → Request → Type 0
+IsReport options file o request = AreKnown true options × (¬ Contains options (codes "--force"))
+    × ((to : Bor (List ℕ)) × HasText (codes "--to") options to.now × (request ≡ Report file to o))
+
+-- they can't be a report's: another one is among them, or the file to be made isn't named
+abbrev pub AreNoReport : (options : List (List ℕ)) → Type 0
+AreNoReport options = (¬ AreKnown true options) ⊎ Contains options (codes "--force") ⊎ HasNoText (codes "--to") options
+
+-- a word behind which a value stands
+abbrev pub TakesValue : (word : List ℕ) → Type 0
+TakesValue word = (word ≡ codes "--page") ⊎ (word ≡ codes "--to") ⊎ (word ≡ codes "--at")
+
+-- a word behind the command that stands for itself: behind a "--", or else plain and no option's value
+pub record StandsFree (words : List (List ℕ)) (i : ℕ) (word : List ℕ) : Type 0 where
+  pub behind : 2 ≤ i
+  pub is : slice_get words i ≡ Some word
+  pub free : Contains (drop 2 (take i words)) (codes "--")
+      ⊎ (IsPlain word × ((before : List ℕ) → slice_get words (i - 1) ≡ Some before → ¬ TakesValue before))
+
+-- the file is the only such word
+abbrev pub IsFile : (words : List (List ℕ)) → (file : List ℕ) → Type 0
+IsFile words file = (i : ℕ) × StandsFree words i file × ((j : ℕ) (other : List ℕ) → StandsFree words j other → j ≡ i)
+
+-- the first word behind the program's name asks for the version
+abbrev pub AsksVersion : List (List ℕ) → Type 0
+AsksVersion words = slice_get words 1 ≡ Some (codes "--version")
+
+-- The second word is the command, the file stands behind it, and the options before a "--" say the rest, each exactly where
+-- it stands; behind `check`, `recover` and `report` there are no others. A commit goes with no part of the whole log, and
+-- with a recovery only where that makes another file; a report makes one.
+abbrev pub Asks : List (List ℕ) → Request → Type 0
+Asks words (Show file part o) =
+    (slice_get words 1 ≡ Some (codes "show")) × IsFile words file.now
+    × ((options : List (List ℕ)) × AreOptions words options × AsksPart options part × AsksBesides options o × MayBeAt part o.at)
+Asks words (Check file o) =
+    (slice_get words 1 ≡ Some (codes "check")) × IsFile words file.now
+    × ((options : List (List ℕ)) × AreOptions words options × AreKnown false options × AsksBesides options o)
+Asks words (Recover file to force o) =
+    (slice_get words 1 ≡ Some (codes "recover")) × IsFile words file.now
+    × ((options : List (List ℕ)) × AreOptions words options × AreKnown true options × AsksBesides options o
+    × (IsTrue force ↔ Contains options (codes "--force")) × AsksTo options to × (to ≡ None → o.at ≡ None))
+Asks words (Report file to o) =
+    (slice_get words 1 ≡ Some (codes "report")) × IsFile words file.now
+    × ((options : List (List ℕ)) × AreOptions words options × AreKnown true options
+    × (¬ Contains options (codes "--force")) × HasText (codes "--to") options to.now × AsksBesides options o)
+Asks words Version = AsksVersion words
+
+-- a commit is named, and they ask for a part that is of the whole log
+abbrev pub NamesOfLog : (options : List (List ℕ)) → (frame : Option ℕ) → Type 0
+NamesOfLog options frame = (frame ≢ None) × (Contains options (codes "--log") ⊎ Contains options (codes "--commits"))
+
+-- what the options of a command can't be: those of `show` ask for no part, or for one that has no commits; those of `check`
+-- and `recover` have another among them; those of `recover` name a commit and no file to be made; those of `report` have
+-- another among them, or name no file to be made
+abbrev pub AreAmiss : (command : List ℕ) → (options : List (List ℕ)) → Type 0
+AreAmiss command options =
+    (command ≡ codes "check" → ¬ AreKnown false options)
+    × (command ≡ codes "recover" → (¬ AreKnown true options)
+    ⊎ (((frame : Option ℕ) → AsksAt options frame → frame ≢ None) × HasNoText (codes "--to") options))
+    × (command ≡ codes "report" → AreNoReport options)
+    × (command ≡ codes "show" → AsksNoPart options
+    ⊎ ((frame : Option ℕ) × AsksAt options frame × NamesOfLog options frame))
+
+-- The words, of this command and this file, ask for nothing: the command is another one, or its options ask for nothing
+-- besides, or are amiss.
+abbrev pub AsksNothing : (words : List (List ℕ)) → (command file : List ℕ) → Type 0
+AsksNothing words command file = slice_get words 1 ≡ Some command → IsFile words file
+    → (options : List (List ℕ)) × AreOptions words options × (AsksNoneBesides options ⊎ AreAmiss command options)

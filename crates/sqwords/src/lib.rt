@@ -1,0 +1,8 @@
+//! What the words of sqrescue's command line ask for.
+#![tactic(auto)]
+
+mod requests;
+mod words;
+
+pub use requests::{Options, Part, Request, Style, SuperJournal};
+pub use words::{asked, asks_version};

@@ -1,0 +1,82 @@
+//! What a command line asks for.
+
+/// What of a database file is shown.
+#[derive(Clone, Copy, Debug, PartialEq, Eq)]
+pub enum Part {
+    /// Its header.
+    Header,
+    /// The page of this number, from 1.
+    Page(u32),
+    /// Its log; all: also what stands behind the log's stop.
+    Log { all: bool },
+    /// The commits in its write-ahead log.
+    Commits,
+    /// What each of its pages is used for.
+    Pages,
+}
+
+/// Whether the super-journal that a hot journal names is there.
+#[derive(Clone, Copy, Debug, PartialEq, Eq)]
+pub enum SuperJournal {
+    /// It is: the journal counts.
+    Present,
+    /// It is gone: the transaction was committed, and the journal doesn't count.
+    Gone,
+}
+
+/// How what is found is written.
+#[derive(Clone, Copy, Debug, PartialEq, Eq)]
+pub enum Style {
+    /// As lines of words and numbers.
+    Lines,
+    /// As a JSON object a line.
+    Json,
+}
+
+/// What each command may be asked besides.
+#[derive(Clone, Copy, Debug, PartialEq, Eq)]
+pub struct Options {
+    /// To say on standard error what is done and why.
+    pub verbose: bool,
+    /// To take the super-journal as there or as gone. None: as nothing is known of it.
+    pub super_journal: Option<SuperJournal>,
+    /// To take the database as it was at this commit frame of the write-ahead log, 0 for the file without its log.
+    /// None: as it was at the last one.
+    pub at: Option<u32>,
+    /// How to write what is found.
+    pub style: Style,
+    /// To read databases of up to 1,099,511,627,776 bytes and logs of up to 4,294,967,294 frames.
+    pub large: bool,
+}
+
+/// What a line asks for.
+#[derive(Clone, Copy, Debug, PartialEq, Eq)]
+pub enum Request<'a> {
+    /// To show a part of this database file.
+    Show {
+        file: &'a str,
+        part: Part,
+        options: Options,
+    },
+    /// To check this database file as its log has it.
+    Check {
+        file: &'a str,
+        options: Options,
+    },
+    /// To recover this database file: to fold its write-ahead log into it, or to roll it back by its hot journal; by
+    /// force: even while another process has it open. To another file, which is made: this one isn't written.
+    Recover {
+        file: &'a str,
+        to: Option<&'a str>,
+        force: bool,
+        options: Options,
+    },
+    /// To make another file that reports on this database file, which a browser shows.
+    Report {
+        file: &'a str,
+        to: &'a str,
+        options: Options,
+    },
+    /// To say which version this is.
+    Version,
+}
