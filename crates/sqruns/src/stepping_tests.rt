@@ -1,7 +1,7 @@
 //! Runs that go on event by event: a copy of the world's disk between two events, and at the end the run that all events
 //! together have.
 use crate::{journal_tests, world_tests};
-use crashdisk::{Disk, File, ModelDisk};
+use crashdisk::{Disk, DiskError, File, ModelDisk};
 use sqworld::{Event, JEvent, JournalWorld, NoMemory, World, run_journal, run_wal};
 use std::alloc::Global;
 use std::test::Fail;
@@ -66,6 +66,16 @@ fn a_journal_world_goes_on(rt: HostRuntime) -> Result<(), Fail> {
     Ok(())
 }
 
+/// How many choices a crash has, at most 64.
+fn count(disk: &ModelDisk) -> Result<u64, DiskError> {
+    for n in 0..64u64 {
+        if disk.choice(n)?.is_none() {
+            return Ok(n);
+        }
+    }
+    Ok(64)
+}
+
 /// Each crash after a commit leaves the database before it or the one behind it, each image by its number.
 #[test]
 fn each_crash_by_its_number(rt: HostRuntime) -> Result<(), Fail> {
@@ -81,13 +91,7 @@ fn each_crash_by_its_number(rt: HostRuntime) -> Result<(), Fail> {
     let served = serve(alloc, &mut world, &events);
     let _ = world.finish();
     let disk = served?;
-    let mut images = 0u64;
-    while disk.choice(images)?.is_some() {
-        images += 1;
-        if images > 64 {
-            break;
-        }
-    }
+    let images = count(&disk)?;
     let first = disk.choice_at(alloc, images)?;
     assert!(rt; Some(first) == disk.choice(0)?);
     assert!(rt; images > 1);
