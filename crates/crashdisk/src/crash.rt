@@ -21,7 +21,8 @@ pub(crate) fn crash_held(held: &mut Held, sector: usize, tears: bool, choice: &F
     ensures solid { IsSolid sector (file_of sector held.new) }
     ensures image { IsImage sector tears (file_of sector held.old)
         (image_of sector tears (file_of sector held.old) (naming_of choice.now)) }
-    ensures settled { IsSettled (file_of sector held.new) (image_of sector tears (file_of sector held.old) (naming_of choice.now)) }
+    ensures settled { IsSettled (file_of sector held.new)
+        (image_of sector tears (file_of sector held.old) (naming_of choice.now)) }
 {
     let len = choice.length(held.least, held.len, held.greatest);
     leave_each(&mut held.sectors, sector, tears, choice, len);

@@ -317,7 +317,8 @@ impl Held {
     /// The same file.
     pub(crate) fn copy(&self, alloc: Global) -> Result<Held, AllocError>
         ensures sectors { IfOk result (λ h. h.sectors.items ≡ self.now.sectors.items) }
-        ensures len { IfOk result (λ h. (h.len ≡ self.now.len) × (h.least ≡ self.now.least) × (h.greatest ≡ self.now.greatest)) }
+        ensures len { IfOk result (λ h. (h.len ≡ self.now.len) × (h.least ≡ self.now.least)
+            × (h.greatest ≡ self.now.greatest)) }
     {
         let mut sectors = Vec::new(alloc);
         for values in self.sectors.iter() {

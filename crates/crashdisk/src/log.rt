@@ -47,7 +47,8 @@ pub(crate) fn write_log(
     ensures within { EndsWithin result (at + length bytes.now) }
     ensures kept_room { IsTrue manner.now.tears → held.new.greatest ≤ length since.new.room.items }
     ensures kept { kept_bytes since.new ≡ kept_bytes since.old }
-    ensures handed { handed_writes since.new ≡ with_write manner.now.tears Log result at bytes.now (handed_writes since.old) }
+    ensures handed { handed_writes since.new ≡ with_write manner.now.tears Log result at
+        bytes.now (handed_writes since.old) }
 {
     if !manner.tears {
         return write_held(held, refused, manner, at, bytes);
@@ -132,9 +133,11 @@ pub(crate) fn crash_log(
     ensures solid { IsSolid sector (file_of sector held.new) }
     ensures image { IsImage sector tears (file_of sector held.old)
         (image_of sector tears (file_of sector held.old) (naming_of choice.now)) }
-    ensures settled { IsSettled (file_of sector held.new) (image_of sector tears (file_of sector held.old) (naming_of choice.now)) }
+    ensures settled { IsSettled (file_of sector held.new)
+        (image_of sector tears (file_of sector held.old) (naming_of choice.now)) }
     ensures kept_room { IsTrue tears → held.new.greatest ≤ length since.new.room.items }
-    ensures since { Left tears (image_of sector tears (file_of sector held.old) (naming_of choice.now)) since.old since.new }
+    ensures since { Left tears (image_of sector tears (file_of sector held.old) (naming_of choice.now))
+        since.old since.new }
 {
     crash_held(held, sector, tears, choice);
     if tears {

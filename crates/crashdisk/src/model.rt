@@ -317,7 +317,8 @@ impl Disk for ModelDisk {
 
     ghost keeps_word = { λ _. Unit {0} };
 
-    ghost sound = { λ disk word. sound_disk (state_of disk) disk.is_size disk.db_solid disk.log_solid disk.counted disk.untorn };
+    ghost sound = { λ disk word. sound_disk (state_of disk) disk.is_size disk.db_solid
+        disk.log_solid disk.counted disk.untorn };
 
     fn sector(&self) -> usize {
         self.sector
@@ -449,7 +450,8 @@ impl Disk for ModelDisk {
         ensures word { Unit {0} ↔ Unit {0} }
         ensures state { Unit {0} → Syncs file result (state_of self.old) (state_of self.new) }
         ensures counted { IsSyncCounted result self.old self.new }
-        ensures turned { TurnedBy self.old.sector self.old.part result (of file (state_of self.old)) (of file (state_of self.new)) }
+        ensures turned { TurnedBy self.old.sector self.old.part result (of file (state_of self.old))
+            (of file (state_of self.new)) }
     {
         let fails = self.stops.fails();
         if self.stops.sync() {

@@ -165,7 +165,8 @@ impl Values {
     pub(crate) fn settle(&mut self, end: usize)
         requires { 0 < length self.old }
         ensures one { length self.new ≡ 1 }
-        ensures long { length (slice_index_or self.new 0 []) ≡ length (slice_index_or self.old (length self.old - 1) []) }
+        ensures long { length (slice_index_or self.new 0 [])
+            ≡ length (slice_index_or self.old (length self.old - 1) []) }
         ensures each { (j : ℕ) → slice_index (slice_index_or self.new 0 []) j ≡ cond (nat_lt j end)
             (slice_index (slice_index_or self.old (length self.old - 1) []) j) 0 }
         ensures are_bytes { (j : ℕ) → slice_index (slice_index_or self.new 0 []) j < 256 }

@@ -50,7 +50,8 @@ impl Found {
         ensures ok { OnOk result (TakesAll self.old.taken.marks.items self.old.pages.items self.new.taken.marks.items
             self.new.pages.items (p ∷ [])) }
         ensures fresh { OnOk result (¬ In p self.old.pages.items) }
-        ensures fewer { OnOk result (count_by not self.new.taken.marks.items < count_by not self.old.taken.marks.items) }
+        ensures fewer { OnOk result (count_by not self.new.taken.marks.items < count_by not
+            self.old.taken.marks.items) }
         ensures err { IfErr result
             (λ e. TakeRefused (length self.old.taken.marks.items) self.old.pages.items holder p e.fault e.page) }
     {
@@ -104,7 +105,8 @@ impl Found {
             (trunk ∷ leaves_in (page (S.pages source.old) trunk))) }
         ensures taken { OnOk result (AreTaken self.new.taken.marks.items self.new.pages.items) }
         ensures marks { OnOk result (length self.new.taken.marks.items ≡ length self.old.taken.marks.items) }
-        ensures fewer { OnOk result (count_by not self.new.taken.marks.items < count_by not self.old.taken.marks.items) }
+        ensures fewer { OnOk result (count_by not self.new.taken.marks.items < count_by not
+            self.old.taken.marks.items) }
         ensures err { S.gives_pages source.old → usable ≡ usable_size (S.pages source.old)
             → IfErr result (λ e. TrunkRefused (S.pages source.old) self.old.pages.items holder trunk e.fault e.page) }
         ensures still_gives { S.gives_pages source.old → S.gives_pages source.new }

@@ -338,12 +338,12 @@ impl Scan {
     }
 
     /// Takes the next piece of the log. Refused by NotAWal, PageSize, HeaderSum or UnknownVersion, the first that
-    /// holds, once the header's 32 bytes are there; by TooLong once the frame behind the last one of the limits is there
-    /// and valid; or by NoMemory.
-    /// After a refusal the scan stands as before the piece. Bytes behind a frame that isn't valid are taken and not
-    /// looked at.
+    /// holds, once the header's 32 bytes are there; by TooLong once the frame behind the last one of the limits is
+    /// there and valid; or by NoMemory. After a refusal the scan stands as before the piece. Bytes behind a frame that
+    /// isn't valid are taken and not looked at.
     pub fn feed(&mut self, piece: &[u8]) -> Result<(), WalFormatError>
-        ensures { (most : ℕ) (b : List ℕ) → TookWithin most b self.old → FeedAnswerWithin most b piece.now result self.new }
+        ensures { (most : ℕ) (b : List ℕ) → TookWithin most b self.old
+            → FeedAnswerWithin most b piece.now result self.new }
     {
         match self.header {
             Some(header) => self.feed_frames(&header, piece),
@@ -445,7 +445,8 @@ impl Scan {
 
     /// Keeps the bytes of a piece that completes nothing. After an error they are as before.
     fn hold(&mut self, piece: &[u8]) -> Result<(), WalFormatError>
-        ensures held { self.new.held.items ≡ (if is_ok result then self.old.held.items ++ piece.now else self.old.held.items) }
+        ensures held { self.new.held.items ≡ (if is_ok result then self.old.held.items ++
+            piece.now else self.old.held.items) }
         ensures header { self.new.header ≡ self.old.header }
         ensures entries { self.new.frames.entries.items ≡ self.old.frames.entries.items }
         ensures progress { self.new.frames.progress ≡ self.old.frames.progress }
