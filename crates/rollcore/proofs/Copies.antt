@@ -16,7 +16,6 @@ use Rattle.crashdisk.specs.declared.file.File.TheVariants.{Db}
 use Rattle.crashdisk.specs.declared.error.DiskError.{DiskError}
 use Rattle.crashdisk.proofs.Sound.{cut_below}
 use Rattle.crashdisk.proofs.Steps.{present_cut}
-use Rattle.sqval.specs.CommitFaults.{most_bytes}
 use Rattle.rollcore.specs.Changes.{AreWholePages}
 use Rattle.rollcore.specs.Steps.{PutsRun, RunAnswer, CopyAnswer}
 use borrow.Rule.Slice.PartMut.{put_mid}
@@ -122,8 +121,8 @@ module _ (size : ℕ) (w : List ℕ) (count i : ℕ) where
     unfolding RunAnswer
     run_put wrote = inr (puts (Ok (tt {0})) wrote)
 
-pub run_fits : (size p k count : ℕ) → p - 1 + k ≤ count → count * size ≤ most_bytes → (p - 1) * size + k * size ≤ most_bytes
-run_fits size p k count within small =
+pub run_fits : (most size p k count : ℕ) → p - 1 + k ≤ count → count * size ≤ most → (p - 1) * size + k * size ≤ most
+run_fits most size p k count within small =
     let up : (p - 1 + k) * size ≤ count * size = mul-le-mul_right size within in
     let e : (p - 1) * size + k * size ≡ (p - 1 + k) * size = times_more (p - 1) k size in omega arith
   where
@@ -131,8 +130,8 @@ run_fits size p k count within small =
     times_more a n c = omega arith
 
 -- what a run asks for
-pub run_may : (size p k count at : ℕ) (bytes : List ℕ) → 1 ≤ k → p - 1 + k ≤ count → at ≡ (p - 1) * size → length bytes ≡ k * size → count * size ≤ most_bytes → AreWholePages size at bytes
-run_may size p k count at bytes some le is long small = (p - 1, k, is, some, long, omega (arith, is, long, run_fits size p k count le small))
+pub run_may : (most size p k count at : ℕ) (bytes : List ℕ) → 1 ≤ k → p - 1 + k ≤ count → at ≡ (p - 1) * size → length bytes ≡ k * size → count * size ≤ most → AreWholePages most size at bytes
+run_may most size p k count at bytes some le is long small = (p - 1, k, is, some, long, omega (arith, is, long, run_fits most size p k count le small))
 
 -- ---- Record after record.
 
@@ -209,7 +208,7 @@ copied_at {T = T} {u = u} w db count n size segments end why is hot k d s0 a b r
     subst (λ (m : ℕ). CopyAnswer {T = T} m d (Ok u) s0 b) (sym same)
     (copied w db count n (entries_of w segments) k d s0 a b (rolled.count ∙ sym first) (long ∙ ap (λ (m : ℕ). count * m) same) all (made_all w db segments end why is hot d rolled) so_far cut)
 
-pub cut_refused : {T U : Type 0} (size count n : ℕ) (d : Database) (called : Result T DiskError) (e : DiskError) (q : Result U RollError) (s0 a b : DiskState) → KeepsLog s0 a → n ≡ count * size → count * size ≤ most_bytes
+pub cut_refused : {T U : Type 0} (size count n : ℕ) (d : Database) (called : Result T DiskError) (e : DiskError) (q : Result U RollError) (s0 a b : DiskState) → KeepsLog s0 a → n ≡ count * size → count * size ≤ longest
     → called ≡ Err e → q ≡ Err Device → Cuts Db n called a b → CopyAnswer size d q s0 b
 unfolding CopyAnswer
 cut_refused {U = U} size count n d called e q s0 a b keeps same within was is cut =

@@ -8,65 +8,64 @@ use Rattle.sqjournal.specs.Journal.{IsHot}
 use Rattle.sqjournal.specs.declared.header.JournalHeader.{JournalHeader}
 use Rattle.sqjournal.specs.declared.replay.Replay.{Replay}
 use Rattle.crashdisk.specs.Call.{DiskState}
-use Rattle.sqval.specs.CommitFaults.{most_bytes}
 use Rattle.rollcore.specs.Steps.{HasRead, ScanRefused, ScanAnswer}
 use Rattle.rollcore.specs.Plans.{JudgeAnswer, PlanAnswer, ReadAnswer}
 use Rattle.rollcore.specs.declared.plan.Plan.{Plan}
 use Rattle.rollcore.specs.declared.error.RollError.{RollError}
 use Rattle.rollcore.specs.declared.error.RollError.TheVariants.{TooLarge, NoMemory, Device, SectorAbovePage}
 
-module _ (torn : ℕ) (w : List ℕ) (hot : IsHot w) (h : JournalHeader) (names : Names w h) where
+module _ (most torn : ℕ) (w : List ℕ) (hot : IsHot w) (h : JournalHeader) (names : Names w h) where
   bytes_of : h.first_size * h.page_size ≡ word w 16 * word w 24
   bytes_of = ap (λ n. n * h.page_size) names.first_size ∙ ap (λ n. word w 16 * n) names.size
 
-  pub judged_large : most_bytes < h.first_size * h.page_size → JudgeAnswer torn w (Err TooLarge)
+  pub judged_large : most < h.first_size * h.page_size → JudgeAnswer most torn w (Err TooLarge)
   unfolding JudgeAnswer
   judged_large more = inr (hot, omega (arith, bytes_of))
 
-  module _ (within : h.first_size * h.page_size ≤ most_bytes) where
-    pub judged_below : (h.page_size < torn) ⊎ (h.sector < torn) → JudgeAnswer torn w (Err SectorAbovePage)
+  module _ (within : h.first_size * h.page_size ≤ most) where
+    pub judged_below : (h.page_size < torn) ⊎ (h.sector < torn) → JudgeAnswer most torn w (Err SectorAbovePage)
     unfolding JudgeAnswer
     judged_below below = (omega (arith, bytes_of), ⊎_elim (λ a. inl (omega (arith, names.size))) (λ b. inr (omega (arith, names.sector))) below)
 
-    pub judged_fit : (done : Unit {0}) → torn ≤ h.page_size → torn ≤ h.sector → JudgeAnswer torn w (Ok done)
+    pub judged_fit : (done : Unit {0}) → torn ≤ h.page_size → torn ≤ h.sector → JudgeAnswer most torn w (Ok done)
     unfolding JudgeAnswer
-    judged_fit done page sector = record { hot = hot; within = omega (arith, bytes_of); page = omega (arith, names.size); sector = omega (arith, names.sector) }
+    judged_fit done page sector = (record { hot = hot; page = omega (arith, names.size); sector = omega (arith, names.sector) }, omega (arith, bytes_of))
 
-module _ (torn : ℕ) (w : List ℕ) where
-  pub plan_none : (IsHot w → ⊥) → PlanAnswer torn w (Ok None)
+module _ (most torn : ℕ) (w : List ℕ) where
+  pub plan_none : (IsHot w → ⊥) → PlanAnswer most torn w (Ok None)
   unfolding PlanAnswer
   plan_none cold = cold
 
-  pub plan_refused : (r : Result (Unit {0}) RollError) (q : Result (Option Plan) RollError) (e : RollError) → IsHot w → r ≡ Err e → q ≡ Err e → JudgeAnswer torn w r → PlanAnswer torn w q
+  pub plan_refused : (r : Result (Unit {0}) RollError) (q : Result (Option Plan) RollError) (e : RollError) → IsHot w → r ≡ Err e → q ≡ Err e → JudgeAnswer most torn w r → PlanAnswer most torn w q
   unfolding JudgeAnswer PlanAnswer
-  plan_refused r q e hot was is answer = subst (λ (x : Result (Option Plan) RollError). PlanAnswer torn w x) (sym is) (by e (subst (λ (x : Result (Unit {0}) RollError). JudgeAnswer torn w x) was answer))
+  plan_refused r q e hot was is answer = subst (λ (x : Result (Option Plan) RollError). PlanAnswer most torn w x) (sym is) (by e (subst (λ (x : Result (Unit {0}) RollError). JudgeAnswer most torn w x) was answer))
     where
-      by : (e : RollError) → JudgeAnswer torn w (Err e) → PlanAnswer torn w (Err e)
+      by : (e : RollError) → JudgeAnswer most torn w (Err e) → PlanAnswer most torn w (Err e)
       by TooLarge x = x
       by SectorAbovePage x = (hot, x.0, x.1)
       by _ x = absurd x
 
-  pub plan_memory : (q : Result (Option Plan) RollError) → q ≡ Err NoMemory → PlanAnswer torn w q
+  pub plan_memory : (q : Result (Option Plan) RollError) → q ≡ Err NoMemory → PlanAnswer most torn w q
   unfolding PlanAnswer
-  plan_memory q is = subst (λ (x : Result (Option Plan) RollError). PlanAnswer torn w x) (sym is) tt
+  plan_memory q is = subst (λ (x : Result (Option Plan) RollError). PlanAnswer most torn w x) (sym is) tt
 
-  pub plan_some : (r : Result (Unit {0}) RollError) (done : Unit {0}) (plan : Plan) → r ≡ Ok done → JudgeAnswer torn w r → HasRead w plan.scan → Names w plan.header → PlanAnswer torn w (Ok (Some plan))
+  pub plan_some : (r : Result (Unit {0}) RollError) (done : Unit {0}) (plan : Plan) → r ≡ Ok done → JudgeAnswer most torn w r → HasRead w plan.scan → Names w plan.header → PlanAnswer most torn w (Ok (Some plan))
   unfolding JudgeAnswer PlanAnswer
   plan_some r done plan was answer read names =
-      (subst (λ (x : Result (Unit {0}) RollError). JudgeAnswer torn w x) was answer, record { read = read; names = names })
+      let fit = subst (λ (x : Result (Unit {0}) RollError). JudgeAnswer most torn w x) was answer in (fit.0, record { read = read; names = names }, fit.1)
 
   module _ (a b : DiskState) where
-    pub read_planned : (r : Result (Option Plan) RollError) → PlanAnswer torn w r → ReadAnswer torn w r a b
+    pub read_planned : (r : Result (Option Plan) RollError) → PlanAnswer most torn w r → ReadAnswer most torn w r a b
     unfolding PlanAnswer ReadAnswer
     read_planned (Ok p) x = x
     read_planned (Err Device) x = absurd x
     read_planned (Err _) x = x
 
-    pub read_scan : (r : Result (Option Replay) RollError) (q : Result (Option Plan) RollError) (e : RollError) → r ≡ Err e → q ≡ Err e → ScanAnswer w r a b → ReadAnswer torn w q a b
+    pub read_scan : (r : Result (Option Replay) RollError) (q : Result (Option Plan) RollError) (e : RollError) → r ≡ Err e → q ≡ Err e → ScanAnswer w r a b → ReadAnswer most torn w q a b
     unfolding ScanAnswer ScanRefused PlanAnswer ReadAnswer
-    read_scan r q e was is answer = subst (λ (x : Result (Option Plan) RollError). ReadAnswer torn w x a b) (sym is) (by e (subst (λ (x : Result (Option Replay) RollError). ScanAnswer w x a b) was answer))
+    read_scan r q e was is answer = subst (λ (x : Result (Option Plan) RollError). ReadAnswer most torn w x a b) (sym is) (by e (subst (λ (x : Result (Option Replay) RollError). ScanAnswer w x a b) was answer))
       where
-        by : (e : RollError) → ScanRefused w e a b → ReadAnswer torn w (Err e) a b
+        by : (e : RollError) → ScanRefused w e a b → ReadAnswer most torn w (Err e) a b
         by TooLarge x = inl x
         by NoMemory x = tt
         by Device x = x

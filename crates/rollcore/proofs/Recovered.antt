@@ -5,6 +5,7 @@ use Rattle.std.proofs.lemmas.List.{get_or-take, ext_get_or, length-take-le}
 use Rattle.std.proofs.lemmas.Bool.{cases_eq}
 use Rattle.sqval.specs.Bytes.{word}
 use Rattle.sqval.specs.Database.{Database, page, file_page}
+use Rattle.sqval.specs.CommitFaults.{most_bytes}
 use Rattle.sqval.specs.Held.{IsHeld}
 use Rattle.sqjournal.specs.Header.{HasMagic}
 use Rattle.sqjournal.specs.Journal.{Segment, IsHot}
@@ -17,7 +18,7 @@ use Rattle.crashdisk.proofs.Steps.{present_list}
 use Rattle.rollcore.specs.Alone.{Show, ShowsAlone}
 use Rattle.crashdisk.specs.Keeps.{Suits, IsLogDown, Still, SyncStep}
 use Rattle.rollcore.specs.Changes.{MayRecover, Asks}
-use Rattle.rollcore.specs.Plans.{IsBelow, IsSmall, PlanAnswer, ReadAnswer}
+use Rattle.rollcore.specs.Plans.{IsBelow, IsSmall, IsPlanWithin, PlanAnswer, ReadAnswer}
 use Rattle.rollcore.specs.Replaying.{zeroed}
 use Rattle.rollcore.specs.Steps.{torn_sector, RolledAnswer}
 use Rattle.sqval.specs.Answers.{Files}
@@ -43,7 +44,7 @@ use Rattle.rollcore.proofs.Going.{suits_go}
 use Rattle.crashdisk.specs.declared.file.File.TheVariants.{Log}
 use Rattle.rollcore.proofs.Narrowing.{narrows_still, narrows_syncs, ends_narrow, history_narrows, sectors_narrow}
 use Rattle.sqval.proofs.FilePages.{size_some, file_count}
-use Rattle.rollcore.proofs.Recovering.{zeroed_zero}
+use Rattle.rollcore.proofs.Recovering.{zeroed_zero, within_some}
 use Rattle.crashdisk.proofs.Stills.{refusal_after}
 use Rattle.crashdisk.proofs.Suiting.{sector_within}
 
@@ -105,7 +106,7 @@ module _ (size : ℕ) (d : Database) (w : List ℕ) (s : DiskState) (suits : Sui
   -- ---- the journal is read
 
   module _ (a : DiskState) (is : Still s a) where
-    refuse : (e : RollError) → ReadAnswer (torn_sector s) w (Err e) s a → MayRefuse e s a
+    refuse : (e : RollError) → ReadAnswer most_bytes (torn_sector s) w (Err e) s a → MayRefuse e s a
     unfolding ReadAnswer PlanAnswer
     refuse TooLarge x = absurd (⊎_elim (λ far. omega (arith, far, (down_present w s down).len, suits.sound.log.greatest, suits.sound.log.within)) (λ large. omega (arith, large.1, hot_product large.0, held.few)) x)
     refuse SectorAbovePage x = absurd (below x.0 x.2)
@@ -113,9 +114,9 @@ module _ (size : ℕ) (d : Database) (w : List ℕ) (s : DiskState) (suits : Sui
     refuse Device x = inr (refl, x)
     refuse _ x = absurd x
 
-    pub unplanned : (e : RollError) (r : Result (Option Plan) RollError) (q : Result ℕ RollError) → r ≡ Err e → q ≡ Err e → ReadAnswer (torn_sector s) w r s a → RecoverAnswer size d q s a
+    pub unplanned : (e : RollError) (r : Result (Option Plan) RollError) (q : Result ℕ RollError) → r ≡ Err e → q ≡ Err e → ReadAnswer most_bytes (torn_sector s) w r s a → RecoverAnswer size d q s a
     unplanned e r q was given answer = subst (λ (x : Result ℕ RollError). RecoverAnswer size d x s a) (sym given)
-        (refuse e (subst (λ (x : Result (Option Plan) RollError). ReadAnswer (torn_sector s) w x s a) was answer), one_still size d w s a down is one)
+        (refuse e (subst (λ (x : Result (Option Plan) RollError). ReadAnswer most_bytes (torn_sector s) w x s a) was answer), one_still size d w s a down is one)
 
     pub misjudged : {T : Type 0} (e : RollError) (r : Result T RollError) (q : Result ℕ RollError) → IsHot w → r ≡ Err e → SizeJudged size w r → q ≡ Err e → RecoverAnswer size d q s a
     misjudged {T = T} e r q hot was answer given = absurd (by e (subst (λ (x : Result T RollError). SizeJudged size w x) was answer))
@@ -411,10 +412,10 @@ module _ (past : State) (found : Files) (s : DiskState) (fits : FitsDisk past s)
       }
 
 -- a plan keeps the database within the limit
-pub few_some : (o : Option Plan) (p : Plan) (n size : ℕ) → o ≡ Some p → MatchOption o (Unit {0}) IsSmall → p.header.page_size ≡ size → n ≡ p.header.first_size → n * size ≤ 1073741824
-few_some o p n size is small same count =
-    let have : IsSmall p = subst (λ (x : Option Plan). MatchOption x (Unit {0}) IsSmall) is small in
-    subst (λ (k : ℕ). k * size ≤ 1073741824) (sym count) (subst (λ (k : ℕ). p.header.first_size * k ≤ 1073741824) same have.few)
+pub few_some : (o : Option Plan) (p : Plan) (n size : ℕ) → o ≡ Some p → MatchOption o (Unit {0}) (IsPlanWithin most_bytes) → p.header.page_size ≡ size → n ≡ p.header.first_size → n * size ≤ 1073741824
+few_some o p n size is within same count =
+    let have : IsPlanWithin most_bytes p = within_some most_bytes o p is within in
+    subst (λ (k : ℕ). k * size ≤ 1073741824) (sym count) (subst (λ (k : ℕ). p.header.first_size * k ≤ 1073741824) same have)
 
 pub small_some : (o : Option Plan) (p : Plan) → o ≡ Some p → MatchOption o (Unit {0}) IsSmall → IsSmall p
 small_some o p is small = subst (λ (x : Option Plan). MatchOption x (Unit {0}) IsSmall) is small

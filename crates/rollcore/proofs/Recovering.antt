@@ -1,6 +1,6 @@
 -- What a replay answers, of its parts.
 use Rattle.std.proofs.Common.{◌≡◌, ◌⊎◌, ⊎_elim, ℕ, ◌+◌, ◌-◌, ◌*◌, ◌<◌, ◌≤◌, Bool, true, false, cond, List, length, get_or, drop, replicate, refl, sym, ◌∙◌, ap, subst, arith, []}
-use Rattle.std.specs.Prelude.{Result, Ok, Err, Option, Some, None, IsTrue}
+use Rattle.std.specs.Prelude.{Result, Ok, Err, Option, MatchOption, Some, None, IsTrue}
 use Rattle.std.specs.List.{flat_map}
 use Rattle.std.proofs.lemmas.List.{ext_get_or, get_or_append_left, get_or-replicate, length-replicate}
 use Rattle.std.proofs.Math.Nat.{mul-le-mul_right}
@@ -16,11 +16,10 @@ use Rattle.crashdisk.specs.declared.error.DiskError.{DiskError}
 use Rattle.crashdisk.proofs.Sound.{byte_below}
 use Rattle.crashdisk.proofs.Images.{table}
 use Rattle.crashdisk.proofs.Steps.{present_list}
-use Rattle.sqval.specs.CommitFaults.{most_bytes}
-use Rattle.rollcore.specs.Replaying.{TearsJournal, IsTooLarge, zeroed, IsIdle, ReplayAnswer, Replays, Agrees, GoesOn}
+use Rattle.rollcore.specs.Replaying.{TearsJournal, IsTooLargeWithin, zeroed, IsIdle, ReplayAnswer, Replays, Agrees, GoesOn}
 use Rattle.crashdisk.specs.Keeps.{KeepsBytes, Still}
 use Rattle.rollcore.specs.Steps.{torn_sector, ArePages, CopyAnswer, EndAnswer, RolledAnswer}
-use Rattle.rollcore.specs.Plans.{IsBelow, IsFit, IsPlan, PlanAnswer, ReadAnswer}
+use Rattle.rollcore.specs.Plans.{IsBelow, IsFit, IsPlan, IsPlanWithin, IsWithin, PlanAnswer, ReadAnswer}
 use Rattle.rollcore.specs.declared.plan.Plan.{Plan}
 use Rattle.rollcore.specs.declared.replaying.Replayed.{Replayed}
 use Rattle.rollcore.specs.declared.error.RollError.{RollError}
@@ -93,10 +92,14 @@ pub record Planned (w db : List ℕ) (count n : ℕ) : Type 0 where
   pub sized : (p : ℕ) → 1 ≤ p → p ≤ length pages → length (page pages p) ≡ n
   pub same : n ≡ word w 24
   pub first : count ≡ word w 16
-  pub within : count * n ≤ most_bytes
+  pub within : count * n ≤ longest
 
-pub planned : (w db : List ℕ) (torn n : ℕ) (plan : Plan) → IsFit torn w → IsPlan w plan → n ≡ plan.header.page_size → Planned w db plan.header.first_size n
-planned w db torn n plan fit is e =
+-- a plan that was found keeps the database within the limit
+pub within_some : (most : ℕ) (o : Option Plan) (p : Plan) → o ≡ Some p → MatchOption o (Unit {0}) (IsPlanWithin most) → IsPlanWithin most p
+within_some most o p is within = subst (λ (x : Option Plan). MatchOption x (Unit {0}) (IsPlanWithin most)) is within
+
+pub planned : (w db : List ℕ) (torn n : ℕ) (plan : Plan) → IsPlanWithin longest plan → IsFit torn w → IsPlan w plan → n ≡ plan.header.page_size → Planned w db plan.header.first_size n
+planned w db torn n plan few fit is e =
     let same : n ≡ word w 24 = e ∙ is.names.size in
     let count = read_count w plan.scan is.read (length plan.scan.records.items) (λ b took. has_count b plan.scan (length plan.scan.records.items) took refl) in
     let made = rolled_exists w db count.segments count.stop.at count.stop.why count.is fit.hot in
@@ -106,7 +109,7 @@ planned w db torn n plan fit is e =
       sized = λ p a b. made_length w db count.segments count.stop.at count.stop.why count.is fit.hot made.0 made.1 p a b ∙ sym same;
       same = same;
       first = is.names.first_size;
-      within = subst (λ (k : ℕ). k * n ≤ most_bytes) (sym is.names.first_size) (subst (λ (k : ℕ). word w 16 * k ≤ most_bytes) (sym same) fit.within);
+      within = subst (λ (k : ℕ). plan.header.first_size * k ≤ longest) (sym e) few;
     }
 
 -- the buffer's length is the page size
@@ -123,8 +126,8 @@ rolled_present size w d s hot is = ((is.present (table s.db.len (byte s.db)) (pr
 pub torn_still : (a b : DiskState) → Still a b → torn_sector b ≡ torn_sector a
 torn_still a b is = ap (λ (x : Bool). cond x b.sector 0) is.tears ∙ ap (λ (n : ℕ). cond a.tears n 0) is.sector
 
-pub read_torn : (torn : ℕ) (w : List ℕ) (r : Result (Option Plan) RollError) (a b : DiskState) → torn ≡ torn_sector a → ReadAnswer torn w r a b → ReadAnswer (torn_sector a) w r a b
-read_torn torn w r a b e answer = subst (λ (n : ℕ). ReadAnswer n w r a b) e answer
+pub read_torn : (most torn : ℕ) (w : List ℕ) (r : Result (Option Plan) RollError) (a b : DiskState) → torn ≡ torn_sector a → ReadAnswer most torn w r a b → ReadAnswer most (torn_sector a) w r a b
+read_torn most torn w r a b e answer = subst (λ (n : ℕ). ReadAnswer most n w r a b) e answer
 
 -- ---- The whole.
 
@@ -154,29 +157,29 @@ module _ (db w : List ℕ) (a : DiskState) (sound : IsSoundDisk a) (are_db : Are
   pub short : longest < length w → ⊥
   short far = omega (arith, are.len, sound.log.greatest, sound.log.within)
 
-  pub small : word w 16 * word w 24 ≤ most_bytes → IsTooLarge w → ⊥
-  small within large = ⊎_elim short (λ x. omega (arith, x.1)) large
+  pub small : (most : ℕ) → IsWithin most w → IsTooLargeWithin most w → ⊥
+  small most within large = ⊎_elim short (λ x. omega (arith, x.1)) large
 
-  module _ (b : DiskState) (is : Still a b) where
+  module _ (most : ℕ) (b : DiskState) (is : Still a b) where
     pub bytes_kept : KeepsBytes a b
     bytes_kept = record { db = is.db; log = λ bytes here. present_in a.log b.log bytes is.log here }
 
-    pub read_refused : (r : Result (Option Plan) RollError) (q : Result Replayed RollError) (e : RollError) → r ≡ Err e → q ≡ Err e → ReadAnswer (torn_sector a) w r a b → ReplayAnswer db w q a b
+    pub read_refused : (r : Result (Option Plan) RollError) (q : Result Replayed RollError) (e : RollError) → r ≡ Err e → q ≡ Err e → ReadAnswer most (torn_sector a) w r a b → ReplayAnswer most db w q a b
     unfolding ReadAnswer PlanAnswer
     read_refused r q e was same answer =
-        subst (λ (x : Result Replayed RollError). ReplayAnswer db w x a b) (sym same) (by e (subst (λ (x : Result (Option Plan) RollError). ReadAnswer (torn_sector a) w x a b) was answer))
+        subst (λ (x : Result Replayed RollError). ReplayAnswer most db w x a b) (sym same) (by e (subst (λ (x : Result (Option Plan) RollError). ReadAnswer most (torn_sector a) w x a b) was answer))
       where
-        by : (e : RollError) → ReadAnswer (torn_sector a) w (Err e) a b → ReplayAnswer db w (Err e) a b
+        by : (e : RollError) → ReadAnswer most (torn_sector a) w (Err e) a b → ReplayAnswer most db w (Err e) a b
         by TooLarge x = (x, bytes_kept)
-        by SectorAbovePage x = (small x.1, tears_by w a x.0 x.2, bytes_kept)
+        by SectorAbovePage x = (small most x.1, tears_by w a x.0 x.2, bytes_kept)
         by NoMemory x = bytes_kept
         by Device x = x
         by _ x = absurd x
 
-    pub read_cold : (r : Result (Option Plan) RollError) (x : Replayed) → r ≡ Ok None → ReadAnswer (torn_sector a) w r a b → x.hot ≡ false → x.records ≡ 0 → x.size ≡ 0 → ReplayAnswer db w (Ok x) a b
+    pub read_cold : (r : Result (Option Plan) RollError) (x : Replayed) → r ≡ Ok None → ReadAnswer most (torn_sector a) w r a b → x.hot ≡ false → x.records ≡ 0 → x.size ≡ 0 → ReplayAnswer most db w (Ok x) a b
     unfolding ReadAnswer PlanAnswer
     read_cold r x was answer off none zero =
-        let cold : IsHot w → ⊥ = subst (λ (y : Result (Option Plan) RollError). ReadAnswer (torn_sector a) w y a b) was answer in (
+        let cold : IsHot w → ⊥ = subst (λ (y : Result (Option Plan) RollError). ReadAnswer most (torn_sector a) w y a b) was answer in (
           λ large. ⊎_elim short (λ y. cold y.0) large,
           λ tears. cold tears.1,
           record {
@@ -197,47 +200,47 @@ module _ (db w : List ℕ) (a : DiskState) (sound : IsSoundDisk a) (are_db : Are
             (λ i lt. let below : i < b.log.len = omega (arith, here.len) in let below_a : i < a.log.len = omega (arith, ap (λ (s : FileState). s.len) is.log) in
             here.each i below ∙ ap (λ (s : FileState). byte s i) is.log ∙ sym (are.each i below_a))
 
-    pub plan_replays : (r : Result (Option Plan) RollError) (plan : Plan) (q : Result Replayed RollError) (c : DiskState) → IsFit (torn_sector a) w → RolledAnswer db w q b c → ReplayAnswer db w q a c
+    pub plan_replays : (r : Result (Option Plan) RollError) (plan : Plan) (q : Result Replayed RollError) (c : DiskState) → IsFit (torn_sector a) w → IsWithin most w → RolledAnswer db w q b c → ReplayAnswer most db w q a c
     unfolding RolledAnswer
-    plan_replays r plan (Ok x) c fit answer = (
-      small fit.within,
+    plan_replays r plan (Ok x) c fit within answer = (
+      small most within,
       fits_whole w a fit,
       record { rolled = λ hot. answer; idle = λ cold. absurd (cold fit.hot); cold = settled_cold w c.log answer.log.settled },
     )
-    plan_replays r plan (Err e) c fit answer = subst (λ (x : RollError). ReplayAnswer db w (Err x) a c) (sym answer.0) (refusal_after a b c is.refused answer.1)
+    plan_replays r plan (Err e) c fit within answer = subst (λ (x : RollError). ReplayAnswer most db w (Err x) a c) (sym answer.0) (refusal_after a b c is.refused answer.1)
 
-pub read_plans : (torn : ℕ) (w : List ℕ) (r : Result (Option Plan) RollError) (plan : Plan) (a b : DiskState) → r ≡ Ok (Some plan) → ReadAnswer torn w r a b → IsFit torn w × IsPlan w plan
+pub read_plans : (most torn : ℕ) (w : List ℕ) (r : Result (Option Plan) RollError) (plan : Plan) (a b : DiskState) → r ≡ Ok (Some plan) → ReadAnswer most torn w r a b → IsFit torn w × IsPlan w plan × IsWithin most w
 unfolding ReadAnswer PlanAnswer
-read_plans torn w r plan a b was answer = let got = subst (λ (x : Result (Option Plan) RollError). ReadAnswer torn w x a b) was answer in got
+read_plans most torn w r plan a b was answer = let got = subst (λ (x : Result (Option Plan) RollError). ReadAnswer most torn w x a b) was answer in got
 
-pub plan_cold : (torn : ℕ) (w : List ℕ) (r : Result (Option Plan) RollError) (a b : DiskState) → r ≡ Ok None → ReadAnswer torn w r a b → IsHot w → ⊥
+pub plan_cold : (most torn : ℕ) (w : List ℕ) (r : Result (Option Plan) RollError) (a b : DiskState) → r ≡ Ok None → ReadAnswer most torn w r a b → IsHot w → ⊥
 unfolding ReadAnswer PlanAnswer
-plan_cold torn w r a b was answer = subst (λ (x : Result (Option Plan) RollError). ReadAnswer torn w x a b) was answer
+plan_cold most torn w r a b was answer = subst (λ (x : Result (Option Plan) RollError). ReadAnswer most torn w x a b) was answer
 
 -- a refused look before the plan is read
-pub look_unread : {T : Type 0} (w : List ℕ) (a : DiskState) → IsSoundDisk a → (b : DiskState) (called : Result T DiskError) (e : DiskError) (q : Result (Option Plan) RollError) → called ≡ Err e → q ≡ Err Device → Looks 0 called a b → ReadAnswer (torn_sector a) w q a b
+pub look_unread : {T : Type 0} (most : ℕ) (w : List ℕ) (a : DiskState) → IsSoundDisk a → (b : DiskState) (called : Result T DiskError) (e : DiskError) (q : Result (Option Plan) RollError) → called ≡ Err e → q ≡ Err Device → Looks 0 called a b → ReadAnswer most (torn_sector a) w q a b
 unfolding ReadAnswer
-look_unread w a sound b called e q was is looked =
-    subst (λ (x : Result (Option Plan) RollError). ReadAnswer (torn_sector a) w x a b) (sym is) (had_refusal called e 0 a b sound.refused was looked.within (omega arith) looked.refused)
+look_unread most w a sound b called e q was is looked =
+    subst (λ (x : Result (Option Plan) RollError). ReadAnswer most (torn_sector a) w x a b) (sym is) (had_refusal called e 0 a b sound.refused was looked.within (omega arith) looked.refused)
 
 -- and one that was answered
-pub read_looked : (w : List ℕ) (a b c : DiskState) → Still a b → (r : Result (Option Plan) RollError) → ReadAnswer (torn_sector b) w r b c → ReadAnswer (torn_sector a) w r a c
+pub read_looked : (most : ℕ) (w : List ℕ) (a b c : DiskState) → Still a b → (r : Result (Option Plan) RollError) → ReadAnswer most (torn_sector b) w r b c → ReadAnswer most (torn_sector a) w r a c
 unfolding ReadAnswer
-read_looked w a b c is (Err Device) answer = refusal_after a b c is.refused answer
-read_looked w a b c is r answer = subst (λ (n : ℕ). PlanAnswer n w r) (torn_still a b is) answer
+read_looked most w a b c is (Err Device) answer = refusal_after a b c is.refused answer
+read_looked most w a b c is r answer = subst (λ (n : ℕ). PlanAnswer most n w r) (torn_still a b is) answer
 
 -- ---- The log is synced first.
 
 -- what follows a sync that was answered so
-pub goes_on : {T : Type 0} (called : Result T DiskError) (v : T) (q : Result Replayed RollError) (a b : DiskState) → called ≡ Ok v → Replays q a b → Agrees a b → GoesOn called q a b
-goes_on {T = T} called v q a b is replays agrees = subst (λ (x : Result T DiskError). GoesOn x q a b) (sym is) (replays, agrees)
+pub goes_on : {T : Type 0} (most : ℕ) (called : Result T DiskError) (v : T) (q : Result Replayed RollError) (a b : DiskState) → called ≡ Ok v → Replays most q a b → Agrees a b → GoesOn most called q a b
+goes_on {T = T} most called v q a b is replays agrees = subst (λ (x : Result T DiskError). GoesOn most x q a b) (sym is) (replays, agrees)
 
-pub stays : {T : Type 0} (called : Result T DiskError) (e : DiskError) (q : Result Replayed RollError) (b : DiskState) → called ≡ Err e → q ≡ Err Device → GoesOn called q b b
-stays {T = T} called e q b is device = subst (λ (x : Result T DiskError). GoesOn x q b b) (sym is) (device, refl)
+pub stays : {T : Type 0} (most : ℕ) (called : Result T DiskError) (e : DiskError) (q : Result Replayed RollError) (b : DiskState) → called ≡ Err e → q ≡ Err Device → GoesOn most called q b b
+stays {T = T} most called e q b is device = subst (λ (x : Result T DiskError). GoesOn most x q b b) (sym is) (device, refl)
 
-pub sync_unreplayed : {T : Type 0} (db w : List ℕ) (called : Result T DiskError) (e : DiskError) (q : Result Replayed RollError) (a b : DiskState) → called ≡ Err e → q ≡ Err Device → Syncs Log called a b → ReplayAnswer db w q a b
-sync_unreplayed db w called e q a b was is synced =
-    subst (λ (x : Result Replayed RollError). ReplayAnswer db w x a b) (sym is) (had_refusal_any called e a b was synced.within synced.elsewhere.refused)
+pub sync_unreplayed : {T : Type 0} (most : ℕ) (db w : List ℕ) (called : Result T DiskError) (e : DiskError) (q : Result Replayed RollError) (a b : DiskState) → called ≡ Err e → q ≡ Err Device → Syncs Log called a b → ReplayAnswer most db w q a b
+sync_unreplayed most db w called e q a b was is synced =
+    subst (λ (x : Result Replayed RollError). ReplayAnswer most db w x a b) (sym is) (had_refusal_any called e a b was synced.within synced.elsewhere.refused)
 
 module _ {T : Type 0} {u : T} (db w : List ℕ) (a b c : DiskState) (synced : Syncs Log (Ok u) a b) where
   pub synced_present : (bytes : List ℕ) → ArePresent a.log bytes → ArePresent b.log bytes
@@ -261,13 +264,13 @@ module _ {T : Type 0} {u : T} (db w : List ℕ) (a b c : DiskState) (synced : Sy
   idle_after : (r : Replayed) → IsIdle r b c → IsIdle r a c
   idle_after r x = record { hot = x.hot; records = x.records; size = x.size; bytes = bytes_after x.bytes; down = λ v down. x.down v (down_syncs v Log (Ok u) a b down synced) }
 
-  after : (q : Result Replayed RollError) → ReplayAnswer db w q b c → ReplayAnswer db w q a c
-  after (Ok r) x = (x.0, λ tears. x.1 (tears_before tears), record { rolled = x.2.rolled; idle = λ cold. idle_after r (x.2.idle cold); cold = x.2.cold })
-  after (Err TooLarge) x = (x.0, bytes_after x.1)
-  after (Err SectorAbovePage) x = (x.0, tears_after x.1, bytes_after x.2)
-  after (Err NoMemory) x = bytes_after x
-  after (Err Device) x = refusal_after a b c le x
-  after (Err _) x = absurd x
+  after : (most : ℕ) (q : Result Replayed RollError) → ReplayAnswer most db w q b c → ReplayAnswer most db w q a c
+  after most (Ok r) x = (x.0, λ tears. x.1 (tears_before tears), record { rolled = x.2.rolled; idle = λ cold. idle_after r (x.2.idle cold); cold = x.2.cold })
+  after most (Err TooLarge) x = (x.0, bytes_after x.1)
+  after most (Err SectorAbovePage) x = (x.0, tears_after x.1, bytes_after x.2)
+  after most (Err NoMemory) x = bytes_after x
+  after most (Err Device) x = refusal_after a b c le x
+  after most (Err _) x = absurd x
 
-  pub replay_after : (q : Result Replayed RollError) → ArePresent a.db db → ArePresent a.log w → (ArePresent b.db db → ArePresent b.log w → ReplayAnswer db w q b c) → ReplayAnswer db w q a c
-  replay_after q are_db are rest = after q (rest (present_in a.db b.db db synced.elsewhere.other are_db) (synced_present w are))
+  pub replay_after : (most : ℕ) (q : Result Replayed RollError) → ArePresent a.db db → ArePresent a.log w → (ArePresent b.db db → ArePresent b.log w → ReplayAnswer most db w q b c) → ReplayAnswer most db w q a c
+  replay_after most q are_db are rest = after most q (rest (present_in a.db b.db db synced.elsewhere.other are_db) (synced_present w are))

@@ -9,7 +9,7 @@ use Rattle.crashdisk.specs.declared.file.File.TheVariants.{Log}
 use Rattle.crashdisk.specs.declared.error.DiskError.{DiskError}
 use Rattle.crashdisk.specs.Keeps.{HadRefusal, KeepsBytes, IsLogDown, Still, SyncStep, TearsPages, Later}
 use Rattle.rollcore.specs.Steps.{torn_sector, RolledAnswer}
-use Rattle.rollcore.specs.Plans.{IsFit, PlanAnswer, ReadAnswer}
+use Rattle.rollcore.specs.Plans.{IsFit, IsWithin, PlanAnswer, ReadAnswer}
 use Rattle.rollcore.specs.Replaying.{TearsJournal}
 use Rattle.sqval.specs.CommitFaults.{most_bytes}
 use Rattle.rollcore.specs.Opening.{CountAnswer, SizeJudged, BreakSteps, FrontAnswer, IsAboveLimit, RefusedFor, MayOpen, LeavesFiles, FilesAnswer}
@@ -35,14 +35,14 @@ still_bytes : (a b : DiskState) → Still a b → KeepsBytes a b
 still_bytes a b is = record { db = is.db; log = λ bytes here. present_in a.log b.log bytes is.log here }
 
 module _ (size : ℕ) (db w : List ℕ) (s : DiskState) (sound : IsSoundDisk s) (are_db : ArePresent s.db db) (are : ArePresent s.log w) where
-  not_above : IsHot w → word w 16 * word w 24 ≤ most_bytes → IsAboveLimit db w → ⊥
-  not_above hot within above = ⊎_elim (small db w s sound are_db are within) (λ x. x.0 hot) above
+  not_above : IsHot w → IsWithin most_bytes w → IsAboveLimit db w → ⊥
+  not_above hot within above = ⊎_elim (small db w s sound are_db are most_bytes within) (λ x. x.0 hot) above
 
-  pub hot_opens : IsFit (torn_sector s) w → word w 24 ≡ size → 1 ≤ word w 16 → MayOpen size db w s
-  hot_opens fit same some = record { within = not_above fit.hot fit.within; sectors = fits_whole w s fit; hot = λ hot. (same, some); cold = λ cold. absurd (cold fit.hot) }
+  pub hot_opens : IsFit (torn_sector s) w → IsWithin most_bytes w → word w 24 ≡ size → 1 ≤ word w 16 → MayOpen size db w s
+  hot_opens fit within same some = record { within = not_above fit.hot within; sectors = fits_whole w s fit; hot = λ hot. (same, some); cold = λ cold. absurd (cold fit.hot) }
 
   module _ (a : DiskState) (is : Still s a) where
-    refused_read : (e : RollError) → ReadAnswer (torn_sector s) w (Err e) s a → RefusedFor size db w e s a
+    refused_read : (e : RollError) → ReadAnswer most_bytes (torn_sector s) w (Err e) s a → RefusedFor size db w e s a
     unfolding ReadAnswer PlanAnswer
     refused_read TooLarge x = (inl x, still_bytes s a is)
     refused_read SectorAbovePage x = (not_above x.0 x.1, tears_by w s x.0 x.2, still_bytes s a is)
@@ -50,15 +50,15 @@ module _ (size : ℕ) (db w : List ℕ) (s : DiskState) (sound : IsSoundDisk s) 
     refused_read Device x = x
     refused_read _ x = absurd x
 
-    pub read_refuses : (r : Result (Option Plan) RollError) (e : RollError) → r ≡ Err e → ReadAnswer (torn_sector s) w r s a → RefusedFor size db w e s a
-    read_refuses r e was answer = refused_read e (subst (λ (x : Result (Option Plan) RollError). ReadAnswer (torn_sector s) w x s a) was answer)
+    pub read_refuses : (r : Result (Option Plan) RollError) (e : RollError) → r ≡ Err e → ReadAnswer most_bytes (torn_sector s) w r s a → RefusedFor size db w e s a
+    read_refuses r e was answer = refused_read e (subst (λ (x : Result (Option Plan) RollError). ReadAnswer most_bytes (torn_sector s) w x s a) was answer)
 
-    refused_size : (T : Type 0) → IsFit (torn_sector s) w → (e : RollError) → SizeJudged {T = T} size w (Err e) → RefusedFor size db w e s a
-    refused_size T fit PageSize x = (not_above fit.hot fit.within, fits_whole w s fit, inl (fit.hot, x), still_bytes s a is)
-    refused_size T fit _ x = absurd x
+    refused_size : (T : Type 0) → IsFit (torn_sector s) w → IsWithin most_bytes w → (e : RollError) → SizeJudged {T = T} size w (Err e) → RefusedFor size db w e s a
+    refused_size T fit within PageSize x = (not_above fit.hot within, fits_whole w s fit, inl (fit.hot, x), still_bytes s a is)
+    refused_size T fit within _ x = absurd x
 
-    pub size_refuses : {T : Type 0} → IsFit (torn_sector s) w → (r : Result T RollError) (e : RollError) → r ≡ Err e → SizeJudged size w r → RefusedFor size db w e s a
-    size_refuses {T = T} fit r e was answer = refused_size T fit e (subst (λ (x : Result T RollError). SizeJudged size w x) was answer)
+    pub size_refuses : {T : Type 0} → IsFit (torn_sector s) w → IsWithin most_bytes w → (r : Result T RollError) (e : RollError) → r ≡ Err e → SizeJudged size w r → RefusedFor size db w e s a
+    size_refuses {T = T} fit within r e was answer = refused_size T fit within e (subst (λ (x : Result T RollError). SizeJudged size w x) was answer)
 
     pub replay_refuses : (b : DiskState) (r : Result Replayed RollError) (e : RollError) → r ≡ Err e → RolledAnswer db w r a b → RefusedFor size db w e s b
     unfolding RolledAnswer

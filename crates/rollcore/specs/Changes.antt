@@ -12,22 +12,27 @@ use Rattle.rollcore.specs.Machine.{Act, Opens, Commits, Reads, Crashes, Sets}
 use Rattle.rollcore.specs.declared.error.RollError.{RollError}
 use Rattle.rollcore.specs.declared.error.RollError.TheVariants.{Device}
 
--- whole pages of this size, one or more one behind the other, at the place of the first in a database within the limit
-abbrev pub AreWholePages : (size at : ℕ) → (bytes : List ℕ) → Type 0
-AreWholePages size at bytes = (p : ℕ) × (k : ℕ) × (at ≡ p * size) × (1 ≤ k) × (length bytes ≡ k * size) × (at + length bytes ≤ most_bytes)
+-- whole pages of this size, one or more one behind the other, at the place of the first in a database of at most so
+-- many bytes
+abbrev pub AreWholePages : (most size at : ℕ) → (bytes : List ℕ) → Type 0
+AreWholePages most size at bytes = (p : ℕ) × (k : ℕ) × (at ≡ p * size) × (1 ≤ k) × (length bytes ≡ k * size) × (at + length bytes ≤ most)
 
--- the length of so many pages of this size, within the limit
-abbrev pub IsWholeLength : (size n : ℕ) → Type 0
-IsWholeLength size n = (count : ℕ) × (n ≡ count * size) × (n ≤ most_bytes)
+-- the length of so many pages of this size, at most so many bytes
+abbrev pub IsWholeLength : (most size n : ℕ) → Type 0
+IsWholeLength most size n = (count : ℕ) × (n ≡ count * size) × (n ≤ most)
 
--- A replay of a journal of pages of this size: pages of the database and its length; 28 zero bytes over the journal's first
--- header; and syncs.
+-- A replay of a journal of pages of this size: pages of a database of at most so many bytes, and its length; 28 zero
+-- bytes over the journal's first header; and syncs.
+abbrev pub MayReplayWithin : (most size : ℕ) → Change → Type 0
+MayReplayWithin most size (write Db at bytes) = AreWholePages most size at bytes
+MayReplayWithin most size (write Log at bytes) = (at ≡ 0) × (bytes ≡ replicate 28 0)
+MayReplayWithin most size (set_len Db n) = IsWholeLength most size n
+MayReplayWithin most size (set_len Log n) = ⊥
+MayReplayWithin most size (sync f) = Unit {0}
+
+-- the same at the usual limit
 abbrev pub MayReplay : (size : ℕ) → Change → Type 0
-MayReplay size (write Db at bytes) = AreWholePages size at bytes
-MayReplay size (write Log at bytes) = (at ≡ 0) × (bytes ≡ replicate 28 0)
-MayReplay size (set_len Db n) = IsWholeLength size n
-MayReplay size (set_len Log n) = ⊥
-MayReplay size (sync f) = Unit {0}
+MayReplay size change = MayReplayWithin most_bytes size change
 
 -- a record of a page of this size
 abbrev pub IsWholeRecord : (size : ℕ) (bytes : List ℕ) → Type 0

@@ -7,15 +7,15 @@ use Rattle.sqval.specs.CommitFaults.{most_bytes}
 use Rattle.sqjournal.specs.Journal.{IsHot}
 use Rattle.sqjournal.specs.Restored.{IsRolledBack}
 use Rattle.sqjournal.specs.declared.replay.Replay.{Replay}
-use Rattle.crashdisk.specs.State.{IsSectorSize}
+use Rattle.crashdisk.specs.State.{IsSectorSize, longest}
 use Rattle.crashdisk.specs.Call.{DiskState, ArePresent}
 use Rattle.crashdisk.specs.Keeps.{KeepsLog, IsLogDown}
 use Rattle.rollcore.specs.Alone.{ShowsAlone}
-use Rattle.rollcore.specs.Changes.{MayReplay, Asks}
+use Rattle.rollcore.specs.Changes.{MayReplayWithin, Asks}
 use Rattle.rollcore.specs.Commits.{PutAnswer}
 use Rattle.rollcore.specs.Lengths.{EndsBy, KeepsLength}
 use Rattle.rollcore.specs.Phases.{Scanning, Writing}
-use Rattle.rollcore.specs.Plans.{IsPlan, IsFit}
+use Rattle.rollcore.specs.Plans.{IsPlan, IsFit, IsPlanWithin}
 use Rattle.rollcore.specs.Replaying.{Replays, Agrees, SyncsFirst}
 use Rattle.rollcore.specs.Segments.{Journaled}
 use Rattle.rollcore.specs.Steps.{HasRead, ArePages, RunAnswer, CopyAnswer, EndAnswer, RolledAnswer, torn_sector}
@@ -26,19 +26,19 @@ use Rattle.rollcore.specs.declared.error.RollError.{RollError}
 -- the page of entry number i, or more from it on, are copied, where they are pages of a database of so many
 pub record CopiesRun (size : ℕ) (scan : Replay) (count i : ℕ) (result : Result ℕ RollError) (old new : DiskState) : Type 0 where
   pub log : KeepsLog old new
-  pub asks : count * size ≤ most_bytes → Asks (MayReplay size) result old new
-  pub pages : (w : List ℕ) → ArePresent old.log w → HasRead w scan → size ≡ word w 24 → count * size ≤ most_bytes → RunAnswer size w count i result old new
+  pub asks : (most : ℕ) → count * size ≤ most → Asks (MayReplayWithin most size) result old new
+  pub pages : (w : List ℕ) → ArePresent old.log w → HasRead w scan → size ≡ word w 24 → count * size ≤ longest → RunAnswer size w count i result old new
 
 -- the pages of all entries are copied, and the length is set to so many
 pub record CopiesRecords {T : Type 0} (size : ℕ) (scan : Replay) (count : ℕ) (result : Result T RollError) (old new : DiskState) : Type 0 where
   pub log : KeepsLog old new
-  pub asks : count * size ≤ most_bytes → Asks (MayReplay size) result old new
-  pub pages : (db w : List ℕ) (d : Database) → ArePresent old.db db → ArePresent old.log w → HasRead w scan → IsHot w → size ≡ word w 24 → count ≡ word w 16 → count * size ≤ most_bytes → IsRolledBack db w d → CopyAnswer size d result old new
-  pub writing : (w : List ℕ) (d : Database) → ArePresent old.log w → HasRead w scan → count * size ≤ most_bytes → count ≡ word w 16 → Writing size w d old → Writing size w d new
+  pub asks : (most : ℕ) → count * size ≤ most → Asks (MayReplayWithin most size) result old new
+  pub pages : (db w : List ℕ) (d : Database) → ArePresent old.db db → ArePresent old.log w → HasRead w scan → IsHot w → size ≡ word w 24 → count ≡ word w 16 → count * size ≤ longest → IsRolledBack db w d → CopyAnswer size d result old new
+  pub writing : (w : List ℕ) (d : Database) → ArePresent old.log w → HasRead w scan → count * size ≤ longest → count ≡ word w 16 → Writing size w d old → Writing size w d new
 
 -- The database is made to stay, and then the journal is ended: of a replay (shows, lengths), or of a commit that makes e of d.
 pub record Finishes {T : Type 0} (result : Result T RollError) (old new : DiskState) : Type 0 where
-  pub asks : (size : ℕ) → Asks (MayReplay size) result old new
+  pub asks : (most size : ℕ) → Asks (MayReplayWithin most size) result old new
   pub ends : EndAnswer result old new
   pub shows : (size : ℕ) (w : List ℕ) (d : Database) → Writing size w d old → ArePages size d old.db → ShowsAlone size d new
   pub lengths : IsSectorSize old.sector → (w : List ℕ) → IsLogDown old w → IsHot w → (old.tears ≡ true → old.sector ≤ word w 20) → EndsBy old.db.len new
@@ -47,23 +47,32 @@ pub record Finishes {T : Type 0} (result : Result T RollError) (old new : DiskSt
 
 -- what is planned is replayed
 pub record ReplaysPlan (plan : Plan) (result : Result Replayed RollError) (old new : DiskState) : Type 0 where
-  pub asks : Asks (MayReplay plan.header.page_size) result old new
+  pub asks : (most : ℕ) → IsPlanWithin most plan → Asks (MayReplayWithin most plan.header.page_size) result old new
   pub replays : (db w : List ℕ) (torn : ℕ) → ArePresent old.db db → ArePresent old.log w → IsFit torn w → IsPlan w plan → RolledAnswer db w result old new
   pub shows : IsSectorSize old.sector → (size : ℕ) (w : List ℕ) (d : Database) → Scanning size d w old → IsFit (torn_sector old) w → IsPlan w plan → ShowsAlone size d new
   pub ends : IsSectorSize old.sector → (w : List ℕ) → IsLogDown old w → IsFit (torn_sector old) w → IsPlan w plan → EndsBy (word w 16 * word w 24) new
 
--- the journal is replayed, without a sync before
-pub record ReplaysSynced (result : Result Replayed RollError) (old new : DiskState) : Type 0 where
-  pub replays : Replays result old new
+-- the journal is replayed into a database of at most so many bytes, without a sync before
+pub record ReplaysSyncedWithin (most : ℕ) (result : Result Replayed RollError) (old new : DiskState) : Type 0 where
+  pub replays : Replays most result old new
   pub agrees : Agrees old new
   pub lengths : KeepsLength old new
-  pub asks : (w : List ℕ) → ArePresent old.log w → Asks (MayReplay (word w 24)) result old new
+  pub asks : (w : List ℕ) → ArePresent old.log w → Asks (MayReplayWithin most (word w 24)) result old new
 
--- The journal is synced and replayed. Where nothing of it was unsynced, one database that a crash would leave stays so (agrees),
--- and a file beside a cold journal keeps its length (lengths). It asks for pages of the size that the journal names.
-pub record ReplaysFile (result : Result Replayed RollError) (old new : DiskState) : Type 0 where
-  pub replays : Replays result old new
+-- the same at the usual limit
+abbrev pub ReplaysSynced : Result Replayed RollError → (old new : DiskState) → Type 0
+ReplaysSynced result old new = ReplaysSyncedWithin most_bytes result old new
+
+-- The journal is synced and replayed, into a database of at most so many bytes. Where nothing of it was unsynced, one
+-- database that a crash would leave stays so (agrees), and a file beside a cold journal keeps its length (lengths). It
+-- asks for pages of the size that the journal names.
+pub record ReplaysFileWithin (most : ℕ) (result : Result Replayed RollError) (old new : DiskState) : Type 0 where
+  pub replays : Replays most result old new
   pub agrees : Agrees old new
   pub lengths : KeepsLength old new
-  pub synced : SyncsFirst result old new
-  pub asks : (w : List ℕ) → ArePresent old.log w → Asks (MayReplay (word w 24)) result old new
+  pub synced : SyncsFirst most result old new
+  pub asks : (w : List ℕ) → ArePresent old.log w → Asks (MayReplayWithin most (word w 24)) result old new
+
+-- the same at the usual limit
+abbrev pub ReplaysFile : Result Replayed RollError → (old new : DiskState) → Type 0
+ReplaysFile result old new = ReplaysFileWithin most_bytes result old new

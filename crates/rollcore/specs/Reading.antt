@@ -29,14 +29,15 @@ TakesLog long before after result old new = (w : List ℕ) → ArePresent old.lo
 abbrev pub ScansLog : (long : ℕ) → Result (Option Replay) RollError → (old new : DiskState) → Type 0
 ScansLog long result old new = (w : List ℕ) → ArePresent old.log w → length w ≡ long → ScanAnswer w result old new
 
--- what is to be replayed of a journal of so many bytes, on sectors of this size that tear
-abbrev pub PlansReplay : (long torn : ℕ) → Result (Option Plan) RollError → (old new : DiskState) → Type 0
-PlansReplay long torn result old new = (w : List ℕ) → ArePresent old.log w → length w ≡ long → ReadAnswer torn w result old new
+-- what is to be replayed, into a database of at most so many bytes, of a journal of so many, on sectors of this size
+-- that tear
+abbrev pub PlansReplay : (most long torn : ℕ) → Result (Option Plan) RollError → (old new : DiskState) → Type 0
+PlansReplay most long torn result old new = (w : List ℕ) → ArePresent old.log w → length w ≡ long → ReadAnswer most torn w result old new
 
 -- the same of the disk's journal and sectors
-pub record FindsPlan (result : Result (Option Plan) RollError) (old new : DiskState) : Type 0 where
+pub record FindsPlan (most : ℕ) (result : Result (Option Plan) RollError) (old new : DiskState) : Type 0 where
   pub sectors : IsSectorSize old.sector
-  pub plan : (w : List ℕ) → ArePresent old.log w → ReadAnswer (torn_sector old) w result old new
+  pub plan : (w : List ℕ) → ArePresent old.log w → ReadAnswer most (torn_sector old) w result old new
 
 -- the pages of the database file are counted
 abbrev pub CountsPages : (size : ℕ) → Result ℕ RollError → (old new : DiskState) → Type 0

@@ -20,9 +20,13 @@ use Rattle.crashdisk.specs.Keeps.{KeepsBytes, IsLogDown, HadRefusal}
 abbrev pub TearsJournal : DiskState → List ℕ → Type 0
 TearsJournal s w = (s.tears ≡ true) × IsHot w × ((word w 24 < s.sector) ⊎ (word w 20 < s.sector))
 
--- the journal is longer than is scanned, or its database is above the limit
+-- the journal is longer than is scanned, or its database has more than so many bytes
+abbrev pub IsTooLargeWithin : (most : ℕ) → List ℕ → Type 0
+IsTooLargeWithin most w = (longest < length w) ⊎ (IsHot w × (most < word w 16 * word w 24))
+
+-- the same at the usual limit
 abbrev pub IsTooLarge : List ℕ → Type 0
-IsTooLarge w = (longest < length w) ⊎ (IsHot w × (most_bytes < word w 16 * word w 24))
+IsTooLarge w = IsTooLargeWithin most_bytes w
 
 -- a journal with zeros for its first header
 abbrev pub zeroed : List ℕ → List ℕ
@@ -51,31 +55,31 @@ pub record IsReplayed (db w : List ℕ) (r : Replayed) (old new : DiskState) : T
   pub idle : (IsHot w → ⊥) → IsIdle r old new
   pub cold : (bytes : List ℕ) → ArePresent new.log bytes → IsHot bytes → ⊥
 
--- what a replay answers, and what it leaves
-abbrev pub ReplayAnswer : (db w : List ℕ) → Result Replayed RollError → (old new : DiskState) → Type 0
-ReplayAnswer db w (Ok r) old new = (IsTooLarge w → ⊥) × (TearsJournal old w → ⊥) × IsReplayed db w r old new
-ReplayAnswer db w (Err TooLarge) old new = IsTooLarge w × KeepsBytes old new
-ReplayAnswer db w (Err SectorAbovePage) old new = (IsTooLarge w → ⊥) × TearsJournal old w × KeepsBytes old new
-ReplayAnswer db w (Err NoMemory) old new = KeepsBytes old new
-ReplayAnswer db w (Err Device) old new = HadRefusal old new
-ReplayAnswer db w (Err _) old new = ⊥
+-- what a replay of a database of at most so many bytes answers, and what it leaves
+abbrev pub ReplayAnswer : (most : ℕ) (db w : List ℕ) → Result Replayed RollError → (old new : DiskState) → Type 0
+ReplayAnswer most db w (Ok r) old new = (IsTooLargeWithin most w → ⊥) × (TearsJournal old w → ⊥) × IsReplayed db w r old new
+ReplayAnswer most db w (Err TooLarge) old new = IsTooLargeWithin most w × KeepsBytes old new
+ReplayAnswer most db w (Err SectorAbovePage) old new = (IsTooLargeWithin most w → ⊥) × TearsJournal old w × KeepsBytes old new
+ReplayAnswer most db w (Err NoMemory) old new = KeepsBytes old new
+ReplayAnswer most db w (Err Device) old new = HadRefusal old new
+ReplayAnswer most db w (Err _) old new = ⊥
 
 -- for whatever bytes are present
-abbrev pub Replays : Result Replayed RollError → (old new : DiskState) → Type 0
-Replays result old new = (db w : List ℕ) → ArePresent old.db db → ArePresent old.log w → ReplayAnswer db w result old new
+abbrev pub Replays : (most : ℕ) → Result Replayed RollError → (old new : DiskState) → Type 0
+Replays most result old new = (db w : List ℕ) → ArePresent old.db db → ArePresent old.log w → ReplayAnswer most db w result old new
 
 -- where nothing of the log was unsynced, and all that a crash may leave showed one database, it still does
 abbrev pub Agrees : (old new : DiskState) → Type 0
 Agrees old new = (size : ℕ) (w : List ℕ) (d : Database) → IsLogDown old w → ShowsAlone size d old → ShowsAlone size d new
 
 -- what a replay does once a sync of the log was answered
-abbrev pub GoesOn : {T : Type 0} → Result T DiskError → Result Replayed RollError → (old new : DiskState) → Type 0
-GoesOn (Ok _) result old new = Replays result old new × Agrees old new
-GoesOn (Err _) result old new = (result ≡ Err Device) × (new ≡ old)
+abbrev pub GoesOn : {T : Type 0} → (most : ℕ) → Result T DiskError → Result Replayed RollError → (old new : DiskState) → Type 0
+GoesOn most (Ok _) result old new = Replays most result old new × Agrees old new
+GoesOn most (Err _) result old new = (result ≡ Err Device) × (new ≡ old)
 
 -- The log is synced first. So it is from that moment on that all which a crash may leave shows the database that it showed.
-pub record SyncsFirst (result : Result Replayed RollError) (old new : DiskState) : Type 0 where
+pub record SyncsFirst (most : ℕ) (result : Result Replayed RollError) (old new : DiskState) : Type 0 where
   pub called : Result (Unit {0}) DiskError
   pub mid : DiskState
   pub sync : Syncs Log called old mid
-  pub rest : GoesOn called result mid new
+  pub rest : GoesOn most called result mid new

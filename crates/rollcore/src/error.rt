@@ -36,7 +36,8 @@ pub enum RollError {
     /// A page's length isn't the page size.
     #[error("a page of another length")]
     BadLength,
-    /// The database is or would be above 1,073,741,824 bytes, or the journal is above 1,099,511,627,776.
+    /// The database is or would be above 1,073,741,824 bytes, or above the limit that was handed in; or the journal is
+    /// above 1,099,511,627,776.
     #[error("too large")]
     TooLarge,
     /// A hot journal names another page size or a database of no pages; or where none is hot, the database file is

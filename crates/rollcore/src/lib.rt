@@ -56,6 +56,6 @@ pub use laws::{
     a_base_fits, a_crash_fits, a_look_fits, one_is_shown, one_step, runs_are_sane,
     settled_files_fit, what_is_down_stays, what_is_shown_stays,
 };
-pub use replaying::{Replayed, replay, replay_synced};
+pub use replaying::{Replayed, replay, replay_synced, replay_within};
 pub use roll::{Refused, Roll, SEGMENT_RECORDS};
 pub use worked::{commits_are_whole, no_runs};

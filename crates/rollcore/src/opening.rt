@@ -10,15 +10,18 @@ ghost use Rattle.rollcore.specs.Opening.{SizeJudged};
 ghost use Rattle.rollcore.specs.Opening.{IsNewCore};
 
 use crate::error::RollError;
-use crate::plan::{MOST_BYTES, Plan};
+use crate::plan::Plan;
 use crate::reading::zeros;
 use crate::replaying::{find_plan, replay_plan, sector_that_tears};
 use crate::roll::{Refused, Roll};
 use crate::state::Core;
 use crashdisk::{Disk, File};
 use sqjournal::is_magic;
-use sqval::PageSize;
+use sqval::{Limits, PageSize};
 use std::alloc::Global;
+
+/// The most bytes of a database.
+const MOST_BYTES: u64 = 1073741824;
 
 /// How many pages the database file has: TooLarge where it is above the limit, else PageSize where that is no whole
 /// number, or 0.
@@ -91,7 +94,7 @@ fn recover_synced<D: Disk>(
     ensures disk { During D.keeps_word D.state disk.old disk.new (RecoversSynced page_size result) }
     ensures few { IfOk result (λ n. n * page_size ≤ 1073741824) }
 {
-    match find_plan(alloc, disk)? {
+    match find_plan(alloc, disk, Limits::USUAL)? {
         Some(plan) => {
             judge_size(&plan, page_size)?;
             let replayed = replay_plan(disk, plan)?;

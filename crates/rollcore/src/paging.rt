@@ -64,7 +64,8 @@ impl<D: Disk> Roll<D> {
     /// Lends the disk (own), as for a stop or a failure to be set. What is written to it by other calls the engine
     /// doesn't know.
     pub fn disk(&mut self) -> &mut D
-        ensures* writes_back { sem 𝓛 (Lends (the_row D.row) D.row self.entry result (λ w. record self.old { disk = w })) }
+        ensures* writes_back { sem 𝓛 (Lends (the_row D.row) D.row self.entry result
+            (λ w. record self.old { disk = w })) }
         ensures value { result.now ≡ self.old.disk }
     {
         &mut self.disk

@@ -2,7 +2,7 @@
 ghost use Rattle.std.specs.Prelude.{◌+◌, ◌*◌, ◌≤◌, ℕ, List, OnOk, IfOk, MatchOption};
 ghost use Rattle.sqjournal.specs.Header.{Names};
 ghost use Rattle.sqjournal.specs.Journal.{IsHot};
-ghost use Rattle.rollcore.specs.Plans.{IsSmall, JudgeAnswer, PlanAnswer};
+ghost use Rattle.rollcore.specs.Plans.{IsSmall, IsPlanWithin, JudgeAnswer, PlanAnswer};
 ghost use Rattle.rollcore.specs.Steps.{HasRead};
 ghost use Rattle.crashdisk.specs.During.{During};
 ghost use Rattle.rollcore.specs.Reading.{OnlyReads, PlansReplay};
@@ -11,10 +11,8 @@ use crate::error::RollError;
 use crate::reading::{scan_log, zeros};
 use crashdisk::Disk;
 use sqjournal::{JournalHeader, Replay};
+use sqval::Limits;
 use std::alloc::Global;
-
-/// The most bytes of a database.
-pub const MOST_BYTES: u64 = 1073741824;
 
 /// More room than for one page in which pages are copied, in bytes.
 const RUN: usize = 196_608;
@@ -27,14 +25,15 @@ pub struct Plan {
     pub room: Vec<u8>,
 }
 
-/// Whether the database of a hot journal is too large, or sectors that tear, of this size, are larger than its pages
-/// or the sectors that it names.
-fn judge(header: &JournalHeader, torn: usize) -> Result<(), RollError>
-    ensures judged { (w : List ℕ) → IsHot w → Names w header.now → JudgeAnswer torn w result }
-    ensures few { OnOk result (header.now.first_size * header.now.page_size ≤ 1073741824) }
+/// Whether the database of a hot journal is above the limit, or sectors that tear, of this size, are larger than its
+/// pages or the sectors that it names.
+fn judge(header: &JournalHeader, limits: Limits, torn: usize) -> Result<(), RollError>
+    ensures judged { (w : List ℕ) → IsHot w → Names w header.now → JudgeAnswer limits.bytes torn w result }
+    ensures within { OnOk result (header.now.first_size * header.now.page_size ≤ limits.bytes) }
+    ensures few { OnOk result (header.now.first_size * header.now.page_size ≤ 1099511627776) }
 {
     let page_size = header.page_size.get();
-    if u64::from(header.first_size) * u64::from(page_size) > MOST_BYTES {
+    if u64::from(header.first_size) * u64::from(page_size) > limits.bytes() {
         return Err(RollError::TooLarge);
     }
     if (page_size as usize) < torn || (header.sector as usize) < torn {
@@ -44,14 +43,20 @@ fn judge(header: &JournalHeader, torn: usize) -> Result<(), RollError>
 }
 
 /// Judges the scanned journal, and takes all memory that its replay needs. None where it isn't hot.
-fn plan_of(alloc: Global, scan: Replay, torn: usize) -> Result<Option<Plan>, RollError>
-    ensures plan { (w : List ℕ) → HasRead w scan → PlanAnswer torn w result }
+fn plan_of(
+    alloc: Global,
+    scan: Replay,
+    limits: Limits,
+    torn: usize,
+) -> Result<Option<Plan>, RollError>
+    ensures plan { (w : List ℕ) → HasRead w scan → PlanAnswer limits.bytes torn w result }
+    ensures within { IfOk result (λ o. MatchOption o (Unit {0}) (IsPlanWithin limits.bytes)) }
     ensures small { IfOk result (λ o. MatchOption o (Unit {0}) IsSmall) }
 {
     let Some(header) = scan.first() else {
         return Ok(None);
     };
-    judge(&header, torn)?;
+    judge(&header, limits, torn)?;
     let room = zeros(alloc, header.page_size.get() as usize + RUN)?;
     Ok(Some(Plan { scan, header, room }))
 }
@@ -60,14 +65,17 @@ fn plan_of(alloc: Global, scan: Replay, torn: usize) -> Result<Option<Plan>, Rol
 pub fn read_plan<D: Disk>(
     alloc: Global,
     disk: &mut D,
+    limits: Limits,
     long: u64,
     torn: usize,
 ) -> Result<Option<Plan>, RollError>
-    ensures disk { During D.keeps_word D.state disk.old disk.new (OnlyReads result (PlansReplay long torn result)) }
+    ensures disk { During D.keeps_word D.state disk.old disk.new
+        (OnlyReads result (PlansReplay limits.bytes long torn result)) }
+    ensures within { IfOk result (λ o. MatchOption o (Unit {0}) (IsPlanWithin limits.bytes)) }
     ensures small { IfOk result (λ o. MatchOption o (Unit {0}) IsSmall) }
 {
     match scan_log(alloc, disk, long)? {
-        Some(scan) => plan_of(alloc, scan, torn),
+        Some(scan) => plan_of(alloc, scan, limits, torn),
         None => Ok(None),
     }
 }

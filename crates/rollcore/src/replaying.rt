@@ -5,6 +5,7 @@ use crate::copying::{copy_records, finish};
 use crate::error::RollError;
 use crate::plan::{Plan, read_plan};
 use crashdisk::{Disk, File};
+use sqval::Limits;
 use std::alloc::Global;
 
 /// What a replay found: whether the journal was hot, how many of its records passed, and the first size of the
@@ -21,10 +22,11 @@ pub struct Replayed {
 
 ghost use Rattle.crashdisk.specs.State.{IsSectorSize};
 ghost use Rattle.rollcore.specs.Steps.{torn_sector};
-ghost use Rattle.rollcore.specs.Plans.{IsSmall};
+ghost use Rattle.rollcore.specs.Plans.{IsSmall, IsPlanWithin};
 ghost use Rattle.crashdisk.specs.During.{During};
 ghost use Rattle.rollcore.specs.Reading.{OnlyReads, FindsPlan};
-ghost use Rattle.rollcore.specs.Copying.{ReplaysPlan, ReplaysSynced, ReplaysFile};
+ghost use Rattle.rollcore.specs.Copying.{ReplaysPlan, ReplaysSynced, ReplaysSyncedWithin};
+ghost use Rattle.rollcore.specs.Copying.{ReplaysFile, ReplaysFileWithin};
 
 /// The size in bytes of a sector that may tear, 0 on a disk that doesn't tear.
 pub(crate) fn sector_that_tears<D: Disk>(disk: &D) -> usize
@@ -36,13 +38,18 @@ pub(crate) fn sector_that_tears<D: Disk>(disk: &D) -> usize
 }
 
 /// Reads the journal and judges it. None where it isn't hot.
-pub(crate) fn find_plan<D: Disk>(alloc: Global, disk: &mut D) -> Result<Option<Plan>, RollError>
-    ensures disk { During D.keeps_word D.state disk.old disk.new (OnlyReads result (FindsPlan result)) }
+pub(crate) fn find_plan<D: Disk>(
+    alloc: Global,
+    disk: &mut D,
+    limits: Limits,
+) -> Result<Option<Plan>, RollError>
+    ensures disk { During D.keeps_word D.state disk.old disk.new (OnlyReads result (FindsPlan limits.bytes result)) }
+    ensures within { IfOk result (λ o. MatchOption o (Unit {0}) (IsPlanWithin limits.bytes)) }
     ensures small { IfOk result (λ o. MatchOption o (Unit {0}) IsSmall) }
 {
     let torn = sector_that_tears(disk);
     let long = disk.len(File::Log)?;
-    read_plan(alloc, disk, long, torn)
+    read_plan(alloc, disk, limits, long, torn)
 }
 
 /// Replays what is planned.
@@ -76,15 +83,39 @@ pub(crate) fn replay_plan<D: Disk>(disk: &mut D, plan: Plan) -> Result<Replayed,
 pub fn replay<D: Disk>(alloc: Global, disk: &mut D) -> Result<Replayed, RollError>
     ensures { During D.keeps_word D.state disk.old disk.new (ReplaysFile result) }
 {
+    replay_within(alloc, disk, Limits::USUAL)
+}
+
+/// The same into a database of no more bytes than these limits allow: refused with `TooLarge` where the first size is
+/// above `limits.bytes()`, or the journal above 1,099,511,627,776 bytes; otherwise as `replay` is. The limit of frames
+/// is of no account. The database that is there may have any length (fileformat2, 3; the limit is own).
+pub fn replay_within<D: Disk>(
+    alloc: Global,
+    disk: &mut D,
+    limits: Limits,
+) -> Result<Replayed, RollError>
+    ensures { During D.keeps_word D.state disk.old disk.new (ReplaysFileWithin limits.bytes result) }
+{
     disk.sync(File::Log)?;
-    replay_synced(alloc, disk)
+    replay_synced_within(alloc, disk, limits)
 }
 
 /// What a replay does once it has synced the log. Refused as `replay` is.
 pub fn replay_synced<D: Disk>(alloc: Global, disk: &mut D) -> Result<Replayed, RollError>
     ensures { During D.keeps_word D.state disk.old disk.new (ReplaysSynced result) }
 {
-    match find_plan(alloc, disk)? {
+    replay_synced_within(alloc, disk, Limits::USUAL)
+}
+
+/// The same within these limits. Refused as `replay_within` is.
+fn replay_synced_within<D: Disk>(
+    alloc: Global,
+    disk: &mut D,
+    limits: Limits,
+) -> Result<Replayed, RollError>
+    ensures { During D.keeps_word D.state disk.old disk.new (ReplaysSyncedWithin limits.bytes result) }
+{
+    match find_plan(alloc, disk, limits)? {
         Some(plan) => replay_plan(disk, plan),
         None => Ok(Replayed {
             hot: false,

@@ -2,6 +2,8 @@
 #![tactic(auto)]
 
 #[cfg(test)]
+mod checks;
+#[cfg(test)]
 mod crashdisk_tests;
 #[cfg(test)]
 mod rollcore_tests;

@@ -3,51 +3,30 @@ mod commits;
 pub(crate) mod folds;
 mod openings;
 
+use crate::checks::{disk_of, done, has_length, page_size, present, put, same};
+use crate::walcore_tests::folds::log;
 use crashdisk::{Disk, File, ModelDisk};
-use sqval::PageSize;
-use sqwal::{Hit, Order, Sum, WalHeader, frame_head};
-use std::alloc::Global;
-use std::test::Fail;
+use sqwal::{Hit, Order, WalHeader};
+use std::process::Abort;
 use walcore::{Checkpointed, Folded, Reader, Refused, Wal, WalError, fold};
 
 #[test]
-fn folds_a_commit(rt: HostRuntime) -> Result<(), Fail> {
-    let alloc = rt.alloc();
-    let page_size = PageSize::new(512).ok_or("a page size")?;
-    let header = WalHeader {
-        order: Order::Big,
-        page_size,
-        sequence: 0,
-        salt1: 1,
-        salt2: 2,
-    };
-    let mut head = [0u8; 32];
-    header.write(&mut head);
-    let sum = Sum::zero().add(&head[..24], Order::Big);
-    let content = [b'b'; 512];
-    assert_eq!(rt; page_size.get(), 512);
-    let (frame, _) = frame_head(&header, sum, 1, 1, &content);
-
-    let mut disk = ModelDisk::new(alloc, 512, [b'a'; 1024].to_vec(alloc)?)?;
-    disk.write_at(File::Log, 0, &head)?;
-    disk.write_at(File::Log, 32, &frame)?;
-    disk.write_at(File::Log, 56, &content)?;
-    let folded = fold(alloc, &mut disk, page_size)?;
-    assert_eq!(rt; folded, Folded { frames: 1, size: 1 });
-    let mut left = Vec::new(alloc);
-    disk.present(File::Db, &mut left)?;
-    assert_eq!(rt; left.as_slice(), content.as_slice());
-    disk.present(File::Log, &mut left)?;
-    assert_eq!(rt; left.len(), 512);
-    assert_eq!(rt; disk.len(File::Log)?, 0);
-    Ok(())
+fn folds_a_commit(rt: HostRuntime) {
+    let mut disk = disk_of(&rt, b'a', 1024);
+    put(&rt, &mut disk, File::Log, 0, &log(&rt, &[(1, 1)]));
+    let folded = fold(rt.alloc(), &mut disk, page_size(&rt, 512));
+    same(&rt, folded, Ok(Folded { frames: 1, size: 1 }));
+    let left = present(&rt, &disk, File::Db);
+    same(&rt, left.as_slice(), [b'b'; 512].as_slice());
+    same(&rt, present(&rt, &disk, File::Log).len(), 0);
+    has_length(&rt, &mut disk, File::Log, 0);
 }
 
-fn open(alloc: Global, disk: ModelDisk, salts: (u32, u32)) -> Result<Wal<ModelDisk>, Fail> {
-    let page_size = PageSize::new(512).ok_or("a page size")?;
-    match Wal::open(alloc, disk, page_size, salts) {
-        Ok(wal) => Ok(wal),
-        Err(Refused { error, disk: _ }) => Err(error.into()),
+/// An engine over this disk, in pages of 512 bytes.
+fn open<R: AllocGlobal + Abort>(rt: &R, disk: ModelDisk, salts: (u32, u32)) -> Wal<ModelDisk> {
+    match Wal::open(rt.alloc(), disk, page_size(rt, 512), salts) {
+        Ok(wal) => wal,
+        Err(Refused { error, disk: _ }) => panic!(rt; "refused: {error:?}"),
     }
 }
 
@@ -96,45 +75,38 @@ fn checkpoint_behind(
     }
 }
 
-#[test]
-fn a_reader_sees_its_commit(rt: HostRuntime) -> Result<(), Fail> {
-    let alloc = rt.alloc();
-    let disk = ModelDisk::new(alloc, 512, [b'a'; 512].to_vec(alloc)?)?;
-    let mut wal = open(alloc, disk, (1, 2))?;
-    let bytes = match wal.begin() {
+/// What a commit answers while a reader is open, and the first byte of page 1 for that reader and for a new one.
+fn commit_behind(
+    wal: &mut Wal<ModelDisk>,
+) -> Option<(Result<(), WalError>, Option<(u8, Hit)>, Option<(u8, Hit)>)> {
+    match wal.begin() {
         Ok(reader) => {
             let committed = wal.commit(&[(1, &[b'b'; 512])], 1);
-            let old = first_byte(&mut wal, &reader);
-            let new = newest_byte(&mut wal);
+            let old = first_byte(wal, &reader);
+            let new = newest_byte(wal);
             wal.end(reader);
             Some((committed, old, new))
         }
         Err(_) => None,
-    };
-    let synced = wal.sync();
-    let disk = wal.into_disk();
-    assert_eq!(rt;
-        bytes,
-        Some((Ok(()), Some((b'a', hit(0, 1))), Some((b'b', hit(1, 1)))))
-    );
-    assert_eq!(rt; synced, Ok(()));
-    let mut again = open(alloc, disk, (3, 4))?;
-    let byte = newest_byte(&mut again);
-    let last = again.disk().sync(File::Db);
-    let disk = again.into_disk();
-    assert_eq!(rt; byte, Some((b'b', hit(0, 0))));
-    assert_eq!(rt; last, Ok(()));
-    assert_eq!(rt; disk.refused(), 0);
-    Ok(())
+    }
 }
 
-// A reader keeps the size of its commit.
 #[test]
-fn a_reader_has_a_size(rt: HostRuntime) -> Result<(), Fail> {
-    let alloc = rt.alloc();
-    let disk = ModelDisk::new(alloc, 512, [b'a'; 1024].to_vec(alloc)?)?;
-    let mut wal = open(alloc, disk, (1, 2))?;
-    let sizes = match wal.begin() {
+fn a_reader_sees_its_commit(rt: HostRuntime) {
+    let mut wal = open(&rt, disk_of(&rt, b'a', 512), (1, 2));
+    let bytes = commit_behind(&mut wal);
+    let (old, new) = (Some((b'a', hit(0, 1))), Some((b'b', hit(1, 1))));
+    same(&rt, bytes, Some((Ok(()), old, new)));
+    same(&rt, wal.sync(), Ok(()));
+    let mut again = open(&rt, wal.into_disk(), (3, 4));
+    same(&rt, newest_byte(&mut again), Some((b'b', hit(0, 0))));
+    same(&rt, again.disk().sync(File::Db), Ok(()));
+    same(&rt, again.into_disk().refused(), 0);
+}
+
+/// What a commit of a third page answers while a reader is open, and the size that the reader has.
+fn size_behind(wal: &mut Wal<ModelDisk>) -> Option<(Result<(), WalError>, u32)> {
+    match wal.begin() {
         Ok(reader) => {
             let committed = wal.commit(&[(3, &[b'b'; 512])], 3);
             let size = reader.size();
@@ -142,94 +114,73 @@ fn a_reader_has_a_size(rt: HostRuntime) -> Result<(), Fail> {
             Some((committed, size))
         }
         Err(_) => None,
-    };
-    let _ = wal.into_disk();
-    assert_eq!(rt; sizes, Some((Ok(()), 2)));
-    Ok(())
+    }
+}
+
+// A reader keeps the size of its commit.
+#[test]
+fn a_reader_has_a_size(rt: HostRuntime) {
+    let mut wal = open(&rt, disk_of(&rt, b'a', 1024), (1, 2));
+    same(&rt, size_behind(&mut wal), Some((Ok(()), 2)));
+    let _disk = wal.into_disk();
 }
 
 #[test]
-fn a_checkpoint_waits_for_readers(rt: HostRuntime) -> Result<(), Fail> {
-    let alloc = rt.alloc();
-    let disk = ModelDisk::new(alloc, 512, [b'a'; 512].to_vec(alloc)?)?;
-    let mut wal = open(alloc, disk, (1, 2))?;
+fn a_checkpoint_waits_for_readers(rt: HostRuntime) {
+    let mut wal = open(&rt, disk_of(&rt, b'a', 512), (1, 2));
     let answers = checkpoint_behind(&mut wal);
-    let restarted = wal.restart(3);
-    let byte = newest_byte(&mut wal);
-    let disk = wal.into_disk();
     let early = Err(WalError::NotDrained);
-    assert_eq!(rt;
-        answers,
-        Some((Checkpointed::Partial, early, Checkpointed::Complete))
-    );
-    assert_eq!(rt; restarted, Ok(()));
-    assert_eq!(rt; byte, Some((b'b', hit(0, 0))));
-    let mut left = Vec::new(alloc);
-    disk.present(File::Db, &mut left)?;
-    assert_eq!(rt; left.as_slice(), [b'b'; 512].as_slice());
-    Ok(())
+    let wanted = Some((Checkpointed::Partial, early, Checkpointed::Complete));
+    same(&rt, answers, wanted);
+    same(&rt, wal.restart(3), Ok(()));
+    same(&rt, newest_byte(&mut wal), Some((b'b', hit(0, 0))));
+    let left = present(&rt, &wal.into_disk(), File::Db);
+    same(&rt, left.as_slice(), [b'b'; 512].as_slice());
 }
 
 #[test]
-fn opens_and_restarts(rt: HostRuntime) -> Result<(), Fail> {
-    let alloc = rt.alloc();
-    let page_size = PageSize::new(512).ok_or("a page size")?;
-    let disk = ModelDisk::new(alloc, 512, [b'a'; 1024].to_vec(alloc)?)?;
-    let (answer, disk) = match Wal::open(alloc, disk, page_size, (1, 2)) {
-        Ok(mut wal) => {
-            let restarted = wal.restart(7);
-            (restarted, wal.into_disk())
-        }
-        Err(Refused { error, disk }) => (Err(error), disk),
-    };
-    assert_eq!(rt; answer, Ok(()));
+fn opens_and_restarts(rt: HostRuntime) {
+    let mut wal = open(&rt, disk_of(&rt, b'a', 1024), (1, 2));
+    same(&rt, wal.restart(7), Ok(()));
     let header = WalHeader {
         order: Order::Big,
-        page_size,
+        page_size: page_size(&rt, 512),
         sequence: 1,
         salt1: 2,
         salt2: 7,
     };
     let mut head = [0u8; 32];
     header.write(&mut head);
-    let mut left = Vec::new(alloc);
-    disk.present(File::Log, &mut left)?;
-    assert_eq!(rt; left.as_slice(), head.as_slice());
-    Ok(())
+    let left = present(&rt, &wal.into_disk(), File::Log);
+    same(&rt, left.as_slice(), head.as_slice());
 }
 
 // On a disk that tears no page is smaller than a sector.
 #[test]
-fn a_sector_above_a_page(rt: HostRuntime) -> Result<(), Fail> {
-    let alloc = rt.alloc();
-    let page_size = PageSize::new(512).ok_or("a page size")?;
-    let disk = ModelDisk::tearing(alloc, 1024, [b'a'; 1024].to_vec(alloc)?)?;
-    let (refused, disk) = match Wal::open(alloc, disk, page_size, (1, 2)) {
+fn a_sector_above_a_page(rt: HostRuntime) {
+    let db = done(&rt, [b'a'; 1024].to_vec(rt.alloc()));
+    let disk = done(&rt, ModelDisk::tearing(rt.alloc(), 1024, db));
+    let (refused, disk) = match Wal::open(rt.alloc(), disk, page_size(&rt, 512), (1, 2)) {
         Ok(wal) => (None, wal.into_disk()),
         Err(Refused { error, disk }) => (Some(error.number()), disk),
     };
-    assert_eq!(rt; refused, Some(17));
-    assert_eq!(rt; disk.refused(), 0);
-    Ok(())
+    same(&rt, refused, Some(17));
+    same(&rt, disk.refused(), 0);
 }
 
 // On a disk that tears the first sync writes the last frame once more, and the next one nothing.
 #[test]
-fn a_sync_copies_the_last_frame(rt: HostRuntime) -> Result<(), Fail> {
-    let alloc = rt.alloc();
-    let disk = ModelDisk::tearing(alloc, 512, [b'a'; 512].to_vec(alloc)?)?;
-    let mut wal = open(alloc, disk, (1, 2))?;
-    let committed = wal.commit(&[(1, &[b'b'; 512])], 1);
-    let synced = wal.sync();
-    let again = wal.sync();
+fn a_sync_copies_the_last_frame(rt: HostRuntime) {
+    let db = done(&rt, [b'a'; 512].to_vec(rt.alloc()));
+    let disk = done(&rt, ModelDisk::tearing(rt.alloc(), 512, db));
+    let mut wal = open(&rt, disk, (1, 2));
+    same(&rt, wal.commit(&[(1, &[b'b'; 512])], 1), Ok(()));
+    same(&rt, wal.sync(), Ok(()));
+    same(&rt, wal.sync(), Ok(()));
     let byte = newest_byte(&mut wal); // the copy stands above the reader's mark
-    let disk = wal.into_disk();
-    assert_eq!(rt; (committed, synced, again), (Ok(()), Ok(()), Ok(())));
-    assert_eq!(rt; byte, Some((b'b', hit(1, 2))));
-    let mut log = Vec::new(alloc);
-    disk.present(File::Log, &mut log)?;
-    assert_eq!(rt; log.len(), 1104);
-    assert_eq!(rt; &log[568..576], &log[32..40]);
-    assert_eq!(rt; &log[592..1104], &log[56..568]);
-    Ok(())
+    same(&rt, byte, Some((b'b', hit(1, 2))));
+    let log = present(&rt, &wal.into_disk(), File::Log);
+    same(&rt, log.len(), 1104);
+    same(&rt, log.get(568..576), log.get(32..40));
+    same(&rt, log.get(592..1104), log.get(56..568));
 }

@@ -2,6 +2,7 @@
 use Rattle.std.proofs.Common.{◌≡◌, inl, inr, ⊎_elim, ℕ, ◌+◌, ◌≤◌, max, false, List, length, refl, sym, ◌∙◌, subst, arith, ap, []}
 use Rattle.std.specs.Prelude.{Result, Ok, Err, OnOk}
 use Rattle.sqval.specs.Database.{Database}
+use Rattle.sqval.specs.Limits.{Bounds}
 use Rattle.sqwal.specs.Header.{named_size}
 use Rattle.sqwal.specs.Frames.{IsFront}
 use Rattle.sqwal.specs.View.{IsView}
@@ -15,7 +16,7 @@ use Rattle.crashdisk.specs.declared.error.DiskError.{DiskError}
 use Rattle.crashdisk.proofs.Images.{table}
 use Rattle.crashdisk.proofs.Steps.{image_elsewhere, present_list}
 use Rattle.walcore.specs.Alone.{Show, ShowsAlone}
-use Rattle.walcore.specs.Folding.{IsEmptyDown, FoldAnswer, Folds, Agrees}
+use Rattle.walcore.specs.Folding.{IsEmptyDown, FoldAnswerWithin, FoldsWithin, Agrees}
 use Rattle.crashdisk.specs.Keeps.{IsLogDown, Still, SameFiles}
 use Rattle.walcore.specs.Standing.{MayBeRead}
 use Rattle.walcore.specs.Opening.{HeaderSteps}
@@ -113,11 +114,11 @@ agrees_after size r a b c sound synced then w d down alone = then w d (down_sync
 pub synced_empty : {T : Type 0} {u : T} (a b : DiskState) → IsSoundDisk a → Syncs Log (Ok u) a b → IsEmptyDown b
 synced_empty a b sound synced zero = synced_down [] a b sound (record { len = sym (sym synced.file.len ∙ zero); each = λ i lt. absurd (omega (arith, synced.file.len)) }) synced
 
-pub folded_empty : (size : ℕ) (f : Folded) (r : Result Folded WalError) (b c : DiskState) → r ≡ Ok f → Folds size r b c → IsLogDown c []
-folded_empty size f r b c was folds =
+pub folded_empty : (limits : Bounds) (size : ℕ) (f : Folded) (r : Result Folded WalError) (b c : DiskState) → r ≡ Ok f → FoldsWithin limits size r b c → IsLogDown c []
+folded_empty limits size f r b c was folds =
     let db = table b.db.len (byte b.db) in
     let w = table b.log.len (byte b.log) in
-    (subst (λ (x : Result Folded WalError). FoldAnswer size db w x b c) was (folds db w (present_list b.db) (present_list b.log))).3.log
+    (subst (λ (x : Result Folded WalError). FoldAnswerWithin limits size db w x b c) was (folds db w (present_list b.db) (present_list b.log))).3.log
 
 pub on_ok : {T : Type 0} (r : Result T WalError) (P : Type 0) → P → OnOk r P
 on_ok (Ok v) P p = p

@@ -30,7 +30,7 @@ use Rattle.crashdisk.proofs.Stills.{refusal_after}
 use Rattle.crashdisk.proofs.Later.{sync_refused}
 use Rattle.crashdisk.proofs.Down.{since_db}
 use Rattle.crashdisk.proofs.Called.{one_sync, no_calls, calls_then}
-use Rattle.walcore.specs.Changes.{MayFill}
+use Rattle.walcore.specs.Changes.{MayFill, MayFillWithin}
 use Rattle.walcore.proofs.Changes.{nothing_may}
 use Rattle.walcore.proofs.Fronting.{same_front}
 use Rattle.walcore.proofs.Present.{present_by}
@@ -164,13 +164,13 @@ module _ (size m count : ℕ) (t : FrameTable) (a b : DiskState) (some : 1 ≤ m
       }
 
   pub copy : IsCopy size count now m t
-  copy = record { valid = filling.valid; size_is = count_is; within = small; table = in_table }
+  copy = record { valid = filling.valid; size_is = count_is; within = omega (arith, small); table = in_table }
 
   -- by whole pages alone
-  pub copies_calls : (g : DiskState) → (count * size ≤ most_bytes → HasCalls (MayFill size) b g) → HasCalls (MayFill size) a g
-  copies_calls g calls = calls_then a b g (nothing_may a b read.0.calls) (calls small)
+  pub copies_calls : (g : DiskState) → ((bytes : ℕ) → count * size ≤ bytes → HasCalls (MayFillWithin bytes size) b g) → HasCalls (MayFill size) a g
+  copies_calls g calls = calls_then a b g (nothing_may a b read.0.calls) (calls most_bytes small)
 
-  pub settles_calls : {U : Type 0} (g : DiskState) → (count * size ≤ most_bytes → HasCalls (MayFill size) b g) → (z : DiskState) (q : Result U WalError) → SyncStep Device Db q g z → HasCalls (MayFill size) a z
+  pub settles_calls : {U : Type 0} (g : DiskState) → ((bytes : ℕ) → count * size ≤ bytes → HasCalls (MayFillWithin bytes size) b g) → (z : DiskState) (q : Result U WalError) → SyncStep Device Db q g z → HasCalls (MayFill size) a z
   settles_calls g calls z q step = calls_then a g z (copies_calls g calls) (one_sync Db step.0 g z tt step.2)
 
   module _ {T : Type 0} (g : DiskState) (r : Result T WalError) (keeps : KeepsLog b g)

@@ -9,7 +9,7 @@ use Rattle.crashdisk.specs.declared.error.DiskError.{DiskError}
 use Rattle.crashdisk.proofs.Called.{calls_wider, calls_then}
 use Rattle.crashdisk.proofs.Later.{later_sync, sync_later}
 use Rattle.walcore.specs.Machine.{Syncs, Checkpoints}
-use Rattle.walcore.specs.Changes.{MayFill, MayFold, MayExtend, MayBegin, MayChange}
+use Rattle.walcore.specs.Changes.{MayFill, MayFoldWithin, MayExtend, MayBegin, MayChange}
 use Rattle.walcore.specs.declared.error.WalError.{WalError}
 use Rattle.walcore.specs.declared.error.WalError.TheVariants.{Device}
 
@@ -57,12 +57,12 @@ module _ (size : ℕ) (logs : List (List ℕ)) (a b : DiskState) (synced : IsSam
 
 -- ---- syncs of a fold
 
-may_sync : (size : ℕ) (f : File) → MayFold size (sync f)
-may_sync size Db = inl tt
-may_sync size Log = inr tt
+may_sync : (most size : ℕ) (f : File) → MayFoldWithin most size (sync f)
+may_sync most size Db = inl tt
+may_sync most size Log = inr tt
 
-pub fold_sync : {T : Type 0} (size : ℕ) (f : File) (r : Result T DiskError) (a b : DiskState) → IsSoundDisk a → CallSyncs f r a b → Later (MayFold size) a b
-fold_sync size f r a b sound synced = later_sync f r a b (may_sync size f) sound synced
+pub fold_sync : {T : Type 0} (most size : ℕ) (f : File) (r : Result T DiskError) (a b : DiskState) → IsSoundDisk a → CallSyncs f r a b → Later (MayFoldWithin most size) a b
+fold_sync most size f r a b sound synced = later_sync f r a b (may_sync most size f) sound synced
 
-pub fold_step : {T : Type 0} (size : ℕ) (f : File) (r : Result T WalError) (a b : DiskState) → IsSoundDisk a → SyncStep Device f r a b → Later (MayFold size) a b
-fold_step size f r a b sound step = sync_later Device f r a b (may_sync size f) sound step
+pub fold_step : {T : Type 0} (most size : ℕ) (f : File) (r : Result T WalError) (a b : DiskState) → IsSoundDisk a → SyncStep Device f r a b → Later (MayFoldWithin most size) a b
+fold_step most size f r a b sound step = sync_later Device f r a b (may_sync most size f) sound step

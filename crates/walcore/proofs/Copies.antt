@@ -18,6 +18,7 @@ use Rattle.crashdisk.specs.declared.error.DiskError.{DiskError}
 use Rattle.crashdisk.proofs.Sound.{cut_below}
 use Rattle.crashdisk.proofs.Steps.{present_cut}
 use Rattle.sqval.specs.CommitFaults.{most_bytes}
+use Rattle.sqval.specs.Limits.{greatest}
 use Rattle.walcore.specs.Steps.{PutsRun, RunAnswer, CopyAnswer}
 use borrow.Rule.Slice.PartMut.{put_mid}
 use Rattle.crashdisk.proofs.Reading.{mid_inside}
@@ -173,16 +174,16 @@ module _ (size : ℕ) (w : List ℕ) (m p : ℕ) where
 pub page_fits : (size p count : ℕ) → 1 ≤ p → p ≤ count → count * size ≤ most_bytes → (p - 1) * size + size ≤ longest
 page_fits size p count one le within = let more : p * size ≤ count * size = mul-le-mul_right size le in omega (arith, place_step size (p - 1) p (omega arith))
 
-pub run_fits : (size p most k count : ℕ) → 1 ≤ p → k ≤ most → p - 1 + most ≤ count → count * size ≤ most_bytes → (p - 1) * size + k * size ≤ most_bytes
-run_fits size p most k count one le within small =
+pub run_fits : (limit size p most k count : ℕ) → 1 ≤ p → k ≤ most → p - 1 + most ≤ count → count * size ≤ limit → (p - 1) * size + k * size ≤ limit
+run_fits limit size p most k count one le within small =
     let up : (p - 1 + k) * size ≤ count * size = mul-le-mul_right size (let b : p - 1 + k ≤ count = omega arith in b) in
     let e : (p - 1) * size + k * size ≡ (p - 1 + k) * size = times_more (p - 1) k size in omega arith
   where
     times_more : (a n c : ℕ) → a * c + n * c ≡ (a + n) * c
     times_more a n c = omega arith
 
-pub run_end_within : (size n count : ℕ) → n ≤ count → count * size ≤ most_bytes → n * size ≤ most_bytes
-run_end_within size n count le within = let up : n * size ≤ count * size = mul-le-mul_right size le in omega arith
+pub run_end_within : (limit size n count : ℕ) → n ≤ count → count * size ≤ limit → n * size ≤ limit
+run_end_within limit size n count le within = let up : n * size ≤ count * size = mul-le-mul_right size le in omega arith
 
 -- ---- Page after page.
 
@@ -265,7 +266,7 @@ copy_refused {U = U} size w m p d r q e s0 a b le was is answer =
     let got = subst (λ (x : Result ℕ WalError). RunAnswer size w m p x a b) was answer in
     subst (λ (x : Result U WalError). CopyAnswer size d x s0 b) (sym is) (got.0, refusal_after s0 a b le got.1)
 
-pub cut_refused : {T U : Type 0} (size count n : ℕ) (d : Database) (called : Result T DiskError) (e : DiskError) (q : Result U WalError) (s0 a b : DiskState) → KeepsLog s0 a → n ≡ count * size → count * size ≤ most_bytes
+pub cut_refused : {T U : Type 0} (size count n : ℕ) (d : Database) (called : Result T DiskError) (e : DiskError) (q : Result U WalError) (s0 a b : DiskState) → KeepsLog s0 a → n ≡ count * size → count * size ≤ greatest.bytes
     → called ≡ Err e → q ≡ Err Device → Cuts Db n called a b → CopyAnswer size d q s0 b
 unfolding CopyAnswer
 cut_refused {U = U} size count n d called e q s0 a b keeps same within was is cut =

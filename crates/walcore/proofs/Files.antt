@@ -6,6 +6,7 @@ use Rattle.sqwal.specs.Header.{named_size}
 use Rattle.sqwal.specs.Frames.{IsFront}
 use Rattle.crashdisk.specs.Call.{DiskState, IsSoundDisk, ArePresent, Looks}
 use Rattle.crashdisk.specs.declared.error.DiskError.{DiskError}
+use Rattle.sqval.specs.Limits.{usual}
 use Rattle.walcore.specs.Folding.{FoldAnswer}
 use Rattle.crashdisk.specs.Keeps.{HadRefusal, TearsPages, Still}
 use Rattle.walcore.specs.Opening.{CountAnswer, FileFault, FileJudged, FrontJudged}
@@ -18,11 +19,11 @@ use Rattle.crashdisk.proofs.Stills.{still_then}
 
 module _ {T : Type 0} (size : ℕ) (w : List ℕ) (fault : WalError) where
   pub front_unlooked : {U : Type 0} (called : Result U DiskError) (e : DiskError) (q : Result T WalError) (a b : DiskState) → IsSoundDisk a → (TearsPages size a → ⊥) → called ≡ Err e → q ≡ Err Device → Looks 0 called a b → FrontJudged size w fault q a b
-  front_unlooked called e q a b sound fits was is looked = subst (λ (x : Result T WalError). FrontJudged size w fault x a b) (sym is) (inl (λ db. look_refused size db w called e (Err Device) a b sound fits was refl looked))
+  front_unlooked called e q a b sound fits was is looked = subst (λ (x : Result T WalError). FrontJudged size w fault x a b) (sym is) (inl (λ db. look_refused usual size db w called e (Err Device) a b sound fits was refl looked))
 
-  pub front_unread : (r : Result Plan WalError) (e : WalError) (q : Result T WalError) (a b c : DiskState) → (TearsPages size a → ⊥) → (TearsPages size b → ⊥) → Still a b → Still b c → r ≡ Err e → q ≡ Err e → ReadAnswer size w r b c → FrontJudged size w fault q a c
+  pub front_unread : (r : Result Plan WalError) (e : WalError) (q : Result T WalError) (a b c : DiskState) → (TearsPages size a → ⊥) → (TearsPages size b → ⊥) → Still a b → Still b c → r ≡ Err e → q ≡ Err e → ReadAnswer usual size w r b c → FrontJudged size w fault q a c
   front_unread r e q a b c fits fits_b first second was is answer = subst (λ (x : Result T WalError). FrontJudged size w fault x a c) (sym is)
-      (inl (λ db. fold_looked size db w a b c fits first (Err e) (read_folds size db w b c fits_b second r (Err e) e was refl answer)))
+      (inl (λ db. fold_looked size db w a b c fits first usual (Err e) (read_folds usual size db w b c fits_b second r (Err e) e was refl answer)))
 
 -- a file of whole pages has some
 pub count_whole : (size m long : ℕ) → m ≡ size → long % m ≡ 0 → (long ≡ 0 → ⊥) → (1 ≤ long / m) × (long / m * size ≡ long)
@@ -51,6 +52,6 @@ module _ (size : ℕ) (db w : List ℕ) (a b c : DiskState) (fits : TearsPages s
   pub file_judged : {T : Type 0} (e : WalError) (q : Result T WalError) → CountAnswer size a.db.len (Err e) a b → FrontJudged size w e q b c → FileJudged size db w q a c
   file_judged {T = T} e (Ok v) answer judged = λ front. absurd (judged front)
   file_judged {T = T} e (Err x) answer judged = ⊎_elim
-      (λ folds. inl (fold_looked size db w a b c fits first (Err x) (folds db)))
+      (λ folds. inl (fold_looked size db w a b c fits first usual (Err x) (folds db)))
       (λ is. at_front T e x is.2 is.0 is.1 answer)
       judged

@@ -9,17 +9,16 @@ use Rattle.sqval.proofs.PageSizes.{IsOneOf, one_of}
 use Rattle.sqwal.specs.Header.{IsHeader, named_size}
 use Rattle.sqwal.specs.Frames.{page_of, size_of, IsValidFrame, IsFront}
 use Rattle.sqwal.specs.Index.{FrameTable}
-use Rattle.sqwal.specs.Refusal.{most_frames}
-use Rattle.sqwal.specs.Answers.{EntryFound, IsCommitted}
+use Rattle.sqwal.specs.Answers.{EntryFound, IsCommittedWithin}
 use Rattle.sqwal.specs.declared.scan.Entry.{Entry}
 use Rattle.sqwal.specs.declared.scan.Front.{Front}
 use Rattle.sqwal.proofs.Views.{front_unique, front_none}
-use Rattle.sqval.specs.CommitFaults.{most_bytes}
-use Rattle.walcore.specs.Folding.{IsTooLarge}
-use Rattle.walcore.specs.Plans.{wanted_page, IsTable, IsFit, LogRefused, JudgeAnswer, PlanAnswer}
+use Rattle.sqval.specs.Limits.{Bounds, greatest}
+use Rattle.walcore.specs.Folding.{IsTooLargeWithin}
+use Rattle.walcore.specs.Plans.{wanted_page, IsTable, IsFitWithin, LogRefused, JudgeAnswer, PlanAnswer}
 use Rattle.walcore.specs.Plans.{ReadAnswer}
 use Rattle.walcore.specs.Steps.{ScanRefused, ScanAnswer}
-use Rattle.sqwal.specs.Took.{Took}
+use Rattle.sqwal.specs.Took.{TookWithin}
 use Rattle.sqwal.specs.declared.scan.Scan.{Scan}
 use Rattle.crashdisk.specs.Call.{DiskState}
 use Rattle.walcore.specs.declared.plan.Plan.{Plan}
@@ -34,8 +33,8 @@ entry_decides w i (Some e) found = (λ t. found.0, λ v. refl)
 -- ---- A log without a valid header.
 
 module _ (size : ℕ) (w : List ℕ) (bad : IsHeader (named_size w) w → ⊥) where
-  pub fit_none : IsFit size w
-  fit_none = record {
+  pub fit_none : (limits : Bounds) → IsFitWithin limits size w
+  fit_none limits = record {
     small = λ large. ⊎_elim (λ v. bad (v.each 1 (omega arith) v.first).header) (λ f. omega (arith, f.1, front_none (named_size w) w f.0 bad f.2)) large;
     same = λ other. bad other.0;
   }
@@ -43,47 +42,47 @@ module _ (size : ℕ) (w : List ℕ) (bad : IsHeader (named_size w) w → ⊥) w
   pub front_zero : IsFront (named_size w) w 0
   front_zero = record { is = inl refl; greatest = λ i v k. absurd (bad (v.each 1 (omega arith) v.first).header) }
 
-  pub judged_none : (f : Front) → IsCommitted w f → JudgeAnswer size w (Ok f)
+  pub judged_none : (limits : Bounds) (f : Front) → IsCommittedWithin limits.frames w f → JudgeAnswer limits size w (Ok f)
   unfolding JudgeAnswer
-  judged_none f is = record { fit = fit_none; front = is.front; none = is.none; some = λ one. absurd (omega (arith, front_none (named_size w) w f.frames bad is.front)) }
+  judged_none limits f is = record { fit = fit_none limits; front = is.front; none = is.none; some = λ one. absurd (omega (arith, front_none (named_size w) w f.frames bad is.front)) }
 
 -- ---- A log with one.
 
-module _ (size named : ℕ) (w : List ℕ) (header : IsHeader named w) where
+module _ (limits : Bounds) (size named : ℕ) (w : List ℕ) (header : IsHeader named w) where
   here : IsHeader (named_size w) w
   here = subst (λ (n : ℕ). IsHeader n w) (sym header.named) header
 
-  refused : (e : WalError) → LogRefused size w e → JudgeAnswer size w (Err e)
+  refused : (e : WalError) → LogRefused limits size w e → JudgeAnswer limits size w (Err e)
   unfolding JudgeAnswer
   refused e is = is
 
-  module _ (f : Front) (is : IsCommitted w f) where
-    pub judged_large : most_bytes < f.size * named → JudgeAnswer size w (Err TooLarge)
+  module _ (f : Front) (is : IsCommittedWithin limits.frames w f) where
+    pub judged_large : limits.bytes < f.size * named → JudgeAnswer limits size w (Err TooLarge)
     unfolding LogRefused
     judged_large more =
         let some : 1 ≤ f.frames = ⊎_elim (λ e. absurd (let none : f.size ≡ 0 = is.none e in let zero : f.size * named ≡ 0 = rw none (omega arith) in omega arith)) (λ ne. omega arith) (cases_eq f.frames 0) in
-        let bytes : most_bytes < size_of (named_size w) w f.frames * named_size w = subst (λ (n : ℕ). most_bytes < n * named_size w) (is.some some) (subst (λ (n : ℕ). most_bytes < f.size * n) (sym header.named) more) in
+        let bytes : limits.bytes < size_of (named_size w) w f.frames * named_size w = subst (λ (n : ℕ). limits.bytes < n * named_size w) (is.some some) (subst (λ (n : ℕ). limits.bytes < f.size * n) (sym header.named) more) in
         refused TooLarge (inr (f.frames, some, is.front, bytes))
 
-    module _ (few : IsValidFrame (named_size w) w (suc most_frames) → ⊥) (within : f.size * named ≤ most_bytes) where
-      small : IsTooLarge w → ⊥
+    module _ (few : IsValidFrame (named_size w) w (suc limits.frames) → ⊥) (within : f.size * named ≤ limits.bytes) where
+      small : IsTooLargeWithin limits w → ⊥
       small large = ⊎_elim few (λ x.
           let same : x.0 ≡ f.frames = front_unique (named_size w) w x.0 f.frames x.2 is.front in
           let count : f.size ≡ size_of (named_size w) w x.0 = is.some (omega (arith, x.1)) ∙ ap (size_of (named_size w) w) (sym same) in
-          let bytes : most_bytes < f.size * named = subst (λ (n : ℕ). most_bytes < n * named) (sym count) (subst (λ (n : ℕ). most_bytes < size_of (named_size w) w x.0 * n) header.named x.3) in
+          let bytes : limits.bytes < f.size * named = subst (λ (n : ℕ). limits.bytes < n * named) (sym count) (subst (λ (n : ℕ). limits.bytes < size_of (named_size w) w x.0 * n) header.named x.3) in
           omega arith) large
 
-      pub judged_other : named ≢ size → JudgeAnswer size w (Err PageSize)
+      pub judged_other : named ≢ size → JudgeAnswer limits size w (Err PageSize)
       unfolding LogRefused
       judged_other ne = refused PageSize (small, (here, λ e. ne (sym header.named ∙ e)))
 
-      pub judged : named ≡ size → JudgeAnswer size w (Ok f)
+      pub judged : limits.bytes ≤ greatest.bytes → named ≡ size → JudgeAnswer limits size w (Ok f)
       unfolding JudgeAnswer
-      judged e = record {
+      judged sane e = record {
         fit = record { small = small; same = λ other. other.1 (header.named ∙ e) };
         front = is.front;
         none = is.none;
-        some = λ one. (header.named ∙ e, is.some one ∙ ap (λ (n : ℕ). size_of n w f.frames) (header.named ∙ e), subst (λ (n : ℕ). f.size * n ≤ most_bytes) e within);
+        some = λ one. (header.named ∙ e, is.some one ∙ ap (λ (n : ℕ). size_of n w f.frames) (header.named ∙ e), subst (λ (n : ℕ). f.size * n ≤ limits.bytes) e within, subst (λ (n : ℕ). f.size * n ≤ greatest.bytes) e (omega (arith, within, sane)));
       }
 
 -- ---- The table.
@@ -132,8 +131,8 @@ table_more size count w k page t u long is e new =
 
 -- ---- The plan.
 
-module _ (size : ℕ) (w : List ℕ) where
-  pub plan_none : (f : Front) (plan : Plan) → JudgeAnswer size w (Ok f) → f.frames ≡ 0 → plan.frames ≡ 0 → plan.size ≡ 0 → PlanAnswer size w (Ok plan)
+module _ (limits : Bounds) (size : ℕ) (w : List ℕ) where
+  pub plan_none : (f : Front) (plan : Plan) → JudgeAnswer limits size w (Ok f) → f.frames ≡ 0 → plan.frames ≡ 0 → plan.size ≡ 0 → PlanAnswer limits size w (Ok plan)
   unfolding JudgeAnswer PlanAnswer
   plan_none f plan is zero none size_none = (
     is.fit,
@@ -144,10 +143,10 @@ module _ (size : ℕ) (w : List ℕ) where
     },
   )
 
-  pub plan_bare : (plan : Plan) → (IsHeader (named_size w) w → ⊥) → plan.frames ≡ 0 → plan.size ≡ 0 → PlanAnswer size w (Ok plan)
+  pub plan_bare : (plan : Plan) → (IsHeader (named_size w) w → ⊥) → plan.frames ≡ 0 → plan.size ≡ 0 → PlanAnswer limits size w (Ok plan)
   unfolding PlanAnswer
   plan_bare plan bad none size_none = (
-    fit_none size w bad,
+    fit_none size w bad limits,
     record {
       front = subst (λ (n : ℕ). IsFront (named_size w) w n) (sym none) (front_zero size w bad);
       none = λ e. size_none;
@@ -155,8 +154,8 @@ module _ (size : ℕ) (w : List ℕ) where
     },
   )
 
-  pub plan_some : (f : Front) (plan : Plan) → JudgeAnswer size w (Ok f) → 1 ≤ f.frames → plan.frames ≡ f.frames → plan.size ≡ f.size
-      → (IsValidFrame (named_size w) w f.frames → IsTable (named_size w) f.size w f.frames plan.index) → plan.page_size ≡ size → PlanAnswer size w (Ok plan)
+  pub plan_some : (f : Front) (plan : Plan) → JudgeAnswer limits size w (Ok f) → 1 ≤ f.frames → plan.frames ≡ f.frames → plan.size ≡ f.size
+      → (IsValidFrame (named_size w) w f.frames → IsTable (named_size w) f.size w f.frames plan.index) → plan.page_size ≡ size → PlanAnswer limits size w (Ok plan)
   unfolding JudgeAnswer PlanAnswer
   plan_some f plan is one frames count table sized =
       let valid : IsValidFrame (named_size w) w f.frames = ⊎_elim (λ e. absurd (omega arith)) (λ v. v.0) is.front.is in
@@ -167,10 +166,11 @@ module _ (size : ℕ) (w : List ℕ) where
           none = λ e. absurd (omega arith);
           some = λ one2. record {
             named = facts.0;
+            few = subst (λ (n : ℕ). n * size ≤ limits.bytes) (sym count) facts.2;
             copy = record {
               valid = subst (λ (n : ℕ). IsValidFrame size w n) (sym frames) (subst (λ (n : ℕ). IsValidFrame n w f.frames) facts.0 valid);
               size_is = count ∙ facts.1 ∙ ap (size_of size w) (sym frames);
-              within = subst (λ (n : ℕ). n * size ≤ most_bytes) (sym count) facts.2;
+              within = subst (λ (n : ℕ). n * size ≤ greatest.bytes) (sym count) facts.3;
               table = subst (λ (n : ℕ). IsTable size n w plan.frames plan.index) (sym count) (subst (λ (n : ℕ). IsTable size f.size w n plan.index) (sym frames) (subst (λ (n : ℕ). IsTable n f.size w f.frames plan.index) facts.0 (table valid)));
             };
             sized = sized;
@@ -178,42 +178,42 @@ module _ (size : ℕ) (w : List ℕ) where
         },
       )
 
-  pub plan_refused : (r : Result Front WalError) (q : Result Plan WalError) (e : WalError) → r ≡ Err e → q ≡ Err e → JudgeAnswer size w r → PlanAnswer size w q
+  pub plan_refused : (r : Result Front WalError) (q : Result Plan WalError) (e : WalError) → r ≡ Err e → q ≡ Err e → JudgeAnswer limits size w r → PlanAnswer limits size w q
   unfolding JudgeAnswer PlanAnswer
-  plan_refused r q e was is answer = subst (λ (x : Result Plan WalError). PlanAnswer size w x) (sym is) (by e (let got = subst (λ (x : Result Front WalError). JudgeAnswer size w x) was answer in got))
+  plan_refused r q e was is answer = subst (λ (x : Result Plan WalError). PlanAnswer limits size w x) (sym is) (by e (let got = subst (λ (x : Result Front WalError). JudgeAnswer limits size w x) was answer in got))
     where
-      by : (e : WalError) → LogRefused size w e → PlanAnswer size w (Err e)
+      by : (e : WalError) → LogRefused limits size w e → PlanAnswer limits size w (Err e)
       by NoMemory x = tt
       by _ x = x
 
-  pub plan_memory : (q : Result Plan WalError) → q ≡ Err NoMemory → PlanAnswer size w q
+  pub plan_memory : (q : Result Plan WalError) → q ≡ Err NoMemory → PlanAnswer limits size w q
   unfolding PlanAnswer
-  plan_memory q is = subst (λ (x : Result Plan WalError). PlanAnswer size w x) (sym is) tt
+  plan_memory q is = subst (λ (x : Result Plan WalError). PlanAnswer limits size w x) (sym is) tt
 
   module _ (a b : DiskState) where
-    pub read_planned : (r : Result Plan WalError) → PlanAnswer size w r → ReadAnswer size w r a b
+    pub read_planned : (r : Result Plan WalError) → PlanAnswer limits size w r → ReadAnswer limits size w r a b
     unfolding PlanAnswer ReadAnswer LogRefused
     read_planned (Ok p) x = x
     read_planned (Err Device) x = absurd x
     read_planned (Err _) x = x
 
-    pub read_scan : (r : Result (Option Scan) WalError) (q : Result Plan WalError) (e : WalError) → r ≡ Err e → q ≡ Err e → ScanAnswer w r a b → ReadAnswer size w q a b
+    pub read_scan : (r : Result (Option Scan) WalError) (q : Result Plan WalError) (e : WalError) → r ≡ Err e → q ≡ Err e → ScanAnswer limits.frames w r a b → ReadAnswer limits size w q a b
     unfolding ScanAnswer ScanRefused PlanAnswer ReadAnswer LogRefused
-    read_scan r q e was is answer = subst (λ (x : Result Plan WalError). ReadAnswer size w x a b) (sym is) (by e (let got = subst (λ (x : Result (Option Scan) WalError). ScanAnswer w x a b) was answer in got))
+    read_scan r q e was is answer = subst (λ (x : Result Plan WalError). ReadAnswer limits size w x a b) (sym is) (by e (let got = subst (λ (x : Result (Option Scan) WalError). ScanAnswer limits.frames w x a b) was answer in got))
       where
-        by : (e : WalError) → ScanRefused w e a b → ReadAnswer size w (Err e) a b
+        by : (e : WalError) → ScanRefused limits.frames w e a b → ReadAnswer limits size w (Err e) a b
         by TooLarge x = inl x
         by NoMemory x = tt
         by Device x = x
         by _ x = absurd x
 
-    pub read_some : (s : Scan) (r : Result (Option Scan) WalError) → r ≡ Ok (Some s) → ScanAnswer w r a b → Took w s
+    pub read_some : (s : Scan) (r : Result (Option Scan) WalError) → r ≡ Ok (Some s) → ScanAnswer limits.frames w r a b → TookWithin limits.frames w s
     unfolding ScanAnswer
-    read_some s r was answer = let got = subst (λ (x : Result (Option Scan) WalError). ScanAnswer w x a b) was answer in got
+    read_some s r was answer = let got = subst (λ (x : Result (Option Scan) WalError). ScanAnswer limits.frames w x a b) was answer in got
 
-    pub read_none : (r : Result (Option Scan) WalError) → r ≡ Ok None → ScanAnswer w r a b → IsHeader (named_size w) w → ⊥
+    pub read_none : (r : Result (Option Scan) WalError) → r ≡ Ok None → ScanAnswer limits.frames w r a b → IsHeader (named_size w) w → ⊥
     unfolding ScanAnswer
-    read_none r was answer = let got = subst (λ (x : Result (Option Scan) WalError). ScanAnswer w x a b) was answer in got
+    read_none r was answer = let got = subst (λ (x : Result (Option Scan) WalError). ScanAnswer limits.frames w x a b) was answer in got
 
 pub page_least : (n : ℕ) → IsPageSize n → 1 ≤ n
 page_least n is = by (one_of n is)

@@ -18,10 +18,11 @@ use Rattle.crashdisk.specs.declared.error.DiskError.{DiskError}
 use Rattle.crashdisk.proofs.Images.{table}
 use Rattle.crashdisk.proofs.Steps.{present_list, settled_sync}
 use Rattle.sqval.specs.Held.{IsJust}
-use Rattle.walcore.specs.Folding.{FoldAnswer, Folds, Agrees, GoesOn}
+use Rattle.sqval.specs.Limits.{Bounds}
+use Rattle.walcore.specs.Folding.{FoldAnswerWithin, FoldsWithin, Agrees, GoesOn}
 use Rattle.crashdisk.specs.Keeps.{TearsPages, KeepsBytes, IsLogDown, Still, KeepsLog}
 use Rattle.walcore.specs.Steps.{ArePages, CopyAnswer, EndAnswer, FoldedAnswer}
-use Rattle.walcore.specs.Plans.{IsCopy, IsPlan, IsFit, LogRefused, PlanAnswer, ReadAnswer}
+use Rattle.walcore.specs.Plans.{IsCopy, IsPlan, IsFitWithin, LogRefused, PlanAnswer, ReadAnswer}
 use Rattle.walcore.specs.declared.plan.Plan.{Plan}
 use Rattle.walcore.specs.declared.folding.Folded.{Folded}
 use Rattle.walcore.specs.declared.error.WalError.{WalError}
@@ -83,7 +84,7 @@ module _ (size : ℕ) (db w : List ℕ) (m : ℕ) where
 
 -- ---- The planned fold.
 
-module _ (size : ℕ) (db w : List ℕ) (plan : Plan) (is : IsPlan size w plan) (a : DiskState) where
+module _ {most : ℕ} (size : ℕ) (db w : List ℕ) (plan : Plan) (is : IsPlan most size w plan) (a : DiskState) where
   pub planned_none : {T : Type 0} (v : T) (r : Result T WalError) (f : Folded) (b : DiskState) → plan.frames ≡ 0 → f.frames ≡ 0 → f.size ≡ 0 → ArePresent a.db db → r ≡ Ok v → EndAnswer r a b → FoldedAnswer size db w (Ok f) a b
   unfolding EndAnswer FoldedAnswer
   planned_none {T = T} v r f b zero frames none are was answer =
@@ -145,54 +146,54 @@ copy_done {T = T} size d r v a b was answer = let got = subst (λ (x : Result T 
 still_bytes : (a b : DiskState) → Still a b → KeepsBytes a b
 still_bytes a b is = record { db = is.db; log = λ bytes are. present_in a.log b.log bytes is.log are }
 
-module _ (size : ℕ) (db w : List ℕ) (a b : DiskState) (fits : TearsPages size a → ⊥) (is : Still a b) where
-  pub read_folds : (r : Result Plan WalError) (q : Result Folded WalError) (e : WalError) → r ≡ Err e → q ≡ Err e → ReadAnswer size w r a b → FoldAnswer size db w q a b
+module _ (limits : Bounds) (size : ℕ) (db w : List ℕ) (a b : DiskState) (fits : TearsPages size a → ⊥) (is : Still a b) where
+  pub read_folds : (r : Result Plan WalError) (q : Result Folded WalError) (e : WalError) → r ≡ Err e → q ≡ Err e → ReadAnswer limits size w r a b → FoldAnswerWithin limits size db w q a b
   unfolding ReadAnswer PlanAnswer LogRefused
   read_folds r q e was same answer =
-      subst (λ (x : Result Folded WalError). FoldAnswer size db w x a b) (sym same) (by e (let got = subst (λ (x : Result Plan WalError). ReadAnswer size w x a b) was answer in got))
+      subst (λ (x : Result Folded WalError). FoldAnswerWithin limits size db w x a b) (sym same) (by e (let got = subst (λ (x : Result Plan WalError). ReadAnswer limits size w x a b) was answer in got))
     where
-      by : (e : WalError) → ReadAnswer size w (Err e) a b → FoldAnswer size db w (Err e) a b
+      by : (e : WalError) → ReadAnswer limits size w (Err e) a b → FoldAnswerWithin limits size db w (Err e) a b
       by TooLarge x = (fits, x, still_bytes a b is)
       by PageSize x = (fits, x.0, x.1, still_bytes a b is)
       by NoMemory x = (fits, still_bytes a b is)
       by Device x = (fits, x)
       by _ x = absurd x
 
-  pub plan_folds : (r : Result Plan WalError) (plan : Plan) (q : Result Folded WalError) (c : DiskState) → IsFit size w → FoldedAnswer size db w q b c → FoldAnswer size db w q a c
+  pub plan_folds : (r : Result Plan WalError) (plan : Plan) (q : Result Folded WalError) (c : DiskState) → IsFitWithin limits size w → FoldedAnswer size db w q b c → FoldAnswerWithin limits size db w q a c
   unfolding FoldedAnswer
   plan_folds r plan (Ok f) c fit answer = (fits, fit.small, fit.same, answer)
-  plan_folds r plan (Err e) c fit answer = subst (λ (x : WalError). FoldAnswer size db w (Err x) a c) (sym answer.0) (fits, refusal_after a b c is.refused answer.1)
+  plan_folds r plan (Err e) c fit answer = subst (λ (x : WalError). FoldAnswerWithin limits size db w (Err x) a c) (sym answer.0) (fits, refusal_after a b c is.refused answer.1)
 
-pub read_plans : (size : ℕ) (w : List ℕ) (r : Result Plan WalError) (plan : Plan) (a b : DiskState) → r ≡ Ok plan → ReadAnswer size w r a b → IsFit size w × IsPlan size w plan
+pub read_plans : (limits : Bounds) (size : ℕ) (w : List ℕ) (r : Result Plan WalError) (plan : Plan) (a b : DiskState) → r ≡ Ok plan → ReadAnswer limits size w r a b → IsFitWithin limits size w × IsPlan limits.bytes size w plan
 unfolding ReadAnswer PlanAnswer
-read_plans size w r plan a b was answer = let got = subst (λ (x : Result Plan WalError). ReadAnswer size w x a b) was answer in got
+read_plans limits size w r plan a b was answer = let got = subst (λ (x : Result Plan WalError). ReadAnswer limits size w x a b) was answer in got
 
 -- a refused call before anything else
-pub look_refused : {T : Type 0} (size : ℕ) (db w : List ℕ) (called : Result T DiskError) (e : DiskError) (q : Result Folded WalError) (a b : DiskState) → IsSoundDisk a → (TearsPages size a → ⊥)
-    → called ≡ Err e → q ≡ Err Device → Looks 0 called a b → FoldAnswer size db w q a b
-look_refused size db w called e q a b sound fits was is looked =
-    subst (λ (x : Result Folded WalError). FoldAnswer size db w x a b) (sym is) (fits, had_refusal called e 0 a b sound.refused was looked.within (omega arith) looked.refused)
+pub look_refused : {T : Type 0} (limits : Bounds) (size : ℕ) (db w : List ℕ) (called : Result T DiskError) (e : DiskError) (q : Result Folded WalError) (a b : DiskState) → IsSoundDisk a → (TearsPages size a → ⊥)
+    → called ≡ Err e → q ≡ Err Device → Looks 0 called a b → FoldAnswerWithin limits size db w q a b
+look_refused limits size db w called e q a b sound fits was is looked =
+    subst (λ (x : Result Folded WalError). FoldAnswerWithin limits size db w x a b) (sym is) (fits, had_refusal called e 0 a b sound.refused was looked.within (omega arith) looked.refused)
 
-pub sync_unfolded : {T : Type 0} (size : ℕ) (db w : List ℕ) (called : Result T DiskError) (e : DiskError) (q : Result Folded WalError) (a b : DiskState) → IsSoundDisk a → (TearsPages size a → ⊥)
-    → called ≡ Err e → q ≡ Err Device → Syncs Log called a b → FoldAnswer size db w q a b
-sync_unfolded size db w called e q a b sound fits was is synced =
-    subst (λ (x : Result Folded WalError). FoldAnswer size db w x a b) (sym is) (fits, had_refusal called e 0 a b sound.refused was synced.within (omega arith) synced.elsewhere.refused)
+pub sync_unfolded : {T : Type 0} (limits : Bounds) (size : ℕ) (db w : List ℕ) (called : Result T DiskError) (e : DiskError) (q : Result Folded WalError) (a b : DiskState) → IsSoundDisk a → (TearsPages size a → ⊥)
+    → called ≡ Err e → q ≡ Err Device → Syncs Log called a b → FoldAnswerWithin limits size db w q a b
+sync_unfolded limits size db w called e q a b sound fits was is synced =
+    subst (λ (x : Result Folded WalError). FoldAnswerWithin limits size db w x a b) (sym is) (fits, had_refusal called e 0 a b sound.refused was synced.within (omega arith) synced.elsewhere.refused)
 
-pub goes_on : {T : Type 0} (size : ℕ) (called : Result T DiskError) (v : T) (q : Result Folded WalError) (a b : DiskState) → called ≡ Ok v → Folds size q a b → Agrees size a b → GoesOn size called q a b
-goes_on {T = T} size called v q a b is folds agrees = subst (λ (x : Result T DiskError). GoesOn size x q a b) (sym is) (folds, agrees)
+pub goes_on : {T : Type 0} (limits : Bounds) (size : ℕ) (called : Result T DiskError) (v : T) (q : Result Folded WalError) (a b : DiskState) → called ≡ Ok v → FoldsWithin limits size q a b → Agrees size a b → GoesOn limits size called q a b
+goes_on {T = T} limits size called v q a b is folds agrees = subst (λ (x : Result T DiskError). GoesOn limits size x q a b) (sym is) (folds, agrees)
 
-pub stays : {T : Type 0} (size : ℕ) (called : Result T DiskError) (e : DiskError) (q : Result Folded WalError) (b : DiskState) → called ≡ Err e → q ≡ Err Device → GoesOn size called q b b
-stays {T = T} size called e q b is device = subst (λ (x : Result T DiskError). GoesOn size x q b b) (sym is) (device, refl)
+pub stays : {T : Type 0} (limits : Bounds) (size : ℕ) (called : Result T DiskError) (e : DiskError) (q : Result Folded WalError) (b : DiskState) → called ≡ Err e → q ≡ Err Device → GoesOn limits size called q b b
+stays {T = T} limits size called e q b is device = subst (λ (x : Result T DiskError). GoesOn limits size x q b b) (sym is) (device, refl)
 
-pub fold_torn : (size : ℕ) (db w : List ℕ) (q : Result Folded WalError) (a : DiskState) → TearsPages size a → q ≡ Err SectorAbovePage → FoldAnswer size db w q a a
-fold_torn size db w q a torn is = subst (λ (x : Result Folded WalError). FoldAnswer size db w x a a) (sym is) (torn, refl)
+pub fold_torn : (limits : Bounds) (size : ℕ) (db w : List ℕ) (q : Result Folded WalError) (a : DiskState) → TearsPages size a → q ≡ Err SectorAbovePage → FoldAnswerWithin limits size db w q a a
+fold_torn limits size db w q a torn is = subst (λ (x : Result Folded WalError). FoldAnswerWithin limits size db w x a a) (sym is) (torn, refl)
 
 -- there is no log
-pub fold_empty : (size : ℕ) (db w : List ℕ) (f : Folded) (a b : DiskState) → (TearsPages size a → ⊥) → Still a b → ArePresent a.db db → ArePresent a.log w → a.log.len ≡ 0 → IsLogDown a [] → f.frames ≡ 0 → f.size ≡ 0
-    → FoldAnswer size db w (Ok f) a b
-fold_empty size db w f a b fits is are_db are zero settled frames sizes =
+pub fold_empty : (limits : Bounds) (size : ℕ) (db w : List ℕ) (f : Folded) (a b : DiskState) → (TearsPages size a → ⊥) → Still a b → ArePresent a.db db → ArePresent a.log w → a.log.len ≡ 0 → IsLogDown a [] → f.frames ≡ 0 → f.size ≡ 0
+    → FoldAnswerWithin limits size db w (Ok f) a b
+fold_empty limits size db w f a b fits is are_db are zero settled frames sizes =
     let bad : IsHeader (named_size w) w → ⊥ = λ header. omega (arith, header.whole, are.len) in
-    let fit = fit_none size w bad in (
+    let fit = fit_none size w bad limits in (
       fits,
       fit.small,
       fit.same,
@@ -213,14 +214,14 @@ module _ (size : ℕ) (db w : List ℕ) (a b c : DiskState) (fits : TearsPages s
   pub bytes_then : KeepsBytes b c → KeepsBytes a c
   bytes_then keeps = record { db = keeps.db ∙ first.db; log = λ bytes are. keeps.log bytes (first.log bytes are) }
 
-  pub fold_then : (q : Result Folded WalError) → FoldAnswer size db w q b c → FoldAnswer size db w q a c
-  fold_then (Ok f) x = (fits, x.1, x.2, x.3)
-  fold_then (Err SectorAbovePage) x = absurd (fits_then x.0)
-  fold_then (Err TooLarge) x = (fits, x.1, bytes_then x.2)
-  fold_then (Err PageSize) x = (fits, x.1, x.2, bytes_then x.3)
-  fold_then (Err NoMemory) x = (fits, bytes_then x.1)
-  fold_then (Err Device) x = (fits, refusal_after a b c le x.1)
-  fold_then (Err _) x = absurd x
+  pub fold_then : (limits : Bounds) (q : Result Folded WalError) → FoldAnswerWithin limits size db w q b c → FoldAnswerWithin limits size db w q a c
+  fold_then limits (Ok f) x = (fits, x.1, x.2, x.3)
+  fold_then limits (Err SectorAbovePage) x = absurd (fits_then x.0)
+  fold_then limits (Err TooLarge) x = (fits, x.1, bytes_then x.2)
+  fold_then limits (Err PageSize) x = (fits, x.1, x.2, bytes_then x.3)
+  fold_then limits (Err NoMemory) x = (fits, bytes_then x.1)
+  fold_then limits (Err Device) x = (fits, refusal_after a b c le x.1)
+  fold_then limits (Err _) x = absurd x
 
 -- the log was synced first
 module _ {T : Type 0} {u : T} (size : ℕ) (db w : List ℕ) (a b c : DiskState) (sound : IsSoundDisk a) (fits : TearsPages size a → ⊥) (synced : Syncs Log (Ok u) a b) where
@@ -233,8 +234,8 @@ module _ {T : Type 0} {u : T} (size : ℕ) (db w : List ℕ) (a b c : DiskState)
   pub synced_fits : TearsPages size b → ⊥
   synced_fits torn = fits (sym synced.elsewhere.tears ∙ torn.0, subst (λ (n : ℕ). size < n) synced.elsewhere.sector torn.1)
 
-  pub fold_after : (q : Result Folded WalError) → ArePresent a.db db → ArePresent a.log w → (ArePresent b.db db → ArePresent b.log w → FoldAnswer size db w q b c) → FoldAnswer size db w q a c
-  fold_after q are_db are rest = fold_then size db w a b c fits synced_fits synced_later synced_bytes q (rest (present_in a.db b.db db synced_bytes.db are_db) (synced_bytes.log w are))
+  pub fold_after : (limits : Bounds) (q : Result Folded WalError) → ArePresent a.db db → ArePresent a.log w → (ArePresent b.db db → ArePresent b.log w → FoldAnswerWithin limits size db w q b c) → FoldAnswerWithin limits size db w q a c
+  fold_after limits q are_db are rest = fold_then size db w a b c fits synced_fits synced_later synced_bytes limits q (rest (present_in a.db b.db db synced_bytes.db are_db) (synced_bytes.log w are))
 
   pub empty_down : (b.log.len ≡ 0) → IsLogDown b []
   empty_down zero =
@@ -258,5 +259,5 @@ module _ (size : ℕ) (db w : List ℕ) (a b c : DiskState) (fits : TearsPages s
   pub fits_still : TearsPages size b → ⊥
   fits_still torn = fits (sym is.tears ∙ torn.0, subst (λ (n : ℕ). size < n) is.sector torn.1)
 
-  pub fold_looked : (q : Result Folded WalError) → FoldAnswer size db w q b c → FoldAnswer size db w q a c
-  fold_looked q x = fold_then size db w a b c fits fits_still is.refused looked_bytes q x
+  pub fold_looked : (limits : Bounds) (q : Result Folded WalError) → FoldAnswerWithin limits size db w q b c → FoldAnswerWithin limits size db w q a c
+  fold_looked limits q x = fold_then size db w a b c fits fits_still is.refused looked_bytes limits q x

@@ -6,8 +6,7 @@ use Rattle.std.proofs.lemmas.Bool.{cases_lt}
 use Rattle.sqval.specs.PageSize.{IsPageSize}
 use Rattle.sqwal.specs.Header.{IsHeader, HeaderRefused, named_size}
 use Rattle.sqwal.specs.Frames.{AllPass, IsValidFrame}
-use Rattle.sqwal.specs.Refusal.{most_frames}
-use Rattle.sqwal.specs.Answers.{LogRefused}
+use Rattle.sqwal.specs.Answers.{LogRefusedWithin}
 use Rattle.sqwal.specs.declared.error.WalFormatError.{WalFormatError}
 use Rattle.sqwal.specs.declared.error.WalFormatError.TheVariants.{NotAWal, PageSize, HeaderSum, UnknownVersion, TooLong, NoMemory}
 use Rattle.sqwal.proofs.Same.{header_same, word_same, all_same}
@@ -20,7 +19,7 @@ use Rattle.walcore.proofs.Stills.{scan_refused_after}
 use Rattle.walcore.specs.Steps.{IsWithoutHeader, ScanRefused, PieceAnswer, ScanAnswer}
 use Rattle.walcore.specs.declared.error.WalError.{WalError}
 use Rattle.walcore.specs.declared.error.WalError.TheVariants.{TooLarge, Device, NoMemory as WalNoMemory}
-use Rattle.sqwal.specs.Took.{Took, IsSettled}
+use Rattle.sqwal.specs.Took.{TookWithin, IsSettledWithin}
 use Rattle.sqwal.specs.declared.scan.Scan.{Scan}
 use Rattle.crashdisk.proofs.Stills.{had_refusal}
 use Rattle.crashdisk.proofs.Down.{piece_read}
@@ -39,13 +38,13 @@ module _ (w : List ℕ) (n : ℕ) (fits : n ≤ length w) where
   long = length-take-le n w fits
 
   -- where its front has no valid header, the log has none
-  pub no_header : (e : WalFormatError) → (e ≡ TooLong → ⊥) → (e ≡ NoMemory → ⊥) → LogRefused (take n w) e → IsHeader (named_size w) w → ⊥
-  no_header NotAWal a b bad is = header_refused w (take n w) NotAWal (sym (take-take 32 n w (omega (arith, bad.0, long)))) bad.0 bad.1 is
-  no_header PageSize a b bad is = header_refused w (take n w) PageSize (sym (take-take 32 n w (omega (arith, bad.0, long)))) bad.0 bad.1 is
-  no_header HeaderSum a b bad is = header_refused w (take n w) HeaderSum (sym (take-take 32 n w (omega (arith, bad.0, long)))) bad.0 bad.1 is
-  no_header UnknownVersion a b bad is = header_refused w (take n w) UnknownVersion (sym (take-take 32 n w (omega (arith, bad.0, long)))) bad.0 bad.1 is
-  no_header TooLong a b bad is = a refl
-  no_header NoMemory a b bad is = b refl
+  pub no_header : (most : ℕ) (e : WalFormatError) → (e ≡ TooLong → ⊥) → (e ≡ NoMemory → ⊥) → LogRefusedWithin most (take n w) e → IsHeader (named_size w) w → ⊥
+  no_header most NotAWal a b bad is = header_refused w (take n w) NotAWal (sym (take-take 32 n w (omega (arith, bad.0, long)))) bad.0 bad.1 is
+  no_header most PageSize a b bad is = header_refused w (take n w) PageSize (sym (take-take 32 n w (omega (arith, bad.0, long)))) bad.0 bad.1 is
+  no_header most HeaderSum a b bad is = header_refused w (take n w) HeaderSum (sym (take-take 32 n w (omega (arith, bad.0, long)))) bad.0 bad.1 is
+  no_header most UnknownVersion a b bad is = header_refused w (take n w) UnknownVersion (sym (take-take 32 n w (omega (arith, bad.0, long)))) bad.0 bad.1 is
+  no_header most TooLong a b bad is = a refl
+  no_header most NoMemory a b bad is = b refl
 
   -- a valid frame of its front is one of the log
   pub valid_longer : (i : ℕ) → IsValidFrame (named_size (take n w)) (take n w) i → IsValidFrame (named_size w) w i
@@ -61,51 +60,51 @@ module _ (w : List ℕ) (log : FileState) (at : ℕ) (given piece : List ℕ) (s
   joined : take at w ++ piece ≡ take (at + length given) w
   joined = piece_read w log at piece are (omega arith) same ∙ ap (λ (n : ℕ). take (at + n) w) same_long
 
-  pub fed : (s : Scan) (old new : DiskState) → Took (take at w ++ piece) s → PieceAnswer w (at + length given) (Ok true) s old new
+  pub fed : (most : ℕ) (s : Scan) (old new : DiskState) → TookWithin most (take at w ++ piece) s → PieceAnswer most w (at + length given) (Ok true) s old new
   unfolding PieceAnswer
-  fed s old new took = subst (λ (b : List ℕ). Took b s) joined took
+  fed most s old new took = subst (λ (b : List ℕ). TookWithin most b s) joined took
 
-  pub not_fed : (e : WalFormatError) (r : Result Bool WalError) (end : ℕ) (s : Scan) (old new : DiskState) → LogRefused (take at w ++ piece) e → IsWithoutHeader e r → PieceAnswer w end r s old new
+  pub not_fed : (most : ℕ) (e : WalFormatError) (r : Result Bool WalError) (end : ℕ) (s : Scan) (old new : DiskState) → LogRefusedWithin most (take at w ++ piece) e → IsWithoutHeader e r → PieceAnswer most w end r s old new
   unfolding PieceAnswer ScanRefused
-  not_fed e r end s old new refused is = by e (subst (λ (b : List ℕ). LogRefused b e) joined refused) is
+  not_fed most e r end s old new refused is = by e (subst (λ (b : List ℕ). LogRefusedWithin most b e) joined refused) is
     where
-      answer : (x : Result Bool WalError) → r ≡ x → PieceAnswer w end x s old new → PieceAnswer w end r s old new
-      answer x is p = subst (λ (y : Result Bool WalError). PieceAnswer w end y s old new) (sym is) p
+      answer : (x : Result Bool WalError) → r ≡ x → PieceAnswer most w end x s old new → PieceAnswer most w end r s old new
+      answer x is p = subst (λ (y : Result Bool WalError). PieceAnswer most w end y s old new) (sym is) p
 
-      by : (e : WalFormatError) → LogRefused (take (at + length given) w) e → IsWithoutHeader e r → PieceAnswer w end r s old new
-      by TooLong refused is = answer (Err TooLarge) is (valid_longer w (at + length given) fits (suc most_frames) refused)
+      by : (e : WalFormatError) → LogRefusedWithin most (take (at + length given) w) e → IsWithoutHeader e r → PieceAnswer most w end r s old new
+      by TooLong refused is = answer (Err TooLarge) is (valid_longer w (at + length given) fits (suc most) refused)
       by NoMemory refused is = answer (Err WalNoMemory) is tt
-      by NotAWal refused is = answer (Ok false) is (no_header w (at + length given) fits NotAWal (λ z. cc) (λ z. cc) refused)
-      by PageSize refused is = answer (Ok false) is (no_header w (at + length given) fits PageSize (λ z. cc) (λ z. cc) refused)
-      by HeaderSum refused is = answer (Ok false) is (no_header w (at + length given) fits HeaderSum (λ z. cc) (λ z. cc) refused)
-      by UnknownVersion refused is = answer (Ok false) is (no_header w (at + length given) fits UnknownVersion (λ z. cc) (λ z. cc) refused)
+      by NotAWal refused is = answer (Ok false) is (no_header w (at + length given) fits most NotAWal (λ z. cc) (λ z. cc) refused)
+      by PageSize refused is = answer (Ok false) is (no_header w (at + length given) fits most PageSize (λ z. cc) (λ z. cc) refused)
+      by HeaderSum refused is = answer (Ok false) is (no_header w (at + length given) fits most HeaderSum (λ z. cc) (λ z. cc) refused)
+      by UnknownVersion refused is = answer (Ok false) is (no_header w (at + length given) fits most UnknownVersion (λ z. cc) (λ z. cc) refused)
 
 -- a refusal of a call of the disk while the log is scanned
-pub scan_refusal : {T : Type 0} (w : List ℕ) (end end2 : ℕ) (result : Result T DiskError) (e : DiskError) (s : Scan) (r : Result Bool WalError) (old new : DiskState)
-    → IsSoundDisk old → ArePresent old.log w → end ≤ length w → result ≡ Err e → Looks end result old new → r ≡ Err Device → PieceAnswer w end2 r s old new
+pub scan_refusal : {T : Type 0} (most : ℕ) (w : List ℕ) (end end2 : ℕ) (result : Result T DiskError) (e : DiskError) (s : Scan) (r : Result Bool WalError) (old new : DiskState)
+    → IsSoundDisk old → ArePresent old.log w → end ≤ length w → result ≡ Err e → Looks end result old new → r ≡ Err Device → PieceAnswer most w end2 r s old new
 unfolding PieceAnswer ScanRefused
-scan_refusal w end end2 result e s r old new sound are fits is looked device =
-    subst (λ (x : Result Bool WalError). PieceAnswer w end2 x s old new) (sym device)
+scan_refusal most w end end2 result e s r old new sound are fits is looked device =
+    subst (λ (x : Result Bool WalError). PieceAnswer most w end2 x s old new) (sym device)
     (had_refusal result e end old new sound.refused is looked.within (omega (arith, are.len, sound.log.greatest, sound.log.within)) looked.refused)
 
 -- ---- One piece after another.
 
-module _ (w : List ℕ) (s : Scan) (a b c : DiskState) (le : a.refused ≤ b.refused) where
-  pub piece_after : (end end2 : ℕ) (r : Result Bool WalError) (e : WalError) → r ≡ Err e → PieceAnswer w end r s b c → PieceAnswer w end2 (Err e) s a c
+module _ (most : ℕ) (w : List ℕ) (s : Scan) (a b c : DiskState) (le : a.refused ≤ b.refused) where
+  pub piece_after : (end end2 : ℕ) (r : Result Bool WalError) (e : WalError) → r ≡ Err e → PieceAnswer most w end r s b c → PieceAnswer most w end2 (Err e) s a c
   unfolding PieceAnswer
-  piece_after end end2 r e is answer = scan_refused_after w e a b c le (let got = subst (λ (x : Result Bool WalError). PieceAnswer w end x s b c) is answer in got)
+  piece_after end end2 r e is answer = scan_refused_after most w e a b c le (let got = subst (λ (x : Result Bool WalError). PieceAnswer most w end x s b c) is answer in got)
 
-  pub piece_none : (end end2 : ℕ) (r : Result Bool WalError) (go : Bool) → r ≡ Ok go → go ≡ false → PieceAnswer w end r s b c → PieceAnswer w end2 (Ok false) s a c
+  pub piece_none : (end end2 : ℕ) (r : Result Bool WalError) (go : Bool) → r ≡ Ok go → go ≡ false → PieceAnswer most w end r s b c → PieceAnswer most w end2 (Ok false) s a c
   unfolding PieceAnswer
-  piece_none end end2 r go is off answer = let got = subst (λ (x : Result Bool WalError). PieceAnswer w end x s b c) (is ∙ ap Ok off) answer in got
+  piece_none end end2 r go is off answer = let got = subst (λ (x : Result Bool WalError). PieceAnswer most w end x s b c) (is ∙ ap Ok off) answer in got
 
-pub piece_some : (w : List ℕ) (s : Scan) (a b : DiskState) (end : ℕ) (r : Result Bool WalError) (go : Bool) → r ≡ Ok go → go ≡ true → PieceAnswer w end r s a b → Took (take end w) s
+pub piece_some : (most : ℕ) (w : List ℕ) (s : Scan) (a b : DiskState) (end : ℕ) (r : Result Bool WalError) (go : Bool) → r ≡ Ok go → go ≡ true → PieceAnswer most w end r s a b → TookWithin most (take end w) s
 unfolding PieceAnswer
-piece_some w s a b end r go is on answer = let got = subst (λ (x : Result Bool WalError). PieceAnswer w end x s a b) (is ∙ ap Ok on) answer in got
+piece_some most w s a b end r go is on answer = let got = subst (λ (x : Result Bool WalError). PieceAnswer most w end x s a b) (is ∙ ap Ok on) answer in got
 
-pub piece_done : (w : List ℕ) (s : Scan) (a b : DiskState) (end : ℕ) → Took (take end w) s → PieceAnswer w end (Ok true) s a b
+pub piece_done : (most : ℕ) (w : List ℕ) (s : Scan) (a b : DiskState) (end : ℕ) → TookWithin most (take end w) s → PieceAnswer most w end (Ok true) s a b
 unfolding PieceAnswer
-piece_done w s a b end took = took
+piece_done most w s a b end took = took
 
 -- the bytes of a log are bytes
 present_bytes : (sector : ℕ) (log : FileState) (w : List ℕ) → IsSound sector log → ArePresent log w → AreBytes w
@@ -115,26 +114,26 @@ present_bytes sector log w sound are i = elim (cases_lt i log.len) [
 ]
 
 -- a scan that no further bytes change is one of the whole log
-pub piece_settled : (w : List ℕ) (s : Scan) (first a b : DiskState) (end at : ℕ) → IsSoundDisk first → ArePresent first.log w → length w ≡ end → IsSettled (take at w) s → PieceAnswer w end (Ok true) s a b
+pub piece_settled : (most : ℕ) (w : List ℕ) (s : Scan) (first a b : DiskState) (end at : ℕ) → IsSoundDisk first → ArePresent first.log w → length w ≡ end → IsSettledWithin most (take at w) s → PieceAnswer most w end (Ok true) s a b
 unfolding PieceAnswer
-piece_settled w s first a b end at sound are long settled =
+piece_settled most w s first a b end at sound are long settled =
     let bytes = present_bytes first.sector first.log w sound.log are in
-    let whole = subst (λ (l : List ℕ). Took l s) (take-append-drop at w) (settled (drop at w) (λ i. rw (get_or-drop at w i 0) (bytes (at + i)))) in
-    subst (λ (l : List ℕ). Took l s) (sym (take_all end w (omega arith))) whole
+    let whole = subst (λ (l : List ℕ). TookWithin most l s) (take-append-drop at w) (settled (drop at w) (λ i. rw (get_or-drop at w i 0) (bytes (at + i)))) in
+    subst (λ (l : List ℕ). TookWithin most l s) (sym (take_all end w (omega arith))) whole
 
-module _ (w : List ℕ) (s : Scan) (a b : DiskState) (n : ℕ) (long : length w ≡ n) where
-  pub scan_some : (r : Result Bool WalError) (go : Bool) → r ≡ Ok go → go ≡ true → PieceAnswer w n r s a b → ScanAnswer w (Ok (Some s)) a b
+module _ (most : ℕ) (w : List ℕ) (s : Scan) (a b : DiskState) (n : ℕ) (long : length w ≡ n) where
+  pub scan_some : (r : Result Bool WalError) (go : Bool) → r ≡ Ok go → go ≡ true → PieceAnswer most w n r s a b → ScanAnswer most w (Ok (Some s)) a b
   unfolding ScanAnswer
-  scan_some r go is on answer = subst (λ (x : List ℕ). Took x s) (take_all n w (omega arith)) (piece_some w s a b n r go is on answer)
+  scan_some r go is on answer = subst (λ (x : List ℕ). TookWithin most x s) (take_all n w (omega arith)) (piece_some most w s a b n r go is on answer)
 
-  pub scan_none : (r : Result Bool WalError) (go : Bool) → r ≡ Ok go → go ≡ false → PieceAnswer w n r s a b → ScanAnswer w (Ok None) a b
+  pub scan_none : (r : Result Bool WalError) (go : Bool) → r ≡ Ok go → go ≡ false → PieceAnswer most w n r s a b → ScanAnswer most w (Ok None) a b
   unfolding PieceAnswer ScanAnswer
-  scan_none r go is off answer = let got = subst (λ (x : Result Bool WalError). PieceAnswer w n x s a b) (is ∙ ap Ok off) answer in got
+  scan_none r go is off answer = let got = subst (λ (x : Result Bool WalError). PieceAnswer most w n x s a b) (is ∙ ap Ok off) answer in got
 
-  pub scan_after : (r : Result Bool WalError) (e : WalError) (q : Result (Option Scan) WalError) → r ≡ Err e → q ≡ Err e → PieceAnswer w n r s a b → ScanAnswer w q a b
+  pub scan_after : (r : Result Bool WalError) (e : WalError) (q : Result (Option Scan) WalError) → r ≡ Err e → q ≡ Err e → PieceAnswer most w n r s a b → ScanAnswer most w q a b
   unfolding PieceAnswer ScanAnswer
-  scan_after r e q is same answer = subst (λ (x : Result (Option Scan) WalError). ScanAnswer w x a b) (sym same) (let got = subst (λ (x : Result Bool WalError). PieceAnswer w n x s a b) is answer in got)
+  scan_after r e q is same answer = subst (λ (x : Result (Option Scan) WalError). ScanAnswer most w x a b) (sym same) (let got = subst (λ (x : Result Bool WalError). PieceAnswer most w n x s a b) is answer in got)
 
-pub scan_memory : (w : List ℕ) (a b : DiskState) (q : Result (Option Scan) WalError) → q ≡ Err WalNoMemory → ScanAnswer w q a b
+pub scan_memory : (most : ℕ) (w : List ℕ) (a b : DiskState) (q : Result (Option Scan) WalError) → q ≡ Err WalNoMemory → ScanAnswer most w q a b
 unfolding ScanAnswer ScanRefused
-scan_memory w a b q is = subst (λ (x : Result (Option Scan) WalError). ScanAnswer w x a b) (sym is) tt
+scan_memory most w a b q is = subst (λ (x : Result (Option Scan) WalError). ScanAnswer most w x a b) (sym is) tt

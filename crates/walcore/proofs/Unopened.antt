@@ -7,6 +7,7 @@ use Rattle.sqwal.specs.Frames.{size_of, IsFront}
 use Rattle.crashdisk.specs.Call.{DiskState, IsSoundDisk, Syncs}
 use Rattle.crashdisk.specs.declared.file.File.TheVariants.{Log}
 use Rattle.sqval.specs.CommitFaults.{most_bytes}
+use Rattle.sqval.specs.Limits.{usual}
 use Rattle.walcore.specs.Folding.{FoldAnswer}
 use Rattle.crashdisk.specs.Keeps.{HadRefusal, TearsPages, KeepsBytes, Still}
 use Rattle.sqval.specs.Answers.{Files}
@@ -27,7 +28,7 @@ device_refused size db w e a b fits is had = subst (λ (x : WalError). OpenRefus
 pub refused_then : (size : ℕ) (db w : List ℕ) (e : WalError) (a b c : DiskState) → (TearsPages size a → ⊥) → (TearsPages size b → ⊥) → a.refused ≤ b.refused → KeepsBytes a b
     → OpenRefused size db w e b c → OpenRefused size db w e a c
 refused_then size db w e a b c fits fits_then le first refused = ⊎_elim
-    (λ folds. inl (fold_then size db w a b c fits fits_then le first (Err e) folds))
+    (λ folds. inl (fold_then size db w a b c fits fits_then le first usual (Err e) folds))
     (λ fault. inr (fits, fault.1, fault.2, fault.3, bytes_then size db w a b c fits fits_then le first fault.4))
     refused
 

@@ -9,14 +9,18 @@ use Rattle.crashdisk.specs.declared.file.File.TheVariants.{Db, Log}
 use Rattle.walcore.specs.Machine.{Act, Opens, Commits, Syncs, Checkpoints, Restarts}
 
 -- Of the database file: whole pages, one or more one behind the other, at the place of the first, a length of whole pages, both
--- within the limit, and a sync.
+-- within so many bytes, and a sync.
+abbrev pub MayFillWithin : (most size : ℕ) → Change → Type 0
+MayFillWithin most size (write Db at bytes) = (p : ℕ) × (k : ℕ) × (at ≡ p * size) × (1 ≤ k) × (length bytes ≡ k * size) × (at + length bytes ≤ most)
+MayFillWithin most size (set_len Db n) = (count : ℕ) × (n ≡ count * size) × (n ≤ most)
+MayFillWithin most size (sync Db) = Unit {0}
+MayFillWithin most size (write Log at bytes) = ⊥
+MayFillWithin most size (set_len Log n) = ⊥
+MayFillWithin most size (sync Log) = ⊥
+
+-- at the usual limit
 abbrev pub MayFill : (size : ℕ) → Change → Type 0
-MayFill size (write Db at bytes) = (p : ℕ) × (k : ℕ) × (at ≡ p * size) × (1 ≤ k) × (length bytes ≡ k * size) × (at + length bytes ≤ most_bytes)
-MayFill size (set_len Db n) = (count : ℕ) × (n ≡ count * size) × (n ≤ most_bytes)
-MayFill size (sync Db) = Unit {0}
-MayFill size (write Log at bytes) = ⊥
-MayFill size (set_len Log n) = ⊥
-MayFill size (sync Log) = ⊥
+MayFill size change = MayFillWithin most_bytes size change
 
 -- Of the log: 32 zero bytes over its header, to have no bytes, and a sync.
 abbrev pub MayEmpty : Change → Type 0
@@ -27,9 +31,13 @@ MayEmpty (write Db at bytes) = ⊥
 MayEmpty (set_len Db n) = ⊥
 MayEmpty (sync Db) = ⊥
 
--- a fold
+-- a fold of at most so many bytes
+abbrev pub MayFoldWithin : (most size : ℕ) → Change → Type 0
+MayFoldWithin most size change = MayFillWithin most size change ⊎ MayEmpty change
+
+-- at the usual limit
 abbrev pub MayFold : (size : ℕ) → Change → Type 0
-MayFold size change = MayFill size change ⊎ MayEmpty change
+MayFold size change = MayFoldWithin most_bytes size change
 
 -- the newest log is e
 abbrev pub IsInForce : List (List ℕ) → List ℕ → Type 0

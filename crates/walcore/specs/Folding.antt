@@ -4,12 +4,11 @@ use Rattle.sqval.specs.Database.{Database}
 use Rattle.sqwal.specs.Header.{IsHeader, named_size}
 use Rattle.sqwal.specs.Frames.{size_of, IsValidFrame, IsFront}
 use Rattle.sqwal.specs.View.{IsView}
-use Rattle.sqwal.specs.Refusal.{most_frames}
 use Rattle.crashdisk.specs.State.{IsSettled}
 use Rattle.crashdisk.specs.Call.{DiskState, ArePresent, Syncs}
 use Rattle.crashdisk.specs.declared.file.File.TheVariants.{Log}
 use Rattle.crashdisk.specs.declared.error.DiskError.{DiskError}
-use Rattle.sqval.specs.CommitFaults.{most_bytes}
+use Rattle.sqval.specs.Limits.{Bounds, usual}
 use Rattle.sqval.specs.Held.{IsJust}
 use Rattle.walcore.specs.Alone.{ShowsAlone}
 use Rattle.walcore.specs.declared.folding.Folded.{Folded}
@@ -17,10 +16,14 @@ use Rattle.walcore.specs.declared.error.WalError.{WalError}
 use Rattle.walcore.specs.declared.error.WalError.TheVariants.{TooLarge, PageSize, NoMemory, Device, SectorAbovePage}
 use Rattle.crashdisk.specs.Keeps.{KeepsBytes, IsLogDown, HadRefusal, TearsPages}
 
--- the log has more frames than are scanned, or its front's database is above the limit
+-- the log has more valid frames than the limits allow, or its front's database is above them
+abbrev pub IsTooLargeWithin : Bounds → List ℕ → Type 0
+IsTooLargeWithin limits w = IsValidFrame (named_size w) w (suc limits.frames)
+    ⊎ ((m : ℕ) × (1 ≤ m) × IsFront (named_size w) w m × (limits.bytes < size_of (named_size w) w m * named_size w))
+
+-- the same at the usual limits
 abbrev pub IsTooLarge : List ℕ → Type 0
-IsTooLarge w = IsValidFrame (named_size w) w (suc most_frames)
-    ⊎ ((m : ℕ) × (1 ≤ m) × IsFront (named_size w) w m × (most_bytes < size_of (named_size w) w m * named_size w))
+IsTooLarge w = IsTooLargeWithin usual w
 
 -- the log is one of pages of another size
 abbrev pub IsOfOtherSize : (size : ℕ) → List ℕ → Type 0
@@ -40,31 +43,35 @@ pub record IsFolded (size : ℕ) (db w : List ℕ) (f : Folded) (new : DiskState
   pub log : IsLogDown new []
 
 -- what a fold of pages of this size answers, and what it leaves
+abbrev pub FoldAnswerWithin : (limits : Bounds) (size : ℕ) (db w : List ℕ) → Result Folded WalError → (old new : DiskState) → Type 0
+FoldAnswerWithin limits size db w (Ok f) old new = (TearsPages size old → ⊥) × (IsTooLargeWithin limits w → ⊥) × (IsOfOtherSize size w → ⊥) × IsFolded size db w f new
+FoldAnswerWithin limits size db w (Err SectorAbovePage) old new = TearsPages size old × (new ≡ old)
+FoldAnswerWithin limits size db w (Err TooLarge) old new = (TearsPages size old → ⊥) × IsTooLargeWithin limits w × KeepsBytes old new
+FoldAnswerWithin limits size db w (Err PageSize) old new = (TearsPages size old → ⊥) × (IsTooLargeWithin limits w → ⊥) × IsOfOtherSize size w × KeepsBytes old new
+FoldAnswerWithin limits size db w (Err NoMemory) old new = (TearsPages size old → ⊥) × KeepsBytes old new
+FoldAnswerWithin limits size db w (Err Device) old new = (TearsPages size old → ⊥) × HadRefusal old new
+FoldAnswerWithin limits size db w (Err _) old new = ⊥
+
+-- the same at the usual limits
 abbrev pub FoldAnswer : (size : ℕ) (db w : List ℕ) → Result Folded WalError → (old new : DiskState) → Type 0
-FoldAnswer size db w (Ok f) old new = (TearsPages size old → ⊥) × (IsTooLarge w → ⊥) × (IsOfOtherSize size w → ⊥) × IsFolded size db w f new
-FoldAnswer size db w (Err SectorAbovePage) old new = TearsPages size old × (new ≡ old)
-FoldAnswer size db w (Err TooLarge) old new = (TearsPages size old → ⊥) × IsTooLarge w × KeepsBytes old new
-FoldAnswer size db w (Err PageSize) old new = (TearsPages size old → ⊥) × (IsTooLarge w → ⊥) × IsOfOtherSize size w × KeepsBytes old new
-FoldAnswer size db w (Err NoMemory) old new = (TearsPages size old → ⊥) × KeepsBytes old new
-FoldAnswer size db w (Err Device) old new = (TearsPages size old → ⊥) × HadRefusal old new
-FoldAnswer size db w (Err _) old new = ⊥
+FoldAnswer size db w result old new = FoldAnswerWithin usual size db w result old new
 
 -- for whatever bytes are present
-abbrev pub Folds : (size : ℕ) → Result Folded WalError → (old new : DiskState) → Type 0
-Folds size result old new = (db w : List ℕ) → ArePresent old.db db → ArePresent old.log w → FoldAnswer size db w result old new
+abbrev pub FoldsWithin : (limits : Bounds) (size : ℕ) → Result Folded WalError → (old new : DiskState) → Type 0
+FoldsWithin limits size result old new = (db w : List ℕ) → ArePresent old.db db → ArePresent old.log w → FoldAnswerWithin limits size db w result old new
 
 -- where nothing of the log was unsynced, and all that a crash may leave showed one database, it still does
 abbrev pub Agrees : (size : ℕ) (old new : DiskState) → Type 0
 Agrees size old new = (w : List ℕ) (d : Database) → IsLogDown old w → ShowsAlone size d old → ShowsAlone size d new
 
 -- what a fold does once a sync of the log was answered
-abbrev pub GoesOn : {T : Type 0} → (size : ℕ) → Result T DiskError → Result Folded WalError → (old new : DiskState) → Type 0
-GoesOn size (Ok _) result old new = Folds size result old new × Agrees size old new
-GoesOn size (Err _) result old new = (result ≡ Err Device) × (new ≡ old)
+abbrev pub GoesOn : {T : Type 0} → (limits : Bounds) (size : ℕ) → Result T DiskError → Result Folded WalError → (old new : DiskState) → Type 0
+GoesOn limits size (Ok _) result old new = FoldsWithin limits size result old new × Agrees size old new
+GoesOn limits size (Err _) result old new = (result ≡ Err Device) × (new ≡ old)
 
 -- The log is synced first. So it is from that moment on that all which a crash may leave shows the database that it showed.
-pub record SyncsFirst (size : ℕ) (result : Result Folded WalError) (old new : DiskState) : Type 0 where
+pub record SyncsFirst (limits : Bounds) (size : ℕ) (result : Result Folded WalError) (old new : DiskState) : Type 0 where
   pub called : Result (Unit {0}) DiskError
   pub mid : DiskState
   pub sync : Syncs Log called old mid
-  pub rest : GoesOn size called result mid new
+  pub rest : GoesOn limits size called result mid new

@@ -2,7 +2,8 @@
 use Rattle.std.specs.Prelude.{◌≡◌, ℕ, ◌+◌, ◌≤◌, Bool, List, [], length, take, Result, Option}
 use Rattle.crashdisk.specs.Call.{DiskState, ArePresent}
 use Rattle.crashdisk.specs.Keeps.{Still, TearsPages, TellsRefusal}
-use Rattle.sqwal.specs.Took.{Took}
+use Rattle.sqval.specs.Limits.{Bounds}
+use Rattle.sqwal.specs.Took.{TookWithin}
 use Rattle.sqwal.specs.declared.scan.Scan.{Scan}
 use Rattle.walcore.specs.Opening.{CountAnswer, FileJudged, FrontJudged}
 use Rattle.walcore.specs.Plans.{ReadAnswer}
@@ -19,18 +20,19 @@ pub record OnlyReads {T : Type 0} (result : Result T WalError) (Found : (old new
 
 -- the scan goes on by n bytes of the log, from a place on
 abbrev pub TakesPiece : (at n : ℕ) (before after : Scan) → Result Bool WalError → (old new : DiskState) → Type 0
-TakesPiece at n before after result old new = (w : List ℕ) → ArePresent old.log w → at + n ≤ length w → Took (take at w) before → PieceAnswer w (at + n) result after old new
+TakesPiece at n before after result old new = (most : ℕ) (w : List ℕ) → ArePresent old.log w → at + n ≤ length w → TookWithin most (take at w) before → PieceAnswer most w (at + n) result after old new
 
 -- a scan takes the log, which has so many bytes
 abbrev pub TakesLog : (long : ℕ) (before after : Scan) → Result Bool WalError → (old new : DiskState) → Type 0
-TakesLog long before after result old new = (w : List ℕ) → ArePresent old.log w → length w ≡ long → Took [] before → PieceAnswer w long result after old new
+TakesLog long before after result old new = (most : ℕ) (w : List ℕ) → ArePresent old.log w → length w ≡ long → TookWithin most [] before → PieceAnswer most w long result after old new
 
-abbrev pub ScansLog : (long : ℕ) → Result (Option Scan) WalError → (old new : DiskState) → Type 0
-ScansLog long result old new = (w : List ℕ) → ArePresent old.log w → length w ≡ long → ScanAnswer w result old new
+-- the same of a new scan, which takes at most so many frames
+abbrev pub ScansLog : (most long : ℕ) → Result (Option Scan) WalError → (old new : DiskState) → Type 0
+ScansLog most long result old new = (w : List ℕ) → ArePresent old.log w → length w ≡ long → ScanAnswer most w result old new
 
 -- what is to be folded of a log of so many bytes
-abbrev pub PlansFold : (long size : ℕ) → Result Plan WalError → (old new : DiskState) → Type 0
-PlansFold long size result old new = (w : List ℕ) → ArePresent old.log w → length w ≡ long → ReadAnswer size w result old new
+abbrev pub PlansFold : (limits : Bounds) (long size : ℕ) → Result Plan WalError → (old new : DiskState) → Type 0
+PlansFold limits long size result old new = (w : List ℕ) → ArePresent old.log w → length w ≡ long → ReadAnswer limits size w result old new
 
 -- the pages of the database file are counted
 abbrev pub CountsPages : (size : ℕ) → Result ℕ WalError → (old new : DiskState) → Type 0

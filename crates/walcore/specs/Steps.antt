@@ -4,8 +4,8 @@ use Rattle.sqval.specs.Database.{Database, page}
 use Rattle.sqwal.specs.Header.{IsHeader, named_size}
 use Rattle.sqwal.specs.Frames.{IsValidFrame, content_of}
 use Rattle.sqwal.specs.View.{Unnamed, IsLast}
-use Rattle.sqwal.specs.Refusal.{most_frames}
-use Rattle.sqwal.specs.Took.{Took}
+use Rattle.sqval.specs.CommitFaults.{most_bytes}
+use Rattle.sqwal.specs.Took.{TookWithin}
 use Rattle.sqwal.specs.declared.scan.Scan.{Scan}
 use Rattle.sqwal.specs.declared.error.WalFormatError.{WalFormatError}
 use Rattle.sqwal.specs.declared.error.WalFormatError.TheVariants.{TooLong, NoMemory}
@@ -15,7 +15,7 @@ use Rattle.crashdisk.specs.declared.file.File.TheVariants.{Db, Log}
 use Rattle.crashdisk.specs.declared.error.DiskError.{DiskError}
 use Rattle.walcore.specs.Folding.{IsFolded}
 use Rattle.crashdisk.specs.Keeps.{HadRefusal, IsLogDown, Still, Later, Told, TellsRefusal, SyncStep}
-use Rattle.walcore.specs.Changes.{MayFold}
+use Rattle.walcore.specs.Changes.{MayFoldWithin}
 use Rattle.walcore.specs.Phases.{Writing, Filed}
 use Rattle.walcore.specs.declared.folding.Folded.{Folded}
 use Rattle.walcore.specs.declared.error.WalError.{WalError}
@@ -23,12 +23,12 @@ use Rattle.walcore.specs.declared.error.WalError.TheVariants.{TooLarge, NoMemory
 
 -- ---- The scan.
 
--- why the scan of the log w is refused
-unfoldable pub ScanRefused : List ℕ → WalError → (old new : DiskState) → Type 0
-ScanRefused w TooLarge old new = IsValidFrame (named_size w) w (suc most_frames)
-ScanRefused w WalNoMemory old new = Unit {0}
-ScanRefused w Device old new = HadRefusal old new
-ScanRefused w _ old new = ⊥
+-- why the scan of the log w is refused, which takes at most so many frames
+unfoldable pub ScanRefused : (most : ℕ) → List ℕ → WalError → (old new : DiskState) → Type 0
+ScanRefused most w TooLarge old new = IsValidFrame (named_size w) w (suc most)
+ScanRefused most w WalNoMemory old new = Unit {0}
+ScanRefused most w Device old new = HadRefusal old new
+ScanRefused most w _ old new = ⊥
 
 -- how a refusal of the scan is answered
 abbrev pub IsWithoutHeader : WalFormatError → Result Bool WalError → Type 0
@@ -37,16 +37,16 @@ IsWithoutHeader NoMemory r = r ≡ Err WalNoMemory
 IsWithoutHeader e r = r ≡ Ok false
 
 -- the scan has taken the log up to this place, or the log has no valid header
-unfoldable pub PieceAnswer : List ℕ → (end : ℕ) → Result Bool WalError → Scan → (old new : DiskState) → Type 0
-PieceAnswer w end (Ok true) s old new = Took (take end w) s
-PieceAnswer w end (Ok false) s old new = IsHeader (named_size w) w → ⊥
-PieceAnswer w end (Err e) s old new = ScanRefused w e old new
+unfoldable pub PieceAnswer : (most : ℕ) → List ℕ → (end : ℕ) → Result Bool WalError → Scan → (old new : DiskState) → Type 0
+PieceAnswer most w end (Ok true) s old new = TookWithin most (take end w) s
+PieceAnswer most w end (Ok false) s old new = IsHeader (named_size w) w → ⊥
+PieceAnswer most w end (Err e) s old new = ScanRefused most w e old new
 
 -- what the scan of the whole log answers: none where it has no valid header
-unfoldable pub ScanAnswer : List ℕ → Result (Option Scan) WalError → (old new : DiskState) → Type 0
-ScanAnswer w (Ok (Some s)) old new = Took w s
-ScanAnswer w (Ok None) old new = IsHeader (named_size w) w → ⊥
-ScanAnswer w (Err e) old new = ScanRefused w e old new
+unfoldable pub ScanAnswer : (most : ℕ) → List ℕ → Result (Option Scan) WalError → (old new : DiskState) → Type 0
+ScanAnswer most w (Ok (Some s)) old new = TookWithin most w s
+ScanAnswer most w (Ok None) old new = IsHeader (named_size w) w → ⊥
+ScanAnswer most w (Err e) old new = ScanRefused most w e old new
 
 -- ---- The copying.
 
@@ -105,7 +105,11 @@ unfoldable pub FoldedAnswer : (size : ℕ) (db w : List ℕ) → Result Folded W
 FoldedAnswer size db w (Ok f) old new = IsFolded size db w f new
 FoldedAnswer size db w (Err e) old new = (e ≡ Device) × HadRefusal old new
 
--- which calls a fold made of the disk, and that one which was refused is told
-pub record FoldCalls {T : Type 0} (size : ℕ) (result : Result T WalError) (old new : DiskState) : Type 0 where
-  pub later : Later (MayFold size) old new
+-- which calls a fold of at most so many bytes made of the disk, and that one which was refused is told
+pub record FoldCallsWithin {T : Type 0} (most size : ℕ) (result : Result T WalError) (old new : DiskState) : Type 0 where
+  pub later : Later (MayFoldWithin most size) old new
   pub told : TellsRefusal Device result old new
+
+-- at the usual limit
+abbrev pub FoldCalls : {T : Type 0} → (size : ℕ) → Result T WalError → (old new : DiskState) → Type 0
+FoldCalls size result old new = FoldCallsWithin most_bytes size result old new

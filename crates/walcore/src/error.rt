@@ -36,7 +36,8 @@ pub enum WalError {
     /// A page's length isn't the page size.
     #[error("a page of another length")]
     BadLength,
-    /// The database is or would be above 1,073,741,824 bytes, or the log has more than 2,097,152 valid frames.
+    /// The database is or would be above its limit in bytes, or the log has more valid frames than its limit. The usual
+    /// limits are 1,073,741,824 bytes and 2,097,152 frames.
     #[error("too large")]
     TooLarge,
     /// More than 1,048,576 pages committed since the log was begun.

@@ -5,7 +5,7 @@ use crate::copying::{copy_pages, finish};
 use crate::error::WalError;
 use crate::plan::{Plan, read_plan};
 use crashdisk::{Disk, File};
-use sqval::PageSize;
+use sqval::{Limits, PageSize};
 use std::alloc::Global;
 
 /// What a fold found: the number of committed frames, and the size of the database in pages there, 0 with no frame.
@@ -20,7 +20,8 @@ pub struct Folded {
 ghost use Rattle.crashdisk.specs.During.{During};
 ghost use Rattle.crashdisk.specs.Keeps.{Suits, TearsPages};
 ghost use Rattle.walcore.specs.Plans.{HasRoom};
-ghost use Rattle.walcore.specs.Copying.{FoldsPlan, FoldsLong, FoldsSynced, FoldsFile};
+ghost use Rattle.walcore.specs.Copying.{FoldsPlan, FoldsLong, FoldsSyncedWithin, FoldsSynced, FoldsFileWithin};
+ghost use Rattle.walcore.specs.Copying.{FoldsFile};
 
 /// On a disk that tears, a sector may hold no more than a page. SectorAbovePage alone.
 pub fn judge_sector<D: Disk>(disk: &D, page_size: PageSize) -> Result<(), WalError>
@@ -60,32 +61,46 @@ fn fold_log<D: Disk>(
     disk: &mut D,
     long: u64,
     page_size: PageSize,
+    limits: Limits,
 ) -> Result<Folded, WalError>
-    ensures { During D.keeps_word D.state disk.old disk.new (FoldsLong long page_size result) }
+    ensures { During D.keeps_word D.state disk.old disk.new (FoldsLong limits long page_size result) }
 {
-    let plan = read_plan(alloc, disk, long, page_size)?;
+    let plan = read_plan(alloc, disk, long, page_size, limits)?;
     fold_plan(disk, plan)
 }
 
-/// Folds the log into the database and empties it: writes each page of the database at the log's front from the last
-/// committed frame that names it, sets the database's length, and once that is down zeroes the log's header and cuts
-/// the log to no bytes. With no committed frame the database's bytes stay. `page_size` must be the one that the log's
-/// header names, and can be any where the log has no valid header.
-///
-/// Refused with, in this order, `SectorAbovePage` where a disk that tears has larger sectors than such a page,
-/// `TooLarge` where the log has more than 2,097,152 valid frames or its front's database is above 1,073,741,824 bytes,
-/// and `PageSize` where the log's header names another page size; with `NoMemory`; and with `Device` where the disk
-/// refused a call, either of which may stand in place of the last two. All but `Device` change no byte. After `Device`
-/// the fold is to be called again.
+/// Folds the log into the database as `fold_within` does, within `Limits::USUAL`: 1,073,741,824 bytes and 2,097,152
+/// valid frames.
 pub fn fold<D: Disk>(alloc: Global, disk: &mut D, page_size: PageSize) -> Result<Folded, WalError>
     ensures { During D.keeps_word D.state disk.old disk.new (FoldsFile page_size result) }
 {
-    judge_sector(disk, page_size)?;
-    disk.sync(File::Log)?;
-    fold_synced(alloc, disk, page_size)
+    fold_within(alloc, disk, page_size, Limits::USUAL)
 }
 
-/// What a fold does once it has synced the log: a log of no bytes is left as it is. Refused as `fold` is.
+/// Folds the log into the database within these limits, and empties it: writes each page of the database at the log's
+/// front from the last committed frame that names it, sets the database's length, and once that is down zeroes the
+/// log's header and cuts the log to no bytes. With no committed frame the database's bytes stay. `page_size` must be
+/// the one that the log's header names, and can be any where the log has no valid header.
+///
+/// Refused with, in this order, `SectorAbovePage` where a disk that tears has larger sectors than such a page,
+/// `TooLarge` where the log has more valid frames than the limits allow or its front's database has more bytes, and
+/// `PageSize` where the log's header names another page size; with `NoMemory`; and with `Device` where the disk
+/// refused a call, either of which may stand in place of the last two. All but `Device` change no byte. After `Device`
+/// the fold is to be called again.
+pub fn fold_within<D: Disk>(
+    alloc: Global,
+    disk: &mut D,
+    page_size: PageSize,
+    limits: Limits,
+) -> Result<Folded, WalError>
+    ensures { During D.keeps_word D.state disk.old disk.new (FoldsFileWithin limits page_size result) }
+{
+    judge_sector(disk, page_size)?;
+    disk.sync(File::Log)?;
+    fold_synced_within(alloc, disk, page_size, limits)
+}
+
+/// What `fold` does once it has synced the log: a log of no bytes is left as it is. Refused as `fold` is.
 pub fn fold_synced<D: Disk>(
     alloc: Global,
     disk: &mut D,
@@ -93,10 +108,22 @@ pub fn fold_synced<D: Disk>(
 ) -> Result<Folded, WalError>
     ensures { During D.keeps_word D.state disk.old disk.new (FoldsSynced page_size result) }
 {
+    fold_synced_within(alloc, disk, page_size, Limits::USUAL)
+}
+
+/// The same within these limits.
+fn fold_synced_within<D: Disk>(
+    alloc: Global,
+    disk: &mut D,
+    page_size: PageSize,
+    limits: Limits,
+) -> Result<Folded, WalError>
+    ensures { During D.keeps_word D.state disk.old disk.new (FoldsSyncedWithin limits page_size result) }
+{
     judge_sector(disk, page_size)?;
     let long = disk.len(File::Log)?;
     if long == 0 {
         return Ok(Folded { frames: 0, size: 0 });
     }
-    fold_log(alloc, disk, long, page_size)
+    fold_log(alloc, disk, long, page_size, limits)
 }

@@ -58,7 +58,7 @@ mod wal;
 mod worked;
 
 pub use error::WalError;
-pub use folding::{Folded, fold, fold_synced};
+pub use folding::{Folded, fold, fold_synced, fold_within};
 pub use laws::{
     a_base_fits, a_crash_fits, a_look_fits, one_is_shown, one_step, runs_are_sane,
     settled_files_fit, what_is_down_stays, what_is_shown_stays,

@@ -1,7 +1,7 @@
 //! What a fold is going to do (own).
 ghost use Rattle.std.specs.Prelude.{◌≡◌, ◌+◌, ◌≤◌, ℕ, List, IfOk, OnOk, OnErr};
 ghost use Rattle.crashdisk.specs.During.{During};
-ghost use Rattle.sqwal.specs.Took.{Took};
+ghost use Rattle.sqwal.specs.Took.{TookWithin};
 ghost use Rattle.sqwal.specs.Header.{named_size, IsHeader};
 ghost use Rattle.sqwal.specs.Frames.{IsValidFrame};
 ghost use Rattle.walcore.specs.Plans.{wanted_page, HasRoom, IsTable, JudgeAnswer, PlanAnswer};
@@ -10,12 +10,9 @@ ghost use Rattle.walcore.specs.Reading.{OnlyReads, PlansFold};
 use crate::error::WalError;
 use crate::reading::{scan_log, zeros};
 use crashdisk::Disk;
-use sqval::PageSize;
+use sqval::{Limits, PageSize};
 use sqwal::{FrameIndex, Front, Scan};
 use std::alloc::Global;
-
-/// The most bytes of a database.
-const MOST_BYTES: u64 = 1073741824;
 
 /// The most room beyond one page in which pages are copied, in bytes.
 const RUN: usize = 196_608;
@@ -32,11 +29,17 @@ pub struct Plan {
 }
 
 /// Whether a log of pages of the named size is too large, or one of pages of another size.
-fn judge_frames(scan: &Scan, named: PageSize, page_size: PageSize) -> Result<Front, WalError>
-    ensures { (w : List ℕ) → Took w scan.now → IsHeader named w → JudgeAnswer page_size w result }
+fn judge_frames(
+    scan: &Scan,
+    named: PageSize,
+    page_size: PageSize,
+    limits: Limits,
+) -> Result<Front, WalError>
+    ensures { (w : List ℕ) → TookWithin limits.frames w scan.now → IsHeader named w
+        → JudgeAnswer limits page_size w result }
 {
     let front = scan.committed();
-    if u64::from(front.size) * u64::from(named.get()) > MOST_BYTES {
+    if u64::from(front.size) * u64::from(named.get()) > limits.bytes() {
         return Err(WalError::TooLarge);
     }
     if named.get() != page_size.get() {
@@ -46,11 +49,11 @@ fn judge_frames(scan: &Scan, named: PageSize, page_size: PageSize) -> Result<Fro
 }
 
 /// Whether the log is too large, or one of pages of another size.
-fn judge(scan: &Scan, page_size: PageSize) -> Result<Front, WalError>
-    ensures { (w : List ℕ) → Took w scan.now → JudgeAnswer page_size w result }
+fn judge(scan: &Scan, page_size: PageSize, limits: Limits) -> Result<Front, WalError>
+    ensures { (w : List ℕ) → TookWithin limits.frames w scan.now → JudgeAnswer limits page_size w result }
 {
     match scan.header() {
-        Some(header) => judge_frames(scan, header.page_size, page_size),
+        Some(header) => judge_frames(scan, header.page_size, page_size, limits),
         None => Ok(scan.committed()),
     }
 }
@@ -58,7 +61,7 @@ fn judge(scan: &Scan, page_size: PageSize) -> Result<Front, WalError>
 /// The page that a frame names, 0 where it is above the size.
 fn wanted(scan: &Scan, frame: usize, size: u32) -> u32
     ensures bound { result ≤ size }
-    ensures page { (w : List ℕ) → Took w scan.now → IsValidFrame (named_size w) w frame
+    ensures page { (most : ℕ) (w : List ℕ) → TookWithin most w scan.now → IsValidFrame (named_size w) w frame
         → result ≡ wanted_page (named_size w) size w frame }
 {
     match scan.entry(frame) {
@@ -84,8 +87,8 @@ pub fn grow(index: &mut FrameIndex, bound: u32, frames: u32) -> Result<(), WalEr
 
 /// The frames of a log up to its front by their pages (own). NoMemory alone.
 pub fn index_of(alloc: Global, scan: &Scan, front: Front) -> Result<FrameIndex, WalError>
-    ensures table { IfOk result (λ t. (w : List ℕ) → Took w scan.now → IsValidFrame (named_size w) w front.frames →
-        IsTable (named_size w) front.size w front.frames t) }
+    ensures table { IfOk result (λ t. (most : ℕ) (w : List ℕ) → TookWithin most w scan.now
+        → IsValidFrame (named_size w) w front.frames → IsTable (named_size w) front.size w front.frames t) }
     ensures memory { OnErr result (result ≡ Err WalError.NoMemory) }
 {
     let mut index = FrameIndex::new(alloc);
@@ -111,11 +114,16 @@ fn no_plan(alloc: Global, page_size: PageSize) -> Plan
 }
 
 /// Judges the scanned log, and takes all memory that the fold needs.
-fn plan_of(alloc: Global, scan: &Scan, page_size: PageSize) -> Result<Plan, WalError>
-    ensures plan { (w : List ℕ) → Took w scan.now → PlanAnswer page_size w result }
+fn plan_of(
+    alloc: Global,
+    scan: &Scan,
+    page_size: PageSize,
+    limits: Limits,
+) -> Result<Plan, WalError>
+    ensures plan { (w : List ℕ) → TookWithin limits.frames w scan.now → PlanAnswer limits page_size w result }
     ensures room { IfOk result HasRoom }
 {
-    let front = judge(scan, page_size)?;
+    let front = judge(scan, page_size, limits)?;
     if front.frames == 0 {
         return Ok(no_plan(alloc, page_size));
     }
@@ -131,19 +139,21 @@ fn plan_of(alloc: Global, scan: &Scan, page_size: PageSize) -> Result<Plan, WalE
     })
 }
 
-/// Reads the log, which has this many bytes, and judges it.
+/// Reads the log, which has this many bytes, and judges it within these limits.
 pub fn read_plan<D: Disk>(
     alloc: Global,
     disk: &mut D,
     long: u64,
     page_size: PageSize,
+    limits: Limits,
 ) -> Result<Plan, WalError>
-    ensures disk { During D.keeps_word D.state disk.old disk.new (OnlyReads result (PlansFold long page_size result)) }
+    ensures disk { During D.keeps_word D.state disk.old disk.new
+        (OnlyReads result (PlansFold limits long page_size result)) }
     ensures room { IfOk result HasRoom }
 {
-    let scanned = scan_log(alloc, disk, long)?;
+    let scanned = scan_log(alloc, disk, long, limits)?;
     match scanned {
-        Some(scan) => plan_of(alloc, &scan, page_size),
+        Some(scan) => plan_of(alloc, &scan, page_size, limits),
         None => Ok(no_plan(alloc, page_size)),
     }
 }

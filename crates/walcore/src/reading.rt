@@ -6,6 +6,7 @@ ghost use Rattle.walcore.specs.Reading.{OnlyReads, TakesPiece, TakesLog, ScansLo
 
 use crate::error::WalError;
 use crashdisk::{Disk, File};
+use sqval::Limits;
 use sqwal::{Scan, WalFormatError};
 use std::alloc::Global;
 
@@ -79,11 +80,16 @@ pub fn zeros(alloc: Global, long: usize) -> Result<Vec<u8>, WalError>
 }
 
 /// Scans the log, which has this many bytes. None where its header isn't valid.
-pub fn scan_log<D: Disk>(alloc: Global, disk: &mut D, long: u64) -> Result<Option<Scan>, WalError>
-    ensures { During D.keeps_word D.state disk.old disk.new (OnlyReads result (ScansLog long result)) }
+pub fn scan_log<D: Disk>(
+    alloc: Global,
+    disk: &mut D,
+    long: u64,
+    limits: Limits,
+) -> Result<Option<Scan>, WalError>
+    ensures { During D.keeps_word D.state disk.old disk.new (OnlyReads result (ScansLog limits.frames long result)) }
 {
     let mut buffer = zeros(alloc, PIECE)?;
-    let mut scan = Scan::new(alloc);
+    let mut scan = Scan::within(alloc, limits);
     if scan_pieces(disk, &mut scan, long, &mut buffer)? {
         Ok(Some(scan))
     } else {

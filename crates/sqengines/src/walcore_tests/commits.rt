@@ -1,60 +1,63 @@
+use crate::checks::{disk_of, has_length, page_size, present, same};
 use crashdisk::{Disk, File, ModelDisk};
-use sqval::PageSize;
 use sqwal::{Order, Sum, WalHeader, frame_head};
-use std::alloc::Global;
-use std::test::Fail;
+use std::process::Abort;
 use walcore::{Refused, Wal, WalError};
 
 const HEADER_END: usize = 32;
 
 /// An engine that has begun a log of this header over a database of one page.
-fn engine(alloc: Global, header: &WalHeader) -> Result<Wal<ModelDisk>, Fail> {
-    let disk = ModelDisk::new(alloc, 512, [b'z'; 512].to_vec(alloc)?)?;
+fn engine<R: AllocGlobal + Abort>(rt: &R, header: &WalHeader) -> Wal<ModelDisk> {
     let salts = (header.salt1, header.salt2);
-    match Wal::open(alloc, disk, header.page_size, salts) {
-        Ok(wal) => Ok(wal),
-        Err(Refused { error, disk: _ }) => Err(error.into()),
+    match Wal::open(rt.alloc(), disk_of(rt, b'z', 512), header.page_size, salts) {
+        Ok(wal) => wal,
+        Err(Refused { error, disk: _ }) => panic!(rt; "refused: {error:?}"),
     }
 }
 
+/// Of these commits the last is done, and synced. The disk afterwards.
+fn committed<R: AllocGlobal + Abort>(
+    rt: &R,
+    header: &WalHeader,
+    first: &[u8; 512],
+    second: &[u8; 512],
+) -> ModelDisk {
+    let mut wal = engine(rt, header);
+    same(rt, wal.commit(&[], 1), Err(WalError::EmptyCommit));
+    let twice = wal.commit(&[(2, first), (2, second)], 2);
+    same(rt, twice, Err(WalError::PageTwice));
+    same(
+        rt,
+        wal.commit(&[(3, first)], 3),
+        Err(WalError::HoleInGrowth),
+    );
+    same(rt, wal.commit(&[(2, second), (1, first)], 2), Ok(()));
+    same(rt, wal.sync(), Ok(()));
+    wal.into_disk()
+}
+
 #[test]
-fn commits_and_syncs(rt: HostRuntime) -> Result<(), Fail> {
-    let alloc = rt.alloc();
+fn commits_and_syncs(rt: HostRuntime) {
     let header = WalHeader {
         order: Order::Big,
-        page_size: PageSize::new(512).ok_or("a page size")?,
+        page_size: page_size(&rt, 512),
         sequence: 0,
         salt1: 1,
         salt2: 2,
     };
-    let first = [b'a'; 512];
-    let second = [b'b'; 512];
+    let (first, second) = ([b'a'; 512], [b'b'; 512]);
+    let mut disk = committed(&rt, &header, &first, &second);
     let mut head = [0u8; 32];
     header.write(&mut head);
     let sum = Sum::zero().add(&head[..24], Order::Big);
-    let mut wal = engine(alloc, &header)?;
-    let empty = wal.commit(&[], 1);
-    let twice = wal.commit(&[(2, &first), (2, &second)], 2);
-    let hole = wal.commit(&[(3, &first)], 3);
-    let done = wal.commit(&[(2, &second), (1, &first)], 2);
-    let synced = wal.sync();
-    let mut disk = wal.into_disk();
-    assert_eq!(rt; empty, Err(WalError::EmptyCommit));
-    assert_eq!(rt; twice, Err(WalError::PageTwice));
-    assert_eq!(rt; hole, Err(WalError::HoleInGrowth));
-    assert_eq!(rt; done, Ok(()));
-    assert_eq!(rt; synced, Ok(()));
-
     let (head_2, after) = frame_head(&header, sum, 2, 0, &second);
     let (head_1, _) = frame_head(&header, after, 1, 2, &first);
-    let mut log = Vec::new(alloc);
-    disk.present(File::Log, &mut log)?;
-    assert_eq!(rt; log.len(), 1104);
-    assert_eq!(rt; disk.len(File::Log)?, 1104);
-    assert!(rt; log.starts_with(&head));
-    assert_eq!(rt; &log[HEADER_END..56], head_2.as_slice());
-    assert_eq!(rt; &log[56..568], second.as_slice());
-    assert_eq!(rt; &log[568..592], head_1.as_slice());
-    assert_eq!(rt; &log[592..1104], first.as_slice());
-    Ok(())
+    let log = present(&rt, &disk, File::Log);
+    same(&rt, log.len(), 1104);
+    has_length(&rt, &mut disk, File::Log, 1104);
+    same(&rt, log.get(..HEADER_END), Some(head.as_slice()));
+    same(&rt, log.get(HEADER_END..56), Some(head_2.as_slice()));
+    same(&rt, log.get(56..568), Some(second.as_slice()));
+    same(&rt, log.get(568..592), Some(head_1.as_slice()));
+    same(&rt, log.get(592..1104), Some(first.as_slice()));
 }

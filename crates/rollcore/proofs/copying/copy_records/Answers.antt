@@ -4,7 +4,7 @@ use Rattle.std.specs.Prelude.{Ok}
 use Rattle.crashdisk.specs.Keeps.{Later}
 use Rattle.crashdisk.specs.declared.file.File.TheVariants.{Db}
 use Rattle.crashdisk.proofs.Later.{later_cut}
-use Rattle.rollcore.specs.Changes.{MayReplay}
+use Rattle.rollcore.specs.Changes.{MayReplayWithin}
 use Rattle.rollcore.proofs.Told.{asks_same, asks_as, asks_err, asks_device, asks_done, asks_then}
 use Rattle.rollcore.specs.declared.error.RollError.TheVariants.{Device}
 use Rattle.sqval.proofs.Answering.{passed}
@@ -22,7 +22,7 @@ loop-done-init g c = record {
   kept = (λ k. k, λ k. k);
   all = λ w read. read_count w c.args.scan.now read c.count-total.result c.count-total.ensures;
   log = λ word. keeps_same _ (g.met.D.Disk.sound c.args.disk.now word);
-  asks = λ word within. asks_same _ _ (g.met.D.Disk.sound c.args.disk.now word);
+  asks = λ word most within. asks_same _ _ (g.met.D.Disk.sound c.args.disk.now word);
   pages = λ word db w segments end why db_are are has size within is. upto_none w db c.args.count (entries_of w segments) (g.D.Disk.state c.args.disk.now) db_are;
   writing = λ word w d are has within is. is;
 }
@@ -43,9 +43,9 @@ loop-done-preserved g c =
       log = λ word.
           let before = i.log word in
           keeps_then _ _ _ before (c.copy_run.ensures.disk.holds (i.kept.0 word)).log;
-      asks = λ word within.
-          asks_then {U = Unit {0}} (Ok tt) (Ok tt) tt _ _ _ refl (i.asks word within) (asks_as (Ok tt) c.copy_run.result _ _ _ c.in_ok-done.was
-          ((c.copy_run.ensures.disk.holds (i.kept.0 word)).asks within));
+      asks = λ word most within.
+          asks_then {U = Unit {0}} (Ok tt) (Ok tt) tt _ _ _ refl (i.asks word most within) (asks_as (Ok tt) c.copy_run.result _ _ _ c.in_ok-done.was
+          ((c.copy_run.ensures.disk.holds (i.kept.0 word)).asks most within));
       pages = λ word db w segments end why db_are are has size within is.
           let before = i.log word in
           let n = count_is w segments end why is c.count-total.result (i.all w has) in
@@ -68,7 +68,7 @@ returns-in_err-done g c = record {
       let now = c.copy_run.ensures.disk.holds (i.kept.0 word) in
       record {
         log = keeps_then _ _ _ before now.log;
-        asks = λ within. asks_then {U = Unit {0}} _ (Ok tt) tt _ _ _ refl (i.asks word within) (asks_err c.from_residual.result c.copy_run.result _ _ _ c.in_err-done.was (passed c.from_residual.result _ c.from_residual.ensures.1) (now.asks within));
+        asks = λ most within. asks_then {U = Unit {0}} _ (Ok tt) tt _ _ _ refl (i.asks word most within) (asks_err c.from_residual.result c.copy_run.result _ _ _ c.in_err-done.was (passed c.from_residual.result _ c.from_residual.ensures.1) (now.asks most within));
         pages = λ db w d db_are are has hot size first within rolled.
             run_refused c.args.size w c.args.count (c.loop-done.done + 1) d c.copy_run.result c.from_residual.result _ _ _ _ before.refused c.in_err-done.was (passed c.from_residual.result _ c.from_residual.ensures.1)
             (now.pages w (present_in _ _ w before.log are) has size within);
@@ -88,9 +88,9 @@ returns-in_err-set_len g c = record {
       let same : c.from.result * c.args.size ≡ c.args.count * c.args.size = ap (λ (n : ℕ). n * c.args.size) c.from.ensures in
       record {
         log = keeps_then _ _ _ before (keeps_cut _ c.set_len.result _ _ before.sound cut);
-        asks = λ within.
-            let so_far = i.asks word within in
-            let last : Later (MayReplay c.args.size) (g.D.Disk.state c.loop-done.disk) (g.D.Disk.state c.set_len.new.self) = later_cut Db _ c.set_len.result _ _ (c.args.count, same, omega (arith, same, within)) so_far.later.sound cut in
+        asks = λ most within.
+            let so_far = i.asks word most within in
+            let last : Later (MayReplayWithin most c.args.size) (g.D.Disk.state c.loop-done.disk) (g.D.Disk.state c.set_len.new.self) = later_cut Db _ c.set_len.result _ _ (c.args.count, same, omega (arith, same, within)) so_far.later.sound cut in
             asks_then {U = Unit {0}} _ (Ok tt) tt _ _ _ refl so_far (asks_device c.from_residual-in_err-set_len.result _ _ (passed c.from_residual-in_err-set_len.result Device c.from_residual-in_err-set_len.ensures.1) last);
         pages = λ db w d db_are are has hot size first within rolled.
             cut_refused c.args.size c.args.count _ d c.set_len.result _ c.from_residual-in_err-set_len.result _ _ _ before same within c.in_err-set_len.was (passed c.from_residual-in_err-set_len.result Device c.from_residual-in_err-set_len.ensures.1) cut;
@@ -109,9 +109,9 @@ returns g c = record {
       let same : c.from.result * c.args.size ≡ c.args.count * c.args.size = ap (λ (n : ℕ). n * c.args.size) c.from.ensures in
       record {
         log = keeps_then _ _ _ before (keeps_cut _ c.set_len.result _ _ before.sound cut);
-        asks = λ within.
-            let so_far = i.asks word within in
-            let last : Later (MayReplay c.args.size) (g.D.Disk.state c.loop-done.disk) (g.D.Disk.state c.set_len.new.self) = later_cut Db _ c.set_len.result _ _ (c.args.count, same, omega (arith, same, within)) so_far.later.sound cut in
+        asks = λ most within.
+            let so_far = i.asks word most within in
+            let last : Later (MayReplayWithin most c.args.size) (g.D.Disk.state c.loop-done.disk) (g.D.Disk.state c.set_len.new.self) = later_cut Db _ c.set_len.result _ _ (c.args.count, same, omega (arith, same, within)) so_far.later.sound cut in
             asks_then {U = Unit {0}} (Ok tt) (Ok tt) tt _ _ _ refl so_far (asks_done (Ok tt) c.set_len.result _ _ _ c.in_ok-set_len.was cut.elsewhere.refused last);
         pages = λ db w d db_are are has hot size first within rolled.
             let count = i.all w has in

@@ -1,14 +1,14 @@
 use Rattle.std.proofs.Common.{◌≡◌, ◌≤◌, ◌+◌, ◌-◌, ◌*◌, inl, inr, ⊎_elim, ℕ, List, [], length, take, refl, arith, ap, subst, rules}
 use Rattle.std.specs.Prelude.{Ok, Some, None}
 use Rattle.sqval.specs.Bytes.{word as word_of}
-use Rattle.sqval.specs.CommitFaults.{most_bytes}
 use Rattle.sqval.proofs.Answering.{passed}
+use Rattle.crashdisk.specs.State.{longest}
 use Rattle.crashdisk.specs.Call.{Writes, ArePresent}
 use Rattle.crashdisk.specs.Keeps.{Later}
 use Rattle.crashdisk.specs.declared.file.File.TheVariants.{Db}
 use Rattle.crashdisk.proofs.Later.{later_still, later_then, later_write}
 use Rattle.crashdisk.proofs.Stills.{still, still_looks, still_sound, keeps_still, keeps_then, keeps_write}
-use Rattle.rollcore.specs.Changes.{MayReplay}
+use Rattle.rollcore.specs.Changes.{MayReplayWithin}
 use Rattle.rollcore.specs.Steps.{HasRead}
 use Rattle.rollcore.specs.declared.error.RollError.TheVariants.{Device}
 use Rattle.rollcore.proofs.Told.{asks_same, asks_device, asks_done, asks_then}
@@ -23,7 +23,7 @@ returns-in_default-clause-disk g c = record {
       let sound = g.met.D.Disk.sound c.args.disk.now word in
       record {
         log = keeps_still _ _ sound (still _ sound);
-        asks = λ within. asks_same _ _ sound;
+        asks = λ most within. asks_same _ _ sound;
         pages = λ w there has same within. run_none c.args.shape.size w c.args.shape.count c.args.number 1 _ refl None (read_entry w c.args.scan.now has c.args.number None c.in_default.ensures) tt;
       };
 }
@@ -35,7 +35,7 @@ returns-then-first-eq0-clause-disk g c = record {
       let sound = g.met.D.Disk.sound c.args.disk.now word in
       record {
         log = keeps_still _ _ sound (still _ sound);
-        asks = λ within. asks_same _ _ sound;
+        asks = λ most within. asks_same _ _ sound;
         pages = λ w there has same within. run_none c.args.shape.size w c.args.shape.count c.args.number 1 _ refl (Some c.in-Some.first) (read_entry w c.args.scan.now has c.args.number (Some c.in-Some.first) c.in-Some.ensures)
             (⊎_elim (λ zero. inl zero) (λ above. inr above.1) c.then-first-eq0.either);
       };
@@ -60,7 +60,7 @@ returns-in_err-read_at-clause-disk g c = record {
       let read = still_looks _ c.read_at.result _ _ sound (c.read_at.ensures.state word) in
       record {
         log = keeps_still _ _ sound read;
-        asks = λ within. asks_device c.from_residual.result _ _ (passed c.from_residual.result Device c.from_residual.ensures.1) (later_still _ _ sound read);
+        asks = λ most within. asks_device c.from_residual.result _ _ (passed c.from_residual.result Device c.from_residual.ensures.1) (later_still _ _ sound read);
         pages = λ w there has same within.
             let long = piece_long ((n - 1) * size) (n * (size + 8) - 8) ((n - 1) * size + n * (size + 8) - 8 - (n - 1) * size) c.args.room.now [] (omega arith) room in
             let fits = run_long size first.at n w one (last w has same) in
@@ -94,15 +94,15 @@ returns-in_err-write_at-clause-disk g c = record {
       (piece_there ((n - 1) * size) (n * (size + 8) - 8) ((n - 1) * size + n * (size + 8) - 8 - (n - 1) * size) c.args.room.now c.read_at.new.out (omega arith) room c.read_at.auto.out)
       (λ i lt. c.in_ok-read_at.ensures.bytes word i (omega (arith, lt, c.read_at.auto.out, piece_long ((n - 1) * size) (n * (size + 8) - 8) ((n - 1) * size + n * (size + 8) - 8 - (n - 1) * size) c.args.room.now [] (omega arith) room)))
       c.gather.ensures (front_kept (n * size) (n * size) c.gather.new.room refl) in
-      let first_part : Later (MayReplay size) (g.D.Disk.state c.args.disk.now) (g.D.Disk.state c.read_at.new.self) = later_still _ _ sound read in
-      let may = λ (within : c.args.shape.count * size ≤ most_bytes). run_may size first.page n c.args.shape.count (c.from.result * size) (take (n * size) c.gather.new.room) one under to long within in
+      let first_part = λ (most : ℕ). let part : Later (MayReplayWithin most size) (g.D.Disk.state c.args.disk.now) (g.D.Disk.state c.read_at.new.self) = later_still _ _ sound read in part in
+      let may = λ (most : ℕ) (within : c.args.shape.count * size ≤ most). run_may most size first.page n c.args.shape.count (c.from.result * size) (take (n * size) c.gather.new.room) one under to long within in
       record {
         log = keeps_then _ _ _ (keeps_still _ _ sound read) (keeps_write _ _ c.write_at.result _ _ (still_sound _ _ sound read) call);
-        asks = λ within. asks_device c.from_residual-in_err-write_at.result _ _ (passed c.from_residual-in_err-write_at.result Device c.from_residual-in_err-write_at.ensures.1)
-            (later_then _ _ _ first_part (later_write Db _ _ c.write_at.result _ _ (may within) first_part.sound call));
+        asks = λ most within. asks_device c.from_residual-in_err-write_at.result _ _ (passed c.from_residual-in_err-write_at.result Device c.from_residual-in_err-write_at.ensures.1)
+            (later_then _ _ _ (first_part most) (later_write Db _ _ c.write_at.result _ _ (may most within) (first_part most).sound call));
         pages = λ w there has same within.
             let wrote = subst (λ (k : ℕ). Writes Db k (take (n * size) c.gather.new.room) c.write_at.result (g.D.Disk.state c.read_at.new.self) (g.D.Disk.state c.write_at.new.self)) to call in
-            let fits = run_fits size first.page n c.args.shape.count under within in
+            let fits = run_fits longest size first.page n c.args.shape.count under within in
             run_unwritten size w c.args.shape.count c.args.number first n some under _ _ _ _ (are w has) long (each w has same there) read c.write_at.result _ c.from_residual-in_err-write_at.result (omega (arith, fits, long)) c.in_err-write_at.was (passed c.from_residual-in_err-write_at.result Device c.from_residual-in_err-write_at.ensures.1) wrote;
       };
 }
@@ -133,13 +133,13 @@ returns-clause-disk g c = record {
       (piece_there ((n - 1) * size) (n * (size + 8) - 8) ((n - 1) * size + n * (size + 8) - 8 - (n - 1) * size) c.args.room.now c.read_at.new.out (omega arith) room c.read_at.auto.out)
       (λ i lt. c.in_ok-read_at.ensures.bytes word i (omega (arith, lt, c.read_at.auto.out, piece_long ((n - 1) * size) (n * (size + 8) - 8) ((n - 1) * size + n * (size + 8) - 8 - (n - 1) * size) c.args.room.now [] (omega arith) room)))
       c.gather.ensures (front_kept (n * size) (n * size) c.gather.new.room refl) in
-      let first_part : Later (MayReplay size) (g.D.Disk.state c.args.disk.now) (g.D.Disk.state c.read_at.new.self) = later_still _ _ sound read in
-      let may = λ (within : c.args.shape.count * size ≤ most_bytes). run_may size first.page n c.args.shape.count (c.from.result * size) (take (n * size) c.gather.new.room) one under to long within in
+      let first_part = λ (most : ℕ). let part : Later (MayReplayWithin most size) (g.D.Disk.state c.args.disk.now) (g.D.Disk.state c.read_at.new.self) = later_still _ _ sound read in part in
+      let may = λ (most : ℕ) (within : c.args.shape.count * size ≤ most). run_may most size first.page n c.args.shape.count (c.from.result * size) (take (n * size) c.gather.new.room) one under to long within in
       record {
         log = keeps_then _ _ _ (keeps_still _ _ sound read) (keeps_write _ _ c.write_at.result _ _ (still_sound _ _ sound read) call);
-        asks = λ within.
-            let last_part : Later (MayReplay size) (g.D.Disk.state c.read_at.new.self) (g.D.Disk.state c.write_at.new.self) = later_write Db _ _ c.write_at.result _ _ (may within) first_part.sound call in
-            asks_then {U = ℕ} (Ok n) (Ok n) n _ _ _ refl (asks_done (Ok n) c.read_at.result _ _ _ c.in_ok-read_at.was (c.read_at.ensures.state word).refused first_part) (asks_done (Ok n) c.write_at.result _ _ _ c.in_ok-write_at.was call.elsewhere.refused last_part);
+        asks = λ most within.
+            let last_part : Later (MayReplayWithin most size) (g.D.Disk.state c.read_at.new.self) (g.D.Disk.state c.write_at.new.self) = later_write Db _ _ c.write_at.result _ _ (may most within) (first_part most).sound call in
+            asks_then {U = ℕ} (Ok n) (Ok n) n _ _ _ refl (asks_done (Ok n) c.read_at.result _ _ _ c.in_ok-read_at.was (c.read_at.ensures.state word).refused (first_part most)) (asks_done (Ok n) c.write_at.result _ _ _ c.in_ok-write_at.was call.elsewhere.refused last_part);
         pages = λ w there has same within.
             let wrote = subst (λ (k : ℕ). Writes Db k (take (n * size) c.gather.new.room) (Ok (tt {0})) (g.D.Disk.state c.read_at.new.self) (g.D.Disk.state c.write_at.new.self)) to (c.in_ok-write_at.ensures.state (c.read_at.ensures.word.0 word)) in
             run_put size w c.args.shape.count c.args.number first n some under _ _ _ _ (are w has) long (each w has same there) read wrote;

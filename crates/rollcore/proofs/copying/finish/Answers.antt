@@ -3,7 +3,7 @@ use Rattle.crashdisk.specs.declared.file.File.TheVariants.{Db}
 use Rattle.sqval.proofs.Answering.{passed}
 use Rattle.crashdisk.specs.Keeps.{Later}
 use Rattle.crashdisk.specs.Call.{InFile}
-use Rattle.rollcore.specs.Changes.{MayReplay, Asks}
+use Rattle.rollcore.specs.Changes.{MayReplayWithin, Asks}
 use Rattle.rollcore.proofs.Told.{asks_step, asks_as, asks_err, asks_then, asks_zeros}
 use Rattle.rollcore.proofs.Ending.{zero_refused, end_refused, end_done}
 use Rattle.crashdisk.proofs.Later.{sync_later, sync_refused}
@@ -20,7 +20,7 @@ returns-in_err-settle_database-clause-disk g c = record {
       let sound = g.met.D.Disk.sound c.args.disk.now word in
       let by_settle_database = c.settle_database.ensures.disk.holds word in
       record {
-        asks = λ size.
+        asks = λ most size.
             asks_err c.from_residual.result c.settle_database.result _ _ _ c.in_err-settle_database.was (passed c.from_residual.result _ c.from_residual.ensures.1)
             (asks_step Db c.settle_database.result _ _ tt (g.met.D.Disk.sound c.args.disk.now word) by_settle_database);
         ends =
@@ -42,8 +42,8 @@ returns-in_err-zero_header-clause-disk g c = record {
       let by_settle_database = c.settle_database.ensures.disk.holds word in
       let by_zero_header = c.zero_header.ensures.disk.holds (c.settle_database.ensures.disk.word.0 word) in
       record {
-        asks = λ size.
-            let first : Asks (MayReplay size) c.settle_database.result (g.D.Disk.state c.args.disk.now) (g.D.Disk.state c.settle_database.new.disk) =
+        asks = λ most size.
+            let first : Asks (MayReplayWithin most size) c.settle_database.result (g.D.Disk.state c.args.disk.now) (g.D.Disk.state c.settle_database.new.disk) =
             asks_step Db c.settle_database.result _ _ tt (g.met.D.Disk.sound c.args.disk.now word) by_settle_database in
             asks_then _ c.settle_database.result _ _ _ _ c.in_ok-settle_database.was first
             (asks_err c.from_residual-in_err-zero_header.result c.zero_header.result _ _ _ c.in_err-zero_header.was (passed c.from_residual-in_err-zero_header.result _ c.from_residual-in_err-zero_header.ensures.1)
@@ -71,8 +71,8 @@ returns-clause-disk g c = record {
       let by_settle_database = c.settle_database.ensures.disk.holds word in
       let by_zero_header = c.zero_header.ensures.disk.holds (c.settle_database.ensures.disk.word.0 word) in
       record {
-        asks = λ size.
-            let first : Asks (MayReplay size) c.settle_database.result (g.D.Disk.state c.args.disk.now) (g.D.Disk.state c.settle_database.new.disk) =
+        asks = λ most size.
+            let first : Asks (MayReplayWithin most size) c.settle_database.result (g.D.Disk.state c.args.disk.now) (g.D.Disk.state c.settle_database.new.disk) =
             asks_step Db c.settle_database.result _ _ tt (g.met.D.Disk.sound c.args.disk.now word) by_settle_database in
             asks_then _ c.settle_database.result _ _ _ _ c.in_ok-settle_database.was first
             (asks_as _ c.zero_header.result _ _ _ c.in_ok-zero_header.was

@@ -2,6 +2,7 @@ use Rattle.std.proofs.Common.{rules, ◌≡◌, ◌*◌, ◌∙◌, ℕ, refl, s
 use Rattle.std.specs.Prelude.{Result, Ok}
 use Rattle.sqval.specs.Database.{apply}
 use Rattle.sqval.specs.JudgedPages.{lent}
+use Rattle.sqval.specs.CommitFaults.{most_bytes}
 use Rattle.crashdisk.specs.declared.file.File.TheVariants.{Db}
 use Rattle.rollcore.specs.Commits.{PutAnswer}
 use Rattle.rollcore.specs.Segments.{pages_of}
@@ -75,7 +76,7 @@ returns-clause-disk g c = record {
             let mid : Later (MayReplay c.args.page_size) (g.D.Disk.state c.put_new_pages.new.disk) (g.D.Disk.state c.set_len.new.self) = later_cut Db _ c.set_len.result _ _ (c.args.size, end, omega (arith, end, within)) first.later.sound cut in
             asks_then _ c.put_new_pages.result _ _ _ _ c.in_ok-put_new_pages.was first
             (asks_then {U = Unit {0}} _ (Ok tt) tt _ _ _ refl (asks_done (Ok tt) c.set_len.result _ _ _ c.in_ok-set_len.was cut.elsewhere.refused mid)
-            (by_finish.asks c.args.page_size));
+            (by_finish.asks most_bytes c.args.page_size));
         ends = λ sector nonces d changes place w is begun put many listed none.
             let after = apply d pages c.args.size in
             let done = by_put_new_pages.put size sector d after (pages_of changes) place w (pages_of changes) is begun many

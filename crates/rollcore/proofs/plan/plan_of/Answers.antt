@@ -7,17 +7,17 @@ use Rattle.rollcore.proofs.ReadFronts.{read_first}
 use Rattle.rollcore.proofs.plan.plan_of.Goals as goal
 
 pub returns-in_default-clause-plan : goal.returns-in_default-clause-plan
-returns-in_default-clause-plan c = λ w read. plan_none c.args.torn w (read_first w c.args.scan read None c.in_default.ensures)
+returns-in_default-clause-plan c = λ w read. plan_none c.args.limits.bytes c.args.torn w (read_first w c.args.scan read None c.in_default.ensures)
 
 pub returns-in_err-judge-clause-plan : goal.returns-in_err-judge-clause-plan
 returns-in_err-judge-clause-plan c = λ w read.
     let first = read_first w c.args.scan read (Some c.in-Some.header) c.in-Some.ensures in
-    plan_refused c.args.torn w c.judge.result c.from_residual.result _ first.0 c.in_err-judge.was (passed c.from_residual.result _ c.from_residual.ensures.1) (c.judge.ensures.judged w first.0 first.1)
+    plan_refused c.args.limits.bytes c.args.torn w c.judge.result c.from_residual.result _ first.0 c.in_err-judge.was (passed c.from_residual.result _ c.from_residual.ensures.1) (c.judge.ensures.judged w first.0 first.1)
 
 pub returns-in_err-room-clause-plan : goal.returns-in_err-room-clause-plan
-returns-in_err-room-clause-plan c = λ w read. plan_memory c.args.torn w c.from_residual-in_err-room.result (no_memory c.zeros.result c.from_residual-in_err-room.result _ c.in_err-room.was (c.in_err-room.was ∙ c.in_err-room.ensures.memory) c.from_residual-in_err-room.ensures.1)
+returns-in_err-room-clause-plan c = λ w read. plan_memory c.args.limits.bytes c.args.torn w c.from_residual-in_err-room.result (no_memory c.zeros.result c.from_residual-in_err-room.result _ c.in_err-room.was (c.in_err-room.was ∙ c.in_err-room.ensures.memory) c.from_residual-in_err-room.ensures.1)
 
 pub returns-clause-plan : goal.returns-clause-plan
 returns-clause-plan c = λ w read.
     let first = read_first w c.args.scan read (Some c.in-Some.header) c.in-Some.ensures in
-    plan_some c.args.torn w c.judge.result _ _ c.in_ok-judge.was (c.judge.ensures.judged w first.0 first.1) read first.1
+    plan_some c.args.limits.bytes c.args.torn w c.judge.result _ _ c.in_ok-judge.was (c.judge.ensures.judged w first.0 first.1) read first.1

@@ -14,7 +14,7 @@ returns-in_err-scan-clause-disk g c = record {
       record {
         still = search rules;
         told = told_err c.from_residual.result c.scan_log.result _ (g.D.Disk.state c.args.disk.now) (g.D.Disk.state c.scan_log.new.disk) c.in_err-scan.was (passed c.from_residual.result _ c.from_residual.ensures.1) by_scan_log.told;
-        found = λ w are long. read_scan c.args.torn w _ _ c.scan_log.result c.from_residual.result _ c.in_err-scan.was (passed c.from_residual.result _ c.from_residual.ensures.1) (by_scan_log.found w are long);
+        found = λ w are long. read_scan c.args.limits.bytes c.args.torn w _ _ c.scan_log.result c.from_residual.result _ c.in_err-scan.was (passed c.from_residual.result _ c.from_residual.ensures.1) (by_scan_log.found w are long);
       };
 }
 
@@ -26,7 +26,7 @@ returns-in-Some-clause-disk g c = record {
       record {
         still = search rules;
         told = told_as c.plan_of.result c.scan_log.result _ (g.D.Disk.state c.args.disk.now) (g.D.Disk.state c.scan_log.new.disk) c.in_ok-scan.was by_scan_log.told;
-        found = λ w are long. read_planned c.args.torn w _ _ c.plan_of.result (c.plan_of.ensures.plan w (scan_read c.args.torn w _ _ c.scan_log.result c.in-Some.scan (c.in_ok-scan.was ∙ ap Ok c.in-Some.is) (by_scan_log.found w are long)));
+        found = λ w are long. read_planned c.args.limits.bytes c.args.torn w _ _ c.plan_of.result (c.plan_of.ensures.plan w (scan_read c.args.limits.bytes c.args.torn w _ _ c.scan_log.result c.in-Some.scan (c.in_ok-scan.was ∙ ap Ok c.in-Some.is) (by_scan_log.found w are long)));
       };
 }
 
@@ -38,6 +38,6 @@ returns-in-None-clause-disk g c = record {
       record {
         still = search rules;
         told = told_as {T = Option Plan} (Ok None) c.scan_log.result _ (g.D.Disk.state c.args.disk.now) (g.D.Disk.state c.scan_log.new.disk) c.in_ok-scan.was by_scan_log.told;
-        found = λ w are long. read_planned c.args.torn w _ _ _ (plan_none c.args.torn w (scan_cold c.args.torn w _ _ c.scan_log.result (c.in_ok-scan.was ∙ ap Ok c.in-None.is) (by_scan_log.found w are long)));
+        found = λ w are long. read_planned c.args.limits.bytes c.args.torn w _ _ _ (plan_none c.args.limits.bytes c.args.torn w (scan_cold c.args.limits.bytes c.args.torn w _ _ c.scan_log.result (c.in_ok-scan.was ∙ ap Ok c.in-None.is) (by_scan_log.found w are long)));
       };
 }

@@ -16,7 +16,7 @@ returns-in_err-long-clause-disk g c = record {
         still = still_looks _ c.len.result _ _ (g.met.D.Disk.sound c.args.disk.now word) (c.len.ensures.state word);
         told = told_device c.from_residual.result (g.D.Disk.state c.args.disk.now) (g.D.Disk.state c.len.new.self) (passed c.from_residual.result Device c.from_residual.ensures.1);
         found = record {
-          plan = λ w are. look_unread w (g.D.Disk.state c.args.disk.now) (g.met.D.Disk.sound c.args.disk.now word) (g.D.Disk.state c.len.new.self) c.len.result _ c.from_residual.result c.in_err-long.was (passed c.from_residual.result Device c.from_residual.ensures.1) (c.len.ensures.state word);
+          plan = λ w are. look_unread c.args.limits.bytes w (g.D.Disk.state c.args.disk.now) (g.met.D.Disk.sound c.args.disk.now word) (g.D.Disk.state c.len.new.self) c.len.result _ c.from_residual.result c.in_err-long.was (passed c.from_residual.result Device c.from_residual.ensures.1) (c.len.ensures.state word);
           sectors = search rules;
         };
       };
@@ -40,8 +40,8 @@ returns-clause-disk g c = record {
               let b = g.D.Disk.state c.len.new.self in
               let are1 = present_in a.log b.log w is.log are in
               let long : b.log.len ≡ c.in_ok-long.long = ap (λ (s : FileState). s.len) is.log ∙ sym (c.in_ok-long.ensures.answer word) in
-              read_looked w a b (g.D.Disk.state c.read_plan.new.disk) is c.read_plan.result
-              (read_torn c.sector_that_tears-torn.result w c.read_plan.result b (g.D.Disk.state c.read_plan.new.disk) (c.sector_that_tears-torn.ensures.value word ∙ sym (torn_still a b is)) (by_read_plan.found w are1 (are1.len ∙ long)));
+              read_looked c.args.limits.bytes w a b (g.D.Disk.state c.read_plan.new.disk) is c.read_plan.result
+              (read_torn c.args.limits.bytes c.sector_that_tears-torn.result w c.read_plan.result b (g.D.Disk.state c.read_plan.new.disk) (c.sector_that_tears-torn.ensures.value word ∙ sym (torn_still a b is)) (by_read_plan.found w are1 (are1.len ∙ long)));
           sectors = search rules;
         };
       };

@@ -10,8 +10,7 @@ use Rattle.rollcore.proofs.Recovering.{planned, rolled_copy, rolled_end, rolled_
 use Rattle.rollcore.proofs.Lengths.{ends_hot, named_by, fit_named, rolled_length}
 use Rattle.rollcore.proofs.Writing.{writing_shows}
 use Rattle.rollcore.proofs.Agreeing.{fit_begins}
-use Rattle.sqval.specs.CommitFaults.{most_bytes}
-use Rattle.rollcore.specs.Changes.{MayReplay, Asks}
+use Rattle.rollcore.specs.Changes.{MayReplayWithin, Asks}
 use Rattle.rollcore.proofs.Told.{asks_as, asks_err, asks_then}
 use Rattle.rollcore.proofs.ReadFronts.{read_count}
 use Rattle.rollcore.proofs.replaying.replay_plan.Goals as goal
@@ -24,16 +23,16 @@ returns-in_err-copy_records-clause-disk g c = record {
       let by_copy_records = c.copy_records.ensures.holds word in
       let e : c.get-page.result ≡ c.args.plan.header.page_size = c.get-page.ensures.value in
       record {
-        asks =
-            let within = subst (λ (n : ℕ). c.args.plan.header.first_size * n ≤ most_bytes) (sym e) c.requires.few in
-            let first = subst (λ (n : ℕ). Asks (MayReplay n) c.copy_records.result (g.D.Disk.state c.args.disk.now) (g.D.Disk.state c.copy_records.new.disk)) e (by_copy_records.asks within) in
+        asks = λ most few.
+            let within = subst (λ (n : ℕ). c.args.plan.header.first_size * n ≤ most) (sym e) few in
+            let first = subst (λ (n : ℕ). Asks (MayReplayWithin most n) c.copy_records.result (g.D.Disk.state c.args.disk.now) (g.D.Disk.state c.copy_records.new.disk)) e (by_copy_records.asks most within) in
             asks_err c.from_residual.result c.copy_records.result _ _ _ c.in_err-copy_records.was (passed c.from_residual.result _ c.from_residual.ensures.1) first;
         replays = λ db w torn are_db are fit is.
-            let p = planned w db torn c.get-page.result c.args.plan fit is e in
+            let p = planned w db torn c.get-page.result c.args.plan c.requires.few fit is e in
             rolled_copy db w (g.D.Disk.state c.args.disk.now) c.get-page.result p.pages c.copy_records.result c.from_residual.result _ _ c.in_err-copy_records.was (passed c.from_residual.result _ c.from_residual.ensures.1)
             (by_copy_records.pages db w p.pages are_db are is.read fit.hot p.same p.first p.within p.rolled);
         shows = λ sectors size w d scanning fit is.
-            let p = planned w w _ c.get-page.result c.args.plan fit is e in
+            let p = planned w w _ c.get-page.result c.args.plan c.requires.few fit is e in
             writing_shows size w d _ (writing_at c.get-page.result size w d _ _ p.same
             (by_copy_records.writing w d (down_present w _ scanning.down) is.read p.within p.first)
             (fit_begins size d w _ sound sectors fit scanning));
@@ -55,16 +54,16 @@ returns-in_err-finish-clause-disk g c = record {
       let e : c.get-page.result ≡ c.args.plan.header.page_size = c.get-page.ensures.value in
       let log = by_copy_records.log in
       record {
-        asks =
-            let within = subst (λ (n : ℕ). c.args.plan.header.first_size * n ≤ most_bytes) (sym e) c.requires.few in
-            let first = subst (λ (n : ℕ). Asks (MayReplay n) c.copy_records.result (g.D.Disk.state c.args.disk.now) (g.D.Disk.state c.copy_records.new.disk)) e (by_copy_records.asks within) in
+        asks = λ most few.
+            let within = subst (λ (n : ℕ). c.args.plan.header.first_size * n ≤ most) (sym e) few in
+            let first = subst (λ (n : ℕ). Asks (MayReplayWithin most n) c.copy_records.result (g.D.Disk.state c.args.disk.now) (g.D.Disk.state c.copy_records.new.disk)) e (by_copy_records.asks most within) in
             asks_then _ c.copy_records.result _ _ _ _ c.in_ok-copy_records.was first
-            (asks_err c.from_residual-in_err-finish.result c.finish.result _ _ _ c.in_err-finish.was (passed c.from_residual-in_err-finish.result _ c.from_residual-in_err-finish.ensures.1) (by_finish.asks c.args.plan.header.page_size));
+            (asks_err c.from_residual-in_err-finish.result c.finish.result _ _ _ c.in_err-finish.was (passed c.from_residual-in_err-finish.result _ c.from_residual-in_err-finish.ensures.1) (by_finish.asks most c.args.plan.header.page_size));
         replays = λ db w torn are_db are fit is.
             rolled_end db w (g.D.Disk.state c.args.disk.now) c.finish.result c.from_residual-in_err-finish.result _ (g.D.Disk.state c.copy_records.new.disk) _ log.refused c.in_err-finish.was (passed c.from_residual-in_err-finish.result _ c.from_residual-in_err-finish.ensures.1)
             by_finish.ends;
         shows = λ sectors size w d scanning fit is.
-            let p = planned w w _ c.get-page.result c.args.plan fit is e in
+            let p = planned w w _ c.get-page.result c.args.plan c.requires.few fit is e in
             let s = g.D.Disk.state c.args.disk.now in
             let begun = fit_begins size d w s sound sectors fit scanning in
             let are = down_present w s scanning.down in
@@ -77,7 +76,7 @@ returns-in_err-finish-clause-disk g c = record {
             let a = g.D.Disk.state c.args.disk.now in
             let b = g.D.Disk.state c.copy_records.new.disk in
             let now = table a.db.len (byte a.db) in
-            let p = planned w now _ c.get-page.result c.args.plan fit is e in
+            let p = planned w now _ c.get-page.result c.args.plan c.requires.few fit is e in
             let pages = copy_done c.get-page.result p.pages c.copy_records.result _ _ _ c.in_ok-copy_records.was
             (by_copy_records.pages now w p.pages (present_list a.db) (down_present w a down) is.read fit.hot p.same p.first p.within p.rolled) in
             subst (λ (n : ℕ). EndsBy n (g.D.Disk.state c.finish.new.disk)) (rolled_length w now p.pages c.get-page.result b pages p.rolled p.same)
@@ -95,18 +94,18 @@ returns-clause-disk g c = record {
       let e : c.get-page.result ≡ c.args.plan.header.page_size = c.get-page.ensures.value in
       let log = by_copy_records.log in
       record {
-        asks =
-            let within = subst (λ (n : ℕ). c.args.plan.header.first_size * n ≤ most_bytes) (sym e) c.requires.few in
-            let first = subst (λ (n : ℕ). Asks (MayReplay n) c.copy_records.result (g.D.Disk.state c.args.disk.now) (g.D.Disk.state c.copy_records.new.disk)) e (by_copy_records.asks within) in
-            asks_then _ c.copy_records.result _ _ _ _ c.in_ok-copy_records.was first (asks_as _ c.finish.result _ _ _ c.in_ok-finish.was (by_finish.asks c.args.plan.header.page_size));
+        asks = λ most few.
+            let within = subst (λ (n : ℕ). c.args.plan.header.first_size * n ≤ most) (sym e) few in
+            let first = subst (λ (n : ℕ). Asks (MayReplayWithin most n) c.copy_records.result (g.D.Disk.state c.args.disk.now) (g.D.Disk.state c.copy_records.new.disk)) e (by_copy_records.asks most within) in
+            asks_then _ c.copy_records.result _ _ _ _ c.in_ok-copy_records.was first (asks_as _ c.finish.result _ _ _ c.in_ok-finish.was (by_finish.asks most c.args.plan.header.page_size));
         replays = λ db w torn are_db are fit is.
-            let p = planned w db torn c.get-page.result c.args.plan fit is e in
+            let p = planned w db torn c.get-page.result c.args.plan c.requires.few fit is e in
             rolled_done db w (g.D.Disk.state c.args.disk.now) c.get-page.result p.pages c.finish.result _ _ (g.D.Disk.state c.copy_records.new.disk) _ fit.hot p.rolled p.sized
             (copy_done c.get-page.result p.pages c.copy_records.result _ _ _ c.in_ok-copy_records.was
             (by_copy_records.pages db w p.pages are_db are is.read fit.hot p.same p.first p.within p.rolled))
             (present_in _ _ w log.log are) c.in_ok-finish.was by_finish.ends refl (read_count w c.args.plan.scan is.read c.count.result c.count.ensures) is.names.first_size;
         shows = λ sectors size w d scanning fit is.
-            let p = planned w w _ c.get-page.result c.args.plan fit is e in
+            let p = planned w w _ c.get-page.result c.args.plan c.requires.few fit is e in
             let s = g.D.Disk.state c.args.disk.now in
             let begun = fit_begins size d w s sound sectors fit scanning in
             let are = down_present w s scanning.down in
@@ -119,7 +118,7 @@ returns-clause-disk g c = record {
             let a = g.D.Disk.state c.args.disk.now in
             let b = g.D.Disk.state c.copy_records.new.disk in
             let now = table a.db.len (byte a.db) in
-            let p = planned w now _ c.get-page.result c.args.plan fit is e in
+            let p = planned w now _ c.get-page.result c.args.plan c.requires.few fit is e in
             let pages = copy_done c.get-page.result p.pages c.copy_records.result _ _ _ c.in_ok-copy_records.was
             (by_copy_records.pages now w p.pages (present_list a.db) (down_present w a down) is.read fit.hot p.same p.first p.within p.rolled) in
             subst (λ (n : ℕ). EndsBy n (g.D.Disk.state c.finish.new.disk)) (rolled_length w now p.pages c.get-page.result b pages p.rolled p.same)

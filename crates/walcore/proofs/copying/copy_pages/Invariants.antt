@@ -1,7 +1,6 @@
 use Rattle.std.proofs.Common.{◌≡◌, ◌↔◌, ◌-◌, ◌*◌, ◌<◌, ◌≤◌, ℕ, List, length}
 use Rattle.crashdisk.specs.Call.{ArePresent, HasCalls}
-use Rattle.sqval.specs.CommitFaults.{most_bytes}
-use Rattle.walcore.specs.Changes.{MayFill}
+use Rattle.walcore.specs.Changes.{MayFillWithin}
 use Rattle.sqval.specs.Database.{Database}
 use Rattle.sqwal.specs.View.{IsView}
 use Rattle.crashdisk.specs.Keeps.{KeepsLog}
@@ -15,7 +14,7 @@ invariant-loop-done g l = record {
   within : l.done ≤ l.count;
   word : g.D.Disk.keeps_word l.initial.disk ↔ g.D.Disk.keeps_word l.disk;
   log : g.D.Disk.keeps_word l.initial.disk → KeepsLog (g.D.Disk.state l.initial.disk) (g.D.Disk.state l.disk);
-  calls : g.D.Disk.keeps_word l.initial.disk → l.count * l.size ≤ most_bytes → HasCalls (MayFill l.size) (g.D.Disk.state l.initial.disk) (g.D.Disk.state l.disk);
+  calls : g.D.Disk.keeps_word l.initial.disk → (bytes : ℕ) → l.count * l.size ≤ bytes → HasCalls (MayFillWithin bytes l.size) (g.D.Disk.state l.initial.disk) (g.D.Disk.state l.disk);
   quiet : g.D.Disk.keeps_word l.initial.disk → (g.D.Disk.state l.initial.disk).refused < (g.D.Disk.state l.disk).refused → ⊥;
   pages : g.D.Disk.keeps_word l.initial.disk → (db w : List ℕ) (d : Database)
       → ArePresent (g.D.Disk.state l.initial.disk).db db → ArePresent (g.D.Disk.state l.initial.disk).log w → IsCopy l.size l.count w l.frames l.index → length d ≡ l.count

@@ -3,6 +3,7 @@ use Rattle.std.specs.Prelude.{Ok}
 use Rattle.crashdisk.specs.Call.{Writes, ArePresent}
 use Rattle.crashdisk.specs.declared.file.File.TheVariants.{Db}
 use Rattle.sqval.proofs.Answering.{passed}
+use Rattle.sqval.specs.Limits.{greatest}
 use Rattle.sqwal.specs.Frames.{IsValidFrame}
 use Rattle.sqwal.specs.View.{IsLast}
 use Rattle.crashdisk.proofs.Called.{no_calls}
@@ -22,7 +23,7 @@ returns-then-hit-eq0-clause-disk g c = record {
       let sound = g.met.D.Disk.sound c.args.disk.now word in
       record {
         log = keeps_still _ _ sound (still _ sound);
-        calls = λ within. no_calls _;
+        calls = λ bytes within. no_calls _;
         told = λ more. absurd (omega (arith, more));
         pages = λ w count are valid table le within.
             run_none c.args.size w c.args.frames c.args.number 1 _ refl (hit_none c.args.size count w c.args.frames c.args.number c.find-hit.result.frame c.args.index.now table (c.find-hit.ensures.newest (λ z. omega (arith, c.requires.number.0, z))) c.requires.number.0 (omega (arith, c.requires.number, le)) c.if-hit-eq0.true);
@@ -43,7 +44,7 @@ returns-in_err-read_at-clause-disk g c = record {
       let read = still_looks _ c.read_at.result _ _ sound (c.read_at.ensures.state word) in
       record {
         log = keeps_still _ _ sound read;
-        calls = λ within. nothing_may _ _ read.calls;
+        calls = λ bytes within. nothing_may _ _ read.calls;
         told = λ more. passed c.from_residual.result Device c.from_residual.ensures.1;
         pages = λ w count are valid table le within.
             let last : IsLast size w c.args.frames (c.args.number + (n - 1)) (frame + (n - 1)) = hit_last size count w c.args.frames (c.args.number + (n - 1)) (frame + (n - 1)) c.args.index.now table (c.run_from-count.ensures.each (n - 1) (omega (arith, c.run_from-count.ensures.count))) (omega (arith, c.requires.number)) (omega (arith, c.requires.number, c.run_from-count.ensures.count, le)) (omega (arith, some)) in
@@ -80,11 +81,11 @@ returns-in_err-write_at-clause-disk g c = record {
       c.gather.ensures (front_kept (n * size) (n * size) c.gather.new.room refl) in
       record {
         log = keeps_then _ _ _ (keeps_still _ _ sound read) (keeps_write _ _ c.write_at.result _ _ (still_sound _ _ sound read) call);
-        calls = λ within. run_calls size c.args.number n c.args.most _ _ c.write_at.result (g.D.Disk.state c.args.disk.now) (g.D.Disk.state c.read_at.new.self) (g.D.Disk.state c.write_at.new.self) one c.run_from-count.ensures.count.1 to long within read call;
+        calls = λ bytes within. run_calls bytes size c.args.number n c.args.most _ _ c.write_at.result (g.D.Disk.state c.args.disk.now) (g.D.Disk.state c.read_at.new.self) (g.D.Disk.state c.write_at.new.self) one c.run_from-count.ensures.count.1 to long within read call;
         told = λ more. passed c.from_residual-in_err-write_at.result Device c.from_residual-in_err-write_at.ensures.1;
         pages = λ w count are valid table le within.
             let wrote = subst (λ (k : ℕ). Writes Db k (take (n * size) c.gather.new.room) c.write_at.result (g.D.Disk.state c.read_at.new.self) (g.D.Disk.state c.write_at.new.self)) to call in
-            let fits = run_fits size c.args.number c.args.most n count c.requires.number.0 c.run_from-count.ensures.count.1 le within in
+            let fits = run_fits greatest.bytes size c.args.number c.args.most n count c.requires.number.0 c.run_from-count.ensures.count.1 le within in
             run_unwritten size w c.args.frames c.args.number frame n _ _ _ _ (last w count table le) long (each w count are valid table le) read c.write_at.result _ c.from_residual-in_err-write_at.result (omega (arith, fits, long)) c.in_err-write_at.was (passed c.from_residual-in_err-write_at.result Device c.from_residual-in_err-write_at.ensures.1) wrote;
       };
 }
@@ -116,7 +117,7 @@ returns-clause-disk g c = record {
       c.gather.ensures (front_kept (n * size) (n * size) c.gather.new.room refl) in
       record {
         log = keeps_then _ _ _ (keeps_still _ _ sound read) (keeps_write _ _ c.write_at.result _ _ (still_sound _ _ sound read) call);
-        calls = λ within. run_calls size c.args.number n c.args.most _ _ c.write_at.result (g.D.Disk.state c.args.disk.now) (g.D.Disk.state c.read_at.new.self) (g.D.Disk.state c.write_at.new.self) one c.run_from-count.ensures.count.1 to long within read call;
+        calls = λ bytes within. run_calls bytes size c.args.number n c.args.most _ _ c.write_at.result (g.D.Disk.state c.args.disk.now) (g.D.Disk.state c.read_at.new.self) (g.D.Disk.state c.write_at.new.self) one c.run_from-count.ensures.count.1 to long within read call;
         told = tells_then {T = ℕ} (Ok n) (g.D.Disk.state c.args.disk.now) (g.D.Disk.state c.read_at.new.self) (g.D.Disk.state c.write_at.new.self) (called_quiet c.read_at.result _ (g.D.Disk.state c.args.disk.now) (g.D.Disk.state c.read_at.new.self) c.in_ok-read_at.was (c.read_at.ensures.state word).refused) (tells_ok {T = ℕ} (Ok n) c.write_at.result _ (g.D.Disk.state c.read_at.new.self) (g.D.Disk.state c.write_at.new.self) c.in_ok-write_at.was call.elsewhere.refused);
         pages = λ w count are valid table le within.
             let wrote = subst (λ (k : ℕ). Writes Db k (take (n * size) c.gather.new.room) (Ok (tt {0})) (g.D.Disk.state c.read_at.new.self) (g.D.Disk.state c.write_at.new.self)) to (c.in_ok-write_at.ensures.state (c.read_at.ensures.word.0 word)) in

@@ -2,6 +2,7 @@ use Rattle.std.proofs.Common.{inr, refl, sym, ◌∙◌, rules}
 use Rattle.sqwal.specs.Header.{named_size}
 use Rattle.sqwal.proofs.Views.{front_unique}
 use Rattle.walcore.specs.declared.error.WalError.TheVariants.{Device}
+use Rattle.sqval.specs.Limits.{usual}
 use Rattle.sqval.proofs.Answering.{passed}
 use Rattle.crashdisk.proofs.Stills.{present_in, still_looks, still_then}
 use Rattle.walcore.proofs.Recovering.{fits_still, read_plans}
@@ -54,7 +55,7 @@ returns-then-plan-eq0 g c = record {
         still = still_then (g.D.Disk.state c.args.disk.now) (g.D.Disk.state c.len.new.self) (g.D.Disk.state c.read_plan.new.disk) is read.still;
         told = λ more. absurd (tells_quiet c.read_plan.result _ (g.D.Disk.state c.args.disk.now) (g.D.Disk.state c.len.new.self) (g.D.Disk.state c.read_plan.new.disk) c.in_ok-plan.was quiet read.told more);
         found = λ fits w are.
-            let plans = read_plans c.args.page_size w c.read_plan.result c.in_ok-plan.plan _ _ c.in_ok-plan.was (read.found w (present_in _ _ w is.log are) (are.len ∙ sym (c.in_ok-long.ensures.answer word))) in
+            let plans = read_plans usual c.args.page_size w c.read_plan.result c.in_ok-plan.plan _ _ c.in_ok-plan.was (read.found w (present_in _ _ w is.log are) (are.len ∙ sym (c.in_ok-long.ensures.answer word))) in
             inr (plans.0, front_none w c.in_ok-plan.plan.frames c.if-plan-eq0.true plans.1.front, refl);
       };
 }
@@ -71,7 +72,7 @@ returns g c = record {
         still = still_then (g.D.Disk.state c.args.disk.now) (g.D.Disk.state c.len.new.self) (g.D.Disk.state c.read_plan.new.disk) is read.still;
         told = λ more. absurd (tells_quiet c.read_plan.result _ (g.D.Disk.state c.args.disk.now) (g.D.Disk.state c.len.new.self) (g.D.Disk.state c.read_plan.new.disk) c.in_ok-plan.was quiet read.told more);
         found = λ fits w are none.
-            let plans = read_plans c.args.page_size w c.read_plan.result c.in_ok-plan.plan _ _ c.in_ok-plan.was (read.found w (present_in _ _ w is.log are) (are.len ∙ sym (c.in_ok-long.ensures.answer word))) in
+            let plans = read_plans usual c.args.page_size w c.read_plan.result c.in_ok-plan.plan _ _ c.in_ok-plan.was (read.found w (present_in _ _ w is.log are) (are.len ∙ sym (c.in_ok-long.ensures.answer word))) in
             c.if-plan-eq0.false (sym (front_unique (named_size w) w 0 c.in_ok-plan.plan.frames none plans.1.front));
       };
 }

@@ -1,4 +1,6 @@
 use Rattle.std.proofs.Common.{rules}
+use Rattle.sqval.specs.CommitFaults.{most_bytes}
+use Rattle.sqval.specs.Limits.{usual}
 use Rattle.sqval.specs.Database.{Database}
 use Rattle.walcore.specs.Alone.{ShowsAlone}
 use Rattle.crashdisk.specs.declared.file.File.TheVariants.{Log}
@@ -22,7 +24,7 @@ returns-in_err-sync g c = record {
       let a = g.D.Disk.state c.sync.new.self in
       let sound = g.met.D.Disk.sound c.args.disk.now word in
       let call = c.sync.ensures.state word in
-      let first = fold_sync c.args.page_size Log c.sync.result s a sound call in
+      let first = fold_sync most_bytes c.args.page_size Log c.sync.result s a sound call in
       let device = passed c.from_residual.result Device c.from_residual.ensures.1 in
       record {
         calls = record { later = first; told = λ more. device };
@@ -43,7 +45,7 @@ returns-in_err-judge_file g c = record {
       let a = g.D.Disk.state c.sync.new.self in
       let sound = g.met.D.Disk.sound c.args.disk.now word in
       let call = c.sync.ensures.state word in
-      let first = fold_sync c.args.page_size Log c.sync.result s a sound call in
+      let first = fold_sync most_bytes c.args.page_size Log c.sync.result s a sound call in
       let synced = c.in_ok-sync.ensures.state word in
       let b = g.D.Disk.state c.judge_file.new.disk in
       let judged = c.judge_file.ensures.holds (c.sync.ensures.word.0 word) in
@@ -80,7 +82,7 @@ returns-in_err-fold_synced g c = record {
       let a = g.D.Disk.state c.sync.new.self in
       let sound = g.met.D.Disk.sound c.args.disk.now word in
       let call = c.sync.ensures.state word in
-      let first = fold_sync c.args.page_size Log c.sync.result s a sound call in
+      let first = fold_sync most_bytes c.args.page_size Log c.sync.result s a sound call in
       let synced = c.in_ok-sync.ensures.state word in
       let b = g.D.Disk.state c.judge_file.new.disk in
       let judged = c.judge_file.ensures.holds (c.sync.ensures.word.0 word) in
@@ -124,7 +126,7 @@ returns g c = record {
       let a = g.D.Disk.state c.sync.new.self in
       let sound = g.met.D.Disk.sound c.args.disk.now word in
       let call = c.sync.ensures.state word in
-      let first = fold_sync c.args.page_size Log c.sync.result s a sound call in
+      let first = fold_sync most_bytes c.args.page_size Log c.sync.result s a sound call in
       let synced = c.in_ok-sync.ensures.state word in
       let b = g.D.Disk.state c.judge_file.new.disk in
       let judged = c.judge_file.ensures.holds (c.sync.ensures.word.0 word) in
@@ -147,7 +149,7 @@ returns g c = record {
         };
         agrees = agrees_then c.args.page_size s f t (agrees_after c.args.page_size c.sync.result s a f sound call looked) kept;
         synced = synced_first c.args.page_size s a t c.sync.result _ c.count_pages.result c.in_ok-sync.was call (agrees_then c.args.page_size a f t looked kept);
-        empty = on_ok c.count_pages.result _ (down_still _ f t counted.still (folded_empty c.args.page_size _ c.fold_synced.result b f c.in_ok-fold_synced.was (folded.folds none)));
+        empty = on_ok c.count_pages.result _ (down_still _ f t counted.still (folded_empty usual c.args.page_size _ c.fold_synced.result b f c.in_ok-fold_synced.was (folded.folds none)));
         refuses = λ fits found are.
             let seen = files_synced c.args.page_size found s a sound fits are synced in
             let files = files_looked c.args.page_size found s a sound fits are synced b still in

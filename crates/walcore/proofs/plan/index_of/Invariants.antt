@@ -1,7 +1,7 @@
 use Rattle.std.proofs.Common.{◌≤◌, ◌≡◌, ℕ, List, length}
 use Rattle.sqwal.specs.Header.{named_size}
 use Rattle.sqwal.specs.Frames.{IsValidFrame}
-use Rattle.sqwal.specs.Took.{Took}
+use Rattle.sqwal.specs.Took.{TookWithin}
 use Rattle.walcore.specs.Plans.{IsTable}
 use Rattle.walcore.proofs.plan.index_of.Given as goal
 
@@ -10,5 +10,5 @@ invariant-loop-k l = record {
   bound : l.front.size ≤ l.index.bound;
   room : l.front.frames ≤ l.index.room;
   long : length l.index.pages ≡ l.k;
-  table : (w : List ℕ) → Took w l.scan → IsValidFrame (named_size w) w l.front.frames → IsTable (named_size w) l.front.size w l.k l.index;
+  table : (most : ℕ) (w : List ℕ) → TookWithin most w l.scan → IsValidFrame (named_size w) w l.front.frames → IsTable (named_size w) l.front.size w l.k l.index;
 }

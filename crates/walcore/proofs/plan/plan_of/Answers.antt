@@ -5,21 +5,21 @@ use Rattle.walcore.proofs.Judging.{plan_none, plan_some, plan_refused, plan_memo
 use Rattle.walcore.proofs.plan.plan_of.Goals as goal
 
 pub returns-in_err-front-clause-plan : goal.returns-in_err-front-clause-plan
-returns-in_err-front-clause-plan c = λ w took. plan_refused c.args.page_size w c.judge.result c.from_residual.result _ c.in_err-front.was (passed c.from_residual.result _ c.from_residual.ensures.1) (c.judge.ensures w took)
+returns-in_err-front-clause-plan c = λ w took. plan_refused c.args.limits c.args.page_size w c.judge.result c.from_residual.result _ c.in_err-front.was (passed c.from_residual.result _ c.from_residual.ensures.1) (c.judge.ensures w took)
 
 pub returns-then-front-eq0-clause-plan : goal.returns-then-front-eq0-clause-plan
-returns-then-front-eq0-clause-plan c = λ w took. plan_none c.args.page_size w c.in_ok-front.front c.no_plan.result (c.in_ok-front.ensures w took) c.if-front-eq0.true c.no_plan.ensures.frames c.no_plan.ensures.size
+returns-then-front-eq0-clause-plan c = λ w took. plan_none c.args.limits c.args.page_size w c.in_ok-front.front c.no_plan.result (c.in_ok-front.ensures w took) c.if-front-eq0.true c.no_plan.ensures.frames c.no_plan.ensures.size
 
 pub returns-in_err-index-clause-plan : goal.returns-in_err-index-clause-plan
-returns-in_err-index-clause-plan c = λ w took. plan_memory c.args.page_size w c.from_residual-in_err-index.result (no_memory c.index_of.result c.from_residual-in_err-index.result _ c.in_err-index.was (c.in_err-index.was ∙ c.in_err-index.ensures.memory) c.from_residual-in_err-index.ensures.1)
+returns-in_err-index-clause-plan c = λ w took. plan_memory c.args.limits c.args.page_size w c.from_residual-in_err-index.result (no_memory c.index_of.result c.from_residual-in_err-index.result _ c.in_err-index.was (c.in_err-index.was ∙ c.in_err-index.ensures.memory) c.from_residual-in_err-index.ensures.1)
 
 pub returns-in_err-room-clause-plan : goal.returns-in_err-room-clause-plan
-returns-in_err-room-clause-plan c = λ w took. plan_memory c.args.page_size w c.from_residual-in_err-room.result (no_memory c.zeros.result c.from_residual-in_err-room.result _ c.in_err-room.was (c.in_err-room.was ∙ c.in_err-room.ensures.memory) c.from_residual-in_err-room.ensures.1)
+returns-in_err-room-clause-plan c = λ w took. plan_memory c.args.limits c.args.page_size w c.from_residual-in_err-room.result (no_memory c.zeros.result c.from_residual-in_err-room.result _ c.in_err-room.was (c.in_err-room.was ∙ c.in_err-room.ensures.memory) c.from_residual-in_err-room.ensures.1)
 
 pub returns-clause-plan : goal.returns-clause-plan
 returns-clause-plan c = λ w took.
     let one : 1 ≤ c.in_ok-front.front.frames = omega (arith, c.if-front-eq0.false) in
-    plan_some c.args.page_size w c.in_ok-front.front _ (c.in_ok-front.ensures w took) one refl refl (c.in_ok-index.ensures.table w took) refl
+    plan_some c.args.limits c.args.page_size w c.in_ok-front.front _ (c.in_ok-front.ensures w took) one refl refl (c.in_ok-index.ensures.table c.args.limits.frames w took) refl
 
 pub returns-then-front-eq0-clause-room : goal.returns-then-front-eq0-clause-room
 returns-then-front-eq0-clause-room c = λ one. absurd (omega (arith, one, c.no_plan.ensures.frames))

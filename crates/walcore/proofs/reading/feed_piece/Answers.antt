@@ -17,7 +17,7 @@ returns-in_err-read_at g c = record {
       record {
         still = still_looks _ c.read_at.result _ _ sound looked;
         told = λ more. device;
-        found = λ w are fits took. scan_refusal w (c.args.at + length c.args.piece.now) _ c.read_at.result _ _ _ _ _ sound are fits c.in_err-read_at.was looked device;
+        found = λ most w are fits took. scan_refusal most w (c.args.at + length c.args.piece.now) _ c.read_at.result _ _ _ _ _ sound are fits c.in_err-read_at.was looked device;
       };
 }
 
@@ -29,7 +29,7 @@ returns-in-Ok g c = record {
       record {
         still = still_looks _ c.read_at.result _ _ (g.met.D.Disk.sound c.args.disk.now word) looked;
         told = tells_ok {T = Bool} (Ok true) c.read_at.result _ (g.D.Disk.state c.args.disk.now) (g.D.Disk.state c.read_at.new.self) c.in_ok-read_at.was looked.refused;
-        found = λ w are fits took. fed w (g.D.Disk.state c.args.disk.now).log c.args.at c.args.piece.now c.read_at.new.out c.read_at.auto.out are fits (c.in_ok-read_at.ensures.bytes word) c.feed.new.self _ _ (c.in-Ok.ensures _ (take c.args.at w) took).0;
+        found = λ most w are fits took. fed w (g.D.Disk.state c.args.disk.now).log c.args.at c.args.piece.now c.read_at.new.out c.read_at.auto.out are fits (c.in_ok-read_at.ensures.bytes word) most c.feed.new.self _ _ (c.in-Ok.ensures most (take c.args.at w) took).0;
       };
 }
 
@@ -41,6 +41,6 @@ returns-in-Err g c = record {
       record {
         still = still_looks _ c.read_at.result _ _ (g.met.D.Disk.sound c.args.disk.now word) looked;
         told = tells_ok c.without_header.result c.read_at.result _ (g.D.Disk.state c.args.disk.now) (g.D.Disk.state c.read_at.new.self) c.in_ok-read_at.was looked.refused;
-        found = λ w are fits took. not_fed w (g.D.Disk.state c.args.disk.now).log c.args.at c.args.piece.now c.read_at.new.out c.read_at.auto.out are fits (c.in_ok-read_at.ensures.bytes word) c.in-Err.error _ _ c.feed.new.self _ _ (c.in-Err.ensures _ (take c.args.at w) took).1 c.without_header.ensures;
+        found = λ most w are fits took. not_fed w (g.D.Disk.state c.args.disk.now).log c.args.at c.args.piece.now c.read_at.new.out c.read_at.auto.out are fits (c.in_ok-read_at.ensures.bytes word) most c.in-Err.error _ _ c.feed.new.self _ _ (c.in-Err.ensures most (take c.args.at w) took).1 c.without_header.ensures;
       };
 }

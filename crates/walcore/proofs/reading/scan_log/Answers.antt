@@ -12,7 +12,7 @@ returns-in_err-buffer g c = record {
   holds = λ word. record {
     still = still _ (g.met.D.Disk.sound c.args.disk.now word);
     told = λ more. absurd (omega (arith, more));
-    found = λ w are long. scan_memory w _ _ c.from_residual.result (no_memory c.zeros.result c.from_residual.result _ c.in_err-buffer.was (c.in_err-buffer.was ∙ c.in_err-buffer.ensures.memory) c.from_residual.ensures.1);
+    found = λ w are long. scan_memory c.args.limits.frames w _ _ c.from_residual.result (no_memory c.zeros.result c.from_residual.result _ c.in_err-buffer.was (c.in_err-buffer.was ∙ c.in_err-buffer.ensures.memory) c.from_residual.ensures.1);
   };
 }
 
@@ -25,7 +25,7 @@ returns-in_err-scan_pieces g c = record {
         still = scanned.still;
         told = λ more. passes_device c.scan_pieces.result c.from_residual-in_err-scan_pieces.result _ c.in_err-scan_pieces.was c.from_residual-in_err-scan_pieces.ensures.1 (scanned.told more);
         found = λ w are long.
-            scan_after w c.scan_pieces.new.scan _ _ c.args.long long c.scan_pieces.result _ c.from_residual-in_err-scan_pieces.result c.in_err-scan_pieces.was (passed c.from_residual-in_err-scan_pieces.result _ c.from_residual-in_err-scan_pieces.ensures.1) (scanned.found w are long c.new-scan.ensures);
+            scan_after c.args.limits.frames w c.scan_pieces.new.scan _ _ c.args.long long c.scan_pieces.result _ c.from_residual-in_err-scan_pieces.result c.in_err-scan_pieces.was (passed c.from_residual-in_err-scan_pieces.result _ c.from_residual-in_err-scan_pieces.ensures.1) (scanned.found c.args.limits.frames w are long c.within-scan.ensures);
       };
 }
 
@@ -37,7 +37,7 @@ returns-then-branch g c = record {
       record {
         still = scanned.still;
         told = λ more. absurd (quiet_ok c.scan_pieces.result _ (g.D.Disk.state c.args.disk.now) (g.D.Disk.state c.scan_pieces.new.disk) c.in_ok-scan_pieces.was scanned.told more);
-        found = λ w are long. scan_some w c.scan_pieces.new.scan _ _ c.args.long long c.scan_pieces.result _ c.in_ok-scan_pieces.was c.if-branch.true (scanned.found w are long c.new-scan.ensures);
+        found = λ w are long. scan_some c.args.limits.frames w c.scan_pieces.new.scan _ _ c.args.long long c.scan_pieces.result _ c.in_ok-scan_pieces.was c.if-branch.true (scanned.found c.args.limits.frames w are long c.within-scan.ensures);
       };
 }
 
@@ -49,6 +49,6 @@ returns g c = record {
       record {
         still = scanned.still;
         told = λ more. absurd (quiet_ok c.scan_pieces.result _ (g.D.Disk.state c.args.disk.now) (g.D.Disk.state c.scan_pieces.new.disk) c.in_ok-scan_pieces.was scanned.told more);
-        found = λ w are long. scan_none w c.scan_pieces.new.scan _ _ c.args.long long c.scan_pieces.result _ c.in_ok-scan_pieces.was c.if-branch.false (scanned.found w are long c.new-scan.ensures);
+        found = λ w are long. scan_none c.args.limits.frames w c.scan_pieces.new.scan _ _ c.args.long long c.scan_pieces.result _ c.in_ok-scan_pieces.was c.if-branch.false (scanned.found c.args.limits.frames w are long c.within-scan.ensures);
       };
 }

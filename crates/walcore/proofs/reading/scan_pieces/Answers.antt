@@ -2,7 +2,7 @@ use Rattle.std.proofs.Common.{◌+◌, ◌≡◌, ℕ, take, length, sym, subst,
 use Rattle.std.specs.Prelude.{Bool, Result, Err}
 use Rattle.walcore.specs.declared.error.WalError.TheVariants.{Device}
 use Rattle.std.proofs.lemmas.List.{length-take-le}
-use Rattle.sqwal.specs.Took.{Took}
+use Rattle.sqwal.specs.Took.{TookWithin}
 use Rattle.walcore.specs.Steps.{PieceAnswer}
 use Rattle.walcore.specs.declared.error.WalError.{WalError}
 use Rattle.sqval.proofs.Answering.{passed}
@@ -16,7 +16,7 @@ loop-at-init g c = record {
   word = (λ k. k, λ k. k);
   quiet = λ word more. omega (arith, more);
   still = λ word. still _ (g.met.D.Disk.sound c.args.disk.now word);
-  took = λ word w are long took. took;
+  took = λ word most w are long took. took;
   place = omega arith;
 }
 
@@ -32,11 +32,11 @@ returns-in_err-feed_piece g c = record {
         told = λ more.
             let said : c.feed_piece.result ≡ Err Device = tells_then c.feed_piece.result (g.D.Disk.state c.args.disk.now) (g.D.Disk.state c.loop-at.disk) (g.D.Disk.state c.feed_piece.new.disk) (i.quiet word) now.told more in
             passes_device c.feed_piece.result c.from_residual.result _ c.in_err-feed_piece.was c.from_residual.ensures.1 said;
-        found = λ w are long took.
+        found = λ most w are long took.
             let n : length (take c.min-n.result c.loop-at.buffer) ≡ c.min-n.result = length-take-le c.min-n.result c.loop-at.buffer (omega (arith, c.loop-at.auto.buffer)) in
-            let answer = now.found w (present_in _ _ w before.log are) (omega arith) (i.took word w are long took) in
-            subst (λ (r : Result Bool WalError). PieceAnswer w c.args.long r c.feed_piece.new.scan (g.D.Disk.state c.args.disk.now) (g.D.Disk.state c.feed_piece.new.disk))
-            (sym (passed c.from_residual.result _ c.from_residual.ensures.1)) (piece_after w c.feed_piece.new.scan _ _ _ before.refused _ c.args.long c.feed_piece.result _ c.in_err-feed_piece.was answer);
+            let answer = now.found most w (present_in _ _ w before.log are) (omega arith) (i.took word most w are long took) in
+            subst (λ (r : Result Bool WalError). PieceAnswer most w c.args.long r c.feed_piece.new.scan (g.D.Disk.state c.args.disk.now) (g.D.Disk.state c.feed_piece.new.disk))
+            (sym (passed c.from_residual.result _ c.from_residual.ensures.1)) (piece_after most w c.feed_piece.new.scan _ _ _ before.refused _ c.args.long c.feed_piece.result _ c.in_err-feed_piece.was answer);
       };
 }
 
@@ -50,10 +50,10 @@ returns-then-not-branch g c = record {
       record {
         still = still_then _ _ _ before now.still;
         told = λ more. absurd (tells_quiet c.feed_piece.result _ (g.D.Disk.state c.args.disk.now) (g.D.Disk.state c.loop-at.disk) (g.D.Disk.state c.feed_piece.new.disk) c.in_ok-feed_piece.was (i.quiet word) now.told more);
-        found = λ w are long took.
+        found = λ most w are long took.
             let n : length (take c.min-n.result c.loop-at.buffer) ≡ c.min-n.result = length-take-le c.min-n.result c.loop-at.buffer (omega (arith, c.loop-at.auto.buffer)) in
-            let answer = now.found w (present_in _ _ w before.log are) (omega arith) (i.took word w are long took) in
-            piece_none w c.feed_piece.new.scan _ _ _ before.refused _ c.args.long c.feed_piece.result _ c.in_ok-feed_piece.was c.if-not-branch.true answer;
+            let answer = now.found most w (present_in _ _ w before.log are) (omega arith) (i.took word most w are long took) in
+            piece_none most w c.feed_piece.new.scan _ _ _ before.refused _ c.args.long c.feed_piece.result _ c.in_ok-feed_piece.was c.if-not-branch.true answer;
       };
 }
 
@@ -67,11 +67,11 @@ returns-then-is_over g c = record {
       record {
         still = still_then _ _ _ before now.still;
         told = λ more. absurd (tells_quiet c.feed_piece.result _ (g.D.Disk.state c.args.disk.now) (g.D.Disk.state c.loop-at.disk) (g.D.Disk.state c.feed_piece.new.disk) c.in_ok-feed_piece.was (i.quiet word) now.told more);
-        found = λ w are long took.
+        found = λ most w are long took.
             let n : length (take c.min-n.result c.loop-at.buffer) ≡ c.min-n.result = length-take-le c.min-n.result c.loop-at.buffer (omega (arith, c.loop-at.auto.buffer)) in
-            let answer = now.found w (present_in _ _ w before.log are) (omega arith) (i.took word w are long took) in
-            let fed = piece_some w c.feed_piece.new.scan _ _ _ c.feed_piece.result _ c.in_ok-feed_piece.was c.if-not-branch.false answer in
-            piece_settled w c.feed_piece.new.scan _ _ _ c.args.long _ (g.met.D.Disk.sound c.args.disk.now word) are long ((c.is_over.ensures _ _ fed).0 c.if-is_over.true);
+            let answer = now.found most w (present_in _ _ w before.log are) (omega arith) (i.took word most w are long took) in
+            let fed = piece_some most w c.feed_piece.new.scan _ _ _ c.feed_piece.result _ c.in_ok-feed_piece.was c.if-not-branch.false answer in
+            piece_settled most w c.feed_piece.new.scan _ _ _ c.args.long _ (g.met.D.Disk.sound c.args.disk.now word) are long ((c.is_over.ensures most _ fed).0 c.if-is_over.true);
       };
 }
 
@@ -81,10 +81,10 @@ loop-at-preserved g c =
     record {
       word = search rules;
       still = λ word. still_then _ _ _ (i.still word) (c.feed_piece.ensures.holds (i.word.0 word)).still;
-      took = λ word w are long took.
+      took = λ word most w are long took.
           let n : length (take c.min-n.result c.loop-at.buffer) ≡ c.min-n.result = length-take-le c.min-n.result c.loop-at.buffer (omega (arith, c.loop-at.auto.buffer)) in
-          let answer = (c.feed_piece.ensures.holds (i.word.0 word)).found w (present_in _ _ w (i.still word).log are) (omega arith) (i.took word w are long took) in
-          subst (λ (k : ℕ). Took (take (c.loop-at.at + k) w) c.feed_piece.new.scan) n (piece_some w c.feed_piece.new.scan _ _ _ c.feed_piece.result _ c.in_ok-feed_piece.was c.if-not-branch.false answer);
+          let answer = (c.feed_piece.ensures.holds (i.word.0 word)).found most w (present_in _ _ w (i.still word).log are) (omega arith) (i.took word most w are long took) in
+          subst (λ (k : ℕ). TookWithin most (take (c.loop-at.at + k) w) c.feed_piece.new.scan) n (piece_some most w c.feed_piece.new.scan _ _ _ c.feed_piece.result _ c.in_ok-feed_piece.was c.if-not-branch.false answer);
       quiet = λ word. tells_quiet c.feed_piece.result _ (g.D.Disk.state c.args.disk.now) (g.D.Disk.state c.loop-at.disk) (g.D.Disk.state c.feed_piece.new.disk) c.in_ok-feed_piece.was (i.quiet word) (c.feed_piece.ensures.holds (i.word.0 word)).told;
       place = omega arith;
     }
@@ -97,8 +97,8 @@ returns g c = record {
       record {
         still = i.still word;
         told = λ more. absurd (i.quiet word more);
-        found = λ w are long took.
+        found = λ most w are long took.
             let all : c.loop-at.at ≡ c.args.long = omega arith in
-            piece_done w c.loop-at.scan _ _ c.args.long (subst (λ (k : ℕ). Took (take k w) c.loop-at.scan) all (i.took word w are long took));
+            piece_done most w c.loop-at.scan _ _ c.args.long (subst (λ (k : ℕ). TookWithin most (take k w) c.loop-at.scan) all (i.took word most w are long took));
       };
 }
