@@ -9,7 +9,7 @@ use Rattle.sqcheck.specs.declared.item.Task.TheVariants as tasks
 use Rattle.sqcheck.specs.declared.tree.Tree.{Tree}
 use Rattle.sqcheck.specs.declared.node.Walk.{Walk}
 use Rattle.sqcheck.specs.declared.uses.Uses.{Uses}
-use Rattle.sqcheck.specs.Counting.{AddsTask}
+use Rattle.sqcheck.specs.Counting.{AddsItem}
 use Rattle.sqcheck.specs.Places.{InPageAs, used_in}
 use Rattle.sqcheck.specs.WellFormed.{IsSoundAs}
 use Rattle.sqcheck.specs.Walking.{role_of, node_in, Pushes, IsSchemaLeaf, PutsAside, LeadsOn, TopLeads, Visits, Knows, KnowsAt, Enters, Follows}
@@ -18,13 +18,13 @@ use Rattle.sqcheck.proofs.Nodes.{IsNoNode}
 unpassed : (d : Database) (root p : ℕ) (task : Task) (further : Type 0) → IsNoNode task → LeadsOn d root p task further → further
 unpassed d root p tasks.Trunk further h f = f
 unpassed d root p tasks.Leaf further h f = f
-unpassed d root p (tasks.Link o n) further h f = f
+unpassed d root p (tasks.Link o n first) further h f = f
 unpassed d root p (tasks.Node level low high) further h f = absurd h
 
 no_rows : (d : Database) (tree : Tree) (p : ℕ) (task : Task) → IsNoNode task → ¬ IsSchemaLeaf d p (role_of tree task)
 no_rows d tree p tasks.Trunk h f = f
 no_rows d tree p tasks.Leaf h f = f
-no_rows d tree p (tasks.Link o n) h f = f
+no_rows d tree p (tasks.Link o n first) h f = f
 no_rows d tree p (tasks.Node level low high) h f = h
 
 -- one that is no page of a tree
@@ -46,7 +46,7 @@ pub used_read : (d : Database) (p usable : ℕ) (bytes : List ℕ) → bytes ≡
 used_read d p usable bytes e u = ap (λ n. take n (page d p)) (sym u) ∙ ap (take usable) (sym e)
 
 pub node_followed : (d : Database) (tree : Tree) (it : Item) (level : ℕ) (low high : Option ℤ) (uses new_uses : Uses) (old new : Walk) → it.task ≡ tasks.Node level low high → Marks uses.marks.items new_uses.marks.items it.page
-    → AddsTask uses.counts new_uses.counts it.task → Enters d tree it.page (node_in tree level low high) old new → Follows d tree it uses new_uses old new
+    → AddsItem uses.counts new_uses.counts it → Enters d tree it.page (node_in tree level low high) old new → Follows d tree it uses new_uses old new
 node_followed d tree it level low high uses new_uses old new e m adds enters = record {
   visits = record {
     marked = m;
@@ -60,7 +60,7 @@ node_followed d tree it level low high uses new_uses old new e m adds enters = r
 
 -- An item that is no page of a tree was followed.
 pub other_followed : (d : Database) (tree : Tree) (it : Item) (task : Task) (uses new_uses : Uses) (old new : Walk) → it.task ≡ task → IsNoNode task → Visits d tree it uses.marks.items new_uses.marks.items old.stack.items new.stack.items
-    → AddsTask uses.counts new_uses.counts it.task → new.rows.items ≡ old.rows.items → new.leaf_level ≡ old.leaf_level → (TopLeads d tree.root (reverse old.stack.items) → TopLeads d tree.root (reverse new.stack.items))
+    → AddsItem uses.counts new_uses.counts it → new.rows.items ≡ old.rows.items → new.leaf_level ≡ old.leaf_level → (TopLeads d tree.root (reverse old.stack.items) → TopLeads d tree.root (reverse new.stack.items))
     → Knows d tree.root old.leaf_level (it ∷ reverse old.stack.items) → Follows d tree it uses new_uses old new
 other_followed d tree it task uses new_uses old new e none visits adds rows level leads k = record {
   visits = visits;

@@ -1,5 +1,5 @@
 -- The header is in the first hundred bytes of page 1.
-use Rattle.std.proofs.Common.{◌≡◌, ◌≢◌, ℕ, zero, suc, ◌+◌, ◌<◌, ◌≤◌, List, [], ◌∷◌, take, refl, sym, ap, ◌∙◌, arith}
+use Rattle.std.proofs.Common.{◌≡◌, ◌≢◌, ℕ, zero, suc, ◌+◌, ◌<◌, ◌≤◌, List, [], ◌∷◌, take, Bool, true, false, refl, sym, ap, ◌∙◌, arith}
 use Rattle.std.proofs.lemmas.List.{get_or-take}
 use Rattle.byteorder.specs.Endian.{big_number}
 use Rattle.sqval.specs.Bytes.{part, word}
@@ -41,30 +41,44 @@ fractions_front b m = sym (part_front 100 21 3 b (omega arith)) ∙ m
 room_front : (b : List ℕ) → HasRoom (take 100 b) → HasRoom b
 room_front b room = (let r : 480 + byte (take 100 b) 20 ≤ size_named (take 100 b) = room in let f = byte_front 20 b (omega arith) in let g = size_front b in omega (arith, r, f, g))
 
-pub heading_is : (h : DbHeader) (size : ℕ) (b : List ℕ) → IsHeader h (take 100 b) → size_named (take 100 b) ≡ size → h.largest_root ≡ 0 → HasHeaderOf h size b
-heading_is h size b is e plain = record {
+pub heading_is : (maps : Bool) (h : DbHeader) (size : ℕ) (b : List ℕ) → IsHeader h (take 100 b) → size_named (take 100 b) ≡ size → (maps ≡ false → h.largest_root ≡ 0) → (maps ≡ true → h.incremental_vacuum ≢ 0 → h.largest_root ≢ 0)
+    → HasHeaderOf maps h size b
+heading_is maps h size b is e plain incremental = record {
   magic = magic_front b is.magic;
   page_size = sym (size_front b) ∙ e;
   fractions = fractions_front b is.fractions;
   room = room_front b is.room;
-  plain = sym (word_front 52 b (omega arith)) ∙ sym is.largest_root ∙ plain;
+  plain = λ none. sym (word_front 52 b (omega arith)) ∙ sym is.largest_root ∙ plain none;
+  incremental = λ asked ne zero'. incremental asked (λ e. ne (sym (word_front 64 b (omega arith)) ∙ sym is.incremental_vacuum ∙ e)) (is.largest_root ∙ word_front 52 b (omega arith) ∙ zero');
   reserved = is.reserved ∙ byte_front 20 b (omega arith);
   first_trunk = is.first_trunk ∙ word_front 32 b (omega arith);
   free_pages = is.free_pages ∙ word_front 36 b (omega arith);
+  largest_root = is.largest_root ∙ word_front 52 b (omega arith);
 }
 
 -- Where the magic is there, the page size is this one.
-pub heading_refused : (fault : Fault) (size : ℕ) (b : List ℕ) → (HasMagic (take 100 b) → HasPageSize (take 100 b) × (size_named (take 100 b) ≡ size)) → HeaderRefused fault (take 100 b) → HeaderFault fault size b
-heading_refused faults.Magic size b named h = λ m. h (part_front 100 0 16 b (omega arith) ∙ m)
-heading_refused faults.PageSize size b named h = absurd (h.1 (named h.0).0)
-heading_refused faults.Fraction size b named h = (magic_front b h.0, sym (size_front b) ∙ (named h.0).1, λ m. h.2 (part_front 100 21 3 b (omega arith) ∙ m))
-heading_refused faults.Reserved size b named h =
+pub heading_refused : (maps : Bool) (fault : Fault) (size : ℕ) (b : List ℕ) → (HasMagic (take 100 b) → HasPageSize (take 100 b) × (size_named (take 100 b) ≡ size)) → HeaderRefused fault (take 100 b) → HeaderFault maps fault size b
+heading_refused maps faults.Magic size b named h = λ m. h (part_front 100 0 16 b (omega arith) ∙ m)
+heading_refused maps faults.PageSize size b named h = absurd (h.1 (named h.0).0)
+heading_refused maps faults.Fraction size b named h = (magic_front b h.0, sym (size_front b) ∙ (named h.0).1, λ m. h.2 (part_front 100 21 3 b (omega arith) ∙ m))
+heading_refused maps faults.Reserved size b named h =
     (magic_front b h.0, sym (size_front b) ∙ (named h.0).1, fractions_front b h.2, λ r. h.3 (let r' : 480 + byte b 20 ≤ size_named b = r in let f = byte_front 20 b (omega arith) in let g = size_front b in let out : 480 + byte (take 100 b) 20 ≤ size_named (take 100 b) = omega (arith, r', f, g) in out))
-heading_refused _ size b named h = absurd h
+heading_refused maps _ size b named h = absurd h
 
-pub size_differs : (size : ℕ) (b : List ℕ) → HasMagic (take 100 b) → size_named (take 100 b) ≢ size → HeaderFault faults.PageSize size b
-size_differs size b magic ne = (magic_front b magic, λ e. ne (size_front b ∙ e))
+pub size_differs : (maps : Bool) (size : ℕ) (b : List ℕ) → HasMagic (take 100 b) → size_named (take 100 b) ≢ size → HeaderFault maps faults.PageSize size b
+size_differs maps size b magic ne = (magic_front b magic, λ e. ne (size_front b ∙ e))
 
-pub not_plain : (h : DbHeader) (size : ℕ) (b : List ℕ) → IsHeader h (take 100 b) → size_named (take 100 b) ≡ size → h.largest_root ≢ 0 → HeaderFault faults.AutoVacuum size b
-not_plain h size b is named ne =
-    (magic_front b is.magic, sym (size_front b) ∙ named, fractions_front b is.fractions, room_front b is.room, λ e. ne (is.largest_root ∙ word_front 52 b (omega arith) ∙ e))
+pub not_plain : (maps : Bool) (h : DbHeader) (size : ℕ) (b : List ℕ) → IsHeader h (take 100 b) → size_named (take 100 b) ≡ size → maps ≡ false → h.largest_root ≢ 0 → HeaderFault maps faults.AutoVacuum size b
+not_plain maps h size b is named none ne =
+    (magic_front b is.magic, sym (size_front b) ∙ named, fractions_front b is.fractions, room_front b is.room, none, λ e. ne (is.largest_root ∙ word_front 52 b (omega arith) ∙ e))
+
+pub not_incremental : (maps : Bool) (h : DbHeader) (size : ℕ) (b : List ℕ) → IsHeader h (take 100 b) → size_named (take 100 b) ≡ size → maps ≡ true → h.incremental_vacuum ≢ 0 → h.largest_root ≡ 0 → HeaderFault maps faults.PointerMap size b
+not_incremental maps h size b is named asked ne zero' = (
+  magic_front b is.magic,
+  sym (size_front b) ∙ named,
+  fractions_front b is.fractions,
+  room_front b is.room,
+  asked,
+  (λ e. ne (is.incremental_vacuum ∙ word_front 64 b (omega arith) ∙ e)),
+  sym (word_front 52 b (omega arith)) ∙ sym is.largest_root ∙ zero',
+)

@@ -8,6 +8,7 @@ pub mod Judging
 pub mod Trunks
 pub mod Entering
 pub mod Following
+pub mod Mapping
 pub mod Walks
 pub mod Tells
 pub mod Headings

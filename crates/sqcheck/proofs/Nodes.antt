@@ -108,12 +108,12 @@ needs cell least =
     )
 
 -- A chain more.
-pub chain_more : (tree : Tree) (b : Page) (left : ℕ) (cell : Cell) (old mid new : List Item) (it : Item) → IsCellAt b left cell → 0 < bytes_beyond cell → 0 < links cell → it ≡ record { holder = b.number; page = cell.overflow; task = Link b.number (links cell) }
+pub chain_more : (tree : Tree) (b : Page) (left : ℕ) (cell : Cell) (old mid new : List Item) (it : Item) → IsCellAt b left cell → 0 < bytes_beyond cell → 0 < links cell → it ≡ record { holder = b.number; page = cell.overflow; task = Link b.number (links cell) true }
     → new ≡ mid ++ it ∷ [] → Pushes tree (InCellFrom b (left + 1)) old mid → Pushes tree (InCellFrom b left) old new
 chain_more tree b left cell old mid new it is some needed e pushed p =
     let s : Spot = spot (overflow b.number left) cell.overflow (link b.number (links cell)) in
     push_one tree (InCellFrom b (left + 1)) (InCellFrom b left) old mid p new it s pushed
-    (rw e (record { page = refl; stands = refl; role = refl; proper = needed }))
+    (rw e (record { page = refl; stands = refl; role = refl; proper = needed; kind = refl }))
     (left, cell, (let r : left ≤ left = omega arith in r), is, some, refl)
     (λ t h. (h.0, h.1, (let le : left + 1 ≤ h.0 = h.2 in let r : left ≤ h.0 = omega arith in r), h.3, h.4, h.5))
     (λ t h. elim (cases_eq h.0 left) [
@@ -166,7 +166,7 @@ IsNoNode _ = Unit {0}
 passes : (d : Database) (root p : ℕ) (task : Task) (further : Type 0) → IsNoNode task → further → LeadsOn d root p task further
 passes d root p tasks.Trunk further h f = f
 passes d root p tasks.Leaf further h f = f
-passes d root p (tasks.Link o n) further h f = f
+passes d root p (tasks.Link o n first) further h f = f
 passes d root p (tasks.Node level low high) further h f = absurd h
 
 pub free_leads : (d : Database) (root : ℕ) (mid new : List Item) (it : Item) (task : Task) → IsNoNode task → it.task ≡ task → new ≡ mid ++ it ∷ [] → TopLeads d root (reverse mid) → TopLeads d root (reverse new)
@@ -174,8 +174,8 @@ free_leads d root mid new it task none same e leads =
     let top : reverse new ≡ it ∷ reverse mid = ap reverse e ∙ reverse-append mid (it ∷ []) in
     subst (TopLeads d root) (sym top) (passes d root it.page it.task (TopLeads d root (reverse mid)) (subst IsNoNode (sym same) none) leads)
 
-pub link_leads : (d : Database) (root : ℕ) (mid new : List Item) (it : Item) (owner needed : ℕ) → it.task ≡ Link owner needed → new ≡ mid ++ it ∷ [] → TopLeads d root (reverse mid) → TopLeads d root (reverse new)
-link_leads d root mid new it owner needed task e leads = free_leads d root mid new it (Link owner needed) tt task e leads
+pub link_leads : (d : Database) (root : ℕ) (mid new : List Item) (it : Item) (owner needed : ℕ) (first : Bool) → it.task ≡ Link owner needed first → new ≡ mid ++ it ∷ [] → TopLeads d root (reverse mid) → TopLeads d root (reverse new)
+link_leads d root mid new it owner needed first task e leads = free_leads d root mid new it (Link owner needed first) tt task e leads
 
 -- The children of a page, from one on.
 abbrev pub IsLeftAt : Page → Node → (i : ℕ) → Spot → Type 0
@@ -223,7 +223,7 @@ child_more tree b level below_it i p low high before key old mid new it next is_
     let x : Node = node_in tree level low high in
     let s : Spot = spot (child b.number i) p (below x before key) in
     push_one tree (ChildFrom b x (i + 1)) (ChildFrom b x i) old mid pushes new it s pushed
-    (rw (e, deeper) (record { page = refl; stands = refl; role = refl; proper = tt }))
+    (rw (e, deeper) (record { page = refl; stands = refl; role = refl; proper = tt; kind = refl }))
     (i, (let r : i ≤ i = omega arith in r), next_is b x i p before key next is_before)
     (λ t h. (h.0, (let le : i + 1 ≤ h.0 = h.1 in let r : i ≤ h.0 = omega arith in r), h.2))
     (λ t h. elim (cases_eq h.0 i) [

@@ -1,8 +1,9 @@
 -- The phases of a check: the freelist, the schema's tree, its rows, the other trees, and the end.
-use Rattle.std.proofs.Common.{◌≡◌, ◌≢◌, ℕ, zero, suc, ◌+◌, ◌-◌, ◌<◌, ◌≤◌, ◌⊎◌, List, [], ◌∷◌, ◌++◌, length, take, drop, replicate, get_or, Bool, true, false, not, cond, nat_lt, unwrap_or, refl, sym, ap, subst, ◌∙◌, inl, inr, ⊎_elim, arith}
+use Rattle.std.proofs.Common.{◌≡◌, ◌≢◌, ℕ, zero, suc, ◌+◌, ◌-◌, ◌<◌, ◌≤◌, ◌⊎◌, List, [], ◌∷◌, ◌++◌, length, take, drop, get_or, Bool, true, false, not, cond, nat_lt, unwrap_or, refl, sym, ap, subst, ◌∙◌, inl, inr, ⊎_elim, arith}
 use Rattle.std.proofs.lemmas.Bool.{cases_lt}
 use Rattle.std.proofs.lemmas.List.{drop_all, length-take-le, take-append-drop}
 use Rattle.std.proofs.lemmas.List.Sums.{count_by-le-length}
+use Rattle.sqval.specs.Bytes.{word}
 use Rattle.sqval.specs.Database.{Database, page}
 use Rattle.sqval.specs.PageSize.{IsPageSize}
 use Rattle.sqpage.specs.declared.cell.Cell.{Cell}
@@ -19,7 +20,7 @@ use Rattle.sqcheck.specs.declared.schema.Root.{Root}
 use Rattle.sqcheck.specs.declared.uses.Counts.{Counts}
 use Rattle.sqcheck.specs.declared.report.Report.{Report}
 use Rattle.sqcheck.specs.Places.{Place, first_trunk_place, first_root, next, leaf, overflow, child, root, holder, Node, Role, trunk, free_leaf, link, node, Spot, spot, page_as, used_in, HasKind, IsCellAt, InLink, InPageAs, InRow, InRowAs, StandsIn, StandsInRow, IsFirst, IsReached, first, stands_in, stands_in_row, first_root_spot, first_trunk_spot, root_of_tree}
-use Rattle.sqcheck.specs.WellFormed.{WellFormed, IsSetAside, IsSound, IsSoundAs, IsSoundNode, HasSoundRows, HasSoundHeader, numbers, is_free, AreEachOnce, IsReport}
+use Rattle.sqcheck.specs.WellFormed.{WellFormedWith, IsAutoVacuum, AreMapped, HasEntry, IsLargestRoot, IsSetAside, IsSound, IsSoundAs, IsSoundNode, HasSoundRows, HasSoundHeader, numbers, is_free, AreEachOnce, IsReport}
 use Rattle.sqcheck.specs.Stands.{StandsWith}
 use Rattle.sqcheck.specs.Walking.{IsSchemaLeaf}
 use Rattle.sqcheck.specs.Schema.{IsRowsPage, AllSchemaRows, InRowsOf, Finds, IsRootAt, RootsMatch}
@@ -286,6 +287,7 @@ becomes_late d marks visited rows counts roots w f sound_rows = record {
   };
   rows = w.rows;
   counted = w.counted;
+  entered = w.entered;
 }
   where
     a : Agenda d false marks visited []
@@ -405,9 +407,9 @@ none_left d marks after visited done rows kept counts counted roots w f all =
 
 -- At the start nothing was visited.
 pub begins : (d : Database) (marks : List Bool) (pending : List Spot) (counts : Counts) (rows : List ℕ) → length marks ≡ length d → MarksAside d marks → rows ≡ []
-    → counts.trees ≡ 0 → counts.btree ≡ 0 → counts.overflow ≡ 0 → counts.free ≡ 0
+    → counts.trees ≡ 0 → counts.btree ≡ 0 → counts.overflow ≡ 0 → counts.free ≡ 0 → counts.largest_root ≡ 0
     → ((s : Spot) → IsFirst d s → In s pending) → Every (IsFirst d) pending → Apart (places pending) → Stood d false [] pending marks rows counts
-begins d marks pending counts rows sized none rows_none trees btree over free all firsts apart = record {
+begins d marks pending counts rows sized none rows_none trees btree over free largest all firsts apart = record {
   agenda = record {
     sized = sized;
     taken = record {
@@ -434,19 +436,20 @@ begins d marks pending counts rows sized none rows_none trees btree over free al
     read = λ e. tt;
   };
   rows = record { all = λ s i leaf. absurd i; only = subst (Every _) (sym rows_none) tt; distinct = subst Apart (sym rows_none) tt };
-  counted = record { trees = trees; btree = btree; overflow = over; free = free };
+  counted = record { trees = trees; btree = btree; overflow = over; free = free; most = λ s i root. absurd i; one = inl largest };
+  entered = λ auto. tt;
 }
 
 pub begins_trunk : (d : Database) (marks : List Bool) (counts : Counts) (rows : List ℕ) → length marks ≡ length d → MarksAside d marks → rows ≡ []
-    → counts.trees ≡ 0 → counts.btree ≡ 0 → counts.overflow ≡ 0 → counts.free ≡ 0 → first_trunk d ≢ 0 → Stood d false [] (first_trunk_spot d ∷ first_root_spot ∷ []) marks rows counts
-begins_trunk d marks counts rows sized none rows_none trees btree over free some =
-    begins d marks (first_trunk_spot d ∷ first_root_spot ∷ []) counts rows sized none rows_none trees btree over free
+    → counts.trees ≡ 0 → counts.btree ≡ 0 → counts.overflow ≡ 0 → counts.free ≡ 0 → counts.largest_root ≡ 0 → first_trunk d ≢ 0 → Stood d false [] (first_trunk_spot d ∷ first_root_spot ∷ []) marks rows counts
+begins_trunk d marks counts rows sized none rows_none trees btree over free largest some =
+    begins d marks (first_trunk_spot d ∷ first_root_spot ∷ []) counts rows sized none rows_none trees btree over free largest
     (λ s h. ⊎_elim (λ k. inl k.1) (λ k. inr (inl k)) h) (inl (some, refl), (inr refl, tt)) (((λ e. cc), tt), (tt, tt))
 
 pub begins_root : (d : Database) (marks : List Bool) (counts : Counts) (rows : List ℕ) → length marks ≡ length d → MarksAside d marks → rows ≡ []
-    → counts.trees ≡ 0 → counts.btree ≡ 0 → counts.overflow ≡ 0 → counts.free ≡ 0 → first_trunk d ≡ 0 → Stood d false [] (first_root_spot ∷ []) marks rows counts
-begins_root d marks counts rows sized none rows_none trees btree over free zero' =
-    begins d marks (first_root_spot ∷ []) counts rows sized none rows_none trees btree over free
+    → counts.trees ≡ 0 → counts.btree ≡ 0 → counts.overflow ≡ 0 → counts.free ≡ 0 → counts.largest_root ≡ 0 → first_trunk d ≡ 0 → Stood d false [] (first_root_spot ∷ []) marks rows counts
+begins_root d marks counts rows sized none rows_none trees btree over free largest zero' =
+    begins d marks (first_root_spot ∷ []) counts rows sized none rows_none trees btree over free largest
     (λ s h. ⊎_elim (λ k. absurd (k.0 zero')) (λ k. inl k) h) (inr refl, tt) (tt, tt)
 
 -- Once the freelist was walked over, its places are the visited ones.
@@ -528,9 +531,41 @@ pub once_of : (d : Database) (size : ℕ) (marks : List Bool) (visited : List Sp
     → AreEachOnce (IsSetAside d size) (length d) (numbers visited)
 once_of d size marks visited sized a all = subst (λ n. AreEachOnce (IsSetAside d n) (length d) (numbers visited)) (first_long d size marks visited sized a) (each_once d marks visited a all)
 
-pub concludes : (d : Database) (size : ℕ) (marks : List Bool) (visited : List Spot) (rows : List ℕ) (counts : Counts) → IsPageSize size → Every (λ b. length b ≡ size) d → HasSoundHeader false d size → Stood d true visited [] marks rows counts
-    → ((p : ℕ) → IsWithin (length marks) p → is_marked marks p ≡ true) → counts.free ≡ free_pages d → (report : Report) → IsReport d visited report → (w : WellFormed d size) × IsReport d w.places report
-concludes d size marks visited rows counts size_is sized header w all free report r = (
+-- A root is the largest of the visited ones, which are all.
+largest_of : (d : Database) (marks : List Bool) (visited : List Spot) (counts : Counts) → Agenda d true marks visited [] → AreCounted visited counts → IsLargestRoot d counts.largest_root
+largest_of d marks visited counts a c = (
+  (λ s r root. c.most s (all_visited d marks visited a r) root),
+  ⊎_elim
+      (λ none. absurd (let le : 1 ≤ counts.largest_root = c.most first_root_spot (all_visited d marks visited a (first (inr refl))) refl in omega (arith, le, none)))
+      (λ k. (k.0, every_in (IsReached d) k.0 visited a.reached k.1, k.2, k.3)) c.one,
+)
+
+-- The header says another.
+pub largest_stands : (d : Database) (maps : Bool) (size : ℕ) (marks : List Bool) (visited : List Spot) (counts : Counts) (said : ℕ) → said ≡ word (page d 1) 52 → IsAutoVacuum d → Agenda d true marks visited [] → AreCounted visited counts
+    → counts.largest_root ≢ said → StandsWith maps d size faults.PointerMap 1
+largest_stands d maps size marks visited counts said e auto a c ne = inl (
+  auto,
+  inr (
+    refl,
+    λ l.
+        let most = largest_of d marks visited counts a c in
+        let up : word (page d 1) 52 ≤ counts.largest_root = (let r = most.0 l.1.0 l.1.1 l.1.2 in let at = l.1.3 in omega (arith, r, at)) in
+        let down : counts.largest_root ≤ word (page d 1) 52 = (let r = l.0 most.1.0 most.1.1 most.1.2 in let at = most.1.3 in omega (arith, r, at)) in
+        ne (omega (arith, up, down, e)),
+  ),
+)
+
+-- With auto-vacuum the maps and the largest root are right.
+pub mapped_of : (d : Database) (size : ℕ) (marks : List Bool) (visited : List Spot) (rows : List ℕ) (counts : Counts) (said : ℕ) → said ≡ word (page d 1) 52 → Every (λ b. length b ≡ size) d → Stood d true visited [] marks rows counts
+    → (IsAutoVacuum d → counts.largest_root ≡ said) → IsAutoVacuum d → AreMapped d size
+mapped_of d size marks visited rows counts said e sized w largest auto = record {
+  entries = λ s r. subst (λ n. HasEntry d n s) (first_long d size marks visited sized w.agenda) (every_in (HasEntry d (length (page d 1))) s visited (w.entered auto) (all_visited d marks visited w.agenda r));
+  largest = subst (IsLargestRoot d) (largest auto ∙ e) (largest_of d marks visited counts w.agenda w.counted);
+}
+
+pub concludes : (maps : Bool) (d : Database) (size : ℕ) (marks : List Bool) (visited : List Spot) (rows : List ℕ) (counts : Counts) → IsPageSize size → Every (λ b. length b ≡ size) d → HasSoundHeader maps d size → Stood d true visited [] marks rows counts
+    → ((p : ℕ) → IsWithin (length marks) p → is_marked marks p ≡ true) → counts.free ≡ free_pages d → (IsAutoVacuum d → AreMapped d size) → (report : Report) → IsReport d visited report → (w : WellFormedWith maps d size) × IsReport d w.places report
+concludes maps d size marks visited rows counts size_is sized header w all free mapped report r = (
   record {
     size_is = size_is;
     sized = sized;
@@ -542,7 +577,7 @@ concludes d size marks visited rows counts size_is sized header w all free repor
     sound = w.agenda.sound;
     rows = w.agenda.read refl;
     free = sym w.counted.free ∙ free;
-    mapped = λ auto. absurd (auto (header.plain refl));
+    mapped = mapped;
   },
   r,
 )

@@ -125,7 +125,8 @@ module _ (maps : Bool) (d : Database) (size : ℕ) (w : WellFormedWith maps d si
       let of_x = subst (λ q. HasSoundRows d q (node x)) e (subst (HasSoundRows d s.page) role rows) in
       let it = of_x schema kind b.kind leaf i bytes row in
       never it.0 it.1
-  none_stands faults.PointerMap p (auto, inl (s, entry, r, at, e, wrong)) other = wrong ((w.mapped auto).entries s r entry at)
-  none_stands faults.PointerMap p (auto, inr (e, none)) other = none (w.mapped auto).largest
+  none_stands faults.PointerMap p (inl (auto, inl (s, entry, r, at, e, wrong))) other = wrong ((w.mapped auto).entries s r entry at)
+  none_stands faults.PointerMap p (inl (auto, inr (e, none))) other = none (w.mapped auto).largest
+  none_stands faults.PointerMap p (inr (e, asked, incremental, plain)) other = plain (w.header.incremental asked incremental)
   none_stands faults.Source p h other = h
   none_stands faults.NoMemory p h other = other refl

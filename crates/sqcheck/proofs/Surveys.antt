@@ -1,5 +1,5 @@
 -- What a chart has after all pages were put down.
-use Rattle.std.proofs.Common.{◌≡◌, ◌≢◌, ℕ, ◌-◌, ◌<◌, ◌≤◌, ◌⊎◌, List, [], ◌∷◌, length, map, get_or, replicate, refl, sym, ap, subst, ◌∙◌, inl, inr, arith}
+use Rattle.std.proofs.Common.{◌≡◌, ◌≢◌, ℕ, ◌-◌, ◌<◌, ◌≤◌, List, [], ◌∷◌, length, map, get_or, replicate, sym, ap, subst, ◌∙◌, inl, inr, arith}
 use Rattle.std.proofs.lemmas.List.{get_or-set_other, get_or-set_same, length-replicate}
 use Rattle.std.proofs.lemmas.Bool.{cases_eq}
 use Rattle.sqval.specs.Bytes.{word}
@@ -10,7 +10,7 @@ use Rattle.sqpage.specs.Freelist.{IsWithin}
 use Rattle.sqcheck.specs.declared.chart.Chart.{Chart}
 use Rattle.sqcheck.specs.declared.role.Role.{Role}
 use Rattle.sqcheck.specs.declared.role.Role.TheVariants.{Unused, LockByte}
-use Rattle.sqcheck.specs.Roles.{HasRole, IsRoleSetAside, Visit, Told, AreRoles}
+use Rattle.sqcheck.specs.Roles.{HasRole, Visit, Told, AreRoles}
 use Rattle.sqcheck.specs.Surveys.{role_at, AreAllRoles, Charts}
 use Rattle.sqpage.specs.PointerMaps.{lock_byte_page}
 use Rattle.sqcheck.specs.WellFormed.{IsSetAside}

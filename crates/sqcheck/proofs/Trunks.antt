@@ -1,5 +1,5 @@
 -- Trunks of the freelist.
-use Rattle.std.proofs.Common.{◌≡◌, ◌≢◌, ℕ, ◌+◌, ◌-◌, ◌<◌, ◌≤◌, List, [], ◌∷◌, ◌++◌, length, Bool, refl, sym, ap, subst, ◌∙◌, inl, inr, ⊎_elim, arith}
+use Rattle.std.proofs.Common.{◌≡◌, ◌≢◌, ℕ, ◌+◌, ◌-◌, ◌<◌, ◌≤◌, List, [], ◌∷◌, ◌++◌, length, Bool, false, refl, sym, ap, subst, ◌∙◌, inl, inr, ⊎_elim, arith}
 use Rattle.std.proofs.lemmas.Bool.{cases_eq}
 use Rattle.sqval.specs.Database.{Database, page}
 use Rattle.sqpage.specs.Freelist.{next_in, leaf_count_in, leaf_in, most_leaves}
@@ -17,7 +17,7 @@ pub next_pushed : (tree : Tree) (b : List ℕ) (p n : ℕ) (old new : List Item)
 next_pushed tree b p n old new it e nonzero is pushed =
     let none : Pushes tree (λ t. ⊥) old old = push_nothing tree (λ t. ⊥) old (λ t h. h) in
     push_one tree (λ t. ⊥) (IsNextTrunk b p) old old none new it (spot (next p) (next_in b) trunk) pushed
-    (rw (is, e) (record { page = refl; stands = refl; role = refl; proper = tt })) ((λ z. nonzero (e ∙ z)), refl) (λ t h. absurd h) (λ t h. inl h.1) (λ t h e. h)
+    (rw (is, e) (record { page = refl; stands = refl; role = refl; proper = tt; kind = refl })) ((λ z. nonzero (e ∙ z)), refl) (λ t h. absurd h) (λ t h. inl h.1) (λ t h e. h)
 
 pub next_none : (tree : Tree) (b : List ℕ) (p n : ℕ) (old : List Item) → n ≡ next_in b → n ≡ 0 → Pushes tree (IsNextTrunk b p) old old
 next_none tree b p n old e zero' = push_nothing tree (IsNextTrunk b p) old (λ t h. h.0 (sym e ∙ zero'))
@@ -26,7 +26,7 @@ pub leaf_more : (tree : Tree) (b : List ℕ) (p left n : ℕ) (old mid new : Lis
     → Pushes tree (IsLeafFrom b p (left + 1)) old mid → Pushes tree (IsLeafFrom b p left) old new
 leaf_more tree b p left n old mid new it lt e is pushed pushes =
     push_one tree (IsLeafFrom b p (left + 1)) (IsLeafFrom b p left) old mid pushes new it (spot (leaf p left) (leaf_in b left) free_leaf) pushed
-    (rw (is, e) (record { page = refl; stands = refl; role = refl; proper = tt }))
+    (rw (is, e) (record { page = refl; stands = refl; role = refl; proper = tt; kind = refl }))
     (left, (let r : left ≤ left = omega arith in r), lt, refl)
     (λ t h. (h.0, (let le : left + 1 ≤ h.0 = h.1 in let r : left ≤ h.0 = omega arith in r), h.2, h.3))
     (λ t h. elim (cases_eq h.0 left) [
@@ -67,9 +67,9 @@ leaf_visited d tree it marks new_marks old task m = record {
 }
 
 -- a link that isn't the last one, and the last one
-pub link_visited : (d : Database) (tree : Tree) (it next_it : Item) (owner needed next_needed next_page : ℕ) (marks new_marks : List Bool) (bytes : List ℕ) (old new : List Item) → it.task ≡ Link owner needed → Marks marks new_marks it.page → bytes ≡ page d it.page
-    → needed ≤ length d → 1 < needed → next_needed ≡ needed - 1 → next_page ≡ next_in bytes → next_it ≡ record { holder = it.page; page = next_page; task = Link owner next_needed } → new ≡ old ++ next_it ∷ [] → Visits d tree it marks new_marks old new
-link_visited d tree it next_it owner needed next_needed next_page marks new_marks bytes old new task m e few more one named is pushed =
+pub link_visited : (d : Database) (tree : Tree) (it next_it : Item) (owner needed next_needed next_page : ℕ) (first : Bool) (marks new_marks : List Bool) (bytes : List ℕ) (old new : List Item) → it.task ≡ Link owner needed first → Marks marks new_marks it.page → bytes ≡ page d it.page
+    → needed ≤ length d → 1 < needed → next_needed ≡ needed - 1 → next_page ≡ next_in bytes → next_it ≡ record { holder = it.page; page = next_page; task = Link owner next_needed false } → new ≡ old ++ next_it ∷ [] → Visits d tree it marks new_marks old new
+link_visited d tree it next_it owner needed next_needed next_page first marks new_marks bytes old new task m e few more one named is pushed =
     let none : Pushes tree (λ t. ⊥) old old = push_nothing tree (λ t. ⊥) old (λ t h. h) in
     let named' : next_page ≡ next_in (page d it.page) = named ∙ ap next_in e in
     record {
@@ -77,12 +77,12 @@ link_visited d tree it next_it owner needed next_needed next_page marks new_mark
       sound = subst (λ t. IsSoundAs d it.page (role_of tree t)) (sym task) (few, λ last. absurd (omega (arith, last, more)));
       pushes = subst (λ t. Pushes tree (InPageAs d it.page (role_of tree t)) old new) (sym task)
           (push_one tree (λ t. ⊥) (InLink d it.page owner needed) old old none new next_it (spot (next it.page) (next_in (page d it.page)) (link owner (needed - 1))) pushed
-          (rw (is, named', one) (record { page = refl; stands = refl; role = refl; proper = (let r : 0 < needed - 1 = omega (arith, more) in r) })) (more, refl) (λ t h. absurd h) (λ t h. inl h.1) (λ t h f. h));
+          (rw (is, named', one) (record { page = refl; stands = refl; role = refl; proper = (let r : 0 < needed - 1 = omega (arith, more) in r); kind = refl })) (more, refl) (λ t h. absurd h) (λ t h. inl h.1) (λ t h f. h));
     }
 
-pub last_visited : (d : Database) (tree : Tree) (it : Item) (owner needed : ℕ) (marks new_marks : List Bool) (bytes : List ℕ) (old : List Item) → it.task ≡ Link owner needed → Marks marks new_marks it.page → bytes ≡ page d it.page
+pub last_visited : (d : Database) (tree : Tree) (it : Item) (owner needed : ℕ) (first : Bool) (marks new_marks : List Bool) (bytes : List ℕ) (old : List Item) → it.task ≡ Link owner needed first → Marks marks new_marks it.page → bytes ≡ page d it.page
     → needed ≤ length d → needed ≤ 1 → next_in bytes ≡ 0 → Visits d tree it marks new_marks old old
-last_visited d tree it owner needed marks new_marks bytes old task m e few last ends = record {
+last_visited d tree it owner needed first marks new_marks bytes old task m e few last ends = record {
   marked = m;
   sound = subst (λ t. IsSoundAs d it.page (role_of tree t)) (sym task) (few, λ is. ap next_in (sym e) ∙ ends);
   pushes = subst (λ t. Pushes tree (InPageAs d it.page (role_of tree t)) old old) (sym task) (push_nothing tree (InLink d it.page owner needed) old (λ t h. let more : 1 < needed = h.0 in omega arith));

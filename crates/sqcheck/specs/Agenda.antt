@@ -12,7 +12,7 @@ use Rattle.sqcheck.specs.declared.tree.Tree.{Tree}
 use Rattle.sqcheck.specs.Places.{Place, first_trunk_place, first_root, next, leaf, overflow, child, root, holder, Role, link, node, Spot, StandsIn, StandsInRow, IsFirst, IsReached}
 use Rattle.sqcheck.specs.declared.role.Role as roles
 use Rattle.sqcheck.specs.Roles.{TellsOf}
-use Rattle.sqcheck.specs.WellFormed.{IsSetAside, IsSound, HasSoundRows, numbers, is_root, is_node, is_link, is_free}
+use Rattle.sqcheck.specs.WellFormed.{IsAutoVacuum, IsSetAside, HasEntry, IsSound, HasSoundRows, numbers, is_root, is_node, is_link, is_free}
 use Rattle.sqcheck.specs.Stands.{StandsWith}
 use Rattle.sqcheck.specs.Walking.{Match, Knows, IsSchemaLeaf}
 
@@ -105,12 +105,18 @@ pub record RowsAre (d : Database) (visited : List Spot) (rows : List ℕ) : Type
   pub only : Every (λ p. (s : Spot) × In s visited × (s.page ≡ p) × IsSchemaLeaf d p s.role) rows
   pub distinct : Apart rows
 
--- how many visited places there are of each use
+-- how many visited places there are of each use, and which root of them is the largest
 pub record AreCounted (visited : List Spot) (counts : Counts) : Type 0 where
   pub trees : counts.trees ≡ count_by (λ s. is_root s.role) visited
   pub btree : counts.btree ≡ count_by (λ s. is_node s.role) visited
   pub overflow : counts.overflow ≡ count_by (λ s. is_link s.role) visited
   pub free : counts.free ≡ count_by (λ s. is_free s.role) visited
+  pub most : (s : Spot) → In s visited → is_root s.role ≡ true → s.page ≤ counts.largest_root
+  pub one : (counts.largest_root ≡ 0) ⊎ ((s : Spot) × In s visited × (is_root s.role ≡ true) × (s.page ≡ counts.largest_root))
+
+-- With auto-vacuum the entries of the pages of visited places say what names them.
+abbrev pub AreEntered : Database → (visited : List Spot) → Type 0
+AreEntered d visited = IsAutoVacuum d → Every (HasEntry d (length (page d 1))) visited
 
 -- The walk stands so: these places were visited, those on the stack are pending, and then the rest.
 pub record Walking (d : Database) (late : Bool) (tree : Tree) (visited rest : List Spot) (uses : Uses) (walk : Walk) : Type 0 where
@@ -120,6 +126,7 @@ pub record Walking (d : Database) (late : Bool) (tree : Tree) (visited rest : Li
   pub knows : Knows d tree.root walk.leaf_level (reverse walk.stack.items)
   pub rows : RowsAre d visited walk.rows.items
   pub counted : AreCounted visited uses.counts
+  pub entered : AreEntered d visited
 
 -- It stands so with more places visited, and the visitor was told of them.
 abbrev pub WalksOn : {A : Type 0} (saw : A → ℕ → roles.Role → A → Type 0) → Database → (late : Bool) → Tree → (visited rest : List Spot) → Uses → Walk → (old new : A) → Type 0
@@ -130,3 +137,4 @@ pub record Stood (d : Database) (late : Bool) (visited rest : List Spot) (marks 
   pub agenda : Agenda d late marks visited rest
   pub rows : RowsAre d visited put_aside
   pub counted : AreCounted visited counts
+  pub entered : AreEntered d visited

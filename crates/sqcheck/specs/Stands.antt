@@ -14,7 +14,7 @@ use Rattle.sqpage.specs.Layout.{LayoutRefused}
 use Rattle.sqpage.specs.PointerMaps.{IsEntryPlace}
 use Rattle.sqpage.specs.declared.pointer_map.EntryPlace.{EntryPlace}
 use Rattle.sqcheck.specs.Places.{overflow, holder, Node, trunk, link, node, Spot, page_as, HasKind, IsCellAt, IsKeyBefore, IsRow, IsSchemaRow, IsReached}
-use Rattle.sqcheck.specs.WellFormed.{IsAutoVacuum, IsSetAside, SaysSo, IsLargestRoot, is_link, is_free, FirstLeaf, IsInOrder}
+use Rattle.sqcheck.specs.WellFormed.{IsAutoVacuum, IsIncremental, IsSetAside, SaysSo, IsLargestRoot, is_link, is_free, FirstLeaf, IsInOrder}
 
 -- some key isn't behind the one before, or is behind the high bound
 abbrev pub HasKeyOutOfOrder : Page → Node → Type 0
@@ -85,7 +85,9 @@ StandsWith maps d size faults.FreeCount p =
 StandsWith maps d size faults.SchemaRecord p = OnNode d faults.SchemaRecord p
 StandsWith maps d size faults.Source p = ⊥
 StandsWith maps d size faults.NoMemory p = Unit {0}
-StandsWith maps d size faults.PointerMap p = IsAutoVacuum d × (HasWrongEntry d size p ⊎ ((p ≡ 1) × ¬ IsLargestRoot d (word (page d 1) 52)))
+StandsWith maps d size faults.PointerMap p =
+    (IsAutoVacuum d × (HasWrongEntry d size p ⊎ ((p ≡ 1) × ¬ IsLargestRoot d (word (page d 1) 52))))
+    ⊎ ((p ≡ 1) × (maps ≡ true) × IsIncremental d × ¬ IsAutoVacuum d)
 
 -- the same where auto-vacuum is refused
 abbrev pub Stands : Database → (size : ℕ) → Fault → (p : ℕ) → Type 0

@@ -1,11 +1,17 @@
 -- Words of the helper functions that walk over the places (own). No public contract cites them.
-use Rattle.std.specs.Prelude.{◌≡◌, ◌≢◌, ℕ, ◌<◌, ◌≤◌, ◌⊎◌, Bool, true, false, List, [], ◌∷◌, ◌++◌, length, map, reverse, Option, Some, None, ℤ}
+use Rattle.std.specs.Prelude.{◌≡◌, ◌≢◌, ℕ, ◌+◌, ◌<◌, ◌≤◌, ◌⊎◌, ◌==◌, if◌then◌else◌, Bool, true, false, List, [], ◌∷◌, ◌++◌, length, map, reverse, Option, Some, None, ℤ}
+use Rattle.sqval.specs.Bytes.{word}
 use Rattle.sqval.specs.Database.{Database, page}
 use Rattle.sqpage.specs.declared.fault.Fault.{Fault}
 use Rattle.sqpage.specs.declared.fault.Fault.TheVariants as faults
 use Rattle.sqpage.specs.declared.kind.Kind.{Kind}
 use Rattle.sqpage.specs.Lists.{In, Every, Apart}
-use Rattle.sqpage.specs.Freelist.{IsPage, most_leaves, leaf_count_in, leaf_in, next_in}
+use Rattle.sqpage.specs.Header.{byte}
+use Rattle.sqpage.specs.PointerMaps.{IsEntryPlace, kind_code}
+use Rattle.sqpage.specs.declared.pointer_map.EntryPlace.{EntryPlace}
+use Rattle.sqpage.specs.declared.pointer_map.PointerKind.{PointerKind}
+use Rattle.sqpage.specs.declared.pointer_map.PointerKind.TheVariants as kinds
+use Rattle.sqpage.specs.Freelist.{IsPage, usable_size, most_leaves, leaf_count_in, leaf_in, next_in}
 use Rattle.sqpage.specs.Page.{Page, is_interior, is_table, IsBtreePage}
 use Rattle.sqpage.specs.Layout.{IsLaidOut}
 use Rattle.sqpage.specs.declared.cell.Cell.{Cell}
@@ -17,10 +23,10 @@ use Rattle.sqcheck.specs.declared.item.Task.TheVariants.{Trunk, Leaf, Link, Node
 use Rattle.sqcheck.specs.declared.tree.Tree.{Tree}
 use Rattle.sqcheck.specs.declared.node.Walk.{Walk}
 use Rattle.sqcheck.specs.declared.uses.Uses.{Uses}
-use Rattle.sqcheck.specs.Counting.{AddsTask}
+use Rattle.sqcheck.specs.Counting.{AddsItem}
 use Rattle.sqcheck.specs.Places.{Place, holder, Role, trunk, free_leaf, link, node, Spot, page_as, HasKind, InPageAs, InNode, InCell, IsLeftChild, IsRightChild, IsCellAt, spot, overflow, next, leaf}
 use Rattle.sqcheck.specs.Places as places
-use Rattle.sqcheck.specs.WellFormed.{IsSoundAs, IsSoundNode, KeysRise, FirstLeaf}
+use Rattle.sqcheck.specs.WellFormed.{IsAutoVacuum, IsSoundAs, IsSoundNode, KeysRise, FirstLeaf, kind_named, parent_by}
 use Rattle.sqcheck.specs.Stands.{NodeRefused}
 
 -- a page of the tree, on this level and with these bounds
@@ -31,13 +37,20 @@ node_in tree level low high = record { tree = tree.root; table = tree.table; sch
 abbrev pub role_of : Tree → Task → Role
 role_of tree Trunk = trunk
 role_of tree Leaf = free_leaf
-role_of tree (Link owner needed) = link owner needed
+role_of tree (Link owner needed first) = link owner needed
 role_of tree (Node level low high) = node (node_in tree level low high)
 
 -- a link is the first of one page or more
 abbrev pub IsProper : Task → Type 0
-IsProper (Link owner needed) = 0 < needed
+IsProper (Link owner needed first) = 0 < needed
 IsProper _ = Unit {0}
+
+-- the kind that the entry of a page that is named so is to say
+abbrev pub kind_of : Task → PointerKind
+kind_of Trunk = kinds.Free
+kind_of Leaf = kinds.Free
+kind_of (Link owner needed first) = if first then kinds.FirstOverflow else kinds.Overflow
+kind_of (Node level low high) = if level == 1 then kinds.Root else kinds.Child
 
 -- the item is that of the place
 pub record IsItemOf (tree : Tree) (it : Item) (s : Spot) : Type 0 where
@@ -45,6 +58,7 @@ pub record IsItemOf (tree : Tree) (it : Item) (s : Spot) : Type 0 where
   pub stands : it.holder ≡ holder s.place
   pub role : s.role ≡ role_of tree it.task
   pub proper : IsProper it.task
+  pub kind : kind_of it.task ≡ kind_named s.place s.role
 
 -- the items are those of the places, in order
 abbrev pub Match : Tree → List Item → List Spot → Type 0
@@ -118,10 +132,10 @@ PageWrong d p (node x) fault = NodeRefused d fault p x
 
 -- a link that isn't followed: its number is 0, or it needs more pages than there are
 abbrev pub IsCutLink : Database → Tree → Item → Fault → (at : ℕ) → Type 0
-IsCutLink d tree it fault at = (fault ≡ faults.ChainCut) × (at ≡ it.holder) × (owner needed : ℕ) × (it.task ≡ Link owner needed) × ((it.page ≡ 0) ⊎ (length d < needed))
+IsCutLink d tree it fault at = (fault ≡ faults.ChainCut) × (at ≡ it.holder) × (owner needed : ℕ) × (first : Bool) × (it.task ≡ Link owner needed first) × ((it.page ≡ 0) ⊎ (length d < needed))
 
 abbrev pub LinksOn : Task → (p : ℕ) → Type 0
-LinksOn (Link owner needed) p = p ≢ 0
+LinksOn (Link owner needed first) p = p ≢ 0
 LinksOn _ p = Unit {0}
 
 -- Why an item isn't followed: its page can't be taken, is wrong, or the chain is cut; or memory ran out.
@@ -161,6 +175,22 @@ pub record KnowsAt (d : Database) (root : ℕ) (known : Option ℕ) (p level : �
 -- An item was followed, with all that the walk keeps.
 pub record Follows (d : Database) (tree : Tree) (it : Item) (uses new_uses : Uses) (old new : Walk) : Type 0 where
   pub visits : Visits d tree it uses.marks.items new_uses.marks.items old.stack.items new.stack.items
-  pub counted : AddsTask uses.counts new_uses.counts it.task
+  pub counted : AddsItem uses.counts new_uses.counts it
   pub aside : PutsAside d it.page (role_of tree it.task) old.rows.items new.rows.items
   pub knows : Knows d tree.root new.leaf_level (reverse new.stack.items)
+
+-- the bytes of page `map` from `at` on are those of the entry that an item's page is to have
+abbrev pub EntrySays : Database → EntryPlace → Item → Type 0
+EntrySays d entry it = (byte (page d entry.map) entry.at ≡ kind_code (kind_of it.task)) × (word (page d entry.map) (entry.at + 1) ≡ parent_by (kind_of it.task) it.holder)
+
+-- entry `entry` is that of an item's page
+abbrev pub IsEntryOf : Database → Item → EntryPlace → Type 0
+IsEntryOf d it entry = IsEntryPlace (length (page d 1)) (usable_size d) it.page entry
+
+-- With auto-vacuum the entry of an item's page says what names it.
+abbrev pub IsMapped : Database → Item → Type 0
+IsMapped d it = IsAutoVacuum d → (entry : EntryPlace) → IsEntryOf d it entry → EntrySays d entry it
+
+-- It doesn't.
+abbrev pub EntryRefused : Database → Item → Fault → (at : ℕ) → Type 0
+EntryRefused d it fault at = (fault ≡ faults.PointerMap) × IsAutoVacuum d × (entry : EntryPlace) × IsEntryOf d it entry × (entry.map ≡ at) × ¬ EntrySays d entry it

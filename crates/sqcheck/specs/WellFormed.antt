@@ -14,24 +14,30 @@ use Rattle.sqpage.specs.PointerMaps.{lock_byte_page, IsPointerMap, IsEntryPlace,
 use Rattle.sqpage.specs.declared.pointer_map.EntryPlace.{EntryPlace}
 use Rattle.sqpage.specs.declared.pointer_map.PointerKind.{PointerKind}
 use Rattle.sqpage.specs.declared.pointer_map.PointerKind.TheVariants as kinds
-use Rattle.sqcheck.specs.Places.{Place, next, overflow, holder, Node, Role, trunk, free_leaf, link, node, Spot, page_as, HasKind, IsCellAt, IsKeyBefore, IsRow, IsSchemaRow, IsReached}
+use Rattle.sqcheck.specs.Places.{Place, next, holder, Node, Role, trunk, free_leaf, link, node, Spot, page_as, HasKind, IsCellAt, IsKeyBefore, IsRow, IsSchemaRow, IsReached}
 use Rattle.sqcheck.specs.declared.report.Report.{Report}
 
 -- the header's largest root isn't 0 (fileformat2, 1.3.13)
 abbrev pub IsAutoVacuum : Database → Type 0
 IsAutoVacuum d = word (page d 1) 52 ≢ 0
 
+-- the header asks for incremental vacuum
+abbrev pub IsIncremental : Database → Type 0
+IsIncremental d = word (page d 1) 64 ≢ 0
+
 -- Nothing names page p, and it isn't unused: the lock-byte page, and with auto-vacuum each pointer map.
 abbrev pub IsSetAside : Database → (size p : ℕ) → Type 0
 IsSetAside d size p = (p ≡ lock_byte_page size) ⊎ (IsAutoVacuum d × IsPointerMap size (usable_size d) p)
 
--- The header of the file: SQLite's, for pages of this size, with room in each; and without `maps` none of auto-vacuum.
+-- The header of the file: SQLite's, for pages of this size, with room in each. Without `maps` it is none of auto-vacuum;
+-- with them only one of auto-vacuum may ask for incremental vacuum.
 pub record HasSoundHeader (maps : Bool) (d : Database) (size : ℕ) : Type 0 where
   pub magic : HasMagic (page d 1)
   pub page_size : size_named (page d 1) ≡ size
   pub fractions : HasFractions (page d 1)
   pub room : HasRoom (page d 1)
   pub plain : maps ≡ false → word (page d 1) 52 ≡ 0
+  pub incremental : maps ≡ true → IsIncremental d → IsAutoVacuum d
 
 -- Keys and bounds: one comes before another, or is at most another, where there are both.
 abbrev pub IsBefore : (low key : Option ℤ) → Type 0

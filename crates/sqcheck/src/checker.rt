@@ -1,8 +1,6 @@
 //! The check of a whole database (own).
 ghost use Rattle.std.specs.Prelude.{◌≡◌, ◌≢◌, ◌<◌, ◌≤◌, ◌∷◌, ◌++◌, [], ℕ, List, Bool, true, false, length, IfOk, IfErr};
-ghost use Rattle.std.specs.Prelude.{OnOk, OnErr, replicate};
-ghost use Rattle.sqval.specs.Bytes.{word};
-ghost use Rattle.sqval.specs.Database.{page};
+ghost use Rattle.std.specs.Prelude.{OnOk, OnErr, replicate, ◌↔◌, ◌-◌, ◌^◌};
 ghost use Rattle.sqpage.specs.PointerMaps.{lock_byte_page};
 ghost use Rattle.sqpage.specs.Freelist.{IsPage, IsWithin, usable_size, first_trunk};
 ghost use Rattle.sqpage.specs.Lists.{Every};
@@ -12,15 +10,17 @@ ghost use Rattle.sqcheck.specs.Places.{Spot, first_root_spot, names_table};
 ghost use Rattle.sqcheck.specs.Roles.{Visit, Told, AreRoles};
 ghost use Rattle.sqcheck.specs.Schema.{IsRootAt, RootsMatch};
 ghost use Rattle.sqcheck.specs.Snapshots.{SameSource};
-ghost use Rattle.sqcheck.specs.Stands.{Stands};
-ghost use Rattle.sqcheck.specs.Agenda.{StandsNow};
-ghost use Rattle.sqcheck.specs.WellFormed.{WellFormed, HasSoundHeader, IsReport};
+ghost use Rattle.sqcheck.specs.Stands.{Stands, StandsWith};
+ghost use Rattle.sqcheck.specs.Agenda.{StandsNow, MarksAside};
+ghost use Rattle.sqcheck.specs.WellFormed.{WellFormed, WellFormedWith, HasSoundHeader, IsReport};
 ghost use Rattle.sqcheck.specs.Walking.{IsItemOf, TopLeads};
-ghost use Rattle.sqcheck.specs.Checking.{Visited, VisitsMore, IsNew, HasLists, MarksOne};
+ghost use Rattle.sqcheck.specs.Checking.{Visited, VisitsMore, IsNew, HasLists, MarksOne, MarksMaps};
 
 use crate::header::judge_header;
 use crate::item::{Item, Task, push};
+use crate::maps::Maps;
 use crate::node::{Room, Walk};
+use crate::options::Options;
 use crate::pages::read_page;
 use crate::report::Report;
 use crate::role::{Silent, Visitor};
@@ -30,7 +30,7 @@ use crate::tree::Tree;
 use crate::unused::judge_unused;
 use crate::uses::{Counts, Uses};
 use crate::walker::{Reader, Walker};
-use sqpage::{CheckError, DbHeader, Fault, PageSource, Parts, lock_byte_page};
+use sqpage::{CheckError, DbHeader, Fault, PageSource, Parts, is_pointer_map, lock_byte_page};
 use sqval::PageSize;
 use std::alloc::{AllocError, Global};
 use std::marker::{Brand, PhantomData};
@@ -91,12 +91,12 @@ impl<V: Snapshot> Walker<V> {
         requires empty { self.old.walk.stack.items ≡ [] }
         requires same { SameSource V.pages V.size V.given (S.pages source.old) (S.size source.old)
             (S.gives_pages source.old) }
-        ensures ok { V.given → (late : Bool) (visited rest : List Spot) (s : Spot)
+        ensures ok { V.given × V.judged → (late : Bool) (visited rest : List Spot) (s : Spot)
             → Visited V.pages late visited (s ∷ rest) self.old.uses self.old.walk → IsItemOf tree.now item s
             → TopLeads V.pages tree.now.root (item ∷ [])
             → OnOk result (VisitsMore T.saw V.pages late visited rest self.new.uses self.new.walk
             visitor.old visitor.new) }
-        ensures err { V.given → (late : Bool) (visited rest : List Spot) (s : Spot)
+        ensures err { V.given × V.judged → (late : Bool) (visited rest : List Spot) (s : Spot)
             → Visited V.pages late visited (s ∷ rest) self.old.uses self.old.walk → IsItemOf tree.now item s
             → TopLeads V.pages tree.now.root (item ∷ [])
             → IfErr result (λ e. StandsNow V.pages e.fault e.page) }
@@ -119,10 +119,10 @@ impl<V: Snapshot> Walker<V> {
         requires empty { self.old.walk.stack.items ≡ [] }
         requires same { SameSource V.pages V.size V.given (S.pages source.old) (S.size source.old)
             (S.gives_pages source.old) }
-        ensures ok { V.given → first ≡ first_trunk V.pages → IsNew V.pages self.old.uses self.old.walk
+        ensures ok { V.given × V.judged → first ≡ first_trunk V.pages → IsNew V.pages self.old.uses self.old.walk
             → OnOk result (VisitsMore T.saw V.pages false [] (first_root_spot ∷ []) self.new.uses self.new.walk
             visitor.old visitor.new) }
-        ensures err { V.given → first ≡ first_trunk V.pages → IsNew V.pages self.old.uses self.old.walk
+        ensures err { V.given × V.judged → first ≡ first_trunk V.pages → IsNew V.pages self.old.uses self.old.walk
             → IfErr result (λ e. StandsNow V.pages e.fault e.page) }
         ensures empty { OnOk result (self.new.walk.stack.items ≡ []) }
         ensures same { SameSource V.pages V.size V.given (S.pages source.new) (S.size source.new)
@@ -163,11 +163,11 @@ impl<V: Snapshot> Walker<V> {
         requires empty { self.old.walk.stack.items ≡ [] }
         requires same { SameSource V.pages V.size V.given (S.pages source.old) (S.size source.old)
             (S.gives_pages source.old) }
-        ensures ok { V.given → (visited : List Spot)
+        ensures ok { V.given × V.judged → (visited : List Spot)
             → Visited V.pages false visited (first_root_spot ∷ []) self.old.uses self.old.walk
             → OnOk result (VisitsMore T.saw V.pages false visited [] self.new.uses self.new.walk
             visitor.old visitor.new) }
-        ensures err { V.given → (visited : List Spot)
+        ensures err { V.given × V.judged → (visited : List Spot)
             → Visited V.pages false visited (first_root_spot ∷ []) self.old.uses self.old.walk
             → IfErr result (λ e. StandsNow V.pages e.fault e.page) }
         ensures empty { OnOk result (self.new.walk.stack.items ≡ []) }
@@ -192,11 +192,11 @@ impl<V: Snapshot> Walker<V> {
         requires empty { self.old.walk.stack.items ≡ [] }
         requires same { SameSource V.pages V.size V.given (S.pages source.old) (S.size source.old)
             (S.gives_pages source.old) }
-        ensures ok { V.given → (visited rest : List Spot) (s : Spot)
+        ensures ok { V.given × V.judged → (visited rest : List Spot) (s : Spot)
             → Visited V.pages true visited (s ∷ rest) self.old.uses self.old.walk → IsRootAt V.pages root s
             → OnOk result (VisitsMore T.saw V.pages true visited rest self.new.uses self.new.walk
             visitor.old visitor.new) }
-        ensures err { V.given → (visited rest : List Spot) (s : Spot)
+        ensures err { V.given × V.judged → (visited rest : List Spot) (s : Spot)
             → Visited V.pages true visited (s ∷ rest) self.old.uses self.old.walk → IsRootAt V.pages root s
             → IfErr result (λ e. StandsNow V.pages e.fault e.page) }
         ensures empty { OnOk result (self.new.walk.stack.items ≡ []) }
@@ -234,12 +234,12 @@ impl<V: Snapshot> Walker<V> {
         requires empty { self.old.walk.stack.items ≡ [] }
         requires same { SameSource V.pages V.size V.given (S.pages source.old) (S.size source.old)
             (S.gives_pages source.old) }
-        ensures ok { V.given → (visited spots rest : List Spot)
+        ensures ok { V.given × V.judged → (visited spots rest : List Spot)
             → Visited V.pages true visited (spots ++ rest) self.old.uses self.old.walk
             → RootsMatch V.pages roots.now spots
             → OnOk result (VisitsMore T.saw V.pages true visited rest self.new.uses self.new.walk
             visitor.old visitor.new) }
-        ensures err { V.given → (visited spots rest : List Spot)
+        ensures err { V.given × V.judged → (visited spots rest : List Spot)
             → Visited V.pages true visited (spots ++ rest) self.old.uses self.old.walk
             → RootsMatch V.pages roots.now spots
             → IfErr result (λ e. StandsNow V.pages e.fault e.page) }
@@ -264,10 +264,10 @@ impl<V: Snapshot> Walker<V> {
         requires empty { self.old.walk.stack.items ≡ [] }
         requires same { SameSource V.pages V.size V.given (S.pages source.old) (S.size source.old)
             (S.gives_pages source.old) }
-        ensures ok { V.given → HasLists header.now V.pages → IsNew V.pages self.old.uses self.old.walk
+        ensures ok { V.given × V.judged → HasLists header.now V.pages → IsNew V.pages self.old.uses self.old.walk
             → OnOk result (VisitsMore T.saw V.pages false [] [] self.new.uses self.new.walk
             visitor.old visitor.new) }
-        ensures err { V.given → HasLists header.now V.pages → IsNew V.pages self.old.uses self.old.walk
+        ensures err { V.given × V.judged → HasLists header.now V.pages → IsNew V.pages self.old.uses self.old.walk
             → IfErr result (λ e. StandsNow V.pages e.fault e.page) }
         ensures empty { OnOk result (self.new.walk.stack.items ≡ []) }
         ensures same { SameSource V.pages V.size V.given (S.pages source.new) (S.size source.new)
@@ -288,11 +288,11 @@ impl<V: Snapshot> Walker<V> {
         requires empty { self.old.walk.stack.items ≡ [] }
         requires same { SameSource V.pages V.size V.given (S.pages source.old) (S.size source.old)
             (S.gives_pages source.old) }
-        ensures ok { V.given → Every (λ b. length b ≡ V.size) V.pages → (visited : List Spot)
+        ensures ok { V.given × V.judged → Every (λ b. length b ≡ V.size) V.pages → (visited : List Spot)
             → Visited V.pages false visited [] self.old.uses self.old.walk
             → OnOk result (VisitsMore T.saw V.pages true visited [] self.new.uses self.new.walk
             visitor.old visitor.new) }
-        ensures err { V.given → Every (λ b. length b ≡ V.size) V.pages → (visited : List Spot)
+        ensures err { V.given × V.judged → Every (λ b. length b ≡ V.size) V.pages → (visited : List Spot)
             → Visited V.pages false visited [] self.old.uses self.old.walk
             → IfErr result (λ e. StandsNow V.pages e.fault e.page) }
         ensures empty { OnOk result (self.new.walk.stack.items ≡ []) }
@@ -303,16 +303,35 @@ impl<V: Snapshot> Walker<V> {
         self.follow_roots(source, visitor, &roots)
     }
 
-    /// Whether all pages were taken, and as many of them are free as the header says.
+    /// Whether the largest root is the one that the header says, where there are pointer maps.
+    fn judge_largest_root(&self, said: u32) -> Result<(), CheckError>
+        ensures ok { OnOk result (self.now.maps.used ≡ true → self.now.uses.counts.largest_root ≡ said) }
+        ensures err { IfErr result (λ e. (e.fault ≡ Fault.PointerMap) × (e.page ≡ 1) ×
+            (self.now.maps.used ≡ true) × (self.now.uses.counts.largest_root ≢ said)) }
+    {
+        if self.maps.used && self.uses.counts.largest_root != said {
+            return Err(CheckError {
+                page: 1,
+                fault: Fault::PointerMap,
+            });
+        }
+        Ok(())
+    }
+
+    /// Whether all pages were taken, as many of them are free as the header says, and with pointer maps the largest
+    /// root is the one that it says.
     fn judge_end(&self, header: &DbHeader) -> Result<(), CheckError>
-        ensures ok { OnOk result (((p : ℕ) → IsWithin (length self.now.uses.marks.items) p → is_marked
+        ensures taken { OnOk result (((p : ℕ) → IsWithin (length self.now.uses.marks.items) p → is_marked
             self.now.uses.marks.items p ≡ true) × (self.now.uses.counts.free ≡ header.now.free_pages)) }
-        ensures err { (visited : List Spot) → HasLists header.now V.pages
+        ensures largest { OnOk result (self.now.maps.used ≡ true → self.now.uses.counts.largest_root ≡
+            header.now.largest_root) }
+        ensures err { V.given × V.judged → (visited : List Spot) → HasLists header.now V.pages
             → Visited V.pages true visited [] self.now.uses self.now.walk
             → IfErr result (λ e. StandsNow V.pages e.fault e.page) }
     {
         judge_unused(&self.uses.marks)?;
-        self.judge_free_count(header.free_pages)
+        self.judge_free_count(header.free_pages)?;
+        self.judge_largest_root(header.largest_root)
     }
 
     fn report(&self) -> Report
@@ -343,11 +362,12 @@ impl<V: Snapshot> Walker<V> {
         requires empty { self.old.walk.stack.items ≡ [] }
         requires same { SameSource V.pages V.size V.given (S.pages source.old) (S.size source.old)
             (S.gives_pages source.old) }
-        ensures ok { V.given → Every (λ b. length b ≡ V.size) V.pages → HasLists header.now V.pages
-            → IsNew V.pages self.old.uses self.old.walk → HasSoundHeader false V.pages V.size → IfOk result (λ report.
-            (w : WellFormed V.pages V.size) × IsReport V.pages w.places report × (visits : List Visit) ×
+        ensures ok { V.given × V.judged → (maps : Bool) → Every (λ b. length b ≡ V.size) V.pages
+            → HasLists header.now V.pages → IsNew V.pages self.old.uses self.old.walk
+            → HasSoundHeader maps V.pages V.size → IfOk result (λ report.
+            (w : WellFormedWith maps V.pages V.size) × IsReport V.pages w.places report × (visits : List Visit) ×
             Told T.saw visitor.old visits visitor.new × AreRoles V.pages V.size visits) }
-        ensures err { V.given → Every (λ b. length b ≡ V.size) V.pages → HasLists header.now V.pages
+        ensures err { V.given × V.judged → Every (λ b. length b ≡ V.size) V.pages → HasLists header.now V.pages
             → IsNew V.pages self.old.uses self.old.walk → IfErr result (λ e. StandsNow V.pages e.fault e.page) }
         ensures same { SameSource V.pages V.size V.given (S.pages source.new) (S.size source.new)
             (S.gives_pages source.new) }
@@ -378,22 +398,50 @@ fn set_aside(marks: &mut [bool], size: PageSize)
     }
 }
 
-/// A walker that has room for the pages that are read, and has taken none of so many of this size. The lock-byte page is
+/// Marks the pointer maps of such a database.
+fn mark_maps(marks: &mut [bool], size: PageSize, reserved: u8)
+    requires few { length marks.old < 2 ^ 32 }
+    ensures length { length marks.new ≡ length marks.old }
+    ensures maps { MarksMaps size (size - reserved) marks.old marks.new }
+{
+    'pages: for i in 0..marks.len() {
+        if is_pointer_map(size, reserved, i as u32 + 1) {
+            marks[i] = true;
+        }
+    }
+}
+
+/// The marks of so many pages, of which those that are set aside are marked: the lock-byte page, and the pointer maps.
+fn first_marks<V: Snapshot>(
+    alloc: Global,
+    count: u32,
+    maps: &Maps<V>,
+) -> Result<Vec<bool>, AllocError>
+    ensures long { IfOk result (λ marks. length marks.items ≡ count) }
+    ensures aside { V.judged → IfOk result (λ marks. MarksAside V.pages marks.items) }
+{
+    let mut marks = unmarked(alloc, count)?;
+    set_aside(&mut marks, maps.page_size);
+    if maps.used {
+        mark_maps(&mut marks, maps.page_size, maps.reserved);
+    }
+    Ok(marks)
+}
+
+/// A walker that has room for the pages that are read, and has taken none of so many. Those that are set aside are
 /// marked as taken.
 pub(crate) fn new_walker<V: Snapshot>(
     alloc: Global,
     reader: Reader<V>,
     count: u32,
-    size: PageSize,
+    maps: Maps<V>,
 ) -> Result<Walker<V>, AllocError>
     requires { count ≡ length V.pages }
-    ensures new { length (page V.pages 1) ≡ size → word (page V.pages 1) 52 ≡ 0
-        → IfOk result (λ w. IsNew V.pages w.uses w.walk) }
+    ensures new { V.judged → IfOk result (λ w. IsNew V.pages w.uses w.walk) }
     ensures empty { IfOk result (λ w. w.walk.stack.items ≡ []) }
 {
     let usable = reader.usable as usize;
-    let mut marks = unmarked(alloc, count)?;
-    set_aside(&mut marks, size);
+    let marks = first_marks(alloc, count, &maps)?;
     Ok(Walker {
         room: Room {
             parts: vec![in alloc; Parts::NONE; usable / 2 + 1]?,
@@ -406,6 +454,7 @@ pub(crate) fn new_walker<V: Snapshot>(
                 btree: 0,
                 overflow: 0,
                 free: 0,
+                largest_root: 0,
             },
         },
         walk: Walk {
@@ -413,6 +462,7 @@ pub(crate) fn new_walker<V: Snapshot>(
             rows: Vec::new(alloc),
             leaf_level: None,
         },
+        maps,
         reader,
     })
 }
@@ -428,13 +478,15 @@ fn check_snapshot<V: Snapshot, S: PageSource, T: Visitor>(
     alloc: Global,
     source: &mut S,
     visitor: &mut T,
+    options: Options,
 ) -> Result<Report, CheckError>
+    requires judged { V.given ↔ V.judged }
     requires same { (S.pages source.old ≡ V.pages) × (S.size source.old ≡ V.size) ×
         (V.given → S.gives_pages source.old) }
     ensures ok { V.given → IfOk result (λ report.
-        (w : WellFormed V.pages V.size) × IsReport V.pages w.places report × (visits : List Visit) ×
-        Told T.saw visitor.old visits visitor.new × AreRoles V.pages V.size visits) }
-    ensures err { V.given → IfErr result (λ e. Stands V.pages V.size e.fault e.page) }
+        (w : WellFormedWith options.pointer_maps V.pages V.size) × IsReport V.pages w.places report ×
+        (visits : List Visit) × Told T.saw visitor.old visits visitor.new × AreRoles V.pages V.size visits) }
+    ensures err { V.given → IfErr result (λ e. StandsWith options.pointer_maps V.pages V.size e.fault e.page) }
     ensures same { (S.pages source.new ≡ V.pages) × (S.size source.new ≡ V.size) ×
         (V.given → S.gives_pages source.new) }
 {
@@ -451,13 +503,17 @@ fn check_snapshot<V: Snapshot, S: PageSource, T: Visitor>(
         Err(_) => return Err(NO_MEMORY),
     };
     read_page::<V, S>(source, 1, &mut bytes)?;
-    let header = judge_header(&bytes, size)?;
+    let header = judge_header(&bytes, size, options.pointer_maps)?;
+    let maps: Maps<V> = match Maps::new(alloc, header.largest_root != 0, size, header.reserved) {
+        Ok(maps) => maps,
+        Err(_) => return Err(NO_MEMORY),
+    };
     let reader: Reader<V> = Reader {
         bytes,
         usable: size.get() - u32::from(header.reserved),
         snapshot: PhantomData,
     };
-    match new_walker(alloc, reader, count, size) {
+    match new_walker(alloc, reader, count, maps) {
         Ok(mut walker) => walker.check_pages(alloc, source, visitor, &header),
         Err(_) => Err(NO_MEMORY),
     }
@@ -482,7 +538,33 @@ pub fn check<S: PageSource>(alloc: Global, source: &mut S) -> Result<Report, Che
     ensures same_pages { S.pages source.new ≡ S.pages source.old }
     ensures same_size { S.size source.new ≡ S.size source.old }
 {
-    check_snapshot::<Brand, S, Silent>(alloc, source, &mut Silent)
+    check_snapshot::<Brand, S, Silent>(alloc, source, &mut Silent, Options::PLAIN)
+}
+
+/// Checks a database as `check` does, and where this is asked one of auto-vacuum too. Then its pointer maps and the
+/// number at 52 of its header are judged: the entry of a page once the page was found sound, refused by PointerMap at
+/// the map; and last the largest root, refused by PointerMap at page 1. The header of another database may not ask for
+/// incremental vacuum then (fileformat2, 1.3.12 and 1.8): it is refused by PointerMap at page 1.
+pub fn check_with<S: PageSource>(
+    alloc: Global,
+    source: &mut S,
+    options: Options,
+) -> Result<Report, CheckError>
+    // The database is well formed, and the report is its.
+    ensures ok { S.gives_pages source.old → IfOk result (λ report.
+        (w : WellFormedWith options.pointer_maps (S.pages source.old) (S.size source.old)) ×
+        IsReport (S.pages source.old) w.places report) }
+    // The condition stands at the page.
+    ensures err { S.gives_pages source.old → IfErr result (λ e.
+        StandsWith options.pointer_maps (S.pages source.old) (S.size source.old) e.fault e.page) }
+    // The database isn't well formed, unless memory ran out.
+    ensures none { S.gives_pages source.old → IfErr result (λ e. e.fault ≢ Fault.NoMemory
+        → ¬ WellFormedWith options.pointer_maps (S.pages source.old) (S.size source.old)) }
+    ensures still_gives { S.gives_pages source.old → S.gives_pages source.new }
+    ensures same_pages { S.pages source.new ≡ S.pages source.old }
+    ensures same_size { S.size source.new ≡ S.size source.old }
+{
+    check_snapshot::<Brand, S, Silent>(alloc, source, &mut Silent, options)
 }
 
 /// Checks a database as `check` does, and tells a visitor what each page is used for. Where the database is
@@ -507,5 +589,30 @@ pub fn visit_pages<S: PageSource, T: Visitor>(
     ensures same_pages { S.pages source.new ≡ S.pages source.old }
     ensures same_size { S.size source.new ≡ S.size source.old }
 {
-    check_snapshot::<Brand, S, T>(alloc, source, visitor)
+    check_snapshot::<Brand, S, T>(alloc, source, visitor, Options::PLAIN)
+}
+
+/// Checks a database as `check_with` does, and tells a visitor as `visit_pages` does.
+pub fn visit_pages_with<S: PageSource, T: Visitor>(
+    alloc: Global,
+    source: &mut S,
+    visitor: &mut T,
+    options: Options,
+) -> Result<Report, CheckError>
+    // The database is well formed, the report is its, and the visitor was told of each page once, and its role.
+    ensures ok { S.gives_pages source.old → IfOk result (λ report.
+        (w : WellFormedWith options.pointer_maps (S.pages source.old) (S.size source.old)) ×
+        IsReport (S.pages source.old) w.places report × (visits : List Visit) ×
+        Told T.saw visitor.old visits visitor.new × AreRoles (S.pages source.old) (S.size source.old) visits) }
+    // The condition stands at the page.
+    ensures err { S.gives_pages source.old → IfErr result (λ e.
+        StandsWith options.pointer_maps (S.pages source.old) (S.size source.old) e.fault e.page) }
+    // The database isn't well formed, unless memory ran out.
+    ensures none { S.gives_pages source.old → IfErr result (λ e. e.fault ≢ Fault.NoMemory
+        → ¬ WellFormedWith options.pointer_maps (S.pages source.old) (S.size source.old)) }
+    ensures still_gives { S.gives_pages source.old → S.gives_pages source.new }
+    ensures same_pages { S.pages source.new ≡ S.pages source.old }
+    ensures same_size { S.size source.new ≡ S.size source.old }
+{
+    check_snapshot::<Brand, S, T>(alloc, source, visitor, options)
 }

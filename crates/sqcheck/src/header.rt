@@ -38,35 +38,39 @@ fn names_another(head: &[u8; 100], size: PageSize) -> bool
     has_magic(head) && !names(head, size)
 }
 
-/// Judges the header of a database of pages of this size. Refused by Magic, PageSize, Fraction, Reserved and
-/// AutoVacuum, the first that applies.
-fn judge(bytes: &[u8], size: PageSize) -> Result<DbHeader, Fault>
+/// Judges the header of a database of pages of this size. Refused by Magic, PageSize, Fraction, Reserved, and without
+/// `maps` AutoVacuum, the first that applies; with them by PointerMap where it asks for incremental vacuum without
+/// auto-vacuum.
+fn judge(bytes: &[u8], size: PageSize, maps: bool) -> Result<DbHeader, Fault>
     requires size { size ≡ length bytes.now }
     requires large { 512 ≤ length bytes.now }
-    ensures ok { IfOk result (λ header. HasHeaderOf header size bytes.now) }
+    ensures ok { IfOk result (λ header. HasHeaderOf maps header size bytes.now) }
     ensures room { IfOk result (λ header. 480 + header.reserved ≤ size) }
-    ensures err { IfErr result (λ fault. HeaderFault fault size bytes.now) }
+    ensures err { IfErr result (λ fault. HeaderFault maps fault size bytes.now) }
 {
     let head = head_in(bytes);
     if names_another(&head, size) {
         return Err(Fault::PageSize);
     }
     let header = DbHeader::read(&head)?;
-    if header.largest_root != 0 {
+    if !maps && header.largest_root != 0 {
         return Err(Fault::AutoVacuum);
+    }
+    if maps && header.largest_root == 0 && header.incremental_vacuum != 0 {
+        return Err(Fault::PointerMap);
     }
     Ok(header)
 }
 
 /// Judges the header in the bytes of page 1, at page 1.
-pub(crate) fn judge_header(bytes: &[u8], size: PageSize) -> Result<DbHeader, CheckError>
+pub(crate) fn judge_header(bytes: &[u8], size: PageSize, maps: bool) -> Result<DbHeader, CheckError>
     requires size { size ≡ length bytes.now }
     requires large { 512 ≤ size }
-    ensures ok { IfOk result (λ header. HasHeaderOf header size bytes.now) }
+    ensures ok { IfOk result (λ header. HasHeaderOf maps header size bytes.now) }
     ensures room { IfOk result (λ header. 480 + header.reserved ≤ size) }
-    ensures err { IfErr result (λ e. (e.page ≡ 1) × HeaderFault e.fault size bytes.now) }
+    ensures err { IfErr result (λ e. (e.page ≡ 1) × HeaderFault maps e.fault size bytes.now) }
 {
-    match judge(bytes, size) {
+    match judge(bytes, size, maps) {
         Ok(header) => Ok(header),
         Err(fault) => Err(CheckError { page: 1, fault }),
     }

@@ -11,10 +11,12 @@ pub(crate) enum Task {
     Trunk,
     /// A leaf of the freelist.
     Leaf,
-    /// The first of so many pages that are still needed, of the chain of a cell in page `owner`.
+    /// The first of so many pages that are still needed, of the chain of a cell in page `owner`: the chain's first
+    /// page, or a later one.
     Link {
         owner: u32,
         needed: u64,
+        first: bool,
     },
     /// A page of a tree on this level, whose keys are above `low` and at most `high`.
     Node {

@@ -149,6 +149,7 @@ pub(crate) fn push_chains(
                     task: Task::Link {
                         owner: number,
                         needed,
+                        first: true,
                     },
                 },
             )?;

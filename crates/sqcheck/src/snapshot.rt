@@ -15,6 +15,9 @@ pub(crate) trait Snapshot {
 
     /// The source gives them.
     ghost given: { Type 0 };
+
+    /// Whether it has pointer maps was judged by its header.
+    ghost judged: { Type 0 };
 }
 
 impl Snapshot for Brand {
@@ -23,4 +26,6 @@ impl Snapshot for Brand {
     ghost size = { 512 };
 
     ghost given = { ℕ };
+
+    ghost judged = { ℕ };
 }

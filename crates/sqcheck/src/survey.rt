@@ -13,6 +13,7 @@ use crate::chart::Chart;
 use crate::checker::{NO_MEMORY, NO_TREE, ROOT, SCHEMA_TREE, new_walker, visit_pages};
 use crate::header::judge_header;
 use crate::item::{Item, Task, push};
+use crate::maps::Maps;
 use crate::pages::{read_page, word_at};
 use crate::report::Report;
 use crate::role::{Role, Visitor};
@@ -38,8 +39,9 @@ pub struct Survey {
 /// Where the walk begins, as the bytes of page 1 say, also where the header isn't sound.
 #[derive(Clone, Copy, Debug)]
 struct Start {
-    /// How much of each page is used.
+    /// How much of each page is used, and how much isn't.
     usable: u32,
+    reserved: u8,
     first_trunk: u32,
     free_pages: u32,
 }
@@ -58,6 +60,7 @@ fn start_in(bytes: &[u8]) -> Option<Start>
     }
     Some(Start {
         usable,
+        reserved: bytes[20],
         first_trunk: word_at(bytes, 32),
         free_pages: word_at(bytes, 36),
     })
@@ -358,6 +361,7 @@ fn survey_snapshot<V: Snapshot, S: PageSource>(
     source: &mut S,
     chart: &mut Chart,
 ) -> Result<bool, CheckError>
+    requires unjudged { ¬ V.judged }
     requires same { (S.pages source.old ≡ V.pages) × (S.size source.old ≡ V.size) ×
         (V.given → S.gives_pages source.old) }
     ensures not { V.given → IfOk result (λ walked. walked ≡ false → usable_size V.pages < 480) }
@@ -379,15 +383,19 @@ fn survey_snapshot<V: Snapshot, S: PageSource>(
     let Some(start) = start_in(&bytes) else {
         return Ok(false);
     };
-    if let Err(error) = judge_header(&bytes, size) {
+    if let Err(error) = judge_header(&bytes, size, false) {
         chart.tell(error)?;
     }
+    let maps: Maps<V> = match Maps::new(alloc, false, size, start.reserved) {
+        Ok(maps) => maps,
+        Err(_) => return Err(NO_MEMORY),
+    };
     let reader: Reader<V> = Reader {
         bytes,
         usable: start.usable,
         snapshot: PhantomData,
     };
-    match new_walker(alloc, reader, count, size) {
+    match new_walker(alloc, reader, count, maps) {
         Ok(mut walker) => {
             walker.survey_first(source, chart, &start)?;
             walker.survey_others(alloc, source, chart)?;
@@ -444,8 +452,8 @@ fn survey_behind<S: PageSource>(
 /// `check`, and goes on behind faults: each page has the role of the first place that names it, whatever is wrong with
 /// the page, and Unused where none does. A page of a tree whose type byte is none counts as a leaf. Nothing is followed
 /// in a page that is wrong in its role, or from a row of the schema that is none. `faults` has those of the header, of
-/// each place and of each row, and PageUnused of each page that is unused. Once a page of a tree is wrong, Depth is told
-/// of leaves that aren't on the level of the first one that is sound so far.
+/// each place and of each row, and PageUnused of each page that is unused. Once a page of a tree is wrong, Depth is
+/// told of leaves that aren't on the level of the first one that is sound so far.
 ///
 /// Refused by the first fault where page 1 is none of a database, or leaves fewer than 480 bytes of a page to be used;
 /// by Source where a page could not be read, and by NoMemory.

@@ -1,9 +1,10 @@
 //! Trunks of the freelist, and links of overflow chains (fileformat2, 1.5 and 1.7).
-ghost use Rattle.std.specs.Prelude.{◌≡◌, ◌≢◌, ◌+◌, ◌-◌, ◌*◌, ◌/◌, ◌<◌, ◌≤◌, ◌∷◌, ℕ, length, reverse, IfErr, OnOk};
-ghost use Rattle.std.specs.Prelude.{OnErr, count_by, not};
+ghost use Rattle.std.specs.Prelude.{◌≡◌, ◌≢◌, ◌+◌, ◌-◌, ◌*◌, ◌/◌, ◌<◌, ◌≤◌, ◌∷◌, ℕ, Bool, length, reverse, IfErr, OnOk};
+ghost use Rattle.std.specs.Prelude.{OnErr};
 ghost use Rattle.sqval.specs.Database.{Database};
 ghost use Rattle.sqpage.specs.Freelist.{leaf_count_in};
 ghost use Rattle.sqpage.specs.declared.fault.Fault.{Fault};
+ghost use Rattle.sqpage.specs.Taking.{Marks};
 ghost use Rattle.sqcheck.specs.Walking.{Pushes, IsNextTrunk, IsLeafFrom, Follows, FollowRefused, Knows, TopLeads};
 ghost use Rattle.sqcheck.specs.Snapshots.{SameSource};
 ghost use Rattle.sqcheck.specs.declared.item.Task.TheVariants.{Trunk, Link};
@@ -78,7 +79,7 @@ impl<V: Snapshot> Walker<V> {
             → Follows V.pages tree item self.old.uses self.new.uses self.old.walk self.new.walk) }
         ensures err { V.given → IfErr result (λ e. (tree : Tree)
             → FollowRefused V.pages tree item self.old.uses.marks.items e.fault e.page) }
-        ensures fewer { OnOk result (count_by not self.new.uses.marks.items < count_by not self.old.uses.marks.items) }
+        ensures marks { OnOk result (Marks self.old.uses.marks.items self.new.uses.marks.items item.page) }
         ensures same { SameSource V.pages V.size V.given (S.pages source.new) (S.size source.new)
             (S.gives_pages source.new) }
     {
@@ -105,7 +106,7 @@ impl<V: Snapshot> Walker<V> {
         owner: u32,
         needed: u64,
     ) -> Result<(), CheckError>
-        requires task { item.task ≡ Link owner needed }
+        requires task { (first : Bool) × (item.task ≡ Link owner needed first) }
         requires same { SameSource V.pages V.size V.given (S.pages source.old) (S.size source.old)
             (S.gives_pages source.old) }
         ensures ok { V.given → OnOk result ((tree : Tree)
@@ -113,7 +114,7 @@ impl<V: Snapshot> Walker<V> {
             → Follows V.pages tree item self.old.uses self.new.uses self.old.walk self.new.walk) }
         ensures err { V.given → 0 < needed → IfErr result (λ e. (tree : Tree)
             → FollowRefused V.pages tree item self.old.uses.marks.items e.fault e.page) }
-        ensures fewer { OnOk result (count_by not self.new.uses.marks.items < count_by not self.old.uses.marks.items) }
+        ensures marks { OnOk result (Marks self.old.uses.marks.items self.new.uses.marks.items item.page) }
         ensures same { SameSource V.pages V.size V.given (S.pages source.new) (S.size source.new)
             (S.gives_pages source.new) }
     {
@@ -135,6 +136,7 @@ impl<V: Snapshot> Walker<V> {
                     task: Task::Link {
                         owner,
                         needed: needed - 1,
+                        first: false,
                     },
                 },
             );

@@ -2,7 +2,7 @@
 ghost use Rattle.std.specs.Prelude.{◌≡◌, ◌↔◌, ◌+◌, ◌<◌, ◌≤◌, ◌^◌, true, IsTrue, length, OnOk, OnErr, IfErr};
 ghost use Rattle.std.specs.Prelude.{count_by, not};
 ghost use Rattle.sqpage.specs.Taking.{Marks, MarkRefused, is_marked};
-ghost use Rattle.sqcheck.specs.Counting.{AddsTask};
+ghost use Rattle.sqcheck.specs.Counting.{AddsItem};
 
 use crate::item::{Item, Task};
 use sqpage::{CheckError, Fault};
@@ -15,24 +15,29 @@ pub(crate) struct Counts {
     pub btree: u32,
     pub overflow: u32,
     pub free: u32,
+    /// The largest of the roots, or 0.
+    pub largest_root: u32,
 }
 
 impl Counts {
-    /// Counts a page that is named so.
-    fn add(&mut self, task: Task)
+    /// Counts the page of an item.
+    fn add(&mut self, item: Item)
         requires few { self.old.btree + self.old.overflow + self.old.free + 1 < 2 ^ 32 }
         requires trees { self.old.trees ≤ self.old.btree }
         ensures trees { self.new.trees ≤ self.new.btree }
-        ensures counted { AddsTask self.old self.new task }
+        ensures counted { AddsItem self.old self.new item }
         ensures one_more { self.new.btree + self.new.overflow + self.new.free ≡ self.old.btree + self.old.overflow +
             self.old.free + 1 }
     {
-        match task {
+        match item.task {
             Task::Trunk | Task::Leaf => self.free += 1,
             Task::Link { .. } => self.overflow += 1,
             Task::Node { level, .. } => {
                 self.btree += 1;
                 self.trees += u32::from(level == 1);
+                if level == 1 && item.page > self.largest_root {
+                    self.largest_root = item.page;
+                }
             }
         }
     }
@@ -79,13 +84,13 @@ impl Uses {
     /// Takes the page of an item. Refused as a mark is.
     pub fn take(&mut self, item: Item) -> Result<(), CheckError>
         ensures ok { OnOk result (Marks self.old.marks.items self.new.marks.items item.page) }
-        ensures counted { OnOk result (AddsTask self.old.counts self.new.counts item.task) }
+        ensures counted { OnOk result (AddsItem self.old.counts self.new.counts item) }
         ensures fewer { OnOk result (count_by not self.new.marks.items < count_by not self.old.marks.items) }
         ensures length { length self.new.marks.items ≡ length self.old.marks.items }
         ensures err { IfErr result (λ e. MarkRefused self.old.marks.items item.holder item.page e.fault e.page) }
     {
         mark(&mut self.marks, item.holder, item.page)?;
-        self.counts.add(item.task);
+        self.counts.add(item);
         Ok(())
     }
     /// Whether a page was taken.

@@ -1,6 +1,6 @@
 //! The walk over all places (own).
 ghost use Rattle.std.specs.Prelude.{◌≡◌, ◌<◌, ◌≤◌, ◌∷◌, [], ℕ, List, Bool, reverse, IfOk, IfErr, OnOk, OnErr};
-ghost use Rattle.std.specs.Prelude.{count_by, not};
+ghost use Rattle.sqpage.specs.Taking.{Marks};
 ghost use Rattle.sqcheck.specs.Places.{Spot, HasKind};
 ghost use Rattle.sqcheck.specs.Roles.{IsRoleOf};
 ghost use Rattle.sqcheck.specs.Snapshots.{SameSource};
@@ -38,7 +38,7 @@ impl<V: Snapshot> Walker<V> {
         ensures err { V.given
             → Knows V.pages tree.now.root self.old.walk.leaf_level (item ∷ reverse self.old.walk.stack.items)
             → IfErr result (λ e. FollowRefused V.pages tree.now item self.old.uses.marks.items e.fault e.page) }
-        ensures fewer { OnOk result (count_by not self.new.uses.marks.items < count_by not self.old.uses.marks.items) }
+        ensures marks { OnOk result (Marks self.old.uses.marks.items self.new.uses.marks.items item.page) }
         ensures same { SameSource V.pages V.size V.given (S.pages source.new) (S.size source.new)
             (S.gives_pages source.new) }
     {
@@ -74,7 +74,7 @@ impl<V: Snapshot> Walker<V> {
         ensures err { V.given → IsProper item.task
             → Knows V.pages tree.now.root self.old.walk.leaf_level (item ∷ reverse self.old.walk.stack.items)
             → IfErr result (λ e. FollowRefused V.pages tree.now item self.old.uses.marks.items e.fault e.page) }
-        ensures fewer { OnOk result (count_by not self.new.uses.marks.items < count_by not self.old.uses.marks.items) }
+        ensures marks { OnOk result (Marks self.old.uses.marks.items self.new.uses.marks.items item.page) }
         ensures same { SameSource V.pages V.size V.given (S.pages source.new) (S.size source.new)
             (S.gives_pages source.new) }
     {
@@ -87,7 +87,7 @@ impl<V: Snapshot> Walker<V> {
                 self.uses.take(item)?;
                 Ok(Role::FreeLeaf)
             }
-            Task::Link { owner, needed } => {
+            Task::Link { owner, needed, .. } => {
                 self.follow_link(source, item, owner, needed)?;
                 Ok(Role::Overflow { owner })
             }
@@ -102,7 +102,7 @@ impl<V: Snapshot> Walker<V> {
     }
 
     /// Follows the places on the stack, and all that stand in the pages that they name. Tells the visitor of
-    /// each page.
+    /// each page. Refused by PointerMap where an entry doesn't say what names its page.
     pub fn walk_on<S: PageSource, T: Visitor>(
         &mut self,
         source: &mut S,
@@ -111,11 +111,11 @@ impl<V: Snapshot> Walker<V> {
     ) -> Result<(), CheckError>
         requires same { SameSource V.pages V.size V.given (S.pages source.old) (S.size source.old)
             (S.gives_pages source.old) }
-        ensures ok { V.given → (late : Bool) (visited rest : List Spot)
+        ensures ok { V.given × V.judged → (late : Bool) (visited rest : List Spot)
             → Walking V.pages late tree.now visited rest self.old.uses self.old.walk
             → OnOk result (WalksOn T.saw V.pages late tree.now visited rest self.new.uses self.new.walk visitor.old
             visitor.new) }
-        ensures err { V.given → (late : Bool) (visited rest : List Spot)
+        ensures err { V.given × V.judged → (late : Bool) (visited rest : List Spot)
             → Walking V.pages late tree.now visited rest self.old.uses self.old.walk
             → IfErr result (λ e. StandsNow V.pages e.fault e.page) }
         ensures empty { OnOk result (self.new.walk.stack.items ≡ []) }
@@ -124,6 +124,7 @@ impl<V: Snapshot> Walker<V> {
     {
         'places: while let Some(item) = self.walk.stack.pop() {
             let role = self.follow(source, tree, item)?;
+            self.maps.judge(source, item)?;
             visitor.visit(item.page, role);
         }
         Ok(())

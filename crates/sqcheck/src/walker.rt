@@ -6,6 +6,7 @@ ghost use Rattle.sqpage.specs.declared.fault.Fault.{Fault};
 ghost use Rattle.sqcheck.specs.Room.{HoldsPage};
 ghost use Rattle.sqcheck.specs.Snapshots.{SameSource};
 
+use crate::maps::Maps;
 use crate::node::{Room, Walk};
 use crate::pages::read_page;
 use crate::snapshot::Snapshot;
@@ -48,6 +49,7 @@ pub(crate) struct Walker<V: Snapshot> {
     pub room: Room,
     pub uses: Uses,
     pub walk: Walk,
+    pub maps: Maps<V>,
     ghost marks: { length uses.marks.items ≡ length V.pages },
     ghost holds: { HoldsPage reader.usable room },
 }

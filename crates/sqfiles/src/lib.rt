@@ -1,5 +1,5 @@
-//! Tests of what is said of whole files, one call at a time: the check of a database, and its view beside logs; and calls
-//! of the formats' libraries, too, whose allocations are refused.
+//! Tests of what is said of whole files, one call at a time: the check of a database, and its view beside logs; and
+//! calls of the formats' libraries, too, whose allocations are refused.
 #![tactic(auto)]
 
 #[cfg(test)]

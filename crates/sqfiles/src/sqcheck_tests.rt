@@ -1,6 +1,7 @@
 //! Worked rows.
 pub(crate) mod failing;
 mod lock_byte;
+mod pointer_maps;
 
 use sqcheck::{Report, check};
 use sqpage::{CheckError, Fault, SliceSource};

@@ -10,8 +10,8 @@ const LOCK: u32 = 16_385;
 /// So many leaves go into a trunk of such a page.
 const LEAVES: u32 = 16_382;
 
-/// A database of 16,386 pages that lies nowhere: an empty leaf on page 1, and a freelist of all others but the lock-byte
-/// page. Page 2 is its first trunk, and names this page before those from 4 on.
+/// A database of 16,386 pages that lies nowhere: an empty leaf on page 1, and a freelist of all others but the
+/// lock-byte page. Page 2 is its first trunk, and names this page before those from 4 on.
 #[derive(Drop)]
 struct FreePages {
     page_size: PageSize,

@@ -1,12 +1,12 @@
-use Rattle.std.proofs.Common.{◌≡◌, ◌∙◌, ℕ, List, length, false, refl, sym, ap, subst}
+use Rattle.std.proofs.Common.{◌≡◌, ◌∙◌, ℕ, List, length, refl, sym, ap, subst}
 use Rattle.std.proofs.lemmas.List.{with_items_is}
 use Rattle.sqval.specs.Database.{Database, page}
 use Rattle.sqval.specs.PageSize.{IsPageSize}
 use Rattle.sqpage.proofs.Sources.{least_page_size}
 use Rattle.sqcheck.specs.Heading.{HasHeaderOf}
-use Rattle.sqcheck.specs.Stands.{Stands}
+use Rattle.sqcheck.specs.Stands.{StandsWith}
 use Rattle.sqcheck.proofs.Results.{if_err}
-use Rattle.sqcheck.proofs.Ends.{no_magic, header_sound, header_stands, first_sized}
+use Rattle.sqcheck.proofs.Ends.{no_magic, header_sound, first_sized, knows_maps}
 use Rattle.sqcheck.proofs.checker.check_snapshot.Goals as goal
 
 pub returns-then-count-eq0-clause-err : goal.returns-then-count-eq0-clause-err
@@ -26,21 +26,33 @@ judge_header-requires-clause-large g c = least_page_size c.page_size-size.result
 pub returns-in-Ok-new_walker-clause-ok : goal.returns-in-Ok-new_walker-clause-ok
 returns-in-Ok-new_walker-clause-ok g c = λ given.
     let d = g.V.Snapshot.pages in
+    let both : g.V.Snapshot.given × g.V.Snapshot.judged = (given, c.requires.judged.0 given) in
     let read = c.read_page.ensures.read given in
     let first : c.deref.result.now ≡ page d 1 = c.deref.ensures.value ∙ with_items_is c.in-Ok.bytes c.read_page.new.out (c.read_page.auto.out ∙ c.deref_mut.ensures.len) ∙ read.1 in
-    let hd = subst (λ (l : List ℕ). HasHeaderOf c.in_ok-header.header c.page_size-size.result l) first c.in_ok-header.ensures.ok in
+    let hd = subst (λ (l : List ℕ). HasHeaderOf c.args.options.pointer_maps c.in_ok-header.header c.page_size-size.result l) first c.in_ok-header.ensures.ok in
     let size = c.page_size-size.ensures ∙ c.requires.same.1 in
     let long = first_sized d g.V.Snapshot.size c.count-count.result (c.count-count.ensures ∙ ap (λ (q : Database). length q) c.requires.same.0) c.if-count-eq0.false read.2 in
-    c.check_pages.ensures.ok given read.2 (record { first = hd.first_trunk; said = hd.free_pages }) (c.in-Ok-new_walker.ensures.new (long ∙ sym size) hd.plain)
-    (header_sound d c.in_ok-header.header c.page_size-size.result g.V.Snapshot.size size hd)
+    c.check_pages.ensures.ok both c.args.options.pointer_maps read.2 (record { first = hd.first_trunk; said = hd.free_pages; largest = hd.largest_root }) (c.in-Ok-new_walker.ensures.new both.1)
+    (header_sound c.args.options.pointer_maps d c.in_ok-header.header c.page_size-size.result g.V.Snapshot.size size hd)
 
 pub returns-in-Ok-new_walker-clause-err : goal.returns-in-Ok-new_walker-clause-err
 returns-in-Ok-new_walker-clause-err g c = λ given.
     let d = g.V.Snapshot.pages in
+    let both : g.V.Snapshot.given × g.V.Snapshot.judged = (given, c.requires.judged.0 given) in
     let read = c.read_page.ensures.read given in
     let first : c.deref.result.now ≡ page d 1 = c.deref.ensures.value ∙ with_items_is c.in-Ok.bytes c.read_page.new.out (c.read_page.auto.out ∙ c.deref_mut.ensures.len) ∙ read.1 in
-    let hd = subst (λ (l : List ℕ). HasHeaderOf c.in_ok-header.header c.page_size-size.result l) first c.in_ok-header.ensures.ok in
+    let hd = subst (λ (l : List ℕ). HasHeaderOf c.args.options.pointer_maps c.in_ok-header.header c.page_size-size.result l) first c.in_ok-header.ensures.ok in
     let size = c.page_size-size.ensures ∙ c.requires.same.1 in
     let long = first_sized d g.V.Snapshot.size c.count-count.result (c.count-count.ensures ∙ ap (λ (q : Database). length q) c.requires.same.0) c.if-count-eq0.false read.2 in
-    if_err _ (λ e. Stands d g.V.Snapshot.size e.fault e.page) c.check_pages.result (λ e h. h false g.V.Snapshot.size long)
-    (c.check_pages.ensures.err given read.2 (record { first = hd.first_trunk; said = hd.free_pages }) (c.in-Ok-new_walker.ensures.new (long ∙ sym size) hd.plain))
+    if_err _ (λ e. StandsWith c.args.options.pointer_maps d g.V.Snapshot.size e.fault e.page) c.check_pages.result (λ e h. h c.args.options.pointer_maps g.V.Snapshot.size long)
+    (c.check_pages.ensures.err both read.2 (record { first = hd.first_trunk; said = hd.free_pages; largest = hd.largest_root }) (c.in-Ok-new_walker.ensures.new both.1))
+
+pub new-requires-clause-known : goal.new-requires-clause-known
+new-requires-clause-known g c = λ judged.
+    let d = g.V.Snapshot.pages in
+    let read = c.read_page.ensures.read (c.requires.judged.1 judged) in
+    let first : c.deref.result.now ≡ page d 1 = c.deref.ensures.value ∙ with_items_is c.in-Ok.bytes c.read_page.new.out (c.read_page.auto.out ∙ c.deref_mut.ensures.len) ∙ read.1 in
+    let hd = subst (λ (l : List ℕ). HasHeaderOf c.args.options.pointer_maps c.in_ok-header.header c.page_size-size.result l) first c.in_ok-header.ensures.ok in
+    let size = c.page_size-size.ensures ∙ c.requires.same.1 in
+    let long = first_sized d g.V.Snapshot.size c.count-count.result (c.count-count.ensures ∙ ap (λ (q : Database). length q) c.requires.same.0) c.if-count-eq0.false read.2 in
+    knows_maps c.args.options.pointer_maps d c.in_ok-header.header c.page_size-size.result (long ∙ sym size) hd

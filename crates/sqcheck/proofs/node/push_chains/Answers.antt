@@ -1,4 +1,4 @@
-use Rattle.std.proofs.Common.{◌≡◌, ◌+◌, ◌-◌, ◌<◌, sym, subst, ap, refl, arith, ◌∙◌}
+use Rattle.std.proofs.Common.{◌≡◌, ◌+◌, ◌-◌, ◌<◌, true, sym, subst, ap, refl, arith, ◌∙◌}
 use Rattle.sqpage.specs.Page.{cell_count}
 use Rattle.sqpage.specs.Chain.{bytes_beyond}
 use Rattle.sqcheck.specs.declared.item.Item.{Item}
@@ -20,12 +20,12 @@ cells-preserved-in-Continue-1 c =
     let back : c.cells.left - 1 + 1 ≡ c.cells.left = omega arith in
     let lt : c.cells.left - 1 < cell_count c.args.page.now = omega (arith, i.within) in
     let some : 0 < bytes_beyond c.cell_with-cell.result = (needs c.cell_with-cell.result c.cell_with-cell.ensures.least).0 (omega (arith, c.links_of-needed.ensures, c.if-needed-gt0.true)) in
-    let it : Item = record { holder = c.args.number; page = c.cell_with-cell.result.overflow; task = Link c.args.number c.links_of-needed.result } in
+    let it : Item = record { holder = c.args.number; page = c.cell_with-cell.result.overflow; task = Link c.args.number c.links_of-needed.result true } in
     record {
       chains = λ tree. chain_more tree c.args.page.now (c.cells.left - 1) c.cell_with-cell.result c.args.stack.now.items c.cells.stack.items c.push.new.stack.items it (lt, c.cell_with-cell.ensures.cell) some (omega (arith, c.links_of-needed.ensures, c.if-needed-gt0.true))
-          (ap (λ n. record { holder = n; page = c.cell_with-cell.result.overflow; task = Link n c.links_of-needed.result }) c.requires.number ∙ ap (λ n. record { holder = c.args.page.now.number; page = c.cell_with-cell.result.overflow; task = Link c.args.page.now.number n }) c.links_of-needed.ensures)
+          (ap (λ n. record { holder = n; page = c.cell_with-cell.result.overflow; task = Link n c.links_of-needed.result true }) c.requires.number ∙ ap (λ n. record { holder = c.args.page.now.number; page = c.cell_with-cell.result.overflow; task = Link c.args.page.now.number n true }) c.links_of-needed.ensures)
           c.in_ok-push.ensures.ok (subst (λ n. Pushes tree (InCellFrom c.args.page.now n) c.args.stack.now.items c.cells.stack.items) (sym back) (i.chains tree));
-      leads = λ d root h. link_leads d root c.cells.stack.items c.push.new.stack.items it c.args.number c.links_of-needed.result refl c.in_ok-push.ensures.ok (i.leads d root h);
+      leads = λ d root h. link_leads d root c.cells.stack.items c.push.new.stack.items it c.args.number c.links_of-needed.result true refl c.in_ok-push.ensures.ok (i.leads d root h);
       within = omega (arith, i.within);
     }
 

@@ -1,8 +1,9 @@
-use Rattle.std.proofs.Common.{◌∙◌, ◌++◌, [], ℕ, length, sym, subst, true}
+use Rattle.std.proofs.Common.{◌≡◌, ◌∙◌, ⊎_elim, ◌++◌, [], length, sym, subst, true}
 use Rattle.sqcheck.specs.Agenda.{StandsNow}
-use Rattle.sqcheck.specs.WellFormed.{AreEachOnce, IsSetAside}
+use Rattle.sqcheck.specs.WellFormed.{IsAutoVacuum, AreEachOnce, IsSetAside}
 use Rattle.sqcheck.proofs.Results.{exits}
-use Rattle.sqcheck.proofs.Phases.{concludes, once_of, reported}
+use Rattle.sqcheck.proofs.Phases.{concludes, mapped_of, once_of, reported}
+use Rattle.sqcheck.proofs.Lists.{either}
 use Rattle.sqcheck.proofs.Tells.{visits_more, visits_of}
 use Rattle.sqcheck.proofs.walker.Walker.check_pages.Goals as goal
 
@@ -17,16 +18,19 @@ returns-in_err-judge_end-clause-err g c = λ given sized lists new.
     let w = c.in_ok-follow_first.ensures.ok given lists new in
     let z = c.in_ok-follow_others.ensures.ok given sized w.0 w.1 in
     exits (λ e. StandsNow g.V.Snapshot.pages e.fault e.page) c.in_err-judge_end.field-0.0 c.from_residual-in_err-judge_end.result c.from_residual-in_err-judge_end.ensures.1
-    (c.in_err-judge_end.ensures.err (w.0 ++ z.0) lists z.1)
+    (c.in_err-judge_end.ensures.err given (w.0 ++ z.0) lists z.1)
 
 pub returns-clause-ok : goal.returns-clause-ok
-returns-clause-ok g c = λ given sized lists new header.
+returns-clause-ok g c = λ given maps sized lists new header.
     let d = g.V.Snapshot.pages in
     let k = c.follow_others.new.self in
     let w = c.in_ok-follow_first.ensures.ok given lists new in
     let z = visits_more g.T.Visitor.saw d true [] [] w.0 k.uses k.walk c.args.visitor.now c.follow_first.new.visitor c.follow_others.new.visitor w.2 (c.in_ok-follow_others.ensures.ok given sized w.0 w.1) in
-    let end = c.in_ok-judge_end.ensures.ok in
-    let x = concludes d g.V.Snapshot.size k.uses.marks.items z.0 k.walk.rows.items k.uses.counts c.requires.same.sized sized header z.1 end.0 (end.1 ∙ lists.said) c.report.result
+    let end = c.in_ok-judge_end.ensures.taken in
+    let known = k.maps.known given.1 in
+    let used : IsAutoVacuum d → k.maps.used ≡ true = λ auto. ⊎_elim (λ yes. yes) (λ no. absurd (auto (known.plain no))) (either k.maps.used) in
+    let mapped = mapped_of d g.V.Snapshot.size k.uses.marks.items z.0 k.walk.rows.items k.uses.counts c.args.header.now.largest_root lists.largest sized z.1 (λ auto. c.in_ok-judge_end.ensures.largest (used auto)) in
+    let x = concludes maps d g.V.Snapshot.size k.uses.marks.items z.0 k.walk.rows.items k.uses.counts c.requires.same.sized sized header z.1 end.0 (end.1 ∙ lists.said) mapped c.report.result
     (reported d z.0 k.uses.counts c.report.result z.1.counted (c.report.ensures.pages ∙ z.1.agenda.sized) c.report.ensures.trees c.report.ensures.btree c.report.ensures.overflow c.report.ensures.free) in
     let v = visits_of g.T.Visitor.saw d z.0 c.args.visitor.now c.follow_others.new.visitor z.1.agenda.reached z.2 in
     (x.0, x.1, v.visits, v.told, record { once = subst (AreEachOnce (IsSetAside d g.V.Snapshot.size) (length d)) (sym v.pages) (once_of d g.V.Snapshot.size k.uses.marks.items z.0 sized z.1.agenda end.0); roles = v.roles })

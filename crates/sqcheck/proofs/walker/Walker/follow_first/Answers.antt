@@ -1,4 +1,4 @@
-use Rattle.std.proofs.Common.{ℕ, [], sym, subst, false}
+use Rattle.std.proofs.Common.{[], sym, subst, false}
 use Rattle.sqpage.specs.declared.fault.Fault.TheVariants as faults
 use Rattle.sqcheck.specs.Stands.{StandsWith}
 use Rattle.sqcheck.specs.Agenda.{StandsNow}

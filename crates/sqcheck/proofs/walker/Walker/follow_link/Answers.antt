@@ -1,4 +1,4 @@
-use Rattle.std.proofs.Common.{◌≡◌, ◌∙◌, ◌-◌, ◌≤◌, length, refl, ap, arith}
+use Rattle.std.proofs.Common.{◌≡◌, ◌∙◌, ◌-◌, ◌≤◌, length, false, refl, ap, arith}
 use Rattle.sqval.specs.Database.{Database}
 use Rattle.sqpage.specs.Freelist.{next_in}
 use Rattle.sqcheck.specs.declared.item.Task.TheVariants.{Link}
@@ -14,10 +14,10 @@ returns-then-needed-gt1-clause-ok g c = λ given. on_ok _ _ c.push.result (λ pu
     let s = c.args.self.now in
     let same = ap (λ (q : Database). length q) c.requires.same.same_pages in
     let few : c.args.needed ≤ length d = omega (arith, c.from.ensures, c.count.ensures, same) in
-    other_followed d tree c.args.item (Link c.args.owner c.args.needed) s.uses c.take.new.self s.walk (record { stack = c.push.new.stack; rows = s.walk.rows; leaf_level = s.walk.leaf_level }) c.requires.task tt
-    (link_visited d tree c.args.item _ c.args.owner c.args.needed (c.args.needed - 1) c.word_at-next.result s.uses.marks.items c.take.new.self.marks.items c.deref.result.now s.walk.stack.items c.push.new.stack.items c.requires.task c.in_ok-take.ensures.ok
+    other_followed d tree c.args.item (Link c.args.owner c.args.needed c.requires.task.0) s.uses c.take.new.self s.walk (record { stack = c.push.new.stack; rows = s.walk.rows; leaf_level = s.walk.leaf_level }) c.requires.task.1 tt
+    (link_visited d tree c.args.item _ c.args.owner c.args.needed (c.args.needed - 1) c.word_at-next.result c.requires.task.0 s.uses.marks.items c.take.new.self.marks.items c.deref.result.now s.walk.stack.items c.push.new.stack.items c.requires.task.1 c.in_ok-take.ensures.ok
     (c.deref.ensures.value ∙ (c.read.ensures.read given).1) few c.if-needed-gt1.true refl c.word_at-next.ensures refl pushed)
-    c.in_ok-take.ensures.counted refl refl (λ h. link_leads d tree.root s.walk.stack.items c.push.new.stack.items _ c.args.owner (c.args.needed - 1) refl pushed h) k) c.push.ensures.ok
+    c.in_ok-take.ensures.counted refl refl (λ h. link_leads d tree.root s.walk.stack.items c.push.new.stack.items _ c.args.owner (c.args.needed - 1) false refl pushed h) k) c.push.ensures.ok
 
 pub returns-clause-ok : goal.returns-clause-ok
 returns-clause-ok g c = λ given tree k.
@@ -27,6 +27,6 @@ returns-clause-ok g c = λ given tree k.
     let few : c.args.needed ≤ length d = omega (arith, c.from.ensures, c.count.ensures, same) in
     let last : c.args.needed ≤ 1 = omega arith in
     let ends : next_in c.deref.result.now ≡ 0 = omega (arith, c.word_at-next.ensures) in
-    other_followed d tree c.args.item (Link c.args.owner c.args.needed) s.uses c.take.new.self s.walk s.walk c.requires.task tt
-    (last_visited d tree c.args.item c.args.owner c.args.needed s.uses.marks.items c.take.new.self.marks.items c.deref.result.now s.walk.stack.items c.requires.task c.in_ok-take.ensures.ok (c.deref.ensures.value ∙ (c.read.ensures.read given).1) few last ends)
+    other_followed d tree c.args.item (Link c.args.owner c.args.needed c.requires.task.0) s.uses c.take.new.self s.walk s.walk c.requires.task.1 tt
+    (last_visited d tree c.args.item c.args.owner c.args.needed c.requires.task.0 s.uses.marks.items c.take.new.self.marks.items c.deref.result.now s.walk.stack.items c.requires.task.1 c.in_ok-take.ensures.ok (c.deref.ensures.value ∙ (c.read.ensures.read given).1) few last ends)
     c.in_ok-take.ensures.counted refl refl (λ h. h) k

@@ -1,4 +1,4 @@
-use Rattle.std.proofs.Common.{◌≡◌, ◌+◌, ◌++◌, [], ℕ, suc, drop, get_or, sym, subst, refl, true, arith, append-nil}
+use Rattle.std.proofs.Common.{◌≡◌, ◌+◌, ◌++◌, [], suc, drop, get_or, sym, subst, refl, true, arith, append-nil}
 use Rattle.std.proofs.Math.Seq.{drop-cons}
 use Rattle.std.proofs.lemmas.List.{drop_all}
 use Rattle.sqcheck.specs.declared.schema.Root.{Root}

@@ -1,0 +1,13 @@
+use Rattle.std.proofs.Common.{◌≢◌}
+use Rattle.sqpage.specs.declared.fault.Fault.TheVariants as faults
+use Rattle.sqcheck.specs.Stands.{StandsWith}
+use Rattle.sqcheck.specs.WellFormed.{WellFormedWith}
+use Rattle.sqcheck.proofs.Results.{if_err}
+use Rattle.sqcheck.proofs.Refuted.{none_stands}
+use Rattle.sqcheck.proofs.checker.visit_pages_with.Goals as goal
+
+pub returns-clause-none : goal.returns-clause-none
+returns-clause-none g c = λ gives.
+    let d = g.S.PageSource.pages c.args.source.now in
+    let size = g.S.PageSource.size c.args.source.now in
+    if_err (λ e. StandsWith c.args.options.pointer_maps d size e.fault e.page) (λ e. e.fault ≢ faults.NoMemory → ¬ WellFormedWith c.args.options.pointer_maps d size) c.check_snapshot.result (λ e h other w. none_stands c.args.options.pointer_maps d size w e.fault e.page h other) (c.check_snapshot.ensures.err gives)

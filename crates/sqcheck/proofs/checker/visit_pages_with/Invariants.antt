@@ -1,0 +1,9 @@
+use Rattle.sqcheck.proofs.checker.visit_pages_with.Given as goal
+
+abbrev pub ghosts-check_snapshot : goal.ghosts-check_snapshot
+ghosts-check_snapshot g a = record {
+  pages = g.S.PageSource.pages a.source.now;
+  size = g.S.PageSource.size a.source.now;
+  given = g.S.PageSource.gives_pages a.source.now;
+  judged = g.S.PageSource.gives_pages a.source.now;
+}

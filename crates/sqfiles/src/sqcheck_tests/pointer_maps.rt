@@ -1,0 +1,93 @@
+//! Databases of auto-vacuum.
+use super::{ONE_CELL, checked, file_of, put};
+use sqcheck::{Options, Report, check_with};
+use sqpage::{CheckError, Fault, SliceSource};
+use sqval::PageSize;
+use std::alloc::{AllocError, Global};
+use std::process::Abort;
+use std::test::Fail;
+
+/// The pointer map on page 2: a root, its two children, a chain of two pages, a trunk and its leaf.
+const MAP: [u8; 35] = [
+    1, 0, 0, 0, 0, 5, 0, 0, 0, 3, 5, 0, 0, 0, 3, 3, 0, 0, 0, 5, 4, 0, 0, 0, 6, 2, 0, 0, 0, 0, 2, 0,
+    0, 0, 0,
+];
+
+/// Nine pages: a schema's leaf that names the tree of pages 3 to 5, the last with a chain on pages 6 and 7, and a trunk
+/// on page 8 with the leaf 9.
+fn sample(alloc: Global) -> Result<Vec<u8>, AllocError> {
+    let pieces = [
+        (32, [0, 0, 0, 8, 0, 0, 0, 2].as_slice()),
+        (55, [3].as_slice()),
+        (100, ONE_CELL.as_slice()),
+        (503, [7, 1, 6, 0, 0, 0, 1, 0, 3].as_slice()),
+        (512, MAP.as_slice()),
+        (
+            1024,
+            [0x05, 0, 0, 0, 1, 1, 0xfb, 0, 0, 0, 0, 5, 1, 0xfb].as_slice(),
+        ),
+        (1531, [0, 0, 0, 4, 5].as_slice()),
+        (1536, [0x0d, 0, 0, 0, 0, 2, 0].as_slice()),
+        (2048, [0x0d, 0, 0, 0, 1, 1, 0x9d, 0, 1, 0x9d].as_slice()),
+        (2461, [0x88, 0x54, 6].as_slice()),
+        (2559, [6].as_slice()),
+        (2563, [7].as_slice()),
+        (3591, [1, 0, 0, 0, 9].as_slice()),
+    ];
+    file_of(alloc, 9, &pieces)
+}
+
+/// What a check with pointer maps answers.
+fn mapped(rt: &impl Abort, alloc: Global, file: &[u8]) -> Result<Report, CheckError> {
+    let options = Options { pointer_maps: true };
+    let size = PageSize::new(512).expect(rt, "a page size");
+    let mut source = SliceSource::new(file, size).expect(rt, "whole pages");
+    check_with(alloc, &mut source, options)
+}
+
+#[test]
+fn is_checked_where_it_is_asked(rt: HostRuntime) -> Result<(), Fail> {
+    let file = sample(rt.alloc())?;
+    let report = Report {
+        pages: 9,
+        trees: 2,
+        btree: 4,
+        overflow: 2,
+        free: 2,
+    };
+    assert_eq!(rt; mapped(&rt, rt.alloc(), &file), Ok(report));
+    let refused = CheckError {
+        page: 1,
+        fault: Fault::AutoVacuum,
+    };
+    assert_eq!(rt; checked(&rt, rt.alloc(), &file), Err(refused));
+    Ok(())
+}
+
+/// In turn: a type, a parent, a later page of a chain as its first, the largest root, a child that is the map, and
+/// incremental vacuum without auto-vacuum.
+#[test]
+fn its_faults(rt: HostRuntime) -> Result<(), Fail> {
+    let cases = [
+        (517, [1].as_slice(), 2, Fault::PointerMap),
+        (521, [4].as_slice(), 2, Fault::PointerMap),
+        (532, [3].as_slice(), 2, Fault::PointerMap),
+        (55, [4].as_slice(), 1, Fault::PointerMap),
+        (1035, [2].as_slice(), 2, Fault::PageTwice),
+        (
+            55,
+            [0, 0, 0, 0, 1, 0, 0, 0, 0, 0, 0, 0, 1].as_slice(),
+            1,
+            Fault::PointerMap,
+        ),
+    ];
+    for (at, bytes, page, fault) in cases {
+        let mut file = sample(rt.alloc())?;
+        put(&mut file, at, bytes);
+        assert_eq!(rt;
+            mapped(&rt, rt.alloc(), &file),
+            Err(CheckError { page, fault })
+        );
+    }
+    Ok(())
+}
