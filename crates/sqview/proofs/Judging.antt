@@ -1,12 +1,13 @@
 -- What is found of a view, or without one, is found of the files.
-use Rattle.std.proofs.Common.{◌≡◌, ℕ, List, refl, sym, subst, inl, inr}
+use Rattle.std.proofs.Common.{◌≡◌, ℕ, List, Bool, false, refl, sym, subst, inl, inr}
 use Rattle.std.specs.Prelude.{IfOk, IfErr, Result, Ok, Err}
+use Rattle.sqval.specs.Database.{Database}
 use Rattle.sqval.specs.Limits.{Bounds}
 use Rattle.sqview.specs.Ahead.{IsUnread}
 use Rattle.sqview.specs.At.{IsShownAtWithin, AtRefusedWithin}
 use Rattle.sqview.specs.Laid.{HoldsPart}
 use Rattle.sqview.specs.LogView.{IsShownWithin, ViewRefusedWithin, pages_of}
-use Rattle.sqview.specs.Verdicts.{IsVerdictWithin, IsVerdictAtWithin, IsVerdictOf, IsUnjudged, AreUnjudgedWithin, AreUnjudgedAtWithin, verdict_without}
+use Rattle.sqview.specs.Verdicts.{IsVerdictWithin, IsVerdictAtWithin, IsFilesVerdict, IsFilesVerdictAt, IsVerdictWith, IsUnjudged, IsUnjudgedWith, AreUnjudgedWithin, AreUnjudgedAtWithin, verdict_without}
 use Rattle.sqview.specs.declared.judge_error.JudgeError.TheVariants as refusals
 use Rattle.sqview.specs.declared.judge_error.JudgeError.{JudgeError}
 use Rattle.sqview.specs.declared.read_ahead.ReadAhead.{ReadAhead}
@@ -16,10 +17,20 @@ use Rattle.sqview.specs.declared.view_error.ViewError.{ViewError}
 use Rattle.sqview.specs.declared.view_error.ViewError.TheVariants.{TwoLogs, TooLarge, Header, Unread, NoMemory, NoSuchCommit}
 use Rattle.sqview.proofs.Ahead.{holds_nothing}
 
+-- what isn't judged where pointer maps aren't asked for
+pub plainly : (d : Database) (r : Result Verdict JudgeError) → IfErr r (IsUnjudgedWith false d) → IfErr r (IsUnjudged d)
+plainly d (Ok verdict) refused = refused
+plainly d (Err refusals.AutoVacuum) refused = refused.1
+plainly d (Err refusals.NoMemory) refused = tt
+plainly d (Err refusals.TwoLogs) refused = absurd refused
+plainly d (Err refusals.TooLarge) refused = absurd refused
+plainly d (Err refusals.Unread) refused = absurd refused
+plainly d (Err refusals.NoSuchCommit) refused = absurd refused
+
 module _ {F : Type 0} (limits : Bounds) (bytes : F → List ℕ) (db wal journal : List ℕ) (v : View F) where
-  pub of_files : (r : Result Verdict JudgeError) → IsShownWithin limits bytes db wal journal v → IfOk r (IsVerdictOf bytes v) → IfOk r (IsVerdictWithin limits db wal journal)
-  of_files (Ok verdict) shown finds = inl (v.page_size, pages_of bytes v, shown.shows, finds)
-  of_files (Err e) shown finds = finds
+  pub of_files : (maps : Bool) (r : Result Verdict JudgeError) → IsShownWithin limits bytes db wal journal v → IfOk r (IsVerdictWith maps bytes v) → IfOk r (IsFilesVerdict maps limits db wal journal)
+  of_files maps (Ok verdict) shown finds = inl (v.page_size, pages_of bytes v, shown.shows, finds)
+  of_files maps (Err e) shown finds = finds
 
   pub unjudged_files : (r : Result Verdict JudgeError) → IsShownWithin limits bytes db wal journal v → IfErr r (IsUnjudged (pages_of bytes v)) → IfErr r (AreUnjudgedWithin limits db wal journal)
   unjudged_files (Ok verdict) shown refused = refused
@@ -28,9 +39,9 @@ module _ {F : Type 0} (limits : Bounds) (bytes : F → List ℕ) (db wal journal
   unjudged_files (Err refusals.TooLarge) shown refused = absurd refused
   unjudged_files (Err refusal) shown refused = (v.page_size, pages_of bytes v, shown.shows, refused)
 
-  pub of_files_at : (m : ℕ) (r : Result Verdict JudgeError) → IsShownAtWithin limits bytes m db wal journal v → IfOk r (IsVerdictOf bytes v) → IfOk r (IsVerdictAtWithin limits m db wal journal)
-  of_files_at m (Ok verdict) shown finds = inl (v.page_size, pages_of bytes v, shown.shows, finds)
-  of_files_at m (Err e) shown finds = finds
+  pub of_files_at : (maps : Bool) (m : ℕ) (r : Result Verdict JudgeError) → IsShownAtWithin limits bytes m db wal journal v → IfOk r (IsVerdictWith maps bytes v) → IfOk r (IsFilesVerdictAt maps limits m db wal journal)
+  of_files_at maps m (Ok verdict) shown finds = inl (v.page_size, pages_of bytes v, shown.shows, finds)
+  of_files_at maps m (Err e) shown finds = finds
 
   pub unjudged_files_at : (m : ℕ) (r : Result Verdict JudgeError) → IsShownAtWithin limits bytes m db wal journal v → IfErr r (IsUnjudged (pages_of bytes v)) → IfErr r (AreUnjudgedAtWithin limits m db wal journal)
   unjudged_files_at m (Ok verdict) shown refused = refused

@@ -1,10 +1,10 @@
 -- What a check of files finds.
-use Rattle.std.specs.Prelude.{◌≡◌, ◌≢◌, ◌⊎◌, ℕ, List, Result, Ok, Err}
+use Rattle.std.specs.Prelude.{◌≡◌, ◌≢◌, ◌⊎◌, ℕ, Bool, false, List, Result, Ok, Err}
 use Rattle.sqval.specs.Bytes.{word}
 use Rattle.sqval.specs.Database.{Database, page}
 use Rattle.sqval.specs.Limits.{Bounds, usual}
-use Rattle.sqcheck.specs.WellFormed.{WellFormed, IsReport}
-use Rattle.sqcheck.specs.Stands.{Stands}
+use Rattle.sqcheck.specs.WellFormed.{WellFormedWith, IsReport}
+use Rattle.sqcheck.specs.Stands.{StandsWith}
 use Rattle.sqview.specs.At.{ViewsAt, AtRefusedWithin}
 use Rattle.sqview.specs.LogView.{Views, ViewRefusedWithin, pages_of}
 use Rattle.sqview.specs.declared.judge_error.JudgeError.{JudgeError}
@@ -15,14 +15,21 @@ use Rattle.sqview.specs.declared.verdict.Verdict.TheVariants.{Clean, Damaged}
 use Rattle.sqview.specs.declared.view_error.ViewError.{ViewError}
 use Rattle.sqview.specs.declared.view_error.ViewError.TheVariants.{TwoLogs, TooLarge, Header, Unread, NoMemory, NoSuchCommit}
 
--- of a database of pages of this size: it is well formed, and the report is its; or it isn't, and the fault stands at the page
+-- Of a database of pages of this size, with pointer maps or without: it is well formed, and the report is its; or it isn't,
+-- and the fault stands at the page.
+abbrev pub FindsWith : (maps : Bool) → Database → (size : ℕ) → Verdict → Type 0
+FindsWith maps d size (Clean report) = (w : WellFormedWith maps d size) × IsReport d w.places report
+FindsWith maps d size (Damaged e) = StandsWith maps d size e.fault e.page × ¬ WellFormedWith maps d size
+
 abbrev pub Finds : Database → (size : ℕ) → Verdict → Type 0
-Finds d size (Clean report) = (w : WellFormed d size) × IsReport d w.places report
-Finds d size (Damaged e) = Stands d size e.fault e.page × ¬ WellFormed d size
+Finds = FindsWith false
 
 -- the same of a view
+abbrev pub IsVerdictWith : {F : Type 0} → (maps : Bool) → (bytes : F → List ℕ) → View F → Verdict → Type 0
+IsVerdictWith maps bytes v verdict = FindsWith maps (pages_of bytes v) v.page_size verdict
+
 abbrev pub IsVerdictOf : {F : Type 0} → (bytes : F → List ℕ) → View F → Verdict → Type 0
-IsVerdictOf bytes v verdict = Finds (pages_of bytes v) v.page_size verdict
+IsVerdictOf bytes v verdict = IsVerdictWith false bytes v verdict
 
 -- what is found where there is no view: damage at page 1, where the header names no database
 abbrev pub verdict_without : ViewError → Result Verdict JudgeError
@@ -39,11 +46,19 @@ IsHeadlessWithin limits db wal journal (Clean report) = ⊥
 IsHeadlessWithin limits db wal journal (Damaged e) = (e.page ≡ 1) × ViewRefusedWithin limits db wal journal (Header e.fault)
 
 -- Of files within limits: the same of the database that they show, or the fault of a header that names none.
-abbrev pub IsVerdictWithin : (limits : Bounds) (db wal journal : List ℕ) → Verdict → Type 0
-IsVerdictWithin limits db wal journal verdict =
-    ((size : ℕ) × (d : Database) × Views size db wal journal d × Finds d size verdict) ⊎ IsHeadlessWithin limits db wal journal verdict
+abbrev pub IsFilesVerdict : (maps : Bool) (limits : Bounds) (db wal journal : List ℕ) → Verdict → Type 0
+IsFilesVerdict maps limits db wal journal verdict =
+    ((size : ℕ) × (d : Database) × Views size db wal journal d × FindsWith maps d size verdict) ⊎ IsHeadlessWithin limits db wal journal verdict
 
--- why a database isn't judged: its header says that it has pointer maps, or memory ran out
+abbrev pub IsVerdictWithin : (limits : Bounds) (db wal journal : List ℕ) → Verdict → Type 0
+IsVerdictWithin limits db wal journal verdict = IsFilesVerdict false limits db wal journal verdict
+
+-- why a database isn't judged: its header says that it has pointer maps, which aren't asked for, or memory ran out
+abbrev pub IsUnjudgedWith : (maps : Bool) → Database → JudgeError → Type 0
+IsUnjudgedWith maps d refusals.AutoVacuum = (maps ≡ false) × (word (page d 1) 52 ≢ 0)
+IsUnjudgedWith maps d refusals.NoMemory = Unit {0}
+IsUnjudgedWith maps d _ = ⊥
+
 abbrev pub IsUnjudged : Database → JudgeError → Type 0
 IsUnjudged d refusals.AutoVacuum = word (page d 1) 52 ≢ 0
 IsUnjudged d refusals.NoMemory = Unit {0}
@@ -63,9 +78,12 @@ IsHeadlessAtWithin limits m db wal journal (Clean report) = ⊥
 IsHeadlessAtWithin limits m db wal journal (Damaged e) = (e.page ≡ 1) × AtRefusedWithin limits m db wal journal (Header e.fault)
 
 -- Of files at commit frame m: the same of the database there, or the fault of a header that names none.
+abbrev pub IsFilesVerdictAt : (maps : Bool) (limits : Bounds) (m : ℕ) (db wal journal : List ℕ) → Verdict → Type 0
+IsFilesVerdictAt maps limits m db wal journal verdict =
+    ((size : ℕ) × (d : Database) × ViewsAt m size db wal journal d × FindsWith maps d size verdict) ⊎ IsHeadlessAtWithin limits m db wal journal verdict
+
 abbrev pub IsVerdictAtWithin : (limits : Bounds) (m : ℕ) (db wal journal : List ℕ) → Verdict → Type 0
-IsVerdictAtWithin limits m db wal journal verdict =
-    ((size : ℕ) × (d : Database) × ViewsAt m size db wal journal d × Finds d size verdict) ⊎ IsHeadlessAtWithin limits m db wal journal verdict
+IsVerdictAtWithin limits m db wal journal verdict = IsFilesVerdictAt false limits m db wal journal verdict
 
 -- why files aren't judged at commit frame m: what refuses their view there, or the database there isn't judged
 abbrev pub AreUnjudgedAtWithin : (limits : Bounds) (m : ℕ) (db wal journal : List ℕ) → JudgeError → Type 0

@@ -21,7 +21,8 @@ pub use logs::{LogInUse, hot_header, log_in_use, replay_log, scan_log, scan_log_
 pub use read_ahead::ReadAhead;
 pub use survey::survey_view;
 pub use verdict::{
-    Verdict, judge, judge_at, judge_at_within, judge_view, judge_within, without_view,
+    Verdict, judge, judge_at, judge_at_within, judge_view, judge_view_with, judge_within,
+    without_view,
 };
 pub use view::{Origin, View, front_is_shown};
 pub use view_error::ViewError;

@@ -48,7 +48,8 @@ impl<F: FileBytes + Drop> ReadAhead<F> {
 
     /// Where so many bytes from this place on stand in the piece, if they are held.
     fn place(&self, at: u64, count: usize) -> Option<usize>
-        ensures { MatchOption result (Unit {0}) (λ place. (self.now.from + place ≡ at) × (place + count ≤ self.now.held)) }
+        ensures { MatchOption result (Unit {0}) (λ place. (self.now.from + place ≡ at)
+            × (place + count ≤ self.now.held)) }
     {
         let before = at.checked_sub(self.from)?;
         if before > self.held as u64 || count as u64 > self.held as u64 - before {

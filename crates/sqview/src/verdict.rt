@@ -2,6 +2,7 @@
 ghost use Rattle.std.specs.Prelude.{◌≡◌, IfOk, IfErr};
 ghost use Rattle.sqview.specs.LogView.{pages_of};
 ghost use Rattle.sqview.specs.Verdicts.{IsVerdict, IsVerdictAt, IsVerdictOf, IsUnjudged, AreUnjudged, AreUnjudgedAt};
+ghost use Rattle.sqview.specs.Verdicts.{IsVerdictWith, IsUnjudgedWith};
 ghost use Rattle.sqview.specs.Verdicts.{IsVerdictWithin, IsVerdictAtWithin, AreUnjudgedWithin, AreUnjudgedAtWithin};
 ghost use Rattle.sqview.specs.Verdicts.{verdict_without};
 
@@ -10,7 +11,7 @@ use crate::judge_error::JudgeError;
 use crate::read_ahead::ReadAhead;
 use crate::view::View;
 use crate::view_error::ViewError;
-use sqcheck::{Report, check};
+use sqcheck::{Options, Report, check_with};
 use sqpage::{CheckError, Fault};
 use sqval::Limits;
 use std::alloc::Global;
@@ -32,7 +33,25 @@ pub fn judge_view<F: FileBytes>(alloc: Global, view: &mut View<F>) -> Result<Ver
     ensures refused { F.gives_bytes view.old.db × F.gives_bytes view.old.log
         → IfErr result (IsUnjudged (pages_of F.bytes view.old)) }
 {
-    match check(alloc, view) {
+    let plain = Options {
+        pointer_maps: false,
+    };
+    judge_view_with(alloc, view, plain)
+}
+
+/// The same with these options. Asked for pointer maps it judges a database with auto-vacuum, and its pointer maps,
+/// where `judge_view` refuses it by AutoVacuum.
+pub fn judge_view_with<F: FileBytes>(
+    alloc: Global,
+    view: &mut View<F>,
+    options: Options,
+) -> Result<Verdict, JudgeError>
+    ensures found { F.gives_bytes view.old.db × F.gives_bytes view.old.log
+        → IfOk result (IsVerdictWith options.pointer_maps F.bytes view.old) }
+    ensures refused { F.gives_bytes view.old.db × F.gives_bytes view.old.log
+        → IfErr result (IsUnjudgedWith options.pointer_maps (pages_of F.bytes view.old)) }
+{
+    match check_with(alloc, view, options) {
         Ok(report) => Ok(Verdict::Clean(report)),
         Err(error) => match error.fault {
             Fault::AutoVacuum => Err(JudgeError::AutoVacuum),

@@ -2,7 +2,7 @@
 ghost use Rattle.std.specs.Prelude.{◌≡◌, ℕ, List, [], IfOk};
 ghost use Rattle.sqwal.specs.Frames.{size_of, IsValidFrame};
 ghost use Rattle.sqwal.specs.Header.{named_size, IsHeader};
-ghost use Rattle.sqwal.specs.Took.{TookWithin};
+ghost use Rattle.sqwal.specs.Took.{Took, TookWithin};
 ghost use Rattle.sqjournal.specs.Header.{Names};
 ghost use Rattle.sqjournal.specs.Journal.{IsHot};
 ghost use Rattle.sqview.specs.LogView.{ViewAnswer, ViewAnswerWithin, ReadsFrom, IsTooLongWithin, IsAlone};
@@ -168,8 +168,26 @@ fn logged<F: FileBytes + Drop>(
     let Some(scan) = scanned(alloc, limits, &mut log)? else {
         return own(alloc, limits, db, log);
     };
+    logged_by(alloc, limits, db, log, &scan)
+}
+
+/// The view of a file beside a log of which this is the scan, where no hot journal is.
+fn logged_by<F: FileBytes + Drop>(
+    alloc: Global,
+    limits: Limits,
+    db: F,
+    log: F,
+    scan: &Scan,
+) -> Result<View<F>, ViewError>
+    ensures answer { F.gives_bytes db → TookWithin limits.frames (F.bytes log) scan.now
+        → (journal : List ℕ) → ¬ IsHot journal
+        → ViewAnswerWithin limits F.bytes (F.bytes db) (F.bytes log) journal result }
+    ensures still_gives { F.gives_bytes db → F.gives_bytes log
+        → IfOk result (λ view. F.gives_bytes view.db × F.gives_bytes view.log) }
+    ensures reads { IfOk result (λ view. (F.bytes view.db ≡ F.bytes db) × (F.bytes view.log ≡ F.bytes log)) }
+{
     match scan.header() {
-        Some(header) => committed(alloc, limits, db, log, &scan, header.page_size),
+        Some(header) => committed(alloc, limits, db, log, scan, header.page_size),
         None => own(alloc, limits, db, log),
     }
 }
@@ -253,6 +271,31 @@ impl<F: FileBytes + Drop> View<F> {
         match log_in_use(&wal, &mut journal)? {
             LogInUse::Neither => own(alloc, limits, db, wal),
             LogInUse::Wal => logged(alloc, limits, db, wal),
+            LogInUse::Journal(header) => restored(alloc, limits, db, journal, &header),
+        }
+    }
+
+    /// The same as `new` of a write-ahead log of which this is the scan. Nothing of that log is read (own).
+    pub fn new_scanned(
+        alloc: Global,
+        db: F,
+        wal: F,
+        journal: F,
+        scan: &Scan,
+    ) -> Result<View<F>, ViewError>
+        ensures answer { F.gives_bytes db × F.gives_bytes wal × F.gives_bytes journal
+            → Took (F.bytes wal) scan.now
+            → ViewAnswer F.bytes (F.bytes db) (F.bytes wal) (F.bytes journal) result }
+        ensures still_gives { F.gives_bytes db × F.gives_bytes wal × F.gives_bytes journal
+            → IfOk result (λ view. F.gives_bytes view.db × F.gives_bytes view.log) }
+        ensures reads { F.gives_bytes wal × F.gives_bytes journal → IfOk result
+            (λ view. ReadsFrom (F.bytes db) (F.bytes wal) (F.bytes journal) (F.bytes view.db) (F.bytes view.log)) }
+    {
+        let limits = Limits::USUAL;
+        let mut journal = journal;
+        match log_in_use(&wal, &mut journal)? {
+            LogInUse::Neither => own(alloc, limits, db, wal),
+            LogInUse::Wal => logged_by(alloc, limits, db, wal, scan),
             LogInUse::Journal(header) => restored(alloc, limits, db, journal, &header),
         }
     }

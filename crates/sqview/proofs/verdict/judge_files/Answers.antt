@@ -1,3 +1,4 @@
+use Rattle.std.proofs.Common.{false}
 use Rattle.sqview.proofs.Judging.{of_files, unjudged_files, found_without, unjudged_without}
 use Rattle.sqview.proofs.verdict.judge_files.Goals as goal
 
@@ -6,7 +7,7 @@ returns-in-Ok g c =
     let bytes = g.F.FileBytes.bytes in
     record {
       found = λ gives.
-          of_files c.args.limits bytes (bytes c.args.db) (bytes c.args.wal) (bytes c.args.journal) c.in-Ok.view c.judge_view.result (c.in-Ok.ensures.answer gives) (c.judge_view.ensures.found (c.in-Ok.ensures.still_gives gives));
+          of_files c.args.limits bytes (bytes c.args.db) (bytes c.args.wal) (bytes c.args.journal) c.in-Ok.view false c.judge_view.result (c.in-Ok.ensures.answer gives) (c.judge_view.ensures.found (c.in-Ok.ensures.still_gives gives));
       refused = λ gives.
           unjudged_files c.args.limits bytes (bytes c.args.db) (bytes c.args.wal) (bytes c.args.journal) c.in-Ok.view c.judge_view.result (c.in-Ok.ensures.answer gives) (c.judge_view.ensures.refused (c.in-Ok.ensures.still_gives gives));
     }

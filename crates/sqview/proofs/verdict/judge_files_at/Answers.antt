@@ -1,3 +1,4 @@
+use Rattle.std.proofs.Common.{false}
 use Rattle.sqview.proofs.Judging.{of_files_at, unjudged_files_at, found_without_at, unjudged_without_at}
 use Rattle.sqview.proofs.verdict.judge_files_at.Goals as goal
 
@@ -6,7 +7,7 @@ returns-in-Ok g c =
     let bytes = g.F.FileBytes.bytes in
     record {
       found = λ gives.
-          of_files_at c.args.limits bytes (bytes c.args.db) (bytes c.args.wal) (bytes c.args.journal) c.in-Ok.view c.args.frame c.judge_view.result (c.in-Ok.ensures.answer gives) (c.judge_view.ensures.found (c.in-Ok.ensures.still_gives gives));
+          of_files_at c.args.limits bytes (bytes c.args.db) (bytes c.args.wal) (bytes c.args.journal) c.in-Ok.view false c.args.frame c.judge_view.result (c.in-Ok.ensures.answer gives) (c.judge_view.ensures.found (c.in-Ok.ensures.still_gives gives));
       refused = λ gives.
           unjudged_files_at c.args.limits bytes (bytes c.args.db) (bytes c.args.wal) (bytes c.args.journal) c.in-Ok.view c.args.frame c.judge_view.result (c.in-Ok.ensures.answer gives) (c.judge_view.ensures.refused (c.in-Ok.ensures.still_gives gives));
     }

@@ -1,4 +1,5 @@
+use Rattle.sqview.proofs.Judging.{plainly}
 use Rattle.sqview.proofs.verdict.judge_view.Goals as goal
 
-pub returns-in-Ok-clause-found : goal.returns-in-Ok-clause-found
-returns-in-Ok-clause-found g c = λ gives. c.in-Ok.ensures.ok gives
+pub returns-clause-refused : goal.returns-clause-refused
+returns-clause-refused g c = λ gives. plainly _ c.judge_view_with.result (c.judge_view_with.ensures.refused gives)

@@ -1,5 +1,4 @@
-use Rattle.std.proofs.Common.{ℕ, List, subst, arith}
-use Rattle.sqwal.specs.Header.{IsHeader}
+use Rattle.std.proofs.Common.{ℕ, List, subst}
 use Rattle.sqwal.specs.Took.{TookWithin}
 use Rattle.sqview.specs.LogView.{ViewAnswerWithin}
 use Rattle.sqview.proofs.Opening.{answers, scan_refused, alone_bare, scanned_some, scanned_none}
@@ -18,20 +17,10 @@ returns-in_default-clause-answer g c = λ gives gives_wal journal cold.
     let alone = alone_bare c.args.limits (g.F.FileBytes.bytes c.args.db) w journal cold (scanned_none c.args.limits w c.in_ok-scan.field-0 c.in_default.is (c.in_ok-scan.ensures.answer gives_wal)) in
     c.own.ensures.answer gives w journal alone.0 alone.1
 
-pub returns-in-Some-header-clause-answer : goal.returns-in-Some-header-clause-answer
-returns-in-Some-header-clause-answer g c = λ gives gives_wal journal cold.
+pub returns-clause-answer : goal.returns-clause-answer
+returns-clause-answer g c = λ gives gives_wal journal cold.
     let bytes = g.F.FileBytes.bytes in
     let w = bytes c.args.wal in
     let took = scanned_some c.args.limits w c.in_ok-scan.field-0 c.in-Some.scan c.in-Some.is (c.in_ok-scan.ensures.answer gives_wal) in
-    let header = (c.in-Some-header.ensures _ w took).1.valid in
-    let same = c.scanned.ensures.same_bytes in
-    let size = c.in-Some-header.header.page_size in
-    subst (λ (l : List ℕ). TookWithin c.args.limits.frames l c.in-Some.scan → IsHeader size l → ViewAnswerWithin c.args.limits bytes (bytes c.args.db) l journal c.committed.result) same
-    (λ t h. c.committed.ensures.answer gives t h journal cold) took header
-
-pub returns-clause-answer : goal.returns-clause-answer
-returns-clause-answer g c = λ gives gives_wal journal cold.
-    let w = g.F.FileBytes.bytes c.args.wal in
-    let took = scanned_some c.args.limits w c.in_ok-scan.field-0 c.in-Some.scan c.in-Some.is (c.in_ok-scan.ensures.answer gives_wal) in
-    let alone = alone_bare c.args.limits (g.F.FileBytes.bytes c.args.db) w journal cold (λ header. omega (arith, header.whole, c.in-None.ensures _ w took)) in
-    c.own-in-None.ensures.answer gives w journal alone.0 alone.1
+    subst (λ (l : List ℕ). TookWithin c.args.limits.frames l c.in-Some.scan → ViewAnswerWithin c.args.limits bytes (bytes c.args.db) l journal c.logged_by.result) c.scanned.ensures.same_bytes
+    (λ t. c.logged_by.ensures.answer gives t journal cold) took
