@@ -520,8 +520,8 @@ fn first_byte(roll: &mut Roll<ModelDisk>, page: u32) -> Result<u8, RollError> {
 #[test]
 fn a_header_in_part(rt: HostRuntime) -> Result<(), Fail> {
     let alloc = rt.alloc();
-    let log =
-        b"\xd9\xd5\x05\xf9\x20\xa1\x63\xd7\x00\x00\x00\x00\x00\x00\x00\x00\x00\x00\x00\x01\x00\x00\x02\x00\x00\x00\x02\x00";
+    let log = b"\xd9\xd5\x05\xf9\x20\xa1\x63\xd7\x00\x00\x00\x00\x00\x00\
+          \x00\x00\x00\x00\x00\x01\x00\x00\x02\x00\x00\x00\x02\x00";
     let mut disk = ModelDisk::new(alloc, 512, filled(alloc, 1536, b'A')?)?;
     disk.write_at(File::Log, 0, log)?;
     disk.sync(File::Log)?;

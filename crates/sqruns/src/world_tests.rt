@@ -480,8 +480,8 @@ fn readers_are_forgotten(rt: HostRuntime) -> Result<(), Fail> {
             (Ask::Read(2, 1), Told::Page(b'B')),
         ],
     )?;
-    let log =
-        b"\x37\x7f\x06\x83\x00\x2d\xe2\x18\x00\x00\x02\x00\x00\x00\x00\x00\x00\x00\x00\x01\x00\x00\x00\x02\x16\x04\xca\xd8\xbc\xdd\xa4\x93";
+    let log = b"\x37\x7f\x06\x83\x00\x2d\xe2\x18\x00\x00\x02\x00\x00\x00\x00\x00\
+          \x00\x00\x00\x01\x00\x00\x00\x02\x16\x04\xca\xd8\xbc\xdd\xa4\x93";
     let found = run.found.get(1).map(|found| found.log.as_slice());
     assert_eq!(rt; found, Some(log.as_slice()));
     assert_eq!(rt; (run.found.len(), run.crashed.len()), (3, 0));

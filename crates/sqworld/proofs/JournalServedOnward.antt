@@ -1,5 +1,5 @@
 -- A world over a rollback journal of served events answers one more.
-use Rattle.std.proofs.Common.{◌≡◌, ℕ, List, [], ◌∷◌, ◌++◌, Option, Some, None, refl, sym, ◌∙◌, ap, subst, length, take, get_or, ◌<◌, ◌≤◌, ◌+◌, add-one}
+use Rattle.std.proofs.Common.{◌≡◌, ℕ, List, [], ◌∷◌, ◌++◌, Option, Some, None, sym, ◌∙◌, ap, subst, length, take, get_or, ◌<◌, ◌≤◌, ◌+◌, add-one}
 use Rattle.sqworld.specs.JournalWorlds.{Goes, AnswersOn, count_of}
 use Rattle.sqworld.specs.JournalStepping.{ServedOn, LifeOn, HasServed, IsRunOf, ServesNext}
 use Rattle.sqworld.specs.declared.base.Base.{Base}

@@ -20,14 +20,14 @@ use Rattle.rollcore.specs.declared.error.RollError.{RollError}
 use Rattle.rollcore.specs.declared.roll.Roll.{Roll}
 use Rattle.rollcore.specs.declared.state.Core.{Core}
 use Rattle.sqworld.specs.Run.{numbered, answer_of, files_of}
-use Rattle.sqworld.specs.Engines.{SaysLeft, IsLeftBy, chosen, IsAlone}
+use Rattle.sqworld.specs.Engines.{SaysLeft, IsLeftBy, IsLeftAt, chosen, IsAlone}
 use Rattle.sqworld.specs.JournalRun.{act_of, is_opening, is_crash}
 use Rattle.sqworld.specs.JournalEngines.{IsSetTo, IsCalm, Happens, Rests, OnlyCalls, ServesTo, Serves, RollServes, FitsEngine, model_of, disk_of, EngineServes, closed_answer, Answers}
 use Rattle.sqworld.specs.declared.engine.Given.{Given}
 use Rattle.sqworld.specs.declared.journal_engine.JournalEngine.{JournalEngine}
 use Rattle.sqworld.specs.declared.journal_engine.JournalEngine.TheVariants.{Closed, Open}
 use Rattle.sqworld.specs.declared.journal_event.JEvent.{JEvent}
-use Rattle.sqworld.specs.declared.journal_event.JEvent.TheVariants.{Open as Opening, Commit, Read, StopAfter, StopAtSync, Fail, Crash}
+use Rattle.sqworld.specs.declared.journal_event.JEvent.TheVariants.{Open as Opening, Commit, Read, StopAfter, StopAtSync, Fail, Crash, CrashAt}
 use Rattle.sqworld.specs.declared.reply.Reply.{Reply}
 use Rattle.sqworld.specs.declared.reply.Reply.TheVariants.{Done as ReplyDone}
 use Rattle.sqworld.specs.declared.reply.Found.{Found}
@@ -64,9 +64,9 @@ opening_rests : (old new : JournalEngine) → Rests Opening old new
 opening_rests (Closed disk) new = λ o k. absurd (cc o)
 opening_rests (Open roll) new = tt
 
-crash_rests : (choice : Choice) (old new : JournalEngine) → Rests (Crash choice) old new
-crash_rests choice (Closed disk) new = λ o k. absurd (cc k)
-crash_rests choice (Open roll) new = tt
+crash_rests : (event : JEvent) (old new : JournalEngine) → is_crash event ≡ true → Rests event old new
+crash_rests event (Closed disk) new is = λ o k. absurd (cc (is, k))
+crash_rests event (Open roll) new is = tt
 
 pub closed_rests : {E : Type 0} (r : Result Reply E) (event : JEvent) (old new : ModelDisk) → OnOk r (IsCalm event old new) → OnOk r (Rests event (Closed old) (Closed new))
 closed_rests (Err e) event old new calm = tt
@@ -117,46 +117,74 @@ open_answers page_size tears old new reply found s same files serves = record {
 
 -- ---- Crashes.
 
-permitted : (tears : Bool) (s : DiskState) (log : List ℕ) (crashed : Option CrashedLog) (choice : Choice) → s.tears ≡ tears → SaysLeft tears crashed (record { log = log; kept = s.kept; handed = s.handed })
-    → Permits (act_of (Crash choice) None crashed) → s.tears ≡ true → AreWhole s.kept s.handed log
-permitted true s log (Some crashed) choice e says may torn = subst (λ (c : Crashed). AreWhole c.kept c.handed c.log) says may
-permitted true s log None choice e says may torn = absurd says
-permitted false s log crashed choice e says may torn = absurd (cc (e, torn))
+permitted : (tears : Bool) (s : DiskState) (log : List ℕ) (crashed : Option CrashedLog) (event : JEvent) → s.tears ≡ tears → SaysLeft tears crashed (record { log = log; kept = s.kept; handed = s.handed })
+    → is_crash event ≡ true → Permits (act_of event None crashed) → s.tears ≡ true → AreWhole s.kept s.handed log
+permitted true s log (Some crashed) (Crash choice) e says is may torn = subst (λ (c : Crashed). AreWhole c.kept c.handed c.log) says may
+permitted true s log (Some crashed) (CrashAt number) e says is may torn = subst (λ (c : Crashed). AreWhole c.kept c.handed c.log) says may
+permitted true s log None event e says is may torn = absurd says
+permitted false s log crashed event e says is may torn = absurd (cc (e, torn))
+permitted true s log (Some crashed) event e says is may torn = absurd (cc is)
 
-crash_row : (s : State) (choice : Choice) (crashed : Option CrashedLog) (n m : ℕ) → Step s (act_of (Crash choice) None crashed) Done n m (closed s)
-crash_row s choice (Some crashed) n m = refl
-crash_row s choice None n m = refl
+crash_row : (s : State) (event : JEvent) (crashed : Option CrashedLog) (n m : ℕ) → is_crash event ≡ true → Step s (act_of event None crashed) Done n m (closed s)
+crash_row s (Crash choice) (Some crashed) n m is = refl
+crash_row s (Crash choice) None n m is = refl
+crash_row s (CrashAt number) (Some crashed) n m is = refl
+crash_row s (CrashAt number) None n m is = refl
+crash_row s event crashed n m is = absurd (cc is)
 
-crash_only : (size sector : ℕ) (choice : Choice) (crashed : Option CrashedLog) (s t : DiskState) → OnlyCalls size sector (act_of (Crash choice) None crashed) s t
-crash_only size sector choice (Some crashed) s t = tt
-crash_only size sector choice None s t = tt
+crash_only : (size sector : ℕ) (event : JEvent) (crashed : Option CrashedLog) (s t : DiskState) → is_crash event ≡ true → OnlyCalls size sector (act_of event None crashed) s t
+crash_only size sector (Crash choice) (Some crashed) s t is = tt
+crash_only size sector (Crash choice) None s t is = tt
+crash_only size sector (CrashAt number) (Some crashed) s t is = tt
+crash_only size sector (CrashAt number) None s t is = tt
+crash_only size sector Opening crashed s t is = absurd (cc is)
+crash_only size sector (Commit pages n nonces) crashed s t is = absurd (cc is)
+crash_only size sector (Read page) crashed s t is = absurd (cc is)
+crash_only size sector (StopAfter calls) crashed s t is = absurd (cc is)
+crash_only size sector (StopAtSync syncs) crashed s t is = absurd (cc is)
+crash_only size sector (Fail call part) crashed s t is = absurd (cc is)
 
-pub crash_answers : (page_size : ℕ) (tears : Bool) (choice : Choice) (old : JournalEngine) (disk : ModelDisk) (crashed : Option CrashedLog) (s : DiskState) → s ≡ disk_of old → IsLeftBy tears choice crashed s (state_of disk) → disk.stops ≡ no_stops
-    → Answers page_size tears (Crash choice) old (record { reply = ReplyDone; found = None; crashed = crashed }) (Closed disk)
-crash_answers page_size tears choice old disk crashed s same left cleared = record {
-  found = refl;
+not_opening : (event : JEvent) → is_crash event ≡ true → false ≡ is_opening event
+not_opening Opening is = absurd (cc is)
+not_opening event is = refl
+
+crashed_answers : (page_size : ℕ) (tears : Bool) (event : JEvent) (choice : Choice) (old : JournalEngine) (disk : ModelDisk) (crashed : Option CrashedLog) (s : DiskState) → is_crash event ≡ true → s ≡ disk_of old
+    → IsLeftBy tears choice crashed s (state_of disk) → Happens tears event crashed (model_of old) disk
+    → Answers page_size tears event old (record { reply = ReplyDone; found = None; crashed = crashed }) (Closed disk)
+crashed_answers page_size tears event choice old disk crashed s is same left happens = record {
+  found = not_opening event is;
   present = tt;
-  crashed = left.some ∙ and_is tears true refl;
-  happens = (subst (λ t. IsLeftBy tears choice crashed t (state_of disk)) same left, cleared);
-  rests = crash_rests choice old (Closed disk);
+  crashed = left.some ∙ and_is tears (is_crash event) is;
+  happens = happens;
+  rests = crash_rests event old (Closed disk) is;
   serves = λ torn past size fits may.
       let e : s.tears ≡ tears = ap (λ (t : DiskState). t.tears) same ∙ torn in
       let fit : FitsDisk past s = subst (λ t. FitsDisk past t) (sym same) (engine_disk past old fits) in
       let c = left.crash in
-      subst (λ t. ServesTo past (act_of (Crash choice) None crashed) Done (λ next. FitsEngine next (Closed disk)) t (state_of disk)) same (record {
+      subst (λ t. ServesTo past (act_of event None crashed) Done (λ next. FitsEngine next (Closed disk)) t (state_of disk)) same (record {
         next = closed past;
         refused = let r = c.refused in omega (arith, r);
         told = untold s.refused (state_of disk).refused c.refused;
-        row = crash_row past choice crashed s.refused (state_of disk).refused;
+        row = crash_row past event crashed s.refused (state_of disk).refused is;
         fits = record {
-          disk = fits_crash past (chosen choice.db Db s) (chosen choice.log Log s) s (state_of disk) c (permitted tears s (chosen choice.log Log s) crashed choice e (left.says e) may) fit;
+          disk = fits_crash past (chosen choice.db Db s) (chosen choice.log Log s) s (state_of disk) c (permitted tears s (chosen choice.log Log s) crashed event e (left.says e) is may) fit;
           is_closed = refl;
         };
         sector = c.sector;
         tears = c.tears;
-        calls = crash_only past.page_size s.sector choice crashed s (state_of disk);
+        calls = crash_only past.page_size s.sector event crashed s (state_of disk) is;
       });
 }
+
+pub crash_answers : (page_size : ℕ) (tears : Bool) (choice : Choice) (old : JournalEngine) (disk : ModelDisk) (crashed : Option CrashedLog) (s : DiskState) → s ≡ disk_of old → IsLeftBy tears choice crashed s (state_of disk) → disk.stops ≡ no_stops
+    → Answers page_size tears (Crash choice) old (record { reply = ReplyDone; found = None; crashed = crashed }) (Closed disk)
+crash_answers page_size tears choice old disk crashed s same left cleared =
+    crashed_answers page_size tears (Crash choice) choice old disk crashed s refl same left (subst (λ t. IsLeftBy tears choice crashed t (state_of disk)) same left, cleared)
+
+pub crash_at_answers : (page_size : ℕ) (tears : Bool) (number : ℕ) (old : JournalEngine) (disk : ModelDisk) (crashed : Option CrashedLog) (s : DiskState) → s ≡ disk_of old → IsLeftAt tears number crashed s (state_of disk) → disk.stops ≡ no_stops
+    → Answers page_size tears (CrashAt number) old (record { reply = ReplyDone; found = None; crashed = crashed }) (Closed disk)
+crash_at_answers page_size tears number old disk crashed s same left cleared =
+    crashed_answers page_size tears (CrashAt number) left.choice old disk crashed s refl same left.left_by (subst (λ t. IsLeftAt tears number crashed t (state_of disk)) same left, cleared)
 
 -- ---- Without an engine.
 
@@ -166,6 +194,7 @@ refused_row r memory failed s n m e = subst (λ x. Refuses x memory failed n m s
 closed_row : (s : State) (event : JEvent) (n m : ℕ) → s.is_open ≡ false → is_opening event ≡ false → is_crash event ≡ false → Step s (act_of event None None) (closed_answer event) n m s
 closed_row s Opening n m is o k = absurd (cc o)
 closed_row s (Crash choice) n m is o k = absurd (cc k)
+closed_row s (CrashAt number) n m is o k = absurd (cc k)
 closed_row s (Commit pages size nonces) n m is o k = refused_row (commit_refusal s (numbered pages.items) size nonces.items) true _ s n m
     (ap (λ b. cond b (refusal_of (length (newest s)) s.page_size (numbered pages.items) size (length nonces.items)) (Some 1)) is)
 closed_row s (Read page) n m is o k = refused_row (read_refusal s page) false _ s n m (ap (λ b. first_true ((not b, 1) ∷ (page == 0, 4) ∷ (nat_lt (length (newest s)) page, 5) ∷ [])) is)
@@ -176,6 +205,7 @@ closed_row s (Fail call part) n m is o k = refl
 closed_files : (event : JEvent) (old new : ModelDisk) → IsSetTo event old new → IsCalm event old new → SameFiles (state_of old) (state_of new)
 closed_files Opening old new set calm = same_model old new calm
 closed_files (Crash choice) old new set calm = same_model old new calm
+closed_files (CrashAt number) old new set calm = same_model old new calm
 closed_files (Commit pages size nonces) old new set calm = same_model old new calm
 closed_files (Read page) old new set calm = same_model old new calm
 closed_files (StopAfter calls) old new set calm = stopped_after old new calls set
@@ -185,6 +215,7 @@ closed_files (Fail call part) old new set calm = failing old new call part set
 closed_count : (event : JEvent) (old new : ModelDisk) → IsSetTo event old new → IsCalm event old new → (state_of new).refused ≡ (state_of old).refused
 closed_count Opening old new set calm = same_count old new calm
 closed_count (Crash choice) old new set calm = same_count old new calm
+closed_count (CrashAt number) old new set calm = same_count old new calm
 closed_count (Commit pages size nonces) old new set calm = same_count old new calm
 closed_count (Read page) old new set calm = same_count old new calm
 closed_count (StopAfter calls) old new set calm = stopped_after_count old new calls set
@@ -194,6 +225,7 @@ closed_count (Fail call part) old new set calm = failing_count old new call part
 closed_only : (size sector : ℕ) (event : JEvent) (old new : ModelDisk) → IsCalm event old new → OnlyCalls size sector (act_of event None None) (state_of old) (state_of new)
 closed_only size sector Opening old new calm = tt
 closed_only size sector (Crash choice) old new calm = tt
+closed_only size sector (CrashAt number) old new calm = tt
 closed_only size sector (Commit pages n nonces) old new calm = record { states = []; each = ap state_of calm }
 closed_only size sector (Read page) old new calm = inl (ap state_of calm)
 closed_only size sector (StopAfter calls) old new calm = tt
@@ -226,6 +258,7 @@ guarded (Ok reply) page_size old new event act e h = λ o k. subst (λ a. RollSe
 event_files : (event : JEvent) (old new : ModelDisk) → is_opening event ≡ false → act_of event None None ≡ Sets → IsSetTo event old new → SameFiles (state_of old) (state_of new)
 event_files Opening old new o is set = absurd (cc o)
 event_files (Crash choice) old new o is set = absurd (cc is)
+event_files (CrashAt number) old new o is set = absurd (cc is)
 event_files (Commit pages size nonces) old new o is set = absurd (cc is)
 event_files (Read page) old new o is set = absurd (cc is)
 event_files (StopAfter calls) old new o is set = stopped_after old new calls set
@@ -235,6 +268,7 @@ event_files (Fail call part) old new o is set = failing old new call part set
 event_count : (event : JEvent) (old new : ModelDisk) → is_opening event ≡ false → act_of event None None ≡ Sets → IsSetTo event old new → (state_of new).refused ≡ (state_of old).refused
 event_count Opening old new o is set = absurd (cc o)
 event_count (Crash choice) old new o is set = absurd (cc is)
+event_count (CrashAt number) old new o is set = absurd (cc is)
 event_count (Commit pages size nonces) old new o is set = absurd (cc is)
 event_count (Read page) old new o is set = absurd (cc is)
 event_count (StopAfter calls) old new o is set = stopped_after_count old new calls set
@@ -261,6 +295,7 @@ pub others_set : (event : JEvent) → ((pages : Vec (ℕ × Vec ℕ Global) Glob
     → is_opening event ≡ false → is_crash event ≡ false → act_of event None None ≡ Sets
 others_set Opening a b o k = absurd (cc o)
 others_set (Crash choice) a b o k = absurd (cc k)
+others_set (CrashAt number) a b o k = absurd (cc k)
 others_set (Commit pages size nonces) a b o k = absurd (a pages size nonces refl)
 others_set (Read page) a b o k = absurd (b page refl)
 others_set (StopAfter calls) a b o k = refl
@@ -275,6 +310,7 @@ open_serves (Ok reply) page_size event old new h = h
 
 set_happens : (tears : Bool) (event : JEvent) (old new : ModelDisk) → is_crash event ≡ false → IsSetTo event old new → Happens tears event None old new
 set_happens tears (Crash choice) old new k set = absurd (cc k)
+set_happens tears (CrashAt number) old new k set = absurd (cc k)
 set_happens tears event old new k set = set
 
 no_crashed : (tears : Bool) (event : JEvent) → is_crash event ≡ false → false ≡ (tears && is_crash event)
@@ -302,6 +338,7 @@ pub not_open : (event : JEvent) → (event ≡ Opening → ⊥) → is_opening e
 not_open Opening h = absurd (h refl)
 not_open event h = refl
 
-pub not_crash : (event : JEvent) → ((choice : Choice) → event ≡ Crash choice → ⊥) → is_crash event ≡ false
-not_crash (Crash choice) h = absurd (h choice refl)
-not_crash event h = refl
+pub not_crash : (event : JEvent) → ((choice : Choice) → event ≡ Crash choice → ⊥) → ((number : ℕ) → event ≡ CrashAt number → ⊥) → is_crash event ≡ false
+not_crash (Crash choice) h g = absurd (h choice refl)
+not_crash (CrashAt number) h g = absurd (g number refl)
+not_crash event h g = refl

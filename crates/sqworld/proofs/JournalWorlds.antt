@@ -10,7 +10,7 @@ use Rattle.sqworld.specs.Pages.{pages_of}
 use Rattle.sqworld.specs.Worlds.{BeginsOn}
 use Rattle.sqworld.specs.JournalRun.{moment, moments, moments_of, is_crash, start_of}
 use Rattle.sqworld.specs.JournalEngines.{FitsEngine, disk_of}
-use Rattle.sqworld.specs.JournalWorlds.{Goes, Goings, Served, AnswersOn, count_of, IsLifeOf, HasLife}
+use Rattle.sqworld.specs.JournalWorlds.{Goes, Goings, AnswersOn, count_of, HasLife}
 use Rattle.sqworld.specs.declared.base.Base.{Base}
 use Rattle.sqworld.specs.declared.journal_engine.JournalEngine.{JournalEngine}
 use Rattle.sqworld.specs.declared.journal_engine.JournalEngine.TheVariants.{Closed}

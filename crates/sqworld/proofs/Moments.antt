@@ -7,7 +7,7 @@ use Rattle.sqworld.specs.Worlds.{list_of, IsNoted}
 use Rattle.sqworld.specs.declared.engine.Given.{Given}
 use Rattle.sqworld.specs.declared.reply.Run.{Run}
 use Rattle.sqworld.specs.declared.event.Event.{Event}
-use Rattle.sqworld.specs.declared.event.Event.TheVariants.{Open, Crash}
+use Rattle.sqworld.specs.declared.event.Event.TheVariants.{Open, Crash, CrashAt}
 use Rattle.sqworld.specs.declared.reply.Reply.{Reply}
 use Rattle.sqworld.specs.declared.reply.Found.{Found}
 use Rattle.sqworld.specs.declared.reply.Crashed.{Crashed as CrashedLog}
@@ -18,8 +18,11 @@ pub one_moment : (tears : Bool) (event : Event) (reply : Reply) (n : ℕ) (found
 one_moment tears (Open salts) reply n None crashed f c = absurd (cc f)
 one_moment tears (Open salts) reply n (Some found) crashed f c = refl
 one_moment tears (Crash choice) reply n None None f c = refl
+one_moment tears (CrashAt number) reply n None None f c = refl
 one_moment tears (Crash choice) reply n None (Some left) f c = refl
+one_moment tears (CrashAt number) reply n None (Some left) f c = refl
 one_moment tears (Crash choice) reply n (Some found) crashed f c = absurd (cc f)
+one_moment tears (CrashAt number) reply n (Some found) crashed f c = absurd (cc f)
 one_moment tears event reply n None crashed f c = refl
 one_moment tears event reply n (Some found) crashed f c = absurd (cc f)
 
@@ -49,6 +52,8 @@ untorn_more (Open salts ∷ es) (y ∷ rs) (n ∷ cs) (f ∷ fs) e r c gs h i j 
     let o = openings (Open salts) es in ap (λ ms. moment (Open salts) (Some f) None y n ∷ ms) (untorn_more es rs cs fs e r c gs (omega arith) (omega arith) (omega (arith, o)))
 untorn_more (Crash choice ∷ es) (y ∷ rs) (n ∷ cs) fs e r c gs h i j =
     let o = openings (Crash choice) es in ap (λ ms. moment (Crash choice) None None y n ∷ ms) (untorn_more es rs cs fs e r c gs (omega arith) (omega arith) (omega (arith, o)))
+untorn_more (CrashAt number ∷ es) (y ∷ rs) (n ∷ cs) fs e r c gs h i j =
+    let o = openings (CrashAt number) es in ap (λ ms. moment (CrashAt number) None None y n ∷ ms) (untorn_more es rs cs fs e r c gs (omega arith) (omega arith) (omega (arith, o)))
 untorn_more (x ∷ es) (y ∷ rs) (n ∷ cs) fs e r c gs h i j =
     let o = openings x es in ap (λ ms. moment x None None y n ∷ ms) (untorn_more es rs cs fs e r c gs (omega arith) (omega arith) (omega (arith, o)))
 
@@ -67,9 +72,13 @@ torn_more (Open salts ∷ es) (y ∷ rs) (n ∷ cs) (f ∷ fs) ks e r c gs ls h 
     let o = openings (Open salts) es in let p = crashes (Open salts) es in
     ap (λ ms. moment (Open salts) (Some f) None y n ∷ ms) (torn_more es rs cs fs ks e r c gs ls (omega arith) (omega arith) (omega (arith, o)) (omega (arith, p)))
 torn_more (Crash choice ∷ es) (y ∷ rs) (n ∷ cs) fs [] e r c gs ls h i j k = let p = crashes (Crash choice) es in absurd (omega (arith, p))
+torn_more (CrashAt number ∷ es) (y ∷ rs) (n ∷ cs) fs [] e r c gs ls h i j k = let p = crashes (CrashAt number) es in absurd (omega (arith, p))
 torn_more (Crash choice ∷ es) (y ∷ rs) (n ∷ cs) fs (l ∷ ks) e r c gs ls h i j k =
     let o = openings (Crash choice) es in let p = crashes (Crash choice) es in
     ap (λ ms. moment (Crash choice) None (Some l) y n ∷ ms) (torn_more es rs cs fs ks e r c gs ls (omega arith) (omega arith) (omega (arith, o)) (omega (arith, p)))
+torn_more (CrashAt number ∷ es) (y ∷ rs) (n ∷ cs) fs (l ∷ ks) e r c gs ls h i j k =
+    let o = openings (CrashAt number) es in let p = crashes (CrashAt number) es in
+    ap (λ ms. moment (CrashAt number) None (Some l) y n ∷ ms) (torn_more es rs cs fs ks e r c gs ls (omega arith) (omega arith) (omega (arith, o)) (omega (arith, p)))
 torn_more (x ∷ es) (y ∷ rs) (n ∷ cs) fs ks e r c gs ls h i j k =
     let o = openings x es in let p = crashes x es in
     ap (λ ms. moment x None None y n ∷ ms) (torn_more es rs cs fs ks e r c gs ls (omega arith) (omega arith) (omega (arith, o)) (omega (arith, p)))

@@ -23,12 +23,12 @@ use Rattle.walcore.specs.declared.reader.Reader.{Reader}
 use Rattle.walcore.specs.declared.wal.Wal.{Wal}
 use Rattle.sqworld.specs.Run.{numbered, act_of, answer_of, files_of, is_opening, is_crash}
 use Rattle.sqworld.specs.Sessions.{FitsSession, OnlyCalls, Serves, ServesTo, SessionServes}
-use Rattle.sqworld.specs.Engines.{SaysLeft, IsLeftBy, chosen, IsSetTo, IsCalm, Happens, Rests, FitsEngine, model_of, disk_of, begun_of, EngineServes, closed_answer, Answers, IsAlone}
+use Rattle.sqworld.specs.Engines.{SaysLeft, IsLeftBy, IsLeftAt, chosen, IsSetTo, IsCalm, Happens, Rests, FitsEngine, model_of, disk_of, begun_of, EngineServes, closed_answer, Answers, IsAlone}
 use Rattle.sqworld.specs.declared.engine.Engine.{Engine}
 use Rattle.sqworld.specs.declared.engine.Engine.TheVariants.{Closed, Open}
 use Rattle.sqworld.specs.declared.engine.Given.{Given}
 use Rattle.sqworld.specs.declared.event.Event.{Event}
-use Rattle.sqworld.specs.declared.event.Event.TheVariants.{Open as OpenEvent, Commit, Sync, Checkpoint, Restart, Begin, Read, End, StopAfter, StopAtSync, Fail, Crash}
+use Rattle.sqworld.specs.declared.event.Event.TheVariants.{Open as OpenEvent, Commit, Sync, Checkpoint, Restart, Begin, Read, End, StopAfter, StopAtSync, Fail, Crash, CrashAt}
 use Rattle.sqworld.specs.declared.reply.Reply.{Reply}
 use Rattle.sqworld.specs.declared.reply.Reply.TheVariants.{Done as ReplyDone}
 use Rattle.sqworld.specs.declared.reply.Found.{Found}
@@ -158,6 +158,7 @@ open_answers page_size tears event old new salts reply found s is same files ser
 permitted : (tears : Bool) (s : DiskState) (log : List ℕ) (crashed : Option CrashedLog) (made : Made) → s.tears ≡ tears → SaysLeft tears crashed (record { log = log; kept = s.kept; handed = s.handed })
     → (choice : Event) → is_crash choice ≡ true → Permits made (act_of choice None crashed) Done → s.tears ≡ true → AreWhole s.kept s.handed log
 permitted true s log (Some crashed) made e says (Crash choice) is may torn = subst (λ (c : Crashed). AreWhole c.kept c.handed c.log) says may
+permitted true s log (Some crashed) made e says (CrashAt number) is may torn = subst (λ (c : Crashed). AreWhole c.kept c.handed c.log) says may
 permitted true s log None made e says choice is may torn = absurd says
 permitted false s log crashed made e says choice is may torn = absurd (cc (e, torn))
 permitted true s log (Some crashed) made e says event is may torn = absurd (cc is)
@@ -168,12 +169,16 @@ and_is false b h = refl
 
 crash_row : (s : State) (event : Event) (crashed : Option CrashedLog) (n m : ℕ) → is_crash event ≡ true → Step s (act_of event None crashed) Done n m (gone s)
 crash_row s (Crash choice) (Some crashed) n m is = refl
+crash_row s (CrashAt number) (Some crashed) n m is = refl
 crash_row s (Crash choice) None n m is = refl
+crash_row s (CrashAt number) None n m is = refl
 crash_row s event crashed n m is = absurd (cc is)
 
 crash_makes : (size sector : ℕ) (tears : Bool) (made : Made) (event : Event) (crashed : Option CrashedLog) → is_crash event ≡ true → Makes size sector tears made (act_of event None crashed) Done made
 crash_makes size sector tears made (Crash choice) (Some crashed) is = refl
+crash_makes size sector tears made (CrashAt number) (Some crashed) is = refl
 crash_makes size sector tears made (Crash choice) None is = refl
+crash_makes size sector tears made (CrashAt number) None is = refl
 crash_makes size sector tears made event crashed is = absurd (cc is)
 
 not_opening : (event : Event) → is_crash event ≡ true → false ≡ is_opening event
@@ -182,7 +187,9 @@ not_opening event is = refl
 
 crash_only : (size : ℕ) (logs : List (List ℕ)) (event : Event) (crashed : Option CrashedLog) (s t : DiskState) → is_crash event ≡ true → OnlyCalls size logs (act_of event None crashed) s t
 crash_only size logs (Crash choice) (Some crashed) s t is = tt
+crash_only size logs (CrashAt number) (Some crashed) s t is = tt
 crash_only size logs (Crash choice) None s t is = tt
+crash_only size logs (CrashAt number) None s t is = tt
 crash_only size logs (OpenEvent salts) crashed s t is = absurd (cc is)
 crash_only size logs (Commit pages n) crashed s t is = absurd (cc is)
 crash_only size logs Sync crashed s t is = absurd (cc is)
@@ -195,14 +202,14 @@ crash_only size logs (StopAfter calls) crashed s t is = absurd (cc is)
 crash_only size logs (StopAtSync syncs) crashed s t is = absurd (cc is)
 crash_only size logs (Fail call part) crashed s t is = absurd (cc is)
 
-pub crash_answers : (page_size : ℕ) (tears : Bool) (event : Event) (choice : Choice) (old : Engine) (disk : ModelDisk) (begun : ℕ) (crashed : Option CrashedLog) (s : DiskState) → event ≡ Crash choice → s ≡ disk_of old → begun ≡ begun_of old
-    → IsLeftBy tears choice crashed s (state_of disk) → disk.stops ≡ no_stops
+crashed_answers : (page_size : ℕ) (tears : Bool) (event : Event) (choice : Choice) (old : Engine) (disk : ModelDisk) (begun : ℕ) (crashed : Option CrashedLog) (s : DiskState) → is_crash event ≡ true → s ≡ disk_of old → begun ≡ begun_of old
+    → IsLeftBy tears choice crashed s (state_of disk) → Happens tears event crashed (model_of old) disk
     → Answers page_size tears event old (record { reply = ReplyDone; found = None; crashed = crashed }) (Closed disk begun)
-crash_answers page_size tears event choice old disk begun crashed s named same count left cleared = let is : is_crash event ≡ true = ap is_crash named in record {
+crashed_answers page_size tears event choice old disk begun crashed s is same count left happens = record {
   found = not_opening event is;
   present = tt;
   crashed = left.some ∙ and_is tears (is_crash event) is;
-  happens = subst (λ e. Happens tears e crashed (model_of old) disk) (sym named) (subst (λ t. IsLeftBy tears choice crashed t (state_of disk)) same left, cleared);
+  happens = happens;
   rests = crash_rests event old (Closed disk begun) is;
   serves = λ torn past size fits may.
       let e : s.tears ≡ tears = ap (λ (t : DiskState). t.tears) same ∙ torn in
@@ -226,6 +233,20 @@ crash_answers page_size tears event choice old disk begun crashed s named same c
       });
 }
 
+pub crash_answers : (page_size : ℕ) (tears : Bool) (event : Event) (choice : Choice) (old : Engine) (disk : ModelDisk) (begun : ℕ) (crashed : Option CrashedLog) (s : DiskState) → event ≡ Crash choice → s ≡ disk_of old → begun ≡ begun_of old
+    → IsLeftBy tears choice crashed s (state_of disk) → disk.stops ≡ no_stops
+    → Answers page_size tears event old (record { reply = ReplyDone; found = None; crashed = crashed }) (Closed disk begun)
+crash_answers page_size tears event choice old disk begun crashed s named same count left cleared =
+    crashed_answers page_size tears event choice old disk begun crashed s (ap is_crash named) same count left
+    (subst (λ e. Happens tears e crashed (model_of old) disk) (sym named) (subst (λ t. IsLeftBy tears choice crashed t (state_of disk)) same left, cleared))
+
+pub crash_at_answers : (page_size : ℕ) (tears : Bool) (event : Event) (number : ℕ) (old : Engine) (disk : ModelDisk) (begun : ℕ) (crashed : Option CrashedLog) (s : DiskState) → event ≡ CrashAt number → s ≡ disk_of old → begun ≡ begun_of old
+    → IsLeftAt tears number crashed s (state_of disk) → disk.stops ≡ no_stops
+    → Answers page_size tears event old (record { reply = ReplyDone; found = None; crashed = crashed }) (Closed disk begun)
+crash_at_answers page_size tears event number old disk begun crashed s named same count left cleared =
+    crashed_answers page_size tears event left.choice old disk begun crashed s (ap is_crash named) same count left.left_by
+    (subst (λ e. Happens tears e crashed (model_of old) disk) (sym named) (subst (λ t. IsLeftAt tears number crashed t (state_of disk)) same left, cleared))
+
 -- ---- Without an engine.
 
 refused_row : (r : Option ℕ) (memory : Bool) (failed s : State) (n m : ℕ) → r ≡ Some 1 → Refuses r memory failed n m s 1 s
@@ -234,6 +255,7 @@ refused_row r memory failed s n m e = subst (λ x. Refuses x memory failed n m s
 closed_row : (s : State) (event : Event) (n m : ℕ) → s.is_open ≡ false → s.readers ≡ forgotten s.readers → is_opening event ≡ false → is_crash event ≡ false → Step s (act_of event None None) (closed_answer event) n m s
 closed_row s (OpenEvent salts) n m is none o k = absurd (cc o)
 closed_row s (Crash choice) n m is none o k = absurd (cc k)
+closed_row s (CrashAt number) n m is none o k = absurd (cc k)
 closed_row s (Commit pages size) n m is none o k = refused_row (commit_refusal s (numbered pages.items) size) true _ s n m (ap (λ b. cond b (refusal_of (length (newest s)) s.page_size s.used (numbered pages.items) size) (Some 1)) is)
 closed_row s Sync n m is none o k = refused_row (call_refusal s) false _ s n m (ap (λ b. first_true ((not b, 1) ∷ [])) is)
 closed_row s Checkpoint n m is none o k = refused_row (call_refusal s) false _ s n m (ap (λ b. first_true ((not b, 1) ∷ [])) is)
@@ -248,6 +270,7 @@ closed_row s (Fail call part) n m is none o k = refl
 closed_makes : (size sector : ℕ) (tears : Bool) (made : Made) (event : Event) → is_opening event ≡ false → is_crash event ≡ false → Makes size sector tears made (act_of event None None) (closed_answer event) made
 closed_makes size sector tears made (OpenEvent salts) o k = absurd (cc o)
 closed_makes size sector tears made (Crash choice) o k = absurd (cc k)
+closed_makes size sector tears made (CrashAt number) o k = absurd (cc k)
 closed_makes size sector tears made (Commit pages s) o k = refl
 closed_makes size sector tears made Sync o k = refl
 closed_makes size sector tears made Checkpoint o k = refl
@@ -262,6 +285,7 @@ closed_makes size sector tears made (Fail call part) o k = refl
 closed_files : (event : Event) (old new : ModelDisk) → IsSetTo event old new → IsCalm event old new → SameFiles (state_of old) (state_of new)
 closed_files (OpenEvent salts) old new set calm = same_model old new calm
 closed_files (Crash choice) old new set calm = same_model old new calm
+closed_files (CrashAt number) old new set calm = same_model old new calm
 closed_files (Commit pages s) old new set calm = same_model old new calm
 closed_files Sync old new set calm = same_model old new calm
 closed_files Checkpoint old new set calm = same_model old new calm
@@ -276,6 +300,7 @@ closed_files (Fail call part) old new set calm = failing old new call part set
 closed_count : (event : Event) (old new : ModelDisk) → IsSetTo event old new → IsCalm event old new → (state_of new).refused ≡ (state_of old).refused
 closed_count (OpenEvent salts) old new set calm = same_count old new calm
 closed_count (Crash choice) old new set calm = same_count old new calm
+closed_count (CrashAt number) old new set calm = same_count old new calm
 closed_count (Commit pages s) old new set calm = same_count old new calm
 closed_count Sync old new set calm = same_count old new calm
 closed_count Checkpoint old new set calm = same_count old new calm
@@ -293,6 +318,7 @@ uncalled old new same = record { states = []; each = ap state_of same }
 closed_only : (size : ℕ) (logs : List (List ℕ)) (event : Event) (old new : ModelDisk) → IsCalm event old new → OnlyCalls size logs (act_of event None None) (state_of old) (state_of new)
 closed_only size logs (OpenEvent salts) old new calm = tt
 closed_only size logs (Crash choice) old new calm = tt
+closed_only size logs (CrashAt number) old new calm = tt
 closed_only size logs (Commit pages s) old new calm = uncalled old new calm
 closed_only size logs Sync old new calm = uncalled old new calm
 closed_only size logs Checkpoint old new calm = uncalled old new calm
@@ -340,6 +366,7 @@ told_act page_size old new event a answer e h o k = subst (λ act. SessionServes
 event_files : (event : Event) (old new : ModelDisk) → is_opening event ≡ false → act_of event None None ≡ Sets → IsSetTo event old new → SameFiles (state_of old) (state_of new)
 event_files (OpenEvent salts) old new o is set = absurd (cc o)
 event_files (Crash choice) old new o is set = absurd (cc is)
+event_files (CrashAt number) old new o is set = absurd (cc is)
 event_files (Commit pages s) old new o is set = absurd (cc is)
 event_files Sync old new o is set = absurd (cc is)
 event_files Checkpoint old new o is set = absurd (cc is)
@@ -354,6 +381,7 @@ event_files (Fail call part) old new o is set = failing old new call part set
 event_count : (event : Event) (old new : ModelDisk) → is_opening event ≡ false → act_of event None None ≡ Sets → IsSetTo event old new → (state_of new).refused ≡ (state_of old).refused
 event_count (OpenEvent salts) old new o is set = absurd (cc o)
 event_count (Crash choice) old new o is set = absurd (cc is)
+event_count (CrashAt number) old new o is set = absurd (cc is)
 event_count (Commit pages s) old new o is set = absurd (cc is)
 event_count Sync old new o is set = absurd (cc is)
 event_count Checkpoint old new o is set = absurd (cc is)
@@ -389,6 +417,7 @@ pub others_set : (event : Event) → ((pages : Vec (ℕ × Vec ℕ Global) Globa
     → ((reader page : ℕ) → event ≡ Read reader page → ⊥) → ((reader : ℕ) → event ≡ End reader → ⊥) → is_opening event ≡ false → is_crash event ≡ false → act_of event None None ≡ Sets
 others_set (OpenEvent salts) a b c d e f g o k = absurd (cc o)
 others_set (Crash choice) a b c d e f g o k = absurd (cc k)
+others_set (CrashAt number) a b c d e f g o k = absurd (cc k)
 others_set (Commit pages size) a b c d e f g o k = absurd (a pages size refl)
 others_set Sync a b c d e f g o k = absurd (b refl)
 others_set Checkpoint a b c d e f g o k = absurd (c refl)
@@ -408,6 +437,7 @@ open_serves (Ok reply) page_size event old new h = h
 
 set_happens : (tears : Bool) (event : Event) (old new : ModelDisk) → is_crash event ≡ false → IsSetTo event old new → Happens tears event None old new
 set_happens tears (Crash choice) old new k set = absurd (cc k)
+set_happens tears (CrashAt number) old new k set = absurd (cc k)
 set_happens tears event old new k set = set
 
 no_crash : (tears : Bool) (event : Event) → is_crash event ≡ false → false ≡ (tears && is_crash event)
@@ -435,6 +465,7 @@ pub not_open : (event : Event) → ((salts : ℕ × ℕ) → event ≡ OpenEvent
 not_open (OpenEvent salts) h = absurd (h salts refl)
 not_open event h = refl
 
-pub not_crash : (event : Event) → ((choice : Choice) → event ≡ Crash choice → ⊥) → is_crash event ≡ false
-not_crash (Crash choice) h = absurd (h choice refl)
-not_crash event h = refl
+pub not_crash : (event : Event) → ((choice : Choice) → event ≡ Crash choice → ⊥) → ((number : ℕ) → event ≡ CrashAt number → ⊥) → is_crash event ≡ false
+not_crash (Crash choice) h g = absurd (h choice refl)
+not_crash (CrashAt number) h g = absurd (g number refl)
+not_crash event h g = refl

@@ -9,7 +9,7 @@ use Rattle.sqworld.specs.Pages.{pages_of}
 use Rattle.sqworld.specs.Run.{moment, moments_of, start_of}
 use Rattle.sqworld.specs.Engines.{FitsEngine, disk_of}
 use Rattle.sqworld.specs.Stepping.{ServedOn, LifeOn}
-use Rattle.sqworld.specs.Worlds.{BeginsOn, Goes, Goings, Served, AnswersOn, count_of, IsLifeOf, HasLife}
+use Rattle.sqworld.specs.Worlds.{BeginsOn, Goes, Goings, AnswersOn, count_of, HasLife}
 use Rattle.sqworld.specs.declared.base.Base.{Base}
 use Rattle.sqworld.specs.declared.engine.Engine.{Engine}
 use Rattle.sqworld.specs.declared.engine.Engine.TheVariants.{Closed}

@@ -2,6 +2,7 @@
 use Rattle.std.specs.Prelude.{◌≡◌, ℕ, Bool, true, false, ◌&&◌, List, replicate, Option, Some, None, is_some, IfSome, Result, Ok, Err}
 use Rattle.crashdisk.specs.Call.{DiskState, of, IsCrash}
 use Rattle.crashdisk.specs.Choice.{naming_of, image_of}
+use Rattle.crashdisk.specs.Count.{IsChoice}
 use Rattle.crashdisk.specs.Model.{state_of}
 use Rattle.crashdisk.specs.Stop.{no_stops}
 use Rattle.crashdisk.specs.declared.choice.Choice.{Choice}
@@ -19,7 +20,7 @@ use Rattle.sqworld.specs.declared.engine.Engine.{Engine}
 use Rattle.sqworld.specs.declared.engine.Engine.TheVariants.{Closed, Open}
 use Rattle.sqworld.specs.declared.engine.Given.{Given}
 use Rattle.sqworld.specs.declared.event.Event.{Event}
-use Rattle.sqworld.specs.declared.event.Event.TheVariants.{Read, End, StopAfter, StopAtSync, Fail, Crash}
+use Rattle.sqworld.specs.declared.event.Event.TheVariants.{Read, End, StopAfter, StopAtSync, Fail, Crash, CrashAt}
 use Rattle.sqworld.specs.declared.reply.Crashed.{Crashed as CrashedLog}
 use Rattle.sqworld.specs.declared.reply.Reply.{Reply}
 
@@ -38,6 +39,13 @@ pub record IsLeftBy (tears : Bool) (choice : Choice) (left : Option CrashedLog) 
   pub crash : IsCrash (chosen choice.db Db old) (chosen choice.log Log old) old new
   pub some : is_some left ≡ tears
   pub says : old.tears ≡ tears → SaysLeft tears left (record { log = chosen choice.log Log old; kept = old.kept; handed = old.handed })
+
+-- A crash left the files that the choice of this number names, as crashdisk counts them: the digits of the number are first
+-- those of the database, and then those of the log.
+pub record IsLeftAt (tears : Bool) (n : ℕ) (left : Option CrashedLog) (old new : DiskState) : Type 0 where
+  pub choice : Choice
+  pub named : IsChoice old.sector old.db old.log n (naming_of choice.db) (naming_of choice.log)
+  pub left_by : IsLeftBy tears choice left old new
 
 -- ---- What is set of a modelled disk.
 
@@ -68,9 +76,10 @@ IsCalm (StopAtSync syncs) old new = Unit {0}
 IsCalm (Fail call part) old new = Unit {0}
 IsCalm event old new = new ≡ old
 
--- What an event does to the disk itself: a crash leaves the files that its choice names, and nothing set.
+-- What an event does to the disk itself: a crash leaves the files that its choice or its number names, and nothing set.
 abbrev pub Happens : (tears : Bool) → Event → Option CrashedLog → (old new : ModelDisk) → Type 0
 Happens tears (Crash choice) left old new = IsLeftBy tears choice left (state_of old) (state_of new) × (new.stops ≡ no_stops)
+Happens tears (CrashAt n) left old new = IsLeftAt tears n left (state_of old) (state_of new) × (new.stops ≡ no_stops)
 Happens tears event left old new = IsSetTo event old new
 
 -- what fits a disk without an engine

@@ -12,13 +12,13 @@ use Rattle.rollcore.specs.Premises.{Permits}
 use Rattle.rollcore.specs.Fits.{FitsDisk, Fits, AreFiles}
 use Rattle.rollcore.specs.declared.roll.Roll.{Roll}
 use Rattle.sqworld.specs.Run.{answer_of, files_of}
-use Rattle.sqworld.specs.Engines.{IsLeftBy, stopping_after, stopping_at_sync, FailsAt}
+use Rattle.sqworld.specs.Engines.{IsLeftBy, IsLeftAt, stopping_after, stopping_at_sync, FailsAt}
 use Rattle.sqworld.specs.JournalRun.{act_of, is_opening, is_crash}
 use Rattle.sqworld.specs.declared.engine.Given.{Given}
 use Rattle.sqworld.specs.declared.journal_engine.JournalEngine.{JournalEngine}
 use Rattle.sqworld.specs.declared.journal_engine.JournalEngine.TheVariants.{Closed, Open}
 use Rattle.sqworld.specs.declared.journal_event.JEvent.{JEvent}
-use Rattle.sqworld.specs.declared.journal_event.JEvent.TheVariants.{StopAfter, StopAtSync, Fail, Crash}
+use Rattle.sqworld.specs.declared.journal_event.JEvent.TheVariants.{StopAfter, StopAtSync, Fail, Crash, CrashAt}
 use Rattle.sqworld.specs.declared.reply.Crashed.{Crashed as CrashedLog}
 
 -- a stop or a failure is set as the event says
@@ -35,9 +35,10 @@ IsCalm (StopAtSync syncs) old new = Unit {0}
 IsCalm (Fail call part) old new = Unit {0}
 IsCalm event old new = new ≡ old
 
--- What an event does to the disk itself: a crash leaves the files that its choice names, and nothing set.
+-- What an event does to the disk itself: a crash leaves the files that its choice or its number names, and nothing set.
 abbrev pub Happens : (tears : Bool) → JEvent → Option CrashedLog → (old new : ModelDisk) → Type 0
 Happens tears (Crash choice) left old new = IsLeftBy tears choice left (state_of old) (state_of new) × (new.stops ≡ no_stops)
+Happens tears (CrashAt n) left old new = IsLeftAt tears n left (state_of old) (state_of new) × (new.stops ≡ no_stops)
 Happens tears event left old new = IsSetTo event old new
 
 -- Where a page is read nothing is done to the disk, or one call that changes no byte. Otherwise nothing is done but calls of

@@ -7,7 +7,7 @@ use Rattle.sqworld.specs.Pages.{pages_of}
 use Rattle.sqworld.specs.Run.{numbered, files_of, left_of, answer_of}
 use Rattle.sqworld.specs.declared.base.Base.{Base}
 use Rattle.sqworld.specs.declared.journal_event.JEvent.{JEvent}
-use Rattle.sqworld.specs.declared.journal_event.JEvent.TheVariants.{Open, Commit, Read, StopAfter, StopAtSync, Fail, Crash}
+use Rattle.sqworld.specs.declared.journal_event.JEvent.TheVariants.{Open, Commit, Read, StopAfter, StopAtSync, Fail, Crash, CrashAt}
 use Rattle.sqworld.specs.declared.reply.Reply.{Reply}
 use Rattle.sqworld.specs.declared.reply.Found.{Found}
 use Rattle.sqworld.specs.declared.reply.Crashed.{Crashed as CrashedLog}
@@ -24,6 +24,8 @@ act_of (StopAtSync n) found crashed = Sets
 act_of (Fail call part) found crashed = Sets
 act_of (Crash choice) found (Some crashed) = Crashes (Some (left_of crashed))
 act_of (Crash choice) found None = Crashes None
+act_of (CrashAt n) found (Some crashed) = Crashes (Some (left_of crashed))
+act_of (CrashAt n) found None = Crashes None
 
 -- an event with its reply and its count
 abbrev pub moment : JEvent → Option Found → Option CrashedLog → Reply → (refused : ℕ) → Moment Act
@@ -34,6 +36,7 @@ abbrev pub moments : List JEvent → List Reply → (refused : List ℕ) → Lis
 moments (Open ∷ events) (reply ∷ replies) (n ∷ refused) (found ∷ founds) crashed = moment Open (Some found) None reply n ∷ moments events replies refused founds crashed
 moments (Open ∷ events) _ _ _ _ = []
 moments (Crash choice ∷ events) (reply ∷ replies) (n ∷ refused) founds (left ∷ crashed) = moment (Crash choice) None (Some left) reply n ∷ moments events replies refused founds crashed
+moments (CrashAt k ∷ events) (reply ∷ replies) (n ∷ refused) founds (left ∷ crashed) = moment (CrashAt k) None (Some left) reply n ∷ moments events replies refused founds crashed
 moments (event ∷ events) (reply ∷ replies) (n ∷ refused) founds crashed = moment event None None reply n ∷ moments events replies refused founds crashed
 moments _ _ _ _ _ = []
 
@@ -47,6 +50,7 @@ is_opening _ = false
 
 abbrev pub is_crash : JEvent → Bool
 is_crash (Crash choice) = true
+is_crash (CrashAt n) = true
 is_crash _ = false
 
 -- One reply and one count for each event, what was found for each opening, and on a disk that tears what was left for each crash.

@@ -1,5 +1,5 @@
 -- A run over a rollback journal that goes on event by event (own).
-use Rattle.std.specs.Prelude.{◌≡◌, ℕ, List, ◌∷◌, ◌++◌, [], take, false, Option, Some}
+use Rattle.std.specs.Prelude.{◌≡◌, ℕ, List, ◌∷◌, ◌++◌, [], take, false, Some}
 use Rattle.sqval.specs.Runs.{IsRun}
 use Rattle.rollcore.specs.Machine.{Step}
 use Rattle.rollcore.specs.Premises.{Holds}

@@ -52,6 +52,6 @@ abbrev pub IsLifeOf : Base → ModelDisk → List JEvent → Run → JournalEngi
 IsLifeOf base disk events run last = IsLife (AnswersOn base) count_of (Closed disk) events run last
 
 -- The run is the life of a disk that begins with the base: an opening found what was there, a crash left the files that its
--- choice names, and each stop and each failure was set as its event says.
+-- choice or its number names, and each stop and each failure was set as its event says.
 abbrev pub HasLife : Base → List JEvent → Run → Type 0
 HasLife base events run = (disk : ModelDisk) × (last : JournalEngine) × BeginsOn base disk × IsLifeOf base disk events run last

@@ -9,7 +9,7 @@ use Rattle.sqval.specs.Runs.{Moment}
 use Rattle.sqworld.specs.Pages.{pages_of}
 use Rattle.sqworld.specs.declared.base.Base.{Base}
 use Rattle.sqworld.specs.declared.event.Event.{Event}
-use Rattle.sqworld.specs.declared.event.Event.TheVariants.{Open, Commit, Sync, Checkpoint, Restart, Begin, Read, End, StopAfter, StopAtSync, Fail, Crash}
+use Rattle.sqworld.specs.declared.event.Event.TheVariants.{Open, Commit, Sync, Checkpoint, Restart, Begin, Read, End, StopAfter, StopAtSync, Fail, Crash, CrashAt}
 use Rattle.sqworld.specs.declared.reply.Reply.{Reply}
 use Rattle.sqworld.specs.declared.reply.Reply.TheVariants.{Done as ReplyDone, Reader as ReplyReader, Page as ReplyPage, Complete as ReplyComplete, Partial as ReplyPartial, NoReader as ReplyNoReader, Refused as ReplyRefused}
 use Rattle.sqworld.specs.declared.reply.Found.{Found}
@@ -52,6 +52,8 @@ act_of (StopAtSync n) found crashed = Sets
 act_of (Fail call part) found crashed = Sets
 act_of (Crash choice) found (Some crashed) = Crashes (Some (left_of crashed))
 act_of (Crash choice) found None = Crashes None
+act_of (CrashAt n) found (Some crashed) = Crashes (Some (left_of crashed))
+act_of (CrashAt n) found None = Crashes None
 
 -- an event with its reply and its count
 abbrev pub moment : Event → Option Found → Option CrashedLog → Reply → (refused : ℕ) → Moment Act
@@ -62,6 +64,7 @@ abbrev pub moments : List Event → List Reply → (refused : List ℕ) → List
 moments (Open salts ∷ events) (reply ∷ replies) (n ∷ refused) (found ∷ founds) crashed = moment (Open salts) (Some found) None reply n ∷ moments events replies refused founds crashed
 moments (Open salts ∷ events) _ _ _ _ = []
 moments (Crash choice ∷ events) (reply ∷ replies) (n ∷ refused) founds (left ∷ crashed) = moment (Crash choice) None (Some left) reply n ∷ moments events replies refused founds crashed
+moments (CrashAt k ∷ events) (reply ∷ replies) (n ∷ refused) founds (left ∷ crashed) = moment (CrashAt k) None (Some left) reply n ∷ moments events replies refused founds crashed
 moments (event ∷ events) (reply ∷ replies) (n ∷ refused) founds crashed = moment event None None reply n ∷ moments events replies refused founds crashed
 moments _ _ _ _ _ = []
 
@@ -75,6 +78,7 @@ is_opening _ = false
 
 abbrev pub is_crash : Event → Bool
 is_crash (Crash choice) = true
+is_crash (CrashAt n) = true
 is_crash _ = false
 
 -- One reply and one count for each event, what was found for each opening, and on a disk that tears what was left for each crash.

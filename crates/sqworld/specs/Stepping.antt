@@ -1,5 +1,5 @@
 -- A run over a write-ahead log that goes on event by event (own).
-use Rattle.std.specs.Prelude.{◌≡◌, ℕ, List, ◌∷◌, ◌++◌, [], take, Option, Some}
+use Rattle.std.specs.Prelude.{◌≡◌, ℕ, List, ◌∷◌, ◌++◌, [], take, Some}
 use Rattle.sqval.specs.Runs.{IsRun}
 use Rattle.walcore.specs.Machine.{Step}
 use Rattle.walcore.specs.Making.{Holds, nothing}

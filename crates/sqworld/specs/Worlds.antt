@@ -10,7 +10,7 @@ use Rattle.walcore.specs.Making.{Made, Makes, Holds, nothing}
 use Rattle.sqval.specs.Runs.{Moment, Runs, IsRun}
 use Rattle.walcore.specs.Fits.{Past}
 use Rattle.sqworld.specs.Pages.{pages_of}
-use Rattle.sqworld.specs.Run.{moments_of, IsComplete}
+use Rattle.sqworld.specs.Run.{answer_of, moments_of, IsComplete}
 use Rattle.sqworld.specs.Engines.{disk_of, Answers}
 use Rattle.sqworld.specs.Lives.{IsLife}
 use Rattle.sqworld.specs.declared.base.Base.{Base}
@@ -18,6 +18,7 @@ use Rattle.sqworld.specs.declared.engine.Engine.{Engine}
 use Rattle.sqworld.specs.declared.engine.Engine.TheVariants.{Closed}
 use Rattle.sqworld.specs.declared.engine.Given.{Given}
 use Rattle.sqworld.specs.declared.event.Event.{Event}
+use Rattle.sqworld.specs.declared.reply.Reply.{Reply}
 use Rattle.sqworld.specs.declared.reply.Run.{Run}
 use Rattle.std.specs.List.{concat}
 
@@ -37,6 +38,12 @@ pub record IsNoted (given : Given) (count : ℕ) (old new : Run) : Type 0 where
   pub refused : new.refused.items ≡ old.refused.items ++ count ∷ []
   pub found : new.found.items ≡ old.found.items ++ list_of given.found
   pub crashed : new.crashed.items ≡ old.crashed.items ++ list_of given.crashed
+
+-- a run has one reply more, and it says what this one says
+pub record EndsWith (reply : Reply) (old new : Run) : Type 0 where
+  pub last : Reply
+  pub replies : new.replies.items ≡ old.replies.items ++ last ∷ []
+  pub same : answer_of last ≡ answer_of reply
 
 -- an event is answered, and noted in the run
 pub record Goes (page_size : ℕ) (tears : Bool) (event : Event) (old : Engine) (run : Run) (new : Engine) (run_new : Run) : Type 0 where
@@ -81,6 +88,6 @@ abbrev pub IsLifeOf : Base → ModelDisk → List Event → Run → Engine → T
 IsLifeOf base disk events run last = IsLife (AnswersOn base) count_of (Closed disk 0) events run last
 
 -- The run is the life of a disk that begins with the base: an opening found what was there, a crash left the files that its
--- choice names, and each stop and each failure was set as its event says.
+-- choice or its number names, and each stop and each failure was set as its event says.
 abbrev pub HasLife : Base → List Event → Run → Type 0
 HasLife base events run = (disk : ModelDisk) × (last : Engine) × BeginsOn base disk × IsLifeOf base disk events run last

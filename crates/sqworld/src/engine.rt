@@ -9,8 +9,8 @@ ghost use Rattle.walcore.specs.Making.{Permits};
 ghost use Rattle.walcore.specs.Fits.{Past, FitsAlone, AreFiles};
 ghost use Rattle.sqworld.specs.Run.{act_of, answer_of, files_of, is_opening, is_crash, numbered};
 ghost use Rattle.sqworld.specs.Sessions.{ServesTo, SessionServes, begun_by};
-ghost use Rattle.sqworld.specs.Engines.{IsLeftBy, FailsAt, IsSetTo, IsCalm, Rests, IsAlone, closed_answer, FitsEngine};
-ghost use Rattle.sqworld.specs.Engines.{model_of, disk_of, begun_of, EngineServes, Answers};
+ghost use Rattle.sqworld.specs.Engines.{IsLeftBy, IsLeftAt, FailsAt, IsSetTo, IsCalm, Rests, IsAlone};
+ghost use Rattle.sqworld.specs.Engines.{closed_answer, FitsEngine, model_of, disk_of, begun_of, EngineServes, Answers};
 
 use crate::event::Event;
 use crate::reply::{Crashed, Found, Reply};
@@ -87,6 +87,20 @@ pub(crate) fn crash_disk(
     disk.crash(choice);
     let log = Vec::from_slice(alloc, disk.since().0)?; // what a crash leaves is kept
     Ok(Some(Crashed { log, kept, handed }))
+}
+
+/// The same, of the files that the choice of this number names.
+pub(crate) fn crash_disk_at(
+    alloc: Global,
+    disk: &mut ModelDisk,
+    tears: bool,
+    number: u64,
+) -> Result<Option<Crashed>, AllocError>
+    ensures left { IfOk result (λ left. IsLeftAt tears number left (state_of disk.old) (state_of disk.new)) }
+    ensures cleared { OnOk result (disk.new.stops ≡ no_stops) }
+{
+    let choice = disk.choice_at(alloc, number)?;
+    crash_disk(alloc, disk, tears, &choice)
 }
 
 /// Lets a call of the disk fail, of which this part is left.
@@ -296,6 +310,32 @@ impl Engine {
         }
     }
 
+    /// Crashes the disk by the number of what is left.
+    fn crash_at(
+        self,
+        alloc: Global,
+        tears: bool,
+        number: u64,
+    ) -> (Engine, Result<Given, AllocError>)
+        requires { begun_of self < 2 ^ 63 }
+        ensures answers { (page_size : ℕ) (event : Event) → event ≡ Event.CrashAt number
+            → IfOk result.1 (λ given. Answers page_size tears event self given result.0) }
+        ensures begun { begun_of result.0 ≡ begun_of self }
+    {
+        let (mut disk, begun) = self.close();
+        match crash_disk_at(alloc, &mut disk, tears, number) {
+            Ok(crashed) => {
+                let given = Given {
+                    reply: Reply::Done,
+                    found: None,
+                    crashed,
+                };
+                (Engine::Closed { disk, begun }, Ok(given))
+            }
+            Err(error) => (Engine::Closed { disk, begun }, Err(error)),
+        }
+    }
+
     /// Answers an event that isn't an opening or a crash.
     fn call(
         self,
@@ -337,6 +377,7 @@ impl Engine {
         match event {
             Event::Open { salts } => self.open(alloc, page_size, *salts),
             Event::Crash(choice) => self.crash(alloc, tears, choice),
+            Event::CrashAt(number) => self.crash_at(alloc, tears, *number),
             _ => {
                 let (engine, reply) = self.call(alloc, page_size, event);
                 (engine, alone(reply))

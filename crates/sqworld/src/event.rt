@@ -46,4 +46,8 @@ pub enum Event {
     },
     /// The machine stops. What the choice names is left of the files, and no engine.
     Crash(Choice),
+    /// The machine stops. Of all that a crash may leave, the files of this number are left, and no engine. They are
+    /// counted from 0 as `ModelDisk::choice` of crashdisk counts them; from their count on they come again in the same
+    /// order.
+    CrashAt(u64),
 }

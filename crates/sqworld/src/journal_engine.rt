@@ -9,7 +9,7 @@ ghost use Rattle.sqworld.specs.JournalRun.{act_of, is_opening, is_crash};
 ghost use Rattle.sqworld.specs.JournalEngines.{IsSetTo, IsCalm, Rests, ServesTo, RollServes, closed_answer, FitsEngine};
 ghost use Rattle.sqworld.specs.JournalEngines.{model_of, disk_of, EngineServes, Answers};
 
-use crate::engine::{Given, alone, crash_disk, fail_disk, find};
+use crate::engine::{Given, alone, crash_disk, crash_disk_at, fail_disk, find};
 use crate::journal_event::JEvent;
 use crate::reply::Reply;
 use crate::session::{lend, zeros};
@@ -226,6 +226,30 @@ impl JournalEngine {
         }
     }
 
+    /// Crashes the disk by the number of what is left.
+    fn crash_at(
+        self,
+        alloc: Global,
+        tears: bool,
+        number: u64,
+    ) -> (JournalEngine, Result<Given, AllocError>)
+        ensures { (page_size : ℕ)
+            → IfOk result.1 (λ given. Answers page_size tears (JEvent.CrashAt number) self given result.0) }
+    {
+        let mut disk = self.close();
+        match crash_disk_at(alloc, &mut disk, tears, number) {
+            Ok(crashed) => {
+                let given = Given {
+                    reply: Reply::Done,
+                    found: None,
+                    crashed,
+                };
+                (JournalEngine::Closed(disk), Ok(given))
+            }
+            Err(error) => (JournalEngine::Closed(disk), Err(error)),
+        }
+    }
+
     /// Answers an event that isn't an opening or a crash.
     fn call(
         self,
@@ -263,6 +287,7 @@ impl JournalEngine {
         match event {
             JEvent::Open => self.open(alloc, page_size),
             JEvent::Crash(choice) => self.crash(alloc, tears, choice),
+            JEvent::CrashAt(number) => self.crash_at(alloc, tears, *number),
             _ => {
                 let (engine, reply) = self.call(alloc, page_size, event);
                 (engine, alone(reply))

@@ -5,18 +5,19 @@ ghost use Rattle.rollcore.specs.Premises.{Holds};
 ghost use Rattle.sqval.specs.Runs.{IsRun};
 ghost use Rattle.sqworld.specs.JournalRun.{moments_of, start_of, IsComplete};
 ghost use Rattle.sqworld.specs.JournalEngines.{disk_of};
+ghost use Rattle.sqworld.specs.Worlds.{EndsWith};
 ghost use Rattle.sqworld.specs.JournalWorlds.{Goes, HasLife};
 
 use crate::base::Base;
 use crate::journal_engine::JournalEngine;
 use crate::journal_event::JEvent;
-use crate::reply::Run;
+use crate::reply::{Reply, Run};
 use crate::world::{NoMemory, base_disk};
 use crashdisk::ModelDisk;
 use sqval::PageSize;
 use std::alloc::{AllocError, Global};
 
-/// Answers an event, and notes it.
+/// Answers an event, notes it, and gives its reply.
 fn go(
     alloc: Global,
     engine: JournalEngine,
@@ -24,16 +25,17 @@ fn go(
     tears: bool,
     event: &JEvent,
     run: &mut Run,
-) -> (JournalEngine, Result<(), AllocError>)
-    ensures { OnOk result.1 (Goes page_size tears event.now engine run.old result.0 run.new) }
+) -> (JournalEngine, Result<Reply, AllocError>)
+    ensures goes { OnOk result.1 (Goes page_size tears event.now engine run.old result.0 run.new) }
+    ensures ends { IfOk result.1 (λ reply. EndsWith reply run.old run.new) }
 {
     let (served, given) = engine.serve(alloc, page_size, tears, event);
     let mut engine = served;
     match given {
         Ok(given) => {
             let refused = engine.refused();
-            let noted = run.note(given, refused);
-            (engine, noted)
+            let told = run.tell(alloc, given, refused);
+            (engine, told)
         }
         Err(error) => (engine, Err(error)),
     }
@@ -76,10 +78,12 @@ impl JournalWorld {
         })
     }
 
-    /// Answers one event, and notes the answer in the run. NoMemory where a vector of the run's own finds none, and
-    /// past 4,611,686,018,427,387,904 events; from then on the world answers nothing else, and is only to be finished.
-    pub fn serve(&mut self, alloc: Global, event: &JEvent) -> Result<(), NoMemory>
-        ensures { OnOk result (ServesNext event.now self.old self.new) }
+    /// Answers one event, notes the answer in the run, and gives the reply, which says what the last of the run's says.
+    /// NoMemory where a vector of the run's own or of the reply finds none, and past 4,611,686,018,427,387,904 events;
+    /// from then on the world answers nothing else, and is only to be finished.
+    pub fn serve(&mut self, alloc: Global, event: &JEvent) -> Result<Reply, NoMemory>
+        ensures serves { OnOk result (ServesNext event.now self.old self.new) }
+        ensures reply { IfOk result (λ reply. EndsWith reply self.old.run self.new.run) }
     {
         if self.failed || self.served >= MOST_EVENTS {
             return Err(NoMemory);
@@ -87,7 +91,7 @@ impl JournalWorld {
         let Some(engine) = self.engine.take() else {
             unreachable!()
         };
-        let (engine, gone) = go(
+        let (engine, told) = go(
             alloc,
             engine,
             self.page_size,
@@ -99,9 +103,9 @@ impl JournalWorld {
             let _ = engine.close();
         }
         self.served += 1;
-        self.failed = gone.is_err();
-        match gone {
-            Ok(()) => Ok(()),
+        self.failed = told.is_err();
+        match told {
+            Ok(reply) => Ok(reply),
             Err(_) => Err(NoMemory),
         }
     }
@@ -164,7 +168,7 @@ pub fn run_journal(alloc: Global, base: &Base, events: &[JEvent]) -> Result<Run,
 {
     let mut world = JournalWorld::new(alloc, base)?;
     for event in events {
-        let Ok(()) = world.serve(alloc, event) else {
+        let Ok(_) = world.serve(alloc, event) else {
             let _ = world.finish();
             return Err(NoMemory);
         };

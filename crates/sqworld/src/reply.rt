@@ -1,7 +1,8 @@
 //! What is answered in a run (own).
-ghost use Rattle.std.specs.Prelude.{◌≡◌, []};
+ghost use Rattle.std.specs.Prelude.{◌≡◌, [], IfOk};
+ghost use Rattle.sqworld.specs.Run.{answer_of};
 
-use std::alloc::Global;
+use std::alloc::{AllocError, Global};
 
 /// What an event answers.
 #[derive(Clone, Debug, PartialEq, Eq, Drop)]
@@ -20,6 +21,23 @@ pub enum Reply {
     NoReader,
     /// It was refused, for the reason that `WalError` or `RollError` gives this number.
     Refused(u8),
+}
+
+impl Reply {
+    /// One of its own that says the same.
+    pub(crate) fn copy(&self, alloc: Global) -> Result<Reply, AllocError>
+        ensures { IfOk result (λ copy. answer_of copy ≡ answer_of self.now) }
+    {
+        Ok(match self {
+            Reply::Done => Reply::Done,
+            Reply::Reader(number) => Reply::Reader(*number),
+            Reply::Page(bytes) => Reply::Page(Vec::from_slice(alloc, bytes)?),
+            Reply::Complete => Reply::Complete,
+            Reply::Partial => Reply::Partial,
+            Reply::NoReader => Reply::NoReader,
+            Reply::Refused(number) => Reply::Refused(*number),
+        })
+    }
 }
 
 /// The bytes of both files when an opening begins.

@@ -181,7 +181,8 @@ impl Session {
         number: u64,
         page: u32,
     ) -> Result<Reply, AllocError>
-        ensures serves { IfOk result (λ reply. SessionServes page_size self.old self.new (Reads number page) (answer_of reply)) }
+        ensures serves { IfOk result (λ reply. SessionServes page_size self.old self.new
+            (Reads number page) (answer_of reply)) }
         ensures begun { begun_by self.new ≡ begun_by self.old }
     {
         let Some(i) = self.slot(number) else {

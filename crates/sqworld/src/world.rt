@@ -6,12 +6,12 @@ ghost use Rattle.sqval.specs.Runs.{IsRun};
 ghost use Rattle.sqworld.specs.Run.{moments_of, start_of, IsComplete};
 ghost use Rattle.sqworld.specs.Engines.{begun_of, disk_of};
 ghost use Rattle.sqworld.specs.declared.engine.Engine.{Engine};
-ghost use Rattle.sqworld.specs.Worlds.{IsNoted, Goes, Served, BeginsOn, HasLife};
+ghost use Rattle.sqworld.specs.Worlds.{IsNoted, EndsWith, Goes, Served, BeginsOn, HasLife};
 
 use crate::base::Base;
 use crate::engine::{Engine, Given};
 use crate::event::Event;
-use crate::reply::Run;
+use crate::reply::{Reply, Run};
 use crashdisk::ModelDisk;
 use sqval::PageSize;
 use std::alloc::{AllocError, Global};
@@ -37,6 +37,21 @@ pub(crate) fn base_disk(alloc: Global, base: &Base) -> Result<ModelDisk, AllocEr
 }
 
 impl Run {
+    /// Takes one answer more, and gives the reply of it.
+    pub(crate) fn tell(
+        &mut self,
+        alloc: Global,
+        given: Given,
+        refused: u64,
+    ) -> Result<Reply, AllocError>
+        ensures noted { OnOk result (IsNoted given refused self.old self.new) }
+        ensures ends { IfOk result (λ reply. EndsWith reply self.old self.new) }
+    {
+        let reply = given.reply.copy(alloc)?;
+        self.note(given, refused)?;
+        Ok(reply)
+    }
+
     /// Takes one answer more, with how many calls the disk had refused when the event ended.
     pub(crate) fn note(&mut self, given: Given, refused: u64) -> Result<(), AllocError>
         ensures { OnOk result (IsNoted given refused self.old self.new) }
@@ -58,7 +73,7 @@ impl Run {
     }
 }
 
-/// Answers an event, and notes it.
+/// Answers an event, notes it, and gives its reply.
 fn go(
     alloc: Global,
     engine: Engine,
@@ -66,9 +81,10 @@ fn go(
     tears: bool,
     event: &Event,
     run: &mut Run,
-) -> (Engine, Result<(), AllocError>)
+) -> (Engine, Result<Reply, AllocError>)
     requires { begun_of engine < 2 ^ 63 }
     ensures goes { OnOk result.1 (Goes page_size tears event.now engine run.old result.0 run.new) }
+    ensures ends { IfOk result.1 (λ reply. EndsWith reply run.old run.new) }
     ensures begun { begun_of result.0 ≤ begun_of engine + 1 }
 {
     let (served, given) = engine.serve(alloc, page_size, tears, event);
@@ -76,8 +92,8 @@ fn go(
     match given {
         Ok(given) => {
             let refused = engine.refused();
-            let noted = run.note(given, refused);
-            (engine, noted)
+            let told = run.tell(alloc, given, refused);
+            (engine, told)
         }
         Err(error) => (engine, Err(error)),
     }
@@ -121,10 +137,12 @@ impl World {
         })
     }
 
-    /// Answers one event, and notes the answer in the run. NoMemory where a vector of the run's own finds none, and
-    /// past 4,611,686,018,427,387,904 events; from then on the world answers nothing else, and is only to be finished.
-    pub fn serve(&mut self, alloc: Global, event: &Event) -> Result<(), NoMemory>
-        ensures { OnOk result (ServesNext event.now self.old self.new) }
+    /// Answers one event, notes the answer in the run, and gives the reply, which says what the last of the run's says.
+    /// NoMemory where a vector of the run's own or of the reply finds none, and past 4,611,686,018,427,387,904 events;
+    /// from then on the world answers nothing else, and is only to be finished.
+    pub fn serve(&mut self, alloc: Global, event: &Event) -> Result<Reply, NoMemory>
+        ensures serves { OnOk result (ServesNext event.now self.old self.new) }
+        ensures reply { IfOk result (λ reply. EndsWith reply self.old.run self.new.run) }
     {
         if self.failed || self.served >= MOST_EVENTS {
             return Err(NoMemory);
@@ -132,7 +150,7 @@ impl World {
         let Some(engine) = self.engine.take() else {
             unreachable!()
         };
-        let (engine, gone) = go(
+        let (engine, told) = go(
             alloc,
             engine,
             self.page_size,
@@ -144,9 +162,9 @@ impl World {
             let _ = engine.close();
         }
         self.served += 1;
-        self.failed = gone.is_err();
-        match gone {
-            Ok(()) => Ok(()),
+        self.failed = told.is_err();
+        match told {
+            Ok(reply) => Ok(reply),
             Err(_) => Err(NoMemory),
         }
     }
@@ -208,7 +226,7 @@ pub fn run_wal(alloc: Global, base: &Base, events: &[Event]) -> Result<Run, NoMe
 {
     let mut world = World::new(alloc, base)?;
     for event in events {
-        let Ok(()) = world.serve(alloc, event) else {
+        let Ok(_) = world.serve(alloc, event) else {
             let _ = world.finish();
             return Err(NoMemory);
         };

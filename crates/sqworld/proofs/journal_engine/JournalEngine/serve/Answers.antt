@@ -10,6 +10,9 @@ returns-in-Open c = subst (λ (e : JEvent). IfOk c.open.result.1 (λ given. Answ
 pub returns-in-Crash : goal.returns-in-Crash
 returns-in-Crash c = subst (λ (e : JEvent). IfOk c.crash.result.1 (λ given. Answers c.args.page_size c.args.tears e c.args.self given c.crash.result.0)) (sym c.in-Crash.is) (c.crash.ensures c.args.page_size)
 
+pub returns-in-CrashAt : goal.returns-in-CrashAt
+returns-in-CrashAt c = subst (λ (e : JEvent). IfOk c.crash_at.result.1 (λ given. Answers c.args.page_size c.args.tears e c.args.self given c.crash_at.result.0)) (sym c.in-CrashAt.is) (c.crash_at.ensures c.args.page_size)
+
 pub returns-in_default : goal.returns-in_default
 returns-in_default c = call_answers c.call-engine.result.1 c.alone.result c.args.page_size c.args.tears c.args.event.now c.args.self c.call-engine.result.0
-    (not_open c.args.event.now c.in_default.not-Open) (not_crash c.args.event.now c.in_default.not-Crash) c.alone.ensures c.call-engine.ensures.serves c.call-engine.ensures.set c.call-engine.ensures.rests
+    (not_open c.args.event.now c.in_default.not-Open) (not_crash c.args.event.now c.in_default.not-Crash c.in_default.not-CrashAt) c.alone.ensures c.call-engine.ensures.serves c.call-engine.ensures.set c.call-engine.ensures.rests
