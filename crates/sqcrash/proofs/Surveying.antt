@@ -1,14 +1,18 @@
 -- One more image is judged, counted and told.
-use Rattle.std.proofs.Common.{◌≡◌, ℕ, zero, suc, ◌+◌, Bool, cond, List, [], ◌∷◌, ◌++◌, length, sym, ◌∙◌, ap, subst, append_assoc, length-append, arith}
+use Rattle.std.proofs.Common.{◌≡◌, ℕ, zero, suc, ◌+◌, IsTrue, Option, Some, None, Bool, cond, List, [], ◌∷◌, ◌++◌, length, sym, ◌∙◌, ap, subst, append_assoc, length-append, arith}
 use Rattle.std.specs.List.{All, count_by}
 use Rattle.std.proofs.lemmas.List.{map-append, append-nil, length-map}
 use Rattle.std.proofs.lemmas.List.Elements.{All-append}
 use Rattle.std.proofs.lemmas.List.Sums.{sum_by-append}
+use Rattle.sqwal.specs.Took.{Took}
+use Rattle.sqwal.specs.declared.scan.Scan.{Scan}
 use Rattle.sqimages.specs.Images.{IsNumbered}
 use Rattle.sqimages.specs.declared.counts.Counts.{Counts}
+use Rattle.sqimages.specs.declared.fixed.Fixed.{Fixed}
+use Rattle.sqimages.specs.declared.image.Image.{Image}
 use Rattle.sqjudge.specs.declared.judgment.Judgment.{Judgment}
 use Rattle.sqcrash.specs.Runs.{RunState}
-use Rattle.sqcrash.specs.Surveys.{is_lost, is_mixed, is_fault, one_if, with_image, with_images, Judged, judgments, finding_of, findings_from, IsJudgedBy, Tells, AreNumbered}
+use Rattle.sqcrash.specs.Surveys.{is_lost, is_mixed, is_fault, one_if, with_image, with_images, Judged, judgments, finding_of, findings_from, IsJudgedBy, Tells, AreNumbered, IsFixedScan, IsScanOf}
 use Rattle.sqcrash.specs.declared.survey.Tally.{Tally}
 use Rattle.sqcrash.specs.declared.survey.Finding.{Finding}
 use Rattle.sqcrash.specs.declared.survey.Survey.{Survey}
@@ -78,3 +82,12 @@ tells_none run s = record { each = all_none (IsJudgedBy run); tally = no_images 
         ∙ ap (λ l. make (t.images + 0) l t.mixed t.faults) b
         ∙ ap (λ m. make (t.images + 0) (t.lost + 0) m t.faults) d
         ∙ ap (λ f. make (t.images + 0) (t.lost + 0) (t.mixed + 0) f) e
+
+-- the scan of a fixed log is that of another image with this log
+pub scan_stays : (fixed : Fixed) (old new : Image) (scan : Option Scan) → IsFixedScan fixed old scan → (IsTrue fixed.wal → new.wal.items ≡ old.wal.items) → IsFixedScan fixed new scan
+scan_stays fixed old new None is same = tt
+scan_stays fixed old new (Some scan) is same = (is.0, subst (λ (b : List ℕ). Took b scan) (sym (same is.0)) is.1)
+
+pub scan_is : (fixed : Fixed) (image : Image) (scan : Option Scan) → IsFixedScan fixed image scan → IsScanOf image scan
+scan_is fixed image None is = tt
+scan_is fixed image (Some scan) is = is.1

@@ -1,9 +1,12 @@
 -- What is counted and told of the images at a point (own).
-use Rattle.std.specs.Prelude.{◌≡◌, ◌⊎◌, ℕ, suc, ◌+◌, ◌<◌, ◌≤◌, Bool, true, false, cond, List, [], ◌∷◌, ◌++◌, length, map}
+use Rattle.std.specs.Prelude.{◌≡◌, ◌⊎◌, ℕ, suc, ◌+◌, ◌<◌, ◌≤◌, IsTrue, Bool, true, false, cond, List, [], ◌∷◌, ◌++◌, length, map, Option, Some, None}
 use Rattle.std.specs.List.{All, count_by}
+use Rattle.sqwal.specs.Took.{Took}
+use Rattle.sqwal.specs.declared.scan.Scan.{Scan}
 use Rattle.sqimages.specs.Images.{AreCounts, IsNumbered, image_count}
 use Rattle.sqimages.specs.Left.{MayLeave}
 use Rattle.sqimages.specs.declared.counts.Counts.{Counts}
+use Rattle.sqimages.specs.declared.fixed.Fixed.{Fixed}
 use Rattle.sqimages.specs.declared.image.Image.{Image}
 use Rattle.sqjudge.specs.Judged.{IsFilesJudgment}
 use Rattle.sqjudge.specs.declared.judgment.Judgment.{Judgment}
@@ -12,6 +15,16 @@ use Rattle.sqcrash.specs.Runs.{RunState}
 use Rattle.sqcrash.specs.declared.survey.Tally.{Tally}
 use Rattle.sqcrash.specs.declared.survey.Finding.{Finding}
 use Rattle.sqcrash.specs.declared.survey.Survey.{Survey}
+
+-- this is the scan of an image's log, if there is one
+abbrev pub IsScanOf : Image → Option Scan → Type 0
+IsScanOf image None = Unit {0}
+IsScanOf image (Some scan) = Took image.wal.items scan
+
+-- the same where that is fixed; otherwise there is none
+abbrev pub IsFixedScan : Fixed → Image → Option Scan → Type 0
+IsFixedScan fixed image None = Unit {0}
+IsFixedScan fixed image (Some scan) = IsTrue fixed.wal × Took image.wal.items scan
 
 abbrev pub is_lost : Judgment → Bool
 is_lost (Lost k) = true

@@ -6,8 +6,9 @@ ghost use Rattle.sqplay.specs.Plays.{files_of};
 use crate::outcome::Refusal;
 use crate::promise::{Mark, Promise};
 use sqimages::Image;
-use sqjudge::{History, Judgment, judge_files};
+use sqjudge::{History, Judgment, judge_files, judge_scanned};
 use sqplay::{Kind, Meta, Player, Record};
+use sqwal::Scan;
 use std::alloc::Global;
 
 /// How many bytes of a record stand in front of those that it carries.
@@ -32,6 +33,7 @@ impl Run {
     ghost use Rattle.sqplay.specs.Trace.{bytes_of};
     ghost use Rattle.sqjudge.specs.Judged.{IsFilesJudgment};
     ghost use Rattle.sqcrash.specs.Promises.{IsSpokenOf};
+    ghost use Rattle.sqcrash.specs.Surveys.{IsScanOf};
     ghost use Rattle.sqcrash.specs.Runs.{run_of, no_run, Notes, Begins, Goes, Calls, Marks, PlaysOne};
 
     /// Nothing is played yet. The disks have sectors of this size, a power of two from 512 to 65536 bytes, and tear or
@@ -77,6 +79,18 @@ impl Run {
     {
         let (db, wal, journal) = (&image.db, &image.wal, &image.journal);
         Ok(judge_files(self.alloc, &self.history, self.known, db, wal, journal)?)
+    }
+
+    /// The same where the log's scan is there, or isn't.
+    pub fn judge_scanned(&self, image: &Image, scan: &Option<Scan>) -> Result<Judgment, Refusal>
+        ensures { IsScanOf image.now scan.now → IfOk result (IsFilesJudgment (run_of self.now).commits
+            (run_of self.now).known image.now.db.items image.now.wal.items image.now.journal.items) }
+    {
+        let Some(scan) = scan else {
+            return self.judge(image);
+        };
+        let (db, wal, journal) = (&image.db, &image.wal, &image.journal);
+        Ok(judge_scanned(&self.history, self.known, db, wal, journal, scan)?)
     }
 
     /// Takes the database that the present files show, where it isn't the last commit's.

@@ -3,14 +3,16 @@ ghost use Rattle.std.specs.Prelude.{◌≡◌, ◌+◌, ◌∷◌, ◌++◌, [],
 ghost use Rattle.sqplay.specs.Plays.{files_of};
 ghost use Rattle.sqimages.specs.Images.{AreCounts, image_count};
 ghost use Rattle.sqcrash.specs.Runs.{run_of};
-ghost use Rattle.sqcrash.specs.Surveys.{IsNumberedSurvey, IsDrawnSurvey, IsSurvey};
+ghost use Rattle.sqcrash.specs.Surveys.{IsFixedScan, IsNumberedSurvey, IsDrawnSurvey, IsSurvey};
 
 use crate::keep::Keeper;
 use crate::outcome::Refusal;
 use crate::run::Run;
 use rand_core::Rng;
-use sqimages::{Counts, Image, draw};
+use sqimages::{Counts, Fixed, Image, draw, draw_now, redraw};
 use sqjudge::Judgment;
+use sqview::scan_log;
+use sqwal::Scan;
 use std::alloc::Global;
 use std::fmt;
 
@@ -173,6 +175,45 @@ fn survey_numbered<K: Keeper>(
     Ok(())
 }
 
+/// The scan of the log of an image, where that is fixed and is a log.
+fn fixed_scan(alloc: Global, fixed: Fixed, image: &Image) -> Option<Scan>
+    ensures { IsFixedScan fixed image.now result }
+{
+    if !fixed.wal {
+        return None;
+    }
+    let mut log = image.wal.as_slice();
+    match scan_log(alloc, &mut log) {
+        Ok(Ok(scan)) => Some(scan),
+        _ => None,
+    }
+}
+
+/// Judges so many images that are drawn, where there is one epoch. The files that are fixed are made once, and where
+/// the log is, it is scanned once.
+fn survey_redrawn<R: Rng, K: Keeper>(
+    run: &Run,
+    limit: u64,
+    rng: &mut R,
+    keeper: &mut K,
+    survey: &mut Survey,
+) -> Result<(), Refusal>
+    ensures { OnOk result (IsDrawnSurvey (run_of run.now) limit survey.old survey.new) }
+{
+    let point = survey.tally.points;
+    let fixed = Fixed::of(run.player());
+    let mut image = Image::none(run.alloc());
+    draw_now(run.alloc(), rng, run.player(), &mut image)?;
+    let scan = fixed_scan(run.alloc(), fixed, &image);
+    for n in 0..limit {
+        redraw(run.alloc(), rng, run.player(), fixed, &mut image)?;
+        let judgment = run.judge_scanned(&image, &scan)?;
+        survey.add(n, judgment)?;
+        keep_wrong(keeper, point, n, &image, judgment)?;
+    }
+    Ok(())
+}
+
 /// Judges so many images that are drawn.
 fn survey_drawn<R: Rng, K: Keeper>(
     run: &Run,
@@ -194,6 +235,23 @@ fn survey_drawn<R: Rng, K: Keeper>(
     Ok(())
 }
 
+/// Judges so many images that are drawn, by what is quicker.
+fn survey_some<R: Rng, K: Keeper>(
+    run: &Run,
+    limit: u64,
+    rng: &mut R,
+    keeper: &mut K,
+    survey: &mut Survey,
+) -> Result<(), Refusal>
+    ensures { OnOk result (IsDrawnSurvey (run_of run.now) limit survey.old survey.new) }
+{
+    if run.player().earlier().is_empty() {
+        survey_redrawn(run, limit, rng, keeper, survey)
+    } else {
+        survey_drawn(run, limit, rng, keeper, survey)
+    }
+}
+
 /// Judges what a crash may leave of a run now: all images where they are no more than the limit, otherwise so many that
 /// are drawn. What was counted before is counted on. Images with something wrong go to the keeper. Refused by NoMemory,
 /// by TooMany where a count would pass 18,446,744,073,709,551,615, and by what refuses the keeper.
@@ -210,7 +268,7 @@ pub fn judge_images<R: Rng, K: Keeper>(
     let counts = Counts::of(run.alloc(), run.player(), limit)?;
     match counts {
         Some(counts) => survey_numbered(run, &counts, keeper, &mut survey)?,
-        None => survey_drawn(run, limit, rng, keeper, &mut survey)?,
+        None => survey_some(run, limit, rng, keeper, &mut survey)?,
     }
     Ok(survey)
 }

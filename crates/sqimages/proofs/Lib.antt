@@ -3,3 +3,4 @@ pub mod Multiplying
 pub mod Holding
 pub mod Placing
 pub mod Ordering
+pub mod Leaving

@@ -3,3 +3,4 @@ pub mod Images
 pub mod Left
 pub mod Adding
 pub mod Including
+pub mod Fixing

@@ -96,7 +96,7 @@ fn files_count(files: &[ModelDisk], none: bool, limit: u64) -> Option<u64>
 }
 
 /// In how many ways a crash may leave what is under a name that holds this. None where they are above the limit.
-fn name_count(name: &Name, holds: Holds, limit: u64) -> Option<u64>
+pub(crate) fn name_count(name: &Name, holds: Holds, limit: u64) -> Option<u64>
     ensures { MatchOption result (limit < name_ways (name_of name.now) holds)
         (λ n. (n ≡ name_ways (name_of name.now) holds) × (n ≤ limit)) }
 {

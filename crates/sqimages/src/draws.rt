@@ -149,7 +149,7 @@ fn append_image(disk: &ModelDisk, choice: &FileChoice, out: &mut Vec<u8>) -> Res
 }
 
 /// Puts there a file that may be left under a name that holds this: each of its files, or none, as often as any other.
-fn put_draw<R: Rng>(
+pub(crate) fn put_draw<R: Rng>(
     alloc: Global,
     rng: &mut R,
     name: &Name,

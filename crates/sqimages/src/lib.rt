@@ -3,10 +3,14 @@
 
 mod counts;
 mod draws;
+mod fixed;
 mod image;
 mod laws;
+mod redraws;
 
 pub use counts::Counts;
 pub use draws::draw;
+pub use fixed::Fixed;
 pub use image::Image;
 pub use laws::what_order_leaves;
+pub use redraws::{draw_now, redraw};

@@ -25,6 +25,11 @@ impl History {
         }
     }
 
+    /// Where its memory comes from.
+    pub(crate) fn alloc(&self) -> Global {
+        *self.commits.allocator()
+    }
+
     /// How many there are.
     pub fn len(&self) -> usize
         ensures { result ≡ length (commits_of self.now) }

@@ -1,5 +1,6 @@
 //! What is wrong with the files that a crash left (own).
 ghost use Rattle.std.specs.Prelude.{◌≡◌, ◌↔◌, ℕ, List, [], IfOk, IsTrue};
+ghost use Rattle.sqwal.specs.Took.{Took};
 ghost use Rattle.sqview.specs.LogView.{ViewRefused};
 ghost use Rattle.sqview.specs.declared.view_error.ViewError.TheVariants.{Header};
 ghost use Rattle.sqjudge.specs.Shown.{Commit, IsLastShown, commits_of};
@@ -10,6 +11,7 @@ use crate::history::History;
 use sqcheck::check;
 use sqpage::{CheckError, Fault, PageSource};
 use sqview::{View, ViewError};
+use sqwal::Scan;
 use std::alloc::Global;
 
 /// What files show that a crash left.
@@ -118,6 +120,26 @@ pub fn judge_files(
     ensures { IfOk result (IsFilesJudgment (commits_of history.now) known db.now wal.now journal.now) }
 {
     match View::new(alloc, db, wal, journal) {
+        Ok(mut view) => judge_source(alloc, history, known, &mut view),
+        Err(refusal) => refused(history, known, db.is_empty(), refusal),
+    }
+}
+
+/// The same as `judge_files` of a write-ahead log of which this is the scan, so that it need not be scanned again.
+/// Memory is taken where the history has its own (own).
+pub fn judge_scanned(
+    history: &History,
+    known: usize,
+    db: &[u8],
+    wal: &[u8],
+    journal: &[u8],
+    scan: &Scan,
+) -> Result<Judgment, SnapshotError>
+    ensures { Took wal.now scan.now
+        → IfOk result (IsFilesJudgment (commits_of history.now) known db.now wal.now journal.now) }
+{
+    let alloc = history.alloc();
+    match View::new_scanned(alloc, db, wal, journal, scan) {
         Ok(mut view) => judge_source(alloc, history, known, &mut view),
         Err(refusal) => refused(history, known, db.is_empty(), refusal),
     }

@@ -9,6 +9,6 @@ mod snapshot;
 
 pub use error::SnapshotError;
 pub use history::History;
-pub use judgment::{Judgment, judge_files, judge_source};
+pub use judgment::{Judgment, judge_files, judge_scanned, judge_source};
 pub use leaves::free_leaves;
 pub use snapshot::Snapshot;

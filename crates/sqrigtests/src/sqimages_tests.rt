@@ -2,7 +2,7 @@
 
 use crate::traces::sample;
 use rand_pcg::Pcg32;
-use sqimages::{Counts, Image, draw};
+use sqimages::{Counts, Fixed, Image, draw, draw_now, redraw};
 use sqplay::{Meta, Player, Trace};
 use std::alloc::Global;
 use std::test::Fail;
@@ -95,6 +95,31 @@ fn draws(rt: HostRuntime) -> Result<(), Fail> {
     let mut without_journal = 0u32;
     for _ in 0..40 {
         draw(alloc, &mut rng, &player, &mut drawn)?;
+        assert!(rt; is_numbered(alloc, &player, &counts, &drawn)?);
+        if drawn.journal.is_empty() {
+            without_journal = without_journal.saturating_add(1);
+        }
+    }
+    assert!(rt; 8 < without_journal && without_journal < 32);
+    Ok(())
+}
+
+// No log was written, so that a crash leaves one way of it alone, but several of the file and the journal. What is
+// drawn again is one of the images, and a file that is fixed stays.
+#[test]
+fn redraws(rt: HostRuntime) -> Result<(), Fail> {
+    let alloc = rt.alloc();
+    let player = player(alloc, false, Meta::Parts)?;
+    let counts = Counts::of(alloc, &player, 12)?.ok_or("too many")?;
+    let fixed = Fixed::of(&player);
+    assert!(rt; fixed.wal && !fixed.db && !fixed.journal);
+    let mut rng = Pcg32::new(1, 1);
+    let mut drawn = Image::none(alloc);
+    draw_now(alloc, &mut rng, &player, &mut drawn)?;
+    assert!(rt; is_numbered(alloc, &player, &counts, &drawn)?);
+    let mut without_journal = 0u32;
+    for _ in 0..40 {
+        redraw(alloc, &mut rng, &player, fixed, &mut drawn)?;
         assert!(rt; is_numbered(alloc, &player, &counts, &drawn)?);
         if drawn.journal.is_empty() {
             without_journal = without_journal.saturating_add(1);

@@ -6,7 +6,7 @@ use Rattle.sqcrash.specs.Runs.{run_of}
 use Rattle.sqcrash.specs.Surveys.{IsNumberedSurvey, IsDrawnSurvey}
 use Rattle.sqcrash.specs.declared.survey.Survey.{Survey}
 use Rattle.sqcrash.proofs.survey.judge_images.Goals as goal
-use Rattle.sqcrash.proofs.survey.judge_images.Goals.{in-Some+in_ok-survey_numbered-in-Some, in-None+in_ok-survey_drawn-in-None}
+use Rattle.sqcrash.proofs.survey.judge_images.Goals.{in-Some+in_ok-survey_numbered-in-Some, in-None+in_ok-survey_some-in-None}
 
 pub returns : goal.returns
 returns g c =
@@ -24,9 +24,9 @@ returns g c =
           (subst Answer w.in-Some.is counted).1,
           subst (λ (s : Survey). IsNumberedSurvey run begun s) (sym w.survey-is) w.in_ok-survey_numbered-in-Some.ensures,
         )
-        | in-None+in_ok-survey_drawn-in-None w ↦ inr (
+        | in-None+in_ok-survey_some-in-None w ↦ inr (
           subst Answer w.in-None.is counted,
-          subst (λ (s : Survey). IsDrawnSurvey run limit begun s) (sym w.survey-is) w.in_ok-survey_drawn-in-None.ensures,
+          subst (λ (s : Survey). IsDrawnSurvey run limit begun s) (sym w.survey-is) w.in_ok-survey_some-in-None.ensures,
         )
       ];
     }
