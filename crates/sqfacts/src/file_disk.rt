@@ -9,10 +9,13 @@ use std::fs::{Metadata, OpenFile};
 use std::io::{self, Write};
 use std::os::unix::fs::FileExt;
 
-/// What is asked before files are changed.
+/// What is asked before files are changed, and told of what is read of them.
 pub trait Guard: Drop {
     /// Refused where they aren't to be changed.
     fn ask(&self) -> Result<(), Refusal>;
+
+    /// So many bytes more were asked for.
+    fn has_read(&self, _bytes: u64) {}
 }
 
 /// A database file and its log as a disk of sectors of 4096 bytes. Each fault of the system is `Failed`. Before the
@@ -170,6 +173,7 @@ impl<F: FileExt + OpenFile + Drop, G: Guard> Disk for FileDisk<F, G> {
 
     fn read_at(&mut self, file: File, at: u64, out: &mut [u8]) -> Result<(), DiskError> {
         let answer = read_or_zeros(self.file(file), at, out);
+        self.guard.has_read(out.len() as u64);
         self.answered(file, answer)
     }
 

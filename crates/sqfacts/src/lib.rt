@@ -16,7 +16,7 @@ pub use faults::{first_fault, is_unsound};
 pub use file_disk::{FileDisk, Guard, metadata_of, read_or_zeros};
 pub use fronts::{Front, standing};
 pub use locks::{Identity, identity_of, is_locked};
-pub use notes::Notes;
+pub use notes::{NoteWriter, Notes};
 pub use outcome::{Outcome, Refusal};
 pub use readings::{Reading, Readings, unchanged};
 pub use runs::{Run, Use, number_of, runs_of, uses_of};

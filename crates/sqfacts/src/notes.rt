@@ -1,43 +1,73 @@
 //! Notes on standard error.
+use std::cell::{Cell, RefCell};
 use std::fmt::Display;
 use std::io::Write;
 
-/// Where notes go, each a line that begins `sqrescue: note: `.
-pub struct Notes<'a, E: Write> {
-    err: &'a mut E,
-    verbose: bool,
-    failed: bool,
+/// A writer of notes, which several `Notes` share, and whether a note could not be written.
+#[derive(Drop)]
+pub struct NoteWriter<E> {
+    err: RefCell<E>,
+    failed: Cell<bool>,
 }
 
-impl<E: Write> Drop for Notes<'_, E> {
+impl<E: Write> NoteWriter<E> {
+    pub fn new(err: E) -> NoteWriter<E> {
+        NoteWriter {
+            err: RefCell::new(err),
+            failed: Cell::new(false),
+        }
+    }
+
+    /// Whether a note could not be written.
+    pub fn has_failed(&self) -> bool {
+        self.failed.get()
+    }
+
+    /// Writes a note.
+    fn say<T: Display>(&self, text: &T) {
+        let is_written = match self.err.try_borrow_mut() {
+            Ok(mut err) => writeln!(err, "sqrescue: note: {text}").is_ok(),
+            Err(_) => false,
+        };
+        if !is_written {
+            self.failed.set(true);
+        }
+    }
+}
+
+/// Where notes go, each a line that begins `sqrescue: note: `.
+pub struct Notes<'a, E> {
+    to: &'a NoteWriter<E>,
+    verbose: bool,
+}
+
+impl<E> Drop for Notes<'_, E> {
     fn drop(self) {
-        let Notes {
-            err: _,
-            verbose: _,
-            failed: _,
-        } = self;
+        let Notes { to: _, verbose: _ } = self;
     }
 }
 
 impl<'a, E: Write> Notes<'a, E> {
     /// Notes of which some are written only where they are asked for.
-    pub fn new(err: &'a mut E, verbose: bool) -> Notes<'a, E> {
+    pub fn new(to: &'a NoteWriter<E>, verbose: bool) -> Notes<'a, E> {
+        Notes { to, verbose }
+    }
+
+    /// The same notes for another who writes some.
+    pub fn again(&self) -> Notes<'a, E> {
         Notes {
-            err,
-            verbose,
-            failed: false,
+            to: self.to,
+            verbose: self.verbose,
         }
     }
 
     /// Writes a note.
-    pub fn say<T: Display>(&mut self, text: &T) {
-        if writeln!(self.err, "sqrescue: note: {text}").is_err() {
-            self.failed = true;
-        }
+    pub fn say<T: Display>(&self, text: &T) {
+        self.to.say(text);
     }
 
     /// Writes a note where it is asked for.
-    pub fn tell<T: Display>(&mut self, text: &T) {
+    pub fn tell<T: Display>(&self, text: &T) {
         if self.verbose {
             self.say(text);
         }
@@ -46,10 +76,5 @@ impl<'a, E: Write> Notes<'a, E> {
     /// Whether notes are asked for.
     pub fn are_asked(&self) -> bool {
         self.verbose
-    }
-
-    /// Whether a note could not be written.
-    pub fn have_failed(&self) -> bool {
-        self.failed
     }
 }

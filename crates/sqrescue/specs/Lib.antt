@@ -1,3 +1,1 @@
-pub mod Pages
 pub mod Paths
-pub mod Views

@@ -1,16 +1,18 @@
 //! What `check` prints.
 use crate::fronts::as_before;
-use crate::limits::limits_of;
-use crate::logs::{Contents, open_all};
+use crate::logs::open_all;
+use crate::metered::db_metered;
+use crate::opened_file::OpenedFile;
 use crate::paths::{Paths, paths_of};
-use crate::showing::ShowError;
-use crate::texts::{write_fault, write_report};
-use crate::views::{Finding, judged};
+use crate::progress::{Count, Progress};
 use crate::watch::{readings_of, time_to_wait};
-use sqfacts::{Notes, Readings, Refusal, unchanged};
-use sqval::Limits;
-use sqview::{ReadAhead, Verdict};
+use sqcheck::Options as Maps;
+use sqfacts::{NoteWriter, Notes, Readings, Refusal, unchanged};
+use sqlines::{write_fault, write_report};
+use sqshown::{Asked, Contents, Finding, ShowError, judged, limits_of, read_ahead};
+use sqview::Verdict;
 use sqwords::Options;
+use std::alloc::Global;
 use std::io::{self, Write};
 use std::os::unix::fs::FileExt;
 use std::rt::Files;
@@ -25,6 +27,7 @@ const PIECE: usize = 32_768;
 pub(crate) fn check<R: Files + AllocGlobal + Clock, O: Write, E: Write>(
     rt: &R,
     file: &str,
+    pointer_maps: bool,
     options: Options,
     out: &mut O,
     notes: &mut Notes<'_, E>,
@@ -33,16 +36,28 @@ where
     R::File: FileExt,
 {
     let paths = paths_of(rt, file, notes)?;
-    let is_well_formed = match settled_verdict(rt, &paths, options, notes) {
-        Ok(Verdict::Clean(report)) => {
-            write_report(out, options.style, &report)?;
+    let progress = Progress::new(rt, notes.again(), options);
+    match settled_verdict(rt, &paths, pointer_maps, options, &progress, notes) {
+        Ok(verdict) => write_verdict(out, options, &verdict),
+        Err(refusal) => Err(ShowError::Refused(paths.told(notes, refusal))),
+    }
+}
+
+/// Prints a verdict. Whether it is that the database is well formed.
+fn write_verdict<O: Write>(
+    out: &mut O,
+    options: Options,
+    verdict: &Verdict,
+) -> Result<bool, ShowError> {
+    let is_well_formed = match verdict {
+        Verdict::Clean(report) => {
+            write_report(out, options.style, report)?;
             true
         }
-        Ok(Verdict::Damaged(error)) => {
-            write_fault(out, options.style, &error)?;
+        Verdict::Damaged(error) => {
+            write_fault(out, options.style, error)?;
             false
         }
-        Err(refusal) => return Err(ShowError::Refused(paths.told(notes, refusal))),
     };
     out.flush()?;
     Ok(is_well_formed)
@@ -50,64 +65,66 @@ where
 
 /// The verdict on files that don't change meanwhile. Where they were changed so shortly before that a further change
 /// might be dated like it, a fault is looked for again once any change is dated later.
-fn settled_verdict<R: Files + AllocGlobal + Clock, E: Write>(
+fn settled_verdict<R: Files + AllocGlobal + Clock, M: Count, E: Write>(
     rt: &R,
     paths: &Paths,
+    pointer_maps: bool,
     options: Options,
+    meter: &M,
     notes: &mut Notes<'_, E>,
 ) -> Result<Verdict, Refusal>
 where
     R::File: FileExt,
 {
-    let Options {
-        super_journal,
-        at,
-        ..
-    } = options;
-    let limits = limits_of(options);
     let before = readings_of(rt, paths, false, notes)?;
     let wait = time_to_wait(rt, &before);
-    let found = judged_in(
-        rt,
-        limits,
-        open_all(rt, paths, super_journal, at, notes),
-        at,
-    );
+    let found = judged_now(rt, paths, pointer_maps, options, meter, notes);
     match watched(rt, paths, &before, found, notes)? {
         Verdict::Damaged(_) if !wait.is_zero() => {
             thread::sleep(rt, wait);
             let settled = readings_of(rt, paths, false, notes)?;
             unchanged(&before, &settled, Ok(()))?;
-            let mut nowhere = io::sink();
-            let mut unheard = Notes::new(&mut nowhere, false);
-            let found = judged_in(
-                rt,
-                limits,
-                open_all(rt, paths, super_journal, at, &mut unheard),
-                at,
-            );
+            let nowhere = NoteWriter::new(io::sink());
+            let mut unheard = Notes::new(&nowhere, false);
+            let found = judged_now(rt, paths, pointer_maps, options, meter, &mut unheard);
             watched(rt, paths, &settled, found, notes)
         }
         verdict => Ok(verdict),
     }
 }
 
-/// What is found of opened files within limits, at a commit or as their log has them.
-fn judged_in<R: Files + AllocGlobal>(
+/// What is found of files now.
+fn judged_now<R: Files + AllocGlobal, M: Count, E: Write>(
     rt: &R,
-    limits: Limits,
-    opened: Result<Contents<'_, R::File>, Refusal>,
-    at: Option<u32>,
+    paths: &Paths,
+    pointer_maps: bool,
+    options: Options,
+    meter: &M,
+    notes: &mut Notes<'_, E>,
 ) -> Result<Finding, Refusal>
 where
     R::File: FileExt,
 {
-    let Contents { db, wal, journal } = opened?;
-    let alloc = rt.alloc();
-    let db = ReadAhead::new(alloc, db, PIECE)?;
-    let wal = ReadAhead::new(alloc, wal, 0)?;
-    let journal = ReadAhead::new(alloc, journal, 0)?;
-    judged(alloc, limits, db, wal, journal, at)
+    let files = open_all(rt, paths, options.super_journal, options.at, notes)?;
+    judged_of(rt.alloc(), pointer_maps, options, files, meter)
+}
+
+/// What is found of opened files.
+fn judged_of<F: FileExt + Drop, M: Count>(
+    alloc: Global,
+    pointer_maps: bool,
+    options: Options,
+    files: Contents<OpenedFile<'_, F>>,
+    meter: &M,
+) -> Result<Finding, Refusal> {
+    let files = read_ahead(alloc, files, PIECE)?;
+    let Contents { db, wal, journal } = db_metered(files, meter);
+    let asked = Asked {
+        limits: limits_of(options),
+        at: options.at,
+        maps: Maps { pointer_maps },
+    };
+    judged(alloc, asked, db, wal, journal)
 }
 
 /// The verdict on files, if they are as they were before, and the frames of the log that counted still stand.

@@ -1,26 +1,26 @@
 //! A file that holds what a recovery would leave in a database file, of which nothing is written.
+ghost use Rattle.std.specs.Prelude.{◌≡◌, ◌≢◌};
+
 use crate::fronts::as_before;
 use crate::hints::{tell_length, told};
 use crate::journals::names_super_journal;
-use crate::limits::limits_of;
 use crate::logs::{Beside, open_logs, opened};
+use crate::metered::{Metered, all_metered};
 use crate::opened_file::OpenedFile;
+use crate::outcomes::write_outcome;
 use crate::paths::{Paths, folder_of, is_log_of, paths_of};
-use crate::showing::ShowError;
-use crate::texts::write_outcome;
-use crate::views::view_of;
+use crate::progress::{Count, Progress};
+use crate::reports::answer_of;
 use crate::watch::{readings_of, time_to_wait};
 use sqfacts::{Front, Notes, Outcome, Readings, Refusal};
-use sqjournal::JournalError;
 use sqpage::{PageSource, has_magic, named_page_size};
+use sqshown::{Contents, ShowError, limits_of, read_ahead, replayed, scanned, view_of};
 use sqval::{Limits, PageSize};
-use sqview::{
-    CopyError, FileBytes, LogInUse, ReadAhead, View, copy, log_in_use, replay_log, scan_log_within,
-};
+use sqview::{CopyError, FileBytes, LogInUse, ReadAhead, View, copy, log_in_use};
 use sqwal::{Scan, WalFormatError};
 use sqwords::{Options, SuperJournal};
 use std::alloc::Global;
-use std::fs::{self, OpenFile, OpenOptions};
+use std::fs::{OpenFile, OpenOptions};
 use std::io::Write;
 use std::os::unix::fs::{FileExt, MetadataExt, OpenOptionsExt};
 use std::rt::Files;
@@ -30,16 +30,22 @@ use std::time::Clock;
 /// How many bytes of a file are read at once.
 const PIECE: usize = 65_536;
 
+/// A real file of which it is counted how much is read.
+type Counted<'a, F, M> = Metered<'a, OpenedFile<'a, F>, M>;
+
+/// A view of real files, of which neighbours are read at once.
+type CountedView<'a, F, M> = View<Metered<'a, ReadAhead<OpenedFile<'a, F>>, M>>;
+
 /// What is to be written.
 #[derive(Drop)]
-enum Content<'a, F> {
+enum Content<'a, F, M> {
     /// The database file as it stands.
-    File(OpenedFile<'a, F>),
-    /// The pages of a view, of which neighbours are read at once.
-    Pages(View<ReadAhead<OpenedFile<'a, F>>>),
+    File(Counted<'a, F, M>),
+    /// The pages of a view.
+    Pages(CountedView<'a, F, M>),
 }
 
-impl<F: FileExt + Drop> Content<'_, F> {
+impl<F: FileExt + Drop, M: Count> Content<'_, F, M> {
     /// The front of the log that is folded, if one is.
     fn front(&self) -> Option<Front> {
         match self {
@@ -47,13 +53,21 @@ impl<F: FileExt + Drop> Content<'_, F> {
             Content::Pages(view) => Front::of_view(view),
         }
     }
+
+    /// How many bytes are to be written.
+    fn length(&self) -> u64 {
+        match self {
+            Content::File(db) => db.len(),
+            Content::Pages(view) => u64::from(view.count()) * u64::from(view.page_size().get()),
+        }
+    }
 }
 
 /// What a recovery comes to, what it leaves in the database file, and who may read that.
 #[derive(Drop)]
-struct Found<'a, F> {
+struct Found<'a, F, M> {
     outcome: Outcome,
-    content: Content<'a, F>,
+    content: Content<'a, F, M>,
     mode: u32,
 }
 
@@ -75,28 +89,50 @@ where
     let paths = paths_of(rt, file, notes)?;
     let before = readings_of(rt, &paths, false, notes)?;
     thread::sleep(rt, time_to_wait(rt, &before));
-    let found = found_in(rt, &paths, options, notes);
-    let found = match watched(rt, &paths, &before, None, found, notes) {
-        Ok(found) => found,
-        Err(refusal) => return Err(ShowError::Refused(paths.told(notes, refusal))),
-    };
-    if is_log_of(rt, &paths, to) {
+    let progress = Progress::new(rt, notes.again(), options);
+    let found = found_in(rt, &paths, options, &progress, notes);
+    match watched(rt, &paths, &before, None, found, notes) {
+        Ok(found) => {
+            let outcome = found.outcome;
+            progress.begin(found.content.length());
+            make_copy(rt, &paths, &before, to, found, notes)?;
+            answer_of(rt, to, printed(out, options, outcome), notes)
+        }
+        Err(refusal) => Err(ShowError::Refused(paths.told(notes, refusal))),
+    }
+}
+
+/// Makes the file. It is removed where it fails.
+fn make_copy<R: Files + AllocGlobal, M: Count, E: Write>(
+    rt: &R,
+    paths: &Paths,
+    before: &Readings,
+    to: &str,
+    found: Found<'_, R::File, M>,
+    notes: &mut Notes<'_, E>,
+) -> Result<(), ShowError>
+where
+    R::File: FileExt,
+{
+    if is_log_of(rt, paths, to) {
         notes.tell(&format_args!("{to}: a log's name"));
         return Err(ShowError::Refused(Refusal::FileFailed));
     }
-    let made = new_file(rt, to, found.mode, notes)?;
-    let (outcome, front) = (found.outcome, found.content.front());
-    let written = written(rt, found.content, made, to, notes);
-    let answer = match watched(rt, &paths, &before, front, written, notes) {
-        Ok(()) => printed(out, options, outcome),
-        Err(refusal) => Err(ShowError::Refused(paths.told(notes, refusal))),
-    };
-    if answer.is_err() {
-        if let Err(error) = fs::remove_file(rt, to) {
-            notes.tell(&format_args!("{to}: {error}"));
+    let Found {
+        content,
+        mode,
+        outcome: _,
+    } = found;
+    let front = content.front();
+    let made = new_file(rt, to, mode, notes)?;
+    let written = written(rt, content, made, to, notes);
+    match watched(rt, paths, before, front, written, notes) {
+        Ok(()) => Ok(()),
+        Err(refusal) => {
+            let refusal = paths.told(notes, refusal);
+            answer_of(rt, to, Err(ShowError::Refused(refusal)), notes)
         }
     }
-    answer
 }
 
 fn printed<O: Write>(out: &mut O, options: Options, outcome: Outcome) -> Result<(), ShowError> {
@@ -117,57 +153,88 @@ fn watched<R: Files + AllocGlobal, T: Drop, E: Write>(
 where
     R::File: FileExt,
 {
-    as_before(rt, paths, before, false, front, notes)?;
-    answer
+    match as_before(rt, paths, before, false, front, notes) {
+        Ok(()) => answer,
+        Err(refusal) => Err(refusal),
+    }
 }
 
 /// What a recovery of these files comes to.
-fn found_in<'a, R: Files + AllocGlobal, E: Write>(
+fn found_in<'a, R: Files + AllocGlobal, M: Count, E: Write>(
     rt: &R,
     paths: &'a Paths,
     options: Options,
+    meter: &'a M,
     notes: &mut Notes<'_, E>,
-) -> Result<Found<'a, R::File>, Refusal>
+) -> Result<Found<'a, R::File, M>, Refusal>
 where
     R::File: FileExt,
 {
     let Beside {
         db: said,
         wal,
-        mut journal,
+        journal,
     } = open_logs(rt, paths, options.super_journal, options.at, notes)?;
     let mode = said.mode() & 0o777;
     let mut db = opened(rt, &paths.db, Some(said), 0, notes)?;
     tell_length(notes, paths.db.as_str(), &mut db);
-    let (alloc, limits) = (rt.alloc(), limits_of(options));
+    meter.begin(log_reads(wal.len(), journal.len()));
+    let files = all_metered(Contents { db, wal, journal }, meter);
+    match content_of(rt.alloc(), files, options) {
+        Ok((outcome, content)) => Ok(Found {
+            outcome,
+            content,
+            mode,
+        }),
+        Err(refusal) => Err(refusal),
+    }
+}
+
+/// How many bytes of the log that counts are read until it is known what is to be copied, of logs of these lengths: a
+/// journal is scanned for its records, and for the pages.
+fn log_reads(wal: u64, journal: u64) -> u64
+    ensures wal { wal ≢ 0 → result ≡ wal }
+{
+    if wal != 0 {
+        wal
+    } else {
+        journal.saturating_mul(2)
+    }
+}
+
+/// What a recovery of opened files comes to, and leaves in the database file.
+fn content_of<'a, F: FileExt + Drop, M: Count>(
+    alloc: Global,
+    files: Contents<Counted<'a, F, M>>,
+    options: Options,
+) -> Result<(Outcome, Content<'a, F, M>), Refusal> {
+    let Contents {
+        db,
+        wal,
+        mut journal,
+    } = files;
     let in_use = log_in_use(&wal, &mut journal)?;
-    let (outcome, content) = match (in_use, options.at) {
-        (_, Some(0)) => (Outcome::NoFront, Content::File(db)),
-        (LogInUse::Wal, at) => folded(alloc, limits, db, wal, at)?,
-        (_, Some(_)) => return Err(Refusal::NoSuchCommit),
-        (LogInUse::Neither, None) => (Outcome::Nothing, Content::File(db)),
+    let files = Contents { db, wal, journal };
+    match (in_use, options.at) {
+        (_, Some(0)) => Ok((Outcome::NoFront, Content::File(files.db))),
+        (LogInUse::Wal, at) => folded(alloc, limits_of(options), files, at),
+        (_, Some(_)) => Err(Refusal::NoSuchCommit),
+        (LogInUse::Neither, None) => Ok((Outcome::Nothing, Content::File(files.db))),
         (LogInUse::Journal(_), None) => {
             let counts = options.super_journal == Some(SuperJournal::Present);
-            rolled_back(alloc, limits, db, journal, counts)?
+            rolled_back(alloc, limits_of(options), files, counts)
         }
-    };
-    Ok(Found {
-        outcome,
-        content,
-        mode,
-    })
+    }
 }
 
 /// The scan of a log, and the size of its pages. None where its header isn't valid, or it has no front.
-fn scanned<F: FileBytes>(
+fn valid_scan<F: FileBytes>(
     alloc: Global,
     limits: Limits,
     wal: &mut F,
 ) -> Result<Option<(Scan, PageSize)>, Refusal> {
-    let scan = match scan_log_within(alloc, limits, wal)? {
+    let scan = match scanned(alloc, limits, wal)? {
         Ok(scan) => scan,
-        Err(WalFormatError::TooLong) => return Err(Refusal::TooLarge),
-        Err(WalFormatError::NoMemory) => return Err(Refusal::NoMemory),
         Err(WalFormatError::UnknownVersion) => return Err(Refusal::UnknownLogVersion),
         Err(_) => return Ok(None),
     };
@@ -178,32 +245,43 @@ fn scanned<F: FileBytes>(
 }
 
 /// What is left where a log that isn't empty is folded, up to a commit frame or the front.
-fn folded<'a, F: FileExt + Drop>(
+fn folded<'a, F: FileExt + Drop, M: Count>(
     alloc: Global,
     limits: Limits,
-    db: OpenedFile<'a, F>,
-    wal: OpenedFile<'a, F>,
+    files: Contents<Counted<'a, F, M>>,
     at: Option<u32>,
-) -> Result<(Outcome, Content<'a, F>), Refusal> {
-    let (mut db, mut wal) = (db, wal);
-    let Some((scan, page_size)) = scanned(alloc, limits, &mut wal)? else {
-        return match at {
+) -> Result<(Outcome, Content<'a, F, M>), Refusal> {
+    let mut files = files;
+    match valid_scan(alloc, limits, &mut files.wal)? {
+        Some((scan, page_size)) => folded_by(alloc, limits, files, (&scan, page_size), at),
+        None => match at {
             Some(_) => Err(Refusal::NoSuchCommit),
-            None => Ok((Outcome::NoFront, Content::File(db))),
-        };
-    };
-    if has_other_size(&mut db, page_size)? {
+            None => Ok((Outcome::NoFront, Content::File(files.db))),
+        },
+    }
+}
+
+/// What is left where a log with this scan, of pages of this size, is folded.
+fn folded_by<'a, F: FileExt + Drop, M: Count>(
+    alloc: Global,
+    limits: Limits,
+    files: Contents<Counted<'a, F, M>>,
+    log: (&Scan, PageSize),
+    at: Option<u32>,
+) -> Result<(Outcome, Content<'a, F, M>), Refusal> {
+    let mut files = files;
+    let (scan, page_size) = log;
+    if has_other_size(&mut files.db, page_size)? {
         return Err(Refusal::PageSizesDiffer);
     }
     let frame = at.unwrap_or(scan.committed().frames);
-    let db = ReadAhead::new(alloc, db, PIECE)?;
-    let wal = ReadAhead::new(alloc, wal, PIECE)?;
-    let view = View::of_scan_within(alloc, limits, db, wal, &scan, frame)?;
-    let outcome = Outcome::Folded {
-        frames: view.front(),
-        pages: view.count(),
-    };
-    Ok((outcome, Content::Pages(view)))
+    match folded_view(alloc, limits, files, scan, frame) {
+        Ok(view) => {
+            let (frames, pages) = (view.front(), view.count());
+            Ok((Outcome::Folded { frames, pages }, Content::Pages(view)))
+        }
+        Err(refusal) => Err(refusal),
+    }
 }
 
 /// Whether a database file's header names a page size other than this one.
@@ -216,34 +294,64 @@ fn has_other_size<F: FileBytes>(db: &mut F, page_size: PageSize) -> Result<bool,
     Ok(has_magic(&head) && named_page_size(&head).is_some_and(|own| own != page_size))
 }
 
-/// What is left where a hot journal is replayed; one of a transaction over several files only where it is said to
-/// count.
-fn rolled_back<'a, F: FileExt + Drop>(
+/// How many records a hot journal has; of one of a transaction over several files only where it is said to count.
+fn record_count<F: FileBytes>(
     alloc: Global,
-    limits: Limits,
-    db: OpenedFile<'a, F>,
-    journal: OpenedFile<'a, F>,
+    journal: &mut F,
     counts: bool,
-) -> Result<(Outcome, Content<'a, F>), Refusal> {
-    let mut journal = journal;
-    if names_super_journal(&mut journal)? && !counts {
+) -> Result<usize, Refusal> {
+    if names_super_journal(journal)? && !counts {
         return Err(Refusal::SuperJournal);
     }
-    let records = match replay_log(alloc, &mut journal)? {
-        Ok(replay) => replay.count(),
-        Err(JournalError::TooLong) => return Err(Refusal::TooLarge),
-        Err(JournalError::NoMemory) => return Err(Refusal::NoMemory),
-        Err(_) => return Err(Refusal::FileFailed),
-    };
-    let db = ReadAhead::new(alloc, db, PIECE)?;
-    let wal = ReadAhead::new(alloc, OpenedFile::missing(), 0)?;
-    let journal = ReadAhead::new(alloc, journal, PIECE)?;
-    let view = view_of(alloc, limits, db, wal, journal, None)?;
-    let outcome = Outcome::RolledBack {
-        records,
-        pages: view.count(),
-    };
-    Ok((outcome, Content::Pages(view)))
+    let replay = replayed(alloc, journal)?;
+    Ok(replay.count())
+}
+
+/// What is left where a hot journal is replayed; one of a transaction over several files only where it is said to
+/// count.
+fn rolled_back<'a, F: FileExt + Drop, M: Count>(
+    alloc: Global,
+    limits: Limits,
+    files: Contents<Counted<'a, F, M>>,
+    counts: bool,
+) -> Result<(Outcome, Content<'a, F, M>), Refusal> {
+    let mut files = files;
+    let records = record_count(alloc, &mut files.journal, counts)?;
+    match rolled_view(alloc, limits, files) {
+        Ok(view) => {
+            let pages = view.count();
+            Ok((Outcome::RolledBack { records, pages }, Content::Pages(view)))
+        }
+        Err(refusal) => Err(refusal),
+    }
+}
+
+/// The view of a database file with its hot journal alone.
+fn rolled_view<'a, F: FileExt + Drop, M: Count>(
+    alloc: Global,
+    limits: Limits,
+    files: Contents<Counted<'a, F, M>>,
+) -> Result<CountedView<'a, F, M>, Refusal> {
+    let db = files.db.ahead(alloc, PIECE);
+    let wal = files.wal.ahead(alloc, 0);
+    match (db, wal, files.journal.ahead(alloc, PIECE)) {
+        (Ok(db), Ok(wal), Ok(journal)) => Ok(view_of(alloc, limits, db, wal, journal, None)?),
+        _ => Err(Refusal::NoMemory),
+    }
+}
+
+/// The view of a database file with its write-ahead log up to a frame.
+fn folded_view<'a, F: FileExt + Drop, M: Count>(
+    alloc: Global,
+    limits: Limits,
+    files: Contents<Counted<'a, F, M>>,
+    scan: &Scan,
+    frame: u32,
+) -> Result<CountedView<'a, F, M>, Refusal> {
+    match (files.db.ahead(alloc, PIECE), files.wal.ahead(alloc, PIECE)) {
+        (Ok(db), Ok(wal)) => Ok(View::of_scan_within(alloc, limits, db, wal, scan, frame)?),
+        _ => Err(Refusal::NoMemory),
+    }
 }
 
 /// A new file with these permissions, as far as the process gives them.
@@ -265,9 +373,9 @@ pub(crate) fn new_file<R: Files, E: Write>(
 }
 
 /// Writes what is to be written to a new file, and syncs it, and its folder where that can be.
-fn written<R: Files + AllocGlobal, E: Write>(
+fn written<R: Files + AllocGlobal, M: Count, E: Write>(
     rt: &R,
-    content: Content<'_, R::File>,
+    content: Content<'_, R::File, M>,
     made: R::File,
     path: &str,
     notes: &mut Notes<'_, E>,
@@ -288,9 +396,9 @@ where
 }
 
 /// Writes all of it, and syncs the file.
-fn filled<F: FileExt + OpenFile + Write + Drop>(
+fn filled<F: FileExt + OpenFile + Write + Drop, M: Count>(
     alloc: Global,
-    content: Content<'_, F>,
+    content: Content<'_, F, M>,
     out: &mut F,
 ) -> Result<(), CopyError> {
     match content {

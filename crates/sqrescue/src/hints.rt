@@ -73,8 +73,8 @@ pub(crate) fn tell_choice<E: Write>(notes: &mut Notes<'_, E>, paths: &Paths, log
     let (wal, journal) = (paths.wal.as_str(), paths.journal.as_str());
     if logs.is_hot && logs.wal != 0 {
         notes.tell(&format_args!(
-            "{wal} and {journal} both count, of which SQLite leaves one: look at both, and move away the one that isn't \
-             of the last writer"
+            "{wal} and {journal} both count, of which SQLite leaves one: look at both, and move away the one that \
+             isn't of the last writer"
         ));
         return;
     }

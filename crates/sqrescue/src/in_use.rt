@@ -2,6 +2,7 @@
 ghost use Rattle.std.specs.Prelude.{◌≡◌, ◌<◌, ◌≤◌, ◌-◌, ℕ, length, slice_index, EachIndex, IfOk};
 
 use crate::paths::{Paths, is_missing, look_at};
+use crate::progress::Count;
 use sqfacts::{Guard, Identity, Refusal, identity_of, is_locked};
 use std::fs::OpenOptions;
 use std::io::{self, ErrorKind, Read};
@@ -16,25 +17,27 @@ const ROOM: usize = 8192;
 
 /// Asks whether a process holds a POSIX lock on a database file or on its FILE-shm, as each connection of SQLite does
 /// that reads, writes, or has a database in WAL mode open. Where the locks can't be read, nothing is refused. It asks
-/// for no memory, so that it can be asked also once a file was changed.
-pub(crate) struct OpenElsewhere<'a, R: Files> {
+/// for no memory, so that it can be asked also once a file was changed. What is read is counted.
+pub(crate) struct OpenElsewhere<'a, R: Files, M> {
     pub rt: &'a R,
     pub paths: &'a Paths,
     /// Nothing is asked.
     pub forced: bool,
+    pub meter: &'a M,
 }
 
-impl<R: Files> Drop for OpenElsewhere<'_, R> {
+impl<R: Files, M> Drop for OpenElsewhere<'_, R, M> {
     fn drop(self) {
         let OpenElsewhere {
             rt: _,
             paths: _,
             forced: _,
+            meter: _,
         } = self;
     }
 }
 
-impl<R: Files> Guard for OpenElsewhere<'_, R> {
+impl<R: Files, M: Count> Guard for OpenElsewhere<'_, R, M> {
     /// Refused by `InUse`, or where the system doesn't say which file is which.
     fn ask(&self) -> Result<(), Refusal> {
         if self.forced {
@@ -53,6 +56,10 @@ impl<R: Files> Guard for OpenElsewhere<'_, R> {
             Ok(true) => Err(Refusal::InUse),
             _ => Ok(()),
         }
+    }
+
+    fn has_read(&self, bytes: u64) {
+        self.meter.count(bytes);
     }
 }
 

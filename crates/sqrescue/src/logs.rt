@@ -5,6 +5,7 @@ use crate::opened_file::OpenedFile;
 use crate::paths::{Paths, are_apart, is_missing, look_at};
 use crate::place::Place;
 use sqfacts::{Notes, Refusal, identity_of};
+use sqshown::Contents;
 use sqview::{FileBytes, hot_header};
 use sqwords::SuperJournal;
 use std::fs::{Metadata, OpenOptions};
@@ -133,14 +134,6 @@ where
     Ok(Beside { db, wal, journal })
 }
 
-/// An opened database file, and its logs.
-#[derive(Drop)]
-pub(crate) struct Contents<'a, F> {
-    pub db: OpenedFile<'a, F>,
-    pub wal: OpenedFile<'a, F>,
-    pub journal: OpenedFile<'a, F>,
-}
-
 /// Opens a database file and its logs, of which each may be missing.
 pub(crate) fn open_all<'a, R: Files, E: Write>(
     rt: &R,
@@ -148,7 +141,7 @@ pub(crate) fn open_all<'a, R: Files, E: Write>(
     super_journal: Option<SuperJournal>,
     at: Option<u32>,
     notes: &mut Notes<'_, E>,
-) -> Result<Contents<'a, R::File>, Refusal>
+) -> Result<Contents<OpenedFile<'a, R::File>>, Refusal>
 where
     R::File: FileExt,
 {

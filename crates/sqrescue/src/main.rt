@@ -3,35 +3,26 @@
 
 ghost use Rattle.std.specs.Prelude.{◌≤◌, IfOk};
 
-mod behind;
 mod checking;
-mod commands;
 mod copies;
-mod facts;
 mod fronts;
 mod hints;
 mod in_use;
 mod journals;
-mod limits;
-mod logged;
 mod logs;
-mod names;
+mod metered;
 mod opened_file;
+mod outcomes;
 mod pages;
 mod paths;
-mod payloads;
 mod place;
 mod program;
-mod records;
+mod progress;
 mod recovery;
-mod report_page;
 mod reports;
 mod showing;
 mod surveys;
-mod texts;
-mod views;
 mod watch;
-mod words;
 
 use std::env::{self, Env};
 use std::io::{self, Write};

@@ -4,13 +4,14 @@ ghost use Rattle.std.specs.Prelude.{◌≤◌};
 use crate::checking::check;
 use crate::copies::recover_to;
 use crate::hints::next_step;
+use crate::outcomes::write_outcome;
 use crate::pages::show_pages;
 use crate::recovery::recover;
 use crate::reports::report_to;
-use crate::showing::{ShowError, show};
-use crate::texts::write_outcome;
-use crate::words::{LineError, request};
-use sqfacts::{Notes, Refusal, Status};
+use crate::showing::show;
+use sqcommands::{LineError, request};
+use sqfacts::{NoteWriter, Notes, Refusal, Status};
+use sqshown::ShowError;
 use sqwords::{Options, Part, Request, Style};
 use std::fmt::Display;
 use std::io::{self, Write};
@@ -53,13 +54,15 @@ where
         Err(LineError::NoMemory) => return refused(err, &LineError::NoMemory),
     };
     let options = options_of(&request);
-    let mut notes = Notes::new(err, options.is_some_and(|options| options.verbose));
+    let writer = NoteWriter::new(&mut *err);
+    let mut notes = Notes::new(&writer, options.is_some_and(|options| options.verbose));
     let answer = carried_out(rt, request, out, &mut notes);
     if let Err(ShowError::Refused(refusal)) = answer {
         notes.tell(&next_step(refusal, options.is_some_and(|options| options.large)));
     }
-    let failed = notes.have_failed();
+    let failed = writer.has_failed();
     drop(notes);
+    drop(writer);
     match answer {
         Ok(_) if failed => Status::Refused,
         Ok(Answer::Done) => Status::Done,
@@ -121,8 +124,12 @@ where
             part,
             options,
         } => show(rt, file, part, options, out, notes)?,
-        Request::Check { file, options } => {
-            if !check(rt, file, options, out, notes)? {
+        Request::Check {
+            file,
+            pointer_maps,
+            options,
+        } => {
+            if !check(rt, file, pointer_maps, options, out, notes)? {
                 return Ok(Answer::Damaged);
             }
         }
@@ -138,7 +145,7 @@ where
             force,
             options,
         } => {
-            let outcome = recover(rt, file, force, options.super_journal, notes)?;
+            let outcome = recover(rt, file, force, options, notes)?;
             write_outcome(out, options.style, outcome)?;
             out.flush()?;
         }

@@ -86,6 +86,7 @@ IsCommon word = (word ≡ codes "-v") ⊎ (word ≡ codes "--verbose") ⊎ (word
 abbrev pub IsKnown : (recovers : Bool) → (word : List ℕ) → Type 0
 IsKnown recovers word = IsPlain word ⊎ IsCommon word
     ⊎ (IsTrue recovers × ((word ≡ codes "--force") ⊎ IsNamed (codes "--to") word))
+    ⊎ ((recovers ≡ false) × (word ≡ codes "--pointer-maps"))
 
 -- all are
 abbrev pub AreKnown : (recovers : Bool) → (words : List (List ℕ)) → Type 0
@@ -175,9 +176,10 @@ abbrev pub Asks : List (List ℕ) → Request → Type 0
 Asks words (Show file part o) =
     (slice_get words 1 ≡ Some (codes "show")) × IsFile words file.now
     × ((options : List (List ℕ)) × AreOptions words options × AsksPart options part × AsksBesides options o × MayBeAt part o.at)
-Asks words (Check file o) =
+Asks words (Check file maps o) =
     (slice_get words 1 ≡ Some (codes "check")) × IsFile words file.now
-    × ((options : List (List ℕ)) × AreOptions words options × AreKnown false options × AsksBesides options o)
+    × ((options : List (List ℕ)) × AreOptions words options × AreKnown false options × AsksBesides options o
+    × (IsTrue maps ↔ Contains options (codes "--pointer-maps")))
 Asks words (Recover file to force o) =
     (slice_get words 1 ≡ Some (codes "recover")) × IsFile words file.now
     × ((options : List (List ℕ)) × AreOptions words options × AreKnown true options × AsksBesides options o

@@ -58,9 +58,10 @@ pub enum Request<'a> {
         part: Part,
         options: Options,
     },
-    /// To check this database file as its log has it.
+    /// To check this database file as its log has it; with pointer maps: also one with auto-vacuum, and its maps.
     Check {
         file: &'a str,
+        pointer_maps: bool,
         options: Options,
     },
     /// To recover this database file: to fold its write-ahead log into it, or to roll it back by its hot journal; by

@@ -78,7 +78,14 @@ fn is_known(word: &str, recovers: bool) -> bool
     ensures yes { IsTrue result → IsKnown recovers word.now }
     ensures not { result ≡ false → ¬ IsKnown recovers word.now }
 {
-    is_plain(word) || is_common(word) || (recovers && (word == "--force" || is_named(word, "--to")))
+    if is_plain(word) || is_common(word) {
+        return true;
+    }
+    if recovers {
+        word == "--force" || is_named(word, "--to")
+    } else {
+        word == "--pointer-maps"
+    }
 }
 
 /// Whether each word behind `check`, or behind `recover`, is no option, or one that the command has.
@@ -360,7 +367,12 @@ pub fn asked<'a>(words: &'a [&'a str], command: &str, file: &'a str) -> Option<R
         return report_asked(given, file, options);
     }
     if command == "check" && are_known(given, false) {
-        return Some(Request::Check { file, options });
+        let pointer_maps = stands_in(given, "--pointer-maps");
+        return Some(Request::Check {
+            file,
+            pointer_maps,
+            options,
+        });
     }
     if command != "recover" || !are_known(given, true) {
         return None;

@@ -37,7 +37,13 @@ pub returns-then-are_known : goal.returns-then-are_known
 returns-then-are_known c = (
   c.if-not-is_asked.ensures.second refl ∙ ap Some ((bytes_decides _ _).0 (sym c.if-eq-3.ensures)),
   c.if-not-is_asked.ensures.file refl,
-  (map (λ w. w.now) c.options_of-given.result.now, c.options_of-given.ensures, c.if-are_known.ensures.yes refl, c.in_ok-options.ensures),
+  (
+    map (λ w. w.now) c.options_of-given.result.now,
+    c.options_of-given.ensures,
+    c.if-are_known.ensures.yes refl,
+    c.in_ok-options.ensures,
+    (c.stands_in-pointer_maps.ensures.yes, told _ _ c.stands_in-pointer_maps.ensures.not),
+  ),
 )
 
 pub returns-then-ne : goal.returns-then-ne

@@ -1,0 +1,155 @@
+//! The arguments and options of the commands. Each step that clap takes stands in a function of its own, once.
+use clap::{Arg, ArgAction, value_parser};
+use std::alloc::{AllocError, Global};
+
+/// What may want memory.
+pub(crate) type Made<T> = Result<T, AllocError>;
+
+/// An option that is there or isn't.
+fn flag<'a>(alloc: Global, name: &'a str, help: &'a str) -> Arg<'a> {
+    Arg::new(alloc, name)
+        .long(name)
+        .action(ArgAction::SetTrue)
+        .help(help)
+}
+
+/// An option with a value.
+fn option<'a>(alloc: Global, name: &'a str, value: &'a str, help: &'a str) -> Arg<'a> {
+    Arg::new(alloc, name)
+        .long(name)
+        .value_name(value)
+        .action(ArgAction::Set)
+        .help(help)
+}
+
+/// An argument that can't be given with this one.
+fn without<'a>(arg: Made<Arg<'a>>, other: &'a str) -> Made<Arg<'a>> {
+    arg?.conflicts_with(other)
+}
+
+/// An argument that can be given only with this one.
+pub(crate) fn only_with<'a>(arg: Arg<'a>, other: &'a str) -> Made<Arg<'a>> {
+    arg.requires_arg(other)
+}
+
+/// The argument that names the database file.
+pub(crate) fn file_arg<'a>(alloc: Global) -> Arg<'a> {
+    Arg::new(alloc, "FILE")
+        .required(true)
+        .action(ArgAction::Set)
+        .help("The database file; its logs are FILE-wal and FILE-journal")
+}
+
+pub(crate) fn verbose_arg<'a>(alloc: Global) -> Arg<'a> {
+    flag(
+        alloc,
+        "verbose",
+        "Says on standard error which files are read, which log counts, and why a command is refused",
+    )
+    .short('v')
+}
+
+pub(crate) fn super_journal_arg<'a>(alloc: Global) -> Arg<'a> {
+    let answers: &'static [&'static str] = &["present", "gone"];
+    option(
+        alloc,
+        "super-journal",
+        "STATE",
+        "Says whether the super-journal that a journal names is there; the journal counts only where it is",
+    )
+    .require_equals(true)
+    .value_parser(answers)
+}
+
+pub(crate) fn json_arg<'a>(alloc: Global) -> Arg<'a> {
+    flag(
+        alloc,
+        "json",
+        "Prints a JSON object a line; a refusal is one too, on standard output",
+    )
+}
+
+pub(crate) fn at_arg<'a>(alloc: Global) -> Arg<'a> {
+    option(
+        alloc,
+        "at",
+        "M",
+        "Takes the database as it was at commit frame M of the write-ahead log; 0: without the log",
+    )
+    .value_parser(value_parser!(u32))
+}
+
+pub(crate) fn large_arg<'a>(alloc: Global) -> Arg<'a> {
+    flag(
+        alloc,
+        "large",
+        "Takes a database above 1,073,741,824 bytes, and a log above 2,097,152 frames",
+    )
+}
+
+pub(crate) fn pointer_maps_arg<'a>(alloc: Global) -> Arg<'a> {
+    flag(
+        alloc,
+        "pointer-maps",
+        "Checks a database with auto-vacuum too, and its pointer maps",
+    )
+}
+
+pub(crate) fn page_arg<'a>(alloc: Global) -> Made<Arg<'a>> {
+    let page = option(alloc, "page", "N", "Shows this page instead");
+    let page = Ok(page.value_parser(value_parser!(u32).range(1..)));
+    without(without(without(page, "log"), "commits"), "pages")
+}
+
+pub(crate) fn pages_arg<'a>(alloc: Global) -> Made<Arg<'a>> {
+    let help = "Shows what each page is used for instead, and checks the database";
+    let pages = Ok(flag(alloc, "pages", help));
+    without(without(pages, "log"), "commits")
+}
+
+pub(crate) fn log_arg<'a>(alloc: Global) -> Made<Arg<'a>> {
+    without(Ok(flag(alloc, "log", "Shows the log instead")), "at")
+}
+
+pub(crate) fn all_arg<'a>(alloc: Global) -> Made<Arg<'a>> {
+    let help = "Shows behind the log what stands behind its stop, which is no part of the database";
+    only_with(flag(alloc, "all", help), "log")
+}
+
+pub(crate) fn commits_arg<'a>(alloc: Global) -> Made<Arg<'a>> {
+    let help = "Shows the commits in the write-ahead log instead";
+    without(without(Ok(flag(alloc, "commits", help)), "log"), "at")
+}
+
+/// Where `recover` leaves what it makes.
+pub(crate) fn copy_arg<'a>(alloc: Global) -> Arg<'a> {
+    option(
+        alloc,
+        "to",
+        "OUT",
+        "Makes the file OUT instead, which holds what FILE would, and writes neither FILE nor its logs",
+    )
+}
+
+pub(crate) fn force_arg<'a>(alloc: Global) -> Arg<'a> {
+    flag(
+        alloc,
+        "force",
+        "Goes on while another process has the file locked, which may leave it malformed",
+    )
+}
+
+/// Where `report` leaves the page that it makes.
+pub(crate) fn report_arg<'a>(alloc: Global) -> Arg<'a> {
+    option(
+        alloc,
+        "to",
+        "OUT",
+        "Makes the file OUT, which a browser shows without a network",
+    )
+    .required(true)
+}
+
+pub(crate) fn version_arg<'a>(alloc: Global) -> Arg<'a> {
+    flag(alloc, "version", "Prints the version")
+}

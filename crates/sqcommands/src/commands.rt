@@ -1,0 +1,83 @@
+//! The commands and their options. Each function takes and gives a `Result`, and none exits early: a command that is
+//! half made has much to let go.
+use crate::arguments::{
+    Made, all_arg, at_arg, commits_arg, copy_arg, file_arg, force_arg, json_arg, large_arg,
+    log_arg, only_with, page_arg, pages_arg, pointer_maps_arg, report_arg, super_journal_arg,
+    verbose_arg, version_arg,
+};
+use clap::{Arg, Command};
+use std::alloc::Global;
+
+/// A command with one more argument.
+fn with_arg<'a>(command: Made<Command<'a>>, arg: Made<Arg<'a>>) -> Made<Command<'a>> {
+    let arg = arg?;
+    command?.arg(arg)
+}
+
+/// A command with one more command below it.
+fn with_command<'a>(command: Made<Command<'a>>, below: Made<Command<'a>>) -> Made<Command<'a>> {
+    let below = below?;
+    command?.subcommand(below)
+}
+
+/// A command with the file and the options that each has.
+fn base_command<'a>(
+    alloc: Global,
+    name: &'a str,
+    about: &'a str,
+    at: Made<Arg<'a>>,
+) -> Made<Command<'a>> {
+    let command = Ok(Command::new(alloc, name).about(about));
+    let command = with_arg(command, Ok(file_arg(alloc)));
+    let command = with_arg(command, Ok(verbose_arg(alloc)));
+    let command = with_arg(command, Ok(json_arg(alloc)));
+    let command = with_arg(command, at);
+    let command = with_arg(command, Ok(large_arg(alloc)));
+    with_arg(command, Ok(super_journal_arg(alloc)))
+}
+
+fn show_command<'a>(alloc: Global) -> Made<Command<'a>> {
+    let about = "Shows the header of the database as its log has it; writes nothing";
+    let command = base_command(alloc, "show", about, Ok(at_arg(alloc)));
+    let command = with_arg(command, page_arg(alloc));
+    let command = with_arg(command, pages_arg(alloc));
+    let command = with_arg(command, log_arg(alloc));
+    let command = with_arg(command, all_arg(alloc));
+    with_arg(command, commits_arg(alloc))
+}
+
+fn check_command<'a>(alloc: Global) -> Made<Command<'a>> {
+    let about = "Checks the database as its log has it; writes nothing";
+    let command = base_command(alloc, "check", about, Ok(at_arg(alloc)));
+    with_arg(command, Ok(pointer_maps_arg(alloc)))
+}
+
+fn recover_command<'a>(alloc: Global) -> Made<Command<'a>> {
+    let about =
+        "Recovers the database: folds its write-ahead log into it, or rolls it back by its hot journal; \
+         nobody else may have it open meanwhile";
+    let at = only_with(at_arg(alloc), "to");
+    let command = base_command(alloc, "recover", about, at);
+    let command = with_arg(command, Ok(copy_arg(alloc)));
+    with_arg(command, Ok(force_arg(alloc)))
+}
+
+fn report_command<'a>(alloc: Global) -> Made<Command<'a>> {
+    let about =
+        "Makes a page of HTML that shows the database and its log; writes neither FILE nor its logs";
+    let command = base_command(alloc, "report", about, Ok(at_arg(alloc)));
+    with_arg(command, Ok(report_arg(alloc)))
+}
+
+/// The program's command line.
+pub(crate) fn command<'a>(alloc: Global) -> Made<Command<'a>> {
+    let command = Command::new(alloc, "sqrescue")
+        .about("Reads and recovers SQLite databases with their logs")
+        .subcommand_required(true)
+        .arg_required_else_help(true);
+    let command = with_arg(Ok(command), Ok(version_arg(alloc)));
+    let command = with_command(command, show_command(alloc));
+    let command = with_command(command, check_command(alloc));
+    let command = with_command(command, recover_command(alloc));
+    with_command(command, report_command(alloc))
+}

@@ -1,0 +1,39 @@
+//! What is printed of a recovery, or a JSON object of it.
+use sqfacts::Outcome;
+use sqlines::{Fact, number, write_facts};
+use sqwords::Style;
+use std::io::{self, Write};
+
+/// What a recovery did.
+pub(crate) fn write_outcome<W: Write>(
+    out: &mut W,
+    style: Style,
+    outcome: Outcome,
+) -> io::Result<()> {
+    match (style, outcome) {
+        (Style::Lines, _) => writeln!(out, "{outcome}"),
+        (Style::Json, Outcome::Nothing) => {
+            write_facts(out, style, &[Fact::Text("recover", "nothing")])
+        }
+        (Style::Json, Outcome::NoFront) => {
+            let facts = [Fact::Text("recover", "wal"), Fact::Number("front", 0)];
+            write_facts(out, style, &facts)
+        }
+        (Style::Json, Outcome::Folded { frames, pages }) => {
+            let facts = [
+                Fact::Text("recover", "wal"),
+                number("front", frames),
+                number("pages", pages),
+            ];
+            write_facts(out, style, &facts)
+        }
+        (Style::Json, Outcome::RolledBack { records, pages }) => {
+            let facts = [
+                Fact::Text("recover", "journal"),
+                Fact::Number("records", records as u64),
+                number("pages", pages),
+            ];
+            write_facts(out, style, &facts)
+        }
+    }
+}

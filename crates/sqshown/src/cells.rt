@@ -1,0 +1,208 @@
+//! A database's header, and a page with its cells.
+ghost use Rattle.std.specs.Prelude.{◌≡◌, ◌-◌, ◌<◌, ◌≤◌, length, IfOk, IsSome, OnOk};
+ghost use Rattle.sqval.specs.PageSize.{IsPageSize};
+ghost use Rattle.sqpage.specs.Chain.{payload_size};
+ghost use Rattle.sqpage.specs.Header.{byte};
+ghost use Rattle.sqval.specs.Database.{page as page_at};
+ghost use Rattle.sqview.specs.LogView.{pages_of};
+
+use crate::contents::Contents;
+use crate::error::ShowError;
+use crate::limits::limits_of;
+use crate::payloads::Payloads;
+use crate::views::view_of;
+use sqfacts::{Front, Refusal};
+use sqlines::{
+    Unfit, number, write_bytes, write_cell, write_facts, write_header, write_page, write_record,
+    write_unfit,
+};
+use sqpage::{BtreePage, Cell, DbHeader, Fault, PageSource, payload};
+use sqval::Record;
+use sqview::{FileBytes, View};
+use sqwords::{Options, Style};
+use std::alloc::Global;
+use std::io::Write;
+
+/// A page of a view. Refused by `NoSuchPage` where there is none of this number, by `FileFailed` and by `NoMemory`.
+pub fn read_page<F: FileBytes>(
+    alloc: Global,
+    view: &mut View<F>,
+    number: u32,
+) -> Result<Vec<u8>, Refusal>
+    ensures page { IfOk result (λ page. (length page.items ≡ view.old.page_size) × IsPageSize (length page.items)) }
+    ensures content { F.gives_bytes view.old.db × F.gives_bytes view.old.log
+        → IfOk result (λ page. page.items ≡ page_at (pages_of F.bytes view.old) number) }
+    ensures number { OnOk result (0 < number) }
+    ensures size { view.new.page_size ≡ view.old.page_size }
+{
+    if number == 0 || number > view.count() {
+        return Err(Refusal::NoSuchPage);
+    }
+    let size = view.page_size().get() as usize;
+    let mut page = vec![in alloc; 0u8; size]?;
+    view.page(number, &mut page)?;
+    Ok(page)
+}
+
+/// How many bytes of a page are usable, by page 1. Where these are too few, all are (own).
+pub fn usable_size(first: &[u8]) -> u32
+    requires { IsPageSize (length first.now) }
+    ensures least { 480 ≤ result }
+    ensures most { result ≤ length first.now }
+    ensures named { 480 ≤ length first.now - byte first.now 20 → result ≡ length first.now - byte first.now 20 }
+    ensures all { length first.now - byte first.now 20 < 480 → result ≡ length first.now }
+{
+    let size = first.len() as u32;
+    let usable = size - u32::from(first[20]);
+    if usable < 480 { size } else { usable }
+}
+
+/// The view of files that is asked for.
+fn asked_view<F: FileBytes + Drop>(
+    alloc: Global,
+    files: Contents<F>,
+    options: Options,
+) -> Result<View<F>, Refusal> {
+    let Contents { db, wal, journal } = files;
+    match view_of(alloc, limits_of(options), db, wal, journal, options.at) {
+        Ok(view) => Ok(view),
+        Err(error) => Err(Refusal::from(error)),
+    }
+}
+
+/// The header on page 1 of a view. Refused by `NotADatabase` where it isn't a database's.
+fn header_of<F: FileBytes>(alloc: Global, view: &mut View<F>) -> Result<DbHeader, Refusal> {
+    if view.count() == 0 {
+        return Err(Refusal::NotADatabase);
+    }
+    let page = read_page(alloc, view, 1)?;
+    match page.first_chunk::<100>() {
+        Some(head) => DbHeader::read(head).map_err(|_| Refusal::NotADatabase),
+        None => Err(Refusal::NotADatabase),
+    }
+}
+
+/// Prints the header of a database as its log has it. The front of the log, if a frame of one counts. Refused by
+/// `NotADatabase`, and as the view is.
+pub fn show_header<F: FileBytes + Drop, W: Write>(
+    alloc: Global,
+    files: Contents<F>,
+    options: Options,
+    out: &mut W,
+) -> Result<Option<Front>, ShowError> {
+    let mut view = asked_view(alloc, files, options)?;
+    match header_of(alloc, &mut view) {
+        Ok(header) => {
+            write_header(out, options.style, &header, view.count())?;
+            Ok(Front::of_view(&view))
+        }
+        Err(refusal) => Err(ShowError::Refused(refusal)),
+    }
+}
+
+/// Prints a page of a database as its log has it. The front of the log, if a frame of one counts. Refused by
+/// `NoSuchPage`, and as the view is.
+pub fn show_page<F: FileBytes + Drop, W: Write>(
+    alloc: Global,
+    files: Contents<F>,
+    number: u32,
+    options: Options,
+    out: &mut W,
+) -> Result<Option<Front>, ShowError> {
+    let mut view = asked_view(alloc, files, options)?;
+    match show_page_of(alloc, &mut view, number, options.style, out) {
+        Ok(()) => Ok(Front::of_view(&view)),
+        Err(error) => Err(error),
+    }
+}
+
+/// Prints a page of a view.
+fn show_page_of<F: FileBytes, W: Write>(
+    alloc: Global,
+    view: &mut View<F>,
+    number: u32,
+    style: Style,
+    out: &mut W,
+) -> Result<(), ShowError> {
+    let usable = usable_size(&read_page(alloc, view, 1)?);
+    let page = read_page(alloc, view, number)?;
+    match BtreePage::new(&page, number, usable) {
+        Ok(btree) => show_btree(alloc, view, &btree, number, style, out),
+        Err(_) => Ok(write_bytes(out, style, &page)?),
+    }
+}
+
+/// Prints a b-tree page of the view with its cells.
+fn show_btree<F: FileBytes, W: Write>(
+    alloc: Global,
+    view: &mut View<F>,
+    page: &BtreePage<'_>,
+    page_number: u32,
+    style: Style,
+    out: &mut W,
+) -> Result<(), ShowError>
+    requires { length page.now.used ≤ view.old.page_size }
+{
+    write_page(out, style, page_number, page)?;
+    let mut payloads = Payloads::none(alloc, view.page_size())?;
+    show_cells(alloc, view, page, &mut payloads, style, out)
+}
+
+/// Prints the cells of a page, and the page on its right.
+fn show_cells<F: FileBytes, W: Write>(
+    alloc: Global,
+    view: &mut View<F>,
+    page: &BtreePage<'_>,
+    payloads: &mut Payloads,
+    style: Style,
+    out: &mut W,
+) -> Result<(), ShowError>
+    requires { length page.now.used ≤ view.old.page_size }
+{
+    for i in 0..page.len() {
+        let cell = page.cell(i);
+        write_cell(out, style, i, &cell)?;
+        if cell.payload.is_some() {
+            show_payload(alloc, view, &cell, payloads, style, out)?;
+        }
+    }
+    if let Some(right) = page.right() {
+        write_facts(out, style, &[number("right", right)])?;
+    }
+    Ok(())
+}
+
+/// Prints the columns of the record in a cell's payload, or what refuses the payload or the record. Where that is known
+/// of the cell's place the payload isn't read.
+fn show_payload<F: FileBytes, W: Write>(
+    alloc: Global,
+    view: &mut View<F>,
+    cell: &Cell<'_>,
+    payloads: &mut Payloads,
+    style: Style,
+    out: &mut W,
+) -> Result<(), ShowError>
+    requires payload { IsSome cell.now.payload }
+    requires least { 480 ≤ cell.now.usable }
+    requires most { cell.now.usable ≤ view.old.page_size }
+    requires part { length cell.now.local.now ≤ payload_size cell.now }
+    ensures { view.new.page_size ≡ view.old.page_size }
+{
+    if let Some(unfit) = payloads.known(cell.at) {
+        return Ok(write_unfit(out, style, unfit)?);
+    }
+    payloads.bytes.clear();
+    let unfit = match payload(alloc, view, cell, &mut payloads.bytes) {
+        Ok(()) => match Record::new(&payloads.bytes) {
+            Ok(record) => return Ok(write_record(out, style, &record)?),
+            Err(error) => Unfit::Record(error),
+        },
+        Err(error) => match error.fault {
+            Fault::Source => return Err(ShowError::Refused(Refusal::FileFailed)),
+            Fault::NoMemory => return Err(ShowError::Refused(Refusal::NoMemory)),
+            fault => Unfit::Payload(fault),
+        },
+    };
+    payloads.keep(cell.at, unfit);
+    Ok(write_unfit(out, style, unfit)?)
+}

@@ -1,0 +1,243 @@
+//! The log that counts.
+use crate::behind::show_behind;
+use crate::contents::Contents;
+use crate::error::ShowError;
+use crate::limits::limits_of;
+use sqfacts::{Front, Refusal};
+use sqjournal::{JournalError, Replay};
+use sqlines::{
+    number, write_commits, write_facts, write_journal, write_journal_object, write_log, write_none,
+    write_wal_object,
+};
+use sqval::Limits;
+use sqview::{FileBytes, LogInUse, log_in_use, replay_log, scan_log_within};
+use sqwal::{Scan, WalFormatError};
+use sqwords::{Options, Style};
+use std::alloc::Global;
+use std::io::{self, Write};
+
+/// The log that was shown.
+#[derive(Drop)]
+pub(crate) enum Shown {
+    /// None counts.
+    Neither,
+    /// A write-ahead log whose header is refused.
+    Refused,
+    Wal(Scan),
+    Journal(Replay),
+}
+
+impl Shown {
+    /// The front of the log, if a frame of one counts.
+    fn front(&self) -> Option<Front> {
+        match self {
+            Shown::Wal(scan) => Front::of_scan(scan),
+            Shown::Neither | Shown::Refused | Shown::Journal(_) => None,
+        }
+    }
+}
+
+/// A hot journal that is replayed. Refused by `TooLarge`, `NoMemory`, and `FileFailed`.
+pub fn replayed<F: FileBytes>(alloc: Global, journal: &mut F) -> Result<Replay, Refusal> {
+    match replay_log(alloc, journal)? {
+        Ok(replay) => Ok(replay),
+        Err(JournalError::TooLong) => Err(Refusal::TooLarge),
+        Err(JournalError::NoMemory) => Err(Refusal::NoMemory),
+        Err(_) => Err(Refusal::FileFailed),
+    }
+}
+
+/// The scan of a log within limits, or what refuses its header. Refused by `TooLarge`, `NoMemory`, and `FileFailed`.
+pub fn scanned<F: FileBytes>(
+    alloc: Global,
+    limits: Limits,
+    wal: &mut F,
+) -> Result<Result<Scan, WalFormatError>, Refusal> {
+    match scan_log_within(alloc, limits, wal)? {
+        Err(WalFormatError::TooLong) => Err(Refusal::TooLarge),
+        Err(WalFormatError::NoMemory) => Err(Refusal::NoMemory),
+        answer => Ok(answer),
+    }
+}
+
+/// The number of what refuses a log's header.
+fn write_refused<W: Write>(out: &mut W, style: Style, error: WalFormatError) -> io::Result<()> {
+    write_facts(out, style, &[number("wal refused", error.number())])
+}
+
+/// Prints a write-ahead log.
+fn show_wal<F: FileBytes, W: Write>(
+    alloc: Global,
+    wal: &mut F,
+    options: Options,
+    out: &mut W,
+) -> Result<Shown, ShowError> {
+    match scanned(alloc, limits_of(options), wal)? {
+        Ok(scan) => match write_log(out, options.style, &scan) {
+            Ok(()) => Ok(Shown::Wal(scan)),
+            Err(_) => Err(ShowError::Unwritten),
+        },
+        Err(error) => {
+            write_refused(out, options.style, error)?;
+            Ok(Shown::Refused)
+        }
+    }
+}
+
+/// Prints a hot journal.
+fn show_journal<F: FileBytes, W: Write>(
+    alloc: Global,
+    journal: &mut F,
+    style: Style,
+    out: &mut W,
+) -> Result<Shown, ShowError> {
+    let replay = replayed(alloc, journal)?;
+    match write_journal(out, style, &replay) {
+        Ok(()) => Ok(Shown::Journal(replay)),
+        Err(_) => Err(ShowError::Unwritten),
+    }
+}
+
+/// Prints the log that counts.
+fn show_counting<F: FileBytes, W: Write>(
+    alloc: Global,
+    wal: &mut F,
+    journal: &mut F,
+    options: Options,
+    out: &mut W,
+) -> Result<Shown, ShowError> {
+    match log_in_use(wal, journal).map_err(Refusal::from)? {
+        LogInUse::Neither => {
+            write_none(out, options.style, "log")?;
+            Ok(Shown::Neither)
+        }
+        LogInUse::Wal => show_wal(alloc, wal, options, out),
+        LogInUse::Journal(_) => show_journal(alloc, journal, options.style, out),
+    }
+}
+
+/// Prints the log that counts. The front of the log, if a frame of one counts. Refused by `TwoLogs`, `TooLarge`,
+/// `NoMemory`, and `FileFailed`.
+pub fn show_log<F: FileBytes, W: Write>(
+    alloc: Global,
+    wal: &mut F,
+    journal: &mut F,
+    options: Options,
+    out: &mut W,
+) -> Result<Option<Front>, ShowError> {
+    match show_counting(alloc, wal, journal, options, out) {
+        Ok(shown) => Ok(shown.front()),
+        Err(error) => Err(error),
+    }
+}
+
+/// Prints the log that counts, and what stands behind its stop. The front of the log, if a frame of one counts. Refused
+/// as `show_log` is.
+pub fn show_whole_log<F: FileBytes + Drop, W: Write>(
+    alloc: Global,
+    files: &mut Contents<F>,
+    options: Options,
+    out: &mut W,
+) -> Result<Option<Front>, ShowError> {
+    let shown = show_counting(alloc, &mut files.wal, &mut files.journal, options, out)?;
+    match show_behind(alloc, files, &shown, options.style, out) {
+        Ok(()) => Ok(shown.front()),
+        Err(error) => Err(error),
+    }
+}
+
+/// Prints the commits of a scan.
+fn show_commits_of<W: Write>(
+    alloc: Global,
+    scan: &Scan,
+    style: Style,
+    out: &mut W,
+) -> Result<Option<Front>, ShowError> {
+    let Ok(commits) = scan.commits(alloc) else {
+        return Err(ShowError::Refused(Refusal::NoMemory));
+    };
+    match write_commits(out, style, scan, &commits) {
+        Ok(()) => Ok(Front::of_scan(scan)),
+        Err(_) => Err(ShowError::Unwritten),
+    }
+}
+
+/// Prints the commits in the write-ahead log, where that counts. The front of the log, if a frame of one counts.
+/// Refused as `show_log` is.
+pub fn show_commits<F: FileBytes, W: Write>(
+    alloc: Global,
+    wal: &mut F,
+    journal: &mut F,
+    options: Options,
+    out: &mut W,
+) -> Result<Option<Front>, ShowError> {
+    let style = options.style;
+    match log_in_use(wal, journal).map_err(Refusal::from)? {
+        LogInUse::Wal => match scanned(alloc, limits_of(options), wal)? {
+            Ok(scan) => return show_commits_of(alloc, &scan, style, out),
+            Err(error) => write_refused(out, style, error)?,
+        },
+        LogInUse::Neither | LogInUse::Journal(_) => write_none(out, style, "commits")?,
+    }
+    Ok(None)
+}
+
+/// What a report says of the log that counts.
+#[derive(Drop)]
+pub enum LogFound {
+    /// None, or one whose header is refused.
+    None,
+    Wal {
+        scan: Scan,
+        /// Its last frame of each commit.
+        commits: Vec<u32>,
+        /// The log's length, in bytes.
+        length: u64,
+    },
+    Journal(Replay),
+}
+
+/// A scan with its commits, of a log of this length.
+fn wal_found(alloc: Global, scan: Scan, length: u64) -> Result<LogFound, Refusal> {
+    match scan.commits(alloc) {
+        Ok(commits) => Ok(LogFound::Wal {
+            scan,
+            commits,
+            length,
+        }),
+        Err(_) => Err(Refusal::NoMemory),
+    }
+}
+
+/// The log that counts of these, within limits. Refused as `show_log` is.
+pub fn log_of<F: FileBytes>(
+    alloc: Global,
+    limits: Limits,
+    wal: &mut F,
+    journal: &mut F,
+) -> Result<LogFound, Refusal> {
+    match log_in_use(wal, journal)? {
+        LogInUse::Neither => Ok(LogFound::None),
+        LogInUse::Wal => match scanned(alloc, limits, wal)? {
+            Ok(scan) => wal_found(alloc, scan, wal.len()),
+            Err(_) => Ok(LogFound::None),
+        },
+        LogInUse::Journal(_) => match replayed(alloc, journal) {
+            Ok(replay) => Ok(LogFound::Journal(replay)),
+            Err(refusal) => Err(refusal),
+        },
+    }
+}
+
+/// The facts of the log that counts, as an object.
+pub(crate) fn write_log_facts<W: Write>(out: &mut W, log: &LogFound) -> io::Result<()> {
+    match log {
+        LogFound::None => out.write_all(b"{\"log\":\"none\"}"),
+        LogFound::Wal {
+            scan,
+            commits,
+            length,
+        } => write_wal_object(out, scan, commits, *length),
+        LogFound::Journal(replay) => write_journal_object(out, replay),
+    }
+}

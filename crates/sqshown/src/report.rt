@@ -1,0 +1,276 @@
+//! The facts that a report shows.
+use crate::cells::read_page;
+use crate::logs::{LogFound, write_log_facts};
+use crate::surveys::{Found, Surveyed, write_verdict};
+use sqcheck::Role;
+use sqfacts::{Refusal, Run, number_of, runs_of, uses_of};
+use sqlines::{Logged, Tree, write_fields, write_hex, write_run, write_tree};
+use sqpage::{DbHeader, Kind, PageSource};
+use sqview::FileBytes;
+use sqwords::Style;
+use std::alloc::Global;
+use std::io::{self, Write};
+
+/// What a report shows of a database and its log.
+#[derive(Drop)]
+pub struct ReportFacts<F> {
+    pub found: Found<F>,
+    /// The first bytes of page 1.
+    head: Option<[u8; 100]>,
+    trees: Vec<Tree>,
+    runs: Vec<Run>,
+    log: LogFound,
+}
+
+/// The root of the tree that a page with this role is in, or whose payload it holds a part of.
+fn root_of(roles: &[Role], role: Role) -> Option<u32> {
+    match role {
+        Role::Btree { root, .. } => Some(root),
+        Role::Overflow { owner } => match roles.get((owner as usize).checked_sub(1)?) {
+            Some(Role::Btree { root, .. }) => Some(*root),
+            _ => None,
+        },
+        _ => None,
+    }
+}
+
+/// How many pages each tree and its overflow chains have, by the place of its root from 0.
+fn sizes_of(alloc: Global, roles: &[Role]) -> Result<Vec<u32>, Refusal> {
+    let mut sizes = vec![in alloc; 0u32; roles.len()]?;
+    for role in roles {
+        let Some(root) = root_of(roles, *role) else {
+            continue;
+        };
+        if let Some(size) = sizes.get_mut((root as usize).saturating_sub(1)) {
+            *size = size.saturating_add(1);
+        }
+    }
+    Ok(sizes)
+}
+
+/// The tree whose root is page i, from 0.
+fn tree_at(roles: &[Role], sizes: &[u32], i: usize) -> Option<Tree> {
+    let Role::Btree { kind, root } = *roles.get(i)? else {
+        return None;
+    };
+    if number_of(i) != root {
+        return None;
+    }
+    Some(Tree {
+        root,
+        is_index: matches!(kind, Kind::IndexLeaf | Kind::IndexInterior),
+        pages: sizes.get(i).copied().unwrap_or(0),
+    })
+}
+
+/// The trees of a database, in the order of their roots.
+fn trees_of(alloc: Global, roles: &[Role], sizes: &[u32]) -> Result<Vec<Tree>, Refusal> {
+    let mut trees = Vec::new(alloc);
+    for i in 0..roles.len() {
+        if let Some(tree) = tree_at(roles, sizes, i) {
+            if trees.push(tree).is_err() {
+                return Err(Refusal::NoMemory);
+            }
+        }
+    }
+    Ok(trees)
+}
+
+/// The first bytes of page 1.
+fn head_of<F: FileBytes>(
+    alloc: Global,
+    found: &mut Surveyed<F>,
+) -> Result<Option<[u8; 100]>, Refusal> {
+    let page = read_page(alloc, &mut found.view, 1)?;
+    Ok(page.first_chunk::<100>().copied())
+}
+
+/// What is told of the pages that were found.
+#[derive(Drop)]
+struct PageFacts {
+    head: Option<[u8; 100]>,
+    trees: Vec<Tree>,
+    runs: Vec<Run>,
+}
+
+/// The trees of a survey.
+fn trees_found<F>(alloc: Global, found: &Surveyed<F>) -> Result<Vec<Tree>, Refusal> {
+    let roles = found.survey.roles.as_slice();
+    let sizes = sizes_of(alloc, roles)?;
+    trees_of(alloc, roles, &sizes)
+}
+
+/// The runs of a survey.
+fn runs_found<F>(alloc: Global, found: &Surveyed<F>) -> Result<Vec<Run>, Refusal> {
+    let uses = uses_of(alloc, &found.survey.roles, &found.survey.faults)?;
+    Ok(runs_of(alloc, &uses)?)
+}
+
+/// What is told of the pages that were found.
+fn page_facts<F: FileBytes>(alloc: Global, found: &mut Surveyed<F>) -> Result<PageFacts, Refusal> {
+    let head = head_of(alloc, found)?;
+    match (trees_found(alloc, found), runs_found(alloc, found)) {
+        (Ok(trees), Ok(runs)) => Ok(PageFacts { head, trees, runs }),
+        _ => Err(Refusal::NoMemory),
+    }
+}
+
+/// What a report shows of what was found, and of the log that counts. Refused by `FileFailed` and `NoMemory`.
+pub fn facts_of<F: FileBytes + Drop>(
+    alloc: Global,
+    found: Found<F>,
+    log: LogFound,
+) -> Result<ReportFacts<F>, Refusal> {
+    let mut found = found;
+    let pages = match &mut found {
+        Found::Pages(pages) => page_facts(alloc, pages),
+        Found::Nothing(_) => Ok(PageFacts {
+            head: None,
+            trees: Vec::new(alloc),
+            runs: Vec::new(alloc),
+        }),
+    };
+    match pages {
+        Ok(PageFacts { head, trees, runs }) => Ok(ReportFacts {
+            found,
+            head,
+            trees,
+            runs,
+            log,
+        }),
+        Err(refusal) => Err(refusal),
+    }
+}
+
+fn write_trees<F: FileBytes, W: Write>(
+    out: &mut W,
+    trees: &[Tree],
+    found: &Surveyed<F>,
+) -> io::Result<()> {
+    for (i, tree) in trees.iter().enumerate() {
+        write_tree(out, i == 0, *tree, found.names.of(tree.root))?;
+    }
+    Ok(())
+}
+
+fn write_runs<W: Write>(out: &mut W, runs: &[Run]) -> io::Result<()> {
+    let mut first = 1u32;
+    for run in runs {
+        write_run(out, first, run.count, run.used.role, run.used.fault)?;
+        first = first.saturating_add(run.count);
+    }
+    Ok(())
+}
+
+/// Pages that stand in the log one behind the other: the number of the first, its place in the log, and how many.
+#[derive(Clone, Copy)]
+struct LoggedRun {
+    page: u64,
+    at: u64,
+    count: u64,
+}
+
+impl LoggedRun {
+    /// The run and the page that stands at this place, if that is the next one.
+    fn grown(&self, number: Option<u64>) -> Option<LoggedRun> {
+        if number? != self.at.saturating_add(self.count) {
+            return None;
+        }
+        Some(LoggedRun {
+            page: self.page,
+            at: self.at,
+            count: self.count.saturating_add(1),
+        })
+    }
+
+    fn write<W: Write>(&self, out: &mut W, before: &str) -> io::Result<()> {
+        let (page, at, count) = (self.page, self.at, self.count);
+        write!(out, "{before}[{page},{at},{count}]")
+    }
+}
+
+/// The number of the frame or record in which page i, from 0, stands.
+fn logged_number<F: FileBytes>(found: &Surveyed<F>, i: usize) -> Option<u64> {
+    match found.logged(i) {
+        Some(Logged::Frame(number) | Logged::Record(number)) => Some(number),
+        None => None,
+    }
+}
+
+/// The runs of pages that stand in the log one behind the other.
+fn write_logged<F: FileBytes, W: Write>(out: &mut W, found: &Surveyed<F>) -> io::Result<()> {
+    let mut before = "";
+    let mut run: Option<LoggedRun> = None;
+    for i in 0..=found.survey.roles.len() {
+        let here = logged_number(found, i);
+        let grown = run.and_then(|run| run.grown(here));
+        if grown.is_some() {
+            run = grown;
+            continue;
+        }
+        if let Some(run) = run {
+            run.write(out, before)?;
+            before = ",\n";
+        }
+        run = here.map(|at| LoggedRun {
+            page: u64::from(number_of(i)),
+            at,
+            count: 1,
+        });
+    }
+    Ok(())
+}
+
+fn write_head<W: Write>(out: &mut W, head: &Option<[u8; 100]>) -> io::Result<()> {
+    let Some(head) = head else {
+        return Ok(());
+    };
+    match DbHeader::read(head) {
+        Ok(header) => write_fields(out, &header),
+        Err(_) => Ok(()),
+    }
+}
+
+/// The size of a page, in bytes; 0 where no page was found.
+fn page_size_of<F: FileBytes>(found: &Found<F>) -> u32 {
+    match found {
+        Found::Pages(found) => found.view.page_size().get(),
+        Found::Nothing(_) => 0,
+    }
+}
+
+/// The lists of trees, of runs and of pages in the log.
+fn write_lists<F: FileBytes, W: Write>(out: &mut W, facts: &ReportFacts<F>) -> io::Result<()> {
+    out.write_all(b"\"trees\":[")?;
+    if let Found::Pages(found) = &facts.found {
+        write_trees(out, &facts.trees, found)?;
+    }
+    out.write_all(b"],\n\"runs\":[")?;
+    write_runs(out, &facts.runs)?;
+    out.write_all(b"],\n\"logged\":[")?;
+    if let Found::Pages(found) = &facts.found {
+        write_logged(out, found)?;
+    }
+    out.write_all(b"],\n")
+}
+
+/// The facts of a report by a program of this version on a file of this name, as one object. An error of the writer.
+pub fn write_report_facts<F: FileBytes, W: Write>(
+    out: &mut W,
+    version: &str,
+    file: &str,
+    facts: &ReportFacts<F>,
+) -> io::Result<()> {
+    write!(out, "{{\"version\":\"{version}\",\"file\":\"")?;
+    write_hex(out, file.as_bytes())?;
+    let size = page_size_of(&facts.found);
+    write!(out, "\",\n\"page size\":{size},\n\"verdict\":")?;
+    write_verdict(out, Style::Json, &facts.found)?;
+    out.write_all(b",\"header\":{")?;
+    write_head(out, &facts.head)?;
+    out.write_all(b"},\n")?;
+    write_lists(out, facts)?;
+    out.write_all(b"\"log\":")?;
+    write_log_facts(out, &facts.log)?;
+    out.write_all(b"}\n")
+}
