@@ -308,6 +308,8 @@ int main(int argc, char **argv) {
     judge_header(head);
     count = big(head + 28) && big(head + 24) == big(head + 92) ? big(head + 28) : (length + page_size - 1) / page_size;
     taken = calloc(count, 1);
+    uint32_t lock = (1u << 30) / page_size;
+    if (lock < count) taken[lock] = 1; /* the lock-byte page: nothing may name it */
     map = malloc(usable + 4);
     cells = malloc((page_size / 2) * sizeof *cells);
     rows = malloc(count * sizeof *rows);

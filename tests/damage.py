@@ -4,25 +4,28 @@ import os
 from common import sqlite
 
 # Fields of the header that `check` looks at.
-HEADER = [0, 16, 17, 20, 21, 22, 23, *range(24, 40), 55, *range(92, 96)]
+HEADER = [0, 16, 17, 20, 21, 22, 23, *range(24, 40), 55, 67, *range(92, 96)]
 
 # For each database its page size, its reserved bytes, its encoding and how many rows it has.
 DATABASES = [(512, 0, "UTF-8", 120), (512, 20, "UTF-8", 120), (512, 0, "UTF-16le", 120), (512, 0, "UTF-8", 15),
              (1024, 0, "UTF-8", 150), (4096, 0, "UTF-8", 200)]
+# Those with auto-vacuum.
+MAPPED = [(512, 0, "UTF-8", 120), (512, 20, "UTF-8", 60), (1024, 0, "UTF-16le", 100)]
 
 ROWS = """WITH RECURSIVE n(i) AS (SELECT 1 UNION ALL SELECT i + 1 FROM n WHERE i < {rows})
 INSERT INTO {table} SELECT {columns} FROM n;"""
 
 
-def made(folder, page_size, reserved, encoding, rows):
+def made(folder, page_size, reserved, encoding, rows, auto_vacuum="none"):
     """A database of tables, indexes, a table without rowids, a trigger, overflow chains and free pages. It has no view, for
     which sqlite3 may leave out its check of the freelist."""
-    database = os.path.join(folder, f"{page_size}-{reserved}-{encoding}-{rows}.db")
+    database = os.path.join(folder, f"{page_size}-{reserved}-{encoding}-{rows}-{auto_vacuum}.db")
     mixed = "printf('%08x', i * 2654435761 % 4294967296)"
     plain = f"i, i * i % 97 - 9, i / 7.0, substr(hex({mixed}) || hex({mixed}) || hex({mixed}), 1, 2 + i % 39), "
     plain += f"zeroblob(CASE i % 17 WHEN 0 THEN {2 * page_size} WHEN 5 THEN {page_size // 2} ELSE i % 50 END)"
     keyed = f"{mixed} || hex(zeroblob(CASE i % 11 WHEN 0 THEN {page_size // 3} ELSE 5 END)), i"
     sqlite(database, f"""PRAGMA page_size = {page_size}; PRAGMA encoding = '{encoding}';
+PRAGMA auto_vacuum = {auto_vacuum};
 .filectrl reserve_bytes {reserved}
 VACUUM;
 CREATE TABLE plain(id INTEGER PRIMARY KEY, n, r REAL, t TEXT, b BLOB);

@@ -2,8 +2,9 @@
 be compared with the file format by eye. What it says of a file is the line that `check` prints."""
 
 NAMES = ("Magic PageSize Fraction Reserved AutoVacuum Kind CellOutside Overlap Freeblock Fragments ChainCut ChainLong "
-         "PageTwice PageOutside PageUnused KeyOrder Depth FreeCount Source NoMemory SchemaRecord").split()
+         "PageTwice PageOutside PageUnused KeyOrder Depth FreeCount Source NoMemory SchemaRecord PointerMap").split()
 INDEX_INTERIOR, TABLE_INTERIOR, INDEX_LEAF, TABLE_LEAF = 2, 5, 10, 13
+ROOT, FREE, FIRST_OVERFLOW, OVERFLOW, CHILD = 1, 2, 3, 4, 5
 MOST_BYTES = 1 << 30
 MOST_LEVELS = 20
 
@@ -119,10 +120,11 @@ class Tree:
 
 
 class Database:
-    """A database file without a log."""
+    """A database file without a log, whose pointer maps are judged, or that is refused where it has any."""
 
-    def __init__(self, file):
+    def __init__(self, file, with_maps):
         self.file, self.used, self.trees, self.rows = file, {}, 0, []
+        self.with_maps, self.has_maps, self.largest = with_maps, False, 0
         head = (file[:100] + bytes(100))[:100]
         size = number(head, 16, 2)
         self.size = 65536 if size == 1 else size
@@ -144,9 +146,30 @@ class Database:
     def take(self, holder, p, use):
         if not 1 <= p <= self.count:
             raise Fault(holder, "PageOutside")
-        if p in self.used:
+        if p in self.used or self.is_set_aside(p):
             raise Fault(p, "PageTwice")
         self.used[p] = use
+
+    def compare(self, p, kind, parent):
+        """Compares the entry of a page, which is sound, with what names it."""
+        if self.has_maps and p > 1:
+            place = self.map_of(p)
+            entry = self.page(place)[5 * (p - place - 1):][:5]
+            if entry != bytes([kind]) + parent.to_bytes(4, "big"):
+                raise Fault(place, "PointerMap")
+
+    def lock_byte_page(self):
+        return (1 << 30) // self.size + 1
+
+    def map_of(self, p):
+        """The pointer map that has the entry of a page, or is that page (fileformat2, 1.8)."""
+        group = self.usable // 5 + 1
+        first = (p - 2) // group * group + 2
+        return first + (first == self.lock_byte_page())
+
+    def is_set_aside(self, p):
+        """Whether nothing may name a page: the lock-byte page, or a pointer map."""
+        return p == self.lock_byte_page() or self.has_maps and p > 1 and p == self.map_of(p)
 
     def check(self):
         """What `check` counts."""
@@ -158,8 +181,10 @@ class Database:
             if root:
                 self.take_tree(p, root, is_schema=False)
         for p in range(1, self.count + 1):
-            if p not in self.used:
+            if p not in self.used and not self.is_set_aside(p):
                 raise Fault(p, "PageUnused")
+        if self.has_maps and number(self.page(1), 52, 4) != self.largest:
+            raise Fault(1, "PointerMap")
         uses = list(self.used.values())
         return self.count, self.trees, uses.count("b-tree"), uses.count("overflow"), uses.count("free")
 
@@ -172,8 +197,11 @@ class Database:
         self.usable = self.size - first[20]
         if self.usable < 480:
             raise Fault(1, "Reserved")
-        if number(first, 52, 4):
+        self.has_maps = number(first, 52, 4) != 0
+        if self.has_maps and not self.with_maps:
             raise Fault(1, "AutoVacuum")
+        if self.with_maps and not self.has_maps and number(first, 64, 4):
+            raise Fault(1, "PointerMap")
 
     def take_freelist(self):
         holder, trunk = 1, number(self.page(1), 32, 4)
@@ -183,8 +211,11 @@ class Database:
             leaves = number(content, 4, 4)
             if leaves > self.usable // 4 - 2:
                 raise Fault(trunk, "FreeCount")
+            self.compare(trunk, FREE, 0)
             for i in range(leaves):
-                self.take(trunk, number(content, 8 + 4 * i, 4), "free")
+                leaf = number(content, 8 + 4 * i, 4)
+                self.take(trunk, leaf, "free")
+                self.compare(leaf, FREE, 0)
             holder, trunk = trunk, number(content, 0, 4)
         if len(self.used) != number(self.page(1), 36, 4):
             raise Fault(1, "FreeCount")
@@ -201,6 +232,7 @@ class Database:
         kind = self.page(root)[100 if root == 1 else 0]
         tree = Tree(is_schema or kind in (TABLE_INTERIOR, TABLE_LEAF))
         self.trees += 1
+        self.largest = max(self.largest, root)
         self.take_node(tree, is_schema, holder, root, 1, None, None)
 
     def take_node(self, tree, is_schema, holder, p, level, low, high):
@@ -214,6 +246,7 @@ class Database:
         cells = self.cells_of(p, page, kind)
         if tree.is_table:
             judge_keys(p, cells, low, high)
+        self.compare(p, *((ROOT, 0) if level == 1 else (CHILD, holder)))
         for cell in cells:
             content = self.take_chain(p, cell)
             if is_schema and kind == TABLE_LEAF:
@@ -270,16 +303,20 @@ class Database:
         """A cell's payload, whose overflow pages are taken."""
         content, holder, link = cell.local, p, cell.overflow
         needed = cell.links(self.usable)
+        if needed == 0:
+            return content
         if needed > self.count:
             raise Fault(p, "ChainCut")
-        for _ in range(needed):
+        for k in range(needed):
             if link == 0:
                 raise Fault(holder, "ChainCut")
             self.take(holder, link, "overflow")
             content += self.page(link)[4:self.usable]
-            holder, link = link, number(self.page(link), 0, 4)
-        if link:
-            raise Fault(holder, "ChainLong")
+            after = number(self.page(link), 0, 4)
+            if k == needed - 1 and after:
+                raise Fault(link, "ChainLong")
+            self.compare(link, OVERFLOW if k else FIRST_OVERFLOW, holder)
+            holder, link = link, after
         return content[:cell.payload]
 
 
@@ -291,10 +328,10 @@ def judge_keys(p, cells, low, high):
         low = cell.rowid
 
 
-def check(file):
-    """The status and the text of `sqrescue check` of these bytes, beside which there is no log."""
+def check(file, with_maps=False):
+    """The status and the text of `sqrescue check` of these bytes, beside which there is no log; with `--pointer-maps`."""
     try:
-        counts = Database(file).check()
+        counts = Database(file, with_maps).check()
     except TooLarge:
         return 3, "sqrescue: too large\n"
     except Fault as fault:

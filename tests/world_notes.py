@@ -1,5 +1,5 @@
 """Notes, the options that decide, and what can't be written."""
-import contextlib, os, re, shutil, tempfile
+import contextlib, os, re, shutil, sqlite3, tempfile
 import world_processes as processes
 from common import preloaded, top
 from samples import JOURNAL_MAGIC, PAGE, first_page, head_of, journal_of, leaf, log_of, put, words
@@ -294,6 +294,56 @@ def verbose_in_use():
     with processes.locking("a.db", "write", 0, 0):
         yield "in use", unchanged("recover -v a.db", 3, "", Noted("--force|process", "in use"))
         yield "behind --", unchanged("recover -- -v", 3, "", FAILED)
+
+
+def fill_large():
+    """A database of 4 MiB with a log of 2."""
+    fill()
+    with tempfile.TemporaryDirectory() as place:
+        file = os.path.join(place, "a.db")
+        with contextlib.closing(sqlite3.connect(file, isolation_level=None)) as base:
+            for line in "journal_mode=wal", "wal_autocheckpoint=0":
+                base.execute("pragma " + line)
+            base.execute("create table t(a)")
+            base.execute("insert into t values(randomblob(4194304))")
+            base.execute("pragma wal_checkpoint(truncate)")
+            base.execute("insert into t values(randomblob(2097152))")
+            copied(file, "a.db")
+
+
+def progress_in(line, clock, tick):
+    """What a run says of how far it is, where each reading of the clock is so many milliseconds after the one before,
+    and its status and output."""
+    status, out, err = run(line, env=dict(os.environ, LD_PRELOAD=clock, TICK=str(tick)))
+    told = re.findall(r"^sqrescue: note: (\d+) of (\d+) MiB\n", err, re.M)
+    return [(int(done), int(whole)) for done, whole in told], (status, out)
+
+
+def is_rising(told):
+    """Whether what is done never falls while the whole stays, and is never more than it."""
+    pairs = zip(told, told[1:])
+    return all(done <= whole for done, whole in told) and all(
+        before[1] != after[1] or before[0] <= after[0] for before, after in pairs
+    )
+
+
+@test
+def progress_of_long_runs():
+    """How far a run is, once a second of the clock; nothing in the first, without `--large`, or without `-v`."""
+    clock = preloaded(holder.name, "clock")
+    lines = [  # and the mebibytes of what is read: of the database, or of the log and then of what is copied
+        ("check a.db", {4}), ("show --pages a.db", {4}), ("report a.db --to b.html", {4}),
+        ("recover a.db --to b.db", {2, 6}), ("recover a.db", {6}),
+    ]
+    for line, wholes in lines:
+        fill_large()
+        told, right = progress_in(f"{line} --large -v", clock, 400)
+        is_right = is_rising(told) and len(told) > 3 and {whole for _, whole in told} == wholes and right[0] == 0
+        yield line, None if is_right else f"{told}, {right}"
+        for more, tick in ("", 400), ("-v", 400), ("--large", 400), ("--large -v", 1):
+            fill_large()
+            told, found = progress_in(f"{line} {more}", clock, tick)
+            yield f"{line} {more}, {tick} ms", None if not told and found == right else f"{told}, {found}, {right}"
 
 
 # ---- the line, and what can't be written
