@@ -1,4 +1,6 @@
 //! What the tests have in common: where something is wrong the test ends at once, and has nothing to let go.
+ghost use Rattle.std.specs.Prelude.{◌≡◌};
+
 use crashdisk::{Choice, Disk, File, ModelDisk};
 use sqval::{Limits, PageSize};
 use std::fmt::Debug;
@@ -23,7 +25,9 @@ pub(crate) fn done<R: Abort, T: Drop, E: Debug + Drop>(rt: &R, answer: Result<T,
 }
 
 /// A page size of so many bytes.
-pub(crate) fn page_size<R: Abort>(rt: &R, bytes: u32) -> PageSize {
+pub(crate) fn page_size<R: Abort>(rt: &R, bytes: u32) -> PageSize
+    ensures { result ≡ bytes }
+{
     match PageSize::new(bytes) {
         Some(page_size) => page_size,
         None => panic!(rt; "no page size: {bytes}"),
