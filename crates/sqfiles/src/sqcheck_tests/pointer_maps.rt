@@ -41,8 +41,13 @@ fn sample(alloc: Global) -> Result<Vec<u8>, AllocError> {
 fn mapped(rt: &impl Abort, alloc: Global, file: &[u8]) -> Result<Report, CheckError> {
     let options = Options { pointer_maps: true };
     let size = PageSize::new(512).expect(rt, "a page size");
-    let mut source = SliceSource::new(file, size).expect(rt, "whole pages");
-    check_with(alloc, &mut source, options)
+    match SliceSource::new(file, size) {
+        None => Err(CheckError {
+            fault: Fault::PageSize,
+            page: 0,
+        }),
+        Some(mut source) => check_with(alloc, &mut source, options),
+    }
 }
 
 #[test]
