@@ -149,12 +149,15 @@ fn a_crash_by_its_number(rt: HostRuntime) -> Result<(), Fail> {
     let alloc = rt.alloc();
     let base = world_tests::base(alloc, false)?;
     let events = with_crash(alloc, Event::CrashAt(1))?;
+    let begun = events.get(..2).ok_or("events")?;
+    let rest = events.get(2..).ok_or("events")?;
     let mut world = World::new(alloc, &base)?;
-    let disk = serve(alloc, &mut world, &events[..2]);
-    let replies = replies_of(alloc, &mut world, &events[2..]);
+    let disk = serve(alloc, &mut world, begun);
+    let replies = replies_of(alloc, &mut world, rest);
     let run = world.finish();
     let disk = disk?;
-    assert!(rt; run.replies[2..] == replies?[..]);
+    let replies = replies?;
+    assert!(rt; run.replies.get(2..) == Some(replies.as_slice()));
     let choice = disk.choice(1)?.ok_or("a choice")?;
     let named = with_crash(alloc, Event::Crash(choice))?;
     assert!(rt; run == run_wal(alloc, &base, &named)?);
@@ -184,12 +187,15 @@ fn a_journal_crash_by_its_number(rt: HostRuntime) -> Result<(), Fail> {
     let alloc = rt.alloc();
     let base = journal_tests::base(alloc, false, 1)?;
     let events = with_journal_crash(alloc, JEvent::CrashAt(1))?;
+    let begun = events.get(..3).ok_or("events")?;
+    let rest = events.get(3..).ok_or("events")?;
     let mut world = JournalWorld::new(alloc, &base)?;
-    let disk = serve_journal(alloc, &mut world, &events[..3]);
-    let replies = journal_replies_of(alloc, &mut world, &events[3..]);
+    let disk = serve_journal(alloc, &mut world, begun);
+    let replies = journal_replies_of(alloc, &mut world, rest);
     let run = world.finish();
     let choice = disk?.choice(1)?.ok_or("a choice")?;
-    assert!(rt; run.replies[3..] == replies?[..]);
+    let replies = replies?;
+    assert!(rt; run.replies.get(3..) == Some(replies.as_slice()));
     let named = with_journal_crash(alloc, JEvent::Crash(choice))?;
     assert!(rt; run == run_journal(alloc, &base, &named)?);
     Ok(())
