@@ -153,14 +153,13 @@ pub(crate) fn next_step(refusal: Refusal, is_large: bool) -> &'static str {
             "the log is of another database: look at both by show and show --log",
         Refusal::TooLarge if is_large =>
             "above 1,099,511,627,776 bytes, or too long a log: that can't be read",
-        Refusal::TooLarge =>
-            "above 1,073,741,824 bytes, or too long a log: give --large, with recover also --to",
+        Refusal::TooLarge => "above 1,073,741,824 bytes, or too long a log: give --large",
         Refusal::TwoLogs => "look at both logs, move one away, and call this again",
         Refusal::SuperJournal =>
             "see whether the super-journal is there, and give --super-journal=present or =gone",
         Refusal::NotADatabase =>
             "the header that is to be shown isn't a database's: see show --log and check",
-        Refusal::AutoVacuum => "the database has pointer maps, which aren't read yet",
+        Refusal::AutoVacuum => "the database has pointer maps, which check --pointer-maps reads",
         Refusal::NoSuchCommit => "show --commits has a line for each commit, which names its frame",
         Refusal::NoSuchPage => "show names the number of pages, in the line that begins with pages",
         Refusal::NoMemory => "the system refused memory: call this again where there is more",
