@@ -1,7 +1,7 @@
-/* Checks a database file as `sqrescue check` does, as little as a C program can do: it reads each page of the freelist and
-   the trees once, a page of a chain in part, and judges the header, the cells, their layout with a byte for each byte of a
-   page, the keys, the levels, the chains, the rows of the schema, and that each page is named once. With a second argument
-   it reads the whole file into memory first. */
+/* Checks a database file as `sqrescue check` does, as little as a C program can do: it reads each page of the freelist
+   and the trees once, a page of a chain in part, and judges the header, the cells, their layout with a byte for each
+   byte of a page, the keys, the levels, the chains, the rows of the schema, and that each page is named once. With a
+   second argument it reads the whole file into memory first. */
 #define _FILE_OFFSET_BITS 64
 #include <fcntl.h>
 #include <stdio.h>
@@ -142,7 +142,8 @@ static int mark(uint32_t at, uint32_t size) {
     return 1;
 }
 
-static void judge_layout(uint32_t page, const uint8_t *b, const uint8_t *head, uint32_t n, uint32_t start, uint32_t pointers_end) {
+static void judge_layout(uint32_t page, const uint8_t *b, const uint8_t *head, uint32_t n, uint32_t start,
+                         uint32_t pointers_end) {
     memset(map, 0, usable + 4);
     int apart = 1;
     for (uint32_t at = half(head + 1), least = start; at; least = at + 1, at = half(b + at)) {
@@ -179,7 +180,8 @@ static int is_before(struct bound low, struct bound key) {
     return !low.is_there || !key.is_there || low.key < key.key;
 }
 
-static void follow_node(struct tree *tree, uint32_t holder, uint32_t page, uint32_t level, struct bound low, struct bound high) {
+static void follow_node(struct tree *tree, uint32_t holder, uint32_t page, uint32_t level, struct bound low,
+                        struct bound high) {
     take(holder, page);
     btree++;
     trees += level == 1;

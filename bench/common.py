@@ -65,7 +65,8 @@ def live_log(folder, megabytes, page_size):
     rounds = 4
     content = f"randomblob({page_size * 4 // 5})"
     rows = megabytes * 1048576 // page_size // (rounds + 1)
-    sqlite(made, f"""PRAGMA page_size={page_size}; PRAGMA journal_mode=wal; PRAGMA wal_autocheckpoint=0; PRAGMA synchronous=off;
+    sqlite(made, f"""PRAGMA page_size={page_size}; PRAGMA journal_mode=wal;
+PRAGMA wal_autocheckpoint=0; PRAGMA synchronous=off;
 CREATE TABLE a(id INTEGER PRIMARY KEY, b BLOB); PRAGMA wal_checkpoint(TRUNCATE);
 INSERT INTO a(b) SELECT {content} FROM generate_series(1, {rows});
 """ + f"UPDATE a SET b = {content};\n" * rounds + f".shell cp {made} {base}; cp {made}-wal {base}-wal\n")
@@ -103,7 +104,8 @@ def memory_of(process):
 
 
 def run(command, out=subprocess.DEVNULL):
-    """Runs a command: its processor time in seconds, user and system, and the most memory in KiB that was seen of it."""
+    """Runs a command: its processor time in seconds, user and system, and the most memory in KiB
+    that was seen of it."""
     child = subprocess.Popen(command, stdout=out)
     memory = done = 0
     while not done:

@@ -1,6 +1,6 @@
-/* Rolls a database back by a hot rollback journal, as little as a C program can do: it reads the journal once, checks its
-   headers and the sums of its records, writes their pages in order, sets the length, syncs, and zeroes the journal's
-   header. */
+/* Rolls a database back by a hot rollback journal, as little as a C program can do: it reads the journal once, checks
+   its headers and the sums of its records, writes their pages in order, sets the length, syncs, and zeroes the
+   journal's header. */
 #define _FILE_OFFSET_BITS 64
 #include <fcntl.h>
 #include <stdint.h>
@@ -39,7 +39,9 @@ int main(int argc, char **argv) {
                 uint8_t *page = bytes + i + 4;
                 uint32_t number = big(bytes + i);
                 if (!number || page_sum(nonce, page, page_size) != big(page + page_size)) goto replayed;
-                if (number <= first_size && pwrite(db, page, page_size, (off_t)(number - 1) * page_size) != (ssize_t)page_size) return 3;
+                if (number <= first_size &&
+                    pwrite(db, page, page_size, (off_t)(number - 1) * page_size) != (ssize_t)page_size)
+                    return 3;
                 records++;
                 if (left != UINT32_MAX) left--;
             }
@@ -49,7 +51,8 @@ int main(int argc, char **argv) {
     }
 replayed:
     memset(head, 0, 28);
-    if (ftruncate(db, (off_t)first_size * page_size) || fsync(db) || pwrite(journal, head, 28, 0) != 28 || fsync(journal)) return 3;
+    if (ftruncate(db, (off_t)first_size * page_size) || fsync(db)) return 3;
+    if (pwrite(journal, head, 28, 0) != 28 || fsync(journal)) return 3;
     printf("journal: %u records, %u pages\n", records, first_size);
     return 0;
 }

@@ -1,5 +1,5 @@
-/* Prints what a write-ahead log holds, as little as a C program can do: it checks the log's checksums and salts in pieces
-   of 64 KiB, remembers each frame's page and size, and prints a line for each. */
+/* Prints what a write-ahead log holds, as little as a C program can do: it checks the log's checksums and salts in
+   pieces of 64 KiB, remembers each frame's page and size, and prints a line for each. */
 #define _FILE_OFFSET_BITS 64
 #include <fcntl.h>
 #include <stdint.h>

@@ -1,7 +1,7 @@
 /* Records what a program does to a database file and its two logs, as docs/TRACE.md says. rig/record builds it and runs
-   a program with it, loaded before the C library. Each call is made first and then recorded, under one lock, so that the
-   records stand in the order of the calls' effects. A record that can't be written ends the process with status 97: no
-   trace is better than one with a gap. */
+   a program with it, loaded before the C library. Each call is made first and then recorded, under one lock, so that
+   the records stand in the order of the calls' effects. A record that can't be written ends the process with status 97:
+   no trace is better than one with a gap. */
 #define _GNU_SOURCE
 #include <dlfcn.h>
 #include <errno.h>

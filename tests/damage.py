@@ -17,8 +17,8 @@ INSERT INTO {table} SELECT {columns} FROM n;"""
 
 
 def made(folder, page_size, reserved, encoding, rows, auto_vacuum="none"):
-    """A database of tables, indexes, a table without rowids, a trigger, overflow chains and free pages. It has no view, for
-    which sqlite3 may leave out its check of the freelist."""
+    """A database of tables, indexes, a table without rowids, a trigger, overflow chains and free pages. It has no view,
+    for which sqlite3 may leave out its check of the freelist."""
     database = os.path.join(folder, f"{page_size}-{reserved}-{encoding}-{rows}-{auto_vacuum}.db")
     mixed = "printf('%08x', i * 2654435761 % 4294967296)"
     plain = f"i, i * i % 97 - 9, i / 7.0, substr(hex({mixed}) || hex({mixed}) || hex({mixed}), 1, 2 + i % 39), "
@@ -78,5 +78,6 @@ def damaged(draw, page_size, content):
     for _ in range(draw.choice([1, 1, 2, 2, 3, 4, 6])):
         at = min(place(draw, page_size, content), len(content) - 1)
         old = content[at]
-        content[at] = draw.choice([draw.randrange(256), old ^ 1 << draw.randrange(8), (old + 1) % 256, (old - 1) % 256, 0, 13, 5])
+        content[at] = draw.choice(
+            [draw.randrange(256), old ^ 1 << draw.randrange(8), (old + 1) % 256, (old - 1) % 256, 0, 13, 5])
     return bytes(content[:draw.randrange(len(content) + 1)] if draw.random() < 0.15 else content)

@@ -25,8 +25,10 @@ INSERT INTO a(text) SELECT hex(randomblob(900)) FROM generate_series(1, 400);"
 shrinking="DROP TABLE b; DELETE FROM a WHERE id > 20; VACUUM; INSERT INTO a(text) VALUES ('last');"
 restarted="PRAGMA wal_checkpoint(RESTART); INSERT INTO a(text) VALUES ('after the restart');"
 
-# With synchronous off a journal has one header and no count; otherwise each spill begins a further segment.
-hot() { # PAGE_SIZE SYNCHRONOUS VACUUM SQL [MODE [PSOW]]: middle.db, in the middle of a transaction that was spilled, and ended.db, as its commit left it, with the header of its journal put back where the mode leaves it
+# Makes middle.db, in the middle of a transaction that was spilled, and ended.db, as its commit left it, with the header
+# of its journal put back where the mode leaves it. With synchronous off a journal has one header and no count;
+# otherwise each spill begins a further segment.
+hot() { # PAGE_SIZE SYNCHRONOUS VACUUM SQL [MODE [PSOW]]
   rm -f "$folder"/{work,middle,ended}.db*
   sqlite3 "file:$folder/work.db?psow=${6:-1}" >/dev/null <<S
 PRAGMA page_size = $1;
@@ -53,6 +55,7 @@ S
     dd if="$folder/middle.db-journal" of="$folder/ended.db-journal" bs=28 count=1 conv=notrunc status=none
 }
 
-growing="INSERT INTO a(text) SELECT hex(randomblob(900)) FROM generate_series(1, 400); UPDATE a SET text = hex(randomblob(600));"
+growing="INSERT INTO a(text) SELECT hex(randomblob(900)) FROM generate_series(1, 400);
+UPDATE a SET text = hex(randomblob(600));"
 deleting="DELETE FROM a WHERE id % 2 = 0; UPDATE b SET y = hex(randomblob(30));"
 cutting="DELETE FROM a WHERE id > 20; DELETE FROM wide WHERE id > 10;"

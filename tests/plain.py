@@ -1,5 +1,5 @@
-"""A plain program that judges a database file as `sqrescue check` does, with all of it in memory: slow, and short enough to
-be compared with the file format by eye. What it says of a file is the line that `check` prints."""
+"""A plain program that judges a database file as `sqrescue check` does, with all of it in memory: slow, and short
+enough to be compared with the file format by eye. What it says of a file is the line that `check` prints."""
 
 NAMES = ("Magic PageSize Fraction Reserved AutoVacuum Kind CellOutside Overlap Freeblock Fragments ChainCut ChainLong "
          "PageTwice PageOutside PageUnused KeyOrder Depth FreeCount Source NoMemory SchemaRecord PointerMap").split()
@@ -329,7 +329,8 @@ def judge_keys(p, cells, low, high):
 
 
 def check(file, with_maps=False):
-    """The status and the text of `sqrescue check` of these bytes, beside which there is no log; with `--pointer-maps`."""
+    """The status and the text of `sqrescue check` of these bytes, beside which there is no log;
+    with `--pointer-maps`."""
     try:
         counts = Database(file, with_maps).check()
     except TooLarge:

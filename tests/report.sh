@@ -1,5 +1,6 @@
-# Opens a report of a database with a log, and one of a damaged one, in a headless Chromium, light and dark: no error on its
-# console, and pictures at FOLDER. Run as: bash tests/report.sh FOLDER; needs chromium and sqlite3. Not a part of the gate.
+# Opens a report of a database with a log, and one of a damaged one, in a headless Chromium, light and dark: no error
+# on its console, and pictures at FOLDER. Run as: bash tests/report.sh FOLDER; needs chromium and sqlite3. Not a part of
+# the gate.
 set -u
 top=$(cd "$(dirname "$0")/.." && pwd)
 sqrescue=$top/bin/sqrescue
@@ -23,8 +24,8 @@ check() { # NAME COMMAND..: the command succeeds
 
 shot() { # PAGE PICTURE [OPTION]: a picture of a page; says no error of its scripts
   local said
-  said=$(chromium --headless --no-sandbox --disable-gpu --hide-scrollbars --window-size=1220,1100 --enable-logging=stderr \
-    ${3:-} --virtual-time-budget=2000 --screenshot="$2" "file://$1" 2>&1)
+  said=$(chromium --headless --no-sandbox --disable-gpu --hide-scrollbars --window-size=1220,1100 \
+    --enable-logging=stderr ${3:-} --virtual-time-budget=2000 --screenshot="$2" "file://$1" 2>&1)
   [ -s "$2" ] && ! grep -q 'CONSOLE.*\(rror\|Uncaught\)' <<<"$said"
 }
 

@@ -370,7 +370,8 @@ def a_last_frame_that_changes():
             fault = beside_change(line, ("read a.db-wal;", number), change, name != "nothing", FROZEN="1")
             yield f"{line}, {name}", fault
             if "--to" in line:
-                yield f"{line}, {name}, what is made", None if os.path.exists("made.db") == (name == "nothing") else "wrong"
+                is_right = os.path.exists("made.db") == (name == "nothing")
+                yield f"{line}, {name}, what is made", None if is_right else "wrong"
 
 
 def is_whole(pages, trees, b_tree, overflow, free):

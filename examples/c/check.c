@@ -1,4 +1,5 @@
-/* check FILE: whether the database that FILE shows with its logs is well formed, and its commits in a write-ahead log. */
+/* check FILE: whether the database that FILE shows with its logs is well formed, and its commits
+   in a write-ahead log. */
 #include "files.h"
 
 static uint32_t print_commits(const struct sqr_files *files) {
