@@ -161,12 +161,6 @@ pub record HasCalls (May : Change → Type 0) (old new : DiskState) : Type 0 whe
 abbrev pub Nothing : Change → Type 0
 Nothing change = ⊥
 
--- any change of one file, and its sync
-abbrev pub InFile : File → Change → Type 0
-InFile f (write g at bytes) = g ≡ f
-InFile f (set_len g n) = g ≡ f
-InFile f (sync g) = g ≡ f
-
 -- what is kept while nothing of the log is unsynced
 abbrev pub kept_of : Bool → List ℕ → List ℕ
 kept_of true log = log

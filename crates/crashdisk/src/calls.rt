@@ -1,14 +1,13 @@
 //! What the calls of a modelled disk do to one file.
-ghost use Rattle.std.specs.Prelude.{◌≡◌, ◌↔◌, IsTrue, ◌<◌, ◌≤◌, ◌+◌, ◌^◌, [], Bool, ◌-◌, true, false, min, max, suc};
+ghost use Rattle.std.specs.Prelude.{◌≡◌, ◌↔◌, IsTrue, ◌<◌, ◌≤◌, ◌+◌, ◌^◌, [], ◌-◌, true, false, min, suc};
 ghost use Rattle.std.specs.Prelude.{length, slice_index, OnOk, OnErr, IfOk, IfErr, ℕ, List, ◌++◌};
-ghost use Rattle.crashdisk.specs.State.{byte, longest, IsSettled, IsSynced, IsShuffled, written, WriteTouches, cut_to};
-ghost use Rattle.crashdisk.specs.State.{CutTouches};
-ghost use Rattle.crashdisk.specs.Call.{ChangedBy, counted, EndsWithin};
+ghost use Rattle.crashdisk.specs.State.{byte, longest, IsSettled, IsSynced, IsShuffled};
+ghost use Rattle.crashdisk.specs.Call.{counted};
 ghost use Rattle.crashdisk.specs.Ending.{IsEnded};
-ghost use Rattle.crashdisk.specs.Held.{file_of, IsHeld, Touches, put_byte, IsTurned, picked};
-ghost use Rattle.crashdisk.specs.Solid.{IsSolid, is_sector_size};
-ghost use Rattle.crashdisk.specs.Stop.{Judged};
-ghost use Rattle.crashdisk.specs.Model.{PickedBy};
+ghost use Rattle.crashdisk.specs.Held.{file_of, IsHeld, IsTurned, picked};
+ghost use Rattle.crashdisk.specs.internal.Held.{Stands, Suits};
+ghost use Rattle.crashdisk.specs.Solid.{is_sector_size};
+ghost use Rattle.crashdisk.specs.internal.Answer.{changing, writing, cutting, IsAnswered};
 ghost use Rattle.crashdisk.specs.Refusal.{number_of};
 
 use crate::error::DiskError;
@@ -42,23 +41,12 @@ fn change_held(
     manner: &Manner<'_>,
     change: &Change<'_>,
 ) -> Result<(), DiskError>
-    requires is_size { IsTrue (is_sector_size manner.now.sector) }
-    requires ends { (change.now.end ≤ longest) × (change.now.to ≤ longest) × (held.old.len ≤ longest) }
-    requires fits { change.now.to ≤ max change.now.end held.old.len }
-    requires room { change.now.from + length change.now.bytes.now < 2 ^ 62 }
     requires held { IsHeld manner.now.sector held.old }
+    requires suits { Suits change.now held.old.len }
     ensures held { IsHeld manner.now.sector held.new }
-    ensures changed { ChangedBy manner.now.sector (Touches manner.now.sector (file_of manner.now.sector held.old)
-        change.now.from change.now.to change.now.end) (λ i. put_byte change.now.from change.now.keep
-        change.now.bytes.now i ((file_of manner.now.sector held.old).present i)) change.now.end result
-        (file_of manner.now.sector held.old) (file_of manner.now.sector held.new) }
-    ensures picked { PickedBy manner.now.sector (Touches manner.now.sector (file_of manner.now.sector held.old)
-        change.now.from change.now.to change.now.end) (λ i. put_byte change.now.from change.now.keep
-        change.now.bytes.now i ((file_of manner.now.sector held.old).present i)) change.now.end
-        manner.now.part.now result (file_of manner.now.sector held.old) (file_of manner.now.sector held.new) }
+    ensures answered { IsAnswered manner.now (changing (file_of manner.now.sector held.old) change.now)
+        result held.old held.new }
     ensures counted { refused.new ≡ counted result refused.old }
-    ensures judged { Judged false manner.now.fails true result }
-    ensures within { EndsWithin result 0 }
 {
     if manner.fails {
         return match held.fail(manner.alloc, manner.sector, change, manner.part) {
@@ -89,23 +77,12 @@ pub(crate) fn write_held(
     at: u64,
     bytes: &[u8],
 ) -> Result<(), DiskError>
-    requires is_size { IsTrue (is_sector_size manner.now.sector) }
+    requires stands { Stands manner.now.sector held.old }
     requires room { at + length bytes.now ≤ longest }
-    requires held { IsHeld manner.now.sector held.old }
-    requires solid { IsSolid manner.now.sector (file_of manner.now.sector held.old) }
-    ensures held { IsHeld manner.now.sector held.new }
-    ensures solid { IsSolid manner.now.sector (file_of manner.now.sector held.new) }
-    ensures changed { ChangedBy manner.now.sector
-        (WriteTouches manner.now.sector (file_of manner.now.sector held.old) at bytes.now)
-        (written (file_of manner.now.sector held.old) at bytes.now) (max held.old.len (at + length bytes.now))
-        result (file_of manner.now.sector held.old) (file_of manner.now.sector held.new) }
-    ensures picked { PickedBy manner.now.sector
-        (WriteTouches manner.now.sector (file_of manner.now.sector held.old) at bytes.now)
-        (written (file_of manner.now.sector held.old) at bytes.now) (max held.old.len (at + length bytes.now))
-        manner.now.part.now result (file_of manner.now.sector held.old) (file_of manner.now.sector held.new) }
+    ensures stands { Stands manner.now.sector held.new }
+    ensures answered { IsAnswered manner.now (writing (file_of manner.now.sector held.old) at bytes.now)
+        result held.old held.new }
     ensures counted { refused.new ≡ counted result refused.old }
-    ensures judged { Judged false manner.now.fails true result }
-    ensures within { EndsWithin result (at + length bytes.now) }
 {
     let from = at as usize;
     let to = from + bytes.len();
@@ -127,23 +104,12 @@ pub(crate) fn cut_held(
     manner: &Manner<'_>,
     end: u64,
 ) -> Result<(), DiskError>
-    requires is_size { IsTrue (is_sector_size manner.now.sector) }
+    requires stands { Stands manner.now.sector held.old }
     requires room { end ≤ longest }
-    requires held { IsHeld manner.now.sector held.old }
-    requires solid { IsSolid manner.now.sector (file_of manner.now.sector held.old) }
-    ensures held { IsHeld manner.now.sector held.new }
-    ensures solid { IsSolid manner.now.sector (file_of manner.now.sector held.new) }
-    ensures changed { ChangedBy manner.now.sector
-        (CutTouches manner.now.sector (file_of manner.now.sector held.old) end)
-        (cut_to (file_of manner.now.sector held.old) end) end result (file_of manner.now.sector held.old)
-        (file_of manner.now.sector held.new) }
-    ensures picked { PickedBy manner.now.sector
-        (CutTouches manner.now.sector (file_of manner.now.sector held.old) end)
-        (cut_to (file_of manner.now.sector held.old) end) end manner.now.part.now result
-        (file_of manner.now.sector held.old) (file_of manner.now.sector held.new) }
+    ensures stands { Stands manner.now.sector held.new }
+    ensures answered { IsAnswered manner.now (cutting (file_of manner.now.sector held.old) end)
+        result held.old held.new }
     ensures counted { refused.new ≡ counted result refused.old }
-    ensures judged { Judged false manner.now.fails true result }
-    ensures within { EndsWithin result end }
 {
     let end = end as usize;
     let keep = end.min(held.len);
@@ -159,11 +125,8 @@ pub(crate) fn cut_held(
 
 /// Syncs a file.
 pub(crate) fn sync_held(held: &mut Held, sector: usize)
-    requires is_size { IsTrue (is_sector_size sector) }
-    requires held { IsHeld sector held.old }
-    requires solid { IsSolid sector (file_of sector held.old) }
-    ensures held { IsHeld sector held.new }
-    ensures solid { IsSolid sector (file_of sector held.new) }
+    requires { Stands sector held.old }
+    ensures stands { Stands sector held.new }
     ensures synced { IsSynced (file_of sector held.old) (file_of sector held.new) }
 {
     held.sync(sector);
@@ -171,11 +134,8 @@ pub(crate) fn sync_held(held: &mut Held, sector: usize)
 
 /// Fails in the middle of a sync of a file.
 pub(crate) fn turn_held(held: &mut Held, sector: usize, pick: &[u32])
-    requires is_size { IsTrue (is_sector_size sector) }
-    requires held { IsHeld sector held.old }
-    requires solid { IsSolid sector (file_of sector held.old) }
-    ensures held { IsHeld sector held.new }
-    ensures solid { IsSolid sector (file_of sector held.new) }
+    requires { Stands sector held.old }
+    ensures stands { Stands sector held.new }
     ensures shuffled { IsShuffled sector (file_of sector held.old) (file_of sector held.new) }
     ensures turned { (k : ℕ) → IsTurned sector (file_of sector held.old) (file_of sector held.new) k
         (picked pick.now true k (suc (length ((file_of sector held.old).earlier k)))) }
@@ -185,11 +145,8 @@ pub(crate) fn turn_held(held: &mut Held, sector: usize, pick: &[u32])
 
 /// Ends a file at a length, in each of its values.
 pub(crate) fn end_held(held: &mut Held, sector: usize, end: u64)
-    requires is_size { IsTrue (is_sector_size sector) }
-    requires held { IsHeld sector held.old }
-    requires solid { IsSolid sector (file_of sector held.old) }
-    ensures held { IsHeld sector held.new }
-    ensures solid { IsSolid sector (file_of sector held.new) }
+    requires { Stands sector held.old }
+    ensures stands { Stands sector held.new }
     ensures ended { IsEnded sector end (file_of sector held.old) (file_of sector held.new) }
 {
     held.end(sector, end as usize);
@@ -204,8 +161,7 @@ pub(crate) fn is_too_long(at: u64, length: usize) -> bool
 
 /// An empty file.
 pub(crate) fn empty(alloc: Global) -> Held
-    ensures held { (sector : ℕ) → IsHeld sector result }
-    ensures solid { (sector : ℕ) → IsSolid sector (file_of sector result) }
+    ensures stands { (sector : ℕ) → IsTrue (is_sector_size sector) → Stands sector result }
     ensures settled { (sector : ℕ) → IsSettled (file_of sector result) [] }
 {
     Held {
@@ -220,8 +176,7 @@ pub(crate) fn empty(alloc: Global) -> Held
 pub(crate) fn filled(alloc: Global, sector: usize, bytes: &[u8]) -> Result<Held, DiskError>
     requires is_size { IsTrue (is_sector_size sector) }
     requires room { length bytes.now ≤ longest }
-    ensures held { IfOk result (λ f. IsHeld sector f) }
-    ensures solid { IfOk result (λ f. IsSolid sector (file_of sector f)) }
+    ensures stands { IfOk result (λ f. Stands sector f) }
     ensures settled { IfOk result (λ f. IsSettled (file_of sector f) bytes.now) }
     ensures error { IfErr result (λ e. number_of e ≡ 4) }
 {
@@ -247,9 +202,7 @@ pub(crate) fn append_present(
     sector: usize,
     out: &mut Vec<u8>,
 ) -> Result<(), DiskError>
-    requires is_size { IsTrue (is_sector_size sector) }
-    requires held { IsHeld sector held.now }
-    requires short { held.now.len ≤ longest }
+    requires { Stands sector held.now }
     ensures ok { OnOk result ((bytes : List ℕ) × (out.new.items ≡ out.old.items ++ bytes) × (length bytes ≡
         held.now.len) × ((i : ℕ) → i < held.now.len → slice_index bytes i ≡ byte (file_of sector held.now)
         i)) }

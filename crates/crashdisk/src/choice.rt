@@ -1,7 +1,9 @@
 //! What a crash is told to leave (own).
 ghost use Rattle.std.specs.Prelude.{◌≡◌, ◌<◌, length, min, max, suc, Option, Some, None, MatchOption, []};
-ghost use Rattle.crashdisk.specs.Choice.{naming_of, newest, oldest, is_newest, named_len, last_torn, torn_here, Names};
-ghost use Rattle.crashdisk.specs.Choice.{IsLeft, EachImageIsNamed};
+ghost use Rattle.crashdisk.specs.Choice.{naming_of, newest, oldest, is_newest, named_len, last_torn, torn_here};
+ghost use Rattle.crashdisk.specs.internal.Choice.{Names};
+ghost use Rattle.crashdisk.specs.Choice.{EachImageIsNamed};
+ghost use Rattle.crashdisk.specs.internal.Choice.{IsLeft};
 ghost use Rattle.crashdisk.specs.Held.{picked};
 
 use crate::values::Values;

@@ -1,10 +1,10 @@
 //! The choices of a crash, counted.
-ghost use Rattle.std.specs.Prelude.{◌≡◌, IsTrue, ◌<◌, ◌≤◌, ◌+◌, ◌-◌, ◌*◌, ◌/◌, ◌^◌, ℕ, suc, [], length, map};
+ghost use Rattle.std.specs.Prelude.{◌≡◌, ◌<◌, ◌≤◌, ◌+◌, ◌-◌, ◌*◌, ◌/◌, ◌^◌, ℕ, suc, [], length, map};
 ghost use Rattle.std.specs.Prelude.{slice_index_or, OnOk, IfOk, IfErr};
 ghost use Rattle.std.specs.List.{range_with_len};
 ghost use Rattle.crashdisk.specs.State.{longest};
-ghost use Rattle.crashdisk.specs.Held.{file_of, file_by, IsHeld, AreWhole};
-ghost use Rattle.crashdisk.specs.Solid.{IsSolid, is_sector_size};
+ghost use Rattle.crashdisk.specs.Held.{file_of, file_by, AreWhole};
+ghost use Rattle.crashdisk.specs.internal.Held.{Stands};
 ghost use Rattle.crashdisk.specs.Choice.{naming_of};
 ghost use Rattle.crashdisk.specs.Refusal.{number_of};
 ghost use Rattle.crashdisk.specs.Count.{sector_count, value_count, ways, digit, length_count, length_at, choice_count};
@@ -23,9 +23,7 @@ pub(crate) fn next_choice(
     sector: usize,
     n: &mut u64,
 ) -> Result<FileChoice, DiskError>
-    requires is_size { IsTrue (is_sector_size sector) }
-    requires held { IsHeld sector held.now }
-    requires solid { IsSolid sector (file_of sector held.now) }
+    requires { Stands sector held.now }
     ensures named { IfOk result (λ choice. naming_of choice ≡ naming_at sector (file_of sector held.now) n.old) }
     ensures rest { OnOk result (n.new ≡ n.old / choice_count sector (file_of sector held.now)) }
     ensures error { IfErr result (λ e. number_of e ≡ 4) }
@@ -43,9 +41,7 @@ pub(crate) fn file_choice(
     sector: usize,
     n: &mut u64,
 ) -> Result<FileChoice, AllocError>
-    requires is_size { IsTrue (is_sector_size sector) }
-    requires held { IsHeld sector held.now }
-    requires solid { IsSolid sector (file_of sector held.now) }
+    requires { Stands sector held.now }
     ensures named { IfOk result (λ choice. naming_of choice ≡ naming_at sector (file_of sector held.now) n.old) }
     ensures rest { OnOk result (n.new ≡ n.old / choice_count sector (file_of sector held.now)) }
 {

@@ -1,10 +1,11 @@
 //! What a crash leaves of a modelled file, and what it would leave.
-ghost use Rattle.std.specs.Prelude.{◌≡◌, ◌⊎◌, IsTrue, ◌<◌, ◌≤◌, ◌+◌, ◌-◌, ◌*◌, ◌/◌, ◌^◌, ◌++◌, ℕ, [], length};
+ghost use Rattle.std.specs.Prelude.{◌≡◌, ◌⊎◌, ◌<◌, ◌≤◌, ◌+◌, ◌-◌, ◌*◌, ◌/◌, ◌^◌, ◌++◌, ℕ, [], length};
 ghost use Rattle.std.specs.Prelude.{slice_index, slice_index_or, OnOk, OnErr, IfErr};
 ghost use Rattle.crashdisk.specs.State.{longest, IsImage, IsSettled};
-ghost use Rattle.crashdisk.specs.Held.{file_of, file_by, IsHeld, AreWhole};
-ghost use Rattle.crashdisk.specs.Solid.{IsSolid, is_sector_size};
-ghost use Rattle.crashdisk.specs.Choice.{naming_of, named_byte, image_of, IsLeft};
+ghost use Rattle.crashdisk.specs.Held.{file_of, file_by, AreWhole};
+ghost use Rattle.crashdisk.specs.internal.Held.{Stands};
+ghost use Rattle.crashdisk.specs.Choice.{naming_of, named_byte, image_of};
+ghost use Rattle.crashdisk.specs.internal.Choice.{IsLeft};
 ghost use Rattle.crashdisk.specs.Refusal.{number_of};
 
 use crate::choice::FileChoice;
@@ -14,11 +15,8 @@ use crate::values::{Values, fill_with};
 
 /// Leaves the file that a choice names, alone.
 pub(crate) fn crash_held(held: &mut Held, sector: usize, tears: bool, choice: &FileChoice)
-    requires is_size { IsTrue (is_sector_size sector) }
-    requires held { IsHeld sector held.old }
-    requires solid { IsSolid sector (file_of sector held.old) }
-    ensures held { IsHeld sector held.new }
-    ensures solid { IsSolid sector (file_of sector held.new) }
+    requires { Stands sector held.old }
+    ensures stands { Stands sector held.new }
     ensures image { IsImage sector tears (file_of sector held.old)
         (image_of sector tears (file_of sector held.old) (naming_of choice.now)) }
     ensures settled { IsSettled (file_of sector held.new)
@@ -59,9 +57,7 @@ pub(crate) fn append_image(
     choice: &FileChoice,
     out: &mut Vec<u8>,
 ) -> Result<(), DiskError>
-    requires is_size { IsTrue (is_sector_size sector) }
-    requires held { IsHeld sector held.now }
-    requires solid { IsSolid sector (file_of sector held.now) }
+    requires { Stands sector held.now }
     ensures ok { OnOk result
         (out.new.items ≡ out.old.items ++ image_of sector tears (file_of sector held.now) (naming_of choice.now)) }
     ensures err { OnErr result (out.new.items ≡ out.old.items) }

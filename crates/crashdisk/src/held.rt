@@ -3,8 +3,12 @@ ghost use Rattle.std.specs.Prelude.{◌≡◌, ◌≢◌, ◌⊎◌, ◌<◌, �
 ghost use Rattle.std.specs.Prelude.{◌∷◌, ◌++◌, length, take, drop, replicate, slice_index, slice_index_or, OnOk, OnErr};
 ghost use Rattle.std.specs.Prelude.{IfOk, max, set, cond, EachIndex, suc, true};
 ghost use Rattle.crashdisk.specs.State.{Meets};
-ghost use Rattle.crashdisk.specs.Held.{last_of, file_by, AreWhole, Touches, put_byte, IsListOf, EachOf, AreRising};
-ghost use Rattle.crashdisk.specs.Held.{IsPut, Gets, Loses, Takes, is_odd, IsCutTo, IsEndedTo, picked, turned};
+ghost use Rattle.crashdisk.specs.Held.{last_of, file_by, AreWhole, IsListOf};
+ghost use Rattle.crashdisk.specs.internal.Held.{Touches, put_byte, EachOf, AreRising};
+ghost use Rattle.crashdisk.specs.Held.{is_odd};
+ghost use Rattle.crashdisk.specs.internal.Held.{EndsWhole, Suits, IsPut, Gets, Loses, Takes, IsCutTo, IsEndedTo};
+ghost use Rattle.crashdisk.specs.Held.{picked};
+ghost use Rattle.crashdisk.specs.internal.Held.{turned};
 
 use crate::values::{Bytes, Values};
 use std::alloc::{AllocError, Global};
@@ -198,10 +202,8 @@ fn touched(
     len: usize,
     change: &Change<'_>,
 ) -> Result<Vec<usize>, AllocError>
-    requires positive { 0 < sector }
-    requires small { sector < 2 ^ 17 }
-    requires ends { (change.now.end < 2 ^ 60) × (change.now.to < 2 ^ 60) }
-    requires fits { change.now.to ≤ max change.now.end len }
+    requires size { (0 < sector) × (sector < 2 ^ 17) }
+    requires suits { Suits change.now len }
     requires there { change.now.from < change.now.to → change.now.to / sector < length sectors.now }
     requires whole { AreWhole sector sectors.now }
     ensures { IfOk result (λ v. IsListOf
@@ -231,8 +233,7 @@ fn append_one(
     k: usize,
 ) -> Result<(), AllocError>
     requires there { k < length sectors.old.items }
-    requires some { 0 < length (slice_index_or sectors.old.items k []) }
-    requires long { length (last_of (slice_index_or sectors.old.items k [])) ≡ sector }
+    requires ends { EndsWhole sector (slice_index_or sectors.old.items k []) }
     requires places { k * sector + sector < 2 ^ 62 }
     requires room { change.now.from + length change.now.bytes.now < 2 ^ 62 }
     ensures ok { OnOk result ((values : _) × (sectors.new.items ≡ set sectors.old.items k values) × ((value : _) ×
@@ -310,9 +311,11 @@ fn is_taken(pick: &[u32], i: usize) -> bool
 }
 
 impl Held {
-    ghost use Rattle.crashdisk.specs.State.{Changed, IsDone, IsSynced, byte, longest};
+    ghost use Rattle.crashdisk.specs.State.{IsSynced, byte};
+    ghost use Rattle.crashdisk.specs.internal.Answer.{changing, IsMade, IsMadeInPart};
     ghost use Rattle.crashdisk.specs.Ending.{IsEnded};
-    ghost use Rattle.crashdisk.specs.Held.{file_of, IsHeld, IsPicked, IsTurned, picked};
+    ghost use Rattle.crashdisk.specs.Held.{file_of, IsHeld, IsTurned, picked};
+    ghost use Rattle.crashdisk.specs.internal.Held.{Suits};
 
     /// The same file.
     pub(crate) fn copy(&self, alloc: Global) -> Result<Held, AllocError>
@@ -339,11 +342,8 @@ impl Held {
         sector: usize,
         change: &Change<'_>,
     ) -> Result<Vec<usize>, AllocError>
-        requires positive { 0 < sector }
-        requires small { sector < 2 ^ 17 }
-        requires ends { (change.now.end ≤ longest) × (change.now.to ≤ longest) × (self.old.len ≤ longest) }
-        requires fits { change.now.to ≤ max change.now.end self.old.len }
         requires held { IsHeld sector self.old }
+        requires suits { Suits change.now self.old.len }
         ensures held { IsHeld sector self.new }
         ensures same { file_of sector self.new ≡ file_of sector self.old }
         ensures list { IfOk result (λ v. IsListOf
@@ -361,22 +361,11 @@ impl Held {
         sector: usize,
         change: &Change<'_>,
     ) -> Result<(), AllocError>
-        requires positive { 0 < sector }
-        requires small { sector < 2 ^ 17 }
-        requires ends { (change.now.end ≤ longest) × (change.now.to ≤ longest) × (self.old.len ≤ longest) }
-        requires fits { change.now.to ≤ max change.now.end self.old.len }
-        requires room { change.now.from + length change.now.bytes.now < 2 ^ 62 }
         requires held { IsHeld sector self.old }
+        requires suits { Suits change.now self.old.len }
         ensures held { IsHeld sector self.new }
-        ensures changed { OnOk result (Changed sector
-            (Touches sector (file_of sector self.old) change.now.from change.now.to change.now.end) (λ i.
-            put_byte change.now.from change.now.keep change.now.bytes.now i
-            ((file_of sector self.old).present i)) change.now.end (file_of sector self.old)
-            (file_of sector self.new)) }
-        ensures done { OnOk result (IsDone sector
-            (Touches sector (file_of sector self.old) change.now.from change.now.to change.now.end) (λ i.
-            put_byte change.now.from change.now.keep change.now.bytes.now i
-            ((file_of sector self.old).present i)) change.now.end (file_of sector self.new)) }
+        ensures made { OnOk result
+            (IsMade sector (changing (file_of sector self.old) change.now) self.old self.new) }
         ensures same { OnErr result (file_of sector self.new ≡ file_of sector self.old) }
     {
         let list = self.prepare(alloc, sector, change)?;
@@ -395,23 +384,11 @@ impl Held {
         change: &Change<'_>,
         part: &Part,
     ) -> Result<(), AllocError>
-        requires positive { 0 < sector }
-        requires small { sector < 2 ^ 17 }
-        requires ends { (change.now.end ≤ longest) × (change.now.to ≤ longest) × (self.old.len ≤ longest) }
-        requires fits { change.now.to ≤ max change.now.end self.old.len }
-        requires room { change.now.from + length change.now.bytes.now < 2 ^ 62 }
         requires held { IsHeld sector self.old }
+        requires suits { Suits change.now self.old.len }
         ensures held { IsHeld sector self.new }
-        ensures changed { OnOk result (Changed sector
-            (Touches sector (file_of sector self.old) change.now.from change.now.to change.now.end) (λ i.
-            put_byte change.now.from change.now.keep change.now.bytes.now i
-            ((file_of sector self.old).present i)) change.now.end (file_of sector self.old)
-            (file_of sector self.new)) }
-        ensures picked { OnOk result (IsPicked sector
-            (Touches sector (file_of sector self.old) change.now.from change.now.to change.now.end) (λ i.
-            put_byte change.now.from change.now.keep change.now.bytes.now i
-            ((file_of sector self.old).present i)) change.now.end part.now.pick.items part.now.new_len
-            (file_of sector self.old) (file_of sector self.new)) }
+        ensures made { OnOk result
+            (IsMadeInPart sector (changing (file_of sector self.old) change.now) part.now self.old self.new) }
         ensures same { OnErr result (file_of sector self.new ≡ file_of sector self.old) }
     {
         let touched = self.prepare(alloc, sector, change)?;
@@ -426,9 +403,7 @@ impl Held {
 
     /// Makes the present values the only ones, with zeros past the end.
     pub(crate) fn sync(&mut self, sector: usize)
-        requires positive { 0 < sector }
-        requires small { sector < 2 ^ 17 }
-        requires held { IsHeld sector self.old }
+        requires { IsHeld sector self.old }
         ensures held { IsHeld sector self.new }
         ensures synced { IsSynced (file_of sector self.old) (file_of sector self.new) }
     {
@@ -439,7 +414,7 @@ impl Held {
 
     /// Fails in the middle of a sync: of each sector the picked value is moved to the end.
     pub(crate) fn turn(&mut self, sector: usize, pick: &[u32])
-        requires held { IsHeld sector self.old }
+        requires { IsHeld sector self.old }
         ensures held { IsHeld sector self.new }
         ensures len { (self.new.len ≡ self.old.len) × (self.new.least ≡ self.old.least)
             × (self.new.greatest ≡ self.old.greatest) }
@@ -451,9 +426,7 @@ impl Held {
 
     /// Ends the file at a length, in each of its values.
     pub(crate) fn end(&mut self, sector: usize, end: usize)
-        requires positive { 0 < sector }
-        requires small { sector < 2 ^ 17 }
-        requires held { IsHeld sector self.old }
+        requires { IsHeld sector self.old }
         ensures held { IsHeld sector self.new }
         ensures ended { IsEnded sector end (file_of sector self.old) (file_of sector self.new) }
     {
@@ -466,8 +439,6 @@ impl Held {
 
     /// Reads the bytes from a place on.
     pub(crate) fn read(&self, sector: usize, at: usize, out: &mut [u8])
-        requires positive { 0 < sector }
-        requires small { sector < 2 ^ 17 }
         requires room { at + length out.old < 2 ^ 60 }
         requires held { IsHeld sector self.now }
         ensures { EachIndex out.new (λ i. slice_index out.new i ≡ byte (file_of sector self.now) (at + i)) }

@@ -311,7 +311,7 @@ impl Disk for ModelDisk {
     ghost use Rattle.crashdisk.specs.State.{byte, written, WriteTouches, cut_to, CutTouches};
     ghost use Rattle.crashdisk.specs.Call.{of, Writes, Cuts, Syncs, Looks};
     ghost use Rattle.crashdisk.specs.Model.{state_of, IsCounted, IsSyncCounted, PickedBy, TurnedBy};
-    ghost use Rattle.crashdisk.specs.SoundModel.{sound_disk};
+    ghost use Rattle.crashdisk.specs.internal.SoundModel.{sound_disk};
 
     ghost state = { state_of };
 

@@ -1,10 +1,10 @@
 //! What a disk that tears keeps of its log.
-ghost use Rattle.std.specs.Prelude.{◌≡◌, ◌<◌, ◌≤◌, ◌+◌, ◌^◌, ◌++◌, [], ◌∷◌, IsTrue, List, length, slice_index, ℕ, map};
+ghost use Rattle.std.specs.Prelude.{◌≡◌, ◌<◌, ◌≤◌, ◌+◌, ◌^◌, ◌++◌, [], ◌∷◌, List, length, slice_index, ℕ, map};
 ghost use Rattle.std.specs.Prelude.{OnOk, OnErr, IfOk};
 ghost use Rattle.crashdisk.specs.State.{byte, longest};
 ghost use Rattle.crashdisk.specs.Call.{ArePresent};
-ghost use Rattle.crashdisk.specs.Held.{file_of, IsHeld};
-ghost use Rattle.crashdisk.specs.Solid.{is_sector_size};
+ghost use Rattle.crashdisk.specs.Held.{file_of};
+ghost use Rattle.crashdisk.specs.internal.Held.{Stands};
 
 use crate::error::DiskError;
 use crate::held::Held;
@@ -21,7 +21,8 @@ pub(crate) struct Since {
 }
 
 impl Since {
-    ghost use Rattle.crashdisk.specs.Since.{kept_bytes, handed_writes, by_answer};
+    ghost use Rattle.crashdisk.specs.Since.{kept_bytes, handed_writes};
+    ghost use Rattle.crashdisk.specs.internal.Since.{by_answer};
 
     /// No bytes and no writes.
     pub(crate) fn new(alloc: Global) -> Since
@@ -116,10 +117,8 @@ impl Since {
 
     /// Keeps the present bytes of the log, and forgets the writes. It takes no memory.
     pub(crate) fn keep(&mut self, held: &Held, sector: usize)
-        requires is_size { IsTrue (is_sector_size sector) }
-        requires held { IsHeld sector held.now }
+        requires stands { Stands sector held.now }
         requires room { held.now.len ≤ length self.old.room.items }
-        requires short { held.now.len ≤ longest }
         ensures room { length self.new.room.items ≡ length self.old.room.items }
         ensures kept { ArePresent (file_of sector held.now) (kept_bytes self.new) }
         ensures handed { handed_writes self.new ≡ [] }
@@ -132,10 +131,8 @@ impl Since {
 
 /// Copies the present bytes of a file to the front of these.
 fn copy_present(held: &Held, sector: usize, out: &mut [u8])
-    requires is_size { IsTrue (is_sector_size sector) }
-    requires held { IsHeld sector held.now }
+    requires stands { Stands sector held.now }
     requires room { held.now.len ≤ length out.old }
-    requires short { held.now.len ≤ longest }
     ensures { (i : ℕ) → i < held.now.len → slice_index out.new i ≡ byte (file_of sector held.now) i }
 {
     held.read(sector, 0, &mut out[..held.len]);

@@ -1,61 +1,22 @@
 -- What the calls of a replay answer, in one record each (fileformat2, 3).
-use Rattle.std.specs.Prelude.{◌≡◌, ℕ, ◌*◌, ◌<◌, ◌≤◌, true, List, Result}
+use Rattle.std.specs.Prelude.{ℕ, List, Result}
 use Rattle.sqval.specs.Bytes.{word}
-use Rattle.sqval.specs.Database.{Database}
-use Rattle.sqval.specs.Held.{IsHeld}
 use Rattle.sqval.specs.CommitFaults.{most_bytes}
-use Rattle.sqjournal.specs.Journal.{IsHot}
-use Rattle.sqjournal.specs.Restored.{IsRolledBack}
-use Rattle.sqjournal.specs.declared.replay.Replay.{Replay}
-use Rattle.crashdisk.specs.State.{IsSectorSize, longest}
 use Rattle.crashdisk.specs.Call.{DiskState, ArePresent}
-use Rattle.crashdisk.specs.Keeps.{KeepsLog, IsLogDown}
-use Rattle.rollcore.specs.Alone.{ShowsAlone}
 use Rattle.rollcore.specs.Changes.{MayReplayWithin, Asks}
-use Rattle.rollcore.specs.Commits.{PutAnswer}
-use Rattle.rollcore.specs.Lengths.{EndsBy, KeepsLength}
-use Rattle.rollcore.specs.Phases.{Scanning, Writing}
-use Rattle.rollcore.specs.Plans.{IsPlan, IsFit, IsPlanWithin}
-use Rattle.rollcore.specs.Replaying.{Replays, Agrees, SyncsFirst}
-use Rattle.rollcore.specs.Segments.{Journaled}
-use Rattle.rollcore.specs.Steps.{HasRead, ArePages, RunAnswer, CopyAnswer, EndAnswer, RolledAnswer, torn_sector}
-use Rattle.rollcore.specs.declared.plan.Plan.{Plan}
+use Rattle.rollcore.specs.Lengths.{KeepsLength}
+use Rattle.rollcore.specs.Replaying.{Replays}
 use Rattle.rollcore.specs.declared.replaying.Replayed.{Replayed}
 use Rattle.rollcore.specs.declared.error.RollError.{RollError}
-
--- the page of entry number i, or more from it on, are copied, where they are pages of a database of so many
-pub record CopiesRun (size : ℕ) (scan : Replay) (count i : ℕ) (result : Result ℕ RollError) (old new : DiskState) : Type 0 where
-  pub log : KeepsLog old new
-  pub asks : (most : ℕ) → count * size ≤ most → Asks (MayReplayWithin most size) result old new
-  pub pages : (w : List ℕ) → ArePresent old.log w → HasRead w scan → size ≡ word w 24 → count * size ≤ longest → RunAnswer size w count i result old new
-
--- the pages of all entries are copied, and the length is set to so many
-pub record CopiesRecords {T : Type 0} (size : ℕ) (scan : Replay) (count : ℕ) (result : Result T RollError) (old new : DiskState) : Type 0 where
-  pub log : KeepsLog old new
-  pub asks : (most : ℕ) → count * size ≤ most → Asks (MayReplayWithin most size) result old new
-  pub pages : (db w : List ℕ) (d : Database) → ArePresent old.db db → ArePresent old.log w → HasRead w scan → IsHot w → size ≡ word w 24 → count ≡ word w 16 → count * size ≤ longest → IsRolledBack db w d → CopyAnswer size d result old new
-  pub writing : (w : List ℕ) (d : Database) → ArePresent old.log w → HasRead w scan → count * size ≤ longest → count ≡ word w 16 → Writing size w d old → Writing size w d new
-
--- The database is made to stay, and then the journal is ended: of a replay (shows, lengths), or of a commit that makes e of d.
-pub record Finishes {T : Type 0} (result : Result T RollError) (old new : DiskState) : Type 0 where
-  pub asks : (most size : ℕ) → Asks (MayReplayWithin most size) result old new
-  pub ends : EndAnswer result old new
-  pub shows : (size : ℕ) (w : List ℕ) (d : Database) → Writing size w d old → ArePages size d old.db → ShowsAlone size d new
-  pub lengths : IsSectorSize old.sector → (w : List ℕ) → IsLogDown old w → IsHot w → (old.tears ≡ true → old.sector ≤ word w 20) → EndsBy old.db.len new
-  pub commit : (size sector : ℕ) (d e : Database) (named : List ℕ) (place : ℕ) (w : List ℕ)
-      → Journaled size sector d named place w old → 0 < place → ArePages size e old.db → IsHeld size e → PutAnswer size d e result old new
-
--- what is planned is replayed
-pub record ReplaysPlan (plan : Plan) (result : Result Replayed RollError) (old new : DiskState) : Type 0 where
-  pub asks : (most : ℕ) → IsPlanWithin most plan → Asks (MayReplayWithin most plan.header.page_size) result old new
-  pub replays : (db w : List ℕ) (torn : ℕ) → ArePresent old.db db → ArePresent old.log w → IsFit torn w → IsPlan w plan → RolledAnswer db w result old new
-  pub shows : IsSectorSize old.sector → (size : ℕ) (w : List ℕ) (d : Database) → Scanning size d w old → IsFit (torn_sector old) w → IsPlan w plan → ShowsAlone size d new
-  pub ends : IsSectorSize old.sector → (w : List ℕ) → IsLogDown old w → IsFit (torn_sector old) w → IsPlan w plan → EndsBy (word w 16 * word w 24) new
+use Rattle.recovery.specs.Steps.{SyncsFirst}
+use Rattle.rollcore.specs.declared.error.RollError.TheVariants.{Device}
+use Rattle.recovery.specs.Logs.{Agrees}
+use Rattle.rollcore.specs.Alone.{journal_log}
 
 -- the journal is replayed into a database of at most so many bytes, without a sync before
 pub record ReplaysSyncedWithin (most : ℕ) (result : Result Replayed RollError) (old new : DiskState) : Type 0 where
   pub replays : Replays most result old new
-  pub agrees : Agrees old new
+  pub agrees : (size : ℕ) → Agrees journal_log size old new
   pub lengths : KeepsLength old new
   pub asks : (w : List ℕ) → ArePresent old.log w → Asks (MayReplayWithin most (word w 24)) result old new
 
@@ -68,9 +29,9 @@ ReplaysSynced result old new = ReplaysSyncedWithin most_bytes result old new
 -- asks for pages of the size that the journal names.
 pub record ReplaysFileWithin (most : ℕ) (result : Result Replayed RollError) (old new : DiskState) : Type 0 where
   pub replays : Replays most result old new
-  pub agrees : Agrees old new
+  pub agrees : (size : ℕ) → Agrees journal_log size old new
   pub lengths : KeepsLength old new
-  pub synced : SyncsFirst most result old new
+  pub synced : SyncsFirst Device (λ mid end. Replays most result mid end × ((size : ℕ) → Agrees journal_log size mid end)) result old new
   pub asks : (w : List ℕ) → ArePresent old.log w → Asks (MayReplayWithin most (word w 24)) result old new
 
 -- the same at the usual limit

@@ -1,5 +1,5 @@
 -- What fits an engine: the history of its databases, which is handed along from call to call and stored nowhere (own).
-use Rattle.std.specs.Prelude.{◌≡◌, ◌⊎◌, ℕ, ◌+◌, ◌*◌, ◌<◌, ◌≤◌, true, false, IsTrue, List, length, get_or, Result, Ok, Err, []}
+use Rattle.std.specs.Prelude.{◌≡◌, ℕ, ◌+◌, ◌<◌, ◌≤◌, true, IsTrue, List, length, get_or, []}
 use Rattle.sqval.specs.Bytes.{word}
 use Rattle.sqval.specs.Database.{Database}
 use Rattle.sqval.specs.Held.{IsJust, IsHeld}
@@ -7,50 +7,38 @@ use Rattle.sqval.specs.Answers.{Files, Answer, Done, Refused}
 use Rattle.sqjournal.specs.Header.{HasMagic}
 use Rattle.sqjournal.specs.Journal.{IsHot}
 use Rattle.crashdisk.specs.State.{IsImage}
-use Rattle.crashdisk.specs.Call.{DiskState, ArePresent}
+use Rattle.crashdisk.specs.Call.{DiskState}
 use Rattle.rollcore.specs.Changes.{MayChange}
-use Rattle.rollcore.specs.Alone.{MayBeLeft, Show}
+use Rattle.rollcore.specs.Alone.{journal_log}
 use Rattle.crashdisk.specs.Keeps.{Suits, IsLogDown, IsSameDisk}
-use Rattle.rollcore.specs.Machine.{State, at, newest, Act, Opens, Step}
+use Rattle.rollcore.specs.Machine.{State, Act, Opens, Step}
 use Rattle.rollcore.specs.Refusal.{number_of}
 use Rattle.rollcore.specs.declared.error.RollError.{RollError}
 use Rattle.rollcore.specs.declared.error.RollError.TheVariants.{Device}
 use Rattle.rollcore.specs.declared.state.Core.{Core}
 use Rattle.rollcore.specs.declared.roll.Roll.{Roll}
-
--- the present bytes of both files
-pub record AreFiles (s : DiskState) (files : Files) : Type 0 where
-  pub db : ArePresent s.db files.db
-  pub log : ArePresent s.log files.log
-
--- A log that may be read after a crash, or after a call that failed: of listed values alone, or what a disk that tears
--- leaves where it puts no header together by chance.
-abbrev pub MayBeRead : DiskState → List ℕ → Type 0
-MayBeRead s w = IsImage s.sector false s.log w ⊎ MayBeLeft s w
-
--- a file and a journal show a database, and where the journal isn't hot the file is as long as that
-pub record ShowsWhole (size : ℕ) (db w : List ℕ) (d : Database) : Type 0 where
-  pub shows : Show size db w d
-  pub whole : (IsHot w → ⊥) → length db ≡ length d * size
+use Rattle.recovery.specs.Files.{AreFiles}
+use Rattle.recovery.specs.Logs.{MayBeRead, ShowsWhole}
+use Rattle.recovery.specs.Histories.{at, newest}
 
 -- Whatever is left of the log shows with whatever is left of the file one database of the history, at the floor or later.
 abbrev pub ShowsHistory : (size : ℕ) (h : List Database) (floor : ℕ) → DiskState → Type 0
-ShowsHistory size h floor s = (w : List ℕ) → MayBeRead s w
-    → (k : ℕ) × (floor ≤ k) × (k < length h) × ((db : List ℕ) → IsImage s.sector s.tears s.db db → ShowsWhole size db w (get_or h k []))
+ShowsHistory size h floor s = (w : List ℕ) → MayBeRead journal_log s w
+    → (k : ℕ) × (floor ≤ k) × (k < length h) × ((db : List ℕ) → IsImage s.sector s.tears s.db db → ShowsWhole journal_log size db w (get_or h k []))
 
 -- On a disk that tears a hot journal that may be read names no smaller sectors, so that an opening replays it.
 abbrev pub NamesSectors : DiskState → Type 0
-NamesSectors s = s.tears ≡ true → (w : List ℕ) → MayBeRead s w → IsHot w → s.sector ≤ word w 20
+NamesSectors s = s.tears ≡ true → (w : List ℕ) → MayBeRead journal_log s w → IsHot w → s.sector ≤ word w 20
 
 -- What fits a disk. Whatever a crash leaves shows one database of the history, at the floor or later; and where the
 -- machine is open, what is present shows the newest.
 pub record FitsDisk (past : State) (s : DiskState) : Type 0 where
   pub suits : Suits past.page_size s
   pub floor : past.floor < length past.history
-  pub held : (i : ℕ) → i < length past.history → IsHeld past.page_size (at past i)
+  pub held : (i : ℕ) → i < length past.history → IsHeld past.page_size (at past.history i)
   pub left : ShowsHistory past.page_size past.history past.floor s
   pub sectors : NamesSectors s
-  pub present : IsTrue past.is_open → (files : Files) → AreFiles s files → ShowsWhole past.page_size files.db files.log (newest past)
+  pub present : IsTrue past.is_open → (files : Files) → AreFiles s files → ShowsWhole journal_log past.page_size files.db files.log (newest past.history)
 
 -- A disk between two commits: each file that a crash may leave is just the database; the log is down, and no header
 -- begins at its front.
@@ -60,8 +48,8 @@ pub record Rests (size : ℕ) (d : Database) (s : DiskState) : Type 0 where
 
 -- what an open core holds
 pub record IsCore (past : State) (core : Core) (s : DiskState) : Type 0 where
-  pub size : core.size ≡ length (newest past)
-  pub rests : Rests past.page_size (newest past) s
+  pub size : core.size ≡ length (newest past.history)
+  pub rests : Rests past.page_size (newest past.history) s
   pub down : past.floor + 1 ≡ length past.history
   pub record_room : length core.record.items ≡ past.page_size + 8
   pub header_room : length core.header.items ≡ s.sector
@@ -77,11 +65,6 @@ pub record FitsCore (past : State) (holds : Core) (s : DiskState) : Type 0 where
 abbrev pub Fits : {D : Type 0} → (state_of : D → DiskState) → Roll D → State → Type 0
 Fits state_of roll past = FitsCore past roll.core (state_of roll.disk)
 
--- what a call answers, a refusal by its number
-abbrev pub answered : {T : Type 0} → (T → Answer) → Result T RollError → Answer
-answered good (Ok value) = good value
-answered good (Err error) = Refused (number_of error)
-
 -- One call: the machine goes on by a row of its table, and its state fits again. A call of the disk that was refused is told.
 pub record StepsTo (past : State) (act : Act) (answer : Answer) (core : Core) (old new : DiskState) : Type 0 where
   pub next : State
@@ -90,10 +73,6 @@ pub record StepsTo (past : State) (act : Act) (answer : Answer) (core : Core) (o
   pub told : old.refused < new.refused → answer ≡ Refused (number_of Device)
   pub row : Step past act answer old.refused new.refused next
   pub fits : FitsCore next core new
-
--- the same of an engine
-abbrev pub Steps : {D : Type 0} → (state_of : D → DiskState) → (old new : Roll D) → State → Act → Answer → Type 0
-Steps state_of old new past act answer = StepsTo past act answer new.core (state_of old.disk) (state_of new.disk)
 
 -- a call takes a core from state to state of the disk, of each past that fits
 abbrev pub Takes : Act → Answer → (old new : Core) → (before after : DiskState) → Type 0

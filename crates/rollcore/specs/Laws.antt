@@ -1,8 +1,9 @@
 -- What holds of every run (own).
-use Rattle.std.specs.Prelude.{◌≡◌, ◌⊎◌, ℕ, ◌+◌, ◌<◌, ◌≤◌, Bool, true, false, IsTrue, length, take}
+use Rattle.std.specs.Prelude.{◌≡◌, ◌⊎◌, ◌+◌, ◌<◌, ◌≤◌, Bool, true, false, length, take}
 use Rattle.sqval.specs.Database.{page}
-use Rattle.sqval.specs.Answers.{Answer, Done, Page, told, is_accepted, IsShort}
-use Rattle.rollcore.specs.Machine.{State, newest, Act, Opens, Commits, Reads, Crashes, Sets, commit_refusal, read_refusal}
+use Rattle.sqval.specs.Answers.{Answer, Done, Page, told}
+use Rattle.rollcore.specs.Machine.{State, Act, Opens, Commits, Reads, Crashes, Sets, commit_refusal, read_refusal}
+use Rattle.recovery.specs.Histories.{newest}
 
 -- the floor is a place of the history
 abbrev pub IsSane : State → Type 0
@@ -20,7 +21,7 @@ pub record Keeps (old new : State) : Type 0 where
 abbrev pub expected : State → Act → Answer
 expected s (Opens found) = Done
 expected s (Commits pages size nonces) = told (commit_refusal s pages size nonces) Done
-expected s (Reads number) = told (read_refusal s number) (Page (page (newest s) number))
+expected s (Reads number) = told (read_refusal s number) (Page (page (newest s.history) number))
 expected s (Crashes left) = Done
 expected s Sets = Done
 
@@ -37,11 +38,6 @@ abbrev pub needs_disk : Act → Bool
 needs_disk (Crashes left) = false
 needs_disk Sets = false
 needs_disk _ = true
-
--- It is what is expected, or, where that is no refusal, what may stand in its place.
-abbrev pub IsExpected : State → Act → Answer → (before after : ℕ) → Type 0
-IsExpected s act answer before after =
-    (answer ≡ expected s act) ⊎ (IsTrue (is_accepted (expected s act)) × IsShort (takes_memory act) (needs_disk act) answer before after)
 
 abbrev pub is_opening : Act → Bool
 is_opening (Opens found) = true

@@ -1,11 +1,12 @@
 -- The machine of an engine with a rollback journal: what each call may answer, and what it steps to (own).
-use Rattle.std.specs.Prelude.{◌≡◌, ◌⊎◌, ℕ, ◌+◌, ◌-◌, ◌/◌, ◌<◌, ◌≤◌, max, Bool, true, false, cond, not, ◌==◌, nat_lt, nat_le, IsTrue, List, [], ◌∷◌, ◌++◌, length, take, get_or, sum_by, Option, Some, None}
+use Rattle.std.specs.Prelude.{◌≡◌, ◌⊎◌, ℕ, ◌+◌, ◌-◌, ◌/◌, ◌<◌, ◌≤◌, max, Bool, true, false, cond, not, ◌==◌, nat_lt, nat_le, IsTrue, List, [], ◌∷◌, ◌++◌, length, take, sum_by, Option, Some, None}
 use Rattle.sqval.specs.Database.{Database, Pages, page, apply}
 use Rattle.sqval.specs.CommitFaults.{first_true, page_faults}
 use Rattle.sqval.specs.Answers.{HasCause, Files, Crashed, Answer, Done, Page, Refused, Refuses, PlainStep}
 use Rattle.rollcore.specs.Alone.{Show}
 use Rattle.rollcore.specs.Refusal.{number_of}
 use Rattle.rollcore.specs.declared.error.RollError.TheVariants.{Closed, PageZero, PageAboveSize, NoMemory, Device, NonceMissing}
+use Rattle.recovery.specs.Histories.{at, last, newest}
 
 -- what happens
 pub data Act : Type 0 where
@@ -31,16 +32,6 @@ pub record State : Type 0 where
 abbrev pub start : (page_size : ℕ) → Database → State
 start page_size base = record { page_size = page_size; history = base ∷ []; floor = 0; is_open = false }
 
--- the place of the newest database, the database at a place, and the newest one
-abbrev pub last : State → ℕ
-last s = length s.history - 1
-
-abbrev pub at : State → ℕ → Database
-at s i = get_or s.history i []
-
-abbrev pub newest : State → Database
-newest s = at s (last s)
-
 -- ---- What calls step to.
 
 -- an opening that showed the database at place k
@@ -53,11 +44,11 @@ closed s = record s { is_open = false }
 
 -- a commit that isn't known to be down
 abbrev pub appended : State → Pages → (size : ℕ) → State
-appended s pages size = record s { history = s.history ++ apply (newest s) pages size ∷ [] }
+appended s pages size = record s { history = s.history ++ apply (newest s.history) pages size ∷ [] }
 
 -- and one that is
 abbrev pub committed : State → Pages → (size : ℕ) → State
-committed s pages size = record s { history = s.history ++ apply (newest s) pages size ∷ []; floor = length s.history }
+committed s pages size = record s { history = s.history ++ apply (newest s.history) pages size ∷ []; floor = length s.history }
 
 -- ---- Refusals: of each call the first that holds.
 
@@ -79,10 +70,10 @@ refusal_of old_size page_size pages size nonces =
     first_true (page_faults old_size page_size pages size ++ (nat_lt nonces (segments_of (recorded pages old_size size)), number_of NonceMissing) ∷ [])
 
 abbrev pub commit_refusal : State → Pages → (size : ℕ) → (nonces : List ℕ) → Option ℕ
-commit_refusal s pages size nonces = cond s.is_open (refusal_of (length (newest s)) s.page_size pages size (length nonces)) (Some (number_of Closed))
+commit_refusal s pages size nonces = cond s.is_open (refusal_of (length (newest s.history)) s.page_size pages size (length nonces)) (Some (number_of Closed))
 
 abbrev pub read_refusal : State → (number : ℕ) → Option ℕ
-read_refusal s number = first_true ((not s.is_open, number_of Closed) ∷ (number == 0, number_of PageZero) ∷ (nat_lt (length (newest s)) number, number_of PageAboveSize) ∷ [])
+read_refusal s number = first_true ((not s.is_open, number_of Closed) ∷ (number == 0, number_of PageZero) ∷ (nat_lt (length (newest s.history)) number, number_of PageAboveSize) ∷ [])
 
 -- ---- Calls, each with its answers. No other answer is given.
 
@@ -90,7 +81,7 @@ read_refusal s number = first_true ((not s.is_open, number_of Closed) ∷ (numbe
 -- came after it is gone.
 abbrev pub OpenStep : State → Files → Answer → (before after : ℕ) → State → Type 0
 OpenStep old found Done before after new =
-    (k : ℕ) × (old.floor ≤ k) × (k < length old.history) × Show old.page_size found.db found.log (at old k) × (IsTrue old.is_open → k ≡ last old) × (new ≡ opened old k)
+    (k : ℕ) × (old.floor ≤ k) × (k < length old.history) × Show old.page_size found.db found.log (at old.history k) × (IsTrue old.is_open → k ≡ last old.history) × (new ≡ opened old k)
 OpenStep old found (Refused number) before after new = ((number ≡ number_of NoMemory) ⊎ ((number ≡ number_of Device) × HasCause before after)) × (new ≡ closed old)
 OpenStep old found _ before after new = ⊥
 
@@ -103,7 +94,7 @@ CommitStep old pages size nonces _ before after new = ⊥
 
 -- a page of the newest database
 abbrev pub ReadStep : State → (number : ℕ) → Answer → (before after : ℕ) → State → Type 0
-ReadStep old number (Page bytes) before after new = (read_refusal old number ≡ None) × (bytes ≡ page (newest old) number) × (new ≡ old)
+ReadStep old number (Page bytes) before after new = (read_refusal old number ≡ None) × (bytes ≡ page (newest old.history) number) × (new ≡ old)
 ReadStep old number (Refused refusal) before after new = Refuses (read_refusal old number) false old before after old refusal new
 ReadStep old number _ before after new = ⊥
 

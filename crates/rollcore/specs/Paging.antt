@@ -2,13 +2,14 @@
 use Rattle.std.specs.Prelude.{◌≡◌, ◌≢◌, ℕ, ◌<◌, ◌≤◌, true, false, List, Result, Ok, Err}
 use Rattle.sqval.specs.Answers.{Page}
 use Rattle.crashdisk.specs.Call.{DiskState}
-use Rattle.crashdisk.specs.Keeps.{PlaceAnswer, LooksOnce, TellsRefusal}
-use Rattle.crashdisk.specs.declared.file.File.{File}
+use Rattle.crashdisk.specs.Keeps.{LooksOnce}
 use Rattle.rollcore.specs.Machine.{State, Reads}
-use Rattle.rollcore.specs.Fits.{FitsCore, StepsTo, answered}
+use Rattle.rollcore.specs.Fits.{FitsCore, StepsTo}
 use Rattle.rollcore.specs.declared.state.Core.{Core}
 use Rattle.rollcore.specs.declared.error.RollError.{RollError}
 use Rattle.rollcore.specs.declared.error.RollError.TheVariants.{Closed, PageZero, PageAboveSize, BadLength, Device}
+use Rattle.recovery.specs.Moments.{answered}
+use Rattle.rollcore.specs.Refusal.{number_of}
 
 -- the first refusal that holds of a read of this page, into a buffer of `room` bytes
 unfoldable pub ReadJudged : {T : Type 0} → Core → (page room : ℕ) → Result T RollError → Type 0
@@ -26,13 +27,7 @@ ReadAnswers core page room (Ok done) old new = ReadJudged core page room (Ok don
 ReadAnswers core page room (Err Device) old new = ReadJudged {T = Unit {0}} core page room (Ok tt)
 ReadAnswers {T = T} core page room (Err e) old new = ReadJudged {T = T} core page room (Err e) × (new ≡ old)
 
--- bytes of a file were read, by one call at most
-pub record ReadsPlace {T : Type 0} (file : File) (at : ℕ) (out : List ℕ) (result : Result T RollError) (old new : DiskState) : Type 0 where
-  pub place : PlaceAnswer Device file at out result old new
-  pub looks : LooksOnce old new
-  pub told : TellsRefusal Device result old new
-
 -- A page of so many bytes is read, by one call at most: a row of the machine.
 pub record ReadsPage {T : Type 0} (page long : ℕ) (out : List ℕ) (result : Result T RollError) (old new : Core) (before after : DiskState) : Type 0 where
-  pub step : (past : State) → FitsCore past old before → long ≡ past.page_size → StepsTo past (Reads page) (answered (λ _. Page out) result) new before after
+  pub step : (past : State) → FitsCore past old before → long ≡ past.page_size → StepsTo past (Reads page) (answered number_of (λ _. Page out) result) new before after
   pub looks : LooksOnce before after

@@ -1,16 +1,12 @@
 -- What the replay of a journal into its database does (fileformat2, 3). What it answers and refuses is own.
 use Rattle.std.specs.Prelude.{◌≡◌, ◌⊎◌, ℕ, ◌*◌, ◌<◌, true, List, ◌++◌, length, drop, replicate, Result, Ok, Err, IsTrue}
 use Rattle.sqval.specs.Bytes.{word}
-use Rattle.sqval.specs.Database.{Database}
 use Rattle.sqjournal.specs.Journal.{IsHot}
 use Rattle.sqjournal.specs.Restored.{Restores}
 use Rattle.sqjournal.specs.Took.{HasCount}
 use Rattle.crashdisk.specs.State.{IsSettled, longest}
-use Rattle.crashdisk.specs.Call.{DiskState, ArePresent, Syncs}
-use Rattle.crashdisk.specs.declared.file.File.TheVariants.{Log}
-use Rattle.crashdisk.specs.declared.error.DiskError.{DiskError}
+use Rattle.crashdisk.specs.Call.{DiskState, ArePresent}
 use Rattle.sqval.specs.CommitFaults.{most_bytes}
-use Rattle.rollcore.specs.Alone.{ShowsAlone}
 use Rattle.rollcore.specs.declared.replaying.Replayed.{Replayed}
 use Rattle.rollcore.specs.declared.error.RollError.{RollError}
 use Rattle.rollcore.specs.declared.error.RollError.TheVariants.{TooLarge, NoMemory, Device, SectorAbovePage}
@@ -67,19 +63,3 @@ ReplayAnswer most db w (Err _) old new = ⊥
 -- for whatever bytes are present
 abbrev pub Replays : (most : ℕ) → Result Replayed RollError → (old new : DiskState) → Type 0
 Replays most result old new = (db w : List ℕ) → ArePresent old.db db → ArePresent old.log w → ReplayAnswer most db w result old new
-
--- where nothing of the log was unsynced, and all that a crash may leave showed one database, it still does
-abbrev pub Agrees : (old new : DiskState) → Type 0
-Agrees old new = (size : ℕ) (w : List ℕ) (d : Database) → IsLogDown old w → ShowsAlone size d old → ShowsAlone size d new
-
--- what a replay does once a sync of the log was answered
-abbrev pub GoesOn : {T : Type 0} → (most : ℕ) → Result T DiskError → Result Replayed RollError → (old new : DiskState) → Type 0
-GoesOn most (Ok _) result old new = Replays most result old new × Agrees old new
-GoesOn most (Err _) result old new = (result ≡ Err Device) × (new ≡ old)
-
--- The log is synced first. So it is from that moment on that all which a crash may leave shows the database that it showed.
-pub record SyncsFirst (most : ℕ) (result : Result Replayed RollError) (old new : DiskState) : Type 0 where
-  pub called : Result (Unit {0}) DiskError
-  pub mid : DiskState
-  pub sync : Syncs Log called old mid
-  pub rest : GoesOn most called result mid new

@@ -8,14 +8,7 @@ use Rattle.rollcore.specs.Refusal.{number_of}
 use Rattle.rollcore.specs.declared.error.RollError.{RollError}
 use Rattle.rollcore.specs.declared.error.RollError.TheVariants.{Closed, EmptyCommit, PageZero, PageAboveSize, Device, NonceMissing}
 use Rattle.rollcore.specs.Machine.{Act, Opens, Commits, Reads, Crashes, Sets, start, Step}
-
--- a moment, where the disk has refused no call
-abbrev pub did : Act → Answer → Moment Act
-did act answer = record { act = act; answer = answer; refused = 0 }
-
--- where it has refused one
-abbrev pub then_did : Act → Answer → Moment Act
-then_did act answer = record { act = act; answer = answer; refused = 1 }
+use Rattle.recovery.specs.Moments.{did, then_did}
 
 -- a call is refused, by this error
 abbrev pub Fails : RollError → Answer

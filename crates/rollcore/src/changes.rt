@@ -3,8 +3,8 @@ ghost use Rattle.std.specs.Prelude.{◌≡◌, ◌-◌, ◌^◌, ◌<◌, ◌++�
 ghost use Rattle.sqval.specs.CommitFaults.{first_true, page_faults};
 ghost use Rattle.sqval.specs.JudgedPages.{lent};
 ghost use Rattle.rollcore.specs.Machine.{recorded};
-ghost use Rattle.rollcore.specs.Commits.{AreChanges};
-ghost use Rattle.rollcore.specs.Listing.{written, cut_off};
+ghost use Rattle.rollcore.specs.internal.Commits.{AreChanges};
+ghost use Rattle.rollcore.specs.internal.Listing.{written, cut_off};
 ghost use Rattle.rollcore.specs.declared.error.RollError.TheVariants.{NoMemory};
 
 use crate::error::RollError;

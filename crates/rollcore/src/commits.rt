@@ -3,9 +3,11 @@ ghost use Rattle.std.specs.Prelude.{◌≡◌, ◌≢◌, ◌*◌, ◌≤◌, le
 ghost use Rattle.std.specs.Prelude.{IfErr};
 ghost use Rattle.sqval.specs.JudgedPages.{lent};
 ghost use Rattle.crashdisk.specs.During.{During};
-ghost use Rattle.rollcore.specs.Committing.{PutsCommit};
-ghost use Rattle.rollcore.specs.Commits.{CommitsPages, CommitsOpen};
-ghost use Rattle.rollcore.specs.Commits.{KeepsCore, IsReady, PagesJudged, PrepareAnswer, EndAnswer};
+ghost use Rattle.rollcore.specs.internal.Committing.{PutsCommit};
+ghost use Rattle.rollcore.specs.Commits.{CommitsPages};
+ghost use Rattle.rollcore.specs.internal.Commits.{CommitsOpen};
+ghost use Rattle.rollcore.specs.Commits.{KeepsCore};
+ghost use Rattle.rollcore.specs.internal.Commits.{IsReady, PagesJudged, PrepareAnswer, EndAnswer};
 ghost use Rattle.rollcore.specs.Commits.{ClosesOnDevice};
 
 use crate::changes::{count_records, list_changes};

@@ -4,29 +4,19 @@ ghost use Rattle.std.specs.Prelude.{IfErr};
 ghost use Rattle.crashdisk.specs.declared.file.File.TheVariants.{Db, Log};
 ghost use Rattle.crashdisk.specs.During.{During};
 ghost use Rattle.sqjournal.specs.Took.{HasEntry};
-ghost use Rattle.rollcore.specs.Copying.{CopiesRun, CopiesRecords, Finishes};
-ghost use Rattle.rollcore.specs.Steps.{HasRead, ZeroSteps};
-ghost use Rattle.crashdisk.specs.Keeps.{SyncStep};
+ghost use Rattle.rollcore.specs.internal.Copying.{CopiesRun, CopiesRecords, Finishes};
+ghost use Rattle.rollcore.specs.internal.Steps.{HasRead};
+ghost use Rattle.crashdisk.specs.internal.Keeps.{SyncStep};
+ghost use Rattle.recovery.specs.internal.Steps.{ZeroSteps};
 
 use crate::error::RollError;
 use crashdisk::{Disk, File};
+use recovery::fitting;
 use sqjournal::{Record, Replay};
 use sqval::gather;
 
 /// How many bytes a record has round its page: the page's number before it, and its sum behind it.
 const ROUND: usize = 8;
-
-/// How many pages are copied at once in a room of so many bytes: they are read with what stands between them, behind
-/// room for one page fewer, and then brought together.
-fn fitting(room: usize, size: usize) -> usize
-    requires some { 1 ≤ size }
-    requires least { size ≤ room }
-    requires most { room ≤ 2 ^ 24 }
-    ensures some { 1 ≤ result }
-    ensures fits { result * (2 * size + ROUND) ≤ room + size + ROUND }
-{
-    (room + size + ROUND) / (2 * size + ROUND)
-}
 
 /// Whether a record is of the page that comes so many behind another's, and stands so many records behind it.
 fn follows(next: Record, first: Record, run: usize, size: usize) -> bool
@@ -116,7 +106,7 @@ pub fn copy_records<D: Disk>(
     ensures { During D.keeps_word D.state disk.old disk.new (CopiesRecords size scan.now count result) }
 {
     let shape = Shape { count, size };
-    let most = fitting(room.len(), size);
+    let most = fitting(room.len(), size, ROUND);
     let total = scan.count();
     let mut done = 0;
     while done < total {
@@ -138,7 +128,7 @@ fn settle_database<D: Disk>(disk: &mut D) -> Result<(), RollError>
 
 /// Makes the journal's first header invalid, for good.
 fn zero_header<D: Disk>(disk: &mut D) -> Result<(), RollError>
-    ensures disk { During D.keeps_word D.state disk.old disk.new (ZeroSteps result) }
+    ensures disk { During D.keeps_word D.state disk.old disk.new (ZeroSteps RollError.Device 28 result) }
     ensures error { IfErr result (λ e. e ≡ RollError.Device) }
 {
     disk.write_at(File::Log, 0, &[0; 28])?;

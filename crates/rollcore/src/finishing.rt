@@ -2,7 +2,7 @@
 ghost use Rattle.std.specs.Prelude.{◌≡◌, ◌*◌, ◌<◌, ◌≤◌, length, IfErr};
 ghost use Rattle.std.specs.List.{All};
 ghost use Rattle.crashdisk.specs.During.{During};
-ghost use Rattle.rollcore.specs.Committing.{EndsCommit};
+ghost use Rattle.rollcore.specs.internal.Committing.{EndsCommit};
 
 use crate::copying::finish;
 use crate::error::RollError;

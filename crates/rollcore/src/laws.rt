@@ -10,13 +10,16 @@ ghost use Rattle.crashdisk.specs.declared.file.File.{File};
 ghost use Rattle.crashdisk.specs.declared.file.File.TheVariants.{Log};
 ghost use Rattle.crashdisk.specs.declared.error.DiskError.{DiskError};
 ghost use Rattle.crashdisk.specs.Keeps.{SameFiles, Suits, IsLogDown};
-ghost use Rattle.rollcore.specs.Alone.{AreWhole, ShowsAlone};
-ghost use Rattle.rollcore.specs.Fits.{ShowsWhole, FitsDisk, FitsCore};
+ghost use Rattle.rollcore.specs.Alone.{AreWhole, journal_log};
+ghost use Rattle.rollcore.specs.Fits.{FitsDisk, FitsCore};
 ghost use Rattle.rollcore.specs.Replaying.{TearsJournal};
-ghost use Rattle.rollcore.specs.Laws.{IsSane, Keeps, IsExpected, is_opening};
+ghost use Rattle.rollcore.specs.Laws.{IsSane, Keeps, is_opening, expected, takes_memory, needs_disk};
 ghost use Rattle.sqval.specs.Runs.{Moment, Runs};
-ghost use Rattle.rollcore.specs.Machine.{State, Act, Reads, Step, at, last, start, closed};
+ghost use Rattle.rollcore.specs.Machine.{State, Act, Reads, Step, start, closed};
 ghost use Rattle.rollcore.specs.declared.state.Core.{Core};
+ghost use Rattle.recovery.specs.Logs.{ShowsAlone, ShowsWhole};
+ghost use Rattle.recovery.specs.Moments.{IsExpected};
+ghost use Rattle.recovery.specs.Histories.{at, last};
 
 /// A disk with a base of pages that no sector that tears exceeds, and with an empty log, fits where the machine begins:
 /// one that is new, and one on which both files are down, whatever calls of it there were (own).
@@ -34,7 +37,7 @@ pub fn a_base_fits()
 pub fn settled_files_fit()
     ensures { (size : ℕ) (base : Database) (files : Files) (s : DiskState) → Suits size s → IsHeld size base
         → IsSettled s.db files.db → IsLogDown s files.log → (TearsJournal s files.log → ⊥)
-        → ShowsWhole size files.db files.log base → FitsDisk (start size base) s }
+        → ShowsWhole journal_log size files.db files.log base → FitsDisk (start size base) s }
 {}
 
 /// In every run the floor is a place of the history (own).
@@ -69,8 +72,8 @@ pub fn a_crash_fits()
 /// the newest where the machine is open: so what is said of interrupted recovery holds of each opening of a run.
 pub fn one_is_shown()
     ensures { (past : State) (old mid : DiskState) → FitsDisk past old → Syncs {T = Unit {0}} Log (Ok tt) old mid
-        → (k : ℕ) × (past.floor ≤ k) × (k < length past.history) × (IsTrue past.is_open → k ≡ last past)
-        × ShowsAlone past.page_size (at past k) mid }
+        → (k : ℕ) × (past.floor ≤ k) × (k < length past.history) × (IsTrue past.is_open → k ≡ last past.history)
+        × ShowsAlone journal_log past.page_size (at past.history k) mid }
 {}
 
 /// What a disk shows alone stays shown: after a sync of either file, also one that is refused or fails; after a look;
@@ -78,16 +81,19 @@ pub fn one_is_shown()
 /// header of the journal together.
 pub fn what_is_shown_stays()
     ensures sync { (size : ℕ) (d : Database) (f : File) (called : Result (Unit {0}) DiskError) (old new : DiskState)
-        → IsSoundDisk old → ShowsAlone size d old → Syncs f called old new → ShowsAlone size d new }
+        → IsSoundDisk old → ShowsAlone journal_log size d old → Syncs f called old new
+        → ShowsAlone journal_log size d new }
     ensures length { (size : ℕ) (d : Database) (called : Result ℕ DiskError) (old new : DiskState) → IsSoundDisk old
-        → ShowsAlone size d old → Looks 0 called old new → ShowsAlone size d new }
+        → ShowsAlone journal_log size d old → Looks 0 called old new → ShowsAlone journal_log size d new }
     ensures read { (size : ℕ) (d : Database) (end : ℕ) (called : Result (Unit {0}) DiskError) (old new : DiskState)
-        → IsSoundDisk old → ShowsAlone size d old → Looks end called old new → ShowsAlone size d new }
-    ensures same { (size : ℕ) (d : Database) (old new : DiskState) → IsSoundDisk old → ShowsAlone size d old
-        → SameFiles old new → ShowsAlone size d new }
+        → IsSoundDisk old → ShowsAlone journal_log size d old → Looks end called old new
+        → ShowsAlone journal_log size d new }
+    ensures same { (size : ℕ) (d : Database) (old new : DiskState) → IsSoundDisk old → ShowsAlone journal_log size d old
+        → SameFiles old new → ShowsAlone journal_log size d new }
     ensures crash { (size : ℕ) (d : Database) (db log : List ℕ) (old new : DiskState) → IsSoundDisk old
-        → ShowsAlone size d old → IsCrash db log old new → (old.tears ≡ true → AreWhole old.kept old.handed log)
-        → ShowsAlone size d new }
+        → ShowsAlone journal_log size d old → IsCrash db log old new
+        → (old.tears ≡ true → AreWhole old.kept old.handed log)
+        → ShowsAlone journal_log size d new }
 {}
 
 /// The machine chooses nothing but the database that an opening shows. It answers what is expected; in place of an
@@ -97,7 +103,7 @@ pub fn one_step()
     ensures next { (old : State) (act : Act) (answer : Answer) (b a c d : ℕ) (new other : State)
         → is_opening act ≡ false → Step old act answer b a new → Step old act answer c d other → new ≡ other }
     ensures answer { (old : State) (act : Act) (answer : Answer) (b a : ℕ) (new : State)
-        → Step old act answer b a new → IsExpected old act answer b a }
+        → Step old act answer b a new → IsExpected (expected old act) (takes_memory act) (needs_disk act) answer b a }
     ensures read { (old : State) (number : ℕ) (answer : Answer) (b a : ℕ) (new : State)
         → Step old (Reads number) answer b a new → new ≡ old }
 {}

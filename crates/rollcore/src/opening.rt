@@ -1,13 +1,15 @@
 //! The opening of an engine: a hot journal is replayed, and none is left that could become hot.
 ghost use Rattle.std.specs.Prelude.{◌≡◌, ◌+◌, ◌≤◌, ◌*◌, ℕ, List, length, OnOk, IfOk, IfErr, MatchResult};
-ghost use Rattle.crashdisk.specs.Keeps.{SyncStep};
-ghost use Rattle.rollcore.specs.Plans.{IsPlan};
+ghost use Rattle.crashdisk.specs.internal.Keeps.{SyncStep};
+ghost use Rattle.rollcore.specs.internal.Plans.{IsPlan};
 ghost use Rattle.crashdisk.specs.During.{During};
 ghost use Rattle.crashdisk.specs.declared.file.File.TheVariants.{Log};
-ghost use Rattle.rollcore.specs.Reading.{OnlyReads, CountsPages};
-ghost use Rattle.rollcore.specs.Opening.{BreaksMagic, BreaksFront, RecoversSynced, Recovers, OpensCore};
-ghost use Rattle.rollcore.specs.Opening.{SizeJudged};
-ghost use Rattle.rollcore.specs.Opening.{IsNewCore};
+ghost use Rattle.rollcore.specs.internal.Reading.{CountsPages};
+ghost use Rattle.rollcore.specs.Opening.{OpensCore};
+ghost use Rattle.rollcore.specs.internal.Opening.{BreaksMagic, BreaksFront, RecoversSynced, Recovers};
+ghost use Rattle.rollcore.specs.internal.Opening.{SizeJudged};
+ghost use Rattle.rollcore.specs.internal.Opening.{IsNewCore};
+ghost use Rattle.recovery.specs.internal.Reading.{OnlyReads};
 
 use crate::error::RollError;
 use crate::plan::Plan;
@@ -16,17 +18,16 @@ use crate::replaying::{find_plan, replay_plan, sector_that_tears};
 use crate::roll::{Refused, Roll};
 use crate::state::Core;
 use crashdisk::{Disk, File};
+use recovery::MOST_BYTES;
 use sqjournal::is_magic;
 use sqval::{Limits, PageSize};
 use std::alloc::Global;
 
-/// The most bytes of a database.
-const MOST_BYTES: u64 = 1073741824;
-
 /// How many pages the database file has: TooLarge where it is above the limit, else PageSize where that is no whole
 /// number, or 0.
 fn count_pages<D: Disk>(disk: &mut D, page_size: PageSize) -> Result<u32, RollError>
-    ensures disk { During D.keeps_word D.state disk.old disk.new (OnlyReads result (CountsPages page_size result)) }
+    ensures disk { During D.keeps_word D.state disk.old disk.new
+        (OnlyReads RollError.Device result (CountsPages page_size result)) }
     ensures few { IfOk result (λ n. n * page_size ≤ 1073741824) }
 {
     let long = disk.len(File::Db)?;

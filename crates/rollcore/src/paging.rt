@@ -1,8 +1,9 @@
 //! Pages are read, and the disk is lent.
 ghost use Rattle.std.specs.Prelude.{◌≡◌, ◌≤◌, length, OnOk, IfErr};
 ghost use Rattle.std.specs.Borrow.{Lends, sem};
-ghost use Rattle.rollcore.specs.Paging.{ReadJudged, ReadAnswers, ReadsPlace, ReadsPage};
+ghost use Rattle.rollcore.specs.Paging.{ReadJudged, ReadAnswers, ReadsPage};
 ghost use Rattle.crashdisk.specs.During.{During};
+ghost use Rattle.recovery.specs.internal.Reading.{ReadsPlace};
 
 use crate::error::RollError;
 use crate::roll::Roll;
@@ -37,7 +38,7 @@ pub(crate) fn read_place<D: Disk>(
     at: u64,
     out: &mut [u8],
 ) -> Result<(), RollError>
-    ensures disk { During D.keeps_word D.state disk.old disk.new (ReadsPlace file at out.new result) }
+    ensures disk { During D.keeps_word D.state disk.old disk.new (ReadsPlace RollError.Device file at out.new result) }
     ensures error { IfErr result (λ e. e ≡ RollError.Device) }
 {
     disk.read_at(file, at, out)?;

@@ -1,11 +1,11 @@
 //! The segments of a commit: what it changes is cut into parts, and one after another comes down and is put.
 ghost use Rattle.std.specs.Prelude.{◌≡◌, ◌+◌, ◌*◌, ◌^◌, ◌<◌, ◌≤◌, ℕ, length, IfErr};
 ghost use Rattle.crashdisk.specs.During.{During};
-ghost use Rattle.rollcore.specs.Committing.{PutsPart, PutsSegments, KeepsChanges};
+ghost use Rattle.rollcore.specs.internal.Committing.{PutsPart, PutsSegments, KeepsChanges};
 ghost use Rattle.std.specs.Prelude.{MatchResult};
 ghost use Rattle.sqjournal.specs.Header.{IsSector};
 ghost use Rattle.rollcore.specs.Machine.{segments_of};
-ghost use Rattle.rollcore.specs.Commits.{IsReady};
+ghost use Rattle.rollcore.specs.internal.Commits.{IsReady};
 
 use crate::error::RollError;
 use crate::roll::SEGMENT_RECORDS;

@@ -2,10 +2,10 @@
 ghost use Rattle.std.specs.Prelude.{◌+◌, ◌*◌, ◌≤◌, ℕ, List, OnOk, IfOk, MatchOption};
 ghost use Rattle.sqjournal.specs.Header.{Names};
 ghost use Rattle.sqjournal.specs.Journal.{IsHot};
-ghost use Rattle.rollcore.specs.Plans.{IsSmall, IsPlanWithin, JudgeAnswer, PlanAnswer};
-ghost use Rattle.rollcore.specs.Steps.{HasRead};
+ghost use Rattle.rollcore.specs.internal.Plans.{IsSmall, IsPlanWithin, JudgeAnswer, PlanAnswer, ReadAnswer};
+ghost use Rattle.rollcore.specs.internal.Steps.{HasRead};
 ghost use Rattle.crashdisk.specs.During.{During};
-ghost use Rattle.rollcore.specs.Reading.{OnlyReads, PlansReplay};
+ghost use Rattle.recovery.specs.internal.Reading.{OnlyReads, OfLog};
 
 use crate::error::RollError;
 use crate::reading::{scan_log, zeros};
@@ -70,7 +70,7 @@ pub fn read_plan<D: Disk>(
     torn: usize,
 ) -> Result<Option<Plan>, RollError>
     ensures disk { During D.keeps_word D.state disk.old disk.new
-        (OnlyReads result (PlansReplay limits.bytes long torn result)) }
+        (OnlyReads RollError.Device result (OfLog long (λ w. ReadAnswer limits.bytes torn w result))) }
     ensures within { IfOk result (λ o. MatchOption o (Unit {0}) (IsPlanWithin limits.bytes)) }
     ensures small { IfOk result (λ o. MatchOption o (Unit {0}) IsSmall) }
 {

@@ -1,19 +1,17 @@
 //! The scan of the journal on a disk (own).
 ghost use Rattle.std.specs.Prelude.{◌≡◌, ◌+◌, ◌<◌, length, IfOk, OnErr};
-ghost use Rattle.rollcore.specs.Steps.{IsWithoutHeader};
+ghost use Rattle.rollcore.specs.internal.Steps.{IsWithoutHeader, journal_scan};
 ghost use Rattle.crashdisk.specs.During.{During};
-ghost use Rattle.rollcore.specs.Reading.{OnlyReads, TakesPiece, TakesLog, ScansLog};
+ghost use Rattle.recovery.specs.internal.Reading.{OnlyReads, OfLog};
+ghost use Rattle.recovery.specs.internal.Scanning.{TakesPiece, TakesLog, ScanAnswer};
 
 use crate::error::RollError;
 use crashdisk::{Disk, File};
-use sqjournal::{JournalError, Replay};
+use sqjournal::{JournalError, LONGEST, Replay};
 use std::alloc::Global;
 
 /// How many bytes of the journal are read at once.
 const PIECE: usize = 131072;
-
-/// The longest journal that is read, in bytes.
-const LONGEST: u64 = 1 << 40;
 
 /// A journal whose first header isn't valid isn't hot.
 fn without_header(error: JournalError) -> Result<bool, RollError>
@@ -36,7 +34,7 @@ fn feed_piece<D: Disk>(
     piece: &mut [u8],
 ) -> Result<bool, RollError>
     ensures { During D.keeps_word D.state disk.old disk.new
-        (OnlyReads result (TakesPiece at (length piece.old) scan.old scan.new result)) }
+        (OnlyReads RollError.Device result (TakesPiece journal_scan at (length piece.old) scan.old scan.new result)) }
 {
     disk.read_at(File::Log, at, piece)?;
     match scan.feed(piece) {
@@ -55,7 +53,7 @@ fn scan_pieces<D: Disk>(
 ) -> Result<bool, RollError>
     requires { 0 < length buffer.old }
     ensures { During D.keeps_word D.state disk.old disk.new
-        (OnlyReads result (TakesLog long scan.old scan.new result)) }
+        (OnlyReads RollError.Device result (TakesLog journal_scan long scan.old scan.new result)) }
 {
     let most = buffer.len();
     let mut at = 0;
@@ -87,7 +85,8 @@ pub fn scan_log<D: Disk>(
     disk: &mut D,
     long: u64,
 ) -> Result<Option<Replay>, RollError>
-    ensures { During D.keeps_word D.state disk.old disk.new (OnlyReads result (ScansLog long result)) }
+    ensures { During D.keeps_word D.state disk.old disk.new
+        (OnlyReads RollError.Device result (OfLog long (λ w. ScanAnswer journal_scan w result))) }
 {
     if long > LONGEST {
         return Err(RollError::TooLarge);

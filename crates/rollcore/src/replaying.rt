@@ -21,12 +21,14 @@ pub struct Replayed {
 }
 
 ghost use Rattle.crashdisk.specs.State.{IsSectorSize};
-ghost use Rattle.rollcore.specs.Steps.{torn_sector};
-ghost use Rattle.rollcore.specs.Plans.{IsSmall, IsPlanWithin};
+ghost use Rattle.rollcore.specs.internal.Steps.{torn_sector};
+ghost use Rattle.rollcore.specs.internal.Plans.{IsSmall, IsPlanWithin};
 ghost use Rattle.crashdisk.specs.During.{During};
-ghost use Rattle.rollcore.specs.Reading.{OnlyReads, FindsPlan};
-ghost use Rattle.rollcore.specs.Copying.{ReplaysPlan, ReplaysSynced, ReplaysSyncedWithin};
+ghost use Rattle.rollcore.specs.internal.Reading.{FindsPlan};
+ghost use Rattle.rollcore.specs.Copying.{ReplaysSynced, ReplaysSyncedWithin};
+ghost use Rattle.rollcore.specs.internal.Copying.{ReplaysPlan};
 ghost use Rattle.rollcore.specs.Copying.{ReplaysFile, ReplaysFileWithin};
+ghost use Rattle.recovery.specs.internal.Reading.{OnlyReads};
 
 /// The size in bytes of a sector that may tear, 0 on a disk that doesn't tear.
 pub(crate) fn sector_that_tears<D: Disk>(disk: &D) -> usize
@@ -43,7 +45,8 @@ pub(crate) fn find_plan<D: Disk>(
     disk: &mut D,
     limits: Limits,
 ) -> Result<Option<Plan>, RollError>
-    ensures disk { During D.keeps_word D.state disk.old disk.new (OnlyReads result (FindsPlan limits.bytes result)) }
+    ensures disk { During D.keeps_word D.state disk.old disk.new
+        (OnlyReads RollError.Device result (FindsPlan limits.bytes result)) }
     ensures within { IfOk result (λ o. MatchOption o (Unit {0}) (IsPlanWithin limits.bytes)) }
     ensures small { IfOk result (λ o. MatchOption o (Unit {0}) IsSmall) }
 {

@@ -1,5 +1,5 @@
 //! The engine (own): each call is a step of the machine of histories, for whatever history fits the disk.
-ghost use Rattle.std.specs.Prelude.{◌≡◌, ◌↔◌, ℕ};
+ghost use Rattle.std.specs.Prelude.{◌≡◌, ◌↔◌};
 
 use crate::error::RollError;
 use crate::state::Core;

@@ -1,13 +1,6 @@
 pub mod Places
 pub mod WellFormed
 pub mod Stands
-pub mod Walking
-pub mod Counting
-pub mod Agenda
-pub mod Heading
-pub mod Checking
-pub mod Schema
-pub mod Room
-pub mod Snapshots
 pub mod Roles
 pub mod Surveys
+pub mod internal

@@ -42,8 +42,3 @@ Told {A = A} saw old (v ∷ visits) new = (next : A) × saw old v.page v.role ne
 pub record AreRoles (d : Database) (size : ℕ) (visits : List Visit) : Type 0 where
   pub once : AreEachOnce (IsSetAside d size) (length d) (map (λ v. v.page) visits)
   pub roles : Every (λ v. HasRole d v.page v.role) visits
-
--- The same of the places that name the pages. No public contract cites this word.
-abbrev pub TellsOf : {A : Type 0} (saw : A → ℕ → Role → A → Type 0) → Database → (old : A) → List Spot → (new : A) → Type 0
-TellsOf saw d old [] new = new ≡ old
-TellsOf {A = A} saw d old (s ∷ spots) new = (next : A) × (role : Role) × IsRoleOf d s.page s.role role × saw old s.page role next × TellsOf saw d next spots new

@@ -1,5 +1,5 @@
 -- What a survey finds: what the pages of a database are used for, and what is wrong with it (own).
-use Rattle.std.specs.Prelude.{◌≡◌, ℕ, ◌⊎◌, ◌-◌, ◌<◌, ◌≤◌, Bool, false, List, [], length, get_or, set, IfOk, IfErr}
+use Rattle.std.specs.Prelude.{◌≡◌, ℕ, ◌⊎◌, ◌-◌, ◌<◌, Bool, false, List, [], length, get_or, IfOk, IfErr}
 use Rattle.sqval.specs.Database.{Database}
 use Rattle.sqpage.specs.Freelist.{IsPage, usable_size}
 use Rattle.sqpage.specs.declared.fault.Fault.{Fault}
@@ -47,7 +47,3 @@ FindsDamaged = FindsDamagedWith false
 
 abbrev pub SurveyRefused : Database → (size : ℕ) → Fault → (p : ℕ) → Type 0
 SurveyRefused = SurveyRefusedWith false
-
--- A page's role was put down in a list by page, where it is one of the list's. No public contract cites this word.
-abbrev pub Charts : (old : List Role) → (page : ℕ) → Role → (new : List Role) → Type 0
-Charts old page role new = (length new ≡ length old) × (0 < page → page ≤ length old → new ≡ set old (page - 1) role)

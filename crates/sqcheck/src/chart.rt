@@ -1,6 +1,7 @@
 //! What a survey puts down of each page (own).
 ghost use Rattle.std.specs.Prelude.{◌≡◌, ◌<◌, ◌^◌, [], length, replicate, IfOk, IfErr};
-ghost use Rattle.sqcheck.specs.Surveys.{Charts, IsEnd};
+ghost use Rattle.sqcheck.specs.Surveys.{IsEnd};
+ghost use Rattle.sqcheck.specs.internal.Surveys.{Charts};
 ghost use Rattle.sqcheck.specs.declared.role.Role.TheVariants.{Unused};
 
 use crate::role::{Role, Visitor};

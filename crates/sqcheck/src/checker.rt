@@ -1,20 +1,22 @@
 //! The check of a whole database (own).
-ghost use Rattle.std.specs.Prelude.{◌≡◌, ◌≢◌, ◌<◌, ◌≤◌, ◌∷◌, ◌++◌, [], ℕ, List, Bool, true, false, length, IfOk, IfErr};
+ghost use Rattle.std.specs.Prelude.{◌≡◌, ◌≢◌, ◌<◌, ◌≤◌, ◌∷◌, ◌++◌, [], ℕ, List, Bool, true, false, length, IsOk};
+ghost use Rattle.std.specs.Prelude.{IfOk, IfErr};
 ghost use Rattle.std.specs.Prelude.{OnOk, OnErr, replicate, ◌↔◌, ◌-◌, ◌^◌};
 ghost use Rattle.sqpage.specs.PointerMaps.{lock_byte_page};
+ghost use Rattle.sqpage.specs.Source.{KeepsPages};
 ghost use Rattle.sqpage.specs.Freelist.{IsPage, IsWithin, usable_size, first_trunk};
 ghost use Rattle.sqpage.specs.Lists.{Every};
-ghost use Rattle.sqpage.specs.Taking.{is_marked};
+ghost use Rattle.sqpage.specs.internal.Taking.{is_marked};
 ghost use Rattle.sqpage.specs.declared.fault.Fault.{Fault};
 ghost use Rattle.sqcheck.specs.Places.{Spot, first_root_spot, names_table};
 ghost use Rattle.sqcheck.specs.Roles.{Visit, Told, AreRoles};
-ghost use Rattle.sqcheck.specs.Schema.{IsRootAt, RootsMatch};
-ghost use Rattle.sqcheck.specs.Snapshots.{SameSource};
+ghost use Rattle.sqcheck.specs.internal.Schema.{IsRootAt, RootsMatch};
+ghost use Rattle.sqcheck.specs.internal.Snapshots.{SameSource};
 ghost use Rattle.sqcheck.specs.Stands.{Stands, StandsWith};
-ghost use Rattle.sqcheck.specs.Agenda.{StandsNow, MarksAside};
+ghost use Rattle.sqcheck.specs.internal.Agenda.{StandsNow, MarksAside};
 ghost use Rattle.sqcheck.specs.WellFormed.{WellFormed, WellFormedWith, HasSoundHeader, IsReport};
-ghost use Rattle.sqcheck.specs.Walking.{IsItemOf, TopLeads};
-ghost use Rattle.sqcheck.specs.Checking.{Visited, VisitsMore, IsNew, HasLists, MarksOne, MarksMaps};
+ghost use Rattle.sqcheck.specs.internal.Walking.{IsItemOf, TopLeads};
+ghost use Rattle.sqcheck.specs.internal.Checking.{Visited, VisitsMore, IsNew, HasLists, MarksOne, MarksMaps};
 
 use crate::header::judge_header;
 use crate::item::{Item, Task, push};
@@ -66,8 +68,7 @@ impl<V: Snapshot> Reader<V> {
         requires page { IsPage V.pages page }
         requires same { SameSource V.pages V.size V.given (S.pages source.old) (S.size source.old)
             (S.gives_pages source.old) }
-        ensures ok { V.given → IfOk result (λ table. table ≡ names_table V.pages page) }
-        ensures err { V.given → IfErr result (λ e. ⊥) }
+        ensures ok { V.given → IfOk result (λ table. table ≡ names_table V.pages page) × IsOk result }
         ensures source { IfErr result (λ e. e.fault ≡ Fault.Source) }
         ensures usable { self.new.usable ≡ self.old.usable }
         ensures same { SameSource V.pages V.size V.given (S.pages source.new) (S.size source.new)
@@ -534,9 +535,7 @@ pub fn check<S: PageSource>(alloc: Global, source: &mut S) -> Result<Report, Che
     // The database isn't well formed, unless memory ran out.
     ensures none { S.gives_pages source.old
         → IfErr result (λ e. e.fault ≢ Fault.NoMemory → ¬ WellFormed (S.pages source.old) (S.size source.old)) }
-    ensures still_gives { S.gives_pages source.old → S.gives_pages source.new }
-    ensures same_pages { S.pages source.new ≡ S.pages source.old }
-    ensures same_size { S.size source.new ≡ S.size source.old }
+    ensures keeps { KeepsPages S.pages S.size S.gives_pages source.old source.new }
 {
     check_snapshot::<Brand, S, Silent>(alloc, source, &mut Silent, Options::PLAIN)
 }
@@ -560,9 +559,7 @@ pub fn check_with<S: PageSource>(
     // The database isn't well formed, unless memory ran out.
     ensures none { S.gives_pages source.old → IfErr result (λ e. e.fault ≢ Fault.NoMemory
         → ¬ WellFormedWith options.pointer_maps (S.pages source.old) (S.size source.old)) }
-    ensures still_gives { S.gives_pages source.old → S.gives_pages source.new }
-    ensures same_pages { S.pages source.new ≡ S.pages source.old }
-    ensures same_size { S.size source.new ≡ S.size source.old }
+    ensures keeps { KeepsPages S.pages S.size S.gives_pages source.old source.new }
 {
     check_snapshot::<Brand, S, Silent>(alloc, source, &mut Silent, options)
 }
@@ -585,9 +582,7 @@ pub fn visit_pages<S: PageSource, T: Visitor>(
     // The database isn't well formed, unless memory ran out.
     ensures none { S.gives_pages source.old
         → IfErr result (λ e. e.fault ≢ Fault.NoMemory → ¬ WellFormed (S.pages source.old) (S.size source.old)) }
-    ensures still_gives { S.gives_pages source.old → S.gives_pages source.new }
-    ensures same_pages { S.pages source.new ≡ S.pages source.old }
-    ensures same_size { S.size source.new ≡ S.size source.old }
+    ensures keeps { KeepsPages S.pages S.size S.gives_pages source.old source.new }
 {
     check_snapshot::<Brand, S, T>(alloc, source, visitor, Options::PLAIN)
 }
@@ -610,9 +605,7 @@ pub fn visit_pages_with<S: PageSource, T: Visitor>(
     // The database isn't well formed, unless memory ran out.
     ensures none { S.gives_pages source.old → IfErr result (λ e. e.fault ≢ Fault.NoMemory
         → ¬ WellFormedWith options.pointer_maps (S.pages source.old) (S.size source.old)) }
-    ensures still_gives { S.gives_pages source.old → S.gives_pages source.new }
-    ensures same_pages { S.pages source.new ≡ S.pages source.old }
-    ensures same_size { S.size source.new ≡ S.size source.old }
+    ensures keeps { KeepsPages S.pages S.size S.gives_pages source.old source.new }
 {
     check_snapshot::<Brand, S, T>(alloc, source, visitor, options)
 }

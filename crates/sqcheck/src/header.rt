@@ -4,7 +4,7 @@ ghost use Rattle.sqval.specs.Bytes.{word};
 ghost use Rattle.sqpage.specs.declared.fault.Fault.{Fault};
 ghost use Rattle.sqpage.specs.declared.header.DbHeader.{DbHeader};
 ghost use Rattle.sqpage.specs.Header.{HasMagic, HasPageSize, size_named};
-ghost use Rattle.sqcheck.specs.Heading.{HasHeaderOf, HeaderFault};
+ghost use Rattle.sqcheck.specs.internal.Heading.{HasHeaderOf, HeaderFault};
 
 use sqpage::{CheckError, DbHeader, Fault, has_magic, named_page_size};
 use sqval::PageSize;

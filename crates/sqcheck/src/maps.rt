@@ -6,9 +6,9 @@ ghost use Rattle.sqpage.specs.Freelist.{IsPage};
 ghost use Rattle.sqpage.specs.Header.{byte};
 ghost use Rattle.sqpage.specs.PointerMaps.{kind_code};
 ghost use Rattle.sqpage.specs.declared.fault.Fault.{Fault};
-ghost use Rattle.sqcheck.specs.Checking.{KnowsMaps};
-ghost use Rattle.sqcheck.specs.Snapshots.{SameSource};
-ghost use Rattle.sqcheck.specs.Walking.{kind_of, IsMapped, EntryRefused};
+ghost use Rattle.sqcheck.specs.internal.Checking.{KnowsMaps};
+ghost use Rattle.sqcheck.specs.internal.Snapshots.{SameSource};
+ghost use Rattle.sqcheck.specs.internal.Walking.{kind_of, IsMapped, EntryRefused};
 ghost use Rattle.sqcheck.specs.WellFormed.{parent_by};
 
 use crate::item::{Item, Task};

@@ -5,14 +5,14 @@ ghost use Rattle.sqval.specs.Database.{Database};
 ghost use Rattle.sqpage.specs.declared.fault.Fault.{Fault};
 ghost use Rattle.sqpage.specs.declared.kind.Kind.{Kind};
 ghost use Rattle.sqpage.specs.Header.{byte};
-ghost use Rattle.sqpage.specs.Page.{Page, HasPartsOf, code_of, is_interior, is_table, head_at};
+ghost use Rattle.sqpage.specs.Page.{Page, HasPartsOf, IsUsable, code_of, is_interior, is_table, head_at};
 ghost use Rattle.sqcheck.specs.Places.{Node, HasKind, InCell, used_in};
 ghost use Rattle.sqcheck.specs.WellFormed.{IsBefore, IsAtMost, KeysRise, FirstLeaf, first_child};
-ghost use Rattle.sqcheck.specs.Room.{HoldsPage};
-ghost use Rattle.sqcheck.specs.Snapshots.{IsRead};
+ghost use Rattle.sqcheck.specs.internal.Room.{HoldsPage};
 ghost use Rattle.sqcheck.specs.Stands.{HasKeyOutOfOrder, NodeRefused};
-ghost use Rattle.sqcheck.specs.Walking.{node_in, Pushes, IsChild, IsBelow, TopLeads, IsLevelOf, Judged, KnowsAt};
-ghost use Rattle.sqcheck.specs.Walking.{Enters};
+ghost use Rattle.sqcheck.specs.internal.Walking.{node_in, Pushes, IsChild, IsBelow, TopLeads, IsLevelOf, Judged};
+ghost use Rattle.sqcheck.specs.internal.Walking.{KnowsAt};
+ghost use Rattle.sqcheck.specs.internal.Walking.{Enters};
 ghost use Rattle.sqcheck.specs.declared.tree.Tree.{Tree};
 
 use crate::item::{Item, Task, push};
@@ -222,7 +222,7 @@ pub(crate) fn judge<'a>(
     first: &mut Option<u32>,
     room: &mut Room,
 ) -> Result<BtreePage<'a>, Fault>
-    requires raw { IsRead raw.number (length raw.bytes.now) raw.usable }
+    requires raw { IsUsable raw.number (length raw.bytes.now) raw.usable }
     requires room { HoldsPage raw.usable room.old }
     ensures ok { IfOk result (λ page. (page.number ≡ raw.entry.number) × (page.used ≡ take raw.entry.usable
         raw.entry.bytes.now) × Judged page (node_in tree.now bounds.level bounds.low bounds.high) first.old first.new) }
@@ -308,7 +308,7 @@ pub(crate) fn enter(
     room: &mut Room,
     walk: &mut Walk,
 ) -> Result<Kind, CheckError>
-    requires raw { IsRead raw.number (length raw.bytes.now) raw.usable }
+    requires raw { IsUsable raw.number (length raw.bytes.now) raw.usable }
     requires room { HoldsPage raw.usable room.old }
     requires shallow { bounds.level ≤ 20 }
     ensures ok { (d : Database) → used_in d raw.entry.number ≡ take raw.entry.usable raw.entry.bytes.now

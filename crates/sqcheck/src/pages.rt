@@ -5,7 +5,7 @@ ghost use Rattle.sqval.specs.Database.{page};
 ghost use Rattle.sqpage.specs.Freelist.{IsPage};
 ghost use Rattle.sqpage.specs.Lists.{Every};
 ghost use Rattle.sqpage.specs.declared.fault.Fault.{Fault};
-ghost use Rattle.sqcheck.specs.Snapshots.{SameSource};
+ghost use Rattle.sqcheck.specs.internal.Snapshots.{SameSource};
 
 use crate::snapshot::Snapshot;
 use byteorder::{BigEndian, ByteOrder};

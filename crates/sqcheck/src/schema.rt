@@ -7,10 +7,11 @@ ghost use Rattle.sqpage.specs.Chain.{IsPayload};
 ghost use Rattle.sqpage.specs.declared.fault.Fault.{Fault};
 ghost use Rattle.sqpage.specs.declared.kind.Kind.TheVariants.{TableLeaf};
 ghost use Rattle.sqcheck.specs.Places.{IsRootOf, IsSchemaRow, InRow, page_as};
-ghost use Rattle.sqcheck.specs.Agenda.{StandsNow};
-ghost use Rattle.sqcheck.specs.Schema.{IsRowsPage, AreSchemaRows, AllSchemaRows, InRowBelow, InRowsOf, KeepsFound};
-ghost use Rattle.sqcheck.specs.Schema.{HasPayloadWithin};
-ghost use Rattle.sqcheck.specs.Snapshots.{SameSource};
+ghost use Rattle.sqcheck.specs.internal.Agenda.{StandsNow};
+ghost use Rattle.sqcheck.specs.internal.Schema.{IsRowsPage, AreSchemaRows, AllSchemaRows, InRowBelow, InRowsOf};
+ghost use Rattle.sqcheck.specs.internal.Schema.{KeepsFound};
+ghost use Rattle.sqcheck.specs.internal.Schema.{HasPayloadWithin};
+ghost use Rattle.sqcheck.specs.internal.Snapshots.{SameSource};
 
 use crate::snapshot::Snapshot;
 use crate::walker::Reader;

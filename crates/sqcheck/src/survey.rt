@@ -2,12 +2,14 @@
 ghost use Rattle.std.specs.Prelude.{◌≡◌, ◌↔◌, ◌⊎◌, ◌-◌, ◌<◌, ◌≤◌, [], length, replicate, false, None, IsTrue};
 ghost use Rattle.std.specs.Prelude.{IfOk, IfErr, IfSome};
 ghost use Rattle.sqpage.specs.Freelist.{IsPage, usable_size};
+ghost use Rattle.sqpage.specs.Source.{KeepsPages};
 ghost use Rattle.sqpage.specs.Header.{byte};
 ghost use Rattle.sqpage.specs.PointerMaps.{lock_byte_page};
 ghost use Rattle.sqpage.specs.declared.fault.Fault.{Fault};
-ghost use Rattle.sqcheck.specs.Surveys.{Charts, FindsClean, FindsDamaged, SurveyRefused, IsEnd};
+ghost use Rattle.sqcheck.specs.Surveys.{FindsClean, FindsDamaged, SurveyRefused, IsEnd};
+ghost use Rattle.sqcheck.specs.internal.Surveys.{Charts};
 ghost use Rattle.sqcheck.specs.declared.role.Role.TheVariants.{Unused, LockByte};
-ghost use Rattle.sqcheck.specs.Snapshots.{SameSource};
+ghost use Rattle.sqcheck.specs.internal.Snapshots.{SameSource};
 
 use crate::chart::Chart;
 use crate::checker::{NO_MEMORY, NO_TREE, ROOT, SCHEMA_TREE, new_walker, visit_pages};
@@ -431,8 +433,7 @@ fn survey_behind<S: PageSource>(
     ensures err { S.gives_pages source.old → IfErr result (λ e. IsEnd e.fault ⊎ ((e ≡ first) ×
         ((first.fault ≡ Fault.Magic) ⊎ (usable_size (S.pages source.old) < 480)))) }
     ensures each { IfOk result (λ survey. length survey.roles.items ≡ length (S.pages source.old)) }
-    ensures still_gives { S.gives_pages source.old → S.gives_pages source.new }
-    ensures same { (S.pages source.new ≡ S.pages source.old) × (S.size source.new ≡ S.size source.old) }
+    ensures keeps { KeepsPages S.pages S.size S.gives_pages source.old source.new }
 {
     if is_end(first.fault) {
         return Err(first);
@@ -469,8 +470,7 @@ pub fn survey_pages<S: PageSource>(alloc: Global, source: &mut S) -> Result<Surv
     // Each page has one role.
     ensures each { S.gives_pages source.old
         → IfOk result (λ survey. length survey.roles.items ≡ length (S.pages source.old)) }
-    ensures still_gives { S.gives_pages source.old → S.gives_pages source.new }
-    ensures same { (S.pages source.new ≡ S.pages source.old) × (S.size source.new ≡ S.size source.old) }
+    ensures keeps { KeepsPages S.pages S.size S.gives_pages source.old source.new }
 {
     let mut chart = blank_chart(alloc, source)?;
     match visit_pages(alloc, source, &mut chart) {

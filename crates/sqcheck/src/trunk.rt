@@ -4,9 +4,10 @@ ghost use Rattle.std.specs.Prelude.{OnErr};
 ghost use Rattle.sqval.specs.Database.{Database};
 ghost use Rattle.sqpage.specs.Freelist.{leaf_count_in};
 ghost use Rattle.sqpage.specs.declared.fault.Fault.{Fault};
-ghost use Rattle.sqpage.specs.Taking.{Marks};
-ghost use Rattle.sqcheck.specs.Walking.{Pushes, IsNextTrunk, IsLeafFrom, Follows, FollowRefused, Knows, TopLeads};
-ghost use Rattle.sqcheck.specs.Snapshots.{SameSource};
+ghost use Rattle.sqpage.specs.internal.Taking.{Marks};
+ghost use Rattle.sqcheck.specs.internal.Walking.{Pushes, IsNextTrunk, IsLeafFrom, Follows, FollowRefused, Knows};
+ghost use Rattle.sqcheck.specs.internal.Walking.{TopLeads};
+ghost use Rattle.sqcheck.specs.internal.Snapshots.{SameSource};
 ghost use Rattle.sqcheck.specs.declared.item.Task.TheVariants.{Trunk, Link};
 ghost use Rattle.sqcheck.specs.declared.tree.Tree.{Tree};
 

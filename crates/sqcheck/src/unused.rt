@@ -1,7 +1,7 @@
 //! Pages that nothing names (own).
 ghost use Rattle.std.specs.Prelude.{◌≡◌, ◌+◌, ◌<◌, ◌≤◌, ◌^◌, ℕ, true, false, length, IfErr, OnOk};
 ghost use Rattle.sqpage.specs.Freelist.{IsWithin};
-ghost use Rattle.sqpage.specs.Taking.{is_marked};
+ghost use Rattle.sqpage.specs.internal.Taking.{is_marked};
 ghost use Rattle.sqpage.specs.declared.fault.Fault.{Fault};
 
 use sqpage::{CheckError, Fault};

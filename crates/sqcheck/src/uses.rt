@@ -1,8 +1,8 @@
 //! Which pages were taken, and how many for each use (own).
 ghost use Rattle.std.specs.Prelude.{◌≡◌, ◌↔◌, ◌+◌, ◌<◌, ◌≤◌, ◌^◌, true, IsTrue, length, OnOk, OnErr, IfErr};
 ghost use Rattle.std.specs.Prelude.{count_by, not};
-ghost use Rattle.sqpage.specs.Taking.{Marks, MarkRefused, is_marked};
-ghost use Rattle.sqcheck.specs.Counting.{AddsItem};
+ghost use Rattle.sqpage.specs.internal.Taking.{Marks, MarkRefused, is_marked};
+ghost use Rattle.sqcheck.specs.internal.Counting.{AddsItem};
 
 use crate::item::{Item, Task};
 use sqpage::{CheckError, Fault};
@@ -55,7 +55,7 @@ pub(crate) struct Uses {
 
 /// Marks page `p`, which page `holder` names. Refused by PageOutside at the holder where there is no such
 /// page, and by PageTwice at the page where it is marked.
-#[tactic(auto, using(crate::proofs::Marking::fewer_left))]
+#[tactic(auto, using(crate::proofs::visit::MarkedPages::fewer_left))]
 fn mark(marks: &mut [bool], holder: u32, p: u32) -> Result<(), CheckError>
     ensures ok { OnOk result (Marks marks.old marks.new p) }
     ensures fewer { OnOk result (count_by not marks.new < count_by not marks.old) }

@@ -1,11 +1,11 @@
 //! The walk over all places (own).
 ghost use Rattle.std.specs.Prelude.{◌≡◌, ◌<◌, ◌≤◌, ◌∷◌, [], ℕ, List, Bool, reverse, IfOk, IfErr, OnOk, OnErr};
-ghost use Rattle.sqpage.specs.Taking.{Marks};
+ghost use Rattle.sqpage.specs.internal.Taking.{Marks};
 ghost use Rattle.sqcheck.specs.Places.{Spot, HasKind};
 ghost use Rattle.sqcheck.specs.Roles.{IsRoleOf};
-ghost use Rattle.sqcheck.specs.Snapshots.{SameSource};
-ghost use Rattle.sqcheck.specs.Walking.{Follows, FollowRefused, Knows, IsProper, role_of};
-ghost use Rattle.sqcheck.specs.Agenda.{StandsNow, Walking, WalksOn};
+ghost use Rattle.sqcheck.specs.internal.Snapshots.{SameSource};
+ghost use Rattle.sqcheck.specs.internal.Walking.{Follows, FollowRefused, Knows, IsProper, role_of};
+ghost use Rattle.sqcheck.specs.internal.Agenda.{StandsNow, Walking, WalksOn};
 ghost use Rattle.sqcheck.specs.declared.item.Task.TheVariants.{Node};
 
 use crate::item::{Item, Task};

@@ -3,8 +3,8 @@ ghost use Rattle.std.specs.Prelude.{◌≡◌, ◌≤◌, length, IsOk, IfErr};
 ghost use Rattle.sqval.specs.Database.{page};
 ghost use Rattle.sqpage.specs.Freelist.{IsPage, usable_size};
 ghost use Rattle.sqpage.specs.declared.fault.Fault.{Fault};
-ghost use Rattle.sqcheck.specs.Room.{HoldsPage};
-ghost use Rattle.sqcheck.specs.Snapshots.{SameSource};
+ghost use Rattle.sqcheck.specs.internal.Room.{HoldsPage};
+ghost use Rattle.sqcheck.specs.internal.Snapshots.{SameSource};
 
 use crate::maps::Maps;
 use crate::node::{Room, Walk};

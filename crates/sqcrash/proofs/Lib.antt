@@ -1,3 +1,3 @@
-pub mod Surveying
-pub mod Judging
-pub mod Writing
+pub mod TallyOfJudgedImages
+pub mod JudgedRecords
+pub mod AppendedBytes

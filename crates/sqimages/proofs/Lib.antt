@@ -1,6 +1,6 @@
-pub mod Numbering
-pub mod Multiplying
-pub mod Holding
-pub mod Placing
-pub mod Ordering
-pub mod Leaving
+pub mod NumberOfEachImage
+pub mod CountsOfWays
+pub mod FilesHeldByName
+pub mod NumbersOfEpochImages
+pub mod OrderedPlaysAsWhole
+pub mod ImagesOfCurrentEpoch

@@ -165,7 +165,7 @@ impl Counts {
     ghost use Rattle.std.specs.Prelude.{◌≡◌, ◌+◌};
     ghost use Rattle.sqplay.specs.Plays.{files_of};
     ghost use Rattle.sqimages.specs.Images.{CountsAnswer, numbered, EachIsNumbered, EachHasPlace};
-    ghost use Rattle.sqimages.specs.Adding.{IsAdded};
+    ghost use Rattle.sqimages.specs.internal.Adding.{IsAdded};
 
     /// Those of a player's files. None where the images are more than the limit.
     pub fn of(alloc: Global, player: &Player, limit: u64) -> Result<Option<Counts>, AllocError>

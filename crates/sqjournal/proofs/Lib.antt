@@ -1,13 +1,2 @@
-pub mod Totals
-pub mod Headers
-pub mod Parts
-pub mod RecordSlots
-pub mod Continuing
-pub mod Standing
-pub mod Left
-pub mod Journals
-pub mod Taking
-pub mod Unique
-pub mod Contents
-pub mod OneRestored
-pub mod Settled
+pub mod journal
+pub mod read

@@ -5,3 +5,4 @@ pub mod Slots
 pub mod Restored
 pub mod Reading
 pub mod Took
+pub mod internal

@@ -1,13 +1,12 @@
 -- How far a journal is read (own): the words of this crate's helpers, which no public contract cites but `Took`.
-use Rattle.std.specs.Prelude.{◌≡◌, ◌⊎◌, ℕ, ◌+◌, ◌-◌, ◌^◌, ◌<◌, ◌≤◌, List, [], ◌++◌, length, drop, if◌then◌else◌, nat_le, ◌==◌, ◌&&◌}
-use Rattle.sqval.specs.Bytes.{part, word}
+use Rattle.std.specs.Prelude.{◌≡◌, ◌⊎◌, ℕ, ◌+◌, ◌-◌, ◌^◌, ◌<◌, ◌≤◌, List, [], ◌++◌, length, drop}
+use Rattle.sqval.specs.Bytes.{word}
 use Rattle.sqval.specs.Database.{Pages}
 use Rattle.sqjournal.specs.Header.{next_header, IsFirstHeader, Names}
-use Rattle.sqjournal.specs.Journal.{Segment, Sizes, to_the_end, record_len, records_end, AreRecords, AreAll, AreFewer, StopsAtRecord, AreSegments, placed, entries}
+use Rattle.sqjournal.specs.Journal.{Segment, Sizes, record_len, records_end, AreRecords, AreAll, AreFewer, StopsAtRecord, AreSegments, placed, entries}
 use Rattle.sqjournal.specs.declared.header.JournalHeader.{JournalHeader}
 use Rattle.sqjournal.specs.declared.reading.Record.{Record}
 use Rattle.sqjournal.specs.declared.reading.Why.{Why}
-use Rattle.sqjournal.specs.declared.reading.Why.TheVariants.{End, Header, Short}
 use Rattle.sqjournal.specs.declared.reading.Reading.{Reading}
 use Rattle.sqjournal.specs.declared.reading.Next.{Next}
 use Rattle.sqjournal.specs.declared.reading.Next.TheVariants.{NewSegment, Records, Over}
@@ -63,20 +62,6 @@ len_of h (Over w) = 0
 
 abbrev pub next_len : Reading → ℕ
 next_len r = len_of r.header r.next
-
--- why a journal of so many bytes ends, of which what is next isn't whole
-abbrev pub why_at : (at len : ℕ) → Next → Why
-why_at at len NewSegment = if nat_le len at then End else Header
-why_at at len (Records nonce left) = if (left == to_the_end) && nat_le len at then End else Short
-why_at at len (Over w) = w
-
-abbrev pub why_of : Reading → (len : ℕ) → Why
-why_of r len = why_at r.at len r.next
-
--- the bytes of it, whole in a journal
-pub record IsNext (b : List ℕ) (r : Reading) (unit : List ℕ) : Type 0 where
-  pub is : part b r.at (next_len r) ≡ unit
-  pub whole : r.at + next_len r ≤ length b
 
 -- the journal has ended
 abbrev pub IsOver : Next → Type 0

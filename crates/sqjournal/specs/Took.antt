@@ -2,7 +2,7 @@
 use Rattle.std.specs.Prelude.{◌≡◌, ℕ, ◌^◌, ◌<◌, ◌≤◌, List, [], ◌++◌, length, Result, MatchResult, Option, MatchOption}
 use Rattle.sqjournal.specs.Header.{IsFirstHeader, IsRefused}
 use Rattle.sqjournal.specs.Journal.{Segment, IsJournal, entries, entry_of, sizes_of}
-use Rattle.sqjournal.specs.Reading.{Stands, Keeps, Waits}
+use Rattle.sqjournal.specs.Reading.{Stands, Waits}
 use Rattle.sqjournal.specs.declared.error.JournalError.{JournalError}
 use Rattle.sqjournal.specs.declared.error.JournalError.TheVariants.{NoMemory, TooLong}
 use Rattle.sqjournal.specs.declared.reading.Reading.{Reading}
@@ -61,11 +61,6 @@ pub record HasCount (b : List ℕ) (n : ℕ) : Type 0 where
   pub stop : Stop
   pub is : IsJournal b segments stop.at stop.why
   pub value : n ≡ length (entries (sizes_of b) 0 segments)
-
--- of the helpers alone: a first header, judged before or now, and the piece after the bytes can be read
-pub record GoesOn (b piece : List ℕ) (s : Replay) (r : Reading) : Type 0 where
-  pub stands : Stands (b ++ piece) r s.records.items
-  pub keeps : Keeps b r s.begun.items
 
 -- a journal of these bytes has these records and ends so
 pub record Says (b : List ℕ) (es : List Record) (stop : Stop) : Type 0 where

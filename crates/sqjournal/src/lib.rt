@@ -14,5 +14,5 @@ pub use error::JournalError;
 pub use header::{JournalHeader, is_magic, next_header_at};
 pub use nonce::page_sum;
 pub use reading::{Record, Why};
-pub use replay::{Replay, Stop};
+pub use replay::{LONGEST, Replay, Stop};
 pub use slots::{RecordSlot, is_zeroed};

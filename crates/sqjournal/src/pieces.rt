@@ -2,7 +2,8 @@
 ghost use Rattle.std.specs.Prelude.{◌≡◌, ◌⊎◌, ℕ, ◌+◌, ◌^◌, ◌<◌, ◌≤◌, ◌++◌, List, [], length, take, drop, IfOk, OnOk};
 ghost use Rattle.std.specs.Prelude.{OnErr, MatchOption, MatchResult};
 ghost use Rattle.sqjournal.specs.Header.{IsFirstHeader, IsRefused, Names};
-ghost use Rattle.sqjournal.specs.Reading.{Stands, IsNext, next_len, IsOver, UnlessOver, Keeps, Waits, IsSound};
+ghost use Rattle.sqjournal.specs.Reading.{Stands, next_len, IsOver, UnlessOver, Keeps, Waits, IsSound};
+ghost use Rattle.sqjournal.specs.internal.Reading.{IsNext};
 ghost use Rattle.sqjournal.specs.declared.reading.Record.{Record};
 
 use crate::error::JournalError;

@@ -3,7 +3,8 @@ ghost use Rattle.std.specs.Prelude.{IsTrue, ◌≡◌, ◌⊎◌, ℕ, ◌+◌, 
 ghost use Rattle.std.specs.Prelude.{MatchOption, option_to_list};
 ghost use Rattle.sqval.specs.Bytes.{part};
 ghost use Rattle.sqjournal.specs.Header.{next_header};
-ghost use Rattle.sqjournal.specs.Reading.{Stands, IsNext, next_len, why_of, IsOver, UnlessOver};
+ghost use Rattle.sqjournal.specs.Reading.{Stands, next_len, IsOver, UnlessOver};
+ghost use Rattle.sqjournal.specs.internal.Reading.{IsNext, why_of};
 ghost use Rattle.sqjournal.specs.declared.reading.Record.{Record};
 ghost use Rattle.sqjournal.specs.declared.reading.Next.TheVariants.{NewSegment, Records, Over};
 

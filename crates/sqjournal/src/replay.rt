@@ -10,7 +10,7 @@ use crate::reading::{Next, Reading, Record, Why};
 use std::alloc::Global;
 
 /// The longest journal that is read, in bytes.
-const LONGEST: u64 = 1 << 40;
+pub const LONGEST: u64 = 1 << 40;
 
 /// Where and why a journal ends.
 #[derive(Clone, Copy, Debug, PartialEq, Eq)]
@@ -44,7 +44,8 @@ impl Replay {
     ghost use Rattle.sqjournal.specs.Header.{IsRefused};
     ghost use Rattle.sqjournal.specs.Journal.{IsFirst};
     ghost use Rattle.sqjournal.specs.declared.error.JournalError.TheVariants.{NoMemory};
-    ghost use Rattle.sqjournal.specs.Took.{Took, IsSettled, GoesOn, Feeds, StopsSo, HasEntry, HasCount};
+    ghost use Rattle.sqjournal.specs.Took.{Took, IsSettled, Feeds, StopsSo, HasEntry, HasCount};
+    ghost use Rattle.sqjournal.specs.internal.Took.{GoesOn};
 
     /// A replay of which no byte came.
     pub fn new(alloc: Global) -> Replay

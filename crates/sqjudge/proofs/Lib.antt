@@ -1,3 +1,3 @@
-pub mod LeavesAmong
-pub mod Counting
-pub mod Judging
+pub mod LeavesOfFreelist
+pub mod NumberedCommits
+pub mod JudgmentOfFiles

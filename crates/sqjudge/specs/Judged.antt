@@ -10,12 +10,6 @@ use Rattle.sqjudge.specs.Shown.{Commit, IsLastShown, FilesShow}
 use Rattle.sqjudge.specs.declared.judgment.Judgment.{Judgment}
 use Rattle.sqjudge.specs.declared.judgment.Judgment.TheVariants.{Kept, Lost, Mixed, Fault, Refused}
 
--- the judgment by the number of the last commit that is shown: lost exactly where it is before the known one
-abbrev pub IsPlaced : (shown known : ℕ) → Judgment → Type 0
-IsPlaced shown known (Kept k) = (k ≡ shown) × (known ≤ shown)
-IsPlaced shown known (Lost k) = (k ≡ shown) × (shown < known)
-IsPlaced shown known _ = ⊥
-
 -- The judgment of a database of pages of this size, where a commit is known to be down: it is the one of the last commit that is
 -- shown, or that of none, by whether it is well formed. One that has pointer maps isn't checked.
 abbrev pub IsJudged : List Commit → (known : ℕ) → Database → (size : ℕ) → Judgment → Type 0

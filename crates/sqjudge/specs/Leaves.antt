@@ -1,7 +1,7 @@
 -- The leaves of the freelist (fileformat2, 1.5).
-use Rattle.std.specs.Prelude.{◌≡◌, ◌⊎◌, ℕ, zero, suc, List, [], ◌∷◌, length, flat_map}
+use Rattle.std.specs.Prelude.{◌≡◌, ◌⊎◌, ℕ, List, [], length, flat_map}
 use Rattle.sqval.specs.Database.{Database, page}
-use Rattle.sqpage.specs.Freelist.{first_trunk, free_pages, leaf_count_in, leaves_in, pages_under, Leads, AreSound}
+use Rattle.sqpage.specs.Freelist.{first_trunk, free_pages, leaves_in, pages_under, Leads, AreSound}
 
 -- The trunks of a sound freelist, in order, from the one that the header names to one that names none. They and their leaves
 -- are as many as the header says.
@@ -16,10 +16,3 @@ abbrev pub AreLeaves : Database → List ℕ → Type 0
 AreLeaves d leaves =
     ((trunks : List ℕ) × AreTrunks d trunks × (leaves ≡ flat_map (λ t. leaves_in (page d t)) trunks))
     ⊎ (((trunks : List ℕ) → ¬ AreTrunks d trunks) × (leaves ≡ []))
-
--- The leaves among pages of a freelist, each trunk before its leaves, of which so many at the front are leaves of a trunk that
--- came before.
-abbrev pub leaves_of : Database → (left : ℕ) → List ℕ → List ℕ
-leaves_of d left [] = []
-leaves_of d zero (t ∷ pages) = leaves_of d (leaf_count_in (page d t)) pages
-leaves_of d (suc left) (p ∷ pages) = p ∷ leaves_of d left pages

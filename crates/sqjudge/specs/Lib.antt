@@ -1,3 +1,4 @@
 pub mod Leaves
 pub mod Shown
 pub mod Judged
+pub mod internal

@@ -1,5 +1,6 @@
 //! The committed databases of a run, and which of them is shown (own).
 ghost use Rattle.std.specs.Prelude.{◌≡◌, ◌↔◌, ℕ, List, [], ◌∷◌, ◌++◌, length, OnOk, OnErr, IfOk, IsTrue};
+ghost use Rattle.sqpage.specs.Source.{KeepsPages};
 ghost use Rattle.sqview.specs.LogView.{ViewRefused};
 ghost use Rattle.sqjudge.specs.Shown.{IsAdded, IsLastShown, IsNoted, ShowsLast, commit_of, commits_of};
 
@@ -56,9 +57,7 @@ impl History {
     ) -> Result<Option<usize>, SnapshotError>
         ensures shown { S.gives_pages source.old
             → IfOk result (IsLastShown (commits_of self.now) (S.pages source.old)) }
-        ensures still_gives { S.gives_pages source.old → S.gives_pages source.new }
-        ensures same_pages { S.pages source.new ≡ S.pages source.old }
-        ensures same_size { S.size source.new ≡ S.size source.old }
+        ensures keeps { KeepsPages S.pages S.size S.gives_pages source.old source.new }
     {
         for k in (0..self.commits.len()).rev() {
             if self.commits[k].is_shown(alloc, source)? {
@@ -84,9 +83,7 @@ impl History {
     fn ends_with<S: PageSource>(&self, alloc: Global, source: &mut S) -> Result<bool, SnapshotError>
         ensures shown { S.gives_pages source.old
             → IfOk result (λ shown. IsTrue shown ↔ ShowsLast (commits_of self.now) (S.pages source.old)) }
-        ensures still_gives { S.gives_pages source.old → S.gives_pages source.new }
-        ensures same_pages { S.pages source.new ≡ S.pages source.old }
-        ensures same_size { S.size source.new ≡ S.size source.old }
+        ensures keeps { KeepsPages S.pages S.size S.gives_pages source.old source.new }
     {
         let count = self.commits.len();
         if count == 0 {

@@ -4,7 +4,8 @@ ghost use Rattle.sqwal.specs.Took.{Took};
 ghost use Rattle.sqview.specs.LogView.{ViewRefused};
 ghost use Rattle.sqview.specs.declared.view_error.ViewError.TheVariants.{Header};
 ghost use Rattle.sqjudge.specs.Shown.{Commit, IsLastShown, commits_of};
-ghost use Rattle.sqjudge.specs.Judged.{IsPlaced, IsJudged, IsFilesJudgment};
+ghost use Rattle.sqjudge.specs.Judged.{IsJudged, IsFilesJudgment};
+ghost use Rattle.sqjudge.specs.internal.Judged.{IsPlaced};
 
 use crate::error::SnapshotError;
 use crate::history::History;

@@ -1,8 +1,10 @@
 //! The leaves of the freelist (fileformat2, 1.5).
 ghost use Rattle.std.specs.Prelude.{◌≡◌, ◌≤◌, ◌<◌, [], length, IfOk};
+ghost use Rattle.sqpage.specs.Source.{KeepsPages};
 ghost use Rattle.sqval.specs.Database.{page};
 ghost use Rattle.sqpage.specs.Freelist.{leaf_count_in};
-ghost use Rattle.sqjudge.specs.Leaves.{AreLeaves, leaves_of};
+ghost use Rattle.sqjudge.specs.Leaves.{AreLeaves};
+ghost use Rattle.sqjudge.specs.internal.Leaves.{leaves_of};
 
 use crate::error::SnapshotError;
 use byteorder::{BigEndian, ByteOrder};
@@ -20,9 +22,7 @@ fn leaf_count_of(bytes: &[u8]) -> u32
 /// How many leaves the trunk `p` names.
 fn leaf_count<S: PageSource>(alloc: Global, source: &mut S, p: u32) -> Result<u32, SnapshotError>
     ensures count { S.gives_pages source.old → IfOk result (λ n. n ≡ leaf_count_in (page (S.pages source.old) p)) }
-    ensures still_gives { S.gives_pages source.old → S.gives_pages source.new }
-    ensures same_pages { S.pages source.new ≡ S.pages source.old }
-    ensures same_size { S.size source.new ≡ S.size source.old }
+    ensures keeps { KeepsPages S.pages S.size S.gives_pages source.old source.new }
 {
     if p == 0 || p > source.count() {
         return Err(SnapshotError::Unread);
@@ -40,9 +40,7 @@ fn leaves_among<S: PageSource>(
 ) -> Result<Vec<u32>, SnapshotError>
     ensures leaves { S.gives_pages source.old
         → IfOk result (λ v. v.items ≡ leaves_of (S.pages source.old) 0 pages.now) }
-    ensures still_gives { S.gives_pages source.old → S.gives_pages source.new }
-    ensures same_pages { S.pages source.new ≡ S.pages source.old }
-    ensures same_size { S.size source.new ≡ S.size source.old }
+    ensures keeps { KeepsPages S.pages S.size S.gives_pages source.old source.new }
 {
     let mut leaves = Vec::new(alloc);
     let mut left = 0u32;
@@ -61,9 +59,7 @@ fn leaves_among<S: PageSource>(
 /// Refused by Unread and NoMemory.
 pub fn free_leaves<S: PageSource>(alloc: Global, source: &mut S) -> Result<Vec<u32>, SnapshotError>
     ensures leaves { S.gives_pages source.old → IfOk result (λ v. AreLeaves (S.pages source.old) v.items) }
-    ensures still_gives { S.gives_pages source.old → S.gives_pages source.new }
-    ensures same_pages { S.pages source.new ≡ S.pages source.old }
-    ensures same_size { S.size source.new ≡ S.size source.old }
+    ensures keeps { KeepsPages S.pages S.size S.gives_pages source.old source.new }
 {
     match freelist(alloc, source) {
         Ok(pages) => leaves_among(alloc, source, &pages),

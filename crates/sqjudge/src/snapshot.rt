@@ -1,6 +1,7 @@
 //! A committed database, as it is compared with what images show (own).
 ghost use Rattle.std.specs.Prelude.{◌≡◌, ◌↔◌, ◌⊎◌, ◌<◌, ◌+◌, [], ℕ, List, length, slice_index_or, IfOk, IsTrue};
 ghost use Rattle.std.specs.List.{Contains};
+ghost use Rattle.sqpage.specs.Source.{KeepsPages};
 ghost use Rattle.sqval.specs.Database.{Database, page};
 
 use crate::error::SnapshotError;
@@ -25,9 +26,7 @@ impl Page {
     /// Page `p` of a source.
     fn read<S: PageSource>(alloc: Global, source: &mut S, p: u32) -> Result<Page, SnapshotError>
         ensures read { S.gives_pages source.old → IfOk result (λ read. read ≡ page (S.pages source.old) p) }
-        ensures still_gives { S.gives_pages source.old → S.gives_pages source.new }
-        ensures same_pages { S.pages source.new ≡ S.pages source.old }
-        ensures same_size { S.size source.new ≡ S.size source.old }
+        ensures keeps { KeepsPages S.pages S.size S.gives_pages source.old source.new }
     {
         if p == 0 || p > source.count() {
             return Err(SnapshotError::Unread);
@@ -48,9 +47,7 @@ impl Page {
 /// All pages of a source.
 fn read_pages<S: PageSource>(alloc: Global, source: &mut S) -> Result<Vec<Page>, SnapshotError>
     ensures read { S.gives_pages source.old → IfOk result (λ v. v.items ≡ S.pages source.old) }
-    ensures still_gives { S.gives_pages source.old → S.gives_pages source.new }
-    ensures same_pages { S.pages source.new ≡ S.pages source.old }
-    ensures same_size { S.size source.new ≡ S.size source.old }
+    ensures keeps { KeepsPages S.pages S.size S.gives_pages source.old source.new }
 {
     let mut pages = Vec::new(alloc);
     for before in 0..source.count() {
@@ -70,14 +67,13 @@ impl Snapshot {
     ghost use Rattle.std.specs.Prelude.{◌≡◌, ◌↔◌, ◌⊎◌, ◌<◌, ◌≤◌, ◌+◌, [], length, slice_index_or, IfOk, IsTrue};
     ghost use Rattle.std.specs.List.{Contains};
     ghost use Rattle.sqval.specs.Database.{Database, page};
+    ghost use Rattle.sqpage.specs.Source.{KeepsPages};
     ghost use Rattle.sqjudge.specs.Shown.{IsTaken, Shows, commit_of, AgreesAt};
 
     /// The database of a source. Refused by Unread and NoMemory.
     pub fn take<S: PageSource>(alloc: Global, source: &mut S) -> Result<Snapshot, SnapshotError>
         ensures taken { S.gives_pages source.old → IfOk result (λ s. IsTaken (S.pages source.old) (commit_of s)) }
-        ensures still_gives { S.gives_pages source.old → S.gives_pages source.new }
-        ensures same_pages { S.pages source.new ≡ S.pages source.old }
-        ensures same_size { S.size source.new ≡ S.size source.old }
+        ensures keeps { KeepsPages S.pages S.size S.gives_pages source.old source.new }
     {
         let leaves = free_leaves(alloc, source)?;
         let pages = read_pages(alloc, source)?;
@@ -131,9 +127,7 @@ impl Snapshot {
     ) -> Result<bool, SnapshotError>
         ensures shown { S.gives_pages source.old
             → IfOk result (λ shown. IsTrue shown ↔ Shows (commit_of self.now) (S.pages source.old)) }
-        ensures still_gives { S.gives_pages source.old → S.gives_pages source.new }
-        ensures same_pages { S.pages source.new ≡ S.pages source.old }
-        ensures same_size { S.size source.new ≡ S.size source.old }
+        ensures keeps { KeepsPages S.pages S.size S.gives_pages source.old source.new }
     {
         let count = source.count();
         if count as usize != self.pages.len() {

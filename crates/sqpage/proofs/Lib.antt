@@ -1,11 +1,3 @@
-pub mod Layouts
-pub mod Headers
-pub mod ListLemmas
-pub mod Sources
-pub mod Takings
-pub mod Freelists
-pub mod CellLemmas
-pub mod Chains
-pub mod Marks
-pub mod BareBytes
-pub mod PointerGroups
+pub mod btree
+pub mod file
+pub mod chain

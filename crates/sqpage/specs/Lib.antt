@@ -3,10 +3,8 @@ pub mod Lists
 pub mod Header
 pub mod Source
 pub mod Freelist
-pub mod Taking
 pub mod Page
 pub mod Chain
-pub mod SoundPage
 pub mod Layout
-pub mod Marking
 pub mod PointerMaps
+pub mod internal

@@ -3,6 +3,7 @@
 use Rattle.std.specs.Prelude.{◌≡◌, ◌≢◌, ℕ, ◌+◌, ◌-◌, ◌*◌, ◌/◌, ◌%◌, ◌<◌, ◌≤◌, ◌⊎◌, ◌==◌, nat_lt, nat_le, if◌then◌else◌, Bool, true, false, List, length, drop, slice_get, Option, Some, None}
 use Rattle.std.specs.Int.{cast_signed, w64}
 use Rattle.sqval.specs.Bytes.{part, word}
+use Rattle.sqval.specs.PageSize.{IsPageSize}
 use Rattle.sqval.specs.Varint.{Begins}
 use Rattle.sqpage.specs.declared.cell.Cell.{Cell}
 use Rattle.sqpage.specs.declared.cell.Parts.{Parts}
@@ -127,6 +128,19 @@ pub record IsBtreePage (p : Page) : Type 0 where
   pub start : content_start_in p.used p.number ≤ length p.used
   pub above : (i : ℕ) → i < cell_count p → content_start_in p.used p.number ≤ pointer p i
   pub cells : (i : ℕ) → i < cell_count p → HasCell p.kind p.used (pointer p i)
+
+-- A page has this number and this size, and so many of its bytes are used.
+pub record IsUsable (number size usable : ℕ) : Type 0 where
+  pub above : 0 < number
+  pub sized : IsPageSize size
+  pub least : 480 ≤ usable
+  pub most : usable ≤ size
+
+-- The page of a b-tree that has this usable part and this number.
+pub record IsPageOf (used : List ℕ) (number : ℕ) (page : Page) : Type 0 where
+  pub btree : IsBtreePage page
+  pub used_are : page.used ≡ used
+  pub numbered : page.number ≡ number
 
 -- Why this is no page of a b-tree: it has no such type byte, or the pointers or a cell leave their place.
 abbrev pub PageRefused : Fault → List ℕ → (number : ℕ) → Type 0

@@ -36,13 +36,6 @@ group_map size usable k = if group_start usable k == lock_byte_page size then gr
 abbrev pub IsPointerMap : (size usable p : ℕ) → Type 0
 IsPointerMap size usable p = (k : ℕ) × (p ≡ group_map size usable k)
 
--- page p stands in a group that has this map
-pub record IsNear (size usable p map : ℕ) : Type 0 where
-  pub group : ℕ
-  pub low : group_start usable group ≤ p
-  pub high : p < group_start usable (group + 1)
-  pub map_is : map ≡ group_map size usable group
-
 -- The entry of page p, which isn't the lock-byte page, stands in the map of its group, behind those of the pages
 -- between.
 pub record IsEntryPlace (size usable p : ℕ) (place : EntryPlace) : Type 0 where

@@ -1,8 +1,9 @@
--- A file as a source of pages (own).
-use Rattle.std.specs.Prelude.{ℕ, zero, suc, List, [], ◌∷◌, take, drop}
+-- Sources of pages (own).
+use Rattle.std.specs.Prelude.{◌≡◌, ℕ}
 use Rattle.sqval.specs.Database.{Database}
 
--- the first n pages of so many bytes
-abbrev pub sliced : (size n : ℕ) → List ℕ → Database
-sliced size zero bytes = []
-sliced size (suc n) bytes = take size bytes ∷ sliced size n (drop size bytes)
+-- A source has the same pages of the same size as before, and gives them still.
+pub record KeepsPages {A : Type 0} (pages : A → Database) (size : A → ℕ) (gives : A → Type 0) (old new : A) : Type 0 where
+  pub still_gives : gives old → gives new
+  pub same_pages : pages new ≡ pages old
+  pub same_size : size new ≡ size old

@@ -3,9 +3,10 @@ ghost use Rattle.std.specs.Prelude.{◌≡◌, ◌≢◌, ℕ, ◌+◌, ◌-◌,
 ghost use Rattle.std.specs.Prelude.{IfErr, OnOk, OnErr, count_by, not};
 ghost use Rattle.sqval.specs.Database.{Database, page};
 ghost use Rattle.sqpage.specs.Lists.{In, each_from};
+ghost use Rattle.sqpage.specs.Source.{KeepsPages};
 ghost use Rattle.sqpage.specs.Freelist.{IsFreelist, FreelistRefused, free_pages, usable_size, most_leaves, next_in};
 ghost use Rattle.sqpage.specs.Freelist.{leaf_count_in, leaves_in, leaf_in};
-ghost use Rattle.sqpage.specs.Taking.{AreTaken, TakesAll, LeafRefused, TakeRefused, TrunkRefused};
+ghost use Rattle.sqpage.specs.internal.Taking.{AreTaken, TakesAll, LeafRefused, TakeRefused, TrunkRefused};
 ghost use Rattle.sqpage.specs.declared.fault.Fault.{Fault};
 
 use crate::bytes::word_at;
@@ -91,27 +92,19 @@ impl Found {
         holder: u32,
         trunk: u32,
     ) -> Result<u32, CheckError>
-        requires taken { AreTaken self.old.taken.marks.items self.old.pages.items }
-        requires marks { length self.old.taken.marks.items ≡ length (S.pages source.old) }
-        requires room { length bytes.old ≡ S.size source.old }
-        requires large { 16 ≤ usable }
-        requires within { usable ≤ length bytes.old }
-        ensures ok { S.gives_pages source.old → usable ≡ usable_size (S.pages source.old)
-            → IfOk result (λ next. next ≡ next_in (page (S.pages source.old) trunk)) }
-        ensures few { S.gives_pages source.old → usable ≡ usable_size (S.pages source.old)
-            → OnOk result (leaf_count_in (page (S.pages source.old) trunk) ≤ most_leaves (S.pages source.old)) }
-        ensures takes { S.gives_pages source.old → OnOk result (TakesAll self.old.taken.marks.items
-            self.old.pages.items self.new.taken.marks.items self.new.pages.items
-            (trunk ∷ leaves_in (page (S.pages source.old) trunk))) }
-        ensures taken { OnOk result (AreTaken self.new.taken.marks.items self.new.pages.items) }
-        ensures marks { OnOk result (length self.new.taken.marks.items ≡ length self.old.taken.marks.items) }
-        ensures fewer { OnOk result (count_by not self.new.taken.marks.items < count_by not
-            self.old.taken.marks.items) }
+        requires taken { AreTaken self.old.taken.marks.items self.old.pages.items
+            × (length self.old.taken.marks.items ≡ length (S.pages source.old)) }
+        requires room { (length bytes.old ≡ S.size source.old) × (16 ≤ usable) × (usable ≤ length bytes.old) }
+        ensures ok { S.gives_pages source.old → usable ≡ usable_size (S.pages source.old) → IfOk result (λ next.
+            (next ≡ next_in (page (S.pages source.old) trunk))
+            × (leaf_count_in (page (S.pages source.old) trunk) ≤ most_leaves (S.pages source.old))
+            × (self.new.pages.items ≡ self.old.pages.items ++ trunk ∷ leaves_in (page (S.pages source.old) trunk))) }
+        ensures taken { OnOk result (AreTaken self.new.taken.marks.items self.new.pages.items
+            × (length self.new.taken.marks.items ≡ length self.old.taken.marks.items)
+            × (count_by not self.new.taken.marks.items < count_by not self.old.taken.marks.items)) }
         ensures err { S.gives_pages source.old → usable ≡ usable_size (S.pages source.old)
             → IfErr result (λ e. TrunkRefused (S.pages source.old) self.old.pages.items holder trunk e.fault e.page) }
-        ensures still_gives { S.gives_pages source.old → S.gives_pages source.new }
-        ensures same_pages { S.pages source.new ≡ S.pages source.old }
-        ensures same_size { S.size source.new ≡ S.size source.old }
+        ensures keeps { KeepsPages S.pages S.size S.gives_pages source.old source.new }
     {
         self.take(holder, trunk)?;
         read_page(source, trunk, bytes)?;
@@ -133,15 +126,11 @@ fn collect<S: PageSource>(
     bytes: &mut [u8],
 ) -> Result<Vec<u32>, CheckError>
     requires some { 0 < length (S.pages source.old) }
-    requires room { length bytes.old ≡ S.size source.old }
-    requires large { 512 ≤ length bytes.old }
-    ensures found { S.gives_pages source.old → IfOk result (λ pages. IsFreelist (S.pages source.old) pages.items) }
-    ensures count { S.gives_pages source.old
-        → IfOk result (λ pages. length pages.items ≡ free_pages (S.pages source.old)) }
+    requires room { (length bytes.old ≡ S.size source.old) × (512 ≤ length bytes.old) }
+    ensures found { S.gives_pages source.old → IfOk result (λ pages. IsFreelist (S.pages source.old) pages.items ×
+        (length pages.items ≡ free_pages (S.pages source.old))) }
     ensures err { S.gives_pages source.old → IfErr result (λ e. FreelistRefused (S.pages source.old) e.fault e.page) }
-    ensures still_gives { S.gives_pages source.old → S.gives_pages source.new }
-    ensures same_pages { S.pages source.new ≡ S.pages source.old }
-    ensures same_size { S.size source.new ≡ S.size source.old }
+    ensures keeps { KeepsPages S.pages S.size S.gives_pages source.old source.new }
 {
     let mut found = Found::none(alloc, source.count())?;
     read_page(source, 1, bytes)?;
@@ -171,13 +160,10 @@ fn collect_in<S: PageSource>(
 ) -> Result<Vec<u32>, CheckError>
     requires some { 0 < length (S.pages source.old) }
     requires room { length buffer.old ≡ 65536 }
-    ensures found { S.gives_pages source.old → IfOk result (λ pages. IsFreelist (S.pages source.old) pages.items) }
-    ensures count { S.gives_pages source.old
-        → IfOk result (λ pages. length pages.items ≡ free_pages (S.pages source.old)) }
+    ensures found { S.gives_pages source.old → IfOk result (λ pages. IsFreelist (S.pages source.old) pages.items ×
+        (length pages.items ≡ free_pages (S.pages source.old))) }
     ensures err { S.gives_pages source.old → IfErr result (λ e. FreelistRefused (S.pages source.old) e.fault e.page) }
-    ensures still_gives { S.gives_pages source.old → S.gives_pages source.new }
-    ensures same_pages { S.pages source.new ≡ S.pages source.old }
-    ensures same_size { S.size source.new ≡ S.size source.old }
+    ensures keeps { KeepsPages S.pages S.size S.gives_pages source.old source.new }
 {
     let size = source.page_size().get() as usize;
     collect(alloc, source, &mut buffer[..size])
@@ -195,9 +181,7 @@ pub fn freelist<S: PageSource>(alloc: Global, source: &mut S) -> Result<Vec<u32>
     // No list of pages is one, unless memory ran out.
     ensures none { S.gives_pages source.old → IfErr result (λ e. e.fault ≢ Fault.NoMemory → (pages : List ℕ)
         → IsFreelist (S.pages source.old) pages → length pages ≢ free_pages (S.pages source.old)) }
-    ensures still_gives { S.gives_pages source.old → S.gives_pages source.new }
-    ensures same_pages { S.pages source.new ≡ S.pages source.old }
-    ensures same_size { S.size source.new ≡ S.size source.old }
+    ensures keeps { KeepsPages S.pages S.size S.gives_pages source.old source.new }
 {
     if source.count() == 0 {
         return Ok(Vec::new(alloc));

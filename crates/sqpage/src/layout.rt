@@ -3,7 +3,8 @@ ghost use Rattle.std.specs.Prelude.{◌≡◌, ◌↔◌, ◌+◌, ◌-◌, ◌*
 ghost use Rattle.std.specs.Prelude.{length, replicate, Some, None};
 ghost use Rattle.sqpage.specs.Header.{half};
 ghost use Rattle.sqpage.specs.Layout.{Span, IsFreeblock, AreFreeblocks};
-ghost use Rattle.sqpage.specs.Marking.{SetsBits, HasBit, MarksSpan, IsTouched, MarksFreeblocks, FreeblocksRefused};
+ghost use Rattle.sqpage.specs.internal.Marking.{SetsBits, HasBit, MarksSpan, IsTouched, MarksFreeblocks};
+ghost use Rattle.sqpage.specs.internal.Marking.{FreeblocksRefused};
 
 use crate::bytes::half_at;
 use crate::fault::Fault;
@@ -89,8 +90,7 @@ pub(crate) fn mark_freeblocks(
     first: usize,
     map: &mut [u64],
 ) -> Result<usize, Fault>
-    requires first { first < 65536 }
-    requires most { length used.now ≤ 65536 }
+    requires small { (first < 65536) × (length used.now ≤ 65536) }
     requires room { length used.now ≤ 64 * length map.old }
     requires clear { map.old ≡ replicate (length map.old) 0 }
     ensures ok { IfOk result (λ taken. MarksFreeblocks used.now start first map.new taken) }

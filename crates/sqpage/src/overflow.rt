@@ -3,7 +3,8 @@ ghost use Rattle.std.specs.Prelude.{◌≡◌, ◌≢◌, ℕ, ◌+◌, ◌-◌,
 ghost use Rattle.std.specs.Prelude.{drop, IfOk, IfErr, OnOk, OnErr, IsSome};
 ghost use Rattle.sqval.specs.Database.{Database, page};
 ghost use Rattle.sqpage.specs.Freelist.{IsPage, next_in};
-ghost use Rattle.sqpage.specs.Taking.{AreTaken, LinkRefused, AppendsChain, GoesOn, ChainStops};
+ghost use Rattle.sqpage.specs.Source.{KeepsPages};
+ghost use Rattle.sqpage.specs.internal.Taking.{AreTaken, LinkRefused, AppendsChain, GoesOn, ChainStops};
 ghost use Rattle.sqpage.specs.Chain.{payload_size, links, contents, Follows, IsPayload, ChainBroken, ChainRefused};
 ghost use Rattle.sqpage.specs.declared.fault.Fault.{Fault};
 
@@ -35,18 +36,13 @@ fn append_page<S: PageSource>(
     usable: usize,
 ) -> Result<u32, CheckError>
     requires above { 0 < p }
-    requires room { length used.old ≡ S.size source.old }
-    requires least { 480 ≤ usable }
-    requires most { usable ≤ length used.old }
-    ensures ok { S.gives_pages source.old → IfOk result (λ next. next ≡ next_in (page (S.pages source.old) p)) }
-    ensures within { OnOk result (IsPage (S.pages source.old) p) }
-    ensures content { S.gives_pages source.old
-        → OnOk result (out.new.items ≡ out.old.items ++ take (usable - 4) (drop 4 (page (S.pages source.old) p))) }
-    ensures appended { (more : List ℕ) × (out.new.items ≡ out.old.items ++ more) }
+    requires room { (length used.old ≡ S.size source.old) × (480 ≤ usable) × (usable ≤ length used.old) }
+    ensures ok { S.gives_pages source.old → IfOk result (λ next. IsPage (S.pages source.old) p
+        × (next ≡ next_in (page (S.pages source.old) p))
+        × (out.new.items ≡ out.old.items ++ take (usable - 4) (drop 4 (page (S.pages source.old) p)))) }
     ensures err { S.gives_pages source.old → IfErr result (λ e. LinkRefused (S.pages source.old) at p e.fault e.page) }
-    ensures still_gives { S.gives_pages source.old → S.gives_pages source.new }
-    ensures same_pages { S.pages source.new ≡ S.pages source.old }
-    ensures same_size { S.size source.new ≡ S.size source.old }
+    ensures appended { (more : List ℕ) × (out.new.items ≡ out.old.items ++ more) }
+    ensures keeps { KeepsPages S.pages S.size S.gives_pages source.old source.new }
 {
     if p > source.count() {
         return Err(CheckError {
@@ -74,20 +70,16 @@ fn append_chain<S: PageSource>(
     used: &mut [u8],
     out: &mut Vec<u8>,
 ) -> Result<bool, CheckError>
-    requires room { length used.old ≡ S.size source.old }
-    requires least { 480 ≤ cell.now.usable }
-    requires most { cell.now.usable ≤ length used.old }
+    requires room { (length used.old ≡ S.size source.old) × (480 ≤ cell.now.usable)
+        × (cell.now.usable ≤ length used.old) }
     requires needed { needed ≡ links cell.now }
-    ensures ok { S.gives_pages source.old
-        → IfOk result (λ ends. ends ≡ true → AppendsChain (S.pages source.old) cell.now out.old.items out.new.items) }
-    ensures goes_on { S.gives_pages source.old
-        → IfOk result (λ ends. ends ≡ false → GoesOn (S.pages source.old) cell.now) }
-    ensures appended { (more : List ℕ) × (out.new.items ≡ out.old.items ++ more) }
+    ensures ok { S.gives_pages source.old → IfOk result (λ ends.
+        (ends ≡ true → AppendsChain (S.pages source.old) cell.now out.old.items out.new.items)
+        × (ends ≡ false → GoesOn (S.pages source.old) cell.now)) }
     ensures err { S.gives_pages source.old
         → IfErr result (λ e. ChainBroken (S.pages source.old) cell.now e.fault e.page) }
-    ensures still_gives { S.gives_pages source.old → S.gives_pages source.new }
-    ensures same_pages { S.pages source.new ≡ S.pages source.old }
-    ensures same_size { S.size source.new ≡ S.size source.old }
+    ensures appended { (more : List ℕ) × (out.new.items ≡ out.old.items ++ more) }
+    ensures keeps { KeepsPages S.pages S.size S.gives_pages source.old source.new }
 {
     let usable = cell.usable as usize;
     let mut at = cell.page;
@@ -126,18 +118,15 @@ fn mark_chain<S: PageSource>(
     taken: &mut Taken,
     used: &mut [u8],
 ) -> Result<u32, CheckError>
-    requires none { AreTaken taken.old.marks.items [] }
-    requires marks { length taken.old.marks.items ≡ length (S.pages source.old) }
-    requires room { length used.old ≡ S.size source.old }
-    requires least { 480 ≤ length used.old }
+    requires none { AreTaken taken.old.marks.items []
+        × (length taken.old.marks.items ≡ length (S.pages source.old)) }
+    requires room { (length used.old ≡ S.size source.old) × (480 ≤ length used.old) }
     requires needed { needed ≡ links cell.now }
     ensures ok { S.gives_pages source.old → IfOk result (λ last. (pages : List ℕ) × (p : ℕ) × Follows
         (S.pages source.old) cell.now pages last p × (length pages ≡ links cell.now)) }
     ensures err { S.gives_pages source.old
         → IfErr result (λ e. ChainStops (S.pages source.old) cell.now e.fault e.page) }
-    ensures still_gives { S.gives_pages source.old → S.gives_pages source.new }
-    ensures same_pages { S.pages source.new ≡ S.pages source.old }
-    ensures same_size { S.size source.new ≡ S.size source.old }
+    ensures keeps { KeepsPages S.pages S.size S.gives_pages source.old source.new }
 {
     let mut at = cell.page;
     let mut next = cell.overflow;
@@ -160,14 +149,11 @@ fn judge_chain<S: PageSource>(
     needed: u64,
     used: &mut [u8],
 ) -> CheckError
-    requires room { length used.old ≡ S.size source.old }
-    requires least { 480 ≤ length used.old }
+    requires room { (length used.old ≡ S.size source.old) × (480 ≤ length used.old) }
     requires needed { needed ≡ links cell.now }
     ensures stands { S.gives_pages source.old → GoesOn (S.pages source.old) cell.now
         → ChainBroken (S.pages source.old) cell.now result.fault result.page }
-    ensures still_gives { S.gives_pages source.old → S.gives_pages source.new }
-    ensures same_pages { S.pages source.new ≡ S.pages source.old }
-    ensures same_size { S.size source.new ≡ S.size source.old }
+    ensures keeps { KeepsPages S.pages S.size S.gives_pages source.old source.new }
 {
     match Taken::none(alloc, source.count()) {
         Ok(mut taken) => match mark_chain(source, cell, needed, &mut taken, used) {
@@ -192,17 +178,14 @@ fn append_pages<S: PageSource>(
     needed: u64,
     out: &mut Vec<u8>,
 ) -> Result<(), CheckError>
-    requires least { 480 ≤ cell.now.usable }
-    requires most { cell.now.usable ≤ S.size source.old }
+    requires usable { (480 ≤ cell.now.usable) × (cell.now.usable ≤ S.size source.old) }
     requires needed { needed ≡ links cell.now }
     ensures ok { S.gives_pages source.old
         → OnOk result (AppendsChain (S.pages source.old) cell.now out.old.items out.new.items) }
     ensures appended { (more : List ℕ) × (out.new.items ≡ out.old.items ++ more) }
     ensures err { S.gives_pages source.old
         → IfErr result (λ e. ChainBroken (S.pages source.old) cell.now e.fault e.page) }
-    ensures still_gives { S.gives_pages source.old → S.gives_pages source.new }
-    ensures same_pages { S.pages source.new ≡ S.pages source.old }
-    ensures same_size { S.size source.new ≡ S.size source.old }
+    ensures keeps { KeepsPages S.pages S.size S.gives_pages source.old source.new }
 {
     let size = source.page_size().get() as usize;
     let mut used = match vec![in alloc; 0u8; size] {
@@ -228,17 +211,14 @@ fn append<S: PageSource>(
     needed: u64,
     out: &mut Vec<u8>,
 ) -> Result<(), CheckError>
-    requires least { 480 ≤ cell.now.usable }
-    requires most { cell.now.usable ≤ S.size source.old }
+    requires usable { (480 ≤ cell.now.usable) × (cell.now.usable ≤ S.size source.old) }
     requires needed { needed ≡ links cell.now }
     ensures ok { S.gives_pages source.old → OnOk result
         (AppendsChain (S.pages source.old) cell.now (out.old.items ++ cell.now.local.now) out.new.items) }
     ensures appended { (more : List ℕ) × (out.new.items ≡ out.old.items ++ more) }
     ensures err { S.gives_pages source.old
         → IfErr result (λ e. ChainBroken (S.pages source.old) cell.now e.fault e.page) }
-    ensures still_gives { S.gives_pages source.old → S.gives_pages source.new }
-    ensures same_pages { S.pages source.new ≡ S.pages source.old }
-    ensures same_size { S.size source.new ≡ S.size source.old }
+    ensures keeps { KeepsPages S.pages S.size S.gives_pages source.old source.new }
 {
     match out.extend_from_slice(cell.local) {
         Ok(()) => {}
@@ -273,22 +253,16 @@ pub fn payload<S: PageSource>(
     cell: &Cell,
     out: &mut Vec<u8>,
 ) -> Result<(), CheckError>
-    requires payload { IsSome cell.now.payload }
-    requires least { 480 ≤ cell.now.usable }
-    requires most { cell.now.usable ≤ S.size source.old }
-    requires part { length cell.now.local.now ≤ payload_size cell.now }
+    requires payload { IsSome cell.now.payload × (length cell.now.local.now ≤ payload_size cell.now) }
+    requires usable { (480 ≤ cell.now.usable) × (cell.now.usable ≤ S.size source.old) }
     ensures ok { S.gives_pages source.old → OnOk result ((content : List ℕ) × IsPayload (S.pages source.old) cell.now
         content × (out.new.items ≡ out.old.items ++ content)) }
-    // The condition stands at the page.
-    ensures err { S.gives_pages source.old
-        → IfErr result (λ e. ChainRefused (S.pages source.old) cell.now e.fault e.page) }
-    // The cell has no payload, unless memory ran out.
-    ensures none { S.gives_pages source.old → IfErr result
-        (λ e. e.fault ≢ Fault.NoMemory → (content : List ℕ) → ¬ IsPayload (S.pages source.old) cell.now content) }
+    // The condition stands at the page, and the cell has no payload, unless memory ran out.
+    ensures err { S.gives_pages source.old → IfErr result
+        (λ e. ChainRefused (S.pages source.old) cell.now e.fault e.page
+        × (e.fault ≢ Fault.NoMemory → (content : List ℕ) → ¬ IsPayload (S.pages source.old) cell.now content)) }
     ensures unchanged { OnErr result (out.new.items ≡ out.old.items) }
-    ensures still_gives { S.gives_pages source.old → S.gives_pages source.new }
-    ensures same_pages { S.pages source.new ≡ S.pages source.old }
-    ensures same_size { S.size source.new ≡ S.size source.old }
+    ensures keeps { KeepsPages S.pages S.size S.gives_pages source.old source.new }
 {
     let needed = links_of(cell);
     if needed > u64::from(source.count()) {

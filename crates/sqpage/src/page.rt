@@ -2,13 +2,13 @@
 ghost use Rattle.std.specs.Prelude.{◌≡◌, ◌≢◌, ◌⊎◌, ◌+◌, ◌*◌, ◌<◌, ◌≤◌, ℕ, List, false, IsTrue, IfOk, IfErr, OnOk};
 ghost use Rattle.std.specs.Prelude.{OnErr, IfSome, IfNone, length, take, replicate, slice_get};
 ghost use Rattle.sqval.specs.Bytes.{word};
-ghost use Rattle.sqval.specs.PageSize.{IsPageSize};
 ghost use Rattle.sqpage.specs.declared.cell.Parts.{Parts};
 ghost use Rattle.sqpage.specs.declared.fault.Fault.{Fault};
 ghost use Rattle.sqpage.specs.Chain.{payload_size};
 ghost use Rattle.sqpage.specs.Layout.{IsLaidOut, LayoutRefused};
-ghost use Rattle.sqpage.specs.Marking.{MarksCells, TouchesCells, TakesBytes};
-ghost use Rattle.sqpage.specs.Page.{Page, IsBtreePage, PageRefused, IsCell, HasCell, HasParts, HasPartsOf, if_present};
+ghost use Rattle.sqpage.specs.internal.Marking.{MarksCells, TouchesCells, TakesBytes};
+ghost use Rattle.sqpage.specs.Page.{Page, IsUsable, IsPageOf, PageRefused, IsCell, HasCell, HasParts, HasPartsOf};
+ghost use Rattle.sqpage.specs.Page.{if_present};
 ghost use Rattle.sqpage.specs.Page.{is_interior, head_at, cell_count, cell_count_in, content_start_in, pointers_at};
 ghost use Rattle.sqpage.specs.Page.{pointer as cell_pointer, pointer_in, pointers_end_in};
 
@@ -37,7 +37,7 @@ pub struct BtreePage<'a> {
 impl<'a> Model for BtreePage<'a> {
     ghost use Rattle.std.specs.Prelude.{◌≤◌, length};
     ghost use Rattle.sqpage.specs.Page.{Page};
-    ghost use Rattle.sqpage.specs.SoundPage.{IsSoundPage};
+    ghost use Rattle.sqpage.specs.internal.SoundPage.{IsSoundPage};
 
     ghost Value = { Page };
 
@@ -121,8 +121,7 @@ fn cells_lie_within(kind: Kind, used: &[u8], number: u32) -> bool
 /// Reads the parts of the cells, and answers whether these lie between the start of the content and the end of
 /// the usable part.
 fn read_parts(kind: Kind, used: &[u8], number: u32, parts: &mut [Parts]) -> bool
-    requires least { 480 ≤ length used.now }
-    requires most { length used.now ≤ 65536 }
+    requires sized { (480 ≤ length used.now) × (length used.now ≤ 65536) }
     requires pointers { pointers_end_in kind used.now number ≤ length used.now }
     requires room { cell_count_in used.now number ≤ length parts.old }
     ensures yes { IsTrue result → (i : ℕ) (c : Parts) → i < cell_count_in used.now number
@@ -151,13 +150,8 @@ impl<'a> BtreePage<'a> {
     /// Kind where its type byte is none, otherwise by CellOutside where the pointers, the start of the cells or a
     /// cell lie outside.
     pub fn new(bytes: &'a [u8], number: u32, usable: u32) -> Result<BtreePage<'a>, Fault>
-        requires page { IsPageSize (length bytes.now) }
-        requires number { 0 < number }
-        requires least { 480 ≤ usable }
-        requires most { usable ≤ length bytes.now }
-        ensures ok { IfOk result (λ page. IsBtreePage page) }
-        ensures part { IfOk result (λ page. page.used ≡ take usable bytes.entry.now) }
-        ensures number { IfOk result (λ page. page.number ≡ number) }
+        requires usable { IsUsable number (length bytes.now) usable }
+        ensures ok { IfOk result (IsPageOf (take usable bytes.entry.now) number) }
         ensures err { IfErr result (λ fault. PageRefused fault (take usable bytes.entry.now) number) }
     {
         let used = &bytes[..usable as usize];
@@ -180,14 +174,9 @@ impl<'a> BtreePage<'a> {
         usable: u32,
         parts: &mut [Parts],
     ) -> Result<BtreePage<'a>, Fault>
-        requires page { IsPageSize (length bytes.now) }
-        requires number { 0 < number }
-        requires least { 480 ≤ usable }
-        requires most { usable ≤ length bytes.now }
+        requires usable { IsUsable number (length bytes.now) usable }
         requires room { usable ≤ 2 * length parts.old }
-        ensures ok { IfOk result (λ page. IsBtreePage page) }
-        ensures part { IfOk result (λ page. page.used ≡ take usable bytes.entry.now) }
-        ensures number { IfOk result (λ page. page.number ≡ number) }
+        ensures ok { IfOk result (IsPageOf (take usable bytes.entry.now) number) }
         ensures parts { IfOk result (λ page. HasPartsOf page parts.new) }
         ensures err { IfErr result (λ fault. PageRefused fault (take usable bytes.entry.now) number) }
         ensures length { length parts.new ≡ length parts.old }

@@ -1,6 +1,7 @@
 //! The lock-byte page, and the pointer maps of a database of auto-vacuum (fileformat2, 1.4 and 1.8).
 ghost use Rattle.std.specs.Prelude.{◌≡◌, ◌↔◌, IsTrue, ℕ, ◌+◌, ◌-◌, ◌<◌, ◌≤◌, length};
-ghost use Rattle.sqpage.specs.PointerMaps.{lock_byte, HoldsByte, lock_byte_page, IsPointerMap, IsNear};
+ghost use Rattle.sqpage.specs.PointerMaps.{lock_byte, HoldsByte, lock_byte_page, IsPointerMap};
+ghost use Rattle.sqpage.specs.internal.PointerMaps.{IsNear};
 ghost use Rattle.sqpage.specs.PointerMaps.{PlaceAnswer, EntryAnswer};
 
 use crate::bytes::word_at;

@@ -1,8 +1,10 @@
 //! Where the pages of a database come from (own).
-ghost use Rattle.std.specs.Prelude.{◌≡◌, ◌↔◌, ℕ, ◌%◌, ◌/◌, ◌*◌, ◌<◌, ◌^◌, ◌≤◌, length, IsOk, IsSome, IfSome, IfErr};
+ghost use Rattle.std.specs.Prelude.{◌≡◌, ◌↔◌, ℕ, ◌%◌, ◌/◌, ◌*◌, ◌<◌, ◌^◌, length, IsOk, IsSome, IfSome, IfErr};
 ghost use Rattle.sqval.specs.Database.{Database, page};
+ghost use Rattle.sqpage.specs.Freelist.{IsPage};
 ghost use Rattle.sqpage.specs.Lists.{Every};
-ghost use Rattle.sqpage.specs.Source.{sliced};
+ghost use Rattle.sqpage.specs.Source.{KeepsPages};
+ghost use Rattle.sqpage.specs.internal.Source.{sliced};
 ghost use Rattle.sqpage.specs.declared.fault.Fault.{Fault};
 
 use crate::fault::{CheckError, Fault};
@@ -36,15 +38,12 @@ pub trait PageSource {
     /// Reads page `p`, from 1, to `out`, which has the size of a page. Refused by `SourceError` where it can't be
     /// read; `out` may then hold anything.
     fn page(&mut self, p: u32, out: &mut [u8]) -> Result<(), SourceError>
-        requires above { 0 < p }
-        requires within { p ≤ length (pages self.old) }
+        requires page { IsPage (pages self.old) p }
         requires room { length out.old ≡ size self.old }
-        ensures read { gives_pages self.old → IsOk result × (out.new ≡ page (pages self.old) p) }
         // Each page has that size.
-        ensures sized { gives_pages self.old → Every (λ bytes. length bytes ≡ size self.old) (pages self.old) }
-        ensures still_gives { gives_pages self.old → gives_pages self.new }
-        ensures same_pages { pages self.new ≡ pages self.old }
-        ensures same_size { size self.new ≡ size self.old };
+        ensures read { gives_pages self.old → IsOk result × (out.new ≡ page (pages self.old) p) × Every
+            (λ bytes. length bytes ≡ size self.old) (pages self.old) }
+        ensures keeps { KeepsPages pages size gives_pages self.old self.new };
 }
 
 /// The pages of a file that lies in memory.
@@ -108,13 +107,10 @@ pub(crate) fn read_page<S: PageSource>(
     p: u32,
     out: &mut [u8],
 ) -> Result<(), CheckError>
-    requires above { 0 < p }
-    requires within { p ≤ length (S.pages source.old) }
+    requires page { IsPage (S.pages source.old) p }
     requires room { length out.old ≡ S.size source.old }
     ensures read { S.gives_pages source.old → IsOk result × (out.new ≡ page (S.pages source.old) p) }
-    ensures still_gives { S.gives_pages source.old → S.gives_pages source.new }
-    ensures same_pages { S.pages source.new ≡ S.pages source.old }
-    ensures same_size { S.size source.new ≡ S.size source.old }
+    ensures keeps { KeepsPages S.pages S.size S.gives_pages source.old source.new }
     ensures err { IfErr result (λ e. (e.fault ≡ Fault.Source) × (e.page ≡ p)) }
 {
     source.page(p, out).map_err(|_| CheckError {

@@ -1,6 +1,6 @@
 //! Which pages of a source were taken (own).
 ghost use Rattle.std.specs.Prelude.{◌≡◌, false, length, IfOk, OnOk, OnErr, IfErr, replicate};
-ghost use Rattle.sqpage.specs.Taking.{Marks, MarkRefused};
+ghost use Rattle.sqpage.specs.internal.Taking.{Marks, MarkRefused};
 
 use crate::fault::{CheckError, Fault};
 use std::alloc::{AllocError, Global};

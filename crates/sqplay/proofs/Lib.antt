@@ -1,4 +1,4 @@
-pub mod Records
-pub mod Lasts
-pub mod Playing
-pub mod Settling
+pub mod ConsecutiveRecords
+pub mod ChangeOfLastFile
+pub mod PlayedRecords
+pub mod ForgottenFiles

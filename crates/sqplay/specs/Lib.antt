@@ -2,3 +2,4 @@ pub mod Trace
 pub mod Files
 pub mod Names
 pub mod Plays
+pub mod internal

@@ -1,5 +1,5 @@
 -- What a trace says (own, docs/TRACE.md).
-use Rattle.std.specs.Prelude.{◌≡◌, ◌⊎◌, ℕ, ◌+◌, ◌<◌, ◌≤◌, ◌^◌, Bool, true, false, ◌||◌, IsTrue, nat_le, cond, List, [], ◌∷◌, length, take, drop, Option, Some, None, Result, Ok, Err}
+use Rattle.std.specs.Prelude.{◌≡◌, ◌⊎◌, ℕ, ◌+◌, ◌<◌, ◌≤◌, ◌^◌, Bool, true, false, ◌||◌, IsTrue, nat_le, cond, List, [], ◌∷◌, length, take, drop, Result, Ok, Err}
 use Rattle.byteorder.specs.Endian.{little_number}
 use Rattle.sqplay.specs.declared.trace.Kind.{Kind}
 use Rattle.sqplay.specs.declared.trace.Kind.TheVariants as kinds
@@ -118,20 +118,6 @@ IsDamagedAt b at = (at + 40 ≤ length b) × NamesNone b at
 abbrev pub AreRecords : List ℕ → (at : ℕ) → List Record → (end : ℕ) → Type 0
 AreRecords b at [] end = end ≡ at
 AreRecords b at (r ∷ records) end = IsRecordAt b at r × AreRecords b (at + 40 + carried r) records end
-
--- what stands at a place
-abbrev pub NextAnswer : List ℕ → (at : ℕ) → Result (Option Record) TraceError → Type 0
-NextAnswer b at (Ok (Some r)) = IsRecordAt b at r
-NextAnswer b at (Ok None) = IsCutAt b at
-NextAnswer b at (Err (Damaged place)) = (place ≡ at) × IsDamagedAt b at
-NextAnswer b at (Err _) = ⊥
-
--- what stands from a place on: records up to one that isn't there as a whole, or up to one that is none
-abbrev pub ListAnswer : List ℕ → (at : ℕ) → Result Trace TraceError → Type 0
-ListAnswer b at (Ok t) = AreRecords b at t.records.items t.end × IsCutAt b t.end
-ListAnswer b at (Err (Damaged place)) = (records : List Record) × AreRecords b at records place × IsDamagedAt b place
-ListAnswer b at (Err NoMemory) = Unit {0}
-ListAnswer b at (Err NotATrace) = ⊥
 
 -- The records of a trace: all that stand there as a whole.
 pub record IsTrace (b : List ℕ) (t : Trace) : Type 0 where

@@ -2,7 +2,8 @@
 ghost use Rattle.std.specs.Prelude.{◌≡◌, ◌≢◌, ◌+◌, ◌≤◌, ◌<◌, ◌^◌, ◌↔◌, IsTrue, ℕ, length, IfOk, IfErr, MatchOption};
 ghost use Rattle.std.specs.Prelude.{MatchResult, take};
 ghost use Rattle.sqplay.specs.Trace.{number_at, kind_number, subject_number, carries, speaks_of, HasMagic, IsHeadAt};
-ghost use Rattle.sqplay.specs.Trace.{IsNamed, NamesNone, NextAnswer, ListAnswer};
+ghost use Rattle.sqplay.specs.Trace.{IsNamed, NamesNone};
+ghost use Rattle.sqplay.specs.internal.Trace.{NextAnswer, ListAnswer};
 
 use byteorder::{ByteOrder, LittleEndian};
 use std::alloc::{AllocError, AllocFailed, Global};

@@ -1,5 +1,5 @@
-pub mod Shown
-pub mod Found
-pub mod Framing
-pub mod Committing
-pub mod Replaying
+pub mod ReportedView
+pub mod ReportedFindings
+pub mod CopiedFrames
+pub mod CopiedCommits
+pub mod CopiedRecords

@@ -1,5 +1,5 @@
 -- What the scan of a rollback journal answers.
-use Rattle.std.specs.Prelude.{◌≡◌, ℕ, suc, ◌<◌, ◌≤◌, List, length, get_or}
+use Rattle.std.specs.Prelude.{◌≡◌, ℕ, ◌<◌, ◌≤◌, List, length, get_or}
 use Rattle.sqval.specs.Bytes.{word}
 use Rattle.sqjournal.specs.Journal.{IsHot}
 use Rattle.sqjournal.specs.Took.{Says, Refuses}
@@ -32,10 +32,6 @@ no_entry = record { page = 0; at = 0 }
 -- the first n records
 abbrev pub AreRecordsOf : List Entry → (n : ℕ) → List Record → Type 0
 AreRecordsOf entries n records = (i : ℕ) (d : Record) → i < n → IsRecordOf (get_or entries i no_entry) (get_or records i d)
-
--- record i, from 1
-abbrev pub IsRecordAt : List Entry → (i : ℕ) → Record → Type 0
-IsRecordAt entries i it = (n : ℕ) → i ≡ suc n → IsRecordOf (get_or entries n no_entry) it
 
 -- the array begins with the n records of the journal that count
 pub record BeginsWithRecords (b : List ℕ) (n : ℕ) (records : List Record) : Type 0 where

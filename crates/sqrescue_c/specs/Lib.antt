@@ -4,3 +4,4 @@ pub mod Checks
 pub mod Logs
 pub mod Commits
 pub mod Journals
+pub mod internal

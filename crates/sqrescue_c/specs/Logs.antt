@@ -5,7 +5,6 @@ use Rattle.sqwal.specs.Frames.{page_of, size_of, IsValidFrame, IsFront}
 use Rattle.sqwal.specs.Stops.{IsStop}
 use Rattle.sqwal.specs.Answers.{LogRefused}
 use Rattle.sqwal.specs.declared.error.WalFormatError.{WalFormatError}
-use Rattle.sqwal.specs.declared.scan.Entry.{Entry}
 use Rattle.sqwal.specs.declared.scan.Why.{Why}
 use Rattle.sqrescue_c.specs.Statuses.{wal_status, wal_why}
 use Rattle.sqrescue_c.specs.declared.wal.Frame.{Frame}
@@ -26,12 +25,6 @@ pub record IsScanned (w : List ℕ) (out : WalReport) : Type 0 where
   pub why_is : Why
   pub numbered : out.why ≡ wal_why why_is
   pub stops : IsStop w out.stop why_is
-
-abbrev pub no_entry : Entry
-no_entry = record { page = 0; size = 0 }
-
-abbrev pub frame_of : Entry → Frame
-frame_of entry = record { page = entry.page; size = entry.size }
 
 -- the array begins with the first n frames of the log
 pub record AreFrames (w : List ℕ) (n : ℕ) (frames : List Frame) : Type 0 where

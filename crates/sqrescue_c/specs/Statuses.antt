@@ -12,25 +12,6 @@ use Rattle.sqview.specs.declared.judge_error.JudgeError.{JudgeError}
 use Rattle.sqview.specs.declared.judge_error.JudgeError.TheVariants as judged
 use Rattle.sqview.specs.declared.view_error.ViewError.{ViewError}
 use Rattle.sqview.specs.declared.view_error.ViewError.TheVariants as viewed
-use Rattle.sqrescue_c.specs.declared.status.Status.{Status}
-use Rattle.sqrescue_c.specs.declared.status.Status.TheVariants as statuses
-
-abbrev pub number_of : Status → ℕ
-number_of statuses.Done = 0
-number_of statuses.Damaged = 1
-number_of statuses.TwoLogs = 2
-number_of statuses.TooLarge = 3
-number_of statuses.AutoVacuum = 4
-number_of statuses.NotADatabase = 5
-number_of statuses.NoMemory = 6
-number_of statuses.NoSuchPage = 7
-number_of statuses.WrongSize = 8
-number_of statuses.NoRoom = 9
-number_of statuses.NoSuchCommit = 10
-number_of statuses.Magic = 11
-number_of statuses.PageSize = 12
-number_of statuses.Sum = 13
-number_of statuses.Version = 14
 
 -- what refuses a view; bytes in memory are never unread
 abbrev pub view_status : ViewError → ℕ

@@ -3,7 +3,8 @@ ghost use Rattle.std.specs.Prelude.{◌≡◌, ◌≢◌, ◌⊎◌, ◌<◌, �
 ghost use Rattle.sqjournal.specs.Took.{Took, Says, Refuses};
 ghost use Rattle.sqjournal.specs.declared.reading.Record.{Record as Entry};
 ghost use Rattle.sqjournal.specs.declared.replay.Stop.{Stop as End};
-ghost use Rattle.sqrescue_c.specs.Journals.{IsReplayed, BeginsWithRecords, JournalRefused, AreRecordsOf, IsRecordAt};
+ghost use Rattle.sqrescue_c.specs.Journals.{IsReplayed, BeginsWithRecords, JournalRefused, AreRecordsOf};
+ghost use Rattle.sqrescue_c.specs.internal.Journals.{IsRecordAt};
 ghost use Rattle.sqrescue_c.specs.Statuses.{journal_why};
 
 use crate::status::{Status, journal_number};

@@ -1,6 +1,7 @@
 //! What the calls answer (own).
 ghost use Rattle.std.specs.Prelude.{◌≡◌};
-ghost use Rattle.sqrescue_c.specs.Statuses.{number_of, view_status, judge_status, wal_status, journal_status};
+ghost use Rattle.sqrescue_c.specs.Statuses.{view_status, judge_status, wal_status, journal_status};
+ghost use Rattle.sqrescue_c.specs.internal.Statuses.{number_of};
 
 use sqjournal::JournalError;
 use sqview::{JudgeError, ViewError};

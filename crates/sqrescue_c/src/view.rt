@@ -3,7 +3,8 @@ ghost use Rattle.std.specs.Prelude.{◌≡◌, ◌≢◌, ◌⊎◌, ◌<◌, �
 ghost use Rattle.sqview.specs.At.{AtAnswer};
 ghost use Rattle.sqval.specs.Database.{page};
 ghost use Rattle.sqview.specs.Laid.{laid, part_or_zeros, place_of};
-ghost use Rattle.sqview.specs.LogView.{IsShown, ReadsFrom, ViewRefused, pages_of};
+ghost use Rattle.sqview.specs.LogView.{ReadsFrom, ViewRefused, pages_of};
+ghost use Rattle.sqview.specs.internal.LogView.{IsShown};
 ghost use Rattle.sqrescue_c.specs.Views.{HasSize, IsOpened, IsRefused, OpenRefused, IsOpenedAt, AtRefusedBy};
 
 use crate::status::{Status, view_number};

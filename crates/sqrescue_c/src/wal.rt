@@ -2,7 +2,8 @@
 ghost use Rattle.std.specs.Prelude.{◌≡◌, ◌≢◌, ◌⊎◌, ◌<◌, ◌≤◌, ℕ, List, length, get_or, IfOk, IfErr};
 ghost use Rattle.sqwal.specs.Answers.{LogRefused};
 ghost use Rattle.sqwal.specs.Took.{Took};
-ghost use Rattle.sqrescue_c.specs.Logs.{IsScanned, AreFrames, WalRefused, frame_of, no_entry, scanned_size};
+ghost use Rattle.sqrescue_c.specs.Logs.{IsScanned, AreFrames, WalRefused, scanned_size};
+ghost use Rattle.sqrescue_c.specs.internal.Logs.{frame_of, no_entry};
 ghost use Rattle.sqrescue_c.specs.Statuses.{wal_why};
 
 use crate::status::{Status, wal_number};

@@ -1,12 +1,3 @@
-pub mod PageSizes
-pub mod Varints
-pub mod Parsing
-pub mod Refusals
-pub mod Integers
-pub mod Writing
-pub mod PageNumbers
-pub mod Supplied
-pub mod Faultless
-pub mod FilePages
-pub mod Answering
-pub mod Strides
+pub mod page
+pub mod payload
+pub mod database

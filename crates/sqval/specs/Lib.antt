@@ -6,7 +6,6 @@ pub mod Datum
 pub mod Serial
 pub mod RecordError
 pub mod Record
-pub mod Shown
 pub mod Shortest
 pub mod Answers
 pub mod Runs
@@ -14,3 +13,4 @@ pub mod CommitFaults
 pub mod Held
 pub mod JudgedPages
 pub mod Limits
+pub mod internal

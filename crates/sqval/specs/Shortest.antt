@@ -1,8 +1,8 @@
 -- The shortest record of values (fileformat2, 2.1; that it is the shortest is own).
-use Rattle.std.specs.Prelude.{◌≡◌, ℕ, ◌+◌, ◌-◌, ◌*◌, ◌^◌, ◌<◌, ◌≤◌, ℤ, pos, negsuc, List, length, sum_by, nat_lt, if◌then◌else◌, ⊤}
+use Rattle.std.specs.Prelude.{ℕ, ◌+◌, ◌-◌, ◌*◌, ◌^◌, ◌<◌, ◌≤◌, ℤ, pos, negsuc, List, length, sum_by, nat_lt, if◌then◌else◌}
 use Rattle.sqval.specs.Bytes.{AreBytes}
 use Rattle.sqval.specs.Datum.{Datum, null, integer, real, text, blob}
-use Rattle.sqval.specs.Serial.{body_size, held}
+use Rattle.sqval.specs.Serial.{body_size}
 use Rattle.sqval.specs.Record.{IsRecord, most_bytes}
 
 -- a record of the values, of which no record is shorter
@@ -64,21 +64,8 @@ pub record IsSizeOfHeaderSize (types size : ℕ) : Type 0 where
   pub enough : types + size < 128 ^ size
   pub least : 1 < size → 128 ^ (size - 1) ≤ types + (size - 1)
 
--- a value that is not too long by itself
-abbrev pub IsWritable : Datum → Type 0
-IsWritable null = ⊤
-IsWritable (integer number) = ⊤
-IsWritable (real bytes) = ⊤
-IsWritable (text bytes) = length bytes ≤ most_bytes
-IsWritable (blob bytes) = length bytes ≤ most_bytes
-
 -- the header's size, the types and the bodies come to too many bytes, however short
 abbrev pub IsTooLarge : List Datum → Type 0
 IsTooLarge values =
     (size : ℕ) → IsSizeOfHeaderSize (types_size values) size
     → most_bytes < size + types_size values + bodies_size values
-
--- a body of the shortest type that holds the value
-pub record IsShortestBody (value : Datum) (body : List ℕ) : Type 0 where
-  pub size : length body ≡ body_size (shortest_serial value)
-  pub holds : held (shortest_serial value) body ≡ value

@@ -6,8 +6,9 @@ ghost use Rattle.std.specs.List.Sorted.{IsPermutation, IsNonDecreasing, IsStrict
 ghost use Rattle.sqval.specs.Bytes.{AreBytes};
 ghost use Rattle.sqval.specs.Database.{Pages};
 ghost use Rattle.sqval.specs.CommitFaults.{most_bytes, has_twice, first_true, page_faults};
-ghost use Rattle.sqval.specs.JudgedPages.{fault_number, lent, numbers_of, Misses, Judged, number_faults, set_faults};
-ghost use Rattle.sqval.specs.JudgedPages.{size_faults};
+ghost use Rattle.sqval.specs.JudgedPages.{fault_number, lent, Judged};
+ghost use Rattle.sqval.specs.internal.JudgedPages.{numbers_of, Misses, number_faults, set_faults};
+ghost use Rattle.sqval.specs.internal.JudgedPages.{size_faults};
 
 use crate::limits::Limits;
 use crate::page_size::PageSize;

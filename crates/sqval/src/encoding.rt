@@ -5,7 +5,8 @@ ghost use Rattle.sqval.specs.Varint.{Spells};
 ghost use Rattle.sqval.specs.Datum.{datum_of, integer, row_of};
 ghost use Rattle.sqval.specs.Record.{Lead, Hold, IsRecord, most_bytes};
 ghost use Rattle.sqval.specs.Shortest.{IsShortestRecord, AreTooLong, IsTooLarge, shortest_serial, varint_size};
-ghost use Rattle.sqval.specs.Shortest.{types_size, bodies_size, IsSizeOfHeaderSize, IsWritable, IsShortestBody};
+ghost use Rattle.sqval.specs.Shortest.{types_size, bodies_size, IsSizeOfHeaderSize};
+ghost use Rattle.sqval.specs.internal.Shortest.{IsWritable, IsShortestBody};
 ghost use Rattle.sqval.specs.declared.error.RecordError.{RecordError};
 
 use crate::error::RecordError;

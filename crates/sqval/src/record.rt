@@ -24,7 +24,7 @@ impl<'a> Model for Record<'a> {
     ghost use Rattle.std.specs.Prelude.{◌≡◌, ◌≤◌, List, length, sum_by};
     ghost use Rattle.sqval.specs.Datum.{Datum};
     ghost use Rattle.sqval.specs.Serial.{body_size};
-    ghost use Rattle.sqval.specs.Shown.{serials, values_held};
+    ghost use Rattle.sqval.specs.internal.Shown.{serials, values_held};
 
     ghost Value = { List Datum };
 
@@ -111,7 +111,7 @@ impl<'a> Model for Columns<'a> {
     ghost use Rattle.std.specs.Prelude.{◌≤◌, List, length, sum_by};
     ghost use Rattle.sqval.specs.Datum.{Datum};
     ghost use Rattle.sqval.specs.Serial.{body_size};
-    ghost use Rattle.sqval.specs.Shown.{serials, values_held};
+    ghost use Rattle.sqval.specs.internal.Shown.{serials, values_held};
 
     ghost Value = { List Datum };
 

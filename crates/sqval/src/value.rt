@@ -2,7 +2,8 @@
 ghost use Rattle.std.specs.Prelude.{◌≡◌, ◌↔◌, length, IsTrue};
 ghost use Rattle.sqval.specs.Datum.{datum_of};
 ghost use Rattle.sqval.specs.Serial.{body_size, held};
-ghost use Rattle.sqval.specs.Shortest.{IsWritable, shortest_serial, integer_serial};
+ghost use Rattle.sqval.specs.Shortest.{shortest_serial, integer_serial};
+ghost use Rattle.sqval.specs.internal.Shortest.{IsWritable};
 
 use crate::record::MOST_BYTES;
 use byteorder::{BigEndian, ByteOrder};

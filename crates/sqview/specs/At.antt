@@ -82,8 +82,5 @@ AtAnswerWithin limits bytes m db wal journal (Err e) = AtRefusedWithin limits m 
 abbrev pub AtRefused : (m : ℕ) (db wal journal : List ℕ) → ViewError → Type 0
 AtRefused m db wal journal e = AtRefusedWithin usual m db wal journal e
 
-abbrev pub IsShownAt : {F : Type 0} → (bytes : F → List ℕ) → (m : ℕ) (db wal journal : List ℕ) → View F → Type 0
-IsShownAt bytes m db wal journal v = IsShownAtWithin usual bytes m db wal journal v
-
 abbrev pub AtAnswer : {F : Type 0} → (bytes : F → List ℕ) → (m : ℕ) (db wal journal : List ℕ) → Result (View F) ViewError → Type 0
 AtAnswer bytes m db wal journal r = AtAnswerWithin usual bytes m db wal journal r

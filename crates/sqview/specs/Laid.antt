@@ -1,15 +1,11 @@
 -- How a view holds its pages.
-use Rattle.std.specs.Prelude.{◌≡◌, ℕ, ◌+◌, ◌-◌, ◌==◌, cond, List, map, get_or, take}
+use Rattle.std.specs.Prelude.{ℕ, ◌+◌, ◌-◌, ◌==◌, cond, List, map, get_or}
 use Rattle.std.specs.List.{range_with_len}
 use Rattle.sqval.specs.Database.{Database, file_page}
 
 -- so many bytes of a file from a place on, with zeros past the file's end
 unfoldable pub part_or_zeros : (size at : ℕ) → (file : List ℕ) → List ℕ
 part_or_zeros size at file = map (λ i. get_or file (at + i) 0) (range_with_len 0 size)
-
--- what is held are the file's bytes from a place on
-abbrev pub HoldsPart : (file : List ℕ) (from held : ℕ) (piece : List ℕ) → Type 0
-HoldsPart file from held piece = take held piece ≡ part_or_zeros held from file
 
 -- where page p's bytes begin in the log, 0 where the file's own count
 abbrev pub place_of : (places : List ℕ) → (p : ℕ) → ℕ

@@ -4,6 +4,7 @@ pub mod Logs
 pub mod LogView
 pub mod At
 pub mod Numbers
-pub mod ViewParts
 pub mod Verdicts
 pub mod Ahead
+pub mod Shapes
+pub mod internal

@@ -111,9 +111,6 @@ ViewAnswerWithin limits bytes db wal journal (Err e) = ViewRefusedWithin limits 
 abbrev pub ViewRefused : (db wal journal : List ℕ) → ViewError → Type 0
 ViewRefused db wal journal e = ViewRefusedWithin usual db wal journal e
 
-abbrev pub IsShown : {F : Type 0} → (bytes : F → List ℕ) → (db wal journal : List ℕ) → View F → Type 0
-IsShown bytes db wal journal v = IsShownWithin usual bytes db wal journal v
-
 abbrev pub ViewAnswer : {F : Type 0} → (bytes : F → List ℕ) → (db wal journal : List ℕ) → Result (View F) ViewError → Type 0
 ViewAnswer bytes db wal journal r = ViewAnswerWithin usual bytes db wal journal r
 

@@ -21,9 +21,6 @@ abbrev pub FindsWith : (maps : Bool) → Database → (size : ℕ) → Verdict �
 FindsWith maps d size (Clean report) = (w : WellFormedWith maps d size) × IsReport d w.places report
 FindsWith maps d size (Damaged e) = StandsWith maps d size e.fault e.page × ¬ WellFormedWith maps d size
 
-abbrev pub Finds : Database → (size : ℕ) → Verdict → Type 0
-Finds = FindsWith false
-
 -- the same of a view
 abbrev pub IsVerdictWith : {F : Type 0} → (maps : Bool) → (bytes : F → List ℕ) → View F → Verdict → Type 0
 IsVerdictWith maps bytes v verdict = FindsWith maps (pages_of bytes v) v.page_size verdict

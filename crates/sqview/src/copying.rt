@@ -2,6 +2,7 @@
 ghost use Rattle.std.specs.Prelude.{◌≡◌, ◌≢◌, Err, IfErr, OnErr, OnOk};
 ghost use Rattle.std.specs.List.{concat};
 ghost use Rattle.std.specs.Io.KnownBytes.{Appends, append_known};
+ghost use Rattle.sqpage.specs.Source.{KeepsPages};
 ghost use Rattle.sqview.specs.declared.copying.CopyError.TheVariants.{Unread, Unwritten, NoMemory};
 
 use sqpage::{PageSource, SourceError};
@@ -76,9 +77,7 @@ pub fn copy<S: PageSource, W: Write>(
     ensures copied { S.gives_pages source.old
         → OnOk result (Appends (W.contents out.old) (W.contents out.new) (concat (S.pages source.old))) }
     ensures unread { S.gives_pages source.old → IfErr result (λ e. e ≢ Unread) }
-    ensures still_gives { S.gives_pages source.old → S.gives_pages source.new }
-    ensures same_pages { S.pages source.new ≡ S.pages source.old }
-    ensures same_size { S.size source.new ≡ S.size source.old }
+    ensures keeps { KeepsPages S.pages S.size S.gives_pages source.old source.new }
 {
     let mut page = vec![in alloc; 0u8; source.page_size().get() as usize]?;
     let mut run = Vec::with_capacity(alloc, RUN)?;

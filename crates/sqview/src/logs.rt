@@ -3,11 +3,11 @@ ghost use Rattle.std.specs.Prelude.{◌≡◌, ℕ, ◌+◌, ◌^◌, ◌≤◌,
 ghost use Rattle.sqwal.specs.Took.{TookWithin};
 ghost use Rattle.sqjournal.specs.Took.{Took as ReplayTook};
 ghost use Rattle.sqview.specs.Logs.{HotAnswer, ScanAnswer, ScanAnswerWithin, ReplayAnswer, CountsAnswer};
-ghost use Rattle.sqview.specs.ViewParts.{ScanPiece, ReplayPiece};
+ghost use Rattle.sqview.specs.internal.ViewParts.{ScanPiece, ReplayPiece};
 
 use crate::file_bytes::FileBytes;
 use crate::view_error::ViewError;
-use sqjournal::{JournalError, JournalHeader, Replay};
+use sqjournal::{JournalError, JournalHeader, LONGEST, Replay};
 use sqpage::SourceError;
 use sqval::Limits;
 use sqwal::{Scan, WalFormatError};
@@ -15,9 +15,6 @@ use std::alloc::Global;
 
 /// How much of a log is read at once, in bytes.
 const PIECE: usize = 65_536;
-
-/// The longest journal that is read, in bytes.
-const LONGEST: u64 = 1 << 40;
 
 /// The log that counts beside a database file.
 #[derive(Clone, Copy, Debug, PartialEq, Eq)]

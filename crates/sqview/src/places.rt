@@ -5,7 +5,7 @@ ghost use Rattle.sqwal.specs.Header.{named_size};
 ghost use Rattle.sqwal.specs.Frames.{IsValidFrame, frame_at};
 ghost use Rattle.sqjournal.specs.Took.{Took as ReplayTook};
 ghost use Rattle.sqview.specs.Origins.{AreFramePlaces};
-ghost use Rattle.sqview.specs.ViewParts.{AreRecordPlaces, Noted};
+ghost use Rattle.sqview.specs.internal.ViewParts.{AreRecordPlaces, Noted};
 
 use crate::view_error::ViewError;
 use sqjournal::Replay;

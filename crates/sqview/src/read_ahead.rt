@@ -1,6 +1,6 @@
 //! A file of which some bytes are read ahead.
 ghost use Rattle.std.specs.Prelude.{◌≡◌, ◌+◌, ◌≤◌, ℕ, List, length, IsOk, IfOk, MatchOption};
-ghost use Rattle.sqview.specs.Laid.{HoldsPart};
+ghost use Rattle.sqview.specs.internal.Laid.{HoldsPart};
 
 use crate::file_bytes::FileBytes;
 use sqpage::SourceError;

@@ -1,6 +1,10 @@
 //! The database that a file and the log beside it show, as a source of pages.
-ghost use Rattle.std.specs.Prelude.{◌≡◌, ◌<◌};
+ghost use Rattle.std.specs.Prelude.{◌≡◌, ◌<◌, length, IsOk};
+ghost use Rattle.sqval.specs.Database.{page};
+ghost use Rattle.sqpage.specs.Freelist.{IsPage};
 ghost use Rattle.sqview.specs.Laid.{place_of, laid};
+ghost use Rattle.sqview.specs.LogView.{pages_of};
+ghost use Rattle.sqview.specs.Shapes.{shape_of};
 
 mod at_commit;
 mod opening;
@@ -66,6 +70,27 @@ impl<F> View<F> {
     }
 }
 
+impl<F: FileBytes> View<F> {
+    /// Reads page `p`, from 1, to `out`, which has the size of a page, and changes nothing of the view but the state of
+    /// its files. Refused as the source's `page` is.
+    pub fn read(&mut self, p: u32, out: &mut [u8]) -> Result<(), SourceError>
+        requires page { IsPage (pages_of F.bytes self.old) p }
+        requires room { length out.old ≡ self.old.page_size }
+        ensures read { F.gives_bytes self.old.db × F.gives_bytes self.old.log → IsOk result
+            × (out.new ≡ page (pages_of F.bytes self.old) p) }
+        ensures still_gives { F.gives_bytes self.old.db × F.gives_bytes self.old.log
+            → F.gives_bytes self.new.db × F.gives_bytes self.new.log }
+        ensures same { shape_of F.bytes self.new ≡ shape_of F.bytes self.old }
+    {
+        let size = u64::from(self.page_size.get());
+        let at = self.place(p);
+        if at == 0 {
+            return self.db.read_at(u64::from(p - 1) * size, out);
+        }
+        self.log.read_at(at, out)
+    }
+}
+
 impl<F: FileBytes> PageSource for View<F> {
     ghost pages = { λ v. laid v.page_size v.count (F.bytes v.db) (F.bytes v.log) v.places.items };
 
@@ -82,11 +107,6 @@ impl<F: FileBytes> PageSource for View<F> {
     }
 
     fn page(&mut self, p: u32, out: &mut [u8]) -> Result<(), SourceError> {
-        let size = u64::from(self.page_size.get());
-        let at = self.place(p);
-        if at == 0 {
-            return self.db.read_at(u64::from(p - 1) * size, out);
-        }
-        self.log.read_at(at, out)
+        self.read(p, out)
     }
 }

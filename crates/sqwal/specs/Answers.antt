@@ -45,9 +45,6 @@ pub record AreEntriesWithin (limit : ℕ) (b : List ℕ) (entries : List Entry) 
   pub pages : (i : ℕ) (d : Entry) → i < length entries → (get_or entries i d).page ≡ page_of (named_size b) b (suc i)
   pub sizes : (i : ℕ) (d : Entry) → i < length entries → (get_or entries i d).size ≡ size_of (named_size b) b (suc i)
 
-abbrev pub AreEntries : List ℕ → List Entry → Type 0
-AreEntries b entries = AreEntriesWithin most_frames b entries
-
 -- The front, the size of the database there, and the place behind its last frame: 32 where there is a header and no
 -- front, 0 where there is no header. No frame up to it is above the limit.
 pub record IsCommittedWithin (limit : ℕ) (b : List ℕ) (f : Front) : Type 0 where
@@ -56,6 +53,3 @@ pub record IsCommittedWithin (limit : ℕ) (b : List ℕ) (f : Front) : Type 0 w
   pub none : f.frames ≡ 0 → f.size ≡ 0
   pub some : 1 ≤ f.frames → f.size ≡ size_of (named_size b) b f.frames
   pub end : f.end ≡ cond (nat_lt (length b) 32) 0 (frame_end (named_size b) f.frames)
-
-abbrev pub IsCommitted : List ℕ → Front → Type 0
-IsCommitted b f = IsCommittedWithin most_frames b f

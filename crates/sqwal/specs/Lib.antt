@@ -1,5 +1,4 @@
 pub mod Sums
-pub mod Magic
 pub mod Header
 pub mod Frames
 pub mod Log
@@ -7,9 +6,8 @@ pub mod View
 pub mod Stops
 pub mod Slots
 pub mod Index
-pub mod Chains
 pub mod Refusal
 pub mod Took
 pub mod Answers
 pub mod Commits
-pub mod ScanParts
+pub mod internal

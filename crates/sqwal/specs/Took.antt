@@ -77,6 +77,3 @@ Took b s = TookWithin most_frames b s
 -- whatever bytes follow, the scan is one of them all
 abbrev pub IsSettledWithin : (most : ℕ) → List ℕ → Scan → Type 0
 IsSettledWithin most b s = (more : List ℕ) → AreBytes more → TookWithin most (b ++ more) s
-
-abbrev pub IsSettled : List ℕ → Scan → Type 0
-IsSettled b s = IsSettledWithin most_frames b s

@@ -27,7 +27,7 @@ pub struct FrameIndex {
 
 impl Model for FrameIndex {
     ghost use Rattle.sqwal.specs.Index.{FrameTable};
-    ghost use Rattle.sqwal.specs.Chains.{table_of, IsIndex};
+    ghost use Rattle.sqwal.specs.internal.Chains.{table_of, IsIndex};
     ghost use Rattle.std.specs.Prelude.{vec_capacity};
 
     ghost Value = { FrameTable };

@@ -4,7 +4,7 @@ ghost use Rattle.std.specs.Prelude.{if◌then◌else◌, is_ok, OnErr, IfOk, IfE
 ghost use Rattle.sqval.specs.Bytes.{word};
 ghost use Rattle.sqval.specs.PageSize.{IsPageSize};
 ghost use Rattle.sqwal.specs.Header.{IsHeaderOf};
-ghost use Rattle.sqwal.specs.ScanParts.{NamesSalts, NamesSum, GoesOver, IsJudged};
+ghost use Rattle.sqwal.specs.internal.ScanParts.{NamesSalts, NamesSum, GoesOver, IsJudged};
 
 use crate::error::WalFormatError;
 use crate::header::WalHeader;
@@ -171,7 +171,7 @@ struct Progress {
 
 impl Progress {
     ghost use Rattle.sqval.specs.Limits.{greatest};
-    ghost use Rattle.sqwal.specs.ScanParts.{progress_behind};
+    ghost use Rattle.sqwal.specs.internal.ScanParts.{progress_behind};
 
     /// One valid frame further.
     fn behind(self, header: &WalHeader, entry: Entry, sum: Sum) -> Progress
@@ -205,7 +205,7 @@ struct FrameList {
 }
 
 impl FrameList {
-    ghost use Rattle.sqwal.specs.ScanParts.{ListTook, KeepsFrames, KeepsLimits, IsPushed, FramesRefused};
+    ghost use Rattle.sqwal.specs.internal.ScanParts.{ListTook, KeepsFrames, KeepsLimits, IsPushed, FramesRefused};
 
     /// No frames yet, behind a whole header.
     fn new(alloc: Global, limits: Limits, header: &WalHeader, head: &[u8; 32]) -> FrameList
@@ -302,9 +302,10 @@ impl Scan {
     ghost use Rattle.sqwal.specs.Stops.{IsStop};
     ghost use Rattle.sqwal.specs.Answers.{FeedAnswerWithin, HeaderFound, EntryFound, AreEntriesWithin};
     ghost use Rattle.sqwal.specs.Answers.{IsCommittedWithin};
-    ghost use Rattle.sqwal.specs.ScanParts.{ListTook, ScanTook, HasTaken, KeepsHeld, KeepsFrames, KeepsLimits, IsFed};
-    ghost use Rattle.sqwal.specs.ScanParts.{IsBegunScan};
-    ghost use Rattle.sqwal.specs.ScanParts.{IsCompleted, FramesRefused};
+    ghost use Rattle.sqwal.specs.internal.ScanParts.{ListTook, ScanTook, HasTaken, KeepsHeld, KeepsFrames};
+    ghost use Rattle.sqwal.specs.internal.ScanParts.{KeepsLimits, IsFed};
+    ghost use Rattle.sqwal.specs.internal.ScanParts.{IsBegunScan};
+    ghost use Rattle.sqwal.specs.internal.ScanParts.{IsCompleted, FramesRefused};
 
     /// A scan of no bytes, at the usual limit.
     pub fn new(alloc: Global) -> Scan

@@ -19,7 +19,7 @@ const MAGIC_BIG: u32 = 0x377f0683;
 impl Order {
     ghost use Rattle.std.specs.Prelude.{MatchOption};
     ghost use Rattle.sqwal.specs.declared.sum.Order.{Order};
-    ghost use Rattle.sqwal.specs.Magic.{NamesOrder};
+    ghost use Rattle.sqwal.specs.internal.Magic.{NamesOrder};
 
     /// The order that a log's magic names.
     pub(crate) fn named(magic: u32) -> Option<Order>
@@ -64,7 +64,7 @@ impl Sum {
     }
 
     /// The sum that goes on over these bytes, pairs of 32-bit words in the order.
-    #[tactic(auto, using(crate::proofs::Sums::number_big, crate::proofs::Sums::number_little))]
+    #[tactic(auto, using(crate::proofs::checksum::Sums::number_big, crate::proofs::checksum::Sums::number_little))]
     pub fn add(self, bytes: &[u8], order: Order) -> Sum
         requires { length bytes.now % 8 ≡ 0 }
         ensures { GoesOn order bytes.now self result }

@@ -1,2 +1,2 @@
-pub mod Lines
-pub mod Asking
+pub mod CommandLineArguments
+pub mod OptionsOfCommand

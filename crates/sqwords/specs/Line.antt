@@ -141,11 +141,6 @@ abbrev pub AsksTo : (options : List (List ℕ)) → Option (Bor (List ℕ)) → 
 AsksTo options None = HasNoText (codes "--to") options
 AsksTo options (Some to) = HasText (codes "--to") options to.now
 
--- the options of a report say this: the file that it makes, and what else is asked
-abbrev pub IsReport : (options : List (List ℕ)) → (file : Bor (List ℕ)) → Options → Request → Type 0
-IsReport options file o request = AreKnown true options × (¬ Contains options (codes "--force"))
-    × ((to : Bor (List ℕ)) × HasText (codes "--to") options to.now × (request ≡ Report file to o))
-
 -- they can't be a report's: another one is among them, or the file to be made isn't named
 abbrev pub AreNoReport : (options : List (List ℕ)) → Type 0
 AreNoReport options = (¬ AreKnown true options) ⊎ Contains options (codes "--force") ⊎ HasNoText (codes "--to") options

@@ -3,10 +3,13 @@ ghost use Rattle.std.specs.Prelude.{◌≡◌, ◌≢◌, ◌⊎◌, ◌<◌, �
 ghost use Rattle.std.specs.Prelude.{IfSome, IsTrue, MatchOption};
 ghost use Rattle.std.specs.List.{Contains};
 ghost use Rattle.sqwords.specs.Line.{AreKnown, AreNoReport, AreOptions, Asks, AsksAt, AsksBesides, AsksBoth};
-ghost use Rattle.sqwords.specs.Line.{AsksNoPart, IsReport};
+ghost use Rattle.sqwords.specs.Line.{AsksNoPart};
+ghost use Rattle.sqwords.specs.internal.Line.{IsReport};
 ghost use Rattle.sqwords.specs.Line.{AsksNoneBesides, AsksNothing, AsksOf, AsksPart, AsksStyle, AsksVersion};
-ghost use Rattle.sqwords.specs.Line.{HasNoText, HasText, IsCommon, IsFile, IsFrameNumber, IsKnown, IsNamed};
-ghost use Rattle.sqwords.specs.Line.{IsPageNumber, IsPlain, MayBeAt, NamesNoFrame, NamesOfLog, StandsFree, TakesValue};
+ghost use Rattle.sqwords.specs.Line.{HasNoText, HasText, IsCommon, IsFile, IsKnown};
+ghost use Rattle.sqwords.specs.Line.{IsFrameNumber, IsNamed};
+ghost use Rattle.sqwords.specs.Line.{IsPlain, MayBeAt, NamesNoFrame, NamesOfLog, StandsFree, TakesValue};
+ghost use Rattle.sqwords.specs.Line.{IsPageNumber};
 
 use crate::requests::{Options, Part, Request, Style, SuperJournal};
 

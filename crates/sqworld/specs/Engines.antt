@@ -1,5 +1,5 @@
 -- How the engine of a run, or the disk without one, goes from one event to the next (own).
-use Rattle.std.specs.Prelude.{◌≡◌, ℕ, Bool, true, false, ◌&&◌, List, replicate, Option, Some, None, is_some, IfSome, Result, Ok, Err}
+use Rattle.std.specs.Prelude.{◌≡◌, ℕ, Bool, true, false, ◌&&◌, List, replicate, Option, Some, None, is_some, IfSome}
 use Rattle.crashdisk.specs.Call.{DiskState, of, IsCrash}
 use Rattle.crashdisk.specs.Choice.{naming_of, image_of}
 use Rattle.crashdisk.specs.Count.{IsChoice}
@@ -11,18 +11,18 @@ use Rattle.crashdisk.specs.declared.file.File.{File}
 use Rattle.crashdisk.specs.declared.file.File.TheVariants.{Db, Log}
 use Rattle.crashdisk.specs.declared.held.Part.{Part}
 use Rattle.crashdisk.specs.declared.model.ModelDisk.{ModelDisk}
-use Rattle.sqval.specs.Answers.{Answer, Done, NoReader, Refused, Crashed}
+use Rattle.sqval.specs.Answers.{Answer, Crashed}
 use Rattle.walcore.specs.Machine.{Act, forgotten}
-use Rattle.walcore.specs.Fits.{Past, FitsAlone, AreFiles}
+use Rattle.walcore.specs.Fits.{Past, FitsAlone}
 use Rattle.sqworld.specs.Run.{act_of, answer_of, files_of, left_of, is_opening, is_crash}
 use Rattle.sqworld.specs.Sessions.{FitsSession, Serves, begun_by}
 use Rattle.sqworld.specs.declared.engine.Engine.{Engine}
 use Rattle.sqworld.specs.declared.engine.Engine.TheVariants.{Closed, Open}
 use Rattle.sqworld.specs.declared.engine.Given.{Given}
 use Rattle.sqworld.specs.declared.event.Event.{Event}
-use Rattle.sqworld.specs.declared.event.Event.TheVariants.{Read, End, StopAfter, StopAtSync, Fail, Crash, CrashAt}
+use Rattle.sqworld.specs.declared.event.Event.TheVariants.{StopAfter, StopAtSync, Fail, Crash, CrashAt}
 use Rattle.sqworld.specs.declared.reply.Crashed.{Crashed as CrashedLog}
-use Rattle.sqworld.specs.declared.reply.Reply.{Reply}
+use Rattle.recovery.specs.Files.{AreFiles}
 
 -- what is said of a crash: what it left of the log, on a disk that tears alone
 abbrev pub SaysLeft : (tears : Bool) → Option CrashedLog → Crashed → Type 0
@@ -111,15 +111,6 @@ begun_of (Open session) = begun_by session
 abbrev pub EngineServes : (page_size : ℕ) (old new : Engine) → Act → Answer → Type 0
 EngineServes page_size old new act answer = Serves page_size (λ past. FitsEngine past old) (λ past. FitsEngine past new) (disk_of old) (disk_of new) act answer
 
--- what is answered where no engine is there
-abbrev pub closed_answer : Event → Answer
-closed_answer (Read reader page) = NoReader
-closed_answer (End reader) = NoReader
-closed_answer (StopAfter n) = Done
-closed_answer (StopAtSync n) = Done
-closed_answer (Fail call part) = Done
-closed_answer event = Refused 1
-
 -- without an engine nothing is done to the disk but what is set, unless the event is an opening or a crash
 abbrev pub Rests : Event → (old new : Engine) → Type 0
 Rests event (Closed disk begun) new = is_opening event ≡ false → is_crash event ≡ false → IsCalm event disk (model_of new)
@@ -134,9 +125,3 @@ pub record Answers (page_size : ℕ) (tears : Bool) (event : Event) (old : Engin
   pub happens : Happens tears event given.crashed (model_of old) (model_of new)
   pub rests : Rests event old new
   pub serves : (disk_of old).tears ≡ tears → EngineServes page_size old new (act_of event given.found given.crashed) (answer_of given.reply)
-
--- a reply alone
-abbrev pub IsAlone : {E : Type 0} → Result Reply E → Result Given E → Type 0
-IsAlone (Ok reply) (Ok given) = given ≡ record { reply = reply; found = None; crashed = None }
-IsAlone (Err e) (Err f) = Unit {0}
-IsAlone _ _ = ⊥

@@ -5,12 +5,11 @@ use Rattle.crashdisk.specs.Keeps.{LooksOnce}
 use Rattle.crashdisk.specs.Model.{state_of}
 use Rattle.crashdisk.specs.Stop.{no_stops}
 use Rattle.crashdisk.specs.declared.model.ModelDisk.{ModelDisk}
-use Rattle.sqval.specs.Answers.{Answer, Done, Refused}
+use Rattle.sqval.specs.Answers.{Answer, Refused}
 use Rattle.rollcore.specs.Machine.{State, Act, Reads, Crashes, Sets, Step}
 use Rattle.rollcore.specs.Changes.{MayChange}
 use Rattle.rollcore.specs.Premises.{Permits}
-use Rattle.rollcore.specs.Fits.{FitsDisk, Fits, AreFiles}
-use Rattle.rollcore.specs.declared.roll.Roll.{Roll}
+use Rattle.rollcore.specs.Fits.{FitsDisk, Fits}
 use Rattle.sqworld.specs.Run.{answer_of, files_of}
 use Rattle.sqworld.specs.Engines.{IsLeftBy, IsLeftAt, stopping_after, stopping_at_sync, FailsAt}
 use Rattle.sqworld.specs.JournalRun.{act_of, is_opening, is_crash}
@@ -20,6 +19,7 @@ use Rattle.sqworld.specs.declared.journal_engine.JournalEngine.TheVariants.{Clos
 use Rattle.sqworld.specs.declared.journal_event.JEvent.{JEvent}
 use Rattle.sqworld.specs.declared.journal_event.JEvent.TheVariants.{StopAfter, StopAtSync, Fail, Crash, CrashAt}
 use Rattle.sqworld.specs.declared.reply.Crashed.{Crashed as CrashedLog}
+use Rattle.recovery.specs.Files.{AreFiles}
 
 -- a stop or a failure is set as the event says
 abbrev pub IsSetTo : JEvent → (old new : ModelDisk) → Type 0
@@ -67,11 +67,6 @@ abbrev pub Serves : (page_size : ℕ) (FitsOld FitsNext : State → Type 0) (old
 Serves page_size FitsOld FitsNext old new act answer =
     (past : State) → past.page_size ≡ page_size → FitsOld past → Permits act → ServesTo past act answer FitsNext old new
 
--- the same of an engine that is there
-abbrev pub RollServes : (page_size : ℕ) (old new : Roll ModelDisk) → Act → Answer → Type 0
-RollServes page_size old new act answer =
-    Serves page_size (λ past. Fits state_of old past) (λ past. Fits state_of new past) (state_of old.disk) (state_of new.disk) act answer
-
 -- what fits a disk without an engine
 pub record FitsClosed (past : State) (s : DiskState) : Type 0 where
   pub disk : FitsDisk past s
@@ -93,13 +88,6 @@ disk_of engine = state_of (model_of engine)
 -- one event, for whatever fits the engine
 abbrev pub EngineServes : (page_size : ℕ) (old new : JournalEngine) → Act → Answer → Type 0
 EngineServes page_size old new act answer = Serves page_size (λ past. FitsEngine past old) (λ past. FitsEngine past new) (disk_of old) (disk_of new) act answer
-
--- what is answered where no engine is there
-abbrev pub closed_answer : JEvent → Answer
-closed_answer (StopAfter n) = Done
-closed_answer (StopAtSync n) = Done
-closed_answer (Fail call part) = Done
-closed_answer event = Refused 1
 
 -- without an engine nothing is done to the disk but what is set, unless the event is an opening or a crash
 abbrev pub Rests : JEvent → (old new : JournalEngine) → Type 0

@@ -6,7 +6,7 @@ use Rattle.rollcore.specs.Machine.{State, Act, Step}
 use Rattle.rollcore.specs.Premises.{Holds}
 use Rattle.crashdisk.specs.declared.model.ModelDisk.{ModelDisk}
 use Rattle.sqworld.specs.Lives.{IsLife}
-use Rattle.sqworld.specs.Worlds.{IsNoted, BeginsOn}
+use Rattle.sqworld.specs.Worlds.{BeginsOn}
 use Rattle.sqworld.specs.JournalRun.{moments_of, IsComplete}
 use Rattle.sqworld.specs.JournalEngines.{disk_of, Answers}
 use Rattle.sqworld.specs.declared.base.Base.{Base}
@@ -15,12 +15,6 @@ use Rattle.sqworld.specs.declared.journal_engine.JournalEngine.{JournalEngine}
 use Rattle.sqworld.specs.declared.journal_engine.JournalEngine.TheVariants.{Closed}
 use Rattle.sqworld.specs.declared.journal_event.JEvent.{JEvent}
 use Rattle.sqworld.specs.declared.reply.Run.{Run}
-
--- an event is answered, and noted in the run
-pub record Goes (page_size : ℕ) (tears : Bool) (event : JEvent) (old : JournalEngine) (run : Run) (new : JournalEngine) (run_new : Run) : Type 0 where
-  pub given : Given
-  pub noted : IsNoted given (disk_of new).refused run run_new
-  pub answers : Answers page_size tears event old given new
 
 -- These moments are a run, at whose end something fits, on a disk that is what it was.
 pub record Fitting (size : ℕ) (tears : Bool) (first : State) (ms : List (Moment Act)) (FitsNow : State → Type 0) (s : DiskState) : Type 0 where

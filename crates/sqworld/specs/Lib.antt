@@ -10,3 +10,4 @@ pub mod JournalStepping
 pub mod JournalRun
 pub mod JournalEngines
 pub mod JournalWorlds
+pub mod internal

@@ -55,8 +55,3 @@ pub record ServesTo (past : Past) (act : Act) (answer : Answer) (FitsNext : Past
 abbrev pub Serves : (page_size : ℕ) (FitsOld FitsNext : Past → Type 0) (old new : DiskState) → Act → Answer → Type 0
 Serves page_size FitsOld FitsNext old new act answer =
     (past : Past) → past.state.page_size ≡ page_size → FitsOld past → Permits past.made act answer → ServesTo past act answer FitsNext old new
-
--- the same of an engine and its readers
-abbrev pub SessionServes : (page_size : ℕ) (old new : Session) → Act → Answer → Type 0
-SessionServes page_size old new act answer =
-    Serves page_size (λ past. FitsSession past old) (λ past. FitsSession past new) (state_of old.wal.disk) (state_of new.wal.disk) act answer

@@ -1,5 +1,5 @@
 -- How a run goes on (own).
-use Rattle.std.specs.Prelude.{◌≡◌, ℕ, Bool, List, [], ◌∷◌, ◌++◌, take, Option, Some, None}
+use Rattle.std.specs.Prelude.{◌≡◌, ℕ, Bool, List, [], ◌∷◌, ◌++◌, take}
 use Rattle.sqval.specs.PageSize.{IsPageSize}
 use Rattle.crashdisk.specs.Call.{DiskState, IsNew}
 use Rattle.crashdisk.specs.Model.{state_of}
@@ -28,28 +28,11 @@ pub record BeginsOn (base : Base) (disk : ModelDisk) : Type 0 where
   pub new : IsNew base.sector base.tears (concat (pages_of base.pages.items)) (state_of disk)
   pub unset : disk.stops ≡ no_stops
 
-abbrev pub list_of : {X : Type 0} → Option X → List X
-list_of None = []
-list_of (Some x) = x ∷ []
-
--- a run has one answer more
-pub record IsNoted (given : Given) (count : ℕ) (old new : Run) : Type 0 where
-  pub replies : new.replies.items ≡ old.replies.items ++ given.reply ∷ []
-  pub refused : new.refused.items ≡ old.refused.items ++ count ∷ []
-  pub found : new.found.items ≡ old.found.items ++ list_of given.found
-  pub crashed : new.crashed.items ≡ old.crashed.items ++ list_of given.crashed
-
 -- a run has one reply more, and it says what this one says
 pub record EndsWith (reply : Reply) (old new : Run) : Type 0 where
   pub last : Reply
   pub replies : new.replies.items ≡ old.replies.items ++ last ∷ []
   pub same : answer_of last ≡ answer_of reply
-
--- an event is answered, and noted in the run
-pub record Goes (page_size : ℕ) (tears : Bool) (event : Event) (old : Engine) (run : Run) (new : Engine) (run_new : Run) : Type 0 where
-  pub given : Given
-  pub noted : IsNoted given (disk_of new).refused run run_new
-  pub answers : Answers page_size tears event old given new
 
 -- what is made of logs from one moment to the next
 abbrev pub MakesAll : (size sector : ℕ) (tears : Bool) → Made → List (Moment Act) → Made → Type 0

@@ -5,11 +5,9 @@ ghost use Rattle.sqval.specs.PageSize.{IsPageSize};
 ghost use Rattle.sqworld.specs.Pages.{pages_of, ArePages, IsBase};
 ghost use Rattle.std.specs.Prelude.{◌≡◌, ◌↔◌, ◌<◌, IsSome, IfSome, IfOk, IsTrue, false, true};
 
+use recovery::MOST_BYTES;
 use sqval::PageSize;
 use std::alloc::{AllocError, Global};
-
-/// The most bytes of a database.
-const MOST_BYTES: usize = 1073741824;
 
 /// Whether a sector may have so many bytes.
 fn is_sector(bytes: usize) -> bool
@@ -26,7 +24,7 @@ fn are_pages(size: usize, pages: &[Vec<u8>]) -> bool
     requires { 0 < size }
     ensures { IsTrue result ↔ ArePages size (pages_of pages.now) }
 {
-    if pages.is_empty() || pages.len() > MOST_BYTES / size {
+    if pages.is_empty() || pages.len() > MOST_BYTES as usize / size {
         return false;
     }
     for page in pages {

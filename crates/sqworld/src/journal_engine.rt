@@ -3,11 +3,15 @@ ghost use Rattle.std.specs.Prelude.{◌≡◌, ℕ, Bool, false, None, IfOk, OnO
 ghost use Rattle.crashdisk.specs.Model.{state_of};
 ghost use Rattle.sqval.specs.Answers.{Files, Done, Page};
 ghost use Rattle.rollcore.specs.Machine.{State, Opens, Commits, Reads};
-ghost use Rattle.rollcore.specs.Fits.{FitsDisk, AreFiles, answered};
+ghost use Rattle.rollcore.specs.Fits.{FitsDisk};
 ghost use Rattle.sqworld.specs.Run.{answer_of, numbered};
 ghost use Rattle.sqworld.specs.JournalRun.{act_of, is_opening, is_crash};
-ghost use Rattle.sqworld.specs.JournalEngines.{IsSetTo, IsCalm, Rests, ServesTo, RollServes, closed_answer, FitsEngine};
+ghost use Rattle.sqworld.specs.JournalEngines.{IsSetTo, IsCalm, Rests, ServesTo, FitsEngine};
+ghost use Rattle.sqworld.specs.internal.JournalEngines.{RollServes, closed_answer};
 ghost use Rattle.sqworld.specs.JournalEngines.{model_of, disk_of, EngineServes, Answers};
+ghost use Rattle.recovery.specs.Files.{AreFiles};
+ghost use Rattle.recovery.specs.Moments.{answered};
+ghost use Rattle.rollcore.specs.Refusal.{number_of};
 
 use crate::engine::{Given, alone, crash_disk, crash_disk_at, fail_disk, find};
 use crate::journal_event::JEvent;
@@ -26,7 +30,7 @@ pub enum JournalEngine {
 
 /// What a commit answers.
 fn outcome(answer: Result<(), RollError>) -> Reply
-    ensures { answer_of result ≡ answered (λ _. Done) answer }
+    ensures { answer_of result ≡ answered number_of (λ _. Done) answer }
 {
     match answer {
         Ok(()) => Reply::Done,
@@ -36,7 +40,7 @@ fn outcome(answer: Result<(), RollError>) -> Reply
 
 /// What a read of these bytes answers.
 fn page_outcome(answer: Result<(), RollError>, bytes: Vec<u8>) -> Reply
-    ensures { answer_of result ≡ answered (λ _. Page bytes.items) answer }
+    ensures { answer_of result ≡ answered number_of (λ _. Page bytes.items) answer }
 {
     match answer {
         Ok(()) => Reply::Page(bytes),

@@ -6,7 +6,8 @@ ghost use Rattle.sqval.specs.Runs.{IsRun};
 ghost use Rattle.sqworld.specs.JournalRun.{moments_of, start_of, IsComplete};
 ghost use Rattle.sqworld.specs.JournalEngines.{disk_of};
 ghost use Rattle.sqworld.specs.Worlds.{EndsWith};
-ghost use Rattle.sqworld.specs.JournalWorlds.{Goes, HasLife};
+ghost use Rattle.sqworld.specs.JournalWorlds.{HasLife};
+ghost use Rattle.sqworld.specs.internal.JournalWorlds.{Goes};
 
 use crate::base::Base;
 use crate::journal_engine::JournalEngine;

@@ -1,14 +1,15 @@
 //! An engine that is there, and its readers (own).
 ghost use Rattle.std.specs.Prelude.{◌≡◌, ◌+◌, ◌<◌, ◌≤◌, ◌^◌, ◌++◌, ◌∷◌, ℕ, [], IfOk, MatchOption, length, get_or, Some};
 ghost use Rattle.std.specs.Prelude.{None};
-ghost use Rattle.crashdisk.specs.Model.{state_of};
 ghost use Rattle.sqval.specs.Answers.{Done, Page};
 ghost use Rattle.walcore.specs.Machine.{Commits, Syncs, Checkpoints, Restarts, Begins, Reads, Ends};
 ghost use Rattle.sqval.specs.JudgedPages.{lent};
-ghost use Rattle.walcore.specs.Fits.{answered};
 ghost use Rattle.walcore.specs.Bringing.{answer_of as checkpoint_answer};
 ghost use Rattle.sqworld.specs.Run.{numbered, answer_of};
-ghost use Rattle.sqworld.specs.Sessions.{tokens_of, begun_by, SessionServes};
+ghost use Rattle.sqworld.specs.Sessions.{tokens_of, begun_by};
+ghost use Rattle.sqworld.specs.internal.Sessions.{SessionServes};
+ghost use Rattle.recovery.specs.Moments.{answered};
+ghost use Rattle.walcore.specs.Refusal.{number_of};
 
 use crate::reply::Reply;
 use crashdisk::ModelDisk;
@@ -45,7 +46,7 @@ pub(crate) fn zeros(alloc: Global, count: usize) -> Result<Vec<u8>, AllocError>
 
 /// What a call answers that is done or refused.
 fn outcome(answer: Result<(), WalError>) -> Reply
-    ensures { answer_of result ≡ answered (λ _. Done) answer }
+    ensures { answer_of result ≡ answered number_of (λ _. Done) answer }
 {
     match answer {
         Ok(()) => Reply::Done,
@@ -55,7 +56,7 @@ fn outcome(answer: Result<(), WalError>) -> Reply
 
 /// What a read of these bytes answers.
 fn page_outcome(answer: Result<(), WalError>, bytes: Vec<u8>) -> Reply
-    ensures { answer_of result ≡ answered (λ _. Page bytes.items) answer }
+    ensures { answer_of result ≡ answered number_of (λ _. Page bytes.items) answer }
 {
     match answer {
         Ok(()) => Reply::Page(bytes),
@@ -65,7 +66,7 @@ fn page_outcome(answer: Result<(), WalError>, bytes: Vec<u8>) -> Reply
 
 /// What a checkpoint answers.
 fn checkpoint_outcome(answer: Result<Checkpointed, WalError>) -> Reply
-    ensures { answer_of result ≡ answered checkpoint_answer answer }
+    ensures { answer_of result ≡ answered number_of checkpoint_answer answer }
 {
     match answer {
         Ok(Checkpointed::Complete) => Reply::Complete,

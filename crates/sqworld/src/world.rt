@@ -6,7 +6,8 @@ ghost use Rattle.sqval.specs.Runs.{IsRun};
 ghost use Rattle.sqworld.specs.Run.{moments_of, start_of, IsComplete};
 ghost use Rattle.sqworld.specs.Engines.{begun_of, disk_of};
 ghost use Rattle.sqworld.specs.declared.engine.Engine.{Engine};
-ghost use Rattle.sqworld.specs.Worlds.{IsNoted, EndsWith, Goes, Served, BeginsOn, HasLife};
+ghost use Rattle.sqworld.specs.Worlds.{EndsWith, BeginsOn, HasLife};
+ghost use Rattle.sqworld.specs.internal.Worlds.{IsNoted, Goes};
 
 use crate::base::Base;
 use crate::engine::{Engine, Given};

@@ -1,9 +1,9 @@
 -- What an engine knows of the databases that its log shows, between one beginning of the log and the next (own).
-use Rattle.std.specs.Prelude.{◌≡◌, ◌≢◌, ◌⊎◌, ℕ, ◌+◌, ◌<◌, ◌≤◌, List, [], length, get_or, take}
+use Rattle.std.specs.Prelude.{◌≡◌, ◌≢◌, ◌⊎◌, ℕ, ◌+◌, ◌<◌, ◌≤◌, List, [], length, get_or}
 use Rattle.sqval.specs.Database.{Database, page, file_page}
-use Rattle.sqwal.specs.Frames.{frame_end, page_of, size_of, content_of, IsCommit}
+use Rattle.sqwal.specs.Frames.{page_of, size_of, IsCommit}
 use Rattle.sqwal.specs.Log.{IsLog}
-use Rattle.sqwal.specs.View.{Unnamed, IsLast, IsOver}
+use Rattle.sqwal.specs.View.{Unnamed, IsOver}
 use Rattle.sqval.specs.Held.{IsJust, IsHeld}
 
 -- the end of a commit, or the beginning
@@ -31,19 +31,8 @@ pub record IsEra (size : ℕ) (e : List ℕ) (n mark : ℕ) (h : List Database) 
   pub marked : (mark ≤ n) × IsBoundary size e mark × (index mark ≡ index n)
   pub first : (m : ℕ) → m ≤ n → IsBoundary size e m → index m ≡ index n → mark ≤ m
 
--- A log that a crash may leave, of which the frames 1 to d are down.
-pub record IsDown (size : ℕ) (e : List ℕ) (d : ℕ) (w : List ℕ) : Type 0 where
-  pub long : frame_end size d ≤ length w
-  pub same : take (frame_end size d) w ≡ take (frame_end size d) e
-
 -- A file that a crash may leave, where checkpoints up to frame c were begun, with none c is 0: what the frames up to c
 -- don't name is as it was when the log was begun.
 pub record IsUnder (size : ℕ) (e : List ℕ) (h : List Database) (index : ℕ → ℕ) (c : ℕ) (db : List ℕ) : Type 0 where
   pub untouched : c ≡ 0 → IsJust size (shown h index 0) db
   pub rest : (p : ℕ) → 1 ≤ p → p ≤ length (shown h index 0) → p ≤ length (shown h index c) → Unnamed size e c p → page (shown h index 0) p ≡ file_page size db p
-
--- What the frames n + 1 to m of a log make of a database.
-pub record IsApplied (size : ℕ) (f : List ℕ) (n m : ℕ) (old new : Database) : Type 0 where
-  pub count : length new ≡ size_of size f m
-  pub put : (p i : ℕ) → 1 ≤ p → p ≤ length new → n < i → IsLast size f m p i → page new p ≡ content_of size f i
-  pub kept : (p : ℕ) → 1 ≤ p → p ≤ length new → ((i : ℕ) → n < i → i ≤ m → page_of size f i ≢ p) → (p ≤ length old) × (page new p ≡ page old p)

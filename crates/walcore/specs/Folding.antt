@@ -5,12 +5,9 @@ use Rattle.sqwal.specs.Header.{IsHeader, named_size}
 use Rattle.sqwal.specs.Frames.{size_of, IsValidFrame, IsFront}
 use Rattle.sqwal.specs.View.{IsView}
 use Rattle.crashdisk.specs.State.{IsSettled}
-use Rattle.crashdisk.specs.Call.{DiskState, ArePresent, Syncs}
-use Rattle.crashdisk.specs.declared.file.File.TheVariants.{Log}
-use Rattle.crashdisk.specs.declared.error.DiskError.{DiskError}
+use Rattle.crashdisk.specs.Call.{DiskState, ArePresent}
 use Rattle.sqval.specs.Limits.{Bounds, usual}
 use Rattle.sqval.specs.Held.{IsJust}
-use Rattle.walcore.specs.Alone.{ShowsAlone}
 use Rattle.walcore.specs.declared.folding.Folded.{Folded}
 use Rattle.walcore.specs.declared.error.WalError.{WalError}
 use Rattle.walcore.specs.declared.error.WalError.TheVariants.{TooLarge, PageSize, NoMemory, Device, SectorAbovePage}
@@ -20,10 +17,6 @@ use Rattle.crashdisk.specs.Keeps.{KeepsBytes, IsLogDown, HadRefusal, TearsPages}
 abbrev pub IsTooLargeWithin : Bounds → List ℕ → Type 0
 IsTooLargeWithin limits w = IsValidFrame (named_size w) w (suc limits.frames)
     ⊎ ((m : ℕ) × (1 ≤ m) × IsFront (named_size w) w m × (limits.bytes < size_of (named_size w) w m * named_size w))
-
--- the same at the usual limits
-abbrev pub IsTooLarge : List ℕ → Type 0
-IsTooLarge w = IsTooLargeWithin usual w
 
 -- the log is one of pages of another size
 abbrev pub IsOfOtherSize : (size : ℕ) → List ℕ → Type 0
@@ -59,19 +52,3 @@ FoldAnswer size db w result old new = FoldAnswerWithin usual size db w result ol
 -- for whatever bytes are present
 abbrev pub FoldsWithin : (limits : Bounds) (size : ℕ) → Result Folded WalError → (old new : DiskState) → Type 0
 FoldsWithin limits size result old new = (db w : List ℕ) → ArePresent old.db db → ArePresent old.log w → FoldAnswerWithin limits size db w result old new
-
--- where nothing of the log was unsynced, and all that a crash may leave showed one database, it still does
-abbrev pub Agrees : (size : ℕ) (old new : DiskState) → Type 0
-Agrees size old new = (w : List ℕ) (d : Database) → IsLogDown old w → ShowsAlone size d old → ShowsAlone size d new
-
--- what a fold does once a sync of the log was answered
-abbrev pub GoesOn : {T : Type 0} → (limits : Bounds) (size : ℕ) → Result T DiskError → Result Folded WalError → (old new : DiskState) → Type 0
-GoesOn limits size (Ok _) result old new = FoldsWithin limits size result old new × Agrees size old new
-GoesOn limits size (Err _) result old new = (result ≡ Err Device) × (new ≡ old)
-
--- The log is synced first. So it is from that moment on that all which a crash may leave shows the database that it showed.
-pub record SyncsFirst (limits : Bounds) (size : ℕ) (result : Result Folded WalError) (old new : DiskState) : Type 0 where
-  pub called : Result (Unit {0}) DiskError
-  pub mid : DiskState
-  pub sync : Syncs Log called old mid
-  pub rest : GoesOn limits size called result mid new

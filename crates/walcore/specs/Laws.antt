@@ -1,11 +1,13 @@
 -- What holds of every run (own).
-use Rattle.std.specs.Prelude.{◌≡◌, ◌⊎◌, ℕ, ◌+◌, ◌<◌, ◌≤◌, Bool, true, false, cond, IsTrue, length, take, Option, Some, None}
+use Rattle.std.specs.Prelude.{◌≡◌, ◌⊎◌, ℕ, ◌+◌, ◌<◌, ◌≤◌, Bool, true, false, cond, length, take, Option, Some, None}
 use Rattle.sqval.specs.Database.{Database, page}
 use Rattle.crashdisk.specs.Call.{DiskState}
-use Rattle.sqval.specs.Answers.{Answer, Done, Reader, Page, Complete, Partial, NoReader, told, is_accepted, IsShort}
-use Rattle.walcore.specs.Alone.{ShowsAlone}
+use Rattle.sqval.specs.Answers.{Answer, Done, Reader, Page, Complete, Partial, NoReader, told}
 use Rattle.walcore.specs.CommitRefusals.{most_pages}
-use Rattle.walcore.specs.Machine.{State, at, reader_at, all_newest, Act, Opens, Commits, Syncs, Begins, Reads, Ends, Checkpoints, Restarts, Crashes, Sets, call_refusal, commit_refusal, read_refusal, restart_refusal}
+use Rattle.walcore.specs.Machine.{State, reader_at, all_newest, Act, Opens, Commits, Syncs, Begins, Reads, Ends, Checkpoints, Restarts, Crashes, Sets, call_refusal, commit_refusal, read_refusal, restart_refusal}
+use Rattle.recovery.specs.Logs.{ShowsAlone}
+use Rattle.walcore.specs.Alone.{wal_log}
+use Rattle.recovery.specs.Histories.{at}
 
 -- what holds of the machine in each run
 pub record IsSane (s : State) : Type 0 where
@@ -23,14 +25,14 @@ pub record Keeps (old new : State) : Type 0 where
 
 -- the one database that a disk shows alone stays shown
 abbrev pub KeepsShown : (old new : DiskState) → Type 0
-KeepsShown old new = (size : ℕ) (d : Database) → ShowsAlone size d old → ShowsAlone size d new
+KeepsShown old new = (size : ℕ) (d : Database) → ShowsAlone wal_log size d old → ShowsAlone wal_log size d new
 
 -- ---- What is answered where memory is ample and the disk refuses no call.
 
 -- what a read answers, by the place that the reader is bound to, if it is open
 abbrev pub shown : State → Option ℕ → (number : ℕ) → Answer
 shown s None number = NoReader
-shown s (Some i) number = told (read_refusal s i number) (Page (page (at s i) number))
+shown s (Some i) number = told (read_refusal s i number) (Page (page (at s.history i) number))
 
 -- what the end of a reader answers
 abbrev pub at_end : Option ℕ → Answer
@@ -65,11 +67,6 @@ needs_disk (Ends reader) = false
 needs_disk (Crashes left) = false
 needs_disk Sets = false
 needs_disk _ = true
-
--- It is what is expected, or, where that is no refusal, what may stand in its place.
-abbrev pub IsExpected : State → Act → Answer → (before after : ℕ) → Type 0
-IsExpected s act answer before after =
-    (answer ≡ expected s act) ⊎ (IsTrue (is_accepted (expected s act)) × IsShort (takes_memory act) (needs_disk act) answer before after)
 
 abbrev pub is_opening : Act → Bool
 is_opening (Opens salts found) = true

@@ -5,17 +5,12 @@ use Rattle.sqwal.specs.Frames.{size_of, IsFront}
 use Rattle.crashdisk.specs.State.{IsImage}
 use Rattle.crashdisk.specs.Call.{DiskState}
 use Rattle.crashdisk.specs.Keeps.{IsLogDown, IsLong}
-use Rattle.walcore.specs.Standing.{MayBeRead}
+use Rattle.recovery.specs.Logs.{MayBeRead}
+use Rattle.walcore.specs.Alone.{wal_log}
 
 -- the same wherever the log that is left has no front
 abbrev pub EndsBy : (n : ℕ) → DiskState → Type 0
-EndsBy n s = (db w : List ℕ) → IsImage s.sector s.tears s.db db → MayBeRead s w → IsFront (named_size w) w 0 → length db ≡ n
-
--- the log that is down has a front
-pub record IsFronted (w : List ℕ) (m : ℕ) (s : DiskState) : Type 0 where
-  pub down : IsLogDown s w
-  pub some : 1 ≤ m
-  pub front : IsFront (named_size w) w m
+EndsBy n s = (db w : List ℕ) → IsImage s.sector s.tears s.db db → MayBeRead wal_log s w → IsFront (named_size w) w 0 → length db ≡ n
 
 -- n bytes are those of the database that the log w shows with the file: with no front, of the file
 pub record IsLengthOf (size : ℕ) (w : List ℕ) (n : ℕ) (s : DiskState) : Type 0 where

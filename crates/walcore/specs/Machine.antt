@@ -6,6 +6,7 @@ use Rattle.sqval.specs.Answers.{HasCause, Files, Crashed, Answer, Done, Reader, 
 use Rattle.walcore.specs.Alone.{Show}
 use Rattle.sqval.specs.CommitFaults.{first_true}
 use Rattle.walcore.specs.CommitRefusals.{refusal_of}
+use Rattle.recovery.specs.Histories.{at, last, newest}
 
 -- what happens
 pub data Act : Type 0 where
@@ -42,16 +43,6 @@ pub record State : Type 0 where
 abbrev pub start : (page_size : ℕ) → Database → State
 start page_size base = record { page_size = page_size; history = base ∷ []; floor = 0; readers = []; is_open = false; drained = false; used = 0 }
 
--- the place of the newest database, the database at a place, and the newest one
-abbrev pub last : State → ℕ
-last s = length s.history - 1
-
-abbrev pub at : State → ℕ → Database
-at s i = get_or s.history i []
-
-abbrev pub newest : State → Database
-newest s = at s (last s)
-
 -- the place that an open reader is bound to
 abbrev pub reader_at : State → (reader : ℕ) → Option ℕ
 reader_at s reader = get_or s.readers reader None
@@ -63,7 +54,7 @@ is_bound i (Some j) = j == i
 
 -- each open reader is bound to the newest database
 abbrev pub all_newest : State → Bool
-all_newest s = list_all (is_bound (last s)) s.readers
+all_newest s = list_all (is_bound (last s.history)) s.readers
 
 -- ---- What calls step to.
 
@@ -85,19 +76,19 @@ closed s = record s { is_open = false }
 
 -- a commit, which is not known to be down
 abbrev pub committed : State → Pages → (size : ℕ) → State
-committed s pages size = record s { history = s.history ++ apply (newest s) pages size ∷ []; used = s.used + length pages; drained = false }
+committed s pages size = record s { history = s.history ++ apply (newest s.history) pages size ∷ []; used = s.used + length pages; drained = false }
 
 abbrev pub synced : State → State
-synced s = record s { floor = last s }
+synced s = record s { floor = last s.history }
 
 abbrev pub checkpointed : State → State
-checkpointed s = record s { floor = last s; drained = all_newest s }
+checkpointed s = record s { floor = last s.history; drained = all_newest s }
 
 abbrev pub restarted : State → State
 restarted s = record s { used = 0 }
 
 abbrev pub begun : State → State
-begun s = record s { readers = s.readers ++ Some (last s) ∷ [] }
+begun s = record s { readers = s.readers ++ Some (last s.history) ∷ [] }
 
 abbrev pub ended : State → (reader : ℕ) → State
 ended s reader = record s { readers = set s.readers reader None }
@@ -109,11 +100,11 @@ abbrev pub call_refusal : State → Option ℕ
 call_refusal s = first_true ((not s.is_open, 1) ∷ [])
 
 abbrev pub commit_refusal : State → Pages → (size : ℕ) → Option ℕ
-commit_refusal s pages size = cond s.is_open (refusal_of (length (newest s)) s.page_size s.used pages size) (Some 1)
+commit_refusal s pages size = cond s.is_open (refusal_of (length (newest s.history)) s.page_size s.used pages size) (Some 1)
 
 -- of a read of this page of the database at place i
 abbrev pub read_refusal : State → (i number : ℕ) → Option ℕ
-read_refusal s i number = first_true ((not s.is_open, 1) ∷ (number == 0, 4) ∷ (nat_lt (length (at s i)) number, 5) ∷ [])
+read_refusal s i number = first_true ((not s.is_open, 1) ∷ (number == 0, 4) ∷ (nat_lt (length (at s.history i)) number, 5) ∷ [])
 
 abbrev pub restart_refusal : State → Option ℕ
 restart_refusal s = first_true ((not s.is_open, 1) ∷ (not s.drained, 11) ∷ (list_any is_some s.readers, 12) ∷ [])
@@ -124,7 +115,7 @@ restart_refusal s = first_true ((not s.is_open, 1) ∷ (not s.drained, 11) ∷ (
 -- came after it is gone.
 abbrev pub OpenStep : State → Files → Answer → (before after : ℕ) → State → Type 0
 OpenStep old found Done before after new =
-    (k : ℕ) × (old.floor ≤ k) × (k < length old.history) × Show old.page_size found.db found.log (at old k) × (IsTrue old.is_open → k ≡ last old) × (new ≡ opened old k)
+    (k : ℕ) × (old.floor ≤ k) × (k < length old.history) × Show old.page_size found.db found.log (at old.history k) × (IsTrue old.is_open → k ≡ last old.history) × (new ≡ opened old k)
 OpenStep old found (Refused number) before after new = ((number ≡ 14) ⊎ ((number ≡ 15) × HasCause before after)) × (new ≡ gone old)
 OpenStep old found _ before after new = ⊥
 
@@ -151,7 +142,7 @@ BeginStep old _ before after new = ⊥
 abbrev pub ReadStep : Option ℕ → State → (number : ℕ) → Answer → (before after : ℕ) → State → Type 0
 ReadStep None old number NoReader before after new = new ≡ old
 ReadStep None old number _ before after new = ⊥
-ReadStep (Some i) old number (Page bytes) before after new = (read_refusal old i number ≡ None) × (bytes ≡ page (at old i) number) × (new ≡ old)
+ReadStep (Some i) old number (Page bytes) before after new = (read_refusal old i number ≡ None) × (bytes ≡ page (at old.history i) number) × (new ≡ old)
 ReadStep (Some i) old number (Refused refusal) before after new = Refuses (read_refusal old i number) false old before after old refusal new
 ReadStep (Some i) old number _ before after new = ⊥
 

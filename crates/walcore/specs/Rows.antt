@@ -2,17 +2,10 @@
 use Rattle.std.specs.Prelude.{◌≡◌, ◌≢◌, ℕ, List, [], ◌∷◌, length, None}
 use Rattle.sqval.specs.Database.{Database}
 use Rattle.walcore.specs.Alone.{Show}
-use Rattle.sqval.specs.Answers.{Files, Answer, Done, Reader, Page, Complete, Partial, NoReader, Refused}
+use Rattle.sqval.specs.Answers.{Files, Done, Reader, Page, Complete, Partial, NoReader, Refused}
 use Rattle.walcore.specs.Machine.{Act, Opens, Commits, Syncs, Begins, Reads, Ends, Checkpoints, Restarts, Crashes, Sets, start, Step}
 use Rattle.sqval.specs.Runs.{Moment, IsRun}
-
--- a moment, where the disk has refused no call
-abbrev pub did : Act → Answer → Moment Act
-did act answer = record { act = act; answer = answer; refused = 0 }
-
--- where it has refused one
-abbrev pub then_did : Act → Answer → Moment Act
-then_did act answer = record { act = act; answer = answer; refused = 1 }
+use Rattle.recovery.specs.Moments.{did, then_did}
 
 -- a commit of page 1
 abbrev pub puts : List ℕ → Act

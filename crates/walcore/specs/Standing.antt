@@ -1,37 +1,27 @@
 -- What an engine keeps on its disk, whatever a crash leaves of it (fileformat2, 4.3 and 4.5; that a crash leaves no less is own).
-use Rattle.std.specs.Prelude.{◌≡◌, ◌≢◌, ◌⊎◌, ℕ, ◌*◌, ◌/◌, ◌<◌, ◌≤◌, true, false, List, length, take, get_or, None, []}
+use Rattle.std.specs.Prelude.{◌≡◌, ℕ, ◌*◌, ◌/◌, ◌<◌, ◌≤◌, true, false, List, length, take, get_or, []}
 use Rattle.std.specs.List.{Contains}
-use Rattle.sqval.specs.Database.{Database, Pages, supplied}
+use Rattle.sqval.specs.Database.{Database}
 use Rattle.sqwal.specs.Header.{IsHeader, named_size}
-use Rattle.sqwal.specs.Frames.{frame_end, IsFront}
+use Rattle.sqwal.specs.Frames.{frame_end}
 use Rattle.crashdisk.specs.State.{IsImage, byte}
 use Rattle.crashdisk.specs.Call.{DiskState}
 use Rattle.crashdisk.specs.Facts.{HasFixed}
-use Rattle.sqval.specs.CommitFaults.{most_bytes}
-use Rattle.walcore.specs.Alone.{MayBeLeft, Show}
+use Rattle.walcore.specs.Alone.{wal_log}
 use Rattle.crashdisk.specs.Keeps.{Suits}
 use Rattle.walcore.specs.Made.{AreMade, NoChance}
 use Rattle.walcore.specs.Era.{IsBoundary, IsEra, IsUnder}
-
--- A log that may be read after a crash, or after a call that failed: of listed values alone, or what a disk that tears
--- leaves where it puts no valid header or frame together by chance.
-abbrev pub MayBeRead : DiskState → List ℕ → Type 0
-MayBeRead s w = IsImage s.sector false s.log w ⊎ MayBeLeft s w
-
--- a file and a log show a database, and where the log has no front the file is as long as that
-pub record ShowsWhole (size : ℕ) (db w : List ℕ) (d : Database) : Type 0 where
-  pub shows : Show size db w d
-  pub whole : IsFront (named_size w) w 0 → length db ≡ length d * size
+use Rattle.recovery.specs.Logs.{MayBeRead, ShowsWhole}
 
 -- Whatever is left of the log, where no chance put it together, shows with whatever is left of the file one database of
 -- the history, at the floor or later.
 abbrev pub ShowsHistory : (size : ℕ) (logs : List (List ℕ)) (h : List Database) (floor : ℕ) → DiskState → Type 0
-ShowsHistory size logs h floor s = (w : List ℕ) → MayBeRead s w → NoChance logs w
-    → (k : ℕ) × (floor ≤ k) × (k < length h) × ((db : List ℕ) → IsImage s.sector s.tears s.db db → ShowsWhole size db w (get_or h k []))
+ShowsHistory size logs h floor s = (w : List ℕ) → MayBeRead wal_log s w → NoChance logs w
+    → (k : ℕ) × (floor ≤ k) × (k < length h) × ((db : List ℕ) → IsImage s.sector s.tears s.db db → ShowsWhole wal_log size db w (get_or h k []))
 
 -- each valid header that is left was made
 abbrev pub HasMadeHeader : List (List ℕ) → DiskState → Type 0
-HasMadeHeader logs s = (w : List ℕ) → MayBeRead s w → IsHeader (named_size w) w → (e : List ℕ) × Contains logs e × (take 32 w ≡ take 32 e)
+HasMadeHeader logs s = (w : List ℕ) → MayBeRead wal_log s w → IsHeader (named_size w) w → (e : List ℕ) × Contains logs e × (take 32 w ≡ take 32 e)
 
 -- The frames 1 to d of the log e are down: each list of listed values has them, and, but for the header alone, whatever
 -- a disk that tears leaves. On such a disk the header stands in what was kept, and no piece that was handed over holds
@@ -69,11 +59,3 @@ pub record Stands (size : ℕ) (logs : List (List ℕ)) (e : List ℕ) (n : ℕ)
 pub record IsPresent (size : ℕ) (e : List ℕ) (n : ℕ) (s : DiskState) : Type 0 where
   pub long : frame_end size n ≤ s.log.len
   pub each : (i : ℕ) → i < frame_end size n → byte s.log i ≡ get_or e i 0
-
--- Pages that make a commit to this many pages: none stands there twice, and none above the old size is missing.
-pub record AreCommitted (size : ℕ) (old : Database) (pages : Pages) (count : ℕ) : Type 0 where
-  pub some : 1 ≤ length pages
-  pub once : (i j : ℕ) → i < length pages → j < length pages → (get_or pages i (0, [])).0 ≡ (get_or pages j (0, [])).0 → i ≡ j
-  pub filled : (p : ℕ) → length old < p → p ≤ count → supplied pages p ≢ None
-  pub above_zero : 1 ≤ count
-  pub few : count * size ≤ most_bytes

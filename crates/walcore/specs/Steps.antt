@@ -1,115 +1,14 @@
 -- What the parts of a fold do to a disk (fileformat2, 4.3).
-use Rattle.std.specs.Prelude.{◌≡◌, ◌⊎◌, ℕ, suc, ◌+◌, ◌-◌, ◌*◌, ◌<◌, ◌≤◌, Bool, true, false, List, length, get_or, take, replicate, Result, Ok, Err, IsErr, Option, Some, None, []}
-use Rattle.sqval.specs.Database.{Database, page}
-use Rattle.sqwal.specs.Header.{IsHeader, named_size}
-use Rattle.sqwal.specs.Frames.{IsValidFrame, content_of}
-use Rattle.sqwal.specs.View.{Unnamed, IsLast}
-use Rattle.sqval.specs.CommitFaults.{most_bytes}
-use Rattle.sqwal.specs.Took.{TookWithin}
-use Rattle.sqwal.specs.declared.scan.Scan.{Scan}
-use Rattle.sqwal.specs.declared.error.WalFormatError.{WalFormatError}
-use Rattle.sqwal.specs.declared.error.WalFormatError.TheVariants.{TooLong, NoMemory}
-use Rattle.crashdisk.specs.State.{FileState, byte, IsSettled}
-use Rattle.crashdisk.specs.Call.{DiskState, ArePresent, Writes, Cuts}
-use Rattle.crashdisk.specs.declared.file.File.TheVariants.{Db, Log}
-use Rattle.crashdisk.specs.declared.error.DiskError.{DiskError}
-use Rattle.walcore.specs.Folding.{IsFolded}
-use Rattle.crashdisk.specs.Keeps.{HadRefusal, IsLogDown, Still, Later, Told, TellsRefusal, SyncStep}
+use Rattle.std.specs.Prelude.{ℕ, Result}
+use Rattle.crashdisk.specs.Call.{DiskState}
+use Rattle.crashdisk.specs.Keeps.{Later, TellsRefusal}
 use Rattle.walcore.specs.Changes.{MayFoldWithin}
-use Rattle.walcore.specs.Phases.{Writing, Filed}
-use Rattle.walcore.specs.declared.folding.Folded.{Folded}
 use Rattle.walcore.specs.declared.error.WalError.{WalError}
-use Rattle.walcore.specs.declared.error.WalError.TheVariants.{TooLarge, NoMemory as WalNoMemory, Device}
-
--- ---- The scan.
-
--- why the scan of the log w is refused, which takes at most so many frames
-unfoldable pub ScanRefused : (most : ℕ) → List ℕ → WalError → (old new : DiskState) → Type 0
-ScanRefused most w TooLarge old new = IsValidFrame (named_size w) w (suc most)
-ScanRefused most w WalNoMemory old new = Unit {0}
-ScanRefused most w Device old new = HadRefusal old new
-ScanRefused most w _ old new = ⊥
-
--- how a refusal of the scan is answered
-abbrev pub IsWithoutHeader : WalFormatError → Result Bool WalError → Type 0
-IsWithoutHeader TooLong r = r ≡ Err TooLarge
-IsWithoutHeader NoMemory r = r ≡ Err WalNoMemory
-IsWithoutHeader e r = r ≡ Ok false
-
--- the scan has taken the log up to this place, or the log has no valid header
-unfoldable pub PieceAnswer : (most : ℕ) → List ℕ → (end : ℕ) → Result Bool WalError → Scan → (old new : DiskState) → Type 0
-PieceAnswer most w end (Ok true) s old new = TookWithin most (take end w) s
-PieceAnswer most w end (Ok false) s old new = IsHeader (named_size w) w → ⊥
-PieceAnswer most w end (Err e) s old new = ScanRefused most w e old new
-
--- what the scan of the whole log answers: none where it has no valid header
-unfoldable pub ScanAnswer : (most : ℕ) → List ℕ → Result (Option Scan) WalError → (old new : DiskState) → Type 0
-ScanAnswer most w (Ok (Some s)) old new = TookWithin most w s
-ScanAnswer most w (Ok None) old new = IsHeader (named_size w) w → ⊥
-ScanAnswer most w (Err e) old new = ScanRefused most w e old new
-
--- ---- The copying.
-
--- k pages from page p on: the last frames that name them, of the frames 1 to m, stand one behind the other; they are read, and
--- the pages are written to their places at once
-pub record PutsRun (size : ℕ) (w : List ℕ) (m p k : ℕ) (called : Result (Unit {0}) DiskError) (old new : DiskState) : Type 0 where
-  pub frame : ℕ
-  pub last : (j : ℕ) → j < k → IsLast size w m (p + j) (frame + j)
-  pub bytes : List ℕ
-  pub long : length bytes ≡ k * size
-  pub each : (j i : ℕ) → j < k → i < size → get_or bytes (j * size + i) 0 ≡ get_or (content_of size w (frame + j)) i 0
-  pub mid : DiskState
-  pub read : Still old mid
-  pub write : Writes Db ((p - 1) * size) bytes called mid new
-
--- so many pages from page p on were put, or it alone was looked for and none of these frames names it
-unfoldable pub RunAnswer : (size : ℕ) → List ℕ → (m p : ℕ) → Result ℕ WalError → (old new : DiskState) → Type 0
-RunAnswer size w m p (Ok k) old new = ((k ≡ 1) × Unnamed size w m p × (new ≡ old)) ⊎ PutsRun size w m p k (Ok tt) old new
-RunAnswer size w m p (Err e) old new = (e ≡ Device) × HadRefusal old new × (Still old new ⊎ ((k : ℕ) × (called : Result (Unit {0}) DiskError) × PutsRun size w m p k called old new))
-
--- the present bytes are just these pages
-pub record ArePages (size : ℕ) (d : Database) (s : FileState) : Type 0 where
-  pub len : s.len ≡ length d * size
-  pub each : (p : ℕ) → 1 ≤ p → p ≤ length d → (j : ℕ) → j < size → byte s ((p - 1) * size + j) ≡ get_or (page d p) j 0
-
--- the pages of d were copied, and the length was set
-unfoldable pub CopyAnswer : {T : Type 0} → (size : ℕ) → Database → Result T WalError → (old new : DiskState) → Type 0
-CopyAnswer size d (Ok _) old new = ArePages size d new.db
-CopyAnswer size d (Err e) old new = (e ≡ Device) × HadRefusal old new
+use Rattle.walcore.specs.declared.error.WalError.TheVariants.{Device}
 
 -- ---- The end.
-
--- 32 zero bytes are written over the front of the log, which is then synced
-abbrev pub ZeroSteps : {T : Type 0} → Result T WalError → (old new : DiskState) → Type 0
-ZeroSteps {T = T} result old new =
-    ((called : Result T DiskError) × IsErr called × Told Device called result × Writes Log 0 (replicate 32 0) called old new)
-    ⊎ ((mid : DiskState) × ((done : T) × Writes Log 0 (replicate 32 0) (Ok done) old mid) × SyncStep Device Log result mid new)
-
--- the log's length is set to 0, and it is synced
-abbrev pub CutSteps : {T : Type 0} → Result T WalError → (old new : DiskState) → Type 0
-CutSteps {T = T} result old new =
-    ((called : Result T DiskError) × IsErr called × Told Device called result × Cuts Log 0 called old new)
-    ⊎ ((mid : DiskState) × ((done : T) × Cuts Log 0 (Ok done) old mid) × SyncStep Device Log result mid new)
-
--- the pages are in the file, or there were none to write: so far the log is as it was
-abbrev pub Copied : (size : ℕ) (w : List ℕ) (m : ℕ) (d : Database) → DiskState → Type 0
-Copied size w m d s = (Writing size w m d s × ArePages size d s.db) ⊎ Filed size d w s
-
--- the database is down, and the log is down and empty
-unfoldable pub EndAnswer : {T : Type 0} → Result T WalError → (old new : DiskState) → Type 0
-EndAnswer (Ok _) old new = ((db : List ℕ) → ArePresent old.db db → IsSettled new.db db) × IsLogDown new []
-EndAnswer (Err e) old new = (e ≡ Device) × HadRefusal old new
-
--- what is planned was folded
-unfoldable pub FoldedAnswer : (size : ℕ) (db w : List ℕ) → Result Folded WalError → (old new : DiskState) → Type 0
-FoldedAnswer size db w (Ok f) old new = IsFolded size db w f new
-FoldedAnswer size db w (Err e) old new = (e ≡ Device) × HadRefusal old new
 
 -- which calls a fold of at most so many bytes made of the disk, and that one which was refused is told
 pub record FoldCallsWithin {T : Type 0} (most size : ℕ) (result : Result T WalError) (old new : DiskState) : Type 0 where
   pub later : Later (MayFoldWithin most size) old new
   pub told : TellsRefusal Device result old new
-
--- at the usual limit
-abbrev pub FoldCalls : {T : Type 0} → (size : ℕ) → Result T WalError → (old new : DiskState) → Type 0
-FoldCalls size result old new = FoldCallsWithin most_bytes size result old new

@@ -4,7 +4,6 @@ use Rattle.crashdisk.specs.Call.{DiskState, IsSoundDisk}
 use Rattle.crashdisk.specs.Keeps.{IsLogDown}
 use Rattle.walcore.specs.Laws.{KeepsShown}
 use Rattle.walcore.specs.declared.state.Core.{Core}
-use Rattle.walcore.specs.declared.wal.Wal.{Wal}
 use Rattle.walcore.specs.declared.error.WalError.{WalError}
 
 -- A core that knows no frame, over a log that is down and has no more than a header.
@@ -23,10 +22,3 @@ pub record StaysUncommitted {T : Type 0} (result : Result T WalError) (core : Co
 -- before the first commit
 abbrev pub KeepsUncommitted : {T : Type 0} → Result T WalError → (core core_new : Core) → (old new : DiskState) → Type 0
 KeepsUncommitted result core core_new old new = IsUncommitted core old → StaysUncommitted result core_new old new
-
--- the last step of a checkpoint before the first commit
-pub record BringsNothing {D : Type 0} (old new : Wal D) : Type 0 where
-  pub disk : new.disk ≡ old.disk
-  pub frames : new.core.frames ≡ old.core.frames
-  pub mark : new.core.mark ≡ old.core.mark
-  pub unsynced : new.core.unsynced ≡ old.core.unsynced

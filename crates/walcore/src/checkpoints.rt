@@ -3,9 +3,10 @@ ghost use Rattle.std.specs.Prelude.{◌≡◌, ◌≢◌, ◌+◌, ◌≤◌, le
 ghost use Rattle.std.specs.Prelude.{if◌then◌else◌};
 ghost use Rattle.crashdisk.specs.During.{During};
 ghost use Rattle.walcore.specs.Closing.{ClosesOnDevice};
-ghost use Rattle.walcore.specs.Uncommitted.{BringsNothing};
-ghost use Rattle.walcore.specs.Bringing.{IsLeast, SizeAnswer, BringsOver, BringsDatabase, BringsOldest, ClosedBy};
-ghost use Rattle.walcore.specs.Reading.{OnlyReads};
+ghost use Rattle.walcore.specs.internal.Uncommitted.{BringsNothing};
+ghost use Rattle.walcore.specs.Bringing.{BringsOldest};
+ghost use Rattle.walcore.specs.internal.Bringing.{IsLeast, SizeAnswer, BringsOver, BringsDatabase, ClosedBy};
+ghost use Rattle.recovery.specs.internal.Reading.{OnlyReads};
 
 use crate::copying::{copy_pages, settle_database};
 use crate::error::WalError;
@@ -34,7 +35,7 @@ fn size_at<D: Disk>(disk: &mut D, page_size: usize, frame: u32) -> Result<u32, W
     requires some { 1 ≤ frame }
     requires size { page_size ≤ 65536 }
     ensures disk { During D.keeps_word D.state disk.old disk.new
-        (OnlyReads result (SizeAnswer page_size frame result)) }
+        (OnlyReads WalError.Device result (SizeAnswer page_size frame result)) }
     ensures error { OnErr result (result ≡ Err WalError.Device) }
 {
     let mut bytes = [0; 4];

@@ -19,8 +19,9 @@ pub struct Folded {
 
 ghost use Rattle.crashdisk.specs.During.{During};
 ghost use Rattle.crashdisk.specs.Keeps.{Suits, TearsPages};
-ghost use Rattle.walcore.specs.Plans.{HasRoom};
-ghost use Rattle.walcore.specs.Copying.{FoldsPlan, FoldsLong, FoldsSyncedWithin, FoldsSynced, FoldsFileWithin};
+ghost use Rattle.walcore.specs.internal.Plans.{HasRoom};
+ghost use Rattle.walcore.specs.Copying.{FoldsSyncedWithin, FoldsSynced, FoldsFileWithin};
+ghost use Rattle.walcore.specs.internal.Copying.{FoldsPlan, FoldsLong};
 ghost use Rattle.walcore.specs.Copying.{FoldsFile};
 
 /// On a disk that tears, a sector may hold no more than a page. SectorAbovePage alone.

@@ -11,16 +11,19 @@ ghost use Rattle.crashdisk.specs.declared.file.File.{File};
 ghost use Rattle.crashdisk.specs.declared.file.File.TheVariants.{Log};
 ghost use Rattle.crashdisk.specs.declared.error.DiskError.{DiskError};
 ghost use Rattle.crashdisk.specs.Keeps.{SameFiles, IsLogDown, Suits};
-ghost use Rattle.walcore.specs.Alone.{AreWhole, ShowsAlone};
-ghost use Rattle.walcore.specs.Fits.{Past, AreFiles, FitsDisk, FitsAlone, FitsCore, none_open};
+ghost use Rattle.walcore.specs.Alone.{AreWhole, wal_log};
+ghost use Rattle.walcore.specs.Fits.{Past, FitsDisk, FitsAlone, FitsCore, none_open};
 ghost use Rattle.walcore.specs.Fits.{beginning, beginning_beside};
-ghost use Rattle.walcore.specs.Laws.{IsSane, Keeps, KeepsShown, IsExpected, is_opening};
-ghost use Rattle.walcore.specs.Machine.{State, Act, Reads, Step, at, last, gone, start};
+ghost use Rattle.walcore.specs.Laws.{IsSane, Keeps, KeepsShown, is_opening, expected, takes_memory, needs_disk};
+ghost use Rattle.walcore.specs.Machine.{State, Act, Reads, Step, gone, start};
 ghost use Rattle.walcore.specs.Made.{AreMade, NoChance};
 ghost use Rattle.walcore.specs.Opening.{MayOpen};
 ghost use Rattle.walcore.specs.Plans.{IsFit};
-ghost use Rattle.walcore.specs.Standing.{ShowsWhole};
 ghost use Rattle.walcore.specs.declared.state.Core.{Core};
+ghost use Rattle.recovery.specs.Files.{AreFiles};
+ghost use Rattle.recovery.specs.Logs.{ShowsAlone, ShowsWhole};
+ghost use Rattle.recovery.specs.Moments.{IsExpected};
+ghost use Rattle.recovery.specs.Histories.{at, last};
 
 /// A disk with a base in its file and an empty log, both down, fits where a world begins, whatever was called of it
 /// before; so does one that is new.
@@ -39,9 +42,9 @@ pub fn a_base_fits()
 pub fn settled_files_fit()
     ensures fits { (size : ℕ) (base : Database) (logs : List (List ℕ)) (files : Files) (s : DiskState) → Suits size s
         → IsHeld size base → AreMade size logs → IsSettled s.db files.db → IsLogDown s files.log
-        → ShowsWhole size files.db files.log base → FitsAlone (beginning_beside size base logs) s }
+        → ShowsWhole wal_log size files.db files.log base → FitsAlone (beginning_beside size base logs) s }
     ensures shown { (size : ℕ) (files : Files) (s : DiskState) → IsPageSize size → MayOpen size files s
-        → (base : Database) × IsHeld size base × ShowsWhole size files.db files.log base }
+        → (base : Database) × IsHeld size base × ShowsWhole wal_log size files.db files.log base }
     ensures made { (size : ℕ) (log : List ℕ) → IsFit size log
         → (logs : List (List ℕ)) × AreMade size logs × NoChance logs log }
 {}
@@ -68,7 +71,8 @@ pub fn one_is_shown()
     ensures { (past : Past) (files : Files) (old mid : DiskState) → FitsDisk past old → AreFiles old files
         → NoChance past.made.logs files.log → Syncs {T = Unit {0}} Log (Ok tt) old mid → (k : ℕ)
         × (past.state.floor ≤ k) × (k < length past.state.history)
-        × (IsTrue past.state.is_open → k ≡ last past.state) × ShowsAlone past.state.page_size (at past.state k) mid }
+        × (IsTrue past.state.is_open → k ≡ last past.state.history)
+        × ShowsAlone wal_log past.state.page_size (at past.state.history k) mid }
 {}
 
 /// The one database that a disk shows alone stays shown: after a look, after a sync of either file, done or refused,
@@ -107,7 +111,7 @@ pub fn one_step()
     ensures next { (old : State) (act : Act) (answer : Answer) (b a c d : ℕ) (new other : State)
         → is_opening act ≡ false → Step old act answer b a new → Step old act answer c d other → new ≡ other }
     ensures answer { (old : State) (act : Act) (answer : Answer) (b a : ℕ) (new : State)
-        → Step old act answer b a new → IsExpected old act answer b a }
+        → Step old act answer b a new → IsExpected (expected old act) (takes_memory act) (needs_disk act) answer b a }
     ensures read { (old : State) (reader number : ℕ) (answer : Answer) (b a : ℕ) (new : State)
         → Step old (Reads reader number) answer b a new → new ≡ old }
 {}

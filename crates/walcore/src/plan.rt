@@ -4,8 +4,9 @@ ghost use Rattle.crashdisk.specs.During.{During};
 ghost use Rattle.sqwal.specs.Took.{TookWithin};
 ghost use Rattle.sqwal.specs.Header.{named_size, IsHeader};
 ghost use Rattle.sqwal.specs.Frames.{IsValidFrame};
-ghost use Rattle.walcore.specs.Plans.{wanted_page, HasRoom, IsTable, JudgeAnswer, PlanAnswer};
-ghost use Rattle.walcore.specs.Reading.{OnlyReads, PlansFold};
+ghost use Rattle.walcore.specs.Plans.{IsTable};
+ghost use Rattle.walcore.specs.internal.Plans.{wanted_page, HasRoom, JudgeAnswer, PlanAnswer, ReadAnswer};
+ghost use Rattle.recovery.specs.internal.Reading.{OnlyReads, OfLog};
 
 use crate::error::WalError;
 use crate::reading::{scan_log, zeros};
@@ -148,7 +149,7 @@ pub fn read_plan<D: Disk>(
     limits: Limits,
 ) -> Result<Plan, WalError>
     ensures disk { During D.keeps_word D.state disk.old disk.new
-        (OnlyReads result (PlansFold limits long page_size result)) }
+        (OnlyReads WalError.Device result (OfLog long (λ w. ReadAnswer limits page_size w result))) }
     ensures room { IfOk result HasRoom }
 {
     let scanned = scan_log(alloc, disk, long, limits)?;

@@ -1,8 +1,9 @@
 //! The scan of the log on a disk (own).
-ghost use Rattle.std.specs.Prelude.{◌≡◌, ◌<◌, length, IfOk, OnErr};
+ghost use Rattle.std.specs.Prelude.{◌≡◌, ◌<◌, length, IfOk, OnErr, ℕ};
 ghost use Rattle.crashdisk.specs.During.{During};
-ghost use Rattle.walcore.specs.Steps.{IsWithoutHeader};
-ghost use Rattle.walcore.specs.Reading.{OnlyReads, TakesPiece, TakesLog, ScansLog};
+ghost use Rattle.walcore.specs.internal.Steps.{IsWithoutHeader, wal_scan};
+ghost use Rattle.recovery.specs.internal.Reading.{OnlyReads, OfLog};
+ghost use Rattle.recovery.specs.internal.Scanning.{TakesPiece, TakesLog, ScanAnswer};
 
 use crate::error::WalError;
 use crashdisk::{Disk, File};
@@ -35,7 +36,8 @@ fn feed_piece<D: Disk>(
     piece: &mut [u8],
 ) -> Result<bool, WalError>
     ensures { During D.keeps_word D.state disk.old disk.new
-        (OnlyReads result (TakesPiece at (length piece.old) scan.old scan.new result)) }
+        (OnlyReads WalError.Device result (λ a b. (most : ℕ)
+        → TakesPiece (wal_scan most) at (length piece.old) scan.old scan.new result a b)) }
 {
     disk.read_at(File::Log, at, piece)?;
     match scan.feed(piece) {
@@ -54,7 +56,8 @@ fn scan_pieces<D: Disk>(
 ) -> Result<bool, WalError>
     requires { 0 < length buffer.old }
     ensures { During D.keeps_word D.state disk.old disk.new
-        (OnlyReads result (TakesLog long scan.old scan.new result)) }
+        (OnlyReads WalError.Device result (λ a b. (most : ℕ)
+        → TakesLog (wal_scan most) long scan.old scan.new result a b)) }
 {
     let most = buffer.len();
     let mut at = 0;
@@ -86,7 +89,8 @@ pub fn scan_log<D: Disk>(
     long: u64,
     limits: Limits,
 ) -> Result<Option<Scan>, WalError>
-    ensures { During D.keeps_word D.state disk.old disk.new (OnlyReads result (ScansLog limits.frames long result)) }
+    ensures { During D.keeps_word D.state disk.old disk.new
+        (OnlyReads WalError.Device result (OfLog long (λ w. ScanAnswer (wal_scan limits.frames) w result))) }
 {
     let mut buffer = zeros(alloc, PIECE)?;
     let mut scan = Scan::within(alloc, limits);

@@ -3,7 +3,7 @@ ghost use Rattle.std.specs.Prelude.{◌≡◌, ◌≤◌, ℕ, List, IfOk};
 ghost use Rattle.sqwal.specs.Took.{Took, TookWithin};
 ghost use Rattle.sqjournal.specs.Journal.{IsHot};
 ghost use Rattle.sqview.specs.At.{AtAnswer, AtAnswerWithin, FrontIsShown, ZeroIsShown};
-ghost use Rattle.sqview.specs.ViewParts.{CommitFound};
+ghost use Rattle.sqview.specs.internal.ViewParts.{CommitFound};
 
 use super::View;
 use super::opening::{own, placed, scanned};
@@ -14,9 +14,10 @@ use sqval::{Limits, PageSize};
 use sqwal::Scan;
 use std::alloc::Global;
 
-/// A commit of a log: the size of the log's pages, and how many the database has there.
+/// A commit of a log: the frame that ends it, the size of the log's pages, and how many the database has there.
 #[derive(Clone, Copy)]
 pub(super) struct Commit {
+    pub(super) frame: u32,
     pub(super) page_size: PageSize,
     pub(super) size: u32,
 }
@@ -31,6 +32,7 @@ fn commit_of(scan: &Scan, frame: u32) -> Option<Commit>
         return None;
     }
     Some(Commit {
+        frame,
         page_size: header.page_size,
         size: entry.size,
     })
@@ -93,7 +95,7 @@ impl<F: FileBytes + Drop> View<F> {
         ensures reads { IfOk result (λ view. (F.bytes view.db ≡ F.bytes db) × (F.bytes view.log ≡ F.bytes log)) }
     {
         match commit_of(scan, frame) {
-            Some(it) => placed(alloc, limits, db, log, scan, frame, it),
+            Some(it) => placed(alloc, limits, db, log, scan, it),
             None => Err(ViewError::NoSuchCommit),
         }
     }

@@ -6,7 +6,7 @@ ghost use Rattle.sqwal.specs.Took.{Took, TookWithin};
 ghost use Rattle.sqjournal.specs.Header.{Names};
 ghost use Rattle.sqjournal.specs.Journal.{IsHot};
 ghost use Rattle.sqview.specs.LogView.{ViewAnswer, ViewAnswerWithin, ReadsFrom, IsTooLongWithin, IsAlone};
-ghost use Rattle.sqview.specs.ViewParts.{ScannedAnswer, ReplayedAnswer, LimitAnswer, IsUnsized, PlacedAnswer};
+ghost use Rattle.sqview.specs.internal.ViewParts.{ScannedAnswer, ReplayedAnswer, LimitAnswer, IsUnsized, PlacedAnswer};
 
 use super::View;
 use super::at_commit::Commit;
@@ -114,31 +114,35 @@ fn committed<F: FileBytes + Drop>(
         return own(alloc, limits, db, log);
     }
     let commit = Commit {
+        frame: front.frames,
         page_size,
         size: front.size,
     };
-    placed(alloc, limits, db, log, scan, front.frames, commit)
+    placed(alloc, limits, db, log, scan, commit)
 }
 
-/// The view of a file with the frames of its log up to a frame, which ends this commit.
+/// The view of a file with the frames of its log up to this commit.
 pub(super) fn placed<F: FileBytes + Drop>(
     alloc: Global,
     limits: Limits,
     db: F,
     log: F,
     scan: &Scan,
-    frame: u32,
     commit: Commit,
 ) -> Result<View<F>, ViewError>
     ensures answer { TookWithin limits.frames (F.bytes log) scan.now → named_size (F.bytes log) ≡ commit.page_size
-        → IsValidFrame commit.page_size (F.bytes log) frame
-        → commit.size ≡ size_of commit.page_size (F.bytes log) frame
-        → PlacedAnswer limits.bytes F.bytes commit.page_size frame commit.size (F.bytes db) (F.bytes log) result }
+        → IsValidFrame commit.page_size (F.bytes log) commit.frame
+        → commit.size ≡ size_of commit.page_size (F.bytes log) commit.frame → PlacedAnswer limits.bytes F.bytes
+        commit.page_size commit.frame commit.size (F.bytes db) (F.bytes log) result }
     ensures still_gives { F.gives_bytes db → F.gives_bytes log
         → IfOk result (λ view. F.gives_bytes view.db × F.gives_bytes view.log) }
     ensures reads { IfOk result (λ view. (F.bytes view.db ≡ F.bytes db) × (F.bytes view.log ≡ F.bytes log)) }
 {
-    let Commit { page_size, size } = commit;
+    let Commit {
+        frame,
+        page_size,
+        size,
+    } = commit;
     let count = within_limit(limits, u64::from(size), page_size)?;
     let places = frame_places(alloc, scan, page_size, frame, size)?;
     Ok(View {

@@ -1,12 +1,12 @@
 use Rattle.crashdisk.specs.Held.{file_of}
-use Rattle.crashdisk.proofs.Sound.{sound_synced}
-use Rattle.crashdisk.specs.SoundModel.{sound, size_positive}
-use Rattle.crashdisk.proofs.Solid.{solid}
+use Rattle.crashdisk.proofs.call.SoundFileUnderChanges.{sound_synced}
+use Rattle.crashdisk.specs.internal.SoundModel.{sound}
+use Rattle.crashdisk.proofs.sector.SolidityOfSoundFiles.{solid}
 use Rattle.crashdisk.proofs.calls.sync_held.Goals as goal
 
-pub returns-clause-solid : goal.returns-clause-solid
-returns-clause-solid c =
+pub returns-clause-stands : goal.returns-clause-stands
+returns-clause-stands c =
     let s = file_of c.args.sector c.args.held.now in
     let t = file_of c.args.sector c.sync.new.self in
-    let positive = (size_positive c.args.sector c.requires.is_size).0 in
-    solid c.args.sector t positive (sound_synced c.args.sector s t (sound c.args.sector s positive c.requires.solid) c.sync.ensures.synced)
+    let held = c.sync.ensures.held in
+    record { held = held; solid = solid c.args.sector t held.positive (sound_synced c.args.sector s t (sound c.args.sector s held.positive c.requires.solid) c.sync.ensures.synced) }

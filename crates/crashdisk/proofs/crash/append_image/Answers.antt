@@ -2,7 +2,7 @@ use Rattle.std.proofs.Common.{◌≡◌, ◌+◌, ◌-◌, ◌/◌, ◌++◌, �
 use Rattle.std.proofs.lemmas.List.{take_all}
 use Rattle.crashdisk.specs.Held.{file_of, file_by}
 use Rattle.crashdisk.specs.Choice.{naming_of, named_byte}
-use Rattle.crashdisk.proofs.Putting.{image_is, appended, part_long}
+use Rattle.crashdisk.proofs.image.BytesNamedByChoice.{image_is, appended, part_long}
 use Rattle.crashdisk.proofs.crash.append_image.Goals as goal
 
 pub returns-clause-ok : goal.returns-clause-ok

@@ -1,24 +1,18 @@
-use Rattle.std.proofs.Common.{◌≡◌, ◌<◌, ◌-◌, ◌∙◌, sym, ap, arith, List, ℕ, length, slice_index_or, [], subst, take}
-use Rattle.crashdisk.specs.Held.{Gets, last_of, EachOf}
-use Rattle.crashdisk.proofs.Each.{one_more, not_yet, rising_take, undone}
+use Rattle.std.proofs.Common.{◌<◌, ◌-◌, ◌∙◌, sym, ap, arith, List, ℕ, length, slice_index_or, [], subst, take}
+use Rattle.crashdisk.specs.internal.Held.{Gets, EndsWhole, EachOf}
+use Rattle.crashdisk.proofs.sector.SectorBySectorChanges.{one_more, not_yet, rising_take, undone}
 use Rattle.crashdisk.proofs.held.append.Goals as goal
 
-pub append_one-requires-clause-some : goal.append_one-requires-clause-some
-append_one-requires-clause-some c =
-    let list = c.args.list.now in
-    let n = c.loop-done.done in
-    let was = not_yet list _ c.args.sectors.now.items (length c.args.sectors.now.items) c.requires.rising n c.loop-done.sectors.items c.loop-done-test.true c.loop-done.invariant in
-    subst (λ (v : List (List ℕ)). 0 < length v) (sym was) (c.requires.whole.some (slice_index_or list n 0) (c.requires.rising.below n c.loop-done-test.true))
-
-pub append_one-requires-clause-long : goal.append_one-requires-clause-long
-append_one-requires-clause-long c =
+pub append_one-requires-clause-ends : goal.append_one-requires-clause-ends
+append_one-requires-clause-ends c =
     let list = c.args.list.now in
     let n = c.loop-done.done in
     let old = c.args.sectors.now.items in
     let k = slice_index_or list n 0 in
     let was = not_yet list _ old (length old) c.requires.rising n c.loop-done.sectors.items c.loop-done-test.true c.loop-done.invariant in
     let there = c.requires.rising.below n c.loop-done-test.true in
-    subst (λ (v : List (List ℕ)). length (last_of v) ≡ c.args.sector) (sym was) (c.requires.whole.long k (length (slice_index_or old k []) - 1) there (omega (arith, c.requires.whole.some k there)))
+    let some = c.requires.whole.some k there in
+    subst (λ (v : List (List ℕ)). EndsWhole c.args.sector v) (sym was) (some, c.requires.whole.long k (length (slice_index_or old k []) - 1) there (omega (arith, some)))
 
 pub undo-requires : goal.undo-requires
 undo-requires c = record {

@@ -1,5 +1,5 @@
 use Rattle.std.proofs.Common.{take}
-use Rattle.crashdisk.specs.Held.{EachOf, Gets}
+use Rattle.crashdisk.specs.internal.Held.{EachOf, Gets}
 use Rattle.crashdisk.proofs.held.append.Given as goal
 
 abbrev pub invariant-loop-done : goal.invariant-loop-done

@@ -1,5 +1,5 @@
 use Rattle.std.proofs.Common.{◌∙◌, arith, [], ◌∷◌, ◌++◌, length, replicate, ap}
-use Rattle.crashdisk.proofs.Touching.{grown_more}
+use Rattle.crashdisk.proofs.sector.TouchedSectors.{grown_more}
 use Rattle.crashdisk.proofs.held.grow.Goals as goal
 
 pub loop-preserved : goal.loop-preserved

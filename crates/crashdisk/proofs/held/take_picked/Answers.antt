@@ -1,7 +1,8 @@
 use Rattle.std.proofs.Common.{◌≡◌, ◌<◌, ◌+◌, ◌-◌, ◌∙◌, ◌++◌, ◌∷◌, sym, ap, arith, List, ℕ, length, slice_index_or, [], take, drop, subst, Bool, true, false, cond}
 use Rattle.std.proofs.lemmas.List.{get_or_default, set-get_or}
-use Rattle.crashdisk.specs.Held.{Takes, is_odd, swapped}
-use Rattle.crashdisk.proofs.Each.{one_more, not_yet}
+use Rattle.crashdisk.specs.Held.{is_odd}
+use Rattle.crashdisk.specs.internal.Held.{Takes, swapped}
+use Rattle.crashdisk.proofs.sector.SectorBySectorChanges.{one_more, not_yet}
 use Rattle.crashdisk.proofs.held.take_picked.Goals as goal
 use Rattle.crashdisk.proofs.held.take_picked.Goals.{then-not-is_taken, else-not-is_taken}
 

@@ -1,5 +1,5 @@
 use Rattle.std.proofs.Common.{take}
-use Rattle.crashdisk.specs.Held.{EachOf, Takes}
+use Rattle.crashdisk.specs.internal.Held.{EachOf, Takes}
 use Rattle.crashdisk.proofs.held.take_picked.Given as goal
 
 abbrev pub invariant-loop-i : goal.invariant-loop-i

@@ -1,6 +1,7 @@
 use Rattle.std.proofs.Common.{◌≡◌, ◌<◌, ◌≤◌, ◌+◌, ◌/◌, ℕ, Bool, true, false, IsTrue, sym, ◌∙◌, ap, subst, arith}
-use Rattle.crashdisk.specs.Held.{file_by, Touches}
-use Rattle.crashdisk.proofs.Touching.{Below, one_found, one_skipped, none_below, all_below, touched_from, touched_to, touched_there}
+use Rattle.crashdisk.specs.Held.{file_by}
+use Rattle.crashdisk.specs.internal.Held.{Touches}
+use Rattle.crashdisk.proofs.sector.TouchedSectors.{Below, one_found, one_skipped, none_below, all_below, touched_from, touched_to, touched_there}
 use Rattle.crashdisk.proofs.held.touched.Goals as goal
 use Rattle.crashdisk.proofs.held.touched.Goals.{then-is_touched+in_ok-push, else-is_touched, then-len-change, else-len-change}
 
@@ -15,7 +16,7 @@ loop-k-init c =
     let change = c.args.change.now in
     let touches : ℕ → Type 0 = Touches c.args.sector (file_by c.args.sector c.args.sectors.now c.args.len 0 0) change.from change.to change.end in
     subst (λ l. Below touches (c.min.result / c.args.sector) l) (sym c.new-list.ensures.items) (none_below touches (c.min.result / c.args.sector)
-    (λ k t. omega (arith, ap (λ (n : ℕ). n / c.args.sector) c.min.ensures, touched_from c.args.sector change.from change.to change.end c.args.len c.args.sectors.now c.requires.positive k t)))
+    (λ k t. omega (arith, ap (λ (n : ℕ). n / c.args.sector) c.min.ensures, touched_from c.args.sector change.from change.to change.end c.args.len c.args.sectors.now c.requires.size.0 k t)))
 
 pub loop-k-preserved : goal.loop-k-preserved
 loop-k-preserved c =
@@ -42,6 +43,6 @@ returns c =
       arith,
       c.loop-k-test.false,
       c.min-k-end.ensures,
-      touched_to c.args.sector change.from change.to change.end c.args.len c.args.sectors.now c.requires.positive k c.if-len-change.place reach.0 reach.1 c.requires.fits t,
-      touched_there c.args.sector change.from change.to change.end c.args.len c.args.sectors.now c.requires.positive k c.requires.there t,
+      touched_to c.args.sector change.from change.to change.end c.args.len c.args.sectors.now c.requires.size.0 k c.if-len-change.place reach.0 reach.1 c.requires.suits.fits t,
+      touched_there c.args.sector change.from change.to change.end c.args.len c.args.sectors.now c.requires.size.0 k c.requires.there t,
     ))

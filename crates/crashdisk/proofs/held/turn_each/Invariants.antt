@@ -1,5 +1,6 @@
 use Rattle.std.proofs.Common.{◌≡◌, ◌<◌, ◌≤◌, ℕ, true, [], length, get_or}
-use Rattle.crashdisk.specs.Held.{picked, turned}
+use Rattle.crashdisk.specs.Held.{picked}
+use Rattle.crashdisk.specs.internal.Held.{turned}
 use Rattle.crashdisk.proofs.held.turn_each.Given as goal
 
 abbrev pub invariant-loop-k : goal.invariant-loop-k

@@ -1,7 +1,8 @@
 use Rattle.std.proofs.Common.{◌<◌, ◌∙◌, ap, refl, arith, length, slice_index_or, []}
 use Rattle.std.proofs.lemmas.List.{get_or_default}
-use Rattle.crashdisk.specs.Held.{Loses, before_last}
-use Rattle.crashdisk.proofs.Each.{one_more, not_yet}
+use Rattle.crashdisk.specs.Held.{before_last}
+use Rattle.crashdisk.specs.internal.Held.{Loses}
+use Rattle.crashdisk.proofs.sector.SectorBySectorChanges.{one_more, not_yet}
 use Rattle.crashdisk.proofs.held.undo.Goals as goal
 
 pub loop-k-preserved : goal.loop-k-preserved

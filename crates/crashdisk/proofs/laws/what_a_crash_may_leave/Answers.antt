@@ -1,4 +1,4 @@
-use Rattle.crashdisk.proofs.ImagesOfCalls.{images_listed, images_written, images_cut, images_synced, images_spared, images_crashed}
+use Rattle.crashdisk.proofs.image.ImagesOfCalls.{images_listed, images_written, images_cut, images_synced, images_spared, images_crashed}
 use Rattle.crashdisk.proofs.laws.what_a_crash_may_leave.Goals as goal
 
 pub returns-clause-image : goal.returns-clause-image

@@ -6,7 +6,7 @@ use Rattle.std.proofs.lemmas.List.Sums.{sum_by_more_le}
 use Rattle.sqval.specs.Database.{Pages}
 use Rattle.sqval.specs.JudgedPages.{lent}
 use Rattle.rollcore.specs.Machine.{recorded}
-use Rattle.rollcore.proofs.Listed.{there}
+use Rattle.rollcore.proofs.commit.ListedChanges.{there}
 use Rattle.rollcore.proofs.changes.count_records.Goals as goal
 
 -- one more page that is there already is one of all

@@ -1,6 +1,6 @@
 use Rattle.std.proofs.Common.{◌≡◌, ◌-◌, ◌+◌, take}
 use Rattle.sqval.specs.JudgedPages.{lent}
-use Rattle.rollcore.proofs.Listed.{there}
+use Rattle.rollcore.proofs.commit.ListedChanges.{there}
 use Rattle.rollcore.proofs.changes.count_records.Given as goal
 
 abbrev pub invariant-loop-x : goal.invariant-loop-x

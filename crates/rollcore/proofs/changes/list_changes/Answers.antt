@@ -2,11 +2,11 @@ use Rattle.std.proofs.Common.{rules, List, sym, subst}
 use Rattle.std.specs.List.Sorted.{IsPermutation, IsNonDecreasingBy}
 use Rattle.std.proofs.lemmas.List.Sorted.{IsNonDecreasingBy-from_sort_by_key}
 use Rattle.sqval.specs.JudgedPages.{lent}
-use Rattle.sqval.proofs.Faultless.{faultless}
-use Rattle.rollcore.specs.Commits.{AreChanges}
-use Rattle.rollcore.specs.Listing.{written}
+use Rattle.sqval.proofs.database.FaultlessCommit.{faultless}
+use Rattle.rollcore.specs.internal.Commits.{AreChanges}
+use Rattle.rollcore.specs.internal.Listing.{written}
 use Rattle.rollcore.specs.declared.changes.Change.{Change}
-use Rattle.rollcore.proofs.Listed.{are_changes}
+use Rattle.rollcore.proofs.commit.ListedChanges.{are_changes}
 use Rattle.rollcore.proofs.changes.list_changes.Goals as goal
 
 pub returns-clause-changes : goal.returns-clause-changes

@@ -3,9 +3,9 @@ use Rattle.std.specs.Prelude.{Some}
 use Rattle.std.proofs.lemmas.List.{map_more, length-map, length-take-le}
 use Rattle.sqval.specs.Database.{Pages}
 use Rattle.sqval.specs.JudgedPages.{lent}
-use Rattle.rollcore.specs.Listing.{written}
+use Rattle.rollcore.specs.internal.Listing.{written}
 use Rattle.rollcore.specs.declared.changes.Change.{Change}
-use Rattle.rollcore.proofs.Listed.{more_yes, more_no}
+use Rattle.rollcore.proofs.commit.ListedChanges.{more_yes, more_no}
 use Rattle.rollcore.proofs.changes.list_written.Goals as goal
 use Rattle.rollcore.proofs.changes.list_written.Goals.{then-x-old_size+in_ok-push, else-x-old_size}
 

@@ -1,6 +1,6 @@
 use Rattle.std.proofs.Common.{◌≡◌, take}
 use Rattle.sqval.specs.JudgedPages.{lent}
-use Rattle.rollcore.specs.Listing.{written}
+use Rattle.rollcore.specs.internal.Listing.{written}
 use Rattle.rollcore.proofs.changes.list_written.Given as goal
 
 abbrev pub invariant-loop-k : goal.invariant-loop-k

@@ -1,7 +1,7 @@
 use Rattle.std.proofs.Common.{rules, inl, inr, ⊎_elim, ◌∙◌}
 use Rattle.sqval.specs.JudgedPages.{lent}
-use Rattle.sqval.proofs.Answering.{passed}
-use Rattle.rollcore.proofs.Deciding.{fits_kept, refusal_open, refused_step}
+use Rattle.sqval.proofs.database.AnswersOfEngine.{passed}
+use Rattle.rollcore.proofs.commit.StepOfCommit.{fits_kept, refusal_open, refused_step}
 use Rattle.rollcore.proofs.commits.commit_pages.Goals as goal
 
 pub returns-in_err-prepare-clause-disk : goal.returns-in_err-prepare-clause-disk

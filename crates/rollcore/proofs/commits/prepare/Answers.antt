@@ -1,7 +1,7 @@
 use Rattle.std.proofs.Common.{ℕ, ◌^◌, ◌<◌, sym, subst, arith}
 use Rattle.sqval.specs.JudgedPages.{lent}
 use Rattle.rollcore.specs.Machine.{recorded}
-use Rattle.rollcore.proofs.Deciding.{few_records}
+use Rattle.rollcore.proofs.commit.StepOfCommit.{few_records}
 use Rattle.rollcore.proofs.commits.prepare.Goals as goal
 
 pub count_records-requires : goal.count_records-requires

@@ -7,20 +7,20 @@ use Rattle.rollcore.specs.Machine.{refusal_of, segments_of}
 use Rattle.rollcore.specs.Journaling.{sizes, HasParts, parts_of}
 use Rattle.rollcore.specs.Replaying.{zeroed}
 use Rattle.crashdisk.specs.Keeps.{IsLogDown}
-use Rattle.rollcore.specs.Commits.{AreChanges, PutAnswer, ArePlaced}
-use Rattle.rollcore.specs.Segments.{Journaled, ArePut, pages_of}
+use Rattle.rollcore.specs.internal.Commits.{AreChanges, PutAnswer, ArePlaced}
+use Rattle.rollcore.specs.internal.Segments.{Journaled, ArePut, pages_of}
 use Rattle.rollcore.specs.declared.changes.Change.{Change}
 use Rattle.rollcore.specs.declared.error.RollError.{RollError}
-use Rattle.sqval.proofs.Answering.{passed}
-use Rattle.rollcore.proofs.Parting.{part_short, ready_placed}
-use Rattle.rollcore.proofs.Granting.{granted}
-use Rattle.rollcore.proofs.Growing.{lent_at, lent_length}
-use Rattle.rollcore.proofs.Closed.{put_harmless, put_after}
+use Rattle.sqval.proofs.database.AnswersOfEngine.{passed}
+use Rattle.rollcore.proofs.commit.SegmentsOfCommit.{part_short, ready_placed}
+use Rattle.rollcore.proofs.commit.AcceptedCommit.{granted}
+use Rattle.rollcore.proofs.commit.AppendedPages.{lent_at, lent_length}
+use Rattle.rollcore.proofs.commit.CompletedCommit.{put_harmless, put_after}
 use Rattle.sqval.specs.CommitFaults.{most_bytes}
-use Rattle.rollcore.specs.Committing.{RestsAt}
+use Rattle.rollcore.specs.internal.Committing.{RestsAt}
 use Rattle.rollcore.specs.Changes.{MayReplay, MayCommit, Asks}
-use Rattle.rollcore.proofs.Told.{asks_err, asks_then, asks_wider}
-use Rattle.rollcore.proofs.Asking.{replay_may}
+use Rattle.rollcore.proofs.disk.ToldRefusals.{asks_err, asks_then, asks_wider}
+use Rattle.rollcore.proofs.disk.PermittedChanges.{replay_may}
 use Rattle.rollcore.proofs.commits.put_commit.Goals as goal
 
 pub returns-in_err-put_segments-clause-disk : goal.returns-in_err-put_segments-clause-disk

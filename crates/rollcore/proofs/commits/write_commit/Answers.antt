@@ -5,12 +5,15 @@ use Rattle.sqval.specs.JudgedPages.{lent}
 use Rattle.sqval.specs.Answers.{Done}
 use Rattle.rollcore.specs.Machine.{Commits, segments_of}
 use Rattle.rollcore.specs.Journaling.{sizes, parts_of}
-use Rattle.rollcore.specs.Fits.{StepsTo, answered}
-use Rattle.rollcore.specs.Commits.{PutAnswer, LeavesParts, TakesNonces}
+use Rattle.rollcore.specs.Fits.{StepsTo}
+use Rattle.rollcore.specs.Commits.{LeavesParts, TakesNonces}
+use Rattle.rollcore.specs.internal.Commits.{PutAnswer}
 use Rattle.rollcore.specs.declared.error.RollError.{RollError}
-use Rattle.rollcore.proofs.Deciding.{commit_step, changed_here, put_here}
-use Rattle.rollcore.specs.Segments.{pages_of}
+use Rattle.rollcore.proofs.commit.StepOfCommit.{commit_step, changed_here, put_here}
+use Rattle.rollcore.specs.internal.Segments.{pages_of}
 use Rattle.std.proofs.lemmas.Result.{on_ok_weaker}
+use Rattle.recovery.specs.Moments.{answered}
+use Rattle.rollcore.specs.Refusal.{number_of}
 use Rattle.rollcore.proofs.commits.write_commit.Goals as goal
 
 pub returns-clause-disk : goal.returns-clause-disk
@@ -20,7 +23,7 @@ returns-clause-disk g c = record {
       let by_put_commit = c.put_commit-put.ensures.disk.holds word in
       record {
         step = λ past fits.
-            subst (λ (r : Result (Unit {0}) RollError). StepsTo past (Commits (lent c.args.pages.now) c.args.size c.args.nonces.now) (answered (λ _. Done) r) c.end_put.new.core (g.D.Disk.state c.args.disk.now) (g.D.Disk.state c.put_commit-put.new.disk)) (sym c.end_put.ensures.same)
+            subst (λ (r : Result (Unit {0}) RollError). StepsTo past (Commits (lent c.args.pages.now) c.args.size c.args.nonces.now) (answered number_of (λ _. Done) r) c.end_put.new.core (g.D.Disk.state c.args.disk.now) (g.D.Disk.state c.put_commit-put.new.disk)) (sym c.end_put.ensures.same)
             (commit_step past c.args.core.now c.put_commit-put.new.core (g.D.Disk.state c.args.disk.now) (g.D.Disk.state c.put_commit-put.new.disk) fits opened c.args.pages.now c.args.size c.args.nonces.now c.requires c.put_commit-put.ensures.keeps
             (by_put_commit.asks (fits.core opened).header_room).later c.put_commit-put.result c.end_put.new.core (by_put_commit.asks (fits.core opened).header_room).told
             (put_here past c.args.core.now c.put_commit-put.new.core (g.D.Disk.state c.args.disk.now) (g.D.Disk.state c.put_commit-put.new.disk) fits opened c.args.pages.now c.args.size c.args.nonces.now c.requires c.put_commit-put.ensures.keeps

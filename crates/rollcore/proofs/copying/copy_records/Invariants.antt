@@ -6,11 +6,11 @@ use Rattle.sqjournal.specs.Took.{HasCount}
 use Rattle.sqjournal.specs.declared.reading.Why.{Why}
 use Rattle.crashdisk.specs.Call.{ArePresent}
 use Rattle.crashdisk.specs.State.{longest}
-use Rattle.crashdisk.specs.Keeps.{KeepsLog}
-use Rattle.rollcore.specs.Phases.{Writing}
-use Rattle.rollcore.specs.Steps.{HasRead}
-use Rattle.rollcore.proofs.Copies.{Upto}
-use Rattle.rollcore.proofs.Records.{entries_of}
+use Rattle.crashdisk.specs.internal.Keeps.{KeepsLog}
+use Rattle.rollcore.specs.internal.Phases.{Writing}
+use Rattle.rollcore.specs.internal.Steps.{HasRead}
+use Rattle.rollcore.proofs.replays.CopiedPages.{Upto}
+use Rattle.rollcore.proofs.replays.LastRecordOfPage.{entries_of}
 use Rattle.std.specs.Prelude.{Ok}
 use Rattle.rollcore.specs.Changes.{MayReplayWithin, Asks}
 use Rattle.rollcore.proofs.copying.copy_records.Given as goal

@@ -1,19 +1,19 @@
 use Rattle.std.proofs.Common.{◌≡◌, ◌≤◌, ◌+◌, ◌-◌, ◌*◌, inl, inr, ⊎_elim, ℕ, List, [], length, take, refl, arith, ap, subst, rules}
 use Rattle.std.specs.Prelude.{Ok, Some, None}
 use Rattle.sqval.specs.Bytes.{word as word_of}
-use Rattle.sqval.proofs.Answering.{passed}
+use Rattle.sqval.proofs.database.AnswersOfEngine.{passed}
 use Rattle.crashdisk.specs.State.{longest}
 use Rattle.crashdisk.specs.Call.{Writes, ArePresent}
 use Rattle.crashdisk.specs.Keeps.{Later}
 use Rattle.crashdisk.specs.declared.file.File.TheVariants.{Db}
-use Rattle.crashdisk.proofs.Later.{later_still, later_then, later_write}
-use Rattle.crashdisk.proofs.Stills.{still, still_looks, still_sound, keeps_still, keeps_then, keeps_write}
+use Rattle.crashdisk.proofs.call.DisksAfterCalls.{later_still, later_then, later_write}
+use Rattle.crashdisk.proofs.call.UnchangingCalls.{still, still_looks, still_sound, keeps_still, keeps_then, keeps_write}
 use Rattle.rollcore.specs.Changes.{MayReplayWithin}
-use Rattle.rollcore.specs.Steps.{HasRead}
+use Rattle.rollcore.specs.internal.Steps.{HasRead}
 use Rattle.rollcore.specs.declared.error.RollError.TheVariants.{Device}
-use Rattle.rollcore.proofs.Told.{asks_same, asks_device, asks_done, asks_then}
-use Rattle.rollcore.proofs.Copies.{has_within, run_long, run_content, run_room, run_bytes, piece_long, piece_there, front_long, front_kept, run_none, run_unread, run_unwritten, run_put, run_fits, run_may}
-use Rattle.rollcore.proofs.ReadFronts.{read_entry}
+use Rattle.rollcore.proofs.disk.ToldRefusals.{asks_same, asks_device, asks_done, asks_then}
+use Rattle.rollcore.proofs.replays.CopiedPages.{has_within, run_long, run_content, run_room, run_bytes, piece_long, piece_there, front_long, front_kept, run_none, run_unread, run_unwritten, run_put, run_fits, run_may}
+use Rattle.rollcore.proofs.replays.DecisivePrefixOfJournal.{read_entry}
 use Rattle.rollcore.proofs.copying.copy_run.Goals as goal
 
 pub returns-in_default-clause-disk : goal.returns-in_default-clause-disk

@@ -1,16 +1,17 @@
-use Rattle.std.proofs.Common.{rules, refl, arith}
+use Rattle.std.proofs.Common.{rules, refl, arith, lit≤}
 use Rattle.crashdisk.specs.declared.file.File.TheVariants.{Db}
-use Rattle.sqval.proofs.Answering.{passed}
+use Rattle.sqval.proofs.database.AnswersOfEngine.{passed}
 use Rattle.crashdisk.specs.Keeps.{Later}
-use Rattle.crashdisk.specs.Call.{InFile}
+use Rattle.crashdisk.specs.internal.Call.{InFile}
 use Rattle.rollcore.specs.Changes.{MayReplayWithin, Asks}
-use Rattle.rollcore.proofs.Told.{asks_step, asks_as, asks_err, asks_then, asks_zeros}
-use Rattle.rollcore.proofs.Ending.{zero_refused, end_refused, end_done}
-use Rattle.crashdisk.proofs.Later.{sync_later, sync_refused}
-use Rattle.rollcore.proofs.Agreeing.{synced_shows, synced_filed, zeroed_shows}
-use Rattle.rollcore.proofs.Lengths.{ends_settled, ends_finished}
-use Rattle.rollcore.proofs.Closed.{synced_failed, zero_failed, zero_closed}
+use Rattle.rollcore.proofs.disk.ToldRefusals.{asks_step, asks_as, asks_err, asks_then, asks_zeros}
+use Rattle.rollcore.proofs.replays.FinalSteps.{end_refused, end_done}
+use Rattle.crashdisk.proofs.call.DisksAfterCalls.{sync_later, sync_refused}
+use Rattle.rollcore.proofs.replays.ShownDatabaseAtExits.{synced_shows, synced_filed, zeroed_shows}
+use Rattle.rollcore.proofs.replays.LengthOfDatabaseFile.{ends_settled, ends_finished}
+use Rattle.rollcore.proofs.commit.CompletedCommit.{synced_failed, zero_failed, zero_closed}
 use Rattle.rollcore.specs.declared.error.RollError.TheVariants.{Device}
+use Rattle.recovery.proofs.AnswersOfSteps.{zero_refused}
 use Rattle.rollcore.proofs.copying.finish.Goals as goal
 
 pub returns-in_err-settle_database-clause-disk : goal.returns-in_err-settle_database-clause-disk
@@ -51,7 +52,7 @@ returns-in_err-zero_header-clause-disk g c = record {
         ends =
             let first : Later (InFile Db) (g.D.Disk.state c.args.disk.now) (g.D.Disk.state c.settle_database.new.disk) = sync_later Device Db c.settle_database.result _ _ refl sound by_settle_database in
             end_refused c.zero_header.result c.from_residual-in_err-zero_header.result _ (g.D.Disk.state c.args.disk.now) (g.D.Disk.state c.settle_database.new.disk) (g.D.Disk.state c.zero_header.new.disk) first.refused (passed c.from_residual-in_err-zero_header.result _ c.from_residual-in_err-zero_header.ensures.1)
-            (zero_refused c.zero_header.result _ _ _ first.sound c.in_err-zero_header.was by_zero_header);
+            (zero_refused Device 28 (lit≤ tt) c.zero_header.result _ _ _ first.sound c.in_err-zero_header.was by_zero_header);
         shows = λ size w d is pages. zeroed_shows size w d c.zero_header.result _ _ (synced_filed size w d _ _ _ is pages (c.in_ok-settle_database.ensures.disk.holds word)) by_zero_header;
         lengths = λ sectors w down hot names.
             ends_finished w (g.D.Disk.state c.args.disk.now) (g.D.Disk.state c.settle_database.new.disk) (g.D.Disk.state c.zero_header.new.disk) sound sectors down hot names _ (c.in_ok-settle_database.ensures.disk.holds word)

@@ -3,7 +3,7 @@ use Rattle.std.specs.Prelude.{Some}
 use Rattle.std.proofs.lemmas.Bool.{cases_lt}
 use Rattle.sqjournal.specs.Took.{HasEntry}
 use Rattle.sqjournal.specs.declared.reading.Record.{Record}
-use Rattle.rollcore.proofs.ReadFronts.{read_entry}
+use Rattle.rollcore.proofs.replays.DecisivePrefixOfJournal.{read_entry}
 use Rattle.rollcore.proofs.copying.run_from.Goals as goal
 
 pub loop-run-preserved : goal.loop-run-preserved

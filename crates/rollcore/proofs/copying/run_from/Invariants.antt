@@ -1,7 +1,7 @@
 use Rattle.std.proofs.Common.{ℕ, List, ◌+◌, ◌-◌, ◌*◌, ◌<◌, ◌≤◌}
 use Rattle.std.specs.Prelude.{Some}
 use Rattle.sqjournal.specs.Took.{HasEntry}
-use Rattle.rollcore.specs.Steps.{HasRead}
+use Rattle.rollcore.specs.internal.Steps.{HasRead}
 use Rattle.rollcore.proofs.copying.run_from.Given as goal
 
 abbrev pub invariant-loop-run : goal.invariant-loop-run

@@ -1,5 +1,5 @@
 use Rattle.rollcore.specs.Machine.{start}
-use Rattle.rollcore.proofs.Kept.{sane_start, sane_runs, kept_runs}
+use Rattle.rollcore.proofs.machine.StepInvariants.{sane_start, sane_runs, kept_runs}
 use Rattle.rollcore.proofs.laws.what_is_down_stays.Goals as goal
 
 pub returns : goal.returns

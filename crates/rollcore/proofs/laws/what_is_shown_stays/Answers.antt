@@ -1,17 +1,19 @@
-use Rattle.rollcore.proofs.Shown.{shown_synced, shown_looked, shown_same, shown_crashed}
+use Rattle.recovery.proofs.NarrowedImages.{alone_syncs, alone_looks, alone_same}
+use Rattle.recovery.proofs.ShownDatabase.{crash_shows}
+use Rattle.rollcore.specs.Alone.{journal_log}
 use Rattle.rollcore.proofs.laws.what_is_shown_stays.Goals as goal
 
 pub returns-clause-sync : goal.returns-clause-sync
-returns-clause-sync c size d f called old new sound alone synced = shown_synced size d f called old new sound synced alone
+returns-clause-sync c size d f called old new sound alone synced = alone_syncs journal_log size d f called old new sound synced alone
 
 pub returns-clause-length : goal.returns-clause-length
-returns-clause-length c size d called old new sound alone looked = shown_looked size d 0 called old new sound looked alone
+returns-clause-length c size d called old new sound alone looked = alone_looks journal_log size d 0 called old new looked alone
 
 pub returns-clause-read : goal.returns-clause-read
-returns-clause-read c size d end called old new sound alone looked = shown_looked size d end called old new sound looked alone
+returns-clause-read c size d end called old new sound alone looked = alone_looks journal_log size d end called old new looked alone
 
 pub returns-clause-same : goal.returns-clause-same
-returns-clause-same c size d old new sound alone same = shown_same size d old new sound same alone
+returns-clause-same c size d old new sound alone same = alone_same journal_log size d old new sound same alone
 
 pub returns-clause-crash : goal.returns-clause-crash
-returns-clause-crash c size d db log old new sound alone crashed whole = shown_crashed size d db log old new sound crashed whole alone
+returns-clause-crash c size d db log old new sound alone crashed whole = crash_shows journal_log size d db log old new sound alone crashed whole

@@ -1,14 +1,14 @@
 use Rattle.std.proofs.Common.{rules, ◌∙◌, inl, refl, ap}
 use Rattle.std.specs.Prelude.{Ok}
 use Rattle.crashdisk.specs.declared.file.File.TheVariants.{Log}
-use Rattle.sqval.proofs.Answering.{passed}
-use Rattle.crashdisk.specs.Call.{InFile}
+use Rattle.sqval.proofs.database.AnswersOfEngine.{passed}
+use Rattle.crashdisk.specs.internal.Call.{InFile}
 use Rattle.crashdisk.specs.Keeps.{Later}
-use Rattle.rollcore.proofs.Asking.{front_may}
-use Rattle.rollcore.proofs.Going.{goes_broken, asks_broken}
-use Rattle.rollcore.proofs.Told.{asks_step, asks_as, asks_err, asks_then}
-use Rattle.rollcore.proofs.Breaking.{front_failed, front_none, front_unsynced, front_synced}
-use Rattle.rollcore.proofs.Refusing.{broken_refused, settled_refused}
+use Rattle.rollcore.proofs.disk.PermittedChanges.{front_may}
+use Rattle.rollcore.proofs.disk.InvariantsOfCalls.{goes_broken, asks_broken}
+use Rattle.rollcore.proofs.disk.ToldRefusals.{asks_step, asks_as, asks_err, asks_then}
+use Rattle.rollcore.proofs.openings.ErasedMagic.{front_failed, front_none, front_unsynced, front_synced}
+use Rattle.rollcore.proofs.openings.RefusalOfOpening.{broken_refused, settled_refused}
 use Rattle.rollcore.proofs.opening.break_front.Goals as goal
 
 pub returns-in_err-break_magic : goal.returns-in_err-break_magic

@@ -1,10 +1,11 @@
 use Rattle.std.proofs.Common.{rules, refl}
 use Rattle.std.specs.Prelude.{Ok, IsTrue, Bool, true, false}
-use Rattle.rollcore.proofs.Told.{told_device, told_done, told_then}
+use Rattle.rollcore.proofs.disk.ToldRefusals.{told_device, told_then}
 use Rattle.rollcore.specs.declared.error.RollError.TheVariants.{Device}
-use Rattle.sqval.proofs.Answering.{passed}
-use Rattle.crashdisk.proofs.Stills.{still_looks}
-use Rattle.rollcore.proofs.Fronts.{magic_read, magic_there, puts_zero, break_failed, break_unread}
+use Rattle.sqval.proofs.database.AnswersOfEngine.{passed}
+use Rattle.crashdisk.proofs.call.UnchangingCalls.{still_looks}
+use Rattle.rollcore.proofs.openings.MagicAsRead.{magic_read, magic_there, puts_zero, break_failed, break_unread}
+use Rattle.recovery.proofs.ToldRefusals.{tells_ok}
 use Rattle.rollcore.proofs.opening.break_magic.Goals as goal
 
 pub returns-then-not-is_magic-clause-disk : goal.returns-then-not-is_magic-clause-disk
@@ -20,7 +21,7 @@ returns-then-not-is_magic-clause-disk g c = record {
               let no = c.if-not-is_magic.true in
               absurd (cc),
         );
-        told = told_done {T = Bool} (Ok false) c.read_at.result _ (g.D.Disk.state c.args.disk.now) (g.D.Disk.state c.read_at.new.self) c.in_ok-read_at.was (c.read_at.ensures.state word).refused;
+        told = tells_ok {T = Bool} Device (Ok false) c.read_at.result _ (g.D.Disk.state c.args.disk.now) (g.D.Disk.state c.read_at.new.self) c.in_ok-read_at.was (c.read_at.ensures.state word).refused;
       };
 }
 
@@ -57,8 +58,8 @@ returns-clause-disk g c = record {
             (λ w are. magic_there w a.log c.args.at c.read_at.new.out are c.read_at.auto.out (c.in_ok-read_at.ensures.bytes word) (c.is_magic.ensures.0 yes))
             (Ok tt) (c.in_ok-write_at.ensures.state (c.read_at.ensures.word.0 word));
         told =
-            told_then {T = Bool} (Ok true) {U = Unit {0}} (Ok tt) tt (g.D.Disk.state c.args.disk.now) (g.D.Disk.state c.read_at.new.self) (g.D.Disk.state c.write_at.new.self) refl (told_done {T = Unit {0}} (Ok tt) c.read_at.result _ (g.D.Disk.state c.args.disk.now) (g.D.Disk.state c.read_at.new.self) c.in_ok-read_at.was (c.read_at.ensures.state word).refused)
-            (told_done {T = Bool} (Ok true) c.write_at.result _ (g.D.Disk.state c.read_at.new.self) (g.D.Disk.state c.write_at.new.self) c.in_ok-write_at.was (c.write_at.ensures.state (c.read_at.ensures.word.0 word)).elsewhere.refused);
+            told_then {T = Bool} (Ok true) {U = Unit {0}} (Ok tt) tt (g.D.Disk.state c.args.disk.now) (g.D.Disk.state c.read_at.new.self) (g.D.Disk.state c.write_at.new.self) refl (tells_ok {T = Unit {0}} Device (Ok tt) c.read_at.result _ (g.D.Disk.state c.args.disk.now) (g.D.Disk.state c.read_at.new.self) c.in_ok-read_at.was (c.read_at.ensures.state word).refused)
+            (tells_ok {T = Bool} Device (Ok true) c.write_at.result _ (g.D.Disk.state c.read_at.new.self) (g.D.Disk.state c.write_at.new.self) c.in_ok-write_at.was (c.write_at.ensures.state (c.read_at.ensures.word.0 word)).elsewhere.refused);
       };
 }
 

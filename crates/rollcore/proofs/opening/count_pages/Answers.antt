@@ -1,13 +1,14 @@
 use Rattle.std.proofs.Common.{rules, ◌∙◌, ℕ, sym, subst, arith}
 use Rattle.sqval.specs.PageSize.{IsPageSize}
-use Rattle.sqval.proofs.FilePages.{count_zero, count_rest}
+use Rattle.sqval.proofs.page.FilePages.{count_zero, count_rest}
 use Rattle.std.specs.Prelude.{Err}
-use Rattle.sqval.proofs.Answering.{passed}
+use Rattle.sqval.proofs.database.AnswersOfEngine.{passed}
 use Rattle.rollcore.specs.declared.error.RollError.TheVariants.{TooLarge, PageSize, Device}
-use Rattle.rollcore.proofs.Judging.{count_whole}
-use Rattle.rollcore.proofs.Told.{told_device, told_done}
+use Rattle.rollcore.proofs.replays.PlanOfScannedLog.{count_whole}
+use Rattle.rollcore.proofs.disk.ToldRefusals.{told_device}
 use Rattle.rollcore.proofs.opening.count_pages.Goals.{then-long-eq0-via-then-long-eq0, then-long-eq0-via-else-long-eq0+then-long-size-ne0}
-use Rattle.crashdisk.proofs.Stills.{still_looks}
+use Rattle.crashdisk.proofs.call.UnchangingCalls.{still_looks}
+use Rattle.recovery.proofs.ToldRefusals.{tells_ok}
 use Rattle.rollcore.proofs.opening.count_pages.Goals as goal
 
 pub returns-then-long-eq0-clause-disk : goal.returns-then-long-eq0-clause-disk
@@ -17,7 +18,7 @@ returns-then-long-eq0-clause-disk g c = record {
       let sound = g.met.D.Disk.sound c.args.disk.now word in
       record {
         still = still_looks _ c.len.result _ _ sound (c.len.ensures.state word);
-        told = told_done {T = ℕ} (Err PageSize) c.len.result _ (g.D.Disk.state c.args.disk.now) (g.D.Disk.state c.len.new.self) c.in_ok-long.was (c.len.ensures.state word).refused;
+        told = tells_ok {T = ℕ} Device (Err PageSize) c.len.result _ (g.D.Disk.state c.args.disk.now) (g.D.Disk.state c.len.new.self) c.in_ok-long.was (c.len.ensures.state word).refused;
         found = (
           omega (arith, c.in_ok-long.ensures.answer word),
           λ n one e. elim c.then-long-eq0.branch [
@@ -47,7 +48,7 @@ returns-then-long-gt-MOST_BYTES-clause-disk g c = record {
       let sound = g.met.D.Disk.sound c.args.disk.now word in
       record {
         still = still_looks _ c.len.result _ _ sound (c.len.ensures.state word);
-        told = told_done {T = ℕ} (Err TooLarge) c.len.result _ (g.D.Disk.state c.args.disk.now) (g.D.Disk.state c.len.new.self) c.in_ok-long.was (c.len.ensures.state word).refused;
+        told = tells_ok {T = ℕ} Device (Err TooLarge) c.len.result _ (g.D.Disk.state c.args.disk.now) (g.D.Disk.state c.len.new.self) c.in_ok-long.was (c.len.ensures.state word).refused;
         found = search rules;
       };
 }
@@ -59,7 +60,7 @@ returns-clause-disk g c = record {
       let sound = g.met.D.Disk.sound c.args.disk.now word in
       record {
         still = still_looks _ c.len.result _ _ sound (c.len.ensures.state word);
-        told = told_done {T = ℕ} _ c.len.result _ (g.D.Disk.state c.args.disk.now) (g.D.Disk.state c.len.new.self) c.in_ok-long.was (c.len.ensures.state word).refused;
+        told = tells_ok {T = ℕ} Device _ c.len.result _ (g.D.Disk.state c.args.disk.now) (g.D.Disk.state c.len.new.self) c.in_ok-long.was (c.len.ensures.state word).refused;
         found =
             let long = c.in_ok-long.ensures.answer word in
             let whole = count_whole c.args.page_size c.from-size.result c.in_ok-long.long (c.from-size.ensures ∙ c.get.ensures.value) c.if-long-size-ne0.false c.if-long-eq0.false in

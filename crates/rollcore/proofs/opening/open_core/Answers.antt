@@ -1,12 +1,12 @@
 use Rattle.std.proofs.Common.{ℕ, rules, arith, subst, sym, ◌∙◌, inl, inr, refl}
-use Rattle.sqjournal.proofs.Journals.{size_bounds}
-use Rattle.crashdisk.proofs.Pages.{sector_some}
+use Rattle.sqjournal.proofs.read.JournalOfTakenBytes.{size_bounds}
+use Rattle.crashdisk.proofs.page.PlacesOfPages.{sector_some}
 use Rattle.crashdisk.specs.Keeps.{TearsPages}
-use Rattle.sqval.proofs.Answering.{passed, match_err, if_err}
-use Rattle.rollcore.proofs.Recovered.{given_up, opened_to}
+use Rattle.sqval.proofs.database.AnswersOfEngine.{passed, match_err, if_err}
+use Rattle.rollcore.proofs.openings.RecoveredFiles.{given_up, opened_to}
 use Rattle.rollcore.specs.Opening.{RefusedFor, OpenRefused}
-use Rattle.rollcore.proofs.Refusing.{from_err, files_refused, files_opened, tears_pages, no_tears}
-use Rattle.rollcore.proofs.Syncing.{opens_err}
+use Rattle.rollcore.proofs.openings.RefusalOfOpening.{from_err, files_refused, files_opened, tears_pages, no_tears}
+use Rattle.rollcore.proofs.openings.InitialSync.{opens_err}
 use Rattle.rollcore.proofs.opening.open_core.Goals as goal
 
 pub returns-in_err-pages : goal.returns-in_err-pages

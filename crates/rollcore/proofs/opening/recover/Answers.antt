@@ -1,13 +1,13 @@
 use Rattle.std.proofs.Common.{rules}
 use Rattle.crashdisk.specs.declared.file.File.TheVariants.{Log}
-use Rattle.sqval.proofs.Answering.{passed}
-use Rattle.rollcore.proofs.Agreeing.{agrees_by, scanning_shows, scanning_syncs}
-use Rattle.rollcore.proofs.Recovered.{unsettled, settled}
-use Rattle.crashdisk.proofs.Later.{sync_refused}
-use Rattle.rollcore.proofs.Refusing.{refused_device, files_err, synced_files}
+use Rattle.sqval.proofs.database.AnswersOfEngine.{passed}
+use Rattle.rollcore.proofs.replays.ShownDatabaseAtExits.{agrees_by, scanning_shows, scanning_syncs}
+use Rattle.rollcore.proofs.openings.RecoveredFiles.{unsettled, settled}
+use Rattle.crashdisk.proofs.call.DisksAfterCalls.{sync_refused}
+use Rattle.rollcore.proofs.openings.RefusalOfOpening.{refused_device, files_err, synced_files}
 use Rattle.rollcore.specs.declared.error.RollError.TheVariants.{Device}
-use Rattle.rollcore.proofs.Syncing.{sync_fails, sync_goes}
-use Rattle.sqval.proofs.Answering.{match_err}
+use Rattle.rollcore.proofs.openings.InitialSync.{sync_fails, sync_goes}
+use Rattle.sqval.proofs.database.AnswersOfEngine.{match_err}
 use Rattle.rollcore.proofs.opening.recover.Goals as goal
 
 pub returns-in_err-settle_log-clause-disk : goal.returns-in_err-settle_log-clause-disk

@@ -1,22 +1,22 @@
 use Rattle.std.proofs.Common.{rules, ℕ, sym, ◌∙◌, ap, subst}
 use Rattle.std.specs.Prelude.{Ok}
 use Rattle.crashdisk.specs.State.{byte, IsSectorSize}
-use Rattle.crashdisk.proofs.Images.{table}
-use Rattle.crashdisk.proofs.Steps.{present_list}
-use Rattle.rollcore.specs.Plans.{IsFit}
-use Rattle.rollcore.specs.Steps.{torn_sector}
+use Rattle.crashdisk.proofs.image.OriginOfImages.{table}
+use Rattle.crashdisk.proofs.call.EffectsOfCalls.{present_list}
+use Rattle.rollcore.specs.internal.Plans.{IsFit}
+use Rattle.rollcore.specs.internal.Steps.{torn_sector}
 use Rattle.sqval.specs.CommitFaults.{most_bytes}
-use Rattle.sqval.proofs.Answering.{passed}
-use Rattle.crashdisk.proofs.Stills.{present_in, still_sound, still_then}
-use Rattle.crashdisk.proofs.Down.{down_present, down_by}
-use Rattle.rollcore.proofs.Recovering.{within_some, torn_still, read_plans, plan_cold}
-use Rattle.rollcore.proofs.Agreeing.{agrees_by, scanning_begins, scanning_shows, scanning_still}
-use Rattle.rollcore.proofs.Breaking.{cold_alone}
-use Rattle.rollcore.proofs.Recovered.{unplanned, misjudged, unreplayed, replayed, uncounted, unbroken, broken, few_some, small_some}
-use Rattle.rollcore.proofs.Refusing.{read_refuses, size_refuses, replay_refuses, count_refuses, break_refuses, hot_opens, count_opens, files_err, hot_leaves, cold_leaves}
+use Rattle.sqval.proofs.database.AnswersOfEngine.{passed}
+use Rattle.crashdisk.proofs.call.UnchangingCalls.{present_in, still_sound, still_then}
+use Rattle.crashdisk.proofs.sync.BytesOfSyncedLog.{down_present, down_by}
+use Rattle.rollcore.proofs.replays.AnswerOfParts.{within_some, torn_still, read_plans, plan_cold}
+use Rattle.rollcore.proofs.replays.ShownDatabaseAtExits.{agrees_by, scanning_begins, scanning_shows, scanning_still}
+use Rattle.rollcore.proofs.openings.ErasedMagic.{cold_alone}
+use Rattle.rollcore.proofs.openings.RecoveredFiles.{unplanned, misjudged, unreplayed, replayed, uncounted, unbroken, broken, few_some, small_some}
+use Rattle.rollcore.proofs.openings.RefusalOfOpening.{read_refuses, size_refuses, replay_refuses, count_refuses, break_refuses, hot_opens, count_opens, files_err, hot_leaves, cold_leaves}
 use Rattle.rollcore.specs.Changes.{MayReplay, MayRecover, Asks}
-use Rattle.rollcore.proofs.Asking.{recover_may}
-use Rattle.rollcore.proofs.Told.{asks_still, asks_as, asks_err, asks_then, asks_wider}
+use Rattle.rollcore.proofs.disk.PermittedChanges.{recover_may}
+use Rattle.rollcore.proofs.disk.ToldRefusals.{asks_still, asks_as, asks_err, asks_then, asks_wider}
 use Rattle.rollcore.proofs.opening.recover_synced.Goals as goal
 
 pub returns-in_err-plan-clause-disk : goal.returns-in_err-plan-clause-disk

@@ -1,9 +1,10 @@
 use Rattle.std.proofs.Common.{rules, ◌+◌, inr, sym, ap}
 use Rattle.rollcore.specs.declared.error.RollError.TheVariants.{Device}
-use Rattle.sqval.proofs.Answering.{passed}
-use Rattle.crashdisk.proofs.Later.{place_read, place_refused}
+use Rattle.sqval.proofs.database.AnswersOfEngine.{passed}
+use Rattle.crashdisk.proofs.call.DisksAfterCalls.{place_read, place_refused}
 use Rattle.std.specs.Prelude.{Ok}
-use Rattle.rollcore.proofs.Told.{told_device, told_done}
+use Rattle.rollcore.proofs.disk.ToldRefusals.{told_device}
+use Rattle.recovery.proofs.ToldRefusals.{tells_ok}
 use Rattle.rollcore.proofs.paging.read_place.Goals as goal
 
 pub returns-in_err-read_at-clause-disk : goal.returns-in_err-read_at-clause-disk
@@ -28,6 +29,6 @@ returns-clause-disk g c = record {
       record {
         place = place_read Device c.args.file c.args.at c.read_at.new.out _ _ sound tt _ c.read_at.result (c.read_at.ensures.state word) (c.in_ok-read_at.ensures.bytes word);
         looks = inr (_, c.read_at.result, c.read_at.ensures.state word);
-        told = told_done {T = Unit {0}} (Ok tt) c.read_at.result _ (g.D.Disk.state c.args.disk.now) (g.D.Disk.state c.read_at.new.self) c.in_ok-read_at.was (c.read_at.ensures.state word).refused;
+        told = tells_ok {T = Unit {0}} Device (Ok tt) c.read_at.result _ (g.D.Disk.state c.args.disk.now) (g.D.Disk.state c.read_at.new.self) c.in_ok-read_at.was (c.read_at.ensures.state word).refused;
       };
 }

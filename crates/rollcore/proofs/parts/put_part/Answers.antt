@@ -2,13 +2,13 @@ use Rattle.std.proofs.Common.{◌≡◌, rules, refl, inl, inr, ⊎_elim, ◌∙
 use Rattle.std.proofs.lemmas.List.{length-map}
 use Rattle.sqval.specs.Database.{Database, apply}
 use Rattle.sqval.specs.JudgedPages.{lent}
-use Rattle.sqjournal.proofs.Journals.{size_bounds}
+use Rattle.sqjournal.proofs.read.JournalOfTakenBytes.{size_bounds}
 use Rattle.rollcore.specs.Changes.{MayCommit, Asks}
-use Rattle.rollcore.specs.Commits.{ArePlaced, AreWithin}
+use Rattle.rollcore.specs.internal.Commits.{ArePlaced, AreWithin}
 use Rattle.rollcore.specs.Machine.{segments_of}
-use Rattle.rollcore.specs.Segments.{pages_of}
+use Rattle.rollcore.specs.internal.Segments.{pages_of}
 use Rattle.rollcore.specs.declared.changes.Change.{Change}
-use Rattle.rollcore.proofs.Parting.{ready_placed, part_limit, part_within, part_numbered, part_short, before_part, part_back, part_after, part_some, part_cases, part_fresh, part_turned, part_somes}
+use Rattle.rollcore.proofs.commit.SegmentsOfCommit.{ready_placed, part_limit, part_within, part_numbered, part_short, before_part, part_back, part_after, part_some, part_cases, part_fresh, part_turned, part_somes}
 use Rattle.rollcore.proofs.parts.put_part.Goals as goal
 
 pub put_segment-requires-clause-buffer : goal.put_segment-requires-clause-buffer

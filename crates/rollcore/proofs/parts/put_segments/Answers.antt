@@ -5,13 +5,13 @@ use Rattle.sqval.specs.Database.{apply}
 use Rattle.sqval.specs.JudgedPages.{lent}
 use Rattle.rollcore.specs.Machine.{segments_of}
 use Rattle.rollcore.specs.Changes.{MayCommit, Asks}
-use Rattle.rollcore.proofs.Told.{asks_same, asks_as, asks_err, asks_then}
-use Rattle.rollcore.specs.Segments.{pages_of, SegmentsAnswer}
+use Rattle.rollcore.proofs.disk.ToldRefusals.{asks_same, asks_as, asks_err, asks_then}
+use Rattle.rollcore.specs.internal.Segments.{pages_of, SegmentsAnswer}
 use Rattle.rollcore.specs.declared.changes.Change.{Change}
 use Rattle.rollcore.specs.declared.error.RollError.{RollError}
-use Rattle.sqval.proofs.Answering.{passed}
-use Rattle.rollcore.proofs.Preparing.{harmless_after}
-use Rattle.rollcore.proofs.Parting.{enough, parts_begin, parts_end, parts_all, part_forth, part_back, ready_kept, places_few, kept_same, kept_then}
+use Rattle.sqval.proofs.database.AnswersOfEngine.{passed}
+use Rattle.rollcore.proofs.journal.DurableRecords.{harmless_after}
+use Rattle.rollcore.proofs.commit.SegmentsOfCommit.{enough, parts_begin, parts_end, parts_all, part_forth, part_back, ready_kept, places_few, kept_same, kept_then}
 use Rattle.rollcore.proofs.parts.put_segments.Goals as goal
 
 pub loop-k-init : goal.loop-k-init

@@ -2,10 +2,11 @@ use Rattle.std.proofs.Common.{◌≡◌, ◌↔◌, ◌*◌, ◌^◌, ◌≤◌,
 use Rattle.sqval.specs.Database.{Database, apply}
 use Rattle.sqval.specs.JudgedPages.{lent}
 use Rattle.std.specs.Prelude.{Ok}
-use Rattle.rollcore.specs.Committing.{RestsAt}
+use Rattle.rollcore.specs.internal.Committing.{RestsAt}
 use Rattle.rollcore.specs.Changes.{MayCommit, Asks}
-use Rattle.rollcore.specs.Commits.{KeepsCore, IsReady}
-use Rattle.rollcore.specs.Segments.{pages_of, Parted}
+use Rattle.rollcore.specs.Commits.{KeepsCore}
+use Rattle.rollcore.specs.internal.Commits.{IsReady}
+use Rattle.rollcore.specs.internal.Segments.{pages_of, Parted}
 use Rattle.rollcore.proofs.parts.put_segments.Given as goal
 
 abbrev pub invariant-loop-k : goal.invariant-loop-k

@@ -1,9 +1,10 @@
 use Rattle.std.proofs.Common.{◌∙◌}
 use Rattle.std.specs.Prelude.{Some, None}
-use Rattle.rollcore.proofs.Stills.{no_memory}
-use Rattle.sqval.proofs.Answering.{passed}
-use Rattle.rollcore.proofs.Judging.{plan_none, plan_some, plan_refused, plan_memory}
-use Rattle.rollcore.proofs.ReadFronts.{read_first}
+use Rattle.sqval.proofs.database.AnswersOfEngine.{passed}
+use Rattle.rollcore.proofs.replays.PlanOfScannedLog.{plan_none, plan_some, plan_refused, plan_memory}
+use Rattle.rollcore.proofs.replays.DecisivePrefixOfJournal.{read_first}
+use Rattle.recovery.proofs.AnswersOfSteps.{no_memory}
+use Rattle.rollcore.specs.declared.error.RollError.TheVariants.{NoMemory}
 use Rattle.rollcore.proofs.plan.plan_of.Goals as goal
 
 pub returns-in_default-clause-plan : goal.returns-in_default-clause-plan
@@ -15,7 +16,7 @@ returns-in_err-judge-clause-plan c = λ w read.
     plan_refused c.args.limits.bytes c.args.torn w c.judge.result c.from_residual.result _ first.0 c.in_err-judge.was (passed c.from_residual.result _ c.from_residual.ensures.1) (c.judge.ensures.judged w first.0 first.1)
 
 pub returns-in_err-room-clause-plan : goal.returns-in_err-room-clause-plan
-returns-in_err-room-clause-plan c = λ w read. plan_memory c.args.limits.bytes c.args.torn w c.from_residual-in_err-room.result (no_memory c.zeros.result c.from_residual-in_err-room.result _ c.in_err-room.was (c.in_err-room.was ∙ c.in_err-room.ensures.memory) c.from_residual-in_err-room.ensures.1)
+returns-in_err-room-clause-plan c = λ w read. plan_memory c.args.limits.bytes c.args.torn w c.from_residual-in_err-room.result (no_memory NoMemory c.zeros.result c.from_residual-in_err-room.result _ c.in_err-room.was (c.in_err-room.was ∙ c.in_err-room.ensures.memory) c.from_residual-in_err-room.ensures.1)
 
 pub returns-clause-plan : goal.returns-clause-plan
 returns-clause-plan c = λ w read.

@@ -1,9 +1,11 @@
 use Rattle.std.proofs.Common.{rules, ap, ◌∙◌}
 use Rattle.std.specs.Prelude.{Ok, Option, None}
 use Rattle.rollcore.specs.declared.plan.Plan.{Plan}
-use Rattle.rollcore.proofs.Told.{told_as, told_err}
-use Rattle.sqval.proofs.Answering.{passed}
-use Rattle.rollcore.proofs.Judging.{plan_none, read_planned, read_scan, scan_read, scan_cold}
+use Rattle.rollcore.proofs.disk.ToldRefusals.{told_err}
+use Rattle.sqval.proofs.database.AnswersOfEngine.{passed}
+use Rattle.rollcore.proofs.replays.PlanOfScannedLog.{plan_none, read_planned, read_scan, scan_read, scan_cold}
+use Rattle.recovery.proofs.ToldRefusals.{tells_again}
+use Rattle.rollcore.specs.declared.error.RollError.TheVariants.{Device}
 use Rattle.rollcore.proofs.plan.read_plan.Goals as goal
 
 pub returns-in_err-scan-clause-disk : goal.returns-in_err-scan-clause-disk
@@ -25,7 +27,7 @@ returns-in-Some-clause-disk g c = record {
       let by_scan_log = c.scan_log.ensures.holds word in
       record {
         still = search rules;
-        told = told_as c.plan_of.result c.scan_log.result _ (g.D.Disk.state c.args.disk.now) (g.D.Disk.state c.scan_log.new.disk) c.in_ok-scan.was by_scan_log.told;
+        told = tells_again Device c.plan_of.result c.scan_log.result _ (g.D.Disk.state c.args.disk.now) (g.D.Disk.state c.scan_log.new.disk) c.in_ok-scan.was by_scan_log.told;
         found = λ w are long. read_planned c.args.limits.bytes c.args.torn w _ _ c.plan_of.result (c.plan_of.ensures.plan w (scan_read c.args.limits.bytes c.args.torn w _ _ c.scan_log.result c.in-Some.scan (c.in_ok-scan.was ∙ ap Ok c.in-Some.is) (by_scan_log.found w are long)));
       };
 }
@@ -37,7 +39,7 @@ returns-in-None-clause-disk g c = record {
       let by_scan_log = c.scan_log.ensures.holds word in
       record {
         still = search rules;
-        told = told_as {T = Option Plan} (Ok None) c.scan_log.result _ (g.D.Disk.state c.args.disk.now) (g.D.Disk.state c.scan_log.new.disk) c.in_ok-scan.was by_scan_log.told;
+        told = tells_again {T = Option Plan} Device (Ok None) c.scan_log.result _ (g.D.Disk.state c.args.disk.now) (g.D.Disk.state c.scan_log.new.disk) c.in_ok-scan.was by_scan_log.told;
         found = λ w are long. read_planned c.args.limits.bytes c.args.torn w _ _ _ (plan_none c.args.limits.bytes c.args.torn w (scan_cold c.args.limits.bytes c.args.torn w _ _ c.scan_log.result (c.in_ok-scan.was ∙ ap Ok c.in-None.is) (by_scan_log.found w are long)));
       };
 }

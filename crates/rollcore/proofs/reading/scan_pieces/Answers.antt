@@ -1,13 +1,18 @@
 use Rattle.std.proofs.Common.{◌+◌, ◌≡◌, ℕ, take, length, refl, sym, subst, arith}
 use Rattle.std.specs.Prelude.{Bool, true, false, Result, Ok}
-use Rattle.rollcore.proofs.Told.{told_same, told_as, told_err, told_then}
+use Rattle.rollcore.proofs.disk.ToldRefusals.{told_same, told_err, told_then}
 use Rattle.std.proofs.lemmas.List.{length-take-le}
 use Rattle.sqjournal.specs.Took.{Took}
-use Rattle.rollcore.specs.Steps.{PiecesAnswer}
 use Rattle.rollcore.specs.declared.error.RollError.{RollError}
-use Rattle.sqval.proofs.Answering.{passed}
-use Rattle.crashdisk.proofs.Stills.{still, still_then, present_in}
-use Rattle.rollcore.proofs.Scans.{piece_after, piece_none, piece_some, pieces_done, pieces_over}
+use Rattle.sqval.proofs.database.AnswersOfEngine.{passed}
+use Rattle.crashdisk.proofs.call.UnchangingCalls.{still, still_then, present_in}
+use Rattle.rollcore.proofs.replays.ScanOfLogPrefix.{pieces_done, pieces_over}
+use Rattle.recovery.proofs.ToldRefusals.{tells_again}
+use Rattle.rollcore.specs.declared.error.RollError.TheVariants.{Device}
+use Rattle.recovery.specs.internal.Scanning.{PiecesAnswer}
+use Rattle.rollcore.specs.internal.Steps.{journal_scan}
+use Rattle.recovery.proofs.PiecewiseScan.{piece_after, piece_none, piece_some}
+use Rattle.rollcore.proofs.replays.RefusedScans.{scan_refused_after}
 use Rattle.rollcore.proofs.reading.scan_pieces.Goals as goal
 
 pub loop-at-init : goal.loop-at-init
@@ -28,8 +33,8 @@ returns-in_err-feed_piece g c = record {
         found = λ w are long took.
             let n : length (take c.min-n.result c.loop-at.buffer) ≡ c.min-n.result = length-take-le c.min-n.result c.loop-at.buffer (omega (arith, c.loop-at.auto.buffer)) in
             let answer = by_feed_piece.found w (present_in _ _ w before.log are) (omega arith) (c.loop-at.invariant.took word w are long took) in
-            subst (λ (r : Result Bool RollError). PiecesAnswer w r c.feed_piece.new.scan (g.D.Disk.state c.args.disk.now) (g.D.Disk.state c.feed_piece.new.disk))
-            (sym (passed c.from_residual.result _ c.from_residual.ensures.1)) (piece_after w c.feed_piece.new.scan _ _ _ before.refused _ c.feed_piece.result _ c.in_err-feed_piece.was answer);
+            subst (λ (r : Result Bool RollError). PiecesAnswer journal_scan w r c.feed_piece.new.scan (g.D.Disk.state c.args.disk.now) (g.D.Disk.state c.feed_piece.new.disk))
+            (sym (passed c.from_residual.result _ c.from_residual.ensures.1)) (piece_after journal_scan w c.feed_piece.new.scan _ _ _ (λ e. scan_refused_after w e (g.D.Disk.state c.args.disk.now) (g.D.Disk.state c.loop-at.disk) (g.D.Disk.state c.feed_piece.new.disk) before.refused) _ c.feed_piece.result _ c.in_err-feed_piece.was answer);
       };
 }
 
@@ -42,11 +47,11 @@ returns-then-not-branch g c = record {
       let before = c.loop-at.invariant.still word in
       record {
         still = still_then _ _ _ before by_feed_piece.still;
-        told = told_then {T = Bool} (Ok false) {U = Bool} (Ok true) true (g.D.Disk.state c.args.disk.now) (g.D.Disk.state c.loop-at.disk) (g.D.Disk.state c.feed_piece.new.disk) refl (c.loop-at.invariant.told word) (told_as {T = Bool} (Ok false) c.feed_piece.result _ (g.D.Disk.state c.loop-at.disk) (g.D.Disk.state c.feed_piece.new.disk) c.in_ok-feed_piece.was by_feed_piece.told);
+        told = told_then {T = Bool} (Ok false) {U = Bool} (Ok true) true (g.D.Disk.state c.args.disk.now) (g.D.Disk.state c.loop-at.disk) (g.D.Disk.state c.feed_piece.new.disk) refl (c.loop-at.invariant.told word) (tells_again {T = Bool} Device (Ok false) c.feed_piece.result _ (g.D.Disk.state c.loop-at.disk) (g.D.Disk.state c.feed_piece.new.disk) c.in_ok-feed_piece.was by_feed_piece.told);
         found = λ w are long took.
             let n : length (take c.min-n.result c.loop-at.buffer) ≡ c.min-n.result = length-take-le c.min-n.result c.loop-at.buffer (omega (arith, c.loop-at.auto.buffer)) in
             let answer = by_feed_piece.found w (present_in _ _ w before.log are) (omega arith) (c.loop-at.invariant.took word w are long took) in
-            piece_none w c.feed_piece.new.scan _ _ _ before.refused _ c.feed_piece.result _ c.in_ok-feed_piece.was c.if-not-branch.true answer;
+            piece_none journal_scan w c.feed_piece.new.scan _ _ _ _ c.feed_piece.result _ c.in_ok-feed_piece.was c.if-not-branch.true answer;
       };
 }
 
@@ -56,12 +61,12 @@ loop-at-preserved g c = record {
   still = λ word.
       let before = c.loop-at.invariant.still word in
       still_then _ _ _ before (c.feed_piece.ensures.holds (c.loop-at.invariant.word.0 word)).still;
-  told = λ word. told_then {T = Bool} (Ok true) {U = Bool} (Ok true) true (g.D.Disk.state c.args.disk.now) (g.D.Disk.state c.loop-at.disk) (g.D.Disk.state c.feed_piece.new.disk) refl (c.loop-at.invariant.told word) (told_as {T = Bool} (Ok true) c.feed_piece.result _ (g.D.Disk.state c.loop-at.disk) (g.D.Disk.state c.feed_piece.new.disk) c.in_ok-feed_piece.was (c.feed_piece.ensures.holds (c.loop-at.invariant.word.0 word)).told);
+  told = λ word. told_then {T = Bool} (Ok true) {U = Bool} (Ok true) true (g.D.Disk.state c.args.disk.now) (g.D.Disk.state c.loop-at.disk) (g.D.Disk.state c.feed_piece.new.disk) refl (c.loop-at.invariant.told word) (tells_again {T = Bool} Device (Ok true) c.feed_piece.result _ (g.D.Disk.state c.loop-at.disk) (g.D.Disk.state c.feed_piece.new.disk) c.in_ok-feed_piece.was (c.feed_piece.ensures.holds (c.loop-at.invariant.word.0 word)).told);
   took = λ word w are long took.
       let before = c.loop-at.invariant.still word in
       let n : length (take c.min-n.result c.loop-at.buffer) ≡ c.min-n.result = length-take-le c.min-n.result c.loop-at.buffer (omega (arith, c.loop-at.auto.buffer)) in
       let answer = (c.feed_piece.ensures.holds (c.loop-at.invariant.word.0 word)).found w (present_in _ _ w before.log are) (omega arith) (c.loop-at.invariant.took word w are long took) in
-      subst (λ (k : ℕ). Took (take (c.loop-at.at + k) w) c.feed_piece.new.scan) n (piece_some w c.feed_piece.new.scan _ _ _ c.feed_piece.result _ c.in_ok-feed_piece.was c.if-not-branch.false answer);
+      subst (λ (k : ℕ). Took (take (c.loop-at.at + k) w) c.feed_piece.new.scan) n (piece_some journal_scan w c.feed_piece.new.scan _ _ _ c.feed_piece.result _ c.in_ok-feed_piece.was c.if-not-branch.false answer);
   place = omega arith;
 }
 
@@ -88,11 +93,11 @@ returns-then-is_over g c = record {
       let before = c.loop-at.invariant.still word in
       record {
         still = still_then _ _ _ before by_feed_piece.still;
-        told = told_then {T = Bool} (Ok true) {U = Bool} (Ok true) true (g.D.Disk.state c.args.disk.now) (g.D.Disk.state c.loop-at.disk) (g.D.Disk.state c.feed_piece.new.disk) refl (c.loop-at.invariant.told word) (told_as {T = Bool} (Ok true) c.feed_piece.result _ (g.D.Disk.state c.loop-at.disk) (g.D.Disk.state c.feed_piece.new.disk) c.in_ok-feed_piece.was by_feed_piece.told);
+        told = told_then {T = Bool} (Ok true) {U = Bool} (Ok true) true (g.D.Disk.state c.args.disk.now) (g.D.Disk.state c.loop-at.disk) (g.D.Disk.state c.feed_piece.new.disk) refl (c.loop-at.invariant.told word) (tells_again {T = Bool} Device (Ok true) c.feed_piece.result _ (g.D.Disk.state c.loop-at.disk) (g.D.Disk.state c.feed_piece.new.disk) c.in_ok-feed_piece.was by_feed_piece.told);
         found = λ w are long took.
             let n : length (take c.min-n.result c.loop-at.buffer) ≡ c.min-n.result = length-take-le c.min-n.result c.loop-at.buffer (omega (arith, c.loop-at.auto.buffer)) in
             let answer = by_feed_piece.found w (present_in _ _ w before.log are) (omega arith) (c.loop-at.invariant.took word w are long took) in
-            let fed = piece_some w c.feed_piece.new.scan _ _ _ c.feed_piece.result _ c.in_ok-feed_piece.was c.if-not-branch.false answer in
+            let fed = piece_some journal_scan w c.feed_piece.new.scan _ _ _ c.feed_piece.result _ c.in_ok-feed_piece.was c.if-not-branch.false answer in
             pieces_over w c.feed_piece.new.scan _ _ _ fed (c.is_over.ensures c.if-is_over.true _ fed);
       };
 }

@@ -1,11 +1,12 @@
 use Rattle.std.proofs.Common.{rules, ◌≡◌, refl, sym, ap, ◌∙◌}
 use Rattle.crashdisk.specs.State.{FileState}
 use Rattle.rollcore.specs.declared.error.RollError.TheVariants.{Device}
-use Rattle.sqval.proofs.Answering.{passed}
-use Rattle.crashdisk.proofs.Stills.{present_in, still_looks, still_then}
-use Rattle.rollcore.proofs.Recovering.{torn_still, read_torn, look_unread, read_looked}
+use Rattle.sqval.proofs.database.AnswersOfEngine.{passed}
+use Rattle.crashdisk.proofs.call.UnchangingCalls.{present_in, still_looks, still_then}
+use Rattle.rollcore.proofs.replays.AnswerOfParts.{torn_still, read_torn, look_unread, read_looked}
 use Rattle.std.specs.Prelude.{Ok}
-use Rattle.rollcore.proofs.Told.{told_device, told_done, told_then}
+use Rattle.rollcore.proofs.disk.ToldRefusals.{told_device, told_then}
+use Rattle.recovery.proofs.ToldRefusals.{tells_ok}
 use Rattle.rollcore.proofs.replaying.find_plan.Goals as goal
 
 pub returns-in_err-long-clause-disk : goal.returns-in_err-long-clause-disk
@@ -33,7 +34,7 @@ returns-clause-disk g c = record {
         still = still_then (g.D.Disk.state c.args.disk.now) (g.D.Disk.state c.len.new.self) (g.D.Disk.state c.read_plan.new.disk) is by_read_plan.still;
         told =
             told_then c.read_plan.result {U = Unit {0}} (Ok tt) tt (g.D.Disk.state c.args.disk.now) (g.D.Disk.state c.len.new.self) (g.D.Disk.state c.read_plan.new.disk) refl
-            (told_done {T = Unit {0}} (Ok tt) c.len.result _ (g.D.Disk.state c.args.disk.now) (g.D.Disk.state c.len.new.self) c.in_ok-long.was (c.len.ensures.state word).refused) by_read_plan.told;
+            (tells_ok {T = Unit {0}} Device (Ok tt) c.len.result _ (g.D.Disk.state c.args.disk.now) (g.D.Disk.state c.len.new.self) c.in_ok-long.was (c.len.ensures.state word).refused) by_read_plan.told;
         found = record {
           plan = λ w are.
               let a = g.D.Disk.state c.args.disk.now in

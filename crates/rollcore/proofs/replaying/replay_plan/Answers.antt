@@ -1,18 +1,20 @@
 use Rattle.std.proofs.Common.{rules, ◌≡◌, ◌≤◌, ◌*◌, ℕ, refl, sym, subst}
 use Rattle.crashdisk.specs.State.{byte, IsSectorSize}
 use Rattle.rollcore.specs.Lengths.{EndsBy}
-use Rattle.crashdisk.proofs.Images.{table}
-use Rattle.crashdisk.proofs.Steps.{present_list}
-use Rattle.sqval.proofs.Answering.{passed}
-use Rattle.crashdisk.proofs.Stills.{present_in}
-use Rattle.crashdisk.proofs.Down.{down_present, down_by}
-use Rattle.rollcore.proofs.Recovering.{planned, rolled_copy, rolled_end, rolled_done, copy_done, writing_at, pages_at, rolled_present}
-use Rattle.rollcore.proofs.Lengths.{ends_hot, named_by, fit_named, rolled_length}
-use Rattle.rollcore.proofs.Writing.{writing_shows}
-use Rattle.rollcore.proofs.Agreeing.{fit_begins}
+use Rattle.crashdisk.proofs.image.OriginOfImages.{table}
+use Rattle.crashdisk.proofs.call.EffectsOfCalls.{present_list}
+use Rattle.sqval.proofs.database.AnswersOfEngine.{passed}
+use Rattle.crashdisk.proofs.call.UnchangingCalls.{present_in}
+use Rattle.crashdisk.proofs.sync.BytesOfSyncedLog.{down_present, down_by}
+use Rattle.rollcore.proofs.replays.AnswerOfParts.{planned, rolled_copy, rolled_end, rolled_done, writing_at, pages_at, rolled_present}
+use Rattle.rollcore.proofs.replays.LengthOfDatabaseFile.{ends_hot, named_by, fit_named, rolled_length}
+use Rattle.rollcore.proofs.replays.ShownDatabaseDuringWrites.{writing_shows}
+use Rattle.rollcore.proofs.replays.ShownDatabaseAtExits.{fit_begins}
 use Rattle.rollcore.specs.Changes.{MayReplayWithin, Asks}
-use Rattle.rollcore.proofs.Told.{asks_as, asks_err, asks_then}
-use Rattle.rollcore.proofs.ReadFronts.{read_count}
+use Rattle.rollcore.proofs.disk.ToldRefusals.{asks_as, asks_err, asks_then}
+use Rattle.rollcore.proofs.replays.DecisivePrefixOfJournal.{read_count}
+use Rattle.recovery.proofs.AnswersOfSteps.{copy_done}
+use Rattle.rollcore.specs.declared.error.RollError.TheVariants.{Device}
 use Rattle.rollcore.proofs.replaying.replay_plan.Goals as goal
 
 pub returns-in_err-copy_records-clause-disk : goal.returns-in_err-copy_records-clause-disk
@@ -70,14 +72,14 @@ returns-in_err-finish-clause-disk g c = record {
             let now = table s.db.len (byte s.db) in
             by_finish.shows size w d
             (writing_at c.get-page.result size w d _ _ p.same (by_copy_records.writing w d are is.read p.within p.first) begun)
-            (pages_at c.get-page.result size w d s (g.D.Disk.state c.copy_records.new.disk) p.same begun (copy_done c.get-page.result d c.copy_records.result _ _ _ c.in_ok-copy_records.was
+            (pages_at c.get-page.result size w d s (g.D.Disk.state c.copy_records.new.disk) p.same begun (copy_done Device c.get-page.result d c.copy_records.result _ _ _ c.in_ok-copy_records.was
             (by_copy_records.pages now w d (present_list s.db) are is.read fit.hot p.same p.first p.within (rolled_present size w d s fit.hot scanning))));
         ends = λ sectors w down fit is.
             let a = g.D.Disk.state c.args.disk.now in
             let b = g.D.Disk.state c.copy_records.new.disk in
             let now = table a.db.len (byte a.db) in
             let p = planned w now _ c.get-page.result c.args.plan c.requires.few fit is e in
-            let pages = copy_done c.get-page.result p.pages c.copy_records.result _ _ _ c.in_ok-copy_records.was
+            let pages = copy_done Device c.get-page.result p.pages c.copy_records.result _ _ _ c.in_ok-copy_records.was
             (by_copy_records.pages now w p.pages (present_list a.db) (down_present w a down) is.read fit.hot p.same p.first p.within p.rolled) in
             subst (λ (n : ℕ). EndsBy n (g.D.Disk.state c.finish.new.disk)) (rolled_length w now p.pages c.get-page.result b pages p.rolled p.same)
             (by_finish.lengths (subst IsSectorSize (sym log.sector) sectors) w (down_by w a b down log.log log.tears log.kept log.handed) fit.hot (named_by w a b log.sector log.tears (fit_named w a fit)));
@@ -101,7 +103,7 @@ returns-clause-disk g c = record {
         replays = λ db w torn are_db are fit is.
             let p = planned w db torn c.get-page.result c.args.plan c.requires.few fit is e in
             rolled_done db w (g.D.Disk.state c.args.disk.now) c.get-page.result p.pages c.finish.result _ _ (g.D.Disk.state c.copy_records.new.disk) _ fit.hot p.rolled p.sized
-            (copy_done c.get-page.result p.pages c.copy_records.result _ _ _ c.in_ok-copy_records.was
+            (copy_done Device c.get-page.result p.pages c.copy_records.result _ _ _ c.in_ok-copy_records.was
             (by_copy_records.pages db w p.pages are_db are is.read fit.hot p.same p.first p.within p.rolled))
             (present_in _ _ w log.log are) c.in_ok-finish.was by_finish.ends refl (read_count w c.args.plan.scan is.read c.count.result c.count.ensures) is.names.first_size;
         shows = λ sectors size w d scanning fit is.
@@ -112,14 +114,14 @@ returns-clause-disk g c = record {
             let now = table s.db.len (byte s.db) in
             by_finish.shows size w d
             (writing_at c.get-page.result size w d _ _ p.same (by_copy_records.writing w d are is.read p.within p.first) begun)
-            (pages_at c.get-page.result size w d s (g.D.Disk.state c.copy_records.new.disk) p.same begun (copy_done c.get-page.result d c.copy_records.result _ _ _ c.in_ok-copy_records.was
+            (pages_at c.get-page.result size w d s (g.D.Disk.state c.copy_records.new.disk) p.same begun (copy_done Device c.get-page.result d c.copy_records.result _ _ _ c.in_ok-copy_records.was
             (by_copy_records.pages now w d (present_list s.db) are is.read fit.hot p.same p.first p.within (rolled_present size w d s fit.hot scanning))));
         ends = λ sectors w down fit is.
             let a = g.D.Disk.state c.args.disk.now in
             let b = g.D.Disk.state c.copy_records.new.disk in
             let now = table a.db.len (byte a.db) in
             let p = planned w now _ c.get-page.result c.args.plan c.requires.few fit is e in
-            let pages = copy_done c.get-page.result p.pages c.copy_records.result _ _ _ c.in_ok-copy_records.was
+            let pages = copy_done Device c.get-page.result p.pages c.copy_records.result _ _ _ c.in_ok-copy_records.was
             (by_copy_records.pages now w p.pages (present_list a.db) (down_present w a down) is.read fit.hot p.same p.first p.within p.rolled) in
             subst (λ (n : ℕ). EndsBy n (g.D.Disk.state c.finish.new.disk)) (rolled_length w now p.pages c.get-page.result b pages p.rolled p.same)
             (by_finish.lengths (subst IsSectorSize (sym log.sector) sectors) w (down_by w a b down log.log log.tears log.kept log.handed) fit.hot (named_by w a b log.sector log.tears (fit_named w a fit)));

@@ -2,16 +2,18 @@ use Rattle.std.proofs.Common.{rules, ℕ, refl, sym, ◌∙◌, ap, subst}
 use Rattle.std.specs.Prelude.{Ok}
 use Rattle.crashdisk.specs.State.{IsSectorSize}
 use Rattle.rollcore.specs.Lengths.{EndsBy}
-use Rattle.rollcore.specs.Plans.{IsFit}
-use Rattle.rollcore.specs.Steps.{torn_sector}
-use Rattle.sqval.proofs.Answering.{passed}
-use Rattle.crashdisk.proofs.Stills.{present_in}
-use Rattle.crashdisk.proofs.Down.{down_present, down_by}
-use Rattle.rollcore.proofs.Narrowing.{narrows_still, ends_narrow}
-use Rattle.rollcore.proofs.Recovering.{within_some, torn_still, read_refused, read_cold, plan_replays, read_plans}
-use Rattle.rollcore.proofs.Agreeing.{agrees_by, scanning_shows, scanning_still}
+use Rattle.rollcore.specs.internal.Plans.{IsFit}
+use Rattle.rollcore.specs.internal.Steps.{torn_sector}
+use Rattle.sqval.proofs.database.AnswersOfEngine.{passed}
+use Rattle.crashdisk.proofs.call.UnchangingCalls.{present_in}
+use Rattle.crashdisk.proofs.sync.BytesOfSyncedLog.{down_present, down_by}
+use Rattle.rollcore.proofs.crash.NarrowedImages.{ends_narrow}
+use Rattle.rollcore.proofs.replays.AnswerOfParts.{within_some, torn_still, read_refused, read_cold, plan_replays, read_plans}
+use Rattle.rollcore.proofs.replays.ShownDatabaseAtExits.{agrees_by, scanning_shows, scanning_still}
 use Rattle.rollcore.specs.Changes.{MayReplayWithin, Asks}
-use Rattle.rollcore.proofs.Told.{told_err, asks_still, asks_as, asks_then}
+use Rattle.rollcore.proofs.disk.ToldRefusals.{told_err, asks_still, asks_as, asks_then}
+use Rattle.recovery.proofs.NarrowedImages.{narrows_still}
+use Rattle.rollcore.specs.Alone.{journal_log}
 use Rattle.rollcore.proofs.replaying.replay_synced_within.Goals as goal
 
 pub returns-in_err-plan : goal.returns-in_err-plan
@@ -24,7 +26,7 @@ returns-in_err-plan g c = record {
             read_refused db w (g.D.Disk.state c.args.disk.now) (g.met.D.Disk.sound c.args.disk.now word) are_db are c.args.limits.bytes (g.D.Disk.state c.find_plan.new.disk) by_find_plan.still c.find_plan.result c.from_residual.result _ c.in_err-plan.was (passed c.from_residual.result _ c.from_residual.ensures.1)
             (by_find_plan.found.plan w are);
         agrees = agrees_by (g.D.Disk.state c.args.disk.now) (g.D.Disk.state c.find_plan.new.disk) (λ size w d scanning. scanning_shows size d w _ (scanning_still size d w _ _ scanning by_find_plan.still));
-        lengths = λ w n down same ends. ends_narrow (g.D.Disk.state c.args.disk.now) (g.D.Disk.state c.find_plan.new.disk) (narrows_still _ _ by_find_plan.still) n ends;
+        lengths = λ w n down same ends. ends_narrow (g.D.Disk.state c.args.disk.now) (g.D.Disk.state c.find_plan.new.disk) (narrows_still journal_log _ _ by_find_plan.still) n ends;
         asks = λ w are.
             asks_still c.from_residual.result _ _ (g.met.D.Disk.sound c.args.disk.now word) by_find_plan.still
             (told_err c.from_residual.result c.find_plan.result _ (g.D.Disk.state c.args.disk.now) (g.D.Disk.state c.find_plan.new.disk) c.in_err-plan.was (passed c.from_residual.result _ c.from_residual.ensures.1) by_find_plan.told);
@@ -74,7 +76,7 @@ returns-in-None g c = record {
       record {
         replays = λ db w are_db are. read_cold db w (g.D.Disk.state c.args.disk.now) (g.met.D.Disk.sound c.args.disk.now word) are_db are c.args.limits.bytes (g.D.Disk.state c.find_plan.new.disk) by_find_plan.still c.find_plan.result _ (c.in_ok-plan.was ∙ ap Ok c.in-None.is) (by_find_plan.found.plan w are) refl refl refl;
         agrees = agrees_by (g.D.Disk.state c.args.disk.now) (g.D.Disk.state c.find_plan.new.disk) (λ size w d scanning. scanning_shows size d w _ (scanning_still size d w _ _ scanning by_find_plan.still));
-        lengths = λ w n down same ends. ends_narrow (g.D.Disk.state c.args.disk.now) (g.D.Disk.state c.find_plan.new.disk) (narrows_still _ _ by_find_plan.still) n ends;
+        lengths = λ w n down same ends. ends_narrow (g.D.Disk.state c.args.disk.now) (g.D.Disk.state c.find_plan.new.disk) (narrows_still journal_log _ _ by_find_plan.still) n ends;
         asks = λ w are. asks_as _ c.find_plan.result _ _ _ c.in_ok-plan.was (asks_still c.find_plan.result _ _ (g.met.D.Disk.sound c.args.disk.now word) by_find_plan.still by_find_plan.told);
       };
 }

@@ -1,17 +1,18 @@
 use Rattle.std.proofs.Common.{rules, refl}
 use Rattle.std.specs.Prelude.{Ok}
 use Rattle.rollcore.specs.declared.error.RollError.TheVariants.{Device}
-use Rattle.sqval.proofs.Answering.{passed}
-use Rattle.rollcore.proofs.Recovering.{sync_unreplayed, synced_present, replay_after, goes_on, stays}
-use Rattle.rollcore.proofs.Agreeing.{agrees_by, scanning_shows, scanning_syncs}
+use Rattle.sqval.proofs.database.AnswersOfEngine.{passed}
+use Rattle.rollcore.proofs.replays.AnswerOfParts.{sync_unreplayed, synced_present, replay_after}
+use Rattle.rollcore.proofs.replays.ShownDatabaseAtExits.{agrees_by, scanning_shows, scanning_syncs}
 use Rattle.crashdisk.specs.declared.file.File.TheVariants.{Log}
-use Rattle.crashdisk.proofs.Down.{down_syncs}
-use Rattle.rollcore.proofs.Lengths.{ends_resynced}
-use Rattle.crashdisk.proofs.Later.{later_sync}
+use Rattle.crashdisk.proofs.sync.BytesOfSyncedLog.{down_syncs}
+use Rattle.rollcore.proofs.replays.LengthOfDatabaseFile.{ends_resynced}
+use Rattle.crashdisk.proofs.call.DisksAfterCalls.{later_sync}
 use Rattle.crashdisk.specs.Keeps.{Later}
 use Rattle.sqval.specs.Bytes.{word as word_of}
 use Rattle.rollcore.specs.Changes.{MayReplayWithin}
-use Rattle.rollcore.proofs.Told.{asks_device, asks_done, asks_then}
+use Rattle.rollcore.proofs.disk.ToldRefusals.{asks_device, asks_done, asks_then}
+use Rattle.recovery.proofs.AnswersOfSteps.{goes_on, stays}
 use Rattle.rollcore.proofs.replaying.replay_within.Goals as goal
 
 pub returns-in_err-sync : goal.returns-in_err-sync
@@ -29,7 +30,7 @@ returns-in_err-sync g c = record {
               called = c.sync.result;
               mid = g.D.Disk.state c.sync.new.self;
               sync = c.sync.ensures.state word;
-              rest = stays c.args.limits.bytes c.sync.result _ c.from_residual.result (g.D.Disk.state c.sync.new.self) c.in_err-sync.was (passed c.from_residual.result Device c.from_residual.ensures.1);
+              rest = stays Device _ c.sync.result _ c.from_residual.result (g.D.Disk.state c.sync.new.self) c.in_err-sync.was (passed c.from_residual.result Device c.from_residual.ensures.1);
             };
         asks = λ w are. asks_device c.from_residual.result _ _ (passed c.from_residual.result Device c.from_residual.ensures.1) (later_sync Log c.sync.result _ _ tt (g.met.D.Disk.sound c.args.disk.now word) (c.sync.ensures.state word));
       };
@@ -57,7 +58,7 @@ returns g c = record {
               called = c.sync.result;
               mid = g.D.Disk.state c.sync.new.self;
               sync = c.sync.ensures.state word;
-              rest = goes_on c.args.limits.bytes c.sync.result _ c.replay_synced_within.result (g.D.Disk.state c.sync.new.self) (g.D.Disk.state c.replay_synced_within.new.disk) c.in_ok-sync.was by_replay_synced.replays by_replay_synced.agrees;
+              rest = goes_on Device _ c.sync.result _ c.replay_synced_within.result (g.D.Disk.state c.sync.new.self) (g.D.Disk.state c.replay_synced_within.new.disk) c.in_ok-sync.was (by_replay_synced.replays, by_replay_synced.agrees);
             };
         asks = λ w are.
             let synced = c.sync.ensures.state word in

@@ -3,22 +3,22 @@ use Rattle.std.specs.Prelude.{Ok, Err, Result}
 use Rattle.std.proofs.Math.Nat.{mul-le-mul_right}
 use Rattle.std.proofs.lemmas.List.{length-map}
 use Rattle.sqjournal.specs.Header.{next_header}
-use Rattle.sqjournal.proofs.Journals.{size_bounds}
+use Rattle.sqjournal.proofs.read.JournalOfTakenBytes.{size_bounds}
 use Rattle.crashdisk.specs.State.{longest}
-use Rattle.crashdisk.specs.Call.{InFile}
+use Rattle.crashdisk.specs.internal.Call.{InFile}
 use Rattle.crashdisk.specs.Keeps.{Later}
-use Rattle.rollcore.specs.Opening.{BreakSteps}
-use Rattle.rollcore.specs.Segments.{PreparedAnswer, pages_of}
+use Rattle.rollcore.specs.internal.Opening.{BreakSteps}
+use Rattle.rollcore.specs.internal.Segments.{PreparedAnswer, pages_of}
 use Rattle.rollcore.specs.declared.changes.Change.{Change}
 use Rattle.rollcore.specs.declared.error.RollError.{RollError}
-use Rattle.sqval.proofs.Answering.{passed}
-use Rattle.crashdisk.proofs.Later.{sync_later}
-use Rattle.rollcore.proofs.Recording.{recording_begins}
-use Rattle.rollcore.proofs.Preparing.{ended, break_failed, settle_failed, settled, break_later, break_file, harmless_after}
+use Rattle.sqval.proofs.database.AnswersOfEngine.{passed}
+use Rattle.crashdisk.proofs.call.DisksAfterCalls.{sync_later}
+use Rattle.rollcore.proofs.journal.WritesBehindHeader.{recording_begins}
+use Rattle.rollcore.proofs.journal.DurableRecords.{ended, break_failed, settle_failed, settled, break_later, break_file, harmless_after}
 use Rattle.crashdisk.specs.declared.file.File.TheVariants.{Log}
-use Rattle.rollcore.proofs.Asking.{zero_may}
-use Rattle.rollcore.proofs.Going.{asks_broken}
-use Rattle.rollcore.proofs.Told.{asks_step, asks_as, asks_err, asks_then}
+use Rattle.rollcore.proofs.disk.PermittedChanges.{zero_may}
+use Rattle.rollcore.proofs.disk.InvariantsOfCalls.{asks_broken}
+use Rattle.rollcore.proofs.disk.ToldRefusals.{asks_step, asks_as, asks_err, asks_then}
 use Rattle.rollcore.specs.declared.error.RollError.TheVariants.{Device}
 use Rattle.rollcore.proofs.segments.prepare_segment.Goals as goal
 

@@ -3,9 +3,9 @@ use Rattle.sqval.specs.Database.{Database}
 use Rattle.sqval.specs.JudgedPages.{lent}
 use Rattle.std.specs.Prelude.{Ok}
 use Rattle.rollcore.specs.Changes.{MayReplay, Asks}
-use Rattle.rollcore.specs.Commits.{ArePlaced}
-use Rattle.rollcore.specs.Segments.{Journaled, ArePut, AreSome, AreOf}
-use Rattle.rollcore.proofs.Growing.{Grown}
+use Rattle.rollcore.specs.internal.Commits.{ArePlaced}
+use Rattle.rollcore.specs.internal.Segments.{Journaled, ArePut, AreSome, AreOf}
+use Rattle.rollcore.proofs.commit.AppendedPages.{Grown}
 use Rattle.rollcore.proofs.segments.put_new_pages.Given as goal
 
 abbrev pub invariant-loop-x : goal.invariant-loop-x

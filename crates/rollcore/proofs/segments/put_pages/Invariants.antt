@@ -3,9 +3,9 @@ use Rattle.sqval.specs.Database.{Database}
 use Rattle.sqval.specs.JudgedPages.{lent}
 use Rattle.std.specs.Prelude.{Ok}
 use Rattle.rollcore.specs.Changes.{MayReplay, Asks}
-use Rattle.rollcore.specs.Commits.{ArePlaced, AreWithin}
-use Rattle.rollcore.specs.Segments.{Journaled, ArePut, AreTurned, AreSome}
-use Rattle.rollcore.proofs.Putting.{Turned}
+use Rattle.rollcore.specs.internal.Commits.{ArePlaced, AreWithin}
+use Rattle.rollcore.specs.internal.Segments.{Journaled, ArePut, AreTurned, AreSome}
+use Rattle.rollcore.proofs.commit.OverwrittenPages.{Turned}
 use Rattle.rollcore.proofs.segments.put_pages.Given as goal
 
 abbrev pub invariant-loop-change : goal.invariant-loop-change

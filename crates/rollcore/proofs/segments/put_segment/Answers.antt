@@ -1,18 +1,18 @@
 use Rattle.std.proofs.Common.{rules, ◌≡◌, ◌<◌, ◌≤◌, ◌-◌, ◌++◌, ◌∙◌, ◌∷◌, [], ℕ, length, sym, subst, arith}
 use Rattle.std.specs.Prelude.{Result}
 use Rattle.std.proofs.lemmas.List.{length-map}
-use Rattle.sqjournal.proofs.Journals.{size_bounds}
+use Rattle.sqjournal.proofs.read.JournalOfTakenBytes.{size_bounds}
 use Rattle.crashdisk.specs.State.{FileState}
 use Rattle.rollcore.specs.Journaling.{old_pages, sizes, next_place, HasParts}
-use Rattle.rollcore.specs.Segments.{SegmentAnswer, Journaled, ArePut, pages_of}
+use Rattle.rollcore.specs.internal.Segments.{SegmentAnswer, Journaled, ArePut, pages_of}
 use Rattle.rollcore.specs.declared.changes.Change.{Change}
 use Rattle.rollcore.specs.declared.error.RollError.{RollError}
-use Rattle.sqval.proofs.Answering.{passed}
-use Rattle.rollcore.proofs.Preparing.{harmless_after}
-use Rattle.rollcore.proofs.WholeSegments.{next_of}
+use Rattle.sqval.proofs.database.AnswersOfEngine.{passed}
+use Rattle.rollcore.proofs.journal.DurableRecords.{harmless_after}
+use Rattle.rollcore.proofs.journal.WholeSegments.{next_of}
 use Rattle.rollcore.proofs.segments.put_segment.Goals as goal
-use Rattle.rollcore.proofs.Asking.{replay_may}
-use Rattle.rollcore.proofs.Told.{asks_as, asks_err, asks_then, asks_wider}
+use Rattle.rollcore.proofs.disk.PermittedChanges.{replay_may}
+use Rattle.rollcore.proofs.disk.ToldRefusals.{asks_as, asks_err, asks_then, asks_wider}
 
 pub returns-in_err-next-clause-disk : goal.returns-in_err-next-clause-disk
 returns-in_err-next-clause-disk g c = record {

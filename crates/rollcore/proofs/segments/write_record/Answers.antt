@@ -7,15 +7,15 @@ use Rattle.crashdisk.specs.declared.file.File.TheVariants.{Log}
 use Rattle.rollcore.specs.Journaling.{record_bytes}
 use Rattle.crashdisk.specs.Keeps.{Later}
 use Rattle.rollcore.specs.Changes.{MayCommit}
-use Rattle.rollcore.proofs.Asking.{record_may}
-use Rattle.rollcore.proofs.Told.{asks_device, asks_done, asks_then}
+use Rattle.rollcore.proofs.disk.PermittedChanges.{record_may}
+use Rattle.rollcore.proofs.disk.ToldRefusals.{asks_device, asks_done, asks_then}
 use Rattle.rollcore.specs.declared.error.RollError.TheVariants.{Device}
-use Rattle.sqval.proofs.Answering.{passed}
-use Rattle.crashdisk.proofs.Stills.{still_looks}
-use Rattle.rollcore.proofs.Recorded.{step_unread, step_unwritten, step_put, middle, record_fits}
+use Rattle.sqval.proofs.database.AnswersOfEngine.{passed}
+use Rattle.crashdisk.proofs.call.UnchangingCalls.{still_looks}
+use Rattle.rollcore.proofs.journal.RecordsOfOldPages.{step_unread, step_unwritten, step_put, middle, record_fits}
 use borrow.Rule.Slice.PartMut.{same_len_mid}
 use Rattle.rollcore.proofs.segments.write_record.Goals as goal
-use Rattle.crashdisk.proofs.Later.{later_still, later_then, later_write}
+use Rattle.crashdisk.proofs.call.DisksAfterCalls.{later_still, later_then, later_write}
 
 pub returns-in_err-read_at-clause-disk : goal.returns-in_err-read_at-clause-disk
 returns-in_err-read_at-clause-disk g c = record {

@@ -2,8 +2,8 @@ use Rattle.std.proofs.Common.{◌≡◌, ◌↔◌, ◌+◌, ◌-◌, ◌*◌, �
 use Rattle.sqval.specs.Database.{Database}
 use Rattle.std.specs.Prelude.{Ok}
 use Rattle.rollcore.specs.Changes.{MayCommit, Asks}
-use Rattle.rollcore.specs.Segments.{Recording, pages_of, AreFresh}
-use Rattle.rollcore.proofs.Recorded.{GoneTo}
+use Rattle.rollcore.specs.internal.Segments.{Recording, pages_of, AreFresh}
+use Rattle.rollcore.proofs.journal.RecordsOfOldPages.{GoneTo}
 use Rattle.rollcore.proofs.segments.write_records.Given as goal
 
 abbrev pub invariant-loop-change : goal.invariant-loop-change

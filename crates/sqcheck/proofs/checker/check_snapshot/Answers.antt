@@ -2,11 +2,11 @@ use Rattle.std.proofs.Common.{◌≡◌, ◌∙◌, ℕ, List, length, refl, sym
 use Rattle.std.proofs.lemmas.List.{with_items_is}
 use Rattle.sqval.specs.Database.{Database, page}
 use Rattle.sqval.specs.PageSize.{IsPageSize}
-use Rattle.sqpage.proofs.Sources.{least_page_size}
-use Rattle.sqcheck.specs.Heading.{HasHeaderOf}
+use Rattle.sqpage.proofs.file.PagesInMemory.{least_page_size}
+use Rattle.sqcheck.specs.internal.Heading.{HasHeaderOf}
 use Rattle.sqcheck.specs.Stands.{StandsWith}
-use Rattle.sqcheck.proofs.Results.{if_err}
-use Rattle.sqcheck.proofs.Ends.{no_magic, header_sound, first_sized, knows_maps}
+use Rattle.sqcheck.proofs.checks.ResultsOfCalls.{if_err}
+use Rattle.sqcheck.proofs.checks.EndsOfCheck.{no_magic, header_sound, first_sized, knows_maps}
 use Rattle.sqcheck.proofs.checker.check_snapshot.Goals as goal
 
 pub returns-then-count-eq0-clause-err : goal.returns-then-count-eq0-clause-err

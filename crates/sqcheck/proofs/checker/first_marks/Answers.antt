@@ -2,9 +2,9 @@ use Rattle.std.proofs.Common.{◌≡◌, ◌∙◌, ◌-◌, ℕ, List, Bool, Ve
 use Rattle.std.proofs.lemmas.List.{length-replicate, with_items_is}
 use Rattle.std.specs.Vec.{with_items}
 use Rattle.sqpage.specs.PointerMaps.{lock_byte_page}
-use Rattle.sqcheck.specs.Agenda.{MarksAside}
-use Rattle.sqcheck.specs.Checking.{MarksOne}
-use Rattle.sqcheck.proofs.Marking.{aside_marked, maps_marked}
+use Rattle.sqcheck.specs.internal.Agenda.{MarksAside}
+use Rattle.sqcheck.specs.internal.Checking.{MarksOne}
+use Rattle.sqcheck.proofs.visit.MarkedPages.{aside_marked, maps_marked}
 use Rattle.sqcheck.proofs.checker.first_marks.Goals.{then-maps, else-maps}
 use Rattle.sqcheck.proofs.checker.first_marks.Goals as goal
 

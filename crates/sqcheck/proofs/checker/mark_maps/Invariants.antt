@@ -1,5 +1,5 @@
 use Rattle.std.proofs.Common.{◌≡◌, ◌-◌, length}
-use Rattle.sqcheck.proofs.Marking.{MarkedTo}
+use Rattle.sqcheck.proofs.visit.MarkedPages.{MarkedTo}
 use Rattle.sqcheck.proofs.checker.mark_maps.Given as goal
 
 abbrev pub invariant-pages : goal.invariant-pages

@@ -1,8 +1,8 @@
 use Rattle.std.proofs.Common.{◌≡◌, ◌≢◌, ℕ, ◌+◌, ◌≤◌, List, take, true, false, sym, subst, ◌∙◌}
 use Rattle.sqpage.specs.Header.{HasMagic, HasPageSize, size_named, IsHeader, HeaderRefused}
-use Rattle.sqcheck.specs.Heading.{HeaderFault}
-use Rattle.sqcheck.proofs.Results.{exits}
-use Rattle.sqcheck.proofs.Headings.{heading_is, heading_refused, size_differs, not_plain, not_incremental}
+use Rattle.sqcheck.specs.internal.Heading.{HeaderFault}
+use Rattle.sqcheck.proofs.checks.ResultsOfCalls.{exits}
+use Rattle.sqcheck.proofs.checks.HeaderInFirstPage.{heading_is, heading_refused, size_differs, not_plain, not_incremental}
 use Rattle.sqcheck.proofs.header.judge.Goals.{else-not-maps-via-then-not-maps+else-header-ne0, else-not-maps-via-else-not-maps}
 use Rattle.sqcheck.proofs.header.judge.Goals.{else-maps-via-then-maps+then-header-eq0+else-header-ne0-2, else-maps-via-then-maps+else-header-eq0, else-maps-via-else-maps}
 use Rattle.sqcheck.proofs.header.judge.Goals as goal

@@ -1,7 +1,7 @@
 use Rattle.std.proofs.Common.{◌≡◌, ◌∙◌, Some, true, false, refl, sym, ap}
-use Rattle.sqcheck.specs.Walking.{node_in}
-use Rattle.sqcheck.proofs.Judging.{page_refused, layout_refused, keys_refused, kind_read}
-use Rattle.sqcheck.proofs.Results.{exits}
+use Rattle.sqcheck.specs.internal.Walking.{node_in}
+use Rattle.sqcheck.proofs.btree.FaultsOfTreePage.{page_refused, layout_refused, keys_refused, kind_read}
+use Rattle.sqcheck.proofs.checks.ResultsOfCalls.{exits}
 use Rattle.sqcheck.specs.Stands.{NodeRefused}
 use Rattle.sqpage.specs.Page.{is_interior, is_table}
 use Rattle.sqcheck.proofs.node.judge.Goals.{then-not-is_interior+in_ok-leaf_level, else-not-is_interior}
@@ -17,24 +17,24 @@ returns-in_err-layout_in-clause-err c = λ d e known.
     let x = node_in c.args.tree.now c.args.bounds.level c.args.bounds.low c.args.bounds.high in
     let h = c.in_err-layout_in.ensures.err in
     exits (λ fault. NodeRefused d fault c.args.raw.number x) c.in_err-layout_in.field-0.0 c.from_residual-in_err-layout_in.result c.from_residual-in_err-layout_in.ensures.1
-    (layout_refused d c.args.raw.number _ c.in_ok-page.page c.in_err-layout_in.field-0.0 x e c.in_ok-page.ensures.part c.in_ok-page.ensures.number c.in_ok-page.ensures.ok h.0 h.1)
+    (layout_refused d c.args.raw.number _ c.in_ok-page.page c.in_err-layout_in.field-0.0 x e c.in_ok-page.ensures.ok.used_are c.in_ok-page.ensures.ok.numbered c.in_ok-page.ensures.ok.btree h.0 h.1)
 
 pub returns-then-not-keys_rise-clause-err : goal.returns-then-not-keys_rise-clause-err
 returns-then-not-keys_rise-clause-err c = λ d e known.
     let x = node_in c.args.tree.now c.args.bounds.level c.args.bounds.low c.args.bounds.high in
-    keys_refused d c.args.raw.number _ c.in_ok-page.page x e c.in_ok-page.ensures.part c.in_ok-page.ensures.number c.in_ok-page.ensures.ok (c.keys_rise.ensures.not x refl refl c.if-not-keys_rise.true)
+    keys_refused d c.args.raw.number _ c.in_ok-page.page x e c.in_ok-page.ensures.ok.used_are c.in_ok-page.ensures.ok.numbered c.in_ok-page.ensures.ok.btree (c.keys_rise.ensures.not x refl refl c.if-not-keys_rise.true)
 
 pub returns-clause-ok : goal.returns-clause-ok
 returns-clause-ok c =
     let x = node_in c.args.tree.now c.args.bounds.level c.args.bounds.low c.args.bounds.high in
     let k = c.in_ok-kind.ensures.ok in
     let page = c.in_ok-page.page in
-    let kind : page.kind ≡ c.in_ok-kind.kind = kind_read page c.args.raw.number _ c.in_ok-kind.kind c.in_ok-page.ensures.part c.in_ok-page.ensures.number c.in_ok-page.ensures.ok k.0 in
+    let kind : page.kind ≡ c.in_ok-kind.kind = kind_read page c.args.raw.number _ c.in_ok-kind.kind c.in_ok-page.ensures.ok.used_are c.in_ok-page.ensures.ok.numbered c.in_ok-page.ensures.ok.btree k.0 in
     let interior : is_interior page.kind ≡ c.is_interior.result = ap is_interior kind ∙ sym c.is_interior.ensures in (
-      c.in_ok-page.ensures.number,
-      c.in_ok-page.ensures.part,
+      c.in_ok-page.ensures.ok.numbered,
+      c.in_ok-page.ensures.ok.used_are,
       record {
-        page_is = c.in_ok-page.ensures.ok;
+        page_is = c.in_ok-page.ensures.ok.btree;
         same = ap is_table kind ∙ k.1;
         laid_out = c.in_ok-layout_in.ensures.ok;
         keys = c.keys_rise.ensures.yes x refl refl c.if-not-keys_rise.false;

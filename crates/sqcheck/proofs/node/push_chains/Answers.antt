@@ -3,8 +3,8 @@ use Rattle.sqpage.specs.Page.{cell_count}
 use Rattle.sqpage.specs.Chain.{bytes_beyond}
 use Rattle.sqcheck.specs.declared.item.Item.{Item}
 use Rattle.sqcheck.specs.declared.item.Task.TheVariants.{Link}
-use Rattle.sqcheck.specs.Walking.{Pushes, InCellFrom}
-use Rattle.sqcheck.proofs.Nodes.{chain_more, chain_not, chains_none, chains_all, needs, link_leads}
+use Rattle.sqcheck.specs.internal.Walking.{Pushes, InCellFrom}
+use Rattle.sqcheck.proofs.btree.KeysAndPlaces.{chain_more, chain_not, chains_none, chains_all, needs, link_leads}
 use Rattle.sqcheck.proofs.node.push_chains.Goals as goal
 
 pub cells-init : goal.cells-init

@@ -2,7 +2,7 @@ use Rattle.std.proofs.Common.{◌≤◌, ℕ, reverse}
 use Rattle.sqval.specs.Database.{Database}
 use Rattle.sqpage.specs.Page.{cell_count}
 use Rattle.sqcheck.specs.declared.tree.Tree.{Tree}
-use Rattle.sqcheck.specs.Walking.{Pushes, InCellFrom, TopLeads}
+use Rattle.sqcheck.specs.internal.Walking.{Pushes, InCellFrom, TopLeads}
 use Rattle.sqcheck.proofs.node.push_chains.Given as goal
 
 abbrev pub invariant-cells : goal.invariant-cells

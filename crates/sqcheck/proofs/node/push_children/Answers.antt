@@ -3,9 +3,9 @@ use Rattle.sqval.specs.Bytes.{word}
 use Rattle.sqpage.specs.Page.{cell_count, head_at, if_present}
 use Rattle.sqcheck.specs.declared.item.Item.{Item}
 use Rattle.sqcheck.specs.declared.item.Task.TheVariants.{Node}
-use Rattle.sqcheck.specs.Walking.{Pushes, node_in}
-use Rattle.sqcheck.proofs.Nodes.{ChildFrom, IsNext, child_more, children_none, children_all, first_is, node_leads}
-use Rattle.sqcheck.proofs.Results.{on_ok}
+use Rattle.sqcheck.specs.internal.Walking.{Pushes, node_in}
+use Rattle.sqcheck.proofs.btree.KeysAndPlaces.{ChildFrom, IsNext, child_more, children_none, children_all, first_is, node_leads}
+use Rattle.sqcheck.proofs.checks.ResultsOfCalls.{on_ok}
 use Rattle.sqcheck.proofs.node.push_children.Goals as goal
 
 pub cells-init : goal.cells-init

@@ -2,12 +2,12 @@ use Rattle.std.proofs.Common.{◌≡◌, ◌∙◌, sym, subst, ap}
 use Rattle.sqpage.specs.declared.kind.Kind.TheVariants.{TableLeaf}
 use Rattle.sqpage.specs.Page.{Page, cell_count}
 use Rattle.sqcheck.specs.Places.{page_as}
-use Rattle.sqcheck.specs.Schema.{InRowBelow, KeepsFound, AreSchemaRows}
-use Rattle.sqcheck.proofs.Results.{on_ok}
-use Rattle.sqcheck.proofs.Judging.{as_page, page_refused}
-use Rattle.sqcheck.proofs.Following.{used_read}
-use Rattle.sqcheck.proofs.Schemas.{all_rows}
-use Rattle.sqcheck.proofs.Walks.{node_stands}
+use Rattle.sqcheck.specs.internal.Schema.{InRowBelow, KeepsFound, AreSchemaRows}
+use Rattle.sqcheck.proofs.checks.ResultsOfCalls.{on_ok}
+use Rattle.sqcheck.proofs.btree.FaultsOfTreePage.{as_page, page_refused}
+use Rattle.sqcheck.proofs.visit.FollowedItem.{used_read}
+use Rattle.sqcheck.proofs.checks.RowsOfSchema.{all_rows}
+use Rattle.sqcheck.proofs.visit.StepsOfWalk.{node_stands}
 use Rattle.sqcheck.proofs.schema.page_roots.Goals as goal
 
 pub returns-in-Err-clause-err : goal.returns-in-Err-clause-err
@@ -24,8 +24,8 @@ returns-in-TableLeaf-clause-ok g c = λ given w.
     let b : Page = c.in-Ok.page in
     let used = used_read d c.args.number read.usable c.deref.result.now (c.deref.ensures.value ∙ (c.read.ensures.read given).1) (read.used given) in
     let kind : b.kind ≡ TableLeaf = sym c.kind.ensures ∙ c.in-TableLeaf.is in
-    let leaf : b ≡ page_as d TableLeaf c.args.number = as_page d c.args.number _ b used c.in-Ok.ensures.part c.in-Ok.ensures.number ∙ ap (λ k. page_as d k c.args.number) kind in
-    let same : b ≡ page_as d TableLeaf b.number = leaf ∙ ap (page_as d TableLeaf) (sym c.in-Ok.ensures.number) in
+    let leaf : b ≡ page_as d TableLeaf c.args.number = as_page d c.args.number _ b used c.in-Ok.ensures.ok.used_are c.in-Ok.ensures.ok.numbered ∙ ap (λ k. page_as d k c.args.number) kind in
+    let same : b ≡ page_as d TableLeaf b.number = leaf ∙ ap (page_as d TableLeaf) (sym c.in-Ok.ensures.ok.numbered) in
     on_ok _ _ c.take_rows.result (λ both. all_rows d c.args.number (cell_count b) c.args.roots.now.items c.take_rows.new.roots.items w.page_is.kind (ap (λ (q : Page). cell_count q) leaf)
-    (subst (λ n. KeepsFound d (InRowBelow d n (cell_count b)) c.args.roots.now.items c.take_rows.new.roots.items × AreSchemaRows d n (cell_count b)) c.in-Ok.ensures.number both))
+    (subst (λ n. KeepsFound d (InRowBelow d n (cell_count b)) c.args.roots.now.items c.take_rows.new.roots.items × AreSchemaRows d n (cell_count b)) c.in-Ok.ensures.ok.numbered both))
     (c.take_rows.ensures.ok given same)

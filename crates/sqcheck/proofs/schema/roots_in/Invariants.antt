@@ -1,7 +1,7 @@
 use Rattle.std.proofs.Common.{◌≡◌, [], take}
 use Rattle.sqpage.specs.Lists.{Every, Apart}
-use Rattle.sqcheck.specs.Schema.{IsRowsPage, KeepsFound, InRowsOf, AllSchemaRows}
-use Rattle.sqcheck.specs.Snapshots.{SameSource}
+use Rattle.sqcheck.specs.internal.Schema.{IsRowsPage, KeepsFound, InRowsOf, AllSchemaRows}
+use Rattle.sqcheck.specs.internal.Snapshots.{SameSource}
 use Rattle.sqcheck.proofs.schema.roots_in.Given as goal
 
 abbrev pub invariant-pages : goal.invariant-pages

@@ -3,8 +3,8 @@ use Rattle.sqval.specs.Database.{Database}
 use Rattle.sqpage.specs.declared.fault.Fault.TheVariants as faults
 use Rattle.sqpage.specs.Chain.{IsPayload}
 use Rattle.sqcheck.specs.Places.{IsSchemaRow}
-use Rattle.sqcheck.proofs.Results.{exits}
-use Rattle.sqcheck.proofs.Schemas.{is_no_memory}
+use Rattle.sqcheck.proofs.checks.ResultsOfCalls.{exits}
+use Rattle.sqcheck.proofs.checks.RowsOfSchema.{is_no_memory}
 use Rattle.sqcheck.proofs.schema.row_root.Goals as goal
 
 pub returns-in_err-payload-clause-err : goal.returns-in_err-payload-clause-err
@@ -14,7 +14,7 @@ returns-in_err-payload-clause-err g c = λ given bytes is.
     let e = c.in_err-payload.field-0.0 in
     exits (λ e. (e.fault ≡ faults.NoMemory) ⊎ ((e.fault ≡ faults.SchemaRecord) × (e.page ≡ c.args.cell.now.page) × (bytes : List ℕ) × IsPayload d c.args.cell.now bytes × ((r : ℕ) → ¬ IsSchemaRow bytes r)))
     e c.from_residual.result c.from_residual.ensures.1
-    (inl (is_no_memory e.fault (λ other. c.in_err-payload.ensures.none (from.still_given given) other bytes (subst (λ (q : Database). IsPayload q c.args.cell.now bytes) (sym from.same_pages) is))))
+    (inl (is_no_memory e.fault (λ other. (c.in_err-payload.ensures.err (from.still_given given)).1 other bytes (subst (λ (q : Database). IsPayload q c.args.cell.now bytes) (sym from.same_pages) is))))
 
 pub returns-in-None-clause-err : goal.returns-in-None-clause-err
 returns-in-None-clause-err g c = λ given bytes is.

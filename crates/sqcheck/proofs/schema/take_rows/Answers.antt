@@ -5,10 +5,10 @@ use Rattle.sqpage.specs.declared.kind.Kind.TheVariants.{TableLeaf}
 use Rattle.sqpage.specs.Page.{cell_count}
 use Rattle.sqcheck.specs.Places.{IsCellAt, page_as}
 use Rattle.sqcheck.specs.Stands.{StandsWith}
-use Rattle.sqcheck.specs.Agenda.{StandsNow}
-use Rattle.sqcheck.specs.Schema.{InRowBelow, KeepsFound, AreSchemaRows}
-use Rattle.sqcheck.proofs.Results.{exits}
-use Rattle.sqcheck.proofs.Schemas.{keep_nothing, row_more, row_stands}
+use Rattle.sqcheck.specs.internal.Agenda.{StandsNow}
+use Rattle.sqcheck.specs.internal.Schema.{InRowBelow, KeepsFound, AreSchemaRows}
+use Rattle.sqcheck.proofs.checks.ResultsOfCalls.{exits}
+use Rattle.sqcheck.proofs.checks.RowsOfSchema.{keep_nothing, row_more, row_stands}
 use Rattle.sqcheck.proofs.schema.take_rows.Goals as goal
 
 pub rows-init : goal.rows-init

@@ -1,5 +1,5 @@
 use Rattle.std.proofs.Common.{◌≡◌, length}
-use Rattle.sqcheck.specs.Snapshots.{SameSource}
+use Rattle.sqcheck.specs.internal.Snapshots.{SameSource}
 use Rattle.sqcheck.proofs.survey.sound_roots.Given as goal
 
 abbrev pub invariant-pages : goal.invariant-pages

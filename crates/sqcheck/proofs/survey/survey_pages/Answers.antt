@@ -1,5 +1,5 @@
 use Rattle.std.proofs.Common.{refl}
-use Rattle.sqcheck.proofs.Surveys.{all_roles}
+use Rattle.sqcheck.proofs.checks.ChartOfAllPages.{all_roles}
 use Rattle.sqcheck.proofs.survey.survey_pages.Goals as goal
 
 pub returns-in-Ok-clause-clean : goal.returns-in-Ok-clause-clean

@@ -1,8 +1,8 @@
 use Rattle.std.proofs.Common.{◌∙◌, length, sym, ap, subst, arith}
 use Rattle.sqval.specs.Database.{Database}
 use Rattle.sqval.specs.PageSize.{IsPageSize}
-use Rattle.sqpage.proofs.Sources.{least_page_size}
-use Rattle.sqcheck.proofs.Ends.{none_used}
+use Rattle.sqpage.proofs.file.PagesInMemory.{least_page_size}
+use Rattle.sqcheck.proofs.checks.EndsOfCheck.{none_used}
 use Rattle.sqcheck.proofs.survey.survey_snapshot.Goals as goal
 
 pub returns-then-count-eq0-clause-not : goal.returns-then-count-eq0-clause-not

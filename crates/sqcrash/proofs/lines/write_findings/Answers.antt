@@ -6,7 +6,7 @@ use Rattle.std.specs.Io.KnownBytes.{Appends}
 use Rattle.sqcrash.specs.Lines.{line_text, lines_text}
 use Rattle.sqjudge.specs.declared.judgment.Judgment.TheVariants.{Kept}
 use Rattle.sqcrash.specs.declared.survey.Finding.{Finding}
-use Rattle.sqcrash.proofs.Writing.{appends_none, appends_more}
+use Rattle.sqcrash.proofs.AppendedBytes.{appends_none, appends_more}
 use Rattle.sqcrash.proofs.lines.write_findings.Goals as goal
 
 -- what stands for a finding behind the last

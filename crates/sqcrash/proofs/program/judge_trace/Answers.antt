@@ -11,8 +11,8 @@ use Rattle.sqcrash.specs.Rigs.{RigState, rig_of, Judges, JudgesAll, lines_at}
 use Rattle.sqcrash.specs.declared.plan.Plan.{Plan}
 use Rattle.sqcrash.specs.declared.survey.Tally.{Tally}
 use Rattle.sqcrash.specs.declared.survey.Finding.{Finding}
-use Rattle.sqcrash.proofs.Judging.{judges_more}
-use Rattle.sqcrash.proofs.Writing.{appends_none, appends_more}
+use Rattle.sqcrash.proofs.JudgedRecords.{judges_more}
+use Rattle.sqcrash.proofs.AppendedBytes.{appends_none, appends_more}
 use Rattle.sqcrash.proofs.program.judge_trace.Goals as goal
 
 -- what stands for a record behind the last

@@ -4,7 +4,7 @@ use Rattle.sqplay.specs.Plays.{Files}
 use Rattle.sqimages.specs.Left.{MayLeave}
 use Rattle.sqcrash.specs.Runs.{run_of}
 use Rattle.sqcrash.specs.Surveys.{Judged, finding_of}
-use Rattle.sqcrash.proofs.Surveying.{all_one, all_none, tells_more, tells_none}
+use Rattle.sqcrash.proofs.TallyOfJudgedImages.{all_one, all_none, tells_more, tells_none}
 use Rattle.sqcrash.proofs.survey.survey_drawn.Goals as goal
 
 pub loop-n-init : goal.loop-n-init

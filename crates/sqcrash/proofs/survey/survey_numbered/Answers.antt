@@ -3,7 +3,7 @@ use Rattle.sqplay.specs.Plays.{Files}
 use Rattle.sqimages.specs.Images.{IsNumbered}
 use Rattle.sqcrash.specs.Runs.{run_of}
 use Rattle.sqcrash.specs.Surveys.{Judged, finding_of}
-use Rattle.sqcrash.proofs.Surveying.{numbered_more, tells_more, tells_none}
+use Rattle.sqcrash.proofs.TallyOfJudgedImages.{numbered_more, tells_more, tells_none}
 use Rattle.sqcrash.proofs.survey.survey_numbered.Goals as goal
 
 pub loop-n-init : goal.loop-n-init

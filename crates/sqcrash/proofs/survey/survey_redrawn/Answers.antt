@@ -2,10 +2,10 @@ use Rattle.std.proofs.Common.{◌≡◌, ℕ, [], ◌∷◌, ◌++◌, length-ap
 use Rattle.std.proofs.lemmas.List.Elements.{All-append}
 use Rattle.sqplay.specs.Plays.{Files, epoch_now}
 use Rattle.sqimages.specs.Left.{MayLeave, MayLeaveIn}
-use Rattle.sqimages.proofs.Leaving.{now_may_leave}
+use Rattle.sqimages.proofs.ImagesOfCurrentEpoch.{now_may_leave}
 use Rattle.sqcrash.specs.Runs.{run_of}
 use Rattle.sqcrash.specs.Surveys.{Judged, finding_of}
-use Rattle.sqcrash.proofs.Surveying.{all_one, all_none, tells_more, tells_none, scan_stays, scan_is}
+use Rattle.sqcrash.proofs.TallyOfJudgedImages.{all_one, all_none, tells_more, tells_none, scan_stays, scan_is}
 use Rattle.sqcrash.proofs.survey.survey_redrawn.Goals as goal
 
 pub loop-n-init : goal.loop-n-init

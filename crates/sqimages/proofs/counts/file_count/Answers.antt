@@ -1,7 +1,7 @@
 use Rattle.std.proofs.Common.{◌≡◌, ℕ, ◌+◌, ◌-◌, ◌*◌, ◌/◌, ◌<◌, ◌∙◌, ap, subst}
 use Rattle.crashdisk.specs.Count.{value_count, ways, sector_count}
 use Rattle.crashdisk.specs.Model.{state_of}
-use Rattle.sqimages.proofs.Multiplying.{above_choices}
+use Rattle.sqimages.proofs.CountsOfWays.{above_choices}
 use Rattle.sqimages.proofs.counts.file_count.Goals as goal
 
 pub returns-in_default : goal.returns-in_default

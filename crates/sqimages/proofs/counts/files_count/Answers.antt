@@ -5,7 +5,7 @@ use Rattle.crashdisk.specs.Model.{state_of}
 use Rattle.crashdisk.specs.declared.model.ModelDisk.{ModelDisk}
 use Rattle.std.specs.Prelude.{List, ℕ}
 use Rattle.sqimages.specs.Ways.{file_ways, files_ways}
-use Rattle.sqimages.proofs.Multiplying.{files_step}
+use Rattle.sqimages.proofs.CountsOfWays.{files_step}
 use Rattle.sqimages.proofs.counts.files_count.Goals as goal
 
 -- the files from one on

@@ -4,7 +4,7 @@ use Rattle.crashdisk.specs.Model.{state_of}
 use Rattle.sqplay.specs.Names.{name_of}
 use Rattle.sqplay.specs.declared.meta.Holds.{Holds}
 use Rattle.sqimages.specs.Ways.{held_files}
-use Rattle.sqimages.proofs.Holding.{one_of}
+use Rattle.sqimages.proofs.FilesHeldByName.{one_of}
 use Rattle.sqimages.proofs.counts.held_files.Goals as goal
 
 pub returns-in-File : goal.returns-in-File

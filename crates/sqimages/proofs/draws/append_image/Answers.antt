@@ -4,8 +4,8 @@ use Rattle.std.proofs.lemmas.List.{get_or_past, get_or-append-add}
 use Rattle.std.proofs.lemmas.Result.{IfOk-weaker}
 use Rattle.crashdisk.specs.Choice.{naming_of, image_of}
 use Rattle.crashdisk.specs.Model.{state_of}
-use Rattle.crashdisk.specs.SoundModel.{sound_disk}
-use Rattle.crashdisk.proofs.Leaving.{image_named}
+use Rattle.crashdisk.specs.internal.SoundModel.{sound_disk}
+use Rattle.crashdisk.proofs.image.ImageNamedByChoice.{image_named}
 use Rattle.sqimages.proofs.draws.append_image.Goals as goal
 
 -- behind a list of bytes stands a list of bytes

@@ -9,9 +9,9 @@ use Rattle.crashdisk.specs.Choice.{Naming, naming_of, image_of}
 use Rattle.crashdisk.specs.Count.{choice_count}
 use Rattle.crashdisk.specs.Model.{state_of}
 use Rattle.crashdisk.specs.declared.model.ModelDisk.{ModelDisk}
-use Rattle.crashdisk.proofs.Digits.{some_choice}
+use Rattle.crashdisk.proofs.image.DigitsOfChoice.{some_choice}
 use Rattle.sqimages.specs.Ways.{file_ways, file_way, files_way}
-use Rattle.sqimages.proofs.Multiplying.{above_ways}
+use Rattle.sqimages.proofs.CountsOfWays.{above_ways}
 use Rattle.sqimages.proofs.image.append_way.Goals as goal
 
 -- the way of a number among the files from one on: one of that file, or of those behind it

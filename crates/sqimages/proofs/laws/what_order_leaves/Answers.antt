@@ -1,4 +1,4 @@
-use Rattle.sqimages.proofs.Ordering.{ordered_is_whole}
+use Rattle.sqimages.proofs.OrderedPlaysAsWhole.{ordered_is_whole}
 use Rattle.sqimages.proofs.laws.what_order_leaves.Goals as goal
 
 pub returns : goal.returns

@@ -1,5 +1,5 @@
 use Rattle.byteorder.specs.Endian.{big_bytes}
-use Rattle.sqjournal.proofs.Headers.{put_at}
+use Rattle.sqjournal.proofs.journal.WordsOfHeader.{put_at}
 use Rattle.sqjournal.proofs.header.put_word.Goals as goal
 
 pub returns : goal.returns

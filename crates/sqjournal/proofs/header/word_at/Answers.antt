@@ -1,7 +1,7 @@
 use Rattle.std.proofs.Common.{sym, ◌∙◌, ap}
 use Rattle.std.proofs.lemmas.List.{take_rest}
 use Rattle.byteorder.specs.Endian.{big_number}
-use Rattle.sqjournal.proofs.Headers.{word_front}
+use Rattle.sqjournal.proofs.journal.WordsOfHeader.{word_front}
 use Rattle.sqjournal.proofs.header.word_at.Goals as goal
 
 pub returns : goal.returns

@@ -1,6 +1,6 @@
 use Rattle.std.proofs.Common.{◌≡◌, ◌+◌, ◌-◌, get_or, refl, arith}
 use Rattle.sqjournal.specs.NonceSum.{nonce_sum, total, counted}
-use Rattle.sqjournal.proofs.Totals.{step_back, at_last}
+use Rattle.sqjournal.proofs.journal.SumOverPagePlaces.{step_back, at_last}
 use Rattle.sqjournal.proofs.nonce.page_sum.Goals as goal
 
 pub loop-at-init : goal.loop-at-init

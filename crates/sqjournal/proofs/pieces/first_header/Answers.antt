@@ -2,7 +2,7 @@ use Rattle.std.proofs.Common.{◌++◌, List, ℕ, subst, sym}
 use Rattle.std.proofs.lemmas.Result.{err_from_is_err_and}
 use Rattle.sqjournal.specs.Header.{IsFirstHeader, Names, IsRefused}
 use Rattle.sqjournal.specs.declared.error.JournalError.{JournalError}
-use Rattle.sqjournal.proofs.Standing.{front_first, front_names, front_refused}
+use Rattle.sqjournal.proofs.read.NextStateOfReading.{front_first, front_names, front_refused}
 use Rattle.sqjournal.proofs.pieces.first_header.Goals as goal
 
 pub returns-in_err-header : goal.returns-in_err-header

@@ -1,5 +1,5 @@
 use Rattle.std.proofs.Common.{◌≤◌, ◌++◌, length, length-append, replicate, arith, refl}
-use Rattle.sqjournal.proofs.Standing.{front_of}
+use Rattle.sqjournal.proofs.read.NextStateOfReading.{front_of}
 use Rattle.sqjournal.proofs.pieces.front_of.Goals as goal
 
 pub returns : goal.returns

@@ -2,8 +2,9 @@ use Rattle.std.proofs.Common.{◌≡◌, ◌-◌, ◌++◌, ◌<◌, ◌≤◌, 
 use Rattle.std.proofs.lemmas.Result.{IfOk-weaker}
 use Rattle.std.proofs.lemmas.Grind.{common_steps}
 use Rattle.std.proofs.lemmas.Bool.Decides.{nat_tests}
-use Rattle.sqjournal.specs.Reading.{IsNext, IsOver}
-use Rattle.sqjournal.proofs.Standing.{begun_next}
+use Rattle.sqjournal.specs.Reading.{IsOver}
+use Rattle.sqjournal.specs.internal.Reading.{IsNext}
+use Rattle.sqjournal.proofs.read.NextStateOfReading.{begun_next}
 use Rattle.sqjournal.proofs.pieces.take_piece.Goals as goal
 
 pub returns-clause-stands : goal.returns-clause-stands

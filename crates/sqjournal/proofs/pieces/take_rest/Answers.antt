@@ -1,6 +1,6 @@
 use Rattle.std.proofs.Common.{◌∙◌}
 use Rattle.std.proofs.lemmas.List.{take_rest}
-use Rattle.sqjournal.proofs.Standing.{kept_waits}
+use Rattle.sqjournal.proofs.read.NextStateOfReading.{kept_waits}
 use Rattle.sqjournal.proofs.pieces.take_rest.Goals as goal
 
 pub returns-clause-stands : goal.returns-clause-stands

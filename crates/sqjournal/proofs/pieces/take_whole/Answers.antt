@@ -1,5 +1,5 @@
 use Rattle.std.proofs.Common.{◌∙◌, ◌++◌, ap, arith, append_assoc}
-use Rattle.sqjournal.proofs.Standing.{next_in}
+use Rattle.sqjournal.proofs.read.NextStateOfReading.{next_in}
 use Rattle.sqjournal.proofs.pieces.take_whole.Goals as goal
 
 pub loop-start-preserved : goal.loop-start-preserved

@@ -1,7 +1,7 @@
 use Rattle.std.proofs.Common.{◌≡◌, ℕ, ◌+◌, ◌^◌, ◌≤◌, ◌++◌, List, length}
 use Rattle.sqjournal.specs.Reading.{Stands, UnlessOver}
 use Rattle.sqjournal.specs.declared.reading.Record.{Record}
-use Rattle.sqjournal.proofs.Left.{left_to}
+use Rattle.sqjournal.proofs.read.RestOfPiece.{left_to}
 use Rattle.sqjournal.proofs.pieces.take_whole.Given as goal
 
 abbrev pub invariant-loop-start : goal.invariant-loop-start

@@ -1,5 +1,5 @@
 use Rattle.sqjudge.specs.Shown.{commits_of}
-use Rattle.sqjudge.proofs.Judging.{headless_judged}
+use Rattle.sqjudge.proofs.JudgmentOfFiles.{headless_judged}
 use Rattle.sqjudge.proofs.judgment.headless.Goals as goal
 
 pub returns-in-Some : goal.returns-in-Some

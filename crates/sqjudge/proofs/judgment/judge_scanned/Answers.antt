@@ -1,5 +1,5 @@
 use Rattle.sqjudge.specs.Shown.{commits_of}
-use Rattle.sqjudge.proofs.Judging.{judged_view, empty_tells}
+use Rattle.sqjudge.proofs.JudgmentOfFiles.{judged_view, empty_tells}
 use Rattle.sqjudge.proofs.judgment.judge_scanned.Goals as goal
 
 pub returns-in-Ok : goal.returns-in-Ok

@@ -15,8 +15,8 @@ returns-in-None g c = λ gives.
     let size = g.S.PageSource.size c.args.source.now in
     let size2 = g.S.PageSource.size c.shown.new.source in
     let last : IsLastShown commits d None = subst (IsLastShown commits d) c.in-None.is (c.in_ok-shown.ensures.shown gives) in
-    let same = c.in_ok-shown.ensures.same_pages in
+    let same = c.in_ok-shown.ensures.keeps.same_pages in
     IfOk-weaker c.unshown.result (λ j. (cs : List Commit) (m : ℕ) → IsLastShown cs e None → IsJudged cs m e size2 j) (λ j. IsJudged commits known d size j)
-    (λ j h. subst (λ (s : ℕ). IsJudged commits known d s j) c.in_ok-shown.ensures.same_size
+    (λ j h. subst (λ (s : ℕ). IsJudged commits known d s j) c.in_ok-shown.ensures.keeps.same_size
     (subst (λ (x : Database). IsJudged commits known x size2 j) same (h commits known (subst (λ (x : Database). IsLastShown commits x None) (sym same) last))))
-    (c.unshown.ensures (c.in_ok-shown.ensures.still_gives gives))
+    (c.unshown.ensures (c.in_ok-shown.ensures.keeps.still_gives gives))

@@ -1,8 +1,9 @@
 use Rattle.std.proofs.Common.{◌≡◌, ◌∙◌, ap}
 use Rattle.std.proofs.lemmas.Result.{IfOk-weaker}
 use Rattle.sqval.specs.Database.{Database}
-use Rattle.sqjudge.specs.Leaves.{AreLeaves, leaves_of}
-use Rattle.sqjudge.proofs.LeavesAmong.{leaves_are}
+use Rattle.sqjudge.specs.Leaves.{AreLeaves}
+use Rattle.sqjudge.specs.internal.Leaves.{leaves_of}
+use Rattle.sqjudge.proofs.LeavesOfFreelist.{leaves_are}
 use Rattle.sqjudge.proofs.leaves.free_leaves.Goals as goal
 
 pub returns-in-Ok-clause-leaves : goal.returns-in-Ok-clause-leaves
@@ -11,5 +12,5 @@ returns-in-Ok-clause-leaves g c = λ gives.
     let e = g.S.PageSource.pages c.freelist.new.source in
     let f = c.in-Ok.ensures.found gives in
     IfOk-weaker c.leaves_among.result (λ v. v.items ≡ leaves_of e 0 c.deref.result.now) (λ v. AreLeaves d v.items)
-    (λ v h. leaves_are d c.in-Ok.pages.items v.items f.0 f.1 (h ∙ ap (λ (x : Database). leaves_of x 0 c.deref.result.now) c.in-Ok.ensures.same_pages ∙ ap (leaves_of d 0) c.deref.ensures.value))
-    (c.leaves_among.ensures.leaves (c.in-Ok.ensures.still_gives gives))
+    (λ v h. leaves_are d c.in-Ok.pages.items v.items f.0 f.1 (h ∙ ap (λ (x : Database). leaves_of x 0 c.deref.result.now) c.in-Ok.ensures.keeps.same_pages ∙ ap (leaves_of d 0) c.deref.ensures.value))
+    (c.leaves_among.ensures.leaves (c.in-Ok.ensures.keeps.still_gives gives))

@@ -1,6 +1,6 @@
 use Rattle.std.proofs.Common.{◌≡◌, ◌++◌, length, take, drop, ◌∙◌, ap, arith}
 use Rattle.std.proofs.lemmas.List.{take_at}
-use Rattle.sqpage.proofs.Sources.{least_page_size}
+use Rattle.sqpage.proofs.file.PagesInMemory.{least_page_size}
 use Rattle.sqjudge.proofs.leaves.leaf_count.Goals as goal
 
 pub leaf_count_of-requires : goal.leaf_count_of-requires

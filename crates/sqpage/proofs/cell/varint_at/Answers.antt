@@ -1,5 +1,5 @@
 use Rattle.std.proofs.Common.{refl, arith}
-use Rattle.sqpage.proofs.CellLemmas.{reads_rest, varint_some, varint_none, varint_size}
+use Rattle.sqpage.proofs.btree.PartsOfCells.{reads_rest, varint_some, varint_none, varint_size}
 use Rattle.sqpage.proofs.cell.varint_at.Goals as goal
 
 pub overflow_add-result : goal.overflow_add-result

@@ -3,7 +3,8 @@ use Rattle.std.proofs.lemmas.Result.{err_from_is_err_and}
 use Rattle.sqval.specs.Bytes.{word}
 use Rattle.sqpage.specs.Header.{byte}
 use Rattle.sqpage.specs.Freelist.{Reaches, usable_size, first_trunk}
-use Rattle.sqpage.proofs.Freelists.{reach_start, walked_on, refused_at}
+use Rattle.sqpage.proofs.file.PagesInMemory.{keeps_on}
+use Rattle.sqpage.proofs.chain.WalkOverFreelist.{reach_start, walked_on, refused_at}
 use Rattle.sqpage.proofs.free_pages.collect.Goals as goal
 
 pub trunks-init : goal.trunks-init
@@ -11,10 +12,8 @@ trunks-init g c =
     let d = g.S.PageSource.pages c.args.source.now in
     record {
       taken = c.in_ok-found.ensures.taken;
-      same_pages = c.read_page.ensures.same_pages;
-      same_size = c.read_page.ensures.same_size;
+      kept = c.read_page.ensures.keeps;
       marks = c.in_ok-found.ensures.marks ∙ c.count.ensures;
-      still_gives = c.read_page.ensures.still_gives;
       reaches = λ gives.
           let first : c.word_at-trunk.result ≡ first_trunk d = c.word_at-trunk.ensures ∙ ap (λ b. word b 32) (c.read_page.ensures.read gives).1 in
           subst (λ ps. Reaches d ps 1 c.word_at-trunk.result) (sym c.in_ok-found.ensures.none) (subst (Reaches d [] 1) (sym first) (reach_start d));
@@ -25,9 +24,9 @@ returns-in_err-next-clause-err g c = λ gives.
     let d = g.S.PageSource.pages c.args.source.now in
     let i = c.trunks.invariant in
     let used = ap (λ r. length c.read_page.new.out - r) c.from.ensures ∙ ap (λ (b : List ℕ). length b - byte b 20) (c.read_page.ensures.read gives).1 in
-    let used' = used ∙ sym (ap usable_size i.same_pages) in
+    let used' = used ∙ sym (ap usable_size i.kept.same_pages) in
     let p = err_from_is_err_and c.from_residual-in_err-next.result c.from_residual-in_err-next.ensures.1 in
-    rw (p.1, p.2) (refused_at d (g.S.PageSource.pages c.trunks.source) _ c.trunks.holder c.trunks.trunk _ _ i.same_pages (i.reaches gives) c.trunks-test.true (c.in_err-next.ensures.err (i.still_gives gives) used'))
+    rw (p.1, p.2) (refused_at d (g.S.PageSource.pages c.trunks.source) _ c.trunks.holder c.trunks.trunk _ _ i.kept.same_pages (i.reaches gives) c.trunks-test.true (c.in_err-next.ensures.err (i.kept.still_gives gives) used'))
 
 pub trunks-preserved : goal.trunks-preserved
 trunks-preserved g c =
@@ -35,14 +34,12 @@ trunks-preserved g c =
     let i = c.trunks.invariant in
     let e = c.in_ok-next.ensures in
     record {
-      taken = e.taken;
-      same_pages = e.same_pages ∙ i.same_pages;
-      same_size = e.same_size ∙ i.same_size;
-      marks = e.marks ∙ i.marks;
-      still_gives = λ gives. e.still_gives (i.still_gives gives);
+      taken = e.taken.0;
+      kept = keeps_on i.kept e.keeps;
+      marks = e.taken.1 ∙ i.marks;
       reaches = λ gives.
           let used = ap (λ r. length c.read_page.new.out - r) c.from.ensures ∙ ap (λ (b : List ℕ). length b - byte b 20) (c.read_page.ensures.read gives).1 in
-          let used' = used ∙ sym (ap usable_size i.same_pages) in
-          walked_on d (g.S.PageSource.pages c.trunks.source) _ _ _ _ c.trunks.holder c.trunks.trunk c.in_ok-next.next i.same_pages (i.reaches gives)
-          (e.few (i.still_gives gives) used') (e.takes (i.still_gives gives)) (e.marks ∙ i.marks) (e.ok (i.still_gives gives) used');
+          let used' = used ∙ sym (ap usable_size i.kept.same_pages) in
+          walked_on d (g.S.PageSource.pages c.trunks.source) _ _ _ c.trunks.holder c.trunks.trunk c.in_ok-next.next i.kept.same_pages (i.reaches gives)
+          (e.ok (i.kept.still_gives gives) used') e.taken.0 (e.taken.1 ∙ i.marks);
     }

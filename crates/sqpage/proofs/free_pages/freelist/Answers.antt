@@ -2,7 +2,7 @@ use Rattle.std.proofs.Common.{◌≢◌, ℕ, List, length, sym, ◌∙◌}
 use Rattle.std.proofs.lemmas.Result.{IfErr-weaker}
 use Rattle.sqpage.specs.declared.fault.Fault.TheVariants as faults
 use Rattle.sqpage.specs.Freelist.{IsFreelist, FreelistRefused, free_pages}
-use Rattle.sqpage.proofs.Freelists.{no_freelist, no_pages}
+use Rattle.sqpage.proofs.chain.WalkOverFreelist.{no_freelist, no_pages}
 use Rattle.sqpage.proofs.free_pages.freelist.Goals as goal
 
 pub returns-then-count-eq0-clause-found : goal.returns-then-count-eq0-clause-found

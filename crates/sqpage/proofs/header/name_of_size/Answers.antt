@@ -1,7 +1,7 @@
 use Rattle.std.proofs.Common.{◌≡◌, ℕ, ◌<◌, Result, Ok, Err, sym, ◌∙◌, ap, arith}
 use Rattle.std.specs.Result.{OkIff, result_unwrap_or}
 use Rattle.std.proofs.lemmas.Bool.Decides.{nat_tests}
-use Rattle.sqval.proofs.PageSizes.{one_of, IsOneOf}
+use Rattle.sqval.proofs.page.PageSizes.{one_of, IsOneOf}
 use Rattle.sqpage.specs.Header.{size_named_by}
 use Rattle.sqpage.proofs.header.name_of_size.Goals as goal
 

@@ -1,4 +1,4 @@
-use Rattle.sqpage.proofs.Marks.{run_of_bits}
+use Rattle.sqpage.proofs.btree.MarksOnBytes.{run_of_bits}
 use Rattle.sqpage.proofs.layout.bits_between.Goals as goal
 
 pub returns : goal.returns

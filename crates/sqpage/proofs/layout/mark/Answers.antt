@@ -1,7 +1,7 @@
-use Rattle.std.proofs.Common.{◌≡◌, ◌+◌, ◌-◌, ◌*◌, ◌/◌, ◌<◌, ◌≤◌, ◌∙◌, length, ap, subst, arith, rules, refl}
+use Rattle.std.proofs.Common.{◌≡◌, ◌+◌, ◌-◌, ◌/◌, ◌<◌, ◌∙◌, length, subst, arith, rules, refl}
 use Rattle.std.proofs.lemmas.List.{length-set}
-use Rattle.sqpage.specs.Marking.{MarksSpan, IsTouched}
-use Rattle.sqpage.proofs.Marks.{part_touched, part_marked}
+use Rattle.sqpage.specs.internal.Marking.{IsTouched}
+use Rattle.sqpage.proofs.btree.MarksOnBytes.{part_touched, part_marked}
 use Rattle.sqpage.proofs.layout.mark.Goals as goal
 
 pub returns-then-not-set_bits-clause-touched : goal.returns-then-not-set_bits-clause-touched

@@ -1,5 +1,5 @@
 use Rattle.std.proofs.Common.{◌≡◌, ◌-◌, ◌≤◌, length}
-use Rattle.sqpage.specs.Marking.{MarksSpan}
+use Rattle.sqpage.specs.internal.Marking.{MarksSpan}
 use Rattle.sqpage.proofs.layout.mark.Given as goal
 
 abbrev pub invariant-words : goal.invariant-words

@@ -1,5 +1,5 @@
 use Rattle.std.proofs.Common.{◌≡◌, ◌-◌, ◌*◌, ◌<◌, ◌≤◌, length}
-use Rattle.sqpage.proofs.Layouts.{Walked}
+use Rattle.sqpage.proofs.btree.LayoutOfPage.{Walked}
 use Rattle.sqpage.proofs.layout.mark_freeblocks.Given as goal
 
 abbrev pub invariant-blocks-2 : goal.invariant-blocks-2

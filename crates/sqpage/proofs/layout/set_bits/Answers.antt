@@ -1,6 +1,6 @@
-use Rattle.std.proofs.Common.{◌≡◌, ◌≢◌, ◌-◌, ◌^◌, ◌<◌, bit_and, bit_or, subst, sym}
-use Rattle.sqpage.specs.Marking.{SetsBits}
-use Rattle.sqpage.proofs.Marks.{sets_bits, has_bit}
+use Rattle.std.proofs.Common.{◌≡◌, ◌≢◌, ◌^◌, ◌<◌, bit_and, bit_or, subst, sym}
+use Rattle.sqpage.specs.internal.Marking.{SetsBits}
+use Rattle.sqpage.proofs.btree.MarksOnBytes.{sets_bits, has_bit}
 use Rattle.sqpage.proofs.layout.set_bits.Goals as goal
 
 pub returns-then-word-bits-ne0-clause-has : goal.returns-then-word-bits-ne0-clause-has

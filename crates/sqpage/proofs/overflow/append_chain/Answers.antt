@@ -3,8 +3,9 @@ use Rattle.std.proofs.lemmas.Result.{err_from_is_err_and}
 use Rattle.sqpage.specs.Lists.{In}
 use Rattle.sqpage.specs.Freelist.{IsPage}
 use Rattle.sqpage.specs.Chain.{links}
-use Rattle.sqpage.proofs.ListLemmas.{in_left, in_right}
-use Rattle.sqpage.proofs.Chains.{linked_on, content_on, length_snoc, link_refused, ends}
+use Rattle.sqpage.proofs.chain.ListsByRecursion.{in_left, in_right}
+use Rattle.sqpage.proofs.file.PagesInMemory.{keeps_on}
+use Rattle.sqpage.proofs.chain.OverflowChains.{linked_on, content_on, length_snoc, link_refused, ends}
 use Rattle.sqpage.proofs.overflow.append_chain.Goals.{then-is_power_of_two, else-is_power_of_two}
 use Rattle.sqpage.proofs.overflow.append_chain.Goals as goal
 
@@ -27,11 +28,9 @@ links-preserved g c =
         | then-is_power_of_two w ↦ kept_on i.pages c.links.kept c.if-is_power_of_two.kept c.links.next (inl w.kept-is) i.kept_is
         | else-is_power_of_two w ↦ kept_on i.pages c.links.kept c.if-is_power_of_two.kept c.links.next (inr w.kept-is) i.kept_is
       ];
-      same_pages = e.same_pages ∙ i.same_pages;
-      same_size = e.same_size ∙ i.same_size;
-      still_gives = λ gives. e.still_gives (i.still_gives gives);
-      linked = λ gives. linked_on d (g.S.PageSource.pages c.links.source) c.args.cell.now i.pages c.links.at c.links.next c.in_ok-following.following i.same_pages (subst (λ d. IsPage d c.links.next) i.same_pages e.within) (e.ok (i.still_gives gives)) (i.linked gives);
-      content = λ gives. content_on d (g.S.PageSource.pages c.links.source) c.args.cell.now.usable i.pages c.links.next c.args.out.now.items _ _ i.same_pages (i.content gives) (e.content (i.still_gives gives));
+      kept = keeps_on i.kept e.keeps;
+      linked = λ gives. let ok = e.ok (i.kept.still_gives gives) in linked_on d (g.S.PageSource.pages c.links.source) c.args.cell.now i.pages c.links.at c.links.next c.in_ok-following.following i.kept.same_pages (subst (λ d. IsPage d c.links.next) i.kept.same_pages ok.0) ok.1 (i.linked gives);
+      content = λ gives. content_on d (g.S.PageSource.pages c.links.source) c.args.cell.now.usable i.pages c.links.next c.args.out.now.items _ _ i.kept.same_pages (i.content gives) (e.ok (i.kept.still_gives gives)).2;
       appended = (i.appended.0 ++ e.appended.0, e.appended.1 ∙ ap (λ l. l ++ e.appended.0) i.appended.1 ∙ append_assoc c.args.out.now.items i.appended.0 e.appended.0);
     }
 
@@ -47,15 +46,17 @@ returns-in_err-following-clause-err g c = λ gives.
     let few : length i.pages < links c.args.cell.now = omega (arith, i.count, c.requires.needed, c.links-test.true) in
     let p = err_from_is_err_and c.from_residual.result c.from_residual.ensures.1 in
     rw (p.1, p.2)
-    (link_refused (g.S.PageSource.pages c.args.source.now) (g.S.PageSource.pages c.links.source) c.args.cell.now i.pages c.links.at c.links.next _ _ i.same_pages (i.linked gives) few c.if-next-eq0.false (c.in_err-following.ensures.err (i.still_gives gives)))
+    (link_refused (g.S.PageSource.pages c.args.source.now) (g.S.PageSource.pages c.links.source) c.args.cell.now i.pages c.links.at c.links.next _ _ i.kept.same_pages (i.linked gives) few c.if-next-eq0.false (c.in_err-following.ensures.err (i.kept.still_gives gives)))
 
 pub returns-clause-ok : goal.returns-clause-ok
-returns-clause-ok g c = λ gives whole.
-    let i = c.links.invariant in
-    record {
-      pages = i.pages;
-      last = c.links.at;
-      enough = omega (arith, i.count, c.requires.needed, c.links-test.false);
-      follows = ends (g.S.PageSource.pages c.args.source.now) c.args.cell.now i.pages c.links.at c.links.next c.if-next-ne0.false (i.linked gives);
-      appended = i.content gives;
-    }
+returns-clause-ok g c = λ gives.
+    let i = c.links.invariant in (
+      λ whole. record {
+        pages = i.pages;
+        last = c.links.at;
+        enough = omega (arith, i.count, c.requires.needed, c.links-test.false);
+        follows = ends (g.S.PageSource.pages c.args.source.now) c.args.cell.now i.pages c.links.at c.links.next c.if-next-ne0.false (i.linked gives);
+        appended = i.content gives;
+      },
+      λ goes_on. absurd (cc),
+    )

@@ -1,5 +1,6 @@
 use Rattle.std.proofs.Common.{◌≡◌, ◌≢◌, ℕ, ◌+◌, List, ◌++◌, length}
 use Rattle.sqpage.specs.Lists.{In}
+use Rattle.sqpage.specs.Source.{KeepsPages}
 use Rattle.sqpage.specs.Freelist.{Leads}
 use Rattle.sqpage.specs.Chain.{contents}
 use Rattle.sqpage.proofs.overflow.append_chain.Given as goal
@@ -11,9 +12,7 @@ invariant-links g l =
       pages : List ℕ;
       count : length pages + l.left ≡ l.needed;
       kept_is : l.kept ≢ 0 → In l.kept pages;
-      same_pages : g.S.PageSource.pages l.source ≡ d;
-      same_size : g.S.PageSource.size l.source ≡ g.S.PageSource.size l.fn.source;
-      still_gives : g.S.PageSource.gives_pages l.fn.source → g.S.PageSource.gives_pages l.source;
+      kept : KeepsPages g.S.PageSource.pages g.S.PageSource.size g.S.PageSource.gives_pages l.fn.source l.source;
       linked : g.S.PageSource.gives_pages l.fn.source → Leads d l.cell.page l.cell.overflow pages l.at l.next;
       content : g.S.PageSource.gives_pages l.fn.source → l.out.items ≡ l.fn.out.items ++ contents d l.cell.usable pages;
       appended : (more : List ℕ) × (l.out.items ≡ l.fn.out.items ++ more);

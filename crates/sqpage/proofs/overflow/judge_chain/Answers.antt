@@ -1,4 +1,4 @@
-use Rattle.sqpage.proofs.Chains.{stops, too_long}
+use Rattle.sqpage.proofs.chain.OverflowChains.{stops, too_long}
 use Rattle.sqpage.proofs.overflow.judge_chain.Goals as goal
 
 pub returns-in-Ok-mark_chain-clause-stands : goal.returns-in-Ok-mark_chain-clause-stands

@@ -1,7 +1,8 @@
 use Rattle.std.proofs.Common.{◌≤◌, [], ◌∷◌, ◌++◌, subst, ap, ◌∙◌, arith}
 use Rattle.sqpage.specs.Freelist.{next_in}
-use Rattle.sqpage.proofs.Takings.{takes}
-use Rattle.sqpage.proofs.Chains.{linked_on, length_marked, length_snoc}
+use Rattle.sqpage.proofs.file.PagesInMemory.{keeps_on}
+use Rattle.sqpage.proofs.chain.TakenPages.{takes}
+use Rattle.sqpage.proofs.chain.OverflowChains.{linked_on, length_marked, length_snoc}
 use Rattle.sqpage.proofs.overflow.mark_chain.Goals as goal
 
 pub links-preserved : goal.links-preserved
@@ -16,8 +17,6 @@ links-preserved g c =
       count = let n = length_snoc i.pages c.links.next in omega (arith, n, count, c.links-test.true);
       taken = takes _ _ i.pages c.links.next i.taken m;
       marks = length_marked _ _ c.links.next m ∙ i.marks;
-      same_pages = r.same_pages ∙ i.same_pages;
-      same_size = r.same_size ∙ i.same_size;
-      still_gives = λ gives. r.still_gives (i.still_gives gives);
-      linked = λ gives. linked_on d (g.S.PageSource.pages c.links.source) c.args.cell.now i.pages c.links.at c.links.next c.word_at-next.result i.same_pages (m.above, subst (λ n. c.links.next ≤ n) i.marks m.within) (c.word_at-next.ensures ∙ ap next_in (r.read (i.still_gives gives)).1) (i.linked gives);
+      kept = keeps_on i.kept r.keeps;
+      linked = λ gives. linked_on d (g.S.PageSource.pages c.links.source) c.args.cell.now i.pages c.links.at c.links.next c.word_at-next.result i.kept.same_pages (m.above, subst (λ n. c.links.next ≤ n) i.marks m.within) (c.word_at-next.ensures ∙ ap next_in (r.read (i.kept.still_gives gives)).1) (i.linked gives);
     }

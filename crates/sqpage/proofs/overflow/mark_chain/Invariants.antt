@@ -1,6 +1,7 @@
 use Rattle.std.proofs.Common.{◌≡◌, ℕ, ◌+◌, List, length}
+use Rattle.sqpage.specs.Source.{KeepsPages}
 use Rattle.sqpage.specs.Freelist.{Leads}
-use Rattle.sqpage.specs.Taking.{AreTaken}
+use Rattle.sqpage.specs.internal.Taking.{AreTaken}
 use Rattle.sqpage.proofs.overflow.mark_chain.Given as goal
 
 abbrev pub invariant-links : goal.invariant-links
@@ -11,9 +12,7 @@ invariant-links g l =
       count : length pages + l.left ≡ l.needed;
       taken : AreTaken l.taken.marks.items pages;
       marks : length l.taken.marks.items ≡ length d;
-      same_pages : g.S.PageSource.pages l.source ≡ d;
-      same_size : g.S.PageSource.size l.source ≡ g.S.PageSource.size l.fn.source;
-      still_gives : g.S.PageSource.gives_pages l.fn.source → g.S.PageSource.gives_pages l.source;
+      kept : KeepsPages g.S.PageSource.pages g.S.PageSource.size g.S.PageSource.gives_pages l.fn.source l.source;
       linked : g.S.PageSource.gives_pages l.fn.source → Leads d l.cell.page l.cell.overflow pages l.at l.next;
     }
 

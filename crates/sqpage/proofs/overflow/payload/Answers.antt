@@ -1,21 +1,19 @@
 use Rattle.std.proofs.Common.{◌<◌, ◌^◌, ◌++◌, length, take, inl, inr, refl, ap, ◌∙◌, arith}
 use Rattle.sqpage.specs.declared.fault.Fault.TheVariants as faults
 use Rattle.sqpage.specs.Chain.{contents}
-use Rattle.sqpage.proofs.Chains.{no_payload, cut, more_than, at_most}
+use Rattle.sqpage.proofs.chain.OverflowChains.{refused, cut, more_than, at_most}
 use Rattle.sqpage.proofs.overflow.payload.Goals as goal
 
-pub returns-then-needed-from-clause-none : goal.returns-then-needed-from-clause-none
-returns-then-needed-from-clause-none g c = λ gives other content.
-    no_payload (g.S.PageSource.pages c.args.source.now) c.args.cell.now faults.ChainCut c.args.cell.now.page (inl (refl, refl, more_than c.from.result c.links_of-needed.result _ _ (c.from.ensures ∙ c.count.ensures) c.links_of-needed.ensures c.if-needed-from.true)) other content
+pub returns-then-needed-from-clause-err : goal.returns-then-needed-from-clause-err
+returns-then-needed-from-clause-err g c = λ gives.
+    refused (g.S.PageSource.pages c.args.source.now) c.args.cell.now faults.ChainCut c.args.cell.now.page
+    (inl (refl, refl, more_than c.from.result c.links_of-needed.result _ _ (c.from.ensures ∙ c.count.ensures) c.links_of-needed.ensures c.if-needed-from.true))
 
 -- The chain needs no more pages than there are.
 pub returns-in-Err-clause-err : goal.returns-in-Err-clause-err
 returns-in-Err-clause-err g c = λ gives.
-    inr (at_most c.from.result c.links_of-needed.result _ _ (c.from.ensures ∙ c.count.ensures) c.links_of-needed.ensures c.if-needed-from.false, c.in-Err.ensures.err gives)
-
-pub returns-in-Err-clause-none : goal.returns-in-Err-clause-none
-returns-in-Err-clause-none g c = λ gives other content.
-    no_payload (g.S.PageSource.pages c.args.source.now) c.args.cell.now c.in-Err.refusal.fault c.in-Err.refusal.page (returns-in-Err-clause-err g c gives) other content
+    refused (g.S.PageSource.pages c.args.source.now) c.args.cell.now c.in-Err.refusal.fault c.in-Err.refusal.page
+    (inr (at_most c.from.result c.links_of-needed.result _ _ (c.from.ensures ∙ c.count.ensures) c.links_of-needed.ensures c.if-needed-from.false, c.in-Err.ensures.err gives))
 
 pub returns-in-Ok-clause-ok : goal.returns-in-Ok-clause-ok
 returns-in-Ok-clause-ok g c = λ gives.

@@ -1,5 +1,5 @@
 use Rattle.std.proofs.Common.{◌<◌, inr, subst, arith}
-use Rattle.sqpage.proofs.CellLemmas.{has_no_cell, one_more}
+use Rattle.sqpage.proofs.btree.PartsOfCells.{has_no_cell, one_more}
 use Rattle.sqpage.proofs.page.cells_lie_within.Goals as goal
 
 pub returns-in-None-clause-not : goal.returns-in-None-clause-not

@@ -1,6 +1,6 @@
 use Rattle.std.proofs.Common.{◌<◌, ◌∙◌, length, inr, subst, arith}
 use Rattle.std.proofs.lemmas.List.{length-set}
-use Rattle.sqpage.proofs.CellLemmas.{has_no_cell, one_more_read}
+use Rattle.sqpage.proofs.btree.PartsOfCells.{has_no_cell, one_more_read}
 use Rattle.sqpage.proofs.page.read_parts.Goals as goal
 
 pub returns-in-None-clause-not : goal.returns-in-None-clause-not

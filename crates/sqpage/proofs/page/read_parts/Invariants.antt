@@ -1,5 +1,5 @@
 use Rattle.std.proofs.Common.{◌≡◌, length}
-use Rattle.sqpage.proofs.CellLemmas.{AreRead}
+use Rattle.sqpage.proofs.btree.PartsOfCells.{AreRead}
 use Rattle.sqpage.proofs.page.read_parts.Given as goal
 
 abbrev pub invariant-cells : goal.invariant-cells

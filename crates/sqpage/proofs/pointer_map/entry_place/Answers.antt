@@ -1,5 +1,5 @@
 use Rattle.std.proofs.Common.{◌-◌}
-use Rattle.sqpage.proofs.PointerGroups.{no_place}
+use Rattle.sqpage.proofs.file.PointerMapGroups.{no_place}
 use Rattle.sqpage.proofs.pointer_map.entry_place.Goals as goal
 
 pub returns-then-p-map : goal.returns-then-p-map

@@ -1,6 +1,6 @@
 use Rattle.std.proofs.Common.{◌-◌, eq-eqb}
 use Rattle.std.proofs.lemmas.Bool.{eqb-true}
-use Rattle.sqpage.proofs.PointerGroups.{map_here, map_there}
+use Rattle.sqpage.proofs.file.PointerMapGroups.{map_here, map_there}
 use Rattle.sqpage.proofs.pointer_map.is_pointer_map.Goals as goal
 
 pub returns-then-p-ge2 : goal.returns-then-p-ge2

@@ -1,6 +1,6 @@
 use Rattle.std.proofs.Common.{ℕ, ◌/◌, ◌+◌, subst, arith}
 use Rattle.sqpage.specs.PointerMaps.{lock_byte, HoldsByte}
-use Rattle.sqpage.proofs.PointerGroups.{least_size, holds_lock}
+use Rattle.sqpage.proofs.file.PointerMapGroups.{least_size, holds_lock}
 use Rattle.sqpage.proofs.pointer_map.lock_byte_page.Goals as goal
 
 pub returns-clause-holds : goal.returns-clause-holds

@@ -1,6 +1,6 @@
 use Rattle.std.proofs.Common.{ℕ, ◌+◌, ◌-◌, ◌%◌, ◌/◌, ◌∙◌, sym, subst}
-use Rattle.sqpage.specs.PointerMaps.{IsNear}
-use Rattle.sqpage.proofs.PointerGroups.{near_first, near_second}
+use Rattle.sqpage.specs.internal.PointerMaps.{IsNear}
+use Rattle.sqpage.proofs.file.PointerMapGroups.{near_first, near_second}
 use Rattle.sqpage.proofs.pointer_map.map_near.Goals as goal
 
 pub returns-then-first-lock_byte_page-clause-near : goal.returns-then-first-lock_byte_page-clause-near

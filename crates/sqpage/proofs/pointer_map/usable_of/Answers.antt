@@ -1,5 +1,5 @@
 use Rattle.std.proofs.Common.{arith}
-use Rattle.sqpage.proofs.PointerGroups.{least_size}
+use Rattle.sqpage.proofs.file.PointerMapGroups.{least_size}
 use Rattle.sqpage.proofs.pointer_map.usable_of.Goals as goal
 
 pub overflow_sub-result : goal.overflow_sub-result

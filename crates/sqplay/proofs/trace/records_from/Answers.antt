@@ -1,7 +1,8 @@
 use Rattle.std.proofs.Common.{◌≡◌, ◌+◌, ℕ, List, Option, Ok, sym, subst, arith}
-use Rattle.sqplay.specs.Trace.{carried, IsRecordAt, NextAnswer, AreRecords}
+use Rattle.sqplay.specs.Trace.{carried, IsRecordAt, AreRecords}
+use Rattle.sqplay.specs.internal.Trace.{NextAnswer}
 use Rattle.sqplay.specs.declared.trace.Record.{Record}
-use Rattle.sqplay.proofs.Records.{records_more}
+use Rattle.sqplay.proofs.ConsecutiveRecords.{records_more}
 use Rattle.sqplay.proofs.trace.records_from.Goals as goal
 
 pub loop-records-preserved : goal.loop-records-preserved

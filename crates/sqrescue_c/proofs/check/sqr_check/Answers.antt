@@ -1,4 +1,4 @@
-use Rattle.sqrescue_c.proofs.Found.{clean, damaged}
+use Rattle.sqrescue_c.proofs.ReportedFindings.{clean, damaged}
 use Rattle.sqrescue_c.proofs.check.sqr_check.Goals as goal
 
 pub returns-in-Ok-Clean-clause-clean : goal.returns-in-Ok-Clean-clause-clean

@@ -1,6 +1,6 @@
 use Rattle.std.proofs.Common.{◌≡◌, ℕ, length, get_or, sym, subst, arith}
 use Rattle.sqrescue_c.specs.Commits.{IsCommitOf, AreCommitsOf}
-use Rattle.sqrescue_c.proofs.Committing.{next_before, one_commit}
+use Rattle.sqrescue_c.proofs.CopiedCommits.{next_before, one_commit}
 use Rattle.sqrescue_c.proofs.commits.copy_commits.Goals as goal
 
 pub loop-i-preserved : goal.loop-i-preserved

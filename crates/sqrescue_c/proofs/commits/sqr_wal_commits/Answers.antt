@@ -1,9 +1,9 @@
 use Rattle.std.proofs.Common.{◌≡◌, ◌<◌, List, ℕ, length, get_or, sym, subst, arith}
 use Rattle.sqwal.specs.Commits.{AreCommits}
 use Rattle.sqwal.specs.Header.{named_size}
-use Rattle.sqwal.proofs.ScanAnswers.{few_frames}
+use Rattle.sqwal.proofs.feed.ScanAnswers.{few_frames}
 use Rattle.sqrescue_c.specs.Commits.{AreCommitsOf}
-use Rattle.sqrescue_c.proofs.Committing.{few_commits}
+use Rattle.sqrescue_c.proofs.CopiedCommits.{few_commits}
 use Rattle.sqrescue_c.proofs.commits.sqr_wal_commits.Goals as goal
 
 pub returns-then-len-commits-clause-counted : goal.returns-then-len-commits-clause-counted

@@ -1,5 +1,5 @@
 use Rattle.std.proofs.Common.{add-one, arith}
-use Rattle.sqrescue_c.proofs.Replaying.{one_record}
+use Rattle.sqrescue_c.proofs.CopiedRecords.{one_record}
 use Rattle.sqrescue_c.proofs.journal.copy_records.Goals as goal
 
 pub loop-i-preserved : goal.loop-i-preserved

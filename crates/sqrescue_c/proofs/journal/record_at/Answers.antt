@@ -1,6 +1,6 @@
 use Rattle.std.proofs.Common.{ap}
 use Rattle.sqjournal.specs.declared.reading.Record.{Record as Entry}
-use Rattle.sqrescue_c.proofs.Replaying.{at_some, at_none}
+use Rattle.sqrescue_c.proofs.CopiedRecords.{at_some, at_none}
 use Rattle.sqrescue_c.proofs.journal.record_at.Goals as goal
 
 pub returns-in-Some : goal.returns-in-Some

@@ -1,6 +1,6 @@
 use Rattle.std.proofs.Common.{◌∙◌, refl}
 use Rattle.sqjournal.specs.Journal.{entries, sizes_of}
-use Rattle.sqrescue_c.proofs.Replaying.{says_so, count_is}
+use Rattle.sqrescue_c.proofs.CopiedRecords.{says_so, count_is}
 use Rattle.sqrescue_c.proofs.journal.report_of.Goals as goal
 
 pub returns-in-Some : goal.returns-in-Some

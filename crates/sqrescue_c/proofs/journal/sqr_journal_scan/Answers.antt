@@ -1,5 +1,5 @@
 use Rattle.std.proofs.Common.{arith}
-use Rattle.sqrescue_c.proofs.Replaying.{count_is}
+use Rattle.sqrescue_c.proofs.CopiedRecords.{count_is}
 use Rattle.sqrescue_c.proofs.journal.sqr_journal_scan.Goals as goal
 
 pub returns-then-count-records-clause-scanned : goal.returns-then-count-records-clause-scanned

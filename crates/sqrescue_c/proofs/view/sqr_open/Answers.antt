@@ -1,6 +1,6 @@
 use Rattle.std.proofs.Common.{◌∙◌, length, inl, refl, ap}
-use Rattle.sqrescue_c.specs.Statuses.{number_of}
-use Rattle.sqrescue_c.proofs.Shown.{opened, crowded}
+use Rattle.sqrescue_c.specs.internal.Statuses.{number_of}
+use Rattle.sqrescue_c.proofs.ReportedView.{opened, crowded}
 use Rattle.sqrescue_c.proofs.view.sqr_open.Goals as goal
 
 pub returns-in-Ok-hand_over-clause-opened : goal.returns-in-Ok-hand_over-clause-opened

@@ -1,6 +1,6 @@
 use Rattle.std.proofs.Common.{◌∙◌, length, inl, ap}
-use Rattle.sqrescue_c.specs.Statuses.{number_of}
-use Rattle.sqrescue_c.proofs.Shown.{opened_at, crowded_at}
+use Rattle.sqrescue_c.specs.internal.Statuses.{number_of}
+use Rattle.sqrescue_c.proofs.ReportedView.{opened_at, crowded_at}
 use Rattle.sqrescue_c.proofs.view.sqr_open_at.Goals as goal
 
 pub returns-in-Ok-hand_over-clause-opened : goal.returns-in-Ok-hand_over-clause-opened

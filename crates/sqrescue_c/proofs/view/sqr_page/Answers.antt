@@ -1,5 +1,5 @@
 use Rattle.std.proofs.Common.{◌≡◌, ◌≤◌, ◌-◌, ◌*◌, ◌∙◌, length, ap, arith, sym}
-use Rattle.sqrescue_c.proofs.Shown.{own, logged}
+use Rattle.sqrescue_c.proofs.ReportedView.{own, logged}
 use Rattle.sqrescue_c.proofs.view.sqr_page.Goals.{then-at-eq0, else-at-eq0}
 use Rattle.sqrescue_c.proofs.view.sqr_page.Goals as goal
 

@@ -1,5 +1,5 @@
 use Rattle.std.proofs.Common.{◌∙◌}
-use Rattle.sqrescue_c.proofs.Shown.{has_size}
+use Rattle.sqrescue_c.proofs.ReportedView.{has_size}
 use Rattle.sqrescue_c.proofs.view.sqr_size.Goals as goal
 
 pub returns-in-Ok-clause-size : goal.returns-in-Ok-clause-size

@@ -1,5 +1,5 @@
 use Rattle.std.proofs.Common.{refl, arith}
-use Rattle.sqrescue_c.proofs.Framing.{one_more}
+use Rattle.sqrescue_c.proofs.CopiedFrames.{one_more}
 use Rattle.sqrescue_c.proofs.wal.copy_frames.Goals as goal
 
 pub loop-i-preserved : goal.loop-i-preserved

@@ -1,5 +1,5 @@
 use Rattle.std.proofs.Common.{◌≡◌, ◌<◌, ℕ, get_or}
-use Rattle.sqrescue_c.specs.Logs.{frame_of, no_entry}
+use Rattle.sqrescue_c.specs.internal.Logs.{frame_of, no_entry}
 use Rattle.sqrescue_c.specs.declared.wal.Frame.{Frame}
 use Rattle.sqrescue_c.proofs.wal.copy_frames.Given as goal
 

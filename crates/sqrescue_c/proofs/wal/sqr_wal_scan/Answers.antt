@@ -1,5 +1,5 @@
 use Rattle.std.proofs.Common.{◌≤◌, length, arith}
-use Rattle.sqrescue_c.proofs.Framing.{count_is, are_frames}
+use Rattle.sqrescue_c.proofs.CopiedFrames.{count_is, are_frames}
 use Rattle.sqrescue_c.proofs.wal.sqr_wal_scan.Goals as goal
 
 pub returns-then-entries-frames-clause-scanned : goal.returns-then-entries-frames-clause-scanned

@@ -1,6 +1,6 @@
 use Rattle.std.proofs.Common.{◌==◌, sym, ◌∙◌, ap}
 use Rattle.std.proofs.lemmas.Bool.{ne_eqb}
-use Rattle.sqval.proofs.PageNumbers.{skip, hit, any_lent, lent_length}
+use Rattle.sqval.proofs.page.PageNumbers.{skip, hit, any_lent, lent_length}
 use Rattle.sqval.proofs.commit.judge_numbers.Goals as goal
 
 pub returns-then-has_zero : goal.returns-then-has_zero

@@ -1,6 +1,7 @@
 use Rattle.std.proofs.Common.{ℕ, true, false, List, sym, ◌∙◌, subst}
-use Rattle.sqval.specs.JudgedPages.{lent, numbers_of, Misses}
-use Rattle.sqval.proofs.PageNumbers.{skip, hit, numbers_lent, hole_by_numbers}
+use Rattle.sqval.specs.JudgedPages.{lent}
+use Rattle.sqval.specs.internal.JudgedPages.{numbers_of, Misses}
+use Rattle.sqval.proofs.page.PageNumbers.{skip, hit, numbers_lent, hole_by_numbers}
 use Rattle.sqval.proofs.commit.judge_pairs.Goals as goal
 
 lent_misses : (c : goal.Then-lacks) → Misses (numbers_of (lent c.args.pages.now)) c.args.old_size c.args.size true

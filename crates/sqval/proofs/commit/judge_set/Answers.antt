@@ -1,7 +1,8 @@
 use Rattle.std.proofs.Common.{ℕ, List, sym, subst, refl}
 use Rattle.std.specs.List.Sorted.{IsPermutation}
-use Rattle.sqval.specs.JudgedPages.{lent, numbers_of}
-use Rattle.sqval.proofs.PageNumbers.{numbers_lent}
+use Rattle.sqval.specs.JudgedPages.{lent}
+use Rattle.sqval.specs.internal.JudgedPages.{numbers_of}
+use Rattle.sqval.proofs.page.PageNumbers.{numbers_lent}
 use Rattle.sqval.proofs.commit.judge_set.Goals as goal
 
 pub returns-then-sort_numbers : goal.returns-then-sort_numbers

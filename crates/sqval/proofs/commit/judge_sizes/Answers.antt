@@ -1,5 +1,5 @@
 use Rattle.std.proofs.Common.{sym, ◌∙◌}
-use Rattle.sqval.proofs.PageNumbers.{skip, hit, any_lent}
+use Rattle.sqval.proofs.page.PageNumbers.{skip, hit, any_lent}
 use Rattle.sqval.proofs.commit.judge_sizes.Goals as goal
 
 pub returns-then-has_bad_length-clause-judged : goal.returns-then-has_bad_length-clause-judged

@@ -1,6 +1,6 @@
 use Rattle.std.proofs.Common.{true, false, ◌∙◌}
-use Rattle.sqval.specs.JudgedPages.{numbers_of}
-use Rattle.sqval.proofs.PageNumbers.{skip, hit, twice_in_order, misses_same, hole_by_numbers}
+use Rattle.sqval.specs.internal.JudgedPages.{numbers_of}
+use Rattle.sqval.proofs.page.PageNumbers.{skip, hit, twice_in_order, misses_same, hole_by_numbers}
 use Rattle.sqval.proofs.commit.judge_sorted.Goals as goal
 
 pub returns-then-not-rises : goal.returns-then-not-rises

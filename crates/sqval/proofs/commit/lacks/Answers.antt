@@ -1,8 +1,8 @@
 use Rattle.std.proofs.Common.{◌≡◌, ◌==◌, ℕ, ◌+◌, true, sym, ◌∙◌, subst, arith, ⊎_elim}
 use Rattle.std.proofs.lemmas.Bool.{cases_lt}
 use Rattle.std.specs.List.{list_any}
-use Rattle.sqval.specs.JudgedPages.{numbers_of}
-use Rattle.sqval.proofs.PageNumbers.{any_map}
+use Rattle.sqval.specs.internal.JudgedPages.{numbers_of}
+use Rattle.sqval.proofs.page.PageNumbers.{any_map}
 use Rattle.sqval.proofs.commit.lacks.Goals as goal
 
 pub returns-then-not-has_page : goal.returns-then-not-has_page

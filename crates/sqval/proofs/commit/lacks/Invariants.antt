@@ -1,7 +1,7 @@
 use Rattle.std.proofs.Common.{◌≡◌, ℕ, ◌<◌, ◌≤◌, true}
 use Rattle.std.specs.Prelude.{◌==◌}
 use Rattle.std.specs.List.{list_any}
-use Rattle.sqval.specs.JudgedPages.{numbers_of}
+use Rattle.sqval.specs.internal.JudgedPages.{numbers_of}
 use Rattle.sqval.proofs.commit.lacks.Given as goal
 
 abbrev pub invariant-loop-k : goal.invariant-loop-k

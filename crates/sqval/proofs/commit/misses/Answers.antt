@@ -1,5 +1,5 @@
 use Rattle.std.proofs.Common.{◌+◌, sym, arith}
-use Rattle.sqval.proofs.PageNumbers.{search_none}
+use Rattle.sqval.proofs.page.PageNumbers.{search_none}
 use Rattle.sqval.proofs.commit.misses.Goals as goal
 
 pub returns-then-is_err : goal.returns-then-is_err

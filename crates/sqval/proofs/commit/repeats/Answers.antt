@@ -4,7 +4,7 @@ use Rattle.std.specs.Prelude.{◌||◌}
 use Rattle.std.specs.List.{list_any}
 use Rattle.sqval.specs.CommitFaults.{has_twice}
 use Rattle.sqval.specs.JudgedPages.{lent}
-use Rattle.sqval.proofs.PageNumbers.{twice_from}
+use Rattle.sqval.proofs.page.PageNumbers.{twice_from}
 use Rattle.sqval.proofs.commit.repeats.Goals as goal
 
 pub returns-then-has_page : goal.returns-then-has_page

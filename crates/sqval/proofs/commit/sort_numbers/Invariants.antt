@@ -1,5 +1,5 @@
 use Rattle.std.proofs.Common.{◌≡◌, take}
-use Rattle.sqval.specs.JudgedPages.{numbers_of}
+use Rattle.sqval.specs.internal.JudgedPages.{numbers_of}
 use Rattle.sqval.proofs.commit.sort_numbers.Given as goal
 
 abbrev pub invariant-loop-x : goal.invariant-loop-x

@@ -1,7 +1,7 @@
 use Rattle.std.proofs.Common.{◌∙◌, ap, ◌++◌, append_assoc}
 use Rattle.std.specs.Prelude.{map}
 use Rattle.sqval.specs.Datum.{datum_of}
-use Rattle.sqval.proofs.Writing.{begins_still, whole_record}
+use Rattle.sqval.proofs.payload.ShortestRecord.{begins_still, whole_record}
 use Rattle.sqval.proofs.encoding.append.Goals as goal
 
 pub returns-in_err-push_types-clause-begins : goal.returns-in_err-push_types-clause-begins

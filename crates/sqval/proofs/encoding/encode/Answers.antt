@@ -1,7 +1,7 @@
 use Rattle.std.proofs.Common.{arith}
 use Rattle.std.specs.Prelude.{map}
 use Rattle.sqval.specs.Datum.{datum_of}
-use Rattle.sqval.proofs.Writing.{shortest}
+use Rattle.sqval.proofs.payload.ShortestRecord.{shortest}
 use Rattle.sqval.proofs.encoding.encode.Goals as goal
 
 pub returns-in-Ok-clause-appended : goal.returns-in-Ok-clause-appended

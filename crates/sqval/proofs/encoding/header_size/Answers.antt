@@ -1,6 +1,6 @@
 use Rattle.std.specs.Prelude.{map}
 use Rattle.sqval.specs.Datum.{datum_of}
-use Rattle.sqval.proofs.Writing.{sum_too_large, header_too_large}
+use Rattle.sqval.proofs.payload.ShortestRecord.{sum_too_large, header_too_large}
 use Rattle.sqval.proofs.encoding.header_size.Goals as goal
 
 pub returns-in_err-types-clause-none : goal.returns-in_err-types-clause-none

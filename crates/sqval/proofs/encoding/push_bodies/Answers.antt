@@ -1,4 +1,4 @@
-use Rattle.sqval.proofs.Writing.{filled_none, filled_next, item_writable}
+use Rattle.sqval.proofs.payload.ShortestRecord.{filled_none, filled_next, item_writable}
 use Rattle.sqval.proofs.encoding.push_bodies.Goals as goal
 
 pub loop-value-init : goal.loop-value-init

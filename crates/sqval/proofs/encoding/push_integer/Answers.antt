@@ -3,10 +3,11 @@ use Rattle.std.specs.Prelude.{is_ok, if◌then◌else◌}
 use Rattle.std.specs.Int.{bytes_high_first}
 use Rattle.byteorder.proofs.Bytes.{between-bytes_high_first}
 use Rattle.sqval.specs.Datum.{integer}
-use Rattle.sqval.specs.Shortest.{IsShortestBody, integer_serial}
+use Rattle.sqval.specs.Shortest.{integer_serial}
+use Rattle.sqval.specs.internal.Shortest.{IsShortestBody}
 use Rattle.sqval.specs.Serial.{body_size}
-use Rattle.sqval.proofs.Integers.{integer_body, integer_narrow}
-use Rattle.sqval.proofs.Writing.{appended}
+use Rattle.sqval.proofs.payload.TwosComplementIntegers.{integer_body, integer_narrow}
+use Rattle.sqval.proofs.payload.ShortestRecord.{appended}
 use Rattle.sqval.proofs.encoding.push_integer.Goals as goal
 
 pub returns-clause-appended : goal.returns-clause-appended

@@ -1,4 +1,4 @@
-use Rattle.sqval.proofs.Writing.{typed_none, typed_next, item_writable}
+use Rattle.sqval.proofs.payload.ShortestRecord.{typed_none, typed_next, item_writable}
 use Rattle.sqval.proofs.encoding.push_types.Goals as goal
 
 pub loop-value-init : goal.loop-value-init

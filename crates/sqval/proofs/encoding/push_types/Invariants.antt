@@ -1,6 +1,6 @@
 use Rattle.std.proofs.Common.{take, map}
 use Rattle.sqval.specs.Datum.{datum_of}
-use Rattle.sqval.proofs.Writing.{Typed}
+use Rattle.sqval.proofs.payload.ShortestRecord.{Typed}
 use Rattle.sqval.proofs.encoding.push_types.Given as goal
 
 abbrev pub invariant-loop-value : goal.invariant-loop-value

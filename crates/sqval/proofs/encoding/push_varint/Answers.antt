@@ -1,5 +1,5 @@
 use Rattle.std.proofs.Common.{arith}
-use Rattle.sqval.proofs.Writing.{varint_written}
+use Rattle.sqval.proofs.payload.ShortestRecord.{varint_written}
 use Rattle.sqval.proofs.encoding.push_varint.Goals as goal
 
 pub returns-clause-appended : goal.returns-clause-appended

@@ -1,4 +1,4 @@
-use Rattle.sqval.proofs.Writing.{summed_none, summed_next, too_many, one_too_long}
+use Rattle.sqval.proofs.payload.ShortestRecord.{summed_none, summed_next, too_many, one_too_long}
 use Rattle.sqval.proofs.encoding.sizes.Goals as goal
 
 pub loop-value-init : goal.loop-value-init

@@ -5,7 +5,7 @@ use Rattle.std.proofs.lemmas.List.Sums.{sum_by_push}
 use Rattle.std.proofs.lemmas.Bool.{eqb-false}
 use Rattle.sqval.specs.Varint.{Begins}
 use Rattle.sqval.specs.Serial.{body_size, IsInternal}
-use Rattle.sqval.proofs.Refusals.{lead_next}
+use Rattle.sqval.proofs.payload.UniquenessOfReading.{lead_next}
 use Rattle.sqval.proofs.record.measure.Invariants.{Measured}
 use Rattle.sqval.proofs.record.measure.Goals as goal
 

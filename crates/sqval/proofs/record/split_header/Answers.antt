@@ -2,7 +2,7 @@ use Rattle.std.proofs.Common.{ap, refl, arith, ℕ, ◌<◌, ◌≤◌, ◌⊎�
 use Rattle.std.proofs.lemmas.List.{take_rest}
 use Rattle.sqval.specs.Varint.{Begins}
 use Rattle.sqval.specs.Record.{HasHeader}
-use Rattle.sqval.proofs.Varints.{begins_once}
+use Rattle.sqval.proofs.payload.VarintNumbers.{begins_once}
 use Rattle.sqval.proofs.record.split_header.Goals as goal
 
 pub returns-in_err-header : goal.returns-in_err-header

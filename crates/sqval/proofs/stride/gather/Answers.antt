@@ -1,6 +1,6 @@
 use Rattle.std.proofs.Common.{◌+◌, ◌-◌, ◌*◌, ◌≤◌, arith}
 use Rattle.std.proofs.Math.Nat.{mul-le-mul_right, mul-le-mul_left}
-use Rattle.sqval.proofs.Strides.{gathered}
+use Rattle.sqval.proofs.page.GatheredParts.{gathered}
 use Rattle.sqval.proofs.stride.gather.Goals as goal
 
 pub loop-k-preserved : goal.loop-k-preserved

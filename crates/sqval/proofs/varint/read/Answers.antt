@@ -1,7 +1,7 @@
 use Rattle.std.proofs.Common.{◌≡◌, ℕ, ◌+◌, ◌-◌, ◌*◌, ◌%◌, ◌<◌, ◌≤◌, take, get_or, arith, below_more}
 use Rattle.std.proofs.lemmas.List.{take_more}
 use Rattle.sqval.specs.Varint.{Begins}
-use Rattle.sqval.proofs.Varints.{ends_here, ends_ninth, none_begins, some_exactly, sevens_within, sevens-push}
+use Rattle.sqval.proofs.payload.VarintNumbers.{ends_here, ends_ninth, none_begins, some_exactly, sevens_within, sevens-push}
 use Rattle.sqval.proofs.varint.read.Goals as goal
 
 ninth : (c : goal.Then-index-eq8) → Begins (c.loop-index.high * 256 + c.from-byte.result) 9 c.args.bytes.now

@@ -1,7 +1,7 @@
 use Rattle.std.proofs.Common.{◌≡◌, ◌+◌, ◌-◌, ◌%◌, length, take, drop, arith, length-drop, refl, rules}
 use Rattle.std.proofs.lemmas.Grind.{common_steps}
 use Rattle.std.proofs.lemmas.List.{length-take-le}
-use Rattle.sqval.proofs.Varints.{spells_nine, spells_fewer, spells_shortest, begins_before, shorter}
+use Rattle.sqval.proofs.payload.VarintNumbers.{spells_nine, spells_fewer, spells_shortest, begins_before, shorter}
 use Rattle.sqval.proofs.varint.write.Goals as goal
 
 pub returns-then-size-eq9-clause-spells : goal.returns-then-size-eq9-clause-spells

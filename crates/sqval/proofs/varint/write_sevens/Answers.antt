@@ -1,6 +1,6 @@
 use Rattle.std.proofs.Common.{length, arith}
 use Rattle.std.proofs.lemmas.Grind.{common_steps}
-use Rattle.sqval.proofs.Varints.{write_more, all_written}
+use Rattle.sqval.proofs.payload.VarintNumbers.{write_more, all_written}
 use Rattle.sqval.proofs.varint.write_sevens.Goals as goal
 
 pub loop-index-preserved : goal.loop-index-preserved

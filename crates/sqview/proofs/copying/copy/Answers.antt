@@ -4,7 +4,8 @@ use Rattle.std.specs.Io.KnownBytes.{Appends, append_known}
 use Rattle.std.proofs.KnownBytes.{Appends-trans}
 use Rattle.std.proofs.lemmas.List.{take_at}
 use Rattle.sqval.specs.Database.{Database, page}
-use Rattle.sqview.proofs.Runs.{concat-page}
+use Rattle.sqpage.proofs.file.PagesInMemory.{keeps_on}
+use Rattle.sqview.proofs.file.RunsOfWrittenPages.{concat-page}
 use Rattle.sqview.proofs.copying.copy.Goals as goal
 
 pub loop-before-preserved : goal.loop-before-preserved
@@ -18,15 +19,11 @@ loop-before-preserved g c =
     let long : length out ≡ length items = omega (arith, ap length c.deref_mut.ensures.value) in
     let whole : length out ≡ c.loop-before.page.len = omega (arith, long, c.loop-before.page.ok.0) in
     let kept : take c.loop-before.page.len (out ++ drop (length out) items) ≡ out = take_at out (drop (length out) items) c.loop-before.page.len whole in (
-      c.page.ensures.same_pages ∙ was.0,
-      c.page.ensures.same_size ∙ was.1,
-      ap length kept ∙ long ∙ was.2,
+      keeps_on was.0 c.page.ensures.keeps,
+      ap length kept ∙ long ∙ was.1,
       λ gives.
-          let old = was.3 gives in
-          let bytes : c.deref.result.now ≡ page pages (n + 1) = c.deref.ensures.value ∙ kept ∙ (c.page.ensures.read old.0).1 ∙ ap (λ (d : Database). page d (n + 1)) was.0 in
-          let more : concat (take n pages) ++ c.deref.result.now ≡ concat (take (n + 1) pages) = ap (λ (l : List ℕ). concat (take n pages) ++ l) bytes ∙ sym (concat-page pages n (omega (arith, c.loop-before-test.true, c.count-before-end.ensures))) in (
-            c.page.ensures.still_gives old.0,
-            subst (λ (l : List ℕ). Appends (contents c.args.out.now) (append_known (contents c.add.new.out) c.add.new.run.items) l) more
-                (Appends-trans (contents c.args.out.now) (append_known (contents c.loop-before.out) c.loop-before.run.items) (append_known (contents c.add.new.out) c.add.new.run.items) (concat (take n pages)) c.deref.result.now old.1 c.in_ok-add.ensures.added),
-          ),
+          let bytes : c.deref.result.now ≡ page pages (n + 1) = c.deref.ensures.value ∙ kept ∙ (c.page.ensures.read (was.0.still_gives gives)).1 ∙ ap (λ (d : Database). page d (n + 1)) was.0.same_pages in
+          let more : concat (take n pages) ++ c.deref.result.now ≡ concat (take (n + 1) pages) = ap (λ (l : List ℕ). concat (take n pages) ++ l) bytes ∙ sym (concat-page pages n (omega (arith, c.loop-before-test.true, c.count-before-end.ensures))) in
+          subst (λ (l : List ℕ). Appends (contents c.args.out.now) (append_known (contents c.add.new.out) c.add.new.run.items) l) more
+          (Appends-trans (contents c.args.out.now) (append_known (contents c.loop-before.out) c.loop-before.run.items) (append_known (contents c.add.new.out) c.add.new.run.items) (concat (take n pages)) c.deref.result.now (was.2 gives) c.in_ok-add.ensures.added),
     )

@@ -1,7 +1,7 @@
 use Rattle.std.proofs.Common.{◌∙◌, ◌<◌, inl, inr, length, sym, ap, arith}
 use Rattle.std.specs.Int.{div_ceil}
-use Rattle.sqjournal.proofs.Journals.{size_bounds}
-use Rattle.sqview.proofs.FileHeads.{pages_named, pages_counted}
+use Rattle.sqjournal.proofs.read.JournalOfTakenBytes.{size_bounds}
+use Rattle.sqview.proofs.file.FileHeads.{pages_named, pages_counted}
 use Rattle.sqview.proofs.file_head.count_pages.Goals as goal
 use Rattle.sqview.proofs.file_head.count_pages.Goals.{else-named-ne0-via-then-named-ne0+else-word_at, else-named-ne0-via-else-named-ne0}
 

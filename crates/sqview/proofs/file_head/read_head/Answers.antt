@@ -1,6 +1,6 @@
 use Rattle.std.proofs.Common.{◌∙◌, ap}
 use Rattle.std.specs.Prelude.{Ok}
-use Rattle.sqview.proofs.FileHeads.{page_is_part, head_is}
+use Rattle.sqview.proofs.file.FileHeads.{page_is_part, head_is}
 use Rattle.sqview.proofs.file_head.read_head.Goals as goal
 
 pub returns-clause-read : goal.returns-clause-read

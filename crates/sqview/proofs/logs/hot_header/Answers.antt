@@ -1,7 +1,7 @@
 use Rattle.std.proofs.Common.{◌≡◌, ◌∙◌, take, arith}
-use Rattle.sqjournal.proofs.Journals.{cold_short}
-use Rattle.sqview.proofs.FileHeads.{part_is}
-use Rattle.sqview.proofs.Opening.{hot_is, cold_refused, cold_cut}
+use Rattle.sqjournal.proofs.read.JournalOfTakenBytes.{cold_short}
+use Rattle.sqview.proofs.file.FileHeads.{part_is}
+use Rattle.sqview.proofs.openings.ShownOrRefusedView.{hot_is, cold_refused, cold_cut}
 use Rattle.sqview.proofs.logs.hot_header.Goals as goal
 
 pub returns-then-length-lt28-clause-answer : goal.returns-then-length-lt28-clause-answer

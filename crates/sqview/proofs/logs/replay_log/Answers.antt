@@ -1,7 +1,7 @@
 use Rattle.std.proofs.Common.{◌≡◌, ◌+◌, ◌^◌, ◌≤◌, ◌∙◌, ℕ, length, take, subst, arith}
 use Rattle.std.proofs.lemmas.Grind.{common_steps}
 use Rattle.sqjournal.specs.Took.{Took}
-use Rattle.sqview.proofs.Pieces.{piece_long, piece_within, replay_on, all_read, over_read, replay_unread, replay_bad, replay_good}
+use Rattle.sqview.proofs.file.LogsReadInPieces.{piece_long, piece_within, replay_on, all_read, over_read, replay_unread, replay_bad, replay_good}
 use Rattle.sqview.proofs.logs.replay_log.Goals as goal
 
 pub returns-in_err-error-clause-answer : goal.returns-in_err-error-clause-answer

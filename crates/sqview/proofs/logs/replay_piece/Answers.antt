@@ -1,5 +1,5 @@
 use Rattle.std.proofs.Common.{take}
-use Rattle.sqview.proofs.Pieces.{replay_fed}
+use Rattle.sqview.proofs.file.LogsReadInPieces.{replay_fed}
 use Rattle.sqview.proofs.logs.replay_piece.Goals as goal
 
 pub returns-clause-fed : goal.returns-clause-fed

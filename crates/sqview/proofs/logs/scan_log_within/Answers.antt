@@ -1,7 +1,7 @@
 use Rattle.std.proofs.Common.{◌≡◌, ◌+◌, ◌∙◌, ℕ, length, take, subst, arith}
 use Rattle.std.proofs.lemmas.Grind.{common_steps}
 use Rattle.sqwal.specs.Took.{TookWithin}
-use Rattle.sqview.proofs.Pieces.{piece_long, piece_within, scan_on, over_taken, all_taken, scan_unread, scan_bad, scan_good}
+use Rattle.sqview.proofs.file.LogsReadInPieces.{piece_long, piece_within, scan_on, over_taken, all_taken, scan_unread, scan_bad, scan_good}
 use Rattle.sqview.proofs.logs.scan_log_within.Goals as goal
 
 pub returns-in_err-error-clause-answer : goal.returns-in_err-error-clause-answer

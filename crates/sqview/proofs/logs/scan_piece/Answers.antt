@@ -1,5 +1,5 @@
 use Rattle.std.proofs.Common.{take}
-use Rattle.sqview.proofs.Pieces.{scan_fed}
+use Rattle.sqview.proofs.file.LogsReadInPieces.{scan_fed}
 use Rattle.sqview.proofs.logs.scan_piece.Goals as goal
 
 pub returns-clause-fed : goal.returns-clause-fed

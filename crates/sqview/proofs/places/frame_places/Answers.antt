@@ -1,7 +1,7 @@
 use Rattle.std.proofs.Common.{◌≡◌, ◌+◌, ◌∙◌, ℕ, ap, arith, subst}
 use Rattle.sqwal.specs.Frames.{page_of}
 use Rattle.sqview.specs.Origins.{AreFramePlaces}
-use Rattle.sqview.proofs.Framed.{placed_none, placed_more}
+use Rattle.sqview.proofs.place.PlacesOfLastFrames.{placed_none, placed_more}
 use Rattle.sqview.proofs.places.frame_places.Goals as goal
 use Rattle.sqview.proofs.places.frame_places.Goals.{else-loop-i-test, then-loop-i-test+in_default}
 

@@ -1,5 +1,5 @@
 use Rattle.std.proofs.Common.{◌+◌, ◌*◌, ◌-◌, ◌∙◌, ap}
-use Rattle.sqview.proofs.Framed.{content_place}
+use Rattle.sqview.proofs.place.PlacesOfLastFrames.{content_place}
 use Rattle.sqview.proofs.places.place.Goals as goal
 
 pub returns : goal.returns

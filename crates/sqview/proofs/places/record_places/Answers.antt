@@ -1,6 +1,6 @@
 use Rattle.std.proofs.Common.{◌≡◌, ◌+◌, ◌-◌, ◌∙◌, ℕ, arith, subst}
-use Rattle.sqview.specs.ViewParts.{AreNoted}
-use Rattle.sqview.proofs.Recorded.{few, noted_more, noted_all, noted_end}
+use Rattle.sqview.specs.internal.ViewParts.{AreNoted}
+use Rattle.sqview.proofs.place.PlacesOfLastRecords.{few, noted_more, noted_all, noted_end}
 use Rattle.sqview.proofs.places.record_places.Goals as goal
 use Rattle.sqview.proofs.places.record_places.Goals.{else-loop-number-test, then-loop-number-test+in_default}
 

@@ -1,5 +1,5 @@
 use Rattle.std.proofs.Common.{◌≡◌, ◌-◌, length}
-use Rattle.sqview.specs.ViewParts.{AreNoted}
+use Rattle.sqview.specs.internal.ViewParts.{AreNoted}
 use Rattle.sqview.proofs.places.record_places.Given as goal
 
 abbrev pub invariant-loop-number : goal.invariant-loop-number

@@ -1,8 +1,8 @@
 use Rattle.std.proofs.Common.{◌≡◌, ◌∙◌, length}
 use Rattle.sqcheck.specs.declared.survey.Survey.{Survey}
 use Rattle.sqview.specs.LogView.{pages_of}
-use Rattle.sqview.proofs.Laying.{length_laid}
-use Rattle.sqcheck.proofs.Results.{if_ok}
+use Rattle.sqview.proofs.openings.PagesOfView.{length_laid}
+use Rattle.sqcheck.proofs.checks.ResultsOfCalls.{if_ok}
 use Rattle.sqview.proofs.survey.survey_view.Goals as goal
 
 pub returns-clause-each : goal.returns-clause-each

@@ -1,5 +1,5 @@
 use Rattle.std.proofs.Common.{false}
-use Rattle.sqview.proofs.Judging.{of_files, unjudged_files, found_without, unjudged_without}
+use Rattle.sqview.proofs.judgments.VerdictOnFiles.{of_files, unjudged_files, found_without, unjudged_without}
 use Rattle.sqview.proofs.verdict.judge_files.Goals as goal
 
 pub returns-in-Ok : goal.returns-in-Ok

@@ -1,5 +1,5 @@
 use Rattle.std.proofs.Common.{false}
-use Rattle.sqview.proofs.Judging.{of_files_at, unjudged_files_at, found_without_at, unjudged_without_at}
+use Rattle.sqview.proofs.judgments.VerdictOnFiles.{of_files_at, unjudged_files_at, found_without_at, unjudged_without_at}
 use Rattle.sqview.proofs.verdict.judge_files_at.Goals as goal
 
 pub returns-in-Ok : goal.returns-in-Ok

@@ -1,4 +1,4 @@
-use Rattle.sqview.proofs.Judging.{plainly}
+use Rattle.sqview.proofs.judgments.VerdictOnFiles.{plainly}
 use Rattle.sqview.proofs.verdict.judge_view.Goals as goal
 
 pub returns-clause-refused : goal.returns-clause-refused

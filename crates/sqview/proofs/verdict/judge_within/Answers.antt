@@ -1,7 +1,7 @@
 use Rattle.std.proofs.Common.{ap}
 use Rattle.std.specs.Prelude.{IfOk, IfErr}
 use Rattle.sqview.specs.Verdicts.{IsVerdictWithin, AreUnjudgedWithin}
-use Rattle.sqview.proofs.Judging.{along, gives_unread}
+use Rattle.sqview.proofs.judgments.VerdictOnFiles.{along, gives_unread}
 use Rattle.sqview.proofs.verdict.judge_within.Goals as goal
 
 pub returns-clause-found : goal.returns-clause-found

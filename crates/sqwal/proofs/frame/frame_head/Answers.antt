@@ -3,7 +3,7 @@ use Rattle.std.specs.List.{flat_map}
 use Rattle.std.proofs.lemmas.List.{take_at, take_all, length-take-le}
 use Rattle.byteorder.specs.Endian.{big_bytes}
 use Rattle.sqwal.specs.Sums.{GoesOn}
-use Rattle.sqwal.proofs.Making.{page_pairs, put_two, goes_on_append}
+use Rattle.sqwal.proofs.log.WrittenHeadersAndFrames.{page_pairs, put_two, goes_on_append}
 use Rattle.sqwal.proofs.frame.frame_head.Goals as goal
 
 pub add-after-requires : goal.add-after-requires

@@ -1,7 +1,7 @@
 use Rattle.std.proofs.Common.{◌≡◌, ◌%◌, drop, length, ap, ◌∙◌, arith, length-drop}
 use Rattle.std.proofs.lemmas.List.{take_rest}
-use Rattle.sqwal.proofs.Scanning.{page_size_even}
-use Rattle.sqwal.proofs.FrameSteps.{goes_over}
+use Rattle.sqwal.proofs.feed.ScanUnderMoreBytes.{page_size_even}
+use Rattle.sqwal.proofs.feed.ScanWithNextFrame.{goes_over}
 use Rattle.sqwal.proofs.scan.sum_over.Goals as goal
 
 pub add-requires-2 : goal.add-requires-2

@@ -1,6 +1,6 @@
 use Rattle.std.proofs.Common.{◌<◌, length, map, arith}
 use Rattle.std.proofs.lemmas.Option.{slice_get_within}
-use Rattle.sqwords.proofs.Lines.{known_more, unknown_there, words_long}
+use Rattle.sqwords.proofs.CommandLineArguments.{known_more, unknown_there, words_long}
 use Rattle.sqwords.proofs.words.are_known.Goals as goal
 
 pub returns-then-not-is_known-clause-not : goal.returns-then-not-is_known-clause-not

@@ -2,8 +2,8 @@ use Rattle.std.proofs.Common.{◌≡◌, ◌∙◌, ap, map, refl, sym, inl, inr
 use Rattle.std.specs.Prelude.{Some, codes}
 use Rattle.std.specs.Cmp.Lexicographic.{bytes_decides}
 use Rattle.sqwords.specs.Line.{AreKnown}
-use Rattle.sqwords.proofs.Lines.{agree, differ, told}
-use Rattle.sqwords.proofs.Asking.{others, report_asks, show_amiss, at_named, at_none, asks_to, no_to, some_to}
+use Rattle.sqwords.proofs.CommandLineArguments.{agree, differ, told}
+use Rattle.sqwords.proofs.OptionsOfCommand.{others, report_asks, show_amiss, at_named, at_none, asks_to, no_to, some_to}
 use Rattle.sqwords.proofs.words.asked.Goals as goal
 use Rattle.sqwords.proofs.words.asked.Goals.{else-eq-3-via-then-eq-3+else-are_known, else-eq-3-via-else-eq-3}
 use Rattle.sqwords.proofs.words.asked.Goals.{then-ne-via-then-ne, then-ne-via-else-ne+then-not-are_known}

@@ -1,7 +1,7 @@
 use Rattle.std.proofs.Common.{◌∙◌, ap, sym}
 use Rattle.std.specs.Prelude.{Some}
 use Rattle.std.specs.Cmp.Lexicographic.{bytes_decides}
-use Rattle.sqwords.proofs.Lines.{at_word}
+use Rattle.sqwords.proofs.CommandLineArguments.{at_word}
 use Rattle.sqwords.proofs.words.asks_version.Goals as goal
 
 pub returns-then-words-gt1 : goal.returns-then-words-gt1

@@ -1,7 +1,7 @@
 use Rattle.std.proofs.Common.{◌≡◌, ◌<◌, length, ◌∙◌, sym, ap, true, false, arith}
 use Rattle.std.specs.Prelude.{Some}
 use Rattle.std.specs.Cmp.Lexicographic.{bytes_decides}
-use Rattle.sqwords.proofs.Lines.{at_word, is_word}
+use Rattle.sqwords.proofs.CommandLineArguments.{at_word, is_word}
 use Rattle.sqwords.proofs.words.is_asked.Goals as goal
 
 pub returns-then-eq-clause-second : goal.returns-then-eq-clause-second

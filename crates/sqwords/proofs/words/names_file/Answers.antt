@@ -1,7 +1,7 @@
 use Rattle.std.proofs.Common.{◌≡◌, ◌∙◌, sym, ap, refl, true, false, arith}
 use Rattle.std.specs.Prelude.{Some}
 use Rattle.std.specs.Cmp.Lexicographic.{bytes_decides}
-use Rattle.sqwords.proofs.Lines.{at_word, no_file, none_free_more, only_free, other_file, two_free, words_long}
+use Rattle.sqwords.proofs.CommandLineArguments.{at_word, no_file, none_free_more, only_free, other_file, two_free, words_long}
 use Rattle.sqwords.proofs.words.names_file.Goals as goal
 
 pub returns-then-eq-clause-yes : goal.returns-then-eq-clause-yes

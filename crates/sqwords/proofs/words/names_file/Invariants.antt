@@ -1,5 +1,5 @@
 use Rattle.std.proofs.Common.{map}
-use Rattle.sqwords.proofs.Lines.{NoneFree}
+use Rattle.sqwords.proofs.CommandLineArguments.{NoneFree}
 use Rattle.sqwords.proofs.words.names_file.Given as goal
 
 abbrev pub invariant-loop-i : goal.invariant-loop-i

@@ -1,6 +1,6 @@
 use Rattle.std.proofs.Common.{◌<◌, refl, length, map, arith}
 use Rattle.std.proofs.lemmas.Option.{slice_get_within}
-use Rattle.sqwords.proofs.Lines.{none_free_more, some_word, words_long}
+use Rattle.sqwords.proofs.CommandLineArguments.{none_free_more, some_word, words_long}
 use Rattle.sqwords.proofs.words.none_free.Goals as goal
 
 pub loop-i-preserved : goal.loop-i-preserved

@@ -1,7 +1,7 @@
 use Rattle.std.proofs.Common.{◌≡◌, ◌∙◌, sym, ap, true, false, inr, arith}
 use Rattle.std.specs.Prelude.{Some}
 use Rattle.std.specs.Cmp.Lexicographic.{bytes_decides}
-use Rattle.sqwords.proofs.Lines.{at_word, none_from_more, options_are, options_rest}
+use Rattle.sqwords.proofs.CommandLineArguments.{at_word, none_from_more, options_are, options_rest}
 use Rattle.sqwords.proofs.words.options_of.Goals as goal
 
 pub returns-then-eq : goal.returns-then-eq

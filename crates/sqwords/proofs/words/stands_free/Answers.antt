@@ -1,5 +1,5 @@
 use Rattle.std.proofs.Common.{refl}
-use Rattle.sqwords.proofs.Lines.{free_behind, free_plain, not_false, not_true, option_not_free, value_not_free}
+use Rattle.sqwords.proofs.CommandLineArguments.{free_behind, free_plain, not_false, not_true, option_not_free, value_not_free}
 use Rattle.sqwords.proofs.words.stands_free.Goals as goal
 
 pub returns-then-stands_in-clause-yes : goal.returns-then-stands_in-clause-yes

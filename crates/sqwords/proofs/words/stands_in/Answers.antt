@@ -1,7 +1,7 @@
 use Rattle.std.proofs.Common.{◌≡◌, sym, ◌∙◌, true, false, map, arith}
 use Rattle.std.proofs.lemmas.List.{length-map, get_or-map}
 use Rattle.std.specs.Cmp.Lexicographic.{bytes_decides}
-use Rattle.sqwords.proofs.Lines.{words_long, none_more, not_there}
+use Rattle.sqwords.proofs.CommandLineArguments.{words_long, none_more, not_there}
 use Rattle.sqwords.proofs.words.stands_in.Goals as goal
 
 pub returns-then-eq-clause-yes : goal.returns-then-eq-clause-yes

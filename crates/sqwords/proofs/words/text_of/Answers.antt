@@ -1,6 +1,6 @@
 use Rattle.std.proofs.Common.{◌≡◌, ◌∙◌, sym, inl, inr, true, false, map, arith}
 use Rattle.std.specs.Cmp.Lexicographic.{bytes_decides}
-use Rattle.sqwords.proofs.Lines.{words_long, no_text, no_text_more, text_here}
+use Rattle.sqwords.proofs.CommandLineArguments.{words_long, no_text, no_text_more, text_here}
 use Rattle.sqwords.proofs.words.text_of.Goals as goal
 use Rattle.sqwords.proofs.words.text_of.Goals.{else-eq-via-then-eq+else-i-options, else-eq-via-else-eq}
 

@@ -1,5 +1,5 @@
 use Rattle.std.proofs.Common.{◌<◌, ℕ, List, map}
-use Rattle.sqwords.proofs.Lines.{NamesText}
+use Rattle.sqwords.proofs.CommandLineArguments.{NamesText}
 use Rattle.sqwords.proofs.words.text_of.Given as goal
 
 abbrev pub invariant-loop-i : goal.invariant-loop-i

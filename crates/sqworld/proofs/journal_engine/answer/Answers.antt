@@ -3,7 +3,7 @@ use Rattle.rollcore.specs.Machine.{Commits}
 use Rattle.sqworld.specs.Run.{numbered}
 use Rattle.sqworld.specs.JournalRun.{act_of}
 use Rattle.sqworld.specs.declared.journal_event.JEvent.{JEvent}
-use Rattle.sqworld.proofs.JournalServing.{guarded, set_serves, others_set}
+use Rattle.sqworld.proofs.serve.JournalAnswersToEvents.{guarded, set_serves, others_set}
 use Rattle.sqworld.proofs.journal_engine.answer.Goals as goal
 
 pub returns-in-Commit-clause-serves : goal.returns-in-Commit-clause-serves

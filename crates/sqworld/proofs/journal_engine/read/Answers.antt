@@ -1,16 +1,17 @@
 use Rattle.std.proofs.Common.{sym, ap, ◌∙◌, ◌≡◌, length, rules}
 use Rattle.sqval.specs.Answers.{Page}
 use Rattle.rollcore.specs.Machine.{Reads}
-use Rattle.rollcore.specs.Fits.{answered}
 use Rattle.sqworld.specs.Run.{answer_of}
-use Rattle.sqworld.proofs.Stepped.{filled}
-use Rattle.sqworld.proofs.JournalServing.{stepped}
+use Rattle.sqworld.proofs.serve.CallsAsSteps.{filled}
+use Rattle.sqworld.proofs.serve.JournalAnswersToEvents.{stepped}
+use Rattle.recovery.specs.Moments.{answered}
+use Rattle.rollcore.specs.Refusal.{number_of}
 use Rattle.sqworld.proofs.journal_engine.read.Goals as goal
 
 pub returns : goal.returns
 returns c =
     let long : length c.deref_mut.result.now ≡ c.args.page_size = search rules in
-    let told : answered (λ _. Page c.read-answer.new.out) c.read-answer.result ≡ answer_of c.page_outcome.result =
-    sym (c.page_outcome.ensures ∙ ap (λ b. answered (λ _. Page b) c.read-answer.result) (filled c.in_ok-out.out.items c.read-answer.new.out c.in_ok-out.out.len (search rules) (search rules))) in
-    stepped c.args.page_size c.args.roll.now c.read-answer.new.self (Reads c.args.page) (answered (λ _. Page c.read-answer.new.out) c.read-answer.result) (answer_of c.page_outcome.result) told (λ size sector calls. (c.read-answer.ensures.disk.holds tt).looks)
+    let told : answered number_of (λ _. Page c.read-answer.new.out) c.read-answer.result ≡ answer_of c.page_outcome.result =
+    sym (c.page_outcome.ensures ∙ ap (λ b. answered number_of (λ _. Page b) c.read-answer.result) (filled c.in_ok-out.out.items c.read-answer.new.out c.in_ok-out.out.len (search rules) (search rules))) in
+    stepped c.args.page_size c.args.roll.now c.read-answer.new.self (Reads c.args.page) (answered number_of (λ _. Page c.read-answer.new.out) c.read-answer.result) (answer_of c.page_outcome.result) told (λ size sector calls. (c.read-answer.ensures.disk.holds tt).looks)
     (λ past size fits. (c.read-answer.ensures.disk.holds tt).step past fits (long ∙ sym size))

@@ -1,5 +1,5 @@
 use Rattle.std.proofs.Common.{rules}
-use Rattle.sqworld.proofs.JournalServedOnward.{taken_on, taken_whole}
+use Rattle.sqworld.proofs.serve.JournalNextServedEvent.{taken_on, taken_whole}
 use Rattle.sqworld.proofs.journal_world.run_journal.Goals as goal
 
 pub loop-event-preserved : goal.loop-event-preserved

@@ -1,5 +1,5 @@
 use Rattle.std.proofs.Common.{rules}
-use Rattle.sqworld.proofs.ServedOnward.{taken_on, taken_whole}
+use Rattle.sqworld.proofs.serve.NextServedEvent.{taken_on, taken_whole}
 use Rattle.sqworld.proofs.world.run_wal.Goals as goal
 
 pub loop-event-preserved : goal.loop-event-preserved

@@ -3,10 +3,10 @@ use Rattle.crashdisk.specs.Call.{ArePresent, HasCalls}
 use Rattle.walcore.specs.Changes.{MayFillWithin}
 use Rattle.sqval.specs.Database.{Database}
 use Rattle.sqwal.specs.View.{IsView}
-use Rattle.crashdisk.specs.Keeps.{KeepsLog}
-use Rattle.walcore.specs.Plans.{IsCopy}
-use Rattle.walcore.specs.Phases.{Filling}
-use Rattle.walcore.proofs.Copies.{Upto}
+use Rattle.crashdisk.specs.internal.Keeps.{KeepsLog}
+use Rattle.walcore.specs.internal.Plans.{IsCopy}
+use Rattle.walcore.specs.internal.Phases.{Filling}
+use Rattle.walcore.proofs.folds.CopiedPages.{Upto}
 use Rattle.walcore.proofs.copying.copy_pages.Given as goal
 
 abbrev pub invariant-loop-done : goal.invariant-loop-done

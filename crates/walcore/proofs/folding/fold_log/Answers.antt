@@ -1,17 +1,18 @@
 use Rattle.std.proofs.Common.{ℕ, List, ◌∙◌, rules}
-use Rattle.sqval.proofs.Answering.{passed}
-use Rattle.crashdisk.proofs.Stills.{present_in}
-use Rattle.walcore.proofs.Recovering.{read_folds, plan_folds, read_plans}
-use Rattle.walcore.proofs.Agreeing.{scanning_still}
-use Rattle.crashdisk.proofs.Down.{down_present}
-use Rattle.walcore.proofs.Looking.{scanning_shows}
-use Rattle.walcore.proofs.Lengths.{ends_down, down_still, length_still}
-use Rattle.crashdisk.proofs.Later.{later_then, later_still}
+use Rattle.sqval.proofs.database.AnswersOfEngine.{passed}
+use Rattle.crashdisk.proofs.call.UnchangingCalls.{present_in}
+use Rattle.walcore.proofs.folds.AnswerOfParts.{read_folds, plan_folds, read_plans}
+use Rattle.walcore.proofs.folds.ShownDatabaseAtExits.{scanning_still}
+use Rattle.crashdisk.proofs.sync.BytesOfSyncedLog.{down_present}
+use Rattle.walcore.proofs.folds.ShownDatabaseDuringScan.{scanning_shows}
+use Rattle.walcore.proofs.folds.LengthOfDatabaseFile.{ends_down, down_still, length_still}
+use Rattle.crashdisk.proofs.call.DisksAfterCalls.{later_then, later_still}
 use Rattle.crashdisk.specs.State.{byte}
 use Rattle.crashdisk.specs.Call.{ArePresent}
-use Rattle.crashdisk.proofs.Images.{table}
-use Rattle.crashdisk.proofs.Steps.{present_list}
-use Rattle.walcore.proofs.ToldRefusals.{passes_device, quiet_ok, tells_then}
+use Rattle.crashdisk.proofs.image.OriginOfImages.{table}
+use Rattle.crashdisk.proofs.call.EffectsOfCalls.{present_list}
+use Rattle.recovery.proofs.ToldRefusals.{quiet_ok, passes_device, tells_then}
+use Rattle.walcore.specs.declared.error.WalError.TheVariants.{Device}
 use Rattle.walcore.proofs.folding.fold_log.Goals as goal
 
 pub returns-in_err-plan : goal.returns-in_err-plan
@@ -22,7 +23,7 @@ returns-in_err-plan g c = record {
       record {
         calls = record {
           later = later_still (g.D.Disk.state c.args.disk.now) (g.D.Disk.state c.read_plan.new.disk) (g.met.D.Disk.sound c.args.disk.now word) read.still;
-          told = λ more. passes_device c.read_plan.result c.from_residual.result _ c.in_err-plan.was c.from_residual.ensures.1 (read.told more);
+          told = λ more. passes_device Device c.read_plan.result c.from_residual.result _ c.in_err-plan.was c.from_residual.ensures.1 (read.told more);
         };
         folds = λ fits db w are_db are. read_folds c.args.limits c.args.page_size db w _ _ fits read.still c.read_plan.result c.from_residual.result _ c.in_err-plan.was (passed c.from_residual.result _ c.from_residual.ensures.1) (read.found w are (are.len ∙ long));
         shows = λ w d scanning. scanning_shows c.args.page_size d w _ (scanning_still c.args.page_size d w _ _ scanning read.still);
@@ -45,7 +46,7 @@ returns g c = record {
             let calls = folded.calls c.args.limits.bytes c.args.page_size w (plans w (present_list s.log)).1 in
             record {
               later = later_then s (g.D.Disk.state c.read_plan.new.disk) (g.D.Disk.state c.fold_plan.new.disk) (later_still s (g.D.Disk.state c.read_plan.new.disk) (g.met.D.Disk.sound c.args.disk.now word) is) calls.later;
-              told = tells_then c.fold_plan.result s (g.D.Disk.state c.read_plan.new.disk) (g.D.Disk.state c.fold_plan.new.disk) (quiet_ok c.read_plan.result _ s (g.D.Disk.state c.read_plan.new.disk) c.in_ok-plan.was read.told) calls.told;
+              told = tells_then Device c.fold_plan.result s (g.D.Disk.state c.read_plan.new.disk) (g.D.Disk.state c.fold_plan.new.disk) (quiet_ok Device c.read_plan.result _ s (g.D.Disk.state c.read_plan.new.disk) c.in_ok-plan.was read.told) calls.told;
             };
         folds = λ fits db w are_db are.
             plan_folds c.args.limits c.args.page_size db w _ _ fits is c.read_plan.result c.in_ok-plan.plan c.fold_plan.result _ (plans w are).0

@@ -1,14 +1,14 @@
 use Rattle.std.proofs.Common.{◌≡◌, refl, sym, ◌∙◌, ap, arith, rules}
 use Rattle.crashdisk.specs.State.{FileState}
-use Rattle.crashdisk.proofs.Stills.{present_in, still_looks, still}
-use Rattle.walcore.proofs.Recovering.{fold_empty, fold_looked, fits_still}
-use Rattle.walcore.proofs.Looking.{scanning_shows, scanning_looks}
-use Rattle.walcore.proofs.Agreeing.{agrees_by}
-use Rattle.walcore.proofs.Lengths.{ends_down, down_still, length_still}
-use Rattle.crashdisk.proofs.Later.{later_then, later_same, later_still}
-use Rattle.sqval.proofs.Answering.{passed}
+use Rattle.crashdisk.proofs.call.UnchangingCalls.{present_in, still_looks, still}
+use Rattle.walcore.proofs.folds.AnswerOfParts.{fold_empty, fold_looked, fits_still}
+use Rattle.walcore.proofs.folds.ShownDatabaseDuringScan.{scanning_shows, scanning_looks}
+use Rattle.walcore.proofs.folds.ShownDatabaseAtExits.{agrees_by}
+use Rattle.walcore.proofs.folds.LengthOfDatabaseFile.{ends_down, down_still, length_still}
+use Rattle.crashdisk.proofs.call.DisksAfterCalls.{later_then, later_same, later_still}
+use Rattle.sqval.proofs.database.AnswersOfEngine.{passed}
 use Rattle.walcore.specs.declared.error.WalError.TheVariants.{Device}
-use Rattle.walcore.proofs.ToldRefusals.{called_quiet, tells_then}
+use Rattle.recovery.proofs.ToldRefusals.{tells_then, called_quiet}
 use Rattle.walcore.proofs.folding.fold_synced_within.Goals as goal
 
 pub returns-in_err-judge_sector : goal.returns-in_err-judge_sector
@@ -79,7 +79,7 @@ returns g c = record {
         lengths = λ w n down len. folded.lengths w n (down_still w _ _ is down) (length_still c.args.page_size w n _ _ is len);
         calls = record {
           later = later_then (g.D.Disk.state c.args.disk.now) (g.D.Disk.state c.len.new.self) (g.D.Disk.state c.fold_log.new.disk) (later_still (g.D.Disk.state c.args.disk.now) (g.D.Disk.state c.len.new.self) suits.sound is) folded.calls.later;
-          told = tells_then c.fold_log.result (g.D.Disk.state c.args.disk.now) (g.D.Disk.state c.len.new.self) (g.D.Disk.state c.fold_log.new.disk) (called_quiet c.len.result _ (g.D.Disk.state c.args.disk.now) (g.D.Disk.state c.len.new.self) c.in_ok-long.was looked.refused) folded.calls.told;
+          told = tells_then Device c.fold_log.result (g.D.Disk.state c.args.disk.now) (g.D.Disk.state c.len.new.self) (g.D.Disk.state c.fold_log.new.disk) (called_quiet c.len.result _ (g.D.Disk.state c.args.disk.now) (g.D.Disk.state c.len.new.self) c.in_ok-long.was looked.refused) folded.calls.told;
         };
       };
 }

@@ -1,16 +1,17 @@
 use Rattle.crashdisk.specs.declared.file.File.TheVariants.{Log}
 use Rattle.walcore.specs.declared.error.WalError.TheVariants.{Device}
-use Rattle.sqval.proofs.Answering.{passed}
-use Rattle.walcore.proofs.Recovering.{fold_after, empty_down, goes_on, stays}
-use Rattle.walcore.proofs.Agreed.{synced_empty}
-use Rattle.walcore.proofs.Looking.{scanning_shows, scanning_syncs}
-use Rattle.walcore.proofs.Agreeing.{agrees_by}
-use Rattle.crashdisk.proofs.Down.{down_syncs}
-use Rattle.walcore.proofs.Lengths.{ends_down, length_syncs}
+use Rattle.sqval.proofs.database.AnswersOfEngine.{passed}
+use Rattle.walcore.proofs.folds.AnswerOfParts.{fold_after, empty_down}
+use Rattle.walcore.proofs.openings.ShownDatabaseAfterOpening.{synced_empty}
+use Rattle.walcore.proofs.folds.ShownDatabaseDuringScan.{scanning_shows, scanning_syncs}
+use Rattle.walcore.proofs.folds.ShownDatabaseAtExits.{agrees_by}
+use Rattle.crashdisk.proofs.sync.BytesOfSyncedLog.{down_syncs}
+use Rattle.walcore.proofs.folds.LengthOfDatabaseFile.{ends_down, length_syncs}
 use Rattle.std.proofs.Common.{arith, rules}
-use Rattle.crashdisk.proofs.Later.{later_same, later_then}
-use Rattle.walcore.proofs.ToldRefusals.{called_quiet, tells_then}
-use Rattle.walcore.proofs.Changes.{fold_sync}
+use Rattle.crashdisk.proofs.call.DisksAfterCalls.{later_same, later_then}
+use Rattle.walcore.proofs.disk.PermittedChanges.{fold_sync}
+use Rattle.recovery.proofs.AnswersOfSteps.{goes_on, stays}
+use Rattle.recovery.proofs.ToldRefusals.{tells_then, called_quiet}
 use Rattle.walcore.proofs.folding.fold_within.Goals as goal
 
 pub returns-in_err-judge_sector : goal.returns-in_err-judge_sector
@@ -36,7 +37,7 @@ returns-in_err-sync g c = record {
         folds = search rules;
         agrees = agrees_by c.args.page_size (g.D.Disk.state c.args.disk.now) (g.D.Disk.state c.sync.new.self) suits (λ w d scanning. scanning_shows c.args.page_size d w _ (scanning_syncs c.args.page_size d w Log c.sync.result _ _ scanning synced));
         lengths = λ w n down len. ends_down n w _ (down_syncs w Log c.sync.result _ _ down synced) (length_syncs c.args.page_size w n Log c.sync.result _ _ suits.sound synced len).none;
-        synced = λ whole. record { called = c.sync.result; mid = (g.D.Disk.state c.sync.new.self); sync = synced; rest = stays c.args.limits c.args.page_size c.sync.result _ c.from_residual-in_err-sync.result (g.D.Disk.state c.sync.new.self) c.in_err-sync.was device };
+        synced = λ whole. record { called = c.sync.result; mid = (g.D.Disk.state c.sync.new.self); sync = synced; rest = stays Device _ c.sync.result _ c.from_residual-in_err-sync.result (g.D.Disk.state c.sync.new.self) c.in_err-sync.was device };
         calls = record { later = fold_sync c.args.limits.bytes c.args.page_size Log c.sync.result (g.D.Disk.state c.args.disk.now) (g.D.Disk.state c.sync.new.self) suits.sound synced; told = λ more. device };
       };
 }
@@ -62,11 +63,11 @@ returns g c = record {
           called = c.sync.result;
           mid = (g.D.Disk.state c.sync.new.self);
           sync = synced;
-          rest = goes_on c.args.limits c.args.page_size c.sync.result _ c.fold_synced_within.result (g.D.Disk.state c.sync.new.self) (g.D.Disk.state c.fold_synced_within.new.disk) c.in_ok-sync.was (folded.folds (synced_empty (g.D.Disk.state c.args.disk.now) (g.D.Disk.state c.sync.new.self) suits.sound done)) folded.agrees;
+          rest = goes_on Device _ c.sync.result _ c.fold_synced_within.result (g.D.Disk.state c.sync.new.self) (g.D.Disk.state c.fold_synced_within.new.disk) c.in_ok-sync.was (folded.folds (synced_empty (g.D.Disk.state c.args.disk.now) (g.D.Disk.state c.sync.new.self) suits.sound done), folded.agrees);
         };
         calls = record {
           later = later_then (g.D.Disk.state c.args.disk.now) (g.D.Disk.state c.sync.new.self) (g.D.Disk.state c.fold_synced_within.new.disk) (fold_sync c.args.limits.bytes c.args.page_size Log c.sync.result (g.D.Disk.state c.args.disk.now) (g.D.Disk.state c.sync.new.self) suits.sound synced) folded.calls.later;
-          told = tells_then c.fold_synced_within.result (g.D.Disk.state c.args.disk.now) (g.D.Disk.state c.sync.new.self) (g.D.Disk.state c.fold_synced_within.new.disk) (called_quiet c.sync.result _ (g.D.Disk.state c.args.disk.now) (g.D.Disk.state c.sync.new.self) c.in_ok-sync.was synced.elsewhere.refused) folded.calls.told;
+          told = tells_then Device c.fold_synced_within.result (g.D.Disk.state c.args.disk.now) (g.D.Disk.state c.sync.new.self) (g.D.Disk.state c.fold_synced_within.new.disk) (called_quiet c.sync.result _ (g.D.Disk.state c.args.disk.now) (g.D.Disk.state c.sync.new.self) c.in_ok-sync.was synced.elsewhere.refused) folded.calls.told;
         };
       };
 }

@@ -3,7 +3,7 @@ use Rattle.std.specs.Prelude.{◌↔◌}
 use Rattle.sqwal.specs.Refusal.{most_frames}
 use Rattle.sqval.specs.JudgedPages.{lent}
 use Rattle.walcore.specs.Made.{IsExtended}
-use Rattle.walcore.specs.Going.{KeepsCore, KnowsLog, Going}
+use Rattle.walcore.specs.internal.Going.{KeepsCore, KnowsLog, Going}
 use Rattle.walcore.proofs.frames.write_frames.Given as goal
 
 abbrev pub invariant-loop-k : goal.invariant-loop-k

@@ -1,8 +1,8 @@
 use Rattle.std.specs.Prelude.{Ok}
 use Rattle.crashdisk.specs.declared.file.File.TheVariants.{Log}
-use Rattle.crashdisk.proofs.Keeping.{sound_syncs}
-use Rattle.crashdisk.proofs.Down.{synced_down}
-use Rattle.walcore.proofs.Reopening.{is_found, found_syncs, found_alone}
+use Rattle.crashdisk.proofs.call.SoundDiskUnderCalls.{sound_syncs}
+use Rattle.crashdisk.proofs.sync.BytesOfSyncedLog.{synced_down}
+use Rattle.walcore.proofs.openings.FoundFiles.{is_found, found_syncs, found_alone}
 use Rattle.walcore.proofs.laws.one_is_shown.Goals as goal
 
 pub returns : goal.returns

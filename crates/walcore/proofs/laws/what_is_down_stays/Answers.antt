@@ -1,5 +1,5 @@
 use Rattle.walcore.specs.Machine.{start}
-use Rattle.walcore.proofs.Kept.{sane_start, sane_runs, kept_runs}
+use Rattle.walcore.proofs.machine.StepInvariants.{sane_start, sane_runs, kept_runs}
 use Rattle.walcore.proofs.laws.what_is_down_stays.Goals as goal
 
 pub returns : goal.returns

@@ -1,18 +1,19 @@
-use Rattle.walcore.proofs.Looking.{crash_shows}
-use Rattle.walcore.proofs.Agreed.{alone_looks, alone_syncs, alone_same}
+use Rattle.recovery.proofs.ShownDatabase.{crash_shows}
+use Rattle.walcore.specs.Alone.{wal_log}
+use Rattle.recovery.proofs.NarrowedImages.{alone_same, alone_looks, alone_syncs}
 use Rattle.walcore.proofs.laws.what_is_shown_stays.Goals as goal
 
 pub returns-clause-len : goal.returns-clause-len
-returns-clause-len c end result old new looked size d alone = alone_looks size d end result old new looked alone
+returns-clause-len c end result old new looked size d alone = alone_looks wal_log size d end result old new looked alone
 
 pub returns-clause-read : goal.returns-clause-read
-returns-clause-read c end result old new looked size d alone = alone_looks size d end result old new looked alone
+returns-clause-read c end result old new looked size d alone = alone_looks wal_log size d end result old new looked alone
 
 pub returns-clause-sync : goal.returns-clause-sync
-returns-clause-sync c file result old new sound synced size d alone = alone_syncs size d file result old new sound synced alone
+returns-clause-sync c file result old new sound synced size d alone = alone_syncs wal_log size d file result old new sound synced alone
 
 pub returns-clause-same : goal.returns-clause-same
-returns-clause-same c old new sound same size d alone = alone_same size d old new sound same alone
+returns-clause-same c old new sound same size d alone = alone_same wal_log size d old new sound same alone
 
 pub returns-clause-crash : goal.returns-clause-crash
-returns-clause-crash c db log old new sound crashed whole size d alone = crash_shows size d db log old new sound alone crashed whole
+returns-clause-crash c db log old new sound crashed whole size d alone = crash_shows wal_log size d db log old new sound alone crashed whole

@@ -1,13 +1,13 @@
 use Rattle.std.proofs.Common.{◌∙◌, ℕ, sym, subst, arith, rules}
 use Rattle.sqval.specs.PageSize.{IsPageSize}
-use Rattle.sqval.proofs.FilePages.{count_zero, count_rest}
-use Rattle.walcore.proofs.Files.{count_whole}
-use Rattle.walcore.proofs.ToldRefusals.{tells_ok}
+use Rattle.sqval.proofs.page.FilePages.{count_zero, count_rest}
+use Rattle.walcore.proofs.openings.RefusalBeforeWrites.{count_whole}
 use Rattle.std.specs.Prelude.{Err}
 use Rattle.walcore.specs.declared.error.WalError.TheVariants.{TooLarge, PageSize, Device}
-use Rattle.sqval.proofs.Answering.{passed}
+use Rattle.sqval.proofs.database.AnswersOfEngine.{passed}
 use Rattle.walcore.proofs.opening.count_pages.Goals.{then-long-eq0-via-then-long-eq0, then-long-eq0-via-else-long-eq0+then-long-size-ne0}
-use Rattle.crashdisk.proofs.Stills.{still_looks}
+use Rattle.crashdisk.proofs.call.UnchangingCalls.{still_looks}
+use Rattle.recovery.proofs.ToldRefusals.{tells_ok}
 use Rattle.walcore.proofs.opening.count_pages.Goals as goal
 
 pub returns-in_err-long : goal.returns-in_err-long
@@ -25,7 +25,7 @@ returns-then-long-gt-MOST_BYTES g c = record {
   word = c.len.ensures.word;
   holds = λ word. record {
     still = still_looks _ c.len.result _ _ (g.met.D.Disk.sound c.args.disk.now word) (c.len.ensures.state word);
-    told = tells_ok {T = ℕ} (Err TooLarge) c.len.result _ (g.D.Disk.state c.args.disk.now) (g.D.Disk.state c.len.new.self) c.in_ok-long.was (c.len.ensures.state word).refused;
+    told = tells_ok {T = ℕ} Device (Err TooLarge) c.len.result _ (g.D.Disk.state c.args.disk.now) (g.D.Disk.state c.len.new.self) c.in_ok-long.was (c.len.ensures.state word).refused;
     found = search rules;
   };
 }
@@ -35,7 +35,7 @@ returns-then-long-eq0 g c = record {
   word = c.len.ensures.word;
   holds = λ word. record {
     still = still_looks _ c.len.result _ _ (g.met.D.Disk.sound c.args.disk.now word) (c.len.ensures.state word);
-    told = tells_ok {T = ℕ} (Err PageSize) c.len.result _ (g.D.Disk.state c.args.disk.now) (g.D.Disk.state c.len.new.self) c.in_ok-long.was (c.len.ensures.state word).refused;
+    told = tells_ok {T = ℕ} Device (Err PageSize) c.len.result _ (g.D.Disk.state c.args.disk.now) (g.D.Disk.state c.len.new.self) c.in_ok-long.was (c.len.ensures.state word).refused;
     found = (
       omega (arith, c.in_ok-long.ensures.answer word),
       λ n one e. elim c.then-long-eq0.branch [
@@ -51,7 +51,7 @@ returns g c = record {
   word = c.len.ensures.word;
   holds = λ word. record {
     still = still_looks _ c.len.result _ _ (g.met.D.Disk.sound c.args.disk.now word) (c.len.ensures.state word);
-    told = tells_ok _ c.len.result _ (g.D.Disk.state c.args.disk.now) (g.D.Disk.state c.len.new.self) c.in_ok-long.was (c.len.ensures.state word).refused;
+    told = tells_ok Device _ c.len.result _ (g.D.Disk.state c.args.disk.now) (g.D.Disk.state c.len.new.self) c.in_ok-long.was (c.len.ensures.state word).refused;
     found =
         let long = c.in_ok-long.ensures.answer word in
         let whole = count_whole c.args.page_size c.from-size.result c.in_ok-long.long (c.from-size.ensures ∙ c.get.ensures.value) c.if-long-size-ne0.false c.if-long-eq0.false in

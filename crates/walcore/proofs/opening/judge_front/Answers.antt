@@ -1,14 +1,14 @@
 use Rattle.std.proofs.Common.{inr, refl, sym, ◌∙◌, rules}
 use Rattle.sqwal.specs.Header.{named_size}
-use Rattle.sqwal.proofs.Views.{front_unique}
+use Rattle.sqwal.proofs.log.UniquenessOfView.{front_unique}
 use Rattle.walcore.specs.declared.error.WalError.TheVariants.{Device}
 use Rattle.sqval.specs.Limits.{usual}
-use Rattle.sqval.proofs.Answering.{passed}
-use Rattle.crashdisk.proofs.Stills.{present_in, still_looks, still_then}
-use Rattle.walcore.proofs.Recovering.{fits_still, read_plans}
-use Rattle.walcore.proofs.Lengths.{front_none}
-use Rattle.walcore.proofs.Files.{front_unlooked, front_unread}
-use Rattle.walcore.proofs.ToldRefusals.{called_quiet, tells_then, tells_quiet, passes_device}
+use Rattle.sqval.proofs.database.AnswersOfEngine.{passed}
+use Rattle.crashdisk.proofs.call.UnchangingCalls.{present_in, still_looks, still_then}
+use Rattle.walcore.proofs.folds.AnswerOfParts.{fits_still, read_plans}
+use Rattle.walcore.proofs.folds.LengthOfDatabaseFile.{front_none}
+use Rattle.walcore.proofs.openings.RefusalBeforeWrites.{front_unlooked, front_unread}
+use Rattle.recovery.proofs.ToldRefusals.{tells_quiet, passes_device, tells_then, called_quiet}
 use Rattle.walcore.proofs.opening.judge_front.Goals as goal
 
 pub returns-in_err-long : goal.returns-in_err-long
@@ -35,7 +35,7 @@ returns-in_err-plan g c = record {
       let quiet = called_quiet c.len.result _ (g.D.Disk.state c.args.disk.now) (g.D.Disk.state c.len.new.self) c.in_ok-long.was looked.refused in
       record {
         still = still_then (g.D.Disk.state c.args.disk.now) (g.D.Disk.state c.len.new.self) (g.D.Disk.state c.read_plan.new.disk) is read.still;
-        told = λ more. passes_device c.read_plan.result c.from_residual-in_err-plan.result _ c.in_err-plan.was c.from_residual-in_err-plan.ensures.1 (tells_then c.read_plan.result (g.D.Disk.state c.args.disk.now) (g.D.Disk.state c.len.new.self) (g.D.Disk.state c.read_plan.new.disk) quiet read.told more);
+        told = λ more. passes_device Device c.read_plan.result c.from_residual-in_err-plan.result _ c.in_err-plan.was c.from_residual-in_err-plan.ensures.1 (tells_then Device c.read_plan.result (g.D.Disk.state c.args.disk.now) (g.D.Disk.state c.len.new.self) (g.D.Disk.state c.read_plan.new.disk) quiet read.told more);
         found = λ fits w are.
             front_unread c.args.page_size w c.args.fault c.read_plan.result _ c.from_residual-in_err-plan.result (g.D.Disk.state c.args.disk.now) (g.D.Disk.state c.len.new.self) (g.D.Disk.state c.read_plan.new.disk) fits
             (fits_still c.args.page_size w w (g.D.Disk.state c.args.disk.now) (g.D.Disk.state c.len.new.self) (g.D.Disk.state c.len.new.self) fits is) is read.still c.in_err-plan.was
@@ -53,7 +53,7 @@ returns-then-plan-eq0 g c = record {
       let quiet = called_quiet c.len.result _ (g.D.Disk.state c.args.disk.now) (g.D.Disk.state c.len.new.self) c.in_ok-long.was looked.refused in
       record {
         still = still_then (g.D.Disk.state c.args.disk.now) (g.D.Disk.state c.len.new.self) (g.D.Disk.state c.read_plan.new.disk) is read.still;
-        told = λ more. absurd (tells_quiet c.read_plan.result _ (g.D.Disk.state c.args.disk.now) (g.D.Disk.state c.len.new.self) (g.D.Disk.state c.read_plan.new.disk) c.in_ok-plan.was quiet read.told more);
+        told = λ more. absurd (tells_quiet Device c.read_plan.result _ (g.D.Disk.state c.args.disk.now) (g.D.Disk.state c.len.new.self) (g.D.Disk.state c.read_plan.new.disk) c.in_ok-plan.was quiet read.told more);
         found = λ fits w are.
             let plans = read_plans usual c.args.page_size w c.read_plan.result c.in_ok-plan.plan _ _ c.in_ok-plan.was (read.found w (present_in _ _ w is.log are) (are.len ∙ sym (c.in_ok-long.ensures.answer word))) in
             inr (plans.0, front_none w c.in_ok-plan.plan.frames c.if-plan-eq0.true plans.1.front, refl);
@@ -70,7 +70,7 @@ returns g c = record {
       let quiet = called_quiet c.len.result _ (g.D.Disk.state c.args.disk.now) (g.D.Disk.state c.len.new.self) c.in_ok-long.was looked.refused in
       record {
         still = still_then (g.D.Disk.state c.args.disk.now) (g.D.Disk.state c.len.new.self) (g.D.Disk.state c.read_plan.new.disk) is read.still;
-        told = λ more. absurd (tells_quiet c.read_plan.result _ (g.D.Disk.state c.args.disk.now) (g.D.Disk.state c.len.new.self) (g.D.Disk.state c.read_plan.new.disk) c.in_ok-plan.was quiet read.told more);
+        told = λ more. absurd (tells_quiet Device c.read_plan.result _ (g.D.Disk.state c.args.disk.now) (g.D.Disk.state c.len.new.self) (g.D.Disk.state c.read_plan.new.disk) c.in_ok-plan.was quiet read.told more);
         found = λ fits w are none.
             let plans = read_plans usual c.args.page_size w c.read_plan.result c.in_ok-plan.plan _ _ c.in_ok-plan.was (read.found w (present_in _ _ w is.log are) (are.len ∙ sym (c.in_ok-long.ensures.answer word))) in
             c.if-plan-eq0.false (sym (front_unique (named_size w) w 0 c.in_ok-plan.plan.frames none plans.1.front));

@@ -2,18 +2,20 @@ use Rattle.std.proofs.Common.{rules}
 use Rattle.sqval.specs.CommitFaults.{most_bytes}
 use Rattle.sqval.specs.Limits.{usual}
 use Rattle.sqval.specs.Database.{Database}
-use Rattle.walcore.specs.Alone.{ShowsAlone}
 use Rattle.crashdisk.specs.declared.file.File.TheVariants.{Log}
 use Rattle.walcore.specs.declared.error.WalError.TheVariants.{Device}
-use Rattle.sqval.proofs.Answering.{passed}
-use Rattle.walcore.proofs.Recovered.{recover_unsynced, ready_synced, ready_still, recover_unjudged, recover_unfolded, recover_counted, synced_files, whole_at}
-use Rattle.crashdisk.proofs.Later.{later_still, later_then}
-use Rattle.walcore.proofs.Changes.{fold_sync}
-use Rattle.walcore.proofs.Lengths.{down_still}
-use Rattle.walcore.proofs.Agreed.{alone_still, agrees_then, agrees_synced, agrees_after, agrees_looked, synced_empty, still_empty, folded_empty, on_ok}
-use Rattle.walcore.proofs.Unopened.{whole_synced, files_synced, files_looked, unjudged, unfolded, uncounted, may_open}
-use Rattle.walcore.proofs.Foremost.{unsynced, synced_first}
-use Rattle.walcore.proofs.ToldRefusals.{called_quiet, tells_quiet, tells_then, passes_device}
+use Rattle.sqval.proofs.database.AnswersOfEngine.{passed}
+use Rattle.walcore.proofs.openings.RecoveredFiles.{recover_unsynced, ready_synced, ready_still, recover_unjudged, recover_unfolded, recover_counted, synced_files, whole_at}
+use Rattle.crashdisk.proofs.call.DisksAfterCalls.{later_still, later_then}
+use Rattle.walcore.proofs.disk.PermittedChanges.{fold_sync}
+use Rattle.walcore.proofs.folds.LengthOfDatabaseFile.{down_still}
+use Rattle.walcore.proofs.openings.ShownDatabaseAfterOpening.{agrees_then, agrees_synced, agrees_after, agrees_looked, synced_empty, still_empty, folded_empty, on_ok}
+use Rattle.walcore.proofs.openings.RefusalOfOpening.{whole_synced, files_synced, files_looked, unjudged, unfolded, uncounted, may_open}
+use Rattle.walcore.proofs.openings.InitialSync.{unsynced, synced_first}
+use Rattle.recovery.specs.Logs.{ShowsAlone}
+use Rattle.walcore.specs.Alone.{wal_log}
+use Rattle.recovery.proofs.NarrowedImages.{alone_still}
+use Rattle.recovery.proofs.ToldRefusals.{tells_quiet, passes_device, tells_then, called_quiet}
 use Rattle.walcore.proofs.opening.recover.Goals as goal
 
 pub returns-in_err-sync : goal.returns-in_err-sync
@@ -55,11 +57,11 @@ returns-in_err-judge_file g c = record {
       record {
         calls = record {
           later = later_then s a b first (later_still a b first.sound still);
-          told = λ more. passes_device c.judge_file.result c.from_residual-in_err-judge_file.result _ c.in_err-judge_file.was c.from_residual-in_err-judge_file.ensures.1 (tells_then c.judge_file.result s a b called judged.told more);
+          told = λ more. passes_device Device c.judge_file.result c.from_residual-in_err-judge_file.result _ c.in_err-judge_file.was c.from_residual-in_err-judge_file.ensures.1 (tells_then Device c.judge_file.result s a b called judged.told more);
         };
-        agrees = agrees_then c.args.page_size s a b (agrees_synced c.args.page_size c.sync.result s a sound call) (λ d alone. alone_still c.args.page_size d a b first.sound still alone);
+        agrees = agrees_then c.args.page_size s a b (agrees_synced c.args.page_size c.sync.result s a sound call) (λ d alone. alone_still wal_log c.args.page_size d a b first.sound still alone);
         synced = synced_first c.args.page_size s a b c.sync.result _ c.from_residual-in_err-judge_file.result c.in_ok-sync.was call
-            (λ w d down alone. alone_still c.args.page_size d a b first.sound still alone);
+            (λ w d down alone. alone_still wal_log c.args.page_size d a b first.sound still alone);
         empty = search rules;
         refuses = λ fits found are.
             let files = files_synced c.args.page_size found s a sound fits are synced in
@@ -88,7 +90,7 @@ returns-in_err-fold_synced g c = record {
       let judged = c.judge_file.ensures.holds (c.sync.ensures.word.0 word) in
       let still = judged.still in
       let called = called_quiet c.sync.result _ s a c.in_ok-sync.was call.elsewhere.refused in
-      let quiet = tells_quiet c.judge_file.result _ s a b c.in_ok-judge_file.was called judged.told in
+      let quiet = tells_quiet Device c.judge_file.result _ s a b c.in_ok-judge_file.was called judged.told in
       let f = g.D.Disk.state c.fold_synced.new.disk in
       let then = c.judge_file.ensures.word.0 (c.sync.ensures.word.0 word) in
       let folded = c.fold_synced.ensures.holds then in
@@ -99,7 +101,7 @@ returns-in_err-fold_synced g c = record {
       record {
         calls = record {
           later = later_then s b f (later_then s a b first (later_still a b first.sound still)) later;
-          told = λ more. passes_device c.fold_synced.result c.from_residual-in_err-fold_synced.result _ c.in_err-fold_synced.was c.from_residual-in_err-fold_synced.ensures.1 (tells_then c.fold_synced.result s b f quiet folded.calls.told more);
+          told = λ more. passes_device Device c.fold_synced.result c.from_residual-in_err-fold_synced.result _ c.in_err-fold_synced.was c.from_residual-in_err-fold_synced.ensures.1 (tells_then Device c.fold_synced.result s b f quiet folded.calls.told more);
         };
         agrees = agrees_after c.args.page_size c.sync.result s a f sound call looked;
         synced = synced_first c.args.page_size s a f c.sync.result _ c.from_residual-in_err-fold_synced.result c.in_ok-sync.was call looked;
@@ -132,7 +134,7 @@ returns g c = record {
       let judged = c.judge_file.ensures.holds (c.sync.ensures.word.0 word) in
       let still = judged.still in
       let called = called_quiet c.sync.result _ s a c.in_ok-sync.was call.elsewhere.refused in
-      let quiet = tells_quiet c.judge_file.result _ s a b c.in_ok-judge_file.was called judged.told in
+      let quiet = tells_quiet Device c.judge_file.result _ s a b c.in_ok-judge_file.was called judged.told in
       let f = g.D.Disk.state c.fold_synced.new.disk in
       let then = c.judge_file.ensures.word.0 (c.sync.ensures.word.0 word) in
       let folded = c.fold_synced.ensures.holds then in
@@ -141,11 +143,11 @@ returns g c = record {
       let looked = agrees_looked c.args.page_size a b f first.sound still folded.agrees in
       let t = g.D.Disk.state c.count_pages.new.disk in
       let counted = c.count_pages.ensures.holds (c.fold_synced.ensures.word.0 then) in
-      let kept = λ (d : Database) (alone : ShowsAlone c.args.page_size d f). alone_still c.args.page_size d f t later.sound counted.still alone in
+      let kept = λ (d : Database) (alone : ShowsAlone wal_log c.args.page_size d f). alone_still wal_log c.args.page_size d f t later.sound counted.still alone in
       record {
         calls = record {
           later = later_then s b t (later_then s a b first (later_still a b first.sound still)) (later_then b f t later (later_still f t later.sound counted.still));
-          told = tells_then c.count_pages.result s f t (tells_quiet c.fold_synced.result _ s b f c.in_ok-fold_synced.was quiet folded.calls.told) counted.told;
+          told = tells_then Device c.count_pages.result s f t (tells_quiet Device c.fold_synced.result _ s b f c.in_ok-fold_synced.was quiet folded.calls.told) counted.told;
         };
         agrees = agrees_then c.args.page_size s f t (agrees_after c.args.page_size c.sync.result s a f sound call looked) kept;
         synced = synced_first c.args.page_size s a t c.sync.result _ c.count_pages.result c.in_ok-sync.was call (agrees_then c.args.page_size a f t looked kept);

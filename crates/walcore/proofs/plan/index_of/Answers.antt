@@ -2,7 +2,7 @@ use Rattle.std.proofs.Common.{◌≡◌, ◌+◌, ℕ, [], ap, subst, ◌∙◌,
 use Rattle.sqwal.specs.Header.{named_size}
 use Rattle.sqwal.specs.Index.{FrameTable}
 use Rattle.walcore.specs.Plans.{IsTable}
-use Rattle.walcore.proofs.Judging.{table_none, table_more, valid_below}
+use Rattle.walcore.proofs.folds.PlanOfScannedLog.{table_none, table_more, valid_below}
 use Rattle.walcore.proofs.plan.index_of.Goals as goal
 
 pub loop-k-init : goal.loop-k-init

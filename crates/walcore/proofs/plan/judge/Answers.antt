@@ -1,5 +1,5 @@
 use Rattle.std.proofs.Common.{arith}
-use Rattle.walcore.proofs.Judging.{judged_none}
+use Rattle.walcore.proofs.folds.PlanOfScannedLog.{judged_none}
 use Rattle.walcore.proofs.plan.judge.Goals as goal
 
 pub returns-in-None : goal.returns-in-None

@@ -1,6 +1,6 @@
 use Rattle.std.proofs.Common.{◌≡◌, ◌≤◌, ◌<◌, ◌*◌, ◌∙◌, sym, arith}
-use Rattle.sqwal.proofs.ScanAnswers.{few_frames}
-use Rattle.walcore.proofs.Judging.{judged_large, judged_other, judged}
+use Rattle.sqwal.proofs.feed.ScanAnswers.{few_frames}
+use Rattle.walcore.proofs.folds.PlanOfScannedLog.{judged_large, judged_other, judged}
 use Rattle.walcore.proofs.plan.judge_frames.Goals as goal
 
 pub returns-then-from-bytes : goal.returns-then-from-bytes

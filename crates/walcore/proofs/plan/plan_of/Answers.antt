@@ -1,7 +1,8 @@
 use Rattle.std.proofs.Common.{◌≤◌, ◌∙◌, refl, arith}
-use Rattle.walcore.proofs.Stills.{no_memory}
-use Rattle.sqval.proofs.Answering.{passed}
-use Rattle.walcore.proofs.Judging.{plan_none, plan_some, plan_refused, plan_memory, page_most}
+use Rattle.sqval.proofs.database.AnswersOfEngine.{passed}
+use Rattle.walcore.proofs.folds.PlanOfScannedLog.{plan_none, plan_some, plan_refused, plan_memory, page_most}
+use Rattle.recovery.proofs.AnswersOfSteps.{no_memory}
+use Rattle.walcore.specs.declared.error.WalError.TheVariants.{NoMemory}
 use Rattle.walcore.proofs.plan.plan_of.Goals as goal
 
 pub returns-in_err-front-clause-plan : goal.returns-in_err-front-clause-plan
@@ -11,10 +12,10 @@ pub returns-then-front-eq0-clause-plan : goal.returns-then-front-eq0-clause-plan
 returns-then-front-eq0-clause-plan c = λ w took. plan_none c.args.limits c.args.page_size w c.in_ok-front.front c.no_plan.result (c.in_ok-front.ensures w took) c.if-front-eq0.true c.no_plan.ensures.frames c.no_plan.ensures.size
 
 pub returns-in_err-index-clause-plan : goal.returns-in_err-index-clause-plan
-returns-in_err-index-clause-plan c = λ w took. plan_memory c.args.limits c.args.page_size w c.from_residual-in_err-index.result (no_memory c.index_of.result c.from_residual-in_err-index.result _ c.in_err-index.was (c.in_err-index.was ∙ c.in_err-index.ensures.memory) c.from_residual-in_err-index.ensures.1)
+returns-in_err-index-clause-plan c = λ w took. plan_memory c.args.limits c.args.page_size w c.from_residual-in_err-index.result (no_memory NoMemory c.index_of.result c.from_residual-in_err-index.result _ c.in_err-index.was (c.in_err-index.was ∙ c.in_err-index.ensures.memory) c.from_residual-in_err-index.ensures.1)
 
 pub returns-in_err-room-clause-plan : goal.returns-in_err-room-clause-plan
-returns-in_err-room-clause-plan c = λ w took. plan_memory c.args.limits c.args.page_size w c.from_residual-in_err-room.result (no_memory c.zeros.result c.from_residual-in_err-room.result _ c.in_err-room.was (c.in_err-room.was ∙ c.in_err-room.ensures.memory) c.from_residual-in_err-room.ensures.1)
+returns-in_err-room-clause-plan c = λ w took. plan_memory c.args.limits c.args.page_size w c.from_residual-in_err-room.result (no_memory NoMemory c.zeros.result c.from_residual-in_err-room.result _ c.in_err-room.was (c.in_err-room.was ∙ c.in_err-room.ensures.memory) c.from_residual-in_err-room.ensures.1)
 
 pub returns-clause-plan : goal.returns-clause-plan
 returns-clause-plan c = λ w took.

@@ -1,4 +1,4 @@
-use Rattle.walcore.proofs.Judging.{wanted_low, wanted_high}
+use Rattle.walcore.proofs.folds.PlanOfScannedLog.{wanted_low, wanted_high}
 use Rattle.sqwal.specs.Header.{named_size}
 use Rattle.walcore.proofs.plan.wanted.Goals as goal
 

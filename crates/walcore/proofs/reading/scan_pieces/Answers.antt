@@ -3,12 +3,15 @@ use Rattle.std.specs.Prelude.{Bool, Result, Err}
 use Rattle.walcore.specs.declared.error.WalError.TheVariants.{Device}
 use Rattle.std.proofs.lemmas.List.{length-take-le}
 use Rattle.sqwal.specs.Took.{TookWithin}
-use Rattle.walcore.specs.Steps.{PieceAnswer}
 use Rattle.walcore.specs.declared.error.WalError.{WalError}
-use Rattle.sqval.proofs.Answering.{passed}
-use Rattle.crashdisk.proofs.Stills.{still, still_then, present_in}
-use Rattle.walcore.proofs.Scans.{piece_after, piece_none, piece_some, piece_done, piece_settled}
-use Rattle.walcore.proofs.ToldRefusals.{tells_quiet, tells_then, passes_device}
+use Rattle.sqval.proofs.database.AnswersOfEngine.{passed}
+use Rattle.crashdisk.proofs.call.UnchangingCalls.{still, still_then, present_in}
+use Rattle.walcore.proofs.folds.ScanOfLogPrefix.{piece_done, piece_settled}
+use Rattle.recovery.proofs.ToldRefusals.{tells_quiet, passes_device, tells_then}
+use Rattle.walcore.specs.internal.Steps.{wal_scan}
+use Rattle.recovery.proofs.PiecewiseScan.{piece_after, piece_none, piece_some}
+use Rattle.recovery.specs.internal.Scanning.{PiecesAnswer}
+use Rattle.walcore.proofs.folds.RefusedScans.{scan_refused_after}
 use Rattle.walcore.proofs.reading.scan_pieces.Goals as goal
 
 pub loop-at-init : goal.loop-at-init
@@ -30,13 +33,13 @@ returns-in_err-feed_piece g c = record {
       record {
         still = still_then _ _ _ before now.still;
         told = λ more.
-            let said : c.feed_piece.result ≡ Err Device = tells_then c.feed_piece.result (g.D.Disk.state c.args.disk.now) (g.D.Disk.state c.loop-at.disk) (g.D.Disk.state c.feed_piece.new.disk) (i.quiet word) now.told more in
-            passes_device c.feed_piece.result c.from_residual.result _ c.in_err-feed_piece.was c.from_residual.ensures.1 said;
+            let said : c.feed_piece.result ≡ Err Device = tells_then Device c.feed_piece.result (g.D.Disk.state c.args.disk.now) (g.D.Disk.state c.loop-at.disk) (g.D.Disk.state c.feed_piece.new.disk) (i.quiet word) now.told more in
+            passes_device Device c.feed_piece.result c.from_residual.result _ c.in_err-feed_piece.was c.from_residual.ensures.1 said;
         found = λ most w are long took.
             let n : length (take c.min-n.result c.loop-at.buffer) ≡ c.min-n.result = length-take-le c.min-n.result c.loop-at.buffer (omega (arith, c.loop-at.auto.buffer)) in
             let answer = now.found most w (present_in _ _ w before.log are) (omega arith) (i.took word most w are long took) in
-            subst (λ (r : Result Bool WalError). PieceAnswer most w c.args.long r c.feed_piece.new.scan (g.D.Disk.state c.args.disk.now) (g.D.Disk.state c.feed_piece.new.disk))
-            (sym (passed c.from_residual.result _ c.from_residual.ensures.1)) (piece_after most w c.feed_piece.new.scan _ _ _ before.refused _ c.args.long c.feed_piece.result _ c.in_err-feed_piece.was answer);
+            subst (λ (r : Result Bool WalError). PiecesAnswer (wal_scan most) w r c.feed_piece.new.scan (g.D.Disk.state c.args.disk.now) (g.D.Disk.state c.feed_piece.new.disk))
+            (sym (passed c.from_residual.result _ c.from_residual.ensures.1)) (piece_after (wal_scan most) w c.feed_piece.new.scan _ _ _ (λ e. scan_refused_after most w e (g.D.Disk.state c.args.disk.now) (g.D.Disk.state c.loop-at.disk) (g.D.Disk.state c.feed_piece.new.disk) before.refused) _ c.feed_piece.result _ c.in_err-feed_piece.was answer);
       };
 }
 
@@ -49,11 +52,11 @@ returns-then-not-branch g c = record {
       let now = c.feed_piece.ensures.holds (i.word.0 word) in
       record {
         still = still_then _ _ _ before now.still;
-        told = λ more. absurd (tells_quiet c.feed_piece.result _ (g.D.Disk.state c.args.disk.now) (g.D.Disk.state c.loop-at.disk) (g.D.Disk.state c.feed_piece.new.disk) c.in_ok-feed_piece.was (i.quiet word) now.told more);
+        told = λ more. absurd (tells_quiet Device c.feed_piece.result _ (g.D.Disk.state c.args.disk.now) (g.D.Disk.state c.loop-at.disk) (g.D.Disk.state c.feed_piece.new.disk) c.in_ok-feed_piece.was (i.quiet word) now.told more);
         found = λ most w are long took.
             let n : length (take c.min-n.result c.loop-at.buffer) ≡ c.min-n.result = length-take-le c.min-n.result c.loop-at.buffer (omega (arith, c.loop-at.auto.buffer)) in
             let answer = now.found most w (present_in _ _ w before.log are) (omega arith) (i.took word most w are long took) in
-            piece_none most w c.feed_piece.new.scan _ _ _ before.refused _ c.args.long c.feed_piece.result _ c.in_ok-feed_piece.was c.if-not-branch.true answer;
+            piece_none (wal_scan most) w c.feed_piece.new.scan _ _ _ _ c.feed_piece.result _ c.in_ok-feed_piece.was c.if-not-branch.true answer;
       };
 }
 
@@ -66,11 +69,11 @@ returns-then-is_over g c = record {
       let now = c.feed_piece.ensures.holds (i.word.0 word) in
       record {
         still = still_then _ _ _ before now.still;
-        told = λ more. absurd (tells_quiet c.feed_piece.result _ (g.D.Disk.state c.args.disk.now) (g.D.Disk.state c.loop-at.disk) (g.D.Disk.state c.feed_piece.new.disk) c.in_ok-feed_piece.was (i.quiet word) now.told more);
+        told = λ more. absurd (tells_quiet Device c.feed_piece.result _ (g.D.Disk.state c.args.disk.now) (g.D.Disk.state c.loop-at.disk) (g.D.Disk.state c.feed_piece.new.disk) c.in_ok-feed_piece.was (i.quiet word) now.told more);
         found = λ most w are long took.
             let n : length (take c.min-n.result c.loop-at.buffer) ≡ c.min-n.result = length-take-le c.min-n.result c.loop-at.buffer (omega (arith, c.loop-at.auto.buffer)) in
             let answer = now.found most w (present_in _ _ w before.log are) (omega arith) (i.took word most w are long took) in
-            let fed = piece_some most w c.feed_piece.new.scan _ _ _ c.feed_piece.result _ c.in_ok-feed_piece.was c.if-not-branch.false answer in
+            let fed = piece_some (wal_scan most) w c.feed_piece.new.scan _ _ _ c.feed_piece.result _ c.in_ok-feed_piece.was c.if-not-branch.false answer in
             piece_settled most w c.feed_piece.new.scan _ _ _ c.args.long _ (g.met.D.Disk.sound c.args.disk.now word) are long ((c.is_over.ensures most _ fed).0 c.if-is_over.true);
       };
 }
@@ -84,8 +87,8 @@ loop-at-preserved g c =
       took = λ word most w are long took.
           let n : length (take c.min-n.result c.loop-at.buffer) ≡ c.min-n.result = length-take-le c.min-n.result c.loop-at.buffer (omega (arith, c.loop-at.auto.buffer)) in
           let answer = (c.feed_piece.ensures.holds (i.word.0 word)).found most w (present_in _ _ w (i.still word).log are) (omega arith) (i.took word most w are long took) in
-          subst (λ (k : ℕ). TookWithin most (take (c.loop-at.at + k) w) c.feed_piece.new.scan) n (piece_some most w c.feed_piece.new.scan _ _ _ c.feed_piece.result _ c.in_ok-feed_piece.was c.if-not-branch.false answer);
-      quiet = λ word. tells_quiet c.feed_piece.result _ (g.D.Disk.state c.args.disk.now) (g.D.Disk.state c.loop-at.disk) (g.D.Disk.state c.feed_piece.new.disk) c.in_ok-feed_piece.was (i.quiet word) (c.feed_piece.ensures.holds (i.word.0 word)).told;
+          subst (λ (k : ℕ). TookWithin most (take (c.loop-at.at + k) w) c.feed_piece.new.scan) n (piece_some (wal_scan most) w c.feed_piece.new.scan _ _ _ c.feed_piece.result _ c.in_ok-feed_piece.was c.if-not-branch.false answer);
+      quiet = λ word. tells_quiet Device c.feed_piece.result _ (g.D.Disk.state c.args.disk.now) (g.D.Disk.state c.loop-at.disk) (g.D.Disk.state c.feed_piece.new.disk) c.in_ok-feed_piece.was (i.quiet word) (c.feed_piece.ensures.holds (i.word.0 word)).told;
       place = omega arith;
     }
 
@@ -99,6 +102,6 @@ returns g c = record {
         told = λ more. absurd (i.quiet word more);
         found = λ most w are long took.
             let all : c.loop-at.at ≡ c.args.long = omega arith in
-            piece_done most w c.loop-at.scan _ _ c.args.long (subst (λ (k : ℕ). TookWithin most (take k w) c.loop-at.scan) all (i.took word most w are long took));
+            piece_done most w c.loop-at.scan _ _ c.args.long long (subst (λ (k : ℕ). TookWithin most (take k w) c.loop-at.scan) all (i.took word most w are long took));
       };
 }

@@ -3,7 +3,7 @@ use Rattle.std.proofs.lemmas.List.{take_more, map-append}
 use Rattle.std.proofs.lemmas.Bool.{eq-eqb}
 use Rattle.std.proofs.lemmas.Bool.Decides.{eqb_tells}
 use Rattle.crashdisk.specs.Choice.{last_torn}
-use Rattle.crashdisk.proofs.Naming.{torn_more}
+use Rattle.crashdisk.proofs.image.TornSectorsOfChoice.{torn_more}
 use Rattle.crashdisk.proofs.choice.FileChoice.torn_bytes.Goals as goal
 use Rattle.crashdisk.proofs.choice.FileChoice.torn_bytes.Goals.{then-entry-k, else-entry-k}
 

@@ -1,5 +1,5 @@
 use Rattle.std.proofs.Common.{◌≡◌, ◌<◌, ◌≤◌, ◌+◌, ℕ, get_or}
-use Rattle.crashdisk.specs.Held.{put_byte}
+use Rattle.crashdisk.specs.internal.Held.{put_byte}
 use Rattle.crashdisk.proofs.held.Change.put.Given as goal
 
 abbrev pub invariant-loop-j : goal.invariant-loop-j

@@ -1,7 +1,7 @@
-use Rattle.std.proofs.Common.{◌≤◌, ℕ, List, length, take, ◌∙◌, ap, arith}
+use Rattle.std.proofs.Common.{◌≤◌, ℕ, List, length, take, ◌∙◌, ap, arith, rules}
 use Rattle.std.proofs.lemmas.List.{length-take}
 use Rattle.std.proofs.Math.Nat.{mul-le-mul_right}
-use Rattle.crashdisk.proofs.Ending.{ended_whole, ended_room, ended_lists}
+use Rattle.crashdisk.proofs.sector.SectorsAfterEnd.{ended_whole, ended_room, ended_lists}
 use Rattle.crashdisk.proofs.held.Held.end.Goals as goal
 
 pub end_each-requires : goal.end_each-requires
@@ -9,15 +9,17 @@ end_each-requires c =
     let old = c.args.self.now.sectors.items in
     let new = c.truncate.new.self.items in
     let le : length new ≤ length old = omega (arith, ap (λ (l : List (List (List ℕ))). length l) c.truncate.ensures.items, length-take c.div_ceil.result old) in
-    omega (arith, c.requires.held.room, c.requires.small, mul-le-mul_right c.args.sector le)
+    omega (arith, c.requires.room, c.requires.small, mul-le-mul_right c.args.sector le)
 
 pub returns-clause-held : goal.returns-clause-held
 returns-clause-held c =
     let old = c.args.self.now in
     let items = old.sectors.items in
     let is = c.truncate.ensures.items ∙ ap (λ (k : ℕ). take k items) c.div_ceil.ensures in record {
-      whole = ended_whole c.args.sector c.args.end old.len old.least old.greatest items c.truncate.new.self.items c.end_each.new.sectors.items c.requires.positive is c.end_each.ensures.count c.end_each.ensures.each c.requires.held.whole;
-      room = ended_room c.args.sector c.args.end old.len old.least old.greatest items c.truncate.new.self.items c.end_each.new.sectors.items c.requires.positive is c.end_each.ensures.count c.end_each.ensures.each c.requires.held.room;
+      positive = c.requires.positive;
+      small = c.requires.small;
+      whole = ended_whole c.args.sector c.args.end old.len old.least old.greatest items c.truncate.new.self.items c.end_each.new.sectors.items c.requires.positive is c.end_each.ensures.count c.end_each.ensures.each c.requires.whole;
+      room = ended_room c.args.sector c.args.end old.len old.least old.greatest items c.truncate.new.self.items c.end_each.new.sectors.items c.requires.positive is c.end_each.ensures.count c.end_each.ensures.each c.requires.room;
     }
 
 pub returns-clause-ended : goal.returns-clause-ended
@@ -25,4 +27,4 @@ returns-clause-ended c =
     let old = c.args.self.now in
     let items = old.sectors.items in
     let is = c.truncate.ensures.items ∙ ap (λ (k : ℕ). take k items) c.div_ceil.ensures in
-    ended_lists c.args.sector c.args.end old.len old.least old.greatest items c.truncate.new.self.items c.end_each.new.sectors.items c.requires.positive is c.end_each.ensures.count c.end_each.ensures.each c.requires.held.whole c.min-self.result c.min-self-2.result c.min-self-3.result c.min-self.ensures c.min-self-2.ensures c.min-self-3.ensures
+    ended_lists c.args.sector c.args.end old.len old.least old.greatest items c.truncate.new.self.items c.end_each.new.sectors.items c.requires.positive is c.end_each.ensures.count c.end_each.ensures.each c.requires.whole _ _ _ (search rules) (search rules) (search rules)

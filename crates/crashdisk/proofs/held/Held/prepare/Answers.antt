@@ -1,8 +1,9 @@
-use Rattle.std.proofs.Common.{◌≡◌, IfOk, ◌-◌, ◌∙◌, sym, ap, subst, arith, List, ℕ, length, [], ◌∷◌, ◌++◌, replicate}
+use Rattle.std.proofs.Common.{◌≡◌, IfOk, ◌-◌, ◌∙◌, ap, subst, arith, List, ℕ, length, [], ◌∷◌, ◌++◌, replicate}
 use Rattle.crashdisk.specs.State.{FileState}
-use Rattle.crashdisk.specs.Held.{AreWhole, file_by, Touches, IsListOf}
-use Rattle.crashdisk.proofs.Changing.{grown_same}
-use Rattle.crashdisk.proofs.Carrying.{whole_grown, room_grown, all_there, if_ok}
+use Rattle.crashdisk.specs.Held.{file_by, IsListOf}
+use Rattle.crashdisk.specs.internal.Held.{Touches}
+use Rattle.crashdisk.proofs.sector.ValuesOfChangedSectors.{grown_same}
+use Rattle.crashdisk.proofs.sector.FileFromChangedSectors.{held_grown, all_there, if_ok}
 use Rattle.crashdisk.proofs.held.Held.prepare.Goals as goal
 
 -- what is listed is the same with more sectors of zeros
@@ -15,18 +16,10 @@ returns-in_err-grow-clause-same c =
     same c.args.sector (length c.grow.new.sectors.items - length old.sectors.items) old.len old.least old.greatest old.sectors.items c.grow.new.sectors.items c.in_err-grow.ensures.grown
 
 pub returns-in_err-grow-clause-held : goal.returns-in_err-grow-clause-held
-returns-in_err-grow-clause-held c =
-    let old = c.args.self.now in record {
-      whole = subst (λ l. AreWhole c.args.sector l) (sym c.grow.ensures.grown) (whole_grown c.args.sector (length c.grow.new.sectors.items - length old.sectors.items) old.sectors.items c.requires.held.whole);
-      room = room_grown c.args.sector (length old.sectors.items) (length c.grow.new.sectors.items) c.args.change.now.to c.requires.positive c.requires.held.room (omega (arith, c.requires.ends)) (omega (arith, c.needed.ensures.within, c.grow.ensures.bounded));
-    }
+returns-in_err-grow-clause-held c = held_grown c.args.sector c.args.change.now.to c.args.self.now _ c.requires.held c.requires.suits.to c.grow.ensures.grown (omega (arith, c.needed.ensures.within, c.grow.ensures.bounded))
 
 pub returns-clause-held : goal.returns-clause-held
-returns-clause-held c =
-    let old = c.args.self.now in record {
-      whole = subst (λ l. AreWhole c.args.sector l) (sym c.grow.ensures.grown) (whole_grown c.args.sector (length c.grow.new.sectors.items - length old.sectors.items) old.sectors.items c.requires.held.whole);
-      room = room_grown c.args.sector (length old.sectors.items) (length c.grow.new.sectors.items) c.args.change.now.to c.requires.positive c.requires.held.room (omega (arith, c.requires.ends)) (omega (arith, c.needed.ensures.within, c.grow.ensures.bounded));
-    }
+returns-clause-held c = held_grown c.args.sector c.args.change.now.to c.args.self.now _ c.requires.held c.requires.suits.to c.grow.ensures.grown (omega (arith, c.needed.ensures.within, c.grow.ensures.bounded))
 
 pub returns-clause-same : goal.returns-clause-same
 returns-clause-same c =
@@ -41,5 +34,5 @@ returns-clause-list c =
     let is = same c.args.sector (length now - length old.sectors.items) old.len 0 0 old.sectors.items now c.grow.ensures.grown in
     if_ok _ _ c.touched.result (λ v all. (
       subst (λ (s : FileState). IsListOf (Touches c.args.sector s change.from change.to change.end) v.items) is all,
-      all_there c.args.sector change.from change.to change.end old.len now v.items c.requires.positive (λ some. omega (arith, c.in_ok-grow.ensures.enough, c.needed.ensures.enough some)) all,
+      all_there c.args.sector change.from change.to change.end old.len now v.items c.requires.held.positive (λ some. omega (arith, c.in_ok-grow.ensures.enough, c.needed.ensures.enough some)) all,
     )) (subst (λ l. IfOk c.touched.result (λ v. IsListOf (Touches c.args.sector (file_by c.args.sector l old.len 0 0) change.from change.to change.end) v.items)) c.deref.ensures.value c.touched.ensures)

@@ -1,5 +1,5 @@
 use Rattle.std.proofs.Common.{length}
-use Rattle.crashdisk.proofs.Reading.{Copied}
+use Rattle.crashdisk.proofs.sector.BytesOfRead.{Copied}
 use Rattle.crashdisk.proofs.held.Held.read.Given as goal
 
 abbrev pub invariant-loop-k : goal.invariant-loop-k

@@ -2,8 +2,8 @@ use Rattle.std.proofs.Common.{◌/◌, ◌∙◌, ap, subst, sym, refl, arith}
 use Rattle.crashdisk.specs.Held.{file_of}
 use Rattle.crashdisk.specs.Choice.{Naming, image_of}
 use Rattle.crashdisk.specs.Count.{choice_count, naming_at, HasDigits}
-use Rattle.crashdisk.proofs.Digits.{none_left, some_choice, some_both, has_digits}
-use Rattle.crashdisk.specs.SoundModel.{size_positive}
+use Rattle.crashdisk.proofs.image.DigitsOfChoice.{none_left, some_choice, some_both, has_digits}
+use Rattle.crashdisk.specs.internal.SoundModel.{size_positive}
 use Rattle.crashdisk.proofs.model.ModelDisk.choice.Goals as goal
 
 pub returns-then-rest-gt0-clause-found : goal.returns-then-rest-gt0-clause-found

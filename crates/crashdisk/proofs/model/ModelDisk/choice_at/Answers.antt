@@ -2,9 +2,9 @@ use Rattle.std.proofs.Common.{◌/◌, ◌∙◌, ap, subst, sym}
 use Rattle.crashdisk.specs.Held.{file_of}
 use Rattle.crashdisk.specs.Choice.{Naming, image_of}
 use Rattle.crashdisk.specs.Count.{choice_count, naming_at, HasDigits}
-use Rattle.crashdisk.proofs.Digits.{has_digits}
-use Rattle.crashdisk.proofs.Counted.{each_is_counted}
-use Rattle.crashdisk.specs.SoundModel.{size_positive}
+use Rattle.crashdisk.proofs.image.DigitsOfChoice.{has_digits}
+use Rattle.crashdisk.proofs.image.NumberOfChoice.{each_is_counted}
+use Rattle.crashdisk.specs.internal.SoundModel.{size_positive}
 use Rattle.crashdisk.proofs.model.ModelDisk.choice_at.Goals as goal
 
 pub returns-clause-named : goal.returns-clause-named

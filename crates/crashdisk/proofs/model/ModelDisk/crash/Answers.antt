@@ -1,5 +1,5 @@
 use Rattle.std.proofs.Common.{refl}
-use Rattle.crashdisk.proofs.Judging.{left_kept, left_handed}
+use Rattle.crashdisk.proofs.call.AnswersOfCalls.{left_kept, left_handed}
 use Rattle.crashdisk.proofs.model.ModelDisk.crash.Goals as goal
 
 pub returns-clause-left : goal.returns-clause-left

@@ -4,10 +4,10 @@ use Rattle.crashdisk.proofs.model.ModelDisk.with.Goals as goal
 pub invariant_of-result : goal.invariant_of-result
 invariant_of-result c = record {
   is_size = c.requires;
-  db_held = c.in_ok-file.ensures.held;
-  db_solid = c.in_ok-file.ensures.solid;
-  log_held = c.empty.ensures.held c.args.sector;
-  log_solid = c.empty.ensures.solid c.args.sector;
+  db_held = c.in_ok-file.ensures.stands.held;
+  db_solid = c.in_ok-file.ensures.stands.solid;
+  log_held = (c.empty.ensures.stands c.args.sector c.requires).held;
+  log_solid = (c.empty.ensures.stands c.args.sector c.requires).solid;
   counted = omega arith;
   kept_room = λ tears. omega (arith, (c.empty.ensures.settled c.args.sector).greatest);
   untorn = λ whole. (c.new-2.ensures.kept, c.new-2.ensures.handed);

@@ -1,6 +1,6 @@
 use Rattle.crashdisk.specs.Model.{state_of}
-use Rattle.crashdisk.specs.SoundModel.{sound_disk}
-use Rattle.crashdisk.proofs.Solid.{size_is}
+use Rattle.crashdisk.specs.internal.SoundModel.{sound_disk}
+use Rattle.crashdisk.proofs.sector.SolidityOfSoundFiles.{size_is}
 use Rattle.crashdisk.proofs.model.ModelDiskDisk.sector.Goals as goal
 
 pub returns-clause-is_size : goal.returns-clause-is_size

@@ -1,7 +1,7 @@
 use Rattle.std.proofs.Common.{rules}
 use Rattle.std.proofs.Common.{◌*◌, ℕ, length, ap}
-use Rattle.sqval.proofs.Answering.{passed}
-use Rattle.rollcore.proofs.Viewing.{read_judged, read_file, refused_answer, read_answer}
+use Rattle.sqval.proofs.database.AnswersOfEngine.{passed}
+use Rattle.rollcore.proofs.read.ContentOfReadPage.{read_judged, read_file, refused_answer, read_answer}
 use Rattle.rollcore.proofs.roll.Roll.read.Goals as goal
 
 pub returns-in_err-judge_read-clause-disk : goal.returns-in_err-judge_read-clause-disk

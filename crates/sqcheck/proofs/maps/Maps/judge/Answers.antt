@@ -2,7 +2,7 @@ use Rattle.std.proofs.Common.{◌+◌, ◌-◌, sym, ap, ◌∙◌}
 use Rattle.sqval.specs.Bytes.{word}
 use Rattle.sqpage.specs.Header.{byte}
 use Rattle.sqpage.specs.PointerMaps.{kind_code}
-use Rattle.sqcheck.proofs.Mapping.{entry_once, same_entry, entry_by}
+use Rattle.sqcheck.proofs.checks.PointerMapEntries.{entry_once, same_entry, entry_by}
 use Rattle.sqcheck.proofs.maps.Maps.judge.Goals as goal
 
 pub returns-in_default-clause-ok : goal.returns-in_default-clause-ok

@@ -1,5 +1,5 @@
 use Rattle.std.proofs.Common.{◌≡◌, length, vec_len}
-use Rattle.sqcheck.specs.Snapshots.{SameSource}
+use Rattle.sqcheck.specs.internal.Snapshots.{SameSource}
 use Rattle.sqcheck.proofs.walker.Walker.advance.Given as goal
 
 abbrev pub invariant-places : goal.invariant-places

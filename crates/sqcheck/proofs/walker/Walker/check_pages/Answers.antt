@@ -1,10 +1,10 @@
 use Rattle.std.proofs.Common.{◌≡◌, ◌∙◌, ⊎_elim, ◌++◌, [], length, sym, subst, true}
-use Rattle.sqcheck.specs.Agenda.{StandsNow}
+use Rattle.sqcheck.specs.internal.Agenda.{StandsNow}
 use Rattle.sqcheck.specs.WellFormed.{IsAutoVacuum, AreEachOnce, IsSetAside}
-use Rattle.sqcheck.proofs.Results.{exits}
-use Rattle.sqcheck.proofs.Phases.{concludes, mapped_of, once_of, reported}
-use Rattle.sqcheck.proofs.Lists.{either}
-use Rattle.sqcheck.proofs.Tells.{visits_more, visits_of}
+use Rattle.sqcheck.proofs.checks.ResultsOfCalls.{exits}
+use Rattle.sqcheck.proofs.checks.PhasesOfCheck.{concludes, mapped_of, once_of, reported}
+use Rattle.sqcheck.proofs.checks.ListsByRecursion.{either}
+use Rattle.sqcheck.proofs.visit.VisitedPlaces.{visits_more, visits_of}
 use Rattle.sqcheck.proofs.walker.Walker.check_pages.Goals as goal
 
 pub returns-in_err-follow_others-clause-err : goal.returns-in_err-follow_others-clause-err

@@ -1,9 +1,9 @@
 use Rattle.std.proofs.Common.{refl}
 use Rattle.sqcheck.specs.declared.item.Task.TheVariants.{Leaf}
 use Rattle.sqcheck.specs.declared.role.Role.TheVariants.{FreeLeaf}
-use Rattle.sqcheck.proofs.Trunks.{leaf_visited}
-use Rattle.sqcheck.proofs.Following.{other_followed}
-use Rattle.sqcheck.proofs.Tells.{role_by}
+use Rattle.sqcheck.proofs.visit.FreelistTrunks.{leaf_visited}
+use Rattle.sqcheck.proofs.visit.FollowedItem.{other_followed}
+use Rattle.sqcheck.proofs.visit.VisitedPlaces.{role_by}
 use Rattle.sqcheck.proofs.walker.Walker.follow.Goals as goal
 
 pub returns-in_ok-take-in-Leaf-clause-ok : goal.returns-in_ok-take-in-Leaf-clause-ok

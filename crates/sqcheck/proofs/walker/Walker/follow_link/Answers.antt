@@ -2,10 +2,10 @@ use Rattle.std.proofs.Common.{◌≡◌, ◌∙◌, ◌-◌, ◌≤◌, length, 
 use Rattle.sqval.specs.Database.{Database}
 use Rattle.sqpage.specs.Freelist.{next_in}
 use Rattle.sqcheck.specs.declared.item.Task.TheVariants.{Link}
-use Rattle.sqcheck.proofs.Results.{on_ok}
-use Rattle.sqcheck.proofs.Trunks.{link_visited, last_visited}
-use Rattle.sqcheck.proofs.Nodes.{link_leads}
-use Rattle.sqcheck.proofs.Following.{other_followed}
+use Rattle.sqcheck.proofs.checks.ResultsOfCalls.{on_ok}
+use Rattle.sqcheck.proofs.visit.FreelistTrunks.{link_visited, last_visited}
+use Rattle.sqcheck.proofs.btree.KeysAndPlaces.{link_leads}
+use Rattle.sqcheck.proofs.visit.FollowedItem.{other_followed}
 use Rattle.sqcheck.proofs.walker.Walker.follow_link.Goals as goal
 
 pub returns-then-needed-gt1-clause-ok : goal.returns-then-needed-gt1-clause-ok

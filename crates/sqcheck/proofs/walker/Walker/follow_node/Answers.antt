@@ -1,6 +1,6 @@
 use Rattle.std.proofs.Common.{◌∙◌}
-use Rattle.sqcheck.proofs.Results.{if_ok}
-use Rattle.sqcheck.proofs.Following.{knows_at, used_read, node_followed}
+use Rattle.sqcheck.proofs.checks.ResultsOfCalls.{if_ok}
+use Rattle.sqcheck.proofs.visit.FollowedItem.{knows_at, used_read, node_followed}
 use Rattle.sqcheck.proofs.walker.Walker.follow_node.Goals as goal
 
 pub returns-clause-ok : goal.returns-clause-ok

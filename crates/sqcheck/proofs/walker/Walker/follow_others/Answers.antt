@@ -7,11 +7,11 @@ use Rattle.sqcheck.specs.declared.schema.Root.{Root}
 use Rattle.sqcheck.specs.declared.node.Walk.{Walk}
 use Rattle.sqcheck.specs.declared.uses.Uses.{Uses}
 use Rattle.sqcheck.specs.Places.{Spot}
-use Rattle.sqcheck.specs.Agenda.{StandsNow}
-use Rattle.sqcheck.specs.Schema.{IsRowsPage, InRowsOf, AllSchemaRows, KeepsFound, Finds, RootsMatch}
-use Rattle.sqcheck.specs.Checking.{Visited}
-use Rattle.sqcheck.proofs.Results.{exits, on_ok}
-use Rattle.sqcheck.proofs.Phases.{is_long, rows_pages, becomes_late, first_roots, none_left}
+use Rattle.sqcheck.specs.internal.Agenda.{StandsNow}
+use Rattle.sqcheck.specs.internal.Schema.{IsRowsPage, InRowsOf, AllSchemaRows, KeepsFound, Finds, RootsMatch}
+use Rattle.sqcheck.specs.internal.Checking.{Visited}
+use Rattle.sqcheck.proofs.checks.ResultsOfCalls.{exits, on_ok}
+use Rattle.sqcheck.proofs.checks.PhasesOfCheck.{is_long, rows_pages, becomes_late, first_roots, none_left}
 use Rattle.sqcheck.proofs.walker.Walker.follow_others.Goals as goal
 
 -- The roots that were kept, and those that weren't.

@@ -3,9 +3,9 @@ use Rattle.sqval.specs.Database.{Database}
 use Rattle.sqcheck.specs.declared.item.Task.TheVariants as tasks
 use Rattle.sqcheck.specs.declared.schema.Root.{Root}
 use Rattle.sqcheck.specs.Places.{Spot, node, names_table, root_of_tree}
-use Rattle.sqcheck.specs.Schema.{IsRootAt}
+use Rattle.sqcheck.specs.internal.Schema.{IsRootAt}
 use Rattle.sqcheck.specs.WellFormed.{kind_named}
-use Rattle.sqcheck.specs.Walking.{IsItemOf}
+use Rattle.sqcheck.specs.internal.Walking.{IsItemOf}
 use Rattle.sqcheck.proofs.walker.Walker.follow_root.Goals as goal
 
 -- the item of a root's tree
@@ -21,8 +21,8 @@ item_of d root s table is e = record {
 
 pub returns-clause-ok : goal.returns-clause-ok
 returns-clause-ok g c = λ given visited rest s w is.
-    c.follow_from.ensures.ok given true visited rest s w (item_of g.V.Snapshot.pages c.args.root s c.in_ok-table.table is (c.in_ok-table.ensures.ok given.0)) (λ on f. f)
+    c.follow_from.ensures.ok given true visited rest s w (item_of g.V.Snapshot.pages c.args.root s c.in_ok-table.table is (c.in_ok-table.ensures.ok given.0).0) (λ on f. f)
 
 pub returns-clause-err : goal.returns-clause-err
 returns-clause-err g c = λ given visited rest s w is.
-    c.follow_from.ensures.err given true visited rest s w (item_of g.V.Snapshot.pages c.args.root s c.in_ok-table.table is (c.in_ok-table.ensures.ok given.0)) (λ on f. f)
+    c.follow_from.ensures.err given true visited rest s w (item_of g.V.Snapshot.pages c.args.root s c.in_ok-table.table is (c.in_ok-table.ensures.ok given.0).0) (λ on f. f)

@@ -2,12 +2,12 @@ use Rattle.std.proofs.Common.{◌≡◌, ◌+◌, ◌++◌, [], suc, drop, get_o
 use Rattle.std.proofs.Math.Seq.{drop-cons}
 use Rattle.std.proofs.lemmas.List.{drop_all}
 use Rattle.sqcheck.specs.declared.schema.Root.{Root}
-use Rattle.sqcheck.specs.Agenda.{StandsNow}
-use Rattle.sqcheck.specs.Schema.{RootsMatch}
-use Rattle.sqcheck.specs.Checking.{Visited}
-use Rattle.sqcheck.proofs.Results.{exits}
-use Rattle.sqcheck.proofs.Phases.{first_root_at, last_root}
-use Rattle.sqcheck.proofs.Tells.{visits_more}
+use Rattle.sqcheck.specs.internal.Agenda.{StandsNow}
+use Rattle.sqcheck.specs.internal.Schema.{RootsMatch}
+use Rattle.sqcheck.specs.internal.Checking.{Visited}
+use Rattle.sqcheck.proofs.checks.ResultsOfCalls.{exits}
+use Rattle.sqcheck.proofs.checks.PhasesOfCheck.{first_root_at, last_root}
+use Rattle.sqcheck.proofs.visit.VisitedPlaces.{visits_more}
 use Rattle.sqcheck.proofs.walker.Walker.follow_roots.Goals as goal
 
 pub roots-init : goal.roots-init

@@ -1,9 +1,9 @@
 use Rattle.std.proofs.Common.{◌≤◌, ◌∙◌, List, ℕ, refl, arith}
 use Rattle.sqpage.specs.Freelist.{leaf_count_in, most_leaves}
 use Rattle.sqcheck.specs.declared.item.Task.TheVariants.{Trunk}
-use Rattle.sqcheck.proofs.Results.{on_ok, both_ok}
-use Rattle.sqcheck.proofs.Trunks.{trunk_visited}
-use Rattle.sqcheck.proofs.Following.{other_followed}
+use Rattle.sqcheck.proofs.checks.ResultsOfCalls.{on_ok, both_ok}
+use Rattle.sqcheck.proofs.visit.FreelistTrunks.{trunk_visited}
+use Rattle.sqcheck.proofs.visit.FollowedItem.{other_followed}
 use Rattle.sqcheck.proofs.walker.Walker.follow_trunk.Goals as goal
 
 pub returns-clause-ok : goal.returns-clause-ok

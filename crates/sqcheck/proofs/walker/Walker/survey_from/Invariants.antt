@@ -1,5 +1,5 @@
 use Rattle.std.proofs.Common.{◌≡◌, length}
-use Rattle.sqcheck.specs.Snapshots.{SameSource}
+use Rattle.sqcheck.specs.internal.Snapshots.{SameSource}
 use Rattle.sqcheck.proofs.walker.Walker.survey_from.Given as goal
 
 abbrev pub invariant-pages : goal.invariant-pages

@@ -1,5 +1,5 @@
 use Rattle.std.proofs.Common.{◌≡◌, length}
-use Rattle.sqcheck.specs.Snapshots.{SameSource}
+use Rattle.sqcheck.specs.internal.Snapshots.{SameSource}
 use Rattle.sqcheck.proofs.walker.Walker.survey_others.Given as goal
 
 abbrev pub invariant-roots : goal.invariant-roots

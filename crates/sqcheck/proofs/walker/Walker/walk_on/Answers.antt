@@ -1,11 +1,11 @@
 use Rattle.std.proofs.Common.{◌++◌, ◌≤◌, [], sym, subst, refl, append-nil}
 use Rattle.sqcheck.specs.declared.node.Walk.{Walk}
-use Rattle.sqcheck.specs.Agenda.{Walking}
-use Rattle.sqcheck.specs.Agenda.{StandsNow}
-use Rattle.sqpage.proofs.Takings.{fewer_unmarked}
-use Rattle.sqcheck.proofs.Results.{exits}
-use Rattle.sqcheck.proofs.Walks.{walks_on, walk_refused, entry_stands, proper_top, knows_top, nothing_popped}
-use Rattle.sqcheck.proofs.Tells.{walks_more}
+use Rattle.sqcheck.specs.internal.Agenda.{Walking}
+use Rattle.sqcheck.specs.internal.Agenda.{StandsNow}
+use Rattle.sqpage.proofs.chain.TakenPages.{fewer_unmarked}
+use Rattle.sqcheck.proofs.checks.ResultsOfCalls.{exits}
+use Rattle.sqcheck.proofs.visit.StepsOfWalk.{walks_on, walk_refused, entry_stands, proper_top, knows_top, nothing_popped}
+use Rattle.sqcheck.proofs.visit.VisitedPlaces.{walks_more}
 use Rattle.sqcheck.proofs.walker.Walker.walk_on.Goals as goal
 
 pub places-init : goal.places-init

@@ -1,7 +1,7 @@
 use Rattle.std.proofs.Common.{List, Bool, count_by, not}
 use Rattle.sqcheck.specs.Places.{Spot}
-use Rattle.sqcheck.specs.Snapshots.{SameSource}
-use Rattle.sqcheck.specs.Agenda.{Walking, WalksOn}
+use Rattle.sqcheck.specs.internal.Snapshots.{SameSource}
+use Rattle.sqcheck.specs.internal.Agenda.{Walking, WalksOn}
 use Rattle.sqcheck.proofs.walker.Walker.walk_on.Given as goal
 
 abbrev pub invariant-places : goal.invariant-places

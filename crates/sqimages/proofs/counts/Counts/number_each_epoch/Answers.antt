@@ -1,4 +1,4 @@
-use Rattle.sqimages.proofs.Placing.{each_has_place}
+use Rattle.sqimages.proofs.NumbersOfEpochImages.{each_has_place}
 use Rattle.sqimages.proofs.counts.Counts.number_each_epoch.Goals as goal
 
 pub returns : goal.returns

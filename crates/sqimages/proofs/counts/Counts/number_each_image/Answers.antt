@@ -1,4 +1,4 @@
-use Rattle.sqimages.proofs.Numbering.{each_is_numbered}
+use Rattle.sqimages.proofs.NumberOfEachImage.{each_is_numbered}
 use Rattle.sqimages.proofs.counts.Counts.number_each_image.Goals as goal
 
 pub returns : goal.returns

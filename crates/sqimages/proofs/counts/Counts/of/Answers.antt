@@ -2,8 +2,8 @@ use Rattle.std.proofs.Common.{◌<◌, ◌≤◌, Bool, true, false, List, lengt
 use Rattle.sqplay.specs.Plays.{files_of}
 use Rattle.sqplay.specs.declared.meta.Epoch.{Epoch}
 use Rattle.sqplay.specs.declared.meta.Holds.TheVariants.{Any}
-use Rattle.sqimages.specs.Adding.{IsAdded}
-use Rattle.sqimages.proofs.Placing.{one_more, last_more, too_many, last_too_many}
+use Rattle.sqimages.specs.internal.Adding.{IsAdded}
+use Rattle.sqimages.proofs.NumbersOfEpochImages.{one_more, last_more, too_many, last_too_many}
 use Rattle.sqimages.proofs.counts.Counts.of.Goals as goal
 
 -- what stands for an epoch behind the last

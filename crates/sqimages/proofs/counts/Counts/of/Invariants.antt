@@ -1,5 +1,5 @@
 use Rattle.sqplay.specs.Plays.{files_of}
-use Rattle.sqimages.proofs.Placing.{IsSoFar}
+use Rattle.sqimages.proofs.NumbersOfEpochImages.{IsSoFar}
 use Rattle.sqimages.proofs.counts.Counts.of.Given as goal
 
 abbrev pub invariant-loop-epoch : goal.invariant-loop-epoch

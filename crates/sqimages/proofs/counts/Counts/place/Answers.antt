@@ -1,7 +1,7 @@
 use Rattle.std.proofs.Common.{◌+◌, ◌-◌, List, drop, sym, ◌∙◌, ap}
 use Rattle.sqimages.specs.declared.counts.EpochCounts.{EpochCounts}
 use Rattle.sqimages.specs.Images.{numbered}
-use Rattle.sqimages.proofs.Placing.{here, later, nowhere}
+use Rattle.sqimages.proofs.NumbersOfEpochImages.{here, later, nowhere}
 use Rattle.sqimages.proofs.counts.Counts.place.Goals as goal
 
 pub returns-then-rest-counts : goal.returns-then-rest-counts

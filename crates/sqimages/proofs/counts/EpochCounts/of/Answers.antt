@@ -2,7 +2,7 @@ use Rattle.std.proofs.Common.{◌≡◌, ℕ, ◌*◌, ◌<◌, ◌∙◌, ap, s
 use Rattle.sqplay.specs.Names.{NameState, name_of}
 use Rattle.sqplay.specs.Plays.{files_of}
 use Rattle.sqimages.specs.Ways.{name_ways}
-use Rattle.sqimages.proofs.Multiplying.{some_name, above_logs, above_one, above_two, above_three}
+use Rattle.sqimages.proofs.CountsOfWays.{some_name, above_logs, above_one, above_two, above_three}
 use Rattle.sqimages.proofs.counts.EpochCounts.of.Goals as goal
 
 pub returns-in_default : goal.returns-in_default

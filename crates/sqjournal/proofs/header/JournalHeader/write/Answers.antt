@@ -2,7 +2,7 @@ use Rattle.std.proofs.Common.{◌≡◌, ◌<◌, ◌^◌, ℕ, List, sym, subst
 use Rattle.sqval.specs.PageSize.{IsPageSize}
 use Rattle.sqjournal.specs.Header.{header_bytes, IsFirstHeader, Names}
 use Rattle.sqjournal.specs.declared.header.JournalHeader.{JournalHeader}
-use Rattle.sqjournal.proofs.Headers.{written, written_first, written_names}
+use Rattle.sqjournal.proofs.journal.WordsOfHeader.{written, written_first, written_names}
 use Rattle.sqjournal.proofs.header.JournalHeader.write.Goals as goal
 
 pub returns-clause-first : goal.returns-clause-first

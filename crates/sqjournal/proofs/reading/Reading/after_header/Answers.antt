@@ -1,6 +1,6 @@
 use Rattle.std.proofs.Common.{rules, ◌≡◌, ◌+◌, arith}
 use Rattle.sqjournal.specs.Header.{HasMagic}
-use Rattle.sqjournal.proofs.Standing.{header_ends, header_goes}
+use Rattle.sqjournal.proofs.read.NextStateOfReading.{header_ends, header_goes}
 use Rattle.sqjournal.proofs.reading.Reading.after_header.Goals as goal
 
 pub returns-then-not-starts_with-clause-stands : goal.returns-then-not-starts_with-clause-stands

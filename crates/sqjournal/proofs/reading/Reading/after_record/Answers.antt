@@ -1,8 +1,8 @@
 use Rattle.std.proofs.Common.{rules, ◌∙◌, ◌≡◌, ◌≢◌, ◌+◌, ◌-◌, length, take, drop, sym, ap, arith}
 use Rattle.sqval.specs.Bytes.{part, word}
 use Rattle.sqjournal.specs.NonceSum.{nonce_sum}
-use Rattle.sqjournal.proofs.Continuing.{less, less_all, less_one}
-use Rattle.sqjournal.proofs.Standing.{page_zero, wrong_sum, record_goes}
+use Rattle.sqjournal.proofs.read.StepsOfReading.{less, less_all, less_one}
+use Rattle.sqjournal.proofs.read.NextStateOfReading.{page_zero, wrong_sum, record_goes}
 use Rattle.sqjournal.proofs.reading.Reading.after_record.Goals as goal
 use Rattle.sqjournal.proofs.reading.Reading.after_record.Goals.{then-left-eq4294967295, else-left-eq4294967295}
 

@@ -1,6 +1,6 @@
 use Rattle.std.proofs.Common.{◌∙◌, ◌++◌, length-append, refl, ap, arith}
 use Rattle.std.proofs.lemmas.Result.{err_from_is_err_and}
-use Rattle.sqjournal.proofs.Taking.{took_unjudged, took_same, unjudged_of, taken_of}
+use Rattle.sqjournal.proofs.read.BytesTakenByReplay.{took_unjudged, took_same, unjudged_of, taken_of}
 use Rattle.sqjournal.proofs.replay.Replay.begin.Goals as goal
 
 pub returns-in_err-extend_from_slice : goal.returns-in_err-extend_from_slice

@@ -1,5 +1,5 @@
 use Rattle.std.proofs.Common.{length, ap}
-use Rattle.sqjournal.proofs.Taking.{has_count}
+use Rattle.sqjournal.proofs.read.BytesTakenByReplay.{has_count}
 use Rattle.sqjournal.proofs.replay.Replay.count.Goals as goal
 
 pub returns : goal.returns

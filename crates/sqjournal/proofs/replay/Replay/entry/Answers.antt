@@ -1,5 +1,5 @@
 use Rattle.std.proofs.Common.{◌≡◌, ◌∙◌, slice_get, sym, ap, arith}
-use Rattle.sqjournal.proofs.Taking.{copied_at, has_entry, entry_zero, entry_some}
+use Rattle.sqjournal.proofs.read.BytesTakenByReplay.{copied_at, has_entry, entry_zero, entry_some}
 use Rattle.sqjournal.proofs.replay.Replay.entry.Goals as goal
 
 pub returns-in_err-at : goal.returns-in_err-at

@@ -3,7 +3,7 @@ use Rattle.std.proofs.lemmas.Result.{err_from_is_err_and, MatchResult-weaker}
 use Rattle.std.proofs.lemmas.Option.{MatchOption-at_some}
 use Rattle.sqjournal.specs.Took.{IsTakeable, Refuses}
 use Rattle.sqjournal.specs.declared.error.JournalError.{JournalError}
-use Rattle.sqjournal.proofs.Taking.{taken_of, refuses_header, refuses_memory}
+use Rattle.sqjournal.proofs.read.BytesTakenByReplay.{taken_of, refuses_header, refuses_memory}
 use Rattle.sqjournal.proofs.replay.Replay.feed.Goals as goal
 
 pub returns-then-piece-self : goal.returns-then-piece-self

@@ -1,6 +1,6 @@
 use Rattle.std.proofs.Common.{arith}
-use Rattle.sqjournal.proofs.Journals.{cold_short}
-use Rattle.sqjournal.proofs.Taking.{unjudged_of, judged_of, taken_of}
+use Rattle.sqjournal.proofs.read.JournalOfTakenBytes.{cold_short}
+use Rattle.sqjournal.proofs.read.BytesTakenByReplay.{unjudged_of, judged_of, taken_of}
 use Rattle.sqjournal.proofs.replay.Replay.first.Goals as goal
 
 pub returns-in_err-reading : goal.returns-in_err-reading

@@ -1,7 +1,7 @@
 use Rattle.std.proofs.Common.{◌∙◌, ◌++◌, List, ℕ, length, length-append, refl, sym, ap, subst, arith}
 use Rattle.std.proofs.lemmas.Result.{err_from_is_err_and}
 use Rattle.sqjournal.specs.Reading.{IsSound}
-use Rattle.sqjournal.proofs.Taking.{took_judged, took_same, taken_of}
+use Rattle.sqjournal.proofs.read.BytesTakenByReplay.{took_judged, took_same, taken_of}
 use Rattle.sqjournal.proofs.replay.Replay.go_on.Goals as goal
 
 pub invariant_of-self : goal.invariant_of-self

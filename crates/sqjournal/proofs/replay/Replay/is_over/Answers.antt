@@ -1,4 +1,4 @@
-use Rattle.sqjournal.proofs.Settled.{settled}
+use Rattle.sqjournal.proofs.read.SettledJournal.{settled}
 use Rattle.sqjournal.proofs.replay.Replay.is_over.Goals as goal
 
 pub returns-in-Some : goal.returns-in-Some

@@ -2,7 +2,7 @@ use Rattle.std.proofs.Common.{◌≡◌, ◌<◌, ◌≤◌, ◌∙◌, ◌++◌
 use Rattle.std.proofs.lemmas.Result.{err_from_is_err_and}
 use Rattle.sqjournal.specs.Header.{IsFirstHeader, Names, IsRefused}
 use Rattle.sqjournal.specs.declared.error.JournalError.{JournalError}
-use Rattle.sqjournal.proofs.Taking.{goes_on_judged, goes_on_fresh, sound_fresh, unjudged_of, at_header, at_none}
+use Rattle.sqjournal.proofs.read.BytesTakenByReplay.{goes_on_judged, goes_on_fresh, sound_fresh, unjudged_of, at_header, at_none}
 use Rattle.sqjournal.proofs.replay.Replay.judged.Goals as goal
 
 pub returns-in-Some-clause-judged : goal.returns-in-Some-clause-judged

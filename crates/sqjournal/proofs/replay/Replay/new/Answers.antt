@@ -1,5 +1,5 @@
 use Rattle.std.proofs.Common.{[], refl, arith}
-use Rattle.sqjournal.proofs.Taking.{took_unjudged}
+use Rattle.sqjournal.proofs.read.BytesTakenByReplay.{took_unjudged}
 use Rattle.sqjournal.proofs.replay.Replay.new.Goals as goal
 
 pub returns : goal.returns

@@ -1,8 +1,8 @@
 use Rattle.std.proofs.Common.{rules, sym, subst, arith}
 use Rattle.sqjournal.specs.declared.reading.Why.{Why}
-use Rattle.sqjournal.proofs.Journals.{Ends}
-use Rattle.sqjournal.proofs.Unique.{stops_so}
-use Rattle.sqjournal.proofs.Taking.{ends_judged, ends_empty, ends_cut}
+use Rattle.sqjournal.proofs.read.JournalOfTakenBytes.{Ends}
+use Rattle.sqjournal.proofs.read.UniquenessOfReading.{stops_so}
+use Rattle.sqjournal.proofs.read.BytesTakenByReplay.{ends_judged, ends_empty, ends_cut}
 use Rattle.sqjournal.proofs.replay.Replay.stop.Goals as goal
 
 pub returns-in-Some : goal.returns-in-Some

@@ -1,6 +1,6 @@
 use Rattle.std.proofs.Common.{◌≡◌, ◌+◌, ◌-◌, ◌∙◌, ap, refl, arith}
 use Rattle.sqval.specs.Bytes.{word}
-use Rattle.sqjournal.proofs.RecordSlots.{slot_is}
+use Rattle.sqjournal.proofs.journal.RecordSlots.{slot_is}
 use Rattle.sqjournal.proofs.slots.RecordSlot.read.Goals as goal
 
 pub returns : goal.returns

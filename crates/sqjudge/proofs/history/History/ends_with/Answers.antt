@@ -1,5 +1,5 @@
 use Rattle.std.proofs.Common.{◌≡◌, length, arith}
-use Rattle.sqjudge.proofs.Counting.{shows_last_ok}
+use Rattle.sqjudge.proofs.NumberedCommits.{shows_last_ok}
 use Rattle.sqjudge.proofs.history.History.ends_with.Goals as goal
 
 pub returns-clause-shown : goal.returns-clause-shown

@@ -1,5 +1,5 @@
 use Rattle.sqjudge.specs.Shown.{commits_of}
-use Rattle.sqjudge.proofs.Judging.{noted_view, empty_tells}
+use Rattle.sqjudge.proofs.JudgmentOfFiles.{noted_view, empty_tells}
 use Rattle.sqjudge.proofs.history.History.note.Goals as goal
 
 pub returns-in-Ok-clause-noted : goal.returns-in-Ok-clause-noted

@@ -1,7 +1,7 @@
 use Rattle.std.proofs.Common.{subst}
 use Rattle.sqview.specs.LogView.{ViewRefused}
 use Rattle.sqjudge.specs.Shown.{commits_of}
-use Rattle.sqjudge.proofs.Judging.{noted_nothing}
+use Rattle.sqjudge.proofs.JudgmentOfFiles.{noted_nothing}
 use Rattle.sqjudge.proofs.history.History.note_refused.Goals as goal
 
 pub returns-in-Header-clause-noted : goal.returns-in-Header-clause-noted

@@ -1,8 +1,9 @@
-use Rattle.std.proofs.Common.{◌≤◌, ◌↔◌, length, ◌∙◌, subst, arith}
+use Rattle.std.proofs.Common.{◌≤◌, ◌↔◌, length, subst, arith}
 use Rattle.std.specs.Prelude.{IsTrue}
 use Rattle.sqval.specs.Database.{Database}
 use Rattle.sqjudge.specs.Shown.{Shows, commit_of}
-use Rattle.sqjudge.proofs.Counting.{step_none}
+use Rattle.sqpage.proofs.file.PagesInMemory.{keeps_on}
+use Rattle.sqjudge.proofs.NumberedCommits.{step_none}
 use Rattle.sqjudge.proofs.history.History.shown.Goals as goal
 
 pub loop-k-preserved : goal.loop-k-preserved
@@ -11,13 +12,9 @@ loop-k-preserved g c =
     let was = c.loop-k.invariant in
     let within : c.loop-k.k ≤ length xs = omega (arith, c.loop-k.auto.k, c.len-k.ensures, c.args.self.now.commits.ok.0) in
     let shown = c.in_ok-is_shown.field-0 in (
-      c.is_shown.ensures.same_pages ∙ was.0,
-      c.is_shown.ensures.same_size ∙ was.1,
+      keeps_on was.0 c.is_shown.ensures.keeps,
       λ gives.
-          let old = was.2 gives in
           let is : IsTrue shown ↔ Shows (commit_of c.index.result.now) (g.S.PageSource.pages c.args.source.now) =
-          subst (λ (d : Database). IsTrue shown ↔ Shows (commit_of c.index.result.now) d) was.0 (c.in_ok-is_shown.ensures.shown old.0) in (
-            c.is_shown.ensures.still_gives old.0,
-            step_none xs c.loop-k.k c.index.result.now (g.S.PageSource.pages c.args.source.now) shown (omega arith) within c.index.ensures c.if-branch.false is old.1,
-          ),
+          subst (λ (d : Database). IsTrue shown ↔ Shows (commit_of c.index.result.now) d) was.0.same_pages (c.in_ok-is_shown.ensures.shown (was.0.still_gives gives)) in
+          step_none xs c.loop-k.k c.index.result.now (g.S.PageSource.pages c.args.source.now) shown (omega arith) within c.index.ensures c.if-branch.false is (was.1 gives),
     )

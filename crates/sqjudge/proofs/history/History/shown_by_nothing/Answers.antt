@@ -1,5 +1,5 @@
 use Rattle.std.proofs.Common.{◌≤◌, [], length, arith}
-use Rattle.sqjudge.proofs.Counting.{step_none}
+use Rattle.sqjudge.proofs.NumberedCommits.{step_none}
 use Rattle.sqjudge.proofs.history.History.shown_by_nothing.Goals as goal
 
 pub loop-k-preserved : goal.loop-k-preserved

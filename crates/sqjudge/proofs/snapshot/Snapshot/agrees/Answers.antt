@@ -1,7 +1,7 @@
 use Rattle.std.proofs.Common.{◌≡◌, sym, ◌∙◌, inl, inr}
 use Rattle.std.specs.Prelude.{true}
 use Rattle.sqval.specs.Database.{page}
-use Rattle.sqjudge.proofs.Counting.{page_read}
+use Rattle.sqjudge.proofs.NumberedCommits.{page_read}
 use Rattle.sqjudge.proofs.snapshot.Snapshot.agrees.Goals as goal
 
 pub returns-then-has : goal.returns-then-has

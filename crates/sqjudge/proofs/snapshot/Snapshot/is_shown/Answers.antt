@@ -2,7 +2,8 @@ use Rattle.std.proofs.Common.{◌≡◌, ◌+◌, ◌++◌, length, take, drop, 
 use Rattle.std.proofs.lemmas.List.{take_at}
 use Rattle.sqval.specs.Database.{Database, page}
 use Rattle.sqjudge.specs.Shown.{AgreesAt, commit_of}
-use Rattle.sqjudge.proofs.Counting.{more_agree}
+use Rattle.sqpage.proofs.file.PagesInMemory.{keeps_on}
+use Rattle.sqjudge.proofs.NumberedCommits.{more_agree}
 use Rattle.sqjudge.proofs.snapshot.Snapshot.is_shown.Goals as goal
 
 pub loop-i-preserved : goal.loop-i-preserved
@@ -16,14 +17,10 @@ loop-i-preserved g c =
     let long : length out ≡ length items = omega (arith, ap length c.deref_mut.ensures.value) in
     let whole : length out ≡ c.loop-i.bytes.len = omega (arith, long, c.loop-i.bytes.ok.0) in
     let kept : take c.loop-i.bytes.len (out ++ drop (length out) items) ≡ out = take_at out (drop (length out) items) c.loop-i.bytes.len whole in (
-      c.page.ensures.same_pages ∙ was.0,
-      c.page.ensures.same_size ∙ was.1,
-      ap length kept ∙ long ∙ was.2,
+      keeps_on was.0 c.page.ensures.keeps,
+      ap length kept ∙ long ∙ was.1,
       λ gives.
-          let old = was.3 gives in
-          let bytes : c.deref.result.now ≡ page d (n + 1) = c.deref.ensures.value ∙ kept ∙ (c.page.ensures.read old.0).1 ∙ ap (λ (x : Database). page x (n + 1)) was.0 in
-          let here : AgreesAt commit (n + 1) (page d (n + 1)) = subst (AgreesAt commit (n + 1)) bytes (c.agrees.ensures.0 c.if-not-agrees.false) in (
-            c.page.ensures.still_gives old.0,
-            more_agree commit d n old.1 here,
-          ),
+          let bytes : c.deref.result.now ≡ page d (n + 1) = c.deref.ensures.value ∙ kept ∙ (c.page.ensures.read (was.0.still_gives gives)).1 ∙ ap (λ (x : Database). page x (n + 1)) was.0.same_pages in
+          let here : AgreesAt commit (n + 1) (page d (n + 1)) = subst (AgreesAt commit (n + 1)) bytes (c.agrees.ensures.0 c.if-not-agrees.false) in
+          more_agree commit d n (was.2 gives) here,
     )

@@ -1,4 +1,4 @@
-use Rattle.sqjudge.proofs.LeavesAmong.{leaves_of_nothing}
+use Rattle.sqjudge.proofs.LeavesOfFreelist.{leaves_of_nothing}
 use Rattle.sqjudge.proofs.snapshot.Snapshot.nothing.Goals as goal
 
 pub returns : goal.returns

@@ -1,4 +1,4 @@
-use Rattle.sqpage.proofs.Takings.{none_taken_yet, length_unmarked}
+use Rattle.sqpage.proofs.chain.TakenPages.{none_taken_yet, length_unmarked}
 use Rattle.sqpage.proofs.free_pages.Found.none.Goals as goal
 
 pub returns-in-Ok-clause-taken : goal.returns-in-Ok-clause-taken

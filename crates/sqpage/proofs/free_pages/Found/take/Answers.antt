@@ -1,4 +1,4 @@
-use Rattle.sqpage.proofs.Takings.{takes_one}
+use Rattle.sqpage.proofs.chain.TakenPages.{takes_one}
 use Rattle.sqpage.proofs.free_pages.Found.take.Goals as goal
 
 pub returns-in-Ok-clause-ok : goal.returns-in-Ok-clause-ok

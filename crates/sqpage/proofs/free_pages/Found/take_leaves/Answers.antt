@@ -1,9 +1,9 @@
 use Rattle.std.proofs.Common.{◌++◌, ◌∷◌, [], subst, sym, ap, ◌∙◌}
 use Rattle.sqpage.specs.Lists.{each_from}
 use Rattle.sqpage.specs.Freelist.{leaf_in}
-use Rattle.sqpage.specs.Taking.{TakesAll}
-use Rattle.sqpage.proofs.ListLemmas.{each_from_snoc}
-use Rattle.sqpage.proofs.Takings.{takes_more}
+use Rattle.sqpage.specs.internal.Taking.{TakesAll}
+use Rattle.sqpage.proofs.chain.ListsByRecursion.{each_from_snoc}
+use Rattle.sqpage.proofs.chain.TakenPages.{takes_more}
 use Rattle.sqpage.proofs.free_pages.Found.take_leaves.Goals as goal
 
 pub leaves-preserved : goal.leaves-preserved

@@ -1,6 +1,6 @@
 use Rattle.sqpage.specs.Lists.{each_from}
 use Rattle.sqpage.specs.Freelist.{leaf_in}
-use Rattle.sqpage.specs.Taking.{TakesAll}
+use Rattle.sqpage.specs.internal.Taking.{TakesAll}
 use Rattle.sqpage.proofs.free_pages.Found.take_leaves.Given as goal
 
 abbrev pub invariant-leaves : goal.invariant-leaves

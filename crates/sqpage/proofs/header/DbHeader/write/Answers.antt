@@ -1,6 +1,6 @@
 use Rattle.std.proofs.Common.{List, ℕ, [], ◌∷◌, get_or, ap, ◌∙◌, sym, subst, arith}
 use Rattle.sqval.specs.PageSize.{IsPageSize}
-use Rattle.sqpage.proofs.Headers.{laid, first_words, last_words, written, same_header}
+use Rattle.sqpage.proofs.file.WrittenHeader.{laid, first_words, last_words, written, same_header}
 use Rattle.sqpage.proofs.header.DbHeader.write.Goals as goal
 
 pub returns-clause-written : goal.returns-clause-written

@@ -2,7 +2,7 @@ use Rattle.std.proofs.Common.{◌≡◌, ◌+◌, ◌-◌, ◌≤◌, ◌∙◌,
 use Rattle.std.specs.Bool.{then_some}
 use Rattle.std.proofs.lemmas.List.{length-take}
 use Rattle.sqpage.specs.Page.{Page, pointer, HasParts, if_present, has_payload}
-use Rattle.sqpage.proofs.CellLemmas.{local_within}
+use Rattle.sqpage.proofs.btree.PartsOfCells.{local_within}
 use Rattle.sqpage.proofs.page.BtreePage.cell_with.Goals as goal
 
 pub returns-clause-part : goal.returns-clause-part

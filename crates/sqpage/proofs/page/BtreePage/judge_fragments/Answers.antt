@@ -2,7 +2,7 @@ use Rattle.std.proofs.Common.{◌≡◌, ◌≢◌, ◌+◌, ◌-◌, ◌≤◌,
 use Rattle.sqpage.specs.Header.{byte}
 use Rattle.sqpage.specs.Layout.{fragments_named}
 use Rattle.sqpage.specs.Page.{Page, head_at, cell_count, content_start_in, pointer}
-use Rattle.sqpage.proofs.Layouts.{bare_is, laid_out, wrong_fragments}
+use Rattle.sqpage.proofs.btree.LayoutOfPage.{bare_is, laid_out, wrong_fragments}
 use Rattle.sqpage.proofs.page.BtreePage.judge_fragments.Goals.{then-bare-fragments-via-then-bare-fragments, then-bare-fragments-via-else-bare-fragments+then-fragments-gt-MOST_FRAGMENTS}
 use Rattle.sqpage.proofs.page.BtreePage.judge_fragments.Goals as goal
 

@@ -1,5 +1,5 @@
 use Rattle.sqpage.specs.Layout.{IsLaidOut}
-use Rattle.sqpage.proofs.Layouts.{not_laid_out, refuses_layout, on_err}
+use Rattle.sqpage.proofs.btree.LayoutOfPage.{not_laid_out, refuses_layout, on_err}
 use Rattle.sqpage.proofs.page.BtreePage.layout_in.Goals as goal
 
 pub returns-in_err-taken-clause-none : goal.returns-in_err-taken-clause-none

@@ -1,12 +1,11 @@
-use Rattle.std.proofs.Common.{◌≡◌, ◌≢◌, ◌+◌, ◌*◌, ◌≤◌, ◌<◌, ◌∙◌, ◌-◌, ℕ, List, length, sym, subst, ap, arith, rules}
-use Rattle.sqpage.specs.declared.fault.Fault.{Fault}
+use Rattle.std.proofs.Common.{◌≡◌, ◌≢◌, ◌+◌, ◌*◌, ◌≤◌, ◌<◌, ◌∙◌, ℕ, List, length, subst, ap, arith}
 use Rattle.sqpage.specs.declared.fault.Fault.TheVariants as faults
 use Rattle.sqpage.specs.Header.{half}
-use Rattle.sqpage.specs.Layout.{LayoutRefused, PointersEndBefore}
-use Rattle.sqpage.specs.Marking.{MarksFreeblocks, FreeblocksRefused, TakesBytes}
+use Rattle.sqpage.specs.Layout.{LayoutRefused}
+use Rattle.sqpage.specs.internal.Marking.{MarksFreeblocks, FreeblocksRefused, TakesBytes}
 use Rattle.sqpage.specs.Page.{Page, head_at, cell_count, content_start_in, pointer, pointers_at, pointers_end_in}
-use Rattle.sqpage.proofs.Layouts.{freeblocks_refused, pointers_reach, cells_share, all_marked, bare_is}
-use Rattle.sqpage.proofs.Layouts.{exits}
+use Rattle.sqpage.proofs.btree.LayoutOfPage.{freeblocks_refused, pointers_reach, cells_share, all_marked, bare_is}
+use Rattle.sqpage.proofs.btree.LayoutOfPage.{exits}
 use Rattle.sqpage.proofs.page.BtreePage.mark_all.Goals as goal
 
 -- what is read of the page, which is one in two ways

@@ -1,7 +1,7 @@
-use Rattle.std.proofs.Common.{◌≡◌, ℕ, ◌+◌, ◌-◌, ◌*◌, ◌<◌, ◌≤◌, ◌∙◌, length, min, ap, sym, arith}
+use Rattle.std.proofs.Common.{◌≡◌, ℕ, ◌+◌, ◌-◌, ◌*◌, ◌≤◌, ◌∙◌, length, min, ap, sym, arith}
 use Rattle.sqpage.specs.Layout.{Span}
-use Rattle.sqpage.specs.Marking.{bytes_before}
-use Rattle.sqpage.proofs.Layouts.{span_here, marking_goes_on, marking_touches}
+use Rattle.sqpage.specs.internal.Marking.{bytes_before}
+use Rattle.sqpage.proofs.btree.LayoutOfPage.{span_here, marking_goes_on, marking_touches}
 use Rattle.sqpage.proofs.page.BtreePage.mark_cells.Goals as goal
 
 pub mark-requires-clause-within : goal.mark-requires-clause-within

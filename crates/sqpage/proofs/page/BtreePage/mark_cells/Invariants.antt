@@ -1,5 +1,5 @@
 use Rattle.std.proofs.Common.{◌≡◌, ◌*◌, ◌≤◌, length}
-use Rattle.sqpage.proofs.Layouts.{Marking}
+use Rattle.sqpage.proofs.btree.LayoutOfPage.{Marking}
 use Rattle.sqpage.proofs.page.BtreePage.mark_cells.Given as goal
 
 abbrev pub invariant-cells : goal.invariant-cells

@@ -1,4 +1,4 @@
-use Rattle.std.proofs.Common.{◌<◌, ◌≤◌, ◌⊎◌, inl, inr, arith}
+use Rattle.std.proofs.Common.{inl, inr, arith}
 use Rattle.sqpage.proofs.page.BtreePage.parts.Goals as goal
 
 pub unreachable-requires : goal.unreachable-requires

@@ -1,5 +1,5 @@
 use Rattle.std.proofs.Common.{sym}
-use Rattle.sqpage.proofs.Sources.{length-sliced}
+use Rattle.sqpage.proofs.file.PagesInMemory.{length-sliced}
 use Rattle.sqpage.proofs.source.SliceSourcePageSource.count.Goals as goal
 
 pub returns : goal.returns

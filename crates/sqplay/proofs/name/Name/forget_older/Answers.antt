@@ -1,8 +1,8 @@
 use Rattle.std.proofs.Common.{List, ap, arith}
 use Rattle.crashdisk.specs.Call.{DiskState}
 use Rattle.sqplay.specs.Names.{NameState}
-use Rattle.sqplay.proofs.Lasts.{some_left}
-use Rattle.sqplay.proofs.Settling.{older_forgotten}
+use Rattle.sqplay.proofs.ChangeOfLastFile.{some_left}
+use Rattle.sqplay.proofs.ForgottenFiles.{older_forgotten}
 use Rattle.sqplay.proofs.name.Name.forget_older.Goals as goal
 
 pub returns : goal.returns

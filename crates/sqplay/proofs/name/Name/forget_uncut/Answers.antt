@@ -2,8 +2,8 @@ use Rattle.std.proofs.Common.{◌+◌, ◌-◌, List, take, ◌∙◌, ap, arith
 use Rattle.crashdisk.specs.Call.{DiskState}
 use Rattle.crashdisk.specs.declared.model.ModelDisk.{ModelDisk}
 use Rattle.sqplay.specs.Names.{NameState}
-use Rattle.sqplay.proofs.Lasts.{some_left}
-use Rattle.sqplay.proofs.Settling.{uncut_forgotten}
+use Rattle.sqplay.proofs.ChangeOfLastFile.{some_left}
+use Rattle.sqplay.proofs.ForgottenFiles.{uncut_forgotten}
 use Rattle.sqplay.proofs.name.Name.forget_uncut.Goals as goal
 
 pub returns : goal.returns

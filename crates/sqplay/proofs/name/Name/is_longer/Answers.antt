@@ -1,5 +1,5 @@
 use Rattle.std.proofs.Common.{◌-◌, arith}
-use Rattle.sqplay.proofs.Lasts.{longer, some_left, tells_less}
+use Rattle.sqplay.proofs.ChangeOfLastFile.{longer, some_left, tells_less}
 use Rattle.sqplay.proofs.name.Name.is_longer.Goals as goal
 
 pub returns : goal.returns

@@ -1,6 +1,6 @@
 use Rattle.std.proofs.Common.{◌-◌, arith}
 use Rattle.sqplay.specs.Files.{IsSynced}
-use Rattle.sqplay.proofs.Lasts.{last_goes, some_left}
+use Rattle.sqplay.proofs.ChangeOfLastFile.{last_goes, some_left}
 use Rattle.sqplay.proofs.name.Name.sync_last.Goals as goal
 
 pub returns-clause-does : goal.returns-clause-does

@@ -1,6 +1,6 @@
 use Rattle.std.proofs.Common.{◌-◌, arith}
 use Rattle.sqplay.specs.Files.{IsWritten}
-use Rattle.sqplay.proofs.Lasts.{last_goes, some_left}
+use Rattle.sqplay.proofs.ChangeOfLastFile.{last_goes, some_left}
 use Rattle.sqplay.proofs.name.Name.write.Goals as goal
 
 pub returns-clause-does : goal.returns-clause-does

@@ -2,7 +2,7 @@ use Rattle.std.proofs.Common.{inr, Bool, subst}
 use Rattle.std.proofs.lemmas.Result.{IfOk-weaker, IfErr-weaker}
 use Rattle.sqplay.specs.declared.meta.Epoch.{Epoch}
 use Rattle.sqplay.specs.Plays.{files_of, epoch_now, Follows}
-use Rattle.sqplay.proofs.Settling.{in_order, same_meta}
+use Rattle.sqplay.proofs.ForgottenFiles.{in_order, same_meta}
 use Rattle.sqplay.proofs.player.Player.play.Goals as goal
 
 pub returns-clause-step : goal.returns-clause-step

@@ -4,7 +4,7 @@ use Rattle.sqplay.specs.Plays.{files_of, Plays, PlaysRefused}
 use Rattle.sqplay.specs.declared.trace.Kind.TheVariants.{Base}
 use Rattle.sqplay.specs.declared.trace.Subject.TheVariants.{Db}
 use Rattle.sqplay.specs.declared.trace.Record.{Record}
-use Rattle.sqplay.proofs.Playing.{plays_more, plays_refused, passed}
+use Rattle.sqplay.proofs.PlayedRecords.{plays_more, plays_refused, passed}
 use Rattle.sqplay.proofs.player.Player.play_all.Goals as goal
 
 -- what stands for a record behind the last

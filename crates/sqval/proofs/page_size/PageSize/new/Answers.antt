@@ -1,6 +1,6 @@
 use Rattle.std.proofs.Common.{refl, arith}
 use Rattle.std.proofs.lemmas.Bool.Decides.{nat_tests}
-use Rattle.sqval.proofs.PageSizes.{IsOneOf, one_of, is_page_size}
+use Rattle.sqval.proofs.page.PageSizes.{IsOneOf, one_of, is_page_size}
 use Rattle.sqval.proofs.page_size.PageSize.new.Goals as goal
 
 pub invariant_of-result : goal.invariant_of-result

@@ -1,5 +1,5 @@
 use Rattle.std.proofs.Common.{◌∙◌, sym, ap, length, refl, rules}
-use Rattle.sqval.proofs.Parsing.{shown_next, shown_none, room_next}
+use Rattle.sqval.proofs.payload.SerialTypesAndBodies.{shown_next, shown_none, room_next}
 use Rattle.sqval.proofs.record.ColumnsIterator.next.Goals as goal
 
 pub returns-in_err-serial-clause-steps : goal.returns-in_err-serial-clause-steps

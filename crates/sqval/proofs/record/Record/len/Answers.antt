@@ -1,5 +1,5 @@
 use Rattle.std.proofs.Common.{◌∙◌, sym, ap, length}
-use Rattle.sqval.proofs.Parsing.{length-values_held}
+use Rattle.sqval.proofs.payload.SerialTypesAndBodies.{length-values_held}
 use Rattle.sqval.proofs.record.Record.len.Goals as goal
 
 pub returns : goal.returns

@@ -4,7 +4,7 @@ use Rattle.sqval.specs.Datum.{Datum}
 use Rattle.sqval.specs.Record.{Refused, IsRecord, most_bytes}
 use Rattle.sqval.specs.declared.error.RecordError.{RecordError}
 use Rattle.sqval.specs.declared.error.RecordError.TheVariants.{HeaderSize, BodyCut, TrailingBytes}
-use Rattle.sqval.proofs.Refusals.{refused_exactly, refused_not, reads_of, behind_refused, body_cut, trailing, whole, whole_only, whole_not}
+use Rattle.sqval.proofs.payload.UniquenessOfReading.{refused_exactly, refused_not, reads_of, behind_refused, body_cut, trailing, whole, whole_only, whole_not}
 use Rattle.sqval.proofs.record.Record.new.Goals as goal
 
 -- nothing is read where the bytes are refused

@@ -1,6 +1,6 @@
 use Rattle.std.proofs.Common.{◌≡◌, ◌-◌, ◌∙◌, length, take, drop, replicate, refl, ap, arith}
 use Rattle.std.proofs.lemmas.List.{take_rest}
-use Rattle.sqview.proofs.FileHeads.{part_copied}
+use Rattle.sqview.proofs.file.FileHeads.{part_copied}
 use Rattle.sqview.proofs.file_bytes.RefSliceU8FileBytes.read_at.Goals as goal
 
 pub returns-clause-read : goal.returns-clause-read

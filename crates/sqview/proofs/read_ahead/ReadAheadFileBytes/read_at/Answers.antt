@@ -1,7 +1,8 @@
 use Rattle.std.proofs.Common.{◌≡◌, ℕ, ◌+◌, ◌-◌, List, length, take, drop, sym, ◌∙◌, ap, subst, refl, arith}
-use Rattle.sqview.specs.Laid.{part_or_zeros, HoldsPart}
+use Rattle.sqview.specs.Laid.{part_or_zeros}
+use Rattle.sqview.specs.internal.Laid.{HoldsPart}
 use Rattle.sqview.specs.declared.read_ahead.ReadAhead.{ReadAhead}
-use Rattle.sqview.proofs.Ahead.{held_part}
+use Rattle.sqview.proofs.file.HeldPartOfFile.{held_part}
 use Rattle.sqview.proofs.read_ahead.ReadAheadFileBytes.read_at.Goals as goal
 use Rattle.sqview.proofs.read_ahead.ReadAheadFileBytes.read_at.Goals.{then-follows+then-out-len+then-is_none+in_ok-fill, else-follows}
 

@@ -1,5 +1,5 @@
 use Rattle.std.proofs.Common.{[], arith}
-use Rattle.sqview.proofs.Commits.{counts_one, counts_none, bare, own_at}
+use Rattle.sqview.proofs.openings.ViewAtCommit.{counts_one, counts_none, bare, own_at}
 use Rattle.sqview.proofs.view.View.at_within.Goals as goal
 
 pub returns-then-frame-eq0-clause-answer : goal.returns-then-frame-eq0-clause-answer

@@ -3,7 +3,7 @@ use Rattle.std.specs.Prelude.{Ok}
 use Rattle.sqval.specs.Limits.{usual}
 use Rattle.sqview.specs.Logs.{CountsAnswer}
 use Rattle.sqview.specs.declared.logs.LogInUse.{LogInUse}
-use Rattle.sqview.proofs.Opening.{alone_bare}
+use Rattle.sqview.proofs.openings.ShownOrRefusedView.{alone_bare}
 use Rattle.sqview.proofs.view.View.new_scanned.Goals as goal
 
 pub returns-in-Neither-clause-answer : goal.returns-in-Neither-clause-answer

@@ -2,7 +2,7 @@ use Rattle.std.proofs.Common.{length, ap, subst, arith}
 use Rattle.std.specs.Prelude.{Ok}
 use Rattle.sqview.specs.Logs.{CountsAnswer}
 use Rattle.sqview.specs.declared.logs.LogInUse.{LogInUse}
-use Rattle.sqview.proofs.Opening.{alone_bare}
+use Rattle.sqview.proofs.openings.ShownOrRefusedView.{alone_bare}
 use Rattle.sqview.proofs.view.View.new_within.Goals as goal
 
 pub returns-in-Neither-clause-answer : goal.returns-in-Neither-clause-answer

@@ -1,7 +1,7 @@
 use Rattle.std.proofs.Common.{◌-◌, ◌∙◌, get_or, ap}
 use Rattle.std.specs.Prelude.{unwrap_or}
 use Rattle.std.proofs.lemmas.Option.{unwrap_or-slice_get}
-use Rattle.sqwal.proofs.ScanAnswers.{copied_get}
+use Rattle.sqwal.proofs.feed.ScanAnswers.{copied_get}
 use Rattle.sqview.proofs.view.View.place.Goals as goal
 
 pub returns : goal.returns

@@ -1,5 +1,5 @@
 use Rattle.std.proofs.Common.{sym}
-use Rattle.sqview.proofs.Laying.{length_laid}
+use Rattle.sqview.proofs.openings.PagesOfView.{length_laid}
 use Rattle.sqview.proofs.view.ViewPageSource.count.Goals as goal
 
 pub returns : goal.returns

@@ -1,8 +1,8 @@
 use Rattle.std.proofs.Common.{List, ℕ, subst}
 use Rattle.sqwal.specs.Took.{TookWithin}
 use Rattle.sqview.specs.At.{AtAnswerWithin}
-use Rattle.sqview.proofs.Opening.{scanned_some, scanned_none}
-use Rattle.sqview.proofs.Commits.{at_bare}
+use Rattle.sqview.proofs.openings.ShownOrRefusedView.{scanned_some, scanned_none}
+use Rattle.sqview.proofs.openings.ViewAtCommit.{at_bare}
 use Rattle.sqview.proofs.view.at_commit.at_frame.Goals as goal
 
 pub returns-in_default-clause-answer : goal.returns-in_default-clause-answer

@@ -1,4 +1,4 @@
-use Rattle.std.proofs.Common.{rules, ◌≡◌, sym, ◌∙◌, arith}
+use Rattle.std.proofs.Common.{rules, ◌≡◌, refl, sym, ◌∙◌, arith}
 use Rattle.std.specs.Prelude.{None}
 use Rattle.sqview.proofs.view.at_commit.commit_of.Goals as goal
 
@@ -20,4 +20,4 @@ returns-then-entry-eq0 c = λ most w took is. is.1 (sym (c.in_ok-entry.ensures m
 pub returns : goal.returns
 returns c = λ most w took.
     let found = c.in_ok-entry.ensures most w took in
-    ((c.in_ok-header.ensures most w took).1.valid, found.0, λ z. c.if-entry-eq0.false (found.2 ∙ z), found.2)
+    ((c.in_ok-header.ensures most w took).1.valid, found.0, λ z. c.if-entry-eq0.false (found.2 ∙ z), found.2, refl)

@@ -1,4 +1,4 @@
-use Rattle.sqview.proofs.Commits.{front_to, front_from, alone_to, alone_from}
+use Rattle.sqview.proofs.openings.ViewAtCommit.{front_to, front_from, alone_to, alone_from}
 use Rattle.sqview.proofs.view.at_commit.front_is_shown.Goals as goal
 
 pub returns : goal.returns

@@ -1,8 +1,8 @@
 use Rattle.std.proofs.Common.{◌∙◌, ℕ, ap, subst, arith}
 use Rattle.sqwal.specs.Frames.{size_of, IsValidFrame}
 use Rattle.sqwal.specs.Header.{named_size}
-use Rattle.sqwal.proofs.ScanAnswers.{few_frames}
-use Rattle.sqview.proofs.Opening.{alone_zero, placed_logged, front_valid}
+use Rattle.sqwal.proofs.feed.ScanAnswers.{few_frames}
+use Rattle.sqview.proofs.openings.ShownOrRefusedView.{alone_zero, placed_logged, front_valid}
 use Rattle.sqview.proofs.view.opening.committed.Goals as goal
 
 pub returns-then-front-eq0-clause-answer : goal.returns-then-front-eq0-clause-answer

@@ -1,7 +1,7 @@
 use Rattle.std.proofs.Common.{ℕ, List, subst}
 use Rattle.sqwal.specs.Took.{TookWithin}
 use Rattle.sqview.specs.LogView.{ViewAnswerWithin}
-use Rattle.sqview.proofs.Opening.{answers, scan_refused, alone_bare, scanned_some, scanned_none}
+use Rattle.sqview.proofs.openings.ShownOrRefusedView.{answers, scan_refused, alone_bare, scanned_some, scanned_none}
 use Rattle.sqview.proofs.view.opening.logged.Goals as goal
 
 pub returns-in_err-scan-clause-answer : goal.returns-in_err-scan-clause-answer

@@ -1,5 +1,5 @@
 use Rattle.std.proofs.Common.{arith}
-use Rattle.sqview.proofs.Opening.{alone_bare}
+use Rattle.sqview.proofs.openings.ShownOrRefusedView.{alone_bare}
 use Rattle.sqview.proofs.view.opening.logged_by.Goals as goal
 
 pub returns-in-Some-clause-answer : goal.returns-in-Some-clause-answer

@@ -3,8 +3,8 @@ use Rattle.std.specs.Prelude.{Ok, Err}
 use Rattle.sqval.specs.PageSize.{IsPageSize}
 use Rattle.sqpage.specs.Header.{size_named, HasMagic, HasPageSize}
 use Rattle.sqview.specs.LogView.{head_of, own_pages}
-use Rattle.sqview.specs.ViewParts.{IsUnsized, LimitAnswer}
-use Rattle.sqview.proofs.Opening.{answers, own_unsized, own_limited, own_shown}
+use Rattle.sqview.specs.internal.ViewParts.{IsUnsized, LimitAnswer}
+use Rattle.sqview.proofs.openings.ShownOrRefusedView.{answers, own_unsized, own_limited, own_shown}
 use Rattle.sqview.proofs.view.opening.own.Goals as goal
 
 pub returns-in_err-head-clause-answer : goal.returns-in_err-head-clause-answer

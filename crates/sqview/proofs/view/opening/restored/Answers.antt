@@ -1,8 +1,8 @@
 use Rattle.std.proofs.Common.{◌∙◌, ℕ, List, [], refl, sym, subst}
 use Rattle.sqjournal.specs.Restored.{IsRolledBack}
 use Rattle.sqview.specs.Laid.{laid}
-use Rattle.sqview.proofs.Recorded.{read_journal, read_places, rolled_back}
-use Rattle.sqview.proofs.Opening.{answers, replay_refused, restored_limited, restored_shown}
+use Rattle.sqview.proofs.place.PlacesOfLastRecords.{read_journal, read_places, rolled_back}
+use Rattle.sqview.proofs.openings.ShownOrRefusedView.{answers, replay_refused, restored_limited, restored_shown}
 use Rattle.sqview.proofs.view.opening.restored.Goals as goal
 
 pub returns-in_err-replay-clause-answer : goal.returns-in_err-replay-clause-answer

@@ -1,5 +1,5 @@
 use Rattle.std.proofs.Common.{rules, ℕ, ◌<◌, ◌≤◌, ◌/◌, ◌^◌, subst}
-use Rattle.sqview.proofs.Limited.{count_fits}
+use Rattle.sqview.proofs.openings.PagesWithinLimit.{count_fits}
 use Rattle.sqview.proofs.view.opening.within_limit.Goals as goal
 
 pub overflow_cast-result : goal.overflow_cast-result

@@ -1,5 +1,5 @@
 use Rattle.std.proofs.Common.{◌+◌, ◌-◌, ◌/◌, ◌∙◌, ap}
-use Rattle.sqview.proofs.Origins.{frame_back}
+use Rattle.sqview.proofs.place.FrameOfPlace.{frame_back}
 use Rattle.sqview.proofs.view.origin.frame_of.Goals as goal
 
 pub returns : goal.returns

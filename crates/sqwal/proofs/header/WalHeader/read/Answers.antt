@@ -2,9 +2,9 @@ use Rattle.std.proofs.Common.{◌≡◌, ℕ, List, [], refl, sym, ◌∙◌, su
 use Rattle.sqval.specs.Bytes.{part, word}
 use Rattle.sqval.specs.PageSize.{IsPageSize}
 use Rattle.sqwal.specs.Sums.{IsSumOf}
-use Rattle.sqwal.specs.Magic.{NamesOrder}
+use Rattle.sqwal.specs.internal.Magic.{NamesOrder}
 use Rattle.sqwal.specs.declared.sum.Order.{Order}
-use Rattle.sqwal.proofs.Headers.{magic_named, not_named, sums_right, sums_wrong, header_read}
+use Rattle.sqwal.proofs.log.HeaderAsRead.{magic_named, not_named, sums_right, sums_wrong, header_read}
 use Rattle.sqwal.proofs.header.WalHeader.read.Goals as goal
 use Rattle.sqwal.proofs.header.WalHeader.read.Goals.{then-sum-word-via-then-sum-word, then-sum-word-via-else-sum-word+then-sum-word-2}
 

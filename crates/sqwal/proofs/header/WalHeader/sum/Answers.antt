@@ -1,4 +1,4 @@
-use Rattle.sqwal.proofs.HeaderWords.{sums_one}
+use Rattle.sqwal.proofs.checksum.SumsOfEqualHeaders.{sums_one}
 use Rattle.sqwal.proofs.header.WalHeader.sum.Goals as goal
 
 pub returns : goal.returns

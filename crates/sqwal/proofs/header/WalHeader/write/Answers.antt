@@ -1,7 +1,7 @@
 use Rattle.std.proofs.Common.{◌≡◌, ℕ, List, [], ◌++◌, length, refl, ◌∙◌, ap, subst, arith}
 use Rattle.std.proofs.lemmas.List.{take_at, length-take-le, length-drop}
 use Rattle.sqwal.specs.Sums.{IsSumOf}
-use Rattle.sqwal.proofs.Making.{put_two, header_made}
+use Rattle.sqwal.proofs.log.WrittenHeadersAndFrames.{put_two, header_made}
 use Rattle.sqwal.proofs.header.WalHeader.write.Goals as goal
 
 pub returns : goal.returns

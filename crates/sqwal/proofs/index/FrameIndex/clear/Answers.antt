@@ -1,8 +1,8 @@
 use Rattle.std.proofs.Common.{◌≡◌, [], List, ℕ, length, sym, ◌∙◌, ap, subst, arith}
 use Rattle.std.specs.Prelude.{vec_capacity}
 use Rattle.sqwal.specs.Index.{FrameTable}
-use Rattle.sqwal.specs.Chains.{IsIndex, table_of}
-use Rattle.sqwal.proofs.Chains.{zeros, index_cleared, table_cleared}
+use Rattle.sqwal.specs.internal.Chains.{IsIndex, table_of}
+use Rattle.sqwal.proofs.find.FrameChainsOfPages.{zeros, index_cleared, table_cleared}
 use Rattle.sqwal.proofs.index.FrameIndex.clear.Goals as goal
 
 pub invariant_of-self : goal.invariant_of-self

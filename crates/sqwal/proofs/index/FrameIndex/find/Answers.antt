@@ -1,6 +1,6 @@
 use Rattle.std.proofs.Common.{◌≡◌, ◌+◌, List, ℕ, cond, get_or, arith, ap, sym, ◌∙◌, ne_eqb, eq-eqb}
 use Rattle.std.specs.Prelude.{unwrap_or, vec_capacity}
-use Rattle.sqwal.proofs.Finding.{begin, go_on, found, unnamed_above}
+use Rattle.sqwal.proofs.find.SearchAlongChain.{begin, go_on, found, unnamed_above}
 use Rattle.sqwal.proofs.index.FrameIndex.find.Goals as goal
 
 pub loop-frame-init : goal.loop-frame-init

@@ -1,5 +1,5 @@
 use Rattle.std.proofs.Common.{◌+◌, ◌<◌, ◌^◌}
-use Rattle.sqwal.proofs.Finding.{IsOnWay}
+use Rattle.sqwal.proofs.find.SearchAlongChain.{IsOnWay}
 use Rattle.sqwal.proofs.index.FrameIndex.find.Given as goal
 
 abbrev pub invariant-loop-frame : goal.invariant-loop-frame

@@ -1,7 +1,7 @@
 use Rattle.std.proofs.Common.{◌≡◌, ◌+◌, ◌-◌, List, ℕ, length, max, sym, ◌∙◌, ap, subst, arith}
 use Rattle.std.specs.Prelude.{vec_capacity}
-use Rattle.sqwal.specs.Chains.{IsIndex, named}
-use Rattle.sqwal.proofs.Chains.{resized, index_grown, pages_grown}
+use Rattle.sqwal.specs.internal.Chains.{IsIndex, named}
+use Rattle.sqwal.proofs.find.FrameChainsOfPages.{resized, index_grown, pages_grown}
 use Rattle.sqwal.proofs.index.FrameIndex.grow.Goals as goal
 
 pub invariant_of-self-2 : goal.invariant_of-self-2

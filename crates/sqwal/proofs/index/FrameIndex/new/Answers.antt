@@ -1,4 +1,4 @@
-use Rattle.sqwal.proofs.Chains.{index_none, table_none}
+use Rattle.sqwal.proofs.find.FrameChainsOfPages.{index_none, table_none}
 use Rattle.sqwal.proofs.index.FrameIndex.new.Goals as goal
 
 pub invariant_of-result : goal.invariant_of-result

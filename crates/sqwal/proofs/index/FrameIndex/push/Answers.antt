@@ -1,8 +1,8 @@
 use Rattle.std.proofs.Common.{◌≡◌, ◌∷◌, ◌++◌, ◌+◌, [], List, ℕ, length, get_or, sym, ◌∙◌, ap, subst, arith}
 use Rattle.std.specs.Prelude.{slice_set, vec_capacity}
 use Rattle.sqwal.specs.Index.{FrameTable}
-use Rattle.sqwal.specs.Chains.{IsIndex, table_of}
-use Rattle.sqwal.proofs.Chains.{may_push, pushed, index_next, table_next}
+use Rattle.sqwal.specs.internal.Chains.{IsIndex, table_of}
+use Rattle.sqwal.proofs.find.FrameChainsOfPages.{may_push, pushed, index_next, table_next}
 use Rattle.sqwal.proofs.index.FrameIndex.push.Goals as goal
 
 pub invariant_of-self : goal.invariant_of-self

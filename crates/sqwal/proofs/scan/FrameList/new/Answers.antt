@@ -1,4 +1,4 @@
-use Rattle.sqwal.proofs.FrameSteps.{took-header}
+use Rattle.sqwal.proofs.feed.ScanWithNextFrame.{took-header}
 use Rattle.sqwal.proofs.scan.FrameList.new.Goals as goal
 
 pub returns-clause-took : goal.returns-clause-took

@@ -1,6 +1,6 @@
 use Rattle.std.proofs.Common.{[], sym, ◌∙◌}
-use Rattle.sqwal.proofs.Scanning.{some_from_is_some, none_from_is_some, took-refused}
-use Rattle.sqwal.proofs.FrameSteps.{push-keeps, push-limits, took-pushed, took-judged}
+use Rattle.sqwal.proofs.feed.ScanUnderMoreBytes.{some_from_is_some, none_from_is_some, took-refused}
+use Rattle.sqwal.proofs.feed.ScanWithNextFrame.{push-keeps, push-limits, took-pushed, took-judged}
 use Rattle.sqwal.proofs.scan.FrameList.take.Goals as goal
 
 pub returns-then-is_some-clause-took : goal.returns-then-is_some-clause-took

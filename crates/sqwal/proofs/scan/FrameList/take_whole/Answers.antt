@@ -1,7 +1,7 @@
 use Rattle.std.proofs.Common.{[], ◌++◌, refl, ◌∙◌, ap, arith}
 use Rattle.sqval.specs.Limits.{Bounds}
 use Rattle.std.proofs.lemmas.Result.{err_from_is_err_and}
-use Rattle.sqwal.proofs.FrameSteps.{come-error, come-next, come-end, keeps-keeps}
+use Rattle.sqwal.proofs.feed.ScanWithNextFrame.{come-error, come-next, come-end, keeps-keeps}
 use Rattle.sqwal.proofs.scan.FrameList.take_whole.Goals as goal
 
 pub returns-in_err-take-clause-took : goal.returns-in_err-take-clause-took

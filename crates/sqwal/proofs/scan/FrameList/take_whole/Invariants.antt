@@ -1,6 +1,6 @@
 use Rattle.std.proofs.Common.{◌≡◌, ℕ, List, [], ◌++◌, length, take}
 use Rattle.sqwal.specs.Took.{TookFrames}
-use Rattle.sqwal.proofs.FrameSteps.{HasComeTo}
+use Rattle.sqwal.proofs.feed.ScanWithNextFrame.{HasComeTo}
 use Rattle.sqwal.proofs.scan.FrameList.take_whole.Given as goal
 
 abbrev pub invariant-loop-rest : goal.invariant-loop-rest

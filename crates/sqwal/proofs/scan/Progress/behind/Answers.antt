@@ -1,5 +1,5 @@
 use Rattle.std.proofs.Common.{◌∙◌}
-use Rattle.sqwal.proofs.FrameSteps.{behind_none, behind_commit}
+use Rattle.sqwal.proofs.feed.ScanWithNextFrame.{behind_none, behind_commit}
 use Rattle.sqwal.proofs.scan.Progress.behind.Goals as goal
 use Rattle.sqwal.proofs.scan.Progress.behind.Goals.{then-entry-eq0, else-entry-eq0}
 

@@ -2,9 +2,9 @@ use Rattle.std.proofs.Common.{List, ℕ, ◌++◌, subst, append_assoc}
 use Rattle.std.proofs.lemmas.Result.{err_from_is_err_and}
 use Rattle.sqval.specs.Limits.{Bounds}
 use Rattle.sqwal.specs.Took.{TookFrames}
-use Rattle.sqwal.specs.ScanParts.{FramesRefused}
-use Rattle.sqwal.proofs.Scanning.{frames_refused-more}
-use Rattle.sqwal.proofs.Feeding.{all-kept}
+use Rattle.sqwal.specs.internal.ScanParts.{FramesRefused}
+use Rattle.sqwal.proofs.feed.ScanUnderMoreBytes.{frames_refused-more}
+use Rattle.sqwal.proofs.feed.PieceFedToScan.{all-kept}
 use Rattle.sqwal.proofs.scan.Scan.advance.Goals as goal
 
 pub returns-in_err-finish-clause-took : goal.returns-in_err-finish-clause-took

@@ -3,7 +3,7 @@ use Rattle.sqval.specs.Limits.{Bounds}
 use Rattle.std.proofs.lemmas.Result.{err_from_is_err_and}
 use Rattle.sqwal.specs.Answers.{LogRefusedWithin}
 use Rattle.sqwal.specs.declared.error.WalFormatError.{WalFormatError}
-use Rattle.sqwal.proofs.Scanning.{header-more, header_refused-more, log_refused}
+use Rattle.sqwal.proofs.feed.ScanUnderMoreBytes.{header-more, header_refused-more, log_refused}
 use Rattle.sqwal.proofs.scan.Scan.begun.Goals as goal
 
 pub returns-in_err-header : goal.returns-in_err-header

@@ -1,8 +1,8 @@
 use Rattle.std.proofs.Common.{rules, ◌≡◌, ℕ, ◌+◌, List, [], ◌∷◌, ◌++◌, sym, ◌∙◌, subst, arith}
 use Rattle.sqwal.specs.Header.{named_size}
 use Rattle.sqwal.specs.Frames.{IsFront}
-use Rattle.sqwal.specs.Commits.{AreCommitsTo}
-use Rattle.sqwal.proofs.Listing.{commits_more, commits_same, commits_all, valid_to}
+use Rattle.sqwal.specs.internal.Commits.{AreCommitsTo}
+use Rattle.sqwal.proofs.log.CommitsAmongFrames.{commits_more, commits_same, commits_all, valid_to}
 use Rattle.sqwal.proofs.scan.Scan.commits.Goals as goal
 use Rattle.sqwal.proofs.scan.Scan.commits.Goals.{then-entry-ne0+in_ok-map_err, else-entry-ne0, else-loop-before-test, then-loop-before-test+in_default}
 

@@ -1,5 +1,5 @@
 use Rattle.std.proofs.Common.{ℕ, List}
-use Rattle.sqwal.specs.Commits.{AreCommitsTo}
+use Rattle.sqwal.specs.internal.Commits.{AreCommitsTo}
 use Rattle.sqwal.specs.Header.{named_size}
 use Rattle.sqwal.specs.Took.{TookWithin}
 use Rattle.sqwal.proofs.scan.Scan.commits.Given as goal

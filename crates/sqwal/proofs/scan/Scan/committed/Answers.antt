@@ -1,4 +1,4 @@
-use Rattle.sqwal.proofs.ScanAnswers.{committed_within}
+use Rattle.sqwal.proofs.feed.ScanAnswers.{committed_within}
 use Rattle.sqwal.proofs.scan.Scan.committed.Goals as goal
 
 pub returns : goal.returns

@@ -1,5 +1,5 @@
 use Rattle.std.proofs.Common.{◌++◌, take, refl, ◌∙◌, ap}
-use Rattle.sqwal.proofs.Feeding.{fed-back}
+use Rattle.sqwal.proofs.feed.PieceFedToScan.{fed-back}
 use Rattle.sqwal.proofs.scan.Scan.complete.Goals as goal
 
 pub returns-in-Err : goal.returns-in-Err

@@ -1,7 +1,7 @@
 use Rattle.std.proofs.Common.{List, sym, subst}
 use Rattle.sqwal.specs.Answers.{AreEntriesWithin}
 use Rattle.sqwal.specs.declared.scan.Entry.{Entry}
-use Rattle.sqwal.proofs.ScanAnswers.{entries_within}
+use Rattle.sqwal.proofs.feed.ScanAnswers.{entries_within}
 use Rattle.sqwal.proofs.scan.Scan.entries.Goals as goal
 
 pub returns : goal.returns

@@ -1,6 +1,6 @@
 use Rattle.std.proofs.Common.{◌≡◌, suc, ◌∙◌, ap, arith}
 use Rattle.std.specs.Prelude.{slice_get}
-use Rattle.sqwal.proofs.ScanAnswers.{entry_found, copied_get}
+use Rattle.sqwal.proofs.feed.ScanAnswers.{entry_found, copied_get}
 use Rattle.sqwal.proofs.scan.Scan.entry.Goals as goal
 
 pub returns : goal.returns

@@ -1,6 +1,6 @@
 use Rattle.std.proofs.Common.{ℕ, subst, arith}
-use Rattle.sqwal.specs.ScanParts.{IsFed}
-use Rattle.sqwal.proofs.Feeding.{fed-answer}
+use Rattle.sqwal.specs.internal.ScanParts.{IsFed}
+use Rattle.sqwal.proofs.feed.PieceFedToScan.{fed-answer}
 use Rattle.sqwal.proofs.scan.Scan.feed.Goals as goal
 
 pub returns-in-Some : goal.returns-in-Some

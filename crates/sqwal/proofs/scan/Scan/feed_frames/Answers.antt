@@ -1,9 +1,9 @@
 use Rattle.std.proofs.Common.{◌++◌, List, ℕ, Option, refl, sym, ◌∙◌, subst}
 use Rattle.sqwal.specs.Took.{TookParts}
-use Rattle.sqwal.specs.ScanParts.{IsFed}
+use Rattle.sqwal.specs.internal.ScanParts.{IsFed}
 use Rattle.sqwal.specs.declared.header.WalHeader.{WalHeader}
-use Rattle.sqwal.proofs.Scanning.{some_from_is_some, none_from_is_some, took-refused}
-use Rattle.sqwal.proofs.Feeding.{fed-begun, is_missing, fits_in, completes}
+use Rattle.sqwal.proofs.feed.ScanUnderMoreBytes.{some_from_is_some, none_from_is_some, took-refused}
+use Rattle.sqwal.proofs.feed.PieceFedToScan.{fed-begun, is_missing, fits_in, completes}
 use Rattle.sqwal.proofs.scan.Scan.feed_frames.Goals as goal
 
 pub returns-then-is_some : goal.returns-then-is_some

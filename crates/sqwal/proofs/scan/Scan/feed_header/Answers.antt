@@ -2,7 +2,7 @@ use Rattle.std.proofs.Common.{◌++◌, List, ℕ, ◌∙◌, ap, subst, arith}
 use Rattle.std.proofs.lemmas.Result.{err_from_is_err_and}
 use Rattle.sqwal.specs.Answers.{LogRefusedWithin}
 use Rattle.sqwal.specs.Took.{TookNone, TookParts}
-use Rattle.sqwal.proofs.Feeding.{head-piece, fed-refused}
+use Rattle.sqwal.proofs.feed.PieceFedToScan.{head-piece, fed-refused}
 use Rattle.sqwal.proofs.scan.Scan.feed_header.Goals as goal
 
 pub returns-in_err-self : goal.returns-in_err-self

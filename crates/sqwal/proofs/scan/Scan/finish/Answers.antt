@@ -1,7 +1,7 @@
 use Rattle.std.proofs.Common.{[], ◌++◌, ◌∙◌, subst}
 use Rattle.std.specs.Prelude.{MatchResult}
 use Rattle.sqwal.specs.Took.{TookFrames}
-use Rattle.sqwal.specs.ScanParts.{FramesRefused}
+use Rattle.sqwal.specs.internal.ScanParts.{FramesRefused}
 use Rattle.sqwal.specs.declared.scan.Progress.{Progress}
 use Rattle.sqwal.proofs.scan.Scan.finish.Goals as goal
 

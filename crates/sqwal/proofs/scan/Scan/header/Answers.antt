@@ -1,4 +1,4 @@
-use Rattle.sqwal.proofs.ScanAnswers.{header_found}
+use Rattle.sqwal.proofs.feed.ScanAnswers.{header_found}
 use Rattle.sqwal.proofs.scan.Scan.header.Goals as goal
 
 pub returns : goal.returns

@@ -1,7 +1,7 @@
 use Rattle.std.proofs.Common.{sym, ◌∙◌, ap, ⊎_elim}
 use Rattle.std.specs.Prelude.{is_some}
-use Rattle.sqwal.proofs.Scanning.{some_from_is_some, known_or_not}
-use Rattle.sqwal.proofs.Settled.{settled_over, unsettled_open}
+use Rattle.sqwal.proofs.feed.ScanUnderMoreBytes.{some_from_is_some, known_or_not}
+use Rattle.sqwal.proofs.feed.SettledScan.{settled_over, unsettled_open}
 use Rattle.sqwal.proofs.scan.Scan.is_over.Goals as goal
 
 pub returns : goal.returns

@@ -2,7 +2,7 @@ use Rattle.std.proofs.Common.{inl, inr, sym, subst, arith}
 use Rattle.std.proofs.lemmas.Bool.{eqb-true, eqb-false}
 use Rattle.sqwal.specs.Stops.{IsStop}
 use Rattle.sqwal.specs.declared.scan.Why.{Why}
-use Rattle.sqwal.proofs.ScanAnswers.{stop_is}
+use Rattle.sqwal.proofs.feed.ScanAnswers.{stop_is}
 use Rattle.sqwal.proofs.scan.Scan.stop.Goals as goal
 use Rattle.sqwal.proofs.scan.Scan.stop.Goals.{then-is_empty, else-is_empty}
 

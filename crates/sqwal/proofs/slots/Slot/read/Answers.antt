@@ -1,5 +1,5 @@
 use Rattle.std.proofs.Common.{arith}
-use Rattle.sqwal.proofs.SlotParts.{slot_behind}
+use Rattle.sqwal.proofs.checksum.SlotParts.{slot_behind}
 use Rattle.sqwal.proofs.slots.Slot.read.Goals as goal
 
 pub returns : goal.returns

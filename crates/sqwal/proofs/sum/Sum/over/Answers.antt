@@ -1,7 +1,7 @@
 use Rattle.std.proofs.Common.{◌≡◌, List, ℕ, [], take, drop, ◌*◌, ◌<◌, ◌/◌, length, get_or, arith, sym, ◌∙◌, ap, lit≤}
 use Rattle.std.proofs.lemmas.List.{take-take}
 use Rattle.sqwal.specs.Sums.{number}
-use Rattle.sqwal.proofs.Sums.{get_or-first_chunks, goes_on_pair}
+use Rattle.sqwal.proofs.checksum.Sums.{get_or-first_chunks, goes_on_pair}
 use Rattle.sqwal.proofs.sum.Sum.over.Goals as goal
 
 pub loop-pair-preserved : goal.loop-pair-preserved

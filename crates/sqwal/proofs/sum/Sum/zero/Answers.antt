@@ -1,5 +1,5 @@
 use Rattle.std.proofs.Common.{refl}
-use Rattle.sqwal.proofs.Sums.{sum_none}
+use Rattle.sqwal.proofs.checksum.Sums.{sum_none}
 use Rattle.sqwal.proofs.sum.Sum.zero.Goals as goal
 
 pub returns : goal.returns

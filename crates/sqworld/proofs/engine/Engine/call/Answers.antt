@@ -3,7 +3,7 @@ use Rattle.sqworld.specs.Run.{act_of, answer_of, is_opening, is_crash}
 use Rattle.sqworld.specs.Engines.{Rests, EngineServes}
 use Rattle.sqworld.specs.declared.engine.Engine.{Engine}
 use Rattle.sqworld.specs.declared.engine.Engine.TheVariants.{Closed, Open}
-use Rattle.sqworld.proofs.Serving.{closed_serves, open_serves, closed_rests, open_rests}
+use Rattle.sqworld.proofs.serve.AnswersToEvents.{closed_serves, open_serves, closed_rests, open_rests}
 use Rattle.sqworld.proofs.engine.Engine.call.Goals as goal
 
 pub returns-in-Closed-clause-serves : goal.returns-in-Closed-clause-serves

@@ -1,5 +1,5 @@
 use Rattle.crashdisk.specs.Model.{state_of}
-use Rattle.sqworld.proofs.Serving.{crash_answers}
+use Rattle.sqworld.proofs.serve.AnswersToEvents.{crash_answers}
 use Rattle.sqworld.proofs.engine.Engine.crash.Goals as goal
 
 pub returns-in-Ok-clause-answers : goal.returns-in-Ok-clause-answers

@@ -1,6 +1,6 @@
 use Rattle.std.proofs.Common.{sym, ◌∙◌}
 use Rattle.crashdisk.specs.Model.{state_of}
-use Rattle.sqworld.proofs.Serving.{open_answers}
+use Rattle.sqworld.proofs.serve.AnswersToEvents.{open_answers}
 use Rattle.sqworld.proofs.engine.Engine.open.Goals as goal
 
 pub returns-in-Ok-clause-answers : goal.returns-in-Ok-clause-answers

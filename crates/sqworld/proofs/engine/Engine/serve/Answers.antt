@@ -1,4 +1,4 @@
-use Rattle.sqworld.proofs.Serving.{call_answers, not_open, not_crash}
+use Rattle.sqworld.proofs.serve.AnswersToEvents.{call_answers, not_open, not_crash}
 use Rattle.sqworld.proofs.engine.Engine.serve.Goals as goal
 
 pub returns-in-Open-clause-answers : goal.returns-in-Open-clause-answers

@@ -1,5 +1,5 @@
 use Rattle.crashdisk.specs.Model.{state_of}
-use Rattle.sqworld.proofs.JournalServing.{crash_answers}
+use Rattle.sqworld.proofs.serve.JournalAnswersToEvents.{crash_answers}
 use Rattle.sqworld.proofs.journal_engine.JournalEngine.crash.Goals as goal
 
 pub returns-in-Ok : goal.returns-in-Ok

@@ -1,7 +1,7 @@
 use Rattle.std.proofs.Common.{subst, sym, IfOk}
 use Rattle.sqworld.specs.JournalEngines.{Answers}
 use Rattle.sqworld.specs.declared.journal_event.JEvent.{JEvent}
-use Rattle.sqworld.proofs.JournalServing.{call_answers, not_open, not_crash}
+use Rattle.sqworld.proofs.serve.JournalAnswersToEvents.{call_answers, not_open, not_crash}
 use Rattle.sqworld.proofs.journal_engine.JournalEngine.serve.Goals as goal
 
 pub returns-in-Open : goal.returns-in-Open

@@ -1,4 +1,4 @@
-use Rattle.sqworld.proofs.JournalServedOnward.{run_of}
+use Rattle.sqworld.proofs.serve.JournalNextServedEvent.{run_of}
 use Rattle.sqworld.proofs.journal_world.JournalWorld.finish.Goals as goal
 
 pub returns-in-Some-clause-served : goal.returns-in-Some-clause-served

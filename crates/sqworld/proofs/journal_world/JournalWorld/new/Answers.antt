@@ -1,6 +1,6 @@
 use Rattle.std.proofs.Common.{rules, refl}
 use Rattle.sqworld.specs.declared.journal_engine.JournalEngine.TheVariants.{Closed}
-use Rattle.sqworld.proofs.JournalWorlds.{served_none, life_begins}
+use Rattle.sqworld.proofs.run.JournalNextEvent.{served_none, life_begins}
 use Rattle.sqworld.proofs.journal_world.JournalWorld.new.Goals as goal
 
 pub returns : goal.returns

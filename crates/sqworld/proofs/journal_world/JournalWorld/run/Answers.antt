@@ -1,4 +1,4 @@
-use Rattle.sqworld.proofs.JournalServedOnward.{run_of}
+use Rattle.sqworld.proofs.serve.JournalNextServedEvent.{run_of}
 use Rattle.sqworld.proofs.journal_world.JournalWorld.run.Goals as goal
 
 pub returns-clause-served : goal.returns-clause-served

@@ -1,5 +1,5 @@
 use Rattle.std.proofs.Common.{rules, refl}
-use Rattle.sqworld.proofs.JournalServedOnward.{serves_next}
+use Rattle.sqworld.proofs.serve.JournalNextServedEvent.{serves_next}
 use Rattle.sqworld.proofs.journal_world.JournalWorld.serve.Goals as goal
 
 pub returns-in-Ok-clause-serves : goal.returns-in-Ok-clause-serves

@@ -3,7 +3,7 @@ use Rattle.crashdisk.specs.Model.{state_of}
 use Rattle.sqval.specs.Answers.{Refused}
 use Rattle.walcore.specs.Machine.{Begins}
 use Rattle.walcore.specs.Refusal.{number_of}
-use Rattle.sqworld.proofs.Stepped.{stepped_still, began}
+use Rattle.sqworld.proofs.serve.CallsAsSteps.{stepped_still, began}
 use Rattle.sqworld.proofs.session.Session.begin.Goals as goal
 
 pub returns-in-Ok-clause-serves : goal.returns-in-Ok-clause-serves

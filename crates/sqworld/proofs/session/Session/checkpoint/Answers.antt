@@ -1,10 +1,11 @@
 use Rattle.std.proofs.Common.{sym}
 use Rattle.walcore.specs.Machine.{Checkpoints}
-use Rattle.walcore.specs.Fits.{answered}
 use Rattle.walcore.specs.Bringing.{answer_of as checkpoint_answer}
 use Rattle.sqworld.specs.Run.{answer_of}
-use Rattle.sqworld.proofs.Stepped.{stepped_still}
+use Rattle.sqworld.proofs.serve.CallsAsSteps.{stepped_still}
+use Rattle.recovery.specs.Moments.{answered}
+use Rattle.walcore.specs.Refusal.{number_of}
 use Rattle.sqworld.proofs.session.Session.checkpoint.Goals as goal
 
 pub returns-clause-serves : goal.returns-clause-serves
-returns-clause-serves c page_size = stepped_still page_size c.args.self.now c.checkpoint.new.self Checkpoints (answered checkpoint_answer c.checkpoint.result) (answer_of c.checkpoint_outcome.result) (sym c.checkpoint_outcome.ensures) (λ size logs calls. calls) (λ past fits may. (c.checkpoint.ensures.disk.holds tt).step past fits)
+returns-clause-serves c page_size = stepped_still page_size c.args.self.now c.checkpoint.new.self Checkpoints (answered number_of checkpoint_answer c.checkpoint.result) (answer_of c.checkpoint_outcome.result) (sym c.checkpoint_outcome.ensures) (λ size logs calls. calls) (λ past fits may. (c.checkpoint.ensures.disk.holds tt).step past fits)

@@ -1,5 +1,5 @@
 use Rattle.std.proofs.Common.{sym, ap, ◌∙◌, set}
-use Rattle.sqworld.proofs.Stepped.{ended, found_slot}
+use Rattle.sqworld.proofs.serve.CallsAsSteps.{ended, found_slot}
 use Rattle.sqworld.proofs.session.Session.end.Goals as goal
 
 pub returns-clause-serves : goal.returns-clause-serves

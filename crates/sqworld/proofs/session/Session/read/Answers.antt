@@ -1,8 +1,9 @@
 use Rattle.std.proofs.Common.{sym, ap, ◌∙◌, ◌≡◌, length, rules}
 use Rattle.sqval.specs.Answers.{Page}
-use Rattle.walcore.specs.Fits.{answered}
 use Rattle.sqworld.specs.Run.{answer_of}
-use Rattle.sqworld.proofs.Stepped.{no_read, was_read, is_token, found_slot, filled}
+use Rattle.sqworld.proofs.serve.CallsAsSteps.{no_read, was_read, is_token, found_slot, filled}
+use Rattle.recovery.specs.Moments.{answered}
+use Rattle.walcore.specs.Refusal.{number_of}
 use Rattle.sqworld.proofs.session.Session.read.Goals as goal
 
 pub returns-in_default-index-clause-serves : goal.returns-in_default-index-clause-serves
@@ -12,8 +13,8 @@ returns-in_default-index-clause-serves c = no_read c.args.page_size c.args.self.
 pub returns-clause-serves : goal.returns-clause-serves
 returns-clause-serves c =
     let long : length c.deref_mut.result.now ≡ c.args.page_size = search rules in
-    let told : answered (λ _. Page c.read-answer.new.out) c.read-answer.result ≡ answer_of c.page_outcome.result =
-    sym (c.page_outcome.ensures ∙ ap (λ b. answered (λ _. Page b) c.read-answer.result) (filled c.in_ok-out.out.items c.read-answer.new.out c.in_ok-out.out.len (search rules) (search rules))) in
-    was_read c.args.page_size c.args.self.now c.read-answer.new.self c.args.number c.args.page c.in-Some.i c.in-Some-index.reader (answered (λ _. Page c.read-answer.new.out) c.read-answer.result) (answer_of c.page_outcome.result) told c.in-Some.ensures.1 c.in-Some.ensures.0
+    let told : answered number_of (λ _. Page c.read-answer.new.out) c.read-answer.result ≡ answer_of c.page_outcome.result =
+    sym (c.page_outcome.ensures ∙ ap (λ b. answered number_of (λ _. Page b) c.read-answer.result) (filled c.in_ok-out.out.items c.read-answer.new.out c.in_ok-out.out.len (search rules) (search rules))) in
+    was_read c.args.page_size c.args.self.now c.read-answer.new.self c.args.number c.args.page c.in-Some.i c.in-Some-index.reader (answered number_of (λ _. Page c.read-answer.new.out) c.read-answer.result) (answer_of c.page_outcome.result) told c.in-Some.ensures.1 c.in-Some.ensures.0
     (found_slot c.args.self.now.slots.items c.in-Some.i c.index.result.now _ c.in-Some.ensures.0 c.index.ensures c.in-Some-index.is) (c.read-answer.ensures.disk.holds tt).looks
     (λ past n fits got size. (c.read-answer.ensures.disk.holds tt).step past n fits got (long ∙ sym size))

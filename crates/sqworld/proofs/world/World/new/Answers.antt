@@ -1,6 +1,6 @@
 use Rattle.std.proofs.Common.{rules, refl}
 use Rattle.sqworld.specs.declared.engine.Engine.TheVariants.{Closed}
-use Rattle.sqworld.proofs.Worlds.{served_none, life_begins}
+use Rattle.sqworld.proofs.run.NextEvent.{served_none, life_begins}
 use Rattle.sqworld.proofs.world.World.new.Goals as goal
 
 pub returns : goal.returns

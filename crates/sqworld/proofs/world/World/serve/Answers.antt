@@ -1,5 +1,5 @@
 use Rattle.std.proofs.Common.{rules, refl}
-use Rattle.sqworld.proofs.ServedOnward.{serves_next}
+use Rattle.sqworld.proofs.serve.NextServedEvent.{serves_next}
 use Rattle.sqworld.proofs.world.World.serve.Goals as goal
 
 pub returns-in-Ok-clause-serves : goal.returns-in-Ok-clause-serves

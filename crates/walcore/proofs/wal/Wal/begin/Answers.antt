@@ -1,6 +1,6 @@
 use Rattle.std.proofs.Common.{refl, rules}
-use Rattle.crashdisk.proofs.Stills.{still}
-use Rattle.walcore.proofs.Joining.{begin_done, begin_memory}
+use Rattle.crashdisk.proofs.call.UnchangingCalls.{still}
+use Rattle.walcore.proofs.read.StepsOfReaders.{begin_done, begin_memory}
 use Rattle.walcore.proofs.wal.Wal.begin.Goals as goal
 
 pub returns-in-Ok-clause-begins : goal.returns-in-Ok-clause-begins

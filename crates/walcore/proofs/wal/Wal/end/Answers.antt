@@ -1,7 +1,7 @@
 use Rattle.std.proofs.Common.{refl}
-use Rattle.crashdisk.proofs.Stills.{still}
-use Rattle.walcore.proofs.Readers.{mark_there}
-use Rattle.walcore.proofs.Joining.{end_done}
+use Rattle.crashdisk.proofs.call.UnchangingCalls.{still}
+use Rattle.walcore.proofs.read.MarksOfReaders.{mark_there}
+use Rattle.walcore.proofs.read.StepsOfReaders.{end_done}
 use Rattle.walcore.proofs.wal.Wal.end.Goals as goal
 
 pub returns-clause-step : goal.returns-clause-step

@@ -1,5 +1,5 @@
 use Rattle.std.proofs.Common.{arith}
-use Rattle.walcore.proofs.Viewing.{found_frame}
+use Rattle.walcore.proofs.read.ContentOfReadPage.{found_frame}
 use Rattle.walcore.proofs.wal.Wal.frame_of.Goals as goal
 
 pub returns-clause-last : goal.returns-clause-last

@@ -1,0 +1,6 @@
+pub mod Files
+pub mod Steps
+pub mod Moments
+pub mod Logs
+pub mod Histories
+pub mod internal

@@ -1,0 +1,4 @@
+-- What may be asked of a disk, what calls tell of refusals, and the invariant that they keep.
+pub mod PermittedChanges
+pub mod ToldRefusals
+pub mod InvariantsOfCalls

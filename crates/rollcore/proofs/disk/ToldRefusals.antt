@@ -1,0 +1,82 @@
+-- Calls of a disk, one after another: that one was refused is told.
+use Rattle.std.proofs.Common.{◌≡◌, ⊎_elim, ℕ, ◌≤◌, ◌*◌, List, replicate, length, refl, sym, subst, arith}
+use Rattle.std.specs.Prelude.{Result, Ok, Err}
+use Rattle.std.proofs.lemmas.Bool.{cases_lt}
+use Rattle.sqval.specs.CommitFaults.{most_bytes}
+use Rattle.crashdisk.specs.Call.{DiskState, IsSoundDisk, Change, write, sync, counted}
+use Rattle.crashdisk.specs.declared.file.File.{File}
+use Rattle.crashdisk.specs.declared.file.File.TheVariants.{Log}
+use Rattle.crashdisk.specs.declared.error.DiskError.{DiskError}
+use Rattle.crashdisk.specs.Keeps.{Still, Later, TellsRefusal}
+use Rattle.crashdisk.specs.internal.Keeps.{SyncStep}
+use Rattle.crashdisk.proofs.call.DisksAfterCalls.{later_same, later_then, later_still, later_wider, later_write, sync_later}
+use Rattle.rollcore.specs.Changes.{Asks}
+use Rattle.rollcore.specs.declared.error.RollError.{RollError}
+use Rattle.rollcore.specs.declared.error.RollError.TheVariants.{Device}
+use Rattle.recovery.specs.internal.Steps.{ZeroSteps}
+use Rattle.recovery.proofs.ToldRefusals.{tells_called, tells_ok, tells_again}
+
+-- ---- That a call was refused is told.
+
+module _ {T : Type 0} (q : Result T RollError) where
+  pub told_same : (a b : DiskState) → b.refused ≤ a.refused → TellsRefusal Device q a b
+  told_same a b le lt = absurd (omega arith)
+
+  pub told_device : (a b : DiskState) → q ≡ Err Device → TellsRefusal Device q a b
+  told_device a b is lt = is
+
+  module _ {U : Type 0} (r : Result U RollError) where
+    pub told_err : (e : RollError) (a b : DiskState) → r ≡ Err e → q ≡ Err e → TellsRefusal Device r a b → TellsRefusal Device q a b
+    told_err e a b was is told lt = (let d = told lt in cc)
+
+    pub told_then : (v : U) (a b c : DiskState) → r ≡ Ok v → TellsRefusal Device r a b → TellsRefusal Device q b c → TellsRefusal Device q a c
+    told_then v a b c was first second lt = ⊎_elim (λ early. absurd (let e = first early in cc)) (λ late. second (omega (arith, late, lt))) (cases_lt a.refused b.refused)
+
+-- a page of the size that is wanted
+pub page_within : (size : ℕ) (content : List ℕ) (number : ℕ) → length content ≡ size → number * size ≤ most_bytes → number * length content ≤ most_bytes
+page_within size content number full within = subst (λ (n : ℕ). number * n ≤ most_bytes) (sym full) within
+
+pub one_page : (size : ℕ) → size ≡ 1 * size
+one_page size = omega arith
+
+-- ---- What is asked for, as well.
+
+module _ {May : Change → Type 0} where
+  pub asks_same : {T : Type 0} (q : Result T RollError) (a : DiskState) → IsSoundDisk a → Asks May q a a
+  asks_same q a sound = record { later = later_same a sound; told = told_same q a a (omega arith) }
+
+  -- one call, that was refused or carried out
+  pub asks_device : {T : Type 0} (q : Result T RollError) (a b : DiskState) → q ≡ Err Device → Later May a b → Asks May q a b
+  asks_device q a b is later = record { later = later; told = told_device q a b is }
+
+  pub asks_done : {T U : Type 0} (q : Result T RollError) (called : Result U DiskError) (v : U) (a b : DiskState) → called ≡ Ok v → b.refused ≡ counted called a.refused → Later May a b → Asks May q a b
+  asks_done q called v a b was count later = record { later = later; told = tells_ok Device q called v a b was count }
+
+  pub asks_still : {T : Type 0} (q : Result T RollError) (a b : DiskState) → IsSoundDisk a → Still a b → TellsRefusal Device q a b → Asks May q a b
+  asks_still q a b sound is told = record { later = later_still a b sound is; told = told }
+
+  pub asks_wider : {Might : Change → Type 0} {T : Type 0} (q : Result T RollError) (a b : DiskState) → ((change : Change) → May change → Might change) → Asks May q a b → Asks Might q a b
+  asks_wider q a b more goes = record { later = later_wider a b more goes.later; told = goes.told }
+
+  pub asks_step : {T : Type 0} (f : File) (q : Result T RollError) (a b : DiskState) → May (sync f) → IsSoundDisk a → SyncStep Device f q a b → Asks May q a b
+  asks_step f q a b may sound step = record { later = sync_later Device f q a b may sound step; told = tells_called Device step.0 q a b step.2.elsewhere.refused step.1 }
+
+  module _ {T U : Type 0} (q : Result T RollError) (r : Result U RollError) where
+    pub asks_as : (v : U) (a b : DiskState) → r ≡ Ok v → Asks May r a b → Asks May q a b
+    asks_as v a b was goes = record { later = goes.later; told = tells_again Device q r v a b was goes.told }
+
+    pub asks_err : (e : RollError) (a b : DiskState) → r ≡ Err e → q ≡ Err e → Asks May r a b → Asks May q a b
+    asks_err e a b was is goes = record { later = goes.later; told = told_err q r e a b was is goes.told }
+
+    pub asks_then : (v : U) (a b c : DiskState) → r ≡ Ok v → Asks May r a b → Asks May q b c → Asks May q a c
+    asks_then v a b c was first second = record { later = later_then a b c first.later second.later; told = told_then q r v a b c was first.told second.told }
+
+  -- the journal's first header is zeroed
+  pub asks_zeros : {T : Type 0} (q : Result T RollError) (a b : DiskState) → May (write Log 0 (replicate 28 0)) → May (sync Log) → IsSoundDisk a → ZeroSteps Device 28 q a b → Asks May q a b
+  asks_zeros {T = T} q a b zeros syncs sound steps = ⊎_elim
+      (λ failed. record { later = later_write Log 0 (replicate 28 0) failed.0 a b zeros sound failed.3; told = tells_called Device failed.0 q a b failed.3.elsewhere.refused failed.2 })
+      (λ done.
+      let first : Later May a done.0 = later_write Log 0 (replicate 28 0) (Ok done.1.0) a done.0 zeros sound done.1.1 in
+      let none : Asks {T = T} May (Ok done.1.0) a done.0 = record { later = first; told = tells_ok Device (Ok done.1.0) (Ok done.1.0) done.1.0 a done.0 refl done.1.1.elsewhere.refused } in
+      asks_then q (Ok done.1.0) done.1.0 a done.0 b refl none (asks_step Log q done.0 b syncs first.sound done.2))
+      steps

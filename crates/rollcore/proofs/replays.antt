@@ -1,0 +1,14 @@
+-- The replay of a hot journal into its file: scan, plan, copy, end, and what is shown meanwhile.
+pub mod RefusedScans
+pub mod LastRecordOfPage
+pub mod ScanOfLogPrefix
+pub mod CopiedPages
+pub mod ShownDatabaseDuringWrites
+pub mod ZeroedHeader
+pub mod ShownDatabaseDuringZeroing
+pub mod FinalSteps
+pub mod ShownDatabaseAtExits
+pub mod PlanOfScannedLog
+pub mod DecisivePrefixOfJournal
+pub mod AnswerOfParts
+pub mod LengthOfDatabaseFile

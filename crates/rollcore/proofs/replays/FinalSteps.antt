@@ -1,0 +1,73 @@
+-- The end of a replay: the database is synced, and the journal's first header zeroed and synced.
+use Rattle.std.proofs.Common.{◌≡◌, inr, ⊎_elim, ℕ, ◌+◌, ◌-◌, ◌≤◌, List, length, get_or, drop, replicate, refl, sym, ◌∙◌, ap, subst, arith, length-append, length-drop}
+use Rattle.std.specs.Prelude.{Result, Ok, Err}
+use Rattle.std.proofs.lemmas.List.{length-replicate, get_or-replicate, get_or_append_left, get_or-append_right, get_or-drop}
+use Rattle.std.proofs.lemmas.Bool.{cases_lt}
+use Rattle.crashdisk.specs.State.{FileState, IsSettled}
+use Rattle.crashdisk.specs.Call.{DiskState, IsSoundDisk, ArePresent, Writes, Syncs}
+use Rattle.crashdisk.specs.internal.Call.{InFile}
+use Rattle.crashdisk.specs.declared.file.File.TheVariants.{Db, Log}
+use Rattle.crashdisk.specs.declared.error.DiskError.{DiskError}
+use Rattle.crashdisk.proofs.call.EffectsOfCalls.{present_written}
+use Rattle.crashdisk.proofs.call.SoundFileUnderChanges.{written_inside, written_outside}
+use Rattle.crashdisk.proofs.call.SoundDiskUnderCalls.{sound_writes}
+use Rattle.rollcore.specs.Replaying.{zeroed}
+use Rattle.crashdisk.specs.Keeps.{HadRefusal, IsLogDown, Later}
+use Rattle.crashdisk.specs.internal.Keeps.{SyncStep}
+use Rattle.rollcore.specs.internal.Steps.{EndAnswer}
+use Rattle.rollcore.specs.declared.error.RollError.{RollError}
+use Rattle.rollcore.specs.declared.error.RollError.TheVariants.{Device}
+use Rattle.crashdisk.proofs.call.UnchangingCalls.{refusal_after}
+use Rattle.crashdisk.proofs.sync.BytesOfSyncedLog.{present_byte, synced_down}
+use Rattle.crashdisk.proofs.call.DisksAfterCalls.{told_ok, none_ok, sync_later, sync_done}
+use Rattle.recovery.specs.internal.Steps.{ZeroSteps}
+use Rattle.recovery.proofs.AnswersOfSteps.{zero_db}
+
+module _ {T : Type 0} where
+  -- ---- The header is zeroed.
+
+  zero_present : (u : T) (w : List ℕ) (a b : DiskState) → ArePresent a.log w → 28 ≤ length w → Writes Log 0 (replicate 28 0) (Ok u) a b → ArePresent b.log (zeroed w)
+  zero_present u w a b are enough wrote =
+      let front : length {A = ℕ} (replicate 28 0) ≡ 28 = length-replicate {A = ℕ} 28 0 in
+      let long : length (zeroed w) ≡ length w = omega (arith, length-append {A = ℕ} (replicate 28 0) (drop 28 w), front, length-drop 28 w) in
+      record {
+        len = omega (arith, long, are.len, wrote.file.1.len, front, enough);
+        each = λ i lt. ⊎_elim
+            (λ first. get_or_append_left {A = ℕ} (replicate 28 0) (drop 28 w) 0 i (omega (arith, front)) ∙ get_or-replicate 28 i 0 0 first
+            ∙ sym (present_written Log 0 (replicate 28 0) a b wrote i ∙ written_inside a.log 0 (replicate 28 0) i (omega arith) (omega (arith, front)) ∙ ap (λ n. get_or {A = ℕ} (replicate 28 0) n 0) (less_zero i) ∙ get_or-replicate 28 i 0 0 first))
+            (λ rest. get_or-append_right (replicate 28 0) (drop 28 w) 28 i 0 front rest ∙ get_or-drop 28 w (i - 28) 0 ∙ ap (λ n. get_or w n 0) (back i rest)
+            ∙ present_byte a.log w are i ∙ sym (present_written Log 0 (replicate 28 0) a b wrote i ∙ written_outside a.log 0 (replicate 28 0) i (inr (omega (arith, front, rest)))))
+            (cases_lt i 28);
+      }
+    where
+      less_zero : (i : ℕ) → i - 0 ≡ i
+      less_zero i = omega arith
+
+      back : (i : ℕ) → 28 ≤ i → 28 + (i - 28) ≡ i
+      back i le = omega arith
+
+  pub sync_down : (r : Result T RollError) (v : T) (w : List ℕ) (a b : DiskState) → IsSoundDisk a → r ≡ Ok v → SyncStep Device Log r a b → ArePresent a.log w → IsLogDown b w
+  sync_down r v w a b sound is step are =
+      let t = told_ok Device step.0 r v is step.1 in
+      synced_down w a b sound are (subst (λ (x : Result T DiskError). Syncs Log x a b) t.1 step.2)
+
+  pub zero_done : (r : Result T RollError) (v : T) (w : List ℕ) (a b : DiskState) → IsSoundDisk a → r ≡ Ok v → ZeroSteps Device 28 r a b → ArePresent a.log w → 28 ≤ length w → IsLogDown b (zeroed w)
+  zero_done r v w a b sound is steps are enough = ⊎_elim
+      (λ failed. absurd (none_ok Device failed.0 r v failed.1 is failed.2))
+      (λ done. let mid = sound_writes Log 0 (replicate 28 0) (Ok done.1.0) a done.0 sound done.1.1 in
+      sync_down r v (zeroed w) done.0 b mid is done.2 (zero_present done.1.0 w a done.0 are enough done.1.1))
+      steps
+
+  -- ---- All of it.
+
+  pub end_refused : {U : Type 0} (r : Result T RollError) (q : Result U RollError) (e : RollError) (a b c : DiskState) → a.refused ≤ b.refused → q ≡ Err e → (e ≡ Device) × HadRefusal b c → EndAnswer q a c
+  unfolding EndAnswer
+  end_refused {U = U} r q e a b c le is had = subst (λ (x : Result U RollError). EndAnswer x a c) (sym is) (had.0, refusal_after a b c le had.1)
+
+  pub end_done : (r1 r2 : Result T RollError) (v1 v2 : T) (a b c : DiskState) → IsSoundDisk a → r1 ≡ Ok v1 → r2 ≡ Ok v2 → SyncStep Device Db r1 a b → ZeroSteps Device 28 r2 b c → EndAnswer {T = T} (Ok v2) a c
+  unfolding EndAnswer
+  end_done r1 r2 v1 v2 a b c sound is1 is2 first second =
+      let at_b : Later (InFile Db) a b = sync_later Device Db r1 a b refl sound first in (
+        λ db are. subst (λ (s : FileState). IsSettled s db) (sym (zero_db Device 28 r2 b c second)) (sync_done Device Db r1 v1 db a b sound is1 first are),
+        λ w are enough. zero_done r2 v2 w b c at_b.sound is2 second (subst (λ (s : FileState). ArePresent s w) (sym first.2.elsewhere.other) are) enough,
+      )

@@ -1,0 +1,55 @@
+-- The two ends of a check.
+use Rattle.std.proofs.Common.{◌≡◌, ◌≢◌, ◌<◌, ℕ, ◌-◌, [], Bool, true, false, not, eqb, eq-eqb, ◌∷◌, length, ⊎_elim, refl, sym, ap, ◌∙◌, inr, arith}
+use Rattle.std.proofs.lemmas.Bool.{eqb-true}
+use Rattle.sqpage.specs.Lists.{Every}
+use Rattle.sqcheck.proofs.checks.ListsByRecursion.{either}
+use Rattle.sqpage.specs.declared.fault.Fault.{Fault}
+use Rattle.sqpage.specs.declared.fault.Fault.TheVariants as faults
+use Rattle.sqcheck.specs.Stands.{StandsWith}
+use Rattle.sqval.specs.Database.{Database, page}
+use Rattle.sqpage.specs.Freelist.{usable_size}
+use Rattle.sqpage.specs.Header.{HasMagic, byte}
+use Rattle.sqpage.specs.declared.header.DbHeader.{DbHeader}
+use Rattle.sqcheck.specs.internal.Heading.{HasHeaderOf, HeaderFault}
+use Rattle.sqcheck.specs.WellFormed.{HasSoundHeader}
+use Rattle.sqcheck.specs.internal.Checking.{KnowsMaps}
+
+-- A source of no pages has no header.
+pub no_magic : (d : Database) → length d ≡ 0 → ¬ HasMagic (page d 1)
+unfolding page
+no_magic [] e h = cc
+no_magic (b ∷ d) e h = absurd (omega (arith, e))
+
+pub header_sound : (maps : Bool) (d : Database) (h : DbHeader) (size of : ℕ) → size ≡ of → HasHeaderOf maps h size (page d 1) → HasSoundHeader maps d of
+header_sound maps d h size of e is = record { magic = is.magic; page_size = is.page_size ∙ e; fractions = is.fractions; room = is.room; plain = is.plain; incremental = is.incremental }
+
+-- What is wrong with the header stands at page 1.
+pub header_stands : (maps : Bool) (d : Database) (size of : ℕ) (fault : Fault) → size ≡ of → HeaderFault maps fault size (page d 1) → StandsWith maps d of fault 1
+header_stands maps d size of faults.Magic e h = (refl, h)
+header_stands maps d size of faults.PageSize e h = (refl, inr (λ same. h.1 (same ∙ sym e)))
+header_stands maps d size of faults.Fraction e h = (refl, h.2)
+header_stands maps d size of faults.Reserved e h = (refl, h.3)
+header_stands maps d size of faults.AutoVacuum e h = (refl, h.4, h.5)
+header_stands maps d size of faults.PointerMap e h = inr (refl, h.4, h.5, λ auto. auto h.6)
+header_stands maps d size of _ e h = absurd h
+
+-- What the header says of pointer maps.
+pub knows_maps : (maps : Bool) (d : Database) (h : DbHeader) (size : ℕ) → length (page d 1) ≡ size → HasHeaderOf maps h size (page d 1) → KnowsMaps d (not (eqb h.largest_root 0)) size h.reserved
+knows_maps maps d h size long is = record {
+  long = long;
+  usable = ap (λ n. n - byte (page d 1) 20) long ∙ ap (λ n. size - n) (sym is.reserved);
+  auto = λ used zero'. absurd (let both : false ≡ true = sym (ap not (eq-eqb h.largest_root 0 (is.largest_root ∙ zero'))) ∙ used in cc);
+  plain = λ unused. sym is.largest_root ∙ ⊎_elim (λ yes. eqb-true h.largest_root 0 yes) (λ no. absurd (let both : true ≡ false = sym (ap not no) ∙ unused in cc)) (either (eqb h.largest_root 0));
+}
+
+-- The first page is as long as all are.
+pub first_sized : (d : Database) (size n : ℕ) → n ≡ length d → n ≢ 0 → Every (λ b. length b ≡ size) d → length (page d 1) ≡ size
+unfolding page
+first_sized [] size n e ne h = absurd (ne e)
+first_sized (b ∷ d) size n e ne h = h.0
+
+-- Without a page no byte is used.
+pub none_used : (d : Database) → length d ≡ 0 → usable_size d < 480
+unfolding page
+none_used [] e = omega arith
+none_used (b ∷ d) e = absurd (omega (arith, e))

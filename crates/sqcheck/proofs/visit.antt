@@ -1,0 +1,7 @@
+-- The walk over pages: agenda, items, marks, freelist trunks, what a visitor is told.
+pub mod MarkedPages
+pub mod AgendaOfWalk
+pub mod FreelistTrunks
+pub mod FollowedItem
+pub mod StepsOfWalk
+pub mod VisitedPlaces

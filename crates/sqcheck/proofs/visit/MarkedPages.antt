@@ -1,0 +1,40 @@
+-- Marks on the pages that were taken.
+use Rattle.std.proofs.Common.{◌≡◌, ◌∙◌, ◌⊎◌, ℕ, ◌-◌, ◌<◌, ◌≤◌, List, length, get_or, set, Bool, true, false, not, count_by, refl, sym, ap, subst, inl, inr, ⊎_elim}
+use Rattle.sqpage.specs.internal.Taking.{is_marked}
+use Rattle.sqval.specs.Bytes.{word}
+use Rattle.sqval.specs.Database.{Database, page}
+use Rattle.sqpage.specs.PointerMaps.{lock_byte_page, IsPointerMap}
+use Rattle.sqpage.specs.Freelist.{IsWithin, usable_size}
+use Rattle.sqcheck.specs.WellFormed.{IsAutoVacuum}
+use Rattle.sqcheck.specs.internal.Agenda.{MarksAside}
+use Rattle.sqcheck.specs.internal.Checking.{MarksOne, MarksMaps}
+use Rattle.sqpage.proofs.chain.TakenPages.{fewer_unmarked}
+
+pub fewer_left : (marks : List Bool) (p : ℕ) → 0 < p → p ≤ length marks → get_or marks (p - 1) false ≡ false → count_by not (set marks (p - 1) true) < count_by not marks
+fewer_left marks p above within was = fewer_unmarked marks (set marks (p - 1) true) p (record { above = above; within = within; was = was; now_marked = refl })
+
+-- Marked besides are the pointer maps among the first pages.
+pub record MarkedTo (size usable : ℕ) (old new : List Bool) (n : ℕ) : Type 0 where
+  pub below : (p : ℕ) → 0 < p → p ≤ n → (is_marked new p ≡ true → (is_marked old p ≡ true) ⊎ IsPointerMap size usable p) × ((is_marked old p ≡ true) ⊎ IsPointerMap size usable p → is_marked new p ≡ true)
+  pub above : (p : ℕ) → n < p → is_marked new p ≡ is_marked old p
+
+-- Without auto-vacuum the lock-byte page alone is set aside.
+pub aside_marked : (d : Database) (marks : List Bool) (size : ℕ) → length (page d 1) ≡ size → word (page d 1) 52 ≡ 0
+    → MarksOne marks (lock_byte_page size) → MarksAside d marks
+aside_marked d marks size long plain one p within =
+    let at = ap lock_byte_page long in (
+      (λ marked. inl ((one p within).0 marked ∙ sym at)),
+      (λ aside. ⊎_elim (λ lock. (one p within).1 (lock ∙ at)) (λ maps. absurd (maps.0 plain)) aside),
+    )
+
+-- With it the pointer maps are too.
+pub maps_marked : (d : Database) (marks new : List Bool) (size usable : ℕ) → length (page d 1) ≡ size → usable_size d ≡ usable → IsAutoVacuum d → length new ≡ length marks
+    → MarksOne marks (lock_byte_page size) → MarksMaps size usable marks new → MarksAside d new
+maps_marked d marks new size usable long used auto same one maps p within =
+    let at = ap lock_byte_page long in
+    let here : IsWithin (length marks) p = subst (λ n. IsWithin n p) same within in
+    let there : IsPointerMap (length (page d 1)) (usable_size d) p → IsPointerMap size usable p = λ h. subst (λ u. IsPointerMap size u p) used (subst (λ n. IsPointerMap n (usable_size d) p) long h) in
+    let back : IsPointerMap size usable p → IsPointerMap (length (page d 1)) (usable_size d) p = λ h. subst (λ n. IsPointerMap n (usable_size d) p) (sym long) (subst (λ u. IsPointerMap size u p) (sym used) h) in (
+      (λ marked. ⊎_elim (λ was. inl ((one p here).0 was ∙ sym at)) (λ map. inr (auto, back map)) ((maps p here).0 marked)),
+      (λ aside. ⊎_elim (λ lock. (maps p here).1 (inl ((one p here).1 (lock ∙ at)))) (λ map. (maps p here).1 (inr (there map.1))) aside),
+    )

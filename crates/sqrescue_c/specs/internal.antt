@@ -1,0 +1,4 @@
+-- What no public clause reaches.
+pub mod Statuses
+pub mod Logs
+pub mod Journals

@@ -1,0 +1,4 @@
+-- What no public clause reaches.
+pub mod Shown
+pub mod Shortest
+pub mod JudgedPages

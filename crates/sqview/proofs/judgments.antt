@@ -1,0 +1,2 @@
+-- The verdict on files.
+pub mod VerdictOnFiles

@@ -1,0 +1,4 @@
+-- The places of pages in a log or a journal.
+pub mod PlacesOfLastRecords
+pub mod PlacesOfLastFrames
+pub mod FrameOfPlace

@@ -1,0 +1,241 @@
+-- The places of a journal's last records.
+use Rattle.std.proofs.Common.{◌≡◌, ◌≢◌, ◌⊎◌, inl, inr, ⊎_elim, ℕ, ◌+◌, ◌-◌, ◌*◌, ◌/◌, ◌^◌, ◌<◌, ◌≤◌, cond, true, false, List, [], ◌∷◌, ◌++◌, map, length, drop, get_or, refl, sym, ◌∙◌, ap, subst, arith, eq-eqb, ne_eqb, length-append, reverse}
+use Rattle.std.specs.Prelude.{◌==◌, Some, None, unwrap_or, slice_get}
+use Rattle.std.proofs.lemmas.Bool.{cases_lt, cases_eq}
+use Rattle.std.proofs.lemmas.List.{append-nil, reverse-append, drop_more, drop_all}
+use Rattle.std.proofs.lemmas.Option.{slice_get_within, get_or_from_slice_get, slice_get-get_or}
+use Rattle.std.proofs.Math.Nat.{lt-div-mul-add}
+use Rattle.sqval.specs.Bytes.{part, word}
+use Rattle.sqval.specs.Database.{Pages, file_page, supplied}
+use Rattle.sqjournal.specs.Header.{next_header}
+use Rattle.sqjournal.specs.Journal.{Segment, Sizes, sizes_of, record_len, records_end, AreRecords, AreSegments, IsHot, IsJournal, placed, entries}
+use Rattle.sqjournal.specs.Restored.{all_records, last_content, IsRolledBack}
+use Rattle.sqjournal.specs.Took.{Took, HasEntry, Says}
+use Rattle.sqjournal.specs.declared.replay.Replay.{Replay}
+use Rattle.sqjournal.specs.declared.reading.Record.{Record}
+use Rattle.sqjournal.specs.declared.reading.Why.{Why}
+use Rattle.sqjournal.specs.declared.replay.Stop.{Stop}
+use Rattle.sqjournal.proofs.journal.RecordsOfEntries.{content_at, contents}
+use Rattle.sqjournal.proofs.read.JournalOfTakenBytes.{size_bounds}
+use Rattle.sqjournal.proofs.read.BytesTakenByReplay.{has_entry}
+use Rattle.sqjournal.proofs.read.UniquenessOfReading.{one_journal}
+use Rattle.sqview.specs.Laid.{part_or_zeros, place_of, laid}
+use Rattle.sqview.specs.Logs.{HasRead}
+use Rattle.sqview.specs.internal.ViewParts.{last_place, Noted, AreNoted, AreRecordPlaces}
+use Rattle.sqview.proofs.file.FileHeads.{part_is}
+use Rattle.sqview.proofs.openings.PagesOfView.{length_laid, page_laid, laid_own, laid_log}
+
+-- ---- Each entry is the place of a whole page, above 0.
+
+AreWithin : (size long : ℕ) → List Record → Type 0
+AreWithin size long [] = Unit {0}
+AreWithin size long (e ∷ es) = (0 < e.at) × (e.at + size ≤ long) × AreWithin size long es
+
+within_more : (size long : ℕ) (es fs : List Record) → AreWithin size long es → AreWithin size long fs → AreWithin size long (es ++ fs)
+unfolding AreWithin
+within_more size long [] fs a b = b
+within_more size long (e ∷ es) fs a b = (a.0, a.1, within_more size long es fs a.2 b)
+
+within_placed : (z : Sizes) (b : List ℕ) (nonce at : ℕ) (rs : Pages) → AreRecords z b nonce at rs → AreWithin z.page (length b) (placed z at rs)
+unfolding AreWithin
+within_placed z b nonce at [] are = tt
+within_placed z b nonce at (r ∷ rs) are = (omega arith, omega (arith, are.0.whole), within_placed z b nonce (at + record_len z) rs are.1)
+
+within_entries : (z : Sizes) (b : List ℕ) (from : ℕ) (ss : List Segment) (stop : ℕ) (why : Why) → AreSegments z b from ss stop why → AreWithin z.page (length b) (entries z from ss)
+unfolding AreWithin
+within_entries z b from [] stop why are = tt
+within_entries z b from (s ∷ ss) stop why are =
+    let next = next_header z.sector (records_end z (from + z.sector) s.records) in
+    within_more z.page (length b) (placed z (from + z.sector) s.records) (entries z next ss) (within_placed z b s.nonce (from + z.sector) s.records are.3) (⊎_elim
+    (λ all. within_entries z b next ss stop why all.1)
+    (λ few. subst (λ (l : List Segment). AreWithin z.page (length b) (entries z next l)) (sym few.1) tt) are.4)
+
+-- ---- There are fewer entries than bytes.
+
+not_below : (sector end : ℕ) → 0 < sector → end ≤ next_header sector end
+not_below sector end pos = let up : end + sector - 1 < (end + sector - 1) / sector * sector + sector = lt-div-mul-add pos in omega arith
+
+few_placed : (z : Sizes) (b : List ℕ) (nonce at : ℕ) (rs : Pages) → AreRecords z b nonce at rs
+    → (length (placed z at rs) + at ≤ records_end z at rs) × ((records_end z at rs ≤ length b) ⊎ (records_end z at rs ≡ at))
+few_placed z b nonce at [] are = (omega arith, inr refl)
+few_placed z b nonce at (r ∷ rs) are =
+    let rest = few_placed z b nonce (at + record_len z) rs are.1 in
+    (omega (arith, rest.0), inl (⊎_elim (λ le. le) (λ e. omega (arith, are.0.whole)) rest.1))
+
+few_entries : (z : Sizes) (b : List ℕ) (from : ℕ) (ss : List Segment) (stop : ℕ) (why : Why) → 0 < z.sector → AreSegments z b from ss stop why → length (entries z from ss) ≤ length b - from
+few_entries z b from [] stop why pos are = omega arith
+few_entries z b from (s ∷ ss) stop why pos are =
+    let end = records_end z (from + z.sector) s.records in
+    let next = next_header z.sector end in
+    let here = few_placed z b s.nonce (from + z.sector) s.records are.3 in
+    let up : end ≤ next = not_below z.sector end pos in
+    let rest : length (entries z next ss) ≤ length b - next = ⊎_elim (λ all. few_entries z b next ss stop why pos all.1)
+    (λ few. subst (λ (l : List Segment). length (entries z next l) ≤ length b - next) (sym few.1) (let none : 0 ≤ length b - next = omega arith in none)) are.4 in
+    let both : length (placed z (from + z.sector) s.records ++ entries z next ss) ≡ length (placed z (from + z.sector) s.records) + length (entries z next ss) = length-append (placed z (from + z.sector) s.records) (entries z next ss) in
+    ⊎_elim (λ le. omega (arith, here.0, are.0.whole)) (λ e. omega (arith, here.0, are.0.whole)) here.1
+
+pub few : (b : List ℕ) (segments : List Segment) (at : ℕ) (why : Why) → IsJournal b segments at why → length (entries (sizes_of b) 0 segments) ≤ length b
+few b segments at why is = ⊎_elim
+    (λ hot. let bounds = size_bounds (word b 20) hot.0.first.sector in let r : length (entries (sizes_of b) 0 segments) ≤ length b - 0 = few_entries (sizes_of b) b 0 segments at why (omega (arith, bounds.0)) hot.1 in omega arith)
+    (λ cold. subst (λ (l : List Segment). length (entries (sizes_of b) 0 l) ≤ length b) (sym cold.1) (let none : 0 ≤ length b = omega arith in none)) is
+
+-- ---- What the last place holds.
+
+value : (size : ℕ) (b : List ℕ) (x : List ℕ) → (at : ℕ) → List ℕ
+value size b x at = cond (at == 0) x (part b at size)
+
+value_none : (size : ℕ) (b x : List ℕ) (at : ℕ) → at ≡ 0 → value size b x at ≡ x
+unfolding value
+value_none size b x at e = let t : (at == 0) ≡ true = eq-eqb at 0 e in rw t refl
+
+value_some : (size : ℕ) (b x : List ℕ) (at : ℕ) → at ≢ 0 → value size b x at ≡ part b at size
+unfolding value
+value_some size b x at ne = let t : (at == 0) ≡ false = ne_eqb at 0 ne in rw t refl
+
+supplied_more : (xs ys : Pages) (p : ℕ) (x : List ℕ) → unwrap_or (supplied (xs ++ ys) p) x ≡ unwrap_or (supplied xs p) (unwrap_or (supplied ys p) x)
+supplied_more [] ys p x = refl
+supplied_more (y ∷ xs) ys p x = elim (y.0 == p) as (λ t. unwrap_or (cond t (Some y.1) (supplied (xs ++ ys) p)) x ≡ unwrap_or (cond t (Some y.1) (supplied xs p)) (unwrap_or (supplied ys p) x)) [
+  | true ↦ refl
+  | false ↦ supplied_more xs ys p x
+]
+
+module _ (z : Sizes) (b : List ℕ) (p : ℕ) (x : List ℕ) where
+  one_more : (e : Record) (was : ℕ) → 0 < e.at → unwrap_or (supplied (content_at z b e ∷ []) p) (value z.page b x was) ≡ value z.page b x (cond (e.page == p) e.at was)
+  one_more e was some = elim (e.page == p) as (λ t. unwrap_or (cond t (Some (part b e.at z.page)) None) (value z.page b x was) ≡ value z.page b x (cond t e.at was)) [
+    | true ↦ sym (value_some z.page b x e.at (λ zero. omega arith))
+    | false ↦ refl
+  ]
+
+  last_value : (es : List Record) (was : ℕ) → AreWithin z.page (length b) es
+      → unwrap_or (supplied (reverse (map (content_at z b) es)) p) (value z.page b x was) ≡ value z.page b x (last_place es p was)
+  unfolding AreWithin
+  last_value [] was are = refl
+  last_value (e ∷ es) was are =
+      let rest = reverse (map (content_at z b) es) in
+      let one = content_at z b e ∷ [] in
+      let split : reverse (one ++ map (content_at z b) es) ≡ rest ++ one = reverse-append one (map (content_at z b) es) in
+      ap (λ l. unwrap_or (supplied l p) (value z.page b x was)) split ∙ supplied_more rest one p (value z.page b x was)
+      ∙ ap (λ v. unwrap_or (supplied rest p) v) (one_more e was are.0)
+      ∙ last_value es (cond (e.page == p) e.at was) are.2
+
+  -- the last of them is within the journal
+  last_within : (es : List Record) (was : ℕ) → AreWithin z.page (length b) es → (was ≢ 0 → was + z.page ≤ length b) → last_place es p was ≢ 0 → last_place es p was + z.page ≤ length b
+  unfolding AreWithin
+  last_within [] was are old = old
+  last_within (e ∷ es) was are old = last_within es (cond (e.page == p) e.at was) are.2
+      (elim (e.page == p) as (λ t. cond t e.at was ≢ 0 → cond t e.at was + z.page ≤ length b) [ true ↦ (λ _. are.1) | false ↦ old ])
+
+-- ---- Putting the places down.
+
+same_entries : (b : List ℕ) (ss us : List Segment) (m n : ℕ) (v w : Why) → IsJournal b ss m v → IsJournal b us n w → entries (sizes_of b) 0 ss ≡ entries (sizes_of b) 0 us
+same_entries b ss us m n v w p q = ap (λ l. entries (sizes_of b) 0 l) (one_journal b ss us m n v w p q).0
+
+pub noted_none : (r : Replay) (count : ℕ) (places : List ℕ) → length places ≡ count → ((i : ℕ) → get_or places i 0 ≡ 0) → AreNoted r 0 count places
+noted_none r count places long zeros b segments at why t is p one le = ap (λ w. last_place (entries (sizes_of b) 0 segments) p w) (zeros (p - 1))
+
+pub noted_more : (r : Replay) (i count : ℕ) (old new : List ℕ) (e : Record) → 1 ≤ i → length old ≡ count → AreNoted r (i - 1) count old → Noted e.page e.at old new
+    → ((b : List ℕ) → Took b r → HasEntry b i (Some e)) → AreNoted r i count new
+noted_more r i count old new e some long are noted has b segments at why t is p one le =
+    let h = has b t in
+    let es = entries (sizes_of b) 0 segments in
+    let k = i - 1 in
+    let ne : (i == 0) ≡ false = ne_eqb i 0 (λ z. omega arith) in
+    let here : slice_get es k ≡ Some e =
+    ap (λ l. slice_get l k) (same_entries b segments h.segments at h.stop.at why h.stop.why is h.is)
+    ∙ sym (h.value ∙ rw ne refl) in
+    let lt : k < length es = slice_get_within es k e here in
+    let at_k : get_or es k e ≡ e = get_or_from_slice_get es k e e here in
+    let next : k + 1 ≡ i = omega arith in
+    let split : drop k es ≡ e ∷ drop i es = drop_more es k e lt ∙ ap (λ x. x ∷ drop (k + 1) es) at_k ∙ ap (λ n. e ∷ drop n es) next in
+    ap (λ w. last_place (drop i es) p w) (noted.1 p one (omega arith))
+    ∙ sym (ap (λ l. last_place l p (place_of old p)) split) ∙ are b segments at why t is p one le
+
+pub noted_all : (r : Replay) (n count : ℕ) (places : List ℕ) (b : List ℕ) → length places ≡ count → AreNoted r n count places → Took b r
+    → ((segments : List Segment) (at : ℕ) (why : Why) → IsJournal b segments at why → length (entries (sizes_of b) 0 segments) ≤ n) → AreRecordPlaces b count places
+noted_all r n count places b long are t most = record {
+  long = long;
+  each = λ segments at why is p one le.
+      ap (λ l. last_place l p (place_of places p)) (sym (drop_all n (entries (sizes_of b) 0 segments) (most segments at why is))) ∙ are b segments at why t is p one le;
+}
+
+pub noted_end : (r : Replay) (i count : ℕ) (places : List ℕ) (b : List ℕ) → 1 ≤ i → length places ≡ count → AreNoted r (i - 1) count places → Took b r → HasEntry b i None → AreRecordPlaces b count places
+noted_end r i count places b some long are t has = noted_all r (i - 1) count places b long are t (λ segments at why is.
+    let es = entries (sizes_of b) 0 segments in
+    let ne : (i == 0) ≡ false = ne_eqb i 0 (λ z. omega arith) in
+    let none : slice_get es (i - 1) ≡ None = ap (λ l. slice_get l (i - 1)) (same_entries b segments has.segments at has.stop.at why has.stop.why is has.is) ∙ sym (has.value ∙ rw ne refl) in
+    ⊎_elim (λ lt. absurd (let d : Record = record { page = 0; at = 0 } in let there : slice_get es (i - 1) ≡ Some (get_or es (i - 1) d) = slice_get-get_or es (i - 1) d lt in cc)) (λ le. le) (cases_lt (i - 1) (length es)))
+
+-- ---- The database.
+
+module _ (b : List ℕ) (count : ℕ) (places : List ℕ) (are : AreRecordPlaces b count places) (segments : List Segment) (at : ℕ) (why : Why) (is : IsJournal b segments at why) (hot : IsHot b) where
+  z : Sizes
+  z = sizes_of b
+
+  segs : AreSegments (sizes_of b) b 0 segments at why
+  segs = ⊎_elim (λ h. h.1) (λ cold. absurd (cold.0 hot)) is
+
+  inside : AreWithin (word b 24) (length b) (entries (sizes_of b) 0 segments)
+  inside = within_entries (sizes_of b) b 0 segments at why segs
+
+  pub rolled_back : (size : ℕ) (file : List ℕ) → size ≡ word b 24 → count ≡ word b 16 → IsRolledBack file b (laid size count file b places)
+  rolled_back size file e f = record {
+    segments = segments;
+    at = at;
+    why = why;
+    is = is;
+    count = length_laid size count file b places ∙ f;
+    each = λ p one le.
+        let most : p ≤ count = omega (arith, length_laid size count file b places) in
+        let own = file_page (word b 24) file p in
+        let here : place_of places p ≡ last_place (entries (sizes_of b) 0 segments) p 0 = are.each segments at why is p one most in
+        let records : all_records segments ≡ map (content_at (sizes_of b) b) (entries (sizes_of b) 0 segments) = contents (sizes_of b) b 0 segments at why segs in
+        let last : unwrap_or (last_content (all_records segments) p) own ≡ value (word b 24) b own (place_of places p) =
+        ap (λ l. unwrap_or (supplied (reverse l) p) own) records
+        ∙ ap (λ v. unwrap_or (supplied (reverse (map (content_at (sizes_of b) b) (entries (sizes_of b) 0 segments))) p) v) (sym (value_none (word b 24) b own 0 refl))
+        ∙ last_value (sizes_of b) b p own (entries (sizes_of b) 0 segments) 0 inside ∙ ap (value (word b 24) b own) (sym here) in
+        page_laid size count file b places p one most
+        ∙ ⊎_elim
+        (λ none. laid_own size file b places p none ∙ ap (λ n. file_page n file p) e ∙ sym (value_none (word b 24) b own (place_of places p) none))
+        (λ some.
+        let end : last_place (entries (sizes_of b) 0 segments) p 0 + word b 24 ≤ length b = last_within (sizes_of b) b p [] (entries (sizes_of b) 0 segments) 0 inside (λ ne. absurd (ne refl)) (λ z. some (here ∙ z)) in
+        let there : place_of places p + word b 24 ≤ length b = subst (λ (n : ℕ). n + word b 24 ≤ length b) (sym here) end in
+        laid_log size file b places p some ∙ ap (λ n. part_or_zeros n (place_of places p) b) e ∙ part_is (word b 24) (place_of places p) b there
+        ∙ sym (value_some (word b 24) b own (place_of places p) some))
+        (cases_eq (place_of places p) 0)
+        ∙ sym last;
+  }
+
+-- ---- A journal of which a front was read.
+
+module _ (b : List ℕ) (r : Replay) (read : HasRead b r) where
+  -- what the front says the whole journal says
+  front_says : (es : List Record) (stop : Stop) → Says read.front es stop → Says b es stop
+  front_says es stop says = subst (λ (l : List ℕ). Says l es stop) (sym read.split) (⊎_elim
+      (λ none. subst (λ (l : List ℕ). Says l es stop) (sym (ap (λ l. read.front ++ l) none ∙ append-nil read.front)) says)
+      (λ settled. settled read.more es stop says)
+      read.rest)
+
+  read_says : (es : List Record) × (stop : Stop) × Says read.front es stop
+  read_says =
+      let has = has_entry read.front r 0 _ read.took refl in
+      (entries (sizes_of read.front) 0 has.segments, has.stop, record { segments = has.segments; is = has.is; records = refl })
+
+  pub read_journal : (segments : List Segment) × (at : ℕ) × (why : Why) × IsJournal b segments at why
+  read_journal = let s = read_says in let is = front_says s.0 s.1 s.2 in (is.segments, s.1.at, s.1.why, is.is)
+
+  front_short : length read.front ≤ length b
+  front_short = omega (arith, ap length read.split, length-append read.front read.more)
+
+  pub read_places : (count : ℕ) (places : List ℕ) → length b ≤ 2 ^ 40
+      → ((c : List ℕ) → Took c r → length c ≤ 2 ^ 40 → AreRecordPlaces c count places) → AreRecordPlaces b count places
+  read_places count places short are =
+      let s = read_says in
+      let here = s.2 in
+      let all = front_says s.0 s.1 s.2 in
+      let front = are read.front read.took (omega (arith, front_short)) in
+      record {
+        long = front.long;
+        each = λ segments at why is p one le.
+            front.each here.segments s.1.at s.1.why here.is p one le
+            ∙ ap (λ l. last_place l p 0) (here.records ∙ sym all.records ∙ same_entries b all.segments segments s.1.at at s.1.why why all.is is);
+      }

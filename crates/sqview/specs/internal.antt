@@ -1,0 +1,6 @@
+-- What no public clause reaches.
+pub mod Laid
+pub mod LogView
+pub mod At
+pub mod ViewParts
+pub mod Verdicts

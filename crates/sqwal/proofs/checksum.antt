@@ -1,0 +1,4 @@
+-- The sums of words, headers and frame slots.
+pub mod Sums
+pub mod SlotParts
+pub mod SumsOfEqualHeaders

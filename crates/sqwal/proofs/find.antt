@@ -1,0 +1,3 @@
+-- The frame index: the chains of frames, and the search along one.
+pub mod FrameChainsOfPages
+pub mod SearchAlongChain

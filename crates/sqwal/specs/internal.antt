@@ -1,0 +1,7 @@
+-- What no public clause reaches.
+pub mod Magic
+pub mod Chains
+pub mod Took
+pub mod Answers
+pub mod Commits
+pub mod ScanParts

@@ -1,0 +1,93 @@
+-- What the options of a command are, and can't be.
+use Rattle.std.proofs.Common.{◌≡◌, ◌≢◌, ◌⊎◌, inl, inr, ⊎_elim, ℕ, List, Bor, get_or, sym, refl, ◌∙◌, ap, subst, arith}
+use Rattle.std.specs.Prelude.{Bool, true, false, not, Option, None, Some, is_some, codes, nat_eq, slice_get, MatchOption}
+use Rattle.std.specs.Cmp.Lexicographic.{bytes_decides, pointwise}
+use Rattle.std.proofs.lemmas.Option.{none-some}
+use Rattle.sqwords.specs.Line.{AreAmiss, AreNoReport, AreOptions, Asks, AsksAt, AsksBesides, AsksNoPart, AsksNothing}
+use Rattle.sqwords.specs.Line.{AsksTo}
+use Rattle.sqwords.specs.Line.{HasNoText, HasText, IsFile, NamesOfLog}
+use Rattle.sqwords.specs.internal.Line.{IsReport}
+use Rattle.sqwords.specs.declared.requests.Options.{Options}
+use Rattle.sqwords.specs.declared.requests.Request.{Request}
+
+-- what a test whether two words are equal has told
+pub others : (xs ys : List ℕ) → false ≡ pointwise nat_eq xs ys → xs ≢ ys
+others xs ys e same = let f : false ≡ true = e ∙ (bytes_decides xs ys).1 same in cc
+
+-- a command is no other one
+pub not_check : (command : List ℕ) → command ≡ codes "show" → command ≢ codes "check"
+not_check command show check =
+    let e : 115 ≡ 99 = ap (λ (l : List ℕ). get_or l 0 0) (sym show ∙ check) in omega (arith, e)
+
+pub not_recover : (command : List ℕ) → command ≡ codes "show" → command ≢ codes "recover"
+not_recover command show recover =
+    let e : 115 ≡ 114 = ap (λ (l : List ℕ). get_or l 0 0) (sym show ∙ recover) in omega (arith, e)
+
+pub not_report : (command : List ℕ) → command ≡ codes "show" → command ≢ codes "report"
+not_report command show report =
+    let e : 115 ≡ 114 = ap (λ (l : List ℕ). get_or l 0 0) (sym show ∙ report) in omega (arith, e)
+
+pub no_check : (command : List ℕ) → command ≡ codes "report" → command ≢ codes "check"
+no_check command report check =
+    let e : 114 ≡ 99 = ap (λ (l : List ℕ). get_or l 0 0) (sym report ∙ check) in omega (arith, e)
+
+pub no_recover : (command : List ℕ) → command ≡ codes "report" → command ≢ codes "recover"
+no_recover command report recover =
+    let e : 112 ≡ 99 = ap (λ (l : List ℕ). get_or l 2 0) (sym report ∙ recover) in omega (arith, e)
+
+pub report_amiss : (command : List ℕ) (options : List (List ℕ)) → command ≡ codes "report" → AreNoReport options
+    → AreAmiss command options
+report_amiss command options is none = (
+  (λ check. absurd (no_check command is check)),
+  (λ recover. absurd (no_recover command is recover)),
+  (λ _. none),
+  (λ show. absurd (not_report command show is)),
+)
+
+-- what the options of a report are told of, as what the words ask for
+pub report_asks : (words : List (List ℕ)) (command : List ℕ) (file : Bor (List ℕ)) (options : List (List ℕ)) (o : Options)
+    (r : Option Request) → command ≡ codes "report" → slice_get words 1 ≡ Some command → IsFile words file.now
+    → AreOptions words options → AsksBesides options o
+    → MatchOption r (AreNoReport options) (IsReport options file o)
+    → MatchOption r (AsksNothing words command file.now) (Asks words)
+report_asks words command file options o None is second named are besides none =
+    λ _ _. (options, are, inr (report_amiss command options is none))
+report_asks words command file options o (Some request) is second named are besides (known, force, (to, text, same)) =
+    let P : Request → Type 0 = λ r. Asks words r in
+    subst P (sym same) (second ∙ ap Some is, named, (options, are, known, force, text, besides))
+
+pub show_amiss : (command : List ℕ) (options : List (List ℕ)) (at : Option ℕ) → command ≡ codes "show" → AsksAt options at
+    → AsksNoPart options ⊎ NamesOfLog options at → AreAmiss command options
+show_amiss command options at is asks amiss = (
+  (λ check. absurd (not_check command is check)),
+  (λ recover. absurd (not_recover command is recover)),
+  (λ report. absurd (not_report command is report)),
+  (λ show. ⊎_elim (λ none. inl none) (λ of. inr (at, asks, of)) amiss),
+)
+
+-- ---- a commit
+
+pub at_named : (options : List (List ℕ)) (at : Option ℕ) → true ≡ is_some at → AsksAt options at
+    → (frame : Option ℕ) → AsksAt options frame → frame ≢ None
+at_named options None some asks frame other same = let e : true ≡ false = some in cc
+at_named options (Some n) some asks frame other same =
+    let P : Option ℕ → Type 0 = λ f. AsksAt options f in subst P same other asks.0 asks.1
+
+pub at_none : (at : Option ℕ) → false ≡ is_some at → at ≡ None
+at_none None e = refl
+at_none (Some n) e = absurd (let f : false ≡ true = e in cc)
+
+-- ---- a file that is to be made
+
+pub asks_to : (options : List (List ℕ)) (to : Option (Bor (List ℕ)))
+    → MatchOption to (HasNoText (codes "--to") options) (λ text. HasText (codes "--to") options text.now) → AsksTo options to
+asks_to options None asks = asks
+asks_to options (Some x) asks = asks
+
+pub no_to : (options : List (List ℕ)) (to : Option (Bor (List ℕ))) → is_some to ≡ false → AsksTo options to → HasNoText (codes "--to") options
+no_to options None e asks = asks
+no_to options (Some x) e asks = absurd (let f : true ≡ false = e in cc)
+
+pub some_to : (to : Option (Bor (List ℕ))) → is_some to ≡ true → to ≢ None
+some_to None e none = let f : false ≡ true = e in cc
+some_to (Some x) e none = none-some x (sym none)

@@ -1,0 +1,14 @@
+-- What a log of frames is, begun and extended: existence, uniqueness, durable and present frames.
+pub mod GrowthOfMadeLogs
+pub mod CommitOfExtendedLog
+pub mod EraOfExtendedLog
+pub mod DurableFrames
+pub mod PresentFrames
+pub mod FramesOfExtendedLog
+pub mod BytesOfEqualWords
+pub mod UniquenessOfExtendedLog
+pub mod LogOfHeaderAlone
+pub mod ExtensionByFrames
+pub mod ExistenceOfExtendedLog
+pub mod BytesOfNextFrame
+pub mod LogBeforeFirstCommit

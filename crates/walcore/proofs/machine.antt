@@ -1,0 +1,14 @@
+-- The state machine: its steps, runs and invariants, and what fits it at the beginning.
+pub mod FitUnderUnchangedFiles
+pub mod FitOverEmptyLog
+pub mod StepTargets
+pub mod StepInvariants
+pub mod StepAnswers
+pub mod StepsOfRun
+pub mod WorkedRuns
+pub mod ImpossibleRuns
+pub mod UniquenessOfMadeLogs
+pub mod ExistenceOfMadeLogs
+pub mod SatisfiablePremises
+pub mod FitOfNewDisk
+pub mod FitOfSettledFiles

@@ -1,0 +1,59 @@
+-- A disk that is new with a base fits where a world begins.
+use Rattle.std.proofs.Common.{◌≡◌, inl, ⊎_elim, ℕ, zero, suc, ◌<◌, ◌≤◌, Bool, true, false, List, [], ◌∷◌, length, get_or, refl, sym, ◌∙◌, ap, subst, arith}
+use Rattle.sqval.specs.PageSize.{IsPageSize}
+use Rattle.sqval.specs.Database.{Database}
+use Rattle.sqval.specs.Held.{IsJust, IsHeld}
+use Rattle.sqwal.specs.Header.{named_size}
+use Rattle.sqwal.specs.Frames.{IsFront}
+use Rattle.crashdisk.specs.State.{IsImage, IsSectorSize}
+use Rattle.crashdisk.specs.Call.{DiskState, IsNew}
+use Rattle.crashdisk.proofs.call.SoundDiskUnderCalls.{sound_new}
+use Rattle.crashdisk.proofs.byte.SettledFiles.{settled_one}
+use Rattle.walcore.specs.Made.{AreMade}
+use Rattle.walcore.specs.Fits.{FitsAlone, beginning}
+use Rattle.walcore.proofs.crash.FrontOfSurvivingLog.{just_file}
+use Rattle.walcore.proofs.openings.RecoveredFiles.{none_front}
+use Rattle.walcore.proofs.restart.ShownDatabaseDuringRestart.{just_shows}
+use Rattle.recovery.specs.Logs.{MayBeRead, ShowsWhole}
+use Rattle.walcore.specs.Alone.{wal_log}
+use Rattle.recovery.proofs.ShownDatabase.{read_cases}
+
+pub held_at : (size : ℕ) (base : Database) → IsHeld size base → (i : ℕ) → i < 1 → IsHeld size (get_or (base ∷ []) i [])
+held_at size base held zero lt = held
+held_at size base held (suc i) lt = absurd (omega arith)
+
+pub made_nothing : (size : ℕ) → AreMade size []
+made_nothing size = record {
+  each = λ e is. absurd (let i = is.1 in omega arith);
+  new_salts = λ i j l m. absurd (omega arith);
+}
+
+module _ (size sector : ℕ) (torn : Bool) (base : Database) (bytes : List ℕ) (s : DiskState) (pages : IsPageSize size) (held : IsHeld size base) (just : IsJust size base bytes) (is : IsNew sector torn bytes s) where
+  empty : (w : List ℕ) → MayBeRead wal_log s w → w ≡ []
+  empty w may = ⊎_elim (λ image. settled_one s.log [] is.log s.sector false w image) (λ left. settled_one s.log [] is.log s.sector true w left.1) (read_cases wal_log s w may)
+
+  shows : (db w : List ℕ) → MayBeRead wal_log s w → IsImage s.sector s.tears s.db db → ShowsWhole wal_log size db w base
+  shows db w may image =
+      let whole : IsJust size base db = subst (λ (x : List ℕ). IsJust size base x) (sym (settled_one s.db bytes is.db s.sector s.tears db image)) just in
+      just_shows size db w base whole (just_file size base db pages whole) (subst (λ (x : List ℕ). IsFront (named_size x) x 0) (sym (empty w may)) (none_front size))
+
+  pub base_fits : IsSectorSize sector → (torn ≡ true → sector ≤ size) → FitsAlone (beginning size base) s
+  base_fits sectors whole = record {
+    count = refl;
+    disk = record {
+      suits = record {
+        sound = sound_new sector torn bytes s (omega (arith, just.long, held.few)) is;
+        sectors = subst IsSectorSize (sym is.sector) sectors;
+        pages = pages;
+        whole = λ tears. let le : sector ≤ size = whole (sym is.tears ∙ tears.0) in omega (arith, le, tears.1, is.sector);
+      };
+      floor = omega arith;
+      held = held_at size base held;
+      made = made_nothing size;
+      left = inl (
+        λ w may chance. (0, omega arith, omega arith, λ db image. shows db w may image),
+        λ w may header. let whole = header.whole in let long = ap length (empty w may) in absurd (omega (arith, whole, long)),
+      );
+      present = λ opened. absurd (cc opened);
+    };
+  }

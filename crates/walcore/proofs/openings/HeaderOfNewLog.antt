@@ -1,0 +1,26 @@
+-- The steps of an opening.
+use Rattle.std.proofs.Common.{◌≡◌, ℕ, List, length, take, refl, []}
+use Rattle.sqval.specs.Bytes.{AreBytes}
+use Rattle.sqwal.specs.Frames.{summed}
+use Rattle.sqwal.specs.Header.{IsHeaderOf}
+use Rattle.sqwal.specs.Sums.{IsSumOf, GoesOn}
+use Rattle.sqwal.specs.declared.sum.Order.{Order}
+use Rattle.sqwal.specs.declared.sum.Order.TheVariants.{Big}
+use Rattle.sqwal.specs.declared.sum.Sum.{Sum}
+use Rattle.sqwal.specs.declared.header.WalHeader.{WalHeader}
+use Rattle.walcore.specs.internal.Opening.{IsNewLog}
+use Rattle.walcore.proofs.log.LogOfHeaderAlone.{begun_by}
+
+-- ---- how many pages a file has
+
+-- ---- a log of a header alone
+
+pub new_log_is : (h : WalHeader) (bytes : List ℕ) (none sum : Sum) → IsHeaderOf bytes h → h.order ≡ Big → length bytes ≡ 32 → AreBytes bytes → ((order : Order) → IsSumOf order [] none) → GoesOn h.order (take 24 bytes) none sum
+    → IsNewLog h.page_size h.sequence h.salt1 h.salt2 (record { header = h; sum = sum; bytes = bytes })
+unfolding summed
+new_log_is h bytes none sum is big long are zero on = record {
+  begun = begun_by bytes h is big long are;
+  page_size = refl;
+  header = is;
+  sum = on [] refl (zero h.order);
+}
