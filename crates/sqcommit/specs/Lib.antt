@@ -1,1 +1,1 @@
-pub mod FileDisk
+pub mod internal

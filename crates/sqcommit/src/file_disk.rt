@@ -52,7 +52,7 @@ fn read_or_zeros<F: FileExt>(file: &F, at: u64, out: &mut [u8]) -> io::Result<()
 }
 
 impl<F: FileExt + OpenFile + Drop> Disk for FileDisk<F> {
-    ghost use Rattle.sqcommit.specs.FileDisk.{nothing};
+    ghost use Rattle.sqcommit.specs.internal.FileDisk.{nothing};
 
     ghost state = { λ _. nothing };
 

@@ -1,4 +1,6 @@
 //! The pages that are committed.
+ghost use Rattle.std.specs.Prelude.{◌≡◌, Some};
+
 use sqval::PageSize;
 use std::alloc::{AllocError, Global};
 
@@ -9,7 +11,9 @@ const HEADER: [u8; 24] = *b"SQLite format 3\0\x04\0\x01\x01\0\x40\x20\x20";
 pub const PAGE_LEN: u32 = 1024;
 
 /// The size of the pages.
-pub fn page_size() -> Option<PageSize> {
+pub fn page_size() -> Option<PageSize>
+    ensures { result ≡ Some PAGE_LEN }
+{
     PageSize::new(PAGE_LEN)
 }
 

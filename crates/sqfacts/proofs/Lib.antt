@@ -1,3 +1,4 @@
 pub mod LockLines
-pub mod LockLists
-pub mod Joining
+pub mod TextsOfLockLines
+pub mod ExpansionOfRuns
+pub mod LogFronts

@@ -1,7 +1,7 @@
-pub mod FileDisk
 pub mod Fronts
 pub mod Locks
 pub mod Readings
 pub mod Refusals
 pub mod Runs
 pub mod Statuses
+pub mod internal

@@ -150,7 +150,7 @@ pub fn read_or_zeros<F: FileExt>(file: &F, at: u64, out: &mut [u8]) -> io::Resul
 }
 
 impl<F: FileExt + OpenFile + Drop, G: Guard> Disk for FileDisk<F, G> {
-    ghost use Rattle.sqfacts.specs.FileDisk.{nothing};
+    ghost use Rattle.sqfacts.specs.internal.FileDisk.{nothing};
 
     ghost state = { λ _. nothing };
 

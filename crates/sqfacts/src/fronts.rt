@@ -1,6 +1,7 @@
 //! The last frame of a log that counts, and whether it still stands.
-ghost use Rattle.std.specs.Prelude.{◌≡◌, ◌+◌, ◌*◌, ◌-◌, ◌↔◌, IfErr, IsOk, IsTrue};
-ghost use Rattle.sqfacts.specs.Fronts.{HasSalts, IsFrontOf};
+ghost use Rattle.std.specs.Prelude.{◌≡◌, ◌+◌, ◌*◌, ◌-◌, ◌↔◌, ℕ, List, IfErr, IsOk, IsTrue};
+ghost use Rattle.sqwal.specs.Took.{TookWithin};
+ghost use Rattle.sqfacts.specs.Fronts.{HasSalts, IsFrontOf, IsLogFront};
 ghost use Rattle.sqfacts.specs.declared.outcome.Refusal.TheVariants.{FileChanged};
 
 use crate::outcome::Refusal;
@@ -25,7 +26,9 @@ impl Front {
     }
 
     /// The front of a scanned log, if a frame counts.
-    pub fn of_scan(scan: &Scan) -> Option<Front> {
+    pub fn of_scan(scan: &Scan) -> Option<Front>
+        ensures { (most : ℕ) (wal : List ℕ) → TookWithin most wal scan.now → IsLogFront wal result }
+    {
         Front::at(scan.committed().frames, scan.header()?.page_size)
     }
 

@@ -1,8 +1,9 @@
 //! What a recovery did, or why a command was refused.
 ghost use Rattle.std.specs.Prelude.{◌≡◌};
 ghost use Rattle.std.specs.IoError.{error_kind};
-ghost use Rattle.sqfacts.specs.Refusals.{refusal_of, refusal_of_judge, refusal_of_kind, refusal_of_roll};
-ghost use Rattle.sqfacts.specs.Refusals.{refusal_of_wal};
+ghost use Rattle.sqfacts.specs.Refusals.{refusal_of};
+ghost use Rattle.sqfacts.specs.internal.Refusals.{refusal_of_judge, refusal_of_kind, refusal_of_roll};
+ghost use Rattle.sqfacts.specs.internal.Refusals.{refusal_of_wal};
 ghost use Rattle.sqfacts.specs.declared.outcome.Refusal.TheVariants.{FileFailed, NoMemory};
 
 use rollcore::RollError;

@@ -1,0 +1,6 @@
+mod PaddedHex
+mod JoinedTexts
+mod NumberFacts
+mod JournalRecords
+mod FramesOfCommits
+mod WrittenTexts

@@ -1,0 +1,10 @@
+pub mod Behind
+pub mod Facts
+pub mod Headers
+pub mod HexLines
+pub mod Logs
+pub mod Pages
+pub mod Reports
+pub mod Verdicts
+pub mod Words
+pub mod internal

@@ -1,4 +1,8 @@
 //! What stands behind the stop of a log, a line for each slot (own).
+ghost use Rattle.std.specs.Prelude.{◌≡◌, OnOk};
+ghost use Rattle.std.specs.Io.KnownBytes.{Appends};
+ghost use Rattle.sqlines.specs.Behind.{end_text, follows_word, record_slot_text, slot_text};
+
 use crate::fact::{Fact, number, write_facts};
 use sqjournal::RecordSlot;
 use sqwal::Slot;
@@ -15,8 +19,10 @@ pub enum SlotKind {
 }
 
 /// Whether the sum in a slot follows.
-fn follows_fact(follows: bool) -> Fact<'static> {
-    Fact::Text("follows", if follows { "yes" } else { "no" })
+fn follows_name(follows: bool) -> &'static str
+    ensures { result.now ≡ follows_word follows }
+{
+    if follows { "yes" } else { "no" }
 }
 
 /// The last line: how many slots there were, and the bytes over. An error of the writer.
@@ -26,28 +32,38 @@ pub fn write_end<W: Write>(
     kind: SlotKind,
     count: u64,
     over: u64,
-) -> io::Result<()> {
-    let (kinds, key) = match kind {
-        SlotKind::Frame => ("frames", "behind frames"),
-        SlotKind::Record => ("records", "behind records"),
-    };
-    match style {
-        Style::Lines => writeln!(out, "behind {count} {kinds}, {over} bytes over"),
-        Style::Json => {
-            let facts = [Fact::Number(key, count), Fact::Number("bytes over", over)];
-            write_facts(out, style, &facts)
+) -> io::Result<()>
+    ensures { OnOk result (Appends (W.contents out.old) (W.contents out.new) (end_text style kind count over)) }
+{
+    match (style, kind) {
+        (Style::Lines, SlotKind::Frame) => writeln!(
+            out,
+            "behind {count} frames, {over} bytes over"
+        ),
+        (Style::Lines, SlotKind::Record) => {
+            writeln!(out, "behind {count} records, {over} bytes over")
+        }
+        (Style::Json, SlotKind::Frame) => {
+            let count = Fact::Number("behind frames", count);
+            write_facts(out, style, &[count, Fact::Number("bytes over", over)])
+        }
+        (Style::Json, SlotKind::Record) => {
+            let count = Fact::Number("behind records", count);
+            write_facts(out, style, &[count, Fact::Number("bytes over", over)])
         }
     }
 }
 
 /// A frame by its number, from 1. An error of the writer.
-pub fn write_slot<W: Write>(out: &mut W, style: Style, i: u64, slot: &Slot) -> io::Result<()> {
+pub fn write_slot<W: Write>(out: &mut W, style: Style, i: u64, slot: &Slot) -> io::Result<()>
+    ensures { OnOk result (Appends (W.contents out.old) (W.contents out.new) (slot_text style i slot.now)) }
+{
     let facts = [
         Fact::Number("behind", i),
         number("page", slot.page),
         number("size", slot.size),
         Fact::Salts("salts", slot.salt1, slot.salt2),
-        follows_fact(slot.follows),
+        Fact::Text("follows", follows_name(slot.follows)),
     ];
     write_facts(out, style, &facts)
 }
@@ -60,12 +76,15 @@ pub fn write_record_slot<W: Write>(
     place: u64,
     slot: &RecordSlot,
     follows: bool,
-) -> io::Result<()> {
+) -> io::Result<()>
+    ensures { OnOk result (Appends (W.contents out.old) (W.contents out.new)
+        (record_slot_text style i place slot.now follows)) }
+{
     let facts = [
         Fact::Number("behind record", i),
         number("page", slot.page),
         Fact::Number("at", place.saturating_add(4)),
-        follows_fact(follows),
+        Fact::Text("follows", follows_name(follows)),
     ];
     write_facts(out, style, &facts)
 }

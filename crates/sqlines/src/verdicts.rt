@@ -1,4 +1,8 @@
 //! What a check finds.
+ghost use Rattle.std.specs.Prelude.{OnOk};
+ghost use Rattle.std.specs.Io.KnownBytes.{Appends};
+ghost use Rattle.sqlines.specs.Verdicts.{fault_text, none_text, report_text};
+
 use crate::fact::{Fact, number, write_facts};
 use sqcheck::Report;
 use sqpage::CheckError;
@@ -6,7 +10,9 @@ use sqwords::Style;
 use std::io::{self, Write};
 
 /// A well-formed database: its pages by their use. An error of the writer.
-pub fn write_report<W: Write>(out: &mut W, style: Style, report: &Report) -> io::Result<()> {
+pub fn write_report<W: Write>(out: &mut W, style: Style, report: &Report) -> io::Result<()>
+    ensures { OnOk result (Appends (W.contents out.old) (W.contents out.new) (report_text style report.now)) }
+{
     let Report {
         pages,
         trees,
@@ -34,7 +40,9 @@ pub fn write_report<W: Write>(out: &mut W, style: Style, report: &Report) -> io:
 }
 
 /// A fault at a page, 0 for none. An error of the writer.
-pub fn write_fault<W: Write>(out: &mut W, style: Style, error: &CheckError) -> io::Result<()> {
+pub fn write_fault<W: Write>(out: &mut W, style: Style, error: &CheckError) -> io::Result<()>
+    ensures { OnOk result (Appends (W.contents out.old) (W.contents out.new) (fault_text style error.now)) }
+{
     let (page, fault, name) = (error.page, error.fault.number(), error.fault.name());
     match style {
         Style::Lines => writeln!(out, "page {page}: fault {fault} {name}"),
@@ -50,7 +58,9 @@ pub fn write_fault<W: Write>(out: &mut W, style: Style, error: &CheckError) -> i
 }
 
 /// That nothing of a kind is there. An error of the writer.
-pub fn write_none<W: Write>(out: &mut W, style: Style, what: &str) -> io::Result<()> {
+pub fn write_none<W: Write>(out: &mut W, style: Style, what: &str) -> io::Result<()>
+    ensures { OnOk result (Appends (W.contents out.old) (W.contents out.new) (none_text style what.now)) }
+{
     match style {
         Style::Lines => writeln!(out, "no {what}"),
         Style::Json => write_facts(out, style, &[Fact::Text(what, "none")]),

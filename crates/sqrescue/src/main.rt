@@ -18,7 +18,7 @@ mod paths;
 mod place;
 mod program;
 mod progress;
-mod recovery;
+mod recovering;
 mod reports;
 mod showing;
 mod surveys;

@@ -6,7 +6,7 @@ use crate::copies::recover_to;
 use crate::hints::next_step;
 use crate::outcomes::write_outcome;
 use crate::pages::show_pages;
-use crate::recovery::recover;
+use crate::recovering::recover;
 use crate::reports::report_to;
 use crate::showing::show;
 use sqcommands::{LineError, request};

@@ -6,7 +6,7 @@ use Rattle.sqview.specs.Verdicts.{IsVerdictWith}
 use Rattle.sqview.specs.declared.judge_error.JudgeError.{JudgeError}
 use Rattle.sqview.specs.declared.verdict.Verdict.{Verdict}
 use Rattle.sqview.specs.declared.view.View.{View}
-use Rattle.sqview.proofs.Judging.{of_files, of_files_at}
+use Rattle.sqview.proofs.judgments.VerdictOnFiles.{of_files, of_files_at}
 use Rattle.sqshown.specs.Views.{AskedAnswer, IsFound}
 
 module _ {F : Type 0} (maps : Bool) (limits : Bounds) (bytes : F → List ℕ) (db wal journal : List ℕ) where

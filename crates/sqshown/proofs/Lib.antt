@@ -1,1 +1,6 @@
 pub mod Findings
+mod RecordPlaces
+mod AskedFronts
+mod ShownFiles
+mod CountedLogs
+mod FoundFiles

@@ -1,2 +1,13 @@
+pub mod Contents
+pub mod Errors
+pub mod Found
+pub mod Fronts
+pub mod Limits
+pub mod Logged
+pub mod Logs
+pub mod LogsShown
 pub mod Pages
+pub mod Records
+pub mod Shown
 pub mod Views
+pub mod internal

@@ -1,12 +1,17 @@
 -- The view that is asked for, and what is found there.
-use Rattle.std.specs.Prelude.{Option, None, Some, ℕ, Bool, List, Result}
+use Rattle.std.specs.Prelude.{◌≡◌, Option, None, Some, ℕ, Bool, List, Result}
 use Rattle.sqval.specs.Limits.{Bounds}
-use Rattle.sqview.specs.At.{AtAnswerWithin}
-use Rattle.sqview.specs.LogView.{ViewAnswerWithin}
+use Rattle.sqval.specs.Database.{Database}
+use Rattle.sqview.specs.At.{ViewsAt, AtRefusedWithin, AtAnswerWithin}
+use Rattle.sqview.specs.LogView.{Views, ViewRefusedWithin, ViewAnswerWithin}
 use Rattle.sqview.specs.Verdicts.{IsFilesVerdict, IsFilesVerdictAt}
 use Rattle.sqview.specs.declared.verdict.Verdict.{Verdict}
 use Rattle.sqview.specs.declared.view.View.{View}
 use Rattle.sqview.specs.declared.view_error.ViewError.{ViewError}
+use Rattle.sqfacts.specs.Refusals.{refusal_of}
+use Rattle.sqfacts.specs.declared.outcome.Refusal.{Refusal}
+use Rattle.sqwords.specs.declared.requests.Options.{Options}
+use Rattle.sqshown.specs.Limits.{limits_named}
 
 -- the view of these files at the commit frame that is named, otherwise as their log has them; or why there is none
 abbrev pub AskedAnswer : {F : Type 0} → (limits : Bounds) (bytes : F → List ℕ) → (at : Option ℕ) → (db wal journal : List ℕ)
@@ -18,3 +23,17 @@ AskedAnswer limits bytes (Some m) db wal journal answer = AtAnswerWithin limits 
 abbrev pub IsFound : (maps : Bool) → (limits : Bounds) → (at : Option ℕ) → (db wal journal : List ℕ) → Verdict → Type 0
 IsFound maps limits None db wal journal verdict = IsFilesVerdict maps limits db wal journal verdict
 IsFound maps limits (Some m) db wal journal verdict = IsFilesVerdictAt maps limits m db wal journal verdict
+
+-- the database of these files there, of pages of this size
+abbrev pub AskedShows : (at : Option ℕ) → (size : ℕ) → (db wal journal : List ℕ) → Database → Type 0
+AskedShows None size db wal journal d = Views size db wal journal d
+AskedShows (Some m) size db wal journal d = ViewsAt m size db wal journal d
+
+-- why there is no view of them
+abbrev pub AskedRefused : (limits : Bounds) → (at : Option ℕ) → (db wal journal : List ℕ) → ViewError → Type 0
+AskedRefused limits None db wal journal error = ViewRefusedWithin limits db wal journal error
+AskedRefused limits (Some m) db wal journal error = AtRefusedWithin limits m db wal journal error
+
+-- the same, as options ask for it and as the program refuses it
+abbrev pub IsUnasked : Options → (db wal journal : List ℕ) → Refusal → Type 0
+IsUnasked options db wal journal refusal = (error : ViewError) × AskedRefused (limits_named options.large) options.at db wal journal error × (refusal ≡ refusal_of error)

@@ -1,10 +1,21 @@
 //! A database's header, and a page with its cells.
-ghost use Rattle.std.specs.Prelude.{◌≡◌, ◌-◌, ◌<◌, ◌≤◌, length, IfOk, IsSome, OnOk};
+ghost use Rattle.std.specs.Prelude.{◌≡◌, ◌-◌, ◌<◌, ◌≤◌, length, IfOk, IfErr, IsSome, OnOk, MatchResult};
 ghost use Rattle.sqval.specs.PageSize.{IsPageSize};
 ghost use Rattle.sqpage.specs.Chain.{payload_size};
 ghost use Rattle.sqpage.specs.Header.{byte};
 ghost use Rattle.sqval.specs.Database.{page as page_at};
+ghost use Rattle.sqpage.specs.Freelist.{IsPage};
 ghost use Rattle.sqview.specs.LogView.{pages_of};
+ghost use Rattle.sqfacts.specs.declared.outcome.Refusal.TheVariants.{NoMemory};
+ghost use Rattle.sqshown.specs.Contents.{AreGiven};
+ghost use Rattle.sqshown.specs.Errors.{IfRefused};
+ghost use Rattle.sqshown.specs.Fronts.{IsAskedFront};
+ghost use Rattle.sqshown.specs.Limits.{limits_named};
+ghost use Rattle.sqshown.specs.Shown.{IsPageUnread, HasHeader, ShowsHeader, ShowsPage};
+ghost use Rattle.sqshown.specs.internal.Shown.{IsHeaderUnread};
+ghost use Rattle.sqshown.specs.Shown.{IsHeaderUnshown, IsPageUnshown};
+ghost use Rattle.sqpage.specs.Source.{KeepsPages};
+ghost use Rattle.sqshown.specs.Views.{AskedAnswer, IsUnasked};
 
 use crate::contents::Contents;
 use crate::error::ShowError;
@@ -23,6 +34,29 @@ use sqwords::{Options, Style};
 use std::alloc::Global;
 use std::io::Write;
 
+/// A page of a source. Refused by `NoSuchPage` where there is none of this number, by `FileFailed` and by `NoMemory`.
+pub(crate) fn page_in<S: PageSource>(
+    alloc: Global,
+    source: &mut S,
+    number: u32,
+) -> Result<Vec<u8>, Refusal>
+    ensures sized { IfOk result (λ page. (length page.items ≡ S.size source.old) × IsPageSize (length page.items)) }
+    ensures above { OnOk result (0 < number) }
+    ensures answer { S.gives_pages source.old
+        → MatchResult result (λ page. IsPage (S.pages source.old) number
+        × (page.items ≡ page_at (S.pages source.old) number))
+        (IsPageUnread (S.pages source.old) number) }
+    ensures same { KeepsPages S.pages S.size S.gives_pages source.old source.new }
+{
+    if number == 0 || number > source.count() {
+        return Err(Refusal::NoSuchPage);
+    }
+    let size = source.page_size().get() as usize;
+    let mut page = vec![in alloc; 0u8; size]?;
+    source.page(number, &mut page)?;
+    Ok(page)
+}
+
 /// A page of a view. Refused by `NoSuchPage` where there is none of this number, by `FileFailed` and by `NoMemory`.
 pub fn read_page<F: FileBytes>(
     alloc: Global,
@@ -34,14 +68,11 @@ pub fn read_page<F: FileBytes>(
         → IfOk result (λ page. page.items ≡ page_at (pages_of F.bytes view.old) number) }
     ensures number { OnOk result (0 < number) }
     ensures size { view.new.page_size ≡ view.old.page_size }
+    ensures there { F.gives_bytes view.old.db × F.gives_bytes view.old.log
+        → MatchResult result (λ _. IsPage (pages_of F.bytes view.old) number)
+        (IsPageUnread (pages_of F.bytes view.old) number) }
 {
-    if number == 0 || number > view.count() {
-        return Err(Refusal::NoSuchPage);
-    }
-    let size = view.page_size().get() as usize;
-    let mut page = vec![in alloc; 0u8; size]?;
-    view.page(number, &mut page)?;
-    Ok(page)
+    page_in(alloc, view, number)
 }
 
 /// How many bytes of a page are usable, by page 1. Where these are too few, all are (own).
@@ -62,7 +93,14 @@ fn asked_view<F: FileBytes + Drop>(
     alloc: Global,
     files: Contents<F>,
     options: Options,
-) -> Result<View<F>, Refusal> {
+) -> Result<View<F>, Refusal>
+    ensures answer { AreGiven F.gives_bytes files → MatchResult result
+        (λ view. AskedAnswer (limits_named options.large) F.bytes options.at (F.bytes files.db) (F.bytes files.wal)
+        (F.bytes files.journal) (Ok view))
+        (IsUnasked options (F.bytes files.db) (F.bytes files.wal) (F.bytes files.journal)) }
+    ensures still_gives { AreGiven F.gives_bytes files
+        → IfOk result (λ view. F.gives_bytes view.db × F.gives_bytes view.log) }
+{
     let Contents { db, wal, journal } = files;
     match view_of(alloc, limits_of(options), db, wal, journal, options.at) {
         Ok(view) => Ok(view),
@@ -71,13 +109,19 @@ fn asked_view<F: FileBytes + Drop>(
 }
 
 /// The header on page 1 of a view. Refused by `NotADatabase` where it isn't a database's.
-fn header_of<F: FileBytes>(alloc: Global, view: &mut View<F>) -> Result<DbHeader, Refusal> {
-    if view.count() == 0 {
+fn header_of<S: PageSource>(alloc: Global, source: &mut S) -> Result<DbHeader, Refusal>
+    ensures { S.gives_pages source.old → MatchResult result (λ _. HasHeader (S.pages source.old))
+        (IsHeaderUnread (S.pages source.old)) }
+{
+    if source.count() == 0 {
         return Err(Refusal::NotADatabase);
     }
-    let page = read_page(alloc, view, 1)?;
+    let page = page_in(alloc, source, 1)?;
     match page.first_chunk::<100>() {
-        Some(head) => DbHeader::read(head).map_err(|_| Refusal::NotADatabase),
+        Some(head) => match DbHeader::read(head) {
+            Ok(header) => Ok(header),
+            Err(_) => Err(Refusal::NotADatabase),
+        },
         None => Err(Refusal::NotADatabase),
     }
 }
@@ -89,12 +133,20 @@ pub fn show_header<F: FileBytes + Drop, W: Write>(
     files: Contents<F>,
     options: Options,
     out: &mut W,
-) -> Result<Option<Front>, ShowError> {
+) -> Result<Option<Front>, ShowError>
+    ensures front { AreGiven F.gives_bytes files
+        → IfOk result (IsAskedFront options.at (F.bytes files.wal) (F.bytes files.journal)) }
+    ensures shown { AreGiven F.gives_bytes files
+        → OnOk result (ShowsHeader options (F.bytes files.db) (F.bytes files.wal) (F.bytes files.journal)) }
+    ensures refused { AreGiven F.gives_bytes files → IfErr result
+        (IfRefused (IsHeaderUnshown options (F.bytes files.db) (F.bytes files.wal) (F.bytes files.journal))) }
+{
     let mut view = asked_view(alloc, files, options)?;
+    let (front, count) = (Front::of_view(&view), view.count());
     match header_of(alloc, &mut view) {
         Ok(header) => {
-            write_header(out, options.style, &header, view.count())?;
-            Ok(Front::of_view(&view))
+            write_header(out, options.style, &header, count)?;
+            Ok(front)
         }
         Err(refusal) => Err(ShowError::Refused(refusal)),
     }
@@ -108,62 +160,75 @@ pub fn show_page<F: FileBytes + Drop, W: Write>(
     number: u32,
     options: Options,
     out: &mut W,
-) -> Result<Option<Front>, ShowError> {
+) -> Result<Option<Front>, ShowError>
+    ensures front { AreGiven F.gives_bytes files
+        → IfOk result (IsAskedFront options.at (F.bytes files.wal) (F.bytes files.journal)) }
+    ensures shown { AreGiven F.gives_bytes files
+        → OnOk result (ShowsPage options number (F.bytes files.db) (F.bytes files.wal) (F.bytes files.journal)) }
+    ensures refused { AreGiven F.gives_bytes files → IfErr result
+        (IfRefused (IsPageUnshown options number (F.bytes files.db) (F.bytes files.wal) (F.bytes files.journal))) }
+{
     let mut view = asked_view(alloc, files, options)?;
+    let front = Front::of_view(&view);
     match show_page_of(alloc, &mut view, number, options.style, out) {
-        Ok(()) => Ok(Front::of_view(&view)),
+        Ok(()) => Ok(front),
         Err(error) => Err(error),
     }
 }
 
 /// Prints a page of a view.
-fn show_page_of<F: FileBytes, W: Write>(
+fn show_page_of<S: PageSource, W: Write>(
     alloc: Global,
-    view: &mut View<F>,
+    source: &mut S,
     number: u32,
     style: Style,
     out: &mut W,
-) -> Result<(), ShowError> {
-    let usable = usable_size(&read_page(alloc, view, 1)?);
-    let page = read_page(alloc, view, number)?;
+) -> Result<(), ShowError>
+    ensures { S.gives_pages source.old → MatchResult result (λ _. IsPage (S.pages source.old) number)
+        (IfRefused (IsPageUnread (S.pages source.old) number)) }
+{
+    let usable = usable_size(&page_in(alloc, source, 1)?);
+    let page = page_in(alloc, source, number)?;
     match BtreePage::new(&page, number, usable) {
-        Ok(btree) => show_btree(alloc, view, &btree, number, style, out),
+        Ok(btree) => show_btree(alloc, source, &btree, number, style, out),
         Err(_) => Ok(write_bytes(out, style, &page)?),
     }
 }
 
 /// Prints a b-tree page of the view with its cells.
-fn show_btree<F: FileBytes, W: Write>(
+fn show_btree<S: PageSource, W: Write>(
     alloc: Global,
-    view: &mut View<F>,
+    source: &mut S,
     page: &BtreePage<'_>,
     page_number: u32,
     style: Style,
     out: &mut W,
 ) -> Result<(), ShowError>
-    requires { length page.now.used ≤ view.old.page_size }
+    requires { length page.now.used ≤ S.size source.old }
+    ensures { S.gives_pages source.old → IfErr result (IfRefused (λ refusal. refusal ≡ NoMemory)) }
 {
     write_page(out, style, page_number, page)?;
-    let mut payloads = Payloads::none(alloc, view.page_size())?;
-    show_cells(alloc, view, page, &mut payloads, style, out)
+    let mut payloads = Payloads::none(alloc, source.page_size())?;
+    show_cells(alloc, source, page, &mut payloads, style, out)
 }
 
 /// Prints the cells of a page, and the page on its right.
-fn show_cells<F: FileBytes, W: Write>(
+fn show_cells<S: PageSource, W: Write>(
     alloc: Global,
-    view: &mut View<F>,
+    source: &mut S,
     page: &BtreePage<'_>,
     payloads: &mut Payloads,
     style: Style,
     out: &mut W,
 ) -> Result<(), ShowError>
-    requires { length page.now.used ≤ view.old.page_size }
+    requires { length page.now.used ≤ S.size source.old }
+    ensures { S.gives_pages source.old → IfErr result (IfRefused (λ refusal. refusal ≡ NoMemory)) }
 {
     for i in 0..page.len() {
         let cell = page.cell(i);
         write_cell(out, style, i, &cell)?;
         if cell.payload.is_some() {
-            show_payload(alloc, view, &cell, payloads, style, out)?;
+            show_payload(alloc, source, &cell, payloads, style, out)?;
         }
     }
     if let Some(right) = page.right() {
@@ -174,9 +239,9 @@ fn show_cells<F: FileBytes, W: Write>(
 
 /// Prints the columns of the record in a cell's payload, or what refuses the payload or the record. Where that is known
 /// of the cell's place the payload isn't read.
-fn show_payload<F: FileBytes, W: Write>(
+fn show_payload<S: PageSource, W: Write>(
     alloc: Global,
-    view: &mut View<F>,
+    source: &mut S,
     cell: &Cell<'_>,
     payloads: &mut Payloads,
     style: Style,
@@ -184,15 +249,16 @@ fn show_payload<F: FileBytes, W: Write>(
 ) -> Result<(), ShowError>
     requires payload { IsSome cell.now.payload }
     requires least { 480 ≤ cell.now.usable }
-    requires most { cell.now.usable ≤ view.old.page_size }
+    requires most { cell.now.usable ≤ S.size source.old }
     requires part { length cell.now.local.now ≤ payload_size cell.now }
-    ensures { view.new.page_size ≡ view.old.page_size }
+    ensures refused { S.gives_pages source.old → IfErr result (IfRefused (λ refusal. refusal ≡ NoMemory)) }
+    ensures same { KeepsPages S.pages S.size S.gives_pages source.old source.new }
 {
     if let Some(unfit) = payloads.known(cell.at) {
         return Ok(write_unfit(out, style, unfit)?);
     }
     payloads.bytes.clear();
-    let unfit = match payload(alloc, view, cell, &mut payloads.bytes) {
+    let unfit = match payload(alloc, source, cell, &mut payloads.bytes) {
         Ok(()) => match Record::new(&payloads.bytes) {
             Ok(record) => return Ok(write_record(out, style, &record)?),
             Err(error) => Unfit::Record(error),

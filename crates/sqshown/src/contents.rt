@@ -1,4 +1,8 @@
 //! The files of a database.
+ghost use Rattle.std.specs.Prelude.{◌≡◌, IfOk, IfErr};
+ghost use Rattle.sqfacts.specs.declared.outcome.Refusal.TheVariants.{NoMemory};
+ghost use Rattle.sqshown.specs.Contents.{AreUnread};
+
 use sqfacts::Refusal;
 use sqview::{FileBytes, ReadAhead};
 use std::alloc::Global;
@@ -16,7 +20,10 @@ pub fn read_ahead<F: FileBytes + Drop>(
     alloc: Global,
     files: Contents<F>,
     most: usize,
-) -> Result<Contents<ReadAhead<F>>, Refusal> {
+) -> Result<Contents<ReadAhead<F>>, Refusal>
+    ensures unread { IfOk result (AreUnread files) }
+    ensures memory { IfErr result (λ refusal. refusal ≡ NoMemory) }
+{
     let Contents { db, wal, journal } = files;
     let db = ReadAhead::new(alloc, db, most);
     let wal = ReadAhead::new(alloc, wal, 0);

@@ -6,6 +6,7 @@ mod behind;
 mod cells;
 mod contents;
 mod error;
+mod held;
 mod limits;
 mod logs;
 mod names;

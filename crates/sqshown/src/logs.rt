@@ -1,4 +1,18 @@
 //! The log that counts.
+ghost use Rattle.std.specs.Prelude.{◌≡◌, ℕ, List, length as list_length, IfOk, IfErr, MatchResult};
+ghost use Rattle.sqjournal.specs.Journal.{IsHot};
+ghost use Rattle.sqval.specs.Limits.{Bounds};
+ghost use Rattle.sqwal.specs.Took.{TookWithin};
+ghost use Rattle.sqfacts.specs.Fronts.{IsLogFront};
+ghost use Rattle.sqfacts.specs.declared.outcome.Refusal.TheVariants.{NoMemory};
+ghost use Rattle.sqshown.specs.Contents.{AreGiven, KeepsBytes};
+ghost use Rattle.sqshown.specs.Fronts.{IsShownFront};
+ghost use Rattle.sqshown.specs.Limits.{limits_named};
+ghost use Rattle.sqshown.specs.Logs.{ReplayFound, ScanFound, IsUnreadLog};
+ghost use Rattle.sqshown.specs.LogsShown.{IsLogFound};
+ghost use Rattle.sqshown.specs.internal.LogsShown.{IsWalShown, IsJournalShown, IsShownLog};
+ghost use Rattle.sqshown.specs.Errors.{IfRefused};
+
 use crate::behind::show_behind;
 use crate::contents::Contents;
 use crate::error::ShowError;
@@ -29,7 +43,10 @@ pub(crate) enum Shown {
 
 impl Shown {
     /// The front of the log, if a frame of one counts.
-    fn front(&self) -> Option<Front> {
+    fn front(&self) -> Option<Front>
+        ensures { (limits : Bounds) (wal journal : List ℕ) → IsShownLog limits wal journal self.now
+            → IsShownFront wal journal result }
+    {
         match self {
             Shown::Wal(scan) => Front::of_scan(scan),
             Shown::Neither | Shown::Refused | Shown::Journal(_) => None,
@@ -38,7 +55,10 @@ impl Shown {
 }
 
 /// A hot journal that is replayed. Refused by `TooLarge`, `NoMemory`, and `FileFailed`.
-pub fn replayed<F: FileBytes>(alloc: Global, journal: &mut F) -> Result<Replay, Refusal> {
+pub fn replayed<F: FileBytes>(alloc: Global, journal: &mut F) -> Result<Replay, Refusal>
+    ensures found { F.gives_bytes journal.old → ReplayFound (F.bytes journal.old) result }
+    ensures same { KeepsBytes F.bytes F.gives_bytes journal.old journal.new }
+{
     match replay_log(alloc, journal)? {
         Ok(replay) => Ok(replay),
         Err(JournalError::TooLong) => Err(Refusal::TooLarge),
@@ -52,11 +72,15 @@ pub fn scanned<F: FileBytes>(
     alloc: Global,
     limits: Limits,
     wal: &mut F,
-) -> Result<Result<Scan, WalFormatError>, Refusal> {
+) -> Result<Result<Scan, WalFormatError>, Refusal>
+    ensures found { F.gives_bytes wal.old → ScanFound limits (F.bytes wal.old) result }
+    ensures same { KeepsBytes F.bytes F.gives_bytes wal.old wal.new }
+{
     match scan_log_within(alloc, limits, wal)? {
+        Ok(scan) => Ok(Ok(scan)),
         Err(WalFormatError::TooLong) => Err(Refusal::TooLarge),
         Err(WalFormatError::NoMemory) => Err(Refusal::NoMemory),
-        answer => Ok(answer),
+        Err(error) => Ok(Err(error)),
     }
 }
 
@@ -71,7 +95,12 @@ fn show_wal<F: FileBytes, W: Write>(
     wal: &mut F,
     options: Options,
     out: &mut W,
-) -> Result<Shown, ShowError> {
+) -> Result<Shown, ShowError>
+    ensures shown { F.gives_bytes wal.old → IfOk result (IsWalShown (limits_named options.large) (F.bytes wal.old)) }
+    ensures refused { F.gives_bytes wal.old
+        → IfErr result (IfRefused (λ refusal. ScanFound (limits_named options.large) (F.bytes wal.old) (Err refusal))) }
+    ensures same { KeepsBytes F.bytes F.gives_bytes wal.old wal.new }
+{
     match scanned(alloc, limits_of(options), wal)? {
         Ok(scan) => match write_log(out, options.style, &scan) {
             Ok(()) => Ok(Shown::Wal(scan)),
@@ -90,7 +119,12 @@ fn show_journal<F: FileBytes, W: Write>(
     journal: &mut F,
     style: Style,
     out: &mut W,
-) -> Result<Shown, ShowError> {
+) -> Result<Shown, ShowError>
+    ensures shown { F.gives_bytes journal.old → IfOk result (IsJournalShown (F.bytes journal.old)) }
+    ensures refused { F.gives_bytes journal.old
+        → IfErr result (IfRefused (λ refusal. ReplayFound (F.bytes journal.old) (Err refusal))) }
+    ensures same { KeepsBytes F.bytes F.gives_bytes journal.old journal.new }
+{
     let replay = replayed(alloc, journal)?;
     match write_journal(out, style, &replay) {
         Ok(()) => Ok(Shown::Journal(replay)),
@@ -105,7 +139,14 @@ fn show_counting<F: FileBytes, W: Write>(
     journal: &mut F,
     options: Options,
     out: &mut W,
-) -> Result<Shown, ShowError> {
+) -> Result<Shown, ShowError>
+    ensures shown { F.gives_bytes wal.old → F.gives_bytes journal.old
+        → IfOk result (IsShownLog (limits_named options.large) (F.bytes wal.old) (F.bytes journal.old)) }
+    ensures refused { F.gives_bytes wal.old → F.gives_bytes journal.old → IfErr result
+        (IfRefused (IsUnreadLog (limits_named options.large) (F.bytes wal.old) (F.bytes journal.old))) }
+    ensures wal { KeepsBytes F.bytes F.gives_bytes wal.old wal.new }
+    ensures journal { KeepsBytes F.bytes F.gives_bytes journal.old journal.new }
+{
     match log_in_use(wal, journal).map_err(Refusal::from)? {
         LogInUse::Neither => {
             write_none(out, options.style, "log")?;
@@ -124,7 +165,12 @@ pub fn show_log<F: FileBytes, W: Write>(
     journal: &mut F,
     options: Options,
     out: &mut W,
-) -> Result<Option<Front>, ShowError> {
+) -> Result<Option<Front>, ShowError>
+    ensures front { F.gives_bytes wal.old → F.gives_bytes journal.old
+        → IfOk result (IsShownFront (F.bytes wal.old) (F.bytes journal.old)) }
+    ensures refused { F.gives_bytes wal.old → F.gives_bytes journal.old → IfErr result
+        (IfRefused (IsUnreadLog (limits_named options.large) (F.bytes wal.old) (F.bytes journal.old))) }
+{
     match show_counting(alloc, wal, journal, options, out) {
         Ok(shown) => Ok(shown.front()),
         Err(error) => Err(error),
@@ -138,7 +184,10 @@ pub fn show_whole_log<F: FileBytes + Drop, W: Write>(
     files: &mut Contents<F>,
     options: Options,
     out: &mut W,
-) -> Result<Option<Front>, ShowError> {
+) -> Result<Option<Front>, ShowError>
+    ensures { AreGiven F.gives_bytes files.old
+        → IfOk result (IsShownFront (F.bytes files.old.wal) (F.bytes files.old.journal)) }
+{
     let shown = show_counting(alloc, &mut files.wal, &mut files.journal, options, out)?;
     match show_behind(alloc, files, &shown, options.style, out) {
         Ok(()) => Ok(shown.front()),
@@ -152,7 +201,11 @@ fn show_commits_of<W: Write>(
     scan: &Scan,
     style: Style,
     out: &mut W,
-) -> Result<Option<Front>, ShowError> {
+) -> Result<Option<Front>, ShowError>
+    ensures front { IfOk result (λ front. (most : ℕ) (wal : List ℕ) → TookWithin most wal scan.now
+        → IsLogFront wal front) }
+    ensures refused { IfErr result (IfRefused (λ refusal. refusal ≡ NoMemory)) }
+{
     let Ok(commits) = scan.commits(alloc) else {
         return Err(ShowError::Refused(Refusal::NoMemory));
     };
@@ -170,7 +223,12 @@ pub fn show_commits<F: FileBytes, W: Write>(
     journal: &mut F,
     options: Options,
     out: &mut W,
-) -> Result<Option<Front>, ShowError> {
+) -> Result<Option<Front>, ShowError>
+    ensures front { F.gives_bytes wal.old → F.gives_bytes journal.old
+        → IfOk result (IsShownFront (F.bytes wal.old) (F.bytes journal.old)) }
+    ensures refused { F.gives_bytes wal.old → F.gives_bytes journal.old → IfErr result
+        (IfRefused (IsUnreadLog (limits_named options.large) (F.bytes wal.old) (F.bytes journal.old))) }
+{
     let style = options.style;
     match log_in_use(wal, journal).map_err(Refusal::from)? {
         LogInUse::Wal => match scanned(alloc, limits_of(options), wal)? {
@@ -198,7 +256,11 @@ pub enum LogFound {
 }
 
 /// A scan with its commits, of a log of this length.
-fn wal_found(alloc: Global, scan: Scan, length: u64) -> Result<LogFound, Refusal> {
+fn wal_found(alloc: Global, scan: Scan, length: u64) -> Result<LogFound, Refusal>
+    ensures found { (limits : Bounds) (wal journal : List ℕ) → ¬ IsHot journal → TookWithin limits.frames wal scan
+        → length ≡ list_length wal → IfOk result (IsLogFound limits wal journal) }
+    ensures memory { IfErr result (λ refusal. refusal ≡ NoMemory) }
+{
     match scan.commits(alloc) {
         Ok(commits) => Ok(LogFound::Wal {
             scan,
@@ -215,7 +277,11 @@ pub fn log_of<F: FileBytes>(
     limits: Limits,
     wal: &mut F,
     journal: &mut F,
-) -> Result<LogFound, Refusal> {
+) -> Result<LogFound, Refusal>
+    ensures { F.gives_bytes wal.old → F.gives_bytes journal.old → MatchResult result
+        (IsLogFound limits (F.bytes wal.old) (F.bytes journal.old))
+        (IsUnreadLog limits (F.bytes wal.old) (F.bytes journal.old)) }
+{
     match log_in_use(wal, journal)? {
         LogInUse::Neither => Ok(LogFound::None),
         LogInUse::Wal => match scanned(alloc, limits, wal)? {

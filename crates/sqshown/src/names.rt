@@ -1,14 +1,17 @@
 //! The names of a database's trees (fileformat2, 2.6).
-ghost use Rattle.std.specs.Prelude.{◌≡◌, ◌<◌, ◌≤◌, length, IfOk, IsSome, OnOk};
+ghost use Rattle.std.specs.Prelude.{◌≡◌, ◌<◌, ◌≤◌, length, IfOk, IfErr, IsSome, OnOk};
 ghost use Rattle.sqval.specs.PageSize.{IsPageSize};
+ghost use Rattle.sqfacts.specs.declared.outcome.Refusal.TheVariants.{NoMemory};
 ghost use Rattle.sqpage.specs.Chain.{payload_size};
+ghost use Rattle.sqpage.specs.Freelist.{IsPage};
+ghost use Rattle.sqshown.specs.Shown.{IsPageUnread};
+ghost use Rattle.sqpage.specs.Source.{KeepsPages};
 
-use crate::cells::{read_page, usable_size};
+use crate::cells::{page_in, usable_size};
 use sqcheck::{Role, Survey};
-use sqfacts::{Refusal, is_unsound, number_of};
-use sqpage::{BtreePage, Cell, Fault, Kind, payload};
+use sqfacts::{Refusal, is_unsound};
+use sqpage::{BtreePage, Cell, Fault, Kind, PageSource, payload};
 use sqval::{Record, Value};
-use sqview::{FileBytes, View};
 use std::alloc::Global;
 use std::str;
 
@@ -56,7 +59,9 @@ impl Names {
 
 /// The name that a row of the schema gives to the tree of a root. None where the row names no tree, or the name isn't
 /// text in UTF-8 without control characters.
-fn name_in(alloc: Global, row: &Record<'_>) -> Result<Option<Name>, Refusal> {
+fn name_in(alloc: Global, row: &Record<'_>) -> Result<Option<Name>, Refusal>
+    ensures { IfErr result (λ refusal. refusal ≡ NoMemory) }
+{
     let (Some(Value::Text(bytes)), Some(Value::Int(root))) = (row.column(1), row.column(3)) else {
         return Ok(None);
     };
@@ -78,20 +83,21 @@ fn is_utf16(first: &[u8]) -> bool {
 }
 
 /// The name that the row in a cell gives to a tree, if it gives one.
-fn name_at<F: FileBytes>(
+fn name_at<S: PageSource>(
     alloc: Global,
-    view: &mut View<F>,
+    source: &mut S,
     cell: &Cell<'_>,
     content: &mut Vec<u8>,
 ) -> Result<Option<Name>, Refusal>
     requires payload { IsSome cell.now.payload }
     requires least { 480 ≤ cell.now.usable }
-    requires most { cell.now.usable ≤ view.old.page_size }
+    requires most { cell.now.usable ≤ S.size source.old }
     requires part { length cell.now.local.now ≤ payload_size cell.now }
-    ensures { view.new.page_size ≡ view.old.page_size }
+    ensures refused { S.gives_pages source.old → IfErr result (λ refusal. refusal ≡ NoMemory) }
+    ensures same { KeepsPages S.pages S.size S.gives_pages source.old source.new }
 {
     content.clear();
-    if let Err(error) = payload(alloc, view, cell, content) {
+    if let Err(error) = payload(alloc, source, cell, content) {
         return match error.fault {
             Fault::Source => Err(Refusal::FileFailed),
             Fault::NoMemory => Err(Refusal::NoMemory),
@@ -105,22 +111,23 @@ fn name_at<F: FileBytes>(
 }
 
 /// Adds the names that the rows in a leaf of the schema's tree give.
-fn add_names<F: FileBytes>(
+fn add_names<S: PageSource>(
     alloc: Global,
-    view: &mut View<F>,
+    source: &mut S,
     page: &BtreePage<'_>,
     content: &mut Vec<u8>,
     found: &mut Vec<Name>,
 ) -> Result<(), Refusal>
-    requires { length page.now.used ≤ view.old.page_size }
-    ensures { view.new.page_size ≡ view.old.page_size }
+    requires { length page.now.used ≤ S.size source.old }
+    ensures refused { S.gives_pages source.old → IfErr result (λ refusal. refusal ≡ NoMemory) }
+    ensures same { KeepsPages S.pages S.size S.gives_pages source.old source.new }
 {
     for i in 0..page.len() {
         let cell = page.cell(i);
         if cell.payload.is_none() {
             continue;
         }
-        if let Some(name) = name_at(alloc, view, &cell, content)? {
+        if let Some(name) = name_at(alloc, source, &cell, content)? {
             if found.push(name).is_err() {
                 return Err(Refusal::NoMemory);
             }
@@ -130,55 +137,59 @@ fn add_names<F: FileBytes>(
 }
 
 /// Adds the names that the rows in a page give, where it is a leaf of a table.
-fn add_leaf<F: FileBytes>(
+fn add_leaf<S: PageSource>(
     alloc: Global,
-    view: &mut View<F>,
+    source: &mut S,
     number: u32,
     usable: u32,
     content: &mut Vec<u8>,
     found: &mut Vec<Name>,
 ) -> Result<(), Refusal>
     requires least { 480 ≤ usable }
-    requires most { usable ≤ view.old.page_size }
-    ensures { view.new.page_size ≡ view.old.page_size }
+    requires most { usable ≤ S.size source.old }
+    ensures refused { S.gives_pages source.old → IsPage (S.pages source.old) number
+        → IfErr result (λ refusal. refusal ≡ NoMemory) }
+    ensures same { KeepsPages S.pages S.size S.gives_pages source.old source.new }
 {
-    let bytes = read_page(alloc, view, number)?;
+    let bytes = page_in(alloc, source, number)?;
     match BtreePage::new(&bytes, number, usable) {
         Ok(page) if page.kind() == Kind::TableLeaf => {
-            add_names(alloc, view, &page, content, found)
+            add_names(alloc, source, &page, content, found)
         }
         _ => Ok(()),
     }
 }
 
-/// Whether a role is that of a leaf of the schema's tree.
-fn has_rows(role: Role) -> bool {
+/// Whether the page at a place, from 0, is a leaf of the schema's tree.
+fn has_rows(survey: &Survey, i: usize) -> bool {
     matches!(
-        role,
-        Role::Btree {
+        survey.roles.get(i),
+        Some(Role::Btree {
             kind: Kind::TableLeaf,
             root: 1
-        }
+        })
     )
 }
 
 /// The names that the schema of a database gives to its trees; none where its text isn't UTF-8.
-pub(crate) fn names_in<F: FileBytes>(
+pub(crate) fn names_in<S: PageSource>(
     alloc: Global,
-    view: &mut View<F>,
+    source: &mut S,
     survey: &Survey,
-) -> Result<Names, Refusal> {
+) -> Result<Names, Refusal>
+    ensures refused { S.gives_pages source.old → IfErr result (IsPageUnread (S.pages source.old) 1) }
+    ensures same { KeepsPages S.pages S.size S.gives_pages source.old source.new }
+{
     let mut found = Vec::new(alloc);
-    let first = read_page(alloc, view, 1)?;
+    let first = page_in(alloc, source, 1)?;
     let usable = usable_size(&first);
     if is_utf16(&first) {
         return Ok(Names { found });
     }
     let mut content = Vec::new(alloc);
-    for i in 0..survey.roles.len() {
-        let number = number_of(i);
-        if has_rows(survey.roles[i]) && !is_unsound(&survey.faults, number) {
-            add_leaf(alloc, view, number, usable, &mut content, &mut found)?;
+    for i in 0..source.count() {
+        if has_rows(survey, i as usize) && !is_unsound(&survey.faults, i + 1) {
+            add_leaf(alloc, source, i + 1, usable, &mut content, &mut found)?;
         }
     }
     found.sort_by_key(|name| name.root)?;

@@ -1,9 +1,20 @@
 //! What each page of a database is used for, as its log has it.
-ghost use Rattle.std.specs.Prelude.{IfOk};
-ghost use Rattle.sqview.specs.LogView.{pages_of};
-ghost use Rattle.sqshown.specs.Pages.{IsSurveyed};
+ghost use Rattle.std.specs.Prelude.{◌≡◌, ◌↔◌, ◌+◌, ◌<◌, ◌≤◌, ℕ, List, IfOk, IfErr, IsNone, IsSome, IsTrue};
+ghost use Rattle.sqview.specs.Laid.{place_of};
+ghost use Rattle.sqview.specs.Origins.{AreFramePlaces};
+ghost use Rattle.sqview.specs.Shapes.{shape_of};
+ghost use Rattle.sqshown.specs.Contents.{AreGiven, contents_of};
+ghost use Rattle.sqshown.specs.Found.{fault_in, IsFrontFound, IsFoundOf, IsGivenFound};
+ghost use Rattle.sqshown.specs.internal.Found.{IsFoundIn};
+ghost use Rattle.sqshown.specs.Found.{IsUnfound};
+ghost use Rattle.sqshown.specs.internal.Found.{found_without, IsUnfoundIn};
+ghost use Rattle.sqshown.specs.Logged.{IsLoggedFrame, IsLoggedRecord};
+ghost use Rattle.sqshown.specs.Pages.{IsSurveyed, IsOrdered, IsUnsurveyed};
+ghost use Rattle.sqshown.specs.Records.{AreRecordsOf};
+ghost use Rattle.sqpage.specs.Source.{KeepsPages};
 
 use crate::contents::Contents;
+use crate::held::{Held, Seen};
 use crate::names::{Names, names_in};
 use crate::records::{Records, records_in};
 use crate::views::view_of;
@@ -12,10 +23,11 @@ use sqfacts::{Front, Refusal, first_fault, number_of};
 use sqlines::{Logged, PageLine, write_fault, write_report};
 use sqpage::{CheckError, Fault, PageSource};
 use sqval::Limits;
-use sqview::{FileBytes, View, ViewError};
+use sqview::{FileBytes, Origin, View, ViewError};
 use sqwords::Style;
 use std::alloc::Global;
 use std::io::{self, Write};
+use std::marker::{Brand, PhantomData};
 
 /// The pages of a database, what they are used for, and what its trees are named.
 #[derive(Drop)]
@@ -38,7 +50,9 @@ pub enum Found<F> {
 
 impl<F> Found<F> {
     /// Whether there is a fault.
-    pub fn is_damaged(&self) -> bool {
+    pub fn is_damaged(&self) -> bool
+        ensures { IsTrue result ↔ IsSome (fault_in self.now) }
+    {
         match self {
             Found::Pages(found) => found.survey.answer.is_err(),
             Found::Nothing(_) => true,
@@ -48,7 +62,9 @@ impl<F> Found<F> {
 
 impl<F: FileBytes> Found<F> {
     /// The front of the log at which the view stands, if a frame counts.
-    pub fn front(&self) -> Option<Front> {
+    pub fn front(&self) -> Option<Front>
+        ensures { IsFrontFound self.now result }
+    {
         match self {
             Found::Pages(found) => Front::of_view(&found.view),
             Found::Nothing(_) => None,
@@ -58,29 +74,41 @@ impl<F: FileBytes> Found<F> {
 
 impl<F: FileBytes> Surveyed<F> {
     /// Where page i, from 0, stands in the log that counts. None where the database file's counts.
-    pub fn logged(&self, i: usize) -> Option<Logged> {
-        let at = match self.view.places().get(i) {
-            Some(at) if *at != 0 => *at,
-            _ => return None,
-        };
-        if self.view.front() == 0 {
-            return self.records.number_at(at).map(Logged::Record);
+    pub fn logged(&self, i: usize) -> Option<Logged>
+        ensures frame { 1 ≤ self.now.view.front → (wal : List ℕ) → i < self.now.view.count
+            → AreFramePlaces self.now.view.page_size wal self.now.view.front self.now.view.count
+            self.now.view.places.items
+            → IsLoggedFrame self.now.view.page_size wal self.now.view.front (i + 1) result }
+        ensures record { self.now.view.front ≡ 0 → (journal : List ℕ) → i < self.now.view.count
+            → AreRecordsOf journal self.now.records
+            → IsLoggedRecord journal (place_of self.now.view.places.items (i + 1)) result }
+    {
+        if i >= self.view.count() as usize {
+            return None;
         }
-        let frame = 24 + u64::from(self.view.page_size().get());
-        Some(Logged::Frame((at.saturating_sub(56) / frame).saturating_add(1)))
+        match self.view.origin(i as u32 + 1) {
+            Origin::File => None,
+            Origin::Frame(frame) => Some(Logged::Frame(frame)),
+            Origin::Record(at) => match self.records.number_at(at) {
+                Some(number) => Some(Logged::Record(number)),
+                None => None,
+            },
+        }
     }
 }
 
 /// What a survey of a view finds, or the fault for which no page of it can be walked over. Refused by AutoVacuum,
 /// FileFailed and NoMemory, which say that a database can't be surveyed and not that it is damaged.
-fn survey_of<F: FileBytes>(
+fn survey_of<S: PageSource>(
     alloc: Global,
-    view: &mut View<F>,
+    source: &mut S,
 ) -> Result<Result<Survey, CheckError>, Refusal>
-    ensures { F.gives_bytes view.old.db × F.gives_bytes view.old.log
-        → IfOk result (IsSurveyed (pages_of F.bytes view.old) view.old.page_size) }
+    ensures found { S.gives_pages source.old → IfOk result (IsSurveyed (S.pages source.old) (S.size source.old)) }
+    ensures refused { S.gives_pages source.old
+        → IfErr result (IsUnsurveyed (S.pages source.old) (S.size source.old)) }
+    ensures same { KeepsPages S.pages S.size S.gives_pages source.old source.new }
 {
-    let (error, found) = match survey_pages(alloc, view) {
+    let (error, found) = match survey_pages(alloc, source) {
         Ok(survey) => match survey.answer {
             Ok(_) => return Ok(Ok(survey)),
             Err(error) => (error, Ok(survey)),
@@ -96,11 +124,17 @@ fn survey_of<F: FileBytes>(
 }
 
 /// A survey of a view whose faults are in the order of their pages, or the fault for which there is none.
-fn sorted_survey<F: FileBytes>(
+fn sorted_survey<S: PageSource>(
     alloc: Global,
-    view: &mut View<F>,
-) -> Result<Result<Survey, CheckError>, Refusal> {
-    match survey_of(alloc, view)? {
+    source: &mut S,
+) -> Result<Result<Survey, CheckError>, Refusal>
+    ensures found { S.gives_pages source.old → IfOk result (IsSurveyed (S.pages source.old) (S.size source.old)) }
+    ensures ordered { IfOk result (λ found. IfOk found IsOrdered) }
+    ensures refused { S.gives_pages source.old
+        → IfErr result (IsUnsurveyed (S.pages source.old) (S.size source.old)) }
+    ensures same { KeepsPages S.pages S.size S.gives_pages source.old source.new }
+{
+    match survey_of(alloc, source)? {
         Ok(mut survey) => match survey.faults.sort_by_key(|error| error.page) {
             Ok(()) => Ok(Ok(survey)),
             Err(_) => Err(Refusal::NoMemory),
@@ -109,26 +143,70 @@ fn sorted_survey<F: FileBytes>(
     }
 }
 
+/// What is found of a view that shows this, beside these records.
+fn found_held<V: Seen, F: FileBytes + Drop>(
+    alloc: Global,
+    view: View<F>,
+    records: Records,
+) -> Result<Found<F>, Refusal>
+    requires { shape_of F.bytes view ≡ V.shape }
+    ensures found { F.gives_bytes view.db × F.gives_bytes view.log
+        → IfOk result (IsFoundIn F.bytes V.shape records) }
+    ensures refused { F.gives_bytes view.db × F.gives_bytes view.log
+        → IfErr result (IsUnfoundIn V.shape) }
+    ensures still_gives { F.gives_bytes view.db × F.gives_bytes view.log
+        → IfOk result (IsGivenFound F.gives_bytes) }
+{
+    let mut held: Held<V, F> = Held {
+        view,
+        seen: PhantomData,
+    };
+    let survey = match sorted_survey(alloc, &mut held) {
+        Ok(Ok(survey)) => survey,
+        Ok(Err(error)) => return Ok(Found::Nothing(error)),
+        Err(refusal) => return Err(refusal),
+    };
+    match names_in(alloc, &mut held, &survey) {
+        Ok(names) => {
+            let Held { view, .. } = held;
+            Ok(Found::Pages(Surveyed {
+                view,
+                survey,
+                names,
+                records,
+            }))
+        }
+        Err(refusal) => Err(refusal),
+    }
+}
+
 /// What is found of a view beside these records.
 fn found_in<F: FileBytes + Drop>(
     alloc: Global,
     view: View<F>,
     records: Records,
-) -> Result<Found<F>, Refusal> {
-    let mut view = view;
-    let survey = match sorted_survey(alloc, &mut view) {
-        Ok(Ok(survey)) => survey,
-        Ok(Err(error)) => return Ok(Found::Nothing(error)),
-        Err(refusal) => return Err(refusal),
-    };
-    match names_in(alloc, &mut view, &survey) {
-        Ok(names) => Ok(Found::Pages(Surveyed {
-            view,
-            survey,
-            names,
-            records,
-        })),
-        Err(refusal) => Err(refusal),
+) -> Result<Found<F>, Refusal>
+    ensures found { F.gives_bytes view.db × F.gives_bytes view.log
+        → IfOk result (IsFoundIn F.bytes (shape_of F.bytes view) records) }
+    ensures refused { F.gives_bytes view.db × F.gives_bytes view.log
+        → IfErr result (IsUnfoundIn (shape_of F.bytes view)) }
+    ensures still_gives { F.gives_bytes view.db × F.gives_bytes view.log
+        → IfOk result (IsGivenFound F.gives_bytes) }
+{
+    found_held::<Brand, F>(alloc, view, records)
+}
+
+/// What is found of files that have no view: the fault of a header, at page 1.
+fn without_pages<F>(error: ViewError) -> Result<Found<F>, Refusal>
+    ensures { result ≡ found_without error }
+{
+    match error {
+        ViewError::Header(fault) => Ok(Found::Nothing(CheckError { page: 1, fault })),
+        ViewError::TwoLogs => Err(Refusal::TwoLogs),
+        ViewError::TooLarge => Err(Refusal::TooLarge),
+        ViewError::Unread => Err(Refusal::FileFailed),
+        ViewError::NoMemory => Err(Refusal::NoMemory),
+        ViewError::NoSuchCommit => Err(Refusal::NoSuchCommit),
     }
 }
 
@@ -139,14 +217,19 @@ pub fn survey_files<F: FileBytes + Drop>(
     limits: Limits,
     files: Contents<F>,
     at: Option<u32>,
-) -> Result<Found<F>, Refusal> {
+) -> Result<Found<F>, Refusal>
+    ensures found { AreGiven F.gives_bytes files
+        → IfOk result (IsFoundOf limits F.bytes at (contents_of F.bytes files)) }
+    ensures refused { AreGiven F.gives_bytes files
+        → IfErr result (IsUnfound limits at (contents_of F.bytes files)) }
+    ensures still_gives { AreGiven F.gives_bytes files → IfOk result (IsGivenFound F.gives_bytes) }
+{
     let mut files = files;
     let records = records_in(alloc, &mut files.journal)?;
     let Contents { db, wal, journal } = files;
     match view_of(alloc, limits, db, wal, journal, at) {
         Ok(view) => found_in(alloc, view, records),
-        Err(ViewError::Header(fault)) => Ok(Found::Nothing(CheckError { page: 1, fault })),
-        Err(error) => Err(Refusal::from(error)),
+        Err(error) => without_pages(error),
     }
 }
 
@@ -179,7 +262,9 @@ pub fn write_pages<F: FileBytes, W: Write>(
 }
 
 /// What `check` prints of what was found. Whether the database is well formed. An error of the writer.
-pub fn write_verdict<F, W: Write>(out: &mut W, style: Style, found: &Found<F>) -> io::Result<bool> {
+pub fn write_verdict<F, W: Write>(out: &mut W, style: Style, found: &Found<F>) -> io::Result<bool>
+    ensures { IfOk result (λ sound. IsTrue sound ↔ IsNone (fault_in found.now)) }
+{
     let error = match found {
         Found::Pages(found) => match &found.survey.answer {
             Ok(report) => {

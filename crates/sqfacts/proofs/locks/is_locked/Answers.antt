@@ -3,7 +3,7 @@ use Rattle.std.specs.Str.Lines.{lines}
 use Rattle.std.proofs.lemmas.Iterator.{cases_from_any}
 use Rattle.std.proofs.lemmas.Iterator.Splits.{YieldsList-from_lines}
 use Rattle.sqfacts.specs.Locks.{IsLockOn}
-use Rattle.sqfacts.proofs.LockLists.{decides_any}
+use Rattle.sqfacts.proofs.TextsOfLockLines.{decides_any}
 use Rattle.sqfacts.proofs.locks.is_locked.Goals as goal
 
 pub returns : goal.returns

@@ -1,6 +1,6 @@
 use Rattle.std.proofs.Common.{◌≡◌, Some}
 use Rattle.sqfacts.specs.Locks.{place_text}
-use Rattle.sqfacts.proofs.LockLists.{holds_text}
+use Rattle.sqfacts.proofs.TextsOfLockLines.{holds_text}
 use Rattle.sqfacts.proofs.locks.place_text.Goals as goal
 
 pub returns : goal.returns

@@ -1,6 +1,6 @@
 use Rattle.std.proofs.Common.{◌≡◌, ◌++◌, ◌∷◌, [], length, arith}
 use Rattle.sqfacts.specs.Runs.{expanded}
-use Rattle.sqfacts.proofs.Joining.{longer_run}
+use Rattle.sqfacts.proofs.ExpansionOfRuns.{longer_run}
 use Rattle.sqfacts.proofs.runs.add_use.Goals as goal
 
 pub returns-then-index-lt4294967295 : goal.returns-then-index-lt4294967295

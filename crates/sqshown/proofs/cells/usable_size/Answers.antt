@@ -1,5 +1,5 @@
 use Rattle.std.proofs.Common.{length, arith}
-use Rattle.sqjournal.proofs.Journals.{size_bounds}
+use Rattle.sqjournal.proofs.read.JournalOfTakenBytes.{size_bounds}
 use Rattle.sqshown.proofs.cells.usable_size.Goals as goal
 
 pub bounds-first-20 : goal.bounds-first-20

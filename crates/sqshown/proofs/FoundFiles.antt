@@ -1,0 +1,89 @@
+-- What is found of files, by what is found in their view.
+use Rattle.std.proofs.Common.{◌≡◌, ℕ, ◌≤◌, List, [], length, refl, sym, subst, inl, inr}
+use Rattle.std.specs.Prelude.{Option, None, Some, Result, Ok, Err, IfOk, IfErr}
+use Rattle.sqval.specs.Limits.{Bounds}
+use Rattle.sqview.specs.At.{ViewsAt}
+use Rattle.sqview.specs.LogView.{Views, StandsAt, IsAlone, pages_of}
+use Rattle.sqview.specs.Origins.{AreFramePlaces}
+use Rattle.sqview.specs.Shapes.{Shape, shape_of}
+use Rattle.sqview.specs.declared.view.View.{View}
+use Rattle.sqview.specs.declared.view_error.ViewError.{ViewError}
+use Rattle.sqview.specs.declared.view_error.ViewError.TheVariants as views
+use Rattle.sqfacts.specs.declared.outcome.Refusal.{Refusal}
+use Rattle.sqfacts.specs.declared.outcome.Refusal.TheVariants.{FileFailed, AutoVacuum, NoSuchPage, NoMemory}
+use Rattle.sqshown.specs.Found.{IsFoundOf, IsUnfound}
+use Rattle.sqshown.specs.internal.Found.{found_without, pages_in, IsFoundIn, IsUnfoundIn}
+use Rattle.sqshown.specs.Pages.{IsSurveyed}
+use Rattle.sqshown.specs.Records.{AreRecordsOf}
+use Rattle.sqshown.specs.Views.{AskedAnswer, AskedRefused}
+use Rattle.sqshown.specs.declared.contents.Contents.{Contents}
+use Rattle.sqshown.specs.declared.records.Records.{Records}
+use Rattle.sqshown.specs.declared.surveys.Found.{Found}
+use Rattle.sqshown.specs.declared.surveys.Found.TheVariants.{Pages, Nothing}
+use Rattle.sqshown.proofs.AskedFronts.{shows_asked}
+
+module _ {F : Type 0} (limits : Bounds) (bytes : F → List ℕ) (db wal journal : List ℕ) (v now : View F) (same : shape_of bytes now ≡ shape_of bytes v) where
+  -- a view that shows the same is the one that is asked for, too
+  same_view : (at : Option ℕ) → AskedAnswer limits bytes at db wal journal (Ok v) → AskedAnswer limits bytes at db wal journal (Ok now)
+  same_view None is = record {
+    shows = subst (λ (s : Shape). Views s.page_size db wal journal (pages_in s)) (sym same) is.shows;
+    one = is.one;
+    short = is.short;
+    within = is.within;
+    headed = is.headed;
+    stands = subst (λ (s : Shape). StandsAt wal journal s.front) (sym same) is.stands;
+    unplaced = subst (λ (s : Shape). IsAlone wal journal → s.places ≡ []) (sym same) is.unplaced;
+    placed = subst (λ (s : Shape). (¬ IsAlone wal journal) → length s.places ≡ s.count) (sym same) is.placed;
+    framed = subst (λ (s : Shape). 1 ≤ s.front → AreFramePlaces s.page_size wal s.front s.count s.places) (sym same) is.framed;
+  }
+  same_view (Some m) is = record {
+    shows = subst (λ (s : Shape). ViewsAt m s.page_size db wal journal (pages_in s)) (sym same) is.shows;
+    stands = subst (λ (s : Shape). s.front ≡ m) (sym same) is.stands;
+    one = is.one;
+    short = is.short;
+    within = is.within;
+    headed = is.headed;
+    unplaced = subst (λ (s : Shape). m ≡ 0 → s.places ≡ []) (sym same) is.unplaced;
+    placed = subst (λ (s : Shape). 1 ≤ m → length s.places ≡ s.count) (sym same) is.placed;
+    framed = subst (λ (s : Shape). 1 ≤ m → AreFramePlaces s.page_size wal m s.count s.places) (sym same) is.framed;
+  }
+
+-- what is found without a view
+module _ {F : Type 0} (limits : Bounds) (bytes : F → List ℕ) (at : Option ℕ) (files : Contents (List ℕ)) where
+  pub found_of_none : (error : ViewError) → AskedRefused limits at files.db files.wal files.journal error → IfOk (found_without {F = F} error) (IsFoundOf limits bytes at files)
+  found_of_none (views.Header fault) refused = inl (refl, refused)
+  found_of_none views.TwoLogs refused = tt
+  found_of_none views.TooLarge refused = tt
+  found_of_none views.Unread refused = tt
+  found_of_none views.NoMemory refused = tt
+  found_of_none views.NoSuchCommit refused = tt
+
+  pub refused_of_none : (error : ViewError) → AskedRefused limits at files.db files.wal files.journal error → IfErr (found_without {F = F} error) (IsUnfound limits at files)
+  refused_of_none (views.Header fault) refused = tt
+  refused_of_none views.TwoLogs refused = refused
+  refused_of_none views.TooLarge refused = inr refused
+  refused_of_none views.Unread refused = tt
+  refused_of_none views.NoMemory refused = tt
+  refused_of_none views.NoSuchCommit refused = refused
+
+module _ {F : Type 0} (limits : Bounds) (bytes : F → List ℕ) (at : Option ℕ) (files : Contents (List ℕ)) (v : View F) (records : Records) (asked : AskedAnswer limits bytes at files.db files.wal files.journal (Ok v)) where
+  pub found_of_view : (r : Result (Found F) Refusal) → AreRecordsOf files.journal records → IfOk r (IsFoundIn bytes (shape_of bytes v) records) → IfOk r (IsFoundOf limits bytes at files)
+  found_of_view (Ok (Pages found)) are is = record {
+    view = same_view limits bytes files.db files.wal files.journal v found.view is.0 at asked;
+    survey = subst (λ (s : Shape). IsSurveyed (pages_in s) s.page_size (Ok found.survey)) (sym is.0) is.1;
+    ordered = is.2;
+    records = subst (λ (x : Records). AreRecordsOf files.journal x) (sym is.3) are;
+  }
+  found_of_view (Ok (Nothing error)) are is = inr (v.page_size, pages_of bytes v, shows_asked limits bytes files.db files.wal files.journal v at asked, is)
+  found_of_view (Err refusal) are is = tt
+
+  unfound_of_view : (refusal : Refusal) → IsUnfoundIn (shape_of bytes v) refusal → IsUnfound limits at files refusal
+  unfound_of_view NoSuchPage none = (v.page_size, pages_of bytes v, shows_asked limits bytes files.db files.wal files.journal v at asked, none)
+  unfound_of_view AutoVacuum maps = (v.page_size, pages_of bytes v, shows_asked limits bytes files.db files.wal files.journal v at asked, maps)
+  unfound_of_view FileFailed failed = tt
+  unfound_of_view NoMemory memory = tt
+  unfound_of_view _ never = absurd never
+
+  pub refused_of_view : (r : Result (Found F) Refusal) → IfErr r (IsUnfoundIn (shape_of bytes v)) → IfErr r (IsUnfound limits at files)
+  refused_of_view (Ok found) is = tt
+  refused_of_view (Err refusal) is = unfound_of_view refusal is

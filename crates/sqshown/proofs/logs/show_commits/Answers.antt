@@ -1,0 +1,19 @@
+use Rattle.std.proofs.Common.{subst}
+use Rattle.std.specs.Prelude.{Ok, Result}
+use Rattle.sqwal.specs.declared.error.WalFormatError.{WalFormatError}
+use Rattle.sqwal.specs.declared.scan.Scan.{Scan}
+use Rattle.sqview.specs.Logs.{CountsAnswer}
+use Rattle.sqview.specs.declared.logs.LogInUse.{LogInUse}
+use Rattle.sqshown.specs.Logs.{ScanFound}
+use Rattle.sqshown.proofs.CountedLogs.{counted, commits_shown}
+use Rattle.sqshown.proofs.logs.show_commits.Goals as goal
+
+pub returns-in-Ok-clause-front : goal.returns-in-Ok-clause-front
+returns-in-Ok-clause-front g c = λ given_wal given_journal.
+    let bytes = g.F.FileBytes.bytes in
+    let wal = bytes c.args.wal.now in
+    let journal = bytes c.args.journal.now in
+    let counts = counted wal journal c.log_in_use.result c.map_err.result c.in_ok-map_err.field-0 _ (c.log_in_use.ensures.answer given_wal given_journal) c.map_err.ensures.cases c.map_err.ensures.variant c.in_ok-map_err.was in
+    let cold = subst (λ (l : LogInUse). CountsAnswer wal journal (Ok l)) c.in-Wal.is counts in
+    let took = subst (λ (r : Result Scan WalFormatError). ScanFound c.limits_of.result wal (Ok r)) c.in-Ok.is (c.in_ok-scan-in-Wal.ensures.found given_wal) in
+    commits_shown wal journal c.show_commits_of.result c.limits_of.result.frames c.in-Ok.scan cold.0 took c.show_commits_of.ensures.front

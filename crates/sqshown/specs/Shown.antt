@@ -1,0 +1,41 @@
+-- What is shown of a database: its header, and a page.
+use Rattle.std.specs.Prelude.{ℕ, ◌⊎◌, List, take}
+use Rattle.sqval.specs.Database.{Database, page}
+use Rattle.sqpage.specs.Freelist.{IsPage}
+use Rattle.sqpage.specs.Header.{IsHeader}
+use Rattle.sqpage.specs.declared.header.DbHeader.{DbHeader}
+use Rattle.sqfacts.specs.declared.outcome.Refusal.{Refusal}
+use Rattle.sqfacts.specs.declared.outcome.Refusal.TheVariants.{NotADatabase, NoSuchPage, NoMemory}
+use Rattle.sqwords.specs.declared.requests.Options.{Options}
+use Rattle.sqshown.specs.Views.{AskedShows, IsUnasked}
+
+-- why a page isn't read
+abbrev pub IsPageUnread : Database → (number : ℕ) → Refusal → Type 0
+IsPageUnread d number NoSuchPage = ¬ IsPage d number
+IsPageUnread d number NoMemory = Unit {0}
+IsPageUnread d number _ = ⊥
+
+-- the first 100 bytes of page 1 are the header of a database
+abbrev pub HasHeader : Database → Type 0
+HasHeader d = (header : DbHeader) × IsHeader header (take 100 (page d 1))
+
+-- the database that is asked for has such a header
+abbrev pub ShowsHeader : Options → (db wal journal : List ℕ) → Type 0
+ShowsHeader options db wal journal = (size : ℕ) × (d : Database) × AskedShows options.at size db wal journal d × HasHeader d
+
+-- why its header isn't shown
+abbrev pub IsHeaderUnshown : Options → (db wal journal : List ℕ) → Refusal → Type 0
+IsHeaderUnshown options db wal journal NotADatabase =
+    IsUnasked options db wal journal NotADatabase ⊎ ((size : ℕ) × (d : Database) × AskedShows options.at size db wal journal d × ¬ HasHeader d)
+IsHeaderUnshown options db wal journal NoMemory = Unit {0}
+IsHeaderUnshown options db wal journal refusal = IsUnasked options db wal journal refusal
+
+-- it has such a page
+abbrev pub ShowsPage : Options → (number : ℕ) → (db wal journal : List ℕ) → Type 0
+ShowsPage options number db wal journal = (size : ℕ) × (d : Database) × AskedShows options.at size db wal journal d × IsPage d number
+
+-- why its page isn't shown
+abbrev pub IsPageUnshown : Options → (number : ℕ) → (db wal journal : List ℕ) → Refusal → Type 0
+IsPageUnshown options number db wal journal NoSuchPage = (size : ℕ) × (d : Database) × AskedShows options.at size db wal journal d × ¬ IsPage d number
+IsPageUnshown options number db wal journal NoMemory = Unit {0}
+IsPageUnshown options number db wal journal refusal = IsUnasked options db wal journal refusal

@@ -1,0 +1,5 @@
+-- What no public clause reaches.
+pub mod Found
+pub mod LogsShown
+pub mod Records
+pub mod Shown

@@ -1,0 +1,35 @@
+-- What is found of files.
+use Rattle.std.specs.Prelude.{◌≡◌, ℕ, List, Result, Ok, Err}
+use Rattle.sqval.specs.Database.{Database}
+use Rattle.sqpage.specs.Freelist.{IsPage}
+use Rattle.sqview.specs.Laid.{laid}
+use Rattle.sqview.specs.Shapes.{Shape, shape_of}
+use Rattle.sqview.specs.declared.view_error.ViewError.{ViewError}
+use Rattle.sqview.specs.declared.view_error.ViewError.TheVariants as views
+use Rattle.sqfacts.specs.Refusals.{refusal_of}
+use Rattle.sqfacts.specs.declared.outcome.Refusal.{Refusal}
+use Rattle.sqfacts.specs.declared.outcome.Refusal.TheVariants.{NoSuchPage}
+use Rattle.sqshown.specs.Pages.{IsSurveyed, IsOrdered, IsUnsurveyed}
+use Rattle.sqshown.specs.declared.records.Records.{Records}
+use Rattle.sqshown.specs.declared.surveys.Found.{Found}
+use Rattle.sqshown.specs.declared.surveys.Found.TheVariants.{Pages, Nothing}
+
+-- what is found where there is no view
+abbrev pub found_without : {F : Type 0} → ViewError → Result (Found F) Refusal
+found_without (views.Header fault) = Ok (Nothing (record { page = 1; fault = fault }))
+found_without error = Err (refusal_of error)
+
+-- the pages of what a view shows
+abbrev pub pages_in : Shape → Database
+pages_in shape = laid shape.page_size shape.count shape.db shape.log shape.places
+
+-- a view that shows this, the survey of its pages, and these records; or the fault for which its pages can't be walked over
+abbrev pub IsFoundIn : {F : Type 0} → (bytes : F → List ℕ) → Shape → Records → Found F → Type 0
+IsFoundIn bytes shape records (Pages found) = (shape_of bytes found.view ≡ shape) × IsSurveyed (pages_in shape) shape.page_size (Ok found.survey)
+    × IsOrdered found.survey × (found.records ≡ records)
+IsFoundIn bytes shape records (Nothing error) = IsSurveyed (pages_in shape) shape.page_size (Err error)
+
+-- why nothing is found
+abbrev pub IsUnfoundIn : Shape → Refusal → Type 0
+IsUnfoundIn shape NoSuchPage = ¬ IsPage (pages_in shape) 1
+IsUnfoundIn shape refusal = IsUnsurveyed (pages_in shape) shape.page_size refusal
