@@ -1,5 +1,5 @@
 -- A call that adds no log to those that may be read, and no file to those that may be left.
-use Rattle.std.proofs.Common.{◌≡◌, ◌⊎◌, inl, inr, ⊎_elim, ℕ, Bool, true, false, List, refl, sym, ◌∙◌, subst, []}
+use Rattle.std.proofs.Common.{◌≡◌, ◌⊎◌, inl, inr, ⊎_elim, ℕ, Bool, true, false, List, sym, ◌∙◌, subst, []}
 use Rattle.std.specs.Prelude.{Result, Ok, Err}
 use Rattle.sqval.specs.Database.{Database}
 use Rattle.crashdisk.specs.State.{FileState, IsImage}

@@ -55,3 +55,8 @@ tells_zero device count r a b steps = ⊎_elim
     (λ failed. tells_called device failed.0 r a b failed.3.elsewhere.refused failed.2)
     (λ done. tells_then device r a done.0 b (λ more. omega (arith, done.1.1.elsewhere.refused)) (tells_sync device _ r done.0 b done.2))
     steps
+
+-- an error that was turned into another is told by it
+pub turned : {T E : Type 0} (device : E) (Gives : E → Type 0) (r : Result T E) → IsErrAnd r Gives → ((e : E) → Gives e → e ≡ device) → r ≡ Err device
+turned device Gives (Err e) gives is = ap Err (is e gives)
+turned device Gives (Ok v) gives is = absurd gives

@@ -3,6 +3,8 @@
 
 mod copying;
 mod limits;
+mod scanning;
 
 pub use copying::fitting;
 pub use limits::MOST_BYTES;
+pub use scanning::{LogScan, scan_log};

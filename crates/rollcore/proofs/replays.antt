@@ -1,5 +1,4 @@
 -- The replay of a hot journal into its file: scan, plan, copy, end, and what is shown meanwhile.
-pub mod RefusedScans
 pub mod LastRecordOfPage
 pub mod ScanOfLogPrefix
 pub mod CopiedPages

@@ -12,3 +12,4 @@ pub mod Committing
 pub mod Lengths
 pub mod Opening
 pub mod Reading
+pub mod SoundScan

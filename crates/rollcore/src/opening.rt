@@ -9,11 +9,10 @@ ghost use Rattle.rollcore.specs.Opening.{OpensCore};
 ghost use Rattle.rollcore.specs.internal.Opening.{BreaksMagic, BreaksFront, RecoversSynced, Recovers};
 ghost use Rattle.rollcore.specs.internal.Opening.{SizeJudged};
 ghost use Rattle.rollcore.specs.internal.Opening.{IsNewCore};
-ghost use Rattle.recovery.specs.internal.Reading.{OnlyReads};
+ghost use Rattle.recovery.specs.Reading.{OnlyReads};
 
 use crate::error::RollError;
 use crate::plan::Plan;
-use crate::reading::zeros;
 use crate::replaying::{find_plan, replay_plan, sector_that_tears};
 use crate::roll::{Refused, Roll};
 use crate::state::Core;
@@ -146,8 +145,8 @@ fn open_core<D: Disk>(alloc: Global, disk: &mut D, page_size: PageSize) -> Resul
     if size < sector_that_tears(disk) {
         return Err(RollError::SectorAbovePage);
     }
-    let room = zeros(alloc, size + 8)?;
-    let header = zeros(alloc, disk.sector())?;
+    let room = vec![in alloc; 0u8; size + 8]?;
+    let header = vec![in alloc; 0u8; disk.sector()]?;
     let pages = recover(alloc, disk, page_size)?;
     Ok(new_core(alloc, page_size, pages, room, header))
 }

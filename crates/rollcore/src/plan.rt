@@ -5,10 +5,10 @@ ghost use Rattle.sqjournal.specs.Journal.{IsHot};
 ghost use Rattle.rollcore.specs.internal.Plans.{IsSmall, IsPlanWithin, JudgeAnswer, PlanAnswer, ReadAnswer};
 ghost use Rattle.rollcore.specs.internal.Steps.{HasRead};
 ghost use Rattle.crashdisk.specs.During.{During};
-ghost use Rattle.recovery.specs.internal.Reading.{OnlyReads, OfLog};
+ghost use Rattle.recovery.specs.Reading.{OnlyReads, OfLog};
 
 use crate::error::RollError;
-use crate::reading::{scan_log, zeros};
+use crate::reading::scan_log;
 use crashdisk::Disk;
 use sqjournal::{JournalHeader, Replay};
 use sqval::Limits;
@@ -57,7 +57,7 @@ fn plan_of(
         return Ok(None);
     };
     judge(&header, limits, torn)?;
-    let room = zeros(alloc, header.page_size.get() as usize + RUN)?;
+    let room = vec![in alloc; 0u8; header.page_size.get() as usize + RUN]?;
     Ok(Some(Plan { scan, header, room }))
 }
 

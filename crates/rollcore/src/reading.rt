@@ -1,17 +1,17 @@
 //! The scan of the journal on a disk (own).
-ghost use Rattle.std.specs.Prelude.{◌≡◌, ◌+◌, ◌<◌, length, IfOk, OnErr};
-ghost use Rattle.rollcore.specs.internal.Steps.{IsWithoutHeader, journal_scan};
+ghost use Rattle.std.specs.Prelude.{◌≡◌};
 ghost use Rattle.crashdisk.specs.During.{During};
-ghost use Rattle.recovery.specs.internal.Reading.{OnlyReads, OfLog};
-ghost use Rattle.recovery.specs.internal.Scanning.{TakesPiece, TakesLog, ScanAnswer};
+ghost use Rattle.rollcore.specs.declared.error.RollError.TheVariants.{Device};
+ghost use Rattle.rollcore.specs.internal.SoundScan.{journal_sound, scan_memory};
+ghost use Rattle.rollcore.specs.internal.Steps.{IsWithoutHeader, journal_scan};
+ghost use Rattle.recovery.specs.Reading.{OnlyReads, OfLog};
+ghost use Rattle.recovery.specs.Scanning.{ScanAnswer};
 
 use crate::error::RollError;
-use crashdisk::{Disk, File};
+use crashdisk::Disk;
+use recovery::LogScan;
 use sqjournal::{JournalError, LONGEST, Replay};
 use std::alloc::Global;
-
-/// How many bytes of the journal are read at once.
-const PIECE: usize = 131072;
 
 /// A journal whose first header isn't valid isn't hot.
 fn without_header(error: JournalError) -> Result<bool, RollError>
@@ -26,56 +26,27 @@ fn without_header(error: JournalError) -> Result<bool, RollError>
     }
 }
 
-/// Reads the next piece of the journal and hands it to the scan. Whether the journal may be hot.
-fn feed_piece<D: Disk>(
-    disk: &mut D,
-    scan: &mut Replay,
-    at: u64,
-    piece: &mut [u8],
-) -> Result<bool, RollError>
-    ensures { During D.keeps_word D.state disk.old disk.new
-        (OnlyReads RollError.Device result (TakesPiece journal_scan at (length piece.old) scan.old scan.new result)) }
-{
-    disk.read_at(File::Log, at, piece)?;
-    match scan.feed(piece) {
-        Ok(()) => Ok(true),
-        Err(error) => without_header(error),
-    }
-}
+impl LogScan<RollError> for Replay {
+    ghost kind = { λ _. journal_scan };
 
-/// Hands the journal, which has this many bytes, to the scan, no further than the piece in which it ends. Whether it
-/// may be hot.
-fn scan_pieces<D: Disk>(
-    disk: &mut D,
-    scan: &mut Replay,
-    long: u64,
-    buffer: &mut [u8],
-) -> Result<bool, RollError>
-    requires { 0 < length buffer.old }
-    ensures { During D.keeps_word D.state disk.old disk.new
-        (OnlyReads RollError.Device result (TakesLog journal_scan long scan.old scan.new result)) }
-{
-    let most = buffer.len();
-    let mut at = 0;
-    while at < long {
-        let n = (long - at).min(most as u64) as usize;
-        if !feed_piece(disk, scan, at, &mut buffer[..n])? {
-            return Ok(false);
-        }
-        at += n as u64;
-        if scan.is_over() {
-            return Ok(true);
+    ghost device = { Device };
+
+    fn take_piece(&mut self, piece: &[u8]) -> Result<bool, RollError> {
+        match self.feed(piece) {
+            Ok(()) => Ok(true),
+            Err(error) => without_header(error),
         }
     }
-    Ok(true)
-}
 
-/// So many zero bytes.
-pub fn zeros(alloc: Global, long: usize) -> Result<Vec<u8>, RollError>
-    ensures long { IfOk result (λ v. length v.items ≡ long) }
-    ensures memory { OnErr result (result ≡ Err RollError.NoMemory) }
-{
-    Ok(vec![in alloc; 0u8; long]?)
+    fn is_settled(&self) -> bool {
+        self.is_over()
+    }
+
+    ghost sound = { λ _. journal_sound };
+
+    ghost device_gives = { λ _ e is. is };
+
+    ghost memory_gives = { λ _ w _ e a b is. scan_memory w e a b is };
 }
 
 /// Scans the journal, which has this many bytes. None where its first header is refused. Of one that is too long
@@ -91,11 +62,5 @@ pub fn scan_log<D: Disk>(
     if long > LONGEST {
         return Err(RollError::TooLarge);
     }
-    let mut buffer = zeros(alloc, PIECE)?;
-    let mut scan = Replay::new(alloc);
-    if scan_pieces(disk, &mut scan, long, &mut buffer)? {
-        Ok(Some(scan))
-    } else {
-        Ok(None)
-    }
+    recovery::scan_log(alloc, disk, Replay::new(alloc), long)
 }

@@ -28,7 +28,7 @@ ghost use Rattle.rollcore.specs.internal.Reading.{FindsPlan};
 ghost use Rattle.rollcore.specs.Copying.{ReplaysSynced, ReplaysSyncedWithin};
 ghost use Rattle.rollcore.specs.internal.Copying.{ReplaysPlan};
 ghost use Rattle.rollcore.specs.Copying.{ReplaysFile, ReplaysFileWithin};
-ghost use Rattle.recovery.specs.internal.Reading.{OnlyReads};
+ghost use Rattle.recovery.specs.Reading.{OnlyReads};
 
 /// The size in bytes of a sector that may tear, 0 on a disk that doesn't tear.
 pub(crate) fn sector_that_tears<D: Disk>(disk: &D) -> usize

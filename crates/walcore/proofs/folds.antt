@@ -6,7 +6,6 @@ pub mod ShownDatabaseAfterFilling
 pub mod ZeroedHeader
 pub mod ShownDatabaseDuringZeroing
 pub mod ShownDatabaseDuringCut
-pub mod RefusedScans
 pub mod ScanOfLogPrefix
 pub mod PlanOfScannedLog
 pub mod ShownDatabaseAtExits

@@ -16,3 +16,4 @@ pub mod Syncing
 pub mod Copying
 pub mod Uncommitted
 pub mod Reading
+pub mod SoundScan

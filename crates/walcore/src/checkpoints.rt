@@ -6,7 +6,7 @@ ghost use Rattle.walcore.specs.Closing.{ClosesOnDevice};
 ghost use Rattle.walcore.specs.internal.Uncommitted.{BringsNothing};
 ghost use Rattle.walcore.specs.Bringing.{BringsOldest};
 ghost use Rattle.walcore.specs.internal.Bringing.{IsLeast, SizeAnswer, BringsOver, BringsDatabase, ClosedBy};
-ghost use Rattle.recovery.specs.internal.Reading.{OnlyReads};
+ghost use Rattle.recovery.specs.Reading.{OnlyReads};
 
 use crate::copying::{copy_pages, settle_database};
 use crate::error::WalError;

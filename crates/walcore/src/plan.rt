@@ -6,11 +6,11 @@ ghost use Rattle.sqwal.specs.Header.{named_size, IsHeader};
 ghost use Rattle.sqwal.specs.Frames.{IsValidFrame};
 ghost use Rattle.walcore.specs.Plans.{IsTable};
 ghost use Rattle.walcore.specs.internal.Plans.{wanted_page, HasRoom, JudgeAnswer, PlanAnswer, ReadAnswer};
-ghost use Rattle.recovery.specs.internal.Reading.{OnlyReads, OfLog};
+ghost use Rattle.recovery.specs.Reading.{OnlyReads, OfLog};
 
 use crate::error::WalError;
-use crate::reading::{scan_log, zeros};
 use crashdisk::Disk;
+use recovery::scan_log;
 use sqval::{Limits, PageSize};
 use sqwal::{FrameIndex, Front, Scan};
 use std::alloc::Global;
@@ -130,7 +130,7 @@ fn plan_of(
     }
     let index = index_of(alloc, scan, front)?;
     let page = page_size.get() as usize;
-    let room = zeros(alloc, page + RUN.min(front.frames as usize * page))?;
+    let room = vec![in alloc; 0u8; page + RUN.min(front.frames as usize * page)]?;
     Ok(Plan {
         frames: front.frames,
         size: front.size,
@@ -152,7 +152,7 @@ pub fn read_plan<D: Disk>(
         (OnlyReads WalError.Device result (OfLog long (λ w. ReadAnswer limits page_size w result))) }
     ensures room { IfOk result HasRoom }
 {
-    let scanned = scan_log(alloc, disk, long, limits)?;
+    let scanned = scan_log(alloc, disk, Scan::within(alloc, limits), long)?;
     match scanned {
         Some(scan) => plan_of(alloc, &scan, page_size, limits),
         None => Ok(no_plan(alloc, page_size)),

@@ -13,7 +13,7 @@ use Rattle.rollcore.specs.internal.Plans.{JudgeAnswer, PlanAnswer, ReadAnswer}
 use Rattle.rollcore.specs.declared.plan.Plan.{Plan}
 use Rattle.rollcore.specs.declared.error.RollError.{RollError}
 use Rattle.rollcore.specs.declared.error.RollError.TheVariants.{TooLarge, NoMemory, Device, SectorAbovePage}
-use Rattle.recovery.specs.internal.Scanning.{ScanAnswer}
+use Rattle.recovery.specs.Scanning.{ScanAnswer}
 
 module _ (most torn : ℕ) (w : List ℕ) (hot : IsHot w) (h : JournalHeader) (names : Names w h) where
   bytes_of : h.first_size * h.page_size ≡ word w 16 * word w 24

@@ -1,7 +1,7 @@
 -- What a scan of the first bytes of a log says of the log, and the count of refused calls.
-use Rattle.std.proofs.Common.{◌≡◌, inl, inr, ⊎_elim, ℕ, ◌+◌, ◌-◌, ◌^◌, ◌<◌, ◌≤◌, min, List, ◌++◌, length, get_or, take, drop, refl, sym, ◌∙◌, ap, subst, arith}
-use Rattle.std.specs.Prelude.{Bool, true, false, Option, Result, Ok, Err}
-use Rattle.std.proofs.lemmas.List.{length-take-le, take-take, take-append-drop, drop_all}
+use Rattle.std.proofs.Common.{◌≡◌, inl, inr, ⊎_elim, ℕ, ◌+◌, ◌-◌, ◌^◌, ◌<◌, ◌≤◌, min, List, ◌++◌, length, take, drop, refl, sym, ◌∙◌, ap, subst, arith}
+use Rattle.std.specs.Prelude.{Bool, true, false, Result, Ok, Err}
+use Rattle.std.proofs.lemmas.List.{length-take-le, take-take, take-append-drop}
 use Rattle.std.proofs.lemmas.Bool.{cases_lt}
 use Rattle.sqval.specs.PageSize.{IsPageSize}
 use Rattle.sqval.specs.Bytes.{part, word}
@@ -10,19 +10,17 @@ use Rattle.sqjournal.specs.Journal.{IsHot}
 use Rattle.sqjournal.specs.declared.error.JournalError.{JournalError}
 use Rattle.sqjournal.specs.declared.error.JournalError.TheVariants.{NotAJournal, SectorSize, PageSize, NoMemory, TooLong}
 use Rattle.sqjournal.proofs.journal.DependenceOnPrefix.{word_part}
-use Rattle.crashdisk.specs.State.{FileState, byte, longest}
-use Rattle.crashdisk.specs.Call.{DiskState, IsSoundDisk, Looks, ArePresent, EndsWithin, counted}
+use Rattle.crashdisk.specs.State.{longest}
+use Rattle.crashdisk.specs.Call.{DiskState, EndsWithin, counted}
 use Rattle.crashdisk.specs.declared.error.DiskError.{DiskError}
 use Rattle.crashdisk.specs.declared.error.DiskError.TheVariants.{Stopped, Failed, TooLong as DiskTooLong, NoMemory as DiskNoMemory}
 use Rattle.crashdisk.specs.Keeps.{HadRefusal}
-use Rattle.rollcore.specs.internal.Steps.{IsWithoutHeader, ScanRefused, journal_scan}
+use Rattle.rollcore.specs.internal.Steps.{IsWithoutHeader, ScanRefused, HasRead, journal_scan}
 use Rattle.rollcore.specs.declared.error.RollError.{RollError}
-use Rattle.rollcore.specs.declared.error.RollError.TheVariants.{TooLarge, Device, NoMemory as WalNoMemory}
+use Rattle.rollcore.specs.declared.error.RollError.TheVariants.{TooLarge, NoMemory as WalNoMemory}
 use Rattle.sqjournal.specs.Took.{Took, Refuses, IsSettled}
 use Rattle.sqjournal.specs.declared.replay.Replay.{Replay}
-use Rattle.crashdisk.proofs.call.UnchangingCalls.{had_refusal}
-use Rattle.crashdisk.proofs.sync.BytesOfSyncedLog.{piece_read}
-use Rattle.recovery.specs.internal.Scanning.{PieceAnswer, ScanAnswer, PiecesAnswer}
+use Rattle.recovery.specs.Scanning.{PieceAnswer, ScanAnswer}
 
 magic_front : (w : List ℕ) (n : ℕ) → n ≤ length w → 28 ≤ n → part (take n w) 0 8 ≡ part w 0 8
 magic_front w n fits long = take-take 8 n w (omega arith)
@@ -63,12 +61,8 @@ had_refusal_any {T = T} result e old new is within count =
     by Failed within eq = rises eq
     by DiskNoMemory within eq = rises eq
 
-module _ (w : List ℕ) (log : FileState) (at : ℕ) (given piece : List ℕ) (same_long : length piece ≡ length given) (are : ArePresent log w) (fits : at + length given ≤ length w)
-    (same : (i : ℕ) → i < length piece → get_or piece i 0 ≡ byte log (at + i)) where
-  joined : take at w ++ piece ≡ take (at + length given) w
-  joined = piece_read w log at piece are (omega arith) same ∙ ap (λ (n : ℕ). take (at + n) w) same_long
-
-  pub fed : (s : Replay) (old new : DiskState) → Took (take at w ++ piece) s → PieceAnswer journal_scan w (at + length given) (Ok true) s old new
+module _ (w : List ℕ) (at : ℕ) (piece : List ℕ) (fits : at + length piece ≤ length w) (joined : take at w ++ piece ≡ take (at + length piece) w) where
+  pub fed : (s : Replay) (old new : DiskState) → Took (take at w ++ piece) s → PieceAnswer journal_scan w (at + length piece) (Ok true) s old new
   unfolding PieceAnswer
   fed s old new took = subst (λ (b : List ℕ). Took b s) joined took
 
@@ -79,36 +73,16 @@ module _ (w : List ℕ) (log : FileState) (at : ℕ) (given piece : List ℕ) (s
       answer : (x : Result Bool RollError) → r ≡ x → PieceAnswer journal_scan w end x s old new → PieceAnswer journal_scan w end r s old new
       answer x is p = subst (λ (y : Result Bool RollError). PieceAnswer journal_scan w end y s old new) (sym is) p
 
-      by : (e : JournalError) → Refuses (take (at + length given) w) e → IsWithoutHeader e r → PieceAnswer journal_scan w end r s old new
-      by TooLong refused is = answer (Err TooLarge) is (omega (arith, refused, length-take-le (at + length given) w fits))
+      by : (e : JournalError) → Refuses (take (at + length piece) w) e → IsWithoutHeader e r → PieceAnswer journal_scan w end r s old new
+      by TooLong refused is = answer (Err TooLarge) is (omega (arith, refused, length-take-le (at + length piece) w fits))
       by NoMemory refused is = answer (Err WalNoMemory) is tt
-      by NotAJournal refused is = answer (Ok false) is (no_header w (at + length given) NotAJournal fits (λ z. cc) (λ z. cc) refused)
-      by SectorSize refused is = answer (Ok false) is (no_header w (at + length given) SectorSize fits (λ z. cc) (λ z. cc) refused)
-      by PageSize refused is = answer (Ok false) is (no_header w (at + length given) PageSize fits (λ z. cc) (λ z. cc) refused)
+      by NotAJournal refused is = answer (Ok false) is (no_header w (at + length piece) NotAJournal fits (λ z. cc) (λ z. cc) refused)
+      by SectorSize refused is = answer (Ok false) is (no_header w (at + length piece) SectorSize fits (λ z. cc) (λ z. cc) refused)
+      by PageSize refused is = answer (Ok false) is (no_header w (at + length piece) PageSize fits (λ z. cc) (λ z. cc) refused)
 
--- a refusal of a call of the disk while the log is scanned
-pub scan_refusal : {T : Type 0} (w : List ℕ) (end end2 : ℕ) (result : Result T DiskError) (e : DiskError) (s : Replay) (r : Result Bool RollError) (old new : DiskState)
-    → IsSoundDisk old → ArePresent old.log w → end ≤ length w → result ≡ Err e → Looks end result old new → r ≡ Err Device → PieceAnswer journal_scan w end2 r s old new
-unfolding PieceAnswer ScanRefused
-scan_refusal w end end2 result e s r old new sound are fits is looked device =
-    subst (λ (x : Result Bool RollError). PieceAnswer journal_scan w end2 x s old new) (sym device)
-    (had_refusal result e end old new sound.refused is looked.within (omega (arith, are.len, sound.log.greatest, sound.log.within)) looked.refused)
-
--- ---- One piece after another.
-
--- the journal was read up to its end, or up to where it ends
-module _ (w : List ℕ) (s : Replay) (a b : DiskState) (end : ℕ) (took : Took (take end w) s) where
-  pub pieces_done : length w ≡ end → PiecesAnswer journal_scan w (Ok true) s a b
-  unfolding PiecesAnswer
-  pieces_done long = record { front = take end w; more = drop end w; split = sym (take-append-drop end w); took = took; rest = inl (drop_all end w (omega arith)) }
-
-  pub pieces_over : IsSettled (take end w) → PiecesAnswer journal_scan w (Ok true) s a b
-  unfolding PiecesAnswer
-  pieces_over settled = record { front = take end w; more = drop end w; split = sym (take-append-drop end w); took = took; rest = inr settled }
-
-pub scan_memory : (w : List ℕ) (a b : DiskState) (q : Result (Option Replay) RollError) → q ≡ Err WalNoMemory → ScanAnswer journal_scan w q a b
-unfolding ScanAnswer ScanRefused
-scan_memory w a b q is = subst (λ (x : Result (Option Replay) RollError). ScanAnswer journal_scan w x a b) (sym is) tt
+-- the journal was read up to where it ends
+pub settled_read : (w : List ℕ) (s : Replay) (at : ℕ) → Took (take at w) s → IsSettled (take at w) → HasRead w s
+settled_read w s at took settled = record { front = take at w; more = drop at w; split = sym (take-append-drop at w); took = took; rest = inr settled }
 
 pub scan_long : (w : List ℕ) (a b : DiskState) (n : ℕ) → length w ≡ n → longest < n → ScanAnswer journal_scan w (Err TooLarge) a b
 unfolding ScanAnswer ScanRefused

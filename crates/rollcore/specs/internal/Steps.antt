@@ -17,7 +17,7 @@ use Rattle.crashdisk.specs.Keeps.{HadRefusal, IsLogDown, Still}
 use Rattle.rollcore.specs.declared.replaying.Replayed.{Replayed}
 use Rattle.rollcore.specs.declared.error.RollError.{RollError}
 use Rattle.rollcore.specs.declared.error.RollError.TheVariants.{TooLarge, NoMemory as RollNoMemory, Device}
-use Rattle.recovery.specs.internal.Scanning.{ScanKind}
+use Rattle.recovery.specs.Scanning.{ScanKind}
 
 -- the size of a sector that may tear, 0 where none may
 abbrev pub torn_sector : DiskState → ℕ

@@ -25,7 +25,7 @@ use Rattle.crashdisk.specs.Call.{DiskState}
 use Rattle.walcore.specs.declared.plan.Plan.{Plan}
 use Rattle.walcore.specs.declared.error.WalError.{WalError}
 use Rattle.walcore.specs.declared.error.WalError.TheVariants.{TooLarge, PageSize, NoMemory, Device}
-use Rattle.recovery.specs.internal.Scanning.{ScanAnswer}
+use Rattle.recovery.specs.Scanning.{ScanAnswer}
 
 -- whether there is an entry
 pub entry_decides : (w : List ℕ) (i : ℕ) (o : Option Entry) → EntryFound w i o → IsTrue (is_some o) ↔ IsValidFrame (named_size w) w i

@@ -1,8 +1,7 @@
--- What a scan of the first bytes of a log says of the log, and the count of refused calls.
-use Rattle.std.proofs.Common.{◌≡◌, ℕ, suc, ◌+◌, ◌<◌, ◌≤◌, List, ◌++◌, length, get_or, take, drop, refl, sym, ◌∙◌, ap, subst, arith, inl, inr}
-use Rattle.std.specs.Prelude.{Bool, true, false, Option, Result, Ok, Err}
-use Rattle.std.proofs.lemmas.List.{length-take-le, take-take, take_all, take-append-drop, get_or-drop, get_or_past}
-use Rattle.std.proofs.lemmas.Bool.{cases_lt}
+-- What a scan of the first bytes of a log says of the log.
+use Rattle.std.proofs.Common.{◌≡◌, ℕ, suc, ◌+◌, ◌≤◌, List, ◌++◌, length, take, drop, refl, sym, subst, arith}
+use Rattle.std.specs.Prelude.{Bool, true, false, Result, Ok, Err}
+use Rattle.std.proofs.lemmas.List.{length-take-le, take-take, take-append-drop, get_or-drop}
 use Rattle.sqval.specs.PageSize.{IsPageSize}
 use Rattle.sqwal.specs.Header.{IsHeader, HeaderRefused, named_size}
 use Rattle.sqwal.specs.Frames.{AllPass, IsValidFrame}
@@ -10,20 +9,14 @@ use Rattle.sqwal.specs.Answers.{LogRefusedWithin}
 use Rattle.sqwal.specs.declared.error.WalFormatError.{WalFormatError}
 use Rattle.sqwal.specs.declared.error.WalFormatError.TheVariants.{NotAWal, PageSize, HeaderSum, UnknownVersion, TooLong, NoMemory}
 use Rattle.sqwal.proofs.log.DependenceOnPrefix.{header_same, word_same, all_same}
-use Rattle.crashdisk.specs.State.{FileState, IsSound, byte}
-use Rattle.crashdisk.proofs.call.SoundFileUnderChanges.{byte_is_byte}
 use Rattle.sqval.specs.Bytes.{AreBytes}
-use Rattle.crashdisk.specs.Call.{DiskState, IsSoundDisk, Looks, ArePresent}
-use Rattle.crashdisk.specs.declared.error.DiskError.{DiskError}
+use Rattle.crashdisk.specs.Call.{DiskState}
 use Rattle.walcore.specs.internal.Steps.{IsWithoutHeader, ScanRefused, wal_scan}
 use Rattle.walcore.specs.declared.error.WalError.{WalError}
-use Rattle.walcore.specs.declared.error.WalError.TheVariants.{TooLarge, Device, NoMemory as WalNoMemory}
+use Rattle.walcore.specs.declared.error.WalError.TheVariants.{TooLarge, NoMemory as WalNoMemory}
 use Rattle.sqwal.specs.Took.{TookWithin, IsSettledWithin}
 use Rattle.sqwal.specs.declared.scan.Scan.{Scan}
-use Rattle.crashdisk.proofs.call.UnchangingCalls.{had_refusal}
-use Rattle.crashdisk.proofs.sync.BytesOfSyncedLog.{piece_read}
-use Rattle.recovery.specs.internal.Scanning.{PieceAnswer, ScanAnswer, PiecesAnswer}
-use Rattle.recovery.proofs.PiecewiseScan.{pieces_read}
+use Rattle.recovery.specs.Scanning.{PieceAnswer}
 
 header_refused : (w x : List ℕ) (e : WalFormatError) → take 32 w ≡ take 32 x → 32 ≤ length x → HeaderRefused x e → IsHeader (named_size w) w → ⊥
 header_refused w x NotAWal same long bad is = bad (header_same (named_size w) w x 32 same (omega arith) long is).magic
@@ -56,12 +49,8 @@ module _ (w : List ℕ) (n : ℕ) (fits : n ≤ length w) where
       let all : AllPass (named_size (take n w)) w i = all_same (named_size (take n w)) (take n w) w n i same (omega (arith, at_end.whole, long)) fits valid.each in
       record { first = valid.first; each = subst (λ (s : ℕ). AllPass s w i) size all }
 
-module _ (w : List ℕ) (log : FileState) (at : ℕ) (given piece : List ℕ) (same_long : length piece ≡ length given) (are : ArePresent log w) (fits : at + length given ≤ length w)
-    (same : (i : ℕ) → i < length piece → get_or piece i 0 ≡ byte log (at + i)) where
-  joined : take at w ++ piece ≡ take (at + length given) w
-  joined = piece_read w log at piece are (omega arith) same ∙ ap (λ (n : ℕ). take (at + n) w) same_long
-
-  pub fed : (most : ℕ) (s : Scan) (old new : DiskState) → TookWithin most (take at w ++ piece) s → PieceAnswer (wal_scan most) w (at + length given) (Ok true) s old new
+module _ (w : List ℕ) (at : ℕ) (piece : List ℕ) (fits : at + length piece ≤ length w) (joined : take at w ++ piece ≡ take (at + length piece) w) where
+  pub fed : (most : ℕ) (s : Scan) (old new : DiskState) → TookWithin most (take at w ++ piece) s → PieceAnswer (wal_scan most) w (at + length piece) (Ok true) s old new
   unfolding PieceAnswer
   fed most s old new took = subst (λ (b : List ℕ). TookWithin most b s) joined took
 
@@ -72,40 +61,14 @@ module _ (w : List ℕ) (log : FileState) (at : ℕ) (given piece : List ℕ) (s
       answer : (x : Result Bool WalError) → r ≡ x → PieceAnswer (wal_scan most) w end x s old new → PieceAnswer (wal_scan most) w end r s old new
       answer x is p = subst (λ (y : Result Bool WalError). PieceAnswer (wal_scan most) w end y s old new) (sym is) p
 
-      by : (e : WalFormatError) → LogRefusedWithin most (take (at + length given) w) e → IsWithoutHeader e r → PieceAnswer (wal_scan most) w end r s old new
-      by TooLong refused is = answer (Err TooLarge) is (valid_longer w (at + length given) fits (suc most) refused)
+      by : (e : WalFormatError) → LogRefusedWithin most (take (at + length piece) w) e → IsWithoutHeader e r → PieceAnswer (wal_scan most) w end r s old new
+      by TooLong refused is = answer (Err TooLarge) is (valid_longer w (at + length piece) fits (suc most) refused)
       by NoMemory refused is = answer (Err WalNoMemory) is tt
-      by NotAWal refused is = answer (Ok false) is (no_header w (at + length given) fits most NotAWal (λ z. cc) (λ z. cc) refused)
-      by PageSize refused is = answer (Ok false) is (no_header w (at + length given) fits most PageSize (λ z. cc) (λ z. cc) refused)
-      by HeaderSum refused is = answer (Ok false) is (no_header w (at + length given) fits most HeaderSum (λ z. cc) (λ z. cc) refused)
-      by UnknownVersion refused is = answer (Ok false) is (no_header w (at + length given) fits most UnknownVersion (λ z. cc) (λ z. cc) refused)
-
--- a refusal of a call of the disk while the log is scanned
-pub scan_refusal : {T : Type 0} (most : ℕ) (w : List ℕ) (end end2 : ℕ) (result : Result T DiskError) (e : DiskError) (s : Scan) (r : Result Bool WalError) (old new : DiskState)
-    → IsSoundDisk old → ArePresent old.log w → end ≤ length w → result ≡ Err e → Looks end result old new → r ≡ Err Device → PieceAnswer (wal_scan most) w end2 r s old new
-unfolding PieceAnswer ScanRefused
-scan_refusal most w end end2 result e s r old new sound are fits is looked device =
-    subst (λ (x : Result Bool WalError). PieceAnswer (wal_scan most) w end2 x s old new) (sym device)
-    (had_refusal result e end old new sound.refused is looked.within (omega (arith, are.len, sound.log.greatest, sound.log.within)) looked.refused)
-
--- ---- One piece after another.
-
-pub piece_done : (most : ℕ) (w : List ℕ) (s : Scan) (a b : DiskState) (end : ℕ) → length w ≡ end → TookWithin most (take end w) s → PiecesAnswer (wal_scan most) w (Ok true) s a b
-piece_done most w s a b end long took = pieces_read (wal_scan most) w s a b (subst (λ (x : List ℕ). TookWithin most x s) (take_all end w (omega arith)) took)
-
--- the bytes of a log are bytes
-present_bytes : (sector : ℕ) (log : FileState) (w : List ℕ) → IsSound sector log → ArePresent log w → AreBytes w
-present_bytes sector log w sound are i = elim (cases_lt i log.len) [
-  | inl lt ↦ subst (λ (b : ℕ). b < 256) (sym (are.each i lt)) (byte_is_byte sector log sound i)
-  | inr le ↦ subst (λ (b : ℕ). b < 256) (sym (get_or_past w i 0 (omega (arith, are.len)))) (omega arith)
-]
+      by NotAWal refused is = answer (Ok false) is (no_header w (at + length piece) fits most NotAWal (λ z. cc) (λ z. cc) refused)
+      by PageSize refused is = answer (Ok false) is (no_header w (at + length piece) fits most PageSize (λ z. cc) (λ z. cc) refused)
+      by HeaderSum refused is = answer (Ok false) is (no_header w (at + length piece) fits most HeaderSum (λ z. cc) (λ z. cc) refused)
+      by UnknownVersion refused is = answer (Ok false) is (no_header w (at + length piece) fits most UnknownVersion (λ z. cc) (λ z. cc) refused)
 
 -- a scan that no further bytes change is one of the whole log
-pub piece_settled : (most : ℕ) (w : List ℕ) (s : Scan) (first a b : DiskState) (end at : ℕ) → IsSoundDisk first → ArePresent first.log w → length w ≡ end → IsSettledWithin most (take at w) s → PiecesAnswer (wal_scan most) w (Ok true) s a b
-piece_settled most w s first a b end at sound are long settled =
-    let bytes = present_bytes first.sector first.log w sound.log are in
-    pieces_read (wal_scan most) w s a b (subst (λ (l : List ℕ). TookWithin most l s) (take-append-drop at w) (settled (drop at w) (λ i. rw (get_or-drop at w i 0) (bytes (at + i)))))
-
-pub scan_memory : (most : ℕ) (w : List ℕ) (a b : DiskState) (q : Result (Option Scan) WalError) → q ≡ Err WalNoMemory → ScanAnswer (wal_scan most) w q a b
-unfolding ScanAnswer ScanRefused
-scan_memory most w a b q is = subst (λ (x : Result (Option Scan) WalError). ScanAnswer (wal_scan most) w x a b) (sym is) tt
+pub settled_read : (most : ℕ) (w : List ℕ) (s : Scan) (at : ℕ) → AreBytes w → IsSettledWithin most (take at w) s → TookWithin most w s
+settled_read most w s at bytes settled = subst (λ (l : List ℕ). TookWithin most l s) (take-append-drop at w) (settled (drop at w) (λ i. rw (get_or-drop at w i 0) (bytes (at + i))))

@@ -21,7 +21,7 @@ use Rattle.walcore.specs.declared.folding.Folded.{Folded}
 use Rattle.walcore.specs.declared.error.WalError.{WalError}
 use Rattle.walcore.specs.declared.error.WalError.TheVariants.{TooLarge, NoMemory as WalNoMemory, Device}
 use Rattle.recovery.specs.internal.Files.{ArePages}
-use Rattle.recovery.specs.internal.Scanning.{ScanKind}
+use Rattle.recovery.specs.Scanning.{ScanKind}
 use Rattle.walcore.specs.Steps.{FoldCallsWithin}
 
 -- ---- The scan.

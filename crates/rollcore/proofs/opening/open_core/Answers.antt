@@ -1,4 +1,4 @@
-use Rattle.std.proofs.Common.{ℕ, rules, arith, subst, sym, ◌∙◌, inl, inr, refl}
+use Rattle.std.proofs.Common.{◌≡◌, ℕ, length, rules, arith, subst, sym, ◌∙◌, inl, inr, refl}
 use Rattle.sqjournal.proofs.read.JournalOfTakenBytes.{size_bounds}
 use Rattle.crashdisk.proofs.page.PlacesOfPages.{sector_some}
 use Rattle.crashdisk.specs.Keeps.{TearsPages}
@@ -30,7 +30,7 @@ returns-in_err-pages g c = record {
 }
 
 pub new_core-requires-clause-header : goal.new_core-requires-clause-header
-new_core-requires-clause-header g c = omega (arith, c.in_ok-header.ensures.long, sector_some c.sector.result c.sector.ensures.is_size)
+new_core-requires-clause-header g c = omega (arith, c.in_ok-header.ensures.len, sector_some c.sector.result c.sector.ensures.is_size)
 
 pub new_core-requires-clause-sized : goal.new_core-requires-clause-sized
 new_core-requires-clause-sized g c =
@@ -38,16 +38,17 @@ new_core-requires-clause-sized g c =
     (omega (arith, bounds.0, c.get-size.ensures.value), omega (arith, bounds.1, c.get-size.ensures.value))
 
 pub new_core-requires-clause-short : goal.new_core-requires-clause-short
-new_core-requires-clause-short g c = omega (arith, c.in_ok-header.ensures.long, (size_bounds c.sector.result c.sector.ensures.is_size).1)
+new_core-requires-clause-short g c = omega (arith, c.in_ok-header.ensures.len, (size_bounds c.sector.result c.sector.ensures.is_size).1)
 
 pub returns : goal.returns
 returns g c = record {
   word = search rules;
   holds = λ word.
       let by_recover = c.recover.ensures.disk.holds word in
+      let long : length c.in_ok-header.header.items ≡ c.sector.result = search rules in
       record {
         step = λ past found are same fits.
-            opened_to past found (g.D.Disk.state c.args.disk.now) fits (g.D.Disk.state c.recover.new.disk) _ c.recover.result c.in_ok-pages.was (by_recover.recovered past found are same fits) c.args.page_size same _ (c.in_ok-header.ensures.long ∙ c.sector.ensures.answer word)
+            opened_to past found (g.D.Disk.state c.args.disk.now) fits (g.D.Disk.state c.recover.new.disk) _ c.recover.result c.in_ok-pages.was (by_recover.recovered past found are same fits) c.args.page_size same _ (long ∙ c.sector.ensures.answer word)
             c.new_core.result c.new_core.ensures;
         agrees = search rules;
         synced = search rules;

@@ -15,7 +15,7 @@ pub returns-in_err-index-clause-plan : goal.returns-in_err-index-clause-plan
 returns-in_err-index-clause-plan c = λ w took. plan_memory c.args.limits c.args.page_size w c.from_residual-in_err-index.result (no_memory NoMemory c.index_of.result c.from_residual-in_err-index.result _ c.in_err-index.was (c.in_err-index.was ∙ c.in_err-index.ensures.memory) c.from_residual-in_err-index.ensures.1)
 
 pub returns-in_err-room-clause-plan : goal.returns-in_err-room-clause-plan
-returns-in_err-room-clause-plan c = λ w took. plan_memory c.args.limits c.args.page_size w c.from_residual-in_err-room.result (no_memory NoMemory c.zeros.result c.from_residual-in_err-room.result _ c.in_err-room.was (c.in_err-room.was ∙ c.in_err-room.ensures.memory) c.from_residual-in_err-room.ensures.1)
+returns-in_err-room-clause-plan c = λ w took. plan_memory c.args.limits c.args.page_size w c.from_residual-in_err-room.result (passed c.from_residual-in_err-room.result NoMemory c.from_residual-in_err-room.ensures.1)
 
 pub returns-clause-plan : goal.returns-clause-plan
 returns-clause-plan c = λ w took.
@@ -28,6 +28,6 @@ returns-then-front-eq0-clause-room c = λ one. absurd (omega (arith, one, c.no_p
 pub returns-clause-room : goal.returns-clause-room
 returns-clause-room c = λ one.
     let page = c.get-page in (
-      omega (arith, page.ensures.value, c.in_ok-room.ensures.long),
-      omega (arith, page_most page.result page.ensures.valid, c.min.ensures, c.in_ok-room.ensures.long),
+      omega (arith, page.ensures.value, c.in_ok-room.ensures.len),
+      omega (arith, page_most page.result page.ensures.valid, c.min.ensures, c.in_ok-room.ensures.len),
     )

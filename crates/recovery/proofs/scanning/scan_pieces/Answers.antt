@@ -1,18 +1,12 @@
 use Rattle.std.proofs.Common.{◌+◌, ◌≡◌, ℕ, take, length, sym, subst, arith, rules}
 use Rattle.std.specs.Prelude.{Bool, Result, Err}
-use Rattle.walcore.specs.declared.error.WalError.TheVariants.{Device}
 use Rattle.std.proofs.lemmas.List.{length-take-le}
-use Rattle.sqwal.specs.Took.{TookWithin}
-use Rattle.walcore.specs.declared.error.WalError.{WalError}
 use Rattle.sqval.proofs.database.AnswersOfEngine.{passed}
 use Rattle.crashdisk.proofs.call.UnchangingCalls.{still, still_then, present_in}
-use Rattle.walcore.proofs.folds.ScanOfLogPrefix.{piece_done, piece_settled}
 use Rattle.recovery.proofs.ToldRefusals.{tells_quiet, passes_device, tells_then}
-use Rattle.walcore.specs.internal.Steps.{wal_scan}
-use Rattle.recovery.proofs.PiecewiseScan.{piece_after, piece_none, piece_some}
+use Rattle.recovery.proofs.PiecewiseScan.{piece_after, piece_none, piece_some, pieces_read, pieces_whole, present_bytes}
 use Rattle.recovery.specs.internal.Scanning.{PiecesAnswer}
-use Rattle.walcore.proofs.folds.RefusedScans.{scan_refused_after}
-use Rattle.walcore.proofs.reading.scan_pieces.Goals as goal
+use Rattle.recovery.proofs.scanning.scan_pieces.Goals as goal
 
 pub loop-at-init : goal.loop-at-init
 loop-at-init g c = record {
@@ -33,13 +27,13 @@ returns-in_err-feed_piece g c = record {
       record {
         still = still_then _ _ _ before now.still;
         told = λ more.
-            let said : c.feed_piece.result ≡ Err Device = tells_then Device c.feed_piece.result (g.D.Disk.state c.args.disk.now) (g.D.Disk.state c.loop-at.disk) (g.D.Disk.state c.feed_piece.new.disk) (i.quiet word) now.told more in
-            passes_device Device c.feed_piece.result c.from_residual.result _ c.in_err-feed_piece.was c.from_residual.ensures.1 said;
+            let said : c.feed_piece.result ≡ Err g.S.LogScan.device = tells_then g.S.LogScan.device c.feed_piece.result (g.D.Disk.state c.args.disk.now) (g.D.Disk.state c.loop-at.disk) (g.D.Disk.state c.feed_piece.new.disk) (i.quiet word) now.told more in
+            passes_device g.S.LogScan.device c.feed_piece.result c.from_residual.result _ c.in_err-feed_piece.was c.from_residual.ensures.1 said;
         found = λ most w are long took.
             let n : length (take c.min-n.result c.loop-at.buffer) ≡ c.min-n.result = length-take-le c.min-n.result c.loop-at.buffer (omega (arith, c.loop-at.auto.buffer)) in
             let answer = now.found most w (present_in _ _ w before.log are) (omega arith) (i.took word most w are long took) in
-            subst (λ (r : Result Bool WalError). PiecesAnswer (wal_scan most) w r c.feed_piece.new.scan (g.D.Disk.state c.args.disk.now) (g.D.Disk.state c.feed_piece.new.disk))
-            (sym (passed c.from_residual.result _ c.from_residual.ensures.1)) (piece_after (wal_scan most) w c.feed_piece.new.scan _ _ _ (λ e. scan_refused_after most w e (g.D.Disk.state c.args.disk.now) (g.D.Disk.state c.loop-at.disk) (g.D.Disk.state c.feed_piece.new.disk) before.refused) _ c.feed_piece.result _ c.in_err-feed_piece.was answer);
+            subst (λ (r : Result Bool g.row.E.Denot). PiecesAnswer (g.S.LogScan.kind most) w r c.feed_piece.new.scan (g.D.Disk.state c.args.disk.now) (g.D.Disk.state c.feed_piece.new.disk))
+            (sym (passed c.from_residual.result _ c.from_residual.ensures.1)) (piece_after (g.S.LogScan.kind most) w c.feed_piece.new.scan _ _ _ (λ e. (g.met.S.LogScan.sound most).later w e (g.D.Disk.state c.args.disk.now) (g.D.Disk.state c.loop-at.disk) (g.D.Disk.state c.feed_piece.new.disk) before.refused) _ c.feed_piece.result _ c.in_err-feed_piece.was answer);
       };
 }
 
@@ -52,16 +46,16 @@ returns-then-not-branch g c = record {
       let now = c.feed_piece.ensures.holds (i.word.0 word) in
       record {
         still = still_then _ _ _ before now.still;
-        told = λ more. absurd (tells_quiet Device c.feed_piece.result _ (g.D.Disk.state c.args.disk.now) (g.D.Disk.state c.loop-at.disk) (g.D.Disk.state c.feed_piece.new.disk) c.in_ok-feed_piece.was (i.quiet word) now.told more);
+        told = λ more. absurd (tells_quiet g.S.LogScan.device c.feed_piece.result _ (g.D.Disk.state c.args.disk.now) (g.D.Disk.state c.loop-at.disk) (g.D.Disk.state c.feed_piece.new.disk) c.in_ok-feed_piece.was (i.quiet word) now.told more);
         found = λ most w are long took.
             let n : length (take c.min-n.result c.loop-at.buffer) ≡ c.min-n.result = length-take-le c.min-n.result c.loop-at.buffer (omega (arith, c.loop-at.auto.buffer)) in
             let answer = now.found most w (present_in _ _ w before.log are) (omega arith) (i.took word most w are long took) in
-            piece_none (wal_scan most) w c.feed_piece.new.scan _ _ _ _ c.feed_piece.result _ c.in_ok-feed_piece.was c.if-not-branch.true answer;
+            piece_none (g.S.LogScan.kind most) w c.feed_piece.new.scan _ _ _ _ c.feed_piece.result _ c.in_ok-feed_piece.was c.if-not-branch.true answer;
       };
 }
 
-pub returns-then-is_over : goal.returns-then-is_over
-returns-then-is_over g c = record {
+pub returns-then-is_settled : goal.returns-then-is_settled
+returns-then-is_settled g c = record {
   word = search rules;
   holds = λ word.
       let i = c.loop-at.invariant in
@@ -69,12 +63,12 @@ returns-then-is_over g c = record {
       let now = c.feed_piece.ensures.holds (i.word.0 word) in
       record {
         still = still_then _ _ _ before now.still;
-        told = λ more. absurd (tells_quiet Device c.feed_piece.result _ (g.D.Disk.state c.args.disk.now) (g.D.Disk.state c.loop-at.disk) (g.D.Disk.state c.feed_piece.new.disk) c.in_ok-feed_piece.was (i.quiet word) now.told more);
+        told = λ more. absurd (tells_quiet g.S.LogScan.device c.feed_piece.result _ (g.D.Disk.state c.args.disk.now) (g.D.Disk.state c.loop-at.disk) (g.D.Disk.state c.feed_piece.new.disk) c.in_ok-feed_piece.was (i.quiet word) now.told more);
         found = λ most w are long took.
             let n : length (take c.min-n.result c.loop-at.buffer) ≡ c.min-n.result = length-take-le c.min-n.result c.loop-at.buffer (omega (arith, c.loop-at.auto.buffer)) in
             let answer = now.found most w (present_in _ _ w before.log are) (omega arith) (i.took word most w are long took) in
-            let fed = piece_some (wal_scan most) w c.feed_piece.new.scan _ _ _ c.feed_piece.result _ c.in_ok-feed_piece.was c.if-not-branch.false answer in
-            piece_settled most w c.feed_piece.new.scan _ _ _ c.args.long _ (g.met.D.Disk.sound c.args.disk.now word) are long ((c.is_over.ensures most _ fed).0 c.if-is_over.true);
+            let fed = piece_some (g.S.LogScan.kind most) w c.feed_piece.new.scan _ _ _ c.feed_piece.result _ c.in_ok-feed_piece.was c.if-not-branch.false answer in
+            pieces_read (g.S.LogScan.kind most) w c.feed_piece.new.scan _ _ (c.is_settled.ensures most w _ c.if-is_settled.true (present_bytes _ _ w (g.met.D.Disk.sound c.args.disk.now word).log are) fed);
       };
 }
 
@@ -87,8 +81,8 @@ loop-at-preserved g c =
       took = λ word most w are long took.
           let n : length (take c.min-n.result c.loop-at.buffer) ≡ c.min-n.result = length-take-le c.min-n.result c.loop-at.buffer (omega (arith, c.loop-at.auto.buffer)) in
           let answer = (c.feed_piece.ensures.holds (i.word.0 word)).found most w (present_in _ _ w (i.still word).log are) (omega arith) (i.took word most w are long took) in
-          subst (λ (k : ℕ). TookWithin most (take (c.loop-at.at + k) w) c.feed_piece.new.scan) n (piece_some (wal_scan most) w c.feed_piece.new.scan _ _ _ c.feed_piece.result _ c.in_ok-feed_piece.was c.if-not-branch.false answer);
-      quiet = λ word. tells_quiet Device c.feed_piece.result _ (g.D.Disk.state c.args.disk.now) (g.D.Disk.state c.loop-at.disk) (g.D.Disk.state c.feed_piece.new.disk) c.in_ok-feed_piece.was (i.quiet word) (c.feed_piece.ensures.holds (i.word.0 word)).told;
+          subst (λ (k : ℕ). (g.S.LogScan.kind most).Took (take (c.loop-at.at + k) w) c.feed_piece.new.scan) n (piece_some (g.S.LogScan.kind most) w c.feed_piece.new.scan _ _ _ c.feed_piece.result _ c.in_ok-feed_piece.was c.if-not-branch.false answer);
+      quiet = λ word. tells_quiet g.S.LogScan.device c.feed_piece.result _ (g.D.Disk.state c.args.disk.now) (g.D.Disk.state c.loop-at.disk) (g.D.Disk.state c.feed_piece.new.disk) c.in_ok-feed_piece.was (i.quiet word) (c.feed_piece.ensures.holds (i.word.0 word)).told;
       place = omega arith;
     }
 
@@ -102,6 +96,6 @@ returns g c = record {
         told = λ more. absurd (i.quiet word more);
         found = λ most w are long took.
             let all : c.loop-at.at ≡ c.args.long = omega arith in
-            piece_done most w c.loop-at.scan _ _ c.args.long long (subst (λ (k : ℕ). TookWithin most (take k w) c.loop-at.scan) all (i.took word most w are long took));
+            pieces_whole (g.S.LogScan.kind most) w c.loop-at.scan _ _ g.S.LogScan.device c.args.long (g.met.S.LogScan.sound most) long (subst (λ (k : ℕ). (g.S.LogScan.kind most).Took (take k w) c.loop-at.scan) all (i.took word most w are long took));
       };
 }
