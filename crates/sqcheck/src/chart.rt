@@ -1,11 +1,11 @@
 //! What a survey puts down of each page (own).
-ghost use Rattle.std.specs.Prelude.{◌≡◌, ◌<◌, ◌^◌, [], length, replicate, IfOk, IfErr};
+ghost use Rattle.std.specs.Prelude.{◌≡◌, ◌<◌, ◌^◌, [], length, IfOk, IfErr};
 ghost use Rattle.sqcheck.specs.Surveys.{IsEnd};
-ghost use Rattle.sqcheck.specs.internal.Surveys.{Charts};
-ghost use Rattle.sqcheck.specs.declared.role.Role.TheVariants.{Unused};
+ghost use Rattle.sqcheck.specs.internal.Surveys.{Charts, IsSetDown, AreSetDown};
 
 use crate::role::{Role, Visitor};
-use sqpage::{CheckError, Fault};
+use sqpage::{CheckError, Fault, is_pointer_map, lock_byte_page};
+use sqval::PageSize;
 use std::alloc::{AllocError, Global};
 
 /// The most faults that are put down.
@@ -32,14 +32,41 @@ impl Visitor for Chart {
     }
 }
 
+/// What a page is set aside for: the lock-byte page, and where so many bytes of each page are reserved in a database of
+/// auto-vacuum a pointer map. Unused where it isn't.
+fn role_aside(page_size: PageSize, reserved: Option<u8>, page: u32) -> Role
+    ensures { IsSetDown page_size reserved page result }
+{
+    if page == lock_byte_page(page_size) {
+        return Role::LockByte;
+    }
+    match reserved {
+        Some(reserved) => if is_pointer_map(page_size, reserved, page) {
+            Role::PointerMap
+        } else {
+            Role::Unused
+        },
+        None => Role::Unused,
+    }
+}
+
 impl Chart {
-    /// A chart of so many pages, on which nothing is put down.
-    pub fn blank(alloc: Global, count: u32) -> Result<Chart, AllocError>
-        ensures roles { IfOk result (λ chart. chart.roles.items ≡ replicate count Unused) }
+    /// A chart of so many pages, on which those that are set aside are put down.
+    pub fn new(
+        alloc: Global,
+        count: u32,
+        page_size: PageSize,
+        reserved: Option<u8>,
+    ) -> Result<Chart, AllocError>
+        ensures roles { IfOk result (λ chart. AreSetDown count page_size reserved chart.roles.items) }
         ensures faults { IfOk result (λ chart. chart.faults.items ≡ []) }
     {
+        let mut roles = vec![in alloc; Role::Unused; count as usize]?;
+        'pages: for i in 0..count {
+            roles[i as usize] = role_aside(page_size, reserved, i + 1);
+        }
         Ok(Chart {
-            roles: vec![in alloc; Role::Unused; count as usize]?,
+            roles,
             faults: Vec::new(alloc),
         })
     }

@@ -305,7 +305,7 @@ impl<V: Snapshot> Walker<V> {
     }
 
     /// Whether the largest root is the one that the header says, where there are pointer maps.
-    fn judge_largest_root(&self, said: u32) -> Result<(), CheckError>
+    pub(crate) fn judge_largest_root(&self, said: u32) -> Result<(), CheckError>
         ensures ok { OnOk result (self.now.maps.used ≡ true → self.now.uses.counts.largest_root ≡ said) }
         ensures err { IfErr result (λ e. (e.fault ≡ Fault.PointerMap) × (e.page ≡ 1) ×
             (self.now.maps.used ≡ true) × (self.now.uses.counts.largest_root ≢ said)) }

@@ -25,4 +25,4 @@ pub use checker::{check, check_with, visit_pages, visit_pages_with};
 pub use options::Options;
 pub use report::Report;
 pub use role::{Role, Visitor};
-pub use survey::{Survey, survey_pages};
+pub use survey::{Survey, survey_pages, survey_pages_with};

@@ -1,21 +1,22 @@
 //! A map of a database file, also of a damaged one (own).
-ghost use Rattle.std.specs.Prelude.{◌≡◌, ◌↔◌, ◌⊎◌, ◌-◌, ◌<◌, ◌≤◌, [], length, replicate, false, None, IsTrue};
+ghost use Rattle.std.specs.Prelude.{◌≡◌, ◌↔◌, ◌⊎◌, ◌-◌, ◌≢◌, ◌<◌, ◌≤◌, [], length, true, false, None, Some, IsTrue};
 ghost use Rattle.std.specs.Prelude.{IfOk, IfErr, IfSome};
+ghost use Rattle.sqval.specs.Bytes.{word};
 ghost use Rattle.sqpage.specs.Freelist.{IsPage, usable_size};
 ghost use Rattle.sqpage.specs.Source.{KeepsPages};
 ghost use Rattle.sqpage.specs.Header.{byte};
-ghost use Rattle.sqpage.specs.PointerMaps.{lock_byte_page};
 ghost use Rattle.sqpage.specs.declared.fault.Fault.{Fault};
 ghost use Rattle.sqcheck.specs.Surveys.{FindsClean, FindsDamaged, SurveyRefused, IsEnd};
-ghost use Rattle.sqcheck.specs.internal.Surveys.{Charts};
-ghost use Rattle.sqcheck.specs.declared.role.Role.TheVariants.{Unused, LockByte};
+ghost use Rattle.sqcheck.specs.Surveys.{FindsCleanWith, FindsDamagedWith, SurveyRefusedWith};
+ghost use Rattle.sqcheck.specs.internal.Surveys.{AreSetDown, KnowsReserved};
 ghost use Rattle.sqcheck.specs.internal.Snapshots.{SameSource};
 
 use crate::chart::Chart;
-use crate::checker::{NO_MEMORY, NO_TREE, ROOT, SCHEMA_TREE, new_walker, visit_pages};
+use crate::checker::{NO_MEMORY, NO_TREE, ROOT, SCHEMA_TREE, new_walker, visit_pages_with};
 use crate::header::judge_header;
 use crate::item::{Item, Task, push};
 use crate::maps::Maps;
+use crate::options::Options;
 use crate::pages::{read_page, word_at};
 use crate::report::Report;
 use crate::role::{Role, Visitor};
@@ -23,7 +24,7 @@ use crate::schema::{Root, add_root, row_root};
 use crate::snapshot::Snapshot;
 use crate::tree::Tree;
 use crate::walker::{Reader, Walker};
-use sqpage::{BtreePage, CheckError, Fault, Kind, PageSource, lock_byte_page};
+use sqpage::{BtreePage, CheckError, Fault, Kind, PageSource};
 use std::alloc::Global;
 use std::marker::{Brand, PhantomData};
 
@@ -46,6 +47,8 @@ struct Start {
     reserved: u8,
     first_trunk: u32,
     free_pages: u32,
+    /// 0 where the database isn't one of auto-vacuum.
+    largest_root: u32,
 }
 
 /// Reads where the walk begins. None where too little of each page is used.
@@ -65,6 +68,7 @@ fn start_in(bytes: &[u8]) -> Option<Start>
         reserved: bytes[20],
         first_trunk: word_at(bytes, 32),
         free_pages: word_at(bytes, 36),
+        largest_root: word_at(bytes, 52),
     })
 }
 
@@ -355,6 +359,17 @@ impl<V: Snapshot> Walker<V> {
         }
         Ok(())
     }
+
+    /// Tells where the largest root isn't the one that the header says, of a database with pointer maps.
+    fn survey_largest_root(&self, chart: &mut Chart, said: u32) -> Result<(), CheckError>
+        ensures same { chart.new.roles.items ≡ chart.old.roles.items }
+        ensures ends { IfErr result (λ e. IsEnd e.fault) }
+    {
+        match self.judge_largest_root(said) {
+            Ok(()) => Ok(()),
+            Err(error) => chart.tell(error),
+        }
+    }
 }
 
 /// Surveys the pages of a snapshot behind faults. Whether they can be walked over.
@@ -362,6 +377,7 @@ fn survey_snapshot<V: Snapshot, S: PageSource>(
     alloc: Global,
     source: &mut S,
     chart: &mut Chart,
+    options: Options,
 ) -> Result<bool, CheckError>
     requires unjudged { ¬ V.judged }
     requires same { (S.pages source.old ≡ V.pages) × (S.size source.old ≡ V.size) ×
@@ -385,10 +401,11 @@ fn survey_snapshot<V: Snapshot, S: PageSource>(
     let Some(start) = start_in(&bytes) else {
         return Ok(false);
     };
-    if let Err(error) = judge_header(&bytes, size, false) {
+    if let Err(error) = judge_header(&bytes, size, options.pointer_maps) {
         chart.tell(error)?;
     }
-    let maps: Maps<V> = match Maps::new(alloc, false, size, start.reserved) {
+    let used = options.pointer_maps && start.largest_root != 0;
+    let maps: Maps<V> = match Maps::new(alloc, used, size, start.reserved) {
         Ok(maps) => maps,
         Err(_) => return Err(NO_MEMORY),
     };
@@ -401,6 +418,7 @@ fn survey_snapshot<V: Snapshot, S: PageSource>(
         Ok(mut walker) => {
             walker.survey_first(source, chart, &start)?;
             walker.survey_others(alloc, source, chart)?;
+            walker.survey_largest_root(chart, start.largest_root)?;
         }
         Err(_) => return Err(NO_MEMORY),
     }
@@ -408,26 +426,67 @@ fn survey_snapshot<V: Snapshot, S: PageSource>(
     Ok(true)
 }
 
-/// A chart of the pages of a source on which the lock-byte page is put down, where there is one, and nothing else.
-fn blank_chart<S: PageSource>(alloc: Global, source: &S) -> Result<Chart, CheckError>
-    ensures blank { IfOk result (λ chart. Charts (replicate (length (S.pages source.now)) Unused)
-        (lock_byte_page (S.size source.now)) LockByte chart.roles.items) }
+/// How many bytes at the end of each page aren't used, as page 1 of a database of auto-vacuum says (fileformat2, 1.3.4
+/// and 1.3.12). None of another database.
+fn reserved_in(bytes: &[u8]) -> Option<u8>
+    requires { 512 ≤ length bytes.now }
+    ensures { word bytes.now 52 ≢ 0 → result ≡ Some (byte bytes.now 20) }
+{
+    if word_at(bytes, 52) == 0 {
+        return None;
+    }
+    Some(bytes[20])
+}
+
+/// The same of a database whose pointer maps are asked for, which is read for it. Refused by Source and NoMemory.
+fn reserved_by_maps<S: PageSource>(
+    alloc: Global,
+    source: &mut S,
+    options: Options,
+) -> Result<Option<u8>, CheckError>
+    ensures known { S.gives_pages source.old → options.pointer_maps ≡ true
+        → IfOk result (KnowsReserved (S.pages source.old) (S.size source.old)) }
+    ensures ends { IfErr result (λ e. IsEnd e.fault) }
+    ensures keeps { KeepsPages S.pages S.size S.gives_pages source.old source.new }
+{
+    if !options.pointer_maps || source.count() == 0 {
+        return Ok(None);
+    }
+    let mut bytes = match vec![in alloc; 0; source.page_size().get() as usize] {
+        Ok(bytes) => bytes,
+        Err(_) => return Err(NO_MEMORY),
+    };
+    if source.page(1, &mut bytes).is_err() {
+        return Err(CheckError {
+            page: 1,
+            fault: Fault::Source,
+        });
+    }
+    Ok(reserved_in(&bytes))
+}
+
+/// A chart of the pages of a source on which those are put down that are set aside, and nothing else.
+fn first_chart<S: PageSource>(
+    alloc: Global,
+    source: &S,
+    reserved: Option<u8>,
+) -> Result<Chart, CheckError>
+    ensures set { IfOk result (λ chart. AreSetDown (length (S.pages source.now)) (S.size source.now) reserved
+        chart.roles.items) }
     ensures ends { IfErr result (λ e. e.fault ≡ Fault.NoMemory) }
 {
-    match Chart::blank(alloc, source.count()) {
-        Ok(mut chart) => {
-            chart.visit(lock_byte_page(source.page_size()), Role::LockByte);
-            Ok(chart)
-        }
+    match Chart::new(alloc, source.count(), source.page_size(), reserved) {
+        Ok(chart) => Ok(chart),
         Err(_) => Err(NO_MEMORY),
     }
 }
 
-/// Surveys a database in which `check` finds this fault first.
+/// Surveys a database in which `check_with` finds this fault first.
 fn survey_behind<S: PageSource>(
     alloc: Global,
     source: &mut S,
     first: CheckError,
+    options: Options,
 ) -> Result<Survey, CheckError>
     ensures answer { IfOk result (λ survey. (survey.answer ≡ Err first) × ¬ IsEnd first.fault) }
     ensures err { S.gives_pages source.old → IfErr result (λ e. IsEnd e.fault ⊎ ((e ≡ first) ×
@@ -438,8 +497,9 @@ fn survey_behind<S: PageSource>(
     if is_end(first.fault) {
         return Err(first);
     }
-    let mut chart = blank_chart(alloc, source)?;
-    if !survey_snapshot::<Brand, S>(alloc, source, &mut chart)? {
+    let reserved = reserved_by_maps(alloc, source, options)?;
+    let mut chart = first_chart(alloc, source, reserved)?;
+    if !survey_snapshot::<Brand, S>(alloc, source, &mut chart, options)? {
         return Err(first);
     }
     Ok(Survey {
@@ -472,13 +532,37 @@ pub fn survey_pages<S: PageSource>(alloc: Global, source: &mut S) -> Result<Surv
         → IfOk result (λ survey. length survey.roles.items ≡ length (S.pages source.old)) }
     ensures keeps { KeepsPages S.pages S.size S.gives_pages source.old source.new }
 {
-    let mut chart = blank_chart(alloc, source)?;
-    match visit_pages(alloc, source, &mut chart) {
+    survey_pages_with(alloc, source, Options::PLAIN)
+}
+
+/// Surveys a database as `survey_pages` does, by the walk of `check_with`: where this is asked one of auto-vacuum too,
+/// with its pointer maps (fileformat2, 1.8). Then each of these has the role PointerMap, whatever names it.
+pub fn survey_pages_with<S: PageSource>(
+    alloc: Global,
+    source: &mut S,
+    options: Options,
+) -> Result<Survey, CheckError>
+    // Where the database is well formed, it finds so, without a fault, and the roles are those of the pages.
+    ensures clean { S.gives_pages source.old → IfOk result
+        (FindsCleanWith options.pointer_maps (S.pages source.old) (S.size source.old)) }
+    // Otherwise its answer is a fault that stands at its page.
+    ensures damaged { S.gives_pages source.old → IfOk result
+        (FindsDamagedWith options.pointer_maps (S.pages source.old) (S.size source.old)) }
+    ensures refused { S.gives_pages source.old → IfErr result (λ e.
+        SurveyRefusedWith options.pointer_maps (S.pages source.old) (S.size source.old) e.fault e.page) }
+    // Each page has one role.
+    ensures each { S.gives_pages source.old
+        → IfOk result (λ survey. length survey.roles.items ≡ length (S.pages source.old)) }
+    ensures keeps { KeepsPages S.pages S.size S.gives_pages source.old source.new }
+{
+    let reserved = reserved_by_maps(alloc, source, options)?;
+    let mut chart = first_chart(alloc, source, reserved)?;
+    match visit_pages_with(alloc, source, &mut chart, options) {
         Ok(report) => Ok(Survey {
             roles: chart.roles,
             faults: Vec::new(alloc),
             answer: Ok(report),
         }),
-        Err(first) => survey_behind(alloc, source, first),
+        Err(first) => survey_behind(alloc, source, first, options),
     }
 }

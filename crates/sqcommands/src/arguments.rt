@@ -91,7 +91,7 @@ pub(crate) fn pointer_maps_arg<'a>(alloc: Global) -> Arg<'a> {
     flag(
         alloc,
         "pointer-maps",
-        "Checks a database with auto-vacuum too, and its pointer maps",
+        "Takes a database with auto-vacuum too, and checks its pointer maps",
     )
 }
 

@@ -41,6 +41,7 @@ fn show_command<'a>(alloc: Global) -> Made<Command<'a>> {
     let command = base_command(alloc, "show", about, Ok(at_arg(alloc)));
     let command = with_arg(command, page_arg(alloc));
     let command = with_arg(command, pages_arg(alloc));
+    let command = with_arg(command, only_with(pointer_maps_arg(alloc), "pages"));
     let command = with_arg(command, log_arg(alloc));
     let command = with_arg(command, all_arg(alloc));
     with_arg(command, commits_arg(alloc))
@@ -66,6 +67,7 @@ fn report_command<'a>(alloc: Global) -> Made<Command<'a>> {
     let about =
         "Makes a page of HTML that shows the database and its log; writes neither FILE nor its logs";
     let command = base_command(alloc, "report", about, Ok(at_arg(alloc)));
+    let command = with_arg(command, Ok(pointer_maps_arg(alloc)));
     with_arg(command, Ok(report_arg(alloc)))
 }
 

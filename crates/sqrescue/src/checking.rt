@@ -6,10 +6,9 @@ use crate::opened_file::OpenedFile;
 use crate::paths::{Paths, paths_of};
 use crate::progress::{Count, Progress};
 use crate::watch::{readings_of, time_to_wait};
-use sqcheck::Options as Maps;
 use sqfacts::{NoteWriter, Notes, Readings, Refusal, unchanged};
 use sqlines::{write_fault, write_report};
-use sqshown::{Asked, Contents, Finding, ShowError, judged, limits_of, read_ahead};
+use sqshown::{Contents, Finding, ShowError, asked_of, judged, read_ahead};
 use sqview::Verdict;
 use sqwords::Options;
 use std::alloc::Global;
@@ -27,7 +26,6 @@ const PIECE: usize = 32_768;
 pub(crate) fn check<R: Files + AllocGlobal + Clock, O: Write, E: Write>(
     rt: &R,
     file: &str,
-    pointer_maps: bool,
     options: Options,
     out: &mut O,
     notes: &mut Notes<'_, E>,
@@ -37,7 +35,7 @@ where
 {
     let paths = paths_of(rt, file, notes)?;
     let progress = Progress::new(rt, notes.again(), options);
-    match settled_verdict(rt, &paths, pointer_maps, options, &progress, notes) {
+    match settled_verdict(rt, &paths, options, &progress, notes) {
         Ok(verdict) => write_verdict(out, options, &verdict),
         Err(refusal) => Err(ShowError::Refused(paths.told(notes, refusal))),
     }
@@ -68,7 +66,6 @@ fn write_verdict<O: Write>(
 fn settled_verdict<R: Files + AllocGlobal + Clock, M: Count, E: Write>(
     rt: &R,
     paths: &Paths,
-    pointer_maps: bool,
     options: Options,
     meter: &M,
     notes: &mut Notes<'_, E>,
@@ -78,7 +75,7 @@ where
 {
     let before = readings_of(rt, paths, false, notes)?;
     let wait = time_to_wait(rt, &before);
-    let found = judged_now(rt, paths, pointer_maps, options, meter, notes);
+    let found = judged_now(rt, paths, options, meter, notes);
     match watched(rt, paths, &before, found, notes)? {
         Verdict::Damaged(_) if !wait.is_zero() => {
             thread::sleep(rt, wait);
@@ -86,7 +83,7 @@ where
             unchanged(&before, &settled, Ok(()))?;
             let nowhere = NoteWriter::new(io::sink());
             let mut unheard = Notes::new(&nowhere, false);
-            let found = judged_now(rt, paths, pointer_maps, options, meter, &mut unheard);
+            let found = judged_now(rt, paths, options, meter, &mut unheard);
             watched(rt, paths, &settled, found, notes)
         }
         verdict => Ok(verdict),
@@ -97,7 +94,6 @@ where
 fn judged_now<R: Files + AllocGlobal, M: Count, E: Write>(
     rt: &R,
     paths: &Paths,
-    pointer_maps: bool,
     options: Options,
     meter: &M,
     notes: &mut Notes<'_, E>,
@@ -106,25 +102,19 @@ where
     R::File: FileExt,
 {
     let files = open_all(rt, paths, options.super_journal, options.at, notes)?;
-    judged_of(rt.alloc(), pointer_maps, options, files, meter)
+    judged_of(rt.alloc(), options, files, meter)
 }
 
 /// What is found of opened files.
 fn judged_of<F: FileExt + Drop, M: Count>(
     alloc: Global,
-    pointer_maps: bool,
     options: Options,
     files: Contents<OpenedFile<'_, F>>,
     meter: &M,
 ) -> Result<Finding, Refusal> {
     let files = read_ahead(alloc, files, PIECE)?;
     let Contents { db, wal, journal } = db_metered(files, meter);
-    let asked = Asked {
-        limits: limits_of(options),
-        at: options.at,
-        maps: Maps { pointer_maps },
-    };
-    judged(alloc, asked, db, wal, journal)
+    judged(alloc, asked_of(options), db, wal, journal)
 }
 
 /// The verdict on files, if they are as they were before, and the frames of the log that counted still stand.

@@ -159,7 +159,8 @@ pub(crate) fn next_step(refusal: Refusal, is_large: bool) -> &'static str {
             "see whether the super-journal is there, and give --super-journal=present or =gone",
         Refusal::NotADatabase =>
             "the header that is to be shown isn't a database's: see show --log and check",
-        Refusal::AutoVacuum => "the database has pointer maps, which check --pointer-maps reads",
+        Refusal::AutoVacuum =>
+            "the database has pointer maps: give check, show --pages or report --pointer-maps",
         Refusal::NoSuchCommit => "show --commits has a line for each commit, which names its frame",
         Refusal::NoSuchPage => "show names the number of pages, in the line that begins with pages",
         Refusal::NoMemory => "the system refused memory: call this again where there is more",

@@ -124,12 +124,8 @@ where
             part,
             options,
         } => show(rt, file, part, options, out, notes)?,
-        Request::Check {
-            file,
-            pointer_maps,
-            options,
-        } => {
-            if !check(rt, file, pointer_maps, options, out, notes)? {
+        Request::Check { file, options } => {
+            if !check(rt, file, options, out, notes)? {
                 return Ok(Answer::Damaged);
             }
         }

@@ -7,7 +7,7 @@ use crate::paths::Paths;
 use crate::progress::Count;
 use crate::watch::{readings_of, time_to_wait};
 use sqfacts::{NoteWriter, Notes, Readings, Refusal, unchanged};
-use sqshown::{Found, limits_of, read_ahead, survey_files};
+use sqshown::{Found, asked_of, read_ahead, survey_files};
 use sqview::ReadAhead;
 use sqwords::Options;
 use std::io::{self, Write};
@@ -38,7 +38,7 @@ where
 {
     let files = open_all(rt, paths, options.super_journal, options.at, notes)?;
     let files = db_metered(read_ahead(rt.alloc(), files, PIECE)?, meter);
-    survey_files(rt.alloc(), limits_of(options), files, options.at)
+    survey_files(rt.alloc(), asked_of(options), files)
 }
 
 /// What was found of files, if they are as they were before, and the frames of the log that counted still stand.

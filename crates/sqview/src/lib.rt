@@ -19,7 +19,7 @@ pub use file_bytes::FileBytes;
 pub use judge_error::JudgeError;
 pub use logs::{LogInUse, hot_header, log_in_use, replay_log, scan_log, scan_log_within};
 pub use read_ahead::ReadAhead;
-pub use survey::survey_view;
+pub use survey::{survey_view, survey_view_with};
 pub use verdict::{
     Verdict, judge, judge_at, judge_at_within, judge_view, judge_view_with, judge_within,
     without_view,

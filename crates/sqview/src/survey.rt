@@ -1,11 +1,12 @@
 //! A map of the database that a view gives.
 ghost use Rattle.std.specs.Prelude.{◌≡◌, length, IfOk, IfErr};
 ghost use Rattle.sqcheck.specs.Surveys.{FindsClean, FindsDamaged, SurveyRefused};
+ghost use Rattle.sqcheck.specs.Surveys.{FindsCleanWith, FindsDamagedWith, SurveyRefusedWith};
 ghost use Rattle.sqview.specs.LogView.{pages_of};
 
 use crate::file_bytes::FileBytes;
 use crate::view::View;
-use sqcheck::{Survey, survey_pages};
+use sqcheck::{Options, Survey, survey_pages_with};
 use sqpage::CheckError;
 use std::alloc::Global;
 
@@ -21,5 +22,24 @@ pub fn survey_view<F: FileBytes>(alloc: Global, view: &mut View<F>) -> Result<Su
     ensures each { F.gives_bytes view.old.db × F.gives_bytes view.old.log
         → IfOk result (λ survey. length survey.roles.items ≡ view.old.count) }
 {
-    survey_pages(alloc, view)
+    survey_view_with(alloc, view, Options::PLAIN)
+}
+
+/// The same with these options. Asked for pointer maps it surveys a database with auto-vacuum too, and the roles say
+/// which pages are pointer maps (fileformat2, 1.8).
+pub fn survey_view_with<F: FileBytes>(
+    alloc: Global,
+    view: &mut View<F>,
+    options: Options,
+) -> Result<Survey, CheckError>
+    ensures clean { F.gives_bytes view.old.db × F.gives_bytes view.old.log
+        → IfOk result (FindsCleanWith options.pointer_maps (pages_of F.bytes view.old) view.old.page_size) }
+    ensures damaged { F.gives_bytes view.old.db × F.gives_bytes view.old.log
+        → IfOk result (FindsDamagedWith options.pointer_maps (pages_of F.bytes view.old) view.old.page_size) }
+    ensures refused { F.gives_bytes view.old.db × F.gives_bytes view.old.log → IfErr result (λ e.
+        SurveyRefusedWith options.pointer_maps (pages_of F.bytes view.old) view.old.page_size e.fault e.page) }
+    ensures each { F.gives_bytes view.old.db × F.gives_bytes view.old.log
+        → IfOk result (λ survey. length survey.roles.items ≡ view.old.count) }
+{
+    survey_pages_with(alloc, view, options)
 }

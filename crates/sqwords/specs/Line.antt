@@ -80,13 +80,13 @@ IsNamed name word = (word ≡ name) ⊎ ((text : List ℕ) × (word ≡ name ++ 
 -- a word that each command knows
 abbrev pub IsCommon : (word : List ℕ) → Type 0
 IsCommon word = (word ≡ codes "-v") ⊎ (word ≡ codes "--verbose") ⊎ (word ≡ codes "--json") ⊎ (word ≡ codes "--large")
-    ⊎ (word ≡ codes "--super-journal=present") ⊎ (word ≡ codes "--super-journal=gone") ⊎ IsNamed (codes "--at") word
+    ⊎ (word ≡ codes "--pointer-maps") ⊎ (word ≡ codes "--super-journal=present") ⊎ (word ≡ codes "--super-journal=gone")
+    ⊎ IsNamed (codes "--at") word
 
 -- a word behind `check`, or behind `recover`, that is no option, or one of the command's
 abbrev pub IsKnown : (recovers : Bool) → (word : List ℕ) → Type 0
 IsKnown recovers word = IsPlain word ⊎ IsCommon word
     ⊎ (IsTrue recovers × ((word ≡ codes "--force") ⊎ IsNamed (codes "--to") word))
-    ⊎ ((recovers ≡ false) × (word ≡ codes "--pointer-maps"))
 
 -- all are
 abbrev pub AreKnown : (recovers : Bool) → (words : List (List ℕ)) → Type 0
@@ -119,6 +119,7 @@ pub record AsksBesides (options : List (List ℕ)) (o : Options) : Type 0 where
   pub at_commit : AsksAt options o.at
   pub style : AsksStyle options o.style
   pub large : IsTrue o.large ↔ Contains options (codes "--large")
+  pub pointer_maps : IsTrue o.pointer_maps ↔ Contains options (codes "--pointer-maps")
 
 -- they name no frame for a commit
 abbrev pub NamesNoFrame : (options : List (List ℕ)) → Type 0
@@ -166,19 +167,19 @@ AsksVersion words = slice_get words 1 ≡ Some (codes "--version")
 
 -- The second word is the command, the file stands behind it, and the options before a "--" say the rest, each exactly where
 -- it stands; behind `check`, `recover` and `report` there are no others. A commit goes with no part of the whole log, and
--- with a recovery only where that makes another file; a report makes one.
+-- with a recovery only where that makes another file, and pointer maps with none; a report makes one.
 abbrev pub Asks : List (List ℕ) → Request → Type 0
 Asks words (Show file part o) =
     (slice_get words 1 ≡ Some (codes "show")) × IsFile words file.now
     × ((options : List (List ℕ)) × AreOptions words options × AsksPart options part × AsksBesides options o × MayBeAt part o.at)
-Asks words (Check file maps o) =
+Asks words (Check file o) =
     (slice_get words 1 ≡ Some (codes "check")) × IsFile words file.now
-    × ((options : List (List ℕ)) × AreOptions words options × AreKnown false options × AsksBesides options o
-    × (IsTrue maps ↔ Contains options (codes "--pointer-maps")))
+    × ((options : List (List ℕ)) × AreOptions words options × AreKnown false options × AsksBesides options o)
 Asks words (Recover file to force o) =
     (slice_get words 1 ≡ Some (codes "recover")) × IsFile words file.now
     × ((options : List (List ℕ)) × AreOptions words options × AreKnown true options × AsksBesides options o
-    × (IsTrue force ↔ Contains options (codes "--force")) × AsksTo options to × (to ≡ None → o.at ≡ None))
+    × (IsTrue force ↔ Contains options (codes "--force")) × AsksTo options to × (to ≡ None → o.at ≡ None)
+    × (o.pointer_maps ≡ false))
 Asks words (Report file to o) =
     (slice_get words 1 ≡ Some (codes "report")) × IsFile words file.now
     × ((options : List (List ℕ)) × AreOptions words options × AreKnown true options
@@ -190,12 +191,12 @@ abbrev pub NamesOfLog : (options : List (List ℕ)) → (frame : Option ℕ) →
 NamesOfLog options frame = (frame ≢ None) × (Contains options (codes "--log") ⊎ Contains options (codes "--commits"))
 
 -- what the options of a command can't be: those of `show` ask for no part, or for one that has no commits; those of `check`
--- and `recover` have another among them; those of `recover` name a commit and no file to be made; those of `report` have
--- another among them, or name no file to be made
+-- and `recover` have another among them; those of `recover` name pointer maps, or a commit and no file to be made; those of
+-- `report` have another among them, or name no file to be made
 abbrev pub AreAmiss : (command : List ℕ) → (options : List (List ℕ)) → Type 0
 AreAmiss command options =
     (command ≡ codes "check" → ¬ AreKnown false options)
-    × (command ≡ codes "recover" → (¬ AreKnown true options)
+    × (command ≡ codes "recover" → (¬ AreKnown true options) ⊎ Contains options (codes "--pointer-maps")
     ⊎ (((frame : Option ℕ) → AsksAt options frame → frame ≢ None) × HasNoText (codes "--to") options))
     × (command ≡ codes "report" → AreNoReport options)
     × (command ≡ codes "show" → AsksNoPart options

@@ -47,6 +47,8 @@ pub struct Options {
     pub style: Style,
     /// To read databases of up to 1,099,511,627,776 bytes and logs of up to 4,294,967,294 frames.
     pub large: bool,
+    /// To take a database with auto-vacuum too, and to judge its pointer maps. Nothing to a recovery.
+    pub pointer_maps: bool,
 }
 
 /// What a line asks for.
@@ -58,10 +60,9 @@ pub enum Request<'a> {
         part: Part,
         options: Options,
     },
-    /// To check this database file as its log has it; with pointer maps: also one with auto-vacuum, and its maps.
+    /// To check this database file as its log has it.
     Check {
         file: &'a str,
-        pointer_maps: bool,
         options: Options,
     },
     /// To recover this database file: to fold its write-ahead log into it, or to roll it back by its hot journal; by

@@ -1,6 +1,6 @@
 //! The words of a command line.
 ghost use Rattle.std.specs.Prelude.{◌≡◌, ◌≢◌, ◌⊎◌, ◌<◌, ◌≤◌, ◌++◌, ℕ, false, List, map, length, slice_get, codes, IfOk};
-ghost use Rattle.std.specs.Prelude.{IfSome, IsTrue, MatchOption};
+ghost use Rattle.std.specs.Prelude.{IfSome, IsTrue, MatchOption, true};
 ghost use Rattle.std.specs.List.{Contains};
 ghost use Rattle.sqwords.specs.Line.{AreKnown, AreNoReport, AreOptions, Asks, AsksAt, AsksBesides, AsksBoth};
 ghost use Rattle.sqwords.specs.Line.{AsksNoPart};
@@ -71,6 +71,7 @@ fn is_common(word: &str) -> bool
         || word == "--verbose"
         || word == "--json"
         || word == "--large"
+        || word == "--pointer-maps"
         || word == "--super-journal=present"
         || word == "--super-journal=gone"
         || is_named(word, "--at")
@@ -84,11 +85,7 @@ fn is_known(word: &str, recovers: bool) -> bool
     if is_plain(word) || is_common(word) {
         return true;
     }
-    if recovers {
-        word == "--force" || is_named(word, "--to")
-    } else {
-        word == "--pointer-maps"
-    }
+    recovers && (word == "--force" || is_named(word, "--to"))
 }
 
 /// Whether each word behind `check`, or behind `recover`, is no option, or one that the command has.
@@ -312,12 +309,14 @@ fn besides(options: &[&str]) -> Option<Options>
     let at = commit_of(options)?;
     let style = style_of(options);
     let large = stands_in(options, "--large");
+    let pointer_maps = stands_in(options, "--pointer-maps");
     Some(Options {
         verbose,
         super_journal,
         at,
         style,
         large,
+        pointer_maps,
     })
 }
 
@@ -348,6 +347,15 @@ fn report_asked<'a>(given: &'a [&'a str], file: &'a str, options: Options) -> Op
     Some(Request::Report { file, to, options })
 }
 
+/// Whether the options behind `recover` are such as it has.
+fn may_recover(given: &[&str], options: Options) -> bool
+    ensures known { IsTrue result → AreKnown true (map (λ w. w.now) given.entry.now) }
+    ensures none { IsTrue result → options.pointer_maps ≡ false }
+    ensures not { result ≡ false → (¬ AreKnown true (map (λ w. w.now) given.entry.now)) ⊎ IsTrue options.pointer_maps }
+{
+    are_known(given, true) && !options.pointer_maps
+}
+
 /// What the words ask for where the command is this one and the file that one; None where they don't say so.
 pub fn asked<'a>(words: &'a [&'a str], command: &str, file: &'a str) -> Option<Request<'a>>
     ensures { MatchOption result (AsksNothing (map (λ w. w.now) words.entry.now) command.now file.entry.now)
@@ -370,14 +378,9 @@ pub fn asked<'a>(words: &'a [&'a str], command: &str, file: &'a str) -> Option<R
         return report_asked(given, file, options);
     }
     if command == "check" && are_known(given, false) {
-        let pointer_maps = stands_in(given, "--pointer-maps");
-        return Some(Request::Check {
-            file,
-            pointer_maps,
-            options,
-        });
+        return Some(Request::Check { file, options });
     }
-    if command != "recover" || !are_known(given, true) {
+    if command != "recover" || !may_recover(given, options) {
         return None;
     }
     let to = text_of(given, "--to");

@@ -1,20 +1,21 @@
 -- What a chart has after all pages were put down.
-use Rattle.std.proofs.Common.{◌≡◌, ◌≢◌, ℕ, ◌-◌, ◌<◌, ◌≤◌, List, [], ◌∷◌, length, map, get_or, replicate, sym, ap, subst, ◌∙◌, inl, inr, arith}
-use Rattle.std.proofs.lemmas.List.{get_or-set_other, get_or-set_same, length-replicate}
+use Rattle.std.proofs.Common.{◌≡◌, ◌≢◌, ◌⊎◌, ℕ, ◌-◌, ◌+◌, ◌<◌, ◌≤◌, List, [], ◌∷◌, length, map, get_or, set, sym, ap, subst, ◌∙◌, inl, inr, arith}
+use Rattle.std.specs.Prelude.{Option, Some, IfSome}
+use Rattle.std.proofs.lemmas.List.{get_or-set_other, get_or-set_same, length-set}
 use Rattle.std.proofs.lemmas.Bool.{cases_eq}
 use Rattle.sqval.specs.Bytes.{word}
 use Rattle.sqval.specs.Database.{Database, page}
 use Rattle.sqpage.specs.Lists.{In, Every, Apart}
 use Rattle.sqpage.proofs.chain.ListsByRecursion.{every_in}
-use Rattle.sqpage.specs.Freelist.{IsWithin}
+use Rattle.sqpage.specs.Freelist.{IsWithin, IsPage, usable_size}
 use Rattle.sqcheck.specs.declared.chart.Chart.{Chart}
 use Rattle.sqcheck.specs.declared.role.Role.{Role}
-use Rattle.sqcheck.specs.declared.role.Role.TheVariants.{Unused, LockByte}
-use Rattle.sqcheck.specs.Roles.{HasRole, Visit, Told, AreRoles}
+use Rattle.sqcheck.specs.declared.role.Role.TheVariants.{Unused, LockByte, PointerMap}
+use Rattle.sqcheck.specs.Roles.{HasRole, IsRoleSetAside, Visit, Told, AreRoles}
 use Rattle.sqcheck.specs.Surveys.{role_at, AreAllRoles}
-use Rattle.sqcheck.specs.internal.Surveys.{Charts}
-use Rattle.sqpage.specs.PointerMaps.{lock_byte_page}
-use Rattle.sqcheck.specs.WellFormed.{IsSetAside}
+use Rattle.sqcheck.specs.internal.Surveys.{Charts, IsSetDown, AreSetDown, KnowsReserved}
+use Rattle.sqpage.specs.PointerMaps.{lock_byte_page, IsPointerMap}
+use Rattle.sqcheck.specs.WellFormed.{IsAutoVacuum, IsSetAside}
 use Rattle.sqcheck.proofs.checks.ListsByRecursion.{from_map, every_weaker}
 
 abbrev pub charts : Chart → ℕ → Role → Chart → Type 0
@@ -46,43 +47,70 @@ told_at (w ∷ visits) old new (next, step, h) within apart v (inl e) =
 told_at (w ∷ visits) old new (next, step, h) within apart v (inr i) =
     told_at visits next new h (subst (λ n. Every (IsWithin n) (map (λ v. v.page) visits)) (sym step.0) within.1) apart.1 v i
 
--- The chart has the roles of all pages, where it began with the lock-byte page.
-pub all_roles : (d : Database) (size : ℕ) (visits : List Visit) (old new : Chart) → word (page d 1) 52 ≡ 0 → Charts (replicate (length d) Unused) (lock_byte_page size) LockByte old.roles.items → Told charts old visits new → AreRoles d size visits
+-- The chart has the roles of all pages, where it began with those that are set aside.
+pub all_roles : (d : Database) (size : ℕ) (reserved : Option ℕ) (visits : List Visit) (old new : Chart) → KnowsReserved d size reserved → AreSetDown (length d) size reserved old.roles.items → Told charts old visits new → AreRoles d size visits
     → AreAllRoles d size new.roles.items
-all_roles d size visits old new plain begun told are = record {
-  long = told_long visits old new told ∙ long;
+all_roles d size reserved visits old new known begun told are = record {
+  long = told_long visits old new told ∙ begun.long;
   each = λ p is. elim (cases_eq p (lock_byte_page size)) [
-    | inl e ↦ inr (inl (e, kept visits old new p told within is.0 (off p e) ∙ ap (role_at old.roles.items) e ∙ lock (subst (IsWithin (length d)) e is)))
-    | inr ne ↦ inl (named p is ne)
+    | inl e ↦ inr (inl (e, stays p is (inl e) ∙ (begun.each p is).lock e))
+    | inr ne ↦ elim (cases_eq (word (page d 1) 52) 0) [
+      | inl plain ↦ inl (named p is (λ aside. elim aside [ inl e ↦ ne e | inr auto ↦ auto.0 plain ]))
+      | inr auto ↦ of_maps p is ne auto
+    ]
   ];
 }
   where
-    blank : List Role
-    blank = replicate (length d) Unused
-
-    same : length blank ≡ length d
-    same = length-replicate (length d) Unused
-
-    long : length old.roles.items ≡ length d
-    long = begun.0 ∙ same
-
     pages : List ℕ
     pages = map (λ v. v.page) visits
 
     within : Every (IsWithin (length old.roles.items)) pages
-    within = subst (λ n. Every (IsWithin n) pages) (sym long) (every_weaker (λ q. IsWithin (length d) q × ¬ IsSetAside d size q) (IsWithin (length d)) (λ q h. h.0) pages are.once.within)
+    within = subst (λ n. Every (IsWithin n) pages) (sym begun.long) (every_weaker (λ q. IsWithin (length d) q × ¬ IsSetAside d size q) (IsWithin (length d)) (λ q h. h.0) pages are.once.within)
 
-    off : (p : ℕ) → p ≡ lock_byte_page size → Every (λ q. p ≡ q → ⊥) pages
-    off p e = every_weaker (λ q. IsWithin (length d) q × ¬ IsSetAside d size q) (λ q. p ≡ q → ⊥) (λ q h f. h.1 (inl (sym f ∙ e))) pages are.once.within
+    off : (p : ℕ) → IsSetAside d size p → Every (λ q. p ≡ q → ⊥) pages
+    off p aside = every_weaker (λ q. IsWithin (length d) q × ¬ IsSetAside d size q) (λ q. p ≡ q → ⊥) (λ q h e. h.1 (subst (IsSetAside d size) e aside)) pages are.once.within
 
-    lock : IsWithin (length d) (lock_byte_page size) → role_at old.roles.items (lock_byte_page size) ≡ LockByte
-    lock is =
-        let above : 0 < lock_byte_page size = is.0 in
-        let lt : lock_byte_page size - 1 < length blank = omega (arith, is.1, same) in
-        ap (λ l. get_or l (lock_byte_page size - 1) Unused) (begun.1 is.0 (subst (λ n. lock_byte_page size ≤ n) (sym same) is.1)) ∙ get_or-set_same blank (lock_byte_page size - 1) LockByte Unused lt
+    stays : (p : ℕ) → IsWithin (length d) p → IsSetAside d size p → role_at new.roles.items p ≡ role_at old.roles.items p
+    stays p is aside = kept visits old new p told within is.0 (off p aside)
 
-    named : (p : ℕ) → IsWithin (length d) p → p ≢ lock_byte_page size → HasRole d p (role_at new.roles.items p)
-    named p is ne =
-        let found = from_map (λ v. v.page) p visits (are.once.each p is (λ aside. elim aside [ inl e ↦ ne e | inr auto ↦ auto.0 plain ])) in
+    named : (p : ℕ) → IsWithin (length d) p → ¬ IsSetAside d size p → HasRole d p (role_at new.roles.items p)
+    named p is not =
+        let found = from_map (λ v. v.page) p visits (are.once.each p is not) in
         let role : role_at new.roles.items p ≡ found.0.role = ap (role_at new.roles.items) found.2 ∙ told_at visits old new told within are.once.distinct found.0 found.1 in
         subst (λ q. HasRole d q (role_at new.roles.items p)) (sym found.2) (subst (HasRole d found.0.page) (sym role) (every_in (λ v. HasRole d v.page v.role) found.0 visits are.roles found.1))
+
+    of_maps : (p : ℕ) → IsWithin (length d) p → p ≢ lock_byte_page size → IsAutoVacuum d → HasRole d p (role_at new.roles.items p) ⊎ IsRoleSetAside d size p (role_at new.roles.items p)
+    of_maps p is ne auto =
+        let one : IsPage d 1 = (let above : 0 < p = is.0 in let below : p ≤ length d = is.1 in (omega arith, omega arith)) in
+        let k = known one auto in
+        let down : IfSome (Some k.0) (λ n. (IsPointerMap size (size - n) p × (role_at old.roles.items p ≡ PointerMap)) ⊎ (IsPointerMap size (size - n) p → ⊥)) =
+        subst (λ r. IfSome r (λ n. (IsPointerMap size (size - n) p × (role_at old.roles.items p ≡ PointerMap)) ⊎ (IsPointerMap size (size - n) p → ⊥))) k.1 ((begun.each p is).map ne) in
+        elim down [
+          | inl is_map ↦ (
+              let there : IsPointerMap size (usable_size d) p = subst (λ u. IsPointerMap size u p) k.2 is_map.0 in
+              inr (inr (auto, there, stays p is (inr (auto, there)) ∙ is_map.1)))
+          | inr isnt ↦ inl (named p is (λ aside. elim aside [ inl e ↦ ne e | inr a ↦ isnt (subst (λ u. IsPointerMap size u p) (sym k.2) a.1) ]))
+        ]
+
+-- The roles of the first pages are set down.
+pub record SetTo (size : ℕ) (reserved : Option ℕ) (count : ℕ) (roles : List Role) (n : ℕ) : Type 0 where
+  pub long : length roles ≡ count
+  pub each : (p : ℕ) → 0 < p → p ≤ n → IsSetDown size reserved p (role_at roles p)
+
+-- and one more
+pub one_set : (size : ℕ) (reserved : Option ℕ) (count : ℕ) (roles : List Role) (n : ℕ) (role : Role) → n < count → SetTo size reserved count roles n → IsSetDown size reserved (n + 1) role
+    → SetTo size reserved count (set roles n role) (n + 1)
+one_set size reserved count roles n role lt was is = record {
+  long = length-set roles n role ∙ was.long;
+  each = λ p above within. elim (cases_eq p (n + 1)) [
+    | inl e ↦ (
+        let at : p - 1 ≡ n = omega (arith, e) in
+        let here : n < length roles = omega (arith, lt, was.long) in
+        let same : role_at (set roles n role) p ≡ role = ap (λ k. get_or (set roles n role) k Unused) at ∙ get_or-set_same roles n role Unused here in
+        subst (λ q. IsSetDown size reserved q (role_at (set roles n role) p)) (sym e) (subst (IsSetDown size reserved (n + 1)) (sym same) is))
+    | inr ne ↦ (
+        let below : p ≤ n = omega (arith, ne, within) in
+        let other : p - 1 ≢ n = λ e. (omega (arith, e, above, below)) in
+        subst (IsSetDown size reserved p) (sym (get_or-set_other roles n (p - 1) role Unused other)) (was.each p above below))
+  ];
+}

@@ -1,7 +1,28 @@
 -- What a survey finds: what the pages of a database are used for, and what is wrong with it (own).
-use Rattle.std.specs.Prelude.{◌≡◌, ℕ, ◌-◌, ◌<◌, ◌≤◌, List, length, set}
+use Rattle.std.specs.Prelude.{◌≡◌, ◌≢◌, ◌⊎◌, ℕ, ◌-◌, ◌<◌, ◌≤◌, List, length, set, Option, Some, IfSome}
+use Rattle.sqval.specs.Database.{Database}
+use Rattle.sqpage.specs.Freelist.{IsWithin, IsPage, usable_size}
+use Rattle.sqpage.specs.PointerMaps.{lock_byte_page, IsPointerMap}
+use Rattle.sqcheck.specs.Surveys.{role_at}
+use Rattle.sqcheck.specs.WellFormed.{IsAutoVacuum}
 use Rattle.sqcheck.specs.declared.role.Role.{Role}
+use Rattle.sqcheck.specs.declared.role.Role.TheVariants.{LockByte, PointerMap}
 
 -- A page's role was put down in a list by page, where it is one of the list's. No public contract cites this word.
 abbrev pub Charts : (old : List Role) → (page : ℕ) → Role → (new : List Role) → Type 0
 Charts old page role new = (length new ≡ length old) × (0 < page → page ≤ length old → new ≡ set old (page - 1) role)
+
+-- This is put down of page p before a walk: the lock-byte page, and where so many bytes of each page are reserved beside
+-- pointer maps, whether it is one of these.
+pub record IsSetDown (size : ℕ) (reserved : Option ℕ) (p : ℕ) (role : Role) : Type 0 where
+  pub lock : p ≡ lock_byte_page size → role ≡ LockByte
+  pub map : p ≢ lock_byte_page size → IfSome reserved (λ n. (IsPointerMap size (size - n) p × (role ≡ PointerMap)) ⊎ (IsPointerMap size (size - n) p → ⊥))
+
+-- of each of so many pages
+pub record AreSetDown (count size : ℕ) (reserved : Option ℕ) (roles : List Role) : Type 0 where
+  pub long : length roles ≡ count
+  pub each : (p : ℕ) → IsWithin count p → IsSetDown size reserved p (role_at roles p)
+
+-- how many bytes of each page are reserved, where the database is one of auto-vacuum
+abbrev pub KnowsReserved : Database → (size : ℕ) → Option ℕ → Type 0
+KnowsReserved d size reserved = IsPage d 1 → IsAutoVacuum d → (n : ℕ) × (reserved ≡ Some n) × (size - n ≡ usable_size d)

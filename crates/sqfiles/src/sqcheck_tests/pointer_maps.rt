@@ -1,7 +1,7 @@
 //! Databases of auto-vacuum.
 use super::{ONE_CELL, checked, file_of, put};
-use sqcheck::{Options, Report, check_with};
-use sqpage::{CheckError, Fault, SliceSource};
+use sqcheck::{Options, Report, Role, Survey, check_with, survey_pages_with};
+use sqpage::{CheckError, Fault, Kind, SliceSource};
 use sqval::PageSize;
 use std::alloc::{AllocError, Global};
 use std::process::Abort;
@@ -94,5 +94,76 @@ fn its_faults(rt: HostRuntime) -> Result<(), Fail> {
             Err(CheckError { page, fault })
         );
     }
+    Ok(())
+}
+
+/// What a survey with pointer maps finds.
+fn surveyed(rt: &impl Abort, alloc: Global, file: &[u8]) -> Result<Survey, CheckError> {
+    let options = Options { pointer_maps: true };
+    let size = PageSize::new(512).expect(rt, "a page size");
+    match SliceSource::new(file, size) {
+        None => Err(CheckError {
+            fault: Fault::PageSize,
+            page: 0,
+        }),
+        Some(mut source) => survey_pages_with(alloc, &mut source, options),
+    }
+}
+
+/// What the pages of the sample are used for.
+const ROLES: [Role; 9] = [
+    Role::Btree {
+        kind: Kind::TableLeaf,
+        root: 1,
+    },
+    Role::PointerMap,
+    Role::Btree {
+        kind: Kind::TableInterior,
+        root: 3,
+    },
+    Role::Btree {
+        kind: Kind::TableLeaf,
+        root: 3,
+    },
+    Role::Btree {
+        kind: Kind::TableLeaf,
+        root: 3,
+    },
+    Role::Overflow { owner: 5 },
+    Role::Overflow { owner: 5 },
+    Role::FreeTrunk,
+    Role::FreeLeaf,
+];
+
+#[test]
+fn a_map(rt: HostRuntime) -> Result<(), Fail> {
+    let file = sample(rt.alloc())?;
+    let survey = surveyed(&rt, rt.alloc(), &file)?;
+    assert_eq!(rt; survey.roles.as_slice(), ROLES.as_slice());
+    assert_eq!(rt; survey.faults.as_slice(), [].as_slice());
+    assert!(rt; survey.answer.is_ok());
+    Ok(())
+}
+
+// The entry of page 4 has another parent, and the header another largest root.
+#[test]
+fn a_map_behind_faults(rt: HostRuntime) -> Result<(), Fail> {
+    let mut file = sample(rt.alloc())?;
+    put(&mut file, 521, [4].as_slice());
+    put(&mut file, 55, [4].as_slice());
+    let survey = surveyed(&rt, rt.alloc(), &file)?;
+    let faults = [
+        CheckError {
+            page: 2,
+            fault: Fault::PointerMap,
+        },
+        CheckError {
+            page: 1,
+            fault: Fault::PointerMap,
+        },
+    ];
+    assert_eq!(rt; survey.roles.as_slice(), ROLES.as_slice());
+    assert_eq!(rt; survey.faults.as_slice(), faults.as_slice());
+    assert_eq!(rt; survey.answer, Err(faults[0]));
     Ok(())
 }

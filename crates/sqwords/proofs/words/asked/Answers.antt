@@ -6,7 +6,7 @@ use Rattle.sqwords.proofs.CommandLineArguments.{agree, differ, told}
 use Rattle.sqwords.proofs.OptionsOfCommand.{others, report_asks, show_amiss, at_named, at_none, asks_to, no_to, some_to}
 use Rattle.sqwords.proofs.words.asked.Goals as goal
 use Rattle.sqwords.proofs.words.asked.Goals.{else-eq-3-via-then-eq-3+else-are_known, else-eq-3-via-else-eq-3}
-use Rattle.sqwords.proofs.words.asked.Goals.{then-ne-via-then-ne, then-ne-via-else-ne+then-not-are_known}
+use Rattle.sqwords.proofs.words.asked.Goals.{then-ne-via-then-ne, then-ne-via-else-ne+then-not-may_recover}
 use Rattle.sqwords.proofs.words.asked.Goals.{else-is_none-via-then-is_none+else-is_some, else-is_none-via-else-is_none}
 
 pub returns-in_err-part : goal.returns-in_err-part
@@ -42,7 +42,6 @@ returns-then-are_known c = (
     c.options_of-given.ensures,
     c.if-are_known.ensures.yes refl,
     c.in_ok-options.ensures,
-    (c.stands_in-pointer_maps.ensures.yes, told _ _ c.stands_in-pointer_maps.ensures.not),
   ),
 )
 
@@ -58,7 +57,10 @@ returns-then-ne c = λ _ _.
         ]),
         (λ is. elim c.then-ne.branch [
           | then-ne-via-then-ne w ↦ absurd (differ _ _ true w.if-ne.ensures refl is)
-          | then-ne-via-else-ne+then-not-are_known w ↦ inl (w.if-not-are_known.ensures.not refl)
+          | then-ne-via-else-ne+then-not-may_recover w ↦ elim (w.if-not-may_recover.ensures.not refl) [
+            | inl unknown ↦ inl unknown
+            | inr maps ↦ inr (inl (c.in_ok-options.ensures.pointer_maps.0 maps))
+          ]
         ]),
         (λ is. absurd (others _ _ c.if-eq-2.ensures is)),
         (λ is. absurd (others _ _ c.if-eq.ensures is)),
@@ -75,10 +77,10 @@ returns-then-is_some c = λ _ _.
           | else-eq-3-via-then-eq-3+else-are_known w ↦ w.if-are_known.ensures.not refl
           | else-eq-3-via-else-eq-3 w ↦ absurd (others _ _ w.if-eq-3.ensures is)
         ]),
-        (λ _. inr (
+        (λ _. inr (inr (
           at_named options c.in_ok-options.options.at c.if-is_some.ensures c.in_ok-options.ensures.at_commit,
           no_to options c.text_of-to.result c.if-is_none.ensures (asks_to options c.text_of-to.result c.text_of-to.ensures),
-        )),
+        ))),
         (λ is. absurd (others _ _ c.if-eq-2.ensures is)),
         (λ is. absurd (others _ _ c.if-eq.ensures is)),
       ),
@@ -92,7 +94,7 @@ returns c =
       (
         options,
         c.options_of-given.ensures,
-        c.if-not-are_known.ensures.yes refl,
+        c.if-not-may_recover.ensures.known refl,
         c.in_ok-options.ensures,
         (c.stands_in-force.ensures.yes, told _ _ c.stands_in-force.ensures.not),
         asks_to options c.text_of-to.result c.text_of-to.ensures,
@@ -100,5 +102,6 @@ returns c =
           | else-is_none-via-then-is_none+else-is_some w ↦ at_none c.in_ok-options.options.at w.if-is_some.ensures
           | else-is_none-via-else-is_none w ↦ absurd (some_to c.text_of-to.result w.if-is_none.ensures none)
         ]),
+        c.if-not-may_recover.ensures.none refl,
       ),
     )
