@@ -1,4 +1,7 @@
 //! Why a run ended early.
+ghost use Rattle.std.specs.Prelude.{◌≡◌};
+ghost use Rattle.sqcommit.specs.declared.failure.Failure.TheVariants.{File, NoMemory, Roll, Wal};
+
 use rollcore::RollError;
 use std::alloc::{AllocError, AllocFailed};
 use std::io;
@@ -26,7 +29,7 @@ pub enum Failure {
 }
 
 impl From<AllocError> for Failure {
-    ghost from_gives = { λ _ _. Unit {0} };
+    ghost from_gives = { λ _ failure. failure ≡ NoMemory };
 
     fn from(_error: AllocError) -> Failure {
         Failure::NoMemory
@@ -34,7 +37,7 @@ impl From<AllocError> for Failure {
 }
 
 impl<T: Drop> From<AllocFailed<T>> for Failure {
-    ghost from_gives = { λ _ _. Unit {0} };
+    ghost from_gives = { λ _ failure. failure ≡ NoMemory };
 
     fn from(_error: AllocFailed<T>) -> Failure {
         Failure::NoMemory
@@ -42,7 +45,7 @@ impl<T: Drop> From<AllocFailed<T>> for Failure {
 }
 
 impl From<io::Error> for Failure {
-    ghost from_gives = { λ _ _. Unit {0} };
+    ghost from_gives = { λ _ failure. failure ≡ File };
 
     fn from(_error: io::Error) -> Failure {
         Failure::File
@@ -50,7 +53,7 @@ impl From<io::Error> for Failure {
 }
 
 impl From<WalError> for Failure {
-    ghost from_gives = { λ _ _. Unit {0} };
+    ghost from_gives = { λ error failure. failure ≡ Wal error };
 
     fn from(error: WalError) -> Failure {
         Failure::Wal(error)
@@ -58,7 +61,7 @@ impl From<WalError> for Failure {
 }
 
 impl From<RollError> for Failure {
-    ghost from_gives = { λ _ _. Unit {0} };
+    ghost from_gives = { λ error failure. failure ≡ Roll error };
 
     fn from(error: RollError) -> Failure {
         Failure::Roll(error)

@@ -1,4 +1,6 @@
 //! A disk over two real files.
+ghost use Rattle.std.specs.Prelude.{◌≡◌};
+
 use crashdisk::{Disk, DiskError, File};
 use std::fs::OpenFile;
 use std::io;
@@ -14,7 +16,10 @@ pub struct FileDisk<F: FileExt + OpenFile + Drop> {
 
 impl<F: FileExt + OpenFile + Drop> FileDisk<F> {
     /// A disk over an opened database file and its opened log.
-    pub fn new(db: F, log: F) -> FileDisk<F> {
+    pub fn new(db: F, log: F) -> FileDisk<F>
+        ensures db { result.db ≡ db }
+        ensures log { result.log ≡ log }
+    {
         FileDisk { db, log }
     }
 

@@ -1,5 +1,6 @@
 //! The pages that are committed.
-ghost use Rattle.std.specs.Prelude.{◌≡◌, Some};
+ghost use Rattle.std.specs.Prelude.{◌≡◌, ◌++◌, ◌∷◌, [], ℕ, IfOk, List, OnOk, Some, map};
+ghost use Rattle.sqcommit.specs.Pages.{page_bytes, page_front, pages_between};
 
 use sqval::PageSize;
 use std::alloc::{AllocError, Global};
@@ -17,15 +18,40 @@ pub fn page_size() -> Option<PageSize>
     PageSize::new(PAGE_LEN)
 }
 
-/// What a page holds after a commit, each after another: page 1 begins as a database does.
-fn page_of(alloc: Global, page: u32, commit: u8) -> Result<Vec<u8>, AllocError> {
-    let mut bytes = Vec::new(alloc);
-    bytes.resize(PAGE_LEN as usize, commit)?;
+/// What a page begins with: page 1 as a database does.
+fn front_of(alloc: Global, page: u32) -> Result<Vec<u8>, AllocError>
+    ensures { IfOk result (λ front. front.items ≡ page_front page) }
+{
+    let mut front = Vec::new(alloc);
     if page == 1 {
-        bytes[..24].copy_from_slice(&HEADER);
-        bytes[24..100].fill(0);
+        front.extend_from_slice(&HEADER)?;
+        front.resize(100, 0)?;
     }
+    Ok(front)
+}
+
+/// What a page holds after a commit, each after another.
+fn page_of(alloc: Global, page: u32, commit: u8) -> Result<Vec<u8>, AllocError>
+    ensures { IfOk result (λ bytes. bytes.items ≡ page_bytes page commit) }
+{
+    let mut bytes = front_of(alloc, page)?;
+    bytes.resize(PAGE_LEN as usize, commit)?;
     Ok(bytes)
+}
+
+/// Adds what a page holds after a commit.
+fn add_page(
+    alloc: Global,
+    pages: &mut Vec<(u32, Vec<u8>)>,
+    page: u32,
+    commit: u8,
+) -> Result<(), AllocError>
+    ensures { OnOk result (map {B = ℕ × List ℕ} (λ p. (p.0, p.1.items)) pages.new.items
+        ≡ map {B = ℕ × List ℕ} (λ p. (p.0, p.1.items)) pages.old.items ++ (page, page_bytes page commit) ∷ []) }
+{
+    let bytes = page_of(alloc, page, commit)?;
+    pages.push((page, bytes))?;
+    Ok(())
 }
 
 /// The pages that a commit writes, from one page to another, by their numbers.
@@ -34,11 +60,18 @@ pub fn pages_of(
     first: u32,
     last: u32,
     commit: u8,
-) -> Result<Vec<(u32, Vec<u8>)>, AllocError> {
+) -> Result<Vec<(u32, Vec<u8>)>, AllocError>
+    ensures { IfOk result (λ pages. map {B = ℕ × List ℕ} (λ p. (p.0, p.1.items)) pages.items
+        ≡ pages_between first last commit) }
+{
     let mut pages = Vec::new(alloc);
-    for page in first..=last {
-        pages.push((page, page_of(alloc, page, commit)?))?;
+    if first > last {
+        return Ok(pages);
     }
+    for page in first..last {
+        add_page(alloc, &mut pages, page, commit)?;
+    }
+    add_page(alloc, &mut pages, last, commit)?;
     Ok(pages)
 }
 
@@ -46,7 +79,10 @@ pub fn pages_of(
 pub fn lent<'a>(
     alloc: Global,
     pages: &'a [(u32, Vec<u8>)],
-) -> Result<Vec<(u32, &'a [u8])>, AllocError> {
+) -> Result<Vec<(u32, &'a [u8])>, AllocError>
+    ensures { IfOk result (λ lent. map {B = ℕ × List ℕ} (λ p. (p.0, p.1.now)) lent.items
+        ≡ map {B = ℕ × List ℕ} (λ p. (p.0, p.1.items)) pages.entry.now) }
+{
     let mut lent = Vec::new(alloc);
     for (page, bytes) in pages {
         lent.push((*page, bytes.as_slice()))?;

@@ -1,4 +1,7 @@
 //! Commits, each of which is marked once its engine says that it is down.
+ghost use Rattle.std.specs.Prelude.{IfErr};
+ghost use Rattle.sqcommit.specs.Failures.{IsOfRoll, IsOfWal};
+
 use crate::failure::Failure;
 use crate::pages::{lent, page_size, pages_of};
 use crashdisk::Disk;
@@ -74,7 +77,9 @@ fn commit_wal<D: Disk, M: Write>(
     alloc: Global,
     wal: &mut Wal<D>,
     marks: &mut M,
-) -> Result<(), Failure> {
+) -> Result<(), Failure>
+    ensures { IfErr result IsOfWal }
+{
     let mut number: u8 = 0;
     for commit in &COMMITS {
         number = number.wrapping_add(1);
@@ -101,7 +106,9 @@ pub fn run_wal<D: Disk + Drop, M: Write>(
     alloc: Global,
     disk: D,
     marks: &mut M,
-) -> Result<(), Failure> {
+) -> Result<(), Failure>
+    ensures { IfErr result IsOfWal }
+{
     let Some(size) = page_size() else {
         return Ok(());
     };
@@ -120,7 +127,9 @@ fn commit_roll<D: Disk, M: Write>(
     alloc: Global,
     roll: &mut Roll<D>,
     marks: &mut M,
-) -> Result<(), Failure> {
+) -> Result<(), Failure>
+    ensures { IfErr result IsOfRoll }
+{
     let mut number: u8 = 0;
     for commit in &COMMITS {
         number = number.wrapping_add(1);
@@ -138,7 +147,9 @@ pub fn run_roll<D: Disk + Drop, M: Write>(
     alloc: Global,
     disk: D,
     marks: &mut M,
-) -> Result<(), Failure> {
+) -> Result<(), Failure>
+    ensures { IfErr result IsOfRoll }
+{
     let Some(size) = page_size() else {
         return Ok(());
     };

@@ -1,4 +1,7 @@
 //! Images that are found wrong are kept as files (own).
+ghost use Rattle.std.specs.Prelude.{◌≡◌, IfErr, IfOk, IsSome};
+ghost use Rattle.sqcrash.specs.declared.outcome.Refusal.TheVariants.{FileFailed};
+
 use crate::outcome::Refusal;
 use sqimages::Image;
 use std::rt::Files;
@@ -24,7 +27,11 @@ pub struct Folder<'a, R> {
 impl<'a, R: Files + AllocGlobal> Folder<'a, R> {
     /// The folder of this path, which is made where it isn't there; where there is no path, nothing is kept. Refused by
     /// FileFailed.
-    pub fn new(rt: &'a R, path: Option<&'a str>) -> Result<Folder<'a, R>, Refusal> {
+    pub fn new(rt: &'a R, path: Option<&'a str>) -> Result<Folder<'a, R>, Refusal>
+        ensures path { IfOk result (λ folder. folder.path ≡ path.entry) }
+        ensures none { IfOk result (λ folder. folder.kept ≡ 0) }
+        ensures failed { IfErr result (λ refusal. IsSome path.entry × (refusal ≡ FileFailed)) }
+    {
         if let Some(folder) = path {
             make(rt, folder)?;
         }
@@ -33,7 +40,9 @@ impl<'a, R: Files + AllocGlobal> Folder<'a, R> {
 }
 
 /// Makes a folder where it isn't there.
-fn make<R: Files>(rt: &R, path: &str) -> Result<(), Refusal> {
+fn make<R: Files>(rt: &R, path: &str) -> Result<(), Refusal>
+    ensures { IfErr result (λ refusal. refusal ≡ FileFailed) }
+{
     if fs::create_dir(rt, path).is_ok() {
         return Ok(());
     }

@@ -1,6 +1,8 @@
 //! The program over a runtime's files and two writers.
-ghost use Rattle.std.specs.Prelude.{◌≤◌, ℕ, List, IfOk};
+ghost use Rattle.std.specs.Prelude.{◌≡◌, ◌⊎◌, ◌≤◌, ℕ, List, IfOk};
 ghost use Rattle.std.specs.Io.KnownBytes.{Appends};
+ghost use Rattle.std.specs.IoError.{error_kind};
+ghost use Rattle.std.specs.declared.io.ErrorKind.TheVariants.{OutOfMemory};
 ghost use Rattle.sqcrash.specs.Rigs.{IsJudgment};
 
 use crate::commands::request;
@@ -95,7 +97,9 @@ pub(crate) fn judge_trace<K: Keeper, O: Write>(
 
 /// The status where the words can't be read: 3 for want of memory, 2 where they aren't text.
 pub(crate) fn unread<E: Write>(err: &mut E, error: &io::Error) -> u8
-    ensures { result ≤ 3 }
+    ensures least { result ≤ 3 }
+    ensures is { (result ≡ 2) ⊎ (result ≡ 3) }
+    ensures memory { error_kind error.now ≡ OutOfMemory → result ≡ 3 }
 {
     match error.kind() {
         io::ErrorKind::OutOfMemory => refused(err, &LineError::NoMemory),
@@ -111,7 +115,8 @@ fn line<W: Write, T: Display>(writer: &mut W, text: &T) -> io::Result<()> {
 /// The status, or 3 where the line can't be written.
 fn printed<W: Write, T: Display>(writer: &mut W, text: &T, status: u8) -> u8
     requires { status ≤ 3 }
-    ensures { result ≤ 3 }
+    ensures least { result ≤ 3 }
+    ensures is { (result ≡ status) ⊎ (result ≡ 3) }
 {
     match line(writer, text) {
         Ok(()) => status,
@@ -120,7 +125,7 @@ fn printed<W: Write, T: Display>(writer: &mut W, text: &T, status: u8) -> u8
 }
 
 fn refused<W: Write, T: Display>(err: &mut W, text: &T) -> u8
-    ensures { result ≤ 3 }
+    ensures { result ≡ 3 }
 {
     let _ = line(err, &format_args!("sqcrash: {text}"));
     REFUSED

@@ -2,3 +2,4 @@ pub mod LockLines
 pub mod TextsOfLockLines
 pub mod ExpansionOfRuns
 pub mod LogFronts
+pub mod FaultsInOrder

@@ -1,3 +1,4 @@
 -- What no public clause reaches.
+pub mod Faults
 pub mod FileDisk
 pub mod Refusals

@@ -1,4 +1,6 @@
 //! Notes on standard error.
+ghost use Rattle.std.specs.Prelude.{◌≡◌};
+
 use std::cell::{Cell, RefCell};
 use std::fmt::Display;
 use std::io::Write;
@@ -49,12 +51,16 @@ impl<E> Drop for Notes<'_, E> {
 
 impl<'a, E: Write> Notes<'a, E> {
     /// Notes of which some are written only where they are asked for.
-    pub fn new(to: &'a NoteWriter<E>, verbose: bool) -> Notes<'a, E> {
+    pub fn new(to: &'a NoteWriter<E>, verbose: bool) -> Notes<'a, E>
+        ensures { result.verbose ≡ verbose }
+    {
         Notes { to, verbose }
     }
 
     /// The same notes for another who writes some.
-    pub fn again(&self) -> Notes<'a, E> {
+    pub fn again(&self) -> Notes<'a, E>
+        ensures { result.verbose ≡ self.now.verbose }
+    {
         Notes {
             to: self.to,
             verbose: self.verbose,
@@ -74,7 +80,9 @@ impl<'a, E: Write> Notes<'a, E> {
     }
 
     /// Whether notes are asked for.
-    pub fn are_asked(&self) -> bool {
+    pub fn are_asked(&self) -> bool
+        ensures { result ≡ self.now.verbose }
+    {
         self.verbose
     }
 }

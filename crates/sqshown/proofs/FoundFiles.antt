@@ -1,5 +1,5 @@
 -- What is found of files, by what is found in their view.
-use Rattle.std.proofs.Common.{◌≡◌, ℕ, ◌≤◌, List, [], length, refl, sym, subst, inl, inr}
+use Rattle.std.proofs.Common.{◌≡◌, Bool, ℕ, ◌≤◌, List, [], length, refl, sym, subst, inl, inr}
 use Rattle.std.specs.Prelude.{Option, None, Some, Result, Ok, Err, IfOk, IfErr}
 use Rattle.sqval.specs.Limits.{Bounds}
 use Rattle.sqview.specs.At.{ViewsAt}
@@ -49,8 +49,8 @@ module _ {F : Type 0} (limits : Bounds) (bytes : F → List ℕ) (db wal journal
   }
 
 -- what is found without a view
-module _ {F : Type 0} (limits : Bounds) (bytes : F → List ℕ) (at : Option ℕ) (files : Contents (List ℕ)) where
-  pub found_of_none : (error : ViewError) → AskedRefused limits at files.db files.wal files.journal error → IfOk (found_without {F = F} error) (IsFoundOf limits bytes at files)
+module _ {F : Type 0} (maps : Bool) (limits : Bounds) (bytes : F → List ℕ) (at : Option ℕ) (files : Contents (List ℕ)) where
+  pub found_of_none : (error : ViewError) → AskedRefused limits at files.db files.wal files.journal error → IfOk (found_without {F = F} error) (IsFoundOf maps limits bytes at files)
   found_of_none (views.Header fault) refused = inl (refl, refused)
   found_of_none views.TwoLogs refused = tt
   found_of_none views.TooLarge refused = tt
@@ -58,7 +58,7 @@ module _ {F : Type 0} (limits : Bounds) (bytes : F → List ℕ) (at : Option �
   found_of_none views.NoMemory refused = tt
   found_of_none views.NoSuchCommit refused = tt
 
-  pub refused_of_none : (error : ViewError) → AskedRefused limits at files.db files.wal files.journal error → IfErr (found_without {F = F} error) (IsUnfound limits at files)
+  pub refused_of_none : (error : ViewError) → AskedRefused limits at files.db files.wal files.journal error → IfErr (found_without {F = F} error) (IsUnfound maps limits at files)
   refused_of_none (views.Header fault) refused = tt
   refused_of_none views.TwoLogs refused = refused
   refused_of_none views.TooLarge refused = inr refused
@@ -66,24 +66,24 @@ module _ {F : Type 0} (limits : Bounds) (bytes : F → List ℕ) (at : Option �
   refused_of_none views.NoMemory refused = tt
   refused_of_none views.NoSuchCommit refused = refused
 
-module _ {F : Type 0} (limits : Bounds) (bytes : F → List ℕ) (at : Option ℕ) (files : Contents (List ℕ)) (v : View F) (records : Records) (asked : AskedAnswer limits bytes at files.db files.wal files.journal (Ok v)) where
-  pub found_of_view : (r : Result (Found F) Refusal) → AreRecordsOf files.journal records → IfOk r (IsFoundIn bytes (shape_of bytes v) records) → IfOk r (IsFoundOf limits bytes at files)
+module _ {F : Type 0} (maps : Bool) (limits : Bounds) (bytes : F → List ℕ) (at : Option ℕ) (files : Contents (List ℕ)) (v : View F) (records : Records) (asked : AskedAnswer limits bytes at files.db files.wal files.journal (Ok v)) where
+  pub found_of_view : (r : Result (Found F) Refusal) → AreRecordsOf files.journal records → IfOk r (IsFoundIn maps bytes (shape_of bytes v) records) → IfOk r (IsFoundOf maps limits bytes at files)
   found_of_view (Ok (Pages found)) are is = record {
     view = same_view limits bytes files.db files.wal files.journal v found.view is.0 at asked;
-    survey = subst (λ (s : Shape). IsSurveyed (pages_in s) s.page_size (Ok found.survey)) (sym is.0) is.1;
+    survey = subst (λ (s : Shape). IsSurveyed maps (pages_in s) s.page_size (Ok found.survey)) (sym is.0) is.1;
     ordered = is.2;
     records = subst (λ (x : Records). AreRecordsOf files.journal x) (sym is.3) are;
   }
   found_of_view (Ok (Nothing error)) are is = inr (v.page_size, pages_of bytes v, shows_asked limits bytes files.db files.wal files.journal v at asked, is)
   found_of_view (Err refusal) are is = tt
 
-  unfound_of_view : (refusal : Refusal) → IsUnfoundIn (shape_of bytes v) refusal → IsUnfound limits at files refusal
+  unfound_of_view : (refusal : Refusal) → IsUnfoundIn maps (shape_of bytes v) refusal → IsUnfound maps limits at files refusal
   unfound_of_view NoSuchPage none = (v.page_size, pages_of bytes v, shows_asked limits bytes files.db files.wal files.journal v at asked, none)
-  unfound_of_view AutoVacuum maps = (v.page_size, pages_of bytes v, shows_asked limits bytes files.db files.wal files.journal v at asked, maps)
+  unfound_of_view AutoVacuum vacuum = (v.page_size, pages_of bytes v, shows_asked limits bytes files.db files.wal files.journal v at asked, vacuum)
   unfound_of_view FileFailed failed = tt
   unfound_of_view NoMemory memory = tt
   unfound_of_view _ never = absurd never
 
-  pub refused_of_view : (r : Result (Found F) Refusal) → IfErr r (IsUnfoundIn (shape_of bytes v)) → IfErr r (IsUnfound limits at files)
+  pub refused_of_view : (r : Result (Found F) Refusal) → IfErr r (IsUnfoundIn maps (shape_of bytes v)) → IfErr r (IsUnfound maps limits at files)
   refused_of_view (Ok found) is = tt
   refused_of_view (Err refusal) is = unfound_of_view refusal is

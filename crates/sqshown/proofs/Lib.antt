@@ -4,3 +4,7 @@ mod AskedFronts
 mod ShownFiles
 mod CountedLogs
 mod FoundFiles
+mod ElementsInOrder
+mod LinesOfPages
+mod WrittenLogs
+mod NamesOfTrees

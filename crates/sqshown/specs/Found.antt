@@ -1,5 +1,5 @@
 -- What is found of files.
-use Rattle.std.specs.Prelude.{◌≡◌, ◌⊎◌, ℕ, ◌^◌, ◌<◌, List, length, Option, None, Some, Ok, Err}
+use Rattle.std.specs.Prelude.{◌≡◌, ◌⊎◌, ℕ, ◌^◌, ◌<◌, Bool, List, length, Option, None, Some, Ok, Err}
 use Rattle.std.specs.Result.{result_err}
 use Rattle.sqval.specs.Database.{Database}
 use Rattle.sqval.specs.Limits.{Bounds}
@@ -35,29 +35,30 @@ abbrev pub IsGivenFound : {F : Type 0} → (gives : F → Type 0) → Found F �
 IsGivenFound gives (Pages found) = gives found.view.db × gives found.view.log
 IsGivenFound gives (Nothing error) = Unit {0}
 
--- Of files: the view that is asked for, the survey of its pages, and the records of the hot journal.
-pub record IsSurveyOf {F : Type 0} (limits : Bounds) (bytes : F → List ℕ) (at : Option ℕ) (files : Contents (List ℕ)) (found : Surveyed F) : Type 0 where
+-- Of files: the view that is asked for, the survey of its pages, with pointer maps or without, and the records of the hot
+-- journal.
+pub record IsSurveyOf {F : Type 0} (maps : Bool) (limits : Bounds) (bytes : F → List ℕ) (at : Option ℕ) (files : Contents (List ℕ)) (found : Surveyed F) : Type 0 where
   pub view : AskedAnswer limits bytes at files.db files.wal files.journal (Ok found.view)
-  pub survey : IsSurveyed (pages_of bytes found.view) found.view.page_size (Ok found.survey)
+  pub survey : IsSurveyed maps (pages_of bytes found.view) found.view.page_size (Ok found.survey)
   pub ordered : IsOrdered found.survey
   pub records : AreRecordsOf files.journal found.records
 
 -- That; or the fault that stands alone: that of a header at page 1, or the one for which the pages can't be walked over.
-abbrev pub IsFoundOf : {F : Type 0} → (limits : Bounds) → (bytes : F → List ℕ) → (at : Option ℕ) → (files : Contents (List ℕ)) → Found F → Type 0
-IsFoundOf limits bytes at files (Pages found) = IsSurveyOf limits bytes at files found
-IsFoundOf limits bytes at files (Nothing error) =
+abbrev pub IsFoundOf : {F : Type 0} → (maps : Bool) → (limits : Bounds) → (bytes : F → List ℕ) → (at : Option ℕ) → (files : Contents (List ℕ)) → Found F → Type 0
+IsFoundOf maps limits bytes at files (Pages found) = IsSurveyOf maps limits bytes at files found
+IsFoundOf maps limits bytes at files (Nothing error) =
     ((error.page ≡ 1) × AskedRefused limits at files.db files.wal files.journal (views.Header error.fault))
-    ⊎ ((size : ℕ) × (d : Database) × AskedShows at size files.db files.wal files.journal d × IsSurveyed d size (Err error))
+    ⊎ ((size : ℕ) × (d : Database) × AskedShows at size files.db files.wal files.journal d × IsSurveyed maps d size (Err error))
 
 -- Why nothing is found of files: what refuses their view or their journal, or their database has pointer maps or no page;
 -- or memory or a file gave out.
-abbrev pub IsUnfound : (limits : Bounds) → (at : Option ℕ) → (files : Contents (List ℕ)) → Refusal → Type 0
-IsUnfound limits at files TwoLogs = AskedRefused limits at files.db files.wal files.journal views.TwoLogs
-IsUnfound limits at files NoSuchCommit = AskedRefused limits at files.db files.wal files.journal views.NoSuchCommit
-IsUnfound limits at files TooLarge =
+abbrev pub IsUnfound : (maps : Bool) → (limits : Bounds) → (at : Option ℕ) → (files : Contents (List ℕ)) → Refusal → Type 0
+IsUnfound maps limits at files TwoLogs = AskedRefused limits at files.db files.wal files.journal views.TwoLogs
+IsUnfound maps limits at files NoSuchCommit = AskedRefused limits at files.db files.wal files.journal views.NoSuchCommit
+IsUnfound maps limits at files TooLarge =
     (IsHot files.journal × (2 ^ 40 < length files.journal)) ⊎ AskedRefused limits at files.db files.wal files.journal views.TooLarge
-IsUnfound limits at files AutoVacuum = (size : ℕ) × (d : Database) × AskedShows at size files.db files.wal files.journal d × IsUnsurveyed d size AutoVacuum
-IsUnfound limits at files NoSuchPage = (size : ℕ) × (d : Database) × AskedShows at size files.db files.wal files.journal d × ¬ IsPage d 1
-IsUnfound limits at files FileFailed = Unit {0}
-IsUnfound limits at files NoMemory = Unit {0}
-IsUnfound limits at files _ = ⊥
+IsUnfound maps limits at files AutoVacuum = (size : ℕ) × (d : Database) × AskedShows at size files.db files.wal files.journal d × IsUnsurveyed maps d size AutoVacuum
+IsUnfound maps limits at files NoSuchPage = (size : ℕ) × (d : Database) × AskedShows at size files.db files.wal files.journal d × ¬ IsPage d 1
+IsUnfound maps limits at files FileFailed = Unit {0}
+IsUnfound maps limits at files NoMemory = Unit {0}
+IsUnfound maps limits at files _ = ⊥

@@ -6,8 +6,12 @@ pub mod Limits
 pub mod Logged
 pub mod Logs
 pub mod LogsShown
+pub mod Names
+pub mod PageLines
 pub mod Pages
 pub mod Records
+pub mod Reports
 pub mod Shown
+pub mod Verdicts
 pub mod Views
 pub mod internal

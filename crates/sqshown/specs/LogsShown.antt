@@ -1,14 +1,22 @@
 -- What was shown, or found, of the log that counts.
-use Rattle.std.specs.Prelude.{◌≡◌, ℕ, List, length as list_length}
+use Rattle.std.specs.Prelude.{◌≡◌, ◌⊎◌, ℕ, ◌≤◌, List, [], ◌∷◌, length as list_length, codes}
 use Rattle.sqval.specs.Limits.{Bounds}
 use Rattle.sqwal.specs.Commits.{AreCommits}
-use Rattle.sqwal.specs.Header.{named_size, IsHeader}
+use Rattle.sqwal.specs.Header.{named_size, IsHeader, HeaderRefused}
+use Rattle.sqwal.specs.Refusal.{number_of}
 use Rattle.sqwal.specs.Took.{TookWithin}
+use Rattle.sqwal.specs.declared.error.WalFormatError.{WalFormatError}
 use Rattle.sqjournal.specs.Journal.{IsHot}
+use Rattle.sqjournal.specs.declared.replay.Replay.{Replay}
 use Rattle.sqview.specs.Logs.{HasRead}
+use Rattle.sqwords.specs.declared.requests.Options.{Options}
+use Rattle.sqwords.specs.declared.requests.Style.{Style}
+use Rattle.sqlines.specs.Facts.{number_text, object_text}
+use Rattle.sqlines.specs.Logs.{Journal, Log, ShowsJournal, ShowsLog, journal_text, log_text}
+use Rattle.sqlines.specs.Verdicts.{none_text}
+use Rattle.sqshown.specs.Limits.{limits_named}
 use Rattle.sqshown.specs.declared.logs.LogFound.{LogFound}
 use Rattle.sqshown.specs.declared.logs.LogFound.TheVariants as found
-use Rattle.sqshown.specs.declared.logs.Shown.TheVariants.{Wal, Journal}
 
 -- what a report says of it: nothing where none counts or its header is refused
 abbrev pub IsLogFound : (limits : Bounds) → (wal journal : List ℕ) → LogFound → Type 0
@@ -16,3 +24,24 @@ IsLogFound limits wal journal found.None = (¬ IsHot journal) × ¬ IsHeader (na
 IsLogFound limits wal journal (found.Wal scan commits length) = (¬ IsHot journal) × TookWithin limits.frames wal scan
     × AreCommits (named_size wal) wal commits.items × (length ≡ list_length wal)
 IsLogFound limits wal journal (found.Journal replay) = IsHot journal × HasRead journal replay
+
+-- the number of what refuses a log's header
+abbrev pub refused_text : Style → WalFormatError → List ℕ
+refused_text style error = object_text style (number_text style (codes "wal refused") (number_of error) ∷ [])
+
+-- what is printed of a write-ahead log: what it shows, or what refuses its header
+abbrev pub IsWalText : Options → (wal text : List ℕ) → Type 0
+IsWalText options wal text =
+    ((log : Log) × ShowsLog (limits_named options.large).frames wal log × (text ≡ log_text options.style log))
+    ⊎ ((error : WalFormatError) × (32 ≤ list_length wal) × HeaderRefused wal error × (text ≡ refused_text options.style error))
+
+-- of a hot journal: what the front of it shows that was read
+abbrev pub IsJournalText : Style → (journal text : List ℕ) → Type 0
+IsJournalText style journal text =
+    (replay : Replay) × (read : HasRead journal replay) × (shown : Journal) × ShowsJournal read.front shown × (text ≡ journal_text style shown)
+
+-- of the log that counts, or that none does
+abbrev pub IsLogText : Options → (wal journal text : List ℕ) → Type 0
+IsLogText options wal journal text = (IsHot journal × IsJournalText options.style journal text)
+    ⊎ (((¬ IsHot journal) × IsWalText options wal text)
+    ⊎ ((¬ IsHot journal) × (wal ≡ []) × (text ≡ none_text options.style (codes "log"))))

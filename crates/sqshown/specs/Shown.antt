@@ -1,5 +1,5 @@
 -- What is shown of a database: its header, and a page.
-use Rattle.std.specs.Prelude.{ℕ, ◌⊎◌, List, take}
+use Rattle.std.specs.Prelude.{◌≡◌, ℕ, ◌⊎◌, List, length, take}
 use Rattle.sqval.specs.Database.{Database, page}
 use Rattle.sqpage.specs.Freelist.{IsPage}
 use Rattle.sqpage.specs.Header.{IsHeader}
@@ -7,6 +7,7 @@ use Rattle.sqpage.specs.declared.header.DbHeader.{DbHeader}
 use Rattle.sqfacts.specs.declared.outcome.Refusal.{Refusal}
 use Rattle.sqfacts.specs.declared.outcome.Refusal.TheVariants.{NotADatabase, NoSuchPage, NoMemory}
 use Rattle.sqwords.specs.declared.requests.Options.{Options}
+use Rattle.sqlines.specs.Headers.{header_text}
 use Rattle.sqshown.specs.Views.{AskedShows, IsUnasked}
 
 -- why a page isn't read
@@ -22,6 +23,11 @@ HasHeader d = (header : DbHeader) × IsHeader header (take 100 (page d 1))
 -- the database that is asked for has such a header
 abbrev pub ShowsHeader : Options → (db wal journal : List ℕ) → Type 0
 ShowsHeader options db wal journal = (size : ℕ) × (d : Database) × AskedShows options.at size db wal journal d × HasHeader d
+
+-- what is printed of it: the header's fields, and how many pages there are
+abbrev pub IsHeaderText : Options → (db wal journal text : List ℕ) → Type 0
+IsHeaderText options db wal journal text = (size : ℕ) × (d : Database) × (header : DbHeader) × AskedShows options.at size db wal journal d
+    × IsHeader header (take 100 (page d 1)) × (text ≡ header_text options.style header (length d))
 
 -- why its header isn't shown
 abbrev pub IsHeaderUnshown : Options → (db wal journal : List ℕ) → Refusal → Type 0

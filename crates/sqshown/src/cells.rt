@@ -1,8 +1,9 @@
 //! A database's header, and a page with its cells.
-ghost use Rattle.std.specs.Prelude.{◌≡◌, ◌-◌, ◌<◌, ◌≤◌, length, IfOk, IfErr, IsSome, OnOk, MatchResult};
+ghost use Rattle.std.specs.Prelude.{◌≡◌, ◌-◌, ◌<◌, ◌≤◌, List, ℕ, length, take, IfOk, IfErr, IsSome, OnOk, MatchResult};
+ghost use Rattle.std.specs.Io.KnownBytes.{Appends};
 ghost use Rattle.sqval.specs.PageSize.{IsPageSize};
 ghost use Rattle.sqpage.specs.Chain.{payload_size};
-ghost use Rattle.sqpage.specs.Header.{byte};
+ghost use Rattle.sqpage.specs.Header.{byte, IsHeader};
 ghost use Rattle.sqval.specs.Database.{page as page_at};
 ghost use Rattle.sqpage.specs.Freelist.{IsPage};
 ghost use Rattle.sqview.specs.LogView.{pages_of};
@@ -11,7 +12,7 @@ ghost use Rattle.sqshown.specs.Contents.{AreGiven};
 ghost use Rattle.sqshown.specs.Errors.{IfRefused};
 ghost use Rattle.sqshown.specs.Fronts.{IsAskedFront};
 ghost use Rattle.sqshown.specs.Limits.{limits_named};
-ghost use Rattle.sqshown.specs.Shown.{IsPageUnread, HasHeader, ShowsHeader, ShowsPage};
+ghost use Rattle.sqshown.specs.Shown.{IsHeaderText, IsPageUnread, ShowsHeader, ShowsPage};
 ghost use Rattle.sqshown.specs.internal.Shown.{IsHeaderUnread};
 ghost use Rattle.sqshown.specs.Shown.{IsHeaderUnshown, IsPageUnshown};
 ghost use Rattle.sqpage.specs.Source.{KeepsPages};
@@ -110,7 +111,8 @@ fn asked_view<F: FileBytes + Drop>(
 
 /// The header on page 1 of a view. Refused by `NotADatabase` where it isn't a database's.
 fn header_of<S: PageSource>(alloc: Global, source: &mut S) -> Result<DbHeader, Refusal>
-    ensures { S.gives_pages source.old → MatchResult result (λ _. HasHeader (S.pages source.old))
+    ensures { S.gives_pages source.old → MatchResult result
+        (λ header. IsHeader header (take 100 (page_at (S.pages source.old) 1)))
         (IsHeaderUnread (S.pages source.old)) }
 {
     if source.count() == 0 {
@@ -138,6 +140,9 @@ pub fn show_header<F: FileBytes + Drop, W: Write>(
         → IfOk result (IsAskedFront options.at (F.bytes files.wal) (F.bytes files.journal)) }
     ensures shown { AreGiven F.gives_bytes files
         → OnOk result (ShowsHeader options (F.bytes files.db) (F.bytes files.wal) (F.bytes files.journal)) }
+    ensures text { AreGiven F.gives_bytes files → OnOk result ((text : List ℕ)
+        × IsHeaderText options (F.bytes files.db) (F.bytes files.wal) (F.bytes files.journal) text
+        × Appends (W.contents out.old) (W.contents out.new) text) }
     ensures refused { AreGiven F.gives_bytes files → IfErr result
         (IfRefused (IsHeaderUnshown options (F.bytes files.db) (F.bytes files.wal) (F.bytes files.journal))) }
 {

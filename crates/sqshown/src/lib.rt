@@ -19,7 +19,7 @@ mod views;
 pub use cells::{read_page, show_header, show_page, usable_size};
 pub use contents::{Contents, read_ahead};
 pub use error::ShowError;
-pub use limits::limits_of;
+pub use limits::{asked_of, limits_of};
 pub use logs::{LogFound, log_of, replayed, scanned, show_commits, show_log, show_whole_log};
 pub use names::Names;
 pub use records::Records;

@@ -2,6 +2,8 @@
 ghost use Rattle.std.specs.Prelude.{◌≡◌};
 ghost use Rattle.sqshown.specs.Limits.{limits_named};
 
+use crate::views::Asked;
+use sqcheck::Options as Maps;
 use sqval::Limits;
 use sqwords::Options;
 
@@ -13,5 +15,20 @@ pub fn limits_of(options: Options) -> Limits
         Limits::LARGE
     } else {
         Limits::USUAL
+    }
+}
+
+/// What is asked of files.
+pub fn asked_of(options: Options) -> Asked
+    ensures limits { result.limits ≡ limits_named options.large }
+    ensures commit { result.at ≡ options.at }
+    ensures maps { result.maps.pointer_maps ≡ options.pointer_maps }
+{
+    Asked {
+        limits: limits_of(options),
+        at: options.at,
+        maps: Maps {
+            pointer_maps: options.pointer_maps,
+        },
     }
 }

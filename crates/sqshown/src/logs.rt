@@ -1,5 +1,6 @@
 //! The log that counts.
-ghost use Rattle.std.specs.Prelude.{◌≡◌, ℕ, List, length as list_length, IfOk, IfErr, MatchResult};
+ghost use Rattle.std.specs.Prelude.{◌≡◌, ℕ, List, length as list_length, IfOk, IfErr, MatchResult, OnOk};
+ghost use Rattle.std.specs.Io.KnownBytes.{Appends};
 ghost use Rattle.sqjournal.specs.Journal.{IsHot};
 ghost use Rattle.sqval.specs.Limits.{Bounds};
 ghost use Rattle.sqwal.specs.Took.{TookWithin};
@@ -9,7 +10,7 @@ ghost use Rattle.sqshown.specs.Contents.{AreGiven, KeepsBytes};
 ghost use Rattle.sqshown.specs.Fronts.{IsShownFront};
 ghost use Rattle.sqshown.specs.Limits.{limits_named};
 ghost use Rattle.sqshown.specs.Logs.{ReplayFound, ScanFound, IsUnreadLog};
-ghost use Rattle.sqshown.specs.LogsShown.{IsLogFound};
+ghost use Rattle.sqshown.specs.LogsShown.{IsJournalText, IsLogFound, IsLogText, IsWalText, refused_text};
 ghost use Rattle.sqshown.specs.internal.LogsShown.{IsWalShown, IsJournalShown, IsShownLog};
 ghost use Rattle.sqshown.specs.Errors.{IfRefused};
 
@@ -20,7 +21,7 @@ use crate::limits::limits_of;
 use sqfacts::{Front, Refusal};
 use sqjournal::{JournalError, Replay};
 use sqlines::{
-    number, write_commits, write_facts, write_journal, write_journal_object, write_log, write_none,
+    Fact, write_commits, write_facts, write_journal, write_journal_object, write_log, write_none,
     write_wal_object,
 };
 use sqval::Limits;
@@ -85,8 +86,14 @@ pub fn scanned<F: FileBytes>(
 }
 
 /// The number of what refuses a log's header.
-fn write_refused<W: Write>(out: &mut W, style: Style, error: WalFormatError) -> io::Result<()> {
-    write_facts(out, style, &[number("wal refused", error.number())])
+fn write_refused<W: Write>(out: &mut W, style: Style, error: WalFormatError) -> io::Result<()>
+    ensures { OnOk result (Appends (W.contents out.old) (W.contents out.new) (refused_text style error)) }
+{
+    write_facts(
+        out,
+        style,
+        &[Fact::Number("wal refused", u64::from(error.number()))],
+    )
 }
 
 /// Prints a write-ahead log.
@@ -99,6 +106,8 @@ fn show_wal<F: FileBytes, W: Write>(
     ensures shown { F.gives_bytes wal.old → IfOk result (IsWalShown (limits_named options.large) (F.bytes wal.old)) }
     ensures refused { F.gives_bytes wal.old
         → IfErr result (IfRefused (λ refusal. ScanFound (limits_named options.large) (F.bytes wal.old) (Err refusal))) }
+    ensures text { F.gives_bytes wal.old → OnOk result ((text : List ℕ) × IsWalText options (F.bytes wal.old) text
+        × Appends (W.contents out.old) (W.contents out.new) text) }
     ensures same { KeepsBytes F.bytes F.gives_bytes wal.old wal.new }
 {
     match scanned(alloc, limits_of(options), wal)? {
@@ -123,6 +132,8 @@ fn show_journal<F: FileBytes, W: Write>(
     ensures shown { F.gives_bytes journal.old → IfOk result (IsJournalShown (F.bytes journal.old)) }
     ensures refused { F.gives_bytes journal.old
         → IfErr result (IfRefused (λ refusal. ReplayFound (F.bytes journal.old) (Err refusal))) }
+    ensures text { F.gives_bytes journal.old → OnOk result ((text : List ℕ) × IsJournalText style (F.bytes journal.old)
+        text × Appends (W.contents out.old) (W.contents out.new) text) }
     ensures same { KeepsBytes F.bytes F.gives_bytes journal.old journal.new }
 {
     let replay = replayed(alloc, journal)?;
@@ -144,6 +155,9 @@ fn show_counting<F: FileBytes, W: Write>(
         → IfOk result (IsShownLog (limits_named options.large) (F.bytes wal.old) (F.bytes journal.old)) }
     ensures refused { F.gives_bytes wal.old → F.gives_bytes journal.old → IfErr result
         (IfRefused (IsUnreadLog (limits_named options.large) (F.bytes wal.old) (F.bytes journal.old))) }
+    ensures text { F.gives_bytes wal.old → F.gives_bytes journal.old → OnOk result ((text : List ℕ)
+        × IsLogText options (F.bytes wal.old) (F.bytes journal.old) text
+        × Appends (W.contents out.old) (W.contents out.new) text) }
     ensures wal { KeepsBytes F.bytes F.gives_bytes wal.old wal.new }
     ensures journal { KeepsBytes F.bytes F.gives_bytes journal.old journal.new }
 {
@@ -170,6 +184,9 @@ pub fn show_log<F: FileBytes, W: Write>(
         → IfOk result (IsShownFront (F.bytes wal.old) (F.bytes journal.old)) }
     ensures refused { F.gives_bytes wal.old → F.gives_bytes journal.old → IfErr result
         (IfRefused (IsUnreadLog (limits_named options.large) (F.bytes wal.old) (F.bytes journal.old))) }
+    ensures text { F.gives_bytes wal.old → F.gives_bytes journal.old → OnOk result ((text : List ℕ)
+        × IsLogText options (F.bytes wal.old) (F.bytes journal.old) text
+        × Appends (W.contents out.old) (W.contents out.new) text) }
 {
     match show_counting(alloc, wal, journal, options, out) {
         Ok(shown) => Ok(shown.front()),

@@ -1,5 +1,8 @@
 //! The names of a database's trees (fileformat2, 2.6).
-ghost use Rattle.std.specs.Prelude.{◌≡◌, ◌<◌, ◌≤◌, length, IfOk, IfErr, IsSome, OnOk};
+ghost use Rattle.std.specs.Prelude.{◌≡◌, ◌≢◌, ◌<◌, ◌≤◌, ℕ, length, slice_get, string_bytes, IfErr, IfNone, IfOk};
+ghost use Rattle.std.specs.Prelude.{IfSome, IsSome, OnOk};
+ghost use Rattle.sqshown.specs.declared.names.Name.{Name};
+ghost use Rattle.std.specs.List.Sorted.{IsNonDecreasingBy};
 ghost use Rattle.sqval.specs.PageSize.{IsPageSize};
 ghost use Rattle.sqfacts.specs.declared.outcome.Refusal.TheVariants.{NoMemory};
 ghost use Rattle.sqpage.specs.Chain.{payload_size};
@@ -29,30 +32,35 @@ struct Name {
 #[derive(Drop)]
 pub struct Names {
     found: Vec<Name>,
+    ghost ordered: { IsNonDecreasingBy (λ x. x.root) found.items },
 }
 
 impl Names {
+    ghost use Rattle.sqshown.specs.Names.{IsTreeName, names_of};
+
     /// The name of the tree with this root, where the schema has one that can be shown.
-    pub fn of(&self, root: u32) -> Option<&str> {
+    pub fn of(&self, root: u32) -> Option<&str>
+        ensures { IsTreeName (names_of self.entry.now) root result }
+    {
         if root == 1 {
             return Some(SCHEMA);
         }
-        let (mut low, mut high) = (0usize, self.found.len());
-        for _ in 0..64 {
-            if low >= high {
-                return None;
-            }
-            let middle = low.saturating_add(high.saturating_sub(low) / 2);
-            let name = self.found.get(middle)?;
-            if name.root == root {
-                return Some(name.name.as_str());
-            }
-            if name.root < root {
-                low = middle.saturating_add(1);
-            } else {
-                high = middle;
-            }
-        }
+        named_in(&self.found, root)
+    }
+}
+
+/// The name at this root, in names that are in the order of their roots.
+fn named_in(found: &[Name], root: u32) -> Option<&str>
+    requires { IsNonDecreasingBy (λ x. x.root) found.now }
+    ensures there { IfSome result (λ name. (i : ℕ) × (x : Name) × (slice_get found.entry.now i ≡ Some x)
+        × (x.root ≡ root) × (string_bytes x.name ≡ name.now)) }
+    ensures missing { IfNone result ((i : ℕ) (x : Name) → slice_get found.entry.now i ≡ Some x → x.root ≢ root) }
+{
+    let place = found.partition_point(|name| name.root < root);
+    let name = found.get(place)?;
+    if name.root == root {
+        Some(name.name.as_str())
+    } else {
         None
     }
 }

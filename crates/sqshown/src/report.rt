@@ -1,4 +1,8 @@
 //! The facts that a report shows.
+ghost use Rattle.std.specs.Prelude.{◌≡◌, IfOk, map};
+ghost use Rattle.sqfacts.specs.Runs.{expanded};
+ghost use Rattle.sqshown.specs.Reports.{OnlyReads, roles_in};
+
 use crate::cells::read_page;
 use crate::logs::{LogFound, write_log_facts};
 use crate::surveys::{Found, Surveyed, write_verdict};
@@ -80,7 +84,9 @@ fn trees_of(alloc: Global, roles: &[Role], sizes: &[u32]) -> Result<Vec<Tree>, R
 fn head_of<F: FileBytes>(
     alloc: Global,
     found: &mut Surveyed<F>,
-) -> Result<Option<[u8; 100]>, Refusal> {
+) -> Result<Option<[u8; 100]>, Refusal>
+    ensures { found.new ≡ record found.old { view = found.new.view } }
+{
     let page = read_page(alloc, &mut found.view, 1)?;
     Ok(page.first_chunk::<100>().copied())
 }
@@ -101,17 +107,38 @@ fn trees_found<F>(alloc: Global, found: &Surveyed<F>) -> Result<Vec<Tree>, Refus
 }
 
 /// The runs of a survey.
-fn runs_found<F>(alloc: Global, found: &Surveyed<F>) -> Result<Vec<Run>, Refusal> {
+fn runs_found<F>(alloc: Global, found: &Surveyed<F>) -> Result<Vec<Run>, Refusal>
+    ensures { IfOk result (λ runs. map (λ u. u.role) (expanded runs.items) ≡ found.now.survey.roles.items) }
+{
     let uses = uses_of(alloc, &found.survey.roles, &found.survey.faults)?;
     Ok(runs_of(alloc, &uses)?)
 }
 
 /// What is told of the pages that were found.
-fn page_facts<F: FileBytes>(alloc: Global, found: &mut Surveyed<F>) -> Result<PageFacts, Refusal> {
+fn page_facts<F: FileBytes>(alloc: Global, found: &mut Surveyed<F>) -> Result<PageFacts, Refusal>
+    ensures found { found.new ≡ record found.old { view = found.new.view } }
+    ensures runs { IfOk result (λ facts. map (λ u. u.role) (expanded facts.runs.items)
+        ≡ found.old.survey.roles.items) }
+{
     let head = head_of(alloc, found)?;
     match (trees_found(alloc, found), runs_found(alloc, found)) {
         (Ok(trees), Ok(runs)) => Ok(PageFacts { head, trees, runs }),
         _ => Err(Refusal::NoMemory),
+    }
+}
+
+/// The same of what was found; nothing where that is no page.
+fn facts_in<F: FileBytes>(alloc: Global, found: &mut Found<F>) -> Result<PageFacts, Refusal>
+    ensures found { OnlyReads found.old found.new }
+    ensures runs { IfOk result (λ facts. map (λ u. u.role) (expanded facts.runs.items) ≡ roles_in found.old) }
+{
+    match found {
+        Found::Pages(pages) => page_facts(alloc, pages),
+        Found::Nothing(_) => Ok(PageFacts {
+            head: None,
+            trees: Vec::new(alloc),
+            runs: Vec::new(alloc),
+        }),
     }
 }
 
@@ -120,17 +147,13 @@ pub fn facts_of<F: FileBytes + Drop>(
     alloc: Global,
     found: Found<F>,
     log: LogFound,
-) -> Result<ReportFacts<F>, Refusal> {
+) -> Result<ReportFacts<F>, Refusal>
+    ensures found { IfOk result (λ facts. OnlyReads found facts.found) }
+    ensures log { IfOk result (λ facts. facts.log ≡ log) }
+    ensures runs { IfOk result (λ facts. map (λ u. u.role) (expanded facts.runs.items) ≡ roles_in found) }
+{
     let mut found = found;
-    let pages = match &mut found {
-        Found::Pages(pages) => page_facts(alloc, pages),
-        Found::Nothing(_) => Ok(PageFacts {
-            head: None,
-            trees: Vec::new(alloc),
-            runs: Vec::new(alloc),
-        }),
-    };
-    match pages {
+    match facts_in(alloc, &mut found) {
         Ok(PageFacts { head, trees, runs }) => Ok(ReportFacts {
             found,
             head,

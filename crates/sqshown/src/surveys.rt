@@ -1,5 +1,8 @@
 //! What each page of a database is used for, as its log has it.
-ghost use Rattle.std.specs.Prelude.{◌≡◌, ◌↔◌, ◌+◌, ◌<◌, ◌≤◌, ℕ, List, IfOk, IfErr, IsNone, IsSome, IsTrue};
+ghost use Rattle.std.specs.Prelude.{◌≡◌, ◌↔◌, ◌+◌, ◌<◌, ◌≤◌, ℕ, List, length, IfOk, IfErr, OnOk, IsNone, IsSome};
+ghost use Rattle.std.specs.Prelude.{IsTrue};
+ghost use Rattle.std.specs.Io.KnownBytes.{Appends};
+ghost use Rattle.std.specs.List.{flat_map};
 ghost use Rattle.sqview.specs.Laid.{place_of};
 ghost use Rattle.sqview.specs.Origins.{AreFramePlaces};
 ghost use Rattle.sqview.specs.Shapes.{shape_of};
@@ -9,6 +12,11 @@ ghost use Rattle.sqshown.specs.internal.Found.{IsFoundIn};
 ghost use Rattle.sqshown.specs.Found.{IsUnfound};
 ghost use Rattle.sqshown.specs.internal.Found.{found_without, IsUnfoundIn};
 ghost use Rattle.sqshown.specs.Logged.{IsLoggedFrame, IsLoggedRecord};
+ghost use Rattle.sqlines.specs.Pages.{page_line_text};
+ghost use Rattle.sqlines.specs.declared.pages.PageLine.{PageLine};
+ghost use Rattle.sqshown.specs.Names.{names_of, IsNameAt};
+ghost use Rattle.sqshown.specs.PageLines.{ArePageLines, IsPageLine};
+ghost use Rattle.sqshown.specs.Verdicts.{verdict_text};
 ghost use Rattle.sqshown.specs.Pages.{IsSurveyed, IsOrdered, IsUnsurveyed};
 ghost use Rattle.sqshown.specs.Records.{AreRecordsOf};
 ghost use Rattle.sqpage.specs.Source.{KeepsPages};
@@ -17,12 +25,11 @@ use crate::contents::Contents;
 use crate::held::{Held, Seen};
 use crate::names::{Names, names_in};
 use crate::records::{Records, records_in};
-use crate::views::view_of;
-use sqcheck::{Role, Survey, survey_pages};
+use crate::views::{Asked, view_of};
+use sqcheck::{Options as Maps, Role, Survey, survey_pages_with};
 use sqfacts::{Front, Refusal, first_fault, number_of};
 use sqlines::{Logged, PageLine, write_fault, write_report};
 use sqpage::{CheckError, Fault, PageSource};
-use sqval::Limits;
 use sqview::{FileBytes, Origin, View, ViewError};
 use sqwords::Style;
 use std::alloc::Global;
@@ -102,13 +109,15 @@ impl<F: FileBytes> Surveyed<F> {
 fn survey_of<S: PageSource>(
     alloc: Global,
     source: &mut S,
+    maps: Maps,
 ) -> Result<Result<Survey, CheckError>, Refusal>
-    ensures found { S.gives_pages source.old → IfOk result (IsSurveyed (S.pages source.old) (S.size source.old)) }
+    ensures found { S.gives_pages source.old → IfOk result (IsSurveyed maps.pointer_maps (S.pages source.old)
+        (S.size source.old)) }
     ensures refused { S.gives_pages source.old
-        → IfErr result (IsUnsurveyed (S.pages source.old) (S.size source.old)) }
+        → IfErr result (IsUnsurveyed maps.pointer_maps (S.pages source.old) (S.size source.old)) }
     ensures same { KeepsPages S.pages S.size S.gives_pages source.old source.new }
 {
-    let (error, found) = match survey_pages(alloc, source) {
+    let (error, found) = match survey_pages_with(alloc, source, maps) {
         Ok(survey) => match survey.answer {
             Ok(_) => return Ok(Ok(survey)),
             Err(error) => (error, Ok(survey)),
@@ -127,14 +136,16 @@ fn survey_of<S: PageSource>(
 fn sorted_survey<S: PageSource>(
     alloc: Global,
     source: &mut S,
+    maps: Maps,
 ) -> Result<Result<Survey, CheckError>, Refusal>
-    ensures found { S.gives_pages source.old → IfOk result (IsSurveyed (S.pages source.old) (S.size source.old)) }
+    ensures found { S.gives_pages source.old → IfOk result (IsSurveyed maps.pointer_maps (S.pages source.old)
+        (S.size source.old)) }
     ensures ordered { IfOk result (λ found. IfOk found IsOrdered) }
     ensures refused { S.gives_pages source.old
-        → IfErr result (IsUnsurveyed (S.pages source.old) (S.size source.old)) }
+        → IfErr result (IsUnsurveyed maps.pointer_maps (S.pages source.old) (S.size source.old)) }
     ensures same { KeepsPages S.pages S.size S.gives_pages source.old source.new }
 {
-    match survey_of(alloc, source)? {
+    match survey_of(alloc, source, maps)? {
         Ok(mut survey) => match survey.faults.sort_by_key(|error| error.page) {
             Ok(()) => Ok(Ok(survey)),
             Err(_) => Err(Refusal::NoMemory),
@@ -148,12 +159,13 @@ fn found_held<V: Seen, F: FileBytes + Drop>(
     alloc: Global,
     view: View<F>,
     records: Records,
+    maps: Maps,
 ) -> Result<Found<F>, Refusal>
     requires { shape_of F.bytes view ≡ V.shape }
     ensures found { F.gives_bytes view.db × F.gives_bytes view.log
-        → IfOk result (IsFoundIn F.bytes V.shape records) }
+        → IfOk result (IsFoundIn maps.pointer_maps F.bytes V.shape records) }
     ensures refused { F.gives_bytes view.db × F.gives_bytes view.log
-        → IfErr result (IsUnfoundIn V.shape) }
+        → IfErr result (IsUnfoundIn maps.pointer_maps V.shape) }
     ensures still_gives { F.gives_bytes view.db × F.gives_bytes view.log
         → IfOk result (IsGivenFound F.gives_bytes) }
 {
@@ -161,7 +173,7 @@ fn found_held<V: Seen, F: FileBytes + Drop>(
         view,
         seen: PhantomData,
     };
-    let survey = match sorted_survey(alloc, &mut held) {
+    let survey = match sorted_survey(alloc, &mut held, maps) {
         Ok(Ok(survey)) => survey,
         Ok(Err(error)) => return Ok(Found::Nothing(error)),
         Err(refusal) => return Err(refusal),
@@ -185,15 +197,16 @@ fn found_in<F: FileBytes + Drop>(
     alloc: Global,
     view: View<F>,
     records: Records,
+    maps: Maps,
 ) -> Result<Found<F>, Refusal>
     ensures found { F.gives_bytes view.db × F.gives_bytes view.log
-        → IfOk result (IsFoundIn F.bytes (shape_of F.bytes view) records) }
+        → IfOk result (IsFoundIn maps.pointer_maps F.bytes (shape_of F.bytes view) records) }
     ensures refused { F.gives_bytes view.db × F.gives_bytes view.log
-        → IfErr result (IsUnfoundIn (shape_of F.bytes view)) }
+        → IfErr result (IsUnfoundIn maps.pointer_maps (shape_of F.bytes view)) }
     ensures still_gives { F.gives_bytes view.db × F.gives_bytes view.log
         → IfOk result (IsGivenFound F.gives_bytes) }
 {
-    found_held::<Brand, F>(alloc, view, records)
+    found_held::<Brand, F>(alloc, view, records, maps)
 }
 
 /// What is found of files that have no view: the fault of a header, at page 1.
@@ -210,34 +223,51 @@ fn without_pages<F>(error: ViewError) -> Result<Found<F>, Refusal>
     }
 }
 
-/// What a survey of files finds within limits, at a commit or as their log has them. Refused as the view and the survey
-/// are.
+/// What a survey of files finds within limits, at a commit or as their log has them, with pointer maps where that is
+/// asked. Refused as the view and the survey are.
 pub fn survey_files<F: FileBytes + Drop>(
     alloc: Global,
-    limits: Limits,
+    asked: Asked,
     files: Contents<F>,
-    at: Option<u32>,
 ) -> Result<Found<F>, Refusal>
-    ensures found { AreGiven F.gives_bytes files
-        → IfOk result (IsFoundOf limits F.bytes at (contents_of F.bytes files)) }
-    ensures refused { AreGiven F.gives_bytes files
-        → IfErr result (IsUnfound limits at (contents_of F.bytes files)) }
+    ensures found { AreGiven F.gives_bytes files → IfOk result
+        (IsFoundOf asked.maps.pointer_maps asked.limits F.bytes asked.at (contents_of F.bytes files)) }
+    ensures refused { AreGiven F.gives_bytes files → IfErr result
+        (IsUnfound asked.maps.pointer_maps asked.limits asked.at (contents_of F.bytes files)) }
     ensures still_gives { AreGiven F.gives_bytes files → IfOk result (IsGivenFound F.gives_bytes) }
 {
     let mut files = files;
     let records = records_in(alloc, &mut files.journal)?;
     let Contents { db, wal, journal } = files;
-    match view_of(alloc, limits, db, wal, journal, at) {
-        Ok(view) => found_in(alloc, view, records),
+    match view_of(alloc, asked.limits, db, wal, journal, asked.at) {
+        Ok(view) => found_in(alloc, view, records, asked.maps),
         Err(error) => without_pages(error),
     }
 }
 
 /// The name of the tree that a page with this role is in.
-fn name_of(names: &Names, role: Role) -> Option<&str> {
+fn name_of(names: &Names, role: Role) -> Option<&str>
+    ensures { IsNameAt (names_of names.entry.now) role result }
+{
     match role {
         Role::Btree { root, .. } => names.of(root),
         _ => None,
+    }
+}
+
+/// The line of page i, from 0.
+fn line_of<F: FileBytes>(found: &Surveyed<F>, i: usize) -> PageLine<'_>
+    requires { i < length found.now.survey.roles.items }
+    ensures { IsPageLine found.entry.now i result }
+{
+    let number = number_of(i);
+    let role = found.survey.roles[i];
+    PageLine {
+        number,
+        role,
+        name: name_of(&found.names, role),
+        logged: found.logged(i),
+        fault: first_fault(&found.survey.faults, number),
     }
 }
 
@@ -246,16 +276,12 @@ pub fn write_pages<F: FileBytes, W: Write>(
     out: &mut W,
     style: Style,
     found: &Surveyed<F>,
-) -> io::Result<()> {
-    for (i, role) in found.survey.roles.iter().enumerate() {
-        let number = number_of(i);
-        let line = PageLine {
-            number,
-            role: *role,
-            name: name_of(&found.names, *role),
-            logged: found.logged(i),
-            fault: first_fault(&found.survey.faults, number),
-        };
+) -> io::Result<()>
+    ensures { OnOk result ((lines : List PageLine) × ArePageLines found.now lines
+        × Appends (W.contents out.old) (W.contents out.new) (flat_map (page_line_text style) lines)) }
+{
+    for i in 0..found.survey.roles.len() {
+        let line = line_of(found, i);
         line.write(out, style)?;
     }
     Ok(())
@@ -263,7 +289,8 @@ pub fn write_pages<F: FileBytes, W: Write>(
 
 /// What `check` prints of what was found. Whether the database is well formed. An error of the writer.
 pub fn write_verdict<F, W: Write>(out: &mut W, style: Style, found: &Found<F>) -> io::Result<bool>
-    ensures { IfOk result (λ sound. IsTrue sound ↔ IsNone (fault_in found.now)) }
+    ensures sound { IfOk result (λ sound. IsTrue sound ↔ IsNone (fault_in found.now)) }
+    ensures text { OnOk result (Appends (W.contents out.old) (W.contents out.new) (verdict_text style found.now)) }
 {
     let error = match found {
         Found::Pages(found) => match &found.survey.answer {

@@ -1,5 +1,5 @@
 -- What is found of files.
-use Rattle.std.specs.Prelude.{◌≡◌, ℕ, List, Result, Ok, Err}
+use Rattle.std.specs.Prelude.{◌≡◌, ℕ, Bool, List, Result, Ok, Err}
 use Rattle.sqval.specs.Database.{Database}
 use Rattle.sqpage.specs.Freelist.{IsPage}
 use Rattle.sqview.specs.Laid.{laid}
@@ -24,12 +24,12 @@ abbrev pub pages_in : Shape → Database
 pages_in shape = laid shape.page_size shape.count shape.db shape.log shape.places
 
 -- a view that shows this, the survey of its pages, and these records; or the fault for which its pages can't be walked over
-abbrev pub IsFoundIn : {F : Type 0} → (bytes : F → List ℕ) → Shape → Records → Found F → Type 0
-IsFoundIn bytes shape records (Pages found) = (shape_of bytes found.view ≡ shape) × IsSurveyed (pages_in shape) shape.page_size (Ok found.survey)
+abbrev pub IsFoundIn : {F : Type 0} → (maps : Bool) → (bytes : F → List ℕ) → Shape → Records → Found F → Type 0
+IsFoundIn maps bytes shape records (Pages found) = (shape_of bytes found.view ≡ shape) × IsSurveyed maps (pages_in shape) shape.page_size (Ok found.survey)
     × IsOrdered found.survey × (found.records ≡ records)
-IsFoundIn bytes shape records (Nothing error) = IsSurveyed (pages_in shape) shape.page_size (Err error)
+IsFoundIn maps bytes shape records (Nothing error) = IsSurveyed maps (pages_in shape) shape.page_size (Err error)
 
 -- why nothing is found
-abbrev pub IsUnfoundIn : Shape → Refusal → Type 0
-IsUnfoundIn shape NoSuchPage = ¬ IsPage (pages_in shape) 1
-IsUnfoundIn shape refusal = IsUnsurveyed (pages_in shape) shape.page_size refusal
+abbrev pub IsUnfoundIn : (maps : Bool) → Shape → Refusal → Type 0
+IsUnfoundIn maps shape NoSuchPage = ¬ IsPage (pages_in shape) 1
+IsUnfoundIn maps shape refusal = IsUnsurveyed maps (pages_in shape) shape.page_size refusal

@@ -13,7 +13,7 @@ returns-in-Ok g c = λ gives.
     let d = g.S.PageSource.pages c.args.source.now in
     let content = (c.in_ok-page.ensures.answer gives).1 in
     let head : c.in-Some.head.now ≡ take 100 (page d 1) = c.in-Some.ensures.cases.same ∙ ap (λ (l : List ℕ). take 100 l) (c.deref.ensures.value ∙ content) in
-    (c.in-Ok.header, subst (λ (b : List ℕ). IsHeader c.in-Ok.header b) head c.in-Ok.ensures.ok)
+    subst (λ (b : List ℕ). IsHeader c.in-Ok.header b) head c.in-Ok.ensures.ok
 
 pub returns-in-Some : goal.returns-in-Some
 returns-in-Some g c = λ gives has.

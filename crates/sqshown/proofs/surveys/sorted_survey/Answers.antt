@@ -1,4 +1,4 @@
-use Rattle.std.proofs.Common.{◌≡◌, List, ℕ, false, [], length, ap, ◌∙◌, subst, arith, rules}
+use Rattle.std.proofs.Common.{◌≡◌, List, ℕ, Bool, [], length, ap, ◌∙◌, subst, arith, rules}
 use Rattle.std.specs.Prelude.{Result, Ok, Err, IfOk}
 use Rattle.std.proofs.lemmas.List.{nil_from_length}
 use Rattle.std.proofs.lemmas.List.Sorted.{IsNonDecreasingBy-from_sort_by_key}
@@ -13,11 +13,11 @@ use Rattle.sqshown.specs.Pages.{IsSurveyed}
 use Rattle.sqshown.proofs.surveys.sorted_survey.Goals as goal
 
 -- no fault in another order is no fault
-clean_anew : (d : Database) (size : ℕ) (answer : Result Report CheckError) (roles : List Role) (faults again : List CheckError) → length again ≡ length faults
-    → IfOk answer (λ report. (w : WellFormedWith false d size) × IsReport d w.places report × AreAllRoles d size roles × (faults ≡ []))
-    → IfOk answer (λ report. (w : WellFormedWith false d size) × IsReport d w.places report × AreAllRoles d size roles × (again ≡ []))
-clean_anew d size (Ok report) roles faults again long clean = (clean.0, clean.1, clean.2, nil_from_length again (long ∙ ap (λ (l : List CheckError). length l) clean.3))
-clean_anew d size (Err e) roles faults again long clean = tt
+clean_anew : (maps : Bool) (d : Database) (size : ℕ) (answer : Result Report CheckError) (roles : List Role) (faults again : List CheckError) → length again ≡ length faults
+    → IfOk answer (λ report. (w : WellFormedWith maps d size) × IsReport d w.places report × AreAllRoles d size roles × (faults ≡ []))
+    → IfOk answer (λ report. (w : WellFormedWith maps d size) × IsReport d w.places report × AreAllRoles d size roles × (again ≡ []))
+clean_anew maps d size (Ok report) roles faults again long clean = (clean.0, clean.1, clean.2, nil_from_length again (long ∙ ap (λ (l : List CheckError). length l) clean.3))
+clean_anew maps d size (Err e) roles faults again long clean = tt
 
 pub returns-in-Ok-sort_by_key-clause-found : goal.returns-in-Ok-sort_by_key-clause-found
 returns-in-Ok-sort_by_key-clause-found g c = λ gives.
@@ -26,8 +26,8 @@ returns-in-Ok-sort_by_key-clause-found g c = λ gives.
     let survey = c.in-Ok.survey in
     let again = c.sort_by_key.new.self in
     let long : length again.items ≡ length survey.faults.items = omega (arith, c.sort_by_key.ensures.len, again.ok.0, survey.faults.ok.0) in
-    let before = subst (λ (r : Result Survey CheckError). IsSurveyed d size r) c.in-Ok.is (c.in_ok-survey.ensures.found gives) in
-    (clean_anew d size survey.answer survey.roles.items survey.faults.items again.items long before.0, before.1, before.2)
+    let before = subst (λ (r : Result Survey CheckError). IsSurveyed c.args.maps.pointer_maps d size r) c.in-Ok.is (c.in_ok-survey.ensures.found gives) in
+    (clean_anew c.args.maps.pointer_maps d size survey.answer survey.roles.items survey.faults.items again.items long before.0, before.1, before.2)
 
 pub returns-in-Ok-sort_by_key-clause-ordered : goal.returns-in-Ok-sort_by_key-clause-ordered
 returns-in-Ok-sort_by_key-clause-ordered g c = IsNonDecreasingBy-from_sort_by_key (λ (e : CheckError). e.page) _ c.in-Ok-sort_by_key.ensures.sorted (λ a r q k. search rules)

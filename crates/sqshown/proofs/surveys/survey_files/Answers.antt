@@ -15,8 +15,8 @@ returns-in-Ok-clause-found g c = λ given.
     let files = contents_of bytes c.args.files in
     let same = c.records_in.ensures.same in
     let still = same.still_gives given.2 in
-    let asked = subst (λ (j : List ℕ). AskedAnswer c.args.limits bytes c.args.at files.db files.wal j (Ok c.in-Ok.view)) same.same_bytes (c.in-Ok.ensures.answer (given.0, given.1, still)) in
-    found_of_view c.args.limits bytes c.args.at files c.in-Ok.view c.in_ok-records.records asked c.found_in.result (c.in_ok-records.ensures.found given.2)
+    let asked = subst (λ (j : List ℕ). AskedAnswer c.args.asked.limits bytes c.args.asked.at files.db files.wal j (Ok c.in-Ok.view)) same.same_bytes (c.in-Ok.ensures.answer (given.0, given.1, still)) in
+    found_of_view c.args.asked.maps.pointer_maps c.args.asked.limits bytes c.args.asked.at files c.in-Ok.view c.in_ok-records.records asked c.found_in.result (c.in_ok-records.ensures.found given.2)
     (c.found_in.ensures.found (c.in-Ok.ensures.still_gives (given.0, given.1, still)))
 
 pub returns-in-Ok-clause-refused : goal.returns-in-Ok-clause-refused
@@ -25,8 +25,8 @@ returns-in-Ok-clause-refused g c = λ given.
     let files = contents_of bytes c.args.files in
     let same = c.records_in.ensures.same in
     let still = same.still_gives given.2 in
-    let asked = subst (λ (j : List ℕ). AskedAnswer c.args.limits bytes c.args.at files.db files.wal j (Ok c.in-Ok.view)) same.same_bytes (c.in-Ok.ensures.answer (given.0, given.1, still)) in
-    refused_of_view c.args.limits bytes c.args.at files c.in-Ok.view c.in_ok-records.records asked c.found_in.result
+    let asked = subst (λ (j : List ℕ). AskedAnswer c.args.asked.limits bytes c.args.asked.at files.db files.wal j (Ok c.in-Ok.view)) same.same_bytes (c.in-Ok.ensures.answer (given.0, given.1, still)) in
+    refused_of_view c.args.asked.maps.pointer_maps c.args.asked.limits bytes c.args.asked.at files c.in-Ok.view c.in_ok-records.records asked c.found_in.result
     (c.found_in.ensures.refused (c.in-Ok.ensures.still_gives (given.0, given.1, still)))
 
 pub returns-in-Err-clause-found : goal.returns-in-Err-clause-found
@@ -35,10 +35,10 @@ returns-in-Err-clause-found g c = λ given.
     let files = contents_of bytes c.args.files in
     let same = c.records_in.ensures.same in
     let still = same.still_gives given.2 in
-    let refused = refused_asked c.args.limits bytes c.args.at files.db files.wal (bytes c.records_in.new.journal) c.in-Err.error (c.in-Err.ensures.answer (given.0, given.1, still)) in
-    let asked = subst (λ (j : List ℕ). AskedRefused c.args.limits c.args.at files.db files.wal j c.in-Err.error) same.same_bytes refused in
-    subst (λ (r : Result (Found g.row.F.Denot) Refusal). IfOk r (IsFoundOf c.args.limits bytes c.args.at files)) (sym c.without_pages.ensures)
-    (found_of_none c.args.limits bytes c.args.at files c.in-Err.error asked)
+    let refused = refused_asked c.args.asked.limits bytes c.args.asked.at files.db files.wal (bytes c.records_in.new.journal) c.in-Err.error (c.in-Err.ensures.answer (given.0, given.1, still)) in
+    let asked = subst (λ (j : List ℕ). AskedRefused c.args.asked.limits c.args.asked.at files.db files.wal j c.in-Err.error) same.same_bytes refused in
+    subst (λ (r : Result (Found g.row.F.Denot) Refusal). IfOk r (IsFoundOf c.args.asked.maps.pointer_maps c.args.asked.limits bytes c.args.asked.at files)) (sym c.without_pages.ensures)
+    (found_of_none c.args.asked.maps.pointer_maps c.args.asked.limits bytes c.args.asked.at files c.in-Err.error asked)
 
 pub returns-in-Err-clause-refused : goal.returns-in-Err-clause-refused
 returns-in-Err-clause-refused g c = λ given.
@@ -46,7 +46,7 @@ returns-in-Err-clause-refused g c = λ given.
     let files = contents_of bytes c.args.files in
     let same = c.records_in.ensures.same in
     let still = same.still_gives given.2 in
-    let refused = refused_asked c.args.limits bytes c.args.at files.db files.wal (bytes c.records_in.new.journal) c.in-Err.error (c.in-Err.ensures.answer (given.0, given.1, still)) in
-    let asked = subst (λ (j : List ℕ). AskedRefused c.args.limits c.args.at files.db files.wal j c.in-Err.error) same.same_bytes refused in
-    subst (λ (r : Result (Found g.row.F.Denot) Refusal). IfErr r (IsUnfound c.args.limits c.args.at files)) (sym c.without_pages.ensures)
-    (refused_of_none c.args.limits bytes c.args.at files c.in-Err.error asked)
+    let refused = refused_asked c.args.asked.limits bytes c.args.asked.at files.db files.wal (bytes c.records_in.new.journal) c.in-Err.error (c.in-Err.ensures.answer (given.0, given.1, still)) in
+    let asked = subst (λ (j : List ℕ). AskedRefused c.args.asked.limits c.args.asked.at files.db files.wal j c.in-Err.error) same.same_bytes refused in
+    subst (λ (r : Result (Found g.row.F.Denot) Refusal). IfErr r (IsUnfound c.args.asked.maps.pointer_maps c.args.asked.limits c.args.asked.at files)) (sym c.without_pages.ensures)
+    (refused_of_none c.args.asked.maps.pointer_maps c.args.asked.limits bytes c.args.asked.at files c.in-Err.error asked)

@@ -1,0 +1,44 @@
+-- Lines that are written one behind the other.
+use Rattle.std.proofs.Common.{◌≡◌, ◌⊎◌, ⊎_elim, inl, inr, ℕ, zero, suc, ◌+◌, List, [], ◌∷◌, ◌++◌, length, Option, refl, sym, ◌∙◌, ap, subst, arith}
+use Rattle.std.specs.Prelude.{slice_get, Some}
+use Rattle.std.specs.List.{flat_map}
+use Rattle.std.specs.Io.KnownBytes.{Appends}
+use Rattle.std.proofs.KnownBytes.{Appends-trans}
+use Rattle.std.proofs.lemmas.List.{append-nil, length-append}
+use Rattle.std.proofs.lemmas.Grind.{flat_map-append}
+use Rattle.std.proofs.lemmas.Option.{none-some}
+use Rattle.sqlines.specs.declared.pages.PageLine.{PageLine}
+use Rattle.sqshown.specs.PageLines.{IsPageLine}
+use Rattle.sqshown.specs.declared.surveys.Surveyed.{Surveyed}
+
+-- an element with one more behind it
+one_more : {X : Type 0} (xs : List X) (y : X) (j : ℕ) (x : X) → slice_get (xs ++ y ∷ []) j ≡ Some x
+    → (slice_get xs j ≡ Some x) ⊎ ((j ≡ length xs) × (y ≡ x))
+one_more [] y zero x is = let same : y ≡ x = cc in inr (refl, same)
+one_more [] y (suc j) x is = absurd (none-some x is)
+one_more (z ∷ xs) y zero x is = inl is
+one_more (z ∷ xs) y (suc j) x is =
+    ⊎_elim (λ there. inl there) (λ last. inr (ap (λ (n : ℕ). suc n) last.0, last.1)) (one_more xs y j x is)
+
+-- one more line of a page
+pub line_more : {F : Type 0} (found : Surveyed F) (lines : List PageLine) (i : ℕ) (line : PageLine) → length lines ≡ i
+    → ((j : ℕ) (x : PageLine) → slice_get lines j ≡ Some x → IsPageLine found j x) → IsPageLine found i line
+    → (j : ℕ) (x : PageLine) → slice_get (lines ++ line ∷ []) j ≡ Some x → IsPageLine found j x
+line_more found lines i line long each is j x there =
+    ⊎_elim (λ before. each j x before)
+    (λ last.
+    let at : i ≡ j = sym (last.0 ∙ long) in
+    subst (λ (n : ℕ). IsPageLine found n x) at (subst (λ (l : PageLine). IsPageLine found i l) last.1 is))
+    (one_more lines line j x there)
+
+-- and of their number
+pub length_more : {X : Type 0} (xs : List X) (y : X) (i : ℕ) → length xs ≡ i → length (xs ++ y ∷ []) ≡ i + 1
+length_more xs y i long = length-append xs (y ∷ []) ∙ ap (λ (n : ℕ). n + 1) long
+
+-- and of the text
+pub appends_line : {X : Type 0} (old mid new : Option (List ℕ)) (text : X → List ℕ) (xs : List X) (x : X)
+    → Appends old mid (flat_map text xs) → Appends mid new (text x) → Appends old new (flat_map text (xs ++ x ∷ []))
+appends_line old mid new text xs x first more =
+    let all : flat_map text (xs ++ x ∷ []) ≡ flat_map text xs ++ text x =
+    flat_map-append text xs (x ∷ []) ∙ ap (λ (l : List ℕ). flat_map text xs ++ l) (append-nil (text x)) in
+    subst (λ (l : List ℕ). Appends old new l) (sym all) (Appends-trans old mid new (flat_map text xs) (text x) first more)
