@@ -3,5 +3,4 @@ pub mod FilesUnderSettings
 pub mod CallsAsSteps
 pub mod AnswersToEvents
 pub mod NextServedEvent
-pub mod JournalNextServedEvent
 pub mod JournalAnswersToEvents

@@ -15,9 +15,9 @@ use Rattle.sqval.specs.Answers.{Answer, Crashed}
 use Rattle.walcore.specs.Machine.{Act, forgotten}
 use Rattle.walcore.specs.Fits.{Past, FitsAlone}
 use Rattle.sqworld.specs.Run.{act_of, answer_of, files_of, left_of, is_opening, is_crash}
-use Rattle.sqworld.specs.Sessions.{FitsSession, Serves, begun_by}
-use Rattle.sqworld.specs.declared.engine.Engine.{Engine}
-use Rattle.sqworld.specs.declared.engine.Engine.TheVariants.{Closed, Open}
+use Rattle.sqworld.specs.Sessions.{FitsSession, Serves}
+use Rattle.sqworld.specs.declared.wal_engine.WalEngine.{WalEngine}
+use Rattle.sqworld.specs.declared.wal_engine.WalEngine.TheVariants.{Closed, Open}
 use Rattle.sqworld.specs.declared.engine.Given.{Given}
 use Rattle.sqworld.specs.declared.event.Event.{Event}
 use Rattle.sqworld.specs.declared.event.Event.TheVariants.{StopAfter, StopAtSync, Fail, Crash, CrashAt}
@@ -90,35 +90,30 @@ pub record FitsClosed (past : Past) (begun : ℕ) (s : DiskState) : Type 0 where
   pub tokens : past.tokens ≡ replicate begun None
 
 -- what fits an engine, or the disk without one
-abbrev pub FitsEngine : Past → Engine → Type 0
+abbrev pub FitsEngine : Past → WalEngine → Type 0
 FitsEngine past (Closed disk begun) = FitsClosed past begun (state_of disk)
 FitsEngine past (Open session) = FitsSession past session
 
 -- the disk, and what it lists
-abbrev pub model_of : Engine → ModelDisk
+abbrev pub model_of : WalEngine → ModelDisk
 model_of (Closed disk begun) = disk
 model_of (Open session) = session.wal.disk
 
-abbrev pub disk_of : Engine → DiskState
+abbrev pub disk_of : WalEngine → DiskState
 disk_of engine = state_of (model_of engine)
 
--- how many readers have begun
-abbrev pub begun_of : Engine → ℕ
-begun_of (Closed disk begun) = begun
-begun_of (Open session) = begun_by session
-
 -- one event, for whatever fits the engine
-abbrev pub EngineServes : (page_size : ℕ) (old new : Engine) → Act → Answer → Type 0
+abbrev pub EngineServes : (page_size : ℕ) (old new : WalEngine) → Act → Answer → Type 0
 EngineServes page_size old new act answer = Serves page_size (λ past. FitsEngine past old) (λ past. FitsEngine past new) (disk_of old) (disk_of new) act answer
 
 -- without an engine nothing is done to the disk but what is set, unless the event is an opening or a crash
-abbrev pub Rests : Event → (old new : Engine) → Type 0
+abbrev pub Rests : Event → (old new : WalEngine) → Type 0
 Rests event (Closed disk begun) new = is_opening event ≡ false → is_crash event ≡ false → IsCalm event disk (model_of new)
 Rests event (Open session) new = Unit {0}
 
 -- What was found is given at an opening, and that was there; what was left at a crash of a disk that tears; and the event
 -- happens, rests without an engine, and is served.
-pub record Answers (page_size : ℕ) (tears : Bool) (event : Event) (old : Engine) (given : Given) (new : Engine) : Type 0 where
+pub record Answers (page_size : ℕ) (tears : Bool) (event : Event) (old : WalEngine) (given : Given) (new : WalEngine) : Type 0 where
   pub found : is_some given.found ≡ is_opening event
   pub present : IfSome given.found (λ found. AreFiles (disk_of old) (files_of found))
   pub crashed : is_some given.crashed ≡ (tears && is_crash event)

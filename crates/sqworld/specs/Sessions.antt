@@ -1,5 +1,5 @@
 -- How an engine and its readers go from one call to the next (own).
-use Rattle.std.specs.Prelude.{◌≡◌, ℕ, ◌+◌, ◌<◌, ◌≤◌, List, ◌++◌, length, replicate, Option, None}
+use Rattle.std.specs.Prelude.{◌≡◌, ℕ, ◌<◌, ◌≤◌, List, ◌++◌, replicate, Option, None}
 use Rattle.crashdisk.specs.Call.{DiskState, HasCalls}
 use Rattle.crashdisk.specs.Keeps.{LooksOnce}
 use Rattle.crashdisk.specs.Model.{state_of}
@@ -17,10 +17,6 @@ tokens_by first slots = replicate first None ++ slots
 
 abbrev pub tokens_of : Session → List (Option Reader)
 tokens_of session = tokens_by session.first session.slots.items
-
--- how many readers have begun
-abbrev pub begun_by : Session → ℕ
-begun_by session = session.first + length session.slots.items
 
 -- what fits an engine and its readers
 pub record FitsSession (past : Past) (session : Session) : Type 0 where

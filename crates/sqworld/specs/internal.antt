@@ -1,6 +1,8 @@
 -- What no public clause reaches.
 pub mod Sessions
 pub mod Engines
-pub mod Worlds
 pub mod JournalEngines
-pub mod JournalWorlds
+pub mod Worlds
+pub mod FitAtBeginning
+pub mod WalLaws
+pub mod JournalLaws

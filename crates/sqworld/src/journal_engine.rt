@@ -13,7 +13,7 @@ ghost use Rattle.recovery.specs.Files.{AreFiles};
 ghost use Rattle.recovery.specs.Moments.{answered};
 ghost use Rattle.rollcore.specs.Refusal.{number_of};
 
-use crate::engine::{Given, alone, crash_disk, crash_disk_at, fail_disk, find};
+use crate::engine::{Engine, Given, alone, crash_disk, crash_disk_at, fail_disk, find};
 use crate::journal_event::JEvent;
 use crate::reply::Reply;
 use crate::session::{lend, zeros};
@@ -155,43 +155,11 @@ fn open_disk(alloc: Global, disk: ModelDisk, page_size: PageSize) -> (JournalEng
 }
 
 impl JournalEngine {
-    /// How many calls the disk has refused.
-    pub fn refused(&mut self) -> u64
-        ensures value { result ≡ (disk_of self.old).refused }
-        ensures same { self.new ≡ self.old }
-    {
-        match self {
-            JournalEngine::Closed(disk) => disk.refused(),
-            JournalEngine::Open(roll) => roll.disk().refused(),
-        }
-    }
-
-    /// A disk of its own that lists the same.
-    pub fn copy_disk(&mut self) -> Result<ModelDisk, DiskError>
-        ensures same { self.new ≡ self.old }
-        ensures listed { IfOk result (λ disk. state_of disk ≡ disk_of self.old) }
-    {
-        match self {
-            JournalEngine::Closed(disk) => disk.copy(),
-            JournalEngine::Open(roll) => roll.disk().copy(),
-        }
-    }
-
-    /// Gives the disk back.
-    pub fn close(self) -> ModelDisk
-        ensures { state_of result ≡ disk_of self }
-    {
-        match self {
-            JournalEngine::Closed(disk) => disk,
-            JournalEngine::Open(roll) => roll.into_disk(),
-        }
-    }
-
     /// Opens the engine, after one that is there is given up.
     fn open(self, alloc: Global, page_size: PageSize) -> (JournalEngine, Result<Given, AllocError>)
         ensures { (tears : Bool) → IfOk result.1 (λ given. Answers page_size tears JEvent.Open self given result.0) }
     {
-        let disk = self.close();
+        let disk = self.into_disk();
         match find(alloc, &disk) {
             Ok(found) => {
                 let (engine, reply) = open_disk(alloc, disk, page_size);
@@ -216,7 +184,7 @@ impl JournalEngine {
         ensures { (page_size : ℕ)
             → IfOk result.1 (λ given. Answers page_size tears (JEvent.Crash choice.now) self given result.0) }
     {
-        let mut disk = self.close();
+        let mut disk = self.into_disk();
         match crash_disk(alloc, &mut disk, tears, choice) {
             Ok(crashed) => {
                 let given = Given {
@@ -240,7 +208,7 @@ impl JournalEngine {
         ensures { (page_size : ℕ)
             → IfOk result.1 (λ given. Answers page_size tears (JEvent.CrashAt number) self given result.0) }
     {
-        let mut disk = self.close();
+        let mut disk = self.into_disk();
         match crash_disk_at(alloc, &mut disk, tears, number) {
             Ok(crashed) => {
                 let given = Given {
@@ -277,17 +245,29 @@ impl JournalEngine {
             }
         }
     }
+}
 
-    /// Answers an event.
-    pub fn serve(
+impl Engine for JournalEngine {
+    ghost use Rattle.sqworld.specs.JournalWorlds.{journal_kind};
+    ghost use Rattle.sqworld.specs.internal.JournalLaws.{journal_lawful};
+
+    type Event = JEvent;
+
+    ghost kind = { journal_kind };
+
+    ghost begun_of = { λ _. 0 };
+
+    fn closed(disk: ModelDisk) -> JournalEngine {
+        JournalEngine::Closed(disk)
+    }
+
+    fn serve(
         self,
         alloc: Global,
         page_size: PageSize,
         tears: bool,
         event: &JEvent,
-    ) -> (JournalEngine, Result<Given, AllocError>)
-        ensures { IfOk result.1 (λ given. Answers page_size tears event.now self given result.0) }
-    {
+    ) -> (JournalEngine, Result<Given, AllocError>) {
         match event {
             JEvent::Open => self.open(alloc, page_size),
             JEvent::Crash(choice) => self.crash(alloc, tears, choice),
@@ -298,4 +278,27 @@ impl JournalEngine {
             }
         }
     }
+
+    fn refused(&mut self) -> u64 {
+        match self {
+            JournalEngine::Closed(disk) => disk.refused(),
+            JournalEngine::Open(roll) => roll.disk().refused(),
+        }
+    }
+
+    fn copy_disk(&mut self) -> Result<ModelDisk, DiskError> {
+        match self {
+            JournalEngine::Closed(disk) => disk.copy(),
+            JournalEngine::Open(roll) => roll.disk().copy(),
+        }
+    }
+
+    fn into_disk(self) -> ModelDisk {
+        match self {
+            JournalEngine::Closed(disk) => disk,
+            JournalEngine::Open(roll) => roll.into_disk(),
+        }
+    }
+
+    ghost lawful = { journal_lawful };
 }

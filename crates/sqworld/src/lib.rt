@@ -9,6 +9,7 @@ mod journal_event;
 pub mod journal_world;
 mod reply;
 mod session;
+mod wal_engine;
 pub mod world;
 
 pub use base::Base;
@@ -16,4 +17,4 @@ pub use event::Event;
 pub use journal_event::JEvent;
 pub use journal_world::{JournalWorld, run_journal};
 pub use reply::{Crashed, Found, Reply, Run};
-pub use world::{NoMemory, World, run_wal};
+pub use world::{NoMemory, World, WorldOf, run_wal};

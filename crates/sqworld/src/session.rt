@@ -6,8 +6,8 @@ ghost use Rattle.walcore.specs.Machine.{Commits, Syncs, Checkpoints, Restarts, B
 ghost use Rattle.sqval.specs.JudgedPages.{lent};
 ghost use Rattle.walcore.specs.Bringing.{answer_of as checkpoint_answer};
 ghost use Rattle.sqworld.specs.Run.{numbered, answer_of};
-ghost use Rattle.sqworld.specs.Sessions.{tokens_of, begun_by};
-ghost use Rattle.sqworld.specs.internal.Sessions.{SessionServes};
+ghost use Rattle.sqworld.specs.Sessions.{tokens_of};
+ghost use Rattle.sqworld.specs.internal.Sessions.{SessionServes, begun_by};
 ghost use Rattle.recovery.specs.Moments.{answered};
 ghost use Rattle.walcore.specs.Refusal.{number_of};
 

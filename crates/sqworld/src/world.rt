@@ -3,16 +3,16 @@ ghost use Rattle.std.specs.Prelude.{◌≡◌, ◌+◌, ◌<◌, ◌≤◌, ◌^
 ghost use Rattle.walcore.specs.Machine.{Step};
 ghost use Rattle.walcore.specs.Making.{Holds, nothing};
 ghost use Rattle.sqval.specs.Runs.{IsRun};
-ghost use Rattle.sqworld.specs.Run.{moments_of, start_of, IsComplete};
-ghost use Rattle.sqworld.specs.Engines.{begun_of, disk_of};
-ghost use Rattle.sqworld.specs.declared.engine.Engine.{Engine};
-ghost use Rattle.sqworld.specs.Worlds.{EndsWith, BeginsOn, HasLife};
+ghost use Rattle.sqworld.specs.WorldKinds.{disk_of, moments_of, start_of, IsComplete};
+ghost use Rattle.sqworld.specs.WalWorlds.{wal_kind};
+ghost use Rattle.sqworld.specs.Worlds.{EndsWith, BeginsOn, HasLife, IsRunOf};
 ghost use Rattle.sqworld.specs.internal.Worlds.{IsNoted, Goes};
 
 use crate::base::Base;
 use crate::engine::{Engine, Given};
 use crate::event::Event;
 use crate::reply::{Reply, Run};
+use crate::wal_engine::WalEngine;
 use crashdisk::ModelDisk;
 use sqval::PageSize;
 use std::alloc::{AllocError, Global};
@@ -75,18 +75,18 @@ impl Run {
 }
 
 /// Answers an event, notes it, and gives its reply.
-fn go(
+fn go<E: Engine>(
     alloc: Global,
-    engine: Engine,
+    engine: E,
     page_size: PageSize,
     tears: bool,
-    event: &Event,
+    event: &E::Event,
     run: &mut Run,
-) -> (Engine, Result<Reply, AllocError>)
-    requires { begun_of engine < 2 ^ 63 }
-    ensures goes { OnOk result.1 (Goes page_size tears event.now engine run.old result.0 run.new) }
+) -> (E, Result<Reply, AllocError>)
+    requires { E.begun_of engine < 2 ^ 63 }
+    ensures goes { OnOk result.1 (Goes E.kind page_size tears event.now engine run.old result.0 run.new) }
     ensures ends { IfOk result.1 (λ reply. EndsWith reply run.old run.new) }
-    ensures begun { begun_of result.0 ≤ begun_of engine + 1 }
+    ensures begun { E.begun_of result.0 ≤ E.begun_of engine + 1 }
 {
     let (served, given) = engine.serve(alloc, page_size, tears, event);
     let mut engine = served;
@@ -103,35 +103,38 @@ fn go(
 /// The most events of a run.
 const MOST_EVENTS: usize = 4611686018427387904;
 
-/// A run over a write-ahead log that goes on event by event: an engine on a modelled disk, and what was answered so far
-/// (own). It is ended by `finish`.
-pub struct World {
+/// A run that goes on event by event: an engine on a modelled disk, and what was answered so far (own). It is ended by
+/// `finish`.
+pub struct WorldOf<E: Engine> {
     page_size: PageSize,
     tears: bool,
-    engine: Option<Engine>,
+    engine: Option<E>,
     run: Run,
     served: usize,
     failed: bool,
     ghost there: { IsSome engine },
-    ghost begun: { (e : Engine) → engine ≡ Some e → begun_of e ≤ served },
+    ghost begun: { (e : E) → engine ≡ Some e → E.begun_of e ≤ served },
     ghost few: { served ≤ 2 ^ 62 },
 }
 
-impl World {
+/// One over a write-ahead log.
+pub type World = WorldOf<WalEngine>;
+
+impl<E: Engine> WorldOf<E> {
     ghost use Rattle.crashdisk.specs.Model.{state_of};
     ghost use Rattle.sqworld.specs.Stepping.{HasServed, IsRunOfServed, ServesNext, StaysServed};
 
     /// A closed engine on a modelled disk of the base, before the first event; NoMemory alone.
-    pub fn new(alloc: Global, base: &Base) -> Result<World, NoMemory>
-        ensures { IfOk result (λ world. HasServed base.now [] world) }
+    pub fn new(alloc: Global, base: &Base) -> Result<WorldOf<E>, NoMemory>
+        ensures { IfOk result (λ world. HasServed E.kind base.now [] world) }
     {
         let Ok(disk) = base_disk(alloc, base) else {
             return Err(NoMemory);
         };
-        Ok(World {
+        Ok(WorldOf {
             page_size: base.page_size(),
             tears: base.tears(),
-            engine: Some(Engine::Closed { disk, begun: 0 }),
+            engine: Some(E::closed(disk)),
             run: Run::new(alloc),
             served: 0,
             failed: false,
@@ -141,8 +144,8 @@ impl World {
     /// Answers one event, notes the answer in the run, and gives the reply, which says what the last of the run's says.
     /// NoMemory where a vector of the run's own or of the reply finds none, and past 4,611,686,018,427,387,904 events;
     /// from then on the world answers nothing else, and is only to be finished.
-    pub fn serve(&mut self, alloc: Global, event: &Event) -> Result<Reply, NoMemory>
-        ensures serves { OnOk result (ServesNext event.now self.old self.new) }
+    pub fn serve(&mut self, alloc: Global, event: &E::Event) -> Result<Reply, NoMemory>
+        ensures serves { OnOk result (ServesNext E.kind event.now self.old self.new) }
         ensures reply { IfOk result (λ reply. EndsWith reply self.old.run self.new.run) }
     {
         if self.failed || self.served >= MOST_EVENTS {
@@ -160,7 +163,7 @@ impl World {
             &mut self.run,
         );
         if let Some(engine) = self.engine.replace(engine) {
-            let _ = engine.close();
+            let _ = engine.into_disk();
         }
         self.served += 1;
         self.failed = told.is_err();
@@ -173,7 +176,7 @@ impl World {
     /// What was answered so far.
     pub fn run(&self) -> &Run
         ensures run { result.now ≡ self.now.run }
-        ensures served { IsRunOfServed self.now result.now }
+        ensures served { IsRunOfServed E.kind self.now result.now }
     {
         &self.run
     }
@@ -181,8 +184,9 @@ impl World {
     /// A disk of its own that lists the same as the world's, of which the same is set; NoMemory alone.
     pub fn disk(&mut self) -> Result<ModelDisk, NoMemory>
         ensures run { self.new.run ≡ self.old.run }
-        ensures served { StaysServed self.old self.new }
-        ensures listed { IfOk result (λ disk. IfSome self.old.engine (λ engine. state_of disk ≡ disk_of engine)) }
+        ensures served { StaysServed E.kind self.old self.new }
+        ensures listed { IfOk result (λ disk. IfSome self.old.engine
+            (λ engine. state_of disk ≡ disk_of E.kind engine)) }
     {
         let copied = match &mut self.engine {
             Some(engine) => engine.copy_disk(),
@@ -197,9 +201,9 @@ impl World {
     /// Ends the world, and gives what was answered.
     pub fn finish(self) -> Run
         ensures run { result ≡ self.run }
-        ensures served { IsRunOfServed self result }
+        ensures served { IsRunOfServed E.kind self result }
     {
-        let World {
+        let WorldOf {
             engine,
             run,
             page_size: _,
@@ -208,24 +212,22 @@ impl World {
             failed: _,
         } = self;
         if let Some(engine) = engine {
-            let _ = engine.close();
+            let _ = engine.into_disk();
         }
         run
     }
 }
 
-/// Answers the events one after another, with an engine on a modelled disk of the base (own). NoMemory alone, where a
-/// vector of the run's own finds none. Up to the first event at which a premise fails, the replies are a run of the
-/// machine: a header or a frame passes by chance, a pair of salts comes twice, or a disk that tears puts a header or a
-/// frame together.
-pub fn run_wal(alloc: Global, base: &Base, events: &[Event]) -> Result<Run, NoMemory>
-    ensures complete { IfOk result (λ run. IsComplete base.now.tears events.now run) }
-    ensures life { IfOk result (λ run. HasLife base.now events.now run) }
-    ensures runs { IfOk result (λ run. (n : ℕ) → Holds base.now.page_size base.now.sector base.now.tears nothing
-        (take n (moments_of events.now run)) → IsRun Step (start_of base.now)
-        (take n (moments_of events.now run))) }
+/// Answers the events one after another, with an engine on a modelled disk of the base. NoMemory alone, where a vector
+/// of the run's own finds none.
+pub(crate) fn run_events<E: Engine>(
+    alloc: Global,
+    base: &Base,
+    events: &[E::Event],
+) -> Result<Run, NoMemory>
+    ensures { IfOk result (IsRunOf E.kind base.now events.now) }
 {
-    let mut world = World::new(alloc, base)?;
+    let mut world = WorldOf::<E>::new(alloc, base)?;
     for event in events {
         let Ok(_) = world.serve(alloc, event) else {
             let _ = world.finish();
@@ -234,4 +236,18 @@ pub fn run_wal(alloc: Global, base: &Base, events: &[Event]) -> Result<Run, NoMe
     }
     let run = world.finish();
     Ok(run)
+}
+
+/// Answers the events one after another, with an engine on a modelled disk of the base (own). NoMemory alone, where a
+/// vector of the run's own finds none. Up to the first event at which a premise fails, the replies are a run of the
+/// machine: a header or a frame passes by chance, a pair of salts comes twice, or a disk that tears puts a header or a
+/// frame together.
+pub fn run_wal(alloc: Global, base: &Base, events: &[Event]) -> Result<Run, NoMemory>
+    ensures complete { IfOk result (λ run. IsComplete wal_kind base.now.tears events.now run) }
+    ensures life { IfOk result (λ run. HasLife wal_kind base.now events.now run) }
+    ensures runs { IfOk result (λ run. (n : ℕ) → Holds base.now.page_size base.now.sector base.now.tears nothing
+        (take n (moments_of wal_kind events.now run)) → IsRun Step (start_of wal_kind base.now)
+        (take n (moments_of wal_kind events.now run))) }
+{
+    run_events::<WalEngine>(alloc, base, events)
 }

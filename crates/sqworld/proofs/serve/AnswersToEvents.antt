@@ -24,10 +24,10 @@ use Rattle.walcore.specs.declared.wal.Wal.{Wal}
 use Rattle.sqworld.specs.Run.{numbered, act_of, answer_of, files_of, is_opening, is_crash}
 use Rattle.sqworld.specs.Sessions.{FitsSession, OnlyCalls, Serves, ServesTo}
 use Rattle.sqworld.specs.internal.Sessions.{SessionServes}
-use Rattle.sqworld.specs.Engines.{SaysLeft, IsLeftBy, IsLeftAt, chosen, IsSetTo, IsCalm, Happens, Rests, FitsEngine, model_of, disk_of, begun_of, EngineServes, Answers}
-use Rattle.sqworld.specs.internal.Engines.{closed_answer, IsAlone}
-use Rattle.sqworld.specs.declared.engine.Engine.{Engine}
-use Rattle.sqworld.specs.declared.engine.Engine.TheVariants.{Closed, Open}
+use Rattle.sqworld.specs.Engines.{SaysLeft, IsLeftBy, IsLeftAt, chosen, IsSetTo, IsCalm, Happens, Rests, FitsEngine, model_of, disk_of, EngineServes, Answers}
+use Rattle.sqworld.specs.internal.Engines.{begun_of, closed_answer, IsAlone}
+use Rattle.sqworld.specs.declared.wal_engine.WalEngine.{WalEngine}
+use Rattle.sqworld.specs.declared.wal_engine.WalEngine.TheVariants.{Closed, Open}
 use Rattle.sqworld.specs.declared.engine.Given.{Given}
 use Rattle.sqworld.specs.declared.event.Event.{Event}
 use Rattle.sqworld.specs.declared.event.Event.TheVariants.{Open as OpenEvent, Commit, Sync, Checkpoint, Restart, Begin, Read, End, StopAfter, StopAtSync, Fail, Crash, CrashAt}
@@ -64,11 +64,11 @@ none_at readers reader h = ap (λ r. get_or r reader None) h ∙ of readers read
 
 -- ---- What fits an engine fits its disk.
 
-pub engine_disk : (past : Past) (engine : Engine) → FitsEngine past engine → FitsAlone past (disk_of engine)
+pub engine_disk : (past : Past) (engine : WalEngine) → FitsEngine past engine → FitsAlone past (disk_of engine)
 engine_disk past (Closed disk begun) fits = fits.alone
 engine_disk past (Open session) fits = record { disk = fits.core.disk; count = fits.core.count }
 
-pub engine_tokens : (past : Past) (engine : Engine) → FitsEngine past engine → length past.tokens ≡ begun_of engine
+pub engine_tokens : (past : Past) (engine : WalEngine) → FitsEngine past engine → length past.tokens ≡ begun_of engine
 engine_tokens past (Closed disk begun) fits = ap length fits.tokens ∙ length-replicate begun None
 engine_tokens past (Open session) fits = ap length fits.tokens ∙ tokens_long session.first session.slots.items
   where
@@ -78,11 +78,11 @@ engine_tokens past (Open session) fits = ap length fits.tokens ∙ tokens_long s
 
 -- ---- Rest.
 
-opening_rests : (event : Event) (old new : Engine) → is_opening event ≡ true → Rests event old new
+opening_rests : (event : Event) (old new : WalEngine) → is_opening event ≡ true → Rests event old new
 opening_rests event (Closed disk begun) new is = λ o k. absurd (cc (is, o))
 opening_rests event (Open session) new is = tt
 
-crash_rests : (event : Event) (old new : Engine) → is_crash event ≡ true → Rests event old new
+crash_rests : (event : Event) (old new : WalEngine) → is_crash event ≡ true → Rests event old new
 crash_rests event (Closed disk begun) new is = λ o k. absurd (cc (is, k))
 crash_rests event (Open session) new is = tt
 
@@ -90,7 +90,7 @@ pub closed_rests : {E : Type 0} (r : Result Reply E) (event : Event) (old new : 
 closed_rests (Err e) event old new begun calm = tt
 closed_rests (Ok reply) event old new begun calm = λ o k. calm
 
-pub open_rests : {E : Type 0} (r : Result Reply E) (event : Event) (old : Session) (new : Engine) → OnOk r (Rests event (Open old) new)
+pub open_rests : {E : Type 0} (r : Result Reply E) (event : Event) (old : Session) (new : WalEngine) → OnOk r (Rests event (Open old) new)
 open_rests (Err e) event old new = tt
 open_rests (Ok reply) event old new = tt
 
@@ -138,7 +138,7 @@ given_up past salts found error number s disk begun is count up = record {
   calls = up.same.calls;
 }
 
-pub open_answers : (page_size : ℕ) (tears : Bool) (event : Event) (old new : Engine) (salts : ℕ × ℕ) (reply : Reply) (found : Found) (s : DiskState) → event ≡ OpenEvent salts → s ≡ disk_of old → AreFiles s (files_of found)
+pub open_answers : (page_size : ℕ) (tears : Bool) (event : Event) (old new : WalEngine) (salts : ℕ × ℕ) (reply : Reply) (found : Found) (s : DiskState) → event ≡ OpenEvent salts → s ≡ disk_of old → AreFiles s (files_of found)
     → ((past : Past) (files : Files) → AreFiles s files → past.state.page_size ≡ page_size → FitsAlone past s → length past.tokens ≡ begun_of old → Permits past.made (Opens salts files) (answer_of reply)
     → ServesTo past (Opens salts files) (answer_of reply) (λ next. FitsEngine next new) s (disk_of new))
     → Answers page_size tears event old (record { reply = reply; found = Some found; crashed = None }) new
@@ -206,7 +206,7 @@ crash_only size logs (StopAfter calls) crashed s t is = absurd (cc is)
 crash_only size logs (StopAtSync syncs) crashed s t is = absurd (cc is)
 crash_only size logs (Fail call part) crashed s t is = absurd (cc is)
 
-crashed_answers : (page_size : ℕ) (tears : Bool) (event : Event) (choice : Choice) (old : Engine) (disk : ModelDisk) (begun : ℕ) (crashed : Option CrashedLog) (s : DiskState) → is_crash event ≡ true → s ≡ disk_of old → begun ≡ begun_of old
+crashed_answers : (page_size : ℕ) (tears : Bool) (event : Event) (choice : Choice) (old : WalEngine) (disk : ModelDisk) (begun : ℕ) (crashed : Option CrashedLog) (s : DiskState) → is_crash event ≡ true → s ≡ disk_of old → begun ≡ begun_of old
     → IsLeftBy tears choice crashed s (state_of disk) → Happens tears event crashed (model_of old) disk
     → Answers page_size tears event old (record { reply = ReplyDone; found = None; crashed = crashed }) (Closed disk begun)
 crashed_answers page_size tears event choice old disk begun crashed s is same count left happens = record {
@@ -237,14 +237,14 @@ crashed_answers page_size tears event choice old disk begun crashed s is same co
       });
 }
 
-pub crash_answers : (page_size : ℕ) (tears : Bool) (event : Event) (choice : Choice) (old : Engine) (disk : ModelDisk) (begun : ℕ) (crashed : Option CrashedLog) (s : DiskState) → event ≡ Crash choice → s ≡ disk_of old → begun ≡ begun_of old
+pub crash_answers : (page_size : ℕ) (tears : Bool) (event : Event) (choice : Choice) (old : WalEngine) (disk : ModelDisk) (begun : ℕ) (crashed : Option CrashedLog) (s : DiskState) → event ≡ Crash choice → s ≡ disk_of old → begun ≡ begun_of old
     → IsLeftBy tears choice crashed s (state_of disk) → disk.stops ≡ no_stops
     → Answers page_size tears event old (record { reply = ReplyDone; found = None; crashed = crashed }) (Closed disk begun)
 crash_answers page_size tears event choice old disk begun crashed s named same count left cleared =
     crashed_answers page_size tears event choice old disk begun crashed s (ap is_crash named) same count left
     (subst (λ e. Happens tears e crashed (model_of old) disk) (sym named) (subst (λ t. IsLeftBy tears choice crashed t (state_of disk)) same left, cleared))
 
-pub crash_at_answers : (page_size : ℕ) (tears : Bool) (event : Event) (number : ℕ) (old : Engine) (disk : ModelDisk) (begun : ℕ) (crashed : Option CrashedLog) (s : DiskState) → event ≡ CrashAt number → s ≡ disk_of old → begun ≡ begun_of old
+pub crash_at_answers : (page_size : ℕ) (tears : Bool) (event : Event) (number : ℕ) (old : WalEngine) (disk : ModelDisk) (begun : ℕ) (crashed : Option CrashedLog) (s : DiskState) → event ≡ CrashAt number → s ≡ disk_of old → begun ≡ begun_of old
     → IsLeftAt tears number crashed s (state_of disk) → disk.stops ≡ no_stops
     → Answers page_size tears event old (record { reply = ReplyDone; found = None; crashed = crashed }) (Closed disk begun)
 crash_at_answers page_size tears event number old disk begun crashed s named same count left cleared =
@@ -448,7 +448,7 @@ no_crash : (tears : Bool) (event : Event) → is_crash event ≡ false → false
 no_crash true event k = sym k
 no_crash false event k = refl
 
-pub call_answers : {E : Type 0} (r : Result Reply E) (given : Result Given E) (page_size : ℕ) (tears : Bool) (event : Event) (old new : Engine) → is_opening event ≡ false → is_crash event ≡ false → IsAlone r given
+pub call_answers : {E : Type 0} (r : Result Reply E) (given : Result Given E) (page_size : ℕ) (tears : Bool) (event : Event) (old new : WalEngine) → is_opening event ≡ false → is_crash event ≡ false → IsAlone r given
     → IfOk r (λ reply. is_opening event ≡ false → is_crash event ≡ false → EngineServes page_size old new (act_of event None None) (answer_of reply))
     → OnOk r (IsSetTo event (model_of old) (model_of new)) → OnOk r (Rests event old new)
     → IfOk given (λ g. Answers page_size tears event old g new)

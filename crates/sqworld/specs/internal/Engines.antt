@@ -1,12 +1,18 @@
 -- How the engine of a run, or the disk without one, goes from one event to the next (own).
-use Rattle.std.specs.Prelude.{◌≡◌, None, Result, Ok, Err}
+use Rattle.std.specs.Prelude.{◌≡◌, ℕ, None, Result, Ok, Err}
 use Rattle.sqval.specs.Answers.{Answer, Done, NoReader, Refused}
 use Rattle.sqworld.specs.declared.engine.Given.{Given}
 use Rattle.sqworld.specs.declared.event.Event.{Event}
 use Rattle.sqworld.specs.declared.event.Event.TheVariants.{Read, End, StopAfter, StopAtSync, Fail}
 use Rattle.sqworld.specs.declared.reply.Reply.{Reply}
+use Rattle.sqworld.specs.declared.wal_engine.WalEngine.{WalEngine}
+use Rattle.sqworld.specs.declared.wal_engine.WalEngine.TheVariants.{Closed, Open}
+use Rattle.sqworld.specs.internal.Sessions.{begun_by}
 
--- ---- What is set of a modelled disk.
+-- how many readers have begun
+abbrev pub begun_of : WalEngine → ℕ
+begun_of (Closed disk begun) = begun
+begun_of (Open session) = begun_by session
 
 -- what is answered where no engine is there
 abbrev pub closed_answer : Event → Answer

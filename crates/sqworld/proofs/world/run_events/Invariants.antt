@@ -1,0 +1,6 @@
+use Rattle.std.proofs.Common.{take}
+use Rattle.sqworld.specs.Stepping.{HasServed}
+use Rattle.sqworld.proofs.world.run_events.Given as goal
+
+abbrev pub invariant-loop-event : goal.invariant-loop-event
+invariant-loop-event g l = HasServed g.E.Engine.kind l.base (take l.event-index l.events) l.world
