@@ -210,6 +210,31 @@ impl<V: Snapshot> Reader<V> {
     }
 }
 
+impl<V: Snapshot> Maps<V> {
+    /// Puts down what the page of an item is used for, and tells where its entry in a pointer map says otherwise.
+    fn put_down<S: PageSource>(
+        &mut self,
+        source: &mut S,
+        chart: &mut Chart,
+        item: Item,
+        role: Role,
+    ) -> Result<(), CheckError>
+        requires page { IsPage V.pages item.page }
+        requires same { SameSource V.pages V.size V.given (S.pages source.old) (S.size source.old)
+            (S.gives_pages source.old) }
+        ensures ends { IfErr result (λ e. IsEnd e.fault) }
+        ensures long { length chart.new.roles.items ≡ length chart.old.roles.items }
+        ensures same { SameSource V.pages V.size V.given (S.pages source.new) (S.size source.new)
+            (S.gives_pages source.new) }
+    {
+        chart.visit(item.page, role);
+        match self.judge(source, item) {
+            Ok(()) => Ok(()),
+            Err(error) => chart.tell(error),
+        }
+    }
+}
+
 impl<V: Snapshot> Walker<V> {
     /// Follows the places on the stack until one of them leads to a page that is sound. Tells of those that don't.
     /// Whether there was one.
@@ -230,7 +255,7 @@ impl<V: Snapshot> Walker<V> {
             let left = self.walk.stack.len();
             match self.follow(source, tree, item) {
                 Ok(role) => {
-                    chart.visit(item.page, role);
+                    self.maps.put_down(source, chart, item, role)?;
                     return Ok(true);
                 }
                 Err(error) => {
@@ -238,7 +263,7 @@ impl<V: Snapshot> Walker<V> {
                     self.walk.stack.truncate(left);
                     if self.uses.is_taken(item.page) && chart.is_unused(item.page) {
                         let role = self.reader.role_named(source, tree, item)?;
-                        chart.visit(item.page, role);
+                        self.maps.put_down(source, chart, item, role)?;
                     }
                 }
             }
@@ -536,7 +561,8 @@ pub fn survey_pages<S: PageSource>(alloc: Global, source: &mut S) -> Result<Surv
 }
 
 /// Surveys a database as `survey_pages` does, by the walk of `check_with`: where this is asked one of auto-vacuum too,
-/// with its pointer maps (fileformat2, 1.8). Then each of these has the role PointerMap, whatever names it.
+/// with its pointer maps (fileformat2, 1.8). Then each of these has the role PointerMap, whatever names it, and
+/// `faults` has PointerMap at the map of each page that has a role and an entry that isn't what names the page first.
 pub fn survey_pages_with<S: PageSource>(
     alloc: Global,
     source: &mut S,

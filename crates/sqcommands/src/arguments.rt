@@ -95,6 +95,12 @@ pub(crate) fn pointer_maps_arg<'a>(alloc: Global) -> Arg<'a> {
     )
 }
 
+/// The same for `show`, of which it is only understood with `--pages`.
+pub(crate) fn shown_maps_arg<'a>(alloc: Global) -> Made<Arg<'a>> {
+    let maps = only_with(pointer_maps_arg(alloc), "pages");
+    without(without(without(maps, "page"), "log"), "commits")
+}
+
 pub(crate) fn page_arg<'a>(alloc: Global) -> Made<Arg<'a>> {
     let page = option(alloc, "page", "N", "Shows this page instead");
     let page = Ok(page.value_parser(value_parser!(u32).range(1..)));

@@ -2,8 +2,8 @@
 //! half made has much to let go.
 use crate::arguments::{
     Made, all_arg, at_arg, commits_arg, copy_arg, file_arg, force_arg, json_arg, large_arg,
-    log_arg, only_with, page_arg, pages_arg, pointer_maps_arg, report_arg, super_journal_arg,
-    verbose_arg, version_arg,
+    log_arg, only_with, page_arg, pages_arg, pointer_maps_arg, report_arg, shown_maps_arg,
+    super_journal_arg, verbose_arg, version_arg,
 };
 use clap::{Arg, Command};
 use std::alloc::Global;
@@ -41,7 +41,7 @@ fn show_command<'a>(alloc: Global) -> Made<Command<'a>> {
     let command = base_command(alloc, "show", about, Ok(at_arg(alloc)));
     let command = with_arg(command, page_arg(alloc));
     let command = with_arg(command, pages_arg(alloc));
-    let command = with_arg(command, only_with(pointer_maps_arg(alloc), "pages"));
+    let command = with_arg(command, shown_maps_arg(alloc));
     let command = with_arg(command, log_arg(alloc));
     let command = with_arg(command, all_arg(alloc));
     with_arg(command, commits_arg(alloc))

@@ -31,10 +31,17 @@ pub fn request<'a>(alloc: Global, words: &'a [&'a str]) -> Result<Request<'a>, L
         return Ok(Request::Version);
     }
     let mut command = command(alloc).map_err(|_| LineError::NoMemory)?;
+    read(&mut command, words)
+}
+
+/// Reads a line by this command.
+fn read<'a>(command: &mut Command<'a>, words: &'a [&'a str]) -> Result<Request<'a>, LineError>
+    ensures { IfOk result (Asks (map (λ w. w.now) words.entry.now)) }
+{
     let matches = command.try_get_matches_from_mut(words).map_err(refused)?;
     match matched(words, &matches) {
         Some(request) => Ok(request),
-        None => Err(not_understood(&mut command)),
+        None => Err(not_understood(command)),
     }
 }
 
