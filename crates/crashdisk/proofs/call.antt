@@ -7,3 +7,4 @@ pub mod SoundFileUnderChanges
 pub mod EffectsOfCalls
 pub mod UnchangingCalls
 pub mod DisksAfterCalls
+pub mod CallsOfModel
