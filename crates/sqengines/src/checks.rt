@@ -102,3 +102,17 @@ pub(crate) fn crash(disk: &mut ModelDisk, choice: &Choice) {
 pub(crate) fn add<R: Abort>(rt: &R, out: &mut Vec<u8>, bytes: &[u8]) {
     done(rt, out.extend_from_slice(bytes));
 }
+
+/// The database is to have these bytes, each so many times.
+pub(crate) fn has<R: AllocGlobal + Abort>(rt: &R, disk: &ModelDisk, runs: &[(u8, usize)]) {
+    let mut wanted = Vec::new(rt.alloc());
+    for (byte, count) in runs {
+        let length = wanted.len().saturating_add(*count);
+        done(rt, wanted.resize(length, *byte));
+    }
+    same(
+        rt,
+        present(rt, disk, File::Db).as_slice(),
+        wanted.as_slice(),
+    );
+}

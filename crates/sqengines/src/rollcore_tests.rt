@@ -2,7 +2,7 @@
 mod openings;
 
 use crate::checks::{
-    add, disk_of, done, has_length, holds, limits, page_size, present, put, resize, same,
+    add, disk_of, done, has, has_length, holds, limits, page_size, present, put, resize, same,
 };
 use crashdisk::{Disk, File, ModelDisk};
 use rollcore::{Refused, Replayed, Roll, RollError, replay, replay_synced, replay_within};
@@ -65,20 +65,6 @@ const COLD: Replayed = Replayed {
     records: 0,
     size: 0,
 };
-
-/// The database is to have these bytes, each so many times.
-fn has<R: AllocGlobal + Abort>(rt: &R, disk: &ModelDisk, runs: &[(u8, usize)]) {
-    let mut wanted = Vec::new(rt.alloc());
-    for (byte, count) in runs {
-        let length = wanted.len().saturating_add(*count);
-        done(rt, wanted.resize(length, *byte));
-    }
-    same(
-        rt,
-        present(rt, disk, File::Db).as_slice(),
-        wanted.as_slice(),
-    );
-}
 
 /// A replay is to answer this.
 fn replays<R: AllocGlobal + Abort>(

@@ -6,11 +6,6 @@ use sqplay::{
 };
 use std::process::Abort;
 
-/// The beginning of a trace.
-fn begun<R: AllocGlobal + Abort>(rt: &R) -> Vec<u8> {
-    done(rt, b"SQCRTR1\n".to_vec(rt.alloc()))
-}
-
 /// A record's kind, file, answer, place, and bytes or a length.
 type Put<'a> = (u32, u32, u64, u64, &'a [u8]);
 
@@ -26,20 +21,27 @@ fn put<R: Abort>(rt: &R, out: &mut Vec<u8>, record: Put<'_>) {
     add(rt, out, bytes);
 }
 
-/// A file of four bytes, a journal that is made, written, synced and taken away, a sync of the folder, and a mark.
-fn sample<R: AllocGlobal + Abort>(rt: &R) -> Vec<u8> {
-    let mut out = begun(rt);
-    put(rt, &mut out, (1, 0, 0, 0, b"abcd"));
-    put(rt, &mut out, (2, 2, 3, 1, b""));
-    put(rt, &mut out, (4, 2, 3, 0, b"old"));
-    put(rt, &mut out, (6, 2, 0, 0, b""));
-    put(rt, &mut out, (4, 0, 2, 1, b"BC"));
-    put(rt, &mut out, (5, 0, 0, 3, b""));
-    put(rt, &mut out, (7, 2, 0, 0, b""));
-    put(rt, &mut out, (10, 4, 0, 0, b"commit"));
-    put(rt, &mut out, (9, 3, 0, 0, b""));
+/// A trace of these records.
+fn trace_of<R: AllocGlobal + Abort>(rt: &R, records: &[Put<'_>]) -> Vec<u8> {
+    let mut out = done(rt, b"SQCRTR1\n".to_vec(rt.alloc()));
+    for record in records {
+        put(rt, &mut out, *record);
+    }
     out
 }
+
+/// A file of four bytes, a journal that is made, written, synced and taken away, a sync of the folder, and a mark.
+static SAMPLE: [Put<'static>; 9] = [
+    (1, 0, 0, 0, b"abcd"),
+    (2, 2, 3, 1, b""),
+    (4, 2, 3, 0, b"old"),
+    (6, 2, 0, 0, b""),
+    (4, 0, 2, 1, b"BC"),
+    (5, 0, 0, 3, b""),
+    (7, 2, 0, 0, b""),
+    (10, 4, 0, 0, b"commit"),
+    (9, 3, 0, 0, b""),
+];
 
 /// The trace that these bytes are, which is to have so many records.
 fn read<R: AllocGlobal + Abort>(rt: &R, bytes: &[u8], count: usize) -> Trace {
@@ -70,7 +72,7 @@ fn is_write<R: Abort>(rt: &R, record: Record, bytes: &[u8]) {
 
 #[test]
 fn a_trace(rt: HostRuntime) {
-    let mut bytes = sample(&rt);
+    let mut bytes = trace_of(&rt, &SAMPLE);
     let end = bytes.len();
     let trace = read(&rt, &bytes, 9);
     same(&rt, trace.end, end);
@@ -90,7 +92,7 @@ fn refuses<R: AllocGlobal + Abort>(rt: &R, bytes: &[u8], error: TraceError) {
 #[test]
 fn no_traces(rt: HostRuntime) {
     refuses(&rt, b"SQCRTR2\n", TraceError::NotATrace);
-    let mut bytes = sample(&rt);
+    let mut bytes = trace_of(&rt, &SAMPLE);
     let end = bytes.len();
     put(&rt, &mut bytes, (12, 0, 0, 0, b""));
     refuses(&rt, &bytes, TraceError::Damaged(end));
@@ -147,7 +149,7 @@ fn is_not_held<R: Abort>(rt: &R, player: &mut Player, bytes: &[u8], record: Reco
 // Before the folder is synced a crash may leave the journal or none, and afterwards none.
 #[test]
 fn a_player(rt: HostRuntime) {
-    let mut bytes = sample(&rt);
+    let mut bytes = trace_of(&rt, &SAMPLE);
     put(&rt, &mut bytes, (11, 0, 1, 0, b""));
     let trace = read(&rt, &bytes, 10);
     let mut player = Player::new(rt.alloc(), 512, false, Meta::Parts);
@@ -162,18 +164,16 @@ fn a_player(rt: HostRuntime) {
 
 /// A file of four bytes that is cut to one and written behind it, a log that is made, a journal that is made and taken
 /// away, and a sync of the file.
-fn cuts<R: AllocGlobal + Abort>(rt: &R) -> Vec<u8> {
-    let mut out = begun(rt);
-    put(rt, &mut out, (1, 0, 0, 0, b"abcd"));
-    put(rt, &mut out, (5, 0, 0, 1, b""));
-    put(rt, &mut out, (4, 0, 1, 2, b"C"));
-    put(rt, &mut out, (2, 1, 3, 1, b""));
-    put(rt, &mut out, (2, 2, 4, 1, b""));
-    put(rt, &mut out, (7, 2, 0, 0, b""));
-    put(rt, &mut out, (6, 0, 0, 0, b""));
-    put(rt, &mut out, (5, 0, 0, 8, b""));
-    out
-}
+static CUTS: [Put<'static>; 8] = [
+    (1, 0, 0, 0, b"abcd"),
+    (5, 0, 0, 1, b""),
+    (4, 0, 1, 2, b"C"),
+    (2, 1, 3, 1, b""),
+    (2, 2, 4, 1, b""),
+    (7, 2, 0, 0, b""),
+    (6, 0, 0, 0, b""),
+    (5, 0, 0, 8, b""),
+];
 
 /// File i of a name, of which there are so many, is to have these bytes, so many that are down, and so many in all.
 fn file_is<R: AllocGlobal + Abort>(
@@ -209,7 +209,7 @@ fn has_journal<R: Abort>(rt: &R, player: &Player) {
 // The file that was not cut stays until it is synced, and one that grows is changed in parts.
 #[test]
 fn whole_truncations(rt: HostRuntime) {
-    let bytes = cuts(&rt);
+    let bytes = trace_of(&rt, &CUTS);
     let trace = read(&rt, &bytes, 8);
     let mut player = Player::new(rt.alloc(), 512, false, Meta::Whole);
     play(&rt, &mut player, &bytes, &trace, (0, 6));
@@ -231,7 +231,7 @@ const fn epoch(db: Holds, wal: Holds, journal: Holds) -> Epoch {
 // Each change of a name or a length begins an epoch, and a sync of a file ends those before it.
 #[test]
 fn epochs(rt: HostRuntime) {
-    let bytes = cuts(&rt);
+    let bytes = trace_of(&rt, &CUTS);
     let trace = read(&rt, &bytes, 8);
     let mut player = Player::new(rt.alloc(), 512, false, Meta::Ordered);
     play(&rt, &mut player, &bytes, &trace, (0, 6));

@@ -3,7 +3,7 @@ mod commits;
 pub(crate) mod folds;
 mod openings;
 
-use crate::checks::{disk_of, done, has_length, page_size, present, put, same};
+use crate::checks::{disk_of, done, has, has_length, page_size, present, put, same};
 use crate::walcore_tests::folds::log;
 use crashdisk::{Disk, File, ModelDisk};
 use sqwal::{Hit, Order, WalHeader};
@@ -16,8 +16,7 @@ fn folds_a_commit(rt: HostRuntime) {
     put(&rt, &mut disk, File::Log, 0, &log(&rt, &[(1, 1)]));
     let folded = fold(rt.alloc(), &mut disk, page_size(&rt, 512));
     same(&rt, folded, Ok(Folded { frames: 1, size: 1 }));
-    let left = present(&rt, &disk, File::Db);
-    same(&rt, left.as_slice(), [b'b'; 512].as_slice());
+    has(&rt, &disk, &[(b'b', 512)]);
     same(&rt, present(&rt, &disk, File::Log).len(), 0);
     has_length(&rt, &mut disk, File::Log, 0);
 }
@@ -134,8 +133,7 @@ fn a_checkpoint_waits_for_readers(rt: HostRuntime) {
     same(&rt, answers, wanted);
     same(&rt, wal.restart(3), Ok(()));
     same(&rt, newest_byte(&mut wal), Some((b'b', hit(0, 0))));
-    let left = present(&rt, &wal.into_disk(), File::Db);
-    same(&rt, left.as_slice(), [b'b'; 512].as_slice());
+    has(&rt, &wal.into_disk(), &[(b'b', 512)]);
 }
 
 #[test]

@@ -5,6 +5,29 @@ use sqwal::{Order, Sum, WalHeader, frame_head};
 use std::alloc::{AllocError, Global};
 use std::test::Fail;
 
+/// A header of a write-ahead log, as it is written, and the sum of it.
+fn head_of(header: &WalHeader) -> ([u8; 32], Sum) {
+    let mut head = [0u8; 32];
+    header.write(&mut head);
+    let sum = Sum::zero().add(&head[..24], Order::Big);
+    (head, sum)
+}
+
+/// Appends a frame of this page and size, of bytes `b`, and gives the sum behind it.
+fn push_frame(
+    log: &mut Vec<u8>,
+    alloc: Global,
+    header: &WalHeader,
+    before: Sum,
+    (page, size): (u32, u32),
+) -> Result<Sum, AllocError> {
+    let content = vec![in alloc; b'b'; header.page_size.get() as usize]?;
+    let (frame, after) = frame_head(header, before, page, size, &content);
+    log.extend_from_slice(&frame)?;
+    log.extend_from_slice(&content)?;
+    Ok(after)
+}
+
 /// A write-ahead log of pages of bytes `b`: for each frame the page that it names, and the size after its commit.
 pub(crate) fn log(alloc: Global, frames: &[(u32, u32)]) -> Result<Vec<u8>, Fail> {
     let header = WalHeader {
@@ -14,16 +37,10 @@ pub(crate) fn log(alloc: Global, frames: &[(u32, u32)]) -> Result<Vec<u8>, Fail>
         salt1: 1,
         salt2: 2,
     };
-    let mut head = [0u8; 32];
-    header.write(&mut head);
-    let mut sum = Sum::zero().add(&head[..24], Order::Big);
-    let content = [b'b'; 512];
+    let (head, mut sum) = head_of(&header);
     let mut log = head.to_vec(alloc)?;
-    for (page, size) in frames {
-        let (frame, after) = frame_head(&header, sum, *page, *size, &content);
-        log.extend_from_slice(&frame)?;
-        log.extend_from_slice(&content)?;
-        sum = after;
+    for frame in frames {
+        sum = push_frame(&mut log, alloc, &header, sum, *frame)?;
     }
     Ok(log)
 }

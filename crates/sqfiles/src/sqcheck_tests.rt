@@ -3,6 +3,7 @@ pub(crate) mod failing;
 mod lock_byte;
 mod pointer_maps;
 
+use crate::asserts::same;
 use sqcheck::{Report, check};
 use sqpage::{CheckError, Fault, SliceSource};
 use sqval::PageSize;
@@ -53,9 +54,21 @@ const ROW: [u8; 9] = [7, 1, 6, 0, 0, 0, 1, 0, 2];
 /// The header of a leaf with one cell at 503.
 const ONE_CELL: [u8; 10] = [0x0d, 0, 0, 0, 1, 1, 0xf7, 0, 1, 0xf7];
 
+/// A check of a file with these pieces answers this.
+fn answers(
+    rt: &impl Abort,
+    alloc: Global,
+    pages: usize,
+    pieces: &[(usize, &[u8])],
+    wanted: Result<Report, CheckError>,
+) -> Result<(), Fail> {
+    let file = file_of(alloc, pages, pieces)?;
+    same(rt, checked(rt, alloc, &file), wanted);
+    Ok(())
+}
+
 #[test]
 fn one_page(rt: HostRuntime) -> Result<(), Fail> {
-    let file = file_of(rt.alloc(), 1, &[])?;
     let report = Report {
         pages: 1,
         trees: 1,
@@ -63,20 +76,19 @@ fn one_page(rt: HostRuntime) -> Result<(), Fail> {
         overflow: 0,
         free: 0,
     };
-    assert_eq!(rt; checked(&rt, rt.alloc(), &file), Ok(report));
-    Ok(())
+    answers(&rt, rt.alloc(), 1, &[], Ok(report))
 }
+
+static TABLE_WITH_A_CHAIN: [(usize, &[u8]); 5] = [
+    (100, &ONE_CELL),
+    (503, &ROW),
+    (512, &[0x0d, 0, 0, 0, 1, 1, 0x9d, 0, 1, 0x9d]),
+    (925, &[0x84, 0x58, 1]),
+    (1023, &[3]),
+];
 
 #[test]
 fn a_table_with_a_chain(rt: HostRuntime) -> Result<(), Fail> {
-    let pieces = [
-        (100, ONE_CELL.as_slice()),
-        (503, ROW.as_slice()),
-        (512, [0x0d, 0, 0, 0, 1, 1, 0x9d, 0, 1, 0x9d].as_slice()),
-        (925, [0x84, 0x58, 1].as_slice()),
-        (1023, [3].as_slice()),
-    ];
-    let file = file_of(rt.alloc(), 3, &pieces)?;
     let report = Report {
         pages: 3,
         trees: 2,
@@ -84,22 +96,18 @@ fn a_table_with_a_chain(rt: HostRuntime) -> Result<(), Fail> {
         overflow: 1,
         free: 0,
     };
-    assert_eq!(rt; checked(&rt, rt.alloc(), &file), Ok(report));
-    Ok(())
+    answers(&rt, rt.alloc(), 3, &TABLE_WITH_A_CHAIN, Ok(report))
 }
+
+static TWO_LEVELS: [(usize, &[u8]); 4] = [
+    (100, &[0x05, 0, 0, 0, 1, 1, 0xfb, 0, 0, 0, 0, 3, 1, 0xfb]),
+    (507, &[0, 0, 0, 2, 5]),
+    (512, &[0x0d, 0, 0, 0, 0, 2, 0]),
+    (1024, &[0x0d, 0, 0, 0, 0, 2, 0]),
+];
 
 #[test]
 fn two_levels(rt: HostRuntime) -> Result<(), Fail> {
-    let pieces = [
-        (
-            100,
-            [0x05, 0, 0, 0, 1, 1, 0xfb, 0, 0, 0, 0, 3, 1, 0xfb].as_slice(),
-        ),
-        (507, [0, 0, 0, 2, 5].as_slice()),
-        (512, [0x0d, 0, 0, 0, 0, 2, 0].as_slice()),
-        (1024, [0x0d, 0, 0, 0, 0, 2, 0].as_slice()),
-    ];
-    let file = file_of(rt.alloc(), 3, &pieces)?;
     let report = Report {
         pages: 3,
         trees: 1,
@@ -107,29 +115,29 @@ fn two_levels(rt: HostRuntime) -> Result<(), Fail> {
         overflow: 0,
         free: 0,
     };
-    assert_eq!(rt; checked(&rt, rt.alloc(), &file), Ok(report));
-    Ok(())
+    answers(&rt, rt.alloc(), 3, &TWO_LEVELS, Ok(report))
+}
+
+/// Writes a freelist of a hundred trunks with 126 leaves each, from page 2 on.
+fn put_large_freelist(file: &mut Vec<u8>) {
+    put(file, 32, &2_u32.to_be_bytes());
+    put(file, 36, &12700_u32.to_be_bytes());
+    for k in 1..101_u32 {
+        let trunk = 127 * k - 125;
+        let at = (trunk as usize - 1) * 512;
+        let next = if k == 100 { 0 } else { trunk + 127 };
+        put(file, at, &next.to_be_bytes());
+        put(file, at + 4, &126_u32.to_be_bytes());
+        for i in 1..127_u32 {
+            put(file, at + 4 + 4 * i as usize, &(trunk + i).to_be_bytes());
+        }
+    }
 }
 
 #[test]
 fn a_large_freelist(rt: HostRuntime) -> Result<(), Fail> {
     let mut file = file_of(rt.alloc(), 12701, &[])?;
-    put(&mut file, 32, &2_u32.to_be_bytes());
-    put(&mut file, 36, &12700_u32.to_be_bytes());
-    for k in 1..101_u32 {
-        let trunk = 127 * k - 125;
-        let at = (trunk as usize - 1) * 512;
-        let next = if k == 100 { 0 } else { trunk + 127 };
-        put(&mut file, at, &next.to_be_bytes());
-        put(&mut file, at + 4, &126_u32.to_be_bytes());
-        for i in 1..127_u32 {
-            put(
-                &mut file,
-                at + 4 + 4 * i as usize,
-                &(trunk + i).to_be_bytes(),
-            );
-        }
-    }
+    put_large_freelist(&mut file);
     let report = Report {
         pages: 12701,
         trees: 1,
@@ -137,7 +145,7 @@ fn a_large_freelist(rt: HostRuntime) -> Result<(), Fail> {
         overflow: 0,
         free: 12700,
     };
-    assert_eq!(rt; checked(&rt, rt.alloc(), &file), Ok(report));
+    same(&rt, checked(&rt, rt.alloc(), &file), Ok(report));
     Ok(())
 }
 
@@ -147,61 +155,48 @@ fn no_pages(rt: HostRuntime) {
         page: 1,
         fault: Fault::Magic,
     };
-    assert_eq!(rt; checked(&rt, rt.alloc(), &[]), Err(refused));
+    same(&rt, checked(&rt, rt.alloc(), &[]), Err(refused));
 }
 
-/// Checks that a file with these pieces is refused so.
-fn refuses(
-    rt: &impl Abort,
-    alloc: Global,
-    pages: usize,
-    pieces: &[(usize, &[u8])],
-    page: u32,
-    fault: Fault,
-) -> Result<(), AllocError> {
-    let file = file_of(alloc, pages, pieces)?;
-    assert_eq!(rt; checked(rt, alloc, &file), Err(CheckError { page, fault }));
-    Ok(())
-}
+/// Files of so many pages, with this piece, and the page and the fault that are found.
+static ONE_PIECE: [(usize, (usize, &[u8]), u32, Fault); 15] = [
+    (1, (0, &[0]), 1, Fault::Magic),
+    (1, (16, &[4]), 1, Fault::PageSize),
+    (1, (21, &[63]), 1, Fault::Fraction),
+    (1, (20, &[33]), 1, Fault::Reserved),
+    (1, (55, &[1]), 1, Fault::AutoVacuum),
+    (1, (100, &[0x0c]), 1, Fault::Kind),
+    (1, (100, &[0x0a]), 1, Fault::Kind),
+    (1, (105, &[0]), 1, Fault::CellOutside),
+    (
+        1,
+        (100, &[0x0d, 1, 0xf0, 0, 0, 1, 0xf4, 0]),
+        1,
+        Fault::Freeblock,
+    ),
+    (1, (105, &[1, 0xfe]), 1, Fault::Fragments),
+    (
+        1,
+        (100, &[5, 0, 0, 0, 0, 2, 0, 0, 0, 0, 0, 1]),
+        1,
+        Fault::PageTwice,
+    ),
+    (
+        1,
+        (100, &[5, 0, 0, 0, 0, 2, 0, 0, 0, 0, 0, 2]),
+        1,
+        Fault::PageOutside,
+    ),
+    (1, (35, &[9]), 1, Fault::PageOutside),
+    (1, (39, &[1]), 1, Fault::FreeCount),
+    (2, (512, &[0x0d]), 2, Fault::PageUnused),
+];
 
 #[test]
 fn faults_of_one_piece(rt: HostRuntime) -> Result<(), Fail> {
-    for (pages, at, piece, page, fault) in [
-        (1, 0, [0].as_slice(), 1, Fault::Magic),
-        (1, 16, [4].as_slice(), 1, Fault::PageSize),
-        (1, 21, [63].as_slice(), 1, Fault::Fraction),
-        (1, 20, [33].as_slice(), 1, Fault::Reserved),
-        (1, 55, [1].as_slice(), 1, Fault::AutoVacuum),
-        (1, 100, [0x0c].as_slice(), 1, Fault::Kind),
-        (1, 100, [0x0a].as_slice(), 1, Fault::Kind),
-        (1, 105, [0].as_slice(), 1, Fault::CellOutside),
-        (
-            1,
-            100,
-            [0x0d, 1, 0xf0, 0, 0, 1, 0xf4, 0].as_slice(),
-            1,
-            Fault::Freeblock,
-        ),
-        (1, 105, [1, 0xfe].as_slice(), 1, Fault::Fragments),
-        (
-            1,
-            100,
-            [5, 0, 0, 0, 0, 2, 0, 0, 0, 0, 0, 1].as_slice(),
-            1,
-            Fault::PageTwice,
-        ),
-        (
-            1,
-            100,
-            [5, 0, 0, 0, 0, 2, 0, 0, 0, 0, 0, 2].as_slice(),
-            1,
-            Fault::PageOutside,
-        ),
-        (1, 35, [9].as_slice(), 1, Fault::PageOutside),
-        (1, 39, [1].as_slice(), 1, Fault::FreeCount),
-        (2, 512, [0x0d].as_slice(), 2, Fault::PageUnused),
-    ] {
-        refuses(&rt, rt.alloc(), pages, &[(at, piece)], page, fault)?;
+    for (pages, piece, page, fault) in ONE_PIECE {
+        let wanted = Err(CheckError { page, fault });
+        answers(&rt, rt.alloc(), pages, &[piece], wanted)?;
     }
     Ok(())
 }
@@ -210,7 +205,7 @@ fn faults_of_one_piece(rt: HostRuntime) -> Result<(), Fail> {
 const SHORT: [u8; 9] = [7, 7, 5, 0, 9, 0x0f, 1, 0x61, 0xff];
 
 /// Files of so many pages, with the two pieces in each, and the page and the fault that are found.
-const TWO_PIECES: [(usize, [(usize, &[u8]); 2], u32, Fault); 9] = [
+static TWO_PIECES: [(usize, [(usize, &[u8]); 2], u32, Fault); 9] = [
     (
         1,
         [
@@ -270,35 +265,41 @@ const TWO_PIECES: [(usize, [(usize, &[u8]); 2], u32, Fault); 9] = [
 #[test]
 fn faults_of_two_pieces(rt: HostRuntime) -> Result<(), Fail> {
     for (pages, pieces, page, fault) in TWO_PIECES {
-        refuses(&rt, rt.alloc(), pages, &pieces, page, fault)?;
+        let wanted = Err(CheckError { page, fault });
+        answers(&rt, rt.alloc(), pages, &pieces, wanted)?;
     }
     Ok(())
 }
 
+static CHAIN_THAT_GOES_ON: [(usize, &[u8]); 4] = [
+    (100, &[0x0d, 0, 0, 0, 1, 1, 0x9d, 0, 1, 0x9d]),
+    (413, &[0x84, 0x58, 1]),
+    (511, &[2]),
+    (515, &[1]),
+];
+
 #[test]
 fn a_chain_that_goes_on(rt: HostRuntime) -> Result<(), Fail> {
-    let pieces = [
-        (100, [0x0d, 0, 0, 0, 1, 1, 0x9d, 0, 1, 0x9d].as_slice()),
-        (413, [0x84, 0x58, 1].as_slice()),
-        (511, [2].as_slice()),
-        (515, [1].as_slice()),
-    ];
-    refuses(&rt, rt.alloc(), 2, &pieces, 2, Fault::ChainLong)?;
-    Ok(())
+    let refused = CheckError {
+        page: 2,
+        fault: Fault::ChainLong,
+    };
+    answers(&rt, rt.alloc(), 2, &CHAIN_THAT_GOES_ON, Err(refused))
 }
+
+static LEAVES_ON_TWO_LEVELS: [(usize, &[u8]); 5] = [
+    (100, &[0x05, 0, 0, 0, 1, 1, 0xfb, 0, 0, 0, 0, 3, 1, 0xfb]),
+    (507, &[0, 0, 0, 2, 5]),
+    (512, &[0x0d, 0, 0, 0, 0, 2, 0]),
+    (1024, &[0x05, 0, 0, 0, 0, 2, 0, 0, 0, 0, 0, 4]),
+    (1536, &[0x0d, 0, 0, 0, 0, 2, 0]),
+];
 
 #[test]
 fn leaves_on_two_levels(rt: HostRuntime) -> Result<(), Fail> {
-    let pieces = [
-        (
-            100,
-            [0x05, 0, 0, 0, 1, 1, 0xfb, 0, 0, 0, 0, 3, 1, 0xfb].as_slice(),
-        ),
-        (507, [0, 0, 0, 2, 5].as_slice()),
-        (512, [0x0d, 0, 0, 0, 0, 2, 0].as_slice()),
-        (1024, [0x05, 0, 0, 0, 0, 2, 0, 0, 0, 0, 0, 4].as_slice()),
-        (1536, [0x0d, 0, 0, 0, 0, 2, 0].as_slice()),
-    ];
-    refuses(&rt, rt.alloc(), 4, &pieces, 4, Fault::Depth)?;
-    Ok(())
+    let refused = CheckError {
+        page: 4,
+        fault: Fault::Depth,
+    };
+    answers(&rt, rt.alloc(), 4, &LEAVES_ON_TWO_LEVELS, Err(refused))
 }

@@ -1,15 +1,52 @@
 //! The view of a file at each commit of its log, and its pages.
+use crate::asserts::same;
 use crate::logs::{header, log, push_record};
 use crate::sqcheck_tests::file_of;
-use sqcheck::{Report, Role};
+use sqcheck::{Report, Role, Survey};
 use sqpage::{CheckError, Fault, Kind, PageSource};
 use sqval::Limits;
 use sqview::{
-    JudgeError, Origin, ReadAhead, Verdict, View, ViewError, copy, judge_at, judge_at_within,
-    judge_view, judge_within, scan_log, scan_log_within, survey_view, without_view,
+    CopyError, FileBytes, JudgeError, Origin, ReadAhead, Verdict, View, ViewError, copy, judge_at,
+    judge_at_within, judge_view, judge_within, scan_log, scan_log_within, survey_view,
+    without_view,
 };
-use sqwal::WalFormatError;
+use sqwal::{Scan, WalFormatError};
+use std::alloc::{AllocError, Global};
 use std::test::Fail;
+
+/// Pages of 512 times each of these letters, behind these bytes.
+fn spelled(alloc: Global, head: &[u8], letters: &[u8]) -> Result<Vec<u8>, AllocError> {
+    let mut pages = head.to_vec(alloc)?;
+    for letter in letters {
+        pages.extend_from_slice(&[*letter; 512])?;
+    }
+    Ok(pages)
+}
+
+/// What a copy of the view appends to these bytes.
+fn copied<F: FileBytes>(
+    alloc: Global,
+    view: &mut View<F>,
+    head: &[u8],
+) -> Result<Vec<u8>, CopyError> {
+    let Ok(mut out) = head.to_vec(alloc) else {
+        return Err(CopyError::NoMemory);
+    };
+    copy(alloc, view, &mut out)?;
+    Ok(out)
+}
+
+/// The front of the newest view, and how many pages it has.
+fn newest(alloc: Global, db: &[u8], wal: &[u8]) -> Result<(u32, u32), ViewError> {
+    let view = View::new(alloc, db, wal, [].as_slice())?;
+    Ok((view.front(), view.count()))
+}
+
+/// How many pages the view at a commit has.
+fn count_at(alloc: Global, db: &[u8], wal: &[u8], frame: u32) -> Result<u32, ViewError> {
+    let view = View::at(alloc, db, wal, [].as_slice(), frame)?;
+    Ok(view.count())
+}
 
 // A log of pages of `b`, of which frame 2 ends a commit of two pages and frame 3 one of three, over a file of one page.
 #[test]
@@ -18,23 +55,33 @@ fn views_at_commits(rt: HostRuntime) -> Result<(), Fail> {
     let file = [b'a'; 512];
     let log = log(alloc, &[(1, 0), (2, 2), (3, 3)])?;
     let (db, wal) = (file.as_slice(), log.as_slice());
-    let newest = View::new(alloc, db, wal, [].as_slice())?;
-    assert_eq!(rt; (newest.front(), newest.count()), (3, 3));
-    let mut view = View::at(alloc, db, wal, [].as_slice(), 2)?;
-    assert_eq!(rt; (view.front(), view.count()), (2, 2));
-    assert_eq!(rt; (*view.file(), *view.log()), (db, wal));
-    assert_eq!(rt; view.places(), [56u64, 592].as_slice());
-    let mut out = Vec::new(alloc);
-    copy(alloc, &mut view, &mut out)?;
-    assert_eq!(rt; out.as_slice(), [b'b'; 1024].as_slice());
+    same(&rt, newest(alloc, db, wal), Ok((3, 3)));
     for frame in [1, 4] {
-        let answer = View::at(alloc, db, wal, [].as_slice(), frame);
-        assert_eq!(rt;
-            answer.map(|view| view.count()),
-            Err(ViewError::NoSuchCommit)
-        );
+        let refused = Err(ViewError::NoSuchCommit);
+        same(&rt, count_at(alloc, db, wal, frame), refused);
     }
+    let mut view = View::at(alloc, db, wal, [].as_slice(), 2)?;
+    same(&rt, (view.front(), view.count()), (2, 2));
+    same(&rt, *view.file(), db);
+    same(&rt, *view.log(), wal);
+    same(&rt, view.places(), [56u64, 592].as_slice());
+    let out = copied(alloc, &mut view, b"")?;
+    same(&rt, out.as_slice(), [b'b'; 1024].as_slice());
     Ok(())
+}
+
+/// What a check of one sound page answers.
+const ONE_PAGE: Report = Report {
+    pages: 1,
+    trees: 1,
+    btree: 1,
+    overflow: 0,
+    free: 0,
+};
+
+/// The verdict on the files at a commit.
+fn judged_at(alloc: Global, db: &[u8], wal: &[u8], frame: u32) -> Result<Verdict, JudgeError> {
+    judge_at(alloc, db, wal, [].as_slice(), frame)
 }
 
 // A file of one sound page, and a log of which frame 2 ends a commit of a page 1 of `b`.
@@ -43,26 +90,18 @@ fn judges_at_commits(rt: HostRuntime) -> Result<(), Fail> {
     let alloc = rt.alloc();
     let file = file_of(alloc, 1, &[])?;
     let log = log(alloc, &[(1, 0), (1, 1)])?;
-    let report = Report {
-        pages: 1,
-        trees: 1,
-        btree: 1,
-        overflow: 0,
-        free: 0,
-    };
     let damage = CheckError {
         page: 1,
         fault: Fault::Magic,
     };
     let rows = [
-        (0, Ok(Verdict::Clean(report))),
+        (0, Ok(Verdict::Clean(ONE_PAGE))),
         (1, Err(JudgeError::NoSuchCommit)),
         (2, Ok(Verdict::Damaged(damage))),
         (3, Err(JudgeError::NoSuchCommit)),
     ];
     for (frame, wanted) in rows {
-        let answer = judge_at(alloc, file.as_slice(), log.as_slice(), [].as_slice(), frame);
-        assert_eq!(rt; answer, wanted);
+        same(&rt, judged_at(alloc, &file, &log, frame), wanted);
     }
     Ok(())
 }
@@ -73,28 +112,23 @@ fn judges_a_view(rt: HostRuntime) -> Result<(), Fail> {
     let alloc = rt.alloc();
     let file = file_of(alloc, 1, &[])?;
     let mut view = View::new(alloc, file.as_slice(), [].as_slice(), [].as_slice())?;
-    let report = Report {
-        pages: 1,
-        trees: 1,
-        btree: 1,
-        overflow: 0,
-        free: 0,
-    };
-    assert_eq!(rt; judge_view(alloc, &mut view), Ok(Verdict::Clean(report)));
+    let clean = Ok(Verdict::Clean(ONE_PAGE));
+    same(&rt, judge_view(alloc, &mut view), clean);
     let damage = CheckError {
         page: 1,
         fault: Fault::PageSize,
     };
-    let rows = [
-        (
-            ViewError::Header(Fault::PageSize),
-            Ok(Verdict::Damaged(damage)),
-        ),
-        (ViewError::TwoLogs, Err(JudgeError::TwoLogs)),
-    ];
-    for (error, wanted) in rows {
-        assert_eq!(rt; without_view(error), wanted);
-    }
+    let damaged = Ok(Verdict::Damaged(damage));
+    same(
+        &rt,
+        without_view(ViewError::Header(Fault::PageSize)),
+        damaged,
+    );
+    same(
+        &rt,
+        without_view(ViewError::TwoLogs),
+        Err(JudgeError::TwoLogs),
+    );
     Ok(())
 }
 
@@ -105,14 +139,49 @@ fn copies_a_view(rt: HostRuntime) -> Result<(), Fail> {
     let file = [b'a'; 1536];
     let log = log(alloc, &[(2, 3)])?;
     let mut view = View::new(alloc, file.as_slice(), log.as_slice(), [].as_slice())?;
-    let mut out = b"::".to_vec(alloc)?;
-    copy(alloc, &mut view, &mut out)?;
-    let mut wanted = b"::".to_vec(alloc)?;
-    for byte in [b'a', b'b', b'a'] {
-        wanted.extend_from_slice(&[byte; 512])?;
-    }
-    assert_eq!(rt; out.as_slice(), wanted.as_slice());
+    let out = copied(alloc, &mut view, b"::")?;
+    same(&rt, out, spelled(alloc, b"::", b"aba")?);
     Ok(())
+}
+
+/// How many pages the newest view has within these limits, and that at frame 3.
+fn counts_within(
+    alloc: Global,
+    limits: Limits,
+    db: &[u8],
+    wal: &[u8],
+) -> [Result<u32, ViewError>; 2] {
+    let none = [].as_slice();
+    let newest = View::new_within(alloc, limits, db, wal, none);
+    let third = View::at_within(alloc, limits, db, wal, none, 3);
+    [
+        newest.map(|view| view.count()),
+        third.map(|view| view.count()),
+    ]
+}
+
+/// The verdict on the files within these limits, and that at frame 3.
+fn judged_within(
+    alloc: Global,
+    limits: Limits,
+    db: &[u8],
+    wal: &[u8],
+) -> [Result<Verdict, JudgeError>; 2] {
+    let none = [].as_slice();
+    [
+        judge_within(alloc, limits, db, wal, none),
+        judge_at_within(alloc, limits, db, wal, none, 3),
+    ]
+}
+
+/// Where a scan within these limits stops.
+fn stop_within(
+    alloc: Global,
+    limits: Limits,
+    mut wal: &[u8],
+) -> Result<Result<u32, WalFormatError>, Fail> {
+    let scan = scan_log_within(alloc, limits, &mut wal)?;
+    Ok(scan.map(|scan| scan.stop().frame))
 }
 
 // A log of three frames over a file of one page, which has three pages then: too long where two frames may be read,
@@ -122,33 +191,26 @@ fn limits_that_are_named(rt: HostRuntime) -> Result<(), Fail> {
     let alloc = rt.alloc();
     let file = [b'a'; 512];
     let log = log(alloc, &[(1, 0), (2, 2), (3, 3)])?;
-    let (db, mut wal, none) = (file.as_slice(), log.as_slice(), [].as_slice());
     for (bytes, frames, wanted) in [
         (1536, 3, Ok(3)),
         (1535, 3, Err(ViewError::TooLarge)),
         (1536, 2, Err(ViewError::TooLarge)),
     ] {
         let limits = Limits::new(bytes, frames).ok_or("limits")?;
-        let view = View::new_within(alloc, limits, db, wal, none);
-        assert_eq!(rt; view.map(|view| view.count()), wanted);
-        let view = View::at_within(alloc, limits, db, wal, none, 3);
-        assert_eq!(rt; view.map(|view| view.count()), wanted);
+        same(&rt, counts_within(alloc, limits, &file, &log), [wanted; 2]);
     }
     let few = Limits::new(1536, 2).ok_or("limits")?;
-    assert_eq!(rt;
-        judge_within(alloc, few, db, wal, none),
-        Err(JudgeError::TooLarge)
-    );
-    assert_eq!(rt;
-        judge_at_within(alloc, few, db, wal, none, 3),
-        Err(JudgeError::TooLarge)
-    );
-    let scan = scan_log_within(alloc, few, &mut wal)?;
-    assert_eq!(rt;
-        scan.map(|scan| scan.stop().frame),
-        Err(WalFormatError::TooLong)
-    );
+    let too_large = Err(JudgeError::TooLarge);
+    same(&rt, judged_within(alloc, few, &file, &log), [too_large; 2]);
+    let too_long = Err(WalFormatError::TooLong);
+    same(&rt, stop_within(alloc, few, &log)?, too_long);
     Ok(())
+}
+
+/// Where the three pages of the newest view come from.
+fn origins(alloc: Global, db: &[u8], wal: &[u8], journal: &[u8]) -> Result<[Origin; 3], ViewError> {
+    let view = View::new(alloc, db, wal, journal)?;
+    Ok([view.origin(1), view.origin(2), view.origin(3)])
 }
 
 // Two frames name page 2, and a record of a journal page 3.
@@ -157,34 +219,67 @@ fn pages_come_from(rt: HostRuntime) -> Result<(), Fail> {
     let alloc = rt.alloc();
     let file = [b'a'; 1536];
     let log = log(alloc, &[(2, 0), (2, 3)])?;
-    let view = View::new(alloc, file.as_slice(), log.as_slice(), [].as_slice())?;
-    let found = [view.origin(1), view.origin(2), view.origin(3)];
-    assert_eq!(rt; found, [Origin::File, Origin::Frame(2), Origin::File]);
+    let wanted = [Origin::File, Origin::Frame(2), Origin::File];
+    same(&rt, origins(alloc, &file, &log, &[]), Ok(wanted));
     let mut journal = header(alloc, 1, 3)?;
     push_record(&mut journal, 3, b'j')?;
-    let view = View::new(alloc, file.as_slice(), [].as_slice(), journal.as_slice())?;
-    let found = [view.origin(1), view.origin(2), view.origin(3)];
-    assert_eq!(rt; found, [Origin::File, Origin::File, Origin::Record(516)]);
+    let wanted = [Origin::File, Origin::File, Origin::Record(516)];
+    same(&rt, origins(alloc, &file, &[], &journal), Ok(wanted));
     Ok(())
+}
+
+/// What a survey of the file finds, as a view of it.
+fn surveyed(alloc: Global, db: &[u8]) -> Result<Survey, Fail> {
+    let mut view = View::new(alloc, db, [].as_slice(), [].as_slice())?;
+    Ok(survey_view(alloc, &mut view)?)
 }
 
 #[test]
 fn maps_a_view(rt: HostRuntime) -> Result<(), Fail> {
     let alloc = rt.alloc();
     let file = file_of(alloc, 2, &[])?;
-    let mut view = View::new(alloc, file.as_slice(), [].as_slice(), [].as_slice())?;
-    let survey = survey_view(alloc, &mut view)?;
+    let survey = surveyed(alloc, &file)?;
     let leaf = Role::Btree {
         kind: Kind::TableLeaf,
         root: 1,
     };
-    assert_eq!(rt; survey.roles.as_slice(), [leaf, Role::Unused].as_slice());
+    same(
+        &rt,
+        survey.roles.as_slice(),
+        [leaf, Role::Unused].as_slice(),
+    );
     let unused = CheckError {
         page: 2,
         fault: Fault::PageUnused,
     };
-    assert_eq!(rt; survey.answer, Err(unused));
+    same(&rt, survey.answer, Err(unused));
     Ok(())
+}
+
+/// A copy of the view at a commit of a scan, of files that are read ahead.
+fn copied_at(
+    alloc: Global,
+    db: &[u8],
+    wal: &[u8],
+    scan: &Scan,
+    frame: u32,
+) -> Result<Vec<u8>, Fail> {
+    let db = ReadAhead::new(alloc, db, 2048)?;
+    let wal = ReadAhead::new(alloc, wal, 2048)?;
+    let mut view = View::of_scan(alloc, db, wal, scan, frame)?;
+    Ok(copied(alloc, &mut view, b"")?)
+}
+
+/// How many pages the view at a commit of a scan has.
+fn count_of_scan(
+    alloc: Global,
+    db: &[u8],
+    wal: &[u8],
+    scan: &Scan,
+    frame: u32,
+) -> Result<u32, ViewError> {
+    let view = View::of_scan(alloc, db, wal, scan, frame)?;
+    Ok(view.count())
 }
 
 // Of a log of which frames 3 and 5 end commits, by one scan.
@@ -196,18 +291,10 @@ fn copies_views_of_a_scan(rt: HostRuntime) -> Result<(), Fail> {
     let (db, mut wal) = (file.as_slice(), log.as_slice());
     let scan = scan_log(alloc, &mut wal)??;
     for (frame, letters) in [(3, b"abbbaaaa"), (5, b"bbbbaaba")] {
-        let db = ReadAhead::new(alloc, db, 2048)?;
-        let wal = ReadAhead::new(alloc, wal, 2048)?;
-        let mut view = View::of_scan(alloc, db, wal, &scan, frame)?;
-        let mut out = Vec::new(alloc);
-        copy(alloc, &mut view, &mut out)?;
-        let mut wanted = Vec::new(alloc);
-        for letter in letters {
-            wanted.extend_from_slice(&[*letter; 512])?;
-        }
-        assert_eq!(rt; out.as_slice(), wanted.as_slice());
+        let out = copied_at(alloc, db, wal, &scan, frame)?;
+        same(&rt, out, spelled(alloc, b"", letters)?);
     }
-    let none = View::of_scan(alloc, db, wal, &scan, 2);
-    assert_eq!(rt; none.map(|view| view.count()), Err(ViewError::NoSuchCommit));
+    let refused = Err(ViewError::NoSuchCommit);
+    same(&rt, count_of_scan(alloc, db, wal, &scan, 2), refused);
     Ok(())
 }

@@ -1,4 +1,5 @@
 //! Maps of worked files.
+use crate::asserts::same;
 use crate::sqcheck_tests::file_of;
 use sqcheck::{Report, Role, Survey, survey_pages};
 use sqpage::{CheckError, Fault, Kind, SliceSource};
@@ -21,27 +22,45 @@ fn btree(kind: Kind, root: u32) -> Role {
     Role::Btree { kind, root }
 }
 
-// A table on page 2 with a chain of three pages, an index on page 3, and a freelist of two pages.
+/// A fault at a page.
+fn at(page: u32, fault: Fault) -> CheckError {
+    CheckError { page, fault }
+}
+
+/// A survey of a file with these pieces finds these roles and faults, and gives this answer.
+fn finds(
+    rt: &impl Abort,
+    alloc: Global,
+    pieces: &[(usize, &[u8])],
+    roles: &[Role],
+    faults: &[CheckError],
+    answer: Result<Report, CheckError>,
+) -> Result<(), Fail> {
+    let file = file_of(alloc, roles.len(), pieces)?;
+    let survey = surveyed(rt, alloc, &file)?;
+    same(rt, survey.roles.as_slice(), roles);
+    same(rt, survey.faults.as_slice(), faults);
+    same(rt, survey.answer, answer);
+    Ok(())
+}
+
+/// A table on page 2 with a chain of three pages, an index on page 3, and a freelist of two pages.
+static SOUND: [(usize, &[u8]); 11] = [
+    (32, &[0, 0, 0, 7, 0, 0, 0, 2]),
+    (100, &[0x0d, 0, 0, 0, 2, 1, 0xee, 0, 1, 0xf7, 1, 0xee]),
+    (503, &[7, 1, 6, 0, 0, 0, 1, 0, 2]),
+    (494, &[7, 2, 6, 0, 0, 0, 1, 0, 3]),
+    (512, &[0x0d, 0, 0, 0, 1, 1, 0xd2, 0, 1, 0xd2]),
+    (978, &[0x8c, 0x1b, 1]),
+    (1023, &[4]),
+    (1024, &[0x0a, 0, 0, 0, 0, 2, 0]),
+    (1539, &[6]),
+    (2563, &[5]),
+    (3079, &[1, 0, 0, 0, 8]),
+];
+
 #[test]
 fn a_map(rt: HostRuntime) -> Result<(), Fail> {
-    let pieces = [
-        (32, [0, 0, 0, 7, 0, 0, 0, 2].as_slice()),
-        (
-            100,
-            [0x0d, 0, 0, 0, 2, 1, 0xee, 0, 1, 0xf7, 1, 0xee].as_slice(),
-        ),
-        (503, [7, 1, 6, 0, 0, 0, 1, 0, 2].as_slice()),
-        (494, [7, 2, 6, 0, 0, 0, 1, 0, 3].as_slice()),
-        (512, [0x0d, 0, 0, 0, 1, 1, 0xd2, 0, 1, 0xd2].as_slice()),
-        (978, [0x8c, 0x1b, 1].as_slice()),
-        (1023, [4].as_slice()),
-        (1024, [0x0a, 0, 0, 0, 0, 2, 0].as_slice()),
-        (1539, [6].as_slice()),
-        (2563, [5].as_slice()),
-        (3079, [1, 0, 0, 0, 8].as_slice()),
-    ];
-    let file = file_of(rt.alloc(), 8, &pieces)?;
-    let survey = surveyed(&rt, rt.alloc(), &file)?;
     let chain = Role::Overflow { owner: 2 };
     let roles = [
         btree(Kind::TableLeaf, 1),
@@ -60,59 +79,47 @@ fn a_map(rt: HostRuntime) -> Result<(), Fail> {
         overflow: 3,
         free: 2,
     };
-    assert_eq!(rt; survey.roles.as_slice(), roles.as_slice());
-    assert_eq!(rt; survey.faults.as_slice(), [].as_slice());
-    assert_eq!(rt; survey.answer, Ok(report));
-    Ok(())
+    finds(&rt, rt.alloc(), &SOUND, &roles, &[], Ok(report))
 }
 
-/// A fault at a page.
-fn at(page: u32, fault: Fault) -> CheckError {
-    CheckError { page, fault }
-}
+/// Page 2 is the only child of page 1 twice, and page 3 is unused.
+static NAMED_TWICE: [(usize, &[u8]); 3] = [
+    (100, &[0x05, 0, 0, 0, 1, 1, 0xfb, 0, 0, 0, 0, 2, 1, 0xfb]),
+    (507, &[0, 0, 0, 2, 5]),
+    (512, &[0x0d, 0, 0, 0, 0, 2, 0]),
+];
 
-// Page 2 is the only child of page 1 twice, and page 3 is unused.
 #[test]
 fn a_map_of_a_child_that_is_named_twice(rt: HostRuntime) -> Result<(), Fail> {
-    let pieces = [
-        (
-            100,
-            [0x05, 0, 0, 0, 1, 1, 0xfb, 0, 0, 0, 0, 2, 1, 0xfb].as_slice(),
-        ),
-        (507, [0, 0, 0, 2, 5].as_slice()),
-        (512, [0x0d, 0, 0, 0, 0, 2, 0].as_slice()),
-    ];
-    let file = file_of(rt.alloc(), 3, &pieces)?;
-    let survey = surveyed(&rt, rt.alloc(), &file)?;
     let roles = [
         btree(Kind::TableInterior, 1),
         btree(Kind::TableLeaf, 1),
         Role::Unused,
     ];
     let faults = [at(2, Fault::PageTwice), at(3, Fault::PageUnused)];
-    assert_eq!(rt; survey.roles.as_slice(), roles.as_slice());
-    assert_eq!(rt; survey.faults.as_slice(), faults.as_slice());
-    assert_eq!(rt; survey.answer, Err(faults[0]));
-    Ok(())
+    finds(
+        &rt,
+        rt.alloc(),
+        &NAMED_TWICE,
+        &roles,
+        &faults,
+        Err(faults[0]),
+    )
 }
 
-// The header says that a page is free, page 2 is no page of a tree, and the chain of the row on page 3 is cut after a
-// page. The row is one of the schema, but can't be read.
+/// The header says that a page is free, page 2 is no page of a tree, and the chain of the row on page 3 is cut after a
+/// page. The row is one of the schema, but can't be read.
+static FAULTY: [(usize, &[u8]); 6] = [
+    (39, &[1]),
+    (100, &[0x05, 0, 0, 0, 1, 1, 0xfb, 0, 0, 0, 0, 3, 1, 0xfb]),
+    (507, &[0, 0, 0, 2, 5]),
+    (1024, &[0x0d, 0, 0, 0, 1, 1, 0xd2, 0, 1, 0xd2]),
+    (1490, &[0x8c, 0x1b, 6]),
+    (1535, &[4]),
+];
+
 #[test]
 fn a_map_behind_faults(rt: HostRuntime) -> Result<(), Fail> {
-    let pieces = [
-        (39, [1].as_slice()),
-        (
-            100,
-            [0x05, 0, 0, 0, 1, 1, 0xfb, 0, 0, 0, 0, 3, 1, 0xfb].as_slice(),
-        ),
-        (507, [0, 0, 0, 2, 5].as_slice()),
-        (1024, [0x0d, 0, 0, 0, 1, 1, 0xd2, 0, 1, 0xd2].as_slice()),
-        (1490, [0x8c, 0x1b, 6].as_slice()),
-        (1535, [4].as_slice()),
-    ];
-    let file = file_of(rt.alloc(), 4, &pieces)?;
-    let survey = surveyed(&rt, rt.alloc(), &file)?;
     let roles = [
         btree(Kind::TableInterior, 1),
         btree(Kind::TableLeaf, 1),
@@ -124,10 +131,7 @@ fn a_map_behind_faults(rt: HostRuntime) -> Result<(), Fail> {
         at(2, Fault::Kind),
         at(4, Fault::ChainCut),
     ];
-    assert_eq!(rt; survey.roles.as_slice(), roles.as_slice());
-    assert_eq!(rt; survey.faults.as_slice(), faults.as_slice());
-    assert_eq!(rt; survey.answer, Err(faults[0]));
-    Ok(())
+    finds(&rt, rt.alloc(), &FAULTY, &roles, &faults, Err(faults[0]))
 }
 
 // Nothing is surveyed in a file that is none of a database.
@@ -138,6 +142,6 @@ fn no_map(rt: HostRuntime) -> Result<(), Fail> {
         Ok(survey) => survey.answer,
         Err(error) => Err(error),
     };
-    assert_eq!(rt; answer, Err(at(1, Fault::Magic)));
+    same(&rt, answer, Err(at(1, Fault::Magic)));
     Ok(())
 }

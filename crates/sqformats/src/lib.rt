@@ -3,6 +3,8 @@
 #![tactic(auto)]
 
 #[cfg(test)]
+mod checks;
+#[cfg(test)]
 mod sqjournal_tests;
 #[cfg(test)]
 mod sqpage_tests;

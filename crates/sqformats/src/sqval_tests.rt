@@ -1,10 +1,10 @@
 //! Worked rows.
+use crate::checks::{done, holds, same};
 use sqval::{CommitFault, PageSize, Record, Value, encode, judge_pages, varint};
-use std::alloc::Global;
 use std::process::Abort;
-use std::test::Fail;
 
-fn expect_spelling(rt: &impl Abort, number: u64, spelling: &[u8]) {
+/// A number is to be spelled so, and read again.
+fn expect_spelling<R: Abort>(rt: &R, number: u64, spelling: &[u8]) {
     let mut bytes = [0xee; 9];
     let size = varint::write(number, &mut bytes);
     assert!(rt; &bytes[..size] == spelling);
@@ -23,9 +23,9 @@ fn varints(rt: HostRuntime) {
         &[0x80, 0xc0, 0x80, 0x80, 0x80, 0x80, 0x80, 0x80, 0],
     );
     expect_spelling(&rt, u64::MAX, &[0xff; 9]);
-    assert!(rt; varint::read(&[0x80, 0]) == Some((0, 2)));
-    assert!(rt; varint::read(&[0x80]).is_none());
-    assert!(rt; varint::read(&[]).is_none());
+    same(&rt, varint::read(&[0x80, 0]), Some((0, 2)));
+    same(&rt, varint::read(&[0x80]), None);
+    same(&rt, varint::read(&[]), None);
 }
 
 /// The number of the refusal, or 0.
@@ -36,93 +36,122 @@ fn refusal(bytes: &[u8]) -> u8 {
     }
 }
 
+/// Bytes, and the number of the refusal.
+const REFUSALS: [(&[u8], u8); 9] = [
+    (&[5, 0, 9, 15, 1, 0x61, 0xff], 0),
+    (&[], 1),
+    (&[0], 1),
+    (&[3, 0], 1),
+    (&[2, 0x81, 0], 2),
+    (&[2, 10], 3),
+    (&[5, 0, 9, 15, 1, 0x61], 4),
+    (&[5, 0, 9, 15, 1, 0x61, 0xff, 0], 5),
+    (&[0x80, 2, 0], 5),
+];
+
 #[test]
 fn refusals(rt: HostRuntime) {
-    assert!(rt; refusal(&[5, 0, 9, 15, 1, 0x61, 0xff]) == 0);
-    assert!(rt; refusal(&[]) == 1);
-    assert!(rt; refusal(&[0]) == 1);
-    assert!(rt; refusal(&[3, 0]) == 1);
-    assert!(rt; refusal(&[2, 0x81, 0]) == 2);
-    assert!(rt; refusal(&[2, 10]) == 3);
-    assert!(rt; refusal(&[5, 0, 9, 15, 1, 0x61]) == 4);
-    assert!(rt; refusal(&[5, 0, 9, 15, 1, 0x61, 0xff, 0]) == 5);
-    assert!(rt; refusal(&[0x80, 2, 0]) == 5);
+    for (bytes, number) in REFUSALS {
+        same(&rt, refusal(bytes), number);
+    }
     let mut hostile = [0xff; 28];
     hostile[0] = 10;
-    assert!(rt; refusal(&hostile[..10]) == 4);
+    same(&rt, refusal(&hostile[..10]), 4);
     hostile[0] = 28;
-    assert!(rt; refusal(&hostile) == 4);
+    same(&rt, refusal(&hostile), 4);
 }
+
+/// A record is to have these columns, and none behind them.
+fn has_columns<R: Abort>(rt: &R, record: &Record<'_>, values: &[Value<'_>]) {
+    for (i, value) in values.iter().enumerate() {
+        assert!(rt; record.column(i) == Some(*value));
+    }
+    assert!(rt; record.column(values.len()).is_none());
+}
+
+/// How many columns a record has, whether it has none, and how many it goes through.
+fn counts_of(record: &Record<'_>) -> (usize, bool, usize) {
+    (record.len(), record.is_empty(), record.columns().count())
+}
+
+/// The values of a record.
+const ROW: [Value<'_>; 4] = [
+    Value::Null,
+    Value::Int(1),
+    Value::Text(b"a"),
+    Value::Int(-1),
+];
+
+/// The bytes of that record.
+const ROW_BYTES: [u8; 7] = [5, 0, 9, 15, 1, 0x61, 0xff];
 
 #[test]
-fn columns(rt: HostRuntime) -> Result<(), Fail> {
-    let record = Record::new(&[5, 0, 9, 15, 1, 0x61, 0xff])?;
-    assert!(rt; record.len() == 4 && !record.is_empty());
-    assert!(rt; record.column(0) == Some(Value::Null));
-    assert!(rt; record.column(1) == Some(Value::Int(1)));
-    assert!(rt; record.column(2) == Some(Value::Text(b"a")));
-    assert!(rt; record.column(3) == Some(Value::Int(-1)));
-    assert!(rt; record.column(4).is_none());
-    assert!(rt; record.columns().count() == 4);
-    Ok(())
+fn columns(rt: HostRuntime) {
+    match Record::new(&ROW_BYTES) {
+        Ok(record) => {
+            same(&rt, counts_of(&record), (4, false, 4));
+            has_columns(&rt, &record, &ROW);
+        }
+        Err(_) => holds(&rt, false),
+    }
 }
 
-fn expect_record(
-    rt: &impl Abort,
-    alloc: Global,
-    values: &[Value<'_>],
-    bytes: &[u8],
-) -> Result<(), Fail> {
-    let mut out = [7].to_vec(alloc)?;
-    encode(values, &mut out)?;
+/// These values are to make a record of these bytes, behind what is there.
+fn expect_record<R: AllocGlobal + Abort>(rt: &R, values: &[Value<'_>], bytes: &[u8]) {
+    let mut out = done(rt, [7].to_vec(rt.alloc()));
+    done(rt, encode(values, &mut out));
     assert!(rt; out.as_slice().split_first() == Some((&7, bytes)));
-    Ok(())
 }
 
 #[test]
-fn records(rt: HostRuntime) -> Result<(), Fail> {
-    let row = [
-        Value::Null,
-        Value::Int(1),
-        Value::Text(b"a"),
-        Value::Int(-1),
-    ];
-    expect_record(&rt, rt.alloc(), &row, &[5, 0, 9, 15, 1, 0x61, 0xff])?;
-    expect_record(&rt, rt.alloc(), &[Value::Int(0), Value::Int(1)], &[3, 8, 9])?;
+fn records(rt: HostRuntime) {
+    expect_record(&rt, &ROW, &ROW_BYTES);
+    expect_record(&rt, &[Value::Int(0), Value::Int(1)], &[3, 8, 9]);
     let mut bytes = [0; 127];
     bytes[0] = 0x7f;
-    expect_record(&rt, rt.alloc(), &[Value::Null; 126], &bytes)?;
+    expect_record(&rt, &[Value::Null; 126], &bytes);
     let mut bytes = [0; 129];
     bytes[0] = 0x81;
     bytes[1] = 1;
-    expect_record(&rt, rt.alloc(), &[Value::Null; 127], &bytes)
+    expect_record(&rt, &[Value::Null; 127], &bytes);
+}
+
+/// What is wrong with a commit of these pages, each with its number and its length, to a database in pages of 512
+/// bytes that had so many and will have so many.
+fn fault_of<R: AllocGlobal + Abort>(
+    rt: &R,
+    pages: &[(u32, &[u8])],
+    old_size: u32,
+    size: u32,
+) -> Option<CommitFault> {
+    let mut numbers = Vec::new(rt.alloc());
+    match PageSize::new(512) {
+        Some(page_size) => judge_pages(pages, size, old_size, page_size, &mut numbers).err(),
+        None => panic!(rt; "no page size"),
+    }
+}
+
+/// A page.
+static PAGE: [u8; 512] = [7; 512];
+
+#[test]
+fn commits(rt: HostRuntime) {
+    let growing = [(3, PAGE.as_slice()), (1, &PAGE), (2, &PAGE)];
+    same(&rt, fault_of(&rt, &growing, 1, 3), None);
+    same(&rt, fault_of(&rt, &[(1, &PAGE)], 3, 1), None);
 }
 
 #[test]
-fn commits(rt: HostRuntime) -> Result<(), Fail> {
-    let size = PageSize::new(512).ok_or("a page size")?;
-    let page = [7; 512];
-    let mut numbers = Vec::new(rt.alloc());
-    let growing = [(3, &page[..]), (1, &page), (2, &page)];
-    assert_eq!(rt; judge_pages(&growing, 3, 1, size, &mut numbers), Ok(()));
-    assert_eq!(rt;
-        judge_pages(&[(1, &page)], 1, 3, size, &mut numbers),
-        Ok(())
+fn faults_of_commits(rt: HostRuntime) {
+    let hole = fault_of(&rt, &[(1, &PAGE), (3, &PAGE)], 1, 3);
+    same(&rt, hole, Some(CommitFault::HoleInGrowth));
+    let twice = fault_of(&rt, &[(3, &PAGE), (3, &PAGE)], 1, 3);
+    same(&rt, twice, Some(CommitFault::PageTwice));
+    let short = fault_of(&rt, &[(1, &PAGE[1..])], 1, 1);
+    same(&rt, short, Some(CommitFault::BadLength));
+    let numbers = (
+        CommitFault::EmptyCommit.number(),
+        CommitFault::TooLarge.number(),
     );
-    Ok(())
-}
-
-#[test]
-fn faults_of_commits(rt: HostRuntime) -> Result<(), Fail> {
-    let size = PageSize::new(512).ok_or("a page size")?;
-    let page = [7; 512];
-    let mut numbers = Vec::new(rt.alloc());
-    let hole = judge_pages(&[(1, &page), (3, &page)], 3, 1, size, &mut numbers);
-    let twice = judge_pages(&[(3, &page), (3, &page)], 3, 1, size, &mut numbers);
-    let short = judge_pages(&[(1, &page[1..])], 1, 1, size, &mut numbers);
-    assert_eq!(rt; hole, Err(CommitFault::HoleInGrowth));
-    assert_eq!(rt; twice, Err(CommitFault::PageTwice));
-    assert_eq!(rt; short, Err(CommitFault::BadLength));
-    assert!(rt; CommitFault::EmptyCommit.number() == 2 && CommitFault::TooLarge.number() == 9);
-    Ok(())
+    same(&rt, numbers, (2, 9));
 }

@@ -2,6 +2,8 @@
 #![tactic(auto)]
 
 #[cfg(test)]
+mod asserts;
+#[cfg(test)]
 mod sqimages_tests;
 #[cfg(test)]
 mod sqjudge_tests;

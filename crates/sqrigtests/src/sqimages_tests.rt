@@ -1,10 +1,13 @@
 //! The images that a crash may leave, counted, numbered and drawn, of a trace that is written by hand.
 
+use crate::asserts::same;
 use crate::traces::sample;
+use crashdisk::DiskError;
 use rand_pcg::Pcg32;
 use sqimages::{Counts, Fixed, Image, draw, draw_now, redraw};
 use sqplay::{Meta, Player, Trace};
-use std::alloc::Global;
+use std::alloc::{AllocError, Global};
+use std::process::Abort;
 use std::test::Fail;
 
 /// What a crash may leave behind the records of the trace.
@@ -16,11 +19,10 @@ fn player(alloc: Global, tears: bool, meta: Meta) -> Result<Player, Fail> {
     Ok(player)
 }
 
-/// How many images a crash may leave, at most 12; 0 where they are more.
-fn image_count(alloc: Global, meta: Meta) -> Result<u64, Fail> {
-    let player = player(alloc, false, meta)?;
-    let counts = Counts::of(alloc, &player, 12)?;
-    Ok(counts.map_or(0, |counts| counts.images()))
+/// How many images a crash may leave, if they are at most so many.
+fn images(alloc: Global, player: &Player, limit: u64) -> Result<Option<u64>, AllocError> {
+    let counts = Counts::of(alloc, player, limit)?;
+    Ok(counts.map(|counts| counts.images()))
 }
 
 // In parts the database file has three values of its sector and two lengths, and the journal is there or isn't. As a
@@ -28,12 +30,35 @@ fn image_count(alloc: Global, meta: Meta) -> Result<u64, Fail> {
 #[test]
 fn counts(rt: HostRuntime) -> Result<(), Fail> {
     let alloc = rt.alloc();
-    let player = player(alloc, false, Meta::Parts)?;
-    assert!(rt; Counts::of(alloc, &player, 11)?.is_none());
-    assert_eq!(rt; image_count(alloc, Meta::Parts)?, 12);
-    assert_eq!(rt; image_count(alloc, Meta::Whole)?, 8);
-    assert_eq!(rt; image_count(alloc, Meta::Ordered)?, 6);
+    for (meta, limit, wanted) in [
+        (Meta::Parts, 11, None),
+        (Meta::Parts, 12, Some(12)),
+        (Meta::Whole, 12, Some(8)),
+        (Meta::Ordered, 12, Some(6)),
+    ] {
+        let player = player(alloc, false, meta)?;
+        same(&rt, images(alloc, &player, limit), Ok(wanted));
+    }
     Ok(())
+}
+
+/// An image has this database file, this journal, and no log.
+fn has_files(rt: &impl Abort, image: &Image, db: &[u8], journal: &[u8]) {
+    same(rt, image.db.as_slice(), db);
+    same(rt, image.journal.as_slice(), journal);
+    assert!(rt; image.wal.is_empty());
+}
+
+/// Whether two images have the same files.
+fn are_same(one: &Image, other: &Image) -> bool {
+    one.db.as_slice() == other.db.as_slice()
+        && one.journal.as_slice() == other.journal.as_slice()
+        && one.wal.as_slice() == other.wal.as_slice()
+}
+
+/// The numbers of the images of a player that has twelve of them.
+fn twelve(alloc: Global, player: &Player) -> Result<Counts, Fail> {
+    Ok(Counts::of(alloc, player, 12)?.ok_or("too many")?)
 }
 
 // Number 0 has the oldest value and the least length; number 10 the fifth way of the file, and no journal.
@@ -41,14 +66,12 @@ fn counts(rt: HostRuntime) -> Result<(), Fail> {
 fn numbers(rt: HostRuntime) -> Result<(), Fail> {
     let alloc = rt.alloc();
     let player = player(alloc, false, Meta::Parts)?;
-    let counts = Counts::of(alloc, &player, 12)?.ok_or("too many")?;
+    let counts = twelve(alloc, &player)?;
     let mut image = Image::none(alloc);
     image.set(&player, &counts, 0)?;
-    assert!(rt; image.db.as_slice() == b"abc".as_slice());
-    assert!(rt; image.journal.as_slice() == b"old".as_slice());
+    has_files(&rt, &image, b"abc", b"old");
     image.set(&player, &counts, 10)?;
-    assert!(rt; image.db.as_slice() == b"aBCd".as_slice());
-    assert!(rt; image.journal.is_empty() && image.wal.is_empty());
+    has_files(&rt, &image, b"aBCd", b"");
     Ok(())
 }
 
@@ -59,8 +82,7 @@ fn present(rt: HostRuntime) -> Result<(), Fail> {
     let player = player(alloc, false, Meta::Parts)?;
     let mut image = Image::none(alloc);
     image.set_present(&player)?;
-    assert!(rt; image.db.as_slice() == b"aBC".as_slice());
-    assert!(rt; image.journal.is_empty() && image.wal.is_empty());
+    has_files(&rt, &image, b"aBC", b"");
     Ok(())
 }
 
@@ -70,18 +92,27 @@ fn is_numbered(
     player: &Player,
     counts: &Counts,
     drawn: &Image,
-) -> Result<bool, Fail> {
+) -> Result<bool, DiskError> {
     let mut image = Image::none(alloc);
     for n in 0..counts.images() {
         image.set(player, counts, n)?;
-        if image.db.as_slice() == drawn.db.as_slice()
-            && image.journal.as_slice() == drawn.journal.as_slice()
-            && image.wal.as_slice() == drawn.wal.as_slice()
-        {
+        if are_same(&image, drawn) {
             return Ok(true);
         }
     }
     Ok(false)
+}
+
+/// Draws an image anew, and says whether it is one of those that are numbered.
+fn drawn_numbered(
+    alloc: Global,
+    rng: &mut Pcg32,
+    player: &Player,
+    counts: &Counts,
+    drawn: &mut Image,
+) -> Result<bool, DiskError> {
+    draw(alloc, rng, player, drawn)?;
+    is_numbered(alloc, player, counts, drawn)
 }
 
 // What is drawn is one of the images, and in forty draws there are several.
@@ -89,19 +120,31 @@ fn is_numbered(
 fn draws(rt: HostRuntime) -> Result<(), Fail> {
     let alloc = rt.alloc();
     let player = player(alloc, false, Meta::Parts)?;
-    let counts = Counts::of(alloc, &player, 12)?.ok_or("too many")?;
+    let counts = twelve(alloc, &player)?;
     let mut rng = Pcg32::new(1, 1);
     let mut drawn = Image::none(alloc);
     let mut without_journal = 0u32;
     for _ in 0..40 {
-        draw(alloc, &mut rng, &player, &mut drawn)?;
-        assert!(rt; is_numbered(alloc, &player, &counts, &drawn)?);
+        let is_numbered = drawn_numbered(alloc, &mut rng, &player, &counts, &mut drawn);
+        same(&rt, is_numbered, Ok(true));
         if drawn.journal.is_empty() {
             without_journal = without_journal.saturating_add(1);
         }
     }
     assert!(rt; 8 < without_journal && without_journal < 32);
     Ok(())
+}
+
+/// Draws an image again but for the files that are fixed, and says whether it is one of those that are numbered.
+fn redrawn_numbered(
+    alloc: Global,
+    rng: &mut Pcg32,
+    player: &Player,
+    counts: &Counts,
+    drawn: &mut Image,
+) -> Result<bool, DiskError> {
+    redraw(alloc, rng, player, Fixed::of(player), drawn)?;
+    is_numbered(alloc, player, counts, drawn)
 }
 
 // No log was written, so that a crash leaves one way of it alone, but several of the file and the journal. What is
@@ -110,23 +153,35 @@ fn draws(rt: HostRuntime) -> Result<(), Fail> {
 fn redraws(rt: HostRuntime) -> Result<(), Fail> {
     let alloc = rt.alloc();
     let player = player(alloc, false, Meta::Parts)?;
-    let counts = Counts::of(alloc, &player, 12)?.ok_or("too many")?;
+    let counts = twelve(alloc, &player)?;
     let fixed = Fixed::of(&player);
     assert!(rt; fixed.wal && !fixed.db && !fixed.journal);
     let mut rng = Pcg32::new(1, 1);
     let mut drawn = Image::none(alloc);
     draw_now(alloc, &mut rng, &player, &mut drawn)?;
-    assert!(rt; is_numbered(alloc, &player, &counts, &drawn)?);
+    same(&rt, is_numbered(alloc, &player, &counts, &drawn), Ok(true));
     let mut without_journal = 0u32;
     for _ in 0..40 {
-        redraw(alloc, &mut rng, &player, fixed, &mut drawn)?;
-        assert!(rt; is_numbered(alloc, &player, &counts, &drawn)?);
+        let is_numbered = redrawn_numbered(alloc, &mut rng, &player, &counts, &mut drawn);
+        same(&rt, is_numbered, Ok(true));
         if drawn.journal.is_empty() {
             without_journal = without_journal.saturating_add(1);
         }
     }
     assert!(rt; 8 < without_journal && without_journal < 32);
     Ok(())
+}
+
+/// Whether an image that is drawn has a sector that is torn.
+fn is_drawn_torn(
+    alloc: Global,
+    rng: &mut Pcg32,
+    player: &Player,
+    drawn: &mut Image,
+) -> Result<bool, DiskError> {
+    draw(alloc, rng, player, drawn)?;
+    let db = drawn.db.as_slice();
+    Ok(db == b"aBc".as_slice() || db == b"aBcd".as_slice())
 }
 
 // A sector that tears holds the new bytes up to some place and the oldest ones behind it.
@@ -138,8 +193,7 @@ fn torn_draws(rt: HostRuntime) -> Result<(), Fail> {
     let mut drawn = Image::none(alloc);
     let mut torn = 0u32;
     for _ in 0..400 {
-        draw(alloc, &mut rng, &player, &mut drawn)?;
-        if drawn.db.as_slice() == b"aBc".as_slice() || drawn.db.as_slice() == b"aBcd".as_slice() {
+        if is_drawn_torn(alloc, &mut rng, &player, &mut drawn)? {
             torn = torn.saturating_add(1);
         }
     }

@@ -1,57 +1,63 @@
 //! Commits are kept or lost, or an image shows none, on databases that are made by hand.
 
-use sqjudge::{History, Judgment, Snapshot, free_leaves, judge_files, judge_source};
-use sqpage::{Fault, SliceSource};
+use crate::asserts::same;
+use sqjudge::{History, Judgment, Snapshot, SnapshotError, free_leaves, judge_files, judge_source};
+use sqpage::{CheckError, Fault, SliceSource};
 use sqval::PageSize;
 use sqview::ViewError;
 use std::alloc::Global;
 use std::test::Fail;
 
-/// The database of some pages of 512 bytes.
-fn taken(alloc: Global, bytes: &[u8]) -> Result<Snapshot, Fail> {
-    let size = PageSize::new(512).ok_or("no size")?;
-    match SliceSource::new(bytes, size) {
-        Some(mut source) => Ok(Snapshot::take(alloc, &mut source)?),
-        None => Err(Fail::from("no pages")),
+/// Pages of 512 bytes, if they are whole.
+fn source(bytes: &[u8]) -> Option<SliceSource<'_>> {
+    match PageSize::new(512) {
+        Some(size) => SliceSource::new(bytes, size),
+        None => None,
+    }
+}
+
+/// The database of some pages; Unread where they aren't whole, here and below.
+fn taken(alloc: Global, bytes: &[u8]) -> Result<Snapshot, SnapshotError> {
+    match source(bytes) {
+        Some(mut source) => Snapshot::take(alloc, &mut source),
+        None => Err(SnapshotError::Unread),
     }
 }
 
 /// Whether pages show a database.
-fn is_shown(alloc: Global, snapshot: &Snapshot, bytes: &[u8]) -> Result<bool, Fail> {
-    let size = PageSize::new(512).ok_or("no size")?;
-    match SliceSource::new(bytes, size) {
-        Some(mut source) => Ok(snapshot.is_shown(alloc, &mut source)?),
-        None => Err(Fail::from("no pages")),
+fn is_shown(alloc: Global, snapshot: &Snapshot, bytes: &[u8]) -> Result<bool, SnapshotError> {
+    match source(bytes) {
+        Some(mut source) => snapshot.is_shown(alloc, &mut source),
+        None => Err(SnapshotError::Unread),
     }
 }
 
 /// The last commit that pages show.
-fn shown(alloc: Global, history: &History, bytes: &[u8]) -> Result<Option<usize>, Fail> {
-    let size = PageSize::new(512).ok_or("no size")?;
-    match SliceSource::new(bytes, size) {
-        Some(mut source) => Ok(history.shown(alloc, &mut source)?),
-        None => Err(Fail::from("no pages")),
+fn shown(alloc: Global, history: &History, bytes: &[u8]) -> Result<Option<usize>, SnapshotError> {
+    match source(bytes) {
+        Some(mut source) => history.shown(alloc, &mut source),
+        None => Err(SnapshotError::Unread),
     }
 }
 
 /// The judgment of pages.
-fn judged(alloc: Global, history: &History, known: usize, bytes: &[u8]) -> Result<Judgment, Fail> {
-    let size = PageSize::new(512).ok_or("no size")?;
-    match SliceSource::new(bytes, size) {
-        Some(mut source) => Ok(judge_source(alloc, history, known, &mut source)?),
-        None => Err(Fail::from("no pages")),
+fn judged(
+    alloc: Global,
+    history: &History,
+    known: usize,
+    bytes: &[u8],
+) -> Result<Judgment, SnapshotError> {
+    match source(bytes) {
+        Some(mut source) => judge_source(alloc, history, known, &mut source),
+        None => Err(SnapshotError::Unread),
     }
 }
 
-/// The only leaf of the freelist; 0 where it has none or several.
-fn only_leaf(alloc: Global, bytes: &[u8]) -> Result<u32, Fail> {
-    let size = PageSize::new(512).ok_or("no size")?;
-    match SliceSource::new(bytes, size) {
-        Some(mut source) => {
-            let leaves = free_leaves(alloc, &mut source)?;
-            Ok(if leaves.len() == 1 { leaves[0] } else { 0 })
-        }
-        None => Err(Fail::from("no pages")),
+/// The leaves of the freelist.
+fn leaves_of(alloc: Global, bytes: &[u8]) -> Result<Vec<u32>, SnapshotError> {
+    match source(bytes) {
+        Some(mut source) => free_leaves(alloc, &mut source),
+        None => Err(SnapshotError::Unread),
     }
 }
 
@@ -64,67 +70,96 @@ fn pages(change: u8) -> [u8; 1024] {
     bytes
 }
 
+/// Commits of those pages, with these changes.
+fn history_of(alloc: Global, changes: &[u8]) -> Result<History, SnapshotError> {
+    let mut history = History::new(alloc);
+    for change in changes {
+        history.push(taken(alloc, &pages(*change))?)?;
+    }
+    Ok(history)
+}
+
 #[test]
 fn shown_commits(rt: HostRuntime) -> Result<(), Fail> {
     let alloc = rt.alloc();
-    let (first, second, third) = (pages(1), pages(2), pages(3));
-    let mut history = History::new(alloc);
-    history.push(taken(alloc, &first)?)?;
-    history.push(taken(alloc, &second)?)?;
-    assert_eq!(rt; history.len(), 2);
-    assert_eq!(rt; shown(alloc, &history, &first)?, Some(0));
-    assert_eq!(rt; judged(alloc, &history, 0, &first)?, Judgment::Kept(0));
-    assert_eq!(rt; judged(alloc, &history, 1, &first)?, Judgment::Lost(0));
-    assert_eq!(rt; shown(alloc, &history, &third)?, None);
-    match judged(alloc, &history, 0, &third)? {
-        Judgment::Fault(error) => assert_eq!(rt; (error.page, error.fault), (1, Fault::Magic)),
-        _ => assert!(rt; false),
+    let history = history_of(alloc, &[1, 2])?;
+    same(&rt, history.len(), 2);
+    let (first, third) = (pages(1), pages(3));
+    same(&rt, shown(alloc, &history, &first), Ok(Some(0)));
+    same(&rt, shown(alloc, &history, &third), Ok(None));
+    let fault = CheckError {
+        page: 1,
+        fault: Fault::Magic,
+    };
+    for (known, pages, wanted) in [
+        (0, &first, Judgment::Kept(0)),
+        (1, &first, Judgment::Lost(0)),
+        (0, &third, Judgment::Fault(fault)),
+    ] {
+        same(&rt, judged(alloc, &history, known, pages), Ok(wanted));
     }
     Ok(())
+}
+
+/// Three pages. The freelist has the trunk 2 with the leaf 3.
+fn with_a_leaf() -> [u8; 1536] {
+    let mut bytes = [0u8; 1536];
+    bytes[35] = 2;
+    bytes[39] = 2;
+    bytes[519] = 1;
+    bytes[523] = 3;
+    bytes
 }
 
 // The pages of a leaf of the freelist may hold anything, those of its trunk may not.
 #[test]
 fn leaves(rt: HostRuntime) -> Result<(), Fail> {
     let alloc = rt.alloc();
-    let mut bytes = [0u8; 1536];
-    bytes[35] = 2;
-    bytes[39] = 2;
-    bytes[519] = 1;
-    bytes[523] = 3;
-    assert_eq!(rt; only_leaf(alloc, &pages(0))?, 0);
-    assert_eq!(rt; only_leaf(alloc, &bytes)?, 3);
+    let mut bytes = with_a_leaf();
+    let none = leaves_of(alloc, &pages(0))?;
+    assert!(rt; none.is_empty());
+    let leaves = leaves_of(alloc, &bytes)?;
+    same(&rt, leaves.as_slice(), [3].as_slice());
     let snapshot = taken(alloc, &bytes)?;
     assert!(rt; !snapshot.is_empty() && Snapshot::nothing(alloc).is_empty());
     bytes[1100] = 7;
-    assert!(rt; is_shown(alloc, &snapshot, &bytes)?);
+    same(&rt, is_shown(alloc, &snapshot, &bytes), Ok(true));
     bytes[600] = 7;
-    assert!(rt; !is_shown(alloc, &snapshot, &bytes)?);
+    same(&rt, is_shown(alloc, &snapshot, &bytes), Ok(false));
     Ok(())
+}
+
+/// The judgment of a database file without logs.
+fn judged_file(
+    alloc: Global,
+    history: &History,
+    known: usize,
+    db: &[u8],
+) -> Result<Judgment, SnapshotError> {
+    judge_files(alloc, history, known, db, b"", b"")
+}
+
+/// Whether the history takes a database file without logs.
+fn noted(alloc: Global, history: &mut History, db: &[u8]) -> Result<bool, SnapshotError> {
+    history.note(alloc, db, b"", b"")
 }
 
 // A file without bytes is the database of no pages.
 #[test]
-fn no_files(rt: HostRuntime) -> Result<(), Fail> {
+fn no_files(rt: HostRuntime) {
     let alloc = rt.alloc();
     let mut history = History::new(alloc);
     let refused = Judgment::Refused(ViewError::Header(Fault::Magic));
-    assert_eq!(rt; judge_files(alloc, &history, 0, b"", b"", b"")?, refused);
-    assert!(rt; history.note(alloc, b"", b"", b"")?);
-    assert!(rt; !history.note(alloc, b"", b"", b"")?);
-    assert!(rt; !history.note(alloc, b"no database", b"", b"")?);
-    assert_eq!(rt; history.len(), 1);
-    assert_eq!(rt;
-        judge_files(alloc, &history, 0, b"", b"", b"")?,
-        Judgment::Kept(0)
-    );
-    assert_eq!(rt;
-        judge_files(alloc, &history, 1, b"", b"", b"")?,
-        Judgment::Lost(0)
-    );
-    assert_eq!(rt;
-        judge_files(alloc, &history, 0, b"no database", b"", b"")?,
-        refused
-    );
-    Ok(())
+    same(&rt, judged_file(alloc, &history, 0, b""), Ok(refused));
+    same(&rt, noted(alloc, &mut history, b""), Ok(true));
+    same(&rt, noted(alloc, &mut history, b""), Ok(false));
+    same(&rt, noted(alloc, &mut history, b"no database"), Ok(false));
+    same(&rt, history.len(), 1);
+    for (known, db, wanted) in [
+        (0, b"".as_slice(), Judgment::Kept(0)),
+        (1, b"", Judgment::Lost(0)),
+        (0, b"no database", refused),
+    ] {
+        same(&rt, judged_file(alloc, &history, known, db), Ok(wanted));
+    }
 }

@@ -3,12 +3,14 @@
 //! syncs the records and the header of each segment, then the database, then the zeros over the first header.
 mod segments;
 
+use crate::asserts::same;
 use crate::world_tests::{Left, Told, answers_are, filled, left_by_crash};
 use crashdisk::{Choice, Disk, File, FileChoice, ModelDisk, Part, Rest};
 use rollcore::{Refused, Roll, RollError};
 use sqval::PageSize;
 use sqworld::{Base, JEvent, Run, run_journal};
 use std::alloc::{AllocError, Global};
+use std::process::Abort;
 use std::test::Fail;
 
 /// How many pages are read at the end of a run: more than any database here has.
@@ -210,6 +212,12 @@ fn run_as(alloc: Global, base: &Base, rows: &[(Ask, Told)], shown: Shown) -> Res
     Ok(run)
 }
 
+/// The same of a run that nothing else is asked of.
+fn answers(alloc: Global, base: &Base, rows: &[(Ask, Told)], shown: Shown) -> Result<(), Fail> {
+    run_as(alloc, base, rows, shown)?;
+    Ok(())
+}
+
 /// What is shown after a commit that this stops, a crash and an opening.
 fn after_stop(
     alloc: Global,
@@ -226,8 +234,7 @@ fn after_stop(
         (crash, Told::Done),
         (Ask::Open, Told::Done),
     ];
-    run_as(alloc, base, &rows, shown)?;
-    Ok(())
+    answers(alloc, base, &rows, shown)
 }
 
 /// How long the database was that an opening found.
@@ -292,7 +299,7 @@ fn an_opening_that_stops(rt: HostRuntime) -> Result<(), Fail> {
     let base = base(alloc, false, 3)?;
     for count in [8, 9] {
         let rows = STOPPED_OPENING.get(..count).ok_or("rows")?;
-        run_as(alloc, &base, rows, Shown::Pages(3, b'A'))?;
+        answers(alloc, &base, rows, Shown::Pages(3, b'A'))?;
     }
     Ok(())
 }
@@ -323,8 +330,8 @@ fn a_commit_that_is_done(rt: HostRuntime) -> Result<(), Fail> {
         Shown::Pages(1, b'B'),
     )?;
     let long = [db_found(&run, 0), db_found(&run, 1)];
-    assert_eq!(rt; long, [Some(1536), Some(512)]);
-    assert_eq!(rt; (run.found.len(), run.crashed.len()), (2, 0));
+    same(&rt, long, [Some(1536), Some(512)]);
+    same(&rt, (run.found.len(), run.crashed.len()), (2, 0));
     Ok(())
 }
 
@@ -346,7 +353,8 @@ fn a_call_that_fails(rt: HostRuntime) -> Result<(), Fail> {
         Shown::Pages(3, b'A'),
     )?;
     let refused = [0u64, 0, 1, 1, 1];
-    assert_eq!(rt; run.refused.get(..5), Some(refused.as_slice()));
+    let begun = run.refused.get(..5).ok_or("answers")?;
+    same(&rt, begun, refused.as_slice());
     Ok(())
 }
 
@@ -359,7 +367,7 @@ fn two_segments(rt: HostRuntime) -> Result<(), Fail> {
         nonce: 1,
         nonces: 2,
     };
-    run_as(
+    answers(
         alloc,
         &base,
         &[
@@ -422,7 +430,7 @@ fn what_was_handed_over(rt: HostRuntime) -> Result<(), Fail> {
         at: 0,
         long: 512,
     };
-    assert_eq!(rt; left_by_crash(&run), Some(wanted));
+    same(&rt, left_by_crash(&run), Some(wanted));
     Ok(())
 }
 
@@ -434,19 +442,22 @@ fn page_with(alloc: Global, at: usize, bytes: &[u8]) -> Result<Vec<u8>, Fail> {
     Ok(page)
 }
 
+/// What pages 2 to 4 have, and where.
+static HEADER_IN_PAGES: [(usize, &[u8]); 3] = [
+    (500, b"\xd9\xd5\x05\xf9\x20\xa1\x63\xd7\x00\x00\x00\x01"),
+    (492, b"\x00\x00\x00\x01"),
+    (488, b"\x00\x00\x00\x05"),
+];
+
 /// Four pages. A journal of a record for each has the header of a later segment at 1536, with a record behind it, in
 /// what it keeps of pages 2 to 4.
 fn base_with_a_header(alloc: Global) -> Result<Base, Fail> {
     let page_size = PageSize::new(512).ok_or("a page size")?;
     let mut pages = Vec::new(alloc);
     pages.push(filled(alloc, 512, b'A')?)?;
-    pages.push(page_with(
-        alloc,
-        500,
-        b"\xd9\xd5\x05\xf9\x20\xa1\x63\xd7\x00\x00\x00\x01",
-    )?)?;
-    pages.push(page_with(alloc, 492, b"\x00\x00\x00\x01")?)?;
-    pages.push(page_with(alloc, 488, b"\x00\x00\x00\x05")?)?;
+    for (at, bytes) in HEADER_IN_PAGES {
+        pages.push(page_with(alloc, at, bytes)?)?;
+    }
     Ok(Base::new(page_size, 512, pages).ok_or("a base")?)
 }
 
@@ -457,27 +468,33 @@ const ALL_FOUR: Ask = Ask::OfFour {
     nonce: 5,
 };
 
+/// The second of these asks' two openings finds a journal of 2592 bytes, with these at 1536; all four pages are `B`.
+fn finds(rt: &impl Abort, alloc: Global, rows: &[(Ask, Told)], header: &[u8]) -> Result<(), Fail> {
+    let base = base_with_a_header(alloc)?;
+    let run = run_as(alloc, &base, rows, Shown::Pages(4, b'B'))?;
+    let (long, bytes) = second_journal(&run).ok_or("two openings")?;
+    same(rt, long, 2592);
+    same(rt, bytes, header);
+    Ok(())
+}
+
 // A header that stands in old bytes behind a segment doesn't go on with the journal.
 #[test]
 fn a_stale_header(rt: HostRuntime) -> Result<(), Fail> {
     let alloc = rt.alloc();
-    let base = base_with_a_header(alloc)?;
-    let run = run_as(
+    finds(
+        &rt,
         alloc,
-        &base,
         &[
             (Ask::Open, Told::Done),
             (ALL_FOUR, Told::Done),
             (Ask::Open, Told::Done),
         ],
-        Shown::Pages(4, b'B'),
+        b"\xd9\xd5\x05\xf9\x20\xa1\x63\xd7",
     )?;
-    let magic = b"\xd9\xd5\x05\xf9\x20\xa1\x63\xd7";
-    assert_eq!(rt; second_journal(&run), Some((2592, magic.as_slice())));
-
-    let run = run_as(
+    finds(
+        &rt,
         alloc,
-        &base,
         &[
             (Ask::Open, Told::Done),
             (ALL_FOUR, Told::Done),
@@ -493,11 +510,8 @@ fn a_stale_header(rt: HostRuntime) -> Result<(), Fail> {
             (Ask::Newest, Told::Done),
             (Ask::Open, Told::Done),
         ],
-        Shown::Pages(4, b'B'),
-    )?;
-    let broken = b"\x00\xd5\x05\xf9\x20\xa1\x63\xd7";
-    assert_eq!(rt; second_journal(&run), Some((2592, broken.as_slice())));
-    Ok(())
+        b"\x00\xd5\x05\xf9\x20\xa1\x63\xd7",
+    )
 }
 
 /// An engine over this disk.
@@ -516,30 +530,48 @@ fn first_byte(roll: &mut Roll<ModelDisk>, page: u32) -> Result<u8, RollError> {
     Ok(bytes[0])
 }
 
-// A header whose sector isn't whole is broken, so that the records of a commit that stops don't make it hot.
-#[test]
-fn a_header_in_part(rt: HostRuntime) -> Result<(), Fail> {
-    let alloc = rt.alloc();
+/// A disk of three pages `A`, on which the journal begins with a header whose sector isn't whole.
+fn disk_with_a_header(alloc: Global) -> Result<ModelDisk, Fail> {
     let log = b"\xd9\xd5\x05\xf9\x20\xa1\x63\xd7\x00\x00\x00\x00\x00\x00\
           \x00\x00\x00\x00\x00\x01\x00\x00\x02\x00\x00\x00\x02\x00";
     let mut disk = ModelDisk::new(alloc, 512, filled(alloc, 1536, b'A')?)?;
     disk.write_at(File::Log, 0, log)?;
     disk.sync(File::Log)?;
+    Ok(disk)
+}
+
+/// The answer to a commit of page 1 whose first sync stops the disk, and what the newest crash leaves.
+fn stopped(alloc: Global, disk: ModelDisk) -> Result<(Result<(), RollError>, ModelDisk), Fail> {
     let mut roll = opened(alloc, disk)?;
     roll.disk().stop_at_sync(1);
-    let stopped = roll.commit(&[(1, &[b'B'; 512])], 3, &[7]);
+    let answer = roll.commit(&[(1, &[b'B'; 512])], 3, &[7]);
     let mut disk = roll.into_disk();
     disk.crash(&Choice::newest(alloc));
-    let mut again = opened(alloc, disk)?;
-    let pages = [
-        first_byte(&mut again, 1),
-        first_byte(&mut again, 2),
-        first_byte(&mut again, 3),
-        first_byte(&mut again, 4),
+    Ok((answer, disk))
+}
+
+/// The first bytes of pages 1 to 4.
+fn first_bytes(alloc: Global, disk: ModelDisk) -> Result<[Result<u8, RollError>; 4], Fail> {
+    let mut roll = opened(alloc, disk)?;
+    let bytes = [
+        first_byte(&mut roll, 1),
+        first_byte(&mut roll, 2),
+        first_byte(&mut roll, 3),
+        first_byte(&mut roll, 4),
     ];
-    let _ = again.into_disk();
-    assert_eq!(rt; stopped, Err(RollError::Device));
+    let _ = roll.into_disk();
+    Ok(bytes)
+}
+
+// A header whose sector isn't whole is broken, so that the records of a commit that stops don't make it hot.
+#[test]
+fn a_header_in_part(rt: HostRuntime) -> Result<(), Fail> {
+    let alloc = rt.alloc();
+    let disk = disk_with_a_header(alloc)?;
+    let (answer, disk) = stopped(alloc, disk)?;
+    let pages = first_bytes(alloc, disk)?;
+    same(&rt, answer, Err(RollError::Device));
     let wanted = [Ok(b'A'), Ok(b'A'), Ok(b'A'), Err(RollError::PageAboveSize)];
-    assert_eq!(rt; pages, wanted);
+    same(&rt, pages, wanted);
     Ok(())
 }

@@ -2,6 +2,8 @@
 #![tactic(auto)]
 
 #[cfg(test)]
+mod asserts;
+#[cfg(test)]
 mod journal_tests;
 #[cfg(test)]
 mod memory_tests;

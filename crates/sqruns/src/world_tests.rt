@@ -1,10 +1,13 @@
 //! Whole runs, with ample memory: what is asked, and beside it what is answered. The database begins as one page of 512
 //! bytes `A`.
+use crate::asserts::same;
+use crate::stepping_tests::count;
 use crashdisk::{Choice, FileChoice, ModelDisk, Part, Rest};
 use sqval::PageSize;
 use sqwal::Hit;
 use sqworld::{Base, Event, Reply, Run, run_wal};
 use std::alloc::{AllocError, Global};
+use std::process::Abort;
 use std::test::Fail;
 use walcore::{Refused, Wal, WalError};
 
@@ -222,6 +225,24 @@ fn run_as(alloc: Global, tears: bool, rows: &[(Ask, Told)]) -> Result<Run, Fail>
     Ok(run)
 }
 
+/// These asks are answered by what stands beside them, on a disk that doesn't tear.
+fn answers(alloc: Global, rows: &[(Ask, Told)]) -> Result<(), Fail> {
+    run_as(alloc, false, rows)?;
+    Ok(())
+}
+
+/// The same, and after each of them the disk has refused so many calls.
+fn answers_refused(
+    rt: &impl Abort,
+    alloc: Global,
+    rows: &[(Ask, Told)],
+    refused: &[u64],
+) -> Result<(), Fail> {
+    let run = run_as(alloc, false, rows)?;
+    same(rt, run.refused.as_slice(), refused);
+    Ok(())
+}
+
 /// What the one crash of a run left of the log.
 #[derive(Clone, Copy, Debug, PartialEq, Eq)]
 pub(crate) struct Left {
@@ -261,9 +282,8 @@ fn log_found(run: &Run, opening: usize) -> Option<usize> {
 #[test]
 fn crashes(rt: HostRuntime) -> Result<(), Fail> {
     let alloc = rt.alloc();
-    run_as(
+    answers(
         alloc,
-        false,
         &[
             (Ask::Open(7, 1), Told::Done),
             (Ask::Commit(1, b'B'), Told::Done),
@@ -275,9 +295,8 @@ fn crashes(rt: HostRuntime) -> Result<(), Fail> {
             (Ask::Read(0, 1), Told::Page(b'B')),
         ],
     )?;
-    run_as(
+    answers(
         alloc,
-        false,
         &[
             (Ask::Open(7, 1), Told::Done),
             (Ask::Commit(1, b'B'), Told::Done),
@@ -287,16 +306,14 @@ fn crashes(rt: HostRuntime) -> Result<(), Fail> {
             (Ask::Begin, Told::Reader(0)),
             (Ask::Read(0, 1), Told::Page(b'A')),
         ],
-    )?;
-    Ok(())
+    )
 }
 
 #[test]
 fn an_old_log_is_not_taken_up(rt: HostRuntime) -> Result<(), Fail> {
     let alloc = rt.alloc();
-    run_as(
+    answers(
         alloc,
-        false,
         &[
             (Ask::Open(7, 1), Told::Done),
             (Ask::Commit(1, b'B'), Told::Done),
@@ -312,17 +329,15 @@ fn an_old_log_is_not_taken_up(rt: HostRuntime) -> Result<(), Fail> {
             (Ask::Begin, Told::Reader(1)),
             (Ask::Read(1, 1), Told::Page(b'C')),
         ],
-    )?;
-    Ok(())
+    )
 }
 
 // Readers keep what they see, and a checkpoint waits for them.
 #[test]
 fn readers(rt: HostRuntime) -> Result<(), Fail> {
     let alloc = rt.alloc();
-    run_as(
+    answers(
         alloc,
-        false,
         &[
             (Ask::Open(7, 1), Told::Done),
             (Ask::Commit(1, b'B'), Told::Done),
@@ -336,9 +351,8 @@ fn readers(rt: HostRuntime) -> Result<(), Fail> {
             (Ask::Restart(2), Told::Done),
         ],
     )?;
-    run_as(
+    answers(
         alloc,
-        false,
         &[
             (Ask::Open(7, 1), Told::Done),
             (Ask::Commit(2, b'B'), Told::Done),
@@ -354,8 +368,7 @@ fn readers(rt: HostRuntime) -> Result<(), Fail> {
             (Ask::End(1), Told::Done),
             (Ask::Restart(2), Told::Done),
         ],
-    )?;
-    Ok(())
+    )
 }
 
 // A restart that the disk refuses, and what either crash leaves of it.
@@ -363,9 +376,9 @@ fn readers(rt: HostRuntime) -> Result<(), Fail> {
 fn a_restart_fails(rt: HostRuntime) -> Result<(), Fail> {
     let alloc = rt.alloc();
     for crash in [Ask::Oldest, Ask::Newest] {
-        let run = run_as(
+        answers_refused(
+            &rt,
             alloc,
-            false,
             &[
                 (Ask::Open(7, 1), Told::Done),
                 (Ask::Commit(1, b'B'), Told::Done),
@@ -380,9 +393,8 @@ fn a_restart_fails(rt: HostRuntime) -> Result<(), Fail> {
                 (Ask::Begin, Told::Reader(1)),
                 (Ask::Read(1, 1), Told::Page(b'B')),
             ],
+            &[0, 0, 0, 0, 0, 0, 0, 1, 1, 1, 1, 1],
         )?;
-        let refused = [0u64, 0, 0, 0, 0, 0, 0, 1, 1, 1, 1, 1];
-        assert_eq!(rt; run.refused.as_slice(), refused.as_slice());
     }
     Ok(())
 }
@@ -392,9 +404,9 @@ fn a_restart_fails(rt: HostRuntime) -> Result<(), Fail> {
 fn a_commit_that_stops_at_a_call(rt: HostRuntime) -> Result<(), Fail> {
     let alloc = rt.alloc();
     for crash in [Ask::Oldest, Ask::Newest] {
-        let run = run_as(
+        answers_refused(
+            &rt,
             alloc,
-            false,
             &[
                 (Ask::Open(7, 1), Told::Done),
                 (Ask::StopAfter(1), Told::Done),
@@ -406,9 +418,8 @@ fn a_commit_that_stops_at_a_call(rt: HostRuntime) -> Result<(), Fail> {
                 (Ask::Read(0, 1), Told::Page(b'A')),
                 (Ask::Read(0, 2), Told::Refused(5)),
             ],
+            &[0, 0, 1, 1, 1, 1, 1, 1, 1],
         )?;
-        let refused = [0u64, 0, 1, 1, 1, 1, 1, 1, 1];
-        assert_eq!(rt; run.refused.as_slice(), refused.as_slice());
     }
     Ok(())
 }
@@ -416,9 +427,8 @@ fn a_commit_that_stops_at_a_call(rt: HostRuntime) -> Result<(), Fail> {
 #[test]
 fn refusals(rt: HostRuntime) -> Result<(), Fail> {
     let alloc = rt.alloc();
-    run_as(
+    answers(
         alloc,
-        false,
         &[
             (Ask::Commit(1, b'B'), Told::Refused(1)),
             (Ask::Open(7, 1), Told::Done),
@@ -430,17 +440,15 @@ fn refusals(rt: HostRuntime) -> Result<(), Fail> {
             (Ask::Begin, Told::Reader(0)),
             (Ask::Read(0, 1), Told::Page(b'A')),
         ],
-    )?;
-    Ok(())
+    )
 }
 
 // A sync that fails closes the engine, and loses nothing.
 #[test]
 fn a_sync_fails(rt: HostRuntime) -> Result<(), Fail> {
     let alloc = rt.alloc();
-    run_as(
+    answers(
         alloc,
-        false,
         &[
             (Ask::Open(7, 1), Told::Done),
             (Ask::Commit(1, b'B'), Told::Done),
@@ -454,8 +462,7 @@ fn a_sync_fails(rt: HostRuntime) -> Result<(), Fail> {
             (Ask::Begin, Told::Reader(0)),
             (Ask::Read(0, 1), Told::Page(b'B')),
         ],
-    )?;
-    Ok(())
+    )
 }
 
 // A crash forgets the readers. The first log is what its format says.
@@ -482,9 +489,9 @@ fn readers_are_forgotten(rt: HostRuntime) -> Result<(), Fail> {
     )?;
     let log = b"\x37\x7f\x06\x83\x00\x2d\xe2\x18\x00\x00\x02\x00\x00\x00\x00\x00\
           \x00\x00\x00\x01\x00\x00\x00\x02\x16\x04\xca\xd8\xbc\xdd\xa4\x93";
-    let found = run.found.get(1).map(|found| found.log.as_slice());
-    assert_eq!(rt; found, Some(log.as_slice()));
-    assert_eq!(rt; (run.found.len(), run.crashed.len()), (3, 0));
+    let found = run.found.get(1).ok_or("an opening")?;
+    same(&rt, found.log.as_slice(), log.as_slice());
+    same(&rt, (run.found.len(), run.crashed.len()), (3, 0));
     Ok(())
 }
 
@@ -492,9 +499,8 @@ fn readers_are_forgotten(rt: HostRuntime) -> Result<(), Fail> {
 #[test]
 fn a_reader_over_a_crash(rt: HostRuntime) -> Result<(), Fail> {
     let alloc = rt.alloc();
-    run_as(
+    answers(
         alloc,
-        false,
         &[
             (Ask::Open(7, 1), Told::Done),
             (Ask::Begin, Told::Reader(0)),
@@ -506,8 +512,7 @@ fn a_reader_over_a_crash(rt: HostRuntime) -> Result<(), Fail> {
             (Ask::Begin, Told::Reader(1)),
             (Ask::Read(1, 1), Told::Page(b'B')),
         ],
-    )?;
-    Ok(())
+    )
 }
 
 #[test]
@@ -528,8 +533,7 @@ fn many_commits(rt: HostRuntime) -> Result<(), Fail> {
         (Ask::Begin, Told::Reader(1)),
         (Ask::Read(1, 1), Told::Page(b'C')),
     ])?;
-    run_as(alloc, false, &rows)?;
-    Ok(())
+    answers(alloc, &rows)
 }
 
 // On a disk that tears a sync writes the last frame twice, where a sector goes on behind it.
@@ -557,32 +561,40 @@ fn torn_sectors(rt: HostRuntime) -> Result<(), Fail> {
         ],
     )?;
     let logs = [log_found(&run, 1), log_found(&run, 3)];
-    assert_eq!(rt; (run.found.len(), logs), (4, [Some(1104), Some(10752)]));
+    same(&rt, (run.found.len(), logs), (4, [Some(1104), Some(10752)]));
     let left = left_by_crash(&run).map(|left| (left.kept, left.at));
-    assert_eq!(rt; left, Some((1104, 1104)));
+    same(&rt, left, Some((1104, 1104)));
     Ok(())
+}
+
+/// A page of so many bytes `A` is no base in sectors of so many.
+fn is_refused(alloc: Global, tears: bool, sector: usize, long: usize) -> Result<bool, Fail> {
+    let page_size = PageSize::new(512).ok_or("a page size")?;
+    let mut pages = Vec::new(alloc);
+    pages.push(filled(alloc, long, b'A')?)?;
+    let base = if tears {
+        Base::tearing(page_size, sector, pages)
+    } else {
+        Base::new(page_size, sector, pages)
+    };
+    Ok(base.is_none())
 }
 
 #[test]
 fn bases(rt: HostRuntime) -> Result<(), Fail> {
     let alloc = rt.alloc();
     let page_size = PageSize::new(512).ok_or("a page size")?;
-    assert_eq!(rt; base(alloc, false)?.page_size(), page_size);
+    assert!(rt; base(alloc, false)?.page_size() == page_size);
     assert!(rt; Base::new(page_size, 512, Vec::new(alloc)).is_none());
-    for sector in [0, 256, 700, 131072] {
-        let mut pages = Vec::new(alloc);
-        pages.push(filled(alloc, 512, b'A')?)?;
-        assert!(rt; Base::new(page_size, sector, pages).is_none());
-    }
-    for (tears, long) in [(false, 511), (true, 512)] {
-        let mut pages = Vec::new(alloc);
-        pages.push(filled(alloc, long, b'A')?)?;
-        let base = if tears {
-            Base::tearing(page_size, 1024, pages)
-        } else {
-            Base::new(page_size, 1024, pages)
-        };
-        assert!(rt; base.is_none());
+    for (tears, sector, long) in [
+        (false, 0, 512),
+        (false, 256, 512),
+        (false, 700, 512),
+        (false, 131072, 512),
+        (false, 1024, 511),
+        (true, 1024, 512),
+    ] {
+        assert!(rt; is_refused(alloc, tears, sector, long)?);
     }
     Ok(())
 }
@@ -634,7 +646,7 @@ fn frames_of_two_readers(rt: HostRuntime) -> Result<(), Fail> {
         Hit { frame: 3, steps: 1 },
         Hit { frame: 0, steps: 0 },
     ];
-    assert_eq!(rt; hits, Ok(wanted));
+    same(&rt, hits, Ok(wanted));
     Ok(())
 }
 
@@ -645,10 +657,7 @@ fn choices_after_a_commit(rt: HostRuntime) -> Result<(), Fail> {
     let mut wal = engine(alloc)?;
     let committed = wal.commit(&[(1, &[b'B'; 512])], 1);
     let disk = wal.into_disk();
-    assert_eq!(rt; committed, Ok(()));
-    for n in 0..12 {
-        assert!(rt; disk.choice(n)?.is_some());
-    }
-    assert!(rt; disk.choice(12)?.is_none());
+    same(&rt, committed, Ok(()));
+    same(&rt, count(&disk), Ok(12));
     Ok(())
 }

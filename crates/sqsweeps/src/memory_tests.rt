@@ -7,7 +7,11 @@ mod disks;
 mod engines;
 mod recoveries;
 
+use crate::checks::done;
+use crate::sweeps::sweeping::Files;
+use crashdisk::ModelDisk;
 use std::alloc::Global;
+use std::process::Abort;
 
 /// How many bytes are asked for where a call begins.
 const BEGIN: usize = 1_000_003;
@@ -23,4 +27,9 @@ fn begin(alloc: Global) {
 /// It has ended; whether it was refused memory.
 fn was_refused(alloc: Global) -> bool {
     Vec::<u8>::with_capacity(alloc, END).is_err()
+}
+
+/// The files of a disk.
+fn files_of<R: AllocGlobal + Abort>(rt: &R, disk: &ModelDisk) -> Files {
+    done(rt, Files::new(rt.alloc(), disk))
 }

@@ -1,5 +1,5 @@
 //! The frames of a log by their pages, and the fold of a log that is synced.
-use crate::checks::{add, disk_of, done, has_length, limits, page_size, present, put, same, sync};
+use crate::checks::{add, disk_of, done, has, has_length, limits, page_size, put, same, sync};
 use crashdisk::{Disk, File};
 use sqwal::{Hit, Order, Scan, Sum, WalHeader, frame_head};
 use std::process::Abort;
@@ -50,10 +50,7 @@ fn folds_a_synced_log(rt: HostRuntime) {
     sync(&rt, &mut disk, File::Log);
     let folded = fold_synced(alloc, &mut disk, page_size(&rt, 512));
     same(&rt, folded, Ok(Folded { frames: 1, size: 2 }));
-    let left = present(&rt, &disk, File::Db);
-    same(&rt, left.len(), 1024);
-    same(&rt, left.get(..512), Some([b'b'; 512].as_slice()));
-    same(&rt, left.get(512..), Some([b'a'; 512].as_slice()));
+    has(&rt, &disk, &[(b'b', 512), (b'a', 512)]);
     has_length(&rt, &mut disk, File::Log, 0);
     let again = fold_synced(alloc, &mut disk, page_size(&rt, 512));
     same(&rt, again, Ok(Folded { frames: 0, size: 0 }));

@@ -1,8 +1,9 @@
 //! Records, pages, and logs in pieces.
 use super::{begin, was_refused};
+use crate::asserts::same;
 use crate::logs::{header, log, push_record};
 use crate::sqcheck_tests::failing::{SOUND, sample};
-use sqcheck::check;
+use sqcheck::{Report, check};
 use sqjournal::Replay;
 use sqpage::{BtreePage, Cell, CheckError, Fault, SliceSource, freelist, payload};
 use sqval::{PageSize, RecordError, Value, encode};
@@ -20,10 +21,10 @@ fn a_record(rt: HostRuntime) -> Result<(), Fail> {
     begin(alloc);
     let answer = encode(&[Value::Null, Value::Text(&text)], &mut out);
     if was_refused(alloc) {
-        assert_eq!(rt; answer, Err(RecordError::NoMemory));
-        assert_eq!(rt; out.as_slice(), [7].as_slice());
+        same(&rt, answer, Err(RecordError::NoMemory));
+        same(&rt, out.as_slice(), [7].as_slice());
     } else {
-        assert_eq!(rt; answer, Ok(()));
+        same(&rt, answer, Ok(()));
         assert!(rt; out.starts_with(&[7, 4, 0, 0x8f, 0x5d]) && out.len() == 1005);
     }
     Ok(())
@@ -37,22 +38,34 @@ fn fault<T: Drop>(answer: Result<T, CheckError>) -> Option<Fault> {
     }
 }
 
+/// The pages of a file, if they are whole.
+fn pages(file: &[u8]) -> Option<SliceSource<'_>> {
+    match PageSize::new(512) {
+        Some(size) => SliceSource::new(file, size),
+        None => None,
+    }
+}
+
+/// What a check answers.
+fn checked(alloc: Global, pages: &mut SliceSource<'_>) -> Result<Report, CheckError> {
+    check(alloc, pages)
+}
+
 #[test]
 fn a_check(rt: HostRuntime) -> Result<(), Fail> {
     let alloc = rt.alloc();
     let file = sample(alloc)?;
-    let size = PageSize::new(512).ok_or("a page size")?;
-    let Some(mut pages) = SliceSource::new(&file, size) else {
+    let Some(mut pages) = pages(&file) else {
         return Err("whole pages".into());
     };
     begin(alloc);
-    let answer = check(alloc, &mut pages);
+    let answer = checked(alloc, &mut pages);
     if was_refused(alloc) {
-        assert_eq!(rt; fault(answer), Some(Fault::NoMemory));
+        same(&rt, fault(answer), Some(Fault::NoMemory));
     } else {
-        assert_eq!(rt; answer, Ok(SOUND));
+        same(&rt, answer, Ok(SOUND));
     }
-    assert_eq!(rt; check(alloc, &mut pages), Ok(SOUND));
+    same(&rt, checked(alloc, &mut pages), Ok(SOUND));
     Ok(())
 }
 
@@ -60,16 +73,15 @@ fn a_check(rt: HostRuntime) -> Result<(), Fail> {
 fn a_freelist(rt: HostRuntime) -> Result<(), Fail> {
     let alloc = rt.alloc();
     let file = sample(alloc)?;
-    let size = PageSize::new(512).ok_or("a page size")?;
-    let Some(mut pages) = SliceSource::new(&file, size) else {
+    let Some(mut pages) = pages(&file) else {
         return Err("whole pages".into());
     };
     begin(alloc);
     let answer = freelist(alloc, &mut pages);
     if was_refused(alloc) {
-        assert_eq!(rt; fault(answer), Some(Fault::NoMemory));
+        same(&rt, fault(answer), Some(Fault::NoMemory));
     } else {
-        assert_eq!(rt; answer?.as_slice(), [6, 7].as_slice());
+        same(&rt, answer?.as_slice(), [6, 7].as_slice());
     }
     Ok(())
 }
@@ -82,11 +94,12 @@ fn a_layout(rt: HostRuntime) -> Result<(), Fail> {
     let page = BtreePage::new(&bytes, 2, 512).map_err(|_| "refused")?;
     begin(alloc);
     let answer = page.layout(alloc);
-    if was_refused(alloc) {
-        assert_eq!(rt; answer, Err(Fault::NoMemory));
+    let wanted = if was_refused(alloc) {
+        Err(Fault::NoMemory)
     } else {
-        assert_eq!(rt; answer, Ok(()));
-    }
+        Ok(())
+    };
+    same(&rt, answer, wanted);
     Ok(())
 }
 
@@ -129,11 +142,12 @@ fn ask_for_payload(
     *file.get_mut(2051).ok_or("page 5")? = next;
     let mut out = [7].to_vec(alloc)?;
     let (found, is_refused) = append_payload(alloc, &file, &mut out)?;
-    if is_refused {
-        assert_eq!(rt; found, Some(Fault::NoMemory));
+    let wanted = if is_refused {
+        Some(Fault::NoMemory)
     } else {
-        assert_eq!(rt; found, wanted);
-    }
+        wanted
+    };
+    same(rt, found, wanted);
     let long = if found.is_none() { 601 } else { 1 };
     assert!(rt; out.starts_with(&[7]) && out.len() == long);
     Ok(())
@@ -152,27 +166,53 @@ fn a_payload_that_goes_on(rt: HostRuntime) -> Result<(), Fail> {
 /// Where the pieces of a log are cut: nowhere, in its header, and in its second frame.
 const CUTS: [usize; 3] = [0, 20, 700];
 
+/// A log that is cut here is fed in two pieces, of which the second may be refused memory.
+fn feed_log(rt: &impl Abort, alloc: Global, log: &[u8], cut: usize) -> Result<(), Fail> {
+    let (first, rest) = log.split_at_checked(cut).ok_or("short")?;
+    let mut scan = Scan::new(alloc);
+    scan.feed(first)?;
+    let before = (scan.header(), scan.committed(), scan.stop());
+    begin(alloc);
+    let answer = scan.feed(rest);
+    if was_refused(alloc) {
+        same(rt, answer, Err(WalFormatError::NoMemory));
+        let after = (scan.header(), scan.committed(), scan.stop());
+        same(rt, after, before);
+        scan.feed(rest)?;
+    } else {
+        same(rt, answer, Ok(()));
+    }
+    same(rt, (scan.committed().frames, scan.stop().frame), (3, 5));
+    Ok(())
+}
+
 #[test]
 fn a_piece_of_a_log(rt: HostRuntime) -> Result<(), Fail> {
     let alloc = rt.alloc();
     let log = log(alloc, &[(1, 0), (2, 2), (1, 2), (2, 0)])?;
     for cut in CUTS {
-        let (first, rest) = log.split_at_checked(cut).ok_or("short")?;
-        let mut scan = Scan::new(alloc);
-        scan.feed(first)?;
-        let before = (scan.header(), scan.committed(), scan.stop());
-        begin(alloc);
-        let answer = scan.feed(rest);
-        if was_refused(alloc) {
-            assert_eq!(rt; answer, Err(WalFormatError::NoMemory));
-            let after = (scan.header(), scan.committed(), scan.stop());
-            assert_eq!(rt; after, before);
-            scan.feed(rest)?;
-        } else {
-            assert_eq!(rt; answer, Ok(()));
-        }
-        assert_eq!(rt; (scan.committed().frames, scan.stop().frame), (3, 5));
+        feed_log(&rt, alloc, &log, cut)?;
     }
+    Ok(())
+}
+
+/// A journal that is cut here is fed in two pieces, of which the second may be refused memory.
+fn feed_journal(rt: &impl Abort, alloc: Global, log: &[u8], cut: usize) -> Result<(), Fail> {
+    let (first, rest) = log.split_at_checked(cut).ok_or("short")?;
+    let mut replay = Replay::new(alloc);
+    replay.feed(first)?;
+    let before = (replay.first(), replay.count(), replay.stop());
+    begin(alloc);
+    let answer = replay.feed(rest);
+    if was_refused(alloc) {
+        same(rt, answer.map_err(|error| error.number()), Err(4));
+        let after = (replay.first(), replay.count(), replay.stop());
+        same(rt, after, before);
+        replay.feed(rest)?;
+    } else {
+        assert!(rt; answer.is_ok());
+    }
+    same(rt, (replay.count(), replay.stop().at), (2, 2048));
     Ok(())
 }
 
@@ -183,21 +223,7 @@ fn a_piece_of_a_journal(rt: HostRuntime) -> Result<(), Fail> {
     push_record(&mut log, 1, b'x')?;
     push_record(&mut log, 2, b'y')?;
     for cut in CUTS {
-        let (first, rest) = log.split_at_checked(cut).ok_or("short")?;
-        let mut replay = Replay::new(alloc);
-        replay.feed(first)?;
-        let before = (replay.first(), replay.count(), replay.stop());
-        begin(alloc);
-        let answer = replay.feed(rest);
-        if was_refused(alloc) {
-            assert_eq!(rt; answer.map_err(|error| error.number()), Err(4));
-            let after = (replay.first(), replay.count(), replay.stop());
-            assert_eq!(rt; after, before);
-            replay.feed(rest)?;
-        } else {
-            assert!(rt; answer.is_ok());
-        }
-        assert_eq!(rt; (replay.count(), replay.stop().at), (2, 2048));
+        feed_journal(&rt, alloc, &log, cut)?;
     }
     Ok(())
 }
@@ -210,16 +236,17 @@ fn an_index(rt: HostRuntime) -> Result<(), Fail> {
     index.push(1);
     begin(alloc);
     let answer = index.grow(1000, 1000);
-    if was_refused(alloc) {
-        assert_eq!(rt; answer, Err(WalFormatError::NoMemory));
+    let wanted = if was_refused(alloc) {
+        Err(WalFormatError::NoMemory)
     } else {
-        assert_eq!(rt; answer, Ok(()));
-    }
-    assert_eq!(rt; index.find(1, 1), Hit { frame: 1, steps: 1 });
-    assert_eq!(rt; index.find(2, 1), Hit { frame: 0, steps: 0 });
+        Ok(())
+    };
+    same(&rt, answer, wanted);
+    same(&rt, index.find(1, 1), Hit { frame: 1, steps: 1 });
+    same(&rt, index.find(2, 1), Hit { frame: 0, steps: 0 });
     index.grow(1000, 1000)?;
     index.push(1000);
-    assert_eq!(rt; index.find(1000, 2), Hit { frame: 2, steps: 1 });
+    same(&rt, index.find(1000, 2), Hit { frame: 2, steps: 1 });
     Ok(())
 }
 
@@ -235,6 +262,6 @@ fn an_index_of_a_log(rt: HostRuntime) -> Result<(), Fail> {
     } else {
         Ok(Hit { frame: 2, steps: 1 })
     };
-    assert_eq!(rt; answer.map(|index| index.find(2, 2)), wanted);
+    same(&rt, answer.map(|index| index.find(2, 2)), wanted);
     Ok(())
 }

@@ -1,5 +1,6 @@
 //! The view of a file with its logs, and the verdict on it.
 use super::{begin, was_refused};
+use crate::asserts::same;
 use crate::logs::{header, log, push_record};
 use crate::sqcheck_tests::failing::{SOUND, sample};
 use sqpage::PageSource;
@@ -22,7 +23,7 @@ fn view(
     } else {
         Ok(count)
     };
-    assert_eq!(rt; answer.map(|view| view.count()), wanted);
+    same(rt, answer.map(|view| view.count()), wanted);
     Ok(())
 }
 
@@ -54,7 +55,7 @@ fn a_verdict(rt: HostRuntime) -> Result<(), Fail> {
     } else {
         Ok(Verdict::Clean(SOUND))
     };
-    assert_eq!(rt; answer, wanted);
+    same(&rt, answer, wanted);
     Ok(())
 }
 
@@ -70,6 +71,6 @@ fn a_verdict_on_a_view(rt: HostRuntime) -> Result<(), Fail> {
     } else {
         Ok(Verdict::Clean(SOUND))
     };
-    assert_eq!(rt; answer, wanted);
+    same(&rt, answer, wanted);
     Ok(())
 }

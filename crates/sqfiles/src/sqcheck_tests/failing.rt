@@ -1,5 +1,6 @@
 //! Sources that fail.
 use super::{ONE_CELL, ROW, file_of};
+use crate::asserts::same;
 use sqcheck::{Report, check};
 use sqpage::{CheckError, Fault, PageSource, SourceError};
 use sqval::PageSize;
@@ -55,25 +56,24 @@ impl<'a> PageSource for FailingSource<'a> {
     }
 }
 
-/// Seven pages: a schema's leaf that names the tree of pages 2 to 4, the last with a chain on page 5, and a trunk on
-/// page 6 with the leaf 7.
+/// A schema's leaf that names the tree of pages 2 to 4, the last with a chain on page 5, and a trunk on page 6 with the
+/// leaf 7.
+static PIECES: [(usize, &[u8]); 10] = [
+    (32, &[0, 0, 0, 6, 0, 0, 0, 2]),
+    (100, &ONE_CELL),
+    (503, &ROW),
+    (512, &[0x05, 0, 0, 0, 1, 1, 0xfb, 0, 0, 0, 0, 4, 1, 0xfb]),
+    (1019, &[0, 0, 0, 3, 5]),
+    (1024, &[0x0d, 0, 0, 0, 0, 2, 0]),
+    (1536, &[0x0d, 0, 0, 0, 1, 1, 0x9d, 0, 1, 0x9d]),
+    (1949, &[0x84, 0x58, 6]),
+    (2047, &[5]),
+    (2567, &[1, 0, 0, 0, 7]),
+];
+
+/// Seven pages with those pieces.
 pub(crate) fn sample(alloc: Global) -> Result<Vec<u8>, AllocError> {
-    let pieces = [
-        (32, [0, 0, 0, 6, 0, 0, 0, 2].as_slice()),
-        (100, ONE_CELL.as_slice()),
-        (503, ROW.as_slice()),
-        (
-            512,
-            [0x05, 0, 0, 0, 1, 1, 0xfb, 0, 0, 0, 0, 4, 1, 0xfb].as_slice(),
-        ),
-        (1019, [0, 0, 0, 3, 5].as_slice()),
-        (1024, [0x0d, 0, 0, 0, 0, 2, 0].as_slice()),
-        (1536, [0x0d, 0, 0, 0, 1, 1, 0x9d, 0, 1, 0x9d].as_slice()),
-        (1949, [0x84, 0x58, 6].as_slice()),
-        (2047, [5].as_slice()),
-        (2567, [1, 0, 0, 0, 7].as_slice()),
-    ];
-    file_of(alloc, 7, &pieces)
+    file_of(alloc, 7, &PIECES)
 }
 
 pub(crate) const SOUND: Report = Report {
@@ -118,11 +118,11 @@ fn each_page_fails_in_turn(rt: HostRuntime) -> Result<(), Fail> {
     let file = sample(rt.alloc())?;
     for page in 1..7 {
         let (answer, _) = checked(&rt, rt.alloc(), &file, page, u32::MAX);
-        assert_eq!(rt; answer, unread(page));
+        same(&rt, answer, unread(page));
     }
     // A leaf of the freelist isn't read.
     let (answer, _) = checked(&rt, rt.alloc(), &file, 7, u32::MAX);
-    assert_eq!(rt; answer, Ok(SOUND));
+    same(&rt, answer, Ok(SOUND));
     Ok(())
 }
 
@@ -132,11 +132,10 @@ fn each_read_fails_in_turn(rt: HostRuntime) -> Result<(), Fail> {
     // Page 1 is read as header, as page and for its rows, and the root's page for its kind too.
     let reads = [1, 6, 1, 1, 2, 2, 3, 4, 5];
     for (read, page) in reads.iter().enumerate() {
-        let (answer, asked) = checked(&rt, rt.alloc(), &file, 0, read as u32);
-        assert_eq!(rt; answer, unread(*page));
-        assert_eq!(rt; asked, *page);
+        let found = checked(&rt, rt.alloc(), &file, 0, read as u32);
+        same(&rt, found, (unread(*page), *page));
     }
     let (answer, _) = checked(&rt, rt.alloc(), &file, 0, reads.len() as u32);
-    assert_eq!(rt; answer, Ok(SOUND));
+    same(&rt, answer, Ok(SOUND));
     Ok(())
 }

@@ -1,7 +1,9 @@
 //! The lock-byte page.
+use crate::asserts::same;
 use sqcheck::{Report, check};
 use sqpage::{CheckError, Fault, PageSource, SourceError};
 use sqval::PageSize;
+use std::alloc::Global;
 use std::process::Abort;
 
 /// The page of 65536 bytes that holds byte 1,073,741,824.
@@ -73,15 +75,19 @@ impl PageSource for FreePages {
     }
 }
 
+/// What a check of the database answers, whose first trunk names this page first.
+fn checked(rt: &impl Abort, alloc: Global, first: u32) -> Result<Report, CheckError> {
+    let mut source = FreePages {
+        page_size: PageSize::new(65536).expect(rt, "a page size"),
+        count: LOCK + 1,
+        first,
+    };
+    check(alloc, &mut source)
+}
+
 /// Nothing names the lock-byte page, and it isn't unused; a trunk that names it names it a second time.
 #[test]
 fn is_set_aside(rt: HostRuntime) {
-    let page_size = PageSize::new(65536).expect(&rt, "a page size");
-    let mut source = FreePages {
-        page_size,
-        count: LOCK + 1,
-        first: 3,
-    };
     let report = Report {
         pages: LOCK + 1,
         trees: 1,
@@ -89,11 +95,10 @@ fn is_set_aside(rt: HostRuntime) {
         overflow: 0,
         free: LEAVES + 2,
     };
-    assert_eq!(rt; check(rt.alloc(), &mut source), Ok(report));
-    source.first = LOCK;
+    same(&rt, checked(&rt, rt.alloc(), 3), Ok(report));
     let twice = CheckError {
         page: LOCK,
         fault: Fault::PageTwice,
     };
-    assert_eq!(rt; check(rt.alloc(), &mut source), Err(twice));
+    same(&rt, checked(&rt, rt.alloc(), LOCK), Err(twice));
 }

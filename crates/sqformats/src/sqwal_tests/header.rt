@@ -1,6 +1,5 @@
-use sqval::PageSize;
+use crate::checks::{page_size, same};
 use sqwal::{Order, WalFormatError, WalHeader};
-use std::test::Fail;
 
 const BYTES: [u8; 32] = [
     0x37, 0x7f, 0x06, 0x83, 0x00, 0x2d, 0xe2, 0x18, 0x00, 0x00, 0x02, 0x00, 0x00, 0x00, 0x00, 0x00,
@@ -8,25 +7,24 @@ const BYTES: [u8; 32] = [
 ];
 
 #[test]
-fn writes_and_reads(rt: HostRuntime) -> Result<(), Fail> {
+fn writes_and_reads(rt: HostRuntime) {
     let header = WalHeader {
         order: Order::Big,
-        page_size: PageSize::new(512).ok_or("a page size")?,
+        page_size: page_size(&rt, 512),
         sequence: 0,
         salt1: 1,
         salt2: 2,
     };
     let mut bytes = [0; 32];
     header.write(&mut bytes);
-    assert_eq!(rt; bytes, BYTES);
-    assert_eq!(rt; WalHeader::read(&bytes), Ok(header));
-    Ok(())
+    same(&rt, bytes, BYTES);
+    same(&rt, WalHeader::read(&bytes), Ok(header));
 }
 
 #[test]
 fn refuses_a_wrong_sum(rt: HostRuntime) {
     let mut bytes = BYTES;
     bytes[31] = 0x92;
-    assert_eq!(rt; WalHeader::read(&bytes), Err(WalFormatError::HeaderSum));
-    assert_eq!(rt; WalFormatError::HeaderSum.number(), 3);
+    same(&rt, WalHeader::read(&bytes), Err(WalFormatError::HeaderSum));
+    same(&rt, WalFormatError::HeaderSum.number(), 3);
 }

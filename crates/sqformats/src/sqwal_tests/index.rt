@@ -1,17 +1,26 @@
+use crate::checks::{done, same};
 use sqwal::{FrameIndex, Hit};
-use std::test::Fail;
+
+/// The last frame of a page at a mark, and the steps to it.
+fn find(index: &FrameIndex, page: u32, mark: u32) -> (u32, u32) {
+    let Hit { frame, steps } = index.find(page, mark);
+    (frame, steps)
+}
 
 #[test]
-fn finds_frames(rt: HostRuntime) -> Result<(), Fail> {
+fn finds_frames(rt: HostRuntime) {
     let mut index = FrameIndex::new(rt.alloc());
-    index.grow(1, 3)?;
-    index.push(1);
-    index.push(1);
-    index.push(1);
-    assert_eq!(rt; index.find(1, 1), Hit { frame: 1, steps: 3 });
-    assert_eq!(rt; index.find(1, 3), Hit { frame: 3, steps: 1 });
-    assert_eq!(rt; index.find(2, 3), Hit { frame: 0, steps: 0 });
+    match index.grow(1, 3) {
+        Ok(()) => {
+            index.push(1);
+            index.push(1);
+            index.push(1);
+        }
+        Err(error) => done(&rt, Err(error)),
+    }
+    same(&rt, find(&index, 1, 1), (1, 3));
+    same(&rt, find(&index, 1, 3), (3, 1));
+    same(&rt, find(&index, 2, 3), (0, 0));
     index.clear();
-    assert_eq!(rt; index.find(1, 3), Hit { frame: 0, steps: 0 });
-    Ok(())
+    same(&rt, find(&index, 1, 3), (0, 0));
 }

@@ -1,9 +1,7 @@
-ghost use Rattle.std.specs.Prelude.{◌≤◌};
-
-use sqval::{Limits, PageSize};
+use crate::checks::{add, done, page_size, same};
+use sqval::Limits;
 use sqwal::{Entry, Front, Order, Scan, Stop, Sum, WalFormatError, WalHeader, Why, frame_head};
-use std::alloc::Global;
-use std::test::Fail;
+use std::process::Abort;
 
 const HEADER_LENGTH: usize = 32;
 
@@ -14,36 +12,33 @@ const HEADER: [u8; 32] = [
 ];
 
 /// A log under that header whose frames name these pages and sizes.
-fn log(alloc: Global, frames: &[(u32, u32)]) -> Result<Vec<u8>, Fail> {
-    let page_size = PageSize::new(512).ok_or("no page size")?;
+fn log<R: AllocGlobal + Abort>(rt: &R, frames: &[(u32, u32)]) -> Vec<u8> {
     let header = WalHeader {
         order: Order::Big,
-        page_size,
+        page_size: page_size(rt, 512),
         sequence: 0,
         salt1: 1,
         salt2: 2,
     };
     let content = [7u8; 512];
     let mut sum = Sum::zero().add(&HEADER[..24], Order::Big);
-    let mut log = Vec::from_slice(alloc, &HEADER)?;
+    let mut log = done(rt, HEADER.to_vec(rt.alloc()));
     for (page, size) in frames {
         let (head, after) = frame_head(&header, sum, *page, *size, &content);
-        log.extend_from_slice(&head)?;
-        log.extend_from_slice(&content)?;
+        add(rt, &mut log, &head);
+        add(rt, &mut log, &content);
         sum = after;
     }
-    Ok(log)
+    log
 }
 
 /// The scan of a log in pieces of this length.
-fn scan(alloc: Global, log: &[u8], length: usize) -> Result<Scan, Fail>
-    requires { 1 ≤ length }
-{
-    let mut scan = Scan::new(alloc);
-    for piece in log.chunks(length) {
-        scan.feed(piece)?;
+fn scan<R: AllocGlobal + Abort>(rt: &R, log: &[u8], length: usize) -> Scan {
+    let mut scan = Scan::new(rt.alloc());
+    for piece in log.chunks(length.max(1)) {
+        done(rt, scan.feed(piece));
     }
-    Ok(scan)
+    scan
 }
 
 fn front(frames: u32, size: u32, end: u64) -> Front {
@@ -54,92 +49,88 @@ fn stop(frame: u32, why: Why) -> Stop {
     Stop { frame, why }
 }
 
-#[test]
-fn begins_at_the_header(rt: HostRuntime) -> Result<(), Fail> {
-    let mut scan = Scan::new(rt.alloc());
-    assert_eq!(rt;
-        (scan.committed(), scan.stop()),
-        (front(0, 0, 0), stop(0, Why::End))
-    );
-    scan.feed(&HEADER[..31])?;
-    assert_eq!(rt;
-        (scan.committed(), scan.stop()),
-        (front(0, 0, 0), stop(0, Why::Cut))
-    );
-    assert_eq!(rt; scan.header(), None);
-    assert_eq!(rt; scan.feed(&[0x94]), Err(WalFormatError::HeaderSum));
-    assert_eq!(rt;
-        (scan.committed(), scan.stop()),
-        (front(0, 0, 0), stop(0, Why::Cut))
-    );
-    scan.feed(&[0x93])?;
-    assert_eq!(rt;
-        (scan.committed(), scan.stop()),
-        (front(0, 0, 32), stop(1, Why::End))
-    );
-    assert_eq!(rt;
-        scan.header().map(|header| (header.salt1, header.salt2)),
-        Some((1, 2))
-    );
-    Ok(())
+/// A scan is to have come so far, and to stop so.
+fn is_at<R: Abort>(rt: &R, scan: &Scan, front: Front, stop: Stop) {
+    same(rt, (scan.committed(), scan.stop()), (front, stop));
+}
+
+/// The salts that a scan has read.
+fn salts_of(scan: &Scan) -> Option<(u32, u32)> {
+    match scan.header() {
+        Some(header) => Some((header.salt1, header.salt2)),
+        None => None,
+    }
 }
 
 #[test]
-fn ends_at_the_last_commit(rt: HostRuntime) -> Result<(), Fail> {
-    let log = log(rt.alloc(), &[(1, 5), (3, 0)])?;
+fn begins_at_the_header(rt: HostRuntime) {
+    let mut scan = Scan::new(rt.alloc());
+    is_at(&rt, &scan, front(0, 0, 0), stop(0, Why::End));
+    done(&rt, scan.feed(&HEADER[..31]));
+    is_at(&rt, &scan, front(0, 0, 0), stop(0, Why::Cut));
+    same(&rt, salts_of(&scan), None);
+    same(&rt, scan.feed(&[0x94]), Err(WalFormatError::HeaderSum));
+    is_at(&rt, &scan, front(0, 0, 0), stop(0, Why::Cut));
+    done(&rt, scan.feed(&[0x93]));
+    is_at(&rt, &scan, front(0, 0, 32), stop(1, Why::End));
+    same(&rt, salts_of(&scan), Some((1, 2)));
+}
+
+/// A scan is to have these entries.
+fn has_entries<R: Abort>(rt: &R, scan: &Scan, entries: &[Entry]) {
+    same(rt, scan.entries(), entries);
+    same(rt, scan.entry(0), None);
+    for (i, entry) in entries.iter().enumerate() {
+        same(rt, scan.entry(i.saturating_add(1)), Some(*entry));
+    }
+    same(rt, scan.entry(entries.len().saturating_add(1)), None);
+}
+
+#[test]
+fn ends_at_the_last_commit(rt: HostRuntime) {
+    let log = log(&rt, &[(1, 5), (3, 0)]);
+    let entries = [Entry { page: 1, size: 5 }, Entry { page: 3, size: 0 }];
     let cut = log.len().saturating_sub(1);
     for length in [1, 64, 4096] {
-        let whole = scan(rt.alloc(), &log, length)?;
-        assert_eq!(rt;
-            (whole.committed(), whole.stop()),
-            (front(1, 5, 568), stop(3, Why::End))
-        );
-        assert_eq!(rt; whole.entry(0), None);
-        assert_eq!(rt; whole.entry(1), Some(Entry { page: 1, size: 5 }));
-        assert_eq!(rt; whole.entry(2), Some(Entry { page: 3, size: 0 }));
-        assert_eq!(rt; whole.entry(3), None);
-        assert_eq!(rt; whole.entries().len(), 2);
-        let short = scan(rt.alloc(), &log[..cut], length)?;
-        assert_eq!(rt;
-            (short.committed(), short.stop()),
-            (front(1, 5, 568), stop(2, Why::Cut))
-        );
+        let whole = scan(&rt, &log, length);
+        is_at(&rt, &whole, front(1, 5, 568), stop(3, Why::End));
+        has_entries(&rt, &whole, &entries);
+        let short = scan(&rt, &log[..cut], length);
+        is_at(&rt, &short, front(1, 5, 568), stop(2, Why::Cut));
     }
-    Ok(())
+}
+
+/// A log in which one bit of a byte is turned.
+fn turned<R: AllocGlobal + Abort>(rt: &R, log: &[u8], place: usize) -> Vec<u8> {
+    let mut log = done(rt, log.to_vec(rt.alloc()));
+    match log.get_mut(place) {
+        Some(byte) => *byte ^= 1,
+        None => panic!(rt; "no such place: {place}"),
+    }
+    log
 }
 
 #[test]
-fn stops_at_a_frame_that_is_not_valid(rt: HostRuntime) -> Result<(), Fail> {
-    let sound = log(rt.alloc(), &[(1, 1), (1, 1), (1, 1)])?;
+fn stops_at_a_frame_that_is_not_valid(rt: HostRuntime) {
+    let sound = log(&rt, &[(1, 1), (1, 1), (1, 1)]);
     for (place, why) in [
         (576, Why::Salt),
         (580, Why::Salt),
         (584, Why::Sum),
         (600, Why::Sum),
     ] {
-        let mut log = Vec::from_slice(rt.alloc(), &sound)?;
-        *log.get_mut(place).ok_or("no such place")? ^= 1;
-        let scan = scan(rt.alloc(), &log, 7)?;
-        assert_eq!(rt;
-            (scan.committed(), scan.stop()),
-            (front(1, 1, 568), stop(2, why))
-        );
+        let scan = scan(&rt, &turned(&rt, &sound, place), 7);
+        is_at(&rt, &scan, front(1, 1, 568), stop(2, why));
     }
-    let log = log(rt.alloc(), &[(1, 1), (0, 1), (1, 1)])?;
-    let scan = scan(rt.alloc(), &log, 1024)?;
-    assert_eq!(rt;
-        (scan.committed(), scan.stop()),
-        (front(1, 1, 568), stop(2, Why::PageZero))
-    );
-    Ok(())
+    let scan = scan(&rt, &log(&rt, &[(1, 1), (0, 1), (1, 1)]), 1024);
+    is_at(&rt, &scan, front(1, 1, 568), stop(2, Why::PageZero));
 }
 
 #[test]
-fn lists_the_commits(rt: HostRuntime) -> Result<(), Fail> {
-    let log = log(rt.alloc(), &[(1, 0), (2, 2), (1, 2), (2, 0)])?;
-    let scan = scan(rt.alloc(), &log, 1024)?;
-    assert_eq!(rt; scan.commits(rt.alloc())?.as_slice(), [2u32, 3].as_slice());
-    Ok(())
+fn lists_the_commits(rt: HostRuntime) {
+    let log = log(&rt, &[(1, 0), (2, 2), (1, 2), (2, 0)]);
+    let commits = done(&rt, scan(&rt, &log, 1024).commits(rt.alloc()));
+    same(&rt, commits.as_slice(), [2u32, 3].as_slice());
 }
 
 /// The front and the stop of a log of commit frames that is cut at this length.
@@ -158,45 +149,52 @@ fn cut_at(length: usize) -> (u32, Stop) {
     (frames, stop(frames.saturating_add(1), why))
 }
 
+/// A scan of so many bytes of that log is to have come so far.
+fn is_cut<R: Abort>(rt: &R, scan: &Scan, length: usize) {
+    let found = (scan.committed().frames, scan.stop());
+    assert_eq!(rt; found, cut_at(length), "at {length}");
+}
+
 #[test]
-fn reads_a_log_cut_at_any_length(rt: HostRuntime) -> Result<(), Fail> {
-    let log = log(rt.alloc(), &[(1, 1), (1, 1), (1, 1)])?;
-    assert_eq!(rt; log.len(), 1640);
-    for length in 0..=1640 {
-        let cut = scan(rt.alloc(), log.get(..length).ok_or("too long")?, 4096)?;
-        assert_eq!(rt;
-            (cut.committed().frames, cut.stop()),
-            cut_at(length),
-            "at {length}"
-        );
+fn reads_a_log_cut_at_any_length(rt: HostRuntime) {
+    let log = log(&rt, &[(1, 1), (1, 1), (1, 1)]);
+    same(&rt, log.len(), 1640);
+    for length in 0..=log.len() {
+        is_cut(&rt, &scan(&rt, &log[..length], 4096), length);
     }
     for step in [1, 7] {
         let mut growing = Scan::new(rt.alloc());
         for (i, piece) in log.chunks(step).enumerate() {
-            growing.feed(piece)?;
+            done(&rt, growing.feed(piece));
             let length = i.saturating_mul(step).saturating_add(piece.len());
-            assert_eq!(rt;
-                (growing.committed().frames, growing.stop()),
-                cut_at(length),
-                "at {length}"
-            );
+            is_cut(&rt, &growing, length);
         }
     }
-    Ok(())
+}
+
+/// What a scan of so many frames at most answers to a log, and how many are committed then.
+fn scan_within<R: AllocGlobal + Abort>(
+    rt: &R,
+    limits: Limits,
+    log: &[u8],
+) -> (Result<(), WalFormatError>, u32) {
+    let mut scan = Scan::within(rt.alloc(), limits);
+    let answer = scan.feed(log);
+    (answer, scan.committed().frames)
 }
 
 // A scan of two frames at most takes two, and refuses three.
 #[test]
-fn a_limit_of_frames(rt: HostRuntime) -> Result<(), Fail> {
-    let alloc = rt.alloc();
-    let limits = Limits::new(512, 2).ok_or("limits")?;
-    assert_eq!(rt; (limits.bytes(), limits.frames()), (512, 2));
-    let mut few = Scan::within(alloc, limits);
-    few.feed(&log(alloc, &[(1, 0), (2, 2)])?)?;
-    assert_eq!(rt; few.committed().frames, 2);
-    let mut many = Scan::within(alloc, limits);
-    let answer = many.feed(&log(alloc, &[(1, 0), (2, 2), (3, 3)])?);
-    assert_eq!(rt; answer, Err(WalFormatError::TooLong));
-    assert_eq!(rt; Limits::new(0, u32::MAX), None);
-    Ok(())
+fn a_limit_of_frames(rt: HostRuntime) {
+    match Limits::new(512, 2) {
+        Some(limits) => {
+            same(&rt, (limits.bytes(), limits.frames()), (512, 2));
+            let few = scan_within(&rt, limits, &log(&rt, &[(1, 0), (2, 2)]));
+            same(&rt, few, (Ok(()), 2));
+            let many = scan_within(&rt, limits, &log(&rt, &[(1, 0), (2, 2), (3, 3)]));
+            same(&rt, many.0, Err(WalFormatError::TooLong));
+        }
+        None => panic!(&rt; "no limits"),
+    }
+    same(&rt, Limits::new(0, u32::MAX), None);
 }

@@ -1,25 +1,19 @@
+use crate::checks::same;
 use sqwal::{Order, Sum};
+
+/// A sum by its two words.
+const fn sum(s0: u32, s1: u32) -> Sum {
+    Sum { s0, s1 }
+}
 
 #[test]
 fn sums_of_words(rt: HostRuntime) {
     let bytes = [0, 0, 0, 1, 0, 0, 0, 2, 0, 0, 0, 3, 0, 0, 0, 4];
-    assert_eq!(rt; Sum::zero().add(&bytes, Order::Big), Sum { s0: 7, s1: 14 });
-    let little = Sum::zero().add(&bytes, Order::Little);
-    assert_eq!(rt;
-        little,
-        Sum {
-            s0: 0x07000000,
-            s1: 0x0e000000
-        }
-    );
+    let little = sum(0x07000000, 0x0e000000);
+    same(&rt, Sum::zero().add(&bytes, Order::Big), sum(7, 14));
+    same(&rt, Sum::zero().add(&bytes, Order::Little), little);
     let wrapping = [255, 255, 255, 255, 0, 0, 0, 1];
-    let sum = Sum::zero().add(&wrapping, Order::Big);
-    assert_eq!(rt;
-        sum,
-        Sum {
-            s0: 0xffffffff,
-            s1: 0
-        }
-    );
-    assert_eq!(rt; Sum::zero().add(&[], Order::Big), Sum { s0: 0, s1: 0 });
+    let wrapped = Sum::zero().add(&wrapping, Order::Big);
+    same(&rt, wrapped, sum(0xffffffff, 0));
+    same(&rt, Sum::zero().add(&[], Order::Big), sum(0, 0));
 }

@@ -1,35 +1,54 @@
 //! What commits over 65 pages `A` leave in the journal: a segment of 64 records, and one of a single record.
 use super::opened;
+use crate::asserts::same;
 use crate::world_tests::filled;
-use crashdisk::{File, ModelDisk};
-use rollcore::RollError;
+use crashdisk::{DiskError, File, ModelDisk};
+use rollcore::{Roll, RollError};
 use sqjournal::{Record, Replay, Stop, Why};
 use std::alloc::Global;
+use std::process::Abort;
 use std::test::Fail;
 
-/// The answer to a commit of so many pages `B`, which are all of the database then, over 65 pages `A`, on a disk that
-/// stops at a sync of this number, if there is one, and the journal and the database that are there then.
+/// A commit of these pages, after which the database has so many, on a disk that stops at a sync of this number, if
+/// there is one.
+fn commit(
+    mut roll: Roll<ModelDisk>,
+    pages: &[(u32, &[u8])],
+    size: u32,
+    stop: Option<u64>,
+) -> (Result<(), RollError>, ModelDisk) {
+    if let Some(sync) = stop {
+        roll.disk().stop_at_sync(sync);
+    }
+    let answer = roll.commit(pages, size, &[1, 2]);
+    (answer, roll.into_disk())
+}
+
+/// The bytes of a file that are there now.
+fn present(alloc: Global, disk: &mut ModelDisk, file: File) -> Result<Vec<u8>, DiskError> {
+    let mut bytes = Vec::new(alloc);
+    disk.present(file, &mut bytes)?;
+    Ok(bytes)
+}
+
+/// The answer to a commit of so many pages `B`, which are all of the database then, over 65 pages `A`, and the disk
+/// then.
 fn committed(
     alloc: Global,
     count: u32,
     stop: Option<u64>,
-) -> Result<(Result<(), RollError>, Vec<u8>, Vec<u8>), Fail> {
-    let mut log = Vec::new(alloc);
-    let mut db = Vec::new(alloc);
+) -> Result<(Result<(), RollError>, ModelDisk), Fail> {
     let mut pages: Vec<(u32, &[u8])> = Vec::new(alloc);
     for page in 1..=count {
         pages.push((page, &[b'B'; 512]))?;
     }
     let disk = ModelDisk::new(alloc, 512, filled(alloc, 65 * 512, b'A')?)?;
-    let mut roll = opened(alloc, disk)?;
-    if let Some(sync) = stop {
-        roll.disk().stop_at_sync(sync);
-    }
-    let answer = roll.commit(&pages, count, &[1, 2]);
-    let disk = roll.into_disk();
-    disk.present(File::Log, &mut log)?;
-    disk.present(File::Db, &mut db)?;
-    Ok((answer, log, db))
+    Ok(commit(opened(alloc, disk)?, &pages, count, stop))
+}
+
+/// Whether these are so many bytes, each this one.
+fn is_filled(bytes: &[u8], count: usize, byte: u8) -> bool {
+    bytes.len() == count && bytes.iter().all(|found| *found == byte)
 }
 
 // The first segment takes the header's sector and 64 records, up to 33792; the second one ends at 34824.
@@ -37,11 +56,13 @@ fn committed(
 fn a_commit_that_is_done(rt: HostRuntime) -> Result<(), Fail> {
     let alloc = rt.alloc();
     for (count, long) in [(1, 512), (65, 33280)] {
-        let (answer, log, db) = committed(alloc, count, None)?;
-        assert_eq!(rt; answer, Ok(()));
-        assert_eq!(rt; log.len(), 34824);
+        let (answer, mut disk) = committed(alloc, count, None)?;
+        same(&rt, answer, Ok(()));
+        let log = present(alloc, &mut disk, File::Log)?;
+        same(&rt, log.len(), 34824);
         assert!(rt; log.iter().take(28).all(|byte| *byte == 0));
-        assert!(rt; db.len() == long && db.iter().all(|byte| *byte == b'B'));
+        let db = present(alloc, &mut disk, File::Db)?;
+        assert!(rt; is_filled(&db, long, b'B'));
     }
     Ok(())
 }
@@ -65,6 +86,18 @@ const RECORDS: [(usize, Record); 3] = [
     ),
 ];
 
+/// What a replay of the journal finds: how many records there are, and where they end.
+fn replayed(rt: &impl Abort, alloc: Global, log: &[u8]) -> Result<(usize, Stop), Fail> {
+    let mut replay = Replay::new(alloc);
+    replay.feed(log)?;
+    for (i, record) in RECORDS {
+        same(rt, replay.entry(i), Some(record));
+        let page = log.iter().skip(record.at as usize).take(512);
+        assert!(rt; page.eq([b'A'; 512].iter()));
+    }
+    Ok((replay.count(), replay.stop()))
+}
+
 // The fifth sync is that of the database, once both segments are down.
 #[test]
 fn its_journal_before_the_end(rt: HostRuntime) -> Result<(), Fail> {
@@ -74,17 +107,10 @@ fn its_journal_before_the_end(rt: HostRuntime) -> Result<(), Fail> {
         why: Why::End,
     };
     for count in [1, 65] {
-        let (answer, log, _) = committed(alloc, count, Some(5))?;
-        assert_eq!(rt; answer.map_err(|error| error.number()), Err(15));
-        let mut replay = Replay::new(alloc);
-        replay.feed(&log)?;
-        assert_eq!(rt; replay.count(), 65);
-        for (i, record) in RECORDS {
-            assert_eq!(rt; replay.entry(i), Some(record));
-            let page = log.iter().skip(record.at as usize).take(512);
-            assert!(rt; page.eq([b'A'; 512].iter()));
-        }
-        assert_eq!(rt; replay.stop(), end);
+        let (answer, mut disk) = committed(alloc, count, Some(5))?;
+        same(&rt, answer.map_err(|error| error.number()), Err(15));
+        let log = present(alloc, &mut disk, File::Log)?;
+        same(&rt, replayed(&rt, alloc, &log)?, (65, end));
     }
     Ok(())
 }

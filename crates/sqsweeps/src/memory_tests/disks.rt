@@ -1,11 +1,11 @@
 //! The modelled disk. A call that is refused memory changes nothing.
-use super::{begin, was_refused};
+use super::{begin, files_of, was_refused};
+use crate::checks::{done, holds, same};
 use crate::sweeps::driving::disk_of;
 use crate::sweeps::sweeping::Files;
 use crashdisk::{Disk, DiskError, File, ModelDisk, Part};
 use std::alloc::Global;
 use std::process::Abort;
-use std::test::Fail;
 
 /// A call that changes a file.
 #[derive(Clone, Copy)]
@@ -24,118 +24,144 @@ fn carry_out(disk: &mut ModelDisk, change: Change) -> Result<(), DiskError> {
 }
 
 /// A disk with 600 bytes in either file, which are down.
-fn disk(alloc: Global, tears: bool) -> Result<ModelDisk, Fail> {
-    Ok(disk_of(alloc, tears, &[b'A'; 600], &[b'L'; 600])?)
+fn disk<R: AllocGlobal + Abort>(rt: &R, tears: bool) -> ModelDisk {
+    done(rt, disk_of(rt.alloc(), tears, &[b'A'; 600], &[b'L'; 600]))
+}
+
+/// Whether a disk has a second choice.
+fn has_choice(disk: &ModelDisk) -> Result<bool, DiskError> {
+    match disk.choice(1) {
+        Ok(choice) => Ok(choice.is_some()),
+        Err(error) => Err(error),
+    }
+}
+
+/// How many writes of the log a disk has been handed.
+fn handed(disk: &ModelDisk) -> usize {
+    let (_, handed) = disk.since();
+    handed.len()
+}
+
+/// A disk is to be as it was before a call that it refused.
+fn is_unchanged<R: AllocGlobal + Abort>(rt: &R, disk: &ModelDisk, before: &Files) {
+    same(rt, (disk.refused(), handed(disk)), (1, 0));
+    same(rt, has_choice(disk), Ok(false));
+    holds(rt, files_of(rt, disk) == *before);
 }
 
 /// Carries a change out, or lets it fail and leave everything new, with this answer where it is refused no memory.
-fn make_change(
-    rt: &impl Abort,
-    alloc: Global,
-    disk: ModelDisk,
+fn make_change<R: AllocGlobal + Abort>(
+    rt: &R,
+    disk: &mut ModelDisk,
     change: Change,
     wanted: Result<(), DiskError>,
-) -> Result<(), Fail> {
-    let mut disk = disk;
-    let before = Files::new(alloc, &disk)?;
-    begin(alloc);
-    let answer = carry_out(&mut disk, change);
-    if was_refused(alloc) {
-        assert_eq!(rt; (answer, disk.refused()), (Err(DiskError::NoMemory), 1));
-        assert!(rt; Files::new(alloc, &disk)? == before);
-        let (_, handed) = disk.since();
-        assert!(rt; handed.is_empty() && disk.choice(1)?.is_none());
+) {
+    let before = files_of(rt, disk);
+    begin(rt.alloc());
+    let answer = carry_out(disk, change);
+    if was_refused(rt.alloc()) {
+        same(rt, answer, Err(DiskError::NoMemory));
+        is_unchanged(rt, disk, &before);
     } else {
-        assert_eq!(rt; answer, wanted);
-        assert!(rt; Files::new(alloc, &disk)? != before);
+        same(rt, answer, wanted);
+        holds(rt, files_of(rt, disk) != before);
     }
-    Ok(())
 }
 
 #[test]
-fn a_change(rt: HostRuntime) -> Result<(), Fail> {
-    let alloc = rt.alloc();
+fn a_change(rt: HostRuntime) {
     for tears in [false, true] {
         for file in [File::Db, File::Log] {
-            make_change(&rt, alloc, disk(alloc, tears)?, Change::Write(file), Ok(()))?;
-            make_change(&rt, alloc, disk(alloc, tears)?, Change::Cut(file), Ok(()))?;
-        }
-    }
-    Ok(())
-}
-
-#[test]
-fn a_change_that_fails(rt: HostRuntime) -> Result<(), Fail> {
-    let alloc = rt.alloc();
-    for tears in [false, true] {
-        for file in [File::Db, File::Log] {
-            for change_of in [Change::Write(file), Change::Cut(file)] {
-                let part = Part {
-                    pick: [1u32; 3].to_vec(alloc)?,
-                    new_len: true,
-                };
-                let mut failing = disk(alloc, tears)?;
-                failing.fail(1, part);
-                let failed = Err(DiskError::Failed);
-                make_change(&rt, alloc, failing, change_of, failed)?;
+            for change in [Change::Write(file), Change::Cut(file)] {
+                make_change(&rt, &mut disk(&rt, tears), change, Ok(()));
             }
         }
     }
-    Ok(())
+}
+
+/// A disk whose next call fails and leaves everything new.
+fn failing<R: AllocGlobal + Abort>(rt: &R, tears: bool) -> ModelDisk {
+    let part = Part {
+        pick: done(rt, [1u32; 3].to_vec(rt.alloc())),
+        new_len: true,
+    };
+    let mut disk = disk(rt, tears);
+    disk.fail(1, part);
+    disk
 }
 
 #[test]
-fn a_new_disk(rt: HostRuntime) -> Result<(), Fail> {
-    let alloc = rt.alloc();
+fn a_change_that_fails(rt: HostRuntime) {
+    let failed = Err(DiskError::Failed);
     for tears in [false, true] {
-        let bytes = [b'A'; 600].to_vec(alloc)?;
-        begin(alloc);
-        let made = if tears {
-            ModelDisk::tearing(alloc, 512, bytes)
-        } else {
-            ModelDisk::new(alloc, 512, bytes)
-        };
-        let wanted = if was_refused(alloc) {
+        for file in [File::Db, File::Log] {
+            for change in [Change::Write(file), Change::Cut(file)] {
+                make_change(&rt, &mut failing(&rt, tears), change, failed);
+            }
+        }
+    }
+}
+
+/// How many calls a new disk has refused.
+fn new_refused(alloc: Global, tears: bool, bytes: Vec<u8>) -> Result<u64, DiskError> {
+    let made = if tears {
+        ModelDisk::tearing(alloc, 512, bytes)
+    } else {
+        ModelDisk::new(alloc, 512, bytes)
+    };
+    match made {
+        Ok(disk) => Ok(disk.refused()),
+        Err(error) => Err(error),
+    }
+}
+
+#[test]
+fn a_new_disk(rt: HostRuntime) {
+    for tears in [false, true] {
+        let bytes = done(&rt, [b'A'; 600].to_vec(rt.alloc()));
+        begin(rt.alloc());
+        let answer = new_refused(rt.alloc(), tears, bytes);
+        let wanted = if was_refused(rt.alloc()) {
             Err(DiskError::NoMemory)
         } else {
             Ok(0)
         };
-        assert_eq!(rt; made.map(|disk| disk.refused()), wanted);
+        same(&rt, answer, wanted);
     }
-    Ok(())
+}
+
+/// Adds the present bytes of the log to others.
+fn add_log(disk: &ModelDisk, out: &mut Vec<u8>) -> Result<(), DiskError> {
+    disk.present(File::Log, out)
 }
 
 #[test]
-fn present_bytes(rt: HostRuntime) -> Result<(), Fail> {
-    let alloc = rt.alloc();
-    let disk = disk(alloc, false)?;
-    let mut out = [7].to_vec(alloc)?;
-    begin(alloc);
-    let answer = disk.present(File::Log, &mut out);
-    if was_refused(alloc) {
-        assert_eq!(rt; answer, Err(DiskError::NoMemory));
-        assert_eq!(rt; out.as_slice(), [7].as_slice());
+fn present_bytes(rt: HostRuntime) {
+    let disk = disk(&rt, false);
+    let mut out = done(&rt, [7].to_vec(rt.alloc()));
+    begin(rt.alloc());
+    let answer = add_log(&disk, &mut out);
+    let wanted = if was_refused(rt.alloc()) {
+        (Err(DiskError::NoMemory), 1)
     } else {
-        assert_eq!(rt; answer, Ok(()));
-        assert_eq!(rt; out.len(), 601);
-    }
-    assert_eq!(rt; disk.refused(), 0);
-    Ok(())
+        (Ok(()), 601)
+    };
+    same(&rt, (answer, out.len()), wanted);
+    same(&rt, out.first(), Some(&7));
+    same(&rt, disk.refused(), 0);
 }
 
 #[test]
-fn a_choice(rt: HostRuntime) -> Result<(), Fail> {
-    let alloc = rt.alloc();
-    let mut disk = disk(alloc, false)?;
-    carry_out(&mut disk, Change::Write(File::Log))?;
-    begin(alloc);
-    let answer = disk.choice(1);
-    let wanted = if was_refused(alloc) {
+fn a_choice(rt: HostRuntime) {
+    let mut disk = disk(&rt, false);
+    done(&rt, carry_out(&mut disk, Change::Write(File::Log)));
+    begin(rt.alloc());
+    let answer = has_choice(&disk);
+    let wanted = if was_refused(rt.alloc()) {
         Err(DiskError::NoMemory)
     } else {
         Ok(true)
     };
-    assert_eq!(rt; answer.map(|choice| choice.is_some()), wanted);
-    assert_eq!(rt; disk.refused(), 0);
-    Ok(())
+    same(&rt, answer, wanted);
+    same(&rt, disk.refused(), 0);
 }

@@ -6,11 +6,12 @@ use super::lying::{ASKS_TOO_MUCH, CUTS_ALONE, FAILS_ALONE, Lying, SYNCS_NOTHING,
 use super::pages::{numbered, page_of};
 use super::playing::Script;
 use super::sweeping::sweep;
+use crate::checks::same;
 use crashdisk::{Disk, ModelDisk};
 use rollcore::{Refused, Roll, RollError};
 use sqval::PageSize;
 use std::alloc::Global;
-use std::test::Fail;
+use std::process::Abort;
 
 fn outcome(answer: Result<(), RollError>) -> Answer {
     match answer {
@@ -124,15 +125,15 @@ fn sweep_calls<D: OverModel>(
 }
 
 /// Over three pages.
-fn sweep_sizes(alloc: Global, tears: bool, swept: &[usize]) -> Result<(), Fail> {
-    sweep_calls::<ModelDisk>(alloc, tears, *b"AAA\0\0", &SIZES, swept)?;
-    Ok(())
+fn sweep_sizes<R: AllocGlobal + Abort>(rt: &R, tears: bool, swept: &[usize]) {
+    let found = sweep_calls::<ModelDisk>(rt.alloc(), tears, *b"AAA\0\0", &SIZES, swept);
+    same(rt, found, Ok(()));
 }
 
 /// Over four pages with a header in what a journal keeps of them.
-fn sweep_stale(alloc: Global, tears: bool) -> Result<(), Fail> {
-    sweep_calls::<ModelDisk>(alloc, tears, *b"A234\0", &STALE, &[1, 2])?;
-    Ok(())
+fn sweep_stale<R: AllocGlobal + Abort>(rt: &R, tears: bool) {
+    let found = sweep_calls::<ModelDisk>(rt.alloc(), tears, *b"A234\0", &STALE, &[1, 2]);
+    same(rt, found, Ok(()));
 }
 
 /// What the sweep of the first commit finds over three pages and a disk that lies.
@@ -141,33 +142,33 @@ fn lie_found<const LIE: u8>(alloc: Global, tears: bool) -> Result<(), Wrong> {
 }
 
 #[test]
-fn a_shorter_database(rt: HostRuntime) -> Result<(), Fail> {
-    sweep_sizes(rt.alloc(), false, &[0, 1])
+fn a_shorter_database(rt: HostRuntime) {
+    sweep_sizes(&rt, false, &[0, 1]);
 }
 
 #[test]
-fn a_shorter_database_torn(rt: HostRuntime) -> Result<(), Fail> {
-    sweep_sizes(rt.alloc(), true, &[0, 1])
+fn a_shorter_database_torn(rt: HostRuntime) {
+    sweep_sizes(&rt, true, &[0, 1]);
 }
 
 #[test]
-fn a_longer_database(rt: HostRuntime) -> Result<(), Fail> {
-    sweep_sizes(rt.alloc(), false, &[2])
+fn a_longer_database(rt: HostRuntime) {
+    sweep_sizes(&rt, false, &[2]);
 }
 
 #[test]
-fn a_longer_database_torn(rt: HostRuntime) -> Result<(), Fail> {
-    sweep_sizes(rt.alloc(), true, &[2])
+fn a_longer_database_torn(rt: HostRuntime) {
+    sweep_sizes(&rt, true, &[2]);
 }
 
 #[test]
-fn a_stale_header(rt: HostRuntime) -> Result<(), Fail> {
-    sweep_stale(rt.alloc(), false)
+fn a_stale_header(rt: HostRuntime) {
+    sweep_stale(&rt, false);
 }
 
 #[test]
-fn a_stale_header_torn(rt: HostRuntime) -> Result<(), Fail> {
-    sweep_stale(rt.alloc(), true)
+fn a_stale_header_torn(rt: HostRuntime) {
+    sweep_stale(&rt, true);
 }
 
 // A header that isn't zeroed undoes a commit that was done.

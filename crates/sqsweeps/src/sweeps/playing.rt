@@ -16,7 +16,7 @@ pub struct Script<'a> {
 }
 
 /// How the disk refuses a call.
-#[derive(Clone, Copy, Debug, PartialEq, Eq)]
+#[derive(Clone, Copy, PartialEq)]
 pub enum Kind {
     /// It stops.
     Stop,
@@ -32,7 +32,7 @@ pub enum Kind {
 pub(crate) static KINDS: [Kind; 4] = [Kind::Stop, Kind::Nothing, Kind::Everything, Kind::Oldest];
 
 /// A call that the disk refuses: of those from this step on, the one behind so many.
-#[derive(Clone, Copy, Debug, PartialEq, Eq)]
+#[derive(Clone, Copy)]
 pub struct Fault {
     pub step: usize,
     pub calls: u64,

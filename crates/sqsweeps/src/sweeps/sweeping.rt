@@ -17,7 +17,7 @@ const STOPPED: u32 = 1001;
 const LAST: u32 = 1002;
 
 /// The files that a crash left; in order by a sum of their bytes.
-#[derive(Debug, Drop, PartialEq, Eq, PartialOrd, Ord)]
+#[derive(Drop, PartialEq, Eq, PartialOrd, Ord)]
 pub struct Files {
     sum: u64,
     db: Vec<u8>,

@@ -6,10 +6,11 @@ use super::lying::{ASKS_TOO_MUCH, CUTS_ALONE, FAILS_ALONE, Lying, SYNCS_NOTHING,
 use super::pages::{numbered, page_of};
 use super::playing::Script;
 use super::sweeping::sweep;
+use crate::checks::same;
 use crashdisk::{Disk, ModelDisk};
 use sqval::PageSize;
 use std::alloc::Global;
-use std::test::Fail;
+use std::process::Abort;
 use walcore::{Checkpointed, Refused, Wal, WalError};
 
 fn outcome(answer: Result<(), WalError>) -> Answer {
@@ -181,15 +182,15 @@ fn sweep_calls<D: OverModel>(
 }
 
 /// Over one page.
-fn sweep_alone(alloc: Global, tears: bool, swept: &[usize]) -> Result<(), Fail> {
-    sweep_calls::<ModelDisk>(alloc, tears, *b"A\0\0\0\0", &ALONE, swept)?;
-    Ok(())
+fn sweep_alone<R: AllocGlobal + Abort>(rt: &R, tears: bool, swept: &[usize]) {
+    let found = sweep_calls::<ModelDisk>(rt.alloc(), tears, *b"A\0\0\0\0", &ALONE, swept);
+    same(rt, found, Ok(()));
 }
 
 /// Over two pages.
-fn sweep_both(alloc: Global, tears: bool, steps: &[Step], swept: &[usize]) -> Result<(), Fail> {
-    sweep_calls::<ModelDisk>(alloc, tears, *b"AA\0\0\0", steps, swept)?;
-    Ok(())
+fn sweep_both<R: AllocGlobal + Abort>(rt: &R, tears: bool, steps: &[Step], swept: &[usize]) {
+    let found = sweep_calls::<ModelDisk>(rt.alloc(), tears, *b"AA\0\0\0", steps, swept);
+    same(rt, found, Ok(()));
 }
 
 /// What the sweep of a step finds over two pages and a disk that lies.
@@ -203,68 +204,68 @@ fn lie_found<const LIE: u8>(
 }
 
 #[test]
-fn first_commit(rt: HostRuntime) -> Result<(), Fail> {
-    sweep_alone(rt.alloc(), false, &[0, 1, 2])
+fn first_commit(rt: HostRuntime) {
+    sweep_alone(&rt, false, &[0, 1, 2]);
 }
 
 #[test]
-fn second_commit(rt: HostRuntime) -> Result<(), Fail> {
-    sweep_alone(rt.alloc(), false, &[3])
+fn second_commit(rt: HostRuntime) {
+    sweep_alone(&rt, false, &[3]);
 }
 
 #[test]
-fn checkpoint_and_restart(rt: HostRuntime) -> Result<(), Fail> {
-    sweep_alone(rt.alloc(), false, &[4, 5])
+fn checkpoint_and_restart(rt: HostRuntime) {
+    sweep_alone(&rt, false, &[4, 5]);
 }
 
 #[test]
-fn commit_after_restart(rt: HostRuntime) -> Result<(), Fail> {
-    sweep_alone(rt.alloc(), false, &[6, 7])
+fn commit_after_restart(rt: HostRuntime) {
+    sweep_alone(&rt, false, &[6, 7]);
 }
 
 #[test]
-fn one_page_torn(rt: HostRuntime) -> Result<(), Fail> {
-    sweep_alone(rt.alloc(), true, &[0, 1, 2, 3, 4, 5, 6, 7])
+fn one_page_torn(rt: HostRuntime) {
+    sweep_alone(&rt, true, &[0, 1, 2, 3, 4, 5, 6, 7]);
 }
 
 #[test]
-fn two_pages(rt: HostRuntime) -> Result<(), Fail> {
-    sweep_both(rt.alloc(), false, &COMMITS, &[1, 2, 3])
+fn two_pages(rt: HostRuntime) {
+    sweep_both(&rt, false, &COMMITS, &[1, 2, 3]);
 }
 
 #[test]
-fn two_pages_torn(rt: HostRuntime) -> Result<(), Fail> {
-    sweep_both(rt.alloc(), true, &COMMITS, &[1, 2, 3])
+fn two_pages_torn(rt: HostRuntime) {
+    sweep_both(&rt, true, &COMMITS, &[1, 2, 3]);
 }
 
 #[test]
-fn frames_over_others(rt: HostRuntime) -> Result<(), Fail> {
-    sweep_both(rt.alloc(), false, &RESTART, &[2, 3, 4, 5, 6])
+fn frames_over_others(rt: HostRuntime) {
+    sweep_both(&rt, false, &RESTART, &[2, 3, 4, 5, 6]);
 }
 
 #[test]
-fn frames_over_others_torn(rt: HostRuntime) -> Result<(), Fail> {
-    sweep_both(rt.alloc(), true, &RESTART, &[2, 3, 4, 5, 6])
+fn frames_over_others_torn(rt: HostRuntime) {
+    sweep_both(&rt, true, &RESTART, &[2, 3, 4, 5, 6]);
 }
 
 #[test]
-fn given_up(rt: HostRuntime) -> Result<(), Fail> {
-    sweep_both(rt.alloc(), false, &GIVEN_UP, &[1, 2, 3, 4])
+fn given_up(rt: HostRuntime) {
+    sweep_both(&rt, false, &GIVEN_UP, &[1, 2, 3, 4]);
 }
 
 #[test]
-fn given_up_torn(rt: HostRuntime) -> Result<(), Fail> {
-    sweep_both(rt.alloc(), true, &GIVEN_UP, &[1, 2, 3, 4])
+fn given_up_torn(rt: HostRuntime) {
+    sweep_both(&rt, true, &GIVEN_UP, &[1, 2, 3, 4]);
 }
 
 #[test]
-fn behind_a_checkpoint(rt: HostRuntime) -> Result<(), Fail> {
-    sweep_both(rt.alloc(), false, &BEHIND, &[3, 4])
+fn behind_a_checkpoint(rt: HostRuntime) {
+    sweep_both(&rt, false, &BEHIND, &[3, 4]);
 }
 
 #[test]
-fn behind_a_checkpoint_torn(rt: HostRuntime) -> Result<(), Fail> {
-    sweep_both(rt.alloc(), true, &BEHIND, &[3, 4])
+fn behind_a_checkpoint_torn(rt: HostRuntime) {
+    sweep_both(&rt, true, &BEHIND, &[3, 4]);
 }
 
 // A log that is cut and whose header isn't zeroed may be left with a commit that isn't the last, over a newer database.
