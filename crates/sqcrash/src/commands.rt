@@ -136,12 +136,17 @@ fn refused(error: clap::Error) -> LineError {
     }
 }
 
-/// Reads a line, whose first word is the program's name.
-pub fn request<'a>(alloc: Global, words: &'a [&'a str]) -> Result<Request<'a>, LineError> {
-    let mut command = command(alloc).map_err(|_| LineError::NoMemory)?;
+/// Reads a line by this command.
+fn read<'a>(command: &mut Command<'a>, words: &'a [&'a str]) -> Result<Request<'a>, LineError> {
     let matches = command.try_get_matches_from_mut(words).map_err(refused)?;
     match matched(&matches) {
         Some(request) => Ok(request),
         None => Err(LineError::NoMemory),
     }
+}
+
+/// Reads a line, whose first word is the program's name.
+pub fn request<'a>(alloc: Global, words: &'a [&'a str]) -> Result<Request<'a>, LineError> {
+    let mut command = command(alloc).map_err(|_| LineError::NoMemory)?;
+    read(&mut command, words)
 }

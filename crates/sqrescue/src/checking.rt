@@ -1,15 +1,11 @@
 //! What `check` prints.
-use crate::fronts::as_before;
-use crate::logs::open_all;
 use crate::metered::db_metered;
-use crate::opened_file::OpenedFile;
-use crate::paths::{Paths, paths_of};
-use crate::progress::{Count, Progress};
-use crate::watch::{readings_of, time_to_wait};
+use crate::opening::open_all;
 use sqfacts::{NoteWriter, Notes, Readings, Refusal, unchanged};
 use sqlines::{write_fault, write_report};
+use sqopen::{Count, OpenedFile, Paths, Progress, paths_of, readings_of, time_to_wait, watched};
 use sqshown::{Contents, Finding, ShowError, asked_of, judged, read_ahead};
-use sqview::Verdict;
+use sqview::{FileBytes, Verdict};
 use sqwords::Options;
 use std::alloc::Global;
 use std::io::{self, Write};
@@ -33,9 +29,25 @@ pub(crate) fn check<R: Files + AllocGlobal + Clock, O: Write, E: Write>(
 where
     R::File: FileExt,
 {
-    let paths = paths_of(rt, file, notes)?;
+    match paths_of(rt, file, notes) {
+        Ok(paths) => check_files(rt, &paths, options, out, notes),
+        Err(refusal) => Err(ShowError::Refused(refusal)),
+    }
+}
+
+/// The same, of the files with these paths.
+fn check_files<R: Files + AllocGlobal + Clock, O: Write, E: Write>(
+    rt: &R,
+    paths: &Paths,
+    options: Options,
+    out: &mut O,
+    notes: &mut Notes<'_, E>,
+) -> Result<bool, ShowError>
+where
+    R::File: FileExt,
+{
     let progress = Progress::new(rt, notes.again(), options);
-    match settled_verdict(rt, &paths, options, &progress, notes) {
+    match settled_verdict(rt, paths, options, &progress, notes) {
         Ok(verdict) => write_verdict(out, options, &verdict),
         Err(refusal) => Err(ShowError::Refused(paths.told(notes, refusal))),
     }
@@ -76,18 +88,45 @@ where
     let before = readings_of(rt, paths, false, notes)?;
     let wait = time_to_wait(rt, &before);
     let found = judged_now(rt, paths, options, meter, notes);
-    match watched(rt, paths, &before, found, notes)? {
-        Verdict::Damaged(_) if !wait.is_zero() => {
-            thread::sleep(rt, wait);
-            let settled = readings_of(rt, paths, false, notes)?;
-            unchanged(&before, &settled, Ok(()))?;
-            let nowhere = NoteWriter::new(io::sink());
-            let mut unheard = Notes::new(&nowhere, false);
-            let found = judged_now(rt, paths, options, meter, &mut unheard);
-            watched(rt, paths, &settled, found, notes)
-        }
-        verdict => Ok(verdict),
+    match watched_finding(rt, paths, &before, found, notes) {
+        Ok(Verdict::Damaged(_)) if !wait.is_zero() => {}
+        answer => return answer,
     }
+    thread::sleep(rt, wait);
+    judged_again(rt, paths, options, &before, meter, notes)
+}
+
+/// What is found of files now, of which no note is written.
+fn judged_unheard<R: Files + AllocGlobal, M: Count>(
+    rt: &R,
+    paths: &Paths,
+    options: Options,
+    meter: &M,
+) -> Result<Finding, Refusal>
+where
+    R::File: FileExt,
+{
+    let nowhere = NoteWriter::new(io::sink());
+    let mut unheard = Notes::new(&nowhere, false);
+    judged_now(rt, paths, options, meter, &mut unheard)
+}
+
+/// The same later, of files that are as they were before.
+fn judged_again<R: Files + AllocGlobal, M: Count, E: Write>(
+    rt: &R,
+    paths: &Paths,
+    options: Options,
+    before: &Readings,
+    meter: &M,
+    notes: &mut Notes<'_, E>,
+) -> Result<Verdict, Refusal>
+where
+    R::File: FileExt,
+{
+    let settled = readings_of(rt, paths, false, notes)?;
+    unchanged(before, &settled, Ok(()))?;
+    let found = judged_unheard(rt, paths, options, meter);
+    watched_finding(rt, paths, &settled, found, notes)
 }
 
 /// What is found of files now.
@@ -101,8 +140,10 @@ fn judged_now<R: Files + AllocGlobal, M: Count, E: Write>(
 where
     R::File: FileExt,
 {
-    let files = open_all(rt, paths, options.super_journal, options.at, notes)?;
-    judged_of(rt.alloc(), options, files, meter)
+    match open_all(rt, paths, options.super_journal, options.at, notes) {
+        Ok(files) => judged_of(rt.alloc(), options, files, meter),
+        Err(refusal) => Err(refusal),
+    }
 }
 
 /// What is found of opened files.
@@ -112,13 +153,24 @@ fn judged_of<F: FileExt + Drop, M: Count>(
     files: Contents<OpenedFile<'_, F>>,
     meter: &M,
 ) -> Result<Finding, Refusal> {
-    let files = read_ahead(alloc, files, PIECE)?;
-    let Contents { db, wal, journal } = db_metered(files, meter);
+    match read_ahead(alloc, files, PIECE) {
+        Ok(files) => finding_of(alloc, options, db_metered(files, meter)),
+        Err(refusal) => Err(refusal),
+    }
+}
+
+/// The same, of files from anywhere.
+fn finding_of<F: FileBytes + Drop>(
+    alloc: Global,
+    options: Options,
+    files: Contents<F>,
+) -> Result<Finding, Refusal> {
+    let Contents { db, wal, journal } = files;
     judged(alloc, asked_of(options), db, wal, journal)
 }
 
-/// The verdict on files, if they are as they were before, and the frames of the log that counted still stand.
-fn watched<R: Files, E: Write>(
+/// What was found, if the files are as they were before, and the frames of the log that counted still stand.
+fn watched_finding<R: Files, E: Write>(
     rt: &R,
     paths: &Paths,
     before: &Readings,
@@ -132,6 +184,8 @@ where
         Ok(found) => found.front,
         Err(_) => None,
     };
-    as_before(rt, paths, before, false, front, notes)?;
-    Ok(found?.verdict)
+    match watched(rt, paths, before, front, found, notes) {
+        Ok(found) => Ok(found.verdict),
+        Err(refusal) => Err(refusal),
+    }
 }

@@ -1,22 +1,19 @@
 //! A file that holds what a recovery would leave in a database file, of which nothing is written.
 ghost use Rattle.std.specs.Prelude.{◌≡◌, ◌≢◌};
 
-use crate::fronts::as_before;
-use crate::hints::{tell_length, told};
-use crate::journals::names_super_journal;
-use crate::logs::{Beside, open_logs, opened};
-use crate::metered::{Metered, all_metered};
-use crate::opened_file::OpenedFile;
-use crate::outcomes::write_outcome;
-use crate::paths::{Paths, folder_of, is_log_of, paths_of};
-use crate::progress::{Count, Progress};
-use crate::reports::answer_of;
-use crate::watch::{readings_of, time_to_wait};
+use crate::metered::{Metered, all_ahead, all_metered, both_ahead};
+use crate::opening::open_seen;
+use crate::outcomes::print_outcome;
+use crate::reports::{answer_of, remove_made};
 use sqfacts::{Front, Notes, Outcome, Readings, Refusal};
-use sqpage::{PageSource, has_magic, named_page_size};
-use sqshown::{Contents, ShowError, limits_of, read_ahead, replayed, scanned, view_of};
+use sqopen::{
+    Count, OpenedFile, Paths, Progress, counting_log, folder_of, is_log_of, names_super_journal,
+    paths_of, readings_of, time_to_wait, told, watched,
+};
+use sqpage::{PageSource, SourceError, has_magic, named_page_size};
+use sqshown::{Contents, ShowError, limits_of, replayed, scanned, view_of};
 use sqval::{Limits, PageSize};
-use sqview::{CopyError, FileBytes, LogInUse, ReadAhead, View, copy, log_in_use};
+use sqview::{CopyError, FileBytes, LogInUse, ReadAhead, View, copy};
 use sqwal::{Scan, WalFormatError};
 use sqwords::{Options, SuperJournal};
 use std::alloc::Global;
@@ -30,22 +27,19 @@ use std::time::Clock;
 /// How many bytes of a file are read at once.
 const PIECE: usize = 65_536;
 
-/// A real file of which it is counted how much is read.
-type Counted<'a, F, M> = Metered<'a, OpenedFile<'a, F>, M>;
-
-/// A view of real files, of which neighbours are read at once.
-type CountedView<'a, F, M> = View<Metered<'a, ReadAhead<OpenedFile<'a, F>>, M>>;
+/// A view of files of which it is counted how much is read, and of which neighbours are read at once.
+type CountedView<'a, F, M> = View<Metered<'a, ReadAhead<F>, M>>;
 
 /// What is to be written.
 #[derive(Drop)]
 enum Content<'a, F, M> {
     /// The database file as it stands.
-    File(Counted<'a, F, M>),
+    File(Metered<'a, F, M>),
     /// The pages of a view.
     Pages(CountedView<'a, F, M>),
 }
 
-impl<F: FileExt + Drop, M: Count> Content<'_, F, M> {
+impl<F: FileBytes + Drop, M: Count> Content<'_, F, M> {
     /// The front of the log that is folded, if one is.
     fn front(&self) -> Option<Front> {
         match self {
@@ -71,6 +65,9 @@ struct Found<'a, F, M> {
     mode: u32,
 }
 
+/// What a recovery comes to, and leaves in the database file, or why it is refused.
+type Recovered<'a, F, M> = Result<(Outcome, Content<'a, F, M>), Refusal>;
+
 /// Makes a file that holds what a recovery would leave in a database file, which and whose logs are only read; prints
 /// what it did. The file is synced, and so is its folder where that can be. Refused, besides as `recover` is, by
 /// `FileFailed` where something lies there or the file is a log of the database, and by `FileChanged` where what is
@@ -86,77 +83,103 @@ pub(crate) fn recover_to<R: Files + AllocGlobal + Clock, O: Write, E: Write>(
 where
     R::File: FileExt,
 {
-    let paths = paths_of(rt, file, notes)?;
-    let before = readings_of(rt, &paths, false, notes)?;
-    thread::sleep(rt, time_to_wait(rt, &before));
-    let progress = Progress::new(rt, notes.again(), options);
-    let found = found_in(rt, &paths, options, &progress, notes);
-    match watched(rt, &paths, &before, None, found, notes) {
-        Ok(found) => {
-            let outcome = found.outcome;
-            progress.begin(found.content.length());
-            make_copy(rt, &paths, &before, to, found, notes)?;
-            answer_of(rt, to, printed(out, options, outcome), notes)
-        }
-        Err(refusal) => Err(ShowError::Refused(paths.told(notes, refusal))),
+    match paths_of(rt, file, notes) {
+        Ok(paths) => copy_from(rt, &paths, to, options, out, notes),
+        Err(refusal) => Err(ShowError::Refused(refusal)),
     }
 }
 
-/// Makes the file. It is removed where it fails.
-fn make_copy<R: Files + AllocGlobal, M: Count, E: Write>(
+/// The same, of the files with these paths.
+fn copy_from<R: Files + AllocGlobal + Clock, O: Write, E: Write>(
     rt: &R,
     paths: &Paths,
-    before: &Readings,
     to: &str,
-    found: Found<'_, R::File, M>,
+    options: Options,
+    out: &mut O,
     notes: &mut Notes<'_, E>,
 ) -> Result<(), ShowError>
 where
     R::File: FileExt,
 {
-    if is_log_of(rt, paths, to) {
-        notes.tell(&format_args!("{to}: a log's name"));
-        return Err(ShowError::Refused(Refusal::FileFailed));
+    let before = readings_of(rt, paths, false, notes)?;
+    thread::sleep(rt, time_to_wait(rt, &before));
+    match made_copy(rt, paths, &before, to, options, notes) {
+        Ok(outcome) => answer_of(rt, to, print_outcome(out, options, outcome), notes),
+        Err(error) => Err(error),
     }
+}
+
+/// Makes the file, and answers what the recovery comes to.
+fn made_copy<R: Files + AllocGlobal + Clock, E: Write>(
+    rt: &R,
+    paths: &Paths,
+    before: &Readings,
+    to: &str,
+    options: Options,
+    notes: &mut Notes<'_, E>,
+) -> Result<Outcome, ShowError>
+where
+    R::File: FileExt,
+{
+    let progress = Progress::new(rt, notes.again(), options);
+    let found = found_in(rt, paths, options, &progress, notes);
+    match watched(rt, paths, before, None, found, notes) {
+        Ok(found) => {
+            progress.begin(found.content.length());
+            match judge_name(rt, paths, to, notes) {
+                Ok(()) => make_copy(rt, paths, before, to, found, notes),
+                Err(refusal) => Err(ShowError::Refused(refusal)),
+            }
+        }
+        Err(refusal) => Err(ShowError::Refused(paths.told(notes, refusal))),
+    }
+}
+
+/// Makes the file, and answers what the recovery comes to. It is removed where it fails.
+fn make_copy<R: Files + AllocGlobal, F: FileBytes + Drop, M: Count, E: Write>(
+    rt: &R,
+    paths: &Paths,
+    before: &Readings,
+    to: &str,
+    found: Found<'_, F, M>,
+    notes: &mut Notes<'_, E>,
+) -> Result<Outcome, ShowError>
+where
+    R::File: FileExt,
+{
     let Found {
         content,
         mode,
-        outcome: _,
+        outcome,
     } = found;
     let front = content.front();
-    let made = new_file(rt, to, mode, notes)?;
+    let made = match new_file(rt, to, mode, notes) {
+        Ok(made) => made,
+        Err(refusal) => return Err(ShowError::Refused(refusal)),
+    };
     let written = written(rt, content, made, to, notes);
     match watched(rt, paths, before, front, written, notes) {
-        Ok(()) => Ok(()),
+        Ok(()) => Ok(outcome),
         Err(refusal) => {
             let refusal = paths.told(notes, refusal);
-            answer_of(rt, to, Err(ShowError::Refused(refusal)), notes)
+            remove_made(rt, to, notes);
+            Err(ShowError::Refused(refusal))
         }
     }
 }
 
-fn printed<O: Write>(out: &mut O, options: Options, outcome: Outcome) -> Result<(), ShowError> {
-    write_outcome(out, options.style, outcome)?;
-    out.flush()?;
-    Ok(())
-}
-
-/// An answer, if the files are as they were before, and the frames up to this front still stand.
-fn watched<R: Files + AllocGlobal, T: Drop, E: Write>(
+/// Refused where a path names a log of a database, which is told.
+pub(crate) fn judge_name<R: Files, E: Write>(
     rt: &R,
     paths: &Paths,
-    before: &Readings,
-    front: Option<Front>,
-    answer: Result<T, Refusal>,
+    to: &str,
     notes: &mut Notes<'_, E>,
-) -> Result<T, Refusal>
-where
-    R::File: FileExt,
-{
-    match as_before(rt, paths, before, false, front, notes) {
-        Ok(()) => answer,
-        Err(refusal) => Err(refusal),
+) -> Result<(), Refusal> {
+    if is_log_of(rt, paths, to) {
+        notes.tell(&format_args!("{to}: a log's name"));
+        return Err(Refusal::FileFailed);
     }
+    Ok(())
 }
 
 /// What a recovery of these files comes to.
@@ -166,25 +189,17 @@ fn found_in<'a, R: Files + AllocGlobal, M: Count, E: Write>(
     options: Options,
     meter: &'a M,
     notes: &mut Notes<'_, E>,
-) -> Result<Found<'a, R::File, M>, Refusal>
+) -> Result<Found<'a, OpenedFile<'a, R::File>, M>, Refusal>
 where
     R::File: FileExt,
 {
-    let Beside {
-        db: said,
-        wal,
-        journal,
-    } = open_logs(rt, paths, options.super_journal, options.at, notes)?;
-    let mode = said.mode() & 0o777;
-    let mut db = opened(rt, &paths.db, Some(said), 0, notes)?;
-    tell_length(notes, paths.db.as_str(), &mut db);
-    meter.begin(log_reads(wal.len(), journal.len()));
-    let files = all_metered(Contents { db, wal, journal }, meter);
-    match content_of(rt.alloc(), files, options) {
+    let (said, files) = open_seen(rt, paths, options.super_journal, options.at, notes)?;
+    meter.begin(log_reads(files.wal.len(), files.journal.len()));
+    match content_of(rt.alloc(), all_metered(files, meter), options) {
         Ok((outcome, content)) => Ok(Found {
             outcome,
             content,
-            mode,
+            mode: said.mode() & 0o777,
         }),
         Err(refusal) => Err(refusal),
     }
@@ -202,24 +217,44 @@ fn log_reads(wal: u64, journal: u64) -> u64
     }
 }
 
+/// The database file as it stands is left.
+fn as_it_stands<'a, F: FileBytes + Drop, M: Count>(
+    outcome: Outcome,
+    files: Contents<Metered<'a, F, M>>,
+) -> Recovered<'a, F, M> {
+    let Contents { db, .. } = files;
+    Ok((outcome, Content::File(db)))
+}
+
 /// What a recovery of opened files comes to, and leaves in the database file.
-fn content_of<'a, F: FileExt + Drop, M: Count>(
+fn content_of<'a, F: FileBytes + Drop, M: Count>(
     alloc: Global,
-    files: Contents<Counted<'a, F, M>>,
+    files: Contents<Metered<'a, F, M>>,
     options: Options,
-) -> Result<(Outcome, Content<'a, F, M>), Refusal> {
+) -> Recovered<'a, F, M> {
     let Contents {
         db,
         wal,
         mut journal,
     } = files;
-    let in_use = log_in_use(&wal, &mut journal)?;
-    let files = Contents { db, wal, journal };
+    match counting_log(&wal, &mut journal) {
+        Ok(in_use) => content_by(alloc, Contents { db, wal, journal }, in_use, options),
+        Err(refusal) => Err(refusal),
+    }
+}
+
+/// The same, where it is known which log counts.
+fn content_by<'a, F: FileBytes + Drop, M: Count>(
+    alloc: Global,
+    files: Contents<Metered<'a, F, M>>,
+    in_use: LogInUse,
+    options: Options,
+) -> Recovered<'a, F, M> {
     match (in_use, options.at) {
-        (_, Some(0)) => Ok((Outcome::NoFront, Content::File(files.db))),
+        (_, Some(0)) => as_it_stands(Outcome::NoFront, files),
         (LogInUse::Wal, at) => folded(alloc, limits_of(options), files, at),
         (_, Some(_)) => Err(Refusal::NoSuchCommit),
-        (LogInUse::Neither, None) => Ok((Outcome::Nothing, Content::File(files.db))),
+        (LogInUse::Neither, None) => as_it_stands(Outcome::Nothing, files),
         (LogInUse::Journal(_), None) => {
             let counts = options.super_journal == Some(SuperJournal::Present);
             rolled_back(alloc, limits_of(options), files, counts)
@@ -245,37 +280,44 @@ fn valid_scan<F: FileBytes>(
 }
 
 /// What is left where a log that isn't empty is folded, up to a commit frame or the front.
-fn folded<'a, F: FileExt + Drop, M: Count>(
+fn folded<'a, F: FileBytes + Drop, M: Count>(
     alloc: Global,
     limits: Limits,
-    files: Contents<Counted<'a, F, M>>,
+    files: Contents<Metered<'a, F, M>>,
     at: Option<u32>,
-) -> Result<(Outcome, Content<'a, F, M>), Refusal> {
+) -> Recovered<'a, F, M> {
     let mut files = files;
-    match valid_scan(alloc, limits, &mut files.wal)? {
-        Some((scan, page_size)) => folded_by(alloc, limits, files, (&scan, page_size), at),
-        None => match at {
-            Some(_) => Err(Refusal::NoSuchCommit),
-            None => Ok((Outcome::NoFront, Content::File(files.db))),
-        },
+    match valid_scan(alloc, limits, &mut files.wal) {
+        Ok(Some((scan, page_size))) => folded_by(alloc, limits, files, (&scan, page_size), at),
+        Ok(None) if at.is_some() => Err(Refusal::NoSuchCommit),
+        Ok(None) => as_it_stands(Outcome::NoFront, files),
+        Err(refusal) => Err(refusal),
     }
 }
 
 /// What is left where a log with this scan, of pages of this size, is folded.
-fn folded_by<'a, F: FileExt + Drop, M: Count>(
+fn folded_by<'a, F: FileBytes + Drop, M: Count>(
     alloc: Global,
     limits: Limits,
-    files: Contents<Counted<'a, F, M>>,
+    files: Contents<Metered<'a, F, M>>,
     log: (&Scan, PageSize),
     at: Option<u32>,
-) -> Result<(Outcome, Content<'a, F, M>), Refusal> {
+) -> Recovered<'a, F, M> {
     let mut files = files;
     let (scan, page_size) = log;
-    if has_other_size(&mut files.db, page_size)? {
-        return Err(Refusal::PageSizesDiffer);
-    }
     let frame = at.unwrap_or(scan.committed().frames);
-    match folded_view(alloc, limits, files, scan, frame) {
+    match has_other_size(&mut files.db, page_size) {
+        Ok(differs) if differs => Err(Refusal::PageSizesDiffer),
+        Ok(_) => shown_pages(folded_view(alloc, limits, files, scan, frame)),
+        Err(error) => Err(Refusal::from(error)),
+    }
+}
+
+/// What is left where a log is folded that has this view.
+fn shown_pages<'a, F: FileBytes + Drop, M: Count>(
+    view: Result<CountedView<'a, F, M>, Refusal>,
+) -> Recovered<'a, F, M> {
+    match view {
         Ok(view) => {
             let (frames, pages) = (view.front(), view.count());
             Ok((Outcome::Folded { frames, pages }, Content::Pages(view)))
@@ -285,7 +327,7 @@ fn folded_by<'a, F: FileExt + Drop, M: Count>(
 }
 
 /// Whether a database file's header names a page size other than this one.
-fn has_other_size<F: FileBytes>(db: &mut F, page_size: PageSize) -> Result<bool, Refusal> {
+fn has_other_size<F: FileBytes>(db: &mut F, page_size: PageSize) -> Result<bool, SourceError> {
     if db.len() < 18 {
         return Ok(false);
     }
@@ -309,12 +351,12 @@ fn record_count<F: FileBytes>(
 
 /// What is left where a hot journal is replayed; one of a transaction over several files only where it is said to
 /// count.
-fn rolled_back<'a, F: FileExt + Drop, M: Count>(
+fn rolled_back<'a, F: FileBytes + Drop, M: Count>(
     alloc: Global,
     limits: Limits,
-    files: Contents<Counted<'a, F, M>>,
+    files: Contents<Metered<'a, F, M>>,
     counts: bool,
-) -> Result<(Outcome, Content<'a, F, M>), Refusal> {
+) -> Recovered<'a, F, M> {
     let mut files = files;
     let records = record_count(alloc, &mut files.journal, counts)?;
     match rolled_view(alloc, limits, files) {
@@ -327,30 +369,57 @@ fn rolled_back<'a, F: FileExt + Drop, M: Count>(
 }
 
 /// The view of a database file with its hot journal alone.
-fn rolled_view<'a, F: FileExt + Drop, M: Count>(
+fn rolled_view<'a, F: FileBytes + Drop, M: Count>(
     alloc: Global,
     limits: Limits,
-    files: Contents<Counted<'a, F, M>>,
+    files: Contents<Metered<'a, F, M>>,
 ) -> Result<CountedView<'a, F, M>, Refusal> {
-    let db = files.db.ahead(alloc, PIECE);
-    let wal = files.wal.ahead(alloc, 0);
-    match (db, wal, files.journal.ahead(alloc, PIECE)) {
-        (Ok(db), Ok(wal), Ok(journal)) => Ok(view_of(alloc, limits, db, wal, journal, None)?),
-        _ => Err(Refusal::NoMemory),
+    match all_ahead(alloc, files, PIECE) {
+        Ok(files) => whole_view(alloc, limits, files),
+        Err(error) => Err(Refusal::from(error)),
+    }
+}
+
+/// The view of files with the log that counts.
+fn whole_view<F: FileBytes + Drop>(
+    alloc: Global,
+    limits: Limits,
+    files: Contents<F>,
+) -> Result<View<F>, Refusal> {
+    let Contents { db, wal, journal } = files;
+    match view_of(alloc, limits, db, wal, journal, None) {
+        Ok(view) => Ok(view),
+        Err(error) => Err(Refusal::from(error)),
     }
 }
 
 /// The view of a database file with its write-ahead log up to a frame.
-fn folded_view<'a, F: FileExt + Drop, M: Count>(
+fn folded_view<'a, F: FileBytes + Drop, M: Count>(
     alloc: Global,
     limits: Limits,
-    files: Contents<Counted<'a, F, M>>,
+    files: Contents<Metered<'a, F, M>>,
     scan: &Scan,
     frame: u32,
 ) -> Result<CountedView<'a, F, M>, Refusal> {
-    match (files.db.ahead(alloc, PIECE), files.wal.ahead(alloc, PIECE)) {
-        (Ok(db), Ok(wal)) => Ok(View::of_scan_within(alloc, limits, db, wal, scan, frame)?),
-        _ => Err(Refusal::NoMemory),
+    let Contents { db, wal, .. } = files;
+    match both_ahead(alloc, db, wal, PIECE) {
+        Ok((db, wal)) => scanned_view(alloc, limits, (db, wal), scan, frame),
+        Err(error) => Err(Refusal::from(error)),
+    }
+}
+
+/// The view of a database file with its write-ahead log, which was scanned, up to a frame.
+fn scanned_view<F: FileBytes + Drop>(
+    alloc: Global,
+    limits: Limits,
+    files: (F, F),
+    scan: &Scan,
+    frame: u32,
+) -> Result<View<F>, Refusal> {
+    let (db, wal) = files;
+    match View::of_scan_within(alloc, limits, db, wal, scan, frame) {
+        Ok(view) => Ok(view),
+        Err(error) => Err(Refusal::from(error)),
     }
 }
 
@@ -373,9 +442,9 @@ pub(crate) fn new_file<R: Files, E: Write>(
 }
 
 /// Writes what is to be written to a new file, and syncs it, and its folder where that can be.
-fn written<R: Files + AllocGlobal, M: Count, E: Write>(
+fn written<R: Files + AllocGlobal, F: FileBytes + Drop, M: Count, E: Write>(
     rt: &R,
-    content: Content<'_, R::File, M>,
+    content: Content<'_, F, M>,
     made: R::File,
     path: &str,
     notes: &mut Notes<'_, E>,
@@ -396,17 +465,38 @@ where
 }
 
 /// Writes all of it, and syncs the file.
-fn filled<F: FileExt + OpenFile + Write + Drop, M: Count>(
+fn filled<F: FileBytes + Drop, M: Count, O: FileExt + OpenFile + Write>(
     alloc: Global,
     content: Content<'_, F, M>,
-    out: &mut F,
+    out: &mut O,
 ) -> Result<(), CopyError> {
-    match content {
-        Content::File(mut db) => copy_file(alloc, &mut db, out)?,
-        Content::Pages(mut view) => copy(alloc, &mut view, out)?,
-    }
+    let copied = match content {
+        Content::File(db) => copy_whole(alloc, db, out),
+        Content::Pages(view) => copy_pages(alloc, view, out),
+    };
+    copied?;
     out.sync_all()?;
     Ok(())
+}
+
+/// Writes the pages of a view.
+fn copy_pages<F: FileBytes + Drop, W: Write>(
+    alloc: Global,
+    view: View<F>,
+    out: &mut W,
+) -> Result<(), CopyError> {
+    let mut view = view;
+    copy(alloc, &mut view, out)
+}
+
+/// Writes the bytes of a file, which is let go.
+fn copy_whole<F: FileBytes + Drop, W: Write>(
+    alloc: Global,
+    file: F,
+    out: &mut W,
+) -> Result<(), CopyError> {
+    let mut file = file;
+    copy_file(alloc, &mut file, out)
 }
 
 /// Writes the bytes of a file.

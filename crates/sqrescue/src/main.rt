@@ -5,24 +5,16 @@ ghost use Rattle.std.specs.Prelude.{◌≤◌, IfOk};
 
 mod checking;
 mod copies;
-mod fronts;
 mod hints;
-mod in_use;
-mod journals;
-mod logs;
 mod metered;
-mod opened_file;
+mod opening;
 mod outcomes;
 mod pages;
-mod paths;
-mod place;
 mod program;
-mod progress;
 mod recovering;
 mod reports;
 mod showing;
 mod surveys;
-mod watch;
 
 use std::env::{self, Env};
 use std::io::{self, Write};

@@ -1,5 +1,5 @@
 //! A file of which it is counted how much is read.
-use crate::progress::Count;
+use sqopen::Count;
 use sqpage::SourceError;
 use sqshown::Contents;
 use sqview::{FileBytes, ReadAhead};
@@ -79,5 +79,33 @@ pub(crate) fn db_metered<'a, F: FileBytes, M: Count>(
         db: Metered::new(db, Some(meter)),
         wal: Metered::new(wal, None),
         journal: Metered::new(journal, None),
+    }
+}
+
+/// Two files of which up to so many bytes are read at once.
+pub(crate) fn both_ahead<'a, F: FileBytes + Drop, M>(
+    alloc: Global,
+    first: Metered<'a, F, M>,
+    second: Metered<'a, F, M>,
+    most: usize,
+) -> Result<(Metered<'a, ReadAhead<F>, M>, Metered<'a, ReadAhead<F>, M>), AllocError> {
+    let first = first.ahead(alloc, most)?;
+    match second.ahead(alloc, most) {
+        Ok(second) => Ok((first, second)),
+        Err(error) => Err(error),
+    }
+}
+
+/// A database file and its journal of which up to so many bytes are read at once, and the write-ahead log.
+pub(crate) fn all_ahead<'a, F: FileBytes + Drop, M>(
+    alloc: Global,
+    files: Contents<Metered<'a, F, M>>,
+    most: usize,
+) -> Result<Contents<Metered<'a, ReadAhead<F>, M>>, AllocError> {
+    let Contents { db, wal, journal } = files;
+    let (db, journal) = both_ahead(alloc, db, journal, most)?;
+    match wal.ahead(alloc, 0) {
+        Ok(wal) => Ok(Contents { db, wal, journal }),
+        Err(error) => Err(error),
     }
 }

@@ -1,15 +1,12 @@
 //! What is printed of a recovery, or a JSON object of it.
 use sqfacts::Outcome;
 use sqlines::{Fact, number, write_facts};
-use sqwords::Style;
+use sqshown::ShowError;
+use sqwords::{Options, Style};
 use std::io::{self, Write};
 
 /// What a recovery did.
-pub(crate) fn write_outcome<W: Write>(
-    out: &mut W,
-    style: Style,
-    outcome: Outcome,
-) -> io::Result<()> {
+fn write_outcome<W: Write>(out: &mut W, style: Style, outcome: Outcome) -> io::Result<()> {
     match (style, outcome) {
         (Style::Lines, _) => writeln!(out, "{outcome}"),
         (Style::Json, Outcome::Nothing) => {
@@ -36,4 +33,15 @@ pub(crate) fn write_outcome<W: Write>(
             write_facts(out, style, &facts)
         }
     }
+}
+
+/// Prints what a recovery did.
+pub(crate) fn print_outcome<W: Write>(
+    out: &mut W,
+    options: Options,
+    outcome: Outcome,
+) -> Result<(), ShowError> {
+    write_outcome(out, options.style, outcome)?;
+    out.flush()?;
+    Ok(())
 }

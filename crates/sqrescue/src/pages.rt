@@ -1,13 +1,12 @@
 //! What `show --pages` prints.
-use crate::paths::paths_of;
-use crate::progress::Progress;
 use crate::surveys::settled_survey;
 use sqfacts::{Notes, Refusal};
+use sqopen::{Paths, Progress, paths_of};
 use sqshown::{Found, ShowError, write_pages, write_verdict};
 use sqview::FileBytes;
 use sqwords::{Options, Style};
 use std::alloc::Global;
-use std::io::{BufWriter, Write};
+use std::io::{self, BufWriter, Write};
 use std::os::unix::fs::FileExt;
 use std::rt::Files;
 use std::time::Clock;
@@ -27,9 +26,25 @@ pub(crate) fn show_pages<R: Files + AllocGlobal + Clock, O: Write, E: Write>(
 where
     R::File: FileExt,
 {
-    let paths = paths_of(rt, file, notes)?;
+    match paths_of(rt, file, notes) {
+        Ok(paths) => show_found(rt, &paths, options, out, notes),
+        Err(refusal) => Err(ShowError::Refused(refusal)),
+    }
+}
+
+/// The same, of the files with these paths.
+fn show_found<R: Files + AllocGlobal + Clock, O: Write, E: Write>(
+    rt: &R,
+    paths: &Paths,
+    options: Options,
+    out: &mut O,
+    notes: &mut Notes<'_, E>,
+) -> Result<bool, ShowError>
+where
+    R::File: FileExt,
+{
     let progress = Progress::new(rt, notes.again(), options);
-    match settled_survey(rt, &paths, options, &progress, notes) {
+    match settled_survey(rt, paths, options, &progress, notes) {
         Ok(found) => write_found(rt.alloc(), options.style, &found, out),
         Err(refusal) => Err(ShowError::Refused(paths.told(notes, refusal))),
     }
@@ -42,13 +57,22 @@ fn write_found<F: FileBytes, O: Write>(
     found: &Found<F>,
     out: &mut O,
 ) -> Result<bool, ShowError> {
-    let Ok(mut lines) = BufWriter::with_capacity(alloc, PIECE, out) else {
-        return Err(ShowError::Refused(Refusal::NoMemory));
-    };
-    if let Found::Pages(found) = found {
-        write_pages(&mut lines, style, found)?;
+    match BufWriter::with_capacity(alloc, PIECE, out) {
+        Ok(mut lines) => Ok(write_lines(style, found, &mut lines)?),
+        Err(_) => Err(ShowError::Refused(Refusal::NoMemory)),
     }
-    let is_well_formed = write_verdict(&mut lines, style, found)?;
+}
+
+/// The same, to a writer that keeps lines back.
+fn write_lines<F: FileBytes, W: Write>(
+    style: Style,
+    found: &Found<F>,
+    lines: &mut W,
+) -> io::Result<bool> {
+    if let Found::Pages(found) = found {
+        write_pages(lines, style, found)?;
+    }
+    let is_well_formed = write_verdict(lines, style, found)?;
     lines.flush()?;
     Ok(is_well_formed)
 }

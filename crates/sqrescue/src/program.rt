@@ -4,7 +4,7 @@ ghost use Rattle.std.specs.Prelude.{◌≤◌};
 use crate::checking::check;
 use crate::copies::recover_to;
 use crate::hints::next_step;
-use crate::outcomes::write_outcome;
+use crate::outcomes::print_outcome;
 use crate::pages::show_pages;
 use crate::recovering::recover;
 use crate::reports::report_to;
@@ -47,22 +47,26 @@ fn status_of<R: Files + AllocGlobal + Clock, O: Write, E: Write>(
 where
     R::File: FileExt,
 {
-    let request = match request(rt.alloc(), words) {
-        Ok(request) => request,
-        Err(LineError::Help(help)) => return printed(out, &help, Status::Done),
-        Err(LineError::NotUnderstood(fault)) => return printed(err, &fault, Status::NotUnderstood),
-        Err(LineError::NoMemory) => return refused(err, &LineError::NoMemory),
-    };
-    let options = options_of(&request);
-    let writer = NoteWriter::new(&mut *err);
-    let mut notes = Notes::new(&writer, options.is_some_and(|options| options.verbose));
-    let answer = carried_out(rt, request, out, &mut notes);
-    if let Err(ShowError::Refused(refusal)) = answer {
-        notes.tell(&next_step(refusal, options.is_some_and(|options| options.large)));
+    match request(rt.alloc(), words) {
+        Ok(request) => status_of_request(rt, request, out, err),
+        Err(LineError::Help(help)) => printed(out, &help, Status::Done),
+        Err(LineError::NotUnderstood(fault)) => printed(err, &fault, Status::NotUnderstood),
+        Err(LineError::NoMemory) => refused(err, &LineError::NoMemory),
     }
-    let failed = writer.has_failed();
-    drop(notes);
-    drop(writer);
+}
+
+/// The status of a request that is carried out.
+fn status_of_request<R: Files + AllocGlobal + Clock, O: Write, E: Write>(
+    rt: &R,
+    request: Request<'_>,
+    out: &mut O,
+    err: &mut E,
+) -> Status
+where
+    R::File: FileExt,
+{
+    let options = options_of(&request);
+    let (answer, failed) = noted(rt, request, options, out, err);
     match answer {
         Ok(_) if failed => Status::Refused,
         Ok(Answer::Done) => Status::Done,
@@ -71,6 +75,27 @@ where
         Err(ShowError::Refused(refusal)) => refused(err, &refusal),
         Err(ShowError::Unwritten) => Status::Refused,
     }
+}
+
+/// What a request comes to, and whether a note on the way couldn't be written.
+fn noted<R: Files + AllocGlobal + Clock, O: Write, E: Write>(
+    rt: &R,
+    request: Request<'_>,
+    options: Option<Options>,
+    out: &mut O,
+    err: &mut E,
+) -> (Result<Answer, ShowError>, bool)
+where
+    R::File: FileExt,
+{
+    let writer = NoteWriter::new(&mut *err);
+    let mut notes = Notes::new(&writer, options.is_some_and(|options| options.verbose));
+    let answer = carried_out(rt, request, out, &mut notes);
+    if let Err(ShowError::Refused(refusal)) = answer {
+        notes.tell(&next_step(refusal, options.is_some_and(|options| options.large)));
+    }
+    drop(notes);
+    (answer, writer.has_failed())
 }
 
 /// What a request that was carried out comes to.
@@ -100,6 +125,59 @@ fn is_json(options: Option<Options>) -> bool {
     )
 }
 
+/// Done, or damaged where a database isn't well formed.
+fn answer_of(is_well_formed: Result<bool, ShowError>) -> Result<Answer, ShowError> {
+    match is_well_formed {
+        Ok(is_well_formed) if is_well_formed => Ok(Answer::Done),
+        Ok(_) => Ok(Answer::Damaged),
+        Err(error) => Err(error),
+    }
+}
+
+/// Done, where it is.
+fn done(done: Result<(), ShowError>) -> Result<Answer, ShowError> {
+    match done {
+        Ok(()) => Ok(Answer::Done),
+        Err(error) => Err(error),
+    }
+}
+
+/// Shows a part of a file.
+fn shown<R: Files + AllocGlobal + Clock, O: Write, E: Write>(
+    rt: &R,
+    file: &str,
+    part: Part,
+    options: Options,
+    out: &mut O,
+    notes: &mut Notes<'_, E>,
+) -> Result<Answer, ShowError>
+where
+    R::File: FileExt,
+{
+    match part {
+        Part::Pages => answer_of(show_pages(rt, file, options, out, notes)),
+        _ => done(show(rt, file, part, options, out, notes)),
+    }
+}
+
+/// Recovers a file in its place, and prints what that did.
+fn recovered<R: Files + AllocGlobal + Clock, O: Write, E: Write>(
+    rt: &R,
+    file: &str,
+    force: bool,
+    options: Options,
+    out: &mut O,
+    notes: &mut Notes<'_, E>,
+) -> Result<(), ShowError>
+where
+    R::File: FileExt,
+{
+    match recover(rt, file, force, options, notes) {
+        Ok(outcome) => print_outcome(out, options, outcome),
+        Err(refusal) => Err(ShowError::Refused(refusal)),
+    }
+}
+
 fn carried_out<R: Files + AllocGlobal + Clock, O: Write, E: Write>(
     rt: &R,
     request: Request<'_>,
@@ -112,43 +190,30 @@ where
     match request {
         Request::Show {
             file,
-            part: Part::Pages,
-            options,
-        } => {
-            if !show_pages(rt, file, options, out, notes)? {
-                return Ok(Answer::Damaged);
-            }
-        }
-        Request::Show {
-            file,
             part,
             options,
-        } => show(rt, file, part, options, out, notes)?,
-        Request::Check { file, options } => {
-            if !check(rt, file, options, out, notes)? {
-                return Ok(Answer::Damaged);
-            }
-        }
+        } => shown(rt, file, part, options, out, notes),
+        Request::Check { file, options } => answer_of(check(rt, file, options, out, notes)),
         Request::Recover {
             file,
             to: Some(to),
             options,
             ..
-        } => recover_to(rt, file, to, options, out, notes)?,
+        } => done(recover_to(rt, file, to, options, out, notes)),
         Request::Recover {
             file,
             to: None,
             force,
             options,
-        } => {
-            let outcome = recover(rt, file, force, options, notes)?;
-            write_outcome(out, options.style, outcome)?;
-            out.flush()?;
+        } => done(recovered(rt, file, force, options, out, notes)),
+        Request::Report { file, to, options } => {
+            done(report_to(rt, file, to, options, out, notes))
         }
-        Request::Report { file, to, options } => report_to(rt, file, to, options, out, notes)?,
-        Request::Version => line(out, &VERSION)?,
+        Request::Version => match line(out, &VERSION) {
+            Ok(()) => Ok(Answer::Done),
+            Err(_) => Err(ShowError::Unwritten),
+        },
     }
-    Ok(Answer::Done)
 }
 
 /// The status where the words can't be read: 3 for want of memory, 2 where they aren't text.

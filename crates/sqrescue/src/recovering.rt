@@ -1,19 +1,18 @@
 //! The recovery of a database file from the log beside it.
 ghost use Rattle.std.specs.Prelude.{◌≡◌};
 
-use crate::hints::{tell_dropped, tell_length, told};
-use crate::in_use::OpenElsewhere;
-use crate::logs::{Beside, open_logs, opened};
 use crate::metered::Metered;
-use crate::paths::{Paths, paths_of};
-use crate::progress::{Count, Progress};
-use rollcore::replay_within;
+use rollcore::{RollError, replay_within};
 use sqfacts::{FileDisk, Guard, Notes, Outcome, Refusal, metadata_of, read_or_zeros};
 use sqjournal::is_magic;
+use sqopen::{
+    Beside, Count, OpenElsewhere, OpenedFile, Paths, Progress, counting_log, open_database,
+    open_logs, paths_of, tell_dropped, told,
+};
 use sqpage::{has_magic, named_page_size};
 use sqshown::limits_of;
 use sqval::{Limits, PageSize};
-use sqview::{FileBytes, LogInUse, log_in_use, scan_log_within};
+use sqview::{FileBytes, LogInUse, scan_log_within};
 use sqwal::{Scan, WalFormatError, WalHeader};
 use sqwords::{Options, SuperJournal};
 use std::alloc::Global;
@@ -22,7 +21,7 @@ use std::io::{self, Write};
 use std::os::unix::fs::FileExt;
 use std::rt::Files;
 use std::time::Clock;
-use walcore::fold_within;
+use walcore::{Folded, WalError, fold_within};
 
 /// How often each byte of a write-ahead log is read at most where it is folded and said what of it is dropped: for that
 /// scan, for that of the fold, and as its page is copied.
@@ -46,21 +45,62 @@ where
     R::File: FileExt,
 {
     let paths = paths_of(rt, file, notes)?;
-    let progress = Progress::new(rt, notes.again(), options);
-    let guard = OpenElsewhere {
-        rt,
-        paths: &paths,
-        forced,
-        meter: &progress,
-    };
-    guard.ask()?;
-    match recover_logged(rt, &paths, guard, options, &progress, notes) {
+    match recover_guarded(rt, &paths, forced, options, notes) {
         Ok(outcome) => Ok(outcome),
         Err(refusal) => Err(paths.told(notes, refusal)),
     }
 }
 
 /// The same, of the files with these paths.
+fn recover_guarded<R: Files + AllocGlobal + Clock, E: Write>(
+    rt: &R,
+    paths: &Paths,
+    forced: bool,
+    options: Options,
+    notes: &mut Notes<'_, E>,
+) -> Result<Outcome, Refusal>
+where
+    R::File: FileExt,
+{
+    let progress = Progress::new(rt, notes.again(), options);
+    let guard = OpenElsewhere {
+        rt,
+        paths,
+        forced,
+        meter: &progress,
+    };
+    match guard.ask() {
+        Ok(()) => recover_logged(rt, paths, guard, options, &progress, notes),
+        Err(refusal) => Err(refusal),
+    }
+}
+
+/// The log that counts, the opened write-ahead log, and the length of the journal.
+type Counting<'a, F> = (LogInUse, OpenedFile<'a, F>, u64);
+
+/// The log that counts of a database's files.
+fn log_now<'a, R: Files + AllocGlobal, E: Write>(
+    rt: &R,
+    paths: &'a Paths,
+    options: Options,
+    notes: &mut Notes<'_, E>,
+) -> Result<Counting<'a, R::File>, Refusal>
+where
+    R::File: FileExt,
+{
+    let Beside {
+        db,
+        wal,
+        mut journal,
+    } = open_logs(rt, paths, options.super_journal, None, notes)?;
+    tell_database(rt, paths, db, notes);
+    match counting_log(&wal, &mut journal) {
+        Ok(in_use) => Ok((in_use, wal, journal.len())),
+        Err(refusal) => Err(refusal),
+    }
+}
+
+/// Recovers the files with these paths, which no other process is known to have open.
 fn recover_logged<R: Files + AllocGlobal, G: Guard, M: Count, E: Write>(
     rt: &R,
     paths: &Paths,
@@ -72,29 +112,22 @@ fn recover_logged<R: Files + AllocGlobal, G: Guard, M: Count, E: Write>(
 where
     R::File: FileExt,
 {
-    let Beside {
-        db,
-        wal,
-        mut journal,
-    } = open_logs(rt, paths, options.super_journal, None, notes)?;
-    if notes.are_asked() {
-        tell_database(rt, paths, db, notes);
-    }
-    match log_in_use(&wal, &mut journal)? {
-        LogInUse::Neither => Ok(Outcome::Nothing),
-        LogInUse::Wal => {
+    match log_now(rt, paths, options, notes) {
+        Ok((LogInUse::Neither, ..)) => Ok(Outcome::Nothing),
+        Ok((LogInUse::Wal, wal, _)) => {
             meter.begin(wal.len().saturating_mul(WAL_READS));
             let wal = Metered::new(wal, Some(meter));
             fold_log(rt, paths, limits_of(options), wal, guard, notes)
         }
-        LogInUse::Journal(_) => {
-            meter.begin(journal.len().saturating_mul(JOURNAL_READS));
-            roll_back(rt, paths, options, journal.len(), guard, notes)
+        Ok((LogInUse::Journal(_), _, length)) => {
+            meter.begin(length.saturating_mul(JOURNAL_READS));
+            roll_back(rt, paths, options, length, guard, notes)
         }
+        Err(refusal) => Err(refusal),
     }
 }
 
-/// Says how long a database file is that was found, if it can be opened.
+/// Where it is asked for, says how long a database file is that was found, if it can be opened.
 fn tell_database<R: Files, E: Write>(
     rt: &R,
     paths: &Paths,
@@ -104,9 +137,39 @@ fn tell_database<R: Files, E: Write>(
 where
     R::File: FileExt,
 {
-    if let Ok(mut db) = opened(rt, &paths.db, Some(found), 0, notes) {
-        tell_length(notes, paths.db.as_str(), &mut db);
+    if notes.are_asked() {
+        // A file that can't be opened is told of.
+        let _ = open_database(rt, paths, &found, notes);
     }
+}
+
+/// Opens a database file and its hot journal of this length, to replay it; one of a transaction over several files only
+/// where it is said to count.
+fn open_to_replay<R: Files, E: Write>(
+    rt: &R,
+    paths: &Paths,
+    options: Options,
+    length: u64,
+    notes: &mut Notes<'_, E>,
+) -> Result<(R::File, R::File), Refusal>
+where
+    R::File: FileExt,
+{
+    let (db, journal) = open_both(rt, paths.db.as_str(), paths.journal.as_str(), notes)?;
+    match ends_in_magic(&journal, length) {
+        Ok(names_super) if names_super && options.super_journal != Some(SuperJournal::Present) => {
+            Err(Refusal::SuperJournal)
+        }
+        Ok(_) => Ok((db, journal)),
+        Err(error) => Err(told(notes, paths.journal.as_str(), error)),
+    }
+}
+
+/// Whether a journal of this length ends as one that names a super-journal.
+fn ends_in_magic<F: FileExt>(journal: &F, length: u64) -> io::Result<bool> {
+    let mut end = [0u8; 8];
+    read_or_zeros(journal, length.saturating_sub(8), &mut end)?;
+    Ok(is_magic(&end))
 }
 
 /// Replays a hot journal of this length; one of a transaction over several files only where it is said to count.
@@ -121,26 +184,80 @@ fn roll_back<R: Files + AllocGlobal, G: Guard, E: Write>(
 where
     R::File: FileExt,
 {
-    let db = open(rt, paths.db.as_str(), notes)?;
-    let journal = open(rt, paths.journal.as_str(), notes)?;
-    let mut end = [0u8; 8];
-    if let Err(error) = read_or_zeros(&journal, length.saturating_sub(8), &mut end) {
-        return Err(told(notes, paths.journal.as_str(), error));
+    match open_to_replay(rt, paths, options, length, notes) {
+        Ok((db, journal)) => {
+            let disk = FileDisk::new(db, journal, guard);
+            replay_on(rt.alloc(), paths, limits_of(options), disk, notes)
+        }
+        Err(refusal) => Err(refusal),
     }
-    if is_magic(&end) && options.super_journal != Some(SuperJournal::Present) {
-        return Err(Refusal::SuperJournal);
-    }
-    let mut disk = FileDisk::new(db, journal, guard);
-    match replay_within(rt.alloc(), &mut disk, limits_of(options)) {
+}
+
+/// Replays the journal of a disk.
+fn replay_disk<F: FileExt + OpenFile + Drop, G: Guard>(
+    alloc: Global,
+    limits: Limits,
+    disk: &mut FileDisk<F, G>,
+) -> Result<Outcome, RollError> {
+    match replay_within(alloc, disk, limits) {
         Ok(replayed) if replayed.hot => Ok(Outcome::RolledBack {
             records: replayed.records,
             pages: replayed.size,
         }),
         Ok(_) => Ok(Outcome::Nothing),
+        Err(error) => Err(error),
+    }
+}
+
+/// The same, of files with these paths. Which call the system refused is told.
+fn replay_on<F: FileExt + OpenFile + Drop, G: Guard, E: Write>(
+    alloc: Global,
+    paths: &Paths,
+    limits: Limits,
+    disk: FileDisk<F, G>,
+    notes: &mut Notes<'_, E>,
+) -> Result<Outcome, Refusal> {
+    let mut disk = disk;
+    match replay_disk(alloc, limits, &mut disk) {
+        Ok(outcome) => Ok(outcome),
         Err(error) => {
             disk.tell(paths.db.as_str(), paths.journal.as_str(), notes);
             Err(disk.refusal().unwrap_or(Refusal::from(error)))
         }
+    }
+}
+
+/// A database file and its log, opened to fold the log into it by this page size, and the log's scan where what is
+/// dropped is to be told.
+#[derive(Drop)]
+struct Folding<F> {
+    db: F,
+    log: F,
+    page_size: PageSize,
+    scan: Option<Scan>,
+}
+
+/// Opens a database file and its write-ahead log to fold that, whose bytes are these.
+fn open_to_fold<R: Files + AllocGlobal, L: FileBytes, E: Write>(
+    rt: &R,
+    paths: &Paths,
+    limits: Limits,
+    bytes: &mut L,
+    notes: &mut Notes<'_, E>,
+) -> Result<Folding<R::File>, Refusal>
+where
+    R::File: FileExt,
+{
+    let (db, log) = open_both(rt, paths.db.as_str(), paths.wal.as_str(), notes)?;
+    let scan = asked_scan(rt.alloc(), limits, bytes, notes);
+    match page_size_of(rt.alloc(), limits, &db, paths.db.as_str(), bytes, notes) {
+        Ok(page_size) => Ok(Folding {
+            db,
+            log,
+            page_size,
+            scan,
+        }),
+        Err(refusal) => Err(refusal),
     }
 }
 
@@ -156,35 +273,96 @@ fn fold_log<R: Files + AllocGlobal, G: Guard, L: FileBytes + Drop, E: Write>(
 where
     R::File: FileExt,
 {
-    let alloc = rt.alloc();
     let mut bytes = bytes;
-    let db = open(rt, paths.db.as_str(), notes)?;
-    let log = open(rt, paths.wal.as_str(), notes)?;
+    let folding = open_to_fold(rt, paths, limits, &mut bytes, notes);
     let length = bytes.len();
-    let scan = if notes.are_asked() {
-        scan_of(alloc, limits, &mut bytes)
-    } else {
-        None
-    };
-    let page_size = page_size_of(alloc, limits, &db, paths.db.as_str(), bytes, notes)?;
-    let mut disk = FileDisk::new(db, log, guard);
-    let folded = match fold_within(alloc, &mut disk, page_size, limits) {
-        Ok(folded) => folded,
+    drop(bytes);
+    match folding {
+        Ok(
+            Folding {
+                db,
+                log,
+                page_size,
+                scan,
+            },
+        ) => {
+            let disk = FileDisk::new(db, log, guard);
+            let folded = fold_on(rt.alloc(), paths, limits, disk, page_size, notes);
+            told_fold(folded, length, scan, notes)
+        }
+        Err(refusal) => Err(refusal),
+    }
+}
+
+/// Folds the log of a disk.
+fn fold_disk<F: FileExt + OpenFile + Drop, G: Guard>(
+    alloc: Global,
+    limits: Limits,
+    disk: &mut FileDisk<F, G>,
+    page_size: PageSize,
+) -> Result<Folded, WalError> {
+    fold_within(alloc, disk, page_size, limits)
+}
+
+/// The same, of files with these paths. Which call the system refused is told.
+fn fold_on<F: FileExt + OpenFile + Drop, G: Guard, E: Write>(
+    alloc: Global,
+    paths: &Paths,
+    limits: Limits,
+    disk: FileDisk<F, G>,
+    page_size: PageSize,
+    notes: &mut Notes<'_, E>,
+) -> Result<Folded, Refusal> {
+    let mut disk = disk;
+    match fold_disk(alloc, limits, &mut disk, page_size) {
+        Ok(folded) => Ok(folded),
         Err(error) => {
             disk.tell(paths.db.as_str(), paths.wal.as_str(), notes);
-            return Err(disk.refusal().unwrap_or(Refusal::from(error)));
+            Err(disk.refusal().unwrap_or(Refusal::from(error)))
         }
-    };
-    if let Some(scan) = scan {
-        tell_dropped(notes, length, &scan);
     }
-    Ok(match folded.frames {
+}
+
+/// What a fold comes to, of a log of this length. Where it has a scan, it is told what of the log is dropped.
+fn told_fold<E: Write>(
+    folded: Result<Folded, Refusal>,
+    length: u64,
+    scan: Option<Scan>,
+    notes: &mut Notes<'_, E>,
+) -> Result<Outcome, Refusal> {
+    match folded {
+        Ok(folded) => {
+            if let Some(scan) = scan {
+                tell_dropped(notes, length, &scan);
+            }
+            Ok(outcome_of(folded))
+        }
+        Err(refusal) => Err(refusal),
+    }
+}
+
+fn outcome_of(folded: Folded) -> Outcome {
+    match folded.frames {
         0 => Outcome::NoFront,
         frames => Outcome::Folded {
             frames,
             pages: folded.size,
         },
-    })
+    }
+}
+
+/// The scan of a log, where notes are asked for and it can be scanned.
+fn asked_scan<F: FileBytes, E: Write>(
+    alloc: Global,
+    limits: Limits,
+    log: &mut F,
+    notes: &mut Notes<'_, E>,
+) -> Option<Scan> {
+    if notes.are_asked() {
+        scan_of(alloc, limits, log)
+    } else {
+        None
+    }
 }
 
 /// The scan of a log, if it can be scanned.
@@ -195,6 +373,7 @@ fn scan_of<F: FileBytes>(alloc: Global, limits: Limits, log: &mut F) -> Option<S
     }
 }
 
+/// Opens a file to read and to write it. Why it can't be opened is told.
 fn open<R: Files, E: Write>(
     rt: &R,
     path: &str,
@@ -206,33 +385,53 @@ fn open<R: Files, E: Write>(
     }
 }
 
+/// The same, of a database file and its log.
+fn open_both<R: Files, E: Write>(
+    rt: &R,
+    db: &str,
+    log: &str,
+    notes: &mut Notes<'_, E>,
+) -> Result<(R::File, R::File), Refusal> {
+    let db = open(rt, db, notes)?;
+    match open(rt, log, notes) {
+        Ok(log) => Ok((db, log)),
+        Err(refusal) => Err(refusal),
+    }
+}
+
+/// The page size that a log's header names; none where it isn't valid.
+fn log_page_size<L: FileBytes>(log: &mut L) -> Result<Option<PageSize>, Refusal> {
+    if log.len() < 32 {
+        return Ok(None);
+    }
+    let mut head = [0u8; 32];
+    log.read_at(0, &mut head)?;
+    match WalHeader::read(&head) {
+        Ok(header) => Ok(Some(header.page_size)),
+        Err(WalFormatError::UnknownVersion) => Err(Refusal::UnknownLogVersion),
+        Err(_) => Ok(None),
+    }
+}
+
 /// The page size to fold by into a database file with this path: the log header's, or 512 where there is no valid one,
 /// since then there is no frame.
-fn page_size_of<F: FileExt + OpenFile, L: FileBytes + Drop, E: Write>(
+fn page_size_of<F: FileExt + OpenFile, L: FileBytes, E: Write>(
     alloc: Global,
     limits: Limits,
     db: &F,
     path: &str,
-    log: L,
+    log: &mut L,
     notes: &mut Notes<'_, E>,
 ) -> Result<PageSize, Refusal> {
-    let mut log = log;
-    let mut head = [0u8; 32];
-    if log.len() < 32 {
+    let Some(page_size) = log_page_size(log)? else {
         return Ok(smallest());
-    }
-    log.read_at(0, &mut head)?;
-    let page_size = match WalHeader::read(&head) {
-        Ok(header) => header.page_size,
-        Err(WalFormatError::UnknownVersion) => return Err(Refusal::UnknownLogVersion),
-        Err(_) => return Ok(smallest()),
     };
     let own = match database_page_size(db) {
         Ok(own) => own,
         Err(error) => return Err(told(notes, path, error)),
     };
     match own {
-        Some(own) if own != page_size && has_front(alloc, limits, &mut log)? => Err(
+        Some(own) if own != page_size && has_front(alloc, limits, log)? => Err(
             Refusal::PageSizesDiffer,
         ),
         _ => Ok(page_size),

@@ -1,15 +1,13 @@
 //! A page of HTML that shows a database and its log.
-use crate::copies::{new_file, sync_folder};
-use crate::fronts::as_before;
-use crate::hints::told;
-use crate::logs::{Beside, open_logs};
-use crate::paths::{Paths, is_log_of, look_at, paths_of};
+use crate::copies::{judge_name, new_file, sync_folder};
 use crate::program::VERSION;
-use crate::progress::{Count, Progress};
 use crate::surveys::{Counted, surveyed_now};
-use crate::watch::{readings_of, time_to_wait};
-use sqfacts::{NoteWriter, Notes, Readings, Refusal};
+use sqfacts::{Front, NoteWriter, Notes, Readings, Refusal};
 use sqlines::{HEAD, TAIL};
+use sqopen::{
+    Beside, Count, Paths, Progress, as_before, look_at, open_logs, paths_of, readings_of,
+    time_to_wait, told,
+};
 use sqshown::{
     LogFound, ReportFacts, ShowError, facts_of, limits_of, log_of, write_report_facts,
     write_verdict,
@@ -66,8 +64,28 @@ where
     }
 }
 
+/// The front of the log at which something was found, if a frame counts.
+fn front_of<F: FileBytes>(facts: &Result<ReportFacts<F>, Refusal>) -> Option<Front> {
+    match facts {
+        Ok(facts) => facts.found.front(),
+        Err(_) => None,
+    }
+}
+
+/// An answer, of whose refusal it is told why a file couldn't be read.
+fn told_answer<T: Drop, E: Write>(
+    paths: &Paths,
+    answer: Result<T, Refusal>,
+    notes: &mut Notes<'_, E>,
+) -> Result<T, Refusal> {
+    match answer {
+        Ok(value) => Ok(value),
+        Err(refusal) => Err(paths.told(notes, refusal)),
+    }
+}
+
 /// What a report shows, if the files are as they were before, and the frames of the log that counted still stand.
-fn watched<'a, R: Files + AllocGlobal, M: Count, E: Write>(
+fn watched_facts<'a, R: Files + AllocGlobal, M: Count, E: Write>(
     rt: &R,
     paths: &'a Paths,
     before: &Readings,
@@ -79,15 +97,9 @@ where
     R::File: FileExt,
 {
     let facts = facts_now(rt, paths, options, meter, notes);
-    let front = match &facts {
-        Ok(facts) => facts.found.front(),
-        Err(_) => None,
-    };
+    let front = front_of(&facts);
     match as_before(rt, paths, before, false, front, notes) {
-        Ok(()) => match facts {
-            Ok(facts) => Ok(facts),
-            Err(refusal) => Err(paths.told(notes, refusal)),
-        },
+        Ok(()) => told_answer(paths, facts, notes),
         Err(refusal) => Err(refusal),
     }
 }
@@ -139,17 +151,47 @@ pub(crate) fn report_to<R: Files + AllocGlobal + Clock, O: Write, E: Write>(
 where
     R::File: FileExt,
 {
-    let paths = paths_of(rt, file, notes)?;
-    let before = readings_of(rt, &paths, false, notes)?;
-    thread::sleep(rt, time_to_wait(rt, &before));
-    let progress = Progress::new(rt, notes.again(), options);
-    match watched(rt, &paths, &before, options, &progress, notes) {
-        Ok(facts) => {
-            make_page(rt, &paths, to, file, &facts, notes)?;
-            answer_of(rt, to, printed(out, options, &facts), notes)
-        }
+    match paths_of(rt, file, notes) {
+        Ok(paths) => report_from(rt, &paths, (file, to), options, out, notes),
         Err(refusal) => Err(ShowError::Refused(refusal)),
     }
+}
+
+/// The same, of the files with these paths, by the names of the database file and of the page.
+fn report_from<R: Files + AllocGlobal + Clock, O: Write, E: Write>(
+    rt: &R,
+    paths: &Paths,
+    names: (&str, &str),
+    options: Options,
+    out: &mut O,
+    notes: &mut Notes<'_, E>,
+) -> Result<(), ShowError>
+where
+    R::File: FileExt,
+{
+    let (file, to) = names;
+    let before = readings_of(rt, paths, false, notes)?;
+    thread::sleep(rt, time_to_wait(rt, &before));
+    let progress = Progress::new(rt, notes.again(), options);
+    match watched_facts(rt, paths, &before, options, &progress, notes) {
+        Ok(facts) => match make_page(rt, paths, to, file, &facts, notes) {
+            Ok(()) => answer_of(rt, to, printed(out, options, &facts), notes),
+            Err(error) => Err(error),
+        },
+        Err(refusal) => Err(ShowError::Refused(refusal)),
+    }
+}
+
+/// A new file for the page.
+fn new_page<R: Files, E: Write>(
+    rt: &R,
+    paths: &Paths,
+    to: &str,
+    notes: &mut Notes<'_, E>,
+) -> Result<R::File, Refusal> {
+    judge_name(rt, paths, to, notes)?;
+    let mode = mode_of(rt, paths, notes)?;
+    new_file(rt, to, mode, notes)
 }
 
 /// Makes the page. It is removed where it fails.
@@ -164,12 +206,10 @@ fn make_page<R: Files + AllocGlobal, F: FileBytes, E: Write>(
 where
     R::File: FileExt,
 {
-    if is_log_of(rt, paths, to) {
-        notes.tell(&format_args!("{to}: a log's name"));
-        return Err(ShowError::Refused(Refusal::FileFailed));
-    }
-    let mode = mode_of(rt, paths, notes)?;
-    let made = new_file(rt, to, mode, notes)?;
+    let made = match new_page(rt, paths, to, notes) {
+        Ok(made) => made,
+        Err(refusal) => return Err(ShowError::Refused(refusal)),
+    };
     match fill(rt, made, file, facts) {
         Ok(()) => {
             sync_folder(rt, to);
@@ -177,8 +217,16 @@ where
         }
         Err(error) => {
             let refusal = told(notes, to, error);
-            answer_of(rt, to, Err(ShowError::Refused(refusal)), notes)
+            remove_made(rt, to, notes);
+            Err(ShowError::Refused(refusal))
         }
+    }
+}
+
+/// Removes a file that was made. Where that fails it is told.
+pub(crate) fn remove_made<R: Files, E: Write>(rt: &R, to: &str, notes: &mut Notes<'_, E>) {
+    if let Err(error) = fs::remove_file(rt, to) {
+        notes.tell(&format_args!("{to}: {error}"));
     }
 }
 
@@ -190,9 +238,7 @@ pub(crate) fn answer_of<R: Files, E: Write>(
     notes: &mut Notes<'_, E>,
 ) -> Result<(), ShowError> {
     if answer.is_err() {
-        if let Err(error) = fs::remove_file(rt, to) {
-            notes.tell(&format_args!("{to}: {error}"));
-        }
+        remove_made(rt, to, notes);
     }
     answer
 }

@@ -1,10 +1,7 @@
 //! What `show` prints.
-use crate::fronts::as_before;
-use crate::logs::{Beside, open_all, open_logs};
-use crate::opened_file::OpenedFile;
-use crate::paths::{Paths, paths_of};
-use crate::watch::readings_of;
+use crate::opening::open_all;
 use sqfacts::{Front, Notes, Readings, Refusal};
+use sqopen::{Beside, OpenedFile, Paths, as_before, open_logs, paths_of, readings_of};
 use sqshown::{
     Contents, ShowError, show_commits, show_header, show_log, show_page, show_whole_log,
 };
@@ -31,8 +28,10 @@ pub(crate) fn show<R: Files + AllocGlobal, O: Write, E: Write>(
 where
     R::File: FileExt,
 {
-    let paths = paths_of(rt, file, notes)?;
-    show_kept(rt, &paths, part, options, out, notes)
+    match paths_of(rt, file, notes) {
+        Ok(paths) => show_kept(rt, &paths, part, options, out, notes),
+        Err(refusal) => Err(ShowError::Refused(refusal)),
+    }
 }
 
 /// The same, of the files with these paths.
@@ -47,12 +46,36 @@ fn show_kept<R: Files + AllocGlobal, O: Write, E: Write>(
 where
     R::File: FileExt,
 {
-    let Ok(mut lines) = BufWriter::with_capacity(rt.alloc(), KEPT, out) else {
-        return Err(ShowError::Refused(Refusal::NoMemory));
-    };
-    match show_watched(rt, paths, part, options, &mut lines, notes) {
-        Ok(Ok(_)) => Ok(lines.flush()?),
-        Ok(Err(ShowError::Refused(refusal))) => Err(ShowError::Refused(paths.told(notes, refusal))),
+    match BufWriter::with_capacity(rt.alloc(), KEPT, out) {
+        Ok(mut lines) => {
+            let answer = show_watched(rt, paths, part, options, &mut lines, notes);
+            end_lines(lines, told_answer(paths, answer, notes))
+        }
+        Err(_) => Err(ShowError::Refused(Refusal::NoMemory)),
+    }
+}
+
+/// What a part comes to: its front, or why not all was shown; refused where a file changed meanwhile.
+type Answer = Result<Result<Option<Front>, ShowError>, Refusal>;
+
+/// The same answer, of whose refusal it is told why a file couldn't be read.
+fn told_answer<E: Write>(paths: &Paths, answer: Answer, notes: &mut Notes<'_, E>) -> Answer {
+    match answer {
+        Ok(Err(ShowError::Refused(refusal))) => {
+            Ok(Err(ShowError::Refused(paths.told(notes, refusal))))
+        }
+        answer => answer,
+    }
+}
+
+/// Prints the lines that were kept back, but for those of files that changed.
+fn end_lines<W: Write + Drop>(lines: BufWriter<W>, answer: Answer) -> Result<(), ShowError> {
+    let mut lines = lines;
+    match answer {
+        Ok(Ok(_)) => match lines.flush() {
+            Ok(()) => Ok(()),
+            Err(_) => Err(ShowError::Unwritten),
+        },
         Ok(Err(error)) => Err(error),
         Err(refusal) => {
             let (_, _) = lines.into_parts();
@@ -69,7 +92,7 @@ fn show_watched<R: Files + AllocGlobal, W: Write, E: Write>(
     options: Options,
     out: &mut W,
     notes: &mut Notes<'_, E>,
-) -> Result<Result<Option<Front>, ShowError>, Refusal>
+) -> Answer
 where
     R::File: FileExt,
 {
@@ -83,8 +106,10 @@ where
         Ok(front) => *front,
         Err(_) => None,
     };
-    as_before(rt, paths, &before, only_logs, front, notes)?;
-    Ok(answer)
+    match as_before(rt, paths, &before, only_logs, front, notes) {
+        Ok(()) => Ok(answer),
+        Err(refusal) => Err(refusal),
+    }
 }
 
 /// Says how long a database file is of which nothing else is read.
@@ -116,12 +141,16 @@ where
         // Written by `show_pages`.
         Part::Pages => Ok(None),
         Part::Log { all: false } | Part::Commits => {
-            let logs = open_logs(rt, paths, super_journal, at, notes)?;
-            show_of_logs(rt.alloc(), logs, part, options, out)
+            match open_logs(rt, paths, super_journal, at, notes) {
+                Ok(logs) => show_of_logs(rt.alloc(), logs, part, options, out),
+                Err(refusal) => Err(ShowError::Refused(refusal)),
+            }
         }
         Part::Header | Part::Page(_) | Part::Log { all: true } => {
-            let files = open_all(rt, paths, super_journal, at, notes)?;
-            show_of_files(rt.alloc(), files, part, options, out)
+            match open_all(rt, paths, super_journal, at, notes) {
+                Ok(files) => show_of_files(rt.alloc(), files, part, options, out),
+                Err(refusal) => Err(ShowError::Refused(refusal)),
+            }
         }
     }
 }

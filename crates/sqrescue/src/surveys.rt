@@ -1,15 +1,12 @@
 //! What a survey of a database finds, as its log has it.
-use crate::fronts::as_before;
-use crate::logs::open_all;
 use crate::metered::{Metered, db_metered};
-use crate::opened_file::OpenedFile;
-use crate::paths::Paths;
-use crate::progress::Count;
-use crate::watch::{readings_of, time_to_wait};
-use sqfacts::{NoteWriter, Notes, Readings, Refusal, unchanged};
-use sqshown::{Found, asked_of, read_ahead, survey_files};
-use sqview::ReadAhead;
+use crate::opening::open_all;
+use sqfacts::{Front, NoteWriter, Notes, Readings, Refusal, unchanged};
+use sqopen::{Count, OpenedFile, Paths, readings_of, time_to_wait, watched};
+use sqshown::{Contents, Found, asked_of, read_ahead, survey_files};
+use sqview::{FileBytes, ReadAhead};
 use sqwords::Options;
+use std::alloc::Global;
 use std::io::{self, Write};
 use std::os::unix::fs::FileExt;
 use std::rt::Files;
@@ -36,28 +33,48 @@ pub(crate) fn surveyed_now<'a, R: Files + AllocGlobal, M: Count, E: Write>(
 where
     R::File: FileExt,
 {
-    let files = open_all(rt, paths, options.super_journal, options.at, notes)?;
-    let files = db_metered(read_ahead(rt.alloc(), files, PIECE)?, meter);
-    survey_files(rt.alloc(), asked_of(options), files)
+    match open_all(rt, paths, options.super_journal, options.at, notes) {
+        Ok(files) => surveyed(rt.alloc(), options, files, meter),
+        Err(refusal) => Err(refusal),
+    }
 }
 
-/// What was found of files, if they are as they were before, and the frames of the log that counted still stand.
-fn watched<'a, R: Files, M: Count, E: Write>(
-    rt: &R,
-    paths: &'a Paths,
-    before: &Readings,
-    found: Result<FoundFiles<'a, R::File, M>, Refusal>,
-    notes: &mut Notes<'_, E>,
-) -> Result<FoundFiles<'a, R::File, M>, Refusal>
-where
-    R::File: FileExt,
-{
-    let front = match &found {
+/// What a survey of opened files finds.
+fn surveyed<'a, F: FileExt + Drop, M: Count>(
+    alloc: Global,
+    options: Options,
+    files: Contents<OpenedFile<'a, F>>,
+    meter: &'a M,
+) -> Result<FoundFiles<'a, F, M>, Refusal> {
+    match read_ahead(alloc, files, PIECE) {
+        Ok(files) => survey_of(alloc, options, db_metered(files, meter)),
+        Err(refusal) => Err(refusal),
+    }
+}
+
+/// The same, of files from anywhere.
+fn survey_of<F: FileBytes + Drop>(
+    alloc: Global,
+    options: Options,
+    files: Contents<F>,
+) -> Result<Found<F>, Refusal> {
+    survey_files(alloc, asked_of(options), files)
+}
+
+/// The front of the log at which something was found, if a frame counts.
+fn front_of<F: FileBytes>(found: &Result<Found<F>, Refusal>) -> Option<Front> {
+    match found {
         Ok(found) => found.front(),
         Err(_) => None,
-    };
-    as_before(rt, paths, before, false, front, notes)?;
-    found
+    }
+}
+
+/// Whether a fault was found.
+fn is_damaged<F>(found: &Result<Found<F>, Refusal>) -> bool {
+    match found {
+        Ok(found) => found.is_damaged(),
+        Err(_) => false,
+    }
 }
 
 /// What a survey finds of files that don't change meanwhile. Where they were changed so shortly before that a further
@@ -75,12 +92,29 @@ where
     let before = readings_of(rt, paths, false, notes)?;
     let wait = time_to_wait(rt, &before);
     let found = surveyed_now(rt, paths, options, meter, notes);
-    match watched(rt, paths, &before, found, notes) {
-        Ok(found) if found.is_damaged() && !wait.is_zero() => {}
-        answer => return answer,
+    let front = front_of(&found);
+    let found = watched(rt, paths, &before, front, found, notes);
+    if wait.is_zero() || !is_damaged(&found) {
+        return found;
     }
+    drop(found);
     thread::sleep(rt, wait);
     surveyed_again(rt, paths, options, &before, meter, notes)
+}
+
+/// What a survey of files finds now, of which no note is written.
+fn surveyed_unheard<'a, R: Files + AllocGlobal, M: Count>(
+    rt: &R,
+    paths: &'a Paths,
+    options: Options,
+    meter: &'a M,
+) -> Result<FoundFiles<'a, R::File, M>, Refusal>
+where
+    R::File: FileExt,
+{
+    let nowhere = NoteWriter::new(io::sink());
+    let mut unheard = Notes::new(&nowhere, false);
+    surveyed_now(rt, paths, options, meter, &mut unheard)
 }
 
 /// The same later, of files that are as they were before.
@@ -97,8 +131,7 @@ where
 {
     let settled = readings_of(rt, paths, false, notes)?;
     unchanged(before, &settled, Ok(()))?;
-    let nowhere = NoteWriter::new(io::sink());
-    let mut unheard = Notes::new(&nowhere, false);
-    let found = surveyed_now(rt, paths, options, meter, &mut unheard);
-    watched(rt, paths, &settled, found, notes)
+    let found = surveyed_unheard(rt, paths, options, meter);
+    let front = front_of(&found);
+    watched(rt, paths, &settled, front, found, notes)
 }

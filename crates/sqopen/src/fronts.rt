@@ -3,7 +3,7 @@ use crate::hints::told;
 use crate::paths::{Paths, is_missing};
 use crate::watch::readings_of;
 use sqfacts::{Front, Notes, Reading, Readings, Refusal, read_or_zeros, standing, unchanged};
-use std::fs::OpenOptions;
+use std::fs::File;
 use std::io::{self, Write};
 use std::os::unix::fs::FileExt;
 use std::rt::Files;
@@ -14,9 +14,17 @@ where
     R::File: FileExt,
 {
     let mut head = [0u8; 24];
-    let file = OpenOptions::new().read(true).open(rt, path)?;
+    let file = File::open(rt, path)?;
     read_or_zeros(&file, front.place(), &mut head)?;
     Ok(head)
+}
+
+/// The header of a log that began so.
+fn header_of(began: Option<Reading>) -> Option<[u8; 32]> {
+    match began {
+        Some(log) => log.front,
+        None => None,
+    }
 }
 
 /// FileChanged where the frames up to this front of a log that began so don't stand any more.
@@ -30,8 +38,7 @@ fn still_standing<R: Files, E: Write>(
 where
     R::File: FileExt,
 {
-    let header = began.and_then(|log| log.front);
-    let (Some(front), Some(header)) = (front, header) else {
+    let (Some(front), Some(header)) = (front, header_of(began)) else {
         return Ok(());
     };
     match head_of(rt, path, front) {
@@ -43,7 +50,7 @@ where
 
 /// FileChanged where files aren't as they were before, or the frames up to this front don't stand any more. Where only
 /// the logs are read, the database file needn't be readable.
-pub(crate) fn as_before<R: Files, E: Write>(
+pub fn as_before<R: Files, E: Write>(
     rt: &R,
     paths: &Paths,
     before: &Readings,
@@ -57,4 +64,22 @@ where
     let after = readings_of(rt, paths, only_logs, notes)?;
     unchanged(before, &after, Ok(()))?;
     still_standing(rt, paths.wal.as_str(), before.wal, front, notes)
+}
+
+/// An answer, if the files are as they were before, and the frames up to this front still stand.
+pub fn watched<R: Files, T: Drop, E: Write>(
+    rt: &R,
+    paths: &Paths,
+    before: &Readings,
+    front: Option<Front>,
+    answer: Result<T, Refusal>,
+    notes: &mut Notes<'_, E>,
+) -> Result<T, Refusal>
+where
+    R::File: FileExt,
+{
+    match as_before(rt, paths, before, false, front, notes) {
+        Ok(()) => answer,
+        Err(refusal) => Err(refusal),
+    }
 }

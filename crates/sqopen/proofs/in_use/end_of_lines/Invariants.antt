@@ -1,5 +1,5 @@
 use Rattle.std.proofs.Common.{◌≡◌, ◌<◌, ◌≤◌, ◌-◌, ℕ, get_or}
-use Rattle.sqrescue.proofs.in_use.end_of_lines.Given as goal
+use Rattle.sqopen.proofs.in_use.end_of_lines.Given as goal
 
 -- so far the end is behind the last newline
 abbrev pub invariant-loop-i : goal.invariant-loop-i

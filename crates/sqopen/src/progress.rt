@@ -17,7 +17,7 @@ const MEBIBYTE: u64 = 1_048_576;
 const PAUSE: u64 = 1;
 
 /// Who is told how many bytes were read.
-pub(crate) trait Count {
+pub trait Count {
     /// So many bytes in all are to be read from now on, of which none is read.
     fn begin(&self, all: u64);
 
@@ -26,7 +26,7 @@ pub(crate) trait Count {
 }
 
 /// What is read of what is to be read.
-pub(crate) struct Progress<'a, C, E> {
+pub struct Progress<'a, C, E> {
     clock: &'a C,
     notes: Notes<'a, E>,
     /// When the last note was written, or the run began. None where nothing is to be said.
@@ -68,7 +68,7 @@ fn mebibytes(bytes: u64) -> u64
 
 impl<'a, C: Clock, E: Write> Progress<'a, C, E> {
     /// A run that begins now. Nothing is said of it but with `--large` and `-v`, nor where the clock can't be read.
-    pub(crate) fn new(clock: &'a C, notes: Notes<'a, E>, options: Options) -> Progress<'a, C, E> {
+    pub fn new(clock: &'a C, notes: Notes<'a, E>, options: Options) -> Progress<'a, C, E> {
         let is_asked = options.large && options.verbose;
         let last = if is_asked {
             Instant::now(clock).ok()
@@ -92,9 +92,14 @@ impl<'a, C: Clock, E: Write> Progress<'a, C, E> {
         };
         if now.duration_since(last) >= Duration::from_secs(PAUSE) {
             self.last.set(Some(now));
-            let (done, all) = (mebibytes(self.done.get()), mebibytes(self.all.get()));
-            self.notes.say(&format_args!("{done} of {all} MiB"));
+            self.tell();
         }
+    }
+
+    /// Says how far the run is.
+    fn tell(&self) {
+        let (done, all) = (mebibytes(self.done.get()), mebibytes(self.all.get()));
+        self.notes.say(&format_args!("{done} of {all} MiB"));
     }
 }
 

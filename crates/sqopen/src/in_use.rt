@@ -18,7 +18,7 @@ const ROOM: usize = 8192;
 /// Asks whether a process holds a POSIX lock on a database file or on its FILE-shm, as each connection of SQLite does
 /// that reads, writes, or has a database in WAL mode open. Where the locks can't be read, nothing is refused. It asks
 /// for no memory, so that it can be asked also once a file was changed. What is read is counted.
-pub(crate) struct OpenElsewhere<'a, R: Files, M> {
+pub struct OpenElsewhere<'a, R: Files, M> {
     pub rt: &'a R,
     pub paths: &'a Paths,
     /// Nothing is asked.

@@ -6,7 +6,7 @@ use std::io::{self, Write};
 
 /// The path of a file, and what the system said where a read of it failed last.
 #[derive(Drop)]
-pub(crate) struct Place {
+pub struct Place {
     path: String,
     failure: RefCell<Option<io::Error>>,
 }
@@ -19,7 +19,7 @@ impl Place {
         }
     }
 
-    pub(crate) fn as_str(&self) -> &str {
+    pub fn as_str(&self) -> &str {
         self.path.as_str()
     }
 
@@ -35,8 +35,12 @@ impl Place {
             return;
         };
         if let Some(error) = &*failure {
-            let path = self.path.as_str();
-            notes.tell(&format_args!("{path}: {error}"));
+            tell_failure(notes, self.path.as_str(), error);
         }
     }
+}
+
+/// Says what the system said of a path.
+fn tell_failure<E: Write>(notes: &mut Notes<'_, E>, path: &str, error: &io::Error) {
+    notes.tell(&format_args!("{path}: {error}"));
 }

@@ -1,5 +1,5 @@
 use Rattle.std.proofs.Common.{◌≤◌}
-use Rattle.sqrescue.proofs.in_use.has_lock.Given as goal
+use Rattle.sqopen.proofs.in_use.has_lock.Given as goal
 
 -- what is held fits
 abbrev pub invariant-loop : goal.invariant-loop

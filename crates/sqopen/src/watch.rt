@@ -4,7 +4,7 @@ ghost use Rattle.std.specs.Prelude.{◌≤◌};
 use crate::hints::told;
 use crate::paths::{Paths, is_missing, look_at};
 use sqfacts::{Notes, Reading, Readings, Refusal, identity_of, read_or_zeros};
-use std::fs::OpenOptions;
+use std::fs::File;
 use std::io::{self, Write};
 use std::os::unix::fs::{FileExt, MetadataExt};
 use std::rt::Files;
@@ -20,7 +20,7 @@ where
     requires { count ≤ 32 }
 {
     let mut front = [0u8; 32];
-    let file = OpenOptions::new().read(true).open(rt, path)?;
+    let file = File::open(rt, path)?;
     read_or_zeros(&file, at, &mut front[..count])?;
     Ok(front)
 }
@@ -60,7 +60,7 @@ where
 }
 
 /// What a database file and its logs are now. Where only the logs are read, the database file needn't be readable.
-pub(crate) fn readings_of<R: Files, E: Write>(
+pub fn readings_of<R: Files, E: Write>(
     rt: &R,
     paths: &Paths,
     only_logs: bool,
@@ -86,7 +86,7 @@ fn time_left(reading: &Reading, now: Duration) -> Duration {
 }
 
 /// How long to wait until each change of these files is dated later than their last ones.
-pub(crate) fn time_to_wait<C: Clock>(clock: &C, readings: &Readings) -> Duration {
+pub fn time_to_wait<C: Clock>(clock: &C, readings: &Readings) -> Duration {
     let Ok(now) = clock.since_1970() else {
         return Duration::from_millis(TICK);
     };

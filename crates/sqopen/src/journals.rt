@@ -10,7 +10,7 @@ use sqwords::SuperJournal;
 use std::os::unix::fs::FileExt;
 
 /// Whether a journal ends as one does that names a super-journal: with the magic.
-pub(crate) fn names_super_journal<F: FileBytes>(journal: &mut F) -> Result<bool, SourceError> {
+pub fn names_super_journal<F: FileBytes>(journal: &mut F) -> Result<bool, SourceError> {
     let mut end = [0u8; 8];
     let length = journal.len();
     journal.read_at(length.saturating_sub(8), &mut end)?;

@@ -9,7 +9,7 @@ use std::os::unix::fs::FileExt;
 /// An opened file of this length, or a missing one, which has none. What it holds no contract can say. Why a read
 /// failed is kept at the file's place.
 #[derive(Drop)]
-pub(crate) struct OpenedFile<'a, F> {
+pub struct OpenedFile<'a, F> {
     file: Option<(F, &'a Place)>,
     length: u64,
 }

@@ -1,0 +1,25 @@
+//! The real files of a database: where they lie, which of them are opened, whether another process has them open or
+//! changed them, and what is told of them.
+#![tactic(auto)]
+
+mod fronts;
+mod hints;
+mod in_use;
+mod journals;
+mod logs;
+mod opened_file;
+mod paths;
+mod place;
+mod progress;
+mod watch;
+
+pub use fronts::{as_before, watched};
+pub use hints::{tell_dropped, told};
+pub use in_use::OpenElsewhere;
+pub use journals::names_super_journal;
+pub use logs::{Beside, counting_log, open_database, open_logs};
+pub use opened_file::OpenedFile;
+pub use paths::{Paths, folder_of, is_log_of, look_at, paths_of};
+pub use place::Place;
+pub use progress::{Count, Progress};
+pub use watch::{readings_of, time_to_wait};

@@ -1,0 +1,257 @@
+//! The opened files of a database.
+use crate::hints::{Logs, tell_choice, tell_length, told, told_kind};
+use crate::journals::{is_out_of_force, is_valid_for_sqlite_alone, names_super_journal};
+use crate::opened_file::OpenedFile;
+use crate::paths::{Paths, are_apart, is_missing, look_at};
+use crate::place::Place;
+use sqfacts::{Notes, Refusal, identity_of};
+use sqpage::SourceError;
+use sqview::{FileBytes, LogInUse, hot_header, log_in_use};
+use sqwords::SuperJournal;
+use std::fs::{File, Metadata};
+use std::io::Write;
+use std::os::unix::fs::FileExt;
+use std::rt::Files;
+
+/// The shortest journal that can be hot, in bytes: a shorter one isn't opened.
+const SHORTEST: u64 = 28;
+
+/// What the system says of a log; none where there is no file, also where its name is too long for one. Refused by
+/// `FileFailed` where something else lies there, a symbolic link too.
+fn found_log<R: Files, E: Write>(
+    rt: &R,
+    path: &str,
+    notes: &mut Notes<'_, E>,
+) -> Result<Option<Metadata>, Refusal> {
+    match look_at(rt, path) {
+        Ok(found) if found.is_file() => Ok(Some(found)),
+        Ok(found) => Err(told_kind(notes, path, &found)),
+        Err(error) if is_missing(&error) => Ok(None),
+        Err(error) => Err(told(notes, path, error)),
+    }
+}
+
+/// Opens a file to read it. Why it can't be opened is told.
+fn open_to_read<R: Files, E: Write>(
+    rt: &R,
+    path: &str,
+    notes: &mut Notes<'_, E>,
+) -> Result<R::File, Refusal> {
+    match File::open(rt, path) {
+        Ok(file) => Ok(file),
+        Err(error) => Err(told(notes, path, error)),
+    }
+}
+
+/// Opens a file of this length.
+fn opened_of<'a, R: Files, E: Write>(
+    rt: &R,
+    place: &'a Place,
+    length: u64,
+    notes: &mut Notes<'_, E>,
+) -> Result<OpenedFile<'a, R::File>, Refusal> {
+    let path = place.as_str();
+    match open_to_read(rt, path, notes) {
+        Ok(file) => {
+            notes.tell(&format_args!("{path}: {length} bytes"));
+            Ok(OpenedFile::new(file, length, place))
+        }
+        Err(refusal) => Err(refusal),
+    }
+}
+
+/// Opens a file that was found; none where it is shorter than the least.
+fn opened<'a, R: Files, E: Write>(
+    rt: &R,
+    place: &'a Place,
+    found: Option<Metadata>,
+    least: u64,
+    notes: &mut Notes<'_, E>,
+) -> Result<OpenedFile<'a, R::File>, Refusal> {
+    match found {
+        Some(found) if found.len() >= least => opened_of(rt, place, found.len(), notes),
+        _ => Ok(OpenedFile::missing()),
+    }
+}
+
+/// What the system says of a database file, and the opened logs beside it, of which each may be missing.
+#[derive(Drop)]
+pub struct Beside<'a, F> {
+    pub db: Metadata,
+    pub wal: OpenedFile<'a, F>,
+    pub journal: OpenedFile<'a, F>,
+}
+
+/// What the system says of a database file. Refused by `FileFailed` where it is missing or isn't a regular file.
+fn found_database<R: Files, E: Write>(
+    rt: &R,
+    path: &str,
+    notes: &mut Notes<'_, E>,
+) -> Result<Metadata, Refusal> {
+    match look_at(rt, path) {
+        Ok(found) if found.is_file() => Ok(found),
+        Ok(found) => Err(told_kind(notes, path, &found)),
+        Err(error) => Err(told(notes, path, error)),
+    }
+}
+
+/// What the system says of a database file and of each of its logs that is there.
+#[derive(Drop)]
+struct Beheld {
+    db: Metadata,
+    wal: Option<Metadata>,
+    journal: Option<Metadata>,
+}
+
+impl Beheld {
+    /// Whether no two of them are one file.
+    fn are_apart(&self) -> bool {
+        let wal = self.wal.as_ref().map(identity_of);
+        let journal = self.journal.as_ref().map(identity_of);
+        are_apart(identity_of(&self.db), wal, journal)
+    }
+}
+
+/// Says that a log is the database file, or the other log.
+fn tell_link<E: Write>(paths: &Paths, notes: &mut Notes<'_, E>) {
+    let (wal, journal) = (paths.wal.as_str(), paths.journal.as_str());
+    notes.tell(&format_args!(
+        "{wal} or {journal}: a link to the database file, or both are one file"
+    ));
+}
+
+/// What the system says of a database file and of each of its logs that is there. Refused by `FileFailed` where the
+/// file is missing, or one of them isn't a regular file, or is another of them.
+fn found_files<R: Files, E: Write>(
+    rt: &R,
+    paths: &Paths,
+    notes: &mut Notes<'_, E>,
+) -> Result<Beheld, Refusal> {
+    let db = found_database(rt, paths.db.as_str(), notes)?;
+    let wal = found_log(rt, paths.wal.as_str(), notes)?;
+    let journal = found_log(rt, paths.journal.as_str(), notes)?;
+    let found = Beheld { db, wal, journal };
+    if found.are_apart() {
+        Ok(found)
+    } else {
+        tell_link(paths, notes);
+        Err(Refusal::FileFailed)
+    }
+}
+
+/// Opens the files beside a database file that were found.
+fn open_found<'a, R: Files, E: Write>(
+    rt: &R,
+    paths: &'a Paths,
+    found: Beheld,
+    notes: &mut Notes<'_, E>,
+) -> Result<Beside<'a, R::File>, Refusal> {
+    let Beheld { db, wal, journal } = found;
+    let wal = opened(rt, &paths.wal, wal, 1, notes)?;
+    match opened(rt, &paths.journal, journal, SHORTEST, notes) {
+        Ok(journal) => Ok(Beside { db, wal, journal }),
+        Err(refusal) => Err(refusal),
+    }
+}
+
+/// Whether a journal is hot, and whether it names a super-journal then.
+fn marks_of<F: FileExt>(journal: &mut OpenedFile<'_, F>) -> Result<(bool, bool), SourceError> {
+    let is_hot = hot_header(journal)?.is_some();
+    let names_super = is_hot && names_super_journal(journal)?;
+    Ok((is_hot, names_super))
+}
+
+/// Says where SQLite takes a journal that doesn't count here, and where it would leave an empty file empty.
+fn tell_doubts<F: FileExt, E: Write>(
+    logs: &mut Beside<'_, F>,
+    is_hot: bool,
+    notes: &mut Notes<'_, E>,
+) -> Result<(), SourceError> {
+    if is_valid_for_sqlite_alone(&mut logs.journal)? {
+        notes.say(
+            &"the journal doesn't count, but SQLite takes its sector and page size, and would roll it back",
+        );
+    }
+    if logs.db.len() == 0 && (is_hot || logs.wal.len() != 0) {
+        notes.say(&"the file is empty (0 bytes): SQLite would delete its log, and leave it empty");
+    }
+    Ok(())
+}
+
+/// Says what is to be noted of opened logs, where the database is asked for at this commit frame. A hot journal that is
+/// out of force is let go.
+fn judge_logs<F: FileExt + Drop, E: Write>(
+    logs: &mut Beside<'_, F>,
+    paths: &Paths,
+    super_journal: Option<SuperJournal>,
+    at: Option<u32>,
+    notes: &mut Notes<'_, E>,
+) -> Result<(), SourceError> {
+    let has_journal = logs.journal.len() != 0;
+    let (is_hot, names_super) = marks_of(&mut logs.journal)?;
+    let is_out_of_force = is_out_of_force(names_super, super_journal);
+    let is_hot = is_hot && !is_out_of_force;
+    if is_out_of_force {
+        logs.journal = OpenedFile::missing();
+    }
+    tell_doubts(logs, is_hot, notes)?;
+    let known = Logs {
+        wal: logs.wal.len(),
+        has_journal,
+        is_hot,
+        is_out_of_force,
+        is_left_out: at == Some(0),
+    };
+    tell_choice(notes, paths, known);
+    if names_super && super_journal.is_none() {
+        notes.say(&"the journal names a super-journal, which decides whether it counts");
+    }
+    Ok(())
+}
+
+/// Opens the logs beside a database file, and says what is to be noted of them, where the database is asked for at this
+/// commit frame. A hot journal that is out of force is taken as a missing one.
+pub fn open_logs<'a, R: Files, E: Write>(
+    rt: &R,
+    paths: &'a Paths,
+    super_journal: Option<SuperJournal>,
+    at: Option<u32>,
+    notes: &mut Notes<'_, E>,
+) -> Result<Beside<'a, R::File>, Refusal>
+where
+    R::File: FileExt,
+{
+    let found = found_files(rt, paths, notes)?;
+    let mut logs = open_found(rt, paths, found, notes)?;
+    match judge_logs(&mut logs, paths, super_journal, at, notes) {
+        Ok(()) => Ok(logs),
+        Err(error) => Err(Refusal::from(error)),
+    }
+}
+
+/// The log that counts.
+pub fn counting_log<F: FileBytes>(wal: &F, journal: &mut F) -> Result<LogInUse, Refusal> {
+    match log_in_use(wal, journal) {
+        Ok(in_use) => Ok(in_use),
+        Err(error) => Err(Refusal::from(error)),
+    }
+}
+
+/// Opens the database file that lies beside opened logs.
+pub fn open_database<'a, R: Files, E: Write>(
+    rt: &R,
+    paths: &'a Paths,
+    found: &Metadata,
+    notes: &mut Notes<'_, E>,
+) -> Result<OpenedFile<'a, R::File>, Refusal>
+where
+    R::File: FileExt,
+{
+    match opened_of(rt, &paths.db, found.len(), notes) {
+        Ok(mut db) => {
+            tell_length(notes, paths.db.as_str(), &mut db);
+            Ok(db)
+        }
+        Err(refusal) => Err(refusal),
+    }
+}
