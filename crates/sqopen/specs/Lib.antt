@@ -1,1 +1,5 @@
+pub mod Files
+pub mod Journals
+pub mod Refusals
+pub mod Watches
 pub mod internal

@@ -1,4 +1,7 @@
 //! Whether the frames of a log that count still stand.
+ghost use Rattle.std.specs.Prelude.{◌≡◌, ◌⊎◌, IfErr, IsErrAnd};
+ghost use Rattle.sqopen.specs.Refusals.{IsFromWatch};
+
 use crate::hints::told;
 use crate::paths::{Paths, is_missing};
 use crate::watch::readings_of;
@@ -37,6 +40,7 @@ fn still_standing<R: Files, E: Write>(
 ) -> Result<(), Refusal>
 where
     R::File: FileExt,
+    ensures { IfErr result IsFromWatch }
 {
     let (Some(front), Some(header)) = (front, header_of(began)) else {
         return Ok(());
@@ -60,6 +64,7 @@ pub fn as_before<R: Files, E: Write>(
 ) -> Result<(), Refusal>
 where
     R::File: FileExt,
+    ensures { IfErr result IsFromWatch }
 {
     let after = readings_of(rt, paths, only_logs, notes)?;
     unchanged(before, &after, Ok(()))?;
@@ -77,6 +82,7 @@ pub fn watched<R: Files, T: Drop, E: Write>(
 ) -> Result<T, Refusal>
 where
     R::File: FileExt,
+    ensures { (result ≡ answer) ⊎ IsErrAnd result IsFromWatch }
 {
     match as_before(rt, paths, before, false, front, notes) {
         Ok(()) => answer,

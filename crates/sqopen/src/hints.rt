@@ -1,5 +1,9 @@
 //! What `-v` says of the files, and of the log that counts.
-ghost use Rattle.std.specs.Prelude.{◌<◌};
+ghost use Rattle.std.specs.Prelude.{◌≡◌, ◌≢◌, ◌<◌};
+ghost use Rattle.std.specs.IoError.{error_kind};
+ghost use Rattle.std.specs.declared.io.ErrorKind.TheVariants.{OutOfMemory};
+ghost use Rattle.sqfacts.specs.declared.outcome.Refusal.TheVariants.{FileFailed, NoMemory};
+ghost use Rattle.sqopen.specs.Refusals.{IsFromSystem};
 
 use crate::opened_file::OpenedFile;
 use crate::paths::Paths;
@@ -12,7 +16,11 @@ use std::io::{self, Write};
 use std::os::unix::fs::{FileExt, FileTypeExt};
 
 /// The refusal for what the system said of a path, which is told.
-pub fn told<E: Write>(notes: &mut Notes<'_, E>, path: &str, error: io::Error) -> Refusal {
+pub fn told<E: Write>(notes: &mut Notes<'_, E>, path: &str, error: io::Error) -> Refusal
+    ensures memory { error_kind error ≡ OutOfMemory → result ≡ NoMemory }
+    ensures other { error_kind error ≢ OutOfMemory → result ≡ FileFailed }
+    ensures system { IsFromSystem result }
+{
     notes.tell(&format_args!("{path}: {error}"));
     Refusal::from(error)
 }
@@ -33,11 +41,9 @@ fn kind_of(found: &Metadata) -> &'static str {
 }
 
 /// The refusal for what isn't a regular file, which is told.
-pub(crate) fn told_kind<E: Write>(
-    notes: &mut Notes<'_, E>,
-    path: &str,
-    found: &Metadata,
-) -> Refusal {
+pub(crate) fn told_kind<E: Write>(notes: &mut Notes<'_, E>, path: &str, found: &Metadata) -> Refusal
+    ensures { result ≡ FileFailed }
+{
     let kind = kind_of(found);
     notes.tell(&format_args!("{path}: {kind}, no regular file"));
     Refusal::FileFailed
@@ -133,9 +139,9 @@ fn tell_shorter<E: Write>(notes: &mut Notes<'_, E>, path: &str, length: u64, nam
 }
 
 /// What the header of a database file names; none where it can't be read.
-fn pages_of<F: FileExt>(db: &mut OpenedFile<'_, F>) -> Option<(u32, u32)> {
+fn pages_of<F: FileExt>(db: &OpenedFile<'_, F>) -> Option<(u32, u32)> {
     let mut head = [0u8; 100];
-    match db.read_at(0, &mut head) {
+    match db.fill(0, &mut head) {
         Ok(()) => named_pages(&head),
         Err(_) => None,
     }
@@ -145,7 +151,7 @@ fn pages_of<F: FileExt>(db: &mut OpenedFile<'_, F>) -> Option<(u32, u32)> {
 pub(crate) fn tell_length<F: FileExt, E: Write>(
     notes: &mut Notes<'_, E>,
     path: &str,
-    db: &mut OpenedFile<'_, F>,
+    db: &OpenedFile<'_, F>,
 ) {
     if !notes.are_asked() {
         return;

@@ -1,6 +1,7 @@
 //! What a journal says that decides whether it counts, here and for SQLite.
-ghost use Rattle.std.specs.Prelude.{◌≡◌, ◌↔◌, IsTrue, Some};
+ghost use Rattle.std.specs.Prelude.{◌≡◌, ◌↔◌, IsOkAnd, IsTrue, Some};
 ghost use Rattle.sqwords.specs.declared.requests.SuperJournal.TheVariants.{Gone};
+ghost use Rattle.sqopen.specs.Journals.{NamesSuperJournal};
 
 use crate::opened_file::OpenedFile;
 use sqjournal::{JournalHeader, is_magic};
@@ -10,7 +11,12 @@ use sqwords::SuperJournal;
 use std::os::unix::fs::FileExt;
 
 /// Whether a journal ends as one does that names a super-journal: with the magic.
-pub fn names_super_journal<F: FileBytes>(journal: &mut F) -> Result<bool, SourceError> {
+pub fn names_super_journal<F: FileBytes>(journal: &mut F) -> Result<bool, SourceError>
+    ensures answer { F.gives_bytes journal.old
+        → IsOkAnd result (λ names. IsTrue names ↔ NamesSuperJournal (F.bytes journal.old)) }
+    ensures still_gives { F.gives_bytes journal.old → F.gives_bytes journal.new }
+    ensures same_bytes { F.bytes journal.new ≡ F.bytes journal.old }
+{
     let mut end = [0u8; 8];
     let length = journal.len();
     journal.read_at(length.saturating_sub(8), &mut end)?;
@@ -39,9 +45,9 @@ fn loosened(front: &[u8; 28]) -> [u8; 28] {
 
 /// Whether SQLite takes the journal's header though it isn't a valid one here.
 pub(crate) fn is_valid_for_sqlite_alone<F: FileExt>(
-    journal: &mut OpenedFile<'_, F>,
+    journal: &OpenedFile<'_, F>,
 ) -> Result<bool, SourceError> {
     let mut front = [0u8; 28];
-    journal.read_at(0, &mut front)?;
+    journal.fill(0, &mut front)?;
     Ok(JournalHeader::read(&front).is_err() && JournalHeader::read(&loosened(&front)).is_ok())
 }

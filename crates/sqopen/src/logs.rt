@@ -1,4 +1,13 @@
 //! The opened files of a database.
+ghost use Rattle.std.specs.Prelude.{◌≡◌, ◌⊎◌, IfErr, IfOk, Ok};
+ghost use Rattle.std.specs.Fs.{metadata_len};
+ghost use Rattle.sqfacts.specs.Refusals.{refusal_of};
+ghost use Rattle.sqfacts.specs.declared.outcome.Refusal.TheVariants.{TwoLogs};
+ghost use Rattle.sqview.specs.Logs.{AreTwoLogs, CountsAnswer};
+ghost use Rattle.sqview.specs.declared.view_error.ViewError.{ViewError};
+ghost use Rattle.sqopen.specs.Files.{IsMissing, IsOfPlace, IsOpenedAt};
+ghost use Rattle.sqopen.specs.Refusals.{IsFromSystem};
+
 use crate::hints::{Logs, tell_choice, tell_length, told, told_kind};
 use crate::journals::{is_out_of_force, is_valid_for_sqlite_alone, names_super_journal};
 use crate::opened_file::OpenedFile;
@@ -22,7 +31,9 @@ fn found_log<R: Files, E: Write>(
     rt: &R,
     path: &str,
     notes: &mut Notes<'_, E>,
-) -> Result<Option<Metadata>, Refusal> {
+) -> Result<Option<Metadata>, Refusal>
+    ensures { IfErr result IsFromSystem }
+{
     match look_at(rt, path) {
         Ok(found) if found.is_file() => Ok(Some(found)),
         Ok(found) => Err(told_kind(notes, path, &found)),
@@ -36,7 +47,9 @@ fn open_to_read<R: Files, E: Write>(
     rt: &R,
     path: &str,
     notes: &mut Notes<'_, E>,
-) -> Result<R::File, Refusal> {
+) -> Result<R::File, Refusal>
+    ensures { IfErr result IsFromSystem }
+{
     match File::open(rt, path) {
         Ok(file) => Ok(file),
         Err(error) => Err(told(notes, path, error)),
@@ -49,7 +62,10 @@ fn opened_of<'a, R: Files, E: Write>(
     place: &'a Place,
     length: u64,
     notes: &mut Notes<'_, E>,
-) -> Result<OpenedFile<'a, R::File>, Refusal> {
+) -> Result<OpenedFile<'a, R::File>, Refusal>
+    ensures opened { IfOk result (λ file. IsOpenedAt file place.entry.now length) }
+    ensures refused { IfErr result IsFromSystem }
+{
     let path = place.as_str();
     match open_to_read(rt, path, notes) {
         Ok(file) => {
@@ -67,7 +83,10 @@ fn opened<'a, R: Files, E: Write>(
     found: Option<Metadata>,
     least: u64,
     notes: &mut Notes<'_, E>,
-) -> Result<OpenedFile<'a, R::File>, Refusal> {
+) -> Result<OpenedFile<'a, R::File>, Refusal>
+    ensures opened { IfOk result (λ file. IsOfPlace file place.entry.now least) }
+    ensures refused { IfErr result IsFromSystem }
+{
     match found {
         Some(found) if found.len() >= least => opened_of(rt, place, found.len(), notes),
         _ => Ok(OpenedFile::missing()),
@@ -87,7 +106,9 @@ fn found_database<R: Files, E: Write>(
     rt: &R,
     path: &str,
     notes: &mut Notes<'_, E>,
-) -> Result<Metadata, Refusal> {
+) -> Result<Metadata, Refusal>
+    ensures { IfErr result IsFromSystem }
+{
     match look_at(rt, path) {
         Ok(found) if found.is_file() => Ok(found),
         Ok(found) => Err(told_kind(notes, path, &found)),
@@ -126,7 +147,9 @@ fn found_files<R: Files, E: Write>(
     rt: &R,
     paths: &Paths,
     notes: &mut Notes<'_, E>,
-) -> Result<Beheld, Refusal> {
+) -> Result<Beheld, Refusal>
+    ensures { IfErr result IsFromSystem }
+{
     let db = found_database(rt, paths.db.as_str(), notes)?;
     let wal = found_log(rt, paths.wal.as_str(), notes)?;
     let journal = found_log(rt, paths.journal.as_str(), notes)?;
@@ -145,7 +168,11 @@ fn open_found<'a, R: Files, E: Write>(
     paths: &'a Paths,
     found: Beheld,
     notes: &mut Notes<'_, E>,
-) -> Result<Beside<'a, R::File>, Refusal> {
+) -> Result<Beside<'a, R::File>, Refusal>
+    ensures wal { IfOk result (λ logs. IsOfPlace logs.wal paths.entry.now.wal 1) }
+    ensures journal { IfOk result (λ logs. IsOfPlace logs.journal paths.entry.now.journal 28) }
+    ensures refused { IfErr result IsFromSystem }
+{
     let Beheld { db, wal, journal } = found;
     let wal = opened(rt, &paths.wal, wal, 1, notes)?;
     match opened(rt, &paths.journal, journal, SHORTEST, notes) {
@@ -155,19 +182,20 @@ fn open_found<'a, R: Files, E: Write>(
 }
 
 /// Whether a journal is hot, and whether it names a super-journal then.
-fn marks_of<F: FileExt>(journal: &mut OpenedFile<'_, F>) -> Result<(bool, bool), SourceError> {
-    let is_hot = hot_header(journal)?.is_some();
-    let names_super = is_hot && names_super_journal(journal)?;
+fn marks_of<F: FileExt>(journal: &OpenedFile<'_, F>) -> Result<(bool, bool), SourceError> {
+    let mut bytes = journal;
+    let is_hot = hot_header(&mut bytes)?.is_some();
+    let names_super = is_hot && names_super_journal(&mut bytes)?;
     Ok((is_hot, names_super))
 }
 
 /// Says where SQLite takes a journal that doesn't count here, and where it would leave an empty file empty.
 fn tell_doubts<F: FileExt, E: Write>(
-    logs: &mut Beside<'_, F>,
+    logs: &Beside<'_, F>,
     is_hot: bool,
     notes: &mut Notes<'_, E>,
 ) -> Result<(), SourceError> {
-    if is_valid_for_sqlite_alone(&mut logs.journal)? {
+    if is_valid_for_sqlite_alone(&logs.journal)? {
         notes.say(
             &"the journal doesn't count, but SQLite takes its sector and page size, and would roll it back",
         );
@@ -186,9 +214,12 @@ fn judge_logs<F: FileExt + Drop, E: Write>(
     super_journal: Option<SuperJournal>,
     at: Option<u32>,
     notes: &mut Notes<'_, E>,
-) -> Result<(), SourceError> {
+) -> Result<(), SourceError>
+    ensures wal { logs.new.wal ≡ logs.old.wal }
+    ensures journal { IsMissing logs.new.journal ⊎ (logs.new.journal ≡ logs.old.journal) }
+{
     let has_journal = logs.journal.len() != 0;
-    let (is_hot, names_super) = marks_of(&mut logs.journal)?;
+    let (is_hot, names_super) = marks_of(&logs.journal)?;
     let is_out_of_force = is_out_of_force(names_super, super_journal);
     let is_hot = is_hot && !is_out_of_force;
     if is_out_of_force {
@@ -220,6 +251,9 @@ pub fn open_logs<'a, R: Files, E: Write>(
 ) -> Result<Beside<'a, R::File>, Refusal>
 where
     R::File: FileExt,
+    ensures wal { IfOk result (λ logs. IsOfPlace logs.wal paths.entry.now.wal 1) }
+    ensures journal { IfOk result (λ logs. IsOfPlace logs.journal paths.entry.now.journal 28) }
+    ensures refused { IfErr result IsFromSystem }
 {
     let found = found_files(rt, paths, notes)?;
     let mut logs = open_found(rt, paths, found, notes)?;
@@ -230,7 +264,15 @@ where
 }
 
 /// The log that counts.
-pub fn counting_log<F: FileBytes>(wal: &F, journal: &mut F) -> Result<LogInUse, Refusal> {
+pub fn counting_log<F: FileBytes>(wal: &F, journal: &mut F) -> Result<LogInUse, Refusal>
+    ensures ok { F.gives_bytes wal.now → F.gives_bytes journal.old
+        → IfOk result (λ in_use. CountsAnswer (F.bytes wal.now) (F.bytes journal.old) (Ok in_use)) }
+    ensures err { F.gives_bytes wal.now → F.gives_bytes journal.old → IfErr result (λ refusal.
+        (refusal ≡ TwoLogs) × AreTwoLogs (F.bytes wal.now) (F.bytes journal.old)) }
+    ensures refused { IfErr result (λ refusal. (error : ViewError) × (refusal ≡ refusal_of error)) }
+    ensures still_gives { F.gives_bytes journal.old → F.gives_bytes journal.new }
+    ensures same_bytes { F.bytes journal.new ≡ F.bytes journal.old }
+{
     match log_in_use(wal, journal) {
         Ok(in_use) => Ok(in_use),
         Err(error) => Err(Refusal::from(error)),
@@ -246,10 +288,12 @@ pub fn open_database<'a, R: Files, E: Write>(
 ) -> Result<OpenedFile<'a, R::File>, Refusal>
 where
     R::File: FileExt,
+    ensures opened { IfOk result (λ db. IsOpenedAt db paths.entry.now.db (metadata_len found.now)) }
+    ensures refused { IfErr result IsFromSystem }
 {
     match opened_of(rt, &paths.db, found.len(), notes) {
-        Ok(mut db) => {
-            tell_length(notes, paths.db.as_str(), &mut db);
+        Ok(db) => {
+            tell_length(notes, paths.db.as_str(), &db);
             Ok(db)
         }
         Err(refusal) => Err(refusal),

@@ -1,5 +1,6 @@
 //! A real file as the bytes of a database or a log.
 ghost use Rattle.std.specs.Prelude.{[]};
+ghost use Rattle.sqopen.specs.Files.{IsMissing, IsOpenedAt};
 
 use crate::place::Place;
 use sqpage::SourceError;
@@ -15,17 +16,38 @@ pub struct OpenedFile<'a, F> {
 }
 
 impl<'a, F> OpenedFile<'a, F> {
-    pub(crate) fn new(file: F, length: u64, place: &'a Place) -> OpenedFile<'a, F> {
+    pub(crate) fn new(file: F, length: u64, place: &'a Place) -> OpenedFile<'a, F>
+        ensures { IsOpenedAt result place.entry.now length }
+    {
         OpenedFile {
             file: Some((file, place)),
             length,
         }
     }
 
-    pub(crate) fn missing() -> OpenedFile<'a, F> {
+    pub(crate) fn missing() -> OpenedFile<'a, F>
+        ensures { IsMissing result }
+    {
         OpenedFile {
             file: None,
             length: 0,
+        }
+    }
+}
+
+impl<F: FileExt> OpenedFile<'_, F> {
+    /// Fills the buffer from a place on, with zeros past the end. Refused also where the file is shorter now than when
+    /// it was opened.
+    pub(crate) fn fill(&self, at: u64, out: &mut [u8]) -> Result<(), SourceError> {
+        let count = self.length.saturating_sub(at).min(out.len() as u64) as usize;
+        let (there, behind) = out.split_at_mut(count);
+        behind.fill(0);
+        let Some((file, place)) = &self.file else {
+            return Ok(());
+        };
+        match file.read_exact_at(there, at) {
+            Ok(()) => Ok(()),
+            Err(error) => Err(place.failed(error)),
         }
     }
 }
@@ -39,17 +61,21 @@ impl<F: FileExt> FileBytes for OpenedFile<'_, F> {
         self.length
     }
 
-    /// Refused also where the file is shorter now than when it was opened.
     fn read_at(&mut self, at: u64, out: &mut [u8]) -> Result<(), SourceError> {
-        let count = self.length.saturating_sub(at).min(out.len() as u64) as usize;
-        let (there, behind) = out.split_at_mut(count);
-        behind.fill(0);
-        let Some((file, place)) = &self.file else {
-            return Ok(());
-        };
-        match file.read_exact_at(there, at) {
-            Ok(()) => Ok(()),
-            Err(error) => Err(place.failed(error)),
-        }
+        self.fill(at, out)
+    }
+}
+
+impl<F: FileExt> FileBytes for &OpenedFile<'_, F> {
+    ghost bytes = { λ _. [] };
+
+    ghost gives_bytes = { λ _. ⊥ };
+
+    fn len(&self) -> u64 {
+        self.length
+    }
+
+    fn read_at(&mut self, at: u64, out: &mut [u8]) -> Result<(), SourceError> {
+        self.fill(at, out)
     }
 }

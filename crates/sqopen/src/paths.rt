@@ -1,5 +1,9 @@
 //! Which files a database is made of.
-ghost use Rattle.std.specs.Prelude.{◌↔◌, IsTrue};
+ghost use Rattle.std.specs.Prelude.{◌≡◌, ◌⊎◌, ◌↔◌, ◌++◌, IfErr, IfOk, IsTrue, string_bytes};
+ghost use Rattle.std.specs.IoError.{error_kind};
+ghost use Rattle.std.specs.declared.io.ErrorKind.TheVariants.{InvalidFilename, NotFound};
+ghost use Rattle.sqopen.specs.Files.{AreBeside, HasNameBeside, HasNameOf, IsFolderOf, path_of};
+ghost use Rattle.sqopen.specs.Refusals.{IsFromSystem};
 ghost use Rattle.sqopen.specs.internal.Paths.{AreApart};
 
 use crate::hints::told;
@@ -25,7 +29,9 @@ pub struct Paths {
 
 impl Paths {
     /// The refusal, of which it is told why a file couldn't be read.
-    pub fn told<E: Write>(&self, notes: &mut Notes<'_, E>, refusal: Refusal) -> Refusal {
+    pub fn told<E: Write>(&self, notes: &mut Notes<'_, E>, refusal: Refusal) -> Refusal
+        ensures { result ≡ refusal }
+    {
         if refusal == Refusal::FileFailed {
             self.db.tell(notes);
             self.wal.tell(notes);
@@ -47,7 +53,9 @@ pub fn look_at<R: Files>(rt: &R, path: &str) -> io::Result<Metadata> {
 }
 
 /// Whether the system says that there is no such file, also as its name is too long for one.
-pub fn is_missing(error: &io::Error) -> bool {
+pub fn is_missing(error: &io::Error) -> bool
+    ensures { IsTrue result ↔ ((error_kind error.now ≡ NotFound) ⊎ (error_kind error.now ≡ InvalidFilename)) }
+{
     matches!(
         error.kind(),
         io::ErrorKind::NotFound | io::ErrorKind::InvalidFilename
@@ -79,7 +87,9 @@ fn resolved<R: Files + AllocGlobal>(rt: &R, file: &str) -> io::Result<String> {
 }
 
 /// The file beside a database file whose name ends so.
-fn beside(alloc: Global, db: &str, end: &str) -> Result<Place, AllocError> {
+fn beside(alloc: Global, db: &str, end: &str) -> Result<Place, AllocError>
+    ensures { IfOk result (λ place. path_of place ≡ db.now ++ end.now) }
+{
     match format!(in alloc; "{db}{end}") {
         Ok(path) => Ok(Place::new(path)),
         Err(error) => Err(error),
@@ -87,7 +97,10 @@ fn beside(alloc: Global, db: &str, end: &str) -> Result<Place, AllocError> {
 }
 
 /// The paths of a database file and of the files beside it.
-fn all_paths(alloc: Global, db: String) -> Result<Paths, AllocError> {
+fn all_paths(alloc: Global, db: String) -> Result<Paths, AllocError>
+    ensures db { IfOk result (λ paths. path_of paths.db ≡ string_bytes db) }
+    ensures beside { IfOk result AreBeside }
+{
     let wal = beside(alloc, db.as_str(), "-wal")?;
     let journal = beside(alloc, db.as_str(), "-journal")?;
     match beside(alloc, db.as_str(), "-shm") {
@@ -107,7 +120,9 @@ fn unresolved<R: Files + AllocGlobal, E: Write>(
     file: &str,
     error: io::Error,
     notes: &mut Notes<'_, E>,
-) -> Refusal {
+) -> Refusal
+    ensures { IsFromSystem result }
+{
     if notes.are_asked() && is_missing(&error) {
         if tell_of_log(rt, file, notes).is_err() {
             return Refusal::NoMemory;
@@ -125,6 +140,8 @@ pub fn paths_of<R: Files + AllocGlobal, E: Write>(
 ) -> Result<Paths, Refusal>
 where
     R::File: FileExt,
+    ensures beside { IfOk result AreBeside }
+    ensures refused { IfErr result IsFromSystem }
 {
     let db = match resolved(rt, file) {
         Ok(db) => db,
@@ -202,7 +219,9 @@ pub(crate) fn are_apart(db: Identity, wal: Option<Identity>, journal: Option<Ide
 }
 
 /// The folder in which a file lies.
-pub fn folder_of(path: &str) -> &str {
+pub fn folder_of(path: &str) -> &str
+    ensures { IsFolderOf result.now path.entry.now }
+{
     match Path::new(path).parent() {
         Some(folder) if !folder.as_str().is_empty() => folder.as_str(),
         _ => ".",
@@ -210,7 +229,9 @@ pub fn folder_of(path: &str) -> &str {
 }
 
 /// Whether two paths end in the same name.
-fn have_one_name(place: &Place, path: &str) -> bool {
+fn have_one_name(place: &Place, path: &str) -> bool
+    ensures { IsTrue result ↔ HasNameOf place.now path.now }
+{
     Path::new(place.as_str()).file_name() == Path::new(path).file_name()
 }
 
@@ -226,7 +247,9 @@ fn have_one_folder<R: Files>(rt: &R, path: &str, other: &str) -> bool {
 }
 
 /// Whether a path names a file that SQLite takes for one of a database's, as it lies in the same folder.
-pub fn is_log_of<R: Files>(rt: &R, paths: &Paths, path: &str) -> bool {
+pub fn is_log_of<R: Files>(rt: &R, paths: &Paths, path: &str) -> bool
+    ensures { IsTrue result → HasNameBeside paths.now path.now }
+{
     let is_named = have_one_name(&paths.wal, path)
         || have_one_name(&paths.journal, path)
         || have_one_name(&paths.shm, path);

@@ -1,4 +1,7 @@
 //! The path of a file, and why it couldn't be read.
+ghost use Rattle.std.specs.Prelude.{◌≡◌, string_bytes};
+ghost use Rattle.sqopen.specs.Files.{path_of};
+
 use sqfacts::Notes;
 use sqpage::SourceError;
 use std::cell::RefCell;
@@ -12,14 +15,18 @@ pub struct Place {
 }
 
 impl Place {
-    pub(crate) fn new(path: String) -> Place {
+    pub(crate) fn new(path: String) -> Place
+        ensures { path_of result ≡ string_bytes path }
+    {
         Place {
             path,
             failure: RefCell::new(None),
         }
     }
 
-    pub fn as_str(&self) -> &str {
+    pub fn as_str(&self) -> &str
+        ensures { result.now ≡ path_of self.now }
+    {
         self.path.as_str()
     }
 

@@ -68,7 +68,10 @@ fn mebibytes(bytes: u64) -> u64
 
 impl<'a, C: Clock, E: Write> Progress<'a, C, E> {
     /// A run that begins now. Nothing is said of it but with `--large` and `-v`, nor where the clock can't be read.
-    pub fn new(clock: &'a C, notes: Notes<'a, E>, options: Options) -> Progress<'a, C, E> {
+    pub fn new(clock: &'a C, notes: Notes<'a, E>, options: Options) -> Progress<'a, C, E>
+        ensures clock { result.clock ≡ clock.entry }
+        ensures notes { result.notes ≡ notes.entry }
+    {
         let is_asked = options.large && options.verbose;
         let last = if is_asked {
             Instant::now(clock).ok()

@@ -1,5 +1,9 @@
 //! Whether files changed while they were read.
-ghost use Rattle.std.specs.Prelude.{◌≤◌};
+ghost use Rattle.std.specs.Prelude.{◌≡◌, ◌⊎◌, ◌<◌, ◌≤◌, ℕ, IfErr, IfOk, IsTrue, slice_index};
+ghost use Rattle.std.specs.Duration.{as_nanos};
+ghost use Rattle.std.specs.Option.{option_map_or};
+ghost use Rattle.sqopen.specs.Refusals.{IsFromSystem};
+ghost use Rattle.sqopen.specs.Watches.{AreRead, HasZerosFrom, IsRead, from_zero, longest_left, tick, time_left};
 
 use crate::hints::told;
 use crate::paths::{Paths, is_missing, look_at};
@@ -18,6 +22,7 @@ fn front_of<R: Files>(rt: &R, path: &str, at: u64, count: usize) -> io::Result<[
 where
     R::File: FileExt,
     requires { count ≤ 32 }
+    ensures { IfOk result (λ front. (k : ℕ) → count ≤ k → k < 32 → slice_index front k ≡ 0) }
 {
     let mut front = [0u8; 32];
     let file = File::open(rt, path)?;
@@ -37,6 +42,9 @@ fn reading_of<R: Files, E: Write>(
 where
     R::File: FileExt,
     requires { count ≤ 32 }
+    ensures read { IfOk result (λ reading. IsTrue must_be_read → IsRead reading) }
+    ensures zeros { IfOk result (HasZerosFrom count) }
+    ensures refused { IfErr result IsFromSystem }
 {
     let found = match look_at(rt, path) {
         Ok(found) if found.is_file() => found,
@@ -68,6 +76,9 @@ pub fn readings_of<R: Files, E: Write>(
 ) -> Result<Readings, Refusal>
 where
     R::File: FileExt,
+    ensures read { IfOk result (AreRead only_logs) }
+    ensures zeros { IfOk result (λ readings. HasZerosFrom 16 readings.db) }
+    ensures refused { IfErr result IsFromSystem }
 {
     Ok(Readings {
         db: reading_of(rt, paths.db.as_str(), 24, 16, !only_logs, notes)?,
@@ -76,25 +87,48 @@ where
     })
 }
 
+/// A number, or 0 where it is below.
+fn from_zero(number: i64) -> u64
+    ensures { result ≡ from_zero number }
+{
+    u64::try_from(number).unwrap_or(0)
+}
+
 /// How long it is until a change of a file is dated later than its last one.
-fn time_left(reading: &Reading, now: Duration) -> Duration {
-    let seconds = u64::try_from(reading.seconds).unwrap_or(0);
-    let nanoseconds = u64::try_from(reading.nanoseconds).unwrap_or(0);
+fn time_left(reading: &Reading, now: Duration) -> Duration
+    ensures { as_nanos result ≡ time_left (as_nanos now) reading.now }
+{
+    let seconds = from_zero(reading.seconds);
+    let nanoseconds = from_zero(reading.nanoseconds);
     let changed = Duration::from_secs(seconds).saturating_add(Duration::from_nanos(nanoseconds));
     let tick = Duration::from_millis(TICK);
     changed.saturating_add(tick).saturating_sub(now).min(tick)
 }
 
-/// How long to wait until each change of these files is dated later than their last ones.
-pub fn time_to_wait<C: Clock>(clock: &C, readings: &Readings) -> Duration {
-    let Ok(now) = clock.since_1970() else {
-        return Duration::from_millis(TICK);
-    };
-    let mut longest = Duration::ZERO;
-    for reading in [readings.db, readings.wal, readings.journal] {
-        if let Some(reading) = reading {
-            longest = longest.max(time_left(&reading, now));
-        }
+/// The same; no time where the file isn't there.
+fn left_of(reading: &Option<Reading>, now: Duration) -> Duration
+    ensures { as_nanos result ≡ option_map_or (time_left (as_nanos now)) reading.now 0 }
+{
+    match reading {
+        Some(reading) => time_left(reading, now),
+        None => Duration::ZERO,
     }
-    longest
+}
+
+/// The longest of these times.
+fn longest_left(readings: &Readings, now: Duration) -> Duration
+    ensures { as_nanos result ≡ longest_left (as_nanos now) readings.now }
+{
+    let logs = left_of(&readings.wal, now).max(left_of(&readings.journal, now));
+    left_of(&readings.db, now).max(logs)
+}
+
+/// How long to wait until each change of these files is dated later than their last ones.
+pub fn time_to_wait<C: Clock>(clock: &C, readings: &Readings) -> Duration
+    ensures { (as_nanos result ≡ tick) ⊎ ((now : ℕ) × (as_nanos result ≡ longest_left now readings.now)) }
+{
+    match clock.since_1970() {
+        Ok(now) => longest_left(readings, now),
+        Err(_) => Duration::from_millis(TICK),
+    }
 }
