@@ -8,3 +8,4 @@ pub mod RowsOfSchema
 pub mod PhasesOfCheck
 pub mod EndsOfCheck
 pub mod ChartOfAllPages
+pub mod FaultsPutDown

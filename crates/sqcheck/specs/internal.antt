@@ -9,3 +9,4 @@ pub mod Room
 pub mod Snapshots
 pub mod Roles
 pub mod Surveys
+pub mod Charting

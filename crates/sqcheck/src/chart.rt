@@ -1,6 +1,7 @@
 //! What a survey puts down of each page (own).
-ghost use Rattle.std.specs.Prelude.{◌≡◌, ◌<◌, ◌^◌, [], length, IfOk, IfErr};
+ghost use Rattle.std.specs.Prelude.{◌≡◌, ◌<◌, ◌^◌, ◌↔◌, [], ◌∷◌, length, IfOk, IfErr, IsTrue, OnErr, OnOk};
 ghost use Rattle.sqcheck.specs.Surveys.{IsEnd};
+ghost use Rattle.sqcheck.specs.internal.Charting.{ArePutDown, IsUnusedIn, unused_faults};
 ghost use Rattle.sqcheck.specs.internal.Surveys.{Charts, IsSetDown, AreSetDown};
 
 use crate::role::{Role, Visitor};
@@ -75,6 +76,10 @@ impl Chart {
     /// and NoMemory.
     pub fn tell(&mut self, error: CheckError) -> Result<(), CheckError>
         ensures same { self.new.roles.items ≡ self.old.roles.items }
+        ensures down { OnOk result (ArePutDown self.old.faults.items (error ∷ []) self.new.faults.items) }
+        ensures taken { OnOk result (¬ IsEnd error.fault) }
+        ensures kept { OnErr result (self.new.faults.items ≡ self.old.faults.items) }
+        ensures page { IfErr result (λ e. e.page ≡ error.page) }
         ensures ends { IfErr result (λ e. IsEnd e.fault) }
     {
         if error.fault == Fault::Source || error.fault == Fault::NoMemory {
@@ -93,7 +98,9 @@ impl Chart {
     }
 
     /// Whether nothing has named a page yet.
-    pub fn is_unused(&self, page: u32) -> bool {
+    pub fn is_unused(&self, page: u32) -> bool
+        ensures { IsTrue result ↔ IsUnusedIn self.now.roles.items page }
+    {
         let page = page as usize;
         0 < page && page <= self.roles.len() && self.roles[page - 1] == Role::Unused
     }
@@ -101,6 +108,8 @@ impl Chart {
     /// Tells of each page that nothing has named, rising.
     pub fn tell_unused(&mut self) -> Result<(), CheckError>
         ensures same { self.new.roles.items ≡ self.old.roles.items }
+        ensures down { OnOk result
+            (ArePutDown self.old.faults.items (unused_faults 1 self.old.roles.items) self.new.faults.items) }
         ensures ends { IfErr result (λ e. IsEnd e.fault) }
     {
         'pages: for i in 0..self.roles.len() {
