@@ -3,3 +3,4 @@ pub mod Runs
 pub mod Surveys
 pub mod Lines
 pub mod Rigs
+pub mod Sectors

@@ -1,4 +1,7 @@
 //! The options, as clap reads them.
+ghost use Rattle.std.specs.Prelude.{IfOk, IfSome};
+ghost use Rattle.sqcrash.specs.Sectors.{IsSectorAsked};
+
 use crate::plan::Plan;
 use crate::promise::Promise;
 use crate::requests::{LineError, Request};
@@ -95,7 +98,9 @@ fn command<'a>(alloc: Global) -> Result<Command<'a>, AllocError> {
 }
 
 /// What the words ask for.
-fn matched<'a>(matches: &ArgMatches<'a>) -> Option<Request<'a>> {
+fn matched<'a>(matches: &ArgMatches<'a>) -> Option<Request<'a>>
+    ensures { IfSome result (λ request. IsSectorAsked request.plan.sector) }
+{
     let promise = match matches.get_str("promise") {
         None | Some("full") => Promise::Full,
         Some("last") => Promise::Last,
@@ -137,7 +142,9 @@ fn refused(error: clap::Error) -> LineError {
 }
 
 /// Reads a line by this command.
-fn read<'a>(command: &mut Command<'a>, words: &'a [&'a str]) -> Result<Request<'a>, LineError> {
+fn read<'a>(command: &mut Command<'a>, words: &'a [&'a str]) -> Result<Request<'a>, LineError>
+    ensures { IfOk result (λ request. IsSectorAsked request.plan.sector) }
+{
     let matches = command.try_get_matches_from_mut(words).map_err(refused)?;
     match matched(&matches) {
         Some(request) => Ok(request),
@@ -146,7 +153,9 @@ fn read<'a>(command: &mut Command<'a>, words: &'a [&'a str]) -> Result<Request<'
 }
 
 /// Reads a line, whose first word is the program's name.
-pub fn request<'a>(alloc: Global, words: &'a [&'a str]) -> Result<Request<'a>, LineError> {
+pub fn request<'a>(alloc: Global, words: &'a [&'a str]) -> Result<Request<'a>, LineError>
+    ensures { IfOk result (λ request. IsSectorAsked request.plan.sector) }
+{
     let mut command = command(alloc).map_err(|_| LineError::NoMemory)?;
     read(&mut command, words)
 }

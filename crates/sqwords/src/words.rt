@@ -1,6 +1,6 @@
 //! The words of a command line.
 ghost use Rattle.std.specs.Prelude.{◌≡◌, ◌≢◌, ◌⊎◌, ◌<◌, ◌≤◌, ◌++◌, ℕ, false, List, map, length, slice_get, codes, IfOk};
-ghost use Rattle.std.specs.Prelude.{IfSome, IsTrue, MatchOption, true};
+ghost use Rattle.std.specs.Prelude.{◌↔◌, IfSome, IsTrue, MatchOption, true};
 ghost use Rattle.std.specs.List.{Contains};
 ghost use Rattle.sqwords.specs.Line.{AreKnown, AreNoReport, AreOptions, Asks, AsksAt, AsksBesides, AsksBoth};
 ghost use Rattle.sqwords.specs.Line.{AsksNoPart};
@@ -398,7 +398,7 @@ pub fn asked<'a>(words: &'a [&'a str], command: &str, file: &'a str) -> Option<R
 
 /// Whether the first word behind the program's name asks for the version.
 pub fn asks_version(words: &[&str]) -> bool
-    ensures { IsTrue result → AsksVersion (map (λ w. w.now) words.entry.now) }
+    ensures { IsTrue result ↔ AsksVersion (map (λ w. w.now) words.entry.now) }
 {
     words.len() > 1 && words[1] == "--version"
 }
