@@ -9,6 +9,10 @@ from world_runs import (
 )
 
 WRITES = 60 if "--long" in sys.argv[1:] else 20  # seconds for which a writer writes
+# What may be said of a journal whose header was read while it was being written, before the change is noticed.
+HALF_WRITTEN = (
+    "sqrescue: note: the journal doesn't count, but SQLite takes its sector and page size, and would roll it back\n"
+)
 
 
 @test
@@ -385,7 +389,7 @@ def looks_on(file, until, counts, faults):
             status, out, err = run(line)
             counts[line.split()[0], status, err.removeprefix("sqrescue: ").strip() or "done"] += 1
             clean = re.fullmatch(r"clean: (\d+) pages, (\d+) trees, (\d+) b-tree, (\d+) overflow, (\d+) free\n", out)
-            if status == 3 and err == CHANGED:
+            if status == 3 and err.removeprefix(HALF_WRITTEN) == CHANGED:
                 continue
             if status or (line.startswith("check") and not clean):
                 faults.append((line, status, out[-200:], err))
