@@ -1,0 +1,51 @@
+# bash completion of sqrescue, made by tools/completions of the program's help texts
+_sqrescue() {
+  local word=$2 before=$3 command= at options=
+  [ "$word" != = ] || word=
+  [ "$before" != = ] || before=${COMP_WORDS[COMP_CWORD - 2]}
+  COMPREPLY=()
+  for ((at = 1; at < COMP_CWORD; at++)); do
+    case ${COMP_WORDS[at]} in
+      show | check | recover | report | help)
+        command=${COMP_WORDS[at]}
+        break
+        ;;
+    esac
+  done
+  case $before in
+    --at)
+      :
+      return
+      ;;
+    --page)
+      :
+      return
+      ;;
+    --super-journal)
+      COMPREPLY=($(compgen -W 'present gone' -- "$word"))
+      return
+      ;;
+    --to)
+      compopt -o default
+      return
+      ;;
+  esac
+  case $command in
+    show) options='-v --verbose --json --at --large --super-journal= --page --pages --pointer-maps --log --all --commits -h --help' ;;
+    check) options='-v --verbose --json --at --large --super-journal= --pointer-maps -h --help' ;;
+    recover) options='-v --verbose --json --at --large --super-journal= --to --force -h --help' ;;
+    report) options='-v --verbose --json --at --large --super-journal= --pointer-maps --to -h --help' ;;
+    '') options='--version -h --help' ;;
+  esac
+  if [ -z "$command" ] || [ "$command" = help ]; then
+    [ -n "$command" ] || options+=' show check recover report help'
+    [ -z "$command" ] || options='show check recover report help'
+    COMPREPLY=($(compgen -W "$options" -- "$word"))
+  elif [[ $word == -* ]]; then
+    COMPREPLY=($(compgen -W "$options" -- "$word"))
+    [[ ${COMPREPLY[*]} != *= ]] || compopt -o nospace
+  else
+    compopt -o default
+  fi
+}
+complete -F _sqrescue sqrescue
