@@ -9,8 +9,8 @@ use Rattle.sqpage.proofs.chain.ListsByRecursion.{in_left, in_right, in_cases, ev
 use Rattle.sqpage.proofs.chain.TakenPages.{fewer_unmarked}
 use Rattle.sqpage.proofs.chain.OverflowChains.{length_marked}
 use Rattle.std.proofs.lemmas.List.{get_or-set_other, get_or-set_same}
-use Rattle.sqcheck.specs.Places.{Place, first_trunk_place, first_root, next, leaf, overflow, child, root, Node, Role, trunk, free_leaf, link, node, Spot, StandsIn, StandsInRow, IsFirst, IsReached, stands_in}
-use Rattle.sqcheck.specs.WellFormed.{IsSound, IsSoundAs, HasSoundRows, numbers}
+use Rattle.sqcheck.specs.Places.{Place, first_trunk_place, first_root, next, leaf, overflow, child, root, Node, Role, trunk, free_leaf, link, node, Spot, StandsIn, StandsInRow, IsFirst, stands_in}
+use Rattle.sqcheck.specs.WellFormed.{IsReached, IsSound, IsSoundAs, HasSoundRows, numbers}
 use Rattle.sqcheck.specs.internal.Agenda.{home, places, Off, IsHome, NotRoot, NotSchema, LinkFits, IsAside, AreMarked, Agenda, Stems}
 use Rattle.sqcheck.proofs.checks.ListsByRecursion.{every_weaker, every_map, map_append, from_map, apart_append}
 
@@ -132,7 +132,7 @@ module _ (d : Database) (late : Bool) (marks : List Bool) (visited : List Spot) 
     taken = subst (AreMarked d new) (sym (map_append (λ x. x.page) visited (s ∷ []))) (marks_more d marks new (numbers visited) s.page a.taken m);
     room = omega (arith, a.room, fewer_unmarked marks new s.page m, length-append visited (s ∷ []));
     reached = every_append (IsReached d) visited (s ∷ []) a.reached (a.waiting.0, tt);
-    waiting = every_append (IsReached d) under rest (every_weaker (StandsIn d s) (IsReached d) (λ t h. stands_in a.waiting.0 h) under stems.only) a.waiting.1;
+    waiting = every_append (IsReached d) under rest (every_weaker (StandsIn d s) (IsReached d) (λ t h. stands_in a.waiting.0 sound h) under stems.only) a.waiting.1;
     sound = every_append (IsSound d) visited (s ∷ []) a.sound (sound, tt);
     starts = λ t is. onward t (a.starts t is);
     closed = λ v t i h. elim (in_cases v visited (s ∷ []) i) [

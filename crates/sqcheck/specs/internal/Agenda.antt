@@ -9,11 +9,11 @@ use Rattle.sqcheck.specs.declared.node.Walk.{Walk}
 use Rattle.sqcheck.specs.declared.uses.Counts.{Counts}
 use Rattle.sqcheck.specs.declared.uses.Uses.{Uses}
 use Rattle.sqcheck.specs.declared.tree.Tree.{Tree}
-use Rattle.sqcheck.specs.Places.{Place, first_trunk_place, first_root, next, leaf, overflow, child, root, holder, Role, link, node, Spot, StandsIn, StandsInRow, IsFirst, IsReached}
+use Rattle.sqcheck.specs.Places.{Place, first_trunk_place, first_root, next, leaf, overflow, child, root, holder, Role, link, node, Spot, StandsIn, StandsInRow, IsFirst}
 use Rattle.sqcheck.specs.declared.role.Role as roles
 use Rattle.sqcheck.specs.internal.Roles.{TellsOf}
-use Rattle.sqcheck.specs.WellFormed.{IsAutoVacuum, IsSetAside, HasEntry, IsSound, HasSoundRows, numbers, is_root, is_node, is_link, is_free}
-use Rattle.sqcheck.specs.Stands.{StandsWith}
+use Rattle.sqcheck.specs.WellFormed.{IsReached, IsAutoVacuum, IsSetAside, HasEntry, IsSound, HasSoundRows, numbers, is_root, is_node, is_link, is_free}
+use Rattle.sqcheck.specs.Stands.{StandsBy}
 use Rattle.sqcheck.specs.internal.Walking.{Match, Knows, IsSchemaLeaf}
 
 -- the page that a place stands in, 0 for the two first ones
@@ -55,9 +55,9 @@ LinkFits d s = (owner needed : ℕ) → s.role ≡ link owner needed → ((i : �
 abbrev pub IsAside : Database → (p : ℕ) → Type 0
 IsAside d p = IsSetAside d (length (page d 1)) p
 
--- a fault that isn't one of the header stands, where pages are so long
+-- a fault that isn't one of the header stands, where pages are so long, and pointer maps are asked for if there are any
 abbrev pub StandsNow : Database → Fault → (at : ℕ) → Type 0
-StandsNow d fault at = (maps : Bool) (size : ℕ) → length (page d 1) ≡ size → StandsWith maps d size fault at
+StandsNow d fault at = (maps : Bool) (size : ℕ) → length (page d 1) ≡ size → (IsAutoVacuum d → maps ≡ true) → StandsBy (IsReached d) maps d size fault at
 
 -- Marked are the pages that are set aside.
 abbrev pub MarksAside : Database → (marks : List Bool) → Type 0

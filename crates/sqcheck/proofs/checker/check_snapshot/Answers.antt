@@ -4,13 +4,14 @@ use Rattle.sqval.specs.Database.{Database, page}
 use Rattle.sqval.specs.PageSize.{IsPageSize}
 use Rattle.sqpage.proofs.file.PagesInMemory.{least_page_size}
 use Rattle.sqcheck.specs.internal.Heading.{HasHeaderOf}
+use Rattle.sqpage.specs.declared.fault.Fault.TheVariants as faults
 use Rattle.sqcheck.specs.Stands.{StandsWith}
 use Rattle.sqcheck.proofs.checks.ResultsOfCalls.{if_err}
-use Rattle.sqcheck.proofs.checks.EndsOfCheck.{no_magic, header_sound, first_sized, knows_maps}
+use Rattle.sqcheck.proofs.checks.EndsOfCheck.{no_magic, header_sound, header_stands, page_stands, memory_stands, first_sized, knows_maps}
 use Rattle.sqcheck.proofs.checker.check_snapshot.Goals as goal
 
 pub returns-then-count-eq0-clause-err : goal.returns-then-count-eq0-clause-err
-returns-then-count-eq0-clause-err g c = λ given. (refl, no_magic g.V.Snapshot.pages (sym (ap (λ (q : Database). length q) c.requires.same.0) ∙ sym c.count-count.ensures ∙ c.if-count-eq0.true))
+returns-then-count-eq0-clause-err g c = λ given. header_stands c.args.options.pointer_maps g.V.Snapshot.pages g.V.Snapshot.size g.V.Snapshot.size faults.Magic refl (no_magic g.V.Snapshot.pages (sym (ap (λ (q : Database). length q) c.requires.same.0) ∙ sym c.count-count.ensures ∙ c.if-count-eq0.true))
 
 pub read_page-requires-clause-same : goal.read_page-requires-clause-same
 read_page-requires-clause-same g c = record {
@@ -44,7 +45,8 @@ returns-in-Ok-new_walker-clause-err g c = λ given.
     let hd = subst (λ (l : List ℕ). HasHeaderOf c.args.options.pointer_maps c.in_ok-header.header c.page_size-size.result l) first c.in_ok-header.ensures.ok in
     let size = c.page_size-size.ensures ∙ c.requires.same.1 in
     let long = first_sized d g.V.Snapshot.size c.count-count.result (c.count-count.ensures ∙ ap (λ (q : Database). length q) c.requires.same.0) c.if-count-eq0.false read.2 in
-    if_err _ (λ e. StandsWith c.args.options.pointer_maps d g.V.Snapshot.size e.fault e.page) c.check_pages.result (λ e h. h c.args.options.pointer_maps g.V.Snapshot.size long)
+    let sound = header_sound c.args.options.pointer_maps d c.in_ok-header.header c.page_size-size.result g.V.Snapshot.size size hd in
+    if_err _ (λ e. StandsWith c.args.options.pointer_maps d g.V.Snapshot.size e.fault e.page) c.check_pages.result (λ e h. page_stands c.args.options.pointer_maps d g.V.Snapshot.size e.fault e.page long sound h)
     (c.check_pages.ensures.err both read.2 (record { first = hd.first_trunk; said = hd.free_pages; largest = hd.largest_root }) (c.in-Ok-new_walker.ensures.new both.1))
 
 pub new-requires-clause-known : goal.new-requires-clause-known
