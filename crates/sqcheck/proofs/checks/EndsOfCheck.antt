@@ -1,5 +1,5 @@
 -- The two ends of a check.
-use Rattle.std.proofs.Common.{◌≡◌, ◌≢◌, ◌<◌, ℕ, ◌-◌, [], Bool, true, false, not, eqb, eq-eqb, ◌∷◌, length, ⊎_elim, refl, sym, ap, ◌∙◌, inr, arith}
+use Rattle.std.proofs.Common.{◌≡◌, ◌≢◌, ◌<◌, ℕ, ◌-◌, [], Bool, true, false, not, eqb, eq-eqb, ◌∷◌, length, ⊎_elim, refl, sym, ap, ◌∙◌, inl, inr, arith}
 use Rattle.std.proofs.lemmas.Bool.{eqb-true}
 use Rattle.sqpage.specs.Lists.{Every}
 use Rattle.sqcheck.proofs.checks.ListsByRecursion.{either}

@@ -21,7 +21,7 @@ use Rattle.sqcheck.specs.declared.uses.Counts.{Counts}
 use Rattle.sqcheck.specs.declared.report.Report.{Report}
 use Rattle.sqcheck.specs.Places.{Place, first_trunk_place, first_root, next, leaf, overflow, child, root, holder, Node, Role, trunk, free_leaf, link, node, Spot, spot, page_as, used_in, HasKind, IsCellAt, InLink, InPageAs, InRow, InRowAs, StandsIn, StandsInRow, IsFirst, first, stands_in, stands_in_row, first_root_spot, first_trunk_spot, root_of_tree}
 use Rattle.sqcheck.specs.WellFormed.{IsReached, WellFormedWith, IsAutoVacuum, AreMapped, HasEntry, IsLargestRoot, IsSetAside, IsSound, IsSoundAs, IsSoundPage, HasSoundRows, HasSoundHeader, numbers, is_free, AreEachOnce, IsReport}
-use Rattle.sqcheck.specs.Stands.{StandsBy}
+use Rattle.sqcheck.specs.Stands.{StandsBy, IsAsideWith}
 use Rattle.sqcheck.specs.internal.Walking.{IsSchemaLeaf}
 use Rattle.sqcheck.specs.internal.Schema.{IsRowsPage, AllSchemaRows, InRowsOf, Finds, IsRootAt, RootsMatch}
 use Rattle.sqcheck.specs.internal.Agenda.{home, places, Off, IsHome, NotRoot, NotSchema, LinkFits, IsAside, MarksAside, Agenda, AreCounted, Stood}
@@ -226,7 +226,7 @@ rows_pages d marks visited rows counts least long w = every_weaker _ (IsRowsPage
             let has = l.2 in
             let flat = l.3 in
             let is = every_in (IsSound d) s visited w.agenda.sound i in
-            let reached = every_in (IsReached d) s visited w.agenda.reached i in
+            let reached = every_in (IsReached d) s visited w.agenda.tour.reached i in
             let n : IsSoundPage d s.page x = (subst (IsSoundAs d s.page) r is.sound_as).page in
             let table : x.table ≡ true = subst IsTableIfSchema r (schema_table d reached) schema in
             let kind_is : n.kind ≡ kind = kind_once d n.kind kind s.page n.page_is.kind (subst (λ q. HasKind d kind q) (sym e) has) in
@@ -242,7 +242,7 @@ rows_pages d marks visited rows counts least long w = every_weaker _ (IsRowsPage
               schema = schema;
               page_is = subst (λ q. IsBtreePage (page_as d TableLeaf q)) e b;
               payloads = subst (λ q. (i : ℕ) (cell : Cell) → IsCellAt (page_as d TableLeaf q) i cell → (content : List ℕ) × IsPayload d cell content) e
-                  (payload_there d visited w.agenda.sound closed w.agenda.taken.distinct s x TableLeaf i r b.kind (used_long s.page is.named));
+                  (payload_there d visited w.agenda.sound closed w.agenda.tour.taken.distinct s x TableLeaf i r b.kind (used_long s.page is.named));
             }
 
 -- A root that a row of the schema names stands in a row of a visited page.
@@ -263,23 +263,25 @@ pub becomes_late : (d : Database) (marks : List Bool) (visited : List Spot) (row
     → Stood d true visited f.spots marks rows counts
 becomes_late d marks visited rows counts roots w f sound_rows = record {
   agenda = record {
-    sized = a.sized;
-    taken = a.taken;
+    tour = record {
+      sized = a.tour.sized;
+      taken = a.tour.taken;
+      reached = a.tour.reached;
+      waiting = every_weaker (InRowsOf d rows) (IsReached d) (λ t h. let s = row_from d marks visited rows counts w t h in stands_in_row (every_in (IsReached d) s.0 visited a.tour.reached s.1) (every_in (IsSound d) s.0 visited a.sound s.1) s.2) f.spots f.only;
+      apart = f.distinct;
+      off = every_weaker (λ v. NotRoot v.place) (λ v. Off v.place f.spots) (λ v n. every_weaker (InRowsOf d rows) (λ t. t.place ≡ v.place → ⊥) (λ t h e. subst NotRoot (sym e ∙ ap (λ (z : Spot). z.place) h.2.7) n) f.spots f.only) visited (a.early refl).0;
+      homes = a.tour.homes;
+      waiting_homes = every_weaker (InRowsOf d rows) (λ t. IsHome marks t.place) (λ t h.
+          let s = row_from d marks visited rows counts w t h in
+          let place : home t.place ≡ s.0.page = ap (λ (z : Spot). home z.place) h.2.7 ∙ sym s.3 in
+          let taken : In s.0.page (numbers visited) = in_map (λ z. z.page) s.0 visited s.1 in
+          inr (subst (IsWithin (length marks)) (sym place) (every_in (λ p. IsWithin (length marks) p × ¬ IsAside d p) s.0.page (numbers visited) a.tour.taken.within taken).0, ap (is_marked marks) place ∙ a.tour.taken.all s.0.page taken)) f.spots f.only;
+      fits = every_weaker (InRowsOf d rows) (LinkFits d) (λ t h. subst (LinkFits d) (sym h.2.7) (λ o n e. absurd (cc))) f.spots f.only;
+    };
     room = a.room;
-    reached = a.reached;
-    waiting = every_weaker (InRowsOf d rows) (IsReached d) (λ t h. let s = row_from d marks visited rows counts w t h in stands_in_row (every_in (IsReached d) s.0 visited a.reached s.1) (every_in (IsSound d) s.0 visited a.sound s.1) s.2) f.spots f.only;
     sound = a.sound;
     starts = λ s h. ⊎_elim (λ v. inl v) (λ none. absurd none) (a.starts s h);
     closed = λ s t i h. ⊎_elim (λ v. inl v) (λ none. absurd none) (a.closed s t i h);
-    apart = f.distinct;
-    off = every_weaker (λ v. NotRoot v.place) (λ v. Off v.place f.spots) (λ v n. every_weaker (InRowsOf d rows) (λ t. t.place ≡ v.place → ⊥) (λ t h e. subst NotRoot (sym e ∙ ap (λ (z : Spot). z.place) h.2.7) n) f.spots f.only) visited (a.early refl).0;
-    homes = a.homes;
-    waiting_homes = every_weaker (InRowsOf d rows) (λ t. IsHome marks t.place) (λ t h.
-        let s = row_from d marks visited rows counts w t h in
-        let place : home t.place ≡ s.0.page = ap (λ (z : Spot). home z.place) h.2.7 ∙ sym s.3 in
-        let taken : In s.0.page (numbers visited) = in_map (λ z. z.page) s.0 visited s.1 in
-        inr (subst (IsWithin (length marks)) (sym place) (every_in (λ p. IsWithin (length marks) p × ¬ IsAside d p) s.0.page (numbers visited) a.taken.within taken).0, ap (is_marked marks) place ∙ a.taken.all s.0.page taken)) f.spots f.only;
-    fits = every_weaker (InRowsOf d rows) (LinkFits d) (λ t h. subst (LinkFits d) (sym h.2.7) (λ o n e. absurd (cc))) f.spots f.only;
     early = λ e. absurd (let both : true ≡ false = e in cc);
     rooted = λ e s t i h. inr (in_rows s t i h);
     plain = λ e. every_weaker (InRowsOf d rows) (λ t. NotSchema t.role) (λ t h. subst (λ (z : Spot). NotSchema z.role) (sym h.2.7) refl) f.spots f.only;
@@ -309,7 +311,7 @@ becomes_late d marks visited rows counts roots w f sound_rows = record {
     sound_at v i (node x) r = λ schema kind has flat k bytes row.
         let is = every_in (IsSound d) v visited a.sound i in
         let n : IsSoundPage d v.page x = (subst (IsSoundAs d v.page) r is.sound_as).page in
-        let table : x.table ≡ true = subst IsTableIfSchema r (schema_table d (every_in (IsReached d) v visited a.reached i)) schema in
+        let table : x.table ≡ true = subst IsTableIfSchema r (schema_table d (every_in (IsReached d) v visited a.tour.reached i)) schema in
         let kind_is : n.kind ≡ kind = kind_once d n.kind kind v.page n.page_is.kind has in
         let leaf_kind : kind ≡ TableLeaf = table_leaf kind (ap is_table (sym kind_is) ∙ n.same ∙ table) flat in
         let there : In v.page rows = w.rows.all v i (subst (IsSchemaLeaf d v.page) (sym r) (schema, kind, has, flat)) in
@@ -397,7 +399,7 @@ none_left d marks after visited done rows kept counts counted roots w f all =
         let h = every_in (InRowsOf d rows) t f.spots f.only (subst (In t) whole (in_left t (take n f.spots) (drop n f.spots) i)) in
         let s = row_from d marks visited rows counts w t h in
         ⊎_elim (λ v. v) (λ left. absurd (not_left (take n f.spots) (drop n f.spots) t apart i left))
-        (root_visited d after done (drop n f.spots) s.0 t all.agenda (every_in (IsReached d) s.0 visited w.agenda.reached s.1) s.2)
+        (root_visited d after done (drop n f.spots) s.0 t all.agenda (every_in (IsReached d) s.0 visited w.agenda.tour.reached s.1) s.2)
 
     too_many : n < length f.spots → ⊥
     too_many lt =
@@ -411,25 +413,27 @@ pub begins : (d : Database) (marks : List Bool) (pending : List Spot) (counts : 
     → ((s : Spot) → IsFirst d s → In s pending) → Every (IsFirst d) pending → Apart (places pending) → Stood d false [] pending marks rows counts
 begins d marks pending counts rows sized none rows_none trees btree over free largest all firsts apart = record {
   agenda = record {
-    sized = sized;
-    taken = record {
-      only = λ p is m. inr ((none p is).0 m);
-      all = λ p i. absurd i;
-      aside = λ p is a. (none p is).1 a;
-      within = tt;
-      distinct = tt;
+    tour = record {
+      sized = sized;
+      taken = record {
+        only = λ p is m. inr ((none p is).0 m);
+        all = λ p i. absurd i;
+        aside = λ p is a. (none p is).1 a;
+        within = tt;
+        distinct = tt;
+      };
+      reached = tt;
+      waiting = every_weaker (IsFirst d) (IsReached d) (λ s h. first h) pending firsts;
+      apart = apart;
+      off = tt;
+      homes = tt;
+      waiting_homes = every_weaker (IsFirst d) (λ s. IsHome marks s.place) (λ s h. inl (⊎_elim (λ k. ap (λ (z : Spot). home z.place) k.1) (λ k. ap (λ (z : Spot). home z.place) k) h)) pending firsts;
+      fits = every_weaker (IsFirst d) (LinkFits d) (λ s h. ⊎_elim (λ k. subst (LinkFits d) (sym k.1) (λ o n e. absurd (cc))) (λ k. subst (LinkFits d) (sym k) (λ o n e. absurd (cc))) h) pending firsts;
     };
     room = (let c = count_by-le-length not marks in omega (arith, c, sized));
-    reached = tt;
-    waiting = every_weaker (IsFirst d) (IsReached d) (λ s h. first h) pending firsts;
     sound = tt;
     starts = λ s h. inr (all s h);
     closed = λ s t i h. absurd i;
-    apart = apart;
-    off = tt;
-    homes = tt;
-    waiting_homes = every_weaker (IsFirst d) (λ s. IsHome marks s.place) (λ s h. inl (⊎_elim (λ k. ap (λ (z : Spot). home z.place) k.1) (λ k. ap (λ (z : Spot). home z.place) k) h)) pending firsts;
-    fits = every_weaker (IsFirst d) (LinkFits d) (λ s h. ⊎_elim (λ k. subst (LinkFits d) (sym k.1) (λ o n e. absurd (cc))) (λ k. subst (LinkFits d) (sym k) (λ o n e. absurd (cc))) h) pending firsts;
     early = λ e. (tt, every_weaker (IsFirst d) (λ s. NotRoot s.place) (λ s h. ⊎_elim (λ k. subst (λ (z : Spot). NotRoot z.place) (sym k.1) tt) (λ k. subst (λ (z : Spot). NotRoot z.place) (sym k) tt) h) pending firsts);
     rooted = λ e s t i h. absurd i;
     plain = λ e. absurd (let both : false ≡ true = e in cc);
@@ -508,19 +512,24 @@ all_visited d marks visited a (first h) = ⊎_elim (λ v. v) (λ none. absurd no
 all_visited d marks visited a (stands_in {s = s} {t = t} r ok h) = ⊎_elim (λ v. v) (λ none. absurd none) (a.closed s t (all_visited d marks visited a r) h)
 all_visited d marks visited a (stands_in_row {s = s} {t = t} r ok h) = ⊎_elim (λ v. v) (λ none. absurd none) (a.rooted refl s t (all_visited d marks visited a r) h)
 
+-- What nothing may name is set aside.
+plainly : (maps : Bool) (d : Database) (size p : ℕ) → IsAsideWith maps d size p → IsSetAside d size p
+plainly maps d size p (inl lock) = inl lock
+plainly maps d size p (inr map) = inr (map.1, map.2)
+
 pub unused_stands : (d : Database) (maps : Bool) (size : ℕ) → length (page d 1) ≡ size → (marks : List Bool) (visited : List Spot) (p : ℕ) → Agenda d true marks visited [] → IsWithin (length marks) p → is_marked marks p ≡ false → StandsBy (IsReached d) maps d size faults.PageUnused p
 unused_stands d maps size same marks visited p a is free = (
-  subst (λ n. IsWithin n p) a.sized is,
-  (λ aside. let m : is_marked marks p ≡ true = a.taken.aside p is (subst (λ n. IsSetAside d n p) (sym same) (⊎_elim (λ lock. inl lock) (λ map. inr map.1) aside)) in let both : true ≡ false = sym m ∙ free in cc),
-  λ s r e. absurd (let m : is_marked marks p ≡ true = a.taken.all p (subst (λ q. In q (numbers visited)) e (in_map (λ z. z.page) s visited (all_visited d marks visited a r))) in let both : true ≡ false = sym m ∙ free in cc),
+  subst (λ n. IsWithin n p) a.tour.sized is,
+  (λ aside. let m : is_marked marks p ≡ true = a.tour.taken.aside p is (subst (λ n. IsSetAside d n p) (sym same) (plainly maps d size p aside)) in let both : true ≡ false = sym m ∙ free in cc),
+  λ s r e. absurd (let m : is_marked marks p ≡ true = a.tour.taken.all p (subst (λ q. In q (numbers visited)) e (in_map (λ z. z.page) s visited (all_visited d marks visited a r))) in let both : true ≡ false = sym m ∙ free in cc),
 )
 
 -- Each page was visited once.
 pub each_once : (d : Database) (marks : List Bool) (visited : List Spot) → Agenda d true marks visited [] → ((p : ℕ) → IsWithin (length marks) p → is_marked marks p ≡ true) → AreEachOnce (IsAside d) (length d) (numbers visited)
 each_once d marks visited a all = record {
-  within = subst (λ n. Every (λ p. IsWithin n p × ¬ IsAside d p) (numbers visited)) a.sized a.taken.within;
-  distinct = a.taken.distinct;
-  each = λ p is off. let is' = subst (λ n. IsWithin n p) (sym a.sized) is in ⊎_elim (λ i. i) (λ aside. absurd (off aside)) (a.taken.only p is' (all p is'));
+  within = subst (λ n. Every (λ p. IsWithin n p × ¬ IsAside d p) (numbers visited)) a.tour.sized a.tour.taken.within;
+  distinct = a.tour.taken.distinct;
+  each = λ p is off. let is' = subst (λ n. IsWithin n p) (sym a.tour.sized) is in ⊎_elim (λ i. i) (λ aside. absurd (off aside)) (a.tour.taken.only p is' (all p is'));
 }
 
 -- The first page is one of the visited ones.
@@ -537,7 +546,7 @@ largest_of d marks visited counts a c = (
   (λ s r root. c.most s (all_visited d marks visited a r) root),
   ⊎_elim
       (λ none. absurd (let le : 1 ≤ counts.largest_root = c.most first_root_spot (all_visited d marks visited a (first (inr refl))) refl in omega (arith, le, none)))
-      (λ k. (k.0, every_in (IsReached d) k.0 visited a.reached k.1, k.2, k.3)) c.one,
+      (λ k. (k.0, every_in (IsReached d) k.0 visited a.tour.reached k.1, k.2, k.3)) c.one,
 )
 
 -- The header says another.
@@ -572,7 +581,7 @@ concludes maps d size marks visited rows counts size_is sized header w all free 
     header = header;
     places = visited;
     all = λ s r. all_visited d marks visited w.agenda r;
-    reached = w.agenda.reached;
+    reached = w.agenda.tour.reached;
     once = once_of d size marks visited sized w.agenda all;
     sound = w.agenda.sound;
     rows = w.agenda.read refl;

@@ -1,5 +1,5 @@
 -- Where the condition of a fault holds the database isn't well formed.
-use Rattle.std.proofs.Common.{◌≡◌, ◌≢◌, ℕ, suc, ◌≤◌, Bool, List, [], ◌∷◌, length, true, false, count_by, refl, sym, ap, subst, ◌∙◌, inl, inr, ⊎_elim, arith}
+use Rattle.std.proofs.Common.{◌⊎◌, ◌≡◌, ◌≢◌, ℕ, suc, ◌≤◌, Bool, List, [], ◌∷◌, length, true, false, count_by, refl, sym, ap, subst, ◌∙◌, inl, inr, ⊎_elim, arith}
 use Rattle.sqval.specs.Database.{Database, page}
 use Rattle.sqval.specs.PageSize.{IsPageSize}
 use Rattle.sqpage.specs.declared.fault.Fault.{Fault}
@@ -108,19 +108,19 @@ module _ (maps : Bool) (d : Database) (size : ℕ) (w : WellFormedWith maps d si
   none_by faults.ChainCut p (s, owner, needed, r, role, at, inr (i, in_cell, more)) asked other = let few = (subst (IsSoundAs d s.page) role (sound s r).sound_as).0 in absurd (omega (arith, few, more))
   none_by faults.ChainLong p (s, owner, r, e, is, role, further) asked other = further (subst (λ q. Rattle.sqpage.specs.Freelist.next_in (page d q) ≡ 0) e ((subst (IsSoundAs d s.page) role (sound s r).sound_as).1 refl))
   none_by faults.PageTwice p (is, inr (aside, s, r, e)) asked other =
-      (every_in (λ q. IsWithin (length d) q × ¬ IsSetAside d size q) s.page (numbers w.places) w.once.within (in_map (λ z. z.page) s w.places (w.all s r))).1 (subst (IsSetAside d size) (sym e) (⊎_elim (λ lock. inl lock) (λ map. inr map.1) aside))
+      (every_in (λ q. IsWithin (length d) q × ¬ IsSetAside d size q) s.page (numbers w.places) w.once.within (in_map (λ z. z.page) s w.places (w.all s r))).1 (subst (IsSetAside d size) (sym e) (⊎_elim (λ lock. inl lock) (λ map. inr (map.1, map.2)) aside))
   none_by faults.PageTwice p (is, inl (s, t, r, q, differ, e, f)) asked other = differ (ap (λ (z : Spot). z.place) (one_page w.places s t w.once.distinct (w.all s r) (w.all t q) (e ∙ sym f)))
   none_by faults.PageOutside p (s, r, at, never, link_zero) asked other = never (sound s r).named
   none_by faults.PageUnused p (is, off, never) asked other =
-      let v = from_map (λ x. x.page) p w.places (w.once.each p is (λ aside. off (⊎_elim (λ lock. inl lock) (λ map. inr (⊎_elim (λ yes. yes) (λ no. absurd (cc)) (asked map.0), map)) aside))) in
+      let v = from_map (λ x. x.page) p w.places (w.once.each p is (λ aside. off (⊎_elim (λ lock. inl lock) (λ map. inr (⊎_elim (λ yes. yes) (λ no. absurd (cc)) (asked map.0), map.0, map.1)) aside))) in
       never v.0 (every_in (IsReached d) v.0 w.places w.reached v.1) (sym v.2)
   none_by faults.KeyOrder p (s, x, r, e, is, role, (kind, b, (i, cell, before, has, key, never))) asked other =
       let n = on_kind p s x kind r e role b.kind in
       never (subst (λ k. Rattle.sqcheck.specs.WellFormed.KeysRise (page_as d k p) x) n.1 n.0.keys i cell before has key)
   none_by faults.Depth p (s, x, r, e, is, role, inl deep) asked other = let n = on_node p s x r e role in absurd (omega (arith, deep, n.shallow))
   none_by faults.Depth p (s, x, r, e, is, role, inr (kind, h, leaf, on, f, ne)) asked other =
-      let n = on_kind p s x kind r e role h in
-      ne (first_leaf_once d ((whole_node p s x r e role).even (ap is_interior n.1 ∙ leaf)) f)
+      let n = whole_node p s x r e role in
+      ne (first_leaf_once d (n.even (ap is_interior (kind_once d n.page.kind kind p n.page.page_is.kind h) ∙ leaf)) f)
   none_by faults.FreeCount p (inl (s, r, e, is, role, more)) asked other = let few = subst (λ q. Rattle.sqpage.specs.Freelist.leaf_count_in (page d q) ≤ Rattle.sqpage.specs.Freelist.most_leaves d) e (subst (IsSoundAs d s.page) role (sound s r).sound_as) in absurd (omega (arith, few, more))
   none_by faults.FreeCount p (inr (e, free, a, ne)) asked other = ne (counted free a ∙ w.free)
   none_by faults.SchemaRecord p (s, x, r, e, is, role, (schema, (kind, b, (leaf, i, bytes, row, never)))) asked other =

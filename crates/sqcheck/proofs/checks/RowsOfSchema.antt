@@ -15,6 +15,7 @@ use Rattle.sqpage.proofs.btree.PartsOfCells.{SameCell, cell_once}
 use Rattle.sqpage.proofs.chain.ListsByRecursion.{in_left, in_right, in_cases, every_append}
 use Rattle.sqcheck.specs.declared.schema.Root.{Root}
 use Rattle.sqcheck.specs.Places.{root, Spot, spot, page_as, HasKind, IsCellAt, IsRow, IsSchemaRow, InRow, root_of_tree}
+use Rattle.sqcheck.specs.WellFormed.{IsReached}
 use Rattle.sqcheck.specs.Stands.{StandsBy}
 use Rattle.sqcheck.specs.internal.Schema.{IsRowsPage, AreSchemaRows, AllSchemaRows, InRowBelow, InRowsOf, IsRootAt, RootsMatch, Finds, KeepsFound}
 use Rattle.sqcheck.proofs.checks.ListsByRecursion.{every_weaker, every_map, map_append, apart_append}

@@ -1,5 +1,5 @@
 -- The steps of the walk.
-use Rattle.std.proofs.Common.{◌≡◌, ◌≢◌, ℕ, ◌<◌, ◌≤◌, ◌⊎◌, List, [], ◌∷◌, ◌++◌, length, reverse, Bool, true, false, cond, Option, Some, None, IsTrue, refl, sym, ap, subst, ◌∙◌, inl, inr, arith, append_assoc, append-nil}
+use Rattle.std.proofs.Common.{⊎_elim, ◌≡◌, ◌≢◌, ℕ, ◌<◌, ◌≤◌, ◌⊎◌, List, [], ◌∷◌, ◌++◌, length, reverse, Bool, true, false, cond, Option, Some, None, IsTrue, refl, sym, ap, subst, ◌∙◌, inl, inr, arith, append_assoc, append-nil}
 use Rattle.std.proofs.lemmas.List.{reverse-append}
 use Rattle.std.proofs.lemmas.List.Sums.{sum_by-append}
 use Rattle.sqval.specs.Database.{Database, page}
@@ -110,7 +110,7 @@ pub aside_asked : (d : Database) (maps : Bool) (size : ℕ) → length (page d 1
 aside_asked d maps size same asked p h = ⊎_elim (λ lock. inl lock) (λ map. inr (asked map.0, map.0, map.1)) (subst (λ n. IsSetAside d n p) same h)
 
 -- The pages put aside, after one more place was visited.
-rows_more : (d : Database) (marks : List Bool) (new_marks : List Bool) (visited : List Spot) (s : Spot) (old new : List ℕ) → AreMarked d marks (numbers visited) → Marks marks new_marks s.page → RowsAre d visited old → PutsAside d s.page s.role old new
+rows_more : (d : Database) (marks : List Bool) (new_marks : List Bool) (visited : List Spot) (s : Spot) (old new : List ℕ) → AreMarked (IsAside d) marks (numbers visited) → Marks marks new_marks s.page → RowsAre d visited old → PutsAside d s.page s.role old new
     → RowsAre d (visited ++ s ∷ []) new
 rows_more d marks new_marks visited s old new taken m rows (inr h) = record {
   all = λ t i leaf. elim (in_cases t visited (s ∷ []) i) [
@@ -129,7 +129,7 @@ rows_more d marks new_marks visited s old new taken m rows (inl h) = record {
       ((s, in_right s visited (s ∷ []) (inl refl), refl, h.0), tt));
   distinct = subst Apart (sym h.1) (apart_snoc old s.page rows.distinct (λ i.
       let k = every_in (λ p. (t : Spot) × In t visited × (t.page ≡ p) × IsSchemaLeaf d p t.role) s.page old rows.only i in
-      fresh_marked d marks new_marks (numbers visited) s.page taken m (subst (λ q. In q (numbers visited)) k.2 (in_map (λ z. z.page) k.0 visited k.1))));
+      fresh_marked (IsAside d) marks new_marks (numbers visited) s.page taken m (subst (λ q. In q (numbers visited)) k.2 (in_map (λ z. z.page) k.0 visited k.1))));
 }
 
 counted_more : (tree : Tree) (visited : List Spot) (s : Spot) (it : Item) (old new : Counts) → s.role ≡ role_of tree it.task → it.page ≡ s.page → AreCounted visited old → AddsItem old new it → AreCounted (visited ++ s ∷ []) new
@@ -239,14 +239,14 @@ module _ (d : Database) (late : Bool) (tree : Tree) (visited rest : List Spot) (
       let m : Marks uses.marks.items new_marks s.page = subst (Marks uses.marks.items new_marks) top.is.page f.visits.marked in
       let p = f.visits.pushes in
       let here : (t : Spot) → InPageAs d it.page (role_of tree it.task) t → StandsIn d s t = λ t h.
-      (subst (λ n. IsWithin n s.page) w.agenda.sized (m.above, m.within), subst (λ r. InPageAs d s.page r t) (sym top.is.role) (subst (λ q. InPageAs d q (role_of tree it.task) t) top.is.page h)) in
+      (subst (λ n. IsWithin n s.page) w.agenda.tour.sized (m.above, m.within), subst (λ r. InPageAs d s.page r t) (sym top.is.role) (subst (λ q. InPageAs d q (role_of tree it.task) t) top.is.page h)) in
       let stems : Stems d s p.spots = record {
         only = every_weaker (InPageAs d it.page (role_of tree it.task)) (StandsIn d s) here p.spots p.only;
         all = λ t h. p.all t (subst (λ q. InPageAs d q (role_of tree it.task) t) (sym top.is.page) (subst (λ r. InPageAs d s.page r t) top.is.role h.1));
         distinct = p.distinct;
       } in
       let sound : IsSound d s = record {
-        named = subst (λ n. IsWithin n s.page) w.agenda.sized (m.above, m.within);
+        named = subst (λ n. IsWithin n s.page) w.agenda.tour.sized (m.above, m.within);
         sound_as = subst (λ r. IsSoundAs d s.page r) (sym top.is.role) (subst (λ q. IsSoundAs d q (role_of tree it.task)) top.is.page f.visits.sound);
       } in (
         s,
@@ -256,7 +256,7 @@ module _ (d : Database) (late : Bool) (tree : Tree) (visited rest : List Spot) (
           match = subst (λ l. Match tree l (p.spots ++ top.others)) (sym p.pushed) (match_append tree p.items (reverse popped.stack.items) p.spots top.others p.match top.match);
           agenda = subst (Agenda d late new_marks (visited ++ s ∷ [])) (sym (append_assoc p.spots top.others rest)) (follows d late uses.marks.items visited s (top.others ++ rest) agenda new_marks p.spots m sound stems);
           knows = f.knows;
-          rows = rows_more d uses.marks.items new_marks visited s popped.rows.items new.rows.items w.agenda.taken m (subst (RowsAre d visited) (sym rows) w.rows)
+          rows = rows_more d uses.marks.items new_marks visited s popped.rows.items new.rows.items w.agenda.tour.taken m (subst (RowsAre d visited) (sym rows) w.rows)
               (subst (λ r. PutsAside d s.page r popped.rows.items new.rows.items) (sym top.is.role) (subst (λ q. PutsAside d q (role_of tree it.task) popped.rows.items new.rows.items) top.is.page f.aside));
           counted = counted_more tree visited s it uses.counts new_uses.counts top.is.role top.is.page w.counted f.counted;
           entered = entered_more d tree visited it s top.is mapped w.entered;
@@ -265,14 +265,14 @@ module _ (d : Database) (late : Bool) (tree : Tree) (visited rest : List Spot) (
 
   -- Or it isn't.
   pub walk_refused : (fault : Fault) (at : ℕ) → FollowRefused d tree it uses.marks.items fault at → StandsNow d fault at
-  walk_refused fault at f maps size same asked = refusal_stands (IsReached d) (IsAside d) d maps size (aside_asked d maps size same asked) tree it top.spot top.is (agenda.waiting.0) uses.marks.items fault at w.agenda.sized (agenda.fits.0) f (twice d late uses.marks.items visited top.spot (top.others ++ rest) agenda)
+  walk_refused fault at f maps size same asked = refusal_stands (IsReached d) (IsAside d) d maps size (aside_asked d maps size same asked) tree it top.spot top.is (agenda.tour.waiting.0) uses.marks.items fault at w.agenda.tour.sized (agenda.tour.fits.0) f (twice d (IsReached d) (IsAside d) uses.marks.items visited top.spot (top.others ++ rest) agenda.tour)
 
   -- Or the entry of its page is wrong.
   pub entry_stands : (fault : Fault) (at : ℕ) → EntryRefused d it fault at → StandsNow d fault at
   entry_stands fault at h maps size same asked =
       let here : IsEntryPlace size (usable_size d) top.spot.page h.2 =
       subst (λ n. IsEntryPlace n (usable_size d) top.spot.page h.2) same (subst (λ p. IsEntryPlace (length (page d 1)) (usable_size d) p h.2) top.is.page h.3) in
-      subst (λ f. StandsBy (IsReached d) maps d size f at) (sym h.0) (asked h.1, inl (h.1, inl (top.spot, h.2, agenda.waiting.0, here, h.4, λ says. h.5 (says_entry d tree it top.spot h.2 top.is says))))
+      subst (λ f. StandsBy (IsReached d) maps d size f at) (sym h.0) (asked h.1, inl (h.1, inl (top.spot, h.2, agenda.tour.waiting.0, here, h.4, λ says. h.5 (says_entry d tree it top.spot h.2 top.is says))))
 
 -- Nothing was on the stack.
 pub nothing_popped : (d : Database) (late : Bool) (tree : Tree) (visited rest : List Spot) (uses : Uses) (walk popped : Walk) → Walking d late tree visited rest uses walk → walk.stack.items ≡ popped.stack.items ++ []

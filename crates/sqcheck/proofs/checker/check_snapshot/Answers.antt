@@ -3,10 +3,10 @@ use Rattle.std.proofs.lemmas.List.{with_items_is}
 use Rattle.sqval.specs.Database.{Database, page}
 use Rattle.sqval.specs.PageSize.{IsPageSize}
 use Rattle.sqpage.proofs.file.PagesInMemory.{least_page_size}
-use Rattle.sqcheck.specs.internal.Heading.{HasHeaderOf}
+use Rattle.sqcheck.specs.internal.Heading.{HasHeaderOf, HeaderFault}
 use Rattle.sqpage.specs.declared.fault.Fault.TheVariants as faults
 use Rattle.sqcheck.specs.Stands.{StandsWith}
-use Rattle.sqcheck.proofs.checks.ResultsOfCalls.{if_err}
+use Rattle.sqcheck.proofs.checks.ResultsOfCalls.{if_err, exits}
 use Rattle.sqcheck.proofs.checks.EndsOfCheck.{no_magic, header_sound, header_stands, page_stands, memory_stands, first_sized, knows_maps}
 use Rattle.sqcheck.proofs.checker.check_snapshot.Goals as goal
 
@@ -58,3 +58,15 @@ new-requires-clause-known g c = λ judged.
     let size = c.page_size-size.ensures ∙ c.requires.same.1 in
     let long = first_sized d g.V.Snapshot.size c.count-count.result (c.count-count.ensures ∙ ap (λ (q : Database). length q) c.requires.same.0) c.if-count-eq0.false read.2 in
     knows_maps c.args.options.pointer_maps d c.in_ok-header.header c.page_size-size.result (long ∙ sym size) hd
+
+pub returns-in_err-header-clause-err : goal.returns-in_err-header-clause-err
+returns-in_err-header-clause-err g c = λ given.
+    let d = g.V.Snapshot.pages in
+    let maps = c.args.options.pointer_maps in
+    let read = c.read_page.ensures.read given in
+    let first : c.deref.result.now ≡ page d 1 = c.deref.ensures.value ∙ with_items_is c.in-Ok.bytes c.read_page.new.out (c.read_page.auto.out ∙ c.deref_mut.ensures.len) ∙ read.1 in
+    let e = c.in_err-header.field-0.0 in
+    let h = c.in_err-header.ensures.err in
+    exits (λ e. StandsWith maps d g.V.Snapshot.size e.fault e.page) e c.from_residual-in_err-header.result c.from_residual-in_err-header.ensures.1
+    (subst (StandsWith maps d g.V.Snapshot.size e.fault) (sym h.0) (header_stands maps d c.page_size-size.result g.V.Snapshot.size e.fault (c.page_size-size.ensures ∙ c.requires.same.1)
+    (subst (HeaderFault maps e.fault c.page_size-size.result) first h.1)))

@@ -3,6 +3,7 @@ use Rattle.sqpage.specs.declared.kind.Kind.TheVariants.{TableLeaf}
 use Rattle.sqpage.specs.Page.{Page, cell_count}
 use Rattle.sqcheck.specs.Places.{page_as}
 use Rattle.sqcheck.specs.internal.Schema.{InRowBelow, KeepsFound, AreSchemaRows}
+use Rattle.sqcheck.specs.WellFormed.{IsReached}
 use Rattle.sqcheck.proofs.checks.ResultsOfCalls.{on_ok}
 use Rattle.sqcheck.proofs.btree.FaultsOfTreePage.{as_page, page_refused}
 use Rattle.sqcheck.proofs.visit.FollowedItem.{used_read}

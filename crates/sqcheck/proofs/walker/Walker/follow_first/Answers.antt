@@ -17,7 +17,7 @@ returns-in_err-judge_free_count-clause-err g c = λ given lists new.
     let h = c.in_err-judge_free_count.ensures.err in
     exits (λ e. StandsNow d e.fault e.page) e c.from_residual-in_err-judge_free_count.result c.from_residual-in_err-judge_free_count.ensures.1
     (λ maps size same asked. subst (λ f. StandsBy (IsReached d) maps d size f e.page) (sym h.0) (subst (StandsBy (IsReached d) maps d size faults.FreeCount) (sym h.1)
-    (free_count_stands d maps size w.0 k.uses.counts c.args.header.now.free_pages lists.said w.1.counted w.1.agenda.taken.distinct w.1.agenda.reached (λ s r f. free_visited d k.uses.marks.items w.0 w.1.agenda r f) h.2)))
+    (free_count_stands d maps size w.0 k.uses.counts c.args.header.now.free_pages lists.said w.1.counted w.1.agenda.tour.taken.distinct w.1.agenda.tour.reached (λ s r f. free_visited d k.uses.marks.items w.0 w.1.agenda r f) h.2)))
 
 pub returns-clause-ok : goal.returns-clause-ok
 returns-clause-ok g c = λ given lists new.

@@ -25,7 +25,7 @@ returns-in_err-judge_free_count-clause-err g c = λ given visited lists w.
     let h = c.in_err-judge_free_count.ensures.err in
     exits (λ e. StandsNow d e.fault e.page) e c.from_residual-in_err-judge_free_count.result c.from_residual-in_err-judge_free_count.ensures.1
     (λ maps size same asked. subst (λ f. StandsBy (IsReached d) maps d size f e.page) (sym h.0) (subst (StandsBy (IsReached d) maps d size faults.FreeCount) (sym h.1)
-    (free_count_stands d maps size visited uses.counts c.args.header.now.free_pages lists.said w.counted w.agenda.taken.distinct w.agenda.reached (λ s r f. all_visited d uses.marks.items visited w.agenda r) h.2)))
+    (free_count_stands d maps size visited uses.counts c.args.header.now.free_pages lists.said w.counted w.agenda.tour.taken.distinct w.agenda.tour.reached (λ s r f. all_visited d uses.marks.items visited w.agenda r) h.2)))
 
 pub returns-clause-err : goal.returns-clause-err
 returns-clause-err g c = λ given visited lists w.
