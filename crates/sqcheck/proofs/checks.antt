@@ -7,5 +7,6 @@ pub mod HeaderInFirstPage
 pub mod RowsOfSchema
 pub mod PhasesOfCheck
 pub mod EndsOfCheck
+pub mod TakenChains
 pub mod ChartOfAllPages
 pub mod FaultsPutDown

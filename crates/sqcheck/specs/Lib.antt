@@ -3,4 +3,5 @@ pub mod WellFormed
 pub mod Stands
 pub mod Roles
 pub mod Surveys
+pub mod Chains
 pub mod internal

@@ -187,8 +187,9 @@ first_trunk_spot d = spot first_trunk_place (first_trunk d) trunk
 abbrev pub IsFirst : Database → Spot → Type 0
 IsFirst d s = ((first_trunk d ≢ 0) × (s ≡ first_trunk_spot d)) ⊎ (s ≡ first_root_spot)
 
--- Reached are the first ones, and those in the pages and rows that a reached one leads to.
-pub data IsReached (d : Database) : Spot → Type 0 where
-  first : {s : Spot} → IsFirst d s → IsReached d s
-  stands_in : {s t : Spot} → IsReached d s → StandsIn d s t → IsReached d t
-  stands_in_row : {s t : Spot} → IsReached d s → StandsInRow d s t → IsReached d t
+-- Reached through pages of which P holds: the first ones, and those in the pages and rows that a reached one of which P
+-- holds leads to.
+pub data IsReachedBy (d : Database) (P : Spot → Type 0) : Spot → Type 0 where
+  first : {s : Spot} → IsFirst d s → IsReachedBy d P s
+  stands_in : {s t : Spot} → IsReachedBy d P s → P s → StandsIn d s t → IsReachedBy d P t
+  stands_in_row : {s t : Spot} → IsReachedBy d P s → P s → StandsInRow d s t → IsReachedBy d P t

@@ -8,8 +8,8 @@ use Rattle.sqpage.specs.PointerMaps.{lock_byte_page, IsPointerMap}
 use Rattle.sqcheck.specs.declared.role.Role.{Role}
 use Rattle.sqcheck.specs.declared.role.Role.TheVariants.{Btree, Overflow, FreeTrunk, FreeLeaf, LockByte, PointerMap}
 use Rattle.sqcheck.specs.Places as places
-use Rattle.sqcheck.specs.Places.{trunk, free_leaf, link, node, Spot, HasKind, IsReached}
-use Rattle.sqcheck.specs.WellFormed.{AreEachOnce, IsAutoVacuum, IsSetAside}
+use Rattle.sqcheck.specs.Places.{trunk, free_leaf, link, node, Spot, HasKind}
+use Rattle.sqcheck.specs.WellFormed.{IsReached, AreEachOnce, IsAutoVacuum, IsSetAside}
 
 -- The role of page p, which is named as this. The kind of a page of a tree is that of its type byte.
 abbrev pub IsRoleOf : Database → (p : ℕ) → places.Role → Role → Type 0

@@ -11,10 +11,10 @@ use Rattle.sqpage.specs.Lists.{In, Every, Apart}
 use Rattle.sqpage.specs.Freelist.{IsPage, usable_size, free_pages, next_in, leaf_count_in, most_leaves}
 use Rattle.sqpage.specs.Page.{Page, is_interior, is_table, IsBtreePage}
 use Rattle.sqpage.specs.Layout.{LayoutRefused}
-use Rattle.sqpage.specs.PointerMaps.{IsEntryPlace}
+use Rattle.sqpage.specs.PointerMaps.{lock_byte_page, IsPointerMap, IsEntryPlace}
 use Rattle.sqpage.specs.declared.pointer_map.EntryPlace.{EntryPlace}
-use Rattle.sqcheck.specs.Places.{overflow, holder, Node, trunk, link, node, Spot, page_as, HasKind, IsCellAt, IsKeyBefore, IsRow, IsSchemaRow, IsReached}
-use Rattle.sqcheck.specs.WellFormed.{IsAutoVacuum, IsIncremental, IsSetAside, SaysSo, IsLargestRoot, is_link, is_free, FirstLeaf, IsInOrder}
+use Rattle.sqcheck.specs.Places.{overflow, holder, Node, trunk, link, node, Spot, page_as, HasKind, IsCellAt, IsKeyBefore, IsRow, IsSchemaRow}
+use Rattle.sqcheck.specs.WellFormed.{IsReached, IsAutoVacuum, IsIncremental, SaysSo, IsLargestRoot, is_link, is_free, FirstLeaf, IsInOrder}
 
 -- some key isn't behind the one before, or is behind the high bound
 abbrev pub HasKeyOutOfOrder : Page → Node → Type 0
@@ -40,54 +40,73 @@ NodeRefused d faults.Depth p x = (20 < x.level) ⊎ IsUneven d p x
 NodeRefused d faults.SchemaRecord p x = (x.schema ≡ true) × AsBtreePage d p (λ kind b. (is_interior kind ≡ false) × (i : ℕ) × (bytes : List ℕ) × IsRow d b i bytes × ((r : ℕ) → ¬ IsSchemaRow bytes r))
 NodeRefused d _ p x = ⊥
 
--- a reached place names page p as one of a tree, and this is wrong with it
-abbrev pub OnNode : Database → Fault → (p : ℕ) → Type 0
-OnNode d fault p = (s : Spot) × (x : Node) × IsReached d s × (s.page ≡ p) × IsPage d p × (s.role ≡ node x) × NodeRefused d fault p x
+-- a place that counts names page p as one of a tree, and this is wrong with it
+abbrev pub OnNode : (Counts : Spot → Type 0) → Database → Fault → (p : ℕ) → Type 0
+OnNode Counts d fault p = (s : Spot) × (x : Node) × Counts s × (s.page ≡ p) × IsPage d p × (s.role ≡ node x) × NodeRefused d fault p x
 
--- these are all reached places of the freelist, each once
-pub record AreFreePlaces (d : Database) (free : List Spot) : Type 0 where
-  pub all : (s : Spot) → IsReached d s → is_free s.role ≡ true → In s free
-  pub reached : Every (λ s. IsReached d s × (is_free s.role ≡ true)) free
+-- these are all places of the freelist that count, each once
+pub record AreFreePlaces (Counts : Spot → Type 0) (free : List Spot) : Type 0 where
+  pub all : (s : Spot) → Counts s → is_free s.role ≡ true → In s free
+  pub reached : Every (λ s. Counts s × (is_free s.role ≡ true)) free
   pub distinct : Apart free
 
+-- nothing may name page p: the lock-byte page, and where pointer maps are asked for each of these
+abbrev pub IsAsideWith : (maps : Bool) → Database → (size p : ℕ) → Type 0
+IsAsideWith maps d size p = (p ≡ lock_byte_page size) ⊎ ((maps ≡ true) × IsAutoVacuum d × IsPointerMap size (usable_size d) p)
+
 -- two places name page p, or one does, and the page is set aside
-abbrev pub IsNamedTwice : Database → (size p : ℕ) → Type 0
-IsNamedTwice d size p =
-    ((s t : Spot) × IsReached d s × IsReached d t × (s.place ≢ t.place) × (s.page ≡ p) × (t.page ≡ p))
-    ⊎ (IsSetAside d size p × (s : Spot) × IsReached d s × (s.page ≡ p))
+abbrev pub IsNamedTwice : (Counts : Spot → Type 0) → (maps : Bool) → Database → (size p : ℕ) → Type 0
+IsNamedTwice Counts maps d size p =
+    ((s t : Spot) × Counts s × Counts t × (s.place ≢ t.place) × (s.page ≡ p) × (t.page ≡ p))
+    ⊎ (IsAsideWith maps d size p × (s : Spot) × Counts s × (s.page ≡ p))
 
 -- an entry in page `map` doesn't say what names its page
-abbrev pub HasWrongEntry : Database → (size map : ℕ) → Type 0
-HasWrongEntry d size map = (s : Spot) × (entry : EntryPlace) × IsReached d s × IsEntryPlace size (usable_size d) s.page entry × (entry.map ≡ map) × ¬ SaysSo d entry s.place s.role
+abbrev pub HasWrongEntry : (Counts : Spot → Type 0) → Database → (size map : ℕ) → Type 0
+HasWrongEntry Counts d size map = (s : Spot) × (entry : EntryPlace) × Counts s × IsEntryPlace size (usable_size d) s.page entry × (entry.map ≡ map) × ¬ SaysSo d entry s.place s.role
 
--- The condition of a fault of the file holds at page p.
-abbrev pub StandsWith : (maps : Bool) → Database → (size : ℕ) → Fault → (p : ℕ) → Type 0
-StandsWith maps d size faults.Magic p = (p ≡ 1) × ¬ HasMagic (page d 1)
-StandsWith maps d size faults.PageSize p = (p ≡ 1) × (¬ HasPageSize (page d 1) ⊎ (size_named (page d 1) ≢ size))
-StandsWith maps d size faults.Fraction p = (p ≡ 1) × ¬ HasFractions (page d 1)
-StandsWith maps d size faults.Reserved p = (p ≡ 1) × ¬ HasRoom (page d 1)
-StandsWith maps d size faults.AutoVacuum p = (p ≡ 1) × (maps ≡ false) × (word (page d 1) 52 ≢ 0)
-StandsWith maps d size faults.Kind p = OnNode d faults.Kind p
-StandsWith maps d size faults.CellOutside p = OnNode d faults.CellOutside p
-StandsWith maps d size faults.Overlap p = OnNode d faults.Overlap p
-StandsWith maps d size faults.Freeblock p = OnNode d faults.Freeblock p
-StandsWith maps d size faults.Fragments p = OnNode d faults.Fragments p
-StandsWith maps d size faults.ChainCut p = (s : Spot) × (owner needed : ℕ) × IsReached d s × (s.role ≡ link owner needed) × (holder s.place ≡ p) × ((s.page ≡ 0) ⊎ ((i : ℕ) × (s.place ≡ overflow p i) × (length d < needed)))
-StandsWith maps d size faults.ChainLong p = (s : Spot) × (owner : ℕ) × IsReached d s × (s.page ≡ p) × IsPage d p × (s.role ≡ link owner 1) × (next_in (page d p) ≢ 0)
-StandsWith maps d size faults.PageTwice p = IsPage d p × IsNamedTwice d size p
-StandsWith maps d size faults.PageOutside p = (s : Spot) × IsReached d s × (holder s.place ≡ p) × ¬ IsPage d s.page × (IsTrue (is_link s.role) → s.page ≢ 0)
-StandsWith maps d size faults.PageUnused p = IsPage d p × (¬ IsSetAside d size p) × ((s : Spot) → IsReached d s → s.page ≢ p)
-StandsWith maps d size faults.KeyOrder p = OnNode d faults.KeyOrder p
-StandsWith maps d size faults.Depth p = OnNode d faults.Depth p
-StandsWith maps d size faults.FreeCount p =
-    ((s : Spot) × IsReached d s × (s.page ≡ p) × IsPage d p × (s.role ≡ trunk) × (most_leaves d < leaf_count_in (page d p)))
-    ⊎ ((p ≡ 1) × (free : List Spot) × AreFreePlaces d free × (length free ≢ free_pages d))
-StandsWith maps d size faults.SchemaRecord p = OnNode d faults.SchemaRecord p
-StandsWith maps d size faults.Source p = ⊥
-StandsWith maps d size faults.NoMemory p = Unit {0}
-StandsWith maps d size faults.PointerMap p =
-    (IsAutoVacuum d × (HasWrongEntry d size p ⊎ ((p ≡ 1) × ¬ IsLargestRoot d (word (page d 1) 52))))
-    ⊎ ((p ≡ 1) × (maps ≡ true) × IsIncremental d × ¬ IsAutoVacuum d)
+-- The condition of a fault of the file holds at page p, by the places that count.
+abbrev pub StandsBy : (Counts : Spot → Type 0) → (maps : Bool) → Database → (size : ℕ) → Fault → (p : ℕ) → Type 0
+StandsBy Counts maps d size faults.Magic p = (p ≡ 1) × ¬ HasMagic (page d 1)
+StandsBy Counts maps d size faults.PageSize p = (p ≡ 1) × (¬ HasPageSize (page d 1) ⊎ (size_named (page d 1) ≢ size))
+StandsBy Counts maps d size faults.Fraction p = (p ≡ 1) × ¬ HasFractions (page d 1)
+StandsBy Counts maps d size faults.Reserved p = (p ≡ 1) × ¬ HasRoom (page d 1)
+StandsBy Counts maps d size faults.AutoVacuum p = (p ≡ 1) × (maps ≡ false) × (word (page d 1) 52 ≢ 0)
+StandsBy Counts maps d size faults.Kind p = OnNode Counts d faults.Kind p
+StandsBy Counts maps d size faults.CellOutside p = OnNode Counts d faults.CellOutside p
+StandsBy Counts maps d size faults.Overlap p = OnNode Counts d faults.Overlap p
+StandsBy Counts maps d size faults.Freeblock p = OnNode Counts d faults.Freeblock p
+StandsBy Counts maps d size faults.Fragments p = OnNode Counts d faults.Fragments p
+StandsBy Counts maps d size faults.ChainCut p = (s : Spot) × (owner needed : ℕ) × Counts s × (s.role ≡ link owner needed) × (holder s.place ≡ p) × ((s.page ≡ 0) ⊎ ((i : ℕ) × (s.place ≡ overflow p i) × (length d < needed)))
+StandsBy Counts maps d size faults.ChainLong p = (s : Spot) × (owner : ℕ) × Counts s × (s.page ≡ p) × IsPage d p × (s.role ≡ link owner 1) × (next_in (page d p) ≢ 0)
+StandsBy Counts maps d size faults.PageTwice p = IsPage d p × IsNamedTwice Counts maps d size p
+StandsBy Counts maps d size faults.PageOutside p = (s : Spot) × Counts s × (holder s.place ≡ p) × ¬ IsPage d s.page × (IsTrue (is_link s.role) → s.page ≢ 0)
+StandsBy Counts maps d size faults.PageUnused p = IsPage d p × (¬ IsAsideWith maps d size p) × ((s : Spot) → Counts s → s.page ≢ p)
+StandsBy Counts maps d size faults.KeyOrder p = OnNode Counts d faults.KeyOrder p
+StandsBy Counts maps d size faults.Depth p = OnNode Counts d faults.Depth p
+StandsBy Counts maps d size faults.FreeCount p =
+    ((s : Spot) × Counts s × (s.page ≡ p) × IsPage d p × (s.role ≡ trunk) × (most_leaves d < leaf_count_in (page d p)))
+    ⊎ ((p ≡ 1) × (free : List Spot) × AreFreePlaces Counts free × (length free ≢ free_pages d))
+StandsBy Counts maps d size faults.SchemaRecord p = OnNode Counts d faults.SchemaRecord p
+StandsBy Counts maps d size faults.Source p = ⊥
+StandsBy Counts maps d size faults.NoMemory p = Unit {0}
+StandsBy Counts maps d size faults.PointerMap p =
+    (maps ≡ true) × ((IsAutoVacuum d × (HasWrongEntry Counts d size p ⊎ ((p ≡ 1) × ¬ IsLargestRoot Counts (word (page d 1) 52)))) ⊎ ((p ≡ 1) × IsIncremental d × ¬ IsAutoVacuum d))
+
+-- it is one of the header, or memory ran out
+abbrev pub is_of_header : Fault → Bool
+is_of_header faults.Magic = true
+is_of_header faults.PageSize = true
+is_of_header faults.Fraction = true
+is_of_header faults.Reserved = true
+is_of_header faults.AutoVacuum = true
+is_of_header faults.NoMemory = true
+is_of_header _ = false
+
+-- The condition holds by the reached places. Of a database of auto-vacuum only the header is judged where no pointer maps
+-- are asked for.
+pub record StandsWith (maps : Bool) (d : Database) (size : ℕ) (fault : Fault) (p : ℕ) : Type 0 where
+  pub stands : StandsBy (IsReached d) maps d size fault p
+  pub judged : IsAutoVacuum d → (maps ≡ true) ⊎ (is_of_header fault ≡ true)
 
 -- the same where auto-vacuum is refused
 abbrev pub Stands : Database → (size : ℕ) → Fault → (p : ℕ) → Type 0

@@ -14,7 +14,7 @@ use Rattle.sqpage.specs.PointerMaps.{lock_byte_page, IsPointerMap, IsEntryPlace,
 use Rattle.sqpage.specs.declared.pointer_map.EntryPlace.{EntryPlace}
 use Rattle.sqpage.specs.declared.pointer_map.PointerKind.{PointerKind}
 use Rattle.sqpage.specs.declared.pointer_map.PointerKind.TheVariants as kinds
-use Rattle.sqcheck.specs.Places.{Place, next, holder, Node, Role, trunk, free_leaf, link, node, Spot, page_as, HasKind, IsCellAt, IsKeyBefore, IsRow, IsSchemaRow, IsReached}
+use Rattle.sqcheck.specs.Places.{Place, next, holder, Node, Role, trunk, free_leaf, link, node, Spot, page_as, HasKind, IsCellAt, IsKeyBefore, IsRow, IsSchemaRow, IsReachedBy}
 use Rattle.sqcheck.specs.declared.report.Report.{Report}
 
 -- the header's largest root isn't 0 (fileformat2, 1.3.13)
@@ -65,27 +65,34 @@ pub data FirstLeaf (d : Database) : (p level on : ℕ) → Type 0 where
   here : {p level : ℕ} → (kind : Kind) → HasKind d kind p → is_interior kind ≡ false → FirstLeaf d p level level
   down : {p level on : ℕ} → (kind : Kind) → HasKind d kind p → is_interior kind ≡ true → FirstLeaf d (first_child (page_as d kind p)) (suc level) on → FirstLeaf d p level on
 
--- A sound page of a tree: a b-tree page of the tree's kind, laid out soundly, its keys in order, not too deep, and where
--- it is a leaf on the level of the tree's first one.
-pub record IsSoundNode (d : Database) (p : ℕ) (x : Node) : Type 0 where
+-- A sound page of a tree but for the level of leaves: a b-tree page of the tree's kind, laid out soundly, its keys in
+-- order, not too deep.
+pub record IsSoundPage (d : Database) (p : ℕ) (x : Node) : Type 0 where
   pub kind : Kind
   pub page_is : IsBtreePage (page_as d kind p)
   pub same : is_table kind ≡ x.table
   pub laid_out : IsLaidOut (page_as d kind p)
   pub keys : KeysRise (page_as d kind p) x
   pub shallow : x.level ≤ 20
-  pub even : is_interior kind ≡ false → FirstLeaf d x.tree 1 x.level
+
+-- A sound page of a tree: where it is a leaf, on the level of the tree's first one.
+pub record IsSoundNode (d : Database) (p : ℕ) (x : Node) : Type 0 where
+  pub page : IsSoundPage d p x
+  pub even : is_interior page.kind ≡ false → FirstLeaf d x.tree 1 x.level
 
 -- The rows of a leaf of the schema's tree are rows of the schema.
 abbrev pub HasSchemaRows : Database → (p : ℕ) → Node → Type 0
 HasSchemaRows d p x = x.schema ≡ true → (kind : Kind) → HasKind d kind p → is_interior kind ≡ false → (i : ℕ) (bytes : List ℕ) → IsRow d (page_as d kind p) i bytes → (r : ℕ) × IsSchemaRow bytes r
 
--- The page is as its role wants it.
+-- The page is as its role wants it, where this is asked of a page of a tree.
+abbrev pub IsSoundWith : (IsNode : (p : ℕ) → Node → Type 0) → Database → (p : ℕ) → Role → Type 0
+IsSoundWith IsNode d p trunk = leaf_count_in (page d p) ≤ most_leaves d
+IsSoundWith IsNode d p free_leaf = Unit {0}
+IsSoundWith IsNode d p (link owner needed) = (needed ≤ length d) × (needed ≡ 1 → next_in (page d p) ≡ 0)
+IsSoundWith IsNode d p (node x) = IsNode p x
+
 abbrev pub IsSoundAs : Database → (p : ℕ) → Role → Type 0
-IsSoundAs d p trunk = leaf_count_in (page d p) ≤ most_leaves d
-IsSoundAs d p free_leaf = Unit {0}
-IsSoundAs d p (link owner needed) = (needed ≤ length d) × (needed ≡ 1 → next_in (page d p) ≡ 0)
-IsSoundAs d p (node x) = IsSoundNode d p x
+IsSoundAs d = IsSoundWith (IsSoundNode d) d
 
 -- the same of a page that is named as this, where it is one of a tree
 abbrev pub HasSoundRows : Database → (p : ℕ) → Role → Type 0
@@ -96,6 +103,10 @@ HasSoundRows d p _ = Unit {0}
 pub record IsSound (d : Database) (s : Spot) : Type 0 where
   pub named : IsPage d s.page
   pub sound_as : IsSoundAs d s.page s.role
+
+-- Reached are the places that sound pages lead to.
+abbrev pub IsReached : Database → Spot → Type 0
+IsReached d = IsReachedBy d (IsSound d)
 
 abbrev pub is_free : Role → Bool
 is_free trunk = true
@@ -153,14 +164,14 @@ SaysSo d entry place role = (byte (page d entry.map) entry.at ≡ kind_code (kin
 abbrev pub HasEntry : Database → (size : ℕ) → Spot → Type 0
 HasEntry d size s = (entry : EntryPlace) → IsEntryPlace size (usable_size d) s.page entry → SaysSo d entry s.place s.role
 
--- n is the largest root that a reached place names
-abbrev pub IsLargestRoot : Database → (n : ℕ) → Type 0
-IsLargestRoot d n = ((s : Spot) → IsReached d s → is_root s.role ≡ true → s.page ≤ n) × ((s : Spot) × IsReached d s × (is_root s.role ≡ true) × (s.page ≡ n))
+-- n is the largest root that a place names which counts
+abbrev pub IsLargestRoot : (Counts : Spot → Type 0) → (n : ℕ) → Type 0
+IsLargestRoot Counts n = ((s : Spot) → Counts s → is_root s.role ≡ true → s.page ≤ n) × ((s : Spot) × Counts s × (is_root s.role ≡ true) × (s.page ≡ n))
 
 -- The pointer maps say what names each page, and the header which root is the largest.
 pub record AreMapped (d : Database) (size : ℕ) : Type 0 where
   pub entries : (s : Spot) → IsReached d s → HasEntry d size s
-  pub largest : IsLargestRoot d (word (page d 1) 52)
+  pub largest : IsLargestRoot (IsReached d) (word (page d 1) 52)
 
 -- A database of pages of this size is well formed: its header is sound, its reached places together name each page once
 -- but those set aside, each of them is sound, each row of the schema is one, the freelist is as long as the header says,

@@ -1,6 +1,7 @@
 //! Whether a database file is well formed, and if not, where not (fileformat2, 1 and 2.6).
 #![tactic(auto)]
 
+mod chains;
 mod chart;
 mod checker;
 mod header;
@@ -21,6 +22,7 @@ mod uses;
 mod walk;
 mod walker;
 
+pub use chains::Chains;
 pub use checker::{check, check_with, visit_pages, visit_pages_with};
 pub use options::Options;
 pub use report::Report;

@@ -6,11 +6,14 @@ ghost use Rattle.sqpage.specs.Freelist.{IsPage, usable_size};
 ghost use Rattle.sqpage.specs.Source.{KeepsPages};
 ghost use Rattle.sqpage.specs.Header.{byte};
 ghost use Rattle.sqpage.specs.declared.fault.Fault.{Fault};
+ghost use Rattle.sqpage.specs.declared.kind.Kind.TheVariants.{TableLeaf};
 ghost use Rattle.sqcheck.specs.Surveys.{FindsClean, FindsDamaged, SurveyRefused, IsEnd};
 ghost use Rattle.sqcheck.specs.Surveys.{FindsCleanWith, FindsDamagedWith, SurveyRefusedWith};
 ghost use Rattle.sqcheck.specs.internal.Surveys.{AreSetDown, KnowsReserved};
 ghost use Rattle.sqcheck.specs.internal.Snapshots.{SameSource};
+ghost use Rattle.sqcheck.specs.internal.Schema.{HasPayloadWithin};
 
+use crate::chains::Chains;
 use crate::chart::Chart;
 use crate::checker::{NO_MEMORY, NO_TREE, ROOT, SCHEMA_TREE, new_walker, visit_pages_with};
 use crate::header::judge_header;
@@ -24,8 +27,9 @@ use crate::schema::{Root, add_root, row_root};
 use crate::snapshot::Snapshot;
 use crate::tree::Tree;
 use crate::walker::{Reader, Walker};
-use sqpage::{BtreePage, CheckError, Fault, Kind, PageSource};
-use std::alloc::Global;
+use sqpage::{BtreePage, Cell, CheckError, Fault, Kind, PageSource};
+use sqval::PageSize;
+use std::alloc::{AllocError, Global};
 use std::marker::{Brand, PhantomData};
 
 /// What the pages of a database are used for, and what is wrong with it.
@@ -111,21 +115,101 @@ fn keep_root(
     }
 }
 
-/// Adds the roots that the sound rows in a leaf of the schema's tree name, and tells of the others. A chain that can't
-/// be read was told of before.
+/// What was read of the rows of the schema.
+#[derive(Drop)]
+struct Rows {
+    /// The roots that they name.
+    roots: Vec<Root>,
+    /// The overflow pages of their chains.
+    chains: Chains,
+    /// Room for a row, and for a page of its chain.
+    content: Vec<u8>,
+    page: Vec<u8>,
+}
+
+impl Rows {
+    /// None was read of a database of so many pages.
+    fn none(alloc: Global, count: u32, size: PageSize) -> Result<Rows, AllocError>
+        ensures room { IfOk result (λ rows. length rows.page.items ≡ size) }
+    {
+        Ok(Rows {
+            roots: Vec::new(alloc),
+            chains: Chains::none(alloc, count)?,
+            content: Vec::new(alloc),
+            page: vec![in alloc; 0; size.get() as usize]?,
+        })
+    }
+}
+
+/// Adds the root that the row in a cell names, or tells of the row. A chain that can't be read, or is charted as another
+/// cell's, was told of before: such a row isn't read.
+fn survey_row<V: Snapshot, S: PageSource>(
+    alloc: Global,
+    source: &mut S,
+    chart: &mut Chart,
+    cell: &Cell,
+    rows: &mut Rows,
+) -> Result<(), CheckError>
+    requires cell { HasPayloadWithin V.size cell.now }
+    requires room { length rows.old.page.items ≡ V.size }
+    requires same { SameSource V.pages V.size V.given (S.pages source.old) (S.size source.old)
+        (S.gives_pages source.old) }
+    ensures ends { IfErr result (λ e. IsEnd e.fault) }
+    ensures long { length chart.new.roles.items ≡ length chart.old.roles.items }
+    ensures room { length rows.new.page.items ≡ V.size }
+    ensures same { SameSource V.pages V.size V.given (S.pages source.new) (S.size source.new)
+        (S.gives_pages source.new) }
+{
+    if !rows.chains.takes(source, &chart.roles, cell, &mut rows.page)? {
+        return Ok(());
+    }
+    let count = source.count();
+    let found = row_root::<V, S>(alloc, source, cell, &mut rows.content);
+    keep_root(chart, &mut rows.roots, count, cell.page, found)
+}
+
+/// Adds the roots that the rows of a page name, or tells of them.
+fn survey_cells<V: Snapshot, S: PageSource>(
+    alloc: Global,
+    source: &mut S,
+    chart: &mut Chart,
+    page: &BtreePage,
+    rows: &mut Rows,
+) -> Result<(), CheckError>
+    requires leaf { page.now.kind ≡ TableLeaf }
+    requires most { length page.now.used ≤ V.size }
+    requires room { length rows.old.page.items ≡ V.size }
+    requires same { SameSource V.pages V.size V.given (S.pages source.old) (S.size source.old)
+        (S.gives_pages source.old) }
+    ensures ends { IfErr result (λ e. IsEnd e.fault) }
+    ensures long { length chart.new.roles.items ≡ length chart.old.roles.items }
+    ensures room { length rows.new.page.items ≡ V.size }
+    ensures same { SameSource V.pages V.size V.given (S.pages source.new) (S.size source.new)
+        (S.gives_pages source.new) }
+{
+    'rows: for i in 0..page.len() {
+        let cell = page.cell(i);
+        survey_row::<V, S>(alloc, source, chart, &cell, rows)?;
+    }
+    Ok(())
+}
+
+/// Adds the roots that the sound rows in a leaf of the schema's tree name, and tells of the others.
 fn survey_rows<V: Snapshot, S: PageSource>(
     alloc: Global,
     source: &mut S,
     reader: &mut Reader<V>,
     chart: &mut Chart,
     number: u32,
-    roots: &mut Vec<Root>,
+    rows: &mut Rows,
 ) -> Result<(), CheckError>
+    requires room { length rows.old.page.items ≡ V.size }
     requires same { SameSource V.pages V.size V.given (S.pages source.old) (S.size source.old)
         (S.gives_pages source.old) }
     ensures ends { IfErr result (λ e. IsEnd e.fault) }
     ensures long { length chart.new.roles.items ≡ length chart.old.roles.items }
     ensures usable { reader.new.usable ≡ reader.old.usable }
+    ensures room { length rows.new.page.items ≡ V.size }
     ensures same { SameSource V.pages V.size V.given (S.pages source.new) (S.size source.new)
         (S.gives_pages source.new) }
 {
@@ -133,30 +217,23 @@ fn survey_rows<V: Snapshot, S: PageSource>(
         return Ok(());
     }
     reader.read(source, number)?;
-    let count = source.count();
-    let mut content = Vec::new(alloc);
     let Ok(page) = BtreePage::new(&reader.bytes, number, reader.usable) else {
         return Ok(());
     };
-    if page.kind() != Kind::TableLeaf {
-        return Ok(());
+    match page.kind() {
+        Kind::TableLeaf => survey_cells::<V, S>(alloc, source, chart, &page, rows),
+        _ => Ok(()),
     }
-    'rows: for i in 0..page.len() {
-        let cell = page.cell(i);
-        let found = row_root::<V, S>(alloc, source, &cell, &mut content);
-        keep_root(chart, roots, count, number, found)?;
-    }
-    Ok(())
 }
 
-/// The roots that the sound rows of the schema name, in their order, and tells of the other rows. `rows` are the leaves
-/// of its tree.
+/// The roots that the sound rows of the schema name, in their order, and tells of the other rows. `leaves` are those of
+/// its tree.
 fn sound_roots<V: Snapshot, S: PageSource>(
     alloc: Global,
     source: &mut S,
     reader: &mut Reader<V>,
     chart: &mut Chart,
-    rows: &[u32],
+    leaves: &[u32],
 ) -> Result<Vec<Root>, CheckError>
     requires same { SameSource V.pages V.size V.given (S.pages source.old) (S.size source.old)
         (S.gives_pages source.old) }
@@ -166,11 +243,14 @@ fn sound_roots<V: Snapshot, S: PageSource>(
     ensures same { SameSource V.pages V.size V.given (S.pages source.new) (S.size source.new)
         (S.gives_pages source.new) }
 {
-    let mut roots = Vec::new(alloc);
-    'pages: for number in rows {
-        survey_rows(alloc, source, reader, chart, *number, &mut roots)?;
+    let mut rows = match Rows::none(alloc, source.count(), source.page_size()) {
+        Ok(rows) => rows,
+        Err(_) => return Err(NO_MEMORY),
+    };
+    'pages: for number in leaves {
+        survey_rows(alloc, source, reader, chart, *number, &mut rows)?;
     }
-    Ok(roots)
+    Ok(rows.roots)
 }
 
 impl<V: Snapshot> Reader<V> {
@@ -537,7 +617,8 @@ fn survey_behind<S: PageSource>(
 /// What `check` finds, and what each page of a database is used for, also of a damaged one (own). The walk is that of
 /// `check`, and goes on behind faults: each page has the role of the first place that names it, whatever is wrong with
 /// the page, and Unused where none does. A page of a tree whose type byte is none counts as a leaf. Nothing is followed
-/// in a page that is wrong in its role, or from a row of the schema that is none. `faults` has those of the header, of
+/// in a page that is wrong in its role, or from a row of the schema that is none, or whose chain isn't charted as its own.
+/// `faults` has those of the header, of
 /// each place and of each row, and PageUnused of each page that is unused. Once a page of a tree is wrong, Depth is
 /// told of leaves that aren't on the level of the first one that is sound so far.
 ///

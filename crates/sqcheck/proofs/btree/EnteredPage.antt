@@ -24,7 +24,7 @@ module _ (d : Database) (tree : Tree) (p : ℕ) (kind : Kind) (x : Node) (old_le
   even leaf = subst (λ r. FirstLeaf d r 1 x.level) (sym of_tree) (⊎_elim (λ none. k.leads none x.level (here kind has leaf)) (λ some. k.level_of x.level some) (j.leaf leaf).1)
 
   pub entered_sound : x.level ≤ 20 → IsSoundNode d p x
-  entered_sound shallow = record { kind = kind; page_is = j.page_is; same = j.same; laid_out = j.laid_out; keys = j.keys; shallow = shallow; even = even }
+  entered_sound shallow = record { page = record { kind = kind; page_is = j.page_is; same = j.same; laid_out = j.laid_out; keys = j.keys; shallow = shallow }; even = even }
 
   pub entered_pushes : (old mid new : List Item) → Pushes tree (IsBelow (page_as d kind p) x) old mid → Pushes tree (InCell (page_as d kind p)) mid new → Pushes tree (InNode d p x) old new
   entered_pushes old mid new a b =

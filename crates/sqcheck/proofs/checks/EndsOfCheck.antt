@@ -1,5 +1,5 @@
 -- The two ends of a check.
-use Rattle.std.proofs.Common.{◌≡◌, ◌≢◌, ◌<◌, ℕ, ◌-◌, [], Bool, true, false, not, eqb, eq-eqb, ◌∷◌, length, ⊎_elim, refl, sym, ap, ◌∙◌, inr, arith}
+use Rattle.std.proofs.Common.{◌≡◌, ◌≢◌, ◌<◌, ℕ, ◌-◌, [], Bool, true, false, not, eqb, eq-eqb, ◌∷◌, length, ⊎_elim, refl, sym, ap, ◌∙◌, inl, inr, arith}
 use Rattle.std.proofs.lemmas.Bool.{eqb-true}
 use Rattle.sqpage.specs.Lists.{Every}
 use Rattle.sqcheck.proofs.checks.ListsByRecursion.{either}
@@ -11,7 +11,8 @@ use Rattle.sqpage.specs.Freelist.{usable_size}
 use Rattle.sqpage.specs.Header.{HasMagic, byte}
 use Rattle.sqpage.specs.declared.header.DbHeader.{DbHeader}
 use Rattle.sqcheck.specs.internal.Heading.{HasHeaderOf, HeaderFault}
-use Rattle.sqcheck.specs.WellFormed.{HasSoundHeader}
+use Rattle.sqcheck.specs.WellFormed.{IsAutoVacuum, HasSoundHeader}
+use Rattle.sqcheck.specs.internal.Agenda.{StandsNow}
 use Rattle.sqcheck.specs.internal.Checking.{KnowsMaps}
 
 -- A source of no pages has no header.
@@ -25,13 +26,26 @@ header_sound maps d h size of e is = record { magic = is.magic; page_size = is.p
 
 -- What is wrong with the header stands at page 1.
 pub header_stands : (maps : Bool) (d : Database) (size of : ℕ) (fault : Fault) → size ≡ of → HeaderFault maps fault size (page d 1) → StandsWith maps d of fault 1
-header_stands maps d size of faults.Magic e h = (refl, h)
-header_stands maps d size of faults.PageSize e h = (refl, inr (λ same. h.1 (same ∙ sym e)))
-header_stands maps d size of faults.Fraction e h = (refl, h.2)
-header_stands maps d size of faults.Reserved e h = (refl, h.3)
-header_stands maps d size of faults.AutoVacuum e h = (refl, h.4, h.5)
-header_stands maps d size of faults.PointerMap e h = inr (refl, h.4, h.5, λ auto. auto h.6)
+header_stands maps d size of faults.Magic e h = record { stands = (refl, h); judged = λ auto. inr refl }
+header_stands maps d size of faults.PageSize e h = record { stands = (refl, inr (λ same. h.1 (same ∙ sym e))); judged = λ auto. inr refl }
+header_stands maps d size of faults.Fraction e h = record { stands = (refl, h.2); judged = λ auto. inr refl }
+header_stands maps d size of faults.Reserved e h = record { stands = (refl, h.3); judged = λ auto. inr refl }
+header_stands maps d size of faults.AutoVacuum e h = record { stands = (refl, h.4, h.5); judged = λ auto. inr refl }
+header_stands maps d size of faults.PointerMap e h = record { stands = (h.4, inr (refl, h.5, λ auto. auto h.6)); judged = λ auto. inl h.4 }
 header_stands maps d size of _ e h = absurd h
+
+-- A sound header of auto-vacuum is one where pointer maps are asked for.
+pub maps_asked : (maps : Bool) (d : Database) (size : ℕ) → HasSoundHeader maps d size → IsAutoVacuum d → maps ≡ true
+maps_asked maps d size h auto = ⊎_elim (λ yes. yes) (λ no. absurd (auto (h.plain no))) (either maps)
+
+-- A fault of a page stands behind a sound header.
+pub page_stands : (maps : Bool) (d : Database) (size : ℕ) (fault : Fault) (p : ℕ) → length (page d 1) ≡ size → HasSoundHeader maps d size → StandsNow d fault p → StandsWith maps d size fault p
+page_stands maps d size fault p long header h =
+    record { stands = h maps size long (maps_asked maps d size header); judged = λ auto. inl (maps_asked maps d size header auto) }
+
+-- Memory may always run out.
+pub memory_stands : (maps : Bool) (d : Database) (size p : ℕ) → StandsWith maps d size faults.NoMemory p
+memory_stands maps d size p = record { stands = tt; judged = λ auto. inr refl }
 
 -- What the header says of pointer maps.
 pub knows_maps : (maps : Bool) (d : Database) (h : DbHeader) (size : ℕ) → length (page d 1) ≡ size → HasHeaderOf maps h size (page d 1) → KnowsMaps d (not (eqb h.largest_root 0)) size h.reserved

@@ -19,9 +19,9 @@ use Rattle.sqpage.proofs.chain.ListsByRecursion.{every_in, every_from_in, in_lef
 use Rattle.sqcheck.specs.declared.schema.Root.{Root}
 use Rattle.sqcheck.specs.declared.uses.Counts.{Counts}
 use Rattle.sqcheck.specs.declared.report.Report.{Report}
-use Rattle.sqcheck.specs.Places.{Place, first_trunk_place, first_root, next, leaf, overflow, child, root, holder, Node, Role, trunk, free_leaf, link, node, Spot, spot, page_as, used_in, HasKind, IsCellAt, InLink, InPageAs, InRow, InRowAs, StandsIn, StandsInRow, IsFirst, IsReached, first, stands_in, stands_in_row, first_root_spot, first_trunk_spot, root_of_tree}
-use Rattle.sqcheck.specs.WellFormed.{WellFormedWith, IsAutoVacuum, AreMapped, HasEntry, IsLargestRoot, IsSetAside, IsSound, IsSoundAs, IsSoundNode, HasSoundRows, HasSoundHeader, numbers, is_free, AreEachOnce, IsReport}
-use Rattle.sqcheck.specs.Stands.{StandsWith}
+use Rattle.sqcheck.specs.Places.{Place, first_trunk_place, first_root, next, leaf, overflow, child, root, holder, Node, Role, trunk, free_leaf, link, node, Spot, spot, page_as, used_in, HasKind, IsCellAt, InLink, InPageAs, InRow, InRowAs, StandsIn, StandsInRow, IsFirst, first, stands_in, stands_in_row, first_root_spot, first_trunk_spot, root_of_tree}
+use Rattle.sqcheck.specs.WellFormed.{IsReached, WellFormedWith, IsAutoVacuum, AreMapped, HasEntry, IsLargestRoot, IsSetAside, IsSound, IsSoundAs, IsSoundPage, HasSoundRows, HasSoundHeader, numbers, is_free, AreEachOnce, IsReport}
+use Rattle.sqcheck.specs.Stands.{StandsBy, IsAsideWith}
 use Rattle.sqcheck.specs.internal.Walking.{IsSchemaLeaf}
 use Rattle.sqcheck.specs.internal.Schema.{IsRowsPage, AllSchemaRows, InRowsOf, Finds, IsRootAt, RootsMatch}
 use Rattle.sqcheck.specs.internal.Agenda.{home, places, Off, IsHome, NotRoot, NotSchema, LinkFits, IsAside, MarksAside, Agenda, AreCounted, Stood}
@@ -61,7 +61,7 @@ IsTableIfSchema _ = Unit {0}
 schema_table : (d : Database) {s : Spot} → IsReached d s → IsTableIfSchema s.role
 schema_table d (first (inl h)) = subst (λ (z : Spot). IsTableIfSchema z.role) (sym h.1) tt
 schema_table d (first (inr h)) = subst (λ (z : Spot). IsTableIfSchema z.role) (sym h) (λ e. refl)
-schema_table d (stands_in {s = s} {t = t} r h) = go s.role t h.1 (schema_table d r)
+schema_table d (stands_in {s = s} {t = t} r ok h) = go s.role t h.1 (schema_table d r)
   where
     go : (role : Role) (t : Spot) → InPageAs d s.page role t → IsTableIfSchema role → IsTableIfSchema t.role
     go trunk t (inl i) k = subst (λ (z : Spot). IsTableIfSchema z.role) (sym i.3) tt
@@ -71,7 +71,7 @@ schema_table d (stands_in {s = s} {t = t} r h) = go s.role t h.1 (schema_table d
     go (node x) t (kind, has, inl i) k = subst (λ (z : Spot). IsTableIfSchema z.role) (sym i.4) tt
     go (node x) t (kind, has, inr (int, inl i)) k = subst (λ (z : Spot). IsTableIfSchema z.role) (sym i.5) k
     go (node x) t (kind, has, inr (int, inr i)) k = subst (λ (z : Spot). IsTableIfSchema z.role) (sym i.2) k
-schema_table d (stands_in_row {s = s} {t = t} r h) = go s.role h.1
+schema_table d (stands_in_row {s = s} {t = t} r ok h) = go s.role h.1
   where
     go : (role : Role) → InRowAs d s.page role t → IsTableIfSchema t.role
     go trunk i = absurd i
@@ -226,8 +226,8 @@ rows_pages d marks visited rows counts least long w = every_weaker _ (IsRowsPage
             let has = l.2 in
             let flat = l.3 in
             let is = every_in (IsSound d) s visited w.agenda.sound i in
-            let reached = every_in (IsReached d) s visited w.agenda.reached i in
-            let n : IsSoundNode d s.page x = subst (IsSoundAs d s.page) r is.sound_as in
+            let reached = every_in (IsReached d) s visited w.agenda.tour.reached i in
+            let n : IsSoundPage d s.page x = (subst (IsSoundAs d s.page) r is.sound_as).page in
             let table : x.table ≡ true = subst IsTableIfSchema r (schema_table d reached) schema in
             let kind_is : n.kind ≡ kind = kind_once d n.kind kind s.page n.page_is.kind (subst (λ q. HasKind d kind q) (sym e) has) in
             let leaf_kind : n.kind ≡ TableLeaf = table_leaf n.kind (n.same ∙ table) (ap is_interior kind_is ∙ flat) in
@@ -242,7 +242,7 @@ rows_pages d marks visited rows counts least long w = every_weaker _ (IsRowsPage
               schema = schema;
               page_is = subst (λ q. IsBtreePage (page_as d TableLeaf q)) e b;
               payloads = subst (λ q. (i : ℕ) (cell : Cell) → IsCellAt (page_as d TableLeaf q) i cell → (content : List ℕ) × IsPayload d cell content) e
-                  (payload_there d visited w.agenda.sound closed w.agenda.taken.distinct s x TableLeaf i r b.kind (used_long s.page is.named));
+                  (payload_there d visited w.agenda.sound closed w.agenda.tour.taken.distinct s x TableLeaf i r b.kind (used_long s.page is.named));
             }
 
 -- A root that a row of the schema names stands in a row of a visited page.
@@ -263,23 +263,25 @@ pub becomes_late : (d : Database) (marks : List Bool) (visited : List Spot) (row
     → Stood d true visited f.spots marks rows counts
 becomes_late d marks visited rows counts roots w f sound_rows = record {
   agenda = record {
-    sized = a.sized;
-    taken = a.taken;
+    tour = record {
+      sized = a.tour.sized;
+      taken = a.tour.taken;
+      reached = a.tour.reached;
+      waiting = every_weaker (InRowsOf d rows) (IsReached d) (λ t h. let s = row_from d marks visited rows counts w t h in stands_in_row (every_in (IsReached d) s.0 visited a.tour.reached s.1) (every_in (IsSound d) s.0 visited a.sound s.1) s.2) f.spots f.only;
+      apart = f.distinct;
+      off = every_weaker (λ v. NotRoot v.place) (λ v. Off v.place f.spots) (λ v n. every_weaker (InRowsOf d rows) (λ t. t.place ≡ v.place → ⊥) (λ t h e. subst NotRoot (sym e ∙ ap (λ (z : Spot). z.place) h.2.7) n) f.spots f.only) visited (a.early refl).0;
+      homes = a.tour.homes;
+      waiting_homes = every_weaker (InRowsOf d rows) (λ t. IsHome marks t.place) (λ t h.
+          let s = row_from d marks visited rows counts w t h in
+          let place : home t.place ≡ s.0.page = ap (λ (z : Spot). home z.place) h.2.7 ∙ sym s.3 in
+          let taken : In s.0.page (numbers visited) = in_map (λ z. z.page) s.0 visited s.1 in
+          inr (subst (IsWithin (length marks)) (sym place) (every_in (λ p. IsWithin (length marks) p × ¬ IsAside d p) s.0.page (numbers visited) a.tour.taken.within taken).0, ap (is_marked marks) place ∙ a.tour.taken.all s.0.page taken)) f.spots f.only;
+      fits = every_weaker (InRowsOf d rows) (LinkFits d) (λ t h. subst (LinkFits d) (sym h.2.7) (λ o n e. absurd (cc))) f.spots f.only;
+    };
     room = a.room;
-    reached = a.reached;
-    waiting = every_weaker (InRowsOf d rows) (IsReached d) (λ t h. let s = row_from d marks visited rows counts w t h in stands_in_row (every_in (IsReached d) s.0 visited a.reached s.1) s.2) f.spots f.only;
     sound = a.sound;
     starts = λ s h. ⊎_elim (λ v. inl v) (λ none. absurd none) (a.starts s h);
     closed = λ s t i h. ⊎_elim (λ v. inl v) (λ none. absurd none) (a.closed s t i h);
-    apart = f.distinct;
-    off = every_weaker (λ v. NotRoot v.place) (λ v. Off v.place f.spots) (λ v n. every_weaker (InRowsOf d rows) (λ t. t.place ≡ v.place → ⊥) (λ t h e. subst NotRoot (sym e ∙ ap (λ (z : Spot). z.place) h.2.7) n) f.spots f.only) visited (a.early refl).0;
-    homes = a.homes;
-    waiting_homes = every_weaker (InRowsOf d rows) (λ t. IsHome marks t.place) (λ t h.
-        let s = row_from d marks visited rows counts w t h in
-        let place : home t.place ≡ s.0.page = ap (λ (z : Spot). home z.place) h.2.7 ∙ sym s.3 in
-        let taken : In s.0.page (numbers visited) = in_map (λ z. z.page) s.0 visited s.1 in
-        inr (subst (IsWithin (length marks)) (sym place) (every_in (λ p. IsWithin (length marks) p × ¬ IsAside d p) s.0.page (numbers visited) a.taken.within taken).0, ap (is_marked marks) place ∙ a.taken.all s.0.page taken)) f.spots f.only;
-    fits = every_weaker (InRowsOf d rows) (LinkFits d) (λ t h. subst (LinkFits d) (sym h.2.7) (λ o n e. absurd (cc))) f.spots f.only;
     early = λ e. absurd (let both : true ≡ false = e in cc);
     rooted = λ e s t i h. inr (in_rows s t i h);
     plain = λ e. every_weaker (InRowsOf d rows) (λ t. NotSchema t.role) (λ t h. subst (λ (z : Spot). NotSchema z.role) (sym h.2.7) refl) f.spots f.only;
@@ -308,8 +310,8 @@ becomes_late d marks visited rows counts roots w f sound_rows = record {
     sound_at v i (link o n) r = tt
     sound_at v i (node x) r = λ schema kind has flat k bytes row.
         let is = every_in (IsSound d) v visited a.sound i in
-        let n : IsSoundNode d v.page x = subst (IsSoundAs d v.page) r is.sound_as in
-        let table : x.table ≡ true = subst IsTableIfSchema r (schema_table d (every_in (IsReached d) v visited a.reached i)) schema in
+        let n : IsSoundPage d v.page x = (subst (IsSoundAs d v.page) r is.sound_as).page in
+        let table : x.table ≡ true = subst IsTableIfSchema r (schema_table d (every_in (IsReached d) v visited a.tour.reached i)) schema in
         let kind_is : n.kind ≡ kind = kind_once d n.kind kind v.page n.page_is.kind has in
         let leaf_kind : kind ≡ TableLeaf = table_leaf kind (ap is_table (sym kind_is) ∙ n.same ∙ table) flat in
         let there : In v.page rows = w.rows.all v i (subst (IsSchemaLeaf d v.page) (sym r) (schema, kind, has, flat)) in
@@ -333,7 +335,7 @@ not_pending d marks visited rest s a h (inr p) = absurd (go s.role h (every_in (
 -- While roots are followed, all pages of the schema's tree are visited.
 schema_visited : (d : Database) (marks : List Bool) (visited rest : List Spot) → Agenda d true marks visited rest → {s : Spot} → IsReached d s → IsOfSchema s.role → In s visited
 schema_visited d marks visited rest a (first f) h = not_pending d marks visited rest _ a h (a.starts _ f)
-schema_visited d marks visited rest a (stands_in {s = s} {t = t} r i) h = not_pending d marks visited rest t a h (a.closed s t (go s.role i.1 (λ e. schema_visited d marks visited rest a r e)) i)
+schema_visited d marks visited rest a (stands_in {s = s} {t = t} r ok i) h = not_pending d marks visited rest t a h (a.closed s t (go s.role i.1 (λ e. schema_visited d marks visited rest a r e)) i)
   where
     of : (u : Spot) → t ≡ u → IsOfSchema u.role
     of u e = subst (λ (z : Spot). IsOfSchema z.role) e h
@@ -346,7 +348,7 @@ schema_visited d marks visited rest a (stands_in {s = s} {t = t} r i) h = not_pe
     go (node x) (kind, has, inl i) before = absurd (of _ i.4)
     go (node x) (kind, has, inr (int, inl i)) before = before (of _ i.5)
     go (node x) (kind, has, inr (int, inr i)) before = before (of _ i.2)
-schema_visited d marks visited rest a (stands_in_row {s = s} {t = t} r i) h = absurd (go s.role i.1)
+schema_visited d marks visited rest a (stands_in_row {s = s} {t = t} r ok i) h = absurd (go s.role i.1)
   where
     go : (role : Role) → InRowAs d s.page role t → ⊥
     go trunk k = k
@@ -397,7 +399,7 @@ none_left d marks after visited done rows kept counts counted roots w f all =
         let h = every_in (InRowsOf d rows) t f.spots f.only (subst (In t) whole (in_left t (take n f.spots) (drop n f.spots) i)) in
         let s = row_from d marks visited rows counts w t h in
         ⊎_elim (λ v. v) (λ left. absurd (not_left (take n f.spots) (drop n f.spots) t apart i left))
-        (root_visited d after done (drop n f.spots) s.0 t all.agenda (every_in (IsReached d) s.0 visited w.agenda.reached s.1) s.2)
+        (root_visited d after done (drop n f.spots) s.0 t all.agenda (every_in (IsReached d) s.0 visited w.agenda.tour.reached s.1) s.2)
 
     too_many : n < length f.spots → ⊥
     too_many lt =
@@ -411,25 +413,27 @@ pub begins : (d : Database) (marks : List Bool) (pending : List Spot) (counts : 
     → ((s : Spot) → IsFirst d s → In s pending) → Every (IsFirst d) pending → Apart (places pending) → Stood d false [] pending marks rows counts
 begins d marks pending counts rows sized none rows_none trees btree over free largest all firsts apart = record {
   agenda = record {
-    sized = sized;
-    taken = record {
-      only = λ p is m. inr ((none p is).0 m);
-      all = λ p i. absurd i;
-      aside = λ p is a. (none p is).1 a;
-      within = tt;
-      distinct = tt;
+    tour = record {
+      sized = sized;
+      taken = record {
+        only = λ p is m. inr ((none p is).0 m);
+        all = λ p i. absurd i;
+        aside = λ p is a. (none p is).1 a;
+        within = tt;
+        distinct = tt;
+      };
+      reached = tt;
+      waiting = every_weaker (IsFirst d) (IsReached d) (λ s h. first h) pending firsts;
+      apart = apart;
+      off = tt;
+      homes = tt;
+      waiting_homes = every_weaker (IsFirst d) (λ s. IsHome marks s.place) (λ s h. inl (⊎_elim (λ k. ap (λ (z : Spot). home z.place) k.1) (λ k. ap (λ (z : Spot). home z.place) k) h)) pending firsts;
+      fits = every_weaker (IsFirst d) (LinkFits d) (λ s h. ⊎_elim (λ k. subst (LinkFits d) (sym k.1) (λ o n e. absurd (cc))) (λ k. subst (LinkFits d) (sym k) (λ o n e. absurd (cc))) h) pending firsts;
     };
     room = (let c = count_by-le-length not marks in omega (arith, c, sized));
-    reached = tt;
-    waiting = every_weaker (IsFirst d) (IsReached d) (λ s h. first h) pending firsts;
     sound = tt;
     starts = λ s h. inr (all s h);
     closed = λ s t i h. absurd i;
-    apart = apart;
-    off = tt;
-    homes = tt;
-    waiting_homes = every_weaker (IsFirst d) (λ s. IsHome marks s.place) (λ s h. inl (⊎_elim (λ k. ap (λ (z : Spot). home z.place) k.1) (λ k. ap (λ (z : Spot). home z.place) k) h)) pending firsts;
-    fits = every_weaker (IsFirst d) (LinkFits d) (λ s h. ⊎_elim (λ k. subst (LinkFits d) (sym k.1) (λ o n e. absurd (cc))) (λ k. subst (LinkFits d) (sym k) (λ o n e. absurd (cc))) h) pending firsts;
     early = λ e. (tt, every_weaker (IsFirst d) (λ s. NotRoot s.place) (λ s h. ⊎_elim (λ k. subst (λ (z : Spot). NotRoot z.place) (sym k.1) tt) (λ k. subst (λ (z : Spot). NotRoot z.place) (sym k) tt) h) pending firsts);
     rooted = λ e s t i h. absurd i;
     plain = λ e. absurd (let both : false ≡ true = e in cc);
@@ -455,7 +459,7 @@ begins_root d marks counts rows sized none rows_none trees btree over free large
 -- Once the freelist was walked over, its places are the visited ones.
 pub free_visited : (d : Database) (marks : List Bool) (visited : List Spot) → Agenda d false marks visited (first_root_spot ∷ []) → {s : Spot} → IsReached d s → is_free s.role ≡ true → In s visited
 free_visited d marks visited a (first h) free = ⊎_elim (λ v. v) (λ p. elim p [ inl e ↦ absurd (let both : false ≡ true = sym (ap (λ (z : Spot). is_free z.role) e) ∙ free in cc) | inr none ↦ absurd none ]) (a.starts _ h)
-free_visited d marks visited a (stands_in {s = s} {t = t} r h) free = go s.role refl h.1 (λ e. free_visited d marks visited a r e)
+free_visited d marks visited a (stands_in {s = s} {t = t} r ok h) free = go s.role refl h.1 (λ e. free_visited d marks visited a r e)
   where
     on : In s visited → In t visited
     on i = ⊎_elim (λ v. v) (λ p. elim p [ inl e ↦ absurd (let both : false ≡ true = sym (ap (λ (z : Spot). is_free z.role) e) ∙ free in cc) | inr none ↦ absurd none ]) (a.closed s t i h)
@@ -470,7 +474,7 @@ free_visited d marks visited a (stands_in {s = s} {t = t} r h) free = go s.role 
     go (node x) e (kind, has, inl i) before = absurd (never _ i.4 refl)
     go (node x) e (kind, has, inr (int, inl i)) before = absurd (never _ i.5 refl)
     go (node x) e (kind, has, inr (int, inr i)) before = absurd (never _ i.2 refl)
-free_visited d marks visited a (stands_in_row {s = s} {t = t} r h) free = absurd (go s.role h.1)
+free_visited d marks visited a (stands_in_row {s = s} {t = t} r ok h) free = absurd (go s.role h.1)
   where
     go : (role : Role) → InRowAs d s.page role t → ⊥
     go trunk i = i
@@ -488,7 +492,7 @@ apart_of (s ∷ ss) h = (go ss h.0, apart_of ss h.1)
 
 -- The freelist isn't as long as the header says.
 pub free_count_stands : (d : Database) (maps : Bool) (size : ℕ) (visited : List Spot) (counts : Counts) (said : ℕ) → said ≡ free_pages d → AreCounted visited counts → Apart (numbers visited) → Every (IsReached d) visited
-    → ((s : Spot) → IsReached d s → is_free s.role ≡ true → In s visited) → counts.free ≢ said → StandsWith maps d size faults.FreeCount 1
+    → ((s : Spot) → IsReached d s → is_free s.role ≡ true → In s visited) → counts.free ≢ said → StandsBy (IsReached d) maps d size faults.FreeCount 1
 free_count_stands d maps size visited counts said e c apart reached all ne =
     let p = passing (λ (s : Spot). is_free s.role) visited (apart_of visited apart) in
     inr (
@@ -505,22 +509,27 @@ free_count_stands d maps size visited counts said e c apart reached all ne =
 -- At the end all reached places were visited.
 pub all_visited : (d : Database) (marks : List Bool) (visited : List Spot) → Agenda d true marks visited [] → {s : Spot} → IsReached d s → In s visited
 all_visited d marks visited a (first h) = ⊎_elim (λ v. v) (λ none. absurd none) (a.starts _ h)
-all_visited d marks visited a (stands_in {s = s} {t = t} r h) = ⊎_elim (λ v. v) (λ none. absurd none) (a.closed s t (all_visited d marks visited a r) h)
-all_visited d marks visited a (stands_in_row {s = s} {t = t} r h) = ⊎_elim (λ v. v) (λ none. absurd none) (a.rooted refl s t (all_visited d marks visited a r) h)
+all_visited d marks visited a (stands_in {s = s} {t = t} r ok h) = ⊎_elim (λ v. v) (λ none. absurd none) (a.closed s t (all_visited d marks visited a r) h)
+all_visited d marks visited a (stands_in_row {s = s} {t = t} r ok h) = ⊎_elim (λ v. v) (λ none. absurd none) (a.rooted refl s t (all_visited d marks visited a r) h)
 
-pub unused_stands : (d : Database) (maps : Bool) (size : ℕ) → length (page d 1) ≡ size → (marks : List Bool) (visited : List Spot) (p : ℕ) → Agenda d true marks visited [] → IsWithin (length marks) p → is_marked marks p ≡ false → StandsWith maps d size faults.PageUnused p
+-- What nothing may name is set aside.
+plainly : (maps : Bool) (d : Database) (size p : ℕ) → IsAsideWith maps d size p → IsSetAside d size p
+plainly maps d size p (inl lock) = inl lock
+plainly maps d size p (inr map) = inr (map.1, map.2)
+
+pub unused_stands : (d : Database) (maps : Bool) (size : ℕ) → length (page d 1) ≡ size → (marks : List Bool) (visited : List Spot) (p : ℕ) → Agenda d true marks visited [] → IsWithin (length marks) p → is_marked marks p ≡ false → StandsBy (IsReached d) maps d size faults.PageUnused p
 unused_stands d maps size same marks visited p a is free = (
-  subst (λ n. IsWithin n p) a.sized is,
-  (λ aside. let m : is_marked marks p ≡ true = a.taken.aside p is (subst (λ n. IsSetAside d n p) (sym same) aside) in let both : true ≡ false = sym m ∙ free in cc),
-  λ s r e. absurd (let m : is_marked marks p ≡ true = a.taken.all p (subst (λ q. In q (numbers visited)) e (in_map (λ z. z.page) s visited (all_visited d marks visited a r))) in let both : true ≡ false = sym m ∙ free in cc),
+  subst (λ n. IsWithin n p) a.tour.sized is,
+  (λ aside. let m : is_marked marks p ≡ true = a.tour.taken.aside p is (subst (λ n. IsSetAside d n p) (sym same) (plainly maps d size p aside)) in let both : true ≡ false = sym m ∙ free in cc),
+  λ s r e. absurd (let m : is_marked marks p ≡ true = a.tour.taken.all p (subst (λ q. In q (numbers visited)) e (in_map (λ z. z.page) s visited (all_visited d marks visited a r))) in let both : true ≡ false = sym m ∙ free in cc),
 )
 
 -- Each page was visited once.
 pub each_once : (d : Database) (marks : List Bool) (visited : List Spot) → Agenda d true marks visited [] → ((p : ℕ) → IsWithin (length marks) p → is_marked marks p ≡ true) → AreEachOnce (IsAside d) (length d) (numbers visited)
 each_once d marks visited a all = record {
-  within = subst (λ n. Every (λ p. IsWithin n p × ¬ IsAside d p) (numbers visited)) a.sized a.taken.within;
-  distinct = a.taken.distinct;
-  each = λ p is off. let is' = subst (λ n. IsWithin n p) (sym a.sized) is in ⊎_elim (λ i. i) (λ aside. absurd (off aside)) (a.taken.only p is' (all p is'));
+  within = subst (λ n. Every (λ p. IsWithin n p × ¬ IsAside d p) (numbers visited)) a.tour.sized a.tour.taken.within;
+  distinct = a.tour.taken.distinct;
+  each = λ p is off. let is' = subst (λ n. IsWithin n p) (sym a.tour.sized) is in ⊎_elim (λ i. i) (λ aside. absurd (off aside)) (a.tour.taken.only p is' (all p is'));
 }
 
 -- The first page is one of the visited ones.
@@ -532,18 +541,18 @@ pub once_of : (d : Database) (size : ℕ) (marks : List Bool) (visited : List Sp
 once_of d size marks visited sized a all = subst (λ n. AreEachOnce (IsSetAside d n) (length d) (numbers visited)) (first_long d size marks visited sized a) (each_once d marks visited a all)
 
 -- A root is the largest of the visited ones, which are all.
-largest_of : (d : Database) (marks : List Bool) (visited : List Spot) (counts : Counts) → Agenda d true marks visited [] → AreCounted visited counts → IsLargestRoot d counts.largest_root
+largest_of : (d : Database) (marks : List Bool) (visited : List Spot) (counts : Counts) → Agenda d true marks visited [] → AreCounted visited counts → IsLargestRoot (IsReached d) counts.largest_root
 largest_of d marks visited counts a c = (
   (λ s r root. c.most s (all_visited d marks visited a r) root),
   ⊎_elim
       (λ none. absurd (let le : 1 ≤ counts.largest_root = c.most first_root_spot (all_visited d marks visited a (first (inr refl))) refl in omega (arith, le, none)))
-      (λ k. (k.0, every_in (IsReached d) k.0 visited a.reached k.1, k.2, k.3)) c.one,
+      (λ k. (k.0, every_in (IsReached d) k.0 visited a.tour.reached k.1, k.2, k.3)) c.one,
 )
 
 -- The header says another.
 pub largest_stands : (d : Database) (maps : Bool) (size : ℕ) (marks : List Bool) (visited : List Spot) (counts : Counts) (said : ℕ) → said ≡ word (page d 1) 52 → IsAutoVacuum d → Agenda d true marks visited [] → AreCounted visited counts
-    → counts.largest_root ≢ said → StandsWith maps d size faults.PointerMap 1
-largest_stands d maps size marks visited counts said e auto a c ne = inl (
+    → counts.largest_root ≢ said → maps ≡ true → StandsBy (IsReached d) maps d size faults.PointerMap 1
+largest_stands d maps size marks visited counts said e auto a c ne asked = (asked, inl (
   auto,
   inr (
     refl,
@@ -553,14 +562,14 @@ largest_stands d maps size marks visited counts said e auto a c ne = inl (
         let down : counts.largest_root ≤ word (page d 1) 52 = (let r = l.0 most.1.0 most.1.1 most.1.2 in let at = most.1.3 in omega (arith, r, at)) in
         ne (omega (arith, up, down, e)),
   ),
-)
+))
 
 -- With auto-vacuum the maps and the largest root are right.
 pub mapped_of : (d : Database) (size : ℕ) (marks : List Bool) (visited : List Spot) (rows : List ℕ) (counts : Counts) (said : ℕ) → said ≡ word (page d 1) 52 → Every (λ b. length b ≡ size) d → Stood d true visited [] marks rows counts
     → (IsAutoVacuum d → counts.largest_root ≡ said) → IsAutoVacuum d → AreMapped d size
 mapped_of d size marks visited rows counts said e sized w largest auto = record {
   entries = λ s r. subst (λ n. HasEntry d n s) (first_long d size marks visited sized w.agenda) (every_in (HasEntry d (length (page d 1))) s visited (w.entered auto) (all_visited d marks visited w.agenda r));
-  largest = subst (IsLargestRoot d) (largest auto ∙ e) (largest_of d marks visited counts w.agenda w.counted);
+  largest = subst (IsLargestRoot (IsReached d)) (largest auto ∙ e) (largest_of d marks visited counts w.agenda w.counted);
 }
 
 pub concludes : (maps : Bool) (d : Database) (size : ℕ) (marks : List Bool) (visited : List Spot) (rows : List ℕ) (counts : Counts) → IsPageSize size → Every (λ b. length b ≡ size) d → HasSoundHeader maps d size → Stood d true visited [] marks rows counts
@@ -572,7 +581,7 @@ concludes maps d size marks visited rows counts size_is sized header w all free 
     header = header;
     places = visited;
     all = λ s r. all_visited d marks visited w.agenda r;
-    reached = w.agenda.reached;
+    reached = w.agenda.tour.reached;
     once = once_of d size marks visited sized w.agenda all;
     sound = w.agenda.sound;
     rows = w.agenda.read refl;

@@ -1,5 +1,5 @@
 -- Where the condition of a fault holds the database isn't well formed.
-use Rattle.std.proofs.Common.{◌≡◌, ◌≢◌, ℕ, suc, ◌≤◌, Bool, List, [], ◌∷◌, length, true, false, count_by, refl, sym, ap, subst, ◌∙◌, inl, inr, arith}
+use Rattle.std.proofs.Common.{◌⊎◌, ◌≡◌, ◌≢◌, ℕ, suc, ◌≤◌, Bool, List, [], ◌∷◌, length, true, false, count_by, refl, sym, ap, subst, ◌∙◌, inl, inr, ⊎_elim, arith}
 use Rattle.sqval.specs.Database.{Database, page}
 use Rattle.sqval.specs.PageSize.{IsPageSize}
 use Rattle.sqpage.specs.declared.fault.Fault.{Fault}
@@ -12,9 +12,9 @@ use Rattle.sqpage.specs.Page.{code_of, is_interior, IsBtreePage}
 use Rattle.sqpage.specs.Layout.{LayoutRefused, IsLaidOut}
 use Rattle.sqpage.proofs.btree.LayoutOfPage.{not_laid_out}
 use Rattle.sqpage.proofs.chain.ListsByRecursion.{every_in}
-use Rattle.sqcheck.specs.Places.{Node, node, Spot, page_as, HasKind, IsReached}
-use Rattle.sqcheck.specs.WellFormed.{WellFormedWith, IsSetAside, IsSound, IsSoundAs, IsSoundNode, HasSoundRows, FirstLeaf, here, down, first_child, is_free, is_link, numbers}
-use Rattle.sqcheck.specs.Stands.{StandsWith, AsBtreePage, AreFreePlaces}
+use Rattle.sqcheck.specs.Places.{Node, node, Spot, page_as, HasKind}
+use Rattle.sqcheck.specs.WellFormed.{IsReached, IsAutoVacuum, WellFormedWith, IsSetAside, IsSound, IsSoundAs, IsSoundPage, IsSoundNode, HasSoundRows, FirstLeaf, here, down, first_child, is_free, is_link, numbers}
+use Rattle.sqcheck.specs.Stands.{StandsWith, StandsBy, is_of_header, AsBtreePage, AreFreePlaces}
 use Rattle.sqcheck.proofs.checks.ListsByRecursion.{from_map, in_map, no_more, passing}
 
 -- a type byte is one kind's
@@ -53,11 +53,14 @@ module _ (maps : Bool) (d : Database) (size : ℕ) (w : WellFormedWith maps d si
   sound s r = every_in (IsSound d) s w.places w.sound (w.all s r)
 
   -- a reached page of a tree is sound
-  on_node : (p : ℕ) (s : Spot) (x : Node) → IsReached d s → s.page ≡ p → s.role ≡ node x → IsSoundNode d p x
-  on_node p s x r e role = subst (λ q. IsSoundNode d q x) e (subst (IsSoundAs d s.page) role (sound s r).sound_as)
+  whole_node : (p : ℕ) (s : Spot) (x : Node) → IsReached d s → s.page ≡ p → s.role ≡ node x → IsSoundNode d p x
+  whole_node p s x r e role = subst (λ q. IsSoundNode d q x) e (subst (IsSoundAs d s.page) role (sound s r).sound_as)
+
+  on_node : (p : ℕ) (s : Spot) (x : Node) → IsReached d s → s.page ≡ p → s.role ≡ node x → IsSoundPage d p x
+  on_node p s x r e role = (whole_node p s x r e role).page
 
   -- of the kind that its page has
-  on_kind : (p : ℕ) (s : Spot) (x : Node) (kind : Kind) → IsReached d s → s.page ≡ p → s.role ≡ node x → HasKind d kind p → (n : IsSoundNode d p x) × (n.kind ≡ kind)
+  on_kind : (p : ℕ) (s : Spot) (x : Node) (kind : Kind) → IsReached d s → s.page ≡ p → s.role ≡ node x → HasKind d kind p → (n : IsSoundPage d p x) × (n.kind ≡ kind)
   on_kind p s x kind r e role h = let n = on_node p s x r e role in (n, kind_once d n.kind kind p n.page_is.kind h)
 
   refused_layout : (fault : Fault) (p : ℕ) (s : Spot) (x : Node) → IsReached d s → s.page ≡ p → s.role ≡ node x → fault ≢ faults.NoMemory → AsBtreePage d p (λ kind b. LayoutRefused fault b) → ⊥
@@ -81,7 +84,7 @@ module _ (maps : Bool) (d : Database) (size : ℕ) (w : WellFormedWith maps d si
   one_page (x ∷ ss) s t h (inr i) (inl g) e = absurd (every_in (λ y. x.page ≡ y → ⊥) s.page (numbers ss) h.0 (in_map (λ z. z.page) s ss i) (ap (λ (z : Spot). z.page) (sym g) ∙ sym e))
   one_page (x ∷ ss) s t h (inr i) (inr j) e = one_page ss s t h.1 i j e
 
-  counted : (free : List Spot) → AreFreePlaces d free → length free ≡ count_by (λ s. is_free s.role) w.places
+  counted : (free : List Spot) → AreFreePlaces (IsReached d) free → length free ≡ count_by (λ s. is_free s.role) w.places
   counted free a =
       let r = passing (λ (s : Spot). is_free s.role) w.places (apart_spots w.places w.once.distinct) in
       let more = no_more free r.0 a.distinct (λ s i. let h = every_in (λ s. IsReached d s × (is_free s.role ≡ true)) s free a.reached i in r.4 s (w.all s h.0) h.1) in
@@ -89,44 +92,47 @@ module _ (maps : Bool) (d : Database) (size : ℕ) (w : WellFormedWith maps d si
       omega (arith, more, less, r.2)
 
   -- the condition of no fault holds
-  pub none_stands : (fault : Fault) (p : ℕ) → StandsWith maps d size fault p → fault ≢ faults.NoMemory → ⊥
-  none_stands faults.Magic p h other = h.1 w.header.magic
-  none_stands faults.PageSize p (e, inl never) other = never (subst IsPageSize (sym w.header.page_size) w.size_is)
-  none_stands faults.PageSize p (e, inr ne) other = ne w.header.page_size
-  none_stands faults.Fraction p h other = h.1 w.header.fractions
-  none_stands faults.Reserved p h other = h.1 w.header.room
-  none_stands faults.AutoVacuum p h other = h.2 (w.header.plain h.1)
-  none_stands faults.Kind p (s, x, r, e, is, role, never) other = let n = on_node p s x r e role in never n.kind n.page_is.kind n.same
-  none_stands faults.CellOutside p (s, x, r, e, is, role, (kind, h, never)) other = let n = on_kind p s x kind r e role h in never (subst (λ k. IsBtreePage (page_as d k p)) n.1 n.0.page_is)
-  none_stands faults.Overlap p (s, x, r, e, is, role, h) other = refused_layout faults.Overlap p s x r e role (λ e. cc) h
-  none_stands faults.Freeblock p (s, x, r, e, is, role, h) other = refused_layout faults.Freeblock p s x r e role (λ e. cc) h
-  none_stands faults.Fragments p (s, x, r, e, is, role, h) other = refused_layout faults.Fragments p s x r e role (λ e. cc) h
-  none_stands faults.ChainCut p (s, owner, needed, r, role, at, inl zero') other = let n = (sound s r).named.0 in absurd (omega (arith, n, zero'))
-  none_stands faults.ChainCut p (s, owner, needed, r, role, at, inr (i, in_cell, more)) other = let few = (subst (IsSoundAs d s.page) role (sound s r).sound_as).0 in absurd (omega (arith, few, more))
-  none_stands faults.ChainLong p (s, owner, r, e, is, role, further) other = further (subst (λ q. Rattle.sqpage.specs.Freelist.next_in (page d q) ≡ 0) e ((subst (IsSoundAs d s.page) role (sound s r).sound_as).1 refl))
-  none_stands faults.PageTwice p (is, inr (aside, s, r, e)) other =
-      (every_in (λ q. IsWithin (length d) q × ¬ IsSetAside d size q) s.page (numbers w.places) w.once.within (in_map (λ z. z.page) s w.places (w.all s r))).1 (subst (IsSetAside d size) (sym e) aside)
-  none_stands faults.PageTwice p (is, inl (s, t, r, q, differ, e, f)) other = differ (ap (λ (z : Spot). z.place) (one_page w.places s t w.once.distinct (w.all s r) (w.all t q) (e ∙ sym f)))
-  none_stands faults.PageOutside p (s, r, at, never, link_zero) other = never (sound s r).named
-  none_stands faults.PageUnused p (is, off, never) other =
-      let v = from_map (λ x. x.page) p w.places (w.once.each p is off) in
+  none_by : (fault : Fault) (p : ℕ) → StandsBy (IsReached d) maps d size fault p → (IsAutoVacuum d → (maps ≡ true) ⊎ (is_of_header fault ≡ true)) → fault ≢ faults.NoMemory → ⊥
+  none_by faults.Magic p h asked other = h.1 w.header.magic
+  none_by faults.PageSize p (e, inl never) asked other = never (subst IsPageSize (sym w.header.page_size) w.size_is)
+  none_by faults.PageSize p (e, inr ne) asked other = ne w.header.page_size
+  none_by faults.Fraction p h asked other = h.1 w.header.fractions
+  none_by faults.Reserved p h asked other = h.1 w.header.room
+  none_by faults.AutoVacuum p h asked other = h.2 (w.header.plain h.1)
+  none_by faults.Kind p (s, x, r, e, is, role, never) asked other = let n = on_node p s x r e role in never n.kind n.page_is.kind n.same
+  none_by faults.CellOutside p (s, x, r, e, is, role, (kind, h, never)) asked other = let n = on_kind p s x kind r e role h in never (subst (λ k. IsBtreePage (page_as d k p)) n.1 n.0.page_is)
+  none_by faults.Overlap p (s, x, r, e, is, role, h) asked other = refused_layout faults.Overlap p s x r e role (λ e. cc) h
+  none_by faults.Freeblock p (s, x, r, e, is, role, h) asked other = refused_layout faults.Freeblock p s x r e role (λ e. cc) h
+  none_by faults.Fragments p (s, x, r, e, is, role, h) asked other = refused_layout faults.Fragments p s x r e role (λ e. cc) h
+  none_by faults.ChainCut p (s, owner, needed, r, role, at, inl zero') asked other = let n = (sound s r).named.0 in absurd (omega (arith, n, zero'))
+  none_by faults.ChainCut p (s, owner, needed, r, role, at, inr (i, in_cell, more)) asked other = let few = (subst (IsSoundAs d s.page) role (sound s r).sound_as).0 in absurd (omega (arith, few, more))
+  none_by faults.ChainLong p (s, owner, r, e, is, role, further) asked other = further (subst (λ q. Rattle.sqpage.specs.Freelist.next_in (page d q) ≡ 0) e ((subst (IsSoundAs d s.page) role (sound s r).sound_as).1 refl))
+  none_by faults.PageTwice p (is, inr (aside, s, r, e)) asked other =
+      (every_in (λ q. IsWithin (length d) q × ¬ IsSetAside d size q) s.page (numbers w.places) w.once.within (in_map (λ z. z.page) s w.places (w.all s r))).1 (subst (IsSetAside d size) (sym e) (⊎_elim (λ lock. inl lock) (λ map. inr (map.1, map.2)) aside))
+  none_by faults.PageTwice p (is, inl (s, t, r, q, differ, e, f)) asked other = differ (ap (λ (z : Spot). z.place) (one_page w.places s t w.once.distinct (w.all s r) (w.all t q) (e ∙ sym f)))
+  none_by faults.PageOutside p (s, r, at, never, link_zero) asked other = never (sound s r).named
+  none_by faults.PageUnused p (is, off, never) asked other =
+      let v = from_map (λ x. x.page) p w.places (w.once.each p is (λ aside. off (⊎_elim (λ lock. inl lock) (λ map. inr (⊎_elim (λ yes. yes) (λ no. absurd (cc)) (asked map.0), map.0, map.1)) aside))) in
       never v.0 (every_in (IsReached d) v.0 w.places w.reached v.1) (sym v.2)
-  none_stands faults.KeyOrder p (s, x, r, e, is, role, (kind, b, (i, cell, before, has, key, never))) other =
+  none_by faults.KeyOrder p (s, x, r, e, is, role, (kind, b, (i, cell, before, has, key, never))) asked other =
       let n = on_kind p s x kind r e role b.kind in
       never (subst (λ k. Rattle.sqcheck.specs.WellFormed.KeysRise (page_as d k p) x) n.1 n.0.keys i cell before has key)
-  none_stands faults.Depth p (s, x, r, e, is, role, inl deep) other = let n = on_node p s x r e role in absurd (omega (arith, deep, n.shallow))
-  none_stands faults.Depth p (s, x, r, e, is, role, inr (kind, h, leaf, on, f, ne)) other =
-      let n = on_kind p s x kind r e role h in
-      ne (first_leaf_once d (n.0.even (ap is_interior n.1 ∙ leaf)) f)
-  none_stands faults.FreeCount p (inl (s, r, e, is, role, more)) other = let few = subst (λ q. Rattle.sqpage.specs.Freelist.leaf_count_in (page d q) ≤ Rattle.sqpage.specs.Freelist.most_leaves d) e (subst (IsSoundAs d s.page) role (sound s r).sound_as) in absurd (omega (arith, few, more))
-  none_stands faults.FreeCount p (inr (e, free, a, ne)) other = ne (counted free a ∙ w.free)
-  none_stands faults.SchemaRecord p (s, x, r, e, is, role, (schema, (kind, b, (leaf, i, bytes, row, never)))) other =
+  none_by faults.Depth p (s, x, r, e, is, role, inl deep) asked other = let n = on_node p s x r e role in absurd (omega (arith, deep, n.shallow))
+  none_by faults.Depth p (s, x, r, e, is, role, inr (kind, h, leaf, on, f, ne)) asked other =
+      let n = whole_node p s x r e role in
+      ne (first_leaf_once d (n.even (ap is_interior (kind_once d n.page.kind kind p n.page.page_is.kind h) ∙ leaf)) f)
+  none_by faults.FreeCount p (inl (s, r, e, is, role, more)) asked other = let few = subst (λ q. Rattle.sqpage.specs.Freelist.leaf_count_in (page d q) ≤ Rattle.sqpage.specs.Freelist.most_leaves d) e (subst (IsSoundAs d s.page) role (sound s r).sound_as) in absurd (omega (arith, few, more))
+  none_by faults.FreeCount p (inr (e, free, a, ne)) asked other = ne (counted free a ∙ w.free)
+  none_by faults.SchemaRecord p (s, x, r, e, is, role, (schema, (kind, b, (leaf, i, bytes, row, never)))) asked other =
       let rows = every_in (λ s. HasSoundRows d s.page s.role) s w.places w.rows (w.all s r) in
       let of_x = subst (λ q. HasSoundRows d q (node x)) e (subst (HasSoundRows d s.page) role rows) in
       let it = of_x schema kind b.kind leaf i bytes row in
       never it.0 it.1
-  none_stands faults.PointerMap p (inl (auto, inl (s, entry, r, at, e, wrong))) other = wrong ((w.mapped auto).entries s r entry at)
-  none_stands faults.PointerMap p (inl (auto, inr (e, none))) other = none (w.mapped auto).largest
-  none_stands faults.PointerMap p (inr (e, asked, incremental, plain)) other = plain (w.header.incremental asked incremental)
-  none_stands faults.Source p h other = h
-  none_stands faults.NoMemory p h other = other refl
+  none_by faults.PointerMap p (only, inl (auto, inl (s, entry, r, at, e, wrong))) asked other = wrong ((w.mapped auto).entries s r entry at)
+  none_by faults.PointerMap p (only, inl (auto, inr (e, none))) asked other = none (w.mapped auto).largest
+  none_by faults.PointerMap p (only, inr (e, incremental, plain)) asked other = plain (w.header.incremental only incremental)
+  none_by faults.Source p h asked other = h
+  none_by faults.NoMemory p h asked other = other refl
+
+  pub none_stands : (fault : Fault) (p : ℕ) → StandsWith maps d size fault p → fault ≢ faults.NoMemory → ⊥
+  none_stands fault p h other = none_by fault p h.stands h.judged other

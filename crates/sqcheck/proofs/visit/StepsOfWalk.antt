@@ -1,5 +1,5 @@
 -- The steps of the walk.
-use Rattle.std.proofs.Common.{◌≡◌, ◌≢◌, ℕ, ◌<◌, ◌≤◌, ◌⊎◌, List, [], ◌∷◌, ◌++◌, length, reverse, Bool, true, false, cond, Option, Some, None, IsTrue, refl, sym, ap, subst, ◌∙◌, inl, inr, arith, append_assoc, append-nil}
+use Rattle.std.proofs.Common.{⊎_elim, ◌≡◌, ◌≢◌, ℕ, ◌<◌, ◌≤◌, ◌⊎◌, List, [], ◌∷◌, ◌++◌, length, reverse, Bool, true, false, cond, Option, Some, None, IsTrue, refl, sym, ap, subst, ◌∙◌, inl, inr, arith, append_assoc, append-nil}
 use Rattle.std.proofs.lemmas.List.{reverse-append}
 use Rattle.std.proofs.lemmas.List.Sums.{sum_by-append}
 use Rattle.sqval.specs.Database.{Database, page}
@@ -18,9 +18,9 @@ use Rattle.sqcheck.specs.declared.tree.Tree.{Tree}
 use Rattle.sqcheck.specs.declared.node.Walk.{Walk}
 use Rattle.sqcheck.specs.declared.uses.Counts.{Counts}
 use Rattle.sqcheck.specs.declared.uses.Uses.{Uses}
-use Rattle.sqcheck.specs.Places.{overflow, holder, Role, trunk, free_leaf, link, node, Node, Spot, InPageAs, StandsIn, IsReached}
-use Rattle.sqcheck.specs.WellFormed.{IsSetAside, HasEntry, SaysSo, kind_named, parent_by, IsSound, IsSoundAs, numbers, is_root, is_node, is_link, is_free}
-use Rattle.sqcheck.specs.Stands.{StandsWith, NodeRefused}
+use Rattle.sqcheck.specs.Places.{overflow, holder, Role, trunk, free_leaf, link, node, Node, Spot, InPageAs, StandsIn}
+use Rattle.sqcheck.specs.WellFormed.{IsReached, IsAutoVacuum, IsSetAside, HasEntry, SaysSo, kind_named, parent_by, IsSound, IsSoundAs, numbers, is_root, is_node, is_link, is_free}
+use Rattle.sqcheck.specs.Stands.{StandsBy, IsAsideWith, NodeRefused}
 use Rattle.sqcheck.specs.internal.Walking.{role_of, IsMapped, EntrySays, EntryRefused, IsItemOf, Match, IsSchemaLeaf, PutsAside, PageWrong, LinksOn, FollowRefused, Knows, Follows, IsProper, TopLeads}
 use Rattle.sqcheck.specs.internal.Counting.{in_trees, in_btree, in_overflow, in_freelist, root_in, AddsItem}
 use Rattle.sqcheck.specs.internal.Agenda.{IsAside, AreMarked, StandsNow, LinkFits, Agenda, Stems, RowsAre, AreCounted, AreEntered, Walking, Stood}
@@ -44,24 +44,24 @@ pub popped_top : (tree : Tree) (stack popped : List Item) (it : Item) (pending :
 popped_top tree stack popped it pending m e = top_of tree it (reverse popped) pending (subst (λ l. Match tree l pending) (ap reverse e ∙ reverse-append popped (it ∷ [])) m)
 
 -- What is wrong with a page of a tree stands at it.
-pub node_stands : (d : Database) (maps : Bool) (size : ℕ) (s : Spot) → IsReached d s → (p : ℕ) (x : Node) (fault : Fault) → s.page ≡ p → s.role ≡ node x → IsPage d p → NodeRefused d fault p x → StandsWith maps d size fault p
-node_stands d maps size s r p x faults.Kind e role page h = (s, x, r, e, page, role, h)
-node_stands d maps size s r p x faults.CellOutside e role page h = (s, x, r, e, page, role, h)
-node_stands d maps size s r p x faults.Overlap e role page h = (s, x, r, e, page, role, h)
-node_stands d maps size s r p x faults.Freeblock e role page h = (s, x, r, e, page, role, h)
-node_stands d maps size s r p x faults.Fragments e role page h = (s, x, r, e, page, role, h)
-node_stands d maps size s r p x faults.KeyOrder e role page h = (s, x, r, e, page, role, h)
-node_stands d maps size s r p x faults.Depth e role page h = (s, x, r, e, page, role, h)
-node_stands d maps size s r p x faults.SchemaRecord e role page h = (s, x, r, e, page, role, h)
-node_stands d maps size s r p x _ e role page h = absurd h
+pub node_stands : (Counts : Spot → Type 0) (d : Database) (maps : Bool) (size : ℕ) (s : Spot) → Counts s → (p : ℕ) (x : Node) (fault : Fault) → s.page ≡ p → s.role ≡ node x → IsPage d p → NodeRefused d fault p x → StandsBy Counts maps d size fault p
+node_stands Counts d maps size s r p x faults.Kind e role page h = (s, x, r, e, page, role, h)
+node_stands Counts d maps size s r p x faults.CellOutside e role page h = (s, x, r, e, page, role, h)
+node_stands Counts d maps size s r p x faults.Overlap e role page h = (s, x, r, e, page, role, h)
+node_stands Counts d maps size s r p x faults.Freeblock e role page h = (s, x, r, e, page, role, h)
+node_stands Counts d maps size s r p x faults.Fragments e role page h = (s, x, r, e, page, role, h)
+node_stands Counts d maps size s r p x faults.KeyOrder e role page h = (s, x, r, e, page, role, h)
+node_stands Counts d maps size s r p x faults.Depth e role page h = (s, x, r, e, page, role, h)
+node_stands Counts d maps size s r p x faults.SchemaRecord e role page h = (s, x, r, e, page, role, h)
+node_stands Counts d maps size s r p x _ e role page h = absurd h
 
 -- What is said of a fault at a place that comes next.
-module _ (d : Database) (maps : Bool) (size : ℕ) (same : length (page d 1) ≡ size) (tree : Tree) (it : Item) (s : Spot) (is : IsItemOf tree it s) (r : IsReached d s) where
-  wrong : (p : ℕ) (role : Role) (fault : Fault) → s.page ≡ p → s.role ≡ role → IsPage d p → PageWrong d p role fault → StandsWith maps d size fault p
-  wrong p trunk fault e role page h = subst (λ f. StandsWith maps d size f p) (sym h.0) (inl (s, r, e, page, role, h.1))
+module _ (Counts : Spot → Type 0) (Aside : ℕ → Type 0) (d : Database) (maps : Bool) (size : ℕ) (aside_is : (p : ℕ) → Aside p → IsAsideWith maps d size p) (tree : Tree) (it : Item) (s : Spot) (is : IsItemOf tree it s) (r : Counts s) where
+  wrong : (p : ℕ) (role : Role) (fault : Fault) → s.page ≡ p → s.role ≡ role → IsPage d p → PageWrong d p role fault → StandsBy Counts maps d size fault p
+  wrong p trunk fault e role page h = subst (λ f. StandsBy Counts maps d size f p) (sym h.0) (inl (s, r, e, page, role, h.1))
   wrong p free_leaf fault e role page h = absurd h
-  wrong p (link owner needed) fault e role page h = subst (λ f. StandsWith maps d size f p) (sym h.0) (s, owner, r, e, page, role ∙ ap (link owner) h.1, h.2)
-  wrong p (node x) fault e role page h = node_stands d maps size s r p x fault e role page h
+  wrong p (link owner needed) fault e role page h = subst (λ f. StandsBy Counts maps d size f p) (sym h.0) (s, owner, r, e, page, role ∙ ap (link owner) h.1, h.2)
+  wrong p (node x) fault e role page h = node_stands Counts d maps size s r p x fault e role page h
 
   link_named : (task : Task) → LinksOn task it.page → IsTrue (is_link (role_of tree task)) → it.page ≢ 0
   link_named (tasks.Link o n first) h l = h
@@ -70,7 +70,7 @@ module _ (d : Database) (maps : Bool) (size : ℕ) (same : length (page d 1) ≡
   link_named (tasks.Node level low high) h l = absurd (cc)
 
   not_taken : (marks : List Bool) (fault : Fault) (at : ℕ) → length marks ≡ length d → LinksOn it.task it.page → MarkRefused marks it.holder it.page fault at
-      → (IsWithin (length d) s.page → is_marked marks s.page ≡ true → ((v : Spot) × IsReached d v × (v.place ≢ s.place) × (v.page ≡ s.page)) ⊎ IsAside d s.page) → StandsWith maps d size fault at
+      → (IsWithin (length d) s.page → is_marked marks s.page ≡ true → ((v : Spot) × Counts v × (v.place ≢ s.place) × (v.page ≡ s.page)) ⊎ Aside s.page) → StandsBy Counts maps d size fault at
   not_taken marks faults.PageOutside at len links h both = (
     s,
     r,
@@ -80,17 +80,17 @@ module _ (d : Database) (maps : Bool) (size : ℕ) (same : length (page d 1) ≡
   )
   not_taken marks faults.PageTwice at len links h both =
       let page : IsPage d it.page = subst (λ n. IsWithin n it.page) len (h.1, h.2) in
-      subst (StandsWith maps d size faults.PageTwice) (sym h.0) (
+      subst (StandsBy Counts maps d size faults.PageTwice) (sym h.0) (
         page,
         elim (both (subst (IsPage d) is.page page) (subst (λ n. is_marked marks n ≡ true) is.page h.3)) [
           | inl v ↦ inl (v.0, s, v.1, r, v.2, v.3 ∙ sym is.page, sym is.page)
-          | inr aside ↦ inr (subst (λ n. IsSetAside d n it.page) same (subst (IsAside d) (sym is.page) aside), s, r, sym is.page)
+          | inr aside ↦ inr (aside_is it.page (subst Aside (sym is.page) aside), s, r, sym is.page)
         ],
       )
   not_taken marks _ at len links h both = absurd h
 
   -- A chain is cut.
-  cut : (owner needed at : ℕ) → LinkFits d s → s.role ≡ link owner needed → holder s.place ≡ at → (it.page ≡ 0) ⊎ (length d < needed) → StandsWith maps d size faults.ChainCut at
+  cut : (owner needed at : ℕ) → LinkFits d s → s.role ≡ link owner needed → holder s.place ≡ at → (it.page ≡ 0) ⊎ (length d < needed) → StandsBy Counts maps d size faults.ChainCut at
   cut owner needed at fits role holds (inl none) = (s, owner, needed, r, role, holds, inl (sym is.page ∙ none))
   cut owner needed at fits role holds (inr more) = elim (fits owner needed role) [
     | inl o ↦ (s, owner, needed, r, role, holds, inr (o.0, o.1 ∙ ap (λ p. overflow p o.0) holds, more))
@@ -98,15 +98,19 @@ module _ (d : Database) (maps : Bool) (size : ℕ) (same : length (page d 1) ≡
   ]
 
   pub refusal_stands : (marks : List Bool) (fault : Fault) (at : ℕ) → length marks ≡ length d → LinkFits d s → FollowRefused d tree it marks fault at
-      → (IsWithin (length d) s.page → is_marked marks s.page ≡ true → ((v : Spot) × IsReached d v × (v.place ≢ s.place) × (v.page ≡ s.page)) ⊎ IsAside d s.page) → StandsWith maps d size fault at
+      → (IsWithin (length d) s.page → is_marked marks s.page ≡ true → ((v : Spot) × Counts v × (v.place ≢ s.place) × (v.page ≡ s.page)) ⊎ Aside s.page) → StandsBy Counts maps d size fault at
   refusal_stands marks fault at len fits (inl h) both = not_taken marks fault at len h.0 h.1 both
-  refusal_stands marks fault at len fits (inr (inl h)) both = subst (StandsWith maps d size fault) (sym h.0) (wrong it.page (role_of tree it.task) fault (sym is.page) is.role h.1 h.2)
+  refusal_stands marks fault at len fits (inr (inl h)) both = subst (StandsBy Counts maps d size fault) (sym h.0) (wrong it.page (role_of tree it.task) fault (sym is.page) is.role h.1 h.2)
   refusal_stands marks fault at len fits (inr (inr (inl h))) both =
-      subst (λ f. StandsWith maps d size f at) (sym h.0) (cut h.2 h.3 at fits (is.role ∙ ap (role_of tree) h.5) (sym is.stands ∙ sym h.1) h.6)
-  refusal_stands marks fault at len fits (inr (inr (inr h))) both = subst (λ f. StandsWith maps d size f at) (sym h) tt
+      subst (λ f. StandsBy Counts maps d size f at) (sym h.0) (cut h.2 h.3 at fits (is.role ∙ ap (role_of tree) h.5) (sym is.stands ∙ sym h.1) h.6)
+  refusal_stands marks fault at len fits (inr (inr (inr h))) both = subst (λ f. StandsBy Counts maps d size f at) (sym h) tt
+
+-- With pointer maps asked for, a page that is set aside is one that nothing may name.
+pub aside_asked : (d : Database) (maps : Bool) (size : ℕ) → length (page d 1) ≡ size → (IsAutoVacuum d → maps ≡ true) → (p : ℕ) → IsAside d p → IsAsideWith maps d size p
+aside_asked d maps size same asked p h = ⊎_elim (λ lock. inl lock) (λ map. inr (asked map.0, map.0, map.1)) (subst (λ n. IsSetAside d n p) same h)
 
 -- The pages put aside, after one more place was visited.
-rows_more : (d : Database) (marks : List Bool) (new_marks : List Bool) (visited : List Spot) (s : Spot) (old new : List ℕ) → AreMarked d marks (numbers visited) → Marks marks new_marks s.page → RowsAre d visited old → PutsAside d s.page s.role old new
+rows_more : (d : Database) (marks : List Bool) (new_marks : List Bool) (visited : List Spot) (s : Spot) (old new : List ℕ) → AreMarked (IsAside d) marks (numbers visited) → Marks marks new_marks s.page → RowsAre d visited old → PutsAside d s.page s.role old new
     → RowsAre d (visited ++ s ∷ []) new
 rows_more d marks new_marks visited s old new taken m rows (inr h) = record {
   all = λ t i leaf. elim (in_cases t visited (s ∷ []) i) [
@@ -125,7 +129,7 @@ rows_more d marks new_marks visited s old new taken m rows (inl h) = record {
       ((s, in_right s visited (s ∷ []) (inl refl), refl, h.0), tt));
   distinct = subst Apart (sym h.1) (apart_snoc old s.page rows.distinct (λ i.
       let k = every_in (λ p. (t : Spot) × In t visited × (t.page ≡ p) × IsSchemaLeaf d p t.role) s.page old rows.only i in
-      fresh_marked d marks new_marks (numbers visited) s.page taken m (subst (λ q. In q (numbers visited)) k.2 (in_map (λ z. z.page) k.0 visited k.1))));
+      fresh_marked (IsAside d) marks new_marks (numbers visited) s.page taken m (subst (λ q. In q (numbers visited)) k.2 (in_map (λ z. z.page) k.0 visited k.1))));
 }
 
 counted_more : (tree : Tree) (visited : List Spot) (s : Spot) (it : Item) (old new : Counts) → s.role ≡ role_of tree it.task → it.page ≡ s.page → AreCounted visited old → AddsItem old new it → AreCounted (visited ++ s ∷ []) new
@@ -235,14 +239,14 @@ module _ (d : Database) (late : Bool) (tree : Tree) (visited rest : List Spot) (
       let m : Marks uses.marks.items new_marks s.page = subst (Marks uses.marks.items new_marks) top.is.page f.visits.marked in
       let p = f.visits.pushes in
       let here : (t : Spot) → InPageAs d it.page (role_of tree it.task) t → StandsIn d s t = λ t h.
-      (subst (λ n. IsWithin n s.page) w.agenda.sized (m.above, m.within), subst (λ r. InPageAs d s.page r t) (sym top.is.role) (subst (λ q. InPageAs d q (role_of tree it.task) t) top.is.page h)) in
+      (subst (λ n. IsWithin n s.page) w.agenda.tour.sized (m.above, m.within), subst (λ r. InPageAs d s.page r t) (sym top.is.role) (subst (λ q. InPageAs d q (role_of tree it.task) t) top.is.page h)) in
       let stems : Stems d s p.spots = record {
         only = every_weaker (InPageAs d it.page (role_of tree it.task)) (StandsIn d s) here p.spots p.only;
         all = λ t h. p.all t (subst (λ q. InPageAs d q (role_of tree it.task) t) (sym top.is.page) (subst (λ r. InPageAs d s.page r t) top.is.role h.1));
         distinct = p.distinct;
       } in
       let sound : IsSound d s = record {
-        named = subst (λ n. IsWithin n s.page) w.agenda.sized (m.above, m.within);
+        named = subst (λ n. IsWithin n s.page) w.agenda.tour.sized (m.above, m.within);
         sound_as = subst (λ r. IsSoundAs d s.page r) (sym top.is.role) (subst (λ q. IsSoundAs d q (role_of tree it.task)) top.is.page f.visits.sound);
       } in (
         s,
@@ -252,7 +256,7 @@ module _ (d : Database) (late : Bool) (tree : Tree) (visited rest : List Spot) (
           match = subst (λ l. Match tree l (p.spots ++ top.others)) (sym p.pushed) (match_append tree p.items (reverse popped.stack.items) p.spots top.others p.match top.match);
           agenda = subst (Agenda d late new_marks (visited ++ s ∷ [])) (sym (append_assoc p.spots top.others rest)) (follows d late uses.marks.items visited s (top.others ++ rest) agenda new_marks p.spots m sound stems);
           knows = f.knows;
-          rows = rows_more d uses.marks.items new_marks visited s popped.rows.items new.rows.items w.agenda.taken m (subst (RowsAre d visited) (sym rows) w.rows)
+          rows = rows_more d uses.marks.items new_marks visited s popped.rows.items new.rows.items w.agenda.tour.taken m (subst (RowsAre d visited) (sym rows) w.rows)
               (subst (λ r. PutsAside d s.page r popped.rows.items new.rows.items) (sym top.is.role) (subst (λ q. PutsAside d q (role_of tree it.task) popped.rows.items new.rows.items) top.is.page f.aside));
           counted = counted_more tree visited s it uses.counts new_uses.counts top.is.role top.is.page w.counted f.counted;
           entered = entered_more d tree visited it s top.is mapped w.entered;
@@ -261,14 +265,14 @@ module _ (d : Database) (late : Bool) (tree : Tree) (visited rest : List Spot) (
 
   -- Or it isn't.
   pub walk_refused : (fault : Fault) (at : ℕ) → FollowRefused d tree it uses.marks.items fault at → StandsNow d fault at
-  walk_refused fault at f maps size same = refusal_stands d maps size same tree it top.spot top.is (agenda.waiting.0) uses.marks.items fault at w.agenda.sized (agenda.fits.0) f (twice d late uses.marks.items visited top.spot (top.others ++ rest) agenda)
+  walk_refused fault at f maps size same asked = refusal_stands (IsReached d) (IsAside d) d maps size (aside_asked d maps size same asked) tree it top.spot top.is (agenda.tour.waiting.0) uses.marks.items fault at w.agenda.tour.sized (agenda.tour.fits.0) f (twice d (IsReached d) (IsAside d) uses.marks.items visited top.spot (top.others ++ rest) agenda.tour)
 
   -- Or the entry of its page is wrong.
   pub entry_stands : (fault : Fault) (at : ℕ) → EntryRefused d it fault at → StandsNow d fault at
-  entry_stands fault at h maps size same =
+  entry_stands fault at h maps size same asked =
       let here : IsEntryPlace size (usable_size d) top.spot.page h.2 =
       subst (λ n. IsEntryPlace n (usable_size d) top.spot.page h.2) same (subst (λ p. IsEntryPlace (length (page d 1)) (usable_size d) p h.2) top.is.page h.3) in
-      subst (λ f. StandsWith maps d size f at) (sym h.0) (inl (h.1, inl (top.spot, h.2, agenda.waiting.0, here, h.4, λ says. h.5 (says_entry d tree it top.spot h.2 top.is says))))
+      subst (λ f. StandsBy (IsReached d) maps d size f at) (sym h.0) (asked h.1, inl (h.1, inl (top.spot, h.2, agenda.tour.waiting.0, here, h.4, λ says. h.5 (says_entry d tree it top.spot h.2 top.is says))))
 
 -- Nothing was on the stack.
 pub nothing_popped : (d : Database) (late : Bool) (tree : Tree) (visited rest : List Spot) (uses : Uses) (walk popped : Walk) → Walking d late tree visited rest uses walk → walk.stack.items ≡ popped.stack.items ++ []

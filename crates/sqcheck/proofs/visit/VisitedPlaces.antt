@@ -8,8 +8,8 @@ use Rattle.sqcheck.specs.declared.tree.Tree.{Tree}
 use Rattle.sqcheck.specs.declared.node.Walk.{Walk}
 use Rattle.sqcheck.specs.declared.uses.Uses.{Uses}
 use Rattle.sqcheck.specs.declared.role.Role.{Role}
-use Rattle.sqcheck.specs.Places.{Spot, IsReached}
-use Rattle.sqcheck.specs.WellFormed.{numbers}
+use Rattle.sqcheck.specs.Places.{Spot}
+use Rattle.sqcheck.specs.WellFormed.{IsReached, numbers}
 use Rattle.sqcheck.specs.internal.Walking.{role_of, IsItemOf}
 use Rattle.sqcheck.specs.internal.Agenda.{Walking, WalksOn}
 use Rattle.sqcheck.specs.internal.Checking.{Visited, VisitsMore}

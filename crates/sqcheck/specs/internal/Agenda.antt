@@ -9,11 +9,11 @@ use Rattle.sqcheck.specs.declared.node.Walk.{Walk}
 use Rattle.sqcheck.specs.declared.uses.Counts.{Counts}
 use Rattle.sqcheck.specs.declared.uses.Uses.{Uses}
 use Rattle.sqcheck.specs.declared.tree.Tree.{Tree}
-use Rattle.sqcheck.specs.Places.{Place, first_trunk_place, first_root, next, leaf, overflow, child, root, holder, Role, link, node, Spot, StandsIn, StandsInRow, IsFirst, IsReached}
+use Rattle.sqcheck.specs.Places.{Place, first_trunk_place, first_root, next, leaf, overflow, child, root, holder, Role, link, node, Spot, StandsIn, StandsInRow, IsFirst}
 use Rattle.sqcheck.specs.declared.role.Role as roles
 use Rattle.sqcheck.specs.internal.Roles.{TellsOf}
-use Rattle.sqcheck.specs.WellFormed.{IsAutoVacuum, IsSetAside, HasEntry, IsSound, HasSoundRows, numbers, is_root, is_node, is_link, is_free}
-use Rattle.sqcheck.specs.Stands.{StandsWith}
+use Rattle.sqcheck.specs.WellFormed.{IsReached, IsAutoVacuum, IsSetAside, HasEntry, IsSound, HasSoundRows, numbers, is_root, is_node, is_link, is_free}
+use Rattle.sqcheck.specs.Stands.{StandsBy}
 use Rattle.sqcheck.specs.internal.Walking.{Match, Knows, IsSchemaLeaf}
 
 -- the page that a place stands in, 0 for the two first ones
@@ -55,39 +55,44 @@ LinkFits d s = (owner needed : ℕ) → s.role ≡ link owner needed → ((i : �
 abbrev pub IsAside : Database → (p : ℕ) → Type 0
 IsAside d p = IsSetAside d (length (page d 1)) p
 
--- a fault that isn't one of the header stands, where pages are so long
+-- a fault that isn't one of the header stands, where pages are so long, and pointer maps are asked for if there are any
 abbrev pub StandsNow : Database → Fault → (at : ℕ) → Type 0
-StandsNow d fault at = (maps : Bool) (size : ℕ) → length (page d 1) ≡ size → StandsWith maps d size fault at
+StandsNow d fault at = (maps : Bool) (size : ℕ) → length (page d 1) ≡ size → (IsAutoVacuum d → maps ≡ true) → StandsBy (IsReached d) maps d size fault at
 
 -- Marked are the pages that are set aside.
 abbrev pub MarksAside : Database → (marks : List Bool) → Type 0
 MarksAside d marks = (p : ℕ) → IsWithin (length marks) p → (is_marked marks p ≡ true → IsAside d p) × (IsAside d p → is_marked marks p ≡ true)
 
 -- Marked are these pages, none twice, and those set aside, which are none of them.
-pub record AreMarked (d : Database) (marks : List Bool) (pages : List ℕ) : Type 0 where
-  pub only : (p : ℕ) → IsWithin (length marks) p → is_marked marks p ≡ true → In p pages ⊎ IsAside d p
+pub record AreMarked (Aside : ℕ → Type 0) (marks : List Bool) (pages : List ℕ) : Type 0 where
+  pub only : (p : ℕ) → IsWithin (length marks) p → is_marked marks p ≡ true → In p pages ⊎ Aside p
   pub all : (p : ℕ) → In p pages → is_marked marks p ≡ true
-  pub aside : (p : ℕ) → IsWithin (length marks) p → IsAside d p → is_marked marks p ≡ true
-  pub within : Every (λ p. IsWithin (length marks) p × ¬ IsAside d p) pages
+  pub aside : (p : ℕ) → IsWithin (length marks) p → Aside p → is_marked marks p ≡ true
+  pub within : Every (λ p. IsWithin (length marks) p × ¬ Aside p) pages
   pub distinct : Apart pages
 
--- The pages of the visited places are taken, in their order, and the pending ones are still to be followed. All that
--- stands in a page of a visited one is visited or pending; in `late` that is so of the roots in its rows too, and these
--- are sound.
-pub record Agenda (d : Database) (late : Bool) (marks : List Bool) (visited pending : List Spot) : Type 0 where
+-- The pages of the visited places are taken, and the pending ones are still to be followed: places that count, of which
+-- none is visited or pending twice.
+pub record Tour (d : Database) (Counts : Spot → Type 0) (Aside : ℕ → Type 0) (marks : List Bool) (visited pending : List Spot) : Type 0 where
   pub sized : length marks ≡ length d
-  pub taken : AreMarked d marks (numbers visited)
-  pub room : length visited + count_by not marks ≤ length d
-  pub reached : Every (IsReached d) visited
-  pub waiting : Every (IsReached d) pending
-  pub sound : Every (IsSound d) visited
-  pub starts : (s : Spot) → IsFirst d s → In s visited ⊎ In s pending
-  pub closed : (s t : Spot) → In s visited → StandsIn d s t → In t visited ⊎ In t pending
+  pub taken : AreMarked Aside marks (numbers visited)
+  pub reached : Every Counts visited
+  pub waiting : Every Counts pending
   pub apart : Apart (places pending)
   pub off : Every (λ v. Off v.place pending) visited
   pub homes : Every (λ v. IsHome marks v.place) visited
   pub waiting_homes : Every (λ s. IsHome marks s.place) pending
   pub fits : Every (LinkFits d) pending
+
+-- The pages of the visited places are taken, in their order, and the pending ones are still to be followed. All that
+-- stands in a page of a visited one is visited or pending; in `late` that is so of the roots in its rows too, and these
+-- are sound.
+pub record Agenda (d : Database) (late : Bool) (marks : List Bool) (visited pending : List Spot) : Type 0 where
+  pub tour : Tour d (IsReached d) (IsAside d) marks visited pending
+  pub room : length visited + count_by not marks ≤ length d
+  pub sound : Every (IsSound d) visited
+  pub starts : (s : Spot) → IsFirst d s → In s visited ⊎ In s pending
+  pub closed : (s t : Spot) → In s visited → StandsIn d s t → In t visited ⊎ In t pending
   pub early : late ≡ false → Every (λ v. NotRoot v.place) visited × Every (λ s. NotRoot s.place) pending
   pub rooted : late ≡ true → (s t : Spot) → In s visited → StandsInRow d s t → In t visited ⊎ In t pending
   pub plain : late ≡ true → Every (λ s. NotSchema s.role) pending

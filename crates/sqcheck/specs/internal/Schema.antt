@@ -8,7 +8,8 @@ use Rattle.sqpage.specs.Freelist.{IsPage}
 use Rattle.sqpage.specs.Page.{IsBtreePage}
 use Rattle.sqpage.specs.Chain.{IsPayload, payload_size}
 use Rattle.sqcheck.specs.declared.schema.Root.{Root}
-use Rattle.sqcheck.specs.Places.{holder, root, Node, node, Spot, spot, page_as, IsCellAt, IsRow, IsSchemaRow, InRow, root_of_tree, IsReached}
+use Rattle.sqcheck.specs.Places.{holder, root, Node, node, Spot, spot, page_as, IsCellAt, IsRow, IsSchemaRow, InRow, root_of_tree}
+use Rattle.sqcheck.specs.WellFormed.{IsReached}
 
 -- A page that a reached place names as a leaf of the schema's tree: it is one, and its cells have payloads.
 pub record IsRowsPage (d : Database) (p : ℕ) : Type 0 where

@@ -3,14 +3,15 @@ use Rattle.std.proofs.lemmas.List.{with_items_is}
 use Rattle.sqval.specs.Database.{Database, page}
 use Rattle.sqval.specs.PageSize.{IsPageSize}
 use Rattle.sqpage.proofs.file.PagesInMemory.{least_page_size}
-use Rattle.sqcheck.specs.internal.Heading.{HasHeaderOf}
+use Rattle.sqcheck.specs.internal.Heading.{HasHeaderOf, HeaderFault}
+use Rattle.sqpage.specs.declared.fault.Fault.TheVariants as faults
 use Rattle.sqcheck.specs.Stands.{StandsWith}
-use Rattle.sqcheck.proofs.checks.ResultsOfCalls.{if_err}
-use Rattle.sqcheck.proofs.checks.EndsOfCheck.{no_magic, header_sound, first_sized, knows_maps}
+use Rattle.sqcheck.proofs.checks.ResultsOfCalls.{if_err, exits}
+use Rattle.sqcheck.proofs.checks.EndsOfCheck.{no_magic, header_sound, header_stands, page_stands, memory_stands, first_sized, knows_maps}
 use Rattle.sqcheck.proofs.checker.check_snapshot.Goals as goal
 
 pub returns-then-count-eq0-clause-err : goal.returns-then-count-eq0-clause-err
-returns-then-count-eq0-clause-err g c = λ given. (refl, no_magic g.V.Snapshot.pages (sym (ap (λ (q : Database). length q) c.requires.same.0) ∙ sym c.count-count.ensures ∙ c.if-count-eq0.true))
+returns-then-count-eq0-clause-err g c = λ given. header_stands c.args.options.pointer_maps g.V.Snapshot.pages g.V.Snapshot.size g.V.Snapshot.size faults.Magic refl (no_magic g.V.Snapshot.pages (sym (ap (λ (q : Database). length q) c.requires.same.0) ∙ sym c.count-count.ensures ∙ c.if-count-eq0.true))
 
 pub read_page-requires-clause-same : goal.read_page-requires-clause-same
 read_page-requires-clause-same g c = record {
@@ -44,7 +45,8 @@ returns-in-Ok-new_walker-clause-err g c = λ given.
     let hd = subst (λ (l : List ℕ). HasHeaderOf c.args.options.pointer_maps c.in_ok-header.header c.page_size-size.result l) first c.in_ok-header.ensures.ok in
     let size = c.page_size-size.ensures ∙ c.requires.same.1 in
     let long = first_sized d g.V.Snapshot.size c.count-count.result (c.count-count.ensures ∙ ap (λ (q : Database). length q) c.requires.same.0) c.if-count-eq0.false read.2 in
-    if_err _ (λ e. StandsWith c.args.options.pointer_maps d g.V.Snapshot.size e.fault e.page) c.check_pages.result (λ e h. h c.args.options.pointer_maps g.V.Snapshot.size long)
+    let sound = header_sound c.args.options.pointer_maps d c.in_ok-header.header c.page_size-size.result g.V.Snapshot.size size hd in
+    if_err _ (λ e. StandsWith c.args.options.pointer_maps d g.V.Snapshot.size e.fault e.page) c.check_pages.result (λ e h. page_stands c.args.options.pointer_maps d g.V.Snapshot.size e.fault e.page long sound h)
     (c.check_pages.ensures.err both read.2 (record { first = hd.first_trunk; said = hd.free_pages; largest = hd.largest_root }) (c.in-Ok-new_walker.ensures.new both.1))
 
 pub new-requires-clause-known : goal.new-requires-clause-known
@@ -56,3 +58,15 @@ new-requires-clause-known g c = λ judged.
     let size = c.page_size-size.ensures ∙ c.requires.same.1 in
     let long = first_sized d g.V.Snapshot.size c.count-count.result (c.count-count.ensures ∙ ap (λ (q : Database). length q) c.requires.same.0) c.if-count-eq0.false read.2 in
     knows_maps c.args.options.pointer_maps d c.in_ok-header.header c.page_size-size.result (long ∙ sym size) hd
+
+pub returns-in_err-header-clause-err : goal.returns-in_err-header-clause-err
+returns-in_err-header-clause-err g c = λ given.
+    let d = g.V.Snapshot.pages in
+    let maps = c.args.options.pointer_maps in
+    let read = c.read_page.ensures.read given in
+    let first : c.deref.result.now ≡ page d 1 = c.deref.ensures.value ∙ with_items_is c.in-Ok.bytes c.read_page.new.out (c.read_page.auto.out ∙ c.deref_mut.ensures.len) ∙ read.1 in
+    let e = c.in_err-header.field-0.0 in
+    let h = c.in_err-header.ensures.err in
+    exits (λ e. StandsWith maps d g.V.Snapshot.size e.fault e.page) e c.from_residual-in_err-header.result c.from_residual-in_err-header.ensures.1
+    (subst (StandsWith maps d g.V.Snapshot.size e.fault) (sym h.0) (header_stands maps d c.page_size-size.result g.V.Snapshot.size e.fault (c.page_size-size.ensures ∙ c.requires.same.1)
+    (subst (HeaderFault maps e.fault c.page_size-size.result) first h.1)))

@@ -31,6 +31,6 @@ returns-clause-ok g c = λ given maps sized lists new header.
     let used : IsAutoVacuum d → k.maps.used ≡ true = λ auto. ⊎_elim (λ yes. yes) (λ no. absurd (auto (known.plain no))) (either k.maps.used) in
     let mapped = mapped_of d g.V.Snapshot.size k.uses.marks.items z.0 k.walk.rows.items k.uses.counts c.args.header.now.largest_root lists.largest sized z.1 (λ auto. c.in_ok-judge_end.ensures.largest (used auto)) in
     let x = concludes maps d g.V.Snapshot.size k.uses.marks.items z.0 k.walk.rows.items k.uses.counts c.requires.same.sized sized header z.1 end.0 (end.1 ∙ lists.said) mapped c.report.result
-    (reported d z.0 k.uses.counts c.report.result z.1.counted (c.report.ensures.pages ∙ z.1.agenda.sized) c.report.ensures.trees c.report.ensures.btree c.report.ensures.overflow c.report.ensures.free) in
-    let v = visits_of g.T.Visitor.saw d z.0 c.args.visitor.now c.follow_others.new.visitor z.1.agenda.reached z.2 in
+    (reported d z.0 k.uses.counts c.report.result z.1.counted (c.report.ensures.pages ∙ z.1.agenda.tour.sized) c.report.ensures.trees c.report.ensures.btree c.report.ensures.overflow c.report.ensures.free) in
+    let v = visits_of g.T.Visitor.saw d z.0 c.args.visitor.now c.follow_others.new.visitor z.1.agenda.tour.reached z.2 in
     (x.0, x.1, v.visits, v.told, record { once = subst (AreEachOnce (IsSetAside d g.V.Snapshot.size) (length d)) (sym v.pages) (once_of d g.V.Snapshot.size k.uses.marks.items z.0 sized z.1.agenda end.0); roles = v.roles })
