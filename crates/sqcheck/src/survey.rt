@@ -160,7 +160,10 @@ fn survey_row<V: Snapshot, S: PageSource>(
     ensures same { SameSource V.pages V.size V.given (S.pages source.new) (S.size source.new)
         (S.gives_pages source.new) }
 {
-    if !rows.chains.takes(source, &chart.roles, cell, &mut rows.page)? {
+    if !rows
+        .chains
+        .takes(source, &chart.roles, cell, &mut rows.page)?
+    {
         return Ok(());
     }
     let count = source.count();
@@ -617,10 +620,10 @@ fn survey_behind<S: PageSource>(
 /// What `check` finds, and what each page of a database is used for, also of a damaged one (own). The walk is that of
 /// `check`, and goes on behind faults: each page has the role of the first place that names it, whatever is wrong with
 /// the page, and Unused where none does. A page of a tree whose type byte is none counts as a leaf. Nothing is followed
-/// in a page that is wrong in its role, or from a row of the schema that is none, or whose chain isn't charted as its own.
-/// `faults` has those of the header, of
-/// each place and of each row, and PageUnused of each page that is unused. Once a page of a tree is wrong, Depth is
-/// told of leaves that aren't on the level of the first one that is sound so far.
+/// in a page that is wrong in its role, or from a row of the schema that is none, or whose chain isn't charted as its
+/// own. `faults` has those of the header, of each place and of each row, and PageUnused of each page that is unused.
+/// Once a page of a tree is wrong, Depth is told of leaves that aren't on the level of the first one so far that is of
+/// the tree's kind.
 ///
 /// Refused by the first fault where page 1 is none of a database, or leaves fewer than 480 bytes of a page to be used;
 /// by Source where a page could not be read, and by NoMemory.

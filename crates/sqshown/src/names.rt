@@ -11,7 +11,7 @@ ghost use Rattle.sqshown.specs.Shown.{IsPageUnread};
 ghost use Rattle.sqpage.specs.Source.{KeepsPages};
 
 use crate::cells::{page_in, usable_size};
-use sqcheck::{Chains, Role, Survey};
+use sqcheck::{Role, Survey};
 use sqfacts::{Refusal, is_unsound};
 use sqpage::{BtreePage, Cell, Fault, Kind, PageSource, payload};
 use sqval::{Record, Value};
@@ -90,49 +90,29 @@ fn is_utf16(first: &[u8]) -> bool {
     matches!(first.get(56..60), Some([0, 0, 0, 2 | 3]))
 }
 
-/// What was read of the rows of the schema.
-#[derive(Drop)]
-struct Rows {
-    /// The names that they give.
-    found: Vec<Name>,
-    /// The overflow pages of their chains.
-    chains: Chains,
-    /// Room for a row, and for a page of its chain.
-    content: Vec<u8>,
-    page: Vec<u8>,
-}
-
-/// The name that the row in a cell gives to a tree, if it gives one. None where its chain isn't its own.
+/// The name that the row in a cell gives to a tree, if it gives one.
 fn name_at<S: PageSource>(
     alloc: Global,
     source: &mut S,
-    roles: &[Role],
     cell: &Cell<'_>,
-    rows: &mut Rows,
+    content: &mut Vec<u8>,
 ) -> Result<Option<Name>, Refusal>
     requires payload { IsSome cell.now.payload }
     requires least { 480 ≤ cell.now.usable }
     requires most { cell.now.usable ≤ S.size source.old }
     requires part { length cell.now.local.now ≤ payload_size cell.now }
-    requires room { length rows.old.page.items ≡ S.size source.old }
     ensures refused { S.gives_pages source.old → IfErr result (λ refusal. refusal ≡ NoMemory) }
-    ensures room { length rows.new.page.items ≡ length rows.old.page.items }
     ensures same { KeepsPages S.pages S.size S.gives_pages source.old source.new }
 {
-    match rows.chains.takes(source, roles, cell, &mut rows.page) {
-        Ok(true) => {}
-        Ok(false) => return Ok(None),
-        Err(_) => return Err(Refusal::FileFailed),
-    }
-    rows.content.clear();
-    if let Err(error) = payload(alloc, source, cell, &mut rows.content) {
+    content.clear();
+    if let Err(error) = payload(alloc, source, cell, content) {
         return match error.fault {
             Fault::Source => Err(Refusal::FileFailed),
             Fault::NoMemory => Err(Refusal::NoMemory),
             _ => Ok(None),
         };
     }
-    match Record::new(&rows.content) {
+    match Record::new(content) {
         Ok(row) => name_in(alloc, &row),
         Err(_) => Ok(None),
     }
@@ -142,14 +122,12 @@ fn name_at<S: PageSource>(
 fn add_names<S: PageSource>(
     alloc: Global,
     source: &mut S,
-    roles: &[Role],
     page: &BtreePage<'_>,
-    rows: &mut Rows,
+    content: &mut Vec<u8>,
+    found: &mut Vec<Name>,
 ) -> Result<(), Refusal>
-    requires used { length page.now.used ≤ S.size source.old }
-    requires room { length rows.old.page.items ≡ S.size source.old }
+    requires { length page.now.used ≤ S.size source.old }
     ensures refused { S.gives_pages source.old → IfErr result (λ refusal. refusal ≡ NoMemory) }
-    ensures room { length rows.new.page.items ≡ length rows.old.page.items }
     ensures same { KeepsPages S.pages S.size S.gives_pages source.old source.new }
 {
     for i in 0..page.len() {
@@ -157,8 +135,8 @@ fn add_names<S: PageSource>(
         if cell.payload.is_none() {
             continue;
         }
-        if let Some(name) = name_at(alloc, source, roles, &cell, rows)? {
-            if rows.found.push(name).is_err() {
+        if let Some(name) = name_at(alloc, source, &cell, content)? {
+            if found.push(name).is_err() {
                 return Err(Refusal::NoMemory);
             }
         }
@@ -170,23 +148,21 @@ fn add_names<S: PageSource>(
 fn add_leaf<S: PageSource>(
     alloc: Global,
     source: &mut S,
-    roles: &[Role],
     number: u32,
     usable: u32,
-    rows: &mut Rows,
+    content: &mut Vec<u8>,
+    found: &mut Vec<Name>,
 ) -> Result<(), Refusal>
     requires least { 480 ≤ usable }
     requires most { usable ≤ S.size source.old }
-    requires room { length rows.old.page.items ≡ S.size source.old }
     ensures refused { S.gives_pages source.old → IsPage (S.pages source.old) number
         → IfErr result (λ refusal. refusal ≡ NoMemory) }
-    ensures room { length rows.new.page.items ≡ length rows.old.page.items }
     ensures same { KeepsPages S.pages S.size S.gives_pages source.old source.new }
 {
     let bytes = page_in(alloc, source, number)?;
     match BtreePage::new(&bytes, number, usable) {
         Ok(page) if page.kind() == Kind::TableLeaf => {
-            add_names(alloc, source, roles, &page, rows)
+            add_names(alloc, source, &page, content, found)
         }
         _ => Ok(()),
     }
@@ -212,25 +188,18 @@ pub(crate) fn names_in<S: PageSource>(
     ensures refused { S.gives_pages source.old → IfErr result (IsPageUnread (S.pages source.old) 1) }
     ensures same { KeepsPages S.pages S.size S.gives_pages source.old source.new }
 {
+    let mut found = Vec::new(alloc);
     let first = page_in(alloc, source, 1)?;
     let usable = usable_size(&first);
     if is_utf16(&first) {
-        return Ok(Names {
-            found: Vec::new(alloc),
-        });
+        return Ok(Names { found });
     }
-    let mut rows = Rows {
-        found: Vec::new(alloc),
-        chains: Chains::none(alloc, source.count())?,
-        content: Vec::new(alloc),
-        page: vec![in alloc; 0; source.page_size().get() as usize]?,
-    };
+    let mut content = Vec::new(alloc);
     for i in 0..source.count() {
         if has_rows(survey, i as usize) && !is_unsound(&survey.faults, i + 1) {
-            add_leaf(alloc, source, &survey.roles, i + 1, usable, &mut rows)?;
+            add_leaf(alloc, source, i + 1, usable, &mut content, &mut found)?;
         }
     }
-    let mut found = rows.found;
     found.sort_by_key(|name| name.root)?;
     Ok(Names { found })
 }

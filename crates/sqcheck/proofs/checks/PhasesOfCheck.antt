@@ -552,17 +552,20 @@ largest_of d marks visited counts a c = (
 -- The header says another.
 pub largest_stands : (d : Database) (maps : Bool) (size : ℕ) (marks : List Bool) (visited : List Spot) (counts : Counts) (said : ℕ) → said ≡ word (page d 1) 52 → IsAutoVacuum d → Agenda d true marks visited [] → AreCounted visited counts
     → counts.largest_root ≢ said → maps ≡ true → StandsBy (IsReached d) maps d size faults.PointerMap 1
-largest_stands d maps size marks visited counts said e auto a c ne asked = (asked, inl (
-  auto,
-  inr (
-    refl,
-    λ l.
-        let most = largest_of d marks visited counts a c in
-        let up : word (page d 1) 52 ≤ counts.largest_root = (let r = most.0 l.1.0 l.1.1 l.1.2 in let at = l.1.3 in omega (arith, r, at)) in
-        let down : counts.largest_root ≤ word (page d 1) 52 = (let r = l.0 most.1.0 most.1.1 most.1.2 in let at = most.1.3 in omega (arith, r, at)) in
-        ne (omega (arith, up, down, e)),
+largest_stands d maps size marks visited counts said e auto a c ne asked = (
+  asked,
+  inl (
+    auto,
+    inr (
+      refl,
+      λ l.
+          let most = largest_of d marks visited counts a c in
+          let up : word (page d 1) 52 ≤ counts.largest_root = (let r = most.0 l.1.0 l.1.1 l.1.2 in let at = l.1.3 in omega (arith, r, at)) in
+          let down : counts.largest_root ≤ word (page d 1) 52 = (let r = l.0 most.1.0 most.1.1 most.1.2 in let at = most.1.3 in omega (arith, r, at)) in
+          ne (omega (arith, up, down, e)),
+    ),
   ),
-))
+)
 
 -- With auto-vacuum the maps and the largest root are right.
 pub mapped_of : (d : Database) (size : ℕ) (marks : List Bool) (visited : List Spot) (rows : List ℕ) (counts : Counts) (said : ℕ) → said ≡ word (page d 1) 52 → Every (λ b. length b ≡ size) d → Stood d true visited [] marks rows counts

@@ -1,4 +1,4 @@
-use Rattle.std.proofs.Common.{◌≡◌, ◌<◌, ◌≤◌, ◌∙◌, [], ◌∷◌, ◌++◌, List, ℕ, length, refl, ap, arith}
+use Rattle.std.proofs.Common.{◌≡◌, ◌+◌, ◌<◌, ◌≤◌, ◌∙◌, [], ◌∷◌, ◌++◌, List, ℕ, length, refl, ap, arith}
 use Rattle.sqval.specs.Database.{Database}
 use Rattle.sqpage.specs.Freelist.{next_in}
 use Rattle.sqpage.proofs.file.PagesInMemory.{keeps_on}
@@ -7,10 +7,10 @@ use Rattle.sqcheck.proofs.checks.TakenChains.{taking_none, taking_more, chain_ta
 use Rattle.sqcheck.proofs.chains.Chains.takes.Goals as goal
 
 pub links-init : goal.links-init
-links-init g c = record {
+links-init g c = let needed = c.links_of-left.ensures in record {
   pages = [];
   taking = taking_none c.args.roles.now c.args.cell.now.page c.args.self.now.taken.items;
-  count = c.links_of-left.ensures;
+  count = omega (arith, needed);
   room = refl;
   kept = record { still_gives = λ gives. gives; same_pages = refl; same_size = refl };
   at = c.args.cell.now.page;
