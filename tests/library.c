@@ -4,7 +4,7 @@
                               'PATH', one of the view, and those that sqrescue's check and show --log print; the pages
                               are those of the file PATH.pages, where it is there
    library memory LIST        refuses each allocation of each call in turn
-   library threads A B        a view each on two threads, again and again
+   library threads A B        a view each on two threads, and one view on two, again and again
    library none               NULL and length 0
 
    What no line shows is checked here: the last line is 'N passed, M failed'. The calls that ask for memory are wrapped
@@ -153,6 +153,7 @@ static void answer_view(const struct sqr_files *files, FILE *out) {
     struct sqr_view view = SQR_VIEW_INIT, kept = view;
     uint64_t none = 99;
     uint32_t status = sqr_size(files, &page_size, &pages);
+    check(status != SQR_NO_MEMORY, "no memory, though none was refused");
     if (status) {
         fprintf(out, "view %s\n", sqr_status_name(status));
         check(page_size == 77 && pages == 88, "a size that is refused leaves both");
@@ -181,6 +182,7 @@ static void answer_view(const struct sqr_files *files, FILE *out) {
 static void answer_check(const struct sqr_files *files, FILE *out) {
     struct sqr_report report = {1, 2, 3, 4, 5, 6, 7}, kept = report;
     uint32_t status = sqr_check(files, &report);
+    check(status != SQR_NO_MEMORY, "no memory, though none was refused");
     if (status == SQR_OK)
         fprintf(out, "clean: %u pages, %u trees, %u b-tree, %u overflow, %u free\n", report.pages, report.trees,
                 report.btree, report.overflow, report.free);
@@ -205,6 +207,7 @@ static void answer_wal(const uint8_t *wal, size_t len, FILE *out) {
     struct sqr_wal found = {1, 2, 3, 4, 5, 6}, kept = found, again = found;
     struct sqr_frame none = {7, 8};
     uint32_t status = sqr_wal_scan(wal, len, &none, 0, &found);
+    check(status != SQR_NO_MEMORY, "no memory, though none was refused");
     if (status != SQR_OK && status != SQR_NO_ROOM) {
         fprintf(out, "wal %s\n", sqr_status_name(status));
         check(memcmp(&found, &kept, sizeof found) == 0, "a scan that is refused leaves its answer");
@@ -241,6 +244,7 @@ static void answer_commits(const uint8_t *wal, size_t len) {
     struct sqr_commit none = {7, 8, 9};
     uint32_t count = 99, again = 98, status = sqr_wal_commits(wal, len, &none, 0, &count);
     uint32_t scanned = sqr_wal_scan(wal, len, &no_frame, 0, &found);
+    check(status != SQR_NO_MEMORY, "no memory, though none was refused");
     check(none.frame == 7 && none.frames == 8 && none.pages == 9, "commits without room leave the array");
     if (status != SQR_OK && status != SQR_NO_ROOM) {
         check(status == scanned && count == 99, "commits are refused as a scan is, and leave their number");
@@ -308,8 +312,15 @@ static void answer_commit(const struct sqr_files *files, struct sqr_commit commi
     free(places);
 }
 
-/* At 0 there is the file alone; where no commit ends there is no view. */
-static void refuse_frames(const struct sqr_files *files, const struct sqr_commit *commits, uint32_t count) {
+/* What a recovery refuses of the log that counts, or 0. */
+static uint32_t asked_of_log(const struct sqr_files *files) {
+    uint32_t page_size = 0, pages = 0, status = sqr_size(files, &page_size, &pages);
+    return status == SQR_LOG_VERSION || status == SQR_PAGE_SIZES_DIFFER ? status : 0;
+}
+
+/* At 0 there is the file alone; where no commit ends there is no view, nor where a recovery refuses the log. */
+static void refuse_frames(const struct sqr_files *files, const struct sqr_commit *commits, uint32_t count,
+                          uint32_t asked) {
     struct sqr_files alone = SQR_FILES(files->db, files->db_len, NULL, 0, NULL, 0);
     struct sqr_view view = SQR_VIEW_INIT, wanted = SQR_VIEW_INIT, kept = view;
     uint64_t place = 99, other = 98;
@@ -318,8 +329,9 @@ static void refuse_frames(const struct sqr_files *files, const struct sqr_commit
     view = kept;
     uint32_t last = count ? commits[count - 1].frame : 0, commit = 0, right = SQR_NO_SUCH_COMMIT;
     if (found == SQR_TWO_LOGS) right = found;
+    if (asked) right = asked;
     for (uint32_t frame = 1; frame <= last + 2; frame++) {
-        if (commit < count && commits[commit].frame == frame) commit++;
+        if (!asked && commit < count && commits[commit].frame == frame) commit++;
         else if (sqr_open_at(files, frame, &place, 1, &view) != right) check(0, "a frame that ends no commit");
     }
     check(sqr_open_at(files, UINT32_MAX, &place, 1, &view) == right, "the greatest frame");
@@ -336,9 +348,10 @@ static void answer_at(const struct sqr_files *files) {
     struct sqr_commit *commits = calloc(count + 1ul, sizeof *commits);
     if (!commits) exit(2);
     if (count) check(sqr_wal_commits(files->wal, files->wal_len, commits, count, &count) == SQR_OK, "commits again");
-    refuse_frames(files, commits, count);
+    uint32_t asked = asked_of_log(files);
+    refuse_frames(files, commits, count, asked);
     sqr_wal_scan(files->wal, files->wal_len, &frame, 0, &found);
-    for (uint32_t i = 0; i < count; i += 1 + count / MOST) answer_commit(files, commits[i], found.page_size);
+    for (uint32_t i = 0; !asked && i < count; i += 1 + count / MOST) answer_commit(files, commits[i], found.page_size);
     free(commits);
 }
 
@@ -351,6 +364,7 @@ static void answer_journal(const uint8_t *journal, size_t len, FILE *out) {
     struct sqr_journal found = {1, 2, 3, 4, 5, 6}, kept = found, again = found;
     struct sqr_record none = {7, 8};
     uint32_t status = sqr_journal_scan(journal, len, &none, 0, &found);
+    check(status != SQR_NO_MEMORY, "no memory, though none was refused");
     check(none.at == 7 && none.page == 8, "a journal's scan without room leaves the array");
     if (status != SQR_OK && status != SQR_NO_ROOM) {
         fprintf(out, "journal %s\n", sqr_status_name(status));
@@ -516,6 +530,47 @@ static void *run_thread(void *path) {
     return (void *)wrong;
 }
 
+/* A view that two threads read, and the database that it is to have. */
+struct shared {
+    struct sqr_view view;
+    const uint8_t *file;
+    size_t len;
+};
+
+static void *read_shared(void *given) {
+    static const int ROUNDS = 20;
+    const struct shared *shared = given;
+    uintptr_t wrong = 0;
+    uint8_t *page = malloc(shared->view.page_size + 1u);
+    for (int i = 0; i < ROUNDS; i++) wrong += !are_pages(&shared->view, page, shared->file, shared->len);
+    free(page);
+    return (void *)wrong;
+}
+
+static void run_shared(const char *path) {
+    struct sqr_files files = files_of(path);
+    struct sqr_view none = SQR_VIEW_INIT;
+    struct shared shared = {none, NULL, 0};
+    uint32_t page_size = 0, pages = 0;
+    pthread_t threads[2];
+    uint8_t *file = bytes_of(path, ".pages", &shared.len);
+    shared.file = file;
+    at_hand = path;
+    check(sqr_size(&files, &page_size, &pages) == SQR_OK, "the size of a view for two threads");
+    uint64_t *places = malloc((size_t)pages * sizeof *places + 1);
+    check(sqr_open(&files, places, pages, &shared.view) == SQR_OK, "a view for two threads");
+    for (int i = 0; i < 2; i++)
+        if (pthread_create(&threads[i], NULL, read_shared, &shared)) exit(2);
+    for (int i = 0; i < 2; i++) {
+        void *wrong = NULL;
+        pthread_join(threads[i], &wrong);
+        check(!wrong, "one view on two threads");
+    }
+    free(places);
+    free(file);
+    give_back(&files);
+}
+
 static void run_threads(char **paths) {
     pthread_t threads[2];
     for (int i = 0; i < 2; i++)
@@ -526,6 +581,25 @@ static void run_threads(char **paths) {
         at_hand = paths[i];
         check(!wrong, "a view on a thread of its own");
     }
+}
+
+/* The name is this text, and zeros behind it. */
+static int is_name(const struct sqr_name *name, uint32_t length, const char *text) {
+    struct sqr_name wanted;
+    memset(&wanted, 0, sizeof wanted);
+    memcpy(wanted.text, text, strlen(text));
+    return length == strlen(text) && !memcmp(name, &wanted, sizeof wanted);
+}
+
+/* The names that the library writes are those of the header. */
+static void check_names(uint32_t number) {
+    struct sqr_name name;
+    memset(&name, 0xa5, sizeof name);
+    uint32_t length = sqr_status_text(number, &name);
+    check(is_name(&name, length, sqr_status_name(number)), "a status has one name");
+    memset(&name, 0xa5, sizeof name);
+    length = sqr_fault_text(number, &name);
+    check(is_name(&name, length, sqr_fault_name(number)), "a fault has one name");
 }
 
 static void run_none(void) {
@@ -550,8 +624,12 @@ static void run_none(void) {
     check(sqr_wal_commits(sqr_bytes(NULL), 0, &commit, 0, &count) == SQR_OK && !count, "no commits");
     check(sqr_journal_scan(sqr_bytes(NULL), 0, &record, 0, &journal) == SQR_OK && !journal.records, "no records");
     check(!journal.page_size && !journal.stop && journal.why == SQR_JOURNAL_END, "no journal");
-    check(!strcmp(sqr_status_name(SQR_VERSION), "version") && !strcmp(sqr_status_name(15), "?"), "names of statuses");
-    check(!strcmp(sqr_fault_name(21), "SchemaRecord") && !strcmp(sqr_fault_name(0), "?"), "names of faults");
+    check(!strcmp(sqr_status_name(SQR_VERSION), "unknown log version"), "the name of a status");
+    check(!strcmp(sqr_status_name(17), "?") && !strcmp(sqr_fault_name(0), "?"), "the name of no status and no fault");
+    check(!strcmp(sqr_fault_name(21), "SchemaRecord"), "the name of a fault");
+    check(sqr_version() == SQR_VERSION_NUMBER, "the version of the header is that of the library");
+    for (uint32_t number = 0; number < 64; number++) check_names(number);
+    check_names(UINT32_MAX);
 }
 
 int main(int argc, char **argv) {
@@ -566,6 +644,8 @@ int main(int argc, char **argv) {
         printf("%zu allocations\n", refusals);
     } else if (argc == 4 && !strcmp(argv[1], "threads")) {
         run_threads(argv + 2);
+        run_shared(argv[2]);
+        run_shared(argv[3]);
     } else if (argc == 2 && !strcmp(argv[1], "none")) {
         run_none();
     } else {

@@ -17,7 +17,7 @@ import os
 from collections import namedtuple
 
 FAULTS = ("Magic PageSize Fraction Reserved AutoVacuum Kind CellOutside Overlap Freeblock Fragments ChainCut ChainLong "
-          "PageTwice PageOutside PageUnused KeyOrder Depth FreeCount Source NoMemory SchemaRecord").split()
+          "PageTwice PageOutside PageUnused KeyOrder Depth FreeCount Source NoMemory SchemaRecord PointerMap").split()
 
 Report = namedtuple("Report", "pages trees btree overflow free")
 Frame = namedtuple("Frame", "page size")
@@ -57,6 +57,8 @@ BadMagic = _refusal("BadMagic", 11, "The bytes don't begin as a log.")
 BadPageSize = _refusal("BadPageSize", 12, "The log's header names no page size, or no sector size.")
 BadSum = _refusal("BadSum", 13, "The checksum of the log's header is wrong.")
 BadVersion = _refusal("BadVersion", 14, "The log is of another version than 3007000.")
+SuperJournal = _refusal("SuperJournal", 15, "The journal names a super-journal, which decides whether it counts.")
+PageSizesDiffer = _refusal("PageSizesDiffer", 16, "The log's pages are of another size than those of the file.")
 
 NO_ROOM = 9
 ERRORS = {error.status: error for error in Error.__subclasses__()}

@@ -1,6 +1,7 @@
 //! Neighbouring pages of one use, as one.
 ghost use Rattle.std.specs.Prelude.{◌≡◌, ◌+◌, ◌<◌, ◌++◌, ◌∷◌, [], map, IfOk, IsTrue, OnOk};
-ghost use Rattle.sqfacts.specs.Runs.{expanded};
+ghost use Rattle.std.specs.List.Sorted.{IsNonDecreasingBy};
+ghost use Rattle.sqfacts.specs.Runs.{TellFirstFaults, expanded};
 
 use crate::faults::first_fault;
 use sqcheck::Role;
@@ -33,7 +34,9 @@ pub fn number_of(i: usize) -> u32
 
 /// The uses of all pages: the roles that a survey told, and its faults, which are in the order of their pages.
 pub fn uses_of(alloc: Global, roles: &[Role], faults: &[CheckError]) -> Result<Vec<Use>, AllocError>
-    ensures { IfOk result (λ uses. map (λ u. u.role) uses.items ≡ roles.now) }
+    ensures roles { IfOk result (λ uses. map (λ u. u.role) uses.items ≡ roles.now) }
+    ensures faults { IsNonDecreasingBy (λ e. e.page) faults.now
+        → IfOk result (λ uses. TellFirstFaults faults.now uses.items) }
 {
     let mut uses = Vec::with_capacity(alloc, roles.len())?;
     for i in 0..roles.len() {

@@ -79,6 +79,14 @@ StopsAtRecord z b count nonce at Sum =
     (at + record_len z ≤ length b) × (word b at ≢ 0) × (word b (at + 4 + z.page) ≢ nonce_sum nonce (part b (at + 4) z.page))
 StopsAtRecord z b count nonce at Header = ⊥
 
+-- what a journal ends at is a whole header, its sector, or a whole record
+abbrev pub IsWholeAt : Sizes → List ℕ → (at : ℕ) → Why → Type 0
+IsWholeAt z b at Header = at + z.sector ≤ length b
+IsWholeAt z b at PageZero = at + record_len z ≤ length b
+IsWholeAt z b at Sum = at + record_len z ≤ length b
+IsWholeAt z b at End = ⊥
+IsWholeAt z b at Short = ⊥
+
 -- the segments from the header at a place on, and where and why the journal ends: each segment is a valid header, its
 -- sector, and records. All but the last have as many records as their counts say, and the next header is at the least
 -- multiple of the sector that isn't below their end.

@@ -3,7 +3,7 @@ use Rattle.std.specs.Prelude.{◌≡◌, ◌⊎◌, ℕ, ◌+◌, ◌-◌, ◌^�
 use Rattle.sqval.specs.Bytes.{word}
 use Rattle.sqval.specs.Database.{Pages}
 use Rattle.sqjournal.specs.Header.{next_header, IsFirstHeader, Names}
-use Rattle.sqjournal.specs.Journal.{Segment, Sizes, record_len, records_end, AreRecords, AreAll, AreFewer, StopsAtRecord, AreSegments, placed, entries}
+use Rattle.sqjournal.specs.Journal.{Segment, Sizes, record_len, records_end, AreRecords, AreAll, AreFewer, StopsAtRecord, IsWholeAt, AreSegments, placed, entries}
 use Rattle.sqjournal.specs.declared.header.JournalHeader.{JournalHeader}
 use Rattle.sqjournal.specs.declared.reading.Record.{Record}
 use Rattle.sqjournal.specs.declared.reading.Why.{Why}
@@ -45,6 +45,11 @@ abbrev pub Asks : Next → Type 0
 Asks (Records nonce left) = 0 < left
 Asks _ = Unit {0}
 
+-- a reading ends at a whole header or record
+abbrev pub IsWholeIfOver : Sizes → List ℕ → (at : ℕ) → Next → Type 0
+IsWholeIfOver z b at (Over why) = IsWholeAt z b at why
+IsWholeIfOver z b at _ = Unit {0}
+
 -- a reading of bytes with a first header
 pub record Stands (b : List ℕ) (r : Reading) (es : List Record) : Type 0 where
   pub long : 28 ≤ length b
@@ -52,6 +57,7 @@ pub record Stands (b : List ℕ) (r : Reading) (es : List Record) : Type 0 where
   pub names : Names b r.header
   pub begun : ((r.at ≡ 0) × (r.next ≡ NewSegment) × (es ≡ [])) ⊎ (word b 20 ≤ length b)
   pub asks : Asks r.next
+  pub whole : IsWholeIfOver (sizes r.header) b r.at r.next
   pub rest : Continues (sizes r.header) b r.next r.at es
 
 -- how many bytes the header's sector or the record has that is next

@@ -1,7 +1,7 @@
 -- What a replay of a journal is after the bytes that came so far, and what its calls answer (own).
 use Rattle.std.specs.Prelude.{◌≡◌, ℕ, ◌^◌, ◌<◌, ◌≤◌, List, [], ◌++◌, length, Result, MatchResult, Option, MatchOption}
 use Rattle.sqjournal.specs.Header.{IsFirstHeader, IsRefused}
-use Rattle.sqjournal.specs.Journal.{Segment, IsJournal, entries, entry_of, sizes_of}
+use Rattle.sqjournal.specs.Journal.{Segment, IsHot, IsJournal, IsWholeAt, entries, entry_of, sizes_of}
 use Rattle.sqjournal.specs.Reading.{Stands, Waits}
 use Rattle.sqjournal.specs.declared.error.JournalError.{JournalError}
 use Rattle.sqjournal.specs.declared.error.JournalError.TheVariants.{NoMemory, TooLong}
@@ -67,6 +67,14 @@ pub record Says (b : List ℕ) (es : List Record) (stop : Stop) : Type 0 where
   pub segments : List Segment
   pub is : IsJournal b segments stop.at stop.why
   pub records : entries (sizes_of b) 0 segments ≡ es
+
+-- the journal of these bytes is hot, and ends at a header or a record that is whole
+pub record EndsWhole (b : List ℕ) : Type 0 where
+  pub hot : IsHot b
+  pub segments : List Segment
+  pub stop : Stop
+  pub is : IsJournal b segments stop.at stop.why
+  pub whole : IsWholeAt (sizes_of b) b stop.at stop.why
 
 -- whatever bytes follow, the journal of them all says the same
 abbrev pub IsSettled : List ℕ → Type 0

@@ -1,5 +1,5 @@
 //! A reading of a journal: where it goes on, and with what (fileformat2, 3; later segments and why it ends are own).
-ghost use Rattle.std.specs.Prelude.{IsTrue, ◌≡◌, ◌⊎◌, ℕ, ◌+◌, ◌-◌, ◌*◌, ◌^◌, min, ◌<◌, ◌≤◌, ◌++◌, List, length};
+ghost use Rattle.std.specs.Prelude.{IsTrue, ◌≡◌, ◌⊎◌, ◌↔◌, ℕ, ◌+◌, ◌-◌, ◌*◌, ◌^◌, min, ◌<◌, ◌≤◌, ◌++◌, List, length};
 ghost use Rattle.std.specs.Prelude.{MatchOption, option_to_list};
 ghost use Rattle.sqval.specs.Bytes.{part};
 ghost use Rattle.sqjournal.specs.Header.{next_header};
@@ -59,7 +59,7 @@ pub(crate) struct Reading {
 impl Reading {
     /// Whether the journal ended.
     pub fn is_over(&self) -> bool
-        ensures { IsTrue result → IsOver self.now.next }
+        ensures { IsTrue result ↔ IsOver self.now.next }
     {
         matches!(self.next, Next::Over(_))
     }

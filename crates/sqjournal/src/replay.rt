@@ -39,12 +39,12 @@ pub struct Replay {
 }
 
 impl Replay {
-    ghost use Rattle.std.specs.Prelude.{IsTrue, ◌++◌, ◌+◌, List, [], Option, Some, None, IfOk, MatchOption};
+    ghost use Rattle.std.specs.Prelude.{IsTrue, ◌++◌, ◌+◌, ◌↔◌, List, [], Option, Some, None, IfOk, MatchOption};
     ghost use Rattle.std.specs.Prelude.{MatchResult};
     ghost use Rattle.sqjournal.specs.Header.{IsRefused};
     ghost use Rattle.sqjournal.specs.Journal.{IsFirst};
     ghost use Rattle.sqjournal.specs.declared.error.JournalError.TheVariants.{NoMemory};
-    ghost use Rattle.sqjournal.specs.Took.{Took, IsSettled, Feeds, StopsSo, HasEntry, HasCount};
+    ghost use Rattle.sqjournal.specs.Took.{Took, EndsWhole, IsSettled, Feeds, StopsSo, HasEntry, HasCount};
     ghost use Rattle.sqjournal.specs.internal.Took.{GoesOn};
 
     /// A replay of which no byte came.
@@ -180,7 +180,8 @@ impl Replay {
     /// Whether the journal ends at a header or a record that is whole. No bytes that may follow change what it says
     /// then, and they needn't be fed.
     pub fn is_over(&self) -> bool
-        ensures { IsTrue result → (b : List ℕ) → Took b self.now → IsSettled b }
+        ensures whole { (b : List ℕ) → Took b self.now → (IsTrue result ↔ EndsWhole b) }
+        ensures settled { IsTrue result → (b : List ℕ) → Took b self.now → IsSettled b }
     {
         match self.reading {
             Some(reading) => reading.is_over(),

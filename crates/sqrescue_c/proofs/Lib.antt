@@ -3,3 +3,4 @@ pub mod ReportedFindings
 pub mod CopiedFrames
 pub mod CopiedCommits
 pub mod CopiedRecords
+pub mod AskedRecovery

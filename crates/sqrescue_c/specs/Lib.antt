@@ -1,5 +1,7 @@
 pub mod Statuses
 pub mod Views
+pub mod Recoveries
+pub mod Names
 pub mod Checks
 pub mod Logs
 pub mod Commits

@@ -2,3 +2,4 @@
 pub mod Statuses
 pub mod Logs
 pub mod Journals
+pub mod Recoveries

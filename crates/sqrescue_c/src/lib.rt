@@ -5,6 +5,8 @@
 mod check;
 mod commits;
 mod journal;
+mod names;
+mod recovery;
 mod status;
 mod view;
 mod wal;

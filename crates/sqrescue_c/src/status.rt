@@ -39,11 +39,15 @@ pub(crate) enum Status {
     /// Its sums are wrong.
     Sum,
     /// It is of another version.
-    Version,
+    LogVersion,
+    /// The hot journal names a super-journal.
+    SuperJournal,
+    /// The log's pages are of another size than the database file's.
+    PageSizesDiffer,
 }
 
 impl Status {
-    /// From Done, 0, to Version, 14, in the order of the enum.
+    /// From Done, 0, to PageSizesDiffer, 16, in the order of the enum.
     pub(crate) fn number(self) -> u32
         ensures { result ≡ number_of self }
     {
@@ -62,7 +66,9 @@ impl Status {
             Status::Magic => 11,
             Status::PageSize => 12,
             Status::Sum => 13,
-            Status::Version => 14,
+            Status::LogVersion => 14,
+            Status::SuperJournal => 15,
+            Status::PageSizesDiffer => 16,
         }
     }
 }
@@ -103,7 +109,7 @@ pub(crate) fn wal_number(error: WalFormatError) -> u32
         WalFormatError::NotAWal => Status::Magic,
         WalFormatError::PageSize => Status::PageSize,
         WalFormatError::HeaderSum => Status::Sum,
-        WalFormatError::UnknownVersion => Status::Version,
+        WalFormatError::UnknownVersion => Status::LogVersion,
         WalFormatError::TooLong => Status::TooLarge,
         WalFormatError::NoMemory => Status::NoMemory,
     }

@@ -5,8 +5,10 @@ ghost use Rattle.sqval.specs.Database.{page};
 ghost use Rattle.sqview.specs.Laid.{laid, part_or_zeros, place_of};
 ghost use Rattle.sqview.specs.LogView.{ReadsFrom, ViewRefused, pages_of};
 ghost use Rattle.sqview.specs.internal.LogView.{IsShown};
+ghost use Rattle.sqrescue_c.specs.Recoveries.{RefusesAsRecovery, RefusesAsRecoveryAt};
 ghost use Rattle.sqrescue_c.specs.Views.{HasSize, IsOpened, IsRefused, OpenRefused, IsOpenedAt, AtRefusedBy};
 
+use crate::recovery::{ask, ask_at};
 use crate::status::{Status, view_number};
 use sqpage::PageSource;
 use sqview::{FileBytes, View, ViewError};
@@ -52,8 +54,8 @@ fn view_of<'a>(alloc: Global, files: &Files<'a>) -> Result<View<&'a [u8]>, ViewE
 }
 
 /// The page size, in bytes, and the number of pages of the database that files show. Answers Done, or TwoLogs,
-/// TooLarge or NotADatabase, in this order, or NoMemory in place of any, and then leaves both as they are
-/// (fileformat2, 3 and 4.5).
+/// LogVersion, PageSizesDiffer or SuperJournal, TooLarge or NotADatabase, in this order, as a recovery does, or
+/// NoMemory in place of any but LogVersion and SuperJournal, and then leaves both as they are (fileformat2, 3 and 4.5).
 #[unsafe(no_mangle)]
 pub extern "C" fn sqr_size(
     alloc: Global,
@@ -63,10 +65,15 @@ pub extern "C" fn sqr_size(
 ) -> u32
     ensures size { result ≡ 0
         → HasSize files.now.db.now files.now.wal.now files.now.journal.now page_size.new pages.new }
-    ensures refused { result ≢ 0 → IsRefused files.now.db.now files.now.wal.now files.now.journal.now result }
+    ensures refused { result ≢ 0 → result < 14
+        → IsRefused files.now.db.now files.now.wal.now files.now.journal.now result }
+    ensures recovery { RefusesAsRecovery files.now.db.now files.now.wal.now files.now.journal.now result }
     ensures size_kept { result ≢ 0 → page_size.new ≡ page_size.old }
     ensures pages_kept { result ≢ 0 → pages.new ≡ pages.old }
 {
+    if let Err(status) = ask(alloc, files) {
+        return status.number();
+    }
     match view_of(alloc, files) {
         Ok(view) => {
             *page_size = view.page_size().get();
@@ -120,11 +127,15 @@ pub extern "C" fn sqr_open<'a>(
 ) -> u32
     ensures opened { result ≡ 0 → IsOpened files.now.db.now files.now.wal.now files.now.journal.now
         out.new.page_size out.new.pages out.new.db.now out.new.log.now out.new.places.now }
-    ensures refused { result ≢ 0
+    ensures refused { result ≢ 0 → result < 14
         → OpenRefused files.now.db.now files.now.wal.now files.now.journal.now (length places.old) result }
+    ensures recovery { RefusesAsRecovery files.now.db.now files.now.wal.now files.now.journal.now result }
     ensures room { result ≡ 0 → length out.new.places.now ≤ length places.old }
     ensures kept { result ≢ 0 → out.new ≡ out.old }
 {
+    if let Err(status) = ask(alloc, files) {
+        return status.number();
+    }
     let view = match view_of(alloc, files) {
         Ok(view) => view,
         Err(error) => return view_number(error),
@@ -145,9 +156,9 @@ fn view_at<'a>(alloc: Global, files: &Files<'a>, frame: u32) -> Result<View<&'a 
 
 /// Opens the database of files with their write-ahead log up to a commit frame; at frame 0 the file without its log,
 /// also beside a hot journal. The places are the handle's from then on: one for each page, none at frame 0. Answers
-/// Done, or TwoLogs, TooLarge, NoSuchCommit, TooLarge of that database, NotADatabase at frame 0, or NoRoom where there
-/// are fewer places, in this order, or NoMemory in place of any, and then leaves the handle and the places as they are
-/// (fileformat2, 4.5).
+/// Done, or TwoLogs, LogVersion, PageSizesDiffer, TooLarge, NoSuchCommit, TooLarge of that database, NotADatabase at
+/// frame 0, or NoRoom where there are fewer places, in this order, or NoMemory in place of any but LogVersion, and then
+/// leaves the handle and the places as they are (fileformat2, 4.5).
 #[unsafe(no_mangle)]
 pub extern "C" fn sqr_open_at<'a>(
     alloc: Global,
@@ -158,11 +169,16 @@ pub extern "C" fn sqr_open_at<'a>(
 ) -> u32
     ensures opened { result ≡ 0 → IsOpenedAt frame files.now.db.now files.now.wal.now files.now.journal.now
         out.new.page_size out.new.pages out.new.db.now out.new.log.now out.new.places.now }
-    ensures refused { result ≢ 0
+    ensures refused { result ≢ 0 → result < 14
         → AtRefusedBy frame files.now.db.now files.now.wal.now files.now.journal.now (length places.old) result }
+    ensures recovery { RefusesAsRecoveryAt frame
+        files.now.db.now files.now.wal.now files.now.journal.now result }
     ensures room { result ≡ 0 → length out.new.places.now ≤ length places.old }
     ensures kept { result ≢ 0 → out.new ≡ out.old }
 {
+    if let Err(status) = ask_at(alloc, files, frame) {
+        return status.number();
+    }
     let view = match view_at(alloc, files, frame) {
         Ok(view) => view,
         Err(error) => return view_number(error),

@@ -2,6 +2,7 @@
 ghost use Rattle.std.specs.Prelude.{◌≡◌, ◌≢◌, ◌⊎◌, ◌<◌, ◌≤◌, ℕ, List, length, get_or, IfOk, IfErr};
 ghost use Rattle.sqwal.specs.Answers.{LogRefused};
 ghost use Rattle.sqwal.specs.Took.{Took};
+ghost use Rattle.sqwal.specs.declared.error.WalFormatError.TheVariants.{TooLong};
 ghost use Rattle.sqrescue_c.specs.Logs.{IsScanned, AreFrames, WalRefused, scanned_size};
 ghost use Rattle.sqrescue_c.specs.internal.Logs.{frame_of, no_entry};
 ghost use Rattle.sqrescue_c.specs.Statuses.{wal_why};
@@ -42,6 +43,7 @@ pub struct WalReport {
 /// The scan of a whole log.
 pub(crate) fn scan_of(alloc: Global, wal: &[u8]) -> Result<Scan, WalFormatError>
     ensures took { IfOk result (Took wal.now) }
+    ensures short { IfOk result (λ _. ¬ LogRefused wal.now TooLong) }
     ensures refused { IfErr result (LogRefused wal.now) }
 {
     let mut scan = Scan::new(alloc);

@@ -27,3 +27,12 @@ ServesNext {E} {V} kind event old new = (base : Base) (events : List V) → HasS
 -- nothing is answered, and what was answered stays
 abbrev pub StaysServed : {E V : Type 0} (kind : WorldKind E V) {bound : Ghosts E V} → (old new : WorldOf E V bound) → Type 0
 StaysServed {E} {V} kind old new = (base : Base) (events : List V) → HasServed kind base events old → HasServed kind base events new
+
+-- the world is as it was
+pub record IsUnchanged {E V : Type 0} {bound : Ghosts E V} (old new : WorldOf E V bound) : Type 0 where
+  pub page_size : new.page_size ≡ old.page_size
+  pub tears : new.tears ≡ old.tears
+  pub engine : new.engine ≡ old.engine
+  pub run : new.run ≡ old.run
+  pub served : new.served ≡ old.served
+  pub failed : new.failed ≡ old.failed

@@ -122,7 +122,7 @@ pub type World = WorldOf<WalEngine>;
 
 impl<E: Engine> WorldOf<E> {
     ghost use Rattle.crashdisk.specs.Model.{state_of};
-    ghost use Rattle.sqworld.specs.Stepping.{HasServed, IsRunOfServed, ServesNext, StaysServed};
+    ghost use Rattle.sqworld.specs.Stepping.{HasServed, IsRunOfServed, IsUnchanged, ServesNext, StaysServed};
 
     /// A closed engine on a modelled disk of the base, before the first event; NoMemory alone.
     pub fn new(alloc: Global, base: &Base) -> Result<WorldOf<E>, NoMemory>
@@ -181,8 +181,10 @@ impl<E: Engine> WorldOf<E> {
         &self.run
     }
 
-    /// A disk of its own that lists the same as the world's, of which the same is set; NoMemory alone.
+    /// A disk of its own that lists the same as the world's, of which the same is set; NoMemory alone. The world stays
+    /// as it is.
     pub fn disk(&mut self) -> Result<ModelDisk, NoMemory>
+        ensures same { IsUnchanged self.old self.new }
         ensures run { self.new.run ≡ self.old.run }
         ensures served { StaysServed E.kind self.old self.new }
         ensures listed { IfOk result (λ disk. IfSome self.old.engine

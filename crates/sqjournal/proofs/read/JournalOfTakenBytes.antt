@@ -116,5 +116,6 @@ fresh w h long first names = record {
   names = names;
   begun = inl (refl, refl, refl);
   asks = tt;
+  whole = tt;
   rest = λ more rs ss at why reads. record { segments = ss; are = reads.1; all = refl };
 }

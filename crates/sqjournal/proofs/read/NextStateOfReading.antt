@@ -12,12 +12,12 @@ use Rattle.sqval.specs.PageSize.{IsPageSize}
 use Rattle.sqjournal.specs.declared.error.JournalError.{JournalError}
 use Rattle.sqjournal.specs.declared.error.JournalError.TheVariants.{NotAJournal, SectorSize, PageSize, NoMemory, TooLong}
 use Rattle.sqjournal.specs.Journal.{Sizes, record_len, IsHeader, IsRecord, StopsAtRecord}
-use Rattle.sqjournal.specs.Reading.{sizes, Continues, Asks, Stands, len_of, next_len, IsOver, UnlessOver, Keeps, Waits}
+use Rattle.sqjournal.specs.Reading.{sizes, Continues, Asks, IsWholeIfOver, Stands, len_of, next_len, IsOver, UnlessOver, Keeps, Waits}
 use Rattle.sqjournal.specs.internal.Reading.{IsNext}
 use Rattle.sqjournal.specs.declared.header.JournalHeader.{JournalHeader}
 use Rattle.sqjournal.specs.declared.reading.Record.{Record}
 use Rattle.sqjournal.specs.declared.reading.Reading.{Reading}
-use Rattle.sqjournal.specs.declared.reading.Why.TheVariants.{Header, PageZero, Sum}
+use Rattle.sqjournal.specs.declared.reading.Why.TheVariants.{End, Header, Short, PageZero, Sum}
 use Rattle.sqjournal.specs.declared.reading.Next.{Next}
 use Rattle.sqjournal.specs.declared.reading.Next.TheVariants.{NewSegment, Records, Over}
 use Rattle.sqjournal.proofs.journal.DependenceOnPrefix.{part_more, word_more, part_part, word_part, part_front, word_front_of}
@@ -25,13 +25,16 @@ use Rattle.sqjournal.proofs.read.StepsOfReading.{continues_more, header_none, he
 
 -- what stands at another place
 stands_at : (b : List ℕ) (r r' : Reading) (es es' : List Record) (next : Next) (from : ℕ) → Stands b r es → r'.header ≡ r.header → word b 20 ≤ length b
-    → r'.next ≡ next → r'.at ≡ from → Asks next → Continues (sizes r.header) b next from es' → Stands b r' es'
-stands_at b r r' es es' next from s eh hot en ea asks go = record {
+    → r'.next ≡ next → r'.at ≡ from → Asks next → IsWholeIfOver (sizes r.header) b from next → Continues (sizes r.header) b next from es' → Stands b r' es'
+stands_at b r r' es es' next from s eh hot en ea asks whole go = record {
   long = s.long;
   first = s.first;
   names = subst (λ (h : JournalHeader). Names b h) (sym eh) s.names;
   begun = inr hot;
   asks = subst (λ (n : Next). Asks n) (sym en) asks;
+  whole = subst (λ (h : JournalHeader). IsWholeIfOver (sizes h) b r'.at r'.next) (sym eh)
+      (subst (λ (n : Next). IsWholeIfOver (sizes r.header) b r'.at n) (sym en)
+      (subst (λ (a : ℕ). IsWholeIfOver (sizes r.header) b a next) (sym ea) whole));
   rest = subst (λ (h : JournalHeader). Continues (sizes h) b r'.next r'.at es') (sym eh)
       (subst (λ (n : Next). Continues (sizes r.header) b n r'.at es') (sym en)
       (subst (λ (a : ℕ). Continues (sizes r.header) b next a es') (sym ea) go));
@@ -61,7 +64,7 @@ pub header_ends : (b unit : List ℕ) (r r' : Reading) (es : List Record) → St
 header_ends b unit r r' es s is e least bad eh ea en =
     let n = next_of b unit r NewSegment is e in
     let bad_here : HasMagic b r.at → ⊥ = λ m. bad (ap (λ u. part u 0 8) (sym n.0) ∙ part_front b r.at r.header.sector 8 (omega arith) ∙ m) in
-    stands_at b r r' es es (Over Header) r.at s eh (sector_hot b r es s n.1) en ea tt
+    stands_at b r r' es es (Over Header) r.at s eh (sector_hot b r es s n.1) en ea tt n.1
     (header_bad (sizes r.header) b r.at es least n.1 (rest_of b r es NewSegment s e) bad_here)
 
 pub header_goes : (b unit : List ℕ) (r r' : Reading) (es : List Record) (count nonce end : ℕ) → Stands b r es → IsNext b r unit → r.next ≡ NewSegment → 512 ≤ r.header.sector
@@ -78,9 +81,9 @@ header_goes b unit r r' es count nonce end s is e least magic c n eh ends none s
     let go = rest_of b r es NewSegment s e in
     let hot = sector_hot b r es s u.1 in
     ⊎_elim
-    (λ z. let to = none z in stands_at b r r' es es NewSegment _ s eh hot to.0 (to.1 ∙ ap (next_header r.header.sector) ends) tt
+    (λ z. let to = none z in stands_at b r r' es es NewSegment _ s eh hot to.0 (to.1 ∙ ap (next_header r.header.sector) ends) tt tt
     (header_none (sizes r.header) b r.at es least go header (sym (at_word 8 (omega arith)) ∙ sym c ∙ z)))
-    (λ z. let positive : 0 < count = omega (arith, z) in let to = some positive in stands_at b r r' es es (Records nonce count) _ s eh hot to.0 (to.1 ∙ ends) positive
+    (λ z. let positive : 0 < count = omega (arith, z) in let to = some positive in stands_at b r r' es es (Records nonce count) _ s eh hot to.0 (to.1 ∙ ends) positive tt
     (header_some (sizes r.header) b r.at count nonce es least go header (c ∙ at_word 8 (omega arith)) (n ∙ at_word 12 (omega arith))))
     (cases_eq count 0)
 
@@ -111,7 +114,7 @@ page_zero b unit r r' es nonce left s is e zero_page eh ea en =
     let stops : (more : List ℕ) → StopsAtRecord (sizes r.header) (b ++ more) left nonce r.at PageZero =
     λ more. (simp length-append (omega (arith, p.whole)), word_more b more r.at (omega (arith, p.whole)) ∙ sym p.page ∙ zero_page) in
     subst (λ (l : List Record). Stands b r' l) (sym (append-nil es))
-    (stands_at b r r' es es (Over PageZero) r.at s eh (hot_within b r es nonce left s e) en ea tt
+    (stands_at b r r' es es (Over PageZero) r.at s eh (hot_within b r es nonce left s e) en ea tt p.whole
     (record_bad (sizes r.header) b nonce left r.at PageZero es (asks_of b r es (Records nonce left) s e) (rest_of b r es (Records nonce left) s e) stops))
 
 pub wrong_sum : (b unit : List ℕ) (r r' : Reading) (es : List Record) (nonce left : ℕ) → Stands b r es → IsNext b r unit → r.next ≡ Records nonce left
@@ -127,7 +130,7 @@ wrong_sum b unit r r' es nonce left s is e named wrong eh ea en =
       λ q. wrong (p.sum ∙ sym (word_more b more (r.at + 4 + z.page) (omega (arith, p.whole))) ∙ q ∙ ap (nonce_sum nonce) (part_more b more (r.at + 4) z.page (omega (arith, p.whole)) ∙ sym p.content)),
     ) in
     subst (λ (l : List Record). Stands b r' l) (sym (append-nil es))
-    (stands_at b r r' es es (Over Sum) r.at s eh (hot_within b r es nonce left s e) en ea tt
+    (stands_at b r r' es es (Over Sum) r.at s eh (hot_within b r es nonce left s e) en ea tt p.whole
     (record_bad z b nonce left r.at Sum es (asks_of b r es (Records nonce left) s e) (rest_of b r es (Records nonce left) s e) stops))
 
 pub record_goes : (b unit : List ℕ) (r r' : Reading) (es : List Record) (nonce left page then end : ℕ) → Stands b r es → IsNext b r unit → r.next ≡ Records nonce left
@@ -150,15 +153,24 @@ record_goes b unit r r' es nonce left page then end s is e fits pw named right t
       sum = sym p.sum ∙ right ∙ ap (nonce_sum nonce) p.content;
     } in
     ⊎_elim
-    (λ q. let to = none q in stands_at b r r' es (es ++ record { page = page; at = r.at + 4 } ∷ []) NewSegment _ s eh hot to.0 (to.1 ∙ ap (next_header r.header.sector) ends) tt
+    (λ q. let to = none q in stands_at b r r' es (es ++ record { page = page; at = r.at + 4 } ∷ []) NewSegment _ s eh hot to.0 (to.1 ∙ ap (next_header r.header.sector) ends) tt tt
     (record_last z b nonce left r.at (page, part b (r.at + 4) z.page) es fits asks (sym t ∙ q) go stands))
     (λ q. let positive : 0 < then = omega (arith, q) in let to = some positive in
-    stands_at b r r' es (es ++ record { page = page; at = r.at + 4 } ∷ []) (Records nonce then) _ s eh hot to.0 (to.1 ∙ ends) positive
+    stands_at b r r' es (es ++ record { page = page; at = r.at + 4 } ∷ []) (Records nonce then) _ s eh hot to.0 (to.1 ∙ ends) positive tt
     (subst (λ (l : ℕ). Continues z b (Records nonce l) (r.at + record_len z) (es ++ record { page = page; at = r.at + 4 } ∷ [])) (sym t)
     (record_some z b nonce left r.at (page, part b (r.at + 4) z.page) es fits asks go stands)))
     (cases_eq then 0)
 
 -- ---- more bytes
+
+whole_more : (z : Sizes) (b piece : List ℕ) (at : ℕ) (next : Next) → IsWholeIfOver z b at next → IsWholeIfOver z (b ++ piece) at next
+whole_more z b piece at NewSegment w = tt
+whole_more z b piece at (Records nonce left) w = tt
+whole_more z b piece at (Over End) w = w
+whole_more z b piece at (Over Header) w = simp length-append (omega (arith, w))
+whole_more z b piece at (Over Short) w = w
+whole_more z b piece at (Over PageZero) w = simp length-append (omega (arith, w))
+whole_more z b piece at (Over Sum) w = simp length-append (omega (arith, w))
 
 pub stands_more : (b piece : List ℕ) (r : Reading) (es : List Record) → Stands b r es → Stands (b ++ piece) r es
 stands_more b piece r es s =
@@ -179,6 +191,7 @@ stands_more b piece r es s =
       };
       begun = ⊎_elim (λ p. inl p) (λ hot. inr (rw (words 20 (omega arith)) (simp length-append (omega arith)))) s.begun;
       asks = s.asks;
+      whole = whole_more (sizes r.header) b piece r.at r.next s.whole;
       rest = continues_more (sizes r.header) b piece r.next r.at es s.rest;
     }
 

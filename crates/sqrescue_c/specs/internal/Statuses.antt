@@ -18,4 +18,6 @@ number_of statuses.NoSuchCommit = 10
 number_of statuses.Magic = 11
 number_of statuses.PageSize = 12
 number_of statuses.Sum = 13
-number_of statuses.Version = 14
+number_of statuses.LogVersion = 14
+number_of statuses.SuperJournal = 15
+number_of statuses.PageSizesDiffer = 16

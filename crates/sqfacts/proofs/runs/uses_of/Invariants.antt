@@ -1,5 +1,10 @@
 use Rattle.std.proofs.Common.{◌≡◌, map, take}
+use Rattle.std.specs.List.Sorted.{IsNonDecreasingBy}
+use Rattle.sqfacts.specs.Runs.{TellFirstFaults}
 use Rattle.sqfacts.proofs.runs.uses_of.Given as goal
 
 abbrev pub invariant-loop-i : goal.invariant-loop-i
-invariant-loop-i l = map (λ u. u.role) l.uses.items ≡ take l.i l.roles
+invariant-loop-i l = record {
+  roles : map (λ u. u.role) l.uses.items ≡ take l.i l.roles;
+  faults : IsNonDecreasingBy (λ e. e.page) l.faults → TellFirstFaults l.faults l.uses.items;
+}

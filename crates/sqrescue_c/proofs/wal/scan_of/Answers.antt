@@ -9,3 +9,6 @@ returns-in_err-feed-clause-refused c =
 
 pub returns-clause-took : goal.returns-clause-took
 returns-clause-took c = (c.in_ok-feed.ensures _ [] c.new-scan.ensures).0
+
+pub returns-clause-short : goal.returns-clause-short
+returns-clause-short c = (c.in_ok-feed.ensures _ [] c.new-scan.ensures).1

@@ -42,7 +42,7 @@ returns-then-is_over-clause-answer g c = λ gives.
     let le = piece_within xs b c.loop-at.at c.len-end.result c.min-count.result long c.min-count.ensures c.loop-at-test.true (i.end gives) in
     let fed = replay_on b (g.F.FileBytes.bytes c.loop-at.journal) i.same c.loop-at.at n le c.replay_piece.result c.loop-at.replay c.replay_piece.new.replay short (i.took gives) (c.replay_piece.ensures.fed (i.gives gives)) in
     let took = replay_good b (c.loop-at.at + n) c.replay_piece.result c.replay_piece.new.replay fed c.in_ok-error.field-0 c.in_default-2.field-0 c.in_ok-error.was c.in_default-2.is in
-    (short, over_read b (c.loop-at.at + n) c.replay_piece.new.replay (c.is_over.ensures c.if-is_over.true (take (c.loop-at.at + n) b) took) took)
+    (short, over_read b (c.loop-at.at + n) c.replay_piece.new.replay (c.is_over.ensures.settled c.if-is_over.true (take (c.loop-at.at + n) b) took) took)
 
 pub returns-then-is_over-clause-still_gives : goal.returns-then-is_over-clause-still_gives
 returns-then-is_over-clause-still_gives g c = λ gives. c.replay_piece.ensures.still_gives (c.loop-at.invariant.gives gives)

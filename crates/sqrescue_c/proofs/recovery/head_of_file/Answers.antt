@@ -1,0 +1,5 @@
+use Rattle.sqrescue_c.proofs.AskedRecovery.{head_as_read}
+use Rattle.sqrescue_c.proofs.recovery.head_of_file.Goals as goal
+
+pub returns-in-Ok : goal.returns-in-Ok
+returns-in-Ok c = head_as_read c.args.db.now c.read_at.new.out (c.read_at.ensures.read tt).1

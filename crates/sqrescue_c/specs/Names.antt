@@ -1,0 +1,28 @@
+-- The names of statuses, and how a name is written for C (own).
+use Rattle.std.specs.Prelude.{ℕ, ◌-◌, ◌==◌, if◌then◌else◌, List, ◌++◌, length, replicate, codes}
+
+-- a name of less than 24 bytes, and zeros behind it up to the 24th
+abbrev pub padded : List ℕ → List ℕ
+padded name = name ++ replicate (24 - length name) 0
+
+-- the name of a status by its number
+abbrev pub status_name : ℕ → List ℕ
+status_name n =
+    (if n == 0 then codes "ok" else
+    (if n == 1 then codes "damaged" else
+    (if n == 2 then codes "two logs" else
+    (if n == 3 then codes "too large" else
+    (if n == 4 then codes "auto-vacuum" else
+    (if n == 5 then codes "not a database" else
+    (if n == 6 then codes "no memory" else
+    (if n == 7 then codes "no such page" else
+    (if n == 8 then codes "wrong size" else
+    (if n == 9 then codes "no room" else
+    (if n == 10 then codes "no such commit" else
+    (if n == 11 then codes "magic" else
+    (if n == 12 then codes "page size" else
+    (if n == 13 then codes "checksum" else
+    (if n == 14 then codes "unknown log version" else
+    (if n == 15 then codes "super-journal" else
+    (if n == 16 then codes "page sizes differ" else
+    codes "?")))))))))))))))))
