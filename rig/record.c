@@ -1,24 +1,27 @@
 /* Records what a program does to a database file and its two logs, as docs/TRACE.md says. rig/record builds it and runs
-   a program with it, loaded before the C library. Each call is made first and then recorded, under one lock, so that
-   the records stand in the order of the calls' effects. A record that can't be written ends the process with status 97:
-   no trace is better than one with a gap. */
+   a program with it, loaded before the C library. Each call on one of the files is made first and then recorded, under
+   one lock, so that the records stand in the order of the calls' effects; calls on other files, which may wait, are
+   made without it. A record that can't be written ends the process with status 97: no trace is better than one with a
+   gap. */
 #define _GNU_SOURCE
 #include <dlfcn.h>
 #include <errno.h>
 #include <fcntl.h>
 #include <pthread.h>
+#include <signal.h>
 #include <stdarg.h>
 #include <stdint.h>
 #include <stdio.h>
 #include <stdlib.h>
 #include <string.h>
 #include <sys/mman.h>
+#include <sys/prctl.h>
 #include <sys/stat.h>
 #include <sys/syscall.h>
 #include <sys/uio.h>
 #include <unistd.h>
 
-enum kind { BASE = 1, OPEN, CLOSE, WRITE, CUT, SYNC, UNLINK, RENAME, FOLDER_SYNC, MARK, NOT_HELD };
+enum kind { BASE = 1, OPEN, CLOSE, WRITE, CUT, SYNC, UNLINK, RENAME, FOLDER_SYNC, MARK, NOT_HELD, END };
 enum file { DB, WAL, JOURNAL, FOLDER, MARKS, OTHER = 255 };
 enum not_held { SHARED_MAP = 1, FALLOCATE, VECTORED_WRITE, LINK };
 
@@ -30,9 +33,18 @@ struct head {
     uint64_t place, length;
 };
 
+/* A name in a folder, which is known by its device and its number there. */
+struct name {
+    char path[NAME_ROOM];
+    const char *last;
+    dev_t device;
+    ino_t folder;
+};
+
 static pthread_mutex_t lock = PTHREAD_RECURSIVE_MUTEX_INITIALIZER_NP;
 static int ready, trace = -1;
-static char names[3][NAME_ROOM], folder[NAME_ROOM], marks[NAME_ROOM];
+static pid_t process;                            /* whose memory this is: a child of vfork has it, too */
+static struct name names[3], marks;
 static uint32_t makings[3];                      /* how often this process saw the name made */
 static struct { uint8_t file; uint32_t making; } held[DESCRIPTORS]; /* by descriptor: 0, or the file and 1 */
 
@@ -104,58 +116,139 @@ static void put(enum kind kind, enum file file, uint32_t making, int64_t answer,
     errno = kept;
 }
 
+/* ---- The files as they lie there when recording begins and when it ends. */
+
+static int open_to_read(enum file file, struct stat *state) {
+    int from = syscall(SYS_openat, AT_FDCWD, names[file].path, O_RDONLY | O_CLOEXEC);
+    if (from >= 0 && fstat(from, state) == 0 && S_ISREG(state->st_mode)) return from;
+    if (from >= 0) syscall(SYS_close, from);
+    return -1;
+}
+
 static void put_base(enum file file) {
     struct stat state;
-    int from = syscall(SYS_openat, AT_FDCWD, names[file], O_RDONLY | O_CLOEXEC);
+    int from = open_to_read(file, &state);
     if (from < 0) return;
-    if (fstat(from, &state) == 0 && S_ISREG(state.st_mode)) {
-        char *bytes = malloc(state.st_size + 1);
-        ssize_t count = 0, more;
-        if (!bytes) _exit(NO_TRACE);
-        while ((more = read(from, bytes + count, state.st_size - count)) > 0) count += more;
-        put(BASE, file, 0, 0, 0, count, bytes);
-        free(bytes);
-    }
+    char *bytes = malloc(state.st_size + 1);
+    ssize_t count = 0, more;
+    if (!bytes) _exit(NO_TRACE);
+    while ((more = read(from, bytes + count, state.st_size - count)) > 0) count += more;
+    put(BASE, file, 0, 0, 0, count, bytes);
+    free(bytes);
     syscall(SYS_close, from);
+}
+
+/* The sum of docs/TRACE.md. */
+static uint64_t sum_of(uint64_t sum, const uint8_t *bytes, size_t count) {
+    for (size_t i = 0; i < count; i++) sum = sum * 1099511628211u + bytes[i];
+    return sum;
+}
+
+static void put_end(enum file file) {
+    static uint8_t bytes[1 << 16];
+    struct stat state;
+    int from = open_to_read(file, &state);
+    uint64_t sum = 0, length = 0;
+    ssize_t more = 0;
+    while (from >= 0 && (more = read(from, bytes, sizeof bytes)) > 0) {
+        sum = sum_of(sum, bytes, more);
+        length += more;
+    }
+    if (more < 0) _exit(NO_TRACE);
+    put(END, file, 0, sum, from >= 0, length, NULL);
+    if (from >= 0) syscall(SYS_close, from);
 }
 
 /* ---- Names. */
 
-static void set_names(const char *path) {
-    char *real = realpath(path, NULL);
-    snprintf(names[DB], sizeof names[DB], "%s", real ? real : path);
-    free(real);
-    snprintf(names[WAL], sizeof names[WAL], "%.*s-wal", PATH_ROOM, names[DB]);
-    snprintf(names[JOURNAL], sizeof names[JOURNAL], "%.*s-journal", PATH_ROOM, names[DB]);
-    snprintf(folder, sizeof folder, "%s", names[DB]);
-    char *end = strrchr(folder, '/');
-    if (end) end[end == folder] = 0;
+static void set_name(struct name *name, const char *path, const char *more) {
+    struct stat state;
+    snprintf(name->path, sizeof name->path, "%.*s%s", PATH_ROOM, path, more);
+    char *end = strrchr(name->path, '/'), kept = 0;
+    name->last = end ? end + 1 : name->path;
+    if (end) kept = end[1], end[1] = 0;
+    if (stat(end ? name->path : ".", &state) == 0) name->device = state.st_dev, name->folder = state.st_ino;
+    if (end) end[1] = kept;
 }
 
-/* The file that this path names, as its letters say. */
-static enum file file_of(int at, const char *path) {
-    char full[2 * NAME_ROOM], current[NAME_ROOM];
-    if (trace < 0 || !path || (path[0] != '/' && at != AT_FDCWD)) return OTHER;
-    if (path[0] != '/') {
-        if (!getcwd(current, sizeof current)) return OTHER;
-        while (path[0] == '.' && path[1] == '/') path += 2;
-        snprintf(full, sizeof full, "%.*s/%.*s", PATH_ROOM, current, PATH_ROOM, path);
-        path = full;
-    }
-    for (int i = DB; i <= JOURNAL; i++) if (!strcmp(path, names[i])) return i;
-    if (!strcmp(path, folder)) return FOLDER;
-    return marks[0] && !strcmp(path, marks) ? MARKS : OTHER;
+static void set_names(const char *path) {
+    char *real = realpath(path, NULL);
+    set_name(&names[DB], real ? real : path, "");
+    free(real);
+    set_name(&names[WAL], names[DB].path, "-wal");
+    set_name(&names[JOURNAL], names[DB].path, "-journal");
+}
+
+static void start(void);
+
+/* Whether this is a child that has its parent's memory: what it does there isn't recorded. */
+static int is_apart(void) {
+    if (!ready) start();
+    return trace < 0 || syscall(SYS_getpid) != process;
+}
+
+static int is_name(const struct name *name, const char *last, const struct stat *folder) {
+    return name->last && !strcmp(name->last, last) && name->device == folder->st_dev && name->folder == folder->st_ino;
+}
+
+/* The file that has this name: by the last part of the path, and the folder that the rest of it leads to. */
+static enum file named(int at, const char *path) {
+    struct stat state;
+    char part[NAME_ROOM];
+    const char *end = strrchr(path, '/'), *last = end ? end + 1 : path;
+    size_t length = end ? (size_t)(end - path) + 1 : 0;
+    int known = marks.last && !strcmp(marks.last, last);
+    for (int i = DB; i <= JOURNAL; i++) known |= !strcmp(names[i].last, last);
+    if (!known || length >= sizeof part) return OTHER;
+    memcpy(part, path, length);
+    part[length] = 0;
+    if (fstatat(at, length ? part : ".", &state, 0) != 0) return OTHER;
+    for (int i = DB; i <= JOURNAL; i++) if (is_name(&names[i], last, &state)) return i;
+    return is_name(&marks, last, &state) ? MARKS : OTHER;
+}
+
+static int is_same(const struct stat *one, const struct stat *other) {
+    return one->st_dev == other->st_dev && one->st_ino == other->st_ino;
+}
+
+/* The file that a path leads to, also by a link. */
+static enum file reached(int at, const char *path) {
+    struct stat link, state, other;
+    enum file file = named(at, path);
+    if (file != OTHER || fstatat(at, path, &link, AT_SYMLINK_NOFOLLOW) != 0) return file;
+    if (!S_ISLNK(link.st_mode) && link.st_nlink == 1) return OTHER;
+    if (fstatat(at, path, &state, 0) != 0) return OTHER;
+    for (int i = DB; i <= JOURNAL; i++) if (stat(names[i].path, &other) == 0 && is_same(&state, &other)) return i;
+    return marks.last && stat(marks.path, &other) == 0 && is_same(&state, &other) ? MARKS : OTHER;
+}
+
+static enum file file_by(enum file (*find)(int, const char *), int at, const char *path) {
+    int kept = errno;
+    enum file file = path && !is_apart() ? find(at, path) : OTHER;
+    errno = kept;
+    return file;
+}
+
+/* The folder of the files, where a descriptor is of that. */
+static enum file folder_of(int descriptor) {
+    struct stat state;
+    int kept = errno;
+    int is = fstat(descriptor, &state) == 0 && state.st_dev == names[DB].device && state.st_ino == names[DB].folder;
+    errno = kept;
+    return is ? FOLDER : OTHER;
 }
 
 static enum file held_by(int descriptor) {
-    return descriptor >= 0 && descriptor < DESCRIPTORS && held[descriptor].file ? held[descriptor].file - 1 : OTHER;
+    if (descriptor < 0 || descriptor >= DESCRIPTORS) return OTHER;
+    uint8_t file = __atomic_load_n(&held[descriptor].file, __ATOMIC_ACQUIRE);
+    return file && !is_apart() ? file - 1 : OTHER;
 }
 
 static void hold(int descriptor, enum file file, uint32_t making) {
-    if (descriptor < 0) return;
+    if (descriptor < 0 || is_apart()) return;
     if (descriptor < DESCRIPTORS) {
-        held[descriptor].file = file == OTHER ? 0 : file + 1;
         held[descriptor].making = making;
+        __atomic_store_n(&held[descriptor].file, file == OTHER ? 0 : file + 1, __ATOMIC_RELEASE);
     } else if (file <= JOURNAL) _exit(NO_TRACE);
 }
 
@@ -166,30 +259,47 @@ static void hold_copy(int descriptor, int copy) {
 
 /* ---- The beginning. */
 
+/* A fork waits until no thread records, and its child has a lock of its own. */
+static void before_fork(void) { pthread_mutex_lock(&lock); }
+static void parent_forked(void) { pthread_mutex_unlock(&lock); }
+static void child_forked(void) {
+    lock = (pthread_mutex_t)PTHREAD_RECURSIVE_MUTEX_INITIALIZER_NP;
+    process = syscall(SYS_getpid);
+}
+
 static void begin(void) {
     const char *file = getenv("SQCRASH_FILE"), *to = getenv("SQCRASH_TRACE"), *lines = getenv("SQCRASH_MARKS");
+    const char *by = getenv("SQCRASH_BY");
     struct stat state;
     find_calls();
+    process = syscall(SYS_getpid);
+    if (by && atoi(by) == getppid()) prctl(PR_SET_PDEATHSIG, SIGTERM); /* the run ends where its recorder does */
     if (!file || !to || strlen(file) >= PATH_ROOM) return;
     set_names(file);
-    if (lines) snprintf(marks, sizeof marks, "%s", lines);
+    if (lines) set_name(&marks, lines, "");
+    pthread_atfork(before_fork, parent_forked, child_forked);
     int opened = syscall(SYS_openat, AT_FDCWD, to, O_WRONLY | O_CREAT | O_APPEND | O_CLOEXEC, 0644);
     if (opened < 0) _exit(NO_TRACE);
     trace = syscall(SYS_fcntl, opened, F_DUPFD_CLOEXEC, FIRST_DESCRIPTOR); /* out of the way of the program's own */
     if (trace < 0) trace = opened;
     else syscall(SYS_close, opened);
     if (fstat(trace, &state) != 0) _exit(NO_TRACE);
-    if (state.st_size > 0) return; /* another process has begun it */
-    put_all("SQCRTR1\n", 8);
-    for (int i = DB; i <= JOURNAL; i++) put_base(i);
+    if (state.st_size == 0) {
+        put_all("SQCRTR1\n", 8);
+        for (int i = DB; i <= JOURNAL; i++) put_base(i);
+    }
+    if (!getenv("SQCRASH_END")) return;
+    for (int i = DB; i <= JOURNAL; i++) put_end(i);
+    trace = -1;
 }
 
 static void enter(void) {
+    static int begun;
     pthread_mutex_lock(&lock);
-    if (!ready) {
-        ready = 1;
-        begin();
-    }
+    if (begun) return;
+    begun = 1;
+    begin();
+    __atomic_store_n(&ready, 1, __ATOMIC_RELEASE);
 }
 
 static void leave(void) {
@@ -211,19 +321,21 @@ static int64_t told(int64_t answer) {
 
 static int open_one(int at, const char *path, int flags, mode_t mode) {
     struct stat state = { 0 };
-    enter();
-    enum file file = file_of(at, path);
-    int there = file <= JOURNAL && stat(path, &state) == 0;
-    if (file > JOURNAL) leave(); /* another file's opening may wait, as that of a FIFO does */
-    int opened = next_openat64(at, path, flags, mode);
-    if (file > JOURNAL) enter();
-    if (file <= JOURNAL) {
-        int made = opened >= 0 && !there;
-        makings[file] += made;
-        put(OPEN, file, makings[file], told(opened), made, (uint32_t)flags, NULL);
-        if (opened >= 0 && (flags & O_TRUNC) && state.st_size > 0) put(CUT, file, makings[file], 0, 0, 0, NULL);
+    enum file file = file_by(reached, at, path);
+    if (!next_openat64) start();
+    if (file > JOURNAL) {
+        int opened = next_openat64(at, path, flags, mode);
+        if (opened >= 0 && !is_apart()) hold(opened, file == MARKS ? MARKS : folder_of(opened), 0);
+        return opened;
     }
-    hold(opened, file, file <= JOURNAL ? makings[file] : 0);
+    enter();
+    int there = fstatat(at, path, &state, 0) == 0;
+    int opened = next_openat64(at, path, flags, mode);
+    int made = opened >= 0 && !there;
+    makings[file] += made;
+    put(OPEN, file, makings[file], told(opened), made, (uint32_t)flags, NULL);
+    if (opened >= 0 && (flags & O_TRUNC) && state.st_size > 0) put(CUT, file, makings[file], 0, 0, 0, NULL);
+    hold(opened, file, makings[file]);
     leave();
     return opened;
 }
@@ -245,31 +357,41 @@ int creat(const char *path, mode_t mode) { return open_one(AT_FDCWD, path, O_CRE
 int creat64(const char *path, mode_t mode) { return open_one(AT_FDCWD, path, O_CREAT | O_WRONLY | O_TRUNC, mode); }
 
 int close(int descriptor) {
-    enter();
+    if (!next_close) start();
     enum file file = held_by(descriptor);
+    if (file == OTHER) return next_close(descriptor);
+    enter();
     int answer = next_close(descriptor);
     if (file <= JOURNAL) put(CLOSE, file, held[descriptor].making, told(answer), 0, 0, NULL);
-    if (file != OTHER) held[descriptor].file = 0;
+    hold(descriptor, OTHER, 0);
     leave();
     return answer;
 }
 
 static int copied(int descriptor, int copy) {
+    enter();
     hold_copy(descriptor, copy);
     leave();
     return copy;
 }
 
-int dup(int descriptor) { return enter(), copied(descriptor, next_dup(descriptor)); }
-int dup2(int descriptor, int to) { return enter(), copied(descriptor, next_dup2(descriptor, to)); }
-int dup3(int descriptor, int to, int flags) { return enter(), copied(descriptor, next_dup3(descriptor, to, flags)); }
+int dup(int descriptor) {
+    if (!next_dup) start();
+    return copied(descriptor, next_dup(descriptor));
+}
+int dup2(int descriptor, int to) {
+    if (!next_dup2) start();
+    return copied(descriptor, next_dup2(descriptor, to));
+}
+int dup3(int descriptor, int to, int flags) {
+    if (!next_dup3) start();
+    return copied(descriptor, next_dup3(descriptor, to, flags));
+}
 
 static int control(int descriptor, int command, void *rest) {
-    enter();
-    if (command == F_DUPFD || command == F_DUPFD_CLOEXEC)
-        return copied(descriptor, next_fcntl64(descriptor, command, rest));
-    leave(); /* a lock may be waited for */
-    return next_fcntl64(descriptor, command, rest);
+    if (!next_fcntl64) start();
+    int answer = next_fcntl64(descriptor, command, rest); /* a lock may be waited for */
+    return command == F_DUPFD || command == F_DUPFD_CLOEXEC ? copied(descriptor, answer) : answer;
 }
 
 #define REST_OF(command)            \
@@ -304,9 +426,8 @@ static ssize_t print_marks(void *cookie, const char *lines, size_t count) {
 }
 
 static FILE *open_stream(const char *path, const char *mode) {
-    enter();
-    enum file file = file_of(AT_FDCWD, path);
-    leave();
+    enum file file = file_by(reached, AT_FDCWD, path);
+    if (!next_fopen64) start();
     if (file != MARKS || !mode || (mode[0] != 'w' && mode[0] != 'a')) return next_fopen64(path, mode);
     FILE *stream = fopencookie(NULL, "w", (cookie_io_functions_t){ NULL, print_marks, NULL, NULL });
     if (stream) setvbuf(stream, NULL, _IOLBF, 0);
@@ -333,8 +454,10 @@ static void put_write(enum file file, int descriptor, const void *bytes, size_t 
 }
 
 ssize_t write(int descriptor, const void *bytes, size_t count) {
-    enter();
+    if (!next_write) start();
     enum file file = held_by(descriptor);
+    if (file > JOURNAL && file != MARKS) return next_write(descriptor, bytes, count);
+    enter();
     off64_t place = file <= JOURNAL ? place_of(descriptor) : 0;
     ssize_t done = next_write(descriptor, bytes, count);
     put_write(file, descriptor, bytes, count, place, done);
@@ -343,9 +466,12 @@ ssize_t write(int descriptor, const void *bytes, size_t count) {
 }
 
 ssize_t pwrite64(int descriptor, const void *bytes, size_t count, off64_t place) {
+    if (!next_pwrite64) start();
+    enum file file = held_by(descriptor);
+    if (file > JOURNAL && file != MARKS) return next_pwrite64(descriptor, bytes, count, place);
     enter();
     ssize_t done = next_pwrite64(descriptor, bytes, count, place);
-    put_write(held_by(descriptor), descriptor, bytes, count, place, done);
+    put_write(file, descriptor, bytes, count, place, done);
     leave();
     return done;
 }
@@ -355,10 +481,12 @@ ssize_t pwrite(int descriptor, const void *bytes, size_t count, off_t place) {
 }
 
 int ftruncate64(int descriptor, off64_t length) {
-    enter();
+    if (!next_ftruncate64) start();
     enum file file = held_by(descriptor);
+    if (file > JOURNAL) return next_ftruncate64(descriptor, length);
+    enter();
     int answer = next_ftruncate64(descriptor, length);
-    if (file <= JOURNAL) put(CUT, file, held[descriptor].making, told(answer), length, 0, NULL);
+    put(CUT, file, held[descriptor].making, told(answer), length, 0, NULL);
     leave();
     return answer;
 }
@@ -366,10 +494,12 @@ int ftruncate64(int descriptor, off64_t length) {
 int ftruncate(int descriptor, off_t length) { return ftruncate64(descriptor, length); }
 
 int truncate64(const char *path, off64_t length) {
+    enum file file = file_by(reached, AT_FDCWD, path);
+    if (!next_truncate64) start();
+    if (file > JOURNAL) return next_truncate64(path, length);
     enter();
-    enum file file = file_of(AT_FDCWD, path);
     int answer = next_truncate64(path, length);
-    if (file <= JOURNAL) put(CUT, file, makings[file], told(answer), length, 0, NULL);
+    put(CUT, file, makings[file], told(answer), length, 0, NULL);
     leave();
     return answer;
 }
@@ -377,8 +507,10 @@ int truncate64(const char *path, off64_t length) {
 int truncate(const char *path, off_t length) { return truncate64(path, length); }
 
 static int sync_one(int descriptor, int data_alone) {
-    enter();
+    if (!next_fsync) start();
     enum file file = held_by(descriptor);
+    if (file > FOLDER) return data_alone ? next_fdatasync(descriptor) : next_fsync(descriptor);
+    enter();
     int answer = data_alone ? next_fdatasync(descriptor) : next_fsync(descriptor);
     if (file <= JOURNAL) put(SYNC, file, held[descriptor].making, told(answer), data_alone, 0, NULL);
     else if (file == FOLDER) put(FOLDER_SYNC, file, 0, told(answer), data_alone, 0, NULL);
@@ -399,19 +531,19 @@ static int unlinked(enum file file, int answer) {
 
 int unlinkat(int at, const char *path, int flags) {
     enter();
-    enum file file = file_of(at, path);
+    enum file file = file_by(named, at, path);
     return unlinked(file, next_unlinkat(at, path, flags));
 }
 int unlink(const char *path) { return unlinkat(AT_FDCWD, path, 0); }
 int remove(const char *path) {
     enter();
-    enum file file = file_of(AT_FDCWD, path);
+    enum file file = file_by(named, AT_FDCWD, path);
     return unlinked(file, next_remove(path));
 }
 
 /* A name that is none of the three counts as OTHER. */
 static enum file data_file_of(int at, const char *path) {
-    enum file file = file_of(at, path);
+    enum file file = file_by(named, at, path);
     return file <= JOURNAL ? file : OTHER;
 }
 
@@ -433,8 +565,11 @@ static void put_not_held(enum file file, enum not_held call) {
 }
 
 static void note(int descriptor, enum not_held call) {
+    enum file file = held_by(descriptor);
+    if (!ready) start();
+    if (file > JOURNAL) return;
     enter();
-    put_not_held(held_by(descriptor), call);
+    put_not_held(file, call);
     leave();
 }
 
@@ -476,8 +611,8 @@ ssize_t pwritev2(int descriptor, const struct iovec *parts, int count, off_t pla
 }
 int linkat(int at, const char *from, int at_to, const char *to, int flags) {
     enter();
-    put_not_held(file_of(at, from), LINK);
-    put_not_held(file_of(at_to, to), LINK);
+    put_not_held(file_by(named, at, from), LINK);
+    put_not_held(file_by(named, at_to, to), LINK);
     int answer = next_linkat(at, from, at_to, to, flags);
     leave();
     return answer;

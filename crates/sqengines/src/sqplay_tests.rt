@@ -94,7 +94,7 @@ fn no_traces(rt: HostRuntime) {
     refuses(&rt, b"SQCRTR2\n", TraceError::NotATrace);
     let mut bytes = trace_of(&rt, &SAMPLE);
     let end = bytes.len();
-    put(&rt, &mut bytes, (12, 0, 0, 0, b""));
+    put(&rt, &mut bytes, (13, 0, 0, 0, b""));
     refuses(&rt, &bytes, TraceError::Damaged(end));
     bytes.truncate(end);
     put(&rt, &mut bytes, (4, 3, 0, 0, b""));

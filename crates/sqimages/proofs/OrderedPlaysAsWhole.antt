@@ -6,7 +6,7 @@ use Rattle.std.proofs.lemmas.List.{length-take, length-drop, get_or-take, get_or
 use Rattle.std.proofs.lemmas.Bool.Decides.{nat_tests}
 use Rattle.crashdisk.specs.Call.{DiskState}
 use Rattle.sqplay.specs.Files.{IsWritten, IsCut, IsSynced}
-use Rattle.sqplay.specs.Names.{NameState, no_file, LastGoes, CutsWhole, Syncs, without_uncut, only_now}
+use Rattle.sqplay.specs.Names.{NameState, no_file, LastGoes, CutsWhole, Syncs, without_uncut, only_now, UncutGo, TakesBelow, Writes, least_cut}
 use Rattle.sqplay.specs.Plays.{Files, no_files, holds_now, epoch_now, epochs_of, CallDoes, OneGoes, all_now, NamesGo, brings_down, has_all_down, Follows, Step, Plays}
 use Rattle.sqplay.specs.Trace.{has_failed, bytes_of}
 use Rattle.sqplay.specs.declared.meta.Epoch.{Epoch}
@@ -40,6 +40,7 @@ call_whole kinds.Rename sector tears b r old new does = does
 call_whole kinds.FolderSync sector tears b r old new does = does
 call_whole kinds.Mark sector tears b r old new does = does
 call_whole kinds.NotHeld sector tears b r old new does = does
+call_whole kinds.End sector tears b r old new does = does
 
 one_whole : (subject : Subject) (P Q : NameState → NameState → Type 0) (old new : Files) → ((a b : NameState) → P a b → Q a b) → OneGoes subject P old new → OneGoes subject Q (as_whole old) (as_whole new)
 one_whole subjects.Db P Q old new weaker (goes, is) = (weaker old.db new.db goes, ap as_whole is)
@@ -120,7 +121,19 @@ last_grows P old new fit (inr (front, was, now, there, goes, is)) =
 
 cut_grows : (n : ℕ) (fails : Bool) (old new : NameState) → IsFit old → CutsWhole n fails old new → Grows old new
 cut_grows n true old new fit is = same_grows old new fit is
-cut_grows n false old new fit (front, was, now, there, ends, is) = files_grow old new (old.files ++ now ∷ []) fit (omega (arith, length-append old.files (now ∷ []))) is
+cut_grows n false old new fit (front, was, now, there, ends, is) =
+    let cut : NameState = record old { files = old.files ++ now ∷ [] } in
+    let grows : Grows old cut = files_grow old cut (old.files ++ now ∷ []) fit (omega (arith, length-append old.files (now ∷ []))) refl in
+    let lower : Grows old (record cut { below = least_cut n old }) = record { fit = record { gone = grows.fit.gone; some = grows.fit.some }; longer = grows.longer; none = grows.none } in
+    subst (λ (m : NameState). Grows old m) (sym is) lower
+
+then_grows : (old mid new : NameState) → Grows old mid → Grows mid new → Grows old new
+then_grows old mid new first more = record { fit = more.fit; longer = omega (arith, first.longer, more.longer); none = λ e. more.none (first.none e) }
+
+write_grows : (at : ℕ) (bytes : List ℕ) (fails : Bool) (old new : NameState) → IsFit old → Writes at bytes fails old new → Grows old new
+write_grows at bytes fails old new fit (mid, uncut, last) =
+    let first : Grows old mid = files_grow old mid mid.files fit (omega (arith, uncut.count)) uncut.rest in
+    then_grows old mid new first (last_grows (IsWritten at bytes fails) mid new first.fit last)
 
 some_length : (files : List DiskState) (i : ℕ) → 0 < length files → 0 < length (take i files ++ drop (length files - 1) files)
 some_length files i some = omega (arith, length-append (take i files) (drop (length files - 1) files), length-drop (length files - 1) files)
@@ -152,7 +165,7 @@ goes k fails old new grows = (grows.fit, λ e. grows)
 
 call_goes : (k : Kind) (sector : ℕ) (tears : Bool) (b : List ℕ) (r : Record) (old new : NameState) → IsFit old → CallDoes k sector tears Ordered b r old new → Goes k (has_failed r) old new
 call_goes kinds.Base sector tears b r old new fit (d, is_new, is) =
-    let now : NameState = record { files = d ∷ []; made = 0; maybe_none = false; gone = false } in
+    let now : NameState = record { files = d ∷ []; made = 0; below = 0; maybe_none = false; gone = false } in
     let fits : IsFit now = record { gone = λ e. absurd (let no : false ≡ true = e in cc); some = inl (omega arith) } in
     (subst IsFit (sym is) fits, λ e. absurd (let no : true ≡ false = e in cc))
 call_goes kinds.Open sector tears b r old new fit (inl (place, (d, is_new, is))) =
@@ -164,7 +177,7 @@ call_goes kinds.Open sector tears b r old new fit (inl (place, (d, is_new, is)))
     } in goes kinds.Open (has_failed r) old new (subst (λ (n : NameState). Grows old n) (sym is) grows)
 call_goes kinds.Open sector tears b r old new fit (inr (place, is)) = goes kinds.Open (has_failed r) old new (same_grows old new fit is)
 call_goes kinds.Close sector tears b r old new fit is = goes kinds.Close (has_failed r) old new (same_grows old new fit is)
-call_goes kinds.Write sector tears b r old new fit does = goes kinds.Write (has_failed r) old new (last_grows (IsWritten r.place (bytes_of b r) (has_failed r)) old new fit does)
+call_goes kinds.Write sector tears b r old new fit does = goes kinds.Write (has_failed r) old new (write_grows r.place (bytes_of b r) (has_failed r) old new fit does)
 call_goes kinds.Cut sector tears b r old new fit (inl (longer, does)) = goes kinds.Cut (has_failed r) old new (cut_grows r.place (has_failed r) old new fit does)
 call_goes kinds.Cut sector tears b r old new fit (inr (longer, does)) = goes kinds.Cut (has_failed r) old new (last_grows (IsCut r.place (has_failed r)) old new fit does)
 call_goes kinds.Sync sector tears b r old new fit does = sync_fits (has_failed r) old new fit does
@@ -173,6 +186,7 @@ call_goes kinds.Rename sector tears b r old new fit (fails, is) = goes kinds.Ren
 call_goes kinds.FolderSync sector tears b r old new fit is = goes kinds.FolderSync (has_failed r) old new (same_grows old new fit is)
 call_goes kinds.Mark sector tears b r old new fit is = goes kinds.Mark (has_failed r) old new (same_grows old new fit is)
 call_goes kinds.NotHeld sector tears b r old new fit does = absurd does
+call_goes kinds.End sector tears b r old new fit (noted, is) = goes kinds.End (has_failed r) old new (same_grows old new fit is)
 
 now_fits : (n : NameState) → IsFit n → IsFit (only_now n)
 now_fits n fit = by n.gone refl

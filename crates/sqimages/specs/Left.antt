@@ -1,9 +1,9 @@
 -- What a crash may leave of a database file and its logs, and what is there now (own).
-use Rattle.std.specs.Prelude.{◌≡◌, ◌⊎◌, ℕ, ◌-◌, IsTrue, cond, List, [], length, Option, Some, None, slice_get}
+use Rattle.std.specs.Prelude.{◌≡◌, ◌⊎◌, ℕ, IsTrue, List, []}
 use Rattle.std.specs.List.{Contains}
-use Rattle.crashdisk.specs.Call.{DiskState, ArePresent}
+use Rattle.crashdisk.specs.Call.{DiskState}
 use Rattle.crashdisk.specs.State.{IsImage}
-use Rattle.sqplay.specs.Names.{NameState}
+use Rattle.sqplay.specs.Names.{NameState, file_now, ArePresentOf}
 use Rattle.sqplay.specs.Plays.{Files, epochs_of}
 use Rattle.sqplay.specs.declared.meta.Epoch.{Epoch}
 use Rattle.sqplay.specs.declared.meta.Holds.{Holds}
@@ -25,15 +25,6 @@ pub record MayLeaveIn (s : Files) (e : Epoch) (image : Image) : Type 0 where
 -- what a crash may leave: that of one of the epochs, of which there is one alone unless metadata goes down in order
 abbrev pub MayLeave : Files → Image → Type 0
 MayLeave s image = (e : Epoch) × Contains (epochs_of s) e × MayLeaveIn s e image
-
--- the file that has a name now: the one that was made last, or none where the name is gone
-abbrev pub file_now : NameState → Option DiskState
-file_now s = cond s.gone None (slice_get s.files (length s.files - 1))
-
--- the present bytes of a file; none where there is no file
-abbrev pub ArePresentOf : Option DiskState → List ℕ → Type 0
-ArePresentOf None bytes = bytes ≡ []
-ArePresentOf (Some f) bytes = ArePresent f.db bytes
 
 -- the three files as they are now, where no crash comes
 pub record IsPresent (s : Files) (image : Image) : Type 0 where

@@ -1,9 +1,8 @@
 //! What a crash left of a database file and its logs (own).
 ghost use Rattle.std.specs.Prelude.{◌≡◌, ◌++◌, ◌%◌, ◌/◌, OnOk, map};
-ghost use Rattle.sqplay.specs.Names.{name_of};
+ghost use Rattle.sqplay.specs.Names.{name_of, ArePresentOf, file_now};
 ghost use Rattle.crashdisk.specs.Model.{state_of};
 ghost use Rattle.sqimages.specs.Ways.{files_way, held_files};
-ghost use Rattle.sqimages.specs.Left.{ArePresentOf, file_now};
 
 use crate::counts::{Counts, EpochCounts, file_count, held_files};
 use crashdisk::{DiskError, File, ModelDisk};
@@ -51,13 +50,7 @@ fn put_present(name: &Name, out: &mut Vec<u8>) -> Result<(), DiskError>
     ensures { OnOk result (ArePresentOf (file_now (name_of name.now)) out.new.items) }
 {
     out.clear();
-    if name.is_gone() {
-        return Ok(());
-    }
-    match name.files().last() {
-        Some(disk) => disk.present(File::Db, out),
-        None => Ok(()),
-    }
+    name.append_present(out)
 }
 
 impl Image {

@@ -1,9 +1,10 @@
 -- Which committed database files show (own).
-use Rattle.std.specs.Prelude.{◌≡◌, ◌⊎◌, ℕ, ◌+◌, ◌-◌, ◌<◌, ◌≤◌, Bool, true, false, List, [], ◌∷◌, ◌++◌, length, get_or, map, Option, Some, None}
+use Rattle.std.specs.Prelude.{◌≡◌, ◌≢◌, ◌⊎◌, ℕ, ◌+◌, ◌-◌, ◌<◌, ◌≤◌, Bool, true, false, List, [], ◌∷◌, ◌++◌, length, get_or, map, Option, Some, None}
 use Rattle.std.specs.List.{Contains}
 use Rattle.sqval.specs.Database.{Database, page}
 use Rattle.sqview.specs.LogView.{IsAlone, Views, ViewRefused}
 use Rattle.sqview.specs.declared.view_error.ViewError.{ViewError}
+use Rattle.sqview.specs.declared.view_error.ViewError.TheVariants.{NoMemory}
 use Rattle.sqjudge.specs.Leaves.{AreLeaves}
 use Rattle.sqjudge.specs.declared.snapshot.Snapshot.{Snapshot}
 use Rattle.sqjudge.specs.declared.history.History.{History}
@@ -63,8 +64,8 @@ abbrev pub IsAdded : Database → (taken : Bool) → (old new : List Commit) →
 IsAdded d true old new = (¬ ShowsLast old d) × ((c : Commit) × IsTaken d c × (new ≡ old ++ c ∷ []))
 IsAdded d false old new = ShowsLast old d × (new ≡ old)
 
--- the same of the database that files show, or they show none
+-- the same of the database that files show; or they show none, for another reason than that memory was refused
 abbrev pub IsNoted : (db wal journal : List ℕ) → (taken : Bool) → (old new : List Commit) → Type 0
 IsNoted db wal journal taken old new =
     ((size : ℕ) × (d : Database) × FilesShow size db wal journal d × IsAdded d taken old new)
-    ⊎ ((e : ViewError) × ViewRefused db wal journal e × (taken ≡ false) × (new ≡ old))
+    ⊎ ((e : ViewError) × (e ≢ NoMemory) × ViewRefused db wal journal e × (taken ≡ false) × (new ≡ old))

@@ -17,7 +17,10 @@ pub enum SnapshotError {
 }
 
 impl From<SourceError> for SnapshotError {
-    ghost from_gives = { λ _ _. Unit {0} };
+    ghost use Rattle.std.specs.Prelude.{◌≡◌};
+    ghost use Rattle.sqjudge.specs.declared.error.SnapshotError.TheVariants.{Unread};
+
+    ghost from_gives = { λ _ e. e ≡ Unread };
 
     fn from(_unread: SourceError) -> SnapshotError {
         SnapshotError::Unread
@@ -25,7 +28,10 @@ impl From<SourceError> for SnapshotError {
 }
 
 impl From<AllocError> for SnapshotError {
-    ghost from_gives = { λ _ _. Unit {0} };
+    ghost use Rattle.std.specs.Prelude.{◌≡◌};
+    ghost use Rattle.sqjudge.specs.declared.error.SnapshotError.TheVariants.{NoMemory};
+
+    ghost from_gives = { λ _ e. e ≡ NoMemory };
 
     fn from(_refused: AllocError) -> SnapshotError {
         SnapshotError::NoMemory
@@ -33,7 +39,10 @@ impl From<AllocError> for SnapshotError {
 }
 
 impl<T: Drop> From<AllocFailed<T>> for SnapshotError {
-    ghost from_gives = { λ _ _. Unit {0} };
+    ghost use Rattle.std.specs.Prelude.{◌≡◌};
+    ghost use Rattle.sqjudge.specs.declared.error.SnapshotError.TheVariants.{NoMemory};
+
+    ghost from_gives = { λ _ e. e ≡ NoMemory };
 
     fn from(_refused: AllocFailed<T>) -> SnapshotError {
         SnapshotError::NoMemory

@@ -1,7 +1,8 @@
 //! The committed databases of a run, and which of them is shown (own).
-ghost use Rattle.std.specs.Prelude.{◌≡◌, ◌↔◌, ℕ, List, [], ◌∷◌, ◌++◌, length, OnOk, OnErr, IfOk, IsTrue};
+ghost use Rattle.std.specs.Prelude.{◌≡◌, ◌↔◌, ℕ, List, [], ◌∷◌, ◌++◌, length, OnOk, OnErr, IfOk, IfErr, IsTrue};
 ghost use Rattle.sqpage.specs.Source.{KeepsPages};
 ghost use Rattle.sqview.specs.LogView.{ViewRefused};
+ghost use Rattle.sqjudge.specs.declared.error.SnapshotError.TheVariants.{NoMemory};
 ghost use Rattle.sqjudge.specs.Shown.{IsAdded, IsLastShown, IsNoted, ShowsLast, commit_of, commits_of};
 
 use crate::error::SnapshotError;
@@ -42,6 +43,7 @@ impl History {
     pub fn push(&mut self, commit: Snapshot) -> Result<(), SnapshotError>
         ensures ok { OnOk result (commits_of self.new ≡ commits_of self.old ++ commit_of commit ∷ []) }
         ensures err { OnErr result (commits_of self.new ≡ commits_of self.old) }
+        ensures memory { IfErr result (λ e. e ≡ NoMemory) }
     {
         match self.commits.push(commit) {
             Ok(()) => Ok(()),
@@ -49,7 +51,8 @@ impl History {
         }
     }
 
-    /// The number of the last commit that a source shows, counted from 0. Refused by Unread and NoMemory.
+    /// The number of the last commit that a source shows, counted from 0. Refused by Unread, where a page can't be
+    /// read, and NoMemory.
     pub fn shown<S: PageSource>(
         &self,
         alloc: Global,
@@ -57,6 +60,7 @@ impl History {
     ) -> Result<Option<usize>, SnapshotError>
         ensures shown { S.gives_pages source.old
             → IfOk result (IsLastShown (commits_of self.now) (S.pages source.old)) }
+        ensures memory { S.gives_pages source.old → IfErr result (λ e. e ≡ NoMemory) }
         ensures keeps { KeepsPages S.pages S.size S.gives_pages source.old source.new }
     {
         for k in (0..self.commits.len()).rev() {
@@ -83,6 +87,7 @@ impl History {
     fn ends_with<S: PageSource>(&self, alloc: Global, source: &mut S) -> Result<bool, SnapshotError>
         ensures shown { S.gives_pages source.old
             → IfOk result (λ shown. IsTrue shown ↔ ShowsLast (commits_of self.now) (S.pages source.old)) }
+        ensures memory { S.gives_pages source.old → IfErr result (λ e. e ≡ NoMemory) }
         ensures keeps { KeepsPages S.pages S.size S.gives_pages source.old source.new }
     {
         let count = self.commits.len();
@@ -112,6 +117,7 @@ impl History {
         ensures noted { S.gives_pages source.old
             → IfOk result (λ taken. IsAdded (S.pages source.old) taken (commits_of self.old) (commits_of self.new)) }
         ensures err { OnErr result (commits_of self.new ≡ commits_of self.old) }
+        ensures memory { S.gives_pages source.old → IfErr result (λ e. e ≡ NoMemory) }
     {
         if self.ends_with(alloc, source)? {
             return Ok(false);
@@ -125,6 +131,7 @@ impl History {
     fn note_nothing(&mut self, alloc: Global) -> Result<bool, SnapshotError>
         ensures noted { IfOk result (λ taken. IsAdded [] taken (commits_of self.old) (commits_of self.new)) }
         ensures err { OnErr result (commits_of self.new ≡ commits_of self.old) }
+        ensures memory { IfErr result (λ e. e ≡ NoMemory) }
     {
         if self.ends_with_nothing() {
             return Ok(false);
@@ -144,17 +151,22 @@ impl History {
         ensures noted { (db wal journal : List ℕ) → ViewRefused db wal journal refusal → IsTrue is_empty ↔ (db ≡ [])
             → IfOk result (λ taken. IsNoted db wal journal taken (commits_of self.old) (commits_of self.new)) }
         ensures err { OnErr result (commits_of self.new ≡ commits_of self.old) }
+        ensures memory { (db wal journal : List ℕ) → ViewRefused db wal journal refusal
+            → IfErr result (λ e. e ≡ NoMemory) }
     {
         match refusal {
             ViewError::NoMemory => Err(SnapshotError::NoMemory),
             ViewError::Unread => Err(SnapshotError::Unread),
             ViewError::Header(_) if is_empty => self.note_nothing(alloc),
-            _ => Ok(false),
+            ViewError::Header(_)
+            | ViewError::TwoLogs
+            | ViewError::TooLarge
+            | ViewError::NoSuchCommit => Ok(false),
         }
     }
 
     /// Takes the database that files show where it isn't the last commit's. Answers whether it was taken. Files that
-    /// show none are left out. Refused by Unread and NoMemory.
+    /// show none are left out. Refused by NoMemory alone.
     pub fn note(
         &mut self,
         alloc: Global,
@@ -165,6 +177,7 @@ impl History {
         ensures noted { IfOk result
             (λ taken. IsNoted db.now wal.now journal.now taken (commits_of self.old) (commits_of self.new)) }
         ensures err { OnErr result (commits_of self.new ≡ commits_of self.old) }
+        ensures memory { IfErr result (λ e. e ≡ NoMemory) }
     {
         match View::new(alloc, db, wal, journal) {
             Ok(mut view) => self.note_source(alloc, &mut view),

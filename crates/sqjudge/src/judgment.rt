@@ -1,8 +1,9 @@
 //! What is wrong with the files that a crash left (own).
-ghost use Rattle.std.specs.Prelude.{◌≡◌, ◌↔◌, ℕ, List, [], IfOk, IsTrue};
+ghost use Rattle.std.specs.Prelude.{◌≡◌, ◌↔◌, ℕ, List, [], IfOk, IfErr, IsTrue};
 ghost use Rattle.sqwal.specs.Took.{Took};
 ghost use Rattle.sqview.specs.LogView.{ViewRefused};
 ghost use Rattle.sqview.specs.declared.view_error.ViewError.TheVariants.{Header};
+ghost use Rattle.sqjudge.specs.declared.error.SnapshotError.TheVariants.{NoMemory};
 ghost use Rattle.sqjudge.specs.Shown.{Commit, IsLastShown, commits_of};
 ghost use Rattle.sqjudge.specs.Judged.{IsJudged, IsFilesJudgment};
 ghost use Rattle.sqjudge.specs.internal.Judged.{IsPlaced};
@@ -43,8 +44,9 @@ fn placed(shown: usize, known: usize) -> Judgment
 
 /// The judgment of a database of no commit.
 fn unshown<S: PageSource>(alloc: Global, source: &mut S) -> Result<Judgment, SnapshotError>
-    ensures { S.gives_pages source.old → IfOk result (λ j. (commits : List Commit) (known : ℕ) → IsLastShown commits
+    ensures judged { S.gives_pages source.old → IfOk result (λ j. (commits : List Commit) (known : ℕ) → IsLastShown commits
         (S.pages source.old) None → IsJudged commits known (S.pages source.old) (S.size source.old) j) }
+    ensures memory { S.gives_pages source.old → IfErr result (λ e. e ≡ NoMemory) }
 {
     match check(alloc, source) {
         Ok(_) => Ok(Judgment::Mixed),
@@ -57,15 +59,17 @@ fn unshown<S: PageSource>(alloc: Global, source: &mut S) -> Result<Judgment, Sna
     }
 }
 
-/// The judgment of a database, where a commit is known to be down. Refused by Unread and NoMemory.
+/// The judgment of a database, where a commit is known to be down. Refused by Unread, where a page can't be read, and
+/// NoMemory.
 pub fn judge_source<S: PageSource>(
     alloc: Global,
     history: &History,
     known: usize,
     source: &mut S,
 ) -> Result<Judgment, SnapshotError>
-    ensures { S.gives_pages source.old
+    ensures judged { S.gives_pages source.old
         → IfOk result (IsJudged (commits_of history.now) known (S.pages source.old) (S.size source.old)) }
+    ensures memory { S.gives_pages source.old → IfErr result (λ e. e ≡ NoMemory) }
 {
     match history.shown(alloc, source)? {
         Some(shown) => Ok(placed(shown, known)),
@@ -95,8 +99,10 @@ fn refused(
     is_empty: bool,
     refusal: ViewError,
 ) -> Result<Judgment, SnapshotError>
-    ensures { (db wal journal : List ℕ) → ViewRefused db wal journal refusal → IsTrue is_empty ↔ (db ≡ [])
+    ensures judged { (db wal journal : List ℕ) → ViewRefused db wal journal refusal → IsTrue is_empty ↔ (db ≡ [])
         → IfOk result (IsFilesJudgment (commits_of history.now) known db wal journal) }
+    ensures memory { (db wal journal : List ℕ) → ViewRefused db wal journal refusal
+        → IfErr result (λ e. e ≡ NoMemory) }
 {
     match refusal {
         ViewError::NoMemory => Err(SnapshotError::NoMemory),
@@ -109,7 +115,7 @@ fn refused(
 }
 
 /// The judgment of files that a crash left, where a commit is known to be down. A missing file has no bytes, and a
-/// database file without bytes shows the database of no pages where no log counts. Refused by Unread and NoMemory.
+/// database file without bytes shows the database of no pages where no log counts. Refused by NoMemory alone.
 pub fn judge_files(
     alloc: Global,
     history: &History,
@@ -118,7 +124,8 @@ pub fn judge_files(
     wal: &[u8],
     journal: &[u8],
 ) -> Result<Judgment, SnapshotError>
-    ensures { IfOk result (IsFilesJudgment (commits_of history.now) known db.now wal.now journal.now) }
+    ensures judged { IfOk result (IsFilesJudgment (commits_of history.now) known db.now wal.now journal.now) }
+    ensures memory { IfErr result (λ e. e ≡ NoMemory) }
 {
     match View::new(alloc, db, wal, journal) {
         Ok(mut view) => judge_source(alloc, history, known, &mut view),
@@ -136,8 +143,9 @@ pub fn judge_scanned(
     journal: &[u8],
     scan: &Scan,
 ) -> Result<Judgment, SnapshotError>
-    ensures { Took wal.now scan.now
+    ensures judged { Took wal.now scan.now
         → IfOk result (IsFilesJudgment (commits_of history.now) known db.now wal.now journal.now) }
+    ensures memory { Took wal.now scan.now → IfErr result (λ e. e ≡ NoMemory) }
 {
     let alloc = history.alloc();
     match View::new_scanned(alloc, db, wal, journal, scan) {

@@ -1,8 +1,10 @@
 //! The leaves of the freelist (fileformat2, 1.5).
-ghost use Rattle.std.specs.Prelude.{◌≡◌, ◌≤◌, ◌<◌, [], length, IfOk};
+ghost use Rattle.std.specs.Prelude.{◌≡◌, ◌≤◌, ◌<◌, [], length, IfOk, IfErr};
 ghost use Rattle.sqpage.specs.Source.{KeepsPages};
 ghost use Rattle.sqval.specs.Database.{page};
-ghost use Rattle.sqpage.specs.Freelist.{leaf_count_in};
+ghost use Rattle.sqpage.specs.Freelist.{IsPage, leaf_count_in};
+ghost use Rattle.sqpage.specs.Lists.{Every};
+ghost use Rattle.sqjudge.specs.declared.error.SnapshotError.TheVariants.{NoMemory};
 ghost use Rattle.sqjudge.specs.Leaves.{AreLeaves};
 ghost use Rattle.sqjudge.specs.internal.Leaves.{leaves_of};
 
@@ -22,6 +24,7 @@ fn leaf_count_of(bytes: &[u8]) -> u32
 /// How many leaves the trunk `p` names.
 fn leaf_count<S: PageSource>(alloc: Global, source: &mut S, p: u32) -> Result<u32, SnapshotError>
     ensures count { S.gives_pages source.old → IfOk result (λ n. n ≡ leaf_count_in (page (S.pages source.old) p)) }
+    ensures memory { S.gives_pages source.old → IsPage (S.pages source.old) p → IfErr result (λ e. e ≡ NoMemory) }
     ensures keeps { KeepsPages S.pages S.size S.gives_pages source.old source.new }
 {
     if p == 0 || p > source.count() {
@@ -40,6 +43,8 @@ fn leaves_among<S: PageSource>(
 ) -> Result<Vec<u32>, SnapshotError>
     ensures leaves { S.gives_pages source.old
         → IfOk result (λ v. v.items ≡ leaves_of (S.pages source.old) 0 pages.now) }
+    ensures memory { S.gives_pages source.old → Every (IsPage (S.pages source.old)) pages.now
+        → IfErr result (λ e. e ≡ NoMemory) }
     ensures keeps { KeepsPages S.pages S.size S.gives_pages source.old source.new }
 {
     let mut leaves = Vec::new(alloc);
@@ -56,9 +61,10 @@ fn leaves_among<S: PageSource>(
 }
 
 /// The leaves of the freelist, whose bytes SQLite neither journals nor logs; none where the freelist isn't sound.
-/// Refused by Unread and NoMemory.
+/// Refused by Unread, where a page can't be read, and NoMemory.
 pub fn free_leaves<S: PageSource>(alloc: Global, source: &mut S) -> Result<Vec<u32>, SnapshotError>
     ensures leaves { S.gives_pages source.old → IfOk result (λ v. AreLeaves (S.pages source.old) v.items) }
+    ensures memory { S.gives_pages source.old → IfErr result (λ e. e ≡ NoMemory) }
     ensures keeps { KeepsPages S.pages S.size S.gives_pages source.old source.new }
 {
     match freelist(alloc, source) {

@@ -1,8 +1,10 @@
 //! A committed database, as it is compared with what images show (own).
-ghost use Rattle.std.specs.Prelude.{◌≡◌, ◌↔◌, ◌⊎◌, ◌<◌, ◌+◌, [], ℕ, List, length, slice_index_or, IfOk, IsTrue};
+ghost use Rattle.std.specs.Prelude.{◌≡◌, ◌↔◌, ◌⊎◌, ◌<◌, ◌+◌, [], ℕ, List, length, slice_index_or, IfOk, IfErr, IsTrue};
 ghost use Rattle.std.specs.List.{Contains};
 ghost use Rattle.sqpage.specs.Source.{KeepsPages};
 ghost use Rattle.sqval.specs.Database.{Database, page};
+ghost use Rattle.sqpage.specs.Freelist.{IsPage};
+ghost use Rattle.sqjudge.specs.declared.error.SnapshotError.TheVariants.{NoMemory};
 
 use crate::error::SnapshotError;
 use crate::leaves::free_leaves;
@@ -26,6 +28,7 @@ impl Page {
     /// Page `p` of a source.
     fn read<S: PageSource>(alloc: Global, source: &mut S, p: u32) -> Result<Page, SnapshotError>
         ensures read { S.gives_pages source.old → IfOk result (λ read. read ≡ page (S.pages source.old) p) }
+        ensures memory { S.gives_pages source.old → IsPage (S.pages source.old) p → IfErr result (λ e. e ≡ NoMemory) }
         ensures keeps { KeepsPages S.pages S.size S.gives_pages source.old source.new }
     {
         if p == 0 || p > source.count() {
@@ -47,6 +50,7 @@ impl Page {
 /// All pages of a source.
 fn read_pages<S: PageSource>(alloc: Global, source: &mut S) -> Result<Vec<Page>, SnapshotError>
     ensures read { S.gives_pages source.old → IfOk result (λ v. v.items ≡ S.pages source.old) }
+    ensures memory { S.gives_pages source.old → IfErr result (λ e. e ≡ NoMemory) }
     ensures keeps { KeepsPages S.pages S.size S.gives_pages source.old source.new }
 {
     let mut pages = Vec::new(alloc);
@@ -64,15 +68,17 @@ pub struct Snapshot {
 }
 
 impl Snapshot {
-    ghost use Rattle.std.specs.Prelude.{◌≡◌, ◌↔◌, ◌⊎◌, ◌<◌, ◌≤◌, ◌+◌, [], length, slice_index_or, IfOk, IsTrue};
+    ghost use Rattle.std.specs.Prelude.{◌≡◌, ◌↔◌, ◌⊎◌, ◌<◌, ◌≤◌, ◌+◌, [], length, slice_index_or, IfOk, IfErr, IsTrue};
+    ghost use Rattle.sqjudge.specs.declared.error.SnapshotError.TheVariants.{NoMemory};
     ghost use Rattle.std.specs.List.{Contains};
     ghost use Rattle.sqval.specs.Database.{Database, page};
     ghost use Rattle.sqpage.specs.Source.{KeepsPages};
     ghost use Rattle.sqjudge.specs.Shown.{IsTaken, Shows, commit_of, AgreesAt};
 
-    /// The database of a source. Refused by Unread and NoMemory.
+    /// The database of a source. Refused by Unread, where a page can't be read, and NoMemory.
     pub fn take<S: PageSource>(alloc: Global, source: &mut S) -> Result<Snapshot, SnapshotError>
         ensures taken { S.gives_pages source.old → IfOk result (λ s. IsTaken (S.pages source.old) (commit_of s)) }
+        ensures memory { S.gives_pages source.old → IfErr result (λ e. e ≡ NoMemory) }
         ensures keeps { KeepsPages S.pages S.size S.gives_pages source.old source.new }
     {
         let leaves = free_leaves(alloc, source)?;
@@ -119,7 +125,7 @@ impl Snapshot {
     }
 
     /// Whether a source shows it: it has as many pages, and each that is no leaf of the freelist has the same bytes.
-    /// Refused by Unread and NoMemory.
+    /// Refused by Unread, where a page can't be read, and NoMemory.
     pub fn is_shown<S: PageSource>(
         &self,
         alloc: Global,
@@ -127,6 +133,7 @@ impl Snapshot {
     ) -> Result<bool, SnapshotError>
         ensures shown { S.gives_pages source.old
             → IfOk result (λ shown. IsTrue shown ↔ Shows (commit_of self.now) (S.pages source.old)) }
+        ensures memory { S.gives_pages source.old → IfErr result (λ e. e ≡ NoMemory) }
         ensures keeps { KeepsPages S.pages S.size S.gives_pages source.old source.new }
     {
         let count = source.count();

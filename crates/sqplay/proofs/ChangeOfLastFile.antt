@@ -18,13 +18,13 @@ some_left n empty is left = elim (eqb_tells n 0) [
 split : {X : Type 0} (xs : List X) (i : ℕ) (x : X) → i + 1 ≡ length xs → x ≡ get_or xs i x → xs ≡ take i xs ++ x ∷ []
 split xs i x last is = sym (take_all (i + 1) xs (omega arith)) ∙ take_more xs i x (omega arith) ∙ ap (λ y. take i xs ++ y ∷ []) (sym is)
 
-abbrev pub with_files : List ModelDisk → (made : ℕ) (maybe_none gone : Bool) → NameState
-with_files xs made maybe_none gone = record { files = map (λ d. state_of d) xs; made = made; maybe_none = maybe_none; gone = gone }
+abbrev pub with_files : List ModelDisk → (made below : ℕ) (maybe_none gone : Bool) → NameState
+with_files xs made below maybe_none gone = record { files = map (λ d. state_of d) xs; made = made; below = below; maybe_none = maybe_none; gone = gone }
 
-pub last_goes : {T : Type 0} (answer : Result (Unit {0}) T) (P : DiskState → DiskState → Type 0) (xs : List ModelDisk) (made : ℕ) (maybe_none gone : Bool) (i : ℕ) (was now : ModelDisk) → i + 1 ≡ length xs → was ≡ get_or xs i was
-    → OnOk answer (P (state_of was) (state_of now)) → OnOk answer (LastGoes P (with_files xs made maybe_none gone) (with_files (set xs i now) made maybe_none gone))
-last_goes (Err e) P xs made maybe_none gone i was now last is goes = tt
-last_goes (Ok x) P xs made maybe_none gone i was now last is goes =
+pub last_goes : {T : Type 0} (answer : Result (Unit {0}) T) (P : DiskState → DiskState → Type 0) (xs : List ModelDisk) (made below : ℕ) (maybe_none gone : Bool) (i : ℕ) (was now : ModelDisk) → i + 1 ≡ length xs → was ≡ get_or xs i was
+    → OnOk answer (P (state_of was) (state_of now)) → OnOk answer (LastGoes P (with_files xs made below maybe_none gone) (with_files (set xs i now) made below maybe_none gone))
+last_goes (Err e) P xs made below maybe_none gone i was now last is goes = tt
+last_goes (Ok x) P xs made below maybe_none gone i was now last is goes =
     let all : List ModelDisk = set xs i now in
     let long : i + 1 ≡ length all = omega (arith, length-set xs i now) in
     let there : now ≡ get_or all i now = sym (get_or-set_same xs i now now (omega arith)) in
@@ -35,7 +35,7 @@ last_goes (Ok x) P xs made maybe_none gone i was now last is goes =
       state_of now,
       ap (λ (l : List ModelDisk). map (λ d. state_of d) l) (split xs i was last is) ∙ map-append (λ d. state_of d) (take i xs) (was ∷ []),
       goes,
-      ap (λ (l : List DiskState). record { files = l; made = made; maybe_none = maybe_none; gone = gone })
+      ap (λ (l : List DiskState). record { files = l; made = made; below = below; maybe_none = maybe_none; gone = gone })
           (ap (λ (l : List ModelDisk). map (λ d. state_of d) l) (split all i now long there ∙ ap (λ (l : List ModelDisk). l ++ now ∷ []) front) ∙ map-append (λ d. state_of d) (take i xs) (now ∷ [])),
     )
 
@@ -46,9 +46,9 @@ last_same p q x y e =
     sym (get_or_at p x [] x (length p) refl) ∙ ap (λ l. get_or l (length p) x) e ∙ get_or_at q y [] x (length p) (sym long)
 
 -- the last file is longer
-pub longer : (n i : ℕ) (xs : List ModelDisk) (made : ℕ) (maybe_none gone : Bool) (last : ModelDisk) → i + 1 ≡ length xs → last ≡ get_or xs i last
-    → (n < (state_of last).db.len → IsLonger n (with_files xs made maybe_none gone)) × (IsLonger n (with_files xs made maybe_none gone) → n < (state_of last).db.len)
-longer n i xs made maybe_none gone last end is =
+pub longer : (n i : ℕ) (xs : List ModelDisk) (made below : ℕ) (maybe_none gone : Bool) (last : ModelDisk) → i + 1 ≡ length xs → last ≡ get_or xs i last
+    → (n < (state_of last).db.len → IsLonger n (with_files xs made below maybe_none gone)) × (IsLonger n (with_files xs made below maybe_none gone) → n < (state_of last).db.len)
+longer n i xs made below maybe_none gone last end is =
     let all : map (λ d. state_of d) xs ≡ map (λ d. state_of d) (take i xs) ++ state_of last ∷ [] =
     ap (λ (l : List ModelDisk). map (λ d. state_of d) l) (split xs i last end is) ∙ map-append (λ d. state_of d) (take i xs) (last ∷ []) in (
       λ lt. (map (λ d. state_of d) (take i xs), state_of last, all, lt),

@@ -1,4 +1,5 @@
 pub mod ConsecutiveRecords
 pub mod ChangeOfLastFile
+pub mod UncutFiles
 pub mod PlayedRecords
 pub mod ForgottenFiles

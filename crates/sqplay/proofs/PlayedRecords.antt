@@ -11,8 +11,8 @@ plays_more b [] r old mid new is step = (new, subst (λ (s : Files). Step b r s 
 plays_more b (first ∷ records) r old mid new plays step = (plays.0, plays.1, plays_more b records r plays.0 mid new plays.2 step)
 
 -- and one that can't be played behind those that were
-pub plays_refused : (b : List ℕ) (before records : List Record) (r : Record) (old mid : Files) (e : PlayError) → Plays b before old mid → StepRefused mid.meta b r e → PlaysRefused b (before ++ r ∷ records) old e
-plays_refused b [] records r old mid e is refused = inl (subst (λ (s : Files). StepRefused s.meta b r e) is refused)
+pub plays_refused : (b : List ℕ) (before records : List Record) (r : Record) (old mid : Files) (e : PlayError) → Plays b before old mid → StepRefused mid b r e → PlaysRefused b (before ++ r ∷ records) old e
+plays_refused b [] records r old mid e is refused = inl (subst (λ (s : Files). StepRefused s b r e) is refused)
 plays_refused b (first ∷ before) records r old mid e plays refused = inr (plays.0, plays.1, plays_refused b before records r plays.0 mid e plays.2 refused)
 
 -- what `?` hands on

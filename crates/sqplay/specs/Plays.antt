@@ -1,10 +1,11 @@
 -- What the records of a trace do to a database file and its two logs (own).
 use Rattle.std.specs.Prelude.{◌≡◌, ◌≢◌, ◌⊎◌, ℕ, ◌+◌, ◌-◌, Bool, true, false, cond, List, [], ◌∷◌, ◌++◌, length}
 use Rattle.sqplay.specs.Trace.{has_failed, bytes_of}
-use Rattle.sqplay.specs.Files.{IsWritten, FileRefused}
+use Rattle.sqplay.specs.Files.{FileRefused}
+use Rattle.sqplay.specs.Ends.{IsAsNoted, IsUnlikeNoted}
 use Rattle.sqplay.specs.declared.error.PlayError.{PlayError}
-use Rattle.sqplay.specs.declared.error.PlayError.TheVariants.{NotHeld, Renamed, NoMemory}
-use Rattle.sqplay.specs.Names.{NameState, name_of, no_file, LastGoes, IsBase, Makes, Cuts, Syncs, only_now}
+use Rattle.sqplay.specs.declared.error.PlayError.TheVariants.{NotHeld, Renamed, Differs, NoMemory}
+use Rattle.sqplay.specs.Names.{NameState, name_of, no_file, Writes, IsBase, Makes, Cuts, Syncs, only_now}
 use Rattle.sqplay.specs.declared.meta.Epoch.{Epoch}
 use Rattle.sqplay.specs.declared.meta.Holds.{Holds}
 use Rattle.sqplay.specs.declared.meta.Holds.TheVariants.{Any, Nothing, File}
@@ -51,12 +52,13 @@ epochs_of s = s.earlier ++ epoch_now s ∷ []
 abbrev pub CallDoes : Kind → (sector : ℕ) (tears : Bool) → Meta → List ℕ → Record → (old new : NameState) → Type 0
 CallDoes kinds.Base sector tears meta b r old new = IsBase sector tears (bytes_of b r) new
 CallDoes kinds.Open sector tears meta b r old new = ((r.place ≡ 1) × Makes sector tears old new) ⊎ ((r.place ≡ 1 → ⊥) × (new ≡ old))
-CallDoes kinds.Write sector tears meta b r old new = LastGoes (IsWritten r.place (bytes_of b r) (has_failed r)) old new
+CallDoes kinds.Write sector tears meta b r old new = Writes r.place (bytes_of b r) (has_failed r) old new
 CallDoes kinds.Cut sector tears meta b r old new = Cuts meta r.place (has_failed r) old new
 CallDoes kinds.Sync sector tears meta b r old new = Syncs meta (has_failed r) old new
 CallDoes kinds.Unlink sector tears meta b r old new = new ≡ cond (has_failed r) old (record old { maybe_none = true; gone = true })
 CallDoes kinds.Rename sector tears meta b r old new = (has_failed r ≡ true) × (new ≡ old)
 CallDoes kinds.NotHeld sector tears meta b r old new = ⊥
+CallDoes kinds.End sector tears meta b r old new = IsAsNoted r old × (new ≡ old)
 CallDoes _ sector tears meta b r old new = new ≡ old
 
 -- one name changes so, and nothing else; what is under another name isn't kept
@@ -109,22 +111,30 @@ abbrev pub Plays : List ℕ → List Record → (old new : Files) → Type 0
 Plays b [] old new = new ≡ old
 Plays b (r ∷ records) old new = (mid : Files) × Step b r old mid × Plays b records mid new
 
--- what refuses a call: it can't be held, it renames a file, or a file would be too long
-abbrev pub CallRefused : Kind → List ℕ → Record → PlayError → Type 0
-CallRefused kinds.Base b r e = FileRefused (length (bytes_of b r)) e
-CallRefused kinds.Open b r e = FileRefused 0 e
-CallRefused kinds.Write b r e = FileRefused (r.place + length (bytes_of b r)) e
-CallRefused kinds.Cut b r e = FileRefused r.place e
-CallRefused kinds.Sync b r e = FileRefused 0 e
-CallRefused kinds.Rename b r e = (e ≡ Renamed) × (has_failed r ≡ false)
-CallRefused kinds.NotHeld b r e = e ≡ NotHeld
-CallRefused _ b r e = ⊥
+-- what refuses a call: it can't be held, it renames a file, a file would be too long, or it isn't as it was at the end
+abbrev pub CallRefused : Kind → List ℕ → Record → NameState → PlayError → Type 0
+CallRefused kinds.Base b r old e = FileRefused (length (bytes_of b r)) e
+CallRefused kinds.Open b r old e = FileRefused 0 e
+CallRefused kinds.Write b r old e = FileRefused (r.place + length (bytes_of b r)) e
+CallRefused kinds.Cut b r old e = FileRefused r.place e
+CallRefused kinds.Sync b r old e = FileRefused 0 e
+CallRefused kinds.Rename b r old e = (e ≡ Renamed) × (has_failed r ≡ false)
+CallRefused kinds.NotHeld b r old e = e ≡ NotHeld
+CallRefused kinds.End b r old e = ((e ≡ Differs) × IsUnlikeNoted r old) ⊎ (e ≡ NoMemory)
+CallRefused _ b r old e = ⊥
+
+-- what is under the name that a record speaks of; of another none is kept
+abbrev pub name_at : Subject → Files → NameState
+name_at subjects.Db s = s.db
+name_at subjects.Wal s = s.wal
+name_at subjects.Journal s = s.journal
+name_at _ s = no_file
 
 -- what refuses to play a record; where metadata goes down in order, what the names held may want memory
-abbrev pub StepRefused : Meta → List ℕ → Record → PlayError → Type 0
-StepRefused meta b r e = ((r.subject ≡ subjects.Folder → ⊥) × CallRefused r.kind b r e) ⊎ ((meta ≡ Ordered) × (e ≡ NoMemory))
+abbrev pub StepRefused : (old : Files) → List ℕ → Record → PlayError → Type 0
+StepRefused old b r e = ((r.subject ≡ subjects.Folder → ⊥) × CallRefused r.kind b r (name_at r.subject old) e) ⊎ ((old.meta ≡ Ordered) × (e ≡ NoMemory))
 
 -- what refuses to play records: the first that can't be played
 abbrev pub PlaysRefused : List ℕ → List Record → (old : Files) → PlayError → Type 0
 PlaysRefused b [] old e = ⊥
-PlaysRefused b (r ∷ records) old e = StepRefused old.meta b r e ⊎ ((mid : Files) × Step b r old mid × PlaysRefused b records mid e)
+PlaysRefused b (r ∷ records) old e = StepRefused old b r e ⊎ ((mid : Files) × Step b r old mid × PlaysRefused b records mid e)

@@ -30,6 +30,7 @@ kind_number kinds.Rename = 8
 kind_number kinds.FolderSync = 9
 kind_number kinds.Mark = 10
 kind_number kinds.NotHeld = 11
+kind_number kinds.End = 12
 
 abbrev pub subject_number : Subject → ℕ
 subject_number subjects.Db = 0

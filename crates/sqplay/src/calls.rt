@@ -18,7 +18,7 @@ pub(crate) fn play_call(
     requires { IsTrue (is_sector_size manner.now.sector) }
     ensures does { OnOk result (CallDoes call.now.kind manner.now.sector manner.now.tears manner.now.meta trace.now
         call.now (name_of name.old) (name_of name.new)) }
-    ensures refused { IfErr result (CallRefused call.now.kind trace.now call.now) }
+    ensures refused { IfErr result (CallRefused call.now.kind trace.now call.now (name_of name.old)) }
 {
     let fails = call.has_failed();
     match call.kind {
@@ -44,6 +44,8 @@ pub(crate) fn play_call(
         Kind::Rename if fails => Ok(()),
         Kind::Rename => Err(PlayError::Renamed),
         Kind::NotHeld => Err(PlayError::NotHeld),
+        Kind::End if name.is_as_noted(manner.alloc, call)? => Ok(()),
+        Kind::End => Err(PlayError::Differs),
         Kind::Close | Kind::FolderSync | Kind::Mark => Ok(()),
     }
 }

@@ -14,6 +14,9 @@ pub enum PlayError {
     /// It renames a file.
     #[error("a file was renamed")]
     Renamed,
+    /// Of a file as it was when recording ended: the calls before it leave another one, so some weren't recorded.
+    #[error("a file isn't what the recorded calls leave")]
+    Differs,
     /// A file would end above 1,099,511,627,776 bytes.
     #[error("the file would be too long")]
     TooLong,

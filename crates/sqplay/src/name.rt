@@ -4,10 +4,12 @@ ghost use Rattle.crashdisk.specs.Call.{IsNew, EndsWithin};
 ghost use Rattle.crashdisk.specs.Ending.{EndsDb};
 ghost use Rattle.crashdisk.specs.Model.{state_of};
 ghost use Rattle.crashdisk.specs.Solid.{is_sector_size};
+ghost use Rattle.sqplay.specs.Ends.{sum_of};
 ghost use Rattle.sqplay.specs.Files.{answer_of, IsWritten, IsCut, IsSynced, FileRefused};
 
 use crate::error::PlayError;
 use crate::meta::{Holds, Meta};
+use crate::trace::Record;
 use crashdisk::{Disk, DiskError, File, ModelDisk, Part};
 use std::alloc::Global;
 
@@ -116,6 +118,19 @@ fn sync_file(disk: &mut ModelDisk, alloc: Global, fails: bool) -> Result<(), Pla
     told(disk.sync(File::Db), fails)
 }
 
+/// The sum of bytes (docs/TRACE.md).
+fn sum_of(bytes: &[u8]) -> u64
+    ensures { result ≡ sum_of bytes.now }
+{
+    let mut sum = 0u64;
+    for byte in bytes {
+        sum = sum
+            .wrapping_mul(1_099_511_628_211)
+            .wrapping_add(u64::from(*byte));
+    }
+    sum
+}
+
 /// The files that a crash may leave under a name. Each is the database file of a modelled disk.
 #[derive(Drop)]
 pub struct Name {
@@ -124,6 +139,8 @@ pub struct Name {
     pub(crate) files: Vec<ModelDisk>,
     /// Where in that list the one stands that was made last, as it was before the truncations that may not be down.
     pub(crate) made: usize,
+    /// The least length that one of these truncations gave it.
+    pub(crate) below: u64,
     /// Whether a crash may leave none.
     pub(crate) maybe_none: bool,
     /// Whether the name is gone now.
@@ -131,13 +148,17 @@ pub struct Name {
 }
 
 impl Name {
-    ghost use Rattle.std.specs.Prelude.{◌≡◌, ◌↔◌, IsTrue, true, ◌+◌, length, OnOk, IfOk, IfErr, map};
+    ghost use Rattle.std.specs.Prelude.{◌≡◌, ◌↔◌, IsTrue, true, ◌+◌, ◌++◌, ℕ, List, length, OnOk, IfOk, IfErr, map};
+    ghost use Rattle.std.specs.Prelude.{MatchBool};
     ghost use Rattle.crashdisk.specs.Model.{state_of};
     ghost use Rattle.crashdisk.specs.Solid.{is_sector_size};
     ghost use Rattle.sqplay.specs.Files.{IsWritten, IsCut, IsSynced, FileRefused};
     ghost use Rattle.sqplay.specs.Names.{name_of, no_file, LastGoes, IsBase, Makes, IsLonger, CutsWhole, Cuts, Syncs};
-    ghost use Rattle.sqplay.specs.Names.{without_uncut, last_made, only_now};
+    ghost use Rattle.sqplay.specs.Names.{without_uncut, last_made, only_now, UncutGo, TakesBelow, Writes, least_cut};
+    ghost use Rattle.sqplay.specs.Names.{ArePresentOf, file_now};
+    ghost use Rattle.sqplay.specs.Ends.{IsAsNoted, IsUnlikeNoted};
     ghost use Rattle.sqplay.specs.Plays.{holds_now};
+    ghost use Rattle.sqplay.specs.declared.error.PlayError.TheVariants.{NoMemory};
 
     /// Those that were made under it and are not gone for good, the oldest first, and behind each those that whole
     /// truncations left of it. A crash may leave an image of one of them.
@@ -161,6 +182,39 @@ impl Name {
         self.gone
     }
 
+    /// Appends the bytes of the file that has the name now, none where no file has it. NoMemory alone.
+    pub fn append_present(&self, out: &mut Vec<u8>) -> Result<(), DiskError>
+        ensures { OnOk result ((bytes : List ℕ) × (out.new.items ≡ out.old.items ++ bytes)
+            × ArePresentOf (file_now (name_of self.now)) bytes) }
+    {
+        if self.gone {
+            return Ok(());
+        }
+        match self.files().last() {
+            Some(disk) => disk.present(File::Db, out),
+            None => Ok(()),
+        }
+    }
+
+    /// Whether it is as a record of the end says: no file has it, or the present one has that length and that sum.
+    pub(crate) fn is_as_noted(&self, alloc: Global, end: &Record) -> Result<bool, PlayError>
+        ensures is { IfOk result (λ is. MatchBool is (IsAsNoted end.now (name_of self.now))
+            (IsUnlikeNoted end.now (name_of self.now))) }
+        ensures memory { IfErr result (λ e. e ≡ NoMemory) }
+    {
+        if self.gone {
+            return Ok(end.place == 0);
+        }
+        if end.place == 0 {
+            return Ok(false);
+        }
+        let mut bytes = Vec::new(alloc);
+        if self.append_present(&mut bytes).is_err() {
+            return Err(PlayError::NoMemory);
+        }
+        Ok(bytes.len() as u64 == end.length && sum_of(&bytes) == end.answer)
+    }
+
     /// What it holds after a crash that comes when all changes are down.
     pub(crate) fn holds(&self, meta: Meta) -> Holds
         ensures { result ≡ holds_now meta (name_of self.now) }
@@ -179,6 +233,7 @@ impl Name {
         Name {
             files: Vec::new(alloc),
             made: 0,
+            below: 0,
             maybe_none: true,
             gone: true,
         }
@@ -196,6 +251,7 @@ impl Name {
         Ok(Name {
             files,
             made: 0,
+            below: 0,
             maybe_none: false,
             gone: false,
         })
@@ -223,8 +279,46 @@ impl Name {
         self.gone = true;
     }
 
-    /// Bytes were written into the present file.
+    /// Bytes were written into the present file, and what lies below its truncations that may not be down into those
+    /// before these.
     pub(crate) fn write(
+        &mut self,
+        alloc: Global,
+        at: u64,
+        bytes: &[u8],
+        fails: bool,
+    ) -> Result<(), PlayError>
+        ensures does { OnOk result (Writes at bytes.now fails (name_of self.old) (name_of self.new)) }
+        ensures refused { IfErr result (FileRefused (at + length bytes.now)) }
+    {
+        self.write_uncut(alloc, at, bytes, fails)?;
+        self.write_last(alloc, at, bytes, fails)
+    }
+
+    /// The files that truncations left take the bytes below these.
+    fn write_uncut(
+        &mut self,
+        alloc: Global,
+        at: u64,
+        bytes: &[u8],
+        fails: bool,
+    ) -> Result<(), PlayError>
+        ensures does { OnOk result (UncutGo (TakesBelow (name_of self.old).below at bytes.now fails)
+            (name_of self.old) (name_of self.new)) }
+        ensures refused { IfErr result (FileRefused (at + length bytes.now)) }
+    {
+        if at >= self.below {
+            return Ok(());
+        }
+        let count = (self.below - at).min(bytes.len() as u64) as usize;
+        for k in self.made..self.files.len().saturating_sub(1) {
+            write_file(&mut self.files[k], alloc, at, &bytes[..count], fails)?;
+        }
+        Ok(())
+    }
+
+    /// The present file takes bytes.
+    fn write_last(
         &mut self,
         alloc: Global,
         at: u64,
@@ -286,8 +380,21 @@ impl Name {
         }
         let last = self.files.len() - 1;
         let cut = ended(&self.files[last], end)?;
+        let below = self.least_cut(end);
         self.files.push(cut)?;
+        self.below = below;
         Ok(())
+    }
+
+    /// The least length that a truncation to this one and those before it that may not be down gave.
+    fn least_cut(&self, end: u64) -> u64
+        ensures { result ≡ least_cut end (name_of self.now) }
+    {
+        if self.made < self.files.len().saturating_sub(1) {
+            self.below.min(end)
+        } else {
+            end
+        }
     }
 
     /// The present file was synced.

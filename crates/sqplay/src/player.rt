@@ -29,7 +29,7 @@ impl Player {
     ghost use Rattle.sqplay.specs.declared.trace.Subject.TheVariants.{Folder};
     ghost use Rattle.sqplay.specs.Names.{name_of};
     ghost use Rattle.sqplay.specs.Plays.{files_of, no_files, epoch_now, NamesGo, Step, StepRefused, Plays};
-    ghost use Rattle.sqplay.specs.Plays.{Follows, CallRefused, PlaysRefused};
+    ghost use Rattle.sqplay.specs.Plays.{Follows, CallRefused, PlaysRefused, name_at};
 
     /// None of the files is there. The disks have sectors of this size, a power of two from 512 to 65536 bytes, and
     /// tear or not; metadata goes down so.
@@ -49,6 +49,13 @@ impl Player {
             journal: Name::nothing(alloc),
             earlier: Vec::new(alloc),
         }
+    }
+
+    /// Whether a sector that was being written may hold anything after a crash.
+    pub fn tears(&self) -> bool
+        ensures { result ≡ (files_of self.now).tears }
+    {
+        self.manner.tears
     }
 
     /// What a crash may leave under the name of the database file.
@@ -92,11 +99,11 @@ impl Player {
         }
     }
 
-    /// Plays one record of a trace. Refused by NotHeld, Renamed (of a rename that didn't fail), TooLong and NoMemory,
-    /// after which nothing is said of the files.
+    /// Plays one record of a trace. Refused by NotHeld, Renamed (of a rename that didn't fail), Differs, TooLong and
+    /// NoMemory, after which nothing is said of the files.
     pub fn play(&mut self, trace: &[u8], call: &Record) -> Result<(), PlayError>
         ensures step { OnOk result (Step trace.now call.now (files_of self.old) (files_of self.new)) }
-        ensures refused { IfErr result (StepRefused (files_of self.old).meta trace.now call.now) }
+        ensures refused { IfErr result (StepRefused (files_of self.old) trace.now call.now) }
     {
         let before = self.epoch();
         self.go(trace, call)?;
@@ -107,7 +114,8 @@ impl Player {
     fn go(&mut self, trace: &[u8], call: &Record) -> Result<(), PlayError>
         ensures goes { OnOk result (NamesGo trace.now call.now (files_of self.old) (files_of self.new)) }
         ensures refused { IfErr result
-            (λ e. (call.now.subject ≡ Folder → ⊥) × CallRefused call.now.kind trace.now call.now e) }
+            (λ e. (call.now.subject ≡ Folder → ⊥) × CallRefused call.now.kind trace.now call.now
+            (name_at call.now.subject (files_of self.old)) e) }
     {
         let manner = self.manner;
         match call.subject {

@@ -40,6 +40,8 @@ pub enum Kind {
     Mark,
     /// A call that a trace can't hold.
     NotHeld,
+    /// A file as it was when recording ended: its place is 1 where it was there, its answer is its sum.
+    End,
 }
 
 /// What a record speaks of.
@@ -142,6 +144,7 @@ impl Kind {
             9 => Kind::FolderSync,
             10 => Kind::Mark,
             11 => Kind::NotHeld,
+            12 => Kind::End,
             _ => return None,
         })
     }

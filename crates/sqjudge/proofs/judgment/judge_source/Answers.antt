@@ -6,8 +6,8 @@ use Rattle.sqjudge.specs.Shown.{Commit, IsLastShown, commits_of}
 use Rattle.sqjudge.specs.Judged.{IsJudged}
 use Rattle.sqjudge.proofs.judgment.judge_source.Goals as goal
 
-pub returns-in-None : goal.returns-in-None
-returns-in-None g c = λ gives.
+pub returns-in-None-clause-judged : goal.returns-in-None-clause-judged
+returns-in-None-clause-judged g c = λ gives.
     let commits = commits_of c.args.history.now in
     let known = c.args.known in
     let d = g.S.PageSource.pages c.args.source.now in
@@ -19,4 +19,4 @@ returns-in-None g c = λ gives.
     IfOk-weaker c.unshown.result (λ j. (cs : List Commit) (m : ℕ) → IsLastShown cs e None → IsJudged cs m e size2 j) (λ j. IsJudged commits known d size j)
     (λ j h. subst (λ (s : ℕ). IsJudged commits known d s j) c.in_ok-shown.ensures.keeps.same_size
     (subst (λ (x : Database). IsJudged commits known x size2 j) same (h commits known (subst (λ (x : Database). IsLastShown commits x None) (sym same) last))))
-    (c.unshown.ensures (c.in_ok-shown.ensures.keeps.still_gives gives))
+    (c.unshown.ensures.judged (c.in_ok-shown.ensures.keeps.still_gives gives))

@@ -10,3 +10,7 @@ returns-in-Ok-clause-noted c =
 pub returns-in-Err-clause-noted : goal.returns-in-Err-clause-noted
 returns-in-Err-clause-noted c =
     c.note_refused.ensures.noted c.args.db.now c.args.wal.now c.args.journal.now (c.in-Err.ensures.answer (tt, tt, tt)) (empty_tells c.is_empty.result c.args.db.now c.is_empty.ensures)
+
+pub returns-in-Err-clause-memory : goal.returns-in-Err-clause-memory
+returns-in-Err-clause-memory c =
+    c.note_refused.ensures.memory c.args.db.now c.args.wal.now c.args.journal.now (c.in-Err.ensures.answer (tt, tt, tt))

@@ -6,5 +6,5 @@ use Rattle.sqplay.proofs.name.Name.sync_last.Goals as goal
 pub returns-clause-does : goal.returns-clause-does
 returns-clause-does c =
     let name = c.args.self.now in
-    last_goes c.sync_file.result (IsSynced c.args.fails) name.files.items name.made name.maybe_none name.gone (c.len-last.result - 1) c.index_mut.result.now c.sync_file.new.disk
+    last_goes c.sync_file.result (IsSynced c.args.fails) name.files.items name.made name.below name.maybe_none name.gone (c.len-last.result - 1) c.index_mut.result.now c.sync_file.new.disk
     (omega (arith, c.len-last.ensures, name.files.ok, some_left name.files.len c.is_empty.result c.is_empty.ensures c.if-is_empty.false)) c.index_mut.ensures.value c.sync_file.ensures.does
