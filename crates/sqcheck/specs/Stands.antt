@@ -14,7 +14,7 @@ use Rattle.sqpage.specs.Layout.{LayoutRefused}
 use Rattle.sqpage.specs.PointerMaps.{lock_byte_page, IsPointerMap, IsEntryPlace}
 use Rattle.sqpage.specs.declared.pointer_map.EntryPlace.{EntryPlace}
 use Rattle.sqcheck.specs.Places.{overflow, holder, Node, trunk, link, node, Spot, page_as, HasKind, IsCellAt, IsKeyBefore, IsRow, IsSchemaRow}
-use Rattle.sqcheck.specs.WellFormed.{IsReached, IsAutoVacuum, IsIncremental, SaysSo, IsLargestRoot, is_link, is_free, FirstLeaf, IsInOrder}
+use Rattle.sqcheck.specs.WellFormed.{IsReached, IsSound, IsAutoVacuum, IsIncremental, SaysSo, IsLargestRoot, is_link, is_free, FirstLeaf, IsInOrder}
 
 -- some key isn't behind the one before, or is behind the high bound
 abbrev pub HasKeyOutOfOrder : Page → Node → Type 0
@@ -44,11 +44,12 @@ NodeRefused d _ p x = ⊥
 abbrev pub OnNode : (Counts : Spot → Type 0) → Database → Fault → (p : ℕ) → Type 0
 OnNode Counts d fault p = (s : Spot) × (x : Node) × Counts s × (s.page ≡ p) × IsPage d p × (s.role ≡ node x) × NodeRefused d fault p x
 
--- these are all places of the freelist that count, each once
-pub record AreFreePlaces (Counts : Spot → Type 0) (free : List Spot) : Type 0 where
+-- These are all places of the freelist that count, each once. What is behind each is known.
+pub record AreFreePlaces (Counts IsKnown : Spot → Type 0) (free : List Spot) : Type 0 where
   pub all : (s : Spot) → Counts s → is_free s.role ≡ true → In s free
   pub reached : Every (λ s. Counts s × (is_free s.role ≡ true)) free
   pub distinct : Apart free
+  pub known : Every IsKnown free
 
 -- nothing may name page p: the lock-byte page, and where pointer maps are asked for each of these
 abbrev pub IsAsideWith : (maps : Bool) → Database → (size p : ℕ) → Type 0
@@ -64,33 +65,34 @@ IsNamedTwice Counts maps d size p =
 abbrev pub HasWrongEntry : (Counts : Spot → Type 0) → Database → (size map : ℕ) → Type 0
 HasWrongEntry Counts d size map = (s : Spot) × (entry : EntryPlace) × Counts s × IsEntryPlace size (usable_size d) s.page entry × (entry.map ≡ map) × ¬ SaysSo d entry s.place s.role
 
--- The condition of a fault of the file holds at page p, by the places that count.
-abbrev pub StandsBy : (Counts : Spot → Type 0) → (maps : Bool) → Database → (size : ℕ) → Fault → (p : ℕ) → Type 0
-StandsBy Counts maps d size faults.Magic p = (p ≡ 1) × ¬ HasMagic (page d 1)
-StandsBy Counts maps d size faults.PageSize p = (p ≡ 1) × (¬ HasPageSize (page d 1) ⊎ (size_named (page d 1) ≢ size))
-StandsBy Counts maps d size faults.Fraction p = (p ≡ 1) × ¬ HasFractions (page d 1)
-StandsBy Counts maps d size faults.Reserved p = (p ≡ 1) × ¬ HasRoom (page d 1)
-StandsBy Counts maps d size faults.AutoVacuum p = (p ≡ 1) × (maps ≡ false) × (word (page d 1) 52 ≢ 0)
-StandsBy Counts maps d size faults.Kind p = OnNode Counts d faults.Kind p
-StandsBy Counts maps d size faults.CellOutside p = OnNode Counts d faults.CellOutside p
-StandsBy Counts maps d size faults.Overlap p = OnNode Counts d faults.Overlap p
-StandsBy Counts maps d size faults.Freeblock p = OnNode Counts d faults.Freeblock p
-StandsBy Counts maps d size faults.Fragments p = OnNode Counts d faults.Fragments p
-StandsBy Counts maps d size faults.ChainCut p = (s : Spot) × (owner needed : ℕ) × Counts s × (s.role ≡ link owner needed) × (holder s.place ≡ p) × ((s.page ≡ 0) ⊎ ((i : ℕ) × (s.place ≡ overflow p i) × (length d < needed)))
-StandsBy Counts maps d size faults.ChainLong p = (s : Spot) × (owner : ℕ) × Counts s × (s.page ≡ p) × IsPage d p × (s.role ≡ link owner 1) × (next_in (page d p) ≢ 0)
-StandsBy Counts maps d size faults.PageTwice p = IsPage d p × IsNamedTwice Counts maps d size p
-StandsBy Counts maps d size faults.PageOutside p = (s : Spot) × Counts s × (holder s.place ≡ p) × ¬ IsPage d s.page × (IsTrue (is_link s.role) → s.page ≢ 0)
-StandsBy Counts maps d size faults.PageUnused p = IsPage d p × (¬ IsAsideWith maps d size p) × ((s : Spot) → Counts s → s.page ≢ p)
-StandsBy Counts maps d size faults.KeyOrder p = OnNode Counts d faults.KeyOrder p
-StandsBy Counts maps d size faults.Depth p = OnNode Counts d faults.Depth p
-StandsBy Counts maps d size faults.FreeCount p =
+-- The condition of a fault of the file holds at page p, by the places that count. That something is missing among them
+-- is told only where it is known what is behind each.
+abbrev pub StandsBy : (Counts IsKnown : Spot → Type 0) → (maps : Bool) → Database → (size : ℕ) → Fault → (p : ℕ) → Type 0
+StandsBy Counts IsKnown maps d size faults.Magic p = (p ≡ 1) × ¬ HasMagic (page d 1)
+StandsBy Counts IsKnown maps d size faults.PageSize p = (p ≡ 1) × (¬ HasPageSize (page d 1) ⊎ (size_named (page d 1) ≢ size))
+StandsBy Counts IsKnown maps d size faults.Fraction p = (p ≡ 1) × ¬ HasFractions (page d 1)
+StandsBy Counts IsKnown maps d size faults.Reserved p = (p ≡ 1) × ¬ HasRoom (page d 1)
+StandsBy Counts IsKnown maps d size faults.AutoVacuum p = (p ≡ 1) × (maps ≡ false) × (word (page d 1) 52 ≢ 0)
+StandsBy Counts IsKnown maps d size faults.Kind p = OnNode Counts d faults.Kind p
+StandsBy Counts IsKnown maps d size faults.CellOutside p = OnNode Counts d faults.CellOutside p
+StandsBy Counts IsKnown maps d size faults.Overlap p = OnNode Counts d faults.Overlap p
+StandsBy Counts IsKnown maps d size faults.Freeblock p = OnNode Counts d faults.Freeblock p
+StandsBy Counts IsKnown maps d size faults.Fragments p = OnNode Counts d faults.Fragments p
+StandsBy Counts IsKnown maps d size faults.ChainCut p = (s : Spot) × (owner needed : ℕ) × Counts s × (s.role ≡ link owner needed) × (holder s.place ≡ p) × ((s.page ≡ 0) ⊎ ((i : ℕ) × (s.place ≡ overflow p i) × (length d < needed)))
+StandsBy Counts IsKnown maps d size faults.ChainLong p = (s : Spot) × (owner : ℕ) × Counts s × (s.page ≡ p) × IsPage d p × (s.role ≡ link owner 1) × (next_in (page d p) ≢ 0)
+StandsBy Counts IsKnown maps d size faults.PageTwice p = IsPage d p × IsNamedTwice Counts maps d size p
+StandsBy Counts IsKnown maps d size faults.PageOutside p = (s : Spot) × Counts s × (holder s.place ≡ p) × ¬ IsPage d s.page × (IsTrue (is_link s.role) → s.page ≢ 0)
+StandsBy Counts IsKnown maps d size faults.PageUnused p = IsPage d p × (¬ IsAsideWith maps d size p) × ((s : Spot) → Counts s → IsKnown s × (s.page ≢ p))
+StandsBy Counts IsKnown maps d size faults.KeyOrder p = OnNode Counts d faults.KeyOrder p
+StandsBy Counts IsKnown maps d size faults.Depth p = OnNode Counts d faults.Depth p
+StandsBy Counts IsKnown maps d size faults.FreeCount p =
     ((s : Spot) × Counts s × (s.page ≡ p) × IsPage d p × (s.role ≡ trunk) × (most_leaves d < leaf_count_in (page d p)))
-    ⊎ ((p ≡ 1) × (free : List Spot) × AreFreePlaces Counts free × (length free ≢ free_pages d))
-StandsBy Counts maps d size faults.SchemaRecord p = OnNode Counts d faults.SchemaRecord p
-StandsBy Counts maps d size faults.Source p = ⊥
-StandsBy Counts maps d size faults.NoMemory p = Unit {0}
-StandsBy Counts maps d size faults.PointerMap p =
-    (maps ≡ true) × ((IsAutoVacuum d × (HasWrongEntry Counts d size p ⊎ ((p ≡ 1) × ¬ IsLargestRoot Counts (word (page d 1) 52)))) ⊎ ((p ≡ 1) × IsIncremental d × ¬ IsAutoVacuum d))
+    ⊎ ((p ≡ 1) × (free : List Spot) × AreFreePlaces Counts IsKnown free × (length free ≢ free_pages d))
+StandsBy Counts IsKnown maps d size faults.SchemaRecord p = OnNode Counts d faults.SchemaRecord p
+StandsBy Counts IsKnown maps d size faults.Source p = ⊥
+StandsBy Counts IsKnown maps d size faults.NoMemory p = Unit {0}
+StandsBy Counts IsKnown maps d size faults.PointerMap p =
+    (maps ≡ true) × ((IsAutoVacuum d × (HasWrongEntry Counts d size p ⊎ ((p ≡ 1) × ((s : Spot) → Counts s → IsKnown s) × ¬ IsLargestRoot Counts (word (page d 1) 52)))) ⊎ ((p ≡ 1) × IsIncremental d × ¬ IsAutoVacuum d))
 
 -- it is one of the header, or memory ran out
 abbrev pub is_of_header : Fault → Bool
@@ -102,10 +104,10 @@ is_of_header faults.AutoVacuum = true
 is_of_header faults.NoMemory = true
 is_of_header _ = false
 
--- The condition holds by the reached places. Of a database of auto-vacuum only the header is judged where no pointer maps
+-- The condition holds by the reached places. What is behind a place is known where its page is sound. Of a database of auto-vacuum only the header is judged where no pointer maps
 -- are asked for.
 pub record StandsWith (maps : Bool) (d : Database) (size : ℕ) (fault : Fault) (p : ℕ) : Type 0 where
-  pub stands : StandsBy (IsReached d) maps d size fault p
+  pub stands : StandsBy (IsReached d) (IsSound d) maps d size fault p
   pub judged : IsAutoVacuum d → (maps ≡ true) ⊎ (is_of_header fault ≡ true)
 
 -- the same where auto-vacuum is refused

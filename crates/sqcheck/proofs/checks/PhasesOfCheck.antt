@@ -491,9 +491,9 @@ apart_of (s ∷ ss) h = (go ss h.0, apart_of ss h.1)
     go (t ∷ ts) h = ((λ e. h.0 (ap (λ (z : Spot). z.page) e)), go ts h.1)
 
 -- The freelist isn't as long as the header says.
-pub free_count_stands : (d : Database) (maps : Bool) (size : ℕ) (visited : List Spot) (counts : Counts) (said : ℕ) → said ≡ free_pages d → AreCounted visited counts → Apart (numbers visited) → Every (IsReached d) visited
-    → ((s : Spot) → IsReached d s → is_free s.role ≡ true → In s visited) → counts.free ≢ said → StandsBy (IsReached d) maps d size faults.FreeCount 1
-free_count_stands d maps size visited counts said e c apart reached all ne =
+pub free_count_stands : (d : Database) (maps : Bool) (size : ℕ) (visited : List Spot) (counts : Counts) (said : ℕ) → said ≡ free_pages d → AreCounted visited counts → Apart (numbers visited) → Every (IsReached d) visited → Every (IsSound d) visited
+    → ((s : Spot) → IsReached d s → is_free s.role ≡ true → In s visited) → counts.free ≢ said → StandsBy (IsReached d) (IsSound d) maps d size faults.FreeCount 1
+free_count_stands d maps size visited counts said e c apart reached sound all ne =
     let p = passing (λ (s : Spot). is_free s.role) visited (apart_of visited apart) in
     inr (
       refl,
@@ -502,6 +502,7 @@ free_count_stands d maps size visited counts said e c apart reached all ne =
         all = λ s r f. p.4 s (all s r f) f;
         reached = every_from_in (λ s. IsReached d s × (is_free s.role ≡ true)) p.0 (λ s i. (every_in (IsReached d) s visited reached (p.3 s i).0, (p.3 s i).1));
         distinct = p.1;
+        known = every_from_in (IsSound d) p.0 (λ s i. every_in (IsSound d) s visited sound (p.3 s i).0);
       },
       λ same. ne (c.free ∙ sym p.2 ∙ same ∙ sym e),
     )
@@ -517,11 +518,11 @@ plainly : (maps : Bool) (d : Database) (size p : ℕ) → IsAsideWith maps d siz
 plainly maps d size p (inl lock) = inl lock
 plainly maps d size p (inr map) = inr (map.1, map.2)
 
-pub unused_stands : (d : Database) (maps : Bool) (size : ℕ) → length (page d 1) ≡ size → (marks : List Bool) (visited : List Spot) (p : ℕ) → Agenda d true marks visited [] → IsWithin (length marks) p → is_marked marks p ≡ false → StandsBy (IsReached d) maps d size faults.PageUnused p
+pub unused_stands : (d : Database) (maps : Bool) (size : ℕ) → length (page d 1) ≡ size → (marks : List Bool) (visited : List Spot) (p : ℕ) → Agenda d true marks visited [] → IsWithin (length marks) p → is_marked marks p ≡ false → StandsBy (IsReached d) (IsSound d) maps d size faults.PageUnused p
 unused_stands d maps size same marks visited p a is free = (
   subst (λ n. IsWithin n p) a.tour.sized is,
   (λ aside. let m : is_marked marks p ≡ true = a.tour.taken.aside p is (subst (λ n. IsSetAside d n p) (sym same) (plainly maps d size p aside)) in let both : true ≡ false = sym m ∙ free in cc),
-  λ s r e. absurd (let m : is_marked marks p ≡ true = a.tour.taken.all p (subst (λ q. In q (numbers visited)) e (in_map (λ z. z.page) s visited (all_visited d marks visited a r))) in let both : true ≡ false = sym m ∙ free in cc),
+  λ s r. (every_in (IsSound d) s visited a.sound (all_visited d marks visited a r), λ e. absurd (let m : is_marked marks p ≡ true = a.tour.taken.all p (subst (λ q. In q (numbers visited)) e (in_map (λ z. z.page) s visited (all_visited d marks visited a r))) in let both : true ≡ false = sym m ∙ free in cc)),
 )
 
 -- Each page was visited once.
@@ -551,13 +552,14 @@ largest_of d marks visited counts a c = (
 
 -- The header says another.
 pub largest_stands : (d : Database) (maps : Bool) (size : ℕ) (marks : List Bool) (visited : List Spot) (counts : Counts) (said : ℕ) → said ≡ word (page d 1) 52 → IsAutoVacuum d → Agenda d true marks visited [] → AreCounted visited counts
-    → counts.largest_root ≢ said → maps ≡ true → StandsBy (IsReached d) maps d size faults.PointerMap 1
+    → counts.largest_root ≢ said → maps ≡ true → StandsBy (IsReached d) (IsSound d) maps d size faults.PointerMap 1
 largest_stands d maps size marks visited counts said e auto a c ne asked = (
   asked,
   inl (
     auto,
     inr (
       refl,
+      (λ s r. every_in (IsSound d) s visited a.sound (all_visited d marks visited a r)),
       λ l.
           let most = largest_of d marks visited counts a c in
           let up : word (page d 1) 52 ≤ counts.largest_root = (let r = most.0 l.1.0 l.1.1 l.1.2 in let at = l.1.3 in omega (arith, r, at)) in

@@ -84,7 +84,7 @@ module _ (maps : Bool) (d : Database) (size : ℕ) (w : WellFormedWith maps d si
   one_page (x ∷ ss) s t h (inr i) (inl g) e = absurd (every_in (λ y. x.page ≡ y → ⊥) s.page (numbers ss) h.0 (in_map (λ z. z.page) s ss i) (ap (λ (z : Spot). z.page) (sym g) ∙ sym e))
   one_page (x ∷ ss) s t h (inr i) (inr j) e = one_page ss s t h.1 i j e
 
-  counted : (free : List Spot) → AreFreePlaces (IsReached d) free → length free ≡ count_by (λ s. is_free s.role) w.places
+  counted : (free : List Spot) → AreFreePlaces (IsReached d) (IsSound d) free → length free ≡ count_by (λ s. is_free s.role) w.places
   counted free a =
       let r = passing (λ (s : Spot). is_free s.role) w.places (apart_spots w.places w.once.distinct) in
       let more = no_more free r.0 a.distinct (λ s i. let h = every_in (λ s. IsReached d s × (is_free s.role ≡ true)) s free a.reached i in r.4 s (w.all s h.0) h.1) in
@@ -92,7 +92,7 @@ module _ (maps : Bool) (d : Database) (size : ℕ) (w : WellFormedWith maps d si
       omega (arith, more, less, r.2)
 
   -- the condition of no fault holds
-  none_by : (fault : Fault) (p : ℕ) → StandsBy (IsReached d) maps d size fault p → (IsAutoVacuum d → (maps ≡ true) ⊎ (is_of_header fault ≡ true)) → fault ≢ faults.NoMemory → ⊥
+  none_by : (fault : Fault) (p : ℕ) → StandsBy (IsReached d) (IsSound d) maps d size fault p → (IsAutoVacuum d → (maps ≡ true) ⊎ (is_of_header fault ≡ true)) → fault ≢ faults.NoMemory → ⊥
   none_by faults.Magic p h asked other = h.1 w.header.magic
   none_by faults.PageSize p (e, inl never) asked other = never (subst IsPageSize (sym w.header.page_size) w.size_is)
   none_by faults.PageSize p (e, inr ne) asked other = ne w.header.page_size
@@ -113,7 +113,7 @@ module _ (maps : Bool) (d : Database) (size : ℕ) (w : WellFormedWith maps d si
   none_by faults.PageOutside p (s, r, at, never, link_zero) asked other = never (sound s r).named
   none_by faults.PageUnused p (is, off, never) asked other =
       let v = from_map (λ x. x.page) p w.places (w.once.each p is (λ aside. off (⊎_elim (λ lock. inl lock) (λ map. inr (⊎_elim (λ yes. yes) (λ no. absurd (cc)) (asked map.0), map.0, map.1)) aside))) in
-      never v.0 (every_in (IsReached d) v.0 w.places w.reached v.1) (sym v.2)
+      (never v.0 (every_in (IsReached d) v.0 w.places w.reached v.1)).1 (sym v.2)
   none_by faults.KeyOrder p (s, x, r, e, is, role, (kind, b, (i, cell, before, has, key, never))) asked other =
       let n = on_kind p s x kind r e role b.kind in
       never (subst (λ k. Rattle.sqcheck.specs.WellFormed.KeysRise (page_as d k p) x) n.1 n.0.keys i cell before has key)
@@ -129,7 +129,7 @@ module _ (maps : Bool) (d : Database) (size : ℕ) (w : WellFormedWith maps d si
       let it = of_x schema kind b.kind leaf i bytes row in
       never it.0 it.1
   none_by faults.PointerMap p (only, inl (auto, inl (s, entry, r, at, e, wrong))) asked other = wrong ((w.mapped auto).entries s r entry at)
-  none_by faults.PointerMap p (only, inl (auto, inr (e, none))) asked other = none (w.mapped auto).largest
+  none_by faults.PointerMap p (only, inl (auto, inr (e, known, none))) asked other = none (w.mapped auto).largest
   none_by faults.PointerMap p (only, inr (e, incremental, plain)) asked other = plain (w.header.incremental only incremental)
   none_by faults.Source p h asked other = h
   none_by faults.NoMemory p h asked other = other refl

@@ -15,7 +15,7 @@ use Rattle.sqpage.proofs.btree.PartsOfCells.{SameCell, cell_once}
 use Rattle.sqpage.proofs.chain.ListsByRecursion.{in_left, in_right, in_cases, every_append}
 use Rattle.sqcheck.specs.declared.schema.Root.{Root}
 use Rattle.sqcheck.specs.Places.{root, Spot, spot, page_as, HasKind, IsCellAt, IsRow, IsSchemaRow, InRow, root_of_tree}
-use Rattle.sqcheck.specs.WellFormed.{IsReached}
+use Rattle.sqcheck.specs.WellFormed.{IsSound, IsReached}
 use Rattle.sqcheck.specs.Stands.{StandsBy}
 use Rattle.sqcheck.specs.internal.Schema.{IsRowsPage, AreSchemaRows, AllSchemaRows, InRowBelow, InRowsOf, IsRootAt, RootsMatch, Finds, KeepsFound}
 use Rattle.sqcheck.proofs.checks.ListsByRecursion.{every_weaker, every_map, map_append, apart_append}
@@ -170,7 +170,7 @@ row_more d p n r bytes cell old mid new is payload row once zero' full found fin
     ]
 
 -- A row that is none of the schema.
-pub row_stands : (d : Database) (maps : Bool) (size p n : ℕ) (bytes : List ℕ) (cell : Cell) → IsRowsPage d p → IsCellAt (page_as d TableLeaf p) n cell → IsPayload d cell bytes → ((r : ℕ) → ¬ IsSchemaRow bytes r) → StandsBy (IsReached d) maps d size faults.SchemaRecord p
+pub row_stands : (d : Database) (maps : Bool) (size p n : ℕ) (bytes : List ℕ) (cell : Cell) → IsRowsPage d p → IsCellAt (page_as d TableLeaf p) n cell → IsPayload d cell bytes → ((r : ℕ) → ¬ IsSchemaRow bytes r) → StandsBy (IsReached d) (IsSound d) maps d size faults.SchemaRecord p
 row_stands d maps size p n bytes cell w is payload never =
     (w.spot, w.x, w.reached, w.names, w.page, w.role, (w.schema, (TableLeaf, w.page_is, (refl, n, bytes, record { cell = cell; is = is; payload = payload }, never))))
 

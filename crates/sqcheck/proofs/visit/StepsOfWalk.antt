@@ -44,24 +44,24 @@ pub popped_top : (tree : Tree) (stack popped : List Item) (it : Item) (pending :
 popped_top tree stack popped it pending m e = top_of tree it (reverse popped) pending (subst (λ l. Match tree l pending) (ap reverse e ∙ reverse-append popped (it ∷ [])) m)
 
 -- What is wrong with a page of a tree stands at it.
-pub node_stands : (Counts : Spot → Type 0) (d : Database) (maps : Bool) (size : ℕ) (s : Spot) → Counts s → (p : ℕ) (x : Node) (fault : Fault) → s.page ≡ p → s.role ≡ node x → IsPage d p → NodeRefused d fault p x → StandsBy Counts maps d size fault p
-node_stands Counts d maps size s r p x faults.Kind e role page h = (s, x, r, e, page, role, h)
-node_stands Counts d maps size s r p x faults.CellOutside e role page h = (s, x, r, e, page, role, h)
-node_stands Counts d maps size s r p x faults.Overlap e role page h = (s, x, r, e, page, role, h)
-node_stands Counts d maps size s r p x faults.Freeblock e role page h = (s, x, r, e, page, role, h)
-node_stands Counts d maps size s r p x faults.Fragments e role page h = (s, x, r, e, page, role, h)
-node_stands Counts d maps size s r p x faults.KeyOrder e role page h = (s, x, r, e, page, role, h)
-node_stands Counts d maps size s r p x faults.Depth e role page h = (s, x, r, e, page, role, h)
-node_stands Counts d maps size s r p x faults.SchemaRecord e role page h = (s, x, r, e, page, role, h)
-node_stands Counts d maps size s r p x _ e role page h = absurd h
+pub node_stands : (Counts IsKnown : Spot → Type 0) (d : Database) (maps : Bool) (size : ℕ) (s : Spot) → Counts s → (p : ℕ) (x : Node) (fault : Fault) → s.page ≡ p → s.role ≡ node x → IsPage d p → NodeRefused d fault p x → StandsBy Counts IsKnown maps d size fault p
+node_stands Counts IsKnown d maps size s r p x faults.Kind e role page h = (s, x, r, e, page, role, h)
+node_stands Counts IsKnown d maps size s r p x faults.CellOutside e role page h = (s, x, r, e, page, role, h)
+node_stands Counts IsKnown d maps size s r p x faults.Overlap e role page h = (s, x, r, e, page, role, h)
+node_stands Counts IsKnown d maps size s r p x faults.Freeblock e role page h = (s, x, r, e, page, role, h)
+node_stands Counts IsKnown d maps size s r p x faults.Fragments e role page h = (s, x, r, e, page, role, h)
+node_stands Counts IsKnown d maps size s r p x faults.KeyOrder e role page h = (s, x, r, e, page, role, h)
+node_stands Counts IsKnown d maps size s r p x faults.Depth e role page h = (s, x, r, e, page, role, h)
+node_stands Counts IsKnown d maps size s r p x faults.SchemaRecord e role page h = (s, x, r, e, page, role, h)
+node_stands Counts IsKnown d maps size s r p x _ e role page h = absurd h
 
 -- What is said of a fault at a place that comes next.
-module _ (Counts : Spot → Type 0) (Aside : ℕ → Type 0) (d : Database) (maps : Bool) (size : ℕ) (aside_is : (p : ℕ) → Aside p → IsAsideWith maps d size p) (tree : Tree) (it : Item) (s : Spot) (is : IsItemOf tree it s) (r : Counts s) where
-  wrong : (p : ℕ) (role : Role) (fault : Fault) → s.page ≡ p → s.role ≡ role → IsPage d p → PageWrong d p role fault → StandsBy Counts maps d size fault p
-  wrong p trunk fault e role page h = subst (λ f. StandsBy Counts maps d size f p) (sym h.0) (inl (s, r, e, page, role, h.1))
+module _ (Counts IsKnown : Spot → Type 0) (Aside : ℕ → Type 0) (d : Database) (maps : Bool) (size : ℕ) (aside_is : (p : ℕ) → Aside p → IsAsideWith maps d size p) (tree : Tree) (it : Item) (s : Spot) (is : IsItemOf tree it s) (r : Counts s) where
+  wrong : (p : ℕ) (role : Role) (fault : Fault) → s.page ≡ p → s.role ≡ role → IsPage d p → PageWrong d p role fault → StandsBy Counts IsKnown maps d size fault p
+  wrong p trunk fault e role page h = subst (λ f. StandsBy Counts IsKnown maps d size f p) (sym h.0) (inl (s, r, e, page, role, h.1))
   wrong p free_leaf fault e role page h = absurd h
-  wrong p (link owner needed) fault e role page h = subst (λ f. StandsBy Counts maps d size f p) (sym h.0) (s, owner, r, e, page, role ∙ ap (link owner) h.1, h.2)
-  wrong p (node x) fault e role page h = node_stands Counts d maps size s r p x fault e role page h
+  wrong p (link owner needed) fault e role page h = subst (λ f. StandsBy Counts IsKnown maps d size f p) (sym h.0) (s, owner, r, e, page, role ∙ ap (link owner) h.1, h.2)
+  wrong p (node x) fault e role page h = node_stands Counts IsKnown d maps size s r p x fault e role page h
 
   link_named : (task : Task) → LinksOn task it.page → IsTrue (is_link (role_of tree task)) → it.page ≢ 0
   link_named (tasks.Link o n first) h l = h
@@ -70,7 +70,7 @@ module _ (Counts : Spot → Type 0) (Aside : ℕ → Type 0) (d : Database) (map
   link_named (tasks.Node level low high) h l = absurd (cc)
 
   not_taken : (marks : List Bool) (fault : Fault) (at : ℕ) → length marks ≡ length d → LinksOn it.task it.page → MarkRefused marks it.holder it.page fault at
-      → (IsWithin (length d) s.page → is_marked marks s.page ≡ true → ((v : Spot) × Counts v × (v.place ≢ s.place) × (v.page ≡ s.page)) ⊎ Aside s.page) → StandsBy Counts maps d size fault at
+      → (IsWithin (length d) s.page → is_marked marks s.page ≡ true → ((v : Spot) × Counts v × (v.place ≢ s.place) × (v.page ≡ s.page)) ⊎ Aside s.page) → StandsBy Counts IsKnown maps d size fault at
   not_taken marks faults.PageOutside at len links h both = (
     s,
     r,
@@ -80,7 +80,7 @@ module _ (Counts : Spot → Type 0) (Aside : ℕ → Type 0) (d : Database) (map
   )
   not_taken marks faults.PageTwice at len links h both =
       let page : IsPage d it.page = subst (λ n. IsWithin n it.page) len (h.1, h.2) in
-      subst (StandsBy Counts maps d size faults.PageTwice) (sym h.0) (
+      subst (StandsBy Counts IsKnown maps d size faults.PageTwice) (sym h.0) (
         page,
         elim (both (subst (IsPage d) is.page page) (subst (λ n. is_marked marks n ≡ true) is.page h.3)) [
           | inl v ↦ inl (v.0, s, v.1, r, v.2, v.3 ∙ sym is.page, sym is.page)
@@ -90,7 +90,7 @@ module _ (Counts : Spot → Type 0) (Aside : ℕ → Type 0) (d : Database) (map
   not_taken marks _ at len links h both = absurd h
 
   -- A chain is cut.
-  cut : (owner needed at : ℕ) → LinkFits d s → s.role ≡ link owner needed → holder s.place ≡ at → (it.page ≡ 0) ⊎ (length d < needed) → StandsBy Counts maps d size faults.ChainCut at
+  cut : (owner needed at : ℕ) → LinkFits d s → s.role ≡ link owner needed → holder s.place ≡ at → (it.page ≡ 0) ⊎ (length d < needed) → StandsBy Counts IsKnown maps d size faults.ChainCut at
   cut owner needed at fits role holds (inl none) = (s, owner, needed, r, role, holds, inl (sym is.page ∙ none))
   cut owner needed at fits role holds (inr more) = elim (fits owner needed role) [
     | inl o ↦ (s, owner, needed, r, role, holds, inr (o.0, o.1 ∙ ap (λ p. overflow p o.0) holds, more))
@@ -98,12 +98,12 @@ module _ (Counts : Spot → Type 0) (Aside : ℕ → Type 0) (d : Database) (map
   ]
 
   pub refusal_stands : (marks : List Bool) (fault : Fault) (at : ℕ) → length marks ≡ length d → LinkFits d s → FollowRefused d tree it marks fault at
-      → (IsWithin (length d) s.page → is_marked marks s.page ≡ true → ((v : Spot) × Counts v × (v.place ≢ s.place) × (v.page ≡ s.page)) ⊎ Aside s.page) → StandsBy Counts maps d size fault at
+      → (IsWithin (length d) s.page → is_marked marks s.page ≡ true → ((v : Spot) × Counts v × (v.place ≢ s.place) × (v.page ≡ s.page)) ⊎ Aside s.page) → StandsBy Counts IsKnown maps d size fault at
   refusal_stands marks fault at len fits (inl h) both = not_taken marks fault at len h.0 h.1 both
-  refusal_stands marks fault at len fits (inr (inl h)) both = subst (StandsBy Counts maps d size fault) (sym h.0) (wrong it.page (role_of tree it.task) fault (sym is.page) is.role h.1 h.2)
+  refusal_stands marks fault at len fits (inr (inl h)) both = subst (StandsBy Counts IsKnown maps d size fault) (sym h.0) (wrong it.page (role_of tree it.task) fault (sym is.page) is.role h.1 h.2)
   refusal_stands marks fault at len fits (inr (inr (inl h))) both =
-      subst (λ f. StandsBy Counts maps d size f at) (sym h.0) (cut h.2 h.3 at fits (is.role ∙ ap (role_of tree) h.5) (sym is.stands ∙ sym h.1) h.6)
-  refusal_stands marks fault at len fits (inr (inr (inr h))) both = subst (λ f. StandsBy Counts maps d size f at) (sym h) tt
+      subst (λ f. StandsBy Counts IsKnown maps d size f at) (sym h.0) (cut h.2 h.3 at fits (is.role ∙ ap (role_of tree) h.5) (sym is.stands ∙ sym h.1) h.6)
+  refusal_stands marks fault at len fits (inr (inr (inr h))) both = subst (λ f. StandsBy Counts IsKnown maps d size f at) (sym h) tt
 
 -- With pointer maps asked for, a page that is set aside is one that nothing may name.
 pub aside_asked : (d : Database) (maps : Bool) (size : ℕ) → length (page d 1) ≡ size → (IsAutoVacuum d → maps ≡ true) → (p : ℕ) → IsAside d p → IsAsideWith maps d size p
@@ -265,14 +265,14 @@ module _ (d : Database) (late : Bool) (tree : Tree) (visited rest : List Spot) (
 
   -- Or it isn't.
   pub walk_refused : (fault : Fault) (at : ℕ) → FollowRefused d tree it uses.marks.items fault at → StandsNow d fault at
-  walk_refused fault at f maps size same asked = refusal_stands (IsReached d) (IsAside d) d maps size (aside_asked d maps size same asked) tree it top.spot top.is (agenda.tour.waiting.0) uses.marks.items fault at w.agenda.tour.sized (agenda.tour.fits.0) f (twice d (IsReached d) (IsAside d) uses.marks.items visited top.spot (top.others ++ rest) agenda.tour)
+  walk_refused fault at f maps size same asked = refusal_stands (IsReached d) (IsSound d) (IsAside d) d maps size (aside_asked d maps size same asked) tree it top.spot top.is (agenda.tour.waiting.0) uses.marks.items fault at w.agenda.tour.sized (agenda.tour.fits.0) f (twice d (IsReached d) (IsAside d) uses.marks.items visited top.spot (top.others ++ rest) agenda.tour)
 
   -- Or the entry of its page is wrong.
   pub entry_stands : (fault : Fault) (at : ℕ) → EntryRefused d it fault at → StandsNow d fault at
   entry_stands fault at h maps size same asked =
       let here : IsEntryPlace size (usable_size d) top.spot.page h.2 =
       subst (λ n. IsEntryPlace n (usable_size d) top.spot.page h.2) same (subst (λ p. IsEntryPlace (length (page d 1)) (usable_size d) p h.2) top.is.page h.3) in
-      subst (λ f. StandsBy (IsReached d) maps d size f at) (sym h.0) (asked h.1, inl (h.1, inl (top.spot, h.2, agenda.tour.waiting.0, here, h.4, λ says. h.5 (says_entry d tree it top.spot h.2 top.is says))))
+      subst (λ f. StandsBy (IsReached d) (IsSound d) maps d size f at) (sym h.0) (asked h.1, inl (h.1, inl (top.spot, h.2, agenda.tour.waiting.0, here, h.4, λ says. h.5 (says_entry d tree it top.spot h.2 top.is says))))
 
 -- Nothing was on the stack.
 pub nothing_popped : (d : Database) (late : Bool) (tree : Tree) (visited rest : List Spot) (uses : Uses) (walk popped : Walk) → Walking d late tree visited rest uses walk → walk.stack.items ≡ popped.stack.items ++ []

@@ -57,7 +57,7 @@ IsAside d p = IsSetAside d (length (page d 1)) p
 
 -- a fault that isn't one of the header stands, where pages are so long, and pointer maps are asked for if there are any
 abbrev pub StandsNow : Database → Fault → (at : ℕ) → Type 0
-StandsNow d fault at = (maps : Bool) (size : ℕ) → length (page d 1) ≡ size → (IsAutoVacuum d → maps ≡ true) → StandsBy (IsReached d) maps d size fault at
+StandsNow d fault at = (maps : Bool) (size : ℕ) → length (page d 1) ≡ size → (IsAutoVacuum d → maps ≡ true) → StandsBy (IsReached d) (IsSound d) maps d size fault at
 
 -- Marked are the pages that are set aside.
 abbrev pub MarksAside : Database → (marks : List Bool) → Type 0

@@ -3,7 +3,7 @@ use Rattle.sqpage.specs.declared.kind.Kind.TheVariants.{TableLeaf}
 use Rattle.sqpage.specs.Page.{Page, cell_count}
 use Rattle.sqcheck.specs.Places.{page_as}
 use Rattle.sqcheck.specs.internal.Schema.{InRowBelow, KeepsFound, AreSchemaRows}
-use Rattle.sqcheck.specs.WellFormed.{IsReached}
+use Rattle.sqcheck.specs.WellFormed.{IsReached, IsSound}
 use Rattle.sqcheck.proofs.checks.ResultsOfCalls.{on_ok}
 use Rattle.sqcheck.proofs.btree.FaultsOfTreePage.{as_page, page_refused}
 use Rattle.sqcheck.proofs.visit.FollowedItem.{used_read}
@@ -15,7 +15,7 @@ pub returns-in-Err-clause-err : goal.returns-in-Err-clause-err
 returns-in-Err-clause-err g c = λ given w maps size same asked.
     let d = g.V.Snapshot.pages in
     let read = c.read.new.self in
-    node_stands (IsReached d) d maps size w.spot w.reached c.args.number w.x c.in-Err.fault w.names w.role w.page
+    node_stands (IsReached d) (IsSound d) d maps size w.spot w.reached c.args.number w.x c.in-Err.fault w.names w.role w.page
     (page_refused d c.args.number _ c.in-Err.fault w.x (used_read d c.args.number read.usable c.deref.result.now (c.deref.ensures.value ∙ (c.read.ensures.read given).1) (read.used given)) c.in-Err.ensures.err)
 
 pub returns-in-TableLeaf-clause-ok : goal.returns-in-TableLeaf-clause-ok

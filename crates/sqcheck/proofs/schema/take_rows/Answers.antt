@@ -5,7 +5,7 @@ use Rattle.sqpage.specs.declared.kind.Kind.TheVariants.{TableLeaf}
 use Rattle.sqpage.specs.Page.{cell_count}
 use Rattle.sqcheck.specs.Places.{IsCellAt, page_as}
 use Rattle.sqcheck.specs.Stands.{StandsBy}
-use Rattle.sqcheck.specs.WellFormed.{IsReached}
+use Rattle.sqcheck.specs.WellFormed.{IsSound, IsReached}
 use Rattle.sqcheck.specs.internal.Agenda.{StandsNow}
 use Rattle.sqcheck.specs.internal.Schema.{InRowBelow, KeepsFound, AreSchemaRows}
 use Rattle.sqcheck.proofs.checks.ResultsOfCalls.{exits}
@@ -35,8 +35,8 @@ returns-in_err-root-clause-err g c = λ given e w.
     let fault = c.in_err-root.field-0.0 in
     let has = w.payloads c.rows.i c.cell-cell.result is in
     exits (λ e. StandsNow d e.fault e.page) fault c.from_residual.result c.from_residual.ensures.1
-    (λ maps size same asked. ⊎_elim (λ none. subst (λ f. StandsBy (IsReached d) maps d size f fault.page) (sym none) tt)
-    (λ h. subst (λ f. StandsBy (IsReached d) maps d size f fault.page) (sym h.0) (subst (StandsBy (IsReached d) maps d size faults.SchemaRecord) (sym (h.1 ∙ c.cell-cell.ensures.cell.page)) (row_stands d maps size p c.rows.i h.2 c.cell-cell.result w is h.3 h.4)))
+    (λ maps size same asked. ⊎_elim (λ none. subst (λ f. StandsBy (IsReached d) (IsSound d) maps d size f fault.page) (sym none) tt)
+    (λ h. subst (λ f. StandsBy (IsReached d) (IsSound d) maps d size f fault.page) (sym h.0) (subst (StandsBy (IsReached d) (IsSound d) maps d size faults.SchemaRecord) (sym (h.1 ∙ c.cell-cell.ensures.cell.page)) (row_stands d maps size p c.rows.i h.2 c.cell-cell.result w is h.3 h.4)))
     (c.in_err-root.ensures.err given has.0 has.1))
 
 pub rows-preserved : goal.rows-preserved

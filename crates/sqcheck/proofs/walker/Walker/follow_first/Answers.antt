@@ -1,7 +1,7 @@
 use Rattle.std.proofs.Common.{[], sym, subst, false}
 use Rattle.sqpage.specs.declared.fault.Fault.TheVariants as faults
 use Rattle.sqcheck.specs.Stands.{StandsBy}
-use Rattle.sqcheck.specs.WellFormed.{IsReached}
+use Rattle.sqcheck.specs.WellFormed.{IsSound, IsReached}
 use Rattle.sqcheck.specs.internal.Agenda.{StandsNow}
 use Rattle.sqcheck.proofs.checks.ResultsOfCalls.{exits, on_ok}
 use Rattle.sqcheck.proofs.visit.VisitedPlaces.{visits_more}
@@ -16,8 +16,8 @@ returns-in_err-judge_free_count-clause-err g c = λ given lists new.
     let w = c.in_ok-follow_trunks.ensures.ok given lists.first new in
     let h = c.in_err-judge_free_count.ensures.err in
     exits (λ e. StandsNow d e.fault e.page) e c.from_residual-in_err-judge_free_count.result c.from_residual-in_err-judge_free_count.ensures.1
-    (λ maps size same asked. subst (λ f. StandsBy (IsReached d) maps d size f e.page) (sym h.0) (subst (StandsBy (IsReached d) maps d size faults.FreeCount) (sym h.1)
-    (free_count_stands d maps size w.0 k.uses.counts c.args.header.now.free_pages lists.said w.1.counted w.1.agenda.tour.taken.distinct w.1.agenda.tour.reached (λ s r f. free_visited d k.uses.marks.items w.0 w.1.agenda r f) h.2)))
+    (λ maps size same asked. subst (λ f. StandsBy (IsReached d) (IsSound d) maps d size f e.page) (sym h.0) (subst (StandsBy (IsReached d) (IsSound d) maps d size faults.FreeCount) (sym h.1)
+    (free_count_stands d maps size w.0 k.uses.counts c.args.header.now.free_pages lists.said w.1.counted w.1.agenda.tour.taken.distinct w.1.agenda.tour.reached w.1.agenda.sound (λ s r f. free_visited d k.uses.marks.items w.0 w.1.agenda r f) h.2)))
 
 pub returns-clause-ok : goal.returns-clause-ok
 returns-clause-ok g c = λ given lists new.
