@@ -117,13 +117,13 @@ module _ (limits : Bounds) (size : ℕ) (db wal journal after : List ℕ) (folde
       (λ hot. absurd (cold hot.0))
       (⊎_elim
       (λ logged.
-          let same : folded.frames ≡ logged.0 = front_unique (named_size wal) wal folded.frames logged.0 answer.3.front logged.1.is in
-          let one : 1 ≤ folded.frames = omega (arith, same, logged.1.some) in
-          folded_some answer present cold (names one) logged.0 logged.1 (subst (λ (n : ℕ). IsView n db wal logged.0 d) logged.2 logged.3))
+      let same : folded.frames ≡ logged.0 = front_unique (named_size wal) wal folded.frames logged.0 answer.3.front logged.1.is in
+      let one : 1 ≤ folded.frames = omega (arith, same, logged.1.some) in
+      folded_some answer present cold (names one) logged.0 logged.1 (subst (λ (n : ℕ). IsView n db wal logged.0 d) logged.2 logged.3))
       (λ own.
-          let none : folded.frames ≡ 0 = front_zero wal journal folded.frames own.0 answer.3.front in
-          let bytes : db ≡ after = same_present new.db db after (answer.3.none none).1 present in
-          inr (inr (alone_now journal cold, subst (λ (l : List ℕ). IsOwn size l d) bytes own.1))))
+      let none : folded.frames ≡ 0 = front_zero wal journal folded.frames own.0 answer.3.front in
+      let bytes : db ≡ after = same_present new.db db after (answer.3.none none).1 present in
+      inr (inr (alone_now journal cold, subst (λ (l : List ℕ). IsOwn size l d) bytes own.1))))
       views
 
 -- ---- A journal that was replayed.
@@ -160,7 +160,6 @@ flat_just size d full = record {
 }
   where
     sized : ((p : ℕ) → 1 ≤ p → p ≤ length d → length (page d p) ≡ size) → (k : ℕ) → k < length d → length (get_or d k []) ≡ size
-    unfolding page
     sized full k lt = full (suc k) (omega arith) (omega arith)
 
 bare_of : (wal : List ℕ) → ((wal ≢ []) → ⊥) → wal ≡ []
@@ -200,8 +199,8 @@ module _ (most size : ℕ) (db wal journal after left : List ℕ) (replayed : Re
       let cold : ¬ IsHot left = answer.2.cold left leaves in
       ⊎_elim
       (λ hot.
-          let bare : wal ≡ [] = bare_of wal (λ ne. hot.3 (hot.0, ne)) in
-          inr (inr (subst (λ (l : List ℕ). IsAlone l left) (sym bare) (alone_now left cold), rolled_own answer present hot.0 (names hot.0) hot.1 hot.2)))
+      let bare : wal ≡ [] = bare_of wal (λ ne. hot.3 (hot.0, ne)) in
+      inr (inr (subst (λ (l : List ℕ). IsAlone l left) (sym bare) (alone_now left cold), rolled_own answer present hot.0 (names hot.0) hot.1 hot.2)))
       (⊎_elim
       (λ logged. subst (λ (l : List ℕ). Views size l wal left d) (unmoved answer before present logged.1.cold) (cold_views size db wal journal left d logged.1.cold cold (inr (inl logged))))
       (λ own. subst (λ (l : List ℕ). Views size l wal left d) (unmoved answer before present own.0.cold) (cold_views size db wal journal left d own.0.cold cold (inr (inr own)))))

@@ -23,5 +23,5 @@ returns-in-Some-clause-read g c = λ right.
       | else-follows w ↦ at_now bytes old s _ w.self-is (right.1, refl)
     ] in
     c.copy_from_slice.ensures.after ∙ ap (λ (l : List ℕ). take (c.in-Some.place + length c.args.out.now - c.in-Some.place) (drop c.in-Some.place l)) c.deref.ensures.value
-        ∙ held_part (bytes s.file) s.piece.items s.from s.held c.in-Some.place (length c.args.out.now) c.args.at (c.in-Some.place + length c.args.out.now - c.in-Some.place) now.0 c.in-Some.ensures.0 c.in-Some.ensures.1 s.within (omega arith)
-        ∙ ap (λ (l : List ℕ). part_or_zeros (length c.args.out.now) c.args.at l) now.1
+    ∙ held_part (bytes s.file) s.piece.items s.from s.held c.in-Some.place (length c.args.out.now) c.args.at (c.in-Some.place + length c.args.out.now - c.in-Some.place) now.0 c.in-Some.ensures.0 c.in-Some.ensures.1 s.within (omega arith)
+    ∙ ap (λ (l : List ℕ). part_or_zeros (length c.args.out.now) c.args.at l) now.1
