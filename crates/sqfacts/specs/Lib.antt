@@ -2,6 +2,7 @@ pub mod Faults
 pub mod Fronts
 pub mod Locks
 pub mod Readings
+pub mod Recovered
 pub mod Refusals
 pub mod Runs
 pub mod Statuses

@@ -9,6 +9,7 @@ mod locks;
 mod notes;
 mod outcome;
 mod readings;
+mod recovered;
 mod runs;
 mod status;
 
@@ -19,5 +20,6 @@ pub use locks::{Identity, identity_of, is_locked};
 pub use notes::{NoteWriter, Notes};
 pub use outcome::{Outcome, Refusal};
 pub use readings::{Reading, Readings, unchanged};
+pub use recovered::recovery_keeps_view;
 pub use runs::{Run, Use, number_of, runs_of, uses_of};
 pub use status::Status;

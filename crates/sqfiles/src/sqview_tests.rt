@@ -3,7 +3,7 @@ use crate::asserts::same;
 use crate::logs::{header, log, push_record};
 use crate::sqcheck_tests::file_of;
 use sqcheck::{Report, Role, Survey};
-use sqpage::{CheckError, Fault, Kind, PageSource};
+use sqpage::{CheckError, Fault, Kind, PageSource, SourceError};
 use sqval::Limits;
 use sqview::{
     CopyError, FileBytes, JudgeError, Origin, ReadAhead, Verdict, View, ViewError, copy, judge_at,
@@ -268,6 +268,64 @@ fn copied_at(
     let wal = ReadAhead::new(alloc, wal, 2048)?;
     let mut view = View::of_scan(alloc, db, wal, scan, frame)?;
     Ok(copied(alloc, &mut view, b"")?)
+}
+
+/// A file of which one byte can't be read.
+#[derive(Drop)]
+struct Torn<'a> {
+    bytes: &'a [u8],
+    unreadable: u64,
+}
+
+impl FileBytes for Torn<'_> {
+    ghost bytes = { λ torn. torn.bytes.now };
+
+    ghost reads_right = { λ _. ⊥ };
+
+    ghost gives_bytes = { λ _. ⊥ };
+
+    ghost right = { λ _ gives. gives };
+
+    fn len(&self) -> u64 {
+        self.bytes.len() as u64
+    }
+
+    fn read_at(&mut self, at: u64, out: &mut [u8]) -> Result<(), SourceError> {
+        if at <= self.unreadable && self.unreadable - at < out.len() as u64 {
+            return Err(SourceError);
+        }
+        let mut bytes = self.bytes;
+        bytes.read_at(at, out)
+    }
+}
+
+/// The first byte of each page of 512 bytes that can be read, of so many pages that are read one behind the other.
+fn letters_of(alloc: Global, file: Torn<'_>, pages: u64) -> Result<Vec<Option<u8>>, AllocError> {
+    let mut file = ReadAhead::new(alloc, file, 2048)?;
+    let mut letters = Vec::new(alloc);
+    for page in 0..pages {
+        let mut content = [0u8; 512];
+        let read = file.read_at(page.saturating_mul(512), &mut content);
+        letters.push(read.ok().map(|_| content[0]))?;
+    }
+    Ok(letters)
+}
+
+// A byte of the fifth page can't be read, which is read ahead with the second.
+#[test]
+fn reads_what_is_before_an_unreadable_page_and_behind(rt: HostRuntime) -> Result<(), Fail> {
+    let alloc = rt.alloc();
+    let bytes = spelled(alloc, b"", b"abcdefgh")?;
+    let file = Torn {
+        bytes: &bytes,
+        unreadable: 2500,
+    };
+    let letters = letters_of(alloc, file, 8)?;
+    for (page, letter) in b"abcdefgh".iter().enumerate() {
+        let wanted = if page == 4 { None } else { Some(*letter) };
+        same(&rt, letters.get(page).copied(), Some(wanted));
+    }
+    Ok(())
 }
 
 /// How many pages the view at a commit of a scan has.

@@ -55,7 +55,11 @@ impl<F: FileExt> OpenedFile<'_, F> {
 impl<F: FileExt> FileBytes for OpenedFile<'_, F> {
     ghost bytes = { λ _. [] };
 
+    ghost reads_right = { λ _. ⊥ };
+
     ghost gives_bytes = { λ _. ⊥ };
+
+    ghost right = { λ _ gives. gives };
 
     fn len(&self) -> u64 {
         self.length
@@ -69,7 +73,11 @@ impl<F: FileExt> FileBytes for OpenedFile<'_, F> {
 impl<F: FileExt> FileBytes for &OpenedFile<'_, F> {
     ghost bytes = { λ _. [] };
 
+    ghost reads_right = { λ _. ⊥ };
+
     ghost gives_bytes = { λ _. ⊥ };
+
+    ghost right = { λ _ gives. gives };
 
     fn len(&self) -> u64 {
         self.length

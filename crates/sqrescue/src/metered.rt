@@ -40,7 +40,11 @@ impl<'a, F: FileBytes + Drop, M> Metered<'a, F, M> {
 impl<F: FileBytes, M: Count> FileBytes for Metered<'_, F, M> {
     ghost bytes = { λ metered. F.bytes metered.file };
 
+    ghost reads_right = { λ metered. F.reads_right metered.file };
+
     ghost gives_bytes = { λ metered. F.gives_bytes metered.file };
+
+    ghost right = { λ metered gives. F.right metered.file gives };
 
     fn len(&self) -> u64 {
         self.file.len()

@@ -26,12 +26,12 @@ unlogged wal journal none m logged = ⊎_elim
 
 -- the front of a log that counts
 pub log_shown : (wal journal : List ℕ) (o : Option Front) → (¬ IsHot journal) → IsLogFront wal o → IsShownFront wal journal o
-log_shown wal journal None cold none = unlogged wal journal none
+log_shown wal journal None cold none = (unlogged wal journal none, λ two. cold two.0)
 log_shown wal journal (Some front) cold found = (record { cold = cold; some = omega (arith, found.0); is = found.1 }, found.2)
 
 -- beside a hot journal
-pub hot_shown : (wal journal : List ℕ) → IsHot journal → IsShownFront wal journal None
-hot_shown wal journal hot m logged = logged.cold hot
+pub hot_shown : (wal journal : List ℕ) → IsHot journal → wal ≡ [] → IsShownFront wal journal None
+hot_shown wal journal hot bare = (λ m logged. logged.cold hot, λ two. two.1 bare)
 
 -- a log with a front has a header
 logged_header : (wal journal : List ℕ) (m : ℕ) → IsLogged wal journal m → IsHeader (named_size wal) wal
@@ -40,8 +40,8 @@ logged_header wal journal m logged = ⊎_elim
     (λ front. (front.0.each m front.0.first (omega arith)).header) logged.is.is
 
 -- where there is none
-pub headless_shown : (wal journal : List ℕ) → (¬ IsHeader (named_size wal) wal) → IsShownFront wal journal None
-headless_shown wal journal none m logged = none (logged_header wal journal m logged)
+pub headless_shown : (wal journal : List ℕ) → (¬ IsHot journal) → (¬ IsHeader (named_size wal) wal) → IsShownFront wal journal None
+headless_shown wal journal cold none = (λ m logged. none (logged_header wal journal m logged), λ two. cold two.0)
 
 pub empty_headless : (wal : List ℕ) → wal ≡ [] → ¬ IsHeader (named_size wal) wal
 empty_headless wal empty header = omega (arith, header.whole, ap length empty)
@@ -57,16 +57,19 @@ refused_headless wal NoMemory refused header = refused
 -- where no scan was shown
 pub none_shown : (limits : Bounds) (wal journal : List ℕ) (shown : Shown) → (shown ≡ Neither) ⊎ ((shown ≡ Refused) ⊎ ((replay : Replay) × (shown ≡ Journal replay))) → IsShownLog limits wal journal shown → IsShownFront wal journal None
 none_shown limits wal journal shown which is = ⊎_elim
-    (λ neither. let s = subst (λ (x : Shown). IsShownLog limits wal journal x) neither is in headless_shown wal journal (empty_headless wal s.1))
+    (λ neither. let s = subst (λ (x : Shown). IsShownLog limits wal journal x) neither is in headless_shown wal journal s.0 (empty_headless wal s.1))
     (λ rest. ⊎_elim
-    (λ refused. let s = subst (λ (x : Shown). IsShownLog limits wal journal x) refused is in headless_shown wal journal (refused_headless wal s.1.0 s.1.1.1))
-    (λ hot. let s = subst (λ (x : Shown). IsShownLog limits wal journal x) hot.1 is in hot_shown wal journal s.0) rest) which
+    (λ refused. let s = subst (λ (x : Shown). IsShownLog limits wal journal x) refused is in headless_shown wal journal s.0 (refused_headless wal s.1.0 s.1.1.1))
+    (λ hot. let s = subst (λ (x : Shown). IsShownLog limits wal journal x) hot.1 is in hot_shown wal journal s.0 s.2) rest) which
 
 module _ {F : Type 0} (limits : Bounds) (bytes : F → List ℕ) (db wal journal : List ℕ) (v : View F) where
   shown_front : (o : Option Front) → AskedAnswer limits bytes None db wal journal (Ok v) → IsFrontOf v.front v.page_size o → IsShownFront wal journal o
-  shown_front None answer zero = λ m logged. ⊎_elim
-      (λ (here : IsLogged wal journal v.front). omega (arith, here.some, zero))
-      (λ none. none.1 m logged) answer.stands
+  shown_front None answer zero = (
+    λ m logged. ⊎_elim
+        (λ (here : IsLogged wal journal v.front). omega (arith, here.some, zero))
+        (λ none. none.1 m logged) answer.stands,
+    answer.one,
+  )
   shown_front (Some front) answer at = ⊎_elim
       (λ (here : IsLogged wal journal v.front). (
         subst (λ (n : ℕ). IsLogged wal journal n) (sym at.1) here,

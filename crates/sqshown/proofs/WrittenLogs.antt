@@ -13,13 +13,13 @@ use Rattle.sqshown.specs.declared.logs.Shown.{Shown}
 use Rattle.sqshown.specs.declared.logs.Shown.TheVariants.{Neither, Refused, Wal, Journal}
 
 -- a hot journal that was shown is the log that was
-pub journal_shown : (limits : Bounds) (wal journal b : List ℕ) (answer : Result Shown ShowError) → IsHot journal → b ≡ journal
+pub journal_shown : (limits : Bounds) (wal journal b : List ℕ) (answer : Result Shown ShowError) → IsHot journal → wal ≡ [] → b ≡ journal
     → IfOk answer (IsJournalShown b) → IfOk answer (IsShownLog limits wal journal)
-journal_shown limits wal journal b (Ok (Journal replay)) hot same is = (hot, subst (λ (l : List ℕ). IsJournalShown l (Journal replay)) same is)
-journal_shown limits wal journal b (Ok (Wal scan)) hot same is = absurd is
-journal_shown limits wal journal b (Ok Refused) hot same is = absurd is
-journal_shown limits wal journal b (Ok Neither) hot same is = absurd is
-journal_shown limits wal journal b (Err error) hot same is = tt
+journal_shown limits wal journal b (Ok (Journal replay)) hot bare same is = (hot, subst (λ (l : List ℕ). IsJournalShown l (Journal replay)) same is, bare)
+journal_shown limits wal journal b (Ok (Wal scan)) hot bare same is = absurd is
+journal_shown limits wal journal b (Ok Refused) hot bare same is = absurd is
+journal_shown limits wal journal b (Ok Neither) hot bare same is = absurd is
+journal_shown limits wal journal b (Err error) hot bare same is = tt
 
 -- what follows of what was written
 pub on_ok : {T E : Type 0} (answer : Result T E) (P Q : Type 0) → (P → Q) → OnOk answer P → OnOk answer Q
@@ -35,12 +35,12 @@ module _ (options : Options) (wal journal : List ℕ) (old new : Option (List �
       ((text : List ℕ) × IsLogText options wal journal text × Appends old new text) (λ w. (w.0, inr (inl (cold, w.1)), w.2)) written
 
   -- of a hot journal
-  pub journal_written : {T E : Type 0} (answer : Result T E) (b : List ℕ) → b ≡ journal → IsHot journal
+  pub journal_written : {T E : Type 0} (answer : Result T E) (b : List ℕ) → b ≡ journal → IsHot journal → wal ≡ []
       → OnOk answer ((text : List ℕ) × IsJournalText options.style b text × Appends old new text)
       → OnOk answer ((text : List ℕ) × IsLogText options wal journal text × Appends old new text)
-  journal_written answer b same hot written = on_ok answer ((text : List ℕ) × IsJournalText options.style b text × Appends old new text)
+  journal_written answer b same hot bare written = on_ok answer ((text : List ℕ) × IsJournalText options.style b text × Appends old new text)
       ((text : List ℕ) × IsLogText options wal journal text × Appends old new text)
-      (λ w. (w.0, inl (hot, subst (λ (l : List ℕ). IsJournalText options.style l w.0) same w.1), w.2)) written
+      (λ w. (w.0, inl (hot, subst (λ (l : List ℕ). IsJournalText options.style l w.0) same w.1, λ two. two.1 bare), w.2)) written
 
   -- that there is none
   pub none_written : (¬ IsHot journal) → wal ≡ [] → Appends old new (none_text options.style (codes "log"))

@@ -13,11 +13,11 @@ pub record KeepsBytes {F : Type 0} (bytes : F → List ℕ) (gives : F → Type 
 abbrev pub AreGiven : {F : Type 0} → (gives : F → Type 0) → Contents F → Type 0
 AreGiven gives files = gives files.db × gives files.wal × gives files.journal
 
--- nothing was read ahead of any of the three
-pub record AreUnread {F : Type 0} (files : Contents F) (ahead : Contents (ReadAhead F)) : Type 0 where
-  pub db : IsUnread files.db ahead.db
-  pub wal : IsUnread files.wal ahead.wal
-  pub journal : IsUnread files.journal ahead.journal
+-- nothing was read ahead of any of the three, and so many bytes of the database are read at once
+pub record AreUnread {F : Type 0} (files : Contents F) (most : ℕ) (ahead : Contents (ReadAhead F)) : Type 0 where
+  pub db : IsUnread files.db most ahead.db
+  pub wal : IsUnread files.wal 0 ahead.wal
+  pub journal : IsUnread files.journal 0 ahead.journal
 
 -- their bytes
 abbrev pub contents_of : {F : Type 0} → (bytes : F → List ℕ) → Contents F → Contents (List ℕ)

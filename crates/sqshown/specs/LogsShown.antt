@@ -8,7 +8,7 @@ use Rattle.sqwal.specs.Took.{TookWithin}
 use Rattle.sqwal.specs.declared.error.WalFormatError.{WalFormatError}
 use Rattle.sqjournal.specs.Journal.{IsHot}
 use Rattle.sqjournal.specs.declared.replay.Replay.{Replay}
-use Rattle.sqview.specs.Logs.{HasRead}
+use Rattle.sqview.specs.Logs.{HasRead, AreTwoLogs}
 use Rattle.sqwords.specs.declared.requests.Options.{Options}
 use Rattle.sqwords.specs.declared.requests.Style.{Style}
 use Rattle.sqlines.specs.Facts.{number_text, object_text}
@@ -18,12 +18,12 @@ use Rattle.sqshown.specs.Limits.{limits_named}
 use Rattle.sqshown.specs.declared.logs.LogFound.{LogFound}
 use Rattle.sqshown.specs.declared.logs.LogFound.TheVariants as found
 
--- what a report says of it: nothing where none counts or its header is refused
+-- what a report says of the one log that counts: nothing where none does or its header is refused
 abbrev pub IsLogFound : (limits : Bounds) → (wal journal : List ℕ) → LogFound → Type 0
 IsLogFound limits wal journal found.None = (¬ IsHot journal) × ¬ IsHeader (named_size wal) wal
 IsLogFound limits wal journal (found.Wal scan commits length) = (¬ IsHot journal) × TookWithin limits.frames wal scan
     × AreCommits (named_size wal) wal commits.items × (length ≡ list_length wal)
-IsLogFound limits wal journal (found.Journal replay) = IsHot journal × HasRead journal replay
+IsLogFound limits wal journal (found.Journal replay) = IsHot journal × HasRead journal replay × ¬ AreTwoLogs wal journal
 
 -- the number of what refuses a log's header
 abbrev pub refused_text : Style → WalFormatError → List ℕ
@@ -40,8 +40,8 @@ abbrev pub IsJournalText : Style → (journal text : List ℕ) → Type 0
 IsJournalText style journal text =
     (replay : Replay) × (read : HasRead journal replay) × (shown : Journal) × ShowsJournal read.front shown × (text ≡ journal_text style shown)
 
--- of the log that counts, or that none does
+-- of the one log that counts, or that none does
 abbrev pub IsLogText : Options → (wal journal text : List ℕ) → Type 0
-IsLogText options wal journal text = (IsHot journal × IsJournalText options.style journal text)
+IsLogText options wal journal text = (IsHot journal × IsJournalText options.style journal text × ¬ AreTwoLogs wal journal)
     ⊎ (((¬ IsHot journal) × IsWalText options wal text)
     ⊎ ((¬ IsHot journal) × (wal ≡ []) × (text ≡ none_text options.style (codes "log"))))

@@ -21,7 +21,7 @@ pub fn read_ahead<F: FileBytes + Drop>(
     files: Contents<F>,
     most: usize,
 ) -> Result<Contents<ReadAhead<F>>, Refusal>
-    ensures unread { IfOk result (AreUnread files) }
+    ensures unread { IfOk result (AreUnread files most) }
     ensures memory { IfErr result (λ refusal. refusal ≡ NoMemory) }
 {
     let Contents { db, wal, journal } = files;

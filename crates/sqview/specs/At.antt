@@ -22,10 +22,11 @@ pub record IsCommitAt (wal journal : List ℕ) (m : ℕ) : Type 0 where
   pub valid : IsValidFrame (named_size wal) wal m
   pub commit : IsCommit (named_size wal) wal m
 
--- The database at commit frame m, of pages of this size: at 0 the file's own, whatever its logs say.
+-- The database at commit frame m, of pages of this size: at 0 the file's own, whatever the log that counts says. None
+-- where both logs count.
 abbrev pub ViewsAt : (m size : ℕ) (db wal journal : List ℕ) → Database → Type 0
 ViewsAt m size db wal journal d =
-    ((m ≡ 0) × IsOwn size db d)
+    ((m ≡ 0) × IsOwn size db d × ¬ AreTwoLogs wal journal)
     ⊎ (IsCommitAt wal journal m × (size ≡ named_size wal) × IsView size db wal m d)
 
 -- at the front of a log that counts it is the database that file and log show

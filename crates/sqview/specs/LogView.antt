@@ -48,10 +48,10 @@ pub record IsAlone (wal journal : List ℕ) : Type 0 where
   pub none : IsFront (named_size wal) wal 0
 
 -- The database that a file shows with its log and its journal, of pages of this size: the one that a hot journal
--- restores, otherwise the one at the log's front, otherwise the file's own.
+-- restores, otherwise the one at the log's front, otherwise the file's own. None where both logs count.
 abbrev pub Views : (size : ℕ) (db wal journal : List ℕ) → Database → Type 0
 Views size db wal journal d =
-    (IsHot journal × (size ≡ word journal 24) × IsRolledBack db journal d)
+    (IsHot journal × (size ≡ word journal 24) × IsRolledBack db journal d × ¬ AreTwoLogs wal journal)
     ⊎ ((front : ℕ) × IsLogged wal journal front × (size ≡ named_size wal) × IsView size db wal front d)
     ⊎ (IsAlone wal journal × IsOwn size db d)
 

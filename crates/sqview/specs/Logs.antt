@@ -16,7 +16,13 @@ use Rattle.sqpage.specs.declared.source.SourceError.{SourceError}
 use Rattle.sqview.specs.declared.logs.LogInUse.{LogInUse}
 use Rattle.sqview.specs.declared.logs.LogInUse.TheVariants.{Neither, Wal, Journal}
 use Rattle.sqview.specs.declared.view_error.ViewError.{ViewError}
-use Rattle.sqview.specs.declared.view_error.ViewError.TheVariants.{TwoLogs}
+use Rattle.sqview.specs.declared.view_error.ViewError.TheVariants.{TwoLogs, Unread}
+
+-- the answer isn't that a file could not be read
+abbrev pub IsRead : {A : Type 0} → Result A ViewError → Type 0
+IsRead (Ok x) = Unit {0}
+IsRead (Err Unread) = ⊥
+IsRead (Err e) = Unit {0}
 
 -- a hot journal and a log that isn't empty
 abbrev pub AreTwoLogs : (wal journal : List ℕ) → Type 0

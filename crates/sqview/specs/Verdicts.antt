@@ -3,6 +3,7 @@ use Rattle.std.specs.Prelude.{◌≡◌, ◌≢◌, ◌⊎◌, ℕ, Bool, false,
 use Rattle.sqval.specs.Bytes.{word}
 use Rattle.sqval.specs.Database.{Database, page}
 use Rattle.sqval.specs.Limits.{Bounds, usual}
+use Rattle.sqpage.specs.declared.fault.Fault.TheVariants as faults
 use Rattle.sqcheck.specs.WellFormed.{WellFormedWith, IsReport}
 use Rattle.sqcheck.specs.Stands.{StandsWith}
 use Rattle.sqview.specs.At.{ViewsAt, AtRefusedWithin}
@@ -16,10 +17,10 @@ use Rattle.sqview.specs.declared.view_error.ViewError.{ViewError}
 use Rattle.sqview.specs.declared.view_error.ViewError.TheVariants.{TwoLogs, TooLarge, Header, Unread, NoMemory, NoSuchCommit}
 
 -- Of a database of pages of this size, with pointer maps or without: it is well formed, and the report is its; or it isn't,
--- and the fault stands at the page.
+-- and the fault stands at the page. A refusal is never given as a fault.
 abbrev pub FindsWith : (maps : Bool) → Database → (size : ℕ) → Verdict → Type 0
 FindsWith maps d size (Clean report) = (w : WellFormedWith maps d size) × IsReport d w.places report
-FindsWith maps d size (Damaged e) = StandsWith maps d size e.fault e.page × ¬ WellFormedWith maps d size
+FindsWith maps d size (Damaged e) = StandsWith maps d size e.fault e.page × (¬ WellFormedWith maps d size) × (e.fault ≢ faults.AutoVacuum) × (e.fault ≢ faults.NoMemory)
 
 -- the same of a view
 abbrev pub IsVerdictWith : {F : Type 0} → (maps : Bool) → (bytes : F → List ℕ) → View F → Verdict → Type 0

@@ -2,9 +2,12 @@
 ghost use Rattle.std.specs.Prelude.{◌≡◌, ◌≢◌, Err, IfErr, OnErr, OnOk};
 ghost use Rattle.std.specs.List.{concat};
 ghost use Rattle.std.specs.Io.KnownBytes.{Appends, append_known};
-ghost use Rattle.sqpage.specs.Source.{KeepsPages};
+ghost use Rattle.sqview.specs.LogView.{pages_of};
+ghost use Rattle.sqview.specs.Shapes.{shape_of};
 ghost use Rattle.sqview.specs.declared.copying.CopyError.TheVariants.{Unread, Unwritten, NoMemory};
 
+use crate::file_bytes::FileBytes;
+use crate::view::View;
 use sqpage::{PageSource, SourceError};
 use std::alloc::{AllocError, Global};
 use std::io;
@@ -66,23 +69,27 @@ fn add<W: Write>(run: &mut Vec<u8>, page: &[u8], out: &mut W) -> Result<(), Copy
     Ok(())
 }
 
-/// Writes the pages of a database, from the first to the last, and nothing else: up to 524,288 bytes at once, of which
-/// a copy is kept, and a flush at the end. Refused by Unread where a page can't be read, by Unwritten, and by NoMemory;
+/// Writes the pages of a view, from the first to the last, and nothing else: up to 524,288 bytes at once, of which a
+/// copy is kept, and a flush at the end. Refused by Unread where a page can't be read, by Unwritten, and by NoMemory;
 /// some of the pages may then be written.
-pub fn copy<S: PageSource, W: Write>(
+pub fn copy<F: FileBytes, W: Write>(
     alloc: Global,
-    source: &mut S,
+    view: &mut View<F>,
     out: &mut W,
 ) -> Result<(), CopyError>
-    ensures copied { S.gives_pages source.old
-        → OnOk result (Appends (W.contents out.old) (W.contents out.new) (concat (S.pages source.old))) }
-    ensures unread { S.gives_pages source.old → IfErr result (λ e. e ≢ Unread) }
-    ensures keeps { KeepsPages S.pages S.size S.gives_pages source.old source.new }
+    ensures copied { F.reads_right view.old.db × F.reads_right view.old.log → OnOk result
+        (Appends (W.contents out.old) (W.contents out.new) (concat (pages_of F.bytes view.old))) }
+    ensures unread { F.gives_bytes view.old.db × F.gives_bytes view.old.log → IfErr result (λ e. e ≢ Unread) }
+    ensures still_right { F.reads_right view.old.db × F.reads_right view.old.log
+        → F.reads_right view.new.db × F.reads_right view.new.log }
+    ensures still_gives { F.gives_bytes view.old.db × F.gives_bytes view.old.log
+        → F.gives_bytes view.new.db × F.gives_bytes view.new.log }
+    ensures same { shape_of F.bytes view.new ≡ shape_of F.bytes view.old }
 {
-    let mut page = vec![in alloc; 0u8; source.page_size().get() as usize]?;
+    let mut page = vec![in alloc; 0u8; view.page_size().get() as usize]?;
     let mut run = Vec::with_capacity(alloc, RUN)?;
-    for before in 0..source.count() {
-        source.page(before + 1, &mut page)?;
+    for before in 0..view.count() {
+        view.read(before + 1, &mut page)?;
         add(&mut run, &page, out)?;
     }
     out.write_all(&run)?;

@@ -1,5 +1,5 @@
 //! Where the bytes of a file come from (own).
-ghost use Rattle.std.specs.Prelude.{◌≡◌, ℕ, List, length, IsOk};
+ghost use Rattle.std.specs.Prelude.{◌≡◌, ℕ, List, length, IsOk, OnOk};
 ghost use Rattle.sqval.specs.Bytes.{AreBytes};
 ghost use Rattle.sqview.specs.Laid.{part_or_zeros};
 
@@ -10,21 +10,28 @@ pub trait FileBytes {
     /// Its bytes.
     ghost bytes: { Self → List ℕ };
 
-    /// Each read gives them. Nothing can be said of the bytes that are read where it doesn't.
+    /// What a read gives that doesn't fail is right, which is those bytes. Nothing can be said of them where it isn't.
+    ghost reads_right: { Self → Type 0 };
+
+    /// What a read gives is right, and no read fails.
     ghost gives_bytes: { Self → Type 0 };
 
     /// How many there are.
     fn len(&self) -> u64
-        ensures count { gives_bytes self.now → result ≡ length (bytes self.now) }
-        ensures bytes { gives_bytes self.now → AreBytes (bytes self.now) };
+        ensures count { reads_right self.now → result ≡ length (bytes self.now) }
+        ensures bytes { reads_right self.now → AreBytes (bytes self.now) };
 
     /// Fills the buffer from a place on, with zeros past the end. Refused by `SourceError` where a byte before the end
     /// can't be read; the buffer may then hold anything.
     fn read_at(&mut self, at: u64, out: &mut [u8]) -> Result<(), SourceError>
-        ensures read { gives_bytes self.old → IsOk result
-            × (out.new ≡ part_or_zeros (length out.old) at (bytes self.old)) }
+        ensures read { reads_right self.old
+            → OnOk result (out.new ≡ part_or_zeros (length out.old) at (bytes self.old)) }
+        ensures never_fails { gives_bytes self.old → IsOk result }
+        ensures still_right { reads_right self.old → reads_right self.new }
         ensures still_gives { gives_bytes self.old → gives_bytes self.new }
         ensures same_bytes { bytes self.new ≡ bytes self.old };
+
+    ghost right: { (file : Self) → gives_bytes file → reads_right file };
 }
 
 /// How many bytes there are.
@@ -38,7 +45,11 @@ fn count_of(file: &[u8]) -> u64
 impl FileBytes for &[u8] {
     ghost bytes = { λ file. file.now };
 
+    ghost reads_right = { λ _. Unit {0} };
+
     ghost gives_bytes = { λ _. Unit {0} };
+
+    ghost right = { λ _ _. tt };
 
     fn len(&self) -> u64 {
         count_of(self)

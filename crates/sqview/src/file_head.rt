@@ -1,5 +1,5 @@
 //! The first bytes of a database file.
-ghost use Rattle.std.specs.Prelude.{◌≡◌, ◌+◌, ◌≤◌, Ok};
+ghost use Rattle.std.specs.Prelude.{◌≡◌, ◌+◌, ◌≤◌, IfOk, IsOk};
 ghost use Rattle.sqval.specs.Bytes.{word};
 ghost use Rattle.sqview.specs.LogView.{head_of, own_pages};
 
@@ -13,7 +13,9 @@ pub const HEAD: usize = 100;
 
 /// The first 100 bytes of a file, with zeros past its end.
 pub fn read_head<F: FileBytes>(file: &mut F) -> Result<[u8; 100], SourceError>
-    ensures read { F.gives_bytes file.old → result ≡ Ok (head_of (F.bytes file.old)) }
+    ensures read { F.reads_right file.old → IfOk result (λ head. head ≡ head_of (F.bytes file.old)) }
+    ensures never_fails { F.gives_bytes file.old → IsOk result }
+    ensures still_right { F.reads_right file.old → F.reads_right file.new }
     ensures still_gives { F.gives_bytes file.old → F.gives_bytes file.new }
     ensures same_bytes { F.bytes file.new ≡ F.bytes file.old }
 {
@@ -32,7 +34,7 @@ fn word_at(head: &[u8; 100], at: usize) -> u32
 /// How many pages of this size a file with this header has: as many as the header says where that counts, otherwise by
 /// the file's length.
 pub fn count_pages<F: FileBytes>(file: &F, head: &[u8; 100], page_size: PageSize) -> u64
-    ensures { F.gives_bytes file.now → head.now ≡ head_of (F.bytes file.now)
+    ensures { F.reads_right file.now → head.now ≡ head_of (F.bytes file.now)
         → result ≡ own_pages page_size (F.bytes file.now) }
 {
     let named = word_at(head, 28);

@@ -1,8 +1,9 @@
 //! Logs that lie in a source, read in pieces and no further than they count (own).
-ghost use Rattle.std.specs.Prelude.{◌≡◌, ℕ, ◌+◌, ◌^◌, ◌≤◌, List, length, take};
+ghost use Rattle.std.specs.Prelude.{◌≡◌, ℕ, ◌+◌, ◌^◌, ◌≤◌, List, length, take, IsOk, IfOk};
 ghost use Rattle.sqwal.specs.Took.{TookWithin};
+ghost use Rattle.sqjournal.specs.Journal.{IsFirst};
 ghost use Rattle.sqjournal.specs.Took.{Took as ReplayTook};
-ghost use Rattle.sqview.specs.Logs.{HotAnswer, ScanAnswer, ScanAnswerWithin, ReplayAnswer, CountsAnswer};
+ghost use Rattle.sqview.specs.Logs.{HotAnswer, ScanAnswer, ScanAnswerWithin, ReplayAnswer, CountsAnswer, IsRead};
 ghost use Rattle.sqview.specs.internal.ViewParts.{ScanPiece, ReplayPiece};
 
 use crate::file_bytes::FileBytes;
@@ -31,6 +32,8 @@ pub enum LogInUse {
 /// header nothing is read, and of others 28 bytes. Refused where these can't be read.
 pub fn hot_header<F: FileBytes>(journal: &mut F) -> Result<Option<JournalHeader>, SourceError>
     ensures answer { F.gives_bytes journal.old → HotAnswer (F.bytes journal.old) result }
+    ensures right { F.reads_right journal.old → IfOk result (IsFirst (F.bytes journal.old)) }
+    ensures still_right { F.reads_right journal.old → F.reads_right journal.new }
     ensures still_gives { F.gives_bytes journal.old → F.gives_bytes journal.new }
     ensures same_bytes { F.bytes journal.new ≡ F.bytes journal.old }
 {
@@ -54,6 +57,9 @@ pub fn hot_header<F: FileBytes>(journal: &mut F) -> Result<Option<JournalHeader>
 pub fn log_in_use<F: FileBytes>(wal: &F, journal: &mut F) -> Result<LogInUse, ViewError>
     ensures answer { F.gives_bytes wal.now → F.gives_bytes journal.old
         → CountsAnswer (F.bytes wal.now) (F.bytes journal.old) result }
+    ensures right { F.reads_right wal.now → F.reads_right journal.old → IsRead result
+        → CountsAnswer (F.bytes wal.now) (F.bytes journal.old) result }
+    ensures still_right { F.reads_right journal.old → F.reads_right journal.new }
     ensures still_gives { F.gives_bytes journal.old → F.gives_bytes journal.new }
     ensures same_bytes { F.bytes journal.new ≡ F.bytes journal.old }
 {
@@ -74,9 +80,11 @@ fn scan_piece<F: FileBytes>(
     at: u64,
     piece: &mut [u8],
 ) -> Result<Result<(), WalFormatError>, SourceError>
-    ensures fed { (most : ℕ) → F.gives_bytes log.old → at + length piece.old ≤ length (F.bytes log.old)
+    ensures fed { (most : ℕ) → F.reads_right log.old → at + length piece.old ≤ length (F.bytes log.old)
         → TookWithin most (take at (F.bytes log.old)) scan.old
         → ScanPiece most (F.bytes log.old) (at + length piece.old) result scan.new }
+    ensures never_fails { F.gives_bytes log.old → IsOk result }
+    ensures still_right { F.reads_right log.old → F.reads_right log.new }
     ensures still_gives { F.gives_bytes log.old → F.gives_bytes log.new }
     ensures same_bytes { F.bytes log.new ≡ F.bytes log.old }
 {
@@ -91,6 +99,8 @@ pub fn scan_log<F: FileBytes>(
     log: &mut F,
 ) -> Result<Result<Scan, WalFormatError>, SourceError>
     ensures answer { F.gives_bytes log.old → ScanAnswer (F.bytes log.old) result }
+    ensures right { F.reads_right log.old → IsOk result → ScanAnswer (F.bytes log.old) result }
+    ensures still_right { F.reads_right log.old → F.reads_right log.new }
     ensures still_gives { F.gives_bytes log.old → F.gives_bytes log.new }
     ensures same_bytes { F.bytes log.new ≡ F.bytes log.old }
 {
@@ -104,6 +114,9 @@ pub fn scan_log_within<F: FileBytes>(
     log: &mut F,
 ) -> Result<Result<Scan, WalFormatError>, SourceError>
     ensures answer { F.gives_bytes log.old → ScanAnswerWithin limits.frames (F.bytes log.old) result }
+    ensures right { F.reads_right log.old → IsOk result
+        → ScanAnswerWithin limits.frames (F.bytes log.old) result }
+    ensures still_right { F.reads_right log.old → F.reads_right log.new }
     ensures still_gives { F.gives_bytes log.old → F.gives_bytes log.new }
     ensures same_bytes { F.bytes log.new ≡ F.bytes log.old }
 {
@@ -133,9 +146,11 @@ fn replay_piece<F: FileBytes>(
     at: u64,
     piece: &mut [u8],
 ) -> Result<Result<(), JournalError>, SourceError>
-    ensures fed { F.gives_bytes journal.old → at + length piece.old ≤ length (F.bytes journal.old)
+    ensures fed { F.reads_right journal.old → at + length piece.old ≤ length (F.bytes journal.old)
         → length (F.bytes journal.old) ≤ 2 ^ 40 → ReplayTook (take at (F.bytes journal.old)) replay.old
         → ReplayPiece (F.bytes journal.old) (at + length piece.old) result replay.new }
+    ensures never_fails { F.gives_bytes journal.old → IsOk result }
+    ensures still_right { F.reads_right journal.old → F.reads_right journal.new }
     ensures still_gives { F.gives_bytes journal.old → F.gives_bytes journal.new }
     ensures same_bytes { F.bytes journal.new ≡ F.bytes journal.old }
 {
@@ -151,6 +166,8 @@ pub fn replay_log<F: FileBytes>(
     journal: &mut F,
 ) -> Result<Result<Replay, JournalError>, SourceError>
     ensures answer { F.gives_bytes journal.old → ReplayAnswer (F.bytes journal.old) result }
+    ensures right { F.reads_right journal.old → IsOk result → ReplayAnswer (F.bytes journal.old) result }
+    ensures still_right { F.reads_right journal.old → F.reads_right journal.new }
     ensures still_gives { F.gives_bytes journal.old → F.gives_bytes journal.new }
     ensures same_bytes { F.bytes journal.new ≡ F.bytes journal.old }
 {

@@ -1,5 +1,5 @@
 //! A file of which some bytes are read ahead.
-ghost use Rattle.std.specs.Prelude.{◌≡◌, ◌+◌, ◌≤◌, ℕ, List, length, IsOk, IfOk, MatchOption};
+ghost use Rattle.std.specs.Prelude.{◌≡◌, ◌+◌, ◌≤◌, ℕ, List, length, IfOk, MatchOption};
 ghost use Rattle.sqview.specs.internal.Laid.{HoldsPart};
 
 use crate::file_bytes::FileBytes;
@@ -10,7 +10,8 @@ use std::alloc::{AllocError, Global};
 const GAP: u64 = 24;
 
 /// A file's bytes. Where a part is read that follows the one before, at its end or up to 24 bytes behind it, some bytes
-/// from its beginning on are read at once, and given from memory when they are asked for.
+/// from its beginning on are read at once, and given from memory when they are asked for. Where these can't be read, the
+/// part is read alone, so that a read fails only where what it asks for can't be read.
 #[derive(Drop)]
 pub struct ReadAhead<F> {
     file: F,
@@ -21,6 +22,8 @@ pub struct ReadAhead<F> {
     held: usize,
     /// Behind the part that was asked for last.
     next: u64,
+    /// Behind the last piece that couldn't be read. None is read from a place before it.
+    barred: u64,
     ghost within: { held ≤ length piece.items },
 }
 
@@ -29,7 +32,7 @@ impl<F: FileBytes + Drop> ReadAhead<F> {
 
     /// A file of which up to so many bytes are read at once, and kept; none where `most` is 0.
     pub fn new(alloc: Global, file: F, most: usize) -> Result<ReadAhead<F>, AllocError>
-        ensures { IfOk result (IsUnread file) }
+        ensures { IfOk result (IsUnread file most) }
     {
         let piece = vec![in alloc; 0u8; most]?;
         Ok(ReadAhead {
@@ -38,12 +41,14 @@ impl<F: FileBytes + Drop> ReadAhead<F> {
             from: 0,
             held: 0,
             next: 0,
+            barred: 0,
         })
     }
 
-    /// Whether a part from this place on follows the one that was asked for last.
+    /// Whether a part from this place on follows the one that was asked for last, and lies behind each piece that
+    /// couldn't be read.
     fn follows(&self, at: u64) -> bool {
-        matches!(at.checked_sub(self.next), Some(gap) if gap <= GAP)
+        at >= self.barred && matches!(at.checked_sub(self.next), Some(gap) if gap <= GAP)
     }
 
     /// Where so many bytes from this place on stand in the piece, if they are held.
@@ -58,25 +63,33 @@ impl<F: FileBytes + Drop> ReadAhead<F> {
         Some(before as usize)
     }
 
-    /// Reads a piece from this place on. Where it can't be read nothing is held.
-    fn fill(&mut self, at: u64) -> Result<(), SourceError>
-        ensures holds { F.gives_bytes self.old.file → IsOk result × F.gives_bytes self.new.file
-            × HoldsPart (F.bytes self.new.file) self.new.from self.new.held self.new.piece.items }
+    /// Reads a piece from this place on. Where some of it can't be read nothing is held.
+    fn fill(&mut self, at: u64)
+        ensures holds { F.reads_right self.old.file
+            → HoldsPart (F.bytes self.new.file) self.new.from self.new.held self.new.piece.items }
+        ensures still_right { F.reads_right self.old.file → F.reads_right self.new.file }
+        ensures still_gives { F.gives_bytes self.old.file → F.gives_bytes self.new.file }
         ensures same { F.bytes self.new.file ≡ F.bytes self.old.file }
         ensures room { length self.new.piece.items ≡ length self.old.piece.items }
     {
         self.held = 0;
-        self.file.read_at(at, &mut self.piece)?;
+        let Ok(()) = self.file.read_at(at, &mut self.piece) else {
+            self.barred = at.saturating_add(self.piece.len() as u64);
+            return;
+        };
         self.from = at;
         self.held = self.piece.len();
-        Ok(())
     }
 }
 
 impl<F: FileBytes + Drop> FileBytes for ReadAhead<F> {
     ghost bytes = { λ a. F.bytes a.file };
 
+    ghost reads_right = { λ a. F.reads_right a.file × HoldsPart (F.bytes a.file) a.from a.held a.piece.items };
+
     ghost gives_bytes = { λ a. F.gives_bytes a.file × HoldsPart (F.bytes a.file) a.from a.held a.piece.items };
+
+    ghost right = { λ a gives. (F.right a.file gives.0, gives.1) };
 
     fn len(&self) -> u64 {
         self.file.len()
@@ -84,7 +97,7 @@ impl<F: FileBytes + Drop> FileBytes for ReadAhead<F> {
 
     fn read_at(&mut self, at: u64, out: &mut [u8]) -> Result<(), SourceError> {
         if self.follows(at) && out.len() < self.piece.len() && self.place(at, out.len()).is_none() {
-            self.fill(at)?;
+            self.fill(at);
         }
         self.next = at.saturating_add(out.len() as u64);
         match self.place(at, out.len()) {

@@ -1,5 +1,5 @@
 //! The database that a file and the log beside it show, as a source of pages.
-ghost use Rattle.std.specs.Prelude.{◌≡◌, ◌<◌, length, IsOk};
+ghost use Rattle.std.specs.Prelude.{◌≡◌, ◌<◌, length, IsOk, OnOk};
 ghost use Rattle.sqval.specs.Database.{page};
 ghost use Rattle.sqpage.specs.Freelist.{IsPage};
 ghost use Rattle.sqview.specs.Laid.{place_of, laid};
@@ -76,8 +76,11 @@ impl<F: FileBytes> View<F> {
     pub fn read(&mut self, p: u32, out: &mut [u8]) -> Result<(), SourceError>
         requires page { IsPage (pages_of F.bytes self.old) p }
         requires room { length out.old ≡ self.old.page_size }
-        ensures read { F.gives_bytes self.old.db × F.gives_bytes self.old.log → IsOk result
-            × (out.new ≡ page (pages_of F.bytes self.old) p) }
+        ensures read { F.reads_right self.old.db × F.reads_right self.old.log
+            → OnOk result (out.new ≡ page (pages_of F.bytes self.old) p) }
+        ensures never_fails { F.gives_bytes self.old.db × F.gives_bytes self.old.log → IsOk result }
+        ensures still_right { F.reads_right self.old.db × F.reads_right self.old.log
+            → F.reads_right self.new.db × F.reads_right self.new.log }
         ensures still_gives { F.gives_bytes self.old.db × F.gives_bytes self.old.log
             → F.gives_bytes self.new.db × F.gives_bytes self.new.log }
         ensures same { shape_of F.bytes self.new ≡ shape_of F.bytes self.old }

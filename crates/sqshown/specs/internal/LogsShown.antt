@@ -21,5 +21,5 @@ IsJournalShown b _ = ⊥
 -- the one that counts, if one does
 abbrev pub IsShownLog : (limits : Bounds) → (wal journal : List ℕ) → Shown → Type 0
 IsShownLog limits wal journal Neither = (¬ IsHot journal) × (wal ≡ [])
-IsShownLog limits wal journal (Journal replay) = IsHot journal × IsJournalShown journal (Journal replay)
+IsShownLog limits wal journal (Journal replay) = IsHot journal × IsJournalShown journal (Journal replay) × (wal ≡ [])
 IsShownLog limits wal journal shown = (¬ IsHot journal) × IsWalShown limits wal shown

@@ -85,9 +85,6 @@ piece_within xs w at end count long is lt e = omega (arith, piece_long xs at end
 -- ---- what became of a piece
 
 module _ (most : ℕ) (w : List ℕ) (end : ℕ) (r : Result (Result (Unit {0}) WalFormatError) SourceError) (t : Scan) (is : ScanPiece most w end r t) where
-  pub scan_unread : (e : SourceError) → r ≡ Err e → ⊥
-  scan_unread e was = subst (λ (q : Result (Result (Unit {0}) WalFormatError) SourceError). ScanPiece most w end q t) was is
-
   pub scan_bad : (q : Result (Unit {0}) WalFormatError) (e : WalFormatError) → r ≡ Ok q → q ≡ Err e → LogRefusedWithin most w e
   scan_bad q e was bad = subst (λ (q : Result (Result (Unit {0}) WalFormatError) SourceError). ScanPiece most w end q t) (was ∙ ap Ok bad) is
 
@@ -95,9 +92,6 @@ module _ (most : ℕ) (w : List ℕ) (end : ℕ) (r : Result (Result (Unit {0}) 
   scan_good q x was good = subst (λ (q : Result (Result (Unit {0}) WalFormatError) SourceError). ScanPiece most w end q t) (was ∙ ap Ok good) is
 
 module _ (b : List ℕ) (end : ℕ) (r : Result (Result (Unit {0}) JournalError) SourceError) (t : Replay) (is : ReplayPiece b end r t) where
-  pub replay_unread : (e : SourceError) → r ≡ Err e → ⊥
-  replay_unread e was = subst (λ (q : Result (Result (Unit {0}) JournalError) SourceError). ReplayPiece b end q t) was is
-
   refused_answer : (e : JournalError) → ReplayPiece b end (Ok (Err e)) t → ReplayAnswer b (Ok (Err e))
   refused_answer NoMemory bad = tt
   refused_answer NotAJournal bad = bad

@@ -89,5 +89,5 @@ module _ (limits : Bounds) (db wal journal : List ℕ) where
 pub along : (P : (db wal journal : List ℕ) → Type 0) (a b c x y z : List ℕ) → a ≡ x → b ≡ y → c ≡ z → P a b c → P x y z
 along P a b c x y z e f h p = subst (λ (l : List ℕ). P x y l) h (subst (λ (l : List ℕ). P x l c) f (subst (λ (l : List ℕ). P l b c) e p))
 
-pub gives_unread : {F : Type 0} (bytes : F → List ℕ) (gives : F → Type 0) (file : F) (a : ReadAhead F) → IsUnread file a → gives file → gives a.file × HoldsPart (bytes a.file) a.from a.held a.piece.items
-gives_unread {F = F} bytes gives file a is given = (subst gives (sym is.same) given, holds_nothing (bytes a.file) a.from a.held a.piece.items is.nothing)
+pub gives_unread : {F : Type 0} (bytes : F → List ℕ) (gives : F → Type 0) (file : F) (most : ℕ) (a : ReadAhead F) → IsUnread file most a → gives file → gives a.file × HoldsPart (bytes a.file) a.from a.held a.piece.items
+gives_unread {F = F} bytes gives file most a is given = (subst gives (sym is.same) given, holds_nothing (bytes a.file) a.from a.held a.piece.items is.nothing)

@@ -1,12 +1,28 @@
 -- The pages that a view gives.
 use Rattle.std.proofs.Common.{◌≡◌, ◌≢◌, ℕ, ◌+◌, ◌-◌, ◌*◌, ◌≤◌, List, [], length, get_or, map, true, false, refl, ◌∙◌, ap, arith, eq-eqb, ne_eqb, zero, suc, ⊎_elim}
-use Rattle.std.specs.Prelude.{◌==◌}
+use Rattle.std.specs.Prelude.{◌==◌, Result, Ok, Err, OnOk, IsOk}
 use Rattle.std.proofs.lemmas.List.FromFn.{get_or-map-range_with_len, length-map-range_with_len}
 use Rattle.std.specs.List.{range_with_len}
 use Rattle.std.proofs.lemmas.Bool.{cases_eq}
 use Rattle.sqpage.specs.Lists.{Every}
 use Rattle.sqval.specs.Database.{page, file_page}
 use Rattle.sqview.specs.Laid.{part_or_zeros, place_of, laid_page, laid}
+use Rattle.sqview.specs.LogView.{pages_of}
+use Rattle.sqview.specs.Shapes.{Shape, shape_of}
+use Rattle.sqview.specs.declared.view.View.{View}
+
+-- of an answer that is Ok, what follows
+pub on_ok : {A E : Type 0} {P Q : Type 0} (r : Result A E) → (P → Q) → OnOk r P → OnOk r Q
+on_ok (Ok x) follows p = follows p
+on_ok (Err e) follows p = tt
+
+pub ok_now : {A E : Type 0} {P : Type 0} (r : Result A E) → IsOk r → OnOk r P → P
+ok_now (Ok x) ok p = p
+ok_now (Err e) ok p = let bad : false ≡ true = ok in cc
+
+-- two views that show the same have the same pages
+pub same_pages : {F : Type 0} (bytes : F → List ℕ) (a b : View F) → shape_of bytes a ≡ shape_of bytes b → pages_of bytes a ≡ pages_of bytes b
+same_pages bytes a b same = ap (λ (s : Shape). laid s.page_size s.count s.db s.log s.places) same
 
 pub length_laid : (size count : ℕ) (file log places : List ℕ) → length (laid size count file log places) ≡ count
 unfolding laid

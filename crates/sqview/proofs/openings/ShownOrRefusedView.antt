@@ -1,6 +1,6 @@
 -- What a view shows, and what refuses it.
 use Rattle.std.proofs.Common.{◌≡◌, ◌≢◌, inl, inr, ⊎_elim, ℕ, suc, ◌-◌, ◌*◌, ◌^◌, ◌<◌, ◌≤◌, List, length, get_or, take, refl, sym, ◌∙◌, ap, subst, arith, []}
-use Rattle.std.specs.Prelude.{Option, Some, None, Result, Ok, Err}
+use Rattle.std.specs.Prelude.{Option, Some, None, Result, Ok, Err, IfOk}
 use Rattle.std.proofs.lemmas.Result.{err_from_is_err_and}
 use Rattle.std.specs.Result.{IsErrAnd}
 use Rattle.sqval.specs.Bytes.{word}
@@ -24,18 +24,45 @@ use Rattle.sqjournal.specs.declared.header.JournalHeader.{JournalHeader}
 use Rattle.sqjournal.proofs.read.NextStateOfReading.{front_first, front_names, front_refused}
 use Rattle.sqpage.specs.Header.{HasMagic, HasPageSize, size_named}
 use Rattle.sqpage.specs.declared.fault.Fault.TheVariants as faults
-use Rattle.sqview.specs.LogView.{head_of, own_pages, IsLogged, IsAlone, IsTooLongWithin, IsAboveWithin, ViewRefusedWithin, pages_of, IsShownWithin, ViewAnswerWithin}
-use Rattle.sqview.specs.Logs.{AreTwoLogs}
+use Rattle.sqview.specs.LogView.{head_of, own_pages, IsLogged, IsAlone, IsTooLongWithin, IsAboveWithin, ViewRefusedWithin, pages_of, IsShownWithin, ViewAnswerWithin, ReadsFrom}
+use Rattle.sqview.specs.Logs.{AreTwoLogs, IsRead}
 use Rattle.sqview.specs.Origins.{AreFramePlaces}
 use Rattle.sqview.specs.internal.ViewParts.{ReplayedAnswer, ScannedAnswer, LimitAnswer, IsUnsized, PlacedAnswer}
 use Rattle.sqview.specs.declared.view.View.{View}
 use Rattle.sqview.specs.declared.view_error.ViewError.{ViewError}
-use Rattle.sqview.specs.declared.view_error.ViewError.TheVariants.{TooLarge, Header, NoMemory}
+use Rattle.sqview.specs.declared.view_error.ViewError.TheVariants.{TwoLogs, TooLarge, Header, Unread, NoMemory, NoSuchCommit}
 use Rattle.sqview.proofs.openings.PagesOfView.{length_laid, page_laid, laid_own}
 
 -- what a `?` gives on
 pub passed : {T : Type 0} (r : Result T ViewError) (e : ViewError) → IsErrAnd r (λ x. x ≡ e) → r ≡ Err e
 passed r e is = let p = err_from_is_err_and r is in p.1 ∙ ap Err p.2
+
+-- an answer that a file could not be read is none that is read
+pub unread_not : {A : Type 0} (q : Result A ViewError) → IsErrAnd q (λ x. x ≡ Unread) → IsRead q → ⊥
+unread_not {A = A} q is ok = subst (λ (x : Result A ViewError). IsRead x) (passed q Unread is) ok
+
+read_of : (A B : Type 0) (e : ViewError) → IsRead {A = A} (Err e) → IsRead {A = B} (Err e)
+read_of A B Unread ok = ok
+read_of A B TwoLogs ok = tt
+read_of A B TooLarge ok = tt
+read_of A B (Header fault) ok = tt
+read_of A B NoMemory ok = tt
+read_of A B NoSuchCommit ok = tt
+
+-- what was given on was read
+pub read_before : {A : Type 0} (B : Type 0) (q : Result A ViewError) (e : ViewError) → IsErrAnd q (λ x. x ≡ e) → IsRead q → IsRead {A = B} (Err e)
+read_before {A = A} B q e is ok = read_of A B e (subst (λ (x : Result A ViewError). IsRead x) (passed q e is) ok)
+
+-- what a hot journal shows beside a log of no bytes
+pub journal_answers : {F : Type 0} (limits : Bounds) (bytes : F → List ℕ) (db wal journal now : List ℕ) (r : Result (View F) ViewError) → wal ≡ [] → now ≡ journal
+    → ViewAnswerWithin limits bytes db [] now r → ViewAnswerWithin limits bytes db wal journal r
+journal_answers limits bytes db wal journal now r bare same is =
+    subst (λ (l : List ℕ). ViewAnswerWithin limits bytes db l journal r) (sym bare) (subst (λ (l : List ℕ). ViewAnswerWithin limits bytes db [] l r) same is)
+
+pub journal_reads : {F : Type 0} (bytes : F → List ℕ) (db wal journal now : List ℕ) (r : Result (View F) ViewError) → IsHot journal → now ≡ journal
+    → IfOk r (λ v. (bytes v.db ≡ db) × (bytes v.log ≡ now)) → IfOk r (λ v. ReadsFrom db wal journal (bytes v.db) (bytes v.log))
+journal_reads bytes db wal journal now (Ok v) hot same is = record { file_is = is.0; hot = λ _. is.1 ∙ same; cold = λ cold. absurd (cold hot) }
+journal_reads bytes db wal journal now (Err e) hot same is = tt
 
 pub answers : {F : Type 0} (limits : Bounds) (bytes : F → List ℕ) (db wal journal : List ℕ) (q : Result (View F) ViewError) (e : ViewError) → IsErrAnd q (λ x. x ≡ e) → ViewRefusedWithin limits db wal journal e
     → ViewAnswerWithin limits bytes db wal journal q
@@ -151,7 +178,7 @@ module _ (limits : Bounds) (db journal : List ℕ) (hot : IsHot journal) where
     pub restored_shown : {F : Type 0} (bytes : F → List ℕ) (v : View F) → LimitAnswer limits.bytes size count (Ok v.count) → v.page_size ≡ word journal 24 → IsRolledBack db journal (pages_of bytes v) → v.front ≡ 0
         → length v.places.items ≡ v.count → IsShownWithin limits bytes db [] journal v
     restored_shown bytes v le e is zero long = record {
-      shows = inl (hot, e, is);
+      shows = inl (hot, e, is, just_one);
       one = just_one;
       short = not_long;
       within = not_above le.1;

@@ -115,7 +115,7 @@ module _ (limits : Bounds) (db wal journal : List ℕ) (one : ¬ AreTwoLogs wal 
   -- the file's own view is the one at frame 0
   pub own_at : {F : Type 0} (bytes : F → List ℕ) (q : Result (View F) ViewError) → ViewAnswerWithin limits bytes db [] [] q → AtAnswerWithin limits bytes m db wal journal q
   own_at bytes (Ok v) shown = record {
-    shows = inl (zero, ⊎_elim (λ hot. absurd (cold_nothing hot.0)) (⊎_elim (λ logged. absurd (no_front logged.0 logged.1)) (λ own. own.1)) shown.shows);
+    shows = inl (zero, ⊎_elim (λ hot. absurd (cold_nothing hot.0)) (⊎_elim (λ logged. absurd (no_front logged.0 logged.1)) (λ own. own.1)) shown.shows, one);
     stands = ⊎_elim (λ logged. absurd (no_front v.front logged)) (λ none. none.0) shown.stands ∙ sym zero;
     one = one;
     short = short;
@@ -180,5 +180,5 @@ module _ (front size : ℕ) (db wal journal : List ℕ) (d : Database) where
       (λ hot. absurd (alone.cold hot.0))
       (⊎_elim
       (λ x. absurd (omega (arith, x.1.some, front_unique (named_size wal) wal x.0 0 x.1.is alone.none)))
-      (λ own. inl (refl, own.1)))
+      (λ own. inl (refl, own.1, λ two. alone.cold two.0)))
       views

@@ -30,14 +30,14 @@ use Rattle.sqview.specs.declared.view_error.ViewError.TheVariants.{TooLarge, Hea
 abbrev pub ScanPiece : (most : ℕ) → List ℕ → (end : ℕ) → Result (Result (Unit {0}) WalFormatError) SourceError → Scan → Type 0
 ScanPiece most w end (Ok (Ok x)) s = TookWithin most (take end w) s
 ScanPiece most w end (Ok (Err e)) s = LogRefusedWithin most w e
-ScanPiece most w end (Err e) s = ⊥
+ScanPiece most w end (Err e) s = Unit {0}
 
 -- those of a journal to the replay
 abbrev pub ReplayPiece : List ℕ → (end : ℕ) → Result (Result (Unit {0}) JournalError) SourceError → Replay → Type 0
 ReplayPiece b end (Ok (Ok x)) r = ReplayTook (take end b) r
 ReplayPiece b end (Ok (Err NoReplayMemory)) r = Unit {0}
 ReplayPiece b end (Ok (Err e)) r = Refuses b e
-ReplayPiece b end (Err e) r = ⊥
+ReplayPiece b end (Err e) r = Unit {0}
 
 -- the scan of a log, where it has a valid header
 abbrev pub ScannedAnswer : (most : ℕ) → List ℕ → Result (Option Scan) ViewError → Type 0

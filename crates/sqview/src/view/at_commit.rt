@@ -3,6 +3,7 @@ ghost use Rattle.std.specs.Prelude.{◌≡◌, ◌≤◌, ℕ, List, IfOk};
 ghost use Rattle.sqwal.specs.Took.{Took, TookWithin};
 ghost use Rattle.sqjournal.specs.Journal.{IsHot};
 ghost use Rattle.sqview.specs.At.{AtAnswer, AtAnswerWithin, FrontIsShown, ZeroIsShown};
+ghost use Rattle.sqview.specs.Logs.{IsRead};
 ghost use Rattle.sqview.specs.internal.ViewParts.{CommitFound};
 
 use super::View;
@@ -46,8 +47,11 @@ fn at_frame<F: FileBytes + Drop>(
     wal: F,
     frame: u32,
 ) -> Result<View<F>, ViewError>
-    ensures answer { F.gives_bytes wal → 1 ≤ frame → (journal : List ℕ) → ¬ IsHot journal
+    ensures right { F.reads_right wal → IsRead result → 1 ≤ frame → (journal : List ℕ) → ¬ IsHot journal
         → AtAnswerWithin limits F.bytes frame (F.bytes db) (F.bytes wal) journal result }
+    ensures read { F.gives_bytes wal → IsRead result }
+    ensures still_right { F.reads_right db → F.reads_right wal
+        → IfOk result (λ view. F.reads_right view.db × F.reads_right view.log) }
     ensures still_gives { F.gives_bytes db → F.gives_bytes wal
         → IfOk result (λ view. F.gives_bytes view.db × F.gives_bytes view.log) }
     ensures reads { IfOk result (λ view. (F.bytes view.db ≡ F.bytes db) × (F.bytes view.log ≡ F.bytes wal)) }
@@ -72,6 +76,10 @@ impl<F: FileBytes + Drop> View<F> {
     ) -> Result<View<F>, ViewError>
         ensures answer { Took (F.bytes log) scan.now → 1 ≤ frame → (journal : List ℕ) → ¬ IsHot journal
             → AtAnswer F.bytes frame (F.bytes db) (F.bytes log) journal result }
+        ensures zero { Took (F.bytes log) scan.now → frame ≡ 0 → result ≡ Err ViewError.NoSuchCommit }
+        ensures read { IsRead result }
+        ensures still_right { F.reads_right db → F.reads_right log
+            → IfOk result (λ view. F.reads_right view.db × F.reads_right view.log) }
         ensures still_gives { F.gives_bytes db → F.gives_bytes log
             → IfOk result (λ view. F.gives_bytes view.db × F.gives_bytes view.log) }
         ensures reads { IfOk result (λ view. (F.bytes view.db ≡ F.bytes db) × (F.bytes view.log ≡ F.bytes log)) }
@@ -90,6 +98,11 @@ impl<F: FileBytes + Drop> View<F> {
     ) -> Result<View<F>, ViewError>
         ensures answer { TookWithin limits.frames (F.bytes log) scan.now → 1 ≤ frame → (journal : List ℕ)
             → ¬ IsHot journal → AtAnswerWithin limits F.bytes frame (F.bytes db) (F.bytes log) journal result }
+        ensures zero { TookWithin limits.frames (F.bytes log) scan.now → frame ≡ 0
+            → result ≡ Err ViewError.NoSuchCommit }
+        ensures read { IsRead result }
+        ensures still_right { F.reads_right db → F.reads_right log
+            → IfOk result (λ view. F.reads_right view.db × F.reads_right view.log) }
         ensures still_gives { F.gives_bytes db → F.gives_bytes log
             → IfOk result (λ view. F.gives_bytes view.db × F.gives_bytes view.log) }
         ensures reads { IfOk result (λ view. (F.bytes view.db ≡ F.bytes db) × (F.bytes view.log ≡ F.bytes log)) }
@@ -109,6 +122,10 @@ impl<F: FileBytes + Drop> View<F> {
     pub fn at(alloc: Global, db: F, wal: F, journal: F, frame: u32) -> Result<View<F>, ViewError>
         ensures answer { F.gives_bytes db × F.gives_bytes wal × F.gives_bytes journal
             → AtAnswer F.bytes frame (F.bytes db) (F.bytes wal) (F.bytes journal) result }
+        ensures right { F.reads_right db × F.reads_right wal × F.reads_right journal → IsRead result
+            → AtAnswer F.bytes frame (F.bytes db) (F.bytes wal) (F.bytes journal) result }
+        ensures still_right { F.reads_right db × F.reads_right wal × F.reads_right journal
+            → IfOk result (λ view. F.reads_right view.db × F.reads_right view.log) }
         ensures still_gives { F.gives_bytes db × F.gives_bytes wal × F.gives_bytes journal
             → IfOk result (λ view. F.gives_bytes view.db × F.gives_bytes view.log) }
         ensures reads { IfOk result (λ view. (F.bytes view.db ≡ F.bytes db) × (F.bytes view.log ≡ F.bytes wal)) }
@@ -127,6 +144,10 @@ impl<F: FileBytes + Drop> View<F> {
     ) -> Result<View<F>, ViewError>
         ensures answer { F.gives_bytes db × F.gives_bytes wal × F.gives_bytes journal
             → AtAnswerWithin limits F.bytes frame (F.bytes db) (F.bytes wal) (F.bytes journal) result }
+        ensures right { F.reads_right db × F.reads_right wal × F.reads_right journal → IsRead result
+            → AtAnswerWithin limits F.bytes frame (F.bytes db) (F.bytes wal) (F.bytes journal) result }
+        ensures still_right { F.reads_right db × F.reads_right wal × F.reads_right journal
+            → IfOk result (λ view. F.reads_right view.db × F.reads_right view.log) }
         ensures still_gives { F.gives_bytes db × F.gives_bytes wal × F.gives_bytes journal
             → IfOk result (λ view. F.gives_bytes view.db × F.gives_bytes view.log) }
         ensures reads { IfOk result (λ view. (F.bytes view.db ≡ F.bytes db) × (F.bytes view.log ≡ F.bytes wal)) }

@@ -5,6 +5,7 @@ ghost use Rattle.sqwal.specs.Header.{named_size, IsHeader};
 ghost use Rattle.sqwal.specs.Took.{Took, TookWithin};
 ghost use Rattle.sqjournal.specs.Header.{Names};
 ghost use Rattle.sqjournal.specs.Journal.{IsHot};
+ghost use Rattle.sqview.specs.Logs.{IsRead};
 ghost use Rattle.sqview.specs.LogView.{ViewAnswer, ViewAnswerWithin, ReadsFrom, IsTooLongWithin, IsAlone};
 ghost use Rattle.sqview.specs.internal.ViewParts.{ScannedAnswer, ReplayedAnswer, LimitAnswer, IsUnsized, PlacedAnswer};
 
@@ -33,8 +34,10 @@ fn within_limit(limits: Limits, count: u64, page_size: PageSize) -> Result<u32, 
 
 /// The replay of a hot journal. Unread where it isn't hot any more.
 fn replayed<F: FileBytes>(alloc: Global, journal: &mut F) -> Result<Replay, ViewError>
-    ensures answer { F.gives_bytes journal.old → IsHot (F.bytes journal.old)
+    ensures right { F.reads_right journal.old → IsRead result → IsHot (F.bytes journal.old)
         → ReplayedAnswer (F.bytes journal.old) result }
+    ensures read { F.gives_bytes journal.old → IsHot (F.bytes journal.old) → IsRead result }
+    ensures still_right { F.reads_right journal.old → F.reads_right journal.new }
     ensures still_gives { F.gives_bytes journal.old → F.gives_bytes journal.new }
     ensures same_bytes { F.bytes journal.new ≡ F.bytes journal.old }
 {
@@ -52,7 +55,9 @@ pub(super) fn scanned<F: FileBytes>(
     limits: Limits,
     wal: &mut F,
 ) -> Result<Option<Scan>, ViewError>
-    ensures answer { F.gives_bytes wal.old → ScannedAnswer limits.frames (F.bytes wal.old) result }
+    ensures right { F.reads_right wal.old → IsRead result → ScannedAnswer limits.frames (F.bytes wal.old) result }
+    ensures read { F.gives_bytes wal.old → IsRead result }
+    ensures still_right { F.reads_right wal.old → F.reads_right wal.new }
     ensures still_gives { F.gives_bytes wal.old → F.gives_bytes wal.new }
     ensures same_bytes { F.bytes wal.new ≡ F.bytes wal.old }
 {
@@ -72,8 +77,12 @@ fn restored<F: FileBytes + Drop>(
     journal: F,
     header: &JournalHeader,
 ) -> Result<View<F>, ViewError>
-    ensures answer { F.gives_bytes journal → IsHot (F.bytes journal) → Names (F.bytes journal) header.now
+    ensures right { F.reads_right journal → IsRead result → IsHot (F.bytes journal)
+        → Names (F.bytes journal) header.now
         → ViewAnswerWithin limits F.bytes (F.bytes db) [] (F.bytes journal) result }
+    ensures read { F.gives_bytes journal → IsHot (F.bytes journal) → IsRead result }
+    ensures still_right { F.reads_right db → F.reads_right journal
+        → IfOk result (λ view. F.reads_right view.db × F.reads_right view.log) }
     ensures still_gives { F.gives_bytes db → F.gives_bytes journal
         → IfOk result (λ view. F.gives_bytes view.db × F.gives_bytes view.log) }
     ensures reads { IfOk result (λ view. (F.bytes view.db ≡ F.bytes db) × (F.bytes view.log ≡ F.bytes journal)) }
@@ -102,9 +111,12 @@ fn committed<F: FileBytes + Drop>(
     scan: &Scan,
     page_size: PageSize,
 ) -> Result<View<F>, ViewError>
-    ensures answer { F.gives_bytes db → TookWithin limits.frames (F.bytes log) scan.now
+    ensures right { F.reads_right db → IsRead result → TookWithin limits.frames (F.bytes log) scan.now
         → IsHeader page_size (F.bytes log) → (journal : List ℕ) → ¬ IsHot journal
         → ViewAnswerWithin limits F.bytes (F.bytes db) (F.bytes log) journal result }
+    ensures read { F.gives_bytes db → IsRead result }
+    ensures still_right { F.reads_right db → F.reads_right log
+        → IfOk result (λ view. F.reads_right view.db × F.reads_right view.log) }
     ensures still_gives { F.gives_bytes db → F.gives_bytes log
         → IfOk result (λ view. F.gives_bytes view.db × F.gives_bytes view.log) }
     ensures reads { IfOk result (λ view. (F.bytes view.db ≡ F.bytes db) × (F.bytes view.log ≡ F.bytes log)) }
@@ -134,6 +146,9 @@ pub(super) fn placed<F: FileBytes + Drop>(
         → IsValidFrame commit.page_size (F.bytes log) commit.frame
         → commit.size ≡ size_of commit.page_size (F.bytes log) commit.frame → PlacedAnswer limits.bytes F.bytes
         commit.page_size commit.frame commit.size (F.bytes db) (F.bytes log) result }
+    ensures read { IsRead result }
+    ensures still_right { F.reads_right db → F.reads_right log
+        → IfOk result (λ view. F.reads_right view.db × F.reads_right view.log) }
     ensures still_gives { F.gives_bytes db → F.gives_bytes log
         → IfOk result (λ view. F.gives_bytes view.db × F.gives_bytes view.log) }
     ensures reads { IfOk result (λ view. (F.bytes view.db ≡ F.bytes db) × (F.bytes view.log ≡ F.bytes log)) }
@@ -162,8 +177,11 @@ fn logged<F: FileBytes + Drop>(
     db: F,
     wal: F,
 ) -> Result<View<F>, ViewError>
-    ensures answer { F.gives_bytes db → F.gives_bytes wal → (journal : List ℕ) → ¬ IsHot journal
+    ensures right { F.reads_right db → F.reads_right wal → IsRead result → (journal : List ℕ) → ¬ IsHot journal
         → ViewAnswerWithin limits F.bytes (F.bytes db) (F.bytes wal) journal result }
+    ensures read { F.gives_bytes db → F.gives_bytes wal → IsRead result }
+    ensures still_right { F.reads_right db → F.reads_right wal
+        → IfOk result (λ view. F.reads_right view.db × F.reads_right view.log) }
     ensures still_gives { F.gives_bytes db → F.gives_bytes wal
         → IfOk result (λ view. F.gives_bytes view.db × F.gives_bytes view.log) }
     ensures reads { IfOk result (λ view. (F.bytes view.db ≡ F.bytes db) × (F.bytes view.log ≡ F.bytes wal)) }
@@ -183,9 +201,12 @@ fn logged_by<F: FileBytes + Drop>(
     log: F,
     scan: &Scan,
 ) -> Result<View<F>, ViewError>
-    ensures answer { F.gives_bytes db → TookWithin limits.frames (F.bytes log) scan.now
+    ensures right { F.reads_right db → IsRead result → TookWithin limits.frames (F.bytes log) scan.now
         → (journal : List ℕ) → ¬ IsHot journal
         → ViewAnswerWithin limits F.bytes (F.bytes db) (F.bytes log) journal result }
+    ensures read { F.gives_bytes db → IsRead result }
+    ensures still_right { F.reads_right db → F.reads_right log
+        → IfOk result (λ view. F.reads_right view.db × F.reads_right view.log) }
     ensures still_gives { F.gives_bytes db → F.gives_bytes log
         → IfOk result (λ view. F.gives_bytes view.db × F.gives_bytes view.log) }
     ensures reads { IfOk result (λ view. (F.bytes view.db ≡ F.bytes db) × (F.bytes view.log ≡ F.bytes log)) }
@@ -203,8 +224,11 @@ pub(super) fn own<F: FileBytes + Drop>(
     db: F,
     log: F,
 ) -> Result<View<F>, ViewError>
-    ensures answer { F.gives_bytes db → (wal journal : List ℕ) → ¬ IsTooLongWithin limits wal journal
+    ensures right { F.reads_right db → IsRead result → (wal journal : List ℕ) → ¬ IsTooLongWithin limits wal journal
         → IsAlone wal journal → ViewAnswerWithin limits F.bytes (F.bytes db) wal journal result }
+    ensures read { F.gives_bytes db → IsRead result }
+    ensures still_right { F.reads_right db → F.reads_right log
+        → IfOk result (λ view. F.reads_right view.db × F.reads_right view.log) }
     ensures still_gives { F.gives_bytes db → F.gives_bytes log
         → IfOk result (λ view. F.gives_bytes view.db × F.gives_bytes view.log) }
     ensures reads { IfOk result (λ view. (F.bytes view.db ≡ F.bytes db) × (F.bytes view.log ≡ F.bytes log)) }
@@ -248,9 +272,13 @@ impl<F: FileBytes + Drop> View<F> {
     pub fn new(alloc: Global, db: F, wal: F, journal: F) -> Result<View<F>, ViewError>
         ensures answer { F.gives_bytes db × F.gives_bytes wal × F.gives_bytes journal
             → ViewAnswer F.bytes (F.bytes db) (F.bytes wal) (F.bytes journal) result }
+        ensures right { F.reads_right db × F.reads_right wal × F.reads_right journal → IsRead result
+            → ViewAnswer F.bytes (F.bytes db) (F.bytes wal) (F.bytes journal) result }
+        ensures still_right { F.reads_right db × F.reads_right wal × F.reads_right journal
+            → IfOk result (λ view. F.reads_right view.db × F.reads_right view.log) }
         ensures still_gives { F.gives_bytes db × F.gives_bytes wal × F.gives_bytes journal
             → IfOk result (λ view. F.gives_bytes view.db × F.gives_bytes view.log) }
-        ensures reads { F.gives_bytes wal × F.gives_bytes journal → IfOk result
+        ensures reads { F.reads_right wal × F.reads_right journal → IfOk result
             (λ view. ReadsFrom (F.bytes db) (F.bytes wal) (F.bytes journal) (F.bytes view.db) (F.bytes view.log)) }
     {
         View::new_within(alloc, Limits::USUAL, db, wal, journal)
@@ -266,9 +294,13 @@ impl<F: FileBytes + Drop> View<F> {
     ) -> Result<View<F>, ViewError>
         ensures answer { F.gives_bytes db × F.gives_bytes wal × F.gives_bytes journal
             → ViewAnswerWithin limits F.bytes (F.bytes db) (F.bytes wal) (F.bytes journal) result }
+        ensures right { F.reads_right db × F.reads_right wal × F.reads_right journal → IsRead result
+            → ViewAnswerWithin limits F.bytes (F.bytes db) (F.bytes wal) (F.bytes journal) result }
+        ensures still_right { F.reads_right db × F.reads_right wal × F.reads_right journal
+            → IfOk result (λ view. F.reads_right view.db × F.reads_right view.log) }
         ensures still_gives { F.gives_bytes db × F.gives_bytes wal × F.gives_bytes journal
             → IfOk result (λ view. F.gives_bytes view.db × F.gives_bytes view.log) }
-        ensures reads { F.gives_bytes wal × F.gives_bytes journal → IfOk result
+        ensures reads { F.reads_right wal × F.reads_right journal → IfOk result
             (λ view. ReadsFrom (F.bytes db) (F.bytes wal) (F.bytes journal) (F.bytes view.db) (F.bytes view.log)) }
     {
         let mut journal = journal;
@@ -290,9 +322,14 @@ impl<F: FileBytes + Drop> View<F> {
         ensures answer { F.gives_bytes db × F.gives_bytes wal × F.gives_bytes journal
             → Took (F.bytes wal) scan.now
             → ViewAnswer F.bytes (F.bytes db) (F.bytes wal) (F.bytes journal) result }
+        ensures right { F.reads_right db × F.reads_right wal × F.reads_right journal
+            → Took (F.bytes wal) scan.now → IsRead result
+            → ViewAnswer F.bytes (F.bytes db) (F.bytes wal) (F.bytes journal) result }
+        ensures still_right { F.reads_right db × F.reads_right wal × F.reads_right journal
+            → IfOk result (λ view. F.reads_right view.db × F.reads_right view.log) }
         ensures still_gives { F.gives_bytes db × F.gives_bytes wal × F.gives_bytes journal
             → IfOk result (λ view. F.gives_bytes view.db × F.gives_bytes view.log) }
-        ensures reads { F.gives_bytes wal × F.gives_bytes journal → IfOk result
+        ensures reads { F.reads_right wal × F.reads_right journal → IfOk result
             (λ view. ReadsFrom (F.bytes db) (F.bytes wal) (F.bytes journal) (F.bytes view.db) (F.bytes view.log)) }
     {
         let limits = Limits::USUAL;

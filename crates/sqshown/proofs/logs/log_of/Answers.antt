@@ -16,7 +16,7 @@ returns-in-Ok g c = λ given_wal given_journal.
     let journal = bytes c.args.journal.now in
     let cold = subst (λ (l : LogInUse). CountsAnswer wal journal (Ok l)) c.in-Wal.is (c.in_ok-log_in_use.ensures.answer given_wal given_journal) in
     let took = subst (λ (r : Result Scan WalFormatError). ScanFound c.args.limits wal (Ok r)) c.in-Ok.is (c.in_ok-scan-in-Wal.ensures.found given_wal) in
-    let long = c.len.ensures.count (c.scanned.ensures.same.still_gives given_wal) ∙ ap (λ (l : List ℕ). length l) c.scanned.ensures.same.same_bytes in
+    let long = c.len.ensures.count (g.met.F.FileBytes.right c.scanned.new.wal (c.scanned.ensures.same.still_gives given_wal)) ∙ ap (λ (l : List ℕ). length l) c.scanned.ensures.same.same_bytes in
     log_found c.args.limits wal journal c.wal_found.result (c.wal_found.ensures.found c.args.limits wal journal cold.0 took long) c.wal_found.ensures.memory
 
 pub returns-in-Err-replayed : goal.returns-in-Err-replayed

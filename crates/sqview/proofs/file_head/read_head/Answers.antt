@@ -1,9 +1,8 @@
-use Rattle.std.proofs.Common.{◌∙◌, ap}
-use Rattle.std.specs.Prelude.{Ok}
+use Rattle.std.proofs.Common.{◌∙◌}
 use Rattle.sqview.proofs.file.FileHeads.{page_is_part, head_is}
 use Rattle.sqview.proofs.file_head.read_head.Goals as goal
 
 pub returns-clause-read : goal.returns-clause-read
-returns-clause-read g c = λ gives.
+returns-clause-read g c = λ right.
     let file = g.F.FileBytes.bytes c.args.file.now in
-    ap Ok ((c.in_ok-read_at.ensures.read gives).1 ∙ page_is_part 100 1 file ∙ head_is file)
+    c.in_ok-read_at.ensures.read right ∙ page_is_part 100 1 file ∙ head_is file

@@ -8,10 +8,11 @@ invariant-loop-at g l =
     record {
       long : length l.piece.items ≡ 65536;
       within : l.at ≤ l.end;
+      right : g.F.FileBytes.reads_right l.fn.journal → g.F.FileBytes.reads_right l.journal;
       gives : g.F.FileBytes.gives_bytes l.fn.journal → g.F.FileBytes.gives_bytes l.journal;
       same : g.F.FileBytes.bytes l.journal ≡ b;
-      end : g.F.FileBytes.gives_bytes l.fn.journal → l.end ≡ length b;
-      took : g.F.FileBytes.gives_bytes l.fn.journal → Took (take l.at b) l.replay;
+      end : g.F.FileBytes.reads_right l.fn.journal → l.end ≡ length b;
+      took : g.F.FileBytes.reads_right l.fn.journal → Took (take l.at b) l.replay;
     }
 
 abbrev pub decreases-loop-at : goal.decreases-loop-at

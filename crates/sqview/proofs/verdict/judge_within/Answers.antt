@@ -10,7 +10,7 @@ returns-clause-found g c = λ gives.
     let given = g.F.FileBytes.gives_bytes in
     along (λ db wal journal. IfOk c.judge_files.result (IsVerdictWithin c.args.limits db wal journal)) _ _ _ _ _ _
     (ap bytes c.in_ok-db.ensures.same) (ap bytes c.in_ok-wal.ensures.same) (ap bytes c.in_ok-journal.ensures.same)
-    (c.judge_files.ensures.found (gives_unread bytes given c.args.db c.in_ok-db.db c.in_ok-db.ensures gives.0, gives_unread bytes given c.args.wal c.in_ok-wal.wal c.in_ok-wal.ensures gives.1, gives_unread bytes given c.args.journal c.in_ok-journal.journal c.in_ok-journal.ensures gives.2))
+    (c.judge_files.ensures.found (gives_unread bytes given c.args.db _ c.in_ok-db.db c.in_ok-db.ensures gives.0, gives_unread bytes given c.args.wal _ c.in_ok-wal.wal c.in_ok-wal.ensures gives.1, gives_unread bytes given c.args.journal _ c.in_ok-journal.journal c.in_ok-journal.ensures gives.2))
 
 pub returns-clause-refused : goal.returns-clause-refused
 returns-clause-refused g c = λ gives.
@@ -18,4 +18,4 @@ returns-clause-refused g c = λ gives.
     let given = g.F.FileBytes.gives_bytes in
     along (λ db wal journal. IfErr c.judge_files.result (AreUnjudgedWithin c.args.limits db wal journal)) _ _ _ _ _ _
     (ap bytes c.in_ok-db.ensures.same) (ap bytes c.in_ok-wal.ensures.same) (ap bytes c.in_ok-journal.ensures.same)
-    (c.judge_files.ensures.refused (gives_unread bytes given c.args.db c.in_ok-db.db c.in_ok-db.ensures gives.0, gives_unread bytes given c.args.wal c.in_ok-wal.wal c.in_ok-wal.ensures gives.1, gives_unread bytes given c.args.journal c.in_ok-journal.journal c.in_ok-journal.ensures gives.2))
+    (c.judge_files.ensures.refused (gives_unread bytes given c.args.db _ c.in_ok-db.db c.in_ok-db.ensures gives.0, gives_unread bytes given c.args.wal _ c.in_ok-wal.wal c.in_ok-wal.ensures gives.1, gives_unread bytes given c.args.journal _ c.in_ok-journal.journal c.in_ok-journal.ensures gives.2))

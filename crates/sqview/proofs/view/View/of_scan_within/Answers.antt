@@ -1,4 +1,4 @@
-use Rattle.std.proofs.Common.{◌≡◌, ◌≤◌, ◌∙◌, ℕ, sym, ap, subst}
+use Rattle.std.proofs.Common.{◌≡◌, ◌≤◌, ◌∙◌, ℕ, sym, ap, subst, arith}
 use Rattle.std.specs.Prelude.{Some}
 use Rattle.sqwal.specs.Frames.{size_of, IsValidFrame}
 use Rattle.sqwal.proofs.feed.ScanAnswers.{few_frames}
@@ -27,3 +27,6 @@ returns-in-None-clause-answer g c = λ took one journal cold.
     let bytes = g.F.FileBytes.bytes in
     let w = bytes c.args.log in
     at_none c.args.limits (bytes c.args.db) w journal cold c.args.frame one (few_frames w c.args.scan.now took) (c.in-None.ensures _ w took)
+
+pub returns-in-Some-clause-zero : goal.returns-in-Some-clause-zero
+returns-in-Some-clause-zero g c = λ took none. absurd (omega (arith, (c.in-Some.ensures _ (g.F.FileBytes.bytes c.args.log) took).1.first, none))

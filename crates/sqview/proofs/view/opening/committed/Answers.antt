@@ -5,14 +5,14 @@ use Rattle.sqwal.proofs.feed.ScanAnswers.{few_frames}
 use Rattle.sqview.proofs.openings.ShownOrRefusedView.{alone_zero, placed_logged, front_valid}
 use Rattle.sqview.proofs.view.opening.committed.Goals as goal
 
-pub returns-then-front-eq0-clause-answer : goal.returns-then-front-eq0-clause-answer
-returns-then-front-eq0-clause-answer g c = λ gives took header journal cold.
+pub returns-then-front-eq0-clause-right : goal.returns-then-front-eq0-clause-right
+returns-then-front-eq0-clause-right g c = λ right ok took header journal cold.
     let w = g.F.FileBytes.bytes c.args.log in
     let alone = alone_zero c.args.limits (g.F.FileBytes.bytes c.args.db) w journal cold (few_frames w c.args.scan.now took) c.committed-front.result (c.committed-front.ensures _ w took) c.if-front-eq0.true in
-    c.own.ensures.answer gives w journal alone.0 alone.1
+    c.own.ensures.right right ok w journal alone.0 alone.1
 
-pub returns-clause-answer : goal.returns-clause-answer
-returns-clause-answer g c = λ gives took header journal cold.
+pub returns-clause-right : goal.returns-clause-right
+returns-clause-right g c = λ right ok took header journal cold.
     let db = g.F.FileBytes.bytes c.args.db in
     let w = g.F.FileBytes.bytes c.args.log in
     let f = c.committed-front.result in
