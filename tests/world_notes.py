@@ -204,7 +204,7 @@ VERBOSE = [  # files, line, status, standard output, what notes say in any order
     ((None,), "check", 3, "", [NO_FILE], "file failed"),
     ((None, WAL), "recover", 3, "", [NO_FILE, "empty"], "file failed"),
     ((first_page(2),), "show", 0, TEXT, ["ends at byte 512"], ""),
-    ((first_page(2), WAL), "show", 0, TEXT, ["shorter"], ""),
+    ((first_page(2), WAL), "check", 1, TEXT, ["shorter"], ""),
 ]
 
 # The note of a file that isn't as long as its header says.

@@ -3,8 +3,9 @@ ghost use Rattle.std.specs.Prelude.{◌≡◌, ◌++◌, ◌≤◌, codes, lengt
 ghost use Rattle.sqopen.specs.Refusals.{IsFromSystem, IsFromWatch};
 
 use crate::hints::told;
-use crate::paths::{folder_of, is_missing, look_at};
-use sqfacts::{Notes, Quoted, Refusal, identity_of, metadata_of};
+use crate::paths::{Paths, folder_of, is_missing, look_at};
+use crate::place::Place;
+use sqfacts::{Identity, Notes, Quoted, Refusal, identity_of, metadata_of};
 use std::alloc::{AllocError, Global};
 use std::fs;
 use std::fs::{OpenFile, OpenOptions};
@@ -52,11 +53,36 @@ fn open_new<R: Files>(rt: &R, path: &str, mode: u32) -> io::Result<R::File> {
         .open(rt, path)
 }
 
-/// The same, in place of what a run before left there that was stopped.
-fn open_anew<R: Files>(rt: &R, path: &str, mode: u32) -> io::Result<R::File> {
+/// Whether a file is the one that lies at a place.
+fn lies_at<R: Files>(rt: &R, file: Identity, place: &Place) -> bool {
+    match look_at(rt, place.as_str()) {
+        Ok(found) => identity_of(&found) == file,
+        Err(_) => false,
+    }
+}
+
+/// Whether a file is one of a database's.
+fn is_of<R: Files>(rt: &R, file: Identity, paths: &Paths) -> bool {
+    lies_at(rt, file, &paths.db)
+        || lies_at(rt, file, &paths.wal)
+        || lies_at(rt, file, &paths.journal)
+        || lies_at(rt, file, &paths.shm)
+}
+
+/// Removes what a run before left at a path that was stopped. Refused where it is a file of the database.
+fn sweep<R: Files>(rt: &R, path: &str, paths: &Paths) -> io::Result<()> {
+    let found = look_at(rt, path)?;
+    if is_of(rt, identity_of(&found), paths) {
+        return Err(io::Error::from(ErrorKind::AlreadyExists));
+    }
+    fs::remove_file(rt, path)
+}
+
+/// A new file, in place of what a run before left there that was stopped.
+fn open_anew<R: Files>(rt: &R, path: &str, mode: u32, paths: &Paths) -> io::Result<R::File> {
     match open_new(rt, path, mode) {
         Err(error) if error.kind() == ErrorKind::AlreadyExists => {
-            fs::remove_file(rt, path)?;
+            sweep(rt, path, paths)?;
             open_new(rt, path, mode)
         }
         answer => answer,
@@ -73,14 +99,27 @@ fn is_free<R: Files>(rt: &R, path: &str) -> io::Result<()> {
 }
 
 /// Opens the file under which another is made, and says by which name.
-fn open_part<R: Files + AllocGlobal>(rt: &R, to: &str, mode: u32) -> io::Result<(R::File, String)> {
+fn open_part<R: Files + AllocGlobal>(
+    rt: &R,
+    to: &str,
+    mode: u32,
+    paths: &Paths,
+) -> io::Result<(R::File, String)> {
     is_free(rt, to)?;
     let part = part_of(rt.alloc(), to)?;
-    match open_anew(rt, part.as_str(), mode) {
+    match open_anew(rt, part.as_str(), mode, paths) {
         Ok(file) => Ok((file, part)),
-        Err(error) if error.kind() == ErrorKind::InvalidFilename => open_short(rt, to, mode),
+        Err(error) if is_unfit(&error) => open_short(rt, to, mode, paths),
         Err(error) => Err(error),
     }
+}
+
+/// Whether another name is to be taken: this one is too long, or that of a file of the database.
+fn is_unfit(error: &io::Error) -> bool {
+    matches!(
+        error.kind(),
+        ErrorKind::InvalidFilename | ErrorKind::AlreadyExists
+    )
 }
 
 /// The same, under the short name.
@@ -88,9 +127,10 @@ fn open_short<R: Files + AllocGlobal>(
     rt: &R,
     to: &str,
     mode: u32,
+    paths: &Paths,
 ) -> io::Result<(R::File, String)> {
     let part = short_part_of(rt.alloc(), to)?;
-    match open_anew(rt, part.as_str(), mode) {
+    match open_anew(rt, part.as_str(), mode, paths) {
         Ok(file) => Ok((file, part)),
         Err(error) => Err(error),
     }
@@ -152,17 +192,18 @@ fn is_at<R: Files>(rt: &R, file: &R::File, path: &str) -> io::Result<bool> {
     }
 }
 
-/// Begins a file that gets this name and these permissions, as far as the process gives them. Refused by `FileFailed`
-/// where something lies there.
+/// Begins a file that gets this name and these permissions, as far as the process gives them, beside the files of a
+/// database, of which none is touched. Refused by `FileFailed` where something lies there.
 pub fn begin_file<'a, R: Files + AllocGlobal, E: Write>(
     rt: &R,
+    paths: &Paths,
     to: &'a str,
     mode: u32,
     notes: &mut Notes<'_, E>,
 ) -> Result<NewFile<'a, R::File>, Refusal>
     ensures refused { IfErr result IsFromSystem }
 {
-    match open_part(rt, to, mode) {
+    match open_part(rt, to, mode, paths) {
         Ok((file, part)) => Ok(NewFile {
             file,
             to,

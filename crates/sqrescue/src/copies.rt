@@ -153,7 +153,7 @@ where
         outcome,
     } = found;
     let front = content.front();
-    let mut made = match begin_file(rt, to, mode, notes) {
+    let mut made = match begin_file(rt, paths, to, mode, notes) {
         Ok(made) => made,
         Err(refusal) => return Err(ShowError::Refused(refusal)),
     };

@@ -74,10 +74,12 @@ where
     };
     let asked = guard.ask();
     tell_unread(notes, &unread);
-    match asked {
+    let recovered = match asked {
         Ok(()) => recover_logged(rt, paths, guard, options, &progress, notes),
         Err(refusal) => Err(refusal),
-    }
+    };
+    tell_unread(notes, &unread);
+    recovered
 }
 
 /// The log that counts, the opened write-ahead log, and the length of the journal.

@@ -192,7 +192,7 @@ fn new_page<'a, R: Files + AllocGlobal, E: Write>(
 ) -> Result<NewFile<'a, R::File>, Refusal> {
     judge_name(rt, paths, to, notes)?;
     let mode = mode_of(rt, paths, notes)?;
-    begin_file(rt, to, mode, notes)
+    begin_file(rt, paths, to, mode, notes)
 }
 
 /// Makes the page. Where it fails nothing has the page's name.
