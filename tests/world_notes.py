@@ -379,7 +379,8 @@ def lines_that_cannot_be_written():
     fill(DB, b"")
     with open("/dev/full", "wb") as full:
         for line in [*EACH_LINE, "--version", "--help", "recover --help"]:
-            yield line, wrong(run(line, stdout=full), 3)
+            err = Noted("couldn't be printed: nothing to recover$") if line == "recover a.db" else ""
+            yield line, wrong(run(line, stdout=full), 3, "", err)
         for line in [f"{line} {option}" for line in EACH_LINE for option in ("-v", "--verbose")]:
             yield line, wrong(run(line, stdout=full), 3, "", ANY)
         fill(DB, None, SUPER)
@@ -419,8 +420,8 @@ def the_name_of_a_super_journal():
     lost = "/tmp/b.db-mj012345678"
     for line in EACH_LINE:
         fill(DB, None, SUPER)
-        refusal = "super-journal" if line.startswith("recover") else ""
-        status, out, _ = run(line)
+        status, out, err = run(line)
+        refusal = err.splitlines()[-1].removeprefix("sqrescue: ") if status == 3 else ""
         yield f"{line}, gone", unchanged(f"{line} -v", status, out, Noted(f"super-journal {lost} isn't there$", refusal))
     here = os.path.realpath("b.db-mj012345678")
     journal = journal_of(1, (1, b"j")) + words(2_097_153) + here.encode()
