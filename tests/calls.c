@@ -2,19 +2,21 @@
    the call whose number CALL names, from 1, or to each where CALL is 0, it does what MANNER says: `fail` refuses it;
    `half` carries out half of a read or write, and says so; `torn` carries out half of a write, and refuses it; `kill`
    ends the program in its place, and `torn kill` behind half of a write; `interrupt` refuses it as for a signal, and
-   where CALL is 0 each other call. In the place of /proc/locks the file that FREE names is opened, and from the
+   where CALL is 0 each other call; `taken` and `no links` are of a link. In the place of /proc/locks the file that FREE names is opened, and from the
    opening on whose number FROM names, from 1, the one that HELD names. */
 typedef unsigned long size_t;
 typedef long ssize_t;
 typedef long off_t;
 
-enum { INTERRUPTED = 4, IO_FAILED = 5, WRITE_ON = 01 | 0100 | 02000, LONGEST = 4096, KILL = 9, PAGE = 512 };
+enum { NOT_PERMITTED = 1, INTERRUPTED = 4, IO_FAILED = 5, WRITE_ON = 01 | 0100 | 02000, LONGEST = 4096, KILL = 9, PAGE = 512 };
 
 enum { HALVES = 1, REFUSES = 2, ENDS = 4, STOPS = 8 };
 
 char *getenv(const char *);
 unsigned long strtoul(const char *, char **, int);
 int strcmp(const char *, const char *);
+int strncmp(const char *, const char *, size_t);
+char *strstr(const char *, const char *);
 char *strrchr(const char *, int);
 int snprintf(char *, size_t, const char *, ...);
 int dprintf(int, const char *, ...);
@@ -31,7 +33,10 @@ typedef int (*looks)(int, const char *, int, unsigned, void *);
 typedef ssize_t (*reads)(int, void *, size_t);
 typedef ssize_t (*reads_at)(int, void *, size_t, off_t);
 typedef ssize_t (*writes_at)(int, const void *, size_t, off_t);
+typedef ssize_t (*writes)(int, const void *, size_t);
 typedef int (*cuts)(int, off_t);
+typedef int (*names)(const char *);
+typedef int (*pairs)(const char *, const char *);
 
 static int told = -1;
 static unsigned long made, chosen, openings, held_from;
@@ -150,6 +155,41 @@ ssize_t pwrite(int file, const void *from, size_t n, off_t at) {
 }
 
 ssize_t pwrite64(int file, const void *from, size_t n, off_t at) { return pwrite(file, from, n, at); }
+
+/* What goes to a standard stream isn't a file's. */
+ssize_t write(int file, const void *from, size_t n) {
+    char found[LONGEST];
+    int does;
+    if (file < 3) return NEXT(writes, "write")(file, from, n);
+    does = fate();
+    dprintf(told, "put %s %lu\n", name_of(file, found), n);
+    if (!(does & HALVES)) return is_over(does) ? -1 : NEXT(writes, "write")(file, from, n);
+    ssize_t done = NEXT(writes, "write")(file, from, part_of(n, does));
+    return is_over(does) ? -1 : done;
+}
+
+/* Where it is the chosen call, `taken` makes an empty file at the new name first, and `no links` refuses it as a
+   system without links does. */
+int link(const char *from, const char *to) {
+    int does = fate(), is_chosen = chosen && made == chosen;
+    dprintf(told, "link %s %s\n", last_of(from), last_of(to));
+    if (is_chosen && !strncmp(manner, "taken", 5)) NEXT(opens, "open")(to, WRITE_ON, 0600);
+    if (is_chosen && strstr(manner, "no links")) {
+        *__errno_location() = NOT_PERMITTED;
+        return -1;
+    }
+    return is_over(does) ? -1 : NEXT(pairs, "link")(from, to);
+}
+
+int rename(const char *from, const char *to) {
+    dprintf(told, "rename %s %s\n", last_of(from), last_of(to));
+    return is_over(fate()) ? -1 : NEXT(pairs, "rename")(from, to);
+}
+
+int unlink(const char *path) {
+    dprintf(told, "remove %s\n", last_of(path));
+    return is_over(fate()) ? -1 : NEXT(names, "unlink")(path);
+}
 
 int ftruncate(int file, off_t end) {
     char found[LONGEST];

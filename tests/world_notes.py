@@ -1,12 +1,12 @@
 """Notes, the options that decide, and what can't be written."""
-import contextlib, os, re, shutil, sqlite3, tempfile
+import contextlib, os, pty, re, shutil, sqlite3, subprocess, tempfile
 import world_processes as processes
 from common import preloaded, top
 from samples import JOURNAL_MAGIC, PAGE, first_page, head_of, journal_of, leaf, log_of, put, words
 from world_files import fifo, folder, link
 from world_runs import (
     ANY, CLEAN, DB, EACH_LINE, FAILED, JOURNAL, LOOKING, SUPER, TEXT, WAL, Noted, Stopped, copied, fill, holder, nobody,
-    read, refused_as_locked, run, test, unchanged, write, wrong,
+    program, read, refused_as_locked, run, test, unchanged, write, wrong,
 )
 
 
@@ -203,9 +203,12 @@ VERBOSE = [  # files, line, status, standard output, what notes say in any order
     ((put(DB, 28, words(2_097_153)),), "check", 3, "", ["--large|1,?073,?741,?824"], "too large"),
     ((None,), "check", 3, "", [NO_FILE], "file failed"),
     ((None, WAL), "recover", 3, "", [NO_FILE, "empty"], "file failed"),
-    ((first_page(2),), "show", 0, TEXT, ["shorter"], ""),
-    ((first_page(2),), "check", 1, TEXT, ["shorter"], ""),
+    ((first_page(2),), "show", 0, TEXT, ["ends at byte 512"], ""),
+    ((first_page(2), WAL), "check", 1, TEXT, ["shorter"], ""),
 ]
+
+# The note of a file that isn't as long as its header says.
+LENGTH = r"sqrescue: note: \S+ (ends at byte|goes on for) .*\n"
 
 
 @test
@@ -214,7 +217,8 @@ def verbose():
     for number, (files, line, status, out, patterns, refusal) in enumerate(VERBOSE, 1):
         fill(*files)
         alone = run(f"{line} a.db")
-        yield f"{number}, without", wrong(alone, status, out, refusal and f"sqrescue: {refusal}\n")
+        told = f"sqrescue: {refusal}\n" if refusal else ""
+        yield f"{number}, without", wrong(alone, status, out, re.compile(f"({LENGTH})?{told}"))
         first, second = (run(f"{line} a.db {option}") for option in ("-v", "--verbose"))
         yield f"{number}, both words", None if first == second else f"{first}, {second}"
         for pattern in patterns:
@@ -375,21 +379,141 @@ def lines_that_cannot_be_written():
     fill(DB, b"")
     with open("/dev/full", "wb") as full:
         for line in [*EACH_LINE, "--version", "--help", "recover --help"]:
-            yield line, wrong(run(line, stdout=full), 3)
+            err = Noted("couldn't be printed: nothing to recover$") if line == "recover a.db" else ""
+            yield line, wrong(run(line, stdout=full), 3, "", err)
         for line in [f"{line} {option}" for line in EACH_LINE for option in ("-v", "--verbose")]:
             yield line, wrong(run(line, stdout=full), 3, "", ANY)
         fill(DB, None, SUPER)
         for line in EACH_LINE:
-            yield f"{line}, a note", wrong(run(line, stderr=full), 3, ANY)
+            yield f"{line}, a note", wrong(run(line, stderr=full), *run(line)[:2])
         yield "words", wrong(run("recover", stderr=full), 3)
 
 
 @test
 def verbose_notes_that_cannot_be_written():
-    """Then what is printed says nothing of the status."""
-    fill(DB, b"")
+    """They change nothing of the answer, nor of what is made."""
     with open("/dev/full", "wb") as full:
-        for line in [f"{line} {option}" for line in EACH_LINE for option in ("-v", "--verbose")]:
-            yield line, wrong(run(line, stderr=full), 3, ANY)
+        for line in EACH_LINE:
+            fill(DB, WAL)
+            right = run(line)
+            fill(DB, WAL)
+            yield line, wrong(run(f"{line} -v", stderr=full), *right[:2])
+        fill(DB, WAL)
+        yield "--to", wrong(run("recover a.db --to out -v", stderr=full), 0, "wal: front 3, 3 pages\n")
+        yield "what is made", None if os.path.getsize("out") == 3 * PAGE else "other bytes"
+
+
+@test
+def a_recovery_that_cannot_be_told():
+    """What was done is noted where it can't be printed; what is made anew is taken away."""
+    done = {"wal: front 3, 3 pages": (DB, WAL), "journal: 1 records, 1 pages": (DB, None, JOURNAL)}
+    with open("/dev/full", "wb") as full:
+        for told, files in done.items():
+            fill(*files)
+            yield told, wrong(run("recover a.db", stdout=full), 3, "", Noted(f"couldn't be printed: {told}$"))
+            yield f"{told}, again", wrong(run("recover a.db"), 0, "nothing to recover\n")
+
+
+@test
+def the_name_of_a_super_journal():
+    """It is named where notes are asked for, and whether it is there."""
+    lost = "/tmp/b.db-mj012345678"
+    for line in EACH_LINE:
+        fill(DB, None, SUPER)
+        status, out, err = run(line)
+        refusal = err.splitlines()[-1].removeprefix("sqrescue: ") if status == 3 else ""
+        yield f"{line}, gone", unchanged(f"{line} -v", status, out, Noted(f"super-journal {lost} isn't there$", refusal))
+    here = os.path.realpath("b.db-mj012345678")
+    journal = journal_of(1, (1, b"j")) + words(2_097_153) + here.encode()
+    journal += words(len(here), sum(here.encode())) + JOURNAL_MAGIC
+    fill(DB, None, journal)
+    write(here, b"")
+    yield "there", unchanged("recover -v a.db", 3, "", Noted(f"super-journal {re.escape(here)} is there$", "super-journal"))
+
+
+@test
+def names_of_a_file():
+    """A file with several names, none of which has a log beside it here, may have one beside another."""
+    for name, files, is_noted in ("none", (DB,), True), ("a log", (DB, WAL), False), ("a journal", (DB, None, COLD), False):
+        for line in LOOKING:
+            fill(*files)
+            status, out, err = run(line)
+            os.link("a.db", "b.db")
+            err = Noted(r"a\.db has 2 names") if is_noted else err
+            yield f"{name}, {line}", unchanged(line, status, out, err)
+            os.remove("b.db")
+
+
+@test
+def names_that_a_terminal_takes():
+    """Control characters of names are quoted as `ls` quotes them, and others aren't."""
+    rows = [("a\nb.db", r"'a'\$'\\n''b\.db'"), ("\x1b[31m.db", r"''\$'\\033''\[31m\.db'"), ("a b'.db", r"a b'\.db")]
+    for name, quoted in rows:
+        fill(DB, WAL, name=name)
+        done = subprocess.run([program, "check", "-v", name], capture_output=True, text=True)
+        is_right = re.search(rf"^sqrescue: note: {quoted}: \d+ bytes$", done.stderr, re.M)
+        is_right = is_right and "\x1b" not in done.stderr
+        yield repr(name), None if is_right else repr(done.stderr)
+
+
+def on_a_terminal(*words):
+    """What a run says on standard error, where that is a terminal."""
+    ours, theirs = pty.openpty()
+    with open(theirs, "wb") as err:
+        done = subprocess.run([program, *words], stdin=subprocess.DEVNULL, stdout=subprocess.PIPE, stderr=err)
+    told = b""
+    with contextlib.suppress(OSError), open(ours, "rb", buffering=0) as read:
+        while piece := read.read(4096):
+            told += piece
+    return done.returncode, told.decode().replace("\r\n", "\n")
+
+
+@test
+def refusals_on_a_terminal():
+    """They come with the path, the cause and the next step; elsewhere the line stands alone."""
+    rows = [
+        ((DB, WAL), ["recover", "none.db"], r"none\.db: No such file.*", "see whether the name is right", "file failed"),
+        ((DB, WAL), ["recover", "a.db", "--to", "a.db"], r"a\.db: .*exists.*", "another name", "file failed"),
+        ((DB, WAL, JOURNAL), ["check", "a.db"], r"a\.db-wal and a\.db-journal both count", "move one away", "two logs"),
+        ((None,), ["check", "."], r"\.: a directory, no regular file", "", "file failed"),
+    ]
+    for files, words_of, cause, step, refusal in rows:
+        fill(*files)
+        status, told = on_a_terminal(*words_of)
+        text = rf"sqrescue: note: {cause}.*\nsqrescue: note: .*{step}.*\nsqrescue: {refusal}\n"
+        yield " ".join(words_of), None if status == 3 and re.fullmatch(text, told) else f"{status} {told!r}"
+        yield f"{words_of}, elsewhere", wrong(run(" ".join(words_of)), 3, "", f"sqrescue: {refusal}\n")
+    fill(DB, WAL)
+    yield "done", None if on_a_terminal("check", "a.db") == (1, "") else f"{on_a_terminal('check', 'a.db')}"
+
+
+@test
+def a_full_disk():
+    """The cause is named, and what to do fits it."""
+    fill(DB, WAL)
+    small = ["bash", "-c", 'ulimit -f 1; trap "" XFSZ; exec "$0" "$@"']
+    err = Noted(r"^sqrescue: note: out: File too large", "file failed")
+    yield "too large a file", wrong(run("recover a.db --to out -v", before=small), 3, "", err)
+
+
+@test
+def files_of_another_length():
+    """A file that ends before its header says, or goes on behind that, is noted where no log counts beside it."""
+    named = first_page(3)
+    rows = {"cut": named + leaf(), "cut in a page": named + leaf() * 2, "longer": named + leaf() * 2 + b"x"}
+    rows["cut in a page"] = rows["cut in a page"][:-1]
+    words_of = {"cut": "a.db ends at byte 1024, before the 3 pages of 512 bytes", "longer": "a.db goes on for 1 bytes"}
+    words_of["cut in a page"] = "a.db ends at byte 1535, before the 3 pages"
+    for name, content in rows.items():
+        for line in "check a.db", "show a.db", "show a.db --page 1", "show --pages a.db", "recover a.db --to out":
+            fill(content)
+            answer = run(line)
+            yield f"{name}, {line}", wrong(answer, answer.status, TEXT, Noted(re.escape(words_of[name])))
+            fill(content, WAL)
+            yield f"{name}, {line}, a log", None if "header names" not in run(line).err else "noted"
+        fill(content)
+        yield f"{name}, recover", wrong(run("recover a.db"), 0, "nothing to recover\n")
+    fill(named + leaf() * 2)
+    yield "as long", None if not run("check a.db").err else "noted"
 
 

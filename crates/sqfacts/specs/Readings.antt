@@ -3,13 +3,14 @@ use Rattle.std.specs.Prelude.{◌≡◌, ℕ, List, Option, Some, None}
 use Rattle.sqfacts.specs.declared.readings.Reading.{Reading}
 use Rattle.sqfacts.specs.declared.readings.Readings.{Readings}
 
--- the same bytes, where both are there
+-- the same bytes, or none both times
 abbrev pub IsSameFront : (before after : Option (List ℕ)) → Type 0
 IsSameFront (Some before) (Some after) = before ≡ after
-IsSameFront (Some before) None = Unit {0}
-IsSameFront None after = Unit {0}
+IsSameFront (Some before) None = ⊥
+IsSameFront None (Some after) = ⊥
+IsSameFront None None = Unit {0}
 
--- a file of the same identity and length, changed at the same time, with the same bytes where they are compared
+-- a file of the same identity and length, changed at the same time, with the same bytes
 abbrev pub IsSame : (before after : Reading) → Type 0
 IsSame before after = (before.identity ≡ after.identity) × (before.length ≡ after.length) × (before.seconds ≡ after.seconds)
     × (before.nanoseconds ≡ after.nanoseconds) × IsSameFront before.front after.front

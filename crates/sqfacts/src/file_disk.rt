@@ -63,7 +63,7 @@ impl<F: FileExt + OpenFile + Drop, G: Guard> FileDisk<F, G> {
                 File::Db => db,
                 File::Log => log,
             };
-            notes.tell(&format_args!("{path}: {error}"));
+            notes.blame(path, error);
         }
     }
 

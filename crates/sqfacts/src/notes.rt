@@ -1,38 +1,31 @@
 //! Notes on standard error.
 ghost use Rattle.std.specs.Prelude.{◌≡◌};
 
+use crate::quoted::Quoted;
 use std::cell::{Cell, RefCell};
 use std::fmt::Display;
-use std::io::Write;
+use std::io::{self, ErrorKind, Write};
 
-/// A writer of notes, which several `Notes` share, and whether a note could not be written.
+/// A writer of notes, which several `Notes` share, and what the system said last that a note told of. A note that can't
+/// be written is left out.
 #[derive(Drop)]
 pub struct NoteWriter<E> {
     err: RefCell<E>,
-    failed: Cell<bool>,
+    cause: Cell<Option<ErrorKind>>,
 }
 
 impl<E: Write> NoteWriter<E> {
     pub fn new(err: E) -> NoteWriter<E> {
         NoteWriter {
             err: RefCell::new(err),
-            failed: Cell::new(false),
+            cause: Cell::new(None),
         }
-    }
-
-    /// Whether a note could not be written.
-    pub fn has_failed(&self) -> bool {
-        self.failed.get()
     }
 
     /// Writes a note.
     fn say<T: Display>(&self, text: &T) {
-        let is_written = match self.err.try_borrow_mut() {
-            Ok(mut err) => writeln!(err, "sqrescue: note: {text}").is_ok(),
-            Err(_) => false,
-        };
-        if !is_written {
-            self.failed.set(true);
+        if let Ok(mut err) = self.err.try_borrow_mut() {
+            let _ = writeln!(err, "sqrescue: note: {text}");
         }
     }
 }
@@ -41,20 +34,30 @@ impl<E: Write> NoteWriter<E> {
 pub struct Notes<'a, E> {
     to: &'a NoteWriter<E>,
     verbose: bool,
+    explains: bool,
 }
 
 impl<E> Drop for Notes<'_, E> {
     fn drop(self) {
-        let Notes { to: _, verbose: _ } = self;
+        let Notes {
+            to: _,
+            verbose: _,
+            explains: _,
+        } = self;
     }
 }
 
 impl<'a, E: Write> Notes<'a, E> {
-    /// Notes of which some are written only where they are asked for.
-    pub fn new(to: &'a NoteWriter<E>, verbose: bool) -> Notes<'a, E>
+    /// Notes of which some are written only where they are asked for; those that say why a command is refused also
+    /// where a person reads them.
+    pub fn new(to: &'a NoteWriter<E>, verbose: bool, is_read: bool) -> Notes<'a, E>
         ensures { result.verbose ≡ verbose }
     {
-        Notes { to, verbose }
+        Notes {
+            to,
+            verbose,
+            explains: verbose || is_read,
+        }
     }
 
     /// The same notes for another who writes some.
@@ -64,6 +67,7 @@ impl<'a, E: Write> Notes<'a, E> {
         Notes {
             to: self.to,
             verbose: self.verbose,
+            explains: self.explains,
         }
     }
 
@@ -77,6 +81,32 @@ impl<'a, E: Write> Notes<'a, E> {
         if self.verbose {
             self.say(text);
         }
+    }
+
+    /// Writes a note that says why a command is refused, or what to do then.
+    pub fn explain<T: Display>(&self, text: &T) {
+        if self.explains {
+            self.say(text);
+        }
+    }
+
+    /// The same, of a path of which the system said this.
+    pub fn blame(&self, path: &str, error: &io::Error) {
+        self.to.cause.set(Some(error.kind()));
+        let path = Quoted(path);
+        self.explain(&format_args!("{path}: {error}"));
+    }
+
+    /// What the system said last that a note told of.
+    pub fn cause(&self) -> Option<ErrorKind> {
+        self.to.cause.get()
+    }
+
+    /// Whether notes are written that say why a command is refused.
+    pub fn explains(&self) -> bool
+        ensures { result ≡ self.now.explains }
+    {
+        self.explains
     }
 
     /// Whether notes are asked for.

@@ -28,14 +28,15 @@ pub struct Readings {
     pub journal: Option<Reading>,
 }
 
-/// Whether bytes are as they were, where both are there.
+/// Whether bytes are as they were. Bytes that couldn't be read at one of both times aren't.
 fn is_same_front(before: &Option<[u8; 32]>, after: &Option<[u8; 32]>) -> bool
     ensures yes { IsTrue result → IsSameFront before.now after.now }
     ensures not { result ≡ false → ¬ IsSameFront before.now after.now }
 {
     match (before, after) {
         (Some(before), Some(after)) => *before == *after,
-        _ => true,
+        (None, None) => true,
+        _ => false,
     }
 }
 

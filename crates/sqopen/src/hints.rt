@@ -7,8 +7,8 @@ ghost use Rattle.sqopen.specs.Refusals.{IsFromSystem};
 
 use crate::opened_file::OpenedFile;
 use crate::paths::Paths;
-use sqfacts::{Notes, Refusal};
-use sqpage::{has_magic, named_page_size};
+use sqfacts::{Notes, Quoted, Refusal};
+use sqpage::{SourceError, has_magic, named_page_size};
 use sqview::FileBytes;
 use sqwal::{Scan, Stop};
 use std::fs::Metadata;
@@ -21,7 +21,7 @@ pub fn told<E: Write>(notes: &mut Notes<'_, E>, path: &str, error: io::Error) ->
     ensures other { error_kind error ≢ OutOfMemory → result ≡ FileFailed }
     ensures system { IsFromSystem result }
 {
-    notes.tell(&format_args!("{path}: {error}"));
+    notes.blame(path, &error);
     Refusal::from(error)
 }
 
@@ -44,8 +44,8 @@ fn kind_of(found: &Metadata) -> &'static str {
 pub(crate) fn told_kind<E: Write>(notes: &mut Notes<'_, E>, path: &str, found: &Metadata) -> Refusal
     ensures { result ≡ FileFailed }
 {
-    let kind = kind_of(found);
-    notes.tell(&format_args!("{path}: {kind}, no regular file"));
+    let (path, kind) = (Quoted(path), kind_of(found));
+    notes.explain(&format_args!("{path}: {kind}, no regular file"));
     Refusal::FileFailed
 }
 
@@ -91,13 +91,14 @@ fn wal_word(logs: Logs) -> &'static str {
 
 /// Says what a file is taken for.
 fn tell_word<E: Write>(notes: &mut Notes<'_, E>, path: &str, word: &str) {
+    let path = Quoted(path);
     notes.tell(&format_args!("{path} {word}"));
 }
 
 /// Says that both logs count.
 fn tell_both<E: Write>(notes: &mut Notes<'_, E>, paths: &Paths) {
-    let (wal, journal) = (paths.wal.as_str(), paths.journal.as_str());
-    notes.tell(&format_args!(
+    let (wal, journal) = (paths.wal.quoted(), paths.journal.quoted());
+    notes.explain(&format_args!(
         "{wal} and {journal} both count, of which SQLite leaves one: look at both, and move away the one that isn't \
          of the last writer"
     ));
@@ -105,7 +106,7 @@ fn tell_both<E: Write>(notes: &mut Notes<'_, E>, paths: &Paths) {
 
 /// Says which log counts or is left out, and why the other doesn't.
 pub(crate) fn tell_choice<E: Write>(notes: &mut Notes<'_, E>, paths: &Paths, logs: Logs) {
-    if logs.is_hot && logs.wal != 0 {
+    if logs.is_hot && logs.wal != 0 && !logs.is_left_out {
         tell_both(notes, paths);
     } else {
         tell_word(notes, paths.journal.as_str(), journal_word(logs));
@@ -132,23 +133,54 @@ fn named_pages(head: &[u8; 100]) -> Option<(u32, u32)> {
 
 /// Says that a file of this length is shorter than so many pages of one size.
 fn tell_shorter<E: Write>(notes: &mut Notes<'_, E>, path: &str, length: u64, named: (u32, u32)) {
-    let (pages, size) = named;
+    let (path, (pages, size)) = (Quoted(path), named);
     notes.tell(&format_args!(
         "{path}: {length} bytes, shorter than the {pages} pages of {size} bytes that its header names"
     ));
 }
 
+/// What the header of a database file names.
+pub(crate) fn named_by<F: FileExt>(
+    db: &OpenedFile<'_, F>,
+) -> Result<Option<(u32, u32)>, SourceError> {
+    let mut head = [0u8; 100];
+    db.fill(0, &mut head)?;
+    Ok(named_pages(&head))
+}
+
+/// Says that a file of this length ends before the pages that its header names do.
+pub(crate) fn tell_cut<E: Write>(
+    notes: &mut Notes<'_, E>,
+    path: Quoted<'_>,
+    length: u64,
+    named: (u32, u32),
+) {
+    let (pages, size) = named;
+    notes.say(&format_args!(
+        "{path} ends at byte {length}, before the {pages} pages of {size} bytes that its header names: what is missing \
+         is taken as zeros"
+    ));
+}
+
+/// Says that so many bytes stand behind the pages that a file's header names.
+pub(crate) fn tell_rest<E: Write>(
+    notes: &mut Notes<'_, E>,
+    path: Quoted<'_>,
+    bytes: u64,
+    pages: u32,
+) {
+    notes.say(&format_args!(
+        "{path} goes on for {bytes} bytes behind the {pages} pages that its header names: these aren't looked at"
+    ));
+}
+
 /// What the header of a database file names; none where it can't be read.
 fn pages_of<F: FileExt>(db: &OpenedFile<'_, F>) -> Option<(u32, u32)> {
-    let mut head = [0u8; 100];
-    match db.fill(0, &mut head) {
-        Ok(()) => named_pages(&head),
-        Err(_) => None,
-    }
+    named_by(db).ok().flatten()
 }
 
 /// Says where a database file is shorter than its header says.
-pub(crate) fn tell_length<F: FileExt, E: Write>(
+pub fn tell_length<F: FileExt, E: Write>(
     notes: &mut Notes<'_, E>,
     path: &str,
     db: &OpenedFile<'_, F>,

@@ -3,9 +3,10 @@ ghost use Rattle.std.specs.Prelude.{◌≡◌, ◌<◌, ◌≤◌, ◌-◌, ℕ,
 
 use crate::paths::{Paths, is_missing, look_at};
 use crate::progress::Count;
-use sqfacts::{Guard, Identity, Refusal, identity_of, is_locked};
+use sqfacts::{Guard, Identity, Notes, Refusal, identity_of, is_locked};
+use std::cell::RefCell;
 use std::fs::OpenOptions;
-use std::io::{self, ErrorKind, Read};
+use std::io::{self, ErrorKind, Read, Write};
 use std::rt::Files;
 use std::str;
 
@@ -16,14 +17,17 @@ const LOCKS: &str = "/proc/locks";
 const ROOM: usize = 8192;
 
 /// Asks whether a process holds a POSIX lock on a database file or on its FILE-shm, as each connection of SQLite does
-/// that reads, writes, or has a database in WAL mode open. Where the locks can't be read, nothing is refused. It asks
-/// for no memory, so that it can be asked also once a file was changed. What is read is counted.
+/// that reads, writes, or has a database in WAL mode open. Where the locks can't be read, nothing is refused, and why
+/// they can't be is kept. It asks for no memory, so that it can be asked also once a file was changed. What is read is
+/// counted.
 pub struct OpenElsewhere<'a, R: Files, M> {
     pub rt: &'a R,
     pub paths: &'a Paths,
     /// Nothing is asked.
     pub forced: bool,
     pub meter: &'a M,
+    /// What the system said where the locks couldn't be read last.
+    pub unread: &'a RefCell<Option<io::Error>>,
 }
 
 impl<R: Files, M> Drop for OpenElsewhere<'_, R, M> {
@@ -33,7 +37,27 @@ impl<R: Files, M> Drop for OpenElsewhere<'_, R, M> {
             paths: _,
             forced: _,
             meter: _,
+            unread: _,
         } = self;
+    }
+}
+
+impl<R: Files, M> OpenElsewhere<'_, R, M> {
+    /// Whether the list has a lock on either file.
+    fn is_listed(&self, db: Identity, shm: Identity) -> io::Result<bool> {
+        match OpenOptions::new().read(true).open(self.rt, LOCKS) {
+            Ok(mut list) => has_lock(&mut list, db, shm),
+            Err(error) => Err(error),
+        }
+    }
+}
+
+/// Says that it isn't known whether another process has the files open, where the locks couldn't be read.
+pub fn tell_unread<E: Write>(notes: &mut Notes<'_, E>, unread: &RefCell<Option<io::Error>>) {
+    if let Ok(Some(error)) = unread.try_replace(None) {
+        notes.say(&format_args!(
+            "{LOCKS}: {error}: whether another process has the files open isn't known"
+        ));
     }
 }
 
@@ -49,12 +73,13 @@ impl<R: Files, M: Count> Guard for OpenElsewhere<'_, R, M> {
             Err(error) if is_missing(&error) => db,
             Err(error) => return Err(Refusal::from(error)),
         };
-        let Ok(mut list) = OpenOptions::new().read(true).open(self.rt, LOCKS) else {
-            return Ok(());
-        };
-        match has_lock(&mut list, db, shm) {
+        match self.is_listed(db, shm) {
             Ok(true) => Err(Refusal::InUse),
-            _ => Ok(()),
+            Ok(_) => Ok(()),
+            Err(error) => {
+                let _ = self.unread.try_replace(Some(error));
+                Ok(())
+            }
         }
     }
 

@@ -4,11 +4,16 @@ ghost use Rattle.sqwords.specs.declared.requests.SuperJournal.TheVariants.{Gone}
 ghost use Rattle.sqopen.specs.Journals.{NamesSuperJournal};
 
 use crate::opened_file::OpenedFile;
+use crate::paths::{is_missing, look_at};
+use sqfacts::{Notes, Quoted};
 use sqjournal::{JournalHeader, is_magic};
 use sqpage::SourceError;
 use sqview::FileBytes;
 use sqwords::SuperJournal;
+use std::io::Write;
 use std::os::unix::fs::FileExt;
+use std::rt::Files;
+use std::str;
 
 /// Whether a journal ends as one does that names a super-journal: with the magic.
 pub fn names_super_journal<F: FileBytes>(journal: &mut F) -> Result<bool, SourceError>
@@ -28,6 +33,56 @@ pub(crate) fn is_out_of_force(names_super: bool, said: Option<SuperJournal>) -> 
     ensures { IsTrue result ↔ (IsTrue names_super × (said ≡ Some Gone)) }
 {
     names_super && said == Some(SuperJournal::Gone)
+}
+
+/// The longest name of a super-journal that is read, in bytes: SQLite takes at most 512.
+const LONGEST: usize = 512;
+
+/// The name of the super-journal that a journal names, which stands before its length, its sum and the magic; none
+/// where it is longer than SQLite takes one, or isn't UTF-8.
+fn super_name<'a, F: FileExt>(
+    journal: &OpenedFile<'_, F>,
+    room: &'a mut [u8; LONGEST],
+) -> Result<Option<&'a str>, SourceError> {
+    let mut end = [0u8; 4];
+    let place = journal.len().saturating_sub(16);
+    journal.fill(place, &mut end)?;
+    let length = u32::from_be_bytes(end) as usize;
+    if length > LONGEST || length as u64 > place {
+        return Ok(None);
+    }
+    let name = &mut room[..length];
+    journal.fill(place.saturating_sub(length as u64), name)?;
+    Ok(str::from_utf8(name).ok())
+}
+
+/// Whether the file of a name is there, as a note says it.
+fn tell_presence<R: Files, E: Write>(rt: &R, name: &str, notes: &mut Notes<'_, E>) {
+    let quoted = Quoted(name);
+    match look_at(rt, name) {
+        Ok(_) => notes.explain(&format_args!("the super-journal {quoted} is there")),
+        Err(error) if is_missing(&error) => {
+            notes.explain(&format_args!("the super-journal {quoted} isn't there"));
+        }
+        Err(error) => notes.blame(name, &error),
+    }
+}
+
+/// Says which super-journal a journal names, and whether it is there.
+pub(crate) fn tell_super_journal<R: Files, F: FileExt, E: Write>(
+    rt: &R,
+    journal: &OpenedFile<'_, F>,
+    notes: &mut Notes<'_, E>,
+) -> Result<(), SourceError> {
+    if !notes.explains() {
+        return Ok(());
+    }
+    let mut room = [0u8; LONGEST];
+    match super_name(journal, &mut room)? {
+        Some(name) => tell_presence(rt, name, notes),
+        None => notes.explain(&"the super-journal's name is no text, or too long for one"),
+    }
+    Ok(())
 }
 
 /// A header with the smallest sector and page size in place of those that SQLite takes and that aren't a journal's

@@ -8,8 +8,10 @@ ghost use Rattle.sqview.specs.declared.view_error.ViewError.{ViewError};
 ghost use Rattle.sqopen.specs.Files.{IsMissing, IsOfPlace, IsOpenedAt};
 ghost use Rattle.sqopen.specs.Refusals.{IsFromSystem};
 
-use crate::hints::{Logs, tell_choice, tell_length, told, told_kind};
-use crate::journals::{is_out_of_force, is_valid_for_sqlite_alone, names_super_journal};
+use crate::hints::{Logs, named_by, tell_choice, tell_cut, tell_rest, told, told_kind};
+use crate::journals::{
+    is_out_of_force, is_valid_for_sqlite_alone, names_super_journal, tell_super_journal,
+};
 use crate::opened_file::OpenedFile;
 use crate::paths::{Paths, are_apart, is_missing, look_at};
 use crate::place::Place;
@@ -19,7 +21,7 @@ use sqview::{FileBytes, LogInUse, hot_header, log_in_use};
 use sqwords::SuperJournal;
 use std::fs::{File, Metadata};
 use std::io::Write;
-use std::os::unix::fs::FileExt;
+use std::os::unix::fs::{FileExt, MetadataExt};
 use std::rt::Files;
 
 /// The shortest journal that can be hot, in bytes: a shorter one isn't opened.
@@ -69,7 +71,8 @@ fn opened_of<'a, R: Files, E: Write>(
     let path = place.as_str();
     match open_to_read(rt, path, notes) {
         Ok(file) => {
-            notes.tell(&format_args!("{path}: {length} bytes"));
+            let quoted = place.quoted();
+            notes.tell(&format_args!("{quoted}: {length} bytes"));
             Ok(OpenedFile::new(file, length, place))
         }
         Err(refusal) => Err(refusal),
@@ -135,8 +138,8 @@ impl Beheld {
 
 /// Says that a log is the database file, or the other log.
 fn tell_link<E: Write>(paths: &Paths, notes: &mut Notes<'_, E>) {
-    let (wal, journal) = (paths.wal.as_str(), paths.journal.as_str());
-    notes.tell(&format_args!(
+    let (wal, journal) = (paths.wal.quoted(), paths.journal.quoted());
+    notes.explain(&format_args!(
         "{wal} or {journal}: a link to the database file, or both are one file"
     ));
 }
@@ -159,6 +162,18 @@ fn found_files<R: Files, E: Write>(
     } else {
         tell_link(paths, notes);
         Err(Refusal::FileFailed)
+    }
+}
+
+/// Says where a database file without a log beside it has other names: its log lies beside that one by which it was
+/// written.
+fn tell_names<E: Write>(paths: &Paths, found: &Beheld, notes: &mut Notes<'_, E>) {
+    let names = found.db.nlink();
+    if names > 1 && found.wal.is_none() && found.journal.is_none() {
+        let path = paths.db.quoted();
+        notes.say(&format_args!(
+            "{path} has {names} names (hard links): its log may lie beside another one"
+        ));
     }
 }
 
@@ -208,7 +223,8 @@ fn tell_doubts<F: FileExt, E: Write>(
 
 /// Says what is to be noted of opened logs, where the database is asked for at this commit frame. A hot journal that is
 /// out of force is let go.
-fn judge_logs<F: FileExt + Drop, E: Write>(
+fn judge_logs<R: Files, F: FileExt + Drop, E: Write>(
+    rt: &R,
     logs: &mut Beside<'_, F>,
     paths: &Paths,
     super_journal: Option<SuperJournal>,
@@ -220,6 +236,9 @@ fn judge_logs<F: FileExt + Drop, E: Write>(
 {
     let has_journal = logs.journal.len() != 0;
     let (is_hot, names_super) = marks_of(&logs.journal)?;
+    if names_super {
+        tell_super_journal(rt, &logs.journal, notes)?;
+    }
     let is_out_of_force = is_out_of_force(names_super, super_journal);
     let is_hot = is_hot && !is_out_of_force;
     if is_out_of_force {
@@ -256,8 +275,9 @@ where
     ensures refused { IfErr result IsFromSystem }
 {
     let found = found_files(rt, paths, notes)?;
+    tell_names(paths, &found, notes);
     let mut logs = open_found(rt, paths, found, notes)?;
-    match judge_logs(&mut logs, paths, super_journal, at, notes) {
+    match judge_logs(rt, &mut logs, paths, super_journal, at, notes) {
         Ok(()) => Ok(logs),
         Err(error) => Err(Refusal::from(error)),
     }
@@ -291,11 +311,23 @@ where
     ensures opened { IfOk result (λ db. IsOpenedAt db paths.entry.now.db (metadata_len found.now)) }
     ensures refused { IfErr result IsFromSystem }
 {
-    match opened_of(rt, &paths.db, found.len(), notes) {
-        Ok(db) => {
-            tell_length(notes, paths.db.as_str(), &db);
-            Ok(db)
-        }
-        Err(refusal) => Err(refusal),
+    opened_of(rt, &paths.db, found.len(), notes)
+}
+
+/// Says where an opened database file that no log counts beside is shorter or longer than its header says.
+pub fn tell_alone<F: FileExt, E: Write>(
+    paths: &Paths,
+    db: &OpenedFile<'_, F>,
+    notes: &mut Notes<'_, E>,
+) -> Result<(), SourceError> {
+    let Some((pages, size)) = named_by(db)? else {
+        return Ok(());
+    };
+    let named = u64::from(pages).saturating_mul(u64::from(size));
+    if db.len() < named {
+        tell_cut(notes, paths.db.quoted(), db.len(), (pages, size));
+    } else if named != 0 && db.len() > named {
+        tell_rest(notes, paths.db.quoted(), db.len() - named, pages);
     }
+    Ok(())
 }

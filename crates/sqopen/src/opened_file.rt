@@ -25,7 +25,8 @@ impl<'a, F> OpenedFile<'a, F> {
         }
     }
 
-    pub(crate) fn missing() -> OpenedFile<'a, F>
+    /// A missing file.
+    pub fn missing() -> OpenedFile<'a, F>
         ensures { IsMissing result }
     {
         OpenedFile {

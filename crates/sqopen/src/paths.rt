@@ -8,7 +8,7 @@ ghost use Rattle.sqopen.specs.internal.Paths.{AreApart};
 
 use crate::hints::told;
 use crate::place::Place;
-use sqfacts::{Identity, Notes, Refusal, identity_of, read_or_zeros};
+use sqfacts::{Identity, Notes, Quoted, Refusal, identity_of, read_or_zeros};
 use sqjournal::is_magic;
 use std::alloc::{AllocError, Global};
 use std::fs::{File, Metadata};
@@ -123,7 +123,7 @@ fn unresolved<R: Files + AllocGlobal, E: Write>(
 ) -> Refusal
     ensures { IsFromSystem result }
 {
-    if notes.are_asked() && is_missing(&error) {
+    if notes.explains() && is_missing(&error) {
         if tell_of_log(rt, file, notes).is_err() {
             return Refusal::NoMemory;
         }
@@ -170,7 +170,8 @@ fn tell_of_log<R: Files + AllocGlobal, E: Write>(
 }
 
 fn tell_orphan<E: Write>(notes: &mut Notes<'_, E>, wal: &str, file: &str) {
-    notes.tell(&format_args!(
+    let (wal, file) = (Quoted(wal), Quoted(file));
+    notes.explain(&format_args!(
         "{wal} is there without its database: make {file} as an empty file, and recover restores it from the log"
     ));
 }

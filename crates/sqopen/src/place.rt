@@ -2,7 +2,7 @@
 ghost use Rattle.std.specs.Prelude.{◌≡◌, string_bytes};
 ghost use Rattle.sqopen.specs.Files.{path_of};
 
-use sqfacts::Notes;
+use sqfacts::{Notes, Quoted};
 use sqpage::SourceError;
 use std::cell::RefCell;
 use std::io::{self, Write};
@@ -30,6 +30,11 @@ impl Place {
         self.path.as_str()
     }
 
+    /// The path as it is written in a note.
+    pub fn quoted(&self) -> Quoted<'_> {
+        Quoted(self.as_str())
+    }
+
     /// Keeps why a read of the file failed.
     pub(crate) fn failed(&self, error: io::Error) -> SourceError {
         let _ = self.failure.try_replace(Some(error));
@@ -42,12 +47,7 @@ impl Place {
             return;
         };
         if let Some(error) = &*failure {
-            tell_failure(notes, self.path.as_str(), error);
+            notes.blame(self.path.as_str(), error);
         }
     }
-}
-
-/// Says what the system said of a path.
-fn tell_failure<E: Write>(notes: &mut Notes<'_, E>, path: &str, error: &io::Error) {
-    notes.tell(&format_args!("{path}: {error}"));
 }

@@ -107,7 +107,7 @@ where
     R::File: FileExt,
 {
     let nowhere = NoteWriter::new(io::sink());
-    let mut unheard = Notes::new(&nowhere, false);
+    let mut unheard = Notes::new(&nowhere, false, false);
     judged_now(rt, paths, options, meter, &mut unheard)
 }
 

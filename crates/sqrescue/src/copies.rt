@@ -4,11 +4,11 @@ ghost use Rattle.std.specs.Prelude.{◌≡◌, ◌≢◌};
 use crate::metered::{Metered, all_ahead, all_metered, both_ahead};
 use crate::opening::open_seen;
 use crate::outcomes::print_outcome;
-use crate::reports::{answer_of, remove_made};
-use sqfacts::{Front, Notes, Outcome, Readings, Refusal};
+use crate::reports::answer_of;
+use sqfacts::{Front, Notes, Outcome, Quoted, Readings, Refusal};
 use sqopen::{
-    Count, OpenedFile, Paths, Progress, counting_log, folder_of, is_log_of, names_super_journal,
-    paths_of, readings_of, time_to_wait, told, watched,
+    Count, NewFile, OpenedFile, Paths, Progress, begin_file, counting_log, discard_file, end_file,
+    is_log_of, names_super_journal, paths_of, readings_of, time_to_wait, told, watched,
 };
 use sqpage::{PageSource, SourceError, has_magic, named_page_size};
 use sqshown::{Contents, ShowError, limits_of, replayed, scanned, view_of};
@@ -17,9 +17,9 @@ use sqview::{CopyError, FileBytes, LogInUse, ReadAhead, View, copy};
 use sqwal::{Scan, WalFormatError};
 use sqwords::{Options, SuperJournal};
 use std::alloc::Global;
-use std::fs::{OpenFile, OpenOptions};
-use std::io::Write;
-use std::os::unix::fs::{FileExt, MetadataExt, OpenOptionsExt};
+use std::fs::OpenFile;
+use std::io::{Seek, Write};
+use std::os::unix::fs::{FileExt, MetadataExt};
 use std::rt::Files;
 use std::thread;
 use std::time::Clock;
@@ -135,7 +135,7 @@ where
     }
 }
 
-/// Makes the file, and answers what the recovery comes to. It is removed where it fails.
+/// Makes the file, and answers what the recovery comes to. Where it fails nothing has the file's name.
 fn make_copy<R: Files + AllocGlobal, F: FileBytes + Drop, M: Count, E: Write>(
     rt: &R,
     paths: &Paths,
@@ -153,17 +153,32 @@ where
         outcome,
     } = found;
     let front = content.front();
-    let made = match new_file(rt, to, mode, notes) {
+    let mut made = match begin_file(rt, paths, to, mode, notes) {
         Ok(made) => made,
         Err(refusal) => return Err(ShowError::Refused(refusal)),
     };
-    let written = written(rt, content, made, to, notes);
-    match watched(rt, paths, before, front, written, notes) {
+    let written = written(rt.alloc(), content, &mut made, notes);
+    let written = watched(rt, paths, before, front, written, notes);
+    match ended(rt, paths, made, written, notes) {
         Ok(()) => Ok(outcome),
+        Err(refusal) => Err(ShowError::Refused(refusal)),
+    }
+}
+
+/// Gives a file that was written its name, or discards it.
+fn ended<R: Files, E: Write>(
+    rt: &R,
+    paths: &Paths,
+    made: NewFile<'_, R::File>,
+    written: Result<(), Refusal>,
+    notes: &mut Notes<'_, E>,
+) -> Result<(), Refusal> {
+    match written {
+        Ok(()) => end_file(rt, made, notes),
         Err(refusal) => {
             let refusal = paths.told(notes, refusal);
-            remove_made(rt, to, notes);
-            Err(ShowError::Refused(refusal))
+            discard_file(rt, made, notes);
+            Err(refusal)
         }
     }
 }
@@ -176,7 +191,8 @@ pub(crate) fn judge_name<R: Files, E: Write>(
     notes: &mut Notes<'_, E>,
 ) -> Result<(), Refusal> {
     if is_log_of(rt, paths, to) {
-        notes.tell(&format_args!("{to}: a log's name"));
+        let to = Quoted(to);
+        notes.explain(&format_args!("{to}: a log's name"));
         return Err(Refusal::FileFailed);
     }
     Ok(())
@@ -295,6 +311,14 @@ fn folded<'a, F: FileBytes + Drop, M: Count>(
     }
 }
 
+/// Whether a frame of a scan, from 1, ends a commit up to the front.
+fn is_commit(scan: &Scan, frame: u32) -> bool {
+    frame <= scan.committed().frames
+        && scan
+            .entry(frame as usize)
+            .is_some_and(|entry| entry.size != 0)
+}
+
 /// What is left where a log with this scan, of pages of this size, is folded.
 fn folded_by<'a, F: FileBytes + Drop, M: Count>(
     alloc: Global,
@@ -306,6 +330,9 @@ fn folded_by<'a, F: FileBytes + Drop, M: Count>(
     let mut files = files;
     let (scan, page_size) = log;
     let frame = at.unwrap_or(scan.committed().frames);
+    if !is_commit(scan, frame) {
+        return Err(Refusal::NoSuchCommit);
+    }
     match has_other_size(&mut files.db, page_size) {
         Ok(differs) if differs => Err(Refusal::PageSizesDiffer),
         Ok(_) => shown_pages(folded_view(alloc, limits, files, scan, frame)),
@@ -423,59 +450,33 @@ fn scanned_view<F: FileBytes + Drop>(
     }
 }
 
-/// A new file with these permissions, as far as the process gives them.
-pub(crate) fn new_file<R: Files, E: Write>(
-    rt: &R,
-    path: &str,
-    mode: u32,
-    notes: &mut Notes<'_, E>,
-) -> Result<R::File, Refusal> {
-    let made = OpenOptions::new()
-        .write(true)
-        .create_new(true)
-        .mode(mode)
-        .open(rt, path);
-    match made {
-        Ok(file) => Ok(file),
-        Err(error) => Err(told(notes, path, error)),
-    }
-}
-
-/// Writes what is to be written to a new file, and syncs it, and its folder where that can be.
-fn written<R: Files + AllocGlobal, F: FileBytes + Drop, M: Count, E: Write>(
-    rt: &R,
+/// Writes what is to be written to a new file, and finishes it.
+fn written<F: FileBytes + Drop, M: Count, O: Write + Seek + OpenFile, E: Write>(
+    alloc: Global,
     content: Content<'_, F, M>,
-    made: R::File,
-    path: &str,
+    made: &mut NewFile<'_, O>,
     notes: &mut Notes<'_, E>,
-) -> Result<(), Refusal>
-where
-    R::File: FileExt,
-{
-    let mut made = made;
-    match filled(rt.alloc(), content, &mut made) {
-        Ok(()) => {
-            sync_folder(rt, path);
-            Ok(())
-        }
-        Err(CopyError::Unwritten(error)) => Err(told(notes, path, error)),
+) -> Result<(), Refusal> {
+    match filled(alloc, content, made) {
+        Ok(()) => Ok(()),
+        Err(CopyError::Unwritten(error)) => Err(told(notes, made.path(), error)),
         Err(CopyError::Unread) => Err(Refusal::FileFailed),
         Err(CopyError::NoMemory) => Err(Refusal::NoMemory),
     }
 }
 
-/// Writes all of it, and syncs the file.
-fn filled<F: FileBytes + Drop, M: Count, O: FileExt + OpenFile + Write>(
+/// Writes all of it, and finishes the file.
+fn filled<F: FileBytes + Drop, M: Count, O: Write + Seek + OpenFile>(
     alloc: Global,
     content: Content<'_, F, M>,
-    out: &mut O,
+    made: &mut NewFile<'_, O>,
 ) -> Result<(), CopyError> {
     let copied = match content {
-        Content::File(db) => copy_whole(alloc, db, out),
-        Content::Pages(view) => copy_pages(alloc, view, out),
+        Content::File(db) => copy_whole(alloc, db, made),
+        Content::Pages(view) => copy_pages(alloc, view, made),
     };
     copied?;
-    out.sync_all()?;
+    made.finish()?;
     Ok(())
 }
 
@@ -515,11 +516,4 @@ fn copy_file<F: FileBytes, W: Write>(
         at += count as u64;
     }
     Ok(())
-}
-
-/// Syncs the folder in which a file lies, where the system lets us.
-pub(crate) fn sync_folder<R: Files>(rt: &R, path: &str) {
-    if let Ok(folder) = OpenOptions::new().read(true).open(rt, folder_of(path)) {
-        let _ = folder.sync_all();
-    }
 }

@@ -1,14 +1,34 @@
-//! What `-v` says is to be done after a refusal.
+//! What is said to be done after a refusal.
 use sqfacts::Refusal;
+use std::io::ErrorKind;
 
-/// What to do after a refusal; where large files were asked for, they aren't named.
-pub(crate) fn next_step(refusal: Refusal, is_large: bool) -> &'static str {
+/// What to do where the system refused a call for this.
+fn step_after(cause: Option<ErrorKind>) -> &'static str {
+    match cause {
+        Some(ErrorKind::StorageFull | ErrorKind::QuotaExceeded) =>
+            "make room there, and call this again",
+        Some(ErrorKind::PermissionDenied) => "call this as a user who may do that there",
+        Some(ErrorKind::ReadOnlyFilesystem) =>
+            "nothing can be written there: give recover --to a place where that can be",
+        Some(ErrorKind::AlreadyExists) => "move away what lies there, or give another name",
+        Some(ErrorKind::NotFound) => "see whether the name is right",
+        _ =>
+            "nothing can be said of files that can't be read; after a failed recover call it again",
+    }
+}
+
+/// What to do after a refusal, where the system refused a call for this cause, if one was told; where large files were
+/// asked for, they aren't named.
+pub(crate) fn next_step(
+    refusal: Refusal,
+    cause: Option<ErrorKind>,
+    is_large: bool,
+) -> &'static str {
     match refusal {
         Refusal::InUse =>
             "another process has a lock on the file: end it, or give --force if it won't touch the file again",
         Refusal::FileChanged => "another process writes the files: try again, or end it first",
-        Refusal::FileFailed =>
-            "nothing can be said of files that can't be read; after a failed recover call it again",
+        Refusal::FileFailed => step_after(cause),
         Refusal::UnknownLogVersion =>
             "the log's header names another version than 3007000: look at it by show --log",
         Refusal::PageSizesDiffer =>

@@ -17,14 +17,14 @@ mod showing;
 mod surveys;
 
 use std::env::{self, Env};
-use std::io::{self, Write};
+use std::io::{self, IsTerminal, Write};
 use std::os::unix::fs::FileExt;
 use std::process::ExitCode;
 use std::rt::Files;
 use std::time::Clock;
 
 /// Reads the words and carries them out.
-fn answer<R: Env + Files + AllocGlobal + Clock, O: Write, E: Write>(
+fn answer<R: Env + Files + AllocGlobal + Clock, O: Write, E: Write + IsTerminal>(
     rt: &R,
     out: &mut O,
     err: &mut E,

@@ -1,7 +1,10 @@
 //! The opened files of a database.
 use sqfacts::{Notes, Refusal};
-use sqopen::{Beside, OpenedFile, Paths, open_database, open_logs};
+use sqopen::{
+    Beside, OpenedFile, Paths, counting_log, open_database, open_logs, tell_alone, tell_length,
+};
 use sqshown::Contents;
+use sqview::LogInUse;
 use sqwords::SuperJournal;
 use std::fs::Metadata;
 use std::io::Write;
@@ -10,6 +13,37 @@ use std::rt::Files;
 
 /// What the system says of a database file, and the opened files, of which each may be missing.
 type Seen<'a, F> = (Metadata, Contents<OpenedFile<'a, F>>);
+
+/// The files, of which at 0 the database file alone counts, whatever lies beside it.
+fn as_asked<F: Drop>(
+    files: Contents<OpenedFile<'_, F>>,
+    at: Option<u32>,
+) -> Contents<OpenedFile<'_, F>> {
+    if at != Some(0) {
+        return files;
+    }
+    let Contents { db, .. } = files;
+    Contents {
+        db,
+        wal: OpenedFile::missing(),
+        journal: OpenedFile::missing(),
+    }
+}
+
+/// The files. Where no log counts it is said where the database file isn't as long as its header says.
+fn told_alone<'a, F: FileExt + Drop, E: Write>(
+    paths: &Paths,
+    files: Contents<OpenedFile<'a, F>>,
+    notes: &mut Notes<'_, E>,
+) -> Result<Contents<OpenedFile<'a, F>>, Refusal> {
+    let mut files = files;
+    if counting_log(&files.wal, &mut files.journal)? == LogInUse::Neither {
+        tell_alone(paths, &files.db, notes)?;
+    } else {
+        tell_length(notes, paths.db.as_str(), &files.db);
+    }
+    Ok(files)
+}
 
 /// Opens a database file and its logs, of which each may be missing, and says what the system says of the file.
 pub(crate) fn open_seen<'a, R: Files, E: Write>(
@@ -28,7 +62,10 @@ where
         journal,
     } = open_logs(rt, paths, super_journal, at, notes)?;
     match open_database(rt, paths, &found, notes) {
-        Ok(db) => Ok((found, Contents { db, wal, journal })),
+        Ok(db) => {
+            let files = told_alone(paths, as_asked(Contents { db, wal, journal }, at), notes)?;
+            Ok((found, files))
+        }
         Err(refusal) => Err(refusal),
     }
 }

@@ -10,11 +10,11 @@ use crate::recovering::recover;
 use crate::reports::report_to;
 use crate::showing::show;
 use sqcommands::{LineError, request};
-use sqfacts::{NoteWriter, Notes, Refusal, Status};
+use sqfacts::{NoteWriter, Notes, Outcome, Refusal, Status};
 use sqshown::ShowError;
 use sqwords::{Options, Part, Request, Style};
 use std::fmt::Display;
-use std::io::{self, Write};
+use std::io::{self, IsTerminal, Write};
 use std::os::unix::fs::FileExt;
 use std::rt::Files;
 use std::time::Clock;
@@ -25,7 +25,7 @@ pub(crate) const VERSION: &str = "sqrescue 0.1.0";
 /// Carries out a command line, whose first word is the program's name, and answers the program's status: 0 where it is
 /// done (also for help), 1 where `check` found damage, 2 for words that aren't understood, 3 where it was refused or a
 /// file or a writer failed.
-pub fn run<R: Files + AllocGlobal + Clock, O: Write, E: Write>(
+pub fn run<R: Files + AllocGlobal + Clock, O: Write, E: Write + IsTerminal>(
     rt: &R,
     words: &[&str],
     out: &mut O,
@@ -38,7 +38,7 @@ where
     status_of(rt, words, out, err).code()
 }
 
-fn status_of<R: Files + AllocGlobal + Clock, O: Write, E: Write>(
+fn status_of<R: Files + AllocGlobal + Clock, O: Write, E: Write + IsTerminal>(
     rt: &R,
     words: &[&str],
     out: &mut O,
@@ -56,7 +56,7 @@ where
 }
 
 /// The status of a request that is carried out.
-fn status_of_request<R: Files + AllocGlobal + Clock, O: Write, E: Write>(
+fn status_of_request<R: Files + AllocGlobal + Clock, O: Write, E: Write + IsTerminal>(
     rt: &R,
     request: Request<'_>,
     out: &mut O,
@@ -66,9 +66,7 @@ where
     R::File: FileExt,
 {
     let options = options_of(&request);
-    let (answer, failed) = noted(rt, request, options, out, err);
-    match answer {
-        Ok(_) if failed => Status::Refused,
+    match noted(rt, request, options, out, err) {
         Ok(Answer::Done) => Status::Done,
         Ok(Answer::Damaged) => Status::Damaged,
         Err(ShowError::Refused(refusal)) if is_json(options) => refused_as_object(out, refusal),
@@ -77,25 +75,29 @@ where
     }
 }
 
-/// What a request comes to, and whether a note on the way couldn't be written.
-fn noted<R: Files + AllocGlobal + Clock, O: Write, E: Write>(
+/// What a request comes to. Why it is refused and what to do then is noted where that is asked for, or a person reads
+/// it.
+fn noted<R: Files + AllocGlobal + Clock, O: Write, E: Write + IsTerminal>(
     rt: &R,
     request: Request<'_>,
     options: Option<Options>,
     out: &mut O,
     err: &mut E,
-) -> (Result<Answer, ShowError>, bool)
+) -> Result<Answer, ShowError>
 where
     R::File: FileExt,
 {
+    let is_read = err.is_terminal();
     let writer = NoteWriter::new(&mut *err);
-    let mut notes = Notes::new(&writer, options.is_some_and(|options| options.verbose));
+    let is_verbose = options.is_some_and(|options| options.verbose);
+    let mut notes = Notes::new(&writer, is_verbose, is_read);
     let answer = carried_out(rt, request, out, &mut notes);
     if let Err(ShowError::Refused(refusal)) = answer {
-        notes.tell(&next_step(refusal, options.is_some_and(|options| options.large)));
+        let is_large = options.is_some_and(|options| options.large);
+        let step = next_step(refusal, notes.cause(), is_large);
+        notes.explain(&step);
     }
-    drop(notes);
-    (answer, writer.has_failed())
+    answer
 }
 
 /// What a request that was carried out comes to.
@@ -173,9 +175,24 @@ where
     R::File: FileExt,
 {
     match recover(rt, file, force, options, notes) {
-        Ok(outcome) => print_outcome(out, options, outcome),
+        Ok(outcome) => {
+            let printed = print_outcome(out, options, outcome);
+            told_outcome(printed, outcome, notes)
+        }
         Err(refusal) => Err(ShowError::Refused(refusal)),
     }
+}
+
+/// An answer. What was done is said where it couldn't be printed.
+fn told_outcome<E: Write>(
+    printed: Result<(), ShowError>,
+    outcome: Outcome,
+    notes: &mut Notes<'_, E>,
+) -> Result<(), ShowError> {
+    if printed.is_err() {
+        notes.say(&format_args!("what was done couldn't be printed: {outcome}"));
+    }
+    printed
 }
 
 fn carried_out<R: Files + AllocGlobal + Clock, O: Write, E: Write>(

@@ -7,7 +7,7 @@ use sqfacts::{FileDisk, Guard, Notes, Outcome, Refusal, metadata_of, read_or_zer
 use sqjournal::is_magic;
 use sqopen::{
     Beside, Count, OpenElsewhere, OpenedFile, Paths, Progress, counting_log, open_database,
-    open_logs, paths_of, tell_dropped, told,
+    open_logs, paths_of, tell_dropped, tell_length, tell_unread, told,
 };
 use sqpage::{has_magic, named_page_size};
 use sqshown::limits_of;
@@ -16,6 +16,7 @@ use sqview::{FileBytes, LogInUse, scan_log_within};
 use sqwal::{Scan, WalFormatError, WalHeader};
 use sqwords::{Options, SuperJournal};
 use std::alloc::Global;
+use std::cell::RefCell;
 use std::fs::{Metadata, OpenFile, OpenOptions};
 use std::io::{self, Write};
 use std::os::unix::fs::FileExt;
@@ -63,16 +64,22 @@ where
     R::File: FileExt,
 {
     let progress = Progress::new(rt, notes.again(), options);
+    let unread = RefCell::new(None);
     let guard = OpenElsewhere {
         rt,
         paths,
         forced,
         meter: &progress,
+        unread: &unread,
     };
-    match guard.ask() {
+    let asked = guard.ask();
+    tell_unread(notes, &unread);
+    let recovered = match asked {
         Ok(()) => recover_logged(rt, paths, guard, options, &progress, notes),
         Err(refusal) => Err(refusal),
-    }
+    };
+    tell_unread(notes, &unread);
+    recovered
 }
 
 /// The log that counts, the opened write-ahead log, and the length of the journal.
@@ -139,7 +146,9 @@ where
 {
     if notes.are_asked() {
         // A file that can't be opened is told of.
-        let _ = open_database(rt, paths, &found, notes);
+        if let Ok(db) = open_database(rt, paths, &found, notes) {
+            tell_length(notes, paths.db.as_str(), &db);
+        }
     }
 }
 

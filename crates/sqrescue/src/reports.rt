@@ -1,12 +1,12 @@
 //! A page of HTML that shows a database and its log.
-use crate::copies::{judge_name, new_file, sync_folder};
+use crate::copies::judge_name;
 use crate::program::VERSION;
 use crate::surveys::{Counted, surveyed_now};
 use sqfacts::{Front, NoteWriter, Notes, Readings, Refusal};
 use sqlines::{HEAD, TAIL};
 use sqopen::{
-    Beside, Count, Paths, Progress, as_before, look_at, open_logs, paths_of, readings_of,
-    time_to_wait, told,
+    Beside, Count, NewFile, Paths, Progress, as_before, begin_file, discard_file, end_file,
+    look_at, open_logs, paths_of, readings_of, remove, time_to_wait, told,
 };
 use sqshown::{
     LogFound, ReportFacts, ShowError, facts_of, limits_of, log_of, write_report_facts,
@@ -14,12 +14,13 @@ use sqshown::{
 };
 use sqview::FileBytes;
 use sqwords::Options;
+use std::alloc::Global;
 use std::fs::OpenFile;
-use std::io::{self, BufWriter, Write};
+use std::io::{self, BufWriter, Seek, Write};
 use std::os::unix::fs::{FileExt, MetadataExt};
 use std::rt::Files;
+use std::thread;
 use std::time::Clock;
-use std::{fs, thread};
 
 /// How many bytes are written at once.
 const PIECE: usize = 65_536;
@@ -37,13 +38,17 @@ where
     R::File: FileExt,
 {
     let nowhere = NoteWriter::new(io::sink());
-    let mut unheard = Notes::new(&nowhere, false);
+    let mut unheard = Notes::new(&nowhere, false, false);
     let Beside {
         mut wal,
         mut journal,
         ..
     } = open_logs(rt, paths, options.super_journal, options.at, &mut unheard)?;
-    log_of(rt.alloc(), limits_of(options), &mut wal, &mut journal)
+    match log_of(rt.alloc(), limits_of(options), &mut wal, &mut journal) {
+        // The database is shown without either.
+        Err(Refusal::TwoLogs) if options.at == Some(0) => Ok(LogFound::None),
+        answer => answer,
+    }
 }
 
 /// What a report of files shows that are as they are now.
@@ -116,22 +121,18 @@ fn write_html<W: Write, F: FileBytes>(
     out.flush()
 }
 
-/// Writes a report to a new file, and syncs it.
-fn fill<R: Files + AllocGlobal, F: FileBytes>(
-    rt: &R,
-    made: R::File,
+/// Writes a report to a new file, and finishes that.
+fn fill<O: Write + Seek + OpenFile, F: FileBytes>(
+    alloc: Global,
+    made: &mut NewFile<'_, O>,
     file: &str,
     facts: &ReportFacts<F>,
-) -> io::Result<()>
-where
-    R::File: FileExt,
-{
-    let mut made = made;
-    let mut out = BufWriter::with_capacity(rt.alloc(), PIECE, &mut made)?;
+) -> io::Result<()> {
+    let mut out = BufWriter::with_capacity(alloc, PIECE, &mut *made)?;
     let written = write_html(&mut out, file, facts);
     drop(out);
     match written {
-        Ok(()) => made.sync_all(),
+        Ok(()) => made.finish(),
         Err(error) => Err(error),
     }
 }
@@ -183,18 +184,18 @@ where
 }
 
 /// A new file for the page.
-fn new_page<R: Files, E: Write>(
+fn new_page<'a, R: Files + AllocGlobal, E: Write>(
     rt: &R,
     paths: &Paths,
-    to: &str,
+    to: &'a str,
     notes: &mut Notes<'_, E>,
-) -> Result<R::File, Refusal> {
+) -> Result<NewFile<'a, R::File>, Refusal> {
     judge_name(rt, paths, to, notes)?;
     let mode = mode_of(rt, paths, notes)?;
-    new_file(rt, to, mode, notes)
+    begin_file(rt, paths, to, mode, notes)
 }
 
-/// Makes the page. It is removed where it fails.
+/// Makes the page. Where it fails nothing has the page's name.
 fn make_page<R: Files + AllocGlobal, F: FileBytes, E: Write>(
     rt: &R,
     paths: &Paths,
@@ -202,31 +203,32 @@ fn make_page<R: Files + AllocGlobal, F: FileBytes, E: Write>(
     file: &str,
     facts: &ReportFacts<F>,
     notes: &mut Notes<'_, E>,
-) -> Result<(), ShowError>
-where
-    R::File: FileExt,
-{
-    let made = match new_page(rt, paths, to, notes) {
+) -> Result<(), ShowError> {
+    let mut made = match new_page(rt, paths, to, notes) {
         Ok(made) => made,
         Err(refusal) => return Err(ShowError::Refused(refusal)),
     };
-    match fill(rt, made, file, facts) {
-        Ok(()) => {
-            sync_folder(rt, to);
-            Ok(())
-        }
-        Err(error) => {
-            let refusal = told(notes, to, error);
-            remove_made(rt, to, notes);
-            Err(ShowError::Refused(refusal))
-        }
+    let filled = fill(rt.alloc(), &mut made, file, facts);
+    match ended(rt, made, filled, notes) {
+        Ok(()) => Ok(()),
+        Err(refusal) => Err(ShowError::Refused(refusal)),
     }
 }
 
-/// Removes a file that was made. Where that fails it is told.
-pub(crate) fn remove_made<R: Files, E: Write>(rt: &R, to: &str, notes: &mut Notes<'_, E>) {
-    if let Err(error) = fs::remove_file(rt, to) {
-        notes.tell(&format_args!("{to}: {error}"));
+/// Gives a page that was filled its name, or discards it.
+fn ended<R: Files, E: Write>(
+    rt: &R,
+    made: NewFile<'_, R::File>,
+    filled: io::Result<()>,
+    notes: &mut Notes<'_, E>,
+) -> Result<(), Refusal> {
+    match filled {
+        Ok(()) => end_file(rt, made, notes),
+        Err(error) => {
+            let refusal = told(notes, made.path(), error);
+            discard_file(rt, made, notes);
+            Err(refusal)
+        }
     }
 }
 
@@ -238,7 +240,7 @@ pub(crate) fn answer_of<R: Files, E: Write>(
     notes: &mut Notes<'_, E>,
 ) -> Result<(), ShowError> {
     if answer.is_err() {
-        remove_made(rt, to, notes);
+        remove(rt, to, notes);
     }
     answer
 }

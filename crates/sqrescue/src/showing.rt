@@ -115,7 +115,7 @@ where
 /// Says how long a database file is of which nothing else is read.
 fn tell_length<E: Write>(paths: &Paths, before: &Readings, notes: &mut Notes<'_, E>) {
     if let Some(db) = before.db {
-        let (path, length) = (paths.db.as_str(), db.length);
+        let (path, length) = (paths.db.quoted(), db.length);
         notes.tell(&format_args!("{path}: {length} bytes"));
     }
 }

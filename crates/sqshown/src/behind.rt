@@ -1,5 +1,5 @@
 //! What stands behind the stop of a log, which is no part of the database (own).
-ghost use Rattle.std.specs.Prelude.{◌≡◌, ◌-◌, ◌/◌, ◌%◌, ◌<◌};
+ghost use Rattle.std.specs.Prelude.{◌≡◌, ◌-◌, ◌/◌, ◌%◌, ◌<◌, false};
 
 use crate::contents::Contents;
 use crate::error::ShowError;
@@ -75,6 +75,18 @@ fn sum_before<F: FileBytes>(
     }
 }
 
+/// A slot, of which nothing was written where it is zeros: these have the sums of zeros, but follow nothing.
+fn as_written(slot: Slot) -> Slot
+    ensures written { 0 < slot.page → result ≡ slot }
+    ensures zeros { slot.page ≡ 0 → slot.sum.s0 ≡ 0 → slot.sum.s1 ≡ 0 → result.follows ≡ false }
+{
+    let is_written = slot.page != 0 || slot.sum != Sum::zero();
+    Slot {
+        follows: slot.follows && is_written,
+        ..slot
+    }
+}
+
 /// Prints the frame slots of a write-ahead log from its stop on.
 fn show_frames<F: FileBytes, W: Write>(
     alloc: Global,
@@ -97,7 +109,7 @@ fn show_frames<F: FileBytes, W: Write>(
         let Some(slot) = Slot::read(&header, before, &frame) else {
             break;
         };
-        write_slot(out, style, first.saturating_add(i), &slot)?;
+        write_slot(out, style, first.saturating_add(i), &as_written(slot))?;
         before = slot.sum;
     }
     Ok(write_end(out, style, SlotKind::Frame, slots.count, slots.over)?)
@@ -214,7 +226,9 @@ fn show_zeroed<F: FileBytes, W: Write>(
         };
         let next = record_at(journal, slots, i.saturating_add(1), page_size, &mut record)?;
         let nonce = Some(slot.nonce);
-        let follows = before == nonce || next.map(|next| next.nonce) == nonce;
+        let is_one = before == nonce || next.map(|next| next.nonce) == nonce;
+        // Zeros are no record, though they have one nonce.
+        let follows = is_one && slot.page != 0;
         write_record_slot(
             out,
             style,
