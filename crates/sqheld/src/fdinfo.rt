@@ -35,7 +35,8 @@ fn read_next<F: Read>(file: &mut F, out: &mut [u8]) -> io::Result<usize>
     Err(io::Error::from(ErrorKind::Interrupted))
 }
 
-/// Reads what the system tells of the open file of this number, and says how many bytes: none where there is no such file.
+/// Reads what the system tells of the open file of this number, and says how many bytes: none where there is no such
+/// file.
 fn read_told<R: Files + AllocGlobal>(rt: &R, number: &str, out: &mut [u8]) -> io::Result<usize>
     ensures { IfOk result (λ count. count ≤ length out.old) }
 {
@@ -73,7 +74,8 @@ fn are_told<R: Files + AllocGlobal>(
     }
 }
 
-/// What the system tells of the open files of these numbers, which a comma parts, in as many of these bytes as it takes.
+/// What the system tells of the open files of these numbers, which a comma parts, in as many of these bytes as it
+/// takes.
 fn read_all<R: Files + AllocGlobal>(
     rt: &R,
     numbers: &str,
@@ -89,8 +91,8 @@ fn read_all<R: Files + AllocGlobal>(
     Ok(count + more)
 }
 
-/// Whether the process holds the locks by open files of these numbers, which a comma parts: those on the database file of
-/// this path, and on its FILE-shm, if that is there. Not where the system doesn't say so.
+/// Whether the process holds the locks by open files of these numbers, which a comma parts: those on the database file
+/// of this path, and on its FILE-shm, if that is there. Not where the system doesn't say so.
 pub fn is_held<R: Files + AllocGlobal>(
     rt: &R,
     numbers: &str,

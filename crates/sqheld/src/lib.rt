@@ -1,5 +1,6 @@
-//! Which of SQLite's locks a command line asks for, and whether the process that reads it holds them (own). They are taken
-//! before the program starts, by whoever starts it; what it is told of them is believed as far as the system says so.
+//! Which of SQLite's locks a command line asks for, and whether the process that reads it holds them (own). They are
+//! taken before the program starts, by whoever starts it; what it is told of them is believed as far as the system says
+//! so.
 #![tactic(auto)]
 
 mod fdinfo;

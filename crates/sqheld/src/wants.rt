@@ -5,8 +5,8 @@ ghost use Rattle.sqheld.specs.Wants.{Wants, WantsNone};
 use sqlocks::Want;
 use sqwords::Request;
 
-/// What a request wants locks for, and the database file that it is of: a recovery in place those of a recovery, all else
-/// a reader's. None for the version, and where a recovery is forced.
+/// What a request wants locks for, and the database file that it is of: a recovery in place those of a recovery, all
+/// else a reader's. None for the version, and where a recovery is forced.
 pub fn wanted<'a>(request: &Request<'a>) -> Option<(Want, &'a str)>
     ensures { MatchOption result (WantsNone request.now) (λ found. Wants request.now found.0 found.1) }
 {

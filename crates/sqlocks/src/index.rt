@@ -80,8 +80,8 @@ fn has_right_sums(bytes: &[u8; 136]) -> bool
     low_word(bytes, 40) == sum.s0 && low_word(bytes, 44) == sum.s1
 }
 
-/// What the first 136 bytes of FILE-shm say; None where they begin with no valid header: where its two copies differ, it
-/// isn't begun, it is of another version or of a machine of the other byte order, or its sums are wrong.
+/// What the first 136 bytes of FILE-shm say; None where they begin with no valid header: where its two copies differ,
+/// it isn't begun, it is of another version or of a machine of the other byte order, or its sums are wrong.
 pub fn index_front(bytes: &[u8; 136]) -> Option<IndexHead>
     ensures { IndexAnswer bytes.now result }
 {
@@ -131,11 +131,11 @@ fn is_named(head: &IndexHead, header: &[u8; 32], frame: &[u8; 24]) -> bool
     names_log && names_frame && high_word(frame, 4) != 0
 }
 
-/// Whether the last frame that counts by an index stands in a log that begins with these 32 bytes: the frame begins with
-/// these 24, at byte 32 + (frames - 1) * (24 + page size).
+/// Whether the last frame that counts by an index stands in a log that begins with these 32 bytes: the frame begins
+/// with these 24, at byte 32 + (frames - 1) * (24 + page size).
 pub fn names_front(head: &IndexHead, header: &[u8; 32], frame: &[u8; 24]) -> bool
-    ensures { (w : List ℕ) → part w 0 32 ≡ header.now → part w (frame_at head.now.page_size head.now.frames) 24 ≡ frame.now
-        → IsTrue result ↔ IsFrontOf head.now w }
+    ensures { (w : List ℕ) → part w 0 32 ≡ header.now
+        → part w (frame_at head.now.page_size head.now.frames) 24 ≡ frame.now → IsTrue result ↔ IsFrontOf head.now w }
 {
     is_named(head, header, frame)
 }

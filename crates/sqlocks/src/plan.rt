@@ -58,8 +58,9 @@ pub enum Reason {
 /// What is to be done.
 #[derive(Clone, Copy, Debug, PartialEq, Eq)]
 pub enum Step {
-    /// To open a file; one that was opened before is closed first. FILE for reading, in a recovery for writing too: Given,
-    /// or any other answer. FILE-shm for both: Given; for reading alone: Refused; Missing; Unsupported: it can't be.
+    /// To open a file; one that was opened before is closed first. FILE for reading, in a recovery for writing too:
+    /// Given, or any other answer. FILE-shm for both: Given; for reading alone: Refused; Missing; Unsupported: it can't
+    /// be.
     Open(Target),
     /// To ask for a lock, and not to wait for it. Given; Refused: somebody holds one in its way; Unsupported.
     Take(Lock),

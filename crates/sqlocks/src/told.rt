@@ -2,7 +2,8 @@
 ghost use Rattle.std.specs.Prelude.{◌≡◌, ◌↔◌, ◌⊎◌, codes, nat_eq, true, IfOk, IsTrue};
 ghost use Rattle.std.specs.List.{ends_with};
 ghost use Rattle.std.specs.Str.Iter.{HasSubslice};
-ghost use Rattle.sqlocks.specs.Told.{inode_text, place_text, range_text, kind_text, NamesFile, IsOfLock, Tells, TellsAll};
+ghost use Rattle.sqlocks.specs.Told.{inode_text, place_text, range_text, kind_text};
+ghost use Rattle.sqlocks.specs.Told.{NamesFile, IsOfLock, Tells, TellsAll};
 
 use crate::plan::{Lock, Want};
 use arrayvec::ArrayString;
