@@ -41,7 +41,14 @@ fn answer_of(number: u8) -> Answer
 
 /// A step that is of this kind alone.
 fn plain(kind: u32, is_of_index: u32, reason: u32) -> LockStep
-    ensures { result ≡ Rattle.sqlocks_c.specs.Steps.plain kind is_of_index reason }
+    ensures { result ≡ record {
+      kind = kind;
+      is_of_index = is_of_index;
+      is_exclusive = 0;
+      reason = reason;
+      start = 0;
+      count = 0;
+    } }
 {
     LockStep {
         kind,
