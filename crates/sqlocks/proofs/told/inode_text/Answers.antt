@@ -1,0 +1,6 @@
+use Rattle.std.proofs.Common.{◌≡◌}
+use Rattle.std.proofs.lemmas.Fmt.{contents_after_writes}
+use Rattle.sqlocks.proofs.told.inode_text.Goals as goal
+
+pub returns : goal.returns
+returns c = rw c.new-text.ensures at (contents_after_writes _ (λ t. t.bytes) (λ _ _ _ t. t) _ _ _ c.in_ok-write.ensures.writes)

@@ -1,0 +1,5 @@
+pub mod Bytes
+pub mod Runs
+pub mod Index
+pub mod Told
+pub mod internal
