@@ -9,7 +9,8 @@ use crashdisk::Disk;
 pub const SEGMENT_RECORDS: usize = 64;
 
 /// An engine that commits pages in place, behind a rollback journal, and reads them back. A commit that is done is
-/// down, whatever a crash does. After a refusal by Device it is closed until the disk is opened again.
+/// durable, whatever a crash does. After a refusal by Device, but of `read`, it is closed until the disk is opened
+/// again.
 pub struct Roll<D> {
     pub(crate) disk: D,
     pub(crate) core: Core,
