@@ -4,7 +4,8 @@ use crate::error::WalError;
 use crate::state::Core;
 
 /// An engine that commits pages to a log and reads them back. A commit is durable, whatever a crash does, once a later
-/// `sync` or `checkpoint` is done. After a refusal by Device, but of `read`, it is closed until the disk is opened again.
+/// `sync` or `checkpoint` is done. After a refusal by Device, but of `read`, it is closed until the disk is opened
+/// again.
 pub struct Wal<D> {
     pub(crate) disk: D,
     pub(crate) core: Core,
