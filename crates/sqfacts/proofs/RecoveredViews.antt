@@ -51,7 +51,7 @@ module _ (size : ℕ) (is : IsPageSize size) (d : Database) (after : List ℕ) (
   first_none : length d ≡ 0 → (i : ℕ) → get_or (page d 1) i 0 ≡ get_or after i 0
   unfolding page
   first_none none i =
-      let bare : after ≡ [] = nil_from_length after (just.long ∙ ap (λ (n : ℕ). n * size) none) in
+      let bare : after ≡ [] = nil_from_length after (let long : length after ≡ 0 * size = just.long ∙ ap (λ (n : ℕ). n * size) none in omega (arith, long)) in
       ap (λ (e : Database). get_or (get_or e (1 - 1) []) i 0) (nil_from_length d none) ∙ ap (λ (l : List ℕ). get_or l i 0) (sym bare)
 
   same_head : head_of (page d 1) ≡ head_of after
@@ -130,7 +130,7 @@ module _ (limits : Bounds) (size : ℕ) (db wal journal after : List ℕ) (folde
 
 -- pages of one size, one behind the other
 flat_long : (size : ℕ) (d : Database) → ((k : ℕ) → k < length d → length (get_or d k []) ≡ size) → length (flat_map (λ content. content) d) ≡ length d * size
-flat_long size [] sized = refl
+flat_long size [] sized = let e : 0 ≡ 0 * size = omega arith in e
 flat_long size (x ∷ d) sized =
     length-append x (flat_map (λ content. content) d) ∙ (let first : length x ≡ size = sized 0 (omega arith) in
     let rest : length (flat_map (λ content. content) d) ≡ length d * size = flat_long size d (λ k lt. sized (suc k) (omega arith)) in
@@ -160,7 +160,7 @@ flat_just size d full = record {
 }
   where
     sized : ((p : ℕ) → 1 ≤ p → p ≤ length d → length (page d p) ≡ size) → (k : ℕ) → k < length d → length (get_or d k []) ≡ size
-    sized full k lt = full (suc k) (omega arith) (omega arith)
+    sized full k lt = ap (λ (n : ℕ). length (get_or d n [])) (let e : k ≡ suc k - 1 = omega arith in e) ∙ full (suc k) (omega arith) (omega arith)
 
 bare_of : (wal : List ℕ) → ((wal ≢ []) → ⊥) → wal ≡ []
 bare_of [] not = refl
