@@ -324,10 +324,11 @@ pub fn tell_alone<F: FileExt, E: Write>(
         return Ok(());
     };
     let named = u64::from(pages).saturating_mul(u64::from(size));
-    if db.len() < named {
-        tell_cut(notes, paths.db.quoted(), db.len(), (pages, size));
-    } else if named != 0 && db.len() > named {
-        tell_rest(notes, paths.db.quoted(), db.len() - named, pages);
+    let length = db.len();
+    if length < named {
+        tell_cut(notes, paths.db.quoted(), length, (pages, size));
+    } else if named != 0 && length > named {
+        tell_rest(notes, paths.db.quoted(), length - named, pages);
     }
     Ok(())
 }

@@ -273,14 +273,14 @@ fn is_zeros(bytes: &[u8]) -> bool {
 fn like_first(bytes: &[u8], zeros: bool) -> usize
     ensures { result ≤ length bytes.now }
 {
-    let mut end = 0;
+    let mut end = 0_usize;
     for block in bytes.chunks(BLOCK) {
         if is_zeros(block) != zeros {
             break;
         }
-        end += block.len();
+        end = end.saturating_add(block.len());
     }
-    end
+    end.min(bytes.len())
 }
 
 impl<F: Write + Seek + OpenFile> NewFile<'_, F> {
