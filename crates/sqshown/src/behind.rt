@@ -80,11 +80,13 @@ fn as_written(slot: Slot) -> Slot
     ensures written { 0 < slot.page → result ≡ slot }
     ensures zeros { slot.page ≡ 0 → slot.sum.s0 ≡ 0 → slot.sum.s1 ≡ 0 → result.follows ≡ false }
 {
-    let is_written = slot.page != 0 || slot.sum != Sum::zero();
-    Slot {
-        follows: slot.follows && is_written,
-        ..slot
+    if slot.page == 0 && slot.sum.s0 == 0 && slot.sum.s1 == 0 {
+        return Slot {
+            follows: false,
+            ..slot
+        };
     }
+    slot
 }
 
 /// Prints the frame slots of a write-ahead log from its stop on.
