@@ -19,6 +19,7 @@ abbrev pub is_point_by : Kind → (every : Bool) → Record → Bool
 is_point_by kinds.Mark every r = true
 is_point_by kinds.Base every r = false
 is_point_by kinds.Close every r = false
+is_point_by kinds.End every r = false
 is_point_by kinds.Open every r = every && nat_eq r.place 1
 is_point_by _ every r = every
 

@@ -27,7 +27,7 @@ fn is_point(every: bool, call: &Record) -> bool
 {
     match call.kind {
         Kind::Mark => true,
-        Kind::Base | Kind::Close => false,
+        Kind::Base | Kind::Close | Kind::End => false,
         Kind::Open => every && call.place == 1,
         _ => every,
     }
