@@ -30,19 +30,37 @@ fn as_asked<F: Drop>(
     }
 }
 
+/// Says where a database file that no log counts beside isn't as long as its header says.
+fn tell_by_log<'a, F: FileExt, E: Write>(
+    paths: &Paths,
+    db: &OpenedFile<'a, F>,
+    wal: &OpenedFile<'a, F>,
+    journal: &mut OpenedFile<'a, F>,
+    notes: &mut Notes<'_, E>,
+) -> Result<(), Refusal> {
+    if counting_log(wal, journal)? == LogInUse::Neither {
+        tell_alone(paths, db, notes)?;
+    } else {
+        tell_length(notes, paths.db.as_str(), db);
+    }
+    Ok(())
+}
+
 /// The files. Where no log counts it is said where the database file isn't as long as its header says.
 fn told_alone<'a, F: FileExt + Drop, E: Write>(
     paths: &Paths,
     files: Contents<OpenedFile<'a, F>>,
     notes: &mut Notes<'_, E>,
 ) -> Result<Contents<OpenedFile<'a, F>>, Refusal> {
-    let mut files = files;
-    if counting_log(&files.wal, &mut files.journal)? == LogInUse::Neither {
-        tell_alone(paths, &files.db, notes)?;
-    } else {
-        tell_length(notes, paths.db.as_str(), &files.db);
+    let Contents {
+        db,
+        wal,
+        mut journal,
+    } = files;
+    match tell_by_log(paths, &db, &wal, &mut journal, notes) {
+        Ok(()) => Ok(Contents { db, wal, journal }),
+        Err(refusal) => Err(refusal),
     }
-    Ok(files)
 }
 
 /// Opens a database file and its logs, of which each may be missing, and says what the system says of the file.
