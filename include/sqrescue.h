@@ -273,8 +273,8 @@ struct sqr_wal {
 
 /* The valid frames of a write-ahead log, and where it stops. Refused by SQR_MAGIC, SQR_PAGE_SIZE, SQR_SUM,
    SQR_LOG_VERSION, in this order, by SQR_TOO_LARGE, or by SQR_NO_MEMORY in place of any. SQR_NO_ROOM where there are
-   more frames than room: then `out` is written, `frames` not. The frames with a size are the commits. Room for len / 536
-   frames is always enough. Memory while it runs: 8 bytes for each valid frame. */
+   more frames than room: then `out` is written, `frames` not. The frames with a size are the commits. Room for
+   len / 536 frames is always enough. Memory while it runs: 8 bytes for each valid frame. */
 uint32_t sqr_wal_scan(const uint8_t *wal, size_t len, struct sqr_frame *frames, size_t room, struct sqr_wal *out);
 
 /* A commit of a write-ahead log: the frame that ends it, how many frames it has (those behind the commit before it, up

@@ -2,13 +2,14 @@
    the call whose number CALL names, from 1, or to each where CALL is 0, it does what MANNER says: `fail` refuses it;
    `half` carries out half of a read or write, and says so; `torn` carries out half of a write, and refuses it; `kill`
    ends the program in its place, and `torn kill` behind half of a write; `interrupt` refuses it as for a signal, and
-   where CALL is 0 each other call; `taken` and `no links` are of a link. In the place of /proc/locks the file that FREE names is opened, and from the
-   opening on whose number FROM names, from 1, the one that HELD names. */
+   where CALL is 0 each other call; `taken` and `no links` are of a link. In the place of /proc/locks the file that FREE
+   names is opened, and from the opening on whose number FROM names, from 1, the one that HELD names. */
 typedef unsigned long size_t;
 typedef long ssize_t;
 typedef long off_t;
 
-enum { NOT_PERMITTED = 1, INTERRUPTED = 4, IO_FAILED = 5, WRITE_ON = 01 | 0100 | 02000, LONGEST = 4096, KILL = 9, PAGE = 512 };
+enum { NOT_PERMITTED = 1, INTERRUPTED = 4, IO_FAILED = 5, KILL = 9 };
+enum { WRITE_ON = 01 | 0100 | 02000, LONGEST = 4096, PAGE = 512 };
 
 enum { HALVES = 1, REFUSES = 2, ENDS = 4, STOPS = 8 };
 

@@ -422,19 +422,22 @@ def the_name_of_a_super_journal():
         fill(DB, None, SUPER)
         status, out, err = run(line)
         refusal = err.splitlines()[-1].removeprefix("sqrescue: ") if status == 3 else ""
-        yield f"{line}, gone", unchanged(f"{line} -v", status, out, Noted(f"super-journal {lost} isn't there$", refusal))
+        said = Noted(f"super-journal {lost} isn't there$", refusal)
+        yield f"{line}, gone", unchanged(f"{line} -v", status, out, said)
     here = os.path.realpath("b.db-mj012345678")
     journal = journal_of(1, (1, b"j")) + words(2_097_153) + here.encode()
     journal += words(len(here), sum(here.encode())) + JOURNAL_MAGIC
     fill(DB, None, journal)
     write(here, b"")
-    yield "there", unchanged("recover -v a.db", 3, "", Noted(f"super-journal {re.escape(here)} is there$", "super-journal"))
+    said = Noted(f"super-journal {re.escape(here)} is there$", "super-journal")
+    yield "there", unchanged("recover -v a.db", 3, "", said)
 
 
 @test
 def names_of_a_file():
     """A file with several names, none of which has a log beside it here, may have one beside another."""
-    for name, files, is_noted in ("none", (DB,), True), ("a log", (DB, WAL), False), ("a journal", (DB, None, COLD), False):
+    rows = ("none", (DB,), True), ("a log", (DB, WAL), False), ("a journal", (DB, None, COLD), False)
+    for name, files, is_noted in rows:
         for line in LOOKING:
             fill(*files)
             status, out, err = run(line)
@@ -472,7 +475,8 @@ def on_a_terminal(*words):
 def refusals_on_a_terminal():
     """They come with the path, the cause and the next step; elsewhere the line stands alone."""
     rows = [
-        ((DB, WAL), ["recover", "none.db"], r"none\.db: No such file.*", "see whether the name is right", "file failed"),
+        ((DB, WAL), ["recover", "none.db"], r"none\.db: No such file.*", "see whether the name is right",
+         "file failed"),
         ((DB, WAL), ["recover", "a.db", "--to", "a.db"], r"a\.db: .*exists.*", "another name", "file failed"),
         ((DB, WAL, JOURNAL), ["check", "a.db"], r"a\.db-wal and a\.db-journal both count", "move one away", "two logs"),
         ((None,), ["check", "."], r"\.: a directory, no regular file", "", "file failed"),

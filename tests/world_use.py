@@ -4,8 +4,8 @@ import world_processes as processes
 from samples import OTHER_VERSION, PAGE, log_of
 from world_runs import (
     ANY, CHANGED, DB, EACH_LINE, FAILED, IN_USE, IS_ROOT, JOURNAL, LIVE, LOOKING, MODES, SPILLS, SUPER, TEXT, WAL,
-    Noted, Stopped, begun, copied, fill, holder, program, read, refused_as_locked, run, test, unchanged, wanted_rows, write,
-    wrong,
+    Noted, Stopped, begun, copied, fill, holder, program, read, refused_as_locked, run, test, unchanged, wanted_rows,
+    write, wrong,
 )
 
 WRITES = 60 if "--long" in sys.argv[1:] else 20  # seconds for which a writer writes

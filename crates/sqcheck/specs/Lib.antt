@@ -3,5 +3,4 @@ pub mod WellFormed
 pub mod Stands
 pub mod Roles
 pub mod Surveys
-pub mod Chains
 pub mod internal

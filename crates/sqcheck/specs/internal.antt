@@ -10,3 +10,4 @@ pub mod Snapshots
 pub mod Roles
 pub mod Surveys
 pub mod Charting
+pub mod Chains

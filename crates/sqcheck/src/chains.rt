@@ -3,7 +3,7 @@ ghost use Rattle.std.specs.Prelude.{◌≡◌, ◌+◌, ◌<◌, ◌≤◌, ℕ,
 ghost use Rattle.sqpage.specs.Source.{KeepsPages};
 ghost use Rattle.sqpage.specs.Chain.{payload_size};
 ghost use Rattle.sqpage.specs.declared.fault.Fault.{Fault};
-ghost use Rattle.sqcheck.specs.Chains.{TakesChain, TakesPage};
+ghost use Rattle.sqcheck.specs.internal.Chains.{TakesChain, TakesPage};
 
 use crate::pages::word_at;
 use crate::role::Role;
@@ -13,13 +13,13 @@ use std::alloc::{AllocError, Global};
 /// The overflow pages whose rows were read: each stands in the chain of one cell alone, so rows that are read by their
 /// own chains read no such page twice.
 #[derive(Drop)]
-pub struct Chains {
+pub(crate) struct Chains {
     taken: Vec<bool>,
 }
 
 impl Chains {
     /// None of so many pages.
-    pub fn none(alloc: Global, count: u32) -> Result<Chains, AllocError>
+    pub(crate) fn none(alloc: Global, count: u32) -> Result<Chains, AllocError>
         ensures { IfOk result (λ chains. chains.taken.items ≡ replicate count false) }
     {
         Ok(Chains {
@@ -49,7 +49,7 @@ impl Chains {
     /// page of the cell's page, and was taken by no other cell. Takes these pages. Where it isn't, some may be taken
     /// too. `roles` are by page, from 1, and `bytes` is room for a page. Refused by Source where a page could not be
     /// read.
-    pub fn takes<S: PageSource>(
+    pub(crate) fn takes<S: PageSource>(
         &mut self,
         source: &mut S,
         roles: &[Role],

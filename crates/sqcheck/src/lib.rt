@@ -22,7 +22,6 @@ mod uses;
 mod walk;
 mod walker;
 
-pub use chains::Chains;
 pub use checker::{check, check_with, visit_pages, visit_pages_with};
 pub use options::Options;
 pub use report::Report;

@@ -141,8 +141,8 @@ impl Rows {
     }
 }
 
-/// Adds the root that the row in a cell names, or tells of the row. A chain that can't be read, or is charted as another
-/// cell's, was told of before: such a row isn't read.
+/// Adds the root that the row in a cell names, or tells of the row. A chain that can't be read, or is charted as
+/// another cell's, was told of before: such a row isn't read.
 fn survey_row<V: Snapshot, S: PageSource>(
     alloc: Global,
     source: &mut S,

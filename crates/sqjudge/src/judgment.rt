@@ -44,8 +44,9 @@ fn placed(shown: usize, known: usize) -> Judgment
 
 /// The judgment of a database of no commit.
 fn unshown<S: PageSource>(alloc: Global, source: &mut S) -> Result<Judgment, SnapshotError>
-    ensures judged { S.gives_pages source.old → IfOk result (λ j. (commits : List Commit) (known : ℕ) → IsLastShown commits
-        (S.pages source.old) None → IsJudged commits known (S.pages source.old) (S.size source.old) j) }
+    ensures judged { S.gives_pages source.old → IfOk result (λ j. (commits : List Commit) (known : ℕ)
+        → IsLastShown commits (S.pages source.old) None
+        → IsJudged commits known (S.pages source.old) (S.size source.old) j) }
     ensures memory { S.gives_pages source.old → IfErr result (λ e. e ≡ NoMemory) }
 {
     match check(alloc, source) {

@@ -5,7 +5,8 @@ use Rattle.std.proofs.lemmas.List.{take_all}
 use Rattle.sqval.specs.Bytes.{part, word}
 use Rattle.sqwal.specs.Frames.{frame_at}
 use Rattle.sqwal.proofs.log.PartsOfBytes.{word_in}
-use Rattle.sqlocks.specs.Index.{NamesFront, IsFrontOf}
+use Rattle.sqlocks.specs.Index.{IsFrontOf}
+use Rattle.sqlocks.specs.internal.Fronts.{NamesFront}
 use Rattle.sqlocks.specs.declared.index.IndexHead.{IndexHead}
 
 -- a word of a part, in the whole

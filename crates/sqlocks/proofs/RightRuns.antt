@@ -16,7 +16,7 @@ use Rattle.sqlocks.specs.declared.places.Then.{Then}
 use Rattle.sqlocks.specs.declared.places.Then.TheVariants as thens
 use Rattle.sqlocks.specs.declared.places.Place.{Place}
 use Rattle.sqlocks.specs.declared.places.Place.TheVariants as places
-use Rattle.sqlocks.specs.internal.Places.{step_at, next, after_file, after_first, after_lock, compared, after_index, live_asked, looked, behind, given_back, waited, first_of, hold_of}
+use Rattle.sqlocks.specs.Places.{step_at, next, after_file, after_first, after_lock, compared, after_index, live_asked, looked, behind, given_back, waited, first_of, hold_of}
 use Rattle.sqlocks.specs.Runs.{Event, held_behind, held_after, Learnt, NoFile, NoIndex, NoLocks, Front, Nothing, learnt_behind, learnt_after, own, snapshot, MayBeAsked, MayAsk, IsRun, log_from, log_of}
 
 -- what a plan is for, what is held, and what was learnt

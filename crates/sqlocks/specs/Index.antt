@@ -59,11 +59,3 @@ pub record IsFrontOf (head : IndexHead) (w : List ℕ) : Type 0 where
   pub frame_salts : (word w (frame_at head.page_size head.frames + 8) ≡ head.salt1) × (word w (frame_at head.page_size head.frames + 12) ≡ head.salt2)
   pub sums : (word w (frame_at head.page_size head.frames + 16) ≡ head.sum.s0) × (word w (frame_at head.page_size head.frames + 20) ≡ head.sum.s1)
   pub commit : IsCommit head.page_size w head.frames
-
--- the same of the first 32 bytes of a log and of the 24 bytes with which the frame begins
-pub record NamesFront (head : IndexHead) (header frame : List ℕ) : Type 0 where
-  pub page_size : word header 8 ≡ head.page_size
-  pub salts : (word header 16 ≡ head.salt1) × (word header 20 ≡ head.salt2)
-  pub frame_salts : (word frame 8 ≡ head.salt1) × (word frame 12 ≡ head.salt2)
-  pub sums : (word frame 16 ≡ head.sum.s0) × (word frame 20 ≡ head.sum.s1)
-  pub commit : word frame 4 ≢ 0

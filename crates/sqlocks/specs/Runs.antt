@@ -12,7 +12,7 @@ use Rattle.sqlocks.specs.declared.plan.Answer.{Answer}
 use Rattle.sqlocks.specs.declared.plan.Answer.TheVariants.{Given, Refused, Missing, Unsupported}
 use Rattle.sqlocks.specs.declared.places.Place.{Place}
 use Rattle.sqlocks.specs.declared.places.Place.TheVariants.{OpenFile}
-use Rattle.sqlocks.specs.internal.Places.{step_at, next}
+use Rattle.sqlocks.specs.Places.{step_at, next}
 
 -- a step, and what it came to
 pub record Event : Type 0 where

@@ -3,7 +3,8 @@ ghost use Rattle.std.specs.Prelude.{◌≡◌, ◌+◌, ◌-◌, ◌*◌, ◌↔
 ghost use Rattle.sqval.specs.Bytes.{part, word};
 ghost use Rattle.sqwal.specs.Frames.{frame_at};
 ghost use Rattle.sqlocks.specs.Index.{low_word, low_half, named_size, StandsTwice, HasRightSums, IndexAnswer};
-ghost use Rattle.sqlocks.specs.Index.{NamesFront, IsFrontOf};
+ghost use Rattle.sqlocks.specs.Index.{IsFrontOf};
+ghost use Rattle.sqlocks.specs.internal.Fronts.{NamesFront};
 
 use byteorder::{BigEndian, ByteOrder, LittleEndian};
 use sqval::PageSize;

@@ -1,8 +1,8 @@
 //! The plans: where each of them stands, what is done there, and where an answer leads.
 ghost use Rattle.std.specs.Prelude.{◌≡◌};
-ghost use Rattle.sqlocks.specs.internal.Places.{after_file, after_first, after_lock, compared, after_index, live_asked};
-ghost use Rattle.sqlocks.specs.internal.Places.{looked, given_back, waited, next, step_at, last_of, first_of, hold_of};
-ghost use Rattle.sqlocks.specs.internal.Places.{behind};
+ghost use Rattle.sqlocks.specs.Places.{after_file, after_first, after_lock, compared, after_index, live_asked};
+ghost use Rattle.sqlocks.specs.Places.{looked, given_back, waited, next, step_at, last_of, first_of, hold_of};
+ghost use Rattle.sqlocks.specs.Places.{behind};
 
 use crate::plan::{Answer, Lock, Reason, Step, Target, Want};
 

@@ -1,14 +1,9 @@
 -- Whether an index names a front of a log, in numbers (own).
-use Rattle.std.specs.Prelude.{◌≡◌, ◌⊎◌, ℕ, ◌≤◌, List, length, take, Option, Some, None}
+use Rattle.std.specs.Prelude.{◌≡◌, ◌⊎◌, ℕ, ◌≤◌, List, length, take}
 use Rattle.sqval.specs.Bytes.{part}
 use Rattle.sqwal.specs.Frames.{frame_at}
-use Rattle.sqlocks.specs.Index.{IsIndex, IsIndexOf, IsFrontOf}
+use Rattle.sqlocks.specs.Index.{IsIndexOf, IsFrontOf}
 use Rattle.sqlocks.specs.declared.index.IndexHead.{IndexHead}
-
--- what the first 136 bytes say; none where there are fewer, or they begin with no valid header
-abbrev pub HeadAnswer : List ℕ → Option IndexHead → Type 0
-HeadAnswer index None = 136 ≤ length index → ¬ IsIndex (take 136 index)
-HeadAnswer index (Some head) = (136 ≤ length index) × IsIndexOf (take 136 index) head
 
 -- where the last frame that counts begins, 0 where none does
 pub record IsPlace (head : IndexHead) (place : ℕ) : Type 0 where

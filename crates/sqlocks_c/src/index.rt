@@ -1,6 +1,7 @@
 //! Whether an index names a front of a log.
 ghost use Rattle.std.specs.Prelude.{◌≡◌, IsTrue};
-ghost use Rattle.sqlocks_c.specs.Fronts.{HeadAnswer, IsPlace, PlaceOf, Counts, NamesFront};
+ghost use Rattle.sqlocks_c.specs.Fronts.{IsPlace, PlaceOf, Counts, NamesFront};
+ghost use Rattle.sqlocks_c.specs.internal.Heads.{HeadAnswer};
 
 use sqlocks::{IndexHead, index_front, names_front};
 

@@ -10,8 +10,8 @@ use std::alloc::{AllocError, Global};
 const GAP: u64 = 24;
 
 /// A file's bytes. Where a part is read that follows the one before, at its end or up to 24 bytes behind it, some bytes
-/// from its beginning on are read at once, and given from memory when they are asked for. Where these can't be read, the
-/// part is read alone, so that a read fails only where what it asks for can't be read.
+/// from its beginning on are read at once, and given from memory when they are asked for. Where these can't be read,
+/// the part is read alone, so that a read fails only where what it asks for can't be read.
 #[derive(Drop)]
 pub struct ReadAhead<F> {
     file: F,

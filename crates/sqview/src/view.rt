@@ -74,8 +74,7 @@ impl<F: FileBytes> View<F> {
     /// Reads page `p`, from 1, to `out`, which has the size of a page, and changes nothing of the view but the state of
     /// its files. Refused as the source's `page` is.
     pub fn read(&mut self, p: u32, out: &mut [u8]) -> Result<(), SourceError>
-        requires page { IsPage (pages_of F.bytes self.old) p }
-        requires room { length out.old ≡ self.old.page_size }
+        requires { IsPage (pages_of F.bytes self.old) p × (length out.old ≡ self.old.page_size) }
         ensures read { F.reads_right self.old.db × F.reads_right self.old.log
             → OnOk result (out.new ≡ page (pages_of F.bytes self.old) p) }
         ensures never_fails { F.gives_bytes self.old.db × F.gives_bytes self.old.log → IsOk result }

@@ -9,7 +9,7 @@ use Rattle.sqpage.proofs.chain.ListsByRecursion.{every_in, every_append, apart_s
 use Rattle.sqcheck.specs.declared.role.Role.{Role}
 use Rattle.sqcheck.specs.declared.role.Role.TheVariants.{Overflow}
 use Rattle.sqcheck.specs.Surveys.{role_at}
-use Rattle.sqcheck.specs.Chains.{is_taken, KeepsTaken, TakesPage, TakesChain}
+use Rattle.sqcheck.specs.internal.Chains.{is_taken, KeepsTaken, TakesPage, TakesChain}
 use Rattle.sqcheck.proofs.checks.ListsByRecursion.{every_weaker}
 
 -- These pages were taken so far.

@@ -4,7 +4,7 @@ use Rattle.sqlocks.specs.declared.plan.Answer.TheVariants.{Given}
 use Rattle.sqlocks.specs.declared.plan.Step.{Step}
 use Rattle.sqlocks.specs.declared.places.Place.{Place}
 use Rattle.sqlocks.specs.declared.places.Place.TheVariants.{OpenFile}
-use Rattle.sqlocks.specs.internal.Places.{next, step_at}
+use Rattle.sqlocks.specs.Places.{next, step_at}
 use Rattle.sqlocks.specs.Runs.{MayAsk, log_of}
 use Rattle.sqlocks.proofs.RightRuns.{run-right, next-right}
 use Rattle.sqlocks.proofs.plan.asked.Goals as goal

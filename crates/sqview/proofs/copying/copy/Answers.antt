@@ -36,16 +36,12 @@ loop-before-preserved g c =
           (Appends-trans (contents c.args.out.now) (append_known (contents c.loop-before.out) c.loop-before.run.items) (append_known (contents c.add.new.out) c.add.new.run.items) (concat (take n pages)) c.deref.result.now (was.written right) c.in_ok-add.ensures.added);
     }
 
-pub read-requires-clause-page : goal.read-requires-clause-page
-read-requires-clause-page g c =
+pub read-requires : goal.read-requires
+read-requires g c =
     let bytes_of = g.F.FileBytes.bytes in
     let now : length (pages_of bytes_of c.loop-before.view) ≡ length (pages_of bytes_of c.args.view.now) = ap (λ (d : Database). length d) (same_pages bytes_of c.loop-before.view c.args.view.now c.loop-before.invariant.same) in
-    (omega arith, omega (arith, now, c.loop-before-test.true, c.count-before-end.ensures))
-
-pub read-requires-clause-room : goal.read-requires-clause-room
-read-requires-clause-room g c =
     let size : c.loop-before.view.page_size ≡ c.args.view.now.page_size = ap (λ (s : Shape). s.page_size) c.loop-before.invariant.same in
-    omega (arith, ap (λ (l : List ℕ). length l) c.deref_mut.ensures.value, c.loop-before.invariant.long, size)
+    ((omega arith, omega (arith, now, c.loop-before-test.true, c.count-before-end.ensures)), omega (arith, ap (λ (l : List ℕ). length l) c.deref_mut.ensures.value, c.loop-before.invariant.long, size))
 
 pub returns-in_err-read-clause-unread : goal.returns-in_err-read-clause-unread
 returns-in_err-read-clause-unread g c = λ gives.

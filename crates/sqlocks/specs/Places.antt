@@ -172,7 +172,3 @@ next (places.InUse want) answer = places.Over want
 next places.NoLocks answer = places.Over Recover
 next places.Failed answer = places.Over Recover
 next (places.Over want) answer = places.Over want
-
--- where a plan stands behind these answers
-abbrev pub place_behind : Want → List Answer → Place
-place_behind want answers = fold next (places.OpenFile want) answers
