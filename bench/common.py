@@ -4,6 +4,14 @@ import os, re, shutil, statistics, subprocess, sys, time
 top = os.path.dirname(os.path.dirname(os.path.abspath(__file__)))
 sqrescue = os.path.join(top, "bin", "sqrescue")
 
+# The note of a file that isn't as long as its header says.
+LENGTH = re.compile(r"sqrescue: note: .* (ends at byte|goes on for) .*\n")
+
+
+def without_lengths(text):
+    """What the program says on standard error, but for notes of a file that isn't as long as its header says."""
+    return LENGTH.sub("", text)
+
 
 def numbers(*defaults):
     """The numbers of the command line, with these where there are none."""
