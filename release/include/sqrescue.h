@@ -24,7 +24,10 @@
    - Lifetime. A view names the bytes of the files and the places that it was opened with. They stay as they are as
      long as the view is used. A file that is mapped stays its length: the system ends a process that reads behind its
      end.
-   - Threads. Calls may run on several threads at once, each on a view of its own, for which a copy will do.
+   - Threads. Calls may run on several threads at once, and one view may be read by several, each by sqr_page into a
+     buffer of its own: sqr_page writes nothing but its buffer, and the library has no state. While one reads, nobody
+     writes the view, its places or its bytes; so a view isn't opened anew while another thread reads it. Each call is
+     proved by itself; that calls which write nothing in common don't disturb each other is C's rule.
    - Allocator. malloc, realloc and free are one allocator's. No call from a signal handler, nor from the forked child
      of a process with threads.
 
@@ -41,14 +44,26 @@
 extern "C" {
 #endif
 
-enum sqr_status {
+/* The version of this header, and that of the library that is linked: a million for each major one, a thousand for each
+   minor one, one for each patch. */
+#define SQR_VERSION_NUMBER 1000
+uint32_t sqr_version(void);
+
+/* What a call answers, a uint32_t. Numbers are added at the end, and none changes. */
+enum sqr_status
+#if defined(__cplusplus) || (defined(__STDC_VERSION__) && __STDC_VERSION__ >= 202311L)
+    : uint32_t
+#endif
+{
     SQR_OK = 0,
     SQR_DAMAGED = 1,        /* sqr_check: the database has a fault, which the report names */
     SQR_TWO_LOGS = 2,       /* a hot journal, and a write-ahead log that isn't empty */
     SQR_TOO_LARGE = 3,      /* a database above 2^30 bytes, above 2^21 valid frames, or a journal above 2^40 bytes */
     SQR_AUTO_VACUUM = 4,    /* sqr_check: a database with pointer maps, which aren't read */
     SQR_NOT_A_DATABASE = 5, /* no log counts, and the file's header is none of a database */
-    SQR_NO_MEMORY = 6,      /* malloc or realloc answered NULL; the next call starts anew */
+    SQR_NO_MEMORY = 6,      /* malloc or realloc answered NULL; the next call starts anew. Proved: where it may stand in
+                               place of another answer, as each call says. Tested: no call of the tests answers it
+                               unless an allocation was refused */
     SQR_NO_SUCH_PAGE = 7,   /* page 0, or one above the last */
     SQR_WRONG_SIZE = 8,     /* the buffer's length isn't the page size */
     SQR_NO_ROOM = 9,        /* the array has fewer places than are needed */
@@ -56,10 +71,16 @@ enum sqr_status {
     SQR_MAGIC = 11,         /* of a log's header, as all that follow: it doesn't begin as one */
     SQR_PAGE_SIZE = 12,     /* no power of two from 512 to 65536 */
     SQR_SUM = 13,           /* a wrong checksum */
-    SQR_VERSION = 14        /* another version than 3007000 */
+    SQR_LOG_VERSION = 14,   /* another version than 3007000; also of the log that counts */
+    SQR_SUPER_JOURNAL = 15, /* a hot journal ends as one that names a super-journal, which decides whether it counts */
+    SQR_PAGE_SIZES_DIFFER = 16 /* the log that counts has a front, and the database file names another page size */
 };
 
-/* What `sqrescue` says: "two logs", "not a database"; "?" of another number. */
+/* The name that it had up to version 0.1.0; not to be used any more. */
+#define SQR_VERSION SQR_LOG_VERSION
+
+/* What `sqrescue` says: "two logs", "not a database"; "?" of another number. A text that stays, for C and C++;
+   sqr_status_text has the same one for callers in other languages. */
 static inline const char *sqr_status_name(uint32_t status) {
     switch (status) {
     case SQR_OK: return "ok";
@@ -76,7 +97,9 @@ static inline const char *sqr_status_name(uint32_t status) {
     case SQR_MAGIC: return "magic";
     case SQR_PAGE_SIZE: return "page size";
     case SQR_SUM: return "checksum";
-    case SQR_VERSION: return "version";
+    case SQR_LOG_VERSION: return "unknown log version";
+    case SQR_SUPER_JOURNAL: return "super-journal";
+    case SQR_PAGE_SIZES_DIFFER: return "page sizes differ";
     default: return "?";
     }
 }
@@ -103,10 +126,12 @@ enum sqr_fault {
     SQR_FAULT_FREE_COUNT = 18,
     SQR_FAULT_SOURCE = 19,    /* never comes: bytes in memory can be read */
     SQR_FAULT_NO_MEMORY = 20, /* comes as SQR_NO_MEMORY */
-    SQR_FAULT_SCHEMA_RECORD = 21
+    SQR_FAULT_SCHEMA_RECORD = 21,
+    SQR_FAULT_POINTER_MAP = 22 /* never comes: pointer maps aren't judged */
 };
 
-/* The name that `sqrescue check` prints: "KeyOrder"; "?" of another number. */
+/* The name that `sqrescue check` prints: "KeyOrder"; "?" of another number. A text that stays; sqr_fault_text has the
+   same one. */
 static inline const char *sqr_fault_name(uint32_t fault) {
     switch (fault) {
     case SQR_FAULT_MAGIC: return "Magic";
@@ -130,9 +155,20 @@ static inline const char *sqr_fault_name(uint32_t fault) {
     case SQR_FAULT_SOURCE: return "Source";
     case SQR_FAULT_NO_MEMORY: return "NoMemory";
     case SQR_FAULT_SCHEMA_RECORD: return "SchemaRecord";
+    case SQR_FAULT_POINTER_MAP: return "PointerMap";
     default: return "?";
     }
 }
+
+/* A name, and zeros behind it up to the 24th byte, one at least. */
+struct sqr_name {
+    char text[24];
+};
+
+/* Writes the name of a status or of a fault by its number, "?" of another number, and answers how long it is, without
+   the zeros. Both are proved; neither refuses anything nor asks for memory. */
+uint32_t sqr_status_text(uint32_t status, struct sqr_name *name);
+uint32_t sqr_fault_text(uint32_t fault, struct sqr_name *name);
 
 /* These bytes; where the pointer is NULL a place that has none, for a length of 0. */
 static inline const uint8_t *sqr_bytes(const void *bytes) {
@@ -153,10 +189,14 @@ struct sqr_files {
 #define SQR_FILES(db, db_len, wal, wal_len, journal, journal_len) \
     { sqr_bytes(db), (db_len), sqr_bytes(wal), (wal_len), sqr_bytes(journal), (journal_len) }
 
-/* The page size in bytes, and the number of pages, of the database that the files show. Refused, in this order, by
-   SQR_TWO_LOGS, SQR_TOO_LARGE, SQR_NOT_A_DATABASE; SQR_NO_MEMORY in place of any. The logs are read up to where they
-   stop. Memory while it runs: 8 bytes for each valid frame or 16 for each record, and 8 for each page where a log
-   counts. */
+/* The page size in bytes, and the number of pages, of the database that the files show, which is what `sqrescue
+   recover` would leave. Refused as that is, in this order: by SQR_TWO_LOGS, SQR_LOG_VERSION, SQR_PAGE_SIZES_DIFFER or
+   SQR_SUPER_JOURNAL, SQR_TOO_LARGE, SQR_NOT_A_DATABASE; SQR_NO_MEMORY in place of any but SQR_LOG_VERSION and
+   SQR_SUPER_JOURNAL. A log of more frames than are scanned is SQR_TOO_LARGE whatever its page size is. Where a journal
+   names a super-journal, look whether that file is there: where it is, hand over the journal without its last 8 bytes;
+   where it isn't, no journal. The logs are read up to where they stop, twice where the file names another page size
+   than the log. Memory while it runs: 8 bytes for each valid frame or 16 for each record,
+   and 8 for each page where a log counts. */
 uint32_t sqr_size(const struct sqr_files *files, uint32_t *page_size, uint32_t *pages);
 
 /* A database that is open: whoever opens it makes it, by SQR_VIEW_INIT, and may copy it. It owns nothing, so nothing
@@ -177,14 +217,15 @@ static const uint64_t sqr_no_places[1] = {0};
 
 /* Opens the database that the files show. `places` has room for `room` places; as many as sqr_size has pages are
    enough, and none are needed where no log counts. It is the view's from then on. Refused as sqr_size is, and by
-   SQR_NO_ROOM. Memory as of sqr_size. */
+   SQR_NO_ROOM, where sqr_size says how much is needed. Memory as of sqr_size. */
 uint32_t sqr_open(const struct sqr_files *files, uint64_t *places, size_t room, struct sqr_view *view);
 
 /* Opens the database that the file shows with its write-ahead log up to a commit, by the frame that ends it, of those
    that sqr_wal_commits finds: with this commit, and without those behind it. At frame 0 the file without its logs.
    `places` has room for `room` places; as many as the commit has pages are enough, and none are needed at 0. Refused,
-   in this order, by SQR_TWO_LOGS, SQR_TOO_LARGE of the log, SQR_NO_SUCH_COMMIT, SQR_TOO_LARGE of the database,
-   SQR_NOT_A_DATABASE at 0, and SQR_NO_ROOM; SQR_NO_MEMORY in place of any. Memory as of sqr_size. */
+   in this order, by SQR_TWO_LOGS, but for 0 SQR_LOG_VERSION and SQR_PAGE_SIZES_DIFFER, SQR_TOO_LARGE of the log,
+   SQR_NO_SUCH_COMMIT, SQR_TOO_LARGE of the database, SQR_NOT_A_DATABASE at 0, and SQR_NO_ROOM, where sqr_wal_commits
+   says how much is needed; SQR_NO_MEMORY in place of any but SQR_LOG_VERSION. Memory as of sqr_size. */
 uint32_t sqr_open_at(const struct sqr_files *files, uint32_t frame, uint64_t *places, size_t room,
                      struct sqr_view *view);
 
@@ -201,7 +242,9 @@ struct sqr_report {
 
 /* Whether the database that the files show is well formed: SQR_OK, or SQR_DAMAGED with a fault that stands. Files that
    show no database are damaged, by SQR_FAULT_MAGIC or SQR_FAULT_PAGE_SIZE at page 1. Refused, in this order, by
-   SQR_TWO_LOGS, SQR_TOO_LARGE, SQR_AUTO_VACUUM; SQR_NO_MEMORY in place of any. Memory: as of sqr_size, and some bytes
+   SQR_TWO_LOGS, SQR_TOO_LARGE, SQR_AUTO_VACUUM; SQR_NO_MEMORY in place of any. As `sqrescue check` it judges what the
+   files show also where a recovery is refused by SQR_LOG_VERSION, SQR_PAGE_SIZES_DIFFER or SQR_SUPER_JOURNAL, which
+   sqr_size says: a log of another version has no front, and a journal counts. Memory: as of sqr_size, and some bytes
    for each page. */
 uint32_t sqr_check(const struct sqr_files *files, struct sqr_report *report);
 
@@ -229,9 +272,9 @@ struct sqr_wal {
 };
 
 /* The valid frames of a write-ahead log, and where it stops. Refused by SQR_MAGIC, SQR_PAGE_SIZE, SQR_SUM,
-   SQR_VERSION, in this order, by SQR_TOO_LARGE, or by SQR_NO_MEMORY in place of any. SQR_NO_ROOM where there are more
-   frames than room: then `out` is written, `frames` not. The frames with a size are the commits. Room for len / 536
-   frames is always enough. Memory while it runs: 8 bytes for each valid frame. */
+   SQR_LOG_VERSION, in this order, by SQR_TOO_LARGE, or by SQR_NO_MEMORY in place of any. SQR_NO_ROOM where there are
+   more frames than room: then `out` is written, `frames` not. The frames with a size are the commits. Room for
+   len / 536 frames is always enough. Memory while it runs: 8 bytes for each valid frame. */
 uint32_t sqr_wal_scan(const uint8_t *wal, size_t len, struct sqr_frame *frames, size_t room, struct sqr_wal *out);
 
 /* A commit of a write-ahead log: the frame that ends it, how many frames it has (those behind the commit before it, up

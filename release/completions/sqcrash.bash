@@ -1,0 +1,43 @@
+# bash completion of sqcrash, made by tools/completions of the program's help texts
+_sqcrash() {
+  local word=$2 before=$3 command= at options=
+  [ "$word" != = ] || word=
+  [ "$before" != = ] || before=${COMP_WORDS[COMP_CWORD - 2]}
+  COMPREPLY=()
+  case $before in
+    --images)
+      :
+      return
+      ;;
+    --keep)
+      compopt -o dirnames
+      return
+      ;;
+    --meta)
+      COMPREPLY=($(compgen -W 'parts whole ordered' -- "$word"))
+      return
+      ;;
+    --promise)
+      COMPREPLY=($(compgen -W 'full last ordered none' -- "$word"))
+      return
+      ;;
+    --sector)
+      COMPREPLY=($(compgen -W '512 4096' -- "$word"))
+      return
+      ;;
+    --seed)
+      :
+      return
+      ;;
+  esac
+  case $command in
+    '') options='--sector --tears --meta --images --seed --every --promise --keep -h --help' ;;
+  esac
+  if [[ $word == -* ]]; then
+    COMPREPLY=($(compgen -W "$options" -- "$word"))
+    [[ ${COMPREPLY[*]} != *= ]] || compopt -o nospace
+  else
+    compopt -o default
+  fi
+}
+complete -F _sqcrash sqcrash
