@@ -178,7 +178,7 @@ pub record IsCrash (db log : List ℕ) (old new : DiskState) : Type 0 where
   pub kept : new.kept ≡ kept_of old.tears log
   pub handed : new.handed ≡ []
 
--- a disk with a database that is down and an empty log
+-- a disk with a database that is durable and an empty log
 pub record IsNew (size : ℕ) (torn : Bool) (bytes : List ℕ) (s : DiskState) : Type 0 where
   pub sector : s.sector ≡ size
   pub tears : s.tears ≡ torn

@@ -66,7 +66,7 @@ TellsRefusal device result old new = old.refused < new.refused → result ≡ Er
 -- ---- What is recovered.
 
 -- nothing of the log is unsynced
-pub record IsLogDown (s : DiskState) (w : List ℕ) : Type 0 where
+pub record IsLogDurable (s : DiskState) (w : List ℕ) : Type 0 where
   pub settled : IsSettled s.log w
   pub kept : s.tears ≡ true → s.kept ≡ w
   pub handed : s.handed ≡ []

@@ -7,7 +7,7 @@ ghost use Rattle.crashdisk.specs.Ending.{IsEnded};
 ghost use Rattle.crashdisk.specs.Held.{file_of, IsHeld, IsTurned, picked};
 ghost use Rattle.crashdisk.specs.internal.Held.{Stands, Suits};
 ghost use Rattle.crashdisk.specs.Solid.{is_sector_size};
-ghost use Rattle.crashdisk.specs.internal.Answer.{changing, writing, cutting, IsAnswered, IsDown};
+ghost use Rattle.crashdisk.specs.internal.Answer.{changing, writing, cutting, IsAnswered, IsSyncAnswered};
 ghost use Rattle.crashdisk.specs.Refusal.{number_of};
 
 use crate::error::DiskError;
@@ -144,14 +144,14 @@ pub(crate) fn turn_held(held: &mut Held, sector: usize, pick: &[u32])
 }
 
 /// Syncs a file, or fails in the middle of that, and counts it.
-pub(crate) fn bring_down(
+pub(crate) fn sync_file(
     held: &mut Held,
     refused: &mut u64,
     manner: &Manner<'_>,
 ) -> Result<(), DiskError>
     requires { Stands manner.now.sector held.old }
     ensures stands { Stands manner.now.sector held.new }
-    ensures answered { IsDown manner.now result (file_of manner.now.sector held.old)
+    ensures answered { IsSyncAnswered manner.now result (file_of manner.now.sector held.old)
         (file_of manner.now.sector held.new) }
     ensures counted { refused.new ≡ counted result refused.old }
 {
@@ -193,7 +193,7 @@ pub(crate) fn empty(alloc: Global) -> Held
     }
 }
 
-/// A file that holds these bytes and is down.
+/// A file that holds these bytes and is durable.
 pub(crate) fn filled(alloc: Global, sector: usize, bytes: &[u8]) -> Result<Held, DiskError>
     requires is_size { IsTrue (is_sector_size sector) }
     requires room { length bytes.now ≤ longest }

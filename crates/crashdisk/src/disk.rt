@@ -9,7 +9,7 @@ use crate::file::File;
 /// a disk that tears, anything where the sector was written since then; and for each file any length from the least to
 /// the greatest that it had since then. Places and lengths are in bytes. Stops and failures may be set
 /// of it for the calls to come (of a real disk none is): each call but `sector` and `tears` heeds them and counts them
-/// down.
+/// durable.
 pub trait Disk {
     ghost use Rattle.crashdisk.specs.declared.file.File.{File};
     ghost use Rattle.crashdisk.specs.Call.{DiskState, of, IsSoundDisk, Writes, Cuts, Syncs, Looks};

@@ -10,7 +10,7 @@ pub enum DiskError {
     /// The machine has stopped; no call is carried out until a crash.
     #[error("the disk has stopped")]
     Stopped,
-    /// The device failed: a change may be there in part, and a sync may have brought nothing down.
+    /// The device failed: a change may be there in part, and a sync may have synced nothing.
     #[error("the disk call failed")]
     Failed,
     /// The call would end above 1,099,511,627,776 bytes.

@@ -3,7 +3,7 @@ ghost use Rattle.std.specs.Prelude.{◌≡◌, ◌≤◌, ◌+◌, length};
 ghost use Rattle.crashdisk.specs.State.{longest, IsImage, IsSettled, IsSynced};
 ghost use Rattle.crashdisk.specs.Call.{counted, with_write};
 ghost use Rattle.crashdisk.specs.Held.{file_of};
-ghost use Rattle.crashdisk.specs.internal.Answer.{writing, cutting, IsAnswered, IsDown};
+ghost use Rattle.crashdisk.specs.internal.Answer.{writing, cutting, IsAnswered, IsSyncAnswered};
 ghost use Rattle.crashdisk.specs.Choice.{naming_of, image_of};
 ghost use Rattle.crashdisk.specs.Since.{handed_writes};
 ghost use Rattle.crashdisk.specs.internal.Since.{StandsLog, Hands, Synced, SyncedSince, Left};
@@ -87,7 +87,7 @@ fn sync_log(held: &mut Held, since: &mut Since, sector: usize, tears: bool)
 }
 
 /// Syncs the log, or fails in the middle of that, and counts it.
-pub(crate) fn bring_log_down(
+pub(crate) fn sync_log_file(
     held: &mut Held,
     since: &mut Since,
     refused: &mut u64,
@@ -95,7 +95,7 @@ pub(crate) fn bring_log_down(
 ) -> Result<(), DiskError>
     requires { StandsLog manner.now.sector manner.now.tears held.old since.old }
     ensures stands { StandsLog manner.now.sector manner.now.tears held.new since.new }
-    ensures answered { IsDown manner.now result (file_of manner.now.sector held.old)
+    ensures answered { IsSyncAnswered manner.now result (file_of manner.now.sector held.old)
         (file_of manner.now.sector held.new) }
     ensures counted { refused.new ≡ counted result refused.old }
     ensures since { SyncedSince manner.now.tears (file_of manner.now.sector held.old) result since.old since.new }

@@ -10,8 +10,8 @@ ghost use Rattle.crashdisk.specs.Refusal.{number_of};
 ghost use Rattle.crashdisk.specs.Since.{kept_bytes, handed_writes};
 
 use crate::calls::{
-    LIMIT, Manner, append_present, bring_down, cut_held, empty, end_held, filled, is_too_long,
-    refuse, write_held,
+    LIMIT, Manner, append_present, cut_held, empty, end_held, filled, is_too_long, refuse,
+    sync_file, write_held,
 };
 use crate::choice::{Choice, FileChoice};
 use crate::counting::{count_values, file_choice, next_choice};
@@ -20,7 +20,7 @@ use crate::disk::Disk;
 use crate::error::DiskError;
 use crate::file::File;
 use crate::held::{Held, Part};
-use crate::log::{bring_log_down, crash_log, cut_log, write_log};
+use crate::log::{crash_log, cut_log, sync_log_file, write_log};
 use crate::since::Since;
 use crate::stops::Stops;
 use std::alloc::{AllocError, Global};
@@ -56,7 +56,7 @@ impl ModelDisk {
     ghost use Rattle.crashdisk.specs.Model.{state_of};
 
     /// A disk of sectors of this size, a power of two from 512 to 65536 bytes, which doesn't tear: the database holds
-    /// these bytes, the log is empty, both are down, and no stop and no failure is set. TooLong where the bytes are
+    /// these bytes, the log is empty, both are durable, and no stop and no failure is set. TooLong where the bytes are
     /// more than 1,099,511,627,776, otherwise NoMemory alone.
     pub fn new(alloc: Global, sector: usize, db: Vec<u8>) -> Result<ModelDisk, DiskError>
         requires { IsTrue (is_sector_size sector) }
@@ -466,8 +466,8 @@ impl Disk for ModelDisk {
             part: &self.part,
         };
         match file {
-            File::Db => bring_down(&mut self.db, &mut self.refused, &manner),
-            File::Log => bring_log_down(&mut self.log, &mut self.since, &mut self.refused, &manner),
+            File::Db => sync_file(&mut self.db, &mut self.refused, &manner),
+            File::Log => sync_log_file(&mut self.log, &mut self.since, &mut self.refused, &manner),
         }
     }
 }

@@ -31,14 +31,6 @@ module _ {E : Type 0} where
   unfolding CopyAnswer
   copy_done {T = T} device size d r v a b was answer = let got = subst (λ (x : Result T E). CopyAnswer device size d x a b) was answer in got
 
-  pub copy_refused : {T : Type 0} (device : E) (size : ℕ) (d : Database) (r : Result T E) (e : E) (a b : DiskState) → r ≡ Err e → (e ≡ device) × HadRefusal a b → CopyAnswer device size d r a b
-  unfolding CopyAnswer
-  copy_refused {T = T} device size d r e a b was had = subst (λ (x : Result T E). CopyAnswer device size d x a b) (sym was) had
-
-  pub copy_device : {T : Type 0} (device : E) (size : ℕ) (d : Database) (r : Result T E) (e : E) (a b : DiskState) → r ≡ Err e → CopyAnswer device size d r a b → (e ≡ device) × HadRefusal a b
-  unfolding CopyAnswer
-  copy_device {T = T} device size d r e a b was answer = let got = subst (λ (x : Result T E). CopyAnswer device size d x a b) was answer in got
-
   -- ---- The front of the log is zeroed.
 
   module _ {T : Type 0} (device : E) (count : ℕ) where

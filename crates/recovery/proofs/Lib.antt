@@ -4,3 +4,7 @@ pub mod NarrowedImages
 pub mod ToldRefusals
 pub mod OverwrittenLog
 pub mod PiecewiseScan
+pub mod FilledFile
+pub mod PhasesOfRestore
+pub mod ZeroedFront
+pub mod Words

@@ -3,7 +3,7 @@ use Rattle.std.proofs.Common.{◌≡◌, ⊎_elim, ℕ, ◌+◌, max, Bool, true
 use Rattle.std.specs.Prelude.{Result, Ok, Err}
 use Rattle.crashdisk.specs.State.{FileState, IsImage, IsSound, Changed, WriteTouches, written}
 use Rattle.crashdisk.specs.Call.{DiskState, IsSoundDisk, Writes, ChangedBy, with_write}
-use Rattle.crashdisk.specs.Keeps.{IsLogDown}
+use Rattle.crashdisk.specs.Keeps.{IsLogDurable}
 use Rattle.crashdisk.specs.declared.file.File.TheVariants.{Log}
 use Rattle.crashdisk.specs.declared.error.DiskError.{DiskError}
 use Rattle.crashdisk.specs.declared.error.DiskError.TheVariants.{Stopped, TooLong, Failed, NoMemory}
@@ -16,15 +16,15 @@ use Rattle.recovery.proofs.ShownDatabase.{read_cases}
 abbrev pub Overwritten : (at : ℕ) (bytes : List ℕ) (old new : DiskState) → Type 0
 Overwritten at bytes old new = Changed old.sector (WriteTouches old.sector old.log at bytes) (written old.log at bytes) (max old.log.len (at + length bytes)) old.log new.log
 
--- What holds of the log that was down, and of whatever the write leaves, listed or torn, holds of what may be read.
-module _ (kind : LogKind) (P : List ℕ → Type 0) (w : List ℕ) (at : ℕ) (bytes : List ℕ) (old new : DiskState) (sound : IsSoundDisk old) (down : IsLogDown old w) (stays : P w)
+-- What holds of the log that was durable, and of whatever the write leaves, listed or torn, holds of what may be read.
+module _ (kind : LogKind) (P : List ℕ → Type 0) (w : List ℕ) (at : ℕ) (bytes : List ℕ) (old new : DiskState) (sound : IsSoundDisk old) (durable : IsLogDurable old w) (stays : P w)
     (listed : IsSound old.sector new.log → Overwritten at bytes old new → (v : List ℕ) → IsImage old.sector false new.log v → P v)
     (torn : old.tears ≡ true → IsSound old.sector new.log → Overwritten at bytes old new → (v : List ℕ) → IsImage old.sector true new.log v → kind.AreWhole w ((at, bytes) ∷ []) v → P v) where
   abbrev By : {T : Type 0} → Result T DiskError → Type 0
   By result = ChangedBy old.sector (WriteTouches old.sector old.log at bytes) (written old.log at bytes) (max old.log.len (at + length bytes)) result old.log new.log
 
   same_log : new.log ≡ old.log → (tears : Bool) (v : List ℕ) → IsImage old.sector tears new.log v → P v
-  same_log e tears v image = subst P (sym (settled_one old.log w down.settled old.sector tears v (subst (λ (s : FileState). IsImage old.sector tears s v) e image))) stays
+  same_log e tears v image = subst P (sym (settled_one old.log w durable.settled old.sector tears v (subst (λ (s : FileState). IsImage old.sector tears s v) e image))) stays
 
   listed_by : {T : Type 0} (result : Result T DiskError) → IsSound old.sector new.log → By result → (v : List ℕ) → IsImage old.sector false new.log v → P v
   listed_by (Ok u) after changed v image = listed after changed.0 v image
@@ -36,8 +36,8 @@ module _ (kind : LogKind) (P : List ℕ → Type 0) (w : List ℕ) (at : ℕ) (b
   torn_put : old.tears ≡ true → IsSound old.sector new.log → Overwritten at bytes old new → new.kept ≡ old.kept → new.handed ≡ old.handed ++ (at, bytes) ∷ []
       → (v : List ℕ) → IsImage old.sector true new.log v → kind.AreWhole new.kept new.handed v → P v
   torn_put was after changed kept handed v image whole = torn was after changed v image
-      (subst (λ (x : List ℕ). kind.AreWhole x ((at, bytes) ∷ []) v) (kept ∙ down.kept was)
-      (subst (λ (x : List (ℕ × List ℕ)). kind.AreWhole new.kept x v) (handed ∙ ap (λ (x : List (ℕ × List ℕ)). x ++ (at, bytes) ∷ []) down.handed) whole))
+      (subst (λ (x : List ℕ). kind.AreWhole x ((at, bytes) ∷ []) v) (kept ∙ durable.kept was)
+      (subst (λ (x : List (ℕ × List ℕ)). kind.AreWhole new.kept x v) (handed ∙ ap (λ (x : List (ℕ × List ℕ)). x ++ (at, bytes) ∷ []) durable.handed) whole))
 
   torn_by : {T : Type 0} (result : Result T DiskError) → old.tears ≡ true → IsSound old.sector new.log → By result → new.kept ≡ old.kept → new.handed ≡ with_write true Log result at bytes old.handed
       → (v : List ℕ) → IsImage old.sector true new.log v → kind.AreWhole new.kept new.handed v → P v

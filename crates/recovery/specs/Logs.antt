@@ -3,7 +3,7 @@ use Rattle.std.specs.Prelude.{◌≡◌, ◌⊎◌, ℕ, ◌*◌, true, false, L
 use Rattle.sqval.specs.Database.{Database}
 use Rattle.crashdisk.specs.State.{IsImage}
 use Rattle.crashdisk.specs.Call.{DiskState, ArePresent}
-use Rattle.crashdisk.specs.Keeps.{IsLogDown}
+use Rattle.crashdisk.specs.Keeps.{IsLogDurable}
 
 -- An engine's kind of log. What of a log counts must stand whole where a disk that tears leaves it. A file of pages of
 -- a size and a log show a database, by the file alone where the log is idle.
@@ -35,4 +35,4 @@ pub record ShowsWhole (kind : LogKind) (size : ℕ) (db w : List ℕ) (d : Datab
 
 -- where nothing of the log was unsynced, and all that a crash may leave showed one database, it still does
 abbrev pub Agrees : LogKind → (size : ℕ) (old new : DiskState) → Type 0
-Agrees kind size old new = (w : List ℕ) (d : Database) → IsLogDown old w → ShowsAlone kind size d old → ShowsAlone kind size d new
+Agrees kind size old new = (w : List ℕ) (d : Database) → IsLogDurable old w → ShowsAlone kind size d old → ShowsAlone kind size d new

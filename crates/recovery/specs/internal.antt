@@ -4,3 +4,4 @@ pub mod Reading
 pub mod Steps
 pub mod Logs
 pub mod Scanning
+pub mod Phases

@@ -2,11 +2,9 @@
 pub mod LastRecordOfPage
 pub mod ScanOfLogPrefix
 pub mod CopiedPages
-pub mod ShownDatabaseDuringWrites
+pub mod PhasesOfReplay
 pub mod ZeroedHeader
-pub mod ShownDatabaseDuringZeroing
 pub mod FinalSteps
-pub mod ShownDatabaseAtExits
 pub mod PlanOfScannedLog
 pub mod DecisivePrefixOfJournal
 pub mod AnswerOfParts

@@ -7,7 +7,7 @@ use Rattle.crashdisk.specs.Call.{DiskState}
 use Rattle.rollcore.specs.Fits.{FitsCore, Takes}
 use Rattle.rollcore.specs.Refusal.{number_of}
 use Rattle.rollcore.specs.Replaying.{zeroed}
-use Rattle.crashdisk.specs.Keeps.{IsLogDown}
+use Rattle.crashdisk.specs.Keeps.{IsLogDurable}
 use Rattle.sqjournal.specs.Journal.{Sizes}
 use Rattle.rollcore.specs.Journaling.{sizes, HasParts, parts_of}
 use Rattle.rollcore.specs.Machine.{State, Commits, recorded, segments_of}
@@ -25,9 +25,9 @@ pub record KeepsCore (old new : Core) : Type 0 where
   pub header_room : length new.header.items ≡ length old.header.items
 
 -- The log is a journal of segments that have these nonces, each with its records, in order, but for 28 zeros over its first
--- header, and it is down.
+-- header, and it is durable.
 abbrev pub LeavesParts : Sizes → (parts : List (ℕ × Pages)) → DiskState → Type 0
-LeavesParts z parts s = (place : ℕ) × (w : List ℕ) × HasParts z w place parts × IsLogDown s (zeroed w)
+LeavesParts z parts s = (place : ℕ) × (w : List ℕ) × HasParts z w place parts × IsLogDurable s (zeroed w)
 
 -- these are the pages of a database of so many that a commit writes or cuts off, rising
 pub record AreChanged (pages : Pages) (old_size size : ℕ) (numbers : List ℕ) : Type 0 where

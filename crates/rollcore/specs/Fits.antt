@@ -10,7 +10,7 @@ use Rattle.crashdisk.specs.State.{IsImage}
 use Rattle.crashdisk.specs.Call.{DiskState}
 use Rattle.rollcore.specs.Changes.{MayChange}
 use Rattle.rollcore.specs.Alone.{journal_log}
-use Rattle.crashdisk.specs.Keeps.{Suits, IsLogDown, IsSameDisk}
+use Rattle.crashdisk.specs.Keeps.{Suits, IsLogDurable, IsSameDisk}
 use Rattle.rollcore.specs.Machine.{State, Act, Opens, Step}
 use Rattle.rollcore.specs.Refusal.{number_of}
 use Rattle.rollcore.specs.declared.error.RollError.{RollError}
@@ -40,17 +40,17 @@ pub record FitsDisk (past : State) (s : DiskState) : Type 0 where
   pub sectors : NamesSectors s
   pub present : IsTrue past.is_open → (files : Files) → AreFiles s files → ShowsWhole journal_log past.page_size files.db files.log (newest past.history)
 
--- A disk between two commits: each file that a crash may leave is just the database; the log is down, and no header
+-- A disk between two commits: each file that a crash may leave is just the database; the log is durable, and no header
 -- begins at its front.
 pub record Rests (size : ℕ) (d : Database) (s : DiskState) : Type 0 where
   pub file : (db : List ℕ) → IsImage s.sector s.tears s.db db → IsJust size d db
-  pub log : (w : List ℕ) × IsLogDown s w × (HasMagic w 0 → ⊥)
+  pub log : (w : List ℕ) × IsLogDurable s w × (HasMagic w 0 → ⊥)
 
 -- what an open core holds
 pub record IsCore (past : State) (core : Core) (s : DiskState) : Type 0 where
   pub size : core.size ≡ length (newest past.history)
   pub rests : Rests past.page_size (newest past.history) s
-  pub down : past.floor + 1 ≡ length past.history
+  pub durable : past.floor + 1 ≡ length past.history
   pub record_room : length core.record.items ≡ past.page_size + 8
   pub header_room : length core.header.items ≡ s.sector
 

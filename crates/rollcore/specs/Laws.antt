@@ -9,11 +9,11 @@ use Rattle.recovery.specs.Histories.{newest}
 abbrev pub IsSane : State → Type 0
 IsSane s = s.floor < length s.history
 
--- what is known to be down stays: no floor falls, and the databases up to it stand; nor does the page size change
+-- what is known to be durable stays: no floor falls, and the databases up to it stand; nor does the page size change
 pub record Keeps (old new : State) : Type 0 where
   pub page_size : new.page_size ≡ old.page_size
   pub floor : old.floor ≤ new.floor
-  pub down : take (old.floor + 1) new.history ≡ take (old.floor + 1) old.history
+  pub durable : take (old.floor + 1) new.history ≡ take (old.floor + 1) old.history
 
 -- ---- What is answered where memory is ample and the disk refuses no call.
 

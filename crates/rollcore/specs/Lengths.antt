@@ -4,7 +4,7 @@ use Rattle.sqval.specs.Bytes.{word}
 use Rattle.sqjournal.specs.Journal.{IsHot}
 use Rattle.crashdisk.specs.State.{IsImage}
 use Rattle.crashdisk.specs.Call.{DiskState}
-use Rattle.crashdisk.specs.Keeps.{IsLogDown}
+use Rattle.crashdisk.specs.Keeps.{IsLogDurable}
 use Rattle.rollcore.specs.Fits.{NamesSectors}
 use Rattle.recovery.specs.Logs.{MayBeRead}
 use Rattle.rollcore.specs.Alone.{journal_log}
@@ -17,4 +17,4 @@ pub record EndsBy (n : ℕ) (s : DiskState) : Type 0 where
 -- where nothing of the log was unsynced: a file that is as long as the database that is restored is never left in
 -- another length without a hot journal
 abbrev pub KeepsLength : (old new : DiskState) → Type 0
-KeepsLength old new = (w : List ℕ) (n : ℕ) → IsLogDown old w → (IsHot w → n ≡ word w 16 * word w 24) → EndsBy n old → EndsBy n new
+KeepsLength old new = (w : List ℕ) (n : ℕ) → IsLogDurable old w → (IsHot w → n ≡ word w 16 * word w 24) → EndsBy n old → EndsBy n new

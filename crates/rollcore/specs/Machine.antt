@@ -24,7 +24,7 @@ pub record State : Type 0 where
   pub page_size : ℕ
   -- the base, and what each commit made
   pub history : List Database
-  -- the place of the last one known to be down
+  -- the place of the last one known to be durable
   pub floor : ℕ
   pub is_open : Bool
 
@@ -42,7 +42,7 @@ opened s k = record s { history = take (k + 1) s.history; floor = k; is_open = t
 abbrev pub closed : State → State
 closed s = record s { is_open = false }
 
--- a commit that isn't known to be down
+-- a commit that isn't known to be durable
 abbrev pub appended : State → Pages → (size : ℕ) → State
 appended s pages size = record s { history = s.history ++ apply (newest s.history) pages size ∷ [] }
 
@@ -85,7 +85,7 @@ OpenStep old found Done before after new =
 OpenStep old found (Refused number) before after new = ((number ≡ number_of NoMemory) ⊎ ((number ≡ number_of Device) × HasCause before after)) × (new ≡ closed old)
 OpenStep old found _ before after new = ⊥
 
--- A commit that is done is down. One that the disk refuses may be there; the machine is closed.
+-- A commit that is done is durable. One that the disk refuses may be there; the machine is closed.
 abbrev pub CommitStep : State → Pages → (size : ℕ) → (nonces : List ℕ) → Answer → (before after : ℕ) → State → Type 0
 CommitStep old pages size nonces Done before after new = (commit_refusal old pages size nonces ≡ None) × (new ≡ committed old pages size)
 CommitStep old pages size nonces (Refused number) before after new =

@@ -8,7 +8,7 @@ use Rattle.crashdisk.specs.Call.{DiskState, ArePresent, Syncs}
 use Rattle.crashdisk.specs.declared.file.File.TheVariants.{Log}
 use Rattle.crashdisk.specs.declared.error.DiskError.{DiskError}
 use Rattle.rollcore.specs.Replaying.{TearsJournal, IsTooLarge, IsRolled}
-use Rattle.crashdisk.specs.Keeps.{HadRefusal, KeepsBytes, IsLogDown, TearsPages}
+use Rattle.crashdisk.specs.Keeps.{HadRefusal, KeepsBytes, IsLogDurable, TearsPages}
 use Rattle.sqval.specs.Answers.{Files}
 use Rattle.rollcore.specs.Alone.{journal_log}
 use Rattle.rollcore.specs.Machine.{State}
@@ -66,7 +66,7 @@ pub record MayOpen (size : ℕ) (db w : List ℕ) (s : DiskState) : Type 0 where
 pub record LeavesFiles (db w : List ℕ) (old new : DiskState) : Type 0 where
   pub hot : IsHot w → (r : Replayed) × IsRolled db w r new
   pub file : (IsHot w → ⊥) → new.db ≡ old.db
-  pub log : (IsHot w → ⊥) → (v : List ℕ) × IsLogDown new v × LosesMagic w v
+  pub log : (IsHot w → ⊥) → (v : List ℕ) × IsLogDurable new v × LosesMagic w v
 
 -- An opening that is done: no page is smaller than a sector that tears, the files are what an opening is granted for, and
 -- they are left so.

@@ -10,7 +10,7 @@ use Rattle.sqval.specs.CommitFaults.{most_bytes}
 use Rattle.rollcore.specs.declared.replaying.Replayed.{Replayed}
 use Rattle.rollcore.specs.declared.error.RollError.{RollError}
 use Rattle.rollcore.specs.declared.error.RollError.TheVariants.{TooLarge, NoMemory, Device, SectorAbovePage}
-use Rattle.crashdisk.specs.Keeps.{KeepsBytes, IsLogDown, HadRefusal}
+use Rattle.crashdisk.specs.Keeps.{KeepsBytes, IsLogDurable, HadRefusal}
 
 -- on a disk that tears, its sectors are larger than the pages of a journal or than the sectors that it names
 abbrev pub TearsJournal : DiskState → List ℕ → Type 0
@@ -28,14 +28,14 @@ IsTooLarge w = IsTooLargeWithin most_bytes w
 abbrev pub zeroed : List ℕ → List ℕ
 zeroed w = replicate 28 0 ++ drop 28 w
 
--- A hot journal w was replayed into the file db. The file is down, and just what the journal restores; the journal is
--- down, with zeros for its first header.
+-- A hot journal w was replayed into the file db. The file is durable, and just what the journal restores; the journal is
+-- durable, with zeros for its first header.
 pub record IsRolled (db w : List ℕ) (r : Replayed) (new : DiskState) : Type 0 where
   pub hot : IsTrue r.hot
   pub records : HasCount w r.records
   pub size : r.size ≡ word w 16
   pub file : (after : List ℕ) × Restores db w after × IsSettled new.db after
-  pub log : IsLogDown new (zeroed w)
+  pub log : IsLogDurable new (zeroed w)
 
 -- no journal was hot, and no byte has changed
 pub record IsIdle (r : Replayed) (old new : DiskState) : Type 0 where
@@ -43,7 +43,7 @@ pub record IsIdle (r : Replayed) (old new : DiskState) : Type 0 where
   pub records : r.records ≡ 0
   pub size : r.size ≡ 0
   pub bytes : KeepsBytes old new
-  pub down : (w : List ℕ) → IsLogDown old w → IsLogDown new w
+  pub durable : (w : List ℕ) → IsLogDurable old w → IsLogDurable new w
 
 -- what was replayed; the log isn't hot any more, so that replaying it again changes no byte
 pub record IsReplayed (db w : List ℕ) (r : Replayed) (old new : DiskState) : Type 0 where

@@ -117,8 +117,8 @@ pub fn copy_records<D: Disk>(
     Ok(())
 }
 
-/// Makes the database stay.
-fn settle_database<D: Disk>(disk: &mut D) -> Result<(), RollError>
+/// Syncs the database.
+fn sync_database<D: Disk>(disk: &mut D) -> Result<(), RollError>
     ensures disk { During D.keeps_word D.state disk.old disk.new (SyncStep RollError.Device Db result) }
     ensures error { IfErr result (λ e. e ≡ RollError.Device) }
 {
@@ -136,12 +136,12 @@ fn zero_header<D: Disk>(disk: &mut D) -> Result<(), RollError>
     Ok(())
 }
 
-/// Makes the database stay, and then zeroes the journal's first header (fileformat2, 3).
+/// Syncs the database, and then zeroes the journal's first header (fileformat2, 3).
 pub fn finish<D: Disk>(disk: &mut D) -> Result<(), RollError>
     ensures disk { During D.keeps_word D.state disk.old disk.new (Finishes result) }
     ensures error { IfErr result (λ e. e ≡ RollError.Device) }
 {
-    settle_database(disk)?;
-    zero_header(disk)?; // once the database is down
+    sync_database(disk)?;
+    zero_header(disk)?; // once the database is durable
     Ok(())
 }

@@ -1,4 +1,4 @@
-//! The end of a commit, once the journal is down.
+//! The end of a commit, once the journal is durable.
 ghost use Rattle.std.specs.Prelude.{◌≡◌, ◌*◌, ◌<◌, ◌≤◌, length, IfErr};
 ghost use Rattle.std.specs.List.{All};
 ghost use Rattle.crashdisk.specs.During.{During};
@@ -10,7 +10,7 @@ use crate::segments::put_new_pages;
 use crashdisk::{Disk, File};
 use sqval::PageSize;
 
-/// Writes the pages that the database doesn't have yet, sets its length, and makes it stay; then ends the journal
+/// Writes the pages that the database doesn't have yet, sets its length, and syncs it; then ends the journal
 /// (own).
 pub fn end_commit<D: Disk>(
     disk: &mut D,

@@ -9,7 +9,7 @@ ghost use Rattle.crashdisk.specs.Call.{DiskState, IsSoundDisk, IsNew, Syncs, Loo
 ghost use Rattle.crashdisk.specs.declared.file.File.{File};
 ghost use Rattle.crashdisk.specs.declared.file.File.TheVariants.{Log};
 ghost use Rattle.crashdisk.specs.declared.error.DiskError.{DiskError};
-ghost use Rattle.crashdisk.specs.Keeps.{SameFiles, Suits, IsLogDown};
+ghost use Rattle.crashdisk.specs.Keeps.{SameFiles, Suits, IsLogDurable};
 ghost use Rattle.rollcore.specs.Alone.{AreWhole, journal_log};
 ghost use Rattle.rollcore.specs.Fits.{FitsDisk, FitsCore};
 ghost use Rattle.rollcore.specs.Replaying.{TearsJournal};
@@ -22,21 +22,21 @@ ghost use Rattle.recovery.specs.Moments.{IsExpected};
 ghost use Rattle.recovery.specs.Histories.{at, last};
 
 /// A disk with a base of pages that no sector that tears exceeds, and with an empty log, fits where the machine begins:
-/// one that is new, and one on which both files are down, whatever calls of it there were (own).
+/// one that is new, and one on which both files are durable, whatever calls of it there were (own).
 pub fn a_base_fits()
     ensures new { (size sector : ℕ) (torn : Bool) (base : Database) (bytes : List ℕ) (s : DiskState)
         → IsPageSize size → IsSectorSize sector → (torn ≡ true → sector ≤ size) → IsHeld size base
         → IsJust size base bytes → IsNew sector torn bytes s → FitsDisk (start size base) s }
-    ensures down { (size : ℕ) (base : Database) (bytes : List ℕ) (s : DiskState) → Suits size s → IsHeld size base
-        → IsJust size base bytes → IsSettled s.db bytes → IsLogDown s [] → FitsDisk (start size base) s }
+    ensures durable { (size : ℕ) (base : Database) (bytes : List ℕ) (s : DiskState) → Suits size s → IsHeld size base
+        → IsJust size base bytes → IsSettled s.db bytes → IsLogDurable s [] → FitsDisk (start size base) s }
 {}
 
-/// Two files that are down fit where the machine begins with the database that they show together: a hot journal that
-/// is rolled back, or one that isn't hot beside a file of whole pages. On a disk that tears a hot one names no smaller
-/// pages and no smaller sectors (own).
+/// Two files that are durable fit where the machine begins with the database that they show together: a hot journal
+/// that is rolled back, or one that isn't hot beside a file of whole pages. On a disk that tears a hot one names no
+/// smaller pages and no smaller sectors (own).
 pub fn settled_files_fit()
     ensures { (size : ℕ) (base : Database) (files : Files) (s : DiskState) → Suits size s → IsHeld size base
-        → IsSettled s.db files.db → IsLogDown s files.log → (TearsJournal s files.log → ⊥)
+        → IsSettled s.db files.db → IsLogDurable s files.log → (TearsJournal s files.log → ⊥)
         → ShowsWhole journal_log size files.db files.log base → FitsDisk (start size base) s }
 {}
 
@@ -46,9 +46,9 @@ pub fn runs_are_sane()
         → Runs Step (start page_size base) 0 moments new after → IsSane new }
 {}
 
-/// What is known to be down stays, through crashes and openings: the floor never falls, and the databases up to it
+/// What is known to be durable stays, through crashes and openings: the floor never falls, and the databases up to it
 /// stand (own).
-pub fn what_is_down_stays()
+pub fn what_is_durable_stays()
     ensures { (page_size : ℕ) (base : Database) (before later : List (Moment Act)) (old new : State) (count after : ℕ)
         → Runs Step (start page_size base) 0 before old count → Runs Step old count later new after → Keeps old new }
 {}

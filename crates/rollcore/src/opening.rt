@@ -66,8 +66,8 @@ pub(crate) fn break_magic<D: Disk>(disk: &mut D, at: u64) -> Result<bool, RollEr
     Ok(true)
 }
 
-/// Makes the log stay.
-pub(crate) fn settle_log<D: Disk>(disk: &mut D) -> Result<(), RollError>
+/// Syncs the log.
+pub(crate) fn sync_log<D: Disk>(disk: &mut D) -> Result<(), RollError>
     ensures disk { During D.keeps_word D.state disk.old disk.new (SyncStep RollError.Device Log result) }
     ensures error { IfErr result (λ e. e ≡ RollError.Device) }
 {
@@ -80,12 +80,12 @@ fn break_front<D: Disk>(disk: &mut D) -> Result<(), RollError>
     ensures { During D.keeps_word D.state disk.old disk.new (BreaksFront result) }
 {
     if break_magic(disk, 0)? {
-        settle_log(disk)?;
+        sync_log(disk)?;
     }
     Ok(())
 }
 
-/// Recovers from a log that is down, and answers how many pages the database has.
+/// Recovers from a log that is durable, and answers how many pages the database has.
 fn recover_synced<D: Disk>(
     alloc: Global,
     disk: &mut D,
@@ -113,7 +113,7 @@ fn recover<D: Disk>(alloc: Global, disk: &mut D, page_size: PageSize) -> Result<
     ensures disk { During D.keeps_word D.state disk.old disk.new (Recovers page_size result) }
     ensures few { IfOk result (λ n. n * page_size ≤ 1073741824) }
 {
-    settle_log(disk)?;
+    sync_log(disk)?;
     recover_synced(alloc, disk, page_size)
 }
 

@@ -1,4 +1,4 @@
-//! The segments of a commit: what it changes is cut into parts, and one after another comes down and is put.
+//! The segments of a commit: what it changes is cut into parts, and one after another becomes durable and is put.
 ghost use Rattle.std.specs.Prelude.{◌≡◌, ◌+◌, ◌*◌, ◌^◌, ◌<◌, ◌≤◌, ℕ, length, IfErr};
 ghost use Rattle.crashdisk.specs.During.{During};
 ghost use Rattle.rollcore.specs.internal.Committing.{PutsPart, PutsSegments, KeepsChanges};
@@ -32,7 +32,7 @@ pub struct Part {
     pub nonce: u32,
 }
 
-/// Brings a segment down by its nonce, and then puts its pages. The place of the next header.
+/// Makes a segment durable by its nonce, and then puts its pages. The place of the next header.
 fn put_part<D: Disk>(
     disk: &mut D,
     core: &mut Core,
@@ -70,7 +70,7 @@ fn put_part<D: Disk>(
     )
 }
 
-/// Brings the segments down one after another, each with its pages. Segment `k` takes nonce `k`.
+/// Makes the segments durable one after another, each with its pages. Segment `k` takes nonce `k`.
 pub(crate) fn put_segments<D: Disk>(
     disk: &mut D,
     core: &mut Core,

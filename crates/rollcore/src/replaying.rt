@@ -77,7 +77,7 @@ pub(crate) fn replay_plan<D: Disk>(disk: &mut D, plan: Plan) -> Result<Replayed,
 }
 
 /// Replays the journal into the database, where it is hot: writes the pages of its records up to the first size in
-/// order, sets the database's length to the first size, and once that is down zeroes the journal's first header.
+/// order, sets the database's length to the first size, and once that is durable zeroes the journal's first header.
 ///
 /// Refused with, in this order, `TooLarge` where the first size is above 1,073,741,824 bytes or the journal above
 /// 1,099,511,627,776, and `SectorAbovePage` where a disk that tears has larger sectors than the journal's pages or the

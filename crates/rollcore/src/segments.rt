@@ -1,5 +1,5 @@
-//! A segment of the journal: old pages are copied from the database to the journal, and once they are down, the header
-//! is written.
+//! A segment of the journal: old pages are copied from the database to the journal, and once they are durable, the
+//! header is written.
 ghost use Rattle.std.specs.Prelude.{◌≡◌, ◌+◌, ◌-◌, ◌*◌, ◌^◌, ◌<◌, ◌≤◌, ◌++◌, length, take};
 ghost use Rattle.std.specs.Prelude.{drop, replicate, Some, IfErr};
 ghost use Rattle.std.specs.List.{All};
@@ -16,7 +16,7 @@ ghost use Rattle.rollcore.specs.Journaling.{record_bytes};
 
 use crate::changes::Change;
 use crate::error::RollError;
-use crate::opening::{break_magic, settle_log};
+use crate::opening::{break_magic, sync_log};
 use byteorder::{BigEndian, ByteOrder};
 use crashdisk::{Disk, File};
 use sqjournal::{JournalHeader, next_header_at, page_sum};
@@ -115,7 +115,7 @@ fn prepare_segment<D: Disk>(
     let end = write_records(disk, buffer, changes, place + u64::from(sector), nonce)?;
     let next = next_header_at(end, sector);
     break_magic(disk, next)?;
-    settle_log(disk)?;
+    sync_log(disk)?;
     Ok(next)
 }
 
@@ -168,7 +168,7 @@ fn put_pages<D: Disk>(
     Ok(())
 }
 
-/// Writes the header of a segment whose records are down, and makes it stay.
+/// Writes the header of a segment whose records are durable, and syncs it.
 fn write_header<D: Disk>(
     disk: &mut D,
     header: &mut [u8],
@@ -207,7 +207,7 @@ pub(crate) fn put_new_pages<D: Disk>(
     Ok(())
 }
 
-/// Brings a segment of the journal down, and then puts its pages. The place of the next header.
+/// Makes a segment of the journal durable, and then puts its pages. The place of the next header.
 pub(crate) fn put_segment<D: Disk>(
     disk: &mut D,
     buffer: &mut [u8],

@@ -102,7 +102,7 @@ fn ask_all<R: AllocGlobal + Abort>(rt: &R, disk: &mut ModelDisk, asks: &[Ask<'_>
     }
 }
 
-/// A disk whose database has 512 bytes `A` that are down.
+/// A disk whose database has 512 bytes `A` that are durable.
 fn fresh<R: AllocGlobal + Abort>(rt: &R) -> ModelDisk {
     let db = done(rt, [65u8; 512].to_vec(rt.alloc()));
     done(rt, ModelDisk::new(rt.alloc(), 512, db))

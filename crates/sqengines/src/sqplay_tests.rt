@@ -175,7 +175,7 @@ static CUTS: [Put<'static>; 8] = [
     (5, 0, 0, 8, b""),
 ];
 
-/// File i of a name, of which there are so many, is to have these bytes, so many that are down, and so many in all.
+/// File i of a name, of which there are so many, is to have these bytes, so many that are durable, and so many in all.
 fn file_is<R: AllocGlobal + Abort>(
     rt: &R,
     name: &Name,

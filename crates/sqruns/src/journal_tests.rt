@@ -265,7 +265,7 @@ fn a_commit_that_stops(rt: HostRuntime) -> Result<(), Fail> {
     Ok(())
 }
 
-// The disk stops at the first call of a commit, or at a later one, but before the journal is down.
+// The disk stops at the first call of a commit, or at a later one, but before the journal is durable.
 #[test]
 fn a_commit_that_stops_at_a_call(rt: HostRuntime) -> Result<(), Fail> {
     let alloc = rt.alloc();

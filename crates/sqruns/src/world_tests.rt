@@ -278,7 +278,7 @@ fn log_found(run: &Run, opening: usize) -> Option<usize> {
     Some(run.found.get(opening)?.log.len())
 }
 
-// What is synced is down; what isn't may be lost, and what was lost doesn't come back.
+// What is synced is durable; what isn't may be lost, and what was lost doesn't come back.
 #[test]
 fn crashes(rt: HostRuntime) -> Result<(), Fail> {
     let alloc = rt.alloc();
@@ -634,7 +634,8 @@ fn hits(wal: &mut Wal<ModelDisk>) -> Result<[Hit; 3], WalError> {
     hits
 }
 
-// The frames of a page are gone through from the newest one down, and those above the reader's mark count as steps.
+// The frames of a page are gone through from the newest one backwards, and those above the reader's mark count as
+// steps.
 #[test]
 fn frames_of_two_readers(rt: HostRuntime) -> Result<(), Fail> {
     let alloc = rt.alloc();

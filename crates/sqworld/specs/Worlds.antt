@@ -16,7 +16,7 @@ use Rattle.sqworld.specs.declared.engine.Given.{Given}
 use Rattle.sqworld.specs.declared.reply.Reply.{Reply}
 use Rattle.sqworld.specs.declared.reply.Run.{Run}
 
--- a disk of the base, with an empty log, both down, and nothing set
+-- a disk of the base, with an empty log, both durable, and nothing set
 pub record BeginsOn (base : Base) (disk : ModelDisk) : Type 0 where
   pub is_size : IsPageSize base.page_size
   pub new : IsNew base.sector base.tears (concat (pages_of base.pages.items)) (state_of disk)

@@ -35,7 +35,7 @@ fn are_pages(size: usize, pages: &[Vec<u8>]) -> bool
     true
 }
 
-/// A database of pages of this size that is down, beside an empty log, on a disk with sectors of this size.
+/// A database of pages of this size that is durable, beside an empty log, on a disk with sectors of this size.
 #[derive(Drop)]
 pub struct Base {
     page_size: PageSize,

@@ -15,9 +15,9 @@ pub enum Event {
         pages: Vec<(u32, Vec<u8>)>,
         size: u32,
     },
-    /// All commits are brought down.
+    /// All commits are made durable.
     Sync,
-    /// All commits are brought down, and what the oldest reader sees into the database file.
+    /// All commits are made durable, and what the oldest reader sees is copied into the database file.
     Checkpoint,
     /// The log is begun anew with this second salt, and with the first salt of the log in force plus 1. This pair must
     /// be new as well.

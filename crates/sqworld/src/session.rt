@@ -116,7 +116,7 @@ impl Session {
         Ok(outcome(self.wal.commit(&all, size)))
     }
 
-    /// Brings all commits down.
+    /// Makes all commits durable.
     pub fn sync(&mut self) -> Reply
         ensures serves { (page_size : ℕ) → SessionServes page_size self.old self.new Syncs (answer_of result) }
         ensures begun { begun_by self.new ≡ begun_by self.old }

@@ -4,7 +4,6 @@ pub mod CommitOfExtendedLog
 pub mod EraOfExtendedLog
 pub mod DurableFrames
 pub mod PresentFrames
-pub mod FramesOfExtendedLog
 pub mod BytesOfEqualWords
 pub mod UniquenessOfExtendedLog
 pub mod LogOfHeaderAlone

@@ -11,7 +11,7 @@ use Rattle.sqval.specs.Held.{IsJust}
 use Rattle.walcore.specs.declared.folding.Folded.{Folded}
 use Rattle.walcore.specs.declared.error.WalError.{WalError}
 use Rattle.walcore.specs.declared.error.WalError.TheVariants.{TooLarge, PageSize, NoMemory, Device, SectorAbovePage}
-use Rattle.crashdisk.specs.Keeps.{KeepsBytes, IsLogDown, HadRefusal, TearsPages}
+use Rattle.crashdisk.specs.Keeps.{KeepsBytes, IsLogDurable, HadRefusal, TearsPages}
 
 -- the log has more valid frames than the limits allow, or its front's database is above them
 abbrev pub IsTooLargeWithin : Bounds → List ℕ → Type 0
@@ -22,18 +22,18 @@ IsTooLargeWithin limits w = IsValidFrame (named_size w) w (suc limits.frames)
 abbrev pub IsOfOtherSize : (size : ℕ) → List ℕ → Type 0
 IsOfOtherSize size w = IsHeader (named_size w) w × (named_size w ≢ size)
 
--- a log of no bytes is down
-abbrev pub IsEmptyDown : DiskState → Type 0
-IsEmptyDown s = s.log.len ≡ 0 → IsLogDown s []
+-- a log of no bytes is durable
+abbrev pub IsEmptyDurable : DiskState → Type 0
+IsEmptyDurable s = s.log.len ≡ 0 → IsLogDurable s []
 
--- The log w was folded into the file db. The log is empty and down. With front 0 the file is as it was, and down unless
--- there was no log; otherwise it is down, and just the view.
+-- The log w was folded into the file db. The log is empty and durable. With front 0 the file is as it was, and durable unless
+-- there was no log; otherwise it is durable, and just the view.
 pub record IsFolded (size : ℕ) (db w : List ℕ) (f : Folded) (new : DiskState) : Type 0 where
   pub front : IsFront (named_size w) w f.frames
   pub none : f.frames ≡ 0 → (f.size ≡ 0) × ArePresent new.db db × (w ≢ [] → IsSettled new.db db)
   pub some : 1 ≤ f.frames → (f.size ≡ size_of size w f.frames) × (named_size w ≡ size)
       × ((d : Database) × IsView size db w f.frames d × ((bytes : List ℕ) × IsSettled new.db bytes × IsJust size d bytes))
-  pub log : IsLogDown new []
+  pub log : IsLogDurable new []
 
 -- what a fold of pages of this size answers, and what it leaves
 abbrev pub FoldAnswerWithin : (limits : Bounds) (size : ℕ) (db w : List ℕ) → Result Folded WalError → (old new : DiskState) → Type 0

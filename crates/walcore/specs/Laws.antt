@@ -17,11 +17,11 @@ pub record IsSane (s : State) : Type 0 where
   -- a drained log has no reader of anything but the newest database
   pub newest : s.drained ≡ true → all_newest s ≡ true
 
--- what is known to be down stays: no floor falls, and the databases up to it stand; nor does the page size change
+-- what is known to be durable stays: no floor falls, and the databases up to it stand; nor does the page size change
 pub record Keeps (old new : State) : Type 0 where
   pub page_size : new.page_size ≡ old.page_size
   pub floor : old.floor ≤ new.floor
-  pub down : take (old.floor + 1) new.history ≡ take (old.floor + 1) old.history
+  pub durable : take (old.floor + 1) new.history ≡ take (old.floor + 1) old.history
 
 -- the one database that a disk shows alone stays shown
 abbrev pub KeepsShown : (old new : DiskState) → Type 0

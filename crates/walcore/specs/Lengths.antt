@@ -4,7 +4,7 @@ use Rattle.sqwal.specs.Header.{named_size}
 use Rattle.sqwal.specs.Frames.{size_of, IsFront}
 use Rattle.crashdisk.specs.State.{IsImage}
 use Rattle.crashdisk.specs.Call.{DiskState}
-use Rattle.crashdisk.specs.Keeps.{IsLogDown, IsLong}
+use Rattle.crashdisk.specs.Keeps.{IsLogDurable, IsLong}
 use Rattle.recovery.specs.Logs.{MayBeRead}
 use Rattle.walcore.specs.Alone.{wal_log}
 
@@ -20,4 +20,4 @@ pub record IsLengthOf (size : ℕ) (w : List ℕ) (n : ℕ) (s : DiskState) : Ty
 -- Where nothing of the log was unsynced: a file of whole pages, as many as the database has that file and log show, is
 -- never left without a log in another length.
 abbrev pub KeepsLength : (size : ℕ) (old new : DiskState) → Type 0
-KeepsLength size old new = (w : List ℕ) (n : ℕ) → IsLogDown old w → IsLengthOf size w n old → EndsBy n new
+KeepsLength size old new = (w : List ℕ) (n : ℕ) → IsLogDurable old w → IsLengthOf size w n old → EndsBy n new

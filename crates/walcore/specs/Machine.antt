@@ -29,7 +29,7 @@ pub record State : Type 0 where
   pub page_size : ℕ
   -- the base, and what each commit made
   pub history : List Database
-  -- the place of the last one known to be down
+  -- the place of the last one known to be durable
   pub floor : ℕ
   -- for each reader that was ever given, by its number, the place of its database, while it is open
   pub readers : List (Option ℕ)
@@ -74,7 +74,7 @@ gone s = record s { readers = forgotten s.readers; is_open = false }
 abbrev pub closed : State → State
 closed s = record s { is_open = false }
 
--- a commit, which is not known to be down
+-- a commit, which is not known to be durable
 abbrev pub committed : State → Pages → (size : ℕ) → State
 committed s pages size = record s { history = s.history ++ apply (newest s.history) pages size ∷ []; used = s.used + length pages; drained = false }
 
@@ -126,7 +126,7 @@ CommitStep old pages size (Refused number) before after new =
     Refuses (commit_refusal old pages size) true (closed (committed old pages size)) before after old number new
 CommitStep old pages size _ before after new = ⊥
 
--- all commits are down
+-- all commits are durable
 abbrev pub SyncStep : State → Answer → (before after : ℕ) → State → Type 0
 SyncStep old Done before after new = (call_refusal old ≡ None) × (new ≡ synced old)
 SyncStep old (Refused number) before after new = Refuses (call_refusal old) false (closed old) before after old number new
@@ -153,7 +153,7 @@ EndStep None old reader _ new = ⊥
 EndStep (Some i) old reader Done new = new ≡ ended old reader
 EndStep (Some i) old reader _ new = ⊥
 
--- all commits are down, and it is complete where no reader is behind
+-- all commits are durable, and it is complete where no reader is behind
 abbrev pub CheckpointStep : State → Answer → (before after : ℕ) → State → Type 0
 CheckpointStep old Complete before after new = (call_refusal old ≡ None) × IsTrue (all_newest old) × (new ≡ checkpointed old)
 CheckpointStep old Partial before after new = (call_refusal old ≡ None) × IsFalse (all_newest old) × (new ≡ checkpointed old)

@@ -23,7 +23,7 @@ ShowsHistory size logs h floor s = (w : List ℕ) → MayBeRead wal_log s w → 
 abbrev pub HasMadeHeader : List (List ℕ) → DiskState → Type 0
 HasMadeHeader logs s = (w : List ℕ) → MayBeRead wal_log s w → IsHeader (named_size w) w → (e : List ℕ) × Contains logs e × (take 32 w ≡ take 32 e)
 
--- The frames 1 to d of the log e are down: each list of listed values has them, and, but for the header alone, whatever
+-- The frames 1 to d of the log e are durable: each list of listed values has them, and, but for the header alone, whatever
 -- a disk that tears leaves. On such a disk the header stands in what was kept, and no piece that was handed over holds
 -- its place.
 pub record HoldsFrames (size : ℕ) (e : List ℕ) (d : ℕ) (s : DiskState) : Type 0 where
@@ -32,16 +32,16 @@ pub record HoldsFrames (size : ℕ) (e : List ℕ) (d : ℕ) (s : DiskState) : T
   pub kept : s.tears ≡ true → take 32 s.kept ≡ take 32 e
   pub handed : s.tears ≡ true → (write : ℕ × List ℕ) → Contains s.handed write → 32 ≤ write.0
 
--- The place of a write of the log lies behind the frames that are down; on a disk that tears so does its sector, unless no
--- frame is down.
+-- The place of a write of the log lies behind the frames that are durable; on a disk that tears so does its sector, unless no
+-- frame is durable.
 pub record IsBehind (size d at : ℕ) (s : DiskState) : Type 0 where
   pub behind : frame_end size d ≤ at
   pub apart : s.tears ≡ true → 1 ≤ d → frame_end size d ≤ at / s.sector * s.sector
 
--- Of the n frames of a log 1 to d are down, and checkpoints up to frame c were begun.
+-- Of the n frames of a log 1 to d are durable, and checkpoints up to frame c were begun.
 pub record AreMarks (size : ℕ) (e : List ℕ) (n d c : ℕ) : Type 0 where
-  pub down : d ≤ n
-  pub down_ends : IsBoundary size e d
+  pub durable : d ≤ n
+  pub durable_ends : IsBoundary size e d
   pub begun : c ≤ d
   pub begun_ends : IsBoundary size e c
 

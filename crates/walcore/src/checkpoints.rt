@@ -8,7 +8,7 @@ ghost use Rattle.walcore.specs.Bringing.{BringsOldest};
 ghost use Rattle.walcore.specs.internal.Bringing.{IsLeast, SizeAnswer, BringsOver, BringsDatabase, ClosedBy};
 ghost use Rattle.recovery.specs.Reading.{OnlyReads};
 
-use crate::copying::{copy_pages, settle_database};
+use crate::copying::{copy_pages, sync_database};
 use crate::error::WalError;
 use crate::paging::read_place;
 use crate::state::Core;
@@ -61,7 +61,7 @@ fn bring_over<D: Disk>(
     }
     let size = size_at(disk, page.len(), frame)?;
     copy_pages(disk, index, frame, size, page.len(), page)?;
-    settle_database(disk)
+    sync_database(disk)
 }
 
 /// All of the log, or a part.
@@ -88,8 +88,8 @@ fn close_on(core: &mut Core, done: Result<Checkpointed, WalError>) -> Result<Che
 }
 
 impl<D: Disk> Wal<D> {
-    /// Brings the database of the oldest open reader into the database file, once the log is down.
-    fn bring_down(&mut self) -> Result<Checkpointed, WalError>
+    /// Brings the database of the oldest open reader into the database file, once the log is durable.
+    fn copy_oldest(&mut self) -> Result<Checkpointed, WalError>
         ensures disk { During D.keeps_word D.state self.old.disk self.new.disk
             (BringsDatabase result self.old.core self.new.core) }
         ensures error { OnErr result (result ≡ Err WalError.Device) }
@@ -108,8 +108,8 @@ impl<D: Disk> Wal<D> {
         Ok(reached(all))
     }
 
-    /// Brings all commits down, as `sync` does, and the database that the oldest open reader sees, or the newest where
-    /// none is open, into the database file (fileformat2, 4.3). Refused are Closed and Device.
+    /// Makes all commits durable, as `sync` does, and copies the database that the oldest open reader sees, or the
+    /// newest where none is open, into the database file (fileformat2, 4.3). Refused are Closed and Device.
     pub fn checkpoint(&mut self) -> Result<Checkpointed, WalError>
         ensures disk { During D.keeps_word D.state self.old.disk self.new.disk
             (BringsOldest result self.old.core self.new.core) }
@@ -118,7 +118,7 @@ impl<D: Disk> Wal<D> {
         ensures memory { result ≢ Err WalError.NoMemory }
     {
         self.sync()?;
-        let done = self.bring_down();
+        let done = self.copy_oldest();
         close_on(&mut self.core, done)
     }
 }

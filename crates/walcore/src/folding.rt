@@ -79,7 +79,7 @@ pub fn fold<D: Disk>(alloc: Global, disk: &mut D, page_size: PageSize) -> Result
 }
 
 /// Folds the log into the database within these limits, and empties it: writes each page of the database at the log's
-/// front from the last committed frame that names it, sets the database's length, and once that is down zeroes the
+/// front from the last committed frame that names it, sets the database's length, and once that is durable zeroes the
 /// log's header and cuts the log to no bytes. With no committed frame the database's bytes stay. `page_size` must be
 /// the one that the log's header names, and can be any where the log has no valid header.
 ///

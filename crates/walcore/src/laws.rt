@@ -10,7 +10,7 @@ ghost use Rattle.crashdisk.specs.Call.{DiskState, IsSoundDisk, Syncs, Looks, IsC
 ghost use Rattle.crashdisk.specs.declared.file.File.{File};
 ghost use Rattle.crashdisk.specs.declared.file.File.TheVariants.{Log};
 ghost use Rattle.crashdisk.specs.declared.error.DiskError.{DiskError};
-ghost use Rattle.crashdisk.specs.Keeps.{SameFiles, IsLogDown, Suits};
+ghost use Rattle.crashdisk.specs.Keeps.{SameFiles, IsLogDurable, Suits};
 ghost use Rattle.walcore.specs.Alone.{AreWhole, wal_log};
 ghost use Rattle.walcore.specs.Fits.{Past, FitsDisk, FitsAlone, FitsCore, none_open};
 ghost use Rattle.walcore.specs.Fits.{beginning, beginning_beside};
@@ -25,23 +25,23 @@ ghost use Rattle.recovery.specs.Logs.{ShowsAlone, ShowsWhole};
 ghost use Rattle.recovery.specs.Moments.{IsExpected};
 ghost use Rattle.recovery.specs.Histories.{at, last};
 
-/// A disk with a base in its file and an empty log, both down, fits where a world begins, whatever was called of it
+/// A disk with a base in its file and an empty log, both durable, fits where a world begins, whatever was called of it
 /// before; so does one that is new.
 pub fn a_base_fits()
-    ensures down { (size : ℕ) (base : Database) (bytes : List ℕ) (s : DiskState) → Suits size s → IsHeld size base
-        → IsJust size base bytes → IsSettled s.db bytes → IsLogDown s [] → FitsAlone (beginning size base) s }
+    ensures durable { (size : ℕ) (base : Database) (bytes : List ℕ) (s : DiskState) → Suits size s → IsHeld size base
+        → IsJust size base bytes → IsSettled s.db bytes → IsLogDurable s [] → FitsAlone (beginning size base) s }
     // no sector that tears exceeds a page
     ensures new { (size sector : ℕ) (torn : Bool) (base : Database) (bytes : List ℕ) (s : DiskState)
         → IsPageSize size → IsSectorSize sector → (torn ≡ true → sector ≤ size) → IsHeld size base
         → IsJust size base bytes → IsNew sector torn bytes s → FitsAlone (beginning size base) s }
 {}
 
-/// Two files that are down fit where a world begins with the database that they show together, whatever the log holds
-/// (own). Files that an opening may take show one, and what their log holds may count as made, so that an opening finds
-/// nothing that passes by chance.
+/// Two files that are durable fit where a world begins with the database that they show together, whatever the log
+/// holds (own). Files that an opening may take show one, and what their log holds may count as made, so that an opening
+/// finds nothing that passes by chance.
 pub fn settled_files_fit()
     ensures fits { (size : ℕ) (base : Database) (logs : List (List ℕ)) (files : Files) (s : DiskState) → Suits size s
-        → IsHeld size base → AreMade size logs → IsSettled s.db files.db → IsLogDown s files.log
+        → IsHeld size base → AreMade size logs → IsSettled s.db files.db → IsLogDurable s files.log
         → ShowsWhole wal_log size files.db files.log base → FitsAlone (beginning_beside size base logs) s }
     ensures shown { (size : ℕ) (files : Files) (s : DiskState) → IsPageSize size → MayOpen size files s
         → (base : Database) × IsHeld size base × ShowsWhole wal_log size files.db files.log base }
@@ -97,9 +97,9 @@ pub fn runs_are_sane()
         → Runs Step (start page_size base) 0 moments new after → IsSane new }
 {}
 
-/// What is known to be down stays, through crashes and openings: the floor never falls, and the databases up to it
+/// What is known to be durable stays, through crashes and openings: the floor never falls, and the databases up to it
 /// stand (own).
-pub fn what_is_down_stays()
+pub fn what_is_durable_stays()
     ensures { (page_size : ℕ) (base : Database) (before later : List (Moment Act)) (old new : State) (count after : ℕ)
         → Runs Step (start page_size base) 0 before old count → Runs Step old count later new after → Keeps old new }
 {}

@@ -5,19 +5,19 @@
 //! head has a size ends a commit, of a database of so many pages; what stands behind the last such frame doesn't count.
 //!
 //! A commit writes a frame for each of its pages behind the last one, one call each, and the size on the last of them
-//! (fileformat2, 4.1). It syncs nothing. A crash leaves all commits up to one of them: none that was down is lost, and
-//! none is left in part.
+//! (fileformat2, 4.1). It syncs nothing. A crash leaves all commits up to one of them: none that was durable is lost,
+//! and none is left in part.
 //!
-//! A sync brings all commits down by a sync of the log. On a disk that tears, where the last commit isn't down and the
-//! log doesn't end at the end of a sector, a copy of the last frame is written behind it first, so that what is written
-//! later tears no sector of that commit, but at most the copy.
+//! A sync makes all commits durable by a sync of the log. On a disk that tears, where the last commit isn't durable and
+//! the log doesn't end at the end of a sector, a copy of the last frame is written behind it first, so that what is
+//! written later tears no sector of that commit, but at most the copy.
 //!
 //! A read takes the last frame up to the reader's mark that names the page, or the file where none does (fileformat2,
 //! 4.5). It is one call of the disk.
 //!
 //! A checkpoint (fileformat2, 4.3) has this order:
 //!
-//! 1. All commits are brought down, as by a sync.
+//! 1. All commits are made durable, as by a sync.
 //! 2. The pages of the database that the oldest open reader sees, or the newest where none is open, are written into
 //!    the file, each from its last frame up to there, and the file's length is set.
 //! 3. The file is synced. The log stays as it was: until here a crash shows by its frames what the file has in part.
@@ -32,9 +32,9 @@
 //! leaves the same database shown, so that a fold that was cut off is called again. An opening folds the log, writes
 //! the header of a new one, and syncs that before any frame is written.
 //!
-//! So the file is written from frames that are down alone, and a header only once the file is down. A call of the disk
-//! that is refused closes the engine, but for a read's. All of it rests on the premise that what counts in a log that
-//! is opened as a header or a frame was made as one (specs/Made.antt).
+//! So the file is written from frames that are durable alone, and a header only once the file is durable. A call of the
+//! disk that is refused closes the engine, but for a read's. All of it rests on the premise that what counts in a log
+//! that is opened as a header or a frame was made as one (specs/Made.antt).
 #![tactic(auto)]
 
 mod checkpoints;
@@ -61,10 +61,10 @@ pub use error::WalError;
 pub use folding::{Folded, fold, fold_synced, fold_within};
 pub use laws::{
     a_base_fits, a_crash_fits, a_look_fits, one_is_shown, one_step, runs_are_sane,
-    settled_files_fit, what_is_down_stays, what_is_shown_stays,
+    settled_files_fit, what_is_durable_stays, what_is_shown_stays,
 };
 pub use logs::logs_are_determined;
 pub use plan::index_of;
 pub use reader::Reader;
 pub use wal::{Checkpointed, Refused, Wal};
-pub use worked::{crashes_lose_what_is_not_down, no_runs, readers_are_waited_for};
+pub use worked::{crashes_lose_what_is_not_durable, no_runs, readers_are_waited_for};

@@ -6,7 +6,7 @@ ghost use Rattle.walcore.specs.Rows.{NoLostSync, NoSkipped, NoReturn, NoOtherPag
 /// What crashes, and calls that the disk refuses, leave: what was synced is shown; what wasn't may be lost, and is then
 /// lost for good; a restart that was stopped loses nothing; after a failed sync the machine is closed; and a crash
 /// forgets the readers.
-pub fn crashes_lose_what_is_not_down()
+pub fn crashes_lose_what_is_not_durable()
     ensures synced { Synced }
     ensures lost { Lost }
     ensures lost_for_good { LostForGood }

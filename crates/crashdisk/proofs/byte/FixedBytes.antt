@@ -57,17 +57,6 @@ alters_write sector tears at bytes old new sound sound_new changed =
       whole = λ torn touched none. ⊎_elim (λ meets. out (inr (torn, meets))) (λ stale. stale_before sector old (max old.len (at + length bytes)) i sound stale none) touched;
     })
 
--- A change of the length that doesn't shorten the file alters no byte.
-pub alters_cut : (sector : ℕ) (tears : Bool) (n from to : ℕ) (old new : FileState) → IsSound sector old → IsSound sector new → Changed sector (CutTouches sector old n) (cut_to old n) n old new
-    → old.len ≤ n → n ≤ max old.len to → AltersFile sector tears from to old new
-alters_cut sector tears n from to old new sound sound_new changed longer within =
-    alters_by sector tears (CutTouches sector old n) (cut_to old n) n from to old new sound sound_new changed longer within
-    (λ i out. record {
-      below = λ below. cut_below old n i (omega arith) ∙ byte_below old i below;
-      past = λ past. ⊎_elim (λ lt. cut_below old n i lt ∙ byte_past old i past) (λ le. cut_past old n i le) (cases_lt i n);
-      whole = λ torn touched none. ⊎_elim (λ meets. omega (arith, meets.1, meets.2)) (λ stale. stale_before sector old n i sound stale none) touched;
-    })
-
 -- Where all of the range lies in one sector of a disk that doesn't tear, the write is there whole or not at all, in a
 -- file that has the range.
 pub whole_write : (sector at : ℕ) (bytes : List ℕ) (old new : FileState) → IsSound sector old
@@ -86,17 +75,6 @@ whole_write sector at bytes old new sound changed one c image long =
     plus_minus : (m n : ℕ) → m + n - m ≡ n
     plus_minus m n = omega arith
 
--- What alters a range keeps the bytes that are fixed outside it.
-pub fixed_altered : (sector : ℕ) (tears : Bool) (from to : ℕ) (old new : FileState) (i b : ℕ) → AltersFile sector tears from to old new
-    → IsSound sector old → IsFixed sector tears old i b → (Spreads sector tears from to i → ⊥) → IsFixed sector tears new i b
-fixed_altered sector tears from to old new i b alters sound fixed out = record {
-  within = omega (arith, fixed.within, alters.least);
-  each = λ c image.
-      let was = alters.comes c image in
-      let lt : i < length was.file = omega (arith, fixed.within, was.image.least) in
-      ⊎_elim (λ same. same ∙ fixed.each was.file was.image) (λ past. absurd (omega (arith, past.0, fixed.within, sound.least))) (was.each i lt out);
-}
-
 -- the present bytes are among those that a crash may leave
 pub image_present : (sector : ℕ) (tears : Bool) (s : FileState) → IsSound sector s → IsImage sector tears s (table s.len (byte s))
 image_present sector tears s sound = record {
@@ -104,11 +82,6 @@ image_present sector tears s sound = record {
   greatest = omega (arith, length-table s.len (byte s), sound.greatest);
   each = λ k. inl (λ i e lt. let below : i < s.len = omega (arith, length-table s.len (byte s)) in get_or-table s.len (byte s) i below ∙ byte_below s i below);
 }
-
--- a byte that is fixed is the present one
-pub fixed_present : (sector : ℕ) (tears : Bool) (s : FileState) (i b : ℕ) → IsSound sector s → IsFixed sector tears s i b → byte s i ≡ b
-fixed_present sector tears s i b sound fixed =
-    sym (get_or-table s.len (byte s) i (omega (arith, fixed.within, sound.least))) ∙ fixed.each (table s.len (byte s)) (image_present sector tears s sound)
 
 -- A sync that succeeds fixes each present byte.
 pub fixed_sync : (sector : ℕ) (tears : Bool) (old new : FileState) (i : ℕ) → IsSynced old new → i < old.len → IsFixed sector tears new i (byte old i)
@@ -159,12 +132,4 @@ byte_cut sector n old new changed done i = elim (cases_lt i new.len) [
       ]
     ])
   ]
-]
-
--- A present byte stays where the call puts it, whether it is carried out or fails.
-pub byte_kept : (sector : ℕ) (touches : ℕ → Type 0) (target : Value) (end : ℕ) (old new : FileState) → Changed sector touches target end old new
-    → (i : ℕ) → i < old.len → i < end → target i ≡ byte old i → byte new i ≡ byte old i
-byte_kept sector touches target end old new changed i lt lt_end same = byte_below new i (omega (arith, changed.len)) ∙ elim (changed.each (i / sector)) [
-  | inl kept ↦ kept.1.present i refl ∙ sym (byte_below old i lt)
-  | inr touched ↦ ⊎_elim (λ taken. taken.present i refl ∙ same) (λ left. left.present i refl ∙ sym (byte_below old i lt)) touched.1
 ]

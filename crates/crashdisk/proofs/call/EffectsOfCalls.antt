@@ -4,7 +4,7 @@ use Rattle.std.proofs.Common.{◌≡◌, ◌⊎◌, inl, inr, ⊎_elim, ℕ, ◌
 use Rattle.std.proofs.lemmas.Bool.{cases_lt}
 use Rattle.std.specs.Prelude.{IsTrue, Result, Ok, Err}
 use Rattle.crashdisk.specs.State.{FileState, byte, IsImage, IsSound, Meets, Changed, WriteTouches, written, CutTouches, cut_to, IsSettled}
-use Rattle.crashdisk.specs.Call.{DiskState, of, other, counted, Elsewhere, Writes, Cuts, Syncs, Looks, ChangedBy, SyncedBy, ArePresent, IsCrash}
+use Rattle.crashdisk.specs.Call.{DiskState, of, other, counted, Elsewhere, Writes, Cuts, Syncs, Looks, ChangedBy, SyncedBy, ArePresent}
 use Rattle.crashdisk.specs.Facts.{IsFixed, HasFixed}
 use Rattle.crashdisk.specs.internal.Facts.{Fixed, IsSteady, Steady, Spreads, IsClear, NewOrOld}
 use Rattle.crashdisk.specs.declared.file.File.{File}
@@ -23,17 +23,6 @@ use Rattle.crashdisk.proofs.byte.SteadyBytes.{steady_present, steady_write, stea
 
 moved : (P : ℕ → Bool → FileState → Type 0) (m n : ℕ) (a b : Bool) (s t : FileState) → n ≡ m → b ≡ a → t ≡ s → P m a s → P n b t
 moved P m n a b s t e f g p = subst (λ (x : ℕ). P x b t) (sym e) (subst (λ (x : Bool). P m x t) (sym f) (subst (λ (x : FileState). P m a x) (sym g) p))
-
--- the other file, under a write, a change of the length or a sync
-pub kept_elsewhere : {T : Type 0} (P : ℕ → Bool → FileState → Type 0) (f : File) (result : Result T DiskError) (old new : DiskState) → Elsewhere f result old new
-    → P old.sector old.tears (of (other f) old) → P new.sector new.tears (of (other f) new)
-kept_elsewhere P f result old new elsewhere p = moved P old.sector new.sector old.tears new.tears (of (other f) old) (of (other f) new) elsewhere.sector elsewhere.tears elsewhere.other p
-
--- either file, under a look
-pub kept_looks : {T : Type 0} (P : ℕ → Bool → FileState → Type 0) (f : File) (end : ℕ) (result : Result T DiskError) (old new : DiskState) → Looks end result old new
-    → P old.sector old.tears (of f old) → P new.sector new.tears (of f new)
-kept_looks P Db end result old new looked p = moved P old.sector new.sector old.tears new.tears old.db new.db looked.sector looked.tears looked.db p
-kept_looks P Log end result old new looked p = moved P old.sector new.sector old.tears new.tears old.log new.log looked.sector looked.tears looked.log p
 
 -- ---- Images.
 
@@ -212,15 +201,6 @@ settled_syncs f result old new c synced settled = by result synced.file
     by (Err Stopped) e = left e
     by (Err TooLong) e = left e
     by (Err NoMemory) e = left e
-
-abbrev pub left_of : File → List ℕ → List ℕ → List ℕ
-left_of Db db log = db
-left_of Log db log = log
-
--- A crash leaves one image of each file, which was one before it.
-pub one_crashed : (f : File) (db log : List ℕ) (old new : DiskState) → IsCrash db log old new → (d : List ℕ) → IsImage new.sector new.tears (of f new) d → d ≡ left_of f db log
-one_crashed Db db log old new crashed d image = settled_one new.db db crashed.db_left new.sector new.tears d image
-one_crashed Log db log old new crashed d image = settled_one new.log log crashed.log_left new.sector new.tears d image
 
 -- ---- Present bytes.
 

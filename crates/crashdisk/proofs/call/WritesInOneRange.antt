@@ -1,7 +1,7 @@
 -- What runs of calls leave that write in one range of a file.
 use Rattle.std.proofs.Common.{inl, inr, ⊎_elim, ℕ, ◌+◌, ◌≤◌, max, Bool, List, length, refl, sym, ◌∙◌, subst, arith}
 use Rattle.std.specs.Prelude.{Result, Ok, Err}
-use Rattle.crashdisk.specs.State.{FileState, IsImage, IsSound, WriteTouches, written, CutTouches, cut_to}
+use Rattle.crashdisk.specs.State.{FileState, IsImage, IsSound, WriteTouches, written}
 use Rattle.crashdisk.specs.Call.{DiskState, of, Writes, Syncs, ChangedBy, SyncedBy}
 use Rattle.crashdisk.specs.internal.Facts.{Spreads, AltersFile, Alters}
 use Rattle.crashdisk.specs.declared.file.File.{File}
@@ -10,7 +10,7 @@ use Rattle.crashdisk.specs.declared.error.DiskError.TheVariants.{Stopped, Failed
 use Rattle.crashdisk.proofs.call.SequencesOfCalls.{no_calls, one_write, one_sync, calls_then}
 use Rattle.crashdisk.proofs.sync.ImagesAfterFailedSync.{image_shuffled}
 use Rattle.crashdisk.proofs.sync.ImagesAfterSync.{image_synced}
-use Rattle.crashdisk.proofs.byte.FixedBytes.{alters_write, alters_cut}
+use Rattle.crashdisk.proofs.byte.FixedBytes.{alters_write}
 use Rattle.crashdisk.proofs.call.SoundDiskUnderCalls.{sound_written, sound_sync}
 
 -- On the states of one file.
@@ -72,14 +72,6 @@ module _ (sector : ℕ) (tears : Bool) where
   file_written at bytes (Err Stopped) old new sound after same = subst (λ (s : FileState). AltersFile sector tears at (at + length bytes) old s) (sym same) (file_same at (at + length bytes) old sound)
   file_written at bytes (Err TooLong) old new sound after same = subst (λ (s : FileState). AltersFile sector tears at (at + length bytes) old s) (sym same) (file_same at (at + length bytes) old sound)
   file_written at bytes (Err NoMemory) old new sound after same = subst (λ (s : FileState). AltersFile sector tears at (at + length bytes) old s) (sym same) (file_same at (at + length bytes) old sound)
-
-  file_cut : {T : Type 0} (n from to : ℕ) (result : Result T DiskError) (old new : FileState) → IsSound sector old → IsSound sector new → old.len ≤ n → n ≤ max old.len to
-      → ChangedBy sector (CutTouches sector old n) (cut_to old n) n result old new → AltersFile sector tears from to old new
-  file_cut n from to (Ok _) old new sound after longer within changed = alters_cut sector tears n from to old new sound after changed.0 longer within
-  file_cut n from to (Err Failed) old new sound after longer within changed = alters_cut sector tears n from to old new sound after changed longer within
-  file_cut n from to (Err Stopped) old new sound after longer within same = subst (λ (s : FileState). AltersFile sector tears from to old s) (sym same) (file_same from to old sound)
-  file_cut n from to (Err TooLong) old new sound after longer within same = subst (λ (s : FileState). AltersFile sector tears from to old s) (sym same) (file_same from to old sound)
-  file_cut n from to (Err NoMemory) old new sound after longer within same = subst (λ (s : FileState). AltersFile sector tears from to old s) (sym same) (file_same from to old sound)
 
   file_synced : {T : Type 0} (from to : ℕ) (result : Result T DiskError) (old new : FileState) → IsSound sector old → IsSound sector new → SyncedBy sector result old new → AltersFile sector tears from to old new
   file_synced from to (Ok _) old new sound after synced = narrows from to old new after (omega (arith, synced.least, sound.least)) (omega (arith, synced.len)) (image_synced sector tears old new sound synced)

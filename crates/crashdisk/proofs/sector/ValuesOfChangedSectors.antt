@@ -6,7 +6,7 @@ use Rattle.std.proofs.lemmas.Bool.{cases_lt}
 use Rattle.std.proofs.lemmas.Bool.Decides.{nat_tests}
 use Rattle.std.proofs.Math.Nat.{mod-lt}
 use Rattle.std.proofs.Math.Seq.{drop-append_seam}
-use Rattle.crashdisk.specs.State.{Value, FileState, Changed, Kept, Added, IsDone, cut_to}
+use Rattle.crashdisk.specs.State.{FileState, Changed, Kept, Added, IsDone, cut_to}
 use Rattle.crashdisk.specs.Held.{value_of, last_of, before_last, file_by}
 use Rattle.crashdisk.specs.internal.Held.{put_byte, IsPut, swapped}
 use Rattle.crashdisk.proofs.sector.PlacesInSectors.{inside, place_in}
@@ -69,9 +69,6 @@ module _ (sector from keep : ℕ) (bytes : List ℕ) (xs ys : List (List (List �
 
   new : FileState
   new = file_by sector ys len2 least2 greatest2
-
-  target : Value
-  target i = put_byte from keep bytes i (value_of sector (last_of (get_or xs (i / sector) [])) i)
 
   at_sector : (k i : ℕ) (zs : List (List (List ℕ))) → i / sector ≡ k → value_of sector (last_of (get_or zs (i / sector) [])) i ≡ get_or (last_of (get_or zs k [])) (i % sector) 0
   at_sector k i zs is = ap (λ (j : ℕ). get_or (last_of (get_or zs j [])) (i % sector) 0) is

@@ -9,7 +9,7 @@ use Rattle.std.proofs.lemmas.Grind.{same_number_lists}
 use Rattle.std.proofs.Math.Seq.{take-add}
 use Rattle.crashdisk.specs.State.{FileState, byte, OneListed, IsImage, IsSound, IsSettled}
 use Rattle.crashdisk.specs.Call.{DiskState, IsSoundDisk, ArePresent, with_write, SyncedBy, SinceSync, Writes, Cuts, Syncs, Looks}
-use Rattle.crashdisk.specs.Keeps.{IsLogDown}
+use Rattle.crashdisk.specs.Keeps.{IsLogDurable}
 use Rattle.crashdisk.specs.declared.file.File.{File}
 use Rattle.crashdisk.specs.declared.file.File.TheVariants.{Db, Log}
 use Rattle.crashdisk.specs.declared.error.DiskError.{DiskError}
@@ -61,54 +61,54 @@ image_listed sector tears s c image = record { least = image.least; greatest = i
 -- ---- Nothing of the log is unsynced.
 
 module _ (w : List ℕ) where
-  pub down_one : (s : DiskState) → IsLogDown s w → (sector : ℕ) (tears : Bool) (v : List ℕ) → IsImage sector tears s.log v → v ≡ w
-  down_one s down sector tears v image = settled_one s.log w down.settled sector tears v image
+  pub down_one : (s : DiskState) → IsLogDurable s w → (sector : ℕ) (tears : Bool) (v : List ℕ) → IsImage sector tears s.log v → v ≡ w
+  down_one s durable sector tears v image = settled_one s.log w durable.settled sector tears v image
 
   -- it is present, and no other
-  pub down_present : (s : DiskState) → IsLogDown s w → ArePresent s.log w
-  down_present s down = settled_present s.log w down.settled
+  pub down_present : (s : DiskState) → IsLogDurable s w → ArePresent s.log w
+  down_present s durable = settled_present s.log w durable.settled
 
-  pub down_present_one : (s : DiskState) → IsLogDown s w → (v : List ℕ) → ArePresent s.log v → v ≡ w
-  down_present_one s down v are = same_present s.log v w are (down_present s down)
+  pub down_present_one : (s : DiskState) → IsLogDurable s w → (v : List ℕ) → ArePresent s.log v → v ≡ w
+  down_present_one s durable v are = same_present s.log v w are (down_present s durable)
 
-  pub down_by : (old new : DiskState) → IsLogDown old w → new.log ≡ old.log → new.tears ≡ old.tears → new.kept ≡ old.kept → new.handed ≡ old.handed → IsLogDown new w
-  down_by old new down log tears kept handed = record {
-    settled = subst (λ (s : FileState). IsSettled s w) (sym log) down.settled;
-    kept = λ torn. kept ∙ down.kept (sym tears ∙ torn);
-    handed = handed ∙ down.handed;
+  pub down_by : (old new : DiskState) → IsLogDurable old w → new.log ≡ old.log → new.tears ≡ old.tears → new.kept ≡ old.kept → new.handed ≡ old.handed → IsLogDurable new w
+  down_by old new durable log tears kept handed = record {
+    settled = subst (λ (s : FileState). IsSettled s w) (sym log) durable.settled;
+    kept = λ torn. kept ∙ durable.kept (sym tears ∙ torn);
+    handed = handed ∙ durable.handed;
   }
 
   module _ {T : Type 0} where
-    pub down_looks : (end : ℕ) (result : Result T DiskError) (old new : DiskState) → IsLogDown old w → Looks end result old new → IsLogDown new w
-    down_looks end result old new down looked = down_by old new down looked.log looked.tears looked.kept looked.handed
+    pub down_looks : (end : ℕ) (result : Result T DiskError) (old new : DiskState) → IsLogDurable old w → Looks end result old new → IsLogDurable new w
+    down_looks end result old new durable looked = down_by old new durable looked.log looked.tears looked.kept looked.handed
 
     same_handed : (tears : Bool) (result : Result T DiskError) (at : ℕ) (bytes : List ℕ) (handed : List (ℕ × List ℕ)) → with_write tears Db result at bytes handed ≡ handed
     same_handed true result at bytes handed = refl
     same_handed false result at bytes handed = refl
 
     -- the log is left alone where the file is written
-    pub down_writes : (at : ℕ) (bytes : List ℕ) (result : Result T DiskError) (old new : DiskState) → IsLogDown old w → Writes Db at bytes result old new → IsLogDown new w
-    down_writes at bytes result old new down wrote = down_by old new down wrote.elsewhere.other wrote.elsewhere.tears wrote.kept (wrote.handed ∙ same_handed old.tears result at bytes old.handed)
+    pub down_writes : (at : ℕ) (bytes : List ℕ) (result : Result T DiskError) (old new : DiskState) → IsLogDurable old w → Writes Db at bytes result old new → IsLogDurable new w
+    down_writes at bytes result old new durable wrote = down_by old new durable wrote.elsewhere.other wrote.elsewhere.tears wrote.kept (wrote.handed ∙ same_handed old.tears result at bytes old.handed)
 
-    pub down_cuts : (n : ℕ) (result : Result T DiskError) (old new : DiskState) → IsLogDown old w → Cuts Db n result old new → IsLogDown new w
-    down_cuts n result old new down cut = down_by old new down cut.elsewhere.other cut.elsewhere.tears cut.kept cut.handed
+    pub down_cuts : (n : ℕ) (result : Result T DiskError) (old new : DiskState) → IsLogDurable old w → Cuts Db n result old new → IsLogDurable new w
+    down_cuts n result old new durable cut = down_by old new durable cut.elsewhere.other cut.elsewhere.tears cut.kept cut.handed
 
     pub since_db : (tears : Bool) (result : Result T DiskError) (old new : DiskState) → SinceSync tears Db result old new → (new.kept ≡ old.kept) × (new.handed ≡ old.handed)
     since_db true result old new since = since
     since_db false result old new since = since
 
-    since_log : (tears : Bool) (result : Result T DiskError) (old new : DiskState) → IsLogDown old w → SinceSync tears Log result old new → (tears ≡ true → old.kept ≡ w) → (tears ≡ true → new.kept ≡ w) × (new.handed ≡ [])
-    since_log true (Ok u) old new down since kept = (λ torn. down_present_one old down new.kept since.0, since.1)
-    since_log true (Err e) old new down since kept = (λ torn. since.0 ∙ kept torn, since.1 ∙ down.handed)
-    since_log false result old new down since kept = (λ torn. since.0 ∙ kept torn, since.1 ∙ down.handed)
+    since_log : (tears : Bool) (result : Result T DiskError) (old new : DiskState) → IsLogDurable old w → SinceSync tears Log result old new → (tears ≡ true → old.kept ≡ w) → (tears ≡ true → new.kept ≡ w) × (new.handed ≡ [])
+    since_log true (Ok u) old new durable since kept = (λ torn. down_present_one old durable new.kept since.0, since.1)
+    since_log true (Err e) old new durable since kept = (λ torn. since.0 ∙ kept torn, since.1 ∙ durable.handed)
+    since_log false result old new durable since kept = (λ torn. since.0 ∙ kept torn, since.1 ∙ durable.handed)
 
-    pub down_syncs : (f : File) (result : Result T DiskError) (old new : DiskState) → IsLogDown old w → Syncs f result old new → IsLogDown new w
-    down_syncs Db result old new down synced =
+    pub down_syncs : (f : File) (result : Result T DiskError) (old new : DiskState) → IsLogDurable old w → Syncs f result old new → IsLogDurable new w
+    down_syncs Db result old new durable synced =
         let since = since_db old.tears result old new synced.since in
-        down_by old new down synced.elsewhere.other synced.elsewhere.tears since.0 since.1
-    down_syncs Log result old new down synced =
-        let since = since_log old.tears result old new down synced.since down.kept in record {
-          settled = settled_syncs Log result old new w synced down.settled;
+        down_by old new durable synced.elsewhere.other synced.elsewhere.tears since.0 since.1
+    down_syncs Log result old new durable synced =
+        let since = since_log old.tears result old new durable synced.since durable.kept in record {
+          settled = settled_syncs Log result old new w synced durable.settled;
           kept = λ torn. since.0 (sym synced.elsewhere.tears ∙ torn);
           handed = since.1;
         }
@@ -130,13 +130,13 @@ log_syncs sector tears (Err TooLong) old new sound same v image = subst (λ (s :
 log_syncs sector tears (Err NoMemory) old new sound same v image = subst (λ (s : FileState). IsImage sector tears s v) same image
 
 -- after a sync nothing of the log is unsynced
-pub synced_down : {T : Type 0} {u : T} (w : List ℕ) (s t : DiskState) → IsSoundDisk s → ArePresent s.log w → Syncs Log (Ok u) s t → IsLogDown t w
+pub synced_down : {T : Type 0} {u : T} (w : List ℕ) (s t : DiskState) → IsSoundDisk s → ArePresent s.log w → Syncs Log (Ok u) s t → IsLogDurable t w
 synced_down {T} {u} w s t sound are synced = by s.tears refl synced.since
   where
     settled : IsSettled t.log w
     settled = settled_sync Log s t w sound.log synced are
 
-    by : (b : Bool) → b ≡ s.tears → SinceSync b Log (Ok u) s t → IsLogDown t w
+    by : (b : Bool) → b ≡ s.tears → SinceSync b Log (Ok u) s t → IsLogDurable t w
     by true e since = record { settled = settled; kept = λ torn. same_present s.log t.kept w since.0 are; handed = since.1 }
     by false e since =
         let whole : t.tears ≡ false = synced.elsewhere.tears ∙ sym e in

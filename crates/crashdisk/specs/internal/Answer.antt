@@ -53,7 +53,7 @@ pub record IsAnswered {T : Type 0} (manner : Manner) (intent : Intent) (result :
   pub within : EndsWithin result intent.reach
 
 -- what a sync of a file answers, and what it leaves then
-pub record IsDown {T : Type 0} (manner : Manner) (result : Result T DiskError) (old new : FileState) : Type 0 where
+pub record IsSyncAnswered {T : Type 0} (manner : Manner) (result : Result T DiskError) (old new : FileState) : Type 0 where
   pub synced : SyncedBy manner.sector result old new
   pub turned : TurnedBy manner.sector manner.part.now result old new
   pub judged : Judged false manner.fails false result

@@ -2,9 +2,7 @@
 use Rattle.std.proofs.Common.{◌≡◌, ℕ, ◌≤◌, false, ◌∷◌, [], arith}
 use Rattle.std.specs.Prelude.{nat_lt, None}
 use Rattle.std.proofs.lemmas.Bool.Decides.{nat_tests}
-use Rattle.sqval.specs.Database.{Pages}
-use Rattle.sqval.specs.CommitFaults.{page_faults}
-use Rattle.sqval.proofs.database.FaultlessCommit.{IsFaultless, faultless, none_both, one_none}
+use Rattle.recovery.proofs.Words.{Pages, page_faults, IsFaultless, faultless, none_both, one_none}
 use Rattle.rollcore.specs.Machine.{recorded, segments_of, refusal_of}
 
 module _ (old_size page_size : ℕ) (pages : Pages) (size nonces : ℕ) (none : refusal_of old_size page_size pages size nonces ≡ None) where

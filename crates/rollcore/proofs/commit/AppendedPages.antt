@@ -6,15 +6,9 @@ use Rattle.std.specs.Borrow.{Bor}
 use Rattle.std.proofs.lemmas.Bool.Decides.{nat_tests}
 use Rattle.std.proofs.lemmas.List.{append-nil, take_all, take_more, get_or-map, length-map}
 use Rattle.std.proofs.lemmas.List.Elements.{Contains-append_cases, Contains-push_cases}
-use Rattle.sqval.specs.CommitFaults.{most_bytes}
-use Rattle.sqval.specs.Database.{Database, Pages, page}
-use Rattle.sqval.specs.JudgedPages.{lent}
-use Rattle.crashdisk.specs.Call.{DiskState, Writes}
-use Rattle.crashdisk.specs.declared.file.File.TheVariants.{Db}
-use Rattle.crashdisk.specs.declared.error.DiskError.{DiskError}
+use Rattle.recovery.proofs.Words.{most_bytes, Database, Pages, page, lent, DiskState, Writes, Db, DiskError, refusal_after}
 use Rattle.rollcore.specs.internal.Segments.{Journaled, Harmless, ArePut, PageStep, AreSome, AreOf, new_numbers}
 use Rattle.rollcore.specs.declared.error.RollError.{RollError}
-use Rattle.crashdisk.proofs.call.UnchangingCalls.{refusal_after}
 use Rattle.rollcore.proofs.commit.OverwrittenPages.{journaled_writes, journaled_unharmed, put_writes, page_refused, page_done}
 
 new_more : (n : ℕ) (xs : Pages) (x : ℕ × List ℕ) → n < x.0 → new_numbers n (xs ++ x ∷ []) ≡ new_numbers n xs ++ x.0 ∷ []

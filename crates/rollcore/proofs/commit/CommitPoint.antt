@@ -1,18 +1,10 @@
--- The end of a commit: zeros are written over the journal's first header, and come down.
-use Rattle.std.proofs.Common.{◌≡◌, ◌⊎◌, inl, inr, ⊎_elim, ℕ, ◌+◌, ◌<◌, ◌≤◌, true, false, List, ◌∷◌, ◌++◌, length, get_or, replicate, refl, sym, ◌∙◌, subst, arith, []}
+-- The end of a commit: zeros are written over the journal's first header, and come durable.
+use Rattle.std.proofs.Common.{◌≡◌, ◌⊎◌, inl, inr, ⊎_elim, ℕ, ◌<◌, ◌≤◌, true, false, List, ◌∷◌, length, get_or, replicate, refl, sym, ◌∙◌, subst, arith, []}
 use Rattle.std.specs.Prelude.{Result, Ok}
 use Rattle.std.proofs.lemmas.Bool.{cases_lt}
 use Rattle.std.proofs.lemmas.List.{get_or-replicate, get_or_past, length-replicate}
-use Rattle.sqval.specs.Bytes.{word}
-use Rattle.sqval.specs.PageSize.{IsPageSize}
-use Rattle.sqval.specs.Database.{Database}
-use Rattle.sqval.specs.Held.{IsJust}
+use Rattle.recovery.proofs.Words.{word, IsPageSize, Database, IsJust, FileState, IsImage, IsSound, IsSettled, DiskState, Writes, Syncs, Log, DiskError, settled_one, sector_some, file_count, down_present, MayBeRead, ShowsWhole, Overwritten, written_read}
 use Rattle.sqjournal.specs.Journal.{IsHot}
-use Rattle.crashdisk.specs.State.{FileState, IsImage, IsSound, IsSettled}
-use Rattle.crashdisk.specs.Call.{DiskState, Writes, Syncs}
-use Rattle.crashdisk.specs.declared.file.File.TheVariants.{Log}
-use Rattle.crashdisk.specs.declared.error.DiskError.{DiskError}
-use Rattle.crashdisk.proofs.byte.SettledFiles.{settled_one}
 use Rattle.rollcore.specs.Alone.{AreWhole, journal_log}
 use Rattle.rollcore.specs.Fits.{Rests}
 use Rattle.rollcore.specs.internal.Commits.{ShowsEither}
@@ -20,16 +12,11 @@ use Rattle.rollcore.specs.Replaying.{zeroed}
 use Rattle.rollcore.specs.internal.Journaling.{IsJournaled}
 use Rattle.rollcore.specs.internal.Segments.{IsAt, Journaled}
 use Rattle.rollcore.proofs.journal.EquivalentJournals.{hot_long}
-use Rattle.crashdisk.proofs.page.PlacesOfPages.{sector_some}
-use Rattle.sqval.proofs.page.FilePages.{file_count}
-use Rattle.crashdisk.proofs.sync.BytesOfSyncedLog.{down_present}
 use Rattle.rollcore.proofs.replays.ZeroedHeader.{zeroed_listed, zeroed_torn}
 use Rattle.rollcore.proofs.replays.FinalSteps.{zero_done}
 use Rattle.rollcore.proofs.journal.UnharmedOldDatabase.{sectors_of, has_others}
 use Rattle.rollcore.proofs.journal.JournalWithNewHeader.{hot_or, journaled_front}
 use Rattle.rollcore.proofs.journal.RestoredDatabase.{journaled_hot, shows, sector_told, zeroed_gate}
-use Rattle.recovery.specs.Logs.{MayBeRead, ShowsWhole}
-use Rattle.recovery.proofs.OverwrittenLog.{Overwritten, written_read}
 
 zeros_at : (i : ℕ) → ◌≡◌ {A = ℕ} (get_or (replicate 28 0) i 0) 0
 zeros_at i = ⊎_elim (λ lt. get_or-replicate 28 i 0 0 lt) (λ past. get_or_past (replicate 28 0) i 0 (omega (arith, length-replicate {A = ℕ} 28 0))) (cases_lt i 28)
@@ -56,14 +43,14 @@ module _ (size sector : ℕ) (d : Database) (named : List ℕ) (place : ℕ) (w 
 
     listed_put : IsSound old.sector new.log → Overwritten 0 (replicate 28 0) old new → (v : List ℕ) → IsImage old.sector false new.log v → Left v
     listed_put after changed v image = ⊎_elim
-        (λ hot_v. as_it_was v (zeroed_listed old.sector w (replicate 28 0) old.log new.log wide is.down.settled hot (length-replicate {A = ℕ} 28 0) zeros_at is.at.suits.sound.log after changed v image hot_v))
+        (λ hot_v. as_it_was v (zeroed_listed old.sector w (replicate 28 0) old.log new.log wide is.durable.settled hot (length-replicate {A = ℕ} 28 0) zeros_at is.at.suits.sound.log after changed v image hot_v))
         (λ cold. inr cold)
         (hot_or v)
 
     torn_put : old.tears ≡ true → IsSound old.sector new.log → Overwritten 0 (replicate 28 0) old new → (v : List ℕ) → IsImage old.sector true new.log v → AreWhole w ((0, replicate 28 0) ∷ []) v → Left v
     torn_put torn after changed v image whole = ⊎_elim
         (λ hot_v.
-        let same = zeroed_torn old.sector w (replicate 28 0) old.log new.log wide is.down.settled hot (length-replicate {A = ℕ} 28 0) zeros_at is.at.suits.sound.log after changed v (omega (arith, sector_word, is.at.sector_is)) image whole hot_v in
+        let same = zeroed_torn old.sector w (replicate 28 0) old.log new.log wide is.durable.settled hot (length-replicate {A = ℕ} 28 0) zeros_at is.at.suits.sound.log after changed v (omega (arith, sector_word, is.at.sector_is)) image whole hot_v in
         inl (journaled_front size sector d (omega (arith, wide, is.at.sector_is)) named place w v is.is
         (λ i at. ⊎_elim (λ front. same.front i front) (λ behind. same.behind i (omega (arith, sector_word))) at) (omega (arith, same.long))))
         (λ cold. inr cold)
@@ -71,16 +58,16 @@ module _ (size sector : ℕ) (d : Database) (named : List ℕ) (place : ℕ) (w 
 
     -- the journal says what it said, or isn't hot
     pub closing_left : {T : Type 0} (called : Result T DiskError) → Writes Log 0 (replicate 28 0) called old new → (v : List ℕ) → MayBeRead journal_log new v → Left v
-    closing_left called wrote = written_read journal_log Left w 0 (replicate 28 0) old new is.at.suits.sound is.down (as_it_was w refl) listed_put torn_put called wrote
+    closing_left called wrote = written_read journal_log Left w 0 (replicate 28 0) old new is.at.suits.sound is.durable (as_it_was w refl) listed_put torn_put called wrote
 
-    -- both are down
+    -- both are durable
     pub closing_down : {T : Type 0} {u x : T} (e : Database) (mid : DiskState) (db : List ℕ) → Writes Log 0 (replicate 28 0) (Ok u) old mid → Syncs Log (Ok x) mid new
         → IsSettled old.db db → IsJust size e db → Rests size e new
     closing_down {T = T} {u = u} {x = x} e mid db wrote synced settled just =
         let file : new.db ≡ old.db = synced.elsewhere.other ∙ wrote.elsewhere.other in
         record {
           file = λ c image. subst (λ (y : List ℕ). IsJust size e y) (sym (settled_one old.db db settled new.sector new.tears c (subst (λ (s : FileState). IsImage new.sector new.tears s c) file image))) just;
-          log = (zeroed w, zero_done {T = T} (Ok x) x w old new is.at.suits.sound refl (inr (mid, (u, wrote), (Ok x, tt, synced))) (down_present w old is.down) (omega (arith, hot_long w hot)), zeroed_gate w);
+          log = (zeroed w, zero_done {T = T} (Ok x) x w old new is.at.suits.sound refl (inr (mid, (u, wrote), (Ok x, tt, synced))) (down_present w old is.durable) (omega (arith, hot_long w hot)), zeroed_gate w);
         }
 
 -- ---- What that shows.

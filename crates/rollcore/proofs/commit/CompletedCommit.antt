@@ -1,44 +1,26 @@
--- A commit whose pages are all in the file: it comes down, and the journal ends.
+-- A commit whose pages are all in the file: it becomes durable, and the journal ends.
 use Rattle.std.proofs.Common.{◌≡◌, ◌⊎◌, inl, ⊎_elim, ℕ, ◌*◌, ◌<◌, ◌≤◌, List, ◌++◌, length, replicate, refl, sym, ◌∙◌, ap, subst, arith, lit≤}
 use Rattle.std.specs.Prelude.{Result, Ok, Err, None, OnOk}
 use Rattle.std.proofs.lemmas.List.{length-map, get_or-map}
-use Rattle.sqval.specs.Database.{Database, Pages, apply}
-use Rattle.sqval.specs.Held.{IsJust, IsHeld}
-use Rattle.sqval.proofs.database.CommittedDatabase.{length-apply}
-use Rattle.sqval.proofs.database.FaultlessCommit.{IsFaultless, held_applied}
+use Rattle.recovery.proofs.Words.{Database, Pages, apply, IsJust, IsHeld, length-apply, IsFaultless, held_applied, FileState, IsSettled, DiskState, Writes, Cuts, Syncs, Db, Log, DiskError, counted_grows, steady_syncs, IsLogDurable, SyncStep, down_syncs, down_present, told_ok, sync_refused, none_ok, had_refusal, refusal_after, suits_writes, suits_syncs, ArePages, ZeroSteps, zero_refused, MayBeRead}
 use Rattle.sqjournal.specs.Journal.{IsHot}
-use Rattle.crashdisk.specs.State.{FileState, IsSettled}
-use Rattle.crashdisk.specs.Call.{DiskState, Writes, Cuts, Syncs}
-use Rattle.crashdisk.specs.declared.file.File.TheVariants.{Db, Log}
-use Rattle.crashdisk.specs.declared.error.DiskError.{DiskError}
-use Rattle.crashdisk.proofs.call.EffectsOfCalls.{counted_grows, steady_syncs}
 use Rattle.rollcore.specs.internal.Commits.{change_at, AreChanges, PutAnswer}
 use Rattle.rollcore.specs.internal.Journaling.{IsJournaled}
 use Rattle.rollcore.specs.Machine.{refusal_of}
 use Rattle.rollcore.specs.internal.Segments.{IsAt, Harmless, Journaled, ArePut, AreOf, AreSome, pages_of, new_numbers}
 use Rattle.rollcore.specs.Replaying.{zeroed}
-use Rattle.crashdisk.specs.Keeps.{IsLogDown}
-use Rattle.crashdisk.specs.internal.Keeps.{SyncStep}
 use Rattle.rollcore.specs.internal.Steps.{EndAnswer}
 use Rattle.rollcore.specs.declared.changes.Change.{Change}
 use Rattle.rollcore.specs.declared.error.RollError.{RollError}
 use Rattle.rollcore.specs.declared.error.RollError.TheVariants.{Device}
 use Rattle.rollcore.proofs.commit.CommitPoint.{closing_left, closing_down, closing_shows, closing_sectors}
-use Rattle.crashdisk.proofs.sync.BytesOfSyncedLog.{down_syncs, down_present}
-use Rattle.crashdisk.proofs.call.DisksAfterCalls.{told_ok, sync_refused, none_ok}
 use Rattle.rollcore.proofs.commit.AcceptedCommit.{granted}
 use Rattle.rollcore.proofs.journal.WrittenSegmentHeader.{read_syncs}
 use Rattle.rollcore.proofs.commit.DatabaseOfWrittenPages.{pages_after, just_after, of_by, cut_by, each_page}
 use Rattle.rollcore.proofs.commit.OverwrittenPages.{journaled_cuts, journaled_unharmed}
-use Rattle.crashdisk.proofs.call.UnchangingCalls.{had_refusal, refusal_after}
-use Rattle.crashdisk.proofs.page.RecoverablePages.{suits_writes, suits_syncs}
 use Rattle.rollcore.proofs.journal.UnharmedOldDatabase.{at_by, sectors_of}
 use Rattle.rollcore.proofs.journal.EquivalentJournals.{hot_long}
 use Rattle.rollcore.proofs.journal.RestoredDatabase.{journaled_hot}
-use Rattle.recovery.specs.internal.Files.{ArePages}
-use Rattle.recovery.specs.internal.Steps.{ZeroSteps}
-use Rattle.recovery.proofs.AnswersOfSteps.{zero_refused}
-use Rattle.recovery.specs.Logs.{MayBeRead}
 use Rattle.rollcore.specs.Alone.{journal_log}
 
 -- a refusal that leaves the database from before the commit
@@ -59,16 +41,16 @@ module _ (size sector : ℕ) (d : Database) (named : List ℕ) (place : ℕ) (w 
         whole = λ zero. absurd (omega (arith, begun, zero));
       };
     };
-    down = down_syncs w Db called old new is.down synced;
+    durable = down_syncs w Db called old new is.durable synced;
     is = is.is;
   }
 
-  -- what is down once it is zeroed
-  pub ends_log : {T : Type 0} (r : Result T RollError) (old new : DiskState) → EndAnswer r old new → Journaled size sector d named place w old → OnOk r (IsLogDown new (zeroed w))
+  -- what is durable once it is zeroed
+  pub ends_log : {T : Type 0} (r : Result T RollError) (old new : DiskState) → EndAnswer r old new → Journaled size sector d named place w old → OnOk r (IsLogDurable new (zeroed w))
   unfolding EndAnswer
   ends_log (Ok v) old new ends is =
       let hot : IsHot w = journaled_hot size sector d (sectors_of size sector d named place old is.at) is.at.suits.pages named place w is.is begun in
-      ends.1 w (down_present w old is.down) (omega (arith, hot_long w hot))
+      ends.1 w (down_present w old is.durable) (omega (arith, hot_long w hot))
   ends_log (Err e) old new ends is = tt
 
   -- what is left while the header is zeroed
@@ -121,12 +103,12 @@ module _ (size sector : ℕ) (d : Database) (named : List ℕ) (place : ℕ) (w 
       zero_failed r q error r_is passes steps =
           let had = zero_refused Device 28 (lit≤ tt) r error b c is.at.suits.sound r_is steps in
           let left = zero_at r b c is steps in
-          let down : IsSettled c.db settled.0 = subst (λ (s : FileState). IsSettled s settled.0) (sym left.2) settled.1 in
+          let durable : IsSettled c.db settled.0 = subst (λ (s : FileState). IsSettled s settled.0) (sym left.2) settled.1 in
           subst (λ (x : Result T RollError). PutAnswer size d e x a c) (sym passes) (
             had.0,
             refusal_after a b c (omega (arith, synced.2.elsewhere.refused, counted_grows synced.0 a.refused was.at.suits.sound.refused)) had.1,
-            closing_shows size sector d e named place c settled.0 left.0 begun down settled.2 left.1,
-            closing_sectors size sector d e named place c settled.0 left.0 begun down settled.2 left.1,
+            closing_shows size sector d e named place c settled.0 left.0 begun durable settled.2 left.1,
+            closing_sectors size sector d e named place c settled.0 left.0 begun durable settled.2 left.1,
           )
 
       pub zero_closed : (r : Result T RollError) (v x : T) → r ≡ Ok v → ZeroSteps Device 28 r b c → PutAnswer {T = T} size d e (Ok x) a c

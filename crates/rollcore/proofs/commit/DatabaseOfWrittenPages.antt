@@ -7,25 +7,13 @@ use Rattle.std.proofs.lemmas.Bool.Decides.{nat_tests}
 use Rattle.std.proofs.lemmas.List.{length-map, get_or-map, get_or-take, get_or-drop}
 use Rattle.std.proofs.lemmas.List.Elements.{Contains-append_left, Contains-append_right}
 use Rattle.std.proofs.Math.Nat.{mul-le-mul_right}
-use Rattle.sqval.specs.CommitFaults.{most_bytes}
-use Rattle.sqval.specs.Database.{Database, Pages, page, supplied, apply}
-use Rattle.sqval.specs.Held.{IsJust, IsHeld}
+use Rattle.recovery.proofs.Words.{most_bytes, Database, Pages, page, supplied, apply, IsJust, IsHeld, byte, IsSettled, DiskState, IsSoundDisk, Cuts, Syncs, Db, table, cut_below, present_cut, present_list, present_steady, settled_sync, page_at, page_within, page_by_bytes, present_byte, ArePages}
 use Rattle.sqval.proofs.database.CommittedDatabase.{number_at, content_at, length-apply, page-apply}
 use Rattle.sqval.proofs.database.FaultlessCommit.{IsFaultless, supplied_here, above_supplied}
-use Rattle.crashdisk.specs.State.{byte, IsSettled}
-use Rattle.crashdisk.specs.Call.{DiskState, IsSoundDisk, Cuts, Syncs}
-use Rattle.crashdisk.specs.declared.file.File.TheVariants.{Db}
-use Rattle.crashdisk.proofs.image.OriginOfImages.{table}
-use Rattle.crashdisk.proofs.call.SoundFileUnderChanges.{cut_below}
-use Rattle.crashdisk.proofs.call.EffectsOfCalls.{present_cut, present_list, present_steady, settled_sync}
 use Rattle.rollcore.specs.Commits.{AreChanged}
 use Rattle.rollcore.specs.internal.Commits.{change_at, AreChanges}
 use Rattle.rollcore.specs.internal.Segments.{Journaled, ArePut, Becomes, AreTurned, AreOf, AreFresh, pages_of, new_numbers}
 use Rattle.rollcore.specs.declared.changes.Change.{Change}
-use Rattle.crashdisk.proofs.page.PlacesOfPages.{page_at, page_within}
-use Rattle.sqval.proofs.page.FilePages.{page_by_bytes}
-use Rattle.crashdisk.proofs.sync.BytesOfSyncedLog.{present_byte}
-use Rattle.recovery.specs.internal.Files.{ArePages}
 
 -- ---- The file has all pages.
 
@@ -43,7 +31,7 @@ module _ (size sector : ℕ) (d e : Database) (named : List ℕ) (place : ℕ) (
         (all p a b);
   }
 
--- and it is down
+-- and it is durable
 pub just_after : {T : Type 0} {u : T} (size : ℕ) (e : Database) (s t : DiskState) → ArePages size e s.db → IsHeld size e → Syncs Db (Ok u) s t → IsSoundDisk s → (bytes : List ℕ) × IsSettled t.db bytes × IsJust size e bytes
 just_after size e s t pages held synced sound =
     let are = present_list s.db in (

@@ -9,11 +9,9 @@ use Rattle.std.proofs.lemmas.List.{get_or-map, get_or_append_left, get_or-append
 use Rattle.std.proofs.lemmas.List.Sorted.{All-permutation, Contains-permutation, IsPermutation-map, length_permutation}
 use Rattle.std.proofs.lemmas.List.Sums.{sum_by-cons}
 use Rattle.std.proofs.lemmas.Map.Keys.{IsDistinct-IsPermutation, IsStrictlyIncreasing-from_distinct, sorted_from_strictly_increasing, below_from_sorted}
-use Rattle.sqval.specs.Database.{Pages, supplied}
+use Rattle.recovery.proofs.Words.{Pages, supplied, number_at, IsFaultless}
 use Rattle.sqval.specs.internal.JudgedPages.{numbers_of}
 use Rattle.sqval.proofs.page.PageNumbers.{distinct}
-use Rattle.sqval.proofs.database.CommittedDatabase.{number_at}
-use Rattle.sqval.proofs.database.FaultlessCommit.{IsFaultless}
 use Rattle.rollcore.specs.Machine.{recorded}
 use Rattle.rollcore.specs.internal.Commits.{change_at, AreChanges}
 use Rattle.rollcore.specs.internal.Listing.{written, cut_off}

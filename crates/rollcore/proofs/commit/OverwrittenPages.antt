@@ -6,27 +6,16 @@ use Rattle.std.specs.List.{Contains}
 use Rattle.std.proofs.lemmas.Bool.{cases_eq, cases_lt}
 use Rattle.std.proofs.lemmas.List.{append-nil, take_all, take_more, length-map, get_or-map, get_or-take}
 use Rattle.std.proofs.lemmas.List.Elements.{Contains-push_cases, Contains-append_cases}
-use Rattle.sqval.specs.CommitFaults.{most_bytes}
-use Rattle.sqval.specs.Database.{Database, Pages, page}
-use Rattle.sqval.specs.JudgedPages.{lent}
-use Rattle.crashdisk.specs.State.{FileState}
-use Rattle.crashdisk.specs.Call.{DiskState, IsSoundDisk, Writes, Cuts}
-use Rattle.crashdisk.specs.internal.Facts.{Spreads, IsClear}
-use Rattle.crashdisk.specs.declared.file.File.TheVariants.{Db}
-use Rattle.crashdisk.specs.declared.error.DiskError.{DiskError}
+use Rattle.recovery.proofs.Words.{most_bytes, Database, Pages, page, lent, FileState, DiskState, IsSoundDisk, Writes, Cuts, Spreads, IsClear, Db, DiskError, HadRefusal, down_writes, down_cuts, down_one, told_err, told_ok, had_refusal, refusal_after}
 use Rattle.crashdisk.proofs.call.SoundFileUnderChanges.{written_inside, written_outside, where_at}
 use Rattle.crashdisk.proofs.call.EffectsOfCalls.{steady_writes, steady_cuts, present_written}
-use Rattle.crashdisk.specs.Keeps.{HadRefusal}
 use Rattle.rollcore.specs.internal.Journaling.{IsJournaled}
 use Rattle.rollcore.specs.internal.Segments.{IsAt, Unharmed, Harmless, Journaled, ArePut, PageStep, Becomes, AreTurned, AreSome, pages_of}
 use Rattle.rollcore.specs.internal.Commits.{change_at}
 use Rattle.rollcore.specs.declared.changes.Change.{Change}
 use Rattle.rollcore.specs.declared.error.RollError.{RollError}
 use Rattle.rollcore.specs.declared.error.RollError.TheVariants.{Device}
-use Rattle.crashdisk.proofs.sync.BytesOfSyncedLog.{down_writes, down_cuts, down_one}
-use Rattle.crashdisk.proofs.call.DisksAfterCalls.{told_err, told_ok}
 use Rattle.crashdisk.proofs.page.PlacesOfPages.{page_at, page_end, page_apart, page_within, page_clear, cut_clear, sector_some}
-use Rattle.crashdisk.proofs.call.UnchangingCalls.{had_refusal, refusal_after}
 use Rattle.rollcore.proofs.journal.RecordsOfOldPages.{page_in}
 use Rattle.crashdisk.proofs.page.RecoverablePages.{suits_writes, suits_cuts}
 use Rattle.rollcore.proofs.journal.UnharmedOldDatabase.{image_read, unharmed_still}
@@ -57,7 +46,7 @@ module _ (size sector : ℕ) (d : Database) (named : List ℕ) (place : ℕ) (w 
         whole = λ zero. absurd (omega (arith, begun, zero));
       };
     };
-    down = down_writes w (page_at size q) bytes called old new is.down wrote;
+    durable = down_writes w (page_at size q) bytes called old new is.durable wrote;
     is = is.is;
   }
 
@@ -81,7 +70,7 @@ module _ (size sector : ℕ) (d : Database) (named : List ℕ) (place : ℕ) (w 
         whole = λ zero. absurd (omega (arith, begun, zero));
       };
     };
-    down = down_cuts w (m * size) called old new is.down cut;
+    durable = down_cuts w (m * size) called old new is.durable cut;
     is = is.is;
   }
     where
@@ -91,7 +80,7 @@ module _ (size sector : ℕ) (d : Database) (named : List ℕ) (place : ℕ) (w 
   -- all that may be left shows d
   pub journaled_unharmed : (s : DiskState) → Journaled size sector d named place w s → Unharmed size d s
   journaled_unharmed s is = unharmed_still size sector d named place s is.at
-      (λ v may. inl (subst (λ (x : List ℕ). IsJournaled size sector d named place x) (sym (down_one w s is.down s.sector s.tears v (image_read s v may))) is.is))
+      (λ v may. inl (subst (λ (x : List ℕ). IsJournaled size sector d named place x) (sym (down_one w s is.durable s.sector s.tears v (image_read s v may))) is.is))
 
 -- ---- What is present of the new database.
 

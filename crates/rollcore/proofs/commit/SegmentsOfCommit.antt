@@ -7,16 +7,10 @@ use Rattle.std.proofs.lemmas.List.{take_all, take-map, drop-map, length-map, len
 use Rattle.std.proofs.lemmas.Bool.{cases_lt}
 use Rattle.std.proofs.Math.Nat.{mul-le-mul_left, mul-le-mul_right}
 use Rattle.std.proofs.Math.Seq.{take-add, take-suc}
-use Rattle.sqval.specs.Database.{Database, Pages, apply}
-use Rattle.sqval.specs.Held.{IsJust, IsHeld}
-use Rattle.sqval.specs.CommitFaults.{most_bytes}
-use Rattle.sqval.specs.JudgedPages.{lent}
-use Rattle.sqval.proofs.database.FaultlessCommit.{IsFaultless}
-use Rattle.crashdisk.specs.Call.{DiskState}
+use Rattle.recovery.proofs.Words.{Database, Pages, apply, IsJust, IsHeld, most_bytes, lent, IsFaultless, DiskState, Suits, get_or-file_page}
 use Rattle.rollcore.specs.Fits.{Rests}
 use Rattle.rollcore.specs.Journaling.{old_pages, sizes, HasParts, parts_of}
 use Rattle.rollcore.specs.Machine.{segments_of, refusal_of}
-use Rattle.crashdisk.specs.Keeps.{Suits}
 use Rattle.rollcore.specs.Commits.{KeepsCore}
 use Rattle.rollcore.specs.internal.Commits.{AreChanges, ArePlaced, AreWithin, IsReady, change_at}
 use Rattle.rollcore.specs.internal.Segments.{Journaled, SegmentAnswer, Parted, PartAnswer, SegmentsAnswer, ArePut, AreSome, AreFresh, AreTurned, pages_of}
@@ -25,7 +19,6 @@ use Rattle.rollcore.specs.declared.error.RollError.{RollError}
 use Rattle.rollcore.specs.declared.state.Core.{Core}
 use Rattle.rollcore.proofs.commit.AcceptedCommit.{granted, segments_enough}
 use Rattle.rollcore.proofs.commit.AppendedPages.{lent_length, lent_at}
-use Rattle.sqval.proofs.page.FilePages.{get_or-file_page}
 use Rattle.rollcore.proofs.commit.DatabaseOfWrittenPages.{changes_few, fresh_by, turned_slice, slice_at, slice_within}
 use Rattle.rollcore.proofs.journal.RestoredDatabase.{begins}
 use Rattle.rollcore.proofs.journal.WholeSegments.{next_of}
@@ -251,7 +244,7 @@ module _ (size sector : ℕ) (d e : Database) (numbers given : List ℕ) where
             whole = λ zero db image. (rests.file db image).long;
           };
         };
-        down = rests.log.1;
+        durable = rests.log.1;
         is = begins size sector d rests.log.0 rests.log.2;
       },
     );

@@ -4,17 +4,8 @@ use Rattle.std.specs.Prelude.{cond, IsTrue, Result, Ok, Err, Option, Some, None}
 use Rattle.std.specs.Borrow.{Bor}
 use Rattle.std.proofs.lemmas.Bool.{cases_lt}
 use Rattle.std.proofs.lemmas.List.{get_or_append_left, get_or-append_right}
-use Rattle.sqval.specs.Database.{Database, Pages, apply}
-use Rattle.sqval.specs.Held.{IsHeld}
-use Rattle.sqval.specs.CommitFaults.{first_true, page_faults}
-use Rattle.sqval.specs.JudgedPages.{lent}
-use Rattle.sqval.specs.Answers.{Done, Refused, Refuses}
-use Rattle.sqval.proofs.database.FaultlessCommit.{IsFaultless, faultless, held_applied}
-use Rattle.sqval.proofs.database.CommittedDatabase.{length-apply}
-use Rattle.crashdisk.specs.Call.{DiskState, HasCalls}
-use Rattle.crashdisk.specs.Keeps.{Suits, HadRefusal, IsSameDisk, Later, TellsRefusal}
+use Rattle.recovery.proofs.Words.{Database, Pages, apply, IsHeld, first_true, page_faults, lent, Done, Refused, Refuses, IsFaultless, faultless, held_applied, length-apply, DiskState, HasCalls, Suits, HadRefusal, IsSameDisk, Later, TellsRefusal, no_calls, answered, ShowsWhole, last, newest}
 use Rattle.rollcore.specs.Changes.{MayChange, MayCommit}
-use Rattle.crashdisk.proofs.call.SequencesOfCalls.{no_calls}
 use Rattle.rollcore.specs.Machine.{State, closed, appended, committed, recorded, refusal_of, commit_refusal, Commits}
 use Rattle.rollcore.specs.Refusal.{number_of}
 use Rattle.rollcore.specs.internal.Committing.{RestsAt}
@@ -30,10 +21,7 @@ use Rattle.rollcore.proofs.openings.RecoveredFiles.{fits_rested}
 use Rattle.rollcore.proofs.disk.InvariantsOfCalls.{suits_go}
 use Rattle.rollcore.specs.internal.Segments.{pages_of}
 use Rattle.rollcore.proofs.commit.DatabaseOfWrittenPages.{are_changed}
-use Rattle.recovery.specs.Moments.{answered}
-use Rattle.recovery.specs.Logs.{ShowsWhole}
 use Rattle.rollcore.specs.Alone.{journal_log}
-use Rattle.recovery.specs.Histories.{last, newest}
 
 -- pages that aren't refused have few records
 pub few_records : (old_size page_size : ℕ) (pages : Pages) (size : ℕ) → first_true (page_faults old_size page_size pages size) ≡ None → old_size < 2 ^ 32 → recorded pages old_size size < 2 ^ 64
@@ -49,7 +37,7 @@ fits_kept past a b s keeps fits = record {
   core = λ opened. let was = fits.core (subst (λ (x : Bool). IsTrue x) keeps.is_open opened) in record {
     size = keeps.size ∙ was.size;
     rests = was.rests;
-    down = was.down;
+    durable = was.durable;
     record_room = b.record_room ∙ ap (λ (n : ℕ). n + 8) (keeps.page_size ∙ fits.page_size);
     header_room = keeps.header_room ∙ was.header_room;
   };
@@ -67,9 +55,6 @@ module _ (past : State) (core : Core) (s : DiskState) (fits : FitsCore past core
       ap (λ (b : Bool). cond b (refusal_of (length (newest past.history)) past.page_size pages size (length nonces)) (Some 1)) (sym fits.is_open ∙ open_true core.is_open opened)
       ∙ ap (λ (n : ℕ). refusal_of n past.page_size pages size (length nonces)) (sym (fits.core opened).size)
       ∙ ap (λ (n : ℕ). refusal_of core.size n pages size (length nonces)) (sym fits.page_size)
-
-  pub refusal_closed : core.is_open ≡ false → commit_refusal past pages size nonces ≡ Some 1
-  refusal_closed is = ap (λ (b : Bool). cond b (refusal_of (length (newest past.history)) past.page_size pages size (length nonces)) (Some 1)) (sym fits.is_open ∙ is)
 
 -- nothing has changed, and this is answered
 module _ {T : Type 0} (past : State) (core mid : Core) (s : DiskState) (fits : FitsCore past core s) (keeps : KeepsCore core mid) (pages : Pages) (size : ℕ) (nonces : List ℕ) where
@@ -151,7 +136,7 @@ module _ (past : State) (core mid : Core) (s t : DiskState) (fits : FitsCore pas
   done calm then ends rests =
       let same : newest (committed past pages size).history ≡ e = more_last past.history e in
       let here = subst (λ (x : Database). Rests past.page_size x t) (sym same) rests in
-      let down : length past.history + 1 ≡ length (past.history ++ e ∷ []) = sym (more_long past.history e) in
+      let durable : length past.history + 1 ≡ length (past.history ++ e ∷ []) = sym (more_long past.history e) in
       record {
         next = committed past pages size;
         same = same_disk;
@@ -159,13 +144,13 @@ module _ (past : State) (core mid : Core) (s t : DiskState) (fits : FitsCore pas
         told = λ lt. absurd (calm lt);
         row = (none, refl);
         fits = record {
-          disk = fits_rested (committed past pages size) t suits down all_held here;
+          disk = fits_rested (committed past pages size) t suits durable all_held here;
           page_size = ends.page_size ∙ keeps.page_size ∙ fits.page_size;
           is_open = ends.is_open ∙ keeps.is_open ∙ fits.is_open;
           core = λ still. record {
             size = ends.size_is ∙ sym (length-apply (newest past.history) pages size) ∙ ap (λ (x : Database). length x) (sym same);
             rests = here;
-            down = down;
+            durable = durable;
             record_room = then.record_room ∙ ap (λ (n : ℕ). n + 8) (ends.page_size ∙ keeps.page_size ∙ fits.page_size);
             header_room = ends.header_room ∙ keeps.header_room ∙ (fits.core opened).header_room ∙ sym goes.sector;
           };

@@ -1,17 +1,10 @@
 -- What fits a disk fits it after a crash, as the machine is then.
 use Rattle.std.proofs.Common.{◌≡◌, inl, inr, ⊎_elim, ℕ, Bool, true, false, List, refl, sym, subst}
-use Rattle.crashdisk.specs.State.{IsImage}
-use Rattle.crashdisk.specs.Call.{DiskState, IsCrash}
-use Rattle.crashdisk.proofs.call.SoundDiskUnderCalls.{sound_crash}
-use Rattle.crashdisk.proofs.byte.SettledFiles.{settled_one}
-use Rattle.crashdisk.proofs.page.RecoverablePages.{suits_by}
+use Rattle.recovery.proofs.Words.{IsImage, DiskState, IsCrash, sound_crash, settled_one, suits_by, MayBeRead, read_cases, Narrows}
 use Rattle.rollcore.specs.Alone.{AreWhole, journal_log}
 use Rattle.rollcore.specs.Machine.{State, closed}
 use Rattle.rollcore.specs.Fits.{FitsDisk}
 use Rattle.rollcore.proofs.crash.NarrowedImages.{history_narrows, sectors_narrow}
-use Rattle.recovery.specs.Logs.{MayBeRead}
-use Rattle.recovery.proofs.ShownDatabase.{read_cases}
-use Rattle.recovery.proofs.NarrowedImages.{Narrows}
 
 module _ (db log : List ℕ) (s t : DiskState) (crashed : IsCrash db log s t) (whole : s.tears ≡ true → AreWhole s.kept s.handed log) where
   was_left : (tears : Bool) → tears ≡ s.tears → MayBeRead journal_log s log

@@ -1,17 +1,11 @@
 -- What calls of a disk leave as it was.
 use Rattle.std.proofs.Common.{⊎_elim, ℕ, ◌∷◌, sym, subst, []}
 use Rattle.std.specs.Prelude.{Result, Ok, Err, Bool, true, false}
-use Rattle.crashdisk.specs.State.{IsSectorSize}
-use Rattle.crashdisk.specs.Call.{DiskState, IsSoundDisk, Change, write}
-use Rattle.crashdisk.specs.declared.file.File.TheVariants.{Log}
-use Rattle.crashdisk.specs.declared.error.DiskError.{DiskError}
-use Rattle.crashdisk.specs.Keeps.{Suits, Later, TellsRefusal}
+use Rattle.recovery.proofs.Words.{IsSectorSize, DiskState, IsSoundDisk, Change, write, Log, DiskError, Suits, Later, TellsRefusal, suits_by, later_still, later_then, later_write}
 use Rattle.rollcore.specs.Changes.{Asks}
 use Rattle.rollcore.specs.internal.Opening.{PutsZero, BreakSteps}
 use Rattle.rollcore.specs.declared.error.RollError.{RollError}
 use Rattle.rollcore.specs.declared.error.RollError.TheVariants.{Device}
-use Rattle.crashdisk.proofs.page.RecoverablePages.{suits_by}
-use Rattle.crashdisk.proofs.call.DisksAfterCalls.{later_still, later_then, later_write}
 
 pub sectors_go : {May : Change → Type 0} (a b : DiskState) → Later May a b → IsSectorSize a.sector → IsSectorSize b.sector
 sectors_go a b goes sectors = subst IsSectorSize (sym goes.sector) sectors

@@ -2,9 +2,7 @@
 use Rattle.std.proofs.Common.{◌≡◌, inl, inr, ℕ, ◌+◌, ◌-◌, ◌≤◌, List, [], ◌∷◌, ◌++◌, length, replicate, refl}
 use Rattle.sqjournal.specs.Header.{header_bytes}
 use Rattle.sqjournal.specs.declared.header.JournalHeader.{JournalHeader}
-use Rattle.crashdisk.specs.State.{longest}
-use Rattle.crashdisk.specs.Call.{Change, write}
-use Rattle.crashdisk.specs.declared.file.File.TheVariants.{Log}
+use Rattle.recovery.proofs.Words.{longest, Change, write, Log}
 use Rattle.rollcore.specs.Changes.{MayReplay, MayRecover, MayCommit}
 use Rattle.rollcore.specs.Journaling.{record_bytes}
 

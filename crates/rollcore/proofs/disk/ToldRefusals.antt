@@ -2,19 +2,10 @@
 use Rattle.std.proofs.Common.{◌≡◌, ⊎_elim, ℕ, ◌≤◌, ◌*◌, List, replicate, length, refl, sym, subst, arith}
 use Rattle.std.specs.Prelude.{Result, Ok, Err}
 use Rattle.std.proofs.lemmas.Bool.{cases_lt}
-use Rattle.sqval.specs.CommitFaults.{most_bytes}
-use Rattle.crashdisk.specs.Call.{DiskState, IsSoundDisk, Change, write, sync, counted}
-use Rattle.crashdisk.specs.declared.file.File.{File}
-use Rattle.crashdisk.specs.declared.file.File.TheVariants.{Log}
-use Rattle.crashdisk.specs.declared.error.DiskError.{DiskError}
-use Rattle.crashdisk.specs.Keeps.{Still, Later, TellsRefusal}
-use Rattle.crashdisk.specs.internal.Keeps.{SyncStep}
-use Rattle.crashdisk.proofs.call.DisksAfterCalls.{later_same, later_then, later_still, later_wider, later_write, sync_later}
+use Rattle.recovery.proofs.Words.{most_bytes, DiskState, IsSoundDisk, Change, write, sync, counted, File, Log, DiskError, Still, Later, TellsRefusal, SyncStep, later_same, later_then, later_still, later_wider, later_write, sync_later, ZeroSteps, tells_called, tells_ok, tells_again}
 use Rattle.rollcore.specs.Changes.{Asks}
 use Rattle.rollcore.specs.declared.error.RollError.{RollError}
 use Rattle.rollcore.specs.declared.error.RollError.TheVariants.{Device}
-use Rattle.recovery.specs.internal.Steps.{ZeroSteps}
-use Rattle.recovery.proofs.ToldRefusals.{tells_called, tells_ok, tells_again}
 
 -- ---- That a call was refused is told.
 

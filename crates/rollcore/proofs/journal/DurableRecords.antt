@@ -1,28 +1,14 @@
--- The records of a segment come down.
+-- The records of a segment come durable.
 use Rattle.std.proofs.Common.{◌≡◌, ◌⊎◌, inl, inr, ⊎_elim, ℕ, ◌+◌, ◌-◌, ◌≤◌, true, false, List, ◌∷◌, length, get_or, sym, ◌∙◌, ap, subst, arith, []}
 use Rattle.std.specs.Prelude.{Result, Ok, Err, Bool}
-use Rattle.sqval.specs.Database.{Database}
+use Rattle.recovery.proofs.Words.{Database, FileState, byte, written, DiskState, ArePresent, Log, DiskError, table, written_inside, written_outside, present_steady, present_written, present_list, Still, SyncStep, present_byte, sync_refused, sector_some, refusal_after, suits_syncs}
 use Rattle.sqjournal.specs.Journal.{records_end, AreRecords}
-use Rattle.crashdisk.specs.State.{FileState, byte, written}
-use Rattle.crashdisk.specs.Call.{DiskState, ArePresent}
-use Rattle.crashdisk.specs.declared.file.File.TheVariants.{Log}
-use Rattle.crashdisk.specs.declared.error.DiskError.{DiskError}
-use Rattle.crashdisk.proofs.image.OriginOfImages.{table}
-use Rattle.crashdisk.proofs.call.SoundFileUnderChanges.{written_inside, written_outside}
-use Rattle.crashdisk.proofs.call.EffectsOfCalls.{present_steady, present_written, present_list}
-use Rattle.crashdisk.specs.Keeps.{Still}
-use Rattle.crashdisk.specs.internal.Keeps.{SyncStep}
 use Rattle.rollcore.specs.internal.Opening.{PutsZero, BreakSteps}
 use Rattle.rollcore.specs.Journaling.{old_pages, sizes, next_place}
 use Rattle.rollcore.specs.internal.Journaling.{SameBelow}
 use Rattle.rollcore.specs.internal.Segments.{IsAt, Recording, Recorded, Ended, Prepared, KeepsParts, Harmless}
 use Rattle.rollcore.specs.declared.error.RollError.{RollError}
-use Rattle.crashdisk.proofs.sync.BytesOfSyncedLog.{present_byte}
 use Rattle.rollcore.proofs.replays.FinalSteps.{sync_down}
-use Rattle.crashdisk.proofs.call.DisksAfterCalls.{sync_refused}
-use Rattle.crashdisk.proofs.page.PlacesOfPages.{sector_some}
-use Rattle.crashdisk.proofs.call.UnchangingCalls.{refusal_after}
-use Rattle.crashdisk.proofs.page.RecoverablePages.{suits_syncs}
 use Rattle.rollcore.proofs.journal.UnharmedOldDatabase.{at_by}
 use Rattle.rollcore.proofs.journal.WritesBehindHeader.{recording_still, recording_writes, recording_syncs, recording_unharmed}
 use Rattle.rollcore.proofs.journal.WholeSegments.{records_same, next_above, next_of}
@@ -116,7 +102,7 @@ module _ (size sector : ℕ) (d : Database) (named : List ℕ) (place : ℕ) (w 
         u,
         record {
           at = at_by size sector d named place old new at (suits_syncs size Log step.0 old new at.suits step.2) step.2.elsewhere.sector step.2.elsewhere.tears step.2.elsewhere.other;
-          down = sync_down r done u old new at.suits.sound was step are;
+          durable = sync_down r done u old new at.suits.sound was step are;
           is = record {
             journaled = journaled_same size sector d wide named place w u is.recorded.recording.is same;
             records = is.recorded.records u are;

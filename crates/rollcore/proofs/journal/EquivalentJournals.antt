@@ -4,9 +4,7 @@ use Rattle.std.proofs.lemmas.List.{ext_get_or, get_or-take, get_or-drop, length-
 use Rattle.std.proofs.lemmas.Nat.{le-div}
 use Rattle.std.proofs.Math.Nat.{mul-le-mul_right}
 use Rattle.byteorder.specs.Endian.{big_number}
-use Rattle.sqval.specs.Bytes.{part, word}
-use Rattle.sqval.specs.PageSize.{IsPageSize}
-use Rattle.sqval.specs.Database.{Database, Pages, file_page}
+use Rattle.recovery.proofs.Words.{part, word, IsPageSize, Database, Pages, file_page}
 use Rattle.sqjournal.specs.NonceSum.{nonce_sum}
 use Rattle.sqjournal.specs.Header.{next_header}
 use Rattle.sqjournal.specs.Journal.{Segment, Sizes, sizes_of, record_len, records_end, IsHeader, IsRecord, AreRecords, AreSegments, StopsAtHeader, StopsAtRecord, IsHot, IsJournal}

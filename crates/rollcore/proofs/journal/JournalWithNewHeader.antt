@@ -4,9 +4,7 @@ use Rattle.std.specs.List.{Contains}
 use Rattle.std.proofs.lemmas.Bool.{cases_eq, cases_lt}
 use Rattle.std.proofs.lemmas.List.{append-nil, append_assoc, map-append, length-map, get_or-take, get_or-drop}
 use Rattle.std.proofs.lemmas.List.Elements.{Contains-push_cases}
-use Rattle.sqval.specs.Bytes.{part, word}
-use Rattle.sqval.specs.PageSize.{IsPageSize}
-use Rattle.sqval.specs.Database.{Database, Pages, page}
+use Rattle.recovery.proofs.Words.{part, word, IsPageSize, Database, Pages, page}
 use Rattle.sqval.proofs.page.PageSizes.{one_of, is_page_size}
 use Rattle.sqjournal.specs.Header.{HasMagic, Names, header_bytes}
 use Rattle.sqjournal.specs.Journal.{Segment, Sizes, sizes_of, IsHeader, AreRecords, AreAll, AreSegments, IsHot, IsJournal}

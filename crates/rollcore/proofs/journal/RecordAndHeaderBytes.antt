@@ -3,7 +3,7 @@ use Rattle.std.proofs.Common.{◌≡◌, ⊎_elim, ℕ, ◌+◌, ◌^◌, ◌<�
 use Rattle.std.proofs.lemmas.List.{take_at, drop_at, drop-drop, get_or-take, get_or-drop, get_or_past, length-take}
 use Rattle.std.proofs.lemmas.Bool.{cases_lt}
 use Rattle.byteorder.specs.Endian.{big_bytes, big_number}
-use Rattle.sqval.specs.Bytes.{part, word}
+use Rattle.recovery.proofs.Words.{part, word}
 use Rattle.sqjournal.specs.NonceSum.{nonce_sum}
 use Rattle.sqjournal.specs.Header.{magic, HasMagic}
 use Rattle.sqjournal.specs.Journal.{Sizes, record_len, IsRecord}

@@ -6,28 +6,14 @@ use Rattle.std.proofs.lemmas.List.{drop_all, take_all, drop_at, take_at, take_mo
 use Rattle.std.proofs.lemmas.Grind.{same_number_lists}
 use Rattle.std.proofs.Math.Nat.{mul-le-mul_left, mul-le-mul_right}
 use Rattle.byteorder.specs.Endian.{big_bytes}
-use Rattle.sqval.specs.Bytes.{part}
-use Rattle.sqval.specs.CommitFaults.{most_bytes}
-use Rattle.sqval.specs.Database.{Database, page}
+use Rattle.recovery.proofs.Words.{part, most_bytes, Database, page, FileState, byte, written, longest, DiskState, IsSoundDisk, Writes, Looks, Db, Log, DiskError, table, written_inside, written_outside, present_steady, present_written, present_list, Still, present_byte, page_end, size_some, had_refusal, still_looks, refusal_after}
 use Rattle.sqjournal.specs.NonceSum.{nonce_sum}
 use Rattle.sqjournal.specs.Journal.{records_end, AreRecords, IsRecord}
-use Rattle.crashdisk.specs.State.{FileState, byte, written, longest}
-use Rattle.crashdisk.specs.Call.{DiskState, IsSoundDisk, Writes, Looks}
-use Rattle.crashdisk.specs.declared.file.File.TheVariants.{Db, Log}
-use Rattle.crashdisk.specs.declared.error.DiskError.{DiskError}
-use Rattle.crashdisk.proofs.image.OriginOfImages.{table}
-use Rattle.crashdisk.proofs.call.SoundFileUnderChanges.{written_inside, written_outside}
-use Rattle.crashdisk.proofs.call.EffectsOfCalls.{present_steady, present_written, present_list}
-use Rattle.crashdisk.specs.Keeps.{Still}
 use Rattle.rollcore.specs.Journaling.{old_pages, sizes, record_bytes}
 use Rattle.rollcore.specs.internal.Segments.{IsAt, Recording, Recorded, LogsRecord, RecordStep, Harmless, pages_of, AreFresh}
 use Rattle.rollcore.specs.declared.changes.Change.{Change}
 use Rattle.rollcore.specs.declared.error.RollError.{RollError}
 use Rattle.rollcore.specs.declared.error.RollError.TheVariants.{Device}
-use Rattle.crashdisk.proofs.sync.BytesOfSyncedLog.{present_byte}
-use Rattle.crashdisk.proofs.page.PlacesOfPages.{page_end}
-use Rattle.sqval.proofs.page.FilePages.{size_some}
-use Rattle.crashdisk.proofs.call.UnchangingCalls.{had_refusal, still_looks, refusal_after}
 use Rattle.rollcore.proofs.journal.WritesBehindHeader.{recording_still, recording_writes, recording_unharmed}
 use Rattle.rollcore.proofs.journal.RecordAndHeaderBytes.{length-record, record_is}
 use Rattle.rollcore.proofs.journal.WholeSegments.{records_more, records_same, end_count}

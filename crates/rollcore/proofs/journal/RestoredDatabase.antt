@@ -6,9 +6,7 @@ use Rattle.std.proofs.lemmas.Bool.{cases_eq}
 use Rattle.std.proofs.lemmas.Bool.Decides.{nat_tests}
 use Rattle.std.proofs.lemmas.List.{reverse-append, map-append}
 use Rattle.std.proofs.lemmas.List.Elements.{Contains-push, Contains-append_left}
-use Rattle.sqval.specs.Bytes.{word}
-use Rattle.sqval.specs.PageSize.{IsPageSize}
-use Rattle.sqval.specs.Database.{Database, Pages, page, file_page, supplied}
+use Rattle.recovery.proofs.Words.{word, IsPageSize, Database, Pages, page, file_page, supplied, file_count, ShowsWhole}
 use Rattle.sqjournal.specs.Header.{HasMagic}
 use Rattle.sqjournal.specs.Journal.{Segment, Sizes, AreSegments, IsHot}
 use Rattle.sqjournal.specs.Restored.{all_records, last_content, IsRolledBack}
@@ -16,12 +14,10 @@ use Rattle.sqjournal.proofs.read.JournalOfTakenBytes.{size_bounds}
 use Rattle.rollcore.specs.Replaying.{zeroed}
 use Rattle.rollcore.specs.Journaling.{old_pages, sizes}
 use Rattle.rollcore.specs.internal.Journaling.{IsJournaled, Tells, HasOthers}
-use Rattle.sqval.proofs.page.FilePages.{file_count}
 use Rattle.rollcore.proofs.journal.WholeSegments.{full_begun, full_ends, full_none}
 use Rattle.rollcore.proofs.journal.SegmentsFromAnyPlace.{stops_or}
 use Rattle.rollcore.proofs.journal.RecordAndHeaderBytes.{magic_byte}
 use Rattle.rollcore.proofs.journal.JournalWithNewHeader.{NamesFirst, sizes_are, begun_hot, old_none}
-use Rattle.recovery.specs.Logs.{ShowsWhole}
 use Rattle.rollcore.specs.Alone.{journal_log}
 
 -- ---- The content of a page that is named.
@@ -145,10 +141,6 @@ module _ (size sector : ℕ) (d : Database) (sectors : IsPageSize sector) (pages
 -- a log where no header stands at the front journals nothing yet
 pub begins : (size sector : ℕ) (d : Database) (w : List ℕ) → (HasMagic w 0 → ⊥) → IsJournaled size sector d [] 0 w
 begins size sector d w none = record { segments = []; are = refl; records = refl; ends = none; begun = λ above. absurd (omega arith) }
-
--- while none stands there nothing is named
-pub front_none : (size sector : ℕ) (d : Database) (named : List ℕ) (w : List ℕ) → 1 ≤ sector → IsJournaled size sector d named 0 w → named ≡ []
-front_none size sector d named w wide is = old_none d named (ap (λ (l : List Segment). all_records l) (sym (full_none (sizes sector size) w is.segments 0 wide is.are refl)) ∙ is.records)
 
 -- zeros are no magic
 pub zero_gate : (w : List ℕ) (at : ℕ) → get_or w at 0 ≡ 0 → HasMagic w at → ⊥

@@ -4,8 +4,7 @@ use Rattle.std.specs.Str.{bytes_eq}
 use Rattle.std.proofs.lemmas.Slice.Eq.{bytes_eq-Decides}
 use Rattle.std.proofs.lemmas.Bool.{cases_Bool, cases_eq, cases_lt}
 use Rattle.std.proofs.lemmas.Bool.Decides.{not_from_Decides}
-use Rattle.sqval.specs.Bytes.{part, word}
-use Rattle.sqval.specs.Database.{Pages}
+use Rattle.recovery.proofs.Words.{part, word, Pages}
 use Rattle.sqjournal.specs.NonceSum.{nonce_sum}
 use Rattle.sqjournal.specs.Header.{magic, HasMagic}
 use Rattle.sqjournal.specs.Journal.{Segment, Sizes, to_the_end, record_len, records_end, IsHeader, IsRecord, AreRecords, StopsAtHeader, StopsAtRecord, AreSegments}

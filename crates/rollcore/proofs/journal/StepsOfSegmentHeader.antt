@@ -1,18 +1,14 @@
--- The calls that bring a segment's header down.
+-- The calls that bring a segment's header durable.
 use Rattle.std.proofs.Common.{◌≡◌, ℕ, ◌+◌, ◌-◌, ◌^◌, ◌≤◌, List, ◌++◌, length, replicate, refl, ◌∙◌, arith}
 use Rattle.std.specs.Prelude.{Result, Ok, Err}
-use Rattle.sqval.specs.Database.{Database}
+use Rattle.recovery.proofs.Words.{Database, DiskState, Writes, Syncs, Log, DiskError, had_refusal, refusal_after}
 use Rattle.sqjournal.specs.Header.{Names, header_bytes}
 use Rattle.sqjournal.specs.declared.header.JournalHeader.{JournalHeader}
 use Rattle.sqjournal.proofs.read.JournalOfTakenBytes.{size_bounds}
-use Rattle.crashdisk.specs.Call.{DiskState, Writes, Syncs}
-use Rattle.crashdisk.specs.declared.file.File.TheVariants.{Log}
-use Rattle.crashdisk.specs.declared.error.DiskError.{DiskError}
 use Rattle.rollcore.specs.Journaling.{old_pages, sizes, next_place}
 use Rattle.rollcore.specs.internal.Journaling.{IsHeaderOf}
 use Rattle.rollcore.specs.internal.Segments.{Unharmed, Harmless, Journaled, Prepared, Heading, AddsPart}
 use Rattle.rollcore.specs.declared.error.RollError.TheVariants.{Device}
-use Rattle.crashdisk.proofs.call.UnchangingCalls.{had_refusal, refusal_after}
 use Rattle.rollcore.proofs.journal.UnharmedOldDatabase.{sectors_of, unharmed_by}
 use Rattle.rollcore.proofs.journal.WrittenSegmentHeader.{heading_writes, headed, heading_syncs, heading_down}
 use Rattle.rollcore.proofs.journal.WholeSegments.{next_of}

@@ -1,20 +1,11 @@
 -- What is left while a segment of the journal is written shows the database from before the commit.
 use Rattle.std.proofs.Common.{◌≡◌, ◌⊎◌, inl, inr, ⊎_elim, ℕ, ◌+◌, ◌*◌, Bool, List, ◌++◌, length, get_or, sym, ◌∙◌, subst, arith}
 use Rattle.std.proofs.lemmas.List.Elements.{Contains-append_left}
-use Rattle.sqval.specs.Bytes.{word}
-use Rattle.sqval.specs.PageSize.{IsPageSize}
-use Rattle.sqval.specs.Database.{Database, page}
-use Rattle.crashdisk.specs.State.{FileState, IsImage}
-use Rattle.crashdisk.specs.Call.{DiskState}
-use Rattle.crashdisk.specs.internal.Facts.{IsSteady}
-use Rattle.crashdisk.specs.Keeps.{Suits}
+use Rattle.recovery.proofs.Words.{word, IsPageSize, Database, page, FileState, IsImage, DiskState, IsSteady, Suits, page_at, page_by_bytes, MayBeRead}
 use Rattle.rollcore.specs.internal.Journaling.{Tells, HasOthers}
 use Rattle.rollcore.specs.internal.Segments.{Unharmed, StandOthers, IsAt}
-use Rattle.crashdisk.proofs.page.PlacesOfPages.{page_at}
-use Rattle.sqval.proofs.page.FilePages.{page_by_bytes}
 use Rattle.rollcore.proofs.journal.RestoredDatabase.{shows, sector_told}
 use Rattle.crashdisk.proofs.sync.BytesOfSyncedLog.{image_listed}
-use Rattle.recovery.specs.Logs.{MayBeRead}
 use Rattle.rollcore.specs.Alone.{journal_log}
 
 pub image_read : (s : DiskState) (w : List ℕ) → MayBeRead journal_log s w → IsImage s.sector s.tears s.log w

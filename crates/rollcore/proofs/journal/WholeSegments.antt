@@ -3,8 +3,7 @@ use Rattle.std.proofs.Common.{◌≡◌, ◌⊎◌, inl, inr, ℕ, ◌+◌, ◌-
 use Rattle.std.proofs.lemmas.List.{ext_get_or, get_or-take, get_or-drop, length-take-le}
 use Rattle.std.proofs.Math.Nat.{lt-div-mul-add}
 use Rattle.byteorder.specs.Endian.{big_number}
-use Rattle.sqval.specs.Bytes.{part, word}
-use Rattle.sqval.specs.Database.{Pages}
+use Rattle.recovery.proofs.Words.{part, word, Pages}
 use Rattle.sqjournal.specs.Header.{next_header}
 use Rattle.sqjournal.specs.Journal.{Segment, Sizes, record_len, records_end, IsHeader, IsRecord, AreRecords, AreAll, AreSegments, StopsAtHeader}
 use Rattle.sqjournal.specs.declared.reading.Why.{Why}
@@ -50,15 +49,6 @@ end_within z w nonce at (r ∷ rs) n le long are = end_within z w nonce (at + re
 
 pub next_above : (sector end : ℕ) → 1 ≤ sector → end ≤ next_header sector end
 next_above sector end some = let lt : end + sector - 1 < (end + sector - 1) / sector * sector + sector = lt-div-mul-add some in omega arith
-
--- a place is one of whole sectors
-abbrev pub IsMultiple : (sector place : ℕ) → Type 0
-IsMultiple sector place = (k : ℕ) × (place ≡ k * sector)
-
-pub full_multiple : (z : Sizes) (w : List ℕ) (from : ℕ) (segments : List Segment) (place : ℕ) → AreFull z w from segments place → IsMultiple z.sector from → IsMultiple z.sector place
-full_multiple z w from [] place are is = subst (λ (n : ℕ). IsMultiple z.sector n) (sym are) is
-full_multiple z w from (s ∷ segments) place are is =
-    full_multiple z w (next_place z from s.records) segments place are.5 ((records_end z (from + z.sector) s.records + z.sector - 1) / z.sector, refl)
 
 -- where a segment's records end the next header is behind it
 pub next_of : (z : Sizes) (from : ℕ) (rs : Pages) → 1 ≤ z.sector → from + z.sector ≤ next_header z.sector (records_end z (from + z.sector) rs)

@@ -2,25 +2,15 @@
 use Rattle.std.proofs.Common.{◌≡◌, inl, inr, ℕ, ◌+◌, ◌*◌, ◌/◌, ◌<◌, ◌≤◌, Bool, List, length, get_or, sym, ap, subst, arith}
 use Rattle.std.specs.Prelude.{Result}
 use Rattle.std.proofs.Math.Nat.{div-lt_iff_lt-mul}
-use Rattle.sqval.specs.Database.{Database}
+use Rattle.recovery.proofs.Words.{Database, DiskState, Writes, Syncs, Log, DiskError, settled_one, steady_writes, steady_syncs, Still, sector_some, still_sound, suits_by, suits_writes, suits_syncs, MayBeRead}
 use Rattle.crashdisk.specs.State.{FileState, IsImage, Meets}
-use Rattle.crashdisk.specs.Call.{DiskState, Writes, Syncs}
 use Rattle.crashdisk.specs.internal.Facts.{Steady, IsSteady, Spreads, IsClear}
-use Rattle.crashdisk.specs.declared.file.File.TheVariants.{Log}
-use Rattle.crashdisk.specs.declared.error.DiskError.{DiskError}
 use Rattle.crashdisk.proofs.call.WritesInOneRange.{started, then_write, then_sync}
-use Rattle.crashdisk.proofs.byte.SettledFiles.{settled_one}
-use Rattle.crashdisk.proofs.call.EffectsOfCalls.{steady_writes, steady_syncs}
-use Rattle.crashdisk.specs.Keeps.{Still}
 use Rattle.rollcore.specs.internal.Journaling.{Tells}
 use Rattle.rollcore.specs.internal.Segments.{Unharmed, IsAt, Journaled, Recording}
-use Rattle.crashdisk.proofs.page.PlacesOfPages.{sector_some}
-use Rattle.crashdisk.proofs.call.UnchangingCalls.{still_sound}
-use Rattle.crashdisk.proofs.page.RecoverablePages.{suits_by, suits_writes, suits_syncs}
 use Rattle.crashdisk.proofs.page.ClearPlacesOfPage.{untouched}
 use Rattle.rollcore.proofs.journal.UnharmedOldDatabase.{image_read, at_by, unharmed_still}
 use Rattle.rollcore.proofs.journal.JournalWithNewHeader.{journaled_same}
-use Rattle.recovery.specs.Logs.{MayBeRead}
 use Rattle.rollcore.specs.Alone.{journal_log}
 
 -- places in one sector are all below the end of a sector, or none is
@@ -56,8 +46,8 @@ module _ (size sector : ℕ) (d : Database) (named : List ℕ) (place : ℕ) whe
     recording_begins s is = record {
       at = is.at;
       is = is.is;
-      below = λ i lt v image. ap (λ (x : List ℕ). get_or x i 0) (settled_one s.log w is.down.settled s.sector s.tears v image);
-      long = omega (arith, is.down.settled.least);
+      below = λ i lt v image. ap (λ (x : List ℕ). get_or x i 0) (settled_one s.log w is.durable.settled s.sector s.tears v image);
+      long = omega (arith, is.durable.settled.least);
     }
 
     pub recording_writes : {T : Type 0} (at : ℕ) (bytes : List ℕ) (result : Result T DiskError) (old new : DiskState) → Recording size sector d named place w old → place + sector ≤ at

@@ -1,32 +1,23 @@
--- The header of a segment is written, and comes down.
+-- The header of a segment is written, and becomes durable.
 use Rattle.std.proofs.Common.{◌≡◌, ◌⊎◌, inl, inr, ⊎_elim, ℕ, ◌+◌, ◌-◌, ◌*◌, ◌/◌, ◌<◌, ◌≤◌, max, Bool, true, false, List, ◌∷◌, ◌++◌, length, get_or, replicate, refl, sym, ◌∙◌, ap, subst, arith, length-append, []}
 use Rattle.std.specs.Prelude.{Result, Ok, Err}
 use Rattle.std.proofs.lemmas.Bool.{cases_lt}
 use Rattle.std.proofs.lemmas.List.{get_or_append_left, get_or_past, length-replicate}
 use Rattle.std.proofs.lemmas.List.Elements.{Contains-append_left}
 use Rattle.std.proofs.lemmas.Nat.{div-mul-add}
-use Rattle.sqval.specs.PageSize.{IsPageSize}
-use Rattle.sqval.specs.Database.{Database}
+use Rattle.recovery.proofs.Words.{IsPageSize, Database, byte, IsImage, IsSound, WriteTouches, written, Changed, Spreads, Log, DiskError, alters_write, written_inside, present_list, present_written, suits_writes, suits_syncs, MayBeRead, written_read}
 use Rattle.sqjournal.specs.Header.{Names, header_bytes}
 use Rattle.sqjournal.specs.Journal.{records_end}
 use Rattle.sqjournal.specs.declared.header.JournalHeader.{JournalHeader}
-use Rattle.crashdisk.specs.State.{byte, IsImage, IsSound, WriteTouches, written, Changed}
 use Rattle.crashdisk.specs.Call.{DiskState, ArePresent, Writes, Syncs, SyncedBy, SinceSync}
-use Rattle.crashdisk.specs.internal.Facts.{Spreads}
-use Rattle.crashdisk.specs.declared.file.File.TheVariants.{Log}
-use Rattle.crashdisk.specs.declared.error.DiskError.{DiskError}
 use Rattle.crashdisk.proofs.image.OriginOfImages.{table, comes}
-use Rattle.crashdisk.proofs.byte.FixedBytes.{alters_write}
 use Rattle.crashdisk.proofs.byte.SettledFiles.{settled_one, settled_synced}
-use Rattle.crashdisk.proofs.call.SoundFileUnderChanges.{written_inside}
-use Rattle.crashdisk.proofs.call.EffectsOfCalls.{present_list, present_written}
 use Rattle.rollcore.specs.Alone.{AreWhole, journal_log}
 use Rattle.rollcore.specs.Journaling.{old_pages, sizes, next_place}
 use Rattle.rollcore.specs.internal.Journaling.{IsJournaled, Tells, IsHeaderOf}
 use Rattle.rollcore.specs.internal.Segments.{IsAt, Journaled, Prepared, Heading, AddsPart}
 use Rattle.rollcore.proofs.journal.EquivalentJournals.{hot_long}
 use Rattle.crashdisk.proofs.page.PlacesOfPages.{page_sector, sector_some}
-use Rattle.crashdisk.proofs.page.RecoverablePages.{suits_writes, suits_syncs}
 use Rattle.crashdisk.proofs.sync.BytesOfSyncedLog.{present_byte, present_image, log_syncs}
 use Rattle.rollcore.proofs.replays.FinalSteps.{sync_down}
 use Rattle.rollcore.proofs.journal.UnharmedOldDatabase.{at_by, sectors_of}
@@ -34,8 +25,6 @@ use Rattle.rollcore.proofs.journal.WholeSegments.{next_of}
 use Rattle.rollcore.proofs.journal.RecordAndHeaderBytes.{gate_same}
 use Rattle.rollcore.proofs.journal.JournalWithNewHeader.{headed_same, headed_new, part_new, headed_cold, headed_torn}
 use Rattle.rollcore.proofs.journal.RestoredDatabase.{journaled_cold}
-use Rattle.recovery.specs.Logs.{MayBeRead}
-use Rattle.recovery.proofs.OverwrittenLog.{written_read}
 
 -- a write of one whole sector stays in it
 clear : (s k place n i : ℕ) (tears : Bool) → 1 ≤ s → n ≡ s → place ≡ k * s → (i < place) ⊎ (place + s ≤ i) → Spreads s tears place (place + n) i → ⊥
@@ -92,26 +81,26 @@ module _ (size sector : ℕ) (d : Database) (named added : List ℕ) (nonce plac
 
     -- no log becomes shorter
     longer : Put old new → (tears : Bool) (v : List ℕ) → IsImage old.sector tears new.log v → length w ≤ length v
-    longer changed tears v image = omega (arith, image.least, changed.least, is.down.settled.least, is.down.settled.len)
+    longer changed tears v image = omega (arith, image.least, changed.least, is.durable.settled.least, is.durable.settled.len)
 
     -- what isn't of the header's sector stays
     outside : Put old new → IsSound old.sector new.log → (tears : Bool) (v : List ℕ) → IsImage old.sector tears new.log v → (i : ℕ) → (i < place) ⊎ (place + sector ≤ i) → get_or v i 0 ≡ get_or w i 0
     outside changed after tears v image i out =
         let was = (alters_write old.sector tears place bytes old.log new.log is.at.suits.sound.log after changed).comes v image in
-        let is_w : was.file ≡ w = settled_one old.log w is.down.settled old.sector tears was.file was.image in
+        let is_w : was.file ≡ w = settled_one old.log w is.durable.settled old.sector tears was.file was.image in
         let wide_sector : 512 ≤ sector = wide old is.at in
         let len : length bytes ≡ sector = long_bytes wide_sector in
         let at : place ≡ is.at.multiple.0 * old.sector = is.at.multiple.1 ∙ ap (λ (n : ℕ). is.at.multiple.0 * n) (sym is.at.sector_is) in
         ⊎_elim
         (λ lt. ⊎_elim
         (λ e. e ∙ ap (λ (x : List ℕ). get_or x i 0) is_w)
-        (λ past. absurd (omega (arith, past.0, is.down.settled.len)))
+        (λ past. absurd (omega (arith, past.0, is.durable.settled.len)))
         (was.each i (omega (arith, ap (λ (x : List ℕ). length x) is_w))
         (clear old.sector is.at.multiple.0 place (length bytes) i tears (omega (arith, is.at.sector_is)) (len ∙ sym is.at.sector_is) at (⊎_elim (λ a. inl a) (λ b. inr (omega (arith, is.at.sector_is))) out))))
         (λ ge.
         let short : length v ≤ i = ⊎_elim
         (λ below. absurd (⊎_elim (λ front. omega arith) (λ within. omega arith) is.is.long))
-        (λ behind. omega (arith, image.greatest, changed.greatest, is.down.settled.greatest, is.down.settled.len, len))
+        (λ behind. omega (arith, image.greatest, changed.greatest, is.durable.settled.greatest, is.durable.settled.len, len))
         out in
         get_or_past v i 0 short ∙ sym (get_or_past w i 0 ge))
         (cases_lt i (length w))
@@ -143,7 +132,7 @@ module _ (size sector : ℕ) (d : Database) (named added : List ℕ) (nonce plac
         let same = outside changed after false v image in
         let le : length w ≤ length v = longer changed false v image in
         let c = comes old.sector false (WriteTouches old.sector old.log place bytes) (written old.log place bytes) (max old.log.len (place + length bytes)) old.log new.log is.at.suits.sound.log changed v image in
-        let is_w : c.file ≡ w = settled_one old.log w is.down.settled old.sector false c.file c.image in
+        let is_w : c.file ≡ w = settled_one old.log w is.durable.settled old.sector false c.file c.image in
         let len : length bytes ≡ sector = long_bytes (wide old is.at) in
         ⊎_elim
         (λ short. inl (cold_short v le short))
@@ -171,7 +160,7 @@ module _ (size sector : ℕ) (d : Database) (named added : List ℕ) (nonce plac
     pub heading_writes : {T : Type 0} (called : Result T DiskError) → Writes Log place bytes called old new → Heading size sector d named place added new
     heading_writes {T = T} called wrote = record {
       at = at_by size sector d named place old new is.at (suits_writes size Log place bytes called old new is.at.suits wrote) wrote.elsewhere.sector wrote.elsewhere.tears wrote.elsewhere.other;
-      left = written_read journal_log Left w place bytes old new is.at.suits.sound is.down (inl (inl is.is.journaled)) (λ after changed v image. listed_put changed after v image)
+      left = written_read journal_log Left w place bytes old new is.at.suits.sound is.durable (inl (inl is.is.journaled)) (λ after changed v image. listed_put changed after v image)
           (λ torn after changed v image whole. torn_put torn changed after v image whole) called wrote;
     }
 
@@ -218,7 +207,7 @@ module _ (size sector : ℕ) (d : Database) (named added : List ℕ) (place : �
         };
       }
 
-  -- it is down, and the journal has one segment more, of which P holds
+  -- it is durable, and the journal has one segment more, of which P holds
   pub heading_down : (P : List ℕ → Type 0) {T : Type 0} {u : T} (old new : DiskState) → Heading size sector d named place added old
       → ((v : List ℕ) → ArePresent old.log v → IsJournaled size sector d (named ++ added) (next_place (sizes sector size) place (old_pages d added)) v × P v)
       → Syncs Log (Ok u) old new → (v : List ℕ) × Journaled size sector d (named ++ added) (next_place (sizes sector size) place (old_pages d added)) v new × P v
@@ -226,7 +215,7 @@ module _ (size sector : ℕ) (d : Database) (named added : List ℕ) (place : �
     table old.log.len (byte old.log),
     record {
       at = at_next new (at_by size sector d named place old new is.at (suits_syncs size Log (Ok u) old new is.at.suits synced) synced.elsewhere.sector synced.elsewhere.tears synced.elsewhere.other);
-      down = sync_down {T = T} (Ok u) u (table old.log.len (byte old.log)) old new is.at.suits.sound refl (Ok u, tt, synced) (present_list old.log);
+      durable = sync_down {T = T} (Ok u) u (table old.log.len (byte old.log)) old new is.at.suits.sound refl (Ok u, tt, synced) (present_list old.log);
       is = (there (table old.log.len (byte old.log)) (present_list old.log)).0;
     },
     (there (table old.log.len (byte old.log)) (present_list old.log)).1,

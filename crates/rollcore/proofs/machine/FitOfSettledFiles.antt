@@ -1,23 +1,13 @@
--- A disk on which both files are down fits the machine's beginning.
+-- A disk on which both files are durable fits the machine's beginning.
 use Rattle.std.proofs.Common.{◌≡◌, inr, ⊎_elim, ℕ, zero, suc, ◌<◌, ◌≤◌, Bool, true, List, [], ◌∷◌, get_or, refl, sym, ◌∙◌, subst, arith}
 use Rattle.std.proofs.lemmas.Bool.{cases_lt}
-use Rattle.sqval.specs.Bytes.{word}
-use Rattle.sqval.specs.PageSize.{IsPageSize}
-use Rattle.sqval.specs.Database.{Database}
-use Rattle.sqval.specs.Held.{IsJust, IsHeld}
+use Rattle.recovery.proofs.Words.{word, IsPageSize, Database, IsJust, IsHeld, IsSectorSize, IsSettled, IsImage, DiskState, IsNew, Suits, IsLogDurable, sound_new, settled_one, down_read, MayBeRead, ShowsWhole}
 use Rattle.sqjournal.specs.Journal.{IsHot}
-use Rattle.crashdisk.specs.State.{IsSectorSize, IsSettled, IsImage}
-use Rattle.crashdisk.specs.Call.{DiskState, IsNew}
-use Rattle.crashdisk.specs.Keeps.{Suits, IsLogDown}
-use Rattle.crashdisk.proofs.call.SoundDiskUnderCalls.{sound_new}
-use Rattle.crashdisk.proofs.byte.SettledFiles.{settled_one}
 use Rattle.rollcore.specs.Machine.{start}
 use Rattle.rollcore.specs.Fits.{NamesSectors, FitsDisk}
 use Rattle.rollcore.specs.Replaying.{TearsJournal}
 use Rattle.rollcore.proofs.openings.ErasedMagic.{magic_long}
-use Rattle.rollcore.proofs.replays.LengthOfDatabaseFile.{down_read}
 use Rattle.rollcore.proofs.openings.RecoveredFiles.{fits_rested}
-use Rattle.recovery.specs.Logs.{MayBeRead, ShowsWhole}
 use Rattle.rollcore.specs.Alone.{journal_log}
 
 held_at : (size : ℕ) (base : Database) → IsHeld size base → (i : ℕ) → i < 1 → IsHeld size (get_or (base ∷ []) i [])
@@ -25,10 +15,10 @@ held_at size base held zero lt = held
 held_at size base held (suc i) lt = absurd (omega arith)
 
 -- with an empty log
-pub down_fits : (size : ℕ) (base : Database) (bytes : List ℕ) (s : DiskState) → Suits size s → IsHeld size base → IsJust size base bytes → IsSettled s.db bytes → IsLogDown s [] → FitsDisk (start size base) s
-down_fits size base bytes s suits held just file down = fits_rested (start size base) s suits refl (held_at size base held) (record {
+pub down_fits : (size : ℕ) (base : Database) (bytes : List ℕ) (s : DiskState) → Suits size s → IsHeld size base → IsJust size base bytes → IsSettled s.db bytes → IsLogDurable s [] → FitsDisk (start size base) s
+down_fits size base bytes s suits held just file durable = fits_rested (start size base) s suits refl (held_at size base held) (record {
   file = λ db image. subst (λ (x : List ℕ). IsJust size base x) (sym (settled_one s.db bytes file s.sector s.tears db image)) just;
-  log = ([], down, λ magic. (let long = magic_long [] magic in omega (arith, long)));
+  log = ([], durable, λ magic. (let long = magic_long [] magic in omega (arith, long)));
 })
 
 pub base_fits : (size sector : ℕ) (torn : Bool) (base : Database) (bytes : List ℕ) (s : DiskState) → IsPageSize size → IsSectorSize sector → (torn ≡ true → sector ≤ size) → IsHeld size base → IsJust size base bytes
@@ -44,13 +34,13 @@ base_fits size sector torn base bytes s pages sectors whole held just is = down_
     (record { settled = is.log; kept = λ tears. is.kept; handed = is.handed })
 
 -- with any log that an opening doesn't refuse
-module _ (size : ℕ) (d : Database) (db log : List ℕ) (s : DiskState) (file : IsSettled s.db db) (down : IsLogDown s log) (shows : ShowsWhole journal_log size db log d) where
+module _ (size : ℕ) (d : Database) (db log : List ℕ) (s : DiskState) (file : IsSettled s.db db) (durable : IsLogDurable s log) (shows : ShowsWhole journal_log size db log d) where
   shown : (c w : List ℕ) → IsImage s.sector s.tears s.db c → MayBeRead journal_log s w → ShowsWhole journal_log size c w d
-  shown c w image may = subst (λ (x : List ℕ). ShowsWhole journal_log size x w d) (sym (settled_one s.db db file s.sector s.tears c image)) (subst (λ (x : List ℕ). ShowsWhole journal_log size db x d) (sym (down_read log s down w may)) shows)
+  shown c w image may = subst (λ (x : List ℕ). ShowsWhole journal_log size x w d) (sym (settled_one s.db db file s.sector s.tears c image)) (subst (λ (x : List ℕ). ShowsWhole journal_log size db x d) (sym (down_read journal_log log s durable w may)) shows)
 
   named : (TearsJournal s log → ⊥) → NamesSectors s
   named fits torn w may hot =
-      let same = down_read log s down w may in
+      let same = down_read journal_log log s durable w may in
       ⊎_elim
       (λ lt. absurd (fits (torn, subst IsHot same hot, inr (subst (λ (x : List ℕ). word x 20 < s.sector) same lt))))
       (λ le. le)

@@ -2,8 +2,7 @@
 use Rattle.std.proofs.Common.{◌≡◌, ℕ, zero, suc, ◌<◌, ◌≤◌, List, [], ◌∷◌, length, get_or, refl, subst, arith, inl, inr, Option, true}
 use Rattle.std.specs.Prelude.{None}
 use Rattle.sqval.specs.Database.{page}
-use Rattle.sqval.specs.Held.{IsHeld}
-use Rattle.sqval.specs.Answers.{Refuses}
+use Rattle.recovery.proofs.Words.{IsHeld, Refuses}
 use Rattle.rollcore.specs.Alone.{Show}
 use Rattle.rollcore.specs.Machine.{start, opened, committed, appended, closed, refusal_of}
 use Rattle.rollcore.specs.Rows.{three, NoLostCommit, NoHalf}

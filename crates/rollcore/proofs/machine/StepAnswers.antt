@@ -1,12 +1,8 @@
 -- What a step may answer, and that it leads to one state alone.
 use Rattle.std.proofs.Common.{inl, inr, ℕ, true, false, List, refl, ◌∙◌, ap}
-use Rattle.sqval.specs.Database.{Pages, page}
-use Rattle.sqval.specs.Answers.{Files, Answer, Done, Page, Refused, PlainStep, told}
+use Rattle.recovery.proofs.Words.{Pages, page, Files, Answer, Done, Page, Refused, PlainStep, told, IsOf, refused_of, accepted, IsExpected, newest}
 use Rattle.rollcore.specs.Machine.{Act, Opens, Commits, Reads, Crashes, Sets, State, closed, appended, commit_refusal, read_refusal, OpenStep, CommitStep, ReadStep, Step}
-use Rattle.sqval.proofs.database.AnswersOfEngine.{IsOf, refused_of, accepted}
-use Rattle.recovery.specs.Moments.{IsExpected}
 use Rattle.rollcore.specs.Laws.{expected, takes_memory, needs_disk}
-use Rattle.recovery.specs.Histories.{newest}
 
 open_of : (s : State) (found : Files) (answer : Answer) (b a : ℕ) (t : State) → OpenStep s found answer b a t → IsOf Done true true answer b a
 open_of s found Done b a t h = inl refl

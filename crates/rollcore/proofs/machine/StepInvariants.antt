@@ -1,13 +1,10 @@
 -- What each step of the machine keeps.
 use Rattle.std.proofs.Common.{◌≡◌, ℕ, ◌+◌, ◌<◌, ◌≤◌, List, ◌∷◌, ◌++◌, length, take, refl, sym, ◌∙◌, ap, subst, arith, length-append, length-take, lit<, []}
 use Rattle.std.proofs.lemmas.List.{take-append-le, take-take}
-use Rattle.sqval.specs.Database.{Database, apply}
-use Rattle.sqval.specs.Answers.{Answer}
-use Rattle.sqval.specs.Runs.{Moment, Runs}
+use Rattle.recovery.proofs.Words.{Database, apply, Answer, Moment, Runs, newest}
 use Rattle.rollcore.specs.Machine.{Act, State, start, closed, Step}
 use Rattle.rollcore.specs.Laws.{IsSane, Keeps}
 use Rattle.rollcore.proofs.machine.StepTargets.{Targets, step_in}
-use Rattle.recovery.specs.Histories.{newest}
 
 -- ---- The floor is a place of the history.
 
@@ -33,20 +30,20 @@ sane_runs s b (m ∷ ms) t a i h = sane_runs h.1.0 m.refused ms t a (sane_step s
 pub sane_start : (page_size : ℕ) (base : Database) → IsSane (start page_size base)
 sane_start page_size base = lit< tt
 
--- ---- What is down stays.
+-- ---- What is durable stays.
 
 same_history : (s t : State) → t.page_size ≡ s.page_size → s.floor ≤ t.floor → t.history ≡ s.history → Keeps s t
-same_history s t p f e = record { page_size = p; floor = f; down = ap (λ h. take (s.floor + 1) h) e }
+same_history s t p f e = record { page_size = p; floor = f; durable = ap (λ h. take (s.floor + 1) h) e }
 
 kept_targets : (s : State) → IsSane s → Targets (Keeps s) s
 kept_targets s i =
     let grown = λ (d : Database). take-append-le (s.floor + 1) s.history (d ∷ []) (omega arith) in
     record {
       stays = same_history s s refl (omega arith) refl;
-      opens = λ k g h. record { page_size = refl; floor = g; down = take-take (s.floor + 1) (k + 1) s.history (omega arith) };
+      opens = λ k g h. record { page_size = refl; floor = g; durable = take-take (s.floor + 1) (k + 1) s.history (omega arith) };
       closes = same_history s (closed s) refl (omega arith) refl;
-      commits = λ pages size. record { page_size = refl; floor = omega arith; down = grown (apply (newest s.history) pages size) };
-      fails = λ pages size. record { page_size = refl; floor = omega arith; down = grown (apply (newest s.history) pages size) };
+      commits = λ pages size. record { page_size = refl; floor = omega arith; durable = grown (apply (newest s.history) pages size) };
+      fails = λ pages size. record { page_size = refl; floor = omega arith; durable = grown (apply (newest s.history) pages size) };
     }
 
 kept_step : (s : State) (act : Act) (answer : Answer) (b a : ℕ) (t : State) → IsSane s → Step s act answer b a t → Keeps s t
@@ -59,7 +56,7 @@ kept_on s t u h g =
     record {
       page_size = g.page_size ∙ h.page_size;
       floor = omega arith;
-      down = sym (take-take (s.floor + 1) (t.floor + 1) u.history (omega arith)) ∙ (ap (λ x. take (s.floor + 1) x) g.down ∙ (take-take (s.floor + 1) (t.floor + 1) t.history (omega arith) ∙ h.down));
+      durable = sym (take-take (s.floor + 1) (t.floor + 1) u.history (omega arith)) ∙ (ap (λ x. take (s.floor + 1) x) g.durable ∙ (take-take (s.floor + 1) (t.floor + 1) t.history (omega arith) ∙ h.durable));
     }
 
 pub kept_runs : (s : State) (b : ℕ) (ms : List (Moment Act)) (t : State) (a : ℕ) → IsSane s → Runs Step s b ms t a → Keeps s t

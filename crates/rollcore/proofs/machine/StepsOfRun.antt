@@ -1,11 +1,9 @@
 -- The steps of a run, one after another.
 use Rattle.std.proofs.Common.{◌≡◌, ℕ, ◌<◌, ◌≤◌, List, [], ◌∷◌, length, refl, subst, arith}
-use Rattle.sqval.specs.Answers.{Files, Answer, Done}
-use Rattle.sqval.specs.Runs.{Moment, Runs}
+use Rattle.recovery.proofs.Words.{Files, Answer, Done, Moment, Runs, at}
 use Rattle.rollcore.specs.Alone.{Show}
 use Rattle.rollcore.specs.Machine.{Act, Opens, State, opened, start, Step}
 use Rattle.rollcore.specs.Rows.{IsRunOn, three}
-use Rattle.recovery.specs.Histories.{at}
 
 -- these moments are a run on from here
 pub record Leads (s : State) (before : ℕ) (ms : List (Moment Act)) : Type 0 where

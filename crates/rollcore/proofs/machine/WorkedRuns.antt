@@ -1,11 +1,10 @@
 -- Worked runs, step by step.
 use Rattle.std.proofs.Common.{◌≡◌, ℕ, true, List, ◌∷◌, length, Option, Some, None, refl, inl, inr, lit<, lit≤, []}
 use Rattle.sqval.specs.Database.{page}
-use Rattle.sqval.specs.Answers.{HasCause, Refuses}
+use Rattle.recovery.proofs.Words.{HasCause, Refuses, refuses_first}
 use Rattle.rollcore.specs.Machine.{refusal_of}
 use Rattle.rollcore.specs.Rows.{Committed, Stopped, StoppedLate, CallsRefused}
 use Rattle.rollcore.proofs.machine.StepsOfRun.{end, next, go, on_base}
-use Rattle.sqval.proofs.database.AnswersOfEngine.{refuses_first}
 
 -- a commit of a page of the right length
 fits : (content : List ℕ) → length content ≡ 512 → refusal_of 3 512 ((1, content) ∷ []) 1 1 ≡ None

@@ -1,44 +1,24 @@
 -- The first byte of a magic is made a zero at the front of a log that isn't hot: no log that may be read is.
-use Rattle.std.proofs.Common.{◌≡◌, inl, inr, ⊎_elim, ℕ, ◌+◌, ◌-◌, ◌/◌, ◌<◌, ◌≤◌, max, Bool, true, false, List, ◌∷◌, ◌++◌, length, get_or, take, drop, refl, sym, ◌∙◌, ap, subst, arith, length-drop, length-take, []}
+use Rattle.std.proofs.Common.{◌≡◌, inl, inr, ⊎_elim, ℕ, ◌+◌, ◌-◌, ◌/◌, ◌<◌, ◌≤◌, max, Bool, true, false, List, ◌∷◌, length, get_or, take, drop, refl, sym, ◌∙◌, ap, subst, arith, length-drop, length-take, []}
 use Rattle.std.specs.Prelude.{Result, Ok, Err}
 use Rattle.std.specs.List.{Contains}
 use Rattle.std.proofs.lemmas.List.{get_or-take, get_or-drop, get_or-append_right, ext_get_or}
 use Rattle.std.proofs.lemmas.List.Elements.{Contains-push_cases}
 use Rattle.std.proofs.lemmas.Bool.{cases_lt}
-use Rattle.sqval.specs.Bytes.{word}
-use Rattle.sqval.specs.Database.{Database}
-use Rattle.sqval.specs.PageSize.{IsPageSize}
+use Rattle.recovery.proofs.Words.{word, Database, IsPageSize, FileState, byte, IsImage, IsSound, WriteTouches, written, Changed, IsSectorSize, DiskState, IsSoundDisk, ArePresent, Writes, InFile, Log, DiskError, settled_one, written_inside, written_outside, present_written, IsLogDurable, Still, Later, SyncStep, still_sound, refusal_after, down_by, down_present, present_byte, sync_refused, down_read, may_down, ShowsAlone, shows_by, narrows_syncs, written_read}
 use Rattle.sqjournal.specs.Header.{HasMagic}
 use Rattle.sqjournal.specs.Journal.{IsHot}
-use Rattle.crashdisk.specs.State.{FileState, byte, IsImage, IsSound, WriteTouches, written, Changed, IsSectorSize}
-use Rattle.crashdisk.specs.Call.{DiskState, IsSoundDisk, ArePresent, Writes}
-use Rattle.crashdisk.specs.internal.Call.{InFile}
-use Rattle.crashdisk.specs.declared.file.File.TheVariants.{Log}
-use Rattle.crashdisk.specs.declared.error.DiskError.{DiskError}
 use Rattle.crashdisk.proofs.byte.FixedBytes.{alters_write, whole_write}
-use Rattle.crashdisk.proofs.byte.SettledFiles.{settled_one}
-use Rattle.crashdisk.proofs.call.SoundFileUnderChanges.{written_inside, written_outside}
-use Rattle.crashdisk.proofs.call.EffectsOfCalls.{present_written}
 use Rattle.rollcore.specs.Alone.{AreWhole, Show, journal_log}
-use Rattle.crashdisk.specs.Keeps.{IsLogDown, Still, Later}
-use Rattle.crashdisk.specs.internal.Keeps.{SyncStep}
 use Rattle.rollcore.specs.internal.Lengths.{ShowsOne}
 use Rattle.rollcore.specs.Opening.{LosesMagic}
 use Rattle.rollcore.specs.internal.Opening.{PutsZero, BreakSteps, AreCold, FrontAnswer}
 use Rattle.rollcore.specs.declared.error.RollError.{RollError}
 use Rattle.rollcore.proofs.journal.EquivalentJournals.{zeros_cold, part_same, word_same}
-use Rattle.crashdisk.proofs.call.UnchangingCalls.{still_sound, refusal_after}
 use Rattle.rollcore.proofs.crash.ImagesOfSyncedLog.{down_left}
-use Rattle.crashdisk.proofs.sync.BytesOfSyncedLog.{down_by, down_present, present_byte}
 use Rattle.rollcore.proofs.replays.FinalSteps.{sync_down}
-use Rattle.crashdisk.proofs.call.DisksAfterCalls.{sync_refused}
 use Rattle.rollcore.proofs.disk.InvariantsOfCalls.{goes_broken}
-use Rattle.rollcore.proofs.replays.LengthOfDatabaseFile.{down_read, may_down}
 use Rattle.rollcore.specs.declared.error.RollError.TheVariants.{Device}
-use Rattle.recovery.specs.Logs.{ShowsAlone}
-use Rattle.recovery.proofs.ShownDatabase.{shows_by}
-use Rattle.recovery.proofs.NarrowedImages.{narrows_syncs}
-use Rattle.recovery.proofs.OverwrittenLog.{written_read}
 
 -- a log with a magic at its front has eight bytes
 pub magic_long : (w : List ℕ) → HasMagic w 0 → 8 ≤ length w
@@ -93,23 +73,23 @@ one_write write has = ⊎_elim (λ empty. absurd (omega (arith, empty.1))) (λ e
 zero_plus : (i : ℕ) → 0 + i ≡ i
 zero_plus i = omega arith
 
-module _ (w : List ℕ) (old new : DiskState) (sound : IsSoundDisk old) (sectors : IsSectorSize old.sector) (down : IsLogDown old w) (some : 8 ≤ length w) (cold : IsHot w → ⊥) where
+module _ (w : List ℕ) (old new : DiskState) (sound : IsSoundDisk old) (sectors : IsSectorSize old.sector) (durable : IsLogDurable old w) (some : 8 ≤ length w) (cold : IsHot w → ⊥) where
   module _ (after : IsSound old.sector new.log) (changed : Changed old.sector (WriteTouches old.sector old.log 0 (0 ∷ [])) (written old.log 0 (0 ∷ [])) (max old.log.len (0 + length {A = ℕ} (0 ∷ []))) old.log new.log) where
     same_length : (tears : Bool) (v : List ℕ) → IsImage old.sector tears new.log v → length v ≡ length w
-    same_length tears v image = omega (arith, some, image.greatest, image.least, changed.greatest, changed.least, down.settled.greatest, down.settled.len, down.settled.least)
+    same_length tears v image = omega (arith, some, image.greatest, image.least, changed.greatest, changed.least, durable.settled.greatest, durable.settled.len, durable.settled.least)
 
     put_listed : (v : List ℕ) → IsImage old.sector false new.log v → IsHot v → ⊥
     put_listed v image hot =
         let long = same_length false v image in
         let was = (alters_write old.sector false 0 (0 ∷ []) old.log new.log sound.log after changed).comes v image in
-        let is_w : was.file ≡ w = settled_one old.log w down.settled old.sector false was.file was.image in
+        let is_w : was.file ≡ w = settled_one old.log w durable.settled old.sector false was.file was.image in
         ⊎_elim
         (λ put. zeros_cold v (ap (λ (j : ℕ). get_or v j 0) (sym (zero_plus 0)) ∙ put 0 (omega arith)) hot)
         (λ kept. cold (subst IsHot (ext_get_or 0 v w long (λ i lt. ⊎_elim
-        (λ a. let z : i ≡ 0 = omega arith in ap (λ (j : ℕ). get_or v j 0) (z ∙ sym (zero_plus 0)) ∙ kept.2 0 (omega arith) ∙ ap (λ (x : List ℕ). get_or x (0 + 0) 0) (settled_one old.log w down.settled old.sector false kept.0 kept.1) ∙ ap (λ (j : ℕ). get_or w j 0) (zero_plus 0 ∙ sym z))
+        (λ a. let z : i ≡ 0 = omega arith in ap (λ (j : ℕ). get_or v j 0) (z ∙ sym (zero_plus 0)) ∙ kept.2 0 (omega arith) ∙ ap (λ (x : List ℕ). get_or x (0 + 0) 0) (settled_one old.log w durable.settled old.sector false kept.0 kept.1) ∙ ap (λ (j : ℕ). get_or w j 0) (zero_plus 0 ∙ sym z))
         (λ b. ⊎_elim
         (λ e. e ∙ ap (λ (x : List ℕ). get_or x i 0) is_w)
-        (λ past. absurd (omega (arith, past.0, down.settled.len)))
+        (λ past. absurd (omega (arith, past.0, durable.settled.len)))
         (was.each i (omega (arith, ap (λ (x : List ℕ). length x) is_w)) (λ spreads. ⊎_elim (λ in_range. omega (arith, in_range.1)) (λ torn. cc torn.0) spreads)))
         (cases_lt i 1))) hot))
         (whole_write old.sector 0 (0 ∷ []) old.log new.log sound.log changed (λ i le lt. let z : i ≡ 0 = omega arith in ap (λ (j : ℕ). j / old.sector) z) v image (omega (arith, long, some)))
@@ -128,12 +108,12 @@ module _ (w : List ℕ) (old new : DiskState) (sound : IsSoundDisk old) (sectors
 
   pub written_cold : {T : Type 0} (result : Result T DiskError) → Writes Log 0 (0 ∷ []) result old new → AreCold new
   written_cold result wrote =
-      written_read journal_log (λ v. IsHot v → ⊥) w 0 (0 ∷ []) old new sound down cold put_listed (λ torn after changed v image whole hot. put_torn after changed v image whole hot) result wrote
+      written_read journal_log (λ v. IsHot v → ⊥) w 0 (0 ∷ []) old new sound durable cold put_listed (λ torn after changed v image whole hot. put_torn after changed v image whole hot) result wrote
 
 -- ---- what was shown still is
 
 -- the file is left alone, and no log is hot
-module _ (size : ℕ) (d : Database) (w : List ℕ) (old new : DiskState) (down : IsLogDown old w) (cold : IsHot w → ⊥) (sound : IsSoundDisk new)
+module _ (size : ℕ) (d : Database) (w : List ℕ) (old new : DiskState) (durable : IsLogDurable old w) (cold : IsHot w → ⊥) (sound : IsSoundDisk new)
     (sector : new.sector ≡ old.sector) (tears : new.tears ≡ old.tears) (same : new.db ≡ old.db) (are_cold : AreCold new) where
   file_before : (db : List ℕ) → IsImage new.sector new.tears new.db db → IsImage old.sector old.tears old.db db
   file_before db image = subst (λ (n : ℕ). IsImage n old.tears old.db db) sector (subst (λ (x : Bool). IsImage new.sector x old.db db) tears (subst (λ (s : FileState). IsImage new.sector new.tears s db) same image))
@@ -146,27 +126,27 @@ module _ (size : ℕ) (d : Database) (w : List ℕ) (old new : DiskState) (down 
 
   pub cold_one : ShowsOne size d old → ShowsOne size d new
   cold_one one = record {
-    alone = cold_alone (λ db image. one.alone.images db w image (down_left w old down));
+    alone = cold_alone (λ db image. one.alone.images db w image (down_left w old durable));
     ends = record {
-      cold = λ db v image may c. one.ends.cold db w (file_before db image) (may_down w old down) cold;
+      cold = λ db v image may c. one.ends.cold db w (file_before db image) (may_down journal_log w old durable) cold;
       sectors = λ torn v may hot. absurd (are_cold v may hot);
     };
   }
 
 -- ---- the steps
 
-module _ (w : List ℕ) (a b : DiskState) (sound : IsSoundDisk a) (sectors : IsSectorSize a.sector) (down : IsLogDown a w) (cold : IsHot w → ⊥) where
-  still_down : Still a b → IsLogDown b w
-  still_down is = down_by w a b down is.log is.tears is.kept is.handed
+module _ (w : List ℕ) (a b : DiskState) (sound : IsSoundDisk a) (sectors : IsSectorSize a.sector) (durable : IsLogDurable a w) (cold : IsHot w → ⊥) where
+  still_down : Still a b → IsLogDurable b w
+  still_down is = down_by w a b durable is.log is.tears is.kept is.handed
 
   still_cold : Still a b → AreCold b
-  still_cold is v may hot = cold (subst IsHot (down_read w b (still_down is) v may) hot)
+  still_cold is v may hot = cold (subst IsHot (down_read journal_log w b (still_down is) v may) hot)
 
   puts_cold : {T : Type 0} (called : Result T DiskError) → PutsZero 0 called a b → AreCold b
   puts_cold called puts =
       let is = puts.still in
-      written_cold w puts.mid b (still_sound a puts.mid sound is) (subst IsSectorSize (sym is.sector) sectors) (down_by w a puts.mid down is.log is.tears is.kept is.handed)
-      (magic_long w (puts.magic w (down_present w a down))) cold called puts.wrote
+      written_cold w puts.mid b (still_sound a puts.mid sound is) (subst IsSectorSize (sym is.sector) sectors) (down_by w a puts.mid durable is.log is.tears is.kept is.handed)
+      (magic_long w (puts.magic w (down_present w a durable))) cold called puts.wrote
 
   failed_cold : (e : RollError) → BreakSteps 0 (Err e) a b → AreCold b
   failed_cold e steps = ⊎_elim (λ is. still_cold is) (λ puts. puts_cold puts.0 puts.1) steps.2
@@ -180,7 +160,7 @@ module _ (w : List ℕ) (a b : DiskState) (sound : IsSoundDisk a) (sectors : IsS
   pub front_none : (r : Result Bool RollError) → r ≡ Ok false → BreakSteps 0 r a b → FrontAnswer {T = Unit {0}} w (Ok tt) a b
   front_none r was steps =
       let none = subst (λ (x : Result Bool RollError). BreakSteps 0 x a b) was steps in
-      record { cold = still_cold none.0; done = (w, still_down none.0, record { broken = λ magic. absurd (none.1 w (down_present w a down) magic); same = λ _. refl }); refused = tt }
+      record { cold = still_cold none.0; done = (w, still_down none.0, record { broken = λ magic. absurd (none.1 w (down_present w a durable) magic); same = λ _. refl }); refused = tt }
 
   -- one stood there, and the log is synced
   module _ (r : Result Bool RollError) (was : r ≡ Ok true) (steps : BreakSteps 0 r a b) (c : DiskState) where
@@ -199,12 +179,12 @@ module _ (w : List ℕ) (a b : DiskState) (sound : IsSoundDisk a) (sectors : IsS
         subst (λ (y : Result U RollError). FrontAnswer w y a c) (sym given) (record { cold = synced_cold q step; done = tt; refused = (refused.0, refusal_after a b c goes.refused refused.1) })
 
     there_magic : HasMagic w 0
-    there_magic = puts.magic w (down_present w a down)
+    there_magic = puts.magic w (down_present w a durable)
 
     there_are : ArePresent b.log (0 ∷ drop 1 w)
     there_are =
         let is = puts.still in
-        let are = down_present w puts.mid (down_by w a puts.mid down is.log is.tears is.kept is.handed) in
+        let are = down_present w puts.mid (down_by w a puts.mid durable is.log is.tears is.kept is.handed) in
         zero_present w puts.mid b are (magic_long w there_magic) tt puts.wrote
 
     pub front_synced : {T : Type 0} (v : T) (q : Result T RollError) → q ≡ Ok v → SyncStep Device Log q b c → FrontAnswer {T = Unit {0}} w (Ok tt) a c

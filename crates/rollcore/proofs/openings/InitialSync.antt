@@ -1,15 +1,10 @@
 -- An opening syncs the log before anything else.
 use Rattle.std.proofs.Common.{◌≡◌, inl, inr, subst, ℕ}
 use Rattle.std.specs.Prelude.{Result, Ok, Err, MatchResult}
-use Rattle.crashdisk.specs.Call.{DiskState, Syncs}
-use Rattle.crashdisk.specs.declared.file.File.TheVariants.{Log}
-use Rattle.crashdisk.specs.declared.error.DiskError.{DiskError}
-use Rattle.crashdisk.specs.internal.Keeps.{SyncStep}
-use Rattle.crashdisk.proofs.call.DisksAfterCalls.{told_err, told_ok}
+use Rattle.recovery.proofs.Words.{DiskState, Syncs, Log, DiskError, SyncStep, told_err, told_ok, Agrees}
 use Rattle.rollcore.specs.Opening.{AgreesSynced, RefusedSynced}
 use Rattle.rollcore.specs.declared.error.RollError.{RollError}
 use Rattle.rollcore.specs.declared.error.RollError.TheVariants.{Device}
-use Rattle.recovery.specs.Logs.{Agrees}
 use Rattle.rollcore.specs.Alone.{journal_log}
 
 -- what an opening does, by its answer

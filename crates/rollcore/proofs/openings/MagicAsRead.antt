@@ -3,19 +3,12 @@ use Rattle.std.proofs.Common.{◌≡◌, ⊎_elim, inl, inr, ℕ, ◌+◌, ◌<�
 use Rattle.std.specs.Prelude.{Result, Err}
 use Rattle.std.proofs.lemmas.List.{ext_get_or, get_or-take, get_or-drop, length-take-le}
 use Rattle.std.proofs.lemmas.Bool.{cases_lt}
-use Rattle.sqval.specs.Bytes.{part}
+use Rattle.recovery.proofs.Words.{part, FileState, byte, longest, DiskState, IsSoundDisk, ArePresent, Writes, Looks, Log, DiskError, Still, present_byte, had_refusal, refusal_after, still_looks, still_sound}
 use Rattle.sqjournal.specs.Header.{HasMagic, magic}
-use Rattle.crashdisk.specs.State.{FileState, byte, longest}
-use Rattle.crashdisk.specs.Call.{DiskState, IsSoundDisk, ArePresent, Writes, Looks}
-use Rattle.crashdisk.specs.declared.file.File.TheVariants.{Log}
-use Rattle.crashdisk.specs.declared.error.DiskError.{DiskError}
 use Rattle.crashdisk.proofs.call.SoundFileUnderChanges.{byte_past}
-use Rattle.crashdisk.specs.Keeps.{Still}
 use Rattle.rollcore.specs.internal.Opening.{PutsZero, BreakSteps}
 use Rattle.rollcore.specs.declared.error.RollError.{RollError}
 use Rattle.rollcore.specs.declared.error.RollError.TheVariants.{Device}
-use Rattle.crashdisk.proofs.sync.BytesOfSyncedLog.{present_byte}
-use Rattle.crashdisk.proofs.call.UnchangingCalls.{had_refusal, refusal_after, still_looks, still_sound}
 
 module _ (w : List ℕ) (s : FileState) (at : ℕ) (front : List ℕ) (are : ArePresent s w) (eight : length front ≡ 8) (same : (i : ℕ) → i < length front → get_or front i 0 ≡ byte s (at + i)) where
   read_byte : (i : ℕ) → i < 8 → get_or front i 0 ≡ get_or w (at + i) 0

@@ -3,26 +3,17 @@ use Rattle.std.proofs.Common.{◌≡◌, inl, inr, ⊎_elim, ℕ, ◌+◌, ◌-�
 use Rattle.std.specs.Prelude.{Result, Ok, Err, IsTrue, Some, MatchOption}
 use Rattle.std.proofs.lemmas.List.{get_or-take, ext_get_or, length-take-le}
 use Rattle.std.proofs.lemmas.Bool.{cases_eq}
-use Rattle.sqval.specs.Bytes.{word}
+use Rattle.recovery.proofs.Words.{word, most_bytes, IsHeld, FileState, byte, IsImage, DiskState, IsSoundDisk, ArePresent, table, present_list, Suits, IsLogDurable, Still, SyncStep, Files, may_down, down_read, unwritten_begins, unwritten_still, unwritten_shows, present_image, down_present, down_by, file_syncs, sync_refused, Log, size_some, file_count, refusal_after, sector_within, AreFiles, MayRefuse, may_after, ShowsAlone, MayBeRead, ShowsWhole, shows_by, narrows_syncs, narrows_still, at, last, newest}
 use Rattle.sqval.specs.Database.{Database, page, file_page}
-use Rattle.sqval.specs.CommitFaults.{most_bytes}
-use Rattle.sqval.specs.Held.{IsHeld}
 use Rattle.sqjournal.specs.Header.{HasMagic}
 use Rattle.sqjournal.specs.Journal.{Segment, IsHot}
 use Rattle.sqjournal.specs.Restored.{all_records, last_content}
 use Rattle.sqjournal.proofs.read.UniquenessOfReading.{one_journal}
-use Rattle.crashdisk.specs.State.{FileState, byte, IsImage}
-use Rattle.crashdisk.specs.Call.{DiskState, IsSoundDisk, ArePresent}
-use Rattle.crashdisk.proofs.image.OriginOfImages.{table}
-use Rattle.crashdisk.proofs.call.EffectsOfCalls.{present_list}
 use Rattle.rollcore.specs.Alone.{Show, journal_log}
-use Rattle.crashdisk.specs.Keeps.{Suits, IsLogDown, Still}
-use Rattle.crashdisk.specs.internal.Keeps.{SyncStep}
 use Rattle.rollcore.specs.Changes.{MayRecover, Asks}
 use Rattle.rollcore.specs.internal.Plans.{IsBelow, IsSmall, IsPlanWithin, PlanAnswer, ReadAnswer}
 use Rattle.rollcore.specs.Replaying.{zeroed}
 use Rattle.rollcore.specs.internal.Steps.{torn_sector, RolledAnswer}
-use Rattle.sqval.specs.Answers.{Files}
 use Rattle.rollcore.specs.Machine.{State, opened, closed}
 use Rattle.rollcore.specs.Refusal.{number_of}
 use Rattle.rollcore.specs.Fits.{ShowsHistory, FitsDisk, Rests, OpenedTo, GivenUpTo}
@@ -34,45 +25,31 @@ use Rattle.rollcore.specs.declared.plan.Plan.{Plan}
 use Rattle.rollcore.specs.declared.replaying.Replayed.{Replayed}
 use Rattle.rollcore.specs.declared.error.RollError.{RollError}
 use Rattle.rollcore.specs.declared.error.RollError.TheVariants.{TooLarge, PageSize, NoMemory, Device, SectorAbovePage}
-use Rattle.rollcore.proofs.replays.ShownDatabaseAtExits.{scanning_begins, scanning_still, scanning_shows}
 use Rattle.rollcore.proofs.openings.ErasedMagic.{zero_gate, lost_magic, cold_one}
 use Rattle.rollcore.proofs.crash.ImagesOfSyncedLog.{down_left}
-use Rattle.crashdisk.proofs.sync.BytesOfSyncedLog.{present_image, down_present, down_by, file_syncs}
-use Rattle.rollcore.proofs.replays.LengthOfDatabaseFile.{may_down, down_read, ends_down, named_by}
+use Rattle.rollcore.proofs.replays.LengthOfDatabaseFile.{ends_down, named_by}
 use Rattle.rollcore.proofs.replays.FinalSteps.{sync_down}
-use Rattle.crashdisk.proofs.call.DisksAfterCalls.{sync_refused}
 use Rattle.rollcore.proofs.disk.ToldRefusals.{asks_err, asks_step, asks_then}
 use Rattle.rollcore.proofs.disk.InvariantsOfCalls.{suits_go}
-use Rattle.crashdisk.specs.declared.file.File.TheVariants.{Log}
 use Rattle.rollcore.proofs.crash.NarrowedImages.{ends_narrow, history_narrows, sectors_narrow}
-use Rattle.sqval.proofs.page.FilePages.{size_some, file_count}
 use Rattle.rollcore.proofs.replays.AnswerOfParts.{zeroed_zero, within_some}
-use Rattle.crashdisk.proofs.call.UnchangingCalls.{refusal_after}
-use Rattle.crashdisk.proofs.page.RecoverablePages.{sector_within}
-use Rattle.recovery.specs.Files.{AreFiles}
-use Rattle.recovery.specs.internal.Steps.{MayRefuse}
-use Rattle.recovery.proofs.AnswersOfSteps.{may_after}
-use Rattle.recovery.specs.Logs.{ShowsAlone, MayBeRead, ShowsWhole}
-use Rattle.recovery.proofs.ShownDatabase.{shows_by}
-use Rattle.recovery.proofs.NarrowedImages.{narrows_syncs, narrows_still}
-use Rattle.recovery.specs.Histories.{at, last, newest}
 
--- with no header at the front of the log that is down the file is just the database
-pub rests_by : (size : ℕ) (d : Database) (v : List ℕ) (s : DiskState) → ShowsOne size d s → IsLogDown s v → (HasMagic v 0 → ⊥) → Rests size d s
-rests_by size d v s one down gate =
+-- with no header at the front of the log that is durable the file is just the database
+pub rests_by : (size : ℕ) (d : Database) (v : List ℕ) (s : DiskState) → ShowsOne size d s → IsLogDurable s v → (HasMagic v 0 → ⊥) → Rests size d s
+rests_by size d v s one durable gate =
     let cold : IsHot v → ⊥ = λ hot. gate hot.first.magic in
     record {
-      file = λ db image. record { long = one.ends.cold db v image (may_down v s down) cold; each = ((one.alone.images db v image (down_left v s down)).cold cold).each };
-      log = (v, down, gate);
+      file = λ db image. record { long = one.ends.cold db v image (may_down journal_log v s durable) cold; each = ((one.alone.images db v image (down_left v s durable)).cold cold).each };
+      log = (v, durable, gate);
     }
 
-pub one_still : (size : ℕ) (d : Database) (w : List ℕ) (a b : DiskState) → IsLogDown a w → Still a b → ShowsOne size d a → ShowsOne size d b
-one_still size d w a b down is one = record {
-  alone = scanning_shows size d w b (scanning_still size d w a b (scanning_begins size d w a down one.alone) is);
+pub one_still : (size : ℕ) (d : Database) (w : List ℕ) (a b : DiskState) → IsLogDurable a w → Still a b → ShowsOne size d a → ShowsOne size d b
+one_still size d w a b durable is one = record {
+  alone = unwritten_shows journal_log size d w b (unwritten_still journal_log size d w a b (unwritten_begins journal_log size d w a durable one.alone) is);
   ends = ends_narrow a b (narrows_still journal_log a b is) (length d * size) one.ends;
 }
 
-module _ (size : ℕ) (d : Database) (w : List ℕ) (s : DiskState) (suits : Suits size s) (held : IsHeld size d) (down : IsLogDown s w) (one : ShowsOne size d s) where
+module _ (size : ℕ) (d : Database) (w : List ℕ) (s : DiskState) (suits : Suits size s) (held : IsHeld size d) (durable : IsLogDurable s w) (one : ShowsOne size d s) where
   now : List ℕ
   now = table s.db.len (byte s.db)
 
@@ -84,7 +61,7 @@ module _ (size : ℕ) (d : Database) (w : List ℕ) (s : DiskState) (suits : Sui
   now_image = present_image s.sector s.tears s.db now suits.sound.db now_are
 
   here : Show size now w d
-  here = one.alone.images now w now_image (down_left w s down)
+  here = one.alone.images now w now_image (down_left w s durable)
 
   hot_size : IsHot w → size ≡ word w 24
   hot_size hot = (here.hot hot).0
@@ -96,7 +73,7 @@ module _ (size : ℕ) (d : Database) (w : List ℕ) (s : DiskState) (suits : Sui
   hot_product hot = ap (λ (n : ℕ). n * word w 24) (sym (hot_count hot)) ∙ ap (λ (n : ℕ). length d * n) (sym (hot_size hot))
 
   cold_long : (IsHot w → ⊥) → s.db.len ≡ length d * size
-  cold_long cold = sym now_are.len ∙ one.ends.cold now w now_image (may_down w s down) cold
+  cold_long cold = sym now_are.len ∙ one.ends.cold now w now_image (may_down journal_log w s durable) cold
 
   below : IsHot w → IsBelow (torn_sector s) w → ⊥
   below hot under = by s.tears refl
@@ -104,7 +81,7 @@ module _ (size : ℕ) (d : Database) (w : List ℕ) (s : DiskState) (suits : Sui
       by : (b : Bool) → s.tears ≡ b → ⊥
       by true e =
           let is : IsBelow s.sector w = subst (λ (x : Bool). IsBelow (cond x s.sector 0) w) e under in
-          ⊎_elim (λ l. omega (arith, l, hot_size hot, sector_within size s suits e)) (λ l. omega (arith, l, one.ends.sectors e w (may_down w s down) hot)) is
+          ⊎_elim (λ l. omega (arith, l, hot_size hot, sector_within size s suits e)) (λ l. omega (arith, l, one.ends.sectors e w (may_down journal_log w s durable) hot)) is
       by false e =
           let none : IsBelow 0 w = subst (λ (x : Bool). IsBelow (cond x s.sector 0) w) e under in
           ⊎_elim (λ l. omega (arith, l)) (λ l. omega (arith, l)) none
@@ -114,7 +91,7 @@ module _ (size : ℕ) (d : Database) (w : List ℕ) (s : DiskState) (suits : Sui
   module _ (a : DiskState) (is : Still s a) where
     refuse : (e : RollError) → ReadAnswer most_bytes (torn_sector s) w (Err e) s a → MayRefuse NoMemory Device e s a
     unfolding ReadAnswer PlanAnswer
-    refuse TooLarge x = absurd (⊎_elim (λ far. omega (arith, far, (down_present w s down).len, suits.sound.log.greatest, suits.sound.log.within)) (λ large. omega (arith, large.1, hot_product large.0, held.few)) x)
+    refuse TooLarge x = absurd (⊎_elim (λ far. omega (arith, far, (down_present w s durable).len, suits.sound.log.greatest, suits.sound.log.within)) (λ large. omega (arith, large.1, hot_product large.0, held.few)) x)
     refuse SectorAbovePage x = absurd (below x.0 x.2)
     refuse NoMemory x = inl refl
     refuse Device x = inr (refl, x)
@@ -122,7 +99,7 @@ module _ (size : ℕ) (d : Database) (w : List ℕ) (s : DiskState) (suits : Sui
 
     pub unplanned : (e : RollError) (r : Result (Option Plan) RollError) (q : Result ℕ RollError) → r ≡ Err e → q ≡ Err e → ReadAnswer most_bytes (torn_sector s) w r s a → RecoverAnswer size d q s a
     unplanned e r q was given answer = subst (λ (x : Result ℕ RollError). RecoverAnswer size d x s a) (sym given)
-        (refuse e (subst (λ (x : Result (Option Plan) RollError). ReadAnswer most_bytes (torn_sector s) w x s a) was answer), one_still size d w s a down is one)
+        (refuse e (subst (λ (x : Result (Option Plan) RollError). ReadAnswer most_bytes (torn_sector s) w x s a) was answer), one_still size d w s a durable is one)
 
     pub misjudged : {T : Type 0} (e : RollError) (r : Result T RollError) (q : Result ℕ RollError) → IsHot w → r ≡ Err e → SizeJudged size w r → q ≡ Err e → RecoverAnswer size d q s a
     misjudged {T = T} e r q hot was answer given = absurd (by e (subst (λ (x : Result T RollError). SizeJudged size w x) was answer))
@@ -158,15 +135,15 @@ module _ (size : ℕ) (d : Database) (w : List ℕ) (s : DiskState) (suits : Sui
       long : a.db.len ≡ length d * size
       long = ap (λ (f : FileState). f.len) is.db ∙ cold_long cold
 
-      down_a : IsLogDown a w
-      down_a = down_by w s a down is.log is.tears is.kept is.handed
+      down_a : IsLogDurable a w
+      down_a = down_by w s a durable is.log is.tears is.kept is.handed
 
       module _ (b : DiskState) (then : Still a b) where
-        down_b : IsLogDown b w
+        down_b : IsLogDurable b w
         down_b = down_by w a b down_a then.log then.tears then.kept then.handed
 
         one_b : ShowsOne size d b
-        one_b = one_still size d w a b down_a then (one_still size d w s a down is one)
+        one_b = one_still size d w a b down_a then (one_still size d w s a durable is one)
 
         miscounted : (e : RollError) → CountAnswer size a.db.len (Err e) a b → MayRefuse NoMemory Device e s b
         miscounted PageSize x = absurd (x.1 (length d) held.some (sym long))
@@ -298,7 +275,7 @@ module _ (past : State) (found : Files) (s : DiskState) (fits : FitsDisk past s)
     goes : Asks (MayRecover past.page_size) r s a
     goes = asks_step Log r s a (inl tt) fits.suits.sound step
 
-    settled_down : IsLogDown a found.log
+    settled_down : IsLogDurable a found.log
     settled_down = sync_down r v found.log s a fits.suits.sound was step are.log
 
     settled_suits : Suits past.page_size a
@@ -310,8 +287,8 @@ module _ (past : State) (found : Files) (s : DiskState) (fits : FitsDisk past s)
     pub settled_one : ShowsOne past.page_size (at past.history is.place) a
     settled_one = record {
       alone = shows_by journal_log past.page_size (at past.history is.place) a goes.later.sound (λ u. u ≡ found.log)
-          (λ u left. down_read found.log a settled_down u (inr left))
-          (λ u image. down_read found.log a settled_down u (inl image))
+          (λ u left. down_read journal_log found.log a settled_down u (inr left))
+          (λ u image. down_read journal_log found.log a settled_down u (inl image))
           (λ db u image e. subst (λ (x : List ℕ). Show past.page_size db x (at past.history is.place)) (sym e) (shows_a db image).shows);
       ends = ends_down found.log a settled_down (length (at past.history is.place) * past.page_size) (λ cold db image. (shows_a db image).whole cold)
           (λ hot. named_by found.log s a goes.later.sector goes.later.tears (λ torn. fits.sectors torn found.log found_read hot));
@@ -333,9 +310,9 @@ module _ (past : State) (found : Files) (s : DiskState) (fits : FitsDisk past s)
     )
 
     pub settled : (size : ℕ) → past.page_size ≡ size → (q : Result ℕ RollError) (b : DiskState) → Asks (MayRecover size) q a b
-        → ((d : Database) → Suits size a → IsHeld size d → IsLogDown a found.log → ShowsOne size d a → RecoverAnswer size d q a b) → RecoveredAt past found q s b
+        → ((d : Database) → Suits size a → IsHeld size d → IsLogDurable a found.log → ShowsOne size d a → RecoverAnswer size d q a b) → RecoveredAt past found q s b
     settled size same q b then recovers = by_answer q b (subst (λ (n : ℕ). Asks (MayRecover n) q a b) (sym same) then)
-        (subst (λ (n : ℕ). (d : Database) → Suits n a → IsHeld n d → IsLogDown a found.log → ShowsOne n d a → RecoverAnswer n d q a b) (sym same) recovers (at past.history is.place) settled_suits settled_held settled_down settled_one)
+        (subst (λ (n : ℕ). (d : Database) → Suits n a → IsHeld n d → IsLogDurable a found.log → ShowsOne n d a → RecoverAnswer n d q a b) (sym same) recovers (at past.history is.place) settled_suits settled_held settled_down settled_one)
 
 -- ---- what an opening leaves to hold
 
@@ -351,8 +328,8 @@ module _ (h : List Database) (k : ℕ) (within : k < length h) where
 
 -- a disk at rest fits
 pub fits_rested : (past : State) (s : DiskState) → Suits past.page_size s → past.floor + 1 ≡ length past.history → ((i : ℕ) → i < length past.history → IsHeld past.page_size (at past.history i)) → Rests past.page_size (newest past.history) s → FitsDisk past s
-fits_rested past s suits down held rests =
-    let cold : (w : List ℕ) → MayBeRead journal_log s w → IsHot w → ⊥ = λ w may hot. rests.log.2 (subst (λ (x : List ℕ). HasMagic x 0) (down_read rests.log.0 s rests.log.1 w may) hot.first.magic) in
+fits_rested past s suits durable held rests =
+    let cold : (w : List ℕ) → MayBeRead journal_log s w → IsHot w → ⊥ = λ w may hot. rests.log.2 (subst (λ (x : List ℕ). HasMagic x 0) (down_read journal_log rests.log.0 s rests.log.1 w may) hot.first.magic) in
     let whole : (db w : List ℕ) → IsImage s.sector s.tears s.db db → MayBeRead journal_log s w → ShowsWhole journal_log past.page_size db w (newest past.history) = λ db w image may. record {
       shows = record {
         hot = λ hot. absurd (cold w may hot);
@@ -395,7 +372,7 @@ module _ (past : State) (found : Files) (s : DiskState) (fits : FitsDisk past s)
       let at_k = x.1 in
       let e = cut_last past.history at_k.place at_k.within in
       let rests = subst (λ (d : Database). Rests past.page_size d b) (sym e) at_k.rests in
-      let down : at_k.place + 1 ≡ length (take (at_k.place + 1) past.history) = sym (cut_long past.history at_k.place at_k.within) in
+      let durable : at_k.place + 1 ≡ length (take (at_k.place + 1) past.history) = sym (cut_long past.history at_k.place at_k.within) in
       record {
         next = opened past at_k.place;
         same = record { sector = x.0.later.sector; tears = x.0.later.tears; calls = x.0.later.calls };
@@ -403,14 +380,14 @@ module _ (past : State) (found : Files) (s : DiskState) (fits : FitsDisk past s)
         told = λ lt. absurd (let d = x.0.told lt in cc);
         row = (at_k.place, at_k.floor, at_k.within, at_k.shown, at_k.newest_is, refl);
         fits = record {
-          disk = fits_rested (opened past at_k.place) b (suits_go past.page_size s b x.0.later fits.suits) down
+          disk = fits_rested (opened past at_k.place) b (suits_go past.page_size s b x.0.later fits.suits) durable
               (λ i lt. subst (λ (d : Database). IsHeld past.page_size d) (sym (cut_at past.history at_k.place at_k.within i lt)) (fits.held i (omega (arith, cut_long past.history at_k.place at_k.within)))) rests;
           page_size = is.page_size ∙ sym same;
           is_open = is.is_open;
           core = λ opens. record {
             size = is.size ∙ at_k.count ∙ ap (λ (d : Database). length d) (sym e);
             rests = rests;
-            down = down;
+            durable = durable;
             record_room = core.record_room ∙ ap (λ (m : ℕ). m + 8) (is.page_size ∙ sym same);
             header_room = is.header_room ∙ whole ∙ sym x.0.later.sector;
           };

@@ -1,32 +1,19 @@
 -- What refuses an opening, whatever stands on the disk.
-use Rattle.std.proofs.Common.{◌≡◌, ◌⊎◌, inl, inr, ⊎_elim, ℕ, ◌*◌, ◌<◌, ◌≤◌, Bool, true, false, cond, List, length, refl, sym, ◌∙◌, ap, subst, arith}
+use Rattle.std.proofs.Common.{◌≡◌, ◌⊎◌, inl, inr, ⊎_elim, ℕ, ◌<◌, ◌≤◌, Bool, true, false, cond, List, length, refl, sym, ◌∙◌, ap, subst, arith}
 use Rattle.std.specs.Prelude.{Result, Ok, Err, IfErr, Option}
-use Rattle.sqval.specs.Bytes.{word}
+use Rattle.recovery.proofs.Words.{word, FileState, DiskState, IsSoundDisk, ArePresent, Syncs, InFile, Log, DiskError, HadRefusal, KeepsBytes, IsLogDurable, Still, TearsPages, Later, SyncStep, most_bytes, sync_refused, told_ok, sync_later, refusal_after, present_in, present_synced, if_err, still_bytes}
 use Rattle.sqjournal.specs.Journal.{IsHot}
-use Rattle.crashdisk.specs.State.{FileState}
-use Rattle.crashdisk.specs.Call.{DiskState, IsSoundDisk, ArePresent, Syncs}
-use Rattle.crashdisk.specs.internal.Call.{InFile}
-use Rattle.crashdisk.specs.declared.file.File.TheVariants.{Log}
-use Rattle.crashdisk.specs.declared.error.DiskError.{DiskError}
-use Rattle.crashdisk.specs.Keeps.{HadRefusal, KeepsBytes, IsLogDown, Still, TearsPages, Later}
-use Rattle.crashdisk.specs.internal.Keeps.{SyncStep}
 use Rattle.rollcore.specs.internal.Steps.{torn_sector, RolledAnswer}
 use Rattle.rollcore.specs.internal.Plans.{IsFit, IsWithin, PlanAnswer, ReadAnswer}
 use Rattle.rollcore.specs.Replaying.{TearsJournal}
-use Rattle.sqval.specs.CommitFaults.{most_bytes}
 use Rattle.rollcore.specs.Opening.{IsAboveLimit, RefusedFor, MayOpen, LeavesFiles}
 use Rattle.rollcore.specs.internal.Opening.{CountAnswer, SizeJudged, BreakSteps, FrontAnswer, FilesAnswer}
 use Rattle.rollcore.specs.declared.plan.Plan.{Plan}
 use Rattle.rollcore.specs.declared.replaying.Replayed.{Replayed}
 use Rattle.rollcore.specs.declared.error.RollError.{RollError}
 use Rattle.rollcore.specs.declared.error.RollError.TheVariants.{TooLarge, PageSize, NoMemory, Device, SectorAbovePage}
-use Rattle.crashdisk.proofs.call.DisksAfterCalls.{sync_refused, told_ok, sync_later}
 use Rattle.rollcore.proofs.replays.AnswerOfParts.{tears_by, fits_whole, short, small}
-use Rattle.crashdisk.proofs.call.UnchangingCalls.{refusal_after, present_in}
-use Rattle.crashdisk.proofs.call.EffectsOfCalls.{present_synced}
 use Rattle.rollcore.proofs.replays.FinalSteps.{sync_down}
-use Rattle.sqval.proofs.database.AnswersOfEngine.{if_err}
-use Rattle.recovery.proofs.AnswersOfSteps.{still_bytes}
 
 pub from_err : {T : Type 0} (q : Result T RollError) (e : RollError) (P : RollError → Type 0) → q ≡ Err e → IfErr q P → P e
 from_err {T = T} q e P is p = subst (λ (x : Result T RollError). IfErr x P) is p
@@ -172,7 +159,7 @@ module _ {T : Type 0} (v : T) (r : Result T RollError) (s a : DiskState) (sound 
   files_after size db w (Err e) b x = after size db w e b x
 
   pub synced_files : {U : Type 0} (size : ℕ) (db w : List ℕ) (q : Result U RollError) (b : DiskState) → ArePresent s.db db → ArePresent s.log w
-      → (ArePresent a.db db → IsLogDown a w → FilesAnswer size db w q a b) → FilesAnswer size db w q s b
+      → (ArePresent a.db db → IsLogDurable a w → FilesAnswer size db w q a b) → FilesAnswer size db w q s b
   synced_files size db w q b are_db are rest = files_after size db w q b (rest (present_in s.db a.db db step.2.elsewhere.other are_db) (sync_down r v w s a sound was step are))
 
 -- ---- sectors that tear are larger than the pages

@@ -2,35 +2,19 @@
 use Rattle.std.proofs.Common.{◌≡◌, ℕ, ◌+◌, ◌-◌, ◌*◌, ◌<◌, ◌≤◌, false, List, length, get_or, refl, sym, ◌∙◌, ap, subst, arith}
 use Rattle.std.specs.Prelude.{Result, Ok, Err, IfErr, Some, None}
 use Rattle.std.proofs.Math.Nat.{mul-le-mul_right}
-use Rattle.sqval.specs.Database.{page}
-use Rattle.sqval.specs.Answers.{Answer, Page, Refused}
-use Rattle.crashdisk.specs.State.{byte, longest}
-use Rattle.crashdisk.specs.Call.{DiskState, IsSoundDisk}
-use Rattle.crashdisk.specs.declared.file.File.TheVariants.{Db}
-use Rattle.crashdisk.proofs.image.OriginOfImages.{table}
-use Rattle.crashdisk.proofs.byte.FixedBytes.{image_present}
-use Rattle.crashdisk.proofs.call.EffectsOfCalls.{present_list}
+use Rattle.recovery.proofs.Words.{page, Answer, Page, Refused, byte, longest, DiskState, IsSoundDisk, Db, table, image_present, present_list, SameFiles, Still, TellsRefusal, present_byte, down_by, page_by_bytes, page_end, calls_wider, suits_by, none_above, is_zero, is_above, is_closed, refuses_first, refuses_cause, answered, newest}
 use Rattle.rollcore.specs.Machine.{State, Act, Reads, Step, read_refusal}
 use Rattle.rollcore.specs.Refusal.{number_of}
-use Rattle.crashdisk.specs.Keeps.{SameFiles, Still, TellsRefusal}
 use Rattle.crashdisk.specs.internal.Keeps.{PlaceAnswer}
 use Rattle.rollcore.specs.Paging.{ReadJudged, ReadAnswers}
 use Rattle.rollcore.specs.Fits.{FitsDisk, IsCore, FitsCore, Rests, StepsTo}
 use Rattle.rollcore.specs.declared.error.RollError.{RollError}
 use Rattle.rollcore.specs.declared.error.RollError.TheVariants.{Closed, PageZero, PageAboveSize, BadLength, Device}
 use Rattle.rollcore.specs.declared.state.Core.{Core}
-use Rattle.crashdisk.proofs.sync.BytesOfSyncedLog.{present_byte, down_by}
 use Rattle.rollcore.proofs.crash.NarrowedImages.{history_narrows, sectors_narrow}
-use Rattle.sqval.proofs.page.FilePages.{page_by_bytes}
-use Rattle.crashdisk.proofs.page.PlacesOfPages.{page_end}
-use Rattle.crashdisk.proofs.call.SequencesOfCalls.{calls_wider}
 use Rattle.crashdisk.proofs.call.UnchangingCalls.{still, same_files, same_sound, image_same, present_in}
-use Rattle.crashdisk.proofs.page.RecoverablePages.{suits_by}
-use Rattle.sqval.proofs.database.AnswersOfEngine.{none_above, is_zero, is_above, is_closed, refuses_first, refuses_cause}
-use Rattle.recovery.specs.Moments.{answered}
 use Rattle.recovery.proofs.NarrowedImages.{narrows_same}
 use Rattle.rollcore.specs.Alone.{journal_log}
-use Rattle.recovery.specs.Histories.{newest}
 
 -- ---- what fits a core still fits after calls that change nothing
 
@@ -55,7 +39,7 @@ fits_still past core s t is fits = record {
   disk = fits_disk_still past s t is fits.disk;
   page_size = fits.page_size;
   is_open = fits.is_open;
-  core = λ opens. let held = fits.core opens in record { size = held.size; rests = rests_still past.page_size (newest past.history) s t is held.rests; down = held.down; record_room = held.record_room; header_room = held.header_room ∙ sym is.sector };
+  core = λ opens. let held = fits.core opens in record { size = held.size; rests = rests_still past.page_size (newest past.history) s t is held.rests; durable = held.durable; record_room = held.record_room; header_room = held.header_room ∙ sym is.sector };
 }
 
 -- a row of the machine that doesn't step

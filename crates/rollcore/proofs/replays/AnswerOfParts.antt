@@ -4,20 +4,13 @@ use Rattle.std.specs.Prelude.{Result, Ok, Err, Option, MatchOption, Some, None, 
 use Rattle.std.specs.List.{flat_map}
 use Rattle.std.proofs.lemmas.List.{ext_get_or, get_or_append_left, get_or-replicate, length-replicate}
 use Rattle.std.proofs.Math.Nat.{mul-le-mul_right}
-use Rattle.sqval.specs.Bytes.{word}
+use Rattle.recovery.proofs.Words.{word, FileState, byte, IsSettled, longest, DiskState, IsSoundDisk, ArePresent, Syncs, Looks, Log, DiskError, table, present_list, KeepsBytes, Still, refusal_after, present_in, had_refusal, down_by, down_syncs, Unwritten, ArePages}
 use Rattle.sqval.specs.Database.{Database, page}
 use Rattle.sqjournal.specs.Journal.{IsHot}
 use Rattle.sqjournal.specs.Restored.{IsRolledBack}
 use Rattle.sqjournal.specs.Took.{HasCount}
-use Rattle.crashdisk.specs.State.{FileState, byte, IsSettled, longest}
-use Rattle.crashdisk.specs.Call.{DiskState, IsSoundDisk, ArePresent, Syncs, Looks}
-use Rattle.crashdisk.specs.declared.file.File.TheVariants.{Log}
-use Rattle.crashdisk.specs.declared.error.DiskError.{DiskError}
 use Rattle.crashdisk.proofs.call.SoundFileUnderChanges.{byte_below}
-use Rattle.crashdisk.proofs.image.OriginOfImages.{table}
-use Rattle.crashdisk.proofs.call.EffectsOfCalls.{present_list}
 use Rattle.rollcore.specs.Replaying.{TearsJournal, IsTooLargeWithin, zeroed, IsIdle, ReplayAnswer}
-use Rattle.crashdisk.specs.Keeps.{KeepsBytes, Still}
 use Rattle.rollcore.specs.internal.Steps.{torn_sector, EndAnswer, RolledAnswer}
 use Rattle.rollcore.specs.internal.Plans.{IsBelow, IsFit, IsPlan, IsPlanWithin, IsWithin, PlanAnswer, ReadAnswer}
 use Rattle.rollcore.specs.declared.plan.Plan.{Plan}
@@ -26,13 +19,11 @@ use Rattle.rollcore.specs.declared.error.RollError.{RollError}
 use Rattle.rollcore.specs.declared.error.RollError.TheVariants.{TooLarge, NoMemory, Device, SectorAbovePage}
 use Rattle.rollcore.proofs.journal.EquivalentJournals.{hot_long, zeros_cold}
 use Rattle.rollcore.proofs.replays.DecisivePrefixOfJournal.{read_count}
-use Rattle.crashdisk.proofs.call.UnchangingCalls.{refusal_after, present_in, had_refusal}
-use Rattle.crashdisk.proofs.sync.BytesOfSyncedLog.{down_by, down_syncs}
 use Rattle.rollcore.proofs.replays.ScanOfLogPrefix.{had_refusal_any}
 use Rattle.sqjournal.proofs.read.BytesTakenByReplay.{has_count}
-use Rattle.rollcore.specs.internal.Phases.{Scanning, Writing}
+use Rattle.rollcore.specs.Alone.{journal_log}
+use Rattle.rollcore.specs.internal.Phases.{Writing}
 use Rattle.rollcore.proofs.replays.LastRecordOfPage.{flat_is, made_length, rolled_exists}
-use Rattle.recovery.specs.internal.Files.{ArePages}
 use Rattle.recovery.specs.internal.Steps.{CopyAnswer}
 
 -- ---- What is planned is replayed.
@@ -118,7 +109,7 @@ pub pages_at : (n size : ℕ) (w : List ℕ) (d : Database) (a b : DiskState) �
 pages_at n size w d a b e is pages = subst (λ (k : ℕ). ArePages k d b.db) (e ∙ sym is.named) pages
 
 -- the journal's pages for the present file are those of the database that is shown
-pub rolled_present : (size : ℕ) (w : List ℕ) (d : Database) (s : DiskState) → IsHot w → Scanning size d w s → IsRolledBack (table s.db.len (byte s.db)) w d
+pub rolled_present : (size : ℕ) (w : List ℕ) (d : Database) (s : DiskState) → IsHot w → Unwritten journal_log size d w s → IsRolledBack (table s.db.len (byte s.db)) w d
 rolled_present size w d s hot is = ((is.present (table s.db.len (byte s.db)) (present_list s.db)).hot hot).1
 
 pub torn_still : (a b : DiskState) → Still a b → torn_sector b ≡ torn_sector a
@@ -187,7 +178,7 @@ module _ (db w : List ℕ) (a : DiskState) (sound : IsSoundDisk a) (are_db : Are
               records = none;
               size = zero;
               bytes = bytes_kept;
-              down = λ v down. down_by v a b down is.log is.tears is.kept is.handed;
+              durable = λ v durable. down_by v a b durable is.log is.tears is.kept is.handed;
             };
             cold = λ bytes here hot. cold (subst IsHot (one_present bytes here) hot);
           },
@@ -253,7 +244,7 @@ module _ {T : Type 0} {u : T} (db w : List ℕ) (a b c : DiskState) (synced : Sy
   tears_before tears = (synced.elsewhere.tears ∙ tears.0, tears.1, subst (λ (n : ℕ). (word w 24 < n) ⊎ (word w 20 < n)) (sym synced.elsewhere.sector) tears.2)
 
   idle_after : (r : Replayed) → IsIdle r b c → IsIdle r a c
-  idle_after r x = record { hot = x.hot; records = x.records; size = x.size; bytes = bytes_after x.bytes; down = λ v down. x.down v (down_syncs v Log (Ok u) a b down synced) }
+  idle_after r x = record { hot = x.hot; records = x.records; size = x.size; bytes = bytes_after x.bytes; durable = λ v durable. x.durable v (down_syncs v Log (Ok u) a b durable synced) }
 
   after : (most : ℕ) (q : Result Replayed RollError) → ReplayAnswer most db w q b c → ReplayAnswer most db w q a c
   after most (Ok r) x = (x.0, λ tears. x.1 (tears_before tears), record { rolled = x.2.rolled; idle = λ cold. idle_after r (x.2.idle cold); cold = x.2.cold })

@@ -3,33 +3,18 @@ use Rattle.std.proofs.Common.{◌≡◌, ◌≢◌, ◌⊎◌, inl, inr, ⊎_eli
 use Rattle.std.specs.Prelude.{Result, Ok, Err, Option, MatchOption, Some, None, slice_get}
 use Rattle.std.proofs.lemmas.List.{get_or-take, get_or-drop, length-take-le, take_all}
 use Rattle.std.proofs.Math.Nat.{mul-le-mul_right}
-use Rattle.sqval.specs.Bytes.{part, word}
-use Rattle.sqval.specs.Database.{Database, page}
+use Rattle.recovery.proofs.Words.{part, word, Database, page, FileState, byte, longest, DiskState, IsSoundDisk, ArePresent, Writes, Cuts, Looks, Db, DiskError, cut_below, present_cut, mid_inside, run_cases, run_apart, run_inside, run_outside, Still, KeepsLog, page_within, get_or-file_page, still_looks, refusal_after, had_refusal, present_byte}
 use Rattle.sqjournal.specs.Journal.{Segment, IsHot, IsJournal}
 use Rattle.sqjournal.specs.Took.{HasEntry}
 use Rattle.sqjournal.specs.declared.reading.Why.{Why}
 use Rattle.sqjournal.specs.Restored.{IsRolledBack}
 use Rattle.sqjournal.specs.declared.reading.Record.{Record}
-use Rattle.crashdisk.specs.State.{FileState, byte, longest}
-use Rattle.crashdisk.specs.Call.{DiskState, IsSoundDisk, ArePresent, Writes, Cuts, Looks}
-use Rattle.crashdisk.specs.declared.file.File.TheVariants.{Db}
-use Rattle.crashdisk.specs.declared.error.DiskError.{DiskError}
-use Rattle.crashdisk.proofs.call.SoundFileUnderChanges.{cut_below}
-use Rattle.crashdisk.proofs.call.EffectsOfCalls.{present_cut}
 use Rattle.rollcore.specs.Changes.{AreWholePages}
 use Rattle.rollcore.specs.internal.Steps.{PutsRun, RunAnswer}
 use borrow.Rule.Slice.PartMut.{put_mid}
-use Rattle.crashdisk.proofs.sector.BytesOfRead.{mid_inside}
-use Rattle.crashdisk.proofs.page.RunsOfPages.{run_cases, run_apart, run_inside, run_outside}
-use Rattle.crashdisk.specs.Keeps.{Still}
-use Rattle.crashdisk.specs.internal.Keeps.{KeepsLog}
 use Rattle.rollcore.specs.declared.error.RollError.{RollError}
 use Rattle.rollcore.specs.declared.error.RollError.TheVariants.{Device}
-use Rattle.crashdisk.proofs.page.PlacesOfPages.{page_within}
-use Rattle.sqval.proofs.page.FilePages.{get_or-file_page}
-use Rattle.crashdisk.proofs.call.UnchangingCalls.{still_looks, refusal_after, had_refusal}
 use Rattle.rollcore.proofs.replays.LastRecordOfPage.{made, made_none, made_other, made_apart, made_run, made_all, entries_of, entry_is, entry_within, no_entry}
-use Rattle.crashdisk.proofs.sync.BytesOfSyncedLog.{present_byte}
 use Rattle.recovery.specs.internal.Steps.{CopyAnswer}
 
 -- ---- What is read of records.

@@ -3,8 +3,7 @@ use Rattle.std.proofs.Common.{◌≡◌, inr, ⊎_elim, ℕ, ◌+◌, ◌≤◌,
 use Rattle.std.specs.Prelude.{Option, Some, None}
 use Rattle.std.proofs.lemmas.List.{append-nil}
 use Rattle.std.proofs.lemmas.Bool.{cases_lt}
-use Rattle.sqval.specs.Bytes.{word}
-use Rattle.sqval.specs.PageSize.{IsPageSize}
+use Rattle.recovery.proofs.Words.{word, IsPageSize}
 use Rattle.sqjournal.specs.Header.{next_header, Names}
 use Rattle.sqjournal.specs.Journal.{Segment, Sizes, sizes_of, records_end, AreSegments, IsHot, IsFirst, entries, entry_of}
 use Rattle.sqjournal.specs.Took.{Took, Says, IsSettled, HasEntry, HasCount}

@@ -3,25 +3,11 @@ use Rattle.std.proofs.Common.{◌≡◌, inr, ⊎_elim, ℕ, ◌+◌, ◌-◌, �
 use Rattle.std.specs.Prelude.{Result, Ok, Err}
 use Rattle.std.proofs.lemmas.List.{length-replicate, get_or-replicate, get_or_append_left, get_or-append_right, get_or-drop}
 use Rattle.std.proofs.lemmas.Bool.{cases_lt}
-use Rattle.crashdisk.specs.State.{FileState, IsSettled}
-use Rattle.crashdisk.specs.Call.{DiskState, IsSoundDisk, ArePresent, Writes, Syncs}
-use Rattle.crashdisk.specs.internal.Call.{InFile}
-use Rattle.crashdisk.specs.declared.file.File.TheVariants.{Db, Log}
-use Rattle.crashdisk.specs.declared.error.DiskError.{DiskError}
-use Rattle.crashdisk.proofs.call.EffectsOfCalls.{present_written}
-use Rattle.crashdisk.proofs.call.SoundFileUnderChanges.{written_inside, written_outside}
-use Rattle.crashdisk.proofs.call.SoundDiskUnderCalls.{sound_writes}
+use Rattle.recovery.proofs.Words.{FileState, IsSettled, DiskState, IsSoundDisk, ArePresent, Writes, Syncs, InFile, Db, Log, DiskError, present_written, written_inside, written_outside, sound_writes, HadRefusal, IsLogDurable, Later, SyncStep, refusal_after, present_byte, synced_down, told_ok, none_ok, sync_later, sync_done, ZeroSteps, zero_db}
 use Rattle.rollcore.specs.Replaying.{zeroed}
-use Rattle.crashdisk.specs.Keeps.{HadRefusal, IsLogDown, Later}
-use Rattle.crashdisk.specs.internal.Keeps.{SyncStep}
 use Rattle.rollcore.specs.internal.Steps.{EndAnswer}
 use Rattle.rollcore.specs.declared.error.RollError.{RollError}
 use Rattle.rollcore.specs.declared.error.RollError.TheVariants.{Device}
-use Rattle.crashdisk.proofs.call.UnchangingCalls.{refusal_after}
-use Rattle.crashdisk.proofs.sync.BytesOfSyncedLog.{present_byte, synced_down}
-use Rattle.crashdisk.proofs.call.DisksAfterCalls.{told_ok, none_ok, sync_later, sync_done}
-use Rattle.recovery.specs.internal.Steps.{ZeroSteps}
-use Rattle.recovery.proofs.AnswersOfSteps.{zero_db}
 
 module _ {T : Type 0} where
   -- ---- The header is zeroed.
@@ -46,12 +32,12 @@ module _ {T : Type 0} where
       back : (i : ℕ) → 28 ≤ i → 28 + (i - 28) ≡ i
       back i le = omega arith
 
-  pub sync_down : (r : Result T RollError) (v : T) (w : List ℕ) (a b : DiskState) → IsSoundDisk a → r ≡ Ok v → SyncStep Device Log r a b → ArePresent a.log w → IsLogDown b w
+  pub sync_down : (r : Result T RollError) (v : T) (w : List ℕ) (a b : DiskState) → IsSoundDisk a → r ≡ Ok v → SyncStep Device Log r a b → ArePresent a.log w → IsLogDurable b w
   sync_down r v w a b sound is step are =
       let t = told_ok Device step.0 r v is step.1 in
       synced_down w a b sound are (subst (λ (x : Result T DiskError). Syncs Log x a b) t.1 step.2)
 
-  pub zero_done : (r : Result T RollError) (v : T) (w : List ℕ) (a b : DiskState) → IsSoundDisk a → r ≡ Ok v → ZeroSteps Device 28 r a b → ArePresent a.log w → 28 ≤ length w → IsLogDown b (zeroed w)
+  pub zero_done : (r : Result T RollError) (v : T) (w : List ℕ) (a b : DiskState) → IsSoundDisk a → r ≡ Ok v → ZeroSteps Device 28 r a b → ArePresent a.log w → 28 ≤ length w → IsLogDurable b (zeroed w)
   zero_done r v w a b sound is steps are enough = ⊎_elim
       (λ failed. absurd (none_ok Device failed.0 r v failed.1 is failed.2))
       (λ done. let mid = sound_writes Log 0 (replicate 28 0) (Ok done.1.0) a done.0 sound done.1.1 in

@@ -8,7 +8,7 @@ use Rattle.std.proofs.lemmas.Option.{get_or_from_slice_get, slice_get-get_or, sl
 use Rattle.std.proofs.lemmas.List.FromFn.{get_or-map-range_with_len, length-map-range_with_len}
 use Rattle.std.proofs.lemmas.Bool.{cases_lt}
 use Rattle.std.proofs.lemmas.Bool.Decides.{nat_tests}
-use Rattle.sqval.specs.Bytes.{part, word}
+use Rattle.recovery.proofs.Words.{part, word, length-file_page}
 use Rattle.sqval.specs.Database.{Database, Pages, page, file_page, supplied}
 use Rattle.sqjournal.specs.Header.{next_header}
 use Rattle.sqjournal.specs.Journal.{Segment, Sizes, sizes_of, record_len, records_end, AreRecords, AreSegments, IsHot, IsJournal, placed, entries, entry_of}
@@ -18,7 +18,6 @@ use Rattle.sqjournal.specs.declared.reading.Record.{Record}
 use Rattle.sqjournal.specs.declared.reading.Why.{Why}
 use Rattle.sqjournal.proofs.journal.RecordsOfEntries.{content_at, contents}
 use Rattle.sqjournal.proofs.read.UniquenessOfReading.{one_journal}
-use Rattle.sqval.proofs.page.FilePages.{length-file_page}
 
 -- ---- Lists.
 

@@ -1,40 +1,20 @@
 -- How long the file is that may be left, while a journal is replayed into it.
-use Rattle.std.proofs.Common.{◌≡◌, inr, ⊎_elim, ℕ, ◌+◌, ◌*◌, ◌≤◌, Bool, true, false, cond, List, ◌∷◌, ◌++◌, length, get_or, replicate, sym, ◌∙◌, ap, subst, arith, [], refl}
+use Rattle.std.proofs.Common.{◌≡◌, ⊎_elim, ℕ, ◌*◌, ◌≤◌, Bool, true, false, cond, List, ◌∷◌, length, get_or, replicate, sym, ◌∙◌, ap, subst, arith, [], refl}
 use Rattle.std.specs.Prelude.{Result, Ok, Err}
-use Rattle.std.proofs.lemmas.List.{get_or-replicate, get_or_past, length-replicate}
-use Rattle.std.proofs.lemmas.Bool.{cases_lt}
-use Rattle.sqval.specs.Bytes.{word}
-use Rattle.sqval.specs.Database.{Database}
+use Rattle.std.proofs.lemmas.List.{length-replicate}
+use Rattle.recovery.proofs.Words.{word, Database, IsImage, IsSound, IsSectorSize, DiskState, IsSoundDisk, Writes, Syncs, InFile, sound_writes, Db, Log, DiskError, image_elsewhere, IsLogDurable, IsLong, Later, Told, SyncStep, sector_some, down_syncs, sync_later, down_read, may_down, zero_at, ArePages, ZeroSteps, MayBeRead, narrows_syncs, Overwritten, written_read}
 use Rattle.sqjournal.specs.Journal.{IsHot}
 use Rattle.sqjournal.specs.Restored.{IsRolledBack}
-use Rattle.crashdisk.specs.State.{IsImage, IsSound, IsSectorSize}
-use Rattle.crashdisk.specs.Call.{DiskState, IsSoundDisk, Writes, Syncs}
-use Rattle.crashdisk.specs.internal.Call.{InFile}
-use Rattle.crashdisk.proofs.call.SoundDiskUnderCalls.{sound_writes}
-use Rattle.crashdisk.specs.declared.file.File.TheVariants.{Db, Log}
-use Rattle.crashdisk.specs.declared.error.DiskError.{DiskError}
-use Rattle.crashdisk.proofs.call.EffectsOfCalls.{image_elsewhere}
 use Rattle.rollcore.specs.Alone.{AreWhole, journal_log}
-use Rattle.crashdisk.specs.Keeps.{IsLogDown, IsLong, Later}
-use Rattle.crashdisk.specs.internal.Keeps.{Told, SyncStep}
 use Rattle.rollcore.specs.internal.Steps.{torn_sector}
 use Rattle.rollcore.specs.internal.Plans.{IsFit}
 use Rattle.rollcore.specs.Lengths.{EndsBy}
 use Rattle.rollcore.specs.declared.error.RollError.{RollError}
 use Rattle.rollcore.proofs.journal.EquivalentJournals.{SameBehind, word_same}
-use Rattle.crashdisk.proofs.page.PlacesOfPages.{sector_some}
-use Rattle.rollcore.proofs.crash.ImagesOfSyncedLog.{down_left}
-use Rattle.crashdisk.proofs.sync.BytesOfSyncedLog.{down_one, down_syncs}
 use Rattle.rollcore.proofs.disk.InvariantsOfCalls.{sectors_go}
 use Rattle.rollcore.proofs.crash.NarrowedImages.{ends_narrow}
 use Rattle.rollcore.proofs.replays.ZeroedHeader.{zeroed_listed, zeroed_torn}
 use Rattle.rollcore.specs.declared.error.RollError.TheVariants.{Device}
-use Rattle.crashdisk.proofs.call.DisksAfterCalls.{sync_later}
-use Rattle.recovery.specs.internal.Files.{ArePages}
-use Rattle.recovery.specs.internal.Steps.{ZeroSteps}
-use Rattle.recovery.specs.Logs.{MayBeRead}
-use Rattle.recovery.proofs.NarrowedImages.{narrows_syncs}
-use Rattle.recovery.proofs.OverwrittenLog.{Overwritten, written_read}
 
 -- where a hot journal names no smaller sectors than those that tear
 abbrev pub IsNamed : List ℕ → DiskState → Type 0
@@ -42,17 +22,11 @@ IsNamed w s = s.tears ≡ true → s.sector ≤ word w 20
 
 -- ---- the log alone is left
 
-module _ (w : List ℕ) (s : DiskState) (down : IsLogDown s w) where
-  pub down_read : (v : List ℕ) → MayBeRead journal_log s v → v ≡ w
-  down_read v may = ⊎_elim (λ listed. down_one w s down s.sector false v listed) (λ left. down_one w s down s.sector s.tears v left.image) may
-
-  pub may_down : MayBeRead journal_log s w
-  may_down = inr (down_left w s down)
-
+module _ (w : List ℕ) (s : DiskState) (durable : IsLogDurable s w) where
   pub ends_down : (n : ℕ) → ((IsHot w → ⊥) → IsLong n s) → (IsHot w → IsNamed w s) → EndsBy n s
   ends_down n long names = record {
-    cold = λ db v image may cold. long (λ hot. cold (subst IsHot (sym (down_read v may)) hot)) db image;
-    sectors = λ torn v may hot. subst (λ (x : List ℕ). s.sector ≤ word x 20) (sym (down_read v may)) (names (subst IsHot (down_read v may) hot) torn);
+    cold = λ db v image may cold. long (λ hot. cold (subst IsHot (sym (down_read journal_log w s durable v may)) hot)) db image;
+    sectors = λ torn v may hot. subst (λ (x : List ℕ). s.sector ≤ word x 20) (sym (down_read journal_log w s durable v may)) (names (subst IsHot (down_read journal_log w s durable v may) hot) torn);
   }
 
   pub ends_hot : (n : ℕ) → IsHot w → IsNamed w s → EndsBy n s
@@ -78,8 +52,8 @@ module _ {T : Type 0} (old new : DiskState) where
   long_done v step = long_synced v step.0 step.1 step.2
 
   -- a sync of the file, whatever was answered
-  pub ends_settled : (n : ℕ) (w : List ℕ) (r : Result T RollError) → SyncStep Device Db r old new → IsLogDown old w → IsHot w → IsNamed w old → EndsBy n new
-  ends_settled n w r step down hot names = ends_hot w new (down_syncs w Db step.0 old new down step.2) n hot (named_by w old new step.2.elsewhere.sector step.2.elsewhere.tears names)
+  pub ends_settled : (n : ℕ) (w : List ℕ) (r : Result T RollError) → SyncStep Device Db r old new → IsLogDurable old w → IsHot w → IsNamed w old → EndsBy n new
+  ends_settled n w r step durable hot names = ends_hot w new (down_syncs w Db step.0 old new durable step.2) n hot (named_by w old new step.2.elsewhere.sector step.2.elsewhere.tears names)
 
 -- ---- the header is zeroed
 
@@ -90,14 +64,14 @@ short : length zeros ≡ 28
 unfolding zeros
 short = length-replicate {A = ℕ} 28 0
 
-zero_at : (i : ℕ) → get_or zeros i 0 ≡ 0
+none : (i : ℕ) → get_or zeros i 0 ≡ 0
 unfolding zeros
-zero_at i = ⊎_elim (λ lt. get_or-replicate 28 i 0 0 lt) (λ past. get_or_past (replicate 28 0) i 0 (omega (arith, length-replicate {A = ℕ} 28 0))) (cases_lt i 28)
+none = zero_at 28
 
 same_word : (w v : List ℕ) → SameBehind (word w 20) w v → word v 20 ≡ word w 20
 same_word w v s = word_same v w 20 s.long (λ i a b. s.front i (omega arith))
 
-module _ (w : List ℕ) (old new : DiskState) (sound : IsSoundDisk old) (sectors : IsSectorSize old.sector) (down : IsLogDown old w) (hot : IsHot w) (names : IsNamed w old) where
+module _ (w : List ℕ) (old new : DiskState) (sound : IsSoundDisk old) (sectors : IsSectorSize old.sector) (durable : IsLogDurable old w) (hot : IsHot w) (names : IsNamed w old) where
   wide : 512 ≤ old.sector
   wide = sector_some old.sector sectors
 
@@ -105,14 +79,14 @@ module _ (w : List ℕ) (old new : DiskState) (sound : IsSoundDisk old) (sectors
   Names v = IsHot v → word v 20 ≡ word w 20
 
   listed_word : IsSound old.sector new.log → Overwritten 0 zeros old new → (v : List ℕ) → IsImage old.sector false new.log v → Names v
-  listed_word after changed v image here = ap (λ (x : List ℕ). word x 20) (zeroed_listed old.sector w zeros old.log new.log wide down.settled hot short zero_at sound.log after changed v image here)
+  listed_word after changed v image here = ap (λ (x : List ℕ). word x 20) (zeroed_listed old.sector w zeros old.log new.log wide durable.settled hot short none sound.log after changed v image here)
 
   torn_word : old.tears ≡ true → IsSound old.sector new.log → Overwritten 0 zeros old new → (v : List ℕ) → IsImage old.sector true new.log v → AreWhole w ((0, zeros) ∷ []) v → Names v
   torn_word torn after changed v image whole here =
-      same_word w v (zeroed_torn old.sector w zeros old.log new.log wide down.settled hot short zero_at sound.log after changed v (names torn) image whole here)
+      same_word w v (zeroed_torn old.sector w zeros old.log new.log wide durable.settled hot short none sound.log after changed v (names torn) image whole here)
 
   written_word : {T : Type 0} (result : Result T DiskError) → Writes Log 0 zeros result old new → (v : List ℕ) → MayBeRead journal_log new v → Names v
-  written_word result wrote = written_read journal_log Names w 0 zeros old new sound down (λ here. refl) listed_word torn_word result wrote
+  written_word result wrote = written_read journal_log Names w 0 zeros old new sound durable (λ here. refl) listed_word torn_word result wrote
 
   ends_written : {T : Type 0} (n : ℕ) (result : Result T DiskError) → Writes Log 0 zeros result old new → IsLong n old → EndsBy n new
   ends_written n result wrote long = record {
@@ -120,30 +94,30 @@ module _ (w : List ℕ) (old new : DiskState) (sound : IsSoundDisk old) (sectors
     sectors = λ torn v may here. subst (λ (k : ℕ). new.sector ≤ k) (sym (written_word result wrote v may here)) (named_by w old new wrote.elsewhere.sector wrote.elsewhere.tears names torn);
   }
 
-module _ {T : Type 0} (w : List ℕ) (old new : DiskState) (sound : IsSoundDisk old) (sectors : IsSectorSize old.sector) (down : IsLogDown old w) (hot : IsHot w) (names : IsNamed w old) where
+module _ {T : Type 0} (w : List ℕ) (old new : DiskState) (sound : IsSoundDisk old) (sectors : IsSectorSize old.sector) (durable : IsLogDurable old w) (hot : IsHot w) (names : IsNamed w old) where
   pub ends_zeroed : (n : ℕ) (r : Result T RollError) → ZeroSteps Device 28 r old new → IsLong n old → EndsBy n new
   unfolding zeros
   ends_zeroed n r steps long = ⊎_elim
-      (λ failed. ends_written w old new sound sectors down hot names n failed.0 failed.3 long)
+      (λ failed. ends_written w old new sound sectors durable hot names n failed.0 failed.3 long)
       (λ done.
       let mid = sound_writes Log 0 zeros (Ok done.1.0) old done.0 sound done.1.1 in
       ends_narrow done.0 new (narrows_syncs journal_log Log done.2.0 done.0 new mid done.2.2) n
-      (ends_written w old done.0 sound sectors down hot names n (Ok done.1.0) done.1.1 long))
+      (ends_written w old done.0 sound sectors durable hot names n (Ok done.1.0) done.1.1 long))
       steps
 
 -- the file is synced, and then the header zeroed
-pub ends_finished : {T U : Type 0} (w : List ℕ) (old mid new : DiskState) → IsSoundDisk old → IsSectorSize old.sector → IsLogDown old w → IsHot w → IsNamed w old → (v : T) → SyncStep {T = T} Device Db (Ok v) old mid
+pub ends_finished : {T U : Type 0} (w : List ℕ) (old mid new : DiskState) → IsSoundDisk old → IsSectorSize old.sector → IsLogDurable old w → IsHot w → IsNamed w old → (v : T) → SyncStep {T = T} Device Db (Ok v) old mid
     → (r : Result U RollError) → ZeroSteps Device 28 r mid new → EndsBy old.db.len new
-ends_finished {T = T} w old mid new sound sectors down hot names v step r steps =
+ends_finished {T = T} w old mid new sound sectors durable hot names v step r steps =
     let goes : Later (InFile Db) old mid = sync_later Device Db (Ok v) old mid refl sound step in
-    ends_zeroed w mid new goes.sound (sectors_go old mid goes sectors) (down_syncs w Db step.0 old mid down step.2) hot (named_by w old mid goes.sector goes.tears names) old.db.len r steps (long_done old mid v step)
+    ends_zeroed w mid new goes.sound (sectors_go old mid goes sectors) (down_syncs w Db step.0 old mid durable step.2) hot (named_by w old mid goes.sector goes.tears names) old.db.len r steps (long_done old mid v step)
 
 -- the pages that a hot journal restores
 pub rolled_length : (w db : List ℕ) (d : Database) (n : ℕ) (b : DiskState) → ArePages n d b.db → IsRolledBack db w d → n ≡ word w 24 → b.db.len ≡ word w 16 * word w 24
 rolled_length w db d n b pages rolled same = pages.len ∙ ap (λ (k : ℕ). k * n) rolled.count ∙ ap (λ (k : ℕ). word w 16 * k) same
 
--- the log that is down is synced again, whatever was answered
-pub ends_resynced : {T : Type 0} (n : ℕ) (w : List ℕ) (result : Result T DiskError) (old new : DiskState) → IsLogDown old w → Syncs Log result old new → EndsBy n old → EndsBy n new
-ends_resynced n w result old new down synced ends = ends_down w new (down_syncs w Log result old new down synced) n
-    (λ cold db image. ends.cold db w (image_elsewhere Log result old new synced.elsewhere db image) (may_down w old down) cold)
-    (λ hot. named_by w old new synced.elsewhere.sector synced.elsewhere.tears (λ torn. ends.sectors torn w (may_down w old down) hot))
+-- the log that is durable is synced again, whatever was answered
+pub ends_resynced : {T : Type 0} (n : ℕ) (w : List ℕ) (result : Result T DiskError) (old new : DiskState) → IsLogDurable old w → Syncs Log result old new → EndsBy n old → EndsBy n new
+ends_resynced n w result old new durable synced ends = ends_down w new (down_syncs w Log result old new durable synced) n
+    (λ cold db image. ends.cold db w (image_elsewhere Log result old new synced.elsewhere db image) (may_down journal_log w old durable) cold)
+    (λ hot. named_by w old new synced.elsewhere.sector synced.elsewhere.tears (λ torn. ends.sectors torn w (may_down journal_log w old durable) hot))

@@ -2,12 +2,11 @@
 use Rattle.std.proofs.Common.{◌≡◌, ◌⊎◌, inl, inr, ⊎_elim, ℕ, ◌*◌, ◌/◌, ◌%◌, ◌<◌, ◌≤◌, List, sym, ◌∙◌, ap, subst, arith}
 use Rattle.std.proofs.Math.Nat.{div-mul-le_self, mod-eq-sub-div-mul}
 use Rattle.std.specs.Prelude.{Option, Some, None, Result, Ok, Err}
-use Rattle.sqval.specs.Bytes.{word}
+use Rattle.recovery.proofs.Words.{word, DiskState}
 use Rattle.sqjournal.specs.Header.{Names}
 use Rattle.sqjournal.specs.Journal.{IsHot}
 use Rattle.sqjournal.specs.declared.header.JournalHeader.{JournalHeader}
 use Rattle.sqjournal.specs.declared.replay.Replay.{Replay}
-use Rattle.crashdisk.specs.Call.{DiskState}
 use Rattle.rollcore.specs.internal.Steps.{HasRead, ScanRefused, journal_scan}
 use Rattle.rollcore.specs.internal.Plans.{JudgeAnswer, PlanAnswer, ReadAnswer}
 use Rattle.rollcore.specs.declared.plan.Plan.{Plan}

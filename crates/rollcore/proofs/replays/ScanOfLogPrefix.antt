@@ -3,18 +3,14 @@ use Rattle.std.proofs.Common.{◌≡◌, inl, inr, ⊎_elim, ℕ, ◌+◌, ◌-�
 use Rattle.std.specs.Prelude.{Bool, true, false, Result, Ok, Err}
 use Rattle.std.proofs.lemmas.List.{length-take-le, take-take, take-append-drop}
 use Rattle.std.proofs.lemmas.Bool.{cases_lt}
-use Rattle.sqval.specs.PageSize.{IsPageSize}
-use Rattle.sqval.specs.Bytes.{part, word}
+use Rattle.recovery.proofs.Words.{IsPageSize, part, word, longest, DiskError, HadRefusal}
 use Rattle.sqjournal.specs.Header.{IsRefused}
 use Rattle.sqjournal.specs.Journal.{IsHot}
 use Rattle.sqjournal.specs.declared.error.JournalError.{JournalError}
 use Rattle.sqjournal.specs.declared.error.JournalError.TheVariants.{NotAJournal, SectorSize, PageSize, NoMemory, TooLong}
 use Rattle.sqjournal.proofs.journal.DependenceOnPrefix.{word_part}
-use Rattle.crashdisk.specs.State.{longest}
 use Rattle.crashdisk.specs.Call.{DiskState, EndsWithin, counted}
-use Rattle.crashdisk.specs.declared.error.DiskError.{DiskError}
 use Rattle.crashdisk.specs.declared.error.DiskError.TheVariants.{Stopped, Failed, TooLong as DiskTooLong, NoMemory as DiskNoMemory}
-use Rattle.crashdisk.specs.Keeps.{HadRefusal}
 use Rattle.rollcore.specs.internal.Steps.{IsWithoutHeader, ScanRefused, HasRead, journal_scan}
 use Rattle.rollcore.specs.declared.error.RollError.{RollError}
 use Rattle.rollcore.specs.declared.error.RollError.TheVariants.{TooLarge, NoMemory as WalNoMemory}

@@ -7,7 +7,7 @@ use Rattle.sqval.specs.Held.{IsHeld}
 use Rattle.sqval.specs.JudgedPages.{lent}
 use Rattle.sqjournal.specs.declared.header.JournalHeader.{JournalHeader}
 use Rattle.crashdisk.specs.Call.{DiskState}
-use Rattle.crashdisk.specs.Keeps.{Suits, IsLogDown}
+use Rattle.crashdisk.specs.Keeps.{Suits, IsLogDurable}
 use Rattle.rollcore.specs.Changes.{MayReplay, MayCommit, Asks}
 use Rattle.rollcore.specs.Commits.{KeepsCore, LeavesParts}
 use Rattle.rollcore.specs.internal.Commits.{Lent, IsReady, AreChanges, ArePlaced, AreWithin, PutAnswer, change_at}
@@ -65,13 +65,13 @@ pub record WritesRecords (size at nonce : ℕ) (changes : List Change) (result :
   pub records : (sector : ℕ) (d : Database) (named : List ℕ) (place : ℕ) (w : List ℕ) → Recording size sector d named place w old → at ≡ place + sector
       → AreFresh d named (pages_of changes) → RecordsAnswer size sector d named place w (pages_of changes) nonce result old new
 
--- the records of a segment are brought down, behind the place of its header
+-- the records of a segment are made durable, behind the place of its header
 pub record PreparesSegment (size sector nonce place : ℕ) (changes : List Change) (result : Result ℕ RollError) (old new : DiskState) : Type 0 where
   pub asks : Asks (MayCommit size sector) result old new
   pub prepared : (d : Database) (named w : List ℕ) → Journaled size sector d named place w old → AreFresh d named (pages_of changes)
       → (place ≡ 0) ⊎ (1 ≤ length changes) → PreparedAnswer size sector d named place w (pages_of changes) nonce result old new
 
--- the header of a segment is brought down, filled up to so many bytes
+-- the header of a segment is made durable, filled up to so many bytes
 pub record WritesHeader {T : Type 0} (long place : ℕ) (head : JournalHeader) (result : Result T RollError) (old new : DiskState) : Type 0 where
   pub asks : long ≡ head.sector → (size : ℕ) → Asks (MayCommit size head.sector) result old new
   pub header : (size sector : ℕ) (d : Database) (named part w : List ℕ) (nonce : ℕ) → Prepared size sector d named place part nonce w old → long ≡ sector
@@ -100,7 +100,7 @@ pub record PutsNewPages {T : Type 0} (pages : Lent) (old_size : ℕ) (result : R
 
 -- ---- Segments, and the whole.
 
--- a segment is brought down, its header at a place and filled up to so many bytes, and then its pages are put
+-- a segment is made durable, its header at a place and filled up to so many bytes, and then its pages are put
 pub record PutsSegment (size long place : ℕ) (changes : List Change) (pages : Lent) (head : JournalHeader) (result : Result ℕ RollError) (old new : DiskState) : Type 0 where
   pub asks : long ≡ head.sector → ArePlaced size pages → AreWithin size changes → Asks (MayCommit size head.sector) result old new
   pub segment : (d e : Database) (named w before : List ℕ) → Journaled size head.sector d named place w old → AreFresh d named (pages_of changes)
@@ -128,7 +128,7 @@ pub record EndsCommit {T : Type 0} (pages : Lent) (old_size size page_size : ℕ
   pub ends : (sector nonces : ℕ) (d : Database) (changes : List Change) (place : ℕ) (w : List ℕ) → Journaled page_size sector d (pages_of changes) place w old
       → 0 < place → ArePut page_size (apply d (lent pages) size) (pages_of changes) old.db → old_size ≡ length d → AreChanges (lent pages) old_size size changes
       → refusal_of old_size page_size (lent pages) size nonces ≡ None
-      → PutAnswer page_size d (apply d (lent pages) size) result old new × OnOk result (IsLogDown new (zeroed w))
+      → PutAnswer page_size d (apply d (lent pages) size) result old new × OnOk result (IsLogDurable new (zeroed w))
 
 -- a commit that is granted is carried out: it makes another database of d, and its segments have the nonces in order
 pub record PutsCommit {T : Type 0} (core : Core) (pages : Lent) (size : ℕ) (nonces : List ℕ) (result : Result T RollError) (old new : DiskState) : Type 0 where

@@ -8,12 +8,13 @@ use Rattle.sqjournal.specs.Restored.{IsRolledBack}
 use Rattle.sqjournal.specs.declared.replay.Replay.{Replay}
 use Rattle.crashdisk.specs.State.{IsSectorSize, longest}
 use Rattle.crashdisk.specs.Call.{DiskState, ArePresent}
-use Rattle.crashdisk.specs.Keeps.{IsLogDown}
+use Rattle.crashdisk.specs.Keeps.{IsLogDurable}
 use Rattle.crashdisk.specs.internal.Keeps.{KeepsLog}
 use Rattle.rollcore.specs.Changes.{MayReplayWithin, Asks}
 use Rattle.rollcore.specs.internal.Commits.{PutAnswer}
 use Rattle.rollcore.specs.Lengths.{EndsBy}
-use Rattle.rollcore.specs.internal.Phases.{Scanning, Writing}
+use Rattle.rollcore.specs.internal.Phases.{Writing}
+use Rattle.recovery.specs.internal.Phases.{Unwritten}
 use Rattle.rollcore.specs.internal.Plans.{IsPlan, IsFit, IsPlanWithin}
 use Rattle.rollcore.specs.internal.Segments.{Journaled}
 use Rattle.rollcore.specs.internal.Steps.{HasRead, RunAnswer, EndAnswer, RolledAnswer, torn_sector}
@@ -44,7 +45,7 @@ pub record Finishes {T : Type 0} (result : Result T RollError) (old new : DiskSt
   pub asks : (most size : ℕ) → Asks (MayReplayWithin most size) result old new
   pub ends : EndAnswer result old new
   pub shows : (size : ℕ) (w : List ℕ) (d : Database) → Writing size w d old → ArePages size d old.db → ShowsAlone journal_log size d new
-  pub lengths : IsSectorSize old.sector → (w : List ℕ) → IsLogDown old w → IsHot w → (old.tears ≡ true → old.sector ≤ word w 20) → EndsBy old.db.len new
+  pub lengths : IsSectorSize old.sector → (w : List ℕ) → IsLogDurable old w → IsHot w → (old.tears ≡ true → old.sector ≤ word w 20) → EndsBy old.db.len new
   pub commit : (size sector : ℕ) (d e : Database) (named : List ℕ) (place : ℕ) (w : List ℕ)
       → Journaled size sector d named place w old → 0 < place → ArePages size e old.db → IsHeld size e → PutAnswer size d e result old new
 
@@ -52,5 +53,5 @@ pub record Finishes {T : Type 0} (result : Result T RollError) (old new : DiskSt
 pub record ReplaysPlan (plan : Plan) (result : Result Replayed RollError) (old new : DiskState) : Type 0 where
   pub asks : (most : ℕ) → IsPlanWithin most plan → Asks (MayReplayWithin most plan.header.page_size) result old new
   pub replays : (db w : List ℕ) (torn : ℕ) → ArePresent old.db db → ArePresent old.log w → IsFit torn w → IsPlan w plan → RolledAnswer db w result old new
-  pub shows : IsSectorSize old.sector → (size : ℕ) (w : List ℕ) (d : Database) → Scanning size d w old → IsFit (torn_sector old) w → IsPlan w plan → ShowsAlone journal_log size d new
-  pub ends : IsSectorSize old.sector → (w : List ℕ) → IsLogDown old w → IsFit (torn_sector old) w → IsPlan w plan → EndsBy (word w 16 * word w 24) new
+  pub shows : IsSectorSize old.sector → (size : ℕ) (w : List ℕ) (d : Database) → Unwritten journal_log size d w old → IsFit (torn_sector old) w → IsPlan w plan → ShowsAlone journal_log size d new
+  pub ends : IsSectorSize old.sector → (w : List ℕ) → IsLogDurable old w → IsFit (torn_sector old) w → IsPlan w plan → EndsBy (word w 16 * word w 24) new

@@ -10,7 +10,7 @@ use Rattle.crashdisk.specs.State.{IsSectorSize}
 use Rattle.crashdisk.specs.Call.{DiskState, ArePresent, Writes}
 use Rattle.crashdisk.specs.declared.file.File.TheVariants.{Log}
 use Rattle.crashdisk.specs.declared.error.DiskError.{DiskError}
-use Rattle.crashdisk.specs.Keeps.{Suits, HadRefusal, IsLogDown, Still, TellsRefusal}
+use Rattle.crashdisk.specs.Keeps.{Suits, HadRefusal, IsLogDurable, Still, TellsRefusal}
 use Rattle.sqval.specs.Answers.{Files}
 use Rattle.rollcore.specs.Changes.{MayRecover, Asks}
 use Rattle.rollcore.specs.Alone.{Show, journal_log}
@@ -57,10 +57,10 @@ BreakSteps at (Err e) old new = (e ≡ Device) × HadRefusal old new × (Still o
 abbrev pub AreCold : DiskState → Type 0
 AreCold s = (w : List ℕ) → MayBeRead journal_log s w → IsHot w → ⊥
 
--- no header begins at the front of the log that is down, which was w
+-- no header begins at the front of the log that is durable, which was w
 pub record FrontAnswer {T : Type 0} (w : List ℕ) (result : Result T RollError) (old new : DiskState) : Type 0 where
   pub cold : AreCold new
-  pub done : OnOk result ((v : List ℕ) × IsLogDown new v × LosesMagic w v)
+  pub done : OnOk result ((v : List ℕ) × IsLogDurable new v × LosesMagic w v)
   pub refused : IfErr result (λ e. (e ≡ Device) × HadRefusal old new)
 
 -- what the recovery of d answers and leaves
@@ -108,15 +108,15 @@ pub record BreaksMagic (at : ℕ) (result : Result Bool RollError) (old new : Di
 pub record BreaksFront {T : Type 0} (result : Result T RollError) (old new : DiskState) : Type 0 where
   pub asks : (size : ℕ) → Asks (MayRecover size) result old new
   pub file : new.db ≡ old.db
-  pub front : IsSectorSize old.sector → (w : List ℕ) → IsLogDown old w → (IsHot w → ⊥) → FrontAnswer w result old new
+  pub front : IsSectorSize old.sector → (w : List ℕ) → IsLogDurable old w → (IsHot w → ⊥) → FrontAnswer w result old new
   pub refused : IfErr result (λ e. (e ≡ Device) × HadRefusal old new)
 
--- recovery from a log that is down
+-- recovery from a log that is durable
 pub record RecoversSynced (size : ℕ) (result : Result ℕ RollError) (old new : DiskState) : Type 0 where
   pub asks : Asks (MayRecover size) result old new
-  pub recovered : (w : List ℕ) (d : Database) → Suits size old → IsHeld size d → IsLogDown old w → ShowsOne size d old → RecoverAnswer size d result old new
+  pub recovered : (w : List ℕ) (d : Database) → Suits size old → IsHeld size d → IsLogDurable old w → ShowsOne size d old → RecoverAnswer size d result old new
   pub agrees : (size : ℕ) → Agrees journal_log size old new
-  pub files : (db w : List ℕ) → ArePresent old.db db → IsLogDown old w → FilesAnswer size db w result old new
+  pub files : (db w : List ℕ) → ArePresent old.db db → IsLogDurable old w → FilesAnswer size db w result old new
 
 -- What the recovery of an opening does: a history that fits is recovered. From its sync of the log on the database that all
 -- which may be left shows stays shown.

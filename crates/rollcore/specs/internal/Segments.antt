@@ -13,7 +13,7 @@ use Rattle.crashdisk.specs.Call.{DiskState, ArePresent, Writes}
 use Rattle.crashdisk.specs.internal.Facts.{Steady}
 use Rattle.crashdisk.specs.declared.file.File.TheVariants.{Db, Log}
 use Rattle.crashdisk.specs.declared.error.DiskError.{DiskError}
-use Rattle.crashdisk.specs.Keeps.{Suits, HadRefusal, IsLogDown, Still}
+use Rattle.crashdisk.specs.Keeps.{Suits, HadRefusal, IsLogDurable, Still}
 use Rattle.crashdisk.specs.internal.Keeps.{Told}
 use Rattle.rollcore.specs.Journaling.{old_pages, sizes, next_place, record_bytes, HasParts, parts_of}
 use Rattle.rollcore.specs.internal.Journaling.{IsJournaled, Tells, IsPrepared}
@@ -47,10 +47,10 @@ pub record IsAt (size sector : ℕ) (d : Database) (named : List ℕ) (place : �
 
 -- ---- The phases.
 
--- The pages that are named stand in the journal, which is down, up to a place.
+-- The pages that are named stand in the journal, which is durable, up to a place.
 pub record Journaled (size sector : ℕ) (d : Database) (named : List ℕ) (place : ℕ) (w : List ℕ) (s : DiskState) : Type 0 where
   pub at : IsAt size sector d named place s
-  pub down : IsLogDown s w
+  pub durable : IsLogDurable s w
   pub is : IsJournaled size sector d named place w
 
 -- Something is written behind the place of a header.
@@ -70,10 +70,10 @@ pub record Ended (size sector : ℕ) (d : Database) (named : List ℕ) (place : 
   pub recorded : Recorded size sector d named place w part nonce s
   pub ends : (v : List ℕ) → ArePresent s.log v → HasMagic v (next_place (sizes sector size) place (old_pages d part)) → ⊥
 
--- All of it is down.
+-- All of it is durable.
 pub record Prepared (size sector : ℕ) (d : Database) (named : List ℕ) (place : ℕ) (part : List ℕ) (nonce : ℕ) (w : List ℕ) (s : DiskState) : Type 0 where
   pub at : IsAt size sector d named place s
-  pub down : IsLogDown s w
+  pub durable : IsLogDurable s w
   pub is : IsPrepared size sector d named part nonce place w
 
 -- The header was written, or it failed: it is left, or not.
@@ -125,14 +125,14 @@ KeepsParts z place w v = (parts : List (ℕ × Pages)) → HasParts z w place pa
 abbrev pub AddsPart : Sizes → (place : ℕ) → List ℕ → (part : ℕ × Pages) → (next : ℕ) → List ℕ → Type 0
 AddsPart z place w part next v = (parts : List (ℕ × Pages)) → HasParts z w place parts → HasParts z v next (parts ++ part ∷ [])
 
--- these records are down, up to the next place, and the segments before them keep theirs
+-- these records are durable, up to the next place, and the segments before them keep theirs
 abbrev pub PreparedAnswer : (size sector : ℕ) (d : Database) (named : List ℕ) (place : ℕ) (w part : List ℕ) (nonce : ℕ) → Result ℕ RollError → (old new : DiskState) → Type 0
 PreparedAnswer size sector d named place w part nonce (Ok next) old new =
     (next ≡ next_place (sizes sector size) place (old_pages d part)) × ((v : List ℕ) × Prepared size sector d named place part nonce v new × KeepsParts (sizes sector size) place w v)
     × (old.refused ≤ new.refused) × (new.db ≡ old.db)
 PreparedAnswer size sector d named place w part nonce (Err e) old new = Harmless size d e old new
 
--- the header is down, and with it the segment, which has this nonce and these records
+-- the header is durable, and with it the segment, which has this nonce and these records
 abbrev pub HeaderAnswer : {T : Type 0} → (size sector : ℕ) (d : Database) (named : List ℕ) (place : ℕ) (w part : List ℕ) (nonce : ℕ) → Result T RollError → (old new : DiskState) → Type 0
 HeaderAnswer size sector d named place w part nonce (Ok _) old new =
     ((v : List ℕ) × Journaled size sector d (named ++ part) (next_place (sizes sector size) place (old_pages d part)) v new
@@ -179,7 +179,7 @@ abbrev pub new_numbers : (old_size : ℕ) → Pages → List ℕ
 new_numbers old_size [] = []
 new_numbers old_size (x ∷ pages) = cond (nat_lt old_size x.0) (x.0 ∷ new_numbers old_size pages) (new_numbers old_size pages)
 
--- a segment is down with its nonce, and its pages are put
+-- a segment is durable with its nonce, and its pages are put
 abbrev pub SegmentAnswer : (size sector : ℕ) (d e : Database) (named before : List ℕ) (place : ℕ) (w part : List ℕ) (nonce : ℕ) → Result ℕ RollError → (old new : DiskState) → Type 0
 SegmentAnswer size sector d e named before place w part nonce (Ok next) old new = (next ≡ next_place (sizes sector size) place (old_pages d part))
     × ((v : List ℕ) × Journaled size sector d (named ++ part) next v new × AddsPart (sizes sector size) place w (nonce, old_pages d part) next v)
@@ -188,7 +188,7 @@ SegmentAnswer size sector d e named before place w part nonce (Err error) old ne
 
 -- ---- All segments.
 
--- so many segments of a commit that changes pages of these numbers are down, of which each has its nonce of these and
+-- so many segments of a commit that changes pages of these numbers are durable, of which each has its nonce of these and
 -- its records, and their pages are put
 pub record Parted (size sector : ℕ) (d e : Database) (numbers nonces : List ℕ) (k place : ℕ) (s : DiskState) : Type 0 where
   pub journaled : (w : List ℕ) × Journaled size sector d (take (k * segment_records) numbers) place w s
@@ -197,7 +197,7 @@ pub record Parted (size sector : ℕ) (d e : Database) (numbers nonces : List �
   pub first : k ≡ 0 → place ≡ 0
   pub later : 0 < k → 0 < place
 
--- segment k is down, and its pages are put
+-- segment k is durable, and its pages are put
 abbrev pub PartAnswer : (size sector : ℕ) (d e : Database) (numbers nonces : List ℕ) (k : ℕ) → Result ℕ RollError → (old new : DiskState) → Type 0
 PartAnswer size sector d e numbers nonces k (Ok next) old new = Parted size sector d e numbers nonces (k + 1) next new × (old.refused ≤ new.refused)
 PartAnswer size sector d e numbers nonces k (Err error) old new = Harmless size d error old new

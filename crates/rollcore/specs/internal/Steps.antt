@@ -13,7 +13,7 @@ use Rattle.crashdisk.specs.Call.{DiskState, ArePresent, Writes}
 use Rattle.crashdisk.specs.declared.file.File.TheVariants.{Db}
 use Rattle.crashdisk.specs.declared.error.DiskError.{DiskError}
 use Rattle.rollcore.specs.Replaying.{zeroed, IsRolled}
-use Rattle.crashdisk.specs.Keeps.{HadRefusal, IsLogDown, Still}
+use Rattle.crashdisk.specs.Keeps.{HadRefusal, IsLogDurable, Still}
 use Rattle.rollcore.specs.declared.replaying.Replayed.{Replayed}
 use Rattle.rollcore.specs.declared.error.RollError.{RollError}
 use Rattle.rollcore.specs.declared.error.RollError.TheVariants.{TooLarge, NoMemory as RollNoMemory, Device}
@@ -79,10 +79,10 @@ RunAnswer size w count i (Err e) old new = (e ≡ Device) × HadRefusal old new 
 
 -- ---- The end.
 
--- the database is down, and so is the log, with zeros for its first header
+-- the database is durable, and so is the log, with zeros for its first header
 unfoldable pub EndAnswer : {T : Type 0} → Result T RollError → (old new : DiskState) → Type 0
 EndAnswer (Ok _) old new = ((db : List ℕ) → ArePresent old.db db → IsSettled new.db db)
-    × ((w : List ℕ) → ArePresent old.log w → 28 ≤ length w → IsLogDown new (zeroed w))
+    × ((w : List ℕ) → ArePresent old.log w → 28 ≤ length w → IsLogDurable new (zeroed w))
 EndAnswer (Err e) old new = (e ≡ Device) × HadRefusal old new
 
 -- what is planned was replayed

@@ -98,7 +98,7 @@ fn replayed(rt: &impl Abort, alloc: Global, log: &[u8]) -> Result<(usize, Stop),
     Ok((replay.count(), replay.stop()))
 }
 
-// The fifth sync is that of the database, once both segments are down.
+// The fifth sync is that of the database, once both segments are durable.
 #[test]
 fn its_journal_before_the_end(rt: HostRuntime) -> Result<(), Fail> {
     let alloc = rt.alloc();

@@ -23,7 +23,7 @@ fn carry_out(disk: &mut ModelDisk, change: Change) -> Result<(), DiskError> {
     }
 }
 
-/// A disk with 600 bytes in either file, which are down.
+/// A disk with 600 bytes in either file, which are durable.
 fn disk<R: AllocGlobal + Abort>(rt: &R, tears: bool) -> ModelDisk {
     done(rt, disk_of(rt.alloc(), tears, &[b'A'; 600], &[b'L'; 600]))
 }

@@ -180,18 +180,18 @@ fn open<R: AllocGlobal + Abort, E: Swept>(rt: &R, disk: ModelDisk) -> Result<Dat
 }
 
 /// Opens a disk, which may be refused memory, and, where it was, a second time, after a crash that leaves no more than
-/// what is down. An opening that is done shows the newest database; one after the crash that or the one that is down
-/// before the opening.
+/// what is durable. An opening that is done shows the newest database; one after the crash that or the one that is
+/// durable before the opening.
 fn refuse_opening<R: AllocGlobal + Abort, E: Swept>(
     rt: &R,
     disk: ModelDisk,
-    [down, newest]: [Database; 2],
+    [durable, newest]: [Database; 2],
 ) {
     match open::<R, E>(rt, disk) {
         Ok(database) => same(rt, database, newest),
         Err(mut disk) => {
             disk.crash(&Choice::oldest(rt.alloc()));
-            shows::<R, E>(rt, disk, 7, [down, newest]);
+            shows::<R, E>(rt, disk, 7, [durable, newest]);
         }
     }
 }
@@ -285,7 +285,7 @@ fn disk_after<R: AllocGlobal + Abort>(rt: &R, tears: bool, steps: &[Step]) -> Mo
     engine_after::<R, Wal<ModelDisk>>(rt, tears, steps).give_back()
 }
 
-/// A disk with six frames in the log, of which the last four aren't down.
+/// A disk with six frames in the log, of which the last four aren't durable.
 pub(super) fn logged<R: AllocGlobal + Abort>(rt: &R, tears: bool) -> ModelDisk {
     disk_after(rt, tears, &[BOTH_B, Step::Sync, FOUR_C])
 }
@@ -299,7 +299,7 @@ fn an_opening_of_a_log(rt: HostRuntime) {
 }
 
 #[test]
-fn an_opening_of_a_log_that_is_not_down(rt: HostRuntime) {
+fn an_opening_of_a_log_that_is_not_durable(rt: HostRuntime) {
     for tears in [false, true] {
         refuse_wal_opening(&rt, logged(&rt, tears), [TWO, FOUR]);
     }

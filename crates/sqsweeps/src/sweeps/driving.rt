@@ -80,7 +80,7 @@ pub trait Swept: Sized {
     /// Opens the files of a disk. Each opening is given another number.
     fn start(alloc: Global, disk: ModelDisk, number: u32) -> Result<Self, (ModelDisk, Answer)>;
 
-    /// Whether a step that is done brings all commits down.
+    /// Whether a step that is done makes all commits durable.
     fn settles(step: Step) -> bool;
 
     /// Answers a step other than an opening. Each is given another number.
@@ -113,7 +113,7 @@ pub enum Wrong {
     Read(Answer),
     /// A page is none that was ever written.
     Page,
-    /// A database is shown that isn't one commit's, or one that is before the last commit that is down.
+    /// A database is shown that isn't one commit's, or one that is before the last commit that is durable.
     Shown(Database),
     /// The opening of files shows a database, and after it was stopped another one.
     Again(Database, Database),
@@ -143,7 +143,7 @@ impl From<DiskError> for Wrong {
     }
 }
 
-/// A disk of sectors of 512 bytes that holds these files, which are down.
+/// A disk of sectors of 512 bytes that holds these files, which are durable.
 pub(crate) fn disk_of(
     alloc: Global,
     tears: bool,

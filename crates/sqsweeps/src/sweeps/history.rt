@@ -33,7 +33,7 @@ impl Database {
     }
 }
 
-/// The base and what each commit made, and the place of the last one that is known to be down.
+/// The base and what each commit made, and the place of the last one that is known to be durable.
 #[derive(Drop)]
 pub struct History {
     databases: Vec<Database>,
@@ -55,14 +55,14 @@ impl History {
         }
     }
 
-    /// A commit that isn't known to be down.
+    /// A commit that isn't known to be durable.
     pub(crate) fn commit(&mut self, commit: Commit) -> Result<(), AllocError> {
         let next = self.newest().after(commit);
         self.databases.push(next)?;
         Ok(())
     }
 
-    /// All commits are down.
+    /// All commits are durable.
     pub(crate) fn settle(&mut self) {
         self.floor = self.databases.len().saturating_sub(1);
     }
@@ -77,7 +77,7 @@ impl History {
         None
     }
 
-    /// The database at a place is the newest, and down.
+    /// The database at a place is the newest, and durable.
     pub(crate) fn cut(&mut self, place: usize) {
         self.databases.truncate(place.saturating_add(1));
         self.floor = place;

@@ -133,7 +133,7 @@ impl<E: Swept> Course<E> {
         }
     }
 
-    /// What an opening shows is in the history, and down; nothing that came later is there.
+    /// What an opening shows is in the history, and durable; nothing that came later is there.
     fn take_up(&mut self) -> Result<(), Wrong> {
         let database = self.seat.show()?;
         if self.is_open && database != self.history.newest() {

@@ -134,8 +134,8 @@ fn stop_openings<E: Swept>(
     Err(Wrong::Endless)
 }
 
-/// A crash of a run by the choice of a number: what is shown is one commit's, the last that is down or a later one. The
-/// files that it leaves, and what they show; None where there is no such choice.
+/// A crash of a run by the choice of a number: what is shown is one commit's, the last that is durable or a later one.
+/// The files that it leaves, and what they show; None where there is no such choice.
 fn crash_played<E: Swept>(
     alloc: Global,
     seen: &mut Seen,

@@ -157,7 +157,7 @@ static RESTART: [Step; 7] = [
 /// An engine is given up before its last commit is synced, and another one opened.
 static GIVEN_UP: [Step; 5] = [Step::Open, BOTH_C, Step::Open, ONE_D, Step::Sync];
 
-/// A commit goes into the log that a checkpoint brought down.
+/// A commit goes into the log that a checkpoint made durable.
 static BEHIND: [Step; 5] = [Step::Open, ONE_B, Step::Checkpoint, BOTH_C, Step::Sync];
 
 /// What another engine is asked after a failure.

@@ -4,45 +4,28 @@ use Rattle.std.specs.Prelude.{Result, Ok, Err}
 use Rattle.std.proofs.lemmas.List.{get_or-take, get_or-drop, length-take-le}
 use Rattle.std.proofs.lemmas.Grind.{same_number_lists}
 use Rattle.byteorder.specs.Endian.{big_number}
-use Rattle.sqval.specs.Database.{Database}
+use Rattle.recovery.proofs.Words.{Database, byte, DiskState, IsSoundDisk, ArePresent, Syncs, HasCalls, Db, Log, DiskError, table, sound_syncs, present_list, counted_grows, most_bytes, IsJust, Filling, Still, refusal_after, sync_refused, since_db, one_sync, no_calls, calls_then, ArePages}
 use Rattle.sqwal.specs.Frames.{frame_at, frame_end, page_of, size_of}
 use Rattle.sqwal.specs.Index.{FrameTable}
-use Rattle.sqwal.specs.View.{IsView}
+use Rattle.sqwal.specs.View.{Unnamed, IsView}
 use Rattle.sqwal.proofs.log.DependenceOnPrefix.{frame_at-end, frame_end-le, page_same, size_same}
-use Rattle.crashdisk.specs.State.{byte}
-use Rattle.crashdisk.specs.Call.{DiskState, IsSoundDisk, ArePresent, Syncs, HasCalls}
-use Rattle.crashdisk.specs.declared.file.File.TheVariants.{Db, Log}
-use Rattle.crashdisk.specs.declared.error.DiskError.{DiskError}
-use Rattle.crashdisk.proofs.image.OriginOfImages.{table}
-use Rattle.crashdisk.proofs.call.SoundDiskUnderCalls.{sound_syncs}
-use Rattle.crashdisk.proofs.call.EffectsOfCalls.{present_list, counted_grows}
-use Rattle.sqval.specs.CommitFaults.{most_bytes}
-use Rattle.sqval.specs.Held.{IsJust}
-use Rattle.walcore.specs.internal.Phases.{Filling}
 use Rattle.walcore.specs.Plans.{IsTable}
 use Rattle.walcore.specs.internal.Plans.{IsCopy}
-use Rattle.crashdisk.specs.Keeps.{Still}
 use Rattle.crashdisk.specs.internal.Keeps.{KeepsLog, Told, SyncStep, PlaceAnswer}
 use Rattle.walcore.specs.Era.{IsBoundary, shown}
-use Rattle.walcore.specs.internal.Era.{IsDown}
+use Rattle.walcore.specs.internal.Era.{IsDurable}
 use Rattle.walcore.specs.Standing.{Stands, IsPresent}
 use Rattle.walcore.specs.Bringing.{LeavesJust}
 use Rattle.walcore.specs.internal.Bringing.{SizeAnswer, CanBring, BroughtTo, Brings}
 use Rattle.walcore.specs.declared.error.WalError.{WalError}
-use Rattle.crashdisk.proofs.call.UnchangingCalls.{refusal_after}
-use Rattle.crashdisk.proofs.call.DisksAfterCalls.{sync_refused}
-use Rattle.crashdisk.proofs.sync.BytesOfSyncedLog.{since_db}
-use Rattle.crashdisk.proofs.call.SequencesOfCalls.{one_sync, no_calls, calls_then}
 use Rattle.walcore.specs.Changes.{MayFill, MayFillWithin}
 use Rattle.walcore.proofs.disk.PermittedChanges.{nothing_may}
 use Rattle.walcore.proofs.crash.FrontOfSurvivingLog.{same_front}
 use Rattle.walcore.proofs.log.PresentFrames.{present_by}
 use Rattle.walcore.proofs.disk.DiskInvariantUnderCalls.{stands_syncs}
-use Rattle.walcore.proofs.checkpoint.DiskInvariantUnderCheckpoint.{stands_still, stands_filling, filling_stands, filled_just}
-use Rattle.walcore.proofs.folds.PartlyFilledFile.{filling_view}
+use Rattle.walcore.proofs.checkpoint.DiskInvariantUnderCheckpoint.{stands_still, stands_valid, stands_count, stands_view, stands_filling, filling_stands, settled_just}
 use Rattle.walcore.proofs.read.ContentOfReadPage.{table_upto}
 use Rattle.walcore.specs.declared.error.WalError.TheVariants.{Device}
-use Rattle.recovery.specs.internal.Files.{ArePages}
 use Rattle.recovery.specs.internal.Steps.{CopyAnswer}
 
 -- ---- the size that a frame names
@@ -117,14 +100,14 @@ unfolding SizeAnswer
 brings_unread {T = T} size m t r q x a b was is answer logs e n h index mark d c can ends later within =
     let got = subst (λ (y : Result ℕ WalError). SizeAnswer size m y a b) was answer in (
       subst (λ (y : Result T WalError). BroughtTo size logs e n h index mark d m y a b) (sym is)
-          (got.1, got.2 e n can.present (omega (arith, can.stands.marks.down)), (c, stands_still size logs e n h index mark d c a can.stands b got.0)),
+          (got.1, got.2 e n can.present (omega (arith, can.stands.marks.durable)), (c, stands_still size logs e n h index mark d c a can.stands b got.0)),
       nothing_may a b got.0.calls,
     )
 
 module _ (size m count : ℕ) (t : FrameTable) (a b : DiskState) (some : 1 ≤ m) (read : Still a b × ((e : List ℕ) (k : ℕ) → IsPresent size e k a → frame_end size k ≤ length e → m ≤ k → count ≡ size_of size e m))
     (logs : List (List ℕ)) (e : List ℕ) (n : ℕ) (h : List Database) (index : ℕ → ℕ) (mark d c : ℕ) (can : CanBring size logs e n h index mark d c t a) (ends : IsBoundary size e m) (later : c ≤ m) (within : m ≤ d) where
   within_n : m ≤ n
-  within_n = omega (arith, can.stands.marks.down)
+  within_n = omega (arith, can.stands.marks.durable)
 
   abbrev now : List ℕ
   now = table b.log.len (byte b.log)
@@ -138,20 +121,20 @@ module _ (size m count : ℕ) (t : FrameTable) (a b : DiskState) (some : 1 ≤ m
   present : IsPresent size e n b
   present = present_by size e a b n read.0.log can.present
 
-  down : IsDown size e m now
-  down =
+  durable : IsDurable size e m now
+  durable =
       let le : frame_end size m ≤ frame_end size n = frame_end-le size m n within_n in
       let long : frame_end size m ≤ length now = omega (arith, are_now.len, present.long) in
       record { long = long; same = same_front now e (frame_end size m) long (omega (arith, stands.era.log.whole)) (λ i lt. are_now.each i (omega (arith, present.long)) ∙ present.each i (omega arith)) }
 
-  pub filling : Filling size now m (shown h index m) b
-  filling = stands_filling size logs e n h index mark d c b stands m later some within ends now down
+  pub filling : Filling size (shown h index m) (Unnamed size now m) b
+  filling = stands_filling size logs e n h index mark d c b stands m later some within ends now durable
 
   count_is : count ≡ size_of size now m
-  count_is = read.1 e n can.present (omega (arith, can.stands.era.log.whole)) within_n ∙ size_same size e now (frame_end size m) m (sym down.same) some (omega arith)
+  count_is = read.1 e n can.present (omega (arith, can.stands.era.log.whole)) within_n ∙ size_same size e now (frame_end size m) m (sym durable.same) some (omega arith)
 
   pub long : length (shown h index m) ≡ count
-  long = filling.count ∙ sym count_is
+  long = stands_count size logs e n h index mark d c b stands m later some within ends now durable ∙ sym count_is
 
   small : count * size ≤ most_bytes
   small =
@@ -161,7 +144,7 @@ module _ (size m count : ℕ) (t : FrameTable) (a b : DiskState) (some : 1 ≤ m
   in_table : IsTable size count now m t
   in_table =
       let upto = table_upto size e n m count t can.table within_n in
-      let same : (i : ℕ) → 1 ≤ i → i ≤ m → page_of size e i ≡ page_of size now i = λ i x y. page_same size e now (frame_end size m) i (sym down.same) x (frame_end-le size i m y) in
+      let same : (i : ℕ) → 1 ≤ i → i ≤ m → page_of size e i ≡ page_of size now i = λ i x y. page_same size e now (frame_end size m) i (sym durable.same) x (frame_end-le size i m y) in
       record {
         long = upto.long;
         finds = λ i p x y one low names. upto.finds i p x y one low (same i x y ∙ names);
@@ -169,7 +152,7 @@ module _ (size m count : ℕ) (t : FrameTable) (a b : DiskState) (some : 1 ≤ m
       }
 
   pub copy : IsCopy size count now m t
-  copy = record { valid = filling.valid; size_is = count_is; within = omega (arith, small); table = in_table }
+  copy = record { valid = stands_valid size logs e n h index mark d c b stands m later some within ends now durable; size_is = count_is; within = omega (arith, small); table = in_table }
 
   -- by whole pages alone
   pub copies_calls : (g : DiskState) → ((bytes : ℕ) → count * size ≤ bytes → HasCalls (MayFillWithin bytes size) b g) → HasCalls (MayFill size) a g
@@ -179,18 +162,18 @@ module _ (size m count : ℕ) (t : FrameTable) (a b : DiskState) (some : 1 ≤ m
   settles_calls g calls z q step = calls_then a g z (copies_calls g calls) (one_sync Db step.0 g z tt step.2)
 
   module _ {T : Type 0} (g : DiskState) (r : Result T WalError) (keeps : KeepsLog b g)
-      (fills : (w : List ℕ) (x : Database) → ArePresent b.log w → IsCopy size count w m t → Filling size w m x b → Filling size w m x g)
+      (fills : (w : List ℕ) (x : Database) → ArePresent b.log w → IsCopy size count w m t → length x ≡ count → Filling size x (Unnamed size w m) b → Filling size x (Unnamed size w m) g)
       (copies : (db w : List ℕ) (x : Database) → ArePresent b.db db → ArePresent b.log w → IsCopy size count w m t → length x ≡ count → IsView size db w m x → CopyAnswer Device size x r b g) where
-    filled : Filling size now m (shown h index m) g
-    filled = fills now (shown h index m) are_now copy filling
+    filled : Filling size (shown h index m) (Unnamed size now m) g
+    filled = fills now (shown h index m) are_now copy long filling
 
     copied : CopyAnswer Device size (shown h index m) r b g
     copied =
         let db : List ℕ = table b.db.len (byte b.db) in
-        copies db now (shown h index m) (present_list b.db) are_now copy long (filling_view size now m (shown h index m) b db filling (present_list b.db))
+        copies db now (shown h index m) (present_list b.db) are_now copy long (stands_view size logs e n h index mark d c b stands m later some within ends now durable db (present_list b.db))
 
     stands_filled : Stands size logs e n h index mark d m g
-    stands_filled = filling_stands size logs e n h index mark d c b stands m later some within ends now down g keeps filled
+    stands_filled = filling_stands size logs e n h index mark d c b stands m later some within ends now durable g keeps filled
 
     pub uncopied : {U : Type 0} (q : Result U WalError) (x : WalError) → r ≡ Err x → q ≡ Err x → BroughtTo size logs e n h index mark d m q a g
     unfolding CopyAnswer
@@ -205,7 +188,7 @@ module _ (size m count : ℕ) (t : FrameTable) (a b : DiskState) (some : 1 ≤ m
 
     module _ {U : Type 0} (v : T) (was : r ≡ Ok v) (z : DiskState) where
       just : (u : U) (called : Result U DiskError) → Told Device called (Ok u) → Syncs Db called g z → LeavesJust size (shown h index m) z
-      just u (Ok _) told synced = λ db image. filled_just size now m (shown h index m) g z filled (pages v was) synced db image
+      just u (Ok _) told synced = λ db image. settled_just size now m (shown h index m) g z filled (pages v was) synced db image
       just u (Err _) told synced = absurd told
 
       pub settled : (q : Result U WalError) → SyncStep Device Db q g z → BroughtTo size logs e n h index mark d m q a z

@@ -4,49 +4,36 @@ use Rattle.std.specs.Prelude.{Result, Ok, Err, OnOk, IsTrue, Option, Some, None,
 use Rattle.std.proofs.lemmas.Bool.{cases_eq}
 use Rattle.std.proofs.lemmas.List.{length-take-le}
 use Rattle.std.proofs.lemmas.Bool.Decides.{nat_tests}
-use Rattle.sqval.specs.Database.{Database}
-use Rattle.crashdisk.specs.Call.{DiskState, HasCalls}
-use Rattle.sqval.specs.Answers.{Files, Done, Refused, Refuses, HasCause}
+use Rattle.recovery.proofs.Words.{Database, DiskState, HasCalls, Files, Done, Refused, Refuses, HasCause, first_true, IsJust, IsSameDisk, TellsRefusal, KeepsLog, present_image, still, same_files, AreFiles, answered, ShowsWhole, at, last, newest, quiet_same}
 use Rattle.walcore.specs.Machine.{State, reader_at, call_refusal, all_newest, closed, synced, checkpointed, Syncs, Checkpoints, CheckpointStep}
-use Rattle.sqval.specs.CommitFaults.{first_true}
 use Rattle.walcore.specs.Making.{Made, Makes, MadeBySync, MadeByCopy}
 use Rattle.walcore.specs.Refusal.{number_of}
-use Rattle.sqval.specs.Held.{IsJust}
 use Rattle.walcore.specs.Made.{NoChance}
 use Rattle.sqwal.specs.Frames.{frame_end}
 use Rattle.walcore.specs.Era.{shown}
 use Rattle.walcore.specs.Changes.{MayFill}
 use Rattle.walcore.specs.Standing.{Stands, IsPresent}
-use Rattle.crashdisk.specs.Keeps.{IsSameDisk, TellsRefusal}
-use Rattle.crashdisk.specs.internal.Keeps.{KeepsLog}
 use Rattle.walcore.specs.Bringing.{answer_of, IsOldest, LeavesJust}
-use Rattle.walcore.specs.internal.Bringing.{IsLeast, BroughtTo, Brings, BroughtDown, ClosedBy}
-use Rattle.walcore.specs.Fits.{Past, IsLeft, FitsDisk, IsBound, AreTogether, IsNewestDown, IsCore, FitsCore, StepsTo, times}
+use Rattle.walcore.specs.internal.Bringing.{IsLeast, BroughtTo, Brings, BroughtOver, ClosedBy}
+use Rattle.walcore.specs.Fits.{Past, IsLeft, FitsDisk, IsBound, AreTogether, IsNewestDurable, IsCore, FitsCore, StepsTo, times}
 use Rattle.walcore.specs.declared.state.Core.{Core}
 use Rattle.walcore.specs.declared.reader.Reader.{Reader}
 use Rattle.walcore.specs.declared.wal.Checkpointed.{Checkpointed}
 use Rattle.walcore.specs.declared.wal.Checkpointed.TheVariants.{Complete as AllOfIt, Partial as PartOfIt}
 use Rattle.walcore.specs.declared.error.WalError.{WalError}
 use Rattle.walcore.specs.declared.error.WalError.TheVariants.{Device}
-use Rattle.crashdisk.proofs.sync.BytesOfSyncedLog.{present_image}
 use Rattle.walcore.proofs.log.PresentFrames.{present_by}
 use Rattle.walcore.proofs.crash.HistoryInCrashImages.{stands_shows, present_last}
-use Rattle.crashdisk.proofs.call.UnchangingCalls.{still, same_files}
 use Rattle.walcore.proofs.disk.PermittedChanges.{synced_same, filled_same}
 use Rattle.walcore.proofs.machine.FitUnderUnchangedFiles.{SameCore, core_same}
 use Rattle.walcore.proofs.read.StepsOfReaders.{open_refusal}
 use Rattle.walcore.proofs.sync.LogWithRepeatedFrame.{behind_same}
 use Rattle.walcore.proofs.read.OldestReaderMark.{reader_above, least_ends, least_begun, oldest_place, all_are_newest, some_is_older}
-use Rattle.recovery.specs.Files.{AreFiles}
-use Rattle.recovery.specs.Moments.{answered}
-use Rattle.recovery.specs.Logs.{ShowsWhole}
 use Rattle.walcore.specs.Alone.{wal_log}
-use Rattle.recovery.specs.Histories.{at, last, newest}
-use Rattle.recovery.proofs.ToldRefusals.{quiet_same}
 
 -- ---- a disk on which the log stands
 
--- What stands on a disk fits it, for whatever floor the frames that are down reach.
+-- What stands on a disk fits it, for whatever floor the frames that are durable reach.
 pub disk_of : (past : Past) (e : List ℕ) (n : ℕ) (index : ℕ → ℕ) (mark d c : ℕ) (t : DiskState) → Stands past.state.page_size past.made.logs e n past.state.history index mark d c t → past.state.floor < length past.state.history
     → past.state.floor ≤ index d
     → (IsTrue past.state.is_open → (files : Files) → AreFiles t files → NoChance past.made.logs files.log → ShowsWhole wal_log past.state.page_size files.db files.log (newest past.state.history)) → FitsDisk past t
@@ -77,7 +64,7 @@ row_moves PartOfIt s x y x_new y_new h = h
 pub refuses_device : (s : State) (before after : ℕ) → call_refusal s ≡ None → HasCause before after → Refuses (call_refusal s) false (closed s) before after s 15 (closed s)
 refuses_device s before after e cause = subst (λ (o : Option ℕ). Refuses o false (closed s) before after s 15 (closed s)) (sym e) (inr (refl, cause, refl))
 
--- ---- bringing down
+-- ---- bringing durable
 
 test_true : (m n : ℕ) (all : Bool) → all ≡ (m == n) → m ≡ n → all ≡ true
 test_true m n all e same = e ∙ grind (arith, nat_tests)
@@ -102,8 +89,8 @@ module _ (past : Past) (a : Core) (s t : DiskState) (fits : FitsCore past a s) (
   is : IsCore past e index d c a s
   is = (fits.core opened).4
 
-  newest_down : IsNewestDown a.mark a.frames d s.tears
-  newest_down = is.down (is.unsynced ∙ none)
+  newest_down : IsNewestDurable a.mark a.frames d s.tears
+  newest_down = is.durable (is.unsynced ∙ none)
 
   newest_frame : index a.frames ≡ last past.state.history
   newest_frame = omega (arith, is.stands.era.last)
@@ -111,9 +98,9 @@ module _ (past : Past) (a : Core) (s t : DiskState) (fits : FitsCore past a s) (
   newest_mark : index a.mark ≡ last past.state.history
   newest_mark = is.stands.era.marked.2 ∙ newest_frame
 
-  -- the newest database is one of those that are down
+  -- the newest database is one of those that are durable
   down_place : index d ≡ last past.state.history
-  down_place = omega (arith, newest_mark, newest_frame, is.stands.era.rises a.mark d newest_down.commit is.stands.marks.down, is.stands.era.rises d a.frames is.stands.marks.down (omega arith))
+  down_place = omega (arith, newest_mark, newest_frame, is.stands.era.rises a.mark d newest_down.commit is.stands.marks.durable, is.stands.era.rises d a.frames is.stands.marks.durable (omega arith))
 
   open_state : past.state.is_open ≡ true
   open_state = sym fits.is_open ∙ opened
@@ -129,12 +116,12 @@ module _ (past : Past) (a : Core) (s t : DiskState) (fits : FitsCore past a s) (
   filled n r same brings = record { sector = keeps.sector; tears = keeps.tears; calls = subst (λ (k : ℕ). HasCalls (MayFill k) s t) fits.page_size (brought n r same brings).1 }
 
   pub down_refused : {T : Type 0} (b : Core) (n : ℕ) (r : Result T WalError) (q : Result Checkpointed WalError) (x : WalError) → n ≡ a.page_size → Brings n least a.index r s t → r ≡ Err x → q ≡ Err x
-      → b.page_size ≡ a.page_size → b.marks.items ≡ a.marks.items → BroughtDown past q a b s t
+      → b.page_size ≡ a.page_size → b.marks.items ≡ a.marks.items → BroughtOver past q a b s t
   down_refused {T = T} b n r q x same brings was is_err size marks =
       let got = subst (λ (y : Result T WalError). BroughtTo a.page_size past.made.logs e a.frames past.state.history index a.mark d least y s t) was (brought n r same brings).0 in
       let stands = subst (λ (k : ℕ). Stands k past.made.logs e a.frames past.state.history index a.mark d got.2.0 t) fits.page_size got.2.1 in
       let shut : Past = record { state = closed past.state; made = past.made; tokens = past.tokens } in
-      subst (λ (y : Result Checkpointed WalError). BroughtDown past y a b s t) (sym is_err) (
+      subst (λ (y : Result Checkpointed WalError). BroughtOver past y a b s t) (sym is_err) (
         keeps.refused,
         got.0,
         got.1,
@@ -201,7 +188,7 @@ module _ (past : Past) (a : Core) (s t : DiskState) (fits : FitsCore past a s) (
       unsynced = is.unsynced;
       some = is.some;
       drained = all_newest_is;
-      down = λ z. let was = is.down z in record { commit = was.commit; all = λ whole. was.all (sym keeps.tears ∙ whole) };
+      durable = λ z. let was = is.durable z in record { commit = was.commit; all = λ whole. was.all (sym keeps.tears ∙ whole) };
       filed = λ yes_all. (
         is.unsynced ∙ none,
         λ db image. subst (λ (k : ℕ). IsJust a.page_size (at past.state.history k) db) (ap index (newest_least yes_all) ∙ newest_mark) (got.1 db image),
@@ -210,9 +197,9 @@ module _ (past : Past) (a : Core) (s t : DiskState) (fits : FitsCore past a s) (
       page = is.page;
     }
 
-    pub down_done : (b : Core) (x : Checkpointed) → x ≡ (if all then AllOfIt else PartOfIt) → SameCore (record a { drained = all }) b → b.marks.items ≡ a.marks.items → BroughtDown past (Ok x) a b s t
+    pub down_done : (b : Core) (x : Checkpointed) → x ≡ (if all then AllOfIt else PartOfIt) → SameCore (record a { drained = all }) b → b.marks.items ≡ a.marks.items → BroughtOver past (Ok x) a b s t
     unfolding after
-    down_done b x is_x core marks = subst (λ (y : Checkpointed). BroughtDown past (Ok y) a b s t) (sym is_x) (
+    down_done b x is_x core marks = subst (λ (y : Checkpointed). BroughtOver past (Ok y) a b s t) (sym is_x) (
       quiet_same Device r v s t was keeps.refused told,
       row_of all past.state s.refused t.refused all_newest_is (open_refusal past.state open_state),
       record {
@@ -284,53 +271,53 @@ module _ (past : Past) (a : Core) (s : DiskState) (fits : FitsCore past a s) whe
     oldest_between i oldest = record { least = oldest.least; is = oldest.is }
 
     module _ (b f : Core) (t : DiskState) where
-      step_by : (q : Result Checkpointed WalError) → BroughtDown between q m b g t → ClosedBy q b f → StepsTo past past.tokens Checkpoints (answered number_of answer_of q) f s t
-      step_by (Ok x) down same = record {
+      step_by : (q : Result Checkpointed WalError) → BroughtOver between q m b g t → ClosedBy q b f → StepsTo past past.tokens Checkpoints (answered number_of answer_of q) f s t
+      step_by (Ok x) durable same = record {
         next = checkpointed past.state;
         made = done.made;
-        same = filled_same past.state.page_size done.made.logs s g done.same t down.4;
-        refused = omega (arith, done.refused, down.0);
-        told = λ more. absurd (let bad : Done ≡ Refused 15 = done.told (omega (arith, down.0, more)) in cc);
-        row = row_moves x past.state g.refused t.refused s.refused t.refused down.1;
+        same = filled_same past.state.page_size done.made.logs s g done.same t durable.4;
+        refused = omega (arith, done.refused, durable.0);
+        told = λ more. absurd (let bad : Done ≡ Refused 15 = done.told (omega (arith, durable.0, more)) in cc);
+        row = row_moves x past.state g.refused t.refused s.refused t.refused durable.1;
         makes = made_by x;
-        fits = subst (λ (core : Core). FitsCore (record { state = checkpointed past.state; made = done.made; tokens = past.tokens }) core t) (sym same) down.2;
+        fits = subst (λ (core : Core). FitsCore (record { state = checkpointed past.state; made = done.made; tokens = past.tokens }) core t) (sym same) durable.2;
       }
         where
           made_by : (y : Checkpointed) → Makes past.state.page_size s.sector s.tears past.made Checkpoints (answer_of y) done.made
           made_by AllOfIt = done.makes
           made_by PartOfIt = done.makes
-      step_by (Err x) down shut = subst (λ (y : WalError). StepsTo past past.tokens Checkpoints (Refused (number_of y)) f s t) (sym down.1) (record {
+      step_by (Err x) durable shut = subst (λ (y : WalError). StepsTo past past.tokens Checkpoints (Refused (number_of y)) f s t) (sym durable.1) (record {
         next = closed past.state;
         made = done.made;
-        same = filled_same past.state.page_size done.made.logs s g done.same t down.6;
-        refused = omega (arith, done.refused, down.0);
+        same = filled_same past.state.page_size done.made.logs s g done.same t durable.6;
+        refused = omega (arith, done.refused, durable.0);
         told = λ more. refl;
-        row = refuses_device past.state s.refused t.refused done.row.0 (⊎_elim (λ lt. inl (omega (arith, done.refused))) (λ most. inr most) down.2);
+        row = refuses_device past.state s.refused t.refused done.row.0 (⊎_elim (λ lt. inl (omega (arith, done.refused))) (λ most. inr most) durable.2);
         makes = done.makes;
         fits = record {
           disk = record {
-            suits = down.3.suits;
+            suits = durable.3.suits;
             floor = fits.disk.floor;
-            held = down.3.held;
-            made = down.3.made;
-            left = lower_left past.state.page_size done.made.logs past.state.history past.state.floor (last past.state.history) t (omega (arith, fits.disk.floor)) down.3.left;
+            held = durable.3.held;
+            made = durable.3.made;
+            left = lower_left past.state.page_size done.made.logs past.state.history past.state.floor (last past.state.history) t (omega (arith, fits.disk.floor)) durable.3.left;
             present = λ opened_shut. absurd (let no : false ≡ true = opened_shut in cc);
           };
-          page_size = shut.1 ∙ down.4 ∙ fits_between.page_size;
+          page_size = shut.1 ∙ durable.4 ∙ fits_between.page_size;
           is_open = shut.0;
           core = λ opened_shut. absurd (let no : false ≡ true = sym shut.0 ∙ opened_shut in cc);
           count = fits.count;
           together = fits.together;
-          marks = λ k. ap (times k) (shut.2 ∙ down.5) ∙ fits_between.marks k;
+          marks = λ k. ap (times k) (shut.2 ∙ durable.5) ∙ fits_between.marks k;
         };
       })
 
-      pub checkpoint_steps : (q z : Result Checkpointed WalError) → z ≡ q → BroughtDown between q m b g t → ClosedBy q b f → StepsTo past past.tokens Checkpoints (answered number_of answer_of z) f s t
-      checkpoint_steps q z same down shut = subst (λ (y : Result Checkpointed WalError). StepsTo past past.tokens Checkpoints (answered number_of answer_of y) f s t) (sym same) (step_by q down shut)
+      pub checkpoint_steps : (q z : Result Checkpointed WalError) → z ≡ q → BroughtOver between q m b g t → ClosedBy q b f → StepsTo past past.tokens Checkpoints (answered number_of answer_of z) f s t
+      checkpoint_steps q z same durable shut = subst (λ (y : Result Checkpointed WalError). StepsTo past past.tokens Checkpoints (answered number_of answer_of y) f s t) (sym same) (step_by q durable shut)
 
-      just_by : (q : Result Checkpointed WalError) (i : ℕ) → IsOldest past.state i → BroughtDown between q m b g t → OnOk q (LeavesJust past.state.page_size (at past.state.history i) t)
-      just_by (Ok x) i oldest down = down.3 i (oldest_between i oldest)
-      just_by (Err x) i oldest down = tt
+      just_by : (q : Result Checkpointed WalError) (i : ℕ) → IsOldest past.state i → BroughtOver between q m b g t → OnOk q (LeavesJust past.state.page_size (at past.state.history i) t)
+      just_by (Ok x) i oldest durable = durable.3 i (oldest_between i oldest)
+      just_by (Err x) i oldest durable = tt
 
-      pub checkpoint_leaves : (q z : Result Checkpointed WalError) (i : ℕ) → z ≡ q → IsOldest past.state i → BroughtDown between q m b g t → OnOk z (LeavesJust past.state.page_size (at past.state.history i) t)
-      checkpoint_leaves q z i same oldest down = subst (λ (y : Result Checkpointed WalError). OnOk y (LeavesJust past.state.page_size (at past.state.history i) t)) (sym same) (just_by q i oldest down)
+      pub checkpoint_leaves : (q z : Result Checkpointed WalError) (i : ℕ) → z ≡ q → IsOldest past.state i → BroughtOver between q m b g t → OnOk z (LeavesJust past.state.page_size (at past.state.history i) t)
+      checkpoint_leaves q z i same oldest durable = subst (λ (y : Result Checkpointed WalError). OnOk y (LeavesJust past.state.page_size (at past.state.history i) t)) (sym same) (just_by q i oldest durable)

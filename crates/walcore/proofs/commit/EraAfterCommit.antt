@@ -4,14 +4,13 @@ use Rattle.std.specs.Prelude.{nat_lt, Option, Some, None, unwrap_or}
 use Rattle.std.proofs.lemmas.List.{get_or_append_left, get_or_at, length_push, length-take-le}
 use Rattle.std.proofs.lemmas.Bool.{cases_lt}
 use Rattle.std.proofs.lemmas.Bool.Decides.{nat_tests}
-use Rattle.sqval.specs.Database.{Database, Pages, page, supplied, apply}
+use Rattle.recovery.proofs.Words.{Database, Pages, page, supplied, apply, IsHeld}
 use Rattle.sqwal.specs.Frames.{frame_at, size_of, content_of}
 use Rattle.sqwal.specs.Log.{IsLog}
 use Rattle.sqwal.proofs.log.DependenceOnPrefix.{frame_at-end}
 use Rattle.walcore.specs.Made.{IsExtended}
 use Rattle.walcore.specs.Era.{shown, IsEra}
 use Rattle.walcore.specs.internal.Era.{IsApplied}
-use Rattle.sqval.specs.Held.{IsHeld}
 use Rattle.walcore.specs.internal.Standing.{AreCommitted}
 use Rattle.sqval.proofs.database.CommittedDatabase.{supplied_found, length-apply, page-apply}
 use Rattle.walcore.proofs.log.CommitOfExtendedLog.{extended_front, extended_inner, extended_count, extended_applied}

@@ -4,10 +4,7 @@ use Rattle.std.specs.Prelude.{IsTrue, nat_lt, Some, None}
 use Rattle.std.proofs.lemmas.Bool.{cases_lt}
 use Rattle.std.proofs.lemmas.List.{get_or_append_left, get_or_past}
 use Rattle.std.proofs.Math.Seq.{get_or-append_right}
-use Rattle.crashdisk.specs.State.{byte}
-use Rattle.crashdisk.specs.Call.{DiskState, IsSoundDisk}
-use Rattle.sqval.specs.Bytes.{AreBytes}
-use Rattle.sqval.specs.Database.{Database, apply}
+use Rattle.recovery.proofs.Words.{byte, DiskState, IsSoundDisk, AreBytes, Database, apply, Files, IsHeld, Suits, lent, lent_length, IsFaultless, lent_length, length-apply, present_image, sector_some, AreFiles, ShowsWhole, newest}
 use Rattle.sqwal.specs.Header.{IsHeaderOf}
 use Rattle.sqwal.specs.Frames.{frame_end, page_of, summed}
 use Rattle.sqwal.specs.Sums.{IsSumOf}
@@ -17,14 +14,10 @@ use Rattle.sqwal.specs.declared.header.WalHeader.{WalHeader}
 use Rattle.sqwal.specs.declared.sum.Sum.{Sum}
 use Rattle.sqwal.proofs.log.DependenceOnPrefix.{frame_end-le, frame_end-head, page_same, summed_same, take_less}
 use Rattle.sqwal.proofs.log.LogWithAppendedFrame.{header_of_same}
-use Rattle.sqval.specs.Answers.{Files}
 use Rattle.walcore.specs.Machine.{State, reader_at}
 use Rattle.walcore.specs.Made.{AreMade, NoChance, IsExtended}
 use Rattle.walcore.specs.Era.{shown}
-use Rattle.sqval.specs.Held.{IsHeld}
-use Rattle.crashdisk.specs.Keeps.{Suits}
 use Rattle.walcore.specs.Standing.{IsBehind, Stands, IsPresent}
-use Rattle.sqval.specs.JudgedPages.{lent}
 use Rattle.walcore.specs.Fits.{Past, IsLeft, FitsDisk, IsIndexed, IsBound, AreTogether, IsCore, FitsCore, times}
 use Rattle.walcore.specs.internal.Going.{KnowsLog}
 use Rattle.walcore.specs.Commits.{SameLog}
@@ -33,24 +26,15 @@ use Rattle.walcore.specs.declared.state.Core.{Core}
 use Rattle.walcore.specs.declared.reader.Reader.{Reader}
 use Rattle.walcore.proofs.log.ExistenceOfExtendedLog.{extended_exists}
 use Rattle.walcore.proofs.commit.FramesOfAcceptedCommit.{are_committed, are_frames}
-use Rattle.sqval.proofs.page.PageNumbers.{lent_length}
-use Rattle.sqval.proofs.database.FaultlessCommit.{IsFaultless}
 use Rattle.walcore.proofs.commit.FitOfPreparedCore.{ready_granted, ready_most}
-use Rattle.sqval.proofs.page.PageNumbers.{lent_length}
-use Rattle.sqval.proofs.database.CommittedDatabase.{length-apply}
 use Rattle.walcore.proofs.log.CommitOfExtendedLog.{extended_front}
 use Rattle.walcore.proofs.crash.FrontOfSurvivingLog.{boundary_same}
 use Rattle.walcore.proofs.commit.EraAfterCommit.{index_with, index_low, index_at}
-use Rattle.crashdisk.proofs.sync.BytesOfSyncedLog.{present_image}
 use Rattle.walcore.proofs.crash.HistoryInCrashImages.{stands_shows, present_last}
 use Rattle.walcore.proofs.disk.DiskInvariantUnderCalls.{commit_stands}
 use Rattle.walcore.proofs.log.PresentFrames.{present_more}
-use Rattle.crashdisk.proofs.page.PlacesOfPages.{sector_some}
 use Rattle.walcore.proofs.sync.LogWithRepeatedFrame.{behind_later, behind_same}
-use Rattle.recovery.specs.Files.{AreFiles}
-use Rattle.recovery.specs.Logs.{ShowsWhole}
 use Rattle.walcore.specs.Alone.{wal_log}
-use Rattle.recovery.specs.Histories.{newest}
 
 -- ---- what fits a disk, by its parts
 
@@ -72,7 +56,7 @@ disk_by past size h floor s facts a b c present =
 pub facts_stand : (size : ℕ) (logs : List (List ℕ)) (e : List ℕ) (n : ℕ) (h : List Database) (index : ℕ → ℕ) (mark d c : ℕ) (s : DiskState) → Stands size logs e n h index mark d c s → (floor : ℕ) → floor ≤ index d → DiskFacts size logs h floor s
 facts_stand size logs e n h index mark d c s stands floor low = record {
   suits = stands.suits;
-  floor_is = omega (arith, stands.era.last, stands.era.rises d n stands.marks.down (omega arith));
+  floor_is = omega (arith, stands.era.last, stands.era.rises d n stands.marks.durable (omega arith));
   held = stands.era.held;
   made = stands.are_made;
   left = inl (stands_shows size logs e n h index mark d c s stands floor low);
@@ -198,7 +182,7 @@ module _ (past : Past) (e : List ℕ) (rest : List (List ℕ)) (index : ℕ → 
   some = (ready_granted pages count core ready).some
 
   low : past.state.floor ≤ index_new d
-  low = omega (arith, index_low_at past index core.frames (core.frames + length (lent pages)) d (omega (arith, some)) is.stands.marks.down, is.floor)
+  low = omega (arith, index_low_at past index core.frames (core.frames + length (lent pages)) d (omega (arith, some)) is.stands.marks.durable, is.floor)
 
   module _ (t : DiskState) (stands : Stands core.page_size (plan.f ∷ rest) plan.f (core.frames + length (lent pages)) h_new index_new (core.frames + length (lent pages)) d c t) where
     pub disk_facts : DiskFacts core.page_size (plan.f ∷ rest) h_new past.state.floor t
@@ -252,7 +236,7 @@ module _ (past : Past) (e : List ℕ) (rest : List (List ℕ)) (index : ℕ → 
           stands = to_page (λ x. Stands x (plan.f ∷ rest) plan.f core_then.frames h_new index_new core_then.mark d c t) (to_frames (λ x. Stands core.page_size (plan.f ∷ rest) plan.f x h_new index_new core_then.mark d c t)
               (to_mark (λ x. Stands core.page_size (plan.f ∷ rest) plan.f (core.frames + length (lent pages)) h_new index_new x d c t) stands));
           floor = low;
-          begun = omega (arith, at_mark, is.stands.marks.begun, is.stands.marks.down);
+          begun = omega (arith, at_mark, is.stands.marks.begun, is.stands.marks.durable);
           behind = to_page (λ x. IsBehind x d (frame_end x core_then.frames) t) (to_frames (λ x. IsBehind core.page_size d (frame_end core.page_size x) t) (behind_new sector tears));
           present = to_frames (λ x. IsPresent core_then.page_size plan.f x t) known.present;
           header = known.header;
@@ -267,7 +251,7 @@ module _ (past : Past) (e : List ℕ) (rest : List (List ℕ)) (index : ℕ → 
           some = λ yes. omega (arith, known.frames, some);
           drained = drained;
           filed = λ yes. absurd (let bad : true ≡ false = sym yes ∙ drained in cc);
-          down = λ z. absurd (let bad : true ≡ false = sym unsynced ∙ z in cc);
+          durable = λ z. absurd (let bad : true ≡ false = sym unsynced ∙ z in cc);
           readers = λ number. to_page (λ x. AreTogether (IsBound x plan.f index_new core_then.mark c (state_new true)) (reader_at past.state number) (get_or past.tokens number None))
               (to_mark (λ x. AreTogether (IsBound core.page_size plan.f index_new x c (state_new true)) (reader_at past.state number) (get_or past.tokens number None))
               (together_map (IsBound core.page_size e index core.mark c past.state) (IsBound core.page_size plan.f index_new (core.frames + length (lent pages)) c (state_new true)) reads_on (reader_at past.state number) (get_or past.tokens number None) (is.readers number)));

@@ -3,25 +3,20 @@ use Rattle.std.proofs.Common.{◌≡◌, ℕ, ◌+◌, ◌<◌, ◌≤◌, Bool,
 use Rattle.std.specs.Prelude.{IsTrue, None}
 use Rattle.std.specs.List.{All}
 use Rattle.std.proofs.lemmas.List.{get_or-map}
-use Rattle.crashdisk.specs.Call.{DiskState}
+use Rattle.recovery.proofs.Words.{DiskState, IsJust, lent, lent_length, IsFaultless, newest}
 use Rattle.sqwal.specs.Header.{IsHeaderOf}
 use Rattle.sqwal.specs.Frames.{frame_end, page_of, summed}
 use Rattle.sqwal.specs.Sums.{IsSumOf}
 use Rattle.sqwal.specs.Index.{FrameTable}
 use Rattle.sqwal.specs.declared.header.WalHeader.{WalHeader}
 use Rattle.sqwal.specs.declared.sum.Sum.{Sum}
-use Rattle.sqval.specs.Held.{IsJust}
 use Rattle.walcore.specs.Machine.{reader_at}
-use Rattle.sqval.specs.JudgedPages.{lent}
 use Rattle.walcore.specs.Standing.{IsBehind, Stands, IsPresent}
 use Rattle.walcore.specs.Fits.{Past, IsIndexed, IsBound, AreTogether, IsCore, FitsCore, times}
 use Rattle.walcore.specs.Commits.{Prepares}
 use Rattle.walcore.specs.internal.Commits.{IsReady}
 use Rattle.walcore.specs.declared.state.Core.{Core}
-use Rattle.sqval.proofs.page.PageNumbers.{lent_length}
-use Rattle.sqval.proofs.database.FaultlessCommit.{IsFaultless}
 use Rattle.walcore.proofs.commit.AcceptedCommit.{granted, room_enough}
-use Rattle.recovery.specs.Histories.{newest}
 
 module _ (past : Past) (e : List ℕ) (index : ℕ → ℕ) (d c : ℕ) (a b : Core) (s : DiskState) (same : Prepares a b) where
   at_size : (P : ℕ → Type 0) → P a.page_size → P b.page_size
@@ -62,7 +57,7 @@ module _ (past : Past) (e : List ℕ) (index : ℕ → ℕ) (d c : ℕ) (a b : C
     filed = λ drained. let was = is.filed (subst (λ (x : Bool). IsTrue x) same.marks.drained drained) in
         (same.unsynced ∙ was.0, λ db image. at_size (λ x. IsJust x (newest past.state.history) db) (was.1 db image));
     some = λ yes. at_frames (λ x. 1 ≤ x) (is.some (sym same.unsynced ∙ yes));
-    down = λ z. let was = is.down (sym same.unsynced ∙ z) in record { commit = at_mark (λ x. x ≤ d) was.commit; all = λ whole. was.all whole ∙ sym same.log.frames };
+    durable = λ z. let was = is.durable (sym same.unsynced ∙ z) in record { commit = at_mark (λ x. x ≤ d) was.commit; all = λ whole. was.all whole ∙ sym same.log.frames };
     readers = λ number. at_size (λ x. AreTogether (IsBound x e index b.mark c past.state) (reader_at past.state number) (get_or past.tokens number None))
         (at_mark (λ x. AreTogether (IsBound a.page_size e index x c past.state) (reader_at past.state number) (get_or past.tokens number None)) (is.readers number));
     page = b.framed;
@@ -93,9 +88,6 @@ module _ (pages : List (ℕ × Bor (List ℕ))) (size : ℕ) (core : Core) (read
         ap (λ (p : ℕ × List ℕ). length p.1) (sym at) ∙ ready_granted.full k within,
         omega (arith, ap (λ (p : ℕ × List ℕ). p.0) at, ready_granted.within k within, ready.bound),
       )
-
-  pub ready_some : 1 ≤ length pages
-  ready_some = omega (arith, ready_granted.some, lent_length pages)
 
   pub ready_most : core.used + length pages ≤ 1048576
   ready_most = omega (arith, room_enough core.size core.page_size core.used (lent pages) size ready.granted, lent_length pages)

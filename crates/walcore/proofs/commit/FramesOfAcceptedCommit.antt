@@ -4,11 +4,8 @@ use Rattle.std.specs.Prelude.{◌==◌, is_some}
 use Rattle.std.specs.List.{All}
 use Rattle.std.proofs.lemmas.Bool.{true≢false}
 use Rattle.std.proofs.lemmas.List.{get_or-map}
-use Rattle.sqval.specs.Bytes.{AreBytes}
-use Rattle.sqval.specs.Database.{Database, Pages}
-use Rattle.sqval.specs.JudgedPages.{lent}
+use Rattle.recovery.proofs.Words.{AreBytes, Database, Pages, lent, lent_length}
 use Rattle.walcore.specs.internal.Standing.{AreCommitted}
-use Rattle.sqval.proofs.page.PageNumbers.{lent_length}
 use Rattle.sqval.proofs.database.FaultlessCommit.{IsFaultless, number_once, above_some}
 use Rattle.walcore.proofs.log.ExistenceOfExtendedLog.{AreFrames, size_fits}
 

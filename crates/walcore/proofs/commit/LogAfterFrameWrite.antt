@@ -5,12 +5,7 @@ use Rattle.std.proofs.Math.Nat.{mul-le-mul_left}
 use Rattle.std.proofs.lemmas.Bool.{cases_eq}
 use Rattle.std.proofs.lemmas.List.{get_or_append_left, length-take-le}
 use Rattle.std.proofs.Math.Seq.{get_or-append_right}
-use Rattle.crashdisk.specs.State.{longest}
-use Rattle.crashdisk.specs.Call.{DiskState, IsSoundDisk, Writes, write, counted}
-use Rattle.crashdisk.specs.declared.file.File.TheVariants.{Log}
-use Rattle.crashdisk.specs.declared.error.DiskError.{DiskError}
-use Rattle.sqval.specs.Bytes.{part, AreBytes}
-use Rattle.sqval.specs.Database.{Database}
+use Rattle.recovery.proofs.Words.{longest, DiskState, IsSoundDisk, Writes, write, counted, Log, DiskError, part, AreBytes, Database, HadRefusal, Told, had_refusal}
 use Rattle.sqwal.specs.Sums.{IsSumOf}
 use Rattle.sqwal.specs.Header.{IsHeaderOf}
 use Rattle.sqwal.specs.Frames.{frame_at, frame_end, page_of, size_of, content_of, summed, IsFrameHead}
@@ -20,8 +15,6 @@ use Rattle.sqwal.specs.declared.sum.Sum.{Sum}
 use Rattle.sqwal.specs.declared.header.WalHeader.{WalHeader}
 use Rattle.sqwal.specs.Index.{FrameTable}
 use Rattle.sqwal.proofs.log.DependenceOnPrefix.{frame_end-le, frame_at-suc, frame_end-suc}
-use Rattle.crashdisk.specs.Keeps.{HadRefusal}
-use Rattle.crashdisk.specs.internal.Keeps.{Told}
 use Rattle.walcore.specs.Changes.{MayExtend}
 use Rattle.walcore.specs.Standing.{IsBehind, Stands, IsPresent}
 use Rattle.walcore.specs.Fits.{IsIndexed}
@@ -29,7 +22,6 @@ use Rattle.walcore.specs.internal.Going.{HasFrame, FrameStep, KnowsLog}
 use Rattle.walcore.specs.declared.state.Core.{Core}
 use Rattle.walcore.specs.declared.error.WalError.{WalError}
 use Rattle.walcore.specs.declared.error.WalError.TheVariants.{Device}
-use Rattle.crashdisk.proofs.call.UnchangingCalls.{had_refusal}
 use Rattle.walcore.proofs.log.BytesOfNextFrame.{next_frame}
 use Rattle.walcore.proofs.log.PresentFrames.{present_writes}
 use Rattle.walcore.proofs.disk.DiskInvariantUnderCalls.{stands_writes}

@@ -3,26 +3,17 @@ use Rattle.std.proofs.Common.{◌≡◌, ℕ, suc, ◌+◌, ◌^◌, ◌<◌, �
 use Rattle.std.specs.Prelude.{◌==◌, Result, Ok, Err}
 use Rattle.std.proofs.Math.Pow.{pow_mono}
 use Rattle.std.proofs.lemmas.List.{get_or-map}
-use Rattle.crashdisk.specs.Call.{DiskState, IsSoundDisk, write}
-use Rattle.crashdisk.proofs.call.SoundDiskUnderCalls.{sound_writes}
-use Rattle.crashdisk.specs.declared.file.File.TheVariants.{Log}
-use Rattle.crashdisk.proofs.call.EffectsOfCalls.{counted_grows}
-use Rattle.sqval.specs.PageSize.{IsPageSize}
+use Rattle.recovery.proofs.Words.{DiskState, IsSoundDisk, write, sound_writes, Log, counted_grows, IsPageSize, lent, lent_length, sector_some, no_calls, one_write, calls_then, refusal_after}
 use Rattle.sqwal.specs.Frames.{frame_end, page_of, size_of, content_of}
 use Rattle.sqwal.specs.Log.{IsLog}
 use Rattle.sqwal.specs.Refusal.{most_frames}
 use Rattle.sqwal.proofs.log.DependenceOnPrefix.{frame_end-le}
 use Rattle.walcore.specs.Made.{IsExtended}
-use Rattle.sqval.specs.JudgedPages.{lent}
 use Rattle.walcore.specs.Changes.{MayExtend}
 use Rattle.walcore.specs.Standing.{IsBehind, Stands}
 use Rattle.walcore.specs.internal.Going.{KeepsCore, FrameStep, KnowsLog, Going, FramesAnswer}
 use Rattle.walcore.specs.declared.state.Core.{Core}
 use Rattle.walcore.specs.declared.error.WalError.{WalError}
-use Rattle.sqval.proofs.page.PageNumbers.{lent_length}
-use Rattle.crashdisk.proofs.page.PlacesOfPages.{sector_some}
-use Rattle.crashdisk.proofs.call.SequencesOfCalls.{no_calls, one_write, calls_then}
-use Rattle.crashdisk.proofs.call.UnchangingCalls.{refusal_after}
 use Rattle.walcore.proofs.sync.LogWithRepeatedFrame.{behind_same, behind_later}
 use Rattle.walcore.proofs.commit.LogAfterFrameWrite.{IsFrameAt, Reaches, frame_may, frame_known, frame_quiet, frame_refused, frame_stands}
 

@@ -1,21 +1,16 @@
 -- The rows of the machine that a commit takes.
 use Rattle.std.proofs.Common.{◌≡◌, inl, inr, ⊎_elim, ℕ, ◌+◌, ◌^◌, ◌<◌, ◌≤◌, Bool, true, false, cond, List, ◌∷◌, ◌++◌, length, refl, sym, ◌∙◌, ap, subst, arith, Bor, Option, []}
 use Rattle.std.specs.Prelude.{IsTrue, ◌==◌, Some, None, Result, Ok, Err}
-use Rattle.crashdisk.specs.Call.{DiskState, IsSoundDisk}
-use Rattle.sqval.specs.Database.{Pages, apply}
+use Rattle.recovery.proofs.Words.{DiskState, IsSoundDisk, Pages, apply, Done, Refused, Refuses, HadRefusal, no_calls, lent, answered, newest}
 use Rattle.sqwal.specs.Frames.{frame_end}
 use Rattle.sqwal.specs.Log.{IsLog}
 use Rattle.sqwal.specs.Refusal.{most_frames}
 use Rattle.walcore.specs.Refusal.{number_of}
-use Rattle.sqval.specs.Answers.{Done, Refused, Refuses}
 use Rattle.walcore.specs.CommitRefusals.{refusal_of}
 use Rattle.walcore.specs.Machine.{committed, closed, commit_refusal, Commits, CommitStep}
 use Rattle.walcore.specs.Made.{IsExtended}
 use Rattle.walcore.specs.Making.{Made, IfBegun, MadeByCommit, Makes}
-use Rattle.crashdisk.specs.Keeps.{HadRefusal}
-use Rattle.crashdisk.proofs.call.SequencesOfCalls.{no_calls}
 use Rattle.walcore.specs.Standing.{IsBehind, Stands}
-use Rattle.sqval.specs.JudgedPages.{lent}
 use Rattle.walcore.specs.Fits.{Past, IsCore, FitsCore, StepsTo}
 use Rattle.walcore.specs.internal.Going.{KeepsCore, KnowsLog, Going, FramesAnswer}
 use Rattle.walcore.specs.Commits.{Prepares}
@@ -28,8 +23,6 @@ use Rattle.std.proofs.lemmas.Bool.{ne_eqb}
 use Rattle.walcore.proofs.commit.AcceptedCommit.{few_refusals}
 use Rattle.walcore.proofs.commit.FitOfPreparedCore.{fits_prepared}
 use Rattle.walcore.proofs.commit.FitAfterCommit.{Planned, planned, state_new, fits_new, fits_closed, knows_same}
-use Rattle.recovery.specs.Moments.{answered}
-use Rattle.recovery.specs.Histories.{newest}
 
 -- what a core judges by is the machine's
 refusal_same : (past : Past) (e : List ℕ) (index : ℕ → ℕ) (d c : ℕ) (core : Core) (s : DiskState) → FitsCore past core s → IsCore past e index d c core s → past.state.is_open ≡ true → (pages : Pages) (count : ℕ)

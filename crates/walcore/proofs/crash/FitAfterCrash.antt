@@ -1,9 +1,6 @@
 -- What fits a disk after a crash.
 use Rattle.std.proofs.Common.{◌≡◌, ℕ, suc, ◌<◌, true, List, [], ◌∷◌, length, Option, refl, sym, ◌∙◌, ap, subst}
-use Rattle.crashdisk.specs.State.{IsSectorSize}
-use Rattle.crashdisk.specs.Call.{DiskState, IsCrash}
-use Rattle.crashdisk.specs.Keeps.{Suits}
-use Rattle.crashdisk.proofs.call.SoundDiskUnderCalls.{sound_crash}
+use Rattle.recovery.proofs.Words.{IsSectorSize, DiskState, IsCrash, Suits, sound_crash}
 use Rattle.walcore.specs.Alone.{AreWhole, wal_log}
 use Rattle.walcore.specs.Machine.{gone, forgotten}
 use Rattle.walcore.specs.Fits.{Past, FitsAlone, none_open}

@@ -3,18 +3,15 @@ use Rattle.std.proofs.Common.{◌≡◌, ◌⊎◌, inl, inr, ⊎_elim, ℕ, ◌
 use Rattle.std.specs.List.{Contains}
 use Rattle.std.proofs.lemmas.Bool.{cases_eq}
 use Rattle.std.proofs.lemmas.List.{ext_get_or, get_or-take, length-take-le}
-use Rattle.sqval.specs.PageSize.{IsPageSize}
-use Rattle.sqval.specs.Database.{Database, page, file_page, IsFile}
+use Rattle.recovery.proofs.Words.{IsPageSize, Database, page, file_page, IsFile, IsJust, size_some, file_count}
 use Rattle.sqwal.specs.Frames.{frame_end, IsFront}
 use Rattle.sqwal.specs.Log.{IsLog}
 use Rattle.sqwal.specs.View.{Unnamed, IsOver, IsView}
 use Rattle.sqwal.proofs.log.DependenceOnPrefix.{frame_end-zero, frame_end-le, all_same, commit_same}
 use Rattle.sqwal.proofs.log.UniquenessOfView.{view_same}
-use Rattle.sqval.specs.Held.{IsJust}
 use Rattle.walcore.specs.Made.{AreMade, NoChance}
 use Rattle.walcore.specs.Era.{IsBoundary, shown, IsEra, IsUnder}
-use Rattle.walcore.specs.internal.Era.{IsDown}
-use Rattle.sqval.proofs.page.FilePages.{size_some, file_count}
+use Rattle.walcore.specs.internal.Era.{IsDurable}
 use Rattle.walcore.proofs.crash.OriginOfValidFrames.{known}
 
 -- two lists with the same first numbers
@@ -47,15 +44,15 @@ fronts size logs e w n m are in_made log chance head front = ⊎_elim
     record { within = is.0; boundary = inr (commit_same size w e (frame_end size m) m is.1 v.0.first (omega arith) v.1); same = is.1 })
     front.is
 
--- Frames that are down are valid in it.
-pub down_front : (size : ℕ) (e w : List ℕ) (n d m : ℕ) → IsLog size e n → d ≤ n → IsBoundary size e d → IsDown size e d w → IsFront size w m → d ≤ m
-down_front size e w n d m log within boundary down front = ⊎_elim
+-- Frames that are durable are valid in it.
+pub down_front : (size : ℕ) (e w : List ℕ) (n d m : ℕ) → IsLog size e n → d ≤ n → IsBoundary size e d → IsDurable size e d w → IsFront size w m → d ≤ m
+down_front size e w n d m log within boundary durable front = ⊎_elim
     (λ z. omega arith)
     (λ commit. ⊎_elim
     (λ z. omega arith)
     (λ some. front.greatest d
-    (record { first = some; each = all_same size e w (frame_end size d) d (sym down.same) (omega arith) down.long (λ j a b. log.all j a (omega arith)) })
-    (commit_same size e w (frame_end size d) d (sym down.same) some (omega arith) commit))
+    (record { first = some; each = all_same size e w (frame_end size d) d (sym durable.same) (omega arith) durable.long (λ j a b. log.all j a (omega arith)) })
+    (commit_same size e w (frame_end size d) d (sym durable.same) some (omega arith) commit))
     (let c : (d ≡ 0) ⊎ (1 ≤ d) = ⊎_elim (λ z. inl z) (λ nz. inr (omega arith)) (cases_eq d 0) in c))
     boundary
 

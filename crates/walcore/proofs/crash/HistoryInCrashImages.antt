@@ -3,10 +3,7 @@ use Rattle.std.proofs.Common.{◌≡◌, ◌⊎◌, inl, ⊎_elim, ℕ, ◌+◌,
 use Rattle.std.specs.List.{Contains}
 use Rattle.std.proofs.lemmas.Bool.{cases_eq}
 use Rattle.std.proofs.lemmas.List.{get_or-take, length-take-le}
-use Rattle.crashdisk.specs.State.{FileState, IsImage}
-use Rattle.crashdisk.specs.Call.{DiskState, ArePresent}
-use Rattle.crashdisk.specs.Facts.{HasFixed}
-use Rattle.sqval.specs.Database.{Database}
+use Rattle.recovery.proofs.Words.{FileState, IsImage, DiskState, ArePresent, HasFixed, Database, MayBeRead, ShowsWhole, read_cases}
 use Rattle.sqwal.specs.Header.{IsHeader, named_size}
 use Rattle.sqwal.specs.Frames.{frame_end, IsFront}
 use Rattle.sqwal.specs.Log.{IsLog}
@@ -17,16 +14,14 @@ use Rattle.sqwal.proofs.log.UniquenessOfView.{front_unique, view_file}
 use Rattle.walcore.specs.Alone.{wal_log}
 use Rattle.walcore.specs.Made.{AreMade, NoChance}
 use Rattle.walcore.specs.Era.{IsBoundary, shown, IsEra, IsUnder}
-use Rattle.walcore.specs.internal.Era.{IsDown}
+use Rattle.walcore.specs.internal.Era.{IsDurable}
 use Rattle.walcore.specs.Standing.{ShowsHistory, HasMadeHeader, AreMarks, Stands, IsPresent}
 use Rattle.walcore.proofs.crash.OriginOfValidFrames.{named_same}
 use Rattle.walcore.proofs.crash.FrontOfSurvivingLog.{same_front, just_file, Fronts, fronts, down_front, view_of_image}
-use Rattle.recovery.specs.Logs.{MayBeRead, ShowsWhole}
-use Rattle.recovery.proofs.ShownDatabase.{read_cases}
 
 -- a log that a crash may leave has the bytes that are fixed
 pub down_image : (size : ℕ) (e : List ℕ) (n d : ℕ) (sector : ℕ) (tears : Bool) (log : FileState) → IsLog size e n → d ≤ n → HasFixed sector tears log 0 (take (frame_end size d) e)
-    → (w : List ℕ) → IsImage sector tears log w → IsDown size e d w
+    → (w : List ℕ) → IsImage sector tears log w → IsDurable size e d w
 down_image size e n d sector tears log is le fixed w image =
     let k : ℕ = frame_end size d in
     let fits : k ≤ length e = omega (arith, is.whole, frame_end-le size d n le) in
@@ -39,8 +34,8 @@ down_image size e n d sector tears log is le fixed w image =
       same = same_front w e k long fits (λ i lt. ap (λ j. get_or w j 0) (let z : i ≡ 0 + i = omega arith in z) ∙ (fixed i (omega arith)).each w image ∙ get_or-take k e i 0 lt);
     }
 
-pub down_head : (size : ℕ) (e w : List ℕ) (d : ℕ) → IsDown size e d w → take 32 w ≡ take 32 e
-down_head size e w d down = take_less w e (frame_end size d) 32 down.same (frame_end-head size d)
+pub down_head : (size : ℕ) (e w : List ℕ) (d : ℕ) → IsDurable size e d w → take 32 w ≡ take 32 e
+down_head size e w d durable = take_less w e (frame_end size d) 32 durable.same (frame_end-head size d)
 
 -- ---- one log that is left
 
@@ -68,14 +63,14 @@ module _ (size : ℕ) (logs : List (List ℕ)) (e : List ℕ) (n : ℕ) (h : Lis
       (subst (λ (j : ℕ). IsView size db w j (shown h index j)) (sym z) view)
       (λ at. just.long ∙ ap (λ (j : ℕ). length (shown h index j) * size) (sym z))
 
-  pub left_front : AreMade size logs → Contains logs e → NoChance logs w → (IsHeader (named_size w) w → take 32 w ≡ take 32 e) → (1 ≤ d → IsDown size e d w)
+  pub left_front : AreMade size logs → Contains logs e → NoChance logs w → (IsHeader (named_size w) w → take 32 w ≡ take 32 e) → (1 ≤ d → IsDurable size e d w)
       → (m : ℕ) → IsFront (named_size w) w m → Leaves size logs e n h index mark d c w m
-  left_front are in_made chance head down m front =
+  left_front are in_made chance head durable m front =
       let later : d ≤ m = ⊎_elim (λ z. omega arith)
       (λ nz.
-      let is = down (omega arith) in
+      let is = durable (omega arith) in
       let named : named_size w ≡ size = named_same size e w era.log.header (down_head size e w d is) in
-      down_front size e w n d m era.log marks.down marks.down_ends is (subst (λ (k : ℕ). IsFront k w m) named front))
+      down_front size e w n d m era.log marks.durable marks.durable_ends is (subst (λ (k : ℕ). IsFront k w m) named front))
       (cases_eq d 0) in
       ⊎_elim
       (λ z. record { front = front; later = later; within = omega arith; boundary = inl z; shows = none_shows m front z later })
@@ -96,8 +91,8 @@ module _ (size : ℕ) (logs : List (List ℕ)) (e : List ℕ) (n : ℕ) (h : Lis
 -- ---- the disk
 
 module _ (size : ℕ) (logs : List (List ℕ)) (e : List ℕ) (n : ℕ) (h : List Database) (index : ℕ → ℕ) (mark d c : ℕ) (s : DiskState) (stands : Stands size logs e n h index mark d c s) where
-  listed_down : (w : List ℕ) → IsImage s.sector false s.log w → IsDown size e d w
-  listed_down w image = down_image size e n d s.sector false s.log stands.era.log stands.marks.down stands.log.listed w image
+  listed_down : (w : List ℕ) → IsImage s.sector false s.log w → IsDurable size e d w
+  listed_down w image = down_image size e n d s.sector false s.log stands.era.log stands.marks.durable stands.log.listed w image
 
   pub stands_head : (w : List ℕ) → MayBeRead wal_log s w → IsHeader (named_size w) w → take 32 w ≡ take 32 e
   stands_head w may header = ⊎_elim
@@ -108,10 +103,10 @@ module _ (size : ℕ) (logs : List (List ℕ)) (e : List ℕ) (n : ℕ) (h : Lis
       (torn.2.header header))
       (read_cases wal_log s w may)
 
-  pub stands_down : (w : List ℕ) → MayBeRead wal_log s w → 1 ≤ d → IsDown size e d w
+  pub stands_down : (w : List ℕ) → MayBeRead wal_log s w → 1 ≤ d → IsDurable size e d w
   stands_down w may some = ⊎_elim
       (λ listed. listed_down w listed)
-      (λ torn. down_image size e n d s.sector true s.log stands.era.log stands.marks.down (stands.log.torn torn.0 some) w torn.1)
+      (λ torn. down_image size e n d s.sector true s.log stands.era.log stands.marks.durable (stands.log.torn torn.0 some) w torn.1)
       (read_cases wal_log s w may)
 
   pub stands_shows : (floor : ℕ) → floor ≤ index d → ShowsHistory size logs h floor s × HasMadeHeader logs s
@@ -131,20 +126,15 @@ module _ (size : ℕ) (logs : List (List ℕ)) (e : List ℕ) (n : ℕ) (h : Lis
   -- ---- the present bytes
 
   module _ (present : IsPresent size e n s) (w : List ℕ) (are : ArePresent s.log w) where
-    pub present_down : IsDown size e n w
+    pub present_down : IsDurable size e n w
     present_down =
         let long : frame_end size n ≤ length w = omega (arith, present.long, are.len) in
         record { long = long; same = same_front w e (frame_end size n) long (omega (arith, stands.era.log.whole)) (λ i lt. are.each i (omega (arith, present.long)) ∙ present.each i lt) }
 
-    -- At each boundary that no checkpoint went beyond they show its database, as a reader sees it.
-    pub present_view : (m : ℕ) → IsBoundary size e m → c ≤ m → m ≤ n → (db : List ℕ) → IsImage s.sector s.tears s.db db → IsView size db w m (shown h index m)
-    present_view m ends from to db image = view_of_image size e n mark h index c db w m stands.era stands.marks.begun_ends from (stands.file db image)
-        (record { within = to; boundary = ends; same = take_less w e (frame_end size n) (frame_end size m) present_down.same (frame_end-le size m n to) })
-
     -- They show the last database.
     pub present_last : NoChance logs w → (db : List ℕ) → IsImage s.sector s.tears s.db db → ShowsWhole wal_log size db w (shown h index n)
     present_last chance db image =
-        let marks : AreMarks size e n n c = record { down = omega arith; down_ends = stands.era.ends; begun = omega (arith, stands.marks.begun, stands.marks.down); begun_ends = stands.marks.begun_ends } in
+        let marks : AreMarks size e n n c = record { durable = omega arith; durable_ends = stands.era.ends; begun = omega (arith, stands.marks.begun, stands.marks.durable); begun_ends = stands.marks.begun_ends } in
         let front = front_exists (named_size w) w in
         let is : Leaves size logs e n h index mark n c w front.0 = left_front size logs e n h index mark n c w stands.era marks stands.are_made stands.in_made chance (λ header. down_head size e w n present_down) (λ some. present_down) front.0 front.1 in
         let at : front.0 ≡ n = omega (arith, is.later, is.within) in

@@ -1,7 +1,6 @@
 -- A call that adds no log to those that may be read adds none that shows less.
-use Rattle.std.proofs.Common.{◌≡◌, ◌⊎◌, inl, inr, ⊎_elim, ℕ, ◌≤◌, List, ◌∷◌, length, ◌∙◌, subst, arith}
-use Rattle.crashdisk.specs.Call.{DiskState}
-use Rattle.sqval.specs.Database.{Database}
+use Rattle.std.proofs.Common.{◌≡◌, ◌⊎◌, inl, inr, ⊎_elim, ℕ, ◌≤◌, List, ◌∷◌, length, subst, arith}
+use Rattle.recovery.proofs.Words.{DiskState, Database, MayBeRead, Narrows}
 use Rattle.sqwal.specs.Header.{named_size}
 use Rattle.sqwal.specs.Frames.{frame_end}
 use Rattle.sqwal.proofs.log.DependenceOnPrefix.{frame_end-le, frame_end-suc, frame_end-zero}
@@ -10,8 +9,6 @@ use Rattle.walcore.specs.Fits.{IsLeft}
 use Rattle.walcore.specs.Made.{NoChance}
 use Rattle.walcore.specs.Standing.{ShowsHistory, HasMadeHeader}
 use Rattle.walcore.proofs.log.GrowthOfMadeLogs.{made_before, made_cases}
-use Rattle.recovery.specs.Logs.{MayBeRead}
-use Rattle.recovery.proofs.NarrowedImages.{Narrows}
 
 module _ (s t : DiskState) (narrows : Narrows wal_log s t) where
   pub history_narrows : (size : ℕ) (logs : List (List ℕ)) (h : List Database) (floor : ℕ) → ShowsHistory size logs h floor s → ShowsHistory size logs h floor t

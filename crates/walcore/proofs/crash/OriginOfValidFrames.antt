@@ -1,7 +1,7 @@
 -- The valid frames of a log are those that were made under its header.
 use Rattle.std.proofs.Common.{◌≡◌, ℕ, zero, suc, ◌+◌, ◌≤◌, List, length, take, sym, ◌∙◌, ap, subst, arith}
 use Rattle.std.specs.List.{Contains}
-use Rattle.sqval.specs.Bytes.{part, word}
+use Rattle.recovery.proofs.Words.{part, word}
 use Rattle.sqwal.specs.Header.{IsHeader, named_size}
 use Rattle.sqwal.specs.Frames.{frame_at, frame_end, Passes, AllPass, IsValidFrame}
 use Rattle.sqwal.specs.Log.{IsLog}

@@ -2,27 +2,16 @@
 use Rattle.std.proofs.Common.{◌≡◌, ℕ, ◌+◌, ◌<◌, ◌≤◌, true, false, List, ◌∷◌, ◌++◌, length, take, get_or, sym, ◌∙◌, ap, subst, arith, []}
 use Rattle.std.specs.Prelude.{Result, Ok}
 use Rattle.std.proofs.lemmas.List.{get_or_append_left}
-use Rattle.crashdisk.specs.State.{IsImage}
-use Rattle.crashdisk.specs.Call.{DiskState, Writes, Syncs, Looks}
-use Rattle.crashdisk.specs.Facts.{IsFixed}
-use Rattle.crashdisk.specs.declared.file.File.{File}
-use Rattle.crashdisk.specs.declared.file.File.TheVariants.{Db, Log}
-use Rattle.crashdisk.specs.declared.error.DiskError.{DiskError}
-use Rattle.crashdisk.proofs.call.EffectsOfCalls.{image_sync, image_elsewhere, image_looks}
-use Rattle.sqval.specs.Database.{Database, Pages, page, apply}
+use Rattle.recovery.proofs.Words.{IsImage, DiskState, Writes, Syncs, IsFixed, File, Db, Log, DiskError, Database, Pages, page, apply, IsJust, Suits, sector_some, suits_writes, suits_syncs, since_db}
+use Rattle.crashdisk.proofs.call.EffectsOfCalls.{image_sync, image_elsewhere}
 use Rattle.sqwal.specs.Frames.{frame_end}
 use Rattle.sqwal.specs.Refusal.{most_frames}
 use Rattle.sqwal.proofs.log.DependenceOnPrefix.{frame_end-le, frame_end-head, take_less}
 use Rattle.sqwal.proofs.log.UniquenessOfView.{unnamed_same}
-use Rattle.sqval.specs.Held.{IsJust}
-use Rattle.crashdisk.specs.Keeps.{Suits}
 use Rattle.walcore.specs.Made.{AreMade, IsExtended}
 use Rattle.walcore.specs.Era.{IsBoundary, shown, IsEra}
 use Rattle.walcore.specs.Standing.{HoldsFrames, IsBehind, AreMarks, Stands, IsPresent}
 use Rattle.walcore.specs.internal.Standing.{AreCommitted}
-use Rattle.crashdisk.proofs.page.PlacesOfPages.{sector_some}
-use Rattle.crashdisk.proofs.page.RecoverablePages.{suits_writes, suits_syncs, suits_looks}
-use Rattle.crashdisk.proofs.sync.BytesOfSyncedLog.{since_db}
 use Rattle.walcore.proofs.log.GrowthOfMadeLogs.{made_here, made_more}
 use Rattle.walcore.proofs.crash.FrontOfSurvivingLog.{boundary_same}
 use Rattle.walcore.proofs.log.CommitOfExtendedLog.{extended_front}
@@ -36,8 +25,8 @@ pub stands_more : (size : ℕ) (logs more_logs : List (List ℕ)) (e f : List �
     → Stands size logs e n h index mark d c s → AreMade size (f ∷ more_logs) → IsEra size f m mark_new h_new index_new → n ≤ m → take (frame_end size n) f ≡ take (frame_end size n) e
     → ((i : ℕ) → i ≤ n → shown h_new index_new i ≡ shown h index i) → Stands size (f ∷ more_logs) f m h_new index_new mark_new d c s
 stands_more size logs more_logs e f n m h h_new index index_new mark mark_new d c s stands are era more same now =
-    let low : c ≤ n = omega (arith, stands.marks.begun, stands.marks.down) in
-    let same_d : take (frame_end size d) f ≡ take (frame_end size d) e = take_less f e (frame_end size n) (frame_end size d) same (frame_end-le size d n stands.marks.down) in
+    let low : c ≤ n = omega (arith, stands.marks.begun, stands.marks.durable) in
+    let same_d : take (frame_end size d) f ≡ take (frame_end size d) e = take_less f e (frame_end size n) (frame_end size d) same (frame_end-le size d n stands.marks.durable) in
     let same_head : take 32 f ≡ take 32 e = take_less f e (frame_end size n) 32 same (frame_end-head size n) in
     record {
       suits = stands.suits;
@@ -45,8 +34,8 @@ stands_more size logs more_logs e f n m h h_new index index_new mark mark_new d 
       in_made = made_here f more_logs;
       era = era;
       marks = record {
-        down = omega (arith, stands.marks.down);
-        down_ends = boundary_same size e f n d same stands.marks.down stands.marks.down_ends;
+        durable = omega (arith, stands.marks.durable);
+        durable_ends = boundary_same size e f n d same stands.marks.durable stands.marks.durable_ends;
         begun = stands.marks.begun;
         begun_ends = boundary_same size e f n c same low stands.marks.begun_ends;
       };
@@ -99,38 +88,32 @@ module _ (size : ℕ) (logs : List (List ℕ)) (e : List ℕ) (n : ℕ) (h : Lis
   positive = omega (arith, sector_some s.sector stands.suits.sectors)
 
   module _ {T : Type 0} where
-    -- a write of the log behind what is down, whatever was answered
+    -- a write of the log behind what is durable, whatever was answered
     pub stands_writes : (at : ℕ) (bytes : List ℕ) (result : Result T DiskError) → Writes Log at bytes result s t → IsBehind size d at s → Stands size logs e n h index mark d c t
     stands_writes at bytes result wrote behind = stands_by d (suits_writes size Log at bytes result s t stands.suits wrote) stands.marks
-        (holds_writes size e n d s t stands.era.log stands.marks.down stands.suits.sound positive stands.log at bytes result wrote behind)
+        (holds_writes size e n d s t stands.era.log stands.marks.durable stands.suits.sound positive stands.log at bytes result wrote behind)
         (image_elsewhere Log result s t wrote.elsewhere)
 
     -- a sync, whatever was answered
     pub stands_syncs : (f : File) (result : Result T DiskError) → Syncs f result s t → Stands size logs e n h index mark d c t
     stands_syncs Log result synced = stands_by d (suits_syncs size Log result s t stands.suits synced) stands.marks
-        (holds_syncs size e n d s t stands.era.log stands.marks.down stands.suits.sound positive stands.log result synced)
+        (holds_syncs size e n d s t stands.era.log stands.marks.durable stands.suits.sound positive stands.log result synced)
         (image_elsewhere Log result s t synced.elsewhere)
     stands_syncs Db result synced = stands_by d (suits_syncs size Db result s t stands.suits synced) stands.marks
         (holds_elsewhere size e d s t synced.elsewhere.sector synced.elsewhere.tears synced.elsewhere.other (since_db [] s.tears result s t synced.since) stands.log)
         (image_sync Db result s t stands.suits.sound.db synced)
 
-    -- a sync of the log that succeeds, after which all frames are down
+    -- a sync of the log that succeeds, after which all frames are durable
     pub stands_synced : {u : T} → Syncs Log (Ok u) s t → IsPresent size e n s → Stands size logs e n h index mark n c t
     stands_synced {u = u} synced present = stands_by n (suits_syncs size Log (Ok u) s t stands.suits synced)
-        (record { down = omega arith; down_ends = stands.era.ends; begun = omega (arith, stands.marks.begun, stands.marks.down); begun_ends = stands.marks.begun_ends })
-        (holds_synced size e n d s t stands.era.log stands.marks.down stands.suits.sound positive stands.log synced present)
+        (record { durable = omega arith; durable_ends = stands.era.ends; begun = omega (arith, stands.marks.begun, stands.marks.durable); begun_ends = stands.marks.begun_ends })
+        (holds_synced size e n d s t stands.era.log stands.marks.durable stands.suits.sound positive stands.log synced present)
         (image_elsewhere Log (Ok u) s t synced.elsewhere)
 
-    -- a look
-    pub stands_looks : (end : ℕ) (result : Result T DiskError) → Looks end result s t → Stands size logs e n h index mark d c t
-    stands_looks end result looked = stands_by d (suits_looks size end result s t stands.suits looked) stands.marks
-        (holds_elsewhere size e d s t looked.sector looked.tears looked.log (looked.kept, looked.handed) stands.log)
-        (image_looks Db end result s t looked)
-
--- Fewer frames are said to be down, as where the last one is a copy.
+-- Fewer frames are said to be durable, as where the last one is a copy.
 pub stands_fewer : (size : ℕ) (logs : List (List ℕ)) (e : List ℕ) (n : ℕ) (h : List Database) (index : ℕ → ℕ) (mark d d_new c : ℕ) (s : DiskState) → Stands size logs e n h index mark d c s
     → d_new ≤ d → c ≤ d_new → IsBoundary size e d_new → Stands size logs e n h index mark d_new c s
 stands_fewer size logs e n h index mark d d_new c s stands less begun ends = stands_by size logs e n h index mark d c s s stands d_new stands.suits
-    (record { down = omega (arith, stands.marks.down); down_ends = ends; begun = begun; begun_ends = stands.marks.begun_ends })
-    (holds_fewer size e n d d_new s stands.era.log stands.marks.down less stands.log)
+    (record { durable = omega (arith, stands.marks.durable); durable_ends = ends; begun = begun; begun_ends = stands.marks.begun_ends })
+    (holds_fewer size e n d d_new s stands.era.log stands.marks.durable less stands.log)
     (λ db image. image)

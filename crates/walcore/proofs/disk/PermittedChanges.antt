@@ -2,13 +2,7 @@
 use Rattle.std.proofs.Common.{◌≡◌, inl, inr, ⊎_elim, ℕ, List, [], ◌∷◌, length, refl, ◌∙◌, subst}
 use Rattle.std.specs.Prelude.{Result}
 use Rattle.crashdisk.specs.Call.{DiskState, IsSoundDisk, Syncs as CallSyncs, Change, write, set_len, sync, HasCalls, Nothing}
-use Rattle.crashdisk.specs.Keeps.{IsSameDisk, Later}
-use Rattle.crashdisk.specs.internal.Keeps.{SyncStep}
-use Rattle.crashdisk.specs.declared.file.File.{File}
-use Rattle.crashdisk.specs.declared.file.File.TheVariants.{Db, Log}
-use Rattle.crashdisk.specs.declared.error.DiskError.{DiskError}
-use Rattle.crashdisk.proofs.call.SequencesOfCalls.{calls_wider, calls_then}
-use Rattle.crashdisk.proofs.call.DisksAfterCalls.{later_sync, sync_later}
+use Rattle.recovery.proofs.Words.{IsSameDisk, Later, SyncStep, File, Db, Log, DiskError, calls_wider, calls_then, later_sync, sync_later}
 use Rattle.walcore.specs.Machine.{Syncs, Checkpoints}
 use Rattle.walcore.specs.Changes.{MayFill, MayFoldWithin, MayExtend, MayBegin, MayChange}
 use Rattle.walcore.specs.declared.error.WalError.{WalError}

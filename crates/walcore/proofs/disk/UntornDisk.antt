@@ -1,17 +1,10 @@
 -- A disk as if it didn't tear: what a crash leaves of it then is listed, and each call does to it what it did.
-use Rattle.std.proofs.Common.{◌≡◌, ℕ, false, List, [], refl}
+use Rattle.std.proofs.Common.{ℕ, false, List, [], refl}
 use Rattle.std.specs.Prelude.{Result}
-use Rattle.crashdisk.specs.Call.{DiskState, Writes, Cuts, Syncs, of}
-use Rattle.crashdisk.specs.declared.file.File.{File}
-use Rattle.crashdisk.specs.declared.file.File.TheVariants.{Db, Log}
-use Rattle.crashdisk.specs.declared.error.DiskError.{DiskError}
+use Rattle.recovery.proofs.Words.{DiskState, Writes, Syncs, Log, DiskError}
 
 abbrev pub untorn : DiskState → DiskState
 untorn s = record { sector = s.sector; tears = false; db = s.db; log = s.log; refused = s.refused; kept = []; handed = []; settings = s.settings }
-
-pub untorn_of : (f : File) (s : DiskState) → of f (untorn s) ≡ of f s
-untorn_of Db s = refl
-untorn_of Log s = refl
 
 module _ {T : Type 0} (result : Result T DiskError) (s t : DiskState) where
   pub writes_untorn : (at : ℕ) (bytes : List ℕ) → Writes Log at bytes result s t → Writes Log at bytes result (untorn s) (untorn t)
@@ -24,17 +17,6 @@ module _ {T : Type 0} (result : Result T DiskError) (s t : DiskState) where
     heeds = wrote.heeds;
     within = wrote.within;
     file = wrote.file;
-  }
-
-  pub cuts_untorn : (n : ℕ) → Cuts Log n result s t → Cuts Log n result (untorn s) (untorn t)
-  cuts_untorn n cut = record {
-    elsewhere = record { sector = cut.elsewhere.sector; tears = refl; other = cut.elsewhere.other; refused = cut.elsewhere.refused };
-    kept = refl;
-    handed = refl;
-    settings = cut.settings;
-    heeds = cut.heeds;
-    within = cut.within;
-    file = cut.file;
   }
 
   pub syncs_untorn : Syncs Log result s t → Syncs Log result (untorn s) (untorn t)

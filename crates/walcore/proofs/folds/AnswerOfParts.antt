@@ -9,19 +9,10 @@ use Rattle.sqwal.specs.Header.{IsHeader, named_size}
 use Rattle.sqwal.specs.Frames.{size_of, content_of, IsFront}
 use Rattle.sqwal.specs.View.{Unnamed, IsLast, IsView}
 use Rattle.sqwal.specs.Index.{FrameTable}
-use Rattle.walcore.specs.internal.Phases.{Filling, Writing}
+use Rattle.walcore.specs.internal.Phases.{Writing}
+use Rattle.recovery.proofs.Words.{Filling, byte, IsSettled, DiskState, IsSoundDisk, ArePresent, Syncs, Looks, Log, DiskError, table, present_list, settled_sync, IsJust, Bounds, TearsPages, KeepsBytes, IsLogDurable, Still, KeepsLog, page_by_bytes, page_within, refusal_after, present_in, had_refusal, ArePages, still_bytes}
 use Rattle.sqwal.proofs.log.UniquenessOfView.{named_or_not}
-use Rattle.crashdisk.specs.State.{byte, IsSettled}
-use Rattle.crashdisk.specs.Call.{DiskState, IsSoundDisk, ArePresent, Syncs, Looks}
-use Rattle.crashdisk.specs.declared.file.File.TheVariants.{Log}
-use Rattle.crashdisk.specs.declared.error.DiskError.{DiskError}
-use Rattle.crashdisk.proofs.image.OriginOfImages.{table}
-use Rattle.crashdisk.proofs.call.EffectsOfCalls.{present_list, settled_sync}
-use Rattle.sqval.specs.Held.{IsJust}
-use Rattle.sqval.specs.Limits.{Bounds}
 use Rattle.walcore.specs.Folding.{FoldAnswerWithin}
-use Rattle.crashdisk.specs.Keeps.{TearsPages, KeepsBytes, IsLogDown, Still}
-use Rattle.crashdisk.specs.internal.Keeps.{KeepsLog}
 use Rattle.walcore.specs.internal.Steps.{EndAnswer, FoldedAnswer}
 use Rattle.walcore.specs.Plans.{IsFitWithin}
 use Rattle.walcore.specs.internal.Plans.{IsCopy, IsPlan, LogRefused, PlanAnswer, ReadAnswer}
@@ -29,16 +20,10 @@ use Rattle.walcore.specs.declared.plan.Plan.{Plan}
 use Rattle.walcore.specs.declared.folding.Folded.{Folded}
 use Rattle.walcore.specs.declared.error.WalError.{WalError}
 use Rattle.walcore.specs.declared.error.WalError.TheVariants.{TooLarge, PageSize, NoMemory, Device, SectorAbovePage}
-use Rattle.sqval.proofs.page.FilePages.{length-file_page, page_by_bytes}
-use Rattle.crashdisk.proofs.page.PlacesOfPages.{page_within}
-use Rattle.crashdisk.proofs.call.UnchangingCalls.{refusal_after, present_in, had_refusal}
 use Rattle.walcore.proofs.folds.PlanOfScannedLog.{fit_none, front_zero}
-use Rattle.walcore.proofs.folds.CopiedPages.{content_long}
 use Rattle.crashdisk.proofs.sync.BytesOfSyncedLog.{down_by, synced_down, settled_present}
-use Rattle.walcore.proofs.folds.ShownDatabaseDuringWrites.{writing_keeps}
-use Rattle.recovery.specs.internal.Files.{ArePages}
+use Rattle.walcore.proofs.folds.PhasesOfFold.{view_long, writing_keeps}
 use Rattle.recovery.specs.internal.Steps.{CopyAnswer}
-use Rattle.recovery.proofs.AnswersOfSteps.{still_bytes}
 
 -- ---- A file with its log has a view at each frame.
 
@@ -103,16 +88,10 @@ module _ {most : ℕ} (size : ℕ) (db w : List ℕ) (plan : Plan) (is : IsPlan 
       }
 
   module _ (some : 1 ≤ plan.frames) (d : Database) (view : IsView size db w plan.frames d) (b : DiskState) (here : ArePages size d b.db) where
-    long_page : (p : ℕ) → 1 ≤ p → p ≤ length d → length (page d p) ≡ size
-    long_page p one le = ⊎_elim
-        (λ un. ap (λ (x : List ℕ). length x) (view.over.other p one le un) ∙ length-file_page size db p)
-        (λ last. ap (λ (x : List ℕ). length x) (view.over.logged p last.0 one le last.1) ∙ content_long size plan.frames last.0 w (is.some some).copy.valid last.1.first last.1.within)
-        (named_or_not size w plan.frames p)
-
     just : (bytes : List ℕ) → ArePresent b.db bytes → IsJust size d bytes
     just bytes are = record {
       long = are.len ∙ here.len;
-      each = λ p one le. page_by_bytes size bytes p (page d p) (long_page p one le)
+      each = λ p one le. page_by_bytes size bytes p (page d p) (view_long size w plan.frames d db (is.some some).copy.valid view p one le)
           (λ i lt. are.each ((p - 1) * size + i) (omega (arith, here.len, page_within size p (length d) i one le lt)) ∙ here.each p one le i lt);
     }
 
@@ -172,16 +151,8 @@ pub look_refused : {T : Type 0} (limits : Bounds) (size : ℕ) (db w : List ℕ)
 look_refused limits size db w called e q a b sound fits was is looked =
     subst (λ (x : Result Folded WalError). FoldAnswerWithin limits size db w x a b) (sym is) (fits, had_refusal called e 0 a b sound.refused was looked.within (omega arith) looked.refused)
 
-pub sync_unfolded : {T : Type 0} (limits : Bounds) (size : ℕ) (db w : List ℕ) (called : Result T DiskError) (e : DiskError) (q : Result Folded WalError) (a b : DiskState) → IsSoundDisk a → (TearsPages size a → ⊥)
-    → called ≡ Err e → q ≡ Err Device → Syncs Log called a b → FoldAnswerWithin limits size db w q a b
-sync_unfolded limits size db w called e q a b sound fits was is synced =
-    subst (λ (x : Result Folded WalError). FoldAnswerWithin limits size db w x a b) (sym is) (fits, had_refusal called e 0 a b sound.refused was synced.within (omega arith) synced.elsewhere.refused)
-
-pub fold_torn : (limits : Bounds) (size : ℕ) (db w : List ℕ) (q : Result Folded WalError) (a : DiskState) → TearsPages size a → q ≡ Err SectorAbovePage → FoldAnswerWithin limits size db w q a a
-fold_torn limits size db w q a torn is = subst (λ (x : Result Folded WalError). FoldAnswerWithin limits size db w x a a) (sym is) (torn, refl)
-
 -- there is no log
-pub fold_empty : (limits : Bounds) (size : ℕ) (db w : List ℕ) (f : Folded) (a b : DiskState) → (TearsPages size a → ⊥) → Still a b → ArePresent a.db db → ArePresent a.log w → a.log.len ≡ 0 → IsLogDown a [] → f.frames ≡ 0 → f.size ≡ 0
+pub fold_empty : (limits : Bounds) (size : ℕ) (db w : List ℕ) (f : Folded) (a b : DiskState) → (TearsPages size a → ⊥) → Still a b → ArePresent a.db db → ArePresent a.log w → a.log.len ≡ 0 → IsLogDurable a [] → f.frames ≡ 0 → f.size ≡ 0
     → FoldAnswerWithin limits size db w (Ok f) a b
 fold_empty limits size db w f a b fits is are_db are zero settled frames sizes =
     let bad : IsHeader (named_size w) w → ⊥ = λ header. omega (arith, header.whole, are.len) in
@@ -229,7 +200,7 @@ module _ {T : Type 0} {u : T} (size : ℕ) (db w : List ℕ) (a b c : DiskState)
   pub fold_after : (limits : Bounds) (q : Result Folded WalError) → ArePresent a.db db → ArePresent a.log w → (ArePresent b.db db → ArePresent b.log w → FoldAnswerWithin limits size db w q b c) → FoldAnswerWithin limits size db w q a c
   fold_after limits q are_db are rest = fold_then size db w a b c fits synced_fits synced_later synced_bytes limits q (rest (present_in a.db b.db db synced_bytes.db are_db) (synced_bytes.log w are))
 
-  pub empty_down : (b.log.len ≡ 0) → IsLogDown b []
+  pub empty_down : (b.log.len ≡ 0) → IsLogDurable b []
   empty_down zero =
       let none : ArePresent a.log [] = record { len = sym (sym synced.file.len ∙ zero); each = λ i lt. absurd (omega (arith, synced.file.len)) } in
       synced_down [] a b sound none synced
@@ -240,8 +211,8 @@ module _ (n size count : ℕ) (w : List ℕ) (m : ℕ) (t : FrameTable) (d : Dat
   pub copies_at : {T : Type 0} (db : List ℕ) (r : Result T WalError) → (IsCopy n count w m t → length d ≡ count → IsView n db w m d → CopyAnswer Device n d r a b) → IsView size db w m d → CopyAnswer Device size d r a b
   copies_at db r f view = subst (λ (x : ℕ). IsCopy x count w m t → length d ≡ count → IsView x db w m d → CopyAnswer Device x d r a b) e f copy (view.some copy.valid.first ∙ sym copy.size_is) view
 
-  pub writing_at : KeepsLog a b → (IsCopy n count w m t → Filling n w m d a → Filling n w m d b) → Writing size w m d a → Writing size w m d b
-  writing_at keeps f is = writing_keeps size w m d a b is keeps (subst (λ (x : ℕ). IsCopy x count w m t → Filling x w m d a → Filling x w m d b) e f copy is.file)
+  pub writing_at : KeepsLog a b → (IsCopy n count w m t → length d ≡ count → Filling n d (Unnamed n w m) a → Filling n d (Unnamed n w m) b) → Writing size w m d a → Writing size w m d b
+  writing_at keeps f is = writing_keeps size w m d a b is keeps (subst (λ (x : ℕ). IsCopy x count w m t → length d ≡ count → Filling x d (Unnamed x w m) a → Filling x d (Unnamed x w m) b) e f copy (is.count ∙ sym copy.size_is) is.pages.file)
 
 -- a look came first
 module _ (size : ℕ) (db w : List ℕ) (a b c : DiskState) (fits : TearsPages size a → ⊥) (is : Still a b) where

@@ -2,11 +2,7 @@
 use Rattle.std.proofs.Common.{◌≡◌, inl, ℕ, ◌+◌, ◌-◌, ◌*◌, ◌≤◌, List, length, sym, subst, arith}
 use Rattle.std.proofs.Math.Nat.{mul-le-mul_right}
 use Rattle.std.specs.Prelude.{Result}
-use Rattle.crashdisk.specs.Call.{DiskState, Writes, Cuts, HasCalls}
-use Rattle.crashdisk.specs.Keeps.{Still, Later}
-use Rattle.crashdisk.specs.internal.Keeps.{KeepsLog}
-use Rattle.crashdisk.specs.declared.file.File.TheVariants.{Db}
-use Rattle.crashdisk.specs.declared.error.DiskError.{DiskError}
+use Rattle.recovery.proofs.Words.{DiskState, Writes, Cuts, HasCalls, Still, Later, KeepsLog, Db, DiskError}
 use Rattle.crashdisk.proofs.call.SequencesOfCalls.{one_write, one_cut, calls_then, calls_wider}
 use Rattle.walcore.specs.Changes.{MayFillWithin, MayFoldWithin}
 use Rattle.walcore.proofs.disk.PermittedChanges.{nothing_may}

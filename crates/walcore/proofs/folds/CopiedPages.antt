@@ -3,7 +3,6 @@ use Rattle.std.proofs.Common.{◌≡◌, ◌⊎◌, inl, inr, ⊎_elim, ℕ, ◌
 use Rattle.std.specs.Prelude.{Result, Ok, Err}
 use Rattle.std.proofs.lemmas.Bool.{cases_eq}
 use Rattle.std.proofs.lemmas.List.{get_or-take, get_or-drop, length-take-le}
-use Rattle.std.proofs.lemmas.Grind.{same_number_lists}
 use Rattle.std.proofs.lemmas.List.FromFn.{get_or-map-range_with_len}
 use Rattle.std.proofs.Math.Nat.{mul-le-mul_right}
 use Rattle.sqval.specs.Database.{Database, page, file_page}
@@ -11,26 +10,13 @@ use Rattle.sqwal.specs.Frames.{frame_at, frame_end, content_of, IsValidFrame}
 use Rattle.sqwal.specs.View.{Unnamed, IsLast, IsView}
 use Rattle.sqwal.specs.Index.{FrameTable, IsNewest}
 use Rattle.sqwal.proofs.log.DependenceOnPrefix.{frame_at-end}
-use Rattle.crashdisk.specs.State.{FileState, byte, longest}
-use Rattle.crashdisk.specs.Call.{DiskState, IsSoundDisk, ArePresent, Writes, Cuts, Looks}
-use Rattle.crashdisk.specs.declared.file.File.TheVariants.{Db}
-use Rattle.crashdisk.specs.declared.error.DiskError.{DiskError}
-use Rattle.crashdisk.proofs.call.SoundFileUnderChanges.{cut_below}
-use Rattle.crashdisk.proofs.call.EffectsOfCalls.{present_cut}
-use Rattle.sqval.specs.CommitFaults.{most_bytes}
-use Rattle.sqval.specs.Limits.{greatest}
+use Rattle.recovery.proofs.Words.{FileState, byte, longest, DiskState, IsSoundDisk, ArePresent, Writes, Cuts, Looks, Db, DiskError, cut_below, present_cut, most_bytes, greatest, mid_inside, page_at, Still, KeepsLog, still_looks, refusal_after, had_refusal, present_byte}
 use Rattle.walcore.specs.internal.Steps.{PutsRun, RunAnswer}
 use borrow.Rule.Slice.PartMut.{put_mid}
-use Rattle.crashdisk.proofs.sector.BytesOfRead.{mid_inside}
-use Rattle.crashdisk.proofs.page.PlacesOfPages.{page_at}
 use Rattle.crashdisk.proofs.page.RunsOfPages.{run_end, run_cases, run_apart, run_inside, run_outside}
-use Rattle.crashdisk.specs.Keeps.{Still}
-use Rattle.crashdisk.specs.internal.Keeps.{KeepsLog}
 use Rattle.walcore.specs.Plans.{IsTable}
 use Rattle.walcore.specs.declared.error.WalError.{WalError}
 use Rattle.walcore.specs.declared.error.WalError.TheVariants.{Device}
-use Rattle.crashdisk.proofs.call.UnchangingCalls.{still_looks, refusal_after, had_refusal}
-use Rattle.crashdisk.proofs.sync.BytesOfSyncedLog.{present_byte}
 use Rattle.recovery.specs.internal.Steps.{CopyAnswer}
 
 -- ---- What the table finds.
@@ -55,16 +41,6 @@ content_place size i = refl
 
 pub content_end : (size m i : ℕ) (w : List ℕ) → IsValidFrame size w m → 1 ≤ i → i ≤ m → 32 + (i - 1) * (24 + size) + 24 + size ≤ length w
 content_end size m i w valid one le = let whole : frame_end size i ≤ length w = (valid.each i one le).whole in omega (arith, content_place size i, frame_at-end size i one)
-
-pub content_read : (size m i at : ℕ) (w out : List ℕ) (log : FileState) → IsValidFrame size w m → 1 ≤ i → i ≤ m → ArePresent log w → at ≡ 32 + (i - 1) * (24 + size) + 24 → length out ≡ size
-    → ((j : ℕ) → j < length out → get_or out j 0 ≡ byte log (at + j)) → out ≡ content_of size w i
-content_read size m i at w out log valid one le are place long same =
-    let fits : at + size ≤ length w = omega (arith, content_end size m i w valid one le) in
-    let here : frame_at size i + 24 ≡ at = content_place size i ∙ sym place in
-    let rest : length (take size (drop at w)) ≡ size = length-take-le size (drop at w) (omega (arith, length-drop at w)) in
-    same_number_lists out (take size (drop at w)) (long ∙ sym rest)
-    (λ j lt. same j lt ∙ sym (are.each (at + j) (omega (arith, are.len))) ∙ sym (get_or-take size (drop at w) j 0 (omega arith) ∙ get_or-drop at w j 0))
-    ∙ ap (λ (n : ℕ). take size (drop n w)) (sym here)
 
 pub content_long : (size m i : ℕ) (w : List ℕ) → IsValidFrame size w m → 1 ≤ i → i ≤ m → length (content_of size w i) ≡ size
 content_long size m i w valid one le =
@@ -206,9 +182,6 @@ pub upto_none : (size : ℕ) (d : Database) (s : DiskState) → Upto size d s 0 
 upto_none size d s = record { done = λ p a b. absurd (omega arith); rest = λ i le. refl }
 
 module _ (size : ℕ) (db w : List ℕ) (m : ℕ) (d : Database) (s0 : DiskState) (view : IsView size db w m d) (are : ArePresent s0.db db) (valid : IsValidFrame size w m) (k : ℕ) where
-  at_last : k + 1 - 1 ≡ k
-  at_last = omega arith
-
   split : (p : ℕ) → p ≤ k + 1 → (p ≤ k) ⊎ (p ≡ k + 1)
   split p h = ⊎_elim (λ e. inr e) (λ ne. inl (let x : p ≤ k = omega arith in x)) (cases_eq p (k + 1))
 

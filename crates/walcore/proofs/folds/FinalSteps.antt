@@ -1,22 +1,12 @@
 -- The end of a fold: the database is synced, the log's header zeroed and synced, and the log cut and synced.
-use Rattle.std.proofs.Common.{◌≡◌, inr, ⊎_elim, ℕ, ◌+◌, ◌≤◌, replicate, refl, sym, ◌∙◌, subst, arith, []}
+use Rattle.std.proofs.Common.{◌≡◌, inr, ⊎_elim, ℕ, ◌≤◌, replicate, refl, sym, ◌∙◌, subst, arith, []}
 use Rattle.std.specs.Prelude.{Result, Ok, Err}
-use Rattle.crashdisk.specs.State.{FileState, IsSettled}
-use Rattle.crashdisk.specs.Call.{DiskState, IsSoundDisk, Syncs}
-use Rattle.crashdisk.specs.declared.file.File.TheVariants.{Db, Log}
-use Rattle.crashdisk.specs.declared.error.DiskError.{DiskError}
-use Rattle.crashdisk.specs.Keeps.{HadRefusal, IsLogDown, Later}
-use Rattle.crashdisk.specs.internal.Keeps.{SyncStep}
+use Rattle.recovery.proofs.Words.{FileState, IsSettled, DiskState, IsSoundDisk, Syncs, Db, Log, DiskError, HadRefusal, IsLogDurable, Later, SyncStep, refusal_after, had_refusal, synced_down, later_then, later_write, later_cut, told_err, told_ok, none_ok, sync_later, sync_refused, sync_done, ZeroSteps, zero_db}
 use Rattle.walcore.specs.Changes.{MayFoldWithin}
 use Rattle.walcore.specs.internal.Steps.{CutSteps, EndAnswer}
 use Rattle.walcore.specs.declared.error.WalError.{WalError}
 use Rattle.walcore.specs.declared.error.WalError.TheVariants.{Device}
-use Rattle.crashdisk.proofs.call.UnchangingCalls.{refusal_after, had_refusal}
-use Rattle.crashdisk.proofs.sync.BytesOfSyncedLog.{synced_down}
-use Rattle.crashdisk.proofs.call.DisksAfterCalls.{later_then, later_write, later_cut, told_err, told_ok, none_ok, sync_later, sync_refused, sync_done}
 use Rattle.walcore.proofs.disk.PermittedChanges.{fold_step}
-use Rattle.recovery.specs.internal.Steps.{ZeroSteps}
-use Rattle.recovery.proofs.AnswersOfSteps.{zero_db}
 
 module _ {T : Type 0} where
   -- ---- The header is zeroed.
@@ -48,7 +38,7 @@ module _ {T : Type 0} where
   pub cut_db : (r : Result T WalError) (a b : DiskState) → CutSteps r a b → b.db ≡ a.db
   cut_db r a b steps = ⊎_elim (λ failed. failed.3.elsewhere.other) (λ done. done.2.2.elsewhere.other ∙ done.1.1.elsewhere.other) steps
 
-  pub cut_done : (r : Result T WalError) (v : T) (a b : DiskState) → IsSoundDisk a → r ≡ Ok v → CutSteps r a b → IsLogDown b []
+  pub cut_done : (r : Result T WalError) (v : T) (a b : DiskState) → IsSoundDisk a → r ≡ Ok v → CutSteps r a b → IsLogDurable b []
   cut_done r v a b sound is steps = ⊎_elim
       (λ failed. absurd (none_ok Device failed.0 r v failed.1 is failed.2))
       (λ done. let mid : Later (MayFoldWithin 0 0) a done.0 = later_cut Log 0 (Ok done.1.0) a done.0 (inr refl) sound done.1.1 in

@@ -1,28 +1,18 @@
 -- How long the file is that a crash leaves, while a log is folded into it.
-use Rattle.std.proofs.Common.{◌≡◌, ⊎_elim, ℕ, ◌*◌, ◌≤◌, Bool, false, List, length, sym, ◌∙◌, ap, subst, arith, replicate}
+use Rattle.std.proofs.Common.{◌≡◌, ⊎_elim, ℕ, ◌*◌, ◌≤◌, List, length, sym, ◌∙◌, ap, subst, arith, replicate}
 use Rattle.std.specs.Prelude.{Result, Ok, Err}
-use Rattle.sqval.specs.Database.{Database}
+use Rattle.recovery.proofs.Words.{Database, File, Db, Log, DiskError, sound_writes, sound_cuts, image_elsewhere, IsLogDurable, Still, IsLong, KeepsLog, Told, SyncStep, image_still, down_by, down_syncs, file_syncs, down_read, ArePages, ZeroSteps}
 use Rattle.sqwal.specs.Header.{named_size}
 use Rattle.sqwal.specs.Frames.{size_of, IsFront}
 use Rattle.sqwal.specs.View.{IsView}
 use Rattle.sqwal.proofs.log.UniquenessOfView.{front_unique}
-use Rattle.crashdisk.specs.State.{FileState, IsImage}
 use Rattle.crashdisk.specs.Call.{DiskState, IsSoundDisk, Syncs, Elsewhere}
-use Rattle.crashdisk.specs.declared.file.File.{File}
-use Rattle.crashdisk.specs.declared.file.File.TheVariants.{Db, Log}
-use Rattle.crashdisk.specs.declared.error.DiskError.{DiskError}
-use Rattle.crashdisk.proofs.call.SoundDiskUnderCalls.{sound_writes, sound_cuts}
-use Rattle.crashdisk.proofs.call.EffectsOfCalls.{image_elsewhere}
-use Rattle.crashdisk.specs.Keeps.{IsLogDown, Still, IsLong}
-use Rattle.crashdisk.specs.internal.Keeps.{KeepsLog, Told, SyncStep}
 use Rattle.walcore.specs.internal.Steps.{CutSteps}
 use Rattle.walcore.specs.Lengths.{EndsBy, IsLengthOf}
 use Rattle.walcore.specs.internal.Lengths.{IsFronted}
 use Rattle.walcore.specs.declared.error.WalError.{WalError}
-use Rattle.crashdisk.proofs.sync.BytesOfSyncedLog.{down_one, down_by, down_syncs, file_syncs}
+use Rattle.walcore.specs.Alone.{wal_log}
 use Rattle.walcore.specs.declared.error.WalError.TheVariants.{Device}
-use Rattle.recovery.specs.internal.Files.{ArePages}
-use Rattle.recovery.specs.internal.Steps.{ZeroSteps}
 
 module _ (n : ℕ) where
   pub ends_long : (s : DiskState) → IsLong n s → EndsBy n s
@@ -31,15 +21,15 @@ module _ (n : ℕ) where
   -- all logs that are left have this front
   pub ends_fronted : (w : List ℕ) (m : ℕ) (s : DiskState) → IsFronted w m s → EndsBy n s
   ends_fronted w m s is db v image read front =
-      let e : v ≡ w = ⊎_elim (λ listed. down_one w s is.down s.sector false v listed) (λ left. down_one w s is.down s.sector s.tears v left.image) read in
+      let e : v ≡ w = down_read wal_log w s is.durable v read in
       let none : IsFront (named_size w) w 0 = subst (λ (x : List ℕ). IsFront (named_size x) x 0) e front in
       let z : 0 ≡ m = front_unique (named_size w) w 0 m none is.front in
       let some = is.some in absurd (omega arith)
 
   -- the log alone is left
-  pub ends_down : (w : List ℕ) (s : DiskState) → IsLogDown s w → (IsFront (named_size w) w 0 → IsLong n s) → EndsBy n s
-  ends_down w s down long db v image read front =
-      let e : v ≡ w = ⊎_elim (λ listed. down_one w s down s.sector false v listed) (λ left. down_one w s down s.sector s.tears v left.image) read in
+  pub ends_down : (w : List ℕ) (s : DiskState) → IsLogDurable s w → (IsFront (named_size w) w 0 → IsLong n s) → EndsBy n s
+  ends_down w s durable long db v image read front =
+      let e : v ≡ w = down_read wal_log w s durable v read in
       long (subst (λ (x : List ℕ). IsFront (named_size x) x 0) e front) db image
 
   pub long_syncs : {T : Type 0} (f : File) (result : Result T DiskError) (old new : DiskState) → IsSoundDisk old → Syncs f result old new → IsLong n old → IsLong n new
@@ -65,8 +55,7 @@ module _ (n : ℕ) where
       steps
 
   pub long_still : (old new : DiskState) → Still old new → IsLong n old → IsLong n new
-  long_still old new still long db image = long db
-      (subst (λ (k : ℕ). IsImage k old.tears old.db db) still.sector (subst (λ (b : Bool). IsImage new.sector b old.db db) still.tears (subst (λ (s : FileState). IsImage new.sector new.tears s db) still.db image)))
+  long_still old new still long db image = long db (image_still old new still db image)
 
   -- the file is so long as it is when it is synced
   long_synced : {T : Type 0} (v : T) (called : Result T DiskError) (old new : DiskState) → old.db.len ≡ n → Told Device called (Ok v) → Syncs Db called old new → IsLong n new
@@ -81,13 +70,10 @@ module _ (n : ℕ) where
 
 -- the log keeps its front
 pub fronted_keeps : (w : List ℕ) (m : ℕ) (old new : DiskState) → KeepsLog old new → IsFronted w m old → IsFronted w m new
-fronted_keeps w m old new keeps is = record { down = down_by w old new is.down keeps.log keeps.tears keeps.kept keeps.handed; some = is.some; front = is.front }
+fronted_keeps w m old new keeps is = record { durable = down_by w old new is.durable keeps.log keeps.tears keeps.kept keeps.handed; some = is.some; front = is.front }
 
 pub fronted_step : {T : Type 0} (w : List ℕ) (m : ℕ) (result : Result T WalError) (old new : DiskState) → IsSoundDisk old → SyncStep Device Db result old new → IsFronted w m old → IsFronted w m new
-fronted_step w m result old new sound step is = record { down = down_syncs w Db step.0 old new is.down step.2; some = is.some; front = is.front }
-
-pub down_still : (w : List ℕ) (old new : DiskState) → Still old new → IsLogDown old w → IsLogDown new w
-down_still w old new still down = down_by w old new down still.log still.tears still.kept still.handed
+fronted_step w m result old new sound step is = record { durable = down_syncs w Db step.0 old new is.durable step.2; some = is.some; front = is.front }
 
 -- a call that changes nothing
 pub length_still : (size : ℕ) (w : List ℕ) (n : ℕ) (old new : DiskState) → Still old new → IsLengthOf size w n old → IsLengthOf size w n new

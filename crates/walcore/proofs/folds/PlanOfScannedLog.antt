@@ -1,19 +1,17 @@
 -- What a scanned log is judged by, and the table of its frames.
-use Rattle.std.proofs.Common.{◌≡◌, ◌≢◌, ◌↔◌, inl, inr, ⊎_elim, ℕ, suc, ◌+◌, ◌-◌, ◌*◌, ◌<◌, ◌≤◌, true, false, List, ◌∷◌, ◌++◌, length, get_or, refl, sym, ◌∙◌, ap, subst, arith, length-append, []}
-use Rattle.std.specs.Prelude.{Option, Some, None, Result, Ok, Err, IsTrue, is_some}
+use Rattle.std.proofs.Common.{◌≡◌, ◌≢◌, inl, inr, ⊎_elim, ℕ, suc, ◌+◌, ◌-◌, ◌*◌, ◌<◌, ◌≤◌, List, ◌∷◌, ◌++◌, length, get_or, refl, sym, ◌∙◌, ap, subst, arith, length-append, []}
+use Rattle.std.specs.Prelude.{Option, Some, None, Result, Ok, Err}
 use Rattle.std.proofs.lemmas.Bool.{cases_lt, cases_eq}
 use Rattle.std.proofs.lemmas.Bool.Decides.{nat_tests}
 use Rattle.std.proofs.lemmas.List.{get_or-append-add, get_or_append_left}
-use Rattle.sqval.specs.PageSize.{IsPageSize}
+use Rattle.recovery.proofs.Words.{IsPageSize, Bounds, greatest, DiskState}
 use Rattle.sqval.proofs.page.PageSizes.{IsOneOf, one_of}
 use Rattle.sqwal.specs.Header.{IsHeader, named_size}
 use Rattle.sqwal.specs.Frames.{page_of, size_of, IsValidFrame, IsFront}
 use Rattle.sqwal.specs.Index.{FrameTable}
-use Rattle.sqwal.specs.Answers.{EntryFound, IsCommittedWithin}
-use Rattle.sqwal.specs.declared.scan.Entry.{Entry}
+use Rattle.sqwal.specs.Answers.{IsCommittedWithin}
 use Rattle.sqwal.specs.declared.scan.Front.{Front}
 use Rattle.sqwal.proofs.log.UniquenessOfView.{front_unique, front_none}
-use Rattle.sqval.specs.Limits.{Bounds, greatest}
 use Rattle.walcore.specs.Folding.{IsTooLargeWithin}
 use Rattle.walcore.specs.Plans.{IsTable, IsFitWithin}
 use Rattle.walcore.specs.internal.Plans.{wanted_page, LogRefused, JudgeAnswer, PlanAnswer}
@@ -21,16 +19,10 @@ use Rattle.walcore.specs.internal.Plans.{ReadAnswer}
 use Rattle.walcore.specs.internal.Steps.{ScanRefused, wal_scan}
 use Rattle.sqwal.specs.Took.{TookWithin}
 use Rattle.sqwal.specs.declared.scan.Scan.{Scan}
-use Rattle.crashdisk.specs.Call.{DiskState}
 use Rattle.walcore.specs.declared.plan.Plan.{Plan}
 use Rattle.walcore.specs.declared.error.WalError.{WalError}
 use Rattle.walcore.specs.declared.error.WalError.TheVariants.{TooLarge, PageSize, NoMemory, Device}
 use Rattle.recovery.specs.Scanning.{ScanAnswer}
-
--- whether there is an entry
-pub entry_decides : (w : List ℕ) (i : ℕ) (o : Option Entry) → EntryFound w i o → IsTrue (is_some o) ↔ IsValidFrame (named_size w) w i
-entry_decides w i None found = (λ t. absurd (let f : false ≡ true = t in cc), λ v. absurd (found v))
-entry_decides w i (Some e) found = (λ t. found.0, λ v. refl)
 
 -- ---- A log without a valid header.
 

@@ -2,15 +2,13 @@
 use Rattle.std.proofs.Common.{◌≡◌, ℕ, suc, ◌+◌, ◌≤◌, List, ◌++◌, length, take, drop, refl, sym, subst, arith}
 use Rattle.std.specs.Prelude.{Bool, true, false, Result, Ok, Err}
 use Rattle.std.proofs.lemmas.List.{length-take-le, take-take, take-append-drop, get_or-drop}
-use Rattle.sqval.specs.PageSize.{IsPageSize}
+use Rattle.recovery.proofs.Words.{IsPageSize, AreBytes, DiskState}
 use Rattle.sqwal.specs.Header.{IsHeader, HeaderRefused, named_size}
 use Rattle.sqwal.specs.Frames.{AllPass, IsValidFrame}
 use Rattle.sqwal.specs.Answers.{LogRefusedWithin}
 use Rattle.sqwal.specs.declared.error.WalFormatError.{WalFormatError}
 use Rattle.sqwal.specs.declared.error.WalFormatError.TheVariants.{NotAWal, PageSize, HeaderSum, UnknownVersion, TooLong, NoMemory}
 use Rattle.sqwal.proofs.log.DependenceOnPrefix.{header_same, word_same, all_same}
-use Rattle.sqval.specs.Bytes.{AreBytes}
-use Rattle.crashdisk.specs.Call.{DiskState}
 use Rattle.walcore.specs.internal.Steps.{IsWithoutHeader, ScanRefused, wal_scan}
 use Rattle.walcore.specs.declared.error.WalError.{WalError}
 use Rattle.walcore.specs.declared.error.WalError.TheVariants.{TooLarge, NoMemory as WalNoMemory}

@@ -1,21 +1,24 @@
--- While zeros are written over the log's header, it is the log that it was, or has no valid frame.
-use Rattle.std.proofs.Common.{◌≡◌, inl, inr, ⊎_elim, ℕ, ◌+◌, ◌-◌, ◌/◌, ◌<◌, ◌≤◌, max, Bool, true, false, List, ◌∷◌, length, take, drop, get_or, sym, ◌∙◌, ap, subst, arith, []}
-use Rattle.std.proofs.lemmas.List.{get_or-take, get_or-drop, ext_get_or}
+-- While zeros are written over the log's header, it is the log that it was, or has no valid frame; and so is the header of a log that is cut then.
+use Rattle.std.proofs.Common.{◌≡◌, ⊎_elim, ℕ, ◌+◌, ◌-◌, ◌<◌, ◌≤◌, max, Bool, true, false, List, [], ◌∷◌, length, take, drop, get_or, replicate, refl, sym, ◌∙◌, ap, subst, arith}
+use Rattle.std.specs.Prelude.{Result, Ok, Err}
+use Rattle.std.proofs.lemmas.List.{get_or-take, get_or-drop, ext_get_or, length-replicate}
 use Rattle.std.proofs.lemmas.Bool.{cases_lt}
-use Rattle.std.proofs.lemmas.Nat.{le-div}
-use Rattle.std.proofs.Math.Nat.{div-eq_of_lt}
-use Rattle.sqval.specs.Bytes.{part, word}
+use Rattle.recovery.proofs.Words.{part, word, Database, size_some, DiskState, IsSoundDisk, ChangedBy, Cuts, Syncs, IsLogDurable, IsSteady, Log, DiskError, Stopped, Failed, TooLong, NoMemory, written_inside, sound_writes, sound_cuts, present_list, present_written, told_ok, none_ok, sector_some, sector_within, MayBeRead, ShowsAlone, Repeats, ZeroSteps, read_cases, zero_at, front_stands, front_bytes, front_listed, front_torn, zeroed_restored}
 use Rattle.sqwal.specs.Header.{IsHeader, named_size}
 use Rattle.sqwal.specs.Frames.{frame_at, frame_end, IsValidFrame}
 use Rattle.sqwal.proofs.log.DependenceOnPrefix.{frame_at-suc, frame_end-suc, frame_end-zero, header_same}
-use Rattle.crashdisk.specs.State.{FileState, IsImage, IsSound, WriteTouches, written, Changed, IsSettled}
-use Rattle.crashdisk.specs.internal.Facts.{Spreads}
-use Rattle.crashdisk.proofs.byte.FixedBytes.{alters_write, whole_write}
-use Rattle.crashdisk.proofs.byte.SettledFiles.{settled_one}
-use Rattle.walcore.specs.Alone.{AreWhole}
-use Rattle.walcore.specs.internal.Phases.{IsOfSize}
-use Rattle.sqval.proofs.page.FilePages.{size_some}
-use Rattle.crashdisk.proofs.sync.BytesOfSyncedLog.{one_write}
+use Rattle.crashdisk.specs.State.{FileState, byte, IsImage, IsSound, WriteTouches, written, Changed, IsSettled, CutTouches, cut_to}
+use Rattle.crashdisk.proofs.image.OriginOfImages.{table, not_torn}
+use Rattle.crashdisk.proofs.byte.SteadyBytes.{steady_cut}
+use Rattle.crashdisk.proofs.sync.BytesOfSyncedLog.{one_write, down_one, present_byte, synced_down}
+use Rattle.recovery.specs.internal.Phases.{Restored}
+use Rattle.recovery.proofs.PhasesOfRestore.{may_down, restored_shows, restored_syncs, restored_by}
+use Rattle.walcore.specs.Alone.{AreWhole, Show, wal_log}
+use Rattle.walcore.specs.internal.Phases.{IsOfSize, Filed}
+use Rattle.walcore.specs.internal.Steps.{CutSteps}
+use Rattle.walcore.specs.declared.error.WalError.{WalError}
+use Rattle.walcore.specs.declared.error.WalError.TheVariants.{Device}
+use Rattle.walcore.proofs.folds.PhasesOfFold.{show_left}
 
 -- Zeros at the front are no header.
 pub zeros_bad : (size : ℕ) (w : List ℕ) → ((i : ℕ) → i < 4 → get_or w i 0 ≡ 0) → IsHeader size w → ⊥
@@ -29,19 +32,6 @@ zeros_bad size w zeros is =
 
 first_end : (size : ℕ) → frame_end size 1 ≡ 56 + size
 first_end size = omega (arith, frame_end-suc size 0, frame_end-zero size)
-
-zero_plus : (i : ℕ) → 0 + i ≡ i
-zero_plus i = omega arith
-
--- a valid header isn't that of the zeros
-header_stands : (w zeros v : List ℕ) → length zeros ≡ 32 → ((i : ℕ) → get_or zeros i 0 ≡ 0) → AreWhole w ((0, zeros) ∷ []) v → IsHeader (named_size v) v → part v 0 32 ≡ part w 0 32
-header_stands w zeros v short none whole header = ⊎_elim
-    (λ stands. stands.1)
-    (λ lies.
-    let P : ℕ × List ℕ → Type 0 = λ y. part v 0 32 ≡ part y.1 (0 - y.0) 32 in
-    let z : part v 0 32 ≡ part zeros 0 32 = subst P (sym (one_write zeros lies.0 lies.1)) lies.4 in
-    absurd (zeros_bad (named_size v) v (λ i lt. sym (get_or-take 32 v i 0 (omega arith)) ∙ ap (λ y. get_or y i 0) z ∙ get_or-take 32 zeros i 0 (omega arith) ∙ none i) header))
-    (whole.header header)
 
 -- nor does a frame lie in them
 frame_stands : (w zeros v : List ℕ) → length zeros ≡ 32 → AreWhole w ((0, zeros) ∷ []) v → IsValidFrame (named_size v) v 1 → part v 32 (24 + named_size v) ≡ part w 32 (24 + named_size v)
@@ -59,14 +49,14 @@ frame_stands w zeros v short whole valid =
 -- header and first frame together
 front_same : (w v : List ℕ) (u : ℕ) → part v 0 32 ≡ part w 0 32 → part v 32 (24 + u) ≡ part w 32 (24 + u) → (i : ℕ) → i < 56 + u → get_or v i 0 ≡ get_or w i 0
 front_same w v u head frame i lt = ⊎_elim
-    (λ a. sym (get_or-take 32 v i 0 a) ∙ ap (λ y. get_or y i 0) head ∙ get_or-take 32 w i 0 a)
+    (λ a. front_bytes 32 w v head i a)
     (λ b.
     let j : 32 + (i - 32) ≡ i = omega arith in
     let from : (y : List ℕ) → get_or (part y 32 (24 + u)) (i - 32) 0 ≡ get_or y i 0 = λ y. get_or-take (24 + u) (drop 32 y) (i - 32) 0 (omega arith) ∙ get_or-drop 32 y (i - 32) 0 ∙ ap (λ k. get_or y k 0) j in
     sym (from v) ∙ ap (λ y. get_or y (i - 32) 0) frame ∙ from w)
     (cases_lt i 32)
 
--- The log w was down, and zeros are written, or half written, at its front.
+-- The log w was durable, and zeros are written, or half written, at its front.
 module _ (sector : ℕ) (w zeros : List ℕ) (log new : FileState) (wide : 512 ≤ sector) (settled : IsSettled log w) (short : length zeros ≡ 32) (none : (i : ℕ) → get_or zeros i 0 ≡ 0)
     (sound : IsSound sector log) (after : IsSound sector new) (changed : Changed sector (WriteTouches sector log 0 zeros) (written log 0 zeros) (max log.len (0 + length zeros)) log new) where
   -- with a valid frame it is as long as before
@@ -78,52 +68,103 @@ module _ (sector : ℕ) (w zeros : List ℕ) (log new : FileState) (wide : 512 �
       let enough : 568 ≤ length w = omega (arith, image.greatest, changed.greatest, settled.greatest, settled.len) in
       (enough, omega (arith, image.greatest, image.least, changed.greatest, changed.least, settled.greatest, settled.len, settled.least))
 
-  -- behind the places that a write at the front may touch it is as before
-  same_rest : (tears : Bool) (v : List ℕ) → IsImage sector tears new v → 32 ≤ length w → length v ≡ length w → (i : ℕ) → i < length w → (Spreads sector tears 0 (0 + length zeros) i → ⊥) → get_or v i 0 ≡ get_or w i 0
-  same_rest tears v image enough long i lt out =
-      let was = (alters_write sector tears 0 zeros log new sound after changed).comes v image in
-      let is_w : was.file ≡ w = settled_one log w settled sector tears was.file was.image in
-      ⊎_elim
-      (λ e. e ∙ ap (λ (x : List ℕ). get_or x i 0) is_w)
-      (λ past. absurd (omega (arith, past.0, settled.len)))
-      (was.each i (omega (arith, ap (λ (x : List ℕ). length x) is_w)) out)
-
-  in_first : (i : ℕ) → i < 32 → i / sector ≡ 0
-  in_first i lt = div-eq_of_lt (omega arith)
-
   -- where the disk doesn't tear
-  pub zeroed_listed : (v : List ℕ) → IsImage sector false new v → IsValidFrame (named_size v) v 1 → v ≡ w
+  zeroed_listed : (v : List ℕ) → IsImage sector false new v → IsValidFrame (named_size v) v 1 → v ≡ w
   zeroed_listed v image valid =
       let long = same_length false v image valid in
       let pass = valid.each 1 (omega arith) (omega arith) in
-      let front : (i : ℕ) → i < 32 → get_or v i 0 ≡ get_or w i 0 = ⊎_elim
-      (λ put. absurd (zeros_bad (named_size v) v (λ i lt. ap (λ (j : ℕ). get_or v j 0) (sym (zero_plus i)) ∙ put i (omega arith) ∙ none i) pass.header))
-      (λ was. λ i lt. ap (λ (j : ℕ). get_or v j 0) (sym (zero_plus i)) ∙ was.2 i (omega arith) ∙ ap (λ (j : ℕ). get_or was.0 j 0) (zero_plus i) ∙ ap (λ (x : List ℕ). get_or x i 0) (settled_one log w settled sector false was.0 was.1))
-      (whole_write sector 0 zeros log new sound changed (λ i le lt. in_first i (omega arith) ∙ sym (in_first 0 (omega arith))) v image (omega (arith, long.0, long.1))) in
-      ext_get_or 0 v w long.1 (λ i lt. ⊎_elim
-      (λ a. front i a)
-      (λ b. same_rest false v image (omega (arith, long.0)) long.1 i (omega (arith, long.1)) (λ spreads. ⊎_elim (λ in_range. omega (arith, in_range.1)) (λ torn. cc torn.0) spreads))
-      (cases_lt i 32))
+      front_listed 32 sector w zeros log new short none (omega (arith, wide)) settled sound after changed v image long.1 (omega (arith, long.0)) (λ z. zeros_bad (named_size v) v (λ i lt. z i (omega arith)) pass.header)
 
   -- where it tears, and no header and no frame comes together by chance
-  pub zeroed_torn : (size : ℕ) (v : List ℕ) → sector ≤ size → IsOfSize size w → IsImage sector true new v → AreWhole w ((0, zeros) ∷ []) v → IsValidFrame (named_size v) v 1 → v ≡ w
+  zeroed_torn : (size : ℕ) (v : List ℕ) → sector ≤ size → IsOfSize size w → IsImage sector true new v → AreWhole w ((0, zeros) ∷ []) v → IsValidFrame (named_size v) v 1 → v ≡ w
   zeroed_torn size v small of_size image whole valid =
       let long = same_length true v image valid in
       let u : ℕ = named_size v in
       let header : IsHeader u v = (valid.each 1 (omega arith) (omega arith)).header in
-      let head : part v 0 32 ≡ part w 0 32 = header_stands w zeros v short none whole header in
+      let head : part v 0 32 ≡ part w 0 32 = front_stands 32 w zeros v none (λ z. zeros_bad u v (λ i lt. z i (omega arith)) header) (whole.header header) in
       let frame : part v 32 (24 + u) ≡ part w 32 (24 + u) = frame_stands w zeros v short whole valid in
       let header_w : IsHeader u w = header_same u v w 32 head (omega arith) (omega (arith, long.0)) header in
       let other : named_size w ≡ u = header_w.named in
       let named : named_size w ≡ size = of_size (subst (λ (z : ℕ). IsHeader z w) (sym other) header_w) in
       ext_get_or 0 v w long.1 (λ i lt. ⊎_elim
       (λ a. front_same w v u head frame i a)
-      (λ b. same_rest true v image (omega (arith, long.0)) long.1 i (omega (arith, long.1)) (λ spreads. beyond i (omega (arith, named, other)) spreads))
+      (λ b. front_torn 32 sector w zeros log new short none (omega (arith, wide)) settled sound after changed (omega (arith, wide)) v image i (omega (arith, long.1)) (omega (arith, named, other)))
       (cases_lt i (56 + u)))
-    where
-      beyond : (i : ℕ) → 56 + sector ≤ i → Spreads sector true 0 (0 + length zeros) i → ⊥
-      beyond i far (inl in_range) = omega (arith, in_range.1)
-      beyond i far (inr torn) =
-          let first : torn.1.0 / sector ≡ 0 = in_first torn.1.0 (omega (arith, torn.1.2)) in
-          let some : 1 ≤ i / sector = le-div 1 i sector (omega arith) (omega arith) in
-          omega (arith, torn.1.3)
+
+-- ---- The header is zeroed, or not: all that may be left shows what the file has.
+
+module _ (size : ℕ) (d : Database) (w : List ℕ) (old : DiskState) (is : Filed size d w old) where
+  wide : 512 ≤ old.sector
+  wide = sector_some old.sector is.suits.sectors
+
+  thirty_two : length {A = ℕ} (replicate 32 0) ≡ 32
+  thirty_two = length-replicate {A = ℕ} 32 0
+
+  same_repeats : (v : List ℕ) → (IsValidFrame (named_size v) v 1 → v ≡ w) → Repeats wal_log size d v
+  same_repeats v same db file = show_left size d db v file (λ valid. subst (λ (x : List ℕ). Show size db x d) (sym (same valid)) (is.all.log w (may_down wal_log w old is.durable) db file))
+
+  pub header_zeroed : {T : Type 0} (result : Result T WalError) (new : DiskState) → ZeroSteps Device 32 result old new → Restored wal_log size d new
+  header_zeroed result new steps = zeroed_restored wal_log size d w 32 old is.all is.durable
+      (λ s after changed v image. same_repeats v (λ valid. zeroed_listed old.sector w (replicate 32 0) old.log s.log wide is.durable.settled thirty_two (zero_at 32) is.suits.sound.log after changed v image valid))
+      (λ s torn after changed v image whole. same_repeats v (λ valid. zeroed_torn old.sector w (replicate 32 0) old.log s.log wide is.durable.settled thirty_two (zero_at 32) is.suits.sound.log after changed size v (sector_within size old is.suits torn) is.of_size image whole valid))
+      Device result new steps
+
+  pub zeroed_shows : {T : Type 0} (result : Result T WalError) (new : DiskState) → ZeroSteps Device 32 result old new → ShowsAlone wal_log size d new
+  zeroed_shows result new steps = restored_shows wal_log size d new (header_zeroed result new steps)
+
+-- ---- The log has zeros for a header, and is cut.
+
+-- zeros in what was kept, and nothing handed over, are no header where none comes together by chance
+kept_bad : (kept v : List ℕ) → ((i : ℕ) → i < 32 → get_or kept i 0 ≡ 0) → AreWhole kept [] v → IsHeader (named_size v) v → ⊥
+kept_bad kept v zeros whole header = ⊎_elim
+    (λ stands. zeros_bad (named_size v) v (λ i lt. sym (get_or-take 32 v i 0 (omega arith)) ∙ ap (λ (y : List ℕ). get_or y i 0) stands.1 ∙ get_or-take 32 kept i 0 (omega arith) ∙ zeros i (omega arith)) header)
+    (λ lies. omega (arith, lies.1.1))
+    (whole.header header)
+
+-- the zeros are durable
+zeros_down : {T : Type 0} (u : T) (old new : DiskState) → IsSoundDisk old → ZeroSteps {T = T} Device 32 (Ok u) old new → (w : List ℕ) × IsLogDurable new w × ((i : ℕ) → i < 32 → get_or w i 0 ≡ 0)
+zeros_down {T = T} u old new sound steps = ⊎_elim
+    (λ failed. absurd (none_ok Device failed.0 (Ok u) u failed.1 refl failed.2))
+    (λ done.
+    let w : List ℕ = table done.0.log.len (byte done.0.log) in
+    let short : length {A = ℕ} (replicate 32 0) ≡ 32 = length-replicate {A = ℕ} 32 0 in
+    let t = told_ok Device done.2.0 (Ok u) u refl done.2.1 in (
+      w,
+      synced_down w done.0 new (sound_writes Log 0 (replicate 32 0) (Ok done.1.0) old done.0 sound done.1.1) (present_list done.0.log) (subst (λ (x : Result T DiskError). Syncs Log x done.0 new) t.1 done.2.2),
+      λ i lt. present_byte done.0.log w (present_list done.0.log) i ∙ present_written Log 0 (replicate 32 0) old done.0 done.1.1 i ∙ written_inside old.log 0 (replicate 32 0) i (omega arith) (omega (arith, short, lt)) ∙ zero_at 32 (i - 0),
+    ))
+    steps
+
+module _ (size : ℕ) (d : Database) (w : List ℕ) (old : DiskState) (is : Restored wal_log size d old) (durable : IsLogDurable old w) (zeros : (i : ℕ) → i < 32 → get_or w i 0 ≡ 0) where
+  zero_here : (i : ℕ) → i < 32 → IsSteady old.sector false old.log i 0
+  zero_here i lt c image = ap (λ (x : List ℕ). get_or x i 0) (down_one w old durable old.sector false c image) ∙ zeros i lt
+
+  cut_listed : {T : Type 0} (n : ℕ) (result : Result T DiskError) (new : DiskState) → ChangedBy old.sector (CutTouches old.sector old.log n) (cut_to old.log n) n result old.log new.log → (i : ℕ) → i < 32 → IsSteady old.sector false new.log i 0
+  cut_listed n (Ok u) new changed i lt = steady_cut old.sector false n old.log new.log i 0 is.sound.log changed.0 (zero_here i lt) (λ past. refl) (λ torn. absurd (not_torn refl torn)) (λ torn. absurd (not_torn refl torn))
+  cut_listed n (Err Failed) new changed i lt = steady_cut old.sector false n old.log new.log i 0 is.sound.log changed (zero_here i lt) (λ past. refl) (λ torn. absurd (not_torn refl torn)) (λ torn. absurd (not_torn refl torn))
+  cut_listed n (Err Stopped) new same i lt = subst (λ (s : FileState). IsSteady old.sector false s i 0) (sym same) (zero_here i lt)
+  cut_listed n (Err TooLong) new same i lt = subst (λ (s : FileState). IsSteady old.sector false s i 0) (sym same) (zero_here i lt)
+  cut_listed n (Err NoMemory) new same i lt = subst (λ (s : FileState). IsSteady old.sector false s i 0) (sym same) (zero_here i lt)
+
+  cut_bad : {T : Type 0} (n : ℕ) (result : Result T DiskError) (new : DiskState) → Cuts Log n result old new → (v : List ℕ) → MayBeRead wal_log new v → IsHeader (named_size v) v → ⊥
+  cut_bad n result new cut v may = ⊎_elim
+      (λ image. zeros_bad (named_size v) v (λ i lt. cut_listed n result new cut.file i (omega arith) v (subst (λ (m : ℕ). IsImage m false new.log v) cut.elsewhere.sector image)))
+      (λ torn. kept_bad new.kept v (λ i lt. ap (λ (x : List ℕ). get_or x i 0) (cut.kept ∙ durable.kept (sym cut.elsewhere.tears ∙ torn.0)) ∙ zeros i lt)
+      (subst (λ (x : List (ℕ × List ℕ)). AreWhole new.kept x v) (cut.handed ∙ durable.handed) torn.2))
+      (read_cases wal_log new v may)
+
+  cut_restored : {T : Type 0} (n : ℕ) (result : Result T DiskError) (new : DiskState) → Cuts Log n result old new → Restored wal_log size d new
+  cut_restored n result new cut = restored_by wal_log size d result old new is (sound_cuts Log n result old new is.sound cut) cut.elsewhere
+      (λ v may db file. show_left size d db v file (λ valid. absurd (cut_bad n result new cut v may (valid.each 1 (omega arith) (omega arith)).header)))
+
+  log_cut : {T : Type 0} (result : Result T WalError) (new : DiskState) → CutSteps result old new → Restored wal_log size d new
+  log_cut result new steps = ⊎_elim
+      (λ failed. cut_restored 0 failed.0 new failed.3)
+      (λ done. restored_syncs wal_log size d Log done.2.0 done.0 new (cut_restored 0 (Ok done.1.0) done.0 done.1.1) done.2.2)
+      steps
+
+-- the log is cut, or not
+pub cut_shows : {T U : Type 0} (u : U) (result : Result T WalError) (size : ℕ) (d : Database) (w : List ℕ) (old mid new : DiskState) → Filed size d w old → ZeroSteps {T = U} Device 32 (Ok u) old mid → CutSteps result mid new → ShowsAlone wal_log size d new
+cut_shows u result size d w old mid new is zero cut =
+    let zeros = zeros_down u old mid is.suits.sound zero in
+    restored_shows wal_log size d new (log_cut size d zeros.0 mid (header_zeroed size d w old is (Ok u) mid zero) zeros.1 zeros.2 result new cut)

@@ -3,7 +3,7 @@ use Rattle.std.proofs.Common.{◌≡◌, ℕ, zero, suc, ◌+◌, ◌*◌, ◌<�
 use Rattle.std.proofs.lemmas.List.{get_or-take, get_or-drop, length-take-le, ext_get_or}
 use Rattle.byteorder.specs.Endian.{big_number}
 use Rattle.byteorder.specs.Numbers.{big_from-take}
-use Rattle.sqval.specs.Bytes.{part, word, AreBytes}
+use Rattle.recovery.proofs.Words.{part, word, AreBytes}
 use Rattle.sqwal.proofs.log.PartsOfBytes.{take_add}
 
 record SameDigits (a b c d e f g h : ℕ) : Type 0 where

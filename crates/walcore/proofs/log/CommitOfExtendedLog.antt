@@ -4,7 +4,7 @@ use Rattle.std.specs.Prelude.{◌==◌, Option, None, unwrap_or}
 use Rattle.std.proofs.lemmas.Bool.{cases_lt}
 use Rattle.std.proofs.lemmas.Bool.Decides.{nat_tests}
 use Rattle.std.proofs.lemmas.List.{take_all}
-use Rattle.sqval.specs.Database.{Database, Pages, page, supplied, apply}
+use Rattle.recovery.proofs.Words.{Database, Pages, page, supplied, apply}
 use Rattle.sqwal.specs.Frames.{frame_end, page_of, size_of, content_of, IsCommit}
 use Rattle.sqwal.specs.Log.{IsLog}
 use Rattle.walcore.specs.Made.{IsExtended}

@@ -1,4 +1,4 @@
--- What writes and syncs of the log keep of the frames that are down.
+-- What writes and syncs of the log keep of the frames that are durable.
 use Rattle.std.proofs.Common.{◌≡◌, inl, inr, ⊎_elim, ℕ, ◌+◌, ◌*◌, ◌/◌, ◌<◌, ◌≤◌, Bool, true, false, List, ◌∷◌, ◌++◌, length, take, get_or, refl, sym, ◌∙◌, ap, subst, arith, []}
 use Rattle.std.specs.Prelude.{Result, Ok, Err}
 use Rattle.std.specs.List.{Contains}
@@ -6,28 +6,21 @@ use Rattle.std.proofs.lemmas.List.{length-take-le, get_or-take}
 use Rattle.std.proofs.lemmas.List.Elements.{Contains-push_cases}
 use Rattle.std.proofs.lemmas.Nat.{le-div}
 use Rattle.std.proofs.Math.Nat.{div-mul-le_self, mul-le-mul_right}
-use Rattle.crashdisk.specs.State.{FileState, byte}
-use Rattle.crashdisk.specs.Call.{DiskState, IsSoundDisk, ArePresent, Writes, Syncs, with_write, SinceSync}
-use Rattle.crashdisk.specs.Facts.{IsFixed, HasFixed}
-use Rattle.crashdisk.specs.internal.Facts.{Spreads}
-use Rattle.crashdisk.specs.declared.file.File.TheVariants.{Log}
-use Rattle.crashdisk.specs.declared.error.DiskError.{DiskError}
-use Rattle.crashdisk.specs.declared.error.DiskError.TheVariants.{Stopped, Failed, TooLong, NoMemory}
+use Rattle.recovery.proofs.Words.{FileState, byte, DiskState, IsSoundDisk, ArePresent, Writes, Syncs, with_write, SinceSync, IsFixed, HasFixed, Spreads, Log, DiskError, Stopped, Failed, TooLong, NoMemory, present_image}
 use Rattle.crashdisk.proofs.call.EffectsOfCalls.{fixed_writes, fixed_syncs, fixed_synced}
 use Rattle.sqwal.specs.Frames.{frame_end}
 use Rattle.sqwal.specs.Log.{IsLog}
 use Rattle.sqwal.proofs.log.DependenceOnPrefix.{frame_end-le, frame_end-head}
 use Rattle.walcore.specs.Standing.{HoldsFrames, IsBehind, IsPresent}
-use Rattle.crashdisk.proofs.sync.BytesOfSyncedLog.{present_image}
 use Rattle.walcore.proofs.crash.HistoryInCrashImages.{down_image, down_head}
 use Rattle.walcore.proofs.disk.UntornDisk.{untorn, writes_untorn, syncs_untorn}
 
--- a write past what is down, on a disk that doesn't tear
+-- a write past what is durable, on a disk that doesn't tear
 clear_whole : (sector from to k : ℕ) → k ≤ from → (i : ℕ) → i < k → Spreads sector false from to i → ⊥
 clear_whole sector from to k le i lt (inl in_range) = omega (arith, in_range.0)
 clear_whole sector from to k le i lt (inr torn) = absurd (cc torn.0)
 
--- on a disk that tears, past the last sector of what is down
+-- on a disk that tears, past the last sector of what is durable
 clear_torn : (sector from to k : ℕ) → 1 ≤ sector → k ≤ from / sector * sector → (i : ℕ) → i < k → Spreads sector true from to i → ⊥
 clear_torn sector from to k pos le i lt (inl in_range) = omega (arith, in_range.0, div-mul-le_self from sector)
 clear_torn sector from to k pos le i lt (inr torn) =
@@ -41,13 +34,13 @@ clear_torn sector from to k pos le i lt (inr torn) =
 fixed_at : (m n : ℕ) (a b : Bool) (s : FileState) (bytes : List ℕ) → n ≡ m → b ≡ a → HasFixed m a s 0 bytes → HasFixed n b s 0 bytes
 fixed_at m n a b s bytes e f fixed = subst (λ (x : ℕ). HasFixed x b s 0 bytes) (sym e) (subst (λ (x : Bool). HasFixed m x s 0 bytes) (sym f) fixed)
 
-module _ (size : ℕ) (e : List ℕ) (n d : ℕ) (s t : DiskState) (log : IsLog size e n) (down : d ≤ n) (sound : IsSoundDisk s) (positive : 1 ≤ s.sector) (holds : HoldsFrames size e d s) where
+module _ (size : ℕ) (e : List ℕ) (n d : ℕ) (s t : DiskState) (log : IsLog size e n) (durable : d ≤ n) (sound : IsSoundDisk s) (positive : 1 ≤ s.sector) (holds : HoldsFrames size e d s) where
   below : (i : ℕ) → i < length (take (frame_end size d) e) → i < frame_end size d
-  below i lt = omega (arith, length-take-le (frame_end size d) e (omega (arith, log.whole, frame_end-le size d n down)))
+  below i lt = omega (arith, length-take-le (frame_end size d) e (omega (arith, log.whole, frame_end-le size d n durable)))
 
   -- what is kept has the header
   kept_head : (kept : List ℕ) → ArePresent s.log kept → take 32 kept ≡ take 32 e
-  kept_head kept are = down_head size e kept d (down_image size e n d s.sector false s.log log down holds.listed kept (present_image s.sector false s.log kept sound.log are))
+  kept_head kept are = down_head size e kept d (down_image size e n d s.sector false s.log log durable holds.listed kept (present_image s.sector false s.log kept sound.log are))
 
   module _ {T : Type 0} where
     -- a write, whatever was answered
@@ -107,7 +100,7 @@ module _ (size : ℕ) (e : List ℕ) (n d : ℕ) (s t : DiskState) (log : IsLog 
           handed = λ torn. (since torn).1;
         }
 
-    -- a sync that succeeds, after which all frames that were present are down
+    -- a sync that succeeds, after which all frames that were present are durable
     pub holds_synced : {u : T} → Syncs Log (Ok u) s t → IsPresent size e n s → HoldsFrames size e n t
     holds_synced {u = u} synced present =
         let was : HoldsFrames size e d t = holds_syncs (Ok u) synced in
@@ -136,10 +129,10 @@ holds_elsewhere size e d s t sector tears log since holds =
 
 -- fewer frames
 pub holds_fewer : (size : ℕ) (e : List ℕ) (n d d_new : ℕ) (s : DiskState) → IsLog size e n → d ≤ n → d_new ≤ d → HoldsFrames size e d s → HoldsFrames size e d_new s
-holds_fewer size e n d d_new s log down less holds =
+holds_fewer size e n d d_new s log durable less holds =
     let k : ℕ = frame_end size d in
     let j : ℕ = frame_end size d_new in
-    let fits : k ≤ length e = omega (arith, log.whole, frame_end-le size d n down) in
+    let fits : k ≤ length e = omega (arith, log.whole, frame_end-le size d n durable) in
     let le : j ≤ k = frame_end-le size d_new d less in
     let at : (b : Bool) → HasFixed s.sector b s.log 0 (take k e) → HasFixed s.sector b s.log 0 (take j e)
     = λ b fixed i lt.

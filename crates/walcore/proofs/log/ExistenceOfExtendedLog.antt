@@ -2,8 +2,7 @@
 use Rattle.std.proofs.Common.{◌≡◌, ◌≢◌, ℕ, zero, suc, ◌+◌, ◌*◌, ◌/◌, ◌%◌, ◌^◌, ◌<◌, ◌≤◌, Bool, true, false, cond, ◌==◌, List, ◌∷◌, ◌++◌, length, take, drop, get_or, refl, sym, subst, arith, lit<, length-append, []}
 use Rattle.std.proofs.lemmas.List.{take_all}
 use Rattle.byteorder.specs.Endian.{big_bytes}
-use Rattle.sqval.specs.Bytes.{word, AreBytes}
-use Rattle.sqval.specs.Database.{Pages}
+use Rattle.recovery.proofs.Words.{word, AreBytes, Pages}
 use Rattle.sqwal.specs.Sums.{number, words, sum_0, sum_1, GoesOn}
 use Rattle.sqwal.specs.Header.{order_of, IsHeaderOf}
 use Rattle.sqwal.specs.Frames.{summed, IsFrameHead}

@@ -2,8 +2,7 @@
 use Rattle.std.proofs.Common.{◌≡◌, ⊎_elim, ℕ, suc, ◌+◌, ◌<◌, ◌≤◌, cond, ◌==◌, List, [], length, take, get_or, sym, ◌∙◌, ap, subst, arith}
 use Rattle.std.proofs.lemmas.List.{take_all}
 use Rattle.std.proofs.lemmas.Bool.{cases_eq}
-use Rattle.sqval.specs.Bytes.{AreBytes}
-use Rattle.sqval.specs.Database.{Pages}
+use Rattle.recovery.proofs.Words.{AreBytes, Pages}
 use Rattle.sqwal.specs.Frames.{frame_end, page_of, size_of, content_of}
 use Rattle.sqwal.specs.Log.{IsLog}
 use Rattle.sqwal.specs.declared.sum.Sum.{Sum}

@@ -1,17 +1,10 @@
 -- Before the first commit: a log of no more than a header, and the calls that keep what it shows.
 use Rattle.std.proofs.Common.{◌≡◌, ℕ, ◌-◌, ◌<◌, ◌≤◌, ◌&&◌, Bool, true, false, not, List, length, get_or, refl, sym, ◌∙◌, ap, subst, arith}
 use Rattle.std.specs.Prelude.{Result, Ok, Err, IsOk}
-use Rattle.crashdisk.specs.Call.{DiskState, IsSoundDisk, ArePresent}
-use Rattle.crashdisk.specs.Keeps.{IsLogDown}
-use Rattle.crashdisk.specs.internal.Keeps.{SyncStep}
-use Rattle.crashdisk.specs.declared.file.File.TheVariants.{Log}
-use Rattle.crashdisk.proofs.sync.BytesOfSyncedLog.{down_syncs, synced_down}
-use Rattle.crashdisk.proofs.call.SoundDiskUnderCalls.{sound_writes, sound_syncs}
-use Rattle.crashdisk.proofs.call.SoundFileUnderChanges.{written_inside}
-use Rattle.crashdisk.proofs.call.EffectsOfCalls.{present_written}
+use Rattle.recovery.proofs.Words.{DiskState, IsSoundDisk, ArePresent, IsLogDurable, SyncStep, Log, down_syncs, synced_down, sound_writes, sound_syncs, written_inside, present_written, alone_syncs}
 use Rattle.walcore.specs.internal.Opening.{HeaderSteps}
 use Rattle.walcore.specs.internal.Commits.{RestAnswer}
-use Rattle.walcore.specs.internal.Syncing.{BringsDown, DownBy}
+use Rattle.walcore.specs.internal.Syncing.{SyncsFrames, SyncsBy}
 use Rattle.walcore.specs.internal.Restarts.{MayRestart, TakesOver}
 use Rattle.walcore.specs.Uncommitted.{IsUncommitted, KeepsUncommitted}
 use Rattle.walcore.specs.declared.opening.NewLog.{NewLog}
@@ -20,22 +13,21 @@ use Rattle.walcore.specs.declared.error.WalError.{WalError}
 use Rattle.walcore.specs.declared.error.WalError.TheVariants.{Device}
 use Rattle.walcore.proofs.openings.ShownDatabaseAfterOpening.{header_alone}
 use Rattle.walcore.proofs.openings.StepOfOpening.{HeaderDone, header_done}
-use Rattle.recovery.proofs.NarrowedImages.{alone_syncs}
 use Rattle.walcore.specs.Alone.{wal_log}
 
-module _ {T : Type 0} (f v : List ℕ) (long : length f ≡ 32) (short : length v ≤ 32) (r : Result T WalError) (u : T) (s t : DiskState) (sound : IsSoundDisk s) (down : IsLogDown s v) (was : r ≡ Ok u) (steps : HeaderSteps f r s t) where
+module _ {T : Type 0} (f v : List ℕ) (long : length f ≡ 32) (short : length v ≤ 32) (r : Result T WalError) (u : T) (s t : DiskState) (sound : IsSoundDisk s) (durable : IsLogDurable s v) (was : r ≡ Ok u) (steps : HeaderSteps f r s t) where
   done : HeaderDone f long r s t sound steps T
   done = header_done f long r s t sound steps u was
 
   there : ArePresent done.mid.log f
   there = record {
-    len = let end = done.wrote.file.1.len in omega (arith, end, long, short, down.settled.len);
+    len = let end = done.wrote.file.1.len in omega (arith, end, long, short, durable.settled.len);
     each = λ i lt. let end = done.wrote.file.1.len in
-        let within : i < length f = omega (arith, lt, end, long, short, down.settled.len) in
+        let within : i < length f = omega (arith, lt, end, long, short, durable.settled.len) in
         sym (present_written Log 0 f s done.mid done.wrote i ∙ written_inside s.log 0 f i (omega arith) (omega (arith, within)) ∙ ap (λ (j : ℕ). get_or f j 0) (let e : i - 0 ≡ i = omega arith in e));
   }
 
-  -- the header is all of the log then, and down
+  -- the header is all of the log then, and durable
   pub begins_uncommitted : (core : Core) → core.frames ≡ 0 → core.mark ≡ 0 → core.unsynced ≡ false → IsUncommitted core t
   begins_uncommitted core frames mark unsynced =
       let on = sound_writes Log 0 f (Ok done.first) s done.mid sound done.wrote in
@@ -48,7 +40,7 @@ not_due true false even is = refl
 not_due false unsynced even is = refl
 not_due true true even is = absurd (cc is)
 
-ended : {T : Type 0} (r : Result T WalError) (core then : Core) (s t : DiskState) → IsUncommitted core s → IsSoundDisk t → ((w : List ℕ) → IsLogDown s w → IsLogDown t w) → RestAnswer r core then → IsOk r → IsUncommitted then t
+ended : {T : Type 0} (r : Result T WalError) (core then : Core) (s t : DiskState) → IsUncommitted core s → IsSoundDisk t → ((w : List ℕ) → IsLogDurable s w → IsLogDurable t w) → RestAnswer r core then → IsOk r → IsUncommitted then t
 ended (Ok u) core then s t is sound keeps rests ok = record {
   frames = rests.log.frames ∙ is.frames;
   mark = rests.marks.mark ∙ is.mark;
@@ -58,12 +50,12 @@ ended (Ok u) core then s t is sound keeps rests ok = record {
 }
 ended (Err e) core then s t is sound keeps closes ok = absurd (cc ok)
 
-pub sync_uncommitted : {T : Type 0} (r : Result T WalError) (core mid then : Core) (s t : DiskState) → BringsDown r core mid s t → RestAnswer r mid then → KeepsUncommitted r core then s t
+pub sync_uncommitted : {T : Type 0} (r : Result T WalError) (core mid then : Core) (s t : DiskState) → SyncsFrames r core mid s t → RestAnswer r mid then → KeepsUncommitted r core then s t
 sync_uncommitted {T = T} r core mid then s t brings rests is =
-    let down : (mid ≡ core) × SyncStep Device Log r s t = subst (λ (b : Bool). DownBy b r core mid s t) (not_due s.tears core.unsynced _ is.unsynced) brings in
+    let durable : (mid ≡ core) × SyncStep Device Log r s t = subst (λ (b : Bool). SyncsBy b r core mid s t) (not_due s.tears core.unsynced _ is.unsynced) brings in
     record {
-      shown = λ size d alone. alone_syncs wal_log size d Log down.1.0 s t is.sound down.1.2 alone;
-      uncommitted = ended r core then s t is (sound_syncs Log down.1.0 s t is.sound down.1.2) (λ w log. down_syncs w Log down.1.0 s t log down.1.2) (subst (λ (c : Core). RestAnswer r c then) down.0 rests);
+      shown = λ size d alone. alone_syncs wal_log size d Log durable.1.0 s t is.sound durable.1.2 alone;
+      uncommitted = ended r core then s t is (sound_syncs Log durable.1.0 s t is.sound durable.1.2) (λ w log. down_syncs w Log durable.1.0 s t log durable.1.2) (subst (λ (c : Core). RestAnswer r c then) durable.0 rests);
     }
 
 -- ---- a restart

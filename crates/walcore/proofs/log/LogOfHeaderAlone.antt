@@ -5,9 +5,7 @@ use Rattle.std.specs.Prelude.{slice_index, nat_eq, cond}
 use Rattle.std.specs.Int.{byte_at, bytes_high_first}
 use Rattle.std.specs.List.{flat_map}
 use Rattle.byteorder.specs.Endian.{big_bytes}
-use Rattle.sqval.specs.Bytes.{word, AreBytes}
-use Rattle.sqval.specs.PageSize.{IsPageSize}
-use Rattle.sqval.proofs.page.PageSizes.{one_of}
+use Rattle.recovery.proofs.Words.{word, AreBytes, IsPageSize, one_of}
 use Rattle.sqwal.specs.Sums.{words, sum_0, sum_1}
 use Rattle.sqwal.specs.Header.{order_of, IsHeaderOf}
 use Rattle.sqwal.specs.declared.sum.Order.TheVariants.{Big, Little}
@@ -20,9 +18,6 @@ pub append_bytes : (xs ys : List ℕ) → AreBytes xs → AreBytes ys → AreByt
 append_bytes [] ys a b i = b i
 append_bytes (x ∷ xs) ys a b zero = a 0
 append_bytes (x ∷ xs) ys a b (suc i) = append_bytes xs ys (λ j. a (suc j)) b i
-
-none_bytes : AreBytes []
-none_bytes i = lit< tt
 
 byte_below : (i x : ℕ) → byte_at i x < 256
 byte_below zero x = mod_below x 256 (lit< tt)

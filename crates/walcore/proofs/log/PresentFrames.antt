@@ -3,12 +3,7 @@ use Rattle.std.proofs.Common.{◌≡◌, inl, ⊎_elim, ℕ, ◌+◌, ◌-◌, �
 use Rattle.std.specs.Prelude.{Ok}
 use Rattle.std.proofs.lemmas.Bool.{cases_lt}
 use Rattle.std.proofs.lemmas.List.{get_or-take, get_or-drop, length-take-le}
-use Rattle.crashdisk.specs.State.{FileState, byte}
-use Rattle.crashdisk.specs.Call.{DiskState, Writes, Syncs}
-use Rattle.crashdisk.specs.declared.file.File.TheVariants.{Log}
-use Rattle.crashdisk.proofs.call.SoundFileUnderChanges.{written_inside, written_outside}
-use Rattle.crashdisk.proofs.call.EffectsOfCalls.{present_written, present_synced}
-use Rattle.sqval.specs.Bytes.{part}
+use Rattle.recovery.proofs.Words.{FileState, byte, DiskState, Writes, Syncs, Log, written_inside, written_outside, present_written, present_synced, part}
 use Rattle.sqwal.specs.Frames.{frame_end}
 use Rattle.sqwal.proofs.log.DependenceOnPrefix.{frame_end-le}
 use Rattle.walcore.specs.Standing.{IsPresent}

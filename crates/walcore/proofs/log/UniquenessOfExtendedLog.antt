@@ -1,8 +1,7 @@
 -- A log that is begun or extended is determined by what is said of it.
 use Rattle.std.proofs.Common.{◌≡◌, ℕ, zero, suc, ◌+◌, ◌≤◌, List, ◌++◌, length, take, refl, sym, ◌∙◌, ap, subst, arith}
 use Rattle.std.proofs.lemmas.List.{take_all}
-use Rattle.sqval.specs.Bytes.{part, word, AreBytes}
-use Rattle.sqval.specs.Database.{Pages}
+use Rattle.recovery.proofs.Words.{part, word, AreBytes, Pages}
 use Rattle.sqwal.specs.Sums.{words, sum_0, sum_1}
 use Rattle.sqwal.specs.Header.{order_of}
 use Rattle.sqwal.specs.Frames.{frame_at, frame_end, page_of, size_of, content_of, summed, Passes}

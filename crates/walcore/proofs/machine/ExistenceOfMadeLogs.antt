@@ -3,16 +3,12 @@ use Rattle.std.proofs.Common.{◌≡◌, ℕ, zero, suc, ◌+◌, ◌%◌, ◌^�
 use Rattle.std.proofs.lemmas.List.{get_or-drop, length-take-le}
 use Rattle.std.proofs.lemmas.Nat.{mod_below}
 use Rattle.std.proofs.lemmas.Bool.Decides.{nat_tests}
-use Rattle.sqval.specs.Bytes.{part, word, AreBytes}
-use Rattle.sqval.specs.Database.{Pages}
-use Rattle.sqval.specs.PageSize.{IsPageSize}
-use Rattle.sqval.proofs.database.FaultlessCommit.{IsFaultless}
+use Rattle.recovery.proofs.Words.{part, word, AreBytes, Pages, IsPageSize, IsFaultless, Answer, Done, Refused, Refuses, newest}
 use Rattle.sqwal.specs.Frames.{frame_at, frame_end, page_of, size_of, content_of, Passes}
 use Rattle.sqwal.specs.Log.{IsLog}
 use Rattle.sqwal.proofs.log.LogWithAppendedFrame.{word_fits}
 use Rattle.sqwal.proofs.log.DependenceOnPrefix.{frame_end-zero, frame_end-suc, frame_end-le, frame_at-end}
 use Rattle.walcore.specs.CommitRefusals.{refusal_of}
-use Rattle.sqval.specs.Answers.{Answer, Done, Refused, Refuses}
 use Rattle.walcore.specs.Machine.{State, Act, Opens, Commits, Syncs, Checkpoints, Restarts, closed, committed, commit_refusal, CommitStep, Step}
 use Rattle.walcore.specs.Made.{IsBegun, IsExtended}
 use Rattle.walcore.specs.Making.{Made, BeginsLog, Extends, Copies, MadeByRestart, MadeByCommit, MadeByCopy, MadeBySync, IfBegun, Makes, has_begun}
@@ -20,7 +16,6 @@ use Rattle.walcore.specs.LogLaws.{IsInForce, HasNewest, AreWords}
 use Rattle.walcore.proofs.commit.AcceptedCommit.{granted, cond_none, few_refusals}
 use Rattle.walcore.proofs.log.LogOfHeaderAlone.{begun_exists}
 use Rattle.walcore.proofs.log.ExistenceOfExtendedLog.{IsFrame, AreFrames, size_fits, extended_exists}
-use Rattle.recovery.specs.Histories.{newest}
 
 -- something is made, of which the newest is a log again
 abbrev MadeNext : (size : ℕ) → (Made → Type 0) → Type 0

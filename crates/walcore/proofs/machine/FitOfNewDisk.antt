@@ -1,22 +1,14 @@
 -- A disk that is new with a base fits where a world begins.
 use Rattle.std.proofs.Common.{◌≡◌, inl, ⊎_elim, ℕ, zero, suc, ◌<◌, ◌≤◌, Bool, true, false, List, [], ◌∷◌, length, get_or, refl, sym, ◌∙◌, ap, subst, arith}
-use Rattle.sqval.specs.PageSize.{IsPageSize}
-use Rattle.sqval.specs.Database.{Database}
-use Rattle.sqval.specs.Held.{IsJust, IsHeld}
+use Rattle.recovery.proofs.Words.{IsPageSize, Database, IsJust, IsHeld, IsImage, IsSectorSize, DiskState, IsNew, sound_new, settled_one, MayBeRead, ShowsWhole, read_cases}
 use Rattle.sqwal.specs.Header.{named_size}
 use Rattle.sqwal.specs.Frames.{IsFront}
-use Rattle.crashdisk.specs.State.{IsImage, IsSectorSize}
-use Rattle.crashdisk.specs.Call.{DiskState, IsNew}
-use Rattle.crashdisk.proofs.call.SoundDiskUnderCalls.{sound_new}
-use Rattle.crashdisk.proofs.byte.SettledFiles.{settled_one}
 use Rattle.walcore.specs.Made.{AreMade}
 use Rattle.walcore.specs.Fits.{FitsAlone, beginning}
 use Rattle.walcore.proofs.crash.FrontOfSurvivingLog.{just_file}
 use Rattle.walcore.proofs.openings.RecoveredFiles.{none_front}
 use Rattle.walcore.proofs.restart.ShownDatabaseDuringRestart.{just_shows}
-use Rattle.recovery.specs.Logs.{MayBeRead, ShowsWhole}
 use Rattle.walcore.specs.Alone.{wal_log}
-use Rattle.recovery.proofs.ShownDatabase.{read_cases}
 
 pub held_at : (size : ℕ) (base : Database) → IsHeld size base → (i : ℕ) → i < 1 → IsHeld size (get_or (base ∷ []) i [])
 held_at size base held zero lt = held

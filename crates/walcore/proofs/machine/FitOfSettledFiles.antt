@@ -1,16 +1,11 @@
--- Files that are down fit where a world begins with the database that they show.
+-- Files that are durable fit where a world begins with the database that they show.
 use Rattle.std.proofs.Common.{◌≡◌, inl, inr, ⊎_elim, ℕ, zero, suc, ◌+◌, ◌-◌, ◌*◌, ◌<◌, ◌≤◌, false, true, List, [], ◌∷◌, map, length, take, refl, sym, ◌∙◌, ap, subst, arith}
 use Rattle.std.specs.List.{Contains, range_with_len}
 use Rattle.std.proofs.lemmas.Bool.{cases_eq, cases_lt}
 use Rattle.std.proofs.lemmas.List.{length-take-le, take-take}
 use Rattle.std.proofs.lemmas.List.FromFn.{get_or-map-range_with_len, length-map-range_with_len}
-use Rattle.sqval.specs.Bytes.{part}
-use Rattle.sqval.specs.CommitFaults.{most_bytes}
-use Rattle.sqval.specs.PageSize.{IsPageSize}
+use Rattle.recovery.proofs.Words.{part, most_bytes, IsPageSize, IsJust, IsHeld, Files, length-file_page, IsImage, IsSettled, DiskState, IsLogDurable, Suits, down_one, settled_one, MayBeRead, ShowsWhole, read_cases}
 use Rattle.sqval.specs.Database.{Database, page, file_page}
-use Rattle.sqval.specs.Held.{IsJust, IsHeld}
-use Rattle.sqval.specs.Answers.{Files}
-use Rattle.sqval.proofs.page.FilePages.{length-file_page}
 use Rattle.sqwal.specs.Header.{IsHeader, named_size}
 use Rattle.sqwal.specs.Frames.{frame_at, frame_end, size_of, AllPass, IsValidFrame, IsCommit, IsFront}
 use Rattle.sqwal.specs.Log.{IsLog}
@@ -19,11 +14,6 @@ use Rattle.sqwal.specs.Refusal.{most_frames}
 use Rattle.sqwal.proofs.log.ExistenceOfFront.{all_decided, header_decided, front_exists}
 use Rattle.sqwal.proofs.log.DependenceOnPrefix.{frame_end-zero, frame_end-head, frame_end-le, frame_at-end, take_less, part_same, header_same, all_same}
 use Rattle.sqwal.proofs.log.UniquenessOfView.{front_unique, named_or_not}
-use Rattle.crashdisk.specs.State.{IsImage, IsSettled}
-use Rattle.crashdisk.specs.Call.{DiskState}
-use Rattle.crashdisk.specs.Keeps.{IsLogDown, Suits}
-use Rattle.crashdisk.proofs.sync.BytesOfSyncedLog.{down_one}
-use Rattle.crashdisk.proofs.byte.SettledFiles.{settled_one}
 use Rattle.walcore.specs.Made.{AreMade, NoChance}
 use Rattle.walcore.specs.Opening.{MayOpen}
 use Rattle.walcore.specs.Plans.{IsFit}
@@ -33,15 +23,13 @@ use Rattle.walcore.proofs.folds.CopiedPages.{content_long}
 use Rattle.walcore.proofs.crash.FrontOfSurvivingLog.{just_file}
 use Rattle.walcore.proofs.folds.AnswerOfParts.{view_exists}
 use Rattle.walcore.proofs.restart.ShownDatabaseDuringRestart.{just_shows}
-use Rattle.recovery.specs.Logs.{MayBeRead, ShowsWhole}
 use Rattle.walcore.specs.Alone.{wal_log}
-use Rattle.recovery.proofs.ShownDatabase.{read_cases}
 
 -- ---- they fit
 
-module _ (size : ℕ) (base : Database) (logs : List (List ℕ)) (files : Files) (s : DiskState) (file : IsSettled s.db files.db) (down : IsLogDown s files.log) (shows : ShowsWhole wal_log size files.db files.log base) where
+module _ (size : ℕ) (base : Database) (logs : List (List ℕ)) (files : Files) (s : DiskState) (file : IsSettled s.db files.db) (durable : IsLogDurable s files.log) (shows : ShowsWhole wal_log size files.db files.log base) where
   one_log : (w : List ℕ) → MayBeRead wal_log s w → w ≡ files.log
-  one_log w may = ⊎_elim (λ image. down_one files.log s down s.sector false w image) (λ left. down_one files.log s down s.sector true w left.1) (read_cases wal_log s w may)
+  one_log w may = ⊎_elim (λ image. down_one files.log s durable s.sector false w image) (λ left. down_one files.log s durable s.sector true w left.1) (read_cases wal_log s w may)
 
   left_shows : (db w : List ℕ) → IsImage s.sector s.tears s.db db → MayBeRead wal_log s w → ShowsWhole wal_log size db w base
   left_shows db w image may =

@@ -1,13 +1,10 @@
 -- A core over a log without frames fits.
 use Rattle.std.proofs.Common.{◌≡◌, inl, ℕ, ◌+◌, ◌-◌, ◌<◌, Bool, true, false, cond, List, ◌∷◌, length, get_or, refl, sym, ◌∙◌, ap, subst, arith, Option, Some, None}
 use Rattle.std.specs.Prelude.{sum_by}
-use Rattle.sqval.specs.Database.{Database}
+use Rattle.recovery.proofs.Words.{Database, IsImage, DiskState, IsJust, present_image, newest}
 use Rattle.sqwal.specs.Frames.{frame_end, summed}
 use Rattle.sqwal.specs.Sums.{IsSumOf}
 use Rattle.sqwal.specs.Header.{IsHeaderOf}
-use Rattle.crashdisk.specs.State.{IsImage}
-use Rattle.crashdisk.specs.Call.{DiskState}
-use Rattle.sqval.specs.Held.{IsJust}
 use Rattle.walcore.specs.Machine.{reader_at}
 use Rattle.walcore.specs.Standing.{Stands, IsPresent}
 use Rattle.walcore.specs.Fits.{Past, FitsDisk, FitsCore, IsBound, AreTogether, IsCore, times, has_mark}
@@ -15,11 +12,9 @@ use Rattle.walcore.specs.internal.Opening.{IsNewCore}
 use Rattle.walcore.specs.declared.opening.NewLog.{NewLog}
 use Rattle.walcore.specs.declared.reader.Reader.{Reader}
 use Rattle.walcore.specs.declared.state.Core.{Core}
-use Rattle.crashdisk.proofs.sync.BytesOfSyncedLog.{present_image}
 use Rattle.sqwal.proofs.log.DependenceOnPrefix.{frame_end-le}
 use Rattle.walcore.proofs.crash.HistoryInCrashImages.{stands_shows, present_last}
 use Rattle.walcore.proofs.sync.LogWithRepeatedFrame.{behind_none}
-use Rattle.recovery.specs.Histories.{newest}
 
 -- the place of the last database
 abbrev pub at_last : List Database → ℕ → ℕ
@@ -86,7 +81,7 @@ module _ (past : Past) (f : List ℕ) (t : DiskState) (low : past.state.floor < 
       unsynced = is_new.unsynced ∙ sym unsynced;
       some = λ yes. absurd (let bad : true ≡ false = sym yes ∙ is_new.unsynced in cc);
       drained = is_new.drained ∙ sym drained;
-      down = λ z. record { commit = omega (arith, is_new.mark); all = λ whole. sym is_new.frames };
+      durable = λ z. record { commit = omega (arith, is_new.mark); all = λ whole. sym is_new.frames };
       filed = λ is. (is_new.unsynced, just_newest);
       readers = λ number. none_of (IsBound core.page_size f (at_last past.state.history) core.mark 0 past.state) (reader_at past.state number) (get_or past.tokens number None) (none.readers number) (none.tokens number);
       page = is_new.frame ∙ ap (λ (k : ℕ). 24 + k) (sym is_new.page_size);

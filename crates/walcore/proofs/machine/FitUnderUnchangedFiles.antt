@@ -1,34 +1,26 @@
 -- What fits an engine still fits after calls that change nothing of its files.
 use Rattle.std.proofs.Common.{◌≡◌, inl, inr, ℕ, ◌+◌, ◌*◌, ◌≤◌, Bool, false, cond, List, get_or, refl, sym, ◌∙◌, ap, subst, ◌<◌}
 use Rattle.std.specs.Prelude.{IsTrue, None}
-use Rattle.crashdisk.specs.State.{FileState, IsImage}
-use Rattle.crashdisk.specs.Call.{DiskState}
+use Rattle.recovery.proofs.Words.{FileState, IsImage, DiskState, Database, IsJust, Answer, Refused, SameFiles, Still, same_files, image_same, present_in, MayBeRead, newest}
 use Rattle.sqwal.specs.Header.{IsHeaderOf}
 use Rattle.sqwal.specs.Frames.{frame_end, page_of, summed}
 use Rattle.sqwal.specs.Sums.{IsSumOf}
 use Rattle.sqwal.specs.Index.{FrameTable}
 use Rattle.sqwal.specs.declared.header.WalHeader.{WalHeader}
 use Rattle.sqwal.specs.declared.sum.Sum.{Sum}
-use Rattle.sqval.specs.Database.{Database}
 use Rattle.walcore.specs.Alone.{AreWhole, wal_log}
-use Rattle.sqval.specs.Held.{IsJust}
 use Rattle.walcore.specs.Machine.{reader_at, Act, Step}
-use Rattle.sqval.specs.Answers.{Answer, Refused}
 use Rattle.walcore.specs.Making.{Makes}
 use Rattle.walcore.specs.CommitRefusals.{most_pages}
 use Rattle.walcore.specs.Standing.{IsBehind, Stands, IsPresent}
-use Rattle.crashdisk.specs.Keeps.{SameFiles, Still}
 use Rattle.walcore.specs.Fits.{Past, IsLeft, FitsDisk, IsIndexed, IsBound, AreTogether, IsCore, FitsCore, StepsTo, times}
 use Rattle.walcore.specs.declared.state.Core.{Core}
-use Rattle.crashdisk.proofs.call.UnchangingCalls.{same_files, image_same, present_in}
 use Rattle.crashdisk.proofs.page.RecoverablePages.{suits_same}
 use Rattle.walcore.proofs.disk.PermittedChanges.{nothing_may}
 use Rattle.walcore.proofs.log.DurableFrames.{holds_elsewhere}
 use Rattle.walcore.proofs.log.PresentFrames.{present_by}
 use Rattle.walcore.proofs.disk.DiskInvariantUnderCalls.{stands_by}
 use Rattle.walcore.proofs.sync.LogWithRepeatedFrame.{behind_same}
-use Rattle.recovery.specs.Logs.{MayBeRead}
-use Rattle.recovery.specs.Histories.{newest}
 
 -- ---- the disk
 
@@ -115,7 +107,7 @@ module _ (past : Past) (e : List ℕ) (index : ℕ → ℕ) (d c : ℕ) (a b : C
     unsynced = same.unsynced ∙ is.unsynced;
     drained = same.drained ∙ is.drained;
     some = λ yes. at_frames (λ x. 1 ≤ x) (is.some (sym same.unsynced ∙ yes));
-    down = λ synced. let was = is.down (sym same.unsynced ∙ synced) in
+    durable = λ synced. let was = is.durable (sym same.unsynced ∙ synced) in
         record { commit = at_mark (λ x. x ≤ d) was.commit; all = λ whole. was.all (sym still.tears ∙ whole) ∙ sym same.frames };
     filed = λ drained. let was = is.filed (subst (λ (x : Bool). IsTrue x) same.drained drained) in
         (same.unsynced ∙ was.0, λ db image. at_size (λ x. IsJust x (newest past.state.history) db) (was.1 db (image_same s t still db image)));

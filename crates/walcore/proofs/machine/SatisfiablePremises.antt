@@ -1,7 +1,7 @@
 -- The premises on a run can be met.
 use Rattle.std.proofs.Common.{ℕ, List, [], refl, arith}
 use Rattle.std.specs.List.{Contains}
-use Rattle.sqval.specs.Answers.{Answer}
+use Rattle.recovery.proofs.Words.{Answer}
 use Rattle.walcore.specs.Machine.{Opens}
 use Rattle.walcore.specs.Made.{NoChance}
 use Rattle.walcore.specs.Making.{Permits, nothing}

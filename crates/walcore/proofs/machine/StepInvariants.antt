@@ -3,15 +3,12 @@ use Rattle.std.proofs.Common.{◌≡◌, ℕ, zero, suc, ◌+◌, ◌<◌, ◌�
 use Rattle.std.specs.List.{list_all}
 use Rattle.std.proofs.lemmas.List.{take-append-le, take-take}
 use Rattle.std.proofs.lemmas.Bool.Decides.{nat_tests}
-use Rattle.sqval.specs.Database.{Database, Pages, apply}
+use Rattle.recovery.proofs.Words.{Database, Pages, apply, Answer, Moment, Runs, last, newest}
 use Rattle.walcore.specs.CommitRefusals.{most_pages}
-use Rattle.sqval.specs.Answers.{Answer}
 use Rattle.walcore.specs.Machine.{Act, State, start, is_bound, forgotten, opened, gone, closed, committed, synced, checkpointed, restarted, begun, ended, commit_refusal, Step}
-use Rattle.sqval.specs.Runs.{Moment, Runs}
 use Rattle.walcore.specs.Laws.{IsSane, Keeps}
 use Rattle.walcore.proofs.commit.AcceptedCommit.{cond_none, room_enough}
 use Rattle.walcore.proofs.machine.StepTargets.{Targets, step_in}
-use Rattle.recovery.specs.Histories.{last, newest}
 
 none_bound : (i : ℕ) (rs : List (Option ℕ)) → list_all (is_bound i) (forgotten rs) ≡ true
 none_bound i [] = refl
@@ -108,10 +105,10 @@ sane_runs s b (m ∷ ms) t a i h = sane_runs h.1.0 m.refused ms t a (sane_step s
 pub sane_start : (page_size : ℕ) (base : Database) → IsSane (start page_size base)
 sane_start page_size base = record { floor = lit< tt; few = omega arith; newest = λ d. refl }
 
--- What is down stays
+-- What is durable stays
 
 same_history : (s t : State) → t.page_size ≡ s.page_size → s.floor ≤ t.floor → t.history ≡ s.history → Keeps s t
-same_history s t p f e = record { page_size = p; floor = f; down = ap (λ h. take (s.floor + 1) h) e }
+same_history s t p f e = record { page_size = p; floor = f; durable = ap (λ h. take (s.floor + 1) h) e }
 
 kept_targets : (s : State) → IsSane s → Targets (Keeps s) s
 kept_targets s i =
@@ -120,10 +117,10 @@ kept_targets s i =
     let grown = λ (d : Database). take-append-le (s.floor + 1) s.history (d ∷ []) (omega arith) in
     record {
       stays = same_history s s refl (omega arith) refl;
-      opens = λ k g h. record { page_size = refl; floor = g; down = take-take (s.floor + 1) (k + 1) s.history (omega arith) };
+      opens = λ k g h. record { page_size = refl; floor = g; durable = take-take (s.floor + 1) (k + 1) s.history (omega arith) };
       goes = same_history s (gone s) refl (omega arith) refl;
       closes = same_history s (closed s) refl (omega arith) refl;
-      commits = λ pages size e. (record { page_size = refl; floor = omega arith; down = grown (apply (newest s.history) pages size) }, record { page_size = refl; floor = omega arith; down = grown (apply (newest s.history) pages size) });
+      commits = λ pages size e. (record { page_size = refl; floor = omega arith; durable = grown (apply (newest s.history) pages size) }, record { page_size = refl; floor = omega arith; durable = grown (apply (newest s.history) pages size) });
       syncs = same_history s (synced s) refl l refl;
       checkpoints = same_history s (checkpointed s) refl l refl;
       restarts = same_history s (restarted s) refl (omega arith) refl;
@@ -141,7 +138,7 @@ kept_on s t u h g =
     record {
       page_size = g.page_size ∙ h.page_size;
       floor = omega arith;
-      down = sym (take-take (s.floor + 1) (t.floor + 1) u.history (omega arith)) ∙ (ap (λ x. take (s.floor + 1) x) g.down ∙ (take-take (s.floor + 1) (t.floor + 1) t.history (omega arith) ∙ h.down));
+      durable = sym (take-take (s.floor + 1) (t.floor + 1) u.history (omega arith)) ∙ (ap (λ x. take (s.floor + 1) x) g.durable ∙ (take-take (s.floor + 1) (t.floor + 1) t.history (omega arith) ∙ h.durable));
     }
 
 pub kept_runs : (s : State) (b : ℕ) (ms : List (Moment Act)) (t : State) (a : ℕ) → IsSane s → Runs Step s b ms t a → Keeps s t

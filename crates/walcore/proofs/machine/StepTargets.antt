@@ -1,7 +1,6 @@
 -- Where one step may lead.
 use Rattle.std.proofs.Common.{◌≡◌, inl, inr, ℕ, ◌<◌, ◌≤◌, Bool, true, false, length, Option, Some, None, refl, sym, subst}
-use Rattle.sqval.specs.Database.{Pages}
-use Rattle.sqval.specs.Answers.{Files, Answer, Done, Reader, Page, Complete, Partial, NoReader, Refused, Refuses, PlainStep}
+use Rattle.recovery.proofs.Words.{Pages, Files, Answer, Done, Reader, Page, Complete, Partial, NoReader, Refused, Refuses, PlainStep}
 use Rattle.walcore.specs.Machine.{Act, Opens, Commits, Syncs, Begins, Reads, Ends, Checkpoints, Restarts, Crashes, Sets, State, reader_at, opened, gone, closed, committed, synced, checkpointed, restarted, begun, ended, call_refusal, commit_refusal, read_refusal, restart_refusal, OpenStep, CommitStep, SyncStep, BeginStep, ReadStep, EndStep, CheckpointStep, RestartStep, Step}
 
 -- P holds of each state that a step may lead to

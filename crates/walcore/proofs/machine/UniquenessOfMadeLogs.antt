@@ -1,8 +1,7 @@
 -- What a moment makes is determined.
 use Rattle.std.proofs.Common.{◌≡◌, ℕ, Bool, true, false, not, ◌&&◌, ◌==◌, ◌%◌, List, [], ◌∷◌, length, sym, ◌∙◌, ap, subst}
-use Rattle.sqval.specs.Database.{Pages}
+use Rattle.recovery.proofs.Words.{Pages, Answer}
 use Rattle.sqwal.specs.Frames.{page_of, size_of, content_of}
-use Rattle.sqval.specs.Answers.{Answer}
 use Rattle.walcore.specs.Machine.{Act, Opens, Commits, Syncs, Checkpoints, Restarts}
 use Rattle.walcore.specs.Made.{IsExtended}
 use Rattle.walcore.specs.Making.{Made, BeginsLog, Extends, Copies, MadeByRestart, MadeByCommit, MadeByCopy, MadeBySync, IfBegun, Makes, has_begun}

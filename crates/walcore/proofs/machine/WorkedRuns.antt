@@ -4,7 +4,7 @@ use Rattle.sqval.specs.Database.{page}
 use Rattle.walcore.specs.CommitRefusals.{refusal_of}
 use Rattle.walcore.proofs.machine.StepsOfRun.{end, next, go, on_base}
 use Rattle.walcore.specs.Rows.{Synced, Lost, LostForGood, Waits, Stopped, CommitsRefused, SyncFailed, Forgotten, TwoReaders}
-use Rattle.sqval.proofs.database.AnswersOfEngine.{refuses_first}
+use Rattle.recovery.proofs.Words.{refuses_first}
 
 -- a commit of a page of the right length
 fits : (used : ℕ) (content : List ℕ) → length content ≡ 512 → nat_lt 1048576 (used + 1) ≡ false → refusal_of 1 512 used ((1, content) ∷ []) 1 ≡ None

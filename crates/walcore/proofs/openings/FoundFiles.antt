@@ -1,24 +1,13 @@
 -- What an opening finds, and how its fold keeps it.
 use Rattle.std.proofs.Common.{◌≡◌, inl, inr, ⊎_elim, ℕ, ◌*◌, ◌<◌, ◌≤◌, Bool, true, false, IsTrue, List, length, get_or, refl, sym, ◌∙◌, ap, subst, arith, []}
 use Rattle.std.specs.Prelude.{Result}
-use Rattle.sqval.specs.Database.{Database}
+use Rattle.recovery.proofs.Words.{Database, IsImage, DiskState, IsSoundDisk, ArePresent, Syncs, Log, DiskError, IsLogDurable, Files, present_image, down_one, file_syncs, AreFiles, ShowsAlone, MayBeRead, ShowsWhole, shows_by, at, last, newest}
 use Rattle.sqwal.specs.Frames.{size_of}
-use Rattle.crashdisk.specs.State.{IsImage}
-use Rattle.crashdisk.specs.Call.{DiskState, IsSoundDisk, ArePresent, Syncs}
-use Rattle.crashdisk.specs.declared.file.File.TheVariants.{Log}
-use Rattle.crashdisk.specs.declared.error.DiskError.{DiskError}
 use Rattle.walcore.specs.Alone.{Show, wal_log}
-use Rattle.crashdisk.specs.Keeps.{IsLogDown}
 use Rattle.walcore.specs.Lengths.{EndsBy, IsLengthOf}
-use Rattle.sqval.specs.Answers.{Files}
 use Rattle.walcore.specs.Made.{NoChance}
 use Rattle.walcore.specs.Fits.{Past, ShowsOne, IsLeft, FitsDisk}
-use Rattle.crashdisk.proofs.sync.BytesOfSyncedLog.{present_image, down_one, file_syncs}
 use Rattle.walcore.proofs.machine.ImpossibleRuns.{show_unique}
-use Rattle.recovery.specs.Files.{AreFiles}
-use Rattle.recovery.specs.Logs.{ShowsAlone, MayBeRead, ShowsWhole}
-use Rattle.recovery.proofs.ShownDatabase.{shows_by}
-use Rattle.recovery.specs.Histories.{at, last, newest}
 
 -- the files that an opening finds show one database with each file that may be left
 pub record IsFound (past : Past) (w : List ℕ) (s : DiskState) : Type 0 where
@@ -69,10 +58,10 @@ module _ (past : Past) (w : List ℕ) where
   }
 
   -- so all that is left shows it
-  pub found_alone : (s : DiskState) → IsSoundDisk s → IsLogDown s w → (is : IsFound past w s) → ShowsAlone wal_log past.state.page_size (at past.state.history is.place) s
-  found_alone s sound down is = shows_by wal_log past.state.page_size (at past.state.history is.place) s sound (λ v. v ≡ w)
-      (λ v left. down_one w s down s.sector s.tears v left.image)
-      (λ v image. down_one w s down s.sector false v image)
+  pub found_alone : (s : DiskState) → IsSoundDisk s → IsLogDurable s w → (is : IsFound past w s) → ShowsAlone wal_log past.state.page_size (at past.state.history is.place) s
+  found_alone s sound durable is = shows_by wal_log past.state.page_size (at past.state.history is.place) s sound (λ v. v ≡ w)
+      (λ v left. down_one w s durable s.sector s.tears v left.image)
+      (λ v image. down_one w s durable s.sector false v image)
       (λ db v image e. subst (λ (x : List ℕ). Show past.state.page_size db x (at past.state.history is.place)) (sym e) (is.shows db image).shows)
 
   -- in files of whole pages

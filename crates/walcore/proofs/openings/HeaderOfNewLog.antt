@@ -1,6 +1,6 @@
 -- The steps of an opening.
 use Rattle.std.proofs.Common.{◌≡◌, ℕ, List, length, take, refl, []}
-use Rattle.sqval.specs.Bytes.{AreBytes}
+use Rattle.recovery.proofs.Words.{AreBytes}
 use Rattle.sqwal.specs.Frames.{summed}
 use Rattle.sqwal.specs.Header.{IsHeaderOf}
 use Rattle.sqwal.specs.Sums.{IsSumOf, GoesOn}

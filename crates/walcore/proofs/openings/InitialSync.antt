@@ -1,14 +1,10 @@
 -- An opening that syncs the log first.
 use Rattle.std.proofs.Common.{◌≡◌, ℕ, refl, sym, subst}
 use Rattle.std.specs.Prelude.{Result, Ok, Err}
-use Rattle.sqval.specs.Database.{Database}
-use Rattle.crashdisk.specs.Call.{DiskState, Syncs}
-use Rattle.crashdisk.specs.declared.file.File.TheVariants.{Log}
-use Rattle.crashdisk.specs.declared.error.DiskError.{DiskError}
+use Rattle.recovery.proofs.Words.{Database, DiskState, Syncs, Log, DiskError, ShowsAlone, Agrees}
 use Rattle.walcore.specs.Opening.{OpensOn, OpensSynced}
 use Rattle.walcore.specs.declared.error.WalError.{WalError}
 use Rattle.walcore.specs.declared.error.WalError.TheVariants.{Device}
-use Rattle.recovery.specs.Logs.{ShowsAlone, Agrees}
 use Rattle.walcore.specs.Alone.{wal_log}
 
 module _ (size : ℕ) (old mid : DiskState) where
@@ -40,7 +36,7 @@ module _ {S T : Type 0} (size : ℕ) (r : Result S WalError) (q : Result T WalEr
   first_err e old new was is first = record { called = first.called; mid = first.mid; sync = first.sync; rest = on_err e first.called first.mid new was is first.rest }
 
   on_then : (v : S) (called : Result (Unit {0}) DiskError) (mid b c : DiskState) → r ≡ Ok v → OpensOn size called r mid b → ((d : Database) → ShowsAlone wal_log size d b → ShowsAlone wal_log size d c) → OpensOn size called q mid c
-  on_then v (Ok u) mid b c was rest then = λ w d down alone. then d (rest w d down alone)
+  on_then v (Ok u) mid b c was rest then = λ w d durable alone. then d (rest w d durable alone)
   on_then v (Err x) mid b c was rest then = absurd (let same : r ≡ Err Device = rest.0 in cc)
 
   -- a step more

@@ -1,24 +1,15 @@
 -- What an opening has when it has folded what it found.
 use Rattle.std.proofs.Common.{◌≡◌, inl, inr, ⊎_elim, ℕ, suc, ◌*◌, ◌<◌, ◌≤◌, List, ◌∷◌, length, refl, sym, ◌∙◌, ap, subst, arith, []}
 use Rattle.std.specs.Prelude.{Result, Ok, Err}
-use Rattle.sqval.specs.Database.{Database}
+use Rattle.recovery.proofs.Words.{Database, IsImage, DiskState, ArePresent, Syncs, Log, present_list, DiskError, most_bytes, IsLogDurable, TearsPages, Still, Later, IsJust, IsHeld, Files, present_image, down_by, synced_down, down_present, later_sync, later_then, later_still, size_some, file_count, had_refusal, image_still, present_in, refusal_after, suits_by, AreFiles, MayRefuse, may_after, ShowsAlone, Agrees, narrows_syncs, narrows_still, at}
 use Rattle.sqwal.specs.Header.{IsHeader, named_size}
 use Rattle.sqwal.specs.Frames.{frame_end, size_of, IsValidFrame, IsFront}
 use Rattle.sqwal.specs.Refusal.{most_frames}
 use Rattle.sqwal.proofs.log.DependenceOnPrefix.{word_same, frame_end-le, frame_end-suc}
-use Rattle.crashdisk.specs.State.{IsImage}
-use Rattle.crashdisk.specs.Call.{DiskState, ArePresent, Syncs}
-use Rattle.crashdisk.specs.declared.file.File.TheVariants.{Log}
-use Rattle.crashdisk.proofs.call.EffectsOfCalls.{present_list}
-use Rattle.crashdisk.specs.declared.error.DiskError.{DiskError}
-use Rattle.sqval.specs.CommitFaults.{most_bytes}
 use Rattle.walcore.specs.Alone.{Show, wal_log}
-use Rattle.walcore.specs.Folding.{IsEmptyDown, FoldAnswer}
+use Rattle.walcore.specs.Folding.{IsEmptyDurable, FoldAnswer}
 use Rattle.walcore.specs.internal.Folding.{IsTooLarge}
-use Rattle.crashdisk.specs.Keeps.{IsLogDown, TearsPages, Still, Later}
-use Rattle.sqval.specs.Held.{IsJust, IsHeld}
 use Rattle.walcore.specs.Lengths.{EndsBy, KeepsLength}
-use Rattle.sqval.specs.Answers.{Files}
 use Rattle.walcore.specs.Made.{AreMade, NoChance}
 use Rattle.walcore.specs.Fits.{Past, IsLeft, FitsDisk}
 use Rattle.walcore.specs.Changes.{MayFold}
@@ -28,20 +19,9 @@ use Rattle.walcore.specs.declared.folding.Folded.{Folded}
 use Rattle.walcore.specs.declared.error.WalError.{WalError}
 use Rattle.walcore.specs.declared.error.WalError.TheVariants.{TooLarge, PageSize, NoMemory, Device, SectorAbovePage}
 use Rattle.walcore.proofs.crash.ImagesOfSyncedLog.{down_left}
-use Rattle.crashdisk.proofs.sync.BytesOfSyncedLog.{present_image, down_by, synced_down, down_present}
-use Rattle.crashdisk.proofs.call.DisksAfterCalls.{later_sync, later_then, later_still}
 use Rattle.walcore.proofs.folds.PlanOfScannedLog.{front_zero}
 use Rattle.walcore.proofs.crash.NarrowedImages.{left_narrows}
-use Rattle.sqval.proofs.page.FilePages.{size_some, file_count}
 use Rattle.walcore.proofs.openings.FoundFiles.{IsFound, is_found, found_syncs, found_alone, found_length, alone_one}
-use Rattle.crashdisk.proofs.call.UnchangingCalls.{had_refusal, image_still, present_in, refusal_after}
-use Rattle.crashdisk.proofs.page.RecoverablePages.{suits_by}
-use Rattle.recovery.specs.Files.{AreFiles}
-use Rattle.recovery.specs.internal.Steps.{MayRefuse}
-use Rattle.recovery.proofs.AnswersOfSteps.{may_after}
-use Rattle.recovery.specs.Logs.{ShowsAlone, Agrees}
-use Rattle.recovery.proofs.NarrowedImages.{narrows_syncs, narrows_still}
-use Rattle.recovery.specs.Histories.{at}
 
 -- ---- what is found is of this page size, and not too large
 
@@ -87,9 +67,9 @@ module _ (size : ℕ) (logs : List (List ℕ)) (w : List ℕ) (made : AreMade si
 pub none_front : (size : ℕ) → IsFront (named_size []) [] 0
 none_front size = front_zero size [] (λ header. let long = header.whole in omega arith)
 
-pub just_alone : (size : ℕ) (d : Database) (t : DiskState) → IsLogDown t [] → ShowsAlone wal_log size d t → EndsBy (length d * size) t → (db : List ℕ) → IsImage t.sector t.tears t.db db → IsJust size d db
-just_alone size d t down alone ends db image =
-    let left = down_left [] t down in
+pub just_alone : (size : ℕ) (d : Database) (t : DiskState) → IsLogDurable t [] → ShowsAlone wal_log size d t → EndsBy (length d * size) t → (db : List ℕ) → IsImage t.sector t.tears t.db db → IsJust size d db
+just_alone size d t durable alone ends db image =
+    let left = down_left [] t durable in
     let view = (alone.images db [] image left 0 (none_front size)).1 in
     record {
       long = ends db [] image (inr left) (none_front size);
@@ -106,7 +86,7 @@ no_bytes (x ∷ xs) n a b = absurd (omega (arith, a, b))
 pub record IsReady (past : Past) (found : Files) (s a : DiskState) : Type 0 where
   pub later : Later (MayFold past.state.page_size) s a
   pub is : IsFound past found.log a
-  pub down : IsLogDown a found.log
+  pub durable : IsLogDurable a found.log
   pub db : ArePresent a.db found.db
   pub left : IsLeft past.state.page_size past.made.logs past.state.history past.state.floor a
 
@@ -114,7 +94,7 @@ pub record IsReady (past : Past) (found : Files) (s a : DiskState) : Type 0 wher
 pub record SyncedFiles (found : Files) (s : DiskState) : Type 0 where
   pub db : ArePresent s.db found.db
   pub log : ArePresent s.log found.log
-  pub empty : IsEmptyDown s
+  pub empty : IsEmptyDurable s
 
 count_is : (n m size : ℕ) (db : List ℕ) → 1 ≤ size → length db ≡ n * size → length db ≡ m * size → n ≡ m
 count_is n m size db some a b = file_count size db n some a ∙ sym (file_count size db m some b)
@@ -131,7 +111,7 @@ module _ (past : Past) (found : Files) (s : DiskState) (fits : FitsDisk past s) 
   ready_synced {T = T} {u = u} a synced = record {
     later = later_sync Log (Ok u) s a (inr tt) fits.suits.sound synced;
     is = found_syncs past found.log (Ok u) s a fits.suits.sound synced (is_found past found s fits are chance);
-    down = synced_down found.log s a fits.suits.sound are.log synced;
+    durable = synced_down found.log s a fits.suits.sound are.log synced;
     db = present_in s.db a.db found.db synced.elsewhere.other are.db;
     left = left_narrows s a (narrows_syncs wal_log Log (Ok u) s a fits.suits.sound synced) past.state.page_size past.made.logs past.state.history past.state.floor fits.left;
   }
@@ -140,7 +120,7 @@ module _ (past : Past) (found : Files) (s : DiskState) (fits : FitsDisk past s) 
   ready_still a b ready still = record {
     later = later_then s a b ready.later (later_still a b ready.later.sound still);
     is = record { place = ready.is.place; floor = ready.is.floor; within = ready.is.within; newest = ready.is.newest; shows = λ db image. ready.is.shows db (image_still a b still db image) };
-    down = down_by found.log a b ready.down still.log still.tears still.kept still.handed;
+    durable = down_by found.log a b ready.durable still.log still.tears still.kept still.handed;
     db = present_in a.db b.db found.db still.db ready.db;
     left = left_narrows a b (narrows_still wal_log a b still) past.state.page_size past.made.logs past.state.history past.state.floor ready.left;
   }
@@ -153,8 +133,8 @@ module _ (past : Past) (found : Files) (s : DiskState) (fits : FitsDisk past s) 
     is : IsFound past found.log a
     is = ready.is
 
-    down : IsLogDown a found.log
-    down = ready.down
+    durable : IsLogDurable a found.log
+    durable = ready.durable
 
     db_present : ArePresent a.db found.db
     db_present = ready.db
@@ -162,8 +142,8 @@ module _ (past : Past) (found : Files) (s : DiskState) (fits : FitsDisk past s) 
     pub synced_files : SyncedFiles found a
     synced_files = record {
       db = db_present;
-      log = down_present found.log a down;
-      empty = λ zero. subst (λ (w : List ℕ). IsLogDown a w) (no_bytes found.log a.log.len down.settled.len zero) down;
+      log = down_present found.log a durable;
+      empty = λ zero. subst (λ (w : List ℕ). IsLogDurable a w) (no_bytes found.log a.log.len durable.settled.len zero) durable;
     }
 
     held : IsHeld past.state.page_size (at past.state.history is.place)
@@ -212,10 +192,10 @@ module _ (past : Past) (found : Files) (s : DiskState) (fits : FitsDisk past s) 
       answer_at r answer = subst (λ (n : ℕ). FoldAnswer n found.db found.log r a b) (sym same) answer
 
       alone : ShowsAlone wal_log past.state.page_size (at past.state.history is.place) b
-      alone = agrees found.log (at past.state.history is.place) down (found_alone past found.log a first.sound down is)
+      alone = agrees found.log (at past.state.history is.place) durable (found_alone past found.log a first.sound durable is)
 
       ends : EndsBy (length (at past.state.history is.place) * past.state.page_size) b
-      ends = lengths found.log (length (at past.state.history is.place) * past.state.page_size) down (found_length past found.log a first.sound found.db db_present is)
+      ends = lengths found.log (length (at past.state.history is.place) * past.state.page_size) durable (found_length past found.log a first.sound found.db db_present is)
 
       left : IsLeft past.state.page_size past.made.logs past.state.history past.state.floor b
       left = inr (alone_one past.state.page_size past.state.history past.state.floor is.place b is.floor is.within alone ends)
@@ -230,7 +210,7 @@ module _ (past : Past) (found : Files) (s : DiskState) (fits : FitsDisk past s) 
 
       -- then a look at the file's length
       module _ (f : Folded) (r : Result Folded WalError) (was : r ≡ Ok f) (answer : FoldAnswer size found.db found.log r a b) (c : DiskState) (still : Still b c) where
-        empty : IsLogDown b []
+        empty : IsLogDurable b []
         empty = (subst (λ (x : Result Folded WalError). FoldAnswer size found.db found.log x a b) was answer).3.log
 
         just : (db : List ℕ) → IsImage b.sector b.tears b.db db → IsJust past.state.page_size (at past.state.history is.place) db
@@ -255,7 +235,7 @@ module _ (past : Past) (found : Files) (s : DiskState) (fits : FitsDisk past s) 
                 within = is.within;
                 newest = is.newest;
                 shown = (is.shows found.db db_image).shows;
-                down = down_by [] b c empty still.log still.tears still.kept still.handed;
+                durable = down_by [] b c empty still.log still.tears still.kept still.handed;
                 file = λ db image. just db (image_still b c still db image);
                 count = count_is n (length (at past.state.history is.place)) past.state.page_size _ (omega (arith, size_some past.state.page_size fits.suits.pages)) (now.len ∙ sym x.1) (now.len ∙ db_long);
               },

@@ -4,11 +4,8 @@ use Rattle.std.proofs.Math.Nat.{div-mul-le_self, mod-eq-sub-div-mul}
 use Rattle.std.specs.Prelude.{Result, Ok, Err}
 use Rattle.sqwal.specs.Header.{named_size}
 use Rattle.sqwal.specs.Frames.{IsFront}
-use Rattle.crashdisk.specs.Call.{DiskState, IsSoundDisk, ArePresent, Looks}
-use Rattle.crashdisk.specs.declared.error.DiskError.{DiskError}
-use Rattle.sqval.specs.Limits.{usual}
+use Rattle.recovery.proofs.Words.{DiskState, IsSoundDisk, ArePresent, Looks, DiskError, usual, HadRefusal, TearsPages, Still, still_then}
 use Rattle.walcore.specs.Folding.{FoldAnswer}
-use Rattle.crashdisk.specs.Keeps.{HadRefusal, TearsPages, Still}
 use Rattle.walcore.specs.Opening.{FileFault}
 use Rattle.walcore.specs.internal.Opening.{CountAnswer, FileJudged, FrontJudged}
 use Rattle.walcore.specs.Plans.{IsFit}
@@ -17,7 +14,6 @@ use Rattle.walcore.specs.declared.plan.Plan.{Plan}
 use Rattle.walcore.specs.declared.error.WalError.{WalError}
 use Rattle.walcore.specs.declared.error.WalError.TheVariants.{TooLarge, PageSize, Device}
 use Rattle.walcore.proofs.folds.AnswerOfParts.{look_refused, looked_bytes, read_folds, fold_looked}
-use Rattle.crashdisk.proofs.call.UnchangingCalls.{still_then}
 
 module _ {T : Type 0} (size : ℕ) (w : List ℕ) (fault : WalError) where
   pub front_unlooked : {U : Type 0} (called : Result U DiskError) (e : DiskError) (q : Result T WalError) (a b : DiskState) → IsSoundDisk a → (TearsPages size a → ⊥) → called ≡ Err e → q ≡ Err Device → Looks 0 called a b → FrontJudged size w fault q a b

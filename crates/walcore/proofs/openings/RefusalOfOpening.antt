@@ -4,13 +4,8 @@ use Rattle.std.specs.Prelude.{Result, Ok, Err, IfErr}
 use Rattle.std.proofs.lemmas.Bool.{cases_lt, cases_eq}
 use Rattle.sqwal.specs.Header.{named_size}
 use Rattle.sqwal.specs.Frames.{size_of, IsFront}
-use Rattle.crashdisk.specs.Call.{DiskState, IsSoundDisk, Syncs}
-use Rattle.crashdisk.specs.declared.file.File.TheVariants.{Log}
-use Rattle.sqval.specs.CommitFaults.{most_bytes}
-use Rattle.sqval.specs.Limits.{usual}
+use Rattle.recovery.proofs.Words.{DiskState, IsSoundDisk, Syncs, Log, most_bytes, usual, HadRefusal, TearsPages, KeepsBytes, Still, Files, refusal_after, present_in, if_err, AreFiles}
 use Rattle.walcore.specs.Folding.{FoldAnswer}
-use Rattle.crashdisk.specs.Keeps.{HadRefusal, TearsPages, KeepsBytes, Still}
-use Rattle.sqval.specs.Answers.{Files}
 use Rattle.walcore.specs.Opening.{IsCounted, OpenRefused, MayOpen}
 use Rattle.walcore.specs.internal.Opening.{CountAnswer, FileJudged}
 use Rattle.walcore.specs.declared.folding.Folded.{Folded}
@@ -18,9 +13,6 @@ use Rattle.walcore.specs.declared.error.WalError.{WalError}
 use Rattle.walcore.specs.declared.error.WalError.TheVariants.{TooLarge, PageSize, Device}
 use Rattle.walcore.proofs.folds.LengthOfDatabaseFile.{front_none}
 use Rattle.walcore.proofs.folds.AnswerOfParts.{bytes_then, fold_then, synced_bytes, synced_later, synced_fits, looked_bytes, fits_still}
-use Rattle.crashdisk.proofs.call.UnchangingCalls.{refusal_after, present_in}
-use Rattle.sqval.proofs.database.AnswersOfEngine.{if_err}
-use Rattle.recovery.specs.Files.{AreFiles}
 
 pub device_refused : (size : ℕ) (db w : List ℕ) (e : WalError) (a b : DiskState) → (TearsPages size a → ⊥) → e ≡ Device → HadRefusal a b → OpenRefused size db w e a b
 device_refused size db w e a b fits is had = subst (λ (x : WalError). OpenRefused size db w x a b) (sym is) (inl (fits, had))

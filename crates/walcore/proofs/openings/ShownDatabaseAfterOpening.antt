@@ -1,32 +1,19 @@
 -- Where nothing of the log was unsynced and all that a crash may leave showed one database, it does so after an opening.
 use Rattle.std.proofs.Common.{◌≡◌, inl, ⊎_elim, ℕ, ◌+◌, ◌≤◌, max, List, length, refl, sym, ◌∙◌, subst, arith, ap, []}
 use Rattle.std.specs.Prelude.{Result, Ok, Err, OnOk}
-use Rattle.sqval.specs.Database.{Database}
-use Rattle.sqval.specs.Limits.{Bounds}
+use Rattle.recovery.proofs.Words.{Database, Bounds, FileState, IsImage, WriteTouches, written, byte, DiskState, IsSoundDisk, Writes, Syncs, Log, DiskError, table, image_elsewhere, present_list, IsLogDurable, Still, down_syncs, synced_down, sound_writes, down_still, ShowsAlone, MayBeRead, Agrees, read_cases}
 use Rattle.sqwal.specs.Header.{named_size}
 use Rattle.sqwal.specs.Frames.{IsFront}
 use Rattle.sqwal.specs.View.{IsView}
 use Rattle.sqwal.proofs.log.DependenceOnPrefix.{frame_end-suc, frame_end-zero}
 use Rattle.sqwal.proofs.log.UniquenessOfView.{front_unique}
-use Rattle.crashdisk.specs.State.{FileState, IsImage, WriteTouches, written, byte}
-use Rattle.crashdisk.specs.Call.{DiskState, IsSoundDisk, Writes, Syncs}
-use Rattle.crashdisk.specs.declared.file.File.TheVariants.{Log}
-use Rattle.crashdisk.specs.declared.error.DiskError.{DiskError}
-use Rattle.crashdisk.proofs.image.OriginOfImages.{table}
-use Rattle.crashdisk.proofs.call.EffectsOfCalls.{image_elsewhere, present_list}
 use Rattle.walcore.specs.Alone.{Show, wal_log}
-use Rattle.walcore.specs.Folding.{IsEmptyDown, FoldAnswerWithin, FoldsWithin}
-use Rattle.crashdisk.specs.Keeps.{IsLogDown, Still}
+use Rattle.walcore.specs.Folding.{IsEmptyDurable, FoldAnswerWithin, FoldsWithin}
 use Rattle.walcore.specs.internal.Opening.{HeaderSteps}
 use Rattle.walcore.specs.declared.folding.Folded.{Folded}
 use Rattle.walcore.specs.declared.error.WalError.{WalError}
 use Rattle.walcore.proofs.crash.ImagesOfSyncedLog.{down_left}
-use Rattle.crashdisk.proofs.sync.BytesOfSyncedLog.{down_syncs, synced_down}
-use Rattle.crashdisk.proofs.call.SoundDiskUnderCalls.{sound_writes}
-use Rattle.walcore.proofs.folds.LengthOfDatabaseFile.{down_still}
 use Rattle.walcore.proofs.restart.NewHeaderOverLog.{greatest_changed}
-use Rattle.recovery.specs.Logs.{ShowsAlone, MayBeRead, Agrees}
-use Rattle.recovery.proofs.ShownDatabase.{read_cases}
 use Rattle.recovery.proofs.NarrowedImages.{alone_read, alone_still, alone_syncs}
 
 module _ (size : ℕ) (d : Database) where
@@ -48,12 +35,12 @@ module _ (size : ℕ) (d : Database) where
       } in
       (λ one. absurd (omega arith), subst (λ (j : ℕ). IsView size db w j d) (sym z) here)
 
-  module _ {T : Type 0} (f v : List ℕ) (long : length f ≡ 32) (old_short : length v ≤ 32) (s : DiskState) (sound : IsSoundDisk s) (down : IsLogDown s v) (alone : ShowsAlone wal_log size d s) where
+  module _ {T : Type 0} (f v : List ℕ) (long : length f ≡ 32) (old_short : length v ≤ 32) (s : DiskState) (sound : IsSoundDisk s) (durable : IsLogDurable s v) (alone : ShowsAlone wal_log size d s) where
     written_read : (called : Result T DiskError) (t : DiskState) → Writes Log 0 f called s t → (db w : List ℕ) → IsImage t.sector t.tears t.db db → MayBeRead wal_log t w → Show size db w d
     written_read called t wrote db w image may =
         let top = greatest_changed s.sector (WriteTouches s.sector s.log 0 f) (written s.log 0 f) (max s.log.len (0 + length f)) called s.log t.log wrote.file in
-        let short : length w ≤ 32 = ⊎_elim (λ listed. omega (arith, listed.greatest, top, down.settled.greatest, down.settled.len, long, old_short)) (λ left. omega (arith, left.1.greatest, top, down.settled.greatest, down.settled.len, long, old_short)) (read_cases wal_log t w may) in
-        short_shows db v w old_short short (alone.images db v (image_elsewhere Log called s t wrote.elsewhere db image) (down_left v s down))
+        let short : length w ≤ 32 = ⊎_elim (λ listed. omega (arith, listed.greatest, top, durable.settled.greatest, durable.settled.len, long, old_short)) (λ left. omega (arith, left.1.greatest, top, durable.settled.greatest, durable.settled.len, long, old_short)) (read_cases wal_log t w may) in
+        short_shows db v w old_short short (alone.images db v (image_elsewhere Log called s t wrote.elsewhere db image) (down_left v s durable))
 
     -- the header is written, or not
     pub header_alone : (r : Result T WalError) (t : DiskState) → HeaderSteps f r s t → ShowsAlone wal_log size d t
@@ -67,20 +54,20 @@ module _ (size : ℕ) (d : Database) where
 -- ---- an opening
 
 pub agrees_then : (size : ℕ) (a b c : DiskState) → Agrees wal_log size a b → ((d : Database) → ShowsAlone wal_log size d b → ShowsAlone wal_log size d c) → Agrees wal_log size a c
-agrees_then size a b c first second w d down alone = second d (first w d down alone)
+agrees_then size a b c first second w d durable alone = second d (first w d durable alone)
 
 pub agrees_synced : {T : Type 0} (size : ℕ) (r : Result T DiskError) (a b : DiskState) → IsSoundDisk a → Syncs Log r a b → Agrees wal_log size a b
-agrees_synced size r a b sound synced w d down alone = alone_syncs wal_log size d Log r a b sound synced alone
+agrees_synced size r a b sound synced w d durable alone = alone_syncs wal_log size d Log r a b sound synced alone
 
 -- a sync and then more
 pub agrees_after : {T : Type 0} (size : ℕ) (r : Result T DiskError) (a b c : DiskState) → IsSoundDisk a → Syncs Log r a b → Agrees wal_log size b c → Agrees wal_log size a c
-agrees_after size r a b c sound synced then w d down alone = then w d (down_syncs w Log r a b down synced) (alone_syncs wal_log size d Log r a b sound synced alone)
+agrees_after size r a b c sound synced then w d durable alone = then w d (down_syncs w Log r a b durable synced) (alone_syncs wal_log size d Log r a b sound synced alone)
 
 -- what a sync and a fold leave of the log
-pub synced_empty : {T : Type 0} {u : T} (a b : DiskState) → IsSoundDisk a → Syncs Log (Ok u) a b → IsEmptyDown b
+pub synced_empty : {T : Type 0} {u : T} (a b : DiskState) → IsSoundDisk a → Syncs Log (Ok u) a b → IsEmptyDurable b
 synced_empty a b sound synced zero = synced_down [] a b sound (record { len = sym (sym synced.file.len ∙ zero); each = λ i lt. absurd (omega (arith, synced.file.len)) }) synced
 
-pub folded_empty : (limits : Bounds) (size : ℕ) (f : Folded) (r : Result Folded WalError) (b c : DiskState) → r ≡ Ok f → FoldsWithin limits size r b c → IsLogDown c []
+pub folded_empty : (limits : Bounds) (size : ℕ) (f : Folded) (r : Result Folded WalError) (b c : DiskState) → r ≡ Ok f → FoldsWithin limits size r b c → IsLogDurable c []
 folded_empty limits size f r b c was folds =
     let db = table b.db.len (byte b.db) in
     let w = table b.log.len (byte b.log) in
@@ -92,7 +79,7 @@ on_ok (Err e) P p = tt
 
 -- a look first
 pub agrees_looked : (size : ℕ) (a b c : DiskState) → IsSoundDisk a → Still a b → Agrees wal_log size b c → Agrees wal_log size a c
-agrees_looked size a b c sound still then w d down alone = then w d (down_still w a b still down) (alone_still wal_log size d a b sound still alone)
+agrees_looked size a b c sound still then w d durable alone = then w d (down_still w a b still durable) (alone_still wal_log size d a b sound still alone)
 
-pub still_empty : (a b : DiskState) → Still a b → IsEmptyDown a → IsEmptyDown b
+pub still_empty : (a b : DiskState) → Still a b → IsEmptyDurable a → IsEmptyDurable b
 still_empty a b still empty zero = down_still [] a b still (empty (ap (λ (f : FileState). f.len) (sym still.log) ∙ zero))

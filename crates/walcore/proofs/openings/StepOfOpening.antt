@@ -3,23 +3,14 @@ use Rattle.std.proofs.Common.{◌≡◌, ◌⊎◌, inl, inr, ⊎_elim, ℕ, suc
 use Rattle.std.specs.Prelude.{Result, Ok, Err, sum_by}
 use Rattle.std.proofs.Math.ListN.{get_or-map}
 use Rattle.std.proofs.lemmas.List.{get_or-take, length-take-le}
-use Rattle.sqval.specs.Database.{Database}
+use Rattle.recovery.proofs.Words.{Database, IsImage, DiskState, IsSoundDisk, Writes, Syncs, Log, DiskError, written_inside, present_written, HasCause, Files, IsJust, IsHeld, HadRefusal, Later, Suits, TellsRefusal, told_err, told_ok, none_ok, later_sync, later_write, later_then, later_same, later_wider, sound_writes, had_refusal, refusal_after, suits_by, MayRefuse, may_after, ShowsWhole, narrows_syncs, quiet_ok, tells_then}
 use Rattle.sqwal.specs.Frames.{summed}
 use Rattle.sqwal.specs.Sums.{IsSumOf}
 use Rattle.sqwal.specs.Header.{IsHeaderOf}
 use Rattle.sqwal.specs.declared.sum.Sum.{Sum}
 use Rattle.sqwal.specs.declared.header.WalHeader.{WalHeader}
 use Rattle.sqwal.proofs.log.DependenceOnPrefix.{frame_end-zero}
-use Rattle.crashdisk.specs.State.{IsImage}
-use Rattle.crashdisk.specs.Call.{DiskState, IsSoundDisk, Writes, Syncs}
-use Rattle.crashdisk.specs.declared.file.File.TheVariants.{Log}
-use Rattle.crashdisk.specs.declared.error.DiskError.{DiskError}
-use Rattle.crashdisk.proofs.call.SoundFileUnderChanges.{written_inside}
-use Rattle.crashdisk.proofs.call.EffectsOfCalls.{present_written}
 use Rattle.walcore.specs.Refusal.{number_of}
-use Rattle.sqval.specs.Answers.{HasCause, Files}
-use Rattle.sqval.specs.Held.{IsJust, IsHeld}
-use Rattle.crashdisk.specs.Keeps.{HadRefusal, Later, Suits, TellsRefusal}
 use Rattle.walcore.specs.Machine.{Opens, opened, gone, forgotten}
 use Rattle.walcore.specs.Made.{AreMade, HasNewSalts, IsBegun}
 use Rattle.walcore.specs.Changes.{MayFold, MayBegin, MayChange}
@@ -31,8 +22,6 @@ use Rattle.walcore.specs.declared.reader.Reader.{Reader}
 use Rattle.walcore.specs.declared.state.Core.{Core}
 use Rattle.walcore.specs.declared.error.WalError.{WalError}
 use Rattle.walcore.specs.declared.error.WalError.TheVariants.{NoMemory, Device}
-use Rattle.crashdisk.proofs.call.DisksAfterCalls.{told_err, told_ok, none_ok, later_sync, later_write, later_then, later_same, later_wider}
-use Rattle.crashdisk.proofs.call.SoundDiskUnderCalls.{sound_writes}
 use Rattle.walcore.proofs.disk.PermittedChanges.{header_may}
 use Rattle.walcore.proofs.disk.ToldRefusals.{tells_header}
 use Rattle.walcore.proofs.machine.FitOverEmptyLog.{at_last, HasNoReader, fresh_core}
@@ -40,14 +29,7 @@ use Rattle.walcore.proofs.log.GrowthOfMadeLogs.{made_begun}
 use Rattle.walcore.proofs.crash.NarrowedImages.{history_narrows, headers_narrow, left_grown}
 use Rattle.walcore.proofs.log.PresentFrames.{present_syncs}
 use Rattle.walcore.proofs.restart.NewHeaderOverLog.{begin_stands, begin_shows}
-use Rattle.crashdisk.proofs.call.UnchangingCalls.{had_refusal, refusal_after}
-use Rattle.crashdisk.proofs.page.RecoverablePages.{suits_by}
-use Rattle.recovery.specs.internal.Steps.{MayRefuse}
-use Rattle.recovery.proofs.AnswersOfSteps.{may_after}
-use Rattle.recovery.specs.Logs.{ShowsWhole}
 use Rattle.walcore.specs.Alone.{wal_log}
-use Rattle.recovery.proofs.NarrowedImages.{narrows_syncs}
-use Rattle.recovery.proofs.ToldRefusals.{quiet_ok, tells_then}
 
 pub same_error : {T : Type 0} (x y : WalError) (r : Result T WalError) → r ≡ Err x → r ≡ Err y → x ≡ y
 same_error x y r a b = cc (a, b)
@@ -201,7 +183,7 @@ module _ (past : Past) (found : Files) (salts : ℕ × ℕ) (s : DiskState) (alo
 
     begins : {T : Type 0} (called : Result T DiskError) (t : DiskState) → Writes Log 0 f called a t
         → ShowsHistory past.state.page_size (f ∷ past.made.logs) (take (is.place + 1) past.state.history) past.state.floor t × HasMadeHeader (f ∷ past.made.logs) t
-    begins called t wrote = begin_shows past.state.page_size past.made.logs (take (is.place + 1) past.state.history) a t suits is.down some file f begun.alone called wrote past.state.floor low
+    begins called t wrote = begin_shows past.state.page_size past.made.logs (take (is.place + 1) past.state.history) a t suits is.durable some file f begun.alone called wrote past.state.floor low
 
     left_cut : (t : DiskState) → ShowsHistory past.state.page_size (f ∷ past.made.logs) (take (is.place + 1) past.state.history) past.state.floor t × HasMadeHeader (f ∷ past.made.logs) t
         → IsLeft past.state.page_size (f ∷ past.made.logs) past.state.history past.state.floor t
@@ -236,7 +218,7 @@ module _ (past : Past) (found : Files) (salts : ℕ × ℕ) (s : DiskState) (alo
         (later_header q t steps)
         (header_left q t steps)
 
-    -- it is down
+    -- it is durable
     module _ {T : Type 0} (v : T) (q : Result T WalError) (t : DiskState) (ok : q ≡ Ok v) (steps : HeaderSteps f q a t) where
       done : HeaderDone f begun.alone q a t suits.sound steps T
       done = header_done f begun.alone q a t suits.sound steps v ok

@@ -3,24 +3,16 @@ use Rattle.std.proofs.Common.{◌≡◌, inl, ℕ, ◌+◌, ◌-◌, ◌*◌, �
 use Rattle.std.specs.Prelude.{Result, Ok, Err, OnErr, IsTrue, Option, Some, None, slice_get}
 use Rattle.std.proofs.lemmas.List.{get_or-take, get_or-drop, length-take-le}
 use Rattle.std.proofs.lemmas.Grind.{same_number_lists}
-use Rattle.sqval.specs.Database.{Database, page, file_page}
+use Rattle.recovery.proofs.Words.{Database, page, file_page, byte, IsImage, longest, File, Db, Log, table, image_present, present_list, Answer, Page, Refused, Still, TellsRefusal, page_by_bytes, present_byte, refuses_first, none_above, is_zero, is_above, is_closed, refuses_cause, answered, at, quiet_ok}
 use Rattle.sqwal.specs.Frames.{frame_at, frame_end, content_of}
 use Rattle.sqwal.specs.View.{Unnamed, IsLast}
 use Rattle.sqwal.specs.Index.{FrameTable, IsNewest}
 use Rattle.sqwal.proofs.log.DependenceOnPrefix.{frame_at-end, frame_end-le}
-use Rattle.crashdisk.specs.State.{byte, IsImage, longest}
 use Rattle.crashdisk.specs.Call.{DiskState, IsSoundDisk, of}
-use Rattle.crashdisk.specs.declared.file.File.{File}
-use Rattle.crashdisk.specs.declared.file.File.TheVariants.{Db, Log}
-use Rattle.crashdisk.proofs.image.OriginOfImages.{table}
-use Rattle.crashdisk.proofs.byte.FixedBytes.{image_present}
-use Rattle.crashdisk.proofs.call.EffectsOfCalls.{present_list}
-use Rattle.sqval.specs.Answers.{Answer, Page, Refused}
 use Rattle.walcore.specs.Machine.{reader_at, Reads, ReadStep, read_refusal}
 use Rattle.walcore.specs.Refusal.{number_of}
 use Rattle.walcore.specs.Era.{IsBoundary, shown}
 use Rattle.walcore.specs.Standing.{Stands, IsPresent}
-use Rattle.crashdisk.specs.Keeps.{Still, TellsRefusal}
 use Rattle.crashdisk.specs.internal.Keeps.{PlaceAnswer}
 use Rattle.walcore.specs.Plans.{IsTable}
 use Rattle.walcore.specs.Paging.{ReadAnswer, Finds}
@@ -29,15 +21,9 @@ use Rattle.walcore.specs.declared.error.WalError.{WalError}
 use Rattle.walcore.specs.declared.error.WalError.TheVariants.{Closed, PageZero, PageAboveSize, BadLength, Device}
 use Rattle.walcore.specs.declared.reader.Reader.{Reader}
 use Rattle.walcore.specs.declared.state.Core.{Core}
-use Rattle.sqval.proofs.page.FilePages.{page_by_bytes}
 use Rattle.walcore.proofs.folds.CopiedPages.{hit_none, hit_last, page_fits}
-use Rattle.crashdisk.proofs.sync.BytesOfSyncedLog.{present_byte}
 use Rattle.walcore.proofs.machine.FitUnderUnchangedFiles.{SameCore, same_core, stays}
-use Rattle.sqval.proofs.database.AnswersOfEngine.{refuses_first, none_above, is_zero, is_above, is_closed, refuses_cause}
 use Rattle.walcore.proofs.read.MarksOfReaders.{at_slot, bound_at}
-use Rattle.recovery.specs.Moments.{answered}
-use Rattle.recovery.specs.Histories.{at}
-use Rattle.recovery.proofs.ToldRefusals.{quiet_ok}
 
 -- ---- where a page of a reader stands
 

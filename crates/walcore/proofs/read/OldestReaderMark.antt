@@ -5,7 +5,7 @@ use Rattle.std.specs.List.{sum_by, list_all}
 use Rattle.std.proofs.lemmas.Bool.{cases_eq}
 use Rattle.std.proofs.lemmas.Bool.Decides.{nat_tests}
 use Rattle.std.proofs.lemmas.List.Sums.{sum_by-cons}
-use Rattle.crashdisk.specs.Call.{DiskState}
+use Rattle.recovery.proofs.Words.{DiskState, last}
 use Rattle.walcore.specs.Machine.{reader_at, is_bound, all_newest}
 use Rattle.walcore.specs.Era.{IsBoundary}
 use Rattle.walcore.specs.Bringing.{IsOldest}
@@ -14,7 +14,6 @@ use Rattle.walcore.specs.Fits.{Past, IsBound, AreTogether, IsCore, times, has_ma
 use Rattle.walcore.specs.declared.state.Core.{Core}
 use Rattle.walcore.specs.declared.reader.Reader.{Reader}
 use Rattle.walcore.proofs.read.MarksOfReaders.{same_one, apart_one, bound_at}
-use Rattle.recovery.specs.Histories.{last}
 
 -- ---- marks and tokens
 

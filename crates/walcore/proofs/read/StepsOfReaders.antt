@@ -1,22 +1,17 @@
 -- A reader more, and a reader less.
-use Rattle.std.proofs.Common.{◌≡◌, inl, ℕ, ◌+◌, ◌<◌, Bool, true, false, cond, ◌==◌, List, ◌∷◌, ◌++◌, length, get_or, set, refl, sym, ◌∙◌, ap, subst, arith, length-append, []}
+use Rattle.std.proofs.Common.{◌≡◌, inl, ℕ, ◌+◌, ◌<◌, Bool, true, cond, ◌==◌, List, ◌∷◌, ◌++◌, length, get_or, set, refl, sym, ◌∙◌, ap, subst, arith, length-append, []}
 use Rattle.std.specs.Prelude.{IsTrue, Option, Some, None, not, slice_get}
 use Rattle.std.proofs.lemmas.List.{length-set}
-use Rattle.crashdisk.specs.Call.{DiskState}
+use Rattle.recovery.proofs.Words.{DiskState, first_true, Still, same_files, last}
 use Rattle.sqval.specs.Answers.{Done, Reader as ReaderAnswer, Refused, Refuses}
 use Rattle.walcore.specs.Machine.{State, reader_at, Begins, Ends, EndStep, call_refusal, begun, ended}
-use Rattle.sqval.specs.CommitFaults.{first_true}
 use Rattle.walcore.specs.Era.{IsBoundary}
-use Rattle.crashdisk.specs.Keeps.{Still}
-use Rattle.crashdisk.proofs.call.UnchangingCalls.{same_files}
 use Rattle.walcore.specs.Fits.{Past, FitsDisk, IsBound, AreTogether, IsCore, FitsCore, StepsTo, times}
 use Rattle.walcore.specs.declared.state.Core.{Core}
 use Rattle.walcore.specs.declared.reader.Reader.{Reader}
 use Rattle.walcore.proofs.disk.PermittedChanges.{nothing_may}
 use Rattle.walcore.proofs.machine.FitUnderUnchangedFiles.{SameCore, fits_disk_still, core_same, stays}
 use Rattle.walcore.proofs.read.MarksOfReaders.{at_slot, bound_at, together_map, together_push, together_set, emptied, mark_pushed}
-use Rattle.sqval.proofs.database.AnswersOfEngine.{refuses_first}
-use Rattle.recovery.specs.Histories.{last}
 
 -- ---- a past with other readers
 
@@ -50,17 +45,13 @@ module _ (past : Past) (places : List (Option ℕ)) (tokens : List (Option Reade
     unsynced = is.unsynced;
     some = is.some;
     drained = is.drained;
-    down = is.down;
+    durable = is.durable;
     filed = is.filed;
     readers = readers;
     page = is.page;
   }
 
 -- ---- refusals
-
--- a call of a closed engine
-pub closed_refusal : (s : State) → s.is_open ≡ false → call_refusal s ≡ Some 1
-closed_refusal s e = ap (λ b. first_true ((not b, 1) ∷ [])) e
 
 pub open_refusal : (s : State) → s.is_open ≡ true → call_refusal s ≡ None
 open_refusal s e = ap (λ b. first_true ((not b, 1) ∷ [])) e
@@ -69,10 +60,6 @@ pub refuses_memory : {S : Type 0} (o : Option ℕ) (failed s : S) (before after 
 refuses_memory o failed s before after e = subst (λ (x : Option ℕ). Refuses x true failed before after s 14 s) (sym e) (inl (refl, refl, refl))
 
 module _ (a b : Core) (s t : DiskState) (past : Past) (fits : FitsCore past a s) (same : SameCore a b) (still : Still s t) (quiet : t.refused ≡ s.refused) where
-  pub begin_closed : a.is_open ≡ false → b.marks.items ≡ a.marks.items → StepsTo past past.tokens Begins (Refused 1) b s t
-  begin_closed shut marks = stays a b s t same still past Begins (Refused 1) marks fits (λ more. absurd (omega (arith, quiet, more)))
-      (refuses_first (call_refusal past.state) 1 true _ past.state _ _ (closed_refusal past.state (sym fits.is_open ∙ shut))) refl
-
   pub begin_memory : a.is_open ≡ true → b.marks.items ≡ a.marks.items → StepsTo past past.tokens Begins (Refused 14) b s t
   begin_memory is marks = stays a b s t same still past Begins (Refused 14) marks fits (λ more. absurd (omega (arith, quiet, more)))
       (refuses_memory (call_refusal past.state) _ past.state _ _ (open_refusal past.state (sym fits.is_open ∙ is))) refl

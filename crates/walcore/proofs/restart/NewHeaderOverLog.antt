@@ -5,34 +5,18 @@ use Rattle.std.specs.List.{Contains}
 use Rattle.std.proofs.lemmas.List.{take_all}
 use Rattle.std.proofs.lemmas.List.Elements.{Contains-push_cases}
 use Rattle.std.proofs.Math.Nat.{div-eq_of_lt}
-use Rattle.crashdisk.specs.State.{FileState, IsImage, WriteTouches, written}
-use Rattle.crashdisk.specs.Call.{DiskState, IsSoundDisk, ArePresent, Writes, Syncs, ChangedBy, with_write, SinceSync}
-use Rattle.crashdisk.specs.Facts.{HasFixed}
-use Rattle.crashdisk.specs.internal.Facts.{AltersFile}
-use Rattle.crashdisk.specs.declared.file.File.TheVariants.{Log}
-use Rattle.crashdisk.specs.declared.error.DiskError.{DiskError}
-use Rattle.crashdisk.specs.declared.error.DiskError.TheVariants.{Stopped, Failed, TooLong, NoMemory}
-use Rattle.crashdisk.proofs.call.WritesInOneRange.{started, then_write}
-use Rattle.crashdisk.proofs.byte.SettledFiles.{settled_one}
-use Rattle.crashdisk.proofs.call.SoundFileUnderChanges.{written_inside}
+use Rattle.recovery.proofs.Words.{FileState, IsImage, WriteTouches, written, DiskState, IsSoundDisk, ArePresent, Writes, Syncs, ChangedBy, with_write, SinceSync, HasFixed, AltersFile, Log, DiskError, Stopped, Failed, TooLong, NoMemory, started, then_write, settled_one, written_inside, part, Database, IsJust, IsHeld, IsLogDurable, Suits, sector_some, suits_writes, suits_syncs, sector_within, file_syncs, MayBeRead, read_cases}
 use Rattle.crashdisk.proofs.call.EffectsOfCalls.{image_write, image_elsewhere, fixed_written, present_written}
-use Rattle.sqval.specs.Bytes.{part}
-use Rattle.sqval.specs.Database.{Database}
 use Rattle.sqwal.specs.Header.{IsHeader, named_size}
 use Rattle.sqwal.specs.Frames.{frame_end, IsFront}
 use Rattle.sqwal.specs.Log.{IsLog}
 use Rattle.sqwal.proofs.log.DependenceOnPrefix.{frame_end-suc, frame_end-zero, frame_end-head}
 use Rattle.sqwal.proofs.log.ExistenceOfFront.{front_exists}
 use Rattle.walcore.specs.Alone.{AreWhole, wal_log}
-use Rattle.sqval.specs.Held.{IsJust, IsHeld}
-use Rattle.crashdisk.specs.Keeps.{IsLogDown, Suits}
 use Rattle.walcore.specs.Made.{AreMade, HasNewSalts, IsBegun}
 use Rattle.walcore.specs.Era.{shown}
-use Rattle.walcore.specs.internal.Era.{IsDown}
+use Rattle.walcore.specs.internal.Era.{IsDurable}
 use Rattle.walcore.specs.Standing.{ShowsHistory, HasMadeHeader, Stands}
-use Rattle.crashdisk.proofs.page.PlacesOfPages.{sector_some}
-use Rattle.crashdisk.proofs.page.RecoverablePages.{suits_writes, suits_syncs, sector_within}
-use Rattle.crashdisk.proofs.sync.BytesOfSyncedLog.{file_syncs}
 use Rattle.walcore.proofs.folds.ZeroedHeader.{zeros_bad}
 use Rattle.walcore.proofs.log.GrowthOfMadeLogs.{made_here, made_before, made_begun, begun_log}
 use Rattle.walcore.proofs.crash.FrontOfSurvivingLog.{same_front, just_file}
@@ -40,8 +24,6 @@ use Rattle.walcore.proofs.crash.HistoryInCrashImages.{down_image, down_head}
 use Rattle.walcore.proofs.log.EraOfExtendedLog.{era_begin}
 use Rattle.walcore.proofs.disk.UntornDisk.{untorn, writes_untorn, syncs_untorn}
 use Rattle.walcore.proofs.restart.ShownDatabaseDuringRestart.{just_shows, turned_shows, altered_rest}
-use Rattle.recovery.specs.Logs.{MayBeRead}
-use Rattle.recovery.proofs.ShownDatabase.{read_cases}
 
 zero_plus : (i : ℕ) → 0 + i ≡ i
 zero_plus i = omega arith
@@ -103,20 +85,17 @@ module _ {T : Type 0} (size : ℕ) (logs : List (List ℕ)) (e : List ℕ) (n : 
   small : s.tears ≡ true → s.sector ≤ size
   small torn = sector_within size s stands.suits torn
 
-  fits : 32 ≤ length e
-  fits = omega (arith, stands.era.log.whole, frame_end-head size n)
-
   -- what stood behind the header
   listed_rest : (w : List ℕ) → IsImage t.sector false t.log w → (frame_end size d ≤ length w) × ((i : ℕ) → frame_end size 1 ≤ i → i < frame_end size d → get_or w i 0 ≡ get_or e i 0)
   listed_rest w image =
       let alters = then_write Log 0 32 0 f result (untorn s) (untorn s) (untorn t) (omega arith) (omega (arith, begun.alone)) (started Log 0 32 (untorn s) stands.suits.sound.log) (writes_untorn result s t 0 f wrote) in
-      altered_rest size s.sector false e n d s.log t.log stands.era.log stands.marks.down wide (λ torn. absurd (cc torn)) stands.suits.sound.log stands.log.listed alters.file w (subst (λ (k : ℕ). IsImage k false t.log w) wrote.elsewhere.sector image)
+      altered_rest size s.sector false e n d s.log t.log stands.era.log stands.marks.durable wide (λ torn. absurd (cc torn)) stands.suits.sound.log stands.log.listed alters.file w (subst (λ (k : ℕ). IsImage k false t.log w) wrote.elsewhere.sector image)
 
   old_header : (w v : List ℕ) → 32 ≤ length w → IsImage s.sector false s.log v → ((i : ℕ) → i < 32 → get_or w i 0 ≡ get_or v i 0) → take 32 w ≡ take 32 e
   old_header w v long image same =
-      let down : IsDown size e d v = down_image size e n d s.sector false s.log stands.era.log stands.marks.down stands.log.listed v image in
-      let first : take 32 w ≡ take 32 v = same_front w v 32 long (omega (arith, down.long, frame_end-head size d)) same in
-      first ∙ down_head size e v d down
+      let durable : IsDurable size e d v = down_image size e n d s.sector false s.log stands.era.log stands.marks.durable stands.log.listed v image in
+      let first : take 32 w ≡ take 32 v = same_front w v 32 long (omega (arith, durable.long, frame_end-head size d)) same in
+      first ∙ down_head size e v d durable
 
   -- the old header or the new one
   listed_head : (w : List ℕ) → IsImage t.sector false t.log w → (take 32 w ≡ take 32 e) ⊎ (take 32 w ≡ take 32 f)
@@ -127,7 +106,7 @@ module _ {T : Type 0} (size : ℕ) (logs : List (List ℕ)) (e : List ℕ) (n : 
   torn_left : s.tears ≡ true → 1 ≤ d → (w : List ℕ) → IsImage t.sector true t.log w → (frame_end size d ≤ length w) × ((i : ℕ) → frame_end size 1 ≤ i → i < frame_end size d → get_or w i 0 ≡ get_or e i 0)
   torn_left torn some w image =
       let alters = then_write Log 0 32 0 f result s s t (omega arith) (omega (arith, begun.alone)) (started Log 0 32 s stands.suits.sound.log) wrote in
-      altered_rest size s.sector true e n d s.log t.log stands.era.log stands.marks.down wide small_at stands.suits.sound.log (stands.log.torn torn some)
+      altered_rest size s.sector true e n d s.log t.log stands.era.log stands.marks.durable wide small_at stands.suits.sound.log (stands.log.torn torn some)
       (subst (λ (b : Bool). AltersFile s.sector b 0 32 s.log t.log) torn alters.file) w (subst (λ (k : ℕ). IsImage k true t.log w) wrote.elsewhere.sector image)
     where
       small_at : true ≡ true → s.sector ≤ size
@@ -154,7 +133,7 @@ module _ {T : Type 0} (size : ℕ) (logs : List (List ℕ)) (e : List ℕ) (n : 
       index n,
       low,
       omega (arith, stands.era.last),
-      λ db image. turned_shows size (f ∷ logs) e f n mark d h index stands.era stands.marks.down stands.marks.down_ends newest (made_begun size sequence salt1 salt2 logs f stands.are_made begun new) (made_before f e logs stands.in_made) (made_here f logs)
+      λ db image. turned_shows size (f ∷ logs) e f n mark d h index stands.era stands.marks.durable stands.marks.durable_ends newest (made_begun size sequence salt1 salt2 logs f stands.are_made begun new) (made_before f e logs stands.in_made) (made_here f logs)
           (begun_log size sequence salt1 salt2 f begun) w chance (headers_left w may) (stood w may) db (drained db (image_elsewhere Log result s t wrote.elsewhere db image)),
     ),
     λ w may header. ⊎_elim
@@ -165,7 +144,7 @@ module _ {T : Type 0} (size : ℕ) (logs : List (List ℕ)) (e : List ℕ) (n : 
 
 -- ---- a new log
 
--- When the header is down its era begins, over the last database of the history, which is in the file.
+-- When the header is durable its era begins, over the last database of the history, which is in the file.
 module _ {T U : Type 0} {u : T} {v : U} (size : ℕ) (logs : List (List ℕ)) (h : List Database) (s mid t : DiskState) (suits : Suits size s) (are : AreMade size logs) (some : 1 ≤ length h) (held : (i : ℕ) → i < length h → IsHeld size (get_or h i []))
     (file : (db : List ℕ) → IsImage s.sector s.tears s.db db → IsJust size (get_or h (length h - 1) []) db)
     (sequence salt1 salt2 : ℕ) (f : List ℕ) (begun : IsBegun size sequence salt1 salt2 f) (new : HasNewSalts logs salt1 salt2) (wrote : Writes Log 0 f (Ok u) s mid) (synced : Syncs Log (Ok v) mid t) where
@@ -181,7 +160,7 @@ module _ {T U : Type 0} {u : T} {v : U} (size : ℕ) (logs : List (List ℕ)) (h
         are_made = made_begun size sequence salt1 salt2 logs f are begun new;
         in_made = made_here f logs;
         era = era_begin size f h log some held;
-        marks = record { down = omega arith; down_ends = inl refl; begun = omega arith; begun_ends = inl refl };
+        marks = record { durable = omega arith; durable_ends = inl refl; begun = omega arith; begun_ends = inl refl };
         log = record {
           listed = fixed false (fixed_written Log 0 f (untorn s) (untorn mid) (untorn t) (writes_untorn (Ok u) s mid 0 f wrote) (syncs_untorn (Ok v) mid t synced));
           torn = λ torn one. absurd (omega arith);
@@ -208,11 +187,11 @@ greatest_changed sector touches target end (Err TooLong) old new same = subst (�
 greatest_changed sector touches target end (Err NoMemory) old new same = subst (λ (x : FileState). x.greatest ≤ max old.greatest end) (sym same) (omega arith)
 
 -- Whatever the write of the header into an empty log answered, what is left shows the last database.
-module _ {T : Type 0} (size : ℕ) (logs : List (List ℕ)) (h : List Database) (s t : DiskState) (suits : Suits size s) (down : IsLogDown s []) (some : 1 ≤ length h)
+module _ {T : Type 0} (size : ℕ) (logs : List (List ℕ)) (h : List Database) (s t : DiskState) (suits : Suits size s) (durable : IsLogDurable s []) (some : 1 ≤ length h)
     (file : (db : List ℕ) → IsImage s.sector s.tears s.db db → IsJust size (get_or h (length h - 1) []) db)
     (f : List ℕ) (alone : length f ≡ 32) (result : Result T DiskError) (wrote : Writes Log 0 f result s t) where
   short : (b : Bool) (w : List ℕ) → IsImage t.sector b t.log w → length w ≤ 32
-  short b w image = omega (arith, image.greatest, greatest_changed s.sector (WriteTouches s.sector s.log 0 f) (written s.log 0 f) (max s.log.len (0 + length f)) result s.log t.log wrote.file, down.settled.greatest, down.settled.len, alone)
+  short b w image = omega (arith, image.greatest, greatest_changed s.sector (WriteTouches s.sector s.log 0 f) (written s.log 0 f) (max s.log.len (0 + length f)) result s.log t.log wrote.file, durable.settled.greatest, durable.settled.len, alone)
 
   is_short : (w : List ℕ) → MayBeRead wal_log t w → length w ≤ 32
   is_short w may = ⊎_elim (λ image. short false w image) (λ left. short true w left.1) (read_cases wal_log t w may)
@@ -221,15 +200,15 @@ module _ {T : Type 0} (size : ℕ) (logs : List (List ℕ)) (h : List Database) 
   begun_header w may header = ⊎_elim
       (λ image. ⊎_elim
       (λ is. is)
-      (λ was. absurd (zeros_bad (named_size w) w (λ i lt. was.2 i (omega arith) ∙ ap (λ (x : List ℕ). get_or x i 0) (settled_one s.log [] down.settled s.sector false was.0 was.1)) header))
+      (λ was. absurd (zeros_bad (named_size w) w (λ i lt. was.2 i (omega arith) ∙ ap (λ (x : List ℕ). get_or x i 0) (settled_one s.log [] durable.settled s.sector false was.0 was.1)) header))
       (listed_header f result s t alone suits.sound (sector_some s.sector suits.sectors) wrote w header.whole image))
       (λ left.
       let was : s.tears ≡ true = sym wrote.elsewhere.tears ∙ left.0 in
       ⊎_elim
       (λ is. is)
-      (λ is. absurd (let none : 32 ≤ length {A = ℕ} [] = subst (λ (x : List ℕ). 32 ≤ length x) (down.kept was) is.0 in omega arith))
+      (λ is. absurd (let none : 32 ≤ length {A = ℕ} [] = subst (λ (x : List ℕ). 32 ≤ length x) (durable.kept was) is.0 in omega arith))
       (torn_header f result s t alone suits.sound (sector_some s.sector suits.sectors) wrote w
-      (λ write has. absurd (let none : Contains [] write = subst (λ (l : List (ℕ × List ℕ)). Contains l write) down.handed has in omega (arith, none.1))) left.2 header))
+      (λ write has. absurd (let none : Contains [] write = subst (λ (l : List (ℕ × List ℕ)). Contains l write) durable.handed has in omega (arith, none.1))) left.2 header))
       (read_cases wal_log t w may)
 
   front_zero : (w : List ℕ) → MayBeRead wal_log t w → IsFront (named_size w) w 0

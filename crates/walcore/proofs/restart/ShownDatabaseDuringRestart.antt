@@ -6,10 +6,7 @@ use Rattle.std.proofs.lemmas.Bool.{cases_lt}
 use Rattle.std.proofs.lemmas.Nat.{le-div}
 use Rattle.std.proofs.lemmas.List.{get_or-take, length-take-le}
 use Rattle.std.proofs.Math.Nat.{div-eq_of_lt}
-use Rattle.crashdisk.specs.State.{FileState, IsSound, IsImage}
-use Rattle.crashdisk.specs.Facts.{HasFixed}
-use Rattle.crashdisk.specs.internal.Facts.{Spreads, AltersFile}
-use Rattle.sqval.specs.Database.{Database, page, IsFile}
+use Rattle.recovery.proofs.Words.{FileState, IsSound, IsImage, HasFixed, Spreads, AltersFile, Database, page, IsFile, IsJust, ShowsWhole}
 use Rattle.sqwal.specs.Header.{IsHeader, named_size}
 use Rattle.sqwal.specs.Frames.{frame_end, Passes, IsFront}
 use Rattle.sqwal.specs.Log.{IsLog}
@@ -17,13 +14,11 @@ use Rattle.sqwal.specs.View.{IsOver, IsView}
 use Rattle.sqwal.proofs.log.DependenceOnPrefix.{frame_end-suc, frame_end-zero, frame_end-head, frame_end-le, take_less}
 use Rattle.sqwal.proofs.log.ExistenceOfFront.{front_exists}
 use Rattle.sqwal.proofs.log.UniquenessOfView.{front_unique, view_file, view_same}
-use Rattle.sqval.specs.Held.{IsJust}
 use Rattle.walcore.specs.Made.{AreMade, NoChance}
 use Rattle.walcore.specs.Era.{IsBoundary, shown, IsEra}
-use Rattle.walcore.specs.internal.Era.{IsDown}
+use Rattle.walcore.specs.internal.Era.{IsDurable}
 use Rattle.walcore.proofs.crash.OriginOfValidFrames.{known, named_same}
 use Rattle.walcore.proofs.crash.FrontOfSurvivingLog.{same_front, just_file, Fronts, fronts, down_front}
-use Rattle.recovery.specs.Logs.{ShowsWhole}
 use Rattle.walcore.specs.Alone.{wal_log}
 
 -- a log of no frames, or with no valid one, over a file that is just the database
@@ -34,16 +29,16 @@ just_shows size db w d just file front = record {
 }
 
 -- of the n frames of the log e those up to d are there, and with them the last database
-module _ (size : ℕ) (logs : List (List ℕ)) (e f : List ℕ) (n mark d : ℕ) (h : List Database) (index : ℕ → ℕ) (era : IsEra size e n mark h index) (down : d ≤ n) (down_ends : IsBoundary size e d) (newest : mark ≤ d)
+module _ (size : ℕ) (logs : List (List ℕ)) (e f : List ℕ) (n mark d : ℕ) (h : List Database) (index : ℕ → ℕ) (era : IsEra size e n mark h index) (durable : d ≤ n) (durable_ends : IsBoundary size e d) (newest : mark ≤ d)
     (are : AreMade size logs) (in_e : Contains logs e) (in_f : Contains logs f) (log_f : IsLog size f 0) (w : List ℕ) (chance : NoChance logs w)
     (headers : IsHeader (named_size w) w → (take 32 w ≡ take 32 e) ⊎ (take 32 w ≡ take 32 f))
     (stood : 1 ≤ d → (frame_end size d ≤ length w) × ((i : ℕ) → frame_end size 1 ≤ i → i < frame_end size d → get_or w i 0 ≡ get_or e i 0)) where
   -- with the first frame all of them are there
-  turned_down : (m : ℕ) → 1 ≤ m → 1 ≤ d → Fronts size e n w m → IsDown size e d w
+  turned_down : (m : ℕ) → 1 ≤ m → 1 ≤ d → Fronts size e n w m → IsDurable size e d w
   turned_down m some one is =
       let behind = stood one in
       let first : take (frame_end size 1) w ≡ take (frame_end size 1) e = take_less w e (frame_end size m) (frame_end size 1) is.same (frame_end-le size 1 m some) in
-      let long_e : frame_end size d ≤ length e = omega (arith, era.log.whole, frame_end-le size d n down) in
+      let long_e : frame_end size d ≤ length e = omega (arith, era.log.whole, frame_end-le size d n durable) in
       let each : (i : ℕ) → i < frame_end size d → get_or w i 0 ≡ get_or e i 0 = λ i lt. ⊎_elim
       (λ low. sym (get_or-take (frame_end size 1) w i 0 low) ∙ ap (λ x. get_or x i 0) first ∙ get_or-take (frame_end size 1) e i 0 low)
       (λ high. behind.1 i high lt)
@@ -79,7 +74,7 @@ module _ (size : ℕ) (logs : List (List ℕ)) (e f : List ℕ) (n mark d : ℕ)
       let named : named_size w ≡ size = named_same size e w era.log.header head in
       let front : IsFront size w m = subst (λ (k : ℕ). IsFront k w m) named found.1 in
       let is : Fronts size e n w m = fronts size logs e w n m are in_e era.log chance head front in
-      let later : d ≤ m = ⊎_elim (λ lt. omega arith) (λ one. down_front size e w n d m era.log down down_ends (turned_down m v.0.first one is) front) (cases_lt d 1) in
+      let later : d ≤ m = ⊎_elim (λ lt. omega arith) (λ one. down_front size e w n d m era.log durable durable_ends (turned_down m v.0.first one is) front) (cases_lt d 1) in
       record {
         shows = λ k front_k. let same : m ≡ k = front_unique (named_size w) w m k found.1 front_k in (λ one. named, subst (λ (j : ℕ). IsView size db w j (shown h index n)) same (turned_view db m v.0.first later is file));
         whole = λ front_0. absurd (let none : 0 ≡ m = front_unique (named_size w) w 0 m front_0 found.1 in omega (arith, v.0.first));
@@ -99,9 +94,9 @@ true_of {t = false} is = absurd (cc is)
 -- Behind the sectors that it touches the log is as it was.
 pub altered_rest : (size : ℕ) (sector : ℕ) (tears : Bool) (e : List ℕ) (n d : ℕ) (old new : FileState) → IsLog size e n → d ≤ n → 512 ≤ sector → (tears ≡ true → sector ≤ size) → IsSound sector old → HasFixed sector tears old 0 (take (frame_end size d) e)
     → AltersFile sector tears 0 32 old new → (w : List ℕ) → IsImage sector tears new w → (frame_end size d ≤ length w) × ((i : ℕ) → frame_end size 1 ≤ i → i < frame_end size d → get_or w i 0 ≡ get_or e i 0)
-altered_rest size sector tears e n d old new log down pos small sound fixed alters w image =
+altered_rest size sector tears e n d old new log durable pos small sound fixed alters w image =
     let k : ℕ = frame_end size d in
-    let fits : length (take k e) ≡ k = length-take-le k e (omega (arith, log.whole, frame_end-le size d n down)) in
+    let fits : length (take k e) ≡ k = length-take-le k e (omega (arith, log.whole, frame_end-le size d n durable)) in
     let some : 32 ≤ k = frame_end-head size d in
     let last = fixed (k - 1) (omega arith) in
     let from = alters.comes w image in (

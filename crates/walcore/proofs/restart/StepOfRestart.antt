@@ -3,20 +3,13 @@ use Rattle.std.proofs.Common.{◌≡◌, ◌⊎◌, inl, inr, ⊎_elim, ℕ, zer
 use Rattle.std.specs.Prelude.{Result, Ok, Err, ◌≢◌, sum_by, is_some}
 use Rattle.std.specs.List.{list_any}
 use Rattle.std.proofs.lemmas.List.Sums.{sum_by-cons}
-use Rattle.sqval.specs.Bytes.{word}
+use Rattle.recovery.proofs.Words.{word, IsImage, DiskState, Log, IsJust, Later, Refused, Refuses, Done, first_true, sound_writes, refuses_first, still, suits_by, answered, narrows_syncs, newest, quiet_ok}
 use Rattle.sqwal.specs.Frames.{summed}
 use Rattle.sqwal.specs.Header.{IsHeaderOf}
 use Rattle.sqwal.specs.Sums.{IsSumOf}
 use Rattle.sqwal.specs.declared.sum.Sum.{Sum}
 use Rattle.sqwal.specs.declared.header.WalHeader.{WalHeader}
-use Rattle.crashdisk.specs.State.{IsImage}
-use Rattle.crashdisk.specs.Call.{DiskState}
-use Rattle.crashdisk.specs.declared.file.File.TheVariants.{Log}
 use Rattle.walcore.specs.Refusal.{number_of}
-use Rattle.sqval.specs.Held.{IsJust}
-use Rattle.crashdisk.specs.Keeps.{Later}
-use Rattle.sqval.specs.Answers.{Refused, Refuses, Done}
-use Rattle.sqval.specs.CommitFaults.{first_true}
 use Rattle.walcore.specs.Machine.{reader_at, restart_refusal, closed, restarted, Restarts}
 use Rattle.walcore.specs.Made.{HasNewSalts, IsBegun}
 use Rattle.walcore.specs.Making.{has_begun, RestartsAnew, MadeByRestart}
@@ -31,23 +24,15 @@ use Rattle.walcore.specs.declared.reader.Reader.{Reader}
 use Rattle.walcore.specs.declared.state.Core.{Core}
 use Rattle.walcore.specs.declared.error.WalError.{WalError}
 use Rattle.walcore.specs.declared.error.WalError.TheVariants.{Closed, NotDrained, ReadersOpen, Device}
-use Rattle.crashdisk.proofs.call.SoundDiskUnderCalls.{sound_writes}
 use Rattle.walcore.proofs.machine.FitUnderUnchangedFiles.{same_core, stays}
 use Rattle.walcore.proofs.machine.FitOverEmptyLog.{HasNoReader, fresh_core}
-use Rattle.sqval.proofs.database.AnswersOfEngine.{refuses_first}
 use Rattle.walcore.proofs.log.GrowthOfMadeLogs.{made_begun}
 use Rattle.walcore.proofs.crash.NarrowedImages.{history_narrows, headers_narrow}
 use Rattle.walcore.proofs.openings.StepOfOpening.{header_later, header_refused, HeaderDone, header_done, present_header}
 use Rattle.walcore.proofs.read.MarksOfReaders.{same_one}
 use Rattle.walcore.proofs.restart.NewHeaderOverLog.{restart_shows, begin_stands}
 use Rattle.walcore.proofs.disk.ToldRefusals.{tells_header}
-use Rattle.crashdisk.proofs.call.UnchangingCalls.{still}
-use Rattle.crashdisk.proofs.page.RecoverablePages.{suits_by}
-use Rattle.recovery.specs.Moments.{answered}
-use Rattle.recovery.proofs.NarrowedImages.{narrows_syncs}
 use Rattle.walcore.specs.Alone.{wal_log}
-use Rattle.recovery.specs.Histories.{newest}
-use Rattle.recovery.proofs.ToldRefusals.{quiet_ok}
 
 -- ---- whether anybody reads
 
@@ -171,7 +156,7 @@ module _ (past : Past) (core : Core) (s : DiskState) (fits : FitsCore past core 
     allowed = first_none past.state.is_open past.state.drained (list_any is_some past.state.readers) (sym fits.is_open ∙ may.is_open) (sym is.drained ∙ may.drained) (any_none past.state.readers none.readers)
 
     newest_down : core.mark ≤ d
-    newest_down = (is.down (is.filed may.drained).0).commit
+    newest_down = (is.durable (is.filed may.drained).0).commit
 
     stands : Stands past.state.page_size past.made.logs e core.frames past.state.history index core.mark d c s
     stands = subst (λ (k : ℕ). Stands k past.made.logs e core.frames past.state.history index core.mark d c s) fits.page_size is.stands

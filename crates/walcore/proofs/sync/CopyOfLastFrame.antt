@@ -3,27 +3,19 @@ use Rattle.std.proofs.Common.{◌≡◌, ℕ, suc, ◌+◌, ◌-◌, ◌*◌, �
 use Rattle.std.specs.Prelude.{Result, Ok, Err}
 use Rattle.std.proofs.lemmas.Grind.{same_number_lists}
 use Rattle.std.proofs.lemmas.List.{get_or-take, get_or-drop, length-take-le, drop_at}
-use Rattle.crashdisk.specs.State.{byte, longest}
-use Rattle.crashdisk.specs.Call.{DiskState, IsSoundDisk}
-use Rattle.crashdisk.specs.declared.file.File.TheVariants.{Log}
-use Rattle.crashdisk.proofs.call.SequencesOfCalls.{one_write, calls_then}
-use Rattle.crashdisk.proofs.call.SoundDiskUnderCalls.{sound_writes}
-use Rattle.crashdisk.proofs.call.EffectsOfCalls.{counted_grows}
-use Rattle.sqval.specs.Bytes.{AreBytes}
+use Rattle.recovery.proofs.Words.{byte, longest, DiskState, IsSoundDisk, Log, one_write, calls_then, sound_writes, counted_grows, AreBytes, Still, still_sound, refusal_after}
 use Rattle.sqwal.specs.Frames.{frame_at, frame_end, page_of, size_of, content_of}
 use Rattle.sqwal.specs.Log.{IsLog}
 use Rattle.sqwal.proofs.log.DependenceOnPrefix.{frame_at-end, frame_end-le}
 use Rattle.sqwal.proofs.log.LogWithAppendedFrame.{word_fits}
 use Rattle.sqwal.proofs.log.WrittenHeadersAndFrames.{put_two}
 use borrow.Rule.Slice.PartMut.{put_mid}
-use Rattle.crashdisk.specs.Keeps.{Still}
 use Rattle.crashdisk.specs.internal.Keeps.{PlaceAnswer}
 use Rattle.walcore.specs.Standing.{IsPresent}
 use Rattle.walcore.specs.internal.Going.{FrameStep, KnowsLog, Going, FramesAnswer}
 use Rattle.walcore.specs.internal.Syncing.{IsRepeated, KnowsLast}
 use Rattle.walcore.specs.declared.state.Core.{Core}
 use Rattle.walcore.specs.declared.error.WalError.{WalError}
-use Rattle.crashdisk.proofs.call.UnchangingCalls.{still_sound, refusal_after}
 use Rattle.walcore.proofs.disk.PermittedChanges.{nothing_may}
 use Rattle.walcore.proofs.commit.EraAfterCommit.{content_whole}
 use Rattle.walcore.proofs.log.BytesOfNextFrame.{take_bytes, drop_bytes}

@@ -1,26 +1,22 @@
 -- On a disk that tears the last frame is written once more, as a frame of its own, before the log is synced: so the next
--- frames lie in other sectors than what is down.
+-- frames lie in other sectors than what is durable.
 use Rattle.std.proofs.Common.{◌≡◌, ⊎_elim, ℕ, suc, ◌+◌, ◌*◌, ◌/◌, ◌≤◌, min, true, false, List, ◌∷◌, take, get_or, refl, sym, ◌∙◌, ap, subst, arith, []}
 use Rattle.std.proofs.lemmas.Bool.{cases_lt}
 use Rattle.std.proofs.lemmas.Nat.{le-div}
 use Rattle.std.proofs.Math.Nat.{div-mul-le_self, mul-le-mul_right, lt-div-mul-add}
-use Rattle.crashdisk.specs.Call.{DiskState}
-use Rattle.sqval.specs.Database.{Database}
+use Rattle.recovery.proofs.Words.{DiskState, Database, Suits, sector_some, sector_within}
 use Rattle.sqwal.specs.Frames.{frame_end, page_of, size_of, content_of, IsCommit}
 use Rattle.sqwal.specs.Refusal.{most_frames}
 use Rattle.sqwal.proofs.log.DependenceOnPrefix.{frame_end-suc, frame_end-head, take_less}
-use Rattle.crashdisk.specs.Keeps.{Suits}
 use Rattle.walcore.specs.Era.{shown, IsEra}
 use Rattle.walcore.specs.internal.Era.{IsApplied}
 use Rattle.walcore.specs.Standing.{IsBehind, Stands}
 use Rattle.walcore.specs.internal.Syncing.{IsRepeated}
-use Rattle.crashdisk.proofs.page.PlacesOfPages.{sector_some}
 use Rattle.walcore.proofs.log.GrowthOfMadeLogs.{made_more}
 use Rattle.walcore.proofs.crash.FrontOfSurvivingLog.{boundary_same}
 use Rattle.walcore.proofs.log.CommitOfExtendedLog.{extended_front, extended_count}
 use Rattle.walcore.proofs.log.EraOfExtendedLog.{GoesOn, era_more}
 use Rattle.walcore.proofs.disk.DiskInvariantUnderCalls.{stands_more}
-use Rattle.crashdisk.proofs.page.RecoverablePages.{sector_within}
 
 -- the number of the last database stays
 abbrev pub index_to : (index : ℕ → ℕ) (n : ℕ) → ℕ → ℕ
@@ -104,14 +100,14 @@ module _ (size d : ℕ) (s : DiskState) where
   pub behind_whole : (at : ℕ) → s.tears ≡ false → frame_end size d ≤ at → IsBehind size d at s
   behind_whole at whole le = record { behind = le; apart = λ torn some. absurd (let no : true ≡ false = sym torn ∙ whole in cc no) }
 
-  -- while no frame is down
+  -- while no frame is durable
   pub behind_none : (at : ℕ) → d ≡ 0 → frame_end size d ≤ at → IsBehind size d at s
   behind_none at none le = record { behind = le; apart = λ torn some. absurd (omega arith) }
 
   rounded : (k at : ℕ) → 1 ≤ s.sector → k * s.sector ≤ at → k * s.sector ≤ at / s.sector * s.sector
   rounded k at pos le = mul-le-mul_right s.sector (le-div k at s.sector pos le)
 
-  -- where the last frame that is down ends with its sector
+  -- where the last frame that is durable ends with its sector
   pub behind_even : (k at : ℕ) → Suits size s → frame_end size d ≡ k * s.sector → frame_end size d ≤ at → IsBehind size d at s
   behind_even k at suits even le = record {
     behind = le;

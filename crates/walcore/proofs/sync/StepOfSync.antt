@@ -1,41 +1,29 @@
--- A sync steps to all commits being down.
+-- A sync steps to all commits being durable.
 use Rattle.std.proofs.Common.{◌≡◌, ◌⊎◌, inl, inr, ⊎_elim, ℕ, suc, ◌+◌, ◌-◌, ◌*◌, ◌/◌, ◌%◌, ◌≤◌, Bool, true, false, cond, not, ◌&&◌, ◌==◌, List, ◌∷◌, length, take, get_or, refl, sym, ◌∙◌, ap, subst, arith, Option, lit≤, []}
 use Rattle.std.specs.Prelude.{IsTrue, Some, None, Result, Ok, Err}
 use Rattle.std.proofs.lemmas.Bool.Decides.{nat_tests}
-use Rattle.crashdisk.specs.State.{IsImage}
+use Rattle.recovery.proofs.Words.{IsImage, Log, DiskError, image_elsewhere, counted_grows, Files, Done, Refused, Refuses, IsJust, HadRefusal, IsSameDisk, SyncStep, had_refusal, refusal_after, told_err, told_ok, present_image, sector_some, one_sync, calls_then, AreFiles, answered, ShowsWhole, last, newest}
 use Rattle.crashdisk.specs.Call.{DiskState, Syncs as CallSyncs}
-use Rattle.crashdisk.specs.declared.file.File.TheVariants.{Log}
-use Rattle.crashdisk.specs.declared.error.DiskError.{DiskError}
-use Rattle.crashdisk.proofs.call.EffectsOfCalls.{image_elsewhere, counted_grows}
 use Rattle.sqwal.specs.Frames.{frame_end, page_of, size_of, content_of, summed}
 use Rattle.sqwal.specs.Sums.{IsSumOf}
 use Rattle.sqwal.specs.Refusal.{most_frames}
 use Rattle.sqwal.proofs.log.DependenceOnPrefix.{frame_end-le}
 use Rattle.walcore.specs.Refusal.{number_of}
-use Rattle.sqval.specs.Answers.{Files, Done, Refused, Refuses}
 use Rattle.walcore.specs.Machine.{reader_at, synced, closed, call_refusal, Syncs}
 use Rattle.walcore.specs.Made.{NoChance}
 use Rattle.walcore.specs.Making.{Made, MadeByCopy, MadeBySync}
-use Rattle.sqval.specs.Held.{IsJust}
-use Rattle.crashdisk.specs.Keeps.{HadRefusal, IsSameDisk}
-use Rattle.crashdisk.specs.internal.Keeps.{SyncStep}
 use Rattle.walcore.specs.Changes.{MayChange}
 use Rattle.walcore.specs.Standing.{IsBehind, Stands, IsPresent}
-use Rattle.walcore.specs.Fits.{Past, IsIndexed, IsBound, AreTogether, IsNewestDown, IsCore, FitsCore, StepsTo, times}
+use Rattle.walcore.specs.Fits.{Past, IsIndexed, IsBound, AreTogether, IsNewestDurable, IsCore, FitsCore, StepsTo, times}
 use Rattle.walcore.specs.internal.Commits.{Rests, Closes, RestAnswer}
 use Rattle.walcore.specs.internal.Going.{KnowsLog, Going, FramesAnswer}
-use Rattle.walcore.specs.internal.Syncing.{IsRepeated, is_due, KnowsLast, Repeats, SyncsBehind, SyncsCopy, DownBy}
+use Rattle.walcore.specs.internal.Syncing.{IsRepeated, is_due, KnowsLast, Repeats, SyncsBehind, SyncsCopy, SyncsBy}
 use Rattle.walcore.specs.declared.state.Core.{Core}
 use Rattle.walcore.specs.declared.reader.Reader.{Reader}
 use Rattle.walcore.specs.declared.error.WalError.{WalError}
-use Rattle.crashdisk.proofs.call.UnchangingCalls.{had_refusal, refusal_after}
-use Rattle.crashdisk.proofs.call.DisksAfterCalls.{told_err, told_ok}
-use Rattle.crashdisk.proofs.sync.BytesOfSyncedLog.{present_image}
 use Rattle.walcore.proofs.crash.HistoryInCrashImages.{present_last}
 use Rattle.walcore.proofs.disk.DiskInvariantUnderCalls.{stands_syncs, stands_synced, stands_fewer}
 use Rattle.walcore.proofs.log.PresentFrames.{present_syncs}
-use Rattle.crashdisk.proofs.page.PlacesOfPages.{sector_some}
-use Rattle.crashdisk.proofs.call.SequencesOfCalls.{one_sync, calls_then}
 use Rattle.walcore.proofs.disk.PermittedChanges.{copies_may}
 use Rattle.walcore.proofs.crash.FrontOfSurvivingLog.{boundary_same}
 use Rattle.walcore.proofs.log.CommitOfExtendedLog.{extended_front}
@@ -43,11 +31,7 @@ use Rattle.walcore.proofs.sync.LogWithRepeatedFrame.{index_to, index_to-low, rep
 use Rattle.walcore.proofs.sync.CopyOfLastFrame.{repeated_exists}
 use Rattle.walcore.proofs.commit.FitAfterCommit.{disk_by, facts_stand, present_bytes, knows_same, together_map}
 use Rattle.walcore.specs.declared.error.WalError.TheVariants.{Device}
-use Rattle.recovery.specs.Files.{AreFiles}
-use Rattle.recovery.specs.Moments.{answered}
-use Rattle.recovery.specs.Logs.{ShowsWhole}
 use Rattle.walcore.specs.Alone.{wal_log}
-use Rattle.recovery.specs.Histories.{last, newest}
 
 -- what is present shows the newest database
 pub present_newest : (past : Past) (e : List ℕ) (n : ℕ) (index : ℕ → ℕ) (mark d c size : ℕ) (s : DiskState) → Stands size past.made.logs e n past.state.history index mark d c s → IsPresent size e n s
@@ -56,9 +40,9 @@ present_newest past e n index mark d c size s stands present files are chance =
     let shows = present_last size past.made.logs e n past.state.history index mark d c s stands present files.log are.log chance files.db (present_image s.sector s.tears s.db files.db stands.suits.sound.db are.db) in
     subst (λ (k : ℕ). ShowsWhole wal_log size files.db files.log (get_or past.state.history k [])) (let k : index n ≡ length past.state.history - 1 = omega (arith, stands.era.last) in k) shows
 
--- of the log f the frames 1 to d are down, and the next one goes behind the n frames that a core knows
+-- of the log f the frames 1 to d are durable, and the next one goes behind the n frames that a core knows
 record Lies (core mid : Core) (f : List ℕ) (n d : ℕ) (t : DiskState) : Type 0 where
-  newest : IsNewestDown core.mark n d t.tears
+  newest : IsNewestDurable core.mark n d t.tears
   behind : IsBehind core.page_size d (frame_end core.page_size n) t
   knows : KnowsLog f n mid t
 
@@ -87,9 +71,9 @@ module _ (past : Past) (core mid then : Core) (s t : DiskState) (fits : FitsCore
 
   sync_done : t.refused ≡ s.refused → Lies core mid f n d t → Stays past core f index c t → Rests mid then → StepsTo past past.tokens Syncs Done then s t
   unfolding logs_new
-  sync_done quiet down stays rests =
-      let knows : KnowsLog f n then t = knows_same f n mid then t rests.log down.knows in
-      let low : last past.state.history ≤ index d = omega (arith, stands.era.last, stands.era.marked.2, stands.era.rises core.mark d down.newest.commit stands.marks.down) in
+  sync_done quiet durable stays rests =
+      let knows : KnowsLog f n then t = knows_same f n mid then t rests.log durable.knows in
+      let low : last past.state.history ≤ index d = omega (arith, stands.era.last, stands.era.marked.2, stands.era.rises core.mark d durable.newest.commit stands.marks.durable) in
       let new : Past = record { state = synced past.state; made = logs_new; tokens = past.tokens } in
       let at_size : then.page_size ≡ core.page_size = rests.log.page_size ∙ repeats.page_size in
       let at_mark : then.mark ≡ core.mark = rests.marks.mark ∙ repeats.marks.mark in
@@ -108,7 +92,7 @@ module _ (past : Past) (core mid then : Core) (s t : DiskState) (fits : FitsCore
         fits = record {
           disk = disk_by new core.page_size past.state.history (last past.state.history) t (facts_stand core.page_size (f ∷ rest) f n past.state.history index core.mark d c t stands (last past.state.history) low) fits.page_size refl refl
               (λ yes files are chance. subst (λ (x : ℕ). ShowsWhole wal_log x files.db files.log (newest past.state.history)) fits.page_size
-              (present_newest new f n index core.mark d c core.page_size t stands (subst (λ (x : ℕ). IsPresent x f n t) repeats.page_size down.knows.present) files are chance));
+              (present_newest new f n index core.mark d c core.page_size t stands (subst (λ (x : ℕ). IsPresent x f n t) repeats.page_size durable.knows.present) files are chance));
           page_size = at_size ∙ fits.page_size;
           is_open = rests.marks.is_open ∙ repeats.marks.is_open ∙ fits.is_open;
           core = λ yes. (
@@ -122,7 +106,7 @@ module _ (past : Past) (core mid then : Core) (s t : DiskState) (fits : FitsCore
                   (to_mark (λ x. Stands core.page_size (f ∷ rest) f n past.state.history index x d c t) stands));
               floor = low;
               begun = to_mark (λ x. c ≤ x) stays.begun;
-              behind = to_page (λ x. IsBehind x d (frame_end x then.frames) t) (to_frames (λ x. IsBehind core.page_size d (frame_end core.page_size x) t) down.behind);
+              behind = to_page (λ x. IsBehind x d (frame_end x then.frames) t) (to_frames (λ x. IsBehind core.page_size d (frame_end core.page_size x) t) durable.behind);
               present = to_frames (λ x. IsPresent then.page_size f x t) knows.present;
               header = knows.header;
               sum = to_frames (λ x. IsSumOf then.header.order (summed then.page_size f x) then.sum) knows.sum;
@@ -135,7 +119,7 @@ module _ (past : Past) (core mid then : Core) (s t : DiskState) (fits : FitsCore
               unsynced = rests.unsynced;
               some = λ yes. absurd (let bad : true ≡ false = sym yes ∙ rests.unsynced in cc);
               drained = at_drained ∙ stays.drained;
-              down = λ z. to_mark (λ x. IsNewestDown x then.frames d t.tears) (to_frames (λ x. IsNewestDown core.mark x d t.tears) down.newest);
+              durable = λ z. to_mark (λ x. IsNewestDurable x then.frames d t.tears) (to_frames (λ x. IsNewestDurable core.mark x d t.tears) durable.newest);
               filed = λ is_drained. (rests.unsynced, λ db image. to_page (λ x. IsJust x (newest past.state.history) db) (stays.filed (subst (λ (x : Bool). IsTrue x) at_drained is_drained) db image));
               readers = λ number. together_map (IsBound then.page_size f index then.mark c past.state) (IsBound then.page_size f index then.mark c (synced past.state)) (reads_on then.page_size then.mark) (reader_at past.state number) (get_or past.tokens number None)
                   (to_page (λ x. AreTogether (IsBound x f index then.mark c past.state) (reader_at past.state number) (get_or past.tokens number None))
@@ -214,7 +198,7 @@ module _ (past : Past) (core : Core) (s : DiskState) (fits : FitsCore past core 
     made_same : MadeBySync past.state.page_size s.sector s.tears past.made.logs past.made (record { logs = e ∷ is.newest_log.0; unsynced = false })
     made_same = row_made false undue (record { logs = e ∷ is.newest_log.0; unsynced = false }) refl
 
-    -- how far the log is down then
+    -- how far the log is durable then
     Down : ℕ → Type 0
     Down k = Stands core.page_size (e ∷ is.newest_log.0) e core.frames past.state.history index core.mark k c t × Lies core core e core.frames k t
 
@@ -229,7 +213,7 @@ module _ (past : Past) (core : Core) (s : DiskState) (fits : FitsCore past core 
         record { newest = record { commit = is.stands.era.marked.0; all = λ whole. refl }; behind = behind; knows = knows_then },
       )
 
-      same_down : IsNewestDown core.mark core.frames d s.tears → Down d
+      same_down : IsNewestDurable core.mark core.frames d s.tears → Down d
       unfolding Down
       same_down was = (
         stands_syncs core.page_size (e ∷ is.newest_log.0) e core.frames past.state.history index core.mark d c s t stands_here Log (Ok u) call,
@@ -244,7 +228,7 @@ module _ (past : Past) (core : Core) (s : DiskState) (fits : FitsCore past core 
       down_then = ⊎_elim
           (λ whole. (core.frames, all_down (behind_whole core.page_size core.frames t (frame_end core.page_size core.frames) (call.elsewhere.tears ∙ whole) (omega arith))))
           (λ torn. ⊎_elim
-          (λ synced_before. (d, same_down (is.down synced_before)))
+          (λ synced_before. (d, same_down (is.durable synced_before)))
           (λ even. (
             core.frames,
             all_down (behind_same core.page_size core.frames (frame_end core.page_size core.frames) s t call.elsewhere.sector call.elsewhere.tears
@@ -331,7 +315,7 @@ module _ (past : Past) (core : Core) (s : DiskState) (fits : FitsCore past core 
 
     at_down : to d ≡ index d
     unfolding to
-    at_down = index_to-low index core.frames d is.stands.marks.down
+    at_down = index_to-low index core.frames d is.stands.marks.durable
 
     module _ (g : DiskState) (going : Going core.page_size f (core.frames + 1) core.frames s g) (repeats : Repeats core mid) where
       -- what stands on the disk when the copy was written, or wasn't
@@ -355,7 +339,7 @@ module _ (past : Past) (core : Core) (s : DiskState) (fits : FitsCore past core 
           (stands_syncs core.page_size (f ∷ is.newest_log.0) f (core.frames + 1) past.state.history to core.mark d c g t stands_copy Log called call) (omega (arith, at_down, is.floor))
           (refusal_after s g t going.refused (had_refusal called x 0 g t going.sound.refused was call.within (lit≤ tt) call.elsewhere.refused)) closes
 
-      -- the frame that was copied is down, and its copy apart from what comes next
+      -- the frame that was copied is durable, and its copy apart from what comes next
       module _ {T : Type 0} {u : T} (quiet : g.refused ≡ s.refused) (call : CallSyncs Log (Ok u) g t) (knows : KnowsLog f (core.frames + 1) mid g) where
         tears_then : t.tears ≡ true
         tears_then = call.elsewhere.tears ∙ going.tears ∙ torn
@@ -371,7 +355,7 @@ module _ (past : Past) (core : Core) (s : DiskState) (fits : FitsCore past core 
 
         stands_last : Stands core.page_size (f ∷ is.newest_log.0) f (core.frames + 1) past.state.history to core.mark core.frames c t
         stands_last = stands_fewer core.page_size (f ∷ is.newest_log.0) f (core.frames + 1) past.state.history to core.mark (core.frames + 1) core.frames c t stands_all (omega arith)
-            (omega (arith, is.stands.marks.begun, is.stands.marks.down)) (boundary_same core.page_size e f core.frames core.frames front (omega arith) is.stands.era.ends)
+            (omega (arith, is.stands.marks.begun, is.stands.marks.durable)) (boundary_same core.page_size e f core.frames core.frames front (omega arith) is.stands.era.ends)
 
         lies_copy : Lies core mid f (core.frames + 1) core.frames t
         lies_copy = record {
@@ -428,12 +412,12 @@ module _ (past : Past) (core : Core) (s : DiskState) (fits : FitsCore past core 
     copy_step : {T : Type 0} → (r : Result T WalError) → SyncsCopy r core mid s t → RestAnswer r mid then → StepsTo past past.tokens Syncs (answered number_of (λ _. Done) r) then s t
     copy_step r by answer = copy_by by.copied r by.mid by.core (by.frame e f last_known) by.synced answer
 
-  step_by : {T : Type 0} (b : Bool) → is_due core s ≡ b → (mid then : Core) (t : DiskState) (r : Result T WalError) → DownBy b r core mid s t → RestAnswer r mid then → StepsTo past past.tokens Syncs (answered number_of (λ _. Done) r) then s t
-  step_by {T = T} false same mid then t r down answer = plain_step then t same r down.1 (subst (λ (x : Core). RestAnswer r x then) down.0 answer)
-  step_by true same mid then t r down answer = copy_step mid then t same r down answer
+  step_by : {T : Type 0} (b : Bool) → is_due core s ≡ b → (mid then : Core) (t : DiskState) (r : Result T WalError) → SyncsBy b r core mid s t → RestAnswer r mid then → StepsTo past past.tokens Syncs (answered number_of (λ _. Done) r) then s t
+  step_by {T = T} false same mid then t r durable answer = plain_step then t same r durable.1 (subst (λ (x : Core). RestAnswer r x then) durable.0 answer)
+  step_by true same mid then t r durable answer = copy_step mid then t same r durable answer
 
-pub sync_step : {T : Type 0} (past : Past) (core mid then : Core) (s t : DiskState) → FitsCore past core s → IsTrue core.is_open → (r : Result T WalError) → DownBy (is_due core s) r core mid s t → RestAnswer r mid then
+pub sync_step : {T : Type 0} (past : Past) (core mid then : Core) (s t : DiskState) → FitsCore past core s → IsTrue core.is_open → (r : Result T WalError) → SyncsBy (is_due core s) r core mid s t → RestAnswer r mid then
     → StepsTo past past.tokens Syncs (answered number_of (λ _. Done) r) then s t
-sync_step past core mid then s t fits opened r down answer =
+sync_step past core mid then s t fits opened r durable answer =
     let held = fits.core opened in
-    step_by past core s fits opened held.0 held.1 held.2 held.3 held.4 (is_due core s) refl mid then t r down answer
+    step_by past core s fits opened held.0 held.1 held.2 held.3 held.4 (is_due core s) refl mid then t r durable answer

@@ -62,14 +62,14 @@ pub record IsHeaded (h : WalHeader) (before : Sum) (page size : ℕ) (after : Su
   pub made : IsFrameHead h before page size (drop 24 old) head after
   pub bytes : new ≡ head ++ drop 24 old
 
--- all commits of a log are down
+-- all commits of a log are durable
 pub record Rests (old new : Core) : Type 0 where
   pub log : SameLog old new
   pub marks : SameMarks old new
   pub used : new.used ≡ old.used
   pub unsynced : new.unsynced ≡ false
 
--- all commits are down, or the core is closed
+-- all commits are durable, or the core is closed
 abbrev pub RestAnswer : {T : Type 0} → Result T WalError → (old new : Core) → Type 0
 RestAnswer (Ok _) old new = Rests old new
 RestAnswer (Err e) old new = Closes old new

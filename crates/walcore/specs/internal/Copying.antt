@@ -2,17 +2,18 @@
 use Rattle.std.specs.Prelude.{◌≡◌, ℕ, ◌+◌, ◌-◌, ◌*◌, ◌≤◌, List, length, Result}
 use Rattle.sqval.specs.Database.{Database}
 use Rattle.sqval.specs.Limits.{Bounds, greatest}
-use Rattle.sqwal.specs.View.{IsView}
+use Rattle.sqwal.specs.View.{Unnamed, IsView}
 use Rattle.sqwal.specs.Frames.{IsValidFrame}
 use Rattle.sqwal.specs.Index.{FrameTable}
 use Rattle.crashdisk.specs.Call.{DiskState, ArePresent, HasCalls}
-use Rattle.crashdisk.specs.Keeps.{Later, IsLong, IsLogDown, TearsPages, TellsRefusal}
+use Rattle.crashdisk.specs.Keeps.{Later, IsLong, IsLogDurable, TearsPages, TellsRefusal}
 use Rattle.crashdisk.specs.internal.Keeps.{KeepsLog}
 use Rattle.walcore.specs.Changes.{MayFillWithin, MayFoldWithin}
 use Rattle.walcore.specs.Folding.{FoldsWithin}
 use Rattle.walcore.specs.Lengths.{EndsBy, IsLengthOf, KeepsLength}
 use Rattle.walcore.specs.internal.Lengths.{IsFronted}
-use Rattle.walcore.specs.internal.Phases.{Filling, Scanning}
+use Rattle.walcore.specs.internal.Phases.{Scanning}
+use Rattle.recovery.specs.internal.Phases.{Filling}
 use Rattle.walcore.specs.Plans.{IsTable, IsFitWithin}
 use Rattle.walcore.specs.internal.Plans.{IsCopy, IsPlan}
 use Rattle.walcore.specs.Steps.{FoldCallsWithin}
@@ -38,7 +39,7 @@ pub record CopiesPages {T : Type 0} (size : ℕ) (t : FrameTable) (m count : ℕ
   pub calls : (bytes : ℕ) → count * size ≤ bytes → HasCalls (MayFillWithin bytes size) old new
   pub told : TellsRefusal Device result old new
   pub pages : (db w : List ℕ) (d : Database) → ArePresent old.db db → ArePresent old.log w → IsCopy size count w m t → length d ≡ count → IsView size db w m d → CopyAnswer Device size d result old new
-  pub filling : (w : List ℕ) (d : Database) → ArePresent old.log w → IsCopy size count w m t → Filling size w m d old → Filling size w m d new
+  pub filling : (w : List ℕ) (d : Database) → ArePresent old.log w → IsCopy size count w m t → length d ≡ count → Filling size d (Unnamed size w m) old → Filling size d (Unnamed size w m) new
 
 -- the database is made to stay, and then the log is emptied
 pub record Finishes {T : Type 0} (result : Result T WalError) (old new : DiskState) : Type 0 where
@@ -54,7 +55,7 @@ pub record FoldsPlan (plan : Plan) (result : Result Folded WalError) (old new : 
   pub calls : (most size : ℕ) (w : List ℕ) → IsPlan most size w plan → FoldCallsWithin most size result old new
   pub folds : (most size : ℕ) (db w : List ℕ) → ArePresent old.db db → ArePresent old.log w → IsPlan most size w plan → FoldedAnswer size db w result old new
   pub shows : (limits : Bounds) (size : ℕ) (w : List ℕ) (d : Database) → Scanning size d w old → IsPlan limits.bytes size w plan → IsFitWithin limits size w → ShowsAlone wal_log size d new
-  pub lengths : (most size : ℕ) (w : List ℕ) (n : ℕ) → IsLogDown old w → IsPlan most size w plan → IsLengthOf size w n old → EndsBy n new
+  pub lengths : (most size : ℕ) (w : List ℕ) (n : ℕ) → IsLogDurable old w → IsPlan most size w plan → IsLengthOf size w n old → EndsBy n new
 
 -- the log is read, and what that plans is folded
 pub record FoldsLog (limits : Bounds) (size : ℕ) (result : Result Folded WalError) (old new : DiskState) : Type 0 where

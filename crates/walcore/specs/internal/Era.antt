@@ -4,8 +4,8 @@ use Rattle.sqval.specs.Database.{Database, page}
 use Rattle.sqwal.specs.Frames.{frame_end, page_of, size_of, content_of}
 use Rattle.sqwal.specs.View.{IsLast}
 
--- A log that a crash may leave, of which the frames 1 to d are down.
-pub record IsDown (size : ℕ) (e : List ℕ) (d : ℕ) (w : List ℕ) : Type 0 where
+-- A log that a crash may leave, of which the frames 1 to d are durable.
+pub record IsDurable (size : ℕ) (e : List ℕ) (d : ℕ) (w : List ℕ) : Type 0 where
   pub long : frame_end size d ≤ length w
   pub same : take (frame_end size d) w ≡ take (frame_end size d) e
 

@@ -3,10 +3,10 @@ use Rattle.std.specs.Prelude.{ℕ, ◌≤◌, List}
 use Rattle.sqwal.specs.Header.{named_size}
 use Rattle.sqwal.specs.Frames.{IsFront}
 use Rattle.crashdisk.specs.Call.{DiskState}
-use Rattle.crashdisk.specs.Keeps.{IsLogDown}
+use Rattle.crashdisk.specs.Keeps.{IsLogDurable}
 
--- the log that is down has a front
+-- the log that is durable has a front
 pub record IsFronted (w : List ℕ) (m : ℕ) (s : DiskState) : Type 0 where
-  pub down : IsLogDown s w
+  pub durable : IsLogDurable s w
   pub some : 1 ≤ m
   pub front : IsFront (named_size w) w m

@@ -14,7 +14,7 @@ use Rattle.walcore.specs.Made.{IsBegun, NoChance}
 use Rattle.walcore.specs.Folding.{FoldAnswer}
 use Rattle.walcore.specs.Plans.{IsFit}
 use Rattle.walcore.specs.internal.Steps.{FoldCalls}
-use Rattle.crashdisk.specs.Keeps.{HadRefusal, TearsPages, IsLogDown, Later}
+use Rattle.crashdisk.specs.Keeps.{HadRefusal, TearsPages, IsLogDurable, Later}
 use Rattle.crashdisk.specs.internal.Keeps.{Told, SyncStep}
 use Rattle.sqval.specs.Held.{IsJust}
 use Rattle.walcore.specs.Changes.{MayFold}
@@ -68,7 +68,7 @@ pub record IsRecovered (past : Past) (found : Files) (pages : ℕ) (s : DiskStat
   pub within : place < length past.state.history
   pub newest : IsTrue past.state.is_open → place ≡ last past.state.history
   pub shown : Show past.state.page_size found.db found.log (at past.state.history place)
-  pub down : IsLogDown s []
+  pub durable : IsLogDurable s []
   pub file : (db : List ℕ) → IsImage s.sector s.tears s.db db → IsJust past.state.page_size (at past.state.history place) db
   pub count : pages ≡ length (at past.state.history place)
 
@@ -100,7 +100,7 @@ pub record Recovers (size : ℕ) (result : Result ℕ WalError) (old new : DiskS
   pub calls : FoldCalls size result old new
   pub agrees : Agrees wal_log size old new
   pub synced : OpensSynced size result old new
-  pub empty : OnOk result (IsLogDown new [])
+  pub empty : OnOk result (IsLogDurable new [])
   pub refuses : (TearsPages size old → ⊥) → (found : Files) → AreFiles old found → IfErr result (λ error. OpenRefused size found.db found.log error old new)
   pub opens : (TearsPages size old → ⊥) → (found : Files) → AreFiles old found → OnOk result (MayOpen size found old)
   pub recovered : (past : Past) (found : Files) → AreFiles old found → past.state.page_size ≡ size → FitsDisk past old → NoChance past.made.logs found.log → RecoverAnswer past found result old new

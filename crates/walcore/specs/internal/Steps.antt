@@ -14,7 +14,7 @@ use Rattle.crashdisk.specs.Call.{DiskState, ArePresent, Writes, Cuts}
 use Rattle.crashdisk.specs.declared.file.File.TheVariants.{Db, Log}
 use Rattle.crashdisk.specs.declared.error.DiskError.{DiskError}
 use Rattle.walcore.specs.Folding.{IsFolded}
-use Rattle.crashdisk.specs.Keeps.{HadRefusal, IsLogDown, Still}
+use Rattle.crashdisk.specs.Keeps.{HadRefusal, IsLogDurable, Still}
 use Rattle.crashdisk.specs.internal.Keeps.{Told, SyncStep}
 use Rattle.walcore.specs.internal.Phases.{Writing, Filed}
 use Rattle.walcore.specs.declared.folding.Folded.{Folded}
@@ -74,9 +74,9 @@ CutSteps {T = T} result old new =
 abbrev pub Copied : (size : ℕ) (w : List ℕ) (m : ℕ) (d : Database) → DiskState → Type 0
 Copied size w m d s = (Writing size w m d s × ArePages size d s.db) ⊎ Filed size d w s
 
--- the database is down, and the log is down and empty
+-- the database is durable, and the log is durable and empty
 unfoldable pub EndAnswer : {T : Type 0} → Result T WalError → (old new : DiskState) → Type 0
-EndAnswer (Ok _) old new = ((db : List ℕ) → ArePresent old.db db → IsSettled new.db db) × IsLogDown new []
+EndAnswer (Ok _) old new = ((db : List ℕ) → ArePresent old.db db → IsSettled new.db db) × IsLogDurable new []
 EndAnswer (Err e) old new = (e ≡ Device) × HadRefusal old new
 
 -- what is planned was folded

@@ -1,4 +1,4 @@
--- How a log is brought down: with a copy of its last frame, or without (own).
+-- How a log is made durable: with a copy of its last frame, or without (own).
 use Rattle.std.specs.Prelude.{◌≡◌, ℕ, ◌+◌, ◌%◌, ◌≤◌, Bool, true, false, not, ◌&&◌, ◌==◌, List, ◌∷◌, Result, Ok, Err, []}
 use Rattle.sqwal.specs.Frames.{frame_end, page_of, size_of, content_of}
 use Rattle.sqwal.specs.Log.{IsLog}
@@ -53,11 +53,11 @@ pub record SyncsCopy {T : Type 0} (result : Result T WalError) (old new : Core) 
   pub frame : RepeatAnswer copied old new s mid
   pub synced : SyncsBehind copied result mid t
 
--- the log is brought down
-abbrev pub DownBy : {T : Type 0} → (due : Bool) → Result T WalError → (old new : Core) → (s t : DiskState) → Type 0
-DownBy true result old new s t = SyncsCopy result old new s t
-DownBy false result old new s t = (new ≡ old) × SyncStep Device Log result s t
+-- the log is made durable
+abbrev pub SyncsBy : {T : Type 0} → (due : Bool) → Result T WalError → (old new : Core) → (s t : DiskState) → Type 0
+SyncsBy true result old new s t = SyncsCopy result old new s t
+SyncsBy false result old new s t = (new ≡ old) × SyncStep Device Log result s t
 
--- it is brought down, with a copy where that is due
-abbrev pub BringsDown : {T : Type 0} → Result T WalError → (old new : Core) → (s t : DiskState) → Type 0
-BringsDown result old new s t = DownBy (is_due old s) result old new s t
+-- it is made durable, with a copy where that is due
+abbrev pub SyncsFrames : {T : Type 0} → Result T WalError → (old new : Core) → (s t : DiskState) → Type 0
+SyncsFrames result old new s t = SyncsBy (is_due old s) result old new s t

@@ -3,8 +3,7 @@ use Rattle.std.specs.Prelude.{nat_le}
 use Rattle.std.proofs.lemmas.Bool.Decides.{nat_tests}
 use Rattle.std.proofs.lemmas.List.{get_or-map, length-map, take-map}
 use Rattle.std.proofs.lemmas.List.Sums.{sum_by_more_le}
-use Rattle.sqval.specs.Database.{Pages}
-use Rattle.sqval.specs.JudgedPages.{lent}
+use Rattle.recovery.proofs.Words.{Pages, lent}
 use Rattle.rollcore.specs.Machine.{recorded}
 use Rattle.rollcore.proofs.commit.ListedChanges.{there}
 use Rattle.rollcore.proofs.changes.count_records.Goals as goal

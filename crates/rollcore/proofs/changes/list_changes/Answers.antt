@@ -1,8 +1,7 @@
 use Rattle.std.proofs.Common.{rules, List, sym, subst}
 use Rattle.std.specs.List.Sorted.{IsPermutation, IsNonDecreasingBy}
 use Rattle.std.proofs.lemmas.List.Sorted.{IsNonDecreasingBy-from_sort_by_key}
-use Rattle.sqval.specs.JudgedPages.{lent}
-use Rattle.sqval.proofs.database.FaultlessCommit.{faultless}
+use Rattle.recovery.proofs.Words.{lent, faultless}
 use Rattle.rollcore.specs.internal.Commits.{AreChanges}
 use Rattle.rollcore.specs.internal.Listing.{written}
 use Rattle.rollcore.specs.declared.changes.Change.{Change}

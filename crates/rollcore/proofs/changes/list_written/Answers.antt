@@ -1,8 +1,7 @@
 use Rattle.std.proofs.Common.{◌≡◌, ◌+◌, ◌++◌, ◌∷◌, [], ℕ, List, length, take, get_or, Bor, sym, ◌∙◌, ap}
 use Rattle.std.specs.Prelude.{Some}
 use Rattle.std.proofs.lemmas.List.{map_more, length-map, length-take-le}
-use Rattle.sqval.specs.Database.{Pages}
-use Rattle.sqval.specs.JudgedPages.{lent}
+use Rattle.recovery.proofs.Words.{Pages, lent}
 use Rattle.rollcore.specs.internal.Listing.{written}
 use Rattle.rollcore.specs.declared.changes.Change.{Change}
 use Rattle.rollcore.proofs.commit.ListedChanges.{more_yes, more_no}

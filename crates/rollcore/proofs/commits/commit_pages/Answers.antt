@@ -1,6 +1,5 @@
 use Rattle.std.proofs.Common.{rules, inl, inr, ⊎_elim, ◌∙◌}
-use Rattle.sqval.specs.JudgedPages.{lent}
-use Rattle.sqval.proofs.database.AnswersOfEngine.{passed}
+use Rattle.recovery.proofs.Words.{lent, passed}
 use Rattle.rollcore.proofs.commit.StepOfCommit.{fits_kept, refusal_open, refused_step}
 use Rattle.rollcore.proofs.commits.commit_pages.Goals as goal
 

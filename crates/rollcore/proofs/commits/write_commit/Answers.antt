@@ -1,8 +1,6 @@
 use Rattle.std.proofs.Common.{rules, sym, subst}
 use Rattle.std.specs.Prelude.{Result, length, take, OnOk}
-use Rattle.sqval.specs.Database.{apply}
-use Rattle.sqval.specs.JudgedPages.{lent}
-use Rattle.sqval.specs.Answers.{Done}
+use Rattle.recovery.proofs.Words.{apply, lent, Done, answered}
 use Rattle.rollcore.specs.Machine.{Commits, segments_of}
 use Rattle.rollcore.specs.Journaling.{sizes, parts_of}
 use Rattle.rollcore.specs.Fits.{StepsTo}
@@ -12,7 +10,6 @@ use Rattle.rollcore.specs.declared.error.RollError.{RollError}
 use Rattle.rollcore.proofs.commit.StepOfCommit.{commit_step, changed_here, put_here}
 use Rattle.rollcore.specs.internal.Segments.{pages_of}
 use Rattle.std.proofs.lemmas.Result.{on_ok_weaker}
-use Rattle.recovery.specs.Moments.{answered}
 use Rattle.rollcore.specs.Refusal.{number_of}
 use Rattle.rollcore.proofs.commits.write_commit.Goals as goal
 

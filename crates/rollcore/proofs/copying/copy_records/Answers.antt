@@ -1,19 +1,14 @@
 use Rattle.std.proofs.Common.{◌≡◌, ◌≤◌, ◌<◌, ◌+◌, ◌*◌, ◌∙◌, ℕ, length, refl, ap, arith, rules}
 use Rattle.std.proofs.Math.Nat.{mul-le-mul_left}
 use Rattle.std.specs.Prelude.{Ok}
-use Rattle.crashdisk.specs.Keeps.{Later}
-use Rattle.crashdisk.specs.declared.file.File.TheVariants.{Db}
-use Rattle.crashdisk.proofs.call.DisksAfterCalls.{later_cut}
+use Rattle.recovery.proofs.Words.{Later, Db, later_cut, passed, present_in, keeps_same, keeps_then, keeps_cut}
 use Rattle.rollcore.specs.Changes.{MayReplayWithin}
 use Rattle.rollcore.proofs.disk.ToldRefusals.{asks_same, asks_as, asks_err, asks_device, asks_done, asks_then}
 use Rattle.rollcore.specs.declared.error.RollError.TheVariants.{Device}
-use Rattle.sqval.proofs.database.AnswersOfEngine.{passed}
-use Rattle.crashdisk.proofs.call.UnchangingCalls.{present_in, keeps_same, keeps_then, keeps_cut}
 use Rattle.rollcore.proofs.replays.CopiedPages.{upto_none, upto_run, run_refused, copied_at, cut_refused}
 use Rattle.rollcore.proofs.replays.LastRecordOfPage.{entries_of, count_is}
-use Rattle.rollcore.proofs.replays.ShownDatabaseAtExits.{writing_run}
+use Rattle.rollcore.proofs.replays.PhasesOfReplay.{writing_run, writing_cuts}
 use Rattle.rollcore.proofs.replays.DecisivePrefixOfJournal.{read_count}
-use Rattle.rollcore.proofs.replays.ShownDatabaseDuringWrites.{writing_cuts}
 use Rattle.rollcore.proofs.copying.copy_records.Goals as goal
 
 pub loop-done-init : goal.loop-done-init

@@ -1,12 +1,8 @@
 use Rattle.std.proofs.Common.{◌≡◌, ◌↔◌, ◌-◌, ◌*◌, ◌≤◌, ℕ, List}
-use Rattle.sqval.specs.Bytes.{word}
-use Rattle.sqval.specs.Database.{Database}
+use Rattle.recovery.proofs.Words.{word, Database, ArePresent, longest, KeepsLog}
 use Rattle.sqjournal.specs.Journal.{Segment, IsJournal}
 use Rattle.sqjournal.specs.Took.{HasCount}
 use Rattle.sqjournal.specs.declared.reading.Why.{Why}
-use Rattle.crashdisk.specs.Call.{ArePresent}
-use Rattle.crashdisk.specs.State.{longest}
-use Rattle.crashdisk.specs.internal.Keeps.{KeepsLog}
 use Rattle.rollcore.specs.internal.Phases.{Writing}
 use Rattle.rollcore.specs.internal.Steps.{HasRead}
 use Rattle.rollcore.proofs.replays.CopiedPages.{Upto}

@@ -1,13 +1,7 @@
 use Rattle.std.proofs.Common.{◌≡◌, ◌≤◌, ◌+◌, ◌-◌, ◌*◌, inl, inr, ⊎_elim, ℕ, List, [], length, take, refl, arith, ap, subst, rules}
 use Rattle.std.specs.Prelude.{Ok, Some, None}
 use Rattle.sqval.specs.Bytes.{word as word_of}
-use Rattle.sqval.proofs.database.AnswersOfEngine.{passed}
-use Rattle.crashdisk.specs.State.{longest}
-use Rattle.crashdisk.specs.Call.{Writes, ArePresent}
-use Rattle.crashdisk.specs.Keeps.{Later}
-use Rattle.crashdisk.specs.declared.file.File.TheVariants.{Db}
-use Rattle.crashdisk.proofs.call.DisksAfterCalls.{later_still, later_then, later_write}
-use Rattle.crashdisk.proofs.call.UnchangingCalls.{still, still_looks, still_sound, keeps_still, keeps_then, keeps_write}
+use Rattle.recovery.proofs.Words.{passed, longest, Writes, ArePresent, Later, Db, later_still, later_then, later_write, still, still_looks, still_sound, keeps_still, keeps_then, keeps_write}
 use Rattle.rollcore.specs.Changes.{MayReplayWithin}
 use Rattle.rollcore.specs.internal.Steps.{HasRead}
 use Rattle.rollcore.specs.declared.error.RollError.TheVariants.{Device}

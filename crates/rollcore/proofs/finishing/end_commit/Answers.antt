@@ -1,18 +1,12 @@
 use Rattle.std.proofs.Common.{rules, ◌≡◌, ◌*◌, ◌∙◌, ℕ, refl, sym, ap, subst, arith}
 use Rattle.std.specs.Prelude.{Result, Ok}
-use Rattle.sqval.specs.Database.{apply}
-use Rattle.sqval.specs.JudgedPages.{lent}
-use Rattle.sqval.specs.CommitFaults.{most_bytes}
-use Rattle.crashdisk.specs.declared.file.File.TheVariants.{Db}
+use Rattle.recovery.proofs.Words.{apply, lent, most_bytes, Db, passed, later_cut, Later}
 use Rattle.rollcore.specs.internal.Commits.{PutAnswer}
 use Rattle.rollcore.specs.internal.Segments.{pages_of}
 use Rattle.rollcore.specs.declared.error.RollError.{RollError}
 use Rattle.rollcore.specs.declared.error.RollError.TheVariants.{Device}
-use Rattle.sqval.proofs.database.AnswersOfEngine.{passed}
 use Rattle.rollcore.proofs.commit.CompletedCommit.{put_harmless, put_after, ends_log, of_pages, some_changes, held_after, cut_failed, cut_done, cut_pages}
 use Rattle.rollcore.proofs.finishing.end_commit.Goals as goal
-use Rattle.crashdisk.proofs.call.DisksAfterCalls.{later_cut}
-use Rattle.crashdisk.specs.Keeps.{Later}
 use Rattle.rollcore.specs.Changes.{MayReplay}
 use Rattle.rollcore.proofs.disk.ToldRefusals.{asks_err, asks_then, asks_device, asks_done}
 

@@ -4,5 +4,5 @@ use Rattle.rollcore.proofs.laws.a_base_fits.Goals as goal
 pub returns-clause-new : goal.returns-clause-new
 returns-clause-new c size sector torn base bytes s pages sectors whole held just is = base_fits size sector torn base bytes s pages sectors whole held just is
 
-pub returns-clause-down : goal.returns-clause-down
-returns-clause-down c size base bytes s suits held just file down = down_fits size base bytes s suits held just file down
+pub returns-clause-durable : goal.returns-clause-durable
+returns-clause-durable c size base bytes s suits held just file durable = down_fits size base bytes s suits held just file durable

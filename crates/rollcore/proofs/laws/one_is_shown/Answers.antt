@@ -1,11 +1,7 @@
 use Rattle.std.proofs.Common.{refl}
 use Rattle.std.specs.Prelude.{Ok}
-use Rattle.sqval.specs.Answers.{Files}
-use Rattle.crashdisk.specs.State.{byte}
-use Rattle.crashdisk.proofs.image.OriginOfImages.{table}
-use Rattle.crashdisk.proofs.call.EffectsOfCalls.{present_list}
+use Rattle.recovery.proofs.Words.{Files, byte, table, present_list, AreFiles}
 use Rattle.rollcore.proofs.openings.RecoveredFiles.{is_found, settled_one}
-use Rattle.recovery.specs.Files.{AreFiles}
 use Rattle.rollcore.proofs.laws.one_is_shown.Goals as goal
 
 pub returns : goal.returns

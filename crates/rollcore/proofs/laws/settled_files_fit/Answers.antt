@@ -2,4 +2,4 @@ use Rattle.rollcore.proofs.machine.FitOfSettledFiles.{settled_fits}
 use Rattle.rollcore.proofs.laws.settled_files_fit.Goals as goal
 
 pub returns : goal.returns
-returns c size base files s suits held file down fits shows = settled_fits size base files.db files.log s file down shows suits held fits
+returns c size base files s suits held file durable fits shows = settled_fits size base files.db files.log s file durable shows suits held fits

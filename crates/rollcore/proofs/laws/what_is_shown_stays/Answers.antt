@@ -1,5 +1,4 @@
-use Rattle.recovery.proofs.NarrowedImages.{alone_syncs, alone_looks, alone_same}
-use Rattle.recovery.proofs.ShownDatabase.{crash_shows}
+use Rattle.recovery.proofs.Words.{alone_syncs, alone_looks, alone_same, crash_shows}
 use Rattle.rollcore.specs.Alone.{journal_log}
 use Rattle.rollcore.proofs.laws.what_is_shown_stays.Goals as goal
 

@@ -2,10 +2,8 @@ use Rattle.std.proofs.Common.{rules, refl}
 use Rattle.std.specs.Prelude.{Ok, IsTrue, Bool, true, false}
 use Rattle.rollcore.proofs.disk.ToldRefusals.{told_device, told_then}
 use Rattle.rollcore.specs.declared.error.RollError.TheVariants.{Device}
-use Rattle.sqval.proofs.database.AnswersOfEngine.{passed}
-use Rattle.crashdisk.proofs.call.UnchangingCalls.{still_looks}
+use Rattle.recovery.proofs.Words.{passed, still_looks, tells_ok}
 use Rattle.rollcore.proofs.openings.MagicAsRead.{magic_read, magic_there, puts_zero, break_failed, break_unread}
-use Rattle.recovery.proofs.ToldRefusals.{tells_ok}
 use Rattle.rollcore.proofs.opening.break_magic.Goals as goal
 
 pub returns-then-not-is_magic-clause-disk : goal.returns-then-not-is_magic-clause-disk

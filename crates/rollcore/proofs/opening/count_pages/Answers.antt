@@ -1,14 +1,10 @@
 use Rattle.std.proofs.Common.{rules, ◌∙◌, ℕ, sym, subst, arith}
-use Rattle.sqval.specs.PageSize.{IsPageSize}
-use Rattle.sqval.proofs.page.FilePages.{count_zero, count_rest}
+use Rattle.recovery.proofs.Words.{IsPageSize, count_zero, count_rest, passed, still_looks, tells_ok}
 use Rattle.std.specs.Prelude.{Err}
-use Rattle.sqval.proofs.database.AnswersOfEngine.{passed}
 use Rattle.rollcore.specs.declared.error.RollError.TheVariants.{TooLarge, PageSize, Device}
 use Rattle.rollcore.proofs.replays.PlanOfScannedLog.{count_whole}
 use Rattle.rollcore.proofs.disk.ToldRefusals.{told_device}
 use Rattle.rollcore.proofs.opening.count_pages.Goals.{then-long-eq0-via-then-long-eq0, then-long-eq0-via-else-long-eq0+then-long-size-ne0}
-use Rattle.crashdisk.proofs.call.UnchangingCalls.{still_looks}
-use Rattle.recovery.proofs.ToldRefusals.{tells_ok}
 use Rattle.rollcore.proofs.opening.count_pages.Goals as goal
 
 pub returns-then-long-eq0-clause-disk : goal.returns-then-long-eq0-clause-disk

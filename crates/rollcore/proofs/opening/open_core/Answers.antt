@@ -1,8 +1,6 @@
 use Rattle.std.proofs.Common.{◌≡◌, ℕ, length, rules, arith, subst, sym, ◌∙◌, inl, inr, refl}
 use Rattle.sqjournal.proofs.read.JournalOfTakenBytes.{size_bounds}
-use Rattle.crashdisk.proofs.page.PlacesOfPages.{sector_some}
-use Rattle.crashdisk.specs.Keeps.{TearsPages}
-use Rattle.sqval.proofs.database.AnswersOfEngine.{passed, match_err, if_err}
+use Rattle.recovery.proofs.Words.{sector_some, TearsPages, passed, match_err, if_err}
 use Rattle.rollcore.proofs.openings.RecoveredFiles.{given_up, opened_to}
 use Rattle.rollcore.specs.Opening.{RefusedFor, OpenRefused}
 use Rattle.rollcore.proofs.openings.RefusalOfOpening.{from_err, files_refused, files_opened, tears_pages, no_tears}
@@ -69,7 +67,7 @@ returns-then-size-sector_that_tears g c = record {
       let torn = tears_pages c.args.page_size s (omega (arith, c.if-size-sector_that_tears.true, c.get-size.ensures.value, c.sector_that_tears.ensures.value word)) in
       record {
         step = λ past found are same fits. absurd (fits.suits.whole (subst (λ (n : ℕ). TearsPages n s) (sym same) torn));
-        agrees = λ size w d down alone. alone;
+        agrees = λ size w d durable alone. alone;
         synced = inl refl;
         refuses = inl (refl, torn, refl);
         opens = search rules;

@@ -1,10 +1,8 @@
 use Rattle.std.proofs.Common.{rules, ◌+◌, inr, sym, ap}
 use Rattle.rollcore.specs.declared.error.RollError.TheVariants.{Device}
-use Rattle.sqval.proofs.database.AnswersOfEngine.{passed}
-use Rattle.crashdisk.proofs.call.DisksAfterCalls.{place_read, place_refused}
+use Rattle.recovery.proofs.Words.{passed, place_read, place_refused, tells_ok}
 use Rattle.std.specs.Prelude.{Ok}
 use Rattle.rollcore.proofs.disk.ToldRefusals.{told_device}
-use Rattle.recovery.proofs.ToldRefusals.{tells_ok}
 use Rattle.rollcore.proofs.paging.read_place.Goals as goal
 
 pub returns-in_err-read_at-clause-disk : goal.returns-in_err-read_at-clause-disk

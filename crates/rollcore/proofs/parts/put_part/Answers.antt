@@ -1,7 +1,6 @@
 use Rattle.std.proofs.Common.{◌≡◌, rules, refl, inl, inr, ⊎_elim, ◌∙◌, sym, ap, subst, arith, ◌*◌, ◌<◌, ℕ, length, ◌-◌, List, take, drop, length-take, length-drop}
 use Rattle.std.proofs.lemmas.List.{length-map}
-use Rattle.sqval.specs.Database.{Database, apply}
-use Rattle.sqval.specs.JudgedPages.{lent}
+use Rattle.recovery.proofs.Words.{Database, apply, lent}
 use Rattle.sqjournal.proofs.read.JournalOfTakenBytes.{size_bounds}
 use Rattle.rollcore.specs.Changes.{MayCommit, Asks}
 use Rattle.rollcore.specs.internal.Commits.{ArePlaced, AreWithin}

@@ -1,15 +1,13 @@
 use Rattle.std.proofs.Common.{◌≡◌, ◌<◌, List, ◌∙◌, ℕ, sym, ap, subst, refl, arith, rules, length}
 use Rattle.std.specs.Prelude.{Result, Ok, Err}
 use Rattle.std.proofs.lemmas.List.{length-map}
-use Rattle.sqval.specs.Database.{apply}
-use Rattle.sqval.specs.JudgedPages.{lent}
+use Rattle.recovery.proofs.Words.{apply, lent, passed}
 use Rattle.rollcore.specs.Machine.{segments_of}
 use Rattle.rollcore.specs.Changes.{MayCommit, Asks}
 use Rattle.rollcore.proofs.disk.ToldRefusals.{asks_same, asks_as, asks_err, asks_then}
 use Rattle.rollcore.specs.internal.Segments.{pages_of, SegmentsAnswer}
 use Rattle.rollcore.specs.declared.changes.Change.{Change}
 use Rattle.rollcore.specs.declared.error.RollError.{RollError}
-use Rattle.sqval.proofs.database.AnswersOfEngine.{passed}
 use Rattle.rollcore.proofs.journal.DurableRecords.{harmless_after}
 use Rattle.rollcore.proofs.commit.SegmentsOfCommit.{enough, parts_begin, parts_end, parts_all, part_forth, part_back, ready_kept, places_few, kept_same, kept_then}
 use Rattle.rollcore.proofs.parts.put_segments.Goals as goal

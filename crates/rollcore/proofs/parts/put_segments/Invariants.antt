@@ -1,6 +1,5 @@
 use Rattle.std.proofs.Common.{◌≡◌, ◌↔◌, ◌*◌, ◌^◌, ◌≤◌, ℕ, length}
-use Rattle.sqval.specs.Database.{Database, apply}
-use Rattle.sqval.specs.JudgedPages.{lent}
+use Rattle.recovery.proofs.Words.{Database, apply, lent}
 use Rattle.std.specs.Prelude.{Ok}
 use Rattle.rollcore.specs.internal.Committing.{RestsAt}
 use Rattle.rollcore.specs.Changes.{MayCommit, Asks}

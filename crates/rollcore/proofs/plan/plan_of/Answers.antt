@@ -1,7 +1,7 @@
 use Rattle.std.proofs.Common.{◌≡◌, ◌+◌, length, rules, arith}
 use Rattle.std.specs.Prelude.{Some, None}
 use Rattle.sqjournal.proofs.read.JournalOfTakenBytes.{size_bounds}
-use Rattle.sqval.proofs.database.AnswersOfEngine.{passed}
+use Rattle.recovery.proofs.Words.{passed}
 use Rattle.rollcore.proofs.replays.PlanOfScannedLog.{plan_none, plan_some, plan_refused, plan_memory}
 use Rattle.rollcore.proofs.replays.DecisivePrefixOfJournal.{read_first}
 use Rattle.rollcore.specs.declared.error.RollError.TheVariants.{NoMemory}

@@ -2,9 +2,8 @@ use Rattle.std.proofs.Common.{rules, ap, ◌∙◌}
 use Rattle.std.specs.Prelude.{Ok, Option, None}
 use Rattle.rollcore.specs.declared.plan.Plan.{Plan}
 use Rattle.rollcore.proofs.disk.ToldRefusals.{told_err}
-use Rattle.sqval.proofs.database.AnswersOfEngine.{passed}
+use Rattle.recovery.proofs.Words.{passed, tells_again}
 use Rattle.rollcore.proofs.replays.PlanOfScannedLog.{plan_none, read_planned, read_scan, scan_read, scan_cold}
-use Rattle.recovery.proofs.ToldRefusals.{tells_again}
 use Rattle.rollcore.specs.declared.error.RollError.TheVariants.{Device}
 use Rattle.rollcore.proofs.plan.read_plan.Goals as goal
 

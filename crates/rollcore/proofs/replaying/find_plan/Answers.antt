@@ -1,12 +1,9 @@
 use Rattle.std.proofs.Common.{rules, ◌≡◌, refl, sym, ap, ◌∙◌}
-use Rattle.crashdisk.specs.State.{FileState}
+use Rattle.recovery.proofs.Words.{FileState, passed, present_in, still_looks, still_then, tells_ok}
 use Rattle.rollcore.specs.declared.error.RollError.TheVariants.{Device}
-use Rattle.sqval.proofs.database.AnswersOfEngine.{passed}
-use Rattle.crashdisk.proofs.call.UnchangingCalls.{present_in, still_looks, still_then}
 use Rattle.rollcore.proofs.replays.AnswerOfParts.{torn_still, read_torn, look_unread, read_looked}
 use Rattle.std.specs.Prelude.{Ok}
 use Rattle.rollcore.proofs.disk.ToldRefusals.{told_device, told_then}
-use Rattle.recovery.proofs.ToldRefusals.{tells_ok}
 use Rattle.rollcore.proofs.replaying.find_plan.Goals as goal
 
 pub returns-in_err-long-clause-disk : goal.returns-in_err-long-clause-disk

@@ -1,19 +1,12 @@
 use Rattle.std.proofs.Common.{rules, ◌≡◌, ◌≤◌, ◌*◌, ℕ, refl, sym, subst}
-use Rattle.crashdisk.specs.State.{byte, IsSectorSize}
+use Rattle.recovery.proofs.Words.{byte, IsSectorSize, table, present_list, passed, present_in, down_present, down_by, copy_done}
 use Rattle.rollcore.specs.Lengths.{EndsBy}
-use Rattle.crashdisk.proofs.image.OriginOfImages.{table}
-use Rattle.crashdisk.proofs.call.EffectsOfCalls.{present_list}
-use Rattle.sqval.proofs.database.AnswersOfEngine.{passed}
-use Rattle.crashdisk.proofs.call.UnchangingCalls.{present_in}
-use Rattle.crashdisk.proofs.sync.BytesOfSyncedLog.{down_present, down_by}
 use Rattle.rollcore.proofs.replays.AnswerOfParts.{planned, rolled_copy, rolled_end, rolled_done, writing_at, pages_at, rolled_present}
 use Rattle.rollcore.proofs.replays.LengthOfDatabaseFile.{ends_hot, named_by, fit_named, rolled_length}
-use Rattle.rollcore.proofs.replays.ShownDatabaseDuringWrites.{writing_shows}
-use Rattle.rollcore.proofs.replays.ShownDatabaseAtExits.{fit_begins}
+use Rattle.rollcore.proofs.replays.PhasesOfReplay.{fit_begins, writing_shows}
 use Rattle.rollcore.specs.Changes.{MayReplayWithin, Asks}
 use Rattle.rollcore.proofs.disk.ToldRefusals.{asks_as, asks_err, asks_then}
 use Rattle.rollcore.proofs.replays.DecisivePrefixOfJournal.{read_count}
-use Rattle.recovery.proofs.AnswersOfSteps.{copy_done}
 use Rattle.rollcore.specs.declared.error.RollError.TheVariants.{Device}
 use Rattle.rollcore.proofs.replaying.replay_plan.Goals as goal
 
@@ -36,13 +29,13 @@ returns-in_err-copy_records-clause-disk g c = record {
         shows = λ sectors size w d scanning fit is.
             let p = planned w w _ c.get-page.result c.args.plan c.requires.few fit is e in
             writing_shows size w d _ (writing_at c.get-page.result size w d _ _ p.same
-            (by_copy_records.writing w d (down_present w _ scanning.down) is.read p.within p.first)
-            (fit_begins size d w _ sound sectors fit scanning));
-        ends = λ sectors w down fit is.
+            (by_copy_records.writing w d (down_present w _ scanning.durable) is.read p.within p.first)
+            (fit_begins size w d _ sound sectors fit scanning));
+        ends = λ sectors w durable fit is.
             let a = g.D.Disk.state c.args.disk.now in
             let b = g.D.Disk.state c.copy_records.new.disk in
             let log = by_copy_records.log in
-            ends_hot w b (down_by w a b down log.log log.tears log.kept log.handed) _ fit.hot (named_by w a b log.sector log.tears (fit_named w a fit));
+            ends_hot w b (down_by w a b durable log.log log.tears log.kept log.handed) _ fit.hot (named_by w a b log.sector log.tears (fit_named w a fit));
       };
 }
 
@@ -67,22 +60,22 @@ returns-in_err-finish-clause-disk g c = record {
         shows = λ sectors size w d scanning fit is.
             let p = planned w w _ c.get-page.result c.args.plan c.requires.few fit is e in
             let s = g.D.Disk.state c.args.disk.now in
-            let begun = fit_begins size d w s sound sectors fit scanning in
-            let are = down_present w s scanning.down in
+            let begun = fit_begins size w d s sound sectors fit scanning in
+            let are = down_present w s scanning.durable in
             let now = table s.db.len (byte s.db) in
             by_finish.shows size w d
             (writing_at c.get-page.result size w d _ _ p.same (by_copy_records.writing w d are is.read p.within p.first) begun)
             (pages_at c.get-page.result size w d s (g.D.Disk.state c.copy_records.new.disk) p.same begun (copy_done Device c.get-page.result d c.copy_records.result _ _ _ c.in_ok-copy_records.was
             (by_copy_records.pages now w d (present_list s.db) are is.read fit.hot p.same p.first p.within (rolled_present size w d s fit.hot scanning))));
-        ends = λ sectors w down fit is.
+        ends = λ sectors w durable fit is.
             let a = g.D.Disk.state c.args.disk.now in
             let b = g.D.Disk.state c.copy_records.new.disk in
             let now = table a.db.len (byte a.db) in
             let p = planned w now _ c.get-page.result c.args.plan c.requires.few fit is e in
             let pages = copy_done Device c.get-page.result p.pages c.copy_records.result _ _ _ c.in_ok-copy_records.was
-            (by_copy_records.pages now w p.pages (present_list a.db) (down_present w a down) is.read fit.hot p.same p.first p.within p.rolled) in
+            (by_copy_records.pages now w p.pages (present_list a.db) (down_present w a durable) is.read fit.hot p.same p.first p.within p.rolled) in
             subst (λ (n : ℕ). EndsBy n (g.D.Disk.state c.finish.new.disk)) (rolled_length w now p.pages c.get-page.result b pages p.rolled p.same)
-            (by_finish.lengths (subst IsSectorSize (sym log.sector) sectors) w (down_by w a b down log.log log.tears log.kept log.handed) fit.hot (named_by w a b log.sector log.tears (fit_named w a fit)));
+            (by_finish.lengths (subst IsSectorSize (sym log.sector) sectors) w (down_by w a b durable log.log log.tears log.kept log.handed) fit.hot (named_by w a b log.sector log.tears (fit_named w a fit)));
       };
 }
 
@@ -109,21 +102,21 @@ returns-clause-disk g c = record {
         shows = λ sectors size w d scanning fit is.
             let p = planned w w _ c.get-page.result c.args.plan c.requires.few fit is e in
             let s = g.D.Disk.state c.args.disk.now in
-            let begun = fit_begins size d w s sound sectors fit scanning in
-            let are = down_present w s scanning.down in
+            let begun = fit_begins size w d s sound sectors fit scanning in
+            let are = down_present w s scanning.durable in
             let now = table s.db.len (byte s.db) in
             by_finish.shows size w d
             (writing_at c.get-page.result size w d _ _ p.same (by_copy_records.writing w d are is.read p.within p.first) begun)
             (pages_at c.get-page.result size w d s (g.D.Disk.state c.copy_records.new.disk) p.same begun (copy_done Device c.get-page.result d c.copy_records.result _ _ _ c.in_ok-copy_records.was
             (by_copy_records.pages now w d (present_list s.db) are is.read fit.hot p.same p.first p.within (rolled_present size w d s fit.hot scanning))));
-        ends = λ sectors w down fit is.
+        ends = λ sectors w durable fit is.
             let a = g.D.Disk.state c.args.disk.now in
             let b = g.D.Disk.state c.copy_records.new.disk in
             let now = table a.db.len (byte a.db) in
             let p = planned w now _ c.get-page.result c.args.plan c.requires.few fit is e in
             let pages = copy_done Device c.get-page.result p.pages c.copy_records.result _ _ _ c.in_ok-copy_records.was
-            (by_copy_records.pages now w p.pages (present_list a.db) (down_present w a down) is.read fit.hot p.same p.first p.within p.rolled) in
+            (by_copy_records.pages now w p.pages (present_list a.db) (down_present w a durable) is.read fit.hot p.same p.first p.within p.rolled) in
             subst (λ (n : ℕ). EndsBy n (g.D.Disk.state c.finish.new.disk)) (rolled_length w now p.pages c.get-page.result b pages p.rolled p.same)
-            (by_finish.lengths (subst IsSectorSize (sym log.sector) sectors) w (down_by w a b down log.log log.tears log.kept log.handed) fit.hot (named_by w a b log.sector log.tears (fit_named w a fit)));
+            (by_finish.lengths (subst IsSectorSize (sym log.sector) sectors) w (down_by w a b durable log.log log.tears log.kept log.handed) fit.hot (named_by w a b log.sector log.tears (fit_named w a fit)));
       };
 }

@@ -1,18 +1,14 @@
 use Rattle.std.proofs.Common.{rules, refl}
 use Rattle.std.specs.Prelude.{Ok}
 use Rattle.rollcore.specs.declared.error.RollError.TheVariants.{Device}
-use Rattle.sqval.proofs.database.AnswersOfEngine.{passed}
+use Rattle.recovery.proofs.Words.{passed, unwritten_shows, unwritten_syncs, Log, down_syncs, later_sync, Later, goes_on, stays}
 use Rattle.rollcore.proofs.replays.AnswerOfParts.{sync_unreplayed, synced_present, replay_after}
-use Rattle.rollcore.proofs.replays.ShownDatabaseAtExits.{agrees_by, scanning_shows, scanning_syncs}
-use Rattle.crashdisk.specs.declared.file.File.TheVariants.{Log}
-use Rattle.crashdisk.proofs.sync.BytesOfSyncedLog.{down_syncs}
+use Rattle.rollcore.proofs.replays.PhasesOfReplay.{agrees_by}
+use Rattle.rollcore.specs.Alone.{journal_log}
 use Rattle.rollcore.proofs.replays.LengthOfDatabaseFile.{ends_resynced}
-use Rattle.crashdisk.proofs.call.DisksAfterCalls.{later_sync}
-use Rattle.crashdisk.specs.Keeps.{Later}
 use Rattle.sqval.specs.Bytes.{word as word_of}
 use Rattle.rollcore.specs.Changes.{MayReplayWithin}
 use Rattle.rollcore.proofs.disk.ToldRefusals.{asks_device, asks_done, asks_then}
-use Rattle.recovery.proofs.AnswersOfSteps.{goes_on, stays}
 use Rattle.rollcore.proofs.replaying.replay_within.Goals as goal
 
 pub returns-in_err-sync : goal.returns-in_err-sync
@@ -23,8 +19,8 @@ returns-in_err-sync g c = record {
         replays = λ db w are_db are. sync_unreplayed c.args.limits.bytes db w c.sync.result _ c.from_residual.result _ _ c.in_err-sync.was (passed c.from_residual.result Device c.from_residual.ensures.1) (c.sync.ensures.state word);
         agrees =
             agrees_by (g.D.Disk.state c.args.disk.now) (g.D.Disk.state c.sync.new.self)
-            (λ size w d scanning. scanning_shows size d w _ (scanning_syncs size d w c.sync.result _ _ scanning (c.sync.ensures.state word)));
-        lengths = λ w n down same ends. ends_resynced n w c.sync.result (g.D.Disk.state c.args.disk.now) (g.D.Disk.state c.sync.new.self) down (c.sync.ensures.state word) ends;
+            (λ size w d scanning. unwritten_shows journal_log size d w _ (unwritten_syncs journal_log size d w c.sync.result _ _ scanning (c.sync.ensures.state word)));
+        lengths = λ w n durable same ends. ends_resynced n w c.sync.result (g.D.Disk.state c.args.disk.now) (g.D.Disk.state c.sync.new.self) durable (c.sync.ensures.state word) ends;
         synced =
             record {
               called = c.sync.result;
@@ -48,11 +44,11 @@ returns g c = record {
         agrees =
             agrees_by (g.D.Disk.state c.args.disk.now) (g.D.Disk.state c.replay_synced_within.new.disk)
             (λ size w d scanning.
-            let synced = scanning_syncs size d w c.sync.result _ _ scanning (c.sync.ensures.state word) in
-            by_replay_synced.agrees size w d synced.down (scanning_shows size d w _ synced));
-        lengths = λ w n down same ends.
-            by_replay_synced.lengths w n (down_syncs w Log c.sync.result _ _ down (c.sync.ensures.state word)) same
-            (ends_resynced n w c.sync.result (g.D.Disk.state c.args.disk.now) (g.D.Disk.state c.sync.new.self) down (c.sync.ensures.state word) ends);
+            let synced = unwritten_syncs journal_log size d w c.sync.result _ _ scanning (c.sync.ensures.state word) in
+            by_replay_synced.agrees size w d synced.durable (unwritten_shows journal_log size d w _ synced));
+        lengths = λ w n durable same ends.
+            by_replay_synced.lengths w n (down_syncs w Log c.sync.result _ _ durable (c.sync.ensures.state word)) same
+            (ends_resynced n w c.sync.result (g.D.Disk.state c.args.disk.now) (g.D.Disk.state c.sync.new.self) durable (c.sync.ensures.state word) ends);
         synced =
             record {
               called = c.sync.result;

@@ -1,12 +1,10 @@
 use Rattle.std.proofs.Common.{◌<◌, ◌++◌, ◌+◌, ℕ, length, refl, sym, ap, subst, arith, rules, []}
 use Rattle.std.specs.Prelude.{Result, Ok}
-use Rattle.sqval.specs.JudgedPages.{lent}
-use Rattle.crashdisk.specs.Call.{DiskState}
+use Rattle.recovery.proofs.Words.{lent, DiskState, passed}
 use Rattle.rollcore.specs.Changes.{MayReplay, Asks}
 use Rattle.rollcore.proofs.disk.ToldRefusals.{asks_same, asks_as, asks_err, asks_then, page_within}
 use Rattle.rollcore.specs.internal.Segments.{PutPagesAnswer, new_numbers}
 use Rattle.rollcore.specs.declared.error.RollError.{RollError}
-use Rattle.sqval.proofs.database.AnswersOfEngine.{passed}
 use Rattle.rollcore.proofs.commit.AppendedPages.{Grown, grown_none, grown_all, grown_old, grown_put, grown_failed, lent_at, lent_length}
 use Rattle.rollcore.proofs.segments.put_new_pages.Goals as goal
 use Rattle.rollcore.proofs.segments.put_new_pages.Goals.{then-page-old_size+in_ok-put_page, else-page-old_size}

@@ -1,6 +1,5 @@
 use Rattle.std.proofs.Common.{◌≡◌, ◌↔◌, ◌<◌, ℕ, List, length}
-use Rattle.sqval.specs.Database.{Database}
-use Rattle.sqval.specs.JudgedPages.{lent}
+use Rattle.recovery.proofs.Words.{Database, lent}
 use Rattle.std.specs.Prelude.{Ok}
 use Rattle.rollcore.specs.Changes.{MayReplay, Asks}
 use Rattle.rollcore.specs.internal.Commits.{ArePlaced}

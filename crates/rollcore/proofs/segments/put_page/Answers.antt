@@ -1,9 +1,6 @@
 use Rattle.std.proofs.Common.{rules, ◌≡◌, ◌-◌, ◌*◌, ℕ, length, ap, arith}
-use Rattle.crashdisk.specs.declared.file.File.TheVariants.{Db}
-use Rattle.crashdisk.proofs.call.DisksAfterCalls.{later_write}
-use Rattle.crashdisk.proofs.page.PlacesOfPages.{page_end}
+use Rattle.recovery.proofs.Words.{Db, later_write, page_end, passed}
 use Rattle.rollcore.proofs.disk.ToldRefusals.{asks_done, asks_device, one_page}
-use Rattle.sqval.proofs.database.AnswersOfEngine.{passed}
 use Rattle.rollcore.specs.declared.error.RollError.TheVariants.{Device}
 use Rattle.rollcore.proofs.segments.put_page.Goals as goal
 

@@ -1,14 +1,11 @@
 use Rattle.std.proofs.Common.{◌++◌, ◌+◌, ◌*◌, ◌≤◌, ℕ, refl, sym, ap, subst, arith, rules, []}
 use Rattle.std.specs.Prelude.{Result, Ok}
-use Rattle.sqval.specs.JudgedPages.{lent}
-use Rattle.crashdisk.specs.Call.{DiskState}
-use Rattle.sqval.specs.CommitFaults.{most_bytes}
+use Rattle.recovery.proofs.Words.{lent, DiskState, most_bytes, passed}
 use Rattle.rollcore.specs.Changes.{MayReplay, Asks}
 use Rattle.rollcore.specs.internal.Commits.{change_at}
 use Rattle.rollcore.proofs.disk.ToldRefusals.{asks_same, asks_as, asks_err, asks_then}
 use Rattle.rollcore.specs.internal.Segments.{PutPagesAnswer, pages_of}
 use Rattle.rollcore.specs.declared.error.RollError.{RollError}
-use Rattle.sqval.proofs.database.AnswersOfEngine.{passed}
 use Rattle.rollcore.proofs.commit.OverwrittenPages.{turned_none, turned_all, turned_cut, turned_put, turned_failed, lent_content, Turned}
 use Rattle.rollcore.proofs.segments.put_pages.Goals as goal
 use Rattle.rollcore.proofs.segments.put_pages.Goals.{in-Some+in_ok-put_page-in-Some, in-None}

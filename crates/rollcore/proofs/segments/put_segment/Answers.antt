@@ -2,12 +2,11 @@ use Rattle.std.proofs.Common.{rules, ◌≡◌, ◌<◌, ◌≤◌, ◌-◌, ◌
 use Rattle.std.specs.Prelude.{Result}
 use Rattle.std.proofs.lemmas.List.{length-map}
 use Rattle.sqjournal.proofs.read.JournalOfTakenBytes.{size_bounds}
-use Rattle.crashdisk.specs.State.{FileState}
+use Rattle.recovery.proofs.Words.{FileState, passed}
 use Rattle.rollcore.specs.Journaling.{old_pages, sizes, next_place, HasParts}
 use Rattle.rollcore.specs.internal.Segments.{SegmentAnswer, Journaled, ArePut, pages_of}
 use Rattle.rollcore.specs.declared.changes.Change.{Change}
 use Rattle.rollcore.specs.declared.error.RollError.{RollError}
-use Rattle.sqval.proofs.database.AnswersOfEngine.{passed}
 use Rattle.rollcore.proofs.journal.DurableRecords.{harmless_after}
 use Rattle.rollcore.proofs.journal.WholeSegments.{next_of}
 use Rattle.rollcore.proofs.segments.put_segment.Goals as goal
@@ -63,15 +62,15 @@ returns-in_err-put_pages-clause-disk g c = record {
             let sector = c.args.head.now.header.sector in
             let ready = (c.in_ok-next.ensures.disk.holds word).prepared d named w is fresh more in
             let few : length numbers ≤ 64 = omega (arith, c.requires.changes.few, length-map c.args.changes.now (λ (c : Change). c.page)) in
-            let down = (c.in_ok-write_header.ensures.disk.holds (c.prepare_segment.ensures.disk.word.0 word)).header n sector d named numbers ready.1.0 c.args.head.now.header.nonce ready.1.1 wide few head in
+            let durable = (c.in_ok-write_header.ensures.disk.holds (c.prepare_segment.ensures.disk.word.0 word)).header n sector d named numbers ready.1.0 c.args.head.now.header.nonce ready.1.1 wide few head in
             let range = size_bounds sector c.requires.place.1 in
             let above = next_of (sizes sector n) c.args.head.now.place (old_pages d numbers) (omega (arith, range.0)) in
             let begun = (let z : 0 < next_place (sizes sector n) c.args.head.now.place (old_pages d numbers) = omega (arith, above, range.0) in z) in
-            let same_file : (g.D.Disk.state c.write_header.new.disk).db ≡ (g.D.Disk.state c.args.disk.now).db = down.2 ∙ ready.3 in
+            let same_file : (g.D.Disk.state c.write_header.new.disk).db ≡ (g.D.Disk.state c.args.disk.now).db = durable.2 ∙ ready.3 in
             subst (λ (x : Result ℕ RollError). SegmentAnswer n sector d e named before c.args.head.now.place w numbers c.args.head.now.header.nonce x (g.D.Disk.state c.args.disk.now) (g.D.Disk.state c.put_pages.new.disk))
             (sym (passed c.from_residual-in_err-put_pages.result _ c.from_residual-in_err-put_pages.ensures.1))
-            (harmless_after n d _ (g.D.Disk.state c.args.disk.now) (g.D.Disk.state c.write_header.new.disk) _ (omega (arith, ready.2, down.1))
-            ((c.in_err-put_pages.ensures.disk.holds (c.write_header.ensures.disk.word.0 (c.prepare_segment.ensures.disk.word.0 word))).put n sector d e (named ++ numbers) _ down.0.0 before down.0.1 begun turned somes (subst (λ (s : FileState). ArePut n e before s) (sym same_file) put)));
+            (harmless_after n d _ (g.D.Disk.state c.args.disk.now) (g.D.Disk.state c.write_header.new.disk) _ (omega (arith, ready.2, durable.1))
+            ((c.in_err-put_pages.ensures.disk.holds (c.write_header.ensures.disk.word.0 (c.prepare_segment.ensures.disk.word.0 word))).put n sector d e (named ++ numbers) _ durable.0.0 before durable.0.1 begun turned somes (subst (λ (s : FileState). ArePut n e before s) (sym same_file) put)));
       };
 }
 
@@ -91,20 +90,20 @@ returns-clause-disk g c = record {
             let sector = c.args.head.now.header.sector in
             let ready = (c.in_ok-next.ensures.disk.holds word).prepared d named w is fresh more in
             let few : length numbers ≤ 64 = omega (arith, c.requires.changes.few, length-map c.args.changes.now (λ (c : Change). c.page)) in
-            let down = (c.in_ok-write_header.ensures.disk.holds (c.prepare_segment.ensures.disk.word.0 word)).header n sector d named numbers ready.1.0 c.args.head.now.header.nonce ready.1.1 wide few head in
+            let durable = (c.in_ok-write_header.ensures.disk.holds (c.prepare_segment.ensures.disk.word.0 word)).header n sector d named numbers ready.1.0 c.args.head.now.header.nonce ready.1.1 wide few head in
             let range = size_bounds sector c.requires.place.1 in
             let above = next_of (sizes sector n) c.args.head.now.place (old_pages d numbers) (omega (arith, range.0)) in
             let begun = (let z : 0 < next_place (sizes sector n) c.args.head.now.place (old_pages d numbers) = omega (arith, above, range.0) in z) in
-            let same_file : (g.D.Disk.state c.write_header.new.disk).db ≡ (g.D.Disk.state c.args.disk.now).db = down.2 ∙ ready.3 in
-            let all = (c.in_ok-put_pages.ensures.disk.holds (c.write_header.ensures.disk.word.0 (c.prepare_segment.ensures.disk.word.0 word))).put n sector d e (named ++ numbers) _ down.0.0 before down.0.1 begun turned somes (subst (λ (s : FileState). ArePut n e before s) (sym same_file) put) in (
+            let same_file : (g.D.Disk.state c.write_header.new.disk).db ≡ (g.D.Disk.state c.args.disk.now).db = durable.2 ∙ ready.3 in
+            let all = (c.in_ok-put_pages.ensures.disk.holds (c.write_header.ensures.disk.word.0 (c.prepare_segment.ensures.disk.word.0 word))).put n sector d e (named ++ numbers) _ durable.0.0 before durable.0.1 begun turned somes (subst (λ (s : FileState). ArePut n e before s) (sym same_file) put) in (
               ready.0,
               (
-                down.0.0,
-                subst (λ (k : ℕ). Journaled n sector d (named ++ numbers) k down.0.0 (g.D.Disk.state c.put_pages.new.disk)) (sym ready.0) all.0,
-                λ parts has. subst (λ (k : ℕ). HasParts (sizes sector n) down.0.0 k (parts ++ (c.args.head.now.header.nonce, old_pages d numbers) ∷ [])) (sym ready.0) (down.0.2 parts (ready.1.2 parts has)),
+                durable.0.0,
+                subst (λ (k : ℕ). Journaled n sector d (named ++ numbers) k durable.0.0 (g.D.Disk.state c.put_pages.new.disk)) (sym ready.0) all.0,
+                λ parts has. subst (λ (k : ℕ). HasParts (sizes sector n) durable.0.0 k (parts ++ (c.args.head.now.header.nonce, old_pages d numbers) ∷ [])) (sym ready.0) (durable.0.2 parts (ready.1.2 parts has)),
               ),
               all.1,
-              omega (arith, ready.2, down.1, all.2),
+              omega (arith, ready.2, durable.1, all.2),
             );
       };
 }

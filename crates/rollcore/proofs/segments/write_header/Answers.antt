@@ -4,15 +4,12 @@ use Rattle.sqjournal.specs.Header.{header_bytes}
 use Rattle.rollcore.specs.internal.Segments.{HeaderAnswer}
 use Rattle.rollcore.specs.declared.error.RollError.{RollError}
 use Rattle.rollcore.specs.declared.error.RollError.TheVariants.{Device}
-use Rattle.sqval.proofs.database.AnswersOfEngine.{passed}
-use Rattle.crashdisk.specs.Keeps.{Later}
+use Rattle.recovery.proofs.Words.{passed, Later, Log, later_sync, later_then, later_write}
 use Rattle.rollcore.specs.Changes.{MayCommit}
 use Rattle.rollcore.proofs.disk.PermittedChanges.{header_may}
 use Rattle.rollcore.proofs.disk.ToldRefusals.{asks_device, asks_done, asks_then}
 use Rattle.rollcore.proofs.journal.StepsOfSegmentHeader.{header_failed, header_unsynced, header_done}
-use Rattle.crashdisk.specs.declared.file.File.TheVariants.{Log}
 use Rattle.rollcore.proofs.segments.write_header.Goals as goal
-use Rattle.crashdisk.proofs.call.DisksAfterCalls.{later_sync, later_then, later_write}
 
 pub returns-in_err-write_at-clause-disk : goal.returns-in_err-write_at-clause-disk
 returns-in_err-write_at-clause-disk g c = record {

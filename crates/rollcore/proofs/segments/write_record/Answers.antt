@@ -1,21 +1,15 @@
 use Rattle.std.proofs.Common.{rules, ◌≡◌, ◌+◌, ◌-◌, ◌*◌, ◌∙◌, ℕ, length, take, drop, List, refl, ap, arith, subst, length-drop}
 use Rattle.std.specs.Prelude.{Ok}
 use Rattle.std.proofs.lemmas.List.{length-take-le}
-use Rattle.crashdisk.specs.State.{byte}
-use Rattle.crashdisk.specs.Call.{Writes, Looks}
-use Rattle.crashdisk.specs.declared.file.File.TheVariants.{Log}
+use Rattle.recovery.proofs.Words.{byte, Writes, Looks, Log, Later, passed, still_looks, later_still, later_then, later_write}
 use Rattle.rollcore.specs.Journaling.{record_bytes}
-use Rattle.crashdisk.specs.Keeps.{Later}
 use Rattle.rollcore.specs.Changes.{MayCommit}
 use Rattle.rollcore.proofs.disk.PermittedChanges.{record_may}
 use Rattle.rollcore.proofs.disk.ToldRefusals.{asks_device, asks_done, asks_then}
 use Rattle.rollcore.specs.declared.error.RollError.TheVariants.{Device}
-use Rattle.sqval.proofs.database.AnswersOfEngine.{passed}
-use Rattle.crashdisk.proofs.call.UnchangingCalls.{still_looks}
 use Rattle.rollcore.proofs.journal.RecordsOfOldPages.{step_unread, step_unwritten, step_put, middle, record_fits}
 use borrow.Rule.Slice.PartMut.{same_len_mid}
 use Rattle.rollcore.proofs.segments.write_record.Goals as goal
-use Rattle.crashdisk.proofs.call.DisksAfterCalls.{later_still, later_then, later_write}
 
 pub returns-in_err-read_at-clause-disk : goal.returns-in_err-read_at-clause-disk
 returns-in_err-read_at-clause-disk g c = record {

@@ -1,13 +1,12 @@
 use Rattle.std.proofs.Common.{◌≡◌, ◌<◌, ◌≤◌, ◌+◌, ◌-◌, ◌*◌, ◌∙◌, ℕ, length, refl, sym, ap, subst, arith, rules}
 use Rattle.std.proofs.lemmas.List.{length-map}
-use Rattle.sqval.specs.CommitFaults.{most_bytes}
+use Rattle.recovery.proofs.Words.{most_bytes, passed}
 use Rattle.rollcore.specs.Changes.{MayCommit, Asks}
 use Rattle.rollcore.proofs.disk.ToldRefusals.{asks_same, asks_as, asks_err, asks_then}
 use Rattle.rollcore.specs.internal.Segments.{RecordStep, RecordsAnswer, pages_of}
 use Rattle.std.specs.Prelude.{None, Ok}
 use Rattle.rollcore.specs.internal.Commits.{change_at}
 use Rattle.rollcore.specs.declared.changes.Change.{Change}
-use Rattle.sqval.proofs.database.AnswersOfEngine.{passed}
 use Rattle.rollcore.proofs.journal.RecordsOfOldPages.{gone_none, gone_on, gone_off, gone_fits, page_in, gone_end}
 use Rattle.rollcore.proofs.segments.write_records.Goals as goal
 

@@ -1,5 +1,5 @@
 use Rattle.std.proofs.Common.{◌≡◌, ◌↔◌, ◌+◌, ◌-◌, ◌*◌, ℕ, List, length}
-use Rattle.sqval.specs.Database.{Database}
+use Rattle.recovery.proofs.Words.{Database}
 use Rattle.std.specs.Prelude.{Ok}
 use Rattle.rollcore.specs.Changes.{MayCommit, Asks}
 use Rattle.rollcore.specs.internal.Segments.{Recording, pages_of, AreFresh}

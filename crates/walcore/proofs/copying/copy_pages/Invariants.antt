@@ -1,11 +1,8 @@
 use Rattle.std.proofs.Common.{◌≡◌, ◌↔◌, ◌-◌, ◌*◌, ◌<◌, ◌≤◌, ℕ, List, length}
-use Rattle.crashdisk.specs.Call.{ArePresent, HasCalls}
+use Rattle.recovery.proofs.Words.{ArePresent, HasCalls, Database, KeepsLog, Filling}
 use Rattle.walcore.specs.Changes.{MayFillWithin}
-use Rattle.sqval.specs.Database.{Database}
-use Rattle.sqwal.specs.View.{IsView}
-use Rattle.crashdisk.specs.internal.Keeps.{KeepsLog}
+use Rattle.sqwal.specs.View.{Unnamed, IsView}
 use Rattle.walcore.specs.internal.Plans.{IsCopy}
-use Rattle.walcore.specs.internal.Phases.{Filling}
 use Rattle.walcore.proofs.folds.CopiedPages.{Upto}
 use Rattle.walcore.proofs.copying.copy_pages.Given as goal
 
@@ -20,7 +17,7 @@ invariant-loop-done g l = record {
       → ArePresent (g.D.Disk.state l.initial.disk).db db → ArePresent (g.D.Disk.state l.initial.disk).log w → IsCopy l.size l.count w l.frames l.index → length d ≡ l.count
       → IsView l.size db w l.frames d → Upto l.size d (g.D.Disk.state l.initial.disk) l.done (g.D.Disk.state l.disk);
   filling : g.D.Disk.keeps_word l.initial.disk → (w : List ℕ) (d : Database) → ArePresent (g.D.Disk.state l.initial.disk).log w
-      → IsCopy l.size l.count w l.frames l.index → Filling l.size w l.frames d (g.D.Disk.state l.initial.disk) → Filling l.size w l.frames d (g.D.Disk.state l.disk);
+      → IsCopy l.size l.count w l.frames l.index → length d ≡ l.count → Filling l.size d (Unnamed l.size w l.frames) (g.D.Disk.state l.initial.disk) → Filling l.size d (Unnamed l.size w l.frames) (g.D.Disk.state l.disk);
 }
 
 abbrev pub decreases-loop-done : goal.decreases-loop-done

@@ -1,19 +1,13 @@
 use Rattle.std.proofs.Common.{◌≡◌, ◌≤◌, ◌+◌, ◌-◌, ◌*◌, ◌<◌, ℕ, List, [], length, take, refl, arith, ap, subst, rules}
 use Rattle.std.specs.Prelude.{Ok}
-use Rattle.crashdisk.specs.Call.{Writes, ArePresent}
-use Rattle.crashdisk.specs.declared.file.File.TheVariants.{Db}
-use Rattle.sqval.proofs.database.AnswersOfEngine.{passed}
-use Rattle.sqval.specs.Limits.{greatest}
+use Rattle.recovery.proofs.Words.{Writes, ArePresent, Db, passed, greatest, no_calls, still, still_looks, still_sound, keeps_still, keeps_then, keeps_write, tells_ok, tells_then, called_quiet}
 use Rattle.sqwal.specs.Frames.{IsValidFrame}
 use Rattle.sqwal.specs.View.{IsLast}
-use Rattle.crashdisk.proofs.call.SequencesOfCalls.{no_calls}
-use Rattle.crashdisk.proofs.call.UnchangingCalls.{still, still_looks, still_sound, keeps_still, keeps_then, keeps_write}
 use Rattle.walcore.specs.Plans.{IsTable}
 use Rattle.walcore.specs.declared.error.WalError.TheVariants.{Device}
 use Rattle.walcore.proofs.disk.PermittedChanges.{nothing_may}
 use Rattle.walcore.proofs.folds.CopiedPages.{hit_none, hit_last, run_long, run_content, run_room, run_bytes, piece_long, piece_there, front_long, front_kept, run_none, run_unread, run_unwritten, run_put, run_fits}
 use Rattle.walcore.proofs.folds.CallsOnDatabaseFile.{run_calls}
-use Rattle.recovery.proofs.ToldRefusals.{tells_ok, tells_then, called_quiet}
 use Rattle.walcore.proofs.copying.copy_run.Goals as goal
 
 pub returns-then-hit-eq0-clause-disk : goal.returns-then-hit-eq0-clause-disk

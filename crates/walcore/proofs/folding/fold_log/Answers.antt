@@ -1,17 +1,8 @@
 use Rattle.std.proofs.Common.{ℕ, List, ◌∙◌, rules}
-use Rattle.sqval.proofs.database.AnswersOfEngine.{passed}
-use Rattle.crashdisk.proofs.call.UnchangingCalls.{present_in}
+use Rattle.recovery.proofs.Words.{passed, present_in, down_present, down_still, later_then, later_still, byte, ArePresent, table, present_list, quiet_ok, passes_device, tells_then}
 use Rattle.walcore.proofs.folds.AnswerOfParts.{read_folds, plan_folds, read_plans}
-use Rattle.walcore.proofs.folds.ShownDatabaseAtExits.{scanning_still}
-use Rattle.crashdisk.proofs.sync.BytesOfSyncedLog.{down_present}
-use Rattle.walcore.proofs.folds.ShownDatabaseDuringScan.{scanning_shows}
-use Rattle.walcore.proofs.folds.LengthOfDatabaseFile.{ends_down, down_still, length_still}
-use Rattle.crashdisk.proofs.call.DisksAfterCalls.{later_then, later_still}
-use Rattle.crashdisk.specs.State.{byte}
-use Rattle.crashdisk.specs.Call.{ArePresent}
-use Rattle.crashdisk.proofs.image.OriginOfImages.{table}
-use Rattle.crashdisk.proofs.call.EffectsOfCalls.{present_list}
-use Rattle.recovery.proofs.ToldRefusals.{quiet_ok, passes_device, tells_then}
+use Rattle.walcore.proofs.folds.PhasesOfFold.{scanning_shows, scanning_still}
+use Rattle.walcore.proofs.folds.LengthOfDatabaseFile.{ends_down, length_still}
 use Rattle.walcore.specs.declared.error.WalError.TheVariants.{Device}
 use Rattle.walcore.proofs.folding.fold_log.Goals as goal
 
@@ -27,7 +18,7 @@ returns-in_err-plan g c = record {
         };
         folds = λ fits db w are_db are. read_folds c.args.limits c.args.page_size db w _ _ fits read.still c.read_plan.result c.from_residual.result _ c.in_err-plan.was (passed c.from_residual.result _ c.from_residual.ensures.1) (read.found w are (are.len ∙ long));
         shows = λ w d scanning. scanning_shows c.args.page_size d w _ (scanning_still c.args.page_size d w _ _ scanning read.still);
-        lengths = λ w n down len. ends_down n w _ (down_still w _ _ read.still down) (length_still c.args.page_size w n _ _ read.still len).none;
+        lengths = λ w n durable len. ends_down n w _ (down_still w _ _ read.still durable) (length_still c.args.page_size w n _ _ read.still len).none;
       };
 }
 
@@ -52,8 +43,8 @@ returns g c = record {
             plan_folds c.args.limits c.args.page_size db w _ _ fits is c.read_plan.result c.in_ok-plan.plan c.fold_plan.result _ (plans w are).0
             (folded.folds c.args.limits.bytes c.args.page_size db w (present_in _ _ db is.db are_db) (present_in _ _ w is.log are) (plans w are).1);
         shows = λ w d scanning.
-            let plan = plans w (down_present w _ scanning.down) in
+            let plan = plans w (down_present w _ scanning.log.durable) in
             folded.shows c.args.limits c.args.page_size w d (scanning_still c.args.page_size d w _ _ scanning is) plan.1 plan.0;
-        lengths = λ w n down len. folded.lengths c.args.limits.bytes c.args.page_size w n (down_still w _ _ is down) (plans w (down_present w _ down)).1 (length_still c.args.page_size w n _ _ is len);
+        lengths = λ w n durable len. folded.lengths c.args.limits.bytes c.args.page_size w n (down_still w _ _ is durable) (plans w (down_present w _ durable)).1 (length_still c.args.page_size w n _ _ is len);
       };
 }

@@ -1,17 +1,11 @@
-use Rattle.crashdisk.specs.declared.file.File.TheVariants.{Log}
+use Rattle.recovery.proofs.Words.{Log, passed, down_syncs, later_same, later_then, goes_on, stays, tells_then, called_quiet}
 use Rattle.walcore.specs.declared.error.WalError.TheVariants.{Device}
-use Rattle.sqval.proofs.database.AnswersOfEngine.{passed}
 use Rattle.walcore.proofs.folds.AnswerOfParts.{fold_after, empty_down}
 use Rattle.walcore.proofs.openings.ShownDatabaseAfterOpening.{synced_empty}
-use Rattle.walcore.proofs.folds.ShownDatabaseDuringScan.{scanning_shows, scanning_syncs}
-use Rattle.walcore.proofs.folds.ShownDatabaseAtExits.{agrees_by}
-use Rattle.crashdisk.proofs.sync.BytesOfSyncedLog.{down_syncs}
+use Rattle.walcore.proofs.folds.PhasesOfFold.{scanning_shows, scanning_syncs, agrees_by}
 use Rattle.walcore.proofs.folds.LengthOfDatabaseFile.{ends_down, length_syncs}
 use Rattle.std.proofs.Common.{arith, rules}
-use Rattle.crashdisk.proofs.call.DisksAfterCalls.{later_same, later_then}
 use Rattle.walcore.proofs.disk.PermittedChanges.{fold_sync}
-use Rattle.recovery.proofs.AnswersOfSteps.{goes_on, stays}
-use Rattle.recovery.proofs.ToldRefusals.{tells_then, called_quiet}
 use Rattle.walcore.proofs.folding.fold_within.Goals as goal
 
 pub returns-in_err-judge_sector : goal.returns-in_err-judge_sector
@@ -19,8 +13,8 @@ returns-in_err-judge_sector g c = record {
   word = search rules;
   holds = λ word. record {
     folds = search rules;
-    agrees = λ w d down alone. alone;
-    lengths = λ w n down len. ends_down n w _ down len.none;
+    agrees = λ w d durable alone. alone;
+    lengths = λ w n durable len. ends_down n w _ durable len.none;
     synced = λ whole. absurd (whole (c.in_err-judge_sector.ensures.refused word));
     calls = record { later = later_same _ (g.met.D.Disk.sound c.args.disk.now word); told = λ more. absurd (omega (arith, more)) };
   };
@@ -35,8 +29,8 @@ returns-in_err-sync g c = record {
       let device = passed c.from_residual-in_err-sync.result Device c.from_residual-in_err-sync.ensures.1 in
       record {
         folds = search rules;
-        agrees = agrees_by c.args.page_size (g.D.Disk.state c.args.disk.now) (g.D.Disk.state c.sync.new.self) suits (λ w d scanning. scanning_shows c.args.page_size d w _ (scanning_syncs c.args.page_size d w Log c.sync.result _ _ scanning synced));
-        lengths = λ w n down len. ends_down n w _ (down_syncs w Log c.sync.result _ _ down synced) (length_syncs c.args.page_size w n Log c.sync.result _ _ suits.sound synced len).none;
+        agrees = agrees_by c.args.page_size (g.D.Disk.state c.args.disk.now) (g.D.Disk.state c.sync.new.self) suits (λ w d scanning. scanning_shows c.args.page_size d w _ (scanning_syncs c.args.page_size d w c.sync.result _ _ scanning synced));
+        lengths = λ w n durable len. ends_down n w _ (down_syncs w Log c.sync.result _ _ durable synced) (length_syncs c.args.page_size w n Log c.sync.result _ _ suits.sound synced len).none;
         synced = λ whole. record { called = c.sync.result; mid = (g.D.Disk.state c.sync.new.self); sync = synced; rest = stays Device _ c.sync.result _ c.from_residual-in_err-sync.result (g.D.Disk.state c.sync.new.self) c.in_err-sync.was device };
         calls = record { later = fold_sync c.args.limits.bytes c.args.page_size Log c.sync.result (g.D.Disk.state c.args.disk.now) (g.D.Disk.state c.sync.new.self) suits.sound synced; told = λ more. device };
       };
@@ -56,9 +50,9 @@ returns g c = record {
             (λ here there. folded.folds (empty_down c.args.page_size db w (g.D.Disk.state c.args.disk.now) (g.D.Disk.state c.sync.new.self) (g.D.Disk.state c.sync.new.self) suits.sound suits.whole done) db w here there);
         agrees = agrees_by c.args.page_size (g.D.Disk.state c.args.disk.now) (g.D.Disk.state c.fold_synced_within.new.disk) suits
             (λ w d scanning.
-            let down = scanning_syncs c.args.page_size d w Log c.sync.result _ _ scanning synced in
-            folded.agrees w d down.down (scanning_shows c.args.page_size d w _ down));
-        lengths = λ w n down len. folded.lengths w n (down_syncs w Log c.sync.result _ _ down synced) (length_syncs c.args.page_size w n Log c.sync.result _ _ suits.sound synced len);
+            let durable = scanning_syncs c.args.page_size d w c.sync.result _ _ scanning synced in
+            folded.agrees w d durable.log.durable (scanning_shows c.args.page_size d w _ durable));
+        lengths = λ w n durable len. folded.lengths w n (down_syncs w Log c.sync.result _ _ durable synced) (length_syncs c.args.page_size w n Log c.sync.result _ _ suits.sound synced len);
         synced = λ whole. record {
           called = c.sync.result;
           mid = (g.D.Disk.state c.sync.new.self);

@@ -1,7 +1,7 @@
 use Rattle.std.proofs.Common.{◌≡◌, ℕ, ◌+◌, ◌≤◌, List, length}
 use Rattle.std.specs.Prelude.{◌↔◌}
 use Rattle.sqwal.specs.Refusal.{most_frames}
-use Rattle.sqval.specs.JudgedPages.{lent}
+use Rattle.recovery.proofs.Words.{lent}
 use Rattle.walcore.specs.Made.{IsExtended}
 use Rattle.walcore.specs.internal.Going.{KeepsCore, KnowsLog, Going}
 use Rattle.walcore.proofs.frames.write_frames.Given as goal

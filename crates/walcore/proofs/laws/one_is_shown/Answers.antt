@@ -1,7 +1,5 @@
 use Rattle.std.specs.Prelude.{Ok}
-use Rattle.crashdisk.specs.declared.file.File.TheVariants.{Log}
-use Rattle.crashdisk.proofs.call.SoundDiskUnderCalls.{sound_syncs}
-use Rattle.crashdisk.proofs.sync.BytesOfSyncedLog.{synced_down}
+use Rattle.recovery.proofs.Words.{Log, sound_syncs, synced_down}
 use Rattle.walcore.proofs.openings.FoundFiles.{is_found, found_syncs, found_alone}
 use Rattle.walcore.proofs.laws.one_is_shown.Goals as goal
 
@@ -9,5 +7,5 @@ pub returns : goal.returns
 returns c past files old mid fits are chance synced =
     let sound = fits.suits.sound in
     let found = found_syncs past files.log (Ok tt) old mid sound synced (is_found past files old fits are chance) in
-    let down = synced_down files.log old mid sound are.log synced in
-    (found.place, found.floor, found.within, found.newest, found_alone past files.log mid (sound_syncs Log (Ok tt) old mid sound synced) down found)
+    let durable = synced_down files.log old mid sound are.log synced in
+    (found.place, found.floor, found.within, found.newest, found_alone past files.log mid (sound_syncs Log (Ok tt) old mid sound synced) durable found)

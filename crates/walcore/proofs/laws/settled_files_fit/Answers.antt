@@ -2,7 +2,7 @@ use Rattle.walcore.proofs.machine.FitOfSettledFiles.{beside_fits, left_made, ope
 use Rattle.walcore.proofs.laws.settled_files_fit.Goals as goal
 
 pub returns-clause-fits : goal.returns-clause-fits
-returns-clause-fits c size base logs files s suits held made file down shows = beside_fits size base logs files s file down shows suits held made
+returns-clause-fits c size base logs files s suits held made file durable shows = beside_fits size base logs files s file durable shows suits held made
 
 pub returns-clause-made : goal.returns-clause-made
 returns-clause-made c size log fit = left_made size log fit

@@ -1,6 +1,5 @@
-use Rattle.recovery.proofs.ShownDatabase.{crash_shows}
+use Rattle.recovery.proofs.Words.{crash_shows, alone_same, alone_looks, alone_syncs}
 use Rattle.walcore.specs.Alone.{wal_log}
-use Rattle.recovery.proofs.NarrowedImages.{alone_same, alone_looks, alone_syncs}
 use Rattle.walcore.proofs.laws.what_is_shown_stays.Goals as goal
 
 pub returns-clause-len : goal.returns-clause-len

@@ -1,13 +1,9 @@
 use Rattle.std.proofs.Common.{◌∙◌, ℕ, sym, subst, arith, rules}
-use Rattle.sqval.specs.PageSize.{IsPageSize}
-use Rattle.sqval.proofs.page.FilePages.{count_zero, count_rest}
+use Rattle.recovery.proofs.Words.{IsPageSize, count_zero, count_rest, passed, still_looks, tells_ok}
 use Rattle.walcore.proofs.openings.RefusalBeforeWrites.{count_whole}
 use Rattle.std.specs.Prelude.{Err}
 use Rattle.walcore.specs.declared.error.WalError.TheVariants.{TooLarge, PageSize, Device}
-use Rattle.sqval.proofs.database.AnswersOfEngine.{passed}
 use Rattle.walcore.proofs.opening.count_pages.Goals.{then-long-eq0-via-then-long-eq0, then-long-eq0-via-else-long-eq0+then-long-size-ne0}
-use Rattle.crashdisk.proofs.call.UnchangingCalls.{still_looks}
-use Rattle.recovery.proofs.ToldRefusals.{tells_ok}
 use Rattle.walcore.proofs.opening.count_pages.Goals as goal
 
 pub returns-in_err-long : goal.returns-in_err-long

@@ -1,5 +1,5 @@
 use Rattle.std.proofs.Common.{rules}
-use Rattle.crashdisk.proofs.call.UnchangingCalls.{present_in, still_then}
+use Rattle.recovery.proofs.Words.{present_in, still_then}
 use Rattle.walcore.proofs.folds.AnswerOfParts.{fits_still}
 use Rattle.walcore.proofs.openings.RefusalBeforeWrites.{file_judged}
 use Rattle.recovery.proofs.ToldRefusals.{quiet_err, tells_then}

@@ -2,13 +2,10 @@ use Rattle.std.proofs.Common.{inr, refl, sym, ◌∙◌, rules}
 use Rattle.sqwal.specs.Header.{named_size}
 use Rattle.sqwal.proofs.log.UniquenessOfView.{front_unique}
 use Rattle.walcore.specs.declared.error.WalError.TheVariants.{Device}
-use Rattle.sqval.specs.Limits.{usual}
-use Rattle.sqval.proofs.database.AnswersOfEngine.{passed}
-use Rattle.crashdisk.proofs.call.UnchangingCalls.{present_in, still_looks, still_then}
+use Rattle.recovery.proofs.Words.{usual, passed, present_in, still_looks, still_then, tells_quiet, passes_device, tells_then, called_quiet}
 use Rattle.walcore.proofs.folds.AnswerOfParts.{fits_still, read_plans}
 use Rattle.walcore.proofs.folds.LengthOfDatabaseFile.{front_none}
 use Rattle.walcore.proofs.openings.RefusalBeforeWrites.{front_unlooked, front_unread}
-use Rattle.recovery.proofs.ToldRefusals.{tells_quiet, passes_device, tells_then, called_quiet}
 use Rattle.walcore.proofs.opening.judge_front.Goals as goal
 
 pub returns-in_err-long : goal.returns-in_err-long

@@ -1,21 +1,12 @@
 use Rattle.std.proofs.Common.{rules}
-use Rattle.sqval.specs.CommitFaults.{most_bytes}
-use Rattle.sqval.specs.Limits.{usual}
-use Rattle.sqval.specs.Database.{Database}
-use Rattle.crashdisk.specs.declared.file.File.TheVariants.{Log}
+use Rattle.recovery.proofs.Words.{most_bytes, usual, Database, Log, passed, later_still, later_then, down_still, ShowsAlone, alone_still, tells_quiet, passes_device, tells_then, called_quiet}
 use Rattle.walcore.specs.declared.error.WalError.TheVariants.{Device}
-use Rattle.sqval.proofs.database.AnswersOfEngine.{passed}
 use Rattle.walcore.proofs.openings.RecoveredFiles.{recover_unsynced, ready_synced, ready_still, recover_unjudged, recover_unfolded, recover_counted, synced_files, whole_at}
-use Rattle.crashdisk.proofs.call.DisksAfterCalls.{later_still, later_then}
 use Rattle.walcore.proofs.disk.PermittedChanges.{fold_sync}
-use Rattle.walcore.proofs.folds.LengthOfDatabaseFile.{down_still}
 use Rattle.walcore.proofs.openings.ShownDatabaseAfterOpening.{agrees_then, agrees_synced, agrees_after, agrees_looked, synced_empty, still_empty, folded_empty, on_ok}
 use Rattle.walcore.proofs.openings.RefusalOfOpening.{whole_synced, files_synced, files_looked, unjudged, unfolded, uncounted, may_open}
 use Rattle.walcore.proofs.openings.InitialSync.{unsynced, synced_first}
-use Rattle.recovery.specs.Logs.{ShowsAlone}
 use Rattle.walcore.specs.Alone.{wal_log}
-use Rattle.recovery.proofs.NarrowedImages.{alone_still}
-use Rattle.recovery.proofs.ToldRefusals.{tells_quiet, passes_device, tells_then, called_quiet}
 use Rattle.walcore.proofs.opening.recover.Goals as goal
 
 pub returns-in_err-sync : goal.returns-in_err-sync
@@ -61,7 +52,7 @@ returns-in_err-judge_file g c = record {
         };
         agrees = agrees_then c.args.page_size s a b (agrees_synced c.args.page_size c.sync.result s a sound call) (λ d alone. alone_still wal_log c.args.page_size d a b first.sound still alone);
         synced = synced_first c.args.page_size s a b c.sync.result _ c.from_residual-in_err-judge_file.result c.in_ok-sync.was call
-            (λ w d down alone. alone_still wal_log c.args.page_size d a b first.sound still alone);
+            (λ w d durable alone. alone_still wal_log c.args.page_size d a b first.sound still alone);
         empty = search rules;
         refuses = λ fits found are.
             let files = files_synced c.args.page_size found s a sound fits are synced in

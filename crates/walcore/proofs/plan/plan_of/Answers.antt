@@ -1,5 +1,5 @@
 use Rattle.std.proofs.Common.{◌≤◌, ◌∙◌, refl, arith}
-use Rattle.sqval.proofs.database.AnswersOfEngine.{passed}
+use Rattle.recovery.proofs.Words.{passed}
 use Rattle.walcore.proofs.folds.PlanOfScannedLog.{plan_none, plan_some, plan_refused, plan_memory, page_most}
 use Rattle.recovery.proofs.AnswersOfSteps.{no_memory}
 use Rattle.walcore.specs.declared.error.WalError.TheVariants.{NoMemory}

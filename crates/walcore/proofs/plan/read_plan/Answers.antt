@@ -1,8 +1,7 @@
 use Rattle.std.proofs.Common.{ap, ◌∙◌}
 use Rattle.std.specs.Prelude.{Ok}
-use Rattle.sqval.proofs.database.AnswersOfEngine.{passed}
+use Rattle.recovery.proofs.Words.{passed, quiet_ok, passes_device}
 use Rattle.walcore.proofs.folds.PlanOfScannedLog.{plan_bare, read_planned, read_scan, read_some, read_none}
-use Rattle.recovery.proofs.ToldRefusals.{quiet_ok, passes_device}
 use Rattle.walcore.specs.declared.error.WalError.TheVariants.{Device}
 use Rattle.walcore.proofs.plan.read_plan.Goals as goal
 

@@ -35,18 +35,18 @@ pub returns-then-sync-clause-turned : goal.returns-then-sync-clause-turned
 returns-then-sync-clause-turned c = tt
 
 -- where it is done, or not, of the database
-pub bring_down-requires : goal.bring_down-requires
-bring_down-requires c = record { held = c.args.self.now.db_held; solid = c.args.self.now.db_solid }
+pub sync_file-requires : goal.sync_file-requires
+sync_file-requires c = record { held = c.args.self.now.db_held; solid = c.args.self.now.db_solid }
 
 pub invariant_of-self-in-Db : goal.invariant_of-self-in-Db
 invariant_of-self-in-Db c =
     let disk = c.args.self.now in record {
       is_size = disk.is_size;
-      db_held = c.bring_down.ensures.stands.held;
-      db_solid = c.bring_down.ensures.stands.solid;
+      db_held = c.sync_file.ensures.stands.held;
+      db_solid = c.sync_file.ensures.stands.solid;
       log_held = disk.log_held;
       log_solid = disk.log_solid;
-      counted = counted_below c.bring_down.result disk.refused c.bring_down.new.refused c.bring_down.ensures.counted disk.counted;
+      counted = counted_below c.sync_file.result disk.refused c.sync_file.new.refused c.sync_file.ensures.counted disk.counted;
       kept_room = disk.kept_room;
       untorn = disk.untorn;
     }
@@ -58,31 +58,31 @@ pub returns-in-Db-clause-state : goal.returns-in-Db-clause-state
 returns-in-Db-clause-state c =
     let s = state_of c.args.self.now in
     let stops = s.settings.stops in
-    let result = c.bring_down.result in
+    let result = c.sync_file.result in
     rw c.in-Db.is (λ word. record {
-      elsewhere = record { sector = refl; tears = refl; other = refl; refused = c.bring_down.ensures.counted };
+      elsewhere = record { sector = refl; tears = refl; other = refl; refused = c.sync_file.ensures.counted };
       since = since_db s.tears result s _ refl refl;
       settings = settings_synced s.settings c.sync.new.self c.sync.ensures.after;
       heeds = heeds_judged result true false (stops_sync stops) (fails_call stops)
-          (judged_late result false c.sync.result (stops_sync stops) c.fails-fails.result (fails_call stops) c.sync.ensures.answer c.if-sync.false c.fails-fails.ensures c.bring_down.ensures.answered.judged);
-      within = c.bring_down.ensures.answered.within;
-      file = c.bring_down.ensures.answered.synced;
+          (judged_late result false c.sync.result (stops_sync stops) c.fails-fails.result (fails_call stops) c.sync.ensures.answer c.if-sync.false c.fails-fails.ensures c.sync_file.ensures.answered.judged);
+      within = c.sync_file.ensures.answered.within;
+      file = c.sync_file.ensures.answered.synced;
     })
 
 pub returns-in-Db-clause-counted : goal.returns-in-Db-clause-counted
 returns-in-Db-clause-counted c =
     let stops = c.args.self.now.stops in record {
-      judged = judged_late c.bring_down.result false c.sync.result (stops_sync stops) c.fails-fails.result (fails_call stops) c.sync.ensures.answer c.if-sync.false c.fails-fails.ensures c.bring_down.ensures.answered.judged;
+      judged = judged_late c.sync_file.result false c.sync.result (stops_sync stops) c.fails-fails.result (fails_call stops) c.sync.ensures.answer c.if-sync.false c.fails-fails.ensures c.sync_file.ensures.answered.judged;
       after = c.sync.ensures.after;
       part = refl;
     }
 
 pub returns-in-Db-clause-turned : goal.returns-in-Db-clause-turned
-returns-in-Db-clause-turned c = rw c.in-Db.is c.bring_down.ensures.answered.turned
+returns-in-Db-clause-turned c = rw c.in-Db.is c.sync_file.ensures.answered.turned
 
 -- where it is done, or not, of the log
-pub bring_log_down-requires : goal.bring_log_down-requires
-bring_log_down-requires c =
+pub sync_log_file-requires : goal.sync_log_file-requires
+sync_log_file-requires c =
     let disk = c.args.self.now in record { stands = record { held = disk.log_held; solid = disk.log_solid }; room = disk.kept_room }
 
 pub invariant_of-self-in-Log : goal.invariant_of-self-in-Log
@@ -91,11 +91,11 @@ invariant_of-self-in-Log c =
       is_size = disk.is_size;
       db_held = disk.db_held;
       db_solid = disk.db_solid;
-      log_held = c.bring_log_down.ensures.stands.stands.held;
-      log_solid = c.bring_log_down.ensures.stands.stands.solid;
-      counted = counted_below c.bring_log_down.result disk.refused c.bring_log_down.new.refused c.bring_log_down.ensures.counted disk.counted;
-      kept_room = c.bring_log_down.ensures.stands.room;
-      untorn = λ whole. untorn_synced disk.tears _ c.bring_log_down.result disk.since c.bring_log_down.new.since whole c.bring_log_down.ensures.since (disk.untorn whole);
+      log_held = c.sync_log_file.ensures.stands.stands.held;
+      log_solid = c.sync_log_file.ensures.stands.stands.solid;
+      counted = counted_below c.sync_log_file.result disk.refused c.sync_log_file.new.refused c.sync_log_file.ensures.counted disk.counted;
+      kept_room = c.sync_log_file.ensures.stands.room;
+      untorn = λ whole. untorn_synced disk.tears _ c.sync_log_file.result disk.since c.sync_log_file.new.since whole c.sync_log_file.ensures.since (disk.untorn whole);
     }
 
 pub returns-in-Log-clause-word : goal.returns-in-Log-clause-word
@@ -105,24 +105,24 @@ pub returns-in-Log-clause-state : goal.returns-in-Log-clause-state
 returns-in-Log-clause-state c =
     let s = state_of c.args.self.now in
     let stops = s.settings.stops in
-    let result = c.bring_log_down.result in
+    let result = c.sync_log_file.result in
     rw c.in-Log.is (λ word. record {
-      elsewhere = record { sector = refl; tears = refl; other = refl; refused = c.bring_log_down.ensures.counted };
-      since = since_log s.tears result s.log c.args.self.now.since c.bring_log_down.new.since s _ refl refl refl refl refl c.bring_log_down.ensures.since;
+      elsewhere = record { sector = refl; tears = refl; other = refl; refused = c.sync_log_file.ensures.counted };
+      since = since_log s.tears result s.log c.args.self.now.since c.sync_log_file.new.since s _ refl refl refl refl refl c.sync_log_file.ensures.since;
       settings = settings_synced s.settings c.sync.new.self c.sync.ensures.after;
       heeds = heeds_judged result true false (stops_sync stops) (fails_call stops)
-          (judged_late result false c.sync.result (stops_sync stops) c.fails-fails.result (fails_call stops) c.sync.ensures.answer c.if-sync.false c.fails-fails.ensures c.bring_log_down.ensures.answered.judged);
-      within = c.bring_log_down.ensures.answered.within;
-      file = c.bring_log_down.ensures.answered.synced;
+          (judged_late result false c.sync.result (stops_sync stops) c.fails-fails.result (fails_call stops) c.sync.ensures.answer c.if-sync.false c.fails-fails.ensures c.sync_log_file.ensures.answered.judged);
+      within = c.sync_log_file.ensures.answered.within;
+      file = c.sync_log_file.ensures.answered.synced;
     })
 
 pub returns-in-Log-clause-counted : goal.returns-in-Log-clause-counted
 returns-in-Log-clause-counted c =
     let stops = c.args.self.now.stops in record {
-      judged = judged_late c.bring_log_down.result false c.sync.result (stops_sync stops) c.fails-fails.result (fails_call stops) c.sync.ensures.answer c.if-sync.false c.fails-fails.ensures c.bring_log_down.ensures.answered.judged;
+      judged = judged_late c.sync_log_file.result false c.sync.result (stops_sync stops) c.fails-fails.result (fails_call stops) c.sync.ensures.answer c.if-sync.false c.fails-fails.ensures c.sync_log_file.ensures.answered.judged;
       after = c.sync.ensures.after;
       part = refl;
     }
 
 pub returns-in-Log-clause-turned : goal.returns-in-Log-clause-turned
-returns-in-Log-clause-turned c = rw c.in-Log.is c.bring_log_down.ensures.answered.turned
+returns-in-Log-clause-turned c = rw c.in-Log.is c.sync_log_file.ensures.answered.turned

@@ -1,6 +1,6 @@
 use Rattle.std.proofs.Common.{rules}
 use Rattle.std.proofs.Common.{◌*◌, ℕ, length, ap}
-use Rattle.sqval.proofs.database.AnswersOfEngine.{passed}
+use Rattle.recovery.proofs.Words.{passed}
 use Rattle.rollcore.proofs.read.ContentOfReadPage.{read_judged, read_file, refused_answer, read_answer}
 use Rattle.rollcore.proofs.roll.Roll.read.Goals as goal
 

@@ -1,5 +1,5 @@
 use Rattle.std.proofs.Common.{refl, rules}
-use Rattle.crashdisk.proofs.call.UnchangingCalls.{still}
+use Rattle.recovery.proofs.Words.{still}
 use Rattle.walcore.proofs.read.StepsOfReaders.{begin_done, begin_memory}
 use Rattle.walcore.proofs.wal.Wal.begin.Goals as goal
 

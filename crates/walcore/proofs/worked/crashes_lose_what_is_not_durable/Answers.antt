@@ -1,5 +1,5 @@
 use Rattle.walcore.proofs.machine.WorkedRuns.{played_synced, played_lost, played_lost_for_good, played_stopped, played_sync_failed, played_forgotten}
-use Rattle.walcore.proofs.worked.crashes_lose_what_is_not_down.Goals as goal
+use Rattle.walcore.proofs.worked.crashes_lose_what_is_not_durable.Goals as goal
 
 pub returns-clause-synced : goal.returns-clause-synced
 returns-clause-synced c = played_synced

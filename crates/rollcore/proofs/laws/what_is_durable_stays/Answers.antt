@@ -1,6 +1,6 @@
 use Rattle.rollcore.specs.Machine.{start}
 use Rattle.rollcore.proofs.machine.StepInvariants.{sane_start, sane_runs, kept_runs}
-use Rattle.rollcore.proofs.laws.what_is_down_stays.Goals as goal
+use Rattle.rollcore.proofs.laws.what_is_durable_stays.Goals as goal
 
 pub returns : goal.returns
 returns c page_size base before later old new count after h g =

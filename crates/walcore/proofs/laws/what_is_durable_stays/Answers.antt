@@ -1,6 +1,6 @@
 use Rattle.walcore.specs.Machine.{start}
 use Rattle.walcore.proofs.machine.StepInvariants.{sane_start, sane_runs, kept_runs}
-use Rattle.walcore.proofs.laws.what_is_down_stays.Goals as goal
+use Rattle.walcore.proofs.laws.what_is_durable_stays.Goals as goal
 
 pub returns : goal.returns
 returns c page_size base before later old new count after h g =

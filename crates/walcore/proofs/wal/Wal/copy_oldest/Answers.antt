@@ -1,9 +1,9 @@
 use Rattle.std.proofs.Common.{ℕ, List, refl, subst, arith}
 use Rattle.walcore.specs.internal.Bringing.{IsLeast}
 use Rattle.walcore.proofs.folds.PlanOfScannedLog.{page_least, page_most}
-use Rattle.sqval.proofs.database.AnswersOfEngine.{passed}
+use Rattle.recovery.proofs.Words.{passed}
 use Rattle.walcore.proofs.checkpoint.StepOfCheckpoint.{down_refused, down_done, page_room}
-use Rattle.walcore.proofs.wal.Wal.bring_down.Goals as goal
+use Rattle.walcore.proofs.wal.Wal.copy_oldest.Goals as goal
 
 pub bring_over-requires : goal.bring_over-requires
 bring_over-requires g c =
