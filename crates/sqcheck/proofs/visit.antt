@@ -3,5 +3,8 @@ pub mod MarkedPages
 pub mod AgendaOfWalk
 pub mod FreelistTrunks
 pub mod FollowedItem
+pub mod RefusedItems
 pub mod StepsOfWalk
 pub mod VisitedPlaces
+pub mod FaultsFound
+pub mod FoundPlaces

@@ -24,21 +24,29 @@ HasKeyOutOfOrder b x = (i : ℕ) × (cell : Cell) × (before : Option ℤ) × Is
 abbrev pub AsBtreePage : Database → (p : ℕ) → (Kind → Page → Type 0) → Type 0
 AsBtreePage d p P = (kind : Kind) × IsBtreePage (page_as d kind p) × P kind (page_as d kind p)
 
--- the page is a leaf, and not on the level of the tree's first leaf
-abbrev pub IsUneven : Database → (p : ℕ) → Node → Type 0
-IsUneven d p x = (kind : Kind) × HasKind d kind p × (is_interior kind ≡ false) × (on : ℕ) × FirstLeaf d x.tree 1 on × (x.level ≢ on)
+-- the page is a leaf, and not on a level that the tree's leaves are to be on
+abbrev pub IsUneven : (IsLevel : ℕ → Type 0) → Database → (p : ℕ) → Node → Type 0
+IsUneven IsLevel d p x = (kind : Kind) × HasKind d kind p × (is_interior kind ≡ false) × (on : ℕ) × IsLevel on × (x.level ≢ on)
 
--- What is wrong with page p as one of a tree.
+-- What is wrong with page p as one of a tree whose leaves are to be on such a level.
+abbrev pub NodeRefusedBy : (IsLevel : ℕ → Type 0) → Database → Fault → (p : ℕ) → Node → Type 0
+NodeRefusedBy IsLevel d faults.Kind p x = (kind : Kind) → HasKind d kind p → is_table kind ≢ x.table
+NodeRefusedBy IsLevel d faults.CellOutside p x = (kind : Kind) × HasKind d kind p × ¬ IsBtreePage (page_as d kind p)
+NodeRefusedBy IsLevel d faults.Overlap p x = AsBtreePage d p (λ kind b. LayoutRefused faults.Overlap b)
+NodeRefusedBy IsLevel d faults.Freeblock p x = AsBtreePage d p (λ kind b. LayoutRefused faults.Freeblock b)
+NodeRefusedBy IsLevel d faults.Fragments p x = AsBtreePage d p (λ kind b. LayoutRefused faults.Fragments b)
+NodeRefusedBy IsLevel d faults.KeyOrder p x = AsBtreePage d p (λ kind b. HasKeyOutOfOrder b x)
+NodeRefusedBy IsLevel d faults.Depth p x = (20 < x.level) ⊎ IsUneven IsLevel d p x
+NodeRefusedBy IsLevel d faults.SchemaRecord p x = (x.schema ≡ true) × AsBtreePage d p (λ kind b. (is_interior kind ≡ false) × (i : ℕ) × (bytes : List ℕ) × IsRow d b i bytes × ((r : ℕ) → ¬ IsSchemaRow bytes r))
+NodeRefusedBy IsLevel d _ p x = ⊥
+
+-- The same where that is the level of the tree's first leaf.
 abbrev pub NodeRefused : Database → Fault → (p : ℕ) → Node → Type 0
-NodeRefused d faults.Kind p x = (kind : Kind) → HasKind d kind p → is_table kind ≢ x.table
-NodeRefused d faults.CellOutside p x = (kind : Kind) × HasKind d kind p × ¬ IsBtreePage (page_as d kind p)
-NodeRefused d faults.Overlap p x = AsBtreePage d p (λ kind b. LayoutRefused faults.Overlap b)
-NodeRefused d faults.Freeblock p x = AsBtreePage d p (λ kind b. LayoutRefused faults.Freeblock b)
-NodeRefused d faults.Fragments p x = AsBtreePage d p (λ kind b. LayoutRefused faults.Fragments b)
-NodeRefused d faults.KeyOrder p x = AsBtreePage d p (λ kind b. HasKeyOutOfOrder b x)
-NodeRefused d faults.Depth p x = (20 < x.level) ⊎ IsUneven d p x
-NodeRefused d faults.SchemaRecord p x = (x.schema ≡ true) × AsBtreePage d p (λ kind b. (is_interior kind ≡ false) × (i : ℕ) × (bytes : List ℕ) × IsRow d b i bytes × ((r : ℕ) → ¬ IsSchemaRow bytes r))
-NodeRefused d _ p x = ⊥
+NodeRefused d fault p x = NodeRefusedBy (FirstLeaf d x.tree 1) d fault p x
+
+-- a place that counts names page p as one of a tree whose leaves are to be on such a level, and this is wrong with it
+abbrev pub OnNodeBy : (IsLevel : (tree on : ℕ) → Type 0) → (Counts : Spot → Type 0) → Database → Fault → (p : ℕ) → Type 0
+OnNodeBy IsLevel Counts d fault p = (s : Spot) × (x : Node) × Counts s × (s.page ≡ p) × IsPage d p × (s.role ≡ node x) × NodeRefusedBy (IsLevel x.tree) d fault p x
 
 -- a place that counts names page p as one of a tree, and this is wrong with it
 abbrev pub OnNode : (Counts : Spot → Type 0) → Database → Fault → (p : ℕ) → Type 0

@@ -1,15 +1,19 @@
 -- What a survey finds: what the pages of a database are used for, and what is wrong with it (own).
-use Rattle.std.specs.Prelude.{◌≡◌, ℕ, ◌⊎◌, ◌-◌, ◌<◌, Bool, false, List, [], length, get_or, IfOk, IfErr}
+use Rattle.std.specs.Prelude.{◌≡◌, ◌≢◌, ℕ, ◌⊎◌, ◌-◌, ◌<◌, ◌≤◌, Bool, true, false, List, [], length, get_or, IfOk, IfErr}
 use Rattle.sqval.specs.Database.{Database}
 use Rattle.sqpage.specs.Freelist.{IsPage, usable_size}
+use Rattle.sqpage.specs.Lists.{In, Every}
+use Rattle.sqpage.specs.declared.fault.CheckError.{CheckError}
 use Rattle.sqpage.specs.declared.fault.Fault.{Fault}
 use Rattle.sqpage.specs.declared.fault.Fault.TheVariants as faults
 use Rattle.sqcheck.specs.declared.role.Role.{Role}
 use Rattle.sqcheck.specs.declared.role.Role.TheVariants.{Unused}
 use Rattle.sqcheck.specs.declared.survey.Survey.{Survey}
 use Rattle.sqcheck.specs.Roles.{HasRole, IsRoleSetAside}
-use Rattle.sqcheck.specs.Stands.{StandsWith}
-use Rattle.sqcheck.specs.WellFormed.{WellFormedWith, IsReport}
+use Rattle.sqcheck.specs.Found.{IsWhole, IsFound, IsRoleIn, HasFoundRole, IsFoundFault}
+use Rattle.sqcheck.specs.Places.{Spot, holder}
+use Rattle.sqcheck.specs.Stands.{StandsWith, is_of_header}
+use Rattle.sqcheck.specs.WellFormed.{HasSoundHeader, WellFormedWith, IsReport}
 
 -- the role of page p in a list by page, from 1
 abbrev pub role_at : List Role → (p : ℕ) → Role
@@ -20,23 +24,55 @@ pub record AreAllRoles (d : Database) (size : ℕ) (roles : List Role) : Type 0 
   pub long : length roles ≡ length d
   pub each : (p : ℕ) → IsPage d p → HasRole d p (role_at roles p) ⊎ IsRoleSetAside d size p (role_at roles p)
 
+-- Each page has a role that a found place names it in, or that it is set aside for, or none.
+pub record AreFoundRoles (d : Database) (size : ℕ) (roles : List Role) : Type 0 where
+  pub long : length roles ≡ length d
+  pub each : (p : ℕ) → IsPage d p → (role_at roles p ≡ Unused) ⊎ HasFoundRole d p (role_at roles p) ⊎ IsRoleSetAside d size p (role_at roles p)
+
+-- the most faults that a survey names
+abbrev pub most_faults : ℕ
+most_faults = 1000000
+
+-- One of the faults is such a one, or there are as many as a survey names.
+abbrev pub Names : List CheckError → (CheckError → Type 0) → Type 0
+Names told Is = (most_faults ≤ length told) ⊎ ((e : CheckError) × In e told × Is e)
+
+-- a fault is named at the page that s names, or at the one that s stands in
+abbrev pub IsNamed : List CheckError → Spot → Type 0
+IsNamed told s = Names told (λ e. (e.page ≡ s.page) ⊎ (e.page ≡ holder s.place))
+
+-- Page p has the role that a found place names it in, and is as that wants it, or a fault is named.
+abbrev pub HasJudgedRole : Database → List CheckError → (p : ℕ) → Role → Type 0
+HasJudgedRole d told p role = (s : Spot) × IsFound d s × (s.page ≡ p) × IsRoleIn d p s.role role × (IsWhole d s ⊎ IsNamed told s)
+
+-- What is named at page p: that nothing has named it, or what holds by the places that were found.
+abbrev pub IsNamedFault : (maps : Bool) → Database → (size : ℕ) → List Role → CheckError → Type 0
+IsNamedFault maps d size roles e = ((e.fault ≡ faults.PageUnused) × IsPage d e.page × (role_at roles e.page ≡ Unused)) ⊎ IsFoundFault maps d size e.fault e.page
+
+-- The faults that are named of a database that isn't well formed: only what was found, and something wherever the header,
+-- or a page in the role that it has, isn't sound, and each page that nothing has named.
+pub record AreFoundFaults (maps : Bool) (d : Database) (size : ℕ) (roles : List Role) (told : List CheckError) : Type 0 where
+  pub only : Every (IsNamedFault maps d size roles) told
+  pub header : (¬ HasSoundHeader maps d size) → Names told (λ e. (e.page ≡ 1) × ((is_of_header e.fault ≡ true) ⊎ (e.fault ≡ faults.PointerMap)))
+  pub judged : (p : ℕ) → IsPage d p → (role_at roles p ≡ Unused) ⊎ HasJudgedRole d told p (role_at roles p) ⊎ IsRoleSetAside d size p (role_at roles p)
+  pub unused : (p : ℕ) → IsPage d p → role_at roles p ≡ Unused → Names told (λ e. (e.page ≡ p) × (e.fault ≡ faults.PageUnused))
+
 -- Where its answer is a report, the database is well formed, the report and the roles are its, and there is no fault.
 abbrev pub FindsCleanWith : (maps : Bool) → Database → (size : ℕ) → Survey → Type 0
 FindsCleanWith maps d size survey = IfOk survey.answer (λ report. (w : WellFormedWith maps d size) × IsReport d w.places report
     × AreAllRoles d size survey.roles.items × (survey.faults.items ≡ []))
 
--- Where its answer is a fault, that stands at its page, and the database isn't well formed.
+-- Where its answer is a fault, that stands at its page, and the database isn't well formed. That memory ran out is no
+-- answer. Each role is one that sound pages lead to, and the faults are those that were found.
 abbrev pub FindsDamagedWith : (maps : Bool) → Database → (size : ℕ) → Survey → Type 0
-FindsDamagedWith maps d size survey = IfErr survey.answer (λ e. StandsWith maps d size e.fault e.page × ¬ WellFormedWith maps d size)
+FindsDamagedWith maps d size survey =
+    IfErr survey.answer (λ e. StandsWith maps d size e.fault e.page × (¬ WellFormedWith maps d size) × (e.fault ≢ faults.NoMemory) × AreFoundRoles d size survey.roles.items
+    × AreFoundFaults maps d size survey.roles.items survey.faults.items)
 
--- a fault of the source or of memory, and not of the database
-abbrev pub IsEnd : Fault → Type 0
-IsEnd fault = (fault ≡ faults.Source) ⊎ (fault ≡ faults.NoMemory)
-
--- Why there is no survey: page 1 isn't that of a database, or too little of each page is used; or memory or the source
--- gave out.
+-- Why there is no survey of pages that are given: page 1 isn't that of a database, or too little of each page is used; or
+-- memory ran out.
 abbrev pub SurveyRefusedWith : (maps : Bool) → Database → (size : ℕ) → Fault → (p : ℕ) → Type 0
-SurveyRefusedWith maps d size fault p = IsEnd fault ⊎ (StandsWith maps d size fault p × ((fault ≡ faults.Magic) ⊎ (usable_size d < 480)))
+SurveyRefusedWith maps d size fault p = (fault ≡ faults.NoMemory) ⊎ (StandsWith maps d size fault p × ((fault ≡ faults.Magic) ⊎ (usable_size d < 480)))
 
 -- the same where auto-vacuum is refused
 abbrev pub FindsClean : Database → (size : ℕ) → Survey → Type 0

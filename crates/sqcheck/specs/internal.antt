@@ -11,3 +11,4 @@ pub mod Roles
 pub mod Surveys
 pub mod Charting
 pub mod Chains
+pub mod Found

@@ -1,5 +1,5 @@
 //! Chains that are charted as those of their cells (own).
-ghost use Rattle.std.specs.Prelude.{◌≡◌, ◌+◌, ◌<◌, ◌≤◌, ℕ, true, length, replicate, false, IfOk, IfErr, IsOk};
+ghost use Rattle.std.specs.Prelude.{◌≡◌, ◌+◌, ◌<◌, ◌≤◌, ℕ, true, length, replicate, false, IfOk, IfErr};
 ghost use Rattle.sqpage.specs.Source.{KeepsPages};
 ghost use Rattle.sqpage.specs.Chain.{payload_size};
 ghost use Rattle.sqpage.specs.declared.fault.Fault.{Fault};
@@ -59,12 +59,11 @@ impl Chains {
         requires room { (length bytes.old ≡ S.size source.old) × (4 ≤ length bytes.old) }
         requires least { 480 ≤ cell.now.usable }
         requires part { length cell.now.local.now ≤ payload_size cell.now }
-        ensures own { S.gives_pages source.old → IfOk result (λ own. own ≡ true → TakesChain (S.pages source.old)
+        ensures own { S.reads_right source.old → IfOk result (λ own. own ≡ true → TakesChain (S.pages source.old)
             roles.now cell.now self.old.taken.items self.new.taken.items) }
-        ensures err { IfErr result (λ e. e.fault ≡ Fault.Source) }
-        ensures gives { S.gives_pages source.old → IsOk result }
+        ensures err { IfErr result (λ e. (e.fault ≡ Fault.Source) × ¬ S.gives_pages source.old) }
         ensures long { length bytes.new ≡ length bytes.old }
-        ensures keeps { KeepsPages S.pages S.size S.gives_pages source.old source.new }
+        ensures keeps { KeepsPages S.pages S.size S.reads_right S.gives_pages source.old source.new }
     {
         let mut next = cell.overflow;
         let mut left = links_of(cell);

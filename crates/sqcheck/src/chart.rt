@@ -1,8 +1,8 @@
 //! What a survey puts down of each page (own).
-ghost use Rattle.std.specs.Prelude.{◌≡◌, ◌<◌, ◌^◌, ◌↔◌, [], ◌∷◌, length, IfOk, IfErr, IsTrue, OnErr, OnOk};
-ghost use Rattle.sqcheck.specs.Surveys.{IsEnd};
+ghost use Rattle.std.specs.Prelude.{◌≡◌, ◌<◌, ◌^◌, ◌↔◌, ◌⊎◌, [], ◌∷◌, length, IfOk, IfErr, IsTrue, OnErr, OnOk};
+ghost use Rattle.sqpage.specs.declared.fault.Fault.{Fault};
 ghost use Rattle.sqcheck.specs.internal.Charting.{ArePutDown, IsUnusedIn, unused_faults};
-ghost use Rattle.sqcheck.specs.internal.Surveys.{Charts, IsSetDown, AreSetDown};
+ghost use Rattle.sqcheck.specs.internal.Surveys.{Charts, IsEnd, IsSetDown, AreSetDown};
 
 use crate::role::{Role, Visitor};
 use sqpage::{CheckError, Fault, is_pointer_map, lock_byte_page};
@@ -26,10 +26,7 @@ impl Visitor for Chart {
     ghost saw = { λ old page role new. Charts old.roles.items page role new.roles.items };
 
     fn visit(&mut self, page: u32, role: Role) {
-        let page = page as usize;
-        if 0 < page && page <= self.roles.len() {
-            self.roles[page - 1] = role;
-        }
+        self.put(page, role);
     }
 }
 
@@ -72,6 +69,17 @@ impl Chart {
         })
     }
 
+    /// Puts the role of a page down, where it is one of these.
+    pub fn put(&mut self, page: u32, role: Role)
+        ensures charts { Charts self.old.roles.items page role self.new.roles.items }
+        ensures same { self.new.faults.items ≡ self.old.faults.items }
+    {
+        let page = page as usize;
+        if 0 < page && page <= self.roles.len() {
+            self.roles[page - 1] = role;
+        }
+    }
+
     /// Puts a fault down, as far as there is room. Refused by the fault where it isn't one of the database, by Source
     /// and NoMemory.
     pub fn tell(&mut self, error: CheckError) -> Result<(), CheckError>
@@ -80,7 +88,7 @@ impl Chart {
         ensures taken { OnOk result (¬ IsEnd error.fault) }
         ensures kept { OnErr result (self.new.faults.items ≡ self.old.faults.items) }
         ensures page { IfErr result (λ e. e.page ≡ error.page) }
-        ensures ends { IfErr result (λ e. IsEnd e.fault) }
+        ensures ends { IfErr result (λ e. (e.fault ≡ Fault.NoMemory) ⊎ ((e.fault ≡ Fault.Source) × (e ≡ error))) }
     {
         if error.fault == Fault::Source || error.fault == Fault::NoMemory {
             return Err(error);
@@ -110,7 +118,7 @@ impl Chart {
         ensures same { self.new.roles.items ≡ self.old.roles.items }
         ensures down { OnOk result
             (ArePutDown self.old.faults.items (unused_faults 1 self.old.roles.items) self.new.faults.items) }
-        ensures ends { IfErr result (λ e. IsEnd e.fault) }
+        ensures ends { IfErr result (λ e. e.fault ≡ Fault.NoMemory) }
     {
         'pages: for i in 0..self.roles.len() {
             if self.roles[i] == Role::Unused {

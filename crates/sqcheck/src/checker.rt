@@ -1,9 +1,9 @@
 //! The check of a whole database (own).
-ghost use Rattle.std.specs.Prelude.{◌≡◌, ◌≢◌, ◌<◌, ◌≤◌, ◌∷◌, ◌++◌, [], ℕ, List, Bool, true, false, length, IsOk};
+ghost use Rattle.std.specs.Prelude.{◌≡◌, ◌≢◌, ◌<◌, ◌≤◌, ◌∷◌, ◌++◌, [], ℕ, List, Bool, true, false, length};
 ghost use Rattle.std.specs.Prelude.{IfOk, IfErr};
 ghost use Rattle.std.specs.Prelude.{OnOk, OnErr, replicate, ◌↔◌, ◌-◌, ◌^◌};
 ghost use Rattle.sqpage.specs.PointerMaps.{lock_byte_page};
-ghost use Rattle.sqpage.specs.Source.{KeepsPages};
+ghost use Rattle.sqpage.specs.Source.{KeepsPages, UnlessUnread};
 ghost use Rattle.sqpage.specs.Freelist.{IsPage, IsWithin, usable_size, first_trunk};
 ghost use Rattle.sqpage.specs.Lists.{Every};
 ghost use Rattle.sqpage.specs.internal.Taking.{is_marked};
@@ -66,13 +66,13 @@ impl<V: Snapshot> Reader<V> {
         page: u32,
     ) -> Result<bool, CheckError>
         requires page { IsPage V.pages page }
-        requires same { SameSource V.pages V.size V.given (S.pages source.old) (S.size source.old)
-            (S.gives_pages source.old) }
-        ensures ok { V.given → IfOk result (λ table. table ≡ names_table V.pages page) × IsOk result }
-        ensures source { IfErr result (λ e. e.fault ≡ Fault.Source) }
+        requires same { SameSource V.pages V.size V.right V.given (S.pages source.old) (S.size source.old)
+            (S.reads_right source.old) (S.gives_pages source.old) }
+        ensures ok { V.right → IfOk result (λ table. table ≡ names_table V.pages page) }
+        ensures source { IfErr result (λ e. (e.fault ≡ Fault.Source) × ¬ V.given) }
         ensures usable { self.new.usable ≡ self.old.usable }
-        ensures same { SameSource V.pages V.size V.given (S.pages source.new) (S.size source.new)
-            (S.gives_pages source.new) }
+        ensures same { SameSource V.pages V.size V.right V.given (S.pages source.new) (S.size source.new)
+            (S.reads_right source.new) (S.gives_pages source.new) }
     {
         self.read(source, page)?;
         let head = if page == 1 { 100 } else { 0 };
@@ -90,20 +90,20 @@ impl<V: Snapshot> Walker<V> {
         item: Item,
     ) -> Result<(), CheckError>
         requires empty { self.old.walk.stack.items ≡ [] }
-        requires same { SameSource V.pages V.size V.given (S.pages source.old) (S.size source.old)
-            (S.gives_pages source.old) }
-        ensures ok { V.given × V.judged → (late : Bool) (visited rest : List Spot) (s : Spot)
+        requires same { SameSource V.pages V.size V.right V.given (S.pages source.old) (S.size source.old)
+            (S.reads_right source.old) (S.gives_pages source.old) }
+        ensures ok { V.right × V.judged → (late : Bool) (visited rest : List Spot) (s : Spot)
             → Visited V.pages late visited (s ∷ rest) self.old.uses self.old.walk → IsItemOf tree.now item s
             → TopLeads V.pages tree.now.root (item ∷ [])
             → OnOk result (VisitsMore T.saw V.pages late visited rest self.new.uses self.new.walk
             visitor.old visitor.new) }
-        ensures err { V.given × V.judged → (late : Bool) (visited rest : List Spot) (s : Spot)
+        ensures err { V.right × V.judged → (late : Bool) (visited rest : List Spot) (s : Spot)
             → Visited V.pages late visited (s ∷ rest) self.old.uses self.old.walk → IsItemOf tree.now item s
             → TopLeads V.pages tree.now.root (item ∷ [])
-            → IfErr result (λ e. StandsNow V.pages e.fault e.page) }
+            → IfErr result (λ e. StandsNow V.given V.pages e.fault e.page) }
         ensures empty { OnOk result (self.new.walk.stack.items ≡ []) }
-        ensures same { SameSource V.pages V.size V.given (S.pages source.new) (S.size source.new)
-            (S.gives_pages source.new) }
+        ensures same { SameSource V.pages V.size V.right V.given (S.pages source.new) (S.size source.new)
+            (S.reads_right source.new) (S.gives_pages source.new) }
     {
         self.walk.leaf_level = None;
         push(&mut self.walk.stack, item)?;
@@ -118,16 +118,16 @@ impl<V: Snapshot> Walker<V> {
         first: u32,
     ) -> Result<(), CheckError>
         requires empty { self.old.walk.stack.items ≡ [] }
-        requires same { SameSource V.pages V.size V.given (S.pages source.old) (S.size source.old)
-            (S.gives_pages source.old) }
-        ensures ok { V.given × V.judged → first ≡ first_trunk V.pages → IsNew V.pages self.old.uses self.old.walk
+        requires same { SameSource V.pages V.size V.right V.given (S.pages source.old) (S.size source.old)
+            (S.reads_right source.old) (S.gives_pages source.old) }
+        ensures ok { V.right × V.judged → first ≡ first_trunk V.pages → IsNew V.pages self.old.uses self.old.walk
             → OnOk result (VisitsMore T.saw V.pages false [] (first_root_spot ∷ []) self.new.uses self.new.walk
             visitor.old visitor.new) }
-        ensures err { V.given × V.judged → first ≡ first_trunk V.pages → IsNew V.pages self.old.uses self.old.walk
-            → IfErr result (λ e. StandsNow V.pages e.fault e.page) }
+        ensures err { V.right × V.judged → first ≡ first_trunk V.pages → IsNew V.pages self.old.uses self.old.walk
+            → IfErr result (λ e. StandsNow V.given V.pages e.fault e.page) }
         ensures empty { OnOk result (self.new.walk.stack.items ≡ []) }
-        ensures same { SameSource V.pages V.size V.given (S.pages source.new) (S.size source.new)
-            (S.gives_pages source.new) }
+        ensures same { SameSource V.pages V.size V.right V.given (S.pages source.new) (S.size source.new)
+            (S.reads_right source.new) (S.gives_pages source.new) }
     {
         if first == 0 {
             return Ok(());
@@ -162,18 +162,18 @@ impl<V: Snapshot> Walker<V> {
         visitor: &mut T,
     ) -> Result<(), CheckError>
         requires empty { self.old.walk.stack.items ≡ [] }
-        requires same { SameSource V.pages V.size V.given (S.pages source.old) (S.size source.old)
-            (S.gives_pages source.old) }
-        ensures ok { V.given × V.judged → (visited : List Spot)
+        requires same { SameSource V.pages V.size V.right V.given (S.pages source.old) (S.size source.old)
+            (S.reads_right source.old) (S.gives_pages source.old) }
+        ensures ok { V.right × V.judged → (visited : List Spot)
             → Visited V.pages false visited (first_root_spot ∷ []) self.old.uses self.old.walk
             → OnOk result (VisitsMore T.saw V.pages false visited [] self.new.uses self.new.walk
             visitor.old visitor.new) }
-        ensures err { V.given × V.judged → (visited : List Spot)
+        ensures err { V.right × V.judged → (visited : List Spot)
             → Visited V.pages false visited (first_root_spot ∷ []) self.old.uses self.old.walk
-            → IfErr result (λ e. StandsNow V.pages e.fault e.page) }
+            → IfErr result (λ e. StandsNow V.given V.pages e.fault e.page) }
         ensures empty { OnOk result (self.new.walk.stack.items ≡ []) }
-        ensures same { SameSource V.pages V.size V.given (S.pages source.new) (S.size source.new)
-            (S.gives_pages source.new) }
+        ensures same { SameSource V.pages V.size V.right V.given (S.pages source.new) (S.size source.new)
+            (S.reads_right source.new) (S.gives_pages source.new) }
     {
         let item = Item {
             holder: 1,
@@ -191,18 +191,18 @@ impl<V: Snapshot> Walker<V> {
         root: Root,
     ) -> Result<(), CheckError>
         requires empty { self.old.walk.stack.items ≡ [] }
-        requires same { SameSource V.pages V.size V.given (S.pages source.old) (S.size source.old)
-            (S.gives_pages source.old) }
-        ensures ok { V.given × V.judged → (visited rest : List Spot) (s : Spot)
+        requires same { SameSource V.pages V.size V.right V.given (S.pages source.old) (S.size source.old)
+            (S.reads_right source.old) (S.gives_pages source.old) }
+        ensures ok { V.right × V.judged → (visited rest : List Spot) (s : Spot)
             → Visited V.pages true visited (s ∷ rest) self.old.uses self.old.walk → IsRootAt V.pages root s
             → OnOk result (VisitsMore T.saw V.pages true visited rest self.new.uses self.new.walk
             visitor.old visitor.new) }
-        ensures err { V.given × V.judged → (visited rest : List Spot) (s : Spot)
+        ensures err { V.right × V.judged → (visited rest : List Spot) (s : Spot)
             → Visited V.pages true visited (s ∷ rest) self.old.uses self.old.walk → IsRootAt V.pages root s
-            → IfErr result (λ e. StandsNow V.pages e.fault e.page) }
+            → IfErr result (λ e. StandsNow V.given V.pages e.fault e.page) }
         ensures empty { OnOk result (self.new.walk.stack.items ≡ []) }
-        ensures same { SameSource V.pages V.size V.given (S.pages source.new) (S.size source.new)
-            (S.gives_pages source.new) }
+        ensures same { SameSource V.pages V.size V.right V.given (S.pages source.new) (S.size source.new)
+            (S.reads_right source.new) (S.gives_pages source.new) }
     {
         if root.page == 0 || root.page > u64::from(source.count()) {
             return Err(CheckError {
@@ -233,20 +233,20 @@ impl<V: Snapshot> Walker<V> {
         roots: &[Root],
     ) -> Result<(), CheckError>
         requires empty { self.old.walk.stack.items ≡ [] }
-        requires same { SameSource V.pages V.size V.given (S.pages source.old) (S.size source.old)
-            (S.gives_pages source.old) }
-        ensures ok { V.given × V.judged → (visited spots rest : List Spot)
+        requires same { SameSource V.pages V.size V.right V.given (S.pages source.old) (S.size source.old)
+            (S.reads_right source.old) (S.gives_pages source.old) }
+        ensures ok { V.right × V.judged → (visited spots rest : List Spot)
             → Visited V.pages true visited (spots ++ rest) self.old.uses self.old.walk
             → RootsMatch V.pages roots.now spots
             → OnOk result (VisitsMore T.saw V.pages true visited rest self.new.uses self.new.walk
             visitor.old visitor.new) }
-        ensures err { V.given × V.judged → (visited spots rest : List Spot)
+        ensures err { V.right × V.judged → (visited spots rest : List Spot)
             → Visited V.pages true visited (spots ++ rest) self.old.uses self.old.walk
             → RootsMatch V.pages roots.now spots
-            → IfErr result (λ e. StandsNow V.pages e.fault e.page) }
+            → IfErr result (λ e. StandsNow V.given V.pages e.fault e.page) }
         ensures empty { OnOk result (self.new.walk.stack.items ≡ []) }
-        ensures same { SameSource V.pages V.size V.given (S.pages source.new) (S.size source.new)
-            (S.gives_pages source.new) }
+        ensures same { SameSource V.pages V.size V.right V.given (S.pages source.new) (S.size source.new)
+            (S.reads_right source.new) (S.gives_pages source.new) }
     {
         'roots: for root in roots {
             self.follow_root(source, visitor, *root)?;
@@ -263,16 +263,16 @@ impl<V: Snapshot> Walker<V> {
         header: &DbHeader,
     ) -> Result<(), CheckError>
         requires empty { self.old.walk.stack.items ≡ [] }
-        requires same { SameSource V.pages V.size V.given (S.pages source.old) (S.size source.old)
-            (S.gives_pages source.old) }
-        ensures ok { V.given × V.judged → HasLists header.now V.pages → IsNew V.pages self.old.uses self.old.walk
+        requires same { SameSource V.pages V.size V.right V.given (S.pages source.old) (S.size source.old)
+            (S.reads_right source.old) (S.gives_pages source.old) }
+        ensures ok { V.right × V.judged → HasLists header.now V.pages → IsNew V.pages self.old.uses self.old.walk
             → OnOk result (VisitsMore T.saw V.pages false [] [] self.new.uses self.new.walk
             visitor.old visitor.new) }
-        ensures err { V.given × V.judged → HasLists header.now V.pages → IsNew V.pages self.old.uses self.old.walk
-            → IfErr result (λ e. StandsNow V.pages e.fault e.page) }
+        ensures err { V.right × V.judged → HasLists header.now V.pages → IsNew V.pages self.old.uses self.old.walk
+            → IfErr result (λ e. StandsNow V.given V.pages e.fault e.page) }
         ensures empty { OnOk result (self.new.walk.stack.items ≡ []) }
-        ensures same { SameSource V.pages V.size V.given (S.pages source.new) (S.size source.new)
-            (S.gives_pages source.new) }
+        ensures same { SameSource V.pages V.size V.right V.given (S.pages source.new) (S.size source.new)
+            (S.reads_right source.new) (S.gives_pages source.new) }
     {
         self.follow_trunks(source, visitor, header.first_trunk)?;
         self.judge_free_count(header.free_pages)?;
@@ -287,18 +287,18 @@ impl<V: Snapshot> Walker<V> {
         visitor: &mut T,
     ) -> Result<(), CheckError>
         requires empty { self.old.walk.stack.items ≡ [] }
-        requires same { SameSource V.pages V.size V.given (S.pages source.old) (S.size source.old)
-            (S.gives_pages source.old) }
-        ensures ok { V.given × V.judged → Every (λ b. length b ≡ V.size) V.pages → (visited : List Spot)
+        requires same { SameSource V.pages V.size V.right V.given (S.pages source.old) (S.size source.old)
+            (S.reads_right source.old) (S.gives_pages source.old) }
+        ensures ok { V.right × V.judged → Every (λ b. length b ≡ V.size) V.pages → (visited : List Spot)
             → Visited V.pages false visited [] self.old.uses self.old.walk
             → OnOk result (VisitsMore T.saw V.pages true visited [] self.new.uses self.new.walk
             visitor.old visitor.new) }
-        ensures err { V.given × V.judged → Every (λ b. length b ≡ V.size) V.pages → (visited : List Spot)
+        ensures err { V.right × V.judged → Every (λ b. length b ≡ V.size) V.pages → (visited : List Spot)
             → Visited V.pages false visited [] self.old.uses self.old.walk
-            → IfErr result (λ e. StandsNow V.pages e.fault e.page) }
+            → IfErr result (λ e. StandsNow V.given V.pages e.fault e.page) }
         ensures empty { OnOk result (self.new.walk.stack.items ≡ []) }
-        ensures same { SameSource V.pages V.size V.given (S.pages source.new) (S.size source.new)
-            (S.gives_pages source.new) }
+        ensures same { SameSource V.pages V.size V.right V.given (S.pages source.new) (S.size source.new)
+            (S.reads_right source.new) (S.gives_pages source.new) }
     {
         let roots = roots_in(alloc, source, &mut self.reader, &self.walk.rows)?;
         self.follow_roots(source, visitor, &roots)
@@ -326,9 +326,9 @@ impl<V: Snapshot> Walker<V> {
             self.now.uses.marks.items p ≡ true) × (self.now.uses.counts.free ≡ header.now.free_pages)) }
         ensures largest { OnOk result (self.now.maps.used ≡ true → self.now.uses.counts.largest_root ≡
             header.now.largest_root) }
-        ensures err { V.given × V.judged → (visited : List Spot) → HasLists header.now V.pages
+        ensures err { V.right × V.judged → (visited : List Spot) → HasLists header.now V.pages
             → Visited V.pages true visited [] self.now.uses self.now.walk
-            → IfErr result (λ e. StandsNow V.pages e.fault e.page) }
+            → IfErr result (λ e. StandsNow V.given V.pages e.fault e.page) }
     {
         judge_unused(&self.uses.marks)?;
         self.judge_free_count(header.free_pages)?;
@@ -361,17 +361,17 @@ impl<V: Snapshot> Walker<V> {
         header: &DbHeader,
     ) -> Result<Report, CheckError>
         requires empty { self.old.walk.stack.items ≡ [] }
-        requires same { SameSource V.pages V.size V.given (S.pages source.old) (S.size source.old)
-            (S.gives_pages source.old) }
-        ensures ok { V.given × V.judged → (maps : Bool) → Every (λ b. length b ≡ V.size) V.pages
+        requires same { SameSource V.pages V.size V.right V.given (S.pages source.old) (S.size source.old)
+            (S.reads_right source.old) (S.gives_pages source.old) }
+        ensures ok { V.right × V.judged → (maps : Bool) → Every (λ b. length b ≡ V.size) V.pages
             → HasLists header.now V.pages → IsNew V.pages self.old.uses self.old.walk
             → HasSoundHeader maps V.pages V.size → IfOk result (λ report.
             (w : WellFormedWith maps V.pages V.size) × IsReport V.pages w.places report × (visits : List Visit) ×
             Told T.saw visitor.old visits visitor.new × AreRoles V.pages V.size visits) }
-        ensures err { V.given × V.judged → Every (λ b. length b ≡ V.size) V.pages → HasLists header.now V.pages
-            → IsNew V.pages self.old.uses self.old.walk → IfErr result (λ e. StandsNow V.pages e.fault e.page) }
-        ensures same { SameSource V.pages V.size V.given (S.pages source.new) (S.size source.new)
-            (S.gives_pages source.new) }
+        ensures err { V.right × V.judged → Every (λ b. length b ≡ V.size) V.pages → HasLists header.now V.pages
+            → IsNew V.pages self.old.uses self.old.walk → IfErr result (λ e. StandsNow V.given V.pages e.fault e.page) }
+        ensures same { SameSource V.pages V.size V.right V.given (S.pages source.new) (S.size source.new)
+            (S.reads_right source.new) (S.gives_pages source.new) }
     {
         self.follow_first(source, visitor, header)?;
         self.follow_others(alloc, source, visitor)?;
@@ -419,7 +419,7 @@ fn first_marks<V: Snapshot>(
     maps: &Maps<V>,
 ) -> Result<Vec<bool>, AllocError>
     ensures long { IfOk result (λ marks. length marks.items ≡ count) }
-    ensures aside { V.judged → IfOk result (λ marks. MarksAside V.pages marks.items) }
+    ensures aside { V.right × V.judged → IfOk result (λ marks. MarksAside V.pages marks.items) }
 {
     let mut marks = unmarked(alloc, count)?;
     set_aside(&mut marks, maps.page_size);
@@ -438,8 +438,8 @@ pub(crate) fn new_walker<V: Snapshot>(
     maps: Maps<V>,
 ) -> Result<Walker<V>, AllocError>
     requires { count ≡ length V.pages }
-    ensures new { V.judged → IfOk result (λ w. IsNew V.pages w.uses w.walk) }
-    ensures empty { IfOk result (λ w. w.walk.stack.items ≡ []) }
+    ensures new { V.right × V.judged → IfOk result (λ w. IsNew V.pages w.uses w.walk) }
+    ensures empty { IfOk result (λ w. (w.walk.stack.items ≡ []) × (w.walk.rows.items ≡ [])) }
 {
     let usable = reader.usable as usize;
     let marks = first_marks(alloc, count, &maps)?;
@@ -481,15 +481,17 @@ fn check_snapshot<V: Snapshot, S: PageSource, T: Visitor>(
     visitor: &mut T,
     options: Options,
 ) -> Result<Report, CheckError>
-    requires judged { V.given ↔ V.judged }
+    requires judged { V.right ↔ V.judged }
+    requires maps { V.maps ≡ options.pointer_maps }
     requires same { (S.pages source.old ≡ V.pages) × (S.size source.old ≡ V.size) ×
-        (V.given → S.gives_pages source.old) }
-    ensures ok { V.given → IfOk result (λ report.
+        (V.right → S.reads_right source.old) × (V.given → S.gives_pages source.old) }
+    ensures ok { V.right → IfOk result (λ report.
         (w : WellFormedWith options.pointer_maps V.pages V.size) × IsReport V.pages w.places report ×
         (visits : List Visit) × Told T.saw visitor.old visits visitor.new × AreRoles V.pages V.size visits) }
-    ensures err { V.given → IfErr result (λ e. StandsWith options.pointer_maps V.pages V.size e.fault e.page) }
+    ensures err { V.right → IfErr result (λ e. UnlessUnread V.given e.fault
+        (StandsWith options.pointer_maps V.pages V.size e.fault e.page)) }
     ensures same { (S.pages source.new ≡ V.pages) × (S.size source.new ≡ V.size) ×
-        (V.given → S.gives_pages source.new) }
+        (V.right → S.reads_right source.new) × (V.given → S.gives_pages source.new) }
 {
     let count = source.count();
     if count == 0 {
@@ -526,16 +528,16 @@ fn check_snapshot<V: Snapshot, S: PageSource, T: Visitor>(
 /// page that nothing names. Refused by Source where a page could not be read, and by NoMemory.
 pub fn check<S: PageSource>(alloc: Global, source: &mut S) -> Result<Report, CheckError>
     // The database is well formed, and the report is its.
-    ensures ok { S.gives_pages source.old → IfOk result (λ report.
+    ensures ok { S.reads_right source.old → IfOk result (λ report.
         (w : WellFormed (S.pages source.old) (S.size source.old)) × IsReport (S.pages source.old) w.places
         report) }
-    // The condition stands at the page.
-    ensures err { S.gives_pages source.old
-        → IfErr result (λ e. Stands (S.pages source.old) (S.size source.old) e.fault e.page) }
-    // The database isn't well formed, unless memory ran out.
-    ensures none { S.gives_pages source.old
-        → IfErr result (λ e. e.fault ≢ Fault.NoMemory → ¬ WellFormed (S.pages source.old) (S.size source.old)) }
-    ensures keeps { KeepsPages S.pages S.size S.gives_pages source.old source.new }
+    // The condition stands at the page, unless one couldn't be read.
+    ensures err { S.reads_right source.old → IfErr result (λ e. UnlessUnread (S.gives_pages source.old) e.fault
+        (Stands (S.pages source.old) (S.size source.old) e.fault e.page)) }
+    // The database isn't well formed, unless a page couldn't be read or memory ran out.
+    ensures none { S.reads_right source.old → IfErr result (λ e. e.fault ≢ Fault.Source → e.fault ≢ Fault.NoMemory
+        → ¬ WellFormed (S.pages source.old) (S.size source.old)) }
+    ensures keeps { KeepsPages S.pages S.size S.reads_right S.gives_pages source.old source.new }
 {
     check_snapshot::<Brand, S, Silent>(alloc, source, &mut Silent, Options::PLAIN)
 }
@@ -550,16 +552,16 @@ pub fn check_with<S: PageSource>(
     options: Options,
 ) -> Result<Report, CheckError>
     // The database is well formed, and the report is its.
-    ensures ok { S.gives_pages source.old → IfOk result (λ report.
+    ensures ok { S.reads_right source.old → IfOk result (λ report.
         (w : WellFormedWith options.pointer_maps (S.pages source.old) (S.size source.old)) ×
         IsReport (S.pages source.old) w.places report) }
-    // The condition stands at the page.
-    ensures err { S.gives_pages source.old → IfErr result (λ e.
-        StandsWith options.pointer_maps (S.pages source.old) (S.size source.old) e.fault e.page) }
-    // The database isn't well formed, unless memory ran out.
-    ensures none { S.gives_pages source.old → IfErr result (λ e. e.fault ≢ Fault.NoMemory
+    // The condition stands at the page, unless one couldn't be read.
+    ensures err { S.reads_right source.old → IfErr result (λ e. UnlessUnread (S.gives_pages source.old) e.fault
+        (StandsWith options.pointer_maps (S.pages source.old) (S.size source.old) e.fault e.page)) }
+    // The database isn't well formed, unless a page couldn't be read or memory ran out.
+    ensures none { S.reads_right source.old → IfErr result (λ e. e.fault ≢ Fault.Source → e.fault ≢ Fault.NoMemory
         → ¬ WellFormedWith options.pointer_maps (S.pages source.old) (S.size source.old)) }
-    ensures keeps { KeepsPages S.pages S.size S.gives_pages source.old source.new }
+    ensures keeps { KeepsPages S.pages S.size S.reads_right S.gives_pages source.old source.new }
 {
     check_snapshot::<Brand, S, Silent>(alloc, source, &mut Silent, options)
 }
@@ -572,17 +574,17 @@ pub fn visit_pages<S: PageSource, T: Visitor>(
     visitor: &mut T,
 ) -> Result<Report, CheckError>
     // The database is well formed, the report is its, and the visitor was told of each page once, and its role.
-    ensures ok { S.gives_pages source.old → IfOk result (λ report.
+    ensures ok { S.reads_right source.old → IfOk result (λ report.
         (w : WellFormed (S.pages source.old) (S.size source.old)) × IsReport (S.pages source.old) w.places
         report × (visits : List Visit) × Told T.saw visitor.old visits visitor.new ×
         AreRoles (S.pages source.old) (S.size source.old) visits) }
-    // The condition stands at the page.
-    ensures err { S.gives_pages source.old
-        → IfErr result (λ e. Stands (S.pages source.old) (S.size source.old) e.fault e.page) }
-    // The database isn't well formed, unless memory ran out.
-    ensures none { S.gives_pages source.old
-        → IfErr result (λ e. e.fault ≢ Fault.NoMemory → ¬ WellFormed (S.pages source.old) (S.size source.old)) }
-    ensures keeps { KeepsPages S.pages S.size S.gives_pages source.old source.new }
+    // The condition stands at the page, unless one couldn't be read.
+    ensures err { S.reads_right source.old → IfErr result (λ e. UnlessUnread (S.gives_pages source.old) e.fault
+        (Stands (S.pages source.old) (S.size source.old) e.fault e.page)) }
+    // The database isn't well formed, unless a page couldn't be read or memory ran out.
+    ensures none { S.reads_right source.old → IfErr result (λ e. e.fault ≢ Fault.Source → e.fault ≢ Fault.NoMemory
+        → ¬ WellFormed (S.pages source.old) (S.size source.old)) }
+    ensures keeps { KeepsPages S.pages S.size S.reads_right S.gives_pages source.old source.new }
 {
     check_snapshot::<Brand, S, T>(alloc, source, visitor, Options::PLAIN)
 }
@@ -595,17 +597,17 @@ pub fn visit_pages_with<S: PageSource, T: Visitor>(
     options: Options,
 ) -> Result<Report, CheckError>
     // The database is well formed, the report is its, and the visitor was told of each page once, and its role.
-    ensures ok { S.gives_pages source.old → IfOk result (λ report.
+    ensures ok { S.reads_right source.old → IfOk result (λ report.
         (w : WellFormedWith options.pointer_maps (S.pages source.old) (S.size source.old)) ×
         IsReport (S.pages source.old) w.places report × (visits : List Visit) ×
         Told T.saw visitor.old visits visitor.new × AreRoles (S.pages source.old) (S.size source.old) visits) }
-    // The condition stands at the page.
-    ensures err { S.gives_pages source.old → IfErr result (λ e.
-        StandsWith options.pointer_maps (S.pages source.old) (S.size source.old) e.fault e.page) }
-    // The database isn't well formed, unless memory ran out.
-    ensures none { S.gives_pages source.old → IfErr result (λ e. e.fault ≢ Fault.NoMemory
+    // The condition stands at the page, unless one couldn't be read.
+    ensures err { S.reads_right source.old → IfErr result (λ e. UnlessUnread (S.gives_pages source.old) e.fault
+        (StandsWith options.pointer_maps (S.pages source.old) (S.size source.old) e.fault e.page)) }
+    // The database isn't well formed, unless a page couldn't be read or memory ran out.
+    ensures none { S.reads_right source.old → IfErr result (λ e. e.fault ≢ Fault.Source → e.fault ≢ Fault.NoMemory
         → ¬ WellFormedWith options.pointer_maps (S.pages source.old) (S.size source.old)) }
-    ensures keeps { KeepsPages S.pages S.size S.gives_pages source.old source.new }
+    ensures keeps { KeepsPages S.pages S.size S.reads_right S.gives_pages source.old source.new }
 {
     check_snapshot::<Brand, S, T>(alloc, source, visitor, options)
 }

@@ -15,6 +15,7 @@ mod role;
 mod schema;
 mod snapshot;
 mod survey;
+mod survey_rows;
 mod tree;
 mod trunk;
 mod unused;

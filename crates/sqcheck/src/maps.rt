@@ -1,5 +1,5 @@
 //! Pointer maps, compared with what names each page (fileformat2, 1.8).
-ghost use Rattle.std.specs.Prelude.{◌≡◌, ◌<◌, ◌≤◌, ◌+◌, ◌↔◌, IsTrue, length, OnOk, IsOk, IfOk, IfErr};
+ghost use Rattle.std.specs.Prelude.{◌≡◌, ◌≢◌, ◌<◌, ◌≤◌, ◌+◌, ◌↔◌, IsTrue, true, length, OnOk, IfOk, IfErr};
 ghost use Rattle.sqval.specs.Bytes.{word};
 ghost use Rattle.sqval.specs.Database.{page};
 ghost use Rattle.sqpage.specs.Freelist.{IsPage};
@@ -34,8 +34,9 @@ pub(crate) struct Maps<V: Snapshot> {
     snapshot: PhantomData<V>,
     ghost sized: { length bytes.items ≡ V.size },
     ghost size: { page_size ≡ V.size },
-    ghost known: { V.judged → KnowsMaps V.pages used page_size reserved },
-    ghost kept: { V.given → 0 < held → bytes.items ≡ page V.pages held },
+    ghost known: { V.right → KnowsMaps V.pages V.judged used page_size reserved },
+    ghost asked: { used ≡ true → V.maps ≡ true },
+    ghost kept: { V.right → 0 < held → bytes.items ≡ page V.pages held },
 }
 
 /// The number of a kind of page.
@@ -100,7 +101,8 @@ impl<V: Snapshot> Maps<V> {
         reserved: u8,
     ) -> Result<Maps<V>, AllocError>
         requires size { page_size ≡ V.size }
-        requires known { V.judged → KnowsMaps V.pages used page_size reserved }
+        requires known { V.right → KnowsMaps V.pages V.judged used page_size reserved }
+        requires asked { used ≡ true → V.maps ≡ true }
         ensures size { IfOk result (λ maps. maps.page_size ≡ page_size) }
     {
         Ok(Maps {
@@ -116,12 +118,12 @@ impl<V: Snapshot> Maps<V> {
     /// Reads a map, unless it was read last. Refused by Source where it could not be read.
     fn read<S: PageSource>(&mut self, source: &mut S, map: u32) -> Result<(), CheckError>
         requires page { IsPage V.pages map }
-        requires same { SameSource V.pages V.size V.given (S.pages source.old) (S.size source.old)
-            (S.gives_pages source.old) }
-        ensures read { V.given → IsOk result × (self.new.bytes.items ≡ page V.pages map) }
-        ensures err { IfErr result (λ e. e.fault ≡ Fault.Source) }
-        ensures same { SameSource V.pages V.size V.given (S.pages source.new) (S.size source.new)
-            (S.gives_pages source.new) }
+        requires same { SameSource V.pages V.size V.right V.given (S.pages source.old) (S.size source.old)
+            (S.reads_right source.old) (S.gives_pages source.old) }
+        ensures read { V.right → OnOk result (self.new.bytes.items ≡ page V.pages map) }
+        ensures err { IfErr result (λ e. (e.fault ≡ Fault.Source) × ¬ V.given) }
+        ensures same { SameSource V.pages V.size V.right V.given (S.pages source.new) (S.size source.new)
+            (S.reads_right source.new) (S.gives_pages source.new) }
     {
         if map == self.held {
             return Ok(());
@@ -136,12 +138,14 @@ impl<V: Snapshot> Maps<V> {
     /// map where it says otherwise, and by Source where that could not be read.
     pub fn judge<S: PageSource>(&mut self, source: &mut S, item: Item) -> Result<(), CheckError>
         requires page { IsPage V.pages item.page }
-        requires same { SameSource V.pages V.size V.given (S.pages source.old) (S.size source.old)
-            (S.gives_pages source.old) }
-        ensures ok { V.given × V.judged → OnOk result (IsMapped V.pages item) }
-        ensures err { V.given × V.judged → IfErr result (λ e. EntryRefused V.pages item e.fault e.page) }
-        ensures same { SameSource V.pages V.size V.given (S.pages source.new) (S.size source.new)
-            (S.gives_pages source.new) }
+        requires same { SameSource V.pages V.size V.right V.given (S.pages source.old) (S.size source.old)
+            (S.reads_right source.old) (S.gives_pages source.old) }
+        ensures ok { V.right × V.judged → OnOk result (IsMapped V.pages item) }
+        ensures err { V.right → IfErr result (λ e. e.fault ≢ Fault.Source
+            → (self.old.used ≡ true) × EntryRefused V.pages item e.fault e.page) }
+        ensures source { IfErr result (λ e. e.fault ≡ Fault.Source → ¬ V.given) }
+        ensures same { SameSource V.pages V.size V.right V.given (S.pages source.new) (S.size source.new)
+            (S.reads_right source.new) (S.gives_pages source.new) }
     {
         if !self.used {
             return Ok(());

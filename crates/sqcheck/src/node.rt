@@ -9,10 +9,10 @@ ghost use Rattle.sqpage.specs.Page.{Page, HasPartsOf, IsUsable, code_of, is_inte
 ghost use Rattle.sqcheck.specs.Places.{Node, HasKind, InCell, used_in};
 ghost use Rattle.sqcheck.specs.WellFormed.{IsBefore, IsAtMost, KeysRise, FirstLeaf, first_child};
 ghost use Rattle.sqcheck.specs.internal.Room.{HoldsPage};
-ghost use Rattle.sqcheck.specs.Stands.{HasKeyOutOfOrder, NodeRefused};
-ghost use Rattle.sqcheck.specs.internal.Walking.{node_in, Pushes, IsChild, IsBelow, TopLeads, IsLevelOf, Judged};
-ghost use Rattle.sqcheck.specs.internal.Walking.{KnowsAt};
-ghost use Rattle.sqcheck.specs.internal.Walking.{Enters};
+ghost use Rattle.sqcheck.specs.Stands.{HasKeyOutOfOrder, NodeRefusedBy};
+ghost use Rattle.sqcheck.specs.internal.Walking.{node_in, Pushes, IsChild, IsBelow, TopLeads, Judged};
+ghost use Rattle.sqcheck.specs.internal.Walking.{KnowsAt, IsPutDown, LevelAt};
+ghost use Rattle.sqcheck.specs.internal.Walking.{Enters, Opens, KeepsWalk};
 ghost use Rattle.sqcheck.specs.declared.tree.Tree.{Tree};
 
 use crate::item::{Item, Task, push};
@@ -227,10 +227,13 @@ pub(crate) fn judge<'a>(
     ensures ok { IfOk result (λ page. (page.number ≡ raw.entry.number) × (page.used ≡ take raw.entry.usable
         raw.entry.bytes.now) × Judged page (node_in tree.now bounds.level bounds.low bounds.high) first.old first.new) }
     ensures err { (d : Database) → used_in d raw.entry.number ≡ take raw.entry.usable raw.entry.bytes.now
-        → IsLevelOf d tree.now.root first.old → IfErr result (λ fault. NodeRefused d fault raw.entry.number
+        → IfErr result (λ fault. NodeRefusedBy (IsPutDown first.old tree.now.root) d fault raw.entry.number
         (node_in tree.now bounds.level bounds.low bounds.high)) }
+    ensures level { (d : Database) → used_in d raw.entry.number ≡ take raw.entry.usable raw.entry.bytes.now
+        → LevelAt d raw.entry.number bounds.level first.old first.new }
     ensures parts { IfOk result (λ page. HasPartsOf page room.new.parts.items) }
     ensures room { HoldsPage raw.entry.usable room.new }
+    ensures source { IfErr result (λ fault. fault ≢ Fault.Source) }
 {
     let kind = kind_in(tree, raw.number, &raw.bytes[..raw.usable as usize])?;
     if !kind.is_interior() {
@@ -315,11 +318,18 @@ pub(crate) fn enter(
         → KnowsAt d tree.now.root walk.old.leaf_level raw.entry.number bounds.level
         → IfOk result (λ kind. HasKind d kind raw.entry.number × Enters d tree.now raw.entry.number
         (node_in tree.now bounds.level bounds.low bounds.high) walk.old walk.new) }
+    ensures behind { (d : Database) → used_in d raw.entry.number ≡ take raw.entry.usable raw.entry.bytes.now
+        → IfOk result (λ kind. HasKind d kind raw.entry.number × Opens d tree.now raw.entry.number
+        (node_in tree.now bounds.level bounds.low bounds.high) walk.old walk.new) }
     ensures err { (d : Database) → used_in d raw.entry.number ≡ take raw.entry.usable raw.entry.bytes.now
-        → IsLevelOf d tree.now.root walk.old.leaf_level → IfErr result (λ e. ((e.page ≡ raw.entry.number) ×
-        NodeRefused d e.fault raw.entry.number (node_in tree.now bounds.level bounds.low bounds.high)) ⊎
+        → IfErr result (λ e. ((e.page ≡ raw.entry.number) × NodeRefusedBy (IsPutDown walk.old.leaf_level tree.now.root)
+        d e.fault raw.entry.number (node_in tree.now bounds.level bounds.low bounds.high)) ⊎
         (e.fault ≡ Fault.NoMemory)) }
+    ensures level { (d : Database) → used_in d raw.entry.number ≡ take raw.entry.usable raw.entry.bytes.now
+        → LevelAt d raw.entry.number bounds.level walk.old.leaf_level walk.new.leaf_level }
     ensures room { HoldsPage raw.entry.usable room.new }
+    ensures source { IfErr result (λ e. e.fault ≢ Fault.Source) }
+    ensures left { IfErr result (λ e. e.fault ≢ Fault.NoMemory → KeepsWalk walk.old walk.new) }
 {
     let number = raw.number;
     let page = match judge(tree, raw, bounds, &mut walk.leaf_level, room) {

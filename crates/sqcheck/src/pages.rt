@@ -1,5 +1,5 @@
 //! Reading pages (own).
-ghost use Rattle.std.specs.Prelude.{◌≡◌, ◌+◌, ◌≤◌, length, IsOk, IfErr};
+ghost use Rattle.std.specs.Prelude.{◌≡◌, ◌+◌, ◌≤◌, length, OnOk, IfErr};
 ghost use Rattle.sqval.specs.Bytes.{word};
 ghost use Rattle.sqval.specs.Database.{page};
 ghost use Rattle.sqpage.specs.Freelist.{IsPage};
@@ -19,12 +19,12 @@ pub(crate) fn read_page<V: Snapshot, S: PageSource>(
 ) -> Result<(), CheckError>
     requires page { IsPage V.pages p }
     requires room { length out.old ≡ V.size }
-    requires same { SameSource V.pages V.size V.given (S.pages source.old) (S.size source.old)
-        (S.gives_pages source.old) }
-    ensures read { V.given → IsOk result × (out.new ≡ page V.pages p) × Every (λ b. length b ≡ V.size) V.pages }
-    ensures same { SameSource V.pages V.size V.given (S.pages source.new) (S.size source.new)
-        (S.gives_pages source.new) }
-    ensures err { IfErr result (λ e. (e.page ≡ p) × (e.fault ≡ Fault.Source)) }
+    requires same { SameSource V.pages V.size V.right V.given (S.pages source.old) (S.size source.old)
+        (S.reads_right source.old) (S.gives_pages source.old) }
+    ensures read { V.right → OnOk result ((out.new ≡ page V.pages p) × Every (λ b. length b ≡ V.size) V.pages) }
+    ensures same { SameSource V.pages V.size V.right V.given (S.pages source.new) (S.size source.new)
+        (S.reads_right source.new) (S.gives_pages source.new) }
+    ensures err { IfErr result (λ e. (e.page ≡ p) × (e.fault ≡ Fault.Source) × ¬ V.given) }
 {
     source.page(p, out).map_err(|_| CheckError {
         page: p,

@@ -60,15 +60,19 @@ pub(crate) fn row_root<V: Snapshot, S: PageSource>(
     content: &mut Vec<u8>,
 ) -> Result<u64, CheckError>
     requires cell { HasPayloadWithin V.size cell.now }
-    requires same { SameSource V.pages V.size V.given (S.pages source.old) (S.size source.old)
-        (S.gives_pages source.old) }
-    ensures ok { V.given → IfOk result (λ r. (bytes : List ℕ) × IsPayload V.pages cell.now bytes × IsSchemaRow bytes r ×
+    requires same { SameSource V.pages V.size V.right V.given (S.pages source.old) (S.size source.old)
+        (S.reads_right source.old) (S.gives_pages source.old) }
+    ensures ok { V.right → IfOk result (λ r. (bytes : List ℕ) × IsPayload V.pages cell.now bytes × IsSchemaRow bytes r ×
         ((q : ℕ) → IsSchemaRow bytes q → q ≡ r)) }
-    ensures err { V.given → (bytes : List ℕ) → IsPayload V.pages cell.now bytes → IfErr result (λ e.
-        (e.fault ≡ Fault.NoMemory) ⊎ ((e.fault ≡ Fault.SchemaRecord) × (e.page ≡ cell.now.page) ×
-        (bytes : List ℕ) × IsPayload V.pages cell.now bytes × ((r : ℕ) → ¬ IsSchemaRow bytes r))) }
-    ensures same { SameSource V.pages V.size V.given (S.pages source.new) (S.size source.new)
-        (S.gives_pages source.new) }
+    ensures err { V.right → (bytes : List ℕ) → IsPayload V.pages cell.now bytes → IfErr result (λ e.
+        e.fault ≢ Fault.Source → (e.fault ≡ Fault.NoMemory) ⊎ ((e.fault ≡ Fault.SchemaRecord)
+        × (e.page ≡ cell.now.page) × (bytes : List ℕ) × IsPayload V.pages cell.now bytes
+        × ((r : ℕ) → ¬ IsSchemaRow bytes r))) }
+    ensures row { V.right → IfErr result (λ e. e.fault ≡ Fault.SchemaRecord → (e.page ≡ cell.now.page)
+        × (bytes : List ℕ) × IsPayload V.pages cell.now bytes × ((r : ℕ) → ¬ IsSchemaRow bytes r)) }
+    ensures source { IfErr result (λ e. e.fault ≡ Fault.Source → ¬ V.given) }
+    ensures same { SameSource V.pages V.size V.right V.given (S.pages source.new) (S.size source.new)
+        (S.reads_right source.new) (S.gives_pages source.new) }
 {
     content.clear();
     payload(alloc, source, cell, content)?;
@@ -117,16 +121,16 @@ fn take_rows<V: Snapshot, S: PageSource>(
 ) -> Result<(), CheckError>
     requires leaf { page.now.kind ≡ TableLeaf }
     requires most { length page.now.used ≤ V.size }
-    requires same { SameSource V.pages V.size V.given (S.pages source.old) (S.size source.old)
-        (S.gives_pages source.old) }
-    ensures ok { V.given → page.now ≡ page_as V.pages TableLeaf page.now.number → OnOk result
+    requires same { SameSource V.pages V.size V.right V.given (S.pages source.old) (S.size source.old)
+        (S.reads_right source.old) (S.gives_pages source.old) }
+    ensures ok { V.right → page.now ≡ page_as V.pages TableLeaf page.now.number → OnOk result
         (KeepsFound V.pages (InRowBelow V.pages page.now.number (cell_count page.now)) roots.old.items roots.new.items ×
         AreSchemaRows V.pages page.now.number (cell_count page.now)) }
-    ensures err { V.given → page.now ≡ page_as V.pages TableLeaf page.now.number
+    ensures err { V.right → page.now ≡ page_as V.pages TableLeaf page.now.number
         → IsRowsPage V.pages page.now.number
-        → IfErr result (λ e. StandsNow V.pages e.fault e.page) }
-    ensures same { SameSource V.pages V.size V.given (S.pages source.new) (S.size source.new)
-        (S.gives_pages source.new) }
+        → IfErr result (λ e. StandsNow V.given V.pages e.fault e.page) }
+    ensures same { SameSource V.pages V.size V.right V.given (S.pages source.new) (S.size source.new)
+        (S.reads_right source.new) (S.gives_pages source.new) }
 {
     let count = source.count();
     'rows: for i in 0..page.len() {
@@ -147,15 +151,15 @@ fn page_roots<V: Snapshot, S: PageSource>(
     content: &mut Vec<u8>,
     roots: &mut Vec<Root>,
 ) -> Result<(), CheckError>
-    requires same { SameSource V.pages V.size V.given (S.pages source.old) (S.size source.old)
-        (S.gives_pages source.old) }
-    ensures ok { V.given → IsRowsPage V.pages number → OnOk result (KeepsFound V.pages (InRow V.pages number)
+    requires same { SameSource V.pages V.size V.right V.given (S.pages source.old) (S.size source.old)
+        (S.reads_right source.old) (S.gives_pages source.old) }
+    ensures ok { V.right → IsRowsPage V.pages number → OnOk result (KeepsFound V.pages (InRow V.pages number)
         roots.old.items roots.new.items × AllSchemaRows V.pages number) }
-    ensures err { V.given → IsRowsPage V.pages number
-        → IfErr result (λ e. StandsNow V.pages e.fault e.page) }
+    ensures err { V.right → IsRowsPage V.pages number
+        → IfErr result (λ e. StandsNow V.given V.pages e.fault e.page) }
     ensures usable { reader.new.usable ≡ reader.old.usable }
-    ensures same { SameSource V.pages V.size V.given (S.pages source.new) (S.size source.new)
-        (S.gives_pages source.new) }
+    ensures same { SameSource V.pages V.size V.right V.given (S.pages source.new) (S.size source.new)
+        (S.reads_right source.new) (S.gives_pages source.new) }
 {
     if number == 0 || number > source.count() {
         return Err(CheckError {
@@ -188,15 +192,15 @@ pub(crate) fn roots_in<V: Snapshot, S: PageSource>(
     reader: &mut Reader<V>,
     rows: &[u32],
 ) -> Result<Vec<Root>, CheckError>
-    requires same { SameSource V.pages V.size V.given (S.pages source.old) (S.size source.old)
-        (S.gives_pages source.old) }
-    ensures ok { V.given → Every (IsRowsPage V.pages) rows.now → Apart rows.now → IfOk result (λ roots. KeepsFound
+    requires same { SameSource V.pages V.size V.right V.given (S.pages source.old) (S.size source.old)
+        (S.reads_right source.old) (S.gives_pages source.old) }
+    ensures ok { V.right → Every (IsRowsPage V.pages) rows.now → Apart rows.now → IfOk result (λ roots. KeepsFound
         V.pages (InRowsOf V.pages rows.now) [] roots.items × Every (AllSchemaRows V.pages) rows.now) }
-    ensures err { V.given → Every (IsRowsPage V.pages) rows.now
-        → IfErr result (λ e. StandsNow V.pages e.fault e.page) }
+    ensures err { V.right → Every (IsRowsPage V.pages) rows.now
+        → IfErr result (λ e. StandsNow V.given V.pages e.fault e.page) }
     ensures usable { reader.new.usable ≡ reader.old.usable }
-    ensures same { SameSource V.pages V.size V.given (S.pages source.new) (S.size source.new)
-        (S.gives_pages source.new) }
+    ensures same { SameSource V.pages V.size V.right V.given (S.pages source.new) (S.size source.new)
+        (S.reads_right source.new) (S.gives_pages source.new) }
 {
     let mut roots = Vec::new(alloc);
     let mut content = Vec::new(alloc);

@@ -1,5 +1,5 @@
 //! The pages that a source has as a check begins (own).
-ghost use Rattle.std.specs.Prelude.{ℕ, []};
+ghost use Rattle.std.specs.Prelude.{ℕ, [], Bool, false};
 ghost use Rattle.sqval.specs.Database.{Database};
 
 use std::marker::Brand;
@@ -13,11 +13,17 @@ pub(crate) trait Snapshot {
     /// The size of its pages.
     ghost size: { ℕ };
 
-    /// The source gives them.
+    /// What is read of them is right.
+    ghost right: { Type 0 };
+
+    /// The source gives them: what is read of them is right, and no read fails.
     ghost given: { Type 0 };
 
     /// Whether it has pointer maps was judged by its header.
     ghost judged: { Type 0 };
+
+    /// Pointer maps are asked for.
+    ghost maps: { Bool };
 }
 
 impl Snapshot for Brand {
@@ -25,7 +31,11 @@ impl Snapshot for Brand {
 
     ghost size = { 512 };
 
+    ghost right = { ℕ };
+
     ghost given = { ℕ };
 
     ghost judged = { ℕ };
+
+    ghost maps = { false };
 }

@@ -1,19 +1,32 @@
 //! A map of a database file, also of a damaged one (own).
-ghost use Rattle.std.specs.Prelude.{◌≡◌, ◌↔◌, ◌⊎◌, ◌-◌, ◌≢◌, ◌<◌, ◌≤◌, [], length, true, false, None, Some, IsTrue};
-ghost use Rattle.std.specs.Prelude.{IfOk, IfErr, IfSome};
+ghost use Rattle.std.specs.Prelude.{◌≡◌, ◌↔◌, ◌⊎◌, ◌-◌, ◌≢◌, ◌<◌, ◌≤◌, length, true, false, None, Some, IsTrue, []};
+ghost use Rattle.std.specs.Prelude.{Err, IfOk, IfErr, IfSome};
 ghost use Rattle.sqval.specs.Bytes.{word};
+ghost use Rattle.sqval.specs.Database.{Database, page};
 ghost use Rattle.sqpage.specs.Freelist.{IsPage, usable_size};
-ghost use Rattle.sqpage.specs.Source.{KeepsPages};
+ghost use Rattle.sqpage.specs.Source.{KeepsPages, UnlessUnread};
 ghost use Rattle.sqpage.specs.Header.{byte};
 ghost use Rattle.sqpage.specs.declared.fault.Fault.{Fault};
 ghost use Rattle.sqpage.specs.declared.kind.Kind.TheVariants.{TableLeaf};
-ghost use Rattle.sqcheck.specs.Surveys.{FindsClean, FindsDamaged, SurveyRefused, IsEnd};
+ghost use Rattle.sqcheck.specs.Surveys.{FindsClean, FindsDamaged, SurveyRefused};
+ghost use Rattle.sqcheck.specs.Surveys.{AreFoundRoles, AreFoundFaults};
 ghost use Rattle.sqcheck.specs.Surveys.{FindsCleanWith, FindsDamagedWith, SurveyRefusedWith};
-ghost use Rattle.sqcheck.specs.internal.Surveys.{AreSetDown, KnowsReserved};
+ghost use Rattle.sqcheck.specs.internal.Surveys.{AreSetDown, Ends, IsEnd, IsReserved, KnowsReserved};
 ghost use Rattle.sqcheck.specs.internal.Snapshots.{SameSource};
-ghost use Rattle.sqcheck.specs.internal.Schema.{HasPayloadWithin};
+ghost use Rattle.sqcheck.specs.internal.Surveys.{Charts};
+ghost use Rattle.sqcheck.specs.internal.Found.{IsItemFound, IsItemNamed, IsRootFound, IsChartFound, AreFound, HasFound};
+ghost use Rattle.sqcheck.specs.internal.Found.{TellsFound, IsHeaderNamed, IsSurveyed};
+ghost use Rattle.sqcheck.specs.internal.Walking.{KeepsWalk, role_of};
+ghost use Rattle.sqcheck.specs.Found.{IsRoleIn, leaf_of};
+ghost use Rattle.sqpage.specs.Page.{code_of};
+ghost use Rattle.sqcheck.specs.Places.{HasKind};
+ghost use Rattle.sqpage.specs.declared.kind.Kind.{Kind};
+ghost use Rattle.sqcheck.specs.declared.chart.Chart.{Chart};
+ghost use Rattle.sqcheck.specs.declared.tree.Tree.{Tree};
+ghost use Rattle.sqcheck.specs.WellFormed.{HasSoundHeader};
+ghost use Rattle.sqpage.specs.Freelist.{first_trunk};
+ghost use Rattle.std.specs.Prelude.{List, OnOk};
 
-use crate::chains::Chains;
 use crate::chart::Chart;
 use crate::checker::{NO_MEMORY, NO_TREE, ROOT, SCHEMA_TREE, new_walker, visit_pages_with};
 use crate::header::judge_header;
@@ -23,13 +36,14 @@ use crate::options::Options;
 use crate::pages::{read_page, word_at};
 use crate::report::Report;
 use crate::role::{Role, Visitor};
-use crate::schema::{Root, add_root, row_root};
+use crate::schema::Root;
 use crate::snapshot::Snapshot;
+use crate::survey_rows::sound_roots;
 use crate::tree::Tree;
 use crate::walker::{Reader, Walker};
-use sqpage::{BtreePage, Cell, CheckError, Fault, Kind, PageSource};
+use sqpage::{CheckError, Fault, Kind, PageSource};
 use sqval::PageSize;
-use std::alloc::{AllocError, Global};
+use std::alloc::Global;
 use std::marker::{Brand, PhantomData};
 
 /// What the pages of a database are used for, and what is wrong with it.
@@ -61,6 +75,9 @@ fn start_in(bytes: &[u8]) -> Option<Start>
     requires most { length bytes.now ≤ 65536 }
     ensures usable { IfSome result (λ start. (start.usable ≡ length bytes.now - byte bytes.now 20) ×
         (480 ≤ start.usable)) }
+    ensures first { IfSome result (λ start. start.first_trunk ≡ word bytes.now 32) }
+    ensures maps { IfSome result (λ start. (start.reserved ≡ byte bytes.now 20)
+        × (start.largest_root ≡ word bytes.now 52)) }
     ensures none { result ≡ None → length bytes.now - byte bytes.now 20 < 480 }
 {
     let usable = bytes.len() as u32 - u32::from(bytes[20]);
@@ -76,12 +93,11 @@ fn start_in(bytes: &[u8]) -> Option<Start>
     })
 }
 
-/// Whether a fault is one of a row, and not of its chain.
-fn is_of_row(fault: Fault) -> bool {
-    match fault {
-        Fault::SchemaRecord | Fault::Source | Fault::NoMemory => true,
-        _ => false,
-    }
+/// Whether pointer maps are asked for of a database that has some.
+fn has_maps(options: Options, start: Start) -> bool
+    ensures { result ≡ true → (options.pointer_maps ≡ true) × (start.largest_root ≢ 0) }
+{
+    options.pointer_maps && start.largest_root != 0
 }
 
 /// Whether a survey doesn't go on behind a fault.
@@ -94,169 +110,43 @@ fn is_end(fault: Fault) -> bool
     }
 }
 
-/// Adds the root that a row names, or tells of the row. A chain that can't be read was told of before.
-fn keep_root(
-    chart: &mut Chart,
-    roots: &mut Vec<Root>,
-    count: u32,
-    holder: u32,
-    found: Result<u64, CheckError>,
-) -> Result<(), CheckError>
-    ensures ends { IfErr result (λ e. IsEnd e.fault) }
-    ensures long { length chart.new.roles.items ≡ length chart.old.roles.items }
+/// The kind of a page of a tree with this type byte. One that is none counts as that of a leaf.
+fn kind_or_leaf(byte: u8, table: bool) -> Kind
+    ensures { (byte ≡ code_of result) ⊎ (((kind : Kind) → byte ≢ code_of kind) × (result ≡ leaf_of table)) }
 {
-    match found {
-        Ok(root) => add_root(roots, count, holder, root),
-        Err(error) => if is_of_row(error.fault) {
-            chart.tell(error)
+    match Kind::of(byte) {
+        Some(kind) => kind,
+        None => if table {
+            Kind::TableLeaf
         } else {
-            Ok(())
+            Kind::IndexLeaf
         },
     }
 }
 
-/// What was read of the rows of the schema.
-#[derive(Drop)]
-struct Rows {
-    /// The roots that they name.
-    roots: Vec<Root>,
-    /// The overflow pages of their chains.
-    chains: Chains,
-    /// Room for a row, and for a page of its chain.
-    content: Vec<u8>,
-    page: Vec<u8>,
-}
-
-impl Rows {
-    /// None was read of a database of so many pages.
-    fn none(alloc: Global, count: u32, size: PageSize) -> Result<Rows, AllocError>
-        ensures room { IfOk result (λ rows. length rows.page.items ≡ size) }
-    {
-        Ok(Rows {
-            roots: Vec::new(alloc),
-            chains: Chains::none(alloc, count)?,
-            content: Vec::new(alloc),
-            page: vec![in alloc; 0; size.get() as usize]?,
-        })
-    }
-}
-
-/// Adds the root that the row in a cell names, or tells of the row. A chain that can't be read, or is charted as
-/// another cell's, was told of before: such a row isn't read.
-fn survey_row<V: Snapshot, S: PageSource>(
-    alloc: Global,
-    source: &mut S,
-    chart: &mut Chart,
-    cell: &Cell,
-    rows: &mut Rows,
-) -> Result<(), CheckError>
-    requires cell { HasPayloadWithin V.size cell.now }
-    requires room { length rows.old.page.items ≡ V.size }
-    requires same { SameSource V.pages V.size V.given (S.pages source.old) (S.size source.old)
-        (S.gives_pages source.old) }
-    ensures ends { IfErr result (λ e. IsEnd e.fault) }
-    ensures long { length chart.new.roles.items ≡ length chart.old.roles.items }
-    ensures room { length rows.new.page.items ≡ V.size }
-    ensures same { SameSource V.pages V.size V.given (S.pages source.new) (S.size source.new)
-        (S.gives_pages source.new) }
-{
-    if !rows
-        .chains
-        .takes(source, &chart.roles, cell, &mut rows.page)?
-    {
-        return Ok(());
-    }
-    let count = source.count();
-    let found = row_root::<V, S>(alloc, source, cell, &mut rows.content);
-    keep_root(chart, &mut rows.roots, count, cell.page, found)
-}
-
-/// Adds the roots that the rows of a page name, or tells of them.
-fn survey_cells<V: Snapshot, S: PageSource>(
-    alloc: Global,
-    source: &mut S,
-    chart: &mut Chart,
-    page: &BtreePage,
-    rows: &mut Rows,
-) -> Result<(), CheckError>
-    requires leaf { page.now.kind ≡ TableLeaf }
-    requires most { length page.now.used ≤ V.size }
-    requires room { length rows.old.page.items ≡ V.size }
-    requires same { SameSource V.pages V.size V.given (S.pages source.old) (S.size source.old)
-        (S.gives_pages source.old) }
-    ensures ends { IfErr result (λ e. IsEnd e.fault) }
-    ensures long { length chart.new.roles.items ≡ length chart.old.roles.items }
-    ensures room { length rows.new.page.items ≡ V.size }
-    ensures same { SameSource V.pages V.size V.given (S.pages source.new) (S.size source.new)
-        (S.gives_pages source.new) }
-{
-    'rows: for i in 0..page.len() {
-        let cell = page.cell(i);
-        survey_row::<V, S>(alloc, source, chart, &cell, rows)?;
-    }
-    Ok(())
-}
-
-/// Adds the roots that the sound rows in a leaf of the schema's tree name, and tells of the others.
-fn survey_rows<V: Snapshot, S: PageSource>(
-    alloc: Global,
-    source: &mut S,
-    reader: &mut Reader<V>,
-    chart: &mut Chart,
-    number: u32,
-    rows: &mut Rows,
-) -> Result<(), CheckError>
-    requires room { length rows.old.page.items ≡ V.size }
-    requires same { SameSource V.pages V.size V.given (S.pages source.old) (S.size source.old)
-        (S.gives_pages source.old) }
-    ensures ends { IfErr result (λ e. IsEnd e.fault) }
-    ensures long { length chart.new.roles.items ≡ length chart.old.roles.items }
-    ensures usable { reader.new.usable ≡ reader.old.usable }
-    ensures room { length rows.new.page.items ≡ V.size }
-    ensures same { SameSource V.pages V.size V.given (S.pages source.new) (S.size source.new)
-        (S.gives_pages source.new) }
-{
-    if number == 0 || number > source.count() {
-        return Ok(());
-    }
-    reader.read(source, number)?;
-    let Ok(page) = BtreePage::new(&reader.bytes, number, reader.usable) else {
-        return Ok(());
-    };
-    match page.kind() {
-        Kind::TableLeaf => survey_cells::<V, S>(alloc, source, chart, &page, rows),
-        _ => Ok(()),
-    }
-}
-
-/// The roots that the sound rows of the schema name, in their order, and tells of the other rows. `leaves` are those of
-/// its tree.
-fn sound_roots<V: Snapshot, S: PageSource>(
-    alloc: Global,
-    source: &mut S,
-    reader: &mut Reader<V>,
-    chart: &mut Chart,
-    leaves: &[u32],
-) -> Result<Vec<Root>, CheckError>
-    requires same { SameSource V.pages V.size V.given (S.pages source.old) (S.size source.old)
-        (S.gives_pages source.old) }
-    ensures ends { IfErr result (λ e. IsEnd e.fault) }
-    ensures long { length chart.new.roles.items ≡ length chart.old.roles.items }
-    ensures usable { reader.new.usable ≡ reader.old.usable }
-    ensures same { SameSource V.pages V.size V.given (S.pages source.new) (S.size source.new)
-        (S.gives_pages source.new) }
-{
-    let mut rows = match Rows::none(alloc, source.count(), source.page_size()) {
-        Ok(rows) => rows,
-        Err(_) => return Err(NO_MEMORY),
-    };
-    'pages: for number in leaves {
-        survey_rows(alloc, source, reader, chart, *number, &mut rows)?;
-    }
-    Ok(rows.roots)
-}
-
 impl<V: Snapshot> Reader<V> {
+    /// The kind that a page counts as in a tree.
+    fn kind_in_tree<S: PageSource>(
+        &mut self,
+        source: &mut S,
+        page: u32,
+        table: bool,
+    ) -> Result<Kind, CheckError>
+        requires page { IsPage V.pages page }
+        requires same { SameSource V.pages V.size V.right V.given (S.pages source.old) (S.size source.old)
+            (S.reads_right source.old) (S.gives_pages source.old) }
+        ensures ok { V.right → IfOk result (λ kind. HasKind V.pages kind page
+            ⊎ (((other : Kind) → ¬ HasKind V.pages other page) × (kind ≡ leaf_of table))) }
+        ensures source { IfErr result (λ e. (e.fault ≡ Fault.Source) × ¬ V.given) }
+        ensures usable { self.new.usable ≡ self.old.usable }
+        ensures same { SameSource V.pages V.size V.right V.given (S.pages source.new) (S.size source.new)
+            (S.reads_right source.new) (S.gives_pages source.new) }
+    {
+        self.read(source, page)?;
+        let head = if page == 1 { 100 } else { 0 };
+        Ok(kind_or_leaf(self.bytes[head], table))
+    }
+
     /// The role in which an item names its page. Where the type byte of a page of a tree is none, it counts as a leaf.
     fn role_named<S: PageSource>(
         &mut self,
@@ -265,27 +155,22 @@ impl<V: Snapshot> Reader<V> {
         item: Item,
     ) -> Result<Role, CheckError>
         requires page { IsPage V.pages item.page }
-        requires same { SameSource V.pages V.size V.given (S.pages source.old) (S.size source.old)
-            (S.gives_pages source.old) }
-        ensures ends { IfErr result (λ e. IsEnd e.fault) }
+        requires same { SameSource V.pages V.size V.right V.given (S.pages source.old) (S.size source.old)
+            (S.reads_right source.old) (S.gives_pages source.old) }
+        ensures ends { IfErr result (λ e. Ends V.given e.fault) }
+        ensures role { V.right → IfOk result (IsRoleIn V.pages item.page (role_of tree.now item.task)) }
         ensures usable { self.new.usable ≡ self.old.usable }
-        ensures same { SameSource V.pages V.size V.given (S.pages source.new) (S.size source.new)
-            (S.gives_pages source.new) }
+        ensures same { SameSource V.pages V.size V.right V.given (S.pages source.new) (S.size source.new)
+            (S.reads_right source.new) (S.gives_pages source.new) }
     {
         match item.task {
             Task::Trunk => Ok(Role::FreeTrunk),
             Task::Leaf => Ok(Role::FreeLeaf),
             Task::Link { owner, .. } => Ok(Role::Overflow { owner }),
             Task::Node { .. } => {
-                self.read(source, item.page)?;
-                let head = if item.page == 1 { 100 } else { 0 };
-                let leaf = if tree.table {
-                    Kind::TableLeaf
-                } else {
-                    Kind::IndexLeaf
-                };
+                let kind = self.kind_in_tree(source, item.page, tree.table)?;
                 Ok(Role::Btree {
-                    kind: Kind::of(self.bytes[head]).unwrap_or(leaf),
+                    kind,
                     root: tree.root,
                 })
             }
@@ -303,14 +188,17 @@ impl<V: Snapshot> Maps<V> {
         role: Role,
     ) -> Result<(), CheckError>
         requires page { IsPage V.pages item.page }
-        requires same { SameSource V.pages V.size V.given (S.pages source.old) (S.size source.old)
-            (S.gives_pages source.old) }
-        ensures ends { IfErr result (λ e. IsEnd e.fault) }
+        requires same { SameSource V.pages V.size V.right V.given (S.pages source.old) (S.size source.old)
+            (S.reads_right source.old) (S.gives_pages source.old) }
+        ensures ends { IfErr result (λ e. Ends V.given e.fault) }
         ensures long { length chart.new.roles.items ≡ length chart.old.roles.items }
-        ensures same { SameSource V.pages V.size V.given (S.pages source.new) (S.size source.new)
-            (S.gives_pages source.new) }
+        ensures put { OnOk result (Charts chart.old.roles.items item.page role chart.new.roles.items) }
+        ensures tells { V.right → (tree : Tree) → IsItemFound V.pages tree item → OnOk result
+            (TellsFound V.maps V.pages V.size chart.old.faults.items chart.new.faults.items) }
+        ensures same { SameSource V.pages V.size V.right V.given (S.pages source.new) (S.size source.new)
+            (S.reads_right source.new) (S.gives_pages source.new) }
     {
-        chart.visit(item.page, role);
+        chart.put(item.page, role);
         match self.judge(source, item) {
             Ok(()) => Ok(()),
             Err(error) => chart.tell(error),
@@ -319,6 +207,65 @@ impl<V: Snapshot> Maps<V> {
 }
 
 impl<V: Snapshot> Walker<V> {
+    /// Puts down the page of an item that can't be followed, where nothing else has named it.
+    fn put_refused<S: PageSource>(
+        &mut self,
+        source: &mut S,
+        chart: &mut Chart,
+        tree: &Tree,
+        item: Item,
+    ) -> Result<(), CheckError>
+        requires same { SameSource V.pages V.size V.right V.given (S.pages source.old) (S.size source.old)
+            (S.reads_right source.old) (S.gives_pages source.old) }
+        ensures ends { IfErr result (λ e. Ends V.given e.fault) }
+        ensures long { length chart.new.roles.items ≡ length chart.old.roles.items }
+        ensures found { V.right → (first : Chart) → IsItemFound V.pages tree.now item
+            → IsItemNamed chart.old.faults.items item → IsChartFound V.maps V.pages V.size first chart.old
+            → OnOk result (IsChartFound V.maps V.pages V.size first chart.new) }
+        ensures walk { KeepsWalk self.old.walk self.new.walk }
+        ensures level { self.new.walk.leaf_level ≡ self.old.walk.leaf_level }
+        ensures same { SameSource V.pages V.size V.right V.given (S.pages source.new) (S.size source.new)
+            (S.reads_right source.new) (S.gives_pages source.new) }
+    {
+        if self.uses.is_taken(item.page) && chart.is_unused(item.page) {
+            let role = self.reader.role_named(source, tree, item)?;
+            return self.maps.put_down(source, chart, item, role);
+        }
+        Ok(())
+    }
+
+    /// Follows an item, and puts down what its page is used for. Tells why it can't be followed. Whether it can.
+    fn step<S: PageSource>(
+        &mut self,
+        source: &mut S,
+        chart: &mut Chart,
+        tree: &Tree,
+        item: Item,
+    ) -> Result<bool, CheckError>
+        requires same { SameSource V.pages V.size V.right V.given (S.pages source.old) (S.size source.old)
+            (S.reads_right source.old) (S.gives_pages source.old) }
+        ensures ends { IfErr result (λ e. Ends V.given e.fault) }
+        ensures long { length chart.new.roles.items ≡ length chart.old.roles.items }
+        ensures found { V.right → (first : Chart) → IsItemFound V.pages tree.now item
+            → AreFound V.maps V.pages V.size first tree.now self.old.walk chart.old
+            → OnOk result (AreFound V.maps V.pages V.size first tree.now self.new.walk chart.new) }
+        ensures left { IfOk result (λ on. on ≡ false → KeepsWalk self.old.walk self.new.walk) }
+        ensures same { SameSource V.pages V.size V.right V.given (S.pages source.new) (S.size source.new)
+            (S.reads_right source.new) (S.gives_pages source.new) }
+    {
+        match self.follow(source, tree, item) {
+            Ok(role) => {
+                self.maps.put_down(source, chart, item, role)?;
+                Ok(true)
+            }
+            Err(error) => {
+                chart.tell(error)?;
+                self.put_refused(source, chart, tree, item)?;
+                Ok(false)
+            }
+        }
+    }
+
     /// Follows the places on the stack until one of them leads to a page that is sound. Tells of those that don't.
     /// Whether there was one.
     fn advance<S: PageSource>(
@@ -327,28 +274,19 @@ impl<V: Snapshot> Walker<V> {
         chart: &mut Chart,
         tree: &Tree,
     ) -> Result<bool, CheckError>
-        requires same { SameSource V.pages V.size V.given (S.pages source.old) (S.size source.old)
-            (S.gives_pages source.old) }
-        ensures ends { IfErr result (λ e. IsEnd e.fault) }
+        requires same { SameSource V.pages V.size V.right V.given (S.pages source.old) (S.size source.old)
+            (S.reads_right source.old) (S.gives_pages source.old) }
+        ensures ends { IfErr result (λ e. Ends V.given e.fault) }
         ensures long { length chart.new.roles.items ≡ length chart.old.roles.items }
-        ensures same { SameSource V.pages V.size V.given (S.pages source.new) (S.size source.new)
-            (S.gives_pages source.new) }
+        ensures found { V.right → (first : Chart)
+            → AreFound V.maps V.pages V.size first tree.now self.old.walk chart.old
+            → OnOk result (AreFound V.maps V.pages V.size first tree.now self.new.walk chart.new) }
+        ensures same { SameSource V.pages V.size V.right V.given (S.pages source.new) (S.size source.new)
+            (S.reads_right source.new) (S.gives_pages source.new) }
     {
         'places: while let Some(item) = self.walk.stack.pop() {
-            let left = self.walk.stack.len();
-            match self.follow(source, tree, item) {
-                Ok(role) => {
-                    self.maps.put_down(source, chart, item, role)?;
-                    return Ok(true);
-                }
-                Err(error) => {
-                    chart.tell(error)?;
-                    self.walk.stack.truncate(left);
-                    if self.uses.is_taken(item.page) && chart.is_unused(item.page) {
-                        let role = self.reader.role_named(source, tree, item)?;
-                        self.maps.put_down(source, chart, item, role)?;
-                    }
-                }
+            if self.step(source, chart, tree, item)? {
+                return Ok(true);
             }
         }
         Ok(false)
@@ -362,14 +300,18 @@ impl<V: Snapshot> Walker<V> {
         tree: &Tree,
         item: Item,
     ) -> Result<(), CheckError>
-        requires same { SameSource V.pages V.size V.given (S.pages source.old) (S.size source.old)
-            (S.gives_pages source.old) }
-        ensures ends { IfErr result (λ e. IsEnd e.fault) }
+        requires same { SameSource V.pages V.size V.right V.given (S.pages source.old) (S.size source.old)
+            (S.reads_right source.old) (S.gives_pages source.old) }
+        ensures ends { IfErr result (λ e. Ends V.given e.fault) }
         ensures long { length chart.new.roles.items ≡ length chart.old.roles.items }
-        ensures same { SameSource V.pages V.size V.given (S.pages source.new) (S.size source.new)
-            (S.gives_pages source.new) }
+        ensures found { V.right → (first : Chart) → IsItemFound V.pages tree.now item
+            → HasFound V.maps V.pages V.size first self.old.walk chart.old
+            → OnOk result (HasFound V.maps V.pages V.size first self.new.walk chart.new) }
+        ensures same { SameSource V.pages V.size V.right V.given (S.pages source.new) (S.size source.new)
+            (S.reads_right source.new) (S.gives_pages source.new) }
     {
         self.walk.leaf_level = None;
+        self.walk.stack.clear();
         push(&mut self.walk.stack, item)?;
         'pages: for _ in 0..=source.count() {
             if !self.advance(source, chart, tree)? {
@@ -379,6 +321,47 @@ impl<V: Snapshot> Walker<V> {
         Ok(())
     }
 
+    /// Follows the trunks of the freelist, also behind faults.
+    fn survey_trunks<S: PageSource>(
+        &mut self,
+        source: &mut S,
+        chart: &mut Chart,
+        first: u32,
+    ) -> Result<(), CheckError>
+        requires same { SameSource V.pages V.size V.right V.given (S.pages source.old) (S.size source.old)
+            (S.reads_right source.old) (S.gives_pages source.old) }
+        ensures ends { IfErr result (λ e. Ends V.given e.fault) }
+        ensures long { length chart.new.roles.items ≡ length chart.old.roles.items }
+        ensures found { V.right → (roles : Chart) → first ≡ first_trunk V.pages
+            → HasFound V.maps V.pages V.size roles self.old.walk chart.old
+            → OnOk result (HasFound V.maps V.pages V.size roles self.new.walk chart.new) }
+        ensures same { SameSource V.pages V.size V.right V.given (S.pages source.new) (S.size source.new)
+            (S.reads_right source.new) (S.gives_pages source.new) }
+    {
+        if first == 0 {
+            return Ok(());
+        }
+        let item = Item {
+            holder: 1,
+            page: first,
+            task: Task::Trunk,
+        };
+        self.survey_from(source, chart, &NO_TREE, item)
+    }
+
+    /// Tells where as many pages are not free as the header says.
+    fn survey_free_count(&self, chart: &mut Chart, said: u32) -> Result<(), CheckError>
+        ensures same { chart.new.roles.items ≡ chart.old.roles.items }
+        ensures tells { OnOk result
+            (TellsFound V.maps V.pages V.size chart.old.faults.items chart.new.faults.items) }
+        ensures ends { IfErr result (λ e. e.fault ≡ Fault.NoMemory) }
+    {
+        match self.judge_free_count(said) {
+            Ok(()) => Ok(()),
+            Err(error) => chart.tell(error),
+        }
+    }
+
     /// Follows the freelist and the schema's tree, also behind faults.
     fn survey_first<S: PageSource>(
         &mut self,
@@ -386,24 +369,18 @@ impl<V: Snapshot> Walker<V> {
         chart: &mut Chart,
         start: &Start,
     ) -> Result<(), CheckError>
-        requires same { SameSource V.pages V.size V.given (S.pages source.old) (S.size source.old)
-            (S.gives_pages source.old) }
-        ensures ends { IfErr result (λ e. IsEnd e.fault) }
+        requires same { SameSource V.pages V.size V.right V.given (S.pages source.old) (S.size source.old)
+            (S.reads_right source.old) (S.gives_pages source.old) }
+        ensures ends { IfErr result (λ e. Ends V.given e.fault) }
         ensures long { length chart.new.roles.items ≡ length chart.old.roles.items }
-        ensures same { SameSource V.pages V.size V.given (S.pages source.new) (S.size source.new)
-            (S.gives_pages source.new) }
+        ensures found { V.right → (first : Chart) → start.now.first_trunk ≡ first_trunk V.pages
+            → HasFound V.maps V.pages V.size first self.old.walk chart.old
+            → OnOk result (HasFound V.maps V.pages V.size first self.new.walk chart.new) }
+        ensures same { SameSource V.pages V.size V.right V.given (S.pages source.new) (S.size source.new)
+            (S.reads_right source.new) (S.gives_pages source.new) }
     {
-        if start.first_trunk != 0 {
-            let trunk = Item {
-                holder: 1,
-                page: start.first_trunk,
-                task: Task::Trunk,
-            };
-            self.survey_from(source, chart, &NO_TREE, trunk)?;
-        }
-        if let Err(error) = self.judge_free_count(start.free_pages) {
-            chart.tell(error)?;
-        }
+        self.survey_trunks(source, chart, start.first_trunk)?;
+        self.survey_free_count(chart, start.free_pages)?;
         let first = Item {
             holder: 1,
             page: 1,
@@ -419,12 +396,15 @@ impl<V: Snapshot> Walker<V> {
         chart: &mut Chart,
         root: Root,
     ) -> Result<(), CheckError>
-        requires same { SameSource V.pages V.size V.given (S.pages source.old) (S.size source.old)
-            (S.gives_pages source.old) }
-        ensures ends { IfErr result (λ e. IsEnd e.fault) }
+        requires same { SameSource V.pages V.size V.right V.given (S.pages source.old) (S.size source.old)
+            (S.reads_right source.old) (S.gives_pages source.old) }
+        ensures ends { IfErr result (λ e. Ends V.given e.fault) }
         ensures long { length chart.new.roles.items ≡ length chart.old.roles.items }
-        ensures same { SameSource V.pages V.size V.given (S.pages source.new) (S.size source.new)
-            (S.gives_pages source.new) }
+        ensures found { V.right → (first : Chart) → IsRootFound V.pages root
+            → HasFound V.maps V.pages V.size first self.old.walk chart.old
+            → OnOk result (HasFound V.maps V.pages V.size first self.new.walk chart.new) }
+        ensures same { SameSource V.pages V.size V.right V.given (S.pages source.new) (S.size source.new)
+            (S.reads_right source.new) (S.gives_pages source.new) }
     {
         if root.page == 0 || root.page > u64::from(source.count()) {
             return chart.tell(CheckError {
@@ -454,12 +434,15 @@ impl<V: Snapshot> Walker<V> {
         source: &mut S,
         chart: &mut Chart,
     ) -> Result<(), CheckError>
-        requires same { SameSource V.pages V.size V.given (S.pages source.old) (S.size source.old)
-            (S.gives_pages source.old) }
-        ensures ends { IfErr result (λ e. IsEnd e.fault) }
+        requires same { SameSource V.pages V.size V.right V.given (S.pages source.old) (S.size source.old)
+            (S.reads_right source.old) (S.gives_pages source.old) }
+        ensures ends { IfErr result (λ e. Ends V.given e.fault) }
         ensures long { length chart.new.roles.items ≡ length chart.old.roles.items }
-        ensures same { SameSource V.pages V.size V.given (S.pages source.new) (S.size source.new)
-            (S.gives_pages source.new) }
+        ensures found { V.right → (first : Chart)
+            → HasFound V.maps V.pages V.size first self.old.walk chart.old
+            → OnOk result (HasFound V.maps V.pages V.size first self.new.walk chart.new) }
+        ensures same { SameSource V.pages V.size V.right V.given (S.pages source.new) (S.size source.new)
+            (S.reads_right source.new) (S.gives_pages source.new) }
     {
         let roots = sound_roots(alloc, source, &mut self.reader, chart, &self.walk.rows)?;
         'roots: for root in &roots {
@@ -471,12 +454,59 @@ impl<V: Snapshot> Walker<V> {
     /// Tells where the largest root isn't the one that the header says, of a database with pointer maps.
     fn survey_largest_root(&self, chart: &mut Chart, said: u32) -> Result<(), CheckError>
         ensures same { chart.new.roles.items ≡ chart.old.roles.items }
-        ensures ends { IfErr result (λ e. IsEnd e.fault) }
+        ensures tells { V.right → OnOk result
+            (TellsFound V.maps V.pages V.size chart.old.faults.items chart.new.faults.items) }
+        ensures ends { IfErr result (λ e. e.fault ≡ Fault.NoMemory) }
     {
         match self.judge_largest_root(said) {
             Ok(()) => Ok(()),
             Err(error) => chart.tell(error),
         }
+    }
+
+    /// Follows all places, also behind faults.
+    fn survey_all<S: PageSource>(
+        &mut self,
+        alloc: Global,
+        source: &mut S,
+        chart: &mut Chart,
+        start: &Start,
+    ) -> Result<(), CheckError>
+        requires same { SameSource V.pages V.size V.right V.given (S.pages source.old) (S.size source.old)
+            (S.reads_right source.old) (S.gives_pages source.old) }
+        ensures ends { IfErr result (λ e. Ends V.given e.fault) }
+        ensures long { length chart.new.roles.items ≡ length chart.old.roles.items }
+        ensures found { V.right → (first : Chart) → start.now.first_trunk ≡ first_trunk V.pages
+            → HasFound V.maps V.pages V.size first self.old.walk chart.old
+            → OnOk result (HasFound V.maps V.pages V.size first self.new.walk chart.new) }
+        ensures same { SameSource V.pages V.size V.right V.given (S.pages source.new) (S.size source.new)
+            (S.reads_right source.new) (S.gives_pages source.new) }
+    {
+        self.survey_first(source, chart, start)?;
+        self.survey_others(alloc, source, chart)?;
+        self.survey_largest_root(chart, start.largest_root)
+    }
+}
+
+/// Tells what is wrong with the header in the bytes of page 1.
+fn survey_header(
+    chart: &mut Chart,
+    bytes: &[u8],
+    size: PageSize,
+    options: Options,
+) -> Result<(), CheckError>
+    requires size { size ≡ length bytes.now }
+    requires large { 512 ≤ size }
+    ensures same { chart.new.roles.items ≡ chart.old.roles.items }
+    ensures tells { (d : Database) → bytes.now ≡ page d 1 → OnOk result
+        (TellsFound options.pointer_maps d size chart.old.faults.items chart.new.faults.items) }
+    ensures header { (d : Database) → bytes.now ≡ page d 1 → OnOk result
+        ((¬ HasSoundHeader options.pointer_maps d size) → IsHeaderNamed chart.new.faults.items) }
+    ensures ends { IfErr result (λ e. e.fault ≡ Fault.NoMemory) }
+{
+    match judge_header(bytes, size, options.pointer_maps) {
+        Ok(_) => Ok(()),
+        Err(error) => chart.tell(error),
     }
 }
 
@@ -488,13 +518,17 @@ fn survey_snapshot<V: Snapshot, S: PageSource>(
     options: Options,
 ) -> Result<bool, CheckError>
     requires unjudged { ¬ V.judged }
+    requires maps { V.maps ≡ options.pointer_maps }
+    requires none { chart.old.faults.items ≡ [] }
     requires same { (S.pages source.old ≡ V.pages) × (S.size source.old ≡ V.size) ×
-        (V.given → S.gives_pages source.old) }
-    ensures not { V.given → IfOk result (λ walked. walked ≡ false → usable_size V.pages < 480) }
-    ensures ends { IfErr result (λ e. IsEnd e.fault) }
+        (V.right → S.reads_right source.old) × (V.given → S.gives_pages source.old) }
+    ensures not { V.right → IfOk result (λ walked. walked ≡ false → usable_size V.pages < 480) }
+    ensures found { V.right → length chart.old.roles.items ≡ length V.pages → IfOk result (λ walked. walked ≡ true
+        → IsSurveyed V.maps V.pages V.size chart.old.roles.items chart.new.roles.items chart.new.faults.items) }
+    ensures ends { IfErr result (λ e. Ends V.given e.fault) }
     ensures long { length chart.new.roles.items ≡ length chart.old.roles.items }
     ensures same { (S.pages source.new ≡ V.pages) × (S.size source.new ≡ V.size) ×
-        (V.given → S.gives_pages source.new) }
+        (V.right → S.reads_right source.new) × (V.given → S.gives_pages source.new) }
 {
     let count = source.count();
     if count == 0 {
@@ -509,10 +543,8 @@ fn survey_snapshot<V: Snapshot, S: PageSource>(
     let Some(start) = start_in(&bytes) else {
         return Ok(false);
     };
-    if let Err(error) = judge_header(&bytes, size, options.pointer_maps) {
-        chart.tell(error)?;
-    }
-    let used = options.pointer_maps && start.largest_root != 0;
+    survey_header(chart, &bytes, size, options)?;
+    let used = has_maps(options, start);
     let maps: Maps<V> = match Maps::new(alloc, used, size, start.reserved) {
         Ok(maps) => maps,
         Err(_) => return Err(NO_MEMORY),
@@ -522,14 +554,11 @@ fn survey_snapshot<V: Snapshot, S: PageSource>(
         usable: start.usable,
         snapshot: PhantomData,
     };
-    match new_walker(alloc, reader, count, maps) {
-        Ok(mut walker) => {
-            walker.survey_first(source, chart, &start)?;
-            walker.survey_others(alloc, source, chart)?;
-            walker.survey_largest_root(chart, start.largest_root)?;
-        }
+    let mut walker = match new_walker(alloc, reader, count, maps) {
+        Ok(walker) => walker,
         Err(_) => return Err(NO_MEMORY),
-    }
+    };
+    walker.survey_all(alloc, source, chart, &start)?;
     chart.tell_unused()?;
     Ok(true)
 }
@@ -538,7 +567,8 @@ fn survey_snapshot<V: Snapshot, S: PageSource>(
 /// and 1.3.12). None of another database.
 fn reserved_in(bytes: &[u8]) -> Option<u8>
     requires { 512 ≤ length bytes.now }
-    ensures { word bytes.now 52 ≢ 0 → result ≡ Some (byte bytes.now 20) }
+    ensures only { IfSome result (λ n. (word bytes.now 52 ≢ 0) × (n ≡ byte bytes.now 20)) }
+    ensures some { word bytes.now 52 ≢ 0 → result ≡ Some (byte bytes.now 20) }
 {
     if word_at(bytes, 52) == 0 {
         return None;
@@ -552,10 +582,12 @@ fn reserved_by_maps<S: PageSource>(
     source: &mut S,
     options: Options,
 ) -> Result<Option<u8>, CheckError>
-    ensures known { S.gives_pages source.old → options.pointer_maps ≡ true
+    ensures known { S.reads_right source.old → options.pointer_maps ≡ true
         → IfOk result (KnowsReserved (S.pages source.old) (S.size source.old)) }
-    ensures ends { IfErr result (λ e. IsEnd e.fault) }
-    ensures keeps { KeepsPages S.pages S.size S.gives_pages source.old source.new }
+    ensures only { S.reads_right source.old → IfOk result (λ reserved. IfSome reserved
+        (IsReserved (S.pages source.old) (S.size source.old))) }
+    ensures ends { IfErr result (λ e. Ends (S.gives_pages source.old) e.fault) }
+    ensures keeps { KeepsPages S.pages S.size S.reads_right S.gives_pages source.old source.new }
 {
     if !options.pointer_maps || source.count() == 0 {
         return Ok(None);
@@ -581,6 +613,7 @@ fn first_chart<S: PageSource>(
 ) -> Result<Chart, CheckError>
     ensures set { IfOk result (λ chart. AreSetDown (length (S.pages source.now)) (S.size source.now) reserved
         chart.roles.items) }
+    ensures none { IfOk result (λ chart. chart.faults.items ≡ []) }
     ensures ends { IfErr result (λ e. e.fault ≡ Fault.NoMemory) }
 {
     match Chart::new(alloc, source.count(), source.page_size(), reserved) {
@@ -597,10 +630,15 @@ fn survey_behind<S: PageSource>(
     options: Options,
 ) -> Result<Survey, CheckError>
     ensures answer { IfOk result (λ survey. (survey.answer ≡ Err first) × ¬ IsEnd first.fault) }
-    ensures err { S.gives_pages source.old → IfErr result (λ e. IsEnd e.fault ⊎ ((e ≡ first) ×
-        ((first.fault ≡ Fault.Magic) ⊎ (usable_size (S.pages source.old) < 480)))) }
+    ensures err { S.reads_right source.old → IfErr result (λ e. (e.fault ≡ Fault.NoMemory)
+        ⊎ ((e.fault ≡ Fault.Source) × ¬ S.gives_pages source.old) ⊎ ((e ≡ first) × ((first.fault ≡ Fault.Magic)
+        ⊎ (first.fault ≡ Fault.Source) ⊎ (usable_size (S.pages source.old) < 480)))) }
+    ensures roles { S.reads_right source.old
+        → IfOk result (λ survey. AreFoundRoles (S.pages source.old) (S.size source.old) survey.roles.items) }
+    ensures faults { S.reads_right source.old → IfOk result (λ survey. AreFoundFaults options.pointer_maps
+        (S.pages source.old) (S.size source.old) survey.roles.items survey.faults.items) }
     ensures each { IfOk result (λ survey. length survey.roles.items ≡ length (S.pages source.old)) }
-    ensures keeps { KeepsPages S.pages S.size S.gives_pages source.old source.new }
+    ensures keeps { KeepsPages S.pages S.size S.reads_right S.gives_pages source.old source.new }
 {
     if is_end(first.fault) {
         return Err(first);
@@ -629,17 +667,18 @@ fn survey_behind<S: PageSource>(
 /// by Source where a page could not be read, and by NoMemory.
 pub fn survey_pages<S: PageSource>(alloc: Global, source: &mut S) -> Result<Survey, CheckError>
     // Where the database is well formed, it finds so, without a fault, and the roles are those of the pages.
-    ensures clean { S.gives_pages source.old
+    ensures clean { S.reads_right source.old
         → IfOk result (FindsClean (S.pages source.old) (S.size source.old)) }
     // Otherwise its answer is a fault that stands at its page.
-    ensures damaged { S.gives_pages source.old
+    ensures damaged { S.reads_right source.old
         → IfOk result (FindsDamaged (S.pages source.old) (S.size source.old)) }
-    ensures refused { S.gives_pages source.old
-        → IfErr result (λ e. SurveyRefused (S.pages source.old) (S.size source.old) e.fault e.page) }
+    // There is none by its first fault, unless a page couldn't be read.
+    ensures refused { S.reads_right source.old → IfErr result (λ e. UnlessUnread (S.gives_pages source.old) e.fault
+        (SurveyRefused (S.pages source.old) (S.size source.old) e.fault e.page)) }
     // Each page has one role.
-    ensures each { S.gives_pages source.old
+    ensures each { S.reads_right source.old
         → IfOk result (λ survey. length survey.roles.items ≡ length (S.pages source.old)) }
-    ensures keeps { KeepsPages S.pages S.size S.gives_pages source.old source.new }
+    ensures keeps { KeepsPages S.pages S.size S.reads_right S.gives_pages source.old source.new }
 {
     survey_pages_with(alloc, source, Options::PLAIN)
 }
@@ -653,17 +692,18 @@ pub fn survey_pages_with<S: PageSource>(
     options: Options,
 ) -> Result<Survey, CheckError>
     // Where the database is well formed, it finds so, without a fault, and the roles are those of the pages.
-    ensures clean { S.gives_pages source.old → IfOk result
+    ensures clean { S.reads_right source.old → IfOk result
         (FindsCleanWith options.pointer_maps (S.pages source.old) (S.size source.old)) }
     // Otherwise its answer is a fault that stands at its page.
-    ensures damaged { S.gives_pages source.old → IfOk result
+    ensures damaged { S.reads_right source.old → IfOk result
         (FindsDamagedWith options.pointer_maps (S.pages source.old) (S.size source.old)) }
-    ensures refused { S.gives_pages source.old → IfErr result (λ e.
-        SurveyRefusedWith options.pointer_maps (S.pages source.old) (S.size source.old) e.fault e.page) }
+    // There is none by its first fault, unless a page couldn't be read.
+    ensures refused { S.reads_right source.old → IfErr result (λ e. UnlessUnread (S.gives_pages source.old) e.fault
+        (SurveyRefusedWith options.pointer_maps (S.pages source.old) (S.size source.old) e.fault e.page)) }
     // Each page has one role.
-    ensures each { S.gives_pages source.old
+    ensures each { S.reads_right source.old
         → IfOk result (λ survey. length survey.roles.items ≡ length (S.pages source.old)) }
-    ensures keeps { KeepsPages S.pages S.size S.gives_pages source.old source.new }
+    ensures keeps { KeepsPages S.pages S.size S.reads_right S.gives_pages source.old source.new }
 {
     let reserved = reserved_by_maps(alloc, source, options)?;
     let mut chart = first_chart(alloc, source, reserved)?;

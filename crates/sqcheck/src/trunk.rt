@@ -5,7 +5,9 @@ ghost use Rattle.sqval.specs.Database.{Database};
 ghost use Rattle.sqpage.specs.Freelist.{leaf_count_in};
 ghost use Rattle.sqpage.specs.declared.fault.Fault.{Fault};
 ghost use Rattle.sqpage.specs.internal.Taking.{Marks};
-ghost use Rattle.sqcheck.specs.internal.Walking.{Pushes, IsNextTrunk, IsLeafFrom, Follows, FollowRefused, Knows};
+ghost use Rattle.sqcheck.specs.internal.Walking.{Pushes, IsNextTrunk, IsLeafFrom, Follows, Knows};
+ghost use Rattle.sqcheck.specs.internal.Walking.{FollowRefusedBy, IsPutDown};
+ghost use Rattle.sqcheck.specs.internal.Walking.{Passes, KeepsWalk};
 ghost use Rattle.sqcheck.specs.internal.Walking.{TopLeads};
 ghost use Rattle.sqcheck.specs.internal.Snapshots.{SameSource};
 ghost use Rattle.sqcheck.specs.declared.item.Task.TheVariants.{Trunk, Link};
@@ -67,22 +69,27 @@ fn push_leaves(trunk: u32, bytes: &[u8], stack: &mut Vec<Item>) -> Result<(), Ch
 impl<V: Snapshot> Walker<V> {
     /// Takes a trunk, and puts the next one and its leaves on the stack. Refused by FreeCount where it names
     /// too many leaves.
-    pub fn follow_trunk<S: PageSource>(
+    pub(crate) fn follow_trunk<S: PageSource>(
         &mut self,
         source: &mut S,
         item: Item,
     ) -> Result<(), CheckError>
         requires task { item.task ≡ Trunk }
-        requires same { SameSource V.pages V.size V.given (S.pages source.old) (S.size source.old)
-            (S.gives_pages source.old) }
-        ensures ok { V.given → OnOk result ((tree : Tree)
+        requires same { SameSource V.pages V.size V.right V.given (S.pages source.old) (S.size source.old)
+            (S.reads_right source.old) (S.gives_pages source.old) }
+        ensures ok { V.right → OnOk result ((tree : Tree)
             → Knows V.pages tree.root self.old.walk.leaf_level (item ∷ reverse self.old.walk.stack.items)
             → Follows V.pages tree item self.old.uses self.new.uses self.old.walk self.new.walk) }
-        ensures err { V.given → IfErr result (λ e. (tree : Tree)
-            → FollowRefused V.pages tree item self.old.uses.marks.items e.fault e.page) }
+        ensures behind { V.right → OnOk result ((tree : Tree) → Passes V.pages tree item self.old.walk self.new.walk) }
+        ensures err { V.right → IfErr result (λ e. e.fault ≢ Fault.Source → (tree : Tree)
+            → FollowRefusedBy (IsPutDown self.old.walk.leaf_level) V.pages tree item self.old.uses.marks.items
+            e.fault e.page) }
+        ensures level { self.new.walk.leaf_level ≡ self.old.walk.leaf_level }
+        ensures source { IfErr result (λ e. e.fault ≡ Fault.Source → ¬ V.given) }
         ensures marks { OnOk result (Marks self.old.uses.marks.items self.new.uses.marks.items item.page) }
-        ensures same { SameSource V.pages V.size V.given (S.pages source.new) (S.size source.new)
-            (S.gives_pages source.new) }
+        ensures left { IfErr result (λ e. e.fault ≢ Fault.NoMemory → KeepsWalk self.old.walk self.new.walk) }
+        ensures same { SameSource V.pages V.size V.right V.given (S.pages source.new) (S.size source.new)
+            (S.reads_right source.new) (S.gives_pages source.new) }
     {
         self.uses.take(item)?;
         self.reader.read(source, item.page)?;
@@ -100,7 +107,7 @@ impl<V: Snapshot> Walker<V> {
     /// Takes a page of a chain of which so many are needed, and puts the next one on the stack. Refused by
     /// ChainCut at the holder where there is no number, or where more pages are needed than there are, and by
     /// ChainLong where the last page names a next one.
-    pub fn follow_link<S: PageSource>(
+    pub(crate) fn follow_link<S: PageSource>(
         &mut self,
         source: &mut S,
         item: Item,
@@ -108,16 +115,21 @@ impl<V: Snapshot> Walker<V> {
         needed: u64,
     ) -> Result<(), CheckError>
         requires task { (first : Bool) × (item.task ≡ Link owner needed first) }
-        requires same { SameSource V.pages V.size V.given (S.pages source.old) (S.size source.old)
-            (S.gives_pages source.old) }
-        ensures ok { V.given → OnOk result ((tree : Tree)
+        requires same { SameSource V.pages V.size V.right V.given (S.pages source.old) (S.size source.old)
+            (S.reads_right source.old) (S.gives_pages source.old) }
+        ensures ok { V.right → OnOk result ((tree : Tree)
             → Knows V.pages tree.root self.old.walk.leaf_level (item ∷ reverse self.old.walk.stack.items)
             → Follows V.pages tree item self.old.uses self.new.uses self.old.walk self.new.walk) }
-        ensures err { V.given → 0 < needed → IfErr result (λ e. (tree : Tree)
-            → FollowRefused V.pages tree item self.old.uses.marks.items e.fault e.page) }
+        ensures behind { V.right → OnOk result ((tree : Tree) → Passes V.pages tree item self.old.walk self.new.walk) }
+        ensures err { V.right → 0 < needed → IfErr result (λ e. e.fault ≢ Fault.Source → (tree : Tree)
+            → FollowRefusedBy (IsPutDown self.old.walk.leaf_level) V.pages tree item self.old.uses.marks.items
+            e.fault e.page) }
+        ensures level { self.new.walk.leaf_level ≡ self.old.walk.leaf_level }
+        ensures source { IfErr result (λ e. e.fault ≡ Fault.Source → ¬ V.given) }
         ensures marks { OnOk result (Marks self.old.uses.marks.items self.new.uses.marks.items item.page) }
-        ensures same { SameSource V.pages V.size V.given (S.pages source.new) (S.size source.new)
-            (S.gives_pages source.new) }
+        ensures left { IfErr result (λ e. e.fault ≢ Fault.NoMemory → KeepsWalk self.old.walk self.new.walk) }
+        ensures same { SameSource V.pages V.size V.right V.given (S.pages source.new) (S.size source.new)
+            (S.reads_right source.new) (S.gives_pages source.new) }
     {
         if item.page == 0 || needed > u64::from(source.count()) {
             return Err(CheckError {

@@ -1,5 +1,5 @@
 //! What a check keeps while it goes on (own).
-ghost use Rattle.std.specs.Prelude.{◌≡◌, ◌≤◌, length, IsOk, IfErr};
+ghost use Rattle.std.specs.Prelude.{◌≡◌, ◌≤◌, length, OnOk, IfErr};
 ghost use Rattle.sqval.specs.Database.{page};
 ghost use Rattle.sqpage.specs.Freelist.{IsPage, usable_size};
 ghost use Rattle.sqpage.specs.declared.fault.Fault.{Fault};
@@ -23,20 +23,20 @@ pub(crate) struct Reader<V: Snapshot> {
     ghost sized: { length bytes.items ≡ V.size },
     ghost least: { 480 ≤ usable },
     ghost most: { usable ≤ V.size },
-    ghost used: { V.given → usable ≡ usable_size V.pages },
+    ghost used: { V.right → usable ≡ usable_size V.pages },
 }
 
 impl<V: Snapshot> Reader<V> {
     /// Reads page `p`. Refused by Source where it could not be read.
     pub fn read<S: PageSource>(&mut self, source: &mut S, p: u32) -> Result<(), CheckError>
         requires page { IsPage V.pages p }
-        requires same { SameSource V.pages V.size V.given (S.pages source.old) (S.size source.old)
-            (S.gives_pages source.old) }
-        ensures read { V.given → IsOk result × (self.new.bytes.items ≡ page V.pages p) }
-        ensures err { IfErr result (λ e. e.fault ≡ Fault.Source) }
+        requires same { SameSource V.pages V.size V.right V.given (S.pages source.old) (S.size source.old)
+            (S.reads_right source.old) (S.gives_pages source.old) }
+        ensures read { V.right → OnOk result (self.new.bytes.items ≡ page V.pages p) }
+        ensures err { IfErr result (λ e. (e.fault ≡ Fault.Source) × ¬ V.given) }
         ensures usable { self.new.usable ≡ self.old.usable }
-        ensures same { SameSource V.pages V.size V.given (S.pages source.new) (S.size source.new)
-            (S.gives_pages source.new) }
+        ensures same { SameSource V.pages V.size V.right V.given (S.pages source.new) (S.size source.new)
+            (S.reads_right source.new) (S.gives_pages source.new) }
     {
         read_page::<V, S>(source, p, &mut self.bytes)
     }

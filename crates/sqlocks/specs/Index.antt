@@ -1,6 +1,6 @@
 -- The header of the index of a write-ahead log, FILE-shm (walformat, 2.1), as a machine writes it that has the lowest byte
 -- of a number first.
-use Rattle.std.specs.Prelude.{◌≡◌, ◌≢◌, ℕ, ◌+◌, ◌*◌, ◌≤◌, nat_eq, cond, List, length, get_or, Option, Some, None}
+use Rattle.std.specs.Prelude.{◌≡◌, ◌≢◌, ℕ, ◌+◌, ◌*◌, ◌≤◌, ◌==◌, ◌&&◌, if◌then◌else◌, List, length, get_or, Option, Some, None}
 use Rattle.byteorder.specs.Endian.{little_number}
 use Rattle.sqval.specs.Bytes.{part, word}
 use Rattle.sqval.specs.PageSize.{IsPageSize}
@@ -17,9 +17,10 @@ low_word b at = little_number 4 (part b at 4)
 abbrev pub low_half : List ℕ → (at : ℕ) → ℕ
 low_half b at = little_number 2 (part b at 2)
 
--- the page size that a number of 16 bits stands for
-abbrev pub named_size : ℕ → ℕ
-named_size n = cond (nat_eq n 1) 65536 n
+-- the page size that a number of 16 bits stands for; where no frame counts it may be 0, while the log has no header yet,
+-- and 512 stands for that
+abbrev pub named_size : (n frames : ℕ) → ℕ
+named_size n frames = if n == 1 then 65536 else (if (n == 0) && (frames == 0) then 512 else n)
 
 -- the header stands twice, one copy behind the other
 abbrev pub StandsTwice : List ℕ → Type 0
@@ -35,13 +36,13 @@ pub record IsIndex (b : List ℕ) : Type 0 where
   pub version : low_word b 0 ≡ 3007000
   pub begun : get_or b 12 0 ≢ 0
   pub sums : HasRightSums b
-  pub is_size : IsPageSize (named_size (low_half b 14))
+  pub is_size : IsPageSize (named_size (low_half b 14) (low_word b 16))
 
 -- what a valid header says: the page size; mxFrame; the salts, which are bytes of the log; the sums of frame mxFrame; how
 -- many frames are copied to FILE; and up to which frame somebody began to
 pub record IsIndexOf (b : List ℕ) (head : IndexHead) : Type 0 where
   pub valid : IsIndex b
-  pub page_size : head.page_size ≡ named_size (low_half b 14)
+  pub page_size : head.page_size ≡ named_size (low_half b 14) (low_word b 16)
   pub frames : head.frames ≡ low_word b 16
   pub salts : (head.salt1 ≡ word b 32) × (head.salt2 ≡ word b 36)
   pub sum : (head.sum.s0 ≡ low_word b 24) × (head.sum.s1 ≡ low_word b 28)

@@ -16,7 +16,7 @@ const VERSION: u32 = 3_007_000;
 /// What a valid header of an index says (walformat, 2.1).
 #[derive(Clone, Copy, Debug, PartialEq, Eq)]
 pub struct IndexHead {
-    /// The size of the pages.
+    /// The size of the pages; 512 where no frame counts and none is named yet.
     pub page_size: PageSize,
     /// The frames of the log that count, up to the last commit; 0: the log counts for nothing.
     pub frames: u32,
@@ -55,12 +55,15 @@ fn high_word(bytes: &[u8], at: usize) -> u32
     BigEndian::read_u32(&bytes[at..at + 4])
 }
 
-/// The page size for which a number stands: 1 for 65536.
-fn named_size(number: u16) -> u32
-    ensures { result ≡ named_size number }
+/// The page size for which a number stands: 1 for 65536. An index in which no frame counts may have 0, while its log
+/// has no header yet: 512 stands for that, and no page is read by it.
+fn named_size(number: u16, frames: u32) -> u32
+    ensures { result ≡ named_size number frames }
 {
     if number == 1 {
         65_536
+    } else if number == 0 && frames == 0 {
+        512
     } else {
         u32::from(number)
     }
@@ -98,10 +101,11 @@ pub fn index_front(bytes: &[u8; 136]) -> Option<IndexHead>
     if !has_right_sums(bytes) {
         return None;
     }
-    let page_size = PageSize::new(named_size(low_half(bytes, 14)))?;
+    let frames = low_word(bytes, 16);
+    let page_size = PageSize::new(named_size(low_half(bytes, 14), frames))?;
     Some(IndexHead {
         page_size,
-        frames: low_word(bytes, 16),
+        frames,
         salt1: high_word(bytes, 32),
         salt2: high_word(bytes, 36),
         sum: Sum {

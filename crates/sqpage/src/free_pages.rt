@@ -3,7 +3,7 @@ ghost use Rattle.std.specs.Prelude.{◌≡◌, ◌≢◌, ℕ, ◌+◌, ◌-◌,
 ghost use Rattle.std.specs.Prelude.{IfErr, OnOk, OnErr, count_by, not};
 ghost use Rattle.sqval.specs.Database.{Database, page};
 ghost use Rattle.sqpage.specs.Lists.{In, each_from};
-ghost use Rattle.sqpage.specs.Source.{KeepsPages};
+ghost use Rattle.sqpage.specs.Source.{KeepsPages, UnlessUnread};
 ghost use Rattle.sqpage.specs.Freelist.{IsFreelist, FreelistRefused, free_pages, usable_size, most_leaves, next_in};
 ghost use Rattle.sqpage.specs.Freelist.{leaf_count_in, leaves_in, leaf_in};
 ghost use Rattle.sqpage.specs.internal.Taking.{AreTaken, TakesAll, LeafRefused, TakeRefused, TrunkRefused};
@@ -95,16 +95,17 @@ impl Found {
         requires taken { AreTaken self.old.taken.marks.items self.old.pages.items
             × (length self.old.taken.marks.items ≡ length (S.pages source.old)) }
         requires room { (length bytes.old ≡ S.size source.old) × (16 ≤ usable) × (usable ≤ length bytes.old) }
-        ensures ok { S.gives_pages source.old → usable ≡ usable_size (S.pages source.old) → IfOk result (λ next.
+        ensures ok { S.reads_right source.old → usable ≡ usable_size (S.pages source.old) → IfOk result (λ next.
             (next ≡ next_in (page (S.pages source.old) trunk))
             × (leaf_count_in (page (S.pages source.old) trunk) ≤ most_leaves (S.pages source.old))
             × (self.new.pages.items ≡ self.old.pages.items ++ trunk ∷ leaves_in (page (S.pages source.old) trunk))) }
         ensures taken { OnOk result (AreTaken self.new.taken.marks.items self.new.pages.items
             × (length self.new.taken.marks.items ≡ length self.old.taken.marks.items)
             × (count_by not self.new.taken.marks.items < count_by not self.old.taken.marks.items)) }
-        ensures err { S.gives_pages source.old → usable ≡ usable_size (S.pages source.old)
-            → IfErr result (λ e. TrunkRefused (S.pages source.old) self.old.pages.items holder trunk e.fault e.page) }
-        ensures keeps { KeepsPages S.pages S.size S.gives_pages source.old source.new }
+        ensures err { S.reads_right source.old → usable ≡ usable_size (S.pages source.old)
+            → IfErr result (λ e. UnlessUnread (S.gives_pages source.old) e.fault
+            (TrunkRefused (S.pages source.old) self.old.pages.items holder trunk e.fault e.page)) }
+        ensures keeps { KeepsPages S.pages S.size S.reads_right S.gives_pages source.old source.new }
     {
         self.take(holder, trunk)?;
         read_page(source, trunk, bytes)?;
@@ -127,10 +128,11 @@ fn collect<S: PageSource>(
 ) -> Result<Vec<u32>, CheckError>
     requires some { 0 < length (S.pages source.old) }
     requires room { (length bytes.old ≡ S.size source.old) × (512 ≤ length bytes.old) }
-    ensures found { S.gives_pages source.old → IfOk result (λ pages. IsFreelist (S.pages source.old) pages.items ×
+    ensures found { S.reads_right source.old → IfOk result (λ pages. IsFreelist (S.pages source.old) pages.items ×
         (length pages.items ≡ free_pages (S.pages source.old))) }
-    ensures err { S.gives_pages source.old → IfErr result (λ e. FreelistRefused (S.pages source.old) e.fault e.page) }
-    ensures keeps { KeepsPages S.pages S.size S.gives_pages source.old source.new }
+    ensures err { S.reads_right source.old → IfErr result (λ e. UnlessUnread (S.gives_pages source.old) e.fault
+        (FreelistRefused (S.pages source.old) e.fault e.page)) }
+    ensures keeps { KeepsPages S.pages S.size S.reads_right S.gives_pages source.old source.new }
 {
     let mut found = Found::none(alloc, source.count())?;
     read_page(source, 1, bytes)?;
@@ -160,10 +162,11 @@ fn collect_in<S: PageSource>(
 ) -> Result<Vec<u32>, CheckError>
     requires some { 0 < length (S.pages source.old) }
     requires room { length buffer.old ≡ 65536 }
-    ensures found { S.gives_pages source.old → IfOk result (λ pages. IsFreelist (S.pages source.old) pages.items ×
+    ensures found { S.reads_right source.old → IfOk result (λ pages. IsFreelist (S.pages source.old) pages.items ×
         (length pages.items ≡ free_pages (S.pages source.old))) }
-    ensures err { S.gives_pages source.old → IfErr result (λ e. FreelistRefused (S.pages source.old) e.fault e.page) }
-    ensures keeps { KeepsPages S.pages S.size S.gives_pages source.old source.new }
+    ensures err { S.reads_right source.old → IfErr result (λ e. UnlessUnread (S.gives_pages source.old) e.fault
+        (FreelistRefused (S.pages source.old) e.fault e.page)) }
+    ensures keeps { KeepsPages S.pages S.size S.reads_right S.gives_pages source.old source.new }
 {
     let size = source.page_size().get() as usize;
     collect(alloc, source, &mut buffer[..size])
@@ -174,14 +177,15 @@ fn collect_in<S: PageSource>(
 /// FreeCount at a trunk that names too many leaves or at page 1 where the header's count isn't the
 /// list's, Source and NoMemory. A source of no pages has an empty one.
 pub fn freelist<S: PageSource>(alloc: Global, source: &mut S) -> Result<Vec<u32>, CheckError>
-    ensures found { S.gives_pages source.old → IfOk result (λ pages. IsFreelist (S.pages source.old) pages.items ×
+    ensures found { S.reads_right source.old → IfOk result (λ pages. IsFreelist (S.pages source.old) pages.items ×
         (length pages.items ≡ free_pages (S.pages source.old))) }
-    // The condition stands at the page.
-    ensures err { S.gives_pages source.old → IfErr result (λ e. FreelistRefused (S.pages source.old) e.fault e.page) }
-    // No list of pages is one, unless memory ran out.
-    ensures none { S.gives_pages source.old → IfErr result (λ e. e.fault ≢ Fault.NoMemory → (pages : List ℕ)
-        → IsFreelist (S.pages source.old) pages → length pages ≢ free_pages (S.pages source.old)) }
-    ensures keeps { KeepsPages S.pages S.size S.gives_pages source.old source.new }
+    // The condition stands at the page, unless one couldn't be read.
+    ensures err { S.reads_right source.old → IfErr result (λ e. UnlessUnread (S.gives_pages source.old) e.fault
+        (FreelistRefused (S.pages source.old) e.fault e.page)) }
+    // No list of pages is one, unless a page couldn't be read or memory ran out.
+    ensures none { S.reads_right source.old → IfErr result (λ e. e.fault ≢ Fault.Source → e.fault ≢ Fault.NoMemory
+        → (pages : List ℕ) → IsFreelist (S.pages source.old) pages → length pages ≢ free_pages (S.pages source.old)) }
+    ensures keeps { KeepsPages S.pages S.size S.reads_right S.gives_pages source.old source.new }
 {
     if source.count() == 0 {
         return Ok(Vec::new(alloc));

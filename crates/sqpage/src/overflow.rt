@@ -3,7 +3,7 @@ ghost use Rattle.std.specs.Prelude.{◌≡◌, ◌≢◌, ℕ, ◌+◌, ◌-◌,
 ghost use Rattle.std.specs.Prelude.{drop, IfOk, IfErr, OnOk, OnErr, IsSome};
 ghost use Rattle.sqval.specs.Database.{Database, page};
 ghost use Rattle.sqpage.specs.Freelist.{IsPage, next_in};
-ghost use Rattle.sqpage.specs.Source.{KeepsPages};
+ghost use Rattle.sqpage.specs.Source.{KeepsPages, UnlessUnread};
 ghost use Rattle.sqpage.specs.internal.Taking.{AreTaken, LinkRefused, AppendsChain, GoesOn, ChainStops};
 ghost use Rattle.sqpage.specs.Chain.{payload_size, links, contents, Follows, IsPayload, ChainBroken, ChainRefused};
 ghost use Rattle.sqpage.specs.declared.fault.Fault.{Fault};
@@ -37,12 +37,13 @@ fn append_page<S: PageSource>(
 ) -> Result<u32, CheckError>
     requires above { 0 < p }
     requires room { (length used.old ≡ S.size source.old) × (480 ≤ usable) × (usable ≤ length used.old) }
-    ensures ok { S.gives_pages source.old → IfOk result (λ next. IsPage (S.pages source.old) p
+    ensures ok { S.reads_right source.old → IfOk result (λ next. IsPage (S.pages source.old) p
         × (next ≡ next_in (page (S.pages source.old) p))
         × (out.new.items ≡ out.old.items ++ take (usable - 4) (drop 4 (page (S.pages source.old) p)))) }
-    ensures err { S.gives_pages source.old → IfErr result (λ e. LinkRefused (S.pages source.old) at p e.fault e.page) }
+    ensures err { S.reads_right source.old → IfErr result (λ e. UnlessUnread (S.gives_pages source.old) e.fault
+        (LinkRefused (S.pages source.old) at p e.fault e.page)) }
     ensures appended { (more : List ℕ) × (out.new.items ≡ out.old.items ++ more) }
-    ensures keeps { KeepsPages S.pages S.size S.gives_pages source.old source.new }
+    ensures keeps { KeepsPages S.pages S.size S.reads_right S.gives_pages source.old source.new }
 {
     if p > source.count() {
         return Err(CheckError {
@@ -73,13 +74,13 @@ fn append_chain<S: PageSource>(
     requires room { (length used.old ≡ S.size source.old) × (480 ≤ cell.now.usable)
         × (cell.now.usable ≤ length used.old) }
     requires needed { needed ≡ links cell.now }
-    ensures ok { S.gives_pages source.old → IfOk result (λ ends.
+    ensures ok { S.reads_right source.old → IfOk result (λ ends.
         (ends ≡ true → AppendsChain (S.pages source.old) cell.now out.old.items out.new.items)
         × (ends ≡ false → GoesOn (S.pages source.old) cell.now)) }
-    ensures err { S.gives_pages source.old
-        → IfErr result (λ e. ChainBroken (S.pages source.old) cell.now e.fault e.page) }
+    ensures err { S.reads_right source.old → IfErr result (λ e. UnlessUnread (S.gives_pages source.old) e.fault
+        (ChainBroken (S.pages source.old) cell.now e.fault e.page)) }
     ensures appended { (more : List ℕ) × (out.new.items ≡ out.old.items ++ more) }
-    ensures keeps { KeepsPages S.pages S.size S.gives_pages source.old source.new }
+    ensures keeps { KeepsPages S.pages S.size S.reads_right S.gives_pages source.old source.new }
 {
     let usable = cell.usable as usize;
     let mut at = cell.page;
@@ -122,11 +123,11 @@ fn mark_chain<S: PageSource>(
         × (length taken.old.marks.items ≡ length (S.pages source.old)) }
     requires room { (length used.old ≡ S.size source.old) × (480 ≤ length used.old) }
     requires needed { needed ≡ links cell.now }
-    ensures ok { S.gives_pages source.old → IfOk result (λ last. (pages : List ℕ) × (p : ℕ) × Follows
+    ensures ok { S.reads_right source.old → IfOk result (λ last. (pages : List ℕ) × (p : ℕ) × Follows
         (S.pages source.old) cell.now pages last p × (length pages ≡ links cell.now)) }
-    ensures err { S.gives_pages source.old
-        → IfErr result (λ e. ChainStops (S.pages source.old) cell.now e.fault e.page) }
-    ensures keeps { KeepsPages S.pages S.size S.gives_pages source.old source.new }
+    ensures err { S.reads_right source.old → IfErr result (λ e. UnlessUnread (S.gives_pages source.old) e.fault
+        (ChainStops (S.pages source.old) cell.now e.fault e.page)) }
+    ensures keeps { KeepsPages S.pages S.size S.reads_right S.gives_pages source.old source.new }
 {
     let mut at = cell.page;
     let mut next = cell.overflow;
@@ -151,9 +152,10 @@ fn judge_chain<S: PageSource>(
 ) -> CheckError
     requires room { (length used.old ≡ S.size source.old) × (480 ≤ length used.old) }
     requires needed { needed ≡ links cell.now }
-    ensures stands { S.gives_pages source.old → GoesOn (S.pages source.old) cell.now
-        → ChainBroken (S.pages source.old) cell.now result.fault result.page }
-    ensures keeps { KeepsPages S.pages S.size S.gives_pages source.old source.new }
+    ensures stands { S.reads_right source.old → GoesOn (S.pages source.old) cell.now → UnlessUnread
+        (S.gives_pages source.old) result.fault
+        (ChainBroken (S.pages source.old) cell.now result.fault result.page) }
+    ensures keeps { KeepsPages S.pages S.size S.reads_right S.gives_pages source.old source.new }
 {
     match Taken::none(alloc, source.count()) {
         Ok(mut taken) => match mark_chain(source, cell, needed, &mut taken, used) {
@@ -180,12 +182,12 @@ fn append_pages<S: PageSource>(
 ) -> Result<(), CheckError>
     requires usable { (480 ≤ cell.now.usable) × (cell.now.usable ≤ S.size source.old) }
     requires needed { needed ≡ links cell.now }
-    ensures ok { S.gives_pages source.old
+    ensures ok { S.reads_right source.old
         → OnOk result (AppendsChain (S.pages source.old) cell.now out.old.items out.new.items) }
     ensures appended { (more : List ℕ) × (out.new.items ≡ out.old.items ++ more) }
-    ensures err { S.gives_pages source.old
-        → IfErr result (λ e. ChainBroken (S.pages source.old) cell.now e.fault e.page) }
-    ensures keeps { KeepsPages S.pages S.size S.gives_pages source.old source.new }
+    ensures err { S.reads_right source.old → IfErr result (λ e. UnlessUnread (S.gives_pages source.old) e.fault
+        (ChainBroken (S.pages source.old) cell.now e.fault e.page)) }
+    ensures keeps { KeepsPages S.pages S.size S.reads_right S.gives_pages source.old source.new }
 {
     let size = source.page_size().get() as usize;
     let mut used = match vec![in alloc; 0u8; size] {
@@ -213,12 +215,12 @@ fn append<S: PageSource>(
 ) -> Result<(), CheckError>
     requires usable { (480 ≤ cell.now.usable) × (cell.now.usable ≤ S.size source.old) }
     requires needed { needed ≡ links cell.now }
-    ensures ok { S.gives_pages source.old → OnOk result
+    ensures ok { S.reads_right source.old → OnOk result
         (AppendsChain (S.pages source.old) cell.now (out.old.items ++ cell.now.local.now) out.new.items) }
     ensures appended { (more : List ℕ) × (out.new.items ≡ out.old.items ++ more) }
-    ensures err { S.gives_pages source.old
-        → IfErr result (λ e. ChainBroken (S.pages source.old) cell.now e.fault e.page) }
-    ensures keeps { KeepsPages S.pages S.size S.gives_pages source.old source.new }
+    ensures err { S.reads_right source.old → IfErr result (λ e. UnlessUnread (S.gives_pages source.old) e.fault
+        (ChainBroken (S.pages source.old) cell.now e.fault e.page)) }
+    ensures keeps { KeepsPages S.pages S.size S.reads_right S.gives_pages source.old source.new }
 {
     match out.extend_from_slice(cell.local) {
         Ok(()) => {}
@@ -255,14 +257,14 @@ pub fn payload<S: PageSource>(
 ) -> Result<(), CheckError>
     requires payload { IsSome cell.now.payload × (length cell.now.local.now ≤ payload_size cell.now) }
     requires usable { (480 ≤ cell.now.usable) × (cell.now.usable ≤ S.size source.old) }
-    ensures ok { S.gives_pages source.old → OnOk result ((content : List ℕ) × IsPayload (S.pages source.old) cell.now
+    ensures ok { S.reads_right source.old → OnOk result ((content : List ℕ) × IsPayload (S.pages source.old) cell.now
         content × (out.new.items ≡ out.old.items ++ content)) }
-    // The condition stands at the page, and the cell has no payload, unless memory ran out.
-    ensures err { S.gives_pages source.old → IfErr result
-        (λ e. ChainRefused (S.pages source.old) cell.now e.fault e.page
-        × (e.fault ≢ Fault.NoMemory → (content : List ℕ) → ¬ IsPayload (S.pages source.old) cell.now content)) }
+    // The condition stands at the page, and the cell has no payload, unless a page couldn't be read or memory ran out.
+    ensures err { S.reads_right source.old → IfErr result (λ e. UnlessUnread (S.gives_pages source.old) e.fault
+        (ChainRefused (S.pages source.old) cell.now e.fault e.page
+        × (e.fault ≢ Fault.NoMemory → (content : List ℕ) → ¬ IsPayload (S.pages source.old) cell.now content))) }
     ensures unchanged { OnErr result (out.new.items ≡ out.old.items) }
-    ensures keeps { KeepsPages S.pages S.size S.gives_pages source.old source.new }
+    ensures keeps { KeepsPages S.pages S.size S.reads_right S.gives_pages source.old source.new }
 {
     let needed = links_of(cell);
     if needed > u64::from(source.count()) {

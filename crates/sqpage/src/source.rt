@@ -1,5 +1,5 @@
 //! Where the pages of a database come from (own).
-ghost use Rattle.std.specs.Prelude.{◌≡◌, ◌↔◌, ℕ, ◌%◌, ◌/◌, ◌*◌, ◌<◌, ◌^◌, length, IsOk, IsSome, IfSome, IfErr};
+ghost use Rattle.std.specs.Prelude.{◌≡◌, ◌↔◌, ℕ, ◌%◌, ◌/◌, ◌*◌, ◌<◌, ◌^◌, length, IsOk, OnOk, IsSome, IfSome, IfErr};
 ghost use Rattle.sqval.specs.Database.{Database, page};
 ghost use Rattle.sqpage.specs.Freelist.{IsPage};
 ghost use Rattle.sqpage.specs.Lists.{Every};
@@ -24,7 +24,11 @@ pub trait PageSource {
     /// The size of its pages.
     ghost size: { Self → ℕ };
 
-    /// Each read of a page gives it. Nothing can be said of the bytes that are read where it doesn't.
+    /// What a read gives that doesn't fail is right, which is the page. Nothing can be said of the bytes that are read
+    /// where it isn't.
+    ghost reads_right: { Self → Type 0 };
+
+    /// What a read gives is right, and no read fails.
     ghost gives_pages: { Self → Type 0 };
 
     /// How many bytes each page has.
@@ -41,9 +45,12 @@ pub trait PageSource {
         requires page { IsPage (pages self.old) p }
         requires room { length out.old ≡ size self.old }
         // Each page has that size.
-        ensures read { gives_pages self.old → IsOk result × (out.new ≡ page (pages self.old) p) × Every
-            (λ bytes. length bytes ≡ size self.old) (pages self.old) }
-        ensures keeps { KeepsPages pages size gives_pages self.old self.new };
+        ensures read { reads_right self.old → OnOk result ((out.new ≡ page (pages self.old) p) × Every
+            (λ bytes. length bytes ≡ size self.old) (pages self.old)) }
+        ensures never_fails { gives_pages self.old → IsOk result }
+        ensures keeps { KeepsPages pages size reads_right gives_pages self.old self.new };
+
+    ghost right: { (source : Self) → gives_pages source → reads_right source };
 }
 
 /// The pages of a file that lies in memory.
@@ -83,7 +90,11 @@ impl<'a> PageSource for SliceSource<'a> {
 
     ghost size = { λ s. s.page_size };
 
+    ghost reads_right = { λ _. Unit {0} };
+
     ghost gives_pages = { λ _. Unit {0} };
+
+    ghost right = { λ _ _. tt };
 
     fn page_size(&self) -> PageSize {
         self.page_size
@@ -109,8 +120,9 @@ pub(crate) fn read_page<S: PageSource>(
 ) -> Result<(), CheckError>
     requires page { IsPage (S.pages source.old) p }
     requires room { length out.old ≡ S.size source.old }
-    ensures read { S.gives_pages source.old → IsOk result × (out.new ≡ page (S.pages source.old) p) }
-    ensures keeps { KeepsPages S.pages S.size S.gives_pages source.old source.new }
+    ensures read { S.reads_right source.old → OnOk result (out.new ≡ page (S.pages source.old) p) }
+    ensures never_fails { S.gives_pages source.old → IsOk result }
+    ensures keeps { KeepsPages S.pages S.size S.reads_right S.gives_pages source.old source.new }
     ensures err { IfErr result (λ e. (e.fault ≡ Fault.Source) × (e.page ≡ p)) }
 {
     source.page(p, out).map_err(|_| CheckError {

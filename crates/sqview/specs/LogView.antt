@@ -13,7 +13,7 @@ use Rattle.sqpage.specs.Header.{HasMagic, HasPageSize, size_named}
 use Rattle.sqpage.specs.declared.fault.Fault.TheVariants as faults
 use Rattle.sqview.specs.Laid.{laid}
 use Rattle.sqview.specs.Logs.{AreTwoLogs}
-use Rattle.sqview.specs.Origins.{AreFramePlaces}
+use Rattle.sqview.specs.Origins.{AreFramePlaces, AreJournalPlaces}
 use Rattle.sqview.specs.declared.view.View.{View}
 use Rattle.sqview.specs.declared.view_error.ViewError.{ViewError}
 use Rattle.sqview.specs.declared.view_error.ViewError.TheVariants.{TwoLogs, TooLarge, Header, Unread, NoMemory, NoSuchCommit}
@@ -102,6 +102,7 @@ pub record IsShownWithin {F : Type 0} (limits : Bounds) (bytes : F → List ℕ)
   pub unplaced : IsAlone wal journal → v.places.items ≡ []
   pub placed : (¬ IsAlone wal journal) → length v.places.items ≡ v.count
   pub framed : 1 ≤ v.front → AreFramePlaces v.page_size wal v.front v.count v.places.items
+  pub recorded : IsHot journal → AreJournalPlaces journal v.count v.places.items
 
 abbrev pub ViewAnswerWithin : {F : Type 0} → (limits : Bounds) (bytes : F → List ℕ) (db wal journal : List ℕ) → Result (View F) ViewError → Type 0
 ViewAnswerWithin limits bytes db wal journal (Ok v) = IsShownWithin limits bytes db wal journal v

@@ -28,7 +28,7 @@ pub enum Verdict {
 /// What a check finds of a view. Refused by AutoVacuum and NoMemory, which say that a database can't be checked and not
 /// that it is damaged, and by Unread where a file could not be read.
 pub fn judge_view<F: FileBytes>(alloc: Global, view: &mut View<F>) -> Result<Verdict, JudgeError>
-    ensures found { F.gives_bytes view.old.db × F.gives_bytes view.old.log
+    ensures found { F.reads_right view.old.db × F.reads_right view.old.log
         → IfOk result (IsVerdictOf F.bytes view.old) }
     ensures refused { F.gives_bytes view.old.db × F.gives_bytes view.old.log
         → IfErr result (IsUnjudged (pages_of F.bytes view.old)) }
@@ -46,7 +46,7 @@ pub fn judge_view_with<F: FileBytes>(
     view: &mut View<F>,
     options: Options,
 ) -> Result<Verdict, JudgeError>
-    ensures found { F.gives_bytes view.old.db × F.gives_bytes view.old.log
+    ensures found { F.reads_right view.old.db × F.reads_right view.old.log
         → IfOk result (IsVerdictWith options.pointer_maps F.bytes view.old) }
     ensures refused { F.gives_bytes view.old.db × F.gives_bytes view.old.log
         → IfErr result (IsUnjudgedWith options.pointer_maps (pages_of F.bytes view.old)) }
@@ -84,7 +84,7 @@ fn judge_files<F: FileBytes + Drop>(
     wal: F,
     journal: F,
 ) -> Result<Verdict, JudgeError>
-    ensures found { F.gives_bytes db × F.gives_bytes wal × F.gives_bytes journal
+    ensures found { F.reads_right db × F.reads_right wal × F.reads_right journal
         → IfOk result (IsVerdictWithin limits (F.bytes db) (F.bytes wal) (F.bytes journal)) }
     ensures refused { F.gives_bytes db × F.gives_bytes wal × F.gives_bytes journal
         → IfErr result (AreUnjudgedWithin limits (F.bytes db) (F.bytes wal) (F.bytes journal)) }
@@ -104,7 +104,7 @@ fn judge_files_at<F: FileBytes + Drop>(
     journal: F,
     frame: u32,
 ) -> Result<Verdict, JudgeError>
-    ensures found { F.gives_bytes db × F.gives_bytes wal × F.gives_bytes journal
+    ensures found { F.reads_right db × F.reads_right wal × F.reads_right journal
         → IfOk result (IsVerdictAtWithin limits frame (F.bytes db) (F.bytes wal) (F.bytes journal)) }
     ensures refused { F.gives_bytes db × F.gives_bytes wal × F.gives_bytes journal
         → IfErr result (AreUnjudgedAtWithin limits frame (F.bytes db) (F.bytes wal) (F.bytes journal)) }
@@ -127,7 +127,7 @@ pub fn judge<F: FileBytes + Drop>(
     wal: F,
     journal: F,
 ) -> Result<Verdict, JudgeError>
-    ensures found { F.gives_bytes db × F.gives_bytes wal × F.gives_bytes journal
+    ensures found { F.reads_right db × F.reads_right wal × F.reads_right journal
         → IfOk result (IsVerdict (F.bytes db) (F.bytes wal) (F.bytes journal)) }
     ensures refused { F.gives_bytes db × F.gives_bytes wal × F.gives_bytes journal
         → IfErr result (AreUnjudged (F.bytes db) (F.bytes wal) (F.bytes journal)) }
@@ -143,7 +143,7 @@ pub fn judge_within<F: FileBytes + Drop>(
     wal: F,
     journal: F,
 ) -> Result<Verdict, JudgeError>
-    ensures found { F.gives_bytes db × F.gives_bytes wal × F.gives_bytes journal
+    ensures found { F.reads_right db × F.reads_right wal × F.reads_right journal
         → IfOk result (IsVerdictWithin limits (F.bytes db) (F.bytes wal) (F.bytes journal)) }
     ensures refused { F.gives_bytes db × F.gives_bytes wal × F.gives_bytes journal
         → IfErr result (AreUnjudgedWithin limits (F.bytes db) (F.bytes wal) (F.bytes journal)) }
@@ -163,7 +163,7 @@ pub fn judge_at<F: FileBytes + Drop>(
     journal: F,
     frame: u32,
 ) -> Result<Verdict, JudgeError>
-    ensures found { F.gives_bytes db × F.gives_bytes wal × F.gives_bytes journal
+    ensures found { F.reads_right db × F.reads_right wal × F.reads_right journal
         → IfOk result (IsVerdictAt frame (F.bytes db) (F.bytes wal) (F.bytes journal)) }
     ensures refused { F.gives_bytes db × F.gives_bytes wal × F.gives_bytes journal
         → IfErr result (AreUnjudgedAt frame (F.bytes db) (F.bytes wal) (F.bytes journal)) }
@@ -180,7 +180,7 @@ pub fn judge_at_within<F: FileBytes + Drop>(
     journal: F,
     frame: u32,
 ) -> Result<Verdict, JudgeError>
-    ensures found { F.gives_bytes db × F.gives_bytes wal × F.gives_bytes journal
+    ensures found { F.reads_right db × F.reads_right wal × F.reads_right journal
         → IfOk result (IsVerdictAtWithin limits frame (F.bytes db) (F.bytes wal) (F.bytes journal)) }
     ensures refused { F.gives_bytes db × F.gives_bytes wal × F.gives_bytes journal
         → IfErr result (AreUnjudgedAtWithin limits frame (F.bytes db) (F.bytes wal) (F.bytes journal)) }

@@ -98,7 +98,11 @@ impl<F: FileBytes> PageSource for View<F> {
 
     ghost size = { λ v. v.page_size };
 
+    ghost reads_right = { λ v. F.reads_right v.db × F.reads_right v.log };
+
     ghost gives_pages = { λ v. F.gives_bytes v.db × F.gives_bytes v.log };
+
+    ghost right = { λ v gives. (F.right v.db gives.0, F.right v.log gives.1) };
 
     fn page_size(&self) -> PageSize {
         self.page_size

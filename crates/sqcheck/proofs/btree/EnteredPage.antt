@@ -6,7 +6,7 @@ use Rattle.sqpage.specs.Page.{is_interior}
 use Rattle.sqcheck.specs.declared.item.Item.{Item}
 use Rattle.sqcheck.specs.declared.tree.Tree.{Tree}
 use Rattle.sqcheck.specs.Places.{overflow, child, Node, node, Spot, page_as, HasKind, InCell, InNode}
-use Rattle.sqcheck.specs.WellFormed.{IsSoundNode, FirstLeaf, here, down, first_child}
+use Rattle.sqcheck.specs.WellFormed.{IsSoundPage, IsSoundNode, FirstLeaf, here, down, first_child}
 use Rattle.sqcheck.specs.internal.Walking.{Pushes, IsBelow, TopLeads, Judged, KnowsAt, Knows, PutsAside}
 use Rattle.sqcheck.proofs.checks.ListsByRecursion.{either}
 use Rattle.sqcheck.proofs.checks.RefutationOfWellFormedness.{kind_once}
@@ -16,15 +16,12 @@ use Rattle.sqcheck.proofs.btree.KeysAndPlaces.{push_both}
 abbrev pub Aside : Tree → Kind → (p : ℕ) → (old new : List ℕ) → Type 0
 Aside tree kind p old new = ((tree.schema ≡ true) × (is_interior kind ≡ false) × (new ≡ old ++ p ∷ [])) ⊎ (((tree.schema ≡ true) → is_interior kind ≢ false) × (new ≡ old))
 
-module _ (d : Database) (tree : Tree) (p : ℕ) (kind : Kind) (x : Node) (old_level new_level : Option ℕ) (j : Judged (page_as d kind p) x old_level new_level) (of_tree : x.tree ≡ tree.root) (k : KnowsAt d tree.root old_level p x.level) where
+module _ (d : Database) (tree : Tree) (p : ℕ) (kind : Kind) (x : Node) (old_level new_level : Option ℕ) (j : Judged (page_as d kind p) x old_level new_level) where
+  pub entered_page : x.level ≤ 20 → IsSoundPage d p x
+  entered_page shallow = record { kind = kind; page_is = j.page_is; same = j.same; laid_out = j.laid_out; keys = j.keys; shallow = shallow }
+
   has : HasKind d kind p
   has = j.page_is.kind
-
-  even : is_interior kind ≡ false → FirstLeaf d x.tree 1 x.level
-  even leaf = subst (λ r. FirstLeaf d r 1 x.level) (sym of_tree) (⊎_elim (λ none. k.leads none x.level (here kind has leaf)) (λ some. k.level_of x.level some) (j.leaf leaf).1)
-
-  pub entered_sound : x.level ≤ 20 → IsSoundNode d p x
-  entered_sound shallow = record { page = record { kind = kind; page_is = j.page_is; same = j.same; laid_out = j.laid_out; keys = j.keys; shallow = shallow }; even = even }
 
   pub entered_pushes : (old mid new : List Item) → Pushes tree (IsBelow (page_as d kind p) x) old mid → Pushes tree (InCell (page_as d kind p)) mid new → Pushes tree (InNode d p x) old new
   entered_pushes old mid new a b =
@@ -44,6 +41,13 @@ module _ (d : Database) (tree : Tree) (p : ℕ) (kind : Kind) (x : Node) (old_le
   entered_aside old new schema (inl h) = inl ((schema ∙ h.0, kind, has, h.1), h.2)
   entered_aside old new schema (inr h) = inr ((λ leaf. h.0 (sym schema ∙ leaf.0) (ap is_interior (kind_once d kind leaf.1 p has leaf.2) ∙ leaf.3)), h.1)
 
+module _ (d : Database) (tree : Tree) (p : ℕ) (kind : Kind) (x : Node) (old_level new_level : Option ℕ) (j : Judged (page_as d kind p) x old_level new_level) (of_tree : x.tree ≡ tree.root) (k : KnowsAt d tree.root old_level p x.level) where
+  even : is_interior kind ≡ false → FirstLeaf d x.tree 1 x.level
+  even leaf = subst (λ r. FirstLeaf d r 1 x.level) (sym of_tree) (⊎_elim (λ none. k.leads none x.level (here kind j.page_is.kind leaf)) (λ some. k.level_of x.level some) (j.leaf leaf).1)
+
+  pub entered_sound : x.level ≤ 20 → IsSoundNode d p x
+  entered_sound shallow = record { page = record { kind = kind; page_is = j.page_is; same = j.same; laid_out = j.laid_out; keys = j.keys; shallow = shallow }; even = even }
+
   pub entered_knows : (mid new : List Item) → (is_interior kind ≡ true → ((on : ℕ) → FirstLeaf d (first_child (page_as d kind p)) (suc x.level) on → FirstLeaf d tree.root 1 on) → TopLeads d tree.root (reverse mid))
       → (TopLeads d tree.root (reverse mid) → TopLeads d tree.root (reverse new)) → Knows d tree.root new_level (reverse new)
   entered_knows mid new below chains = elim (either (is_interior kind)) [
@@ -51,7 +55,7 @@ module _ (d : Database) (tree : Tree) (p : ℕ) (kind : Kind) (x : Node) (old_le
         let same : new_level ≡ old_level = j.interior int in
         record {
           level = λ on e. k.level_of on (sym same ∙ e);
-          leads = λ none. chains (below int (λ on f. k.leads (sym same ∙ none) on (down kind has int f)));
+          leads = λ none. chains (below int (λ on f. k.leads (sym same ∙ none) on (down kind j.page_is.kind int f)));
         }
     | inr leaf ↦
         let is : new_level ≡ Some x.level = (j.leaf leaf).0 in

@@ -83,13 +83,13 @@ all_roles d size reserved visits old new known begun told are = record {
     of_maps p is ne auto =
         let one : IsPage d 1 = (let above : 0 < p = is.0 in let below : p ≤ length d = is.1 in (omega arith, omega arith)) in
         let k = known one auto in
-        let down : IfSome (Some k.0) (λ n. (IsPointerMap size (size - n) p × (role_at old.roles.items p ≡ PointerMap)) ⊎ (IsPointerMap size (size - n) p → ⊥)) =
-        subst (λ r. IfSome r (λ n. (IsPointerMap size (size - n) p × (role_at old.roles.items p ≡ PointerMap)) ⊎ (IsPointerMap size (size - n) p → ⊥))) k.1 ((begun.each p is).map ne) in
+        let down : IfSome (Some k.0) (λ n. (IsPointerMap size (size - n) p × (role_at old.roles.items p ≡ PointerMap)) ⊎ ((IsPointerMap size (size - n) p → ⊥) × (role_at old.roles.items p ≡ Unused))) =
+        subst (λ r. IfSome r (λ n. (IsPointerMap size (size - n) p × (role_at old.roles.items p ≡ PointerMap)) ⊎ ((IsPointerMap size (size - n) p → ⊥) × (role_at old.roles.items p ≡ Unused)))) k.1 ((begun.each p is).map ne) in
         elim down [
           | inl is_map ↦ (
               let there : IsPointerMap size (usable_size d) p = subst (λ u. IsPointerMap size u p) k.2 is_map.0 in
               inr (inr (auto, there, stays p is (inr (auto, there)) ∙ is_map.1)))
-          | inr isnt ↦ inl (named p is (λ aside. elim aside [ inl e ↦ ne e | inr a ↦ isnt (subst (λ u. IsPointerMap size u p) (sym k.2) a.1) ]))
+          | inr isnt ↦ inl (named p is (λ aside. elim aside [ inl e ↦ ne e | inr a ↦ isnt.0 (subst (λ u. IsPointerMap size u p) (sym k.2) a.1) ]))
         ]
 
 -- The roles of the first pages are set down.

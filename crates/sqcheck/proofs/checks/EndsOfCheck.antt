@@ -1,17 +1,18 @@
 -- The two ends of a check.
-use Rattle.std.proofs.Common.{◌≡◌, ◌≢◌, ◌<◌, ℕ, ◌-◌, [], Bool, true, false, not, eqb, eq-eqb, ◌∷◌, length, ⊎_elim, refl, sym, ap, ◌∙◌, inl, inr, arith}
+use Rattle.std.proofs.Common.{List, subst, ◌≡◌, ◌≢◌, ◌<◌, ℕ, ◌-◌, [], Bool, true, false, not, eqb, eq-eqb, ◌∷◌, length, ⊎_elim, refl, sym, ap, ◌∙◌, inl, inr, arith}
 use Rattle.std.proofs.lemmas.Bool.{eqb-true}
 use Rattle.sqpage.specs.Lists.{Every}
 use Rattle.sqcheck.proofs.checks.ListsByRecursion.{either}
 use Rattle.sqpage.specs.declared.fault.Fault.{Fault}
 use Rattle.sqpage.specs.declared.fault.Fault.TheVariants as faults
-use Rattle.sqcheck.specs.Stands.{StandsWith}
+use Rattle.sqcheck.specs.Stands.{StandsBy, StandsWith}
 use Rattle.sqval.specs.Database.{Database, page}
 use Rattle.sqpage.specs.Freelist.{usable_size}
 use Rattle.sqpage.specs.Header.{HasMagic, byte}
 use Rattle.sqpage.specs.declared.header.DbHeader.{DbHeader}
 use Rattle.sqcheck.specs.internal.Heading.{HasHeaderOf, HeaderFault}
-use Rattle.sqcheck.specs.WellFormed.{IsAutoVacuum, HasSoundHeader}
+use Rattle.sqcheck.specs.WellFormed.{IsAutoVacuum, IsReached, IsSound, HasSoundHeader}
+use Rattle.sqpage.specs.Source.{UnlessUnread}
 use Rattle.sqcheck.specs.internal.Agenda.{StandsNow}
 use Rattle.sqcheck.specs.internal.Checking.{KnowsMaps}
 
@@ -39,22 +40,38 @@ pub maps_asked : (maps : Bool) (d : Database) (size : ℕ) → HasSoundHeader ma
 maps_asked maps d size h auto = ⊎_elim (λ yes. yes) (λ no. absurd (auto (h.plain no))) (either maps)
 
 -- A fault of a page stands behind a sound header.
-pub page_stands : (maps : Bool) (d : Database) (size : ℕ) (fault : Fault) (p : ℕ) → length (page d 1) ≡ size → HasSoundHeader maps d size → StandsNow d fault p → StandsWith maps d size fault p
-page_stands maps d size fault p long header h =
-    record { stands = h maps size long (maps_asked maps d size header); judged = λ auto. inl (maps_asked maps d size header auto) }
+pub page_stands : (given : Type 0) (maps : Bool) (d : Database) (size : ℕ) (fault : Fault) (p : ℕ) → length (page d 1) ≡ size → HasSoundHeader maps d size → StandsNow given d fault p → UnlessUnread given fault (StandsWith maps d size fault p)
+page_stands given maps d size fault p long header h =
+    (h.0, λ read. record { stands = h.1 read maps size long (maps_asked maps d size header); judged = λ auto. inl (maps_asked maps d size header auto) })
+
+-- Memory may run out behind the header.
+pub memory_now : (given : Type 0) (d : Database) (fault : Fault) (p : ℕ) → fault ≡ faults.NoMemory → StandsNow given d fault p
+memory_now given d fault p e = (
+  λ is. absurd (let both : ◌≡◌ {A = Fault} faults.NoMemory faults.Source = sym e ∙ is in cc),
+  λ read maps size same asked. subst (λ f. StandsBy (IsReached d) (IsSound d) maps d size f p) (sym e) tt,
+)
+
+-- A fault that stands isn't that a page couldn't be read.
+pub stands_read : (given : Type 0) (maps : Bool) (d : Database) (size : ℕ) (fault : Fault) (p : ℕ) → StandsWith maps d size fault p → UnlessUnread given fault (StandsWith maps d size fault p)
+stands_read given maps d size fault p h = (λ is. absurd ((subst (λ f. StandsWith maps d size f p) is h).stands), λ read. h)
 
 -- Memory may always run out.
 pub memory_stands : (maps : Bool) (d : Database) (size p : ℕ) → StandsWith maps d size faults.NoMemory p
 memory_stands maps d size p = record { stands = tt; judged = λ auto. inr refl }
 
 -- What the header says of pointer maps.
-pub knows_maps : (maps : Bool) (d : Database) (h : DbHeader) (size : ℕ) → length (page d 1) ≡ size → HasHeaderOf maps h size (page d 1) → KnowsMaps d (not (eqb h.largest_root 0)) size h.reserved
-knows_maps maps d h size long is = record {
+pub knows_maps : (judged : Type 0) (maps : Bool) (d : Database) (h : DbHeader) (size : ℕ) → length (page d 1) ≡ size → HasHeaderOf maps h size (page d 1) → KnowsMaps d judged (not (eqb h.largest_root 0)) size h.reserved
+knows_maps judged maps d h size long is = record {
   long = long;
   usable = ap (λ n. n - byte (page d 1) 20) long ∙ ap (λ n. size - n) (sym is.reserved);
   auto = λ used zero'. absurd (let both : false ≡ true = sym (ap not (eq-eqb h.largest_root 0 (is.largest_root ∙ zero'))) ∙ used in cc);
-  plain = λ unused. sym is.largest_root ∙ ⊎_elim (λ yes. eqb-true h.largest_root 0 yes) (λ no. absurd (let both : true ≡ false = sym (ap not no) ∙ unused in cc)) (either (eqb h.largest_root 0));
+  plain = λ was unused. sym is.largest_root ∙ ⊎_elim (λ yes. eqb-true h.largest_root 0 yes) (λ no. absurd (let both : true ≡ false = sym (ap not no) ∙ unused in cc)) (either (eqb h.largest_root 0));
 }
+
+-- Maps are used only where they are asked for.
+pub maps_used : (maps : Bool) (b : List ℕ) (h : DbHeader) (size : ℕ) → HasHeaderOf maps h size b → not (eqb h.largest_root 0) ≡ true → maps ≡ true
+maps_used maps b h size is used = ⊎_elim (λ yes. yes)
+    (λ no. absurd (let none : h.largest_root ≡ 0 = is.largest_root ∙ is.plain no in let both : false ≡ true = sym (ap not (eq-eqb h.largest_root 0 none)) ∙ used in cc)) (either maps)
 
 -- The first page is as long as all are.
 pub first_sized : (d : Database) (size n : ℕ) → n ≡ length d → n ≢ 0 → Every (λ b. length b ≡ size) d → length (page d 1) ≡ size

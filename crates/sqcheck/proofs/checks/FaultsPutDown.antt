@@ -7,7 +7,8 @@ use Rattle.sqpage.specs.declared.fault.CheckError.{CheckError}
 use Rattle.sqpage.specs.declared.fault.Fault.TheVariants.{PageUnused}
 use Rattle.sqcheck.specs.declared.role.Role.{Role}
 use Rattle.sqcheck.specs.declared.role.Role.TheVariants.{Btree, Overflow, FreeTrunk, FreeLeaf, LockByte, PointerMap, Unused}
-use Rattle.sqcheck.specs.internal.Charting.{ArePutDown, most_faults, unused_fault, unused_faults}
+use Rattle.sqcheck.specs.Surveys.{most_faults}
+use Rattle.sqcheck.specs.internal.Charting.{ArePutDown, unused_fault, unused_faults}
 
 -- the first of some, and then of more
 take_more : (room : ℕ) (xs ys : List CheckError) → take room (xs ++ ys) ≡ take room xs ++ take (room - length xs) ys

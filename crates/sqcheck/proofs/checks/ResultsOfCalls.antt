@@ -1,10 +1,25 @@
 -- Results of calls.
-use Rattle.std.proofs.Common.{◌≡◌, sym, subst}
+use Rattle.std.proofs.Common.{◌≡◌, ◌∙◌, Bool, true, false, sym, subst}
+use Rattle.std.specs.Result.{is_err}
 use Rattle.std.specs.Prelude.{Result, Ok, Err, OnOk, IfOk, IfErr, IsErrAnd}
 
 pub on_ok : {A E : Type 0} (P Q : Type 0) (r : Result A E) → (P → Q) → OnOk r P → OnOk r Q
 on_ok P Q (Ok x) f h = f h
 on_ok P Q (Err e) f h = h
+
+-- What holds of a result that is Ok, where it was asked whether it is an error.
+pub of_ok : {A E : Type 0} (P : Type 0) (r : Result A E) (b : Bool) → b ≡ is_err r → b ≡ false → OnOk r P → P
+of_ok P (Ok x) b said right h = h
+of_ok P (Err e) b said right h = absurd (let both : false ≡ true = sym right ∙ said in cc)
+
+pub if_both : {A E : Type 0} (P Q : A → Type 0) (r : Result A E) → IfOk r P → IfOk r Q → IfOk r (λ x. P x × Q x)
+if_both P Q (Ok x) h k = (h, k)
+if_both P Q (Err e) h k = h
+
+-- what holds anyway
+pub anyway : {A E : Type 0} (P : Type 0) (r : Result A E) → P → OnOk r P
+anyway P (Ok x) h = h
+anyway P (Err e) h = tt
 
 pub if_ok : {A E : Type 0} (P Q : A → Type 0) (r : Result A E) → ((x : A) → P x → Q x) → IfOk r P → IfOk r Q
 if_ok P Q (Ok x) f h = f x h

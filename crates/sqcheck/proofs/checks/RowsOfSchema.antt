@@ -10,7 +10,7 @@ use Rattle.sqpage.specs.declared.kind.Kind.TheVariants.{TableLeaf}
 use Rattle.sqpage.specs.Lists.{In, Every, Apart}
 use Rattle.sqpage.specs.Freelist.{Leads, next_in}
 use Rattle.sqpage.specs.Page.{Page, cell_count}
-use Rattle.sqpage.specs.Chain.{IsPayload, links, payload_size, contents}
+use Rattle.sqpage.specs.Chain.{IsPayload, ChainRefused, links, payload_size, contents}
 use Rattle.sqpage.proofs.btree.PartsOfCells.{SameCell, cell_once}
 use Rattle.sqpage.proofs.chain.ListsByRecursion.{in_left, in_right, in_cases, every_append}
 use Rattle.sqcheck.specs.declared.schema.Root.{Root}
@@ -44,6 +44,14 @@ is_no_memory faults.FreeCount h = absurd (h (λ e. cc))
 is_no_memory faults.Source h = absurd (h (λ e. cc))
 is_no_memory faults.NoMemory h = refl
 is_no_memory faults.SchemaRecord h = absurd (h (λ e. cc))
+
+-- A chain is refused by no fault of a row.
+pub no_row_fault : (d : Database) (cell : Cell) (fault : Fault) (at : ℕ) → fault ≡ faults.SchemaRecord → ¬ ChainRefused d cell fault at
+no_row_fault d cell fault at is h = go (subst (λ f. ChainRefused d cell f at) is h)
+  where
+    go : ¬ ChainRefused d cell faults.SchemaRecord at
+    go (inl cut) = absurd (let both : ◌≡◌ {A = Fault} faults.SchemaRecord faults.ChainCut = cut.0 in cc)
+    go (inr broken) = broken.1
 
 pages_once : (d : Database) (h k a at to : ℕ) (ps qs : List ℕ) → Leads d h a ps at 0 → Leads d k a qs to 0 → length ps ≡ length qs → ps ≡ qs
 pages_once d h k a at to [] [] l m e = refl

@@ -1,5 +1,5 @@
 -- An item is followed.
-use Rattle.std.proofs.Common.{◌≡◌, ℕ, List, ◌∷◌, take, reverse, Option, ℤ, sym, ap, subst, ◌∙◌, inr}
+use Rattle.std.proofs.Common.{◌≡◌, ℕ, Bool, List, ◌∷◌, take, reverse, Option, ℤ, sym, ap, subst, ◌∙◌, inr}
 use Rattle.sqval.specs.Database.{Database, page}
 use Rattle.sqpage.specs.Freelist.{usable_size}
 use Rattle.sqpage.specs.internal.Taking.{Marks}
@@ -10,9 +10,9 @@ use Rattle.sqcheck.specs.declared.tree.Tree.{Tree}
 use Rattle.sqcheck.specs.declared.node.Walk.{Walk}
 use Rattle.sqcheck.specs.declared.uses.Uses.{Uses}
 use Rattle.sqcheck.specs.internal.Counting.{AddsItem}
-use Rattle.sqcheck.specs.Places.{InPageAs, used_in}
-use Rattle.sqcheck.specs.WellFormed.{IsSoundAs}
-use Rattle.sqcheck.specs.internal.Walking.{role_of, node_in, Pushes, IsSchemaLeaf, PutsAside, LeadsOn, TopLeads, Visits, Knows, KnowsAt, Enters, Follows}
+use Rattle.sqcheck.specs.Places.{Role, trunk, free_leaf, link, node, InPageAs, used_in}
+use Rattle.sqcheck.specs.WellFormed.{IsSoundAs, IsSoundWith, IsSoundPage}
+use Rattle.sqcheck.specs.internal.Walking.{role_of, node_in, Pushes, IsSchemaLeaf, PutsAside, LeadsOn, TopLeads, Visits, Knows, KnowsAt, Opens, Passes, Enters, Follows}
 use Rattle.sqcheck.proofs.btree.KeysAndPlaces.{IsNoNode}
 
 unpassed : (d : Database) (root p : ℕ) (task : Task) (further : Type 0) → IsNoNode task → LeadsOn d root p task further → further
@@ -67,4 +67,27 @@ other_followed d tree it task uses new_uses old new e none visits adds rows leve
   counted = adds;
   aside = inr (no_rows d tree it.page it.task (subst IsNoNode (sym e) none), rows);
   knows = subst (λ n. Knows d tree.root n (reverse new.stack.items)) (sym level) (knows_other d tree.root it task old.leaf_level old.stack.items new.stack.items e none k leads);
+}
+
+-- what is sound is so but for the level of leaves
+page_sound : (d : Database) (p : ℕ) (role : Role) → IsSoundAs d p role → IsSoundWith (IsSoundPage d) d p role
+page_sound d p trunk h = h
+page_sound d p free_leaf h = h
+page_sound d p (link owner needed) h = h
+page_sound d p (node x) h = h.page
+
+-- The same, whatever is known of the level of leaves.
+pub node_passed : (d : Database) (tree : Tree) (it : Item) (level : ℕ) (low high : Option ℤ) (old new : Walk) → it.task ≡ tasks.Node level low high → Opens d tree it.page (node_in tree level low high) old new → Passes d tree it old new
+node_passed d tree it level low high old new e opens = record {
+  sound = subst (λ t. IsSoundWith (IsSoundPage d) d it.page (role_of tree t)) (sym e) opens.sound;
+  pushes = subst (λ t. Pushes tree (InPageAs d it.page (role_of tree t)) old.stack.items new.stack.items) (sym e) opens.pushes;
+  aside = subst (λ t. PutsAside d it.page (role_of tree t) old.rows.items new.rows.items) (sym e) opens.aside;
+}
+
+pub other_passed : (d : Database) (tree : Tree) (it : Item) (task : Task) (marks new_marks : List Bool) (old new : Walk) → it.task ≡ task → IsNoNode task → Visits d tree it marks new_marks old.stack.items new.stack.items
+    → new.rows.items ≡ old.rows.items → Passes d tree it old new
+other_passed d tree it task marks new_marks old new e none visits rows = record {
+  sound = page_sound d it.page (role_of tree it.task) visits.sound;
+  pushes = visits.pushes;
+  aside = inr (no_rows d tree it.page it.task (subst IsNoNode (sym e) none), rows);
 }

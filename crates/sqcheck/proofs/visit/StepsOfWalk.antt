@@ -21,12 +21,13 @@ use Rattle.sqcheck.specs.declared.uses.Uses.{Uses}
 use Rattle.sqcheck.specs.Places.{overflow, holder, Role, trunk, free_leaf, link, node, Node, Spot, InPageAs, StandsIn}
 use Rattle.sqcheck.specs.WellFormed.{IsReached, IsAutoVacuum, IsSetAside, HasEntry, SaysSo, kind_named, parent_by, IsSound, IsSoundAs, numbers, is_root, is_node, is_link, is_free}
 use Rattle.sqcheck.specs.Stands.{StandsBy, IsAsideWith, NodeRefused}
-use Rattle.sqcheck.specs.internal.Walking.{role_of, IsMapped, EntrySays, EntryRefused, IsItemOf, Match, IsSchemaLeaf, PutsAside, PageWrong, LinksOn, FollowRefused, Knows, Follows, IsProper, TopLeads}
+use Rattle.sqcheck.specs.internal.Walking.{role_of, IsMapped, EntrySays, EntryRefused, IsItemOf, Match, IsSchemaLeaf, PutsAside, PageWrong, LinksOn, FollowRefused, FollowRefusedBy, IsFirstLevel, IsPutDown, Knows, Follows, IsProper, TopLeads}
 use Rattle.sqcheck.specs.internal.Counting.{in_trees, in_btree, in_overflow, in_freelist, root_in, AddsItem}
-use Rattle.sqcheck.specs.internal.Agenda.{IsAside, AreMarked, StandsNow, LinkFits, Agenda, Stems, RowsAre, AreCounted, AreEntered, Walking, Stood}
+use Rattle.sqcheck.specs.internal.Agenda.{IsAside, AreMarked, StandsAsked, LinkFits, Agenda, Stems, RowsAre, AreCounted, AreEntered, Walking, Stood}
 use Rattle.sqcheck.proofs.checks.ListsByRecursion.{every_weaker, in_map, either}
 use Rattle.sqcheck.proofs.visit.AgendaOfWalk.{follows, twice, fresh_marked}
 use Rattle.sqcheck.proofs.btree.KeysAndPlaces.{match_append}
+use Rattle.sqcheck.proofs.visit.RefusedItems.{refused_by}
 
 -- The item on top of the stack, with its place.
 pub record Top (tree : Tree) (it : Item) (below : List Item) (pending : List Spot) : Type 0 where
@@ -209,7 +210,7 @@ counted_more tree visited s it old new role page c a = record {
 entry_says : (d : Database) (tree : Tree) (it : Item) (s : Spot) (entry : EntryPlace) → IsItemOf tree it s → EntrySays d entry it → SaysSo d entry s.place s.role
 entry_says d tree it s entry is h = (h.0 ∙ ap kind_code is.kind, h.1 ∙ ap (λ k. parent_by k it.holder) is.kind ∙ ap (parent_by (kind_named s.place s.role)) is.stands)
 
-says_entry : (d : Database) (tree : Tree) (it : Item) (s : Spot) (entry : EntryPlace) → IsItemOf tree it s → SaysSo d entry s.place s.role → EntrySays d entry it
+pub says_entry : (d : Database) (tree : Tree) (it : Item) (s : Spot) (entry : EntryPlace) → IsItemOf tree it s → SaysSo d entry s.place s.role → EntrySays d entry it
 says_entry d tree it s entry is h =
     (h.0 ∙ ap kind_code (sym is.kind), h.1 ∙ sym (ap (λ k. parent_by k it.holder) is.kind ∙ ap (parent_by (kind_named s.place s.role)) is.stands))
 
@@ -264,11 +265,13 @@ module _ (d : Database) (late : Bool) (tree : Tree) (visited rest : List Spot) (
       )
 
   -- Or it isn't.
-  pub walk_refused : (fault : Fault) (at : ℕ) → FollowRefused d tree it uses.marks.items fault at → StandsNow d fault at
-  walk_refused fault at f maps size same asked = refusal_stands (IsReached d) (IsSound d) (IsAside d) d maps size (aside_asked d maps size same asked) tree it top.spot top.is (agenda.tour.waiting.0) uses.marks.items fault at w.agenda.tour.sized (agenda.tour.fits.0) f (twice d (IsReached d) (IsAside d) uses.marks.items visited top.spot (top.others ++ rest) agenda.tour)
+  pub walk_refused : (fault : Fault) (at : ℕ) → FollowRefusedBy (IsPutDown popped.leaf_level) d tree it uses.marks.items fault at → StandsAsked d fault at
+  walk_refused fault at h maps size same asked =
+      let f : FollowRefused d tree it uses.marks.items fault at = refused_by (IsPutDown popped.leaf_level) (IsFirstLevel d) d tree it uses.marks.items fault at knows_top.level h in
+      refusal_stands (IsReached d) (IsSound d) (IsAside d) d maps size (aside_asked d maps size same asked) tree it top.spot top.is (agenda.tour.waiting.0) uses.marks.items fault at w.agenda.tour.sized (agenda.tour.fits.0) f (twice d (IsReached d) (IsAside d) uses.marks.items visited top.spot (top.others ++ rest) agenda.tour)
 
   -- Or the entry of its page is wrong.
-  pub entry_stands : (fault : Fault) (at : ℕ) → EntryRefused d it fault at → StandsNow d fault at
+  pub entry_stands : (fault : Fault) (at : ℕ) → EntryRefused d it fault at → StandsAsked d fault at
   entry_stands fault at h maps size same asked =
       let here : IsEntryPlace size (usable_size d) top.spot.page h.2 =
       subst (λ n. IsEntryPlace n (usable_size d) top.spot.page h.2) same (subst (λ p. IsEntryPlace (length (page d 1)) (usable_size d) p h.2) top.is.page h.3) in

@@ -5,6 +5,7 @@ use Rattle.sqpage.specs.Lists.{In, Every, Apart}
 use Rattle.sqpage.specs.Freelist.{IsWithin}
 use Rattle.sqpage.specs.internal.Taking.{is_marked}
 use Rattle.sqpage.specs.declared.fault.Fault.{Fault}
+use Rattle.sqpage.specs.Source.{UnlessUnread}
 use Rattle.sqcheck.specs.declared.node.Walk.{Walk}
 use Rattle.sqcheck.specs.declared.uses.Counts.{Counts}
 use Rattle.sqcheck.specs.declared.uses.Uses.{Uses}
@@ -56,8 +57,12 @@ abbrev pub IsAside : Database → (p : ℕ) → Type 0
 IsAside d p = IsSetAside d (length (page d 1)) p
 
 -- a fault that isn't one of the header stands, where pages are so long, and pointer maps are asked for if there are any
-abbrev pub StandsNow : Database → Fault → (at : ℕ) → Type 0
-StandsNow d fault at = (maps : Bool) (size : ℕ) → length (page d 1) ≡ size → (IsAutoVacuum d → maps ≡ true) → StandsBy (IsReached d) (IsSound d) maps d size fault at
+abbrev pub StandsAsked : Database → Fault → (at : ℕ) → Type 0
+StandsAsked d fault at = (maps : Bool) (size : ℕ) → length (page d 1) ≡ size → (IsAutoVacuum d → maps ≡ true) → StandsBy (IsReached d) (IsSound d) maps d size fault at
+
+-- the same, unless a page couldn't be read
+abbrev pub StandsNow : (given : Type 0) → Database → Fault → (at : ℕ) → Type 0
+StandsNow given d fault at = UnlessUnread given fault (StandsAsked d fault at)
 
 -- Marked are the pages that are set aside.
 abbrev pub MarksAside : Database → (marks : List Bool) → Type 0

@@ -2,16 +2,13 @@
 use Rattle.std.specs.Prelude.{◌≡◌, ℕ, suc, ◌-◌, ◌<◌, List, [], ◌∷◌, ◌++◌, length, take, slice_get, Some}
 use Rattle.sqpage.specs.declared.fault.CheckError.{CheckError}
 use Rattle.sqpage.specs.declared.fault.Fault.TheVariants.{PageUnused}
+use Rattle.sqcheck.specs.Surveys.{most_faults}
 use Rattle.sqcheck.specs.declared.role.Role.{Role}
 use Rattle.sqcheck.specs.declared.role.Role.TheVariants.{Unused}
 
 -- a page, from 1, is one of those in a list of roles by page, and nothing has named it
 abbrev pub IsUnusedIn : (roles : List Role) → (page : ℕ) → Type 0
 IsUnusedIn roles page = (0 < page) × (slice_get roles (page - 1) ≡ Some Unused)
-
--- the most faults that are put down
-abbrev pub most_faults : ℕ
-most_faults = 1000000
 
 -- faults were put down behind the old ones, in their order, as many as there was room for
 abbrev pub ArePutDown : (old faults new : List CheckError) → Type 0

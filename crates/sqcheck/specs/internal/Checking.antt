@@ -47,10 +47,10 @@ pub record HasLists (h : DbHeader) (d : Database) : Type 0 where
   pub said : h.free_pages ≡ free_pages d
   pub largest : h.largest_root ≡ word (page d 1) 52
 
--- Of a database is known how long its pages are, how many bytes at their end aren't used, and whether it has pointer
--- maps.
-pub record KnowsMaps (d : Database) (used : Bool) (size reserved : ℕ) : Type 0 where
+-- Of a database is known how long its pages are, how many bytes at their end aren't used, and where pointer maps are used
+-- that it has them. Where its header was judged, it has none otherwise.
+pub record KnowsMaps (d : Database) (judged : Type 0) (used : Bool) (size reserved : ℕ) : Type 0 where
   pub long : length (page d 1) ≡ size
   pub usable : usable_size d ≡ size - reserved
   pub auto : used ≡ true → IsAutoVacuum d
-  pub plain : used ≡ false → word (page d 1) 52 ≡ 0
+  pub plain : judged → used ≡ false → word (page d 1) 52 ≡ 0

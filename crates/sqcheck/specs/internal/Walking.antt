@@ -26,8 +26,8 @@ use Rattle.sqcheck.specs.declared.uses.Uses.{Uses}
 use Rattle.sqcheck.specs.internal.Counting.{AddsItem}
 use Rattle.sqcheck.specs.Places.{Place, holder, Role, trunk, free_leaf, link, node, Spot, page_as, HasKind, InPageAs, InNode, InCell, IsLeftChild, IsRightChild, IsCellAt, spot, overflow, next, leaf}
 use Rattle.sqcheck.specs.Places as places
-use Rattle.sqcheck.specs.WellFormed.{IsAutoVacuum, IsSoundAs, IsSoundNode, KeysRise, FirstLeaf, kind_named, parent_by}
-use Rattle.sqcheck.specs.Stands.{NodeRefused}
+use Rattle.sqcheck.specs.WellFormed.{IsAutoVacuum, IsSoundAs, IsSoundWith, IsSoundPage, IsSoundNode, KeysRise, FirstLeaf, kind_named, parent_by}
+use Rattle.sqcheck.specs.Stands.{NodeRefusedBy}
 
 -- a page of the tree, on this level and with these bounds
 abbrev pub node_in : Tree → (level : ℕ) (low high : Option ℤ) → places.Node
@@ -123,12 +123,20 @@ pub record Visits (d : Database) (tree : Tree) (it : Item) (marks new_marks : Li
   pub sound : IsSoundAs d it.page (role_of tree it.task)
   pub pushes : Pushes tree (InPageAs d it.page (role_of tree it.task)) old new
 
--- What is wrong with a page in its role.
+-- What is wrong with a page in its role, where the leaves of each tree are to be on such a level.
+abbrev pub PageWrongBy : (IsLevel : (tree on : ℕ) → Type 0) → Database → (p : ℕ) → Role → Fault → Type 0
+PageWrongBy IsLevel d p trunk fault = (fault ≡ faults.FreeCount) × (most_leaves d < leaf_count_in (page d p))
+PageWrongBy IsLevel d p free_leaf fault = ⊥
+PageWrongBy IsLevel d p (link owner needed) fault = (fault ≡ faults.ChainLong) × (needed ≡ 1) × (next_in (page d p) ≢ 0)
+PageWrongBy IsLevel d p (node x) fault = NodeRefusedBy (IsLevel x.tree) d fault p x
+
+-- the level of a tree's first leaf
+abbrev pub IsFirstLevel : Database → (tree on : ℕ) → Type 0
+IsFirstLevel d tree = FirstLeaf d tree 1
+
+-- The same where that is the level of the tree's first leaf.
 abbrev pub PageWrong : Database → (p : ℕ) → Role → Fault → Type 0
-PageWrong d p trunk fault = (fault ≡ faults.FreeCount) × (most_leaves d < leaf_count_in (page d p))
-PageWrong d p free_leaf fault = ⊥
-PageWrong d p (link owner needed) fault = (fault ≡ faults.ChainLong) × (needed ≡ 1) × (next_in (page d p) ≢ 0)
-PageWrong d p (node x) fault = NodeRefused d fault p x
+PageWrong d = PageWrongBy (IsFirstLevel d) d
 
 -- a link that isn't followed: its number is 0, or it needs more pages than there are
 abbrev pub IsCutLink : Database → Tree → Item → Fault → (at : ℕ) → Type 0
@@ -139,12 +147,27 @@ LinksOn (Link owner needed first) p = p ≢ 0
 LinksOn _ p = Unit {0}
 
 -- Why an item isn't followed: its page can't be taken, is wrong, or the chain is cut; or memory ran out.
-abbrev pub FollowRefused : Database → Tree → Item → (marks : List Bool) → Fault → (at : ℕ) → Type 0
-FollowRefused d tree it marks fault at =
+abbrev pub FollowRefusedBy : (IsLevel : (tree on : ℕ) → Type 0) → Database → Tree → Item → (marks : List Bool) → Fault → (at : ℕ) → Type 0
+FollowRefusedBy IsLevel d tree it marks fault at =
     (LinksOn it.task it.page × MarkRefused marks it.holder it.page fault at)
-    ⊎ ((at ≡ it.page) × IsPage d it.page × PageWrong d it.page (role_of tree it.task) fault)
+    ⊎ ((at ≡ it.page) × IsPage d it.page × PageWrongBy IsLevel d it.page (role_of tree it.task) fault)
     ⊎ IsCutLink d tree it fault at
     ⊎ (fault ≡ faults.NoMemory)
+
+abbrev pub FollowRefused : Database → Tree → Item → (marks : List Bool) → Fault → (at : ℕ) → Type 0
+FollowRefused d = FollowRefusedBy (IsFirstLevel d) d
+
+-- this is the level that was put down
+abbrev pub IsPutDown : (level : Option ℕ) → (tree on : ℕ) → Type 0
+IsPutDown level tree on = level ≡ Some on
+
+-- The level of a tree's leaves is what it was, or that of page p, which is one of them.
+abbrev pub LevelAt : Database → (p level : ℕ) → (old new : Option ℕ) → Type 0
+LevelAt d p level old new = (new ≡ old) ⊎ ((kind : Kind) × HasKind d kind p × (is_interior kind ≡ false) × (new ≡ Some level))
+
+-- the same of the page of an item
+abbrev pub LevelAfter : Database → Item → (old new : Option ℕ) → Type 0
+LevelAfter d it old new = (new ≡ old) ⊎ ((level : ℕ) × (low : Option ℤ) × (high : Option ℤ) × (it.task ≡ Node level low high) × LevelAt d it.page level old new)
 
 -- page p is named as a leaf of the schema's tree, and is one
 abbrev pub IsSchemaLeaf : Database → (p : ℕ) → Role → Type 0
@@ -154,6 +177,13 @@ IsSchemaLeaf d p _ = ⊥
 -- The leaves of the schema's tree are put aside.
 abbrev pub PutsAside : Database → (p : ℕ) → Role → (old new : List ℕ) → Type 0
 PutsAside d p role old new = (IsSchemaLeaf d p role × (new ≡ old ++ p ∷ [])) ⊎ ((¬ IsSchemaLeaf d p role) × (new ≡ old))
+
+-- An item was followed, whatever is known of the level of leaves: its page is as its role wants it but for that, what
+-- stands in it is on the stack, and its rows are put aside.
+pub record Passes (d : Database) (tree : Tree) (it : Item) (old new : Walk) : Type 0 where
+  pub sound : IsSoundWith (IsSoundPage d) d it.page (role_of tree it.task)
+  pub pushes : Pushes tree (InPageAs d it.page (role_of tree it.task)) old.stack.items new.stack.items
+  pub aside : PutsAside d it.page (role_of tree it.task) old.rows.items new.rows.items
 
 -- What is known of the level of a tree's first leaf: it, or that the next page on the stack leads to it.
 pub record Knows (d : Database) (root : ℕ) (known : Option ℕ) (stack : List Item) : Type 0 where
@@ -167,10 +197,21 @@ pub record Enters (d : Database) (tree : Tree) (p : ℕ) (x : places.Node) (old 
   pub aside : PutsAside d p (node x) old.rows.items new.rows.items
   pub knows : Knows d tree.root new.leaf_level (reverse new.stack.items)
 
+-- a page of a tree was entered, whatever is known of the level of leaves
+pub record Opens (d : Database) (tree : Tree) (p : ℕ) (x : places.Node) (old new : Walk) : Type 0 where
+  pub sound : IsSoundPage d p x
+  pub pushes : Pushes tree (InNode d p x) old.stack.items new.stack.items
+  pub aside : PutsAside d p (node x) old.rows.items new.rows.items
+
 -- what is known of the first leaf, where page p on a level comes next
 pub record KnowsAt (d : Database) (root : ℕ) (known : Option ℕ) (p level : ℕ) : Type 0 where
   pub level_of : IsLevelOf d root known
   pub leads : known ≡ None → (on : ℕ) → FirstLeaf d p level on → FirstLeaf d root 1 on
+
+-- the same is on the stack and put aside
+pub record KeepsWalk (old new : Walk) : Type 0 where
+  pub stack : new.stack.items ≡ old.stack.items
+  pub rows : new.rows.items ≡ old.rows.items
 
 -- An item was followed, with all that the walk keeps.
 pub record Follows (d : Database) (tree : Tree) (it : Item) (uses new_uses : Uses) (old new : Walk) : Type 0 where

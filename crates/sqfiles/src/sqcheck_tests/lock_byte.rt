@@ -54,7 +54,11 @@ impl PageSource for FreePages {
 
     ghost size = { λ s. s.page_size };
 
+    ghost reads_right = { λ _. ⊥ };
+
     ghost gives_pages = { λ _. ⊥ };
+
+    ghost right = { λ _ gives. gives };
 
     fn page_size(&self) -> PageSize {
         self.page_size

@@ -3,7 +3,7 @@ use Rattle.std.proofs.Common.{◌≡◌, ℕ, ◌+◌, ◌-◌, ◌≤◌, List,
 use Rattle.std.specs.Prelude.{unwrap_or}
 use Rattle.std.proofs.lemmas.List.{ext_get_or}
 use Rattle.sqval.specs.Bytes.{word}
-use Rattle.sqval.specs.Database.{Database, page, file_page, IsFile}
+use Rattle.sqval.specs.Database.{Database, page, file_page}
 use Rattle.sqjournal.specs.Restored.{all_records, last_content, IsRolledBack}
 use Rattle.sqjournal.proofs.read.UniquenessOfReading.{one_journal}
 
@@ -21,8 +21,3 @@ one_rolled_back file journal d e p q =
     same_pages d e len (λ n least most.
     p.each n least most ∙ ap (λ ss. unwrap_or (last_content (all_records ss) n) (file_page (word journal 24) file n)) segments
     ∙ sym (q.each n least (omega (arith, len, most))))
-
-pub one_file : (size : ℕ) (file : List ℕ) (d e : Database) → IsFile size file d → IsFile size file e → d ≡ e
-one_file size file d e p q =
-    let len : length d ≡ length e = p.count ∙ sym q.count in
-    same_pages d e len (λ n least most. p.each n least most ∙ sym (q.each n least (omega (arith, len, most))))

@@ -222,19 +222,6 @@ kept_waits b piece kept r place from lb ahead short over value is = (
   λ n. let near : place + length piece < r.at + next_len r = short n in simp length-append (omega (arith, near)),
 )
 
--- what was kept and a piece after it, of what is next: still not whole
-pub begun_waits : (b piece begun : List ℕ) (r : Reading) (place : ℕ) → length b ≡ place → Keeps b r begun → 0 < length begun → (IsOver r.next → length begun ≡ 0)
-    → length piece < next_len r - length begun → Waits (b ++ piece) r (begun ++ piece)
-begun_waits b piece begun r place lb keeps some over short = (
-  (
-    λ o. absurd (omega (arith, over o)),
-    λ n. let is : begun ≡ drop r.at b = keeps.1 n in
-        let len : length begun ≡ length b - r.at = ap length is ∙ length-drop r.at b in
-        ap (λ x. x ++ piece) is ∙ sym (drop-append-le r.at b piece (omega (arith, len))),
-  ),
-  λ n. let len : length begun ≡ length b - r.at = ap length (keeps.1 n) ∙ length-drop r.at b in simp length-append (omega (arith, len)),
-)
-
 -- or now whole
 pub begun_next : (b piece begun : List ℕ) (r : Reading) (missing : ℕ) → Keeps b r begun → 0 < length begun → (IsOver r.next → length begun ≡ 0)
     → length begun ≤ next_len r → missing ≡ next_len r - length begun → missing ≤ length piece → IsNext (b ++ piece) r (begun ++ take missing piece)

@@ -1,8 +1,7 @@
 -- A journal that ended at a whole header or record.
-use Rattle.std.proofs.Common.{◌≡◌, ◌⊎◌, inl, inr, ⊎_elim, ℕ, ◌+◌, ◌<◌, ◌≤◌, List, ◌++◌, length, Option, Some, None, refl, sym, ◌∙◌, ap, subst, arith}
+use Rattle.std.proofs.Common.{◌≡◌, ◌⊎◌, inl, inr, ⊎_elim, ℕ, ◌+◌, ◌<◌, ◌≤◌, List, ◌++◌, length, Some, None, refl, sym, ◌∙◌, ap, subst, arith}
 use Rattle.std.proofs.lemmas.Bool.{cases_eq, cases_lt}
 use Rattle.std.proofs.lemmas.Bool.Decides.{nat_tests}
-use Rattle.sqval.specs.Bytes.{word}
 use Rattle.sqjournal.specs.Journal.{Sizes, to_the_end, IsHot, IsWholeAt, IsJournal, entries, sizes_of}
 use Rattle.sqjournal.specs.Reading.{sizes, len_of, IsWholeIfOver, Stands, IsOver, UnlessOver, Waits}
 use Rattle.sqjournal.specs.internal.Reading.{why_at, why_of}

@@ -7,7 +7,7 @@ use Rattle.std.proofs.Math.ListN.{length-append}
 use Rattle.sqval.specs.Bytes.{word}
 use Rattle.sqval.specs.Database.{Pages}
 use Rattle.sqjournal.specs.Header.{HasMagic, next_header}
-use Rattle.sqjournal.specs.Journal.{Segment, Sizes, to_the_end, record_len, IsHeader, IsRecord, AreAll, AreFewer, StopsAtHeader, StopsAtRecord}
+use Rattle.sqjournal.specs.Journal.{Sizes, to_the_end, record_len, IsHeader, IsRecord, AreAll, AreFewer, StopsAtHeader, StopsAtRecord}
 use Rattle.sqjournal.specs.Reading.{Reads, entries_from, HasEntries, Continues}
 use Rattle.sqjournal.specs.declared.reading.Record.{Record}
 use Rattle.sqjournal.specs.declared.reading.Why.{Why}
@@ -40,9 +40,6 @@ continues_more z b piece next from es go more rs ss at why reads =
     (go (piece ++ more) rs ss at why (subst (λ (w : List ℕ). Reads z w next from rs ss at why) joined reads))
 
 -- ---- headers
-
-segment_of : (z : Sizes) (b : List ℕ) (from : ℕ) → Pages → Segment
-segment_of z b from rs = record { count = word b (from + 8); nonce = word b (from + 12); records = rs }
 
 -- a segment without records
 pub header_none : (z : Sizes) (b : List ℕ) (from : ℕ) (es : List Record) → 512 ≤ z.sector → Continues z b NewSegment from es → IsHeader z b from → word b (from + 8) ≡ 0
@@ -98,9 +95,6 @@ stops_one_more z b left nonce at Header h some s = s
 stops_one_more z b left nonce at Short h some s = (λ e. s.0 (⊎_elim (λ p. p.1) (λ n. absurd (n.0 e)) (less_is left h some)), s.1)
 stops_one_more z b left nonce at PageZero h some s = s
 stops_one_more z b left nonce at Sum h some s = s
-
-entry_at : (at page : ℕ) → Record
-entry_at at page = record { page = page; at = at + 4 }
 
 one_more : (z : Sizes) (b : List ℕ) (es rest : List Record) (e : Record) (at : ℕ) (why : Why) → HasEntries z b (es ++ (e ∷ rest)) at why → HasEntries z b ((es ++ e ∷ []) ++ rest) at why
 one_more z b es rest e at why has = subst (λ (l : List Record). HasEntries z b l at why) (sym (append_assoc es (e ∷ []) rest)) has

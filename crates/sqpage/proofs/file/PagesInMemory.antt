@@ -10,8 +10,8 @@ use Rattle.sqpage.specs.Source.{KeepsPages}
 use Rattle.sqpage.specs.internal.Source.{sliced}
 
 -- What is kept twice is kept.
-pub keeps_on : {A : Type 0} {pages : A → Database} {size : A → ℕ} {gives : A → Type 0} {old mid new : A} → KeepsPages pages size gives old mid → KeepsPages pages size gives mid new → KeepsPages pages size gives old new
-keeps_on a b = record { still_gives = λ gives. b.still_gives (a.still_gives gives); same_pages = b.same_pages ∙ a.same_pages; same_size = b.same_size ∙ a.same_size }
+pub keeps_on : {A : Type 0} {pages : A → Database} {size : A → ℕ} {right gives : A → Type 0} {old mid new : A} → KeepsPages pages size right gives old mid → KeepsPages pages size right gives mid new → KeepsPages pages size right gives old new
+keeps_on a b = record { still_right = λ right. b.still_right (a.still_right right); still_gives = λ gives. b.still_gives (a.still_gives gives); same_pages = b.same_pages ∙ a.same_pages; same_size = b.same_size ∙ a.same_size }
 
 pub length-sliced : (size n : ℕ) (b : List ℕ) → length (sliced size n b) ≡ n
 length-sliced size zero b = refl

@@ -1,11 +1,12 @@
 -- What is found of a view, or without one, is found of the files.
-use Rattle.std.proofs.Common.{◌≡◌, ℕ, List, Bool, false, refl, sym, subst, inl, inr}
+use Rattle.std.proofs.Common.{◌≡◌, ◌≢◌, ℕ, List, Bool, false, refl, sym, subst, inl, inr}
 use Rattle.std.specs.Prelude.{IfOk, IfErr, Result, Ok, Err}
 use Rattle.sqval.specs.Database.{Database}
 use Rattle.sqval.specs.Limits.{Bounds}
 use Rattle.sqview.specs.Ahead.{IsUnread}
 use Rattle.sqview.specs.At.{IsShownAtWithin, AtRefusedWithin}
 use Rattle.sqview.specs.internal.Laid.{HoldsPart}
+use Rattle.sqview.specs.Logs.{IsRead}
 use Rattle.sqview.specs.LogView.{IsShownWithin, ViewRefusedWithin, pages_of}
 use Rattle.sqview.specs.Verdicts.{IsVerdictWithin, IsVerdictAtWithin, IsFilesVerdict, IsFilesVerdictAt, IsVerdictWith, IsUnjudged, IsUnjudgedWith, AreUnjudgedWithin, AreUnjudgedAtWithin, verdict_without}
 use Rattle.sqview.specs.declared.judge_error.JudgeError.TheVariants as refusals
@@ -51,10 +52,19 @@ module _ {F : Type 0} (limits : Bounds) (bytes : F → List ℕ) (db wal journal
   unjudged_files_at m (Err refusals.NoSuchCommit) shown refused = absurd refused
   unjudged_files_at m (Err refusal) shown refused = (v.page_size, pages_of bytes v, shown.shows, refused)
 
+-- An error that isn't a failed read says that all was read.
+pub is_read : (A : Type 0) (e : ViewError) → e ≢ Unread → IsRead {A = A} (Err e)
+is_read A TwoLogs other = tt
+is_read A TooLarge other = tt
+is_read A (Header fault) other = tt
+is_read A Unread other = absurd (other refl)
+is_read A NoMemory other = tt
+is_read A NoSuchCommit other = tt
+
 -- without a view
 module _ (limits : Bounds) (db wal journal : List ℕ) where
-  pub found_without : (e : ViewError) → ViewRefusedWithin limits db wal journal e → IfOk (verdict_without e) (IsVerdictWithin limits db wal journal)
-  found_without (Header fault) refused = inr (refl, refused)
+  pub found_without : (e : ViewError) → (e ≢ Unread → ViewRefusedWithin limits db wal journal e) → IfOk (verdict_without e) (IsVerdictWithin limits db wal journal)
+  found_without (Header fault) refused = inr (refl, refused (λ is. cc))
   found_without TwoLogs refused = tt
   found_without TooLarge refused = tt
   found_without Unread refused = tt
@@ -69,8 +79,8 @@ module _ (limits : Bounds) (db wal journal : List ℕ) where
   unjudged_without NoMemory refused = tt
   unjudged_without NoSuchCommit refused = absurd refused
 
-  pub found_without_at : (m : ℕ) (e : ViewError) → AtRefusedWithin limits m db wal journal e → IfOk (verdict_without e) (IsVerdictAtWithin limits m db wal journal)
-  found_without_at m (Header fault) refused = inr (refl, refused)
+  pub found_without_at : (m : ℕ) (e : ViewError) → (e ≢ Unread → AtRefusedWithin limits m db wal journal e) → IfOk (verdict_without e) (IsVerdictAtWithin limits m db wal journal)
+  found_without_at m (Header fault) refused = inr (refl, refused (λ is. cc))
   found_without_at m TwoLogs refused = tt
   found_without_at m TooLarge refused = tt
   found_without_at m Unread refused = tt

@@ -26,7 +26,7 @@ use Rattle.sqpage.specs.Header.{HasMagic, HasPageSize, size_named}
 use Rattle.sqpage.specs.declared.fault.Fault.TheVariants as faults
 use Rattle.sqview.specs.LogView.{head_of, own_pages, IsLogged, IsAlone, IsTooLongWithin, IsAboveWithin, ViewRefusedWithin, pages_of, IsShownWithin, ViewAnswerWithin, ReadsFrom}
 use Rattle.sqview.specs.Logs.{AreTwoLogs, IsRead}
-use Rattle.sqview.specs.Origins.{AreFramePlaces}
+use Rattle.sqview.specs.Origins.{AreFramePlaces, AreJournalPlaces}
 use Rattle.sqview.specs.internal.ViewParts.{ReplayedAnswer, ScannedAnswer, LimitAnswer, IsUnsized, PlacedAnswer}
 use Rattle.sqview.specs.declared.view.View.{View}
 use Rattle.sqview.specs.declared.view_error.ViewError.{ViewError}
@@ -148,6 +148,7 @@ module _ (limits : Bounds) (db wal journal : List ℕ) (alone : IsAlone wal jour
         unplaced = λ _. none;
         placed = λ counts. absurd (counts alone);
         framed = λ some. absurd (omega (arith, zero, some));
+        recorded = λ hot. absurd (alone.cold hot);
       }
 
 -- ---- A hot journal.
@@ -176,8 +177,8 @@ module _ (limits : Bounds) (db journal : List ℕ) (hot : IsHot journal) where
         (⊎_elim (λ x. x.1.cold hot) (λ x. x.0.cold hot)) above.2
 
     pub restored_shown : {F : Type 0} (bytes : F → List ℕ) (v : View F) → LimitAnswer limits.bytes size count (Ok v.count) → v.page_size ≡ word journal 24 → IsRolledBack db journal (pages_of bytes v) → v.front ≡ 0
-        → length v.places.items ≡ v.count → IsShownWithin limits bytes db [] journal v
-    restored_shown bytes v le e is zero long = record {
+        → AreJournalPlaces journal v.count v.places.items → IsShownWithin limits bytes db [] journal v
+    restored_shown bytes v le e is zero places = record {
       shows = inl (hot, e, is, just_one);
       one = just_one;
       short = not_long;
@@ -185,8 +186,9 @@ module _ (limits : Bounds) (db journal : List ℕ) (hot : IsHot journal) where
       headed = λ alone. absurd (alone.cold hot);
       stands = inr (zero, λ m logged. logged.cold hot);
       unplaced = λ alone. absurd (alone.cold hot);
-      placed = λ _. long;
+      placed = λ _. places.long;
       framed = λ some. absurd (omega (arith, zero, some));
+      recorded = λ _. places;
     }
 
 -- ---- A log.
@@ -255,6 +257,7 @@ module _ (limits : Bounds) (db wal journal : List ℕ) (cold : ¬ IsHot journal)
         unplaced = λ alone. absurd (some (front_unique (named_size wal) wal f.frames 0 is.front alone.none));
         placed = λ _. are.long;
         framed = λ _. subst (λ (n : ℕ). AreFramePlaces n wal v.front v.count v.places.items) (sym e) (subst (λ (m : ℕ). AreFramePlaces size wal m v.count v.places.items) (sym stands) are);
+        recorded = λ hot. absurd (cold hot);
       }
 
       pub placed_logged : {F : Type 0} (bytes : F → List ℕ) (q : Result (View F) ViewError) → PlacedAnswer limits.bytes bytes size f.frames f.size db wal q → ViewAnswerWithin limits bytes db wal journal q

@@ -1,9 +1,9 @@
 -- The places of a journal's last records.
-use Rattle.std.proofs.Common.{◌≡◌, ◌≢◌, ◌⊎◌, inl, inr, ⊎_elim, ℕ, ◌+◌, ◌-◌, ◌*◌, ◌/◌, ◌^◌, ◌<◌, ◌≤◌, cond, true, false, List, [], ◌∷◌, ◌++◌, map, length, drop, get_or, refl, sym, ◌∙◌, ap, subst, arith, eq-eqb, ne_eqb, length-append, reverse}
+use Rattle.std.proofs.Common.{◌≡◌, ◌≢◌, ◌⊎◌, inl, inr, ⊎_elim, ℕ, zero, suc, ◌+◌, ◌-◌, ◌*◌, ◌/◌, ◌^◌, ◌<◌, ◌≤◌, cond, true, false, List, [], ◌∷◌, ◌++◌, map, length, drop, get_or, refl, sym, ◌∙◌, ap, subst, arith, eq-eqb, ne_eqb, length-append, reverse}
 use Rattle.std.specs.Prelude.{◌==◌, Some, None, unwrap_or, slice_get}
 use Rattle.std.proofs.lemmas.Bool.{cases_lt, cases_eq}
 use Rattle.std.proofs.lemmas.List.{append-nil, reverse-append, drop_more, drop_all}
-use Rattle.std.proofs.lemmas.Option.{slice_get_within, get_or_from_slice_get, slice_get-get_or}
+use Rattle.std.proofs.lemmas.Option.{none-some, slice_get_within, get_or_from_slice_get, slice_get-get_or}
 use Rattle.std.proofs.Math.Nat.{lt-div-mul-add}
 use Rattle.sqval.specs.Bytes.{part, word}
 use Rattle.sqval.specs.Database.{Pages, file_page, supplied}
@@ -21,6 +21,7 @@ use Rattle.sqjournal.proofs.read.BytesTakenByReplay.{has_entry}
 use Rattle.sqjournal.proofs.read.UniquenessOfReading.{one_journal}
 use Rattle.sqview.specs.Laid.{part_or_zeros, place_of, laid}
 use Rattle.sqview.specs.Logs.{HasRead}
+use Rattle.sqview.specs.Origins.{AreJournalPlaces, IsRecordPlace}
 use Rattle.sqview.specs.internal.ViewParts.{last_place, Noted, AreNoted, AreRecordPlaces}
 use Rattle.sqview.proofs.file.FileHeads.{part_is}
 use Rattle.sqview.proofs.openings.PagesOfView.{length_laid, page_laid, laid_own, laid_log}
@@ -164,6 +165,42 @@ noted_end r i count places b some long are t has = noted_all r (i - 1) count pla
     let ne : (i == 0) ≡ false = ne_eqb i 0 (λ z. omega arith) in
     let none : slice_get es (i - 1) ≡ None = ap (λ l. slice_get l (i - 1)) (same_entries b segments has.segments at has.stop.at why has.stop.why is has.is) ∙ sym (has.value ∙ rw ne refl) in
     ⊎_elim (λ lt. absurd (let d : Record = record { page = 0; at = 0 } in let there : slice_get es (i - 1) ≡ Some (get_or es (i - 1) d) = slice_get-get_or es (i - 1) d lt in cc)) (λ le. le) (cases_lt (i - 1) (length es)))
+
+-- ---- The last record that names a page.
+
+last_named : (es : List Record) (p was : ℕ)
+    → ((last_place es p was ≡ was) × ((i : ℕ) (r : Record) → slice_get es i ≡ Some r → r.page ≢ p))
+    ⊎ ((i : ℕ) × (r : Record) × (slice_get es i ≡ Some r) × (r.page ≡ p) × (last_place es p was ≡ r.at)
+    × ((k : ℕ) (s : Record) → i < k → slice_get es k ≡ Some s → s.page ≢ p))
+last_named [] p was = inl (refl, λ i r there. absurd (none-some r there))
+last_named (e ∷ es) p was = ⊎_elim
+    (λ none. ⊎_elim
+    (λ same. inr (0, e, refl, same, none.0 ∙ ap (λ b. cond b e.at was) (eq-eqb e.page p same), λ k s lt there. behind none.1 k s lt there))
+    (λ ne. inl (none.0 ∙ ap (λ b. cond b e.at was) (ne_eqb e.page p ne), λ i r there. each ne none.1 i r there))
+    (cases_eq e.page p))
+    (λ some. inr (suc some.0, some.1, some.2, some.3, some.4, λ k s lt there. later some.0 some.5 k s lt there))
+    (last_named es p (cond (e.page == p) e.at was))
+  where
+    behind : ((i : ℕ) (r : Record) → slice_get es i ≡ Some r → r.page ≢ p) → (k : ℕ) (s : Record) → 0 < k → slice_get (e ∷ es) k ≡ Some s → s.page ≢ p
+    behind none zero s lt there = absurd (omega (arith, lt))
+    behind none (suc k) s lt there = none k s there
+
+    each : e.page ≢ p → ((i : ℕ) (r : Record) → slice_get es i ≡ Some r → r.page ≢ p) → (i : ℕ) (r : Record) → slice_get (e ∷ es) i ≡ Some r → r.page ≢ p
+    each ne none zero r there = let same : e ≡ r = cc in λ is. ne (ap (λ (x : Record). x.page) same ∙ is)
+    each ne none (suc i) r there = none i r there
+
+    later : (i : ℕ) → ((k : ℕ) (s : Record) → i < k → slice_get es k ≡ Some s → s.page ≢ p) → (k : ℕ) (s : Record) → suc i < k → slice_get (e ∷ es) k ≡ Some s → s.page ≢ p
+    later i none zero s lt there = absurd (omega (arith, lt))
+    later i none (suc k) s lt there = none k s (omega (arith, lt)) there
+
+pub journal_places : (b : List ℕ) (count : ℕ) (places : List ℕ) → AreRecordPlaces b count places → AreJournalPlaces b count places
+journal_places b count places are = record {
+  long = are.long;
+  each = λ records stop says p one le.
+      let here : place_of places p ≡ last_place records p 0 =
+      are.each says.segments stop.at stop.why says.is p one le ∙ ap (λ l. last_place l p 0) says.records in
+      subst (λ (n : ℕ). IsRecordPlace records p n) (sym here) (last_named records p 0);
+}
 
 -- ---- The database.
 

@@ -6,14 +6,6 @@ use Rattle.sqwal.specs.Frames.{IsValidFrame, IsCommit, IsFront}
 use Rattle.sqwal.specs.Commits.{AreCommits}
 use Rattle.sqwal.specs.internal.Commits.{AreCommitsTo}
 
-pub commits_none : (size : ℕ) (w list : List ℕ) → list ≡ [] → AreCommitsTo size w 0 list
-commits_none size w list none = record {
-  rising = λ i j lt in_j. absurd (omega (arith, ap length none));
-  within = λ i in_i. absurd (omega (arith, ap length none));
-  each = λ i in_i. absurd (omega (arith, ap length none));
-  all = λ m le v k. absurd (omega (arith, v.first));
-}
-
 module _ (size : ℕ) (w list : List ℕ) (n : ℕ) (are : AreCommitsTo size w n list) where
   front_is : (i : ℕ) → i < length list → get_or (list ++ (n + 1) ∷ []) i 0 ≡ get_or list i 0
   front_is i lt = get_or_append_left list ((n + 1) ∷ []) 0 i lt

@@ -13,12 +13,9 @@ use Rattle.sqwal.specs.Log.{IsLog}
 use Rattle.sqwal.specs.declared.sum.Order.{Order}
 use Rattle.sqwal.specs.declared.sum.Sum.{Sum}
 use Rattle.sqwal.specs.declared.header.WalHeader.{WalHeader}
-use Rattle.sqwal.proofs.log.DependenceOnPrefix.{frame_at-suc, frame_end-suc, frame_end-zero, frame_at-end, frame_end-head, frame_end-le, word_same, order_same, header_same, summed_same, passes_same}
+use Rattle.sqwal.proofs.log.DependenceOnPrefix.{frame_at-suc, frame_end-suc, frame_at-end, frame_end-head, frame_end-le, word_same, order_same, header_same, summed_same, passes_same}
 use Rattle.sqwal.proofs.log.PartsOfBytes.{drop_to, part_on, word_on, four}
 use Rattle.sqwal.proofs.log.WrittenHeadersAndFrames.{page_pairs}
-
-pub header_log : (w : List ℕ) (h : WalHeader) → IsHeaderOf w h → length w ≡ 32 → IsLog h.page_size w 0
-header_log w h is len = record { header = is.valid; whole = len ∙ sym (frame_end-zero h.page_size); all = λ j a b. absurd (omega arith) }
 
 -- a header's words fit, where it stands in bytes
 pub word_fits : (w : List ℕ) (at : ℕ) → AreBytes w → word w at < 2 ^ 32
@@ -151,8 +148,3 @@ appended h e head content n page size before after header log sums some fit_p fi
       content_is = content_is;
       sum = sum_w;
     }
-
--- the sum of a header, from which the first frame goes on
-pub header_sum : (w : List ℕ) (h : WalHeader) (sum : Sum) → IsHeaderOf w h → sum.s0 ≡ word w 24 → sum.s1 ≡ word w 28 → IsSumOf h.order (summed h.page_size w 0) sum
-unfolding summed
-header_sum w h sum is a b = subst (λ (o : Order). IsSumOf o (part w 0 24) sum) (sym is.order) (record { first = a ∙ is.valid.sums.0; second = b ∙ is.valid.sums.1 })

@@ -1,5 +1,6 @@
 use Rattle.std.proofs.Common.{◌≢◌, false}
 use Rattle.sqpage.specs.declared.fault.Fault.TheVariants as faults
+use Rattle.sqpage.specs.Source.{UnlessUnread}
 use Rattle.sqcheck.specs.Stands.{Stands}
 use Rattle.sqcheck.specs.WellFormed.{WellFormed}
 use Rattle.sqcheck.proofs.checks.ResultsOfCalls.{if_ok, if_err}
@@ -7,10 +8,10 @@ use Rattle.sqcheck.proofs.checks.RefutationOfWellFormedness.{none_stands}
 use Rattle.sqcheck.proofs.checker.check.Goals as goal
 
 pub returns-clause-none : goal.returns-clause-none
-returns-clause-none g c = λ gives.
+returns-clause-none g c = λ right.
     let d = g.S.PageSource.pages c.args.source.now in
     let size = g.S.PageSource.size c.args.source.now in
-    if_err (λ e. Stands d size e.fault e.page) (λ e. e.fault ≢ faults.NoMemory → ¬ WellFormed d size) c.check_snapshot.result (λ e h other w. none_stands false d size w e.fault e.page h other) (c.check_snapshot.ensures.err gives)
+    if_err (λ e. UnlessUnread (g.S.PageSource.gives_pages c.args.source.now) e.fault (Stands d size e.fault e.page)) (λ e. e.fault ≢ faults.Source → e.fault ≢ faults.NoMemory → ¬ WellFormed d size) c.check_snapshot.result (λ e h read other w. none_stands false d size w e.fault e.page (h.1 read) other) (c.check_snapshot.ensures.err right)
 
 pub returns-clause-ok : goal.returns-clause-ok
-returns-clause-ok g c = λ gives. if_ok _ _ c.check_snapshot.result (λ report h. (h.0, h.1)) (c.check_snapshot.ensures.ok gives)
+returns-clause-ok g c = λ right. if_ok _ _ c.check_snapshot.result (λ report h. (h.0, h.1)) (c.check_snapshot.ensures.ok right)

@@ -9,10 +9,10 @@ use Rattle.sqcheck.proofs.checker.first_marks.Goals.{then-maps, else-maps}
 use Rattle.sqcheck.proofs.checker.first_marks.Goals as goal
 
 pub returns-clause-aside : goal.returns-clause-aside
-returns-clause-aside g c = λ judged.
+returns-clause-aside g c = λ right.
     let d = g.V.Snapshot.pages in
     let maps = c.args.maps.now in
-    let known = maps.known judged in
+    let known = maps.known right.0 in
     let set : List Bool = c.set_aside.new.marks in
     let first : Vec Bool Global = with_items c.in_ok-marks.marks set in
     let same : first.items ≡ set = with_items_is c.in_ok-marks.marks set (c.set_aside.ensures.length ∙ c.deref_mut.ensures.len) in
@@ -28,5 +28,5 @@ returns-clause-aside g c = λ judged.
           (maps_marked d w.deref_mut-then-maps.result.now new maps.page_size (maps.page_size - maps.reserved) known.long known.usable (known.auto w.if-maps.true) w.mark_maps.ensures.length old w.mark_maps.ensures.maps)
       | else-maps w ↦
           let items : c.if-maps.marks.items ≡ set = ap (λ (v : Vec Bool Global). v.items) w.marks-is ∙ same in
-          subst (MarksAside d) (sym items) (aside_marked d set maps.page_size known.long (known.plain w.if-maps.false) one)
+          subst (MarksAside d) (sym items) (aside_marked d set maps.page_size known.long (known.plain right.1 w.if-maps.false) one)
     ]

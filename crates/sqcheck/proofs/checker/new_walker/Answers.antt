@@ -14,8 +14,8 @@ invariant_of-result g c =
     }
 
 pub returns-clause-new : goal.returns-clause-new
-returns-clause-new g c = λ judged. record {
-  marks = c.in_ok-marks.ensures.aside judged;
+returns-clause-new g c = λ right. record {
+  marks = c.in_ok-marks.ensures.aside right;
   rows = c.new-2.ensures.items;
   trees = refl;
   btree = refl;

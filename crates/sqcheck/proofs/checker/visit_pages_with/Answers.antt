@@ -1,5 +1,6 @@
 use Rattle.std.proofs.Common.{◌≢◌}
 use Rattle.sqpage.specs.declared.fault.Fault.TheVariants as faults
+use Rattle.sqpage.specs.Source.{UnlessUnread}
 use Rattle.sqcheck.specs.Stands.{StandsWith}
 use Rattle.sqcheck.specs.WellFormed.{WellFormedWith}
 use Rattle.sqcheck.proofs.checks.ResultsOfCalls.{if_err}
@@ -7,7 +8,7 @@ use Rattle.sqcheck.proofs.checks.RefutationOfWellFormedness.{none_stands}
 use Rattle.sqcheck.proofs.checker.visit_pages_with.Goals as goal
 
 pub returns-clause-none : goal.returns-clause-none
-returns-clause-none g c = λ gives.
+returns-clause-none g c = λ right.
     let d = g.S.PageSource.pages c.args.source.now in
     let size = g.S.PageSource.size c.args.source.now in
-    if_err (λ e. StandsWith c.args.options.pointer_maps d size e.fault e.page) (λ e. e.fault ≢ faults.NoMemory → ¬ WellFormedWith c.args.options.pointer_maps d size) c.check_snapshot.result (λ e h other w. none_stands c.args.options.pointer_maps d size w e.fault e.page h other) (c.check_snapshot.ensures.err gives)
+    if_err (λ e. UnlessUnread (g.S.PageSource.gives_pages c.args.source.now) e.fault (StandsWith c.args.options.pointer_maps d size e.fault e.page)) (λ e. e.fault ≢ faults.Source → e.fault ≢ faults.NoMemory → ¬ WellFormedWith c.args.options.pointer_maps d size) c.check_snapshot.result (λ e h read other w. none_stands c.args.options.pointer_maps d size w e.fault e.page (h.1 read) other) (c.check_snapshot.ensures.err right)

@@ -8,13 +8,14 @@ use Rattle.sqcheck.specs.Stands.{StandsBy}
 use Rattle.sqcheck.specs.WellFormed.{IsSound, IsReached}
 use Rattle.sqcheck.specs.internal.Agenda.{StandsNow}
 use Rattle.sqcheck.specs.internal.Schema.{InRowBelow, KeepsFound, AreSchemaRows}
+use Rattle.sqcheck.proofs.checks.EndsOfCheck.{memory_now}
 use Rattle.sqcheck.proofs.checks.ResultsOfCalls.{exits}
 use Rattle.sqcheck.proofs.checks.RowsOfSchema.{keep_nothing, row_more, row_stands}
 use Rattle.sqcheck.proofs.schema.take_rows.Goals as goal
 
 pub rows-init : goal.rows-init
 rows-init g c = record {
-  finds = λ given e. (keep_nothing g.V.Snapshot.pages (InRowBelow g.V.Snapshot.pages c.args.page.now.number 0) c.args.roots.now.items (λ t h. let lt : h.0 < 0 = h.3 in omega arith), λ i x lt row. absurd (omega (arith, lt)));
+  finds = λ right e. (keep_nothing g.V.Snapshot.pages (InRowBelow g.V.Snapshot.pages c.args.page.now.number 0) c.args.roots.now.items (λ t h. let lt : h.0 < 0 = h.3 in omega arith), λ i x lt row. absurd (omega (arith, lt)));
   same = c.requires.same;
 }
 
@@ -27,17 +28,19 @@ row_root-requires-clause-cell g c = record {
 }
 
 pub returns-in_err-root-clause-err : goal.returns-in_err-root-clause-err
-returns-in_err-root-clause-err g c = λ given e w.
+returns-in_err-root-clause-err g c = λ right e w.
     let d = g.V.Snapshot.pages in
     let p : ℕ = c.args.page.now.number in
     let lt : c.rows.i < cell_count c.args.page.now = omega (arith, c.len-i-end.ensures, c.rows-test.true) in
     let is : IsCellAt (page_as d TableLeaf p) c.rows.i c.cell-cell.result = subst (λ b. IsCellAt b c.rows.i c.cell-cell.result) e (lt, c.cell-cell.ensures.cell) in
     let fault = c.in_err-root.field-0.0 in
     let has = w.payloads c.rows.i c.cell-cell.result is in
-    exits (λ e. StandsNow d e.fault e.page) fault c.from_residual.result c.from_residual.ensures.1
-    (λ maps size same asked. ⊎_elim (λ none. subst (λ f. StandsBy (IsReached d) (IsSound d) maps d size f fault.page) (sym none) tt)
-    (λ h. subst (λ f. StandsBy (IsReached d) (IsSound d) maps d size f fault.page) (sym h.0) (subst (StandsBy (IsReached d) (IsSound d) maps d size faults.SchemaRecord) (sym (h.1 ∙ c.cell-cell.ensures.cell.page)) (row_stands d maps size p c.rows.i h.2 c.cell-cell.result w is h.3 h.4)))
-    (c.in_err-root.ensures.err given has.0 has.1))
+    exits (λ e. StandsNow g.V.Snapshot.given d e.fault e.page) fault c.from_residual.result c.from_residual.ensures.1 (
+      c.in_err-root.ensures.source,
+      λ read maps size same asked. ⊎_elim (λ none. subst (λ f. StandsBy (IsReached d) (IsSound d) maps d size f fault.page) (sym none) tt)
+          (λ h. subst (λ f. StandsBy (IsReached d) (IsSound d) maps d size f fault.page) (sym h.0) (subst (StandsBy (IsReached d) (IsSound d) maps d size faults.SchemaRecord) (sym (h.1 ∙ c.cell-cell.ensures.cell.page)) (row_stands d maps size p c.rows.i h.2 c.cell-cell.result w is h.3 h.4)))
+          (c.in_err-root.ensures.err right has.0 has.1 read),
+    )
 
 pub rows-preserved : goal.rows-preserved
 rows-preserved g c =
@@ -45,11 +48,11 @@ rows-preserved g c =
     let p : ℕ = c.args.page.now.number in
     let count = c.count-count.ensures ∙ ap (λ (q : Database). length q) c.requires.same.same_pages in
     record {
-      finds = λ given e.
+      finds = λ right e.
           let lt : c.rows.i < cell_count c.args.page.now = omega (arith, c.len-i-end.ensures, c.rows-test.true) in
           let is : IsCellAt (page_as d TableLeaf p) c.rows.i c.cell-cell.result = subst (λ b. IsCellAt b c.rows.i c.cell-cell.result) e (lt, c.cell-cell.ensures.cell) in
-          let h = c.in_ok-root.ensures.ok given in
-          let f = c.rows.invariant.finds given e in
+          let h = c.in_ok-root.ensures.ok right in
+          let f = c.rows.invariant.finds right e in
           let found = c.in_ok-add_root.ensures in
           row_more d p c.rows.i c.in_ok-root.root h.0 c.cell-cell.result c.args.roots.now.items c.rows.roots.items c.add_root.new.roots.items is h.1 h.2 h.3 found.zero
           (λ more. found.full (subst (λ n. n < length c.rows.roots.items) (sym count) more))
@@ -58,8 +61,15 @@ rows-preserved g c =
     }
 
 pub returns-clause-ok : goal.returns-clause-ok
-returns-clause-ok g c = λ given e.
+returns-clause-ok g c = λ right e.
     let d = g.V.Snapshot.pages in
     let p : ℕ = c.args.page.now.number in
     let all : c.rows.i ≡ cell_count c.args.page.now = omega (arith, c.len-i-end.ensures, c.rows-test.false, c.rows.auto.i-end) in
-    subst (λ n. KeepsFound d (InRowBelow d p n) c.args.roots.now.items c.rows.roots.items × AreSchemaRows d p n) all (c.rows.invariant.finds given e)
+    subst (λ n. KeepsFound d (InRowBelow d p n) c.args.roots.now.items c.rows.roots.items × AreSchemaRows d p n) all (c.rows.invariant.finds right e)
+
+pub returns-in_err-add_root-clause-err : goal.returns-in_err-add_root-clause-err
+returns-in_err-add_root-clause-err g c = λ right e w.
+    let d = g.V.Snapshot.pages in
+    let fault = c.in_err-add_root.field-0.0 in
+    exits (λ e. StandsNow g.V.Snapshot.given d e.fault e.page) fault c.from_residual-in_err-add_root.result c.from_residual-in_err-add_root.ensures.1
+    (memory_now g.V.Snapshot.given d fault.fault fault.page c.in_err-add_root.ensures.err)

@@ -7,6 +7,7 @@ use Rattle.sqval.specs.PageSize.{IsPageSize}
 use Rattle.sqpage.specs.Header.{byte}
 use Rattle.sqpage.specs.Freelist.{usable_size}
 use Rattle.sqpage.proofs.file.PagesInMemory.{least_page_size}
+use Rattle.sqcheck.proofs.checks.ResultsOfCalls.{of_ok}
 use Rattle.sqcheck.proofs.survey.reserved_by_maps.Goals as goal
 
 pub reserved_in-requires : goal.reserved_in-requires
@@ -15,12 +16,12 @@ reserved_in-requires g c =
     omega (arith, least, c.deref.ensures.len, c.in-Ok.ensures.len, c.get.ensures.value, c.page.auto.out, c.deref_mut.ensures.len)
 
 pub returns-clause-known : goal.returns-clause-known
-returns-clause-known g c = λ gives asked one auto.
+returns-clause-known g c = λ right asked one auto.
     let d = g.S.PageSource.pages c.args.source.now in
-    let read = c.page.ensures.read gives in
-    let first : c.deref.result.now ≡ page d 1 = c.deref.ensures.value ∙ with_items_is c.in-Ok.bytes c.page.new.out (c.page.auto.out ∙ c.deref_mut.ensures.len) ∙ read.1 in
+    let read = of_ok _ c.page.result c.is_err.result c.is_err.ensures.value c.if-is_err.false (c.page.ensures.read right) in
+    let first : c.deref.result.now ≡ page d 1 = c.deref.ensures.value ∙ with_items_is c.in-Ok.bytes c.page.new.out (c.page.auto.out ∙ c.deref_mut.ensures.len) ∙ read.0 in
     let said : c.reserved_in.result ≡ Some (byte (page d 1) 20) =
-    c.reserved_in.ensures (subst (λ (l : List ℕ). word l 52 ≢ 0) (sym first) auto) ∙ ap (λ (l : List ℕ). Some (byte l 20)) first in
+    c.reserved_in.ensures.some (subst (λ (l : List ℕ). word l 52 ≢ 0) (sym first) auto) ∙ ap (λ (l : List ℕ). Some (byte l 20)) first in
     let long : length (page d 1) ≡ g.S.PageSource.size c.args.source.now =
-    ap (λ (l : List ℕ). length l) (sym read.1) ∙ c.page.auto.out ∙ c.deref_mut.ensures.len ∙ c.in-Ok.ensures.len ∙ c.get.ensures.value ∙ c.page_size.ensures in
+    ap (λ (l : List ℕ). length l) (sym read.0) ∙ c.page.auto.out ∙ c.deref_mut.ensures.len ∙ c.in-Ok.ensures.len ∙ c.get.ensures.value ∙ c.page_size.ensures in
     (byte (page d 1) 20, said, ap (λ n. n - byte (page d 1) 20) (sym long))

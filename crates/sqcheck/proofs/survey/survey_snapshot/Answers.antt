@@ -1,12 +1,21 @@
-use Rattle.std.proofs.Common.{◌∙◌, length, sym, ap, subst, arith}
-use Rattle.sqval.specs.Database.{Database}
+use Rattle.std.proofs.Common.{◌≡◌, ◌∙◌, ◌-◌, ℕ, List, refl, length, sym, ap, subst, arith}
+use Rattle.std.proofs.lemmas.List.{with_items_is}
+use Rattle.sqval.specs.Bytes.{word}
+use Rattle.sqval.specs.Database.{Database, page}
+use Rattle.sqpage.specs.Lists.{Every}
+use Rattle.sqcheck.specs.declared.role.Role.{Role}
+use Rattle.sqcheck.specs.declared.chart.Chart.{Chart}
+use Rattle.sqcheck.specs.WellFormed.{HasSoundHeader}
+use Rattle.sqcheck.specs.internal.Found.{AreToldFound, TellsFound, IsHeaderNamed, HasFound, IsLeafFound, IsSurveyed}
+use Rattle.sqcheck.proofs.visit.FaultsFound.{chart_begun, surveyed, told_more}
 use Rattle.sqval.specs.PageSize.{IsPageSize}
 use Rattle.sqpage.proofs.file.PagesInMemory.{least_page_size}
-use Rattle.sqcheck.proofs.checks.EndsOfCheck.{none_used}
+use Rattle.sqpage.specs.Header.{byte}
+use Rattle.sqcheck.proofs.checks.EndsOfCheck.{none_used, first_sized}
 use Rattle.sqcheck.proofs.survey.survey_snapshot.Goals as goal
 
 pub returns-then-count-eq0-clause-not : goal.returns-then-count-eq0-clause-not
-returns-then-count-eq0-clause-not g c = λ given is.
+returns-then-count-eq0-clause-not g c = λ right is.
     none_used g.V.Snapshot.pages (sym (ap (λ (q : Database). length q) c.requires.same.0) ∙ sym c.count-count.ensures ∙ c.if-count-eq0.true)
 
 pub start_in-requires-clause-large : goal.start_in-requires-clause-large
@@ -14,5 +23,49 @@ start_in-requires-clause-large g c =
     let least = least_page_size c.page_size-size.result (subst IsPageSize c.get.ensures.value c.get.ensures.valid) in
     omega (arith, least, c.deref.ensures.len, c.in-Ok.ensures.len, c.get.ensures.value, c.read_page.auto.out, c.deref_mut.ensures.len)
 
-pub judge_header-requires-clause-large : goal.judge_header-requires-clause-large
-judge_header-requires-clause-large g c = least_page_size c.page_size-size.result (subst IsPageSize c.get.ensures.value c.get.ensures.valid)
+pub survey_header-requires-clause-large : goal.survey_header-requires-clause-large
+survey_header-requires-clause-large g c = least_page_size c.page_size-size.result (subst IsPageSize c.get.ensures.value c.get.ensures.valid)
+
+pub returns-clause-found : goal.returns-clause-found
+returns-clause-found g c = λ right long is.
+    let d = g.V.Snapshot.pages in
+    let maps = g.V.Snapshot.maps in
+    let size = g.V.Snapshot.size in
+    let begun : Chart = c.survey_header.new.chart in
+    let all : Chart = c.survey_all.new.chart in
+    let new : Chart = c.tell_unused.new.self in
+    let read = c.in_ok-read_page.ensures.read right in
+    let first : c.deref.result.now ≡ page d 1 = c.deref.ensures.value ∙ with_items_is c.in-Ok.bytes c.read_page.new.out (c.read_page.auto.out ∙ c.deref_mut.ensures.len) ∙ read.0 in
+    let second : c.deref-2.result.now ≡ page d 1 = c.deref-2.ensures.value ∙ with_items_is c.in-Ok.bytes c.read_page.new.out (c.read_page.auto.out ∙ c.deref_mut.ensures.len) ∙ read.0 in
+    let sized : c.page_size-size.result ≡ size = c.page_size-size.ensures ∙ c.requires.same.1 in
+    let tells : TellsFound maps d size c.args.chart.now.faults.items begun.faults.items =
+    subst (λ m. TellsFound m d size c.args.chart.now.faults.items begun.faults.items) (sym c.requires.maps) (subst (λ n. TellsFound c.args.options.pointer_maps d n c.args.chart.now.faults.items begun.faults.items) sized (c.in_ok-survey_header.ensures.tells d second)) in
+    let header : (¬ HasSoundHeader maps d size) → IsHeaderNamed begun.faults.items =
+    subst (λ m. (¬ HasSoundHeader m d size) → IsHeaderNamed begun.faults.items) (sym c.requires.maps) (subst (λ n. (¬ HasSoundHeader c.args.options.pointer_maps d n) → IsHeaderNamed begun.faults.items) sized (c.in_ok-survey_header.ensures.header d second)) in
+    let told = told_more maps d size c.args.chart.now.faults.items begun.faults.items tells (subst (AreToldFound maps d size) (sym c.requires.none) tt) in
+    let same : begun.roles.items ≡ c.args.chart.now.roles.items = c.survey_header.ensures.same in
+    let has : HasFound maps d size begun c.in-Ok-new_walker.walker.walk begun = record {
+      leaves = subst (Every (IsLeafFound d)) (sym c.in-Ok-new_walker.ensures.empty.1) tt;
+      found = chart_begun maps d size begun (ap (λ (l : List Role). length l) same ∙ long) told;
+    } in
+    let walked = c.in_ok-survey_all.ensures.found right begun (c.in-Some.ensures.first ∙ ap (λ (l : List ℕ). word l 32) first) has in
+    let done = surveyed maps d size all.roles.items walked.found.charted.long begun all new walked.found refl c.in_ok-tell_unused.ensures.down header in
+    subst (λ l. IsSurveyed maps d size l new.roles.items new.faults.items) same (subst (λ l. IsSurveyed maps d size begun.roles.items l new.faults.items) (sym c.tell_unused.ensures.same) done)
+
+pub new-requires-clause-known : goal.new-requires-clause-known
+new-requires-clause-known g c = λ right.
+    let d = g.V.Snapshot.pages in
+    let read = c.in_ok-read_page.ensures.read right in
+    let first : c.deref.result.now ≡ page d 1 = c.deref.ensures.value ∙ with_items_is c.in-Ok.bytes c.read_page.new.out (c.read_page.auto.out ∙ c.deref_mut.ensures.len) ∙ read.0 in
+    let sized : c.page_size-size.result ≡ g.V.Snapshot.size = c.page_size-size.ensures ∙ c.requires.same.1 in
+    let long : length (page d 1) ≡ g.V.Snapshot.size = first_sized d g.V.Snapshot.size c.count-count.result (c.count-count.ensures ∙ ap (λ (q : Database). length q) c.requires.same.0) c.if-count-eq0.false read.1 in
+    let reserved = c.in-Some.ensures.maps.0 ∙ ap (λ (l : List ℕ). byte l 20) first in
+    record {
+      long = long ∙ sym sized;
+      usable = ap (λ n. n - byte (page d 1) 20) (long ∙ sym sized) ∙ ap (λ n. c.page_size-size.result - n) (sym reserved);
+      auto = λ used none. (c.has_maps-used.ensures used).1 (c.in-Some.ensures.maps.1 ∙ ap (λ (l : List ℕ). word l 52) first ∙ none);
+      plain = λ was unused. absurd (c.requires.unjudged was);
+    }
+
+pub new-requires-clause-asked : goal.new-requires-clause-asked
+new-requires-clause-asked g c = λ used. c.requires.maps ∙ (c.has_maps-used.ensures used).0

@@ -14,19 +14,21 @@ trunks-init g c =
       taken = c.in_ok-found.ensures.taken;
       kept = c.read_page.ensures.keeps;
       marks = c.in_ok-found.ensures.marks ∙ c.count.ensures;
-      reaches = λ gives.
-          let first : c.word_at-trunk.result ≡ first_trunk d = c.word_at-trunk.ensures ∙ ap (λ b. word b 32) (c.read_page.ensures.read gives).1 in
+      reaches = λ right.
+          let first : c.word_at-trunk.result ≡ first_trunk d = c.word_at-trunk.ensures ∙ ap (λ b. word b 32) (c.in_ok-read_page.ensures.read right) in
           subst (λ ps. Reaches d ps 1 c.word_at-trunk.result) (sym c.in_ok-found.ensures.none) (subst (Reaches d [] 1) (sym first) (reach_start d));
     }
 
 pub returns-in_err-next-clause-err : goal.returns-in_err-next-clause-err
-returns-in_err-next-clause-err g c = λ gives.
+returns-in_err-next-clause-err g c = λ right.
     let d = g.S.PageSource.pages c.args.source.now in
     let i = c.trunks.invariant in
-    let used = ap (λ r. length c.read_page.new.out - r) c.from.ensures ∙ ap (λ (b : List ℕ). length b - byte b 20) (c.read_page.ensures.read gives).1 in
+    let used = ap (λ r. length c.read_page.new.out - r) c.from.ensures ∙ ap (λ (b : List ℕ). length b - byte b 20) (c.in_ok-read_page.ensures.read right) in
     let used' = used ∙ sym (ap usable_size i.kept.same_pages) in
     let p = err_from_is_err_and c.from_residual-in_err-next.result c.from_residual-in_err-next.ensures.1 in
-    rw (p.1, p.2) (refused_at d (g.S.PageSource.pages c.trunks.source) _ c.trunks.holder c.trunks.trunk _ _ i.kept.same_pages (i.reaches gives) c.trunks-test.true (c.in_err-next.ensures.err (i.kept.still_gives gives) used'))
+    let refused = c.in_err-next.ensures.err (i.kept.still_right right) used' in
+    rw (p.1, p.2)
+    (λ is gives. refused.0 is (i.kept.still_gives gives), λ other. refused_at d (g.S.PageSource.pages c.trunks.source) _ c.trunks.holder c.trunks.trunk _ _ i.kept.same_pages (i.reaches right) c.trunks-test.true (refused.1 other))
 
 pub trunks-preserved : goal.trunks-preserved
 trunks-preserved g c =
@@ -37,9 +39,9 @@ trunks-preserved g c =
       taken = e.taken.0;
       kept = keeps_on i.kept e.keeps;
       marks = e.taken.1 ∙ i.marks;
-      reaches = λ gives.
-          let used = ap (λ r. length c.read_page.new.out - r) c.from.ensures ∙ ap (λ (b : List ℕ). length b - byte b 20) (c.read_page.ensures.read gives).1 in
+      reaches = λ right.
+          let used = ap (λ r. length c.read_page.new.out - r) c.from.ensures ∙ ap (λ (b : List ℕ). length b - byte b 20) (c.in_ok-read_page.ensures.read right) in
           let used' = used ∙ sym (ap usable_size i.kept.same_pages) in
-          walked_on d (g.S.PageSource.pages c.trunks.source) _ _ _ c.trunks.holder c.trunks.trunk c.in_ok-next.next i.kept.same_pages (i.reaches gives)
-          (e.ok (i.kept.still_gives gives) used') e.taken.0 (e.taken.1 ∙ i.marks);
+          walked_on d (g.S.PageSource.pages c.trunks.source) _ _ _ c.trunks.holder c.trunks.trunk c.in_ok-next.next i.kept.same_pages (i.reaches right)
+          (e.ok (i.kept.still_right right) used') e.taken.0 (e.taken.1 ∙ i.marks);
     }

@@ -29,34 +29,37 @@ links-preserved g c =
         | else-is_power_of_two w ↦ kept_on i.pages c.links.kept c.if-is_power_of_two.kept c.links.next (inr w.kept-is) i.kept_is
       ];
       kept = keeps_on i.kept e.keeps;
-      linked = λ gives. let ok = e.ok (i.kept.still_gives gives) in linked_on d (g.S.PageSource.pages c.links.source) c.args.cell.now i.pages c.links.at c.links.next c.in_ok-following.following i.kept.same_pages (subst (λ d. IsPage d c.links.next) i.kept.same_pages ok.0) ok.1 (i.linked gives);
-      content = λ gives. content_on d (g.S.PageSource.pages c.links.source) c.args.cell.now.usable i.pages c.links.next c.args.out.now.items _ _ i.kept.same_pages (i.content gives) (e.ok (i.kept.still_gives gives)).2;
+      linked = λ right. let ok = e.ok (i.kept.still_right right) in linked_on d (g.S.PageSource.pages c.links.source) c.args.cell.now i.pages c.links.at c.links.next c.in_ok-following.following i.kept.same_pages (subst (λ d. IsPage d c.links.next) i.kept.same_pages ok.0) ok.1 (i.linked right);
+      content = λ right. content_on d (g.S.PageSource.pages c.links.source) c.args.cell.now.usable i.pages c.links.next c.args.out.now.items _ _ i.kept.same_pages (i.content right) (e.ok (i.kept.still_right right)).2;
       appended = (i.appended.0 ++ e.appended.0, e.appended.1 ∙ ap (λ l. l ++ e.appended.0) i.appended.1 ∙ append_assoc c.args.out.now.items i.appended.0 e.appended.0);
     }
 
 pub returns-then-next-eq0-clause-err : goal.returns-then-next-eq0-clause-err
-returns-then-next-eq0-clause-err g c = λ gives.
+returns-then-next-eq0-clause-err g c = λ right.
     let i = c.links.invariant in
     let few : length i.pages < links c.args.cell.now = omega (arith, i.count, c.requires.needed, c.links-test.true) in
-    (i.pages, ends (g.S.PageSource.pages c.args.source.now) c.args.cell.now i.pages c.links.at c.links.next c.if-next-eq0.true (i.linked gives), few)
+    (λ is. absurd cc, λ other. (i.pages, ends (g.S.PageSource.pages c.args.source.now) c.args.cell.now i.pages c.links.at c.links.next c.if-next-eq0.true (i.linked right), few))
 
 pub returns-in_err-following-clause-err : goal.returns-in_err-following-clause-err
-returns-in_err-following-clause-err g c = λ gives.
+returns-in_err-following-clause-err g c = λ right.
     let i = c.links.invariant in
     let few : length i.pages < links c.args.cell.now = omega (arith, i.count, c.requires.needed, c.links-test.true) in
     let p = err_from_is_err_and c.from_residual.result c.from_residual.ensures.1 in
-    rw (p.1, p.2)
-    (link_refused (g.S.PageSource.pages c.args.source.now) (g.S.PageSource.pages c.links.source) c.args.cell.now i.pages c.links.at c.links.next _ _ i.kept.same_pages (i.linked gives) few c.if-next-eq0.false (c.in_err-following.ensures.err (i.kept.still_gives gives)))
+    let refused = c.in_err-following.ensures.err (i.kept.still_right right) in
+    rw (p.1, p.2) (
+      λ is gives. refused.0 is (i.kept.still_gives gives),
+      λ other. link_refused (g.S.PageSource.pages c.args.source.now) (g.S.PageSource.pages c.links.source) c.args.cell.now i.pages c.links.at c.links.next _ _ i.kept.same_pages (i.linked right) few c.if-next-eq0.false (refused.1 other),
+    )
 
 pub returns-clause-ok : goal.returns-clause-ok
-returns-clause-ok g c = λ gives.
+returns-clause-ok g c = λ right.
     let i = c.links.invariant in (
       λ whole. record {
         pages = i.pages;
         last = c.links.at;
         enough = omega (arith, i.count, c.requires.needed, c.links-test.false);
-        follows = ends (g.S.PageSource.pages c.args.source.now) c.args.cell.now i.pages c.links.at c.links.next c.if-next-ne0.false (i.linked gives);
-        appended = i.content gives;
+        follows = ends (g.S.PageSource.pages c.args.source.now) c.args.cell.now i.pages c.links.at c.links.next c.if-next-ne0.false (i.linked right);
+        appended = i.content right;
       },
       λ goes_on. absurd (cc),
     )

@@ -12,9 +12,9 @@ invariant-links g l =
       pages : List ℕ;
       count : length pages + l.left ≡ l.needed;
       kept_is : l.kept ≢ 0 → In l.kept pages;
-      kept : KeepsPages g.S.PageSource.pages g.S.PageSource.size g.S.PageSource.gives_pages l.fn.source l.source;
-      linked : g.S.PageSource.gives_pages l.fn.source → Leads d l.cell.page l.cell.overflow pages l.at l.next;
-      content : g.S.PageSource.gives_pages l.fn.source → l.out.items ≡ l.fn.out.items ++ contents d l.cell.usable pages;
+      kept : KeepsPages g.S.PageSource.pages g.S.PageSource.size g.S.PageSource.reads_right g.S.PageSource.gives_pages l.fn.source l.source;
+      linked : g.S.PageSource.reads_right l.fn.source → Leads d l.cell.page l.cell.overflow pages l.at l.next;
+      content : g.S.PageSource.reads_right l.fn.source → l.out.items ≡ l.fn.out.items ++ contents d l.cell.usable pages;
       appended : (more : List ℕ) × (l.out.items ≡ l.fn.out.items ++ more);
     }
 

@@ -18,5 +18,5 @@ links-preserved g c =
       taken = takes _ _ i.pages c.links.next i.taken m;
       marks = length_marked _ _ c.links.next m ∙ i.marks;
       kept = keeps_on i.kept r.keeps;
-      linked = λ gives. linked_on d (g.S.PageSource.pages c.links.source) c.args.cell.now i.pages c.links.at c.links.next c.word_at-next.result i.kept.same_pages (m.above, subst (λ n. c.links.next ≤ n) i.marks m.within) (c.word_at-next.ensures ∙ ap next_in (r.read (i.kept.still_gives gives)).1) (i.linked gives);
+      linked = λ right. linked_on d (g.S.PageSource.pages c.links.source) c.args.cell.now i.pages c.links.at c.links.next c.word_at-next.result i.kept.same_pages (m.above, subst (λ n. c.links.next ≤ n) i.marks m.within) (c.word_at-next.ensures ∙ ap next_in (r.read (i.kept.still_right right))) (i.linked right);
     }

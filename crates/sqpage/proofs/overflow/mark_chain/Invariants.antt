@@ -12,8 +12,8 @@ invariant-links g l =
       count : length pages + l.left ≡ l.needed;
       taken : AreTaken l.taken.marks.items pages;
       marks : length l.taken.marks.items ≡ length d;
-      kept : KeepsPages g.S.PageSource.pages g.S.PageSource.size g.S.PageSource.gives_pages l.fn.source l.source;
-      linked : g.S.PageSource.gives_pages l.fn.source → Leads d l.cell.page l.cell.overflow pages l.at l.next;
+      kept : KeepsPages g.S.PageSource.pages g.S.PageSource.size g.S.PageSource.reads_right g.S.PageSource.gives_pages l.fn.source l.source;
+      linked : g.S.PageSource.reads_right l.fn.source → Leads d l.cell.page l.cell.overflow pages l.at l.next;
     }
 
 abbrev pub decreases-links : goal.decreases-links

@@ -5,12 +5,12 @@ use Rattle.sqview.proofs.judgments.VerdictOnFiles.{along, gives_unread}
 use Rattle.sqview.proofs.verdict.judge_within.Goals as goal
 
 pub returns-clause-found : goal.returns-clause-found
-returns-clause-found g c = λ gives.
+returns-clause-found g c = λ right.
     let bytes = g.F.FileBytes.bytes in
-    let given = g.F.FileBytes.gives_bytes in
+    let given = g.F.FileBytes.reads_right in
     along (λ db wal journal. IfOk c.judge_files.result (IsVerdictWithin c.args.limits db wal journal)) _ _ _ _ _ _
     (ap bytes c.in_ok-db.ensures.same) (ap bytes c.in_ok-wal.ensures.same) (ap bytes c.in_ok-journal.ensures.same)
-    (c.judge_files.ensures.found (gives_unread bytes given c.args.db _ c.in_ok-db.db c.in_ok-db.ensures gives.0, gives_unread bytes given c.args.wal _ c.in_ok-wal.wal c.in_ok-wal.ensures gives.1, gives_unread bytes given c.args.journal _ c.in_ok-journal.journal c.in_ok-journal.ensures gives.2))
+    (c.judge_files.ensures.found (gives_unread bytes given c.args.db _ c.in_ok-db.db c.in_ok-db.ensures right.0, gives_unread bytes given c.args.wal _ c.in_ok-wal.wal c.in_ok-wal.ensures right.1, gives_unread bytes given c.args.journal _ c.in_ok-journal.journal c.in_ok-journal.ensures right.2))
 
 pub returns-clause-refused : goal.returns-clause-refused
 returns-clause-refused g c = λ gives.

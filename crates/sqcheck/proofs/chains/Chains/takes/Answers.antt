@@ -3,6 +3,7 @@ use Rattle.sqval.specs.Database.{Database}
 use Rattle.sqpage.specs.Freelist.{next_in}
 use Rattle.sqpage.proofs.file.PagesInMemory.{keeps_on}
 use Rattle.sqpage.proofs.chain.OverflowChains.{linked_on, length_snoc}
+use Rattle.sqcheck.proofs.checks.ResultsOfCalls.{of_ok}
 use Rattle.sqcheck.proofs.checks.TakenChains.{taking_none, taking_more, chain_taken}
 use Rattle.sqcheck.proofs.chains.Chains.takes.Goals as goal
 
@@ -12,9 +13,9 @@ links-init g c = let needed = c.links_of-left.ensures in record {
   taking = taking_none c.args.roles.now c.args.cell.now.page c.args.self.now.taken.items;
   count = omega (arith, needed);
   room = refl;
-  kept = record { still_gives = λ gives. gives; same_pages = refl; same_size = refl };
+  kept = record { still_right = λ right. right; still_gives = λ gives. gives; same_pages = refl; same_size = refl };
   at = c.args.cell.now.page;
-  linked = λ gives. (refl, refl);
+  linked = λ right. (refl, refl);
 }
 
 pub links-preserved : goal.links-preserved
@@ -33,12 +34,12 @@ links-preserved g c =
       room = c.page.auto.out ∙ i.room;
       kept = keeps_on i.kept read.keeps;
       at = p;
-      linked = λ gives. linked_on d (g.S.PageSource.pages c.links.source) c.args.cell.now i.pages i.at p c.word_at-next.result i.kept.same_pages
+      linked = λ right. linked_on d (g.S.PageSource.pages c.links.source) c.args.cell.now i.pages i.at p c.word_at-next.result i.kept.same_pages
           (took.above, (let few : p ≤ c.count.result = c.if-next-count.false in let count = c.count.ensures ∙ ap (λ (q : Database). length q) i.kept.same_pages in omega (arith, few, count)))
-          (c.word_at-next.ensures ∙ ap next_in (read.read (i.kept.still_gives gives)).1) (i.linked gives);
+          (c.word_at-next.ensures ∙ ap next_in (of_ok _ c.page.result c.is_err.result c.is_err.ensures.value c.if-is_err.false (read.read (i.kept.still_right right))).0) (i.linked right);
     }
 
 pub returns-clause-own : goal.returns-clause-own
-returns-clause-own g c = λ gives yes.
+returns-clause-own g c = λ right yes.
     let i = c.links.invariant in
-    chain_taken (g.S.PageSource.pages c.args.source.now) c.args.roles.now c.args.cell.now c.args.self.now.taken.items c.links.self.taken.items i.pages c.links.left i.at c.links.next i.taking i.count (omega (arith, c.links-test.false)) (i.linked gives)
+    chain_taken (g.S.PageSource.pages c.args.source.now) c.args.roles.now c.args.cell.now c.args.self.now.taken.items c.links.self.taken.items i.pages c.links.left i.at c.links.next i.taking i.count (omega (arith, c.links-test.false)) (i.linked right)

@@ -6,18 +6,18 @@ use Rattle.sqcheck.proofs.checks.PointerMapEntries.{entry_once, same_entry, entr
 use Rattle.sqcheck.proofs.maps.Maps.judge.Goals as goal
 
 pub returns-in_default-clause-ok : goal.returns-in_default-clause-ok
-returns-in_default-clause-ok g c = λ given auto entry at.
+returns-in_default-clause-ok g c = λ right auto entry at.
     let s = c.args.self.now in
-    let known = s.known given.1 in
+    let known = s.known right.0 in
     absurd (c.in_default.ensures entry (entry_by g.V.Snapshot.pages c.args.item s.page_size (s.page_size - s.reserved) entry known.long known.usable at))
 
 pub returns-clause-ok : goal.returns-clause-ok
-returns-clause-ok g c = λ given auto entry at.
+returns-clause-ok g c = λ right auto entry at.
     let d = g.V.Snapshot.pages in
     let s = c.args.self.now in
-    let known = s.known given.1 in
+    let known = s.known right.0 in
     let place = c.in-Some.field-0 in
-    let bytes = c.deref.ensures.value ∙ (c.in_ok-read.ensures.read given.0).1 in
+    let bytes = c.deref.ensures.value ∙ c.in_ok-read.ensures.read right.0 in
     let says = c.says.ensures.0 c.if-not-says.false in
     same_entry d c.args.item place entry
     (entry_once s.page_size (s.page_size - s.reserved) c.args.item.page place entry c.in-Some.ensures (entry_by d c.args.item s.page_size (s.page_size - s.reserved) entry known.long known.usable at))

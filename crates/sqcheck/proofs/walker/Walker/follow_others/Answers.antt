@@ -40,30 +40,30 @@ pages_of d size usable visited uses walk rows e used least most sized w =
     subst (Every (IsRowsPage d)) (sym e) (rows_pages d uses.marks.items visited walk.rows.items uses.counts least' (is_long d size (usable_size d) (omega (arith, used, most)) sized) w)
 
 pub returns-in_err-roots-clause-err : goal.returns-in_err-roots-clause-err
-returns-in_err-roots-clause-err g c = λ given sized visited w.
+returns-in_err-roots-clause-err g c = λ right sized visited w.
     let d = g.V.Snapshot.pages in
     let s = c.args.self.now in
     let e = c.in_err-roots.field-0.0 in
-    exits (λ e. StandsNow d e.fault e.page) e c.from_residual.result c.from_residual.ensures.1
-    (c.in_err-roots.ensures.err given.0 (pages_of d g.V.Snapshot.size s.reader.usable visited s.uses s.walk c.deref.result.now c.deref.ensures.value (s.reader.used given.0) s.reader.least s.reader.most sized w))
+    exits (λ e. StandsNow g.V.Snapshot.given d e.fault e.page) e c.from_residual.result c.from_residual.ensures.1
+    (c.in_err-roots.ensures.err right.0 (pages_of d g.V.Snapshot.size s.reader.usable visited s.uses s.walk c.deref.result.now c.deref.ensures.value (s.reader.used right.0) s.reader.least s.reader.most sized w))
 
 pub returns-clause-ok : goal.returns-clause-ok
-returns-clause-ok g c = λ given sized visited w.
+returns-clause-ok g c = λ right sized visited w.
     let d = g.V.Snapshot.pages in
     let s = c.args.self.now in
     let n : ℕ = suc (length d) in
-    let pages = pages_of d g.V.Snapshot.size s.reader.usable visited s.uses s.walk c.deref.result.now c.deref.ensures.value (s.reader.used given.0) s.reader.least s.reader.most sized w in
-    let k = kept_of d visited s.uses s.walk c.deref.result.now _ c.deref.ensures.value w (c.in_ok-roots.ensures.ok given.0 pages (subst Apart (sym c.deref.ensures.value) w.rows.distinct)) in
+    let pages = pages_of d g.V.Snapshot.size s.reader.usable visited s.uses s.walk c.deref.result.now c.deref.ensures.value (s.reader.used right.0) s.reader.least s.reader.most sized w in
+    let k = kept_of d visited s.uses s.walk c.deref.result.now _ c.deref.ensures.value w (c.in_ok-roots.ensures.ok right.0 pages (subst Apart (sym c.deref.ensures.value) w.rows.distinct)) in
     let f = c.follow_roots.new.self in
     on_ok _ _ c.follow_roots.result
     (λ done. (done.0, none_left d s.uses.marks.items f.uses.marks.items visited (visited ++ done.0) s.walk.rows.items f.walk.rows.items s.uses.counts f.uses.counts k.all w k.found done.1, done.2))
-    (c.follow_roots.ensures.ok given visited (take n k.found.spots) (drop n k.found.spots) k.parts (subst (λ l. RootsMatch d l (take n k.found.spots)) (sym c.deref-2.ensures.value) k.match))
+    (c.follow_roots.ensures.ok right visited (take n k.found.spots) (drop n k.found.spots) k.parts (subst (λ l. RootsMatch d l (take n k.found.spots)) (sym c.deref-2.ensures.value) k.match))
 
 pub returns-clause-err : goal.returns-clause-err
-returns-clause-err g c = λ given sized visited w.
+returns-clause-err g c = λ right sized visited w.
     let d = g.V.Snapshot.pages in
     let s = c.args.self.now in
     let n : ℕ = suc (length d) in
-    let pages = pages_of d g.V.Snapshot.size s.reader.usable visited s.uses s.walk c.deref.result.now c.deref.ensures.value (s.reader.used given.0) s.reader.least s.reader.most sized w in
-    let k = kept_of d visited s.uses s.walk c.deref.result.now _ c.deref.ensures.value w (c.in_ok-roots.ensures.ok given.0 pages (subst Apart (sym c.deref.ensures.value) w.rows.distinct)) in
-    c.follow_roots.ensures.err given visited (take n k.found.spots) (drop n k.found.spots) k.parts (subst (λ l. RootsMatch d l (take n k.found.spots)) (sym c.deref-2.ensures.value) k.match)
+    let pages = pages_of d g.V.Snapshot.size s.reader.usable visited s.uses s.walk c.deref.result.now c.deref.ensures.value (s.reader.used right.0) s.reader.least s.reader.most sized w in
+    let k = kept_of d visited s.uses s.walk c.deref.result.now _ c.deref.ensures.value w (c.in_ok-roots.ensures.ok right.0 pages (subst Apart (sym c.deref.ensures.value) w.rows.distinct)) in
+    c.follow_roots.ensures.err right visited (take n k.found.spots) (drop n k.found.spots) k.parts (subst (λ l. RootsMatch d l (take n k.found.spots)) (sym c.deref-2.ensures.value) k.match)

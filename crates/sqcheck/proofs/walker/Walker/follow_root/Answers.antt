@@ -3,9 +3,11 @@ use Rattle.sqval.specs.Database.{Database}
 use Rattle.sqcheck.specs.declared.item.Task.TheVariants as tasks
 use Rattle.sqcheck.specs.declared.schema.Root.{Root}
 use Rattle.sqcheck.specs.Places.{Spot, node, names_table, root_of_tree}
+use Rattle.sqcheck.specs.internal.Agenda.{StandsNow}
 use Rattle.sqcheck.specs.internal.Schema.{IsRootAt}
 use Rattle.sqcheck.specs.WellFormed.{kind_named}
 use Rattle.sqcheck.specs.internal.Walking.{IsItemOf}
+use Rattle.sqcheck.proofs.checks.ResultsOfCalls.{exits}
 use Rattle.sqcheck.proofs.walker.Walker.follow_root.Goals as goal
 
 -- the item of a root's tree
@@ -20,9 +22,15 @@ item_of d root s table is e = record {
 }
 
 pub returns-clause-ok : goal.returns-clause-ok
-returns-clause-ok g c = λ given visited rest s w is.
-    c.follow_from.ensures.ok given true visited rest s w (item_of g.V.Snapshot.pages c.args.root s c.in_ok-table.table is (c.in_ok-table.ensures.ok given.0).0) (λ on f. f)
+returns-clause-ok g c = λ right visited rest s w is.
+    c.follow_from.ensures.ok right true visited rest s w (item_of g.V.Snapshot.pages c.args.root s c.in_ok-table.table is (c.in_ok-table.ensures.ok right.0)) (λ on f. f)
 
 pub returns-clause-err : goal.returns-clause-err
-returns-clause-err g c = λ given visited rest s w is.
-    c.follow_from.ensures.err given true visited rest s w (item_of g.V.Snapshot.pages c.args.root s c.in_ok-table.table is (c.in_ok-table.ensures.ok given.0).0) (λ on f. f)
+returns-clause-err g c = λ right visited rest s w is.
+    c.follow_from.ensures.err right true visited rest s w (item_of g.V.Snapshot.pages c.args.root s c.in_ok-table.table is (c.in_ok-table.ensures.ok right.0)) (λ on f. f)
+
+pub returns-in_err-table-clause-err : goal.returns-in_err-table-clause-err
+returns-in_err-table-clause-err g c = λ right visited rest s w is.
+    let h = c.in_err-table.ensures.source in
+    exits (λ e. StandsNow g.V.Snapshot.given g.V.Snapshot.pages e.fault e.page) c.in_err-table.field-0.0 c.from_residual.result c.from_residual.ensures.1
+    (λ unread. h.1, λ read. absurd (read h.0))

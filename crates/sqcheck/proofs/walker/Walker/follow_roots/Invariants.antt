@@ -10,8 +10,8 @@ abbrev pub invariant-roots : goal.invariant-roots
 invariant-roots g l =
     let d = g.V.Snapshot.pages in
     record {
-      walks : g.V.Snapshot.given × g.V.Snapshot.judged → (visited spots rest : List Spot) → Visited d true visited (spots ++ rest) l.fn.self.uses l.fn.self.walk → RootsMatch d l.roots spots
+      walks : g.V.Snapshot.right × g.V.Snapshot.judged → (visited spots rest : List Spot) → Visited d true visited (spots ++ rest) l.fn.self.uses l.fn.self.walk → RootsMatch d l.roots spots
           → (more left : List Spot) × Visited d true (visited ++ more) (left ++ rest) l.self.uses l.self.walk × RootsMatch d (drop l.root-index l.roots) left × TellsOf g.T.Visitor.saw d l.fn.visitor more l.visitor;
       empty : l.self.walk.stack.items ≡ [];
-      same : SameSource d g.V.Snapshot.size g.V.Snapshot.given (g.S.PageSource.pages l.source) (g.S.PageSource.size l.source) (g.S.PageSource.gives_pages l.source);
+      same : SameSource d g.V.Snapshot.size g.V.Snapshot.right g.V.Snapshot.given (g.S.PageSource.pages l.source) (g.S.PageSource.size l.source) (g.S.PageSource.reads_right l.source) (g.S.PageSource.gives_pages l.source);
     }

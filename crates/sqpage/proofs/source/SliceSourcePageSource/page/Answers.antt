@@ -25,4 +25,4 @@ returns-clause-read c = λ _.
     let s = c.args.self.now in
     let le : c.args.p ≤ s.count = subst (λ n. c.args.p ≤ n) (length-sliced s.page_size s.count s.bytes.now) c.requires.page.1 in
     let pos : 0 < c.args.p = c.requires.page.0 in
-    (refl, c.copy_from_slice.ensures.after ∙ piece _ _ s.bytes.now ∙ ap (λ z. take z (drop ((c.args.p - 1) * z) s.bytes.now)) c.get-size.ensures.value ∙ sym (page-sliced s.page_size s.count (c.args.p - 1) s.bytes.now (omega arith)), slices_sized s.page_size s.count s.bytes.now s.whole)
+    (c.copy_from_slice.ensures.after ∙ piece _ _ s.bytes.now ∙ ap (λ z. take z (drop ((c.args.p - 1) * z) s.bytes.now)) c.get-size.ensures.value ∙ sym (page-sliced s.page_size s.count (c.args.p - 1) s.bytes.now (omega arith)), slices_sized s.page_size s.count s.bytes.now s.whole)

@@ -2,7 +2,7 @@ use Rattle.std.proofs.Common.{◌∙◌, ℕ, List, [], refl, sym, subst}
 use Rattle.sqjournal.specs.Restored.{IsRolledBack}
 use Rattle.sqjournal.specs.declared.replay.Replay.{Replay}
 use Rattle.sqview.specs.Laid.{laid}
-use Rattle.sqview.proofs.place.PlacesOfLastRecords.{read_journal, read_places, rolled_back}
+use Rattle.sqview.proofs.place.PlacesOfLastRecords.{journal_places, read_journal, read_places, rolled_back}
 use Rattle.sqview.proofs.openings.ShownOrRefusedView.{answers, read_before, replay_refused, restored_limited, restored_shown}
 use Rattle.sqview.proofs.view.opening.restored.Goals as goal
 
@@ -36,4 +36,4 @@ returns-clause-right g c = λ right ok hot names.
     let back : IsRolledBack db b (laid size n db b places) = rolled_back b n places are j.0 j.1 j.2 j.3 hot size db names.size (c.in_ok-count.ensures.0 ∙ count) in
     restored_shown c.args.limits db b hot size c.from.result names.size count read.0 bytes
     (record { db = c.args.db; log = c.replayed.new.journal; page_size = size; count = n; front = 0; places = c.in_ok-places.places }) c.in_ok-count.ensures names.size
-    (subst (λ (l : List ℕ). IsRolledBack db b (laid size n db l places)) (sym c.replayed.ensures.same_bytes) back) refl are.long
+    (subst (λ (l : List ℕ). IsRolledBack db b (laid size n db l places)) (sym c.replayed.ensures.same_bytes) back) refl (journal_places b n places are)

@@ -1,0 +1,7 @@
+use Rattle.std.proofs.Common.{◌≡◌, ◌≢◌, inl, inr}
+use Rattle.std.specs.Prelude.{Option, Some, None}
+use Rattle.sqpage.specs.declared.kind.Kind.{Kind}
+use Rattle.sqcheck.proofs.survey.kind_or_leaf.Goals as goal
+
+pub returns-in-Some : goal.returns-in-Some
+returns-in-Some c = inl ((c.of.ensures c.in-Some.kind).0 c.in-Some.is)

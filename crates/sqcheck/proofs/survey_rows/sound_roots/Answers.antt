@@ -1,0 +1,22 @@
+use Rattle.std.proofs.Common.{ℕ, ◌∙◌, [], get_or, refl, sym, subst}
+use Rattle.sqpage.specs.Lists.{Every}
+use Rattle.sqcheck.specs.internal.Found.{IsLeafFound, IsRootFound}
+use Rattle.sqcheck.proofs.checks.RowsOfSchema.{every_index}
+use Rattle.sqcheck.proofs.visit.FaultsFound.{tells_both}
+use Rattle.sqcheck.proofs.survey_rows.sound_roots.Goals as goal
+
+pub pages-preserved : goal.pages-preserved
+pages-preserved g c =
+    let d = g.V.Snapshot.pages in
+    let i = c.pages.invariant in
+    let leaves = c.args.leaves.now in
+    let n : ℕ = get_or leaves c.pages.number-index 0 in
+    record {
+      roles = c.survey_rows.ensures.roles ∙ i.roles;
+      found = λ right all. c.in_ok-survey_rows.ensures.found right (every_index (IsLeafFound d) leaves c.pages.number-index n c.pages-test.true refl all) (i.found right all);
+      tells = λ right all. tells_both g.V.Snapshot.maps d g.V.Snapshot.size c.args.chart.now.faults.items c.pages.chart.faults.items c.survey_rows.new.chart.faults.items (i.tells right all)
+          (c.in_ok-survey_rows.ensures.tells right (every_index (IsLeafFound d) leaves c.pages.number-index n c.pages-test.true refl all));
+      usable = c.survey_rows.ensures.usable ∙ i.usable;
+      room = c.survey_rows.ensures.room;
+      same = c.survey_rows.ensures.same;
+    }

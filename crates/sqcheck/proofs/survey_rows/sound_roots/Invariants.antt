@@ -1,0 +1,15 @@
+use Rattle.std.proofs.Common.{◌≡◌, length}
+use Rattle.sqpage.specs.Lists.{Every}
+use Rattle.sqcheck.specs.internal.Found.{IsLeafFound, IsRootFound, TellsFound}
+use Rattle.sqcheck.specs.internal.Snapshots.{SameSource}
+use Rattle.sqcheck.proofs.survey_rows.sound_roots.Given as goal
+
+abbrev pub invariant-pages : goal.invariant-pages
+invariant-pages g l = record {
+  roles : l.chart.roles.items ≡ l.fn.chart.roles.items;
+  found : g.V.Snapshot.right → Every (IsLeafFound g.V.Snapshot.pages) l.leaves → Every (IsRootFound g.V.Snapshot.pages) l.rows.roots.items;
+  tells : g.V.Snapshot.right → Every (IsLeafFound g.V.Snapshot.pages) l.leaves → TellsFound g.V.Snapshot.maps g.V.Snapshot.pages g.V.Snapshot.size l.fn.chart.faults.items l.chart.faults.items;
+  usable : l.reader.usable ≡ l.fn.reader.usable;
+  room : length l.rows.page.items ≡ g.V.Snapshot.size;
+  same : SameSource g.V.Snapshot.pages g.V.Snapshot.size g.V.Snapshot.right g.V.Snapshot.given (g.S.PageSource.pages l.source) (g.S.PageSource.size l.source) (g.S.PageSource.reads_right l.source) (g.S.PageSource.gives_pages l.source);
+}

@@ -1,0 +1,25 @@
+use Rattle.std.proofs.Common.{◌≡◌, ◌≤◌, ◌∙◌, List, ℕ, length, refl, sym, ap, arith}
+use Rattle.sqpage.proofs.file.PagesInMemory.{least_page_size}
+use Rattle.sqcheck.proofs.checks.ResultsOfCalls.{on_ok}
+use Rattle.sqcheck.proofs.visit.FaultsFound.{tells_nothing, row_told}
+use Rattle.sqcheck.proofs.visit.FoundPlaces.{roots_found}
+use Rattle.sqcheck.proofs.survey_rows.survey_row.Goals as goal
+
+pub takes-requires-clause-room : goal.takes-requires-clause-room
+takes-requires-clause-room g c =
+    let least = least_page_size g.V.Snapshot.size c.requires.same.sized in
+    let long : length c.deref_mut.result.now ≡ g.V.Snapshot.size = ap (λ (l : List ℕ). length l) c.deref_mut.ensures.value ∙ c.requires.room in
+    (long ∙ sym c.requires.same.same_size, omega (arith, least, long))
+
+pub returns-clause-found : goal.returns-clause-found
+returns-clause-found g c = λ right cell was.
+    on_ok _ _ c.keep_root.result (λ adds. roots_found g.V.Snapshot.pages c.args.cell.now c.row_root-found.result c.args.rows.now.roots.items c.keep_root.new.roots.items cell (c.row_root-found.ensures.ok right) adds was)
+    c.keep_root.ensures.adds
+
+pub returns-then-not-branch-clause-tells : goal.returns-then-not-branch-clause-tells
+returns-then-not-branch-clause-tells g c = λ right cell. tells_nothing g.V.Snapshot.maps g.V.Snapshot.pages g.V.Snapshot.size c.args.chart.now.faults.items c.args.chart.now.faults.items refl
+
+pub returns-clause-tells : goal.returns-clause-tells
+returns-clause-tells g c = λ right cell.
+    on_ok _ _ c.keep_root.result (λ t. row_told g.V.Snapshot.maps g.V.Snapshot.pages g.V.Snapshot.size c.args.cell.now c.row_root-found.result c.args.chart.now.faults.items c.keep_root.new.chart.faults.items cell (c.row_root-found.ensures.row right) t)
+    c.keep_root.ensures.tells

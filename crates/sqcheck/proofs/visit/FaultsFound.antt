@@ -1,0 +1,342 @@
+-- The faults that a survey names, by what it found.
+use Rattle.std.proofs.Common.{◌≡◌, ◌≢◌, ℕ, zero, suc, ◌+◌, ◌-◌, ◌<◌, ◌≤◌, ◌⊎◌, List, [], ◌∷◌, ◌++◌, length, take, get_or, Bool, true, false, Option, Some, ℤ, IsTrue, refl, sym, ap, subst, ◌∙◌, inl, inr, arith, append_assoc, append-nil, length-append}
+use Rattle.std.proofs.lemmas.Bool.{cases_lt}
+use Rattle.std.specs.Prelude.{Result, Err, IfErr}
+use Rattle.sqval.specs.Database.{Database, page}
+use Rattle.sqpage.specs.declared.cell.Cell.{Cell}
+use Rattle.sqpage.specs.declared.fault.CheckError.{CheckError}
+use Rattle.sqpage.specs.declared.fault.Fault.{Fault}
+use Rattle.sqpage.specs.declared.fault.Fault.TheVariants as faults
+use Rattle.sqpage.specs.declared.kind.Kind.{Kind}
+use Rattle.sqpage.specs.declared.kind.Kind.TheVariants.{TableLeaf}
+use Rattle.sqpage.specs.Chain.{IsPayload}
+use Rattle.sqpage.specs.Freelist.{IsPage, IsWithin, usable_size}
+use Rattle.sqpage.specs.PointerMaps.{IsEntryPlace}
+use Rattle.sqpage.specs.Lists.{In, Every}
+use Rattle.sqpage.specs.Page.{is_interior, IsBtreePage}
+use Rattle.sqpage.specs.internal.Taking.{MarkRefused}
+use Rattle.sqpage.proofs.chain.ListsByRecursion.{in_left, in_right, every_append}
+use Rattle.sqcheck.specs.declared.chart.Chart.{Chart}
+use Rattle.sqcheck.specs.declared.item.Item.{Item}
+use Rattle.sqcheck.specs.declared.item.Task.{Task}
+use Rattle.sqcheck.specs.declared.item.Task.TheVariants as tasks
+use Rattle.sqcheck.specs.declared.role.Role as uses
+use Rattle.sqcheck.specs.declared.role.Role.TheVariants.{Btree, Overflow, FreeTrunk, FreeLeaf, LockByte, PointerMap, Unused}
+use Rattle.sqcheck.specs.declared.schema.Root.{Root}
+use Rattle.sqcheck.specs.declared.tree.Tree.{Tree}
+use Rattle.sqcheck.specs.Found.{IsWhole, IsFound, HasFoundLeaf, IsFoundFault}
+use Rattle.sqcheck.specs.Places.{holder, Node, Role, trunk, free_leaf, link, node, Spot, HasKind, IsCellAt, IsRow, IsSchemaRow, page_as}
+use Rattle.sqcheck.specs.Stands.{NodeRefusedBy, is_of_header}
+use Rattle.sqcheck.specs.Surveys.{most_faults, role_at, Names, IsNamed, IsNamedFault, HasJudgedRole}
+use Rattle.sqcheck.specs.WellFormed.{HasSoundHeader, is_link, IsSoundPage, IsSoundWith}
+use Rattle.sqcheck.specs.internal.Charting.{ArePutDown, unused_fault, unused_faults}
+use Rattle.sqcheck.specs.internal.Found.{IsItemFound, IsCellFound, IsRootFound, IsLevelFound, AreToldFound, TellsFound, TellsRow, IsItemNamed, IsHeaderNamed, AreRolesFound, IsChartFound, IsSurveyed}
+use Rattle.sqcheck.specs.internal.Heading.{HeaderFault}
+use Rattle.sqcheck.specs.internal.Walking.{role_of, node_in, IsItemOf, IsSchemaLeaf, LinksOn, PageWrongBy, FollowRefusedBy, EntryRefused, IsPutDown, LevelAt, LevelAfter}
+use Rattle.sqcheck.proofs.checks.ListsByRecursion.{every_weaker}
+use Rattle.sqcheck.proofs.checks.RefutationOfWellFormedness.{kind_once}
+use Rattle.sqcheck.proofs.visit.RefusedItems.{refused_by}
+use Rattle.sqcheck.proofs.visit.StepsOfWalk.{says_entry}
+
+-- What is wrong with a page of a tree that was found.
+node_found : (maps : Bool) (d : Database) (size : ℕ) (s : Spot) (p : ℕ) (x : Node) (fault : Fault) → IsFound d s → s.page ≡ p → IsPage d p → s.role ≡ node x → NodeRefusedBy (HasFoundLeaf d x.tree) d fault p x → IsFoundFault maps d size fault p
+node_found maps d size s p x faults.Depth found e page role h = (s, x, found, e, page, role, h)
+node_found maps d size s p x faults.Kind found e page role h = (s, x, found, e, page, role, h)
+node_found maps d size s p x faults.CellOutside found e page role h = (s, x, found, e, page, role, h)
+node_found maps d size s p x faults.Overlap found e page role h = (s, x, found, e, page, role, h)
+node_found maps d size s p x faults.Freeblock found e page role h = (s, x, found, e, page, role, h)
+node_found maps d size s p x faults.Fragments found e page role h = (s, x, found, e, page, role, h)
+node_found maps d size s p x faults.KeyOrder found e page role h = (s, x, found, e, page, role, h)
+node_found maps d size s p x faults.SchemaRecord found e page role h = (s, x, found, e, page, role, h)
+node_found maps d size s p x _ found e page role h = absurd h
+
+-- An item of a found place that isn't followed.
+module _ (maps : Bool) (d : Database) (size : ℕ) (tree : Tree) (it : Item) (found : IsItemFound d tree it) where
+  abbrev s : Spot
+  s = found.0
+
+  abbrev is : IsItemOf tree it s
+  is = found.2
+
+  wrong : (role : Role) (fault : Fault) → s.role ≡ role → IsPage d it.page → PageWrongBy (HasFoundLeaf d) d it.page role fault → IsFoundFault maps d size fault it.page
+  wrong trunk fault e page h = subst (λ f. IsFoundFault maps d size f it.page) (sym h.0) (inl (s, found.1, sym is.page, page, e, h.1))
+  wrong free_leaf fault e page h = absurd h
+  wrong (link owner needed) fault e page h = subst (λ f. IsFoundFault maps d size f it.page) (sym h.0) (s, owner, found.1, sym is.page, page, e ∙ ap (link owner) h.1, h.2)
+  wrong (node x) fault e page h = node_found maps d size s it.page x fault found.1 (sym is.page) page e h
+
+  link_named : (task : Task) → LinksOn task it.page → IsTrue (is_link (role_of tree task)) → it.page ≢ 0
+  link_named (tasks.Link o n first) h l = h
+  link_named tasks.Trunk h l = absurd (cc)
+  link_named tasks.Leaf h l = absurd (cc)
+  link_named (tasks.Node level low high) h l = absurd (cc)
+
+  not_taken : (marks : List Bool) (fault : Fault) (at : ℕ) → length marks ≡ length d → LinksOn it.task it.page → MarkRefused marks it.holder it.page fault at → IsFoundFault maps d size fault at
+  not_taken marks faults.PageOutside at len links h = (
+    s,
+    found.1,
+    sym is.stands ∙ sym h.0,
+    (λ page. h.1 (subst (λ n. IsWithin n it.page) (sym len) (subst (IsPage d) (sym is.page) page))),
+    (λ l z. link_named it.task links (subst (λ role. IsTrue (is_link role)) is.role l) (is.page ∙ z)),
+  )
+  not_taken marks faults.PageTwice at len links h =
+      let page : IsPage d it.page = subst (λ n. IsWithin n it.page) len (h.1, h.2) in
+      subst (IsFoundFault maps d size faults.PageTwice) (sym h.0) (page, s, found.1, sym is.page)
+  not_taken marks _ at len links h = absurd h
+
+  pub refusal_found : (level : Option ℕ) (marks : List Bool) (fault : Fault) (at : ℕ) → length marks ≡ length d → IsLevelFound d tree.root level → fault ≢ faults.NoMemory
+      → FollowRefusedBy (IsPutDown level) d tree it marks fault at → IsFoundFault maps d size fault at
+  refusal_found level marks fault at len known some h = go (refused_by (IsPutDown level) (HasFoundLeaf d) d tree it marks fault at known h)
+    where
+      go : FollowRefusedBy (HasFoundLeaf d) d tree it marks fault at → IsFoundFault maps d size fault at
+      go (inl h) = not_taken marks fault at len h.0 h.1
+      go (inr (inl h)) = subst (IsFoundFault maps d size fault) (sym h.0) (wrong (role_of tree it.task) fault is.role h.1 h.2)
+      go (inr (inr (inl h))) = subst (λ f. IsFoundFault maps d size f at) (sym h.0) (s, h.2, h.3, found.1, is.role ∙ ap (role_of tree) h.5, sym is.stands ∙ sym h.1, by h.6)
+        where
+          by : (it.page ≡ 0) ⊎ (length d < h.3) → (s.page ≡ 0) ⊎ (length d < h.3)
+          by (inl none) = inl (sym is.page ∙ none)
+          by (inr more) = inr more
+      go (inr (inr (inr h))) = absurd (some h)
+
+  -- Its fault stands at its page, or at the one that it stands in.
+  pub refusal_at : (level : Option ℕ) (marks : List Bool) (fault : Fault) (at : ℕ) → fault ≢ faults.NoMemory → FollowRefusedBy (IsPutDown level) d tree it marks fault at → (at ≡ it.page) ⊎ (at ≡ it.holder)
+  refusal_at level marks fault at some (inl h) = mark fault h.1
+    where
+      mark : (f : Fault) → MarkRefused marks it.holder it.page f at → (at ≡ it.page) ⊎ (at ≡ it.holder)
+      mark faults.PageOutside h = inr h.0
+      mark faults.PageTwice h = inl h.0
+      mark _ h = absurd h
+  refusal_at level marks fault at some (inr (inl h)) = inl h.0
+  refusal_at level marks fault at some (inr (inr (inl h))) = inr h.1
+  refusal_at level marks fault at some (inr (inr (inr h))) = absurd (some h)
+
+  -- The level of leaves, after it was followed or not.
+  pub level_found : (old new : Option ℕ) → LevelAfter d it old new → IsLevelFound d tree.root old → IsLevelFound d tree.root new
+  level_found old new (inl same) known = subst (IsLevelFound d tree.root) (sym same) known
+  level_found old new (inr (level, low, high, task, inl same)) known = subst (IsLevelFound d tree.root) (sym same) known
+  level_found old new (inr (level, low, high, task, inr (kind, has, leaf, put))) known = λ on e.
+      let both : ◌≡◌ {A = Option ℕ} (Some level) (Some on) = sym put ∙ e in
+      let at : level ≡ on = cc in
+      (s, node_in tree level low high, kind, found.1, is.role ∙ ap (role_of tree) task, refl, at, subst (HasKind d kind) is.page has, leaf)
+
+-- More faults are told.
+pub names_more : (Is : CheckError → Type 0) (old more new : List CheckError) → new ≡ old ++ more → Names old Is → Names new Is
+names_more Is old more new e (inl full) = inl (omega (arith, full, ap (λ (l : List CheckError). length l) e, length-append old more))
+names_more Is old more new e (inr (x, i, is)) = inr (x, subst (In x) (sym e) (in_left x old more i), is)
+
+pub names_weaker : (P Q : CheckError → Type 0) (told : List CheckError) → ((e : CheckError) → P e → Q e) → Names told P → Names told Q
+names_weaker P Q told f (inl full) = inl full
+names_weaker P Q told f (inr (e, i, is)) = inr (e, i, f e is)
+
+-- A fault is put down, or there is no room for it.
+pub put_down_is : (e : CheckError) (old new : List CheckError) → ArePutDown old (e ∷ []) new → ((new ≡ old ++ e ∷ []) ⊎ (most_faults ≤ length old)) × (more : List CheckError) × (new ≡ old ++ more) × ((more ≡ []) ⊎ (more ≡ e ∷ []))
+put_down_is e old new down = elim (cases_lt (length old) most_faults) [
+  | inl lt ↦
+      let room : most_faults - length old ≡ suc (most_faults - length old - 1) = omega (arith, lt) in
+      let all : take (most_faults - length old) (e ∷ []) ≡ e ∷ [] = ap (λ n. take n (e ∷ [])) room ∙ ap (λ l. e ∷ l) (take_none (most_faults - length old - 1)) in
+      let is : new ≡ old ++ e ∷ [] = down ∙ ap (λ l. old ++ l) all in
+      (inl is, e ∷ [], is, inr refl)
+  | inr ge ↦
+      let room : most_faults - length old ≡ 0 = omega (arith, ge) in
+      let is : new ≡ old ++ [] = down ∙ ap (λ n. old ++ take n (e ∷ [])) room in
+      (inr ge, [], is, inl refl)
+]
+  where
+    take_none : (n : ℕ) → ◌≡◌ {A = List CheckError} (take n []) []
+    take_none zero = refl
+    take_none (suc n) = refl
+
+pub names_down : (Is : CheckError → Type 0) (e : CheckError) (old new : List CheckError) → ArePutDown old (e ∷ []) new → Is e → Names new Is
+names_down Is e old new down is =
+    let p = put_down_is e old new down in
+    elim p.0 [
+      | inl put ↦ inr (e, subst (In e) (sym put) (in_right e old (e ∷ []) (inl refl)), is)
+      | inr full ↦ inl (omega (arith, full, ap (λ (l : List CheckError). length l) p.2, length-append old p.1))
+    ]
+
+pub grown : (first before more old new : List CheckError) → old ≡ first ++ before → new ≡ old ++ more → new ≡ first ++ (before ++ more)
+grown first before more old new e is = is ∙ ap (λ l. l ++ more) e ∙ append_assoc first before more
+
+-- A role that was judged is so with more faults.
+pub judged_more : (d : Database) (old more new : List CheckError) (p : ℕ) (role : uses.Role) → new ≡ old ++ more → HasJudgedRole d old p role → HasJudgedRole d new p role
+judged_more d old more new p role e h = (h.0, h.1, h.2, h.3, by h.4)
+  where
+    by : IsWhole d h.0 ⊎ IsNamed old h.0 → IsWhole d h.0 ⊎ IsNamed new h.0
+    by (inl whole) = inl whole
+    by (inr named) = inr (names_more (λ e. (e.page ≡ h.0.page) ⊎ (e.page ≡ holder h.0.place)) old more new e named)
+
+pub roles_more : (d : Database) (first roles : List uses.Role) (old more new : List CheckError) → new ≡ old ++ more → AreRolesFound d first roles old → AreRolesFound d first roles new
+roles_more d first roles old more new e h = record {
+  long = h.long;
+  each = λ p is. elim (h.each p is) [ inl same ↦ inl same | inr judged ↦ inr (judged_more d old more new p _ e judged) ];
+}
+
+-- What is wrong with a header is told as such.
+pub header_kind : (maps : Bool) (fault : Fault) (size : ℕ) (b : List ℕ) → HeaderFault maps fault size b → (is_of_header fault ≡ true) ⊎ (fault ≡ faults.PointerMap)
+header_kind maps faults.Magic size b h = inl refl
+header_kind maps faults.PageSize size b h = inl refl
+header_kind maps faults.Fraction size b h = inl refl
+header_kind maps faults.Reserved size b h = inl refl
+header_kind maps faults.AutoVacuum size b h = inl refl
+header_kind maps faults.PointerMap size b h = inr refl
+header_kind maps _ size b h = absurd h
+
+module _ (maps : Bool) (d : Database) (size : ℕ) where
+  abbrev Found : CheckError → Type 0
+  Found e = IsFoundFault maps d size e.fault e.page
+
+  pub tells_nothing : (old new : List CheckError) → new ≡ old → TellsFound maps d size old new
+  tells_nothing old new e = record { more = []; is = e ∙ sym (append-nil old); found = tt }
+
+  pub tells_one : (e : CheckError) (old new : List CheckError) → ArePutDown old (e ∷ []) new → Found e → TellsFound maps d size old new
+  tells_one e old new down found =
+      let p = put_down_is e old new down in
+      record { more = p.1; is = p.2; found = elim p.3 [ inl none ↦ subst (Every Found) (sym none) tt | inr one ↦ subst (Every Found) (sym one) (found, tt) ] }
+
+  pub tells_both : (old mid new : List CheckError) → TellsFound maps d size old mid → TellsFound maps d size mid new → TellsFound maps d size old new
+  tells_both old mid new a b = record {
+    more = a.more ++ b.more;
+    is = b.is ∙ ap (λ l. l ++ b.more) a.is ∙ append_assoc old a.more b.more;
+    found = every_append Found a.more b.more a.found b.found;
+  }
+
+  pub told_more : (old new : List CheckError) → TellsFound maps d size old new → AreToldFound maps d size old → AreToldFound maps d size new
+  told_more old new t h = subst (Every Found) (sym t.is) (every_append Found old t.more h t.found)
+
+  -- The same roles, with more faults.
+  pub chart_more : (first old new : Chart) → new.roles.items ≡ old.roles.items → TellsFound maps d size old.faults.items new.faults.items → IsChartFound maps d size first old → IsChartFound maps d size first new
+  chart_more first old new same t h = record {
+    charted = subst (λ l. AreRolesFound d first.roles.items l new.faults.items) (sym same) (roles_more d first.roles.items old.roles.items old.faults.items t.more new.faults.items t.is h.charted);
+    more = h.more ++ t.more;
+    grows = grown first.faults.items h.more t.more old.faults.items new.faults.items h.grows t.is;
+    told = told_more old.faults.items new.faults.items t h.told;
+  }
+
+  -- What is wrong with the header.
+  pub header_found : (of : ℕ) (fault : Fault) → of ≡ size → HeaderFault maps fault of (page d 1) → IsFoundFault maps d size fault 1
+  header_found of faults.Magic e h = (refl, h)
+  header_found of faults.PageSize e h = (refl, inr (λ same. h.1 (same ∙ sym e)))
+  header_found of faults.Fraction e h = (refl, h.2)
+  header_found of faults.Reserved e h = (refl, h.3)
+  header_found of faults.AutoVacuum e h = (refl, h.4, h.5)
+  header_found of faults.PointerMap e h = (h.4, inr (refl, h.5, λ auto. auto h.6))
+  header_found of _ e h = absurd h
+
+  -- A root that is no page's.
+  pub root_outside : (r : Root) → IsRootFound d r → ¬ IsPage d r.page → IsFoundFault maps d size faults.PageOutside r.holder
+  root_outside r found none = (
+    found.0,
+    found.1,
+    sym found.2.stands,
+    (λ page. none (subst (IsPage d) (sym found.2.page) page)),
+    (λ l. absurd (let is : IsTrue false = subst (λ role. IsTrue (is_link role)) found.2.role l in cc)),
+  )
+
+  -- A row of the schema that is none.
+  pub row_found : (cell : Cell) (e : CheckError) → IsCellFound d cell → e.fault ≡ faults.SchemaRecord → e.page ≡ cell.page → (bytes : List ℕ) → IsPayload d cell bytes → ((r : ℕ) → ¬ IsSchemaRow bytes r) → Found e
+  row_found cell e found is at bytes payload none =
+      subst (λ f. IsFoundFault maps d size f e.page) (sym is) (subst (IsFoundFault maps d size faults.SchemaRecord) (sym at) (go s.role refl found.1.4))
+    where
+      s : Spot
+      s = found.1.0
+
+      go : (role : Role) → s.role ≡ role → IsSchemaLeaf d cell.page role → IsFoundFault maps d size faults.SchemaRecord cell.page
+      go trunk e leaf = absurd leaf
+      go free_leaf e leaf = absurd leaf
+      go (link owner needed) e leaf = absurd leaf
+      go (node x) e leaf =
+          let whole : IsSoundPage d cell.page x = subst (λ p. IsSoundPage d p x) found.1.3 (subst (λ r. IsSoundWith (IsSoundPage d) d s.page r) e found.1.2.sound_as) in
+          let same : whole.kind ≡ TableLeaf = kind_once d whole.kind TableLeaf cell.page whole.page_is.kind found.2 in
+          let tree = subst (λ k. IsBtreePage (page_as d k cell.page)) same whole.page_is in
+          (s, x, found.1.1, found.1.3, subst (IsPage d) found.1.3 found.1.2.named, e, (leaf.0, (TableLeaf, tree, (refl, found.0, bytes, record { cell = cell; is = found.3; payload = payload }, none))))
+
+  -- An entry that doesn't say what names its page.
+  pub entry_found : (tree : Tree) (it : Item) (e : CheckError) → maps ≡ true → length (page d 1) ≡ size → IsItemFound d tree it → EntryRefused d it e.fault e.page → Found e
+  entry_found tree it e asked long found h =
+      let here : IsEntryPlace size (usable_size d) found.0.page h.2 =
+      subst (λ n. IsEntryPlace n (usable_size d) found.0.page h.2) long (subst (λ p. IsEntryPlace (length (page d 1)) (usable_size d) p h.2) found.2.page h.3) in
+      subst (λ f. IsFoundFault maps d size f e.page) (sym h.0) (asked, inl (h.1, inl (found.0, h.2, found.1, here, h.4, λ says. h.5 (says_entry d tree it found.0 h.2 found.2 says))))
+
+  -- What a row tells.
+  pub row_told : (cell : Cell) (found : Result ℕ CheckError) (old new : List CheckError) → IsCellFound d cell
+      → IfErr found (λ e. e.fault ≡ faults.SchemaRecord → (e.page ≡ cell.page) × (bytes : List ℕ) × IsPayload d cell bytes × ((r : ℕ) → ¬ IsSchemaRow bytes r)) → TellsRow found old new → TellsFound maps d size old new
+  row_told cell found old new is wrong (inl same) = tells_nothing old new same
+  row_told cell found old new is wrong (inr (e, err, fault, down)) =
+      let h = subst (λ f. IfErr f (λ e. e.fault ≡ faults.SchemaRecord → (e.page ≡ cell.page) × (bytes : List ℕ) × IsPayload d cell bytes × ((r : ℕ) → ¬ IsSchemaRow bytes r))) err wrong fault in
+      tells_one e old new down (row_found cell e is fault h.0 h.1 h.2 h.3)
+
+abbrev unused_at : ℕ → CheckError
+unused_at n = record { page = n; fault = faults.PageUnused }
+
+every_take : (P : CheckError → Type 0) (n : ℕ) (xs : List CheckError) → Every P xs → Every P (take n xs)
+every_take P zero xs h = tt
+every_take P (suc n) [] h = tt
+every_take P (suc n) (x ∷ xs) h = (h.0, every_take P n xs h.1)
+
+in_take : (n : ℕ) (xs : List CheckError) (x : CheckError) → In x xs → (In x (take n xs)) ⊎ (length (take n xs) ≡ n)
+in_take zero xs x i = inr refl
+in_take (suc n) [] x i = absurd i
+in_take (suc n) (y ∷ xs) x (inl e) = inl (inl e)
+in_take (suc n) (y ∷ xs) x (inr i) = elim (in_take n xs x i) [ inl j ↦ inl (inr j) | inr full ↦ inr (ap suc full) ]
+
+-- One of faults that were put down, as far as there was room.
+taken : (old xs new : List CheckError) → ArePutDown old xs new → (x : CheckError) (Is : CheckError → Type 0) → In x xs → Is x → Names new Is
+taken old xs new down x Is i is = elim (in_take (most_faults - length old) xs x i) [
+  | inl j ↦ inr (x, subst (In x) (sym down) (in_right x old (take (most_faults - length old) xs) j), is)
+  | inr full ↦ inl (omega (arith, full, ap (λ (l : List CheckError). length l) down, length-append old (take (most_faults - length old) xs)))
+]
+
+-- A chart that a walk begins with, where its faults are found.
+pub chart_begun : (maps : Bool) (d : Database) (size : ℕ) (chart : Chart) → length chart.roles.items ≡ length d → AreToldFound maps d size chart.faults.items → IsChartFound maps d size chart chart
+chart_begun maps d size chart long told = record { charted = record { long = long; each = λ p is. inl refl }; more = []; grows = sym (append-nil chart.faults.items); told = told }
+
+-- The faults in the end: those of the walk, and of each page that nothing has named.
+module _ (maps : Bool) (d : Database) (size : ℕ) (roles : List uses.Role) (long : length roles ≡ length d) where
+  abbrev OfHeader : CheckError → Type 0
+  OfHeader e = (e.page ≡ 1) × ((is_of_header e.fault ≡ true) ⊎ (e.fault ≡ faults.PointerMap))
+
+  abbrev Unnamed : CheckError → Type 0
+  Unnamed e = IsNamedFault maps d size roles e
+
+  unnamed : (p : ℕ) (rs : List uses.Role) → ((i : ℕ) → i < length rs → get_or rs i Unused ≡ role_at roles (p + i)) → 0 < p → p + length rs ≡ suc (length d) → Every Unnamed (unused_faults p rs)
+  unnamed p [] at pos all = tt
+  unnamed p (r ∷ rs) at pos all =
+      let here : r ≡ role_at roles p = at 0 (let z : 0 < suc (length rs) = omega arith in z) ∙ ap (role_at roles) (let z : p + 0 ≡ p = omega arith in z) in
+      let page : IsPage d p = (pos, (let z : p ≤ length d = omega (arith, all) in z)) in
+      every_append Unnamed (unused_fault p r) (unused_faults (suc p) rs) (one r here page)
+      (unnamed (suc p) rs (λ i lt. at (suc i) (let z : suc i < suc (length rs) = omega (arith, lt) in z) ∙ ap (role_at roles) (let z : p + suc i ≡ suc p + i = omega arith in z)) (let z : 0 < suc p = omega arith in z) (let z : suc p + length rs ≡ suc (length d) = omega (arith, all) in z))
+    where
+      one : (q : uses.Role) → q ≡ role_at roles p → IsPage d p → Every Unnamed (unused_fault p q)
+      one Unused e page = (inl (refl, page, sym e), tt)
+      one (Btree k t) e page = tt
+      one (Overflow o) e page = tt
+      one FreeTrunk e page = tt
+      one FreeLeaf e page = tt
+      one LockByte e page = tt
+      one PointerMap e page = tt
+
+  told_unused : (p : ℕ) (rs : List uses.Role) (i : ℕ) → i < length rs → get_or rs i Unused ≡ Unused → In (unused_at (p + i)) (unused_faults p rs)
+  told_unused p [] i lt e = absurd (omega (arith, lt))
+  told_unused p (r ∷ rs) zero lt e =
+      in_left (unused_at (p + 0)) (unused_fault p r) (unused_faults (suc p) rs)
+      (subst (λ q. In (unused_at (p + 0)) (unused_fault p q)) (sym e) (inl (ap unused_at (let z : p + 0 ≡ p = omega arith in z))))
+  told_unused p (r ∷ rs) (suc i) lt e =
+      in_right (unused_at (p + suc i)) (unused_fault p r) (unused_faults (suc p) rs)
+      (subst (λ n. In (unused_at n) (unused_faults (suc p) rs)) (let z : suc p + i ≡ p + suc i = omega arith in z) (told_unused (suc p) rs i (let z : i < length rs = omega (arith, lt) in z) e))
+
+  -- They were told behind those of the walk.
+  pub surveyed : (first walked new : Chart) → IsChartFound maps d size first walked → walked.roles.items ≡ roles → ArePutDown walked.faults.items (unused_faults 1 roles) new.faults.items
+      → ((¬ HasSoundHeader maps d size) → IsHeaderNamed first.faults.items) → IsSurveyed maps d size first.roles.items roles new.faults.items
+  surveyed first walked new was at down header =
+      let room : ℕ = most_faults - length walked.faults.items in
+      let all = unused_faults 1 roles in
+      let each = unnamed 1 roles (λ i lt. ap (λ n. get_or roles n Unused) (let z : i ≡ 1 + i - 1 = omega arith in z)) (let z : 0 < 1 = omega arith in z) (let z : 1 + length roles ≡ suc (length d) = omega (arith, long) in z) in
+      record {
+        charted = roles_more d first.roles.items roles walked.faults.items (take room all) new.faults.items down (subst (λ l. AreRolesFound d first.roles.items l walked.faults.items) at was.charted);
+        only = subst (Every Unnamed) (sym down) (every_append Unnamed walked.faults.items (take room all) (every_weaker (λ e. IsFoundFault maps d size e.fault e.page) Unnamed (λ e h. inr h) walked.faults.items was.told) (every_take Unnamed room all each));
+        header = λ none. names_more OfHeader walked.faults.items (take room all) new.faults.items down (names_more OfHeader first.faults.items was.more walked.faults.items was.grows (header none));
+        unused = λ p is none.
+            let lt : p - 1 < length roles = (let a : 0 < p = is.0 in let b : p ≤ length d = is.1 in omega (arith, long, a, b)) in
+            let i = told_unused 1 roles (p - 1) lt none in
+            let back : 1 + (p - 1) ≡ p = (let a : 0 < p = is.0 in omega arith) in
+            taken walked.faults.items all new.faults.items down (unused_at (1 + (p - 1))) (λ e. (e.page ≡ p) × (e.fault ≡ faults.PageUnused)) i (back, refl);
+      }
