@@ -1,0 +1,30 @@
+-- The rows that are shown of a database.
+use Rattle.std.specs.Prelude.{◌≡◌, ◌⊎◌, ℕ, List, length, Option, Some, None, Result, OnOk}
+use Rattle.std.specs.Borrow.{Bor}
+use Rattle.sqval.specs.Database.{Database}
+use Rattle.sqwords.specs.declared.requests.Options.{Options}
+use Rattle.sqwords.specs.declared.requests.RowForm.{RowForm}
+use Rattle.sqwords.specs.declared.requests.RowForm.TheVariants as asked
+use Rattle.sqrowlines.specs.declared.form.Form.{Form}
+use Rattle.sqrowlines.specs.declared.form.Form.TheVariants.{Json, Csv, Sql}
+use Rattle.sqrowshown.specs.declared.stop.Stop.{Stop}
+use Rattle.sqrowshown.specs.Dumps.{AreTablesPrinted, IsNamedPrinted}
+use Rattle.sqshown.specs.Views.{AskedShows}
+use Rattle.sqdump.specs.declared.rows.Wanted.{Wanted}
+
+-- the form of lines that is asked for
+abbrev pub form_named : RowForm → Form
+form_named asked.Json = Json
+form_named asked.Csv = Csv
+form_named asked.Sql = Sql
+
+-- The rows of a table of this name were printed, or those of each table; a database without pages has none.
+abbrev pub ArePrinted : Database → (table : Option (Bor (List ℕ))) → Form → (before after : Option (List ℕ)) → Type 0
+ArePrinted d None form before after = ((length d ≡ 0) × (before ≡ after)) ⊎ AreTablesPrinted d form before after
+ArePrinted d (Some name) form before after = IsNamedPrinted d name.now form before after
+
+-- They were, where the printing ended so, of the database that is asked for.
+abbrev pub AreRowsShown : Options → Wanted → (db wal journal : List ℕ) → (before after : Option (List ℕ)) → Result (Unit {0}) Stop → Type 0
+AreRowsShown options wanted db wal journal before after ended =
+    (size : ℕ) × (d : Database) × AskedShows options.at size db wal journal d
+    × OnOk ended (ArePrinted d wanted.table (form_named wanted.form) before after)

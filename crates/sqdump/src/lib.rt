@@ -1,0 +1,6 @@
+//! The rows of a database as its log has them, over the bytes of files, wherever they come from.
+#![tactic(auto)]
+
+mod rows;
+
+pub use rows::{Printed, Wanted, show_rows};

@@ -1,0 +1,3 @@
+pub mod TextsOfValues
+pub mod RowsWritten
+pub mod NamesWritten

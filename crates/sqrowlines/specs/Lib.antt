@@ -1,0 +1,5 @@
+pub mod Lines
+pub mod Printed
+pub mod Inserts
+pub mod Headings
+pub mod internal

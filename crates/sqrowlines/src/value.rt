@@ -1,0 +1,237 @@
+//! Values as texts.
+ghost use Rattle.std.specs.Prelude.{◌≡◌, ℕ, ◌+◌, ◌*◌, ◌∷◌, ◌++◌, [], List, OnOk, IsTrue, length};
+ghost use Rattle.std.specs.Io.KnownBytes.{Appends};
+ghost use Rattle.std.specs.List.{flat_map};
+ghost use Rattle.std.specs.Fmt.{signed_decimal};
+ghost use Rattle.hex.specs.Hex.{encode_lower};
+ghost use Rattle.sqval.specs.Datum.{datum_of, text as text_datum};
+ghost use Rattle.sqrowlines.specs.Lines.{doubled, between_marks, escaped, json_string, tagged_hex};
+ghost use Rattle.sqrowlines.specs.Lines.{hex_literal};
+ghost use Rattle.sqrowlines.specs.Lines.{is_safe};
+ghost use Rattle.sqrowlines.specs.Lines.{integer_text, json_integer, tagged_integer, null_text, float_of, IsReal};
+ghost use Rattle.sqrowlines.specs.Lines.{blob_text, utf8_text, other_text, wide_text, IsText};
+
+use crate::form::Form;
+use byteorder::{BigEndian, ByteOrder};
+use ryu::Buffer;
+use sqlines::write_hex;
+use sqval::Value;
+use std::io::{self, Write};
+use std::str;
+
+/// The integers that JSON's readers take as they are.
+const SAFE: i64 = 9_007_199_254_740_992;
+
+/// A byte between two marks, twice where it is one.
+fn write_doubled<W: Write>(out: &mut W, mark: u8, byte: u8) -> io::Result<()>
+    ensures { OnOk result (Appends (W.contents out.old) (W.contents out.new) (doubled mark byte)) }
+{
+    if byte == mark {
+        out.write_all(&[mark, mark])
+    } else {
+        out.write_all(&[byte])
+    }
+}
+
+/// Bytes between two marks.
+pub(crate) fn write_between<W: Write>(out: &mut W, mark: u8, bytes: &[u8]) -> io::Result<()>
+    ensures { OnOk result (Appends (W.contents out.old) (W.contents out.new) (between_marks mark bytes.now)) }
+{
+    out.write_all(&[mark])?;
+    for byte in bytes {
+        write_doubled(out, mark, *byte)?;
+    }
+    out.write_all(&[mark])
+}
+
+/// A byte of a string of JSON.
+fn write_escaped<W: Write>(out: &mut W, byte: u8) -> io::Result<()>
+    ensures { OnOk result (Appends (W.contents out.old) (W.contents out.new) (escaped byte)) }
+{
+    match byte {
+        b'"' => out.write_all(b"\\\""),
+        b'\\' => out.write_all(b"\\\\"),
+        0..=31 => {
+            out.write_all(b"\\u00")?;
+            write_hex(out, &[byte])
+        }
+        _ => out.write_all(&[byte]),
+    }
+}
+
+/// A string of JSON.
+pub(crate) fn write_string<W: Write>(out: &mut W, bytes: &[u8]) -> io::Result<()>
+    ensures { OnOk result (Appends (W.contents out.old) (W.contents out.new) (json_string bytes.now)) }
+{
+    out.write_all(b"\"")?;
+    for byte in bytes {
+        write_escaped(out, *byte)?;
+    }
+    out.write_all(b"\"")
+}
+
+/// Bytes as hex in an object of JSON.
+fn write_tagged<W: Write>(out: &mut W, tag: &str, bytes: &[u8]) -> io::Result<()>
+    ensures { OnOk result (Appends (W.contents out.old) (W.contents out.new) (tagged_hex tag.now bytes.now)) }
+{
+    out.write_all(b"{\"")?;
+    out.write_all(tag.as_bytes())?;
+    out.write_all(b"\":\"")?;
+    write_hex(out, bytes)?;
+    out.write_all(b"\"}")
+}
+
+/// X'..'
+fn write_literal<W: Write>(out: &mut W, bytes: &[u8]) -> io::Result<()>
+    ensures { OnOk result (Appends (W.contents out.old) (W.contents out.new) (hex_literal bytes.now)) }
+{
+    out.write_all(b"X'")?;
+    write_hex(out, bytes)?;
+    out.write_all(b"'")
+}
+
+/// A BLOB.
+fn write_blob<W: Write>(out: &mut W, form: Form, bytes: &[u8]) -> io::Result<()>
+    ensures { OnOk result (Appends (W.contents out.old) (W.contents out.new) (blob_text form bytes.now)) }
+{
+    match form {
+        Form::Json => write_tagged(out, "blob", bytes),
+        Form::Csv | Form::Sql => write_literal(out, bytes),
+    }
+}
+
+/// A text of UTF-8.
+fn write_utf8<W: Write>(out: &mut W, form: Form, bytes: &[u8]) -> io::Result<()>
+    ensures { OnOk result (Appends (W.contents out.old) (W.contents out.new) (utf8_text form bytes.now)) }
+{
+    match form {
+        Form::Json => write_string(out, bytes),
+        Form::Csv => write_between(out, b'"', bytes),
+        Form::Sql => write_between(out, b'\'', bytes),
+    }
+}
+
+/// A text that isn't.
+fn write_other<W: Write>(out: &mut W, form: Form, bytes: &[u8]) -> io::Result<()>
+    ensures { OnOk result (Appends (W.contents out.old) (W.contents out.new) (other_text form bytes.now)) }
+{
+    match form {
+        Form::Json => write_tagged(out, "text", bytes),
+        Form::Csv => {
+            out.write_all(b"T")?;
+            write_literal(out, bytes)
+        }
+        Form::Sql => {
+            out.write_all(b"CAST(")?;
+            write_literal(out, bytes)?;
+            out.write_all(b" AS TEXT)")
+        }
+    }
+}
+
+/// NULL.
+fn write_null<W: Write>(out: &mut W, form: Form) -> io::Result<()>
+    ensures { OnOk result (Appends (W.contents out.old) (W.contents out.new) (null_text form)) }
+{
+    match form {
+        Form::Json => out.write_all(b"null"),
+        Form::Csv => Ok(()),
+        Form::Sql => out.write_all(b"NULL"),
+    }
+}
+
+/// Whether JSON's readers take an integer as it is.
+fn is_safe_integer(number: i64) -> bool
+    ensures { result ≡ is_safe number }
+{
+    -SAFE <= number && number <= SAFE
+}
+
+/// The digits of an integer.
+fn write_number<W: Write>(out: &mut W, number: i64) -> io::Result<()>
+    ensures { OnOk result (Appends (W.contents out.old) (W.contents out.new) (signed_decimal number)) }
+{
+    write!(out, "{number}")
+}
+
+/// An integer as a text in an object of JSON.
+fn write_tagged_integer<W: Write>(out: &mut W, number: i64) -> io::Result<()>
+    ensures { OnOk result (Appends (W.contents out.old) (W.contents out.new) (tagged_integer number)) }
+{
+    out.write_all(b"{\"integer\":\"")?;
+    write_number(out, number)?;
+    out.write_all(b"\"}")
+}
+
+/// An integer as JSON.
+fn write_json_integer<W: Write>(out: &mut W, number: i64) -> io::Result<()>
+    ensures { OnOk result (Appends (W.contents out.old) (W.contents out.new) (json_integer number)) }
+{
+    if is_safe_integer(number) {
+        write_number(out, number)
+    } else {
+        write_tagged_integer(out, number)
+    }
+}
+
+/// An integer.
+pub(crate) fn write_integer<W: Write>(out: &mut W, form: Form, number: i64) -> io::Result<()>
+    ensures { OnOk result (Appends (W.contents out.old) (W.contents out.new) (integer_text form number)) }
+{
+    match form {
+        Form::Json => write_json_integer(out, number),
+        Form::Csv | Form::Sql => write_number(out, number),
+    }
+}
+
+/// A number that isn't finite.
+fn write_wide<W: Write>(out: &mut W, form: Form, number: f64) -> io::Result<()>
+    ensures { OnOk result (Appends (W.contents out.old) (W.contents out.new) (wide_text form number)) }
+{
+    if number.is_nan() {
+        return write_null(out, form);
+    }
+    if number.is_sign_negative() {
+        out.write_all(b"-9e999")
+    } else {
+        out.write_all(b"9e999")
+    }
+}
+
+/// A floating-point number of eight bytes.
+fn write_real<W: Write>(out: &mut W, form: Form, bytes: [u8; 8]) -> io::Result<()>
+    ensures { OnOk result ((t : List ℕ) × IsReal form (float_of bytes) t
+        × Appends (W.contents out.old) (W.contents out.new) t) }
+{
+    let number = BigEndian::read_f64(&bytes);
+    if !number.is_finite() {
+        return write_wide(out, form, number);
+    }
+    let mut buffer = Buffer::new();
+    out.write_all(buffer.format_finite(number).as_bytes())
+}
+
+/// A text.
+fn write_text<W: Write>(out: &mut W, form: Form, bytes: &[u8]) -> io::Result<()>
+    ensures { OnOk result ((t : List ℕ) × IsText form (text_datum bytes.now) t
+        × Appends (W.contents out.old) (W.contents out.new) t) }
+{
+    match str::from_utf8(bytes) {
+        Ok(_) => write_utf8(out, form, bytes),
+        Err(_) => write_other(out, form, bytes),
+    }
+}
+
+/// A value.
+pub(crate) fn write_value<W: Write>(out: &mut W, form: Form, value: Value<'_>) -> io::Result<()>
+    ensures { OnOk result ((t : List ℕ) × IsText form (datum_of value.entry) t
+        × Appends (W.contents out.old) (W.contents out.new) t) }
+{
+    match value {
+        Value::Null => write_null(out, form),
+        Value::Int(number) => write_integer(out, form, number),
+        Value::Real(bytes) => write_real(out, form, bytes),
+        Value::Text(bytes) => write_text(out, form, bytes),
+        Value::Blob(bytes) => write_blob(out, form, bytes),
+    }
+}

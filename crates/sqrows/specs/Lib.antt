@@ -1,0 +1,6 @@
+pub mod Trees
+pub mod Cursor
+pub mod Payloads
+pub mod Rows
+pub mod RowCursor
+pub mod internal

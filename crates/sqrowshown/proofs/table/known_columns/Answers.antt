@@ -1,0 +1,6 @@
+use Rattle.std.proofs.Common.{List, ℕ, subst}
+use Rattle.sqtables.specs.Named.{AreColumns}
+use Rattle.sqrowshown.proofs.table.known_columns.Goals as goal
+
+pub returns-in-Ok : goal.returns-in-Ok
+returns-in-Ok c = subst (λ (text : List ℕ). AreColumns text c.in-Ok.columns) c.deref.ensures.value c.in-Ok.ensures.ok

@@ -1,0 +1,50 @@
+use Rattle.std.proofs.Common.{◌∙◌, Bool, false, true, refl, subst, sym}
+use Rattle.sqval.specs.Database.{Database}
+use Rattle.sqrows.specs.Cursor.{IsOver}
+use Rattle.sqtables.specs.internal.Listing.{TakesNext}
+use Rattle.sqtables.proofs.ObjectsTaken.{none_taken, one_taken, all_taken}
+use Rattle.sqtables.proofs.list.objects.Goals as goal
+
+pub turns-init : goal.turns-init
+turns-init g c = record {
+  kept = c.in-Ok.ensures.keeps;
+  sized = c.in-Ok.ensures.size;
+  over = λ gives. (c.in-Ok.ensures.ok gives).0;
+  taken = λ gives. none_taken (g.S.PageSource.pages c.args.source.now) 1 c.in-Ok.rows c.new-objects.result.items c.new-objects.ensures.items (c.in-Ok.ensures.ok gives).1;
+}
+
+pub turns-preserved : goal.turns-preserved
+turns-preserved g c =
+    let i = c.turns.invariant in
+    let e = c.take_next.ensures in
+    let d = g.S.PageSource.pages c.args.source.now in
+    let f = c.in_ok-take_next.ensures in
+    let before = c.turns.objects.items in
+    let after = c.take_next.new.objects.items in
+    record {
+      kept = record {
+        still_right = λ right. e.keeps.still_right (i.kept.still_right right);
+        still_gives = λ gives. e.keeps.still_gives (i.kept.still_gives gives);
+        same_pages = e.keeps.same_pages ∙ i.kept.same_pages;
+        same_size = e.keeps.same_size ∙ i.kept.same_size;
+      };
+      sized = e.size.0 ∙ i.sized;
+      over = λ gives. e.size.1 ∙ i.over gives;
+      taken = λ gives.
+          let takes = f.ok (i.kept.still_gives gives) (subst (λ (d : Database). IsOver d c.turns.rows.cells) (sym i.kept.same_pages) (i.over gives)) in
+          let found = subst (λ (found : Bool). TakesNext (g.S.PageSource.pages c.turns.source) found c.turns.rows c.take_next.new.rows before after) c.if-not-branch.false takes in
+          let one = subst (λ (d : Database). TakesNext d true c.turns.rows c.take_next.new.rows before after) i.kept.same_pages found in
+          one_taken d 1 c.turns.rows c.take_next.new.rows before after (i.taken gives) one;
+    }
+
+pub returns-then-not-branch-clause-ok : goal.returns-then-not-branch-clause-ok
+returns-then-not-branch-clause-ok g c = λ gives.
+    let i = c.turns.invariant in
+    let d = g.S.PageSource.pages c.args.source.now in
+    let f = c.in_ok-take_next.ensures in
+    let before = c.turns.objects.items in
+    let after = c.take_next.new.objects.items in
+    let takes = f.ok (i.kept.still_gives gives) (subst (λ (d : Database). IsOver d c.turns.rows.cells) (sym i.kept.same_pages) (i.over gives)) in
+    let none = subst (λ (found : Bool). TakesNext (g.S.PageSource.pages c.turns.source) found c.turns.rows c.take_next.new.rows before after) c.if-not-branch.true takes in
+    let end = subst (λ (d : Database). TakesNext d false c.turns.rows c.take_next.new.rows before after) i.kept.same_pages none in
+    all_taken d c.turns.rows c.take_next.new.rows before after (i.taken gives) end

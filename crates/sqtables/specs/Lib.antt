@@ -1,0 +1,7 @@
+pub mod Texts
+pub mod Columns
+pub mod Schema
+pub mod Objects
+pub mod Defaults
+pub mod Named
+pub mod internal

@@ -1,0 +1,15 @@
+//! The tables of a database: their names, roots and columns, from the texts of its schema (fileformat2, 2.6).
+#![tactic(auto)]
+
+mod columns;
+mod defaults;
+mod list;
+mod named;
+mod schema;
+mod text;
+
+pub use columns::{Columns, Literal};
+pub use list::{ListError, Object, objects, table_named};
+pub use named::columns_of;
+pub use schema::{TableRow, table_row};
+pub use text::{TableText, table_text};
