@@ -1,0 +1,7 @@
+pub mod Faults
+pub mod Texts
+pub mod Records
+pub mod Pages
+pub mod Headers
+pub mod Inside
+pub mod internal

@@ -1,0 +1,96 @@
+//! The cells of a page (fileformat2, 1.6 and 2.1).
+ghost use Rattle.std.specs.Prelude.{◌≡◌, ◌+◌, ◌<◌, ◌≤◌, ℕ, List, Some, IfErr, OnOk, length};
+ghost use Rattle.sqpage.specs.Chain.{IsPayload};
+ghost use Rattle.sqpage.specs.Page.{cell_count};
+ghost use Rattle.sqpage.specs.declared.kind.Kind.{Kind};
+ghost use Rattle.sqcheck.specs.Places.{page_as};
+ghost use Rattle.sqdeep.specs.declared.fault.DeepError.TheVariants.{Inner};
+ghost use Rattle.sqdeep.specs.Records.{encoding_of, IsSoundCell};
+ghost use Rattle.sqdeep.specs.internal.Judging.{SameSource, IsWithinPage, CellTells, Tells, IsOfSoundTree};
+ghost use Rattle.sqdeep.specs.internal.Judging.{AreSoundCells};
+
+use crate::fault::{DeepError, InnerError, InnerFault};
+use crate::records::judge_record;
+use crate::snapshot::Snapshot;
+use crate::text::Encoding;
+use sqpage::{BtreePage, Cell, PageSource, payload};
+use sqval::MOST_BYTES;
+use std::alloc::Global;
+
+/// How many bytes of its page a cell takes at least.
+const LEAST_CELL: usize = 4;
+
+/// A fault of cell `i` of its page.
+fn at_cell(cell: &Cell, i: usize, fault: InnerFault) -> DeepError
+    ensures { result ≡ Inner (record { fault = fault; page = cell.now.page; cell = Some i }) }
+{
+    DeepError::Inner(InnerError {
+        fault,
+        page: cell.page,
+        cell: Some(i),
+    })
+}
+
+/// Judges cell `i` of a page, and its payload where it has one. Refused by ShortCell, TooLong, NotRecord and TextForm,
+/// the first that applies, by Source and NoMemory. `content` is room for the payload.
+fn judge_cell<V: Snapshot, S: PageSource>(
+    alloc: Global,
+    source: &mut S,
+    encoding: Encoding,
+    cell: &Cell,
+    i: usize,
+    content: &mut Vec<u8>,
+) -> Result<(), DeepError>
+    requires cell { IsWithinPage V.size cell.now }
+    requires same { SameSource V.pages V.size V.right V.given (S.pages source.old) (S.size source.old)
+        (S.reads_right source.old) (S.gives_pages source.old) }
+    ensures ok { V.right → OnOk result (IsSoundCell encoding V.pages cell.now) }
+    ensures err { V.right → (bytes : List ℕ) → IsPayload V.pages cell.now bytes
+        → IfErr result (λ e. CellTells V.given encoding V.pages cell.now i e) }
+    ensures same { SameSource V.pages V.size V.right V.given (S.pages source.new) (S.size source.new)
+        (S.reads_right source.new) (S.gives_pages source.new) }
+{
+    if cell.at > cell.usable as usize - LEAST_CELL {
+        return Err(at_cell(cell, i, InnerFault::ShortCell));
+    }
+    let Some(size) = cell.payload else {
+        return Ok(());
+    };
+    if size > MOST_BYTES as u64 {
+        return Err(at_cell(cell, i, InnerFault::TooLong));
+    }
+    content.clear();
+    match payload(alloc, source, cell, content) {
+        Ok(()) => {}
+        Err(refusal) => return Err(DeepError::Check(refusal)),
+    }
+    match judge_record(encoding, content) {
+        Ok(()) => Ok(()),
+        Err(fault) => Err(at_cell(cell, i, fault)),
+    }
+}
+
+/// Judges the cells of a page, in the order of their pointers, as `judge_cell` does.
+pub(crate) fn judge_cells<V: Snapshot, S: PageSource>(
+    alloc: Global,
+    source: &mut S,
+    encoding: Encoding,
+    page: &BtreePage,
+    content: &mut Vec<u8>,
+) -> Result<(), DeepError>
+    requires most { length page.now.used ≤ V.size }
+    requires encoding { V.right → encoding ≡ encoding_of V.pages }
+    requires same { SameSource V.pages V.size V.right V.given (S.pages source.old) (S.size source.old)
+        (S.reads_right source.old) (S.gives_pages source.old) }
+    ensures ok { V.right → OnOk result (AreSoundCells V.pages page.now (cell_count page.now)) }
+    ensures err { V.right → (kind : Kind) (root : ℕ) → page.now ≡ page_as V.pages kind page.now.number
+        → IsOfSoundTree V.pages kind root page.now.number → IfErr result (λ e. Tells V.given V.pages e) }
+    ensures same { SameSource V.pages V.size V.right V.given (S.pages source.new) (S.size source.new)
+        (S.reads_right source.new) (S.gives_pages source.new) }
+{
+    'cells: for i in 0..page.len() {
+        let cell = page.cell(i);
+        judge_cell::<V, S>(alloc, source, encoding, &cell, i, content)?;
+    }
+    Ok(())
+}

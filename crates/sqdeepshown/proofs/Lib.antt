@@ -1,0 +1,2 @@
+mod DeepFindings
+mod NumberFacts

@@ -1,0 +1,28 @@
+-- What a deep check finds of files (own).
+use Rattle.std.specs.Prelude.{◌≡◌, ◌⊎◌, ℕ, Bool, true, false, List, Option}
+use Rattle.sqval.specs.Limits.{Bounds}
+use Rattle.sqval.specs.Database.{Database}
+use Rattle.sqdeep.specs.declared.fault.DeepError.TheVariants.{Check, Inner}
+use Rattle.sqview.specs.declared.verdict.Verdict.{Verdict}
+use Rattle.sqview.specs.declared.verdict.Verdict.TheVariants as plain
+use Rattle.sqshown.specs.Views.{AskedShows, IsFound, IsHeadless}
+use Rattle.sqdeepshown.specs.Verdicts.{FindsDeep, verdict_as}
+use Rattle.sqdeepshown.specs.declared.verdict.DeepVerdict.{DeepVerdict}
+use Rattle.sqdeepshown.specs.declared.verdict.DeepVerdict.TheVariants as deep
+
+-- the fault of the file's own header, which names no database there
+abbrev pub IsHeadlessDeep : (limits : Bounds) → (at : Option ℕ) → (db wal journal : List ℕ) → DeepVerdict → Type 0
+IsHeadlessDeep limits at db wal journal (deep.Clean report) = ⊥
+IsHeadlessDeep limits at db wal journal (deep.Damaged (Check e)) = IsHeadless limits at db wal journal (plain.Damaged e)
+IsHeadlessDeep limits at db wal journal (deep.Damaged (Inner e)) = ⊥
+
+-- Of files within limits, at the commit frame that is named: what is found of the database that they show there, or the
+-- fault of a header that names none.
+abbrev pub IsFoundDeep : (maps : Bool) → (limits : Bounds) → (at : Option ℕ) → (db wal journal : List ℕ) → DeepVerdict → Type 0
+IsFoundDeep maps limits at db wal journal verdict =
+    ((size : ℕ) × (d : Database) × AskedShows at size db wal journal d × FindsDeep maps d size verdict) ⊎ IsHeadlessDeep limits at db wal journal verdict
+
+-- the same by a deep check, or by one that isn't
+abbrev pub IsFoundAs : (is_deep maps : Bool) → (limits : Bounds) → (at : Option ℕ) → (db wal journal : List ℕ) → DeepVerdict → Type 0
+IsFoundAs true maps limits at db wal journal verdict = IsFoundDeep maps limits at db wal journal verdict
+IsFoundAs false maps limits at db wal journal verdict = (found : Verdict) × (verdict ≡ verdict_as found) × IsFound maps limits at db wal journal found

@@ -1,0 +1,4 @@
+pub mod Verdicts
+pub mod Found
+pub mod Lines
+pub mod internal

@@ -1,0 +1,100 @@
+//! What a deep check of files finds, and how it is printed.
+use crate::deep_tests::file_with;
+use sqcheck::Options as Maps;
+use sqdeep::{DeepError, InnerFault};
+use sqdeepshown::{DeepVerdict, judge_deep, judged_as, write_found};
+use sqfacts::Refusal;
+use sqshown::Asked;
+use sqval::Limits;
+use sqview::{JudgeError, Verdict, View};
+use sqwords::Style;
+use std::alloc::Global;
+use std::test::Fail;
+
+/// What is asked: the database as its log has it.
+const ASKED: Asked = Asked {
+    limits: Limits::USUAL,
+    at: None,
+    maps: Maps::PLAIN,
+};
+
+/// What is found of a file without logs.
+fn found(alloc: Global, deep: bool, file: &[u8]) -> Result<DeepVerdict, Refusal> {
+    let none = [].as_slice();
+    match judged_as(alloc, ASKED, deep, file, none, none) {
+        Ok(found) => Ok(found.verdict),
+        Err(refusal) => Err(refusal),
+    }
+}
+
+/// The line of that.
+fn line(alloc: Global, style: Style, deep: bool, file: &[u8]) -> Option<Vec<u8>> {
+    let verdict = found(alloc, deep, file).ok()?;
+    let mut out = Vec::new(alloc);
+    match write_found(&mut out, style, deep, &verdict) {
+        Ok(()) => Some(out),
+        Err(_) => None,
+    }
+}
+
+/// Whether a line was printed, and is this one.
+fn is_line(line: Option<Vec<u8>>, wanted: &[u8]) -> bool {
+    match line {
+        Some(line) => line.as_slice() == wanted,
+        None => false,
+    }
+}
+
+/// What is found of a view of a file without logs.
+fn viewed(alloc: Global, file: &[u8]) -> Result<DeepVerdict, JudgeError> {
+    let none = [].as_slice();
+    match View::new(alloc, file, none, none) {
+        Ok(mut view) => judge_deep(alloc, &mut view, Maps::PLAIN),
+        Err(_) => Err(JudgeError::Unread),
+    }
+}
+
+#[test]
+fn lines_of_files(rt: HostRuntime) -> Result<(), Fail> {
+    let alloc = rt.alloc();
+    let sound = file_with(alloc, 2, &[])?;
+    let clean = b"clean: 2 pages, 2 trees, 2 b-tree, 0 overflow, 0 free; records sound\n";
+    assert!(rt; is_line(line(alloc, Style::Lines, true, &sound), clean));
+    let clean = b"clean: 2 pages, 2 trees, 2 b-tree, 0 overflow, 0 free\n";
+    assert!(rt; is_line(line(alloc, Style::Lines, false, &sound), clean));
+    let damaged = file_with(alloc, 2, &[(1008, &[9])])?;
+    let fault = b"{\"page\":2,\"cell\":2,\"fault\":42,\"name\":\"NotRecord\"}\n";
+    assert!(rt; is_line(line(alloc, Style::Json, true, &damaged), fault));
+    Ok(())
+}
+
+#[test]
+fn files_that_are_damaged(rt: HostRuntime) -> Result<(), Fail> {
+    let alloc = rt.alloc();
+    let file = file_with(alloc, 2, &[(18, &[3])])?;
+    match found(alloc, true, &file) {
+        Ok(DeepVerdict::Damaged(DeepError::Inner(error))) => {
+            assert!(rt; error.fault == InnerFault::Version);
+        }
+        _ => assert!(rt; false),
+    }
+    assert!(rt; matches!(found(alloc, false, &file), Ok(DeepVerdict::Clean(_))));
+    let file = file_with(alloc, 2, &[(512, &[9])])?;
+    let plain = found(alloc, false, &file);
+    assert!(rt; matches!(plain, Ok(DeepVerdict::Damaged(DeepError::Check(_)))));
+    assert!(rt; found(alloc, true, &file) == plain);
+    Ok(())
+}
+
+#[test]
+fn a_view(rt: HostRuntime) -> Result<(), Fail> {
+    let alloc = rt.alloc();
+    let file = file_with(alloc, 2, &[])?;
+    match viewed(alloc, &file) {
+        Ok(DeepVerdict::Clean(report)) => {
+            assert!(rt; DeepVerdict::of(Verdict::Clean(report)) == DeepVerdict::Clean(report));
+        }
+        _ => assert!(rt; false),
+    }
+    Ok(())
+}
