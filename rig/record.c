@@ -524,20 +524,24 @@ int fdatasync(int descriptor) { return sync_one(descriptor, 1); }
 /* ---- Names that go, change or come. */
 
 static int unlinked(enum file file, int answer) {
-    if (file <= JOURNAL) put(UNLINK, file, makings[file], told(answer), 0, 0, NULL);
+    put(UNLINK, file, makings[file], told(answer), 0, 0, NULL);
     leave();
     return answer;
 }
 
 int unlinkat(int at, const char *path, int flags) {
-    enter();
     enum file file = file_by(named, at, path);
+    if (!next_unlinkat) start();
+    if (file > JOURNAL) return next_unlinkat(at, path, flags);
+    enter();
     return unlinked(file, next_unlinkat(at, path, flags));
 }
 int unlink(const char *path) { return unlinkat(AT_FDCWD, path, 0); }
 int remove(const char *path) {
-    enter();
     enum file file = file_by(named, AT_FDCWD, path);
+    if (!next_remove) start();
+    if (file > JOURNAL) return next_remove(path);
+    enter();
     return unlinked(file, next_remove(path));
 }
 
@@ -547,11 +551,17 @@ static enum file data_file_of(int at, const char *path) {
     return file <= JOURNAL ? file : OTHER;
 }
 
+static int rename_one(int at, const char *path, int at_to, const char *to_path, unsigned flags) {
+    return flags ? next_renameat2(at, path, at_to, to_path, flags) : next_renameat(at, path, at_to, to_path);
+}
+
 int renameat2(int at, const char *path, int at_to, const char *to_path, unsigned flags) {
-    enter();
     enum file from = data_file_of(at, path), to = data_file_of(at_to, to_path);
-    int answer = flags ? next_renameat2(at, path, at_to, to_path, flags) : next_renameat(at, path, at_to, to_path);
-    if (from != to) put(RENAME, from, from == OTHER ? 0 : makings[from], told(answer), to, 0, NULL);
+    if (!next_renameat) start();
+    if (from == to) return rename_one(at, path, at_to, to_path, flags);
+    enter();
+    int answer = rename_one(at, path, at_to, to_path, flags);
+    put(RENAME, from, from == OTHER ? 0 : makings[from], told(answer), to, 0, NULL);
     leave();
     return answer;
 }
@@ -610,9 +620,12 @@ ssize_t pwritev2(int descriptor, const struct iovec *parts, int count, off_t pla
     return pwritev64v2(descriptor, parts, count, place, flags);
 }
 int linkat(int at, const char *from, int at_to, const char *to, int flags) {
+    enum file one = file_by(named, at, from), other = file_by(named, at_to, to);
+    if (!next_linkat) start();
+    if (one > JOURNAL && other > JOURNAL) return next_linkat(at, from, at_to, to, flags);
     enter();
-    put_not_held(file_by(named, at, from), LINK);
-    put_not_held(file_by(named, at_to, to), LINK);
+    put_not_held(one, LINK);
+    put_not_held(other, LINK);
     int answer = next_linkat(at, from, at_to, to, flags);
     leave();
     return answer;

@@ -13,6 +13,7 @@ use Rattle.sqimages.specs.declared.image.Image.{Image}
 use Rattle.sqjudge.specs.declared.judgment.Judgment.{Judgment}
 use Rattle.sqcrash.specs.Runs.{RunState}
 use Rattle.sqcrash.specs.Surveys.{is_lost, is_mixed, is_fault, one_if, with_image, with_images, Judged, judgments, finding_of, findings_from, IsJudgedBy, Tells, AreNumbered, IsFixedScan, IsScanOf}
+use Rattle.sqcrash.specs.Samples.{Adds}
 use Rattle.sqcrash.specs.declared.survey.Tally.{Tally}
 use Rattle.sqcrash.specs.declared.survey.Finding.{Finding}
 use Rattle.sqcrash.specs.declared.survey.Survey.{Survey}
@@ -51,25 +52,25 @@ pub all_none : {X : Type 0} (P : X → Type 0) → All P []
 all_none P k d below = absurd (omega arith)
 
 -- one more that is judged
-pub tells_more : (run : RunState) (judged : List Judged) (x : Judged) (old mid new : Survey) → Tells run judged old mid → IsJudgedBy run x → new.tally ≡ with_image mid.tally x.judgment
-    → new.findings.items ≡ mid.findings.items ++ finding_of (length judged) x.judgment → Tells run (judged ++ x ∷ []) old new
-tells_more run judged x old mid new told is counted found =
+pub tells_more : (run : RunState) (judged : List Judged) (x : Judged) (old mid new : Survey) → Tells run judged old mid → IsJudgedBy run x → Adds x.judgment mid new → Tells run (judged ++ x ∷ []) old new
+tells_more run judged x old mid new told is adds =
     let js = judgments judged in
     let all : judgments (judged ++ x ∷ []) ≡ js ++ x.judgment ∷ [] = map-append (λ (y : Judged). y.judgment) judged (x ∷ []) in
     let long : length js ≡ length judged = length-map judged (λ (y : Judged). y.judgment) in
     record {
       each = All-append (IsJudgedBy run) judged (x ∷ []) told.each (all_one (IsJudgedBy run) x is);
-      tally = counted ∙ ap (λ (t : Tally). with_image t x.judgment) told.tally ∙ sym (images_more old.tally js x.judgment) ∙ ap (λ (l : List Judgment). with_images old.tally l) (sym all);
-      findings = found
-          ∙ ap (λ (l : List Finding). l ++ finding_of (length judged) x.judgment) told.findings
-          ∙ append_assoc old.findings.items (findings_from 0 js) (finding_of (length judged) x.judgment)
-          ∙ ap (λ (k : ℕ). old.findings.items ++ (findings_from 0 js ++ finding_of k x.judgment)) (let e : length judged ≡ 0 + length js = omega (arith, long) in e)
-          ∙ ap (λ (l : List Finding). old.findings.items ++ l) (sym (findings_more 0 js x.judgment) ∙ ap (λ (l : List Judgment). findings_from 0 l) (sym all));
+      tally = adds.tally ∙ ap (λ (t : Tally). with_image t x.judgment) told.tally ∙ sym (images_more old.tally js x.judgment) ∙ ap (λ (l : List Judgment). with_images old.tally l) (sym all);
+      findings = adds.findings
+          ∙ ap (λ (l : List Finding). l ++ finding_of mid.next x.judgment) told.findings
+          ∙ append_assoc old.findings.items (findings_from old.next js) (finding_of mid.next x.judgment)
+          ∙ ap (λ (k : ℕ). old.findings.items ++ (findings_from old.next js ++ finding_of k x.judgment)) (let e : mid.next ≡ old.next + length js = omega (arith, told.next, long) in e)
+          ∙ ap (λ (l : List Finding). old.findings.items ++ l) (sym (findings_more old.next js x.judgment) ∙ ap (λ (l : List Judgment). findings_from old.next l) (sym all));
+      next = omega (arith, adds.next, told.next, length-append judged (x ∷ []));
     }
 
 -- none are told
 pub tells_none : (run : RunState) (s : Survey) → Tells run [] s s
-tells_none run s = record { each = all_none (IsJudgedBy run); tally = no_images s.tally; findings = sym (append-nil s.findings.items) }
+tells_none run s = record { each = all_none (IsJudgedBy run); tally = no_images s.tally; findings = sym (append-nil s.findings.items); next = omega arith }
   where
     no_images : (t : Tally) → t ≡ with_images t []
     no_images t =

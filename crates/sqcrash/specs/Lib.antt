@@ -1,6 +1,11 @@
 pub mod Promises
 pub mod Runs
+pub mod Snapshots
+pub mod Marked
+pub mod Markings
 pub mod Surveys
+pub mod Samples
 pub mod Lines
 pub mod Rigs
 pub mod Sectors
+pub mod internal

@@ -8,6 +8,7 @@ use Rattle.sqview.specs.declared.view_error.ViewError.{ViewError}
 use Rattle.sqview.specs.declared.view_error.ViewError.TheVariants as refusals
 use Rattle.sqjudge.specs.declared.judgment.Judgment.{Judgment}
 use Rattle.sqjudge.specs.declared.judgment.Judgment.TheVariants as judgments
+use Rattle.sqcrash.specs.declared.marked.CommitFault.{CommitFault}
 use Rattle.sqcrash.specs.declared.survey.Finding.{Finding}
 
 -- a fault of a page
@@ -23,7 +24,7 @@ refusal_text refusals.Unread = codes "fault file failed"
 refusal_text refusals.NoMemory = codes "fault no memory"
 refusal_text refusals.NoSuchCommit = codes "fault no such commit"
 
--- what is wrong, where a commit is known to be down
+-- what is wrong, where a commit is known to be durable
 abbrev pub wrong_text : (known : ℕ) → Judgment → List ℕ
 wrong_text known (judgments.Kept k) = codes "kept (commit " ++ (decimal k ++ codes " shown)")
 wrong_text known (judgments.Lost k) = codes "lost (commit " ++ (decimal k ++ (codes " shown, " ++ (decimal known ++ codes " known)")))
@@ -38,3 +39,11 @@ line_text point known f = codes "point " ++ (decimal point ++ (codes " image " +
 -- the lines of findings at a point, each with its end
 abbrev pub lines_text : (point known : ℕ) → List Finding → List ℕ
 lines_text point known found = flat_map (λ f. line_text point known f ++ 10 ∷ []) found
+
+-- the line of a commit that isn't well formed, without its end
+abbrev pub commit_text : CommitFault → List ℕ
+commit_text f = codes "commit " ++ (decimal f.commit ++ (codes ": " ++ fault_text f.error.page f.error.fault))
+
+-- the lines of commits, each with its end
+abbrev pub commits_text : List CommitFault → List ℕ
+commits_text faults = flat_map (λ f. commit_text f ++ 10 ∷ []) faults

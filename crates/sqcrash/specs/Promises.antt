@@ -1,4 +1,4 @@
--- What is known to be down at a mark (own).
+-- What is known to be durable at a mark (own).
 use Rattle.std.specs.Prelude.{◌≡◌, ◌≢◌, ◌⊎◌, ℕ, ◌+◌, ◌-◌, ◌<◌, ◌≤◌, List, length, get_or, codes}
 use Rattle.sqcrash.specs.declared.promise.Promise.{Promise}
 use Rattle.sqcrash.specs.declared.promise.Promise.TheVariants.{Full, Last, Ordered}
@@ -11,7 +11,8 @@ IsMark line Commit = line ≡ codes "commit"
 IsMark line Settled = (line ≡ codes "checkpoint") ⊎ (line ≡ codes "closed")
 IsMark line Other = (line ≢ codes "commit") × (line ≢ codes "checkpoint") × (line ≢ codes "closed")
 
--- the number of the last commit that is promised to be down at a mark, where that of the marking thread's last commit is `last`
+-- the number of the last commit that is promised to be durable at a mark, where that of the marking thread's last
+-- commit is `last`
 abbrev pub promised : Promise → Mark → (last : ℕ) → ℕ
 promised Full Commit last = last
 promised Full Settled last = last

@@ -1,13 +1,16 @@
 -- A trace is played, and the images of its points are judged (own).
-use Rattle.std.specs.Prelude.{◌≡◌, ℕ, Bool, true, false, ◌&&◌, nat_eq, List, [], ◌∷◌, ◌++◌}
+use Rattle.std.specs.Prelude.{◌≡◌, ℕ, Bool, true, false, ◌&&◌, nat_eq, List, [], ◌∷◌, ◌++◌, length, map}
 use Rattle.sqplay.specs.Trace.{IsTrace}
 use Rattle.sqplay.specs.declared.trace.Kind.{Kind}
 use Rattle.sqplay.specs.declared.trace.Kind.TheVariants as kinds
 use Rattle.sqplay.specs.declared.trace.Record.{Record}
 use Rattle.sqplay.specs.declared.trace.Trace.{Trace}
-use Rattle.sqcrash.specs.Runs.{RunState, run_of, no_run, PlaysOne}
+use Rattle.sqjudge.specs.Shown.{commit_of}
+use Rattle.sqcrash.specs.Runs.{RunState, run_of, no_run, with_marked, PlaysOne}
+use Rattle.sqcrash.specs.Marked.{are_at_marks, AreMarked}
 use Rattle.sqcrash.specs.Surveys.{no_tally, IsSurvey}
-use Rattle.sqcrash.specs.Lines.{lines_text}
+use Rattle.sqcrash.specs.Lines.{lines_text, commits_text}
+use Rattle.sqcrash.specs.declared.marked.Marked.{Marked}
 use Rattle.sqcrash.specs.declared.survey.Tally.{Tally}
 use Rattle.sqcrash.specs.declared.survey.Finding.{Finding}
 use Rattle.sqcrash.specs.declared.survey.Survey.{Survey}
@@ -54,10 +57,36 @@ JudgesAll plan b (r ∷ records) old new lines =
     (mid : RigState) × (found : List Finding) × (rest : List ℕ)
     × Judges plan b r old mid found × JudgesAll plan b records mid new rest × (lines ≡ lines_at mid found ++ rest)
 
--- What is counted of a trace and written of it: all its records, from no files on.
+-- nothing was played yet
+abbrev pub no_rig : Plan → RigState
+no_rig plan = record { run = no_run plan.promise plan.sector plan.tears plan.meta; tally = no_tally }
+
+-- a rig of which the commits are those at marks; each that isn't well formed is a fault that is counted
+abbrev pub marked_rig : RigState → Marked → RigState
+marked_rig rig m = record {
+  run = with_marked rig.run (map commit_of m.commits.items);
+  tally = record rig.tally { faults = length m.faults.items };
+}
+
+-- The rig by which a trace is judged, and the lines of what is wrong with its commits: those at marks, of which the
+-- files were looked at before.
+abbrev pub BeginsBy : (at_marks : Bool) → Plan → List ℕ → List Record → RigState → (lines : List ℕ) → Type 0
+BeginsBy false plan b records rig lines = (rig ≡ no_rig plan) × (lines ≡ [])
+BeginsBy true plan b records rig lines =
+    (m : Marked) × AreMarked (no_rig plan).run b records m × (rig ≡ marked_rig (no_rig plan) m) × (lines ≡ commits_text m.faults.items)
+
+abbrev pub BeginsRig : Plan → List ℕ → List Record → RigState → (lines : List ℕ) → Type 0
+BeginsRig plan b records rig lines = BeginsBy (are_at_marks plan.commits) plan b records rig lines
+
+-- What is counted of a trace and written of it: its commits, and then all its records, from no files on.
 pub record IsJudgment (plan : Plan) (b : List ℕ) (tally : Tally) (lines : List ℕ) : Type 0 where
   pub trace : Trace
   pub is_trace : IsTrace b trace
+  pub first : RigState
+  pub of_commits : List ℕ
+  pub begun : BeginsRig plan b trace.records.items first of_commits
   pub last : RigState
-  pub judged : JudgesAll plan b trace.records.items (record { run = no_run plan.promise plan.sector plan.tears plan.meta; tally = no_tally }) last lines
+  pub of_images : List ℕ
+  pub judged : JudgesAll plan b trace.records.items first last of_images
   pub counted : tally ≡ last.tally
+  pub all : lines ≡ of_commits ++ of_images

@@ -1,5 +1,5 @@
--- A recorded run: what it committed, what a crash may leave of it, and what is known to be down (own).
-use Rattle.std.specs.Prelude.{◌≡◌, ◌≢◌, ◌⊎◌, ℕ, max, Bool, cond, List, [], ◌∷◌, ◌++◌}
+-- A recorded run: what it committed, what a crash may leave of it, and what is known to be durable (own).
+use Rattle.std.specs.Prelude.{◌≡◌, ◌≢◌, ◌⊎◌, ℕ, max, Bool, cond, List, [], ◌∷◌, ◌++◌, map, reverse}
 use Rattle.sqplay.specs.Plays.{Files, files_of, no_files, Step}
 use Rattle.sqplay.specs.Trace.{bytes_of}
 use Rattle.sqplay.specs.declared.meta.Meta.{Meta}
@@ -8,27 +8,31 @@ use Rattle.sqplay.specs.declared.trace.Kind.TheVariants as kinds
 use Rattle.sqplay.specs.declared.trace.Record.{Record}
 use Rattle.sqimages.specs.Left.{IsPresent}
 use Rattle.sqimages.specs.declared.image.Image.{Image}
-use Rattle.sqjudge.specs.Shown.{Commit, IsNoted, commits_of}
+use Rattle.sqjudge.specs.Shown.{Commit, IsNoted, IsShowing, commit_of, commits_of}
 use Rattle.sqcrash.specs.Promises.{IsMark, promised, IsSpokenOf}
+use Rattle.sqcrash.specs.declared.plan.CommitsAt.{CommitsAt}
+use Rattle.sqcrash.specs.declared.plan.CommitsAt.TheVariants as at
 use Rattle.sqcrash.specs.declared.promise.Promise.{Promise}
 use Rattle.sqcrash.specs.declared.promise.Mark.{Mark}
 use Rattle.sqcrash.specs.declared.run.Run.{Run}
 
--- What a crash may leave of the files; the committed databases, the oldest first, and the thread that made each; and the number of
--- the last one that is known to be down.
+-- What a crash may leave of the files; the committed databases, the oldest first, and the thread that made each; the
+-- number of the last one that is known to be durable; and where commits are those at marks, these that aren't shown yet.
 pub record RunState : Type 0 where
   pub promise : Promise
+  pub taken_at : CommitsAt
+  pub waiting : List Commit
   pub files : Files
   pub commits : List Commit
   pub makers : List ℕ
   pub known : ℕ
 
 abbrev pub run_of : Run → RunState
-run_of r = record { promise = r.promise; files = files_of r.player; commits = commits_of r.history; makers = r.makers.items; known = r.known }
+run_of r = record { promise = r.promise; taken_at = r.taken_at; waiting = map commit_of (reverse r.waiting.items); files = files_of r.player; commits = commits_of r.history; makers = r.makers.items; known = r.known }
 
 -- nothing was played yet
 abbrev pub no_run : Promise → (sector : ℕ) (tears : Bool) → Meta → RunState
-no_run promise sector tears meta = record { promise = promise; files = no_files sector tears meta; commits = []; makers = []; known = 0 }
+no_run promise sector tears meta = record { promise = promise; taken_at = at.Calls; waiting = []; files = no_files sector tears meta; commits = []; makers = []; known = 0 }
 
 -- the database that the present files show is one more commit, which this thread made, where it isn't the last one's
 pub record Notes (thread : ℕ) (old new : RunState) : Type 0 where
@@ -38,17 +42,38 @@ pub record Notes (thread : ℕ) (old new : RunState) : Type 0 where
   pub noted : IsNoted present.db.items present.wal.items present.journal.items taken old.commits new.commits
   pub goes : new ≡ record old { commits = new.commits; makers = cond taken (old.makers ++ thread ∷ []) old.makers }
 
+-- the next of the commits at marks is taken, which this thread made, where the present files show it
+pub record TakesNext (next : Commit) (rest : List Commit) (thread : ℕ) (old new : RunState) : Type 0 where
+  pub present : Image
+  pub is_present : IsPresent old.files present
+  pub shown : Bool
+  pub is_shown : IsShowing next present.db.items present.wal.items present.journal.items shown
+  pub goes : new ≡ cond shown (record old { commits = old.commits ++ next ∷ []; makers = old.makers ++ thread ∷ []; waiting = rest }) old
+
+-- the same of those that aren't shown yet, if there are any
+abbrev pub TakesWaiting : List Commit → (thread : ℕ) (old new : RunState) → Type 0
+TakesWaiting [] thread old new = new ≡ old
+TakesWaiting (next ∷ rest) thread old new = TakesNext next rest thread old new
+
+-- commits are taken: each database that the present files show, or those at marks
+abbrev pub TakesBy : CommitsAt → (thread : ℕ) (old new : RunState) → Type 0
+TakesBy at.Calls thread old new = Notes thread old new
+TakesBy at.Marks thread old new = TakesWaiting old.waiting thread old new
+
+abbrev pub Takes : (thread : ℕ) (old new : RunState) → Type 0
+Takes thread old new = TakesBy old.taken_at thread old new
+
 -- before the first call that isn't of a file that was there, what the files show is commit 0
 abbrev pub Begins : (thread : ℕ) (old new : RunState) → Type 0
-Begins thread old new = ((old.commits ≡ []) × Notes thread old new) ⊎ ((old.commits ≢ []) × (new ≡ old))
+Begins thread old new = ((old.commits ≡ []) × Takes thread old new) ⊎ ((old.commits ≢ []) × (new ≡ old))
 
 -- the files go over as a record says
 abbrev pub Goes : List ℕ → Record → (old new : RunState) → Type 0
 Goes b r old new = Step b r old.files new.files × (new ≡ record old { files = new.files })
 
--- a call is played, and what it commits is noted
+-- a call is played, and what it commits is taken
 abbrev pub Calls : List ℕ → Record → (old new : RunState) → Type 0
-Calls b r old new = (begun : RunState) × (gone : RunState) × Begins r.thread old begun × Goes b r begun gone × Notes r.thread gone new
+Calls b r old new = (begun : RunState) × (gone : RunState) × Begins r.thread old begun × Goes b r begun gone × Takes r.thread gone new
 
 -- what a thread's line says is known, and stays so
 pub record Marks (thread : ℕ) (line : List ℕ) (old new : RunState) : Type 0 where
@@ -66,3 +91,7 @@ PlaysBy _ b r old new = Calls b r old new
 
 abbrev pub PlaysOne : List ℕ → Record → (old new : RunState) → Type 0
 PlaysOne b r old new = PlaysBy r.kind b r old new
+
+-- a run of which the commits are these, at marks
+abbrev pub with_marked : RunState → List Commit → RunState
+with_marked run commits = record run { taken_at = at.Marks; waiting = commits }

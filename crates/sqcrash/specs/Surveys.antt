@@ -1,13 +1,16 @@
 -- What is counted and told of the images at a point (own).
-use Rattle.std.specs.Prelude.{◌≡◌, ◌⊎◌, ℕ, suc, ◌+◌, ◌<◌, ◌≤◌, IsTrue, Bool, true, false, cond, List, [], ◌∷◌, ◌++◌, length, map, Option, Some, None}
-use Rattle.std.specs.List.{All, count_by}
+use Rattle.std.specs.Prelude.{◌≡◌, ◌⊎◌, ℕ, suc, ◌+◌, ◌/◌, ◌<◌, ◌≤◌, IsTrue, Bool, true, false, cond, List, [], ◌∷◌, ◌++◌, length, map, Option, Some, None}
+use Rattle.std.specs.List.{All, AllPairs, count_by}
 use Rattle.sqwal.specs.Took.{Took}
 use Rattle.sqwal.specs.declared.scan.Scan.{Scan}
 use Rattle.sqimages.specs.Images.{AreCounts, IsNumbered, image_count}
 use Rattle.sqimages.specs.Left.{MayLeave}
+use Rattle.sqimages.specs.Torn.{MayLeaveTorn, NoneTears}
 use Rattle.sqimages.specs.declared.counts.Counts.{Counts}
 use Rattle.sqimages.specs.declared.fixed.Fixed.{Fixed}
 use Rattle.sqimages.specs.declared.image.Image.{Image}
+use Rattle.sqimages.specs.declared.torn.Which.{Which}
+use Rattle.sqimages.specs.declared.torn.Which.TheVariants.{Db, Wal, Journal}
 use Rattle.sqjudge.specs.Judged.{IsFilesJudgment}
 use Rattle.sqjudge.specs.declared.judgment.Judgment.{Judgment}
 use Rattle.sqjudge.specs.declared.judgment.Judgment.TheVariants.{Kept, Lost, Mixed, Fault, Refused}
@@ -86,16 +89,18 @@ findings_from n (j ∷ js) = finding_of n j ++ findings_from (suc n) js
 pub record IsBegun (before : Tally) (s : Survey) : Type 0 where
   pub tally : s.tally ≡ with_point before
   pub findings : s.findings.items ≡ []
+  pub next : s.next ≡ 0
 
 -- each image has its judgment, by the commits of the run
 abbrev pub IsJudgedBy : RunState → Judged → Type 0
 IsJudgedBy run x = IsFilesJudgment run.commits run.known x.image.db.items x.image.wal.items x.image.journal.items x.judgment
 
--- images are judged, counted and told
+-- images are judged, counted and told, by their numbers at the point
 pub record Tells (run : RunState) (judged : List Judged) (old new : Survey) : Type 0 where
   pub each : All (IsJudgedBy run) judged
   pub tally : new.tally ≡ with_images old.tally (judgments judged)
-  pub findings : new.findings.items ≡ old.findings.items ++ findings_from 0 (judgments judged)
+  pub findings : new.findings.items ≡ old.findings.items ++ findings_from old.next (judgments judged)
+  pub next : new.next ≡ old.next + length judged
 
 -- images are those of the numbers from n on
 abbrev pub AreNumbered : RunState → Counts → (n : ℕ) → List Judged → Type 0
@@ -111,15 +116,47 @@ pub record IsNumberedSurvey (run : RunState) (old new : Survey) : Type 0 where
   pub all : length judged ≡ image_count run.files
   pub told : Tells run judged old new
 
--- so many images that a crash may leave
-pub record IsDrawnSurvey (run : RunState) (limit : ℕ) (old new : Survey) : Type 0 where
+-- two images have the same files
+pub record AreSame (x y : Image) : Type 0 where
+  pub db : x.db.items ≡ y.db.items
+  pub wal : x.wal.items ≡ y.wal.items
+  pub journal : x.journal.items ≡ y.journal.items
+
+-- images that are drawn of those that may be left: no two are the same, and there are no more than so many, but one at least
+pub record IsSample (Left : Image → Type 0) (run : RunState) (limit : ℕ) (old new : Survey) : Type 0 where
   pub judged : List Judged
-  pub left : All (λ x. MayLeave run.files x.image) judged
-  pub many : length judged ≡ limit
+  pub left : All (λ x. Left x.image) judged
+  pub differ : AllPairs (λ x y. ¬ AreSame x.image y.image) judged
+  pub some : 0 < limit → 0 < length judged
+  pub most : length judged ≤ limit
   pub told : Tells run judged old new
 
--- The images of a point: all that a crash may leave there, where they are no more than the limit, otherwise so many of them.
+-- of those that a crash may leave
+abbrev pub IsDrawnSurvey : RunState → (limit : ℕ) → (old new : Survey) → Type 0
+IsDrawnSurvey run limit old new = IsSample (MayLeave run.files) run limit old new
+
+-- of those in which a sector of this file is torn, where one may be
+abbrev pub IsTornSurvey : RunState → Which → (limit : ℕ) → (old new : Survey) → Type 0
+IsTornSurvey run w limit old new = IsSample (MayLeaveTorn run.files w) run limit old new ⊎ (NoneTears run.files w × (new ≡ old))
+
+-- a third, and one where that leaves something
+abbrev pub third_of : ℕ → ℕ
+third_of n = (n + 2) / 3
+
+-- all that a crash may leave with no sector torn, where they are no more than the limit, otherwise some that are drawn
+abbrev pub IsUntornSurvey : RunState → (limit : ℕ) → (old new : Survey) → Type 0
+IsUntornSurvey run limit old new =
+    ((image_count run.files ≤ limit) × IsNumberedSurvey run old new) ⊎ ((limit < image_count run.files) × IsDrawnSurvey run limit old new)
+
+-- The images of a point: those with no sector torn, and where sectors may tear a third as many in which one of the database file is
+-- torn, of the log, and of the journal.
 pub record IsSurvey (run : RunState) (limit : ℕ) (before : Tally) (s : Survey) : Type 0 where
   pub begun : Survey
   pub begins : IsBegun before begun
-  pub images : ((image_count run.files ≤ limit) × IsNumberedSurvey run begun s) ⊎ ((limit < image_count run.files) × IsDrawnSurvey run limit begun s)
+  pub mid : Survey
+  pub untorn : IsUntornSurvey run limit begun mid
+  pub db : Survey
+  pub torn_db : IsTornSurvey run Db (third_of limit) mid db
+  pub wal : Survey
+  pub torn_wal : IsTornSurvey run Wal (third_of limit) db wal
+  pub torn_journal : IsTornSurvey run Journal (third_of limit) wal s

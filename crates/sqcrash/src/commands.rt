@@ -2,7 +2,7 @@
 ghost use Rattle.std.specs.Prelude.{IfOk, IfSome};
 ghost use Rattle.sqcrash.specs.Sectors.{IsSectorAsked};
 
-use crate::plan::Plan;
+use crate::plan::{CommitsAt, Plan};
 use crate::promise::Promise;
 use crate::requests::{LineError, Request};
 use clap::error::ErrorKind;
@@ -37,6 +37,7 @@ fn command<'a>(alloc: Global) -> Result<Command<'a>, AllocError> {
     let promises: &'static [&'static str] = &["full", "last", "ordered", "none"];
     let metas: &'static [&'static str] = &["parts", "whole", "ordered"];
     let sectors: &'static [&'static str] = &["512", "4096"];
+    let commits: &'static [&'static str] = &["marks", "calls"];
     let trace = Arg::new(alloc, "TRACE")
         .required(true)
         .action(ArgAction::Set)
@@ -60,14 +61,14 @@ fn command<'a>(alloc: Global) -> Result<Command<'a>, AllocError> {
             alloc,
             "meta",
             "HOW",
-            "How names and lengths go down: in parts, as a whole, or in the order of calls; whole if left out",
+            "How names and lengths become durable: in parts, as a whole, or in the order of calls; whole if left out",
         )
         .value_parser(metas))?
         .arg(option(
             alloc,
             "images",
             "N",
-            "The most images at a point, 1000 if left out; all where they are no more",
+            "The most images at a point, 1000 if left out; all where they are no more, and torn ones beside them",
         )
         .value_parser(value_parser!(u64).range(1..)))?
         .arg(option(
@@ -91,10 +92,25 @@ fn command<'a>(alloc: Global) -> Result<Command<'a>, AllocError> {
         .value_parser(promises))?
         .arg(option(
             alloc,
+            "commits",
+            "WHERE",
+            "Commits are what the files show after each call, or at marks alone, each checked; calls if left out",
+        )
+        .value_parser(commits))?
+        .arg(option(
+            alloc,
             "keep",
             "DIR",
             "Writes images with something wrong, the first 1000, to DIR/pPOINT-iIMAGE.db, -wal and -journal",
         ))
+}
+
+/// Which databases are to be commits.
+fn commits_at(matches: &ArgMatches<'_>) -> CommitsAt {
+    match matches.get_str("commits") {
+        Some("marks") => CommitsAt::Marks,
+        _ => CommitsAt::Calls,
+    }
 }
 
 /// What the words ask for.
@@ -125,6 +141,7 @@ fn matched<'a>(matches: &ArgMatches<'a>) -> Option<Request<'a>>
         seed: matches.get_one::<u64>("seed").unwrap_or(1),
         every: matches.get_flag("every"),
         promise,
+        commits: commits_at(matches),
     };
     Some(Request {
         trace: matches.get_str("TRACE")?,

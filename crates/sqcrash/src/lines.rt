@@ -1,8 +1,9 @@
 //! The lines that are printed of what is wrong with images (own).
 ghost use Rattle.std.specs.Prelude.{OnOk};
 ghost use Rattle.std.specs.Io.KnownBytes.{Appends};
-ghost use Rattle.sqcrash.specs.Lines.{lines_text};
+ghost use Rattle.sqcrash.specs.Lines.{lines_text, commits_text};
 
+use crate::marked::CommitFault;
 use crate::survey::Finding;
 use sqjudge::Judgment;
 use sqpage::{CheckError, Fault};
@@ -48,7 +49,7 @@ impl fmt::Display for NoView {
     }
 }
 
-/// What is wrong with an image, where a commit is known to be down.
+/// What is wrong with an image, where a commit is known to be durable.
 #[derive(Clone, Copy)]
 struct Wrong {
     known: usize,
@@ -118,6 +119,32 @@ pub fn write_findings<O: Write>(
                 finding
             }
         )?;
+    }
+    Ok(())
+}
+
+/// The line of a commit that isn't well formed.
+#[derive(Clone, Copy)]
+struct CommitLine(CommitFault);
+
+impl fmt::Display for CommitLine {
+    ghost use Rattle.std.specs.Prelude.{Some};
+    ghost use Rattle.sqcrash.specs.Lines.{commit_text};
+
+    ghost output = { λ x. Some (commit_text x.0) };
+
+    fn fmt<W: fmt::Write>(&self, f: &mut fmt::Formatter<W>) -> fmt::Result {
+        let CommitFault { commit, error } = self.0;
+        write!(f, "commit {commit}: {}", PageFault(error.page, error.fault))
+    }
+}
+
+/// Writes a line for each commit that isn't well formed, in their order.
+pub fn write_commits<O: Write>(out: &mut O, faults: &[CommitFault]) -> io::Result<()>
+    ensures { OnOk result (Appends (O.contents out.old) (O.contents out.new) (commits_text faults.now)) }
+{
+    for fault in faults {
+        writeln!(out, "{}", CommitLine(*fault))?;
     }
     Ok(())
 }

@@ -6,6 +6,7 @@ ghost use Rattle.std.specs.Prelude.{◌≤◌, IfOk};
 mod commands;
 mod keep;
 mod lines;
+mod marked;
 mod outcome;
 mod plan;
 mod program;
@@ -13,6 +14,7 @@ mod promise;
 mod requests;
 mod rig;
 mod run;
+mod sample;
 mod survey;
 
 use std::env::{self, Env};

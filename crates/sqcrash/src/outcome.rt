@@ -18,6 +18,12 @@ pub enum Refusal {
     /// The record at this byte can't be played.
     #[error("{1} at byte {0}")]
     Record(usize, PlayError),
+    /// No record of the trace is a mark, and a crash was to come at marks alone.
+    #[error("no marks, so that nothing would be judged; --every judges after each call")]
+    NoMarks,
+    /// No record of the trace may change what is on the disk, and none is a mark.
+    #[error("no calls, so that nothing would be judged")]
+    NoCalls,
     /// A count would pass its greatest number.
     #[error("too many images")]
     TooMany,

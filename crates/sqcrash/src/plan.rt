@@ -5,6 +5,15 @@ ghost use Rattle.crashdisk.specs.Solid.{is_sector_size};
 use crate::promise::Promise;
 use sqplay::Meta;
 
+/// Which databases of a run are its commits.
+#[derive(Clone, Copy, Debug, PartialEq, Eq)]
+pub enum CommitsAt {
+    /// Those that the files show at the beginning and at each mark.
+    Marks,
+    /// Each that the files show at the beginning and behind a call.
+    Calls,
+}
+
 /// How a trace is to be judged.
 #[derive(Clone, Copy, Debug, PartialEq, Eq)]
 pub struct Plan {
@@ -12,9 +21,9 @@ pub struct Plan {
     pub sector: usize,
     /// Whether a sector that is being written may hold anything after a crash.
     pub tears: bool,
-    /// How names and lengths go down.
+    /// How names and lengths become durable.
     pub meta: Meta,
-    /// The most images that are taken at a point.
+    /// The most images that are taken at a point with no sector torn. A third as many are taken with one of each file.
     pub images: u64,
     /// What the draws begin with.
     pub seed: u64,
@@ -22,5 +31,7 @@ pub struct Plan {
     pub every: bool,
     /// What is known at marks.
     pub promise: Promise,
+    /// Which databases are commits.
+    pub commits: CommitsAt,
     ghost is_size: { IsTrue (is_sector_size sector) },
 }

@@ -1,19 +1,20 @@
 //! The program over a runtime's files and two writers.
-ghost use Rattle.std.specs.Prelude.{◌≡◌, ◌⊎◌, ◌≤◌, ℕ, List, IfOk};
+ghost use Rattle.std.specs.Prelude.{◌≡◌, ◌⊎◌, ◌<◌, ◌≤◌, ℕ, List, IfOk};
 ghost use Rattle.std.specs.Io.KnownBytes.{Appends};
 ghost use Rattle.std.specs.IoError.{error_kind};
 ghost use Rattle.std.specs.declared.io.ErrorKind.TheVariants.{OutOfMemory};
-ghost use Rattle.sqcrash.specs.Rigs.{IsJudgment};
+ghost use Rattle.sqcrash.specs.Rigs.{IsJudgment, BeginsRig, rig_of};
 
 use crate::commands::request;
 use crate::keep::{Folder, Keeper};
-use crate::lines::write_findings;
+use crate::lines::{write_commits, write_findings};
+use crate::marked::{are_at_marks, take_marked};
 use crate::outcome::Refusal;
 use crate::plan::Plan;
 use crate::requests::{LineError, Request};
 use crate::rig::Rig;
 use crate::survey::Tally;
-use sqplay::Trace;
+use sqplay::{Record, Trace};
 use std::alloc::Global;
 use std::fmt::Display;
 use std::fs;
@@ -29,8 +30,8 @@ const NOT_UNDERSTOOD: u8 = 2;
 const REFUSED: u8 = 3;
 
 /// Carries out a command line, whose first word is the program's name, and answers the program's status: 0 where
-/// nothing is wrong (also for help), 1 where something is with an image, 2 for words that aren't understood, 3 where
-/// it was refused or a file or a writer failed.
+/// nothing is wrong (also for help), 1 where something is with a commit or an image, 2 for words that aren't
+/// understood, 3 where it was refused or a file or a writer failed.
 pub fn run<R: Files + AllocGlobal, O: Write, E: Write>(
     rt: &R,
     words: &[&str],
@@ -74,9 +75,55 @@ fn carried_out<R: Files + AllocGlobal, O: Write>(
     Ok(tally)
 }
 
-/// Judges a trace, and writes a line for each image with something wrong, which goes to the keeper, too. Answers what
-/// there was.
+/// Judges a trace, and writes a line for each commit at a mark that isn't well formed, and for each image with
+/// something wrong, which goes to the keeper, too. Answers what there was, which is one point or more. Refused by
+/// NoMarks and NoCalls where there is none, by Trace, and by what refuses a point.
 pub(crate) fn judge_trace<K: Keeper, O: Write>(
+    alloc: Global,
+    plan: Plan,
+    bytes: &[u8],
+    keeper: &mut K,
+    out: &mut O,
+) -> Result<Tally, Refusal>
+    ensures judged { IfOk result (λ tally. (lines : List ℕ) × IsJudgment plan bytes.now tally lines
+        × Appends (O.contents out.old) (O.contents out.new) lines) }
+    ensures some { IfOk result (λ tally. 0 < tally.points) }
+{
+    let tally = judge_records(alloc, plan, bytes, keeper, out)?;
+    if tally.points > 0 {
+        return Ok(tally);
+    }
+    Err(if plan.every {
+        Refusal::NoCalls
+    } else {
+        Refusal::NoMarks
+    })
+}
+
+/// The rig by which the records of a trace are judged. Writes a line for each commit at a mark that isn't well formed.
+fn begun<O: Write>(
+    alloc: Global,
+    plan: Plan,
+    bytes: &[u8],
+    records: &[Record],
+    out: &mut O,
+) -> Result<Rig, Refusal>
+    ensures begins { IfOk result (λ rig. (lines : List ℕ) × BeginsRig plan bytes.now records.now (rig_of rig) lines
+        × Appends (O.contents out.old) (O.contents out.new) lines) }
+    ensures plan { IfOk result (λ rig. rig.plan ≡ plan) }
+{
+    let mut rig = Rig::new(alloc, plan);
+    if !are_at_marks(plan.commits) {
+        return Ok(rig);
+    }
+    let marked = take_marked(alloc, plan, bytes, records)?;
+    write_commits(out, &marked.faults)?;
+    rig.wait_for(marked);
+    Ok(rig)
+}
+
+/// The same of any trace, also of one without a point.
+fn judge_records<K: Keeper, O: Write>(
     alloc: Global,
     plan: Plan,
     bytes: &[u8],
@@ -87,7 +134,7 @@ pub(crate) fn judge_trace<K: Keeper, O: Write>(
         × Appends (O.contents out.old) (O.contents out.new) lines) }
 {
     let trace = Trace::read(alloc, bytes)?;
-    let mut rig = Rig::new(alloc, plan);
+    let mut rig = begun(alloc, plan, bytes, trace.records.as_slice(), out)?;
     for call in &trace.records {
         let findings = rig.play(bytes, call, keeper)?;
         write_findings(out, rig.tally().points, rig.known(), &findings)?;

@@ -1,6 +1,6 @@
 //! What a program says by its marks, and what SQLite promises there (own).
 
-/// What is known to be down at a mark.
+/// What is known to be durable at a mark.
 #[derive(Clone, Copy, Debug, PartialEq, Eq)]
 pub enum Promise {
     /// The last commit.
@@ -48,7 +48,7 @@ impl Promise {
     ghost use Rattle.std.specs.Prelude.{◌≡◌};
     ghost use Rattle.sqcrash.specs.Promises.{promised};
 
-    /// The number of the last commit that is promised to be down at a mark, where that of the marking thread's last
+    /// The number of the last commit that is promised to be durable at a mark, where that of the marking thread's last
     /// commit is `last`. Commit 0 was there when the run began.
     pub fn promised(self, mark: Mark, last: usize) -> usize
         ensures { result ≡ promised self mark last }

@@ -3,6 +3,7 @@ ghost use Rattle.std.specs.Prelude.{◌≡◌};
 ghost use Rattle.sqcrash.specs.Rigs.{is_point};
 
 use crate::keep::Keeper;
+use crate::marked::Marked;
 use crate::outcome::Refusal;
 use crate::plan::Plan;
 use crate::run::Run;
@@ -37,7 +38,7 @@ impl Rig {
     ghost use Rattle.std.specs.Prelude.{◌≡◌, OnOk, IfOk};
     ghost use Rattle.sqcrash.specs.Runs.{no_run, run_of};
     ghost use Rattle.sqcrash.specs.Surveys.{no_tally};
-    ghost use Rattle.sqcrash.specs.Rigs.{rig_of, Judges};
+    ghost use Rattle.sqcrash.specs.Rigs.{rig_of, marked_rig, Judges};
 
     /// Nothing is played yet.
     pub fn new(alloc: Global, plan: Plan) -> Rig
@@ -54,6 +55,15 @@ impl Rig {
         }
     }
 
+    /// The commits are those at marks. Each that isn't well formed is counted as a fault.
+    pub fn wait_for(&mut self, marked: Marked)
+        ensures rig { rig_of self.new ≡ marked_rig (rig_of self.old) marked }
+        ensures plan { self.new.plan ≡ self.old.plan }
+    {
+        self.tally.faults = marked.faults.len() as u64;
+        self.run.wait_for(marked.commits);
+    }
+
     /// What was counted so far.
     pub fn tally(&self) -> Tally
         ensures { result ≡ self.now.tally }
@@ -61,7 +71,7 @@ impl Rig {
         self.tally
     }
 
-    /// The number of the last commit that is known to be down.
+    /// The number of the last commit that is known to be durable.
     pub fn known(&self) -> usize
         ensures { result ≡ (run_of self.now.run).known }
     {

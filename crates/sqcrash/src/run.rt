@@ -1,12 +1,16 @@
-//! A recorded run: what it committed, and what is known to be down (own).
+//! A recorded run: what it committed, and what is known to be durable (own).
 ghost use Rattle.std.specs.Prelude.{◌≡◌, IsTrue, OnOk, IfOk};
 ghost use Rattle.crashdisk.specs.Solid.{is_sector_size};
 ghost use Rattle.sqplay.specs.Plays.{files_of};
 
 use crate::outcome::Refusal;
+use crate::plan::CommitsAt;
 use crate::promise::{Mark, Promise};
 use sqimages::Image;
-use sqjudge::{History, Judgment, judge_files, judge_scanned};
+use sqjudge::{
+    History, Judgment, Snapshot, fault_in_files, files_show, judge_files, judge_scanned,
+};
+use sqpage::CheckError;
 use sqplay::{Kind, Meta, Player, Record};
 use sqwal::Scan;
 use std::alloc::Global;
@@ -19,25 +23,32 @@ const HEAD_LEN: usize = 40;
 pub struct Run {
     alloc: Global,
     promise: Promise,
+    taken_at: CommitsAt,
+    /// Of the commits at marks those that aren't shown yet, the next one last.
+    waiting: Vec<Snapshot>,
     player: Player,
     history: History,
     /// The thread that made each commit.
     makers: Vec<u32>,
-    /// The number of the last commit that is known to be down.
+    /// The number of the last commit that is known to be durable.
     known: usize,
     /// The present files, as they were last looked at.
     present: Image,
 }
 
 impl Run {
+    ghost use Rattle.std.specs.Prelude.{length, map};
     ghost use Rattle.sqplay.specs.Trace.{bytes_of};
+    ghost use Rattle.sqjudge.specs.Shown.{commit_of};
     ghost use Rattle.sqjudge.specs.Judged.{IsFilesJudgment};
     ghost use Rattle.sqcrash.specs.Promises.{IsSpokenOf};
     ghost use Rattle.sqcrash.specs.Surveys.{IsScanOf};
-    ghost use Rattle.sqcrash.specs.Runs.{run_of, no_run, Notes, Begins, Goes, Calls, Marks, PlaysOne};
+    ghost use Rattle.sqcrash.specs.Runs.{run_of, no_run, with_marked, Notes, Takes, TakesWaiting};
+    ghost use Rattle.sqcrash.specs.Runs.{Begins, Goes, Calls, Marks, PlaysOne};
+    ghost use Rattle.sqcrash.specs.Snapshots.{NotesImage, NotesFault, IsFaultIn, ShowsLastOf, TakesLastOf};
 
     /// Nothing is played yet. The disks have sectors of this size, a power of two from 512 to 65536 bytes, and tear or
-    /// not; metadata goes down so.
+    /// not; metadata becomes durable so.
     pub fn new(alloc: Global, promise: Promise, sector: usize, tears: bool, meta: Meta) -> Run
         requires { IsTrue (is_sector_size sector) }
         ensures { run_of result ≡ no_run promise sector tears meta }
@@ -45,12 +56,37 @@ impl Run {
         Run {
             alloc,
             promise,
+            taken_at: CommitsAt::Calls,
+            waiting: Vec::new(alloc),
             player: Player::new(alloc, sector, tears, meta),
             history: History::new(alloc),
             makers: Vec::new(alloc),
             known: 0,
             present: Image::none(alloc),
         }
+    }
+
+    /// The commits are these, the oldest first, each as soon as the present files show it.
+    pub fn wait_for(&mut self, mut commits: Vec<Snapshot>)
+        ensures { run_of self.new ≡ with_marked (run_of self.old) (map commit_of commits.items) }
+    {
+        commits.reverse();
+        self.taken_at = CommitsAt::Marks;
+        self.waiting = commits;
+    }
+
+    /// How many commits there are.
+    pub fn commits(&self) -> usize
+        ensures { result ≡ length (run_of self.now).commits }
+    {
+        self.history.len()
+    }
+
+    /// The commits, the oldest first.
+    pub fn into_commits(self) -> Vec<Snapshot>
+        ensures { map commit_of result.items ≡ (run_of self).commits }
+    {
+        self.history.into_commits()
     }
 
     /// Where its memory comes from.
@@ -65,7 +101,7 @@ impl Run {
         &self.player
     }
 
-    /// The number of the last commit that is known to be down, counted from 0.
+    /// The number of the last commit that is known to be durable, counted from 0.
     pub fn known(&self) -> usize
         ensures { result ≡ (run_of self.now).known }
     {
@@ -93,11 +129,13 @@ impl Run {
         Ok(judge_scanned(&self.history, self.known, db, wal, journal, scan)?)
     }
 
-    /// Takes the database that the present files show, where it isn't the last commit's.
-    fn note(&mut self, thread: u32) -> Result<(), Refusal>
-        ensures { OnOk result (Notes thread (run_of self.old) (run_of self.new)) }
+    /// Takes the database that the present files show, as they were looked at, where it isn't the last commit's.
+    /// Answers whether it did.
+    fn note_present(&mut self, thread: u32) -> Result<bool, Refusal>
+        ensures noted { IfOk result
+            (NotesImage self.old.present thread (run_of self.old) (run_of self.new)) }
+        ensures present { OnOk result (self.new.present ≡ self.old.present) }
     {
-        self.present.set_present(&self.player)?;
         let files = &self.present;
         let taken = self
             .history
@@ -105,7 +143,91 @@ impl Run {
         if taken {
             self.makers.push(thread)?;
         }
+        Ok(taken)
+    }
+
+    /// Takes the database that the present files show, where it isn't the last commit's.
+    fn note(&mut self, thread: u32) -> Result<(), Refusal>
+        ensures { OnOk result (Notes thread (run_of self.old) (run_of self.new)) }
+    {
+        self.present.set_present(&self.player)?;
+        self.note_present(thread)?;
         Ok(())
+    }
+
+    /// What is wrong with the database that the present files show, as they were looked at.
+    fn fault(&self) -> Result<Option<CheckError>, Refusal>
+        ensures { IfOk result (IsFaultIn self.now.present) }
+    {
+        let files = &self.present;
+        Ok(fault_in_files(self.alloc, &files.db, &files.wal, &files.journal)?)
+    }
+
+    /// Takes the database that the present files show, where it isn't the last commit's, and answers what is wrong with
+    /// it. Refused by NoMemory, after which nothing is said of the run.
+    pub fn note_checked(&mut self, thread: u32) -> Result<Option<CheckError>, Refusal>
+        ensures { IfOk result (NotesFault thread (run_of self.old) (run_of self.new)) }
+    {
+        self.present.set_present(&self.player)?;
+        if self.note_present(thread)? {
+            self.fault()
+        } else {
+            Ok(None)
+        }
+    }
+
+    /// Whether the present files, as they were looked at, show the next of the commits at marks.
+    fn shows_next(&self) -> Result<bool, Refusal>
+        ensures { IfOk result (ShowsLastOf self.now.waiting.items self.now.present) }
+    {
+        let count = self.waiting.len();
+        if count == 0 {
+            return Ok(false);
+        }
+        let files = &self.present;
+        Ok(files_show(
+            self.alloc,
+            &self.waiting[count - 1],
+            &files.db,
+            &files.wal,
+            &files.journal,
+        )?)
+    }
+
+    /// Takes the next of the commits at marks.
+    fn push_next(&mut self, thread: u32) -> Result<(), Refusal>
+        ensures { OnOk result (TakesLastOf self.old.waiting.items thread (run_of self.old) (run_of self.new)) }
+    {
+        let Some(next) = self.waiting.pop() else {
+            return Ok(());
+        };
+        self.history.push(next)?;
+        self.makers.push(thread)?;
+        Ok(())
+    }
+
+    /// Takes the next of the commits at marks, where the present files show it.
+    fn take_next(&mut self, thread: u32) -> Result<(), Refusal>
+        ensures { OnOk result (TakesWaiting (run_of self.old).waiting thread (run_of self.old) (run_of self.new)) }
+    {
+        if self.waiting.len() == 0 {
+            return Ok(());
+        }
+        self.present.set_present(&self.player)?;
+        if !self.shows_next()? {
+            return Ok(());
+        }
+        self.push_next(thread)
+    }
+
+    /// Takes what the present files show as a commit, where it is one.
+    fn take(&mut self, thread: u32) -> Result<(), Refusal>
+        ensures { OnOk result (Takes thread (run_of self.old) (run_of self.new)) }
+    {
+        match self.taken_at {
+            CommitsAt::Calls => self.note(thread),
+            CommitsAt::Marks => self.take_next(thread),
+        }
     }
 
     /// Takes commit 0 before the first call.
@@ -115,11 +237,11 @@ impl Run {
         if self.history.len() > 0 {
             return Ok(());
         }
-        self.note(thread)
+        self.take(thread)
     }
 
-    /// Plays the call of a record.
-    fn go(&mut self, trace: &[u8], call: &Record) -> Result<(), Refusal>
+    /// Plays the call of a record. Refused by Record, after which nothing is said of the run.
+    pub fn go(&mut self, trace: &[u8], call: &Record) -> Result<(), Refusal>
         ensures { OnOk result (Goes trace.now call.now (run_of self.old) (run_of self.new)) }
     {
         match self.player.play(trace, call) {
@@ -134,7 +256,7 @@ impl Run {
     {
         self.begin(call.thread)?;
         self.go(trace, call)?;
-        self.note(call.thread)
+        self.take(call.thread)
     }
 
     /// The number of the commit that a thread's mark speaks of: the last one that it made, or where it made none the

@@ -1,17 +1,16 @@
 //! The images of a point are judged, counted and told (own).
-ghost use Rattle.std.specs.Prelude.{◌≡◌, ◌+◌, ◌∷◌, ◌++◌, [], OnOk, IfOk};
-ghost use Rattle.sqplay.specs.Plays.{files_of};
-ghost use Rattle.sqimages.specs.Images.{AreCounts, image_count};
+ghost use Rattle.std.specs.Prelude.{◌≡◌, ◌+◌, OnOk, IfOk};
+ghost use Rattle.sqimages.specs.Images.{AreCounts};
 ghost use Rattle.sqcrash.specs.Runs.{run_of};
-ghost use Rattle.sqcrash.specs.Surveys.{IsFixedScan, IsNumberedSurvey, IsDrawnSurvey, IsSurvey};
+ghost use Rattle.sqcrash.specs.Surveys.{IsNumberedSurvey, IsDrawnSurvey, IsUntornSurvey, IsSurvey, third_of};
 
 use crate::keep::Keeper;
 use crate::outcome::Refusal;
 use crate::run::Run;
+use crate::sample::{survey_drawn, survey_redrawn, survey_torn};
 use rand_core::Rng;
-use sqimages::{Counts, Fixed, Image, draw, draw_now, redraw};
+use sqimages::{Counts, Image, Which};
 use sqjudge::Judgment;
-use sqview::scan_log;
 use sqwal::Scan;
 use std::alloc::Global;
 use std::fmt;
@@ -21,12 +20,19 @@ use std::fmt;
 pub struct Tally {
     pub points: u64,
     pub images: u64,
-    /// A commit that was known to be down is gone.
+    /// A commit that was known to be durable is gone.
     pub lost: u64,
     /// A database that no commit had.
     pub mixed: u64,
     /// One that isn't well formed either, or none.
     pub faults: u64,
+}
+
+/// A third, and one where that leaves something.
+fn third_of(limit: u64) -> u64
+    ensures { result ≡ third_of limit }
+{
+    limit / 3 + u64::from(limit % 3 > 0)
 }
 
 /// One more.
@@ -111,11 +117,15 @@ pub struct Survey {
     pub tally: Tally,
     /// In the order of the images.
     pub findings: Vec<Finding>,
+    /// The number of the next image at the point.
+    pub next: u64,
 }
 
 impl Survey {
-    ghost use Rattle.std.specs.Prelude.{◌≡◌, ◌++◌, OnOk, IfOk};
-    ghost use Rattle.sqcrash.specs.Surveys.{with_image, finding_of, IsBegun};
+    ghost use Rattle.std.specs.Prelude.{◌≡◌, ◌+◌, ◌++◌, OnOk, IfOk};
+    ghost use Rattle.sqcrash.specs.Runs.{run_of};
+    ghost use Rattle.sqcrash.specs.Surveys.{IsScanOf, IsBegun};
+    ghost use Rattle.sqcrash.specs.Samples.{Adds, TakesOne};
 
     /// At the next point.
     fn new(alloc: Global, before: Tally) -> Result<Survey, Refusal>
@@ -124,18 +134,38 @@ impl Survey {
         Ok(Survey {
             tally: before.with_point()?,
             findings: Vec::new(alloc),
+            next: 0,
         })
     }
 
     /// Counts an image, and keeps what is wrong with it.
-    fn add(&mut self, image: u64, judgment: Judgment) -> Result<(), Refusal>
-        ensures tally { OnOk result (self.new.tally ≡ with_image self.old.tally judgment) }
-        ensures found { OnOk result (self.new.findings.items ≡ self.old.findings.items ++ finding_of image judgment) }
+    fn add(&mut self, judgment: Judgment) -> Result<(), Refusal>
+        ensures { OnOk result (Adds judgment self.old self.new) }
     {
         self.tally = self.tally.with_image(&judgment)?;
+        let image = self.next;
+        self.next = more(image)?;
         if !matches!(judgment, Judgment::Kept(_)) {
             self.findings.push(Finding { image, judgment })?;
         }
+        Ok(())
+    }
+
+    /// Judges one image more of a run, the scan of whose log is there or isn't. Where something is wrong with it, it
+    /// goes to the keeper.
+    pub fn judge<K: Keeper>(
+        &mut self,
+        run: &Run,
+        image: &Image,
+        scan: &Option<Scan>,
+        keeper: &mut K,
+    ) -> Result<(), Refusal>
+        ensures { IsScanOf image.now scan.now → OnOk result (TakesOne (run_of run.now) image.now self.old self.new) }
+    {
+        let judgment = run.judge_scanned(image, scan)?;
+        let number = self.next;
+        self.add(judgment)?;
+        keep_wrong(keeper, self.tally.points, number, image, judgment)?;
         Ok(())
     }
 }
@@ -164,78 +194,15 @@ fn survey_numbered<K: Keeper>(
     requires { AreCounts (run_of run.now).files counts.now }
     ensures { OnOk result (IsNumberedSurvey (run_of run.now) survey.old survey.new) }
 {
-    let point = survey.tally.points;
     let mut image = Image::none(run.alloc());
     for n in 0..counts.images() {
         image.set(run.player(), counts, n)?;
-        let judgment = run.judge(&image)?;
-        survey.add(n, judgment)?;
-        keep_wrong(keeper, point, n, &image, judgment)?;
+        survey.judge(run, &image, &None, keeper)?;
     }
     Ok(())
 }
 
-/// The scan of the log of an image, where that is fixed and is a log.
-fn fixed_scan(alloc: Global, fixed: Fixed, image: &Image) -> Option<Scan>
-    ensures { IsFixedScan fixed image.now result }
-{
-    if !fixed.wal {
-        return None;
-    }
-    let mut log = image.wal.as_slice();
-    match scan_log(alloc, &mut log) {
-        Ok(Ok(scan)) => Some(scan),
-        _ => None,
-    }
-}
-
-/// Judges so many images that are drawn, where there is one epoch. The files that are fixed are made once, and where
-/// the log is, it is scanned once.
-fn survey_redrawn<R: Rng, K: Keeper>(
-    run: &Run,
-    limit: u64,
-    rng: &mut R,
-    keeper: &mut K,
-    survey: &mut Survey,
-) -> Result<(), Refusal>
-    ensures { OnOk result (IsDrawnSurvey (run_of run.now) limit survey.old survey.new) }
-{
-    let point = survey.tally.points;
-    let fixed = Fixed::of(run.player());
-    let mut image = Image::none(run.alloc());
-    draw_now(run.alloc(), rng, run.player(), &mut image)?;
-    let scan = fixed_scan(run.alloc(), fixed, &image);
-    for n in 0..limit {
-        redraw(run.alloc(), rng, run.player(), fixed, &mut image)?;
-        let judgment = run.judge_scanned(&image, &scan)?;
-        survey.add(n, judgment)?;
-        keep_wrong(keeper, point, n, &image, judgment)?;
-    }
-    Ok(())
-}
-
-/// Judges so many images that are drawn.
-fn survey_drawn<R: Rng, K: Keeper>(
-    run: &Run,
-    limit: u64,
-    rng: &mut R,
-    keeper: &mut K,
-    survey: &mut Survey,
-) -> Result<(), Refusal>
-    ensures { OnOk result (IsDrawnSurvey (run_of run.now) limit survey.old survey.new) }
-{
-    let point = survey.tally.points;
-    let mut image = Image::none(run.alloc());
-    for n in 0..limit {
-        draw(run.alloc(), rng, run.player(), &mut image)?;
-        let judgment = run.judge(&image)?;
-        survey.add(n, judgment)?;
-        keep_wrong(keeper, point, n, &image, judgment)?;
-    }
-    Ok(())
-}
-
-/// Judges so many images that are drawn, by what is quicker.
+/// Judges images that are drawn, by what is quicker.
 fn survey_some<R: Rng, K: Keeper>(
     run: &Run,
     limit: u64,
@@ -252,9 +219,26 @@ fn survey_some<R: Rng, K: Keeper>(
     }
 }
 
-/// Judges what a crash may leave of a run now: all images where they are no more than the limit, otherwise so many that
-/// are drawn. What was counted before is counted on. Images with something wrong go to the keeper. Refused by NoMemory,
-/// by TooMany where a count would pass 18,446,744,073,709,551,615, and by what refuses the keeper.
+/// Judges what a crash may leave of a run without a torn sector.
+fn survey_untorn<R: Rng, K: Keeper>(
+    run: &Run,
+    limit: u64,
+    rng: &mut R,
+    keeper: &mut K,
+    survey: &mut Survey,
+) -> Result<(), Refusal>
+    ensures { OnOk result (IsUntornSurvey (run_of run.now) limit survey.old survey.new) }
+{
+    match Counts::of(run.alloc(), run.player(), limit)? {
+        Some(counts) => survey_numbered(run, &counts, keeper, survey),
+        None => survey_some(run, limit, rng, keeper, survey),
+    }
+}
+
+/// Judges what a crash may leave of a run now: all images that aren't torn, where they are no more than the limit,
+/// otherwise so many that are drawn; and of each file that may be torn a third as many that are drawn so. What was
+/// counted before is counted on. Images with something wrong go to the keeper. Refused by NoMemory, by TooMany where a
+/// count would pass 18,446,744,073,709,551,615, and by what refuses the keeper.
 pub fn judge_images<R: Rng, K: Keeper>(
     run: &Run,
     limit: u64,
@@ -265,10 +249,10 @@ pub fn judge_images<R: Rng, K: Keeper>(
     ensures { IfOk result (IsSurvey (run_of run.now) limit before) }
 {
     let mut survey = Survey::new(run.alloc(), before)?;
-    let counts = Counts::of(run.alloc(), run.player(), limit)?;
-    match counts {
-        Some(counts) => survey_numbered(run, &counts, keeper, &mut survey)?,
-        None => survey_some(run, limit, rng, keeper, &mut survey)?,
-    }
+    survey_untorn(run, limit, rng, keeper, &mut survey)?;
+    let third = third_of(limit);
+    survey_torn(run, Which::Db, third, rng, keeper, &mut survey)?;
+    survey_torn(run, Which::Wal, third, rng, keeper, &mut survey)?;
+    survey_torn(run, Which::Journal, third, rng, keeper, &mut survey)?;
     Ok(survey)
 }

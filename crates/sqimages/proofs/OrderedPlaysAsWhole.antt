@@ -1,13 +1,13 @@
 -- Records that are played in order, played as a whole.
 use Rattle.std.proofs.Common.{◌≡◌, ◌⊎◌, inl, inr, ℕ, zero, suc, ◌+◌, ◌-◌, ◌<◌, ◌≤◌, min, Bool, true, false, IsTrue, cond, List, [], ◌∷◌, ◌++◌, length, get_or, take, drop, length-append, refl, sym, ◌∙◌, ap, subst, arith}
-use Rattle.std.specs.Prelude.{nat_eq, ◌||◌}
+use Rattle.std.specs.Prelude.{nat_eq, nat_lt, not, ◌&&◌, ◌||◌, slice_get}
 use Rattle.std.specs.List.{Contains}
 use Rattle.std.proofs.lemmas.List.{length-take, length-drop, get_or-take, get_or-drop}
 use Rattle.std.proofs.lemmas.Bool.Decides.{nat_tests}
 use Rattle.crashdisk.specs.Call.{DiskState}
 use Rattle.sqplay.specs.Files.{IsWritten, IsCut, IsSynced}
-use Rattle.sqplay.specs.Names.{NameState, no_file, LastGoes, CutsWhole, Syncs, without_uncut, only_now, UncutGo, TakesBelow, Writes, least_cut}
-use Rattle.sqplay.specs.Plays.{Files, no_files, holds_now, epoch_now, epochs_of, CallDoes, OneGoes, all_now, NamesGo, brings_down, has_all_down, Follows, Step, Plays}
+use Rattle.sqplay.specs.Names.{NameState, no_file, LastGoes, CutsWhole, Syncs, without_uncut, only_now, UncutGo, TakesBelow, Writes, least_cut, has_lengths, is_resized}
+use Rattle.sqplay.specs.Plays.{Files, no_files, holds_now, epoch_now, epochs_of, CallDoes, OneGoes, all_now, NamesGo, file_brings_down, brings_down, has_all_down, Follows, Step, Plays}
 use Rattle.sqplay.specs.Trace.{has_failed, bytes_of}
 use Rattle.sqplay.specs.declared.meta.Epoch.{Epoch}
 use Rattle.sqplay.specs.declared.meta.Holds.{Holds}
@@ -67,7 +67,7 @@ no_epochs true e = refl
 no_epochs false e = inl (refl, refl)
 
 pub step_whole : (b : List ℕ) (r : Record) (old new : Files) → old.meta ≡ Ordered → Step b r old new → Step b r (as_whole old) (as_whole new)
-step_whole b r old new is (mid, goes, follows, left) = (as_whole mid, names_whole b r old mid is goes, no_epochs (has_all_down r) (epoch_now (as_whole old)), ap as_whole left)
+step_whole b r old new is (mid, goes, follows, left) = (as_whole mid, names_whole b r old mid is goes, no_epochs (has_all_down (as_whole old) r) (epoch_now (as_whole old)), ap as_whole left)
 
 step_meta : (b : List ℕ) (r : Record) (old new : Files) → old.meta ≡ Ordered → Step b r old new → new.meta ≡ Ordered
 step_meta b r old new is (mid, goes, follows, left) = ap (λ (s : Files). s.meta) left ∙ same_meta b r old mid goes ∙ is
@@ -138,17 +138,46 @@ write_grows at bytes fails old new fit (mid, uncut, last) =
 some_length : (files : List DiskState) (i : ℕ) → 0 < length files → 0 < length (take i files ++ drop (length files - 1) files)
 some_length files i some = omega (arith, length-append (take i files) (drop (length files - 1) files), length-drop (length files - 1) files)
 
-sync_fits : (fails : Bool) (old new : NameState) → IsFit old → Syncs Ordered fails old new → IsFit new × (brings_down subjects.Db kinds.Sync fails ≡ false → Grows old new)
-sync_fits true old new fit (mid, goes, is) =
+or_not : (a b : Bool) → (not a || b) ≡ false → b ≡ false
+or_not true b e = e
+or_not false b e = absurd (let no : true ≡ false = e in cc)
+
+or_first : (a b : Bool) → (a || b) ≡ false → a ≡ false
+or_first true b e = e
+or_first false b e = refl
+
+not_below : (m n : ℕ) → nat_lt m n ≡ false → n ≤ m
+not_below m n e = grind (arith, nat_tests)
+
+-- where a sync makes none of them durable, no file of the name goes
+uncut_stays : (old mid : NameState) → length mid.files ≡ length old.files → mid.made ≡ old.made → is_resized old ≡ false → length (without_uncut mid).files ≡ length mid.files
+uncut_stays old mid long made unsized =
+    let made_last : length old.files - 1 ≤ old.made = not_below old.made (length old.files - 1) (or_first (nat_lt old.made (length old.files - 1)) (has_lengths (slice_get old.files (length old.files - 1))) unsized) in
+    omega (arith, length-append (take (min mid.made (length mid.files - 1)) mid.files) (drop (length mid.files - 1) mid.files), length-take (min mid.made (length mid.files - 1)) mid.files, length-drop (length mid.files - 1) mid.files)
+
+last_same : (P : DiskState → DiskState → Type 0) (old new : NameState) → LastGoes P old new → (length new.files ≡ length old.files) × (new.made ≡ old.made)
+last_same P old new (inl (none, is)) = (ap (λ (n : NameState). length n.files) is, ap (λ (n : NameState). n.made) is)
+last_same P old new (inr (front, was, now, there, goes, is)) =
+    (omega (arith, ap (λ (n : NameState). length n.files) is, ap (λ (l : List DiskState). length l) there, length-append front (was ∷ []), length-append front (now ∷ [])), ap (λ (n : NameState). n.made) is)
+
+sync_fits : (place : ℕ) (fails : Bool) (old new : NameState) → IsFit old → Syncs Ordered fails old new → IsFit new × (file_brings_down kinds.Sync place fails old ≡ false → Grows old new)
+sync_fits place true old new fit (mid, goes, is) =
     let P : DiskState → DiskState → Type 0 = IsSynced true in
     let grows : Grows old new = subst (λ (n : NameState). Grows old n) (sym is) (last_grows P old mid fit goes) in (grows.fit, λ e. grows)
-sync_fits false old new fit (mid, goes, is) =
+sync_fits place false old new fit (mid, goes, is) =
     let P : DiskState → DiskState → Type 0 = IsSynced false in
-    let grown_fit : IsFit mid = (last_grows P old mid fit goes).fit in
+    let first : Grows old mid = last_grows P old mid fit goes in
     let now : IsFit (without_uncut mid) = record {
-      gone = grown_fit.gone;
-      some = elim grown_fit.some [ inl some ↦ inl (some_length mid.files (min mid.made (length mid.files - 1)) some) | inr gone ↦ inr gone ];
-    } in (subst IsFit (sym is) now, λ e. absurd (let no : true ≡ false = e in cc))
+      gone = first.fit.gone;
+      some = elim first.fit.some [ inl some ↦ inl (some_length mid.files (min mid.made (length mid.files - 1)) some) | inr gone ↦ inr gone ];
+    } in (
+      subst IsFit (sym is) now,
+      λ e.
+          let same = last_same P old mid goes in
+          let long : length (without_uncut mid).files ≡ length mid.files = uncut_stays old mid same.0 same.1 (or_not (nat_eq place 1) (is_resized old) e) in
+          let grows : Grows old (without_uncut mid) = record { fit = now; longer = omega (arith, long, first.longer); none = first.none } in
+          subst (λ (n : NameState). Grows old n) (sym is) grows,
+    )
 
 unlink_grows : (fails : Bool) (old new : NameState) → IsFit old → new ≡ cond fails old (record old { maybe_none = true; gone = true }) → Grows old new
 unlink_grows true old new fit is = same_grows old new fit is
@@ -157,13 +186,13 @@ unlink_grows false old new fit is =
     let grows : Grows old now = record { fit = record { gone = λ e. refl; some = inr refl }; longer = omega arith; none = λ e. refl } in
     subst (λ (n : NameState). Grows old n) (sym is) grows
 
-abbrev Goes : Kind → (fails : Bool) (old new : NameState) → Type 0
-Goes k fails old new = IsFit new × (brings_down subjects.Db k fails ≡ false → Grows old new)
+abbrev Goes : Kind → (place : ℕ) (fails : Bool) (old new : NameState) → Type 0
+Goes k place fails old new = IsFit new × (file_brings_down k place fails old ≡ false → Grows old new)
 
-goes : (k : Kind) (fails : Bool) (old new : NameState) → Grows old new → Goes k fails old new
-goes k fails old new grows = (grows.fit, λ e. grows)
+goes : (k : Kind) (place : ℕ) (fails : Bool) (old new : NameState) → Grows old new → Goes k place fails old new
+goes k place fails old new grows = (grows.fit, λ e. grows)
 
-call_goes : (k : Kind) (sector : ℕ) (tears : Bool) (b : List ℕ) (r : Record) (old new : NameState) → IsFit old → CallDoes k sector tears Ordered b r old new → Goes k (has_failed r) old new
+call_goes : (k : Kind) (sector : ℕ) (tears : Bool) (b : List ℕ) (r : Record) (old new : NameState) → IsFit old → CallDoes k sector tears Ordered b r old new → Goes k r.place (has_failed r) old new
 call_goes kinds.Base sector tears b r old new fit (d, is_new, is) =
     let now : NameState = record { files = d ∷ []; made = 0; below = 0; maybe_none = false; gone = false } in
     let fits : IsFit now = record { gone = λ e. absurd (let no : false ≡ true = e in cc); some = inl (omega arith) } in
@@ -174,19 +203,19 @@ call_goes kinds.Open sector tears b r old new fit (inl (place, (d, is_new, is)))
       fit = record { gone = λ e. absurd (let no : false ≡ true = e in cc); some = inl (omega (arith, length-append old.files (d ∷ []))) };
       longer = omega (arith, length-append old.files (d ∷ []));
       none = λ e. e;
-    } in goes kinds.Open (has_failed r) old new (subst (λ (n : NameState). Grows old n) (sym is) grows)
-call_goes kinds.Open sector tears b r old new fit (inr (place, is)) = goes kinds.Open (has_failed r) old new (same_grows old new fit is)
-call_goes kinds.Close sector tears b r old new fit is = goes kinds.Close (has_failed r) old new (same_grows old new fit is)
-call_goes kinds.Write sector tears b r old new fit does = goes kinds.Write (has_failed r) old new (write_grows r.place (bytes_of b r) (has_failed r) old new fit does)
-call_goes kinds.Cut sector tears b r old new fit (inl (longer, does)) = goes kinds.Cut (has_failed r) old new (cut_grows r.place (has_failed r) old new fit does)
-call_goes kinds.Cut sector tears b r old new fit (inr (longer, does)) = goes kinds.Cut (has_failed r) old new (last_grows (IsCut r.place (has_failed r)) old new fit does)
-call_goes kinds.Sync sector tears b r old new fit does = sync_fits (has_failed r) old new fit does
-call_goes kinds.Unlink sector tears b r old new fit does = goes kinds.Unlink (has_failed r) old new (unlink_grows (has_failed r) old new fit does)
-call_goes kinds.Rename sector tears b r old new fit (fails, is) = goes kinds.Rename (has_failed r) old new (same_grows old new fit is)
-call_goes kinds.FolderSync sector tears b r old new fit is = goes kinds.FolderSync (has_failed r) old new (same_grows old new fit is)
-call_goes kinds.Mark sector tears b r old new fit is = goes kinds.Mark (has_failed r) old new (same_grows old new fit is)
+    } in goes kinds.Open r.place (has_failed r) old new (subst (λ (n : NameState). Grows old n) (sym is) grows)
+call_goes kinds.Open sector tears b r old new fit (inr (place, is)) = goes kinds.Open r.place (has_failed r) old new (same_grows old new fit is)
+call_goes kinds.Close sector tears b r old new fit is = goes kinds.Close r.place (has_failed r) old new (same_grows old new fit is)
+call_goes kinds.Write sector tears b r old new fit does = goes kinds.Write r.place (has_failed r) old new (write_grows r.place (bytes_of b r) (has_failed r) old new fit does)
+call_goes kinds.Cut sector tears b r old new fit (inl (longer, does)) = goes kinds.Cut r.place (has_failed r) old new (cut_grows r.place (has_failed r) old new fit does)
+call_goes kinds.Cut sector tears b r old new fit (inr (longer, does)) = goes kinds.Cut r.place (has_failed r) old new (last_grows (IsCut r.place (has_failed r)) old new fit does)
+call_goes kinds.Sync sector tears b r old new fit does = sync_fits r.place (has_failed r) old new fit does
+call_goes kinds.Unlink sector tears b r old new fit does = goes kinds.Unlink r.place (has_failed r) old new (unlink_grows (has_failed r) old new fit does)
+call_goes kinds.Rename sector tears b r old new fit (fails, is) = goes kinds.Rename r.place (has_failed r) old new (same_grows old new fit is)
+call_goes kinds.FolderSync sector tears b r old new fit is = goes kinds.FolderSync r.place (has_failed r) old new (same_grows old new fit is)
+call_goes kinds.Mark sector tears b r old new fit is = goes kinds.Mark r.place (has_failed r) old new (same_grows old new fit is)
 call_goes kinds.NotHeld sector tears b r old new fit does = absurd does
-call_goes kinds.End sector tears b r old new fit (noted, is) = goes kinds.End (has_failed r) old new (same_grows old new fit is)
+call_goes kinds.End sector tears b r old new fit (noted, is) = goes kinds.End r.place (has_failed r) old new (same_grows old new fit is)
 
 now_fits : (n : NameState) → IsFit n → IsFit (only_now n)
 now_fits n fit = by n.gone refl
@@ -222,38 +251,38 @@ Goes_on down old new = AreFit new × (down ≡ false → (e : Epoch) → MayStan
 stays : (down : Bool) (old new : Files) → AreFit old → new ≡ old → Goes_on down old new
 stays down old new fit is = (subst AreFit (sym is) fit, λ d e may. subst (λ (s : Files). MayStand s e) (sym is) may)
 
-folder_goes : (fails : Bool) (k : Kind) (old new : Files) → AreFit old → new ≡ cond fails old (all_now old) → Goes_on (brings_down subjects.Folder k fails) old new
-folder_goes true k old new fit is = stays (brings_down subjects.Folder k true) old new fit is
-folder_goes false k old new fit is =
+folder_goes : (place : ℕ) (fails : Bool) (k : Kind) (old new : Files) → AreFit old → new ≡ cond fails old (all_now old) → Goes_on (brings_down subjects.Folder k place fails old) old new
+folder_goes place true k old new fit is = stays false old new fit is
+folder_goes place false k old new fit is =
     let fits : AreFit (all_now old) = record { db = now_fits old.db fit.db; wal = now_fits old.wal fit.wal; journal = now_fits old.journal fit.journal } in
     (subst AreFit (sym is) fits, λ d. absurd (let no : true ≡ false = d in cc))
 
-one_goes : (subject : Subject) (k : Kind) (fails : Bool) (P : NameState → NameState → Type 0) (old new : Files) → (subject ≡ subjects.Folder → ⊥) → ((a b : NameState) → IsFit a → P a b → Goes k fails a b) → AreFit old → OneGoes subject P old new
-    → Goes_on (brings_down subject k fails) old new
-one_goes subjects.Db k fails P old new file each fit (does, is) =
+one_goes : (subject : Subject) (k : Kind) (place : ℕ) (fails : Bool) (P : NameState → NameState → Type 0) (old new : Files) → (subject ≡ subjects.Folder → ⊥) → ((a b : NameState) → IsFit a → P a b → Goes k place fails a b) → AreFit old → OneGoes subject P old new
+    → Goes_on (brings_down subject k place fails old) old new
+one_goes subjects.Db k place fails P old new file each fit (does, is) =
     let now : Files = record old { db = new.db } in
     let one = each old.db new.db fit.db does in
     let fits : AreFit now = record { db = one.0; wal = fit.wal; journal = fit.journal } in
     (subst AreFit (sym is) fits, λ d e may. let there : MayStand now e = record { db = grown old.db new.db e.db (one.1 d) may.db; wal = may.wal; journal = may.journal } in subst (λ (s : Files). MayStand s e) (sym is) there)
-one_goes subjects.Wal k fails P old new file each fit (does, is) =
+one_goes subjects.Wal k place fails P old new file each fit (does, is) =
     let now : Files = record old { wal = new.wal } in
     let one = each old.wal new.wal fit.wal does in
     let fits : AreFit now = record { db = fit.db; wal = one.0; journal = fit.journal } in
     (subst AreFit (sym is) fits, λ d e may. let there : MayStand now e = record { db = may.db; wal = grown old.wal new.wal e.wal (one.1 d) may.wal; journal = may.journal } in subst (λ (s : Files). MayStand s e) (sym is) there)
-one_goes subjects.Journal k fails P old new file each fit (does, is) =
+one_goes subjects.Journal k place fails P old new file each fit (does, is) =
     let now : Files = record old { journal = new.journal } in
     let one = each old.journal new.journal fit.journal does in
     let fits : AreFit now = record { db = fit.db; wal = fit.wal; journal = one.0 } in
     (subst AreFit (sym is) fits, λ d e may. let there : MayStand now e = record { db = may.db; wal = may.wal; journal = grown old.journal new.journal e.journal (one.1 d) may.journal } in subst (λ (s : Files). MayStand s e) (sym is) there)
-one_goes subjects.Folder k fails P old new file each fit does = absurd (file refl)
-one_goes subjects.Marks k fails P old new file each fit (does, is) = stays false old new fit is
-one_goes subjects.Other k fails P old new file each fit (does, is) = stays false old new fit is
+one_goes subjects.Folder k place fails P old new file each fit does = absurd (file refl)
+one_goes subjects.Marks k place fails P old new file each fit (does, is) = stays false old new fit is
+one_goes subjects.Other k place fails P old new file each fit (does, is) = stays false old new fit is
 
-names_go : (b : List ℕ) (r : Record) (old new : Files) → old.meta ≡ Ordered → AreFit old → NamesGo b r old new → Goes_on (has_all_down r) old new
+names_go : (b : List ℕ) (r : Record) (old new : Files) → old.meta ≡ Ordered → AreFit old → NamesGo b r old new → Goes_on (has_all_down old r) old new
 names_go b r old new is fit (inl (folder, now)) =
-    subst (λ (s : Subject). Goes_on (brings_down s r.kind (has_failed r)) old new) (sym folder) (folder_goes (has_failed r) r.kind old new fit now)
+    subst (λ (s : Subject). Goes_on (brings_down s r.kind r.place (has_failed r) old) old new) (sym folder) (folder_goes r.place (has_failed r) r.kind old new fit now)
 names_go b r old new is fit (inr (file, does)) =
-    one_goes r.subject r.kind (has_failed r) (CallDoes r.kind old.sector old.tears old.meta b r) old new file
+    one_goes r.subject r.kind r.place (has_failed r) (CallDoes r.kind old.sector old.tears old.meta b r) old new file
     (λ x y fits call. call_goes r.kind old.sector old.tears b r x y fits (subst (λ (m : Meta). CallDoes r.kind old.sector old.tears m b r x y) is call)) fit does
 
 -- ---- all epochs
@@ -325,7 +354,7 @@ step_ordered b r old new is (mid, names, follows, left) =
     let on = names_go b r old mid is.meta is.fit names in
     let each : EachStands old mid.earlier = subst (λ (l : List Epoch). EachStands old l) (sym (same_earlier b r old mid names)) is.each in
     let now : Files = record mid { earlier = new.earlier } in
-    let stands : EachStands mid new.earlier = follow_stands (has_all_down r) (epoch_now old) (epoch_now mid) old mid new.earlier on (stands_now old is.meta is.fit) each follows in
+    let stands : EachStands mid new.earlier = follow_stands (has_all_down old r) (epoch_now old) (epoch_now mid) old mid new.earlier on (stands_now old is.meta is.fit) each follows in
     let ordered : IsOrdered now = record { meta = same_meta b r old mid names ∙ is.meta; fit = record { db = on.0.db; wal = on.0.wal; journal = on.0.journal }; each = each_goes mid now new.earlier (λ e may. record { db = may.db; wal = may.wal; journal = may.journal }) stands } in
     subst IsOrdered (sym left) ordered
 

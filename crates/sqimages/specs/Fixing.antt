@@ -4,7 +4,7 @@ use Rattle.sqplay.specs.Plays.{Files, epoch_now}
 use Rattle.sqimages.specs.Ways.{name_ways}
 use Rattle.sqimages.specs.declared.fixed.Fixed.{Fixed}
 
--- the files that a crash leaves in one way alone, where all changes of names and lengths are down
+-- the files that a crash leaves in one way alone, where all changes of names and lengths are durable
 pub record AreFixed (s : Files) (f : Fixed) : Type 0 where
   pub db : IsTrue f.db ↔ (name_ways s.db (epoch_now s).db ≡ 1)
   pub wal : IsTrue f.wal ↔ (name_ways s.wal (epoch_now s).wal ≡ 1)

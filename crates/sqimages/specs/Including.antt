@@ -1,4 +1,5 @@
--- What a crash may leave where metadata goes down in order, it may leave where it goes down as a whole (own).
+-- What a crash may leave where metadata becomes durable in order, it may leave where it becomes durable as a whole
+-- (own).
 use Rattle.std.specs.Prelude.{ℕ, Bool, List}
 use Rattle.sqplay.specs.Plays.{Files, no_files, Plays}
 use Rattle.sqplay.specs.declared.meta.Meta.TheVariants.{Whole, Ordered}

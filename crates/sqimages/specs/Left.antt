@@ -10,8 +10,8 @@ use Rattle.sqplay.specs.declared.meta.Holds.{Holds}
 use Rattle.sqimages.specs.Ways.{held_files, may_be_none}
 use Rattle.sqimages.specs.declared.image.Image.{Image}
 
--- the bytes that a crash may leave under a name where it holds this: those of an image of one of its files, or none where it may
--- be gone
+-- the bytes that a crash may leave under a name where it holds this: those of an image of one of its files, or none
+-- where it may be gone
 abbrev pub MayBeLeft : NameState → Holds → List ℕ → Type 0
 MayBeLeft s holds bytes =
     ((f : DiskState) × Contains (held_files s holds) f × IsImage f.sector f.tears f.db bytes) ⊎ (IsTrue (may_be_none s holds) × (bytes ≡ []))
@@ -22,7 +22,8 @@ pub record MayLeaveIn (s : Files) (e : Epoch) (image : Image) : Type 0 where
   pub wal : MayBeLeft s.wal e.wal image.wal.items
   pub journal : MayBeLeft s.journal e.journal image.journal.items
 
--- what a crash may leave: that of one of the epochs, of which there is one alone unless metadata goes down in order
+-- what a crash may leave: that of one of the epochs, of which there is one alone unless metadata becomes durable in
+-- order
 abbrev pub MayLeave : Files → Image → Type 0
 MayLeave s image = (e : Epoch) × Contains (epochs_of s) e × MayLeaveIn s e image
 

@@ -1,11 +1,12 @@
 //! Images that are drawn (own).
 ghost use Rattle.std.specs.Prelude.{◌≡◌, ◌<◌, ◌++◌, [], ℕ, List, length, OnOk, IfOk};
-ghost use Rattle.crashdisk.specs.State.{IsImage};
+ghost use Rattle.crashdisk.specs.Choice.{naming_of, is_newest};
 ghost use Rattle.crashdisk.specs.Model.{state_of};
 ghost use Rattle.sqplay.specs.Names.{name_of};
 ghost use Rattle.std.specs.List.{Contains};
 ghost use Rattle.sqplay.specs.Plays.{files_of, epochs_of};
-ghost use Rattle.sqimages.specs.Left.{MayBeLeft, MayLeave};
+ghost use Rattle.sqimages.specs.Left.{MayBeLeft, MayLeave, MayLeaveIn};
+ghost use Rattle.sqimages.specs.internal.Tearing.{IsNamed};
 
 use crate::counts::{held_files, may_be_none};
 use crate::image::Image;
@@ -15,7 +16,7 @@ use sqplay::{Epoch, Holds, Name, Player};
 use std::alloc::{AllocError, Global};
 
 /// A number below another.
-fn below<R: Rng>(rng: &mut R, count: u64) -> u64
+pub(crate) fn below<R: Rng>(rng: &mut R, count: u64) -> u64
     requires { 0 < count }
     ensures { result < count }
 {
@@ -46,7 +47,9 @@ fn draw_picks<R: Rng>(alloc: Global, rng: &mut R, sectors: u64) -> Result<Vec<u6
 }
 
 /// All sectors by one rule, and this length.
-fn plain(alloc: Global, rest: Rest, len: Option<u64>) -> FileChoice {
+pub(crate) fn plain(alloc: Global, rest: Rest, len: Option<u64>) -> FileChoice
+    ensures { naming_of result ≡ record { pick = []; torn = []; newest = is_newest rest; len = len } }
+{
     FileChoice {
         pick: Vec::new(alloc),
         torn: Vec::new(alloc),
@@ -57,12 +60,14 @@ fn plain(alloc: Global, rest: Rest, len: Option<u64>) -> FileChoice {
 
 /// What is left of a sector that tears: the present bytes up to some place, and behind it the oldest ones, or in every
 /// second draw one byte, as of a sector that was being written when power failed.
-fn torn_sector<R: Rng>(
+pub(crate) fn torn_sector<R: Rng>(
     alloc: Global,
     rng: &mut R,
     newest: &[u8],
     oldest: &[u8],
-) -> Result<Vec<u8>, AllocError> {
+) -> Result<Vec<u8>, AllocError>
+    ensures { length newest.now ≡ length oldest.now → IfOk result (λ v. length v.items ≡ length newest.now) }
+{
     let count = newest.len().min(oldest.len());
     let at = (below(rng, (count as u64).saturating_add(1)) as usize).min(count);
     let mut bytes = Vec::from_slice(alloc, &newest[..at])?;
@@ -111,7 +116,7 @@ fn draw_torn<R: Rng>(
 
 /// What a crash leaves of a file: in eight draws one the newest values, one the oldest, otherwise each sector one of
 /// its values, or where it tears a torn one.
-fn draw_choice<R: Rng>(
+pub(crate) fn draw_choice<R: Rng>(
     alloc: Global,
     rng: &mut R,
     disk: &ModelDisk,
@@ -141,9 +146,13 @@ fn draw_choice<R: Rng>(
 }
 
 /// Appends what a crash by this choice leaves of the file of a disk.
-fn append_image(disk: &ModelDisk, choice: &FileChoice, out: &mut Vec<u8>) -> Result<(), DiskError>
+pub(crate) fn append_image(
+    disk: &ModelDisk,
+    choice: &FileChoice,
+    out: &mut Vec<u8>,
+) -> Result<(), DiskError>
     ensures { OnOk result ((bytes : List ℕ) × (out.new.items ≡ out.old.items ++ bytes)
-        × IsImage (state_of disk.now).sector (state_of disk.now).tears (state_of disk.now).db bytes) }
+        × IsNamed (state_of disk.now) (naming_of choice.now) bytes) }
 {
     disk.image(File::Db, choice, out)
 }
@@ -189,6 +198,27 @@ fn draw_epoch<R: Rng>(rng: &mut R, player: &Player) -> Epoch
     }
 }
 
+/// Takes an image that is drawn in place of what it has: one of those that a crash may leave in this epoch.
+pub(crate) fn draw_in<R: Rng>(
+    alloc: Global,
+    rng: &mut R,
+    player: &Player,
+    epoch: Epoch,
+    image: &mut Image,
+) -> Result<(), DiskError>
+    ensures { OnOk result (MayLeaveIn (files_of player.now) epoch image.new) }
+{
+    put_draw(alloc, rng, player.db(), epoch.db, &mut image.db)?;
+    put_draw(alloc, rng, player.wal(), epoch.wal, &mut image.wal)?;
+    put_draw(
+        alloc,
+        rng,
+        player.journal(),
+        epoch.journal,
+        &mut image.journal,
+    )
+}
+
 /// Takes an image that is drawn in place of what it has: one of those that a crash may leave. NoMemory alone, and then
 /// nothing is said of it.
 pub fn draw<R: Rng>(
@@ -200,13 +230,5 @@ pub fn draw<R: Rng>(
     ensures { OnOk result (MayLeave (files_of player.now) image.new) }
 {
     let epoch = draw_epoch(rng, player);
-    put_draw(alloc, rng, player.db(), epoch.db, &mut image.db)?;
-    put_draw(alloc, rng, player.wal(), epoch.wal, &mut image.wal)?;
-    put_draw(
-        alloc,
-        rng,
-        player.journal(),
-        epoch.journal,
-        &mut image.journal,
-    )
+    draw_in(alloc, rng, player, epoch, image)
 }

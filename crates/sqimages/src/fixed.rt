@@ -8,7 +8,7 @@ ghost use Rattle.sqimages.specs.Fixing.{AreFixed};
 use crate::counts::name_count;
 use sqplay::{Holds, Name, Player};
 
-/// Which files a crash leaves in one way alone, where all changes of names and lengths are down.
+/// Which files a crash leaves in one way alone, where all changes of names and lengths are durable.
 #[derive(Clone, Copy, Debug, PartialEq, Eq)]
 pub struct Fixed {
     pub db: bool,

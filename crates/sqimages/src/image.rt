@@ -8,6 +8,7 @@ use crate::counts::{Counts, EpochCounts, file_count, held_files};
 use crashdisk::{DiskError, File, ModelDisk};
 use sqplay::{Holds, Name, Player};
 use std::alloc::Global;
+use std::hash::{FoldHasher, Hasher};
 
 /// What a crash left: the bytes of each file. One that is gone has none.
 #[derive(Drop)]
@@ -57,6 +58,7 @@ impl Image {
     ghost use Rattle.std.specs.Prelude.{◌≡◌, [], OnOk};
     ghost use Rattle.sqplay.specs.Plays.{files_of};
     ghost use Rattle.sqimages.specs.Images.{IsNumbered, IsNumberedIn, IsNone};
+    ghost use Rattle.sqimages.specs.Keys.{key_of};
     ghost use Rattle.sqimages.specs.Left.{IsPresent};
 
     /// No files.
@@ -107,6 +109,17 @@ impl Image {
         self.db.clear();
         self.wal.clear();
         self.journal.clear();
+    }
+
+    /// A number that is the same for the same files, and seldom for others (own).
+    pub fn key(&self) -> u64
+        ensures { result ≡ key_of self.now }
+    {
+        let mut hasher = FoldHasher::default();
+        hasher.write(&self.db);
+        hasher.write(&self.wal);
+        hasher.write(&self.journal);
+        hasher.finish()
     }
 
     /// Takes the present files in place of what it has. NoMemory alone, and then nothing is said of it.

@@ -7,6 +7,7 @@ mod fixed;
 mod image;
 mod laws;
 mod redraws;
+mod torn;
 
 pub use counts::Counts;
 pub use draws::draw;
@@ -14,3 +15,4 @@ pub use fixed::Fixed;
 pub use image::Image;
 pub use laws::what_order_leaves;
 pub use redraws::{draw_now, redraw};
+pub use torn::{Which, draw_torn};

@@ -5,7 +5,7 @@ ghost use Rattle.sqplay.specs.Names.{name_of};
 ghost use Rattle.sqplay.specs.Plays.{files_of, epoch_now};
 ghost use Rattle.sqimages.specs.Left.{MayBeLeft, MayLeaveIn};
 
-use crate::draws::put_draw;
+use crate::draws::{draw_in, put_draw};
 use crate::fixed::Fixed;
 use crate::image::Image;
 use crashdisk::DiskError;
@@ -33,7 +33,7 @@ fn put_redraw<R: Rng>(
 }
 
 /// Takes an image that is drawn in place of what it has: one of those that a crash may leave where all changes of names
-/// and lengths are down. NoMemory alone, and then nothing is said of it (own).
+/// and lengths are durable. NoMemory alone, and then nothing is said of it (own).
 pub fn draw_now<R: Rng>(
     alloc: Global,
     rng: &mut R,
@@ -42,16 +42,7 @@ pub fn draw_now<R: Rng>(
 ) -> Result<(), DiskError>
     ensures { OnOk result (MayLeaveIn (files_of player.now) (epoch_now (files_of player.now)) image.new) }
 {
-    let epoch = player.epoch();
-    put_draw(alloc, rng, player.db(), epoch.db, &mut image.db)?;
-    put_draw(alloc, rng, player.wal(), epoch.wal, &mut image.wal)?;
-    put_draw(
-        alloc,
-        rng,
-        player.journal(),
-        epoch.journal,
-        &mut image.journal,
-    )
+    draw_in(alloc, rng, player, player.epoch(), image)
 }
 
 /// The same as `draw_now` in place of an image that such a crash may leave: the files that are fixed stay (own).

@@ -9,8 +9,8 @@ use Rattle.sqview.specs.LogView.{IsAlone, ViewRefused, pages_of}
 use Rattle.sqview.specs.internal.LogView.{IsShown}
 use Rattle.sqview.specs.declared.view.View.{View}
 use Rattle.sqview.specs.declared.view_error.ViewError.TheVariants.{Header}
-use Rattle.sqjudge.specs.Shown.{Commit, IsLastShown, IsAdded, IsNoted, FilesShow}
-use Rattle.sqjudge.specs.Judged.{IsJudged, IsFilesJudgment}
+use Rattle.sqjudge.specs.Shown.{Commit, IsLastShown, IsAdded, IsNoted, FilesShow, IsShowing, Shows}
+use Rattle.sqjudge.specs.Judged.{IsJudged, IsViewJudgment}
 use Rattle.sqjudge.specs.internal.Judged.{IsPlaced}
 use Rattle.sqjudge.specs.declared.judgment.Judgment.{Judgment}
 use Rattle.sqjudge.specs.declared.judgment.Judgment.TheVariants as judgments
@@ -24,7 +24,7 @@ placed_judged commits known d size shown (judgments.Fault e) last p = absurd p
 placed_judged commits known d size shown (judgments.Refused e) last p = absurd p
 
 -- what is judged of the database that files show is judged of them
-pub judged_files : (commits : List Commit) (known size : ℕ) (db wal journal : List ℕ) (d : Database) (j : Judgment) → FilesShow size db wal journal d → IsJudged commits known d size j → IsFilesJudgment commits known db wal journal j
+pub judged_files : (commits : List Commit) (known size : ℕ) (db wal journal : List ℕ) (d : Database) (j : Judgment) → FilesShow size db wal journal d → IsJudged commits known d size j → IsViewJudgment commits known db wal journal j
 judged_files commits known size db wal journal d (judgments.Kept k) shows p = (size, d, shows, p)
 judged_files commits known size db wal journal d (judgments.Lost k) shows p = (size, d, shows, p)
 judged_files commits known size db wal journal d judgments.Mixed shows p = (size, d, shows, p)
@@ -32,7 +32,7 @@ judged_files commits known size db wal journal d (judgments.Fault e) shows p = (
 judged_files commits known size db wal journal d (judgments.Refused e) shows p = absurd p
 
 pub judged_view : {F E : Type 0} (bytes : F → List ℕ) (commits : List Commit) (known : ℕ) (db wal journal : List ℕ) (v : View F) (r : Result Judgment E) → IsShown bytes db wal journal v
-    → IfOk r (IsJudged commits known (pages_of bytes v) v.page_size) → IfOk r (IsFilesJudgment commits known db wal journal)
+    → IfOk r (IsJudged commits known (pages_of bytes v) v.page_size) → IfOk r (IsViewJudgment commits known db wal journal)
 judged_view bytes commits known db wal journal v (Ok j) shown p = judged_files commits known v.page_size db wal journal (pages_of bytes v) j (inl shown.shows) p
 judged_view bytes commits known db wal journal v (Err e) shown p = tt
 
@@ -48,7 +48,7 @@ headless_shows db wal journal fault r e = inr (e, headless_alone db wal journal 
 
 -- and the judgment of that is theirs
 pub headless_judged : (commits : List Commit) (known : ℕ) (db wal journal : List ℕ) (fault : Fault) (shown : ℕ) (j : Judgment) → ViewRefused db wal journal (Header fault) → db ≡ []
-    → IsLastShown commits [] (Some shown) → IsPlaced shown known j → IsFilesJudgment commits known db wal journal j
+    → IsLastShown commits [] (Some shown) → IsPlaced shown known j → IsViewJudgment commits known db wal journal j
 headless_judged commits known db wal journal fault shown j r e last p =
     judged_files commits known 0 db wal journal [] j (headless_shows db wal journal fault r e) (placed_judged commits known [] 0 shown j last p)
 
@@ -62,6 +62,16 @@ pub noted_nothing : {E : Type 0} (db wal journal : List ℕ) (fault : Fault) (ol
     → IfOk r (λ taken. IsAdded [] taken old new) → IfOk r (λ taken. IsNoted db wal journal taken old new)
 noted_nothing db wal journal fault old new (Ok taken) r e p = inl (0, [], headless_shows db wal journal fault r e, p)
 noted_nothing db wal journal fault old new (Err error) r e p = tt
+
+-- a commit that a view shows the files show
+pub showing_view : {F E : Type 0} (bytes : F → List ℕ) (db wal journal : List ℕ) (v : View F) (c : Commit) (r : Result Bool E) → IsShown bytes db wal journal v
+    → IfOk r (λ shows. IsTrue shows ↔ Shows c (pages_of bytes v)) → IfOk r (λ shows. IsShowing c db wal journal shows)
+showing_view bytes db wal journal v c (Ok shows) shown p = inl (v.page_size, pages_of bytes v, inl shown.shows, p)
+showing_view bytes db wal journal v c (Err e) shown p = tt
+
+-- and one of no pages a file without bytes
+pub showing_nothing : (db wal journal : List ℕ) (fault : Fault) (c : Commit) (shows : Bool) → ViewRefused db wal journal (Header fault) → db ≡ [] → IsTrue shows ↔ Shows c [] → IsShowing c db wal journal shows
+showing_nothing db wal journal fault c shows r e p = inl (0, [], headless_shows db wal journal fault r e, p)
 
 -- whether there are bytes
 pub empty_tells : (b : Bool) (xs : List ℕ) → b ≡ nat_eq (length xs) 0 → IsTrue b ↔ (xs ≡ [])

@@ -1,4 +1,5 @@
 pub mod Leaves
 pub mod Shown
 pub mod Judged
+pub mod Sound
 pub mod internal

@@ -1,5 +1,5 @@
 -- Which committed database files show (own).
-use Rattle.std.specs.Prelude.{◌≡◌, ◌≢◌, ◌⊎◌, ℕ, ◌+◌, ◌-◌, ◌<◌, ◌≤◌, Bool, true, false, List, [], ◌∷◌, ◌++◌, length, get_or, map, Option, Some, None}
+use Rattle.std.specs.Prelude.{◌≡◌, ◌≢◌, ◌⊎◌, ◌↔◌, ℕ, ◌+◌, ◌-◌, ◌<◌, ◌≤◌, IsTrue, Bool, true, false, List, [], ◌∷◌, ◌++◌, length, get_or, map, Option, Some, None}
 use Rattle.std.specs.List.{Contains}
 use Rattle.sqval.specs.Database.{Database, page}
 use Rattle.sqview.specs.LogView.{IsAlone, Views, ViewRefused}
@@ -69,3 +69,9 @@ abbrev pub IsNoted : (db wal journal : List ℕ) → (taken : Bool) → (old new
 IsNoted db wal journal taken old new =
     ((size : ℕ) × (d : Database) × FilesShow size db wal journal d × IsAdded d taken old new)
     ⊎ ((e : ViewError) × (e ≢ NoMemory) × ViewRefused db wal journal e × (taken ≡ false) × (new ≡ old))
+
+-- whether files show a commit; those that show no database, for another reason than that memory was refused, don't
+abbrev pub IsShowing : Commit → (db wal journal : List ℕ) → (shows : Bool) → Type 0
+IsShowing c db wal journal shows =
+    ((size : ℕ) × (d : Database) × FilesShow size db wal journal d × (IsTrue shows ↔ Shows c d))
+    ⊎ ((e : ViewError) × (e ≢ NoMemory) × ViewRefused db wal journal e × (shows ≡ false))

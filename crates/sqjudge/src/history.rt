@@ -1,5 +1,5 @@
 //! The committed databases of a run, and which of them is shown (own).
-ghost use Rattle.std.specs.Prelude.{◌≡◌, ◌↔◌, ℕ, List, [], ◌∷◌, ◌++◌, length, OnOk, OnErr, IfOk, IfErr, IsTrue};
+ghost use Rattle.std.specs.Prelude.{◌≡◌, ◌↔◌, ℕ, List, [], ◌∷◌, ◌++◌, length, map, OnOk, OnErr, IfOk, IfErr, IsTrue};
 ghost use Rattle.sqpage.specs.Source.{KeepsPages};
 ghost use Rattle.sqview.specs.LogView.{ViewRefused};
 ghost use Rattle.sqjudge.specs.declared.error.SnapshotError.TheVariants.{NoMemory};
@@ -51,6 +51,13 @@ impl History {
         }
     }
 
+    /// The commits, the oldest first.
+    pub fn into_commits(self) -> Vec<Snapshot>
+        ensures { map commit_of result.items ≡ commits_of self }
+    {
+        self.commits
+    }
+
     /// The number of the last commit that a source shows, counted from 0. Refused by Unread, where a page can't be
     /// read, and NoMemory.
     pub fn shown<S: PageSource>(
@@ -61,7 +68,7 @@ impl History {
         ensures shown { S.gives_pages source.old
             → IfOk result (IsLastShown (commits_of self.now) (S.pages source.old)) }
         ensures memory { S.gives_pages source.old → IfErr result (λ e. e ≡ NoMemory) }
-        ensures keeps { KeepsPages S.pages S.size S.gives_pages source.old source.new }
+        ensures keeps { KeepsPages S.pages S.size S.reads_right S.gives_pages source.old source.new }
     {
         for k in (0..self.commits.len()).rev() {
             if self.commits[k].is_shown(alloc, source)? {
@@ -88,7 +95,7 @@ impl History {
         ensures shown { S.gives_pages source.old
             → IfOk result (λ shown. IsTrue shown ↔ ShowsLast (commits_of self.now) (S.pages source.old)) }
         ensures memory { S.gives_pages source.old → IfErr result (λ e. e ≡ NoMemory) }
-        ensures keeps { KeepsPages S.pages S.size S.gives_pages source.old source.new }
+        ensures keeps { KeepsPages S.pages S.size S.reads_right S.gives_pages source.old source.new }
     {
         let count = self.commits.len();
         if count == 0 {

@@ -5,12 +5,13 @@ ghost use Rattle.sqview.specs.LogView.{ViewRefused};
 ghost use Rattle.sqview.specs.declared.view_error.ViewError.TheVariants.{Header};
 ghost use Rattle.sqjudge.specs.declared.error.SnapshotError.TheVariants.{NoMemory};
 ghost use Rattle.sqjudge.specs.Shown.{Commit, IsLastShown, commits_of};
-ghost use Rattle.sqjudge.specs.Judged.{IsJudged, IsFilesJudgment};
+ghost use Rattle.sqjudge.specs.Judged.{IsJudged, IsViewJudgment, IsRolledJudgment, IsFilesJudgment};
 ghost use Rattle.sqjudge.specs.internal.Judged.{IsPlaced};
 
 use crate::error::SnapshotError;
 use crate::history::History;
-use sqcheck::check;
+use crate::rolled::{are_two_logs, rolled_back};
+use crate::sound::fault_of;
 use sqpage::{CheckError, Fault, PageSource};
 use sqview::{View, ViewError};
 use sqwal::Scan;
@@ -49,19 +50,14 @@ fn unshown<S: PageSource>(alloc: Global, source: &mut S) -> Result<Judgment, Sna
         → IsJudged commits known (S.pages source.old) (S.size source.old) j) }
     ensures memory { S.gives_pages source.old → IfErr result (λ e. e ≡ NoMemory) }
 {
-    match check(alloc, source) {
-        Ok(_) => Ok(Judgment::Mixed),
-        Err(error) => match error.fault {
-            Fault::NoMemory => Err(SnapshotError::NoMemory),
-            Fault::Source => Err(SnapshotError::Unread),
-            Fault::AutoVacuum => Ok(Judgment::Mixed),
-            _ => Ok(Judgment::Fault(error)),
-        },
+    match fault_of(alloc, source)? {
+        Some(error) => Ok(Judgment::Fault(error)),
+        None => Ok(Judgment::Mixed),
     }
 }
 
-/// The judgment of a database, where a commit is known to be down. Refused by Unread, where a page can't be read, and
-/// NoMemory.
+/// The judgment of a database, where a commit is known to be durable. Refused by Unread, where a page can't be read,
+/// and NoMemory.
 pub fn judge_source<S: PageSource>(
     alloc: Global,
     history: &History,
@@ -82,7 +78,7 @@ pub fn judge_source<S: PageSource>(
 /// database of no pages.
 fn headless(history: &History, known: usize, is_empty: bool, fault: Fault) -> Judgment
     ensures { (db wal journal : List ℕ) → ViewRefused db wal journal (Header fault) → IsTrue is_empty ↔ (db ≡ [])
-        → IsFilesJudgment (commits_of history.now) known db wal journal result }
+        → IsViewJudgment (commits_of history.now) known db wal journal result }
 {
     if !is_empty {
         return Judgment::Refused(ViewError::Header(fault));
@@ -101,7 +97,7 @@ fn refused(
     refusal: ViewError,
 ) -> Result<Judgment, SnapshotError>
     ensures judged { (db wal journal : List ℕ) → ViewRefused db wal journal refusal → IsTrue is_empty ↔ (db ≡ [])
-        → IfOk result (IsFilesJudgment (commits_of history.now) known db wal journal) }
+        → IfOk result (IsViewJudgment (commits_of history.now) known db wal journal) }
     ensures memory { (db wal journal : List ℕ) → ViewRefused db wal journal refusal
         → IfErr result (λ e. e ≡ NoMemory) }
 {
@@ -115,8 +111,46 @@ fn refused(
     }
 }
 
-/// The judgment of files that a crash left, where a commit is known to be down. A missing file has no bytes, and a
-/// database file without bytes shows the database of no pages where no log counts. Refused by NoMemory alone.
+/// The judgment of files of which one log counts, or none.
+fn judge_view(
+    alloc: Global,
+    history: &History,
+    known: usize,
+    db: &[u8],
+    wal: &[u8],
+    journal: &[u8],
+) -> Result<Judgment, SnapshotError>
+    ensures judged { IfOk result (IsViewJudgment (commits_of history.now) known db.now wal.now journal.now) }
+    ensures memory { IfErr result (λ e. e ≡ NoMemory) }
+{
+    match View::new(alloc, db, wal, journal) {
+        Ok(mut view) => judge_source(alloc, history, known, &mut view),
+        Err(refusal) => refused(history, known, db.is_empty(), refusal),
+    }
+}
+
+/// The judgment of files beside two logs, as SQLite opens them: it rolls the journal back, and then the write-ahead log
+/// counts.
+fn judge_rolled_back(
+    alloc: Global,
+    history: &History,
+    known: usize,
+    db: &[u8],
+    wal: &[u8],
+    journal: &[u8],
+) -> Result<Judgment, SnapshotError>
+    ensures judged { IfOk result (IsRolledJudgment (commits_of history.now) known db.now wal.now journal.now) }
+    ensures memory { IfErr result (λ e. e ≡ NoMemory) }
+{
+    match rolled_back(alloc, db, journal)? {
+        Ok(file) => judge_view(alloc, history, known, &file, wal, &[]),
+        Err(refusal) => Ok(Judgment::Refused(refusal)),
+    }
+}
+
+/// The judgment of files that a crash left, where a commit is known to be durable. A missing file has no bytes, and a
+/// database file without bytes shows the database of no pages where no log counts. A hot journal beside a log is rolled
+/// back first, as SQLite does it, for which a copy of the database is held. Refused by NoMemory alone.
 pub fn judge_files(
     alloc: Global,
     history: &History,
@@ -128,7 +162,27 @@ pub fn judge_files(
     ensures judged { IfOk result (IsFilesJudgment (commits_of history.now) known db.now wal.now journal.now) }
     ensures memory { IfErr result (λ e. e ≡ NoMemory) }
 {
-    match View::new(alloc, db, wal, journal) {
+    if are_two_logs(wal, journal) {
+        return judge_rolled_back(alloc, history, known, db, wal, journal);
+    }
+    judge_view(alloc, history, known, db, wal, journal)
+}
+
+/// The judgment of files of which one log counts, or none, where this is the write-ahead log's scan.
+fn judge_view_scanned(
+    history: &History,
+    known: usize,
+    db: &[u8],
+    wal: &[u8],
+    journal: &[u8],
+    scan: &Scan,
+) -> Result<Judgment, SnapshotError>
+    ensures judged { Took wal.now scan.now
+        → IfOk result (IsViewJudgment (commits_of history.now) known db.now wal.now journal.now) }
+    ensures memory { Took wal.now scan.now → IfErr result (λ e. e ≡ NoMemory) }
+{
+    let alloc = history.alloc();
+    match View::new_scanned(alloc, db, wal, journal, scan) {
         Ok(mut view) => judge_source(alloc, history, known, &mut view),
         Err(refusal) => refused(history, known, db.is_empty(), refusal),
     }
@@ -148,9 +202,8 @@ pub fn judge_scanned(
         → IfOk result (IsFilesJudgment (commits_of history.now) known db.now wal.now journal.now) }
     ensures memory { Took wal.now scan.now → IfErr result (λ e. e ≡ NoMemory) }
 {
-    let alloc = history.alloc();
-    match View::new_scanned(alloc, db, wal, journal, scan) {
-        Ok(mut view) => judge_source(alloc, history, known, &mut view),
-        Err(refusal) => refused(history, known, db.is_empty(), refusal),
+    if are_two_logs(wal, journal) {
+        return judge_rolled_back(history.alloc(), history, known, db, wal, journal);
     }
+    judge_view_scanned(history, known, db, wal, journal, scan)
 }

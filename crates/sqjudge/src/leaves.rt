@@ -25,7 +25,7 @@ fn leaf_count_of(bytes: &[u8]) -> u32
 fn leaf_count<S: PageSource>(alloc: Global, source: &mut S, p: u32) -> Result<u32, SnapshotError>
     ensures count { S.gives_pages source.old → IfOk result (λ n. n ≡ leaf_count_in (page (S.pages source.old) p)) }
     ensures memory { S.gives_pages source.old → IsPage (S.pages source.old) p → IfErr result (λ e. e ≡ NoMemory) }
-    ensures keeps { KeepsPages S.pages S.size S.gives_pages source.old source.new }
+    ensures keeps { KeepsPages S.pages S.size S.reads_right S.gives_pages source.old source.new }
 {
     if p == 0 || p > source.count() {
         return Err(SnapshotError::Unread);
@@ -45,7 +45,7 @@ fn leaves_among<S: PageSource>(
         → IfOk result (λ v. v.items ≡ leaves_of (S.pages source.old) 0 pages.now) }
     ensures memory { S.gives_pages source.old → Every (IsPage (S.pages source.old)) pages.now
         → IfErr result (λ e. e ≡ NoMemory) }
-    ensures keeps { KeepsPages S.pages S.size S.gives_pages source.old source.new }
+    ensures keeps { KeepsPages S.pages S.size S.reads_right S.gives_pages source.old source.new }
 {
     let mut leaves = Vec::new(alloc);
     let mut left = 0u32;
@@ -65,7 +65,7 @@ fn leaves_among<S: PageSource>(
 pub fn free_leaves<S: PageSource>(alloc: Global, source: &mut S) -> Result<Vec<u32>, SnapshotError>
     ensures leaves { S.gives_pages source.old → IfOk result (λ v. AreLeaves (S.pages source.old) v.items) }
     ensures memory { S.gives_pages source.old → IfErr result (λ e. e ≡ NoMemory) }
-    ensures keeps { KeepsPages S.pages S.size S.gives_pages source.old source.new }
+    ensures keeps { KeepsPages S.pages S.size S.reads_right S.gives_pages source.old source.new }
 {
     match freelist(alloc, source) {
         Ok(pages) => leaves_among(alloc, source, &pages),

@@ -29,7 +29,7 @@ impl Page {
     fn read<S: PageSource>(alloc: Global, source: &mut S, p: u32) -> Result<Page, SnapshotError>
         ensures read { S.gives_pages source.old → IfOk result (λ read. read ≡ page (S.pages source.old) p) }
         ensures memory { S.gives_pages source.old → IsPage (S.pages source.old) p → IfErr result (λ e. e ≡ NoMemory) }
-        ensures keeps { KeepsPages S.pages S.size S.gives_pages source.old source.new }
+        ensures keeps { KeepsPages S.pages S.size S.reads_right S.gives_pages source.old source.new }
     {
         if p == 0 || p > source.count() {
             return Err(SnapshotError::Unread);
@@ -51,7 +51,7 @@ impl Page {
 fn read_pages<S: PageSource>(alloc: Global, source: &mut S) -> Result<Vec<Page>, SnapshotError>
     ensures read { S.gives_pages source.old → IfOk result (λ v. v.items ≡ S.pages source.old) }
     ensures memory { S.gives_pages source.old → IfErr result (λ e. e ≡ NoMemory) }
-    ensures keeps { KeepsPages S.pages S.size S.gives_pages source.old source.new }
+    ensures keeps { KeepsPages S.pages S.size S.reads_right S.gives_pages source.old source.new }
 {
     let mut pages = Vec::new(alloc);
     for before in 0..source.count() {
@@ -79,7 +79,7 @@ impl Snapshot {
     pub fn take<S: PageSource>(alloc: Global, source: &mut S) -> Result<Snapshot, SnapshotError>
         ensures taken { S.gives_pages source.old → IfOk result (λ s. IsTaken (S.pages source.old) (commit_of s)) }
         ensures memory { S.gives_pages source.old → IfErr result (λ e. e ≡ NoMemory) }
-        ensures keeps { KeepsPages S.pages S.size S.gives_pages source.old source.new }
+        ensures keeps { KeepsPages S.pages S.size S.reads_right S.gives_pages source.old source.new }
     {
         let leaves = free_leaves(alloc, source)?;
         let pages = read_pages(alloc, source)?;
@@ -134,7 +134,7 @@ impl Snapshot {
         ensures shown { S.gives_pages source.old
             → IfOk result (λ shown. IsTrue shown ↔ Shows (commit_of self.now) (S.pages source.old)) }
         ensures memory { S.gives_pages source.old → IfErr result (λ e. e ≡ NoMemory) }
-        ensures keeps { KeepsPages S.pages S.size S.gives_pages source.old source.new }
+        ensures keeps { KeepsPages S.pages S.size S.reads_right S.gives_pages source.old source.new }
     {
         let count = source.count();
         if count as usize != self.pages.len() {

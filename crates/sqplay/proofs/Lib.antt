@@ -3,3 +3,4 @@ pub mod ChangeOfLastFile
 pub mod UncutFiles
 pub mod PlayedRecords
 pub mod ForgottenFiles
+pub mod ResizedFiles

@@ -1,5 +1,5 @@
 -- What a crash may leave under a name (own).
-use Rattle.std.specs.Prelude.{◌≡◌, ◌⊎◌, ℕ, ◌+◌, ◌-◌, ◌<◌, ◌≤◌, min, nat_lt, Bool, true, false, cond, List, [], ◌∷◌, ◌++◌, length, take, drop, get_or, map, Option, Some, None, slice_get}
+use Rattle.std.specs.Prelude.{◌≡◌, ◌⊎◌, ℕ, ◌+◌, ◌-◌, ◌<◌, ◌≤◌, min, nat_lt, Bool, true, false, cond, ◌||◌, List, [], ◌∷◌, ◌++◌, length, take, drop, get_or, map, Option, Some, None, slice_get}
 use Rattle.crashdisk.specs.Call.{DiskState, IsNew, ArePresent}
 use Rattle.crashdisk.specs.Ending.{EndsDb}
 use Rattle.crashdisk.specs.Model.{state_of}
@@ -8,10 +8,11 @@ use Rattle.sqplay.specs.declared.meta.Meta.{Meta}
 use Rattle.sqplay.specs.declared.meta.Meta.TheVariants.{Parts}
 use Rattle.sqplay.specs.declared.name.Name.{Name}
 
--- The files that a crash may leave under a name, each the database of a disk: those that were made under it since the folder was
--- last synced, or stood there then, the oldest first, and behind each those that whole truncations left of it; the place in that list
--- of the file that was made last, as it was before the first of its truncations that may not be down; the least length that one of these
--- gave it; whether a crash may leave none; and whether the name is gone now. The present file is the last.
+-- The files that a crash may leave under a name, each the database of a disk: those that were made under it since the
+-- folder was last synced, or stood there then, the oldest first, and behind each those that whole truncations left of
+-- it; the place in that list of the file that was made last, as it was before the first of its truncations that may not
+-- be durable; the least length that one of these gave it; whether a crash may leave none; and whether the name is gone
+-- now. The present file is the last.
 pub record NameState : Type 0 where
   pub files : List DiskState
   pub made : ℕ
@@ -22,7 +23,7 @@ pub record NameState : Type 0 where
 abbrev pub name_of : Name → NameState
 name_of n = record { files = map (λ d. state_of d) n.files.items; made = n.made; below = n.below; maybe_none = n.maybe_none; gone = n.gone }
 
--- nothing is there, and that is down
+-- nothing is there, and that is durable
 abbrev pub no_file : NameState
 no_file = record { files = []; made = 0; below = 0; maybe_none = true; gone = true }
 
@@ -31,7 +32,7 @@ abbrev pub LastGoes : (DiskState → DiskState → Type 0) → (old new : NameSt
 LastGoes P old new = ((old.files ≡ []) × (new ≡ old))
     ⊎ ((front : List DiskState) × (was : DiskState) × (now : DiskState) × (old.files ≡ front ++ was ∷ []) × P was now × (new ≡ record old { files = front ++ now ∷ [] }))
 
--- file k is one that a truncation left which may not be down
+-- file k is one that a truncation left which may not be durable
 abbrev pub IsUncut : NameState → (k : ℕ) → Type 0
 IsUncut s k = (s.made ≤ k) × (k + 1 < length s.files)
 
@@ -46,7 +47,8 @@ pub record UncutGo (P : DiskState → DiskState → Type 0) (old new : NameState
 abbrev pub TakesBelow : (n at : ℕ) (bytes : List ℕ) (fails : Bool) → (old new : DiskState) → Type 0
 TakesBelow n at bytes fails old new = ((at < n) × IsWritten at (take (n - at) bytes) fails old new) ⊎ ((n ≤ at) × (new ≡ old))
 
--- A write into the present file. What it writes below each truncation that may not be down the files before these take, too.
+-- A write into the present file. What it writes below each truncation that may not be durable the files before these
+-- take, too.
 abbrev pub Writes : (at : ℕ) (bytes : List ℕ) (fails : Bool) → (old new : NameState) → Type 0
 Writes at bytes fails old new = (mid : NameState) × UncutGo (TakesBelow old.below at bytes fails) old mid × LastGoes (IsWritten at bytes fails) mid new
 
@@ -59,7 +61,15 @@ abbrev pub ArePresentOf : Option DiskState → List ℕ → Type 0
 ArePresentOf None bytes = bytes ≡ []
 ArePresentOf (Some f) bytes = ArePresent f.db bytes
 
--- a file with these bytes alone, which is down
+-- the length of the present file changed since it was last synced: it was written longer, or cut
+abbrev pub has_lengths : Option DiskState → Bool
+has_lengths None = false
+has_lengths (Some f) = nat_lt f.db.least f.db.greatest
+
+abbrev pub is_resized : NameState → Bool
+is_resized s = nat_lt s.made (length s.files - 1) || has_lengths (slice_get s.files (length s.files - 1))
+
+-- a file with these bytes alone, which is durable
 abbrev pub IsBase : (sector : ℕ) (tears : Bool) (bytes : List ℕ) → NameState → Type 0
 IsBase sector tears bytes s = (d : DiskState) × IsNew sector tears bytes d × (s ≡ record { files = d ∷ []; made = 0; below = 0; maybe_none = false; gone = false })
 
@@ -72,12 +82,12 @@ Makes sector tears old new =
 abbrev pub IsLonger : (n : ℕ) → NameState → Type 0
 IsLonger n s = (front : List DiskState) × (last : DiskState) × (s.files ≡ front ++ last ∷ []) × (n < last.db.len)
 
--- the least length that a truncation to n and those before it that may not be down gave
+-- the least length that a truncation to n and those before it that may not be durable gave
 abbrev pub least_cut : (n : ℕ) → NameState → ℕ
 least_cut n s = cond (nat_lt s.made (length s.files - 1)) (min s.below n) n
 
--- A whole truncation: the present file stays among those that a crash may leave, and the present one is the same, ended at n.
--- One that failed does nothing.
+-- A whole truncation: the present file stays among those that a crash may leave, and the present one is the same, ended
+-- at n. One that failed does nothing.
 abbrev pub CutsWhole : (n : ℕ) (fails : Bool) → (old new : NameState) → Type 0
 CutsWhole n true old new = new ≡ old
 CutsWhole n false old new =
@@ -88,11 +98,11 @@ abbrev pub Cuts : Meta → (n : ℕ) (fails : Bool) → (old new : NameState) �
 Cuts Parts n fails old new = LastGoes (IsCut n fails) old new
 Cuts _ n fails old new = (IsLonger n old × CutsWhole n fails old new) ⊎ (¬ IsLonger n old × LastGoes (IsCut n fails) old new)
 
--- the truncations of the present file are down: of what was made last it alone is left
+-- the truncations of the present file are durable: of what was made last it alone is left
 abbrev pub without_uncut : NameState → NameState
 without_uncut s = record s { files = take (min s.made (length s.files - 1)) s.files ++ drop (length s.files - 1) s.files }
 
--- a sync; where truncations go down as a whole, one that succeeded has them down
+-- a sync; where truncations become durable as a whole, one that succeeded makes them so
 abbrev pub Syncs : Meta → (fails : Bool) → (old new : NameState) → Type 0
 Syncs Parts fails old new = LastGoes (IsSynced fails) old new
 Syncs _ fails old new = (mid : NameState) × LastGoes (IsSynced fails) old mid × (new ≡ cond fails mid (without_uncut mid))

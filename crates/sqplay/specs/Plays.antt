@@ -1,11 +1,11 @@
 -- What the records of a trace do to a database file and its two logs (own).
-use Rattle.std.specs.Prelude.{◌≡◌, ◌≢◌, ◌⊎◌, ℕ, ◌+◌, ◌-◌, Bool, true, false, cond, List, [], ◌∷◌, ◌++◌, length}
+use Rattle.std.specs.Prelude.{◌≡◌, ◌≢◌, ◌⊎◌, ℕ, ◌+◌, ◌-◌, Bool, true, false, cond, not, ◌||◌, nat_eq, List, [], ◌∷◌, ◌++◌, length}
 use Rattle.sqplay.specs.Trace.{has_failed, bytes_of}
 use Rattle.sqplay.specs.Files.{FileRefused}
 use Rattle.sqplay.specs.Ends.{IsAsNoted, IsUnlikeNoted}
 use Rattle.sqplay.specs.declared.error.PlayError.{PlayError}
 use Rattle.sqplay.specs.declared.error.PlayError.TheVariants.{NotHeld, Renamed, Differs, NoMemory}
-use Rattle.sqplay.specs.Names.{NameState, name_of, no_file, Writes, IsBase, Makes, Cuts, Syncs, only_now}
+use Rattle.sqplay.specs.Names.{NameState, name_of, no_file, Writes, IsBase, Makes, Cuts, Syncs, only_now, is_resized}
 use Rattle.sqplay.specs.declared.meta.Epoch.{Epoch}
 use Rattle.sqplay.specs.declared.meta.Holds.{Holds}
 use Rattle.sqplay.specs.declared.meta.Holds.TheVariants.{Any, Nothing, File}
@@ -18,8 +18,8 @@ use Rattle.sqplay.specs.declared.trace.Subject.TheVariants as subjects
 use Rattle.sqplay.specs.declared.trace.Record.{Record}
 use Rattle.sqplay.specs.declared.player.Player.{Player}
 
--- How the files were made and go down, what is under the three names, and where metadata goes down in order what these held before
--- each change that may not be down, the oldest first.
+-- How the files were made and become durable, what is under the three names, and where metadata becomes durable in
+-- order what these held before each change that may not be durable, the oldest first.
 pub record Files : Type 0 where
   pub sector : ℕ
   pub tears : Bool
@@ -36,7 +36,8 @@ files_of p = record { sector = p.manner.sector; tears = p.manner.tears; meta = p
 abbrev pub no_files : (sector : ℕ) (tears : Bool) → Meta → Files
 no_files sector tears meta = record { sector = sector; tears = tears; meta = meta; db = no_file; wal = no_file; journal = no_file; earlier = [] }
 
--- what a name holds after a crash that comes now, where all changes are down: where metadata goes down in order, what it has
+-- what a name holds after a crash that comes now, where all changes are durable: where metadata becomes durable in
+-- order, what it has
 abbrev pub holds_now : Meta → NameState → Holds
 holds_now Ordered s = cond s.gone Nothing (File (length s.files - 1))
 holds_now _ s = Any
@@ -78,32 +79,33 @@ NamesGo b r old new =
     ((r.subject ≡ subjects.Folder) × (new ≡ cond (has_failed r) old (all_now old)))
     ⊎ ((r.subject ≡ subjects.Folder → ⊥) × OneGoes r.subject (CallDoes r.kind old.sector old.tears old.meta b r) old new)
 
--- A record of this has all changes of names and lengths before it down: a sync of a file or of the folder that succeeded, and a
--- file that was there at first.
-abbrev pub file_brings_down : Kind → (fails : Bool) → Bool
-file_brings_down kinds.Base fails = true
-file_brings_down kinds.Sync fails = cond fails false true
-file_brings_down _ fails = false
+-- A call on a file makes all changes of names and lengths before it durable: a file that was there at first, and a sync that succeeded,
+-- unless it is an fdatasync (place 1) and the file's length is as it was when it was last synced.
+abbrev pub file_brings_down : Kind → (place : ℕ) (fails : Bool) → NameState → Bool
+file_brings_down kinds.Base place fails s = true
+file_brings_down kinds.Sync place fails s = cond fails false (not (nat_eq place 1) || is_resized s)
+file_brings_down _ place fails s = false
 
-abbrev pub brings_down : Subject → Kind → (fails : Bool) → Bool
-brings_down subjects.Db kind fails = file_brings_down kind fails
-brings_down subjects.Wal kind fails = file_brings_down kind fails
-brings_down subjects.Journal kind fails = file_brings_down kind fails
-brings_down subjects.Folder kind fails = cond fails false true
-brings_down _ kind fails = false
+-- a record behind these files does, also a sync of the folder that succeeded
+abbrev pub brings_down : Subject → Kind → (place : ℕ) (fails : Bool) → Files → Bool
+brings_down subjects.Db kind place fails s = file_brings_down kind place fails s.db
+brings_down subjects.Wal kind place fails s = file_brings_down kind place fails s.wal
+brings_down subjects.Journal kind place fails s = file_brings_down kind place fails s.journal
+brings_down subjects.Folder kind place fails s = cond fails false true
+brings_down _ kind place fails s = false
 
-abbrev pub has_all_down : Record → Bool
-has_all_down r = brings_down r.subject r.kind (has_failed r)
+abbrev pub has_all_down : Files → Record → Bool
+has_all_down s r = brings_down r.subject r.kind r.place (has_failed r) s
 
--- What the names held before each change that may not be down: nothing where all are down, and what they held last where that is
--- something else now.
+-- What the names held before each change that may not be durable: nothing where all are durable, and what they held
+-- last where that is something else now.
 abbrev pub Follows : (all_down : Bool) (before after : Epoch) (old new : List Epoch) → Type 0
 Follows true before after old new = new ≡ []
 Follows false before after old new = ((after ≡ before) × (new ≡ old)) ⊎ ((after ≢ before) × (new ≡ old ++ before ∷ []))
 
 -- one record is played
 abbrev pub Step : List ℕ → Record → (old new : Files) → Type 0
-Step b r old new = (mid : Files) × NamesGo b r old mid × Follows (has_all_down r) (epoch_now old) (epoch_now mid) mid.earlier new.earlier
+Step b r old new = (mid : Files) × NamesGo b r old mid × Follows (has_all_down old r) (epoch_now old) (epoch_now mid) mid.earlier new.earlier
     × (new ≡ record mid { earlier = new.earlier })
 
 -- records are played, one after the other
@@ -130,7 +132,7 @@ name_at subjects.Wal s = s.wal
 name_at subjects.Journal s = s.journal
 name_at _ s = no_file
 
--- what refuses to play a record; where metadata goes down in order, what the names held may want memory
+-- what refuses to play a record; where metadata becomes durable in order, what the names held may want memory
 abbrev pub StepRefused : (old : Files) → List ℕ → Record → PlayError → Type 0
 StepRefused old b r e = ((r.subject ≡ subjects.Folder → ⊥) × CallRefused r.kind b r (name_at r.subject old) e) ⊎ ((old.meta ≡ Ordered) × (e ≡ NoMemory))
 

@@ -2,11 +2,12 @@
 ghost use Rattle.std.specs.Prelude.{◌≡◌, IsTrue, OnOk, IfErr};
 ghost use Rattle.crashdisk.specs.Solid.{is_sector_size};
 ghost use Rattle.sqplay.specs.Names.{name_of};
-ghost use Rattle.sqplay.specs.Plays.{CallDoes, CallRefused, has_all_down};
+ghost use Rattle.sqplay.specs.Plays.{CallDoes, CallRefused, file_brings_down};
+ghost use Rattle.sqplay.specs.Trace.{has_failed};
 
 use crate::error::PlayError;
 use crate::name::{Manner, Name};
-use crate::trace::{Kind, Record, Subject};
+use crate::trace::{Kind, Record};
 
 /// Plays a record that speaks of a name.
 pub(crate) fn play_call(
@@ -50,17 +51,13 @@ pub(crate) fn play_call(
     }
 }
 
-/// Whether all changes of names and lengths before a record are down behind it.
-pub(crate) fn has_all_down(call: &Record) -> bool
-    ensures { result ≡ has_all_down call.now }
+/// Whether all changes of names and lengths before a call on a file are durable behind it.
+pub(crate) fn has_all_down(name: &Name, call: &Record) -> bool
+    ensures { result ≡ file_brings_down call.now.kind call.now.place (has_failed call.now) (name_of name.now) }
 {
-    match call.subject {
-        Subject::Folder => !call.has_failed(),
-        Subject::Db | Subject::Wal | Subject::Journal => match call.kind {
-            Kind::Base => true,
-            Kind::Sync => !call.has_failed(),
-            _ => false,
-        },
-        Subject::Marks | Subject::Other => false,
+    match call.kind {
+        Kind::Base => true,
+        Kind::Sync => !call.has_failed() && (call.place != 1 || name.is_resized()),
+        _ => false,
     }
 }

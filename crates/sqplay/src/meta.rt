@@ -1,16 +1,17 @@
-//! How names and lengths go down, and what the names hold (own).
+//! How names and lengths become durable, and what the names hold (own).
 
-/// How metadata goes down: which names and lengths a crash may leave.
+/// How metadata becomes durable: which names and lengths a crash may leave.
 #[derive(Clone, Copy, Debug, PartialEq, Eq)]
 pub enum Meta {
     /// In parts: a truncation touches each sector by itself, and the length is any between the least and the greatest.
-    /// Makings and unlinks are down once the folder is synced.
+    /// Makings and unlinks are durable once the folder is synced.
     Parts,
     /// A truncation is old or new as a whole: a crash leaves the file as it was before it, or the file that was cut,
-    /// until that is synced. Makings and unlinks are down once the folder is synced.
+    /// until that is synced. Makings and unlinks are durable once the folder is synced.
     Whole,
-    /// As `Whole`, and makings, unlinks and truncations of all three files go down in the order of the calls, as in the
-    /// journal of a file system. A sync of a file or of the folder has all of them down that came before it.
+    /// As `Whole`, and makings, unlinks and truncations of all three files become durable in the order of the calls, as
+    /// in the journal of a file system. A sync of a file or of the folder makes all of them durable that came before
+    /// it, but an fdatasync of a file whose length is as it was when it was last synced none.
     Ordered,
 }
 

@@ -13,7 +13,7 @@ use crate::trace::Record;
 use crashdisk::{Disk, DiskError, File, ModelDisk, Part};
 use std::alloc::Global;
 
-/// What a modelled disk is made with, and how metadata goes down.
+/// What a modelled disk is made with, and how metadata becomes durable.
 #[derive(Clone, Copy)]
 pub(crate) struct Manner {
     pub(crate) alloc: Global,
@@ -30,7 +30,7 @@ impl Manner {
     ghost use Rattle.crashdisk.specs.Model.{state_of};
     ghost use Rattle.crashdisk.specs.Solid.{is_sector_size};
 
-    /// A disk whose database has these bytes, which are down.
+    /// A disk whose database has these bytes, which are durable.
     fn disk(&self, bytes: Vec<u8>) -> Result<ModelDisk, DiskError>
         requires { IsTrue (is_sector_size self.now.sector) }
         ensures made { IfOk result (λ d. IsNew self.now.sector self.now.tears bytes.items (state_of d)) }
@@ -137,7 +137,7 @@ pub struct Name {
     /// Those that were made under it and are not gone for good, the oldest first, and behind each those that whole
     /// truncations left of it.
     pub(crate) files: Vec<ModelDisk>,
-    /// Where in that list the one stands that was made last, as it was before the truncations that may not be down.
+    /// Where in that list the one stands that was made last, as it was before the truncations that may not be durable.
     pub(crate) made: usize,
     /// The least length that one of these truncations gave it.
     pub(crate) below: u64,
@@ -155,7 +155,7 @@ impl Name {
     ghost use Rattle.sqplay.specs.Files.{IsWritten, IsCut, IsSynced, FileRefused};
     ghost use Rattle.sqplay.specs.Names.{name_of, no_file, LastGoes, IsBase, Makes, IsLonger, CutsWhole, Cuts, Syncs};
     ghost use Rattle.sqplay.specs.Names.{without_uncut, last_made, only_now, UncutGo, TakesBelow, Writes, least_cut};
-    ghost use Rattle.sqplay.specs.Names.{ArePresentOf, file_now};
+    ghost use Rattle.sqplay.specs.Names.{ArePresentOf, file_now, is_resized};
     ghost use Rattle.sqplay.specs.Ends.{IsAsNoted, IsUnlikeNoted};
     ghost use Rattle.sqplay.specs.Plays.{holds_now};
     ghost use Rattle.sqplay.specs.declared.error.PlayError.TheVariants.{NoMemory};
@@ -180,6 +180,18 @@ impl Name {
         ensures { result ≡ (name_of self.now).gone }
     {
         self.gone
+    }
+
+    /// Whether the length of the present file changed since it was last synced: it was written longer, or cut.
+    pub(crate) fn is_resized(&self) -> bool
+        ensures { result ≡ is_resized (name_of self.now) }
+    {
+        if self.files.is_empty() {
+            return false;
+        }
+        let last = self.files.len() - 1;
+        let (least, greatest) = self.files[last].lengths(File::Db);
+        self.made < last || least < greatest
     }
 
     /// Appends the bytes of the file that has the name now, none where no file has it. NoMemory alone.
@@ -215,7 +227,7 @@ impl Name {
         Ok(bytes.len() as u64 == end.length && sum_of(&bytes) == end.answer)
     }
 
-    /// What it holds after a crash that comes when all changes are down.
+    /// What it holds after a crash that comes when all changes are durable.
     pub(crate) fn holds(&self, meta: Meta) -> Holds
         ensures { result ≡ holds_now meta (name_of self.now) }
     {
@@ -226,7 +238,7 @@ impl Name {
         }
     }
 
-    /// Nothing is there, and that is down.
+    /// Nothing is there, and that is durable.
     pub(crate) fn nothing(alloc: Global) -> Name
         ensures { name_of result ≡ no_file }
     {
@@ -239,7 +251,7 @@ impl Name {
         }
     }
 
-    /// A file with these bytes is there, and that is down.
+    /// A file with these bytes is there, and that is durable.
     pub(crate) fn base(manner: &Manner, bytes: &[u8]) -> Result<Name, PlayError>
         requires { IsTrue (is_sector_size manner.now.sector) }
         ensures does { IfOk result (λ n. IsBase manner.now.sector manner.now.tears bytes.now (name_of n)) }
@@ -279,7 +291,7 @@ impl Name {
         self.gone = true;
     }
 
-    /// Bytes were written into the present file, and what lies below its truncations that may not be down into those
+    /// Bytes were written into the present file, and what lies below its truncations that may not be durable into those
     /// before these.
     pub(crate) fn write(
         &mut self,
@@ -386,7 +398,7 @@ impl Name {
         Ok(())
     }
 
-    /// The least length that a truncation to this one and those before it that may not be down gave.
+    /// The least length that a truncation to this one and those before it that may not be durable gave.
     fn least_cut(&self, end: u64) -> u64
         ensures { result ≡ least_cut end (name_of self.now) }
     {
@@ -422,7 +434,7 @@ impl Name {
         sync_file(&mut self.files[last], alloc, fails)
     }
 
-    /// The truncations of the present file are down.
+    /// The truncations of the present file are durable.
     fn forget_uncut(&mut self)
         ensures { name_of self.new ≡ without_uncut (name_of self.old) }
     {

@@ -17,7 +17,7 @@ pub struct Player {
     db: Name,
     wal: Name,
     journal: Name,
-    /// What the names held before each change that may not be down, the oldest first.
+    /// What the names held before each change that may not be durable, the oldest first.
     earlier: Vec<Epoch>,
     ghost is_size: { IsTrue (is_sector_size manner.sector) },
 }
@@ -29,10 +29,10 @@ impl Player {
     ghost use Rattle.sqplay.specs.declared.trace.Subject.TheVariants.{Folder};
     ghost use Rattle.sqplay.specs.Names.{name_of};
     ghost use Rattle.sqplay.specs.Plays.{files_of, no_files, epoch_now, NamesGo, Step, StepRefused, Plays};
-    ghost use Rattle.sqplay.specs.Plays.{Follows, CallRefused, PlaysRefused, name_at};
+    ghost use Rattle.sqplay.specs.Plays.{Follows, CallRefused, PlaysRefused, name_at, has_all_down};
 
     /// None of the files is there. The disks have sectors of this size, a power of two from 512 to 65536 bytes, and
-    /// tear or not; metadata goes down so.
+    /// tear or not; metadata becomes durable so.
     pub fn new(alloc: Global, sector: usize, tears: bool, meta: Meta) -> Player
         requires { IsTrue (is_sector_size sector) }
         ensures { files_of result ≡ no_files sector tears meta }
@@ -79,15 +79,15 @@ impl Player {
         &self.journal
     }
 
-    /// What the names held before each change that may not be down, the oldest first. Only where metadata goes down in
-    /// order there are any: a crash leaves what one of these epochs holds, or the present one.
+    /// What the names held before each change that may not be durable, the oldest first. Only where metadata goes down
+    /// in order there are any: a crash leaves what one of these epochs holds, or the present one.
     pub fn earlier(&self) -> &[Epoch]
         ensures { result.now ≡ (files_of self.now).earlier }
     {
         self.earlier.as_slice()
     }
 
-    /// What the names hold after a crash that comes when all changes of names and lengths are down.
+    /// What the names hold after a crash that comes when all changes of names and lengths are durable.
     pub fn epoch(&self) -> Epoch
         ensures { result ≡ epoch_now (files_of self.now) }
     {
@@ -106,8 +106,22 @@ impl Player {
         ensures refused { IfErr result (StepRefused (files_of self.old) trace.now call.now) }
     {
         let before = self.epoch();
+        let all_down = self.has_all_down(call);
         self.go(trace, call)?;
-        self.follow(before, has_all_down(call))
+        self.follow(before, all_down)
+    }
+
+    /// Whether all changes of names and lengths before a record are durable behind it.
+    fn has_all_down(&self, call: &Record) -> bool
+        ensures { result ≡ has_all_down (files_of self.now) call.now }
+    {
+        match call.subject {
+            Subject::Folder => !call.has_failed(),
+            Subject::Db => has_all_down(&self.db, call),
+            Subject::Wal => has_all_down(&self.wal, call),
+            Subject::Journal => has_all_down(&self.journal, call),
+            Subject::Marks | Subject::Other => false,
+        }
     }
 
     /// Plays a record on the names.
@@ -137,7 +151,7 @@ impl Player {
         }
     }
 
-    /// Keeps what the names held before a record, where they hold something else now and not all is down.
+    /// Keeps what the names held before a record, where they hold something else now and not all is durable.
     fn follow(&mut self, before: Epoch, all_down: bool) -> Result<(), PlayError>
         ensures follows { OnOk result (Follows all_down before (epoch_now (files_of self.old))
             (files_of self.old).earlier (files_of self.new).earlier) }

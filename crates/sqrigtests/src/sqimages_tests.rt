@@ -4,7 +4,7 @@ use crate::asserts::same;
 use crate::traces::sample;
 use crashdisk::DiskError;
 use rand_pcg::Pcg32;
-use sqimages::{Counts, Fixed, Image, draw, draw_now, redraw};
+use sqimages::{Counts, Fixed, Image, Which, draw, draw_now, draw_torn, redraw};
 use sqplay::{Meta, Player, Trace};
 use std::alloc::{AllocError, Global};
 use std::process::Abort;
@@ -198,5 +198,51 @@ fn torn_draws(rt: HostRuntime) -> Result<(), Fail> {
         }
     }
     assert!(rt; torn > 0);
+    Ok(())
+}
+
+/// Draws an image with a torn sector of the database file, and gives that file.
+fn torn_file<'a>(
+    alloc: Global,
+    rng: &mut Pcg32,
+    player: &Player,
+    drawn: &'a mut Image,
+) -> Result<&'a [u8], Fail> {
+    if !draw_torn(alloc, rng, player, Which::Db, drawn)? {
+        return Err("none tears".into());
+    }
+    Ok(drawn.db.as_slice())
+}
+
+// Each image that is drawn with a torn sector has one: neither the new bytes nor the oldest ones.
+#[test]
+fn always_torn(rt: HostRuntime) -> Result<(), Fail> {
+    let alloc = rt.alloc();
+    let player = player(alloc, true, Meta::Parts)?;
+    let mut rng = Pcg32::new(3, 1);
+    let mut drawn = Image::none(alloc);
+    for _ in 0..40 {
+        let file = torn_file(alloc, &mut rng, &player, &mut drawn)?;
+        assert!(rt; file != b"abcd".as_slice() && file != b"aBC\0".as_slice());
+    }
+    Ok(())
+}
+
+// A log that was never written has no sector that tears, nor has a journal that was synced, nor any file on a disk that
+// writes sectors whole.
+#[test]
+fn none_torn(rt: HostRuntime) -> Result<(), Fail> {
+    let alloc = rt.alloc();
+    let mut rng = Pcg32::new(3, 1);
+    let mut drawn = Image::none(alloc);
+    for (tears, which) in [
+        (true, Which::Wal),
+        (true, Which::Journal),
+        (false, Which::Db),
+    ] {
+        let player = player(alloc, tears, Meta::Parts)?;
+        let torn = draw_torn(alloc, &mut rng, &player, which, &mut drawn);
+        same(&rt, torn, Ok(false));
+    }
     Ok(())
 }

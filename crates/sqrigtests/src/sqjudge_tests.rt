@@ -1,7 +1,9 @@
 //! Commits are kept or lost, or an image shows none, on databases that are made by hand.
 
 use crate::asserts::same;
-use sqjudge::{History, Judgment, Snapshot, SnapshotError, free_leaves, judge_files, judge_source};
+use sqjudge::{
+    History, Judgment, Snapshot, SnapshotError, files_show, free_leaves, judge_files, judge_source,
+};
 use sqpage::{CheckError, Fault, SliceSource};
 use sqval::PageSize;
 use sqview::ViewError;
@@ -162,4 +164,49 @@ fn no_files(rt: HostRuntime) {
     ] {
         same(&rt, judged_file(alloc, &history, known, db), Ok(wanted));
     }
+}
+
+/// A file of two pages of 512 bytes.
+fn two_pages() -> [u8; 1024] {
+    let mut bytes = [0u8; 1024];
+    bytes[..18].copy_from_slice(b"SQLite format 3\0\x02\0");
+    bytes
+}
+
+/// A hot journal without records, by which a file had one page of 512 bytes.
+fn journal_of_a_page() -> [u8; 512] {
+    let mut bytes = [0u8; 512];
+    bytes[..8].copy_from_slice(&[0xd9, 0xd5, 0x05, 0xf9, 0x20, 0xa1, 0x63, 0xd7]);
+    bytes[19] = 1;
+    bytes[22] = 2;
+    bytes[26] = 2;
+    bytes
+}
+
+// Files beside two logs show no commit, but their judgment is that of what the journal restores, with the log.
+#[test]
+fn two_logs(rt: HostRuntime) -> Result<(), Fail> {
+    let alloc = rt.alloc();
+    let (file, journal) = (two_pages(), journal_of_a_page());
+    let page = &file[..512];
+    let commit = taken(alloc, page)?;
+    for (db, wal, journal, wanted) in [
+        (page, b"".as_slice(), b"".as_slice(), true),
+        (&file, b"", b"", false),
+        (&file, b"", &journal, true),
+        (&file, b"x", &journal, false),
+    ] {
+        same(
+            &rt,
+            files_show(alloc, &commit, db, wal, journal),
+            Ok(wanted),
+        );
+    }
+    let mut history = History::new(alloc);
+    history.push(commit)?;
+    for (known, wanted) in [(0, Judgment::Kept(0)), (1, Judgment::Lost(0))] {
+        let judgment = judge_files(alloc, &history, known, &file, b"x", &journal);
+        same(&rt, judgment, Ok(wanted));
+    }
+    Ok(())
 }

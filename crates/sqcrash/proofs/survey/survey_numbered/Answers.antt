@@ -1,8 +1,9 @@
-use Rattle.std.proofs.Common.{◌≡◌, ℕ, ◌+◌, [], ◌∷◌, ◌++◌, length, length-append, refl, sym, ◌∙◌, ap, subst, arith}
+use Rattle.std.proofs.Common.{◌≡◌, ℕ, ◌+◌, [], ◌∷◌, ◌++◌, length, length-append, refl, ◌∙◌, subst, arith}
 use Rattle.sqplay.specs.Plays.{Files}
 use Rattle.sqimages.specs.Images.{IsNumbered}
 use Rattle.sqcrash.specs.Runs.{run_of}
-use Rattle.sqcrash.specs.Surveys.{Judged, finding_of}
+use Rattle.sqcrash.specs.Surveys.{Judged}
+use Rattle.sqcrash.specs.Samples.{TakesOne}
 use Rattle.sqcrash.proofs.TallyOfJudgedImages.{numbered_more, tells_more, tells_none}
 use Rattle.sqcrash.proofs.survey.survey_numbered.Goals as goal
 
@@ -15,15 +16,15 @@ loop-n-preserved g c =
     let counts = c.args.counts.now in
     let image = c.set.new.self in
     let so_far = c.loop-n.invariant in
-    let x : Judged = record { image = image; judgment = c.in_ok-judgment.judgment } in
+    let one : TakesOne run image c.loop-n.survey c.judge.new.self = c.in_ok-judge.ensures tt in
+    let x : Judged = record { image = image; judgment = one.0 } in
     let next : c.loop-n.n ≡ 0 + length so_far.0 = omega (arith, so_far.1) in
     let is : IsNumbered run.files counts (0 + length so_far.0) image =
-    subst (λ (n : ℕ). IsNumbered run.files counts n image) next (subst (λ (s : Files). IsNumbered s counts c.loop-n.n image) c.player.ensures c.in_ok-set.ensures) in
-    let found = c.in_ok-add.ensures.found ∙ ap (λ (k : ℕ). c.loop-n.survey.findings.items ++ finding_of k c.in_ok-judgment.judgment) (sym so_far.1) in (
+    subst (λ (n : ℕ). IsNumbered run.files counts n image) next (subst (λ (s : Files). IsNumbered s counts c.loop-n.n image) c.player.ensures c.in_ok-set.ensures) in (
       so_far.0 ++ x ∷ [],
       omega (arith, length-append so_far.0 (x ∷ []), so_far.1),
       numbered_more run counts 0 so_far.0 x so_far.2 is,
-      tells_more run so_far.0 x c.args.survey.now c.loop-n.survey c.add.new.self so_far.3 c.in_ok-judgment.ensures c.in_ok-add.ensures.tally found,
+      tells_more run so_far.0 x c.args.survey.now c.loop-n.survey c.judge.new.self so_far.3 one.1 one.2,
     )
 
 pub returns : goal.returns

@@ -1,4 +1,4 @@
-use Rattle.std.proofs.Common.{◌≡◌, inl, inr, ℕ, ◌+◌, ◌<◌, ◌++◌, List, length, get_or, length-append, ◌∙◌, ap, arith}
+use Rattle.std.proofs.Common.{◌≡◌, inl, inr, ℕ, ◌+◌, ◌<◌, ◌++◌, List, length, get_or, length-append, ◌∙◌, ap, refl, arith}
 use Rattle.std.proofs.lemmas.Bool.{cases_lt}
 use Rattle.std.proofs.lemmas.List.{get_or_past, get_or-append-add}
 use Rattle.std.proofs.lemmas.Result.{IfOk-weaker}
@@ -28,6 +28,9 @@ returns c =
     IfOk-weaker c.image.result _ _ (λ done is. (
       bytes,
       is,
-      image_named s.sector s.tears s.db (naming_of c.args.choice.now) sound
-          (bytes_behind c.image.new.out.items c.args.out.now.items bytes c.type_inv.out is),
+      record {
+        is = refl;
+        left = image_named s.sector s.tears s.db (naming_of c.args.choice.now) sound
+            (bytes_behind c.image.new.out.items c.args.out.now.items bytes c.type_inv.out is);
+      },
     )) c.image.ensures.ok

@@ -1,18 +1,5 @@
-use Rattle.std.proofs.Common.{subst}
 use Rattle.std.proofs.lemmas.Result.{IfOk-weaker}
-use Rattle.sqplay.specs.Names.{NameState}
-use Rattle.sqimages.specs.Left.{MayBeLeft}
 use Rattle.sqimages.proofs.draws.draw.Goals as goal
 
 pub returns : goal.returns
-returns g c =
-    let e = c.draw_epoch-epoch.result in
-    IfOk-weaker c.put_draw-3.result _ _ (λ done left. (
-      e,
-      c.draw_epoch-epoch.ensures,
-      record {
-        db = subst (λ (s : NameState). MayBeLeft s e.db c.put_draw.new.out.items) c.db.ensures c.in_ok-put_draw.ensures;
-        wal = subst (λ (s : NameState). MayBeLeft s e.wal c.put_draw-2.new.out.items) c.wal.ensures c.in_ok-put_draw-2.ensures;
-        journal = subst (λ (s : NameState). MayBeLeft s e.journal c.put_draw-3.new.out.items) c.journal.ensures left;
-      },
-    )) c.put_draw-3.ensures
+returns g c = IfOk-weaker c.draw_in.result _ _ (λ done left. (c.draw_epoch-epoch.result, c.draw_epoch-epoch.ensures, left)) c.draw_in.ensures

@@ -25,4 +25,4 @@ returns-in_ok-choice-in-Some g c =
     let has = contains_state c.held_files-files.result.now (held_files (name_of c.args.name.now) c.args.holds) c.below.result x c.held_files-files.ensures at.3.0 at.1 in
     IfOk-weaker c.append_image.result _ _ (λ done h.
     let is : c.append_image.new.out.items ≡ h.0 = h.1 ∙ ap (λ (l : List ℕ). l ++ h.0) c.clear.ensures.items in
-    inl (s, has, subst (λ (bytes : List ℕ). IsImage s.sector s.tears s.db bytes) (sym is) h.2)) c.append_image.ensures
+    inl (s, has, subst (λ (bytes : List ℕ). IsImage s.sector s.tears s.db bytes) (sym is) h.2.left)) c.append_image.ensures

@@ -1,4 +1,4 @@
-use Rattle.std.proofs.Common.{◌≡◌, ◌≢◌, ℕ, List, Result, Ok, Err, OnOk, refl}
+use Rattle.std.proofs.Common.{◌≢◌, ℕ, List, Result, Ok, Err, OnOk, refl}
 use Rattle.sqplay.specs.declared.trace.Kind.{Kind}
 use Rattle.sqplay.specs.declared.trace.Kind.TheVariants as kinds
 use Rattle.sqplay.specs.declared.trace.Record.{Record}

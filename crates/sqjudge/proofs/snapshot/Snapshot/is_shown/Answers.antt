@@ -3,6 +3,7 @@ use Rattle.std.proofs.lemmas.List.{take_at}
 use Rattle.sqval.specs.Database.{Database, page}
 use Rattle.sqjudge.specs.Shown.{AgreesAt, commit_of}
 use Rattle.sqpage.proofs.file.PagesInMemory.{keeps_on}
+use Rattle.sqview.proofs.openings.PagesOfView.{ok_now}
 use Rattle.sqjudge.proofs.NumberedCommits.{more_agree}
 use Rattle.sqjudge.proofs.snapshot.Snapshot.is_shown.Goals as goal
 
@@ -20,7 +21,7 @@ loop-i-preserved g c =
       keeps_on was.0 c.page.ensures.keeps,
       ap length kept ∙ long ∙ was.1,
       λ gives.
-          let bytes : c.deref.result.now ≡ page d (n + 1) = c.deref.ensures.value ∙ kept ∙ (c.page.ensures.read (was.0.still_gives gives)).1 ∙ ap (λ (x : Database). page x (n + 1)) was.0.same_pages in
+          let bytes : c.deref.result.now ≡ page d (n + 1) = c.deref.ensures.value ∙ kept ∙ (ok_now c.page.result (c.page.ensures.never_fails (was.0.still_gives gives)) (c.page.ensures.read (g.met.S.PageSource.right c.loop-i.source (was.0.still_gives gives)))).0 ∙ ap (λ (x : Database). page x (n + 1)) was.0.same_pages in
           let here : AgreesAt commit (n + 1) (page d (n + 1)) = subst (AgreesAt commit (n + 1)) bytes (c.agrees.ensures.0 c.if-not-agrees.false) in
           more_agree commit d n (was.2 gives) here,
     )

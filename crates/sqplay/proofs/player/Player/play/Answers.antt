@@ -12,8 +12,8 @@ returns-clause-step c =
     IfOk-weaker c.follow.result _ _ (λ done follows. (
       mid,
       c.in_ok-go.ensures.goes,
-      subst (λ (down : Bool). Follows down (epoch_now (files_of c.args.self.now)) (epoch_now mid) mid.earlier new.earlier) c.has_all_down.ensures
-          (subst (λ (before : Epoch). Follows c.has_all_down.result before (epoch_now mid) mid.earlier new.earlier) c.epoch-before.ensures follows),
+      subst (λ (down : Bool). Follows down (epoch_now (files_of c.args.self.now)) (epoch_now mid) mid.earlier new.earlier) c.has_all_down-all_down.ensures
+          (subst (λ (before : Epoch). Follows c.has_all_down-all_down.result before (epoch_now mid) mid.earlier new.earlier) c.epoch-before.ensures follows),
       c.follow.ensures.rest,
     )) c.follow.ensures.follows
 

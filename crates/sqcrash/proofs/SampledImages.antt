@@ -1,0 +1,122 @@
+-- Images that are drawn are taken into a sample, each once.
+use Rattle.std.proofs.Common.{◌≡◌, inl, inr, ℕ, zero, suc, ◌<◌, Bool, true, false, cond, nat_eq, List, [], ◌∷◌, ◌++◌, length, get_or, refl, sym, ◌∙◌, ap, subst, length-append, arith}
+use Rattle.std.proofs.lemmas.Bool.{cases_lt}
+use Rattle.std.proofs.lemmas.Bool.Decides.{nat_tests}
+use Rattle.std.proofs.lemmas.List.Elements.{All-append}
+use Rattle.std.proofs.Math.ListN.{get_or-append}
+use Rattle.std.proofs.Math.Seq.{get_or-append_seam}
+use Rattle.std.specs.HashSet.{contains}
+use Rattle.std.specs.List.{All, AllPairs}
+use Rattle.sqimages.specs.Keys.{key_of}
+use Rattle.sqimages.specs.declared.image.Image.{Image}
+use Rattle.std.specs.Bool.{MatchBool}
+use Rattle.sqplay.specs.Plays.{Files}
+use Rattle.sqimages.specs.Torn.{MayLeaveTorn, NoneTears}
+use Rattle.sqimages.specs.declared.torn.Which.{Which}
+use Rattle.sqcrash.specs.Runs.{RunState}
+use Rattle.sqcrash.specs.Surveys.{AreSame, Judged, IsSample}
+use Rattle.sqcrash.specs.Samples.{Takes, TakesOne, GoesOn}
+use Rattle.sqcrash.specs.internal.Samples.{IsSampled}
+use Rattle.sqcrash.specs.declared.sample.Sample.{Sample}
+use Rattle.sqcrash.specs.declared.survey.Survey.{Survey}
+use Rattle.sqcrash.proofs.TallyOfJudgedImages.{all_one, all_none, tells_more, tells_none}
+
+-- a relation of each with each later one holds with one more at the end to which each has it
+pairs_more : {X : Type 0} (R : X → X → Type 0) (xs : List X) (x : X) → AllPairs R xs → All (λ y. R y x) xs → AllPairs R (xs ++ x ∷ [])
+pairs_more R xs x pairs all i j d less within = elim (cases_lt j (length xs)) [
+  | inl lt ↦
+      let a = get_or-append xs (x ∷ []) d i (omega arith) in
+      let b = get_or-append xs (x ∷ []) d j lt in
+      rw (a, b) (pairs i j d less lt)
+  | inr past ↦
+      let a = get_or-append xs (x ∷ []) d i (omega (arith, length-append xs (x ∷ []))) in
+      let last : j ≡ length xs = omega (arith, length-append xs (x ∷ [])) in
+      let b = ap (λ (k : ℕ). get_or (xs ++ x ∷ []) k d) last ∙ get_or-append_seam xs x [] d in
+      rw (a, b) (all i d (omega arith))
+]
+
+-- the same files have the same key
+key_same : (a b : Image) → AreSame a b → key_of a ≡ key_of b
+key_same a b same = cc
+
+true_or : (b c : Bool) → c ≡ true → cond b true c ≡ true
+true_or true c e = refl
+true_or false c e = e
+
+same_key : (q : ℕ) (b : Bool) → cond (nat_eq q q) true b ≡ true
+same_key q b = let e : nat_eq q q ≡ true = grind (arith, nat_tests) in ap (λ (c : Bool). cond c true b) e
+
+-- no image is taken yet
+pub sampled_none : (Left : Image → Type 0) (run : RunState) (limit : ℕ) (s : Sample) (v : Survey) → ((q : ℕ) → contains nat_eq s.keys q ≡ false) → s.left ≡ limit → IsSampled Left run limit v s v
+sampled_none Left run limit s v empty all = record {
+  judged = [];
+  left = all_none (λ (x : Judged). Left x.image);
+  differ = λ i j d less within. absurd (omega arith);
+  keyed = all_none (λ (x : Judged). contains nat_eq s.keys (key_of x.image) ≡ true);
+  none = λ nothing. empty;
+  count = omega (arith, all);
+  told = tells_none run v;
+}
+
+-- one more is taken and judged
+pub sampled_more : (Left : Image → Type 0) (run : RunState) (limit : ℕ) (first : Survey) (s t : Sample) (v w : Survey) (image : Image)
+    → IsSampled Left run limit first s v → Left image → Takes (key_of image) true s t → TakesOne run image v w → (so : IsSampled Left run limit first t w) × (0 < length so.judged)
+sampled_more Left run limit first s t v w image so_far left taken one =
+    let x : Judged = record { image = image; judgment = one.0 } in
+    let judged = so_far.judged in
+    let long = length-append judged (x ∷ []) in
+    let Keyed : Judged → Type 0 = λ y. contains nat_eq t.keys (key_of y.image) ≡ true in
+    let other : All (λ y. ¬ AreSame y.image image) judged = λ k d below. λ same.
+    let no : false ≡ true = sym taken.0 ∙ ap (λ (q : ℕ). contains nat_eq s.keys q) (sym (key_same (get_or judged k d).image image same)) ∙ so_far.keyed k d below in cc in
+    let old : All Keyed judged = λ k d below. taken.2 (key_of (get_or judged k d).image) ∙ true_or (nat_eq (key_of image) (key_of (get_or judged k d).image)) _ (so_far.keyed k d below) in (
+      record {
+        judged = judged ++ x ∷ [];
+        left = All-append (λ (y : Judged). Left y.image) judged (x ∷ []) so_far.left (all_one (λ (y : Judged). Left y.image) x left);
+        differ = pairs_more (λ (y z : Judged). ¬ AreSame y.image z.image) judged x so_far.differ other;
+        keyed = All-append Keyed judged (x ∷ []) old (all_one Keyed x (taken.2 (key_of image) ∙ same_key (key_of image) (contains nat_eq s.keys (key_of image))));
+        none = λ nothing. absurd (omega (arith, long));
+        count = omega (arith, so_far.count, taken.1, long);
+        told = tells_more run judged x first v w so_far.told one.1 one.2;
+      },
+      omega (arith, long),
+    )
+
+-- one is passed over
+pub sampled_same : (Left : Image → Type 0) (run : RunState) (limit : ℕ) (first : Survey) (s t : Sample) (v : Survey) (key : ℕ)
+    → IsSampled Left run limit first s v → Takes key false s t → 0 < s.left → (so : IsSampled Left run limit first t v) × (0 < length so.judged)
+sampled_same Left run limit first s t v key so_far passed more = (
+  record {
+    judged = so_far.judged;
+    left = so_far.left;
+    differ = so_far.differ;
+    keyed = λ k d below. passed.2 (key_of (get_or so_far.judged k d).image) ∙ so_far.keyed k d below;
+    none = λ nothing q. passed.2 q ∙ so_far.none nothing q;
+    count = omega (arith, so_far.count, passed.1);
+    told = so_far.told;
+  },
+  elim passed.0 [
+    | inl full ↦ absurd (omega arith)
+    | inr there ↦ some (length so_far.judged) refl there
+  ],
+)
+  where
+    some : (n : ℕ) → length so_far.judged ≡ n → contains nat_eq s.keys key ≡ true → 0 < length so_far.judged
+    some zero e there = let no : false ≡ true = sym (so_far.none e key) ∙ there in absurd (cc no)
+    some (suc n) e there = omega arith
+
+-- one is taken or passed over
+pub sampled_on : (Left : Image → Type 0) (run : RunState) (limit : ℕ) (first : Survey) (s t : Sample) (v w : Survey) (image : Image)
+    → IsSampled Left run limit first s v → Left image → 0 < s.left → GoesOn run image s t v w → (so : IsSampled Left run limit first t w) × (0 < length so.judged)
+sampled_on Left run limit first s t v w image so_far left more on = elim on [
+  | inl taken ↦ sampled_more Left run limit first s t v w image so_far left taken.0 taken.1
+  | inr passed ↦ subst (λ (x : Survey). (so : IsSampled Left run limit first t x) × (0 < length so.judged)) (sym passed.1) (sampled_same Left run limit first s t v (key_of image) so_far passed.0 more)
+]
+
+-- enough were drawn
+pub sample_done : (Left : Image → Type 0) (run : RunState) (limit : ℕ) (old new : Survey) (s : Sample) (so : IsSampled Left run limit old s new) → (0 < limit → 0 < length so.judged) → IsSample Left run limit old new
+sample_done Left run limit old new s so some = record { judged = so.judged; left = so.left; differ = so.differ; some = some; most = omega (arith, so.count); told = so.told }
+
+-- where a file was torn it can be torn again
+pub still_torn : (s : Files) (w : Which) (old new : Image) (b : Bool) → MayLeaveTorn s w old → MatchBool b (MayLeaveTorn s w new) (NoneTears s w) → MayLeaveTorn s w new
+still_torn s w old new true was is = is
+still_torn s w old new false was none = absurd (none was.0 was.1 was.2 was.3)

@@ -1,0 +1,10 @@
+use Rattle.sqjudge.specs.Shown.{commits_of}
+use Rattle.sqcrash.proofs.JudgedFiles.{judged_of, scan_of}
+use Rattle.sqcrash.proofs.run.Run.judge_scanned.Goals as goal
+
+pub returns : goal.returns
+returns c = λ is_scan.
+    let image = c.args.image.now in
+    let run = c.args.self.now in
+    let took = scan_of image c.args.scan.now c.in-Some.scan _ c.in-Some.is c.deref-2.ensures.value is_scan in
+    judged_of _ _ _ image.db.items image.wal.items image.journal.items (commits_of run.history) run.known c.in_ok-judge_scanned.field-0 c.deref.ensures.value c.deref-2.ensures.value c.deref-3.ensures.value (c.in_ok-judge_scanned.ensures.judged took)

@@ -1,0 +1,13 @@
+use Rattle.std.proofs.Common.{ℕ, List, [], ◌∷◌, ◌++◌, reverse, map, ◌∙◌, ap}
+use Rattle.sqjudge.specs.Shown.{Commit, commit_of, commits_of}
+use Rattle.sqcrash.specs.Runs.{run_of}
+use Rattle.sqcrash.proofs.WaitingCommits.{took_last}
+use Rattle.sqcrash.proofs.run.Run.push_next.Goals as goal
+
+pub returns : goal.returns
+returns c =
+    let old = c.args.self.now in
+    let left = c.pop.new.self.items in
+    took_last old.waiting.items left c.in-Some.next c.args.thread (run_of old) _ c.in-Some.ensures.items
+    (ap (λ (l : List Commit). record (run_of old) { commits = l; makers = c.push-2.new.self.items; waiting = map commit_of (reverse left) }) c.in_ok-push.ensures.ok
+    ∙ ap (λ (l : List ℕ). record (run_of old) { commits = commits_of old.history ++ commit_of c.in-Some.next ∷ []; makers = l; waiting = map commit_of (reverse left) }) c.in_ok-push-2.ensures.items)

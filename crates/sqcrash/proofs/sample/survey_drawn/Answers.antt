@@ -1,0 +1,39 @@
+use Rattle.std.proofs.Common.{◌≡◌, ◌≢◌, ◌<◌, true, false, refl, subst, arith}
+use Rattle.sqimages.specs.Left.{MayLeave}
+use Rattle.sqplay.specs.Plays.{Files}
+use Rattle.sqimages.specs.declared.image.Image.{Image}
+use Rattle.sqcrash.specs.Runs.{run_of}
+use Rattle.sqcrash.proofs.SampledImages.{sampled_none, sampled_on, sample_done}
+use Rattle.sqcrash.proofs.sample.survey_drawn.Goals as goal
+
+pub loop-n-init : goal.loop-n-init
+loop-n-init g c =
+    let run = run_of c.args.run.now in
+    let Left : Image → Type 0 = λ image. MayLeave run.files image in
+    (subst (λ (s : Files). MayLeave s c.draw.new.image) c.player-player.ensures c.in_ok-draw.ensures, sampled_none Left run c.args.limit c.new-sample.result c.args.survey.now c.new-sample.ensures.keys c.new-sample.ensures.left, λ went. absurd (omega arith))
+
+pub loop-n-preserved : goal.loop-n-preserved
+loop-n-preserved g c =
+    let run = run_of c.args.run.now in
+    let Left : Image → Type 0 = λ image. MayLeave run.files image in
+    let so_far = c.loop-n.invariant in
+    let full : c.loop-n.sample.left ≢ 0 = λ e. let no : false ≡ true = c.if-is_full.ensures.1 e in cc in
+    let on = sampled_on Left run c.args.limit c.args.survey.now c.loop-n.sample c.judge.new.self c.loop-n.survey c.judge.new.survey c.loop-n.image so_far.1 so_far.0 (omega arith) (c.in_ok-judge.ensures tt) in
+    (subst (λ (s : Files). MayLeave s c.draw-in-loop-n.new.image) c.player-player.ensures c.in_ok-draw-2.ensures, on.0, λ went. on.1)
+
+pub returns-then-is_full : goal.returns-then-is_full
+returns-then-is_full g c =
+    let run = run_of c.args.run.now in
+    let Left : Image → Type 0 = λ image. MayLeave run.files image in
+    let so = c.loop-n.invariant.1 in
+    let full : c.loop-n.sample.left ≡ 0 = c.if-is_full.ensures.0 refl in
+    sample_done Left run c.args.limit c.args.survey.now c.loop-n.survey c.loop-n.sample so (λ some. omega (arith, so.count))
+
+pub returns : goal.returns
+returns g c =
+    let run = run_of c.args.run.now in
+    let Left : Image → Type 0 = λ image. MayLeave run.files image in
+    let so = c.loop-n.invariant.1 in
+    let end : c.loop-n.n ≡ c.tries-n-end.result = omega (arith, c.loop-n.auto.n-end, c.loop-n-test.false) in
+    sample_done Left run c.args.limit c.args.survey.now c.loop-n.survey c.loop-n.sample so
+    (λ some. c.loop-n.invariant.2 (let went : 0 < c.loop-n.n = omega (arith, end, c.tries-n-end.ensures some) in went))

@@ -1,0 +1,4 @@
+use Rattle.sqcrash.proofs.survey.Survey.judge.Goals as goal
+
+pub returns : goal.returns
+returns g c = λ scan. (c.in_ok-judgment.judgment, c.in_ok-judgment.ensures scan, c.in_ok-add.ensures)

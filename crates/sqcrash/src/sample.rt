@@ -1,0 +1,186 @@
+//! Images that are drawn at a point, each judged once (own).
+ghost use Rattle.std.specs.Prelude.{◌≡◌, ◌<◌, ◌⊎◌, OnOk, IfOk};
+ghost use Rattle.sqimages.specs.Torn.{NoneTears};
+ghost use Rattle.sqcrash.specs.Runs.{run_of};
+ghost use Rattle.sqcrash.specs.Surveys.{IsFixedScan, IsDrawnSurvey, IsTornSurvey};
+
+use crate::keep::Keeper;
+use crate::outcome::Refusal;
+use crate::run::Run;
+use crate::survey::Survey;
+use rand_core::Rng;
+use sqimages::{Fixed, Image, Which, draw, draw_now, draw_torn, redraw};
+use sqview::scan_log;
+use sqwal::Scan;
+use std::alloc::Global;
+use std::collections::HashSet;
+
+/// Which images were judged that were drawn by one rule, and how many more may be.
+#[derive(Drop)]
+struct Sample {
+    /// The keys of those that were judged.
+    keys: HashSet<u64>,
+    left: u64,
+}
+
+impl Sample {
+    ghost use Rattle.std.specs.Prelude.{◌≡◌, ◌↔◌, ℕ, false, nat_eq, IsTrue, OnOk, IfOk};
+    ghost use Rattle.sqcrash.specs.Runs.{run_of};
+    ghost use Rattle.sqcrash.specs.Surveys.{IsScanOf};
+    ghost use Rattle.std.specs.HashSet.{contains};
+    ghost use Rattle.sqimages.specs.Keys.{key_of};
+    ghost use Rattle.sqcrash.specs.Samples.{Takes, GoesOn};
+
+    /// None yet, of so many.
+    fn new(alloc: Global, limit: u64) -> Sample
+        ensures keys { (q : ℕ) → contains nat_eq result.keys q ≡ false }
+        ensures left { result.left ≡ limit }
+    {
+        Sample {
+            keys: HashSet::new(alloc),
+            left: limit,
+        }
+    }
+
+    /// Whether there are enough.
+    fn is_full(&self) -> bool
+        ensures { IsTrue result ↔ (self.now.left ≡ 0) }
+    {
+        self.left == 0
+    }
+
+    /// Takes an image, unless one of its key was taken before, or there are enough. Answers whether it did.
+    fn takes(&mut self, image: &Image) -> Result<bool, Refusal>
+        ensures { IfOk result (λ taken. Takes (key_of image.now) taken self.old self.new) }
+    {
+        if self.left == 0 {
+            return Ok(false);
+        }
+        if !self.keys.insert(image.key())? {
+            return Ok(false);
+        }
+        self.left -= 1;
+        Ok(true)
+    }
+
+    /// Judges an image where it takes it, the scan of whose log is there or isn't.
+    fn judge<K: Keeper>(
+        &mut self,
+        run: &Run,
+        image: &Image,
+        scan: &Option<Scan>,
+        keeper: &mut K,
+        survey: &mut Survey,
+    ) -> Result<(), Refusal>
+        ensures { IsScanOf image.now scan.now
+            → OnOk result (GoesOn (run_of run.now) image.now self.old self.new survey.old survey.new) }
+    {
+        let taken = self.takes(image)?;
+        if !taken {
+            return Ok(());
+        }
+        survey.judge(run, image, scan, keeper)
+    }
+}
+
+/// How often an image is drawn, where so many are wanted.
+fn tries(limit: u64) -> u64
+    ensures { 0 < limit → 0 < result }
+{
+    limit.saturating_mul(2)
+}
+
+/// The scan of the log of an image, where that is fixed and is a log.
+fn fixed_scan(alloc: Global, fixed: Fixed, image: &Image) -> Option<Scan>
+    ensures { IsFixedScan fixed image.now result }
+{
+    if !fixed.wal {
+        return None;
+    }
+    let mut log = image.wal.as_slice();
+    match scan_log(alloc, &mut log) {
+        Ok(Ok(scan)) => Some(scan),
+        _ => None,
+    }
+}
+
+/// Judges images that are drawn, where there is one epoch. The files that are fixed are made once, and where the log
+/// is, it is scanned once.
+pub fn survey_redrawn<R: Rng, K: Keeper>(
+    run: &Run,
+    limit: u64,
+    rng: &mut R,
+    keeper: &mut K,
+    survey: &mut Survey,
+) -> Result<(), Refusal>
+    ensures { OnOk result (IsDrawnSurvey (run_of run.now) limit survey.old survey.new) }
+{
+    let alloc = run.alloc();
+    let player = run.player();
+    let fixed = Fixed::of(player);
+    let mut image = Image::none(alloc);
+    draw_now(alloc, rng, player, &mut image)?;
+    let scan = fixed_scan(alloc, fixed, &image);
+    let mut sample = Sample::new(alloc, limit);
+    for n in 0..tries(limit) {
+        if sample.is_full() {
+            return Ok(());
+        }
+        sample.judge(run, &image, &scan, keeper, survey)?;
+        redraw(alloc, rng, player, fixed, &mut image)?;
+    }
+    Ok(())
+}
+
+/// Judges images that are drawn.
+pub fn survey_drawn<R: Rng, K: Keeper>(
+    run: &Run,
+    limit: u64,
+    rng: &mut R,
+    keeper: &mut K,
+    survey: &mut Survey,
+) -> Result<(), Refusal>
+    ensures { OnOk result (IsDrawnSurvey (run_of run.now) limit survey.old survey.new) }
+{
+    let alloc = run.alloc();
+    let player = run.player();
+    let mut image = Image::none(alloc);
+    draw(alloc, rng, player, &mut image)?;
+    let mut sample = Sample::new(alloc, limit);
+    for n in 0..tries(limit) {
+        if sample.is_full() {
+            return Ok(());
+        }
+        sample.judge(run, &image, &None, keeper, survey)?;
+        draw(alloc, rng, player, &mut image)?;
+    }
+    Ok(())
+}
+
+/// Judges images that are drawn with a torn sector of a file.
+pub fn survey_torn<R: Rng, K: Keeper>(
+    run: &Run,
+    which: Which,
+    limit: u64,
+    rng: &mut R,
+    keeper: &mut K,
+    survey: &mut Survey,
+) -> Result<(), Refusal>
+    ensures { OnOk result (IsTornSurvey (run_of run.now) which limit survey.old survey.new) }
+{
+    let alloc = run.alloc();
+    let player = run.player();
+    let mut image = Image::none(alloc);
+    if !draw_torn(alloc, rng, player, which, &mut image)? {
+        return Ok(());
+    }
+    let mut sample = Sample::new(alloc, limit);
+    for n in 0..tries(limit) {
+        if sample.is_full() {
+            return Ok(());
+        }
+        sample.judge(run, &image, &None, keeper, survey)?;
+        draw_torn(alloc, rng, player, which, &mut image)?;
+    }
+    Ok(())
+}
