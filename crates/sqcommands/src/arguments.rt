@@ -145,6 +145,26 @@ pub(crate) fn force_arg<'a>(alloc: Global) -> Arg<'a> {
     )
 }
 
+/// How long is waited for SQLite's locks. It is taken off the line before it is read here.
+pub(crate) fn wait_arg<'a>(alloc: Global) -> Arg<'a> {
+    option(
+        alloc,
+        "wait",
+        "SECONDS",
+        "Waits so long for SQLite's locks that others hold; 5 if not given, and 0 to recover FILE itself",
+    )
+    .value_parser(value_parser!(u32))
+}
+
+/// Whether SQLite's locks are left out. It is taken off the line before it is read here.
+pub(crate) fn no_lock_arg<'a>(alloc: Global) -> Arg<'a> {
+    flag(
+        alloc,
+        "no-lock",
+        "Takes none of SQLite's locks: nobody else may write FILE and its logs meanwhile",
+    )
+}
+
 /// Where `report` leaves the page that it makes.
 pub(crate) fn report_arg<'a>(alloc: Global) -> Arg<'a> {
     option(
@@ -156,6 +176,36 @@ pub(crate) fn report_arg<'a>(alloc: Global) -> Arg<'a> {
     .required(true)
 }
 
+/// What `check` checks besides.
+pub(crate) fn deep_arg<'a>(alloc: Global) -> Arg<'a> {
+    flag(
+        alloc,
+        "deep",
+        "Checks what the pages hold, too: the header's numbers, and each cell, record and text",
+    )
+}
+
+/// The table whose rows are printed.
+pub(crate) fn table_arg<'a>(alloc: Global) -> Arg<'a> {
+    option(
+        alloc,
+        "table",
+        "NAME",
+        "Prints the rows of this table alone, as SQLite compares names",
+    )
+}
+
+pub(crate) fn csv_arg<'a>(alloc: Global) -> Made<Arg<'a>> {
+    let help =
+        "Prints comma-separated values, a line a row, which is what it does where no form is named";
+    without(without(Ok(flag(alloc, "csv", help)), "json"), "sql")
+}
+
+pub(crate) fn sql_arg<'a>(alloc: Global) -> Made<Arg<'a>> {
+    let help = "Prints SQL that makes the same rows; of all tables, the whole database";
+    without(Ok(flag(alloc, "sql", help)), "json")
+}
+
 pub(crate) fn version_arg<'a>(alloc: Global) -> Arg<'a> {
-    flag(alloc, "version", "Prints the version")
+    flag(alloc, "version", "Prints the version").short('V')
 }

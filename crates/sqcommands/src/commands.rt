@@ -1,10 +1,11 @@
 //! The commands and their options. Each function takes and gives a `Result`, and none exits early: a command that is
 //! half made has much to let go.
 use crate::arguments::{
-    Made, all_arg, at_arg, commits_arg, copy_arg, file_arg, force_arg, json_arg, large_arg,
-    log_arg, only_with, page_arg, pages_arg, pointer_maps_arg, report_arg, shown_maps_arg,
-    super_journal_arg, verbose_arg, version_arg,
+    Made, all_arg, at_arg, commits_arg, copy_arg, csv_arg, deep_arg, file_arg, force_arg, json_arg,
+    large_arg, log_arg, no_lock_arg, only_with, page_arg, pages_arg, pointer_maps_arg, report_arg,
+    shown_maps_arg, sql_arg, super_journal_arg, table_arg, verbose_arg, version_arg, wait_arg,
 };
+use crate::texts::{ALL, CHECK, RECOVER, REPORT, ROWS, SHOW};
 use clap::{Arg, Command};
 use std::alloc::Global;
 
@@ -25,20 +26,23 @@ fn base_command<'a>(
     alloc: Global,
     name: &'a str,
     about: &'a str,
+    examples: &'a str,
     at: Made<Arg<'a>>,
 ) -> Made<Command<'a>> {
-    let command = Ok(Command::new(alloc, name).about(about));
+    let command = Ok(Command::new(alloc, name).about(about).after_help(examples));
     let command = with_arg(command, Ok(file_arg(alloc)));
     let command = with_arg(command, Ok(verbose_arg(alloc)));
     let command = with_arg(command, Ok(json_arg(alloc)));
     let command = with_arg(command, at);
     let command = with_arg(command, Ok(large_arg(alloc)));
-    with_arg(command, Ok(super_journal_arg(alloc)))
+    let command = with_arg(command, Ok(super_journal_arg(alloc)));
+    let command = with_arg(command, Ok(wait_arg(alloc)));
+    with_arg(command, Ok(no_lock_arg(alloc)))
 }
 
 fn show_command<'a>(alloc: Global) -> Made<Command<'a>> {
     let about = "Shows the header of the database as its log has it; writes nothing";
-    let command = base_command(alloc, "show", about, Ok(at_arg(alloc)));
+    let command = base_command(alloc, "show", about, SHOW, Ok(at_arg(alloc)));
     let command = with_arg(command, page_arg(alloc));
     let command = with_arg(command, pages_arg(alloc));
     let command = with_arg(command, shown_maps_arg(alloc));
@@ -49,8 +53,17 @@ fn show_command<'a>(alloc: Global) -> Made<Command<'a>> {
 
 fn check_command<'a>(alloc: Global) -> Made<Command<'a>> {
     let about = "Checks the database as its log has it; writes nothing";
-    let command = base_command(alloc, "check", about, Ok(at_arg(alloc)));
-    with_arg(command, Ok(pointer_maps_arg(alloc)))
+    let command = base_command(alloc, "check", about, CHECK, Ok(at_arg(alloc)));
+    let command = with_arg(command, Ok(pointer_maps_arg(alloc)));
+    with_arg(command, Ok(deep_arg(alloc)))
+}
+
+fn rows_command<'a>(alloc: Global) -> Made<Command<'a>> {
+    let about = "Prints the rows of each table as the log has them; writes nothing";
+    let command = base_command(alloc, "rows", about, ROWS, Ok(at_arg(alloc)));
+    let command = with_arg(command, Ok(table_arg(alloc)));
+    let command = with_arg(command, csv_arg(alloc));
+    with_arg(command, sql_arg(alloc))
 }
 
 fn recover_command<'a>(alloc: Global) -> Made<Command<'a>> {
@@ -58,7 +71,7 @@ fn recover_command<'a>(alloc: Global) -> Made<Command<'a>> {
         "Recovers the database: folds its write-ahead log into it, or rolls it back by its hot journal; \
          nobody else may have it open meanwhile";
     let at = only_with(at_arg(alloc), "to");
-    let command = base_command(alloc, "recover", about, at);
+    let command = base_command(alloc, "recover", about, RECOVER, at);
     let command = with_arg(command, Ok(copy_arg(alloc)));
     with_arg(command, Ok(force_arg(alloc)))
 }
@@ -66,7 +79,7 @@ fn recover_command<'a>(alloc: Global) -> Made<Command<'a>> {
 fn report_command<'a>(alloc: Global) -> Made<Command<'a>> {
     let about =
         "Makes a page of HTML that shows the database and its log; writes neither FILE nor its logs";
-    let command = base_command(alloc, "report", about, Ok(at_arg(alloc)));
+    let command = base_command(alloc, "report", about, REPORT, Ok(at_arg(alloc)));
     let command = with_arg(command, Ok(pointer_maps_arg(alloc)));
     with_arg(command, Ok(report_arg(alloc)))
 }
@@ -75,11 +88,13 @@ fn report_command<'a>(alloc: Global) -> Made<Command<'a>> {
 pub(crate) fn command<'a>(alloc: Global) -> Made<Command<'a>> {
     let command = Command::new(alloc, "sqrescue")
         .about("Reads and recovers SQLite databases with their logs")
+        .after_help(ALL)
         .subcommand_required(true)
         .arg_required_else_help(true);
     let command = with_arg(Ok(command), Ok(version_arg(alloc)));
     let command = with_command(command, show_command(alloc));
     let command = with_command(command, check_command(alloc));
+    let command = with_command(command, rows_command(alloc));
     let command = with_command(command, recover_command(alloc));
     with_command(command, report_command(alloc))
 }

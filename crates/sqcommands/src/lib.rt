@@ -3,6 +3,7 @@
 
 mod arguments;
 mod commands;
+mod texts;
 mod words;
 
 pub use words::{LineError, request};

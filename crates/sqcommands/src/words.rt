@@ -3,6 +3,7 @@ ghost use Rattle.std.specs.Prelude.{map, IfOk, IfSome};
 ghost use Rattle.sqwords.specs.Line.{Asks};
 
 use crate::commands::command;
+use crate::texts::{CONTRADICTION, PIPE};
 use clap::error::ErrorKind;
 use clap::{ArgMatches, Command};
 use sqwords::{Request, asked, asks_version};
@@ -40,26 +41,46 @@ fn read<'a>(command: &mut Command<'a>, words: &'a [&'a str]) -> Result<Request<'
 {
     let matches = command.try_get_matches_from_mut(words).map_err(refused)?;
     match matched(words, &matches) {
-        Some(request) => Ok(request),
-        None => Err(not_understood(command)),
+        Ok(request) => Ok(request),
+        Err(amiss) => Err(not_understood(command, amiss)),
     }
 }
 
-/// What the words ask for that clap took apart; none where options contradict one another.
-fn matched<'a>(words: &'a [&'a str], matches: &ArgMatches<'a>) -> Option<Request<'a>>
-    ensures { IfSome result (Asks (map (λ w. w.now) words.entry.now)) }
-{
-    let (command, matches) = matches.subcommand()?;
-    let file = matches.get_str("FILE")?;
-    asked(words, command, file)
+/// Why words ask for nothing that clap takes one by one.
+#[derive(Clone, Copy)]
+enum Amiss {
+    /// Options contradict one another.
+    Contradiction,
+    /// The file is `-`, by which others read from a pipe.
+    Pipe,
 }
 
-/// The fault of options that clap takes one by one, and that contradict one another.
-fn not_understood(command: &mut Command<'_>) -> LineError {
-    match command.error(
-        ErrorKind::ArgumentConflict,
-        "the options contradict one another",
-    ) {
+/// Whether a file is `-`, and isn't named behind a `--`.
+fn is_pipe(words: &[&str], file: &str) -> bool {
+    file == "-" && !words.iter().rev().skip(1).any(|word| *word == "--")
+}
+
+/// What the words ask for that clap took apart.
+fn matched<'a>(words: &'a [&'a str], matches: &ArgMatches<'a>) -> Result<Request<'a>, Amiss>
+    ensures { IfOk result (Asks (map (λ w. w.now) words.entry.now)) }
+{
+    let Some((command, matches)) = matches.subcommand() else {
+        return Err(Amiss::Contradiction);
+    };
+    match matches.get_str("FILE") {
+        Some(file) if is_pipe(words, file) => Err(Amiss::Pipe),
+        Some(file) => asked(words, command, file).ok_or(Amiss::Contradiction),
+        None => Err(Amiss::Contradiction),
+    }
+}
+
+/// The fault of words that clap takes one by one.
+fn not_understood(command: &mut Command<'_>, amiss: Amiss) -> LineError {
+    let (kind, text) = match amiss {
+        Amiss::Contradiction => (ErrorKind::ArgumentConflict, CONTRADICTION),
+        Amiss::Pipe => (ErrorKind::InvalidValue, PIPE),
+    };
+    match command.error(kind, text) {
         Ok(error) => LineError::NotUnderstood(error),
         Err(_) => LineError::NoMemory,
     }

@@ -18,11 +18,18 @@ inode_text file = codes ":" ++ decimal file.inode ++ codes " "
 abbrev pub place_text : Identity → List ℕ
 place_text file = codes " " ++ (hex_pair file.major ++ (codes ":" ++ (hex_pair file.minor ++ inode_text file)))
 
--- A line of a POSIX lock on the file: it names the file, or its number where its device or that of the line has no number
--- of its own.
+-- The line names the file, or its number where its device or that of the line has no number of its own.
+abbrev pub NamesFile : (line : List ℕ) → Identity → Type 0
+NamesFile line file = HasSubslice line (place_text file)
+    ⊎ (HasSubslice line (inode_text file) × ((file.major ≡ 0) ⊎ HasSubslice line (codes " 00:")))
+
+-- the line is of a lock of a process, or of one of an open file
+abbrev pub IsOfLock : (line : List ℕ) → Type 0
+IsOfLock line = HasSubslice line (codes " POSIX ") ⊎ HasSubslice line (codes " OFDLCK ")
+
+-- a line of such a lock on the file
 abbrev pub IsLockOn : (line : List ℕ) → Identity → Type 0
-IsLockOn line file = HasSubslice line (codes " POSIX ")
-    × (HasSubslice line (place_text file) ⊎ (HasSubslice line (inode_text file) × ((file.major ≡ 0) ⊎ HasSubslice line (codes " 00:"))))
+IsLockOn line file = IsOfLock line × NamesFile line file
 
 -- a text one of whose lines is such a one
 abbrev pub HasLockOn : (text : List ℕ) → Identity → Type 0

@@ -1,5 +1,5 @@
 //! A disk over two real files.
-ghost use Rattle.std.specs.Prelude.{◌≡◌, IsSome, IsTrue, OnErr, OnOk};
+ghost use Rattle.std.specs.Prelude.{◌≡◌, IsSome, IsTrue, None, OnErr, OnOk, false};
 ghost use Rattle.crashdisk.specs.declared.file.File.TheVariants.{Db, Log};
 
 use crate::notes::Notes;
@@ -33,10 +33,13 @@ pub struct FileDisk<F: FileExt + OpenFile + Drop, G: Guard> {
 }
 
 impl<F: FileExt + OpenFile + Drop, G: Guard> FileDisk<F, G> {
-    /// A disk over an opened database file and its opened log.
+    /// A disk over an opened database file and its opened log, of which nothing was refused or changed yet.
     pub fn new(db: F, log: F, guard: G) -> FileDisk<F, G>
         ensures db { result.db ≡ db }
         ensures log { result.log ≡ log }
+        ensures guard { result.guard ≡ guard }
+        ensures unrefused { (result.refusal ≡ None) × (result.failure ≡ None) }
+        ensures unchanged { (result.changes_db ≡ false) × (result.changes_log ≡ false) }
     {
         FileDisk {
             db,

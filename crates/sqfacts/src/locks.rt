@@ -1,7 +1,7 @@
 //! Which lines of /proc/locks are of a file.
 ghost use Rattle.std.specs.Prelude.{◌≡◌, ◌↔◌, ◌⊎◌, codes, IfOk, IsTrue};
 ghost use Rattle.std.specs.Str.Iter.{HasSubslice};
-ghost use Rattle.sqfacts.specs.Locks.{HasLockOn, IsLockOn, inode_text, place_text};
+ghost use Rattle.sqfacts.specs.Locks.{HasLockOn, IsLockOn, IsOfLock, NamesFile, inode_text, place_text};
 
 use arrayvec::ArrayString;
 use std::fmt::{self, Write};
@@ -69,17 +69,33 @@ fn is_unnumbered(line: &str, file: Identity) -> bool
     file.major == 0 || has(line, " 00:")
 }
 
-/// Whether a line is of a POSIX lock on this file, which it names by these texts.
+/// Whether a line names this file, which it does by these texts.
+fn names_file(line: &str, file: Identity, place: &str, inode: &str) -> bool
+    requires place { place.now ≡ place_text file }
+    requires inode { inode.now ≡ inode_text file }
+    ensures { IsTrue result ↔ NamesFile line.now file }
+{
+    has(line, place) || (has(line, inode) && is_unnumbered(line, file))
+}
+
+/// Whether a line is of a lock of a process, or of one of an open file.
+fn is_of_lock(line: &str) -> bool
+    ensures { IsTrue result ↔ IsOfLock line.now }
+{
+    has(line, " POSIX ") || has(line, " OFDLCK ")
+}
+
+/// Whether a line is of such a lock on this file, which it names by these texts.
 fn is_lock_on(line: &str, file: Identity, place: &str, inode: &str) -> bool
     requires place { place.now ≡ place_text file }
     requires inode { inode.now ≡ inode_text file }
     ensures { IsTrue result ↔ IsLockOn line.now file }
 {
-    has(line, " POSIX ") && (has(line, place) || (has(line, inode) && is_unnumbered(line, file)))
+    is_of_lock(line) && names_file(line, file, place, inode)
 }
 
-/// Whether a text of such lines has a POSIX lock on this file. No memory is asked for; that a text that names a file
-/// finds no room doesn't come.
+/// Whether a text of such lines has a lock of a process or of an open file on this file. No memory is asked for; that a
+/// text that names a file finds no room doesn't come.
 pub fn is_locked(lines: &str, file: Identity) -> Result<bool, fmt::Error>
     ensures { IfOk result (λ found. IsTrue found ↔ HasLockOn lines.now file) }
 {

@@ -43,9 +43,12 @@ impl fmt::Display for Outcome {
 /// Why a command was refused. Nothing was written but where a file failed.
 #[derive(Clone, Copy, Debug, PartialEq, Eq, Error)]
 pub enum Refusal {
-    /// Another process has the database file open.
+    /// Another process has a lock on the database file, or has it open.
     #[error("in use")]
     InUse,
+    /// SQLite's locks can't be taken where the file is.
+    #[error("no locks")]
+    NoLocks,
     /// A file changed while it was read.
     #[error("file changed")]
     FileChanged,

@@ -1,1 +1,4 @@
+pub mod Held
 pub mod Wants
+pub mod Todo
+pub mod internal

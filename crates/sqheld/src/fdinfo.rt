@@ -1,13 +1,29 @@
-//! Whether the process holds the locks.
+//! Which of the locks the process holds.
 ghost use Rattle.std.specs.Prelude.{◌≤◌, IfOk, length};
+ghost use Rattle.sqheld.specs.Held.{HeldBy, IsTold};
 
-use sqlocks::{FileId, Want, tells_all};
-use std::alloc::{AllocError, Global};
+use sqlocks::{FileId, Lock, Want, tells, tells_all};
 use std::fs::{self, Metadata, OpenOptions};
 use std::io::{self, ErrorKind, Read};
 use std::os::unix::fs::MetadataExt;
 use std::rt::Files;
-use std::str;
+use std::{fmt, str};
+
+/// Which of SQLite's locks on a database the process holds, until it ends.
+#[derive(Clone, Copy, Debug, PartialEq, Eq)]
+pub enum Held {
+    /// None.
+    Nothing,
+    /// A reader's on FILE, beside which there is no FILE-shm.
+    File,
+    /// A reader's on FILE and on FILE-shm: FILE doesn't change, and of FILE-wal what stands up to the front that the
+    /// index names; behind it somebody may write.
+    Front,
+    /// The same, and nobody writes to FILE-wal.
+    Log,
+    /// A recovery's: nobody else reads or writes.
+    Everything,
+}
 
 /// How many bytes of what the system tells of the open files are held. Two of them with their locks have some 600.
 const ROOM: usize = 4096;
@@ -56,21 +72,41 @@ fn id_at<R: Files>(rt: &R, path: &str) -> io::Result<Option<FileId>> {
     }
 }
 
-/// Whether the locks are told of in this text, on a database file and on its FILE-shm, if that is there.
-fn are_told<R: Files + AllocGlobal>(
-    rt: &R,
+/// Which locks are told of in this text of /proc/self/fdinfo, on a file and its FILE-shm, if that is there.
+pub fn told_of(
     text: &str,
     want: Want,
-    path: &str,
-) -> io::Result<bool> {
+    file: FileId,
+    index: Option<FileId>,
+) -> Result<Held, fmt::Error>
+    ensures { IfOk result (λ held. HeldBy text.now want file index held) }
+{
+    if !tells_all(text, want, file, index)? {
+        return Ok(Held::Nothing);
+    }
+    match (want, index) {
+        (Want::Recover, _) => Ok(Held::Everything),
+        (Want::Read, None) => Ok(Held::File),
+        (Want::Read, Some(index)) => if tells(text, Lock::Writers, index)? {
+            Ok(Held::Log)
+        } else {
+            Ok(Held::Front)
+        },
+    }
+}
+
+/// Which locks are told of in this text, on a database file and on its FILE-shm, if that is there.
+fn told_at<R: Files + AllocGlobal>(rt: &R, text: &str, want: Want, path: &str) -> io::Result<Held>
+    ensures { IfOk result (IsTold want) }
+{
     let shm = format!(in rt.alloc(); "{path}-shm")?;
     let Some(file) = id_at(rt, path)? else {
-        return Ok(false);
+        return Ok(Held::Nothing);
     };
     let index = id_at(rt, shm.as_str())?;
-    match tells_all(text, want, file, index) {
-        Ok(told) => Ok(told),
-        Err(_) => Ok(false),
+    match told_of(text, want, file, index) {
+        Ok(held) => Ok(held),
+        Err(_) => Ok(Held::Nothing),
     }
 }
 
@@ -91,18 +127,20 @@ fn read_all<R: Files + AllocGlobal>(
     Ok(count + more)
 }
 
-/// Whether the process holds the locks by open files of these numbers, which a comma parts: those on the database file
-/// of this path, and on its FILE-shm, if that is there. Not where the system doesn't say so.
-pub fn is_held<R: Files + AllocGlobal>(
+/// Which locks the process holds by open files of these numbers, which a comma parts, on the database file of this
+/// path, and on its FILE-shm, if that is there. Nothing where the system doesn't say so.
+pub fn held_by<R: Files + AllocGlobal>(
     rt: &R,
     numbers: &str,
     want: Want,
     path: &str,
-) -> io::Result<bool> {
+) -> io::Result<Held>
+    ensures { IfOk result (IsTold want) }
+{
     let mut told = [0u8; ROOM];
     let count = read_all(rt, numbers, &mut told)?;
     match str::from_utf8(&told[..count]) {
-        Ok(text) => are_told(rt, text, want, path),
-        Err(_) => Ok(false),
+        Ok(text) => told_at(rt, text, want, path),
+        Err(_) => Ok(Held::Nothing),
     }
 }

@@ -4,11 +4,13 @@
 #![tactic(auto)]
 
 mod fdinfo;
+mod front;
 mod line;
 mod todo;
 mod wants;
 
-pub use fdinfo::is_held;
+pub use fdinfo::{Held, held_by, told_of};
+pub use front::frames_named;
 pub use line::{Hidden, Line, line_of};
-pub use todo::{Todo, prepared};
+pub use todo::{Locks, Todo, Why, prepared};
 pub use wants::wanted;

@@ -11,9 +11,10 @@ pub fn wanted<'a>(request: &Request<'a>) -> Option<(Want, &'a str)>
     ensures { MatchOption result (WantsNone request.now) (λ found. Wants request.now found.0 found.1) }
 {
     match request {
-        Request::Show { file, .. } | Request::Check { file, .. } | Request::Report { file, .. } => {
-            Some((Want::Read, *file))
-        }
+        Request::Show { file, .. }
+        | Request::Check { file, .. }
+        | Request::Rows { file, .. }
+        | Request::Report { file, .. } => Some((Want::Read, *file)),
         Request::Recover {
             file,
             to: Some(_),

@@ -1,1 +1,2 @@
 pub mod ZerosBehindBytes
+pub mod ReadBefore

@@ -1,6 +1,10 @@
 -- Where the files of a database lie, and which of them are opened (own).
-use Rattle.std.specs.Prelude.{◌≡◌, ◌≢◌, ◌⊎◌, ◌++◌, ℕ, ◌≤◌, List, [], None, Some, IsSomeAnd, codes, string_bytes, unwrap_or}
+use Rattle.std.specs.Prelude.{◌≡◌, ◌≢◌, ◌⊎◌, ◌++◌, ℕ, ◌<◌, ◌≤◌, List, [], Option, None, Some, IfSome, IsSome, IsSomeAnd, codes, string_bytes, unwrap_or}
+use Rattle.std.specs.Fs.{metadata_len, file_type, IsFile}
+use Rattle.std.specs.declared.fs.attrs.Metadata.{Metadata}
 use Rattle.std.specs.Path.{path_file_name, path_parent}
+use Rattle.sqfacts.specs.declared.locks.Identity.{Identity}
+use Rattle.sqopen.specs.declared.logs.Beheld.{Beheld}
 use Rattle.sqopen.specs.declared.opened_file.OpenedFile.{OpenedFile}
 use Rattle.sqopen.specs.declared.paths.Paths.{Paths}
 use Rattle.sqopen.specs.declared.place.Place.{Place}
@@ -27,6 +31,10 @@ HasNameOf place path = path_file_name (path_of place) ≡ path_file_name path
 abbrev pub HasNameBeside : Paths → (path : List ℕ) → Type 0
 HasNameBeside paths path = HasNameOf paths.wal path ⊎ HasNameOf paths.journal path ⊎ HasNameOf paths.shm path
 
+-- the system knows both folders, and they are one
+abbrev pub IsOneFolder : (here there : Option Identity) → Type 0
+IsOneFolder here there = IsSome here × (here ≡ there)
+
 -- a file of this length that was opened at this place
 abbrev pub IsOpenedAt : {F : Type 0} → OpenedFile F → Place → (length : ℕ) → Type 0
 IsOpenedAt file place length = IsSomeAnd file.file (λ opened. path_of opened.1.now ≡ path_of place) × (file.length ≡ length)
@@ -35,6 +43,12 @@ IsOpenedAt file place length = IsSomeAnd file.file (λ opened. path_of opened.1.
 abbrev pub IsMissing : {F : Type 0} → OpenedFile F → Type 0
 IsMissing file = (file.file ≡ None) × (file.length ≡ 0)
 
--- one that was opened at this place, and has so many bytes at least, or none
-abbrev pub IsOfPlace : {F : Type 0} → OpenedFile F → Place → (least : ℕ) → Type 0
-IsOfPlace file place least = IsMissing file ⊎ (IsOpenedAt file place file.length × (least ≤ file.length))
+-- Where the system found a file of so many bytes at least at this place, it was opened as that; else it isn't there.
+abbrev pub IsOpenedOf : {F : Type 0} → OpenedFile F → Place → (least : ℕ) → (found : Option Metadata) → Type 0
+IsOpenedOf file place least None = IsMissing file
+IsOpenedOf file place least (Some found) = (least ≤ metadata_len found → IsOpenedAt file place (metadata_len found))
+    × (metadata_len found < least → IsMissing file)
+
+-- of a database's files those that the system found are regular ones
+abbrev pub AreRegular : Beheld → Type 0
+AreRegular found = IsFile (file_type found.db) × IfSome found.wal (λ m. IsFile (file_type m)) × IfSome found.journal (λ m. IsFile (file_type m))

@@ -1,6 +1,7 @@
 //! Whether the frames of a log that count still stand.
-ghost use Rattle.std.specs.Prelude.{◌≡◌, ◌⊎◌, IfErr, IsErrAnd};
+ghost use Rattle.std.specs.Prelude.{◌≡◌, ◌⊎◌, IfErr, IfOk, IsErrAnd, false};
 ghost use Rattle.sqopen.specs.Refusals.{IsFromWatch};
+ghost use Rattle.sqopen.specs.Watches.{AreRead};
 
 use crate::hints::told;
 use crate::paths::{Paths, is_missing};
@@ -53,7 +54,7 @@ where
 }
 
 /// FileChanged where files aren't as they were before, or the frames up to this front don't stand any more. Where only
-/// the logs are read, the database file needn't be readable.
+/// the logs are read, the database file needn't be readable; what couldn't be read before isn't as it was.
 pub fn as_before<R: Files, E: Write>(
     rt: &R,
     paths: &Paths,
@@ -64,7 +65,8 @@ pub fn as_before<R: Files, E: Write>(
 ) -> Result<(), Refusal>
 where
     R::File: FileExt,
-    ensures { IfErr result IsFromWatch }
+    ensures read { IfOk result (λ _. AreRead only_logs before.now) }
+    ensures refused { IfErr result IsFromWatch }
 {
     let after = readings_of(rt, paths, only_logs, notes)?;
     unchanged(before, &after, Ok(()))?;
@@ -82,7 +84,7 @@ pub fn watched<R: Files, T: Drop, E: Write>(
 ) -> Result<T, Refusal>
 where
     R::File: FileExt,
-    ensures { (result ≡ answer) ⊎ IsErrAnd result IsFromWatch }
+    ensures { ((result ≡ answer) × AreRead false before.now) ⊎ IsErrAnd result IsFromWatch }
 {
     match as_before(rt, paths, before, false, front, notes) {
         Ok(()) => answer,

@@ -52,6 +52,19 @@ impl<R: Files, M> OpenElsewhere<'_, R, M> {
     }
 }
 
+/// Whether a process is known to hold a lock on the index of a database's log, as each connection does that has it in
+/// WAL mode.
+pub fn is_index_live<R: Files>(rt: &R, paths: &Paths) -> bool {
+    let Ok(index) = look_at(rt, paths.shm.as_str()) else {
+        return false;
+    };
+    let index = identity_of(&index);
+    match OpenOptions::new().read(true).open(rt, LOCKS) {
+        Ok(mut list) => has_lock(&mut list, index, index).unwrap_or(false),
+        Err(_) => false,
+    }
+}
+
 /// Says that it isn't known whether another process has the files open, where the locks couldn't be read.
 pub fn tell_unread<E: Write>(notes: &mut Notes<'_, E>, unread: &RefCell<Option<io::Error>>) {
     if let Ok(Some(error)) = unread.try_replace(None) {

@@ -16,12 +16,12 @@ mod watch;
 
 pub use fronts::{as_before, watched};
 pub use hints::{tell_dropped, tell_length, told};
-pub use in_use::{OpenElsewhere, tell_unread};
+pub use in_use::{OpenElsewhere, is_index_live, tell_unread};
 pub use journals::names_super_journal;
-pub use logs::{Beside, counting_log, open_database, open_logs, tell_alone};
+pub use logs::{Beheld, Beside, counting_log, open_database, open_logs, tell_alone};
 pub use new_file::{NewFile, begin_file, discard_file, end_file, remove};
 pub use opened_file::OpenedFile;
-pub use paths::{Paths, folder_of, is_log_of, look_at, paths_of};
+pub use paths::{Paths, folder_identity, folder_of, is_log_of, look_at, paths_of};
 pub use place::Place;
 pub use progress::{Count, Progress};
 pub use watch::{readings_of, time_to_wait};

@@ -1,11 +1,12 @@
 //! The opened files of a database.
-ghost use Rattle.std.specs.Prelude.{◌≡◌, ◌⊎◌, IfErr, IfOk, Ok};
-ghost use Rattle.std.specs.Fs.{metadata_len};
+ghost use Rattle.std.specs.Prelude.{◌≡◌, ◌⊎◌, IfErr, IfOk, IfSome, Ok, Some};
+ghost use Rattle.std.specs.Fs.{metadata_len, file_type, IsFile};
+ghost use Rattle.sqwords.specs.declared.requests.SuperJournal.TheVariants.{Gone};
 ghost use Rattle.sqfacts.specs.Refusals.{refusal_of};
 ghost use Rattle.sqfacts.specs.declared.outcome.Refusal.TheVariants.{TwoLogs};
 ghost use Rattle.sqview.specs.Logs.{AreTwoLogs, CountsAnswer};
 ghost use Rattle.sqview.specs.declared.view_error.ViewError.{ViewError};
-ghost use Rattle.sqopen.specs.Files.{IsMissing, IsOfPlace, IsOpenedAt};
+ghost use Rattle.sqopen.specs.Files.{AreRegular, IsMissing, IsOpenedAt, IsOpenedOf};
 ghost use Rattle.sqopen.specs.Refusals.{IsFromSystem};
 
 use crate::hints::{Logs, named_by, tell_choice, tell_cut, tell_rest, told, told_kind};
@@ -34,7 +35,8 @@ fn found_log<R: Files, E: Write>(
     path: &str,
     notes: &mut Notes<'_, E>,
 ) -> Result<Option<Metadata>, Refusal>
-    ensures { IfErr result IsFromSystem }
+    ensures regular { IfOk result (λ found. IfSome found (λ m. IsFile (file_type m))) }
+    ensures refused { IfErr result IsFromSystem }
 {
     match look_at(rt, path) {
         Ok(found) if found.is_file() => Ok(Some(found)),
@@ -83,11 +85,11 @@ fn opened_of<'a, R: Files, E: Write>(
 fn opened<'a, R: Files, E: Write>(
     rt: &R,
     place: &'a Place,
-    found: Option<Metadata>,
+    found: &Option<Metadata>,
     least: u64,
     notes: &mut Notes<'_, E>,
 ) -> Result<OpenedFile<'a, R::File>, Refusal>
-    ensures opened { IfOk result (λ file. IsOfPlace file place.entry.now least) }
+    ensures opened { IfOk result (λ file. IsOpenedOf file place.entry.now least found.now) }
     ensures refused { IfErr result IsFromSystem }
 {
     match found {
@@ -96,10 +98,18 @@ fn opened<'a, R: Files, E: Write>(
     }
 }
 
-/// What the system says of a database file, and the opened logs beside it, of which each may be missing.
+/// What the system says of a database file and of each of its logs that is there.
+#[derive(Drop)]
+pub struct Beheld {
+    pub db: Metadata,
+    pub wal: Option<Metadata>,
+    pub journal: Option<Metadata>,
+}
+
+/// What the system says of a database's files, and the opened logs, of which each may be missing.
 #[derive(Drop)]
 pub struct Beside<'a, F> {
-    pub db: Metadata,
+    pub found: Beheld,
     pub wal: OpenedFile<'a, F>,
     pub journal: OpenedFile<'a, F>,
 }
@@ -110,21 +120,14 @@ fn found_database<R: Files, E: Write>(
     path: &str,
     notes: &mut Notes<'_, E>,
 ) -> Result<Metadata, Refusal>
-    ensures { IfErr result IsFromSystem }
+    ensures regular { IfOk result (λ found. IsFile (file_type found)) }
+    ensures refused { IfErr result IsFromSystem }
 {
     match look_at(rt, path) {
         Ok(found) if found.is_file() => Ok(found),
         Ok(found) => Err(told_kind(notes, path, &found)),
         Err(error) => Err(told(notes, path, error)),
     }
-}
-
-/// What the system says of a database file and of each of its logs that is there.
-#[derive(Drop)]
-struct Beheld {
-    db: Metadata,
-    wal: Option<Metadata>,
-    journal: Option<Metadata>,
 }
 
 impl Beheld {
@@ -151,7 +154,8 @@ fn found_files<R: Files, E: Write>(
     paths: &Paths,
     notes: &mut Notes<'_, E>,
 ) -> Result<Beheld, Refusal>
-    ensures { IfErr result IsFromSystem }
+    ensures regular { IfOk result AreRegular }
+    ensures refused { IfErr result IsFromSystem }
 {
     let db = found_database(rt, paths.db.as_str(), notes)?;
     let wal = found_log(rt, paths.wal.as_str(), notes)?;
@@ -184,14 +188,18 @@ fn open_found<'a, R: Files, E: Write>(
     found: Beheld,
     notes: &mut Notes<'_, E>,
 ) -> Result<Beside<'a, R::File>, Refusal>
-    ensures wal { IfOk result (λ logs. IsOfPlace logs.wal paths.entry.now.wal 1) }
-    ensures journal { IfOk result (λ logs. IsOfPlace logs.journal paths.entry.now.journal 28) }
+    ensures found { IfOk result (λ logs. logs.found ≡ found) }
+    ensures wal { IfOk result (λ logs. IsOpenedOf logs.wal paths.entry.now.wal 1 logs.found.wal) }
+    ensures journal { IfOk result (λ logs. IsOpenedOf logs.journal paths.entry.now.journal 28 logs.found.journal) }
     ensures refused { IfErr result IsFromSystem }
 {
-    let Beheld { db, wal, journal } = found;
-    let wal = opened(rt, &paths.wal, wal, 1, notes)?;
-    match opened(rt, &paths.journal, journal, SHORTEST, notes) {
-        Ok(journal) => Ok(Beside { db, wal, journal }),
+    let wal = opened(rt, &paths.wal, &found.wal, 1, notes)?;
+    match opened(rt, &paths.journal, &found.journal, SHORTEST, notes) {
+        Ok(journal) => Ok(Beside {
+            found,
+            wal,
+            journal,
+        }),
         Err(refusal) => Err(refusal),
     }
 }
@@ -215,7 +223,7 @@ fn tell_doubts<F: FileExt, E: Write>(
             &"the journal doesn't count, but SQLite takes its sector and page size, and would roll it back",
         );
     }
-    if logs.db.len() == 0 && (is_hot || logs.wal.len() != 0) {
+    if logs.found.db.len() == 0 && (is_hot || logs.wal.len() != 0) {
         notes.say(&"the file is empty (0 bytes): SQLite would delete its log, and leave it empty");
     }
     Ok(())
@@ -231,8 +239,10 @@ fn judge_logs<R: Files, F: FileExt + Drop, E: Write>(
     at: Option<u32>,
     notes: &mut Notes<'_, E>,
 ) -> Result<(), SourceError>
+    ensures found { logs.new.found ≡ logs.old.found }
     ensures wal { logs.new.wal ≡ logs.old.wal }
-    ensures journal { IsMissing logs.new.journal ⊎ (logs.new.journal ≡ logs.old.journal) }
+    ensures journal { ((super_journal ≡ Some Gone) × IsMissing logs.new.journal)
+        ⊎ (logs.new.journal ≡ logs.old.journal) }
 {
     let has_journal = logs.journal.len() != 0;
     let (is_hot, names_super) = marks_of(&logs.journal)?;
@@ -259,8 +269,9 @@ fn judge_logs<R: Files, F: FileExt + Drop, E: Write>(
     Ok(())
 }
 
-/// Opens the logs beside a database file, and says what is to be noted of them, where the database is asked for at this
-/// commit frame. A hot journal that is out of force is taken as a missing one.
+/// Opens the logs beside a database file that the system finds, a write-ahead log that isn't empty and a journal of 28
+/// bytes at least, and says what is to be noted of them, where the database is asked for at this commit frame. A hot
+/// journal that is out of force is taken as a missing one.
 pub fn open_logs<'a, R: Files, E: Write>(
     rt: &R,
     paths: &'a Paths,
@@ -270,8 +281,10 @@ pub fn open_logs<'a, R: Files, E: Write>(
 ) -> Result<Beside<'a, R::File>, Refusal>
 where
     R::File: FileExt,
-    ensures wal { IfOk result (λ logs. IsOfPlace logs.wal paths.entry.now.wal 1) }
-    ensures journal { IfOk result (λ logs. IsOfPlace logs.journal paths.entry.now.journal 28) }
+    ensures regular { IfOk result (λ logs. AreRegular logs.found) }
+    ensures wal { IfOk result (λ logs. IsOpenedOf logs.wal paths.entry.now.wal 1 logs.found.wal) }
+    ensures journal { IfOk result (λ logs. ((super_journal ≡ Some Gone) × IsMissing logs.journal)
+        ⊎ IsOpenedOf logs.journal paths.entry.now.journal 28 logs.found.journal) }
     ensures refused { IfErr result IsFromSystem }
 {
     let found = found_files(rt, paths, notes)?;

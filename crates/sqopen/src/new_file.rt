@@ -285,7 +285,9 @@ fn like_first(bytes: &[u8], zeros: bool) -> usize
 
 impl<F: Write + Seek + OpenFile> NewFile<'_, F> {
     /// The path that the file gets.
-    pub fn path(&self) -> &str {
+    pub fn path(&self) -> &str
+        ensures { result.now ≡ self.now.to.now }
+    {
         self.to
     }
 

@@ -2,7 +2,8 @@
 ghost use Rattle.std.specs.Prelude.{◌≡◌, ◌⊎◌, ◌↔◌, ◌++◌, IfErr, IfOk, IsTrue, string_bytes};
 ghost use Rattle.std.specs.IoError.{error_kind};
 ghost use Rattle.std.specs.declared.io.ErrorKind.TheVariants.{InvalidFilename, NotFound};
-ghost use Rattle.sqopen.specs.Files.{AreBeside, HasNameBeside, HasNameOf, IsFolderOf, path_of};
+ghost use Rattle.sqopen.specs.Files.{AreBeside, HasNameBeside, HasNameOf, IsFolderOf, IsOneFolder};
+ghost use Rattle.sqopen.specs.Files.{path_of};
 ghost use Rattle.sqopen.specs.Refusals.{IsFromSystem};
 ghost use Rattle.sqopen.specs.internal.Paths.{AreApart};
 
@@ -236,23 +237,42 @@ fn have_one_name(place: &Place, path: &str) -> bool
     Path::new(place.as_str()).file_name() == Path::new(path).file_name()
 }
 
-/// Whether two files lie in the same folder.
-fn have_one_folder<R: Files>(rt: &R, path: &str, other: &str) -> bool {
-    match (
-        fs::metadata(rt, folder_of(path)),
-        fs::metadata(rt, folder_of(other)),
-    ) {
-        (Ok(here), Ok(there)) => identity_of(&here) == identity_of(&there),
-        _ => false,
+/// By what the system knows the folder in which a file lies; none where it doesn't say.
+pub fn folder_identity<R: Files>(rt: &R, path: &str) -> Option<Identity> {
+    match fs::metadata(rt, folder_of(path)) {
+        Ok(folder) => Some(identity_of(&folder)),
+        Err(_) => None,
     }
 }
 
-/// Whether a path names a file that SQLite takes for one of a database's, as it lies in the same folder.
-pub fn is_log_of<R: Files>(rt: &R, paths: &Paths, path: &str) -> bool
-    ensures { IsTrue result → HasNameBeside paths.now path.now }
+/// Whether both folders are known, and are one.
+fn are_one_folder(here: Option<Identity>, there: Option<Identity>) -> bool
+    ensures { IsTrue result ↔ IsOneFolder here there }
 {
-    let is_named = have_one_name(&paths.wal, path)
+    here.is_some() && here == there
+}
+
+/// Whether a path has the name of a file that lies beside a database's.
+fn has_name_beside(paths: &Paths, path: &str) -> bool
+    ensures { IsTrue result ↔ HasNameBeside paths.now path.now }
+{
+    have_one_name(&paths.wal, path)
         || have_one_name(&paths.journal, path)
-        || have_one_name(&paths.shm, path);
-    is_named && have_one_folder(rt, path, paths.db.as_str())
+        || have_one_name(&paths.shm, path)
+}
+
+/// Whether SQLite takes the file that a path names for one of a database's: it has the name of one, and lies in the
+/// same folder. Of its folder and of the database's it is given by what the system knows them (`folder_identity`).
+pub fn is_log_of(
+    paths: &Paths,
+    path: &str,
+    folder: Option<Identity>,
+    of_database: Option<Identity>,
+) -> bool
+    ensures { IsTrue result ↔ (HasNameBeside paths.now path.now × IsOneFolder folder of_database) }
+{
+    if !has_name_beside(paths, path) {
+        return false;
+    }
+    are_one_folder(folder, of_database)
 }

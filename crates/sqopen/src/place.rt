@@ -31,7 +31,9 @@ impl Place {
     }
 
     /// The path as it is written in a note.
-    pub fn quoted(&self) -> Quoted<'_> {
+    pub fn quoted(&self) -> Quoted<'_>
+        ensures { result.0.now ≡ path_of self.now }
+    {
         Quoted(self.as_str())
     }
 

@@ -1,5 +1,5 @@
 //! Whether files changed while they were read.
-ghost use Rattle.std.specs.Prelude.{◌≡◌, ◌⊎◌, ◌<◌, ◌≤◌, ℕ, IfErr, IfOk, IsTrue, slice_index};
+ghost use Rattle.std.specs.Prelude.{◌≡◌, ◌<◌, ◌≤◌, ℕ, IfErr, IfOk, IsTrue, slice_index};
 ghost use Rattle.std.specs.Duration.{as_nanos};
 ghost use Rattle.std.specs.Option.{option_map_or};
 ghost use Rattle.sqopen.specs.Refusals.{IsFromSystem};
@@ -12,7 +12,7 @@ use std::fs::File;
 use std::io::{self, Write};
 use std::os::unix::fs::{FileExt, MetadataExt};
 use std::rt::Files;
-use std::time::{Clock, Duration};
+use std::time::Duration;
 
 /// How long a clock by which a file system dates changes may stand still, in milliseconds.
 const TICK: u64 = 11;
@@ -123,12 +123,13 @@ fn longest_left(readings: &Readings, now: Duration) -> Duration
     left_of(&readings.db, now).max(logs)
 }
 
-/// How long to wait until each change of these files is dated later than their last ones.
-pub fn time_to_wait<C: Clock>(clock: &C, readings: &Readings) -> Duration
-    ensures { (as_nanos result ≡ tick) ⊎ ((now : ℕ) × (as_nanos result ≡ longest_left now readings.now)) }
+/// How long to wait until each change of these files is dated later than their last ones, where it is this long since
+/// 1970; none where the clock can't be read.
+pub fn time_to_wait(now: Option<Duration>, readings: &Readings) -> Duration
+    ensures { as_nanos result ≡ option_map_or (λ d. longest_left (as_nanos d) readings.now) now tick }
 {
-    match clock.since_1970() {
-        Ok(now) => longest_left(readings, now),
-        Err(_) => Duration::from_millis(TICK),
+    match now {
+        Some(now) => longest_left(readings, now),
+        None => Duration::from_millis(TICK),
     }
 }

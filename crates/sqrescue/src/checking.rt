@@ -1,11 +1,12 @@
 //! What `check` prints.
 use crate::metered::db_metered;
 use crate::opening::open_all;
+use crate::sources::{Before, Source, before_of, standing, wait_for};
+use sqdeepshown::{DeepFinding, DeepVerdict, judged_as, write_found};
 use sqfacts::{NoteWriter, Notes, Readings, Refusal, unchanged};
-use sqlines::{write_fault, write_report};
-use sqopen::{Count, OpenedFile, Paths, Progress, paths_of, readings_of, time_to_wait, watched};
-use sqshown::{Contents, Finding, ShowError, asked_of, judged, read_ahead};
-use sqview::{FileBytes, Verdict};
+use sqopen::{Count, OpenedFile, Paths, Progress, readings_of};
+use sqshown::{Contents, ShowError, asked_of, read_ahead};
+use sqview::FileBytes;
 use sqwords::Options;
 use std::alloc::Global;
 use std::io::{self, Write};
@@ -17,131 +18,138 @@ use std::time::Clock;
 /// How many bytes of a database file are read at once, where its pages are read one behind the other.
 const PIECE: usize = 32_768;
 
-/// Checks a database file as its log has it, and prints what is in it or its first fault. Whether it is well formed. No
-/// file is opened for writing, and none is made. Refused by `FileChanged` where a file changed meanwhile.
-pub(crate) fn check<R: Files + AllocGlobal + Clock, O: Write, E: Write>(
-    rt: &R,
-    file: &str,
+/// What a deep check leaves open of a database that it finds sound.
+const UNJUDGED: &str =
+    "not judged: indexes against their tables (entries, order, UNIQUE), NOT NULL, CHECK and types; \
+     PRAGMA integrity_check does";
+
+/// What is asked of a check.
+#[derive(Clone, Copy)]
+struct Asks {
     options: Options,
-    out: &mut O,
-    notes: &mut Notes<'_, E>,
-) -> Result<bool, ShowError>
-where
-    R::File: FileExt,
-{
-    match paths_of(rt, file, notes) {
-        Ok(paths) => check_files(rt, &paths, options, out, notes),
-        Err(refusal) => Err(ShowError::Refused(refusal)),
-    }
+    /// Whether it looks at what the pages hold, too, and at pointer maps where there are any.
+    deep: bool,
 }
 
-/// The same, of the files with these paths.
-fn check_files<R: Files + AllocGlobal + Clock, O: Write, E: Write>(
+/// Checks a database file as its log has it, also what its pages hold where that is asked for, and prints what is in it
+/// or its first fault. Whether it is well formed. No file is opened for writing, and none is made. Refused by
+/// `FileChanged` where a file changed meanwhile.
+pub(crate) fn check<R: Files + AllocGlobal + Clock, O: Write, E: Write>(
     rt: &R,
-    paths: &Paths,
-    options: Options,
+    source: &Source<'_>,
+    deep: bool,
     out: &mut O,
     notes: &mut Notes<'_, E>,
 ) -> Result<bool, ShowError>
 where
     R::File: FileExt,
 {
+    let options = source.options;
+    let asks = Asks { options, deep };
     let progress = Progress::new(rt, notes.again(), options);
-    match settled_verdict(rt, paths, options, &progress, notes) {
-        Ok(verdict) => write_verdict(out, options, &verdict),
-        Err(refusal) => Err(ShowError::Refused(paths.told(notes, refusal))),
+    match settled_verdict(rt, source, asks, &progress, notes) {
+        Ok(verdict) => told_verdict(out, asks, &verdict, notes),
+        Err(refusal) => Err(ShowError::Refused(source.paths.told(notes, refusal))),
     }
 }
 
 /// Prints a verdict. Whether it is that the database is well formed.
 fn write_verdict<O: Write>(
     out: &mut O,
-    options: Options,
-    verdict: &Verdict,
+    asks: Asks,
+    verdict: &DeepVerdict,
 ) -> Result<bool, ShowError> {
-    let is_well_formed = match verdict {
-        Verdict::Clean(report) => {
-            write_report(out, options.style, report)?;
-            true
-        }
-        Verdict::Damaged(error) => {
-            write_fault(out, options.style, error)?;
-            false
-        }
-    };
+    write_found(out, asks.options.style, asks.deep, verdict)?;
     out.flush()?;
-    Ok(is_well_formed)
+    Ok(matches!(verdict, DeepVerdict::Clean(_)))
+}
+
+/// Prints a verdict, and says what a deep one leaves open. Whether it is that the database is well formed.
+fn told_verdict<O: Write, E: Write>(
+    out: &mut O,
+    asks: Asks,
+    verdict: &DeepVerdict,
+    notes: &Notes<'_, E>,
+) -> Result<bool, ShowError> {
+    let answer = write_verdict(out, asks, verdict);
+    if asks.deep && matches!(answer, Ok(true)) {
+        notes.say(&UNJUDGED);
+    }
+    answer
 }
 
 /// The verdict on files that don't change meanwhile. Where they were changed so shortly before that a further change
 /// might be dated like it, a fault is looked for again once any change is dated later.
 fn settled_verdict<R: Files + AllocGlobal + Clock, M: Count, E: Write>(
     rt: &R,
-    paths: &Paths,
-    options: Options,
+    source: &Source<'_>,
+    asks: Asks,
     meter: &M,
     notes: &mut Notes<'_, E>,
-) -> Result<Verdict, Refusal>
+) -> Result<DeepVerdict, Refusal>
 where
     R::File: FileExt,
 {
-    let before = readings_of(rt, paths, false, notes)?;
-    let wait = time_to_wait(rt, &before);
-    let found = judged_now(rt, paths, options, meter, notes);
-    match watched_finding(rt, paths, &before, found, notes) {
-        Ok(Verdict::Damaged(_)) if !wait.is_zero() => {}
-        answer => return answer,
+    let paths = &source.paths;
+    let before = before_of(rt, paths, source.watch, false, notes)?;
+    let wait = wait_for(rt, &before);
+    let found = judged_now(rt, paths, asks, meter, notes);
+    match (watched_finding(rt, paths, &before, found, notes), before) {
+        (Ok(DeepVerdict::Damaged(_)), Some(Before::Dated(before))) if !wait.is_zero() => {
+            thread::sleep(rt, wait);
+            judged_again(rt, paths, asks, &before, meter, notes)
+        }
+        (answer, _) => answer,
     }
-    thread::sleep(rt, wait);
-    judged_again(rt, paths, options, &before, meter, notes)
 }
 
 /// What is found of files now, of which no note is written.
 fn judged_unheard<R: Files + AllocGlobal, M: Count>(
     rt: &R,
     paths: &Paths,
-    options: Options,
+    asks: Asks,
     meter: &M,
-) -> Result<Finding, Refusal>
+) -> Result<DeepFinding, Refusal>
 where
     R::File: FileExt,
 {
     let nowhere = NoteWriter::new(io::sink());
     let mut unheard = Notes::new(&nowhere, false, false);
-    judged_now(rt, paths, options, meter, &mut unheard)
+    judged_now(rt, paths, asks, meter, &mut unheard)
 }
 
 /// The same later, of files that are as they were before.
 fn judged_again<R: Files + AllocGlobal, M: Count, E: Write>(
     rt: &R,
     paths: &Paths,
-    options: Options,
+    asks: Asks,
     before: &Readings,
     meter: &M,
     notes: &mut Notes<'_, E>,
-) -> Result<Verdict, Refusal>
+) -> Result<DeepVerdict, Refusal>
 where
     R::File: FileExt,
 {
     let settled = readings_of(rt, paths, false, notes)?;
     unchanged(before, &settled, Ok(()))?;
-    let found = judged_unheard(rt, paths, options, meter);
-    watched_finding(rt, paths, &settled, found, notes)
+    let found = judged_unheard(rt, paths, asks, meter);
+    watched_finding(rt, paths, &Some(Before::Dated(settled)), found, notes)
 }
 
 /// What is found of files now.
 fn judged_now<R: Files + AllocGlobal, M: Count, E: Write>(
     rt: &R,
     paths: &Paths,
-    options: Options,
+    asks: Asks,
     meter: &M,
     notes: &mut Notes<'_, E>,
-) -> Result<Finding, Refusal>
+) -> Result<DeepFinding, Refusal>
 where
     R::File: FileExt,
 {
+    let options = asks.options;
     match open_all(rt, paths, options.super_journal, options.at, notes) {
-        Ok(files) => judged_of(rt.alloc(), options, files, meter),
+        Ok(files) => judged_of(rt.alloc(), asks, files, meter),
         Err(refusal) => Err(refusal),
     }
 }
@@ -149,12 +157,12 @@ where
 /// What is found of opened files.
 fn judged_of<F: FileExt + Drop, M: Count>(
     alloc: Global,
-    options: Options,
+    asks: Asks,
     files: Contents<OpenedFile<'_, F>>,
     meter: &M,
-) -> Result<Finding, Refusal> {
+) -> Result<DeepFinding, Refusal> {
     match read_ahead(alloc, files, PIECE) {
-        Ok(files) => finding_of(alloc, options, db_metered(files, meter)),
+        Ok(files) => finding_of(alloc, asks, db_metered(files, meter)),
         Err(refusal) => Err(refusal),
     }
 }
@@ -162,21 +170,23 @@ fn judged_of<F: FileExt + Drop, M: Count>(
 /// The same, of files from anywhere.
 fn finding_of<F: FileBytes + Drop>(
     alloc: Global,
-    options: Options,
+    asks: Asks,
     files: Contents<F>,
-) -> Result<Finding, Refusal> {
+) -> Result<DeepFinding, Refusal> {
     let Contents { db, wal, journal } = files;
-    judged(alloc, asked_of(options), db, wal, journal)
+    let mut options = asks.options;
+    options.pointer_maps = options.pointer_maps || asks.deep;
+    judged_as(alloc, asked_of(options), asks.deep, db, wal, journal)
 }
 
 /// What was found, if the files are as they were before, and the frames of the log that counted still stand.
 fn watched_finding<R: Files, E: Write>(
     rt: &R,
     paths: &Paths,
-    before: &Readings,
-    found: Result<Finding, Refusal>,
+    before: &Option<Before>,
+    found: Result<DeepFinding, Refusal>,
     notes: &mut Notes<'_, E>,
-) -> Result<Verdict, Refusal>
+) -> Result<DeepVerdict, Refusal>
 where
     R::File: FileExt,
 {
@@ -184,7 +194,7 @@ where
         Ok(found) => found.front,
         Err(_) => None,
     };
-    match watched(rt, paths, before, front, found, notes) {
+    match standing(rt, paths, before, front, found, notes) {
         Ok(found) => Ok(found.verdict),
         Err(refusal) => Err(refusal),
     }

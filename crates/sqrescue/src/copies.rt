@@ -5,10 +5,11 @@ use crate::metered::{Metered, all_ahead, all_metered, both_ahead};
 use crate::opening::open_seen;
 use crate::outcomes::print_outcome;
 use crate::reports::answer_of;
-use sqfacts::{Front, Notes, Outcome, Quoted, Readings, Refusal};
+use crate::sources::{Before, Source, before_of, standing, wait_for};
+use sqfacts::{Front, Notes, Outcome, Quoted, Refusal};
 use sqopen::{
     Count, NewFile, OpenedFile, Paths, Progress, begin_file, counting_log, discard_file, end_file,
-    is_log_of, names_super_journal, paths_of, readings_of, time_to_wait, told, watched,
+    folder_identity, is_log_of, names_super_journal, told,
 };
 use sqpage::{PageSource, SourceError, has_magic, named_page_size};
 use sqshown::{Contents, ShowError, limits_of, replayed, scanned, view_of};
@@ -74,37 +75,18 @@ type Recovered<'a, F, M> = Result<(Outcome, Content<'a, F, M>), Refusal>;
 /// read changed meanwhile. Where it fails the file is removed.
 pub(crate) fn recover_to<R: Files + AllocGlobal + Clock, O: Write, E: Write>(
     rt: &R,
-    file: &str,
+    source: &Source<'_>,
     to: &str,
-    options: Options,
     out: &mut O,
     notes: &mut Notes<'_, E>,
 ) -> Result<(), ShowError>
 where
     R::File: FileExt,
 {
-    match paths_of(rt, file, notes) {
-        Ok(paths) => copy_from(rt, &paths, to, options, out, notes),
-        Err(refusal) => Err(ShowError::Refused(refusal)),
-    }
-}
-
-/// The same, of the files with these paths.
-fn copy_from<R: Files + AllocGlobal + Clock, O: Write, E: Write>(
-    rt: &R,
-    paths: &Paths,
-    to: &str,
-    options: Options,
-    out: &mut O,
-    notes: &mut Notes<'_, E>,
-) -> Result<(), ShowError>
-where
-    R::File: FileExt,
-{
-    let before = readings_of(rt, paths, false, notes)?;
-    thread::sleep(rt, time_to_wait(rt, &before));
-    match made_copy(rt, paths, &before, to, options, notes) {
-        Ok(outcome) => answer_of(rt, to, print_outcome(out, options, outcome), notes),
+    let before = before_of(rt, &source.paths, source.watch, false, notes)?;
+    thread::sleep(rt, wait_for(rt, &before));
+    match made_copy(rt, &source.paths, &before, to, source.options, notes) {
+        Ok(outcome) => answer_of(rt, to, print_outcome(out, source.options, outcome), notes),
         Err(error) => Err(error),
     }
 }
@@ -113,7 +95,7 @@ where
 fn made_copy<R: Files + AllocGlobal + Clock, E: Write>(
     rt: &R,
     paths: &Paths,
-    before: &Readings,
+    before: &Option<Before>,
     to: &str,
     options: Options,
     notes: &mut Notes<'_, E>,
@@ -123,7 +105,7 @@ where
 {
     let progress = Progress::new(rt, notes.again(), options);
     let found = found_in(rt, paths, options, &progress, notes);
-    match watched(rt, paths, before, None, found, notes) {
+    match standing(rt, paths, before, None, found, notes) {
         Ok(found) => {
             progress.begin(found.content.length());
             match judge_name(rt, paths, to, notes) {
@@ -139,7 +121,7 @@ where
 fn make_copy<R: Files + AllocGlobal, F: FileBytes + Drop, M: Count, E: Write>(
     rt: &R,
     paths: &Paths,
-    before: &Readings,
+    before: &Option<Before>,
     to: &str,
     found: Found<'_, F, M>,
     notes: &mut Notes<'_, E>,
@@ -158,7 +140,7 @@ where
         Err(refusal) => return Err(ShowError::Refused(refusal)),
     };
     let written = written(rt.alloc(), content, &mut made, notes);
-    let written = watched(rt, paths, before, front, written, notes);
+    let written = standing(rt, paths, before, front, written, notes);
     match ended(rt, paths, made, written, notes) {
         Ok(()) => Ok(outcome),
         Err(refusal) => Err(ShowError::Refused(refusal)),
@@ -190,7 +172,9 @@ pub(crate) fn judge_name<R: Files, E: Write>(
     to: &str,
     notes: &mut Notes<'_, E>,
 ) -> Result<(), Refusal> {
-    if is_log_of(rt, paths, to) {
+    let folder = folder_identity(rt, to);
+    let of_database = folder_identity(rt, paths.db.as_str());
+    if is_log_of(paths, to, folder, of_database) {
         let to = Quoted(to);
         notes.explain(&format_args!("{to}: a log's name"));
         return Err(Refusal::FileFailed);

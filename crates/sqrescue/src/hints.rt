@@ -26,7 +26,9 @@ pub(crate) fn next_step(
 ) -> &'static str {
     match refusal {
         Refusal::InUse =>
-            "another process has a lock on the file: end it, or give --force if it won't touch the file again",
+            "another process has a lock on the file: end it, give --wait, or --no-lock if it writes no more",
+        Refusal::NoLocks =>
+            "SQLite's locks can't be taken here: give --no-lock if nobody else touches the file meanwhile",
         Refusal::FileChanged => "another process writes the files: try again, or end it first",
         Refusal::FileFailed => step_after(cause),
         Refusal::UnknownLogVersion =>

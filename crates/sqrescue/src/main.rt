@@ -3,9 +3,11 @@
 
 ghost use Rattle.std.specs.Prelude.{◌≤◌, IfOk};
 
+mod attempts;
 mod checking;
 mod copies;
 mod hints;
+mod locking;
 mod metered;
 mod opening;
 mod outcomes;
@@ -13,7 +15,9 @@ mod pages;
 mod program;
 mod recovering;
 mod reports;
+mod rows;
 mod showing;
+mod sources;
 mod surveys;
 
 use std::env::{self, Env};
@@ -39,7 +43,7 @@ where
     for word in &words {
         texts.push(word.as_str())?;
     }
-    Ok(program::run(rt, texts.as_slice(), out, err))
+    locking::answered(rt, texts.as_slice(), out, err)
 }
 
 fn main(rt: HostRuntime) -> ExitCode {

@@ -1,7 +1,8 @@
 //! The opened files of a database.
 use sqfacts::{Notes, Refusal};
 use sqopen::{
-    Beside, OpenedFile, Paths, counting_log, open_database, open_logs, tell_alone, tell_length,
+    Beheld, Beside, OpenedFile, Paths, counting_log, open_database, open_logs, tell_alone,
+    tell_length,
 };
 use sqshown::Contents;
 use sqview::LogInUse;
@@ -75,7 +76,7 @@ where
     R::File: FileExt,
 {
     let Beside {
-        db: found,
+        found: Beheld { db: found, .. },
         wal,
         journal,
     } = open_logs(rt, paths, super_journal, at, notes)?;

@@ -1,7 +1,8 @@
 //! What `show --pages` prints.
+use crate::sources::{Source, Watch};
 use crate::surveys::settled_survey;
 use sqfacts::{Notes, Refusal};
-use sqopen::{Paths, Progress, paths_of};
+use sqopen::{Paths, Progress};
 use sqshown::{Found, ShowError, write_pages, write_verdict};
 use sqview::FileBytes;
 use sqwords::{Options, Style};
@@ -18,33 +19,31 @@ const PIECE: usize = 65_536;
 /// formed. No file is opened for writing, and none is made. Refused as `check` is, before a line is printed.
 pub(crate) fn show_pages<R: Files + AllocGlobal + Clock, O: Write, E: Write>(
     rt: &R,
-    file: &str,
-    options: Options,
+    source: &Source<'_>,
     out: &mut O,
     notes: &mut Notes<'_, E>,
 ) -> Result<bool, ShowError>
 where
     R::File: FileExt,
 {
-    match paths_of(rt, file, notes) {
-        Ok(paths) => show_found(rt, &paths, options, out, notes),
-        Err(refusal) => Err(ShowError::Refused(refusal)),
-    }
+    let of = (source.options, source.watch);
+    show_found(rt, &source.paths, of, out, notes)
 }
 
 /// The same, of the files with these paths.
 fn show_found<R: Files + AllocGlobal + Clock, O: Write, E: Write>(
     rt: &R,
     paths: &Paths,
-    options: Options,
+    of: (Options, Watch),
     out: &mut O,
     notes: &mut Notes<'_, E>,
 ) -> Result<bool, ShowError>
 where
     R::File: FileExt,
 {
+    let (options, _) = of;
     let progress = Progress::new(rt, notes.again(), options);
-    match settled_survey(rt, paths, options, &progress, notes) {
+    match settled_survey(rt, paths, of, &progress, notes) {
         Ok(found) => write_found(rt.alloc(), options.style, &found, out),
         Err(refusal) => Err(ShowError::Refused(paths.told(notes, refusal))),
     }

@@ -6,7 +6,7 @@ use rollcore::{RollError, replay_within};
 use sqfacts::{FileDisk, Guard, Notes, Outcome, Refusal, metadata_of, read_or_zeros};
 use sqjournal::is_magic;
 use sqopen::{
-    Beside, Count, OpenElsewhere, OpenedFile, Paths, Progress, counting_log, open_database,
+    Beheld, Beside, Count, OpenElsewhere, OpenedFile, Paths, Progress, counting_log, open_database,
     open_logs, paths_of, tell_dropped, tell_length, tell_unread, told,
 };
 use sqpage::{has_magic, named_page_size};
@@ -96,7 +96,7 @@ where
     R::File: FileExt,
 {
     let Beside {
-        db,
+        found: Beheld { db, .. },
         wal,
         mut journal,
     } = open_logs(rt, paths, options.super_journal, None, notes)?;

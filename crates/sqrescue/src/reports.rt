@@ -1,12 +1,13 @@
 //! A page of HTML that shows a database and its log.
 use crate::copies::judge_name;
 use crate::program::VERSION;
+use crate::sources::{Before, Source, before_of, still_as_before, wait_for};
 use crate::surveys::{Counted, surveyed_now};
-use sqfacts::{Front, NoteWriter, Notes, Readings, Refusal};
+use sqfacts::{Front, NoteWriter, Notes, Refusal};
 use sqlines::{HEAD, TAIL};
 use sqopen::{
-    Beside, Count, NewFile, Paths, Progress, as_before, begin_file, discard_file, end_file,
-    look_at, open_logs, paths_of, readings_of, remove, time_to_wait, told,
+    Beside, Count, NewFile, Paths, Progress, begin_file, discard_file, end_file, look_at,
+    open_logs, remove, told,
 };
 use sqshown::{
     LogFound, ReportFacts, ShowError, facts_of, limits_of, log_of, write_report_facts,
@@ -93,7 +94,7 @@ fn told_answer<T: Drop, E: Write>(
 fn watched_facts<'a, R: Files + AllocGlobal, M: Count, E: Write>(
     rt: &R,
     paths: &'a Paths,
-    before: &Readings,
+    before: &Option<Before>,
     options: Options,
     meter: &'a M,
     notes: &mut Notes<'_, E>,
@@ -103,7 +104,7 @@ where
 {
     let facts = facts_now(rt, paths, options, meter, notes);
     let front = front_of(&facts);
-    match as_before(rt, paths, before, false, front, notes) {
+    match still_as_before(rt, paths, before, (false, front), notes) {
         Ok(()) => told_answer(paths, facts, notes),
         Err(refusal) => Err(refusal),
     }
@@ -119,6 +120,19 @@ fn write_html<W: Write, F: FileBytes>(
     write_report_facts(out, VERSION, file, facts)?;
     out.write_all(TAIL.as_bytes())?;
     out.flush()
+}
+
+/// Prints a report.
+fn print_page<O: Write, F: FileBytes>(
+    alloc: Global,
+    out: &mut O,
+    file: &str,
+    facts: &ReportFacts<F>,
+) -> Result<(), ShowError> {
+    match BufWriter::with_capacity(alloc, PIECE, out) {
+        Ok(mut out) => Ok(write_html(&mut out, file, facts)?),
+        Err(_) => Err(ShowError::Refused(Refusal::NoMemory)),
+    }
 }
 
 /// Writes a report to a new file, and finishes that.
@@ -138,44 +152,26 @@ fn fill<O: Write + Seek + OpenFile, F: FileBytes>(
 }
 
 /// Makes a page of HTML that reports on a database file as its log has it, which and whose logs are only read; prints
-/// what `check` prints. The page is synced, and so is its folder where that can be. Refused as `check` is, by
-/// `FileFailed` where something lies there or the page is a log of the database, and by `FileChanged` where what is
-/// read changed meanwhile. Where it fails the page is removed.
+/// what `check` prints. The page is synced, and so is its folder where that can be. To `-`: prints the page instead.
+/// Refused as `check` is, by `FileFailed` where something lies there or the page is a log of the database, and by
+/// `FileChanged` where what is read changed meanwhile. Where it fails the page is removed.
 pub(crate) fn report_to<R: Files + AllocGlobal + Clock, O: Write, E: Write>(
     rt: &R,
-    file: &str,
+    source: &Source<'_>,
     to: &str,
-    options: Options,
     out: &mut O,
     notes: &mut Notes<'_, E>,
 ) -> Result<(), ShowError>
 where
     R::File: FileExt,
 {
-    match paths_of(rt, file, notes) {
-        Ok(paths) => report_from(rt, &paths, (file, to), options, out, notes),
-        Err(refusal) => Err(ShowError::Refused(refusal)),
-    }
-}
-
-/// The same, of the files with these paths, by the names of the database file and of the page.
-fn report_from<R: Files + AllocGlobal + Clock, O: Write, E: Write>(
-    rt: &R,
-    paths: &Paths,
-    names: (&str, &str),
-    options: Options,
-    out: &mut O,
-    notes: &mut Notes<'_, E>,
-) -> Result<(), ShowError>
-where
-    R::File: FileExt,
-{
-    let (file, to) = names;
-    let before = readings_of(rt, paths, false, notes)?;
-    thread::sleep(rt, time_to_wait(rt, &before));
+    let (paths, options) = (&source.paths, source.options);
+    let before = before_of(rt, paths, source.watch, false, notes)?;
+    thread::sleep(rt, wait_for(rt, &before));
     let progress = Progress::new(rt, notes.again(), options);
     match watched_facts(rt, paths, &before, options, &progress, notes) {
-        Ok(facts) => match make_page(rt, paths, to, file, &facts, notes) {
+        Ok(facts) if to == "-" => print_page(rt.alloc(), out, source.file, &facts),
+        Ok(facts) => match make_page(rt, paths, to, source.file, &facts, notes) {
             Ok(()) => answer_of(rt, to, printed(out, options, &facts), notes),
             Err(error) => Err(error),
         },

@@ -1,7 +1,8 @@
 //! What `show` prints.
 use crate::opening::open_all;
-use sqfacts::{Front, Notes, Readings, Refusal};
-use sqopen::{Beside, OpenedFile, Paths, as_before, open_logs, paths_of, readings_of};
+use crate::sources::{Source, before_of, still_as_before};
+use sqfacts::{Front, Notes, Refusal};
+use sqopen::{Beside, OpenedFile, Paths, look_at, open_logs};
 use sqshown::{
     Contents, ShowError, show_commits, show_header, show_log, show_page, show_whole_log,
 };
@@ -19,27 +20,8 @@ const KEPT: usize = 1 << 19;
 /// Refused by `FileChanged` where a file changed meanwhile; lines may have been printed then.
 pub(crate) fn show<R: Files + AllocGlobal, O: Write, E: Write>(
     rt: &R,
-    file: &str,
+    source: &Source<'_>,
     part: Part,
-    options: Options,
-    out: &mut O,
-    notes: &mut Notes<'_, E>,
-) -> Result<(), ShowError>
-where
-    R::File: FileExt,
-{
-    match paths_of(rt, file, notes) {
-        Ok(paths) => show_kept(rt, &paths, part, options, out, notes),
-        Err(refusal) => Err(ShowError::Refused(refusal)),
-    }
-}
-
-/// The same, of the files with these paths.
-fn show_kept<R: Files + AllocGlobal, O: Write, E: Write>(
-    rt: &R,
-    paths: &Paths,
-    part: Part,
-    options: Options,
     out: &mut O,
     notes: &mut Notes<'_, E>,
 ) -> Result<(), ShowError>
@@ -48,8 +30,8 @@ where
 {
     match BufWriter::with_capacity(rt.alloc(), KEPT, out) {
         Ok(mut lines) => {
-            let answer = show_watched(rt, paths, part, options, &mut lines, notes);
-            end_lines(lines, told_answer(paths, answer, notes))
+            let answer = show_watched(rt, source, part, &mut lines, notes);
+            end_lines(lines, told_answer(&source.paths, answer, notes))
         }
         Err(_) => Err(ShowError::Refused(Refusal::NoMemory)),
     }
@@ -87,35 +69,38 @@ fn end_lines<W: Write + Drop>(lines: BufWriter<W>, answer: Answer) -> Result<(),
 /// Prints a part, or says why not all is shown. Refused where a file changed meanwhile.
 fn show_watched<R: Files + AllocGlobal, W: Write, E: Write>(
     rt: &R,
-    paths: &Paths,
+    source: &Source<'_>,
     part: Part,
-    options: Options,
     out: &mut W,
     notes: &mut Notes<'_, E>,
 ) -> Answer
 where
     R::File: FileExt,
 {
+    let (paths, options) = (&source.paths, source.options);
     let only_logs = matches!(part, Part::Log { all: false } | Part::Commits);
-    let before = readings_of(rt, paths, only_logs, notes)?;
+    let before = before_of(rt, paths, source.watch, only_logs, notes)?;
     if only_logs {
-        tell_length(paths, &before, notes);
+        tell_length(rt, paths, notes);
     }
     let answer = show_part(rt, paths, part, options, out, notes);
     let front = match &answer {
         Ok(front) => *front,
         Err(_) => None,
     };
-    match as_before(rt, paths, &before, only_logs, front, notes) {
+    match still_as_before(rt, paths, &before, (only_logs, front), notes) {
         Ok(()) => Ok(answer),
         Err(refusal) => Err(refusal),
     }
 }
 
-/// Says how long a database file is of which nothing else is read.
-fn tell_length<E: Write>(paths: &Paths, before: &Readings, notes: &mut Notes<'_, E>) {
-    if let Some(db) = before.db {
-        let (path, length) = (paths.db.quoted(), db.length);
+/// Where it is asked for, says how long a database file is of which nothing else is read.
+fn tell_length<R: Files, E: Write>(rt: &R, paths: &Paths, notes: &mut Notes<'_, E>) {
+    if !notes.are_asked() {
+        return;
+    }
+    if let Ok(found) = look_at(rt, paths.db.as_str()) {
+        let (path, length) = (paths.db.quoted(), found.len());
         notes.tell(&format_args!("{path}: {length} bytes"));
     }
 }

@@ -1,8 +1,9 @@
 //! What a survey of a database finds, as its log has it.
 use crate::metered::{Metered, db_metered};
 use crate::opening::open_all;
+use crate::sources::{Before, Watch, before_of, standing, wait_for};
 use sqfacts::{Front, NoteWriter, Notes, Readings, Refusal, unchanged};
-use sqopen::{Count, OpenedFile, Paths, readings_of, time_to_wait, watched};
+use sqopen::{Count, OpenedFile, Paths, readings_of, watched};
 use sqshown::{Contents, Found, asked_of, read_ahead, survey_files};
 use sqview::{FileBytes, ReadAhead};
 use sqwords::Options;
@@ -82,24 +83,27 @@ fn is_damaged<F>(found: &Result<Found<F>, Refusal>) -> bool {
 pub(crate) fn settled_survey<'a, R: Files + AllocGlobal + Clock, M: Count, E: Write>(
     rt: &R,
     paths: &'a Paths,
-    options: Options,
+    of: (Options, Watch),
     meter: &'a M,
     notes: &mut Notes<'_, E>,
 ) -> Result<FoundFiles<'a, R::File, M>, Refusal>
 where
     R::File: FileExt,
 {
-    let before = readings_of(rt, paths, false, notes)?;
-    let wait = time_to_wait(rt, &before);
+    let (options, watch) = of;
+    let before = before_of(rt, paths, watch, false, notes)?;
+    let wait = wait_for(rt, &before);
     let found = surveyed_now(rt, paths, options, meter, notes);
     let front = front_of(&found);
-    let found = watched(rt, paths, &before, front, found, notes);
-    if wait.is_zero() || !is_damaged(&found) {
-        return found;
+    let found = standing(rt, paths, &before, front, found, notes);
+    match before {
+        Some(Before::Dated(before)) if !wait.is_zero() && is_damaged(&found) => {
+            drop(found);
+            thread::sleep(rt, wait);
+            surveyed_again(rt, paths, options, &before, meter, notes)
+        }
+        _ => found,
     }
-    drop(found);
-    thread::sleep(rt, wait);
-    surveyed_again(rt, paths, options, &before, meter, notes)
 }
 
 /// What a survey of files finds now, of which no note is written.

@@ -14,7 +14,8 @@ use Rattle.sqfacts.specs.Fronts.{IsFrontOf, IsLogFront}
 use Rattle.sqfacts.specs.declared.fronts.Front.{Front}
 use Rattle.sqshown.specs.Fronts.{IsShownFront, IsAskedFront}
 use Rattle.sqshown.specs.internal.LogsShown.{IsShownLog}
-use Rattle.sqshown.specs.Views.{AskedAnswer, AskedShows}
+use Rattle.sqview.specs.declared.view_error.ViewError.TheVariants.{Unread}
+use Rattle.sqshown.specs.Views.{AskedAnswer, AskedRefused, AskedShows}
 use Rattle.sqshown.specs.declared.logs.Shown.{Shown}
 use Rattle.sqshown.specs.declared.logs.Shown.TheVariants.{Neither, Refused, Journal}
 
@@ -61,6 +62,11 @@ none_shown limits wal journal shown which is = ⊎_elim
     (λ rest. ⊎_elim
     (λ refused. let s = subst (λ (x : Shown). IsShownLog limits wal journal x) refused is in headless_shown wal journal s.0 (refused_headless wal s.1.0 s.1.1.1))
     (λ hot. let s = subst (λ (x : Shown). IsShownLog limits wal journal x) hot.1 is in hot_shown wal journal s.0 s.2) rest) which
+
+-- files that are given are read
+pub asked_read : (limits : Bounds) (at : Option ℕ) (db wal journal : List ℕ) → AskedRefused limits at db wal journal Unread → ⊥
+asked_read limits None db wal journal unread = unread
+asked_read limits (Some m) db wal journal unread = unread
 
 module _ {F : Type 0} (limits : Bounds) (bytes : F → List ℕ) (db wal journal : List ℕ) (v : View F) where
   shown_front : (o : Option Front) → AskedAnswer limits bytes None db wal journal (Ok v) → IsFrontOf v.front v.page_size o → IsShownFront wal journal o

@@ -2,15 +2,16 @@
 use Rattle.std.proofs.Common.{◌≡◌, Bool, ℕ, ◌≤◌, List, [], length, refl, sym, subst, inl, inr}
 use Rattle.std.specs.Prelude.{Option, None, Some, Result, Ok, Err, IfOk, IfErr}
 use Rattle.sqval.specs.Limits.{Bounds}
+use Rattle.sqjournal.specs.Journal.{IsHot}
 use Rattle.sqview.specs.At.{ViewsAt}
 use Rattle.sqview.specs.LogView.{Views, StandsAt, IsAlone, pages_of}
-use Rattle.sqview.specs.Origins.{AreFramePlaces}
+use Rattle.sqview.specs.Origins.{AreFramePlaces, AreJournalPlaces}
 use Rattle.sqview.specs.Shapes.{Shape, shape_of}
 use Rattle.sqview.specs.declared.view.View.{View}
 use Rattle.sqview.specs.declared.view_error.ViewError.{ViewError}
 use Rattle.sqview.specs.declared.view_error.ViewError.TheVariants as views
 use Rattle.sqfacts.specs.declared.outcome.Refusal.{Refusal}
-use Rattle.sqfacts.specs.declared.outcome.Refusal.TheVariants.{FileFailed, AutoVacuum, NoSuchPage, NoMemory}
+use Rattle.sqfacts.specs.declared.outcome.Refusal.TheVariants.{AutoVacuum, NoSuchPage, NoMemory}
 use Rattle.sqshown.specs.Found.{IsFoundOf, IsUnfound}
 use Rattle.sqshown.specs.internal.Found.{found_without, pages_in, IsFoundIn, IsUnfoundIn}
 use Rattle.sqshown.specs.Pages.{IsSurveyed}
@@ -20,7 +21,7 @@ use Rattle.sqshown.specs.declared.contents.Contents.{Contents}
 use Rattle.sqshown.specs.declared.records.Records.{Records}
 use Rattle.sqshown.specs.declared.surveys.Found.{Found}
 use Rattle.sqshown.specs.declared.surveys.Found.TheVariants.{Pages, Nothing}
-use Rattle.sqshown.proofs.AskedFronts.{shows_asked}
+use Rattle.sqshown.proofs.AskedFronts.{asked_read, shows_asked}
 
 module _ {F : Type 0} (limits : Bounds) (bytes : F → List ℕ) (db wal journal : List ℕ) (v now : View F) (same : shape_of bytes now ≡ shape_of bytes v) where
   -- a view that shows the same is the one that is asked for, too
@@ -35,6 +36,7 @@ module _ {F : Type 0} (limits : Bounds) (bytes : F → List ℕ) (db wal journal
     unplaced = subst (λ (s : Shape). IsAlone wal journal → s.places ≡ []) (sym same) is.unplaced;
     placed = subst (λ (s : Shape). (¬ IsAlone wal journal) → length s.places ≡ s.count) (sym same) is.placed;
     framed = subst (λ (s : Shape). 1 ≤ s.front → AreFramePlaces s.page_size wal s.front s.count s.places) (sym same) is.framed;
+    recorded = subst (λ (s : Shape). IsHot journal → AreJournalPlaces journal s.count s.places) (sym same) is.recorded;
   }
   same_view (Some m) is = record {
     shows = subst (λ (s : Shape). ViewsAt m s.page_size db wal journal (pages_in s)) (sym same) is.shows;
@@ -62,7 +64,7 @@ module _ {F : Type 0} (maps : Bool) (limits : Bounds) (bytes : F → List ℕ) (
   refused_of_none (views.Header fault) refused = tt
   refused_of_none views.TwoLogs refused = refused
   refused_of_none views.TooLarge refused = inr refused
-  refused_of_none views.Unread refused = tt
+  refused_of_none views.Unread refused = absurd (asked_read limits at files.db files.wal files.journal refused)
   refused_of_none views.NoMemory refused = tt
   refused_of_none views.NoSuchCommit refused = refused
 
@@ -80,7 +82,6 @@ module _ {F : Type 0} (maps : Bool) (limits : Bounds) (bytes : F → List ℕ) (
   unfound_of_view : (refusal : Refusal) → IsUnfoundIn maps (shape_of bytes v) refusal → IsUnfound maps limits at files refusal
   unfound_of_view NoSuchPage none = (v.page_size, pages_of bytes v, shows_asked limits bytes files.db files.wal files.journal v at asked, none)
   unfound_of_view AutoVacuum vacuum = (v.page_size, pages_of bytes v, shows_asked limits bytes files.db files.wal files.journal v at asked, vacuum)
-  unfound_of_view FileFailed failed = tt
   unfound_of_view NoMemory memory = tt
   unfound_of_view _ never = absurd never
 

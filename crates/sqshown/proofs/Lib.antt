@@ -1,10 +1,13 @@
+mod FaultsInOrder
 pub mod Findings
 mod RecordPlaces
-mod AskedFronts
-mod ShownFiles
+pub mod AskedFronts
+pub mod ShownFiles
 mod CountedLogs
 mod FoundFiles
 mod ElementsInOrder
 mod LinesOfPages
 mod WrittenLogs
 mod NamesOfTrees
+mod LinesBehind
+mod LastSegments

@@ -31,7 +31,7 @@ rise_placed z at [] rest rise = rise
 rise_placed z at (r ∷ rs) rest rise =
     (omega arith, rise_below (suc (at + 4)) (at + record_len z) (placed z (at + record_len z) rs ++ rest) (omega arith) (rise_placed z (at + record_len z) rs rest rise))
 
-next_above : (sector end : ℕ) → 0 < sector → end ≤ next_header sector end
+pub next_above : (sector end : ℕ) → 0 < sector → end ≤ next_header sector end
 next_above sector end some = omega arith
 
 rise_all : (z : Sizes) (from : ℕ) (ss : List Segment) → 0 < z.sector → Rise from (entries z from ss)
@@ -69,10 +69,16 @@ entry_is es n r is = ⊎_elim
     (λ some. let at = entry_some es n some in (omega (arith, some), sym at ∙ sym is)) (cases_eq n 0)
 
 -- the same, of one list of segments
-in_segments : (b : List ℕ) (ss : List Segment) (stop : Stop) → IsJournal b ss stop.at stop.why → (n : ℕ) (o : Option Record) → HasEntry b n o → o ≡ entry_of (entries (sizes_of b) 0 ss) n
+pub in_segments : (b : List ℕ) (ss : List Segment) (stop : Stop) → IsJournal b ss stop.at stop.why → (n : ℕ) (o : Option Record) → HasEntry b n o → o ≡ entry_of (entries (sizes_of b) 0 ss) n
 in_segments b ss stop is n o entry =
     let same = one_journal b entry.segments ss entry.stop.at stop.at entry.stop.why stop.why entry.is is in
     entry.value ∙ ap (λ l. entry_of (entries (sizes_of b) 0 l) n) same.0
+
+-- as many
+pub count_of : (b : List ℕ) (ss : List Segment) (stop : Stop) → IsJournal b ss stop.at stop.why → (n : ℕ) → HasCount b n → n ≡ length (entries (sizes_of b) 0 ss)
+count_of b ss stop is n counted =
+    let same = one_journal b counted.segments ss counted.stop.at stop.at counted.stop.why stop.why counted.is is in
+    counted.value ∙ ap (λ l. length (entries (sizes_of b) 0 l)) same.0
 
 pub entry_less : (b : List ℕ) (i j : ℕ) (e f : Record) → HasEntry b i (Some e) → HasEntry b j (Some f) → i < j → e.at < f.at
 entry_less b i j e f here there less =
@@ -154,12 +160,17 @@ sought_none b at low high s over n r entry same = ⊎_elim
 -- ---- a journal of which only a front was read
 
 -- what is said of the front is said of all of it
-read_says : (b : List ℕ) (replay : Replay) (read : HasRead b replay) (es : List Record) (stop : Stop) → Says read.front es stop → Says b es stop
+pub read_says : (b : List ℕ) (replay : Replay) (read : HasRead b replay) (es : List Record) (stop : Stop) → Says read.front es stop → Says b es stop
 read_says b replay read es stop says = ⊎_elim
     (λ (whole : read.more ≡ []). subst (λ (l : List ℕ). Says l es stop) (sym (read.split ∙ ap (λ l. read.front ++ l) whole ∙ append-nil read.front)) says)
     (λ settled. subst (λ (l : List ℕ). Says l es stop) (sym read.split) (settled read.more es stop says)) read.rest
 
-front_entry : (b : List ℕ) (replay : Replay) (read : HasRead b replay) (n : ℕ) (o : Option Record) → HasEntry read.front n o → HasEntry b n o
+pub front_count : (b : List ℕ) (replay : Replay) (read : HasRead b replay) (n : ℕ) → HasCount read.front n → HasCount b n
+front_count b replay read n counted =
+    let says = read_says b replay read (entries (sizes_of read.front) 0 counted.segments) counted.stop (record { segments = counted.segments; is = counted.is; records = refl }) in
+    record { segments = says.segments; stop = counted.stop; is = says.is; value = counted.value ∙ ap (λ l. length l) (sym says.records) }
+
+pub front_entry : (b : List ℕ) (replay : Replay) (read : HasRead b replay) (n : ℕ) (o : Option Record) → HasEntry read.front n o → HasEntry b n o
 front_entry b replay read n o entry =
     let says = read_says b replay read (entries (sizes_of read.front) 0 entry.segments) entry.stop (record { segments = entry.segments; is = entry.is; records = refl }) in
     record { segments = says.segments; stop = entry.stop; is = says.is; value = entry.value ∙ ap (λ l. entry_of l n) (sym says.records) }

@@ -11,7 +11,7 @@ use Rattle.sqview.specs.declared.view_error.ViewError.TheVariants as views
 use Rattle.sqfacts.specs.Fronts.{IsFrontOf}
 use Rattle.sqfacts.specs.declared.fronts.Front.{Front}
 use Rattle.sqfacts.specs.declared.outcome.Refusal.{Refusal}
-use Rattle.sqfacts.specs.declared.outcome.Refusal.TheVariants.{TwoLogs, TooLarge, FileFailed, AutoVacuum, NoSuchPage, NoSuchCommit, NoMemory}
+use Rattle.sqfacts.specs.declared.outcome.Refusal.TheVariants.{TwoLogs, TooLarge, AutoVacuum, NoSuchPage, NoSuchCommit, NoMemory}
 use Rattle.sqshown.specs.Pages.{IsSurveyed, IsOrdered, IsUnsurveyed}
 use Rattle.sqshown.specs.Records.{AreRecordsOf}
 use Rattle.sqshown.specs.Views.{AskedAnswer, AskedShows, AskedRefused}
@@ -50,8 +50,8 @@ IsFoundOf maps limits bytes at files (Nothing error) =
     ((error.page ≡ 1) × AskedRefused limits at files.db files.wal files.journal (views.Header error.fault))
     ⊎ ((size : ℕ) × (d : Database) × AskedShows at size files.db files.wal files.journal d × IsSurveyed maps d size (Err error))
 
--- Why nothing is found of files: what refuses their view or their journal, or their database has pointer maps or no page;
--- or memory or a file gave out.
+-- Why nothing is found of files that are given: what refuses their view or their journal, or their database has pointer
+-- maps or no page; or memory ran out.
 abbrev pub IsUnfound : (maps : Bool) → (limits : Bounds) → (at : Option ℕ) → (files : Contents (List ℕ)) → Refusal → Type 0
 IsUnfound maps limits at files TwoLogs = AskedRefused limits at files.db files.wal files.journal views.TwoLogs
 IsUnfound maps limits at files NoSuchCommit = AskedRefused limits at files.db files.wal files.journal views.NoSuchCommit
@@ -59,6 +59,5 @@ IsUnfound maps limits at files TooLarge =
     (IsHot files.journal × (2 ^ 40 < length files.journal)) ⊎ AskedRefused limits at files.db files.wal files.journal views.TooLarge
 IsUnfound maps limits at files AutoVacuum = (size : ℕ) × (d : Database) × AskedShows at size files.db files.wal files.journal d × IsUnsurveyed maps d size AutoVacuum
 IsUnfound maps limits at files NoSuchPage = (size : ℕ) × (d : Database) × AskedShows at size files.db files.wal files.journal d × ¬ IsPage d 1
-IsUnfound maps limits at files FileFailed = Unit {0}
 IsUnfound maps limits at files NoMemory = Unit {0}
 IsUnfound maps limits at files _ = ⊥

@@ -1,3 +1,4 @@
+pub mod Behind
 pub mod Contents
 pub mod Errors
 pub mod Found

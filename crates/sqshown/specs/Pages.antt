@@ -8,7 +8,7 @@ use Rattle.sqcheck.specs.Stands.{StandsWith}
 use Rattle.sqcheck.specs.Surveys.{FindsCleanWith, FindsDamagedWith, SurveyRefusedWith}
 use Rattle.sqcheck.specs.declared.survey.Survey.{Survey}
 use Rattle.sqfacts.specs.declared.outcome.Refusal.{Refusal}
-use Rattle.sqfacts.specs.declared.outcome.Refusal.TheVariants.{FileFailed, AutoVacuum, NoMemory}
+use Rattle.sqfacts.specs.declared.outcome.Refusal.TheVariants.{AutoVacuum, NoMemory}
 
 -- A survey of these pages, of which each has one role, or the fault for which they can't be walked over; `maps`: pointer
 -- maps are judged, as `check_with` does.
@@ -20,9 +20,8 @@ IsSurveyed maps d size (Err e) = SurveyRefusedWith maps d size e.fault e.page
 abbrev pub IsOrdered : Survey → Type 0
 IsOrdered survey = IsNonDecreasingBy (λ (e : CheckError). e.page) survey.faults.items
 
--- Why there is no survey: the database has pointer maps, or memory or the source gave out.
+-- Why there is no survey of pages that are given: the database has pointer maps, or memory ran out.
 abbrev pub IsUnsurveyed : (maps : Bool) → Database → (size : ℕ) → Refusal → Type 0
 IsUnsurveyed maps d size AutoVacuum = (p : ℕ) × StandsWith maps d size faults.AutoVacuum p
-IsUnsurveyed maps d size FileFailed = Unit {0}
 IsUnsurveyed maps d size NoMemory = Unit {0}
 IsUnsurveyed maps d size _ = ⊥

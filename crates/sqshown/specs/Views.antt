@@ -4,12 +4,15 @@ use Rattle.sqval.specs.Limits.{Bounds}
 use Rattle.sqval.specs.Database.{Database}
 use Rattle.sqview.specs.At.{ViewsAt, AtRefusedWithin, AtAnswerWithin}
 use Rattle.sqview.specs.LogView.{Views, ViewRefusedWithin, ViewAnswerWithin}
-use Rattle.sqview.specs.Verdicts.{IsFilesVerdict, IsFilesVerdictAt}
+use Rattle.sqview.specs.Verdicts.{IsFilesVerdict, IsFilesVerdictAt, IsHeadlessWithin, IsHeadlessAtWithin, IsUnjudgedWith}
+use Rattle.sqview.specs.declared.judge_error.JudgeError.TheVariants as judgments
 use Rattle.sqview.specs.declared.verdict.Verdict.{Verdict}
 use Rattle.sqview.specs.declared.view.View.{View}
 use Rattle.sqview.specs.declared.view_error.ViewError.{ViewError}
+use Rattle.sqview.specs.declared.view_error.ViewError.TheVariants as views
 use Rattle.sqfacts.specs.Refusals.{refusal_of}
 use Rattle.sqfacts.specs.declared.outcome.Refusal.{Refusal}
+use Rattle.sqfacts.specs.declared.outcome.Refusal.TheVariants.{AutoVacuum, NoMemory, NoSuchCommit, TooLarge, TwoLogs}
 use Rattle.sqwords.specs.declared.requests.Options.{Options}
 use Rattle.sqshown.specs.Limits.{limits_named}
 
@@ -33,6 +36,20 @@ AskedShows (Some m) size db wal journal d = ViewsAt m size db wal journal d
 abbrev pub AskedRefused : (limits : Bounds) → (at : Option ℕ) → (db wal journal : List ℕ) → ViewError → Type 0
 AskedRefused limits None db wal journal error = ViewRefusedWithin limits db wal journal error
 AskedRefused limits (Some m) db wal journal error = AtRefusedWithin limits m db wal journal error
+
+-- the fault of the file's own header, which names no database there
+abbrev pub IsHeadless : (limits : Bounds) → (at : Option ℕ) → (db wal journal : List ℕ) → Verdict → Type 0
+IsHeadless limits None db wal journal verdict = IsHeadlessWithin limits db wal journal verdict
+IsHeadless limits (Some m) db wal journal verdict = IsHeadlessAtWithin limits m db wal journal verdict
+
+-- why nothing is found there: what refuses their view, or the database that they show isn't judged
+abbrev pub IsNotFound : (maps : Bool) → (limits : Bounds) → (at : Option ℕ) → (db wal journal : List ℕ) → Refusal → Type 0
+IsNotFound maps limits at db wal journal TwoLogs = AskedRefused limits at db wal journal views.TwoLogs
+IsNotFound maps limits at db wal journal TooLarge = AskedRefused limits at db wal journal views.TooLarge
+IsNotFound maps limits at db wal journal NoSuchCommit = AskedRefused limits at db wal journal views.NoSuchCommit
+IsNotFound maps limits at db wal journal AutoVacuum = (size : ℕ) × (d : Database) × AskedShows at size db wal journal d × IsUnjudgedWith maps d judgments.AutoVacuum
+IsNotFound maps limits at db wal journal NoMemory = Unit {0}
+IsNotFound maps limits at db wal journal _ = ⊥
 
 -- the same, as options ask for it and as the program refuses it
 abbrev pub IsUnasked : Options → (db wal journal : List ℕ) → Refusal → Type 0

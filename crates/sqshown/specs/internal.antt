@@ -1,4 +1,5 @@
 -- What no public clause reaches.
+pub mod Behind
 pub mod Found
 pub mod LogsShown
 pub mod Records

@@ -47,7 +47,7 @@ pub(crate) fn page_in<S: PageSource>(
         → MatchResult result (λ page. IsPage (S.pages source.old) number
         × (page.items ≡ page_at (S.pages source.old) number))
         (IsPageUnread (S.pages source.old) number) }
-    ensures same { KeepsPages S.pages S.size S.gives_pages source.old source.new }
+    ensures same { KeepsPages S.pages S.size S.reads_right S.gives_pages source.old source.new }
 {
     if number == 0 || number > source.count() {
         return Err(Refusal::NoSuchPage);
@@ -257,7 +257,7 @@ fn show_payload<S: PageSource, W: Write>(
     requires most { cell.now.usable ≤ S.size source.old }
     requires part { length cell.now.local.now ≤ payload_size cell.now }
     ensures refused { S.gives_pages source.old → IfErr result (IfRefused (λ refusal. refusal ≡ NoMemory)) }
-    ensures same { KeepsPages S.pages S.size S.gives_pages source.old source.new }
+    ensures same { KeepsPages S.pages S.size S.reads_right S.gives_pages source.old source.new }
 {
     if let Some(unfit) = payloads.known(cell.at) {
         return Ok(write_unfit(out, style, unfit)?);

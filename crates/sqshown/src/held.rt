@@ -31,7 +31,11 @@ impl<V: Seen, F: FileBytes> PageSource for Held<V, F> {
 
     ghost size = { λ held. held.view.page_size };
 
+    ghost reads_right = { λ held. F.reads_right held.view.db × F.reads_right held.view.log };
+
     ghost gives_pages = { λ held. F.gives_bytes held.view.db × F.gives_bytes held.view.log };
+
+    ghost right = { λ held gives. (F.right held.view.db gives.0, F.right held.view.log gives.1) };
 
     fn page_size(&self) -> PageSize {
         self.view.page_size()

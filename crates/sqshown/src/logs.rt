@@ -6,11 +6,13 @@ ghost use Rattle.sqval.specs.Limits.{Bounds};
 ghost use Rattle.sqwal.specs.Took.{TookWithin};
 ghost use Rattle.sqfacts.specs.Fronts.{IsLogFront};
 ghost use Rattle.sqfacts.specs.declared.outcome.Refusal.TheVariants.{NoMemory};
-ghost use Rattle.sqshown.specs.Contents.{AreGiven, KeepsBytes};
+ghost use Rattle.sqshown.specs.Behind.{IsWholeLogText};
+ghost use Rattle.sqshown.specs.Contents.{AreGiven, KeepsBytes, contents_of};
 ghost use Rattle.sqshown.specs.Fronts.{IsShownFront};
 ghost use Rattle.sqshown.specs.Limits.{limits_named};
 ghost use Rattle.sqshown.specs.Logs.{ReplayFound, ScanFound, IsUnreadLog};
-ghost use Rattle.sqshown.specs.LogsShown.{IsJournalText, IsLogFound, IsLogText, IsWalText, refused_text};
+ghost use Rattle.sqshown.specs.LogsShown.{IsCommitsText, IsJournalText, IsLogFound, IsLogText, IsTextOfCommits};
+ghost use Rattle.sqshown.specs.LogsShown.{IsWalText, refused_text};
 ghost use Rattle.sqshown.specs.internal.LogsShown.{IsWalShown, IsJournalShown, IsShownLog};
 ghost use Rattle.sqshown.specs.Errors.{IfRefused};
 
@@ -202,8 +204,13 @@ pub fn show_whole_log<F: FileBytes + Drop, W: Write>(
     options: Options,
     out: &mut W,
 ) -> Result<Option<Front>, ShowError>
-    ensures { AreGiven F.gives_bytes files.old
+    ensures front { AreGiven F.gives_bytes files.old
         → IfOk result (IsShownFront (F.bytes files.old.wal) (F.bytes files.old.journal)) }
+    ensures refused { AreGiven F.gives_bytes files.old → IfErr result
+        (IfRefused (IsUnreadLog (limits_named options.large) (F.bytes files.old.wal) (F.bytes files.old.journal))) }
+    ensures text { AreGiven F.gives_bytes files.old → OnOk result ((text : List ℕ)
+        × IsWholeLogText options (contents_of F.bytes files.old) text
+        × Appends (W.contents out.old) (W.contents out.new) text) }
 {
     let shown = show_counting(alloc, &mut files.wal, &mut files.journal, options, out)?;
     match show_behind(alloc, files, &shown, options.style, out) {
@@ -222,6 +229,8 @@ fn show_commits_of<W: Write>(
     ensures front { IfOk result (λ front. (most : ℕ) (wal : List ℕ) → TookWithin most wal scan.now
         → IsLogFront wal front) }
     ensures refused { IfErr result (IfRefused (λ refusal. refusal ≡ NoMemory)) }
+    ensures text { (most : ℕ) (wal : List ℕ) → TookWithin most wal scan.now → OnOk result ((text : List ℕ)
+        × IsTextOfCommits style most wal text × Appends (W.contents out.old) (W.contents out.new) text) }
 {
     let Ok(commits) = scan.commits(alloc) else {
         return Err(ShowError::Refused(Refusal::NoMemory));
@@ -245,16 +254,24 @@ pub fn show_commits<F: FileBytes, W: Write>(
         → IfOk result (IsShownFront (F.bytes wal.old) (F.bytes journal.old)) }
     ensures refused { F.gives_bytes wal.old → F.gives_bytes journal.old → IfErr result
         (IfRefused (IsUnreadLog (limits_named options.large) (F.bytes wal.old) (F.bytes journal.old))) }
+    ensures text { F.gives_bytes wal.old → F.gives_bytes journal.old → OnOk result ((text : List ℕ)
+        × IsCommitsText options (F.bytes wal.old) (F.bytes journal.old) text
+        × Appends (W.contents out.old) (W.contents out.new) text) }
 {
     let style = options.style;
     match log_in_use(wal, journal).map_err(Refusal::from)? {
         LogInUse::Wal => match scanned(alloc, limits_of(options), wal)? {
-            Ok(scan) => return show_commits_of(alloc, &scan, style, out),
-            Err(error) => write_refused(out, style, error)?,
+            Ok(scan) => show_commits_of(alloc, &scan, style, out),
+            Err(error) => {
+                write_refused(out, style, error)?;
+                Ok(None)
+            }
         },
-        LogInUse::Neither | LogInUse::Journal(_) => write_none(out, style, "commits")?,
+        LogInUse::Neither | LogInUse::Journal(_) => {
+            write_none(out, style, "commits")?;
+            Ok(None)
+        }
     }
-    Ok(None)
 }
 
 /// What a report says of the log that counts.

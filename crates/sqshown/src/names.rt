@@ -1,6 +1,6 @@
 //! The names of a database's trees (fileformat2, 2.6).
 ghost use Rattle.std.specs.Prelude.{◌≡◌, ◌≢◌, ◌<◌, ◌≤◌, ℕ, length, slice_get, string_bytes, IfErr, IfNone, IfOk};
-ghost use Rattle.std.specs.Prelude.{IfSome, IsSome, OnOk};
+ghost use Rattle.std.specs.Prelude.{◌↔◌, ◌+◌, IfSome, IsNone, IsSome, OnOk};
 ghost use Rattle.sqshown.specs.declared.names.Name.{Name};
 ghost use Rattle.std.specs.List.Sorted.{IsNonDecreasingBy};
 ghost use Rattle.sqval.specs.PageSize.{IsPageSize};
@@ -13,7 +13,7 @@ ghost use Rattle.sqpage.specs.Source.{KeepsPages};
 use crate::cells::{page_in, usable_size};
 use sqcheck::{Role, Survey};
 use sqfacts::{Refusal, is_unsound};
-use sqpage::{BtreePage, Cell, Fault, Kind, PageSource, payload};
+use sqpage::{BtreePage, Cell, Fault, Kind, PageSource, links_of, payload};
 use sqval::{Record, Value};
 use std::alloc::Global;
 use std::str;
@@ -90,20 +90,47 @@ fn is_utf16(first: &[u8]) -> bool {
     matches!(first.get(56..60), Some([0, 0, 0, 2 | 3]))
 }
 
-/// The name that the row in a cell gives to a tree, if it gives one.
+/// What the rows of the schema are read with.
+#[derive(Drop)]
+struct Rows {
+    /// Room for a row.
+    content: Vec<u8>,
+    /// How many overflow pages may still be read. In a sound database each stands in one chain, so that there are
+    /// enough for all rows; where chains share pages, the rows behind those that use them up are not read.
+    left: u64,
+}
+
+impl Rows {
+    /// Takes so many overflow pages of those that may still be read. None where that is more.
+    fn take(&mut self, count: u64) -> Option<()>
+        ensures enough { IsSome result ↔ count ≤ self.old.left }
+        ensures left { IsSome result → self.new.left + count ≡ self.old.left }
+        ensures same { IsNone result → self.new.left ≡ self.old.left }
+    {
+        self.left = self.left.checked_sub(count)?;
+        Some(())
+    }
+}
+
+/// The name that the row in a cell gives to a tree, if it gives one. None also of a row with more overflow pages than
+/// may still be read.
 fn name_at<S: PageSource>(
     alloc: Global,
     source: &mut S,
     cell: &Cell<'_>,
-    content: &mut Vec<u8>,
+    rows: &mut Rows,
 ) -> Result<Option<Name>, Refusal>
     requires payload { IsSome cell.now.payload }
     requires least { 480 ≤ cell.now.usable }
     requires most { cell.now.usable ≤ S.size source.old }
     requires part { length cell.now.local.now ≤ payload_size cell.now }
     ensures refused { S.gives_pages source.old → IfErr result (λ refusal. refusal ≡ NoMemory) }
-    ensures same { KeepsPages S.pages S.size S.gives_pages source.old source.new }
+    ensures same { KeepsPages S.pages S.size S.reads_right S.gives_pages source.old source.new }
 {
+    if rows.take(links_of(cell)).is_none() {
+        return Ok(None);
+    }
+    let content = &mut rows.content;
     content.clear();
     if let Err(error) = payload(alloc, source, cell, content) {
         return match error.fault {
@@ -123,19 +150,19 @@ fn add_names<S: PageSource>(
     alloc: Global,
     source: &mut S,
     page: &BtreePage<'_>,
-    content: &mut Vec<u8>,
+    rows: &mut Rows,
     found: &mut Vec<Name>,
 ) -> Result<(), Refusal>
     requires { length page.now.used ≤ S.size source.old }
     ensures refused { S.gives_pages source.old → IfErr result (λ refusal. refusal ≡ NoMemory) }
-    ensures same { KeepsPages S.pages S.size S.gives_pages source.old source.new }
+    ensures same { KeepsPages S.pages S.size S.reads_right S.gives_pages source.old source.new }
 {
     for i in 0..page.len() {
         let cell = page.cell(i);
         if cell.payload.is_none() {
             continue;
         }
-        if let Some(name) = name_at(alloc, source, &cell, content)? {
+        if let Some(name) = name_at(alloc, source, &cell, rows)? {
             if found.push(name).is_err() {
                 return Err(Refusal::NoMemory);
             }
@@ -150,19 +177,19 @@ fn add_leaf<S: PageSource>(
     source: &mut S,
     number: u32,
     usable: u32,
-    content: &mut Vec<u8>,
+    rows: &mut Rows,
     found: &mut Vec<Name>,
 ) -> Result<(), Refusal>
     requires least { 480 ≤ usable }
     requires most { usable ≤ S.size source.old }
     ensures refused { S.gives_pages source.old → IsPage (S.pages source.old) number
         → IfErr result (λ refusal. refusal ≡ NoMemory) }
-    ensures same { KeepsPages S.pages S.size S.gives_pages source.old source.new }
+    ensures same { KeepsPages S.pages S.size S.reads_right S.gives_pages source.old source.new }
 {
     let bytes = page_in(alloc, source, number)?;
     match BtreePage::new(&bytes, number, usable) {
         Ok(page) if page.kind() == Kind::TableLeaf => {
-            add_names(alloc, source, &page, content, found)
+            add_names(alloc, source, &page, rows, found)
         }
         _ => Ok(()),
     }
@@ -186,7 +213,7 @@ pub(crate) fn names_in<S: PageSource>(
     survey: &Survey,
 ) -> Result<Names, Refusal>
     ensures refused { S.gives_pages source.old → IfErr result (IsPageUnread (S.pages source.old) 1) }
-    ensures same { KeepsPages S.pages S.size S.gives_pages source.old source.new }
+    ensures same { KeepsPages S.pages S.size S.reads_right S.gives_pages source.old source.new }
 {
     let mut found = Vec::new(alloc);
     let first = page_in(alloc, source, 1)?;
@@ -194,10 +221,13 @@ pub(crate) fn names_in<S: PageSource>(
     if is_utf16(&first) {
         return Ok(Names { found });
     }
-    let mut content = Vec::new(alloc);
+    let mut rows = Rows {
+        content: Vec::new(alloc),
+        left: u64::from(source.count()),
+    };
     for i in 0..source.count() {
         if has_rows(survey, i as usize) && !is_unsound(&survey.faults, i + 1) {
-            add_leaf(alloc, source, i + 1, usable, &mut content, &mut found)?;
+            add_leaf(alloc, source, i + 1, usable, &mut rows, &mut found)?;
         }
     }
     found.sort_by_key(|name| name.root)?;

@@ -115,7 +115,7 @@ fn survey_of<S: PageSource>(
         (S.size source.old)) }
     ensures refused { S.gives_pages source.old
         → IfErr result (IsUnsurveyed maps.pointer_maps (S.pages source.old) (S.size source.old)) }
-    ensures same { KeepsPages S.pages S.size S.gives_pages source.old source.new }
+    ensures same { KeepsPages S.pages S.size S.reads_right S.gives_pages source.old source.new }
 {
     let (error, found) = match survey_pages_with(alloc, source, maps) {
         Ok(survey) => match survey.answer {
@@ -143,7 +143,7 @@ fn sorted_survey<S: PageSource>(
     ensures ordered { IfOk result (λ found. IfOk found IsOrdered) }
     ensures refused { S.gives_pages source.old
         → IfErr result (IsUnsurveyed maps.pointer_maps (S.pages source.old) (S.size source.old)) }
-    ensures same { KeepsPages S.pages S.size S.gives_pages source.old source.new }
+    ensures same { KeepsPages S.pages S.size S.reads_right S.gives_pages source.old source.new }
 {
     match survey_of(alloc, source, maps)? {
         Ok(mut survey) => match survey.faults.sort_by_key(|error| error.page) {

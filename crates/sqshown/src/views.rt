@@ -1,11 +1,14 @@
 //! The view that is asked for, and what is found there.
-ghost use Rattle.std.specs.Prelude.{IfOk};
-ghost use Rattle.sqshown.specs.Views.{AskedAnswer, IsFound};
+ghost use Rattle.std.specs.Prelude.{◌≡◌, ◌⊎◌, Err, IfErr, IfOk, None, Ok};
+ghost use Rattle.sqfacts.specs.internal.Refusals.{refusal_of_judge};
+ghost use Rattle.sqview.specs.declared.judge_error.JudgeError.{JudgeError};
+ghost use Rattle.sqshown.specs.Fronts.{IsAskedFront};
+ghost use Rattle.sqshown.specs.Views.{AskedAnswer, IsFound, IsHeadless, IsNotFound};
 
 use sqcheck::Options as Maps;
 use sqfacts::{Front, Refusal};
 use sqval::Limits;
-use sqview::{FileBytes, Verdict, View, ViewError, judge_view_with, without_view};
+use sqview::{FileBytes, JudgeError, Verdict, View, ViewError, judge_view_with, without_view};
 use std::alloc::Global;
 
 /// The view of a file with its logs within limits, at a commit frame where one is named.
@@ -46,7 +49,21 @@ pub struct Asked {
     pub maps: Maps,
 }
 
-/// What is found of a file with its logs.
+/// What is found, or why nothing is, beside this front.
+fn as_found(front: Option<Front>, found: Result<Verdict, JudgeError>) -> Result<Finding, Refusal>
+    ensures ok { IfOk result (λ finding. (found ≡ Ok finding.verdict) × (finding.front ≡ front)) }
+    ensures err { IfErr result (λ refusal. (error : JudgeError) × (found ≡ Err error)
+        × (refusal ≡ refusal_of_judge error)) }
+{
+    match found {
+        Ok(verdict) => Ok(Finding { verdict, front }),
+        Err(error) => Err(Refusal::from(error)),
+    }
+}
+
+/// What is found of a file with its logs, and the front at which that view stands; none where the file's own header
+/// names no database. Refused as the view is, by `AutoVacuum` where pointer maps aren't asked for, and by `FileFailed`
+/// where a file could not be read.
 pub fn judged<F: FileBytes + Drop>(
     alloc: Global,
     asked: Asked,
@@ -54,22 +71,20 @@ pub fn judged<F: FileBytes + Drop>(
     wal: F,
     journal: F,
 ) -> Result<Finding, Refusal>
-    ensures { F.gives_bytes db × F.gives_bytes wal × F.gives_bytes journal → IfOk result (λ found.
+    ensures found { F.gives_bytes db × F.gives_bytes wal × F.gives_bytes journal → IfOk result (λ found.
         IsFound asked.maps.pointer_maps asked.limits asked.at (F.bytes db) (F.bytes wal) (F.bytes journal)
         found.verdict) }
+    ensures front { F.gives_bytes db × F.gives_bytes wal × F.gives_bytes journal → IfOk result (λ found.
+        IsAskedFront asked.at (F.bytes wal) (F.bytes journal) found.front ⊎ ((found.front ≡ None)
+        × IsHeadless asked.limits asked.at (F.bytes db) (F.bytes wal) (F.bytes journal) found.verdict)) }
+    ensures refused { F.gives_bytes db × F.gives_bytes wal × F.gives_bytes journal → IfErr result
+        (IsNotFound asked.maps.pointer_maps asked.limits asked.at (F.bytes db) (F.bytes wal) (F.bytes journal)) }
 {
     match view_of(alloc, asked.limits, db, wal, journal, asked.at) {
         Ok(mut view) => {
             let front = Front::of_view(&view);
-            let verdict = judge_view_with(alloc, &mut view, asked.maps)?;
-            Ok(Finding { verdict, front })
+            as_found(front, judge_view_with(alloc, &mut view, asked.maps))
         }
-        Err(error) => {
-            let verdict = without_view(error)?;
-            Ok(Finding {
-                verdict,
-                front: None,
-            })
-        }
+        Err(error) => as_found(None, without_view(error)),
     }
 }

@@ -6,6 +6,7 @@ use Rattle.std.specs.Cmp.Lexicographic.{bytes_decides, pointwise}
 use Rattle.std.proofs.lemmas.Option.{slice_get-map, slice_get-get_or, slice_get_within, get_or_from_slice_get, same_Some}
 use Rattle.std.proofs.lemmas.Bool.{cases_lt}
 use Rattle.std.proofs.lemmas.List.{length-map, drop-take, take-map, drop-map, drop_all, take_all}
+use Rattle.sqwords.specs.declared.words.Own.{Own}
 use Rattle.sqwords.specs.Line.{AreKnown, AreOptions, HasText, IsFile, IsKnown, IsPlain, StandsFree, TakesValue}
 
 -- word i
@@ -83,16 +84,16 @@ module _ (ws : List (Bor (List ℕ))) (i : ℕ) (d : Bor (List ℕ)) (lt : i < l
   joined_here name text is = text_there name (map (λ w. w.now) ws) text i (inr (at_word ws i d lt ∙ ap Some is))
 
 -- words of which one isn't known, and of which one more is
-pub unknown_there : (recovers : Bool) (ws : List (Bor (List ℕ))) (i : ℕ) (d : Bor (List ℕ)) → i < length ws → ¬ IsKnown recovers (get_or ws i d).now
-    → ¬ AreKnown recovers (map (λ w. w.now) ws)
-unknown_there recovers ws i d lt unknown known = unknown (known i (get_or ws i d).now (at_word ws i d lt))
+pub unknown_there : (own : Own) (ws : List (Bor (List ℕ))) (i : ℕ) (d : Bor (List ℕ)) → i < length ws → ¬ IsKnown own (get_or ws i d).now
+    → ¬ AreKnown own (map (λ w. w.now) ws)
+unknown_there own ws i d lt unknown known = unknown (known i (get_or ws i d).now (at_word ws i d lt))
 
-pub known_more : (recovers : Bool) (ws : List (Bor (List ℕ))) (i : ℕ) (d : Bor (List ℕ)) → i < length ws
-    → ((k : ℕ) (word : List ℕ) → k < i → slice_get (map (λ w. w.now) ws) k ≡ Some word → IsKnown recovers word)
-    → IsKnown recovers (get_or ws i d).now → (k : ℕ) (word : List ℕ) → k < i + 1 → slice_get (map (λ w. w.now) ws) k ≡ Some word → IsKnown recovers word
-known_more recovers ws i d lt before here k word below is = ⊎_elim (λ less. before k word less is)
+pub known_more : (own : Own) (ws : List (Bor (List ℕ))) (i : ℕ) (d : Bor (List ℕ)) → i < length ws
+    → ((k : ℕ) (word : List ℕ) → k < i → slice_get (map (λ w. w.now) ws) k ≡ Some word → IsKnown own word)
+    → IsKnown own (get_or ws i d).now → (k : ℕ) (word : List ℕ) → k < i + 1 → slice_get (map (λ w. w.now) ws) k ≡ Some word → IsKnown own word
+known_more own ws i d lt before here k word below is = ⊎_elim (λ less. before k word less is)
     (λ ge. let same : k ≡ i = omega arith in
-    let P : List ℕ → Type 0 = λ w. IsKnown recovers w in
+    let P : List ℕ → Type 0 = λ w. IsKnown own w in
     subst P (is_word ws i d word lt (ap (λ n. slice_get (map (λ w. w.now) ws) n) (sym same) ∙ is)) here)
     (cases_lt k i)
 

@@ -1,12 +1,12 @@
 -- What the options of a command are, and can't be.
 use Rattle.std.proofs.Common.{◌≡◌, ◌≢◌, ◌⊎◌, inl, inr, ⊎_elim, ℕ, List, Bor, get_or, sym, refl, ◌∙◌, ap, subst, arith}
-use Rattle.std.specs.Prelude.{Bool, true, false, not, Option, None, Some, is_some, codes, nat_eq, slice_get, MatchOption}
+use Rattle.std.specs.Prelude.{true, false, Option, None, Some, is_some, codes, nat_eq, slice_get, MatchOption}
 use Rattle.std.specs.Cmp.Lexicographic.{bytes_decides, pointwise}
 use Rattle.std.proofs.lemmas.Option.{none-some}
-use Rattle.sqwords.specs.Line.{AreAmiss, AreNoReport, AreOptions, Asks, AsksAt, AsksBesides, AsksNoPart, AsksNothing}
-use Rattle.sqwords.specs.Line.{AsksTo}
+use Rattle.sqwords.specs.Line.{AreAmiss, AreNoReport, AreNoRows, AreOptions, Asks, AsksAt, AsksBesides, AsksNoPart, AsksNothing}
+use Rattle.sqwords.specs.Line.{AsksText}
 use Rattle.sqwords.specs.Line.{HasNoText, HasText, IsFile, NamesOfLog}
-use Rattle.sqwords.specs.internal.Line.{IsReport}
+use Rattle.sqwords.specs.internal.Line.{AskNoRows, IsReport, IsRows}
 use Rattle.sqwords.specs.declared.requests.Options.{Options}
 use Rattle.sqwords.specs.declared.requests.Request.{Request}
 
@@ -35,12 +35,29 @@ pub no_recover : (command : List ℕ) → command ≡ codes "report" → command
 no_recover command report recover =
     let e : 112 ≡ 99 = ap (λ (l : List ℕ). get_or l 2 0) (sym report ∙ recover) in omega (arith, e)
 
+pub not_rows : (command : List ℕ) → command ≡ codes "show" → command ≢ codes "rows"
+not_rows command show rows =
+    let e : 115 ≡ 114 = ap (λ (l : List ℕ). get_or l 0 0) (sym show ∙ rows) in omega (arith, e)
+
+pub no_rows : (command : List ℕ) → command ≡ codes "report" → command ≢ codes "rows"
+no_rows command report rows =
+    let e : 101 ≡ 111 = ap (λ (l : List ℕ). get_or l 1 0) (sym report ∙ rows) in omega (arith, e)
+
+pub rows_no_check : (command : List ℕ) → command ≡ codes "rows" → command ≢ codes "check"
+rows_no_check command rows check =
+    let e : 114 ≡ 99 = ap (λ (l : List ℕ). get_or l 0 0) (sym rows ∙ check) in omega (arith, e)
+
+pub rows_no_recover : (command : List ℕ) → command ≡ codes "rows" → command ≢ codes "recover"
+rows_no_recover command rows recover =
+    let e : 111 ≡ 101 = ap (λ (l : List ℕ). get_or l 1 0) (sym rows ∙ recover) in omega (arith, e)
+
 pub report_amiss : (command : List ℕ) (options : List (List ℕ)) → command ≡ codes "report" → AreNoReport options
     → AreAmiss command options
 report_amiss command options is none = (
   (λ check. absurd (no_check command is check)),
   (λ recover. absurd (no_recover command is recover)),
   (λ _. none),
+  (λ rows. absurd (no_rows command is rows)),
   (λ show. absurd (not_report command show is)),
 )
 
@@ -56,12 +73,43 @@ report_asks words command file options o (Some request) is second named are besi
     let P : Request → Type 0 = λ r. Asks words r in
     subst P (sym same) (second ∙ ap Some is, named, (options, are, known, force, text, besides))
 
+pub rows_amiss : (command : List ℕ) (options : List (List ℕ)) → command ≡ codes "rows" → AreNoRows options
+    → AreAmiss command options
+rows_amiss command options is none = (
+  (λ check. absurd (rows_no_check command is check)),
+  (λ recover. absurd (rows_no_recover command is recover)),
+  (λ report. absurd (no_rows command report is)),
+  (λ _. none),
+  (λ show. absurd (not_rows command show is)),
+)
+
+-- the same of the options of `rows`
+pub rows_asks : (words : List (List ℕ)) (command : List ℕ) (file : Bor (List ℕ)) (options : List (List ℕ)) (o : Options)
+    (r : Option Request) → command ≡ codes "rows" → slice_get words 1 ≡ Some command → IsFile words file.now
+    → AreOptions words options → AsksBesides options o
+    → MatchOption r (AskNoRows options o) (IsRows options file o)
+    → MatchOption r (AsksNothing words command file.now) (Asks words)
+rows_asks words command file options o None is second named are besides none =
+    λ _ _. (
+      options,
+      are,
+      inr (rows_amiss command options is (elim none [
+        | inl unknown ↦ inl unknown
+        | inr (inl maps) ↦ inr (inl (besides.pointer_maps.0 maps))
+        | inr (inr form) ↦ inr (inr form)
+      ])),
+    )
+rows_asks words command file options o (Some request) is second named are besides (known, plain, (table, form, of, asks, same)) =
+    let P : Request → Type 0 = λ r. Asks words r in
+    subst P (sym same) (second ∙ ap Some is, named, (options, are, known, besides, of, asks, plain))
+
 pub show_amiss : (command : List ℕ) (options : List (List ℕ)) (at : Option ℕ) → command ≡ codes "show" → AsksAt options at
     → AsksNoPart options ⊎ NamesOfLog options at → AreAmiss command options
 show_amiss command options at is asks amiss = (
   (λ check. absurd (not_check command is check)),
   (λ recover. absurd (not_recover command is recover)),
   (λ report. absurd (not_report command is report)),
+  (λ rows. absurd (not_rows command is rows)),
   (λ show. ⊎_elim (λ none. inl none) (λ of. inr (at, asks, of)) amiss),
 )
 
@@ -80,11 +128,11 @@ at_none (Some n) e = absurd (let f : false ≡ true = e in cc)
 -- ---- a file that is to be made
 
 pub asks_to : (options : List (List ℕ)) (to : Option (Bor (List ℕ)))
-    → MatchOption to (HasNoText (codes "--to") options) (λ text. HasText (codes "--to") options text.now) → AsksTo options to
+    → MatchOption to (HasNoText (codes "--to") options) (λ text. HasText (codes "--to") options text.now) → AsksText (codes "--to") options to
 asks_to options None asks = asks
 asks_to options (Some x) asks = asks
 
-pub no_to : (options : List (List ℕ)) (to : Option (Bor (List ℕ))) → is_some to ≡ false → AsksTo options to → HasNoText (codes "--to") options
+pub no_to : (options : List (List ℕ)) (to : Option (Bor (List ℕ))) → is_some to ≡ false → AsksText (codes "--to") options to → HasNoText (codes "--to") options
 no_to options None e asks = asks
 no_to options (Some x) e asks = absurd (let f : true ≡ false = e in cc)
 

@@ -1,5 +1,5 @@
 -- What the words of a command line ask for.
-use Rattle.std.specs.Prelude.{◌≡◌, ◌≢◌, ◌⊎◌, ◌↔◌, Bool, true, false, IsTrue, Option, None, Some, ℕ, suc, ◌-◌, ◌^◌, ◌<◌, ◌≤◌}
+use Rattle.std.specs.Prelude.{◌≡◌, ◌≢◌, ◌⊎◌, ◌↔◌, false, IsTrue, Option, None, Some, ℕ, suc, ◌-◌, ◌^◌, ◌<◌, ◌≤◌}
 use Rattle.std.specs.Prelude.{List, [], ◌++◌, length, take, drop, slice_get, codes}
 use Rattle.std.specs.Borrow.{Bor}
 use Rattle.std.specs.List.{Contains}
@@ -10,9 +10,13 @@ use Rattle.sqwords.specs.declared.requests.SuperJournal.{SuperJournal}
 use Rattle.sqwords.specs.declared.requests.SuperJournal.TheVariants.{Present, Gone}
 use Rattle.sqwords.specs.declared.requests.Style.{Style}
 use Rattle.sqwords.specs.declared.requests.Style.TheVariants.{Lines, Json}
+use Rattle.sqwords.specs.declared.requests.RowForm.{RowForm}
+use Rattle.sqwords.specs.declared.requests.RowForm.TheVariants.{Json as AsJson, Csv, Sql}
 use Rattle.sqwords.specs.declared.requests.Options.{Options}
 use Rattle.sqwords.specs.declared.requests.Request.{Request}
-use Rattle.sqwords.specs.declared.requests.Request.TheVariants.{Show, Check, Recover, Report, Version}
+use Rattle.sqwords.specs.declared.requests.Request.TheVariants.{Show, Check, Rows, Recover, Report, Version}
+use Rattle.sqwords.specs.declared.words.Own.{Own}
+use Rattle.sqwords.specs.declared.words.Own.TheVariants.{Checks, Recovers, Prints}
 
 -- the words behind the command, up to a "--"
 pub record AreOptions (words options : List (List ℕ)) : Type 0 where
@@ -83,14 +87,19 @@ IsCommon word = (word ≡ codes "-v") ⊎ (word ≡ codes "--verbose") ⊎ (word
     ⊎ (word ≡ codes "--pointer-maps") ⊎ (word ≡ codes "--super-journal=present") ⊎ (word ≡ codes "--super-journal=gone")
     ⊎ IsNamed (codes "--at") word
 
--- a word behind `check`, or behind `recover`, that is no option, or one of the command's
-abbrev pub IsKnown : (recovers : Bool) → (word : List ℕ) → Type 0
-IsKnown recovers word = IsPlain word ⊎ IsCommon word
-    ⊎ (IsTrue recovers × ((word ≡ codes "--force") ⊎ IsNamed (codes "--to") word))
+-- a word that is an option of this command and not of each: of `check`, of `recover` and `report`, or of `rows`
+abbrev pub IsOwn : Own → (word : List ℕ) → Type 0
+IsOwn Checks word = word ≡ codes "--deep"
+IsOwn Recovers word = (word ≡ codes "--force") ⊎ IsNamed (codes "--to") word
+IsOwn Prints word = (word ≡ codes "--csv") ⊎ (word ≡ codes "--sql") ⊎ IsNamed (codes "--table") word
+
+-- a word behind such a command that is no option, or one of the command's
+abbrev pub IsKnown : Own → (word : List ℕ) → Type 0
+IsKnown own word = IsPlain word ⊎ IsCommon word ⊎ IsOwn own word
 
 -- all are
-abbrev pub AreKnown : (recovers : Bool) → (words : List (List ℕ)) → Type 0
-AreKnown recovers words = (i : ℕ) (word : List ℕ) → slice_get words i ≡ Some word → IsKnown recovers word
+abbrev pub AreKnown : Own → (words : List (List ℕ)) → Type 0
+AreKnown own words = (i : ℕ) (word : List ℕ) → slice_get words i ≡ Some word → IsKnown own word
 
 -- what the options say of the super-journal
 abbrev pub AsksOf : (options : List (List ℕ)) → Option SuperJournal → Type 0
@@ -137,18 +146,34 @@ MayBeAt (Log all) frame = frame ≡ None
 MayBeAt Commits frame = frame ≡ None
 MayBeAt Pages frame = Unit {0}
 
--- the file that a recovery is to make, if one is named
-abbrev pub AsksTo : (options : List (List ℕ)) → Option (Bor (List ℕ)) → Type 0
-AsksTo options None = HasNoText (codes "--to") options
-AsksTo options (Some to) = HasText (codes "--to") options to.now
+-- the text that the option of this name gives, if it is there: the file that a recovery is to make, the table
+abbrev pub AsksText : (name : List ℕ) → (options : List (List ℕ)) → Option (Bor (List ℕ)) → Type 0
+AsksText name options None = HasNoText name options
+AsksText name options (Some text) = HasText name options text.now
+
+-- how they ask for rows, which are lines of comma-separated values where they don't say it
+abbrev pub AsksForm : (options : List (List ℕ)) → RowForm → Type 0
+AsksForm options AsJson = Contains options (codes "--json") × (¬ Contains options (codes "--csv")) × (¬ Contains options (codes "--sql"))
+AsksForm options Csv = (¬ Contains options (codes "--json")) × (¬ Contains options (codes "--sql"))
+AsksForm options Sql = (¬ Contains options (codes "--json")) × (¬ Contains options (codes "--csv")) × Contains options (codes "--sql")
+
+-- they ask for two forms
+abbrev pub AsksNoForm : (options : List (List ℕ)) → Type 0
+AsksNoForm options = (Contains options (codes "--json") × Contains options (codes "--csv"))
+    ⊎ (Contains options (codes "--json") × Contains options (codes "--sql"))
+    ⊎ (Contains options (codes "--csv") × Contains options (codes "--sql"))
+
+-- they can't be those of `rows`: another one is among them, or pointer maps, or two forms
+abbrev pub AreNoRows : (options : List (List ℕ)) → Type 0
+AreNoRows options = (¬ AreKnown Prints options) ⊎ Contains options (codes "--pointer-maps") ⊎ AsksNoForm options
 
 -- they can't be a report's: another one is among them, or the file to be made isn't named
 abbrev pub AreNoReport : (options : List (List ℕ)) → Type 0
-AreNoReport options = (¬ AreKnown true options) ⊎ Contains options (codes "--force") ⊎ HasNoText (codes "--to") options
+AreNoReport options = (¬ AreKnown Recovers options) ⊎ Contains options (codes "--force") ⊎ HasNoText (codes "--to") options
 
 -- a word behind which a value stands
 abbrev pub TakesValue : (word : List ℕ) → Type 0
-TakesValue word = (word ≡ codes "--page") ⊎ (word ≡ codes "--to") ⊎ (word ≡ codes "--at")
+TakesValue word = (word ≡ codes "--page") ⊎ (word ≡ codes "--to") ⊎ (word ≡ codes "--at") ⊎ (word ≡ codes "--table")
 
 -- a word behind the command that stands for itself: behind a "--", or else plain and no option's value
 pub record StandsFree (words : List (List ℕ)) (i : ℕ) (word : List ℕ) : Type 0 where
@@ -161,28 +186,37 @@ pub record StandsFree (words : List (List ℕ)) (i : ℕ) (word : List ℕ) : Ty
 abbrev pub IsFile : (words : List (List ℕ)) → (file : List ℕ) → Type 0
 IsFile words file = (i : ℕ) × StandsFree words i file × ((j : ℕ) (other : List ℕ) → StandsFree words j other → j ≡ i)
 
+-- a word that asks for the version
+abbrev pub IsVersion : (word : List ℕ) → Type 0
+IsVersion word = (word ≡ codes "--version") ⊎ (word ≡ codes "-V")
+
 -- the first word behind the program's name asks for the version
 abbrev pub AsksVersion : List (List ℕ) → Type 0
-AsksVersion words = slice_get words 1 ≡ Some (codes "--version")
+AsksVersion words = (word : List ℕ) × (slice_get words 1 ≡ Some word) × IsVersion word
 
 -- The second word is the command, the file stands behind it, and the options before a "--" say the rest, each exactly where
--- it stands; behind `check`, `recover` and `report` there are no others. A commit goes with no part of the whole log, and
--- with a recovery only where that makes another file, and pointer maps with none; a report makes one.
+-- it stands; behind `check`, `rows`, `recover` and `report` there are no others. A commit goes with no part of the whole log,
+-- and with a recovery only where that makes another file, and pointer maps with none and with no rows; a report makes one.
 abbrev pub Asks : List (List ℕ) → Request → Type 0
 Asks words (Show file part o) =
     (slice_get words 1 ≡ Some (codes "show")) × IsFile words file.now
     × ((options : List (List ℕ)) × AreOptions words options × AsksPart options part × AsksBesides options o × MayBeAt part o.at)
-Asks words (Check file o) =
+Asks words (Check file deep o) =
     (slice_get words 1 ≡ Some (codes "check")) × IsFile words file.now
-    × ((options : List (List ℕ)) × AreOptions words options × AreKnown false options × AsksBesides options o)
+    × ((options : List (List ℕ)) × AreOptions words options × AreKnown Checks options × AsksBesides options o
+    × (IsTrue deep ↔ Contains options (codes "--deep")))
+Asks words (Rows file table form o) =
+    (slice_get words 1 ≡ Some (codes "rows")) × IsFile words file.now
+    × ((options : List (List ℕ)) × AreOptions words options × AreKnown Prints options × AsksBesides options o
+    × AsksText (codes "--table") options table × AsksForm options form × (o.pointer_maps ≡ false))
 Asks words (Recover file to force o) =
     (slice_get words 1 ≡ Some (codes "recover")) × IsFile words file.now
-    × ((options : List (List ℕ)) × AreOptions words options × AreKnown true options × AsksBesides options o
-    × (IsTrue force ↔ Contains options (codes "--force")) × AsksTo options to × (to ≡ None → o.at ≡ None)
+    × ((options : List (List ℕ)) × AreOptions words options × AreKnown Recovers options × AsksBesides options o
+    × (IsTrue force ↔ Contains options (codes "--force")) × AsksText (codes "--to") options to × (to ≡ None → o.at ≡ None)
     × (o.pointer_maps ≡ false))
 Asks words (Report file to o) =
     (slice_get words 1 ≡ Some (codes "report")) × IsFile words file.now
-    × ((options : List (List ℕ)) × AreOptions words options × AreKnown true options
+    × ((options : List (List ℕ)) × AreOptions words options × AreKnown Recovers options
     × (¬ Contains options (codes "--force")) × HasText (codes "--to") options to.now × AsksBesides options o)
 Asks words Version = AsksVersion words
 
@@ -192,13 +226,14 @@ NamesOfLog options frame = (frame ≢ None) × (Contains options (codes "--log")
 
 -- what the options of a command can't be: those of `show` ask for no part, or for one that has no commits; those of `check`
 -- and `recover` have another among them; those of `recover` name pointer maps, or a commit and no file to be made; those of
--- `report` have another among them, or name no file to be made
+-- `report` have another among them, or name no file to be made; those of `rows` as above
 abbrev pub AreAmiss : (command : List ℕ) → (options : List (List ℕ)) → Type 0
 AreAmiss command options =
-    (command ≡ codes "check" → ¬ AreKnown false options)
-    × (command ≡ codes "recover" → (¬ AreKnown true options) ⊎ Contains options (codes "--pointer-maps")
+    (command ≡ codes "check" → ¬ AreKnown Checks options)
+    × (command ≡ codes "recover" → (¬ AreKnown Recovers options) ⊎ Contains options (codes "--pointer-maps")
     ⊎ (((frame : Option ℕ) → AsksAt options frame → frame ≢ None) × HasNoText (codes "--to") options))
     × (command ≡ codes "report" → AreNoReport options)
+    × (command ≡ codes "rows" → AreNoRows options)
     × (command ≡ codes "show" → AsksNoPart options
     ⊎ ((frame : Option ℕ) × AsksAt options frame × NamesOfLog options frame))
 

@@ -33,6 +33,17 @@ pub enum Style {
     Json,
 }
 
+/// How rows are printed.
+#[derive(Clone, Copy, Debug, PartialEq, Eq)]
+pub enum RowForm {
+    /// As a JSON object a row.
+    Json,
+    /// As comma-separated values, a line a row.
+    Csv,
+    /// As INSERTs of SQL.
+    Sql,
+}
+
 /// What each command may be asked besides.
 #[derive(Clone, Copy, Debug, PartialEq, Eq)]
 pub struct Options {
@@ -60,9 +71,17 @@ pub enum Request<'a> {
         part: Part,
         options: Options,
     },
-    /// To check this database file as its log has it.
+    /// To check this database file as its log has it; deep: also what its pages hold.
     Check {
         file: &'a str,
+        deep: bool,
+        options: Options,
+    },
+    /// To print the rows of this database file as its log has them: of the table of this name. None: of each table.
+    Rows {
+        file: &'a str,
+        table: Option<&'a str>,
+        form: RowForm,
         options: Options,
     },
     /// To recover this database file: to fold its write-ahead log into it, or to roll it back by its hot journal; by

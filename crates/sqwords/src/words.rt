@@ -4,14 +4,16 @@ ghost use Rattle.std.specs.Prelude.{◌↔◌, IfSome, IsTrue, MatchOption, true
 ghost use Rattle.std.specs.List.{Contains};
 ghost use Rattle.sqwords.specs.Line.{AreKnown, AreNoReport, AreOptions, Asks, AsksAt, AsksBesides, AsksBoth};
 ghost use Rattle.sqwords.specs.Line.{AsksNoPart};
-ghost use Rattle.sqwords.specs.internal.Line.{IsReport};
+ghost use Rattle.sqwords.specs.Line.{AsksForm, AsksNoForm, IsOwn};
+ghost use Rattle.sqwords.specs.internal.Line.{AskNoRows, IsReport, IsRows};
+ghost use Rattle.sqwords.specs.declared.words.Own.{Own};
 ghost use Rattle.sqwords.specs.Line.{AsksNoneBesides, AsksNothing, AsksOf, AsksPart, AsksStyle, AsksVersion};
 ghost use Rattle.sqwords.specs.Line.{HasNoText, HasText, IsCommon, IsFile, IsKnown};
 ghost use Rattle.sqwords.specs.Line.{IsFrameNumber, IsNamed};
 ghost use Rattle.sqwords.specs.Line.{IsPlain, MayBeAt, NamesNoFrame, NamesOfLog, StandsFree, TakesValue};
-ghost use Rattle.sqwords.specs.Line.{IsPageNumber};
+ghost use Rattle.sqwords.specs.Line.{IsPageNumber, IsVersion};
 
-use crate::requests::{Options, Part, Request, Style, SuperJournal};
+use crate::requests::{Options, Part, Request, RowForm, Style, SuperJournal};
 
 /// Whether a word is this text.
 fn stands_in(words: &[&str], text: &str) -> bool
@@ -77,24 +79,44 @@ fn is_common(word: &str) -> bool
         || is_named(word, "--at")
 }
 
-/// Whether a word behind `check`, or behind `recover`, is no option, or one that the command has.
-fn is_known(word: &str, recovers: bool) -> bool
-    ensures yes { IsTrue result → IsKnown recovers word.now }
-    ensures not { result ≡ false → ¬ IsKnown recovers word.now }
-{
-    if is_plain(word) || is_common(word) {
-        return true;
-    }
-    recovers && (word == "--force" || is_named(word, "--to"))
+/// A command that has options which not each has.
+#[derive(Clone, Copy, Debug, PartialEq, Eq)]
+pub(crate) enum Own {
+    /// `check`.
+    Checks,
+    /// `recover` and `report`.
+    Recovers,
+    /// `rows`.
+    Prints,
 }
 
-/// Whether each word behind `check`, or behind `recover`, is no option, or one that the command has.
-fn are_known(words: &[&str], recovers: bool) -> bool
-    ensures yes { IsTrue result → AreKnown recovers (map (λ w. w.now) words.entry.now) }
-    ensures not { result ≡ false → ¬ AreKnown recovers (map (λ w. w.now) words.entry.now) }
+/// Whether a word is an option of a command, and not of each.
+fn is_own(word: &str, own: Own) -> bool
+    ensures yes { IsTrue result → IsOwn own word.now }
+    ensures not { result ≡ false → ¬ IsOwn own word.now }
+{
+    match own {
+        Own::Checks => word == "--deep",
+        Own::Recovers => word == "--force" || is_named(word, "--to"),
+        Own::Prints => word == "--csv" || word == "--sql" || is_named(word, "--table"),
+    }
+}
+
+/// Whether a word behind a command is no option, or one that the command has.
+fn is_known(word: &str, own: Own) -> bool
+    ensures yes { IsTrue result → IsKnown own word.now }
+    ensures not { result ≡ false → ¬ IsKnown own word.now }
+{
+    is_plain(word) || is_common(word) || is_own(word, own)
+}
+
+/// Whether each word behind a command is no option, or one that the command has.
+fn are_known(words: &[&str], own: Own) -> bool
+    ensures yes { IsTrue result → AreKnown own (map (λ w. w.now) words.entry.now) }
+    ensures not { result ≡ false → ¬ AreKnown own (map (λ w. w.now) words.entry.now) }
 {
     for word in words {
-        if !is_known(word, recovers) {
+        if !is_known(word, own) {
             return false;
         }
     }
@@ -106,7 +128,7 @@ fn takes_value(word: &str) -> bool
     ensures yes { IsTrue result → TakesValue word.now }
     ensures not { result ≡ false → ¬ TakesValue word.now }
 {
-    word == "--page" || word == "--to" || word == "--at"
+    word == "--page" || word == "--to" || word == "--at" || word == "--table"
 }
 
 /// Whether a word behind the command stands for itself.
@@ -340,20 +362,62 @@ fn report_asked<'a>(given: &'a [&'a str], file: &'a str, options: Options) -> Op
     ensures { MatchOption result (AreNoReport (map (λ w. w.now) given.entry.now))
         (IsReport (map (λ w. w.now) given.entry.now) file.entry options) }
 {
-    if stands_in(given, "--force") || !are_known(given, true) {
+    if stands_in(given, "--force") || !are_known(given, Own::Recovers) {
         return None;
     }
     let to = text_of(given, "--to")?;
     Some(Request::Report { file, to, options })
 }
 
+/// The form of rows that they ask for. None where they ask for two.
+fn form_of(options: &[&str]) -> Option<RowForm>
+    ensures { MatchOption result (AsksNoForm (map (λ w. w.now) options.entry.now))
+        (AsksForm (map (λ w. w.now) options.entry.now)) }
+{
+    let json = stands_in(options, "--json");
+    let csv = stands_in(options, "--csv");
+    let sql = stands_in(options, "--sql");
+    if json && csv {
+        return None;
+    }
+    if json && sql {
+        return None;
+    }
+    if csv && sql {
+        return None;
+    }
+    if json {
+        return Some(RowForm::Json);
+    }
+    Some(if sql { RowForm::Sql } else { RowForm::Csv })
+}
+
+/// What the options of `rows` ask for. None where they don't say so.
+fn rows_asked<'a>(given: &'a [&'a str], file: &'a str, options: Options) -> Option<Request<'a>>
+    ensures { MatchOption result (AskNoRows (map (λ w. w.now) given.entry.now) options)
+        (IsRows (map (λ w. w.now) given.entry.now) file.entry options) }
+{
+    if options.pointer_maps || !are_known(given, Own::Prints) {
+        return None;
+    }
+    let form = form_of(given)?;
+    let table = text_of(given, "--table");
+    Some(Request::Rows {
+        file,
+        table,
+        form,
+        options,
+    })
+}
+
 /// Whether the options behind `recover` are such as it has.
 fn may_recover(given: &[&str], options: Options) -> bool
-    ensures known { IsTrue result → AreKnown true (map (λ w. w.now) given.entry.now) }
+    ensures known { IsTrue result → AreKnown Own.Recovers (map (λ w. w.now) given.entry.now) }
     ensures none { IsTrue result → options.pointer_maps ≡ false }
-    ensures not { result ≡ false → (¬ AreKnown true (map (λ w. w.now) given.entry.now)) ⊎ IsTrue options.pointer_maps }
+    ensures not { result ≡ false → (¬ AreKnown Own.Recovers (map (λ w. w.now) given.entry.now))
+        ⊎ IsTrue options.pointer_maps }
 {
-    are_known(given, true) && !options.pointer_maps
+    are_known(given, Own::Recovers) && !options.pointer_maps
 }
 
 /// What the words ask for where the command is this one and the file that one; None where they don't say so.
@@ -377,8 +441,16 @@ pub fn asked<'a>(words: &'a [&'a str], command: &str, file: &'a str) -> Option<R
     if command == "report" {
         return report_asked(given, file, options);
     }
-    if command == "check" && are_known(given, false) {
-        return Some(Request::Check { file, options });
+    if command == "rows" {
+        return rows_asked(given, file, options);
+    }
+    if command == "check" && are_known(given, Own::Checks) {
+        let deep = stands_in(given, "--deep");
+        return Some(Request::Check {
+            file,
+            deep,
+            options,
+        });
     }
     if command != "recover" || !may_recover(given, options) {
         return None;
@@ -396,9 +468,16 @@ pub fn asked<'a>(words: &'a [&'a str], command: &str, file: &'a str) -> Option<R
     })
 }
 
+/// Whether a word asks for the version.
+fn is_version(word: &str) -> bool
+    ensures { IsTrue result ↔ IsVersion word.now }
+{
+    word == "--version" || word == "-V"
+}
+
 /// Whether the first word behind the program's name asks for the version.
 pub fn asks_version(words: &[&str]) -> bool
     ensures { IsTrue result ↔ AsksVersion (map (λ w. w.now) words.entry.now) }
 {
-    words.len() > 1 && words[1] == "--version"
+    words.len() > 1 && is_version(words[1])
 }

@@ -1,5 +1,5 @@
 -- What was shown, or found, of the log that counts.
-use Rattle.std.specs.Prelude.{◌≡◌, ℕ, List, [], Ok, Err}
+use Rattle.std.specs.Prelude.{◌≡◌, ◌≢◌, ℕ, List, [], Ok, Err}
 use Rattle.sqval.specs.Limits.{Bounds}
 use Rattle.sqwal.specs.declared.error.WalFormatError.{WalFormatError}
 use Rattle.sqjournal.specs.Journal.{IsHot}
@@ -22,4 +22,4 @@ IsJournalShown b _ = ⊥
 abbrev pub IsShownLog : (limits : Bounds) → (wal journal : List ℕ) → Shown → Type 0
 IsShownLog limits wal journal Neither = (¬ IsHot journal) × (wal ≡ [])
 IsShownLog limits wal journal (Journal replay) = IsHot journal × IsJournalShown journal (Journal replay) × (wal ≡ [])
-IsShownLog limits wal journal shown = (¬ IsHot journal) × IsWalShown limits wal shown
+IsShownLog limits wal journal shown = (¬ IsHot journal) × IsWalShown limits wal shown × (wal ≢ [])

@@ -4,11 +4,11 @@ use Rattle.sqwords.proofs.CommandLineArguments.{known_more, unknown_there, words
 use Rattle.sqwords.proofs.words.are_known.Goals as goal
 
 pub returns-then-not-is_known-clause-not : goal.returns-then-not-is_known-clause-not
-returns-then-not-is_known-clause-not c = λ _. unknown_there c.args.recovers c.args.words.now c.loop-word.word-index _ c.loop-word-test.true
+returns-then-not-is_known-clause-not c = λ _. unknown_there c.args.own c.args.words.now c.loop-word.word-index _ c.loop-word-test.true
     (c.is_known.ensures.not c.if-not-is_known.true)
 
 pub loop-word-preserved : goal.loop-word-preserved
-loop-word-preserved c = known_more c.args.recovers c.args.words.now c.loop-word.word-index _ c.loop-word-test.true c.loop-word.invariant
+loop-word-preserved c = known_more c.args.own c.args.words.now c.loop-word.word-index _ c.loop-word-test.true c.loop-word.invariant
     (c.is_known.ensures.yes c.if-not-is_known.false)
 
 pub returns-clause-yes : goal.returns-clause-yes

@@ -4,4 +4,4 @@ use Rattle.sqwords.specs.Line.{IsKnown}
 use Rattle.sqwords.proofs.words.are_known.Given as goal
 
 abbrev pub invariant-loop-word : goal.invariant-loop-word
-invariant-loop-word l = (k : ℕ) (word : List ℕ) → k < l.word-index → slice_get (map (λ w. w.now) l.words) k ≡ Some word → IsKnown l.recovers word
+invariant-loop-word l = (k : ℕ) (word : List ℕ) → k < l.word-index → slice_get (map (λ w. w.now) l.words) k ≡ Some word → IsKnown l.own word

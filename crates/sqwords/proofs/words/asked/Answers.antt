@@ -1,11 +1,10 @@
-use Rattle.std.proofs.Common.{◌≡◌, ◌∙◌, ap, map, refl, sym, inl, inr, true, false}
-use Rattle.std.specs.Prelude.{Some, codes}
+use Rattle.std.proofs.Common.{◌∙◌, ap, map, refl, sym, inl, inr, true, false}
+use Rattle.std.specs.Prelude.{Some}
 use Rattle.std.specs.Cmp.Lexicographic.{bytes_decides}
-use Rattle.sqwords.specs.Line.{AreKnown}
 use Rattle.sqwords.proofs.CommandLineArguments.{agree, differ, told}
-use Rattle.sqwords.proofs.OptionsOfCommand.{others, report_asks, show_amiss, at_named, at_none, asks_to, no_to, some_to}
+use Rattle.sqwords.proofs.OptionsOfCommand.{others, report_asks, rows_asks, show_amiss, at_named, at_none, asks_to, no_to, some_to}
 use Rattle.sqwords.proofs.words.asked.Goals as goal
-use Rattle.sqwords.proofs.words.asked.Goals.{else-eq-3-via-then-eq-3+else-are_known, else-eq-3-via-else-eq-3}
+use Rattle.sqwords.proofs.words.asked.Goals.{else-eq-4-via-then-eq-4+else-are_known, else-eq-4-via-else-eq-4}
 use Rattle.sqwords.proofs.words.asked.Goals.{then-ne-via-then-ne, then-ne-via-else-ne+then-not-may_recover}
 use Rattle.sqwords.proofs.words.asked.Goals.{else-is_none-via-then-is_none+else-is_some, else-is_none-via-else-is_none}
 
@@ -33,15 +32,25 @@ returns-then-eq-2 c = report_asks (map (λ w. w.now) c.args.words.now) c.args.co
     c.in_ok-options.ensures
     c.report_asked.ensures
 
+pub returns-then-eq-3 : goal.returns-then-eq-3
+returns-then-eq-3 c = rows_asks (map (λ w. w.now) c.args.words.now) c.args.command.now _ (map (λ w. w.now) c.options_of-given.result.now) _ _
+    ((bytes_decides _ _).0 (sym c.if-eq-3.ensures))
+    (c.if-not-is_asked.ensures.second refl)
+    (c.if-not-is_asked.ensures.file refl)
+    c.options_of-given.ensures
+    c.in_ok-options.ensures
+    c.rows_asked.ensures
+
 pub returns-then-are_known : goal.returns-then-are_known
 returns-then-are_known c = (
-  c.if-not-is_asked.ensures.second refl ∙ ap Some ((bytes_decides _ _).0 (sym c.if-eq-3.ensures)),
+  c.if-not-is_asked.ensures.second refl ∙ ap Some ((bytes_decides _ _).0 (sym c.if-eq-4.ensures)),
   c.if-not-is_asked.ensures.file refl,
   (
     map (λ w. w.now) c.options_of-given.result.now,
     c.options_of-given.ensures,
     c.if-are_known.ensures.yes refl,
     c.in_ok-options.ensures,
+    (c.stands_in-deep.ensures.yes, told _ _ c.stands_in-deep.ensures.not),
   ),
 )
 
@@ -51,9 +60,9 @@ returns-then-ne c = λ _ _.
       options,
       c.options_of-given.ensures,
       inr (
-        (λ is. elim c.else-eq-3.branch [
-          | else-eq-3-via-then-eq-3+else-are_known w ↦ w.if-are_known.ensures.not refl
-          | else-eq-3-via-else-eq-3 w ↦ absurd (others _ _ w.if-eq-3.ensures is)
+        (λ is. elim c.else-eq-4.branch [
+          | else-eq-4-via-then-eq-4+else-are_known w ↦ w.if-are_known.ensures.not refl
+          | else-eq-4-via-else-eq-4 w ↦ absurd (others _ _ w.if-eq-4.ensures is)
         ]),
         (λ is. elim c.then-ne.branch [
           | then-ne-via-then-ne w ↦ absurd (differ _ _ true w.if-ne.ensures refl is)
@@ -63,6 +72,7 @@ returns-then-ne c = λ _ _.
           ]
         ]),
         (λ is. absurd (others _ _ c.if-eq-2.ensures is)),
+        (λ is. absurd (others _ _ c.if-eq-3.ensures is)),
         (λ is. absurd (others _ _ c.if-eq.ensures is)),
       ),
     )
@@ -73,15 +83,16 @@ returns-then-is_some c = λ _ _.
       options,
       c.options_of-given.ensures,
       inr (
-        (λ is. elim c.else-eq-3.branch [
-          | else-eq-3-via-then-eq-3+else-are_known w ↦ w.if-are_known.ensures.not refl
-          | else-eq-3-via-else-eq-3 w ↦ absurd (others _ _ w.if-eq-3.ensures is)
+        (λ is. elim c.else-eq-4.branch [
+          | else-eq-4-via-then-eq-4+else-are_known w ↦ w.if-are_known.ensures.not refl
+          | else-eq-4-via-else-eq-4 w ↦ absurd (others _ _ w.if-eq-4.ensures is)
         ]),
         (λ _. inr (inr (
           at_named options c.in_ok-options.options.at c.if-is_some.ensures c.in_ok-options.ensures.at_commit,
           no_to options c.text_of-to.result c.if-is_none.ensures (asks_to options c.text_of-to.result c.text_of-to.ensures),
         ))),
         (λ is. absurd (others _ _ c.if-eq-2.ensures is)),
+        (λ is. absurd (others _ _ c.if-eq-3.ensures is)),
         (λ is. absurd (others _ _ c.if-eq.ensures is)),
       ),
     )

@@ -1,0 +1,47 @@
+//! The locks under which a command line is carried out.
+ghost use Rattle.std.specs.Prelude.{◌≡◌, ◌≤◌, IfOk};
+ghost use Rattle.sqrescue.specs.Locking.{refusal_of};
+
+use crate::program::{self, Under};
+use sqfacts::Refusal;
+use sqheld::{Todo, Why, prepared};
+use std::io::{self, IsTerminal, Write};
+use std::os::unix::fs::FileExt;
+use std::rt::Files;
+use std::time::Clock;
+
+/// The refusal of words whose locks can't be had.
+fn refusal_of(why: Why) -> Refusal
+    ensures { result ≡ refusal_of why }
+{
+    match why {
+        Why::InUse => Refusal::InUse,
+        Why::NoLocks => Refusal::NoLocks,
+        Why::FileFailed => Refusal::FileFailed,
+    }
+}
+
+/// Carries out a command line under the locks that the process holds, and answers the program's status; where the words
+/// ask for that, it only says which locks they want, and where those can't be had, it refuses. An error for want of
+/// memory.
+pub(crate) fn answered<R: Files + AllocGlobal + Clock, O: Write, E: Write + IsTerminal>(
+    rt: &R,
+    words: &[&str],
+    out: &mut O,
+    err: &mut E,
+) -> io::Result<u8>
+where
+    R::File: FileExt,
+    ensures { IfOk result (λ status. status ≤ 3) }
+{
+    match prepared(rt, words)? {
+        Todo::Run { words, locks, wait } => {
+            Ok(program::run(rt, words.as_slice(), Under::Locks(locks, wait), out, err))
+        }
+        Todo::Tell(text) => Ok(program::told(out, text.as_str())),
+        Todo::Refuse(words, why) => {
+            let under = Under::Refused(refusal_of(why));
+            Ok(program::run(rt, words.as_slice(), under, out, err))
+        }
+    }
+}
