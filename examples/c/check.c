@@ -1,6 +1,9 @@
 /* check FILE: whether the database that FILE shows with its logs is well formed, and its commits
    in a write-ahead log. */
-#include "files.h"
+#include "sqrescue.h"
+
+#include <stdio.h>
+#include <stdlib.h>
 
 static uint32_t print_commits(const struct sqr_files *files) {
     struct sqr_commit none = {0, 0, 0};
@@ -14,11 +17,9 @@ static uint32_t print_commits(const struct sqr_files *files) {
     return status;
 }
 
-int main(int argc, char **argv) {
-    if (argc != 2) return fprintf(stderr, "usage: check FILE\n"), 2;
-    struct sqr_files files = files_of(argv[1]);
+static int print_check(const struct sqr_files *files) {
     struct sqr_report report = {0, 0, 0, 0, 0, 0, 0};
-    uint32_t status = sqr_check(&files, &report);
+    uint32_t status = sqr_check(files, &report);
     if (status > SQR_DAMAGED) return fprintf(stderr, "check: %s\n", sqr_status_name(status)), 3;
     if (status == SQR_DAMAGED) {
         printf("page %u: fault %u %s\n", report.page, report.fault, sqr_fault_name(report.fault));
@@ -26,7 +27,17 @@ int main(int argc, char **argv) {
     }
     printf("clean: %u pages, %u trees, %u b-tree, %u overflow, %u free\n", report.pages, report.trees, report.btree,
            report.overflow, report.free);
-    status = print_commits(&files);
+    status = print_commits(files);
     if (status) printf("no commits: %s\n", sqr_status_name(status));
     return 0;
+}
+
+int main(int argc, char **argv) {
+    if (argc != 2) return fprintf(stderr, "usage: check FILE\n"), 2;
+    struct sqr_path *path = NULL;
+    uint32_t status = sqr_open_path(argv[1], SQR_FILES_ONLY, NULL, &path);
+    if (status) return fprintf(stderr, "check: %s: %s\n", argv[1], sqr_status_name(status)), 3;
+    int verdict = print_check(sqr_path_files(path));
+    sqr_close_path(&path);
+    return verdict;
 }

@@ -1,7 +1,9 @@
 #!/usr/bin/env python3
 """usage: pages.py FILE OUT     writes the database that FILE shows with its logs, page by page, to OUT"""
+import os
 import sys
 
+sys.path.insert(0, os.path.join(os.path.dirname(os.path.abspath(__file__)), "..", "..", "python"))
 from sqrescue import Damaged, Error, View
 
 

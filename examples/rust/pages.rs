@@ -1,39 +1,39 @@
-//! Writes the database that a file shows with its logs, page by page, to another file.
+//! Writes the database that a file shows with its logs, page by page, to another file. The file may have writers
+//! meanwhile.
 //!
 //! usage: pages FILE OUT
 //!
 //! Build: rustc --edition 2021 -O -L native=<prefix>/lib -l static=sqrescue pages.rs
-use std::fs::{self, File};
-use std::io::{self, Write};
-use std::marker::PhantomData;
-use std::{env, error, fmt, process};
+use std::ffi::{c_char, CString};
+use std::fs::File;
+use std::io::Write;
+use std::{env, error, fmt, process, ptr};
 
-#[repr(C)]
-struct Files {
-    db: *const u8,
-    db_len: usize,
-    wal: *const u8,
-    wal_len: usize,
-    journal: *const u8,
-    journal_len: usize,
-}
-
+/// As sqr_view of sqrescue.h, whose last two fields alone are read.
 #[repr(C)]
 struct Handle {
-    db: *const u8,
-    db_len: usize,
-    log: *const u8,
-    log_len: usize,
-    places: *const u64,
-    places_len: usize,
+    _bytes: [usize; 6],
     page_size: u32,
     pages: u32,
 }
 
+/// As sqr_path, of which nothing is known.
+#[repr(C)]
+struct Path {
+    _unknown: [u8; 0],
+}
+
+#[repr(C)]
+struct Name {
+    text: [u8; 24],
+}
+
 extern "C" {
-    fn sqr_size(files: *const Files, page_size: *mut u32, pages: *mut u32) -> u32;
-    fn sqr_open(files: *const Files, places: *mut u64, room: usize, view: *mut Handle) -> u32;
+    fn sqr_open_path(path: *const c_char, flags: u32, options: *const usize, handle: *mut *mut Path) -> u32;
+    fn sqr_close_path(handle: *mut *mut Path);
+    fn sqr_path_view(handle: *const Path) -> *const Handle;
     fn sqr_page(view: *const Handle, page: u32, out: *mut u8, len: usize) -> u32;
+    fn sqr_status_text(status: u32, name: *mut Name) -> u32;
 }
 
 /// A status other than SQR_OK of sqrescue.h.
@@ -42,7 +42,10 @@ struct Refusal(u32);
 
 impl fmt::Display for Refusal {
     fn fmt(&self, out: &mut fmt::Formatter) -> fmt::Result {
-        write!(out, "refused by status {}", self.0)
+        let mut name = Name { text: [0; 24] };
+        // SAFETY: the name is apart from all else.
+        let length = unsafe { sqr_status_text(self.0, &mut name) } as usize;
+        write!(out, "{}", String::from_utf8_lossy(&name.text[..length]))
     }
 }
 
@@ -56,66 +59,51 @@ fn judged(status: u32) -> Result<(), Refusal> {
     }
 }
 
-/// A database that is open. It borrows the bytes of the files, and has the places that its handle names.
-struct View<'a> {
-    handle: Handle,
-    _places: Vec<u64>,
-    _bytes: PhantomData<&'a [u8]>,
+/// A database that is open, with the locks of a reader.
+struct View {
+    path: *mut Path,
 }
 
-impl<'a> View<'a> {
-    fn new(db: &'a [u8], wal: &'a [u8], journal: &'a [u8]) -> Result<View<'a>, Refusal> {
-        let files = Files {
-            db: db.as_ptr(),
-            db_len: db.len(),
-            wal: wal.as_ptr(),
-            wal_len: wal.len(),
-            journal: journal.as_ptr(),
-            journal_len: journal.len(),
-        };
-        let (mut page_size, mut pages) = (0, 0);
-        // SAFETY: an empty slice's pointer isn't null, all are aligned, and both numbers are apart from what is read.
-        judged(unsafe { sqr_size(&files, &mut page_size, &mut pages) })?;
-        let mut places = vec![0; pages as usize];
-        let mut handle = Handle {
-            db: db.as_ptr(),
-            db_len: 0,
-            log: db.as_ptr(),
-            log_len: 0,
-            places: places.as_ptr(),
-            places_len: 0,
-            page_size: 0,
-            pages: 0,
-        };
-        // SAFETY: as above. The view borrows what the handle names, and a vector's places stay where they are.
-        judged(unsafe { sqr_open(&files, places.as_mut_ptr(), places.len(), &mut handle) })?;
-        Ok(View { handle, _places: places, _bytes: PhantomData })
+// SAFETY: a path may be read by any number of threads, and closed by one that has it for itself.
+unsafe impl Send for View {}
+unsafe impl Sync for View {}
+
+impl View {
+    fn open(path: &str) -> Result<View, Box<dyn error::Error>> {
+        let path = CString::new(path)?;
+        let mut view = View { path: ptr::null_mut() };
+        // SAFETY: the path ends with a zero, options may be NULL, and the handle is apart from both.
+        judged(unsafe { sqr_open_path(path.as_ptr(), 0, ptr::null(), &mut view.path) })?;
+        Ok(view)
+    }
+
+    fn handle(&self) -> &Handle {
+        // SAFETY: what it gives is there until the path is closed.
+        unsafe { &*sqr_path_view(self.path) }
     }
 
     fn page(&self, number: u32) -> Result<Vec<u8>, Refusal> {
-        let mut page = vec![0; self.handle.page_size as usize];
-        // SAFETY: what the handle names lives as long as the view.
-        judged(unsafe { sqr_page(&self.handle, number, page.as_mut_ptr(), page.len()) })?;
+        let mut page = vec![0; self.handle().page_size as usize];
+        // SAFETY: the buffer is apart from what the view names.
+        judged(unsafe { sqr_page(self.handle(), number, page.as_mut_ptr(), page.len()) })?;
         Ok(page)
     }
 }
 
-/// A log's bytes; none of one that is missing.
-fn log(path: String) -> io::Result<Vec<u8>> {
-    match fs::read(path) {
-        Err(error) if error.kind() == io::ErrorKind::NotFound => Ok(Vec::new()),
-        read => read,
+impl Drop for View {
+    fn drop(&mut self) {
+        // SAFETY: nothing that was lent is alive.
+        unsafe { sqr_close_path(&mut self.path) }
     }
 }
 
 fn copy(path: &str, out: &str) -> Result<(), Box<dyn error::Error>> {
-    let (db, wal, journal) = (fs::read(path)?, log(format!("{path}-wal"))?, log(format!("{path}-journal"))?);
-    let view = View::new(&db, &wal, &journal)?;
+    let view = View::open(path)?;
     let mut file = File::options().write(true).create_new(true).open(out)?;
-    for number in 1..=view.handle.pages {
+    for number in 1..=view.handle().pages {
         file.write_all(&view.page(number)?)?;
     }
-    println!("{} pages of {} bytes", view.handle.pages, view.handle.page_size);
+    println!("{} pages of {} bytes", view.handle().pages, view.handle().page_size);
     Ok(())
 }
 

@@ -1,10 +1,8 @@
 -- What a recovery refuses of files.
-use Rattle.std.proofs.Common.{◌≡◌, ◌≢◌, ◌⊎◌, inl, inr, ⊎_elim, ℕ, suc, ◌-◌, ◌<◌, ◌≤◌, List, [], length, take, drop, refl, sym, ◌∙◌, ap, subst, arith, length-drop}
+use Rattle.std.proofs.Common.{◌≡◌, ◌⊎◌, inl, inr, ⊎_elim, ℕ, ◌-◌, ◌<◌, ◌≤◌, List, [], length, take, drop, refl, sym, ◌∙◌, ap, subst, arith, length-drop}
 use Rattle.std.proofs.lemmas.List.{length-take-le, take-append-drop}
 use Rattle.std.specs.Prelude.{Result, Ok, Err, IfErr, OnOk}
-use Rattle.sqval.specs.PageSize.{IsPageSize}
 use Rattle.sqwal.specs.Header.{named_size, IsHeader, IsHeaderOf, HeaderRefused, HeaderAnswer}
-use Rattle.sqwal.specs.Frames.{IsFront}
 use Rattle.sqwal.specs.Answers.{LogRefused, IsCommittedWithin}
 use Rattle.sqwal.specs.Refusal.{most_frames}
 use Rattle.sqwal.specs.declared.header.WalHeader.{WalHeader}
@@ -16,12 +14,12 @@ use Rattle.sqjournal.specs.Journal.{IsHot}
 use Rattle.sqview.specs.Laid.{part_or_zeros}
 use Rattle.sqview.specs.LogView.{head_of}
 use Rattle.sqview.proofs.file.FileHeads.{page_is_part, head_is}
-use Rattle.sqview.specs.Logs.{AreTwoLogs, CountsAnswer}
+use Rattle.sqview.specs.Logs.{CountsAnswer}
 use Rattle.sqview.specs.declared.view_error.ViewError.{ViewError}
 use Rattle.sqview.specs.declared.view_error.ViewError.TheVariants as viewed
 use Rattle.sqrescue_c.specs.Statuses.{view_status}
 use Rattle.sqrescue_c.specs.Views.{IsRefused, IsRefusedAt}
-use Rattle.sqrescue_c.specs.Recoveries.{EndsWithMagic, NamesSuperJournal, IsOfOtherVersion, HasFront, NamesOtherSize, HaveOtherSizes, RefusesAsRecovery, RefusesAsRecoveryAt}
+use Rattle.sqrescue_c.specs.Recoveries.{EndsWithMagic, HasFront, NamesOtherSize, RefusesAsRecovery, RefusesAsRecoveryAt}
 use Rattle.sqrescue_c.specs.internal.Recoveries.{memory_of, version_of, IsAskedOfLog, IsAsked, IsAskedAt}
 use Rattle.sqrescue_c.specs.internal.Statuses.{number_of}
 use Rattle.sqrescue_c.specs.declared.status.Status.{Status}

@@ -4,3 +4,5 @@ pub mod CopiedFrames
 pub mod CopiedCommits
 pub mod CopiedRecords
 pub mod AskedRecovery
+pub mod AskedViews
+pub mod PlannedRecoveries

@@ -1,16 +1,21 @@
 -- What the check of files answers.
-use Rattle.std.specs.Prelude.{◌≡◌, ℕ, List}
+use Rattle.std.specs.Prelude.{◌≡◌, ◌⊎◌, ℕ, List}
 use Rattle.sqpage.specs.Faults.{number_of}
 use Rattle.sqpage.specs.declared.fault.Fault.{Fault}
-use Rattle.sqview.specs.Verdicts.{IsVerdict, AreUnjudged}
+use Rattle.sqval.specs.Database.{Database}
+use Rattle.sqview.specs.Verdicts.{FindsWith, IsUnjudgedWith}
 use Rattle.sqview.specs.declared.judge_error.JudgeError.{JudgeError}
+use Rattle.sqview.specs.declared.judge_error.JudgeError.TheVariants as refusals
+use Rattle.sqview.specs.declared.verdict.Verdict.{Verdict}
 use Rattle.sqview.specs.declared.verdict.Verdict.TheVariants.{Clean, Damaged}
+use Rattle.sqview.specs.declared.view_error.ViewError.TheVariants.{TwoLogs, TooLarge, Header, NoSuchCommit}
+use Rattle.sqrescue_c.specs.Asked.{maps_of, ShowsAsked, AskedRefused}
 use Rattle.sqrescue_c.specs.Statuses.{judge_status}
 use Rattle.sqrescue_c.specs.declared.check.CheckReport.{CheckReport}
 
--- the database is well formed, with these counts
-pub record IsClean (db wal journal : List ℕ) (out : CheckReport) : Type 0 where
-  pub verdict : IsVerdict db wal journal
+-- the verdict that the database is well formed, with these counts
+pub record SaysClean (IsFound : Verdict → Type 0) (out : CheckReport) : Type 0 where
+  pub verdict : IsFound
       (Clean (record {
         pages = out.pages;
         trees = out.trees;
@@ -21,14 +26,28 @@ pub record IsClean (db wal journal : List ℕ) (out : CheckReport) : Type 0 wher
   pub no_fault : out.fault ≡ 0
   pub no_page : out.page ≡ 0
 
--- the fault of this number stands at this page
-pub record IsDamaged (db wal journal : List ℕ) (out : CheckReport) : Type 0 where
+-- the verdict that the fault of this number stands at this page
+pub record SaysDamaged (IsFound : Verdict → Type 0) (out : CheckReport) : Type 0 where
   pub fault : Fault
   pub numbered : out.fault ≡ number_of fault
-  pub verdict : IsVerdict db wal journal (Damaged (record { page = out.page; fault = fault }))
+  pub verdict : IsFound (Damaged (record { page = out.page; fault = fault }))
 
 -- the refusal of this number
-pub record IsUnjudged (db wal journal : List ℕ) (number : ℕ) : Type 0 where
+pub record SaysUnjudged (AreUnjudged : JudgeError → Type 0) (number : ℕ) : Type 0 where
   pub error : JudgeError
   pub numbered : number ≡ judge_status error
-  pub unjudged : AreUnjudged db wal journal error
+  pub unjudged : AreUnjudged error
+
+-- What is found of the database that flags ask for, by pointer maps or without; or the fault of a header that names none.
+abbrev pub IsAskedVerdict : (flags m : ℕ) (db wal journal : List ℕ) → Verdict → Type 0
+IsAskedVerdict flags m db wal journal verdict =
+    ((size : ℕ) × (d : Database) × ShowsAsked flags m size db wal journal d × FindsWith (maps_of flags) d size verdict)
+    ⊎ ((fault : Fault) × (verdict ≡ Damaged (record { page = 1; fault = fault })) × AskedRefused flags m db wal journal (Header fault))
+
+-- Why it isn't judged: what refuses its view, pointer maps that aren't asked for, or no memory.
+abbrev pub AreAskedUnjudged : (flags m : ℕ) (db wal journal : List ℕ) → JudgeError → Type 0
+AreAskedUnjudged flags m db wal journal refusals.TwoLogs = AskedRefused flags m db wal journal TwoLogs
+AreAskedUnjudged flags m db wal journal refusals.TooLarge = AskedRefused flags m db wal journal TooLarge
+AreAskedUnjudged flags m db wal journal refusals.NoSuchCommit = AskedRefused flags m db wal journal NoSuchCommit
+AreAskedUnjudged flags m db wal journal refusals.NoMemory = Unit {0}
+AreAskedUnjudged flags m db wal journal refusal = (size : ℕ) × (d : Database) × ShowsAsked flags m size db wal journal d × IsUnjudgedWith (maps_of flags) d refusal

@@ -2,8 +2,14 @@ pub mod Statuses
 pub mod Views
 pub mod Recoveries
 pub mod Names
+pub mod Asked
 pub mod Checks
+pub mod Roles
 pub mod Logs
 pub mod Commits
 pub mod Journals
+pub mod Options
+pub mod Indexes
+pub mod Places
+pub mod Plans
 pub mod internal

@@ -25,4 +25,16 @@ status_name n =
     (if n == 14 then codes "unknown log version" else
     (if n == 15 then codes "super-journal" else
     (if n == 16 then codes "page sizes differ" else
-    codes "?")))))))))))))))))
+    (if n == 17 then codes "not there" else
+    (if n == 18 then codes "not readable" else
+    (if n == 19 then codes "folder" else
+    (if n == 20 then codes "not a file" else
+    (if n == 21 then codes "in use" else
+    (if n == 22 then codes "no locks" else
+    (if n == 23 then codes "file failed" else
+    (if n == 24 then codes "unknown options" else
+    (if n == 25 then codes "misuse" else
+    (if n == 26 then codes "not writable" else
+    (if n == 27 then codes "already there" else
+    (if n == 28 then codes "disk full" else
+    codes "?")))))))))))))))))))))))))))))

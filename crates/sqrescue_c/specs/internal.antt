@@ -3,3 +3,5 @@ pub mod Statuses
 pub mod Logs
 pub mod Journals
 pub mod Recoveries
+pub mod Indexes
+pub mod Plans

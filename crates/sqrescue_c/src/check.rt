@@ -1,13 +1,16 @@
 //! Whether the database that files show is well formed.
-ghost use Rattle.std.specs.Prelude.{◌≡◌, ◌≤◌};
+ghost use Rattle.std.specs.Prelude.{◌≡◌, ◌↔◌, ◌<◌, ◌≤◌, IfOk, IfErr};
 ghost use Rattle.sqpage.specs.Faults.{number_of};
-ghost use Rattle.sqrescue_c.specs.Checks.{IsClean, IsDamaged, IsUnjudged};
+ghost use Rattle.sqview.specs.Verdicts.{IsVerdict, IsVerdictAt, AreUnjudged, AreUnjudgedAt};
+ghost use Rattle.sqrescue_c.specs.Asked.{AreAskedFlags};
+ghost use Rattle.sqrescue_c.specs.Checks.{SaysClean, SaysDamaged, SaysUnjudged, IsAskedVerdict, AreAskedUnjudged};
 
+use crate::asked::{UNKNOWN_OPTIONS, are_known, options_of, view_asked};
 use crate::status::{Status, judge_number};
 use crate::view::Files;
 use sqcheck::Report;
 use sqpage::CheckError;
-use sqview::{Verdict, judge};
+use sqview::{JudgeError, Verdict, judge, judge_at, judge_view_with, without_view};
 use std::alloc::Global;
 
 /// What a check finds: the counts of a well-formed database, with fault and page 0; or the fault's number and its
@@ -68,12 +71,100 @@ fn damaged(error: CheckError) -> CheckReport
 /// NoMemory in place of any, and then leaves the report as it is (fileformat2, 1 to 4).
 #[unsafe(no_mangle)]
 pub extern "C" fn sqr_check(alloc: Global, files: &Files<'_>, report: &mut CheckReport) -> u32
-    ensures clean { result ≡ 0 → IsClean files.now.db.now files.now.wal.now files.now.journal.now report.new }
-    ensures damaged { result ≡ 1 → IsDamaged files.now.db.now files.now.wal.now files.now.journal.now report.new }
-    ensures unjudged { 2 ≤ result → IsUnjudged files.now.db.now files.now.wal.now files.now.journal.now result }
+    ensures clean { result ≡ 0
+        → SaysClean (IsVerdict files.now.db.now files.now.wal.now files.now.journal.now) report.new }
+    ensures damaged { result ≡ 1
+        → SaysDamaged (IsVerdict files.now.db.now files.now.wal.now files.now.journal.now) report.new }
+    ensures unjudged { 2 ≤ result
+        → SaysUnjudged (AreUnjudged files.now.db.now files.now.wal.now files.now.journal.now) result }
     ensures kept { 2 ≤ result → report.new ≡ report.old }
 {
     match judge(alloc, files.db, files.wal, files.journal) {
+        Ok(Verdict::Clean(found)) => {
+            *report = clean(found);
+            Status::Done.number()
+        }
+        Ok(Verdict::Damaged(error)) => {
+            *report = damaged(error);
+            Status::Damaged.number()
+        }
+        Err(error) => judge_number(error),
+    }
+}
+
+/// The same of the database of files with their write-ahead log up to a commit frame; at frame 0 of the file without
+/// its log. Answers Done, Damaged, or TwoLogs, TooLarge, NoSuchCommit or AutoVacuum, or NoMemory in place of any, and
+/// then leaves the report as it is (fileformat2, 1 to 4).
+#[unsafe(no_mangle)]
+pub extern "C" fn sqr_check_at(
+    alloc: Global,
+    files: &Files<'_>,
+    frame: u32,
+    report: &mut CheckReport,
+) -> u32
+    ensures clean { result ≡ 0
+        → SaysClean (IsVerdictAt frame files.now.db.now files.now.wal.now files.now.journal.now) report.new }
+    ensures damaged { result ≡ 1
+        → SaysDamaged (IsVerdictAt frame files.now.db.now files.now.wal.now files.now.journal.now) report.new }
+    ensures unjudged { 2 ≤ result
+        → SaysUnjudged (AreUnjudgedAt frame files.now.db.now files.now.wal.now files.now.journal.now) result }
+    ensures kept { 2 ≤ result → report.new ≡ report.old }
+{
+    match judge_at(alloc, files.db, files.wal, files.journal, frame) {
+        Ok(Verdict::Clean(found)) => {
+            *report = clean(found);
+            Status::Done.number()
+        }
+        Ok(Verdict::Damaged(error)) => {
+            *report = damaged(error);
+            Status::Damaged.number()
+        }
+        Err(error) => judge_number(error),
+    }
+}
+
+/// What a check finds of the database that is asked for.
+fn judge_asked(
+    alloc: Global,
+    files: &Files<'_>,
+    flags: u32,
+    frame: u32,
+) -> Result<Verdict, JudgeError>
+    ensures found { IfOk result
+        (IsAskedVerdict flags frame files.now.db.now files.now.wal.now files.now.journal.now) }
+    ensures refused { IfErr result
+        (AreAskedUnjudged flags frame files.now.db.now files.now.wal.now files.now.journal.now) }
+{
+    match view_asked(alloc, files, flags, frame) {
+        Ok(mut view) => judge_view_with(alloc, &mut view, options_of(flags)),
+        Err(error) => without_view(error),
+    }
+}
+
+/// The same of the database that flags ask for: 4, at a commit frame; 8, within the greatest limits; 16, with its
+/// pointer maps, where it is one of auto-vacuum. Answers Done, Damaged or what `sqr_check` and `sqr_check_at` do, or 24
+/// where a flag is another one, and then leaves the report as it is (fileformat2, 1 to 4).
+#[unsafe(no_mangle)]
+pub extern "C" fn sqr_check_with(
+    alloc: Global,
+    files: &Files<'_>,
+    flags: u32,
+    frame: u32,
+    report: &mut CheckReport,
+) -> u32
+    ensures clean { result ≡ 0 → SaysClean
+        (IsAskedVerdict flags frame files.now.db.now files.now.wal.now files.now.journal.now) report.new }
+    ensures damaged { result ≡ 1 → SaysDamaged
+        (IsAskedVerdict flags frame files.now.db.now files.now.wal.now files.now.journal.now) report.new }
+    ensures unjudged { 2 ≤ result → result < 24 → SaysUnjudged
+        (AreAskedUnjudged flags frame files.now.db.now files.now.wal.now files.now.journal.now) result }
+    ensures known { (result < 24) ↔ AreAskedFlags flags }
+    ensures kept { 2 ≤ result → report.new ≡ report.old }
+{
+    if !are_known(flags) {
+        return UNKNOWN_OPTIONS;
+    }
+    match judge_asked(alloc, files, flags, frame) {
         Ok(Verdict::Clean(found)) => {
             *report = clean(found);
             Status::Done.number()

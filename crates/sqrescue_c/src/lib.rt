@@ -2,11 +2,17 @@
 //! what a write-ahead log or a rollback journal says. The caller keeps all memory (own).
 #![tactic(auto)]
 
+mod asked;
 mod check;
 mod commits;
+mod index;
 mod journal;
 mod names;
-mod recovery;
+mod options;
+mod place;
+mod plan;
+mod refusals;
+mod roles;
 mod status;
 mod view;
 mod wal;

@@ -7,7 +7,7 @@ ghost use Rattle.sqrescue_c.specs.Names.{padded, status_name};
 use sqpage::Fault;
 
 /// The version: a million for each major one, a thousand for each minor one, one for each patch.
-const VERSION: u32 = 1000;
+const VERSION: u32 = 1_000_000;
 
 /// A name, and zeros behind it, one at least.
 #[repr(C)]
@@ -19,7 +19,7 @@ pub struct Name {
 /// The version of the library, by the number of its header, SQR_VERSION_NUMBER.
 #[unsafe(no_mangle)]
 pub extern "C" fn sqr_version() -> u32
-    ensures { result ≡ 1000 }
+    ensures { result ≡ 1000000 }
 {
     VERSION
 }
@@ -47,6 +47,18 @@ fn name_of_status(status: u32) -> &'static str
         14 => "unknown log version",
         15 => "super-journal",
         16 => "page sizes differ",
+        17 => "not there",
+        18 => "not readable",
+        19 => "folder",
+        20 => "not a file",
+        21 => "in use",
+        22 => "no locks",
+        23 => "file failed",
+        24 => "unknown options",
+        25 => "misuse",
+        26 => "not writable",
+        27 => "already there",
+        28 => "disk full",
         _ => "?",
     }
 }

@@ -8,7 +8,7 @@ ghost use Rattle.sqview.specs.internal.LogView.{IsShown};
 ghost use Rattle.sqrescue_c.specs.Recoveries.{RefusesAsRecovery, RefusesAsRecoveryAt};
 ghost use Rattle.sqrescue_c.specs.Views.{HasSize, IsOpened, IsRefused, OpenRefused, IsOpenedAt, AtRefusedBy};
 
-use crate::recovery::{ask, ask_at};
+use crate::refusals::{ask, ask_at};
 use crate::status::{Status, view_number};
 use sqpage::PageSource;
 use sqview::{FileBytes, View, ViewError};
@@ -43,7 +43,7 @@ pub struct Handle<'a> {
 }
 
 /// The view of files.
-fn view_of<'a>(alloc: Global, files: &Files<'a>) -> Result<View<&'a [u8]>, ViewError>
+pub(crate) fn view_of<'a>(alloc: Global, files: &Files<'a>) -> Result<View<&'a [u8]>, ViewError>
     ensures shown { IfOk result (λ view.
         IsShown (λ file. file.now) files.now.db.now files.now.wal.now files.now.journal.now view) }
     ensures reads { IfOk result (λ view.
@@ -85,7 +85,7 @@ pub extern "C" fn sqr_size(
 }
 
 /// Hands a view over to a caller. Refused by NoRoom where there are fewer places than the view has.
-fn hand_over<'a>(
+pub(crate) fn hand_over<'a>(
     view: &View<&'a [u8]>,
     places: &'a mut [u64],
     out: &mut Handle<'a>,
@@ -190,7 +190,7 @@ pub extern "C" fn sqr_open_at<'a>(
 }
 
 /// Where a page begins in the log, in bytes; 0 where the file's counts.
-fn place(places: &[u64], page: u32) -> u64
+pub(crate) fn place(places: &[u64], page: u32) -> u64
     requires { 1 ≤ page }
     ensures { result ≡ place_of places.now page }
 {

@@ -1,0 +1,4 @@
+pub mod WrittenFiles
+pub mod CarriedOutPlans
+pub mod LeftSteps
+pub mod ShownMeanwhile

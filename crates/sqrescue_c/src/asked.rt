@@ -1,0 +1,79 @@
+//! What is asked for by flags.
+ghost use Rattle.std.specs.Prelude.{◌≡◌, ◌≤◌, ◌↔◌, IsTrue, IfOk, IfErr};
+ghost use Rattle.sqview.specs.LogView.{pages_of};
+ghost use Rattle.sqrescue_c.specs.Asked.{is_set, is_at, limits_of, maps_of, AreAskedFlags, ShowsAsked, AskedRefused};
+
+use crate::view::Files;
+use sqcheck::Options;
+use sqval::Limits;
+use sqview::{View, ViewError};
+use std::alloc::Global;
+
+/// The database at a commit frame, and not at the front.
+const AT: u32 = 4;
+
+/// The greatest limits, and not the usual ones.
+const LARGE: u32 = 8;
+
+/// With pointer maps, where there are some.
+const POINTER_MAPS: u32 = 16;
+
+/// The flags are the bits below this one, but for two that are another call's.
+const FLAGS_END: u32 = 32;
+
+/// What is answered where a flag isn't known.
+pub(crate) const UNKNOWN_OPTIONS: u32 = 24;
+
+/// Whether a flag, a power of two, is set.
+fn is_set(flags: u32, flag: u32) -> bool
+    requires { 1 ≤ flag }
+    ensures { result ≡ is_set flags flag }
+{
+    flags / flag % 2 == 1
+}
+
+/// Whether there are no flags but those three.
+pub(crate) fn are_known(flags: u32) -> bool
+    ensures { IsTrue result ↔ AreAskedFlags flags }
+{
+    flags < FLAGS_END && flags % AT == 0
+}
+
+/// The limits that are asked for.
+fn limits_of(flags: u32) -> Limits
+    ensures { result ≡ limits_of flags }
+{
+    if is_set(flags, LARGE) {
+        Limits::LARGE
+    } else {
+        Limits::USUAL
+    }
+}
+
+/// Whether pointer maps are asked for.
+pub(crate) fn options_of(flags: u32) -> Options
+    ensures { result.pointer_maps ≡ maps_of flags }
+{
+    Options {
+        pointer_maps: is_set(flags, POINTER_MAPS),
+    }
+}
+
+/// The view that is asked for.
+pub(crate) fn view_asked<'a>(
+    alloc: Global,
+    files: &Files<'a>,
+    flags: u32,
+    frame: u32,
+) -> Result<View<&'a [u8]>, ViewError>
+    ensures shown { IfOk result (λ view. ShowsAsked flags frame view.page_size
+        files.now.db.now files.now.wal.now files.now.journal.now (pages_of (λ file. file.now) view)) }
+    ensures refused { IfErr result (AskedRefused flags frame files.now.db.now files.now.wal.now files.now.journal.now) }
+{
+    let limits = limits_of(flags);
+    if is_set(flags, AT) {
+        View::at_within(alloc, limits, files.db, files.wal, files.journal, frame)
+    } else {
+        View::new_within(alloc, limits, files.db, files.wal, files.journal)
+    }
+}

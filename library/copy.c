@@ -1,0 +1,245 @@
+/* copy.c: makes a new file with what a recovery would leave of a database. It decides nothing of a database: the path
+   is opened as sqr_open_path opens it, and what is written are the pages of sqr_plan's view, or the file as it stands.
+   The new file is made under another name, and gets its own once it is whole and durable. Not proved. */
+#define _GNU_SOURCE
+#include "files.h"
+#include <errno.h>
+#include <fcntl.h>
+#include <limits.h>
+#include <stdio.h>
+#include <stdlib.h>
+#include <string.h>
+#include <unistd.h>
+
+#define AT_ONCE 65536 /* bytes; no page is longer */
+#define BLOCK 4096    /* as many zeros, or what is left of a piece, become a hole */
+
+struct part { /* a file that is made, by the name that it has meanwhile */
+    int fd;
+    const char *to;
+    char name[PATH_MAX + 16];
+};
+
+struct copied { /* what is copied: the pages of a view, or where it has none the file's bytes */
+    struct sqr_path *from;
+    uint64_t *places;
+    struct sqr_plan plan;
+    const struct sqr_view *view;
+    struct sqr_recovered found;
+};
+
+static int are_same(const struct stat *a, const struct stat *b) {
+    return a->st_dev == b->st_dev && a->st_ino == b->st_ino;
+}
+
+static const char *last_of(const char *path) {
+    const char *slash = strrchr(path, '/');
+    return slash ? slash + 1 : path;
+}
+
+static void folder_of(char *folder, const char *path) { /* into PATH_MAX + 16 bytes; "" ends in no slash */
+    const size_t len = (size_t)(last_of(path) - path);
+    memcpy(folder, path, len);
+    strcpy(folder + len, ".");
+}
+
+static int are_in_one_folder(const char *path, const char *other) { /* also where the system doesn't say */
+    char here[PATH_MAX + 16], there[PATH_MAX + 16];
+    struct stat a, b;
+    folder_of(here, path);
+    folder_of(there, other);
+    return stat(here, &a) || stat(there, &b) || are_same(&a, &b);
+}
+
+/* Whether SQLite takes what lies at a path for a log, or FILE-shm, of the database at another. */
+static int is_log_of(const char *to, const char *path) {
+    static const char *const ends[] = {"-wal", "-journal", "-shm"};
+    char name[PATH_MAX + 16];
+    for (size_t i = 0; i < sizeof ends / sizeof *ends; i++) {
+        sqr_file_name(name, last_of(path), ends[i]);
+        if (!strcmp(name, last_of(to))) return are_in_one_folder(to, path);
+    }
+    return 0;
+}
+
+/* Whether a file is one of those of the database at a path. */
+static int is_of(const struct stat *found, const char *path) {
+    static const char *const ends[] = {"", "-wal", "-journal", "-shm"};
+    char name[PATH_MAX + 16];
+    struct stat other;
+    for (size_t i = 0; i < sizeof ends / sizeof *ends; i++) {
+        sqr_file_name(name, path, ends[i]);
+        if (!lstat(name, &other) && are_same(found, &other)) return 1;
+    }
+    return 0;
+}
+
+/* Opens the file under its name meanwhile, in place of what a call that was stopped left there: 0, or errno. */
+static int open_part(struct part *part, const char *path, mode_t mode) {
+    const int how = O_WRONLY | O_CREAT | O_EXCL | O_NOFOLLOW | O_NOCTTY | O_CLOEXEC;
+    struct stat found;
+    part->fd = open(part->name, how, mode);
+    if (part->fd >= 0 || errno != EEXIST) return part->fd < 0 ? errno : 0;
+    if (lstat(part->name, &found)) return errno;
+    if (is_of(&found, path)) return EEXIST;
+    if (unlink(part->name)) return errno;
+    part->fd = open(part->name, how, mode);
+    return part->fd < 0 ? errno : 0;
+}
+
+/* The name meanwhile is OUT.sqrescue-part, or where that is too long or a file of the database .sqrescue-part. */
+static uint32_t begin(struct part *part, const char *path, mode_t mode) {
+    struct stat found;
+    if (lstat(part->to, &found) == 0) return SQR_ALREADY_THERE;
+    if (errno != ENOENT) return sqr_file_unwritten(errno);
+    sqr_file_name(part->name, part->to, ".sqrescue-part");
+    int error = open_part(part, path, mode);
+    if (error == ENAMETOOLONG || error == EEXIST) {
+        folder_of(part->name, part->to);
+        strcat(part->name, "sqrescue-part"); /* the folder ends in a point */
+        error = open_part(part, path, mode);
+    }
+    return error ? sqr_file_unwritten(error) : SQR_OK;
+}
+
+/* Whether the file still has its name meanwhile, and no other call has taken that. */
+static int is_at(const struct part *part) {
+    struct stat own, there;
+    return !fstat(part->fd, &own) && !lstat(part->name, &there) && are_same(&own, &there);
+}
+
+static void sync_folder(const char *path) {
+    char folder[PATH_MAX + 16];
+    folder_of(folder, path);
+    int fd = open(folder, O_RDONLY | O_DIRECTORY | O_CLOEXEC);
+    if (fd < 0) return;
+    fsync(fd);
+    close(fd);
+}
+
+/* Gives the file that is open a second name, so that it is none that another call made under the first meanwhile. */
+static int linked(const struct part *part) {
+    char own[32];
+    snprintf(own, sizeof own, "/proc/self/fd/%d", part->fd);
+    int answer = linkat(AT_FDCWD, own, AT_FDCWD, part->to, AT_SYMLINK_FOLLOW);
+    if (!answer || errno != ENOENT || !access("/proc/self/fd", F_OK)) return answer;
+    return link(part->name, part->to);
+}
+
+/* Gives the file its name, which nothing may have; only where the system has no links, what comes there between the
+   look and the renaming is replaced. */
+static uint32_t end(const struct part *part) {
+    struct stat found;
+    if (!is_at(part)) return SQR_IN_USE;
+    if (linked(part) == 0) unlink(part->name);
+    else if (errno == ENOENT) return is_at(part) ? SQR_NOT_THERE : SQR_IN_USE;
+    else if (errno != EPERM && errno != EOPNOTSUPP && errno != EMLINK) return sqr_file_unwritten(errno);
+    else if (lstat(part->to, &found) == 0) return SQR_ALREADY_THERE;
+    else if (rename(part->name, part->to)) return sqr_file_unwritten(errno);
+    sync_folder(part->to);
+    return SQR_OK;
+}
+
+static int is_zeros(const uint8_t *bytes, size_t len) {
+    static const uint8_t zeros[BLOCK] = {0};
+    return !memcmp(bytes, zeros, len);
+}
+
+/* Writes bytes but for blocks of zeros, which become holes. */
+static uint32_t put(int fd, const uint8_t *bytes, size_t len, uint64_t at) {
+    uint32_t status = SQR_OK;
+    for (size_t from = 0, end = 0; !status && from < len; from = end) {
+        int are_zeros = is_zeros(bytes + from, len - from < BLOCK ? len - from : BLOCK);
+        while (end < len && is_zeros(bytes + end, len - end < BLOCK ? len - end : BLOCK) == are_zeros)
+            end = len - end < BLOCK ? len : end + BLOCK;
+        if (!are_zeros) status = sqr_file_write(fd, bytes + from, end - from, at + from);
+    }
+    return status;
+}
+
+static uint32_t put_pages(int fd, const struct sqr_view *view, uint8_t *buffer) {
+    const size_t each = view->page_size;
+    uint64_t at = 0;
+    size_t len = 0;
+    uint32_t status = SQR_OK;
+    for (uint32_t page = 1; !status && page <= view->pages; page++) {
+        status = sqr_page(view, page, buffer + len, each);
+        len += each;
+        if (status || (len + each <= AT_ONCE && page < view->pages)) continue;
+        status = put(fd, buffer, len, at);
+        at += len;
+        len = 0;
+    }
+    return status;
+}
+
+static uint32_t put_file(int fd, const struct sqr_files *files) {
+    uint32_t status = SQR_OK;
+    for (size_t at = 0, len; !status && at < files->db_len; at += len) {
+        len = files->db_len - at < AT_ONCE ? files->db_len - at : AT_ONCE;
+        status = put(fd, files->db + at, len, at);
+    }
+    return status;
+}
+
+/* The whole file, durable. */
+static uint32_t put_all(int fd, const struct copied *it) {
+    uint8_t *buffer = malloc(AT_ONCE);
+    if (!buffer) return SQR_NO_MEMORY;
+    const struct sqr_files *files = sqr_path_files(it->from);
+    const uint64_t len = it->view ? (uint64_t)it->view->pages * it->view->page_size : files->db_len;
+    uint32_t status = it->view ? put_pages(fd, it->view, buffer) : put_file(fd, files);
+    free(buffer);
+    if (!status && (ftruncate(fd, (off_t)len) || fsync(fd))) status = sqr_file_unwritten(errno);
+    return status;
+}
+
+static uint32_t make(const struct copied *it, const char *path, const char *to) {
+    struct part part = {.fd = -1, .to = to};
+    struct stat file;
+    if (is_log_of(to, path)) return SQR_MISUSE;
+    if (fstat(it->from->held.file, &file)) return sqr_file_status(errno);
+    uint32_t status = begin(&part, path, file.st_mode & 0777);
+    if (status) return status;
+    status = put_all(part.fd, it);
+    if (!status) status = end(&part);
+    if (status && is_at(&part)) unlink(part.name);
+    close(part.fd);
+    return status;
+}
+
+/* What is to be copied: at a commit the view that the path is opened with; otherwise what the plan leaves. */
+static uint32_t look(struct copied *it, const char *path, uint32_t flags, const struct sqr_options *options,
+                     uint32_t at) {
+    const uint32_t how = flags & SQR_AT && at ? flags : (flags & SQR_NO_LOCK) | SQR_FILES_ONLY;
+    uint32_t status = sqr_open_path(path, how, options, &it->from);
+    if (status || (flags & SQR_AT && !at)) return status;
+    if (flags & SQR_AT) {
+        it->view = sqr_path_view(it->from);
+        it->found = (struct sqr_recovered){SQR_RECOVERY_FOLD, it->view->page_size, it->view->pages};
+        return SQR_OK;
+    }
+    status = sqr_file_plan(&it->from->files, &it->places, &it->plan, &it->found);
+    if (status) return status;
+    const uint32_t recovery = it->plan.recovery;
+    if (recovery == SQR_RECOVERY_FOLD || recovery == SQR_RECOVERY_ROLL_BACK) it->view = &it->plan.view;
+    sqr_path_let_write(it->from, &it->plan.view);
+    return SQR_OK;
+}
+
+uint32_t sqr_recover_to(const char *path, const char *to, uint32_t flags, const struct sqr_options *options,
+                        struct sqr_recovered *out) {
+    struct copied it = {.plan = SQR_PLAN_INIT};
+    struct sqr_asked asked = {0, 0};
+    char real[PATH_MAX];
+    if (!to) return SQR_MISUSE;
+    if (!*to) return SQR_NOT_THERE;
+    if (strnlen(to, PATH_MAX) == PATH_MAX) return SQR_FILE_FAILED;
+    uint32_t status = sqr_file_asked(path, flags, SQR_NO_LOCK | SQR_AT, options, real, &asked);
+    if (!status) status = look(&it, real, flags, options, asked.at);
+    if (!status) status = make(&it, real, to);
+    if (!status && out) *out = it.found;
+    sqr_close_path(&it.from);
+    free(it.places);
+    return status;
+}

@@ -1,0 +1,67 @@
+/* files.h: what the calls by path share, and nobody else calls: files of which bytes are read, and a path that is open.
+   License: MIT. */
+#ifndef FILES_H
+#define FILES_H
+#include "sqrescue.h"
+#include "../locks/held.h"
+#include <sys/stat.h>
+
+struct sqr_opened { /* the bytes of a file; none of one that is missing or empty */
+    uint8_t *bytes;
+    size_t len;
+    int is_copy;
+};
+
+struct sqr_path {
+    struct sqr_held held;
+    struct sqr_opened db, wal, journal;
+    struct sqr_files files;
+    struct sqr_view view;
+    uint64_t *places;
+    int is_locked, is_alone; /* alone: no connection was live, and WRITE is held on that account alone */
+};
+
+struct sqr_asked { /* as the crate's Asked */
+    uint32_t wait, at;
+};
+
+uint32_t sqr_options_read(uint32_t flags, const uint8_t *options, size_t len, struct sqr_asked *out);
+
+/* What a caller asks of a path, whose links are led to their file in `real`, which has room for PATH_MAX bytes. Other
+   flags than `known` are refused. */
+uint32_t sqr_file_asked(const char *path, uint32_t flags, uint32_t known, const struct sqr_options *options, char *real,
+                        struct sqr_asked *asked);
+
+/* The status of an error of the system; the second where something was to be written. */
+uint32_t sqr_file_status(int error);
+uint32_t sqr_file_unwritten(int error);
+
+/* `path` with `end` behind it, into PATH_MAX + 16 bytes. */
+void sqr_file_name(char *name, const char *path, const char *end);
+
+/* Opens and locks FILE for a reading (0) or a recovery (1), and waits for others so many milliseconds; without locks
+   where SQR_NO_LOCK is a flag. Nothing is open where it isn't SQR_OK. */
+uint32_t sqr_file_hold(struct sqr_held *held, const char *path, uint32_t want, uint32_t flags, uint64_t wait);
+void sqr_file_let_go(struct sqr_held *held, int is_locked);
+
+/* Opens a log beside the FILE that is open: -1 in `fd` where there is none. `how` is O_RDONLY or O_RDWR. */
+uint32_t sqr_file_log(int file, const char *path, const char *end, int how, int *fd, struct stat *found);
+
+/* The first `len` bytes of a file, mapped or copied. */
+uint32_t sqr_file_bytes(int fd, size_t len, int is_copy, struct sqr_opened *out);
+void sqr_file_give_back(struct sqr_opened *it);
+
+/* The milliseconds of a clock that goes on. */
+uint64_t sqr_file_now(void);
+
+/* All of these bytes at a place of a file, from 0. */
+uint32_t sqr_file_write(int fd, const uint8_t *bytes, size_t len, uint64_t at);
+
+/* What a recovery of the files comes to, with memory of malloc's for its places; and the size of their database, zeros
+   where it has none. */
+uint32_t sqr_file_plan(const struct sqr_files *files, uint64_t **places, struct sqr_plan *plan,
+                       struct sqr_recovered *found);
+
+/* Lets others write where no connection was live: the log is then cut at its front, also that of this view. */
+void sqr_path_let_write(struct sqr_path *of, struct sqr_view *view);
+#endif

@@ -1,0 +1,227 @@
+/* path.c: opens a database by its path for the calls of sqrescue.h. It decides nothing of a database: it leads links to
+   their file, takes SQLite's locks by the proved plan (locks/held.c), maps FILE and its logs or copies them where no
+   lock keeps them as they are, cuts the log where the proved reading of FILE-shm says, and hands the bytes to the calls
+   over memory. Not proved. */
+#define _GNU_SOURCE
+#include "files.h"
+#include "../locks/sqlocks.h"
+#include <errno.h>
+#include <fcntl.h>
+#include <limits.h>
+#include <stdlib.h>
+#include <string.h>
+#include <time.h>
+#include <unistd.h>
+
+enum how { UNLOCKED, FRONT, SCANNED, SCANNED_ALONE, NO_INDEX }; /* which locks are held */
+
+uint64_t sqr_index_end(const uint8_t *index, size_t len);
+
+static const struct sqr_view no_view = SQR_VIEW_INIT;
+static const struct sqr_files no_files = {(const uint8_t *)"", 0, (const uint8_t *)"", 0, (const uint8_t *)"", 0};
+
+static int is_there(const char *path, const char *end) {
+    char name[PATH_MAX + 16];
+    struct stat found;
+    sqr_file_name(name, path, end);
+    return lstat(name, &found) == 0 || errno != ENOENT;
+}
+
+/* Which locks the plan came to: what it would give back first, and for a log that is scanned, whether the last that
+   was asked before is that no connection is live. */
+static uint32_t how_held(const struct sqr_held *held, enum how *how) {
+    struct sqr_lock_step back, before;
+    if (sqr_lock_step(held->want, held->answers, held->count, &back)
+        || sqr_lock_step(held->want, held->answers, held->count - 2, &before)) return SQR_NO_MEMORY;
+    if (!back.is_of_index) *how = NO_INDEX;
+    else if (back.start == 123) *how = FRONT;
+    else *how = before.kind == SQR_GIVE && before.start == 128 ? SCANNED_ALONE : SCANNED;
+    return SQR_OK;
+}
+
+/* How many bytes of the log count by FILE-shm. Refused where FILE-shm is being written. */
+static uint32_t front_of(int index, int log, size_t *len) {
+    uint8_t head[136], header[32], frame[24];
+    struct stat found;
+    for (int tries = 0; tries < 100; tries++) {
+        if (pread(index, head, sizeof head, 0) != sizeof head) return SQR_IN_USE;
+        off_t place = (off_t)sqr_index_place(head, sizeof head);
+        size_t has = log >= 0 && pread(log, header, sizeof header, 0) == sizeof header
+            && pread(log, frame, sizeof frame, place) == sizeof frame;
+        *len = (size_t)sqr_index_end(head, sizeof head);
+        if (!sqr_index_names(head, sizeof head, header, has * sizeof header, frame, has * sizeof frame)) continue;
+        if (*len == 0 || (fstat(log, &found) == 0 && (uint64_t)found.st_size >= *len)) return SQR_OK;
+    }
+    return SQR_IN_USE;
+}
+
+static uint32_t read_wal(struct sqr_path *of, const char *path, enum how how) {
+    struct stat found;
+    int fd;
+    uint32_t status = sqr_file_log(of->held.file, path, "-wal", O_RDONLY, &fd, &found);
+    if (status) return status;
+    size_t len = fd < 0 ? 0 : (size_t)found.st_size;
+    if (how == FRONT) status = front_of(of->held.index, fd, &len);
+    if (!status && fd >= 0) status = sqr_file_bytes(fd, len, how == NO_INDEX, &of->wal);
+    if (fd >= 0) close(fd);
+    return status;
+}
+
+/* Whether a file still has these bytes at its front. */
+static uint32_t has_still(int fd, const uint8_t *bytes, size_t len, int *has) {
+    uint8_t again[4096];
+    *has = 1;
+    for (size_t at = 0; *has && at < len;) {
+        ssize_t more = pread(fd, again, len - at < sizeof again ? len - at : sizeof again, (off_t)at);
+        if (more < 0 && errno == EINTR) continue;
+        if (more < 0) return sqr_file_status(errno);
+        *has = more > 0 && !memcmp(again, bytes + at, (size_t)more);
+        at += (size_t)more;
+    }
+    return SQR_OK;
+}
+
+/* A journal is copied, since a live writer may cut it. Where a second reading of all of it finds other bytes it is a
+   live writer's, which has written nothing to FILE, and so it isn't read (SHARED is held: that of a dead one stays as
+   it is). The header alone doesn't tell: over the records of an earlier transaction (persist) half of a record may be
+   copied whose sum, which is over each 200th byte, is right all the same. A reading that fails says nothing of it. */
+static uint32_t read_journal(struct sqr_path *of, const char *path) {
+    struct stat found, again;
+    int fd, has = 1;
+    uint32_t status = sqr_file_log(of->held.file, path, "-journal", O_RDONLY, &fd, &found);
+    if (status || fd < 0) return status;
+    status = sqr_file_bytes(fd, (size_t)found.st_size, 1, &of->journal);
+    if (!status) status = has_still(fd, of->journal.bytes, of->journal.len, &has);
+    if (!status && fstat(fd, &again)) status = sqr_file_status(errno);
+    close(fd);
+    if (!status && (!has || again.st_size < found.st_size || again.st_nlink == 0)) sqr_file_give_back(&of->journal);
+    return status;
+}
+
+/* FILE may change while SHARED alone is held where it is in WAL mode, or has such a log: then it is copied. */
+static uint32_t read_file(struct sqr_path *of, const char *path, enum how how) {
+    struct stat found;
+    uint8_t version = 0;
+    if (fstat(of->held.file, &found)) return sqr_file_status(errno);
+    int may_change = how == NO_INDEX
+        && (is_there(path, "-wal") || pread(of->held.file, &version, 1, 19) != 1 || version == 2);
+    return sqr_file_bytes(of->held.file, (size_t)found.st_size, may_change, &of->db);
+}
+
+/* The pages of the database at a commit, or 0 where there is no such commit. */
+static uint32_t pages_at(const struct sqr_files *files, uint32_t frame, uint32_t *pages) {
+    uint32_t count = 0;
+    struct sqr_commit none = {0, 0, 0}, *commits;
+    *pages = 0;
+    uint32_t status = sqr_wal_commits(files->wal, files->wal_len, &none, 0, &count);
+    if (status != SQR_NO_ROOM) return status == SQR_NO_MEMORY ? status : SQR_OK;
+    commits = calloc(count, sizeof *commits);
+    if (!commits) return SQR_NO_MEMORY;
+    status = sqr_wal_commits(files->wal, files->wal_len, commits, count, &count);
+    for (uint32_t i = 0; !status && i < count; i++)
+        if (commits[i].frame == frame) *pages = commits[i].pages;
+    free(commits);
+    return status;
+}
+
+static uint32_t open_view(struct sqr_path *of, uint32_t flags, uint32_t at) {
+    uint32_t page_size = 0, pages = 0, status;
+    if (flags & SQR_AT) status = pages_at(&of->files, at, &pages);
+    else status = sqr_size(&of->files, &page_size, &pages);
+    if (status) return status;
+    of->places = calloc((size_t)pages + 1, sizeof *of->places);
+    if (!of->places) return SQR_NO_MEMORY;
+    if (flags & SQR_AT) return sqr_open_at(&of->files, at, of->places, pages, &of->view);
+    return sqr_open(&of->files, of->places, pages, &of->view);
+}
+
+/* Where no connection is live, one may come once WRITE is given back, and go on behind the front of the log: that alone
+   stays as it is then. */
+void sqr_path_let_write(struct sqr_path *of, struct sqr_view *view) {
+    struct sqr_wal log = {0, 0, 0, 0, 0, 0};
+    struct sqr_frame none = {0, 0};
+    struct flock write = {.l_type = F_UNLCK, .l_whence = SEEK_SET, .l_start = 120, .l_len = 1};
+    if (!of->is_alone || of->held.count == SQR_HOLD_STEPS) return;
+    uint32_t status = sqr_wal_scan(of->files.wal, of->files.wal_len, &none, 0, &log);
+    if (status != SQR_OK && status != SQR_NO_ROOM) return;
+    size_t end = log.front ? 32 + (size_t)log.front * (24 + (size_t)log.page_size) : 0;
+    of->files.wal_len = end;
+    if (view->log == of->files.wal && view->log_len > end) view->log_len = end;
+    if (fcntl(of->held.index, F_OFD_SETLK, &write) == 0) of->held.answers[of->held.count++] = SQR_GIVEN;
+    of->is_alone = 0;
+}
+
+/* One attempt. SQR_IN_USE where the files were being changed: another may succeed. */
+static uint32_t attempt(struct sqr_path *of, const char *path, uint32_t flags, uint32_t at) {
+    enum how how = UNLOCKED;
+    uint32_t status = flags & SQR_NO_LOCK ? SQR_OK : how_held(&of->held, &how);
+    if (!status) status = read_wal(of, path, how);
+    if (!status) status = read_journal(of, path);
+    if (!status) status = read_file(of, path, how);
+    if (!status && how == NO_INDEX && is_there(path, "-shm")) status = SQR_IN_USE;
+    if (status) return status;
+    of->files = (struct sqr_files)SQR_FILES(of->db.bytes, of->db.len, of->wal.bytes, of->wal.len, of->journal.bytes,
+                                            of->journal.len);
+    of->is_alone = how == SCANNED_ALONE;
+    if (flags & SQR_FILES_ONLY) return SQR_OK;
+    status = open_view(of, flags, at);
+    if (!status) sqr_path_let_write(of, &of->view);
+    return status;
+}
+
+static void empty(struct sqr_path *of) {
+    free(of->places);
+    sqr_file_give_back(&of->journal);
+    sqr_file_give_back(&of->wal);
+    sqr_file_give_back(&of->db);
+    sqr_file_let_go(&of->held, of->is_locked);
+    memset(of, 0, sizeof *of);
+    of->held.file = of->held.index = -1;
+    of->files = no_files;
+    of->view = no_view;
+}
+
+static uint32_t open_until(struct sqr_path *of, const char *path, uint32_t flags, const struct sqr_asked *asked) {
+    const uint64_t end = sqr_file_now() + asked->wait;
+    for (;;) {
+        uint64_t at = sqr_file_now();
+        uint32_t status = sqr_file_hold(&of->held, path, 0, flags, at < end ? end - at : 0);
+        if (status) return status;
+        of->is_locked = !(flags & SQR_NO_LOCK);
+        status = attempt(of, path, flags, asked->at);
+        if (status != SQR_IN_USE || sqr_file_now() >= end) return status;
+        empty(of);
+        nanosleep(&(struct timespec){0, 1000000}, NULL);
+    }
+}
+
+uint32_t sqr_open_path(const char *path, uint32_t flags, const struct sqr_options *options, struct sqr_path **handle) {
+    struct sqr_asked asked = {0, 0};
+    if (!handle) return SQR_MISUSE;
+    *handle = NULL;
+    char real[PATH_MAX];
+    uint32_t status = sqr_file_asked(path, flags, UINT32_MAX, options, real, &asked);
+    if (status) return status;
+    struct sqr_path *of = calloc(1, sizeof *of);
+    if (!of) return SQR_NO_MEMORY;
+    of->held.file = of->held.index = -1;
+    status = open_until(of, real, flags, &asked);
+    if (status) sqr_close_path(&of);
+    *handle = of;
+    return status;
+}
+
+void sqr_close_path(struct sqr_path **handle) {
+    if (!handle || !*handle) return;
+    empty(*handle);
+    free(*handle);
+    *handle = NULL;
+}
+
+const struct sqr_view *sqr_path_view(const struct sqr_path *handle) {
+    return handle ? &handle->view : &no_view;
+}
+
+const struct sqr_files *sqr_path_files(const struct sqr_path *handle) {
+    return handle ? &handle->files : &no_files;
+}

@@ -1,0 +1,501 @@
+"""The database that a SQLite file shows with the logs beside it, page by page, over libsqrescue (include/sqrescue.h).
+
+    with View("ledger.db") as view:         # takes the locks of a reader of SQLite, and writes nothing
+        print(len(view), view.page_size)
+        first = view[1]                     # pages are counted from 1
+        for page in view:
+            ...
+        view.check()                        # a Report, or the exception Damaged
+        view.roles()                        # what each page is used for, also of a damaged database
+        for commit in view.commits():       # of the write-ahead log
+            before = view.at(commit.frame)  # a View of the same files, as they were with that commit
+    recover_to("ledger.db", "copy.db")      # a new file with what a recovery would leave, beside any writer
+    recover("ledger.db")                    # a recovery in its place, while nobody else has it open
+
+The library is the file that SQRESCUE_LIBRARY names, or the one beside this file, as a wheel has it, or that of this
+repository, or the system's. While a View of a path is open its bytes are of one moment, beside any writer; but not in a
+process that has the same database open by the module sqlite3, which loses its own locks when the View is closed. Of
+bytes that are handed over nobody writes to them meanwhile."""
+import ctypes
+import mmap
+import operator
+import os
+from collections import namedtuple
+
+FAULTS = ("Magic PageSize Fraction Reserved AutoVacuum Kind CellOutside Overlap Freeblock Fragments ChainCut ChainLong "
+          "PageTwice PageOutside PageUnused KeyOrder Depth FreeCount Source NoMemory SchemaRecord PointerMap").split()
+
+Report = namedtuple("Report", "pages trees btree overflow free")
+Frame = namedtuple("Frame", "page size")
+Wal = namedtuple("Wal", "page_size front pages stop why frames")
+Commit = namedtuple("Commit", "frame frames pages")
+Record = namedtuple("Record", "at page")
+Journal = namedtuple("Journal", "page_size sector pages stop why records")
+Recovered = namedtuple("Recovered", "recovery page_size pages")
+Step = namedtuple("Step", "kind is_of_log at length page content")
+Role = namedtuple("Role", "use of")
+Roles = namedtuple("Roles", "roles fault page")
+
+USES = ("table leaf", "table interior", "index leaf", "index interior", "overflow", "free trunk", "free leaf",
+        "lock byte", "pointer map", "unused")
+RECOVERIES = ("nothing", "fold", "empty", "roll back")
+STEPS = ("end", "page", "zeros", "length", "sync")
+
+
+class Error(Exception):
+    """Why a call is refused; `status` is its number in sqrescue.h."""
+    status = 0
+
+
+class Damaged(Error):
+    """The database isn't well formed: `fault` is the name of a fault, at page `page`."""
+    status = 1
+
+    def __init__(self, fault, page):
+        super().__init__(f"page {page}: {fault}")
+        self.fault, self.page = fault, page
+
+
+def _refusal(name, status, doc, *bases):
+    """The Error of this name and status."""
+    return type(name, (Error, *bases), {"__doc__": doc, "__module__": __name__, "status": status})
+
+
+TwoLogs = _refusal("TwoLogs", 2, "A hot journal and a write-ahead log that isn't empty.")
+TooLarge = _refusal("TooLarge", 3, "A database or a log above the limits.")
+AutoVacuum = _refusal("AutoVacuum", 4, "`check` of a database with pointer maps.")
+NotADatabase = _refusal("NotADatabase", 5, "No log counts, and the file's header is none of a database.")
+NoMemory = _refusal("NoMemory", 6, "An allocation was refused.", MemoryError)
+NoSuchPage = _refusal("NoSuchPage", 7, "Page 0, or one above the last.", IndexError)
+NoSuchCommit = _refusal("NoSuchCommit", 10, "No valid frame of this number ends a commit, or a hot journal counts.")
+BadMagic = _refusal("BadMagic", 11, "The bytes don't begin as a log.")
+BadPageSize = _refusal("BadPageSize", 12, "The log's header names no page size, or no sector size.")
+BadSum = _refusal("BadSum", 13, "The checksum of the log's header is wrong.")
+BadVersion = _refusal("BadVersion", 14, "The log is of another version than 3007000.")
+SuperJournal = _refusal("SuperJournal", 15, "The journal names a super-journal, which decides whether it counts.")
+PageSizesDiffer = _refusal("PageSizesDiffer", 16, "The log's pages are of another size than those of the file.")
+NotThere = _refusal("NotThere", 17, "There is no such file.", FileNotFoundError)
+NotReadable = _refusal("NotReadable", 18, "The file, or a log beside it, can't be read.", PermissionError)
+Folder = _refusal("Folder", 19, "The path leads to a folder.", IsADirectoryError)
+NotAFile = _refusal("NotAFile", 20, "The path, or a log beside it, is no regular file.", OSError)
+InUse = _refusal("InUse", 21, "A writer held a lock until the time was over.", TimeoutError)
+NoLocks = _refusal("NoLocks", 22, "The file system has no such locks; see lock=False.", OSError)
+FileFailed = _refusal("FileFailed", 23, "The system couldn't read or write the file.", OSError)
+Misuse = _refusal("Misuse", 25, "A new file would have the name of a log of the database.", ValueError)
+NotWritable = _refusal("NotWritable", 26, "The file, or a log beside it, can't be written, or a new one made.",
+                       PermissionError)
+AlreadyThere = _refusal("AlreadyThere", 27, "Something lies where a new file is to be made.", FileExistsError)
+DiskFull = _refusal("DiskFull", 28, "There is no space left, or a limit of the size of files is reached.", OSError)
+
+NO_ROOM = 9
+ERRORS = {error.status: error for error in Error.__subclasses__()}
+
+Word, Long, Size = ctypes.c_uint32, ctypes.c_uint64, ctypes.c_size_t
+Bytes = ctypes.POINTER(ctypes.c_char)
+
+
+class _Files(ctypes.Structure):
+    _fields_ = [(name + end, kind) for name in ("db", "wal", "journal") for end, kind in (("", Bytes), ("_len", Size))]
+
+
+class _View(ctypes.Structure):
+    _fields_ = [("db", Bytes), ("db_len", Size), ("log", Bytes), ("log_len", Size),
+                ("places", ctypes.POINTER(Long)), ("places_len", Size), ("page_size", Word), ("pages", Word)]
+
+
+class _Report(ctypes.Structure):
+    _fields_ = [(name, Word) for name in ("fault", "page", *Report._fields)]
+
+
+class _Frame(ctypes.Structure):
+    _fields_ = [("page", Word), ("size", Word)]
+
+
+class _Wal(ctypes.Structure):
+    _fields_ = [(name, Word) for name in ("page_size", "frames", "front", "pages", "stop", "why")]
+
+
+class _Commit(ctypes.Structure):
+    _fields_ = [(name, Word) for name in Commit._fields]
+
+
+class _Record(ctypes.Structure):
+    _fields_ = [("at", Long), ("page", Word)]
+
+
+class _Journal(ctypes.Structure):
+    _fields_ = [("records", Long), ("stop", Long), *((name, Word) for name in ("why", "page_size", "sector", "pages"))]
+
+
+class _Options(ctypes.Structure):
+    _fields_ = [("size", Size), ("wait", Word), ("at", Word)]
+
+
+class _Plan(ctypes.Structure):
+    _fields_ = [("view", _View), ("done", Long), ("recovery", Word)]
+
+
+class _Step(ctypes.Structure):
+    _fields_ = [("at", Long), ("length", Long), ("kind", Word), ("is_of_log", Word), ("page", Word)]
+
+
+class _Recovered(ctypes.Structure):
+    _fields_ = [(name, Word) for name in Recovered._fields]
+
+
+class _Role(ctypes.Structure):
+    _fields_ = [("kind", Word), ("of", Word)]
+
+
+class _Survey(ctypes.Structure):
+    _fields_ = [("pages", Word), ("fault", Word), ("page", Word)]
+
+
+FILES_ONLY, NO_LOCK, AT, LARGE, POINTER_MAPS = 1, 2, 4, 8, 16
+
+
+def _found():
+    """Where the library is."""
+    name, here = "libsqrescue.so.1", os.path.dirname(os.path.abspath(__file__))
+    top = os.path.dirname(os.path.dirname(here))
+    for folder in (here, os.path.join(top, "lib"), os.path.join(top, "release", "lib")):
+        if os.path.exists(os.path.join(folder, name)):
+            return os.path.join(folder, name)
+    return name
+
+
+def _loaded():
+    """The library, with the types of its calls."""
+    library = ctypes.CDLL(os.environ.get("SQRESCUE_LIBRARY") or _found())
+    pointer = ctypes.POINTER
+    for call, types, answer in (
+        ("sqr_size", [pointer(_Files), pointer(Word), pointer(Word)], Word),
+        ("sqr_open", [pointer(_Files), pointer(Long), Size, pointer(_View)], Word),
+        ("sqr_page", [pointer(_View), Word, Bytes, Size], Word),
+        ("sqr_check_with", [pointer(_Files), Word, Word, pointer(_Report)], Word),
+        ("sqr_page_roles", [pointer(_Files), Word, Word, pointer(_Role), Size, pointer(_Survey)], Word),
+        ("sqr_open_at", [pointer(_Files), Word, pointer(Long), Size, pointer(_View)], Word),
+        ("sqr_wal_scan", [Bytes, Size, pointer(_Frame), Size, pointer(_Wal)], Word),
+        ("sqr_wal_commits", [Bytes, Size, pointer(_Commit), Size, pointer(Word)], Word),
+        ("sqr_journal_scan", [Bytes, Size, pointer(_Record), Size, pointer(_Journal)], Word),
+        ("sqr_plan", [pointer(_Files), pointer(Long), Size, pointer(_Plan)], Word),
+        ("sqr_plan_next", [pointer(_Plan), pointer(_Step)], Word),
+        ("sqr_recover", [ctypes.c_char_p, Word, pointer(_Options), pointer(_Recovered)], Word),
+        ("sqr_recover_to", [ctypes.c_char_p, ctypes.c_char_p, Word, pointer(_Options), pointer(_Recovered)], Word),
+        ("sqr_open_path", [ctypes.c_char_p, Word, pointer(_Options), pointer(ctypes.c_void_p)], Word),
+        ("sqr_close_path", [pointer(ctypes.c_void_p)], None),
+        ("sqr_path_view", [ctypes.c_void_p], pointer(_View)),
+        ("sqr_path_files", [ctypes.c_void_p], pointer(_Files)),
+    ):
+        function = getattr(library, call)
+        function.argtypes, function.restype = types, answer
+    return library
+
+
+_library = _loaded()
+
+
+def _error(status, path=None):
+    """The exception of a refusal."""
+    error = ERRORS.get(status, Error)
+    text = f"status {status}" if error is Error else error.__doc__
+    return error(f"{path}: {text}" if path else text)
+
+
+def _judge(status):
+    """Raises where a status is a refusal."""
+    if status:
+        raise _error(status)
+
+
+def _lent(content):
+    """A pointer to these bytes, and their number. It keeps them alive; bytes, bytearrays and maps aren't copied."""
+    if isinstance(content, (mmap.mmap, bytearray)):
+        return ctypes.cast((ctypes.c_char * len(content)).from_buffer(content), Bytes), len(content)
+    content = bytes(content)
+    return ctypes.cast(ctypes.c_char_p(content), Bytes), len(content)
+
+
+def _all_of(call, lent, kind, out, count):
+    """The entries that a scan finds, of which `count` tells the number from what it writes to `out`."""
+    entries = (kind * 1)()
+    status = call(*lent, entries, 0, out)
+    if status == NO_ROOM:
+        entries = (kind * count(out))()
+        status = call(*lent, entries, len(entries), out)
+    _judge(status)
+    return entries[:count(out)]
+
+
+def _commits_of(lent):
+    found = _all_of(_library.sqr_wal_commits, lent, _Commit, Word(), lambda out: out.value)
+    return [Commit(it.frame, it.frames, it.pages) for it in found]
+
+
+def commits_of(wal):
+    """The Commits of a write-ahead log: the frame that ends each, from 1, how many frames it has, and how many pages
+    the database has there."""
+    return _commits_of(_lent(wal))
+
+
+def scan_journal(journal):
+    """What a rollback journal holds: a Journal with its Records that count; its page size is 0 where it isn't hot."""
+    out = _Journal()
+    found = _all_of(_library.sqr_journal_scan, _lent(journal), _Record, out, lambda out: out.records)
+    records = [Record(record.at, record.page) for record in found]
+    return Journal(out.page_size, out.sector, out.pages, out.stop, out.why, records)
+
+
+def scan_wal(wal):
+    """What a write-ahead log holds: a Wal with its valid frames."""
+    out = _Wal()
+    found = _all_of(_library.sqr_wal_scan, _lent(wal), _Frame, out, lambda out: out.frames)
+    frames = [Frame(frame.page, frame.size) for frame in found]
+    return Wal(out.page_size, out.front, out.pages, out.stop, out.why, frames)
+
+
+def _flags(large, pointer_maps):
+    return (LARGE if large else 0) | (POINTER_MAPS if pointer_maps else 0)
+
+
+def _roles_of(files, flags):
+    """The Roles of the pages of a database."""
+    roles, out = (_Role * 0)(), _Survey()
+    status = _library.sqr_page_roles(files, flags, 0, roles, 0, out)
+    if status == NO_ROOM:
+        roles = (_Role * out.pages)()
+        status = _library.sqr_page_roles(files, flags, 0, roles, len(roles), out)
+    if status != Damaged.status:
+        _judge(status)
+    found = [Role(USES[role.kind - 1], role.of or None) for role in roles[:out.pages]]
+    return Roles(found, FAULTS[out.fault - 1] if out.fault else None, out.page or None)
+
+
+def _checked(files, flags):
+    """The Report of a well-formed database; otherwise Damaged."""
+    found = _Report()
+    status = _library.sqr_check_with(files, flags, 0, found)
+    if status == Damaged.status:
+        raise Damaged(FAULTS[found.fault - 1], found.page)
+    _judge(status)
+    return Report(*(getattr(found, name) for name in Report._fields))
+
+
+def _path(path):
+    """A path as the system has it."""
+    path = os.fsencode(path)
+    if b"\0" in path:
+        raise ValueError("a path with a zero byte")
+    return path
+
+
+def _options(wait, at=0):
+    """How long locks are waited for, and the frame of a commit."""
+    return _Options(ctypes.sizeof(_Options), int(max(0, min(wait * 1000, 2**32 - 1))), at)
+
+
+class _Bytes:
+    """A database file and its logs, as bytes that are handed over."""
+
+    def __init__(self, database, wal, journal):
+        lent = _lent(database), _lent(wal), _lent(journal)
+        self.files, self.view = _Files(*(it for pair in lent for it in pair)), None
+
+    def close(self):
+        self.files = None
+
+
+class _Path:
+    """A database file by its path, and the logs beside what it leads to, as they stay while it is open."""
+
+    def __init__(self, path, flags, wait):
+        self._handle, self.files = ctypes.c_void_p(), None
+        status = _library.sqr_open_path(_path(path), flags, _options(wait), self._handle)
+        if status:
+            raise _error(status, os.fspath(path))
+        self.files = _library.sqr_path_files(self._handle).contents
+        self.view = _library.sqr_path_view(self._handle).contents
+
+    def close(self):
+        self.files = self.view = None
+        _library.sqr_close_path(self._handle)
+
+    def __del__(self):
+        if self._handle:
+            self.close()
+
+
+def _source(database, wal, journal, flags, wait, lock):
+    """The files of a path, or the bytes of each."""
+    if isinstance(database, (str, os.PathLike)):
+        return _Path(database, flags | (0 if lock else NO_LOCK), wait)
+    return _Bytes(database, wal, journal)
+
+
+class View:
+    """The database that a file and its logs show: of a path, whose logs lie beside what it leads to, or of the bytes of
+    each. It is a sequence of pages, counted from 1. Locks are waited for up to `wait` seconds; without `lock` none are
+    taken, and nobody may write to the files meanwhile."""
+
+    def __init__(self, database, wal=b"", journal=b"", *, wait=5.0, lock=True):
+        self._is_part, self._commits = False, None
+        self._source = _source(database, wal, journal, 0, wait, lock)
+        self._files, self._view = self._source.files, self._source.view
+        if self._view is None:
+            page_size, pages = Word(), Word()
+            _judge(_library.sqr_size(self._files, page_size, pages))
+            self._open(_library.sqr_open, [self._files], pages.value)
+        self.page_size = self._view.page_size
+
+    def _open(self, call, first, count):
+        files = self._source.files
+        places = (Long * max(count, 1))()
+        self._view = _View(files.db, 0, files.db, 0, places, 0, 0, 0)
+        _judge(call(*first, places, count, self._view))
+        self.page_size = self._view.page_size
+
+    def __enter__(self):
+        return self
+
+    def __exit__(self, *_):
+        self.close()
+
+    def close(self):
+        """Gives up the files, and their locks, unless `at` made it. Pages that were read stay; the view can't be used
+        any more."""
+        self._view = self._files = None
+        if not self._is_part:
+            self._source.close()
+
+    def _opened(self):
+        if self._view is None or self._source.files is None:
+            raise ValueError("the view is closed")
+        return self._view
+
+    def __len__(self):
+        return self._opened().pages
+
+    def __getitem__(self, number):
+        """The bytes of a page."""
+        number = operator.index(number)
+        if not 0 < number <= len(self):
+            raise NoSuchPage(f"page {number} of {len(self)}")
+        page = ctypes.create_string_buffer(self.page_size)
+        _judge(_library.sqr_page(self._opened(), number, page, self.page_size))
+        return page.raw
+
+    def __iter__(self):
+        return (self[number] for number in range(1, len(self) + 1))
+
+    def check(self, *, large=False, pointer_maps=False):
+        """The Report of a database that is well formed; otherwise Damaged. With pointer_maps one of auto-vacuum too,
+        which otherwise is AutoVacuum; with large up to 2**40 bytes."""
+        self._opened()
+        return _checked(self._files, _flags(large, pointer_maps))
+
+    def roles(self, *, large=False, pointer_maps=False):
+        """The Roles of the pages, page 1 first: the use of each, one of USES, and the page that goes with it, the root
+        of its tree or the page whose payload it holds; and the fault that `check` finds, with its page, or None."""
+        self._opened()
+        return _roles_of(self._files, _flags(large, pointer_maps))
+
+    def commits(self):
+        """The Commits of the write-ahead log, the first one first; none where there is no such log. They are looked for
+        once."""
+        self._opened()
+        if self._commits is None:
+            files = self._source.files
+            try:
+                self._commits = tuple(_commits_of((files.wal, files.wal_len)))
+            except (BadMagic, BadPageSize, BadSum, BadVersion):
+                self._commits = ()
+        return self._commits
+
+    def at(self, frame):
+        """The View of the same files with the write-ahead log up to a commit, by the frame that ends it; at 0 without
+        logs. It is closed with this one. NoSuchCommit where no commit ends there."""
+        self._opened()
+        frame = operator.index(frame)
+        if not 0 <= frame < 2**32:
+            raise NoSuchCommit(f"frame {frame}")
+        view = View.__new__(View)
+        view._source, view._is_part, view._view = self._source, True, None
+        view._commits = commits = self.commits()
+        count = next((commit.pages for commit in commits if commit.frame == frame), 0)
+        files = self._source.files
+        view._open(_library.sqr_open_at, [files, frame], count)
+        length = 32 + frame * (24 + view.page_size) if frame else 0
+        view._files = _Files(files.db, files.db_len, files.wal, length, files.journal, 0)
+        return view
+
+
+def check(database, wal=b"", journal=b"", *, large=False, pointer_maps=False, wait=5.0, lock=True):
+    """The Report of a database that is well formed; otherwise Damaged, also where the files show none, and so have no
+    View. Else as View.check."""
+    source = _source(database, wal, journal, FILES_ONLY, wait, lock)
+    try:
+        return _checked(source.files, _flags(large, pointer_maps))
+    finally:
+        source.close()
+
+
+def recover(path, *, wait=5.0, lock=True):
+    """Recovers a database in its place: folds its write-ahead log into it and empties that, or rolls it back by a hot
+    journal. The Recovered says which of RECOVERIES it was. InUse where somebody has it open still, once `wait` seconds
+    are over; without `lock` that nobody has is the caller's care. After an error of the disk it may be called again."""
+    found = _Recovered()
+    status = _library.sqr_recover(_path(path), 0 if lock else NO_LOCK, _options(wait), found)
+    if status:
+        raise _error(status, os.fspath(path))
+    return Recovered(RECOVERIES[found.recovery], found.page_size, found.pages)
+
+
+def recover_to(path, out, *, at=None, wait=5.0, lock=True):
+    """Makes `out`, a new file with what a recovery would leave, or with the commit that ends at the frame `at`; the
+    database is only read, beside any writer. `out` is whole and durable, or not there; AlreadyThere where something
+    is."""
+    frame = 0 if at is None else operator.index(at)
+    if not 0 <= frame < 2**32:
+        raise NoSuchCommit(f"frame {frame}")
+    flags, found = (0 if lock else NO_LOCK) | (0 if at is None else AT), _Recovered()
+    status = _library.sqr_recover_to(_path(path), _path(out), flags, _options(wait, frame), found)
+    if status:
+        raise _error(status, f"{os.fspath(path)}, {os.fspath(out)}")
+    return Recovered(RECOVERIES[found.recovery], found.page_size, found.pages)
+
+
+def plan(database, wal=b"", journal=b"", *, wait=5.0, lock=True):
+    """The Steps of what a recovery would do, one after another, for storage of a caller's own: the `content` of a page
+    or of zeros at `at`, a new length, what was done before made durable (`sync`); in the database file, or where
+    is_of_log is 1 in the log that counts. Carried out in their order they leave what `recover` leaves. `database` is
+    bytes, or a path, which is open until the last step was taken."""
+    source = _source(database, wal, journal, FILES_ONLY, wait, lock)
+    page_size, pages, made = Word(), Word(), _Plan()
+    try:
+        if _library.sqr_size(source.files, page_size, pages) == NoMemory.status:
+            raise _error(NoMemory.status)
+        places = (Long * max(pages.value, 1))()
+        files = source.files
+        made.view = _View(files.db, 0, files.db, 0, places, 0, 0, 0)
+        _judge(_library.sqr_plan(files, places, pages.value, made))
+    except BaseException:
+        source.close()
+        raise
+    return _steps(source, places, made)
+
+
+def _steps(source, places, made):
+    """The steps of a plan, over places that are kept until the last."""
+    step = _Step()
+    try:
+        while _library.sqr_plan_next(made, step):
+            kind, content = STEPS[step.kind], None
+            if kind == "page":
+                content = ctypes.create_string_buffer(step.length)
+                _judge(_library.sqr_page(made.view, step.page, content, step.length))
+                content = content.raw
+            elif kind == "zeros":
+                content = bytes(step.length)
+            yield Step(kind, step.is_of_log, step.at, step.length, step.page or None, content)
+    finally:
+        source.close()

@@ -1,0 +1,65 @@
+"""Makes the wheel: the module, and the shared library that ./build-c left, or that of the release. It asks for nothing
+but Python, and no compiler and no network: `pip install ./python` calls it (PEP 517)."""
+import base64
+import hashlib
+import os
+import re
+import zipfile
+
+HERE = os.path.dirname(os.path.abspath(__file__))
+LIBRARY = "libsqrescue.so.1"
+TAG = "py3-none-linux_x86_64"
+
+
+def _setting(name):
+    """What pyproject.toml says."""
+    with open(os.path.join(HERE, "pyproject.toml"), encoding="utf-8") as file:
+        return re.search(rf'^{name} = "(.*)"$', file.read(), re.M)[1]
+
+
+def _library():
+    """The shared library: the one that SQRESCUE_LIBRARY names, that of lib/, or that of release/lib/."""
+    top = os.path.dirname(HERE)
+    below = [os.path.join(top, folder, LIBRARY) for folder in ("lib", os.path.join("release", "lib"))]
+    for path in filter(None, [os.environ.get("SQRESCUE_LIBRARY"), *below]):
+        if os.path.exists(path):
+            return path
+    raise FileNotFoundError(f"{LIBRARY} is neither in lib/ nor in release/lib/: call ./build-c")
+
+
+def _content(path):
+    with open(path, "rb") as file:
+        return file.read()
+
+
+def _about():
+    """The files that describe the wheel."""
+    name, version = _setting("name"), _setting("version")
+    metadata = f"Metadata-Version: 2.1\nName: {name}\nVersion: {version}\nSummary: {_setting('description')}\n"
+    metadata += f"License: MIT\nRequires-Python: {_setting('requires-python')}\n"
+    wheel = f"Wheel-Version: 1.0\nGenerator: wheel_of\nRoot-Is-Purelib: false\nTag: {TAG}\n"
+    return f"{name}-{version}", {"METADATA": metadata.encode(), "WHEEL": wheel.encode()}
+
+
+def _line(name, content):
+    """What RECORD says of a file."""
+    digest = base64.urlsafe_b64encode(hashlib.sha256(content).digest()).rstrip(b"=").decode()
+    return f"{name},sha256={digest},{len(content)}\n"
+
+
+def build_wheel(wheel_directory, config_settings=None, metadata_directory=None):
+    """Writes the wheel, the same bytes each time, and gives its name."""
+    head, about = _about()
+    files = {"sqrescue/__init__.py": _content(os.path.join(HERE, "sqrescue", "__init__.py")),
+             f"sqrescue/{LIBRARY}": _content(_library())}
+    files.update((f"{head}.dist-info/{name}", content) for name, content in about.items())
+    record = "".join(_line(*item) for item in files.items()) + f"{head}.dist-info/RECORD,,\n"
+    files[f"{head}.dist-info/RECORD"] = record.encode()
+    name = f"{head}-{TAG}.whl"
+    with zipfile.ZipFile(os.path.join(wheel_directory, name), "w", zipfile.ZIP_DEFLATED) as wheel:
+        for path, content in files.items():
+            entry = zipfile.ZipInfo(path)
+            entry.external_attr = (0o100755 if path.endswith(LIBRARY) else 0o100644) << 16
+            entry.compress_type = zipfile.ZIP_DEFLATED
+            wheel.writestr(entry, content)
+    return name
