@@ -1,0 +1,153 @@
+/* held.c: carries out the plan of SQLite's locks that sqr_lock_step, which is proved, gives step by step. It decides
+   nothing: a step is carried out here, and said what it came to. Not proved. */
+#define _GNU_SOURCE
+#include "held.h"
+#include "sqlocks.h"
+#include <errno.h>
+#include <fcntl.h>
+#include <limits.h>
+#include <stdio.h>
+#include <string.h>
+#include <sys/stat.h>
+#include <time.h>
+#include <unistd.h>
+
+struct attempt {
+    struct sqr_held *held;
+    const char *path;
+    struct timespec end;
+    int why; /* errno, where FILE couldn't be opened */
+};
+
+static int opened(const char *path, const char *behind, int how) { /* a regular file, or -1 */
+    char name[PATH_MAX + 8];
+    struct stat found;
+    int length = snprintf(name, sizeof name, "%s%s", path, behind);
+    if (length < 0 || (size_t)length >= sizeof name) return errno = ENAMETOOLONG, -1;
+    int fd = open(name, how | O_NOFOLLOW | O_NONBLOCK | O_NOCTTY | O_CLOEXEC);
+    if (fd >= 0 && fd <= 2) { /* the number of a standard stream that is closed */
+        int other = fcntl(fd, F_DUPFD_CLOEXEC, 3);
+        close(fd);
+        fd = other;
+    }
+    if (fd >= 0 && fstat(fd, &found) == 0 && S_ISREG(found.st_mode)) return fd;
+    if (fd >= 0) close(fd), errno = EINVAL;
+    return -1;
+}
+
+static void closed(int *fd) {
+    if (*fd >= 0) close(*fd);
+    *fd = -1;
+}
+
+static uint8_t open_file(struct attempt *of, uint32_t is_of_index) {
+    struct sqr_held *held = of->held;
+    closed(&held->index);
+    if (!is_of_index) {
+        closed(&held->file);
+        held->file = opened(of->path, "", held->want ? O_RDWR : O_RDONLY);
+        of->why = errno;
+        return held->file >= 0 ? SQR_GIVEN : SQR_MISSING;
+    }
+    if ((held->index = opened(of->path, "-shm", O_RDWR)) >= 0) return SQR_GIVEN;
+    if (errno == ENOENT) return SQR_MISSING;
+    if ((errno == EACCES || errno == EPERM || errno == EROFS)
+        && (held->index = opened(of->path, "-shm", O_RDONLY)) >= 0) return SQR_REFUSED;
+    return SQR_UNSUPPORTED;
+}
+
+static uint8_t lock(const struct sqr_held *held, const struct sqr_lock_step *step) {
+    struct flock at = {.l_type = step->kind == SQR_GIVE ? F_UNLCK : step->is_exclusive ? F_WRLCK : F_RDLCK,
+        .l_whence = SEEK_SET, .l_start = (off_t)step->start, .l_len = (off_t)step->count};
+    int answer;
+    do answer = fcntl(step->is_of_index ? held->index : held->file, F_OFD_SETLK, &at);
+    while (answer && errno == EINTR);
+    if (answer == 0) return SQR_GIVEN;
+    return errno == EAGAIN || errno == EACCES ? SQR_REFUSED : SQR_UNSUPPORTED;
+}
+
+static uint8_t compare(const struct attempt *of) {
+    struct stat here, there;
+    return fstat(of->held->file, &here) == 0 && stat(of->path, &there) == 0 && here.st_dev == there.st_dev
+        && here.st_ino == there.st_ino ? SQR_GIVEN : SQR_REFUSED;
+}
+
+static uint8_t look(const struct attempt *of) {
+    uint8_t index[136], header[32], frame[24];
+    size_t is_there = 0;
+    if (pread(of->held->index, index, sizeof index, 0) != sizeof index) return SQR_REFUSED;
+    int log = opened(of->path, "-wal", O_RDONLY);
+    if (log >= 0) {
+        off_t place = (off_t)sqr_index_place(index, sizeof index);
+        is_there = pread(log, header, sizeof header, 0) == sizeof header
+            && pread(log, frame, sizeof frame, place) == sizeof frame;
+        close(log);
+    }
+    return sqr_index_names(index, sizeof index, header, is_there * sizeof header, frame, is_there * sizeof frame)
+        ? SQR_GIVEN : SQR_REFUSED;
+}
+
+static uint8_t wait_a_moment(const struct timespec *end) {
+    struct timespec now, pause = {0, 1000000};
+    if (clock_gettime(CLOCK_MONOTONIC, &now) || now.tv_sec > end->tv_sec
+        || (now.tv_sec == end->tv_sec && now.tv_nsec >= end->tv_nsec)) return SQR_REFUSED;
+    nanosleep(&pause, NULL);
+    return SQR_GIVEN;
+}
+
+/* Carries out what comes next, and whether there is more to come. */
+static int carried_out(struct attempt *of, struct sqr_lock_step *step) {
+    struct sqr_held *held = of->held;
+    uint8_t answer = SQR_GIVEN;
+    if (held->count == SQR_HOLD_STEPS || sqr_lock_step(held->want, held->answers, held->count, step)) {
+        step->kind = SQR_END;
+        return 0;
+    }
+    switch (step->kind) {
+        case SQR_OPEN: answer = open_file(of, step->is_of_index); break;
+        case SQR_TAKE: case SQR_GIVE: answer = lock(held, step); break;
+        case SQR_COMPARE: answer = compare(of); break;
+        case SQR_LOOK: answer = look(of); break;
+        case SQR_WAIT: answer = wait_a_moment(&of->end); break;
+        default: break;
+    }
+    held->answers[held->count++] = answer;
+    if (step->kind == SQR_WAIT && answer == SQR_GIVEN) held->count = 0;
+    return step->kind < SQR_GO;
+}
+
+static void release(struct sqr_held *held) { /* also where another process has them, by fork */
+    struct flock all = {.l_type = F_UNLCK, .l_whence = SEEK_SET};
+    if (held->index >= 0) fcntl(held->index, F_OFD_SETLK, &all);
+    if (held->file >= 0) fcntl(held->file, F_OFD_SETLK, &all);
+    closed(&held->index);
+    closed(&held->file);
+    held->count = 0;
+}
+
+enum sqr_hold_answer sqr_hold(struct sqr_held *held, const char *path, uint32_t want, uint64_t milliseconds) {
+    static const enum sqr_hold_answer reasons[] = {SQR_HELD_IN_USE, SQR_HELD_NO_LOCKS, SQR_HELD_FAILED};
+    struct attempt of = {.held = held, .path = path};
+    struct sqr_lock_step step = {.kind = SQR_END};
+    enum sqr_hold_answer answer = SQR_HELD_NO_MEMORY;
+    *held = (struct sqr_held){.file = -1, .index = -1, .want = want};
+    if (clock_gettime(CLOCK_MONOTONIC, &of.end) == 0) {
+        of.end.tv_sec += (time_t)(milliseconds / 1000);
+        of.end.tv_nsec += (long)(milliseconds % 1000) * 1000000;
+        if (of.end.tv_nsec >= 1000000000) of.end.tv_sec++, of.end.tv_nsec -= 1000000000;
+    }
+    while (carried_out(&of, &step)) {}
+    if (step.kind == SQR_GO) return SQR_HELD;
+    if (step.kind == SQR_GO_UNLOCKED) answer = held->file < 0 ? SQR_HELD_NO_FILE : SQR_HELD_NO_LOCKS;
+    else if (step.kind == SQR_GIVE_UP) answer = reasons[step.reason];
+    release(held);
+    errno = of.why;
+    return answer;
+}
+
+void sqr_give_back(struct sqr_held *held) {
+    struct attempt of = {.held = held};
+    struct sqr_lock_step step = {.kind = SQR_GIVE};
+    while (held->file >= 0 && step.kind != SQR_END) carried_out(&of, &step);
+    release(held);
+}
