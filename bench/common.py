@@ -67,6 +67,24 @@ def sqlite(database, sql):
     subprocess.run(["sqlite3", database], input=sql.encode(), check=True, stdout=subprocess.DEVNULL)
 
 
+def database(folder, size, page_size):
+    """A database file of about so many bytes: nearly half in a table, a quarter each in its index and in chains of
+    overflow pages, and a twentieth in the freelist."""
+    db = os.path.join(folder, f"{size}.db")
+    sqlite(db, f"""PRAGMA page_size={page_size}; PRAGMA journal_mode=off; PRAGMA synchronous=off;
+CREATE TABLE plain(id INTEGER PRIMARY KEY, n INTEGER, t TEXT);
+CREATE TABLE large(id INTEGER PRIMARY KEY, b BLOB);
+CREATE TABLE gone(b BLOB);
+INSERT INTO plain(n, t)
+  SELECT value * 7, hex(randomblob(30)) || hex(zeroblob(value % 40)) FROM generate_series(1, {size // 300});
+INSERT INTO large(b) SELECT randomblob({page_size * 5 // 2}) FROM generate_series(1, {size // page_size // 12});
+INSERT INTO gone(b) SELECT randomblob({page_size * 3 // 4}) FROM generate_series(1, {size // page_size // 20});
+CREATE INDEX by_text ON plain(t, n);
+DROP TABLE gone;
+""")
+    return db
+
+
 def live_log(folder, megabytes, page_size):
     """A database file beside a log of about so many MiB, in which each page is written five times."""
     made, base = os.path.join(folder, "made.db"), os.path.join(folder, "base.db")

@@ -2,7 +2,14 @@
 
    library scan FILE      sqr_wal_scan of FILE-wal
    library page FILE N    sqr_page of each page of the view of FILE and FILE-wal, N times over
-   library copy FILE N    the same pages by a look into the places and a copy */
+   library copy FILE N    the same pages by a look into the places and a copy
+   library path FILE N    sqr_page of as many pages, one behind the other in no order, of the view that sqr_open_path
+                          opens
+   library pread FILE N   as many pieces of FILE-wal by pread
+   library bytes FILE N   where the bytes of as many pages are, by sqr_page_bytes, of which one is read
+   library look FILE N    the same by a look into the places
+   library recover FILE   sqr_recover
+   library to FILE OUT    sqr_recover_to */
 #define _DEFAULT_SOURCE
 #include "sqrescue.h"
 
@@ -58,9 +65,64 @@ static int read_pages(const struct sqr_view *view, int rounds, int is_plain) {
     return 0;
 }
 
+static const uint8_t *look(const struct sqr_view *view, uint32_t page) {
+    size_t at = view->places[page - 1];
+    return at ? view->log + at : view->db + (size_t)(page - 1) * view->page_size;
+}
+
+static int look_at_pages(const struct sqr_view *view, int rounds, int is_plain) {
+    uint64_t sum = 0;
+    for (int i = 0; i < rounds; i++) {
+        for (uint32_t page = 1; page <= view->pages; page++) {
+            const uint8_t *bytes = is_plain ? look(view, page) : sqr_page_bytes(view, page);
+            if (!bytes) return 3;
+            sum = sum * 31 + bytes[0];
+        }
+    }
+    printf("%u pages, %d times, %llx\n", view->pages, rounds, (unsigned long long)sum);
+    return 0;
+}
+
+static int recover(const char *file, const char *to) {
+    struct sqr_recovered found = {0, 0, 0};
+    uint32_t status = to ? sqr_recover_to(file, to, 0, NULL, &found) : sqr_recover(file, 0, NULL, &found);
+    printf("%s, %u pages\n", sqr_status_name(status), found.pages);
+    return status ? 3 : 0;
+}
+
+static int read_by_path(const char *file, int rounds, int is_plain) {
+    struct sqr_path *path = NULL;
+    char name[4096];
+    struct stat status;
+    snprintf(name, sizeof name, "%s-wal", file);
+    int log = open(name, O_RDONLY);
+    if (log < 0 || fstat(log, &status) || sqr_open_path(file, 0, NULL, &path)) return 3;
+    const struct sqr_view *view = sqr_path_view(path);
+    const size_t size = view->page_size, pieces = (size_t)status.st_size / size;
+    uint8_t *out = malloc(size);
+    uint64_t sum = 0;
+    if (!out || !pieces) return 3;
+    for (int i = 0; i < rounds; i++) {
+        for (uint32_t page = 1; page <= view->pages; page++) {
+            uint32_t other = page * 2654435761u;
+            if (is_plain) {
+                if (pread(log, out, size, (off_t)(other % pieces * size)) < 0) return 3;
+            } else if (sqr_page(view, 1 + other % view->pages, out, size)) return 3;
+            sum = sum * 31 + out[page % size];
+        }
+    }
+    printf("%u pages, %d times, %llx\n", view->pages, rounds, (unsigned long long)sum);
+    sqr_close_path(&path);
+    return 0;
+}
+
 int main(int argc, char **argv) {
     size_t db_len, wal_len;
     if (argc < 3) return 2;
+    if (!strcmp(argv[1], "recover")) return recover(argv[2], NULL);
+    if (!strcmp(argv[1], "to") && argc > 3) return recover(argv[2], argv[3]);
+    if (argc > 3 && (!strcmp(argv[1], "path") || !strcmp(argv[1], "pread")))
+        return read_by_path(argv[2], atoi(argv[3]), !strcmp(argv[1], "pread"));
     const uint8_t *db = mapped(argv[2], "", &db_len), *wal = mapped(argv[2], "-wal", &wal_len);
     if (!strcmp(argv[1], "scan")) return scan(wal, wal_len);
     struct sqr_files files = SQR_FILES(db, db_len, wal, wal_len, NULL, 0);
@@ -69,5 +131,7 @@ int main(int argc, char **argv) {
     uint64_t *places = calloc((size_t)pages + 1, sizeof *places);
     struct sqr_view view = SQR_VIEW_INIT;
     if (!places || sqr_open(&files, places, pages, &view) || view.places_len != pages) return 3;
+    if (!strcmp(argv[1], "bytes") || !strcmp(argv[1], "look"))
+        return look_at_pages(&view, atoi(argv[3]), !strcmp(argv[1], "look"));
     return read_pages(&view, atoi(argv[3]), !strcmp(argv[1], "copy"));
 }

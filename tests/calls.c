@@ -9,7 +9,7 @@ typedef long ssize_t;
 typedef long off_t;
 
 enum { NOT_PERMITTED = 1, INTERRUPTED = 4, IO_FAILED = 5, KILL = 9 };
-enum { WRITE_ON = 01 | 0100 | 02000, LONGEST = 4096, PAGE = 512 };
+enum { WRITE_ON = 01 | 0100 | 02000, LONGEST = 4096, PAGE = 512, SET_LOCK = 37 };
 
 enum { HALVES = 1, REFUSES = 2, ENDS = 4, STOPS = 8 };
 
@@ -31,6 +31,10 @@ void *dlsym(void *, const char *);
 
 typedef int (*opens)(const char *, int, unsigned);
 typedef int (*looks)(int, const char *, int, unsigned, void *);
+typedef int (*looks_at)(const char *, void *);
+typedef int (*looks_into)(int, void *);
+typedef int (*locks)(int, int, void *);
+typedef void *(*maps)(void *, size_t, int, int, int, off_t);
 typedef ssize_t (*reads)(int, void *, size_t);
 typedef ssize_t (*reads_at)(int, void *, size_t, off_t);
 typedef ssize_t (*writes_at)(int, const void *, size_t, off_t);
@@ -38,6 +42,7 @@ typedef ssize_t (*writes)(int, const void *, size_t);
 typedef int (*cuts)(int, off_t);
 typedef int (*names)(const char *);
 typedef int (*pairs)(const char *, const char *);
+typedef int (*links)(int, const char *, int, const char *, int);
 
 static int told = -1;
 static unsigned long made, chosen, openings, held_from;
@@ -119,6 +124,40 @@ int statx(int file, const char *path, int how, unsigned mask, void *out) {
     return is_over(fate()) ? -1 : NEXT(looks, "statx")(file, path, how, mask, out);
 }
 
+/* The same by the names that C has for them. */
+int stat(const char *path, void *out) {
+    dprintf(told, "look %s\n", last_of(path));
+    return is_over(fate()) ? -1 : NEXT(looks_at, "stat")(path, out);
+}
+
+int lstat(const char *path, void *out) {
+    dprintf(told, "look %s\n", last_of(path));
+    return is_over(fate()) ? -1 : NEXT(looks_at, "lstat")(path, out);
+}
+
+int fstat(int file, void *out) {
+    char found[LONGEST];
+    dprintf(told, "look %s\n", name_of(file, found));
+    return is_over(fate()) ? -1 : NEXT(looks_into, "fstat")(file, out);
+}
+
+/* A lock of an open file, or what else is asked of it, which isn't told. */
+int fcntl(int file, int what, void *with) {
+    char found[LONGEST];
+    if (what != SET_LOCK) return NEXT(locks, "fcntl")(file, what, with);
+    dprintf(told, "lock %s\n", name_of(file, found));
+    return is_over(fate()) ? -1 : NEXT(locks, "fcntl")(file, what, with);
+}
+
+void *mmap(void *at, size_t n, int may, int how, int file, off_t from) {
+    char found[LONGEST];
+    if (file >= 0) {
+        dprintf(told, "map %s\n", name_of(file, found));
+        if (is_over(fate())) return (void *)-1L;
+    }
+    return NEXT(maps, "mmap")(at, n, may, how, file, from);
+}
+
 ssize_t read(int file, void *out, size_t n) {
     char found[LONGEST];
     int does = fate();
@@ -180,6 +219,21 @@ int link(const char *from, const char *to) {
         return -1;
     }
     return is_over(does) ? -1 : NEXT(pairs, "link")(from, to);
+}
+
+/* The same of a file that is open, by its link below /proc. */
+int linkat(int here, const char *from, int there, const char *to, int how) {
+    char found[LONGEST];
+    int does = fate(), is_chosen = chosen && made == chosen;
+    ssize_t length = readlink(from, found, LONGEST - 1);
+    found[length < 0 ? 0 : length] = 0;
+    dprintf(told, "link %s %s\n", last_of(found), last_of(to));
+    if (is_chosen && !strncmp(manner, "taken", 5)) NEXT(opens, "open")(to, WRITE_ON, 0600);
+    if (is_chosen && strstr(manner, "no links")) {
+        *__errno_location() = NOT_PERMITTED;
+        return -1;
+    }
+    return is_over(does) ? -1 : NEXT(links, "linkat")(here, from, there, to, how);
 }
 
 int rename(const char *from, const char *to) {

@@ -99,6 +99,8 @@ static int are_pages(const struct sqr_view *view, uint8_t *page, const uint8_t *
         size_t there = at >= len ? 0 : len - at < size ? len - at : size;
         memset(page, 0xa5, size);
         differ |= sqr_page(view, number, page, size) != SQR_OK;
+        const uint8_t *bytes = sqr_page_bytes(view, number);
+        if (bytes) differ |= memcmp(bytes, page, size);
         if (there) differ |= memcmp(page, file + at, there);
         for (size_t i = there; i < size; i++) differ |= page[i];
     }
@@ -112,6 +114,10 @@ static void refuse_pages(struct sqr_view view, uint8_t *page, uint8_t *kept) {
     check(sqr_page(&view, 0, page, view.page_size) == SQR_NO_SUCH_PAGE, "page 0");
     check(sqr_page(&view, view.pages + 1, page, view.page_size) == SQR_NO_SUCH_PAGE, "the page behind the last");
     check(sqr_page(&view, UINT32_MAX, page, view.page_size) == SQR_NO_SUCH_PAGE, "the greatest number");
+    struct sqr_place place = {7, 8};
+    check(sqr_page_place(&view, 0, &place) == SQR_NO_SUCH_PAGE && !sqr_page_bytes(&view, 0), "no place of page 0");
+    check(sqr_page_place(&view, view.pages + 1, &place) == SQR_NO_SUCH_PAGE, "no place of the page behind the last");
+    check(place.at == 7 && place.is_of_log == 8, "a place that is refused stays");
     if (view.pages) {
         check(sqr_page(&view, 1, page, view.page_size - 1) == SQR_WRONG_SIZE, "a buffer that is too short");
         check(sqr_page(&view, view.pages, page, 0) == SQR_WRONG_SIZE, "a buffer of no bytes");
@@ -152,7 +158,9 @@ static void answer_view(const struct sqr_files *files, FILE *out) {
     uint32_t page_size = 77, pages = 88;
     struct sqr_view view = SQR_VIEW_INIT, kept = view;
     uint64_t none = 99;
-    uint32_t status = sqr_size(files, &page_size, &pages);
+    uint32_t status = sqr_size(files, &page_size, &pages), log = 77, two = sqr_log(files, &log);
+    check(two == (status == SQR_TWO_LOGS ? SQR_TWO_LOGS : SQR_OK), "which log counts");
+    check(two ? log == 77 : log == (files->wal_len ? SQR_WAL : log ? SQR_JOURNAL : SQR_NO_LOG), "the log that counts");
     check(status != SQR_NO_MEMORY, "no memory, though none was refused");
     if (status) {
         fprintf(out, "view %s\n", sqr_status_name(status));
@@ -301,6 +309,9 @@ static void answer_commit(const struct sqr_files *files, struct sqr_commit commi
     uint32_t found = sqr_open_at(files, commit.frame, places, commit.pages, &view);
     check(found == SQR_OK && view.pages == commit.pages, "a view at a commit");
     check(are_one_view(found, &view, status, &wanted), "the view at a commit is that of the log cut behind it");
+    struct sqr_report report = {1, 2, 3, 4, 5, 6, 7}, right = report;
+    check(sqr_check_at(files, commit.frame, &report) == sqr_check(&cut, &right), "a check at a commit");
+    check(memcmp(&report, &right, sizeof report) == 0, "a report at a commit is that of the log cut behind it");
     char end[32];
     size_t len;
     snprintf(end, sizeof end, ".at-%u", commit.frame);
@@ -336,6 +347,10 @@ static void refuse_frames(const struct sqr_files *files, const struct sqr_commit
     }
     check(sqr_open_at(files, UINT32_MAX, &place, 1, &view) == right, "the greatest frame");
     check(place == 99 && memcmp(&view, &kept, sizeof view) == 0, "a view at no commit leaves all");
+    struct sqr_report report = {1, 2, 3, 4, 5, 6, 7};
+    found = sqr_check_at(files, UINT32_MAX, &report);
+    check(found == SQR_NO_SUCH_COMMIT || found == SQR_TWO_LOGS || found == SQR_TOO_LARGE, "a check at no commit");
+    check(report.fault == 1 && report.free == 7, "a check at no commit leaves the report");
 }
 
 static void answer_at(const struct sqr_files *files) {
@@ -625,7 +640,8 @@ static void run_none(void) {
     check(sqr_journal_scan(sqr_bytes(NULL), 0, &record, 0, &journal) == SQR_OK && !journal.records, "no records");
     check(!journal.page_size && !journal.stop && journal.why == SQR_JOURNAL_END, "no journal");
     check(!strcmp(sqr_status_name(SQR_VERSION), "unknown log version"), "the name of a status");
-    check(!strcmp(sqr_status_name(17), "?") && !strcmp(sqr_fault_name(0), "?"), "the name of no status and no fault");
+    check(!strcmp(sqr_status_name(29), "?") && !strcmp(sqr_fault_name(0), "?"), "the name of no status and no fault");
+    check(!strcmp(sqr_status_name(SQR_MISUSE), "misuse"), "the name of the last status");
     check(!strcmp(sqr_fault_name(21), "SchemaRecord"), "the name of a fault");
     check(sqr_version() == SQR_VERSION_NUMBER, "the version of the header is that of the library");
     for (uint32_t number = 0; number < 64; number++) check_names(number);

@@ -219,6 +219,7 @@ def lines_of_the_list():
 
     own = line()
     named = {"": own, "a reader": line(mode="READ "), "its shared memory": line(shared)}
+    named |= {"of an open file": line(kind="OFDLCK", process=-1)}
     named |= {"device 0": line(major=0, minor=37), "no end of line": own.rstrip("\n")}
     named |= {"the last of 300": line(7) * 300 + own, "the first of 3000": own + line(7) * 3000}
     named |= {"behind what is no line": "\n1:\n:::\nfe:00\n" + "x" * 5000 + "\n" + own}
@@ -311,12 +312,15 @@ CHANGES_OF_LOG = {
 }
 
 
+ONE_READING = "--no-lock"  # by which what changed isn't read again
+
+
 def beside_change(line, call, change, is_seen, **more):
-    """What is wrong with a run of a line, during which a.db is changed."""
+    """What is wrong with a run of a line that reads once, during which a.db is changed."""
     alone = run(line)
     if os.path.exists("made.db"):
         os.remove("made.db")
-    stopped = Stopped([program, *line.split()], *call, **more)
+    stopped = Stopped([program, *line.split(), ONE_READING], *call, **more)
     change()
     if not is_seen:
         return wrong(stopped.goes_on(), *alone)
@@ -386,6 +390,28 @@ def a_last_frame_that_changes():
             if "--to" in line:
                 is_right = os.path.exists("made.db") == (name == "nothing")
                 yield f"{line}, {name}, what is made", None if is_right else "wrong"
+
+
+@test
+def a_change_is_read_again():
+    """Where it isn't said to read once, the answer is that of the files as they are once nobody changes them."""
+    call = "read a.db-wal;", 4
+    with tempfile.TemporaryDirectory() as folder:
+        base = os.path.join(folder, "a.db")
+        with begun("module", "wal", *[SPILLS] * 3):
+            copied("a.db", base)
+        for line in "check a.db", "show a.db", "show a.db --page 1", "recover a.db --to made.db", "show a.db --pages":
+            for name in "a commit", "a checkpoint", "a new log", "no log":
+                fill()
+                copied(base, "a.db")
+                stopped = Stopped([program, *line.split()], *call)
+                CHANGES_OF_LOG[name]()
+                answer = stopped.goes_on()
+                if os.path.exists("made.db"):
+                    os.remove("made.db")
+                yield f"{line}, {name}", wrong(answer, *run(line))
+                if os.path.exists("made.db"):
+                    os.remove("made.db")
 
 
 def is_whole(pages, trees, b_tree, overflow, free):
