@@ -5,6 +5,10 @@ _sqcrash() {
   [ "$before" != = ] || before=${COMP_WORDS[COMP_CWORD - 2]}
   COMPREPLY=()
   case $before in
+    --commits)
+      COMPREPLY=($(compgen -W 'marks calls' -- "$word"))
+      return
+      ;;
     --images)
       :
       return
@@ -31,7 +35,7 @@ _sqcrash() {
       ;;
   esac
   case $command in
-    '') options='--sector --tears --meta --images --seed --every --promise --keep -h --help' ;;
+    '') options='--sector --tears --meta --images --seed --every --promise --commits --keep -h --help' ;;
   esac
   if [[ $word == -* ]]; then
     COMPREPLY=($(compgen -W "$options" -- "$word"))

@@ -1,10 +1,11 @@
 # fish completion of sqcrash, made by tools/completions of the program's help texts
 complete -c sqcrash -l sector -xa '512 4096' -d 'The size of a disk\'s sectors'
 complete -c sqcrash -l tears -d 'A sector that was being written may hold anything'
-complete -c sqcrash -l meta -xa 'parts whole ordered' -d 'How names and lengths go down: in parts, as a whole, or in the order of calls'
+complete -c sqcrash -l meta -xa 'parts whole ordered' -d 'How names and lengths become durable: in parts, as a whole, or in the order of calls'
 complete -c sqcrash -l images -x -d 'The most images at a point, 1000 if left out'
 complete -c sqcrash -l seed -x -d 'The number that the draws begin with'
 complete -c sqcrash -l every -d 'A crash may come after each call, not only at marks'
 complete -c sqcrash -l promise -xa 'full last ordered none' -d 'What is known at a mark'
+complete -c sqcrash -l commits -xa 'marks calls' -d 'Commits are what the files show after each call, or at marks alone, each checked'
 complete -c sqcrash -l keep -xa '(__fish_complete_directories)' -d 'Writes images with something wrong, the first 1000, to DIR/pPOINT-iIMAGE.db, -wal and -journal'
 complete -c sqcrash -s h -l help -d 'Print help'

@@ -6,7 +6,7 @@ _sqrescue() {
   COMPREPLY=()
   for ((at = 1; at < COMP_CWORD; at++)); do
     case ${COMP_WORDS[at]} in
-      show | check | recover | report | help)
+      show | check | rows | recover | report | help)
         command=${COMP_WORDS[at]}
         break
         ;;
@@ -25,21 +25,30 @@ _sqrescue() {
       COMPREPLY=($(compgen -W 'present gone' -- "$word"))
       return
       ;;
+    --table)
+      :
+      return
+      ;;
     --to)
       compopt -o default
       return
       ;;
+    --wait)
+      :
+      return
+      ;;
   esac
   case $command in
-    show) options='-v --verbose --json --at --large --super-journal= --page --pages --pointer-maps --log --all --commits -h --help' ;;
-    check) options='-v --verbose --json --at --large --super-journal= --pointer-maps -h --help' ;;
-    recover) options='-v --verbose --json --at --large --super-journal= --to --force -h --help' ;;
-    report) options='-v --verbose --json --at --large --super-journal= --pointer-maps --to -h --help' ;;
-    '') options='--version -h --help' ;;
+    show) options='-v --verbose --json --at --large --super-journal= --wait --no-lock --page --pages --pointer-maps --log --all --commits -h --help' ;;
+    check) options='-v --verbose --json --at --large --super-journal= --wait --no-lock --pointer-maps --deep -h --help' ;;
+    rows) options='-v --verbose --json --at --large --super-journal= --wait --no-lock --table --csv --sql -h --help' ;;
+    recover) options='-v --verbose --json --at --large --super-journal= --wait --no-lock --to --force -h --help' ;;
+    report) options='-v --verbose --json --at --large --super-journal= --wait --no-lock --pointer-maps --to -h --help' ;;
+    '') options='-V --version -h --help' ;;
   esac
   if [ -z "$command" ] || [ "$command" = help ]; then
-    [ -n "$command" ] || options+=' show check recover report help'
-    [ -z "$command" ] || options='show check recover report help'
+    [ -n "$command" ] || options+=' show check rows recover report help'
+    [ -z "$command" ] || options='show check rows recover report help'
     COMPREPLY=($(compgen -W "$options" -- "$word"))
   elif [[ $word == -* ]]; then
     COMPREPLY=($(compgen -W "$options" -- "$word"))

@@ -11,11 +11,15 @@
        status = sqr_open(&files, places, pages, &view);
        status = sqr_page(&view, 1, buffer, page_size);
 
-   What each call answers is proved for all bytes. Nothing checks a C caller, who sees to this:
+   What each call answers is proved for all bytes, but of the calls by path below. Nothing checks a C caller, who sees
+   to this:
 
    - Ownership. All memory is the caller's. Nothing is kept between calls but what the caller holds, nothing is opened
-     or closed, no file is touched, and there is no global state. A call may ask malloc for memory, and gives it back
-     before it returns.
+     or closed, no file is touched (but by path; written by sqr_recover and sqr_recover_to alone), and there is no
+     global state. A call may ask malloc for memory, and gives it back before it returns, sqr_close_path where
+     sqr_open_path asked.
+   - One moment (README's A4). The bytes of the three files are of one moment: nobody wrote to them from before the
+     first was read until the last was. Nothing in them says so where it isn't so. By path the locks see to it.
    - Pointers. A pointer with a length names that many bytes or places. It is never NULL, with the length 0 neither:
      sqr_bytes and SQR_FILES take NULL for no bytes. A length is below 2^63 bytes. Each pointer is aligned as its type.
    - Reading and writing. While a call runs nobody writes what it reads, and nobody else reads or writes what it
@@ -31,6 +35,35 @@
    - Allocator. malloc, realloc and free are one allocator's. No call from a signal handler, nor from the forked child
      of a process with threads.
 
+   Proved of each call, by the clauses of these names in crates/sqrescue_c:
+
+   - sqr_size: `size`, the database that the files show has this size; `refused` and `recovery`, each status stands for
+     its reason, and 14, 15 and 16 come exactly where recovery is refused so; `size_kept`, `pages_kept`.
+   - sqr_open, sqr_open_at: `opened`, the view's pages are those of that database; `refused`, `recovery`; `room`, no
+     more places than there is room for; `kept`, the view is as it was.
+   - sqr_page: `content`, the page of the view, whatever its fields are; `there`, it comes wherever there is such a page
+     and the buffer is as long; `outside` and `size`, the two refusals; `kept`.
+   - sqr_page_place: `placed`, the page is these bytes; `there`, `outside`, `kept`. sqr_log: `log`, `two`, `kept`.
+   - sqr_check, sqr_check_at, sqr_check_with: `clean`, the database is well formed and has these counts; `damaged`, the
+     fault stands at its page; `unjudged`, each refusal stands for its reason; `known`, which flags there are; `kept`.
+   - sqr_page_roles: `roles`, the array has the role of each page, and the fault is the one that a check finds;
+     `crowded`, SQR_NO_ROOM only for want of room, which is told; `refused`, `known`, `roles_kept`, `out_kept`.
+   - sqr_plan: `planned`, which recovery it is, and over which view; `refused`, `recovery`, `room`, `kept`.
+   - sqr_plan_next: `next` and `kind`, the step is the first of those that are left, and the plan has the others left;
+     `end`, none is left; `kept`, `same`. Of all steps in their order (crates/sqplan): `database`, they leave a file
+     that is just the pages of the view; `log`, they leave a log that doesn't count; `meanwhile`, the same pages are
+     shown after any number of them, as long as the log is as it was.
+   - sqr_wal_scan, sqr_wal_commits, sqr_journal_scan: `scanned` or `counted`, all that counts and no more, and where it
+     stops; `frames`, `commits` or `records`, the array has them; `crowded`, SQR_NO_ROOM only for want of room;
+     `refused`; `.._kept`.
+   - sqr_status_text, sqr_fault_text: `name`, `length`. sqr_version.
+
+   Tested, not proved: that SQR_NO_MEMORY comes only where an allocation was refused; that a refused opening leaves its
+   places; sqr_bytes, SQR_FILES, the names as texts; and of the calls by path all but which locks are asked for, in
+   which order (crates/sqlocks_c, `next`), how much of the log counts by FILE-shm, and how options are read. Of
+   sqr_recover and sqr_recover_to what is to be done is proved (sqr_plan, sqr_plan_next, sqr_page, the plan of the
+   locks); that it is done, and how a new file gets its name, is C (library/recover.c, library/copy.c).
+
    Each call returns a status. Where it isn't SQR_OK, all that the call could write is as it was, but for what is said
    of SQR_DAMAGED and SQR_NO_ROOM. A page is one of a database, from 1; a frame one of a write-ahead log, from 1; a
    place is in bytes, from 0. The front is the last valid frame that ends a commit. A write-ahead log counts where it
@@ -45,8 +78,9 @@ extern "C" {
 #endif
 
 /* The version of this header, and that of the library that is linked: a million for each major one, a thousand for each
-   minor one, one for each patch. */
-#define SQR_VERSION_NUMBER 1000
+   minor one, one for each patch. What a program uses of one major version, each later one of it has, and means the same
+   by it: calls, structs, numbers and names. */
+#define SQR_VERSION_NUMBER 1000000
 uint32_t sqr_version(void);
 
 /* What a call answers, a uint32_t. Numbers are added at the end, and none changes. */
@@ -56,10 +90,10 @@ enum sqr_status
 #endif
 {
     SQR_OK = 0,
-    SQR_DAMAGED = 1,        /* sqr_check: the database has a fault, which the report names */
+    SQR_DAMAGED = 1,        /* of a check: the database has a fault, which the report names */
     SQR_TWO_LOGS = 2,       /* a hot journal, and a write-ahead log that isn't empty */
     SQR_TOO_LARGE = 3,      /* a database above 2^30 bytes, above 2^21 valid frames, or a journal above 2^40 bytes */
-    SQR_AUTO_VACUUM = 4,    /* sqr_check: a database with pointer maps, which aren't read */
+    SQR_AUTO_VACUUM = 4,    /* of a check: a database with pointer maps, which aren't asked for */
     SQR_NOT_A_DATABASE = 5, /* no log counts, and the file's header is none of a database */
     SQR_NO_MEMORY = 6,      /* malloc or realloc answered NULL; the next call starts anew. Proved: where it may stand in
                                place of another answer, as each call says. Tested: no call of the tests answers it
@@ -73,36 +107,31 @@ enum sqr_status
     SQR_SUM = 13,           /* a wrong checksum */
     SQR_LOG_VERSION = 14,   /* another version than 3007000; also of the log that counts */
     SQR_SUPER_JOURNAL = 15, /* a hot journal ends as one that names a super-journal, which decides whether it counts */
-    SQR_PAGE_SIZES_DIFFER = 16 /* the log that counts has a front, and the database file names another page size */
+    SQR_PAGE_SIZES_DIFFER = 16, /* the log that counts has a front, and the database file names another page size */
+    SQR_NOT_THERE = 17,     /* by path, as all that follow: there is no such file; of OUT, no such folder */
+    SQR_NOT_READABLE = 18,  /* the system doesn't let the file be read, or a log beside it, which isn't "no log" */
+    SQR_FOLDER = 19,        /* the path leads to a folder */
+    SQR_NOT_A_FILE = 20,    /* to what is no regular file, such as a FIFO or a device; of a log, it is no regular file,
+                               a symbolic link, or FILE by another name */
+    SQR_IN_USE = 21,        /* a writer, of sqr_recover anybody who has FILE open, held a lock in the way until the
+                               time was over; sqr_recover_to: another call makes OUT, too */
+    SQR_NO_LOCKS = 22,      /* the file system has no such locks, or FILE-shm can't be opened; see SQR_NO_LOCK */
+    SQR_FILE_FAILED = 23,   /* any other answer of the system: an I/O error, too many open files */
+    SQR_UNKNOWN_OPTIONS = 24, /* a flag or an option that this version doesn't know, or a size that isn't one */
+    SQR_MISUSE = 25,        /* NULL where a pointer has to be; sqr_recover_to: OUT is the name of a log of FILE */
+    SQR_NOT_WRITABLE = 26,  /* sqr_recover, sqr_recover_to, as all that follow: the system doesn't let FILE, FILE-shm
+                               or the log that counts be written, or OUT be made */
+    SQR_ALREADY_THERE = 27, /* something lies at OUT */
+    SQR_DISK_FULL = 28      /* there is no space left for it, or a limit of the size of files is reached, where the
+                               process ignores SIGXFSZ, which ends it otherwise */
 };
 
 /* The name that it had up to version 0.1.0; not to be used any more. */
 #define SQR_VERSION SQR_LOG_VERSION
 
-/* What `sqrescue` says: "two logs", "not a database"; "?" of another number. A text that stays, for C and C++;
-   sqr_status_text has the same one for callers in other languages. */
-static inline const char *sqr_status_name(uint32_t status) {
-    switch (status) {
-    case SQR_OK: return "ok";
-    case SQR_DAMAGED: return "damaged";
-    case SQR_TWO_LOGS: return "two logs";
-    case SQR_TOO_LARGE: return "too large";
-    case SQR_AUTO_VACUUM: return "auto-vacuum";
-    case SQR_NOT_A_DATABASE: return "not a database";
-    case SQR_NO_MEMORY: return "no memory";
-    case SQR_NO_SUCH_PAGE: return "no such page";
-    case SQR_WRONG_SIZE: return "wrong size";
-    case SQR_NO_ROOM: return "no room";
-    case SQR_NO_SUCH_COMMIT: return "no such commit";
-    case SQR_MAGIC: return "magic";
-    case SQR_PAGE_SIZE: return "page size";
-    case SQR_SUM: return "checksum";
-    case SQR_LOG_VERSION: return "unknown log version";
-    case SQR_SUPER_JOURNAL: return "super-journal";
-    case SQR_PAGE_SIZES_DIFFER: return "page sizes differ";
-    default: return "?";
-    }
-}
+/* What `sqrescue` says: "two logs", "not a database"; "?" of another number. A text that stays, in the library;
+   sqr_status_text, which is proved, has the same one. */
+const char *sqr_status_name(uint32_t status);
 
 /* The faults that sqr_check finds. docs/OUTPUT.md says what each means, and at which page it is. */
 enum sqr_fault {
@@ -127,38 +156,12 @@ enum sqr_fault {
     SQR_FAULT_SOURCE = 19,    /* never comes: bytes in memory can be read */
     SQR_FAULT_NO_MEMORY = 20, /* comes as SQR_NO_MEMORY */
     SQR_FAULT_SCHEMA_RECORD = 21,
-    SQR_FAULT_POINTER_MAP = 22 /* never comes: pointer maps aren't judged */
+    SQR_FAULT_POINTER_MAP = 22 /* with SQR_POINTER_MAPS alone */
 };
 
 /* The name that `sqrescue check` prints: "KeyOrder"; "?" of another number. A text that stays; sqr_fault_text has the
    same one. */
-static inline const char *sqr_fault_name(uint32_t fault) {
-    switch (fault) {
-    case SQR_FAULT_MAGIC: return "Magic";
-    case SQR_FAULT_PAGE_SIZE: return "PageSize";
-    case SQR_FAULT_FRACTION: return "Fraction";
-    case SQR_FAULT_RESERVED: return "Reserved";
-    case SQR_FAULT_AUTO_VACUUM: return "AutoVacuum";
-    case SQR_FAULT_KIND: return "Kind";
-    case SQR_FAULT_CELL_OUTSIDE: return "CellOutside";
-    case SQR_FAULT_OVERLAP: return "Overlap";
-    case SQR_FAULT_FREEBLOCK: return "Freeblock";
-    case SQR_FAULT_FRAGMENTS: return "Fragments";
-    case SQR_FAULT_CHAIN_CUT: return "ChainCut";
-    case SQR_FAULT_CHAIN_LONG: return "ChainLong";
-    case SQR_FAULT_PAGE_TWICE: return "PageTwice";
-    case SQR_FAULT_PAGE_OUTSIDE: return "PageOutside";
-    case SQR_FAULT_PAGE_UNUSED: return "PageUnused";
-    case SQR_FAULT_KEY_ORDER: return "KeyOrder";
-    case SQR_FAULT_DEPTH: return "Depth";
-    case SQR_FAULT_FREE_COUNT: return "FreeCount";
-    case SQR_FAULT_SOURCE: return "Source";
-    case SQR_FAULT_NO_MEMORY: return "NoMemory";
-    case SQR_FAULT_SCHEMA_RECORD: return "SchemaRecord";
-    case SQR_FAULT_POINTER_MAP: return "PointerMap";
-    default: return "?";
-    }
-}
+const char *sqr_fault_name(uint32_t fault);
 
 /* A name, and zeros behind it up to the 24th byte, one at least. */
 struct sqr_name {
@@ -233,6 +236,36 @@ uint32_t sqr_open_at(const struct sqr_files *files, uint32_t frame, uint64_t *pl
    SQR_NO_SUCH_PAGE and SQR_WRONG_SIZE. It asks for no memory, and takes time for one page alone. */
 uint32_t sqr_page(const struct sqr_view *view, uint32_t page, uint8_t *out, size_t len);
 
+/* Where a page, from 1, begins, in bytes: in the view's file, or where is_of_log is 1 in its log. */
+struct sqr_place {
+    uint64_t at;
+    uint32_t is_of_log;
+};
+
+/* Where the bytes of a page are, of which those that the file or the log doesn't have are zeros. Refused by
+   SQR_NO_SUCH_PAGE. It asks for no memory. */
+uint32_t sqr_page_place(const struct sqr_view *view, uint32_t page, struct sqr_place *place);
+
+/* A page without a copy: its bytes where they lie, as many as the page size; NULL where there is no such page, or not
+   all of it is in the file, so that sqr_page alone can give it. */
+static inline const uint8_t *sqr_page_bytes(const struct sqr_view *view, uint32_t page) {
+    struct sqr_place place = {0, 0};
+    if (sqr_page_place(view, page, &place)) return NULL;
+    const size_t len = place.is_of_log ? view->log_len : view->db_len;
+    if (place.at > len || len - (size_t)place.at < view->page_size) return NULL;
+    return (place.is_of_log ? view->log : view->db) + place.at;
+}
+
+/* Which log of the files counts. Of SQR_WAL sqr_wal_scan says the front. */
+enum sqr_which {
+    SQR_NO_LOG = 0,
+    SQR_WAL = 1,
+    SQR_JOURNAL = 2
+};
+
+/* Which log counts, an sqr_which. Refused by SQR_TWO_LOGS. It asks for no memory, and reads at most 28 bytes. */
+uint32_t sqr_log(const struct sqr_files *files, uint32_t *log);
+
 /* With SQR_OK the counts, and fault and page 0; with SQR_DAMAGED the fault and its page, from 1, and the counts 0. */
 struct sqr_report {
     uint32_t fault, page;
@@ -247,6 +280,112 @@ struct sqr_report {
    sqr_size says: a log of another version has no front, and a journal counts. Memory: as of sqr_size, and some bytes
    for each page. */
 uint32_t sqr_check(const struct sqr_files *files, struct sqr_report *report);
+
+/* The same of the database at a commit, by the frame that ends it, as sqr_open_at opens it; at frame 0 of the file
+   without its logs. Refused by SQR_TWO_LOGS, SQR_TOO_LARGE, SQR_NO_SUCH_COMMIT, SQR_AUTO_VACUUM; SQR_NO_MEMORY in place
+   of any. */
+uint32_t sqr_check_at(const struct sqr_files *files, uint32_t frame, struct sqr_report *report);
+
+/* What is asked for, all bits of it; each call says which it takes. A bit that a call doesn't take is refused. */
+enum sqr_flag {
+    SQR_FILES_ONLY = 1,   /* sqr_open_path: no view, so that files which show no database can be handed to the checks
+                             and the scans */
+    SQR_NO_LOCK = 2,      /* sqr_open_path, sqr_recover, sqr_recover_to: no locks are taken: the caller sees to A4, and
+                             a file that is cut ends the process */
+    SQR_AT = 4,           /* sqr_open_path, sqr_recover_to, sqr_check_with, sqr_page_roles: the database at a commit, as
+                             sqr_open_at */
+    SQR_LARGE = 8,        /* sqr_check_with, sqr_page_roles: a database of up to 2^40 bytes, and a log of up to 2^32 - 2
+                             valid frames, where otherwise 2^30 and 2^21 are too large */
+    SQR_POINTER_MAPS = 16 /* sqr_check_with, sqr_page_roles: a database of auto-vacuum too, with its pointer maps
+                             (fileformat2, 1.8), which otherwise is refused by SQR_AUTO_VACUUM */
+};
+
+/* The same with what is asked for: SQR_AT, at the commit that `frame` ends, which isn't looked at otherwise; SQR_LARGE;
+   SQR_POINTER_MAPS, with which SQR_FAULT_POINTER_MAP is a fault too. Refused as sqr_check is, or with SQR_AT as
+   sqr_check_at, and by SQR_UNKNOWN_OPTIONS where a flag is another one. */
+uint32_t sqr_check_with(const struct sqr_files *files, uint32_t flags, uint32_t frame, struct sqr_report *report);
+
+/* What a page is used for (fileformat2, 1.4 to 1.8). */
+enum sqr_page_kind {
+    SQR_TABLE_LEAF = 1,     /* of a tree, by its type byte, as the next three */
+    SQR_TABLE_INTERIOR = 2,
+    SQR_INDEX_LEAF = 3,
+    SQR_INDEX_INTERIOR = 4,
+    SQR_OVERFLOW = 5,       /* it holds a part of a payload */
+    SQR_FREE_TRUNK = 6,
+    SQR_FREE_LEAF = 7,
+    SQR_LOCK_BYTE = 8,      /* the page at 2^30 bytes, which no database uses */
+    SQR_POINTER_MAP = 9,    /* with SQR_POINTER_MAPS, in a database of auto-vacuum */
+    SQR_UNUSED = 10         /* no place names it, which is a fault */
+};
+
+/* The sqr_page_kind, and the page that goes with it: of a page of a tree its root, of an overflow page the page of the
+   cell whose payload it holds, otherwise 0. */
+struct sqr_role {
+    uint32_t kind, of;
+};
+
+/* How many pages there are, and the fault that sqr_check_with finds, with its page; 0 and 0 with SQR_OK. */
+struct sqr_survey {
+    uint32_t pages, fault, page;
+};
+
+/* What each page of the database is used for, with the flags and the frame of sqr_check_with: the role of page p is
+   roles[p - 1]. SQR_OK where it is well formed, SQR_DAMAGED with a fault that stands where it isn't: then a page has
+   the role of the first place that names it, and nothing is followed in a page that is wrong in its role. SQR_NO_ROOM
+   where there are more pages than room: then `out` is written, with fault 0, and `roles` not. Refused, in this order,
+   by SQR_UNKNOWN_OPTIONS, SQR_TWO_LOGS, SQR_TOO_LARGE, SQR_NO_SUCH_COMMIT; SQR_NOT_A_DATABASE, also where page 1 is
+   none of a database or leaves fewer than 480 bytes of a page to be used; SQR_AUTO_VACUUM; SQR_NO_MEMORY in place of
+   any but the first. Memory: as of sqr_check, and 12 bytes for each page. */
+uint32_t sqr_page_roles(const struct sqr_files *files, uint32_t flags, uint32_t frame, struct sqr_role *roles,
+                        size_t room, struct sqr_survey *out);
+
+/* What a recovery of the files comes to. */
+enum sqr_recovery {
+    SQR_RECOVERY_NONE = 0,     /* no log counts: nothing */
+    SQR_RECOVERY_FOLD = 1,     /* a write-ahead log with a front: folded into the file, and emptied */
+    SQR_RECOVERY_EMPTY = 2,    /* one without a front: emptied */
+    SQR_RECOVERY_ROLL_BACK = 3 /* a hot journal: replayed into the file, and its header zeroed */
+};
+
+/* A recovery as data: whoever plans one makes it, by SQR_PLAN_INIT. Its fields are for reading. */
+struct sqr_plan {
+    struct sqr_view view; /* the database that it leaves; without pages where none is written */
+    uint64_t done;        /* how much of it sqr_plan_next has handed out */
+    uint32_t recovery;    /* the sqr_recovery */
+};
+
+#define SQR_PLAN_INIT \
+    { SQR_VIEW_INIT, 0, 0 }
+
+/* Plans what `sqrescue recover` does with the files. `places` has room for `room` places; as many as sqr_size has pages
+   are enough. They are the plan's view's from then on. Refused as sqr_open is, but for files of which no log counts,
+   and for a log without a front beside a file that is no database, neither of which is read. Memory as of sqr_size. */
+uint32_t sqr_plan(const struct sqr_files *files, uint64_t *places, size_t room, struct sqr_plan *plan);
+
+enum sqr_step_kind {
+    SQR_STEP_END = 0,    /* nothing is left */
+    SQR_STEP_PAGE = 1,   /* `len` bytes at `at` become this page of the plan's view, as sqr_page has it */
+    SQR_STEP_ZEROS = 2,  /* `len` bytes at `at` become zeros */
+    SQR_STEP_LENGTH = 3, /* the length becomes `len` bytes */
+    SQR_STEP_SYNC = 4    /* what was done to it before is durable (fsync) before the next step */
+};
+
+/* A step in the database file, or where is_of_log is 1 in the log that counts. */
+struct sqr_step {
+    uint64_t at, len; /* in bytes; 0 where the kind has none */
+    uint32_t kind;    /* the sqr_step_kind */
+    uint32_t is_of_log;
+    uint32_t page;    /* of SQR_STEP_PAGE: which page, from 1; otherwise 0 */
+};
+
+/* The next step of a recovery, and its kind; SQR_STEP_END at the end, and then neither is written. Carried out one
+   after another, each wholly before the next, they leave what `sqrescue recover` leaves: the log is made durable, each
+   page that lies in it is written to the file, the file gets its length and is made durable, the log's header is zeroed
+   for good, and a write-ahead log is cut for good. Where they are cut off, plan anew from the files as they are then:
+   they show the same database. The caller keeps everybody else from the files meanwhile, and the bytes of the view as
+   they were. It asks for no memory; a step looks at no more than the places of the pages. */
+uint32_t sqr_plan_next(struct sqr_plan *plan, struct sqr_step *step);
 
 /* A valid frame: the page that it holds, and the size of the database in pages where it ends a commit, otherwise 0. */
 struct sqr_frame {
@@ -318,6 +457,86 @@ struct sqr_journal {
    record. */
 uint32_t sqr_journal_scan(const uint8_t *journal, size_t len, struct sqr_record *records, size_t room,
                           struct sqr_journal *out);
+
+/* A database by its path. C that isn't proved (library/, locks/held.c) leads links to their file, opens FILE and its
+   logs, takes the locks that SQLite's readers take, and hands the bytes to the calls above; which locks, in which
+   order, is proved, and so is how much of the log counts by FILE-shm. While a path is open its bytes stand for one
+   committed database, beside any number of connections of SQLite that read and write: README's A4 is then kept by these
+   locks, but for programs that keep none (cp, mv, rm, an editor; SQLite by unix-none, unix-dotfile, nolock or
+   immutable). Nothing is written to FILE, its logs or FILE-shm, and no file is made.
+
+   - In WAL mode others aren't held up: they read, write and open it. A checkpoint is busy, so the log may grow; so is a
+     change of the journal mode, and each commit with a rollback journal, which answer SQLITE_BUSY or wait as long as
+     their time limit is. Don't keep a path open for longer than it is read.
+   - Writers in WAL mode wait as well where FILE-shm can't be opened for writing, and with SQR_FILES_ONLY where no
+     connection was live: then the log alone says its front, and may not grow.
+   - Where FILE is in WAL mode and FILE-shm isn't there, all bytes are copied into memory, since no lock keeps them; a
+     rollback journal is always copied.
+   - Not in a process that has the same database open by SQLite: the system gives back all locks that a process has on a
+     file when it closes any descriptor of it (fcntl(2)), and so SQLite's.
+   - Not across fork: a child that closes it gives back the locks of its parent too.
+   - What is mapped and can't be read by the disk ends the process (SIGBUS), as it does where FILE is cut by a program
+     that keeps no locks. sqr_recover reads the logs to their ends first, so that their errors are its status. */
+struct sqr_path;
+
+/* What may be asked for. A caller sets size to what sizeof says, by SQR_OPTIONS_INIT; fields that are added later stand
+   behind these, and 0 asks for nothing. */
+struct sqr_options {
+    size_t size;
+    uint32_t wait; /* how long locks are waited for, in milliseconds; 5000 where options are NULL */
+    uint32_t at;   /* with SQR_AT: the frame that ends the commit; 0 for the file without its log */
+};
+
+#define SQR_OPTIONS_INIT \
+    { sizeof(struct sqr_options), 5000, 0 }
+
+/* Opens the database that a path leads to, with the logs beside it, and takes the locks. `options` may be NULL. Where
+   it isn't SQR_OK the handle is NULL and nothing is kept. Refused by SQR_MISUSE, SQR_UNKNOWN_OPTIONS, SQR_NOT_THERE ..
+   SQR_FILE_FAILED, SQR_NO_MEMORY, and without SQR_FILES_ONLY as sqr_open or sqr_open_at is. Memory is malloc's, until
+   it is closed. */
+uint32_t sqr_open_path(const char *path, uint32_t flags, const struct sqr_options *options, struct sqr_path **handle);
+
+/* Gives the locks and all memory back, and sets the handle to NULL. Nothing where it is NULL already. */
+void sqr_close_path(struct sqr_path **handle);
+
+/* The view for sqr_page, and the files for sqr_check, sqr_open_at and the scans: theirs until the path is closed, and
+   for reading on any number of threads. Where the log has a live writer, `wal` ends with its front. Of NULL, a handle
+   that is closed, a view without pages and files without bytes. */
+const struct sqr_view *sqr_path_view(const struct sqr_path *handle);
+const struct sqr_files *sqr_path_files(const struct sqr_path *handle);
+
+/* What a recovery by path came to. */
+struct sqr_recovered {
+    uint32_t recovery;         /* the sqr_recovery */
+    uint32_t page_size, pages; /* of the database that is left, as sqr_size has them; both 0 where it is none */
+};
+
+/* Recovers the database that a path leads to in its place, as `sqrescue recover` does: carries out the steps of
+   sqr_plan and sqr_plan_next on FILE and the log that counts, each by the call of the system that it names. Everybody
+   else is kept off by SQLite's locks from before the first read to the end: the call waits for them as the options say,
+   and is SQR_IN_USE where somebody has FILE open still. A program that opens FILE meanwhile waits, or finds it locked.
+   No file is made, and none removed; where no log counts nothing is written.
+
+   `flags` may be SQR_NO_LOCK, where it is up to the caller that nobody else has FILE open. `options` may be NULL. `out`
+   may be NULL, and is written where it is SQR_OK. Refused by SQR_MISUSE, SQR_UNKNOWN_OPTIONS, SQR_NOT_THERE ..
+   SQR_FILE_FAILED, SQR_NOT_WRITABLE, SQR_DISK_FULL, SQR_NO_MEMORY, and as sqr_plan is. Nothing was written then, unless
+   the disk failed or was full in the middle of the steps (SQR_FILE_FAILED, SQR_DISK_FULL): FILE and its log show the
+   same database then, as where the process ends meanwhile, so call it again. Memory while it runs: as of sqr_plan, and
+   64 KiB; FILE and its logs are mapped. */
+uint32_t sqr_recover(const char *path, uint32_t flags, const struct sqr_options *options, struct sqr_recovered *out);
+
+/* Makes a new file with what sqr_recover would leave in FILE, as `sqrescue recover --to` does; FILE and its logs are
+   only read, with the locks of sqr_open_path, so beside any writer. With SQR_AT the database at the commit frame
+   options->at, at 0 FILE as it stands. OUT is whole and durable, or not there: it is made beside, as OUT.sqrescue-part
+   (or .sqrescue-part), which a later call sweeps away where this one was ended, and gets its name last. What lies at
+   OUT is never replaced. It has FILE's permissions as far as the process gives them, and blocks of zeros are holes.
+
+   `flags` may be SQR_NO_LOCK and SQR_AT; `options` and `out` as above. Refused as sqr_open_path with SQR_FILES_ONLY is
+   and as sqr_plan is, by SQR_NO_SUCH_COMMIT, SQR_ALREADY_THERE, SQR_MISUSE where OUT is the name of a log or the
+   FILE-shm of FILE, SQR_NOT_WRITABLE and SQR_DISK_FULL. Then nothing is made. Memory while it runs: as of
+   sqr_open_path, and 64 KiB. */
+uint32_t sqr_recover_to(const char *path, const char *to, uint32_t flags, const struct sqr_options *options,
+                        struct sqr_recovered *out);
 
 #ifdef __cplusplus
 }

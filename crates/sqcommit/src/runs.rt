@@ -1,4 +1,4 @@
-//! Commits, each of which is marked once its engine says that it is down.
+//! Commits, each of which is marked once its engine says that it is durable.
 ghost use Rattle.std.specs.Prelude.{IfErr};
 ghost use Rattle.sqcommit.specs.Failures.{IsOfRoll, IsOfWal};
 
