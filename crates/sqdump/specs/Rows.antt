@@ -1,5 +1,5 @@
 -- The rows that are shown of a database.
-use Rattle.std.specs.Prelude.{◌≡◌, ◌⊎◌, ℕ, List, length, Option, Some, None, Result, OnOk}
+use Rattle.std.specs.Prelude.{◌≡◌, ◌⊎◌, ℕ, List, length, Option, Some, None, Result, MatchResult}
 use Rattle.std.specs.Borrow.{Bor}
 use Rattle.sqval.specs.Database.{Database}
 use Rattle.sqwords.specs.declared.requests.Options.{Options}
@@ -8,7 +8,9 @@ use Rattle.sqwords.specs.declared.requests.RowForm.TheVariants as asked
 use Rattle.sqrowlines.specs.declared.form.Form.{Form}
 use Rattle.sqrowlines.specs.declared.form.Form.TheVariants.{Json, Csv, Sql}
 use Rattle.sqrowshown.specs.declared.stop.Stop.{Stop}
+use Rattle.sqrowshown.specs.declared.stop.Stop.TheVariants.{NoSuchTable}
 use Rattle.sqrowshown.specs.Dumps.{AreTablesPrinted, IsNamedPrinted}
+use Rattle.sqrowshown.specs.Stops.{AreTablesStopped, IsNamedStopped}
 use Rattle.sqshown.specs.Views.{AskedShows}
 use Rattle.sqdump.specs.declared.rows.Wanted.{Wanted}
 
@@ -23,8 +25,13 @@ abbrev pub ArePrinted : Database → (table : Option (Bor (List ℕ))) → Form 
 ArePrinted d None form before after = ((length d ≡ 0) × (before ≡ after)) ⊎ AreTablesPrinted d form before after
 ArePrinted d (Some name) form before after = IsNamedPrinted d name.now form before after
 
--- They were, where the printing ended so, of the database that is asked for.
+-- Why they weren't to their end, and what was until then.
+abbrev pub AreStopped : Database → (table : Option (Bor (List ℕ))) → Form → Stop → (before after : Option (List ℕ)) → Type 0
+AreStopped d None form stop before after = AreTablesStopped d form stop before after
+AreStopped d (Some name) form stop before after = ((length d ≡ 0) × (stop ≡ NoSuchTable) × (before ≡ after)) ⊎ IsNamedStopped d name.now form stop before after
+
+-- They were of the database that is asked for, to their end or up to the stop that is told.
 abbrev pub AreRowsShown : Options → Wanted → (db wal journal : List ℕ) → (before after : Option (List ℕ)) → Result (Unit {0}) Stop → Type 0
 AreRowsShown options wanted db wal journal before after ended =
     (size : ℕ) × (d : Database) × AskedShows options.at size db wal journal d
-    × OnOk ended (ArePrinted d wanted.table (form_named wanted.form) before after)
+    × MatchResult ended (λ _. ArePrinted d wanted.table (form_named wanted.form) before after) (λ stop. AreStopped d wanted.table (form_named wanted.form) stop before after)

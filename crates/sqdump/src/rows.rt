@@ -2,7 +2,7 @@
 ghost use Rattle.std.specs.Prelude.{◌≡◌, IfErr, IfOk, None, OnOk, Some};
 ghost use Rattle.sqshown.specs.Contents.{AreGiven};
 ghost use Rattle.sqshown.specs.Fronts.{IsAskedFront};
-ghost use Rattle.sqdump.specs.Rows.{ArePrinted, AreRowsShown, form_named};
+ghost use Rattle.sqdump.specs.Rows.{ArePrinted, AreRowsShown, AreStopped, form_named};
 ghost use Rattle.sqshown.specs.Views.{IsUnasked};
 
 use sqfacts::{Front, Refusal};
@@ -51,6 +51,8 @@ fn print_table<S: PageSource, W: Write>(
 ) -> Result<(), Stop>
     ensures ok { S.gives_pages source.old → OnOk result (ArePrinted (S.pages source.old) (Some name.entry) form
         (W.contents out.old) (W.contents out.new)) }
+    ensures err { S.gives_pages source.old → IfErr result (λ stop. AreStopped (S.pages source.old) (Some name.entry)
+        form stop (W.contents out.old) (W.contents out.new)) }
 {
     if source.count() == 0 {
         return Err(Stop::NoSuchTable);
@@ -66,6 +68,8 @@ fn print_all<S: PageSource, W: Write>(
     out: &mut W,
 ) -> Result<(), Stop>
     ensures ok { S.gives_pages source.old → OnOk result (ArePrinted (S.pages source.old) None form
+        (W.contents out.old) (W.contents out.new)) }
+    ensures err { S.gives_pages source.old → IfErr result (λ stop. AreStopped (S.pages source.old) None form stop
         (W.contents out.old) (W.contents out.new)) }
 {
     if source.count() == 0 {
@@ -83,6 +87,8 @@ fn print_wanted<S: PageSource, W: Write>(
 ) -> Result<(), Stop>
     ensures ok { S.gives_pages source.old → OnOk result (ArePrinted (S.pages source.old) wanted.entry.table
         (form_named wanted.entry.form) (W.contents out.old) (W.contents out.new)) }
+    ensures err { S.gives_pages source.old → IfErr result (λ stop. AreStopped (S.pages source.old) wanted.entry.table
+        (form_named wanted.entry.form) stop (W.contents out.old) (W.contents out.new)) }
 {
     let form = form_of(wanted.form);
     match wanted.table {

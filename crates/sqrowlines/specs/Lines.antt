@@ -1,6 +1,6 @@
 -- How a row is written: as a JSON object (RFC 8259), a line of comma-separated values (RFC 4180) or an INSERT of SQL.
-use Rattle.std.specs.Prelude.{◌≡◌, ℕ, suc, ◌^◌, ◌==◌, nat_lt, nat_le, if◌then◌else◌, Bool, List, [], ◌∷◌, ◌++◌, codes, length, slice_get, Option, Some, None, ℤ, pos, negsuc, IsTrue, IsFalse, is_nan, from_bits}
-use Rattle.std.specs.List.{flat_map}
+use Rattle.std.specs.Prelude.{◌≡◌, ℕ, suc, ◌^◌, ◌==◌, nat_lt, nat_le, if◌then◌else◌, Bool, false, List, [], ◌∷◌, ◌++◌, codes, length, slice_get, Option, Some, None, ℤ, pos, negsuc, IsTrue, IsFalse, is_nan, from_bits}
+use Rattle.std.specs.List.{flat_map, list_any}
 use Rattle.std.specs.Fmt.{decimal, signed_decimal}
 use Rattle.std.specs.Str.{IsUtf8}
 use Rattle.std.specs.Float.{Float, binary64, float_is_finite, is_sign_negative}
@@ -75,13 +75,23 @@ blob_text Json bytes = tagged_hex (codes "blob") bytes
 blob_text Csv bytes = hex_literal bytes
 blob_text Sql bytes = hex_literal bytes
 
--- a text of UTF-8
-abbrev pub utf8_text : Form → List ℕ → List ℕ
-utf8_text Json bytes = json_string bytes
-utf8_text Csv bytes = between_marks 34 bytes
-utf8_text Sql bytes = between_marks 39 bytes
+-- some byte is zero
+abbrev pub has_zero : List ℕ → Bool
+has_zero = list_any (λ b. b == 0)
 
--- a text that isn't
+-- A text stands as it is where it is UTF-8, and in SQL has no zero byte, at which the text of a statement ends.
+abbrev pub IsPlain : Form → List ℕ → Type 0
+IsPlain Json bytes = IsUtf8 bytes
+IsPlain Csv bytes = IsUtf8 bytes
+IsPlain Sql bytes = IsUtf8 bytes × (has_zero bytes ≡ false)
+
+-- such a text
+abbrev pub plain_text : Form → List ℕ → List ℕ
+plain_text Json bytes = json_string bytes
+plain_text Csv bytes = between_marks 34 bytes
+plain_text Sql bytes = between_marks 39 bytes
+
+-- any other text: its bytes as hex
 abbrev pub other_text : Form → List ℕ → List ℕ
 other_text Json bytes = tagged_hex (codes "text") bytes
 other_text Csv bytes = codes "T" ++ hex_literal bytes
@@ -92,7 +102,7 @@ abbrev pub IsText : Form → Datum → List ℕ → Type 0
 IsText form null t = t ≡ null_text form
 IsText form (integer n) t = t ≡ integer_text form n
 IsText form (real bytes) t = IsReal form (float_of bytes) t
-IsText form (text bytes) t = (IsUtf8 bytes → t ≡ utf8_text form bytes) × (¬ IsUtf8 bytes → t ≡ other_text form bytes)
+IsText form (text bytes) t = (IsPlain form bytes → t ≡ plain_text form bytes) × (¬ IsPlain form bytes → t ≡ other_text form bytes)
 IsText form (blob bytes) t = t ≡ blob_text form bytes
 
 -- what stands before value i, from 0

@@ -1,10 +1,10 @@
 //! The rows of a table as lines.
-ghost use Rattle.std.specs.Prelude.{◌≡◌, ◌≤◌, ℕ, List, OnOk, IfOk, length};
+ghost use Rattle.std.specs.Prelude.{◌≡◌, ◌≤◌, ℕ, List, OnOk, IfOk, IfErr, length};
 ghost use Rattle.std.specs.Io.KnownBytes.{Appends};
 ghost use Rattle.sqpage.specs.Source.{KeepsPages};
-ghost use Rattle.sqrowlines.specs.Printed.{IsRowLine, IsPrinted, led_by};
+ghost use Rattle.sqrowlines.specs.Printed.{IsRowLine, IsPrinted, IsPrintedUntil, led_by};
 ghost use Rattle.sqrowlines.specs.declared.form.Form.{Form};
-ghost use Rattle.sqrowlines.specs.internal.Printing.{PrintsNext};
+ghost use Rattle.sqrowlines.specs.internal.Printing.{PrintsNext, LineRefused, NextRefused, IsKept};
 ghost use Rattle.sqrows.specs.Cursor.{IsOver};
 
 use crate::form::Form;
@@ -67,6 +67,8 @@ fn written_whole(row: &Row<'_>, style: &Style<'_>) -> Result<(), PrintError>
     ensures known { OnOk result (style.now.columns.now.needed ≤ length row.now.values) }
     ensures named { OnOk result (style.now.form ≡ Form.Sql
         → length row.now.values ≤ length style.now.columns.now.names.items) }
+    ensures err { IfErr result
+        (LineRefused style.now (record { rowid = row.now.rowid; values = row.now.values })) }
 {
     if row.values.len() < style.columns.needed {
         return Err(PrintError::Default);
@@ -84,11 +86,17 @@ fn print_row<W: Write>(
     style: Style<'_>,
     out: &mut W,
 ) -> Result<(), PrintError>
-    ensures { OnOk result ((t : List ℕ) × IsRowLine style.entry.form style.entry.insert.now
+    ensures ok { OnOk result ((t : List ℕ) × IsRowLine style.entry.form style.entry.insert.now
         style.entry.columns.now style.entry.leads (record { rowid = row.now.rowid; values = row.now.values }) t
         × Appends (W.contents out.old) (W.contents out.new) t) }
+    ensures err { IfErr result
+        (LineRefused style.entry (record { rowid = row.now.rowid; values = row.now.values })) }
+    ensures kept { IfErr result (λ e. IsKept e (W.contents out.old) (W.contents out.new)) }
 {
-    written_whole(row, &style)?;
+    match written_whole(row, &style) {
+        Ok(()) => {}
+        Err(error) => return Err(error),
+    }
     let values = match style.columns.shown(alloc, row) {
         Ok(values) => values,
         Err(_) => return Err(PrintError::NoMemory),
@@ -118,7 +126,11 @@ fn print_next<S: PageSource, W: Write>(
     requires sized { S.size source.old ≡ rows.old.cells.size }
     ensures ok { S.gives_pages source.old → IsOver (S.pages source.old) rows.old.cells → IfOk result (λ found.
         PrintsNext (S.pages source.old) found style.entry rows.old rows.new (W.contents out.old) (W.contents out.new)) }
-    ensures size { (rows.new.cells.size ≡ rows.old.cells.size) × (rows.new.cells.usable ≡ rows.old.cells.usable) }
+    ensures err { S.gives_pages source.old → IsOver (S.pages source.old) rows.old.cells
+        → IfErr result (NextRefused (S.pages source.old) style.entry rows.old) }
+    ensures kept { IfErr result (λ e. IsKept e (W.contents out.old) (W.contents out.new)) }
+    ensures size { (rows.new.cells.size ≡ rows.old.cells.size) × (rows.new.cells.usable ≡ rows.old.cells.usable)
+        × (rows.new.limit ≡ rows.old.limit) }
     ensures keeps { KeepsPages S.pages S.size S.reads_right S.gives_pages source.old source.new }
 {
     match rows.advance(source) {
@@ -130,8 +142,10 @@ fn print_next<S: PageSource, W: Write>(
         Ok(row) => row,
         Err(error) => return Err(PrintError::Record(error)),
     };
-    print_row(alloc, &row, style, out)?;
-    Ok(true)
+    match print_row(alloc, &row, style, out) {
+        Ok(()) => Ok(true),
+        Err(error) => Err(error),
+    }
 }
 
 /// Writes a line for each row in the tree whose root is page `root`, in order. Where it ends without a refusal, the
@@ -146,6 +160,10 @@ pub fn print_rows<S: PageSource, W: Write>(
     ensures ok { S.gives_pages source.old → OnOk result ((t : List ℕ) × IsPrinted (S.pages source.old) root
         style.entry.form style.entry.insert.now style.entry.columns.now style.entry.leads t
         × Appends (W.contents out.old) (W.contents out.new) t) }
+    // The lines of the first rows were written, and this is why the next one's isn't.
+    ensures err { S.gives_pages source.old → IfErr result (λ e. IsPrintedUntil (S.pages source.old) root
+        style.entry.form style.entry.insert.now style.entry.columns.now style.entry.leads e
+        (W.contents out.old) (W.contents out.new)) }
     ensures keeps { KeepsPages S.pages S.size S.reads_right S.gives_pages source.old source.new }
 {
     let mut rows = match Rows::new(alloc, source, root, MOST_BYTES as u64) {
@@ -153,8 +171,10 @@ pub fn print_rows<S: PageSource, W: Write>(
         Err(refusal) => return Err(PrintError::Tree(refusal)),
     };
     'turns: for _ in 0..u64::MAX {
-        if !print_next(alloc, source, &mut rows, style, out)? {
-            return Ok(());
+        match print_next(alloc, source, &mut rows, style, out) {
+            Ok(true) => {}
+            Ok(false) => return Ok(()),
+            Err(error) => return Err(error),
         }
     }
     Err(PrintError::NoMemory)

@@ -1,5 +1,5 @@
 //! Values as texts.
-ghost use Rattle.std.specs.Prelude.{◌≡◌, ℕ, ◌+◌, ◌*◌, ◌∷◌, ◌++◌, [], List, OnOk, IsTrue, length};
+ghost use Rattle.std.specs.Prelude.{◌≡◌, ℕ, ◌+◌, ◌*◌, ◌∷◌, ◌++◌, [], List, OnOk, IsTrue, false, length};
 ghost use Rattle.std.specs.Io.KnownBytes.{Appends};
 ghost use Rattle.std.specs.List.{flat_map};
 ghost use Rattle.std.specs.Fmt.{signed_decimal};
@@ -9,7 +9,8 @@ ghost use Rattle.sqrowlines.specs.Lines.{doubled, between_marks, escaped, json_s
 ghost use Rattle.sqrowlines.specs.Lines.{hex_literal};
 ghost use Rattle.sqrowlines.specs.Lines.{is_safe};
 ghost use Rattle.sqrowlines.specs.Lines.{integer_text, json_integer, tagged_integer, null_text, float_of, IsReal};
-ghost use Rattle.sqrowlines.specs.Lines.{blob_text, utf8_text, other_text, wide_text, IsText};
+ghost use Rattle.sqrowlines.specs.Lines.{blob_text, plain_text, other_text, wide_text, IsText};
+ghost use Rattle.sqrowlines.specs.Lines.{has_zero as has_zero_byte, IsPlain};
 
 use crate::form::Form;
 use byteorder::{BigEndian, ByteOrder};
@@ -100,9 +101,9 @@ fn write_blob<W: Write>(out: &mut W, form: Form, bytes: &[u8]) -> io::Result<()>
     }
 }
 
-/// A text of UTF-8.
-fn write_utf8<W: Write>(out: &mut W, form: Form, bytes: &[u8]) -> io::Result<()>
-    ensures { OnOk result (Appends (W.contents out.old) (W.contents out.new) (utf8_text form bytes.now)) }
+/// A text that stands as it is.
+fn write_plain<W: Write>(out: &mut W, form: Form, bytes: &[u8]) -> io::Result<()>
+    ensures { OnOk result (Appends (W.contents out.old) (W.contents out.new) (plain_text form bytes.now)) }
 {
     match form {
         Form::Json => write_string(out, bytes),
@@ -111,7 +112,7 @@ fn write_utf8<W: Write>(out: &mut W, form: Form, bytes: &[u8]) -> io::Result<()>
     }
 }
 
-/// A text that isn't.
+/// Any other text.
 fn write_other<W: Write>(out: &mut W, form: Form, bytes: &[u8]) -> io::Result<()>
     ensures { OnOk result (Appends (W.contents out.old) (W.contents out.new) (other_text form bytes.now)) }
 {
@@ -211,14 +212,37 @@ fn write_real<W: Write>(out: &mut W, form: Form, bytes: [u8; 8]) -> io::Result<(
     out.write_all(buffer.format_finite(number).as_bytes())
 }
 
+/// Whether a text has a zero byte.
+fn has_zero(bytes: &[u8]) -> bool
+    ensures { result ≡ has_zero_byte bytes.now }
+{
+    bytes.contains(&0)
+}
+
+/// Whether a text stands as it is.
+fn is_plain(form: Form, bytes: &[u8]) -> bool
+    ensures yes { IsTrue result → IsPlain form bytes.now }
+    ensures not { result ≡ false → ¬ IsPlain form bytes.now }
+{
+    match str::from_utf8(bytes) {
+        Ok(_) => {}
+        Err(_) => return false,
+    }
+    match form {
+        Form::Json | Form::Csv => true,
+        Form::Sql => !has_zero(bytes),
+    }
+}
+
 /// A text.
 fn write_text<W: Write>(out: &mut W, form: Form, bytes: &[u8]) -> io::Result<()>
     ensures { OnOk result ((t : List ℕ) × IsText form (text_datum bytes.now) t
         × Appends (W.contents out.old) (W.contents out.new) t) }
 {
-    match str::from_utf8(bytes) {
-        Ok(_) => write_utf8(out, form, bytes),
-        Err(_) => write_other(out, form, bytes),
+    if is_plain(form, bytes) {
+        write_plain(out, form, bytes)
+    } else {
+        write_other(out, form, bytes)
     }
 }
 

@@ -1,1 +1,2 @@
 pub mod moves
+pub mod PassedRows

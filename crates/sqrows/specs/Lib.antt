@@ -3,4 +3,5 @@ pub mod Cursor
 pub mod Payloads
 pub mod Rows
 pub mod RowCursor
+pub mod Stops
 pub mod internal

@@ -1,3 +1,4 @@
 -- What no public clause reaches.
 pub mod Opening
 pub mod Loading
+pub mod Passing

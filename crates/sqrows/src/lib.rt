@@ -13,6 +13,6 @@ mod steps;
 mod walk;
 
 pub use cells::Cells;
-pub use payload::{PayloadError, payload_within};
+pub use payload::{PayloadError, payload_into, payload_within};
 pub use row::{Row, read_row};
 pub use rows::{Rows, RowsError};

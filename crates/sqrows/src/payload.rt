@@ -20,7 +20,7 @@ pub enum PayloadError {
 }
 
 /// Reads the payload of a cell of at most `limit` bytes into `out`, in the place of what is there.
-pub(crate) fn payload_into<S: PageSource>(
+pub fn payload_into<S: PageSource>(
     alloc: Global,
     source: &mut S,
     cell: &Cell,

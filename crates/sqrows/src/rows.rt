@@ -1,14 +1,14 @@
 //! The rows of a tree in order (fileformat2, 1.6 and 2.1).
-ghost use Rattle.std.specs.Prelude.{◌≡◌, ◌≢◌, ◌↔◌, ◌<◌, ◌≤◌, List, IfOk, IfErr, OnOk, true};
+ghost use Rattle.std.specs.Prelude.{◌≡◌, ◌≢◌, ◌↔◌, ◌<◌, ◌≤◌, List, IfOk, IfErr, OnOk, MatchResult, true};
 ghost use Rattle.sqval.specs.Record.{Refused};
 ghost use Rattle.sqpage.specs.Page.{has_payload};
 ghost use Rattle.sqpage.specs.Source.{KeepsPages};
 ghost use Rattle.sqpage.specs.declared.fault.Fault.{Fault};
-ghost use Rattle.sqrows.specs.Trees.{Entry};
-ghost use Rattle.sqrows.specs.Cursor.{IsOver, IsAt};
+ghost use Rattle.sqrows.specs.Trees.{Entry, IsTree};
+ghost use Rattle.sqrows.specs.Cursor.{IsOver, IsLeft};
 ghost use Rattle.sqrows.specs.Rows.{Row as SpecRow, HasRows};
-ghost use Rattle.sqrows.specs.RowCursor.{RowsLeft, RowsMove, IsAtRow, RowsRefused};
-ghost use Rattle.sqrows.specs.internal.Loading.{HasLoaded, LoadRefused};
+ghost use Rattle.sqrows.specs.RowCursor.{RowsLeft, RowsMove, CellsMove, IsAtRow, HasLoaded, RowsRefused};
+ghost use Rattle.sqrows.specs.internal.Loading.{LoadRefused};
 
 use crate::cells::Cells;
 use crate::payload::{PayloadError, payload_into};
@@ -57,6 +57,11 @@ impl Rows {
         // It has no rows, unless memory ran out.
         ensures err { S.gives_pages source.old → IfErr result (λ e. (e.fault ≢ Fault.Source)
             × (e.fault ≢ Fault.NoMemory → (all : List SpecRow) → ¬ HasRows (S.pages source.old) root all)) }
+        // The same of its cells.
+        ensures cells { S.gives_pages source.old → MatchResult result (λ rows. (xs : List Entry)
+            → IsTree (S.pages source.old) root xs ↔ IsLeft (S.pages source.old) rows.cells xs)
+            (λ e. e.fault ≢ Fault.NoMemory → (xs : List Entry) → ¬ IsTree (S.pages source.old) root xs) }
+        ensures limit { IfOk result (λ rows. rows.limit ≡ limit) }
         ensures size { IfOk result (λ rows. rows.cells.size ≡ S.size source.old) }
         ensures keeps { KeepsPages S.pages S.size S.reads_right S.gives_pages source.old source.new }
     {
@@ -75,9 +80,10 @@ impl Rows {
         requires own { has_payload self.old.cells.top.kind ≡ true }
         ensures ok { S.gives_pages source.old
             → OnOk result ((e : Entry) × HasLoaded (S.pages source.old) self.new e) }
-        ensures err { S.gives_pages source.old → IfErr result (λ error. (e : Entry) → IsAt self.old.cells e
-            → LoadRefused (S.pages source.old) self.old.limit e error) }
+        ensures err { S.gives_pages source.old → IfErr result
+            (LoadRefused (S.pages source.old) self.old.cells self.old.limit) }
         ensures same { self.new.cells ≡ self.old.cells }
+        ensures limit { self.new.limit ≡ self.old.limit }
         ensures keeps { KeepsPages S.pages S.size S.reads_right S.gives_pages source.old source.new }
     {
         let cell = match self.cells.cell() {
@@ -101,8 +107,13 @@ impl Rows {
         ensures ok { S.gives_pages source.old → IsOver (S.pages source.old) self.old.cells → IfOk result (λ found.
             (rows : List SpecRow) → RowsLeft (S.pages source.old) self.old rows
             ↔ RowsMove (S.pages source.old) found rows self.new) }
+        // The same of cells: it has the payload of the first of those that were left.
+        ensures cells { S.gives_pages source.old → IsOver (S.pages source.old) self.old.cells → IfOk result (λ found.
+            (xs : List Entry) → IsLeft (S.pages source.old) self.old.cells xs
+            ↔ CellsMove (S.pages source.old) found xs self.new) }
         ensures err { S.gives_pages source.old → IfErr result (RowsRefused (S.pages source.old) self.old) }
-        ensures size { (self.new.cells.size ≡ self.old.cells.size) × (self.new.cells.usable ≡ self.old.cells.usable) }
+        ensures size { (self.new.cells.size ≡ self.old.cells.size) × (self.new.cells.usable ≡ self.old.cells.usable)
+            × (self.new.limit ≡ self.old.limit) }
         ensures keeps { KeepsPages S.pages S.size S.reads_right S.gives_pages source.old source.new }
     {
         match self.cells.advance(source) {

@@ -261,13 +261,21 @@ impl Cells {
         }
     }
 
+    /// The index in its page of the cell that `advance` came to last.
+    pub fn index(&self) -> usize
+        ensures { result ≡ self.now.at }
+    {
+        self.at
+    }
+
     /// The cell that `advance` came to last. Refused by CellOutside at its page, and where there is none.
     pub fn cell(&self) -> Result<Cell<'_>, CheckError>
         ensures ok { IfOk result (λ cell. IsCellAt (page_of self.now.top) self.now.at cell
             × ((e : Entry) → IsAt self.now e ↔ (e ≡ entry_of self.now.at cell))) }
         ensures part { IfOk result (λ cell. (length cell.local.now ≤ payload_size cell) × (480 ≤ cell.usable)
             × (cell.usable ≤ self.now.size)) }
-        ensures err { IfErr result (λ refusal. (e : Entry) → ¬ IsAt self.now e) }
+        ensures err { IfErr result (λ refusal. (refusal.fault ≡ Fault.CellOutside)
+            × ((e : Entry) → ¬ IsAt self.now e)) }
     {
         match self.top.cell(self.at) {
             Some(cell) => Ok(cell),

@@ -1,1 +1,2 @@
 pub mod TurnsTaken
+pub mod TablesStopped

@@ -1,2 +1,4 @@
 pub mod Tables
 pub mod Dumps
+pub mod Stops
+pub mod internal

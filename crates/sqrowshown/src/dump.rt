@@ -1,5 +1,5 @@
 //! All tables of a database, or one of a name, as they are printed.
-ghost use Rattle.std.specs.Prelude.{◌≡◌, ◌≤◌, ◌&&◌, IfOk, IsTrue, OnOk, codes, false, length, nat_le, take};
+ghost use Rattle.std.specs.Prelude.{◌≡◌, ◌≤◌, ◌&&◌, IfOk, IfErr, IsTrue, OnOk, codes, false, length, nat_le, take};
 ghost use Rattle.std.specs.Io.KnownBytes.{Appends};
 ghost use Rattle.std.specs.Str.{str_eq_ignore_ascii_case};
 ghost use Rattle.sqval.specs.Bytes.{word};
@@ -11,6 +11,8 @@ ghost use Rattle.sqrowshown.specs.Dumps.{IsNamedPrinted, IsObjectPrinted, IsOthe
 ghost use Rattle.sqrowshown.specs.Dumps.{first_text, internal_text, is_internal as is_kept, last_text, made_text};
 ghost use Rattle.sqrowshown.specs.Dumps.{making_text};
 ghost use Rattle.sqrowshown.specs.Dumps.{other_text, statement_text, title_text};
+ghost use Rattle.sqrowshown.specs.Stops.{AreObjectsStopped, AreTablesStopped, IsMadeStopped, IsNamedStopped};
+ghost use Rattle.sqrowshown.specs.Stops.{IsObjectStopped, IsOtherStopped, IsTurnStopped, SchemaRefused};
 
 use crate::stop::Stop;
 use crate::tables::print_headed;
@@ -110,7 +112,8 @@ fn write_made<W: Write>(out: &mut W, form: Form, table: &Object) -> io::Result<(
 
 /// Whether an object can be written: in SQL no virtual table, whose own tables its module makes.
 fn is_written(form: Form, object: &Object) -> bool
-    ensures { IsTrue result → IsWritten form object.now }
+    ensures yes { IsTrue result → IsWritten form object.now }
+    ensures not { result ≡ false → ¬ IsWritten form object.now }
 {
     match form {
         Form::Json | Form::Csv => true,
@@ -158,6 +161,8 @@ fn print_made<S: PageSource, W: Write>(
 ) -> Result<(), Stop>
     ensures ok { S.gives_pages source.old → OnOk result (IsMadePrinted (S.pages source.old) form table.now
         (W.contents out.old) (W.contents out.new)) }
+    ensures err { S.gives_pages source.old → IfErr result (λ stop. IsMadeStopped (S.pages source.old) form table.now
+        stop (W.contents out.old) (W.contents out.new)) }
     ensures keeps { KeepsPages S.pages S.size S.reads_right S.gives_pages source.old source.new }
 {
     match write_made(out, form, table) {
@@ -168,7 +173,8 @@ fn print_made<S: PageSource, W: Write>(
 
 /// Prints an object without rows of its own. Refused by `NotUnderstood` where it can't be written.
 fn print_other<W: Write>(form: Form, object: &Object, out: &mut W) -> Result<(), Stop>
-    ensures { OnOk result (IsOtherPrinted form object.now (W.contents out.old) (W.contents out.new)) }
+    ensures ok { OnOk result (IsOtherPrinted form object.now (W.contents out.old) (W.contents out.new)) }
+    ensures err { IfErr result (λ stop. IsOtherStopped form object.now stop (W.contents out.old) (W.contents out.new)) }
 {
     if !is_written(form, object) {
         return Err(Stop::NotUnderstood);
@@ -190,6 +196,8 @@ fn print_taken<S: PageSource, W: Write>(
 ) -> Result<(), Stop>
     ensures ok { S.gives_pages source.old → OnOk result (IsObjectPrinted (S.pages source.old) form turn object.now
         (W.contents out.old) (W.contents out.new)) }
+    ensures err { S.gives_pages source.old → IfErr result (λ stop. IsObjectStopped (S.pages source.old) form turn
+        object.now stop (W.contents out.old) (W.contents out.new)) }
     ensures keeps { KeepsPages S.pages S.size S.reads_right S.gives_pages source.old source.new }
 {
     match turn {
@@ -209,6 +217,8 @@ fn print_object<S: PageSource, W: Write>(
 ) -> Result<(), Stop>
     ensures ok { S.gives_pages source.old → OnOk result (IsTurnTaken (S.pages source.old) form turn object.now
         (W.contents out.old) (W.contents out.new)) }
+    ensures err { S.gives_pages source.old → IfErr result (λ stop. IsInTurn turn object.now × IsObjectStopped
+        (S.pages source.old) form turn object.now stop (W.contents out.old) (W.contents out.new)) }
     ensures keeps { KeepsPages S.pages S.size S.reads_right S.gives_pages source.old source.new }
 {
     if is_in_turn(object, turn) {
@@ -229,6 +239,8 @@ fn print_turn<S: PageSource, W: Write>(
 ) -> Result<(), Stop>
     ensures ok { S.gives_pages source.old → OnOk result (AreTurnsTaken (S.pages source.old) form turn objects.now
         (W.contents out.old) (W.contents out.new)) }
+    ensures err { S.gives_pages source.old → IfErr result (λ stop. IsTurnStopped (S.pages source.old) form turn
+        objects.now stop (W.contents out.old) (W.contents out.new)) }
     ensures keeps { KeepsPages S.pages S.size S.reads_right S.gives_pages source.old source.new }
 {
     for object in objects {
@@ -250,6 +262,8 @@ fn print_objects<S: PageSource, W: Write>(
 ) -> Result<(), Stop>
     ensures ok { S.gives_pages source.old → OnOk result (AreObjectsPrinted (S.pages source.old) form objects.now
         (W.contents out.old) (W.contents out.new)) }
+    ensures err { S.gives_pages source.old → IfErr result (λ stop. AreObjectsStopped (S.pages source.old) form
+        objects.now stop (W.contents out.old) (W.contents out.new)) }
     ensures keeps { KeepsPages S.pages S.size S.reads_right S.gives_pages source.old source.new }
 {
     match print_turn(alloc, source, objects, Turn::Tables, form, out) {
@@ -274,6 +288,7 @@ fn encoding_in(bytes: &[u8]) -> u32
 /// The encoding of a database.
 fn encoding_of<S: PageSource>(alloc: Global, source: &mut S) -> Result<u32, Stop>
     ensures ok { S.gives_pages source.old → IfOk result (λ n. n ≡ word (page (S.pages source.old) 1) 56) }
+    ensures err { S.gives_pages source.old → IfErr result (SchemaRefused (S.pages source.old)) }
     ensures keeps { KeepsPages S.pages S.size S.reads_right S.gives_pages source.old source.new }
 {
     if source.count() == 0 {
@@ -299,6 +314,7 @@ fn encoding_of<S: PageSource>(alloc: Global, source: &mut S) -> Result<u32, Stop
 fn listed<S: PageSource>(alloc: Global, source: &mut S) -> Result<Vec<Object>, Stop>
     ensures ok { S.gives_pages source.old → IfOk result (λ objects. HasObjects (S.pages source.old) objects.items
         × (word (page (S.pages source.old) 1) 56 ≤ 1)) }
+    ensures err { S.gives_pages source.old → IfErr result (SchemaRefused (S.pages source.old)) }
     ensures keeps { KeepsPages S.pages S.size S.reads_right S.gives_pages source.old source.new }
 {
     let encoding = match encoding_of(alloc, source) {
@@ -326,6 +342,9 @@ pub fn print_tables<S: PageSource, W: Write>(
     out: &mut W,
 ) -> Result<(), Stop>
     ensures ok { S.gives_pages source.old → OnOk result (AreTablesPrinted (S.pages source.old) form
+        (W.contents out.old) (W.contents out.new)) }
+    // What was printed is what comes first, and this is why what comes next isn't.
+    ensures err { S.gives_pages source.old → IfErr result (λ stop. AreTablesStopped (S.pages source.old) form stop
         (W.contents out.old) (W.contents out.new)) }
     ensures keeps { KeepsPages S.pages S.size S.reads_right S.gives_pages source.old source.new }
 {
@@ -358,6 +377,8 @@ pub fn print_named<S: PageSource, W: Write>(
 ) -> Result<(), Stop>
     ensures ok { S.gives_pages source.old → OnOk result (IsNamedPrinted (S.pages source.old) name.now form
         (W.contents out.old) (W.contents out.new)) }
+    ensures err { S.gives_pages source.old → IfErr result (λ stop. IsNamedStopped (S.pages source.old) name.now form
+        stop (W.contents out.old) (W.contents out.new)) }
     ensures keeps { KeepsPages S.pages S.size S.reads_right S.gives_pages source.old source.new }
 {
     let objects = match listed(alloc, source) {

@@ -1,4 +1,8 @@
 //! Why not all rows are printed.
+ghost use Rattle.std.specs.Prelude.{◌≡◌};
+ghost use Rattle.sqrowshown.specs.declared.stop.Stop.TheVariants.{NoMemory, Write};
+ghost use Rattle.sqrowshown.specs.internal.Stopping.{stop_of_row, stop_of_print, stop_of_list};
+
 use sqpage::CheckError;
 use sqrowlines::PrintError;
 use sqrows::{PayloadError, RowsError};
@@ -44,7 +48,9 @@ pub enum Stop {
 }
 
 /// Why a row isn't read.
-fn of_row(error: RowsError) -> Stop {
+fn of_row(error: RowsError) -> Stop
+    ensures { result ≡ stop_of_row error }
+{
     match error {
         RowsError::Tree(fault) => Stop::Fault(fault),
         RowsError::Payload(PayloadError::Chain(fault)) => Stop::Fault(fault),
@@ -53,6 +59,8 @@ fn of_row(error: RowsError) -> Stop {
 }
 
 impl From<PrintError> for Stop {
+    ghost from_gives = { λ error stop. stop ≡ stop_of_print error };
+
     fn from(error: PrintError) -> Stop {
         match error {
             PrintError::Tree(fault) => Stop::Fault(fault),
@@ -67,6 +75,8 @@ impl From<PrintError> for Stop {
 }
 
 impl From<ListError> for Stop {
+    ghost from_gives = { λ error stop. stop ≡ stop_of_list error };
+
     fn from(error: ListError) -> Stop {
         match error {
             ListError::Tree(fault) => Stop::Fault(fault),
@@ -78,12 +88,16 @@ impl From<ListError> for Stop {
 }
 
 impl From<AllocError> for Stop {
+    ghost from_gives = { λ _ stop. stop ≡ NoMemory };
+
     fn from(_error: AllocError) -> Stop {
         Stop::NoMemory
     }
 }
 
 impl From<io::Error> for Stop {
+    ghost from_gives = { λ error stop. stop ≡ Write error };
+
     fn from(error: io::Error) -> Stop {
         Stop::Write(error)
     }

@@ -1,11 +1,15 @@
 //! The rows of one table.
-ghost use Rattle.std.specs.Prelude.{◌≡◌, OnOk, IfOk};
+ghost use Rattle.std.specs.Prelude.{◌≡◌, OnOk, IfOk, IfErr, IsTrue, true};
 ghost use Rattle.std.specs.List.{list_any};
 ghost use Rattle.std.specs.Str.{str_eq_ignore_ascii_case};
 ghost use Rattle.sqpage.specs.Source.{KeepsPages};
 ghost use Rattle.sqtables.specs.Named.{AreColumns};
 ghost use Rattle.sqrowlines.specs.Inserts.{rowid_name as rowid_named};
-ghost use Rattle.sqrowshown.specs.Tables.{IsInsert, IsNameFor, IsTablePrinted, has_column as has_named, leads_in};
+ghost use Rattle.sqrowshown.specs.Tables.{IsInsert, IsNameFor, IsTablePrinted, has_column as has_named};
+ghost use Rattle.sqrowshown.specs.Tables.{are_unnamed, leads_in};
+ghost use Rattle.sqrowlines.specs.declared.form.Form.{Form};
+ghost use Rattle.sqrowshown.specs.Stops.{IsTableStopped};
+ghost use Rattle.sqrowshown.specs.declared.stop.Stop.{Stop};
 
 use crate::stop::Stop;
 use sqpage::PageSource;
@@ -71,7 +75,8 @@ fn leads(form: Form, columns: &Columns, rowid: Option<&str>) -> bool
 
 /// What is known of the columns of a table.
 pub(crate) fn known_columns(alloc: Global, table: &Object) -> Result<Columns, Stop>
-    ensures { IfOk result (AreColumns table.now.sql.items) }
+    ensures ok { IfOk result (AreColumns table.now.sql.items) }
+    ensures err { IfErr result (λ stop. stop ≡ Stop.NoMemory) }
 {
     match columns_of(alloc, &table.sql) {
         Ok(columns) => Ok(columns),
@@ -87,14 +92,28 @@ fn insert_of(
     rowid: Option<&str>,
     form: Form,
 ) -> Result<Vec<u8>, Stop>
-    ensures { IfOk result (λ insert.
+    ensures ok { IfOk result (λ insert.
         IsInsert form table.now columns.now (rowid_named rowid.entry) insert.items) }
+    ensures err { IfErr result (λ stop. stop ≡ Stop.NoMemory) }
 {
     let mut insert = Vec::new(alloc);
-    if form == Form::Sql {
-        write_insert(&mut insert, &table.name, rowid, &columns.names)?;
+    match form {
+        Form::Json | Form::Csv => Ok(insert),
+        Form::Sql => match write_insert(&mut insert, &table.name, rowid, &columns.names) {
+            Ok(()) => Ok(insert),
+            Err(_) => Err(Stop::NoMemory),
+        },
     }
-    Ok(insert)
+}
+
+/// Whether the columns of a table are to be named in SQL, and none is known.
+fn is_unknown(form: Form, columns: &Columns) -> bool
+    ensures { IsTrue result → (form ≡ Form.Sql) × (are_unnamed columns.now ≡ true) }
+{
+    match form {
+        Form::Json | Form::Csv => false,
+        Form::Sql => columns.names.is_empty(),
+    }
 }
 
 /// Writes a line for each row of a table, in order. The rowid stands before the values where the form is SQL and no
@@ -110,14 +129,23 @@ pub fn print_table<S: PageSource, W: Write>(
     // What is written are the lines of the table's rows in the database, each once and in order.
     ensures ok { S.gives_pages source.old → OnOk result (IsTablePrinted (S.pages source.old) table.now form
         (W.contents out.old) (W.contents out.new)) }
+    // The lines of the first rows were written, and this is why the next one's isn't; or why nothing was written.
+    ensures err { S.gives_pages source.old → IfErr result (λ stop. IsTableStopped (S.pages source.old) table.now form
+        stop (W.contents out.old) (W.contents out.new)) }
     ensures keeps { KeepsPages S.pages S.size S.reads_right S.gives_pages source.old source.new }
 {
-    let columns = known_columns(alloc, table)?;
-    if form == Form::Sql && columns.names.is_empty() {
+    let columns = match known_columns(alloc, table) {
+        Ok(columns) => columns,
+        Err(stop) => return Err(stop),
+    };
+    if is_unknown(form, &columns) {
         return Err(Stop::NotUnderstood);
     }
     let rowid = rowid_name(&columns);
-    let insert = insert_of(alloc, table, &columns, rowid, form)?;
+    let insert = match insert_of(alloc, table, &columns, rowid, form) {
+        Ok(insert) => insert,
+        Err(stop) => return Err(stop),
+    };
     let style = Style {
         form,
         columns: &columns,

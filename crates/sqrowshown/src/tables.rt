@@ -1,7 +1,8 @@
 //! The rows of a table behind its heading.
-ghost use Rattle.std.specs.Prelude.{OnOk};
+ghost use Rattle.std.specs.Prelude.{OnOk, IfErr};
 ghost use Rattle.sqpage.specs.Source.{KeepsPages};
 ghost use Rattle.sqrowshown.specs.Tables.{IsHeadedPrinted};
+ghost use Rattle.sqrowshown.specs.Stops.{IsHeadedStopped};
 
 use crate::stop::Stop;
 use crate::table::{known_columns, print_table};
@@ -22,9 +23,14 @@ pub fn print_headed<S: PageSource, W: Write>(
 ) -> Result<(), Stop>
     ensures ok { S.gives_pages source.old → OnOk result (IsHeadedPrinted (S.pages source.old) table.now form
         (W.contents out.old) (W.contents out.new)) }
+    ensures err { S.gives_pages source.old → IfErr result (λ stop. IsHeadedStopped (S.pages source.old) table.now form
+        stop (W.contents out.old) (W.contents out.new)) }
     ensures keeps { KeepsPages S.pages S.size S.reads_right S.gives_pages source.old source.new }
 {
-    let columns = known_columns(alloc, table)?;
+    let columns = match known_columns(alloc, table) {
+        Ok(columns) => columns,
+        Err(stop) => return Err(stop),
+    };
     match write_heading(out, form, &table.name, &columns.names) {
         Ok(()) => print_table(alloc, source, table, form, out),
         Err(error) => Err(Stop::Write(error)),

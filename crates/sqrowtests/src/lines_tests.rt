@@ -60,3 +60,17 @@ fn line_of_sql(rt: HostRuntime) -> Result<(), Fail> {
     assert!(rt; line.as_slice() == SQL);
     Ok(())
 }
+
+/// A text with a zero byte stands as it is but in SQL.
+static ZERO: [Value; 1] = [Value::Text(b"n\x00")];
+
+#[test]
+fn zero_byte(rt: HostRuntime) -> Result<(), Fail> {
+    let json = line_of(rt.alloc(), Form::Json, &ZERO).ok_or("no line")?;
+    assert!(rt; json.as_slice() == b"{\"a\\\"b\":\"n\\u0000\"}\n".as_slice());
+    let csv = line_of(rt.alloc(), Form::Csv, &ZERO).ok_or("no line")?;
+    assert!(rt; csv.as_slice() == b"\"n\x00\"\n".as_slice());
+    let sql = line_of(rt.alloc(), Form::Sql, &ZERO).ok_or("no line")?;
+    assert!(rt; sql.as_slice() == b"INSERT INTO t VALUES(CAST(X'6e00' AS TEXT));\n".as_slice());
+    Ok(())
+}

@@ -1,6 +1,6 @@
 -- The columns of a table, and what they show of a row (SQLite's lang_altertable, "ALTER TABLE ADD COLUMN", and
 -- lang_createtable, "ROWIDs and the INTEGER PRIMARY KEY").
-use Rattle.std.specs.Prelude.{◌≡◌, ℕ, ◌==◌, max, if◌then◌else◌, List, length, slice_get, Option, Some, None, unwrap_or, option_map, ℤ}
+use Rattle.std.specs.Prelude.{ℕ, ◌==◌, max, if◌then◌else◌, List, length, slice_get, Option, Some, None, unwrap_or, option_map, ℤ}
 use Rattle.sqval.specs.Datum.{Datum, null, integer, text, blob}
 use Rattle.sqpage.specs.Lists.{each_from}
 use Rattle.sqrows.specs.Rows.{Row}

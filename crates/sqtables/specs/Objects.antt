@@ -3,8 +3,12 @@ use Rattle.std.specs.Prelude.{◌≡◌, ◌⊎◌, ℕ, ◌<◌, List, [], ◌�
 use Rattle.std.specs.Str.{str_eq_ignore_ascii_case}
 use Rattle.sqval.specs.Database.{Database}
 use Rattle.sqval.specs.Datum.{Datum}
+use Rattle.sqval.specs.Record.{most_bytes}
 use Rattle.sqrows.specs.Rows.{Row, HasRows}
+use Rattle.sqrows.specs.Stops.{HoldsAt, IsNoRecord, TreeRefused, RowRefused}
 use Rattle.sqtables.specs.declared.list.Object.{Object}
+use Rattle.sqtables.specs.declared.list.ListError.{ListError}
+use Rattle.sqtables.specs.declared.list.ListError.TheVariants.{Tree, Row as RowError, Record, NoMemory}
 use Rattle.sqtables.specs.Schema.{IsObjectRow}
 
 -- A row of the schema is that of this object.
@@ -33,3 +37,10 @@ IsTable o = (0 < o.root) × (o.kind.items ≡ codes "table")
 -- It is one of this name, where ASCII's small letters are its capitals (SQLite's lang_keywords: names of objects).
 abbrev pub IsTableNamed : (name : List ℕ) → Object → Type 0
 IsTableNamed name o = IsTable o × (str_eq_ignore_ascii_case o.name.items name ≡ true)
+
+-- Why they aren't listed: the schema's tree isn't sound, or a row of it isn't read or is no record; or memory ran out.
+abbrev pub ListRefused : Database → ListError → Type 0
+ListRefused d (Tree e) = TreeRefused d 1 e
+ListRefused d (RowError e) = (k : ℕ) × RowRefused d 1 most_bytes k e
+ListRefused d (Record e) = (k : ℕ) × HoldsAt d 1 k (IsNoRecord d e)
+ListRefused d NoMemory = Unit {0}

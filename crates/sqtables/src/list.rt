@@ -1,10 +1,10 @@
 //! The objects that the schema names, in its order (fileformat2, 2.6).
-ghost use Rattle.std.specs.Prelude.{◌≡◌, All, IfOk, IsTrue, MatchOption, false};
+ghost use Rattle.std.specs.Prelude.{◌≡◌, All, IfOk, IfErr, IsTrue, MatchOption, false};
 ghost use Rattle.std.specs.List.{Contains};
 ghost use Rattle.sqpage.specs.Source.{KeepsPages};
 ghost use Rattle.sqrows.specs.Cursor.{IsOver};
-ghost use Rattle.sqtables.specs.Objects.{HasObjects, IsTable, IsTableNamed};
-ghost use Rattle.sqtables.specs.internal.Listing.{Adds, TakesNext};
+ghost use Rattle.sqtables.specs.Objects.{HasObjects, IsTable, IsTableNamed, ListRefused};
+ghost use Rattle.sqtables.specs.internal.Listing.{Adds, TakesNext, NextRefused};
 
 use crate::schema::object_row;
 use sqpage::{CheckError, PageSource};
@@ -63,17 +63,18 @@ impl From<AllocError> for ListError {
 
 /// Adds the object of a row of the schema, where it is that of one.
 fn add(alloc: Global, row: &Row<'_>, objects: &mut Vec<Object>) -> Result<(), ListError>
-    ensures { IfOk result (λ _. Adds row.now.values objects.old.items objects.new.items) }
+    ensures ok { IfOk result (λ _. Adds row.now.values objects.old.items objects.new.items) }
+    ensures err { IfErr result (λ e. e ≡ ListError.NoMemory) }
 {
-    match object_row(&row.values) {
-        Some(object) => {
-            let copy = object.copied(alloc)?;
-            match objects.push(copy) {
-                Ok(()) => Ok(()),
-                Err(_) => Err(ListError::NoMemory),
-            }
-        }
-        None => Ok(()),
+    let Some(object) = object_row(&row.values) else {
+        return Ok(());
+    };
+    let Ok(copy) = object.copied(alloc) else {
+        return Err(ListError::NoMemory);
+    };
+    match objects.push(copy) {
+        Ok(()) => Ok(()),
+        Err(_) => Err(ListError::NoMemory),
     }
 }
 
@@ -87,7 +88,10 @@ fn take_next<S: PageSource>(
     requires sized { S.size source.old ≡ rows.old.cells.size }
     ensures ok { S.gives_pages source.old → IsOver (S.pages source.old) rows.old.cells → IfOk result (λ found.
         TakesNext (S.pages source.old) found rows.old rows.new objects.old.items objects.new.items) }
-    ensures size { (rows.new.cells.size ≡ rows.old.cells.size) × (rows.new.cells.usable ≡ rows.old.cells.usable) }
+    ensures err { S.gives_pages source.old → IsOver (S.pages source.old) rows.old.cells
+        → IfErr result (NextRefused (S.pages source.old) rows.old) }
+    ensures size { (rows.new.cells.size ≡ rows.old.cells.size) × (rows.new.cells.usable ≡ rows.old.cells.usable)
+        × (rows.new.limit ≡ rows.old.limit) }
     ensures keeps { KeepsPages S.pages S.size S.reads_right S.gives_pages source.old source.new }
 {
     match rows.advance(source) {
@@ -109,6 +113,8 @@ pub fn objects<S: PageSource>(alloc: Global, source: &mut S) -> Result<Vec<Objec
     // They are exactly those of the schema's rows, each once and in order.
     ensures ok { S.gives_pages source.old
         → IfOk result (λ objects. HasObjects (S.pages source.old) objects.items) }
+    // The schema can't be read, or a row of it has more than 1 GiB; or memory ran out.
+    ensures err { S.gives_pages source.old → IfErr result (ListRefused (S.pages source.old)) }
     ensures keeps { KeepsPages S.pages S.size S.reads_right S.gives_pages source.old source.new }
 {
     let mut objects = Vec::new(alloc);

@@ -1,10 +1,12 @@
 -- The rows in the cells that are left.
-use Rattle.std.proofs.Common.{◌≡◌, ◌↔◌, ℕ, true, List, [], ◌∷◌, ◌++◌, length, take, Option, ℤ, unwrap_or, refl, sym, ap, ◌∙◌, subst, arith}
+use Rattle.std.proofs.Common.{◌≡◌, ◌↔◌, inl, inr, ℕ, true, List, [], ◌∷◌, ◌++◌, length, take, Option, ℤ, unwrap_or, refl, sym, ap, ◌∙◌, subst, arith}
 use Rattle.sqval.specs.Record.{IsRecord}
 use Rattle.sqpage.specs.declared.cell.Cell.{Cell}
 use Rattle.sqval.specs.Database.{Database, page}
 use Rattle.sqpage.specs.Freelist.{Leads, next_in}
-use Rattle.sqpage.specs.Chain.{IsPayload, links, payload_size, contents}
+use Rattle.sqpage.specs.declared.fault.Fault.{Fault}
+use Rattle.sqpage.specs.declared.fault.Fault.TheVariants as faults
+use Rattle.sqpage.specs.Chain.{IsPayload, ChainRefused, ChainBroken, links, payload_size, contents}
 use Rattle.sqrows.specs.declared.cells.Cells.{Cells}
 use Rattle.sqrows.specs.declared.rows.Rows.{Rows}
 use Rattle.sqval.specs.Datum.{Datum}
@@ -16,8 +18,8 @@ use Rattle.sqrows.specs.Payloads.{PayloadRefused}
 use Rattle.sqrows.specs.Trees.{Entry, entry_of, IsTree}
 use Rattle.sqrows.specs.Cursor.{page_of, IsLeft, IsAt, Moves}
 use Rattle.sqrows.specs.Rows.{Row, IsPayloadIn, AreRows, HasRows}
-use Rattle.sqrows.specs.RowCursor.{RowsLeft, RowsMove, RowsRefused}
-use Rattle.sqrows.specs.internal.Loading.{HasLoaded, LoadRefused}
+use Rattle.sqrows.specs.RowCursor.{RowsLeft, RowsMove, CellsMove, HasLoaded, HasNoPayload, IsAbove, RowsRefused}
+use Rattle.sqrows.specs.internal.Loading.{LoadRefused}
 use Rattle.sqrows.proofs.moves.StepsOfPage.{entry_once}
 
 -- A payload is that of what the cell's entry says.
@@ -91,20 +93,28 @@ rows_move d old new e loaded move rows = (on, back)
         let left = (move (e ∷ xs)).1 (e, xs, refl, loaded.at, h.4.1) in
         (e ∷ xs, left, (h.0, h.1, record { bytes = new.payload.items; payload = loaded.payload; read = h.3.read; rowid = loaded.rowid ∙ h.3.rowid }, h.4.2, h.2))
 
-pub no_rows_behind : (d : Database) (old : Rows) (cells : Cells) → ((e : Entry) → IsAt cells e → (bytes : List ℕ) → ¬ IsPayloadIn d e bytes) → ((xs : List Entry) → IsLeft d old.cells xs → Moves d true xs cells) → (rows : List Row) → ¬ RowsLeft d old rows
-no_rows_behind d old cells none move rows h =
-    let m = move h.0 h.1 in
-    let are : AreRows d (m.0 ∷ m.1) rows = subst (λ z. AreRows d z rows) m.2 h.2 in
-    none m.0 m.3 are.2.bytes are.2.payload
+-- The same of cells.
+pub cells_move : (d : Database) (old new : Rows) (e : Entry) → HasLoaded d new e → ((xs : List Entry) → IsLeft d old.cells xs ↔ Moves d true xs new.cells) → (xs : List Entry) → IsLeft d old.cells xs ↔ CellsMove d true xs new
+cells_move d old new e loaded move xs = (
+  λ left. let m = (move xs).0 left in (m.0, m.1, m.2, subst (λ (z : Entry). HasLoaded d new z) (at_once new.cells e m.0 loaded.at m.3) loaded, m.4),
+  λ h. (move xs).1 (h.0, h.1, h.2, h.3.at, h.4),
+)
 
-pub refused_load : (d : Database) (i : ℕ) (cell : Cell) (limit : ℕ) (refusal : PayloadError) → PayloadRefused d cell limit refusal → LoadRefused d limit (entry_of i cell) (Payload refusal)
-refused_load d i cell limit TooLong refused = refused
-refused_load d i cell limit (Chain e) refused = λ other bytes p. refused.1 other bytes (payload_moves d i i p.cell cell p.is bytes p.payload)
+unread : (d : Database) (cell : Cell) (fault : Fault) (at : ℕ) → ChainRefused d cell fault at → ¬ (fault ≡ faults.Source)
+unread d cell fault at (inl cut) is = let e = cut.0 in cc
+unread d cell fault at (inr broken) is = subst (λ f. ChainBroken d cell f at) is broken.1
 
-pub refused_rows : (d : Database) (old : Rows) (cells : Cells) (refusal : RowsError) → ((e : Entry) → IsAt cells e → LoadRefused d old.limit e refusal) → ((xs : List Entry) → IsLeft d old.cells xs → Moves d true xs cells) → RowsRefused d old refusal
+pub refused_load : (d : Database) (cells : Cells) (cell : Cell) (limit : ℕ) (refusal : PayloadError) → ((e : Entry) → IsAt cells e → e ≡ entry_of cells.at cell) → PayloadRefused d cell limit refusal → LoadRefused d cells limit (Payload refusal)
+refused_load d cells cell limit TooLong only refused = λ e at. subst (IsAbove limit) (sym (only e at)) refused
+refused_load d cells cell limit (Chain r) only refused = (
+  unread d cell r.fault r.page refused.0,
+  λ other e at. subst (HasNoPayload d) (sym (only e at)) (λ bytes p. refused.1 other bytes (payload_moves d cells.at cells.at p.cell cell p.is bytes p.payload)),
+)
+
+pub refused_rows : (d : Database) (old : Rows) (cells : Cells) (refusal : RowsError) → LoadRefused d cells old.limit refusal → ((xs : List Entry) → IsLeft d old.cells xs → Moves d true xs cells) → RowsRefused d old refusal
 refused_rows d old cells (Payload TooLong) load move = λ xs left. let m = move xs left in (m.0, m.1, m.2, load m.0 m.3)
-refused_rows d old cells (Payload (Chain e)) load move = λ other. no_rows_behind d old cells (λ e at. load e at other) move
-refused_rows d old cells (Tree e) load move = λ other. no_rows_behind d old cells (λ e at. load e at other) move
+refused_rows d old cells (Payload (Chain e)) load move = (load.0, λ other xs left. let m = move xs left in (m.0, m.1, m.2, load.1 other m.0 m.3))
+refused_rows d old cells (Tree e) load move = (load.0, λ other xs left. let m = move xs left in load.1 m.0 m.3)
 
 -- A row of this rowid and these values.
 pub row_is : (row : Row) (id : Option ℤ) (values : List Datum) → id ≡ row.rowid → values ≡ row.values → row ≡ record { rowid = id; values = values }

@@ -1,10 +1,16 @@
-use Rattle.std.proofs.Common.{List, ℕ, subst}
+use Rattle.std.proofs.Common.{OnOk, Result, Ok, Err, subst}
+use Rattle.std.specs.Prelude.{IfErr, MatchResult}
 use Rattle.sqval.specs.Limits.{Bounds}
 use Rattle.sqview.specs.LogView.{pages_of}
 use Rattle.sqshown.specs.Views.{AskedRefused}
 use Rattle.sqshown.proofs.AskedFronts.{front_asked, shows_asked}
 use Rattle.sqshown.proofs.ShownFiles.{refused_asked}
+use Rattle.sqdump.specs.Rows.{ArePrinted, AreStopped, form_named}
 use Rattle.sqdump.proofs.rows.show_rows.Goals as goal
+
+both : {T E : Type 0} (r : Result T E) (P : Type 0) (R : E → Type 0) → OnOk r P → IfErr r R → MatchResult r (λ _. P) R
+both (Ok _) P R ok err = ok
+both (Err _) P R ok err = err
 
 pub returns-in-Ok-clause-front : goal.returns-in-Ok-clause-front
 returns-in-Ok-clause-front g c = λ given.
@@ -17,7 +23,17 @@ returns-in-Ok-clause-shown g c = λ given.
     let bytes = g.F.FileBytes.bytes in
     let v = c.in-Ok.view in
     let shows = shows_asked c.limits_of.result bytes (bytes c.args.files.db) (bytes c.args.files.wal) (bytes c.args.files.journal) v c.args.options.at (c.in-Ok.ensures.answer given) in
-    (v.page_size, pages_of bytes v, shows, c.print_wanted-ended.ensures.ok (c.in-Ok.ensures.still_gives given))
+    let d = pages_of bytes v in
+    let before = g.W.Write.contents c.args.out.now in
+    let after = g.W.Write.contents c.print_wanted-ended.new.out in
+    let form = form_named c.args.wanted.form in
+    let gives = c.in-Ok.ensures.still_gives given in (
+      v.page_size,
+      d,
+      shows,
+      both c.print_wanted-ended.result (ArePrinted d c.args.wanted.table form before after) (λ stop. AreStopped d c.args.wanted.table form stop before after)
+          (c.print_wanted-ended.ensures.ok gives) (c.print_wanted-ended.ensures.err gives),
+    )
 
 pub returns-in-Err-clause-refused : goal.returns-in-Err-clause-refused
 returns-in-Err-clause-refused g c = λ given.

@@ -1,16 +1,19 @@
-use Rattle.std.proofs.Common.{◌∙◌, Bool, false, true, refl, subst, sym}
+use Rattle.std.proofs.Common.{◌∙◌, Bool, false, true, subst, sym}
 use Rattle.sqval.specs.Database.{Database}
 use Rattle.sqrows.specs.Cursor.{IsOver}
-use Rattle.sqtables.specs.internal.Listing.{TakesNext}
-use Rattle.sqtables.proofs.ObjectsTaken.{none_taken, one_taken, all_taken}
+use Rattle.sqcheck.proofs.checks.ResultsOfCalls.{exits}
+use Rattle.sqtables.specs.Objects.{ListRefused}
+use Rattle.sqtables.specs.internal.Listing.{NextRefused, TakesNext}
+use Rattle.sqtables.proofs.ObjectsTaken.{none_taken, one_taken, all_taken, list_refused}
 use Rattle.sqtables.proofs.list.objects.Goals as goal
 
 pub turns-init : goal.turns-init
 turns-init g c = record {
   kept = c.in-Ok.ensures.keeps;
   sized = c.in-Ok.ensures.size;
+  limited = c.in-Ok.ensures.limit;
   over = λ gives. (c.in-Ok.ensures.ok gives).0;
-  taken = λ gives. none_taken (g.S.PageSource.pages c.args.source.now) 1 c.in-Ok.rows c.new-objects.result.items c.new-objects.ensures.items (c.in-Ok.ensures.ok gives).1;
+  taken = λ gives. none_taken (g.S.PageSource.pages c.args.source.now) 1 c.in-Ok.rows c.new-objects.result.items c.new-objects.ensures.items (c.in-Ok.ensures.ok gives).1 (c.in-Ok.ensures.cells gives);
 }
 
 pub turns-preserved : goal.turns-preserved
@@ -29,6 +32,7 @@ turns-preserved g c =
         same_size = e.keeps.same_size ∙ i.kept.same_size;
       };
       sized = e.size.0 ∙ i.sized;
+      limited = e.size.2 ∙ i.limited;
       over = λ gives. e.size.1 ∙ i.over gives;
       taken = λ gives.
           let takes = f.ok (i.kept.still_gives gives) (subst (λ (d : Database). IsOver d c.turns.rows.cells) (sym i.kept.same_pages) (i.over gives)) in
@@ -48,3 +52,15 @@ returns-then-not-branch-clause-ok g c = λ gives.
     let none = subst (λ (found : Bool). TakesNext (g.S.PageSource.pages c.turns.source) found c.turns.rows c.take_next.new.rows before after) c.if-not-branch.true takes in
     let end = subst (λ (d : Database). TakesNext d false c.turns.rows c.take_next.new.rows before after) i.kept.same_pages none in
     all_taken d c.turns.rows c.take_next.new.rows before after (i.taken gives) end
+
+pub returns-in-Err-clause-err : goal.returns-in-Err-clause-err
+returns-in-Err-clause-err g c = λ gives. ((c.in-Err.ensures.err gives).0, c.in-Err.ensures.cells gives)
+
+pub returns-in_err-take_next-clause-err : goal.returns-in_err-take_next-clause-err
+returns-in_err-take_next-clause-err g c = λ gives.
+    let d = g.S.PageSource.pages c.args.source.now in
+    let i = c.turns.invariant in
+    let e = c.in_err-take_next.field-0.0 in
+    let refused = c.in_err-take_next.ensures.err (i.kept.still_gives gives) (subst (λ (d : Database). IsOver d c.turns.rows.cells) (sym i.kept.same_pages) (i.over gives)) in
+    exits (ListRefused d) e c.from_residual.result c.from_residual.ensures.1
+    (list_refused d c.turns.rows c.turns.objects.items e i.limited (i.taken gives) (subst (λ (d : Database). NextRefused d c.turns.rows e) i.kept.same_pages refused))

@@ -1,6 +1,7 @@
 use Rattle.std.proofs.Common.{◌≡◌}
 use Rattle.sqpage.specs.Source.{KeepsPages}
 use Rattle.sqrows.specs.Cursor.{IsOver}
+use Rattle.sqval.specs.Record.{most_bytes}
 use Rattle.sqtables.specs.internal.Listing.{AreTaken}
 use Rattle.sqtables.proofs.list.objects.Given as goal
 
@@ -8,6 +9,7 @@ abbrev pub invariant-turns : goal.invariant-turns
 invariant-turns g l = record {
   kept : KeepsPages g.S.PageSource.pages g.S.PageSource.size g.S.PageSource.reads_right g.S.PageSource.gives_pages l.fn.source l.source;
   sized : l.rows.cells.size ≡ g.S.PageSource.size l.fn.source;
+  limited : l.rows.limit ≡ most_bytes;
   over : g.S.PageSource.gives_pages l.fn.source → IsOver (g.S.PageSource.pages l.fn.source) l.rows.cells;
   taken : g.S.PageSource.gives_pages l.fn.source → AreTaken (g.S.PageSource.pages l.fn.source) 1 l.rows l.objects.items;
 }

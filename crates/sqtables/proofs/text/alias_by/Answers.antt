@@ -1,4 +1,4 @@
-use Rattle.std.proofs.Common.{◌≡◌, ℕ, ◌<◌, Some, false, length, slice_get, below_more, List, sym, ap, ◌∙◌, arith}
+use Rattle.std.proofs.Common.{◌≡◌, ℕ, Some, false, slice_get, below_more, List, sym, ap, ◌∙◌, arith}
 use Rattle.sqlite_ast.specs.declared.Keyed.{Keyed}
 use Rattle.sqlite_ast.specs.declared.TableBody.{TableBody}
 use Rattle.sqtables.specs.Texts.{key_by, is_key_column, IsAliasBy}

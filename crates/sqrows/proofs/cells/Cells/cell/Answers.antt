@@ -1,4 +1,4 @@
-use Rattle.std.proofs.Common.{◌∙◌}
+use Rattle.std.proofs.Common.{◌∙◌, refl}
 use Rattle.sqrows.specs.Cursor.{page_of}
 use Rattle.sqrows.proofs.moves.StepsOfPage.{entry_once}
 use Rattle.sqrows.proofs.cells.Cells.cell.Goals as goal
@@ -13,4 +13,4 @@ returns-in-Some-clause-ok c = (
 )
 
 pub returns-in-None-clause-err : goal.returns-in-None-clause-err
-returns-in-None-clause-err c = λ e at. c.in-None.ensures.cell at.cell at.is
+returns-in-None-clause-err c = (refl, λ e at. c.in-None.ensures.cell at.cell at.is)

@@ -1,4 +1,4 @@
-use Rattle.std.proofs.Common.{◌≡◌, ℕ, zero, suc, ◌+◌, List, [], ◌∷◌, ◌++◌, refl, sym, ap, ◌∙◌, add-one, arith}
+use Rattle.std.proofs.Common.{◌≡◌, ℕ, zero, suc, ◌+◌, [], ◌∷◌, ◌++◌, sym, ap, ◌∙◌, add-one, arith}
 use Rattle.std.proofs.lemmas.List.{map-append}
 use Rattle.sqval.specs.Datum.{Datum, datum_of, row_of}
 use Rattle.sqpage.specs.Lists.{each_from}
