@@ -1,0 +1,14 @@
+-- Rowids that rise, and lists by them.
+pub mod RisingRowids
+-- Which rows are the same.
+pub mod SameValues
+-- The changes between two lists of rows, at their heads.
+pub mod HeadsOfLists
+-- What the changes between two lists of rows are.
+pub mod LawsOfChanges
+-- What is left, turn by turn.
+pub mod TurnsOfWalk
+-- One turn after another, and what they leave.
+pub mod WalksOfTurns
+-- Why rows aren't read.
+pub mod RefusalsOfRows

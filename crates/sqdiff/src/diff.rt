@@ -1,0 +1,136 @@
+//! The changes between the rows of two tables (own).
+ghost use Rattle.std.specs.Prelude.{◌≡◌, ◌↔◌, List, IfOk, IfErr, OnOk};
+ghost use Rattle.sqval.specs.Record.{Refused};
+ghost use Rattle.sqpage.specs.Source.{KeepsPages};
+ghost use Rattle.sqrows.specs.Rows.{Row as SpecRow};
+ghost use Rattle.sqrows.specs.RowCursor.{IsAtRow};
+ghost use Rattle.sqdiff.specs.Changes.{Change, HasChanges};
+ghost use Rattle.sqdiff.specs.DiffCursor.{AreStanding, ChangesLeft, ChangesMove, DiffRefused, AreNotBegun};
+
+use crate::error::{DiffError, SideError};
+use crate::side::Side;
+use crate::turn::Turn;
+use sqpage::{CheckError, Fault, PageSource};
+use sqrows::{Row, Rows, RowsError};
+use sqval::RecordError;
+use std::alloc::Global;
+
+/// What happened to a row.
+#[derive(Clone, Copy, Debug, PartialEq, Eq)]
+pub enum Kind {
+    /// Only the new table has its rowid.
+    Inserted,
+    /// Only the old table has its rowid.
+    Deleted,
+    /// Both have its rowid, with other values.
+    Changed,
+}
+
+/// Goes over the changes between two tables with rowids, by rowid. It holds a page for each level of both trees and one
+/// payload of each, and reads each row of both once.
+#[derive(Drop)]
+pub struct Diff {
+    pub(crate) old_side: Side,
+    pub(crate) new_side: Side,
+}
+
+impl Diff {
+    /// Begins before the first change between the tables whose roots are these pages. A payload of more than `limit`
+    /// bytes is refused. Refused as `Rows::new` does, by Rows and Tree.
+    pub fn new<S: PageSource, T: PageSource>(
+        alloc: Global,
+        old_source: &mut S,
+        old_root: u32,
+        new_source: &mut T,
+        new_root: u32,
+        limit: u64,
+    ) -> Result<Diff, DiffError>
+        // What is left are the changes between the tables.
+        ensures ok { S.gives_pages old_source.old → T.gives_pages new_source.old → IfOk result (λ diff.
+            AreStanding (S.pages old_source.old) (T.pages new_source.old) diff
+            × ((cs : List Change) → HasChanges (S.pages old_source.old) old_root (T.pages new_source.old) new_root cs
+            ↔ ChangesLeft (S.pages old_source.old) (T.pages new_source.old) diff cs)) }
+        // One of them has no rows, unless memory ran out.
+        ensures err { S.gives_pages old_source.old → T.gives_pages new_source.old → IfErr result
+            (AreNotBegun (S.pages old_source.old) old_root (T.pages new_source.old) new_root) }
+        ensures size { IfOk result (λ diff. (diff.old_side.rows.cells.size ≡ S.size old_source.old)
+            × (diff.new_side.rows.cells.size ≡ T.size new_source.old)) }
+        ensures limit { IfOk result (λ diff. (diff.old_side.rows.limit ≡ limit) × (diff.new_side.rows.limit ≡ limit)) }
+        ensures keeps_old { KeepsPages S.pages S.size S.reads_right S.gives_pages old_source.old old_source.new }
+        ensures keeps_new { KeepsPages T.pages T.size T.reads_right T.gives_pages new_source.old new_source.new }
+    {
+        let old = match Rows::new(alloc, old_source, old_root, limit) {
+            Ok(rows) => rows,
+            Err(refusal) => return Err(DiffError::Old(SideError::Rows(RowsError::Tree(refusal)))),
+        };
+        let new = match Rows::new(alloc, new_source, new_root, limit) {
+            Ok(rows) => rows,
+            Err(refusal) => return Err(DiffError::New(SideError::Rows(RowsError::Tree(refusal)))),
+        };
+        Ok(Diff {
+            old_side: Side::new(old),
+            new_side: Side::new(new),
+        })
+    }
+
+    /// Goes on to the next change, by rowid, and tells its kind. None behind the last one. Refused as `Rows::advance`
+    /// does, by Record where a row is none, and by Unordered where the rowids of a table don't rise: in a table WITHOUT
+    /// ROWID and an index none are there. After a refusal, and behind the last change, it isn't to be called again.
+    pub fn advance<S: PageSource, T: PageSource>(
+        &mut self,
+        old_source: &mut S,
+        new_source: &mut T,
+    ) -> Result<Option<Kind>, DiffError>
+        requires sized { (S.size old_source.old ≡ self.old.old_side.rows.cells.size)
+            × (T.size new_source.old ≡ self.old.new_side.rows.cells.size) }
+        // It is at the first of those that were left, and the others are left now; or none was left. So where a walk
+        // ends, the rowids of both tables rise, and these are the changes between them.
+        ensures ok { S.gives_pages old_source.old → T.gives_pages new_source.old
+            → AreStanding (S.pages old_source.old) (T.pages new_source.old) self.old → IfOk result (λ found.
+            AreStanding (S.pages old_source.old) (T.pages new_source.old) self.new × ((cs : List Change)
+            → ChangesLeft (S.pages old_source.old) (T.pages new_source.old) self.old cs
+            ↔ ChangesMove (S.pages old_source.old) (T.pages new_source.old) found cs self.new)) }
+        ensures err { S.gives_pages old_source.old → T.gives_pages new_source.old
+            → AreStanding (S.pages old_source.old) (T.pages new_source.old) self.old
+            → IfErr result (DiffRefused (S.pages old_source.old) (T.pages new_source.old) self.old) }
+        ensures same { (self.new.old_side.rows.cells.size ≡ self.old.old_side.rows.cells.size)
+            × (self.new.new_side.rows.cells.size ≡ self.old.new_side.rows.cells.size)
+            × (self.new.old_side.rows.limit ≡ self.old.old_side.rows.limit)
+            × (self.new.new_side.rows.limit ≡ self.old.new_side.rows.limit) }
+        ensures keeps_old { KeepsPages S.pages S.size S.reads_right S.gives_pages old_source.old old_source.new }
+        ensures keeps_new { KeepsPages T.pages T.size T.reads_right T.gives_pages new_source.old new_source.new }
+    {
+        'turns: for _ in 0..u64::MAX {
+            match self.turn(old_source, new_source) {
+                Ok(Turn::Same) => {}
+                Ok(Turn::Told(kind)) => return Ok(Some(kind)),
+                Ok(Turn::Ended) => return Ok(None),
+                Err(refusal) => return Err(refusal),
+            }
+        }
+        Err(DiffError::Old(SideError::Rows(RowsError::Tree(CheckError {
+            page: 1,
+            fault: Fault::NoMemory,
+        }))))
+    }
+
+    /// The row of the old table that it came to last: of a deletion the row that went, of a change what it was. Behind
+    /// an insertion it says nothing. Refused as `Record::new` does where its payload is no record.
+    pub fn old_row(&self) -> Result<Row<'_>, RecordError>
+        ensures ok { IfOk result (λ row. (r : SpecRow) → IsAtRow self.now.old_side.rows r
+            ↔ (r ≡ record { rowid = row.rowid; values = row.values })) }
+        ensures err { IfErr result (λ error. Refused error self.now.old_side.rows.payload.items) }
+    {
+        self.old_side.rows.row()
+    }
+
+    /// The row of the new table that it came to last: of an insertion the row that came, of a change what it is. Behind
+    /// a deletion it says nothing. Refused as `Record::new` does where its payload is no record.
+    pub fn new_row(&self) -> Result<Row<'_>, RecordError>
+        ensures ok { IfOk result (λ row. (r : SpecRow) → IsAtRow self.now.new_side.rows r
+            ↔ (r ≡ record { rowid = row.rowid; values = row.values })) }
+        ensures err { IfErr result (λ error. Refused error self.now.new_side.rows.payload.items) }
+    {
+        self.new_side.rows.row()
+    }
+}

@@ -1,0 +1,11 @@
+//! Which rows of a table changed between two databases (own).
+#![tactic(auto)]
+
+mod diff;
+mod error;
+mod side;
+mod turn;
+mod values;
+
+pub use diff::{Diff, Kind};
+pub use error::{DiffError, SideError};
