@@ -1,6 +1,7 @@
 -- What a deep check finds of the view that is asked for is found of the files.
 use Rattle.std.proofs.Common.{◌≡◌, ◌⊎◌, ⊎_elim, ℕ, List, Bool, inl, inr, refl, sym, subst}
 use Rattle.std.specs.Prelude.{Option, None, Some, Result, Ok, Err, IfOk, IfErr}
+use Rattle.sqval.specs.Database.{Database}
 use Rattle.sqval.specs.Limits.{Bounds}
 use Rattle.sqview.specs.LogView.{pages_of}
 use Rattle.sqview.specs.Verdicts.{IsUnjudgedWith}
@@ -19,7 +20,7 @@ use Rattle.sqshown.specs.Fronts.{IsAskedFront}
 use Rattle.sqshown.specs.Views.{AskedAnswer, AskedRefused, IsHeadless, IsNotFound}
 use Rattle.sqshown.proofs.AskedFronts.{asked_read, front_asked, shows_asked}
 use Rattle.sqdeepshown.specs.Found.{IsFoundDeep, IsHeadlessDeep}
-use Rattle.sqdeepshown.specs.Verdicts.{FindsDeep, verdict_as}
+use Rattle.sqdeepshown.specs.Verdicts.{FindsInside, FindsSchema, FindsDeep, verdict_as}
 use Rattle.sqdeepshown.specs.internal.Found.{deep_without}
 use Rattle.sqdeepshown.specs.declared.found.DeepFinding.{DeepFinding}
 use Rattle.sqdeepshown.specs.declared.verdict.DeepVerdict.{DeepVerdict}
@@ -44,6 +45,11 @@ refused_by P q (Err e) is refused =
 all_ok : (P : DeepVerdict → Type 0) (q : Result DeepVerdict JudgeError) → ((x : DeepVerdict) → P x) → IfOk q P
 all_ok P (Ok x) all = all x
 all_ok P (Err e) all = tt
+
+-- both parts of what is found
+pub both_parts : (maps : Bool) (d : Database) (size : ℕ) (q : Result DeepVerdict JudgeError) → IfOk q (FindsInside maps d size) → IfOk q (FindsSchema d) → IfOk q (FindsDeep maps d size)
+both_parts maps d size (Ok verdict) h k = (h, k)
+both_parts maps d size (Err e) h k = tt
 
 -- of a view
 module _ {F : Type 0} (maps : Bool) (limits : Bounds) (bytes : F → List ℕ) (db wal journal : List ℕ) where

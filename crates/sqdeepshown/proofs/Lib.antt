@@ -1,2 +1,4 @@
 mod DeepFindings
 mod NumberFacts
+mod RowsOfSchema
+mod SchemaFindings

@@ -2,7 +2,7 @@
 use Rattle.std.specs.Prelude.{◌≡◌, ◌⊎◌, ℕ, Bool, true, false, List, Option}
 use Rattle.sqval.specs.Limits.{Bounds}
 use Rattle.sqval.specs.Database.{Database}
-use Rattle.sqdeep.specs.declared.fault.DeepError.TheVariants.{Check, Inner}
+use Rattle.sqdeepshown.specs.declared.verdict.Damage.TheVariants.{Check, Inner, Schema, Content}
 use Rattle.sqview.specs.declared.verdict.Verdict.{Verdict}
 use Rattle.sqview.specs.declared.verdict.Verdict.TheVariants as plain
 use Rattle.sqshown.specs.Views.{AskedShows, IsFound, IsHeadless}
@@ -13,8 +13,11 @@ use Rattle.sqdeepshown.specs.declared.verdict.DeepVerdict.TheVariants as deep
 -- the fault of the file's own header, which names no database there
 abbrev pub IsHeadlessDeep : (limits : Bounds) → (at : Option ℕ) → (db wal journal : List ℕ) → DeepVerdict → Type 0
 IsHeadlessDeep limits at db wal journal (deep.Clean report) = ⊥
+IsHeadlessDeep limits at db wal journal (deep.Sound report schema unjudged) = ⊥
 IsHeadlessDeep limits at db wal journal (deep.Damaged (Check e)) = IsHeadless limits at db wal journal (plain.Damaged e)
 IsHeadlessDeep limits at db wal journal (deep.Damaged (Inner e)) = ⊥
+IsHeadlessDeep limits at db wal journal (deep.Damaged (Schema e)) = ⊥
+IsHeadlessDeep limits at db wal journal (deep.Damaged (Content e)) = ⊥
 
 -- Of files within limits, at the commit frame that is named: what is found of the database that they show there, or the
 -- fault of a header that names none.

@@ -1,25 +1,31 @@
 -- How it is printed what a deep check finds (own).
-use Rattle.std.specs.Prelude.{ℕ, Bool, true, false, Option, None, Some, List, [], ◌∷◌, ◌++◌, codes}
+use Rattle.std.specs.Prelude.{ℕ, ◌+◌, Option, None, Some, List, [], ◌∷◌, ◌++◌, codes}
 use Rattle.std.specs.Fmt.{decimal}
 use Rattle.sqcheck.specs.declared.report.Report.{Report}
-use Rattle.sqdeep.specs.Faults.{number_of, name_of}
-use Rattle.sqdeep.specs.declared.fault.DeepError.TheVariants.{Check, Inner}
+use Rattle.sqdeep.specs.Faults as inside
 use Rattle.sqdeep.specs.declared.fault.InnerError.{InnerError}
+use Rattle.sqschema.specs.SchemaFaults as schemas
+use Rattle.sqschema.specs.declared.error.ObjectError.{ObjectError}
+use Rattle.sqindex.specs.IndexFaults as indexes
+use Rattle.sqcontents.specs.declared.error.ContentError.{ContentError}
 use Rattle.sqwords.specs.declared.requests.Style.{Style}
 use Rattle.sqwords.specs.declared.requests.Style.TheVariants.{Lines, Json}
 use Rattle.sqlines.specs.Facts.{number_text, object_text, word_text}
 use Rattle.sqlines.specs.Verdicts.{fault_text, report_text}
+use Rattle.sqdeepshown.specs.declared.verdict.Damage.TheVariants.{Check, Inner, Schema, Content}
 use Rattle.sqdeepshown.specs.declared.verdict.DeepVerdict.{DeepVerdict}
-use Rattle.sqdeepshown.specs.declared.verdict.DeepVerdict.TheVariants.{Clean, Damaged}
+use Rattle.sqdeepshown.specs.declared.verdict.DeepVerdict.TheVariants.{Clean, Sound, Damaged}
 
--- a database that is sound inside, too: its pages by their use
+-- a database that is sound inside, and its schema and indexes, too: its pages by their use
 abbrev pub sound_text : Style → Report → List ℕ
 sound_text Lines r =
     codes "clean: " ++ (decimal r.pages ++ (codes " pages, " ++ (decimal r.trees ++ (codes " trees, "
-    ++ (decimal r.btree ++ (codes " b-tree, " ++ (decimal r.overflow ++ (codes " overflow, " ++ (decimal r.free ++ codes " free; records sound\n")))))))))
+    ++ (decimal r.btree ++ (codes " b-tree, " ++ (decimal r.overflow ++ (codes " overflow, " ++ (decimal r.free ++ codes " free; records, schema and indexes sound\n")))))))))
 sound_text Json r = object_text Json (
     word_text Json (codes "check") (codes "clean")
     ∷ word_text Json (codes "records") (codes "sound")
+    ∷ word_text Json (codes "schema") (codes "sound")
+    ∷ word_text Json (codes "indexes") (codes "sound")
     ∷ number_text Json (codes "pages") r.pages
     ∷ number_text Json (codes "trees") r.trees
     ∷ number_text Json (codes "b-tree") r.btree
@@ -39,14 +45,36 @@ place_texts p (Some i) texts = number_text Json (codes "page") p ∷ number_text
 -- a fault inside, at a page, or at a cell of it
 abbrev pub inner_text : Style → InnerError → List ℕ
 inner_text Lines e =
-    codes "page " ++ (decimal e.page ++ (cell_text e.cell ++ (codes ": fault " ++ (decimal (number_of e.fault) ++ (codes " " ++ (name_of e.fault ++ codes "\n"))))))
+    codes "page " ++ (decimal e.page ++ (cell_text e.cell ++ (codes ": fault " ++ (decimal (inside.number_of e.fault) ++ (codes " " ++ (inside.name_of e.fault ++ codes "\n"))))))
 inner_text Json e = object_text Json (place_texts e.page e.cell (
-    number_text Json (codes "fault") (number_of e.fault)
-    ∷ word_text Json (codes "name") (name_of e.fault) ∷ []))
+    number_text Json (codes "fault") (inside.number_of e.fault)
+    ∷ word_text Json (codes "name") (inside.name_of e.fault) ∷ []))
+
+-- a fault of a row of the schema, counted from 1 in the order of rowids
+abbrev pub schema_text : Style → ObjectError → List ℕ
+schema_text Lines e = codes "schema row " ++ (decimal (e.row + 1) ++ (codes ": fault " ++ (decimal (schemas.number_of e.fault) ++ (codes " " ++ (schemas.name_of e.fault ++ codes "\n")))))
+schema_text Json e = object_text Json (
+    number_text Json (codes "row") (e.row + 1)
+    ∷ number_text Json (codes "fault") (schemas.number_of e.fault)
+    ∷ word_text Json (codes "name") (schemas.name_of e.fault) ∷ [])
+
+-- a fault of the index in this row of the schema, at a cell of a page
+abbrev pub content_text : Style → ContentError → List ℕ
+content_text Lines e =
+    codes "schema row " ++ (decimal (e.row + 1) ++ (codes ": page " ++ (decimal e.error.page ++ (codes " cell " ++ (decimal e.error.cell
+    ++ (codes ": fault " ++ (decimal (indexes.number_of e.error.fault) ++ (codes " " ++ (indexes.name_of e.error.fault ++ codes "\n")))))))))
+content_text Json e = object_text Json (
+    number_text Json (codes "row") (e.row + 1)
+    ∷ number_text Json (codes "page") e.error.page
+    ∷ number_text Json (codes "cell") e.error.cell
+    ∷ number_text Json (codes "fault") (indexes.number_of e.error.fault)
+    ∷ word_text Json (codes "name") (indexes.name_of e.error.fault) ∷ [])
 
 -- what a check finds, or a deep one
-abbrev pub found_text : (is_deep : Bool) → Style → DeepVerdict → List ℕ
-found_text false style (Clean report) = report_text style report
-found_text true style (Clean report) = sound_text style report
-found_text is_deep style (Damaged (Check e)) = fault_text style e
-found_text is_deep style (Damaged (Inner e)) = inner_text style e
+abbrev pub found_text : Style → DeepVerdict → List ℕ
+found_text style (Clean report) = report_text style report
+found_text style (Sound report schema unjudged) = sound_text style report
+found_text style (Damaged (Check e)) = fault_text style e
+found_text style (Damaged (Inner e)) = inner_text style e
+found_text style (Damaged (Schema e)) = schema_text style e
+found_text style (Damaged (Content e)) = content_text style e

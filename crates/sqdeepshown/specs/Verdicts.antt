@@ -1,12 +1,17 @@
 -- What a deep check finds (own).
-use Rattle.std.specs.Prelude.{ℕ, Bool}
+use Rattle.std.specs.Prelude.{ℕ, ◌^◌, Bool, true, false, List, Option, Some, None, map, option_map, slice_get}
 use Rattle.sqval.specs.Database.{Database}
 use Rattle.sqcheck.specs.WellFormed.{WellFormedWith}
 use Rattle.sqdeep.specs.Inside.{IsSoundInside, StandsInside}
-use Rattle.sqdeep.specs.declared.fault.DeepError.TheVariants.{Check, Inner}
+use Rattle.sqschema.specs.Schema.{IsSchemaOf, IsSoundSchema, StandsInSchema}
+use Rattle.sqschema.specs.declared.check.Schema.{Schema as OwnSchema}
 use Rattle.sqview.specs.Verdicts.{FindsWith}
 use Rattle.sqview.specs.declared.verdict.Verdict.{Verdict}
 use Rattle.sqview.specs.declared.verdict.Verdict.TheVariants as plain
+use Rattle.sqschema.specs.Items.{seen}
+use Rattle.sqcontents.specs.Contents.{AreIndexesJudged, ContentsRefused}
+use Rattle.sqcontents.specs.declared.error.ContentsError.TheVariants.{Content as OwnContent}
+use Rattle.sqdeepshown.specs.declared.verdict.Damage.TheVariants.{Check, Inner, Schema, Content}
 use Rattle.sqdeepshown.specs.declared.verdict.DeepVerdict.{DeepVerdict}
 use Rattle.sqdeepshown.specs.declared.verdict.DeepVerdict.TheVariants as deep
 
@@ -15,9 +20,48 @@ abbrev pub verdict_as : Verdict → DeepVerdict
 verdict_as (plain.Clean report) = deep.Clean report
 verdict_as (plain.Damaged e) = deep.Damaged (Check e)
 
--- Of a database of pages of this size, with pointer maps or without: a check finds it well formed, and it is sound inside;
--- or a check finds damage; or it is well formed, and the fault stands inside, at the page and the cell.
+-- something is wrong
+abbrev pub is_damaged : DeepVerdict → Bool
+is_damaged (deep.Damaged damage) = true
+is_damaged _ = false
+
+-- Of a database of pages of this size, with pointer maps or without: a check finds it well formed, and it is sound inside,
+-- whatever its schema is; or a check finds damage; or it is well formed, and the fault stands inside, at the page and the cell.
+abbrev pub FindsInside : (maps : Bool) → Database → (size : ℕ) → DeepVerdict → Type 0
+FindsInside maps d size (deep.Clean report) = ⊥
+FindsInside maps d size (deep.Sound report schema unjudged) = FindsWith maps d size (plain.Clean report) × IsSoundInside d
+FindsInside maps d size (deep.Damaged (Check e)) = FindsWith maps d size (plain.Damaged e)
+FindsInside maps d size (deep.Damaged (Inner e)) = WellFormedWith maps d size × StandsInside d e.fault e.page e.cell × ¬ IsSoundInside d
+FindsInside maps d size (deep.Damaged (Schema e)) = WellFormedWith maps d size × IsSoundInside d
+FindsInside maps d size (deep.Damaged (Content e)) = WellFormedWith maps d size × IsSoundInside d
+
+-- how much memory the entries of an index may take: 1 GiB (own)
+abbrev pub most_bytes : ℕ
+most_bytes = 2 ^ 30
+
+-- Of one that is sound inside: this is its schema, which is sound, and so is each index that isn't one of these; or the schema isn't
+-- sound, and the fault stands at the row; or it is, and the fault stands in the index of that row.
+abbrev pub FindsSchema : Database → DeepVerdict → Type 0
+FindsSchema d (deep.Sound report schema unjudged) = IsSchemaOf d schema × AreIndexesJudged d (map seen schema.items.items) most_bytes unjudged.items
+FindsSchema d (deep.Damaged (Schema e)) = StandsInSchema d e.fault e.row × ¬ IsSoundSchema d
+FindsSchema d (deep.Damaged (Content e)) = (schema : OwnSchema) × IsSchemaOf d schema × ContentsRefused d (map seen schema.items.items) (OwnContent e)
+FindsSchema d _ = Unit {0}
+
+-- Both: it is well formed, sound inside, and its schema and its indexes are sound; or this is damaged.
 abbrev pub FindsDeep : (maps : Bool) → Database → (size : ℕ) → DeepVerdict → Type 0
-FindsDeep maps d size (deep.Clean report) = FindsWith maps d size (plain.Clean report) × IsSoundInside d
-FindsDeep maps d size (deep.Damaged (Check e)) = FindsWith maps d size (plain.Damaged e)
-FindsDeep maps d size (deep.Damaged (Inner e)) = WellFormedWith maps d size × StandsInside d e.fault e.page e.cell × ¬ IsSoundInside d
+FindsDeep maps d size verdict = FindsInside maps d size verdict × FindsSchema d verdict
+
+-- the name of an item of a schema, where there is one
+abbrev pub name_at : OwnSchema → Option ℕ → Option (List ℕ)
+name_at schema None = None
+name_at schema (Some k) = option_map (λ x. x.name.items) (slice_get schema.items.items k)
+
+-- the name of the i-th table whose text isn't understood
+abbrev pub aside_name : DeepVerdict → (i : ℕ) → Option (List ℕ)
+aside_name (deep.Sound report schema unjudged) i = name_at schema (slice_get schema.asides.items i)
+aside_name _ i = None
+
+-- the name of the i-th index that isn't judged
+abbrev pub unjudged_name : DeepVerdict → (i : ℕ) → Option (List ℕ)
+unjudged_name (deep.Sound report schema unjudged) i = name_at schema (slice_get unjudged.items i)
+unjudged_name _ i = None

@@ -8,15 +8,13 @@ ghost use Rattle.sqdeepshown.specs.Found.{IsFoundAs, IsFoundDeep, IsHeadlessDeep
 ghost use Rattle.sqdeepshown.specs.internal.Found.{deep_without};
 
 use crate::verdict::{DeepVerdict, judge_deep};
-use sqdeep::DeepError;
 use sqfacts::{Front, Refusal};
-use sqpage::CheckError;
 use sqshown::{Asked, judged, view_of};
 use sqview::{FileBytes, JudgeError, ViewError, without_view};
 use std::alloc::Global;
 
 /// What is found of a file with its logs, and the front of the log, if a frame of one counts.
-#[derive(Clone, Copy, Debug, PartialEq, Eq)]
+#[derive(Debug, Drop)]
 pub struct DeepFinding {
     pub verdict: DeepVerdict,
     pub front: Option<Front>,

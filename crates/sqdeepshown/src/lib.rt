@@ -1,5 +1,5 @@
-//! What a deep check finds of the bytes of files: whether the database that they show is well formed and what it holds
-//! is sound, with the front of its log, and how that is printed.
+//! What a deep check finds of the bytes of files: whether the database that they show is well formed, and what it holds
+//! and its schema are sound, with the front of its log, and how that is printed.
 #![tactic(auto)]
 
 mod found;
@@ -8,4 +8,4 @@ mod verdict;
 
 pub use found::{DeepFinding, judged_as};
 pub use lines::write_found;
-pub use verdict::{DeepVerdict, judge_deep};
+pub use verdict::{Damage, DeepVerdict, judge_deep};

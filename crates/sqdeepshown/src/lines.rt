@@ -1,16 +1,18 @@
 //! How it is printed what a deep check finds.
 ghost use Rattle.std.specs.Prelude.{OnOk};
 ghost use Rattle.std.specs.Io.KnownBytes.{Appends};
-ghost use Rattle.sqdeepshown.specs.Lines.{found_text, inner_text, sound_text};
+ghost use Rattle.sqdeepshown.specs.Lines.{content_text, found_text, inner_text, schema_text, sound_text};
 
-use crate::verdict::DeepVerdict;
+use crate::verdict::{Damage, DeepVerdict};
 use sqcheck::Report;
-use sqdeep::{DeepError, InnerError};
+use sqcontents::ContentError;
+use sqdeep::InnerError;
 use sqlines::{Fact, number, write_facts, write_fault, write_report};
+use sqschema::ObjectError;
 use sqwords::Style;
 use std::io::{self, Write};
 
-/// A database that is sound inside, too.
+/// A database that is sound inside, and its schema and indexes, too.
 fn write_sound<W: Write>(out: &mut W, style: Style, report: &Report) -> io::Result<()>
     ensures { OnOk result (Appends (W.contents out.old) (W.contents out.new) (sound_text style report.now)) }
 {
@@ -24,12 +26,15 @@ fn write_sound<W: Write>(out: &mut W, style: Style, report: &Report) -> io::Resu
     match style {
         Style::Lines => writeln!(
             out,
-            "clean: {pages} pages, {trees} trees, {btree} b-tree, {overflow} overflow, {free} free; records sound"
+            "clean: {pages} pages, {trees} trees, {btree} b-tree, {overflow} overflow, {free} free; \
+             records, schema and indexes sound"
         ),
         Style::Json => {
             let facts = [
                 Fact::Text("check", "clean"),
                 Fact::Text("records", "sound"),
+                Fact::Text("schema", "sound"),
+                Fact::Text("indexes", "sound"),
                 number("pages", pages),
                 number("trees", trees),
                 number("b-tree", btree),
@@ -72,19 +77,50 @@ fn write_inner<W: Write>(out: &mut W, style: Style, error: &InnerError) -> io::R
     }
 }
 
+/// A fault of a row of the schema.
+fn write_schema<W: Write>(out: &mut W, style: Style, error: &ObjectError) -> io::Result<()>
+    ensures { OnOk result (Appends (W.contents out.old) (W.contents out.new) (schema_text style error.now)) }
+{
+    let row = error.row as u128 + 1;
+    let (fault, name) = (error.fault.number(), error.fault.name());
+    match style {
+        Style::Lines => writeln!(out, "schema row {row}: fault {fault} {name}"),
+        Style::Json => writeln!(
+            out,
+            "{{\"row\":{row},\"fault\":{fault},\"name\":\"{name}\"}}"
+        ),
+    }
+}
+
+/// A fault of the index in a row of the schema.
+fn write_content<W: Write>(out: &mut W, style: Style, error: &ContentError) -> io::Result<()>
+    ensures { OnOk result (Appends (W.contents out.old) (W.contents out.new) (content_text style error.now)) }
+{
+    let row = error.row as u128 + 1;
+    let (page, cell) = (error.error.page, error.error.cell);
+    let (fault, name) = (error.error.fault.number(), error.error.fault.name());
+    match style {
+        Style::Lines => writeln!(
+            out,
+            "schema row {row}: page {page} cell {cell}: fault {fault} {name}"
+        ),
+        Style::Json => writeln!(
+            out,
+            "{{\"row\":{row},\"page\":{page},\"cell\":{cell},\"fault\":{fault},\"name\":\"{name}\"}}"
+        ),
+    }
+}
+
 /// What a check found, or a deep one: a line, or an object. An error of the writer.
-pub fn write_found<W: Write>(
-    out: &mut W,
-    style: Style,
-    deep: bool,
-    verdict: &DeepVerdict,
-) -> io::Result<()>
-    ensures { OnOk result (Appends (W.contents out.old) (W.contents out.new) (found_text deep style verdict.now)) }
+pub fn write_found<W: Write>(out: &mut W, style: Style, verdict: &DeepVerdict) -> io::Result<()>
+    ensures { OnOk result (Appends (W.contents out.old) (W.contents out.new) (found_text style verdict.now)) }
 {
     match verdict {
-        DeepVerdict::Clean(report) if deep => write_sound(out, style, report),
         DeepVerdict::Clean(report) => write_report(out, style, report),
-        DeepVerdict::Damaged(DeepError::Check(error)) => write_fault(out, style, error),
-        DeepVerdict::Damaged(DeepError::Inner(error)) => write_inner(out, style, error),
+        DeepVerdict::Sound(report, _, _) => write_sound(out, style, report),
+        DeepVerdict::Damaged(Damage::Check(error)) => write_fault(out, style, error),
+        DeepVerdict::Damaged(Damage::Inner(error)) => write_inner(out, style, error),
+        DeepVerdict::Damaged(Damage::Schema(error)) => write_schema(out, style, error),
+        DeepVerdict::Damaged(Damage::Content(error)) => write_content(out, style, error),
     }
 }

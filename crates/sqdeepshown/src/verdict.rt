@@ -1,22 +1,47 @@
 //! What a deep check finds of a view.
-ghost use Rattle.std.specs.Prelude.{◌≡◌, IfOk, IfErr};
+ghost use Rattle.std.specs.Prelude.{◌≡◌, ◌⊎◌, Bool, IfOk, IfErr, option_map, slice_get};
+ghost use Rattle.sqcheck.specs.WellFormed.{WellFormedWith};
+ghost use Rattle.sqdeep.specs.Inside.{IsSoundInside};
+ghost use Rattle.sqschema.specs.Schema.{IsLimit, IsSchemaOf};
 ghost use Rattle.sqview.specs.LogView.{pages_of};
 ghost use Rattle.sqview.specs.Verdicts.{IsUnjudgedWith};
-ghost use Rattle.sqdeepshown.specs.Verdicts.{FindsDeep, verdict_as};
+ghost use Rattle.sqview.specs.declared.judge_error.JudgeError.{JudgeError};
+ghost use Rattle.sqdeepshown.specs.Verdicts.{FindsInside, FindsSchema, is_damaged, verdict_as};
+ghost use Rattle.sqdeepshown.specs.Verdicts.{aside_name, name_at, unjudged_name};
+ghost use Rattle.sqdeepshown.specs.internal.Found.{IsBehind};
 
 use sqcheck::{Options as Maps, Report};
-use sqdeep::{DeepError, check_deep};
-use sqpage::Fault;
+use sqcontents::{ContentError, ContentsError, check_contents};
+use sqdeep::{DeepError, InnerError, check_deep};
+use sqpage::{CheckError, Fault};
+use sqschema::{ObjectError, ReadError, Schema, SchemaError, check_schema};
+use sqval::RecordError;
 use sqview::{FileBytes, JudgeError, Verdict, View};
 use std::alloc::Global;
 
-/// What a check finds, or a deep one.
+/// What is wrong with a database.
 #[derive(Clone, Copy, Debug, PartialEq, Eq)]
+pub enum Damage {
+    /// It isn't well formed, or there is none.
+    Check(CheckError),
+    /// It is well formed, but not sound inside.
+    Inner(InnerError),
+    /// It is sound inside, but a row of its schema doesn't follow the rules.
+    Schema(ObjectError),
+    /// Its schema is sound, but an index hasn't exactly the keys and rowids of its table, in order.
+    Content(ContentError),
+}
+
+/// What a check finds, or a deep one.
+#[derive(Debug, Drop)]
 pub enum DeepVerdict {
-    /// The database is well formed, and by a deep check also sound inside.
+    /// The database is well formed. It wasn't looked inside.
     Clean(Report),
+    /// It is well formed and sound inside, and its schema, which is this, is sound, as is each index but those in
+    /// these rows of it, which aren't judged.
+    Sound(Report, Schema, Vec<usize>),
     /// It isn't, or there is none.
-    Damaged(DeepError),
+    Damaged(Damage),
 }
 
 impl DeepVerdict {
@@ -26,31 +51,132 @@ impl DeepVerdict {
     {
         match verdict {
             Verdict::Clean(report) => DeepVerdict::Clean(report),
-            Verdict::Damaged(error) => DeepVerdict::Damaged(DeepError::Check(error)),
+            Verdict::Damaged(error) => DeepVerdict::Damaged(Damage::Check(error)),
+        }
+    }
+
+    /// Whether something is wrong.
+    pub fn is_damaged(&self) -> bool
+        ensures { result ≡ is_damaged self.now }
+    {
+        matches!(self, DeepVerdict::Damaged(_))
+    }
+
+    /// The name, in UTF-8, of a table whose text isn't understood, so that its tree may be of either kind: of the i-th
+    /// one, from 0. None behind the last one.
+    pub fn aside(&self, i: usize) -> Option<&[u8]>
+        ensures { option_map (λ name. name.now) result ≡ aside_name self.now i }
+    {
+        match self {
+            DeepVerdict::Sound(_, schema, _) => item_of(schema, schema.asides.get(i).copied()),
+            DeepVerdict::Clean(_) | DeepVerdict::Damaged(_) => None,
+        }
+    }
+
+    /// The name, in UTF-8, of an index that isn't judged: of the i-th one, from 0. None behind the last one.
+    pub fn unjudged(&self, i: usize) -> Option<&[u8]>
+        ensures { option_map (λ name. name.now) result ≡ unjudged_name self.now i }
+    {
+        match self {
+            DeepVerdict::Sound(_, schema, unjudged) => item_of(schema, unjudged.get(i).copied()),
+            DeepVerdict::Clean(_) | DeepVerdict::Damaged(_) => None,
         }
     }
 }
 
-/// What a deep check finds of a view. Refused by AutoVacuum and NoMemory, which say that a database can't be checked
-/// and not that it is damaged, and by Unread where a file could not be read.
+/// The name of the object in a row of a schema.
+fn item_of(schema: &Schema, row: Option<usize>) -> Option<&[u8]>
+    ensures { option_map (λ name. name.now) result ≡ name_at schema.now row }
+{
+    let item = schema.items.get(row?)?;
+    Some(&item.name)
+}
+
+/// Why a database isn't judged whose schema can't be read: by NoMemory at a limit, and otherwise by Unread.
+fn unread(error: ReadError) -> JudgeError
+    ensures { (IsLimit error × (result ≡ JudgeError.NoMemory)) ⊎ ((¬ IsLimit error) × (result ≡ JudgeError.Unread)) }
+{
+    match error {
+        ReadError::Tree(refusal) => match refusal.fault {
+            Fault::NoMemory => JudgeError::NoMemory,
+            _ => JudgeError::Unread,
+        },
+        ReadError::Record(refusal) => match refusal {
+            RecordError::TooLarge => JudgeError::NoMemory,
+            _ => JudgeError::Unread,
+        },
+        ReadError::TooLong | ReadError::NoMemory => JudgeError::NoMemory,
+    }
+}
+
+/// How many bytes of memory the entries of an index may take: 1 GiB (own).
+const MOST_BYTES: u64 = 1 << 30;
+
+/// What is found of the indexes of a view that is sound inside, of which this is the report, and this the schema.
+/// Refused by NoMemory, and by Unread where a page could not be read.
+fn judge_contents<F: FileBytes>(
+    alloc: Global,
+    view: &mut View<F>,
+    report: Report,
+    schema: Schema,
+) -> Result<DeepVerdict, JudgeError>
+    ensures contents { F.gives_bytes view.old.db × F.gives_bytes view.old.log
+        → IsSchemaOf (pages_of F.bytes view.old) schema → IfOk result (FindsSchema (pages_of F.bytes view.old)) }
+    ensures behind { IfOk result (IsBehind report) }
+    ensures refused { F.gives_bytes view.old.db × F.gives_bytes view.old.log
+        → IfErr result (λ e. e ≡ JudgeError.NoMemory) }
+{
+    match check_contents(alloc, view, &schema.items, MOST_BYTES) {
+        Ok(unjudged) => Ok(DeepVerdict::Sound(report, schema, unjudged)),
+        Err(ContentsError::Content(error)) => Ok(DeepVerdict::Damaged(Damage::Content(error))),
+        Err(ContentsError::NoMemory) => Err(JudgeError::NoMemory),
+        Err(ContentsError::Source) => Err(JudgeError::Unread),
+    }
+}
+
+/// What is found of the schema of a view that is sound inside, of which this is the report. Refused as `judge_deep`.
+fn judge_schema<F: FileBytes>(
+    alloc: Global,
+    view: &mut View<F>,
+    report: Report,
+) -> Result<DeepVerdict, JudgeError>
+    ensures schema { F.gives_bytes view.old.db × F.gives_bytes view.old.log
+        → IfOk result (FindsSchema (pages_of F.bytes view.old)) }
+    ensures behind { IfOk result (IsBehind report) }
+    ensures refused { F.gives_bytes view.old.db × F.gives_bytes view.old.log → (maps : Bool)
+        → WellFormedWith maps (pages_of F.bytes view.old) view.old.page_size
+        → IsSoundInside (pages_of F.bytes view.old) → IfErr result (λ e. e ≡ JudgeError.NoMemory) }
+{
+    match check_schema(alloc, view) {
+        Ok(schema) => judge_contents(alloc, view, report, schema),
+        Err(SchemaError::Object(error)) => Ok(DeepVerdict::Damaged(Damage::Schema(error))),
+        Err(SchemaError::Unread(error)) => Err(unread(error)),
+    }
+}
+
+/// What a deep check finds of a view: damage of its pages, inside, of its schema, or of its indexes. Refused
+/// by AutoVacuum and NoMemory, which say that a database can't be checked and not that it is damaged, and by Unread
+/// where a file could not be read.
 pub fn judge_deep<F: FileBytes>(
     alloc: Global,
     view: &mut View<F>,
     maps: Maps,
 ) -> Result<DeepVerdict, JudgeError>
     ensures found { F.reads_right view.old.db × F.reads_right view.old.log
-        → IfOk result (FindsDeep maps.pointer_maps (pages_of F.bytes view.old) view.old.page_size) }
+        → IfOk result (FindsInside maps.pointer_maps (pages_of F.bytes view.old) view.old.page_size) }
+    ensures schema { F.gives_bytes view.old.db × F.gives_bytes view.old.log
+        → IfOk result (FindsSchema (pages_of F.bytes view.old)) }
     ensures refused { F.gives_bytes view.old.db × F.gives_bytes view.old.log
         → IfErr result (IsUnjudgedWith maps.pointer_maps (pages_of F.bytes view.old)) }
 {
     match check_deep(alloc, view, maps) {
-        Ok(report) => Ok(DeepVerdict::Clean(report)),
-        Err(DeepError::Inner(error)) => Ok(DeepVerdict::Damaged(DeepError::Inner(error))),
+        Ok(report) => judge_schema(alloc, view, report),
+        Err(DeepError::Inner(error)) => Ok(DeepVerdict::Damaged(Damage::Inner(error))),
         Err(DeepError::Check(error)) => match error.fault {
             Fault::AutoVacuum => Err(JudgeError::AutoVacuum),
             Fault::Source => Err(JudgeError::Unread),
             Fault::NoMemory => Err(JudgeError::NoMemory),
-            _ => Ok(DeepVerdict::Damaged(DeepError::Check(error))),
+            _ => Ok(DeepVerdict::Damaged(Damage::Check(error))),
         },
     }
 }

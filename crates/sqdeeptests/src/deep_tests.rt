@@ -7,7 +7,7 @@ use std::alloc::{AllocError, Global};
 use std::test::Fail;
 
 /// Writes bytes from a place on, as far as the file goes.
-fn put(file: &mut Vec<u8>, at: usize, bytes: &[u8]) {
+pub(crate) fn put(file: &mut Vec<u8>, at: usize, bytes: &[u8]) {
     for (i, byte) in bytes.iter().enumerate() {
         if let Some(place) = file.get_mut(at.saturating_add(i)) {
             *place = *byte;

@@ -1,9 +1,10 @@
 //! What a deep check of files finds, and how it is printed.
 use crate::deep_tests::file_with;
 use sqcheck::Options as Maps;
-use sqdeep::{DeepError, InnerFault};
-use sqdeepshown::{DeepVerdict, judge_deep, judged_as, write_found};
+use sqdeep::InnerFault;
+use sqdeepshown::{Damage, DeepVerdict, judge_deep, judged_as, write_found};
 use sqfacts::Refusal;
+use sqschema::{ObjectError, SchemaFault};
 use sqshown::Asked;
 use sqval::Limits;
 use sqview::{JudgeError, Verdict, View};
@@ -31,7 +32,7 @@ fn found(alloc: Global, deep: bool, file: &[u8]) -> Result<DeepVerdict, Refusal>
 fn line(alloc: Global, style: Style, deep: bool, file: &[u8]) -> Option<Vec<u8>> {
     let verdict = found(alloc, deep, file).ok()?;
     let mut out = Vec::new(alloc);
-    match write_found(&mut out, style, deep, &verdict) {
+    match write_found(&mut out, style, &verdict) {
         Ok(()) => Some(out),
         Err(_) => None,
     }
@@ -58,7 +59,8 @@ fn viewed(alloc: Global, file: &[u8]) -> Result<DeepVerdict, JudgeError> {
 fn lines_of_files(rt: HostRuntime) -> Result<(), Fail> {
     let alloc = rt.alloc();
     let sound = file_with(alloc, 2, &[])?;
-    let clean = b"clean: 2 pages, 2 trees, 2 b-tree, 0 overflow, 0 free; records sound\n";
+    let clean =
+        b"clean: 2 pages, 2 trees, 2 b-tree, 0 overflow, 0 free; records, schema and indexes sound\n";
     assert!(rt; is_line(line(alloc, Style::Lines, true, &sound), clean));
     let clean = b"clean: 2 pages, 2 trees, 2 b-tree, 0 overflow, 0 free\n";
     assert!(rt; is_line(line(alloc, Style::Lines, false, &sound), clean));
@@ -68,21 +70,59 @@ fn lines_of_files(rt: HostRuntime) -> Result<(), Fail> {
     Ok(())
 }
 
+/// The damage that is found of a file without logs.
+fn damage(alloc: Global, deep: bool, file: &[u8]) -> Option<Damage> {
+    match found(alloc, deep, file) {
+        Ok(DeepVerdict::Damaged(damage)) => Some(damage),
+        _ => None,
+    }
+}
+
 #[test]
 fn files_that_are_damaged(rt: HostRuntime) -> Result<(), Fail> {
     let alloc = rt.alloc();
     let file = file_with(alloc, 2, &[(18, &[3])])?;
-    match found(alloc, true, &file) {
-        Ok(DeepVerdict::Damaged(DeepError::Inner(error))) => {
-            assert!(rt; error.fault == InnerFault::Version);
-        }
+    match damage(alloc, true, &file) {
+        Some(Damage::Inner(error)) => assert!(rt; error.fault == InnerFault::Version),
         _ => assert!(rt; false),
     }
     assert!(rt; matches!(found(alloc, false, &file), Ok(DeepVerdict::Clean(_))));
     let file = file_with(alloc, 2, &[(512, &[9])])?;
-    let plain = found(alloc, false, &file);
-    assert!(rt; matches!(plain, Ok(DeepVerdict::Damaged(DeepError::Check(_)))));
-    assert!(rt; found(alloc, true, &file) == plain);
+    let plain = damage(alloc, false, &file);
+    assert!(rt; matches!(plain, Some(Damage::Check(_))));
+    assert!(rt; damage(alloc, true, &file) == plain);
+    Ok(())
+}
+
+#[test]
+fn a_schema_that_is_damaged(rt: HostRuntime) -> Result<(), Fail> {
+    let alloc = rt.alloc();
+    let file = file_with(alloc, 2, &[(493, b"u")])?;
+    assert!(rt; damage(alloc, false, &file).is_none());
+    let wanted = ObjectError {
+        fault: SchemaFault::TableName,
+        row: 0,
+    };
+    assert!(rt; damage(alloc, true, &file) == Some(Damage::Schema(wanted)));
+    let text = b"schema row 1: fault 55 TableName\n";
+    assert!(rt; is_line(line(alloc, Style::Lines, true, &file), text));
+    let text = b"{\"row\":1,\"fault\":55,\"name\":\"TableName\"}\n";
+    assert!(rt; is_line(line(alloc, Style::Json, true, &file), text));
+    Ok(())
+}
+
+#[test]
+fn a_text_that_is_not_understood(rt: HostRuntime) -> Result<(), Fail> {
+    let alloc = rt.alloc();
+    let file = file_with(alloc, 2, &[(510, b"?")])?;
+    match found(alloc, true, &file) {
+        Ok(verdict) => {
+            assert!(rt; matches!(verdict, DeepVerdict::Sound(_, _, _)));
+            assert!(rt; verdict.aside(0) == Some(b"t".as_slice()));
+            assert!(rt; verdict.aside(1).is_none());
+        }
+        Err(_) => assert!(rt; false),
+    }
     Ok(())
 }
 
@@ -91,8 +131,13 @@ fn a_view(rt: HostRuntime) -> Result<(), Fail> {
     let alloc = rt.alloc();
     let file = file_with(alloc, 2, &[])?;
     match viewed(alloc, &file) {
-        Ok(DeepVerdict::Clean(report)) => {
-            assert!(rt; DeepVerdict::of(Verdict::Clean(report)) == DeepVerdict::Clean(report));
+        Ok(DeepVerdict::Sound(report, schema, unjudged)) => {
+            assert!(rt; schema.asides.is_empty());
+            assert!(rt; unjudged.is_empty());
+            let plain = DeepVerdict::of(Verdict::Clean(report));
+            assert!(rt; matches!(plain, DeepVerdict::Clean(same) if same == report));
+            assert!(rt; plain.aside(0).is_none());
+            assert!(rt; plain.unjudged(0).is_none());
         }
         _ => assert!(rt; false),
     }

@@ -6,7 +6,7 @@ use Rattle.sqval.specs.Record.{Refused, most_bytes}
 use Rattle.sqval.specs.declared.error.RecordError.{RecordError}
 use Rattle.sqval.specs.declared.error.RecordError.TheVariants as records
 use Rattle.sqval.proofs.payload.UniquenessOfReading.{refused_not}
-use Rattle.sqrows.specs.Rows.{Row, HasRows}
+use Rattle.sqrows.specs.Rows.{Row, AreRows, HasRows}
 use Rattle.sqrows.specs.RowCursor.{RowsLeft, RowsMove, IsAtRow, RowsRefused}
 use Rattle.sqrows.specs.declared.rows.Rows.{Rows}
 use Rattle.sqrows.specs.declared.rows.RowsError.{RowsError}
@@ -21,8 +21,11 @@ use Rattle.sqschema.specs.internal.Reading.{read_error, said, TakesNext, NextRef
 
 -- why a row isn't read is why the next one of these can't be
 pub next_refused : (d : Database) (cursor : Rows) (error : RowsError) → RowsRefused d cursor error → NextRefused d cursor (read_error error)
-next_refused d cursor (Tree e) h = h
-next_refused d cursor (Payload (Chain e)) h = h
+next_refused d cursor (Tree e) h = λ other rows left. h.1 other left.0 left.1
+next_refused d cursor (Payload (Chain e)) h = λ other rows left.
+    let n = h.1 other left.0 left.1 in
+    let are : AreRows d (n.0 ∷ n.1) rows = subst (λ xs. AreRows d xs rows) n.2 left.2 in
+    n.3 are.2.bytes are.2.payload
 next_refused d cursor (Payload TooLong) h = λ no. absurd (no tt)
 
 short : (error : RecordError) (bytes : List ℕ) → Refused error bytes → ¬ (error ≡ records.TooLarge) → length bytes ≤ most_bytes

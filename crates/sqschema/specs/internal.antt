@@ -2,4 +2,3 @@
 pub mod Reading
 pub mod Judging
 pub mod RowRules
-pub mod IndexRules

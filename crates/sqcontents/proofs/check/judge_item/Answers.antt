@@ -1,0 +1,44 @@
+use Rattle.std.proofs.Common.{rules, ◌≡◌, true, inl, inr, map, sym, subst}
+use Rattle.sqschema.specs.Items.{Item, seen}
+use Rattle.sqschema.specs.Rules.{is_index}
+use Rattle.sqindex.specs.Indexes.{IndexRefused}
+use Rattle.sqcontents.specs.Contents.{HasKey, IsSoundIndex, IsUnjudged, ContentsRefused}
+use Rattle.sqcontents.specs.internal.Judging.{AreNumbersOf}
+use Rattle.sqcontents.proofs.IndexesOfItems.{of_item, index_with, judged_ok, judged_err}
+use Rattle.sqcontents.proofs.check.judge_item.Goals as goal
+
+pub returns-in_default-clause-ok : goal.returns-in_default-clause-ok
+returns-in_default-clause-ok g c = λ gives are.
+    let d = g.S.PageSource.pages c.args.source.now in
+    let xs = map seen c.args.items.now in
+    (seen c.item_at-index.result.now, c.item_at-index.ensures, search rules, inr (inl c.in_default.ensures))
+
+pub returns-in-Ok-clause-ok : goal.returns-in-Ok-clause-ok
+returns-in-Ok-clause-ok g c = λ gives are.
+    let d = g.S.PageSource.pages c.args.source.now in
+    let xs = map seen c.args.items.now in
+    let x = seen c.item_at-index.result.now in
+    let y = seen c.in-Some.table.now in
+    let key = c.in-Some-2.key in
+    let keyed : HasKey c.args.numbers.format y.sql x.sql x.name key = search rules in
+    let with = index_with d xs x y c.args.numbers key c.in-Some-root_in.table_root c.in-Some-root_in-2.index_root are c.in-Some.ensures c.if-numbers-eq2.false c.if-numbers-eq3.false keyed c.in-Some-root_in.ensures c.in-Some-root_in-2.ensures in
+    of_item (IsSoundIndex d xs) xs c.args.row x c.item_at-index.ensures
+    (y, key, c.in-Some-root_in.table_root, c.in-Some-root_in-2.index_root, c.in-Ok.field-0, with, c.in-Ok.ensures.ok gives)
+
+pub returns : goal.returns
+returns g c =
+    let d = g.S.PageSource.pages c.args.source.now in
+    let xs = map seen c.args.items.now in
+    let x = seen c.item_at-index.result.now in
+    let y = seen c.in-Some.table.now in
+    let key = c.in-Some-2.key in
+    let table = c.in-Some-root_in.table_root in
+    let index = c.in-Some-root_in-2.index_root in
+    let keyed : HasKey c.args.numbers.format y.sql x.sql x.name key = search rules in
+    let own : is_index x ≡ true = search rules in
+    let with = λ (are : AreNumbersOf d c.args.numbers). index_with d xs x y c.args.numbers key table index are c.in-Some.ensures c.if-numbers-eq2.false c.if-numbers-eq3.false keyed c.in-Some-root_in.ensures c.in-Some-root_in-2.ensures in
+    record {
+      ok = λ gives are. judged_ok d xs c.args.limit c.args.row x y key table index c.in-Err.error c.judged_by.result c.item_at-index.ensures own (with are) (c.in-Err.ensures.err gives) c.judged_by.ensures.ok;
+      err = λ gives are. judged_err d xs c.args.limit c.args.row x y key table index c.in-Err.error c.judged_by.result c.item_at-index.ensures own (with are) (c.in-Err.ensures.err gives) (c.in-Err.ensures.none gives) c.judged_by.ensures.err;
+      keeps = c.judge_index.ensures.keeps;
+    }

@@ -1,0 +1,106 @@
+-- The indexes of a schema against their tables (fileformat2, 1.6, 2.4 and 2.6).
+use Rattle.std.specs.Prelude.{◌≡◌, ◌≢◌, ◌⊎◌, ◌<◌, ◌≤◌, ℕ, true, List, ◌∷◌, nat_eq, length, slice_get, Option, Some, None, pos}
+use Rattle.std.specs.Fmt.{decimal}
+use Rattle.std.specs.List.{ends_with}
+use Rattle.std.specs.Str.{str_eq_ignore_ascii_case}
+use Rattle.sqval.specs.Bytes.{word}
+use Rattle.sqval.specs.Record.{most_bytes}
+use Rattle.sqval.specs.Database.{Database, page}
+use Rattle.sqpage.specs.Lists.{In}
+use Rattle.sqdeep.specs.Records.{encoding_of}
+use Rattle.sqdeep.specs.declared.text.Encoding.TheVariants.{Utf8}
+use Rattle.sqkeys.specs.declared.key.IndexKey.{IndexKey}
+use Rattle.sqkeys.specs.Keys.{IsKeyOf, IsNotUnderstood}
+use Rattle.sqkeys.specs.Constraints.{IsAutomaticKey, HasNoAutomatic}
+use Rattle.sqindex.specs.Stored.{Stored}
+use Rattle.sqindex.specs.Rules.{HasEntries, IsIndexOf}
+use Rattle.sqindex.specs.Indexes.{StandsInIndex, NoRows, NoEntries, HasLongCell, memory_of}
+use Rattle.sqschema.specs.Items.{Item}
+use Rattle.sqschema.specs.Rules.{is_table, is_index}
+use Rattle.sqcontents.specs.declared.error.ContentsError.{ContentsError}
+use Rattle.sqcontents.specs.declared.error.ContentsError.TheVariants.{Source, NoMemory, Content}
+
+-- the number of the schema's format (fileformat2, 1.3.10)
+abbrev pub format_of : Database → ℕ
+format_of d = word (page d 1) 44
+
+-- Item y is the table that item x names.
+pub record IsTableOf (xs : List Item) (x y : Item) : Type 0 where
+  pub at : ℕ
+  pub is : slice_get xs at ≡ Some y
+  pub table : is_table y ≡ true
+  pub named : str_eq_ignore_ascii_case x.table y.name ≡ true
+
+-- The name of an index that a constraint made ends with its number behind a `_` (fileformat2, 2.6).
+abbrev pub EndsWith : (name : List ℕ) → (number : ℕ) → Type 0
+EndsWith name number = ends_with nat_eq name (95 ∷ decimal number) ≡ true
+
+-- it ends with none that is looked for (own: those to 1,000)
+abbrev pub HasNoNumber : (name : List ℕ) → Type 0
+HasNoNumber name = (number : ℕ) → 1 ≤ number → number ≤ 1000 → ¬ EndsWith name number
+
+-- The texts of a table and of its index, or the index's name where it has none, give this key.
+abbrev pub HasKey : (format : ℕ) → (table index : Option (List ℕ)) → (name : List ℕ) → IndexKey → Type 0
+HasKey format (Some table) (Some index) name key = IsKeyOf table index format key
+HasKey format (Some table) None name key = (number : ℕ) × EndsWith name number × IsAutomaticKey table number format key
+HasKey format None index name key = ⊥
+
+-- Why they give none that is known.
+abbrev pub HasNoKey : (format : ℕ) → (table index : Option (List ℕ)) → (name : List ℕ) → Type 0
+HasNoKey format (Some table) (Some index) name = IsNotUnderstood table index format
+HasNoKey format (Some table) None name = HasNoNumber name ⊎ ((number : ℕ) × EndsWith name number × HasNoAutomatic table number format)
+HasNoKey format None index name = Unit {0}
+
+-- Item x is an index of table y with this key; these are the roots of both.
+pub record IsIndexWith (d : Database) (xs : List Item) (x y : Item) (key : IndexKey) (table index : ℕ) : Type 0 where
+  pub of : IsTableOf xs x y
+  pub encoding : encoding_of d ≡ Utf8
+  pub keyed : HasKey (format_of d) y.sql x.sql x.name key
+  pub rooted : y.root ≡ pos table
+  pub placed : x.root ≡ pos index
+
+-- Index x is sound: it has, in its order, exactly the keys and rowids of its table.
+abbrev pub IsSoundIndex : Database → List Item → Item → Type 0
+IsSoundIndex d xs x = (y : Item) × (key : IndexKey) × (table index n : ℕ) × IsIndexWith d xs x y key table index × IsIndexOf d table index key n
+
+-- the item names no page of the database as its root
+abbrev pub HasNoRoot : Database → Item → Type 0
+HasNoRoot d x = (r : ℕ) → 1 ≤ r → r ≤ length d → x.root ≢ pos r
+
+-- The entries of index x take more memory than they may.
+abbrev pub IsLarge : Database → List Item → (limit : ℕ) → Item → Type 0
+IsLarge d xs limit x = (y : Item) × (key : IndexKey) × (table index : ℕ) × IsIndexWith d xs x y key table index
+    × ((entries : List Stored) → HasEntries d index entries → limit < memory_of entries)
+
+-- The rows of its table or its entries can't be read in order, or a payload is too long (own).
+abbrev pub IsUnreadable : Database → List Item → (limit : ℕ) → Item → Type 0
+IsUnreadable d xs limit x = (y : Item) × (key : IndexKey) × (table index : ℕ) × IsIndexWith d xs x y key table index
+    × (NoRows d table ⊎ (NoEntries d index ⊎ (HasLongCell d table most_bytes ⊎ HasLongCell d index limit)))
+
+-- What keeps index x of table y from being judged: their roots, or their texts.
+abbrev pub IsUnclear : Database → (x y : Item) → Type 0
+IsUnclear d x y = HasNoRoot d y ⊎ (HasNoRoot d x ⊎ HasNoKey (format_of d) y.sql x.sql x.name)
+
+-- Why index x isn't judged: texts are in UTF-16; it has no table; its root, its text or those of its table aren't understood; it
+-- is too large, or can't be read.
+abbrev pub IsUnjudged : Database → List Item → (limit : ℕ) → Item → Type 0
+IsUnjudged d xs limit x =
+    (encoding_of d ≢ Utf8)
+    ⊎ (((y : Item) → ¬ IsTableOf xs x y)
+    ⊎ (((y : Item) × IsTableOf xs x y × IsUnclear d x y)
+    ⊎ (IsLarge d xs limit x ⊎ IsUnreadable d xs limit x)))
+
+-- Each index of a schema is sound, or one of these, of which it is said why.
+pub record AreIndexesJudged (d : Database) (xs : List Item) (limit : ℕ) (asides : List ℕ) : Type 0 where
+  pub each : (i : ℕ) (x : Item) → slice_get xs i ≡ Some x → is_index x ≡ true → ¬ In i asides → IsSoundIndex d xs x
+  pub why : (i : ℕ) → In i asides → (x : Item) × (slice_get xs i ≡ Some x) × (is_index x ≡ true) × IsUnjudged d xs limit x
+
+-- Why the contents of a schema aren't found sound: memory ran out; or a fault stands in an index, which isn't sound by its key.
+-- That a page couldn't be read is none.
+abbrev pub ContentsRefused : Database → List Item → ContentsError → Type 0
+ContentsRefused d xs Source = ⊥
+ContentsRefused d xs NoMemory = Unit {0}
+ContentsRefused d xs (Content e) =
+    (x y : Item) × (key : IndexKey) × (table index : ℕ) × (slice_get xs e.row ≡ Some x) × (is_index x ≡ true)
+    × IsIndexWith d xs x y key table index × StandsInIndex d table index key e.error.fault e.error.page e.error.cell
+    × ((n : ℕ) → ¬ IsIndexOf d table index key n)

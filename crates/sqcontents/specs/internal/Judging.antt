@@ -1,0 +1,62 @@
+-- Words of the functions that judge the indexes of a schema (own). No public contract cites them.
+use Rattle.std.specs.Prelude.{◌≡◌, ◌≢◌, ◌<◌, ◌≤◌, ℕ, Bool, true, false, List, slice_get, Some}
+use Rattle.sqval.specs.Bytes.{word}
+use Rattle.sqval.specs.Database.{Database, page}
+use Rattle.sqpage.specs.Lists.{In}
+use Rattle.sqpage.specs.declared.fault.Fault.TheVariants as faults
+use Rattle.sqindex.specs.declared.error.ReadError.{ReadError}
+use Rattle.sqindex.specs.declared.error.ReadError.TheVariants as reads
+use Rattle.sqindex.specs.declared.error.ReadError.TheVariants.{Tree}
+use Rattle.sqindex.specs.declared.error.IndexError.{IndexError}
+use Rattle.sqindex.specs.declared.error.IndexError.TheVariants as indexes
+use Rattle.sqcontents.specs.declared.error.ContentsError.{ContentsError}
+use Rattle.sqcontents.specs.declared.error.ContentsError.TheVariants as contents
+use Rattle.sqschema.specs.Items.{Item}
+use Rattle.sqschema.specs.Rules.{is_index}
+use Rattle.sqcontents.specs.declared.first.Numbers.{Numbers}
+use Rattle.sqcontents.specs.Contents.{IsSoundIndex, IsUnjudged}
+
+-- a page number of a database of so many pages
+abbrev pub IsWithin : (count r : ℕ) → Type 0
+IsWithin count r = (1 ≤ r) × (r ≤ count)
+
+-- These are the numbers in the header.
+pub record AreNumbersOf (d : Database) (numbers : Numbers) : Type 0 where
+  pub format : numbers.format ≡ word (page d 1) 44
+  pub encoding : numbers.encoding ≡ word (page d 1) 56
+
+-- It is said whether item `row` is sound, where it is an index, or is one that isn't judged.
+abbrev pub Judges : Database → List Item → (limit row : ℕ) → Bool → Type 0
+Judges d xs limit row true = (x : Item) → slice_get xs row ≡ Some x → is_index x ≡ true → IsSoundIndex d xs x
+Judges d xs limit row false = (x : Item) × (slice_get xs row ≡ Some x) × (is_index x ≡ true) × IsUnjudged d xs limit x
+
+-- A tree isn't sound, whatever memory there is.
+abbrev pub IsUnsound : ReadError → Type 0
+IsUnsound (Tree e) = (e.fault ≢ faults.Source) × (e.fault ≢ faults.NoMemory)
+IsUnsound reads.NoMemory = ⊥
+IsUnsound _ = Unit {0}
+
+-- a page could not be read, or memory ran out
+abbrev pub IsRefusedBy : ReadError → ContentsError → Type 0
+IsRefusedBy (Tree e) contents.Source = e.fault ≡ faults.Source
+IsRefusedBy _ contents.NoMemory = Unit {0}
+IsRefusedBy _ _ = ⊥
+
+-- An index isn't judged: it is too large, or a tree isn't sound.
+abbrev pub IsUnjudgedBy : IndexError → Type 0
+IsUnjudgedBy (indexes.Table e) = IsUnsound e
+IsUnjudgedBy (indexes.Index e) = IsUnsound e
+IsUnjudgedBy indexes.TooLarge = Unit {0}
+IsUnjudgedBy (indexes.Entry e) = ⊥
+
+-- Index `row` has this fault, a page could not be read, or memory ran out.
+abbrev pub IsErrorBy : IndexError → (row : ℕ) → ContentsError → Type 0
+IsErrorBy (indexes.Table e) row error = IsRefusedBy e error
+IsErrorBy (indexes.Index e) row error = IsRefusedBy e error
+IsErrorBy (indexes.Entry e) row error = error ≡ contents.Content (record { error = e; row = row })
+IsErrorBy indexes.TooLarge row error = ⊥
+
+-- The first n items that are indexes are judged.
+pub record AreJudgedBelow (d : Database) (xs : List Item) (limit n : ℕ) (asides : List ℕ) : Type 0 where
+  pub each : (i : ℕ) (x : Item) → i < n → slice_get xs i ≡ Some x → is_index x ≡ true → ¬ In i asides → IsSoundIndex d xs x
+  pub why : (i : ℕ) → In i asides → (x : Item) × (i < n) × (slice_get xs i ≡ Some x) × (is_index x ≡ true) × IsUnjudged d xs limit x

@@ -1,0 +1,28 @@
+//! Why the contents of a schema aren't found sound (own).
+use sqindex::EntryError;
+use std::alloc::AllocError;
+use thiserror::Error;
+
+/// A fault of an index, and of which one.
+#[derive(Clone, Copy, Debug, PartialEq, Eq, Error)]
+#[error("row {row} of the schema: {error}")]
+pub struct ContentError {
+    /// The fault, and the cell that it stands at.
+    pub error: EntryError,
+    /// The row of the index in the schema, from 0, in the order of rowids.
+    pub row: usize,
+}
+
+/// Why the contents of a schema aren't found sound.
+#[derive(Clone, Copy, Debug, PartialEq, Eq, Error)]
+pub enum ContentsError {
+    /// A page could not be read.
+    #[error("a page could not be read")]
+    Source,
+    /// Memory ran out.
+    #[error("no memory")]
+    NoMemory,
+    /// An index isn't sound.
+    #[error("{0}")]
+    Content(ContentError),
+}

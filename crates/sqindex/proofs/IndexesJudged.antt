@@ -1,0 +1,63 @@
+-- What is found of an index as a whole.
+use Rattle.std.proofs.Common.{◌≡◌, ℕ, List, length, slice_get, Some, refl, sym, subst}
+use Rattle.sqval.specs.Database.{Database}
+use Rattle.sqkeys.specs.declared.key.IndexKey.{IndexKey}
+use Rattle.sqindex.specs.declared.order.Numbered.{Numbered}
+use Rattle.sqindex.specs.declared.fault.IndexFault.{IndexFault}
+use Rattle.sqindex.specs.declared.fault.IndexFault.TheVariants as faults
+use Rattle.sqindex.specs.declared.error.IndexError.{IndexError}
+use Rattle.sqindex.specs.declared.error.IndexError.TheVariants as errors
+use Rattle.sqindex.specs.Stored.{Stored}
+use Rattle.sqindex.specs.Rules.{HasKeyedRows, HasEntries, IsIndexOf}
+use Rattle.sqindex.specs.Indexes.{EntryRefused, StandsInIndex, ReadRefused, NoEntries, IndexRefused}
+use Rattle.sqindex.specs.internal.Judging.{EntriesRefused, IsOrdered, JudgeRefused}
+use Rattle.sqindex.specs.internal.Joining.{BothRefused, IsMatched, MatchRefused}
+
+module _ (d : Database) (table index : ℕ) (key : IndexKey) (limit : ℕ) where
+  pub entries_refused : (e : IndexError) → EntriesRefused d index limit e → IndexRefused d table index key limit e
+  entries_refused (errors.Table e) h = absurd h
+  entries_refused (errors.Index e) h = h
+  entries_refused (errors.Entry e) h = absurd h
+  entries_refused errors.TooLarge h = h
+
+  stands : (xs : List Stored) (i : ℕ) (x : Stored) (fault : IndexFault) (page cell : ℕ) → HasEntries d index xs → slice_get xs i ≡ Some x → x.page ≡ page → x.cell ≡ cell → EntryRefused key xs i x fault
+      → StandsInIndex d table index key fault page cell
+  stands xs i x faults.EntryForm page cell has at p c h = (xs, i, x, has, at, p, c, h)
+  stands xs i x faults.EntryOrder page cell has at p c h = (xs, i, x, has, at, p, c, h)
+  stands xs i x faults.KeyTwice page cell has at p c h = (xs, i, x, has, at, p, c, h)
+  stands xs i x faults.RowTwice page cell has at p c h = (xs, i, x, has, at, p, c, h)
+  stands xs i x faults.EntryOfNoRow page cell has at p c h = absurd h
+  stands xs i x faults.RowWithoutEntry page cell has at p c h = absurd h
+
+  pub judge_refused : (xs : List Stored) (e : IndexError) → HasEntries d index xs → JudgeRefused key xs e → IndexRefused d table index key limit e
+  judge_refused xs (errors.Table e) has h = absurd h
+  judge_refused xs (errors.Index e) has h = subst (ReadRefused d index limit (NoEntries d index)) (sym h) tt
+  judge_refused xs (errors.Entry e) has h = stands xs h.0 h.1 e.fault e.page e.cell has h.2 h.3 h.4 h.5
+  judge_refused xs errors.TooLarge has h = absurd h
+
+  both : (xs rows : List Stored) (fault : IndexFault) (page cell : ℕ) → HasEntries d index xs → HasKeyedRows d table rows → BothRefused key xs rows fault page cell → StandsInIndex d table index key fault page cell
+  both xs rows faults.EntryOfNoRow page cell has keyed h = (rows, xs, h.0, h.1, keyed, has, h.2, h.3.0, h.3.1, h.4)
+  both xs rows faults.RowWithoutEntry page cell has keyed h = (rows, xs, h.0, h.1, keyed, has, h.2, h.3.0, h.3.1, h.4)
+  both xs rows faults.EntryForm page cell has keyed h = absurd h
+  both xs rows faults.EntryOrder page cell has keyed h = absurd h
+  both xs rows faults.KeyTwice page cell has keyed h = absurd h
+  both xs rows faults.RowTwice page cell has keyed h = absurd h
+
+  pub match_refused : (xs : List Stored) (e : IndexError) → HasEntries d index xs → MatchRefused d table key xs e → IndexRefused d table index key limit e
+  match_refused xs (errors.Table e) has h = h
+  match_refused xs (errors.Index e) has h = absurd h
+  match_refused xs (errors.Entry e) has h = both xs h.0 e.fault e.page e.cell has h.1 h.2
+  match_refused xs errors.TooLarge has h = absurd h
+
+  pub index_of : (xs : List Stored) (ps : List Numbered) → HasEntries d index xs → IsOrdered key xs ps → IsMatched d table key xs → IsIndexOf d table index key (length xs)
+  index_of xs ps has w m = record {
+    rows = m.0;
+    entries = xs;
+    of_table = m.1;
+    of_index = has;
+    formed = w.sound.formed;
+    ascend = w.sound.ascend;
+    apart = w.sound.apart;
+    match = m.2;
+    many = refl;
+  }

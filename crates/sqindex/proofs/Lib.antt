@@ -1,0 +1,11 @@
+pub mod Places
+pub mod FieldsLeft
+pub mod CellsTaken
+pub mod RowidsOfEntries
+pub mod EntriesHeld
+pub mod EntriesRead
+pub mod EntriesJudged
+pub mod RowsSeen
+pub mod RowsJoined
+pub mod IndexesRefuted
+pub mod IndexesJudged

@@ -1,0 +1,92 @@
+use Rattle.std.proofs.Common.{◌≡◌, ◌+◌, ◌++◌, ◌∷◌, [], ◌∙◌, ℕ, length, Option, Some, None, ap, subst, sym, arith}
+use Rattle.std.proofs.lemmas.List.Sums.{sum_by_push}
+use Rattle.sqval.specs.Database.{Database}
+use Rattle.sqcheck.proofs.checks.ResultsOfCalls.{exits}
+use Rattle.sqrows.specs.Cursor.{IsOver}
+use Rattle.sqindex.specs.declared.walk.Found.{Found}
+use Rattle.sqindex.specs.Stored.{Stored}
+use Rattle.sqindex.specs.Indexes.{ReadRefused, NoEntries, memory_of}
+use Rattle.sqindex.specs.internal.Held.{held_by, plain}
+use Rattle.sqindex.specs.internal.Reading.{WalkMoves, WalkRefused, AreTaken}
+use Rattle.sqindex.specs.internal.Judging.{EntriesRefused}
+use Rattle.sqindex.proofs.CellsTaken.{none_taken, one_taken, all_taken, unread}
+use Rattle.sqindex.proofs.EntriesRead.{stored_plain, kept_not}
+use Rattle.sqindex.proofs.read.read_entries.Goals as goal
+
+pub returns-in-Err-clause-err : goal.returns-in-Err-clause-err
+returns-in-Err-clause-err g c = λ gives. let e = c.in-Err.ensures.err gives in (e.0, λ other entries has. e.1 other has.stored.0 has.stored.1)
+
+pub turns-init : goal.turns-init
+turns-init g c =
+    let d = g.S.PageSource.pages c.args.source.now in
+    let e = c.in-Ok.ensures in
+    record {
+      kept = e.keeps;
+      sized = e.size.0;
+      limited = e.size.1;
+      left = (let none : memory_of (held_by c.new-entries.result) ≡ 0 = ap memory_of c.new-entries.ensures in omega (arith, none));
+      over = λ gives. (e.ok gives).0;
+      taken = λ gives. subst (AreTaken d c.args.index c.in-Ok.walk.cells) (sym c.new-entries.ensures) (none_taken d c.args.index c.in-Ok.walk.cells (e.ok gives).1);
+    }
+
+pub returns-in-Ok-None-clause-ok : goal.returns-in-Ok-None-clause-ok
+returns-in-Ok-None-clause-ok g c = λ gives.
+    let d = g.S.PageSource.pages c.args.source.now in
+    let i = c.turns.invariant in
+    let over = subst (λ (d : Database). IsOver d c.turns.walk.cells) (sym i.kept.same_pages) (i.over gives) in
+    let moves = subst (λ (f : Option Found). WalkMoves (g.S.PageSource.pages c.turns.source) c.turns.walk.cells f c.advance.new.self) c.in-Ok-None.field-0-is (c.in-Ok-None.ensures.ok (i.kept.still_gives gives) over) in
+    all_taken d c.args.index c.turns.walk.cells c.advance.new.self (held_by c.turns.entries) (i.taken gives)
+    (subst (λ (d : Database). WalkMoves d c.turns.walk.cells None c.advance.new.self) i.kept.same_pages moves)
+
+pub returns-in-Err-advance-clause-err : goal.returns-in-Err-advance-clause-err
+returns-in-Err-advance-clause-err g c = λ gives.
+    let d = g.S.PageSource.pages c.args.source.now in
+    let i = c.turns.invariant in
+    let over = subst (λ (d : Database). IsOver d c.turns.walk.cells) (sym i.kept.same_pages) (i.over gives) in
+    let refused = c.in-Err-advance.ensures.err (i.kept.still_gives gives) over in
+    let here = subst (λ (limit : ℕ). WalkRefused d c.turns.walk.cells limit c.in-Err-advance.refusal) i.limited (subst (λ (d : Database). WalkRefused d c.turns.walk.cells c.turns.walk.limit c.in-Err-advance.refusal) i.kept.same_pages refused) in
+    subst (ReadRefused d c.args.index c.args.limit (NoEntries d c.args.index)) (sym c.of_cell.ensures)
+    (unread d c.args.index c.turns.walk.cells c.args.limit (held_by c.turns.entries) c.in-Err-advance.refusal (NoEntries d c.args.index) (λ none entries has. none entries has.stored) (i.taken gives) here (c.in-Err-advance.ensures.read (i.kept.still_gives gives)))
+
+pub returns-in_err-left-clause-err : goal.returns-in_err-left-clause-err
+returns-in_err-left-clause-err g c = λ gives.
+    let d = g.S.PageSource.pages c.args.source.now in
+    let i = c.turns.invariant in
+    let found = c.in-Ok-Some.found in
+    let walk = c.advance.new.self in
+    let over = subst (λ (d : Database). IsOver d c.turns.walk.cells) (sym i.kept.same_pages) (i.over gives) in
+    let moves = subst (λ (f : Option Found). WalkMoves (g.S.PageSource.pages c.turns.source) c.turns.walk.cells f walk) c.in-Ok-Some.field-0-is (c.in-Ok-Some.ensures.ok (i.kept.still_gives gives) over) in
+    let one = one_taken d c.args.index c.turns.walk.cells walk found (held_by c.turns.entries) (i.taken gives) (subst (λ (d : Database). WalkMoves d c.turns.walk.cells (Some found) walk) i.kept.same_pages moves) in
+    exits (EntriesRefused d c.args.index c.args.limit) c.in_err-left.field-0.0 c.from_residual.result c.from_residual.ensures.1
+    (kept_not d c.args.index walk.cells (held_by c.turns.entries) found walk.payload.items c.args.limit c.turns.left c.in_err-left.field-0.0 one i.left c.in_err-left.ensures.err)
+
+pub turns-preserved : goal.turns-preserved
+turns-preserved g c =
+    let d = g.S.PageSource.pages c.args.source.now in
+    let i = c.turns.invariant in
+    let e = c.in-Ok-Some.ensures in
+    let found = c.in-Ok-Some.found in
+    let walk = c.advance.new.self in
+    let k = c.in_ok-left.ensures.ok in
+    let x : Stored = plain found walk.payload.items in
+    record {
+      kept = record {
+        still_right = λ right. e.keeps.still_right (i.kept.still_right right);
+        still_gives = λ gives. e.keeps.still_gives (i.kept.still_gives gives);
+        same_pages = e.keeps.same_pages ∙ i.kept.same_pages;
+        same_size = e.keeps.same_size ∙ i.kept.same_size;
+      };
+      sized = e.size.0 ∙ i.sized;
+      limited = e.size.2 ∙ i.limited;
+      left =
+          (let all : memory_of (held_by c.keep.new.entries) ≡ memory_of (held_by c.turns.entries) + (length walk.payload.items + 64) = ap memory_of k.2 ∙ sum_by_push (λ (entry : Stored). length entry.bytes + 64) (held_by c.turns.entries) x in
+          let rest = k.1 in
+          let was = i.left in
+          omega (arith, all, rest, was));
+      over = λ gives. e.size.1 ∙ i.over gives;
+      taken = λ gives.
+          let over = subst (λ (d : Database). IsOver d c.turns.walk.cells) (sym i.kept.same_pages) (i.over gives) in
+          let moves = subst (λ (f : Option Found). WalkMoves (g.S.PageSource.pages c.turns.source) c.turns.walk.cells f walk) c.in-Ok-Some.field-0-is (e.ok (i.kept.still_gives gives) over) in
+          let one = one_taken d c.args.index c.turns.walk.cells walk found (held_by c.turns.entries) (i.taken gives) (subst (λ (d : Database). WalkMoves d c.turns.walk.cells (Some found) walk) i.kept.same_pages moves) in
+          subst (AreTaken d c.args.index walk.cells) (ap (λ (z : Stored). held_by c.turns.entries ++ z ∷ []) (stored_plain found walk.payload.items k.0) ∙ sym k.2) one;
+    }

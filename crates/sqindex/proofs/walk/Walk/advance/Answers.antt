@@ -1,0 +1,37 @@
+use Rattle.std.proofs.Common.{◌↔◌, Bool, true, List, subst, sym}
+use Rattle.sqval.specs.Database.{Database}
+use Rattle.sqrows.specs.declared.cells.Cells.{Cells}
+use Rattle.sqrows.specs.Trees.{Entry}
+use Rattle.sqrows.specs.Cursor.{IsLeft, Moves}
+use Rattle.sqindex.specs.Stored.{IsStoredIn}
+use Rattle.sqindex.specs.internal.Reading.{stored_of, LoadRefused}
+use Rattle.sqindex.proofs.CellsTaken.{walk_moves, refused_walk}
+use Rattle.sqindex.proofs.walk.Walk.advance.Goals as goal
+
+pub returns-in-Ok-false-clause-ok : goal.returns-in-Ok-false-clause-ok
+returns-in-Ok-false-clause-ok g c = λ gives over.
+    let d = g.S.PageSource.pages c.args.source.now in
+    subst (λ (found : Bool). (xs : List Entry) → IsLeft d c.args.self.now.cells xs ↔ Moves d found xs c.advance.new.self) c.in-Ok-false.field-0-test (c.in-Ok-false.ensures.ok gives over)
+
+pub returns-in-Err-clause-err : goal.returns-in-Err-clause-err
+returns-in-Err-clause-err g c = λ gives over other xs left all are. (c.in-Err.ensures.err gives).1 other xs left
+
+pub returns-in-Ok-clause-ok : goal.returns-in-Ok-clause-ok
+returns-in-Ok-clause-ok g c = λ gives over.
+    let d = g.S.PageSource.pages c.args.source.now in
+    let keeps = c.in-Ok-true.ensures.keeps in
+    let loaded = c.in-Ok.ensures.ok (keeps.still_gives gives) in
+    let moves = subst (λ (found : Bool). (xs : List Entry) → IsLeft d c.args.self.now.cells xs ↔ Moves d found xs c.advance.new.self) c.in-Ok-true.field-0-test (c.in-Ok-true.ensures.ok gives over) in
+    walk_moves d c.args.self.now.cells c.load.new.self c.in-Ok.found loaded.0 loaded.1
+    (subst (λ (d : Database). IsStoredIn d loaded.0 (stored_of c.in-Ok.found c.load.new.self.payload.items)) keeps.same_pages loaded.2)
+    (subst (λ (cells : Cells). (xs : List Entry) → IsLeft d c.args.self.now.cells xs ↔ Moves d true xs cells) (sym c.in-Ok.ensures.same.0) moves)
+
+pub returns-in-Err-load-clause-err : goal.returns-in-Err-load-clause-err
+returns-in-Err-load-clause-err g c = λ gives over.
+    let d = g.S.PageSource.pages c.args.source.now in
+    let old = c.args.self.now in
+    let keeps = c.in-Ok-true.ensures.keeps in
+    let moves = subst (λ (found : Bool). (xs : List Entry) → IsLeft d old.cells xs ↔ Moves d found xs c.advance.new.self) c.in-Ok-true.field-0-test (c.in-Ok-true.ensures.ok gives over) in
+    refused_walk d old.cells c.advance.new.self old.limit c.in-Err-load.refusal
+    (λ e at. subst (λ (d : Database). LoadRefused d old.limit e c.in-Err-load.refusal) keeps.same_pages (c.in-Err-load.ensures.err (keeps.still_gives gives) e at))
+    (λ xs left. (moves xs).0 left)

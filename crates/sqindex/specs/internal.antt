@@ -1,0 +1,5 @@
+-- What no public clause reaches.
+pub mod Reading
+pub mod Held
+pub mod Judging
+pub mod Joining

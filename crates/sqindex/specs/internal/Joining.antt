@@ -1,0 +1,113 @@
+-- Words of the functions that take the rows of a table beside the entries by rowid (own). No public contract cites them.
+use Rattle.std.specs.Prelude.{◌≡◌, ◌⊎◌, ◌≤◌, ◌+◌, ℕ, List, [], ◌∷◌, ◌++◌, length, slice_get, Option, Some, None, IfSome, IsSome, Result, MatchResult, ℤ, ◌<ℤ◌, ◌≤ℤ◌}
+use Rattle.std.specs.List.{All}
+use Rattle.sqval.specs.Database.{Database}
+use Rattle.sqval.specs.Record.{most_bytes}
+use Rattle.sqkeys.specs.declared.key.IndexKey.{IndexKey}
+use Rattle.sqindex.specs.declared.order.Numbered.{Numbered}
+use Rattle.sqindex.specs.declared.join.Join.{Join}
+use Rattle.sqrows.specs.declared.cells.Cells.{Cells}
+use Rattle.sqindex.specs.declared.fault.IndexFault.{IndexFault}
+use Rattle.sqindex.specs.declared.fault.IndexFault.TheVariants as faults
+use Rattle.sqindex.specs.declared.error.EntryError.{EntryError}
+use Rattle.sqindex.specs.declared.error.ReadError.{ReadError}
+use Rattle.sqindex.specs.declared.error.ReadError.TheVariants.{OtherKind, RowidOrder}
+use Rattle.sqindex.specs.declared.error.IndexError.{IndexError}
+use Rattle.sqindex.specs.declared.error.IndexError.TheVariants as errors
+use Rattle.sqindex.specs.Stored.{Stored}
+use Rattle.sqindex.specs.Keys.{rowid_of, IsEntryOf}
+use Rattle.sqindex.specs.Rules.{Rise, HasKeyedRows, Match}
+use Rattle.sqindex.specs.Indexes.{HasNoEntry, HasNoRow, ReadRefused, NoRows}
+use Rattle.sqindex.specs.internal.Judging.{numbered_in, IsNumbered, IsOrdered}
+use Rattle.sqindex.specs.internal.Reading.{AreTaken}
+
+-- x stands in this cell
+abbrev pub IsIn : (page cell : ℕ) → Stored → Type 0
+IsIn page cell x = (x.page ≡ page) × (x.cell ≡ cell)
+
+-- What is wrong with a row beside the entry that comes next by rowid: that isn't the row's, and none before a row of its
+-- rowid; or it comes before the row.
+abbrev pub RowRefused : IndexKey → List Stored → List Numbered → (at : ℕ) → (row : Stored) → IndexFault → (page cell : ℕ) → Type 0
+RowRefused key xs ps at row faults.RowWithoutEntry page cell =
+    IsIn page cell row × ((p : Numbered) → slice_get ps at ≡ Some p → (¬ IsEntryOf key row (numbered_in xs p)) × (rowid_of row ≤ℤ p.rowid))
+RowRefused key xs ps at row faults.EntryOfNoRow page cell =
+    (p : Numbered) × (slice_get ps at ≡ Some p) × IsIn page cell (numbered_in xs p) × (p.rowid <ℤ rowid_of row)
+RowRefused key xs ps at row _ page cell = ⊥
+
+-- The entry that comes next is the row's, or that is wrong.
+abbrev pub JudgesRow : IndexKey → List Stored → List Numbered → (at : ℕ) → (row : Stored) → Option EntryError → Type 0
+JudgesRow key xs ps at row None = (p : Numbered) × (slice_get ps at ≡ Some p) × IsEntryOf key row (numbered_in xs p)
+JudgesRow key xs ps at row (Some e) = RowRefused key xs ps at row e.fault e.page e.cell
+
+-- The entries by rowid are those of these rows, as far as both go.
+abbrev pub PairUp : IndexKey → List Stored → List Numbered → (rows : List Stored) → Type 0
+PairUp key xs ps rows = (j : ℕ) (row : Stored) (p : Numbered) → slice_get rows j ≡ Some row → slice_get ps j ≡ Some p → IsEntryOf key row (numbered_in xs p)
+
+-- the last of these rows has a rowid above this one
+abbrev pub IsPassed : (rows : List Stored) → (rowid : ℤ) → Type 0
+IsPassed rows rowid = (h : ℕ) × (a : Stored) × (length rows ≡ h + 1) × (slice_get rows h ≡ Some a) × (rowid <ℤ rowid_of a)
+
+-- A fault of these rows, whatever rows come behind.
+abbrev pub RowsRefused : IndexKey → List Stored → (rows : List Stored) → IndexFault → (page cell : ℕ) → Type 0
+RowsRefused key xs rows faults.RowWithoutEntry page cell = (i : ℕ) × (x : Stored) × (slice_get rows i ≡ Some x) × IsIn page cell x × HasNoEntry key xs x
+RowsRefused key xs rows faults.EntryOfNoRow page cell =
+    (p : Numbered) × IsNumbered key xs p × IsIn page cell (numbered_in xs p) × HasNoRow key rows (numbered_in xs p) × IsPassed rows p.rowid
+RowsRefused key xs rows _ page cell = ⊥
+
+-- Each of these rows has its entry among the first ones by rowid, or the first fault was found.
+abbrev pub JoinedAs : IndexKey → List Stored → List Numbered → (rows : List Stored) → (at : ℕ) → Option EntryError → Type 0
+JoinedAs key xs ps rows at None = (length rows ≡ at) × (at ≤ length ps) × PairUp key xs ps rows
+JoinedAs key xs ps rows at (Some e) = RowsRefused key xs rows e.fault e.page e.cell
+
+abbrev pub IsJoined : IndexKey → List Stored → List Numbered → (rows : List Stored) → Join → Type 0
+IsJoined key xs ps rows join = JoinedAs key xs ps rows join.at join.fault
+
+-- It was so before a row, and is so with it.
+abbrev pub Sees : IndexKey → List Stored → List Numbered → (rows : List Stored) → (old : Join) → (row : Stored) → (new : Join) → Type 0
+Sees key xs ps rows old row new = IsOrdered key xs ps → Rise (rows ++ row ∷ []) → IsJoined key xs ps rows old → IsJoined key xs ps (rows ++ row ∷ []) new
+
+-- What is told behind the last row.
+abbrev pub EndRefused : List Stored → List Numbered → Join → IndexError → Type 0
+EndRefused xs ps join (errors.Entry e) = (join.fault ≡ Some e)
+    ⊎ ((join.fault ≡ None) × (e.fault ≡ faults.EntryOfNoRow) × (p : Numbered) × (slice_get ps join.at ≡ Some p) × IsIn e.page e.cell (numbered_in xs p))
+EndRefused xs ps join _ = ⊥
+
+abbrev pub EndTells : List Stored → List Numbered → Join → Result (Unit {0}) IndexError → Type 0
+EndTells xs ps join result = MatchResult result (λ _. (join.fault ≡ None) × (length ps ≤ join.at)) (EndRefused xs ps join)
+
+-- The rowid is this one, above that of the row before.
+abbrev pub IsAbove : (last rowid : Option ℤ) → Option ℤ → Type 0
+IsAbove last rowid now = (r : ℤ) × (now ≡ rowid) × (rowid ≡ Some r) × IfSome last (λ l. l <ℤ r)
+
+abbrev pub NotAbove : (last rowid : Option ℤ) → ReadError → Type 0
+NotAbove last rowid OtherKind = rowid ≡ None
+NotAbove last rowid RowidOrder = (l r : ℤ) × (last ≡ Some l) × (rowid ≡ Some r) × (r ≤ℤ l)
+NotAbove last rowid _ = ⊥
+
+-- the last of these rows has this rowid
+abbrev pub IsLast : (rows : List Stored) → Option ℤ → Type 0
+IsLast rows None = rows ≡ []
+IsLast rows (Some r) = (h : ℕ) × (a : Stored) × (length rows ≡ h + 1) × (slice_get rows h ≡ Some a) × (rowid_of a ≡ r)
+
+-- The rows that were read, beside the entries.
+pub record AreSeen (d : Database) (table : ℕ) (cells : Cells) (last : Option ℤ) (rows : List Stored) : Type 0 where
+  pub taken : AreTaken d table cells rows
+  pub keyed : All (λ row. IsSome row.rowid) rows
+  pub rise : Rise rows
+  pub ends : IsLast rows last
+
+-- The entries are those of the rows of the table.
+abbrev pub IsMatched : Database → (table : ℕ) → IndexKey → List Stored → Type 0
+IsMatched d table key xs = (rows : List Stored) × HasKeyedRows d table rows × Match key rows xs
+
+-- A fault of the rows and the entries.
+abbrev pub BothRefused : IndexKey → List Stored → (rows : List Stored) → IndexFault → (page cell : ℕ) → Type 0
+BothRefused key xs rows faults.RowWithoutEntry page cell = (i : ℕ) × (x : Stored) × (slice_get rows i ≡ Some x) × IsIn page cell x × HasNoEntry key xs x
+BothRefused key xs rows faults.EntryOfNoRow page cell = (i : ℕ) × (x : Stored) × (slice_get xs i ≡ Some x) × IsIn page cell x × HasNoRow key rows x
+BothRefused key xs rows _ page cell = ⊥
+
+-- Why they aren't.
+abbrev pub MatchRefused : Database → (table : ℕ) → IndexKey → List Stored → IndexError → Type 0
+MatchRefused d table key xs (errors.Table e) = ReadRefused d table most_bytes (NoRows d table) e
+MatchRefused d table key xs (errors.Entry e) = (rows : List Stored) × HasKeyedRows d table rows × BothRefused key xs rows e.fault e.page e.cell
+MatchRefused d table key xs _ = ⊥

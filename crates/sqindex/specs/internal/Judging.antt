@@ -1,0 +1,96 @@
+-- Words of the functions that judge the entries of an index (own). No public contract cites them.
+use Rattle.std.specs.Prelude.{◌≡◌, ◌≢◌, ◌<◌, ◌+◌, ℕ, true, List, map, length, slice_get, slice_index_or, Some, None, ℤ, ◌<ℤ◌}
+use Rattle.std.specs.List.{All}
+use Rattle.std.specs.List.Sorted.{IsPermutation, IsSortedByKey}
+use Rattle.std.specs.Ordering.{int_cmp}
+use Rattle.std.specs.declared.cmp.Ordering.TheVariants.{Less}
+use Rattle.sqval.specs.Database.{Database}
+use Rattle.sqlite_value.specs.Keys.{entry_cmp}
+use Rattle.sqlite_value.specs.Order.{Row}
+use Rattle.sqkeys.specs.declared.key.IndexKey.{IndexKey}
+use Rattle.sqindex.specs.declared.order.Numbered.{Numbered}
+use Rattle.sqindex.specs.declared.fault.IndexFault.{IndexFault}
+use Rattle.sqindex.specs.declared.fault.IndexFault.TheVariants as faults
+use Rattle.sqindex.specs.declared.error.ReadError.TheVariants.{OtherKind, NoMemory}
+use Rattle.sqindex.specs.declared.error.IndexError.{IndexError}
+use Rattle.sqindex.specs.declared.error.IndexError.TheVariants as errors
+use Rattle.sqindex.specs.declared.walk.Found.{Found}
+use Rattle.sqindex.specs.Stored.{Stored}
+use Rattle.sqindex.specs.Keys.{values_of, IsKeyed}
+use Rattle.sqindex.specs.Rules.{width, IsSameKey, AreFormed, Ascend, AreApart, HasEntries}
+use Rattle.sqindex.specs.Indexes.{EntryRefused, ReadRefused, NoEntries, memory_of}
+use Rattle.sqindex.specs.internal.Held.{nothing}
+
+-- Why the entries aren't read.
+abbrev pub EntriesRefused : Database → (index limit : ℕ) → IndexError → Type 0
+EntriesRefused d index limit (errors.Index e) = ReadRefused d index limit (NoEntries d index) e
+EntriesRefused d index limit errors.TooLarge = (entries : List Stored) → HasEntries d index entries → limit < memory_of entries
+EntriesRefused d index limit _ = ⊥
+
+-- Why what was found isn't kept, where so many bytes are left.
+abbrev pub KeepRefused : Found → (bytes : List ℕ) → (left : ℕ) → IndexError → Type 0
+KeepRefused found bytes left (errors.Index OtherKind) = found.rowid ≢ None
+KeepRefused found bytes left (errors.Index NoMemory) = Unit {0}
+KeepRefused found bytes left errors.TooLarge = left < length bytes + 64
+KeepRefused found bytes left _ = ⊥
+
+-- the entry at a place
+abbrev pub at_place : List Stored → (i : ℕ) → Stored
+at_place xs i = slice_index_or xs i nothing
+
+-- The second entry may come behind the first.
+pub record IsBehind (key : IndexKey) (a b : Row) : Type 0 where
+  pub behind : entry_cmp key.order a b ≡ Less
+  pub apart : key.unique ≡ true → ¬ IsSameKey key.order (width key) a b
+
+-- Why it may not.
+abbrev pub NotBehind : IndexKey → (a b : Row) → IndexFault → Type 0
+NotBehind key a b faults.EntryOrder = entry_cmp key.order a b ≢ Less
+NotBehind key a b faults.KeyTwice = (key.unique ≡ true) × IsSameKey key.order (width key) a b
+NotBehind key a b _ = ⊥
+
+-- Entry i has this rowid, and comes behind the one before it.
+pub record IsSoundAt (key : IndexKey) (xs : List Stored) (i : ℕ) (rowid : ℤ) : Type 0 where
+  pub keyed : IsKeyed (width key) rowid (values_of (at_place xs i))
+  pub behind : (h : ℕ) → i ≡ h + 1 → IsBehind key (values_of (at_place xs h)) (values_of (at_place xs i))
+
+-- These are the entries' rowids, one after another, and each of the entries is sound.
+abbrev pub AreJudged : IndexKey → (xs : List Stored) → List Numbered → Type 0
+AreJudged key xs ps = (i : ℕ) (p : Numbered) → slice_get ps i ≡ Some p → (p.number ≡ i) × IsSoundAt key xs i p.rowid
+
+-- The rules that the entries of an index follow by themselves.
+pub record AreSoundEntries (key : IndexKey) (xs : List Stored) : Type 0 where
+  pub formed : AreFormed (width key) xs
+  pub ascend : Ascend key.order xs
+  pub apart : key.unique ≡ true → AreApart key.order (width key) xs
+
+-- The rowids rise.
+abbrev pub RowidsRise : List Numbered → Type 0
+RowidsRise ps = (i : ℕ) (p q : Numbered) → slice_get ps i ≡ Some p → slice_get ps (i + 1) ≡ Some q → p.rowid <ℤ q.rowid
+
+-- Where they don't fall, two next to each other are the same.
+abbrev pub IsTie : List Numbered → (i : ℕ) → Type 0
+IsTie ps i = (i + 1 < length ps) × (IsSortedByKey (λ (p : Numbered). p.rowid) int_cmp ps
+    → (p q : Numbered) → slice_get ps i ≡ Some p → slice_get ps (i + 1) ≡ Some q → p.rowid ≡ q.rowid)
+
+-- the entry of a number
+abbrev pub numbered_in : List Stored → Numbered → Stored
+numbered_in xs p = at_place xs p.number
+
+-- An entry with its rowid.
+pub record IsNumbered (key : IndexKey) (xs : List Stored) (p : Numbered) : Type 0 where
+  pub within : p.number < length xs
+  pub keyed : IsKeyed (width key) p.rowid (values_of (numbered_in xs p))
+
+-- The entries are sound by themselves, and these are all of them by rowid.
+pub record IsOrdered (key : IndexKey) (xs : List Stored) (ps : List Numbered) : Type 0 where
+  pub sound : AreSoundEntries key xs
+  pub same : IsPermutation (map (numbered_in xs) ps) xs
+  pub each : All (IsNumbered key xs) ps
+  pub rise : RowidsRise ps
+
+-- Why they aren't sound: memory ran out, or a fault stands at an entry.
+abbrev pub JudgeRefused : IndexKey → (xs : List Stored) → IndexError → Type 0
+JudgeRefused key xs (errors.Index e) = e ≡ NoMemory
+JudgeRefused key xs (errors.Entry e) = (i : ℕ) × (x : Stored) × (slice_get xs i ≡ Some x) × (x.page ≡ e.page) × (x.cell ≡ e.cell) × EntryRefused key xs i x e.fault
+JudgeRefused key xs _ = ⊥

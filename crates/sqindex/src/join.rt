@@ -1,0 +1,156 @@
+//! The rows of a table beside the entries of its index (fileformat2, 2.4).
+ghost use Rattle.std.specs.Prelude.{◌<◌, All, List, length, IfOk, IfErr, OnOk};
+ghost use Rattle.sqpage.specs.Source.{KeepsPages};
+ghost use Rattle.sqindex.specs.Stored.{Stored};
+ghost use Rattle.sqindex.specs.internal.Held.{held_by};
+ghost use Rattle.sqindex.specs.internal.Reading.{stored_of};
+ghost use Rattle.sqindex.specs.internal.Judging.{IsOrdered};
+ghost use Rattle.sqindex.specs.internal.Joining.{JudgesRow, Sees, EndTells, IsAbove, NotAbove};
+ghost use Rattle.sqindex.specs.internal.Joining.{IsMatched, MatchRefused};
+
+use crate::compare::compare_entry;
+use crate::entries::Entries;
+use crate::error::{EntryError, IndexError, ReadError};
+use crate::fault::IndexFault;
+use crate::order::Numbered;
+use crate::walk::{Found, Walk};
+use sqkeys::IndexKey;
+use sqpage::PageSource;
+use sqval::MOST_BYTES;
+use std::alloc::Global;
+use std::cmp::Ordering;
+
+/// How many entries by rowid were found to be those of rows, and the first fault.
+#[derive(Clone, Copy, Debug)]
+struct Join {
+    at: usize,
+    fault: Option<EntryError>,
+}
+
+/// Judges a row beside the entry that comes next by rowid. Some where it is no entry of the row.
+fn judge_row(
+    key: &IndexKey,
+    entries: &Entries,
+    numbered: &[Numbered],
+    at: usize,
+    found: Found,
+    row: &[u8],
+) -> Option<EntryError>
+    requires { All (λ p. p.number < length (held_by entries.now)) numbered.now }
+    ensures { JudgesRow key.now (held_by entries.now) numbered.now at (stored_of found row.now) result }
+{
+    let fault = EntryError {
+        fault: IndexFault::RowWithoutEntry,
+        page: found.page,
+        cell: found.cell,
+    };
+    let rowid = found.rowid.unwrap_or(0);
+    let Some(next) = numbered.get(at) else {
+        return Some(fault);
+    };
+    if next.rowid < rowid {
+        return Some(entries.fault(next.number, IndexFault::EntryOfNoRow));
+    }
+    match compare_entry(key, rowid, row, entries.payload(next.number)) {
+        Ordering::Equal => None,
+        _ => Some(fault),
+    }
+}
+
+/// Goes on by one row, unless a fault was found before.
+fn see(
+    key: &IndexKey,
+    entries: &Entries,
+    numbered: &[Numbered],
+    join: Join,
+    found: Found,
+    row: &[u8],
+) -> Join
+    requires { All (λ p. p.number < length (held_by entries.now)) numbered.now }
+    ensures { (rows : List Stored) → Sees key.now (held_by entries.now) numbered.now rows join
+        (stored_of found row.now) result }
+{
+    if join.fault.is_some() {
+        return join;
+    }
+    match judge_row(key, entries, numbered, join.at, found, row) {
+        Some(fault) => Join {
+            at: join.at,
+            fault: Some(fault),
+        },
+        None => {
+            prove!(join.at < numbered.len());
+            Join {
+                at: join.at + 1,
+                fault: None,
+            }
+        }
+    }
+}
+
+/// What is told behind the last row: the first fault, or that an entry is left.
+fn end(entries: &Entries, numbered: &[Numbered], join: Join) -> Result<(), IndexError>
+    requires { All (λ p. p.number < length (held_by entries.now)) numbered.now }
+    ensures { EndTells (held_by entries.now) numbered.now join result }
+{
+    if let Some(fault) = join.fault {
+        return Err(IndexError::Entry(fault));
+    }
+    match numbered.get(join.at) {
+        Some(next) => Err(IndexError::Entry(entries.fault(next.number, IndexFault::EntryOfNoRow))),
+        None => Ok(()),
+    }
+}
+
+/// The rowid of a row. Refused by OtherKind where it has none, and by RowidOrder where it isn't above that of the row
+/// before.
+fn above(last: Option<i64>, rowid: Option<i64>) -> Result<Option<i64>, ReadError>
+    ensures ok { IfOk result (IsAbove last rowid) }
+    ensures err { IfErr result (NotAbove last rowid) }
+{
+    let Some(number) = rowid else {
+        return Err(ReadError::OtherKind);
+    };
+    match last {
+        Some(last) if number <= last => Err(ReadError::RowidOrder),
+        _ => Ok(rowid),
+    }
+}
+
+/// Judges that the entries by rowid are those of the rows of the table, of each row one. Refused by EntryOfNoRow and
+/// RowWithoutEntry, and where the rows can't be read or their rowids don't rise.
+pub(crate) fn match_rows<S: PageSource>(
+    alloc: Global,
+    source: &mut S,
+    table: u32,
+    key: &IndexKey,
+    entries: &Entries,
+    numbered: &[Numbered],
+) -> Result<(), IndexError>
+    requires { All (λ p. p.number < length (held_by entries.now)) numbered.now }
+    ensures ok { S.gives_pages source.old → IsOrdered key.now (held_by entries.now) numbered.now
+        → OnOk result (IsMatched (S.pages source.old) table key.now (held_by entries.now)) }
+    ensures err { S.gives_pages source.old → IsOrdered key.now (held_by entries.now) numbered.now
+        → IfErr result (MatchRefused (S.pages source.old) table key.now (held_by entries.now)) }
+    ensures keeps { KeepsPages S.pages S.size S.reads_right S.gives_pages source.old source.new }
+{
+    let mut join = Join { at: 0, fault: None };
+    let mut last = None;
+    let mut walk = match Walk::new(alloc, source, table, MOST_BYTES as u64) {
+        Ok(walk) => walk,
+        Err(refusal) => return Err(IndexError::Table(ReadError::Tree(refusal))),
+    };
+    'turns: for _ in 0..u64::MAX {
+        let found = match walk.advance(source) {
+            Ok(Some(found)) => found,
+            Ok(None) => return end(entries, numbered, join),
+            Err(refusal) => return Err(IndexError::Table(ReadError::of_cell(refusal))),
+        };
+        match above(last, found.rowid) {
+            Ok(rowid) => last = rowid,
+            Err(refusal) => return Err(IndexError::Table(refusal)),
+        }
+        join = see(key, entries, numbered, join, found, &walk.payload);
+    }
+    Err(IndexError::Table(ReadError::NoMemory))
+}

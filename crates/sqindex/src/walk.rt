@@ -1,0 +1,109 @@
+//! What the cells of a tree store, one after another (fileformat2, 1.6 and 1.7).
+ghost use Rattle.std.specs.Prelude.{◌≡◌, ◌≢◌, ◌↔◌, List, IfOk, IfErr, true};
+ghost use Rattle.sqpage.specs.Page.{has_payload};
+ghost use Rattle.sqpage.specs.Source.{KeepsPages};
+ghost use Rattle.sqpage.specs.declared.fault.Fault.{Fault};
+ghost use Rattle.sqrows.specs.Cursor.{IsOver, IsLeft, IsAt};
+ghost use Rattle.sqrows.specs.Trees.{Entry, IsTree};
+ghost use Rattle.sqindex.specs.Stored.{IsStoredIn};
+ghost use Rattle.sqindex.specs.internal.Reading.{stored_of, WalkMoves, WalkRefused, LoadRefused, NotSource};
+
+use sqpage::{CheckError, PageSource};
+use sqrows::{Cells, RowsError, payload_into};
+use std::alloc::Global;
+
+/// Where the cell stands that a walk came to, and its rowid in a table.
+#[derive(Clone, Copy, Debug)]
+pub(crate) struct Found {
+    pub(crate) page: u32,
+    pub(crate) cell: usize,
+    pub(crate) rowid: Option<i64>,
+}
+
+/// Goes over the cells of a tree in order, and holds the payload of one.
+#[derive(Drop)]
+pub(crate) struct Walk {
+    pub(crate) alloc: Global,
+    pub(crate) cells: Cells,
+    /// The most bytes of a payload.
+    pub(crate) limit: u64,
+    /// The payload of the cell that it came to last.
+    pub(crate) payload: Vec<u8>,
+}
+
+impl Walk {
+    /// Begins before the first cell of the tree whose root is page `root`. Refused as `Cells::new` does.
+    pub(crate) fn new<S: PageSource>(
+        alloc: Global,
+        source: &mut S,
+        root: u32,
+        limit: u64,
+    ) -> Result<Walk, CheckError>
+        ensures ok { S.gives_pages source.old → IfOk result (λ walk. IsOver (S.pages source.old) walk.cells
+            × ((xs : List Entry) → IsTree (S.pages source.old) root xs ↔ IsLeft (S.pages source.old) walk.cells xs)) }
+        ensures err { S.gives_pages source.old → IfErr result (λ e. (e.fault ≢ Fault.Source)
+            × (e.fault ≢ Fault.NoMemory → (xs : List Entry) → ¬ IsTree (S.pages source.old) root xs)) }
+        ensures size { IfOk result (λ walk. (walk.cells.size ≡ S.size source.old) × (walk.limit ≡ limit)) }
+        ensures keeps { KeepsPages S.pages S.size S.reads_right S.gives_pages source.old source.new }
+    {
+        Ok(Walk {
+            alloc,
+            cells: Cells::new(alloc, source, root)?,
+            limit,
+            payload: Vec::new(alloc),
+        })
+    }
+
+    /// Reads the payload of the cell that the walk is at.
+    fn load<S: PageSource>(&mut self, source: &mut S) -> Result<Found, RowsError>
+        requires sized { S.size source.old ≡ self.old.cells.size }
+        requires own { has_payload self.old.cells.top.kind ≡ true }
+        ensures ok { S.gives_pages source.old → IfOk result (λ found. (e : Entry) × IsAt self.new.cells e
+            × IsStoredIn (S.pages source.old) e (stored_of found self.new.payload.items)) }
+        ensures err { S.gives_pages source.old → IfErr result (λ error. (e : Entry) → IsAt self.old.cells e
+            → LoadRefused (S.pages source.old) self.old.limit e error) }
+        ensures read { S.gives_pages source.old → IfErr result NotSource }
+        ensures same { (self.new.cells ≡ self.old.cells) × (self.new.limit ≡ self.old.limit) }
+        ensures keeps { KeepsPages S.pages S.size S.reads_right S.gives_pages source.old source.new }
+    {
+        let cell = match self.cells.cell() {
+            Ok(cell) => cell,
+            Err(refusal) => return Err(RowsError::Tree(refusal)),
+        };
+        let found = Found {
+            page: cell.page,
+            cell: self.cells.index(),
+            rowid: cell.rowid,
+        };
+        match payload_into(self.alloc, source, &cell, self.limit, &mut self.payload) {
+            Ok(()) => Ok(found),
+            Err(refusal) => Err(RowsError::Payload(refusal)),
+        }
+    }
+
+    /// Goes on to the next cell in order. None behind the last one. Refused as `sqrows::Rows::advance` does.
+    pub(crate) fn advance<S: PageSource>(
+        &mut self,
+        source: &mut S,
+    ) -> Result<Option<Found>, RowsError>
+        requires sized { S.size source.old ≡ self.old.cells.size }
+        ensures ok { S.gives_pages source.old → IsOver (S.pages source.old) self.old.cells → IfOk result (λ found.
+            WalkMoves (S.pages source.old) self.old.cells found self.new) }
+        ensures err { S.gives_pages source.old → IsOver (S.pages source.old) self.old.cells
+            → IfErr result (WalkRefused (S.pages source.old) self.old.cells self.old.limit) }
+        ensures read { S.gives_pages source.old → IfErr result NotSource }
+        ensures size { (self.new.cells.size ≡ self.old.cells.size)
+            × (self.new.cells.usable ≡ self.old.cells.usable) × (self.new.limit ≡ self.old.limit) }
+        ensures keeps { KeepsPages S.pages S.size S.reads_right S.gives_pages source.old source.new }
+    {
+        match self.cells.advance(source) {
+            Ok(true) => {}
+            Ok(false) => return Ok(None),
+            Err(refusal) => return Err(RowsError::Tree(refusal)),
+        }
+        match self.load(source) {
+            Ok(found) => Ok(Some(found)),
+            Err(refusal) => Err(refusal),
+        }
+    }
+}

@@ -1,0 +1,2 @@
+pub mod LastSaid
+pub mod Pairs

@@ -1,0 +1,80 @@
+-- The columns of a key, as the texts of a table and an index say (SQLite's lang_createtable and lang_altertable).
+use Rattle.std.specs.Prelude.{◌≡◌, ◌⊎◌, ℕ, ◌-◌, Bool, if◌then◌else◌, List, [], ◌∷◌, length, drop, slice_get, position, Option, Some, None, unwrap_or, codes}
+use Rattle.std.specs.Option.{option_or}
+use Rattle.std.specs.Str.{str_eq_ignore_ascii_case}
+use Rattle.sqlite_ast.specs.declared.Expr.{Expr}
+use Rattle.sqlite_ast.specs.declared.Keyed.{Keyed}
+use Rattle.sqlite_ast.specs.declared.Rule.{Rule}
+use Rattle.sqlite_ast.specs.declared.Rule.TheVariants.{Default, Collate}
+use Rattle.sqlite_ast.specs.declared.TableBody.{TableBody}
+use Rattle.sqlite_value.specs.declared.value.Value.{Value}
+use Rattle.sqlite_value.specs.declared.value.Value.TheVariants.{Null}
+use Rattle.sqlite_value.specs.declared.keys.Collation.{Collation}
+use Rattle.sqlite_value.specs.declared.keys.Collation.TheVariants.{Binary}
+use Rattle.sqtables.specs.Texts.{IsAlias}
+use Rattle.sqkeys.specs.declared.key.KeyColumn.{KeyColumn}
+use Rattle.sqkeys.specs.declared.key.KeyColumn.TheVariants.{Rowid, Stored}
+use Rattle.sqkeys.specs.declared.affinity.Affinity.{Affinity}
+use Rattle.sqkeys.specs.Affinities.{affinity_of, keeps}
+use Rattle.sqkeys.specs.Literals.{literal_of}
+
+-- The first column of this name, where ASCII's small letters are its capitals.
+abbrev pub column_named : TableBody → (name : List ℕ) → Option ℕ
+column_named body name = position (λ column. str_eq_ignore_ascii_case column.0 name) body.columns
+
+-- what the last of these rules says that says something
+abbrev pub last_said : {A : Type 0} → (Rule → Option A) → List Rule → Option A
+last_said says [] = None
+last_said says (rule ∷ rules) = option_or (last_said says rules) (says rule)
+
+-- the default, or the collation, that a rule says of the column of this name
+abbrev pub default_in : (name : List ℕ) → Rule → Option Expr
+default_in name (Default column e) = if str_eq_ignore_ascii_case column name then Some e else None
+default_in name _ = None
+
+abbrev pub collation_in : (name : List ℕ) → Rule → Option Collation
+collation_in name (Collate column collation) = if str_eq_ignore_ascii_case column name then Some collation else None
+collation_in name _ = None
+
+-- The collation of a column: what its last COLLATE says, or BINARY (datatype3, 7.1).
+abbrev pub collation_of : TableBody → (name : List ℕ) → Collation
+collation_of body name = unwrap_or (last_said (collation_in name) body.rules) Binary
+
+-- The type ends with ALWAYS. SQLite cuts GENERATED ALWAYS off the end of a type.
+abbrev pub is_cut : (type : List ℕ) → Bool
+is_cut type = str_eq_ignore_ascii_case (drop (length type - 6) type) (codes "always")
+
+-- the value, where a column of this affinity keeps it
+abbrev pub kept : Affinity → Option Value → Option Value
+kept affinity (Some value) = if keeps affinity value then Some value else None
+kept affinity None = None
+
+abbrev pub default_by : Affinity → Option Expr → Option Value
+default_by affinity (Some e) = kept affinity (literal_of e)
+default_by affinity None = Some Null
+
+abbrev pub default_of : List Rule → Option (List ℕ × List ℕ) → Option Value
+default_of rules (Some column) = if is_cut column.1 then None else default_by (affinity_of column.1) (last_said (default_in column.0) rules)
+default_of rules None = None
+
+-- What stands for column j in a row that doesn't store it (lang_altertable, "ALTER TABLE ADD COLUMN"): its last DEFAULT, or NULL.
+-- None where that is no literal, or another value by the column's affinity.
+abbrev pub default_at : TableBody → (j : ℕ) → Option Value
+default_at body j = default_of body.rules (slice_get body.columns j)
+
+-- Column j of a table is found so in its rows: it is another name for their rowids, or the j-th that they store.
+abbrev pub IsFoundAs : TableBody → (j : ℕ) → KeyColumn → Type 0
+IsFoundAs body j Rowid = IsAlias body j
+IsFoundAs body j (Stored at default) = (¬ IsAlias body j) × (at ≡ j) × (default_at body j ≡ Some default)
+
+-- The column of a key is the one that is named there.
+pub record IsKeyColumn (body : TableBody) (keyed : Keyed) (column : KeyColumn) : Type 0 where
+  pub at : ℕ
+  pub named : column_named body keyed.name ≡ Some at
+  pub found : IsFoundAs body at column
+
+-- No column has the name that is named there, or what stands for it where it isn't stored is unknown.
+abbrev pub IsUnclear : TableBody → Keyed → Type 0
+IsUnclear body keyed =
+    (column_named body keyed.name ≡ None)
+    ⊎ ((j : ℕ) × (column_named body keyed.name ≡ Some j) × (¬ IsAlias body j) × (default_at body j ≡ None))
