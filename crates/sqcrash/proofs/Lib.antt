@@ -6,3 +6,4 @@ pub mod JudgedFiles
 pub mod WaitingCommits
 pub mod MarkedRecords
 pub mod NotedFiles
+pub mod KeptCalls

@@ -62,7 +62,7 @@ sampled_none Left run limit s v empty all = record {
 pub sampled_more : (Left : Image → Type 0) (run : RunState) (limit : ℕ) (first : Survey) (s t : Sample) (v w : Survey) (image : Image)
     → IsSampled Left run limit first s v → Left image → Takes (key_of image) true s t → TakesOne run image v w → (so : IsSampled Left run limit first t w) × (0 < length so.judged)
 sampled_more Left run limit first s t v w image so_far left taken one =
-    let x : Judged = record { image = image; judgment = one.0 } in
+    let x : Judged = record { image = image; judgment = one.0; missing = one.1 } in
     let judged = so_far.judged in
     let long = length-append judged (x ∷ []) in
     let Keyed : Judged → Type 0 = λ y. contains nat_eq t.keys (key_of y.image) ≡ true in
@@ -76,7 +76,7 @@ sampled_more Left run limit first s t v w image so_far left taken one =
         keyed = All-append Keyed judged (x ∷ []) old (all_one Keyed x (taken.2 (key_of image) ∙ same_key (key_of image) (contains nat_eq s.keys (key_of image))));
         none = λ nothing. absurd (omega (arith, long));
         count = omega (arith, so_far.count, taken.1, long);
-        told = tells_more run judged x first v w so_far.told one.1 one.2;
+        told = tells_more run judged x first v w so_far.told one.2 one.3;
       },
       omega (arith, long),
     )

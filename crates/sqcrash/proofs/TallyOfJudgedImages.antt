@@ -1,7 +1,7 @@
 -- One more image is judged, counted and told.
 use Rattle.std.proofs.Common.{◌≡◌, ℕ, zero, suc, ◌+◌, IsTrue, Option, Some, None, Bool, cond, List, [], ◌∷◌, ◌++◌, length, sym, ◌∙◌, ap, subst, append_assoc, length-append, arith}
 use Rattle.std.specs.List.{All, count_by}
-use Rattle.std.proofs.lemmas.List.{map-append, append-nil, length-map}
+use Rattle.std.proofs.lemmas.List.{map-append, append-nil}
 use Rattle.std.proofs.lemmas.List.Elements.{All-append}
 use Rattle.std.proofs.lemmas.List.Sums.{sum_by-append}
 use Rattle.sqwal.specs.Took.{Took}
@@ -15,7 +15,7 @@ use Rattle.sqcrash.specs.Runs.{RunState}
 use Rattle.sqcrash.specs.Surveys.{is_lost, is_mixed, is_fault, one_if, with_image, with_images, Judged, judgments, finding_of, findings_from, IsJudgedBy, Tells, AreNumbered, IsFixedScan, IsScanOf}
 use Rattle.sqcrash.specs.Samples.{Adds}
 use Rattle.sqcrash.specs.declared.survey.Tally.{Tally}
-use Rattle.sqcrash.specs.declared.survey.Finding.{Finding}
+use Rattle.sqcrash.specs.Told.{Told}
 use Rattle.sqcrash.specs.declared.survey.Survey.{Survey}
 
 one_more : {X : Type 0} (p : X → Bool) (xs : List X) (x : X) (n : ℕ) → n + count_by p (xs ++ x ∷ []) ≡ n + count_by p xs + one_if (p x)
@@ -30,13 +30,17 @@ images_more t js j =
     let e = one_more is_fault js j t.faults in
     cc
 
+-- what is told of an image by its number
+abbrev pub told_of : (n : ℕ) → Judged → List Told
+told_of n x = finding_of n x.judgment x.missing
+
 -- what is told of one more
-pub findings_more : (n : ℕ) (js : List Judgment) (j : Judgment) → findings_from n (js ++ j ∷ []) ≡ findings_from n js ++ finding_of (n + length js) j
-findings_more n [] j = append-nil (finding_of n j) ∙ ap (λ (k : ℕ). finding_of k j) (omega arith)
-findings_more n (first ∷ js) j =
-    ap (λ (l : List Finding). finding_of n first ++ l) (findings_more (suc n) js j)
-    ∙ sym (append_assoc (finding_of n first) (findings_from (suc n) js) (finding_of (suc n + length js) j))
-    ∙ ap (λ (k : ℕ). (finding_of n first ++ findings_from (suc n) js) ++ finding_of k j) (omega arith)
+pub findings_more : (n : ℕ) (judged : List Judged) (x : Judged) → findings_from n (judged ++ x ∷ []) ≡ findings_from n judged ++ told_of (n + length judged) x
+findings_more n [] x = append-nil (told_of n x) ∙ ap (λ (k : ℕ). told_of k x) (omega arith)
+findings_more n (first ∷ judged) x =
+    ap (λ (l : List Told). told_of n first ++ l) (findings_more (suc n) judged x)
+    ∙ sym (append_assoc (told_of n first) (findings_from (suc n) judged) (told_of (suc n + length judged) x))
+    ∙ ap (λ (k : ℕ). (told_of n first ++ findings_from (suc n) judged) ++ told_of k x) (omega arith)
 
 -- one more by its number
 pub numbered_more : (run : RunState) (c : Counts) (n : ℕ) (judged : List Judged) (x : Judged) → AreNumbered run c n judged → IsNumbered run.files c (n + length judged) x.image → AreNumbered run c n (judged ++ x ∷ [])
@@ -52,19 +56,18 @@ pub all_none : {X : Type 0} (P : X → Type 0) → All P []
 all_none P k d below = absurd (omega arith)
 
 -- one more that is judged
-pub tells_more : (run : RunState) (judged : List Judged) (x : Judged) (old mid new : Survey) → Tells run judged old mid → IsJudgedBy run x → Adds x.judgment mid new → Tells run (judged ++ x ∷ []) old new
+pub tells_more : (run : RunState) (judged : List Judged) (x : Judged) (old mid new : Survey) → Tells run judged old mid → IsJudgedBy run x → Adds x.judgment x.missing mid new → Tells run (judged ++ x ∷ []) old new
 tells_more run judged x old mid new told is adds =
     let js = judgments judged in
     let all : judgments (judged ++ x ∷ []) ≡ js ++ x.judgment ∷ [] = map-append (λ (y : Judged). y.judgment) judged (x ∷ []) in
-    let long : length js ≡ length judged = length-map judged (λ (y : Judged). y.judgment) in
     record {
       each = All-append (IsJudgedBy run) judged (x ∷ []) told.each (all_one (IsJudgedBy run) x is);
       tally = adds.tally ∙ ap (λ (t : Tally). with_image t x.judgment) told.tally ∙ sym (images_more old.tally js x.judgment) ∙ ap (λ (l : List Judgment). with_images old.tally l) (sym all);
       findings = adds.findings
-          ∙ ap (λ (l : List Finding). l ++ finding_of mid.next x.judgment) told.findings
-          ∙ append_assoc old.findings.items (findings_from old.next js) (finding_of mid.next x.judgment)
-          ∙ ap (λ (k : ℕ). old.findings.items ++ (findings_from old.next js ++ finding_of k x.judgment)) (let e : mid.next ≡ old.next + length js = omega (arith, told.next, long) in e)
-          ∙ ap (λ (l : List Finding). old.findings.items ++ l) (sym (findings_more old.next js x.judgment) ∙ ap (λ (l : List Judgment). findings_from old.next l) (sym all));
+          ∙ ap (λ (l : List Told). l ++ told_of mid.next x) told.findings
+          ∙ append_assoc old.findings.items (findings_from old.next judged) (told_of mid.next x)
+          ∙ ap (λ (k : ℕ). old.findings.items ++ (findings_from old.next judged ++ told_of k x)) told.next
+          ∙ ap (λ (l : List Told). old.findings.items ++ l) (sym (findings_more old.next judged x));
       next = omega (arith, adds.next, told.next, length-append judged (x ∷ []));
     }
 

@@ -1,8 +1,10 @@
 pub mod Promises
 pub mod Runs
+pub mod Goings
 pub mod Snapshots
 pub mod Marked
 pub mod Markings
+pub mod Told
 pub mod Surveys
 pub mod Samples
 pub mod Lines

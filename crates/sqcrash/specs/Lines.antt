@@ -1,5 +1,5 @@
 -- The lines that are printed of what is wrong with images (own).
-use Rattle.std.specs.Prelude.{ℕ, List, [], ◌∷◌, ◌++◌, codes}
+use Rattle.std.specs.Prelude.{ℕ, ◌-◌, Bool, true, cond, ◌&&◌, nat_eq, List, [], ◌∷◌, ◌++◌, codes, length, take, Option, Some, None}
 use Rattle.std.specs.List.{flat_map}
 use Rattle.std.specs.Fmt.{decimal}
 use Rattle.sqpage.specs.Faults.{number_of, name_of}
@@ -9,7 +9,14 @@ use Rattle.sqview.specs.declared.view_error.ViewError.TheVariants as refusals
 use Rattle.sqjudge.specs.declared.judgment.Judgment.{Judgment}
 use Rattle.sqjudge.specs.declared.judgment.Judgment.TheVariants as judgments
 use Rattle.sqcrash.specs.declared.marked.CommitFault.{CommitFault}
-use Rattle.sqcrash.specs.declared.survey.Finding.{Finding}
+use Rattle.sqplay.specs.declared.trace.Kind.{Kind}
+use Rattle.sqplay.specs.declared.trace.Kind.TheVariants as kinds
+use Rattle.sqplay.specs.declared.trace.Subject.{Subject}
+use Rattle.sqplay.specs.declared.trace.Subject.TheVariants as subjects
+use Rattle.sqmissing.specs.declared.missing.Missing.{Missing}
+use Rattle.sqcrash.specs.Told.{Told}
+use Rattle.sqcrash.specs.declared.stopped.Stopped.{Stopped}
+use Rattle.sqcrash.specs.declared.plan.Plan.{Plan}
 
 -- a fault of a page
 abbrev pub fault_text : (page : ℕ) → Fault → List ℕ
@@ -33,12 +40,85 @@ wrong_text known (judgments.Fault e) = fault_text e.page e.fault
 wrong_text known (judgments.Refused e) = refusal_text e
 
 -- the line of a finding at a point, without its end
-abbrev pub line_text : (point known : ℕ) → Finding → List ℕ
-line_text point known f = codes "point " ++ (decimal point ++ (codes " image " ++ (decimal f.image ++ (codes ": " ++ wrong_text known f.judgment))))
+abbrev pub line_text : (point known image : ℕ) → Judgment → List ℕ
+line_text point known image j = codes "point " ++ (decimal point ++ (codes " image " ++ (decimal image ++ (codes ": " ++ wrong_text known j))))
 
--- the lines of findings at a point, each with its end
-abbrev pub lines_text : (point known : ℕ) → List Finding → List ℕ
-lines_text point known found = flat_map (λ f. line_text point known f ++ 10 ∷ []) found
+-- what a record is of
+abbrev pub subject_text : Subject → List ℕ
+subject_text subjects.Db = codes "db"
+subject_text subjects.Wal = codes "wal"
+subject_text subjects.Journal = codes "journal"
+subject_text subjects.Folder = codes "folder"
+subject_text subjects.Marks = codes "marks"
+subject_text subjects.Other = codes "other"
+
+-- a call: of a write the place and the bytes, of a truncation the length
+abbrev pub call_text : Kind → Subject → (place count : ℕ) → List ℕ
+call_text kinds.Base s place count = codes "begin " ++ subject_text s
+call_text kinds.Open s place count = codes "create " ++ subject_text s
+call_text kinds.Close s place count = codes "close " ++ subject_text s
+call_text kinds.Write s place count = codes "write " ++ (subject_text s ++ (codes " " ++ (decimal place ++ (codes "+" ++ decimal count))))
+call_text kinds.Cut s place count = codes "truncate " ++ (subject_text s ++ (codes " to " ++ decimal place))
+call_text kinds.Sync s place count = codes "sync " ++ subject_text s
+call_text kinds.Unlink s place count = codes "unlink " ++ subject_text s
+call_text kinds.Rename s place count = codes "rename " ++ subject_text s
+call_text kinds.FolderSync s place count = codes "sync " ++ subject_text s
+call_text kinds.Mark s place count = codes "mark"
+call_text kinds.NotHeld s place count = codes "call " ++ subject_text s
+call_text kinds.End s place count = codes "end " ++ subject_text s
+
+-- sectors from a first to a last one
+abbrev pub range_text : (first last : ℕ) → List ℕ
+range_text first last = codes " " ++ cond (nat_eq first last) (decimal first) (decimal first ++ (codes "-" ++ decimal last))
+
+-- the line of a call that isn't down, up to its sectors
+abbrev pub down_text : (number : ℕ) → Kind → Subject → (place count : ℕ) → List ℕ
+down_text number kind s place count = codes "  not down: record " ++ (decimal number ++ (codes ": " ++ (call_text kind s place count ++ codes ", sectors")))
+
+-- and sectors in ranges
+abbrev pub ranges_text : List (ℕ × ℕ) → List ℕ
+ranges_text ranges = flat_map (λ r. range_text r.0 r.1) ranges
+
+-- the line of a call that isn't down, with its end
+abbrev pub missing_text : Missing → List ℕ
+missing_text m = down_text m.number m.kind m.subject m.place m.count ++ (ranges_text m.sectors.items ++ 10 ∷ [])
+
+-- how many more there are, without the line's end
+abbrev pub count_text : ℕ → List ℕ
+count_text n = codes "  .. " ++ (decimal n ++ codes " more")
+
+-- with it; nothing where there are none
+abbrev pub more_text : ℕ → List ℕ
+more_text n = cond (nat_eq n 0) [] (count_text n ++ 10 ∷ [])
+
+-- the lines of calls that aren't down, 20 at most
+abbrev pub missings_text : List Missing → List ℕ
+missings_text missing = flat_map missing_text (take 20 missing) ++ more_text (length missing - 20)
+
+-- the line of the record behind which the machine stopped, without its end
+abbrev pub stopped_text : Stopped → List ℕ
+stopped_text at = codes "  stopped behind record " ++ (decimal at.number ++ (codes ": " ++ call_text at.kind at.subject at.place at.count))
+
+-- why something is wrong: where the machine stopped, and what isn't down
+abbrev pub why_text : Stopped → List Missing → List ℕ
+why_text at missing = (stopped_text at ++ 10 ∷ []) ++ missings_text missing
+
+-- the lines of a finding: what is wrong, and where it is asked for, why
+abbrev pub finding_text : (why : Bool) → Stopped → Told → List ℕ
+finding_text why at f = (line_text at.point at.known f.image f.judgment ++ 10 ∷ []) ++ cond why (why_text at f.missing) []
+
+-- a number is the one that is asked for, if one is
+abbrev pub is_asked : Option ℕ → (n : ℕ) → Bool
+is_asked None n = true
+is_asked (Some m) n = nat_eq m n
+
+-- the lines of what is asked for of a finding
+abbrev pub asked_text : Plan → Stopped → Told → List ℕ
+asked_text plan at f = cond (is_asked plan.point at.point && is_asked plan.image f.image) (finding_text plan.why at f) []
+
+-- the lines of findings at a point
+abbrev pub lines_text : Plan → Stopped → List Told → List ℕ
+lines_text plan at found = flat_map (asked_text plan at) found
 
 -- the line of a commit that isn't well formed, without its end
 abbrev pub commit_text : CommitFault → List ℕ

@@ -1,18 +1,19 @@
 -- A trace is played, and the images of its points are judged (own).
 use Rattle.std.specs.Prelude.{◌≡◌, ℕ, Bool, true, false, ◌&&◌, nat_eq, List, [], ◌∷◌, ◌++◌, length, map}
-use Rattle.sqplay.specs.Trace.{IsTrace}
+use Rattle.sqplay.specs.Trace.{IsTrace, bytes_of}
 use Rattle.sqplay.specs.declared.trace.Kind.{Kind}
 use Rattle.sqplay.specs.declared.trace.Kind.TheVariants as kinds
 use Rattle.sqplay.specs.declared.trace.Record.{Record}
 use Rattle.sqplay.specs.declared.trace.Trace.{Trace}
 use Rattle.sqjudge.specs.Shown.{commit_of}
-use Rattle.sqcrash.specs.Runs.{RunState, run_of, no_run, with_marked, PlaysOne}
+use Rattle.sqcrash.specs.Runs.{RunState, run_of, no_run, with_marked, with_why, PlaysOne}
 use Rattle.sqcrash.specs.Marked.{are_at_marks, AreMarked}
 use Rattle.sqcrash.specs.Surveys.{no_tally, IsSurvey}
 use Rattle.sqcrash.specs.Lines.{lines_text, commits_text}
 use Rattle.sqcrash.specs.declared.marked.Marked.{Marked}
 use Rattle.sqcrash.specs.declared.survey.Tally.{Tally}
-use Rattle.sqcrash.specs.declared.survey.Finding.{Finding}
+use Rattle.sqcrash.specs.Told.{Told}
+use Rattle.sqcrash.specs.declared.stopped.Stopped.{Stopped}
 use Rattle.sqcrash.specs.declared.survey.Survey.{Survey}
 use Rattle.sqcrash.specs.declared.plan.Plan.{Plan}
 use Rattle.sqcrash.specs.declared.rig.Rig.{Rig}
@@ -38,28 +39,40 @@ abbrev pub rig_of : Rig → RigState
 rig_of r = record { run = run_of r.run; tally = r.tally }
 
 -- the images of a point are judged, by which this is found; or there is no point, and nothing is counted or found
-abbrev pub JudgesWhere : (point : Bool) → (limit : ℕ) → RunState → (old new : Tally) → List Finding → Type 0
+abbrev pub JudgesWhere : (point : Bool) → (limit : ℕ) → RunState → (old new : Tally) → List Told → Type 0
 JudgesWhere true limit run old new found = (s : Survey) × IsSurvey run limit old s × (new ≡ s.tally) × (found ≡ s.findings.items)
 JudgesWhere false limit run old new found = (new ≡ old) × (found ≡ [])
 
 -- one record of a trace is played and judged, by which this is found
-abbrev pub Judges : Plan → List ℕ → Record → (old new : RigState) → List Finding → Type 0
+abbrev pub Judges : Plan → List ℕ → Record → (old new : RigState) → List Told → Type 0
 Judges plan b r old new found = PlaysOne b r old.run new.run × JudgesWhere (is_point plan.every r) plan.images new.run old.tally new.tally found
 
--- the lines of what is found at a rig's last point
-abbrev pub lines_at : RigState → List Finding → List ℕ
-lines_at rig found = lines_text rig.tally.points rig.run.known found
+-- where the machine stops, behind a record
+abbrev pub stopped_at : List ℕ → Record → RigState → Stopped
+stopped_at b r rig = record {
+  point = rig.tally.points;
+  known = rig.run.known;
+  number = rig.run.played;
+  kind = r.kind;
+  subject = r.subject;
+  place = r.place;
+  count = length (bytes_of b r);
+}
+
+-- the lines of what is found at a rig's last point, which came behind a record
+abbrev pub lines_at : Plan → List ℕ → Record → RigState → List Told → List ℕ
+lines_at plan b r rig found = lines_text plan (stopped_at b r rig) found
 
 -- records, one after the other, and the lines of what is found
 abbrev pub JudgesAll : Plan → List ℕ → List Record → (old new : RigState) → (lines : List ℕ) → Type 0
 JudgesAll plan b [] old new lines = (new ≡ old) × (lines ≡ [])
 JudgesAll plan b (r ∷ records) old new lines =
-    (mid : RigState) × (found : List Finding) × (rest : List ℕ)
-    × Judges plan b r old mid found × JudgesAll plan b records mid new rest × (lines ≡ lines_at mid found ++ rest)
+    (mid : RigState) × (found : List Told) × (rest : List ℕ)
+    × Judges plan b r old mid found × JudgesAll plan b records mid new rest × (lines ≡ lines_at plan b r mid found ++ rest)
 
 -- nothing was played yet
 abbrev pub no_rig : Plan → RigState
-no_rig plan = record { run = no_run plan.promise plan.sector plan.tears plan.meta; tally = no_tally }
+no_rig plan = record { run = with_why plan.why plan.sector (no_run plan.promise plan.sector plan.tears plan.meta); tally = no_tally }
 
 -- a rig of which the commits are those at marks; each that isn't well formed is a fault that is counted
 abbrev pub marked_rig : RigState → Marked → RigState
@@ -73,7 +86,7 @@ marked_rig rig m = record {
 abbrev pub BeginsBy : (at_marks : Bool) → Plan → List ℕ → List Record → RigState → (lines : List ℕ) → Type 0
 BeginsBy false plan b records rig lines = (rig ≡ no_rig plan) × (lines ≡ [])
 BeginsBy true plan b records rig lines =
-    (m : Marked) × AreMarked (no_rig plan).run b records m × (rig ≡ marked_rig (no_rig plan) m) × (lines ≡ commits_text m.faults.items)
+    (m : Marked) × AreMarked (no_run plan.promise plan.sector plan.tears plan.meta) b records m × (rig ≡ marked_rig (no_rig plan) m) × (lines ≡ commits_text m.faults.items)
 
 abbrev pub BeginsRig : Plan → List ℕ → List Record → RigState → (lines : List ℕ) → Type 0
 BeginsRig plan b records rig lines = BeginsBy (are_at_marks plan.commits) plan b records rig lines

@@ -1,5 +1,5 @@
 -- A recorded run: what it committed, what a crash may leave of it, and what is known to be durable (own).
-use Rattle.std.specs.Prelude.{◌≡◌, ◌≢◌, ◌⊎◌, ℕ, max, Bool, cond, List, [], ◌∷◌, ◌++◌, map, reverse}
+use Rattle.std.specs.Prelude.{◌≡◌, ◌≢◌, ◌⊎◌, ℕ, ◌+◌, max, Bool, cond, List, [], ◌∷◌, ◌++◌, length, map, reverse, Option, Some, None}
 use Rattle.sqplay.specs.Plays.{Files, files_of, no_files, Step}
 use Rattle.sqplay.specs.Trace.{bytes_of}
 use Rattle.sqplay.specs.declared.meta.Meta.{Meta}
@@ -9,6 +9,12 @@ use Rattle.sqplay.specs.declared.trace.Record.{Record}
 use Rattle.sqimages.specs.Left.{IsPresent}
 use Rattle.sqimages.specs.declared.image.Image.{Image}
 use Rattle.sqjudge.specs.Shown.{Commit, IsNoted, IsShowing, commit_of, commits_of}
+use Rattle.sqmissing.specs.Changes.{ChangeAnswer}
+use Rattle.sqmissing.specs.Missing.{file_in, AreMissing}
+use Rattle.sqmissing.specs.declared.change.Change.{Change}
+use Rattle.sqmissing.specs.declared.missing.Missing.{Missing}
+use Rattle.sqmissing.specs.declared.playing.Playing.{Playing}
+use Rattle.sqmissing.specs.declared.sectors.SectorSize.{SectorSize}
 use Rattle.sqcrash.specs.Promises.{IsMark, promised, IsSpokenOf}
 use Rattle.sqcrash.specs.declared.plan.CommitsAt.{CommitsAt}
 use Rattle.sqcrash.specs.declared.plan.CommitsAt.TheVariants as at
@@ -17,7 +23,8 @@ use Rattle.sqcrash.specs.declared.promise.Mark.{Mark}
 use Rattle.sqcrash.specs.declared.run.Run.{Run}
 
 -- What a crash may leave of the files; the committed databases, the oldest first, and the thread that made each; the
--- number of the last one that is known to be durable; and where commits are those at marks, these that aren't shown yet.
+-- number of the last one that is known to be durable; where commits are those at marks, these that aren't shown yet; how many
+-- records were played; and where it is to be told which calls aren't down, by sectors of this size, those that changed a file.
 pub record RunState : Type 0 where
   pub promise : Promise
   pub taken_at : CommitsAt
@@ -26,13 +33,20 @@ pub record RunState : Type 0 where
   pub commits : List Commit
   pub makers : List ℕ
   pub known : ℕ
+  pub played : ℕ
+  pub why : Option ℕ
+  pub kept : List Change
+
+abbrev pub size_of : Option SectorSize → Option ℕ
+size_of None = None
+size_of (Some size) = Some size.bytes
 
 abbrev pub run_of : Run → RunState
-run_of r = record { promise = r.promise; taken_at = r.taken_at; waiting = map commit_of (reverse r.waiting.items); files = files_of r.player; commits = commits_of r.history; makers = r.makers.items; known = r.known }
+run_of r = record { promise = r.promise; taken_at = r.taken_at; waiting = map commit_of (reverse r.waiting.items); files = files_of r.player; commits = commits_of r.history; makers = r.makers.items; known = r.known; played = r.played; why = size_of r.why; kept = r.kept.items }
 
 -- nothing was played yet
 abbrev pub no_run : Promise → (sector : ℕ) (tears : Bool) → Meta → RunState
-no_run promise sector tears meta = record { promise = promise; taken_at = at.Calls; waiting = []; files = no_files sector tears meta; commits = []; makers = []; known = 0 }
+no_run promise sector tears meta = record { promise = promise; taken_at = at.Calls; waiting = []; files = no_files sector tears meta; commits = []; makers = []; known = 0; played = 0; why = None; kept = [] }
 
 -- the database that the present files show is one more commit, which this thread made, where it isn't the last one's
 pub record Notes (thread : ℕ) (old new : RunState) : Type 0 where
@@ -67,9 +81,35 @@ Takes thread old new = TakesBy old.taken_at thread old new
 abbrev pub Begins : (thread : ℕ) (old new : RunState) → Type 0
 Begins thread old new = ((old.commits ≡ []) × Takes thread old new) ⊎ ((old.commits ≢ []) × (new ≡ old))
 
--- the files go over as a record says
-abbrev pub Goes : List ℕ → Record → (old new : RunState) → Type 0
-Goes b r old new = Step b r old.files new.files × (new ≡ record old { files = new.files })
+-- one call more, if it is one
+abbrev pub with_change : List Change → Option Change → List Change
+with_change changes None = changes
+with_change changes (Some c) = changes ++ c ∷ []
+
+-- a record of this number that changed a file is kept, with what it left there
+pub record KeepsChange (sector n : ℕ) (b : List ℕ) (r : Record) (before after : Files) (old new : List Change) : Type 0 where
+  pub playing : Playing
+  pub number : playing.number ≡ n
+  pub count : playing.count ≡ length (bytes_of b r)
+  pub was : Image
+  pub was_present : IsPresent before was
+  pub was_long : playing.was ≡ length (file_in r.subject was)
+  pub now : Image
+  pub is_present : IsPresent after now
+  pub change : Option Change
+  pub is_change : ChangeAnswer sector r playing (file_in r.subject now) change
+  pub kept : new ≡ with_change old change
+
+-- where it is to be told which calls aren't down
+abbrev pub KeepsBy : (why : Option ℕ) (number : ℕ) → List ℕ → Record → (before after : Files) → (old new : List Change) → Type 0
+KeepsBy None number b r before after old new = new ≡ old
+KeepsBy (Some sector) number b r before after old new = KeepsChange sector number b r before after old new
+
+-- the files go over as a record says, which is counted, and kept
+pub record Goes (b : List ℕ) (r : Record) (old new : RunState) : Type 0 where
+  pub step : Step b r old.files new.files
+  pub keeps : KeepsBy old.why (old.played + 1) b r old.files new.files old.kept new.kept
+  pub rest : new ≡ record old { files = new.files; played = old.played + 1; kept = new.kept }
 
 -- a call is played, and what it commits is taken
 abbrev pub Calls : List ℕ → Record → (old new : RunState) → Type 0
@@ -91,6 +131,18 @@ PlaysBy _ b r old new = Calls b r old new
 
 abbrev pub PlaysOne : List ℕ → Record → (old new : RunState) → Type 0
 PlaysOne b r old new = PlaysBy r.kind b r old new
+
+-- a run of which it is to be told, or not, which calls aren't down
+abbrev pub with_why : (why : Bool) (sector : ℕ) → RunState → RunState
+with_why why sector run = record run { why = cond why (Some sector) None }
+
+-- the calls that aren't down in an image, where these are to be told
+abbrev pub ExplainsBy : (why : Option ℕ) → List Change → Image → List Missing → Type 0
+ExplainsBy None changes image found = found ≡ []
+ExplainsBy (Some sector) changes image found = AreMissing sector image changes found
+
+abbrev pub Explains : RunState → Image → List Missing → Type 0
+Explains run image found = ExplainsBy run.why run.kept image found
 
 -- a run of which the commits are these, at marks
 abbrev pub with_marked : RunState → List Commit → RunState

@@ -1,11 +1,12 @@
 -- Images that are taken into a sample, each once (own).
-use Rattle.std.specs.Prelude.{◌≡◌, ◌⊎◌, ℕ, suc, ◌+◌, Bool, true, false, cond, nat_eq, ◌++◌}
+use Rattle.std.specs.Prelude.{◌≡◌, ◌⊎◌, ℕ, suc, ◌+◌, Bool, true, false, cond, nat_eq, List, ◌++◌}
 use Rattle.std.specs.HashSet.{contains}
 use Rattle.sqimages.specs.Keys.{key_of}
 use Rattle.sqimages.specs.declared.image.Image.{Image}
 use Rattle.sqcrash.specs.Runs.{RunState}
 use Rattle.sqcrash.specs.Surveys.{IsJudgedBy, with_image, finding_of}
 use Rattle.sqjudge.specs.declared.judgment.Judgment.{Judgment}
+use Rattle.sqmissing.specs.declared.missing.Missing.{Missing}
 use Rattle.sqcrash.specs.declared.sample.Sample.{Sample}
 use Rattle.sqcrash.specs.declared.survey.Survey.{Survey}
 
@@ -14,15 +15,15 @@ abbrev pub Takes : (key : ℕ) (taken : Bool) → (old new : Sample) → Type 0
 Takes key true old new = (contains nat_eq old.keys key ≡ false) × (old.left ≡ suc new.left) × ((q : ℕ) → contains nat_eq new.keys q ≡ cond (nat_eq key q) true (contains nat_eq old.keys q))
 Takes key false old new = ((old.left ≡ 0) ⊎ (contains nat_eq old.keys key ≡ true)) × (old.left ≡ new.left) × ((q : ℕ) → contains nat_eq new.keys q ≡ contains nat_eq old.keys q)
 
--- an image that is judged so is counted and told
-pub record Adds (j : Judgment) (old new : Survey) : Type 0 where
+-- an image that is judged so, and in which these calls aren't down, is counted and told
+pub record Adds (j : Judgment) (missing : List Missing) (old new : Survey) : Type 0 where
   pub tally : new.tally ≡ with_image old.tally j
-  pub findings : new.findings.items ≡ old.findings.items ++ finding_of old.next j
+  pub findings : new.findings.items ≡ old.findings.items ++ finding_of old.next j missing
   pub next : new.next ≡ old.next + 1
 
 -- one image more is judged
 abbrev pub TakesOne : RunState → Image → (old new : Survey) → Type 0
-TakesOne run image old new = (j : Judgment) × IsJudgedBy run (record { image = image; judgment = j }) × Adds j old new
+TakesOne run image old new = (j : Judgment) × (missing : List Missing) × IsJudgedBy run (record { image = image; judgment = j; missing = missing }) × Adds j missing old new
 
 -- an image is taken and judged, or passed over
 abbrev pub GoesOn : RunState → Image → (old new : Sample) → (before after : Survey) → Type 0

@@ -14,9 +14,10 @@ use Rattle.sqimages.specs.declared.torn.Which.TheVariants.{Db, Wal, Journal}
 use Rattle.sqjudge.specs.Judged.{IsFilesJudgment}
 use Rattle.sqjudge.specs.declared.judgment.Judgment.{Judgment}
 use Rattle.sqjudge.specs.declared.judgment.Judgment.TheVariants.{Kept, Lost, Mixed, Fault, Refused}
-use Rattle.sqcrash.specs.Runs.{RunState}
+use Rattle.sqcrash.specs.Runs.{RunState, Explains}
+use Rattle.sqcrash.specs.Told.{Told}
 use Rattle.sqcrash.specs.declared.survey.Tally.{Tally}
-use Rattle.sqcrash.specs.declared.survey.Finding.{Finding}
+use Rattle.sqmissing.specs.declared.missing.Missing.{Missing}
 use Rattle.sqcrash.specs.declared.survey.Survey.{Survey}
 
 -- this is the scan of an image's log, if there is one
@@ -63,10 +64,11 @@ one_if b = cond b 1 0
 abbrev pub with_image : Tally → Judgment → Tally
 with_image t j = record t { images = t.images + 1; lost = t.lost + one_if (is_lost j); mixed = t.mixed + one_if (is_mixed j); faults = t.faults + one_if (is_fault j) }
 
--- an image, and its judgment
+-- an image, its judgment, and the calls that aren't down in it, where these are told
 pub record Judged : Type 0 where
   pub image : Image
   pub judgment : Judgment
+  pub missing : List Missing
 
 abbrev pub judgments : List Judged → List Judgment
 judgments judged = map (λ x. x.judgment) judged
@@ -75,15 +77,15 @@ judgments judged = map (λ x. x.judgment) judged
 abbrev pub with_images : Tally → List Judgment → Tally
 with_images t js = record t { images = t.images + length js; lost = t.lost + count_by is_lost js; mixed = t.mixed + count_by is_mixed js; faults = t.faults + count_by is_fault js }
 
--- what is told of the image of a number: its judgment, where something is wrong
-abbrev pub finding_of : (n : ℕ) → Judgment → List Finding
-finding_of n (Kept k) = []
-finding_of n j = record { image = n; judgment = j } ∷ []
+-- what is told of the image of a number: its judgment, where something is wrong, and the calls that aren't down
+abbrev pub finding_of : (n : ℕ) → Judgment → List Missing → List Told
+finding_of n (Kept k) missing = []
+finding_of n j missing = record { image = n; judgment = j; missing = missing } ∷ []
 
 -- and of images one after the other, from a number on
-abbrev pub findings_from : (n : ℕ) → List Judgment → List Finding
+abbrev pub findings_from : (n : ℕ) → List Judged → List Told
 findings_from n [] = []
-findings_from n (j ∷ js) = finding_of n j ++ findings_from (suc n) js
+findings_from n (x ∷ judged) = finding_of n x.judgment x.missing ++ findings_from (suc n) judged
 
 -- nothing is found yet at the next point
 pub record IsBegun (before : Tally) (s : Survey) : Type 0 where
@@ -91,15 +93,21 @@ pub record IsBegun (before : Tally) (s : Survey) : Type 0 where
   pub findings : s.findings.items ≡ []
   pub next : s.next ≡ 0
 
--- each image has its judgment, by the commits of the run
-abbrev pub IsJudgedBy : RunState → Judged → Type 0
-IsJudgedBy run x = IsFilesJudgment run.commits run.known x.image.db.items x.image.wal.items x.image.journal.items x.judgment
+-- the calls that aren't down in an image, where something is wrong with it
+abbrev pub ExplainsWrong : RunState → Image → Judgment → List Missing → Type 0
+ExplainsWrong run image (Kept k) missing = missing ≡ []
+ExplainsWrong run image j missing = Explains run image missing
+
+-- an image has its judgment, by the commits of the run, and these calls aren't down in it
+pub record IsJudgedBy (run : RunState) (x : Judged) : Type 0 where
+  pub judged : IsFilesJudgment run.commits run.known x.image.db.items x.image.wal.items x.image.journal.items x.judgment
+  pub missing : ExplainsWrong run x.image x.judgment x.missing
 
 -- images are judged, counted and told, by their numbers at the point
 pub record Tells (run : RunState) (judged : List Judged) (old new : Survey) : Type 0 where
   pub each : All (IsJudgedBy run) judged
   pub tally : new.tally ≡ with_images old.tally (judgments judged)
-  pub findings : new.findings.items ≡ old.findings.items ++ findings_from old.next (judgments judged)
+  pub findings : new.findings.items ≡ old.findings.items ++ findings_from old.next judged
   pub next : new.next ≡ old.next + length judged
 
 -- images are those of the numbers from n on

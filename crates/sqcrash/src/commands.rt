@@ -97,6 +97,25 @@ fn command<'a>(alloc: Global) -> Result<Command<'a>, AllocError> {
             "Commits are what the files show after each call, or at marks alone, each checked; calls if left out",
         )
         .value_parser(commits))?
+        .arg(flag(
+            alloc,
+            "why",
+            "Tells of each image with a line behind which record the machine stopped, and which calls aren't down",
+        ))?
+        .arg(option(
+            alloc,
+            "point",
+            "P",
+            "Writes lines of point P alone, counted from 1",
+        )
+        .value_parser(value_parser!(u64)))?
+        .arg(option(
+            alloc,
+            "image",
+            "I",
+            "Writes lines of image I of a point alone, counted from 0",
+        )
+        .value_parser(value_parser!(u64)))?
         .arg(option(
             alloc,
             "keep",
@@ -142,6 +161,9 @@ fn matched<'a>(matches: &ArgMatches<'a>) -> Option<Request<'a>>
         every: matches.get_flag("every"),
         promise,
         commits: commits_at(matches),
+        why: matches.get_flag("why"),
+        point: matches.get_one::<u64>("point"),
+        image: matches.get_one::<u64>("image"),
     };
     Some(Request {
         trace: matches.get_str("TRACE")?,

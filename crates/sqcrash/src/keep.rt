@@ -2,7 +2,9 @@
 ghost use Rattle.std.specs.Prelude.{◌≡◌, IfErr, IfOk, IsSome};
 ghost use Rattle.sqcrash.specs.declared.outcome.Refusal.TheVariants.{FileFailed};
 
+use crate::explained::is_asked;
 use crate::outcome::Refusal;
+use crate::plan::Plan;
 use sqimages::Image;
 use std::rt::Files;
 use std::{fs, io};
@@ -22,12 +24,15 @@ pub struct Folder<'a, R> {
     rt: &'a R,
     path: Option<&'a str>,
     kept: u64,
+    /// The point and the image that are asked for, where they are.
+    point: Option<u64>,
+    image: Option<u64>,
 }
 
 impl<'a, R: Files + AllocGlobal> Folder<'a, R> {
     /// The folder of this path, which is made where it isn't there; where there is no path, nothing is kept. Refused by
-    /// FileFailed.
-    pub fn new(rt: &'a R, path: Option<&'a str>) -> Result<Folder<'a, R>, Refusal>
+    /// FileFailed. Images that aren't asked for are left out.
+    pub fn new(rt: &'a R, path: Option<&'a str>, plan: Plan) -> Result<Folder<'a, R>, Refusal>
         ensures path { IfOk result (λ folder. folder.path ≡ path.entry) }
         ensures none { IfOk result (λ folder. folder.kept ≡ 0) }
         ensures failed { IfErr result (λ refusal. IsSome path.entry × (refusal ≡ FileFailed)) }
@@ -35,7 +40,13 @@ impl<'a, R: Files + AllocGlobal> Folder<'a, R> {
         if let Some(folder) = path {
             make(rt, folder)?;
         }
-        Ok(Folder { rt, path, kept: 0 })
+        Ok(Folder {
+            rt,
+            path,
+            kept: 0,
+            point: plan.point,
+            image: plan.image,
+        })
     }
 }
 
@@ -78,6 +89,9 @@ impl<R: Files + AllocGlobal> Keeper for Folder<'_, R> {
         let Some(folder) = self.path else {
             return Ok(());
         };
+        if !is_asked(self.point, point) || !is_asked(self.image, number) {
+            return Ok(());
+        }
         if self.kept >= MOST {
             return Ok(());
         }

@@ -1,10 +1,9 @@
 //! The lines that are printed of what is wrong with images (own).
 ghost use Rattle.std.specs.Prelude.{OnOk};
 ghost use Rattle.std.specs.Io.KnownBytes.{Appends};
-ghost use Rattle.sqcrash.specs.Lines.{lines_text, commits_text};
+ghost use Rattle.sqcrash.specs.Lines.{commits_text};
 
 use crate::marked::CommitFault;
-use crate::survey::Finding;
 use sqjudge::Judgment;
 use sqpage::{CheckError, Fault};
 use sqview::ViewError;
@@ -76,51 +75,28 @@ impl fmt::Display for Wrong {
 
 /// The line of a finding at a point.
 #[derive(Clone, Copy)]
-struct Line {
-    point: u64,
-    known: usize,
-    finding: Finding,
+pub struct Line {
+    pub point: u64,
+    pub known: usize,
+    pub image: u64,
+    pub judgment: Judgment,
 }
 
 impl fmt::Display for Line {
     ghost use Rattle.std.specs.Prelude.{Some};
     ghost use Rattle.sqcrash.specs.Lines.{line_text};
 
-    ghost output = { λ x. Some (line_text x.point x.known x.finding) };
+    ghost output = { λ x. Some (line_text x.point x.known x.image x.judgment) };
 
     fn fmt<W: fmt::Write>(&self, f: &mut fmt::Formatter<W>) -> fmt::Result {
-        let Finding { image, judgment } = self.finding;
-        let (point, known) = (self.point, self.known);
+        let (point, image) = (self.point, self.image);
+        let (known, judgment) = (self.known, self.judgment);
         write!(
             f,
             "point {point} image {image}: {}",
             Wrong { known, judgment }
         )
     }
-}
-
-/// Writes a line for each finding of a point, in their order.
-pub fn write_findings<O: Write>(
-    out: &mut O,
-    point: u64,
-    known: usize,
-    findings: &[Finding],
-) -> io::Result<()>
-    ensures { OnOk result (Appends (O.contents out.old) (O.contents out.new) (lines_text point known findings.now)) }
-{
-    for finding in findings {
-        let finding = *finding;
-        writeln!(
-            out,
-            "{}",
-            Line {
-                point,
-                known,
-                finding
-            }
-        )?;
-    }
-    Ok(())
 }
 
 /// The line of a commit that isn't well formed.

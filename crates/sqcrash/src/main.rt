@@ -4,6 +4,8 @@
 ghost use Rattle.std.specs.Prelude.{◌≤◌, IfOk};
 
 mod commands;
+mod explained;
+mod finding;
 mod keep;
 mod lines;
 mod marked;
@@ -15,6 +17,7 @@ mod requests;
 mod rig;
 mod run;
 mod sample;
+mod stopped;
 mod survey;
 
 use std::env::{self, Env};

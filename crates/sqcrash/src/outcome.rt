@@ -1,4 +1,6 @@
 //! What comes of a run, or why it was refused.
+ghost use Rattle.std.specs.Prelude.{◌≡◌, ◌+◌, IfOk};
+
 use crashdisk::DiskError;
 use sqjudge::SnapshotError;
 use sqplay::{PlayError, TraceError};
@@ -80,5 +82,15 @@ impl From<io::Error> for Refusal {
 
     fn from(_error: io::Error) -> Refusal {
         Refusal::Unwritten
+    }
+}
+
+/// One more.
+pub fn more(count: u64) -> Result<u64, Refusal>
+    ensures { IfOk result (λ n. n ≡ count + 1) }
+{
+    match count.checked_add(1) {
+        Some(n) => Ok(n),
+        None => Err(Refusal::TooMany),
     }
 }

@@ -33,5 +33,11 @@ pub struct Plan {
     pub promise: Promise,
     /// Which databases are commits.
     pub commits: CommitsAt,
+    /// Whether it is told of an image with something wrong which calls aren't down.
+    pub why: bool,
+    /// The point of which lines are written, counted from 1; all where there is none.
+    pub point: Option<u64>,
+    /// The image at its point of which a line is written, counted from 0; all where there is none.
+    pub image: Option<u64>,
     ghost is_size: { IsTrue (is_sector_size sector) },
 }

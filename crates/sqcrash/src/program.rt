@@ -6,8 +6,9 @@ ghost use Rattle.std.specs.declared.io.ErrorKind.TheVariants.{OutOfMemory};
 ghost use Rattle.sqcrash.specs.Rigs.{IsJudgment, BeginsRig, rig_of};
 
 use crate::commands::request;
+use crate::explained::write_findings;
 use crate::keep::{Folder, Keeper};
-use crate::lines::{write_commits, write_findings};
+use crate::lines::write_commits;
 use crate::marked::{are_at_marks, take_marked};
 use crate::outcome::Refusal;
 use crate::plan::Plan;
@@ -69,7 +70,7 @@ fn carried_out<R: Files + AllocGlobal, O: Write>(
     out: &mut O,
 ) -> Result<Tally, Refusal> {
     let bytes = read(rt, request.trace)?;
-    let mut folder = Folder::new(rt, request.keep)?;
+    let mut folder = Folder::new(rt, request.keep, request.plan)?;
     let tally = judge_trace(rt.alloc(), request.plan, &bytes, &mut folder, out)?;
     line(out, &tally)?;
     Ok(tally)
@@ -137,7 +138,7 @@ fn judge_records<K: Keeper, O: Write>(
     let mut rig = begun(alloc, plan, bytes, trace.records.as_slice(), out)?;
     for call in &trace.records {
         let findings = rig.play(bytes, call, keeper)?;
-        write_findings(out, rig.tally().points, rig.known(), &findings)?;
+        write_findings(out, plan, rig.stopped(bytes, call), &findings)?;
     }
     Ok(rig.tally())
 }

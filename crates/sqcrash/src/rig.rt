@@ -2,12 +2,14 @@
 ghost use Rattle.std.specs.Prelude.{◌≡◌};
 ghost use Rattle.sqcrash.specs.Rigs.{is_point};
 
+use crate::finding::Finding;
 use crate::keep::Keeper;
 use crate::marked::Marked;
 use crate::outcome::Refusal;
 use crate::plan::Plan;
 use crate::run::Run;
-use crate::survey::{Finding, Tally, judge_images};
+use crate::stopped::Stopped;
+use crate::survey::{Tally, judge_images};
 use rand_pcg::Pcg32;
 use sqplay::{Kind, Record};
 use std::alloc::Global;
@@ -36,21 +38,23 @@ fn is_point(every: bool, call: &Record) -> bool
 
 impl Rig {
     ghost use Rattle.std.specs.Prelude.{◌≡◌, OnOk, IfOk};
-    ghost use Rattle.sqcrash.specs.Runs.{no_run, run_of};
+    ghost use Rattle.sqcrash.specs.Runs.{run_of};
     ghost use Rattle.sqcrash.specs.Surveys.{no_tally};
-    ghost use Rattle.sqcrash.specs.Rigs.{rig_of, marked_rig, Judges};
+    ghost use Rattle.sqcrash.specs.Rigs.{rig_of, no_rig, marked_rig, stopped_at, Judges};
 
     /// Nothing is played yet.
     pub fn new(alloc: Global, plan: Plan) -> Rig
-        ensures run { run_of result.run ≡ no_run plan.promise plan.sector plan.tears plan.meta }
+        ensures run { run_of result.run ≡ (no_rig plan).run }
         ensures tally { result.tally ≡ no_tally }
         ensures plan { result.plan ≡ plan }
     {
+        let mut run = Run::new(alloc, plan.promise, plan.sector, plan.tears, plan.meta);
+        run.explain(plan.why, plan.sector);
         Rig {
             alloc,
             plan,
             rng: Pcg32::new(plan.seed, 1),
-            run: Run::new(alloc, plan.promise, plan.sector, plan.tears, plan.meta),
+            run,
             tally: Tally::none(),
         }
     }
@@ -71,11 +75,19 @@ impl Rig {
         self.tally
     }
 
-    /// The number of the last commit that is known to be durable.
-    pub fn known(&self) -> usize
-        ensures { result ≡ (run_of self.now.run).known }
+    /// Where the machine stops behind a record, which was played last.
+    pub fn stopped(&self, trace: &[u8], call: &Record) -> Stopped
+        ensures { result ≡ stopped_at trace.now call.now (rig_of self.now) }
     {
-        self.run.known()
+        Stopped {
+            point: self.tally.points,
+            known: self.run.known(),
+            number: self.run.played(),
+            kind: call.kind,
+            subject: call.subject,
+            place: call.place,
+            count: call.bytes(trace).len() as u64,
+        }
     }
 
     /// Plays one record of its trace, and where it is a point judges what a crash may leave there. Answers what is

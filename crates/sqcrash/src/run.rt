@@ -1,22 +1,50 @@
 //! A recorded run: what it committed, and what is known to be durable (own).
-ghost use Rattle.std.specs.Prelude.{◌≡◌, IsTrue, OnOk, IfOk};
+ghost use Rattle.std.specs.Prelude.{◌≡◌, ◌<◌, ◌^◌, length, IsTrue, OnOk, IfOk, cond};
 ghost use Rattle.crashdisk.specs.Solid.{is_sector_size};
 ghost use Rattle.sqplay.specs.Plays.{files_of};
+ghost use Rattle.sqcrash.specs.Runs.{size_of};
 
-use crate::outcome::Refusal;
+use crate::outcome::{Refusal, more};
 use crate::plan::CommitsAt;
 use crate::promise::{Mark, Promise};
 use sqimages::Image;
 use sqjudge::{
     History, Judgment, Snapshot, fault_in_files, files_show, judge_files, judge_scanned,
 };
+use sqmissing::{Change, Missing, Playing, SectorSize, change_of, file_in, missing_calls};
 use sqpage::CheckError;
-use sqplay::{Kind, Meta, Player, Record};
+use sqplay::{Kind, Meta, Player, Record, Subject};
 use sqwal::Scan;
 use std::alloc::Global;
 
 /// How many bytes of a record stand in front of those that it carries.
 const HEAD_LEN: usize = 40;
+
+/// The size of a sector, where it is to be told which calls aren't down.
+fn size_if(why: bool, sector: usize) -> Option<SectorSize>
+    requires { IsTrue (is_sector_size sector) }
+    ensures { size_of result ≡ cond why (Some sector) None }
+{
+    if why {
+        Some(SectorSize::new(sector))
+    } else {
+        None
+    }
+}
+
+/// A record of this number that carries these bytes, and before which its file was so long.
+fn playing_of(number: u64, bytes: &[u8], was: u64) -> Playing
+    requires { was < 2 ^ 63 }
+    ensures number { result.number ≡ number }
+    ensures count { result.count ≡ length bytes.now }
+    ensures was { result.was ≡ was }
+{
+    Playing {
+        number,
+        count: bytes.len() as u64,
+        was,
+    }
+}
 
 /// A run that is being played.
 #[derive(Drop)]
@@ -34,17 +62,28 @@ pub struct Run {
     known: usize,
     /// The present files, as they were last looked at.
     present: Image,
+    /// How many records were played.
+    played: u64,
+    /// The size of a sector, where it is to be told which calls aren't down in an image.
+    why: Option<SectorSize>,
+    /// Then the calls that changed a file.
+    kept: Vec<Change>,
 }
 
 impl Run {
-    ghost use Rattle.std.specs.Prelude.{length, map};
+    ghost use Rattle.std.specs.Prelude.{map};
     ghost use Rattle.sqplay.specs.Trace.{bytes_of};
     ghost use Rattle.sqjudge.specs.Shown.{commit_of};
     ghost use Rattle.sqjudge.specs.Judged.{IsFilesJudgment};
     ghost use Rattle.sqcrash.specs.Promises.{IsSpokenOf};
     ghost use Rattle.sqcrash.specs.Surveys.{IsScanOf};
     ghost use Rattle.sqcrash.specs.Runs.{run_of, no_run, with_marked, Notes, Takes, TakesWaiting};
-    ghost use Rattle.sqcrash.specs.Runs.{Begins, Goes, Calls, Marks, PlaysOne};
+    ghost use Rattle.sqcrash.specs.Runs.{Begins, Goes, Calls, Marks, PlaysOne, Explains, with_why, with_change};
+    ghost use Rattle.sqcrash.specs.Goings.{GoesKept, GoesPlain};
+    ghost use Rattle.sqimages.specs.Left.{IsPresent};
+    ghost use Rattle.sqmissing.specs.Changes.{ChangeAnswer};
+    ghost use Rattle.sqmissing.specs.Missing.{file_in};
+    ghost use Rattle.sqplay.specs.Plays.{Step};
     ghost use Rattle.sqcrash.specs.Snapshots.{NotesImage, NotesFault, IsFaultIn, ShowsLastOf, TakesLastOf};
 
     /// Nothing is played yet. The disks have sectors of this size, a power of two from 512 to 65536 bytes, and tear or
@@ -63,6 +102,34 @@ impl Run {
             makers: Vec::new(alloc),
             known: 0,
             present: Image::none(alloc),
+            played: 0,
+            why: None,
+            kept: Vec::new(alloc),
+        }
+    }
+
+    /// It is to be told, or not, which calls aren't down, by sectors of this size.
+    pub fn explain(&mut self, why: bool, sector: usize)
+        requires { IsTrue (is_sector_size sector) }
+        ensures { run_of self.new ≡ with_why why sector (run_of self.old) }
+    {
+        self.why = size_if(why, sector);
+    }
+
+    /// How many records were played.
+    pub fn played(&self) -> u64
+        ensures { result ≡ (run_of self.now).played }
+    {
+        self.played
+    }
+
+    /// The calls that aren't down in an image, where these are to be told.
+    pub fn missing(&self, image: &Image) -> Result<Vec<Missing>, Refusal>
+        ensures { IfOk result (λ found. Explains (run_of self.now) image.now found.items) }
+    {
+        match self.why {
+            Some(size) => Ok(missing_calls(self.alloc, size, &self.kept, image)?),
+            None => Ok(Vec::new(self.alloc)),
         }
     }
 
@@ -240,13 +307,88 @@ impl Run {
         self.take(thread)
     }
 
-    /// Plays the call of a record. Refused by Record, after which nothing is said of the run.
-    pub fn go(&mut self, trace: &[u8], call: &Record) -> Result<(), Refusal>
-        ensures { OnOk result (Goes trace.now call.now (run_of self.old) (run_of self.new)) }
+    /// Looks at the present files, and answers how long one of them is, in bytes.
+    fn length_of(&mut self, subject: Subject) -> Result<u64, Refusal>
+        ensures long { IfOk result (λ n. (n ≡ length (file_in subject self.new.present)) × (n < 2 ^ 63)) }
+        ensures present { OnOk result (IsPresent (run_of self.old).files self.new.present) }
+        ensures same { OnOk result (run_of self.new ≡ run_of self.old) }
+    {
+        self.present.set_present(&self.player)?;
+        Ok(file_in(subject, &self.present).len() as u64)
+    }
+
+    /// The files go over as a record says. Refused by Record.
+    fn move_files(&mut self, trace: &[u8], call: &Record) -> Result<(), Refusal>
+        ensures step { OnOk result (Step trace.now call.now (run_of self.old).files (run_of self.new).files) }
+        ensures rest { OnOk result
+            (run_of self.new ≡ record (run_of self.old) { files = (run_of self.new).files }) }
     {
         match self.player.play(trace, call) {
             Ok(()) => Ok(()),
             Err(error) => Err(Refusal::Record(call.from.saturating_sub(HEAD_LEN), error)),
+        }
+    }
+
+    /// The change of a record that was played, behind which the files are as they were looked at last.
+    fn change_by(
+        &self,
+        call: &Record,
+        size: SectorSize,
+        playing: Playing,
+    ) -> Result<Option<Change>, Refusal>
+        ensures { IfOk result
+            (ChangeAnswer size.bytes call.now playing (file_in call.now.subject self.now.present)) }
+    {
+        let present = file_in(call.subject, &self.present);
+        Ok(change_of(self.alloc, size, call, playing, present)?)
+    }
+
+    /// Keeps a change, if it is one.
+    fn keep(&mut self, change: Option<Change>) -> Result<(), Refusal>
+        ensures { OnOk result
+            (run_of self.new ≡ record (run_of self.old) { kept = with_change (run_of self.old).kept change }) }
+    {
+        match change {
+            Some(change) => {
+                self.kept.push(change)?;
+                Ok(())
+            }
+            None => Ok(()),
+        }
+    }
+
+    /// Plays the call of a record, and keeps it where it changed a file.
+    fn go_kept(&mut self, trace: &[u8], call: &Record, size: SectorSize) -> Result<(), Refusal>
+        ensures { OnOk result (GoesKept size.bytes trace.now call.now (run_of self.old) (run_of self.new)) }
+    {
+        let number = more(self.played)?;
+        let was = self.length_of(call.subject)?;
+        self.move_files(trace, call)?;
+        self.present.set_present(&self.player)?;
+        let playing = playing_of(number, call.bytes(trace), was);
+        let change = self.change_by(call, size, playing)?;
+        self.keep(change)?;
+        self.played = number;
+        Ok(())
+    }
+
+    /// Plays the call of a record.
+    fn go_plain(&mut self, trace: &[u8], call: &Record) -> Result<(), Refusal>
+        ensures { OnOk result (GoesPlain trace.now call.now (run_of self.old) (run_of self.new)) }
+    {
+        let number = more(self.played)?;
+        self.move_files(trace, call)?;
+        self.played = number;
+        Ok(())
+    }
+
+    /// Plays the call of a record. Refused by Record, TooMany and NoMemory, after which nothing is said of the run.
+    pub fn go(&mut self, trace: &[u8], call: &Record) -> Result<(), Refusal>
+        ensures { OnOk result (Goes trace.now call.now (run_of self.old) (run_of self.new)) }
+    {
+        match self.why {
+            Some(size) => self.go_kept(trace, call, size),
+            None => self.go_plain(trace, call),
         }
     }
 

@@ -3,14 +3,17 @@ ghost use Rattle.std.specs.Prelude.{◌≡◌, ◌+◌, OnOk, IfOk};
 ghost use Rattle.sqimages.specs.Images.{AreCounts};
 ghost use Rattle.sqcrash.specs.Runs.{run_of};
 ghost use Rattle.sqcrash.specs.Surveys.{IsNumberedSurvey, IsDrawnSurvey, IsUntornSurvey, IsSurvey, third_of};
+ghost use Rattle.sqcrash.specs.Surveys.{ExplainsWrong};
 
+use crate::finding::Finding;
 use crate::keep::Keeper;
-use crate::outcome::Refusal;
+use crate::outcome::{Refusal, more};
 use crate::run::Run;
 use crate::sample::{survey_drawn, survey_redrawn, survey_torn};
 use rand_core::Rng;
 use sqimages::{Counts, Image, Which};
 use sqjudge::Judgment;
+use sqmissing::Missing;
 use sqwal::Scan;
 use std::alloc::Global;
 use std::fmt;
@@ -33,16 +36,6 @@ fn third_of(limit: u64) -> u64
     ensures { result ≡ third_of limit }
 {
     limit / 3 + u64::from(limit % 3 > 0)
-}
-
-/// One more.
-fn more(count: u64) -> Result<u64, Refusal>
-    ensures { IfOk result (λ n. n ≡ count + 1) }
-{
-    match count.checked_add(1) {
-        Some(n) => Ok(n),
-        None => Err(Refusal::TooMany),
-    }
 }
 
 impl Tally {
@@ -102,14 +95,6 @@ impl fmt::Display for Tally {
     }
 }
 
-/// What is wrong with an image.
-#[derive(Clone, Copy, Debug, PartialEq, Eq)]
-pub struct Finding {
-    /// The number of the image at its point, counted from 0.
-    pub image: u64,
-    pub judgment: Judgment,
-}
-
 /// What was found at a point so far.
 #[derive(Drop)]
 pub struct Survey {
@@ -138,15 +123,15 @@ impl Survey {
         })
     }
 
-    /// Counts an image, and keeps what is wrong with it.
-    fn add(&mut self, judgment: Judgment) -> Result<(), Refusal>
-        ensures { OnOk result (Adds judgment self.old self.new) }
+    /// Counts an image, and keeps what is wrong with it, and which calls aren't down in it.
+    fn add(&mut self, judgment: Judgment, missing: Vec<Missing>) -> Result<(), Refusal>
+        ensures { OnOk result (Adds judgment missing.items self.old self.new) }
     {
         self.tally = self.tally.with_image(&judgment)?;
         let image = self.next;
         self.next = more(image)?;
         if !matches!(judgment, Judgment::Kept(_)) {
-            self.findings.push(Finding { image, judgment })?;
+            self.findings.push(Finding::new(image, judgment, missing))?;
         }
         Ok(())
     }
@@ -163,10 +148,21 @@ impl Survey {
         ensures { IsScanOf image.now scan.now → OnOk result (TakesOne (run_of run.now) image.now self.old self.new) }
     {
         let judgment = run.judge_scanned(image, scan)?;
+        let missing = missing_in(run, image, &judgment)?;
         let number = self.next;
-        self.add(judgment)?;
+        self.add(judgment, missing)?;
         keep_wrong(keeper, self.tally.points, number, image, judgment)?;
         Ok(())
+    }
+}
+
+/// The calls that aren't down in an image, where something is wrong with it, and these are to be told.
+fn missing_in(run: &Run, image: &Image, judgment: &Judgment) -> Result<Vec<Missing>, Refusal>
+    ensures { IfOk result (λ found. ExplainsWrong (run_of run.now) image.now judgment.now found.items) }
+{
+    match judgment {
+        Judgment::Kept(_) => Ok(Vec::new(run.alloc())),
+        _ => run.missing(image),
     }
 }
 

@@ -1,6 +1,6 @@
 use Rattle.std.proofs.Common.{◌≡◌, Bool, List, [], refl, ◌∙◌, ap, subst}
 use Rattle.std.specs.Io.KnownBytes.{Appends}
-use Rattle.sqcrash.specs.Runs.{RunState, no_run}
+use Rattle.sqcrash.specs.Runs.{RunState}
 use Rattle.sqcrash.specs.Surveys.{no_tally}
 use Rattle.sqcrash.specs.Lines.{commits_text}
 use Rattle.sqcrash.specs.Rigs.{RigState, rig_of, no_rig, marked_rig, BeginsBy}
@@ -12,10 +12,10 @@ use Rattle.sqcrash.proofs.AppendedBytes.{appends_none}
 use Rattle.sqcrash.proofs.program.begun.Goals as goal
 
 -- a rig that plays nothing yet
-is_new : (plan : Plan) (rig : Rig) → (rig_of rig).run ≡ no_run plan.promise plan.sector plan.tears plan.meta → rig.tally ≡ no_tally → rig_of rig ≡ no_rig plan
+is_new : (plan : Plan) (rig : Rig) → (rig_of rig).run ≡ (no_rig plan).run → rig.tally ≡ no_tally → rig_of rig ≡ no_rig plan
 is_new plan rig e f =
     let make : RunState → Tally → RigState = λ r t. record { run = r; tally = t } in
-    ap (λ (r : RunState). make r rig.tally) e ∙ ap (λ (t : Tally). make (no_run plan.promise plan.sector plan.tears plan.meta) t) f
+    ap (λ (r : RunState). make r rig.tally) e ∙ ap (λ (t : Tally). make (no_rig plan).run t) f
 
 pub returns-then-not-are_at_marks-clause-begins : goal.returns-then-not-are_at_marks-clause-begins
 returns-then-not-are_at_marks-clause-begins g c =

@@ -1,4 +1,4 @@
-use Rattle.std.proofs.Common.{ℕ, List, [], ◌++◌, take, get_or, refl, sym, ◌∙◌, subst}
+use Rattle.std.proofs.Common.{List, [], ◌++◌, take, get_or, refl, sym, ◌∙◌, subst}
 use Rattle.std.proofs.lemmas.List.{take_more, take_all}
 use Rattle.std.specs.Io.KnownBytes.{Appends}
 use Rattle.sqplay.specs.declared.trace.Kind.TheVariants.{Base}
@@ -7,8 +7,8 @@ use Rattle.sqplay.specs.declared.trace.Record.{Record}
 use Rattle.sqcrash.specs.Lines.{lines_text}
 use Rattle.sqcrash.specs.Rigs.{rig_of, Judges, JudgesAll, BeginsRig, lines_at}
 use Rattle.sqcrash.specs.declared.plan.Plan.{Plan}
-use Rattle.sqcrash.specs.declared.survey.Tally.{Tally}
-use Rattle.sqcrash.specs.declared.survey.Finding.{Finding}
+use Rattle.sqcrash.specs.Told.{Told}
+use Rattle.sqcrash.specs.declared.stopped.Stopped.{Stopped}
 use Rattle.sqcrash.proofs.JudgedRecords.{judges_more}
 use Rattle.sqcrash.proofs.AppendedBytes.{appends_none, appends_more}
 use Rattle.sqcrash.proofs.program.judge_records.Goals as goal
@@ -32,22 +32,21 @@ loop-call-preserved g c =
     let new = rig_of c.play.new.self in
     let found = c.in_ok-findings.findings.items in
     let so_far = c.loop-call.invariant.judged in
-    let lines = so_far.0 ++ lines_at new found in
-    let judged = subst (λ (p : Plan). Judges p bytes (get_or records i behind) mid new found) c.loop-call.invariant.plan c.in_ok-findings.ensures.judged in
+    let r = get_or records i behind in
+    let of_found = lines_at plan bytes r new found in
+    let lines = so_far.0 ++ of_found in
+    let judged = subst (λ (p : Plan). Judges p bytes r mid new found) c.loop-call.invariant.plan c.in_ok-findings.ensures.judged in
     let before = g.O.Write.contents c.loop-call.out in
     let after = g.O.Write.contents c.write_findings.new.out in
-    let of_found : Appends before after (lines_text c.tally.result.points c.known.result found) =
-    subst (λ (l : List Finding). Appends before after (lines_text c.tally.result.points c.known.result l)) c.deref.ensures.value c.in_ok-write_findings.ensures in
-    let at_known : Appends before after (lines_text c.tally.result.points new.run.known found) =
-    subst (λ (k : ℕ). Appends before after (lines_text c.tally.result.points k found)) c.known.ensures of_found in
-    let written : Appends before after (lines_at new found) =
-    subst (λ (t : Tally). Appends before after (lines_text t.points new.run.known found)) c.tally.ensures at_known in
+    let written : Appends before after of_found =
+    subst (λ (at : Stopped). Appends before after (lines_text plan at found)) c.stopped.ensures
+    (subst (λ (l : List Told). Appends before after (lines_text plan c.stopped.result l)) c.deref.ensures.value c.in_ok-write_findings.ensures) in
     record {
       judged = (
         lines,
         subst (λ (played : List Record). JudgesAll plan bytes played first new lines) (sym (take_more records i behind c.loop-call-test.true))
-            (judges_more plan bytes (take i records) (get_or records i behind) first mid new so_far.0 found so_far.1 judged),
-        appends_more (g.O.Write.contents c.begun.new.out) before after so_far.0 (lines_at new found) so_far.2 written,
+            (judges_more plan bytes (take i records) r first mid new so_far.0 found so_far.1 judged),
+        appends_more (g.O.Write.contents c.begun.new.out) before after so_far.0 of_found so_far.2 written,
       );
       plan = c.in_ok-findings.ensures.plan ∙ c.loop-call.invariant.plan;
     }
@@ -74,7 +73,7 @@ returns g c =
         last = last;
         of_images = so_far.0;
         judged = subst (λ (played : List Record). JudgesAll plan bytes played first last so_far.0) (take_all c.loop-call.call-index records c.loop-call-test.false ∙ c.deref-call-items.ensures.value) so_far.1;
-        counted = c.tally-2.ensures;
+        counted = c.tally.ensures;
         all = refl;
       },
       appends_more old mid new begun.0 so_far.0 begun.2 so_far.2,

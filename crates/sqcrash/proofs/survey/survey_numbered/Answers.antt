@@ -17,14 +17,14 @@ loop-n-preserved g c =
     let image = c.set.new.self in
     let so_far = c.loop-n.invariant in
     let one : TakesOne run image c.loop-n.survey c.judge.new.self = c.in_ok-judge.ensures tt in
-    let x : Judged = record { image = image; judgment = one.0 } in
+    let x : Judged = record { image = image; judgment = one.0; missing = one.1 } in
     let next : c.loop-n.n ≡ 0 + length so_far.0 = omega (arith, so_far.1) in
     let is : IsNumbered run.files counts (0 + length so_far.0) image =
     subst (λ (n : ℕ). IsNumbered run.files counts n image) next (subst (λ (s : Files). IsNumbered s counts c.loop-n.n image) c.player.ensures c.in_ok-set.ensures) in (
       so_far.0 ++ x ∷ [],
       omega (arith, length-append so_far.0 (x ∷ []), so_far.1),
       numbered_more run counts 0 so_far.0 x so_far.2 is,
-      tells_more run so_far.0 x c.args.survey.now c.loop-n.survey c.judge.new.self so_far.3 one.1 one.2,
+      tells_more run so_far.0 x c.args.survey.now c.loop-n.survey c.judge.new.self so_far.3 one.2 one.3,
     )
 
 pub returns : goal.returns

@@ -1,0 +1,286 @@
+//! The lines of findings: what is wrong with an image, and why (own).
+ghost use Rattle.std.specs.Prelude.{◌≡◌, take, OnOk};
+ghost use Rattle.std.specs.Io.KnownBytes.{Appends};
+ghost use Rattle.std.specs.List.{flat_map};
+ghost use Rattle.sqcrash.specs.Lines.{ranges_text, missing_text, more_text, missings_text, why_text, finding_text};
+ghost use Rattle.sqcrash.specs.Lines.{is_asked, asked_text, lines_text};
+
+use crate::finding::Finding;
+use crate::lines::Line;
+use crate::plan::Plan;
+use crate::stopped::Stopped;
+use sqmissing::Missing;
+use sqplay::{Kind, Subject};
+use std::fmt;
+use std::io::{self, Write};
+
+/// The most calls of a finding that are told.
+const MOST: usize = 20;
+
+/// What a record speaks of.
+#[derive(Clone, Copy)]
+struct SubjectText(Subject);
+
+impl fmt::Display for SubjectText {
+    ghost use Rattle.std.specs.Prelude.{Some};
+    ghost use Rattle.sqcrash.specs.Lines.{subject_text};
+
+    ghost output = { λ x. Some (subject_text x.0) };
+
+    fn fmt<W: fmt::Write>(&self, f: &mut fmt::Formatter<W>) -> fmt::Result {
+        f.write_str(match self.0 {
+            Subject::Db => "db",
+            Subject::Wal => "wal",
+            Subject::Journal => "journal",
+            Subject::Folder => "folder",
+            Subject::Marks => "marks",
+            Subject::Other => "other",
+        })
+    }
+}
+
+/// A call.
+#[derive(Clone, Copy)]
+struct CallText {
+    kind: Kind,
+    subject: Subject,
+    place: u64,
+    count: u64,
+}
+
+impl fmt::Display for CallText {
+    ghost use Rattle.std.specs.Prelude.{Some};
+    ghost use Rattle.sqcrash.specs.Lines.{call_text};
+
+    ghost output = { λ x. Some (call_text x.kind x.subject x.place x.count) };
+
+    fn fmt<W: fmt::Write>(&self, f: &mut fmt::Formatter<W>) -> fmt::Result {
+        let (subject, place, count) = (SubjectText(self.subject), self.place, self.count);
+        match self.kind {
+            Kind::Base => write!(f, "begin {subject}"),
+            Kind::Open => write!(f, "create {subject}"),
+            Kind::Close => write!(f, "close {subject}"),
+            Kind::Write => write!(f, "write {subject} {place}+{count}"),
+            Kind::Cut => write!(f, "truncate {subject} to {place}"),
+            Kind::Sync | Kind::FolderSync => write!(f, "sync {subject}"),
+            Kind::Unlink => write!(f, "unlink {subject}"),
+            Kind::Rename => write!(f, "rename {subject}"),
+            Kind::Mark => f.write_str("mark"),
+            Kind::NotHeld => write!(f, "call {subject}"),
+            Kind::End => write!(f, "end {subject}"),
+        }
+    }
+}
+
+/// Sectors from a first to a last one.
+#[derive(Clone, Copy)]
+struct RangeText(u64, u64);
+
+impl fmt::Display for RangeText {
+    ghost use Rattle.std.specs.Prelude.{Some};
+    ghost use Rattle.sqcrash.specs.Lines.{range_text};
+
+    ghost output = { λ x. Some (range_text x.0 x.1) };
+
+    fn fmt<W: fmt::Write>(&self, f: &mut fmt::Formatter<W>) -> fmt::Result {
+        let (first, last) = (self.0, self.1);
+        if first == last {
+            write!(f, " {first}")
+        } else {
+            write!(f, " {first}-{last}")
+        }
+    }
+}
+
+/// The line of a call that isn't down, up to its sectors.
+#[derive(Clone, Copy)]
+struct DownText {
+    number: u64,
+    call: CallText,
+}
+
+impl fmt::Display for DownText {
+    ghost use Rattle.std.specs.Prelude.{Some};
+    ghost use Rattle.sqcrash.specs.Lines.{down_text};
+
+    ghost output = { λ x. Some (down_text x.number x.call.kind x.call.subject x.call.place x.call.count) };
+
+    fn fmt<W: fmt::Write>(&self, f: &mut fmt::Formatter<W>) -> fmt::Result {
+        write!(
+            f,
+            "  not down: record {}: {}, sectors",
+            self.number, self.call
+        )
+    }
+}
+
+/// The line of the record behind which the machine stopped.
+#[derive(Clone, Copy)]
+struct StoppedText(Stopped);
+
+impl fmt::Display for StoppedText {
+    ghost use Rattle.std.specs.Prelude.{Some};
+    ghost use Rattle.sqcrash.specs.Lines.{stopped_text};
+
+    ghost output = { λ x. Some (stopped_text x.0) };
+
+    fn fmt<W: fmt::Write>(&self, f: &mut fmt::Formatter<W>) -> fmt::Result {
+        let Stopped {
+            number,
+            kind,
+            subject,
+            place,
+            count,
+            ..
+        } = self.0;
+        let call = CallText {
+            kind,
+            subject,
+            place,
+            count,
+        };
+        write!(f, "  stopped behind record {number}: {call}")
+    }
+}
+
+/// How many more there are.
+#[derive(Clone, Copy)]
+struct CountText(usize);
+
+impl fmt::Display for CountText {
+    ghost use Rattle.std.specs.Prelude.{Some};
+    ghost use Rattle.sqcrash.specs.Lines.{count_text};
+
+    ghost output = { λ x. Some (count_text x.0) };
+
+    fn fmt<W: fmt::Write>(&self, f: &mut fmt::Formatter<W>) -> fmt::Result {
+        write!(f, "  .. {} more", self.0)
+    }
+}
+
+/// Writes sectors in ranges.
+fn write_ranges<O: Write>(out: &mut O, ranges: &[(u64, u64)]) -> io::Result<()>
+    ensures { OnOk result (Appends (O.contents out.old) (O.contents out.new) (ranges_text ranges.now)) }
+{
+    for range in ranges {
+        write!(out, "{}", RangeText(range.0, range.1))?;
+    }
+    Ok(())
+}
+
+/// Writes the line of a call that isn't down.
+fn write_missing<O: Write>(out: &mut O, missing: &Missing) -> io::Result<()>
+    ensures { OnOk result (Appends (O.contents out.old) (O.contents out.new) (missing_text missing.now)) }
+{
+    let call = CallText {
+        kind: missing.kind,
+        subject: missing.subject,
+        place: missing.place,
+        count: missing.count,
+    };
+    let number = missing.number;
+    write!(out, "{}", DownText { number, call })?;
+    write_ranges(out, &missing.sectors)?;
+    writeln!(out, "")?;
+    Ok(())
+}
+
+/// Writes how many more there are, if there are any.
+fn write_more<O: Write>(out: &mut O, count: usize) -> io::Result<()>
+    ensures { OnOk result (Appends (O.contents out.old) (O.contents out.new) (more_text count)) }
+{
+    if count == 0 {
+        return Ok(());
+    }
+    writeln!(out, "{}", CountText(count))?;
+    Ok(())
+}
+
+/// Writes the lines of all these calls that aren't down.
+fn write_each<O: Write>(out: &mut O, missing: &[Missing]) -> io::Result<()>
+    ensures { OnOk result (Appends (O.contents out.old) (O.contents out.new) (flat_map missing_text missing.now)) }
+{
+    for call in missing {
+        write_missing(out, call)?;
+    }
+    Ok(())
+}
+
+/// The first 20, or all where they are fewer.
+fn first_few(missing: &[Missing]) -> &[Missing]
+    ensures { result.now ≡ take 20 missing.now }
+{
+    &missing[..missing.len().min(MOST)]
+}
+
+/// Writes the lines of calls that aren't down, 20 at most.
+fn write_missings<O: Write>(out: &mut O, missing: &[Missing]) -> io::Result<()>
+    ensures { OnOk result (Appends (O.contents out.old) (O.contents out.new) (missings_text missing.now)) }
+{
+    write_each(out, first_few(missing))?;
+    write_more(out, missing.len().saturating_sub(MOST))?;
+    Ok(())
+}
+
+/// Writes why something is wrong with an image.
+fn write_why<O: Write>(out: &mut O, at: Stopped, missing: &[Missing]) -> io::Result<()>
+    ensures { OnOk result (Appends (O.contents out.old) (O.contents out.new) (why_text at missing.now)) }
+{
+    writeln!(out, "{}", StoppedText(at))?;
+    write_missings(out, missing)?;
+    Ok(())
+}
+
+/// Writes the lines of a finding.
+fn write_finding<O: Write>(out: &mut O, why: bool, at: Stopped, finding: &Finding) -> io::Result<()>
+    ensures { OnOk result (Appends (O.contents out.old) (O.contents out.new) (finding_text why at finding.now)) }
+{
+    let line = Line {
+        point: at.point,
+        known: at.known,
+        image: finding.image(),
+        judgment: finding.judgment(),
+    };
+    writeln!(out, "{line}")?;
+    if !why {
+        return Ok(());
+    }
+    write_why(out, at, finding.missing())?;
+    Ok(())
+}
+
+/// Whether a number is the one that is asked for, if one is.
+pub fn is_asked(asked: Option<u64>, number: u64) -> bool
+    ensures { result ≡ is_asked asked number }
+{
+    match asked {
+        Some(wanted) => wanted == number,
+        None => true,
+    }
+}
+
+/// Writes the lines of a finding, where it is asked for.
+fn write_asked<O: Write>(out: &mut O, plan: Plan, at: Stopped, finding: &Finding) -> io::Result<()>
+    ensures { OnOk result (Appends (O.contents out.old) (O.contents out.new) (asked_text plan at finding.now)) }
+{
+    if !is_asked(plan.point, at.point) || !is_asked(plan.image, finding.image()) {
+        return Ok(());
+    }
+    write_finding(out, plan.why, at, finding)?;
+    Ok(())
+}
+
+/// Writes the lines of the findings of a point that are asked for, in their order.
+pub fn write_findings<O: Write>(
+    out: &mut O,
+    plan: Plan,
+    at: Stopped,
+    findings: &[Finding],
+) -> io::Result<()>
+    ensures { OnOk result (Appends (O.contents out.old) (O.contents out.new) (lines_text plan at findings.now)) }
+{
+    for finding in findings {
+        write_asked(out, plan, at, finding)?;
+    }
+    Ok(())
+}

@@ -1,0 +1,2 @@
+pub mod RangesOfSectors
+pub mod MissingCalls
