@@ -181,7 +181,7 @@ pub(crate) fn deep_arg<'a>(alloc: Global) -> Arg<'a> {
     flag(
         alloc,
         "deep",
-        "Checks what the pages hold, too: the header's numbers, and each cell, record and text",
+        "Checks what the pages hold, too: each record, the schema, and each index against its table",
     )
 }
 

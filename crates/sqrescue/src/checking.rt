@@ -1,9 +1,12 @@
 //! What `check` prints.
+ghost use Rattle.std.specs.Prelude.{◌≡◌, IfOk, not};
+ghost use Rattle.sqdeepshown.specs.Verdicts.{is_damaged};
+
 use crate::metered::db_metered;
 use crate::opening::open_all;
 use crate::sources::{Before, Source, before_of, standing, wait_for};
 use sqdeepshown::{DeepFinding, DeepVerdict, judged_as, write_found};
-use sqfacts::{NoteWriter, Notes, Readings, Refusal, unchanged};
+use sqfacts::{NoteWriter, Notes, Quoted, Readings, Refusal, unchanged};
 use sqopen::{Count, OpenedFile, Paths, Progress, readings_of};
 use sqshown::{Contents, ShowError, asked_of, read_ahead};
 use sqview::FileBytes;
@@ -12,16 +15,15 @@ use std::alloc::Global;
 use std::io::{self, Write};
 use std::os::unix::fs::FileExt;
 use std::rt::Files;
-use std::thread;
 use std::time::Clock;
+use std::{str, thread};
 
 /// How many bytes of a database file are read at once, where its pages are read one behind the other.
 const PIECE: usize = 32_768;
 
 /// What a deep check leaves open of a database that it finds sound.
 const UNJUDGED: &str =
-    "not judged: indexes against their tables (entries, order, UNIQUE), NOT NULL, CHECK and types; \
-     PRAGMA integrity_check does";
+    "not judged: the order of tables WITHOUT ROWID, NOT NULL, CHECK and types; PRAGMA integrity_check does";
 
 /// What is asked of a check.
 #[derive(Clone, Copy)]
@@ -53,26 +55,61 @@ where
     }
 }
 
-/// Prints a verdict. Whether it is that the database is well formed.
+/// Prints a verdict. Whether it is of no damage.
 fn write_verdict<O: Write>(
     out: &mut O,
     asks: Asks,
     verdict: &DeepVerdict,
-) -> Result<bool, ShowError> {
-    write_found(out, asks.options.style, asks.deep, verdict)?;
+) -> Result<bool, ShowError>
+    ensures { IfOk result (λ whole. whole ≡ not (is_damaged verdict.now)) }
+{
+    write_found(out, asks.options.style, verdict)?;
     out.flush()?;
-    Ok(matches!(verdict, DeepVerdict::Clean(_)))
+    Ok(!verdict.is_damaged())
 }
 
-/// Prints a verdict, and says what a deep one leaves open. Whether it is that the database is well formed.
+/// Says that the kind of a table's tree isn't judged.
+fn tell_aside<E: Write>(name: &[u8], notes: &Notes<'_, E>) {
+    let name = Quoted(str::from_utf8(name).unwrap_or("?"));
+    notes.say(&format_args!(
+        "not judged: the kind of the tree of {name}, a table whose text isn't understood"
+    ));
+}
+
+/// Says it of each table whose text isn't understood.
+fn tell_asides<E: Write>(verdict: &DeepVerdict, notes: &Notes<'_, E>) {
+    for i in 0..usize::MAX {
+        let Some(name) = verdict.aside(i) else {
+            return;
+        };
+        tell_aside(name, notes);
+    }
+}
+
+/// Says of each index that isn't judged that it isn't.
+fn tell_unjudged<E: Write>(verdict: &DeepVerdict, notes: &Notes<'_, E>) {
+    for i in 0..usize::MAX {
+        let Some(name) = verdict.unjudged(i) else {
+            return;
+        };
+        let name = Quoted(str::from_utf8(name).unwrap_or("?"));
+        notes.say(&format_args!("not judged: the entries of index {name}"));
+    }
+}
+
+/// Prints a verdict, and says what a deep one leaves open. Whether it is of no damage.
 fn told_verdict<O: Write, E: Write>(
     out: &mut O,
     asks: Asks,
     verdict: &DeepVerdict,
     notes: &Notes<'_, E>,
-) -> Result<bool, ShowError> {
+) -> Result<bool, ShowError>
+    ensures { IfOk result (λ whole. whole ≡ not (is_damaged verdict.now)) }
+{
     let answer = write_verdict(out, asks, verdict);
     if asks.deep && matches!(answer, Ok(true)) {
+        tell_asides(verdict, notes);
+        tell_unjudged(verdict, notes);
         notes.say(&UNJUDGED);
     }
     answer
