@@ -9,6 +9,10 @@ _sqcrash() {
       COMPREPLY=($(compgen -W 'marks calls' -- "$word"))
       return
       ;;
+    --image)
+      :
+      return
+      ;;
     --images)
       :
       return
@@ -19,6 +23,10 @@ _sqcrash() {
       ;;
     --meta)
       COMPREPLY=($(compgen -W 'parts whole ordered' -- "$word"))
+      return
+      ;;
+    --point)
+      :
       return
       ;;
     --promise)
@@ -35,7 +43,7 @@ _sqcrash() {
       ;;
   esac
   case $command in
-    '') options='--sector --tears --meta --images --seed --every --promise --commits --keep -h --help' ;;
+    '') options='--sector --tears --meta --images --seed --every --promise --commits --why --point --image --keep -h --help' ;;
   esac
   if [[ $word == -* ]]; then
     COMPREPLY=($(compgen -W "$options" -- "$word"))

@@ -30,7 +30,7 @@ complete -c sqrescue -n '__fish_seen_subcommand_from check' -l super-journal -xa
 complete -c sqrescue -n '__fish_seen_subcommand_from check' -l wait -x -d 'Waits so long for SQLite\'s locks that others hold'
 complete -c sqrescue -n '__fish_seen_subcommand_from check' -l no-lock -d 'Takes none of SQLite\'s locks: nobody else may write FILE and its logs meanwhile'
 complete -c sqrescue -n '__fish_seen_subcommand_from check' -l pointer-maps -d 'Takes a database with auto-vacuum too, and checks its pointer maps'
-complete -c sqrescue -n '__fish_seen_subcommand_from check' -l deep -d 'Checks what the pages hold, too: the header\'s numbers, and each cell, record and text'
+complete -c sqrescue -n '__fish_seen_subcommand_from check' -l deep -d 'Checks what the pages hold, too: each record, the schema, and each index against its table'
 complete -c sqrescue -n '__fish_seen_subcommand_from check' -s h -l help -d 'Print help'
 complete -c sqrescue -n '__fish_seen_subcommand_from rows' -s v -l verbose -d 'Says on standard error which files are read, which log counts, and why a command is refused'
 complete -c sqrescue -n '__fish_seen_subcommand_from rows' -l json -d 'Prints a JSON object a line'
