@@ -10,3 +10,4 @@ pub mod EndsOfCheck
 pub mod TakenChains
 pub mod ChartOfAllPages
 pub mod FaultsPutDown
+pub mod RowsOfSurvey

@@ -8,3 +8,6 @@ pub mod StepsOfWalk
 pub mod VisitedPlaces
 pub mod FaultsFound
 pub mod FoundPlaces
+pub mod ChartedPlaces
+pub mod FollowedPlaces
+pub mod SurveyedPages

@@ -13,7 +13,7 @@ use Rattle.sqpage.specs.Page.{Page, is_interior, is_table, IsBtreePage}
 use Rattle.sqpage.specs.Layout.{LayoutRefused}
 use Rattle.sqpage.specs.PointerMaps.{lock_byte_page, IsPointerMap, IsEntryPlace}
 use Rattle.sqpage.specs.declared.pointer_map.EntryPlace.{EntryPlace}
-use Rattle.sqcheck.specs.Places.{overflow, holder, Node, trunk, link, node, Spot, page_as, HasKind, IsCellAt, IsKeyBefore, IsRow, IsSchemaRow}
+use Rattle.sqcheck.specs.Places.{overflow, holder, Node, Role, trunk, free_leaf, link, node, Spot, page_as, HasKind, IsCellAt, IsKeyBefore, IsRow, IsSchemaRow}
 use Rattle.sqcheck.specs.WellFormed.{IsReached, IsSound, IsAutoVacuum, IsIncremental, SaysSo, IsLargestRoot, is_link, is_free, FirstLeaf, IsInOrder}
 
 -- some key isn't behind the one before, or is behind the high bound
@@ -39,6 +39,13 @@ NodeRefusedBy IsLevel d faults.KeyOrder p x = AsBtreePage d p (λ kind b. HasKey
 NodeRefusedBy IsLevel d faults.Depth p x = (20 < x.level) ⊎ IsUneven IsLevel d p x
 NodeRefusedBy IsLevel d faults.SchemaRecord p x = (x.schema ≡ true) × AsBtreePage d p (λ kind b. (is_interior kind ≡ false) × (i : ℕ) × (bytes : List ℕ) × IsRow d b i bytes × ((r : ℕ) → ¬ IsSchemaRow bytes r))
 NodeRefusedBy IsLevel d _ p x = ⊥
+
+-- What is wrong with a page in its role, where the leaves of each tree are to be on such a level.
+abbrev pub PageWrongBy : (IsLevel : (tree on : ℕ) → Type 0) → Database → (p : ℕ) → Role → Fault → Type 0
+PageWrongBy IsLevel d p trunk fault = (fault ≡ faults.FreeCount) × (most_leaves d < leaf_count_in (page d p))
+PageWrongBy IsLevel d p free_leaf fault = ⊥
+PageWrongBy IsLevel d p (link owner needed) fault = (fault ≡ faults.ChainLong) × (needed ≡ 1) × (next_in (page d p) ≢ 0)
+PageWrongBy IsLevel d p (node x) fault = NodeRefusedBy (IsLevel x.tree) d fault p x
 
 -- The same where that is the level of the tree's first leaf.
 abbrev pub NodeRefused : Database → Fault → (p : ℕ) → Node → Type 0

@@ -1,7 +1,7 @@
 //! Chains that are charted as those of their cells (own).
 ghost use Rattle.std.specs.Prelude.{◌≡◌, ◌+◌, ◌<◌, ◌≤◌, ℕ, true, length, replicate, false, IfOk, IfErr};
 ghost use Rattle.sqpage.specs.Source.{KeepsPages};
-ghost use Rattle.sqpage.specs.Chain.{payload_size};
+ghost use Rattle.sqpage.specs.Chain.{payload_size, bytes_beyond};
 ghost use Rattle.sqpage.specs.declared.fault.Fault.{Fault};
 ghost use Rattle.sqcheck.specs.internal.Chains.{TakesChain, TakesPage};
 
@@ -61,6 +61,7 @@ impl Chains {
         requires part { length cell.now.local.now ≤ payload_size cell.now }
         ensures own { S.reads_right source.old → IfOk result (λ own. own ≡ true → TakesChain (S.pages source.old)
             roles.now cell.now self.old.taken.items self.new.taken.items) }
+        ensures short { bytes_beyond cell.now ≡ 0 → IfOk result (λ own. own ≡ true) }
         ensures err { IfErr result (λ e. (e.fault ≡ Fault.Source) × ¬ S.gives_pages source.old) }
         ensures long { length bytes.new ≡ length bytes.old }
         ensures keeps { KeepsPages S.pages S.size S.reads_right S.gives_pages source.old source.new }

@@ -12,8 +12,8 @@ ghost use Rattle.sqcheck.specs.Places.{Spot, first_root_spot, names_table};
 ghost use Rattle.sqcheck.specs.Roles.{Visit, Told, AreRoles};
 ghost use Rattle.sqcheck.specs.internal.Schema.{IsRootAt, RootsMatch};
 ghost use Rattle.sqcheck.specs.internal.Snapshots.{SameSource};
-ghost use Rattle.sqcheck.specs.Stands.{Stands, StandsWith};
-ghost use Rattle.sqcheck.specs.internal.Agenda.{StandsNow, MarksAside};
+ghost use Rattle.sqcheck.specs.Stands.{Stands, StandsWith, IsAsideWith};
+ghost use Rattle.sqcheck.specs.internal.Agenda.{AreCounted, StandsNow, MarksAside};
 ghost use Rattle.sqcheck.specs.WellFormed.{WellFormed, WellFormedWith, HasSoundHeader, IsReport};
 ghost use Rattle.sqcheck.specs.internal.Walking.{IsItemOf, TopLeads};
 ghost use Rattle.sqcheck.specs.internal.Checking.{Visited, VisitsMore, IsNew, HasLists, MarksOne, MarksMaps};
@@ -420,6 +420,8 @@ fn first_marks<V: Snapshot>(
 ) -> Result<Vec<bool>, AllocError>
     ensures long { IfOk result (λ marks. length marks.items ≡ count) }
     ensures aside { V.right × V.judged → IfOk result (λ marks. MarksAside V.pages marks.items) }
+    ensures barred { V.right → IfOk result (λ marks. (p : ℕ) → IsWithin (length marks.items) p
+        → is_marked marks.items p ≡ true → IsAsideWith V.maps V.pages V.size p) }
 {
     let mut marks = unmarked(alloc, count)?;
     set_aside(&mut marks, maps.page_size);
@@ -440,6 +442,9 @@ pub(crate) fn new_walker<V: Snapshot>(
     requires { count ≡ length V.pages }
     ensures new { V.right × V.judged → IfOk result (λ w. IsNew V.pages w.uses w.walk) }
     ensures empty { IfOk result (λ w. (w.walk.stack.items ≡ []) × (w.walk.rows.items ≡ [])) }
+    ensures none { IfOk result (λ w. AreCounted [] w.uses.counts) }
+    ensures barred { V.right → IfOk result (λ w. (p : ℕ) → IsPage V.pages p
+        → is_marked w.uses.marks.items p ≡ true → IsAsideWith V.maps V.pages V.size p) }
 {
     let usable = reader.usable as usize;
     let marks = first_marks(alloc, count, &maps)?;

@@ -9,7 +9,7 @@ ghost use Rattle.sqpage.specs.declared.fault.Fault.{Fault};
 ghost use Rattle.sqcheck.specs.internal.Checking.{KnowsMaps};
 ghost use Rattle.sqcheck.specs.internal.Snapshots.{SameSource};
 ghost use Rattle.sqcheck.specs.internal.Walking.{kind_of, IsMapped, EntryRefused};
-ghost use Rattle.sqcheck.specs.WellFormed.{parent_by};
+ghost use Rattle.sqcheck.specs.WellFormed.{IsAutoVacuum, parent_by};
 
 use crate::item::{Item, Task};
 use crate::pages::{read_page, word_at};
@@ -36,6 +36,7 @@ pub(crate) struct Maps<V: Snapshot> {
     ghost size: { page_size ≡ V.size },
     ghost known: { V.right → KnowsMaps V.pages V.judged used page_size reserved },
     ghost asked: { used ≡ true → V.maps ≡ true },
+    ghost all: { V.right → V.maps ≡ true → IsAutoVacuum V.pages → used ≡ true },
     ghost kept: { V.right → 0 < held → bytes.items ≡ page V.pages held },
 }
 
@@ -103,6 +104,7 @@ impl<V: Snapshot> Maps<V> {
         requires size { page_size ≡ V.size }
         requires known { V.right → KnowsMaps V.pages V.judged used page_size reserved }
         requires asked { used ≡ true → V.maps ≡ true }
+        requires all { V.right → V.maps ≡ true → IsAutoVacuum V.pages → used ≡ true }
         ensures size { IfOk result (λ maps. maps.page_size ≡ page_size) }
     {
         Ok(Maps {

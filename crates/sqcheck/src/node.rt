@@ -233,7 +233,7 @@ pub(crate) fn judge<'a>(
         → LevelAt d raw.entry.number bounds.level first.old first.new }
     ensures parts { IfOk result (λ page. HasPartsOf page room.new.parts.items) }
     ensures room { HoldsPage raw.entry.usable room.new }
-    ensures source { IfErr result (λ fault. fault ≢ Fault.Source) }
+    ensures source { IfErr result (λ fault. (fault ≢ Fault.Source) × (fault ≢ Fault.SchemaRecord)) }
 {
     let kind = kind_in(tree, raw.number, &raw.bytes[..raw.usable as usize])?;
     if !kind.is_interior() {
@@ -328,7 +328,7 @@ pub(crate) fn enter(
     ensures level { (d : Database) → used_in d raw.entry.number ≡ take raw.entry.usable raw.entry.bytes.now
         → LevelAt d raw.entry.number bounds.level walk.old.leaf_level walk.new.leaf_level }
     ensures room { HoldsPage raw.entry.usable room.new }
-    ensures source { IfErr result (λ e. e.fault ≢ Fault.Source) }
+    ensures source { IfErr result (λ e. (e.fault ≢ Fault.Source) × (e.fault ≢ Fault.SchemaRecord)) }
     ensures left { IfErr result (λ e. e.fault ≢ Fault.NoMemory → KeepsWalk walk.old walk.new) }
 {
     let number = raw.number;

@@ -1,31 +1,32 @@
 //! A map of a database file, also of a damaged one (own).
-ghost use Rattle.std.specs.Prelude.{◌≡◌, ◌↔◌, ◌⊎◌, ◌-◌, ◌≢◌, ◌<◌, ◌≤◌, length, true, false, None, Some, IsTrue, []};
-ghost use Rattle.std.specs.Prelude.{Err, IfOk, IfErr, IfSome};
+ghost use Rattle.std.specs.Prelude.{◌≡◌, ◌↔◌, ◌⊎◌, ◌-◌, ◌≢◌, ◌<◌, ◌≤◌, ◌∷◌, [], length, true, false, not, count_by};
+ghost use Rattle.std.specs.Prelude.{Bool, List, None, Some, IsTrue, Err, IfOk, IfErr, IfSome, OnOk};
 ghost use Rattle.sqval.specs.Bytes.{word};
 ghost use Rattle.sqval.specs.Database.{Database, page};
-ghost use Rattle.sqpage.specs.Freelist.{IsPage, usable_size};
+ghost use Rattle.sqpage.specs.Freelist.{IsPage, usable_size, first_trunk, free_pages};
 ghost use Rattle.sqpage.specs.Source.{KeepsPages, UnlessUnread};
 ghost use Rattle.sqpage.specs.Header.{byte};
+ghost use Rattle.sqpage.specs.Page.{code_of};
+ghost use Rattle.sqpage.specs.declared.fault.CheckError.{CheckError};
 ghost use Rattle.sqpage.specs.declared.fault.Fault.{Fault};
-ghost use Rattle.sqpage.specs.declared.kind.Kind.TheVariants.{TableLeaf};
+ghost use Rattle.sqpage.specs.declared.kind.Kind.{Kind};
 ghost use Rattle.sqcheck.specs.Surveys.{FindsClean, FindsDamaged, SurveyRefused};
 ghost use Rattle.sqcheck.specs.Surveys.{AreFoundRoles, AreFoundFaults};
 ghost use Rattle.sqcheck.specs.Surveys.{FindsCleanWith, FindsDamagedWith, SurveyRefusedWith};
+ghost use Rattle.sqcheck.specs.internal.Charting.{ArePutDown};
 ghost use Rattle.sqcheck.specs.internal.Surveys.{AreSetDown, Ends, IsEnd, IsReserved, KnowsReserved};
-ghost use Rattle.sqcheck.specs.internal.Snapshots.{SameSource};
 ghost use Rattle.sqcheck.specs.internal.Surveys.{Charts};
-ghost use Rattle.sqcheck.specs.internal.Found.{IsItemFound, IsItemNamed, IsRootFound, IsChartFound, AreFound, HasFound};
-ghost use Rattle.sqcheck.specs.internal.Found.{TellsFound, IsHeaderNamed, IsSurveyed};
-ghost use Rattle.sqcheck.specs.internal.Walking.{KeepsWalk, role_of};
+ghost use Rattle.sqcheck.specs.internal.Snapshots.{SameSource};
+ghost use Rattle.sqcheck.specs.internal.Found.{IsItemFound, HasFound, HasAll};
+ghost use Rattle.sqcheck.specs.internal.Found.{AreFound, ComesNext, Begins, TellsLargest};
+ghost use Rattle.sqcheck.specs.internal.Found.{TellsFound, IsFreeCount, IsHeaderNamed, IsSurveyed, HasNoFree, PutsRole};
+ghost use Rattle.sqcheck.specs.internal.Schema.{IsRootAt, RootsMatch};
+ghost use Rattle.sqcheck.specs.internal.Walking.{IsItemOf, KeepsWalk, role_of};
 ghost use Rattle.sqcheck.specs.Found.{IsRoleIn, leaf_of};
-ghost use Rattle.sqpage.specs.Page.{code_of};
-ghost use Rattle.sqcheck.specs.Places.{HasKind};
-ghost use Rattle.sqpage.specs.declared.kind.Kind.{Kind};
+ghost use Rattle.sqcheck.specs.Places.{HasKind, Spot, first_root_spot};
 ghost use Rattle.sqcheck.specs.declared.chart.Chart.{Chart};
 ghost use Rattle.sqcheck.specs.declared.tree.Tree.{Tree};
 ghost use Rattle.sqcheck.specs.WellFormed.{HasSoundHeader};
-ghost use Rattle.sqpage.specs.Freelist.{first_trunk};
-ghost use Rattle.std.specs.Prelude.{List, OnOk};
 
 use crate::chart::Chart;
 use crate::checker::{NO_MEMORY, NO_TREE, ROOT, SCHEMA_TREE, new_walker, visit_pages_with};
@@ -75,7 +76,8 @@ fn start_in(bytes: &[u8]) -> Option<Start>
     requires most { length bytes.now ≤ 65536 }
     ensures usable { IfSome result (λ start. (start.usable ≡ length bytes.now - byte bytes.now 20) ×
         (480 ≤ start.usable)) }
-    ensures first { IfSome result (λ start. start.first_trunk ≡ word bytes.now 32) }
+    ensures first { IfSome result (λ start. (start.first_trunk ≡ word bytes.now 32)
+        × (start.free_pages ≡ word bytes.now 36)) }
     ensures maps { IfSome result (λ start. (start.reserved ≡ byte bytes.now 20)
         × (start.largest_root ≡ word bytes.now 52)) }
     ensures none { result ≡ None → length bytes.now - byte bytes.now 20 < 480 }
@@ -95,7 +97,8 @@ fn start_in(bytes: &[u8]) -> Option<Start>
 
 /// Whether pointer maps are asked for of a database that has some.
 fn has_maps(options: Options, start: Start) -> bool
-    ensures { result ≡ true → (options.pointer_maps ≡ true) × (start.largest_root ≢ 0) }
+    ensures only { result ≡ true → (options.pointer_maps ≡ true) × (start.largest_root ≢ 0) }
+    ensures all { options.pointer_maps ≡ true → start.largest_root ≢ 0 → result ≡ true }
 {
     options.pointer_maps && start.largest_root != 0
 }
@@ -207,7 +210,7 @@ impl<V: Snapshot> Maps<V> {
 }
 
 impl<V: Snapshot> Walker<V> {
-    /// Puts down the page of an item that can't be followed, where nothing else has named it.
+    /// Puts down the page of an item that was taken, but can't be followed.
     fn put_refused<S: PageSource>(
         &mut self,
         source: &mut S,
@@ -215,23 +218,21 @@ impl<V: Snapshot> Walker<V> {
         tree: &Tree,
         item: Item,
     ) -> Result<(), CheckError>
+        requires page { IsPage V.pages item.page }
         requires same { SameSource V.pages V.size V.right V.given (S.pages source.old) (S.size source.old)
             (S.reads_right source.old) (S.gives_pages source.old) }
         ensures ends { IfErr result (λ e. Ends V.given e.fault) }
         ensures long { length chart.new.roles.items ≡ length chart.old.roles.items }
-        ensures found { V.right → (first : Chart) → IsItemFound V.pages tree.now item
-            → IsItemNamed chart.old.faults.items item → IsChartFound V.maps V.pages V.size first chart.old
-            → OnOk result (IsChartFound V.maps V.pages V.size first chart.new) }
-        ensures walk { KeepsWalk self.old.walk self.new.walk }
-        ensures level { self.new.walk.leaf_level ≡ self.old.walk.leaf_level }
+        ensures put { V.right → OnOk result
+            (PutsRole V.pages item.page (role_of tree.now item.task) chart.old.roles.items chart.new.roles.items) }
+        ensures tells { V.right → (named : Tree) → IsItemFound V.pages named item → OnOk result
+            (TellsFound V.maps V.pages V.size chart.old.faults.items chart.new.faults.items) }
+        ensures walk { (self.new.walk ≡ self.old.walk) × (self.new.uses ≡ self.old.uses) }
         ensures same { SameSource V.pages V.size V.right V.given (S.pages source.new) (S.size source.new)
             (S.reads_right source.new) (S.gives_pages source.new) }
     {
-        if self.uses.is_taken(item.page) && chart.is_unused(item.page) {
-            let role = self.reader.role_named(source, tree, item)?;
-            return self.maps.put_down(source, chart, item, role);
-        }
-        Ok(())
+        let role = self.reader.role_named(source, tree, item)?;
+        self.maps.put_down(source, chart, item, role)
     }
 
     /// Follows an item, and puts down what its page is used for. Tells why it can't be followed. Whether it can.
@@ -246,13 +247,18 @@ impl<V: Snapshot> Walker<V> {
             (S.reads_right source.old) (S.gives_pages source.old) }
         ensures ends { IfErr result (λ e. Ends V.given e.fault) }
         ensures long { length chart.new.roles.items ≡ length chart.old.roles.items }
-        ensures found { V.right → (first : Chart) → IsItemFound V.pages tree.now item
-            → AreFound V.maps V.pages V.size first tree.now self.old.walk chart.old
-            → OnOk result (AreFound V.maps V.pages V.size first tree.now self.new.walk chart.new) }
+        ensures found { V.right → (first : Chart) (bars : List Bool) (counted late : Bool) (rest : List Spot)
+            → ComesNext V.maps V.pages V.size first bars counted late rest tree.now item self.old.uses self.old.walk
+            chart.old → OnOk result (AreFound V.maps V.pages V.size first bars counted late rest tree.now
+            self.new.uses self.new.walk chart.new) }
         ensures left { IfOk result (λ on. on ≡ false → KeepsWalk self.old.walk self.new.walk) }
+        ensures fewer { IfOk result (λ on. on ≡ true
+            → count_by not self.new.uses.marks.items < count_by not self.old.uses.marks.items) }
+        ensures no_more { count_by not self.new.uses.marks.items ≤ count_by not self.old.uses.marks.items }
         ensures same { SameSource V.pages V.size V.right V.given (S.pages source.new) (S.size source.new)
             (S.reads_right source.new) (S.gives_pages source.new) }
     {
+        let before = self.uses.is_taken(item.page);
         match self.follow(source, tree, item) {
             Ok(role) => {
                 self.maps.put_down(source, chart, item, role)?;
@@ -260,7 +266,9 @@ impl<V: Snapshot> Walker<V> {
             }
             Err(error) => {
                 chart.tell(error)?;
-                self.put_refused(source, chart, tree, item)?;
+                if !before && self.uses.is_taken(item.page) {
+                    self.put_refused(source, chart, tree, item)?;
+                }
                 Ok(false)
             }
         }
@@ -278,9 +286,13 @@ impl<V: Snapshot> Walker<V> {
             (S.reads_right source.old) (S.gives_pages source.old) }
         ensures ends { IfErr result (λ e. Ends V.given e.fault) }
         ensures long { length chart.new.roles.items ≡ length chart.old.roles.items }
-        ensures found { V.right → (first : Chart)
-            → AreFound V.maps V.pages V.size first tree.now self.old.walk chart.old
-            → OnOk result (AreFound V.maps V.pages V.size first tree.now self.new.walk chart.new) }
+        ensures found { V.right → (first : Chart) (bars : List Bool) (counted late : Bool) (rest : List Spot)
+            → AreFound V.maps V.pages V.size first bars counted late rest tree.now self.old.uses self.old.walk
+            chart.old → OnOk result (AreFound V.maps V.pages V.size first bars counted late rest tree.now
+            self.new.uses self.new.walk chart.new) }
+        ensures fewer { IfOk result (λ on. on ≡ true
+            → count_by not self.new.uses.marks.items < count_by not self.old.uses.marks.items) }
+        ensures all { IfOk result (λ on. on ≡ false → self.new.walk.stack.items ≡ []) }
         ensures same { SameSource V.pages V.size V.right V.given (S.pages source.new) (S.size source.new)
             (S.reads_right source.new) (S.gives_pages source.new) }
     {
@@ -304,20 +316,18 @@ impl<V: Snapshot> Walker<V> {
             (S.reads_right source.old) (S.gives_pages source.old) }
         ensures ends { IfErr result (λ e. Ends V.given e.fault) }
         ensures long { length chart.new.roles.items ≡ length chart.old.roles.items }
-        ensures found { V.right → (first : Chart) → IsItemFound V.pages tree.now item
-            → HasFound V.maps V.pages V.size first self.old.walk chart.old
-            → OnOk result (HasFound V.maps V.pages V.size first self.new.walk chart.new) }
+        ensures found { V.right → (first : Chart) (bars : List Bool) (counted late : Bool) (rest : List Spot) (s : Spot)
+            → IsItemOf tree.now item s
+            → HasFound V.maps V.pages V.size first bars counted late (s ∷ rest) self.old.uses self.old.walk chart.old
+            → OnOk result (HasFound V.maps V.pages V.size first bars counted late rest self.new.uses self.new.walk
+            chart.new) }
         ensures same { SameSource V.pages V.size V.right V.given (S.pages source.new) (S.size source.new)
             (S.reads_right source.new) (S.gives_pages source.new) }
     {
         self.walk.leaf_level = None;
         self.walk.stack.clear();
         push(&mut self.walk.stack, item)?;
-        'pages: for _ in 0..=source.count() {
-            if !self.advance(source, chart, tree)? {
-                break;
-            }
-        }
+        'pages: while self.advance(source, chart, tree)? {}
         Ok(())
     }
 
@@ -332,9 +342,10 @@ impl<V: Snapshot> Walker<V> {
             (S.reads_right source.old) (S.gives_pages source.old) }
         ensures ends { IfErr result (λ e. Ends V.given e.fault) }
         ensures long { length chart.new.roles.items ≡ length chart.old.roles.items }
-        ensures found { V.right → (roles : Chart) → first ≡ first_trunk V.pages
-            → HasFound V.maps V.pages V.size roles self.old.walk chart.old
-            → OnOk result (HasFound V.maps V.pages V.size roles self.new.walk chart.new) }
+        ensures found { V.right → first ≡ first_trunk V.pages
+            → Begins V.maps V.pages V.size self.old.uses self.old.walk chart.old
+            → OnOk result (HasFound V.maps V.pages V.size chart.old self.old.uses.marks.items false false
+            (first_root_spot ∷ []) self.new.uses self.new.walk chart.new) }
         ensures same { SameSource V.pages V.size V.right V.given (S.pages source.new) (S.size source.new)
             (S.reads_right source.new) (S.gives_pages source.new) }
     {
@@ -352,8 +363,10 @@ impl<V: Snapshot> Walker<V> {
     /// Tells where as many pages are not free as the header says.
     fn survey_free_count(&self, chart: &mut Chart, said: u32) -> Result<(), CheckError>
         ensures same { chart.new.roles.items ≡ chart.old.roles.items }
-        ensures tells { OnOk result
-            (TellsFound V.maps V.pages V.size chart.old.faults.items chart.new.faults.items) }
+        ensures tells { OnOk result (((self.now.uses.counts.free ≡ said)
+            × (chart.new.faults.items ≡ chart.old.faults.items))
+            ⊎ ((e : CheckError) × (self.now.uses.counts.free ≢ said) × IsFreeCount e
+            × ArePutDown chart.old.faults.items (e ∷ []) chart.new.faults.items)) }
         ensures ends { IfErr result (λ e. e.fault ≡ Fault.NoMemory) }
     {
         match self.judge_free_count(said) {
@@ -373,9 +386,11 @@ impl<V: Snapshot> Walker<V> {
             (S.reads_right source.old) (S.gives_pages source.old) }
         ensures ends { IfErr result (λ e. Ends V.given e.fault) }
         ensures long { length chart.new.roles.items ≡ length chart.old.roles.items }
-        ensures found { V.right → (first : Chart) → start.now.first_trunk ≡ first_trunk V.pages
-            → HasFound V.maps V.pages V.size first self.old.walk chart.old
-            → OnOk result (HasFound V.maps V.pages V.size first self.new.walk chart.new) }
+        ensures found { V.right → start.now.first_trunk ≡ first_trunk V.pages
+            → start.now.free_pages ≡ free_pages V.pages
+            → Begins V.maps V.pages V.size self.old.uses self.old.walk chart.old
+            → OnOk result (HasFound V.maps V.pages V.size chart.old self.old.uses.marks.items true false []
+            self.new.uses self.new.walk chart.new) }
         ensures same { SameSource V.pages V.size V.right V.given (S.pages source.new) (S.size source.new)
             (S.reads_right source.new) (S.gives_pages source.new) }
     {
@@ -400,9 +415,11 @@ impl<V: Snapshot> Walker<V> {
             (S.reads_right source.old) (S.gives_pages source.old) }
         ensures ends { IfErr result (λ e. Ends V.given e.fault) }
         ensures long { length chart.new.roles.items ≡ length chart.old.roles.items }
-        ensures found { V.right → (first : Chart) → IsRootFound V.pages root
-            → HasFound V.maps V.pages V.size first self.old.walk chart.old
-            → OnOk result (HasFound V.maps V.pages V.size first self.new.walk chart.new) }
+        ensures found { V.right → (first : Chart) (bars : List Bool) (rest : List Spot) (s : Spot)
+            → IsRootAt V.pages root s
+            → HasFound V.maps V.pages V.size first bars true true (s ∷ rest) self.old.uses self.old.walk chart.old
+            → OnOk result (HasFound V.maps V.pages V.size first bars true true rest self.new.uses self.new.walk
+            chart.new) }
         ensures same { SameSource V.pages V.size V.right V.given (S.pages source.new) (S.size source.new)
             (S.reads_right source.new) (S.gives_pages source.new) }
     {
@@ -427,6 +444,31 @@ impl<V: Snapshot> Walker<V> {
         self.survey_from(source, chart, &tree, item)
     }
 
+    /// Follows the trees of the roots, in their order, also behind faults.
+    fn survey_roots<S: PageSource>(
+        &mut self,
+        source: &mut S,
+        chart: &mut Chart,
+        roots: &[Root],
+    ) -> Result<(), CheckError>
+        requires same { SameSource V.pages V.size V.right V.given (S.pages source.old) (S.size source.old)
+            (S.reads_right source.old) (S.gives_pages source.old) }
+        ensures ends { IfErr result (λ e. Ends V.given e.fault) }
+        ensures long { length chart.new.roles.items ≡ length chart.old.roles.items }
+        ensures found { V.right → (first : Chart) (bars : List Bool) (spots : List Spot)
+            → RootsMatch V.pages roots.now spots
+            → HasFound V.maps V.pages V.size first bars true true spots self.old.uses self.old.walk chart.old
+            → OnOk result (HasFound V.maps V.pages V.size first bars true true [] self.new.uses self.new.walk
+            chart.new) }
+        ensures same { SameSource V.pages V.size V.right V.given (S.pages source.new) (S.size source.new)
+            (S.reads_right source.new) (S.gives_pages source.new) }
+    {
+        'roots: for root in roots {
+            self.survey_root(source, chart, *root)?;
+        }
+        Ok(())
+    }
+
     /// Follows the trees of the roots that the sound rows of the schema name, also behind faults.
     fn survey_others<S: PageSource>(
         &mut self,
@@ -438,24 +480,22 @@ impl<V: Snapshot> Walker<V> {
             (S.reads_right source.old) (S.gives_pages source.old) }
         ensures ends { IfErr result (λ e. Ends V.given e.fault) }
         ensures long { length chart.new.roles.items ≡ length chart.old.roles.items }
-        ensures found { V.right → (first : Chart)
-            → HasFound V.maps V.pages V.size first self.old.walk chart.old
-            → OnOk result (HasFound V.maps V.pages V.size first self.new.walk chart.new) }
+        ensures found { V.right → (first : Chart) (bars : List Bool)
+            → HasFound V.maps V.pages V.size first bars true false [] self.old.uses self.old.walk chart.old
+            → OnOk result (HasFound V.maps V.pages V.size first bars true true [] self.new.uses self.new.walk
+            chart.new) }
         ensures same { SameSource V.pages V.size V.right V.given (S.pages source.new) (S.size source.new)
             (S.reads_right source.new) (S.gives_pages source.new) }
     {
         let roots = sound_roots(alloc, source, &mut self.reader, chart, &self.walk.rows)?;
-        'roots: for root in &roots {
-            self.survey_root(source, chart, *root)?;
-        }
-        Ok(())
+        self.survey_roots(source, chart, &roots)
     }
 
     /// Tells where the largest root isn't the one that the header says, of a database with pointer maps.
     fn survey_largest_root(&self, chart: &mut Chart, said: u32) -> Result<(), CheckError>
         ensures same { chart.new.roles.items ≡ chart.old.roles.items }
-        ensures tells { V.right → OnOk result
-            (TellsFound V.maps V.pages V.size chart.old.faults.items chart.new.faults.items) }
+        ensures tells { V.right → said ≡ word (page V.pages 1) 52 → OnOk result
+            (TellsLargest V.maps V.pages self.now.uses chart.old.faults.items chart.new.faults.items) }
         ensures ends { IfErr result (λ e. e.fault ≡ Fault.NoMemory) }
     {
         match self.judge_largest_root(said) {
@@ -476,9 +516,12 @@ impl<V: Snapshot> Walker<V> {
             (S.reads_right source.old) (S.gives_pages source.old) }
         ensures ends { IfErr result (λ e. Ends V.given e.fault) }
         ensures long { length chart.new.roles.items ≡ length chart.old.roles.items }
-        ensures found { V.right → (first : Chart) → start.now.first_trunk ≡ first_trunk V.pages
-            → HasFound V.maps V.pages V.size first self.old.walk chart.old
-            → OnOk result (HasFound V.maps V.pages V.size first self.new.walk chart.new) }
+        ensures found { V.right → start.now.first_trunk ≡ first_trunk V.pages
+            → start.now.free_pages ≡ free_pages V.pages
+            → start.now.largest_root ≡ word (page V.pages 1) 52
+            → Begins V.maps V.pages V.size self.old.uses self.old.walk chart.old
+            → OnOk result (HasAll V.maps V.pages V.size chart.old self.old.uses.marks.items
+            self.new.uses self.new.walk chart.new) }
         ensures same { SameSource V.pages V.size V.right V.given (S.pages source.new) (S.size source.new)
             (S.reads_right source.new) (S.gives_pages source.new) }
     {
@@ -523,7 +566,8 @@ fn survey_snapshot<V: Snapshot, S: PageSource>(
     requires same { (S.pages source.old ≡ V.pages) × (S.size source.old ≡ V.size) ×
         (V.right → S.reads_right source.old) × (V.given → S.gives_pages source.old) }
     ensures not { V.right → IfOk result (λ walked. walked ≡ false → usable_size V.pages < 480) }
-    ensures found { V.right → length chart.old.roles.items ≡ length V.pages → IfOk result (λ walked. walked ≡ true
+    ensures found { V.right → length chart.old.roles.items ≡ length V.pages
+        → HasNoFree V.pages chart.old.roles.items → IfOk result (λ walked. walked ≡ true
         → IsSurveyed V.maps V.pages V.size chart.old.roles.items chart.new.roles.items chart.new.faults.items) }
     ensures ends { IfErr result (λ e. Ends V.given e.fault) }
     ensures long { length chart.new.roles.items ≡ length chart.old.roles.items }

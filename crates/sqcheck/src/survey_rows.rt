@@ -5,10 +5,11 @@ ghost use Rattle.sqpage.specs.declared.fault.Fault.{Fault};
 ghost use Rattle.sqpage.specs.declared.kind.Kind.TheVariants.{TableLeaf};
 ghost use Rattle.sqcheck.specs.internal.Surveys.{Ends, IsEnd};
 ghost use Rattle.sqcheck.specs.internal.Snapshots.{SameSource};
-ghost use Rattle.sqcheck.specs.internal.Schema.{HasPayloadWithin};
-ghost use Rattle.sqcheck.specs.internal.Found.{IsRootFound};
-ghost use Rattle.sqcheck.specs.internal.Found.{AddsRoot, IsCellFound, IsPageFound, IsLeafFound, TellsFound, TellsRow};
-ghost use Rattle.sqpage.specs.Lists.{Every};
+ghost use Rattle.sqcheck.specs.Places.{InRow};
+ghost use Rattle.sqcheck.specs.internal.Schema.{HasPayloadWithin, InRowAt, InRowsOf};
+ghost use Rattle.sqcheck.specs.internal.Found.{AddsRoot, AddsRoots, IsCellFound, IsPageFound, IsLeafFound};
+ghost use Rattle.sqcheck.specs.internal.Found.{TellsFound, TellsRow};
+ghost use Rattle.sqpage.specs.Lists.{Every, Apart};
 ghost use Rattle.sqpage.specs.declared.kind.Kind.{Kind};
 ghost use Rattle.std.specs.Prelude.{OnOk};
 
@@ -42,7 +43,7 @@ fn keep_root(
 ) -> Result<(), CheckError>
     ensures ends { IfErr result (λ e. (e.fault ≡ Fault.NoMemory) ⊎ ((e.fault ≡ Fault.Source) × (found ≡ Err e))) }
     ensures roles { chart.new.roles.items ≡ chart.old.roles.items }
-    ensures adds { OnOk result (AddsRoot holder found roots.old.items roots.new.items) }
+    ensures adds { OnOk result (AddsRoot count holder found roots.old.items roots.new.items) }
     ensures tells { OnOk result (TellsRow found chart.old.faults.items chart.new.faults.items) }
 {
     match found {
@@ -97,8 +98,8 @@ fn survey_row<V: Snapshot, S: PageSource>(
         (S.reads_right source.old) (S.gives_pages source.old) }
     ensures ends { IfErr result (λ e. Ends V.given e.fault) }
     ensures roles { chart.new.roles.items ≡ chart.old.roles.items }
-    ensures found { V.right → IsCellFound V.pages cell.now → Every (IsRootFound V.pages) rows.old.roots.items
-        → OnOk result (Every (IsRootFound V.pages) rows.new.roots.items) }
+    ensures found { V.right → (c : IsCellFound V.pages cell.now) → OnOk result
+        (AddsRoots V.pages (InRowAt V.pages cell.now.page c.0) rows.old.roots.items rows.new.roots.items) }
     ensures tells { V.right → IsCellFound V.pages cell.now → OnOk result
         (TellsFound V.maps V.pages V.size chart.old.faults.items chart.new.faults.items) }
     ensures room { length rows.new.page.items ≡ V.size }
@@ -131,8 +132,8 @@ fn survey_cells<V: Snapshot, S: PageSource>(
         (S.reads_right source.old) (S.gives_pages source.old) }
     ensures ends { IfErr result (λ e. Ends V.given e.fault) }
     ensures roles { chart.new.roles.items ≡ chart.old.roles.items }
-    ensures found { V.right → IsPageFound V.pages page.now → Every (IsRootFound V.pages) rows.old.roots.items
-        → OnOk result (Every (IsRootFound V.pages) rows.new.roots.items) }
+    ensures found { V.right → IsPageFound V.pages page.now → OnOk result
+        (AddsRoots V.pages (InRow V.pages page.now.number) rows.old.roots.items rows.new.roots.items) }
     ensures tells { V.right → IsPageFound V.pages page.now → OnOk result
         (TellsFound V.maps V.pages V.size chart.old.faults.items chart.new.faults.items) }
     ensures room { length rows.new.page.items ≡ V.size }
@@ -160,8 +161,8 @@ fn survey_rows<V: Snapshot, S: PageSource>(
         (S.reads_right source.old) (S.gives_pages source.old) }
     ensures ends { IfErr result (λ e. Ends V.given e.fault) }
     ensures roles { chart.new.roles.items ≡ chart.old.roles.items }
-    ensures found { V.right → IsLeafFound V.pages number → Every (IsRootFound V.pages) rows.old.roots.items
-        → OnOk result (Every (IsRootFound V.pages) rows.new.roots.items) }
+    ensures found { V.right → IsLeafFound V.pages number → OnOk result
+        (AddsRoots V.pages (InRow V.pages number) rows.old.roots.items rows.new.roots.items) }
     ensures tells { V.right → IsLeafFound V.pages number → OnOk result
         (TellsFound V.maps V.pages V.size chart.old.faults.items chart.new.faults.items) }
     ensures usable { reader.new.usable ≡ reader.old.usable }
@@ -195,8 +196,8 @@ pub(crate) fn sound_roots<V: Snapshot, S: PageSource>(
         (S.reads_right source.old) (S.gives_pages source.old) }
     ensures ends { IfErr result (λ e. Ends V.given e.fault) }
     ensures roles { chart.new.roles.items ≡ chart.old.roles.items }
-    ensures found { V.right → Every (IsLeafFound V.pages) leaves.now
-        → IfOk result (λ roots. Every (IsRootFound V.pages) roots.items) }
+    ensures found { V.right → Every (IsLeafFound V.pages) leaves.now → Apart leaves.now → IfOk result
+        (λ roots. AddsRoots V.pages (InRowsOf V.pages leaves.now) [] roots.items) }
     ensures tells { V.right → Every (IsLeafFound V.pages) leaves.now → OnOk result
         (TellsFound V.maps V.pages V.size chart.old.faults.items chart.new.faults.items) }
     ensures usable { reader.new.usable ≡ reader.old.usable }

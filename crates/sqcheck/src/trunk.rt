@@ -9,6 +9,8 @@ ghost use Rattle.sqcheck.specs.internal.Walking.{Pushes, IsNextTrunk, IsLeafFrom
 ghost use Rattle.sqcheck.specs.internal.Walking.{FollowRefusedBy, IsPutDown};
 ghost use Rattle.sqcheck.specs.internal.Walking.{Passes, KeepsWalk};
 ghost use Rattle.sqcheck.specs.internal.Walking.{TopLeads};
+ghost use Rattle.sqcheck.specs.internal.Counting.{AddsItem};
+ghost use Rattle.sqcheck.specs.internal.Found.{TakesOrNot};
 ghost use Rattle.sqcheck.specs.internal.Snapshots.{SameSource};
 ghost use Rattle.sqcheck.specs.declared.item.Task.TheVariants.{Trunk, Link};
 ghost use Rattle.sqcheck.specs.declared.tree.Tree.{Tree};
@@ -87,6 +89,9 @@ impl<V: Snapshot> Walker<V> {
         ensures level { self.new.walk.leaf_level ≡ self.old.walk.leaf_level }
         ensures source { IfErr result (λ e. e.fault ≡ Fault.Source → ¬ V.given) }
         ensures marks { OnOk result (Marks self.old.uses.marks.items self.new.uses.marks.items item.page) }
+        ensures takes { TakesOrNot self.old.uses self.new.uses item }
+        ensures counts { OnOk result (AddsItem self.old.uses.counts self.new.uses.counts item) }
+        ensures rows { IfErr result (λ e. e.fault ≢ Fault.SchemaRecord) }
         ensures left { IfErr result (λ e. e.fault ≢ Fault.NoMemory → KeepsWalk self.old.walk self.new.walk) }
         ensures same { SameSource V.pages V.size V.right V.given (S.pages source.new) (S.size source.new)
             (S.reads_right source.new) (S.gives_pages source.new) }
@@ -127,6 +132,9 @@ impl<V: Snapshot> Walker<V> {
         ensures level { self.new.walk.leaf_level ≡ self.old.walk.leaf_level }
         ensures source { IfErr result (λ e. e.fault ≡ Fault.Source → ¬ V.given) }
         ensures marks { OnOk result (Marks self.old.uses.marks.items self.new.uses.marks.items item.page) }
+        ensures takes { TakesOrNot self.old.uses self.new.uses item }
+        ensures counts { OnOk result (AddsItem self.old.uses.counts self.new.uses.counts item) }
+        ensures rows { IfErr result (λ e. e.fault ≢ Fault.SchemaRecord) }
         ensures left { IfErr result (λ e. e.fault ≢ Fault.NoMemory → KeepsWalk self.old.walk self.new.walk) }
         ensures same { SameSource V.pages V.size V.right V.given (S.pages source.new) (S.size source.new)
             (S.reads_right source.new) (S.gives_pages source.new) }

@@ -87,6 +87,8 @@ impl Uses {
         ensures counted { OnOk result (AddsItem self.old.counts self.new.counts item) }
         ensures fewer { OnOk result (count_by not self.new.marks.items < count_by not self.old.marks.items) }
         ensures length { length self.new.marks.items ≡ length self.old.marks.items }
+        ensures none { OnErr result ((self.new.marks.items ≡ self.old.marks.items)
+            × (self.new.counts ≡ self.old.counts)) }
         ensures err { IfErr result (λ e. MarkRefused self.old.marks.items item.holder item.page e.fault e.page) }
     {
         mark(&mut self.marks, item.holder, item.page)?;

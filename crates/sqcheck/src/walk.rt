@@ -4,6 +4,8 @@ ghost use Rattle.sqpage.specs.declared.fault.Fault.{Fault};
 ghost use Rattle.sqpage.specs.internal.Taking.{Marks};
 ghost use Rattle.sqcheck.specs.Places.{Spot, HasKind};
 ghost use Rattle.sqcheck.specs.Roles.{IsRoleOf};
+ghost use Rattle.sqcheck.specs.internal.Counting.{AddsItem};
+ghost use Rattle.sqcheck.specs.internal.Found.{TakesOrNot};
 ghost use Rattle.sqcheck.specs.internal.Snapshots.{SameSource};
 ghost use Rattle.sqcheck.specs.internal.Walking.{Follows, Passes, KeepsWalk, Knows, IsProper, role_of};
 ghost use Rattle.sqcheck.specs.internal.Walking.{FollowRefusedBy, IsPutDown, LevelAfter};
@@ -46,6 +48,9 @@ impl<V: Snapshot> Walker<V> {
             → LevelAfter V.pages item self.old.walk.leaf_level self.new.walk.leaf_level }
         ensures source { IfErr result (λ e. e.fault ≡ Fault.Source → ¬ V.given) }
         ensures marks { OnOk result (Marks self.old.uses.marks.items self.new.uses.marks.items item.page) }
+        ensures takes { TakesOrNot self.old.uses self.new.uses item }
+        ensures counts { OnOk result (AddsItem self.old.uses.counts self.new.uses.counts item) }
+        ensures rows { IfErr result (λ e. e.fault ≢ Fault.SchemaRecord) }
         ensures left { IfErr result (λ e. e.fault ≢ Fault.NoMemory → KeepsWalk self.old.walk self.new.walk) }
         ensures same { SameSource V.pages V.size V.right V.given (S.pages source.new) (S.size source.new)
             (S.reads_right source.new) (S.gives_pages source.new) }
@@ -88,6 +93,9 @@ impl<V: Snapshot> Walker<V> {
             → LevelAfter V.pages item self.old.walk.leaf_level self.new.walk.leaf_level }
         ensures source { IfErr result (λ e. e.fault ≡ Fault.Source → ¬ V.given) }
         ensures marks { OnOk result (Marks self.old.uses.marks.items self.new.uses.marks.items item.page) }
+        ensures takes { TakesOrNot self.old.uses self.new.uses item }
+        ensures counts { OnOk result (AddsItem self.old.uses.counts self.new.uses.counts item) }
+        ensures rows { IfErr result (λ e. e.fault ≢ Fault.SchemaRecord) }
         ensures left { IfErr result (λ e. e.fault ≢ Fault.NoMemory → KeepsWalk self.old.walk self.new.walk) }
         ensures same { SameSource V.pages V.size V.right V.given (S.pages source.new) (S.size source.new)
             (S.reads_right source.new) (S.gives_pages source.new) }

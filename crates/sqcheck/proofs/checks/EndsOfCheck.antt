@@ -73,6 +73,10 @@ pub maps_used : (maps : Bool) (b : List ℕ) (h : DbHeader) (size : ℕ) → Has
 maps_used maps b h size is used = ⊎_elim (λ yes. yes)
     (λ no. absurd (let none : h.largest_root ≡ 0 = is.largest_root ∙ is.plain no in let both : false ≡ true = sym (ap not (eq-eqb h.largest_root 0 none)) ∙ used in cc)) (either maps)
 
+-- With auto-vacuum there are pointer maps.
+pub maps_all : (maps : Bool) (d : Database) (h : DbHeader) (size : ℕ) → HasHeaderOf maps h size (page d 1) → IsAutoVacuum d → not (eqb h.largest_root 0) ≡ true
+maps_all maps d h size is auto = ⊎_elim (λ e. absurd (auto (sym is.largest_root ∙ eqb-true h.largest_root 0 e))) (λ e. ap not e) (either (eqb h.largest_root 0))
+
 -- The first page is as long as all are.
 pub first_sized : (d : Database) (size n : ℕ) → n ≡ length d → n ≢ 0 → Every (λ b. length b ≡ size) d → length (page d 1) ≡ size
 unfolding page

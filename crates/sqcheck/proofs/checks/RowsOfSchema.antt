@@ -17,7 +17,7 @@ use Rattle.sqcheck.specs.declared.schema.Root.{Root}
 use Rattle.sqcheck.specs.Places.{root, Spot, spot, page_as, HasKind, IsCellAt, IsRow, IsSchemaRow, InRow, root_of_tree}
 use Rattle.sqcheck.specs.WellFormed.{IsSound, IsReached}
 use Rattle.sqcheck.specs.Stands.{StandsBy}
-use Rattle.sqcheck.specs.internal.Schema.{IsRowsPage, AreSchemaRows, AllSchemaRows, InRowBelow, InRowsOf, IsRootAt, RootsMatch, Finds, KeepsFound}
+use Rattle.sqcheck.specs.internal.Schema.{IsRowsPage, AreSchemaRows, AllSchemaRows, InRowAt, InRowBelow, InRowsOf, IsRootAt, RootsMatch, Finds, KeepsFound}
 use Rattle.sqcheck.proofs.checks.ListsByRecursion.{every_weaker, every_map, map_append, apart_append}
 
 -- a fault that can't be another than want of memory
@@ -63,7 +63,7 @@ pages_once d h k a at to (p ∷ ps) (q ∷ qs) l m e =
     let rest : ps ≡ qs = pages_once d p q (next_in (page d p)) at to ps qs l.2 (subst (λ z. Leads d q (next_in (page d z)) qs to 0) (sym same) m.2) n in
     ap (λ z. z ∷ ps) same ∙ ap (λ l. q ∷ l) rest
 
-links_same : (c e : Cell) → SameCell c e → links c ≡ links e
+pub links_same : (c e : Cell) → SameCell c e → links c ≡ links e
 links_same c e s = let u = s.usable in let p = s.payload in let l : length c.local.now ≡ length e.local.now = ap length s.local in rw (u, p, l) refl
 
 payload_once : (d : Database) (c e : Cell) (x y : List ℕ) → SameCell c e → IsPayload d c x → IsPayload d e y → x ≡ y
@@ -74,11 +74,22 @@ payload_once d c e x y s f g =
     ∙ ap (λ l. take (payload_size e) (l ++ contents d c.usable f.pages)) s.local ∙ ap (λ u. take (payload_size e) (e.local.now ++ contents d u f.pages)) s.usable
     ∙ ap (λ ps. take (payload_size e) (e.local.now ++ contents d e.usable ps)) pages ∙ sym g.content_is
 
+-- the payload of a cell is that of the same cell
+pub payload_as : (d : Database) (c e : Cell) (x : List ℕ) → SameCell c e → IsPayload d c x → IsPayload d e x
+payload_as d c e x s f = record {
+  pages = f.pages;
+  last = f.last;
+  enough = f.enough ∙ links_same c e s;
+  follows = record { linked = subst (λ h. Leads d h e.overflow f.pages f.last 0) s.page (subst (λ o. Leads d c.page o f.pages f.last 0) s.overflow f.follows.linked); distinct = f.follows.distinct };
+  content_is = f.content_is ∙ ap (λ o. take (Rattle.std.proofs.Common.unwrap_or o 0) (c.local.now ++ contents d c.usable f.pages)) s.payload
+      ∙ ap (λ l. take (payload_size e) (l ++ contents d c.usable f.pages)) s.local ∙ ap (λ u. take (payload_size e) (e.local.now ++ contents d u f.pages)) s.usable;
+}
+
 -- a row's bytes are determined
 pub row_once : (d : Database) (b : Page) (i : ℕ) (x y : List ℕ) → IsRow d b i x → IsRow d b i y → x ≡ y
 row_once d b i x y f g = payload_once d f.cell g.cell x y (cell_once b i f.cell g.cell f.is.1 g.is.1) f.payload g.payload
 
-roots_append : (d : Database) (xs ys : List Root) (ss ts : List Spot) → RootsMatch d xs ss → RootsMatch d ys ts → RootsMatch d (xs ++ ys) (ss ++ ts)
+pub roots_append : (d : Database) (xs ys : List Root) (ss ts : List Spot) → RootsMatch d xs ss → RootsMatch d ys ts → RootsMatch d (xs ++ ys) (ss ++ ts)
 roots_append d [] ys [] ts m n = n
 roots_append d [] ys (s ∷ ss) ts m n = absurd m
 roots_append d (x ∷ xs) ys [] ts m n = absurd m
@@ -138,16 +149,12 @@ kept_more n all old new x are full room = ⊎_elim many few (cases_lt n (length 
 keep_one : (d : Database) (P : Spot → Type 0) (old new : List Root) (found : Root) (s : Spot) → (length d < length old → new ≡ old) → (length old ≤ length d → new ≡ old ++ found ∷ []) → IsRootAt d found s → P s → ((t : Spot) → P t → t ≡ s) → KeepsFound d P old new
 keep_one d P old new found s full room is p once = λ all are. (all ++ found ∷ [], find_one d P all (all ++ found ∷ []) found s refl is p once, kept_more (length d) all old new found are full room)
 
--- the place of the root in row n alone
-InRowAt : Database → (p n : ℕ) → Spot → Type 0
-InRowAt d p n t = (bytes : List ℕ) × (r : ℕ) × IsRow d (page_as d TableLeaf p) n bytes × IsSchemaRow bytes r × (r ≢ 0) × (t ≡ spot (root p n) r (root_of_tree d r))
-
 -- A row more.
 pub row_more : (d : Database) (p n r : ℕ) (bytes : List ℕ) (cell : Cell) (old mid new : List Root) → IsCellAt (page_as d TableLeaf p) n cell → IsPayload d cell bytes → IsSchemaRow bytes r → ((q : ℕ) → IsSchemaRow bytes q → q ≡ r)
     → (r ≡ 0 → new ≡ mid) → (length d < length mid → new ≡ mid) → (r ≢ 0 → length mid ≤ length d → new ≡ mid ++ record { holder = p; page = r } ∷ []) → KeepsFound d (InRowBelow d p n) old mid → AreSchemaRows d p n
     → KeepsFound d (InRowBelow d p (n + 1)) old new × AreSchemaRows d p (n + 1)
 row_more d p n r bytes cell old mid new is payload row once zero' full found finds rows = (
-  keep_both d (InRowBelow d p n) (InRowAt' n) (InRowBelow d p (n + 1)) old mid new finds here
+  keep_both d (InRowBelow d p n) (InRowAt d p n) (InRowBelow d p (n + 1)) old mid new finds here
       (λ t h. (h.0, h.1, h.2, (let lt : h.0 < n = h.3 in let k : h.0 < n + 1 = omega arith in k), h.4, h.5, h.6, h.7))
       (λ t h. (n, h.0, h.1, (let k : n < n + 1 = omega arith in k), h.2, h.3, h.4, h.5))
       (λ t h. elim (cases_eq h.0 n) [
@@ -161,19 +168,16 @@ row_more d p n r bytes cell old mid new is payload row once zero' full found fin
   ]),
 )
   where
-    InRowAt' : ℕ → Spot → Type 0
-    InRowAt' n t = (bytes : List ℕ) × (r : ℕ) × IsRow d (page_as d TableLeaf p) n bytes × IsSchemaRow bytes r × (r ≢ 0) × (t ≡ spot (root p n) r (root_of_tree d r))
-
     this : IsRow d (page_as d TableLeaf p) n bytes
     this = record { cell = cell; is = is; payload = payload }
 
-    only : (t : Spot) → (h : InRowAt' n t) → h.1 ≡ r
+    only : (t : Spot) → (h : InRowAt d p n t) → h.1 ≡ r
     only t h = once h.1 (subst (λ b. IsSchemaRow b h.1) (row_once d (page_as d TableLeaf p) n h.0 bytes h.2 this) h.3)
 
-    here : KeepsFound d (InRowAt' n) mid new
+    here : KeepsFound d (InRowAt d p n) mid new
     here = elim (cases_eq r 0) [
-      | inl z ↦ subst (KeepsFound d (InRowAt' n) mid) (sym (zero' z)) (keep_nothing d (InRowAt' n) mid (λ t h. h.4 (only t h ∙ z)))
-      | inr nz ↦ keep_one d (InRowAt' n) mid new (record { holder = p; page = r }) (spot (root p n) r (root_of_tree d r)) full (found nz) (record { page = refl; stands = refl; role = refl }) (bytes, r, this, row, nz, refl)
+      | inl z ↦ subst (KeepsFound d (InRowAt d p n) mid) (sym (zero' z)) (keep_nothing d (InRowAt d p n) mid (λ t h. h.4 (only t h ∙ z)))
+      | inr nz ↦ keep_one d (InRowAt d p n) mid new (record { holder = p; page = r }) (spot (root p n) r (root_of_tree d r)) full (found nz) (record { page = refl; stands = refl; role = refl }) (bytes, r, this, row, nz, refl)
           (λ t h. h.5 ∙ ap (λ q. spot (root p n) q (root_of_tree d q)) (only t h))
     ]
 

@@ -52,7 +52,7 @@ fits_under IsNode d s t sound h = go s.page s.role sound h.1
     go p (node x) is (kind, has, inr (i, inr h)) = subst (LinkFits d) (sym h.2) (λ o n e. absurd (cc))
 
 -- A page more is marked.
-now_marked : (old new : List Bool) (p : ℕ) → Marks old new p → is_marked new p ≡ true
+pub now_marked : (old new : List Bool) (p : ℕ) → Marks old new p → is_marked new p ≡ true
 now_marked old new p m =
     let above : 0 < p = m.above in
     let within : p ≤ length old = m.within in

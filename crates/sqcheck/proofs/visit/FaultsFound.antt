@@ -14,7 +14,8 @@ use Rattle.sqpage.specs.Freelist.{IsPage, IsWithin, usable_size}
 use Rattle.sqpage.specs.PointerMaps.{IsEntryPlace}
 use Rattle.sqpage.specs.Lists.{In, Every}
 use Rattle.sqpage.specs.Page.{is_interior, IsBtreePage}
-use Rattle.sqpage.specs.internal.Taking.{MarkRefused}
+use Rattle.sqpage.specs.internal.Taking.{MarkRefused, is_marked}
+use Rattle.sqcheck.specs.internal.Agenda.{LinkFits}
 use Rattle.sqpage.proofs.chain.ListsByRecursion.{in_left, in_right, every_append}
 use Rattle.sqcheck.specs.declared.chart.Chart.{Chart}
 use Rattle.sqcheck.specs.declared.item.Item.{Item}
@@ -24,15 +25,15 @@ use Rattle.sqcheck.specs.declared.role.Role as uses
 use Rattle.sqcheck.specs.declared.role.Role.TheVariants.{Btree, Overflow, FreeTrunk, FreeLeaf, LockByte, PointerMap, Unused}
 use Rattle.sqcheck.specs.declared.schema.Root.{Root}
 use Rattle.sqcheck.specs.declared.tree.Tree.{Tree}
-use Rattle.sqcheck.specs.Found.{IsWhole, IsFound, HasFoundLeaf, IsFoundFault}
-use Rattle.sqcheck.specs.Places.{holder, Node, Role, trunk, free_leaf, link, node, Spot, HasKind, IsCellAt, IsRow, IsSchemaRow, page_as}
-use Rattle.sqcheck.specs.Stands.{NodeRefusedBy, is_of_header}
-use Rattle.sqcheck.specs.Surveys.{most_faults, role_at, Names, IsNamed, IsNamedFault, HasJudgedRole}
+use Rattle.sqcheck.specs.Found.{IsWhole, IsFound, HasFoundLeaf, IsFoundFault, IsWrongAt, IsFaultOf}
+use Rattle.sqcheck.specs.Places.{holder, overflow, Node, Role, trunk, free_leaf, link, node, Spot, HasKind, IsCellAt, IsRow, IsSchemaRow, page_as}
+use Rattle.sqcheck.specs.Stands.{NodeRefusedBy, PageWrongBy, IsAsideWith, is_of_header}
+use Rattle.sqcheck.specs.Surveys.{most_faults, role_at, Names, IsNamedFault, HasFreeCount}
 use Rattle.sqcheck.specs.WellFormed.{HasSoundHeader, is_link, IsSoundPage, IsSoundWith}
 use Rattle.sqcheck.specs.internal.Charting.{ArePutDown, unused_fault, unused_faults}
-use Rattle.sqcheck.specs.internal.Found.{IsItemFound, IsCellFound, IsRootFound, IsLevelFound, AreToldFound, TellsFound, TellsRow, IsItemNamed, IsHeaderNamed, AreRolesFound, IsChartFound, IsSurveyed}
+use Rattle.sqcheck.specs.internal.Found.{IsItemFound, IsCellFound, IsRootFound, IsLevelFound, AreToldFound, TellsFound, TellsRow, IsHeaderNamed, IsFreeCount}
 use Rattle.sqcheck.specs.internal.Heading.{HeaderFault}
-use Rattle.sqcheck.specs.internal.Walking.{role_of, node_in, IsItemOf, IsSchemaLeaf, LinksOn, PageWrongBy, FollowRefusedBy, EntryRefused, IsPutDown, LevelAt, LevelAfter}
+use Rattle.sqcheck.specs.internal.Walking.{role_of, node_in, IsItemOf, IsSchemaLeaf, LinksOn, FollowRefusedBy, EntryRefused, IsPutDown, LevelAt, LevelAfter}
 use Rattle.sqcheck.proofs.checks.ListsByRecursion.{every_weaker}
 use Rattle.sqcheck.proofs.checks.RefutationOfWellFormedness.{kind_once}
 use Rattle.sqcheck.proofs.visit.RefusedItems.{refused_by}
@@ -59,7 +60,7 @@ module _ (maps : Bool) (d : Database) (size : ℕ) (tree : Tree) (it : Item) (fo
   is = found.2
 
   wrong : (role : Role) (fault : Fault) → s.role ≡ role → IsPage d it.page → PageWrongBy (HasFoundLeaf d) d it.page role fault → IsFoundFault maps d size fault it.page
-  wrong trunk fault e page h = subst (λ f. IsFoundFault maps d size f it.page) (sym h.0) (inl (s, found.1, sym is.page, page, e, h.1))
+  wrong trunk fault e page h = subst (λ f. IsFoundFault maps d size f it.page) (sym h.0) (s, found.1, sym is.page, page, e, h.1)
   wrong free_leaf fault e page h = absurd h
   wrong (link owner needed) fault e page h = subst (λ f. IsFoundFault maps d size f it.page) (sym h.0) (s, owner, found.1, sym is.page, page, e ∙ ap (link owner) h.1, h.2)
   wrong (node x) fault e page h = node_found maps d size s it.page x fault found.1 (sym is.page) page e h
@@ -70,44 +71,71 @@ module _ (maps : Bool) (d : Database) (size : ℕ) (tree : Tree) (it : Item) (fo
   link_named tasks.Leaf h l = absurd (cc)
   link_named (tasks.Node level low high) h l = absurd (cc)
 
-  not_taken : (marks : List Bool) (fault : Fault) (at : ℕ) → length marks ≡ length d → LinksOn it.task it.page → MarkRefused marks it.holder it.page fault at → IsFoundFault maps d size fault at
-  not_taken marks faults.PageOutside at len links h = (
+  -- Another place names the page, or nothing may.
+  abbrev IsAlsoNamed : Type 0
+  IsAlsoNamed = ((v : Spot) × IsFound d v × (v.place ≢ s.place) × (v.page ≡ s.page)) ⊎ IsAsideWith maps d size s.page
+
+  not_taken : (marks : List Bool) (fault : Fault) (at : ℕ) → length marks ≡ length d → (IsPage d s.page → is_marked marks s.page ≡ true → IsAlsoNamed) → LinksOn it.task it.page → MarkRefused marks it.holder it.page fault at
+      → IsFoundFault maps d size fault at
+  not_taken marks faults.PageOutside at len both links h = (
     s,
     found.1,
     sym is.stands ∙ sym h.0,
     (λ page. h.1 (subst (λ n. IsWithin n it.page) (sym len) (subst (IsPage d) (sym is.page) page))),
     (λ l z. link_named it.task links (subst (λ role. IsTrue (is_link role)) is.role l) (is.page ∙ z)),
   )
-  not_taken marks faults.PageTwice at len links h =
+  not_taken marks faults.PageTwice at len both links h =
       let page : IsPage d it.page = subst (λ n. IsWithin n it.page) len (h.1, h.2) in
-      subst (IsFoundFault maps d size faults.PageTwice) (sym h.0) (page, s, found.1, sym is.page)
-  not_taken marks _ at len links h = absurd h
+      subst (IsFoundFault maps d size faults.PageTwice) (sym h.0) (
+        page,
+        elim (both (subst (IsPage d) is.page page) (subst (λ n. is_marked marks n ≡ true) is.page h.3)) [
+          | inl v ↦ inl (v.0, s, v.1, found.1, v.2, v.3 ∙ sym is.page, sym is.page)
+          | inr aside ↦ inr (subst (IsAsideWith maps d size) (sym is.page) aside, s, found.1, sym is.page)
+        ],
+      )
+  not_taken marks _ at len both links h = absurd h
 
-  pub refusal_found : (level : Option ℕ) (marks : List Bool) (fault : Fault) (at : ℕ) → length marks ≡ length d → IsLevelFound d tree.root level → fault ≢ faults.NoMemory
-      → FollowRefusedBy (IsPutDown level) d tree it marks fault at → IsFoundFault maps d size fault at
-  refusal_found level marks fault at len known some h = go (refused_by (IsPutDown level) (HasFoundLeaf d) d tree it marks fault at known h)
+  -- A chain is cut.
+  cut : (owner needed at : ℕ) → LinkFits d s → s.role ≡ link owner needed → holder s.place ≡ at → (it.page ≡ 0) ⊎ (length d < needed) → IsFoundFault maps d size faults.ChainCut at
+  cut owner needed at fits role holds (inl none) = (s, owner, needed, found.1, role, holds, inl (sym is.page ∙ none))
+  cut owner needed at fits role holds (inr more) = elim (fits owner needed role) [
+    | inl o ↦ (s, owner, needed, found.1, role, holds, inr (o.0, o.1 ∙ ap (λ p. overflow p o.0) holds, more))
+    | inr le ↦ absurd (omega (arith, le, more))
+  ]
+
+  pub refusal_found : (level : Option ℕ) (marks : List Bool) (fault : Fault) (at : ℕ) → length marks ≡ length d → LinkFits d s → (IsPage d s.page → is_marked marks s.page ≡ true → IsAlsoNamed) → IsLevelFound d tree.root level
+      → fault ≢ faults.NoMemory → FollowRefusedBy (IsPutDown level) d tree it marks fault at → IsFoundFault maps d size fault at
+  refusal_found level marks fault at len fits both known some h = go (refused_by (IsPutDown level) (HasFoundLeaf d) d tree it marks fault at known h)
     where
       go : FollowRefusedBy (HasFoundLeaf d) d tree it marks fault at → IsFoundFault maps d size fault at
-      go (inl h) = not_taken marks fault at len h.0 h.1
+      go (inl h) = not_taken marks fault at len both h.0 h.1
       go (inr (inl h)) = subst (IsFoundFault maps d size fault) (sym h.0) (wrong (role_of tree it.task) fault is.role h.1 h.2)
-      go (inr (inr (inl h))) = subst (λ f. IsFoundFault maps d size f at) (sym h.0) (s, h.2, h.3, found.1, is.role ∙ ap (role_of tree) h.5, sym is.stands ∙ sym h.1, by h.6)
-        where
-          by : (it.page ≡ 0) ⊎ (length d < h.3) → (s.page ≡ 0) ⊎ (length d < h.3)
-          by (inl none) = inl (sym is.page ∙ none)
-          by (inr more) = inr more
+      go (inr (inr (inl h))) = subst (λ f. IsFoundFault maps d size f at) (sym h.0) (cut h.2 h.3 at fits (is.role ∙ ap (role_of tree) h.5) (sym is.stands ∙ sym h.1) h.6)
       go (inr (inr (inr h))) = absurd (some h)
 
-  -- Its fault stands at its page, or at the one that it stands in.
-  pub refusal_at : (level : Option ℕ) (marks : List Bool) (fault : Fault) (at : ℕ) → fault ≢ faults.NoMemory → FollowRefusedBy (IsPutDown level) d tree it marks fault at → (at ≡ it.page) ⊎ (at ≡ it.holder)
-  refusal_at level marks fault at some (inl h) = mark fault h.1
+  -- Its fault is one of its place.
+  pub refusal_of : (level : Option ℕ) (marks : List Bool) (e : CheckError) → length marks ≡ length d → IsLevelFound d tree.root level → e.fault ≢ faults.NoMemory → e.fault ≢ faults.SchemaRecord
+      → FollowRefusedBy (IsPutDown level) d tree it marks e.fault e.page → IsWrongAt d s e ⊎ (((is_marked marks s.page ≡ true) ⊎ ¬ IsPage d s.page) × IsFaultOf d s e)
+  refusal_of level marks e len known some row h = go (refused_by (IsPutDown level) (HasFoundLeaf d) d tree it marks e.fault e.page known h)
     where
-      mark : (f : Fault) → MarkRefused marks it.holder it.page f at → (at ≡ it.page) ⊎ (at ≡ it.holder)
-      mark faults.PageOutside h = inr h.0
-      mark faults.PageTwice h = inl h.0
-      mark _ h = absurd h
-  refusal_at level marks fault at some (inr (inl h)) = inl h.0
-  refusal_at level marks fault at some (inr (inr (inl h))) = inr h.1
-  refusal_at level marks fault at some (inr (inr (inr h))) = absurd (some h)
+      mark : (f : Fault) → e.fault ≡ f → MarkRefused marks it.holder it.page f e.page → IsWrongAt d s e ⊎ (((is_marked marks s.page ≡ true) ⊎ ¬ IsPage d s.page) × IsFaultOf d s e)
+      mark faults.PageOutside f h =
+          let none : ¬ IsPage d s.page = λ page. h.1 (subst (λ n. IsWithin n it.page) (sym len) (subst (IsPage d) (sym is.page) page)) in
+          inr (inr none, inr (inr (h.0 ∙ is.stands, none, inl f)))
+      mark faults.PageTwice f h = inr (inl (subst (λ n. is_marked marks n ≡ true) is.page h.3), inr (inl (h.0 ∙ is.page, f)))
+      mark _ f h = absurd h
+
+      go : FollowRefusedBy (HasFoundLeaf d) d tree it marks e.fault e.page → IsWrongAt d s e ⊎ (((is_marked marks s.page ≡ true) ⊎ ¬ IsPage d s.page) × IsFaultOf d s e)
+      go (inl h) = mark e.fault refl h.1
+      go (inr (inl h)) = inl (inl (h.0 ∙ is.page, row, subst (λ r. PageWrongBy (HasFoundLeaf d) d s.page r e.fault) (sym is.role) (subst (λ p. PageWrongBy (HasFoundLeaf d) d p (role_of tree it.task) e.fault) is.page h.2)))
+      go (inr (inr (inl h))) = by h.6
+        where
+          by : (it.page ≡ 0) ⊎ (length d < h.3) → IsWrongAt d s e ⊎ (((is_marked marks s.page ≡ true) ⊎ ¬ IsPage d s.page) × IsFaultOf d s e)
+          by (inl none) =
+              let outside : ¬ IsPage d s.page = λ page. let above : 0 < s.page = page.0 in let same = is.page in absurd (omega (arith, above, same, none)) in
+              inr (inr outside, inr (inr (h.1 ∙ is.stands, outside, inr h.0)))
+          by (inr more) = inl (inr (h.1 ∙ is.stands, h.0, h.2, h.3, is.role ∙ ap (role_of tree) h.5, more))
+      go (inr (inr (inr h))) = absurd (some h)
 
   -- The level of leaves, after it was followed or not.
   pub level_found : (old new : Option ℕ) → LevelAfter d it old new → IsLevelFound d tree.root old → IsLevelFound d tree.root new
@@ -156,20 +184,6 @@ names_down Is e old new down is =
 pub grown : (first before more old new : List CheckError) → old ≡ first ++ before → new ≡ old ++ more → new ≡ first ++ (before ++ more)
 grown first before more old new e is = is ∙ ap (λ l. l ++ more) e ∙ append_assoc first before more
 
--- A role that was judged is so with more faults.
-pub judged_more : (d : Database) (old more new : List CheckError) (p : ℕ) (role : uses.Role) → new ≡ old ++ more → HasJudgedRole d old p role → HasJudgedRole d new p role
-judged_more d old more new p role e h = (h.0, h.1, h.2, h.3, by h.4)
-  where
-    by : IsWhole d h.0 ⊎ IsNamed old h.0 → IsWhole d h.0 ⊎ IsNamed new h.0
-    by (inl whole) = inl whole
-    by (inr named) = inr (names_more (λ e. (e.page ≡ h.0.page) ⊎ (e.page ≡ holder h.0.place)) old more new e named)
-
-pub roles_more : (d : Database) (first roles : List uses.Role) (old more new : List CheckError) → new ≡ old ++ more → AreRolesFound d first roles old → AreRolesFound d first roles new
-roles_more d first roles old more new e h = record {
-  long = h.long;
-  each = λ p is. elim (h.each p is) [ inl same ↦ inl same | inr judged ↦ inr (judged_more d old more new p _ e judged) ];
-}
-
 -- What is wrong with a header is told as such.
 pub header_kind : (maps : Bool) (fault : Fault) (size : ℕ) (b : List ℕ) → HeaderFault maps fault size b → (is_of_header fault ≡ true) ⊎ (fault ≡ faults.PointerMap)
 header_kind maps faults.Magic size b h = inl refl
@@ -201,15 +215,6 @@ module _ (maps : Bool) (d : Database) (size : ℕ) where
 
   pub told_more : (old new : List CheckError) → TellsFound maps d size old new → AreToldFound maps d size old → AreToldFound maps d size new
   told_more old new t h = subst (Every Found) (sym t.is) (every_append Found old t.more h t.found)
-
-  -- The same roles, with more faults.
-  pub chart_more : (first old new : Chart) → new.roles.items ≡ old.roles.items → TellsFound maps d size old.faults.items new.faults.items → IsChartFound maps d size first old → IsChartFound maps d size first new
-  chart_more first old new same t h = record {
-    charted = subst (λ l. AreRolesFound d first.roles.items l new.faults.items) (sym same) (roles_more d first.roles.items old.roles.items old.faults.items t.more new.faults.items t.is h.charted);
-    more = h.more ++ t.more;
-    grows = grown first.faults.items h.more t.more old.faults.items new.faults.items h.grows t.is;
-    told = told_more old.faults.items new.faults.items t h.told;
-  }
 
   -- What is wrong with the header.
   pub header_found : (of : ℕ) (fault : Fault) → of ≡ size → HeaderFault maps fault of (page d 1) → IsFoundFault maps d size fault 1
@@ -254,7 +259,7 @@ module _ (maps : Bool) (d : Database) (size : ℕ) where
   entry_found tree it e asked long found h =
       let here : IsEntryPlace size (usable_size d) found.0.page h.2 =
       subst (λ n. IsEntryPlace n (usable_size d) found.0.page h.2) long (subst (λ p. IsEntryPlace (length (page d 1)) (usable_size d) p h.2) found.2.page h.3) in
-      subst (λ f. IsFoundFault maps d size f e.page) (sym h.0) (asked, inl (h.1, inl (found.0, h.2, found.1, here, h.4, λ says. h.5 (says_entry d tree it found.0 h.2 found.2 says))))
+      subst (λ f. IsFoundFault maps d size f e.page) (sym h.0) (asked, inl (h.1, (found.0, h.2, found.1, here, h.4, λ says. h.5 (says_entry d tree it found.0 h.2 found.2 says))))
 
   -- What a row tells.
   pub row_told : (cell : Cell) (found : Result ℕ CheckError) (old new : List CheckError) → IsCellFound d cell
@@ -264,10 +269,10 @@ module _ (maps : Bool) (d : Database) (size : ℕ) where
       let h = subst (λ f. IfErr f (λ e. e.fault ≡ faults.SchemaRecord → (e.page ≡ cell.page) × (bytes : List ℕ) × IsPayload d cell bytes × ((r : ℕ) → ¬ IsSchemaRow bytes r))) err wrong fault in
       tells_one e old new down (row_found cell e is fault h.0 h.1 h.2 h.3)
 
-abbrev unused_at : ℕ → CheckError
+abbrev pub unused_at : ℕ → CheckError
 unused_at n = record { page = n; fault = faults.PageUnused }
 
-every_take : (P : CheckError → Type 0) (n : ℕ) (xs : List CheckError) → Every P xs → Every P (take n xs)
+pub every_take : (P : CheckError → Type 0) (n : ℕ) (xs : List CheckError) → Every P xs → Every P (take n xs)
 every_take P zero xs h = tt
 every_take P (suc n) [] h = tt
 every_take P (suc n) (x ∷ xs) h = (h.0, every_take P n xs h.1)
@@ -279,15 +284,11 @@ in_take (suc n) (y ∷ xs) x (inl e) = inl (inl e)
 in_take (suc n) (y ∷ xs) x (inr i) = elim (in_take n xs x i) [ inl j ↦ inl (inr j) | inr full ↦ inr (ap suc full) ]
 
 -- One of faults that were put down, as far as there was room.
-taken : (old xs new : List CheckError) → ArePutDown old xs new → (x : CheckError) (Is : CheckError → Type 0) → In x xs → Is x → Names new Is
+pub taken : (old xs new : List CheckError) → ArePutDown old xs new → (x : CheckError) (Is : CheckError → Type 0) → In x xs → Is x → Names new Is
 taken old xs new down x Is i is = elim (in_take (most_faults - length old) xs x i) [
   | inl j ↦ inr (x, subst (In x) (sym down) (in_right x old (take (most_faults - length old) xs) j), is)
   | inr full ↦ inl (omega (arith, full, ap (λ (l : List CheckError). length l) down, length-append old (take (most_faults - length old) xs)))
 ]
-
--- A chart that a walk begins with, where its faults are found.
-pub chart_begun : (maps : Bool) (d : Database) (size : ℕ) (chart : Chart) → length chart.roles.items ≡ length d → AreToldFound maps d size chart.faults.items → IsChartFound maps d size chart chart
-chart_begun maps d size chart long told = record { charted = record { long = long; each = λ p is. inl refl }; more = []; grows = sym (append-nil chart.faults.items); told = told }
 
 -- The faults in the end: those of the walk, and of each page that nothing has named.
 module _ (maps : Bool) (d : Database) (size : ℕ) (roles : List uses.Role) (long : length roles ≡ length d) where
@@ -297,7 +298,7 @@ module _ (maps : Bool) (d : Database) (size : ℕ) (roles : List uses.Role) (lon
   abbrev Unnamed : CheckError → Type 0
   Unnamed e = IsNamedFault maps d size roles e
 
-  unnamed : (p : ℕ) (rs : List uses.Role) → ((i : ℕ) → i < length rs → get_or rs i Unused ≡ role_at roles (p + i)) → 0 < p → p + length rs ≡ suc (length d) → Every Unnamed (unused_faults p rs)
+  pub unnamed : (p : ℕ) (rs : List uses.Role) → ((i : ℕ) → i < length rs → get_or rs i Unused ≡ role_at roles (p + i)) → 0 < p → p + length rs ≡ suc (length d) → Every Unnamed (unused_faults p rs)
   unnamed p [] at pos all = tt
   unnamed p (r ∷ rs) at pos all =
       let here : r ≡ role_at roles p = at 0 (let z : 0 < suc (length rs) = omega arith in z) ∙ ap (role_at roles) (let z : p + 0 ≡ p = omega arith in z) in
@@ -314,7 +315,7 @@ module _ (maps : Bool) (d : Database) (size : ℕ) (roles : List uses.Role) (lon
       one LockByte e page = tt
       one PointerMap e page = tt
 
-  told_unused : (p : ℕ) (rs : List uses.Role) (i : ℕ) → i < length rs → get_or rs i Unused ≡ Unused → In (unused_at (p + i)) (unused_faults p rs)
+  pub told_unused : (p : ℕ) (rs : List uses.Role) (i : ℕ) → i < length rs → get_or rs i Unused ≡ Unused → In (unused_at (p + i)) (unused_faults p rs)
   told_unused p [] i lt e = absurd (omega (arith, lt))
   told_unused p (r ∷ rs) zero lt e =
       in_left (unused_at (p + 0)) (unused_fault p r) (unused_faults (suc p) rs)
@@ -322,21 +323,3 @@ module _ (maps : Bool) (d : Database) (size : ℕ) (roles : List uses.Role) (lon
   told_unused p (r ∷ rs) (suc i) lt e =
       in_right (unused_at (p + suc i)) (unused_fault p r) (unused_faults (suc p) rs)
       (subst (λ n. In (unused_at n) (unused_faults (suc p) rs)) (let z : suc p + i ≡ p + suc i = omega arith in z) (told_unused (suc p) rs i (let z : i < length rs = omega (arith, lt) in z) e))
-
-  -- They were told behind those of the walk.
-  pub surveyed : (first walked new : Chart) → IsChartFound maps d size first walked → walked.roles.items ≡ roles → ArePutDown walked.faults.items (unused_faults 1 roles) new.faults.items
-      → ((¬ HasSoundHeader maps d size) → IsHeaderNamed first.faults.items) → IsSurveyed maps d size first.roles.items roles new.faults.items
-  surveyed first walked new was at down header =
-      let room : ℕ = most_faults - length walked.faults.items in
-      let all = unused_faults 1 roles in
-      let each = unnamed 1 roles (λ i lt. ap (λ n. get_or roles n Unused) (let z : i ≡ 1 + i - 1 = omega arith in z)) (let z : 0 < 1 = omega arith in z) (let z : 1 + length roles ≡ suc (length d) = omega (arith, long) in z) in
-      record {
-        charted = roles_more d first.roles.items roles walked.faults.items (take room all) new.faults.items down (subst (λ l. AreRolesFound d first.roles.items l walked.faults.items) at was.charted);
-        only = subst (Every Unnamed) (sym down) (every_append Unnamed walked.faults.items (take room all) (every_weaker (λ e. IsFoundFault maps d size e.fault e.page) Unnamed (λ e h. inr h) walked.faults.items was.told) (every_take Unnamed room all each));
-        header = λ none. names_more OfHeader walked.faults.items (take room all) new.faults.items down (names_more OfHeader first.faults.items was.more walked.faults.items was.grows (header none));
-        unused = λ p is none.
-            let lt : p - 1 < length roles = (let a : 0 < p = is.0 in let b : p ≤ length d = is.1 in omega (arith, long, a, b)) in
-            let i = told_unused 1 roles (p - 1) lt none in
-            let back : 1 + (p - 1) ≡ p = (let a : 0 < p = is.0 in omega arith) in
-            taken walked.faults.items all new.faults.items down (unused_at (1 + (p - 1))) (λ e. (e.page ≡ p) × (e.fault ≡ faults.PageUnused)) i (back, refl);
-      }

@@ -5,6 +5,7 @@ use Rattle.sqval.specs.Bytes.{word}
 use Rattle.sqval.specs.Database.{Database, page}
 use Rattle.sqpage.specs.PointerMaps.{lock_byte_page, IsPointerMap}
 use Rattle.sqpage.specs.Freelist.{IsWithin, usable_size}
+use Rattle.sqcheck.specs.Stands.{IsAsideWith}
 use Rattle.sqcheck.specs.WellFormed.{IsAutoVacuum}
 use Rattle.sqcheck.specs.internal.Agenda.{MarksAside}
 use Rattle.sqcheck.specs.internal.Checking.{MarksOne, MarksMaps}
@@ -38,3 +39,12 @@ maps_marked d marks new size usable long used auto same one maps p within =
       (λ marked. ⊎_elim (λ was. inl ((one p here).0 was ∙ sym at)) (λ map. inr (auto, back map)) ((maps p here).0 marked)),
       (λ aside. ⊎_elim (λ lock. (maps p here).1 (inl ((one p here).1 (lock ∙ at)))) (λ map. (maps p here).1 (inr (there map.1))) aside),
     )
+
+-- Each marked page is one that nothing may name.
+pub maps_barred : (maps : Bool) (d : Database) (marks new : List Bool) (size page_size usable : ℕ) → page_size ≡ size → usable_size d ≡ usable → maps ≡ true → IsAutoVacuum d → length new ≡ length marks → MarksOne marks (lock_byte_page page_size)
+    → MarksMaps page_size usable marks new → (p : ℕ) → IsWithin (length new) p → is_marked new p ≡ true → IsAsideWith maps d size p
+maps_barred maps d marks new size page_size usable sized used asked auto same one all p within marked =
+    let here : IsWithin (length marks) p = subst (λ n. IsWithin n p) same within in
+    ⊎_elim (λ was. inl ((one p here).0 was ∙ ap lock_byte_page sized))
+    (λ map. inr (asked, auto, subst (λ u. IsPointerMap size u p) (sym used) (subst (λ n. IsPointerMap n usable p) sized map)))
+    ((all p here).0 marked)

@@ -8,8 +8,8 @@ use Rattle.sqcheck.specs.declared.item.Task.{Task}
 use Rattle.sqcheck.specs.declared.item.Task.TheVariants as tasks
 use Rattle.sqcheck.specs.declared.tree.Tree.{Tree}
 use Rattle.sqcheck.specs.Places.{Node}
-use Rattle.sqcheck.specs.Stands.{NodeRefusedBy}
-use Rattle.sqcheck.specs.internal.Walking.{role_of, node_in, PageWrongBy, FollowRefusedBy}
+use Rattle.sqcheck.specs.Stands.{NodeRefusedBy, PageWrongBy}
+use Rattle.sqcheck.specs.internal.Walking.{role_of, node_in, FollowRefusedBy}
 
 -- What is wrong where leaves are to be on one level is so where they are to be on another that this one is.
 node_by : (A B : ℕ → Type 0) (d : Database) (fault : Fault) (p : ℕ) (x : Node) → ((on : ℕ) → A on → B on) → NodeRefusedBy A d fault p x → NodeRefusedBy B d fault p x

@@ -133,7 +133,7 @@ rows_more d marks new_marks visited s old new taken m rows (inl h) = record {
       fresh_marked (IsAside d) marks new_marks (numbers visited) s.page taken m (subst (λ q. In q (numbers visited)) k.2 (in_map (λ z. z.page) k.0 visited k.1))));
 }
 
-counted_more : (tree : Tree) (visited : List Spot) (s : Spot) (it : Item) (old new : Counts) → s.role ≡ role_of tree it.task → it.page ≡ s.page → AreCounted visited old → AddsItem old new it → AreCounted (visited ++ s ∷ []) new
+pub counted_more : (tree : Tree) (visited : List Spot) (s : Spot) (it : Item) (old new : Counts) → s.role ≡ role_of tree it.task → it.page ≡ s.page → AreCounted visited old → AddsItem old new it → AreCounted (visited ++ s ∷ []) new
 counted_more tree visited s it old new role page c a = record {
   trees = a.trees ∙ (let e = sum_by-append (λ (z : Spot). cond (is_root z.role) 1 0) visited (s ∷ []) in omega (arith, e, c.trees, root_adds));
   btree = a.btree ∙ (let e = sum_by-append (λ (z : Spot). cond (is_node z.role) 1 0) visited (s ∷ []) in omega (arith, e, c.btree, node_adds));

@@ -27,6 +27,10 @@ pub record IsRowsPage (d : Database) (p : ℕ) : Type 0 where
 abbrev pub AreSchemaRows : Database → (p n : ℕ) → Type 0
 AreSchemaRows d p n = (i : ℕ) (bytes : List ℕ) → i < n → IsRow d (page_as d TableLeaf p) i bytes → (r : ℕ) × IsSchemaRow bytes r
 
+-- the place of the root in row n of page p
+abbrev pub InRowAt : Database → (p n : ℕ) → Spot → Type 0
+InRowAt d p n t = (bytes : List ℕ) × (r : ℕ) × IsRow d (page_as d TableLeaf p) n bytes × IsSchemaRow bytes r × (r ≢ 0) × (t ≡ spot (root p n) r (root_of_tree d r))
+
 -- the place of a root in one of the first n rows of page p
 abbrev pub InRowBelow : Database → (p n : ℕ) → Spot → Type 0
 InRowBelow d p n t = (i : ℕ) × (bytes : List ℕ) × (r : ℕ) × (i < n) × IsRow d (page_as d TableLeaf p) i bytes × IsSchemaRow bytes r × (r ≢ 0)

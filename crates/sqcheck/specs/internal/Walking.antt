@@ -27,7 +27,7 @@ use Rattle.sqcheck.specs.internal.Counting.{AddsItem}
 use Rattle.sqcheck.specs.Places.{Place, holder, Role, trunk, free_leaf, link, node, Spot, page_as, HasKind, InPageAs, InNode, InCell, IsLeftChild, IsRightChild, IsCellAt, spot, overflow, next, leaf}
 use Rattle.sqcheck.specs.Places as places
 use Rattle.sqcheck.specs.WellFormed.{IsAutoVacuum, IsSoundAs, IsSoundWith, IsSoundPage, IsSoundNode, KeysRise, FirstLeaf, kind_named, parent_by}
-use Rattle.sqcheck.specs.Stands.{NodeRefusedBy}
+use Rattle.sqcheck.specs.Stands.{PageWrongBy}
 
 -- a page of the tree, on this level and with these bounds
 abbrev pub node_in : Tree → (level : ℕ) (low high : Option ℤ) → places.Node
@@ -122,13 +122,6 @@ pub record Visits (d : Database) (tree : Tree) (it : Item) (marks new_marks : Li
   pub marked : Marks marks new_marks it.page
   pub sound : IsSoundAs d it.page (role_of tree it.task)
   pub pushes : Pushes tree (InPageAs d it.page (role_of tree it.task)) old new
-
--- What is wrong with a page in its role, where the leaves of each tree are to be on such a level.
-abbrev pub PageWrongBy : (IsLevel : (tree on : ℕ) → Type 0) → Database → (p : ℕ) → Role → Fault → Type 0
-PageWrongBy IsLevel d p trunk fault = (fault ≡ faults.FreeCount) × (most_leaves d < leaf_count_in (page d p))
-PageWrongBy IsLevel d p free_leaf fault = ⊥
-PageWrongBy IsLevel d p (link owner needed) fault = (fault ≡ faults.ChainLong) × (needed ≡ 1) × (next_in (page d p) ≢ 0)
-PageWrongBy IsLevel d p (node x) fault = NodeRefusedBy (IsLevel x.tree) d fault p x
 
 -- the level of a tree's first leaf
 abbrev pub IsFirstLevel : Database → (tree on : ℕ) → Type 0

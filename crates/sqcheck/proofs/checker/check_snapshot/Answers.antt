@@ -8,7 +8,7 @@ use Rattle.sqpage.specs.declared.fault.Fault.TheVariants as faults
 use Rattle.sqpage.specs.Source.{UnlessUnread}
 use Rattle.sqcheck.specs.Stands.{StandsWith}
 use Rattle.sqcheck.proofs.checks.ResultsOfCalls.{if_err, exits}
-use Rattle.sqcheck.proofs.checks.EndsOfCheck.{no_magic, header_sound, header_stands, page_stands, stands_read, first_sized, knows_maps, maps_used}
+use Rattle.sqcheck.proofs.checks.EndsOfCheck.{no_magic, header_sound, header_stands, page_stands, stands_read, first_sized, knows_maps, maps_used, maps_all}
 use Rattle.sqcheck.proofs.checker.check_snapshot.Goals as goal
 
 pub returns-then-count-eq0-clause-err : goal.returns-then-count-eq0-clause-err
@@ -76,3 +76,11 @@ returns-in_err-header-clause-err g c = λ right.
     exits (λ e. UnlessUnread g.V.Snapshot.given e.fault (StandsWith maps d g.V.Snapshot.size e.fault e.page)) e c.from_residual-in_err-header.result c.from_residual-in_err-header.ensures.1
     (stands_read g.V.Snapshot.given maps d g.V.Snapshot.size e.fault e.page (subst (StandsWith maps d g.V.Snapshot.size e.fault) (sym h.0) (header_stands maps d c.page_size-size.result g.V.Snapshot.size e.fault (c.page_size-size.ensures ∙ c.requires.same.1)
     (subst (HeaderFault maps e.fault c.page_size-size.result) first h.1))))
+
+pub new-requires-clause-all : goal.new-requires-clause-all
+new-requires-clause-all g c = λ right asked auto.
+    let d = g.V.Snapshot.pages in
+    let read = c.in_ok-read_page.ensures.read right in
+    let first : c.deref.result.now ≡ page d 1 = c.deref.ensures.value ∙ with_items_is c.in-Ok.bytes c.read_page.new.out (c.read_page.auto.out ∙ c.deref_mut.ensures.len) ∙ read.0 in
+    let hd = subst (λ (l : List ℕ). HasHeaderOf c.args.options.pointer_maps c.in_ok-header.header c.page_size-size.result l) first c.in_ok-header.ensures.ok in
+    maps_all c.args.options.pointer_maps d c.in_ok-header.header c.page_size-size.result hd auto

@@ -1,4 +1,4 @@
-use Rattle.std.proofs.Common.{◌+◌, ◌<◌, ◌≤◌, ◌^◌, List, Bool, not, length, count_by, refl, arith}
+use Rattle.std.proofs.Common.{◌+◌, ◌<◌, ◌≤◌, ◌^◌, List, Bool, not, length, count_by, refl, inl, arith}
 use Rattle.std.proofs.lemmas.List.Sums.{count_by-le-length}
 use Rattle.sqcheck.proofs.checker.new_walker.Goals as goal
 
@@ -23,3 +23,10 @@ returns-clause-new g c = λ right. record {
   free = refl;
   largest = refl;
 }
+
+pub returns-clause-none : goal.returns-clause-none
+returns-clause-none g c = record { trees = refl; btree = refl; overflow = refl; free = refl; most = λ s i root. absurd i; one = inl refl }
+
+pub returns-clause-barred : goal.returns-clause-barred
+returns-clause-barred g c = λ right p page.
+    c.in_ok-marks.ensures.barred right p (page.0, (let most : p ≤ length g.V.Snapshot.pages = page.1 in let long = c.in_ok-marks.ensures.long in let count = c.requires in let r : p ≤ length c.in_ok-marks.marks.items = omega (arith, most, long, count) in r))

@@ -5,7 +5,7 @@ use Rattle.sqcheck.specs.Surveys.{AreFoundRoles, AreFoundFaults}
 use Rattle.sqcheck.specs.declared.role.Role.{Role}
 use Rattle.sqcheck.specs.internal.Surveys.{IsReserved}
 use Rattle.std.specs.Prelude.{IfSome, Option}
-use Rattle.sqcheck.proofs.visit.FoundPlaces.{found_roles, judged_roles, along_reserved}
+use Rattle.sqcheck.proofs.visit.FoundPlaces.{found_roles, judged_roles, none_free, along_reserved}
 use Rattle.sqcheck.proofs.survey.survey_behind.Goals as goal
 
 pub returns-clause-roles : goal.returns-clause-roles
@@ -19,7 +19,7 @@ returns-clause-roles g c = λ right.
     let new : List Role = c.survey_snapshot.new.chart.roles.items in
     let known = c.in_ok-reserved.ensures.only right in
     let here = along_reserved (pages c.args.source.now) (pages read) (size c.args.source.now) (size read) reserved keeps.same_pages keeps.same_size known in
-    let found = c.in_ok-survey_snapshot.ensures.found (keeps.still_right right) set.long c.if-not-branch.false in
+    let found = c.in_ok-survey_snapshot.ensures.found (keeps.still_right right) set.long (none_free (pages read) (size read) reserved c.in_ok-chart.chart.roles.items set) c.if-not-branch.false in
     let roles = found_roles (pages read) (size read) c.in_ok-chart.chart.roles.items new c.survey_snapshot.new.chart.faults.items reserved set here found.charted in
     subst (λ k. AreFoundRoles (pages c.args.source.now) k new) keeps.same_size (subst (λ (q : Database). AreFoundRoles q (size read) new) keeps.same_pages roles)
 
@@ -36,11 +36,14 @@ returns-clause-faults g c = λ right.
     let told : List CheckError = c.survey_snapshot.new.chart.faults.items in
     let known = c.in_ok-reserved.ensures.only right in
     let here = along_reserved (pages c.args.source.now) (pages read) (size c.args.source.now) (size read) reserved keeps.same_pages keeps.same_size known in
-    let found = c.in_ok-survey_snapshot.ensures.found (keeps.still_right right) set.long c.if-not-branch.false in
+    let found = c.in_ok-survey_snapshot.ensures.found (keeps.still_right right) set.long (none_free (pages read) (size read) reserved c.in_ok-chart.chart.roles.items set) c.if-not-branch.false in
     let there : AreFoundFaults maps (pages read) (size read) new told = record {
       only = found.only;
       header = found.header;
+      starts = found.charted.starts;
       judged = judged_roles (pages read) (size read) c.in_ok-chart.chart.roles.items new told reserved set here found.charted;
       unused = found.unused;
+      free = found.free;
+      largest = found.largest;
     } in
     subst (λ k. AreFoundFaults maps (pages c.args.source.now) k new told) keeps.same_size (subst (λ (q : Database). AreFoundFaults maps q (size read) new told) keeps.same_pages there)

@@ -2,12 +2,12 @@ use Rattle.std.proofs.Common.{◌≡◌, ◌∙◌, ◌-◌, ℕ, List, refl, le
 use Rattle.std.proofs.lemmas.List.{with_items_is}
 use Rattle.sqval.specs.Bytes.{word}
 use Rattle.sqval.specs.Database.{Database, page}
-use Rattle.sqpage.specs.Lists.{Every}
 use Rattle.sqcheck.specs.declared.role.Role.{Role}
 use Rattle.sqcheck.specs.declared.chart.Chart.{Chart}
 use Rattle.sqcheck.specs.WellFormed.{HasSoundHeader}
-use Rattle.sqcheck.specs.internal.Found.{AreToldFound, TellsFound, IsHeaderNamed, HasFound, IsLeafFound, IsSurveyed}
-use Rattle.sqcheck.proofs.visit.FaultsFound.{chart_begun, surveyed, told_more}
+use Rattle.sqcheck.specs.internal.Found.{AreToldFound, TellsFound, IsHeaderNamed, Begins, HasNoFree, IsSurveyed}
+use Rattle.sqcheck.proofs.visit.FaultsFound.{told_more}
+use Rattle.sqcheck.proofs.visit.SurveyedPages.{surveyed}
 use Rattle.sqval.specs.PageSize.{IsPageSize}
 use Rattle.sqpage.proofs.file.PagesInMemory.{least_page_size}
 use Rattle.sqpage.specs.Header.{byte}
@@ -27,13 +27,14 @@ pub survey_header-requires-clause-large : goal.survey_header-requires-clause-lar
 survey_header-requires-clause-large g c = least_page_size c.page_size-size.result (subst IsPageSize c.get.ensures.value c.get.ensures.valid)
 
 pub returns-clause-found : goal.returns-clause-found
-returns-clause-found g c = λ right long is.
+returns-clause-found g c = λ right long none is.
     let d = g.V.Snapshot.pages in
     let maps = g.V.Snapshot.maps in
     let size = g.V.Snapshot.size in
     let begun : Chart = c.survey_header.new.chart in
     let all : Chart = c.survey_all.new.chart in
     let new : Chart = c.tell_unused.new.self in
+    let walker = c.in-Ok-new_walker.walker in
     let read = c.in_ok-read_page.ensures.read right in
     let first : c.deref.result.now ≡ page d 1 = c.deref.ensures.value ∙ with_items_is c.in-Ok.bytes c.read_page.new.out (c.read_page.auto.out ∙ c.deref_mut.ensures.len) ∙ read.0 in
     let second : c.deref-2.result.now ≡ page d 1 = c.deref-2.ensures.value ∙ with_items_is c.in-Ok.bytes c.read_page.new.out (c.read_page.auto.out ∙ c.deref_mut.ensures.len) ∙ read.0 in
@@ -44,12 +45,18 @@ returns-clause-found g c = λ right long is.
     subst (λ m. (¬ HasSoundHeader m d size) → IsHeaderNamed begun.faults.items) (sym c.requires.maps) (subst (λ n. (¬ HasSoundHeader c.args.options.pointer_maps d n) → IsHeaderNamed begun.faults.items) sized (c.in_ok-survey_header.ensures.header d second)) in
     let told = told_more maps d size c.args.chart.now.faults.items begun.faults.items tells (subst (AreToldFound maps d size) (sym c.requires.none) tt) in
     let same : begun.roles.items ≡ c.args.chart.now.roles.items = c.survey_header.ensures.same in
-    let has : HasFound maps d size begun c.in-Ok-new_walker.walker.walk begun = record {
-      leaves = subst (Every (IsLeafFound d)) (sym c.in-Ok-new_walker.ensures.empty.1) tt;
-      found = chart_begun maps d size begun (ap (λ (l : List Role). length l) same ∙ long) told;
+    let begins : Begins maps d size walker.uses walker.walk begun = record {
+      sized = walker.marks;
+      barred = c.in-Ok-new_walker.ensures.barred right;
+      long = ap (λ (l : List Role). length l) same ∙ long;
+      rows = c.in-Ok-new_walker.ensures.empty.1;
+      counts = c.in-Ok-new_walker.ensures.none;
+      told = told;
     } in
-    let walked = c.in_ok-survey_all.ensures.found right begun (c.in-Some.ensures.first ∙ ap (λ (l : List ℕ). word l 32) first) has in
-    let done = surveyed maps d size all.roles.items walked.found.charted.long begun all new walked.found refl c.in_ok-tell_unused.ensures.down header in
+    let start = c.in-Some.ensures.first in
+    let walked = c.in_ok-survey_all.ensures.found right (start.0 ∙ ap (λ (l : List ℕ). word l 32) first) (start.1 ∙ ap (λ (l : List ℕ). word l 36) first) (c.in-Some.ensures.maps.1 ∙ ap (λ (l : List ℕ). word l 52) first) begins in
+    let none_begun : HasNoFree d begun.roles.items = subst (HasNoFree d) (sym same) none in
+    let done = surveyed maps d size begun walker.uses.marks.items walked.visited c.survey_all.new.self.uses c.survey_all.new.self.walk.rows.items all.roles.items walked.told all.faults.items new.faults.items walked.mapped walked.largest none_begun c.in_ok-tell_unused.ensures.down header in
     subst (λ l. IsSurveyed maps d size l new.roles.items new.faults.items) same (subst (λ l. IsSurveyed maps d size begun.roles.items l new.faults.items) (sym c.tell_unused.ensures.same) done)
 
 pub new-requires-clause-known : goal.new-requires-clause-known
@@ -63,9 +70,16 @@ new-requires-clause-known g c = λ right.
     record {
       long = long ∙ sym sized;
       usable = ap (λ n. n - byte (page d 1) 20) (long ∙ sym sized) ∙ ap (λ n. c.page_size-size.result - n) (sym reserved);
-      auto = λ used none. (c.has_maps-used.ensures used).1 (c.in-Some.ensures.maps.1 ∙ ap (λ (l : List ℕ). word l 52) first ∙ none);
+      auto = λ used none. (c.has_maps-used.ensures.only used).1 (c.in-Some.ensures.maps.1 ∙ ap (λ (l : List ℕ). word l 52) first ∙ none);
       plain = λ was unused. absurd (c.requires.unjudged was);
     }
 
 pub new-requires-clause-asked : goal.new-requires-clause-asked
-new-requires-clause-asked g c = λ used. c.requires.maps ∙ (c.has_maps-used.ensures used).0
+new-requires-clause-asked g c = λ used. c.requires.maps ∙ (c.has_maps-used.ensures.only used).0
+
+pub new-requires-clause-all : goal.new-requires-clause-all
+new-requires-clause-all g c = λ right asked auto.
+    let read = c.in_ok-read_page.ensures.read right in
+    let first : c.deref.result.now ≡ page g.V.Snapshot.pages 1 = c.deref.ensures.value ∙ with_items_is c.in-Ok.bytes c.read_page.new.out (c.read_page.auto.out ∙ c.deref_mut.ensures.len) ∙ read.0 in
+    let largest = c.in-Some.ensures.maps.1 ∙ ap (λ (l : List ℕ). word l 52) first in
+    c.has_maps-used.ensures.all (sym c.requires.maps ∙ asked) (λ zero'. auto (sym largest ∙ zero'))

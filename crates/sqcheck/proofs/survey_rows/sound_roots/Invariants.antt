@@ -1,13 +1,14 @@
-use Rattle.std.proofs.Common.{◌≡◌, length}
-use Rattle.sqpage.specs.Lists.{Every}
-use Rattle.sqcheck.specs.internal.Found.{IsLeafFound, IsRootFound, TellsFound}
+use Rattle.std.proofs.Common.{◌≡◌, [], length, take}
+use Rattle.sqpage.specs.Lists.{Every, Apart}
+use Rattle.sqcheck.specs.internal.Found.{IsLeafFound, AddsRoots, TellsFound}
+use Rattle.sqcheck.specs.internal.Schema.{InRowsOf}
 use Rattle.sqcheck.specs.internal.Snapshots.{SameSource}
 use Rattle.sqcheck.proofs.survey_rows.sound_roots.Given as goal
 
 abbrev pub invariant-pages : goal.invariant-pages
 invariant-pages g l = record {
   roles : l.chart.roles.items ≡ l.fn.chart.roles.items;
-  found : g.V.Snapshot.right → Every (IsLeafFound g.V.Snapshot.pages) l.leaves → Every (IsRootFound g.V.Snapshot.pages) l.rows.roots.items;
+  found : g.V.Snapshot.right → Every (IsLeafFound g.V.Snapshot.pages) l.leaves → Apart l.leaves → AddsRoots g.V.Snapshot.pages (InRowsOf g.V.Snapshot.pages (take l.number-index l.leaves)) [] l.rows.roots.items;
   tells : g.V.Snapshot.right → Every (IsLeafFound g.V.Snapshot.pages) l.leaves → TellsFound g.V.Snapshot.maps g.V.Snapshot.pages g.V.Snapshot.size l.fn.chart.faults.items l.chart.faults.items;
   usable : l.reader.usable ≡ l.fn.reader.usable;
   room : length l.rows.page.items ≡ g.V.Snapshot.size;

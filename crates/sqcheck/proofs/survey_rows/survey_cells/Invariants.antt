@@ -1,13 +1,13 @@
 use Rattle.std.proofs.Common.{◌≡◌, length}
-use Rattle.sqpage.specs.Lists.{Every}
-use Rattle.sqcheck.specs.internal.Found.{IsPageFound, IsRootFound, TellsFound}
+use Rattle.sqcheck.specs.internal.Found.{IsPageFound, AddsRoots, TellsFound}
+use Rattle.sqcheck.specs.internal.Schema.{InRowBelow}
 use Rattle.sqcheck.specs.internal.Snapshots.{SameSource}
 use Rattle.sqcheck.proofs.survey_rows.survey_cells.Given as goal
 
 abbrev pub invariant-rows : goal.invariant-rows
 invariant-rows g l = record {
   roles : l.chart.roles.items ≡ l.fn.chart.roles.items;
-  found : g.V.Snapshot.right → IsPageFound g.V.Snapshot.pages l.page → Every (IsRootFound g.V.Snapshot.pages) l.fn.rows.roots.items → Every (IsRootFound g.V.Snapshot.pages) l.rows.roots.items;
+  found : g.V.Snapshot.right → IsPageFound g.V.Snapshot.pages l.page → AddsRoots g.V.Snapshot.pages (InRowBelow g.V.Snapshot.pages l.page.number l.i) l.fn.rows.roots.items l.rows.roots.items;
   tells : g.V.Snapshot.right → IsPageFound g.V.Snapshot.pages l.page → TellsFound g.V.Snapshot.maps g.V.Snapshot.pages g.V.Snapshot.size l.fn.chart.faults.items l.chart.faults.items;
   room : length l.rows.page.items ≡ g.V.Snapshot.size;
   same : SameSource g.V.Snapshot.pages g.V.Snapshot.size g.V.Snapshot.right g.V.Snapshot.given (g.S.PageSource.pages l.source) (g.S.PageSource.size l.source) (g.S.PageSource.reads_right l.source) (g.S.PageSource.gives_pages l.source);

@@ -1,36 +1,24 @@
-use Rattle.std.proofs.Common.{◌∙◌, reverse, append-nil, subst}
-use Rattle.sqpage.specs.Lists.{Every}
+use Rattle.std.proofs.Common.{◌≤◌, ◌∙◌, count_by, not, refl, arith}
 use Rattle.sqcheck.specs.declared.node.Walk.{Walk}
-use Rattle.sqcheck.specs.internal.Found.{IsItemFound}
-use Rattle.sqcheck.proofs.visit.FoundPlaces.{top_found}
+use Rattle.sqcheck.proofs.visit.FollowedPlaces.{next_of}
 use Rattle.sqcheck.proofs.walker.Walker.advance.Goals as goal
 
 pub returns-then-branch-clause-found : goal.returns-then-branch-clause-found
-returns-then-branch-clause-found g c = λ right begun was.
+returns-then-branch-clause-found g c = λ right first bars counted late rest was.
     let s = c.places.self in
-    let w = c.places.invariant.found right begun was in
     let popped : Walk = record { stack = c.pop.new.self; rows = s.walk.rows; leaf_level = s.walk.leaf_level } in
-    let top = top_found g.V.Snapshot.pages c.args.tree.now c.in-Some.item s.walk popped c.in-Some.ensures.items w.items in
-    c.in_ok-step.ensures.found right begun top.0 (record { items = top.1; level = w.level; has = record { leaves = w.has.leaves; found = w.has.found } })
+    c.in_ok-step.ensures.found right first bars counted late rest (next_of g.V.Snapshot.maps g.V.Snapshot.pages g.V.Snapshot.size first bars counted late rest c.args.tree.now c.in-Some.item s.uses s.walk popped c.places.chart c.in-Some.ensures.items refl refl
+    (c.places.invariant.found right first bars counted late rest was))
 
 pub places-preserved : goal.places-preserved
 places-preserved g c =
     let s = c.places.self in
     let popped : Walk = record { stack = c.pop.new.self; rows = s.walk.rows; leaf_level = s.walk.leaf_level } in
+    let fewer : count_by not c.step.new.self.uses.marks.items ≤ count_by not c.args.self.now.uses.marks.items = (let a = c.step.ensures.no_more in let b = c.places.invariant.fewer in omega (arith, a, b)) in
     record {
       long = c.step.ensures.long ∙ c.places.invariant.long;
-      found = λ right begun was.
-          let w = c.places.invariant.found right begun was in
-          let top = top_found g.V.Snapshot.pages c.args.tree.now c.in-Some.item s.walk popped c.in-Some.ensures.items w.items in
-          c.in_ok-step.ensures.found right begun top.0 (record { items = top.1; level = w.level; has = record { leaves = w.has.leaves; found = w.has.found } });
+      found = λ right first bars counted late rest was. c.in_ok-step.ensures.found right first bars counted late rest (next_of g.V.Snapshot.maps g.V.Snapshot.pages g.V.Snapshot.size first bars counted late rest c.args.tree.now c.in-Some.item s.uses s.walk popped c.places.chart c.in-Some.ensures.items refl refl
+          (c.places.invariant.found right first bars counted late rest was));
+      fewer = fewer;
       same = c.step.ensures.same;
-    }
-
-pub returns-clause-found : goal.returns-clause-found
-returns-clause-found g c = λ right begun was.
-    let w = c.places.invariant.found right begun was in
-    record {
-      items = subst (λ l. Every (IsItemFound g.V.Snapshot.pages c.args.tree.now) (reverse l)) (c.in_default.ensures.items ∙ append-nil c.pop.new.self.items) w.items;
-      level = w.level;
-      has = record { leaves = w.has.leaves; found = w.has.found };
     }

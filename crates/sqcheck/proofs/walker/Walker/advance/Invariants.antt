@@ -1,4 +1,5 @@
-use Rattle.std.proofs.Common.{◌≡◌, length, vec_len}
+use Rattle.std.proofs.Common.{◌≡◌, ◌≤◌, Bool, List, length, vec_len, count_by, not}
+use Rattle.sqcheck.specs.Places.{Spot}
 use Rattle.sqcheck.specs.declared.chart.Chart.{Chart}
 use Rattle.sqcheck.specs.internal.Found.{AreFound}
 use Rattle.sqcheck.specs.internal.Snapshots.{SameSource}
@@ -7,7 +8,10 @@ use Rattle.sqcheck.proofs.walker.Walker.advance.Given as goal
 abbrev pub invariant-places : goal.invariant-places
 invariant-places g l = record {
   long : length l.chart.roles.items ≡ length l.fn.chart.roles.items;
-  found : g.V.Snapshot.right → (first : Chart) → AreFound g.V.Snapshot.maps g.V.Snapshot.pages g.V.Snapshot.size first l.tree l.fn.self.walk l.fn.chart → AreFound g.V.Snapshot.maps g.V.Snapshot.pages g.V.Snapshot.size first l.tree l.self.walk l.chart;
+  found : g.V.Snapshot.right → (first : Chart) (bars : List Bool) (counted late : Bool) (rest : List Spot)
+      → AreFound g.V.Snapshot.maps g.V.Snapshot.pages g.V.Snapshot.size first bars counted late rest l.tree l.fn.self.uses l.fn.self.walk l.fn.chart
+      → AreFound g.V.Snapshot.maps g.V.Snapshot.pages g.V.Snapshot.size first bars counted late rest l.tree l.self.uses l.self.walk l.chart;
+  fewer : count_by not l.self.uses.marks.items ≤ count_by not l.fn.self.uses.marks.items;
   same : SameSource g.V.Snapshot.pages g.V.Snapshot.size g.V.Snapshot.right g.V.Snapshot.given (g.S.PageSource.pages l.source) (g.S.PageSource.size l.source) (g.S.PageSource.reads_right l.source) (g.S.PageSource.gives_pages l.source);
 }
 

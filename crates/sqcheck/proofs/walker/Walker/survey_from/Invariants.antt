@@ -1,12 +1,19 @@
-use Rattle.std.proofs.Common.{◌≡◌, length}
+use Rattle.std.proofs.Common.{◌≡◌, ◌∷◌, Bool, List, length, count_by, not}
+use Rattle.sqcheck.specs.Places.{Spot}
 use Rattle.sqcheck.specs.declared.chart.Chart.{Chart}
-use Rattle.sqcheck.specs.internal.Found.{AreFound, HasFound, IsItemFound}
+use Rattle.sqcheck.specs.internal.Found.{AreFound, HasFound}
+use Rattle.sqcheck.specs.internal.Walking.{IsItemOf}
 use Rattle.sqcheck.specs.internal.Snapshots.{SameSource}
 use Rattle.sqcheck.proofs.walker.Walker.survey_from.Given as goal
 
 abbrev pub invariant-pages : goal.invariant-pages
 invariant-pages g l = record {
   long : length l.chart.roles.items ≡ length l.fn.chart.roles.items;
-  found : g.V.Snapshot.right → (first : Chart) → IsItemFound g.V.Snapshot.pages l.tree l.fn.item → HasFound g.V.Snapshot.maps g.V.Snapshot.pages g.V.Snapshot.size first l.fn.self.walk l.fn.chart → AreFound g.V.Snapshot.maps g.V.Snapshot.pages g.V.Snapshot.size first l.tree l.self.walk l.chart;
+  found : g.V.Snapshot.right → (first : Chart) (bars : List Bool) (counted late : Bool) (rest : List Spot) (s : Spot) → IsItemOf l.tree l.fn.item s
+      → HasFound g.V.Snapshot.maps g.V.Snapshot.pages g.V.Snapshot.size first bars counted late (s ∷ rest) l.fn.self.uses l.fn.self.walk l.fn.chart
+      → AreFound g.V.Snapshot.maps g.V.Snapshot.pages g.V.Snapshot.size first bars counted late rest l.tree l.self.uses l.self.walk l.chart;
   same : SameSource g.V.Snapshot.pages g.V.Snapshot.size g.V.Snapshot.right g.V.Snapshot.given (g.S.PageSource.pages l.source) (g.S.PageSource.size l.source) (g.S.PageSource.reads_right l.source) (g.S.PageSource.gives_pages l.source);
 }
+
+abbrev pub decreases-pages : goal.decreases-pages
+decreases-pages g l = count_by not l.self.uses.marks.items

@@ -1,30 +1,26 @@
-use Rattle.std.proofs.Common.{◌∙◌, List, length, get_or, refl, sym, ap, subst}
-use Rattle.sqpage.specs.Lists.{Every}
-use Rattle.sqcheck.specs.declared.role.Role.{Role}
-use Rattle.sqcheck.specs.declared.schema.Root.{Root}
-use Rattle.sqcheck.specs.internal.Found.{IsLeafFound, IsRootFound}
-use Rattle.sqcheck.proofs.visit.FoundPlaces.{root_at, same_leaves}
+use Rattle.std.proofs.Common.{[], true, false, sym, subst, ◌∙◌}
+use Rattle.sqpage.specs.Lists.{Every, Apart}
+use Rattle.sqcheck.specs.internal.Found.{Mapped, IsLeafFound, AddsRoots}
+use Rattle.sqcheck.specs.internal.Schema.{InRowsOf, RootsMatch}
+use Rattle.sqcheck.proofs.visit.ChartedPlaces.{mapped_told}
+use Rattle.sqcheck.proofs.visit.SurveyedPages.{leaves_found, rooted}
 use Rattle.sqcheck.proofs.walker.Walker.survey_others.Goals as goal
 
-pub roots-preserved : goal.roots-preserved
-roots-preserved g c =
+pub returns-clause-found : goal.returns-clause-found
+returns-clause-found g c = λ right first bars was.
+    let maps = g.V.Snapshot.maps in
     let d = g.V.Snapshot.pages in
-    let i = c.roots.invariant in
-    record {
-      long = c.survey_root.ensures.long ∙ i.long;
-      found = λ right begun was.
-          let all = c.in_ok-roots.ensures.found right (subst (Every (IsLeafFound d)) (sym c.deref.ensures.value) was.leaves) in
-          c.in_ok-survey_root.ensures.found right begun (root_at d c.deref-root-items.result.now c.roots.root-index c.roots-test.true (subst (Every (IsRootFound d)) (sym c.deref-root-items.ensures.value) all)) (i.found right begun was);
-      same = c.survey_root.ensures.same;
-    }
-
-pub roots-init : goal.roots-init
-roots-init g c =
-    let d = g.V.Snapshot.pages in
-    record {
-      long = ap (λ (l : List Role). length l) c.sound_roots.ensures.roles;
-      found = λ right begun was.
-          let tells = c.in_ok-roots.ensures.tells right (subst (Every (IsLeafFound d)) (sym c.deref.ensures.value) was.leaves) in
-          same_leaves g.V.Snapshot.maps d g.V.Snapshot.size begun c.args.self.now.walk c.args.chart.now c.sound_roots.new.chart c.sound_roots.ensures.roles tells was;
-      same = c.sound_roots.ensures.same;
-    }
+    let size = g.V.Snapshot.size in
+    let s = c.args.self.now in
+    let rows = s.walk.rows.items in
+    let old = c.args.chart.now in
+    let mid = c.sound_roots.new.chart in
+    let roots = c.in_ok-roots.roots.items in
+    let leaves = subst (Every (IsLeafFound d)) (sym c.deref.ensures.value) (leaves_found maps d size first bars was.visited s.uses rows old.roles.items old.faults.items was.mapped) in
+    let apart = subst Apart (sym c.deref.ensures.value) was.mapped.leaves.distinct in
+    let adds = subst (λ l. AddsRoots d (InRowsOf d l) [] roots) c.deref.ensures.value (c.in_ok-roots.ensures.found right leaves apart) in
+    let told = mapped_told maps d size first bars true false was.visited [] s.uses rows old.roles.items old.faults.items mid.faults.items (c.in_ok-roots.ensures.tells right leaves) was.mapped in
+    let here = subst (λ l. Mapped maps d size first bars true false was.visited [] s.uses rows l mid.faults.items) (sym c.sound_roots.ensures.roles) told in
+    let m = rooted maps d size first bars was.visited s.uses rows mid.roles.items mid.faults.items here roots adds in
+    let match = subst (λ l. RootsMatch d l adds.spots) (sym adds.added ∙ sym c.deref-2.ensures.value) adds.match in
+    c.survey_roots.ensures.found right first bars adds.spots match (record { visited = was.visited; mapped = m })

@@ -1,0 +1,16 @@
+use Rattle.std.proofs.Common.{◌≡◌, Bool, List, true, length, drop}
+use Rattle.sqcheck.specs.Places.{Spot}
+use Rattle.sqcheck.specs.declared.chart.Chart.{Chart}
+use Rattle.sqcheck.specs.internal.Found.{HasFound}
+use Rattle.sqcheck.specs.internal.Schema.{RootsMatch}
+use Rattle.sqcheck.specs.internal.Snapshots.{SameSource}
+use Rattle.sqcheck.proofs.walker.Walker.survey_roots.Given as goal
+
+abbrev pub invariant-roots : goal.invariant-roots
+invariant-roots g l = record {
+  long : length l.chart.roles.items ≡ length l.fn.chart.roles.items;
+  found : g.V.Snapshot.right → (first : Chart) (bars : List Bool) (spots : List Spot) → RootsMatch g.V.Snapshot.pages l.roots spots
+      → HasFound g.V.Snapshot.maps g.V.Snapshot.pages g.V.Snapshot.size first bars true true spots l.fn.self.uses l.fn.self.walk l.fn.chart
+      → (left : List Spot) × RootsMatch g.V.Snapshot.pages (drop l.root-index l.roots) left × HasFound g.V.Snapshot.maps g.V.Snapshot.pages g.V.Snapshot.size first bars true true left l.self.uses l.self.walk l.chart;
+  same : SameSource g.V.Snapshot.pages g.V.Snapshot.size g.V.Snapshot.right g.V.Snapshot.given (g.S.PageSource.pages l.source) (g.S.PageSource.size l.source) (g.S.PageSource.reads_right l.source) (g.S.PageSource.gives_pages l.source);
+}
