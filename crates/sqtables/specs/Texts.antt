@@ -1,5 +1,7 @@
 -- The table that a CREATE text of the schema makes (SQLite's lang_createtable).
-use Rattle.std.specs.Prelude.{◌≡◌, ℕ, ◌-◌, ◌<◌, ◌&&◌, Bool, true, false, if◌then◌else◌, List, [], ◌∷◌, length, take, drop, slice_get, Option, Some, None, Ok, codes}
+use Rattle.std.specs.Prelude.{◌≡◌, ℕ, ◌-◌, ◌<◌, ◌&&◌, Bool, true, false, if◌then◌else◌, List, [], ◌∷◌, length, take, drop, slice_get, Option, Some, None, Ok, codes, nat_lt}
+use Rattle.std.specs.Char.{is_ascii_whitespace}
+use Rattle.std.specs.List.{suffix_len}
 use Rattle.std.specs.Str.{str_eq_ignore_ascii_case}
 use Rattle.sqlite_ast.specs.declared.CreateTable.{CreateTable}
 use Rattle.sqlite_ast.specs.declared.Keyed.{Keyed}
@@ -37,9 +39,26 @@ abbrev pub key_by : Option Rule → Option Keyed
 key_by (Some rule) = lone_key rule
 key_by None = None
 
+-- whether a text ends with this word, whatever the case of its letters
+abbrev pub ends_in : (word text : List ℕ) → Bool
+ends_in word text = str_eq_ignore_ascii_case (drop (length text - length word) text) word
+
+-- a text without the spaces at its end
+abbrev pub trimmed : List ℕ → List ℕ
+trimmed text = take (length text - suffix_len is_ascii_whitespace text) text
+
+-- a text without this word at its end, and the spaces before that
+abbrev pub without_end : (word text : List ℕ) → List ℕ
+without_end word text = if ends_in word text then trimmed (take (length text - length word) text) else text
+
+-- The type that is written for a column: of 16 bytes or more without the words GENERATED ALWAYS, or ALWAYS, at its end, which
+-- SQLite takes for the beginning of a generated column (own: as it reads them).
+abbrev pub written_type : List ℕ → List ℕ
+written_type text = if nat_lt 15 (length text) && ends_in (codes "always") text then without_end (codes "generated") (without_end (codes "always") text) else text
+
 -- the column has this name, and its type is written INTEGER
 abbrev pub is_key_column : Option (List ℕ × List ℕ) → (name : List ℕ) → Bool
-is_key_column (Some column) name = str_eq_ignore_ascii_case column.0 name && str_eq_ignore_ascii_case column.1 (codes "integer")
+is_key_column (Some column) name = str_eq_ignore_ascii_case column.0 name && str_eq_ignore_ascii_case (written_type column.1) (codes "integer")
 is_key_column None name = false
 
 -- Rule k makes column i the primary key by itself, and its type is written INTEGER: then it is another name for the rowid

@@ -12,4 +12,4 @@ pub use columns::{Columns, Literal};
 pub use list::{ListError, Object, objects, table_named};
 pub use named::columns_of;
 pub use schema::{TableRow, table_row};
-pub use text::{TableText, table_text};
+pub use text::{TableText, is_integer, table_text};

@@ -5,7 +5,7 @@ ghost use Rattle.std.specs.Str.{str_eq_ignore_ascii_case};
 ghost use Rattle.sqlite_ast.specs.declared.CreateTable.{CreateTable};
 ghost use Rattle.sqlite_syntax.specs.declared.error.ParseError.{ParseError};
 ghost use Rattle.sqtables.specs.Texts.{head_of, is_without_rowid, Makes, MakesTable, lone_key, key_by, is_key_column};
-ghost use Rattle.sqtables.specs.Texts.{IsAliasBy, IsAlias};
+ghost use Rattle.sqtables.specs.Texts.{ends_in, trimmed, without_end, written_type, IsAliasBy, IsAlias};
 
 use sqlite_ast::{CreateTable, Keyed, Rule, Statement, TableBody};
 use sqlite_syntax::error::ParseError;
@@ -77,13 +77,51 @@ fn lone_key_of(rule: &Rule) -> Option<&Keyed>
     }
 }
 
-/// Whether a column has this name, and its type is written INTEGER.
-fn is_integer(column: &(Bytes, Bytes), name: &[u8]) -> bool
-    ensures { result ≡ (str_eq_ignore_ascii_case column.now.0 name.now
-        && str_eq_ignore_ascii_case column.now.1 (codes "integer")) }
+/// Whether a text ends with this word, whatever the case of its letters.
+fn ends_in(word: &[u8], text: &[u8]) -> bool
+    ensures { result ≡ ends_in word.now text.now }
+{
+    let (_, end) = text.split_at(text.len().saturating_sub(word.len()));
+    end.eq_ignore_ascii_case(word)
+}
+
+/// A text without the spaces at its end.
+fn trimmed(text: &[u8]) -> &[u8]
+    ensures { result.now ≡ trimmed text.now }
+{
+    text.trim_ascii_end()
+}
+
+/// A text without this word at its end, and the spaces before that.
+fn without_end<'a>(word: &[u8], text: &'a [u8]) -> &'a [u8]
+    ensures { result.now ≡ without_end word.now text.now }
+{
+    if ends_in(word, text) {
+        let (front, _) = text.split_at(text.len().saturating_sub(word.len()));
+        trimmed(front)
+    } else {
+        text
+    }
+}
+
+/// The type that is written for a column, without GENERATED ALWAYS at its end.
+fn written_type(text: &[u8]) -> &[u8]
+    ensures { result.now ≡ written_type text.now }
+{
+    if text.len() > 15 && ends_in(b"always", text) {
+        without_end(b"generated", without_end(b"always", text))
+    } else {
+        text
+    }
+}
+
+/// Whether a column, a name and a type, has this name, and its type is written INTEGER, but for the words GENERATED
+/// ALWAYS behind it, which SQLite cuts off a type (own).
+pub fn is_integer(column: &(Bytes, Bytes), name: &[u8]) -> bool
+    ensures { result ≡ is_key_column (Some column.now) name.now }
 {
     column.0.as_slice().eq_ignore_ascii_case(name)
-        && column.1.as_slice().eq_ignore_ascii_case(b"integer")
+        && written_type(column.1.as_slice()).eq_ignore_ascii_case(b"integer")
 }
 
 /// The lone column of the primary key that rule `k` states.
