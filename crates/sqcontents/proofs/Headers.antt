@@ -1,5 +1,5 @@
 -- The numbers of a header.
-use Rattle.std.proofs.Common.{◌≡◌, ℕ, List, [], ◌∷◌, length, refl, arith}
+use Rattle.std.proofs.Common.{◌≡◌, [], ◌∷◌, length, refl, arith}
 use Rattle.sqval.specs.Database.{Database, page}
 use Rattle.sqcontents.specs.internal.Judging.{AreNumbersOf}
 

@@ -1,2 +1,4 @@
 mod Headers
+pub mod ItemsJudged
 mod IndexesOfItems
+mod RowsOfItems

@@ -1,5 +1,6 @@
--- The indexes of a schema against their tables (fileformat2, 1.6, 2.4 and 2.6).
-use Rattle.std.specs.Prelude.{◌≡◌, ◌≢◌, ◌⊎◌, ◌<◌, ◌≤◌, ℕ, true, List, ◌∷◌, nat_eq, length, slice_get, Option, Some, None, pos}
+-- The indexes of a schema against their tables (fileformat2, 1.6, 2.4 and 2.6), and the rows of tables against their columns
+-- (SQLite's lang_createtable).
+use Rattle.std.specs.Prelude.{◌≡◌, ◌≢◌, ◌⊎◌, ◌<◌, ◌≤◌, ◌+◌, ℕ, Bool, true, false, List, ◌∷◌, nat_eq, length, slice_get, Option, Some, None, pos}
 use Rattle.std.specs.Fmt.{decimal}
 use Rattle.std.specs.List.{ends_with}
 use Rattle.std.specs.Str.{str_eq_ignore_ascii_case}
@@ -10,15 +11,19 @@ use Rattle.sqpage.specs.Lists.{In}
 use Rattle.sqdeep.specs.Records.{encoding_of}
 use Rattle.sqdeep.specs.declared.text.Encoding.TheVariants.{Utf8}
 use Rattle.sqkeys.specs.declared.key.IndexKey.{IndexKey}
+use Rattle.sqkeys.specs.declared.row_rules.ColumnRule.{ColumnRule}
+use Rattle.sqkeys.specs.RowRules.{AreRulesOf}
+use Rattle.sqkeys.specs.RowRules.{HasNoRules as IsWithoutRules}
 use Rattle.sqkeys.specs.Keys.{IsKeyOf, IsNotUnderstood}
 use Rattle.sqkeys.specs.Constraints.{IsAutomaticKey, HasNoAutomatic}
 use Rattle.sqindex.specs.Stored.{Stored}
 use Rattle.sqindex.specs.Rules.{HasEntries, IsIndexOf}
 use Rattle.sqindex.specs.Indexes.{StandsInIndex, NoRows, NoEntries, HasLongCell, memory_of}
+use Rattle.sqindex.specs.RowsKept.{AreRowsKept, StandsInTable}
 use Rattle.sqschema.specs.Items.{Item}
 use Rattle.sqschema.specs.Rules.{is_table, is_index}
 use Rattle.sqcontents.specs.declared.error.ContentsError.{ContentsError}
-use Rattle.sqcontents.specs.declared.error.ContentsError.TheVariants.{Source, NoMemory, Content}
+use Rattle.sqcontents.specs.declared.error.ContentsError.TheVariants.{Source, NoMemory, Content, Row}
 
 -- the number of the schema's format (fileformat2, 1.3.10)
 abbrev pub format_of : Database → ℕ
@@ -90,13 +95,54 @@ IsUnjudged d xs limit x =
     ⊎ (((y : Item) × IsTableOf xs x y × IsUnclear d x y)
     ⊎ (IsLarge d xs limit x ⊎ IsUnreadable d xs limit x)))
 
--- Each index of a schema is sound, or one of these, of which it is said why.
-pub record AreIndexesJudged (d : Database) (xs : List Item) (limit : ℕ) (asides : List ℕ) : Type 0 where
-  pub each : (i : ℕ) (x : Item) → slice_get xs i ≡ Some x → is_index x ≡ true → ¬ In i asides → IsSoundIndex d xs x
-  pub why : (i : ℕ) → In i asides → (x : Item) × (slice_get xs i ≡ Some x) × (is_index x ≡ true) × IsUnjudged d xs limit x
+-- The items of a kind are sound, but for these, of which it is said why they are open; these are named once, in order.
+pub record AreJudged (Is IsSound IsOpen : Item → Type 0) (xs : List Item) (asides : List ℕ) : Type 0 where
+  pub each : (i : ℕ) (x : Item) → slice_get xs i ≡ Some x → Is x → ¬ In i asides → IsSound x
+  pub why : (i : ℕ) → In i asides → (x : Item) × (slice_get xs i ≡ Some x) × Is x × IsOpen x
+  pub rise : (k i j : ℕ) → slice_get asides k ≡ Some i → slice_get asides (k + 1) ≡ Some j → i < j
 
--- Why the contents of a schema aren't found sound: memory ran out; or a fault stands in an index, which isn't sound by its key.
--- That a page couldn't be read is none.
+-- Each index of a schema is sound, or one of these, of which it is said why.
+abbrev pub AreIndexesJudged : Database → List Item → (limit : ℕ) → (asides : List ℕ) → Type 0
+AreIndexesJudged d xs limit asides = AreJudged (λ x. is_index x ≡ true) (IsSoundIndex d xs) (IsUnjudged d xs limit) xs asides
+
+-- Item x is a table with a tree, as all but virtual ones.
+abbrev pub IsRooted : Item → Type 0
+IsRooted x = (is_table x ≡ true) × (x.root ≢ pos 0)
+
+-- The text of a table gives these rules of its columns, or none that are known.
+abbrev pub HasRules : Option (List ℕ) → List ColumnRule → Type 0
+HasRules (Some table) rules = AreRulesOf table rules
+HasRules None rules = ⊥
+
+abbrev pub HasNoRules : Option (List ℕ) → Type 0
+HasNoRules (Some table) = IsWithoutRules table
+HasNoRules None = Unit {0}
+
+-- The columns of table x have these rules; this is its root.
+pub record IsTableWith (d : Database) (x : Item) (rules : List ColumnRule) (table : ℕ) : Type 0 where
+  pub encoding : encoding_of d ≡ Utf8
+  pub ruled : HasRules x.sql rules
+  pub rooted : x.root ≡ pos table
+
+-- Table x is sound: it is known what stands in the columns of its rows, and that keeps to their rules.
+abbrev pub IsSoundTable : Database → Item → Type 0
+IsSoundTable d x = (rules : List ColumnRule) × (table : ℕ) × IsTableWith d x rules table × AreRowsKept d table rules true
+
+-- Its rows can't be read in order, or one is too long (own); or it isn't known what stands in some column of one.
+abbrev pub IsUnknown : Database → Item → Type 0
+IsUnknown d x = (rules : List ColumnRule) × (table : ℕ) × IsTableWith d x rules table
+    × (AreRowsKept d table rules false ⊎ (NoRows d table ⊎ HasLongCell d table most_bytes))
+
+-- Why table x isn't judged: texts are in UTF-16; its root or its text isn't understood; or its rows aren't known.
+abbrev pub IsTableUnjudged : Database → Item → Type 0
+IsTableUnjudged d x = (encoding_of d ≢ Utf8) ⊎ (HasNoRoot d x ⊎ (HasNoRules x.sql ⊎ IsUnknown d x))
+
+-- Each table of a schema is sound, or one of these, of which it is said why.
+abbrev pub AreTablesJudged : Database → List Item → (asides : List ℕ) → Type 0
+AreTablesJudged d xs asides = AreJudged IsRooted (IsSoundTable d) (IsTableUnjudged d) xs asides
+
+-- Why the contents of a schema aren't found sound: memory ran out; or a fault stands in an index, which isn't sound by its key;
+-- or at a row of a table, whose rows don't keep to its columns. That a page couldn't be read is none.
 abbrev pub ContentsRefused : Database → List Item → ContentsError → Type 0
 ContentsRefused d xs Source = ⊥
 ContentsRefused d xs NoMemory = Unit {0}
@@ -104,3 +150,7 @@ ContentsRefused d xs (Content e) =
     (x y : Item) × (key : IndexKey) × (table index : ℕ) × (slice_get xs e.row ≡ Some x) × (is_index x ≡ true)
     × IsIndexWith d xs x y key table index × StandsInIndex d table index key e.error.fault e.error.page e.error.cell
     × ((n : ℕ) → ¬ IsIndexOf d table index key n)
+ContentsRefused d xs (Row e) =
+    (x : Item) × (rules : List ColumnRule) × (table : ℕ) × (slice_get xs e.row ≡ Some x) × IsRooted x
+    × IsTableWith d x rules table × StandsInTable d table rules e.error.fault e.error.page e.error.cell
+    × ((clear : Bool) → ¬ AreRowsKept d table rules clear)

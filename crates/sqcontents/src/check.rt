@@ -4,7 +4,7 @@ ghost use Rattle.std.specs.Prelude.{if◌then◌else◌, false, map, length};
 ghost use Rattle.sqpage.specs.Source.{KeepsPages};
 ghost use Rattle.sqschema.specs.Items.{seen};
 ghost use Rattle.sqcontents.specs.Contents.{AreIndexesJudged, ContentsRefused, HasKey, HasNoKey};
-ghost use Rattle.sqcontents.specs.internal.Judging.{AreNumbersOf, Judges};
+ghost use Rattle.sqcontents.specs.internal.Judging.{AreNumbersOf, JudgesIndex};
 ghost use Rattle.sqcontents.specs.internal.Judging.{IsUnsound, IsRefusedBy, IsUnjudgedBy, IsErrorBy};
 
 use crate::error::{ContentError, ContentsError};
@@ -35,7 +35,7 @@ fn key_for(
 }
 
 /// Why a tree isn't read, where a page could not be read or memory ran out; else it can't be.
-fn refused_by(error: ReadError) -> Option<ContentsError>
+pub(crate) fn refused_by(error: ReadError) -> Option<ContentsError>
     ensures { MatchOption result (IsUnsound error) (IsRefusedBy error) }
 {
     match error {
@@ -75,7 +75,7 @@ fn judge_item<S: PageSource>(
 ) -> Result<bool, ContentsError>
     requires { row < length items.now }
     ensures ok { S.gives_pages source.old → AreNumbersOf (S.pages source.old) numbers
-        → IfOk result (Judges (S.pages source.old) (map seen items.now) limit row) }
+        → IfOk result (JudgesIndex (S.pages source.old) (map seen items.now) limit row) }
     ensures err { S.gives_pages source.old → AreNumbersOf (S.pages source.old) numbers
         → IfErr result (ContentsRefused (S.pages source.old) (map seen items.now)) }
     ensures keeps { KeepsPages S.pages S.size S.reads_right S.gives_pages source.old source.new }
@@ -106,8 +106,8 @@ fn judge_item<S: PageSource>(
     }
 }
 
-/// Adds the row of an index that isn't judged.
-fn note(asides: &mut Vec<usize>, row: usize, judged: bool) -> Result<(), ContentsError>
+/// Adds the row of an object that isn't judged.
+pub(crate) fn note(asides: &mut Vec<usize>, row: usize, judged: bool) -> Result<(), ContentsError>
     ensures ok { OnOk result (asides.new.items ≡ (if judged then asides.old.items else asides.old.items ++ row ∷ [])) }
     ensures err { IfErr result (λ e. e ≡ ContentsError.NoMemory) }
 {

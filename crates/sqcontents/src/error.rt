@@ -1,5 +1,5 @@
 //! Why the contents of a schema aren't found sound (own).
-use sqindex::EntryError;
+use sqindex::{EntryError, RowError};
 use std::alloc::AllocError;
 use thiserror::Error;
 
@@ -10,6 +10,16 @@ pub struct ContentError {
     /// The fault, and the cell that it stands at.
     pub error: EntryError,
     /// The row of the index in the schema, from 0, in the order of rowids.
+    pub row: usize,
+}
+
+/// A fault of a row of a table, and of which one.
+#[derive(Clone, Copy, Debug, PartialEq, Eq, Error)]
+#[error("row {row} of the schema: {error}")]
+pub struct TableRowError {
+    /// The fault, and the cell that it stands at.
+    pub error: RowError,
+    /// The row of the table in the schema, from 0, in the order of rowids.
     pub row: usize,
 }
 
@@ -25,4 +35,7 @@ pub enum ContentsError {
     /// An index isn't sound.
     #[error("{0}")]
     Content(ContentError),
+    /// A row of a table doesn't keep to its columns.
+    #[error("{0}")]
+    Row(TableRowError),
 }

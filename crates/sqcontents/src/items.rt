@@ -1,9 +1,9 @@
 //! The items of a schema that an index is judged by (fileformat2, 2.6).
-ghost use Rattle.std.specs.Prelude.{◌≡◌, ◌≢◌, ◌<◌, ◌&&◌, ℕ, MatchOption, map, length, slice_get, Some, pos};
+ghost use Rattle.std.specs.Prelude.{◌≡◌, ◌≢◌, ◌<◌, ◌&&◌, ℕ, MatchBool, MatchOption, map, length, slice_get, Some, pos};
 ghost use Rattle.std.specs.Str.{str_eq_ignore_ascii_case};
 ghost use Rattle.sqschema.specs.Items.{Item as SpecItem, seen};
 ghost use Rattle.sqschema.specs.Rules.{is_table, is_index};
-ghost use Rattle.sqcontents.specs.Contents.{IsTableOf};
+ghost use Rattle.sqcontents.specs.Contents.{IsRooted, IsTableOf};
 ghost use Rattle.sqcontents.specs.internal.Judging.{IsWithin};
 
 use sqschema::Item;
@@ -13,6 +13,13 @@ pub(crate) fn is_index(item: &Item) -> bool
     ensures { result ≡ is_index (seen item.now) }
 {
     item.kind.as_slice() == b"index".as_slice()
+}
+
+/// Whether an item is a table with a tree.
+pub(crate) fn is_rooted(item: &Item) -> bool
+    ensures { MatchBool result (IsRooted (seen item.now)) (¬ IsRooted (seen item.now)) }
+{
+    item.root != 0 && item.kind.as_slice() == b"table".as_slice()
 }
 
 /// Whether an item is a table of this name.

@@ -1,5 +1,5 @@
 //! What the trees of a schema hold (fileformat2, 1.6 and 2.4): whether each index has, in its order, exactly the keys
-//! and rowids of its table.
+//! and rowids of its table, and whether the rows of each table keep to its columns.
 #![tactic(auto)]
 
 mod check;
@@ -7,6 +7,8 @@ mod error;
 mod first;
 mod items;
 mod keys;
+mod tables;
 
 pub use check::check_contents;
-pub use error::{ContentError, ContentsError};
+pub use error::{ContentError, ContentsError, TableRowError};
+pub use tables::check_tables;

@@ -1,7 +1,7 @@
 //! The indexes of a schema, of which one at a time is judged, on the pages of `index_tests`.
 use crate::index_tests::file_with;
-use sqcontents::{ContentError, ContentsError, check_contents};
-use sqindex::{EntryError, IndexFault};
+use sqcontents::{ContentError, ContentsError, TableRowError, check_contents, check_tables};
+use sqindex::{EntryError, IndexFault, RowError, RowFault};
 use sqpage::SliceSource;
 use sqschema::Item;
 use sqval::PageSize;
@@ -77,6 +77,68 @@ fn an_index_of_another_column(rt: HostRuntime) -> Result<(), Fail> {
 #[test]
 fn an_index_that_is_not_judged(rt: HostRuntime) -> Result<(), Fail> {
     match found(rt.alloc(), b"CREATE INDEX t_n ON t(n) WHERE n > 1")? {
+        Some(Ok(unjudged)) => assert!(rt; unjudged.as_slice() == [1].as_slice()),
+        _ => assert!(rt; false),
+    }
+    Ok(())
+}
+
+/// What is found of table t, with this text.
+fn found_of_table(
+    alloc: Global,
+    sql: &[u8],
+) -> Result<Option<Result<Vec<usize>, ContentsError>>, AllocError> {
+    let file = file_with(alloc, &[])?;
+    let mut items = Vec::new(alloc);
+    items.push(item(
+        alloc,
+        b"table",
+        b"v",
+        0,
+        b"CREATE VIRTUAL TABLE v USING fts5(a)",
+    )?)?;
+    items.push(item(alloc, b"table", b"t", 2, sql)?)?;
+    let Some(size) = PageSize::new(512) else {
+        return Ok(None);
+    };
+    match SliceSource::new(&file, size) {
+        None => Ok(None),
+        Some(mut source) => Ok(Some(check_tables(alloc, &mut source, &items))),
+    }
+}
+
+#[test]
+fn a_sound_table(rt: HostRuntime) -> Result<(), Fail> {
+    match found_of_table(rt.alloc(), b"CREATE TABLE t(i INTEGER PRIMARY KEY, s TEXT)")? {
+        Some(Ok(unjudged)) => assert!(rt; unjudged.is_empty()),
+        _ => assert!(rt; false),
+    }
+    Ok(())
+}
+
+#[test]
+fn a_table_with_a_number_as_text(rt: HostRuntime) -> Result<(), Fail> {
+    let wanted = TableRowError {
+        error: RowError {
+            fault: RowFault::NumberUnderText,
+            page: 2,
+            cell: 0,
+        },
+        row: 1,
+    };
+    match found_of_table(
+        rt.alloc(),
+        b"CREATE TABLE t(i INTEGER PRIMARY KEY, s, r TEXT)",
+    )? {
+        Some(Err(ContentsError::Row(error))) => assert!(rt; error == wanted),
+        _ => assert!(rt; false),
+    }
+    Ok(())
+}
+
+#[test]
+fn a_table_that_is_not_judged(rt: HostRuntime) -> Result<(), Fail> {
+    match found_of_table(rt.alloc(), b"CREATE TABLE t(a PRIMARY KEY) WITHOUT ROWID")? {
         Some(Ok(unjudged)) => assert!(rt; unjudged.as_slice() == [1].as_slice()),
         _ => assert!(rt; false),
     }

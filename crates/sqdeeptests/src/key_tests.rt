@@ -188,7 +188,7 @@ const OTHERS: [(&str, &str); 23] = [
         "CREATE INDEX i ON t(a)",
     ),
     (
-        "CREATE TABLE t(a INTEGER GENERATED ALWAYS PRIMARY KEY)",
+        "CREATE TABLE t(a TEXT GENERATED ALWAYS PRIMARY KEY)",
         "CREATE INDEX i ON t(a)",
     ),
     ("CREATE TABLE t(a)", "CREATE INDEX i ON u(a)"),

@@ -2,7 +2,8 @@
 use crate::deep_tests::file_with;
 use sqcheck::Options as Maps;
 use sqdeep::InnerFault;
-use sqdeepshown::{Damage, DeepVerdict, judge_deep, judged_as, write_found};
+use sqdeepjudge::{Damage, DeepVerdict, judge_deep};
+use sqdeepshown::{judged_as, write_found};
 use sqfacts::Refusal;
 use sqschema::{ObjectError, SchemaFault};
 use sqshown::Asked;
@@ -120,6 +121,8 @@ fn a_text_that_is_not_understood(rt: HostRuntime) -> Result<(), Fail> {
             assert!(rt; matches!(verdict, DeepVerdict::Sound(_, _, _)));
             assert!(rt; verdict.aside(0) == Some(b"t".as_slice()));
             assert!(rt; verdict.aside(1).is_none());
+            assert!(rt; verdict.unjudged_table(0) == Some(b"t".as_slice()));
+            assert!(rt; verdict.unjudged_table(1).is_none());
         }
         Err(_) => assert!(rt; false),
     }
@@ -133,11 +136,12 @@ fn a_view(rt: HostRuntime) -> Result<(), Fail> {
     match viewed(alloc, &file) {
         Ok(DeepVerdict::Sound(report, schema, unjudged)) => {
             assert!(rt; schema.asides.is_empty());
-            assert!(rt; unjudged.is_empty());
+            assert!(rt; unjudged.indexes.is_empty() && unjudged.tables.is_empty());
             let plain = DeepVerdict::of(Verdict::Clean(report));
             assert!(rt; matches!(plain, DeepVerdict::Clean(same) if same == report));
             assert!(rt; plain.aside(0).is_none());
             assert!(rt; plain.unjudged(0).is_none());
+            assert!(rt; plain.unjudged_table(0).is_none());
         }
         _ => assert!(rt; false),
     }

@@ -133,7 +133,7 @@ module _ (d : Database) (table index : ℕ) (key : IndexKey) (n : ℕ) (w : IsIn
   stands_not faults.KeyTwice page cell h = among_entries faults.KeyTwice page cell h
   stands_not faults.RowTwice page cell h = among_entries faults.RowTwice page cell h
 
-unlimited : (d : Database) (root limit : ℕ) (none : Type 0) (e : ReadError) → ReadRefused d root limit none e → ¬ IsLimit e → none
+pub unlimited : (d : Database) (root limit : ℕ) (none : Type 0) (e : ReadError) → ReadRefused d root limit none e → ¬ IsLimit e → none
 unlimited d root limit none (Tree e) h un = h.1 un
 unlimited d root limit none TooLong h un = absurd (un tt)
 unlimited d root limit none OtherKind h un = h

@@ -9,3 +9,4 @@ pub mod RowsSeen
 pub mod RowsJoined
 pub mod IndexesRefuted
 pub mod IndexesJudged
+pub mod RowsScanned

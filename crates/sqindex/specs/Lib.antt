@@ -3,4 +3,7 @@ pub mod Keys
 pub mod Rules
 pub mod IndexFaults
 pub mod Indexes
+pub mod Numbers
+pub mod RowFaults
+pub mod RowsKept
 pub mod internal

@@ -3,3 +3,4 @@ pub mod Reading
 pub mod Held
 pub mod Judging
 pub mod Joining
+pub mod Scanning

@@ -3,6 +3,7 @@ ghost use Rattle.std.specs.Prelude.{◌≡◌};
 ghost use Rattle.sqindex.specs.internal.Reading.{read_error};
 
 use crate::fault::IndexFault;
+use crate::row_fault::RowFault;
 use sqpage::CheckError;
 use sqrows::{PayloadError, RowsError};
 use thiserror::Error;
@@ -54,6 +55,29 @@ pub enum IndexError {
     /// The entries take more memory than they may: for each its payload and 64 bytes (own).
     #[error("the index takes more memory than it may")]
     TooLarge,
+}
+
+/// A fault, and the cell of the row that it stands at.
+#[derive(Clone, Copy, Debug, PartialEq, Eq, Error)]
+#[error("page {page}, cell {cell}: {fault}")]
+pub struct RowError {
+    /// What is wrong.
+    pub fault: RowFault,
+    /// The page of the cell.
+    pub page: u32,
+    /// The cell's index there, from 0.
+    pub cell: usize,
+}
+
+/// Why the rows of a table aren't found to keep to its columns.
+#[derive(Clone, Copy, Debug, PartialEq, Eq, Error)]
+pub enum TableError {
+    /// The rows can't be read, or memory ran out.
+    #[error("{0}")]
+    Unread(ReadError),
+    /// A row isn't as it should be.
+    #[error("{0}")]
+    Row(RowError),
 }
 
 impl ReadError {

@@ -15,7 +15,7 @@ use sqlite_value::value::{Value, ValueRef};
 use std::cmp::Ordering;
 
 /// A value that is lent.
-fn lent(value: &Value) -> ValueRef<'_>
+pub(crate) fn lent(value: &Value) -> ValueRef<'_>
     ensures { owned result ≡ value.now }
 {
     match value {

@@ -104,7 +104,7 @@ fn end(entries: &Entries, numbered: &[Numbered], join: Join) -> Result<(), Index
 
 /// The rowid of a row. Refused by OtherKind where it has none, and by RowidOrder where it isn't above that of the row
 /// before.
-fn above(last: Option<i64>, rowid: Option<i64>) -> Result<Option<i64>, ReadError>
+pub(crate) fn above(last: Option<i64>, rowid: Option<i64>) -> Result<Option<i64>, ReadError>
     ensures ok { IfOk result (IsAbove last rowid) }
     ensures err { IfErr result (NotAbove last rowid) }
 {

@@ -1,6 +1,8 @@
-//! An index of a database against its table (fileformat2, 1.6 and 2.4).
+//! An index of a database against its table (fileformat2, 1.6 and 2.4), and the rows of a table against its columns
+//! (SQLite's lang_createtable).
 #![tactic(auto)]
 
+mod column_fault;
 mod compare;
 mod entries;
 mod error;
@@ -8,11 +10,16 @@ mod fault;
 mod fields;
 mod join;
 mod judge;
+mod number;
 mod order;
 mod read;
+mod row_fault;
+mod table;
 mod walk;
 
-pub use error::{EntryError, IndexError, ReadError};
+pub use error::{EntryError, IndexError, ReadError, RowError, TableError};
 pub use fault::IndexFault;
 pub use judge::judge_index;
-pub use sqkeys::{IndexKey, KeyColumn};
+pub use row_fault::RowFault;
+pub use sqkeys::{ColumnRule, IndexKey, KeyColumn};
+pub use table::judge_rows;

@@ -1,2 +1,3 @@
 pub mod LastSaid
 pub mod Pairs
+mod RulesPushed

@@ -3,3 +3,5 @@ pub mod Affinities
 pub mod Columns
 pub mod Keys
 pub mod Constraints
+pub mod Accepted
+pub mod RowRules

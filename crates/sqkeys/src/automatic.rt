@@ -6,12 +6,12 @@ ghost use Rattle.sqtables.specs.Texts.{is_key_column};
 ghost use Rattle.sqkeys.specs.Constraints.{is_rowid, constrained, collation_for, is_like, repeats, with_columns};
 ghost use Rattle.sqkeys.specs.Constraints.{indexes_of, IsNoNumber, IsNumbered, IsAutomaticKey, HasNoAutomatic};
 
-use crate::column::is_integer;
 use crate::key::{IndexKey, key_over};
 use crate::rule::collation_of;
 use crate::text::rowid_table;
 use sqlite_ast::{Keyed, Rule, TableBody};
 use sqlite_value::keys::Collation;
+use sqtables::is_integer;
 use std::alloc::{AllocError, Global};
 
 /// The most rules of a table that are compared with each other (own).

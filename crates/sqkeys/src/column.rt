@@ -10,7 +10,7 @@ ghost use Rattle.sqkeys.specs.Columns.{column_named, IsFoundAs, IsKeyColumn, IsU
 use crate::default::default_at;
 use crate::key::KeyColumn;
 use sqlite_ast::{Keyed, Rule, TableBody};
-use sqlite_value::value::Bytes;
+use sqtables::is_integer;
 use std::alloc::{AllocError, Global};
 
 /// The first column of this name.
@@ -46,15 +46,7 @@ fn key_at(body: &TableBody, k: usize) -> Option<&Keyed>
     }
 }
 
-/// Whether a column has this name, and its type is written INTEGER.
-pub(crate) fn is_integer(column: &(Bytes, Bytes), name: &[u8]) -> bool
-    ensures { result ≡ is_key_column (Some column.now) name.now }
-{
-    column.0.as_slice().eq_ignore_ascii_case(name)
-        && column.1.as_slice().eq_ignore_ascii_case(b"integer")
-}
-
-/// The same of column `j`.
+/// Whether column `j` has this name, and its type is written INTEGER.
 fn is_integer_at(body: &TableBody, j: usize, name: &[u8]) -> bool
     ensures { result ≡ is_key_column (slice_get body.now.columns j) name.now }
 {
@@ -76,7 +68,7 @@ fn is_alias_by(body: &TableBody, k: usize, j: usize) -> bool
 }
 
 /// Whether column `j` is another name for the rowid.
-fn is_alias(body: &TableBody, j: usize) -> bool
+pub(crate) fn is_alias(body: &TableBody, j: usize) -> bool
     ensures yes { result ≡ true → IsAlias body.now j }
     ensures not { result ≡ false → ¬ IsAlias body.now j }
 {

@@ -10,7 +10,7 @@ use sqlite_value::value::{Bytes, Value};
 use std::alloc::{AllocError, Global};
 
 /// Whether SQLite cuts words off the end of a type.
-fn is_cut(written: &[u8]) -> bool
+pub(crate) fn is_cut(written: &[u8]) -> bool
     ensures { result ≡ is_cut written.now }
 {
     let (_, tail) = written.split_at(written.len().saturating_sub(6));

@@ -2,6 +2,7 @@
 //! what stands for those that a row doesn't store (SQLite's lang_createindex).
 #![tactic(auto)]
 
+mod accepts;
 mod affinity;
 mod automatic;
 mod column;
@@ -9,8 +10,11 @@ mod default;
 mod key;
 mod literal;
 mod order;
+mod row_rules;
 mod rule;
 mod text;
 
+pub use accepts::Accepts;
 pub use automatic::automatic_key_of;
 pub use key::{IndexKey, KeyColumn, key_of};
+pub use row_rules::{ColumnRule, rules_of};

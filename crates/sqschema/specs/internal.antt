@@ -1,4 +1,3 @@
 -- What no public clause reaches.
 pub mod Reading
 pub mod Judging
-pub mod RowRules

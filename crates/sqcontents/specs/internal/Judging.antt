@@ -1,5 +1,5 @@
--- Words of the functions that judge the indexes of a schema (own). No public contract cites them.
-use Rattle.std.specs.Prelude.{◌≡◌, ◌≢◌, ◌<◌, ◌≤◌, ℕ, Bool, true, false, List, slice_get, Some}
+-- Words of the functions that judge the indexes and the tables of a schema (own). No public contract cites them.
+use Rattle.std.specs.Prelude.{◌≡◌, ◌≢◌, ◌<◌, ◌≤◌, ◌+◌, ℕ, Bool, true, false, List, slice_get, Some}
 use Rattle.sqval.specs.Bytes.{word}
 use Rattle.sqval.specs.Database.{Database, page}
 use Rattle.sqpage.specs.Lists.{In}
@@ -9,12 +9,14 @@ use Rattle.sqindex.specs.declared.error.ReadError.TheVariants as reads
 use Rattle.sqindex.specs.declared.error.ReadError.TheVariants.{Tree}
 use Rattle.sqindex.specs.declared.error.IndexError.{IndexError}
 use Rattle.sqindex.specs.declared.error.IndexError.TheVariants as indexes
+use Rattle.sqindex.specs.declared.error.TableError.{TableError}
+use Rattle.sqindex.specs.declared.error.TableError.TheVariants as tables
 use Rattle.sqcontents.specs.declared.error.ContentsError.{ContentsError}
 use Rattle.sqcontents.specs.declared.error.ContentsError.TheVariants as contents
 use Rattle.sqschema.specs.Items.{Item}
 use Rattle.sqschema.specs.Rules.{is_index}
 use Rattle.sqcontents.specs.declared.first.Numbers.{Numbers}
-use Rattle.sqcontents.specs.Contents.{IsSoundIndex, IsUnjudged}
+use Rattle.sqcontents.specs.Contents.{IsSoundIndex, IsUnjudged, IsRooted, IsSoundTable, IsTableUnjudged}
 
 -- a page number of a database of so many pages
 abbrev pub IsWithin : (count r : ℕ) → Type 0
@@ -25,10 +27,16 @@ pub record AreNumbersOf (d : Database) (numbers : Numbers) : Type 0 where
   pub format : numbers.format ≡ word (page d 1) 44
   pub encoding : numbers.encoding ≡ word (page d 1) 56
 
--- It is said whether item `row` is sound, where it is an index, or is one that isn't judged.
-abbrev pub Judges : Database → List Item → (limit row : ℕ) → Bool → Type 0
-Judges d xs limit row true = (x : Item) → slice_get xs row ≡ Some x → is_index x ≡ true → IsSoundIndex d xs x
-Judges d xs limit row false = (x : Item) × (slice_get xs row ≡ Some x) × (is_index x ≡ true) × IsUnjudged d xs limit x
+-- It is said whether item `row`, where it is of a kind, is sound, or open.
+abbrev pub Judges : (Is IsSound IsOpen : Item → Type 0) → List Item → (row : ℕ) → Bool → Type 0
+Judges Is IsSound IsOpen xs row true = (x : Item) → slice_get xs row ≡ Some x → Is x → IsSound x
+Judges Is IsSound IsOpen xs row false = (x : Item) × (slice_get xs row ≡ Some x) × Is x × IsOpen x
+
+abbrev pub JudgesIndex : Database → List Item → (limit row : ℕ) → Bool → Type 0
+JudgesIndex d xs limit row judged = Judges (λ x. is_index x ≡ true) (IsSoundIndex d xs) (IsUnjudged d xs limit) xs row judged
+
+abbrev pub JudgesTable : Database → List Item → (row : ℕ) → Bool → Type 0
+JudgesTable d xs row judged = Judges IsRooted (IsSoundTable d) (IsTableUnjudged d) xs row judged
 
 -- A tree isn't sound, whatever memory there is.
 abbrev pub IsUnsound : ReadError → Type 0
@@ -56,7 +64,23 @@ IsErrorBy (indexes.Index e) row error = IsRefusedBy e error
 IsErrorBy (indexes.Entry e) row error = error ≡ contents.Content (record { error = e; row = row })
 IsErrorBy indexes.TooLarge row error = ⊥
 
--- The first n items that are indexes are judged.
-pub record AreJudgedBelow (d : Database) (xs : List Item) (limit n : ℕ) (asides : List ℕ) : Type 0 where
-  pub each : (i : ℕ) (x : Item) → i < n → slice_get xs i ≡ Some x → is_index x ≡ true → ¬ In i asides → IsSoundIndex d xs x
-  pub why : (i : ℕ) → In i asides → (x : Item) × (i < n) × (slice_get xs i ≡ Some x) × (is_index x ≡ true) × IsUnjudged d xs limit x
+-- The rows of a table can't be read; or this is the fault of table `row`, a page could not be read, or memory ran out.
+abbrev pub IsUnknownBy : TableError → Type 0
+IsUnknownBy (tables.Unread e) = IsUnsound e
+IsUnknownBy (tables.Row e) = ⊥
+
+abbrev pub IsTableErrorBy : TableError → (row : ℕ) → ContentsError → Type 0
+IsTableErrorBy (tables.Unread e) row error = IsRefusedBy e error
+IsTableErrorBy (tables.Row e) row error = error ≡ contents.Row (record { error = e; row = row })
+
+-- The first n items that are of a kind are judged.
+pub record AreJudgedBelow (Is IsSound IsOpen : Item → Type 0) (xs : List Item) (n : ℕ) (asides : List ℕ) : Type 0 where
+  pub each : (i : ℕ) (x : Item) → i < n → slice_get xs i ≡ Some x → Is x → ¬ In i asides → IsSound x
+  pub why : (i : ℕ) → In i asides → (x : Item) × (i < n) × (slice_get xs i ≡ Some x) × Is x × IsOpen x
+  pub rise : (k i j : ℕ) → slice_get asides k ≡ Some i → slice_get asides (k + 1) ≡ Some j → i < j
+
+abbrev pub AreIndexesBelow : Database → List Item → (limit n : ℕ) → (asides : List ℕ) → Type 0
+AreIndexesBelow d xs limit n asides = AreJudgedBelow (λ x. is_index x ≡ true) (IsSoundIndex d xs) (IsUnjudged d xs limit) xs n asides
+
+abbrev pub AreTablesBelow : Database → List Item → (n : ℕ) → (asides : List ℕ) → Type 0
+AreTablesBelow d xs n asides = AreJudgedBelow IsRooted (IsSoundTable d) (IsTableUnjudged d) xs n asides

@@ -1,12 +1,13 @@
-use Rattle.std.proofs.Common.{◌≡◌, ◌∙◌, ◌≤◌, ℕ, length, refl, sym, subst, arith}
+use Rattle.std.proofs.Common.{◌≡◌, ◌∙◌, ◌≤◌, true, length, sym, subst, arith}
 use Rattle.std.specs.Prelude.{map}
 use Rattle.std.proofs.lemmas.List.{length-map}
 use Rattle.sqval.specs.Database.{Database}
 use Rattle.sqcheck.proofs.checks.ResultsOfCalls.{exits}
 use Rattle.sqschema.specs.Items.{seen}
-use Rattle.sqcontents.specs.Contents.{ContentsRefused}
-use Rattle.sqcontents.specs.internal.Judging.{AreNumbersOf, Judges}
-use Rattle.sqcontents.proofs.IndexesOfItems.{none_judged, item_next, all_judged}
+use Rattle.sqschema.specs.Rules.{is_index}
+use Rattle.sqcontents.specs.Contents.{ContentsRefused, IsSoundIndex, IsUnjudged}
+use Rattle.sqcontents.specs.internal.Judging.{AreNumbersOf, JudgesIndex}
+use Rattle.sqcontents.proofs.ItemsJudged.{item_next, all_judged}
 use Rattle.sqcontents.proofs.check.check_contents.Goals as goal
 
 pub returns-in_err-judged-clause-err : goal.returns-in_err-judged-clause-err
@@ -36,12 +37,13 @@ items-preserved g c =
       numbers = i.numbers;
       judged = λ gives.
           let numbers = subst (λ (d : Database). AreNumbersOf d c.in_ok-numbers.numbers) (sym k.same_pages) (i.numbers gives) in
-          item_next d xs c.args.limit c.items.row c.in_ok-judged.judged c.items.asides.items c.note.new.asides.items
-          (subst (λ (d : Database). Judges d xs c.args.limit c.items.row c.in_ok-judged.judged) k.same_pages (e.ok (k.still_gives gives) numbers)) c.in_ok-note.ensures.ok (i.judged gives);
+          item_next (λ x. is_index x ≡ true) (IsSoundIndex d xs) (IsUnjudged d xs c.args.limit) xs c.items.row c.in_ok-judged.judged c.items.asides.items c.note.new.asides.items
+          (subst (λ (d : Database). JudgesIndex d xs c.args.limit c.items.row c.in_ok-judged.judged) k.same_pages (e.ok (k.still_gives gives) numbers)) c.in_ok-note.ensures.ok (i.judged gives);
     }
 
 pub returns-clause-ok : goal.returns-clause-ok
 returns-clause-ok g c = λ gives.
     let xs = map seen c.args.items.now in
     let all : length xs ≤ c.items.row = omega (arith, length-map c.args.items.now seen, c.items-test.false) in
-    all_judged (g.S.PageSource.pages c.args.source.now) xs c.args.limit c.items.row c.items.asides.items all (c.items.invariant.judged gives)
+    let d = g.S.PageSource.pages c.args.source.now in
+    all_judged (λ x. is_index x ≡ true) (IsSoundIndex d xs) (IsUnjudged d xs c.args.limit) xs c.items.row c.items.asides.items all (c.items.invariant.judged gives)

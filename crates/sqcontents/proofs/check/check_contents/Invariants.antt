@@ -1,12 +1,12 @@
 use Rattle.std.specs.Prelude.{map}
 use Rattle.sqpage.specs.Source.{KeepsPages}
 use Rattle.sqschema.specs.Items.{seen}
-use Rattle.sqcontents.specs.internal.Judging.{AreNumbersOf, AreJudgedBelow}
+use Rattle.sqcontents.specs.internal.Judging.{AreNumbersOf, AreIndexesBelow}
 use Rattle.sqcontents.proofs.check.check_contents.Given as goal
 
 abbrev pub invariant-items : goal.invariant-items
 invariant-items g l = record {
   kept : KeepsPages g.S.PageSource.pages g.S.PageSource.size g.S.PageSource.reads_right g.S.PageSource.gives_pages l.fn.source l.source;
   numbers : g.S.PageSource.gives_pages l.fn.source → AreNumbersOf (g.S.PageSource.pages l.fn.source) l.numbers;
-  judged : g.S.PageSource.gives_pages l.fn.source → AreJudgedBelow (g.S.PageSource.pages l.fn.source) (map seen l.items) l.limit l.row l.asides.items;
+  judged : g.S.PageSource.gives_pages l.fn.source → AreIndexesBelow (g.S.PageSource.pages l.fn.source) (map seen l.items) l.limit l.row l.asides.items;
 }

@@ -1,10 +1,10 @@
-use Rattle.std.proofs.Common.{rules, ◌≡◌, true, inl, inr, map, sym, subst}
-use Rattle.sqschema.specs.Items.{Item, seen}
+use Rattle.std.proofs.Common.{rules, ◌≡◌, true, inl, inr, map}
+use Rattle.sqschema.specs.Items.{seen}
 use Rattle.sqschema.specs.Rules.{is_index}
-use Rattle.sqindex.specs.Indexes.{IndexRefused}
-use Rattle.sqcontents.specs.Contents.{HasKey, IsSoundIndex, IsUnjudged, ContentsRefused}
+use Rattle.sqcontents.specs.Contents.{HasKey, IsSoundIndex, IsUnjudged}
 use Rattle.sqcontents.specs.internal.Judging.{AreNumbersOf}
-use Rattle.sqcontents.proofs.IndexesOfItems.{of_item, index_with, judged_ok, judged_err}
+use Rattle.sqcontents.proofs.ItemsJudged.{of_item}
+use Rattle.sqcontents.proofs.IndexesOfItems.{index_with, judged_ok, judged_err}
 use Rattle.sqcontents.proofs.check.judge_item.Goals as goal
 
 pub returns-in_default-clause-ok : goal.returns-in_default-clause-ok
@@ -22,7 +22,7 @@ returns-in-Ok-clause-ok g c = λ gives are.
     let key = c.in-Some-2.key in
     let keyed : HasKey c.args.numbers.format y.sql x.sql x.name key = search rules in
     let with = index_with d xs x y c.args.numbers key c.in-Some-root_in.table_root c.in-Some-root_in-2.index_root are c.in-Some.ensures c.if-numbers-eq2.false c.if-numbers-eq3.false keyed c.in-Some-root_in.ensures c.in-Some-root_in-2.ensures in
-    of_item (IsSoundIndex d xs) xs c.args.row x c.item_at-index.ensures
+    of_item (λ x. is_index x ≡ true) (IsSoundIndex d xs) (IsUnjudged d xs c.args.limit) xs c.args.row x c.item_at-index.ensures
     (y, key, c.in-Some-root_in.table_root, c.in-Some-root_in-2.index_root, c.in-Ok.field-0, with, c.in-Ok.ensures.ok gives)
 
 pub returns : goal.returns

@@ -1,4 +1,4 @@
-use Rattle.std.proofs.Common.{rules, ◌≡◌, length, arith}
+use Rattle.std.proofs.Common.{◌≡◌, length, arith}
 use Rattle.std.proofs.lemmas.Grind.{common_steps}
 use Rattle.sqcontents.proofs.Headers.{zeros}
 use Rattle.sqcontents.proofs.first.numbers_of.Goals as goal

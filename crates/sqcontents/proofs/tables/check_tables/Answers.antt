@@ -1,0 +1,48 @@
+use Rattle.std.proofs.Common.{◌∙◌, ◌≤◌, length, sym, subst, arith}
+use Rattle.std.specs.Prelude.{map}
+use Rattle.std.proofs.lemmas.List.{length-map}
+use Rattle.sqval.specs.Database.{Database}
+use Rattle.sqcheck.proofs.checks.ResultsOfCalls.{exits}
+use Rattle.sqschema.specs.Items.{seen}
+use Rattle.sqcontents.specs.Contents.{ContentsRefused, IsRooted, IsSoundTable, IsTableUnjudged}
+use Rattle.sqcontents.specs.internal.Judging.{AreNumbersOf, JudgesTable}
+use Rattle.sqcontents.proofs.ItemsJudged.{item_next, all_judged}
+use Rattle.sqcontents.proofs.tables.check_tables.Goals as goal
+
+pub returns-in_err-judged-clause-err : goal.returns-in_err-judged-clause-err
+returns-in_err-judged-clause-err g c = λ gives.
+    let d = g.S.PageSource.pages c.args.source.now in
+    let xs = map seen c.args.items.now in
+    let k = c.items.invariant.kept in
+    let e = c.in_err-judged.field-0.0 in
+    let numbers = subst (λ (d : Database). AreNumbersOf d c.in_ok-numbers.numbers) (sym k.same_pages) (c.items.invariant.numbers gives) in
+    let told = subst (λ (d : Database). ContentsRefused d xs e) k.same_pages (c.in_err-judged.ensures.err (k.still_gives gives) numbers) in
+    exits (ContentsRefused d xs) e c.from_residual-in_err-judged.result c.from_residual-in_err-judged.ensures.1 told
+
+pub items-preserved : goal.items-preserved
+items-preserved g c =
+    let d = g.S.PageSource.pages c.args.source.now in
+    let xs = map seen c.args.items.now in
+    let i = c.items.invariant in
+    let k = i.kept in
+    let e = c.in_ok-judged.ensures in
+    record {
+      kept = record {
+        still_right = λ right. e.keeps.still_right (k.still_right right);
+        still_gives = λ gives. e.keeps.still_gives (k.still_gives gives);
+        same_pages = e.keeps.same_pages ∙ k.same_pages;
+        same_size = e.keeps.same_size ∙ k.same_size;
+      };
+      numbers = i.numbers;
+      judged = λ gives.
+          let numbers = subst (λ (d : Database). AreNumbersOf d c.in_ok-numbers.numbers) (sym k.same_pages) (i.numbers gives) in
+          item_next IsRooted (IsSoundTable d) (IsTableUnjudged d) xs c.items.row c.in_ok-judged.judged c.items.asides.items c.note.new.asides.items
+          (subst (λ (d : Database). JudgesTable d xs c.items.row c.in_ok-judged.judged) k.same_pages (e.ok (k.still_gives gives) numbers)) c.in_ok-note.ensures.ok (i.judged gives);
+    }
+
+pub returns-clause-ok : goal.returns-clause-ok
+returns-clause-ok g c = λ gives.
+    let xs = map seen c.args.items.now in
+    let all : length xs ≤ c.items.row = omega (arith, length-map c.args.items.now seen, c.items-test.false) in
+    let d = g.S.PageSource.pages c.args.source.now in
+    all_judged IsRooted (IsSoundTable d) (IsTableUnjudged d) xs c.items.row c.items.asides.items all (c.items.invariant.judged gives)
