@@ -20,10 +20,10 @@ use Rattle.sqshown.specs.Fronts.{IsAskedFront}
 use Rattle.sqshown.specs.Views.{AskedAnswer, AskedRefused, IsHeadless, IsNotFound}
 use Rattle.sqshown.proofs.AskedFronts.{asked_read, front_asked, shows_asked}
 use Rattle.sqdeepshown.specs.Found.{IsFoundDeep, IsHeadlessDeep}
-use Rattle.sqdeepshown.specs.Verdicts.{FindsInside, FindsSchema, FindsDeep, verdict_as}
-use Rattle.sqdeepshown.specs.internal.Found.{deep_without}
+use Rattle.sqdeepjudge.specs.Verdicts.{FindsInside, FindsSchema, FindsDeep, verdict_as}
+use Rattle.sqdeepjudge.specs.Verdicts.{deep_without}
 use Rattle.sqdeepshown.specs.declared.found.DeepFinding.{DeepFinding}
-use Rattle.sqdeepshown.specs.declared.verdict.DeepVerdict.{DeepVerdict}
+use Rattle.sqdeepjudge.specs.declared.verdict.DeepVerdict.{DeepVerdict}
 
 found_by : (P : DeepVerdict → Type 0) (front : Option Front) (q : Result DeepVerdict JudgeError) (r : Result DeepFinding Refusal)
     → IfOk r (λ x. (q ≡ Ok x.verdict) × (x.front ≡ front)) → IfOk q P → IfOk r (λ x. P x.verdict)
@@ -45,11 +45,6 @@ refused_by P q (Err e) is refused =
 all_ok : (P : DeepVerdict → Type 0) (q : Result DeepVerdict JudgeError) → ((x : DeepVerdict) → P x) → IfOk q P
 all_ok P (Ok x) all = all x
 all_ok P (Err e) all = tt
-
--- both parts of what is found
-pub both_parts : (maps : Bool) (d : Database) (size : ℕ) (q : Result DeepVerdict JudgeError) → IfOk q (FindsInside maps d size) → IfOk q (FindsSchema d) → IfOk q (FindsDeep maps d size)
-both_parts maps d size (Ok verdict) h k = (h, k)
-both_parts maps d size (Err e) h k = tt
 
 -- of a view
 module _ {F : Type 0} (maps : Bool) (limits : Bounds) (bytes : F → List ℕ) (db wal journal : List ℕ) where

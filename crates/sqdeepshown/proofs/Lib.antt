@@ -1,4 +1,2 @@
 mod DeepFindings
 mod NumberFacts
-mod RowsOfSchema
-mod SchemaFindings

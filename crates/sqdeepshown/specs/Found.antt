@@ -2,13 +2,13 @@
 use Rattle.std.specs.Prelude.{◌≡◌, ◌⊎◌, ℕ, Bool, true, false, List, Option}
 use Rattle.sqval.specs.Limits.{Bounds}
 use Rattle.sqval.specs.Database.{Database}
-use Rattle.sqdeepshown.specs.declared.verdict.Damage.TheVariants.{Check, Inner, Schema, Content}
+use Rattle.sqdeepjudge.specs.declared.verdict.Damage.TheVariants.{Check, Inner, Schema, Content, Row}
 use Rattle.sqview.specs.declared.verdict.Verdict.{Verdict}
 use Rattle.sqview.specs.declared.verdict.Verdict.TheVariants as plain
 use Rattle.sqshown.specs.Views.{AskedShows, IsFound, IsHeadless}
-use Rattle.sqdeepshown.specs.Verdicts.{FindsDeep, verdict_as}
-use Rattle.sqdeepshown.specs.declared.verdict.DeepVerdict.{DeepVerdict}
-use Rattle.sqdeepshown.specs.declared.verdict.DeepVerdict.TheVariants as deep
+use Rattle.sqdeepjudge.specs.Verdicts.{FindsDeep, verdict_as}
+use Rattle.sqdeepjudge.specs.declared.verdict.DeepVerdict.{DeepVerdict}
+use Rattle.sqdeepjudge.specs.declared.verdict.DeepVerdict.TheVariants as deep
 
 -- the fault of the file's own header, which names no database there
 abbrev pub IsHeadlessDeep : (limits : Bounds) → (at : Option ℕ) → (db wal journal : List ℕ) → DeepVerdict → Type 0
@@ -18,6 +18,7 @@ IsHeadlessDeep limits at db wal journal (deep.Damaged (Check e)) = IsHeadless li
 IsHeadlessDeep limits at db wal journal (deep.Damaged (Inner e)) = ⊥
 IsHeadlessDeep limits at db wal journal (deep.Damaged (Schema e)) = ⊥
 IsHeadlessDeep limits at db wal journal (deep.Damaged (Content e)) = ⊥
+IsHeadlessDeep limits at db wal journal (deep.Damaged (Row e)) = ⊥
 
 -- Of files within limits, at the commit frame that is named: what is found of the database that they show there, or the
 -- fault of a header that names none.

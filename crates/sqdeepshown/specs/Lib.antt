@@ -1,4 +1,2 @@
-pub mod Verdicts
 pub mod Found
 pub mod Lines
-pub mod internal

@@ -7,14 +7,16 @@ use Rattle.sqdeep.specs.declared.fault.InnerError.{InnerError}
 use Rattle.sqschema.specs.SchemaFaults as schemas
 use Rattle.sqschema.specs.declared.error.ObjectError.{ObjectError}
 use Rattle.sqindex.specs.IndexFaults as indexes
+use Rattle.sqindex.specs.RowFaults as rows
 use Rattle.sqcontents.specs.declared.error.ContentError.{ContentError}
+use Rattle.sqcontents.specs.declared.error.TableRowError.{TableRowError}
 use Rattle.sqwords.specs.declared.requests.Style.{Style}
 use Rattle.sqwords.specs.declared.requests.Style.TheVariants.{Lines, Json}
 use Rattle.sqlines.specs.Facts.{number_text, object_text, word_text}
 use Rattle.sqlines.specs.Verdicts.{fault_text, report_text}
-use Rattle.sqdeepshown.specs.declared.verdict.Damage.TheVariants.{Check, Inner, Schema, Content}
-use Rattle.sqdeepshown.specs.declared.verdict.DeepVerdict.{DeepVerdict}
-use Rattle.sqdeepshown.specs.declared.verdict.DeepVerdict.TheVariants.{Clean, Sound, Damaged}
+use Rattle.sqdeepjudge.specs.declared.verdict.Damage.TheVariants.{Check, Inner, Schema, Content, Row}
+use Rattle.sqdeepjudge.specs.declared.verdict.DeepVerdict.{DeepVerdict}
+use Rattle.sqdeepjudge.specs.declared.verdict.DeepVerdict.TheVariants.{Clean, Sound, Damaged}
 
 -- a database that is sound inside, and its schema and indexes, too: its pages by their use
 abbrev pub sound_text : Style → Report → List ℕ
@@ -58,17 +60,25 @@ schema_text Json e = object_text Json (
     ∷ number_text Json (codes "fault") (schemas.number_of e.fault)
     ∷ word_text Json (codes "name") (schemas.name_of e.fault) ∷ [])
 
--- a fault of the index in this row of the schema, at a cell of a page
+-- a fault at a cell of a page, of what this row of the schema names
+abbrev pub place_text : Style → (row page cell fault : ℕ) → (name : List ℕ) → List ℕ
+place_text Lines row page cell fault name =
+    codes "schema row " ++ (decimal (row + 1) ++ (codes ": page " ++ (decimal page ++ (codes " cell " ++ (decimal cell
+    ++ (codes ": fault " ++ (decimal fault ++ (codes " " ++ (name ++ codes "\n")))))))))
+place_text Json row page cell fault name = object_text Json (
+    number_text Json (codes "row") (row + 1)
+    ∷ number_text Json (codes "page") page
+    ∷ number_text Json (codes "cell") cell
+    ∷ number_text Json (codes "fault") fault
+    ∷ word_text Json (codes "name") name ∷ [])
+
+-- a fault of the index in this row of the schema
 abbrev pub content_text : Style → ContentError → List ℕ
-content_text Lines e =
-    codes "schema row " ++ (decimal (e.row + 1) ++ (codes ": page " ++ (decimal e.error.page ++ (codes " cell " ++ (decimal e.error.cell
-    ++ (codes ": fault " ++ (decimal (indexes.number_of e.error.fault) ++ (codes " " ++ (indexes.name_of e.error.fault ++ codes "\n")))))))))
-content_text Json e = object_text Json (
-    number_text Json (codes "row") (e.row + 1)
-    ∷ number_text Json (codes "page") e.error.page
-    ∷ number_text Json (codes "cell") e.error.cell
-    ∷ number_text Json (codes "fault") (indexes.number_of e.error.fault)
-    ∷ word_text Json (codes "name") (indexes.name_of e.error.fault) ∷ [])
+content_text style e = place_text style e.row e.error.page e.error.cell (indexes.number_of e.error.fault) (indexes.name_of e.error.fault)
+
+-- a fault of a row of the table in this row of the schema
+abbrev pub table_row_text : Style → TableRowError → List ℕ
+table_row_text style e = place_text style e.row e.error.page e.error.cell (rows.number_of e.error.fault) (rows.name_of e.error.fault)
 
 -- what a check finds, or a deep one
 abbrev pub found_text : Style → DeepVerdict → List ℕ
@@ -78,3 +88,4 @@ found_text style (Damaged (Check e)) = fault_text style e
 found_text style (Damaged (Inner e)) = inner_text style e
 found_text style (Damaged (Schema e)) = schema_text style e
 found_text style (Damaged (Content e)) = content_text style e
+found_text style (Damaged (Row e)) = table_row_text style e

@@ -5,12 +5,11 @@ ghost use Rattle.sqview.specs.declared.judge_error.JudgeError.{JudgeError};
 ghost use Rattle.sqshown.specs.Fronts.{IsAskedFront};
 ghost use Rattle.sqshown.specs.Views.{IsNotFound};
 ghost use Rattle.sqdeepshown.specs.Found.{IsFoundAs, IsFoundDeep, IsHeadlessDeep};
-ghost use Rattle.sqdeepshown.specs.internal.Found.{deep_without};
 
-use crate::verdict::{DeepVerdict, judge_deep};
+use sqdeepjudge::{DeepVerdict, deep_without, judge_deep};
 use sqfacts::{Front, Refusal};
 use sqshown::{Asked, judged, view_of};
-use sqview::{FileBytes, JudgeError, ViewError, without_view};
+use sqview::{FileBytes, JudgeError};
 use std::alloc::Global;
 
 /// What is found of a file with its logs, and the front of the log, if a frame of one counts.
@@ -32,16 +31,6 @@ fn as_found(
     match found {
         Ok(verdict) => Ok(DeepFinding { verdict, front }),
         Err(error) => Err(Refusal::from(error)),
-    }
-}
-
-/// What a deep check finds of files that have no view, as another one does.
-fn deep_without(error: ViewError) -> Result<DeepVerdict, JudgeError>
-    ensures { result ≡ deep_without error }
-{
-    match without_view(error) {
-        Ok(verdict) => Ok(DeepVerdict::of(verdict)),
-        Err(error) => Err(error),
     }
 }
 

@@ -4,8 +4,6 @@
 
 mod found;
 mod lines;
-mod verdict;
 
 pub use found::{DeepFinding, judged_as};
 pub use lines::write_found;
-pub use verdict::{Damage, DeepVerdict, judge_deep};

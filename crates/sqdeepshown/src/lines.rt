@@ -2,11 +2,12 @@
 ghost use Rattle.std.specs.Prelude.{OnOk};
 ghost use Rattle.std.specs.Io.KnownBytes.{Appends};
 ghost use Rattle.sqdeepshown.specs.Lines.{content_text, found_text, inner_text, schema_text, sound_text};
+ghost use Rattle.sqdeepshown.specs.Lines.{place_text, table_row_text};
 
-use crate::verdict::{Damage, DeepVerdict};
 use sqcheck::Report;
-use sqcontents::ContentError;
+use sqcontents::{ContentError, TableRowError};
 use sqdeep::InnerError;
+use sqdeepjudge::{Damage, DeepVerdict};
 use sqlines::{Fact, number, write_facts, write_fault, write_report};
 use sqschema::ObjectError;
 use sqwords::Style;
@@ -92,13 +93,24 @@ fn write_schema<W: Write>(out: &mut W, style: Style, error: &ObjectError) -> io:
     }
 }
 
-/// A fault of the index in a row of the schema.
-fn write_content<W: Write>(out: &mut W, style: Style, error: &ContentError) -> io::Result<()>
-    ensures { OnOk result (Appends (W.contents out.old) (W.contents out.new) (content_text style error.now)) }
+/// A fault of what a row of the schema names, and the cell that it stands at.
+#[derive(Clone, Copy)]
+struct Place {
+    row: usize,
+    page: u32,
+    cell: usize,
+    fault: u8,
+    name: &'static str,
+}
+
+/// A fault at a cell of what a row of the schema names.
+fn write_place<W: Write>(out: &mut W, style: Style, place: &Place) -> io::Result<()>
+    ensures { OnOk result (Appends (W.contents out.old) (W.contents out.new) (place_text style place.now.row
+        place.now.page place.now.cell place.now.fault place.now.name.now)) }
 {
-    let row = error.row as u128 + 1;
-    let (page, cell) = (error.error.page, error.error.cell);
-    let (fault, name) = (error.error.fault.number(), error.error.fault.name());
+    let row = place.row as u128 + 1;
+    let (page, cell) = (place.page, place.cell);
+    let (fault, name) = (place.fault, place.name);
     match style {
         Style::Lines => writeln!(
             out,
@@ -109,6 +121,34 @@ fn write_content<W: Write>(out: &mut W, style: Style, error: &ContentError) -> i
             "{{\"row\":{row},\"page\":{page},\"cell\":{cell},\"fault\":{fault},\"name\":\"{name}\"}}"
         ),
     }
+}
+
+/// A fault of the index in a row of the schema.
+fn write_content<W: Write>(out: &mut W, style: Style, error: &ContentError) -> io::Result<()>
+    ensures { OnOk result (Appends (W.contents out.old) (W.contents out.new) (content_text style error.now)) }
+{
+    let place = Place {
+        row: error.row,
+        page: error.error.page,
+        cell: error.error.cell,
+        fault: error.error.fault.number(),
+        name: error.error.fault.name(),
+    };
+    write_place(out, style, &place)
+}
+
+/// A fault of the table in a row of the schema.
+fn write_row<W: Write>(out: &mut W, style: Style, error: &TableRowError) -> io::Result<()>
+    ensures { OnOk result (Appends (W.contents out.old) (W.contents out.new) (table_row_text style error.now)) }
+{
+    let place = Place {
+        row: error.row,
+        page: error.error.page,
+        cell: error.error.cell,
+        fault: error.error.fault.number(),
+        name: error.error.fault.name(),
+    };
+    write_place(out, style, &place)
 }
 
 /// What a check found, or a deep one: a line, or an object. An error of the writer.
@@ -122,5 +162,6 @@ pub fn write_found<W: Write>(out: &mut W, style: Style, verdict: &DeepVerdict) -
         DeepVerdict::Damaged(Damage::Inner(error)) => write_inner(out, style, error),
         DeepVerdict::Damaged(Damage::Schema(error)) => write_schema(out, style, error),
         DeepVerdict::Damaged(Damage::Content(error)) => write_content(out, style, error),
+        DeepVerdict::Damaged(Damage::Row(error)) => write_row(out, style, error),
     }
 }

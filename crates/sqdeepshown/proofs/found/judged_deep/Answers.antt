@@ -1,5 +1,6 @@
 use Rattle.sqview.specs.LogView.{pages_of}
-use Rattle.sqdeepshown.proofs.DeepFindings.{both_parts, view_found, view_front, view_refused, none_found, none_front, none_refused}
+use Rattle.sqdeepjudge.proofs.SchemaFindings.{both_parts}
+use Rattle.sqdeepshown.proofs.DeepFindings.{view_found, view_front, view_refused, none_found, none_front, none_refused}
 use Rattle.sqshown.proofs.ShownFiles.{refused_asked}
 use Rattle.sqdeepshown.proofs.found.judged_deep.Goals as goal
 

@@ -1,22 +1,24 @@
 //! What a deep check finds of a view.
-ghost use Rattle.std.specs.Prelude.{◌≡◌, ◌⊎◌, Bool, IfOk, IfErr, option_map, slice_get};
+ghost use Rattle.std.specs.Prelude.{◌≡◌, ◌⊎◌, Bool, IfOk, IfErr, map, option_map, slice_get};
 ghost use Rattle.sqcheck.specs.WellFormed.{WellFormedWith};
 ghost use Rattle.sqdeep.specs.Inside.{IsSoundInside};
 ghost use Rattle.sqschema.specs.Schema.{IsLimit, IsSchemaOf};
+ghost use Rattle.sqschema.specs.Items.{seen};
+ghost use Rattle.sqcontents.specs.Contents.{AreIndexesJudged};
 ghost use Rattle.sqview.specs.LogView.{pages_of};
 ghost use Rattle.sqview.specs.Verdicts.{IsUnjudgedWith};
 ghost use Rattle.sqview.specs.declared.judge_error.JudgeError.{JudgeError};
-ghost use Rattle.sqdeepshown.specs.Verdicts.{FindsInside, FindsSchema, is_damaged, verdict_as};
-ghost use Rattle.sqdeepshown.specs.Verdicts.{aside_name, name_at, unjudged_name};
-ghost use Rattle.sqdeepshown.specs.internal.Found.{IsBehind};
+ghost use Rattle.sqdeepjudge.specs.Verdicts.{FindsInside, FindsSchema, is_damaged, most_bytes, verdict_as};
+ghost use Rattle.sqdeepjudge.specs.Verdicts.{aside_name, deep_without, name_at, unjudged_name, unjudged_table_name};
+ghost use Rattle.sqdeepjudge.specs.internal.Behind.{IsBehind, contents_verdict};
 
 use sqcheck::{Options as Maps, Report};
-use sqcontents::{ContentError, ContentsError, check_contents};
+use sqcontents::{ContentError, ContentsError, TableRowError, check_contents, check_tables};
 use sqdeep::{DeepError, InnerError, check_deep};
 use sqpage::{CheckError, Fault};
 use sqschema::{ObjectError, ReadError, Schema, SchemaError, check_schema};
 use sqval::RecordError;
-use sqview::{FileBytes, JudgeError, Verdict, View};
+use sqview::{FileBytes, JudgeError, Verdict, View, ViewError, without_view};
 use std::alloc::Global;
 
 /// What is wrong with a database.
@@ -30,6 +32,17 @@ pub enum Damage {
     Schema(ObjectError),
     /// Its schema is sound, but an index hasn't exactly the keys and rowids of its table, in order.
     Content(ContentError),
+    /// Its schema and its indexes are sound, but a row of a table doesn't keep to its columns.
+    Row(TableRowError),
+}
+
+/// What isn't judged of a database that is sound as far as it is: the rows of its schema, from 0.
+#[derive(Debug, Drop)]
+pub struct Unjudged {
+    /// Of the indexes that aren't judged.
+    pub indexes: Vec<usize>,
+    /// Of the tables whose rows aren't.
+    pub tables: Vec<usize>,
 }
 
 /// What a check finds, or a deep one.
@@ -37,9 +50,9 @@ pub enum Damage {
 pub enum DeepVerdict {
     /// The database is well formed. It wasn't looked inside.
     Clean(Report),
-    /// It is well formed and sound inside, and its schema, which is this, is sound, as is each index but those in
-    /// these rows of it, which aren't judged.
-    Sound(Report, Schema, Vec<usize>),
+    /// It is well formed and sound inside, and its schema, which is this, is sound, as is each index and each table but
+    /// these.
+    Sound(Report, Schema, Unjudged),
     /// It isn't, or there is none.
     Damaged(Damage),
 }
@@ -78,7 +91,22 @@ impl DeepVerdict {
         ensures { option_map (λ name. name.now) result ≡ unjudged_name self.now i }
     {
         match self {
-            DeepVerdict::Sound(_, schema, unjudged) => item_of(schema, unjudged.get(i).copied()),
+            DeepVerdict::Sound(_, schema, unjudged) => item_of(
+                schema,
+                unjudged.indexes.get(i).copied(),
+            ),
+            DeepVerdict::Clean(_) | DeepVerdict::Damaged(_) => None,
+        }
+    }
+
+    /// The name, in UTF-8, of a table whose rows aren't judged: of the i-th one, from 0. None behind the last one.
+    pub fn unjudged_table(&self, i: usize) -> Option<&[u8]>
+        ensures { option_map (λ name. name.now) result ≡ unjudged_table_name self.now i }
+    {
+        match self {
+            DeepVerdict::Sound(_, schema, unjudged) => {
+                item_of(schema, unjudged.tables.get(i).copied())
+            }
             DeepVerdict::Clean(_) | DeepVerdict::Damaged(_) => None,
         }
     }
@@ -112,8 +140,46 @@ fn unread(error: ReadError) -> JudgeError
 /// How many bytes of memory the entries of an index may take: 1 GiB (own).
 const MOST_BYTES: u64 = 1 << 30;
 
-/// What is found of the indexes of a view that is sound inside, of which this is the report, and this the schema.
-/// Refused by NoMemory, and by Unread where a page could not be read.
+/// What is found where the contents of a schema aren't sound. Refused by NoMemory, and by Unread where a page could not
+/// be read.
+fn contents_verdict(error: ContentsError) -> Result<DeepVerdict, JudgeError>
+    ensures { result ≡ contents_verdict error }
+{
+    match error {
+        ContentsError::Content(error) => Ok(DeepVerdict::Damaged(Damage::Content(error))),
+        ContentsError::Row(error) => Ok(DeepVerdict::Damaged(Damage::Row(error))),
+        ContentsError::NoMemory => Err(JudgeError::NoMemory),
+        ContentsError::Source => Err(JudgeError::Unread),
+    }
+}
+
+/// What is found of the tables of a view whose indexes are sound but for these. Refused as `judge_contents`.
+fn judge_tables<F: FileBytes>(
+    alloc: Global,
+    view: &mut View<F>,
+    report: Report,
+    schema: Schema,
+    indexes: Vec<usize>,
+) -> Result<DeepVerdict, JudgeError>
+    ensures contents { F.gives_bytes view.old.db × F.gives_bytes view.old.log
+        → IsSchemaOf (pages_of F.bytes view.old) schema
+        → AreIndexesJudged (pages_of F.bytes view.old) (map seen schema.items.items) most_bytes indexes.items
+        → IfOk result (FindsSchema (pages_of F.bytes view.old)) }
+    ensures behind { IfOk result (IsBehind report) }
+    ensures refused { F.gives_bytes view.old.db × F.gives_bytes view.old.log
+        → IfErr result (λ e. e ≡ JudgeError.NoMemory) }
+{
+    match check_tables(alloc, view, &schema.items) {
+        Ok(tables) => {
+            let unjudged = Unjudged { indexes, tables };
+            Ok(DeepVerdict::Sound(report, schema, unjudged))
+        }
+        Err(error) => contents_verdict(error),
+    }
+}
+
+/// What is found of the indexes and the tables of a view that is sound inside, of which this is the report, and this
+/// the schema. Refused by NoMemory, and by Unread where a page could not be read.
 fn judge_contents<F: FileBytes>(
     alloc: Global,
     view: &mut View<F>,
@@ -127,10 +193,8 @@ fn judge_contents<F: FileBytes>(
         → IfErr result (λ e. e ≡ JudgeError.NoMemory) }
 {
     match check_contents(alloc, view, &schema.items, MOST_BYTES) {
-        Ok(unjudged) => Ok(DeepVerdict::Sound(report, schema, unjudged)),
-        Err(ContentsError::Content(error)) => Ok(DeepVerdict::Damaged(Damage::Content(error))),
-        Err(ContentsError::NoMemory) => Err(JudgeError::NoMemory),
-        Err(ContentsError::Source) => Err(JudgeError::Unread),
+        Ok(indexes) => judge_tables(alloc, view, report, schema, indexes),
+        Err(error) => contents_verdict(error),
     }
 }
 
@@ -154,9 +218,9 @@ fn judge_schema<F: FileBytes>(
     }
 }
 
-/// What a deep check finds of a view: damage of its pages, inside, of its schema, or of its indexes. Refused
-/// by AutoVacuum and NoMemory, which say that a database can't be checked and not that it is damaged, and by Unread
-/// where a file could not be read.
+/// What a deep check finds of a view: damage of its pages, inside, of its schema, of its indexes, or of its tables.
+/// Refused by AutoVacuum and NoMemory, which say that a database can't be checked and not that it is damaged, and by
+/// Unread where a file could not be read.
 pub fn judge_deep<F: FileBytes>(
     alloc: Global,
     view: &mut View<F>,
@@ -178,5 +242,16 @@ pub fn judge_deep<F: FileBytes>(
             Fault::NoMemory => Err(JudgeError::NoMemory),
             _ => Ok(DeepVerdict::Damaged(Damage::Check(error))),
         },
+    }
+}
+
+/// What a deep check finds of files that have no view, as another one does: Damaged by the fault of the file's own
+/// header, which names no database; otherwise refused by what refused the view.
+pub fn deep_without(error: ViewError) -> Result<DeepVerdict, JudgeError>
+    ensures { result ≡ deep_without error }
+{
+    match without_view(error) {
+        Ok(verdict) => Ok(DeepVerdict::of(verdict)),
+        Err(error) => Err(error),
     }
 }

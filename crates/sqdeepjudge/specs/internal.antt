@@ -1,2 +1,2 @@
 -- What no public clause reaches.
-pub mod Found
+pub mod Behind

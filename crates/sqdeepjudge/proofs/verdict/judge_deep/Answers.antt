@@ -3,8 +3,8 @@ use Rattle.sqval.specs.Database.{Database}
 use Rattle.sqcheck.specs.WellFormed.{WellFormedWith}
 use Rattle.sqdeep.specs.Inside.{IsSoundInside}
 use Rattle.sqview.specs.LogView.{pages_of}
-use Rattle.sqdeepshown.proofs.SchemaFindings.{inside_of, memory_of}
-use Rattle.sqdeepshown.proofs.verdict.judge_deep.Goals as goal
+use Rattle.sqdeepjudge.proofs.SchemaFindings.{inside_of, memory_of}
+use Rattle.sqdeepjudge.proofs.verdict.judge_deep.Goals as goal
 
 pub returns-in-Ok-clause-found : goal.returns-in-Ok-clause-found
 returns-in-Ok-clause-found g c = λ right.

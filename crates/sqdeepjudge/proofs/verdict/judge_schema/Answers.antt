@@ -1,8 +1,8 @@
 use Rattle.std.proofs.Common.{subst}
 use Rattle.sqschema.specs.Schema.{SchemaRefused}
 use Rattle.sqview.specs.LogView.{pages_of}
-use Rattle.sqdeepshown.proofs.SchemaFindings.{TellsUnread, only_limit}
-use Rattle.sqdeepshown.proofs.verdict.judge_schema.Goals as goal
+use Rattle.sqdeepjudge.proofs.SchemaFindings.{TellsUnread, only_limit}
+use Rattle.sqdeepjudge.proofs.verdict.judge_schema.Goals as goal
 
 pub returns-in-Err-Unread-clause-refused : goal.returns-in-Err-Unread-clause-refused
 returns-in-Err-Unread-clause-refused g c = λ gives maps w inside.

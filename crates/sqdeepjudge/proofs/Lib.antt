@@ -1,0 +1,2 @@
+mod RowsOfSchema
+pub mod SchemaFindings

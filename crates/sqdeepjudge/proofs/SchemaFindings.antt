@@ -1,0 +1,76 @@
+-- What is found of a schema behind a check that finds the database sound inside.
+use Rattle.std.proofs.Common.{◌≡◌, ◌⊎◌, ⊎_elim, ℕ, Bool, refl, sym, subst}
+use Rattle.std.specs.Prelude.{Result, Ok, Err, IfOk, IfErr, map}
+use Rattle.sqval.specs.Database.{Database}
+use Rattle.sqcheck.specs.WellFormed.{WellFormedWith}
+use Rattle.sqcheck.specs.declared.report.Report.{Report}
+use Rattle.sqdeep.specs.Inside.{IsSoundInside}
+use Rattle.sqschema.specs.Schema.{IsLimit, SchemaRefused}
+use Rattle.sqschema.specs.declared.error.ReadError.{ReadError}
+use Rattle.sqschema.specs.declared.error.SchemaError.TheVariants.{Unread}
+use Rattle.sqview.specs.Verdicts.{FindsWith, IsUnjudgedWith}
+use Rattle.sqview.specs.declared.judge_error.JudgeError.{JudgeError}
+use Rattle.sqview.specs.declared.judge_error.JudgeError.TheVariants as judgments
+use Rattle.sqview.specs.declared.verdict.Verdict.TheVariants as plain
+use Rattle.sqschema.specs.Items.{seen}
+use Rattle.sqschema.specs.Schema.{IsSchemaOf}
+use Rattle.sqschema.specs.declared.check.Schema.{Schema as OwnSchema}
+use Rattle.sqcontents.specs.Contents.{ContentsRefused}
+use Rattle.sqcontents.specs.declared.error.ContentsError.{ContentsError}
+use Rattle.sqcontents.specs.declared.error.ContentsError.TheVariants as contents
+use Rattle.sqdeepjudge.specs.Verdicts.{FindsInside, FindsSchema, FindsDeep}
+use Rattle.sqdeepjudge.specs.internal.Behind.{IsBehind, contents_verdict}
+use Rattle.sqdeepjudge.specs.declared.verdict.Damage.TheVariants.{Check, Inner, Schema, Content, Row}
+use Rattle.sqdeepjudge.specs.declared.verdict.DeepVerdict.{DeepVerdict}
+use Rattle.sqdeepjudge.specs.declared.verdict.DeepVerdict.TheVariants as deep
+use Rattle.sqdeepjudge.proofs.RowsOfSchema.{schema_rows}
+
+pub inside_of : (maps : Bool) (d : Database) (size : ℕ) (r : Report) (q : Result DeepVerdict JudgeError)
+    → FindsWith maps d size (plain.Clean r) → IsSoundInside d → IfOk q (IsBehind r) → IfOk q (FindsInside maps d size)
+inside_of maps d size r (Ok (deep.Clean report)) found sound h = absurd h
+inside_of maps d size r (Ok (deep.Sound report schema unjudged)) found sound h = (subst (λ (x : Report). FindsWith maps d size (plain.Clean x)) (sym h) found, sound)
+inside_of maps d size r (Ok (deep.Damaged (Check e))) found sound h = absurd h
+inside_of maps d size r (Ok (deep.Damaged (Inner e))) found sound h = absurd h
+inside_of maps d size r (Ok (deep.Damaged (Schema e))) found sound h = (found.0, sound)
+inside_of maps d size r (Ok (deep.Damaged (Content e))) found sound h = (found.0, sound)
+inside_of maps d size r (Ok (deep.Damaged (Row e))) found sound h = (found.0, sound)
+inside_of maps d size r (Err e) found sound h = tt
+
+pub memory_of : (maps : Bool) (d : Database) (q : Result DeepVerdict JudgeError) → IfErr q (λ e. e ≡ judgments.NoMemory) → IfErr q (IsUnjudgedWith maps d)
+memory_of maps d (Ok verdict) h = tt
+memory_of maps d (Err e) h = subst (IsUnjudgedWith maps d) (sym h) tt
+
+-- why a database isn't judged whose schema can't be read
+abbrev pub TellsUnread : ReadError → JudgeError → Type 0
+TellsUnread e told = (IsLimit e × (told ≡ judgments.NoMemory)) ⊎ ((¬ IsLimit e) × (told ≡ judgments.Unread))
+
+-- Only a limit keeps the rows from being read.
+pub only_limit : (maps : Bool) (d : Database) (size : ℕ) (e : ReadError) (told : JudgeError) → WellFormedWith maps d size → IsSoundInside d → SchemaRefused d (Unread e)
+    → TellsUnread e told → told ≡ judgments.NoMemory
+only_limit maps d size e told w sound refused said = ⊎_elim
+    (λ limit. limit.1)
+    (λ other. let rows = schema_rows maps d size w sound in absurd (refused other.0 rows.0 rows.1)) said
+
+-- what is found of the contents of a schema that aren't sound
+pub contents_found : (d : Database) (schema : OwnSchema) (e : ContentsError) → IsSchemaOf d schema → ContentsRefused d (map seen schema.items.items) e → IfOk (contents_verdict e) (FindsSchema d)
+contents_found d schema (contents.Content e) is refused = (schema, is, refused)
+contents_found d schema (contents.Row e) is refused = (schema, is, refused)
+contents_found d schema contents.NoMemory is refused = tt
+contents_found d schema contents.Source is refused = tt
+
+pub contents_behind : (r : Report) (e : ContentsError) → IfOk (contents_verdict e) (IsBehind r)
+contents_behind r (contents.Content e) = tt
+contents_behind r (contents.Row e) = tt
+contents_behind r contents.NoMemory = tt
+contents_behind r contents.Source = tt
+
+pub contents_unjudged : (d : Database) (schema : OwnSchema) (e : ContentsError) → ContentsRefused d (map seen schema.items.items) e → IfErr (contents_verdict e) (λ told. told ≡ judgments.NoMemory)
+contents_unjudged d schema (contents.Content e) refused = tt
+contents_unjudged d schema (contents.Row e) refused = tt
+contents_unjudged d schema contents.NoMemory refused = refl
+contents_unjudged d schema contents.Source refused = absurd refused
+
+-- both parts of what is found
+pub both_parts : (maps : Bool) (d : Database) (size : ℕ) (q : Result DeepVerdict JudgeError) → IfOk q (FindsInside maps d size) → IfOk q (FindsSchema d) → IfOk q (FindsDeep maps d size)
+both_parts maps d size (Ok verdict) h k = (h, k)
+both_parts maps d size (Err e) h k = tt

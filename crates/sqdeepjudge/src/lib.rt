@@ -1,0 +1,7 @@
+//! What a deep check finds of a view: whether the database is well formed, what its pages hold and its schema are
+//! sound, each index is one of its table, and each row keeps to its table's columns (own).
+#![tactic(auto)]
+
+mod verdict;
+
+pub use verdict::{Damage, DeepVerdict, Unjudged, deep_without, judge_deep};
