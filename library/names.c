@@ -1,5 +1,6 @@
 /* names.c: the names of statuses and of faults as texts that stay, which an export of the kit can't give. Not proved;
-   tests/library compares them with those that sqr_status_text and sqr_fault_text write. */
+   tests/library compares them with those that sqr_status_text and sqr_fault_text write, and those of the faults of a
+   deep check with what the program prints. */
 #include "sqrescue.h"
 
 const char *sqr_status_name(uint32_t status) {
@@ -61,6 +62,33 @@ const char *sqr_fault_name(uint32_t fault) {
     case SQR_FAULT_NO_MEMORY: return "NoMemory";
     case SQR_FAULT_SCHEMA_RECORD: return "SchemaRecord";
     case SQR_FAULT_POINTER_MAP: return "PointerMap";
+    case SQR_FAULT_VERSION: return "Version";
+    case SQR_FAULT_SCHEMA_FORMAT: return "SchemaFormat";
+    case SQR_FAULT_TEXT_ENCODING: return "TextEncoding";
+    case SQR_FAULT_EMPTY_PAGE: return "EmptyPage";
+    case SQR_FAULT_FREEBLOCK_GAP: return "FreeblockGap";
+    case SQR_FAULT_ROOT_BEHIND: return "RootBehind";
+    case SQR_FAULT_SHORT_CELL: return "ShortCell";
+    case SQR_FAULT_TOO_LONG: return "TooLong";
+    case SQR_FAULT_NOT_RECORD: return "NotRecord";
+    case SQR_FAULT_TEXT_FORM: return "TextForm";
+    case SQR_FAULT_ROW_FORM: return "RowForm";
+    case SQR_FAULT_OBJECT_TYPE: return "ObjectType";
+    case SQR_FAULT_CREATE_TEXT: return "CreateText";
+    case SQR_FAULT_ROOT_NUMBER: return "RootNumber";
+    case SQR_FAULT_NAME_TWICE: return "NameTwice";
+    case SQR_FAULT_TABLE_NAME: return "TableName";
+    case SQR_FAULT_ROOT_KIND: return "RootKind";
+    case SQR_FAULT_ENTRY_FORM: return "EntryForm";
+    case SQR_FAULT_ENTRY_ORDER: return "EntryOrder";
+    case SQR_FAULT_KEY_TWICE: return "KeyTwice";
+    case SQR_FAULT_ENTRY_OF_NO_ROW: return "EntryOfNoRow";
+    case SQR_FAULT_ROW_WITHOUT_ENTRY: return "RowWithoutEntry";
+    case SQR_FAULT_ROW_TWICE: return "RowTwice";
+    case SQR_FAULT_NULL_UNDER_NOT_NULL: return "NullUnderNotNull";
+    case SQR_FAULT_TYPE_UNDER_STRICT: return "TypeUnderStrict";
+    case SQR_FAULT_NUMBER_UNDER_TEXT: return "NumberUnderText";
+    case SQR_FAULT_TEXT_UNDER_NUMERIC: return "TextUnderNumeric";
     default: return "?";
     }
 }

@@ -206,6 +206,41 @@ static void answer_check(const struct sqr_files *files, FILE *out) {
         check(memcmp(&report, &kept, sizeof report) == 0, "a check that is refused leaves the report");
 }
 
+/* The place that a fault of a deep check names, as the program prints it. */
+static void print_place(const struct sqr_deep_report *report, FILE *out) {
+    const char *gap = "";
+    if (report->places & SQR_DEEP_ROW) {
+        fprintf(out, "schema row %" PRIu64, report->row + 1);
+        gap = ": ";
+    }
+    if (report->places & SQR_DEEP_PAGE) fprintf(out, "%spage %u", gap, report->page);
+    if (report->places & SQR_DEEP_CELL) fprintf(out, " cell %" PRIu64, report->cell);
+}
+
+static void answer_deep(const struct sqr_files *files, FILE *out) {
+    struct sqr_deep_report report = {1, 2, 3, 4, 5, 6, 7, 8, 9, 10, 11, 12, 13}, kept = report;
+    uint64_t rows[2] = {UINT64_MAX, UINT64_MAX};
+    uint32_t status = sqr_check_deep(files, 0, 0, rows, 1, &report);
+    check(status != SQR_NO_MEMORY && status != SQR_AUTO_VACUUM, "a deep check without its cause");
+    check(rows[1] == UINT64_MAX, "the place behind the rows stays");
+    if (status == SQR_OK) {
+        fprintf(out, "clean: %u pages, %u trees, %u b-tree, %u overflow, %u free; ", report.pages, report.trees,
+                report.btree, report.overflow, report.free);
+        fprintf(out, "records, schema and indexes sound\n");
+        check(!report.fault && !report.places && !report.page && !report.cell && !report.row, "no fault, no place");
+        check((report.indexes + report.tables > 0) == (rows[0] != UINT64_MAX), "the rows of what isn't judged");
+    } else if (status == SQR_DAMAGED) {
+        print_place(&report, out);
+        fprintf(out, ": fault %u %s\n", report.fault, sqr_fault_name(report.fault));
+        check(!report.pages && !report.trees && !report.btree && !report.overflow && !report.free, "no counts");
+        check(!report.indexes && !report.tables && !report.asides, "nothing is left open of a damaged database");
+        check(rows[0] == UINT64_MAX, "no rows of a damaged database");
+    } else {
+        fprintf(out, "sqrescue: %s\n", sqr_status_name(status));
+        check(memcmp(&report, &kept, sizeof report) == 0, "a deep check that is refused leaves the report");
+    }
+}
+
 static const char *wal_why(uint32_t why) {
     static const char *const names[] = {"?", "End", "Cut", "Salt", "PageZero", "Sum"};
     return names[why <= SQR_WAL_SUM ? why : 0];
@@ -406,13 +441,14 @@ static void answer_journal(const uint8_t *journal, size_t len, FILE *out) {
 static void answer_all(const struct sqr_files *files, FILE *out) {
     answer_view(files, out);
     answer_check(files, out);
+    answer_deep(files, out);
     answer_wal(files->wal, files->wal_len, out);
     answer_commits(files->wal, files->wal_len);
     answer_at(files);
     answer_journal(files->journal, files->journal_len, out);
 }
 
-enum { ROOM = 4096, CALLS = 7 };
+enum { ROOM = 4096, CALLS = 8 };
 
 /* What the calls over one database write to. */
 struct room {
@@ -427,6 +463,8 @@ struct room {
     uint32_t count;
     struct sqr_journal journal;
     struct sqr_record records[ROOM];
+    uint64_t rows[ROOM];
+    struct sqr_deep_report deep;
 };
 
 static uint32_t call(int which, const struct sqr_files *files, struct room *room) {
@@ -437,6 +475,7 @@ static uint32_t call(int which, const struct sqr_files *files, struct room *room
     case 3: return sqr_wal_scan(files->wal, files->wal_len, room->frames, ROOM, &room->wal);
     case 4: return sqr_wal_commits(files->wal, files->wal_len, room->commits, ROOM, &room->count);
     case 5: return sqr_open_at(files, 4, room->places, room->room, &room->view);
+    case 6: return sqr_check_deep(files, 0, 0, room->rows, ROOM, &room->deep);
     default: return sqr_journal_scan(files->journal, files->journal_len, room->records, ROOM, &room->journal);
     }
 }
@@ -614,7 +653,8 @@ static void check_names(uint32_t number) {
     check(is_name(&name, length, sqr_status_name(number)), "a status has one name");
     memset(&name, 0xa5, sizeof name);
     length = sqr_fault_text(number, &name);
-    check(is_name(&name, length, sqr_fault_name(number)), "a fault has one name");
+    const char *wanted = number > SQR_FAULT_POINTER_MAP ? "?" : sqr_fault_name(number);
+    check(is_name(&name, length, wanted), "a fault of sqr_check has one name");
 }
 
 static void run_none(void) {
@@ -643,6 +683,11 @@ static void run_none(void) {
     check(!strcmp(sqr_status_name(29), "?") && !strcmp(sqr_fault_name(0), "?"), "the name of no status and no fault");
     check(!strcmp(sqr_status_name(SQR_MISUSE), "misuse"), "the name of the last status");
     check(!strcmp(sqr_fault_name(21), "SchemaRecord"), "the name of a fault");
+    check(!strcmp(sqr_fault_name(62), "KeyTwice") && !strcmp(sqr_fault_name(44), "?"), "the name of a fault inside");
+    struct sqr_deep_report deep;
+    check(sqr_check_deep(&files, 0, 0, &place, 0, &deep) == SQR_DAMAGED && deep.fault == SQR_FAULT_MAGIC, "a fault");
+    check(deep.places == SQR_DEEP_PAGE && deep.page == 1 && !deep.cell && !deep.row, "the place of a fault");
+    check(sqr_check_deep(&files, 1, 0, &place, 0, &deep) == SQR_UNKNOWN_OPTIONS, "a flag that isn't known");
     check(sqr_version() == SQR_VERSION_NUMBER, "the version of the header is that of the library");
     for (uint32_t number = 0; number < 64; number++) check_names(number);
     check_names(UINT32_MAX);

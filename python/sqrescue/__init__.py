@@ -26,6 +26,7 @@ FAULTS = ("Magic PageSize Fraction Reserved AutoVacuum Kind CellOutside Overlap 
           "PageTwice PageOutside PageUnused KeyOrder Depth FreeCount Source NoMemory SchemaRecord PointerMap").split()
 
 Report = namedtuple("Report", "pages trees btree overflow free")
+DeepReport = namedtuple("DeepReport", "pages trees btree overflow free indexes tables asides")
 Frame = namedtuple("Frame", "page size")
 Wal = namedtuple("Wal", "page_size front pages stop why frames")
 Commit = namedtuple("Commit", "frame frames pages")
@@ -48,12 +49,16 @@ class Error(Exception):
 
 
 class Damaged(Error):
-    """The database isn't well formed: `fault` is the name of a fault, at page `page`."""
+    """The database isn't well formed: `fault` is the name of a fault, at page `page`. Of a deep check also: or what it
+    holds isn't sound, at cell `cell` of that page, or at row `row` of the schema, both from 0; None where it names
+    none."""
     status = 1
 
-    def __init__(self, fault, page):
-        super().__init__(f"page {page}: {fault}")
-        self.fault, self.page = fault, page
+    def __init__(self, fault, page, cell=None, row=None):
+        places = (("schema row", None if row is None else row + 1), ("page", page), ("cell", cell))
+        named = " ".join(f"{place} {number}" for place, number in places if number is not None)
+        super().__init__(f"{named}: {fault}")
+        self.fault, self.page, self.cell, self.row = fault, page, cell, row
 
 
 def _refusal(name, status, doc, *bases):
@@ -147,6 +152,11 @@ class _Role(ctypes.Structure):
     _fields_ = [("kind", Word), ("of", Word)]
 
 
+class _DeepReport(ctypes.Structure):
+    _fields_ = ([(name, Word) for name in "fault places page pages trees btree overflow free".split()]
+                + [(name, Long) for name in "cell row indexes tables asides".split()])
+
+
 class _Survey(ctypes.Structure):
     _fields_ = [("pages", Word), ("fault", Word), ("page", Word)]
 
@@ -173,6 +183,8 @@ def _loaded():
         ("sqr_open", [pointer(_Files), pointer(Long), Size, pointer(_View)], Word),
         ("sqr_page", [pointer(_View), Word, Bytes, Size], Word),
         ("sqr_check_with", [pointer(_Files), Word, Word, pointer(_Report)], Word),
+        ("sqr_check_deep", [pointer(_Files), Word, Word, pointer(Long), Size, pointer(_DeepReport)], Word),
+        ("sqr_fault_name", [Word], ctypes.c_char_p),
         ("sqr_page_roles", [pointer(_Files), Word, Word, pointer(_Role), Size, pointer(_Survey)], Word),
         ("sqr_open_at", [pointer(_Files), Word, pointer(Long), Size, pointer(_View)], Word),
         ("sqr_wal_scan", [Bytes, Size, pointer(_Frame), Size, pointer(_Wal)], Word),
@@ -279,6 +291,22 @@ def _checked(files, flags):
         raise Damaged(FAULTS[found.fault - 1], found.page)
     _judge(status)
     return Report(*(getattr(found, name) for name in Report._fields))
+
+
+def _deeply_checked(files, flags):
+    """The DeepReport of a sound database; otherwise Damaged."""
+    found, rows = _DeepReport(), (Long * 0)()
+    status = _library.sqr_check_deep(files, flags, 0, rows, 0, found)
+    if status == 0 and found.indexes + found.tables:
+        rows = (Long * (found.indexes + found.tables))()
+        status = _library.sqr_check_deep(files, flags, 0, rows, len(rows), found)
+    if status == Damaged.status:
+        named = (found.page, found.cell, found.row)
+        places = (number if found.places & 1 << bit else None for bit, number in enumerate(named))
+        raise Damaged(_library.sqr_fault_name(found.fault).decode(), *places)
+    _judge(status)
+    counts = (getattr(found, name) for name in Report._fields)
+    return DeepReport(*counts, list(rows[:found.indexes]), list(rows[found.indexes:]), found.asides)
 
 
 def _path(path):
@@ -393,6 +421,13 @@ class View:
         self._opened()
         return _checked(self._files, _flags(large, pointer_maps))
 
+    def check_deep(self, *, large=False):
+        """The DeepReport of a database that is well formed, and whose records, schema, indexes and rows are sound, but
+        for the indexes and the tables in the rows `indexes` and `tables` of the schema, from 0, which aren't judged;
+        otherwise Damaged. Pointer maps are judged, too."""
+        self._opened()
+        return _deeply_checked(self._files, _flags(large, False))
+
     def roles(self, *, large=False, pointer_maps=False):
         """The Roles of the pages, page 1 first: the use of each, one of USES, and the page that goes with it, the root
         of its tree or the page whose payload it holds; and the fault that `check` finds, with its page, or None."""
@@ -435,6 +470,15 @@ def check(database, wal=b"", journal=b"", *, large=False, pointer_maps=False, wa
     source = _source(database, wal, journal, FILES_ONLY, wait, lock)
     try:
         return _checked(source.files, _flags(large, pointer_maps))
+    finally:
+        source.close()
+
+
+def check_deep(database, wal=b"", journal=b"", *, large=False, wait=5.0, lock=True):
+    """As `check`, and whether what the database holds is sound: the DeepReport, as View.check_deep gives it."""
+    source = _source(database, wal, journal, FILES_ONLY, wait, lock)
+    try:
+        return _deeply_checked(source.files, _flags(large, False))
     finally:
         source.close()
 

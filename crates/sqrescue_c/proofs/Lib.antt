@@ -1,5 +1,6 @@
 pub mod ReportedView
 pub mod ReportedFindings
+pub mod DeepFindings
 pub mod CopiedFrames
 pub mod CopiedCommits
 pub mod CopiedRecords

@@ -30,7 +30,7 @@ module _ (IsFound : Verdict → Type 0) (out : CheckReport) where
     verdict = subst (λ (n : ℕ). IsFound (Damaged (record { page = n; fault = error.fault }))) (sym p) v;
   }
 
-neither : (b : Bool) → (b ≡ true → ⊥) → (b ≡ false → ⊥) → ⊥
+pub neither : (b : Bool) → (b ≡ true → ⊥) → (b ≡ false → ⊥) → ⊥
 neither true f g = f refl
 neither false f g = g refl
 

@@ -4,6 +4,7 @@ pub mod Recoveries
 pub mod Names
 pub mod Asked
 pub mod Checks
+pub mod Deeps
 pub mod Roles
 pub mod Logs
 pub mod Commits

@@ -5,6 +5,7 @@
 mod asked;
 mod check;
 mod commits;
+mod deep;
 mod index;
 mod journal;
 mod names;

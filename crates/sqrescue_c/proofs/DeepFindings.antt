@@ -1,0 +1,47 @@
+-- What a deep check finds, as a caller has it.
+use Rattle.std.proofs.Common.{◌≡◌, ℕ, Bool, true, List, refl, inl, inr}
+use Rattle.std.specs.Prelude.{Result, Ok, Err, IfOk, IfErr}
+use Rattle.std.proofs.lemmas.Bool.{true≢false}
+use Rattle.sqval.specs.Database.{Database}
+use Rattle.sqview.specs.Verdicts.{IsUnjudgedWith}
+use Rattle.sqview.specs.declared.judge_error.JudgeError.{JudgeError}
+use Rattle.sqview.specs.declared.judge_error.JudgeError.TheVariants as refusals
+use Rattle.sqview.specs.declared.view_error.ViewError.{ViewError}
+use Rattle.sqview.specs.declared.view_error.ViewError.TheVariants.{TwoLogs, TooLarge, Header, Unread, NoMemory, NoSuchCommit}
+use Rattle.sqdeepjudge.specs.Verdicts.{FindsDeep, deep_without}
+use Rattle.sqdeepjudge.specs.declared.verdict.DeepVerdict.{DeepVerdict}
+use Rattle.sqrescue_c.specs.Asked.{is_at, ShowsAsked, AskedRefused}
+use Rattle.sqrescue_c.specs.Deeps.{IsAskedDeep, AreDeepUnjudged}
+use Rattle.sqrescue_c.proofs.ReportedFindings.{neither}
+
+-- what is found of the database that is asked for
+module _ (flags m : ℕ) (db wal journal : List ℕ) where
+  module _ (size : ℕ) (d : Database) (shown : ShowsAsked flags m size db wal journal d) where
+    pub asked : (r : Result DeepVerdict JudgeError) → IfOk r (FindsDeep true d size) → IfOk r (IsAskedDeep flags m db wal journal)
+    asked (Ok verdict) finds = inl (size, d, shown, finds)
+    asked (Err e) finds = tt
+
+    pub unjudged : (r : Result DeepVerdict JudgeError) → IfErr r (IsUnjudgedWith true d) → IfErr r (AreDeepUnjudged flags m db wal journal)
+    unjudged (Ok verdict) refused = tt
+    unjudged (Err refusals.TwoLogs) refused = absurd refused
+    unjudged (Err refusals.TooLarge) refused = absurd refused
+    unjudged (Err refusals.NoSuchCommit) refused = absurd refused
+    unjudged (Err refusals.NoMemory) refused = tt
+    unjudged (Err refusals.AutoVacuum) refused = absurd (true≢false refused.0)
+    unjudged (Err refusals.Unread) refused = absurd refused
+
+  pub without : (e : ViewError) → AskedRefused flags m db wal journal e → IfOk (deep_without e) (IsAskedDeep flags m db wal journal)
+  without (Header fault) refused = inr (fault, refl, refused)
+  without TwoLogs refused = tt
+  without TooLarge refused = tt
+  without NoSuchCommit refused = tt
+  without Unread refused = tt
+  without NoMemory refused = tt
+
+  pub unjudged_without : (e : ViewError) → AskedRefused flags m db wal journal e → IfErr (deep_without e) (AreDeepUnjudged flags m db wal journal)
+  unjudged_without (Header fault) refused = tt
+  unjudged_without TwoLogs refused = refused
+  unjudged_without TooLarge refused = refused
+  unjudged_without NoSuchCommit refused = refused
+  unjudged_without Unread refused = absurd (neither (is_at flags) refused.at refused.shown)
+  unjudged_without NoMemory refused = tt

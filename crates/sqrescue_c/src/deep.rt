@@ -1,0 +1,251 @@
+//! Whether the database that files show is sound inside, too.
+ghost use Rattle.std.specs.Prelude.{◌≡◌, ◌↔◌, ◌<◌, ◌≤◌, ℕ, length, get_or, IfOk, IfErr};
+ghost use Rattle.sqdeep.specs.Faults.{number_of as inner_number};
+ghost use Rattle.sqdeepjudge.specs.Verdicts.{is_damaged};
+ghost use Rattle.sqrescue_c.specs.Asked.{AreAskedFlags};
+ghost use Rattle.sqrescue_c.specs.Checks.{SaysUnjudged};
+ghost use Rattle.sqrescue_c.specs.Deeps.{AreDeepUnjudged, AreRowsToldOf, IsAskedDeep, IsDeepAnswer};
+ghost use Rattle.sqrescue_c.specs.Deeps.{counts_of, deep_report, fault_at, inner_at, rows_of};
+
+use crate::asked::{UNKNOWN_OPTIONS, are_known, view_asked};
+use crate::status::{Status, judge_number};
+use crate::view::Files;
+use sqcheck::{Options, Report};
+use sqdeep::InnerError;
+use sqdeepjudge::{Damage, DeepVerdict, Unjudged, deep_without, judge_deep};
+use sqview::JudgeError;
+use std::alloc::Global;
+
+/// A fault names a page.
+const PAGE: u32 = 1;
+
+/// It names a cell of a page.
+const CELL: u32 = 2;
+
+/// It names a row of the schema.
+const ROW: u32 = 4;
+
+/// What a deep check finds: the counts of a sound database, with fault 0; or the fault's number, with the counts 0, and
+/// which places it names, of which those that it doesn't are 0.
+#[repr(C)]
+#[derive(Clone, Copy)]
+pub struct DeepReport {
+    pub fault: u32,
+    /// The sum of 1 for a page, 2 for a cell of it, and 4 for a row of the schema.
+    pub places: u32,
+    /// From 1.
+    pub page: u32,
+    pub pages: u32,
+    pub trees: u32,
+    pub btree: u32,
+    pub overflow: u32,
+    pub free: u32,
+    /// From 0.
+    pub cell: u64,
+    /// From 0, in the order of rowids.
+    pub row: u64,
+    /// How many indexes aren't judged.
+    pub indexes: u64,
+    /// How many tables have rows that aren't judged.
+    pub tables: u64,
+    /// How many tables have trees whose kind isn't judged, since their texts aren't understood.
+    pub asides: u64,
+}
+
+/// A fault, and where it is.
+fn fault_at(fault: u8, places: u32, page: u32, cell: usize, row: usize) -> DeepReport
+    ensures { result ≡ fault_at fault places page cell row }
+{
+    DeepReport {
+        fault: u32::from(fault),
+        places,
+        page,
+        pages: 0,
+        trees: 0,
+        btree: 0,
+        overflow: 0,
+        free: 0,
+        cell: cell as u64,
+        row: row as u64,
+        indexes: 0,
+        tables: 0,
+        asides: 0,
+    }
+}
+
+/// The counts of a database that is well formed, of which nothing is left open.
+fn counts_of(report: &Report) -> DeepReport
+    ensures { result ≡ counts_of report.now 0 0 0 }
+{
+    DeepReport {
+        fault: 0,
+        places: 0,
+        page: 0,
+        pages: report.pages,
+        trees: report.trees,
+        btree: report.btree,
+        overflow: report.overflow,
+        free: report.free,
+        cell: 0,
+        row: 0,
+        indexes: 0,
+        tables: 0,
+        asides: 0,
+    }
+}
+
+/// The counts of a sound one, and of what isn't judged.
+fn sound_counts(report: &Report, unjudged: &Unjudged, asides: usize) -> DeepReport
+    ensures { result ≡ counts_of report.now (length unjudged.now.indexes.items) (length unjudged.now.tables.items)
+        asides }
+{
+    DeepReport {
+        indexes: unjudged.indexes.len() as u64,
+        tables: unjudged.tables.len() as u64,
+        asides: asides as u64,
+        ..counts_of(report)
+    }
+}
+
+/// A fault inside, at a page or a cell of it.
+fn inner_at(error: &InnerError) -> DeepReport
+    ensures { result ≡ inner_at (inner_number error.now.fault) error.now.page error.now.cell }
+{
+    let (fault, page) = (error.fault.number(), error.page);
+    match error.cell {
+        None => fault_at(fault, PAGE, page, 0, 0),
+        Some(cell) => fault_at(fault, PAGE + CELL, page, cell, 0),
+    }
+}
+
+/// What is told of a verdict.
+fn deep_report(verdict: &DeepVerdict) -> DeepReport
+    ensures { result ≡ deep_report verdict.now }
+{
+    match verdict {
+        DeepVerdict::Clean(report) => counts_of(report),
+        DeepVerdict::Sound(report, schema, unjudged) => {
+            sound_counts(report, unjudged, schema.asides.len())
+        }
+        DeepVerdict::Damaged(Damage::Check(error)) => {
+            fault_at(error.fault.number(), PAGE, error.page, 0, 0)
+        }
+        DeepVerdict::Damaged(Damage::Inner(error)) => inner_at(error),
+        DeepVerdict::Damaged(Damage::Schema(error)) => {
+            fault_at(error.fault.number(), ROW, 0, 0, error.row)
+        }
+        DeepVerdict::Damaged(Damage::Content(found)) => {
+            let error = &found.error;
+            fault_at(
+                error.fault.number(),
+                PAGE + CELL + ROW,
+                error.page,
+                error.cell,
+                found.row,
+            )
+        }
+        DeepVerdict::Damaged(Damage::Row(found)) => {
+            let error = &found.error;
+            fault_at(
+                error.fault.number(),
+                PAGE + CELL + ROW,
+                error.page,
+                error.cell,
+                found.row,
+            )
+        }
+    }
+}
+
+/// The row of the i-th object that isn't judged: first those of indexes, then those of tables.
+fn row_at(unjudged: &Unjudged, i: usize) -> usize
+    requires { i < length (rows_of unjudged.now) }
+    ensures { result ≡ get_or (rows_of unjudged.now) i 0 }
+{
+    let count = unjudged.indexes.len();
+    if i < count {
+        unjudged.indexes[i]
+    } else {
+        unjudged.tables[i - count]
+    }
+}
+
+/// Writes these rows to the front of an array, as many as there is room for.
+fn copy_rows(unjudged: &Unjudged, rows: &mut [u64])
+    ensures { (i : ℕ) → i < length rows.new → i < length (rows_of unjudged.now)
+        → get_or rows.new i 0 ≡ get_or (rows_of unjudged.now) i 0 }
+{
+    let count = unjudged.indexes.len().saturating_add(unjudged.tables.len());
+    for i in 0..count.min(rows.len()) {
+        rows[i] = row_at(unjudged, i) as u64;
+    }
+}
+
+/// The same of a verdict, where it has some.
+fn tell_rows(verdict: &DeepVerdict, rows: &mut [u64])
+    ensures { AreRowsToldOf verdict.now rows.new }
+{
+    match verdict {
+        DeepVerdict::Sound(_, _, unjudged) => copy_rows(unjudged, rows),
+        DeepVerdict::Clean(_) | DeepVerdict::Damaged(_) => (),
+    }
+}
+
+/// What a deep check finds of the database that is asked for.
+fn judge_deep_asked(
+    alloc: Global,
+    files: &Files<'_>,
+    flags: u32,
+    frame: u32,
+) -> Result<DeepVerdict, JudgeError>
+    ensures found { IfOk result
+        (IsAskedDeep flags frame files.now.db.now files.now.wal.now files.now.journal.now) }
+    ensures refused { IfErr result
+        (AreDeepUnjudged flags frame files.now.db.now files.now.wal.now files.now.journal.now) }
+{
+    let maps = Options { pointer_maps: true };
+    match view_asked(alloc, files, flags, frame) {
+        Ok(mut view) => judge_deep(alloc, &mut view, maps),
+        Err(error) => deep_without(error),
+    }
+}
+
+/// Whether the database that flags ask for, as for `sqr_check_with`, is well formed, and its records, its schema, its
+/// indexes and its tables are sound, with its pointer maps, where it has some. Answers Done with its counts, and the
+/// rows of the schema, from 0, of the indexes and then of the tables that aren't judged at the front of an array, as
+/// many as there is room for; or Damaged with a fault that stands; otherwise TwoLogs, TooLarge or NoSuchCommit, in this
+/// order, or NoMemory in place of any, or 24 where a flag is another one, and then leaves the report as it is
+/// (fileformat2, 1 to 4).
+#[unsafe(no_mangle)]
+pub extern "C" fn sqr_check_deep(
+    alloc: Global,
+    files: &Files<'_>,
+    flags: u32,
+    frame: u32,
+    rows: &mut [u64],
+    report: &mut DeepReport,
+) -> u32
+    ensures found { result ≤ 1 → IsDeepAnswer flags frame files.now.db.now files.now.wal.now files.now.journal.now
+        result report.new rows.new }
+    ensures unjudged { 2 ≤ result → result < 24 → SaysUnjudged
+        (AreDeepUnjudged flags frame files.now.db.now files.now.wal.now files.now.journal.now) result }
+    ensures known { (result < 24) ↔ AreAskedFlags flags }
+    ensures kept { 2 ≤ result → report.new ≡ report.old }
+    ensures rows_kept { 2 ≤ result → rows.new ≡ rows.old }
+{
+    if !are_known(flags) {
+        return UNKNOWN_OPTIONS;
+    }
+    match judge_deep_asked(alloc, files, flags, frame) {
+        Ok(verdict) => {
+            tell_rows(&verdict, rows);
+            *report = deep_report(&verdict);
+            if verdict.is_damaged() {
+                Status::Damaged.number()
+            } else {
+                Status::Done.number()
+            }
+        }
+        Err(error) => judge_number(error),
+    }
+}
