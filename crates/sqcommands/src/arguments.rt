@@ -195,6 +195,44 @@ pub(crate) fn table_arg<'a>(alloc: Global) -> Arg<'a> {
     )
 }
 
+/// The table whose changes are printed.
+pub(crate) fn changed_table_arg<'a>(alloc: Global) -> Arg<'a> {
+    option(
+        alloc,
+        "table",
+        "NAME",
+        "Prints the changes of this table alone, as SQLite compares names",
+    )
+}
+
+/// The commit from which on rows are compared.
+pub(crate) fn from_arg<'a>(alloc: Global) -> Arg<'a> {
+    option(
+        alloc,
+        "from",
+        "M",
+        "Compares from commit frame M of the write-ahead log on; 0 if not given: from the file without its log",
+    )
+    .value_parser(value_parser!(u32))
+}
+
+/// The commit up to which rows are compared.
+pub(crate) fn until_arg<'a>(alloc: Global) -> Arg<'a> {
+    option(
+        alloc,
+        "to",
+        "N",
+        "Compares up to commit frame N; up to the last one if not given, or to what a hot journal rolls back to",
+    )
+    .value_parser(value_parser!(u32))
+}
+
+/// The same as `sql_arg`, of changes.
+pub(crate) fn script_arg<'a>(alloc: Global) -> Made<Arg<'a>> {
+    let help = "Prints SQL that makes the new rows of the old ones";
+    without(Ok(flag(alloc, "sql", help)), "json")
+}
+
 pub(crate) fn csv_arg<'a>(alloc: Global) -> Made<Arg<'a>> {
     let help =
         "Prints comma-separated values, a line a row, which is what it does where no form is named";

@@ -1,11 +1,12 @@
 //! The commands and their options. Each function takes and gives a `Result`, and none exits early: a command that is
 //! half made has much to let go.
 use crate::arguments::{
-    Made, all_arg, at_arg, commits_arg, copy_arg, csv_arg, deep_arg, file_arg, force_arg, json_arg,
-    large_arg, log_arg, no_lock_arg, only_with, page_arg, pages_arg, pointer_maps_arg, report_arg,
-    shown_maps_arg, sql_arg, super_journal_arg, table_arg, verbose_arg, version_arg, wait_arg,
+    Made, all_arg, at_arg, changed_table_arg, commits_arg, copy_arg, csv_arg, deep_arg, file_arg,
+    force_arg, from_arg, json_arg, large_arg, log_arg, no_lock_arg, only_with, page_arg, pages_arg,
+    pointer_maps_arg, report_arg, script_arg, shown_maps_arg, sql_arg, super_journal_arg,
+    table_arg, until_arg, verbose_arg, version_arg, wait_arg,
 };
-use crate::texts::{ALL, CHECK, RECOVER, REPORT, ROWS, SHOW};
+use crate::texts::{ALL, CHECK, DIFF, RECOVER, REPORT, ROWS, SHOW};
 use clap::{Arg, Command};
 use std::alloc::Global;
 
@@ -66,6 +67,14 @@ fn rows_command<'a>(alloc: Global) -> Made<Command<'a>> {
     with_arg(command, sql_arg(alloc))
 }
 
+fn diff_command<'a>(alloc: Global) -> Made<Command<'a>> {
+    let about = "Prints which rows the log changed, or a rollback would; writes nothing";
+    let command = base_command(alloc, "diff", about, DIFF, Ok(from_arg(alloc)));
+    let command = with_arg(command, Ok(until_arg(alloc)));
+    let command = with_arg(command, Ok(changed_table_arg(alloc)));
+    with_arg(command, script_arg(alloc))
+}
+
 fn recover_command<'a>(alloc: Global) -> Made<Command<'a>> {
     let about =
         "Recovers the database: folds its write-ahead log into it, or rolls it back by its hot journal; \
@@ -95,6 +104,7 @@ pub(crate) fn command<'a>(alloc: Global) -> Made<Command<'a>> {
     let command = with_command(command, show_command(alloc));
     let command = with_command(command, check_command(alloc));
     let command = with_command(command, rows_command(alloc));
+    let command = with_command(command, diff_command(alloc));
     let command = with_command(command, recover_command(alloc));
     with_command(command, report_command(alloc))
 }

@@ -1,6 +1,8 @@
 //! The rows of a database as its log has them, over the bytes of files, wherever they come from.
 #![tactic(auto)]
 
+mod changes;
 mod rows;
 
+pub use changes::show_changes;
 pub use rows::{Printed, Wanted, show_rows};

@@ -47,7 +47,7 @@ fn hidden_of<'a>(words: &'a [&'a str]) -> Option<Hidden<'a>>
 
 /// Whether a word is the value of the option before it.
 fn is_value(before: &str) -> bool {
-    matches!(before, "--to" | "--at" | "--page" | "--table")
+    matches!(before, "--to" | "--at" | "--page" | "--table" | "--from")
 }
 
 /// The seconds that a word gives by itself.

@@ -11,5 +11,6 @@ mod value;
 pub use form::Form;
 pub use heading::write_heading;
 pub use insert::write_insert;
-pub use line::write_line;
+pub use line::{write_line, write_values};
 pub use print::{PrintError, Style, print_rows};
+pub use value::{write_between, write_integer, write_string, write_value};

@@ -87,8 +87,8 @@ fn write_part<W: Write>(
     write_value(out, form, value)
 }
 
-/// The values of a row.
-fn write_values<W: Write>(
+/// The values of a row whose columns have these names. An error of the writer.
+pub fn write_values<W: Write>(
     out: &mut W,
     form: Form,
     names: &[Vec<u8>],

@@ -34,8 +34,8 @@ fn write_doubled<W: Write>(out: &mut W, mark: u8, byte: u8) -> io::Result<()>
     }
 }
 
-/// Bytes between two marks.
-pub(crate) fn write_between<W: Write>(out: &mut W, mark: u8, bytes: &[u8]) -> io::Result<()>
+/// Bytes between two marks, of which each that stands in them is there twice. An error of the writer.
+pub fn write_between<W: Write>(out: &mut W, mark: u8, bytes: &[u8]) -> io::Result<()>
     ensures { OnOk result (Appends (W.contents out.old) (W.contents out.new) (between_marks mark bytes.now)) }
 {
     out.write_all(&[mark])?;
@@ -60,8 +60,8 @@ fn write_escaped<W: Write>(out: &mut W, byte: u8) -> io::Result<()>
     }
 }
 
-/// A string of JSON.
-pub(crate) fn write_string<W: Write>(out: &mut W, bytes: &[u8]) -> io::Result<()>
+/// A string of JSON (RFC 8259). An error of the writer.
+pub fn write_string<W: Write>(out: &mut W, bytes: &[u8]) -> io::Result<()>
     ensures { OnOk result (Appends (W.contents out.old) (W.contents out.new) (json_string bytes.now)) }
 {
     out.write_all(b"\"")?;
@@ -175,8 +175,8 @@ fn write_json_integer<W: Write>(out: &mut W, number: i64) -> io::Result<()>
     }
 }
 
-/// An integer.
-pub(crate) fn write_integer<W: Write>(out: &mut W, form: Form, number: i64) -> io::Result<()>
+/// An integer. An error of the writer.
+pub fn write_integer<W: Write>(out: &mut W, form: Form, number: i64) -> io::Result<()>
     ensures { OnOk result (Appends (W.contents out.old) (W.contents out.new) (integer_text form number)) }
 {
     match form {
@@ -246,8 +246,8 @@ fn write_text<W: Write>(out: &mut W, form: Form, bytes: &[u8]) -> io::Result<()>
     }
 }
 
-/// A value.
-pub(crate) fn write_value<W: Write>(out: &mut W, form: Form, value: Value<'_>) -> io::Result<()>
+/// A value. An error of the writer.
+pub fn write_value<W: Write>(out: &mut W, form: Form, value: Value<'_>) -> io::Result<()>
     ensures { OnOk result ((t : List ℕ) × IsText form (datum_of value.entry) t
         × Appends (W.contents out.old) (W.contents out.new) t) }
 {

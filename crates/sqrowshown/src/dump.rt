@@ -35,8 +35,8 @@ pub(crate) enum Turn {
     Others,
 }
 
-/// Whether a name is one that SQLite keeps for its own tables.
-fn is_internal(name: &[u8]) -> bool
+/// Whether a name is one that SQLite keeps for its own tables (fileformat2, 2.6.2).
+pub fn is_internal(name: &[u8]) -> bool
     ensures { result ≡ is_kept name.now }
 {
     name.len() >= 7 && name[..7].eq_ignore_ascii_case(b"sqlite_")
@@ -54,16 +54,16 @@ fn is_in_turn(object: &Object, turn: Turn) -> bool
     }
 }
 
-/// A statement of the schema.
-fn write_statement<W: Write>(out: &mut W, sql: &[u8]) -> io::Result<()>
+/// A statement of the schema. An error of the writer.
+pub fn write_statement<W: Write>(out: &mut W, sql: &[u8]) -> io::Result<()>
     ensures { OnOk result (Appends (W.contents out.old) (W.contents out.new) (statement_text sql.now)) }
 {
     out.write_all(sql)?;
     out.write_all(b";\n")
 }
 
-/// Whether a name is that of the table in which SQLite counts keys.
-fn is_sequence(name: &[u8]) -> bool
+/// Whether a name is that of the table in which SQLite counts keys (fileformat2, 2.6.2).
+pub fn is_sequence(name: &[u8]) -> bool
     ensures { result ≡ str_eq_ignore_ascii_case name.now (codes "sqlite_sequence") }
 {
     name.eq_ignore_ascii_case(b"sqlite_sequence")
@@ -80,8 +80,8 @@ fn write_internal<W: Write>(out: &mut W, name: &[u8]) -> io::Result<()>
     }
 }
 
-/// What makes a table in SQL.
-fn write_making<W: Write>(out: &mut W, table: &Object) -> io::Result<()>
+/// What makes a table in SQL. An error of the writer.
+pub fn write_making<W: Write>(out: &mut W, table: &Object) -> io::Result<()>
     ensures { OnOk result (Appends (W.contents out.old) (W.contents out.new) (making_text table.now)) }
 {
     if is_internal(table.name.as_slice()) {
@@ -310,8 +310,8 @@ fn encoding_of<S: PageSource>(alloc: Global, source: &mut S) -> Result<u32, Stop
     }
 }
 
-/// The objects of a database, whose texts are UTF-8.
-fn listed<S: PageSource>(alloc: Global, source: &mut S) -> Result<Vec<Object>, Stop>
+/// The objects of a database, whose texts are UTF-8. Refused by the faults of the schema, and by `Encoding`.
+pub fn listed<S: PageSource>(alloc: Global, source: &mut S) -> Result<Vec<Object>, Stop>
     ensures ok { S.gives_pages source.old → IfOk result (λ objects. HasObjects (S.pages source.old) objects.items
         × (word (page (S.pages source.old) 1) 56 ≤ 1)) }
     ensures err { S.gives_pages source.old → IfErr result (SchemaRefused (S.pages source.old)) }

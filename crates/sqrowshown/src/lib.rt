@@ -6,7 +6,9 @@ mod stop;
 mod table;
 mod tables;
 
-pub use dump::{print_named, print_tables};
+pub use dump::{
+    is_internal, is_sequence, listed, print_named, print_tables, write_making, write_statement,
+};
 pub use stop::Stop;
-pub use table::print_table;
+pub use table::{known_columns, print_table, rowid_name};
 pub use tables::print_headed;

@@ -45,7 +45,7 @@ fn has_column(columns: &Columns, name: &str) -> bool
 }
 
 /// The name by which an INSERT gives a row its rowid; none where a column is another name for it, or no name is free.
-fn rowid_name(columns: &Columns) -> Option<&'static str>
+pub fn rowid_name(columns: &Columns) -> Option<&'static str>
     ensures { IsNameFor columns.now (rowid_named result) }
 {
     if columns.alias.is_some() {
@@ -73,8 +73,8 @@ fn leads(form: Form, columns: &Columns, rowid: Option<&str>) -> bool
     }
 }
 
-/// What is known of the columns of a table.
-pub(crate) fn known_columns(alloc: Global, table: &Object) -> Result<Columns, Stop>
+/// What is known of the columns of a table. Refused by `NoMemory` alone.
+pub fn known_columns(alloc: Global, table: &Object) -> Result<Columns, Stop>
     ensures ok { IfOk result (AreColumns table.now.sql.items) }
     ensures err { IfErr result (λ stop. stop ≡ Stop.NoMemory) }
 {

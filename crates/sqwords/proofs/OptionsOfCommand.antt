@@ -3,10 +3,10 @@ use Rattle.std.proofs.Common.{◌≡◌, ◌≢◌, ◌⊎◌, inl, inr, ⊎_eli
 use Rattle.std.specs.Prelude.{true, false, Option, None, Some, is_some, codes, nat_eq, slice_get, MatchOption}
 use Rattle.std.specs.Cmp.Lexicographic.{bytes_decides, pointwise}
 use Rattle.std.proofs.lemmas.Option.{none-some}
-use Rattle.sqwords.specs.Line.{AreAmiss, AreNoReport, AreNoRows, AreOptions, Asks, AsksAt, AsksBesides, AsksNoPart, AsksNothing}
+use Rattle.sqwords.specs.Line.{AreAmiss, AreNoDiff, AreNoReport, AreNoRows, AreOptions, Asks, AsksAt, AsksBesides, AsksNoPart, AsksNothing}
 use Rattle.sqwords.specs.Line.{AsksText}
 use Rattle.sqwords.specs.Line.{HasNoText, HasText, IsFile, NamesOfLog}
-use Rattle.sqwords.specs.internal.Line.{AskNoRows, IsReport, IsRows}
+use Rattle.sqwords.specs.internal.Line.{AskNoDiff, AskNoRows, IsDiff, IsReport, IsRows}
 use Rattle.sqwords.specs.declared.requests.Options.{Options}
 use Rattle.sqwords.specs.declared.requests.Request.{Request}
 
@@ -51,6 +51,26 @@ pub rows_no_recover : (command : List ℕ) → command ≡ codes "rows" → comm
 rows_no_recover command rows recover =
     let e : 111 ≡ 101 = ap (λ (l : List ℕ). get_or l 1 0) (sym rows ∙ recover) in omega (arith, e)
 
+pub not_diff : (command : List ℕ) → command ≡ codes "show" → command ≢ codes "diff"
+not_diff command show diff =
+    let e : 115 ≡ 100 = ap (λ (l : List ℕ). get_or l 0 0) (sym show ∙ diff) in omega (arith, e)
+
+pub report_no_diff : (command : List ℕ) → command ≡ codes "report" → command ≢ codes "diff"
+report_no_diff command report diff =
+    let e : 114 ≡ 100 = ap (λ (l : List ℕ). get_or l 0 0) (sym report ∙ diff) in omega (arith, e)
+
+pub rows_no_diff : (command : List ℕ) → command ≡ codes "rows" → command ≢ codes "diff"
+rows_no_diff command rows diff =
+    let e : 114 ≡ 100 = ap (λ (l : List ℕ). get_or l 0 0) (sym rows ∙ diff) in omega (arith, e)
+
+pub check_no_diff : (command : List ℕ) → command ≡ codes "check" → command ≢ codes "diff"
+check_no_diff command check diff =
+    let e : 99 ≡ 100 = ap (λ (l : List ℕ). get_or l 0 0) (sym check ∙ diff) in omega (arith, e)
+
+pub recover_no_diff : (command : List ℕ) → command ≡ codes "recover" → command ≢ codes "diff"
+recover_no_diff command recover diff =
+    let e : 114 ≡ 100 = ap (λ (l : List ℕ). get_or l 0 0) (sym recover ∙ diff) in omega (arith, e)
+
 pub report_amiss : (command : List ℕ) (options : List (List ℕ)) → command ≡ codes "report" → AreNoReport options
     → AreAmiss command options
 report_amiss command options is none = (
@@ -58,6 +78,7 @@ report_amiss command options is none = (
   (λ recover. absurd (no_recover command is recover)),
   (λ _. none),
   (λ rows. absurd (no_rows command is rows)),
+  (λ diff. absurd (report_no_diff command is diff)),
   (λ show. absurd (not_report command show is)),
 )
 
@@ -80,6 +101,7 @@ rows_amiss command options is none = (
   (λ recover. absurd (rows_no_recover command is recover)),
   (λ report. absurd (no_rows command report is)),
   (λ _. none),
+  (λ diff. absurd (rows_no_diff command is diff)),
   (λ show. absurd (not_rows command show is)),
 )
 
@@ -103,6 +125,44 @@ rows_asks words command file options o (Some request) is second named are beside
     let P : Request → Type 0 = λ r. Asks words r in
     subst P (sym same) (second ∙ ap Some is, named, (options, are, known, besides, of, asks, plain))
 
+pub diff_amiss : (command : List ℕ) (options : List (List ℕ)) → command ≡ codes "diff" → AreNoDiff options
+    → AreAmiss command options
+diff_amiss command options is none = (
+  (λ check. absurd (check_no_diff command check is)),
+  (λ recover. absurd (recover_no_diff command recover is)),
+  (λ report. absurd (report_no_diff command report is)),
+  (λ rows. absurd (rows_no_diff command rows is)),
+  (λ _. none),
+  (λ show. absurd (not_diff command show is)),
+)
+
+-- a commit that is named by itself
+pub at_told : (options : List (List ℕ)) (at : Option ℕ) → at ≢ None → AsksAt options at
+    → (text : List ℕ) × HasText (codes "--at") options text
+at_told options None some asks = absurd (some refl)
+at_told options (Some n) some asks = (asks.0, asks.1)
+
+-- the same of the options of `diff`
+pub diff_asks : (words : List (List ℕ)) (command : List ℕ) (file : Bor (List ℕ)) (options : List (List ℕ)) (o : Options)
+    (r : Option Request) → command ≡ codes "diff" → slice_get words 1 ≡ Some command → IsFile words file.now
+    → AreOptions words options → AsksBesides options o
+    → MatchOption r (AskNoDiff options o) (IsDiff options file o)
+    → MatchOption r (AsksNothing words command file.now) (Asks words)
+diff_asks words command file options o None is second named are besides none =
+    λ _ _. (
+      options,
+      are,
+      inr (diff_amiss command options is (elim none [
+        | inl unknown ↦ inl unknown
+        | inr (inl maps) ↦ inr (inl (besides.pointer_maps.0 maps))
+        | inr (inr (inl at)) ↦ inr (inr (inl (at_told options o.at at besides.at_commit)))
+        | inr (inr (inr rest)) ↦ inr (inr (inr rest))
+      ])),
+    )
+diff_asks words command file options o (Some request) is second named are besides (known, plain, none, (compared, asks, same)) =
+    let P : Request → Type 0 = λ r. Asks words r in
+    subst P (sym same) (second ∙ ap Some is, named, (options, are, known, besides, asks, none, plain))
+
 pub show_amiss : (command : List ℕ) (options : List (List ℕ)) (at : Option ℕ) → command ≡ codes "show" → AsksAt options at
     → AsksNoPart options ⊎ NamesOfLog options at → AreAmiss command options
 show_amiss command options at is asks amiss = (
@@ -110,6 +170,7 @@ show_amiss command options at is asks amiss = (
   (λ recover. absurd (not_recover command is recover)),
   (λ report. absurd (not_report command is report)),
   (λ rows. absurd (not_rows command is rows)),
+  (λ diff. absurd (not_diff command is diff)),
   (λ show. ⊎_elim (λ none. inl none) (λ of. inr (at, asks, of)) amiss),
 )
 

@@ -1,6 +1,6 @@
 -- What the words of a command line ask for.
 use Rattle.std.specs.Prelude.{◌≡◌, ◌≢◌, ◌⊎◌, ◌↔◌, false, IsTrue, Option, None, Some, ℕ, suc, ◌-◌, ◌^◌, ◌<◌, ◌≤◌}
-use Rattle.std.specs.Prelude.{List, [], ◌++◌, length, take, drop, slice_get, codes}
+use Rattle.std.specs.Prelude.{List, [], ◌++◌, length, take, drop, slice_get, codes, unwrap_or}
 use Rattle.std.specs.Borrow.{Bor}
 use Rattle.std.specs.List.{Contains}
 use Rattle.std.specs.Str.Parse.{IsNumeral, digits_value, without_leading_plus}
@@ -12,11 +12,14 @@ use Rattle.sqwords.specs.declared.requests.Style.{Style}
 use Rattle.sqwords.specs.declared.requests.Style.TheVariants.{Lines, Json}
 use Rattle.sqwords.specs.declared.requests.RowForm.{RowForm}
 use Rattle.sqwords.specs.declared.requests.RowForm.TheVariants.{Json as AsJson, Csv, Sql}
+use Rattle.sqwords.specs.declared.requests.ChangeForm.{ChangeForm}
+use Rattle.sqwords.specs.declared.requests.ChangeForm.TheVariants as changes
+use Rattle.sqwords.specs.declared.requests.Compared.{Compared}
 use Rattle.sqwords.specs.declared.requests.Options.{Options}
 use Rattle.sqwords.specs.declared.requests.Request.{Request}
-use Rattle.sqwords.specs.declared.requests.Request.TheVariants.{Show, Check, Rows, Recover, Report, Version}
+use Rattle.sqwords.specs.declared.requests.Request.TheVariants.{Show, Check, Rows, Diff, Recover, Report, Version}
 use Rattle.sqwords.specs.declared.words.Own.{Own}
-use Rattle.sqwords.specs.declared.words.Own.TheVariants.{Checks, Recovers, Prints}
+use Rattle.sqwords.specs.declared.words.Own.TheVariants.{Checks, Recovers, Prints, Compares}
 
 -- the words behind the command, up to a "--"
 pub record AreOptions (words options : List (List ℕ)) : Type 0 where
@@ -87,11 +90,12 @@ IsCommon word = (word ≡ codes "-v") ⊎ (word ≡ codes "--verbose") ⊎ (word
     ⊎ (word ≡ codes "--pointer-maps") ⊎ (word ≡ codes "--super-journal=present") ⊎ (word ≡ codes "--super-journal=gone")
     ⊎ IsNamed (codes "--at") word
 
--- a word that is an option of this command and not of each: of `check`, of `recover` and `report`, or of `rows`
+-- a word that is an option of this command and not of each: of `check`, of `recover` and `report`, of `rows`, or of `diff`
 abbrev pub IsOwn : Own → (word : List ℕ) → Type 0
 IsOwn Checks word = word ≡ codes "--deep"
 IsOwn Recovers word = (word ≡ codes "--force") ⊎ IsNamed (codes "--to") word
 IsOwn Prints word = (word ≡ codes "--csv") ⊎ (word ≡ codes "--sql") ⊎ IsNamed (codes "--table") word
+IsOwn Compares word = (word ≡ codes "--sql") ⊎ IsNamed (codes "--table") word ⊎ IsNamed (codes "--from") word ⊎ IsNamed (codes "--to") word
 
 -- a word behind such a command that is no option, or one of the command's
 abbrev pub IsKnown : Own → (word : List ℕ) → Type 0
@@ -111,10 +115,14 @@ AsksOf options (Some Gone) = (¬ Contains options (codes "--super-journal=presen
 abbrev pub AsksBoth : (options : List (List ℕ)) → Type 0
 AsksBoth options = Contains options (codes "--super-journal=present") × Contains options (codes "--super-journal=gone")
 
+-- the commit that the option of this name gives, if it is there
+abbrev pub AsksFrame : (name : List ℕ) → (options : List (List ℕ)) → Option ℕ → Type 0
+AsksFrame name options None = HasNoText name options
+AsksFrame name options (Some n) = (text : List ℕ) × HasText name options text × IsFrameNumber text n
+
 -- at which commit they ask for the database, if at one in particular
 abbrev pub AsksAt : (options : List (List ℕ)) → Option ℕ → Type 0
-AsksAt options None = HasNoText (codes "--at") options
-AsksAt options (Some n) = (text : List ℕ) × HasText (codes "--at") options text × IsFrameNumber text n
+AsksAt options frame = AsksFrame (codes "--at") options frame
 
 -- how they ask for what is found
 abbrev pub AsksStyle : (options : List (List ℕ)) → Style → Type 0
@@ -130,13 +138,13 @@ pub record AsksBesides (options : List (List ℕ)) (o : Options) : Type 0 where
   pub large : IsTrue o.large ↔ Contains options (codes "--large")
   pub pointer_maps : IsTrue o.pointer_maps ↔ Contains options (codes "--pointer-maps")
 
--- they name no frame for a commit
-abbrev pub NamesNoFrame : (options : List (List ℕ)) → Type 0
-NamesNoFrame options = (text : List ℕ) × HasText (codes "--at") options text × ((n : ℕ) → ¬ IsFrameNumber text n)
+-- the option of this name gives what is no frame of a commit
+abbrev pub NamesNoFrame : (name : List ℕ) → (options : List (List ℕ)) → Type 0
+NamesNoFrame name options = (text : List ℕ) × HasText name options text × ((n : ℕ) → ¬ IsFrameNumber text n)
 
 -- they ask for nothing besides
 abbrev pub AsksNoneBesides : (options : List (List ℕ)) → Type 0
-AsksNoneBesides options = AsksBoth options ⊎ NamesNoFrame options
+AsksNoneBesides options = AsksBoth options ⊎ NamesNoFrame (codes "--at") options
 
 -- a commit isn't named for a part that is of the whole log
 abbrev pub MayBeAt : Part → (frame : Option ℕ) → Type 0
@@ -167,6 +175,34 @@ AsksNoForm options = (Contains options (codes "--json") × Contains options (cod
 abbrev pub AreNoRows : (options : List (List ℕ)) → Type 0
 AreNoRows options = (¬ AreKnown Prints options) ⊎ Contains options (codes "--pointer-maps") ⊎ AsksNoForm options
 
+-- how they ask for changes of rows
+abbrev pub AsksChangeForm : (options : List (List ℕ)) → ChangeForm → Type 0
+AsksChangeForm options changes.Lines = (¬ Contains options (codes "--json")) × (¬ Contains options (codes "--sql"))
+AsksChangeForm options changes.Json = Contains options (codes "--json") × (¬ Contains options (codes "--sql"))
+AsksChangeForm options changes.Sql = (¬ Contains options (codes "--json")) × Contains options (codes "--sql")
+
+-- they ask for two forms
+abbrev pub AsksNoChangeForm : (options : List (List ℕ)) → Type 0
+AsksNoChangeForm options = Contains options (codes "--json") × Contains options (codes "--sql")
+
+-- between which commits they ask for changes, from 0 where they don't say it, of which table, and how
+pub record AsksCompared (options : List (List ℕ)) (compared : Compared) : Type 0 where
+  pub from : (frame : Option ℕ) × AsksFrame (codes "--from") options frame × (compared.from ≡ unwrap_or frame 0)
+  pub to : AsksFrame (codes "--to") options compared.to
+  pub table : AsksText (codes "--table") options compared.table
+  pub form : AsksChangeForm options compared.form
+
+-- they name no frame for one of both commits, or ask for two forms
+abbrev pub AsksNothingCompared : (options : List (List ℕ)) → Type 0
+AsksNothingCompared options =
+    NamesNoFrame (codes "--from") options ⊎ NamesNoFrame (codes "--to") options ⊎ AsksNoChangeForm options
+
+-- they can't be those of `diff`: another one is among them, or pointer maps, or one commit by itself, or what can't be compared
+abbrev pub AreNoDiff : (options : List (List ℕ)) → Type 0
+AreNoDiff options =
+    (¬ AreKnown Compares options) ⊎ Contains options (codes "--pointer-maps")
+    ⊎ ((text : List ℕ) × HasText (codes "--at") options text) ⊎ AsksNothingCompared options
+
 -- they can't be a report's: another one is among them, or the file to be made isn't named
 abbrev pub AreNoReport : (options : List (List ℕ)) → Type 0
 AreNoReport options = (¬ AreKnown Recovers options) ⊎ Contains options (codes "--force") ⊎ HasNoText (codes "--to") options
@@ -174,6 +210,7 @@ AreNoReport options = (¬ AreKnown Recovers options) ⊎ Contains options (codes
 -- a word behind which a value stands
 abbrev pub TakesValue : (word : List ℕ) → Type 0
 TakesValue word = (word ≡ codes "--page") ⊎ (word ≡ codes "--to") ⊎ (word ≡ codes "--at") ⊎ (word ≡ codes "--table")
+    ⊎ (word ≡ codes "--from")
 
 -- a word behind the command that stands for itself: behind a "--", or else plain and no option's value
 pub record StandsFree (words : List (List ℕ)) (i : ℕ) (word : List ℕ) : Type 0 where
@@ -195,8 +232,9 @@ abbrev pub AsksVersion : List (List ℕ) → Type 0
 AsksVersion words = (word : List ℕ) × (slice_get words 1 ≡ Some word) × IsVersion word
 
 -- The second word is the command, the file stands behind it, and the options before a "--" say the rest, each exactly where
--- it stands; behind `check`, `rows`, `recover` and `report` there are no others. A commit goes with no part of the whole log,
--- and with a recovery only where that makes another file, and pointer maps with none and with no rows; a report makes one.
+-- it stands; behind `check`, `rows`, `diff`, `recover` and `report` there are no others. A commit goes with no part of the whole
+-- log, with no changes of rows, and with a recovery only where that makes another file, and pointer maps with none and with no
+-- rows; a report makes one.
 abbrev pub Asks : List (List ℕ) → Request → Type 0
 Asks words (Show file part o) =
     (slice_get words 1 ≡ Some (codes "show")) × IsFile words file.now
@@ -209,6 +247,10 @@ Asks words (Rows file table form o) =
     (slice_get words 1 ≡ Some (codes "rows")) × IsFile words file.now
     × ((options : List (List ℕ)) × AreOptions words options × AreKnown Prints options × AsksBesides options o
     × AsksText (codes "--table") options table × AsksForm options form × (o.pointer_maps ≡ false))
+Asks words (Diff file compared o) =
+    (slice_get words 1 ≡ Some (codes "diff")) × IsFile words file.now
+    × ((options : List (List ℕ)) × AreOptions words options × AreKnown Compares options × AsksBesides options o
+    × AsksCompared options compared × (o.at ≡ None) × (o.pointer_maps ≡ false))
 Asks words (Recover file to force o) =
     (slice_get words 1 ≡ Some (codes "recover")) × IsFile words file.now
     × ((options : List (List ℕ)) × AreOptions words options × AreKnown Recovers options × AsksBesides options o
@@ -226,7 +268,7 @@ NamesOfLog options frame = (frame ≢ None) × (Contains options (codes "--log")
 
 -- what the options of a command can't be: those of `show` ask for no part, or for one that has no commits; those of `check`
 -- and `recover` have another among them; those of `recover` name pointer maps, or a commit and no file to be made; those of
--- `report` have another among them, or name no file to be made; those of `rows` as above
+-- `report` have another among them, or name no file to be made; those of `rows` and `diff` as above
 abbrev pub AreAmiss : (command : List ℕ) → (options : List (List ℕ)) → Type 0
 AreAmiss command options =
     (command ≡ codes "check" → ¬ AreKnown Checks options)
@@ -234,6 +276,7 @@ AreAmiss command options =
     ⊎ (((frame : Option ℕ) → AsksAt options frame → frame ≢ None) × HasNoText (codes "--to") options))
     × (command ≡ codes "report" → AreNoReport options)
     × (command ≡ codes "rows" → AreNoRows options)
+    × (command ≡ codes "diff" → AreNoDiff options)
     × (command ≡ codes "show" → AsksNoPart options
     ⊎ ((frame : Option ℕ) × AsksAt options frame × NamesOfLog options frame))
 

@@ -4,5 +4,5 @@
 mod requests;
 mod words;
 
-pub use requests::{Options, Part, Request, RowForm, Style, SuperJournal};
+pub use requests::{ChangeForm, Compared, Options, Part, Request, RowForm, Style, SuperJournal};
 pub use words::{asked, asks_version};

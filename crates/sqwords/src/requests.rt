@@ -44,6 +44,29 @@ pub enum RowForm {
     Sql,
 }
 
+/// How changes of rows are printed.
+#[derive(Clone, Copy, Debug, PartialEq, Eq)]
+pub enum ChangeForm {
+    /// A line a change, behind a line that names the table.
+    Lines,
+    /// As a JSON object a change.
+    Json,
+    /// As a script of SQL.
+    Sql,
+}
+
+/// Between which commits rows are compared, of which tables, and how the changes are printed.
+#[derive(Clone, Copy, Debug, PartialEq, Eq)]
+pub struct Compared<'a> {
+    /// The commit frame of the write-ahead log from which on; 0: the file without its log.
+    pub from: u32,
+    /// The commit frame up to which. None: the last one.
+    pub to: Option<u32>,
+    /// The name of the table. None: each table.
+    pub table: Option<&'a str>,
+    pub form: ChangeForm,
+}
+
 /// What each command may be asked besides.
 #[derive(Clone, Copy, Debug, PartialEq, Eq)]
 pub struct Options {
@@ -82,6 +105,12 @@ pub enum Request<'a> {
         file: &'a str,
         table: Option<&'a str>,
         form: RowForm,
+        options: Options,
+    },
+    /// To print which rows of this database file changed between two commits of its log.
+    Diff {
+        file: &'a str,
+        compared: Compared<'a>,
         options: Options,
     },
     /// To recover this database file: to fold its write-ahead log into it, or to roll it back by its hot journal; by

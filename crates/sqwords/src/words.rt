@@ -2,10 +2,11 @@
 ghost use Rattle.std.specs.Prelude.{◌≡◌, ◌≢◌, ◌⊎◌, ◌<◌, ◌≤◌, ◌++◌, ℕ, false, List, map, length, slice_get, codes, IfOk};
 ghost use Rattle.std.specs.Prelude.{◌↔◌, IfSome, IsTrue, MatchOption, true};
 ghost use Rattle.std.specs.List.{Contains};
-ghost use Rattle.sqwords.specs.Line.{AreKnown, AreNoReport, AreOptions, Asks, AsksAt, AsksBesides, AsksBoth};
+ghost use Rattle.sqwords.specs.Line.{AreKnown, AreNoReport, AreOptions, Asks, AsksBesides, AsksBoth};
 ghost use Rattle.sqwords.specs.Line.{AsksNoPart};
 ghost use Rattle.sqwords.specs.Line.{AsksForm, AsksNoForm, IsOwn};
-ghost use Rattle.sqwords.specs.internal.Line.{AskNoRows, IsReport, IsRows};
+ghost use Rattle.sqwords.specs.Line.{AsksChangeForm, AsksCompared, AsksFrame, AsksNoChangeForm, AsksNothingCompared};
+ghost use Rattle.sqwords.specs.internal.Line.{AskNoDiff, AskNoRows, IsDiff, IsReport, IsRows};
 ghost use Rattle.sqwords.specs.declared.words.Own.{Own};
 ghost use Rattle.sqwords.specs.Line.{AsksNoneBesides, AsksNothing, AsksOf, AsksPart, AsksStyle, AsksVersion};
 ghost use Rattle.sqwords.specs.Line.{HasNoText, HasText, IsCommon, IsFile, IsKnown};
@@ -13,7 +14,7 @@ ghost use Rattle.sqwords.specs.Line.{IsFrameNumber, IsNamed};
 ghost use Rattle.sqwords.specs.Line.{IsPlain, MayBeAt, NamesNoFrame, NamesOfLog, StandsFree, TakesValue};
 ghost use Rattle.sqwords.specs.Line.{IsPageNumber, IsVersion};
 
-use crate::requests::{Options, Part, Request, RowForm, Style, SuperJournal};
+use crate::requests::{ChangeForm, Compared, Options, Part, Request, RowForm, Style, SuperJournal};
 
 /// Whether a word is this text.
 fn stands_in(words: &[&str], text: &str) -> bool
@@ -88,6 +89,8 @@ pub(crate) enum Own {
     Recovers,
     /// `rows`.
     Prints,
+    /// `diff`.
+    Compares,
 }
 
 /// Whether a word is an option of a command, and not of each.
@@ -99,6 +102,12 @@ fn is_own(word: &str, own: Own) -> bool
         Own::Checks => word == "--deep",
         Own::Recovers => word == "--force" || is_named(word, "--to"),
         Own::Prints => word == "--csv" || word == "--sql" || is_named(word, "--table"),
+        Own::Compares => {
+            word == "--sql"
+                || is_named(word, "--table")
+                || is_named(word, "--from")
+                || is_named(word, "--to")
+        }
     }
 }
 
@@ -128,7 +137,7 @@ fn takes_value(word: &str) -> bool
     ensures yes { IsTrue result → TakesValue word.now }
     ensures not { result ≡ false → ¬ TakesValue word.now }
 {
-    word == "--page" || word == "--to" || word == "--at" || word == "--table"
+    word == "--page" || word == "--to" || word == "--at" || word == "--table" || word == "--from"
 }
 
 /// Whether a word behind the command stands for itself.
@@ -299,12 +308,12 @@ fn super_journal_of(options: &[&str]) -> Option<Option<SuperJournal>>
     }
 }
 
-/// The commit that they name. None where what they name is no frame.
-fn commit_of(options: &[&str]) -> Option<Option<u32>>
-    ensures { MatchOption result (NamesNoFrame (map (λ w. w.now) options.entry.now))
-        (AsksAt (map (λ w. w.now) options.entry.now)) }
+/// The commit that the option of this name gives. None where what it gives is no frame.
+fn commit_of(options: &[&str], name: &str) -> Option<Option<u32>>
+    ensures { MatchOption result (NamesNoFrame name.now (map (λ w. w.now) options.entry.now))
+        (AsksFrame name.now (map (λ w. w.now) options.entry.now)) }
 {
-    match text_of(options, "--at") {
+    match text_of(options, name) {
         Some(text) => Some(Some(frame_number(text)?)),
         None => Some(None),
     }
@@ -328,7 +337,7 @@ fn besides(options: &[&str]) -> Option<Options>
 {
     let verbose = stands_in(options, "-v") || stands_in(options, "--verbose");
     let super_journal = super_journal_of(options)?;
-    let at = commit_of(options)?;
+    let at = commit_of(options, "--at")?;
     let style = style_of(options);
     let large = stands_in(options, "--large");
     let pointer_maps = stands_in(options, "--pointer-maps");
@@ -410,6 +419,57 @@ fn rows_asked<'a>(given: &'a [&'a str], file: &'a str, options: Options) -> Opti
     })
 }
 
+/// The form of changes that they ask for. None where they ask for two.
+fn change_form_of(options: &[&str]) -> Option<ChangeForm>
+    ensures { MatchOption result (AsksNoChangeForm (map (λ w. w.now) options.entry.now))
+        (AsksChangeForm (map (λ w. w.now) options.entry.now)) }
+{
+    let json = stands_in(options, "--json");
+    let sql = stands_in(options, "--sql");
+    match (json, sql) {
+        (true, true) => None,
+        (true, false) => Some(ChangeForm::Json),
+        (false, true) => Some(ChangeForm::Sql),
+        (false, false) => Some(ChangeForm::Lines),
+    }
+}
+
+/// What they ask to be compared. None where they name no frame for a commit, or ask for two forms.
+fn compared_of<'a>(given: &'a [&'a str]) -> Option<Compared<'a>>
+    ensures { MatchOption result (AsksNothingCompared (map (λ w. w.now) given.entry.now))
+        (AsksCompared (map (λ w. w.now) given.entry.now)) }
+{
+    let from = commit_of(given, "--from")?;
+    let to = commit_of(given, "--to")?;
+    let form = change_form_of(given)?;
+    let table = text_of(given, "--table");
+    Some(Compared {
+        from: from.unwrap_or(0),
+        to,
+        table,
+        form,
+    })
+}
+
+/// What the options of `diff` ask for. None where they don't say so.
+fn diff_asked<'a>(given: &'a [&'a str], file: &'a str, options: Options) -> Option<Request<'a>>
+    ensures { MatchOption result (AskNoDiff (map (λ w. w.now) given.entry.now) options)
+        (IsDiff (map (λ w. w.now) given.entry.now) file.entry options) }
+{
+    if options.pointer_maps || !are_known(given, Own::Compares) {
+        return None;
+    }
+    if options.at.is_some() {
+        return None;
+    }
+    let compared = compared_of(given)?;
+    Some(Request::Diff {
+        file,
+        compared,
+        options,
+    })
+}
+
 /// Whether the options behind `recover` are such as it has.
 fn may_recover(given: &[&str], options: Options) -> bool
     ensures known { IsTrue result → AreKnown Own.Recovers (map (λ w. w.now) given.entry.now) }
@@ -443,6 +503,9 @@ pub fn asked<'a>(words: &'a [&'a str], command: &str, file: &'a str) -> Option<R
     }
     if command == "rows" {
         return rows_asked(given, file, options);
+    }
+    if command == "diff" {
+        return diff_asked(given, file, options);
     }
     if command == "check" && are_known(given, Own::Checks) {
         let deep = stands_in(given, "--deep");

@@ -1,14 +1,15 @@
 -- What the words of a command line ask for.
-use Rattle.std.specs.Prelude.{◌≡◌, ◌⊎◌, false, IsTrue, Option, ℕ}
+use Rattle.std.specs.Prelude.{◌≡◌, ◌≢◌, ◌⊎◌, false, IsTrue, Option, None, ℕ}
 use Rattle.std.specs.Prelude.{List, codes}
 use Rattle.std.specs.Borrow.{Bor}
 use Rattle.std.specs.List.{Contains}
+use Rattle.sqwords.specs.declared.requests.Compared.{Compared}
 use Rattle.sqwords.specs.declared.requests.Options.{Options}
 use Rattle.sqwords.specs.declared.requests.Request.{Request}
-use Rattle.sqwords.specs.declared.requests.Request.TheVariants.{Report, Rows}
+use Rattle.sqwords.specs.declared.requests.Request.TheVariants.{Report, Rows, Diff}
 use Rattle.sqwords.specs.declared.requests.RowForm.{RowForm}
-use Rattle.sqwords.specs.declared.words.Own.TheVariants.{Recovers, Prints}
-use Rattle.sqwords.specs.Line.{HasText, AreKnown, AsksForm, AsksNoForm, AsksText}
+use Rattle.sqwords.specs.declared.words.Own.TheVariants.{Recovers, Prints, Compares}
+use Rattle.sqwords.specs.Line.{HasText, AreKnown, AsksCompared, AsksForm, AsksNoForm, AsksNothingCompared, AsksText}
 
 -- the options of a report say this: the file that it makes, and what else is asked
 abbrev pub IsReport : (options : List (List ℕ)) → (file : Bor (List ℕ)) → Options → Request → Type 0
@@ -24,3 +25,12 @@ IsRows options file o request = AreKnown Prints options × (o.pointer_maps ≡ f
 -- they don't
 abbrev pub AskNoRows : (options : List (List ℕ)) → Options → Type 0
 AskNoRows options o = (¬ AreKnown Prints options) ⊎ IsTrue o.pointer_maps ⊎ AsksNoForm options
+
+-- the options of `diff` say this: what is compared, and what else is asked
+abbrev pub IsDiff : (options : List (List ℕ)) → (file : Bor (List ℕ)) → Options → Request → Type 0
+IsDiff options file o request = AreKnown Compares options × (o.pointer_maps ≡ false) × (o.at ≡ None)
+    × ((compared : Compared) × AsksCompared options compared × (request ≡ Diff file compared o))
+
+-- they don't
+abbrev pub AskNoDiff : (options : List (List ℕ)) → Options → Type 0
+AskNoDiff options o = (¬ AreKnown Compares options) ⊎ IsTrue o.pointer_maps ⊎ (o.at ≢ None) ⊎ AsksNothingCompared options

@@ -2,9 +2,9 @@ use Rattle.std.proofs.Common.{◌∙◌, ap, map, refl, sym, inl, inr, true, fal
 use Rattle.std.specs.Prelude.{Some}
 use Rattle.std.specs.Cmp.Lexicographic.{bytes_decides}
 use Rattle.sqwords.proofs.CommandLineArguments.{agree, differ, told}
-use Rattle.sqwords.proofs.OptionsOfCommand.{others, report_asks, rows_asks, show_amiss, at_named, at_none, asks_to, no_to, some_to}
+use Rattle.sqwords.proofs.OptionsOfCommand.{others, diff_asks, report_asks, rows_asks, show_amiss, at_named, at_none, asks_to, no_to, some_to}
 use Rattle.sqwords.proofs.words.asked.Goals as goal
-use Rattle.sqwords.proofs.words.asked.Goals.{else-eq-4-via-then-eq-4+else-are_known, else-eq-4-via-else-eq-4}
+use Rattle.sqwords.proofs.words.asked.Goals.{else-eq-5-via-then-eq-5+else-are_known, else-eq-5-via-else-eq-5}
 use Rattle.sqwords.proofs.words.asked.Goals.{then-ne-via-then-ne, then-ne-via-else-ne+then-not-may_recover}
 use Rattle.sqwords.proofs.words.asked.Goals.{else-is_none-via-then-is_none+else-is_some, else-is_none-via-else-is_none}
 
@@ -41,9 +41,18 @@ returns-then-eq-3 c = rows_asks (map (λ w. w.now) c.args.words.now) c.args.comm
     c.in_ok-options.ensures
     c.rows_asked.ensures
 
+pub returns-then-eq-4 : goal.returns-then-eq-4
+returns-then-eq-4 c = diff_asks (map (λ w. w.now) c.args.words.now) c.args.command.now _ (map (λ w. w.now) c.options_of-given.result.now) _ _
+    ((bytes_decides _ _).0 (sym c.if-eq-4.ensures))
+    (c.if-not-is_asked.ensures.second refl)
+    (c.if-not-is_asked.ensures.file refl)
+    c.options_of-given.ensures
+    c.in_ok-options.ensures
+    c.diff_asked.ensures
+
 pub returns-then-are_known : goal.returns-then-are_known
 returns-then-are_known c = (
-  c.if-not-is_asked.ensures.second refl ∙ ap Some ((bytes_decides _ _).0 (sym c.if-eq-4.ensures)),
+  c.if-not-is_asked.ensures.second refl ∙ ap Some ((bytes_decides _ _).0 (sym c.if-eq-5.ensures)),
   c.if-not-is_asked.ensures.file refl,
   (
     map (λ w. w.now) c.options_of-given.result.now,
@@ -60,9 +69,9 @@ returns-then-ne c = λ _ _.
       options,
       c.options_of-given.ensures,
       inr (
-        (λ is. elim c.else-eq-4.branch [
-          | else-eq-4-via-then-eq-4+else-are_known w ↦ w.if-are_known.ensures.not refl
-          | else-eq-4-via-else-eq-4 w ↦ absurd (others _ _ w.if-eq-4.ensures is)
+        (λ is. elim c.else-eq-5.branch [
+          | else-eq-5-via-then-eq-5+else-are_known w ↦ w.if-are_known.ensures.not refl
+          | else-eq-5-via-else-eq-5 w ↦ absurd (others _ _ w.if-eq-5.ensures is)
         ]),
         (λ is. elim c.then-ne.branch [
           | then-ne-via-then-ne w ↦ absurd (differ _ _ true w.if-ne.ensures refl is)
@@ -73,6 +82,7 @@ returns-then-ne c = λ _ _.
         ]),
         (λ is. absurd (others _ _ c.if-eq-2.ensures is)),
         (λ is. absurd (others _ _ c.if-eq-3.ensures is)),
+        (λ is. absurd (others _ _ c.if-eq-4.ensures is)),
         (λ is. absurd (others _ _ c.if-eq.ensures is)),
       ),
     )
@@ -83,9 +93,9 @@ returns-then-is_some c = λ _ _.
       options,
       c.options_of-given.ensures,
       inr (
-        (λ is. elim c.else-eq-4.branch [
-          | else-eq-4-via-then-eq-4+else-are_known w ↦ w.if-are_known.ensures.not refl
-          | else-eq-4-via-else-eq-4 w ↦ absurd (others _ _ w.if-eq-4.ensures is)
+        (λ is. elim c.else-eq-5.branch [
+          | else-eq-5-via-then-eq-5+else-are_known w ↦ w.if-are_known.ensures.not refl
+          | else-eq-5-via-else-eq-5 w ↦ absurd (others _ _ w.if-eq-5.ensures is)
         ]),
         (λ _. inr (inr (
           at_named options c.in_ok-options.options.at c.if-is_some.ensures c.in_ok-options.ensures.at_commit,
@@ -93,6 +103,7 @@ returns-then-is_some c = λ _ _.
         ))),
         (λ is. absurd (others _ _ c.if-eq-2.ensures is)),
         (λ is. absurd (others _ _ c.if-eq-3.ensures is)),
+        (λ is. absurd (others _ _ c.if-eq-4.ensures is)),
         (λ is. absurd (others _ _ c.if-eq.ensures is)),
       ),
     )

@@ -1,0 +1,2 @@
+pub mod DifferencesWritten
+pub mod Answered

@@ -1,0 +1,4 @@
+pub mod Changes
+pub mod Heads
+pub mod Refusals
+pub mod internal

@@ -1,0 +1,29 @@
+//! How changes are written (own).
+use sqtables::Columns;
+
+/// As what a change is written.
+#[derive(Clone, Copy, Debug, PartialEq, Eq)]
+pub enum Writing {
+    /// As a line that begins with `+`, `-` or `~`, values as in SQL.
+    Line,
+    /// As an object of JSON (RFC 8259).
+    Object,
+    /// As the DELETE of the row that went or changed.
+    Removal,
+    /// As the INSERT of the row that came, or of what one that changed is now.
+    Arrival,
+}
+
+/// How the changes of a table are written.
+#[derive(Clone, Copy)]
+pub struct Style<'a> {
+    pub writing: Writing,
+    /// The table's columns.
+    pub columns: &'a Columns,
+    /// What stands before the first change.
+    pub before: &'a [u8],
+    /// What an object, a DELETE or an INSERT begins with.
+    pub head: &'a [u8],
+    /// Whether the rowid stands before the values of an INSERT.
+    pub leads: bool,
+}

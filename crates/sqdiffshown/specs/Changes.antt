@@ -1,0 +1,103 @@
+-- The changes between two databases as they are printed, and why they aren't (own).
+use Rattle.std.specs.Prelude.{◌≡◌, ◌⊎◌, ◌≤◌, ℕ, Bool, true, false, List, [], length, Option, Some, None, option_map, All}
+use Rattle.std.specs.Borrow.{Bor}
+use Rattle.std.specs.Io.KnownBytes.{Appends}
+use Rattle.std.specs.List.{Contains}
+use Rattle.sqval.specs.Bytes.{word}
+use Rattle.sqval.specs.Database.{Database, page}
+use Rattle.sqtables.specs.declared.list.Object.{Object}
+use Rattle.sqtables.specs.Objects.{HasObjects, IsTableNamed}
+use Rattle.sqrowshown.specs.declared.stop.Stop.{Stop}
+use Rattle.sqrowshown.specs.declared.stop.Stop.TheVariants.{NotUnderstood, NoSuchTable}
+use Rattle.sqrowshown.specs.Stops.{IsWriteError, SchemaRefused}
+use Rattle.sqdiffshown.specs.declared.changes.Schemas.{Schemas}
+use Rattle.sqdiffshown.specs.declared.form.ChangeForm.{ChangeForm}
+use Rattle.sqdiffshown.specs.declared.pair.Pair.{Pair}
+use Rattle.sqdiffshown.specs.declared.turn.Turn.{Turn}
+use Rattle.sqdiffshown.specs.declared.turn.Side.TheVariants.{Old, New}
+use Rattle.sqdiffshown.specs.Frames.{IsWritten, closing_text, opening_text}
+use Rattle.sqdiffshown.specs.Pairs.{IsPairPrinted, IsPairStopped}
+use Rattle.sqdiffshown.specs.Turns.{AreTurnsPrinted, AreTurnsStopped, IsFound}
+
+-- the objects of a database, whose texts are UTF-8; one without pages has none
+abbrev pub HasObjectsOf : Database → List Object → Type 0
+HasObjectsOf d objects = ((length d ≡ 0) × (objects ≡ [])) ⊎ (HasObjects d objects × (word (page d 1) 56 ≤ 1))
+
+-- the tables of the old database in their turn, and those of the new one that it lacks
+abbrev pub turn_old : Schemas → (internal : Bool) → Turn
+turn_old schemas internal = record { side = Old; internal = internal; objects = schemas.old; others = schemas.new }
+
+abbrev pub turn_new : Schemas → (internal : Bool) → Turn
+turn_new schemas internal = record { side = New; internal = internal; objects = schemas.new; others = schemas.old }
+
+-- The changes of the user's tables were printed, or of SQLite's own: first of those that the old database has.
+abbrev pub AreTablesPrinted : Database → Database → Schemas → (internal : Bool) → ChangeForm → (before after : Option (List ℕ)) → Type 0
+AreTablesPrinted d e schemas internal form before after =
+    (mid : Option (List ℕ)) × AreTurnsPrinted d e (turn_old schemas internal) form schemas.old.now before mid
+    × AreTurnsPrinted d e (turn_new schemas internal) form schemas.new.now mid after
+
+abbrev pub AreTablesStopped : Database → Database → Schemas → (internal : Bool) → ChangeForm → Stop → (before after : Option (List ℕ)) → Type 0
+AreTablesStopped d e schemas internal form stop before after =
+    AreTurnsStopped d e (turn_old schemas internal) form schemas.old.now stop before after
+    ⊎ ((mid : Option (List ℕ)) × AreTurnsPrinted d e (turn_old schemas internal) form schemas.old.now before mid
+    × AreTurnsStopped d e (turn_new schemas internal) form schemas.new.now stop mid after)
+
+-- Those of all tables were, SQLite's own last.
+abbrev pub AreAllPrinted : Database → Database → Schemas → ChangeForm → (before after : Option (List ℕ)) → Type 0
+AreAllPrinted d e schemas form before after =
+    (mid : Option (List ℕ)) × AreTablesPrinted d e schemas false form before mid × AreTablesPrinted d e schemas true form mid after
+
+abbrev pub AreAllStopped : Database → Database → Schemas → ChangeForm → Stop → (before after : Option (List ℕ)) → Type 0
+AreAllStopped d e schemas form stop before after =
+    AreTablesStopped d e schemas false form stop before after
+    ⊎ ((mid : Option (List ℕ)) × AreTablesPrinted d e schemas false form before mid × AreTablesStopped d e schemas true form stop mid after)
+
+-- the tables of this name in both databases
+abbrev pub IsPairNamed : Schemas → (name : List ℕ) → Pair → Type 0
+IsPairNamed schemas name pair = IsFound name schemas.old.now pair.old × IsFound name schemas.new.now pair.new
+
+-- The changes of the table of this name were printed.
+abbrev pub IsNamedPrinted : Database → Database → Schemas → (name : List ℕ) → ChangeForm → (before after : Option (List ℕ)) → Type 0
+IsNamedPrinted d e schemas name form before after = (pair : Pair) × IsPairNamed schemas name pair × IsPairPrinted d e pair form before after
+
+abbrev pub IsNamedStopped : Database → Database → Schemas → (name : List ℕ) → ChangeForm → Stop → (before after : Option (List ℕ)) → Type 0
+IsNamedStopped d e schemas name form stop before after =
+    (All (λ o. ¬ IsTableNamed name o) schemas.old.now × All (λ o. ¬ IsTableNamed name o) schemas.new.now × (stop ≡ NoSuchTable) × (before ≡ after))
+    ⊎ ((pair : Pair) × IsPairNamed schemas name pair × IsPairStopped d e pair form stop before after)
+
+-- the bytes of a name, if there is one
+abbrev pub text_of : Option (Bor (List ℕ)) → Option (List ℕ)
+text_of name = option_map (λ n. n.now) name
+
+-- Those of the table that is asked for were, or of all.
+abbrev pub AreAskedPrinted : Database → Database → Schemas → (table : Option (List ℕ)) → ChangeForm → (before after : Option (List ℕ)) → Type 0
+AreAskedPrinted d e schemas (Some name) form before after = IsNamedPrinted d e schemas name form before after
+AreAskedPrinted d e schemas None form before after = AreAllPrinted d e schemas form before after
+
+abbrev pub AreAskedStopped : Database → Database → Schemas → (table : Option (List ℕ)) → ChangeForm → Stop → (before after : Option (List ℕ)) → Type 0
+AreAskedStopped d e schemas (Some name) form stop before after = IsNamedStopped d e schemas name form stop before after
+AreAskedStopped d e schemas None form stop before after = AreAllStopped d e schemas form stop before after
+
+-- They were printed between what stands before and behind them.
+abbrev pub AreFramedPrinted : Database → Database → Schemas → (table : Option (List ℕ)) → ChangeForm → (before after : Option (List ℕ)) → Type 0
+AreFramedPrinted d e schemas table form before after =
+    (begun ended : Option (List ℕ)) × Appends before begun (opening_text form schemas.old.now) × AreAskedPrinted d e schemas table form begun ended
+    × Appends ended after (closing_text form schemas.new.now)
+
+-- They weren't: the writer failed, an object can't be written, or the printing stopped behind what stands before.
+abbrev pub AreFramedStopped : Database → Database → Schemas → (table : Option (List ℕ)) → ChangeForm → Stop → (before after : Option (List ℕ)) → Type 0
+AreFramedStopped d e schemas table form stop before after =
+    IsWriteError stop
+    ⊎ ((o : Object) × (Contains schemas.old.now o ⊎ Contains schemas.new.now o) × (¬ IsWritten form o) × (stop ≡ NotUnderstood) × (before ≡ after))
+    ⊎ ((begun : Option (List ℕ)) × Appends before begun (opening_text form schemas.old.now) × AreAskedStopped d e schemas table form stop begun after)
+
+-- The changes between two databases were printed.
+abbrev pub AreChangesPrinted : Database → Database → (table : Option (List ℕ)) → ChangeForm → (before after : Option (List ℕ)) → Type 0
+AreChangesPrinted d e table form before after =
+    (schemas : Schemas) × HasObjectsOf d schemas.old.now × HasObjectsOf e schemas.new.now × AreFramedPrinted d e schemas table form before after
+
+-- They weren't to their end: the objects of one of both aren't listed, or the printing stopped.
+abbrev pub AreChangesStopped : Database → Database → (table : Option (List ℕ)) → ChangeForm → Stop → (before after : Option (List ℕ)) → Type 0
+AreChangesStopped d e table form stop before after =
+    ((SchemaRefused d stop ⊎ SchemaRefused e stop) × (before ≡ after))
+    ⊎ ((schemas : Schemas) × HasObjectsOf d schemas.old.now × HasObjectsOf e schemas.new.now × AreFramedStopped d e schemas table form stop before after)

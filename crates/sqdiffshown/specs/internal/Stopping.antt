@@ -1,0 +1,23 @@
+-- What a stop is told for (own).
+use Rattle.std.specs.Prelude.{ℕ, Bool, true, false}
+use Rattle.sqpage.specs.declared.fault.Fault.TheVariants as faults
+use Rattle.sqrowshown.specs.declared.stop.Stop.{Stop}
+use Rattle.sqrowshown.specs.declared.stop.Stop.TheVariants.{Fault, Record, NotUnderstood}
+use Rattle.sqrowshown.specs.internal.Stopping.{stop_of_row}
+use Rattle.sqdiff.specs.declared.error.SideError.{SideError}
+use Rattle.sqdiff.specs.declared.error.SideError.TheVariants as sides
+use Rattle.sqdiff.specs.declared.error.DiffError.{DiffError}
+use Rattle.sqdiff.specs.declared.error.DiffError.TheVariants.{Old, New}
+
+abbrev pub unordered : (root : ℕ) → (is_known : Bool) → Stop
+unordered root true = Fault (record { page = root; fault = faults.KeyOrder })
+unordered root false = NotUnderstood
+
+abbrev pub stop_of_side : SideError → (root : ℕ) → (is_known : Bool) → Stop
+stop_of_side (sides.Rows error) root is_known = stop_of_row error
+stop_of_side (sides.Record error) root is_known = Record error
+stop_of_side sides.Unordered root is_known = unordered root is_known
+
+abbrev pub stop_of_diff : DiffError → (roots : ℕ × ℕ) → (is_known : Bool) → Stop
+stop_of_diff (Old error) roots is_known = stop_of_side error roots.0 is_known
+stop_of_diff (New error) roots is_known = stop_of_side error roots.1 is_known

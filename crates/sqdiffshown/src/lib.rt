@@ -1,0 +1,15 @@
+//! The changes of rows between two databases as they are printed: of each table exactly its changes, each once.
+#![tactic(auto)]
+
+mod both;
+mod changes;
+mod form;
+mod frame;
+mod one;
+mod pair;
+mod stop;
+mod table;
+mod turn;
+
+pub use changes::print_changes;
+pub use form::ChangeForm;

@@ -1,0 +1,37 @@
+-- The changes of rows that are shown of a database.
+use Rattle.std.specs.Prelude.{◌≡◌, ◌⊎◌, ℕ, List, Option, Some, None, Result, MatchResult}
+use Rattle.sqval.specs.Database.{Database}
+use Rattle.sqwords.specs.declared.requests.ChangeForm.{ChangeForm as AskedForm}
+use Rattle.sqwords.specs.declared.requests.ChangeForm.TheVariants as asked
+use Rattle.sqwords.specs.declared.requests.Compared.{Compared}
+use Rattle.sqwords.specs.declared.requests.Options.{Options}
+use Rattle.sqfacts.specs.declared.outcome.Refusal.{Refusal}
+use Rattle.sqrowshown.specs.declared.stop.Stop.{Stop}
+use Rattle.sqdiffshown.specs.declared.form.ChangeForm.{ChangeForm}
+use Rattle.sqdiffshown.specs.declared.form.ChangeForm.TheVariants.{Lines, Json, Sql}
+use Rattle.sqdiffshown.specs.Changes.{AreChangesPrinted, AreChangesStopped, text_of}
+use Rattle.sqshown.specs.declared.contents.Contents.{Contents}
+use Rattle.sqshown.specs.Views.{AskedShows, IsUnasked}
+
+-- the form of changes that is asked for
+abbrev pub change_form_named : AskedForm → ChangeForm
+change_form_named asked.Lines = Lines
+change_form_named asked.Json = Json
+change_form_named asked.Sql = Sql
+
+-- They were those between the databases at both commits, to their end or up to the stop that is told.
+abbrev pub AreChangesShown : Compared → (from to : Contents (List ℕ)) → (before after : Option (List ℕ)) → Result (Unit {0}) Stop → Type 0
+AreChangesShown compared from to before after ended =
+    (old_size new_size : ℕ) × (d e : Database) × AskedShows (Some compared.from) old_size from.db from.wal from.journal d
+    × AskedShows compared.to new_size to.db to.wal to.journal e
+    × MatchResult ended (λ _. AreChangesPrinted d e (text_of compared.table) (change_form_named compared.form) before after) (λ stop. AreChangesStopped d e (text_of compared.table) (change_form_named compared.form) stop before after)
+
+-- the options with another commit
+abbrev pub at_commit : Options → Option ℕ → Options
+at_commit options frame = record options { at = frame }
+
+-- There is no view at one of both commits, for this.
+abbrev pub IsUncompared : Options → Compared → (from to : Contents (List ℕ)) → Refusal → Type 0
+IsUncompared options compared from to refusal =
+    IsUnasked (at_commit options (Some compared.from)) from.db from.wal from.journal refusal
+    ⊎ IsUnasked (at_commit options compared.to) to.db to.wal to.journal refusal

@@ -1,0 +1,92 @@
+//! The changes of rows between two commits of a log.
+ghost use Rattle.std.specs.Prelude.{◌≡◌, IfErr, IfOk, OnOk};
+ghost use Rattle.sqshown.specs.Contents.{AreGiven, contents_of};
+ghost use Rattle.sqshown.specs.Fronts.{IsAskedFront};
+ghost use Rattle.sqdiffshown.specs.Changes.{AreChangesPrinted, AreChangesStopped, text_of};
+ghost use Rattle.sqdump.specs.Changes.{AreChangesShown, IsUncompared, change_form_named};
+
+use crate::rows::Printed;
+use sqdiffshown::{ChangeForm, print_changes};
+use sqfacts::{Front, Refusal};
+use sqpage::PageSource;
+use sqrowshown::Stop;
+use sqshown::{Contents, limits_of, view_of};
+use sqview::FileBytes;
+use sqwords::{ChangeForm as AskedForm, Compared, Options};
+use std::alloc::Global;
+use std::io::Write;
+
+/// The form of changes that is asked for.
+fn change_form_of(form: AskedForm) -> ChangeForm
+    ensures { result ≡ change_form_named form }
+{
+    match form {
+        AskedForm::Lines => ChangeForm::Lines,
+        AskedForm::Json => ChangeForm::Json,
+        AskedForm::Sql => ChangeForm::Sql,
+    }
+}
+
+/// The name of the table, as bytes.
+fn table_of<'a>(name: Option<&'a str>) -> Option<&'a [u8]>
+    ensures { text_of result ≡ text_of name.entry }
+{
+    match name {
+        Some(name) => Some(name.as_bytes()),
+        None => None,
+    }
+}
+
+/// Prints the changes between two databases.
+fn print_between<S: PageSource, T: PageSource, W: Write>(
+    alloc: Global,
+    old: &mut S,
+    new: &mut T,
+    compared: Compared<'_>,
+    out: &mut W,
+) -> Result<(), Stop>
+    ensures ok { S.gives_pages old.old → T.gives_pages new.old → OnOk result (AreChangesPrinted (S.pages old.old)
+        (T.pages new.old) (text_of compared.entry.table) (change_form_named compared.entry.form)
+        (W.contents out.old) (W.contents out.new)) }
+    ensures err { S.gives_pages old.old → T.gives_pages new.old → IfErr result (λ stop. AreChangesStopped
+        (S.pages old.old) (T.pages new.old) (text_of compared.entry.table) (change_form_named compared.entry.form) stop
+        (W.contents out.old) (W.contents out.new)) }
+{
+    let (table, form) = (table_of(compared.table), change_form_of(compared.form));
+    print_changes(alloc, old, new, table, form, out)
+}
+
+/// Prints the changes of rows of a database between two commits of its log, of which the files are given twice. Refused
+/// as either view is; where the changes aren't printed to their end, those before stand.
+pub fn show_changes<F: FileBytes + Drop, W: Write>(
+    alloc: Global,
+    from: Contents<F>,
+    to: Contents<F>,
+    options: Options,
+    compared: Compared<'_>,
+    out: &mut W,
+) -> Result<Printed, Refusal>
+    ensures front { AreGiven F.gives_bytes from → AreGiven F.gives_bytes to → IfOk result (λ printed.
+        IsAskedFront compared.entry.to (F.bytes to.wal) (F.bytes to.journal) printed.front) }
+    ensures shown { AreGiven F.gives_bytes from → AreGiven F.gives_bytes to → IfOk result (λ printed. AreChangesShown
+        compared.entry (contents_of F.bytes from) (contents_of F.bytes to) (W.contents out.old) (W.contents out.new)
+        printed.ended) }
+    ensures refused { AreGiven F.gives_bytes from → AreGiven F.gives_bytes to → IfErr result (IsUncompared options
+        compared.entry (contents_of F.bytes from) (contents_of F.bytes to)) }
+{
+    let Contents { db, wal, journal } = from;
+    let limits = limits_of(options);
+    let mut old = match view_of(alloc, limits, db, wal, journal, Some(compared.from)) {
+        Ok(view) => view,
+        Err(error) => return Err(Refusal::from(error)),
+    };
+    let Contents { db, wal, journal } = to;
+    match view_of(alloc, limits, db, wal, journal, compared.to) {
+        Ok(mut new) => {
+            let front = Front::of_view(&new);
+            let ended = print_between(alloc, &mut old, &mut new, compared, out);
+            Ok(Printed { front, ended })
+        }
+        Err(error) => Err(Refusal::from(error)),
+    }
+}
