@@ -1,5 +1,5 @@
 //! A real file as the bytes of a database or a log.
-ghost use Rattle.std.specs.Prelude.{[]};
+ghost use Rattle.std.specs.Prelude.{◌↔◌, [], IsSome};
 ghost use Rattle.sqopen.specs.Files.{IsMissing, IsOpenedAt};
 
 use crate::place::Place;
@@ -16,7 +16,8 @@ pub struct OpenedFile<'a, F> {
 }
 
 impl<'a, F> OpenedFile<'a, F> {
-    pub(crate) fn new(file: F, length: u64, place: &'a Place) -> OpenedFile<'a, F>
+    /// A file of this length that was opened at this place.
+    pub fn new(file: F, length: u64, place: &'a Place) -> OpenedFile<'a, F>
         ensures { IsOpenedAt result place.entry.now length }
     {
         OpenedFile {
@@ -32,6 +33,17 @@ impl<'a, F> OpenedFile<'a, F> {
         OpenedFile {
             file: None,
             length: 0,
+        }
+    }
+
+    /// The file as it was opened; none where it is missing.
+    pub fn into_file(self) -> Option<F>
+        ensures { IsSome result ↔ IsSome self.entry.file }
+    {
+        let OpenedFile { file, length: _ } = self;
+        match file {
+            Some((file, _)) => Some(file),
+            None => None,
         }
     }
 }

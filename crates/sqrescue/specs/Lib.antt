@@ -1,2 +1,6 @@
+pub mod Answers
+pub mod Commands
+pub mod Jobs
 pub mod Locking
+pub mod Plans
 pub mod Sources

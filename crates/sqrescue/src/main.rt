@@ -3,22 +3,26 @@
 
 ghost use Rattle.std.specs.Prelude.{◌≤◌, IfOk};
 
+mod answers;
 mod attempts;
 mod checking;
+mod commands;
 mod copies;
+mod diffs;
 mod hints;
+mod jobs;
 mod locking;
 mod metered;
 mod opening;
 mod outcomes;
+mod outputs;
 mod pages;
+mod plans;
 mod program;
 mod recovering;
 mod reports;
 mod rows;
-mod showing;
 mod sources;
-mod surveys;
 
 use std::env::{self, Env};
 use std::io::{self, IsTerminal, Write};

@@ -1,4 +1,6 @@
 //! A file of which it is counted how much is read.
+ghost use Rattle.std.specs.Prelude.{◌≡◌};
+
 use sqopen::Count;
 use sqpage::SourceError;
 use sqshown::Contents;
@@ -21,6 +23,14 @@ impl<F: Drop, M> Drop for Metered<'_, F, M> {
 impl<'a, F, M> Metered<'a, F, M> {
     pub(crate) fn new(file: F, meter: Option<&'a M>) -> Metered<'a, F, M> {
         Metered { file, meter }
+    }
+
+    /// The file, of which nothing is counted any more.
+    pub(crate) fn into_file(self) -> F
+        ensures { result ≡ self.entry.file }
+    {
+        let Metered { file, meter: _ } = self;
+        file
     }
 }
 
@@ -72,15 +82,17 @@ pub(crate) fn all_metered<'a, F, M>(
     }
 }
 
-/// A database file, of which it is counted what is read from now on, and its logs.
+/// A database file, of which it is counted what is read from now on, if somebody counts, and its logs.
 pub(crate) fn db_metered<'a, F: FileBytes, M: Count>(
     files: Contents<F>,
-    meter: &'a M,
+    meter: Option<&'a M>,
 ) -> Contents<Metered<'a, F, M>> {
     let Contents { db, wal, journal } = files;
-    meter.begin(db.len());
+    if let Some(meter) = meter {
+        meter.begin(db.len());
+    }
     Contents {
-        db: Metered::new(db, Some(meter)),
+        db: Metered::new(db, meter),
         wal: Metered::new(wal, None),
         journal: Metered::new(journal, None),
     }

@@ -1,7 +1,10 @@
 //! The opened files of a database.
+ghost use Rattle.std.specs.Prelude.{IfErr};
+ghost use Rattle.sqopen.specs.Refusals.{IsFromSystem};
+
 use sqfacts::{Notes, Refusal};
 use sqopen::{
-    Beheld, Beside, OpenedFile, Paths, counting_log, open_database, open_logs, tell_alone,
+    Beheld, Beside, OpenedFile, Paths, counting_log, look_at, open_database, open_logs, tell_alone,
     tell_length,
 };
 use sqshown::Contents;
@@ -32,36 +35,17 @@ fn as_asked<F: Drop>(
 }
 
 /// Says where a database file that no log counts beside isn't as long as its header says.
-fn tell_by_log<'a, F: FileExt, E: Write>(
+fn tell_by_log<F: FileExt, E: Write>(
     paths: &Paths,
-    db: &OpenedFile<'a, F>,
-    wal: &OpenedFile<'a, F>,
-    journal: &mut OpenedFile<'a, F>,
+    files: &mut Contents<OpenedFile<'_, F>>,
     notes: &mut Notes<'_, E>,
 ) -> Result<(), Refusal> {
-    if counting_log(wal, journal)? == LogInUse::Neither {
-        tell_alone(paths, db, notes)?;
+    if counting_log(&files.wal, &mut files.journal)? == LogInUse::Neither {
+        tell_alone(paths, &files.db, notes)?;
     } else {
-        tell_length(notes, paths.db.as_str(), db);
+        tell_length(notes, paths.db.as_str(), &files.db);
     }
     Ok(())
-}
-
-/// The files. Where no log counts it is said where the database file isn't as long as its header says.
-fn told_alone<'a, F: FileExt + Drop, E: Write>(
-    paths: &Paths,
-    files: Contents<OpenedFile<'a, F>>,
-    notes: &mut Notes<'_, E>,
-) -> Result<Contents<OpenedFile<'a, F>>, Refusal> {
-    let Contents {
-        db,
-        wal,
-        mut journal,
-    } = files;
-    match tell_by_log(paths, &db, &wal, &mut journal, notes) {
-        Ok(()) => Ok(Contents { db, wal, journal }),
-        Err(refusal) => Err(refusal),
-    }
 }
 
 /// Opens a database file and its logs, of which each may be missing, and says what the system says of the file.
@@ -80,11 +64,12 @@ where
         wal,
         journal,
     } = open_logs(rt, paths, super_journal, at, notes)?;
-    match open_database(rt, paths, &found, notes) {
-        Ok(db) => {
-            let files = told_alone(paths, as_asked(Contents { db, wal, journal }, at), notes)?;
-            Ok((found, files))
-        }
+    let mut files = match open_database(rt, paths, &found, notes) {
+        Ok(db) => as_asked(Contents { db, wal, journal }, at),
+        Err(refusal) => return Err(refusal),
+    };
+    match tell_by_log(paths, &mut files, notes) {
+        Ok(()) => Ok((found, files)),
         Err(refusal) => Err(refusal),
     }
 }
@@ -103,5 +88,39 @@ where
     match open_seen(rt, paths, super_journal, at, notes) {
         Ok((_, files)) => Ok(files),
         Err(refusal) => Err(refusal),
+    }
+}
+
+/// Opens the logs of a database file, of which each may be missing. The file is looked at, and taken as missing.
+pub(crate) fn logs_alone<'a, R: Files, E: Write>(
+    rt: &R,
+    paths: &'a Paths,
+    super_journal: Option<SuperJournal>,
+    at: Option<u32>,
+    notes: &mut Notes<'_, E>,
+) -> Result<Contents<OpenedFile<'a, R::File>>, Refusal>
+where
+    R::File: FileExt,
+    ensures refused { IfErr result IsFromSystem }
+{
+    tell_seen(rt, paths, notes);
+    match open_logs(rt, paths, super_journal, at, notes) {
+        Ok(Beside { wal, journal, .. }) => Ok(Contents {
+            db: OpenedFile::missing(),
+            wal,
+            journal,
+        }),
+        Err(refusal) => Err(refusal),
+    }
+}
+
+/// Where it is asked for, says how long a database file is of which nothing else is read.
+fn tell_seen<R: Files, E: Write>(rt: &R, paths: &Paths, notes: &mut Notes<'_, E>) {
+    if !notes.are_asked() {
+        return;
+    }
+    if let Ok(found) = look_at(rt, paths.db.as_str()) {
+        let (path, length) = (paths.db.quoted(), found.len());
+        notes.tell(&format_args!("{path}: {length} bytes"));
     }
 }

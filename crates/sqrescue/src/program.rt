@@ -1,23 +1,24 @@
 //! The program over a runtime's files and two writers.
-ghost use Rattle.std.specs.Prelude.{◌≤◌};
+ghost use Rattle.std.specs.Prelude.{◌≡◌, ◌≤◌};
+ghost use Rattle.sqrescue.specs.Answers.{status_named};
 
+use crate::answers::{Answer, answered};
 use crate::attempts::{Begun, Until};
-use crate::checking::check;
+use crate::commands::Command;
 use crate::copies::recover_to;
+use crate::diffs::print_diff;
 use crate::hints::next_step;
-use crate::outcomes::print_outcome;
-use crate::pages::show_pages;
+use crate::jobs::Job;
 use crate::recovering::recover;
 use crate::reports::report_to;
-use crate::rows::{RowsAnswer, print_rows};
-use crate::showing::show;
 use crate::sources::{Source, Watch, alone, source_of};
 use sqcommands::{LineError, request};
 use sqdump::Wanted;
-use sqfacts::{NoteWriter, Notes, Outcome, Refusal, Status};
+use sqfacts::{NoteWriter, Notes, Refusal, Status};
 use sqheld::Locks;
-use sqshown::ShowError;
-use sqwords::{Options, Part, Request, Style};
+use sqopen::Progress;
+use sqshown::{ShowError, asked_of};
+use sqwords::{Compared, Options, Part, Request, Style};
 use std::fmt::Display;
 use std::io::{self, IsTerminal, Write};
 use std::os::unix::fs::FileExt;
@@ -49,46 +50,33 @@ where
     R::File: FileExt,
     ensures { result ≤ 3 }
 {
-    status_of(rt, words, under, out, err).code()
-}
-
-fn status_of<R: Files + AllocGlobal + Clock, O: Write, E: Write + IsTerminal>(
-    rt: &R,
-    words: &[&str],
-    under: Under,
-    out: &mut O,
-    err: &mut E,
-) -> Status
-where
-    R::File: FileExt,
-{
-    match request(rt.alloc(), words) {
-        Ok(request) => status_of_request(rt, request, under, out, err),
+    let ended = match request(rt.alloc(), words) {
+        Ok(request) => {
+            let options = options_of(&request);
+            let answer = noted(rt, request, under, out, err);
+            status_of(answer, is_json(options), out, err)
+        }
         Err(LineError::Help(help)) => printed(out, &help, Status::Done),
         Err(LineError::NotUnderstood(fault)) => printed(err, &fault, Status::NotUnderstood),
         Err(LineError::NoMemory) => refused(err, &LineError::NoMemory),
-    }
+    };
+    ended.code()
 }
 
-/// The status of a request that is carried out.
-fn status_of_request<R: Files + AllocGlobal + Clock, O: Write, E: Write + IsTerminal>(
-    rt: &R,
-    request: Request<'_>,
-    under: Under,
+/// The status of a request that came to this. Why it was refused is told.
+fn status_of<O: Write, E: Write>(
+    answer: Result<Answer, ShowError>,
+    is_json: bool,
     out: &mut O,
     err: &mut E,
 ) -> Status
-where
-    R::File: FileExt,
+    ensures { result ≡ status_named answer }
 {
-    let options = options_of(&request);
-    match noted(rt, request, options, under, out, err) {
+    match answer {
         Ok(Answer::Done) => Status::Done,
         Ok(Answer::Damaged) => Status::Damaged,
-        Ok(Answer::Refused(why)) if is_json(options) => refused_as_object(out, &why),
-        Ok(Answer::Refused(why)) => refused(err, &why),
-        Err(ShowError::Refused(refusal)) if is_json(options) => refused_as_object(out, &refusal),
-        Err(ShowError::Refused(refusal)) => refused(err, &refusal),
+        Ok(Answer::Refused(why)) => refused_as(is_json, &why, out, err),
+        Err(ShowError::Refused(refusal)) => refused_as(is_json, &refusal, out, err),
         Err(ShowError::Unwritten) => Status::Refused,
     }
 }
@@ -98,7 +86,6 @@ where
 fn noted<R: Files + AllocGlobal + Clock, O: Write, E: Write + IsTerminal>(
     rt: &R,
     request: Request<'_>,
-    options: Option<Options>,
     under: Under,
     out: &mut O,
     err: &mut E,
@@ -106,6 +93,7 @@ fn noted<R: Files + AllocGlobal + Clock, O: Write, E: Write + IsTerminal>(
 where
     R::File: FileExt,
 {
+    let options = options_of(&request);
     let is_read = err.is_terminal();
     let writer = NoteWriter::new(&mut *err);
     let is_verbose = options.is_some_and(|options| options.verbose);
@@ -122,20 +110,12 @@ where
     answer
 }
 
-/// What a request that was carried out comes to.
-#[derive(Clone, Copy)]
-enum Answer {
-    Done,
-    Damaged,
-    /// For this, behind what was printed.
-    Refused(&'static str),
-}
-
 fn options_of(request: &Request<'_>) -> Option<Options> {
     match request {
         Request::Show { options, .. }
         | Request::Check { options, .. }
         | Request::Rows { options, .. }
+        | Request::Diff { options, .. }
         | Request::Recover { options, .. }
         | Request::Report { options, .. } => Some(*options),
         Request::Version => None,
@@ -143,90 +123,7 @@ fn options_of(request: &Request<'_>) -> Option<Options> {
 }
 
 fn is_json(options: Option<Options>) -> bool {
-    matches!(
-        options,
-        Some(Options {
-            style: Style::Json,
-            ..
-        })
-    )
-}
-
-/// Done, or damaged where a database isn't well formed.
-fn answer_of(is_well_formed: Result<bool, ShowError>) -> Result<Answer, ShowError> {
-    match is_well_formed {
-        Ok(is_well_formed) if is_well_formed => Ok(Answer::Done),
-        Ok(_) => Ok(Answer::Damaged),
-        Err(error) => Err(error),
-    }
-}
-
-/// What rows came to.
-fn answer_of_rows(rows: Result<RowsAnswer, ShowError>) -> Result<Answer, ShowError> {
-    match rows {
-        Ok(RowsAnswer::All) => Ok(Answer::Done),
-        Ok(RowsAnswer::Damaged) => Ok(Answer::Damaged),
-        Ok(RowsAnswer::Refused(why)) => Ok(Answer::Refused(why)),
-        Err(error) => Err(error),
-    }
-}
-
-/// Done, where it is.
-fn done(done: Result<(), ShowError>) -> Result<Answer, ShowError> {
-    match done {
-        Ok(()) => Ok(Answer::Done),
-        Err(error) => Err(error),
-    }
-}
-
-/// Shows a part of a file.
-fn shown<R: Files + AllocGlobal + Clock, O: Write, E: Write>(
-    rt: &R,
-    source: &Source<'_>,
-    part: Part,
-    out: &mut O,
-    notes: &mut Notes<'_, E>,
-) -> Result<Answer, ShowError>
-where
-    R::File: FileExt,
-{
-    match part {
-        Part::Pages => answer_of(show_pages(rt, source, out, notes)),
-        _ => done(show(rt, source, part, out, notes)),
-    }
-}
-
-/// Recovers a file in its place, and prints what that did.
-fn recovered<R: Files + AllocGlobal + Clock, O: Write, E: Write>(
-    rt: &R,
-    file: &str,
-    force: bool,
-    options: Options,
-    out: &mut O,
-    notes: &mut Notes<'_, E>,
-) -> Result<(), ShowError>
-where
-    R::File: FileExt,
-{
-    match recover(rt, file, force, options, notes) {
-        Ok(outcome) => {
-            let printed = print_outcome(out, options, outcome);
-            told_outcome(printed, outcome, notes)
-        }
-        Err(refusal) => Err(ShowError::Refused(refusal)),
-    }
-}
-
-/// An answer. What was done is said where it couldn't be printed.
-fn told_outcome<E: Write>(
-    printed: Result<(), ShowError>,
-    outcome: Outcome,
-    notes: &mut Notes<'_, E>,
-) -> Result<(), ShowError> {
-    if printed.is_err() {
-        notes.say(&format_args!("what was done couldn't be printed: {outcome}"));
-    }
-    printed
+    options.is_some_and(|options| options.style == Style::Json)
 }
 
 /// Says which locks are held where that is asked for, and where there are none for a reader.
@@ -246,6 +143,7 @@ enum Reading<'a> {
     Show(Part),
     Check { deep: bool },
     Rows(Wanted<'a>),
+    Diff(Compared<'a>),
     /// A file of this name is made.
     Copy(&'a str),
     Report(&'a str),
@@ -269,21 +167,41 @@ fn read_from<R: Files + AllocGlobal + Clock, O: Write, E: Write>(
 where
     R::File: FileExt,
 {
-    match reading {
-        Reading::Show(part) => shown(rt, source, part, out, notes),
-        Reading::Check { deep } => answer_of(check(rt, source, deep, out, notes)),
-        Reading::Rows(wanted) => answer_of_rows(print_rows(rt, source, wanted, out, notes)),
-        Reading::Copy(to) => done(recover_to(rt, source, to, out, notes)),
-        Reading::Report(to) => done(report_to(rt, source, to, out, notes)),
-    }
+    let meter = Progress::new(rt, notes.again(), source.options);
+    let job = Job {
+        rt,
+        source,
+        meter: &meter,
+    };
+    let mut asked = asked_of(source.options);
+    let command = match reading {
+        Reading::Show(Part::Pages) => Command::Pages(asked),
+        Reading::Show(part) => Command::Show(part),
+        Reading::Check { deep } => {
+            asked.maps.pointer_maps = asked.maps.pointer_maps || deep;
+            Command::Check { asked, deep }
+        }
+        Reading::Rows(wanted) => Command::Rows(wanted),
+        Reading::Diff(compared) => return print_diff(&job, compared, out, notes),
+        Reading::Copy(to) => return recover_to(&job, to, out, notes),
+        Reading::Report(to) => return report_to(&job, to, out, notes),
+    };
+    answered(&job, &command, out, notes)
+}
+
+/// A reading, and the file that it is of.
+#[derive(Clone, Copy)]
+struct Asked<'a> {
+    reading: Reading<'a>,
+    file: &'a str,
+    options: Options,
 }
 
 /// What a reading comes to under these locks. Where they keep the database file as it is, but its journal was changed,
 /// the file is read again without it.
 fn read_once<R: Files + AllocGlobal + Clock, O: Write, E: Write>(
     rt: &R,
-    reading: Reading<'_>,
-    of: (&str, Options),
+    asked: &Asked<'_>,
     locks: Locks,
     out: &mut O,
     notes: &mut Notes<'_, E>,
@@ -291,11 +209,9 @@ fn read_once<R: Files + AllocGlobal + Clock, O: Write, E: Write>(
 where
     R::File: FileExt,
 {
-    let (file, options) = of;
-    let source = match source_of(rt, file, options, reading.is_of_log(), locks, notes) {
-        Ok(source) => source,
-        Err(refusal) => return Err(ShowError::Refused(refusal)),
-    };
+    let reading = asked.reading;
+    let of = (asked.file, asked.options);
+    let source = source_of(rt, of, reading.is_of_log(), locks, notes)?;
     match read_from(rt, reading, &source, out, notes) {
         Err(ShowError::Refused(Refusal::FileChanged)) if source.watch == Watch::Undated => {
             read_from(rt, reading, &alone(source), out, notes)
@@ -307,8 +223,7 @@ where
 /// The same, which is made again where others changed what was read, and nothing was printed yet, for so many seconds.
 fn read_under<R: Files + AllocGlobal + Clock, O: Write, E: Write>(
     rt: &R,
-    reading: Reading<'_>,
-    of: (&str, Options),
+    asked: &Asked<'_>,
     under: (Locks, u32),
     out: &mut O,
     notes: &mut Notes<'_, E>,
@@ -320,12 +235,55 @@ where
     let until = Until::new(rt, wait);
     let mut out = Begun::new(out);
     for _ in 0..u64::MAX {
-        let answer = read_once(rt, reading, of, locks, &mut out, notes);
+        let answer = read_once(rt, asked, locks, &mut out, notes);
         if !out.is_to_be_read_again(&answer) || !until.goes_on(rt) {
             return answer;
         }
     }
     Err(ShowError::Refused(Refusal::FileChanged))
+}
+
+/// What is read for a request; none for one that isn't a reading.
+fn reading_of<'a>(request: Request<'a>) -> Option<Asked<'a>> {
+    let (reading, file, options) = match request {
+        Request::Show {
+            file,
+            part,
+            options,
+        } => (Reading::Show(part), file, options),
+        Request::Check {
+            file,
+            deep,
+            options,
+        } => (Reading::Check { deep }, file, options),
+        Request::Rows {
+            file,
+            table,
+            form,
+            options,
+        } => (Reading::Rows(Wanted { table, form }), file, options),
+        Request::Diff {
+            file,
+            compared,
+            options,
+        } => {
+            let at = compared.to;
+            (Reading::Diff(compared), file, Options { at, ..options })
+        }
+        Request::Recover {
+            file,
+            to: Some(to),
+            options,
+            ..
+        } => (Reading::Copy(to), file, options),
+        Request::Report { file, to, options } => (Reading::Report(to), file, options),
+        Request::Recover { to: None, .. } | Request::Version => return None,
+    };
+    Some(Asked {
+        reading,
+        file,
+        options,
+    })
 }
 
 fn carried_out<R: Files + AllocGlobal + Clock, O: Write, E: Write>(
@@ -339,44 +297,21 @@ where
     R::File: FileExt,
 {
     tell_locks(under.0, notes);
-    let (reading, of) = match request {
-        Request::Show {
-            file,
-            part,
-            options,
-        } => (Reading::Show(part), (file, options)),
-        Request::Check {
-            file,
-            deep,
-            options,
-        } => (Reading::Check { deep }, (file, options)),
-        Request::Rows {
-            file,
-            table,
-            form,
-            options,
-        } => (Reading::Rows(Wanted { table, form }), (file, options)),
+    if let Some(asked) = reading_of(request) {
+        return read_under(rt, &asked, under, out, notes);
+    }
+    match request {
         Request::Recover {
             file,
-            to: Some(to),
-            options,
-            ..
-        } => (Reading::Copy(to), (file, options)),
-        Request::Report { file, to, options } => (Reading::Report(to), (file, options)),
-        Request::Recover {
-            file,
-            to: None,
             force,
             options,
-        } => return done(recovered(rt, file, force, options, out, notes)),
-        Request::Version => {
-            return match line(out, &VERSION) {
-                Ok(()) => Ok(Answer::Done),
-                Err(_) => Err(ShowError::Unwritten),
-            };
+            ..
+        } => recover(rt, (file, force, options), out, notes),
+        _ => {
+            line(out, &VERSION)?;
+            Ok(Answer::Done)
         }
-    };
-    read_under(rt, reading, of, under, out, notes)
+    }
 }
 
 /// The status once this text is printed.
@@ -423,15 +358,27 @@ fn printed<W: Write, T: Display>(writer: &mut W, text: &T, status: Status) -> St
     }
 }
 
-fn refused<W: Write, T: Display>(err: &mut W, text: &T) -> Status {
+fn refused<W: Write, T: Display>(err: &mut W, text: &T) -> Status
+    ensures { result ≡ Status.Refused }
+{
     let _ = line(err, &format_args!("sqrescue: {text}"));
     Status::Refused
 }
 
-/// A refusal on standard output.
-fn refused_as_object<W: Write, T: Display>(out: &mut W, refusal: &T) -> Status {
-    let _ = write_refusal(out, refusal);
-    Status::Refused
+/// A refusal as an object on standard output, or as a line.
+fn refused_as<T: Display, O: Write, E: Write>(
+    is_json: bool,
+    refusal: &T,
+    out: &mut O,
+    err: &mut E,
+) -> Status
+    ensures { result ≡ Status.Refused }
+{
+    if is_json {
+        let _ = write_refusal(out, refusal);
+        return Status::Refused;
+    }
+    refused(err, refusal)
 }
 
 fn write_refusal<W: Write, T: Display>(out: &mut W, refusal: &T) -> io::Result<()> {

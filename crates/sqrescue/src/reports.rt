@@ -1,20 +1,19 @@
 //! A page of HTML that shows a database and its log.
-use crate::copies::judge_name;
+use crate::answers::Answer;
+use crate::commands::Wants;
+use crate::jobs::{Counted, Job};
+use crate::outputs::{judge_name, kept, named};
 use crate::program::VERSION;
-use crate::sources::{Before, Source, before_of, still_as_before, wait_for};
-use crate::surveys::{Counted, surveyed_now};
+use crate::sources::wait_for;
 use sqfacts::{Front, NoteWriter, Notes, Refusal};
 use sqlines::{HEAD, TAIL};
-use sqopen::{
-    Beside, Count, NewFile, Paths, Progress, begin_file, discard_file, end_file, look_at,
-    open_logs, remove, told,
-};
+use sqopen::{Beside, Count, NewFile, begin_file, look_at, open_logs, told};
 use sqshown::{
-    LogFound, ReportFacts, ShowError, facts_of, limits_of, log_of, write_report_facts,
-    write_verdict,
+    LogFound, ReportFacts, ShowError, asked_of, facts_of, limits_of, log_of, survey_files,
+    write_report_facts, write_verdict,
 };
 use sqview::FileBytes;
-use sqwords::Options;
+use sqwords::Style;
 use std::alloc::Global;
 use std::fs::OpenFile;
 use std::io::{self, BufWriter, Seek, Write};
@@ -24,28 +23,31 @@ use std::thread;
 use std::time::Clock;
 
 /// How many bytes are written at once.
-const PIECE: usize = 65_536;
+const WRITTEN: usize = 65_536;
 
 /// What a report shows of real files.
 type Facts<'a, F, M> = ReportFacts<Counted<'a, F, M>>;
 
-/// The log that counts of files as they are now.
-fn log_now<R: Files + AllocGlobal>(
-    rt: &R,
-    paths: &Paths,
-    options: Options,
-) -> Result<LogFound, Refusal>
+/// The log that counts of files as they are now. No note is written of it.
+fn log_now<R: Files + AllocGlobal, M>(job: &Job<'_, R, M>) -> Result<LogFound, Refusal>
 where
     R::File: FileExt,
 {
+    let (paths, options) = (&job.source.paths, job.source.options);
     let nowhere = NoteWriter::new(io::sink());
     let mut unheard = Notes::new(&nowhere, false, false);
     let Beside {
         mut wal,
         mut journal,
         ..
-    } = open_logs(rt, paths, options.super_journal, options.at, &mut unheard)?;
-    match log_of(rt.alloc(), limits_of(options), &mut wal, &mut journal) {
+    } = open_logs(
+        job.rt,
+        paths,
+        options.super_journal,
+        options.at,
+        &mut unheard,
+    )?;
+    match log_of(job.rt.alloc(), limits_of(options), &mut wal, &mut journal) {
         // The database is shown without either.
         Err(Refusal::TwoLogs) if options.at == Some(0) => Ok(LogFound::None),
         answer => answer,
@@ -53,21 +55,35 @@ where
 }
 
 /// What a report of files shows that are as they are now.
-fn facts_now<'a, R: Files + AllocGlobal, M: Count, E: Write>(
-    rt: &R,
-    paths: &'a Paths,
-    options: Options,
-    meter: &'a M,
+fn facts_now<'a, R: Files + AllocGlobal + Clock, M: Count, E: Write>(
+    job: &Job<'a, R, M>,
     notes: &mut Notes<'_, E>,
 ) -> Result<Facts<'a, R::File, M>, Refusal>
 where
     R::File: FileExt,
 {
-    let log = log_now(rt, paths, options)?;
-    match surveyed_now(rt, paths, options, meter, notes) {
-        Ok(found) => facts_of(rt.alloc(), found, log),
+    let asked = asked_of(job.source.options);
+    let log = log_now(job)?;
+    let files = job.opened(Wants::PAGES, notes)?;
+    match survey_files(job.rt.alloc(), asked, files) {
+        Ok(found) => facts_of(job.rt.alloc(), found, log),
         Err(refusal) => Err(refusal),
     }
+}
+
+/// What a report shows of files that don't change meanwhile, once any change is dated later than their last one.
+fn settled_facts<'a, R: Files + AllocGlobal + Clock, M: Count, E: Write>(
+    job: &Job<'a, R, M>,
+    notes: &mut Notes<'_, E>,
+) -> Result<Facts<'a, R::File, M>, Refusal>
+where
+    R::File: FileExt,
+{
+    let before = job.before(false, notes)?;
+    thread::sleep(job.rt, wait_for(job.rt, &before));
+    let facts = facts_now(job, notes);
+    let front = front_of(&facts);
+    job.standing(&before, (false, front), facts, notes)
 }
 
 /// The front of the log at which something was found, if a frame counts.
@@ -75,38 +91,6 @@ fn front_of<F: FileBytes>(facts: &Result<ReportFacts<F>, Refusal>) -> Option<Fro
     match facts {
         Ok(facts) => facts.found.front(),
         Err(_) => None,
-    }
-}
-
-/// An answer, of whose refusal it is told why a file couldn't be read.
-fn told_answer<T: Drop, E: Write>(
-    paths: &Paths,
-    answer: Result<T, Refusal>,
-    notes: &mut Notes<'_, E>,
-) -> Result<T, Refusal> {
-    match answer {
-        Ok(value) => Ok(value),
-        Err(refusal) => Err(paths.told(notes, refusal)),
-    }
-}
-
-/// What a report shows, if the files are as they were before, and the frames of the log that counted still stand.
-fn watched_facts<'a, R: Files + AllocGlobal, M: Count, E: Write>(
-    rt: &R,
-    paths: &'a Paths,
-    before: &Option<Before>,
-    options: Options,
-    meter: &'a M,
-    notes: &mut Notes<'_, E>,
-) -> Result<Facts<'a, R::File, M>, Refusal>
-where
-    R::File: FileExt,
-{
-    let facts = facts_now(rt, paths, options, meter, notes);
-    let front = front_of(&facts);
-    match still_as_before(rt, paths, before, (false, front), notes) {
-        Ok(()) => told_answer(paths, facts, notes),
-        Err(refusal) => Err(refusal),
     }
 }
 
@@ -128,9 +112,12 @@ fn print_page<O: Write, F: FileBytes>(
     out: &mut O,
     file: &str,
     facts: &ReportFacts<F>,
-) -> Result<(), ShowError> {
-    match BufWriter::with_capacity(alloc, PIECE, out) {
-        Ok(mut out) => Ok(write_html(&mut out, file, facts)?),
+) -> Result<Answer, ShowError> {
+    match BufWriter::with_capacity(alloc, WRITTEN, out) {
+        Ok(mut out) => {
+            write_html(&mut out, file, facts)?;
+            Ok(Answer::Done)
+        }
         Err(_) => Err(ShowError::Refused(Refusal::NoMemory)),
     }
 }
@@ -142,7 +129,7 @@ fn fill<O: Write + Seek + OpenFile, F: FileBytes>(
     file: &str,
     facts: &ReportFacts<F>,
 ) -> io::Result<()> {
-    let mut out = BufWriter::with_capacity(alloc, PIECE, &mut *made)?;
+    let mut out = BufWriter::with_capacity(alloc, WRITTEN, &mut *made)?;
     let written = write_html(&mut out, file, facts);
     drop(out);
     match written {
@@ -155,110 +142,69 @@ fn fill<O: Write + Seek + OpenFile, F: FileBytes>(
 /// what `check` prints. The page is synced, and so is its folder where that can be. To `-`: prints the page instead.
 /// Refused as `check` is, by `FileFailed` where something lies there or the page is a log of the database, and by
 /// `FileChanged` where what is read changed meanwhile. Where it fails the page is removed.
-pub(crate) fn report_to<R: Files + AllocGlobal + Clock, O: Write, E: Write>(
-    rt: &R,
-    source: &Source<'_>,
+pub(crate) fn report_to<R: Files + AllocGlobal + Clock, M: Count, O: Write, E: Write>(
+    job: &Job<'_, R, M>,
     to: &str,
     out: &mut O,
     notes: &mut Notes<'_, E>,
-) -> Result<(), ShowError>
+) -> Result<Answer, ShowError>
 where
     R::File: FileExt,
 {
-    let (paths, options) = (&source.paths, source.options);
-    let before = before_of(rt, paths, source.watch, false, notes)?;
-    thread::sleep(rt, wait_for(rt, &before));
-    let progress = Progress::new(rt, notes.again(), options);
-    match watched_facts(rt, paths, &before, options, &progress, notes) {
-        Ok(facts) if to == "-" => print_page(rt.alloc(), out, source.file, &facts),
-        Ok(facts) => match make_page(rt, paths, to, source.file, &facts, notes) {
-            Ok(()) => answer_of(rt, to, printed(out, options, &facts), notes),
-            Err(error) => Err(error),
+    let (alloc, source) = (job.rt.alloc(), job.source);
+    match settled_facts(job, notes) {
+        Ok(facts) if to == "-" => print_page(alloc, out, source.file, &facts),
+        Ok(facts) => match make_page(job, to, &facts, notes) {
+            Ok(()) => kept(job, to, printed(out, source.options.style, &facts), notes),
+            Err(refusal) => Err(ShowError::Refused(refusal)),
         },
-        Err(refusal) => Err(ShowError::Refused(refusal)),
+        Err(refusal) => Err(ShowError::Refused(source.paths.told(notes, refusal))),
     }
 }
 
 /// A new file for the page.
-fn new_page<'a, R: Files + AllocGlobal, E: Write>(
-    rt: &R,
-    paths: &Paths,
+fn new_page<'a, R: Files + AllocGlobal + Clock, M: Count, E: Write>(
+    job: &Job<'_, R, M>,
     to: &'a str,
     notes: &mut Notes<'_, E>,
-) -> Result<NewFile<'a, R::File>, Refusal> {
-    judge_name(rt, paths, to, notes)?;
-    let mode = mode_of(rt, paths, notes)?;
-    begin_file(rt, paths, to, mode, notes)
+) -> Result<NewFile<'a, R::File>, Refusal>
+where
+    R::File: FileExt,
+{
+    judge_name(job, to, notes)?;
+    let paths = &job.source.paths;
+    let mode = match look_at(job.rt, paths.db.as_str()) {
+        Ok(found) => found.mode() & 0o777,
+        Err(error) => return Err(told(notes, paths.db.as_str(), error)),
+    };
+    begin_file(job.rt, paths, to, mode, notes)
 }
 
 /// Makes the page. Where it fails nothing has the page's name.
-fn make_page<R: Files + AllocGlobal, F: FileBytes, E: Write>(
-    rt: &R,
-    paths: &Paths,
+fn make_page<R: Files + AllocGlobal + Clock, M: Count, F: FileBytes, E: Write>(
+    job: &Job<'_, R, M>,
     to: &str,
-    file: &str,
     facts: &ReportFacts<F>,
     notes: &mut Notes<'_, E>,
-) -> Result<(), ShowError> {
-    let mut made = match new_page(rt, paths, to, notes) {
-        Ok(made) => made,
-        Err(refusal) => return Err(ShowError::Refused(refusal)),
-    };
-    let filled = fill(rt.alloc(), &mut made, file, facts);
-    match ended(rt, made, filled, notes) {
+) -> Result<(), Refusal>
+where
+    R::File: FileExt,
+{
+    let mut made = new_page(job, to, notes)?;
+    let filled = match fill(job.rt.alloc(), &mut made, job.source.file, facts) {
         Ok(()) => Ok(()),
-        Err(refusal) => Err(ShowError::Refused(refusal)),
-    }
+        Err(error) => Err(told(notes, made.path(), error)),
+    };
+    named(job, made, filled, notes)
 }
 
-/// Gives a page that was filled its name, or discards it.
-fn ended<R: Files, E: Write>(
-    rt: &R,
-    made: NewFile<'_, R::File>,
-    filled: io::Result<()>,
-    notes: &mut Notes<'_, E>,
-) -> Result<(), Refusal> {
-    match filled {
-        Ok(()) => end_file(rt, made, notes),
-        Err(error) => {
-            let refusal = told(notes, made.path(), error);
-            discard_file(rt, made, notes);
-            Err(refusal)
-        }
-    }
-}
-
-/// An answer. A file that was made is removed where it is an error.
-pub(crate) fn answer_of<R: Files, E: Write>(
-    rt: &R,
-    to: &str,
-    answer: Result<(), ShowError>,
-    notes: &mut Notes<'_, E>,
-) -> Result<(), ShowError> {
-    if answer.is_err() {
-        remove(rt, to, notes);
-    }
-    answer
-}
-
-/// Who may read a database file.
-fn mode_of<R: Files, E: Write>(
-    rt: &R,
-    paths: &Paths,
-    notes: &mut Notes<'_, E>,
-) -> Result<u32, Refusal> {
-    match look_at(rt, paths.db.as_str()) {
-        Ok(found) => Ok(found.mode() & 0o777),
-        Err(error) => Err(told(notes, paths.db.as_str(), error)),
-    }
-}
-
+/// Prints the verdict.
 fn printed<F: FileBytes, O: Write>(
     out: &mut O,
-    options: Options,
+    style: Style,
     facts: &ReportFacts<F>,
 ) -> Result<(), ShowError> {
-    write_verdict(out, options.style, &facts.found)?;
+    write_verdict(out, style, &facts.found)?;
     out.flush()?;
     Ok(())
 }

@@ -1,5 +1,6 @@
 //! The files of a database as a command reads them, and how it is seen that others change them meanwhile.
-ghost use Rattle.std.specs.Prelude.{◌≡◌, ◌↔◌, IfOk, IsTrue, false};
+ghost use Rattle.std.specs.Prelude.{◌≡◌, ◌↔◌, IfErr, IfOk, IsTrue, false};
+ghost use Rattle.sqopen.specs.Refusals.{IsFromWatch};
 ghost use Rattle.sqrescue.specs.Sources.{AreUndated, AtFile, AtFront, IsFrontUnder, IsReadAt, IsUndated};
 ghost use Rattle.sqrescue.specs.Sources.{StandsYet};
 
@@ -172,8 +173,7 @@ fn commit_at(asked: Option<u32>, front: Option<u32>) -> Result<Option<u32>, Refu
 /// it may be begun anew.
 pub(crate) fn source_of<'a, R: Files + AllocGlobal + Clock, E: Write>(
     rt: &R,
-    file: &'a str,
-    options: Options,
+    of: (&'a str, Options),
     only_log: bool,
     locks: Locks,
     notes: &mut Notes<'_, E>,
@@ -181,11 +181,11 @@ pub(crate) fn source_of<'a, R: Files + AllocGlobal + Clock, E: Write>(
 where
     R::File: FileExt,
     // Of all but the log alone, what is read is the commit at the front, or the one that is asked for.
-    ensures at { only_log ≡ false → IfOk result (λ source. IsReadAt options.at source.watch source.options.at) }
+    ensures at { only_log ≡ false → IfOk result (λ source. IsReadAt of.entry.1.at source.watch source.options.at) }
 {
+    let (file, mut options) = of;
     let paths = paths_of(rt, file, notes)?;
     let (watch, front) = watch_under(rt, &paths, locks, notes)?;
-    let mut options = options;
     let mut watch = watch;
     if !only_log {
         options.at = commit_at(options.at, front)?;
@@ -295,15 +295,18 @@ fn as_they_were<R: Files, E: Write>(
 ) -> Result<(), Refusal>
 where
     R::File: FileExt,
+    ensures refused { IfErr result IsFromWatch }
 {
     let after = readings_of(rt, paths, false, notes)?;
-    unchanged(&all_undated(*before), &all_undated(after), Ok(()))
+    unchanged(&all_undated(*before), &all_undated(after), Ok(()))?;
+    Ok(())
 }
 
 /// Refused where what was read up to the front of an index that said this doesn't stand any more.
 fn as_indexed<R: Files>(rt: &R, paths: &Paths, before: &IndexHead) -> Result<(), Refusal>
 where
     R::File: FileExt,
+    ensures refused { IfErr result IsFromWatch }
 {
     let now = head_in(rt, paths.shm.as_str());
     if stands_yet(before, &now) {
@@ -333,6 +336,7 @@ pub(crate) fn still_as_before<R: Files, E: Write>(
 ) -> Result<(), Refusal>
 where
     R::File: FileExt,
+    ensures refused { IfErr result IsFromWatch }
 {
     let (only_logs, front) = of;
     match before {
@@ -340,23 +344,5 @@ where
         Some(Before::Undated(readings)) => as_they_were(rt, paths, readings, notes),
         Some(Before::Indexed(head)) => as_indexed(rt, paths, head),
         None => Ok(()),
-    }
-}
-
-/// An answer, if the files are as they were before, and the frames up to this front still stand.
-pub(crate) fn standing<R: Files, T: Drop, E: Write>(
-    rt: &R,
-    paths: &Paths,
-    before: &Option<Before>,
-    front: Option<Front>,
-    answer: Result<T, Refusal>,
-    notes: &mut Notes<'_, E>,
-) -> Result<T, Refusal>
-where
-    R::File: FileExt,
-{
-    match still_as_before(rt, paths, before, (false, front), notes) {
-        Ok(()) => answer,
-        Err(refusal) => Err(refusal),
     }
 }

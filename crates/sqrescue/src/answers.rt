@@ -1,0 +1,124 @@
+//! What a command comes to, by what it found.
+ghost use Rattle.std.specs.Prelude.{◌≡◌, Err, IfErr};
+ghost use Rattle.sqrescue.specs.Answers.{answer_named};
+
+use crate::checking::write_checked;
+use crate::commands::{Command, Finding};
+use crate::jobs::Job;
+use crate::pages::write_surveyed;
+use crate::rows::write_printed;
+use sqfacts::{Front, Notes, Refusal};
+use sqopen::{Count, Paths};
+use sqshown::ShowError;
+use sqview::FileBytes;
+use sqwords::Style;
+use std::alloc::Global;
+use std::io::{BufWriter, Write};
+use std::os::unix::fs::FileExt;
+use std::rt::Files;
+use std::time::Clock;
+use thiserror::Error;
+
+/// How many bytes of lines are kept back, so that nothing is printed of files that changed: as many as a header and
+/// what a page itself holds come to.
+pub(crate) const KEPT: usize = 1 << 19;
+
+/// What a command comes to.
+#[derive(Clone, Copy, Debug, PartialEq, Eq)]
+pub(crate) enum Answer {
+    Done,
+    /// It found damage, which was told.
+    Damaged,
+    /// It is refused for this, which is to be told behind what was printed.
+    Refused(Untold),
+}
+
+/// Why rows are refused behind what was printed.
+#[derive(Clone, Copy, Debug, PartialEq, Eq, Error)]
+pub(crate) enum Untold {
+    #[error("no such table")]
+    NoSuchTable,
+    /// Why was noted.
+    #[error("not understood")]
+    NotUnderstood,
+}
+
+impl Answer {
+    /// That of a database, by whether it is damaged.
+    pub(crate) fn of(is_damaged: bool) -> Answer
+        ensures { result ≡ answer_named is_damaged }
+    {
+        if is_damaged {
+            Answer::Damaged
+        } else {
+            Answer::Done
+        }
+    }
+}
+
+/// Carries out a command that reads the files of a database, and prints what it finds. No file is opened for writing,
+/// and none is made. Refused by `FileChanged` where a file changed meanwhile; of a part that is shown and of rows,
+/// lines may have been printed then.
+pub(crate) fn answered<R: Files + AllocGlobal + Clock, M: Count, O: Write, E: Write>(
+    job: &Job<'_, R, M>,
+    command: &Command<'_>,
+    out: &mut O,
+    notes: &mut Notes<'_, E>,
+) -> Result<Answer, ShowError>
+where
+    R::File: FileExt,
+{
+    let of = (job.rt.alloc(), job.source.options.style);
+    if !command.prints_meanwhile() {
+        return match job.settled(command, out, notes) {
+            Ok(found) => written(of, &job.source.paths, found, out, notes),
+            Err(refusal) => Err(ShowError::Refused(refusal)),
+        };
+    }
+    match BufWriter::with_capacity(job.rt.alloc(), KEPT, out) {
+        Ok(mut lines) => match job.settled(command, &mut lines, notes) {
+            Ok(found) => written(of, &job.source.paths, found, &mut lines, notes),
+            Err(refusal) => {
+                let (_, _) = lines.into_parts();
+                Err(ShowError::Refused(refusal))
+            }
+        },
+        Err(_) => Err(ShowError::Refused(Refusal::NoMemory)),
+    }
+}
+
+/// Prints what was found, or the rest of it, and what a person is to know besides.
+fn written<F: FileBytes + Drop, W: Write, E: Write>(
+    of: (Global, Style),
+    paths: &Paths,
+    found: Finding<F>,
+    out: &mut W,
+    notes: &mut Notes<'_, E>,
+) -> Result<Answer, ShowError> {
+    let (alloc, style) = of;
+    match found {
+        Finding::Checked(found) => write_checked(out, style, &found.verdict, notes),
+        Finding::Surveyed(found) => write_surveyed(alloc, style, &found, out),
+        Finding::Shown(shown) => write_shown(out, paths, shown, notes),
+        Finding::Printed(printed) => write_printed(out, style, printed.ended, notes),
+    }
+}
+
+/// Writes the lines of a part that were kept back, or tells why not all of it was shown.
+fn write_shown<W: Write, E: Write>(
+    out: &mut W,
+    paths: &Paths,
+    shown: Result<Option<Front>, ShowError>,
+    notes: &mut Notes<'_, E>,
+) -> Result<Answer, ShowError>
+    ensures { IfErr shown (λ error. result ≡ Err error) }
+{
+    match shown {
+        Ok(_) => {
+            out.flush()?;
+            Ok(Answer::Done)
+        }
+        Err(ShowError::Refused(refusal)) => Err(ShowError::Refused(paths.told(notes, refusal))),
+        Err(ShowError::Unwritten) => Err(ShowError::Unwritten),
+    }
+}

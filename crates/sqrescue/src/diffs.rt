@@ -1,0 +1,104 @@
+//! What `diff` prints.
+use crate::answers::{Answer, KEPT};
+use crate::commands::PIECE;
+use crate::jobs::Job;
+use crate::opening::open_all;
+use crate::rows::write_printed;
+use sqdump::{Printed, show_changes};
+use sqfacts::{Notes, Refusal};
+use sqopen::{Count, OpenedFile};
+use sqshown::{Contents, ShowError, read_ahead};
+use sqview::ReadAhead;
+use sqwords::Compared;
+use std::io::{BufWriter, Write};
+use std::os::unix::fs::FileExt;
+use std::rt::Files;
+use std::time::Clock;
+
+/// Prints which rows of a database file changed between two commits of its log. No file is opened for writing, and
+/// none is made. Refused by `FileChanged` where a file changed meanwhile; lines may have been printed then.
+pub(crate) fn print_diff<R: Files + AllocGlobal + Clock, M: Count, O: Write, E: Write>(
+    job: &Job<'_, R, M>,
+    compared: Compared<'_>,
+    out: &mut O,
+    notes: &mut Notes<'_, E>,
+) -> Result<Answer, ShowError>
+where
+    R::File: FileExt,
+{
+    match BufWriter::with_capacity(job.rt.alloc(), KEPT, out) {
+        Ok(mut lines) => match changes_standing(job, compared, &mut lines, notes) {
+            Ok(printed) => write_printed(
+                &mut lines,
+                job.source.options.style,
+                printed.ended,
+                notes,
+            ),
+            Err(refusal) => {
+                let (_, _) = lines.into_parts();
+                Err(ShowError::Refused(job.source.paths.told(notes, refusal)))
+            }
+        },
+        Err(_) => Err(ShowError::Refused(Refusal::NoMemory)),
+    }
+}
+
+/// What came of printing changes, if the files are as they were before. The later commit is the one that is read of the
+/// source.
+fn changes_standing<R: Files + AllocGlobal + Clock, M: Count, W: Write, E: Write>(
+    job: &Job<'_, R, M>,
+    compared: Compared<'_>,
+    out: &mut W,
+    notes: &mut Notes<'_, E>,
+) -> Result<Printed, Refusal>
+where
+    R::File: FileExt,
+{
+    let to = job.source.options.at;
+    let before = job.before(false, notes)?;
+    let printed = changes_now(job, Compared { to, ..compared }, out, notes);
+    let front = match &printed {
+        Ok(printed) => printed.front,
+        Err(_) => None,
+    };
+    job.standing(&before, (false, front), printed, notes)
+}
+
+/// The same of files that are opened for each of both commits.
+fn changes_now<R: Files + AllocGlobal + Clock, M: Count, W: Write, E: Write>(
+    job: &Job<'_, R, M>,
+    compared: Compared<'_>,
+    out: &mut W,
+    notes: &mut Notes<'_, E>,
+) -> Result<Printed, Refusal>
+where
+    R::File: FileExt,
+{
+    let from = opened_at(job, Some(compared.from), notes)?;
+    match opened_at(job, compared.to, notes) {
+        Ok(to) => show_changes(job.rt.alloc(), from, to, job.source.options, compared, out),
+        Err(refusal) => Err(refusal),
+    }
+}
+
+/// The files, opened for a commit of the log.
+fn opened_at<'a, R: Files + AllocGlobal, M, E: Write>(
+    job: &Job<'a, R, M>,
+    at: Option<u32>,
+    notes: &mut Notes<'_, E>,
+) -> Result<Contents<ReadAhead<OpenedFile<'a, R::File>>>, Refusal>
+where
+    R::File: FileExt,
+{
+    let source = job.source;
+    match open_all(
+        job.rt,
+        &source.paths,
+        source.options.super_journal,
+        at,
+        notes,
+    ) {
+        Ok(files) => read_ahead(job.rt.alloc(), files, PIECE),
+        Err(refusal) => Err(refusal),
+    }
+}
