@@ -1,0 +1,24 @@
+-- Which states have a name.
+use Rattle.std.proofs.Common.{◌≡◌, inl, inr, ℕ, ◌+◌, ◌<◌, ◌≤◌, true, List, length, Option, Some, sym, ◌∙◌, ap, subst, arith}
+use Rattle.std.proofs.Math.Nat.{eq-or-lt_of_le}
+use Rattle.std.proofs.lemmas.Option.{slice_get_within}
+use Rattle.std.specs.List.{slice_get}
+use Rattle.std.specs.Option.{unwrap_or}
+use Rattle.std.specs.String.{string_bytes}
+use Rattle.sqcrash_store.specs.Verdicts.{IsNamed, NoneFrom}
+use Rattle.sqcrash_store.specs.declared.verdict.Answer.{Answer}
+
+-- none behind the last
+pub none_behind : (states : List Answer) (line : List ℕ) (n : ℕ) → length states ≤ n → NoneFrom states line n
+none_behind states line n end k le named = absurd (omega (arith, slice_get_within states k named.state named.there, end, le))
+
+-- and this one isn't
+pub none_more : (states : List Answer) (line : List ℕ) (k : ℕ) (state : Answer) → slice_get states k ≡ Some state → ((state.is_sound ≡ true) × (string_bytes state.line ≡ line) → ⊥)
+    → NoneFrom states line (k + 1) → NoneFrom states line k
+none_more states line k state there not rest j le named = elim (eq-or-lt_of_le le) [
+  | inl e ↦
+      let here : slice_get states k ≡ Some named.state = subst (λ (n : ℕ). slice_get states n ≡ Some named.state) (sym e) named.there in
+      let same : state ≡ named.state = ap (λ (o : Option Answer). unwrap_or o state) (sym there ∙ here) in
+      not (subst (λ (x : Answer). (x.is_sound ≡ true) × (string_bytes x.line ≡ line)) (sym same) (named.sound, named.same))
+  | inr lt ↦ rest j (let l : k + 1 ≤ j = omega (arith, lt) in l) named
+]

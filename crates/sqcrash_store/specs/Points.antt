@@ -1,0 +1,21 @@
+-- Where a crash may come, and what is known there (own).
+use Rattle.std.specs.Prelude.{◌≡◌, ◌≢◌, ◌⊎◌, ℕ, Bool, true, false, List, codes}
+use Rattle.sqstore.specs.declared.call.Action.{Action}
+use Rattle.sqstore.specs.declared.call.Action.TheVariants as actions
+use Rattle.sqcrash_store.specs.declared.plan.Plan.{Plan}
+
+-- behind a mark, and where it may come after each call, behind a call
+abbrev pub is_point : (every : Bool) → Action → Bool
+is_point every actions.Mark = true
+is_point every actions.Base = false
+is_point every actions.Name = false
+is_point every actions.End = false
+is_point every _ = every
+
+-- a mark with this line promises that its state is durable
+abbrev pub IsPromise : Plan → (line : List ℕ) → Type 0
+IsPromise plan line = (plan.is_promised ≡ true) × (line ≢ codes "mode")
+
+-- the number of the last state that is known to be durable behind a mark, where that is state number `mark`
+abbrev pub IsKnown : Plan → (line : List ℕ) → (mark old new : ℕ) → Type 0
+IsKnown plan line mark old new = (IsPromise plan line × (new ≡ mark)) ⊎ ((IsPromise plan line → ⊥) × (new ≡ old))

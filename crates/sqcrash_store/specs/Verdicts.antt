@@ -1,0 +1,33 @@
+-- What is to be said of files, by what a command said of them (own).
+use Rattle.std.specs.Prelude.{◌≡◌, ℕ, ◌<◌, ◌≤◌, ◌+◌, true, false, List, slice_get, Some}
+use Rattle.std.specs.String.{string_bytes}
+use Rattle.sqcrash_store.specs.declared.verdict.Answer.{Answer}
+use Rattle.sqcrash_store.specs.declared.verdict.Verdict.{Verdict}
+use Rattle.sqcrash_store.specs.declared.verdict.Verdict.TheVariants.{Kept, Lost, Mixed, Fault}
+
+-- state k is sound, and its name is this line
+pub record IsNamed (states : List Answer) (line : List ℕ) (k : ℕ) : Type 0 where
+  pub state : Answer
+  pub there : slice_get states k ≡ Some state
+  pub sound : state.is_sound ≡ true
+  pub same : string_bytes state.line ≡ line
+
+-- none of the states from number n on is
+abbrev pub NoneFrom : List Answer → List ℕ → (n : ℕ) → Type 0
+NoneFrom states line n = (k : ℕ) → n ≤ k → ¬ IsNamed states line k
+
+abbrev pub NoneNamed : List Answer → List ℕ → Type 0
+NoneNamed states line = NoneFrom states line 0
+
+-- state k is the last that is
+pub record IsLastNamed (states : List Answer) (line : List ℕ) (k : ℕ) : Type 0 where
+  pub named : IsNamed states line k
+  pub last : NoneFrom states line (k + 1)
+
+-- What is to be said of an image by the answer: one that isn't sound is a fault; the last state of its name is kept, or older
+-- than the one that is known to be durable; where no state has its name, it is mixed.
+abbrev pub IsVerdict : (states : List Answer) (known : ℕ) (answer : Answer) → Verdict → Type 0
+IsVerdict states known answer Fault = answer.is_sound ≡ false
+IsVerdict states known answer Mixed = (answer.is_sound ≡ true) × NoneNamed states (string_bytes answer.line)
+IsVerdict states known answer (Kept k) = (answer.is_sound ≡ true) × IsLastNamed states (string_bytes answer.line) k × (known ≤ k)
+IsVerdict states known answer (Lost k) = (answer.is_sound ≡ true) × IsLastNamed states (string_bytes answer.line) k × (k < known)

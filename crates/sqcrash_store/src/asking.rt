@@ -1,0 +1,108 @@
+//! A command is asked of files (own).
+ghost use Rattle.std.specs.Prelude.{◌≡◌, ◌↔◌, [], ◌∷◌, IsTrue, IfOk};
+ghost use Rattle.sqcrash_store.specs.Runs.{IsSaid};
+
+use crate::outcome::Refusal;
+use crate::verdict::Answer;
+use sqstore::Image;
+use std::alloc::Global;
+use std::fs;
+use std::io::{self, BufRead, Write};
+use std::rt::Files;
+
+/// Who says of files whether they are sound, and which state they show.
+pub trait Judge {
+    ghost use Rattle.std.specs.Prelude.{ℕ, List, Option, IfOk};
+    ghost use Rattle.sqstore.specs.Left.{image_of};
+    ghost use Rattle.sqcrash_store.specs.declared.verdict.Answer.{Answer};
+
+    /// What it may say of what the names show.
+    ghost says: { List (Option (List ℕ)) → Answer → Type 0 };
+
+    /// Is asked of an image, whose names have these texts.
+    fn judge(&mut self, image: &Image, names: &[String]) -> Result<Answer, Refusal>
+        ensures { IfOk result (says (image_of image.now)) };
+}
+
+/// Writes each image into a folder of its own, names that in a line, and reads a line with the answer.
+#[derive(Drop)]
+pub struct Asking<'a, R, I, W> {
+    pub rt: &'a R,
+    /// The folder in which those of the images are made.
+    pub path: &'a str,
+    pub answers: &'a mut I,
+    pub asks: W,
+    pub asked: u64,
+}
+
+/// Whether a text is the name of a file in a folder.
+fn is_name(name: &str) -> bool {
+    !name.is_empty() && name != "." && name != ".." && !name.contains('/') && !name.contains('\0')
+}
+
+/// Whether a status is 0.
+fn is_zero(status: &str) -> bool
+    ensures { IsTrue result ↔ (status.now ≡ 48 ∷ []) }
+{
+    status == "0"
+}
+
+/// The answer that a line says: a command's status, a space, and the first line that it wrote.
+pub fn said(alloc: Global, line: &str) -> Result<Answer, Refusal>
+    ensures { IfOk result (λ answer. IsSaid line.now answer) }
+{
+    let Some((status, text)) = line.split_once(' ') else {
+        return Err(Refusal::NoAnswer);
+    };
+    Ok(Answer {
+        is_sound: is_zero(status),
+        line: String::from_str(alloc, text)?,
+    })
+}
+
+fn failed(error: io::Error) -> Refusal {
+    if error.kind() == io::ErrorKind::OutOfMemory {
+        Refusal::NoMemory
+    } else {
+        Refusal::FileFailed
+    }
+}
+
+/// Writes the files of an image into a folder.
+fn put<R: Files + AllocGlobal>(
+    rt: &R,
+    folder: &str,
+    image: &Image,
+    names: &[String],
+) -> Result<(), Refusal> {
+    for (name, shown) in names.iter().zip(image.files.iter()) {
+        if !is_name(name.as_str()) {
+            return Err(Refusal::Name);
+        }
+        if let Some(bytes) = shown {
+            let path = format!(in rt.alloc(); "{folder}/{name}")?;
+            fs::write(rt, path.as_str(), bytes.as_slice()).map_err(failed)?;
+        }
+    }
+    Ok(())
+}
+
+impl<R: Files + AllocGlobal, I: BufRead, W: Write> Judge for Asking<'_, R, I, W> {
+    ghost says = { λ image answer. Unit {0} };
+
+    fn judge(&mut self, image: &Image, names: &[String]) -> Result<Answer, Refusal> {
+        let alloc = self.rt.alloc();
+        let number = self.asked;
+        self.asked = number.wrapping_add(1);
+        let folder = format!(in alloc; "{}/{number}", self.path)?;
+        fs::create_dir(self.rt, folder.as_str()).map_err(failed)?;
+        put(self.rt, folder.as_str(), image, names)?;
+        writeln!(self.asks, "{number}")?;
+        self.asks.flush()?;
+        let mut line = String::new(alloc);
+        if self.answers.read_line(&mut line).map_err(failed)? == 0 {
+            return Err(Refusal::NoAnswer);
+        }
+        said(alloc, line.as_str().trim_end())
+    }
+}

@@ -1,0 +1,45 @@
+//! A trace is judged from its beginning to its end (own).
+ghost use Rattle.std.specs.Prelude.{◌<◌, IfOk};
+
+use crate::asking::Judge;
+use crate::outcome::Refusal;
+use crate::plan::Plan;
+use crate::rig::Rig;
+use crate::states::{take_names, take_states};
+use crate::survey::Bench;
+use crate::tally::Tally;
+use sqstore::Trace;
+use std::alloc::Global;
+use std::io::Write;
+
+/// Judges a trace by a command, and writes a line for each image with something wrong. Answers what there was, which is
+/// one point or more.
+pub fn judge_trace<J: Judge, O: Write>(
+    alloc: Global,
+    plan: Plan,
+    bytes: &[u8],
+    judge: &mut J,
+    out: &mut O,
+) -> Result<Tally, Refusal>
+    ensures { IfOk result (λ tally. 0 < tally.points) }
+{
+    let trace = Trace::read(alloc, bytes)?;
+    let names = take_names(alloc, bytes, &trace.calls)?;
+    let states = take_states(alloc, plan, bytes, &trace.calls, &names, judge)?;
+    let bench = Bench {
+        alloc,
+        plan,
+        trace: bytes,
+        names: &names,
+        states: &states,
+    };
+    let mut rig = Rig::new(&bench);
+    for call in &trace.calls {
+        rig.play(&bench, call, judge, out)?;
+    }
+    let tally = rig.tally();
+    if tally.points == 0 {
+        return Err(Refusal::NoPoints);
+    }
+    Ok(tally)
+}

@@ -1,0 +1,90 @@
+//! Why a run was refused.
+ghost use Rattle.std.specs.Prelude.{◌≡◌, ◌+◌, IfOk};
+
+use sqplay::TraceError;
+use sqstore::StoreError;
+use std::alloc::{AllocError, AllocFailed};
+use std::io;
+use thiserror::Error;
+
+/// Why a run was refused.
+#[derive(Debug, Drop, Error)]
+pub enum Refusal {
+    /// A file is missing, or its system refused a call.
+    #[error("file failed")]
+    FileFailed,
+    /// The trace is none.
+    #[error("{0}")]
+    Trace(TraceError),
+    /// The record at this byte can't be played.
+    #[error("{1} at byte {0}")]
+    Record(usize, StoreError),
+    /// A name of the trace is that of no file in a folder.
+    #[error("a name that isn't one of a file in a folder")]
+    Name,
+    /// No record of the trace is a point.
+    #[error("no marks, so that nothing would be judged; --every judges after each call")]
+    NoPoints,
+    /// The command gave no answer.
+    #[error("no answer")]
+    NoAnswer,
+    /// A count would pass its greatest number.
+    #[error("too many images")]
+    TooMany,
+    /// A line can't be written.
+    #[error("can't write")]
+    Unwritten,
+    /// No memory.
+    #[error("no memory")]
+    NoMemory,
+}
+
+impl From<AllocError> for Refusal {
+    ghost from_gives = { λ _ _. Unit {0} };
+
+    fn from(_error: AllocError) -> Refusal {
+        Refusal::NoMemory
+    }
+}
+
+impl<T: Drop> From<AllocFailed<T>> for Refusal {
+    ghost from_gives = { λ _ _. Unit {0} };
+
+    fn from(_error: AllocFailed<T>) -> Refusal {
+        Refusal::NoMemory
+    }
+}
+
+impl From<StoreError> for Refusal {
+    ghost from_gives = { λ _ _. Unit {0} };
+
+    fn from(_error: StoreError) -> Refusal {
+        Refusal::NoMemory
+    }
+}
+
+impl From<TraceError> for Refusal {
+    ghost from_gives = { λ _ _. Unit {0} };
+
+    fn from(error: TraceError) -> Refusal {
+        Refusal::Trace(error)
+    }
+}
+
+impl From<io::Error> for Refusal {
+    ghost from_gives = { λ _ _. Unit {0} };
+
+    fn from(_error: io::Error) -> Refusal {
+        Refusal::Unwritten
+    }
+}
+
+/// One more.
+pub fn more(count: u64) -> Result<u64, Refusal>
+    ensures { IfOk result (λ n. n ≡ count + 1) }
+{
+    match count.checked_add(1) {
+        Some(n) => Ok(n),
+        None => Err(Refusal::TooMany),
+    }
+}

@@ -1,0 +1,27 @@
+//! How a trace is to be judged (own).
+ghost use Rattle.std.specs.Prelude.{IsTrue};
+ghost use Rattle.crashdisk.specs.Solid.{is_sector_size};
+
+use sqplay::Meta;
+
+/// How a trace is to be judged.
+#[derive(Clone, Copy, Debug, PartialEq, Eq)]
+pub struct Plan {
+    /// The size of a disk's sectors in bytes, a power of two from 512 to 65536.
+    pub sector: usize,
+    /// Whether a sector that is being written may hold anything after a crash.
+    pub tears: bool,
+    /// How names and lengths become durable.
+    pub meta: Meta,
+    /// How many images are drawn at a point.
+    pub images: u64,
+    /// What the draws begin with.
+    pub seed: u64,
+    /// Whether a crash comes after each call, and not only at marks.
+    pub every: bool,
+    /// Whether what the files show at a mark is promised to stay.
+    pub is_promised: bool,
+    /// The point that is judged alone, counted from 1; all where there is none.
+    pub point: Option<u64>,
+    ghost is_size: { IsTrue (is_sector_size sector) },
+}

@@ -1,0 +1,116 @@
+//! The program over a runtime's files, a reader of answers and two writers.
+ghost use Rattle.std.specs.Prelude.{◌≡◌, ◌⊎◌, ◌≤◌};
+ghost use Rattle.std.specs.IoError.{error_kind};
+ghost use Rattle.std.specs.declared.io.ErrorKind.TheVariants.{OutOfMemory};
+
+use crate::asking::Asking;
+use crate::commands::{LineError, Request, request_of};
+use crate::judging::judge_trace;
+use crate::outcome::Refusal;
+use crate::tally::Tally;
+use std::fmt::Display;
+use std::fs;
+use std::fs::OpenOptions;
+use std::io::{self, BufRead, Write};
+use std::rt::Files;
+
+const DONE: u8 = 0;
+
+const WRONG: u8 = 1;
+
+const NOT_UNDERSTOOD: u8 = 2;
+
+const REFUSED: u8 = 3;
+
+/// Carries out a command line, whose first word is the program's name, and answers the program's status: 0 where
+/// nothing is wrong (also for help), 1 where something is with an image, 2 for words that aren't understood, 3 where it
+/// was refused or a file or a writer failed.
+pub fn run<R: Files + AllocGlobal, I: BufRead, O: Write, E: Write>(
+    rt: &R,
+    words: &[&str],
+    answers: &mut I,
+    out: &mut O,
+    err: &mut E,
+) -> u8
+    ensures { result ≤ 3 }
+{
+    let request = match request_of(rt.alloc(), words) {
+        Ok(request) => request,
+        Err(LineError::Help(help)) => return printed(out, &help, DONE),
+        Err(LineError::NotUnderstood(fault)) => return printed(err, &fault, NOT_UNDERSTOOD),
+        Err(LineError::NoMemory) => return refused(err, &LineError::NoMemory),
+    };
+    match carried_out(rt, &request, answers, out) {
+        Ok(tally) if tally.is_clean() => DONE,
+        Ok(_) => WRONG,
+        Err(refusal) => refused(err, &refusal),
+    }
+}
+
+fn failed(error: io::Error) -> Refusal {
+    if error.kind() == io::ErrorKind::OutOfMemory {
+        Refusal::NoMemory
+    } else {
+        Refusal::FileFailed
+    }
+}
+
+/// Judges the trace that is asked for.
+fn carried_out<R: Files + AllocGlobal, I: BufRead, O: Write>(
+    rt: &R,
+    request: &Request<'_>,
+    answers: &mut I,
+    out: &mut O,
+) -> Result<Tally, Refusal> {
+    let bytes = fs::read(rt, request.trace).map_err(failed)?;
+    let asks = OpenOptions::new()
+        .write(true)
+        .open(rt, request.asks)
+        .map_err(failed)?;
+    let mut judge = Asking {
+        rt,
+        path: request.images,
+        answers,
+        asks,
+        asked: 0,
+    };
+    let tally = judge_trace(rt.alloc(), request.plan, &bytes, &mut judge, out)?;
+    line(out, &tally)?;
+    Ok(tally)
+}
+
+/// The status where the words can't be read: 3 for want of memory, 2 where they aren't text.
+pub(crate) fn unread<E: Write>(err: &mut E, error: &io::Error) -> u8
+    ensures least { result ≤ 3 }
+    ensures is { (result ≡ 2) ⊎ (result ≡ 3) }
+    ensures memory { error_kind error.now ≡ OutOfMemory → result ≡ 3 }
+{
+    match error.kind() {
+        io::ErrorKind::OutOfMemory => refused(err, &LineError::NoMemory),
+        _ => printed(err, &"sqcrash_store: the words aren't text", NOT_UNDERSTOOD),
+    }
+}
+
+fn line<W: Write, T: Display>(writer: &mut W, text: &T) -> io::Result<()> {
+    writeln!(writer, "{text}")?;
+    writer.flush()
+}
+
+/// The status, or 3 where the line can't be written.
+fn printed<W: Write, T: Display>(writer: &mut W, text: &T, status: u8) -> u8
+    requires { status ≤ 3 }
+    ensures least { result ≤ 3 }
+    ensures is { (result ≡ status) ⊎ (result ≡ 3) }
+{
+    match line(writer, text) {
+        Ok(()) => status,
+        Err(_) => REFUSED,
+    }
+}
+
+fn refused<W: Write, T: Display>(err: &mut W, text: &T) -> u8
+    ensures { result ≡ 3 }
+{
+    let _ = line(err, &format_args!("sqcrash: {text}"));
+    REFUSED
+}

@@ -1,0 +1,118 @@
+//! A trace is played, and what crashes may leave at its points is judged (own).
+ghost use Rattle.std.specs.Prelude.{◌≡◌};
+ghost use Rattle.sqcrash_store.specs.Points.{is_point, IsKnown};
+
+use crate::asking::Judge;
+use crate::outcome::{Refusal, more};
+use crate::plan::Plan;
+use crate::states::play;
+use crate::survey::{Bench, Point, survey};
+use crate::tally::Tally;
+use rand_pcg::Pcg32;
+use sqstore::{Action, Call, Store};
+use std::io::Write;
+
+/// A run that is being played and judged.
+#[derive(Drop)]
+pub struct Rig {
+    rng: Pcg32,
+    store: Store,
+    tally: Tally,
+    /// How many marks were played.
+    marks: u64,
+    /// The number of the last state that is known to be durable.
+    known: u64,
+}
+
+/// Whether a crash is judged behind a record.
+fn is_point(every: bool, call: &Call) -> bool
+    ensures { result ≡ is_point every call.now.action }
+{
+    match call.action {
+        Action::Mark => true,
+        Action::Base | Action::Name | Action::End => false,
+        _ => every,
+    }
+}
+
+/// The number of the last state that is known to be durable behind a mark with this line, where that is state number
+/// `mark`.
+fn known_by(plan: Plan, line: &[u8], mark: u64, known: u64) -> u64
+    ensures { IsKnown plan line.now mark known result }
+{
+    if plan.is_promised && line != b"mode".as_slice() {
+        mark
+    } else {
+        known
+    }
+}
+
+impl Rig {
+    ghost use Rattle.std.specs.Prelude.{◌≡◌};
+
+    /// Nothing is played yet.
+    pub fn new(bench: &Bench<'_>) -> Rig {
+        let plan = bench.plan;
+        Rig {
+            rng: Pcg32::new(plan.seed, 1),
+            store: Store::new(bench.alloc, plan.sector, plan.tears, plan.meta),
+            tally: Tally::none(),
+            marks: 0,
+            known: 0,
+        }
+    }
+
+    /// What was counted so far.
+    pub fn tally(&self) -> Tally
+        ensures { result ≡ self.now.tally }
+    {
+        self.tally
+    }
+
+    /// Counts a mark, which may promise its state.
+    fn note(&mut self, bench: &Bench<'_>, call: &Call) -> Result<(), Refusal> {
+        if call.action != Action::Mark {
+            return Ok(());
+        }
+        self.marks = more(self.marks)?;
+        self.known = known_by(bench.plan, call.bytes(bench.trace), self.marks, self.known);
+        Ok(())
+    }
+
+    /// Judges what a crash may leave at a point, where that is asked for.
+    fn judge<J: Judge, O: Write>(
+        &mut self,
+        bench: &Bench<'_>,
+        judge: &mut J,
+        out: &mut O,
+    ) -> Result<(), Refusal> {
+        self.tally = self.tally.with_point()?;
+        let number = self.tally.points;
+        if bench.plan.point.is_some_and(|asked| asked != number) {
+            return Ok(());
+        }
+        let point = Point {
+            store: &self.store,
+            number,
+            known: self.known,
+        };
+        self.tally = survey(judge, bench, &mut self.rng, &point, self.tally, out)?;
+        Ok(())
+    }
+
+    /// Plays one record, and where it is a point judges what a crash may leave there.
+    pub fn play<J: Judge, O: Write>(
+        &mut self,
+        bench: &Bench<'_>,
+        call: &Call,
+        judge: &mut J,
+        out: &mut O,
+    ) -> Result<(), Refusal> {
+        play(&mut self.store, bench.trace, call)?;
+        self.note(bench, call)?;
+        if is_point(bench.plan.every, call) {
+            self.judge(bench, judge, out)?;
+        }
+        Ok(())
+    }
+}

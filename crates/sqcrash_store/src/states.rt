@@ -1,0 +1,83 @@
+//! The states that a run had at its marks (own).
+ghost use Rattle.std.specs.Prelude.{OnOk};
+ghost use Rattle.sqstore.specs.Stores.{store_of, Goes};
+
+use crate::asking::Judge;
+use crate::outcome::Refusal;
+use crate::plan::Plan;
+use crate::verdict::Answer;
+use sqstore::{Action, Call, Store, present};
+use std::alloc::Global;
+
+/// The text of a name that a record tells.
+fn text_of(alloc: Global, trace: &[u8], call: &Call) -> Result<String, Refusal> {
+    match std::str::from_utf8(call.bytes(trace)) {
+        Ok(text) => Ok(String::from_str(alloc, text)?),
+        Err(_) => Err(Refusal::Name),
+    }
+}
+
+/// The names that the records of a trace tell, in their order.
+pub fn take_names(alloc: Global, trace: &[u8], calls: &[Call]) -> Result<Vec<String>, Refusal> {
+    let mut names = Vec::new(alloc);
+    for call in calls {
+        if call.action == Action::Name {
+            names.push(text_of(alloc, trace, call)?)?;
+        }
+    }
+    Ok(names)
+}
+
+/// Plays one record.
+pub fn play(store: &mut Store, trace: &[u8], call: &Call) -> Result<(), Refusal>
+    ensures { OnOk result (Goes trace.now call.now (store_of store.old) (store_of store.new)) }
+{
+    match store.play(trace, call) {
+        Ok(()) => Ok(()),
+        Err(error) => Err(Refusal::Record(call.from.saturating_sub(40), error)),
+    }
+}
+
+/// Adds what the command says of the files as they are now, if so.
+fn take_where<J: Judge>(
+    alloc: Global,
+    is: bool,
+    store: &Store,
+    names: &[String],
+    judge: &mut J,
+    states: &mut Vec<Answer>,
+) -> Result<(), Refusal> {
+    if !is {
+        return Ok(());
+    }
+    let image = present(alloc, store)?;
+    let answer = judge.judge(&image, names)?;
+    states.push(answer)?;
+    Ok(())
+}
+
+/// Whether a record is the first that isn't of what was there when recording began.
+fn is_first(states: &[Answer], call: &Call) -> bool {
+    states.is_empty() && !matches!(call.action, Action::Base | Action::Name)
+}
+
+/// What the command says of the files before the first call, and at each mark.
+pub fn take_states<J: Judge>(
+    alloc: Global,
+    plan: Plan,
+    trace: &[u8],
+    calls: &[Call],
+    names: &[String],
+    judge: &mut J,
+) -> Result<Vec<Answer>, Refusal> {
+    let mut store = Store::new(alloc, plan.sector, plan.tears, plan.meta);
+    let mut states = Vec::new(alloc);
+    for call in calls {
+        let is_first = is_first(&states, call);
+        take_where(alloc, is_first, &store, names, judge, &mut states)?;
+        play(&mut store, trace, call)?;
+        let is_mark = call.action == Action::Mark;
+        take_where(alloc, is_mark, &store, names, judge, &mut states)?;
+    }
+    Ok(states)
+}

@@ -1,0 +1,74 @@
+//! What was judged is counted (own).
+use crate::outcome::{Refusal, more};
+use crate::verdict::Verdict;
+use std::fmt;
+
+/// How many points and images there were, and of these how many with something wrong.
+#[derive(Clone, Copy, Debug, PartialEq, Eq)]
+pub struct Tally {
+    pub points: u64,
+    pub images: u64,
+    /// A state that was known to be durable is gone.
+    pub lost: u64,
+    /// A state that the run never had at a mark.
+    pub mixed: u64,
+    /// Files that aren't sound.
+    pub faults: u64,
+}
+
+impl Tally {
+    ghost use Rattle.std.specs.Prelude.{◌≡◌, ◌↔◌, IsTrue, IfOk};
+    ghost use Rattle.sqcrash_store.specs.Tallies.{no_tally, with_point, with_image, IsClean};
+
+    /// None.
+    pub fn none() -> Tally
+        ensures { result ≡ no_tally }
+    {
+        Tally {
+            points: 0,
+            images: 0,
+            lost: 0,
+            mixed: 0,
+            faults: 0,
+        }
+    }
+
+    /// Whether nothing is wrong.
+    pub fn is_clean(&self) -> bool
+        ensures { IsTrue result ↔ IsClean self.now }
+    {
+        self.lost == 0 && self.mixed == 0 && self.faults == 0
+    }
+
+    /// With one more point.
+    pub fn with_point(mut self) -> Result<Tally, Refusal>
+        ensures { IfOk result (λ t. t ≡ with_point self) }
+    {
+        self.points = more(self.points)?;
+        Ok(self)
+    }
+
+    /// With one more image, of which this is to be said.
+    pub fn with_image(mut self, verdict: Verdict) -> Result<Tally, Refusal>
+        ensures { IfOk result (λ t. t ≡ with_image self verdict) }
+    {
+        self.images = more(self.images)?;
+        match verdict {
+            Verdict::Kept(_) => {}
+            Verdict::Lost(_) => self.lost = more(self.lost)?,
+            Verdict::Mixed => self.mixed = more(self.mixed)?,
+            Verdict::Fault => self.faults = more(self.faults)?,
+        }
+        Ok(self)
+    }
+}
+
+impl fmt::Display for Tally {
+    fn fmt<W: fmt::Write>(&self, f: &mut fmt::Formatter<W>) -> fmt::Result {
+        write!(
+            f,
+            "{} points, {} images, {} lost, {} mixed, {} faults",
+            self.points, self.images, self.lost, self.mixed, self.faults
+        )
+    }
+}

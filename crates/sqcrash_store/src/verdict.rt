@@ -1,0 +1,62 @@
+//! What a command says of files, and what that means (own).
+ghost use Rattle.std.specs.Prelude.{◌≡◌, ◌↔◌, IsTrue, true, MatchOption};
+ghost use Rattle.std.specs.String.{string_bytes};
+ghost use Rattle.sqcrash_store.specs.Verdicts.{IsLastNamed, NoneNamed, IsVerdict};
+
+/// What a command said of files.
+#[derive(Debug, Drop, PartialEq, Eq)]
+pub struct Answer {
+    /// Whether its status was 0.
+    pub is_sound: bool,
+    /// The first line that it wrote, which names the state of files that are sound.
+    pub line: String,
+}
+
+/// What is to be said of an image.
+#[derive(Clone, Copy, Debug, PartialEq, Eq)]
+pub enum Verdict {
+    /// It shows the state of this number, which isn't older than the last one that is known to be durable.
+    Kept(usize),
+    /// The state that it shows is older.
+    Lost(usize),
+    /// It is sound, and shows a state that the run never had at a mark.
+    Mixed,
+    /// It isn't sound.
+    Fault,
+}
+
+/// Whether a state has this name.
+fn is_named(state: &Answer, line: &str) -> bool
+    ensures { IsTrue result ↔ ((state.now.is_sound ≡ true) × (string_bytes state.now.line ≡ line.now)) }
+{
+    state.is_sound && state.line.as_str() == line
+}
+
+/// The last of some states that has this name.
+fn last_named(states: &[Answer], line: &str) -> Option<usize>
+    ensures { MatchOption result (NoneNamed states.now line.now) (IsLastNamed states.now line.now) }
+{
+    let mut k = states.len();
+    while k > 0 {
+        k -= 1;
+        if is_named(&states[k], line) {
+            return Some(k);
+        }
+    }
+    None
+}
+
+/// What is to be said of an image of which the command gave an answer, where the state of number `known` is known to be
+/// durable.
+pub fn verdict_of(states: &[Answer], known: u64, answer: &Answer) -> Verdict
+    ensures { IsVerdict states.now known answer.now result }
+{
+    if !answer.is_sound {
+        return Verdict::Fault;
+    }
+    match last_named(states, answer.line.as_str()) {
+        None => Verdict::Mixed,
+        Some(k) if (k as u64) < known => Verdict::Lost(k),
+        Some(k) => Verdict::Kept(k),
+    }
+}

@@ -1,0 +1,3 @@
+pub mod ConsecutiveCalls
+pub mod ListsThatGrow
+pub mod NamesShown

@@ -1,0 +1,5 @@
+pub mod Calls
+pub mod Names
+pub mod Stores
+pub mod Left
+pub mod internal

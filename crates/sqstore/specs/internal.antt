@@ -1,0 +1,4 @@
+-- What no public clause reaches.
+pub mod Calls
+pub mod Goings
+pub mod Showing

@@ -1,0 +1,15 @@
+//! What crashes may leave of a set of files in a folder, of any program (own): the trace of a run is read, and played.
+#![tactic(auto)]
+
+mod call;
+mod error;
+mod image;
+mod resized;
+mod store;
+mod table;
+
+pub use call::{Action, Call, Trace};
+pub use error::StoreError;
+pub use image::{Image, draw, present};
+pub use store::Store;
+pub use table::Naming;
