@@ -1,0 +1,10 @@
+-- Which pages are marked.
+pub mod MarkedPages
+-- What a page is that was read.
+pub mod PagesOfTrees
+-- What is to come, page by page.
+pub mod StepsOfWalk
+-- One turn of the walk over a tree, and its end.
+pub mod TurnsOfWalk
+-- The leaves that no tree reached, page by page.
+pub mod LostLeaves

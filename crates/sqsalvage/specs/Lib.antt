@@ -1,0 +1,4 @@
+pub mod TreePages
+pub mod Reached
+pub mod SalvageCursor
+pub mod internal

@@ -1,0 +1,7 @@
+//! Tests of what is read of damaged databases, which are made in memory.
+#![tactic(auto)]
+
+#[cfg(test)]
+mod files;
+#[cfg(test)]
+mod leaves_tests;
