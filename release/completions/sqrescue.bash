@@ -6,7 +6,7 @@ _sqrescue() {
   COMPREPLY=()
   for ((at = 1; at < COMP_CWORD; at++)); do
     case ${COMP_WORDS[at]} in
-      show | check | rows | recover | report | help)
+      show | check | rows | diff | recover | report | help)
         command=${COMP_WORDS[at]}
         break
         ;;
@@ -14,6 +14,10 @@ _sqrescue() {
   done
   case $before in
     --at)
+      :
+      return
+      ;;
+    --from)
       :
       return
       ;;
@@ -42,13 +46,14 @@ _sqrescue() {
     show) options='-v --verbose --json --at --large --super-journal= --wait --no-lock --page --pages --pointer-maps --log --all --commits -h --help' ;;
     check) options='-v --verbose --json --at --large --super-journal= --wait --no-lock --pointer-maps --deep -h --help' ;;
     rows) options='-v --verbose --json --at --large --super-journal= --wait --no-lock --table --csv --sql -h --help' ;;
+    diff) options='-v --verbose --json --from --large --super-journal= --wait --no-lock --to --table --sql -h --help' ;;
     recover) options='-v --verbose --json --at --large --super-journal= --wait --no-lock --to --force -h --help' ;;
     report) options='-v --verbose --json --at --large --super-journal= --wait --no-lock --pointer-maps --to -h --help' ;;
     '') options='-V --version -h --help' ;;
   esac
   if [ -z "$command" ] || [ "$command" = help ]; then
-    [ -n "$command" ] || options+=' show check rows recover report help'
-    [ -z "$command" ] || options='show check rows recover report help'
+    [ -n "$command" ] || options+=' show check rows diff recover report help'
+    [ -z "$command" ] || options='show check rows diff recover report help'
     COMPREPLY=($(compgen -W "$options" -- "$word"))
   elif [[ $word == -* ]]; then
     COMPREPLY=($(compgen -W "$options" -- "$word"))

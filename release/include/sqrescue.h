@@ -46,6 +46,8 @@
    - sqr_page_place: `placed`, the page is these bytes; `there`, `outside`, `kept`. sqr_log: `log`, `two`, `kept`.
    - sqr_check, sqr_check_at, sqr_check_with: `clean`, the database is well formed and has these counts; `damaged`, the
      fault stands at its page; `unjudged`, each refusal stands for its reason; `known`, which flags there are; `kept`.
+   - sqr_check_deep: `found`, also its records, its schema and each index but those that are named are sound, or the
+     fault stands where it says;
    - sqr_page_roles: `roles`, the array has the role of each page, and the fault is the one that a check finds;
      `crowded`, SQR_NO_ROOM only for want of room, which is told; `refused`, `known`, `roles_kept`, `out_kept`.
    - sqr_plan: `planned`, which recovery it is, and over which view; `refused`, `recovery`, `room`, `kept`.
@@ -133,7 +135,7 @@ enum sqr_status
    sqr_status_text, which is proved, has the same one. */
 const char *sqr_status_name(uint32_t status);
 
-/* The faults that sqr_check finds. docs/OUTPUT.md says what each means, and at which page it is. */
+/* The faults that the checks find. docs/OUTPUT.md says what each means, and at which page it is. */
 enum sqr_fault {
     SQR_FAULT_MAGIC = 1,
     SQR_FAULT_PAGE_SIZE = 2,
@@ -156,11 +158,40 @@ enum sqr_fault {
     SQR_FAULT_SOURCE = 19,    /* never comes: bytes in memory can be read */
     SQR_FAULT_NO_MEMORY = 20, /* comes as SQR_NO_MEMORY */
     SQR_FAULT_SCHEMA_RECORD = 21,
-    SQR_FAULT_POINTER_MAP = 22 /* with SQR_POINTER_MAPS alone */
+    SQR_FAULT_POINTER_MAP = 22, /* with SQR_POINTER_MAPS alone */
+
+    /* Those of sqr_check_deep alone. From 30 on of a page, */
+    SQR_FAULT_VERSION = 30,
+    SQR_FAULT_SCHEMA_FORMAT = 31,
+    SQR_FAULT_TEXT_ENCODING = 32,
+    SQR_FAULT_EMPTY_PAGE = 33,
+    SQR_FAULT_FREEBLOCK_GAP = 34,
+    SQR_FAULT_ROOT_BEHIND = 35,
+    SQR_FAULT_SHORT_CELL = 40, /* of a cell, */
+    SQR_FAULT_TOO_LONG = 41,
+    SQR_FAULT_NOT_RECORD = 42,
+    SQR_FAULT_TEXT_FORM = 43,
+    SQR_FAULT_ROW_FORM = 50, /* of a row of the schema, */
+    SQR_FAULT_OBJECT_TYPE = 51,
+    SQR_FAULT_CREATE_TEXT = 52,
+    SQR_FAULT_ROOT_NUMBER = 53,
+    SQR_FAULT_NAME_TWICE = 54,
+    SQR_FAULT_TABLE_NAME = 55,
+    SQR_FAULT_ROOT_KIND = 56,
+    SQR_FAULT_ENTRY_FORM = 60, /* of an index, by its row and a cell, */
+    SQR_FAULT_ENTRY_ORDER = 61,
+    SQR_FAULT_KEY_TWICE = 62,
+    SQR_FAULT_ENTRY_OF_NO_ROW = 63,
+    SQR_FAULT_ROW_WITHOUT_ENTRY = 64,
+    SQR_FAULT_ROW_TWICE = 65,
+    SQR_FAULT_NULL_UNDER_NOT_NULL = 70, /* of a table, so too */
+    SQR_FAULT_TYPE_UNDER_STRICT = 71,
+    SQR_FAULT_NUMBER_UNDER_TEXT = 72,
+    SQR_FAULT_TEXT_UNDER_NUMERIC = 73
 };
 
-/* The name that `sqrescue check` prints: "KeyOrder"; "?" of another number. A text that stays; sqr_fault_text has the
-   same one. */
+/* The name that `sqrescue check` prints: "KeyOrder"; "?" of another number. A text that stays; of the faults of
+   sqr_check sqr_fault_text has the same one. */
 const char *sqr_fault_name(uint32_t fault);
 
 /* A name, and zeros behind it up to the 24th byte, one at least. */
@@ -168,8 +199,8 @@ struct sqr_name {
     char text[24];
 };
 
-/* Writes the name of a status or of a fault by its number, "?" of another number, and answers how long it is, without
-   the zeros. Both are proved; neither refuses anything nor asks for memory. */
+/* Writes the name of a status or of a fault of sqr_check by its number, "?" of another number, and answers how long it
+   is, without the zeros. Both are proved; neither refuses anything nor asks for memory. */
 uint32_t sqr_status_text(uint32_t status, struct sqr_name *name);
 uint32_t sqr_fault_text(uint32_t fault, struct sqr_name *name);
 
@@ -292,18 +323,47 @@ enum sqr_flag {
                              and the scans */
     SQR_NO_LOCK = 2,      /* sqr_open_path, sqr_recover, sqr_recover_to: no locks are taken: the caller sees to A4, and
                              a file that is cut ends the process */
-    SQR_AT = 4,           /* sqr_open_path, sqr_recover_to, sqr_check_with, sqr_page_roles: the database at a commit, as
-                             sqr_open_at */
-    SQR_LARGE = 8,        /* sqr_check_with, sqr_page_roles: a database of up to 2^40 bytes, and a log of up to 2^32 - 2
-                             valid frames, where otherwise 2^30 and 2^21 are too large */
+    SQR_AT = 4,           /* sqr_open_path, sqr_recover_to, sqr_check_with, sqr_check_deep, sqr_page_roles: the
+                             database at a commit, as sqr_open_at */
+    SQR_LARGE = 8,        /* sqr_check_with, sqr_check_deep, sqr_page_roles: a database of up to 2^40 bytes, and a log
+                             of up to 2^32 - 2 valid frames, where otherwise 2^30 and 2^21 are too large */
     SQR_POINTER_MAPS = 16 /* sqr_check_with, sqr_page_roles: a database of auto-vacuum too, with its pointer maps
-                             (fileformat2, 1.8), which otherwise is refused by SQR_AUTO_VACUUM */
+                             (fileformat2, 1.8), which otherwise is refused by SQR_AUTO_VACUUM; sqr_check_deep judges
+                             them with it or without */
 };
 
 /* The same with what is asked for: SQR_AT, at the commit that `frame` ends, which isn't looked at otherwise; SQR_LARGE;
    SQR_POINTER_MAPS, with which SQR_FAULT_POINTER_MAP is a fault too. Refused as sqr_check is, or with SQR_AT as
    sqr_check_at, and by SQR_UNKNOWN_OPTIONS where a flag is another one. */
 uint32_t sqr_check_with(const struct sqr_files *files, uint32_t flags, uint32_t frame, struct sqr_report *report);
+
+/* Which places a fault of a deep check names. */
+enum sqr_deep_place {
+    SQR_DEEP_PAGE = 1,
+    SQR_DEEP_CELL = 2, /* of that page */
+    SQR_DEEP_ROW = 4   /* of the schema, that is of sqlite_schema */
+};
+
+/* With SQR_OK fault 0 and the counts of sqr_report; with SQR_DAMAGED a fault, the sum of the places that it names, and
+   the counts 0. A place that isn't named is 0. Of a sound database also how many indexes aren't judged, of how many
+   tables the rows aren't, and of how many tables it isn't judged of which kind their tree is, since their texts aren't
+   understood: 0 where nothing is left open. */
+struct sqr_deep_report {
+    uint32_t fault, places, page; /* the page from 1 */
+    uint32_t pages, trees, btree, overflow, free;
+    uint64_t cell, row; /* both from 0; rows in the order of rowids. The program prints rows from 1 */
+    uint64_t indexes, tables, asides;
+};
+
+/* The same as sqr_check_with, and whether what the pages hold is sound, too, as `sqrescue check --deep`: each payload
+   is a record, each row of the schema one of an object, each index has its table's keys and rowids, each row keeps to
+   its table's columns. Pointer maps are judged where there are any. SQR_OK, or SQR_DAMAGED with a fault that stands:
+   one of sqr_check_with, or one from 30 on (docs/OUTPUT.md). With SQR_OK the rows of the schema of the indexes and then
+   of the tables that aren't judged are in unjudged[0], unjudged[1] and so on, as many as there is room for. Refused as
+   sqr_check_with is, but never by SQR_AUTO_VACUUM. Memory: as of sqr_check, the schema, and the payloads of the largest
+   index with 64 bytes for each of its entries, at most 2^30 bytes, above which it isn't judged. */
+uint32_t sqr_check_deep(const struct sqr_files *files, uint32_t flags, uint32_t frame, uint64_t *unjudged, size_t room,
+                        struct sqr_deep_report *report);
 
 /* What a page is used for (fileformat2, 1.4 to 1.8). */
 enum sqr_page_kind {
