@@ -89,6 +89,7 @@ const char *sqr_fault_name(uint32_t fault) {
     case SQR_FAULT_TYPE_UNDER_STRICT: return "TypeUnderStrict";
     case SQR_FAULT_NUMBER_UNDER_TEXT: return "NumberUnderText";
     case SQR_FAULT_TEXT_UNDER_NUMERIC: return "TextUnderNumeric";
+    case SQR_FAULT_ROW_ORDER: return "RowOrder";
     default: return "?";
     }
 }

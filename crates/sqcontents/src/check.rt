@@ -3,32 +3,32 @@ ghost use Rattle.std.specs.Prelude.{◌≡◌, ◌++◌, ◌∷◌, ◌<◌, [],
 ghost use Rattle.std.specs.Prelude.{if◌then◌else◌, false, map, length};
 ghost use Rattle.sqpage.specs.Source.{KeepsPages};
 ghost use Rattle.sqschema.specs.Items.{seen};
-ghost use Rattle.sqcontents.specs.Contents.{AreIndexesJudged, ContentsRefused, HasKey, HasNoKey};
+ghost use Rattle.sqcontents.specs.Contents.{AreIndexesJudged, ContentsRefused, HasItemKey, HasNoItemKey};
 ghost use Rattle.sqcontents.specs.internal.Judging.{AreNumbersOf, JudgesIndex};
 ghost use Rattle.sqcontents.specs.internal.Judging.{IsUnsound, IsRefusedBy, IsUnjudgedBy, IsErrorBy};
 
 use crate::error::{ContentError, ContentsError};
 use crate::first::{Numbers, numbers_of};
+use crate::item_key::{ItemKey, item_key_of, judge_by_key};
 use crate::items::{is_index, item_at, root_in, table_of};
-use crate::keys::key_of_item;
-use sqindex::{IndexError, IndexKey, ReadError, judge_index};
+use sqindex::{IndexError, ReadError};
 use sqpage::{Fault, PageSource};
 use sqschema::Item;
 use std::alloc::Global;
 
-/// The key of an index of a table, as `key_of_item` gives it. Refused by NoMemory.
+/// What an index of a table is judged by, as `item_key_of` gives it. Refused by NoMemory.
 fn key_for(
     alloc: Global,
     table: &Item,
     index: &Item,
     format: u32,
-) -> Result<Option<IndexKey>, ContentsError>
+) -> Result<Option<ItemKey>, ContentsError>
     ensures ok { IfOk result (λ found. MatchOption found
-        (HasNoKey format (seen table.now).sql (seen index.now).sql index.now.name.items)
-        (HasKey format (seen table.now).sql (seen index.now).sql index.now.name.items)) }
+        (HasNoItemKey format (seen table.now).sql (seen index.now).sql index.now.name.items)
+        (HasItemKey format (seen table.now).sql (seen index.now).sql index.now.name.items)) }
     ensures err { IfErr result (λ e. e ≡ ContentsError.NoMemory) }
 {
-    match key_of_item(alloc, table, index, format) {
+    match item_key_of(alloc, table, index, format) {
         Ok(found) => Ok(found),
         Err(_) => Err(ContentsError::NoMemory),
     }
@@ -100,7 +100,7 @@ fn judge_item<S: PageSource>(
     let Some(key) = key_for(alloc, table, index, numbers.format)? else {
         return Ok(false);
     };
-    match judge_index(alloc, source, table_root, index_root, &key, limit) {
+    match judge_by_key(alloc, source, table_root, index_root, &key, limit) {
         Ok(_) => Ok(true),
         Err(error) => judged_by(error, row),
     }
@@ -121,7 +121,7 @@ pub(crate) fn note(asides: &mut Vec<usize>, row: usize, judged: bool) -> Result<
 }
 
 /// Judges each index of a sound schema against its table, and answers which rows of the schema are indexes that aren't
-/// judged: those whose texts aren't understood, on expressions, with WHERE, or of tables WITHOUT ROWID, those whose
+/// judged: those whose texts aren't understood, or on expressions, those whose
 /// entries take more than `limit` bytes, those whose rows or entries can't be read, and all in a database of UTF-16.
 /// Refused by the first index that isn't sound, by Source where a page could not be read, and by NoMemory. It holds one
 /// index at a time, as `judge_index` does.

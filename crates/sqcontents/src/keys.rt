@@ -22,7 +22,7 @@ fn ends_with(alloc: Global, name: &[u8], number: u32) -> Result<bool, AllocError
 }
 
 /// The number at the end of the name of an index that a constraint made, from 1.
-fn number_of(alloc: Global, name: &[u8]) -> Result<Option<u32>, AllocError>
+pub(crate) fn number_of(alloc: Global, name: &[u8]) -> Result<Option<u32>, AllocError>
     ensures { IfOk result (λ found. MatchOption found (HasNoNumber name.now) (EndsWith name.now)) }
 {
     'numbers: for number in 1..=MOST_NUMBER {

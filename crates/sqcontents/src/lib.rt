@@ -5,8 +5,10 @@
 mod check;
 mod error;
 mod first;
+mod item_key;
 mod items;
 mod keys;
+mod table_rules;
 mod tables;
 
 pub use check::check_contents;

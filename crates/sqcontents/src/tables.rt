@@ -1,34 +1,19 @@
 //! The check of the rows of a schema's tables (own).
-ghost use Rattle.std.specs.Prelude.{◌≡◌, ◌<◌, false, map, length, IfOk, IfErr, MatchOption};
+ghost use Rattle.std.specs.Prelude.{◌≡◌, ◌<◌, false, map, length, IfOk, IfErr};
 ghost use Rattle.sqpage.specs.Source.{KeepsPages};
 ghost use Rattle.sqschema.specs.Items.{seen};
-ghost use Rattle.sqcontents.specs.Contents.{AreTablesJudged, ContentsRefused, HasRules, HasNoRules};
+ghost use Rattle.sqcontents.specs.Contents.{AreTablesJudged, ContentsRefused};
 ghost use Rattle.sqcontents.specs.internal.Judging.{AreNumbersOf, JudgesTable, IsUnknownBy, IsTableErrorBy};
 
 use crate::check::{note, refused_by};
 use crate::error::{ContentsError, TableRowError};
 use crate::first::{Numbers, numbers_of};
 use crate::items::{is_rooted, item_at, root_in};
-use sqindex::{ColumnRule, TableError, judge_rows};
-use sqkeys::rules_of;
+use crate::table_rules::{judge_by_rules, rules_for};
+use sqindex::TableError;
 use sqpage::PageSource;
 use sqschema::Item;
 use std::alloc::Global;
-
-/// What the columns of a table keep to. None where its text isn't understood. Refused by NoMemory.
-fn rules_for(alloc: Global, table: &Item) -> Result<Option<Vec<ColumnRule>>, ContentsError>
-    ensures ok { IfOk result (λ found. MatchOption found (HasNoRules (seen table.now).sql)
-        (λ rules. HasRules (seen table.now).sql rules.items)) }
-    ensures err { IfErr result (λ e. e ≡ ContentsError.NoMemory) }
-{
-    let Some(text) = &table.sql else {
-        return Ok(None);
-    };
-    match rules_of(alloc, text) {
-        Ok(found) => Ok(found),
-        Err(_) => Err(ContentsError::NoMemory),
-    }
-}
 
 /// What it says of table `row` that its rows aren't found to keep to its columns: false where it isn't judged.
 fn unknown_by(error: TableError, row: usize) -> Result<bool, ContentsError>
@@ -69,19 +54,19 @@ fn judge_table<S: PageSource>(
     let Some(root) = root_in(table, source.count()) else {
         return Ok(false);
     };
-    let Some(rules) = rules_for(alloc, table)? else {
+    let Some(rules) = rules_for(alloc, table, numbers.format)? else {
         return Ok(false);
     };
-    match judge_rows(alloc, source, root, &rules) {
+    match judge_by_rules(alloc, source, root, &rules) {
         Ok(clear) => Ok(clear),
         Err(error) => unknown_by(error, row),
     }
 }
 
 /// Judges the rows of each table of a sound schema against its columns, and answers which rows of the schema are tables
-/// that aren't judged: those whose texts aren't understood, those WITHOUT ROWID, those with a row that doesn't store a
+/// that aren't judged: those whose texts aren't understood, those with a row that doesn't store a
 /// column whose default isn't known, those whose rows can't be read, and all in a database of UTF-16. Refused by the
-/// first row of a table that isn't sound, by Source where a page could not be read, and by NoMemory. It holds one row.
+/// first row of a table that isn't sound, by Source where a page could not be read, and by NoMemory. It holds two rows.
 pub fn check_tables<S: PageSource>(
     alloc: Global,
     source: &mut S,

@@ -76,8 +76,17 @@ fn an_index_of_another_column(rt: HostRuntime) -> Result<(), Fail> {
 
 #[test]
 fn an_index_that_is_not_judged(rt: HostRuntime) -> Result<(), Fail> {
-    match found(rt.alloc(), b"CREATE INDEX t_n ON t(n) WHERE n > 1")? {
+    match found(rt.alloc(), b"CREATE INDEX t_n ON t(n + 1)")? {
         Some(Ok(unjudged)) => assert!(rt; unjudged.as_slice() == [1].as_slice()),
+        _ => assert!(rt; false),
+    }
+    Ok(())
+}
+
+#[test]
+fn a_partial_index(rt: HostRuntime) -> Result<(), Fail> {
+    match found(rt.alloc(), b"CREATE INDEX t_n ON t(n) WHERE n > 1")? {
+        Some(Ok(unjudged)) => assert!(rt; unjudged.is_empty()),
         _ => assert!(rt; false),
     }
     Ok(())

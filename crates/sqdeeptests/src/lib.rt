@@ -11,6 +11,8 @@ mod index_tests;
 #[cfg(test)]
 mod key_tests;
 #[cfg(test)]
+mod keyed_tests;
+#[cfg(test)]
 mod row_tests;
 #[cfg(test)]
 mod schema_tests;

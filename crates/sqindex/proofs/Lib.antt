@@ -10,3 +10,7 @@ pub mod RowsJoined
 pub mod IndexesRefuted
 pub mod IndexesJudged
 pub mod RowsScanned
+pub mod KeyedScanned
+pub mod RowsOfKind
+pub mod EntriesMarked
+pub mod IndexesMarked

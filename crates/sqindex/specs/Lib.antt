@@ -6,4 +6,6 @@ pub mod Indexes
 pub mod Numbers
 pub mod RowFaults
 pub mod RowsKept
+pub mod KeyedRows
+pub mod EntryIndexes
 pub mod internal

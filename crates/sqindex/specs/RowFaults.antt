@@ -9,6 +9,7 @@ number_of faults.NullUnderNotNull = 70
 number_of faults.TypeUnderStrict = 71
 number_of faults.NumberUnderText = 72
 number_of faults.TextUnderNumeric = 73
+number_of faults.RowOrder = 74
 
 -- own: the name of a fault in a report
 abbrev pub name_of : RowFault → List ℕ
@@ -16,3 +17,4 @@ name_of faults.NullUnderNotNull = codes "NullUnderNotNull"
 name_of faults.TypeUnderStrict = codes "TypeUnderStrict"
 name_of faults.NumberUnderText = codes "NumberUnderText"
 name_of faults.TextUnderNumeric = codes "TextUnderNumeric"
+name_of faults.RowOrder = codes "RowOrder"

@@ -4,3 +4,5 @@ pub mod Held
 pub mod Judging
 pub mod Joining
 pub mod Scanning
+pub mod KeyedScanning
+pub mod Marking

@@ -19,10 +19,13 @@ pub enum RowFault {
     /// A text that reads as a number stands in a column of affinity NUMERIC, INTEGER or REAL.
     #[error("a text that reads as a number stands under a numeric affinity")]
     TextUnderNumeric,
+    /// A row of a table WITHOUT ROWID doesn't come behind the one before it by its primary key.
+    #[error("a row is out of the order of its primary key")]
+    RowOrder,
 }
 
 impl RowFault {
-    /// The fault's number, from 70 to 73.
+    /// The fault's number, from 70 to 74.
     pub fn number(&self) -> u8
         ensures { result ≡ number_of self.now }
     {
@@ -31,6 +34,7 @@ impl RowFault {
             RowFault::TypeUnderStrict => 71,
             RowFault::NumberUnderText => 72,
             RowFault::TextUnderNumeric => 73,
+            RowFault::RowOrder => 74,
         }
     }
 
@@ -43,6 +47,7 @@ impl RowFault {
             RowFault::TypeUnderStrict => "TypeUnderStrict",
             RowFault::NumberUnderText => "NumberUnderText",
             RowFault::TextUnderNumeric => "TextUnderNumeric",
+            RowFault::RowOrder => "RowOrder",
         }
     }
 }

@@ -1,3 +1,4 @@
 pub mod LastSaid
 pub mod Pairs
 mod RulesPushed
+pub mod EntriesOver

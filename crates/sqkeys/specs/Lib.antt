@@ -5,3 +5,5 @@ pub mod Keys
 pub mod Constraints
 pub mod Accepted
 pub mod RowRules
+pub mod Keyed
+pub mod Entries

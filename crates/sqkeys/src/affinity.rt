@@ -16,7 +16,7 @@ pub(crate) enum Affinity {
 }
 
 /// Whether a text begins with a word.
-fn begins(text: &[u8], word: &[u8]) -> bool
+pub(crate) fn begins(text: &[u8], word: &[u8]) -> bool
     ensures { result ≡ begins text.now word.now }
 {
     let end = word.len().min(text.len());

@@ -63,7 +63,7 @@ fn collation_for(body: &TableBody, keyed: &Keyed) -> Collation
 }
 
 /// Whether two columns of keys are one, sorted by the same collation.
-fn is_like(body: &TableBody, a: &Keyed, b: &Keyed) -> bool
+pub(crate) fn is_like(body: &TableBody, a: &Keyed, b: &Keyed) -> bool
     ensures { result ≡ is_like body.now a.now b.now }
 {
     a.name.as_slice().eq_ignore_ascii_case(b.name.as_slice())
@@ -121,7 +121,7 @@ fn indexes_of(alloc: Global, body: &TableBody) -> Result<Vec<&[Keyed]>, AllocErr
 }
 
 /// The columns of the index of this number, from 1.
-fn index_numbered(
+pub(crate) fn index_numbered(
     alloc: Global,
     body: &TableBody,
     number: u32,

@@ -14,7 +14,7 @@ use sqtables::is_integer;
 use std::alloc::{AllocError, Global};
 
 /// The first column of this name.
-fn column_named(body: &TableBody, name: &[u8]) -> Option<usize>
+pub(crate) fn column_named(body: &TableBody, name: &[u8]) -> Option<usize>
     ensures { result ≡ column_named body.now name.now }
 {
     let columns = body.columns.as_slice();

@@ -27,7 +27,7 @@ pub struct ColumnRule {
 }
 
 /// Whether a key has a column of this name.
-fn has_column(keys: &[Keyed], name: &[u8]) -> bool
+pub(crate) fn has_column(keys: &[Keyed], name: &[u8]) -> bool
     ensures { result ≡ list_any (λ keyed. str_eq_ignore_ascii_case keyed.name name.now) keys.now }
 {
     keys.iter()
@@ -48,7 +48,7 @@ fn forbids_null(rule: &Rule, is_strict: bool, name: &[u8]) -> bool
 }
 
 /// Whether a table forbids NULL in the column of this name.
-fn is_not_null(made: &CreateTable, name: &[u8]) -> bool
+pub(crate) fn is_not_null(made: &CreateTable, name: &[u8]) -> bool
     ensures { result ≡ is_not_null made.now name.now }
 {
     let rules = made.body.rules.as_slice();

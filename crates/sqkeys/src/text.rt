@@ -3,6 +3,7 @@ ghost use Rattle.std.specs.Prelude.{◌≡◌, ◌≢◌, IfOk, MatchOption};
 ghost use Rattle.sqlite_ast.specs.declared.CreateIndex.{CreateIndex};
 ghost use Rattle.sqlite_ast.specs.declared.CreateTable.{CreateTable};
 ghost use Rattle.sqkeys.specs.Keys.{MakesIndex, MakesRowids, IsNoTable, IsNoIndex};
+ghost use Rattle.sqkeys.specs.Keyed.{MakesKeyed, IsNoKeyed};
 
 use sqlite_ast::{CreateIndex, CreateTable, Statement};
 use sqlite_syntax::error::ParseError;
@@ -51,6 +52,26 @@ pub(crate) fn rowid_table(alloc: Global, text: &[u8]) -> Result<Option<CreateTab
                 Ok(None)
             } else {
                 Ok(Some(found.def))
+            }
+        }
+        Ok(None) => Ok(None),
+        Err(_) => Err(AllocError),
+    }
+}
+
+/// The table WITHOUT ROWID that a text makes.
+pub(crate) fn keyed_table(alloc: Global, text: &[u8]) -> Result<Option<CreateTable>, AllocError>
+    ensures { IfOk result (λ found. MatchOption found (IsNoKeyed text.now) (MakesKeyed text.now)) }
+{
+    if text.len() > MOST_TEXT {
+        return Ok(None);
+    }
+    match table_text(alloc, text) {
+        Ok(Some(found)) => {
+            if found.without_rowid {
+                Ok(Some(found.def))
+            } else {
+                Ok(None)
             }
         }
         Ok(None) => Ok(None),

@@ -11,6 +11,14 @@ use Rattle.sqindex.specs.declared.error.IndexError.{IndexError}
 use Rattle.sqindex.specs.declared.error.IndexError.TheVariants as indexes
 use Rattle.sqindex.specs.declared.error.TableError.{TableError}
 use Rattle.sqindex.specs.declared.error.TableError.TheVariants as tables
+use Rattle.sqindex.specs.Indexes.{IndexRefused, RefutesIndex}
+use Rattle.sqindex.specs.EntryIndexes.{IndexRefusedBy, RefutesIndexBy}
+use Rattle.sqindex.specs.RowsKept.{TableRefused, RefutesTable}
+use Rattle.sqindex.specs.KeyedRows.{KeyedRefused, RefutesKeyed}
+use Rattle.sqcontents.specs.declared.item_key.ItemKey.{ItemKey}
+use Rattle.sqcontents.specs.declared.item_key.ItemKey.TheVariants.{Rowid, Entries}
+use Rattle.sqcontents.specs.declared.table_rules.TableRules.{TableRules}
+use Rattle.sqcontents.specs.declared.table_rules.TableRules.TheVariants.{Columns, Keyed}
 use Rattle.sqcontents.specs.declared.error.ContentsError.{ContentsError}
 use Rattle.sqcontents.specs.declared.error.ContentsError.TheVariants as contents
 use Rattle.sqschema.specs.Items.{Item}
@@ -49,6 +57,24 @@ abbrev pub IsRefusedBy : ReadError → ContentsError → Type 0
 IsRefusedBy (Tree e) contents.Source = e.fault ≡ faults.Source
 IsRefusedBy _ contents.NoMemory = Unit {0}
 IsRefusedBy _ _ = ⊥
+
+-- Why an index isn't found sound by its key, and what that refutes.
+abbrev pub ItemRefused : Database → (table index : ℕ) → ItemKey → (limit : ℕ) → IndexError → Type 0
+ItemRefused d table index (Rowid key) limit e = IndexRefused d table index key limit e
+ItemRefused d table index (Entries entry) limit e = IndexRefusedBy d table index entry limit e
+
+abbrev pub RefutesItem : Database → (table index : ℕ) → ItemKey → IndexError → Type 0
+RefutesItem d table index (Rowid key) e = RefutesIndex d table index key e
+RefutesItem d table index (Entries entry) e = RefutesIndexBy d table index entry e
+
+-- The same of the rows of a table by their rules.
+abbrev pub RowsRefused : Database → (table : ℕ) → TableRules → TableError → Type 0
+RowsRefused d table (Columns rules) e = TableRefused d table rules.items e
+RowsRefused d table (Keyed key) e = KeyedRefused d table key e
+
+abbrev pub RefutesRows : Database → (table : ℕ) → TableRules → TableError → Type 0
+RefutesRows d table (Columns rules) e = RefutesTable d table rules.items e
+RefutesRows d table (Keyed key) e = RefutesKeyed d table key e
 
 -- An index isn't judged: it is too large, or a tree isn't sound.
 abbrev pub IsUnjudgedBy : IndexError → Type 0

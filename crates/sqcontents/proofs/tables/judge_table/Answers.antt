@@ -1,4 +1,4 @@
-use Rattle.std.proofs.Common.{rules, map, sym, subst}
+use Rattle.std.proofs.Common.{rules, map}
 use Rattle.sqschema.specs.Items.{seen}
 use Rattle.sqcontents.specs.Contents.{IsRooted, HasRules}
 use Rattle.sqcontents.proofs.RowsOfItems.{table_with, table_kept, table_ok, table_err}
@@ -10,10 +10,9 @@ returns-in-Ok-clause-ok g c = λ gives are.
     let xs = map seen c.args.items.now in
     let x = seen c.item_at-table.result.now in
     let own : IsRooted x = c.if-not-is_rooted.ensures in
-    let ruled : HasRules x.sql c.in-Some-2.rules.items = search rules in
-    let here = subst (HasRules x.sql) (sym c.deref.ensures.value) ruled in
-    let with = table_with d x c.args.numbers c.deref.result.now c.in-Some.root are c.if-numbers-eq2.false c.if-numbers-eq3.false here c.in-Some.ensures in
-    table_kept d xs c.args.row x c.deref.result.now c.in-Some.root c.in-Ok.clear c.item_at-table.ensures own with (c.in-Ok.ensures.ok gives)
+    let here : HasRules c.args.numbers.format x.sql c.in-Some-2.rules = search rules in
+    let with = table_with d x c.args.numbers c.in-Some-2.rules c.in-Some.root are c.if-numbers-eq2.false c.if-numbers-eq3.false here c.in-Some.ensures in
+    table_kept d xs c.args.row x c.in-Some-2.rules c.in-Some.root c.in-Ok.clear c.item_at-table.ensures own with (c.in-Ok.ensures.ok gives)
 
 pub returns-clause-ok : goal.returns-clause-ok
 returns-clause-ok g c = λ gives are.
@@ -21,10 +20,9 @@ returns-clause-ok g c = λ gives are.
     let xs = map seen c.args.items.now in
     let x = seen c.item_at-table.result.now in
     let own : IsRooted x = c.if-not-is_rooted.ensures in
-    let ruled : HasRules x.sql c.in-Some-2.rules.items = search rules in
-    let here = subst (HasRules x.sql) (sym c.deref.ensures.value) ruled in
-    let with = table_with d x c.args.numbers c.deref.result.now c.in-Some.root are c.if-numbers-eq2.false c.if-numbers-eq3.false here c.in-Some.ensures in
-    table_ok d xs c.args.row x c.deref.result.now c.in-Some.root c.in-Err.error c.unknown_by.result c.item_at-table.ensures own with (c.in-Err.ensures.err gives) c.unknown_by.ensures.ok
+    let here : HasRules c.args.numbers.format x.sql c.in-Some-2.rules = search rules in
+    let with = table_with d x c.args.numbers c.in-Some-2.rules c.in-Some.root are c.if-numbers-eq2.false c.if-numbers-eq3.false here c.in-Some.ensures in
+    table_ok d xs c.args.row x c.in-Some-2.rules c.in-Some.root c.in-Err.error c.unknown_by.result c.item_at-table.ensures own with (c.in-Err.ensures.err gives) c.unknown_by.ensures.ok
 
 pub returns-clause-err : goal.returns-clause-err
 returns-clause-err g c = λ gives are.
@@ -32,7 +30,6 @@ returns-clause-err g c = λ gives are.
     let xs = map seen c.args.items.now in
     let x = seen c.item_at-table.result.now in
     let own : IsRooted x = c.if-not-is_rooted.ensures in
-    let ruled : HasRules x.sql c.in-Some-2.rules.items = search rules in
-    let here = subst (HasRules x.sql) (sym c.deref.ensures.value) ruled in
-    let with = table_with d x c.args.numbers c.deref.result.now c.in-Some.root are c.if-numbers-eq2.false c.if-numbers-eq3.false here c.in-Some.ensures in
-    table_err d xs c.args.row x c.deref.result.now c.in-Some.root c.in-Err.error c.unknown_by.result c.item_at-table.ensures own with (c.in-Err.ensures.err gives) (c.in-Err.ensures.none gives) c.unknown_by.ensures.err
+    let here : HasRules c.args.numbers.format x.sql c.in-Some-2.rules = search rules in
+    let with = table_with d x c.args.numbers c.in-Some-2.rules c.in-Some.root are c.if-numbers-eq2.false c.if-numbers-eq3.false here c.in-Some.ensures in
+    table_err d xs c.args.row x c.in-Some-2.rules c.in-Some.root c.in-Err.error c.unknown_by.result c.item_at-table.ensures own with (c.in-Err.ensures.err gives) (c.in-Err.ensures.none gives) c.unknown_by.ensures.err
