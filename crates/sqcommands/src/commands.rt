@@ -1,10 +1,10 @@
 //! The commands and their options. Each function takes and gives a `Result`, and none exits early: a command that is
 //! half made has much to let go.
 use crate::arguments::{
-    Made, all_arg, at_arg, changed_table_arg, commits_arg, copy_arg, csv_arg, deep_arg, file_arg,
-    force_arg, from_arg, json_arg, large_arg, log_arg, no_lock_arg, only_with, page_arg, pages_arg,
-    pointer_maps_arg, report_arg, script_arg, shown_maps_arg, sql_arg, super_journal_arg,
-    table_arg, until_arg, verbose_arg, version_arg, wait_arg,
+    Made, all_arg, at_arg, changed_table_arg, commits_arg, copy_arg, csv_arg, deep_arg,
+    each_commit_arg, file_arg, force_arg, from_arg, json_arg, large_arg, log_arg, no_lock_arg,
+    only_with, page_arg, pages_arg, pointer_maps_arg, report_arg, script_arg, shown_maps_arg,
+    sql_arg, super_journal_arg, table_arg, until_arg, verbose_arg, version_arg, wait_arg,
 };
 use crate::texts::{ALL, CHECK, DIFF, RECOVER, REPORT, ROWS, SHOW};
 use clap::{Arg, Command};
@@ -72,6 +72,7 @@ fn diff_command<'a>(alloc: Global) -> Made<Command<'a>> {
     let command = base_command(alloc, "diff", about, DIFF, Ok(from_arg(alloc)));
     let command = with_arg(command, Ok(until_arg(alloc)));
     let command = with_arg(command, Ok(changed_table_arg(alloc)));
+    let command = with_arg(command, each_commit_arg(alloc));
     with_arg(command, script_arg(alloc))
 }
 

@@ -44,6 +44,7 @@ Exit status: 0 done; 1 damaged; 2 not understood; 3 refused.";
 pub(crate) const DIFF: &str = "Examples:
   sqrescue diff ledger.db                    + 5: 5,'Ada',7 and the like: the rows that the log changed
   sqrescue diff ledger.db --from 4 --to 8    those that changed between two commits of it
+  sqrescue diff ledger.db --commits          those that each commit changed
   sqrescue diff ledger.db --to 8 --sql       SQL that makes the rows at commit frame 8 of those in the file
 
 Exit status: 0 done; 1 damaged; 2 not understood; 3 refused.";

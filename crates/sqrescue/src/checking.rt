@@ -16,7 +16,7 @@ use std::str;
 
 /// What a deep check leaves open of a database that it finds sound.
 const UNJUDGED: &str =
-    "not judged: the order of tables WITHOUT ROWID, and CHECK; PRAGMA integrity_check does";
+    "not judged: which rows a partial index has, and CHECK; PRAGMA integrity_check does";
 
 /// Prints a verdict, and says what a deep one leaves open.
 pub(crate) fn write_checked<O: Write, E: Write>(
