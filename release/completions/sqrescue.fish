@@ -53,6 +53,7 @@ complete -c sqrescue -n '__fish_seen_subcommand_from diff' -l wait -x -d 'Waits 
 complete -c sqrescue -n '__fish_seen_subcommand_from diff' -l no-lock -d 'Takes none of SQLite\'s locks: nobody else may write FILE and its logs meanwhile'
 complete -c sqrescue -n '__fish_seen_subcommand_from diff' -l to -x -d 'Compares up to commit frame N'
 complete -c sqrescue -n '__fish_seen_subcommand_from diff' -l table -x -d 'Prints the changes of this table alone, as SQLite compares names'
+complete -c sqrescue -n '__fish_seen_subcommand_from diff' -l commits -d 'Prints what each commit of the write-ahead log changed against the one before it, from M to N'
 complete -c sqrescue -n '__fish_seen_subcommand_from diff' -l sql -d 'Prints SQL that makes the new rows of the old ones'
 complete -c sqrescue -n '__fish_seen_subcommand_from diff' -s h -l help -d 'Print help'
 complete -c sqrescue -n '__fish_seen_subcommand_from recover' -s v -l verbose -d 'Says on standard error which files are read, which log counts, and why a command is refused'

@@ -187,7 +187,8 @@ enum sqr_fault {
     SQR_FAULT_NULL_UNDER_NOT_NULL = 70, /* of a table, so too */
     SQR_FAULT_TYPE_UNDER_STRICT = 71,
     SQR_FAULT_NUMBER_UNDER_TEXT = 72,
-    SQR_FAULT_TEXT_UNDER_NUMERIC = 73
+    SQR_FAULT_TEXT_UNDER_NUMERIC = 73,
+    SQR_FAULT_ROW_ORDER = 74
 };
 
 /* The name that `sqrescue check` prints: "KeyOrder"; "?" of another number. A text that stays; of the faults of
