@@ -52,7 +52,11 @@ fn print_between<S: PageSource, T: PageSource, W: Write>(
         (S.pages old.old) (T.pages new.old) (text_of compared.entry.table) (change_form_named compared.entry.form) stop
         (W.contents out.old) (W.contents out.new)) }
 {
-    let (table, form) = (table_of(compared.table), change_form_of(compared.form));
+    let names = match compared.tables.names(alloc) {
+        Ok(names) => names,
+        Err(_) => return Err(Stop::NoMemory),
+    };
+    let (table, form) = (table_of(names.first().copied()), change_form_of(compared.form));
     print_changes(alloc, old, new, table, form, out)
 }
 

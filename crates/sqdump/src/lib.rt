@@ -3,6 +3,8 @@
 
 mod changes;
 mod rows;
+mod salvage;
 
 pub use changes::show_changes;
 pub use rows::{Printed, Wanted, show_rows};
+pub use salvage::{Salvaged, show_salvage};

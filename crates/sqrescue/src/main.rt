@@ -22,6 +22,7 @@ mod program;
 mod recovering;
 mod reports;
 mod rows;
+mod salvages;
 mod sources;
 
 use std::env::{self, Env};

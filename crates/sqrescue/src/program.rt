@@ -11,6 +11,7 @@ use crate::hints::next_step;
 use crate::jobs::Job;
 use crate::recovering::recover;
 use crate::reports::report_to;
+use crate::salvages::salvage_to;
 use crate::sources::{Source, Watch, alone, source_of};
 use sqcommands::{LineError, request};
 use sqdump::Wanted;
@@ -117,7 +118,8 @@ fn options_of(request: &Request<'_>) -> Option<Options> {
         | Request::Rows { options, .. }
         | Request::Diff { options, .. }
         | Request::Recover { options, .. }
-        | Request::Report { options, .. } => Some(*options),
+        | Request::Report { options, .. }
+        | Request::Salvage { options, .. } => Some(*options),
         Request::Version => None,
     }
 }
@@ -146,7 +148,10 @@ enum Reading<'a> {
     Diff(Compared<'a>),
     /// A file of this name is made.
     Copy(&'a str),
-    Report(&'a str),
+    /// changes: with the rows that each commit changed.
+    Report { to: &'a str, changes: bool },
+    /// places: with the page and the cell of each row.
+    Salvage { to: &'a str, places: bool },
 }
 
 impl Reading<'_> {
@@ -184,7 +189,8 @@ where
         Reading::Rows(wanted) => Command::Rows(wanted),
         Reading::Diff(compared) => return print_diff(&job, compared, out, notes),
         Reading::Copy(to) => return recover_to(&job, to, out, notes),
-        Reading::Report(to) => return report_to(&job, to, out, notes),
+        Reading::Report { to, .. } => return report_to(&job, to, out, notes),
+        Reading::Salvage { to, places } => return salvage_to(&job, (to, places), out, notes),
     };
     answered(&job, &command, out, notes)
 }
@@ -276,7 +282,18 @@ fn reading_of<'a>(request: Request<'a>) -> Option<Asked<'a>> {
             options,
             ..
         } => (Reading::Copy(to), file, options),
-        Request::Report { file, to, options } => (Reading::Report(to), file, options),
+        Request::Report {
+            file,
+            to,
+            changes,
+            options,
+        } => (Reading::Report { to, changes }, file, options),
+        Request::Salvage {
+            file,
+            to,
+            places,
+            options,
+        } => (Reading::Salvage { to, places }, file, options),
         Request::Recover { to: None, .. } | Request::Version => return None,
     };
     Some(Asked {

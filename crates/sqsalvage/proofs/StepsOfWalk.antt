@@ -117,7 +117,7 @@ pub none_left : (d : Database) (marks : List Bool) (pending : List ℕ) → pend
 none_left d marks pending empty = (tt, λ q. (λ i. absurd i, λ h. absurd (none_comes d marks pending empty h.1)))
 
 -- where a tree begins
-reached_come : (d : Database) (marks new : List Bool) (pending : List ℕ) (root : ℕ) → Names d (λ q. q ≡ root) marks new [] pending → {q : ℕ} → IsReached d (IsMarked marks) root q → IsToCome d new pending q
+pub reached_come : (d : Database) (marks new : List Bool) (pending : List ℕ) (root : ℕ) → Names d (λ q. q ≡ root) marks new [] pending → {q : ℕ} → IsReached d (IsMarked marks) root q → IsToCome d new pending q
 reached_come d marks new pending root n (at_root page unseen) = elim ((n.marked root).0 (n.all root refl page)) [
   | inl before ↦ absurd (unseen before)
   | inr i ↦ named (subst (In root) (sym n.behind) i)
@@ -127,7 +127,7 @@ reached_come d marks new pending root n {q} (at_child h names page unseen) = eli
   | inr un ↦ below (reached_come d marks new pending root n h) names page un
 ]
 
-come_reached : (d : Database) (marks new : List Bool) (pending : List ℕ) (root : ℕ) → Names d (λ q. q ≡ root) marks new [] pending → {q : ℕ} → IsToCome d new pending q → IsReached d (IsMarked marks) root q
+pub come_reached : (d : Database) (marks new : List Bool) (pending : List ℕ) (root : ℕ) → Names d (λ q. q ≡ root) marks new [] pending → {q : ℕ} → IsToCome d new pending q → IsReached d (IsMarked marks) root q
 come_reached d marks new pending root n {q} (named i) =
     let w = n.named q (subst (In q) n.behind i) in
     subst (λ (x : ℕ). IsReached d (IsMarked marks) root x) (sym w.0) (at_root (subst (λ (x : ℕ). IsPage d x) w.0 w.1) (λ m. w.2 (subst (λ (x : ℕ). IsMarked marks x) (sym w.0) m)))

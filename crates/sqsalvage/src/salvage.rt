@@ -5,7 +5,7 @@ ghost use Rattle.sqpage.specs.Freelist.{IsPage, usable_size};
 ghost use Rattle.sqpage.specs.Source.{KeepsPages};
 ghost use Rattle.sqpage.specs.declared.fault.Fault.{Fault};
 ghost use Rattle.sqsalvage.specs.Reached.{IsReached};
-ghost use Rattle.sqsalvage.specs.SalvageCursor.{IsMarked, IsOver, IsPassed};
+ghost use Rattle.sqsalvage.specs.SalvageCursor.{IsMarked, IsOver, IsPassed, IsToCome};
 ghost use Rattle.sqsalvage.specs.internal.Taking.{Names};
 
 use crate::cursor::Salvage;
@@ -110,6 +110,10 @@ impl Salvage {
         ensures ok { (d : Database) → IsOver d self.old → OnOk result (IsOver d self.new
             × ((p : ℕ) → IsPassed d self.new p
             ↔ (IsMarked self.old.marks.items p ⊎ IsReached d (IsMarked self.old.marks.items) root p))) }
+        // To come is what it reaches, and nothing that was passed before.
+        ensures comes { (d : Database) → IsOver d self.old → OnOk result ((p : ℕ)
+            → IsToCome d self.new.marks.items self.new.pending.items p
+            ↔ IsReached d (IsMarked self.old.marks.items) root p) }
         ensures same { (self.new.size ≡ self.old.size) × (self.new.usable ≡ self.old.usable)
             × (self.new.at ≡ self.old.at) }
     {
