@@ -5,13 +5,12 @@ use crate::jobs::Job;
 use crate::opening::open_all;
 use crate::rows::write_printed;
 use sqdump::{Printed, show_changes};
-use sqfacts::{Notes, Refusal};
+use sqfacts::{Notes, Refusal, SystemFile};
 use sqopen::{Count, OpenedFile};
 use sqshown::{Contents, ShowError, read_ahead};
 use sqview::ReadAhead;
 use sqwords::Compared;
 use std::io::{BufWriter, Write};
-use std::os::unix::fs::FileExt;
 use std::rt::Files;
 use std::time::Clock;
 
@@ -24,7 +23,7 @@ pub(crate) fn print_diff<R: Files + AllocGlobal + Clock, M: Count, O: Write, E: 
     notes: &mut Notes<'_, E>,
 ) -> Result<Answer, ShowError>
 where
-    R::File: FileExt,
+    R::File: SystemFile,
 {
     match BufWriter::with_capacity(job.rt.alloc(), KEPT, out) {
         Ok(mut lines) => match changes_standing(job, compared, &mut lines, notes) {
@@ -52,7 +51,7 @@ fn changes_standing<R: Files + AllocGlobal + Clock, M: Count, W: Write, E: Write
     notes: &mut Notes<'_, E>,
 ) -> Result<Printed, Refusal>
 where
-    R::File: FileExt,
+    R::File: SystemFile,
 {
     let to = job.source.options.at;
     let before = job.before(false, notes)?;
@@ -72,7 +71,7 @@ fn changes_now<R: Files + AllocGlobal + Clock, M: Count, W: Write, E: Write>(
     notes: &mut Notes<'_, E>,
 ) -> Result<Printed, Refusal>
 where
-    R::File: FileExt,
+    R::File: SystemFile,
 {
     let from = opened_at(job, Some(compared.from), notes)?;
     match opened_at(job, compared.to, notes) {
@@ -88,7 +87,7 @@ fn opened_at<'a, R: Files + AllocGlobal, M, E: Write>(
     notes: &mut Notes<'_, E>,
 ) -> Result<Contents<ReadAhead<OpenedFile<'a, R::File>>>, Refusal>
 where
-    R::File: FileExt,
+    R::File: SystemFile,
 {
     let source = job.source;
     match open_all(

@@ -24,9 +24,9 @@ mod reports;
 mod rows;
 mod sources;
 
+use sqfacts::SystemFile;
 use std::env::{self, Env};
 use std::io::{self, IsTerminal, Write};
-use std::os::unix::fs::FileExt;
 use std::process::ExitCode;
 use std::rt::Files;
 use std::time::Clock;
@@ -38,7 +38,7 @@ fn answer<R: Env + Files + AllocGlobal + Clock, O: Write, E: Write + IsTerminal>
     err: &mut E,
 ) -> io::Result<u8>
 where
-    R::File: FileExt,
+    R::File: SystemFile,
     ensures { IfOk result (λ status. status ≤ 3) }
 {
     let alloc = rt.alloc();

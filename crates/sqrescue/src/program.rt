@@ -14,14 +14,13 @@ use crate::reports::report_to;
 use crate::sources::{Source, Watch, alone, source_of};
 use sqcommands::{LineError, request};
 use sqdump::Wanted;
-use sqfacts::{NoteWriter, Notes, Refusal, Status};
+use sqfacts::{NoteWriter, Notes, Refusal, Status, SystemFile};
 use sqheld::Locks;
 use sqopen::Progress;
 use sqshown::{ShowError, asked_of};
 use sqwords::{Compared, Options, Part, Request, Style};
 use std::fmt::Display;
 use std::io::{self, IsTerminal, Write};
-use std::os::unix::fs::FileExt;
 use std::rt::Files;
 use std::time::Clock;
 
@@ -47,7 +46,7 @@ pub(crate) fn run<R: Files + AllocGlobal + Clock, O: Write, E: Write + IsTermina
     err: &mut E,
 ) -> u8
 where
-    R::File: FileExt,
+    R::File: SystemFile,
     ensures { result ≤ 3 }
 {
     let ended = match request(rt.alloc(), words) {
@@ -91,7 +90,7 @@ fn noted<R: Files + AllocGlobal + Clock, O: Write, E: Write + IsTerminal>(
     err: &mut E,
 ) -> Result<Answer, ShowError>
 where
-    R::File: FileExt,
+    R::File: SystemFile,
 {
     let options = options_of(&request);
     let is_read = err.is_terminal();
@@ -165,7 +164,7 @@ fn read_from<R: Files + AllocGlobal + Clock, O: Write, E: Write>(
     notes: &mut Notes<'_, E>,
 ) -> Result<Answer, ShowError>
 where
-    R::File: FileExt,
+    R::File: SystemFile,
 {
     let meter = Progress::new(rt, notes.again(), source.options);
     let job = Job {
@@ -207,7 +206,7 @@ fn read_once<R: Files + AllocGlobal + Clock, O: Write, E: Write>(
     notes: &mut Notes<'_, E>,
 ) -> Result<Answer, ShowError>
 where
-    R::File: FileExt,
+    R::File: SystemFile,
 {
     let reading = asked.reading;
     let of = (asked.file, asked.options);
@@ -229,7 +228,7 @@ fn read_under<R: Files + AllocGlobal + Clock, O: Write, E: Write>(
     notes: &mut Notes<'_, E>,
 ) -> Result<Answer, ShowError>
 where
-    R::File: FileExt,
+    R::File: SystemFile,
 {
     let (locks, wait) = under;
     let until = Until::new(rt, wait);
@@ -294,7 +293,7 @@ fn carried_out<R: Files + AllocGlobal + Clock, O: Write, E: Write>(
     notes: &mut Notes<'_, E>,
 ) -> Result<Answer, ShowError>
 where
-    R::File: FileExt,
+    R::File: SystemFile,
 {
     tell_locks(under.0, notes);
     if let Some(asked) = reading_of(request) {

@@ -11,3 +11,4 @@ mod WrittenLogs
 mod NamesOfTrees
 mod LinesBehind
 mod LastSegments
+pub mod RunsInOrder

@@ -20,6 +20,17 @@ one_more (z ∷ xs) y zero x is = inl is
 one_more (z ∷ xs) y (suc j) x is =
     ⊎_elim (λ there. inl there) (λ last. inr (ap (λ (n : ℕ). suc n) last.0, last.1)) (one_more xs y j x is)
 
+-- one more of which the same holds at its place
+pub each_more : {X : Type 0} (P : ℕ → X → Type 0) (xs : List X) (i : ℕ) (x : X) → length xs ≡ i
+    → ((j : ℕ) (y : X) → slice_get xs j ≡ Some y → P j y) → P i x
+    → (j : ℕ) (y : X) → slice_get (xs ++ x ∷ []) j ≡ Some y → P j y
+each_more {X = X} P xs i x long each is j y there =
+    ⊎_elim (λ before. each j y before)
+    (λ last.
+    let at : i ≡ j = sym (last.0 ∙ long) in
+    subst (λ (n : ℕ). P n y) at (subst (λ (l : X). P i l) last.1 is))
+    (one_more xs x j y there)
+
 -- one more line of a page
 pub line_more : {F : Type 0} (found : Surveyed F) (lines : List PageLine) (i : ℕ) (line : PageLine) → length lines ≡ i
     → ((j : ℕ) (x : PageLine) → slice_get lines j ≡ Some x → IsPageLine found j x) → IsPageLine found i line

@@ -1,10 +1,18 @@
 //! The facts that a report shows.
-ghost use Rattle.std.specs.Prelude.{◌≡◌, IfOk, map};
+ghost use Rattle.std.specs.Prelude.{◌≡◌, ℕ, ◌<◌, List, length, slice_get, Some, IfOk, OnOk, codes, map};
+ghost use Rattle.std.specs.List.{flat_map};
+ghost use Rattle.std.specs.Io.KnownBytes.{Appends};
+ghost use Rattle.sqval.specs.Limits.{Bounds};
 ghost use Rattle.sqfacts.specs.Runs.{expanded};
-ghost use Rattle.sqshown.specs.Reports.{OnlyReads, roles_in};
+ghost use Rattle.sqshown.specs.LogsShown.{IsLogFound};
+ghost use Rattle.sqshown.specs.Names.{names_of};
+ghost use Rattle.sqshown.specs.Reports.{ArePartsOf, AreTreeTexts, IsHeadText, IsLogObject, IsTreesText, OnlyReads, Parts};
+ghost use Rattle.sqshown.specs.Reports.{front_text, head_text, list_text, lists_text, log_part, report_text, roles_in};
+ghost use Rattle.sqshown.specs.Reports.{runs_text, size_in};
 
 use crate::cells::read_page;
 use crate::logs::{LogFound, write_log_facts};
+use crate::names::Names;
 use crate::surveys::{Found, Surveyed, write_verdict};
 use sqcheck::Role;
 use sqfacts::{Refusal, Run, number_of, runs_of, uses_of};
@@ -165,18 +173,40 @@ pub fn facts_of<F: FileBytes + Drop>(
     }
 }
 
-fn write_trees<F: FileBytes, W: Write>(
-    out: &mut W,
-    trees: &[Tree],
-    found: &Surveyed<F>,
-) -> io::Result<()> {
-    for (i, tree) in trees.iter().enumerate() {
-        write_tree(out, i == 0, *tree, found.names.of(tree.root))?;
+/// The tree at a place.
+fn tree_in(trees: &[Tree], i: usize) -> Tree
+    requires { i < length trees.now }
+    ensures { slice_get trees.now i ≡ Some result }
+{
+    trees[i]
+}
+
+fn write_trees<W: Write>(out: &mut W, trees: &[Tree], names: &Names) -> io::Result<()>
+    ensures { OnOk result ((texts : List (List ℕ)) × AreTreeTexts (names_of names.now) trees.now texts
+        × Appends (W.contents out.old) (W.contents out.new) (flat_map (λ (text : List ℕ). text) texts)) }
+{
+    for i in 0..trees.len() {
+        let tree = tree_in(trees, i);
+        let name = names.of(tree.root);
+        write_tree(out, i == 0, tree, name)?;
     }
     Ok(())
 }
 
-fn write_runs<W: Write>(out: &mut W, runs: &[Run]) -> io::Result<()> {
+/// The trees of a survey; none where no page was found.
+fn write_trees_of<F, W: Write>(out: &mut W, trees: &[Tree], found: &Found<F>) -> io::Result<()>
+    ensures { OnOk result ((text : List ℕ) × IsTreesText found.now trees.now text
+        × Appends (W.contents out.old) (W.contents out.new) text) }
+{
+    match found {
+        Found::Pages(found) => write_trees(out, trees, &found.names),
+        Found::Nothing(_) => Ok(()),
+    }
+}
+
+fn write_runs<W: Write>(out: &mut W, runs: &[Run]) -> io::Result<()>
+    ensures { OnOk result (Appends (W.contents out.old) (W.contents out.new) (runs_text 1 runs.now)) }
+{
     let mut first = 1u32;
     for run in runs {
         write_run(out, first, run.count, run.used.role, run.used.fault)?;
@@ -206,7 +236,9 @@ impl LoggedRun {
         })
     }
 
-    fn write<W: Write>(&self, out: &mut W, before: &str) -> io::Result<()> {
+    fn write<W: Write>(&self, out: &mut W, before: &str) -> io::Result<()>
+        ensures { OnOk result ((text : List ℕ) × Appends (W.contents out.old) (W.contents out.new) text) }
+    {
         let (page, at, count) = (self.page, self.at, self.count);
         write!(out, "{before}[{page},{at},{count}]")
     }
@@ -221,7 +253,9 @@ fn logged_number<F: FileBytes>(found: &Surveyed<F>, i: usize) -> Option<u64> {
 }
 
 /// The runs of pages that stand in the log one behind the other.
-fn write_logged<F: FileBytes, W: Write>(out: &mut W, found: &Surveyed<F>) -> io::Result<()> {
+fn write_logged<F: FileBytes, W: Write>(out: &mut W, found: &Surveyed<F>) -> io::Result<()>
+    ensures { OnOk result ((text : List ℕ) × Appends (W.contents out.old) (W.contents out.new) text) }
+{
     let mut before = "";
     let mut run: Option<LoggedRun> = None;
     for i in 0..=found.survey.roles.len() {
@@ -244,7 +278,11 @@ fn write_logged<F: FileBytes, W: Write>(out: &mut W, found: &Surveyed<F>) -> io:
     Ok(())
 }
 
-fn write_head<W: Write>(out: &mut W, head: &Option<[u8; 100]>) -> io::Result<()> {
+/// The fields of the header that the first bytes of page 1 are, if they are one.
+fn write_head<W: Write>(out: &mut W, head: &Option<[u8; 100]>) -> io::Result<()>
+    ensures { OnOk result ((text : List ℕ) × IsHeadText head.now text
+        × Appends (W.contents out.old) (W.contents out.new) text) }
+{
     let Some(head) = head else {
         return Ok(());
     };
@@ -255,26 +293,87 @@ fn write_head<W: Write>(out: &mut W, head: &Option<[u8; 100]>) -> io::Result<()>
 }
 
 /// The size of a page, in bytes; 0 where no page was found.
-fn page_size_of<F: FileBytes>(found: &Found<F>) -> u32 {
+fn page_size_of<F: FileBytes>(found: &Found<F>) -> u32
+    ensures { result ≡ size_in found.now }
+{
     match found {
         Found::Pages(found) => found.view.page_size().get(),
         Found::Nothing(_) => 0,
     }
 }
 
-/// The lists of trees, of runs and of pages in the log.
-fn write_lists<F: FileBytes, W: Write>(out: &mut W, facts: &ReportFacts<F>) -> io::Result<()> {
+/// What stands before the verdict.
+fn write_front<W: Write>(out: &mut W, version: &str, file: &str, size: u32) -> io::Result<()>
+    ensures { OnOk result (Appends (W.contents out.old) (W.contents out.new)
+        (front_text version.now file.now size)) }
+{
+    write!(out, "{{\"version\":\"{version}\",\"file\":\"")?;
+    write_hex(out, file.as_bytes())?;
+    write!(out, "\",\n\"page size\":{size},\n\"verdict\":")
+}
+
+/// The header.
+fn write_header_part<W: Write>(out: &mut W, head: &Option<[u8; 100]>) -> io::Result<()>
+    ensures { OnOk result ((text : List ℕ) × IsHeadText head.now text
+        × Appends (W.contents out.old) (W.contents out.new) (head_text text)) }
+{
+    out.write_all(b",\"header\":{")?;
+    write_head(out, head)?;
+    out.write_all(b"},\n")
+}
+
+/// The list of trees.
+fn write_tree_list<F, W: Write>(out: &mut W, trees: &[Tree], found: &Found<F>) -> io::Result<()>
+    ensures { OnOk result ((text : List ℕ) × IsTreesText found.now trees.now text
+        × Appends (W.contents out.old) (W.contents out.new) (list_text (codes "trees") text)) }
+{
     out.write_all(b"\"trees\":[")?;
-    if let Found::Pages(found) = &facts.found {
-        write_trees(out, &facts.trees, found)?;
-    }
-    out.write_all(b"],\n\"runs\":[")?;
-    write_runs(out, &facts.runs)?;
-    out.write_all(b"],\n\"logged\":[")?;
-    if let Found::Pages(found) = &facts.found {
+    write_trees_of(out, trees, found)?;
+    out.write_all(b"],\n")
+}
+
+/// The list of runs.
+fn write_run_list<W: Write>(out: &mut W, runs: &[Run]) -> io::Result<()>
+    ensures { OnOk result (Appends (W.contents out.old) (W.contents out.new)
+        (list_text (codes "runs") (runs_text 1 runs.now))) }
+{
+    out.write_all(b"\"runs\":[")?;
+    write_runs(out, runs)?;
+    out.write_all(b"],\n")
+}
+
+/// The list of pages in the log.
+fn write_logged_list<F: FileBytes, W: Write>(out: &mut W, found: &Found<F>) -> io::Result<()>
+    ensures { OnOk result ((text : List ℕ)
+        × Appends (W.contents out.old) (W.contents out.new) (list_text (codes "logged") text)) }
+{
+    out.write_all(b"\"logged\":[")?;
+    if let Found::Pages(found) = found {
         write_logged(out, found)?;
     }
     out.write_all(b"],\n")
+}
+
+/// The lists of trees, of runs and of pages in the log.
+fn write_lists<F: FileBytes, W: Write>(out: &mut W, facts: &ReportFacts<F>) -> io::Result<()>
+    ensures { OnOk result ((trees : List ℕ) × (logged : List ℕ) × IsTreesText facts.now.found facts.now.trees.items trees
+        × Appends (W.contents out.old) (W.contents out.new)
+        (lists_text trees (runs_text 1 facts.now.runs.items) logged)) }
+{
+    write_tree_list(out, &facts.trees, &facts.found)?;
+    write_run_list(out, &facts.runs)?;
+    write_logged_list(out, &facts.found)
+}
+
+/// The log.
+fn write_log_part<W: Write>(out: &mut W, log: &LogFound) -> io::Result<()>
+    ensures { (limits : Bounds) (wal journal : List ℕ) → IsLogFound limits wal journal log.now
+        → OnOk result ((text : List ℕ) × IsLogObject limits.frames wal journal log.now text
+        × Appends (W.contents out.old) (W.contents out.new) (log_part text)) }
+{
+    out.write_all(b"\"log\":")?;
+    write_log_facts(out, log)?;
+    out.write_all(b"}\n")
 }
 
 /// The facts of a report by a program of this version on a file of this name, as one object. An error of the writer.
@@ -283,17 +382,14 @@ pub fn write_report_facts<F: FileBytes, W: Write>(
     version: &str,
     file: &str,
     facts: &ReportFacts<F>,
-) -> io::Result<()> {
-    write!(out, "{{\"version\":\"{version}\",\"file\":\"")?;
-    write_hex(out, file.as_bytes())?;
-    let size = page_size_of(&facts.found);
-    write!(out, "\",\n\"page size\":{size},\n\"verdict\":")?;
+) -> io::Result<()>
+    ensures { (limits : Bounds) (wal journal : List ℕ) → IsLogFound limits wal journal facts.now.log
+        → OnOk result ((parts : Parts) × ArePartsOf limits.frames wal journal facts.now parts
+        × Appends (W.contents out.old) (W.contents out.new) (report_text version.now file.now facts.now parts)) }
+{
+    write_front(out, version, file, page_size_of(&facts.found))?;
     write_verdict(out, Style::Json, &facts.found)?;
-    out.write_all(b",\"header\":{")?;
-    write_head(out, &facts.head)?;
-    out.write_all(b"},\n")?;
+    write_header_part(out, &facts.head)?;
     write_lists(out, facts)?;
-    out.write_all(b"\"log\":")?;
-    write_log_facts(out, &facts.log)?;
-    out.write_all(b"}\n")
+    write_log_part(out, &facts.log)
 }
