@@ -1,0 +1,89 @@
+//! Whether a crash may leave an image of a database file and its logs (own).
+ghost use Rattle.std.specs.Prelude.{◌≡◌, ◌↔◌, IsTrue, map, IfOk};
+ghost use Rattle.crashdisk.specs.Model.{state_of};
+ghost use Rattle.sqplay.specs.Names.{name_of};
+ghost use Rattle.sqplay.specs.Plays.{files_of};
+ghost use Rattle.sqimages.specs.Left.{MayBeLeft, MayLeaveIn, MayLeave};
+ghost use Rattle.sqimages.specs.Ways.{held_files, may_be_none};
+ghost use Rattle.sqleft.specs.internal.Values.{IsOfOne};
+
+use crate::bytes::is_image;
+use crashdisk::{DiskError, ModelDisk};
+use sqimages::Image;
+use sqplay::{Epoch, Holds, Name, Player};
+use std::alloc::Global;
+
+/// The files of a name that a crash may leave where it holds this.
+fn held_files<'a>(name: &'a Name, holds: Holds) -> &'a [ModelDisk]
+    ensures { map (λ d. state_of d) result.now ≡ held_files (name_of name.now) holds }
+{
+    let files = name.files();
+    match holds {
+        Holds::Any => files,
+        Holds::Nothing => &files[..0],
+        Holds::File(i) => {
+            let from = &files[i.min(files.len())..];
+            &from[..from.len().min(1)]
+        }
+    }
+}
+
+/// Whether a crash may leave nothing under a name that holds this.
+fn may_be_none(name: &Name, holds: Holds) -> bool
+    ensures { result ≡ may_be_none (name_of name.now) holds }
+{
+    match holds {
+        Holds::Any if name.maybe_none() => true,
+        _ => held_files(name, holds).is_empty(),
+    }
+}
+
+/// Whether a crash may leave these bytes of one of these files.
+fn is_of_one(alloc: Global, files: &[ModelDisk], bytes: &[u8]) -> Result<bool, DiskError>
+    ensures { IfOk result (λ is. IsTrue is ↔ IsOfOne (map (λ d. state_of d) files.now) bytes.now) }
+{
+    for disk in files {
+        if is_image(alloc, disk, bytes)? {
+            return Ok(true);
+        }
+    }
+    Ok(false)
+}
+
+/// Whether it may leave them under a name that holds this.
+fn may_be_left(alloc: Global, name: &Name, holds: Holds, bytes: &[u8]) -> Result<bool, DiskError>
+    ensures { IfOk result (λ is. IsTrue is ↔ MayBeLeft (name_of name.now) holds bytes.now) }
+{
+    if bytes.is_empty() && may_be_none(name, holds) {
+        return Ok(true);
+    }
+    is_of_one(alloc, held_files(name, holds), bytes)
+}
+
+/// Whether it may leave an image in an epoch.
+fn may_leave_in(
+    alloc: Global,
+    player: &Player,
+    epoch: Epoch,
+    image: &Image,
+) -> Result<bool, DiskError>
+    ensures { IfOk result (λ is. IsTrue is ↔ MayLeaveIn (files_of player.now) epoch image.now) }
+{
+    Ok(
+        may_be_left(alloc, player.db(), epoch.db, &image.db)?
+            && may_be_left(alloc, player.wal(), epoch.wal, &image.wal)?
+            && may_be_left(alloc, player.journal(), epoch.journal, &image.journal)?,
+    )
+}
+
+/// Whether a crash may leave an image. NoMemory alone.
+pub fn may_leave(alloc: Global, player: &Player, image: &Image) -> Result<bool, DiskError>
+    ensures { IfOk result (λ is. IsTrue is ↔ MayLeave (files_of player.now) image.now) }
+{
+    for epoch in player.earlier() {
+        if may_leave_in(alloc, player, *epoch, image)? {
+            return Ok(true);
+        }
+    }
+    may_leave_in(alloc, player, player.epoch(), image)
+}
