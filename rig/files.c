@@ -5,27 +5,14 @@
    since. A record that can't be written ends the process with status 97: no trace is better than one with a gap. */
 #define _GNU_SOURCE
 #include <dirent.h>
-#include <dlfcn.h>
-#include <errno.h>
-#include <fcntl.h>
 #include <linux/falloc.h>
-#include <pthread.h>
-#include <stdarg.h>
-#include <stdint.h>
-#include <stdio.h>
-#include <stdlib.h>
-#include <string.h>
-#include <sys/mman.h>
-#include <sys/stat.h>
-#include <sys/syscall.h>
-#include <sys/uio.h>
-#include <unistd.h>
 
 enum action { BASE = 1, MAKE, WRITE = 4, CUT, SYNC, UNLINK, RENAME, FOLDER_SYNC, MARK, NOT_HELD, END, NAME };
 enum not_held { SHARED_MAP = 1, FALLOCATE, LINK = 4, SYNCED_WRITE };
 
-enum { DESCRIPTORS = 65536, NAMES = 4096, FILES = 65536, NAME_ROOM = 256, PATH_ROOM = 4096 };
-enum { NO_TRACE = 97, FIRST_DESCRIPTOR = 900, NONE = -1, FOLDER = -2, MARKS = -3 };
+#include "calls.h"
+
+enum { NAMES = 4096, FILES = 65536, NAME_ROOM = 256, NONE = -1, FOLDER = -2, MARKS = -3 };
 
 struct head {
     uint32_t action, file, name, thread;
@@ -33,9 +20,7 @@ struct head {
     uint64_t place, length;
 };
 
-static pthread_mutex_t lock = PTHREAD_RECURSIVE_MUTEX_INITIALIZER_NP;
-static int ready, trace = -1, depth;
-static pid_t process; /* whose memory this is: a child of vfork has it, too */
+static int depth;
 static off_t seen;    /* how much of the trace is known */
 static dev_t device;  /* of the folder */
 static ino_t inode;
@@ -44,39 +29,6 @@ static struct { char text[NAME_ROOM]; int file; } names[NAMES];
 static int name_count, file_count;
 static uint8_t dirty[FILES];       /* whether a file was written since it was last synced */
 static int held[DESCRIPTORS];      /* by descriptor: 0, or the file and 1, or FOLDER, or MARKS */
-
-/* ---- The C library's own calls. */
-
-#define NEXT(answer, call, ...) static answer (*next_##call)(__VA_ARGS__)
-NEXT(int, openat64, int, const char *, int, ...);
-NEXT(int, close, int);
-NEXT(ssize_t, write, int, const void *, size_t);
-NEXT(ssize_t, pwrite64, int, const void *, size_t, off64_t);
-NEXT(ssize_t, writev, int, const struct iovec *, int);
-NEXT(ssize_t, pwritev64, int, const struct iovec *, int, off64_t);
-NEXT(int, ftruncate64, int, off64_t);
-NEXT(int, truncate64, const char *, off64_t);
-NEXT(int, fsync, int);
-NEXT(int, fdatasync, int);
-NEXT(int, unlinkat, int, const char *, int);
-NEXT(int, renameat2, int, const char *, int, const char *, unsigned);
-NEXT(int, linkat, int, const char *, int, const char *, int);
-NEXT(int, dup, int);
-NEXT(int, dup2, int, int);
-NEXT(int, dup3, int, int, int);
-NEXT(int, fcntl64, int, int, ...);
-NEXT(void *, mmap64, void *, size_t, int, int, int, off64_t);
-NEXT(int, fallocate64, int, int, off64_t, off64_t);
-NEXT(int, posix_fallocate64, int, off64_t, off64_t);
-
-static void find_calls(void) {
-#define FIND(call) next_##call = (__typeof__(next_##call))dlsym(RTLD_NEXT, #call)
-    FIND(openat64), FIND(close), FIND(write), FIND(pwrite64), FIND(writev), FIND(pwritev64);
-    FIND(ftruncate64), FIND(truncate64), FIND(fsync), FIND(fdatasync);
-    FIND(unlinkat), FIND(renameat2), FIND(linkat);
-    FIND(dup), FIND(dup2), FIND(dup3), FIND(fcntl64);
-    FIND(mmap64), FIND(fallocate64), FIND(posix_fallocate64);
-}
 
 /* ---- Records. */
 
@@ -157,10 +109,6 @@ static void leave(void) {
     if (--depth == 0) lock_trace(F_UNLCK);
     pthread_mutex_unlock(&lock);
     errno = kept;
-}
-
-static int64_t told(int64_t answer) {
-    return answer < 0 ? -errno : answer;
 }
 
 /* ---- Names. */
@@ -259,13 +207,6 @@ static void put_all(int is_end) {
 
 /* ---- The beginning. */
 
-static void before_fork(void) { pthread_mutex_lock(&lock); }
-static void parent_forked(void) { pthread_mutex_unlock(&lock); }
-static void child_forked(void) {
-    lock = (pthread_mutex_t)PTHREAD_RECURSIVE_MUTEX_INITIALIZER_NP;
-    process = syscall(SYS_getpid);
-}
-
 static void begin(void) {
     const char *to = getenv("SQCRASH_TRACE");
     struct stat state;
@@ -344,22 +285,6 @@ static int open_one(int at, const char *path, int flags, mode_t mode) {
     return opened;
 }
 
-#define MODE_OF(flags)                     \
-    mode_t mode = 0;                       \
-    if ((flags) & (O_CREAT | O_TMPFILE)) { \
-        va_list rest;                      \
-        va_start(rest, flags);             \
-        mode = va_arg(rest, mode_t);       \
-        va_end(rest);                      \
-    }
-
-int open(const char *path, int flags, ...) { MODE_OF(flags) return open_one(AT_FDCWD, path, flags, mode); }
-int open64(const char *path, int flags, ...) { MODE_OF(flags) return open_one(AT_FDCWD, path, flags, mode); }
-int openat(int at, const char *path, int flags, ...) { MODE_OF(flags) return open_one(at, path, flags, mode); }
-int openat64(int at, const char *path, int flags, ...) { MODE_OF(flags) return open_one(at, path, flags, mode); }
-int creat(const char *path, mode_t mode) { return open_one(AT_FDCWD, path, O_CREAT | O_WRONLY | O_TRUNC, mode); }
-int creat64(const char *path, mode_t mode) { return open_one(AT_FDCWD, path, O_CREAT | O_WRONLY | O_TRUNC, mode); }
-
 int close(int descriptor) {
     if (!next_close) start();
     if (descriptor == trace && trace >= 0) return errno = EBADF, -1;
@@ -371,34 +296,6 @@ static int copied(int descriptor, int copy) {
     if (copy >= 0 && copy != descriptor) hold(copy, held_by(descriptor));
     return copy;
 }
-
-int dup(int descriptor) {
-    if (!next_dup) start();
-    return copied(descriptor, next_dup(descriptor));
-}
-int dup2(int descriptor, int to) {
-    if (!next_dup2) start();
-    return copied(descriptor, next_dup2(descriptor, to));
-}
-int dup3(int descriptor, int to, int flags) {
-    if (!next_dup3) start();
-    return copied(descriptor, next_dup3(descriptor, to, flags));
-}
-
-static int control(int descriptor, int command, void *rest) {
-    if (!next_fcntl64) start();
-    int answer = next_fcntl64(descriptor, command, rest);
-    return command == F_DUPFD || command == F_DUPFD_CLOEXEC ? copied(descriptor, answer) : answer;
-}
-
-#define REST_OF(command)              \
-    va_list rest;                     \
-    va_start(rest, command);          \
-    void *one = va_arg(rest, void *); \
-    va_end(rest);
-
-int fcntl(int descriptor, int command, ...) { REST_OF(command) return control(descriptor, command, one); }
-int fcntl64(int descriptor, int command, ...) { REST_OF(command) return control(descriptor, command, one); }
 
 /* ---- Writing, cutting, syncing. */
 
@@ -426,8 +323,8 @@ static off64_t place_of(int descriptor) {
 }
 
 /* A write, also one that returns when it is durable: that of a file with others that aren't can't be held. */
-static void put_write(int file, int descriptor, off64_t place, ssize_t done, size_t count, const void *bytes) {
-    int synced = has_flag(descriptor, O_DSYNC), was_dirty = dirty[file % FILES];
+static void put_write(int file, int synced, off64_t place, ssize_t done, size_t count, const void *bytes) {
+    int was_dirty = dirty[file % FILES];
     if (done == 0) return;
     put(WRITE, file, 0, told(done), place, done < 0 ? count : (size_t)done, bytes);
     if (synced && done > 0 && was_dirty) put(NOT_HELD, file, 0, SYNCED_WRITE, 0, 0, NULL);
@@ -440,9 +337,9 @@ static ssize_t write_one(int descriptor, const void *bytes, size_t count, int ha
         return has_place ? next_pwrite64(descriptor, bytes, count, place) : next_write(descriptor, bytes, count);
     }
     enter();
-    if (!has_place && file >= 0) place = place_of(descriptor);
+    if (file >= 0 && (!has_place || has_flag(descriptor, O_APPEND))) place = place_of(descriptor);
     ssize_t done = has_place ? next_pwrite64(descriptor, bytes, count, place) : next_write(descriptor, bytes, count);
-    if (file >= 0) put_write(file, descriptor, place, done, count, bytes);
+    if (file >= 0) put_write(file, has_flag(descriptor, O_DSYNC), place, done, count, bytes);
     else if (done > 0) put_marks(bytes, done);
     leave();
     return done;
@@ -461,12 +358,19 @@ ssize_t pwrite(int descriptor, const void *bytes, size_t count, off_t place) {
 }
 
 /* A vectored write is one of all its bytes. */
-static ssize_t write_parts(int descriptor, const struct iovec *parts, int count, int has_place, off64_t place) {
-    size_t all = 0, at = 0;
-    for (int i = 0; i < count; i++) all += parts[i].iov_len;
-    char *bytes = malloc(all + 1);
+static char *joined(const struct iovec *parts, int count, size_t *all) {
+    size_t at = 0;
+    *all = 0;
+    for (int i = 0; i < count; i++) *all += parts[i].iov_len;
+    char *bytes = malloc(*all + 1);
     if (!bytes) _exit(NO_TRACE);
     for (int i = 0; i < count; i++) memcpy(bytes + at, parts[i].iov_base, parts[i].iov_len), at += parts[i].iov_len;
+    return bytes;
+}
+
+static ssize_t write_parts(int descriptor, const struct iovec *parts, int count, int has_place, off64_t place) {
+    size_t all;
+    char *bytes = joined(parts, count, &all);
     ssize_t done = write_one(descriptor, bytes, all, has_place, place);
     free(bytes);
     return done;
@@ -484,6 +388,29 @@ ssize_t pwritev64(int descriptor, const struct iovec *parts, int count, off64_t 
 }
 ssize_t pwritev(int descriptor, const struct iovec *parts, int count, off_t place) {
     return pwritev64(descriptor, parts, count, place);
+}
+
+/* Its flags may say that it goes to the end, or returns when it is durable; place -1 is the descriptor's own. */
+ssize_t pwritev64v2(int descriptor, const struct iovec *parts, int count, off64_t place, int flags) {
+    if (!next_pwritev64v2) start();
+    int file = held_by(descriptor);
+    if (file == NONE || file == FOLDER) return next_pwritev64v2(descriptor, parts, count, place, flags);
+    struct stat state;
+    size_t all;
+    char *bytes = joined(parts, count, &all);
+    enter();
+    off64_t at = place == -1 || has_flag(descriptor, O_APPEND) ? place_of(descriptor) : place;
+    if ((flags & RWF_APPEND) && fstat(descriptor, &state) == 0) at = state.st_size;
+    ssize_t done = next_pwritev64v2(descriptor, parts, count, place, flags);
+    int synced = (flags & (RWF_DSYNC | RWF_SYNC)) || has_flag(descriptor, O_DSYNC);
+    if (file >= 0) put_write(file, synced, at, done, all, bytes);
+    else if (done > 0) put_marks(bytes, done);
+    leave();
+    free(bytes);
+    return done;
+}
+ssize_t pwritev2(int descriptor, const struct iovec *parts, int count, off_t place, int flags) {
+    return pwritev64v2(descriptor, parts, count, place, flags);
 }
 
 int ftruncate64(int descriptor, off64_t length) {
@@ -522,9 +449,6 @@ static int sync_one(int descriptor, int data_alone) {
     return answer;
 }
 
-int fsync(int descriptor) { return sync_one(descriptor, 0); }
-int fdatasync(int descriptor) { return sync_one(descriptor, 1); }
-
 /* ---- Names that go, change or come. */
 
 int unlinkat(int at, const char *path, int flags) {
@@ -558,8 +482,6 @@ int renameat2(int at, const char *path, int at_to, const char *to_path, unsigned
     leave();
     return answer;
 }
-int renameat(int at, const char *path, int at_to, const char *to) { return renameat2(at, path, at_to, to, 0); }
-int rename(const char *path, const char *to) { return renameat2(AT_FDCWD, path, AT_FDCWD, to, 0); }
 
 int linkat(int at, const char *from, int at_to, const char *to, int flags) {
     const char *part = part_of(at_to, to);
@@ -584,14 +506,6 @@ static void note(int descriptor, enum not_held call) {
     leave();
 }
 
-void *mmap64(void *at, size_t count, int rights, int flags, int descriptor, off64_t place) {
-    if ((rights & PROT_WRITE) && (flags & MAP_SHARED)) note(descriptor, SHARED_MAP);
-    if (!next_mmap64) return (void *)syscall(SYS_mmap, at, count, rights, flags, descriptor, place);
-    return next_mmap64(at, count, rights, flags, descriptor, place);
-}
-void *mmap(void *at, size_t count, int rights, int flags, int descriptor, off_t place) {
-    return mmap64(at, count, rights, flags, descriptor, place);
-}
 
 /* Room that is made lengthens a file by zeros, or nothing that is seen; other kinds can't be held. */
 static int made_room(int descriptor, int mode, off64_t end, int is_posix, int64_t from, off64_t count) {

@@ -192,3 +192,21 @@ def a_file_without_permission():
         os.chmod("closed", 0o700)
 
 
+
+
+@test
+def a_name_that_is_not_text():
+    """A word that isn't UTF-8 is named as shells read it, whichever it is; nothing is opened."""
+    fill()
+    names = {
+        b"a\xff.db": r"$'a\xff.db'",
+        b"\xe4 b'\n.db": r"$'\xe4 b\'\n.db'",
+        b"n" * 4000 + b"\x80": "$'" + "n" * 4000 + r"\x80'",
+    }
+    for name, told in names.items():
+        for words in ([b"check", name], [b"recover", b"a.db", b"--to", name], [b"show", name, b"--log", b"\xfe"]):
+            ran = subprocess.run([program, *words], capture_output=True, cwd=os.getcwdb())
+            said = f"sqrescue: note: {told} isn't UTF-8: give the file and its logs such names\n" \
+                "sqrescue: the words aren't text\n"
+            found = ran.returncode, ran.stdout, ran.stderr.decode()
+            yield f"{told[:40]}, {words[0].decode()}", None if found == (2, b"", said) else repr(found)[:300]

@@ -1,5 +1,5 @@
 -- The columns of a row that changed, written one by one.
-use Rattle.std.proofs.Common.{◌≡◌, ℕ, suc, Bool, true, List, [], ◌++◌, inl, inr, refl, sym, subst}
+use Rattle.std.proofs.Common.{ℕ, suc, Bool, List, ◌++◌, inl, inr, refl, sym, subst}
 use Rattle.sqrows.specs.Rows.{Row}
 use Rattle.sqtables.specs.declared.columns.Columns.{Columns}
 use Rattle.sqchangelines.specs.Changes.{AreDifferences}

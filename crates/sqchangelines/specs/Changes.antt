@@ -1,5 +1,5 @@
 -- How a change of a table's rows is written (own).
-use Rattle.std.specs.Prelude.{◌≡◌, ◌≢◌, ◌⊎◌, ℕ, suc, zero, ◌<◌, max, Bool, true, false, List, [], ◌∷◌, ◌++◌, length, map, codes, slice_get, Option, Some, None, ℤ}
+use Rattle.std.specs.Prelude.{◌≡◌, ◌≢◌, ◌⊎◌, ℕ, suc, zero, max, Bool, true, false, List, [], ◌++◌, length, map, codes, slice_get, Option, Some, None, ℤ}
 use Rattle.std.specs.Fmt.{decimal}
 use Rattle.sqval.specs.Datum.{Datum}
 use Rattle.sqrows.specs.Rows.{Row}
@@ -64,7 +64,7 @@ IsArrival head names leads rowid values t = IsLine Sql head names (led_by leads 
 -- The text of a row that came or went. In a script the DELETEs stand before the INSERTs, each in a text of its own.
 abbrev pub IsOneText : Writing → (head : List ℕ) → List (List ℕ) → (leads comes : Bool) → (rowid : Option ℤ) → List Datum → List ℕ → Type 0
 IsOneText Line head names leads comes rowid values t = IsLineOf (sign_of comes) names rowid values t
-IsOneText Object head names leads comes rowid values t = IsObjectOf head comes names rowid values t
+IsOneText (Object commit) head names leads comes rowid values t = IsObjectOf head comes names rowid values t
 IsOneText Removal head names leads true rowid values t = t ≡ []
 IsOneText Removal head names leads false rowid values t = t ≡ removal_text head rowid
 IsOneText Arrival head names leads true rowid values t = IsArrival head names leads rowid values t
@@ -103,7 +103,7 @@ abbrev pub IsChangedText : Writing → (head : List ℕ) → Columns → (leads 
 IsChangedText Line head columns leads old new t =
     (all : List ℕ) × AreDifferences columns old new false 0 (column_count columns old new) all
     × (t ≡ codes "~ " ++ (rowid_text Sql new.rowid ++ (codes ": " ++ (all ++ codes "\n"))))
-IsChangedText Object head columns leads old new t =
+IsChangedText (Object commit) head columns leads old new t =
     (was is : List ℕ) × IsMember (member_of false) (names_of columns) (shown columns old) was × IsMember (member_of true) (names_of columns) (shown columns new) is
     × (t ≡ object_start head (codes "update") new.rowid ++ (was ++ (is ++ codes "}\n")))
 IsChangedText Removal head columns leads old new t = t ≡ removal_text head old.rowid

@@ -1,5 +1,6 @@
 -- What stands before changes, and what they begin with (own).
 use Rattle.std.specs.Prelude.{ℕ, List, [], ◌++◌, codes, slice_get, Option, Some, None}
+use Rattle.std.specs.Fmt.{decimal}
 use Rattle.sqtables.specs.declared.columns.Columns.{Columns}
 use Rattle.sqrowlines.specs.Lines.{between_marks, json_string}
 use Rattle.sqchangelines.specs.Changes.{names_of}
@@ -8,9 +9,13 @@ use Rattle.sqchangelines.specs.Changes.{names_of}
 abbrev pub title_text : (table : List ℕ) → List ℕ
 title_text table = codes "table " ++ (between_marks 34 table ++ codes "\n")
 
--- what an object begins with
-abbrev pub object_head : (table : List ℕ) → List ℕ
-object_head table = codes "{\"table\":" ++ (json_string table ++ codes ",\"change\":\"")
+-- what an object begins with: the frame that ends the commit, where one is named, and the table
+abbrev pub opening_text : (commit : Option ℕ) → List ℕ
+opening_text None = codes "{\"table\":"
+opening_text (Some frame) = codes "{\"frame\":" ++ (decimal frame ++ codes ",\"table\":")
+
+abbrev pub object_head : (commit : Option ℕ) → (table : List ℕ) → List ℕ
+object_head commit table = opening_text commit ++ (json_string table ++ codes ",\"change\":\"")
 
 -- what the rowid is called: by its name, or by that of the column that is another name for it
 abbrev pub alias_text : Option (List ℕ) → List ℕ

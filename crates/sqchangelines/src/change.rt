@@ -141,7 +141,7 @@ fn write_changed_values<W: Write>(
     out.write_all(style.before)?;
     match style.writing {
         Writing::Line => write_changed_line(out, style, old, new),
-        Writing::Object => write_changed_object(out, style, new.rowid, was, is),
+        Writing::Object(_) => write_changed_object(out, style, new.rowid, was, is),
         Writing::Removal => write_removal(out, style.head, old.rowid),
         Writing::Arrival => write_arrival(out, style, new.rowid, is),
     }

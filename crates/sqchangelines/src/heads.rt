@@ -2,7 +2,8 @@
 ghost use Rattle.std.specs.Prelude.{◌≡◌, OnOk, MatchOption, map, option_map};
 ghost use Rattle.std.specs.Io.KnownBytes.{Appends};
 ghost use Rattle.sqrowlines.specs.Inserts.{rowid_name};
-ghost use Rattle.sqchangelines.specs.Heads.{alias_name, alias_text, key_text, object_head, removal_head, title_text};
+ghost use Rattle.sqchangelines.specs.Heads.{alias_name, alias_text, key_text, object_head, opening_text, removal_head};
+ghost use Rattle.sqchangelines.specs.Heads.{title_text};
 
 use sqrowlines::{write_between, write_string};
 use sqtables::Columns;
@@ -17,11 +18,22 @@ pub fn write_title<W: Write>(out: &mut W, table: &[u8]) -> io::Result<()>
     out.write_all(b"\n")
 }
 
-/// What the objects of a table's changes begin with. An error of the writer.
-pub fn write_object_head<W: Write>(out: &mut W, table: &[u8]) -> io::Result<()>
-    ensures { OnOk result (Appends (W.contents out.old) (W.contents out.new) (object_head table.now)) }
+/// What an object begins with before the table.
+fn write_opening<W: Write>(out: &mut W, commit: Option<u32>) -> io::Result<()>
+    ensures { OnOk result (Appends (W.contents out.old) (W.contents out.new) (opening_text commit)) }
 {
-    out.write_all(b"{\"table\":")?;
+    match commit {
+        Some(frame) => write!(out, "{{\"frame\":{frame},\"table\":"),
+        None => out.write_all(b"{\"table\":"),
+    }
+}
+
+/// What the objects of a table's changes begin with, which the commit that ends with this frame made, where one is
+/// named. An error of the writer.
+pub fn write_object_head<W: Write>(out: &mut W, commit: Option<u32>, table: &[u8]) -> io::Result<()>
+    ensures { OnOk result (Appends (W.contents out.old) (W.contents out.new) (object_head commit table.now)) }
+{
+    write_opening(out, commit)?;
     write_string(out, table)?;
     out.write_all(b",\"change\":\"")
 }

@@ -165,7 +165,7 @@ pub(crate) fn write_one<W: Write>(
     let names = &style.columns.names;
     match style.writing {
         Writing::Line => write_row(out, sign_of(comes), names, rowid, values),
-        Writing::Object => write_object(out, style.head, comes, names, rowid, values),
+        Writing::Object(_) => write_object(out, style.head, comes, names, rowid, values),
         Writing::Removal if comes => Ok(()),
         Writing::Removal => write_removal(out, style.head, rowid),
         Writing::Arrival if comes => write_arrival(out, style, rowid, values),

@@ -6,8 +6,8 @@ use sqtables::Columns;
 pub enum Writing {
     /// As a line that begins with `+`, `-` or `~`, values as in SQL.
     Line,
-    /// As an object of JSON (RFC 8259).
-    Object,
+    /// As an object of JSON (RFC 8259), with the frame that ends the commit which made the change, where one is named.
+    Object(Option<u32>),
     /// As the DELETE of the row that went or changed.
     Removal,
     /// As the INSERT of the row that came, or of what one that changed is now.

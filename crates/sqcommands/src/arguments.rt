@@ -176,6 +176,26 @@ pub(crate) fn report_arg<'a>(alloc: Global) -> Arg<'a> {
     .required(true)
 }
 
+/// Where `salvage` leaves the script that it makes.
+pub(crate) fn script_file_arg<'a>(alloc: Global) -> Arg<'a> {
+    option(
+        alloc,
+        "to",
+        "OUT",
+        "Makes the file OUT, a script of SQL, which sqlite3 reads",
+    )
+    .required(true)
+}
+
+/// Whether the script has places.
+pub(crate) fn places_arg<'a>(alloc: Global) -> Arg<'a> {
+    flag(
+        alloc,
+        "places",
+        "Writes down the page and the cell of each row, as a comment",
+    )
+}
+
 /// What `check` checks besides.
 pub(crate) fn deep_arg<'a>(alloc: Global) -> Arg<'a> {
     flag(
@@ -201,8 +221,9 @@ pub(crate) fn changed_table_arg<'a>(alloc: Global) -> Arg<'a> {
         alloc,
         "table",
         "NAME",
-        "Prints the changes of this table alone, as SQLite compares names",
+        "Prints the changes of this table alone, as SQLite compares names; several times: of each",
     )
+    .action(ArgAction::Append)
 }
 
 /// The commit from which on rows are compared.
@@ -225,6 +246,13 @@ pub(crate) fn until_arg<'a>(alloc: Global) -> Arg<'a> {
         "Compares up to commit frame N; up to the last one if not given, or to what a hot journal rolls back to",
     )
     .value_parser(value_parser!(u32))
+}
+
+/// Whether the changes of each commit are printed.
+pub(crate) fn each_commit_arg<'a>(alloc: Global) -> Made<Arg<'a>> {
+    let help =
+        "Prints what each commit of the write-ahead log changed against the one before it, from M to N";
+    without(Ok(flag(alloc, "commits", help)), "sql")
 }
 
 /// The same as `sql_arg`, of changes.

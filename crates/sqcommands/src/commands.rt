@@ -1,12 +1,13 @@
 //! The commands and their options. Each function takes and gives a `Result`, and none exits early: a command that is
 //! half made has much to let go.
 use crate::arguments::{
-    Made, all_arg, at_arg, changed_table_arg, commits_arg, copy_arg, csv_arg, deep_arg, file_arg,
-    force_arg, from_arg, json_arg, large_arg, log_arg, no_lock_arg, only_with, page_arg, pages_arg,
-    pointer_maps_arg, report_arg, script_arg, shown_maps_arg, sql_arg, super_journal_arg,
-    table_arg, until_arg, verbose_arg, version_arg, wait_arg,
+    Made, all_arg, at_arg, changed_table_arg, commits_arg, copy_arg, csv_arg, deep_arg,
+    each_commit_arg, file_arg, force_arg, from_arg, json_arg, large_arg, log_arg, no_lock_arg,
+    only_with, page_arg, pages_arg, places_arg, pointer_maps_arg, report_arg, script_arg,
+    script_file_arg, shown_maps_arg, sql_arg, super_journal_arg, table_arg, until_arg, verbose_arg,
+    version_arg, wait_arg,
 };
-use crate::texts::{ALL, CHECK, DIFF, RECOVER, REPORT, ROWS, SHOW};
+use crate::texts::{ALL, CHECK, DIFF, RECOVER, REPORT, ROWS, SALVAGE, SHOW};
 use clap::{Arg, Command};
 use std::alloc::Global;
 
@@ -72,7 +73,16 @@ fn diff_command<'a>(alloc: Global) -> Made<Command<'a>> {
     let command = base_command(alloc, "diff", about, DIFF, Ok(from_arg(alloc)));
     let command = with_arg(command, Ok(until_arg(alloc)));
     let command = with_arg(command, Ok(changed_table_arg(alloc)));
+    let command = with_arg(command, each_commit_arg(alloc));
     with_arg(command, script_arg(alloc))
+}
+
+fn salvage_command<'a>(alloc: Global) -> Made<Command<'a>> {
+    let about =
+        "Makes SQL of the rows of a damaged database that can be read; writes neither FILE nor its logs";
+    let command = base_command(alloc, "salvage", about, SALVAGE, Ok(at_arg(alloc)));
+    let command = with_arg(command, Ok(places_arg(alloc)));
+    with_arg(command, Ok(script_file_arg(alloc)))
 }
 
 fn recover_command<'a>(alloc: Global) -> Made<Command<'a>> {
@@ -105,6 +115,7 @@ pub(crate) fn command<'a>(alloc: Global) -> Made<Command<'a>> {
     let command = with_command(command, check_command(alloc));
     let command = with_command(command, rows_command(alloc));
     let command = with_command(command, diff_command(alloc));
+    let command = with_command(command, salvage_command(alloc));
     let command = with_command(command, recover_command(alloc));
     with_command(command, report_command(alloc))
 }

@@ -1,1 +1,4 @@
 pub mod NamedStates
+pub mod AppendedBytes
+pub mod SurveyedImages
+pub mod PlayedRecords

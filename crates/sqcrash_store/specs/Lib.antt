@@ -2,5 +2,9 @@ pub mod Verdicts
 pub mod Lines
 pub mod Tallies
 pub mod Points
+pub mod Keys
 pub mod Runs
 pub mod Surveys
+pub mod States
+pub mod Rigs
+pub mod internal

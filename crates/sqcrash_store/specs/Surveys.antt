@@ -1,19 +1,67 @@
--- An image is judged, counted and told (own).
-use Rattle.std.specs.Prelude.{◌≡◌, ℕ, List, Option}
+-- The images of a point are judged, counted and told (own).
+use Rattle.std.specs.Prelude.{◌≡◌, ℕ, ◌+◌, not, nat_eq, List, [], ◌∷◌, ◌++◌, length, map, fold, Option}
+use Rattle.std.specs.List.{All, filter}
 use Rattle.std.specs.String.{string_bytes}
+use Rattle.sqstore.specs.Left.{MayLeave}
+use Rattle.sqstore.specs.Stores.{StoreState}
+use Rattle.sqcrash_store.specs.Keys.{key_of}
 use Rattle.sqcrash_store.specs.Lines.{finding_text}
 use Rattle.sqcrash_store.specs.Tallies.{with_image}
 use Rattle.sqcrash_store.specs.Verdicts.{IsVerdict}
 use Rattle.sqcrash_store.specs.declared.lines.Place.{Place}
+use Rattle.sqcrash_store.specs.declared.plan.Plan.{Plan}
+use Rattle.sqcrash_store.specs.declared.survey.Bench.{Bench}
+use Rattle.sqcrash_store.specs.declared.survey.Point.{Point}
 use Rattle.sqcrash_store.specs.declared.tally.Tally.{Tally}
 use Rattle.sqcrash_store.specs.declared.verdict.Answer.{Answer}
 use Rattle.sqcrash_store.specs.declared.verdict.Verdict.{Verdict}
 
--- An image is counted and told as the judge says, by the states of the run.
-pub record JudgesOne (Says : List (Option (List ℕ)) → Answer → Type 0) (states : List Answer) (image : List (Option (List ℕ))) (at : Place) (before after : Tally) (lines : List ℕ) : Type 0 where
+-- What a run is judged by: how, its trace, and what the command said of the files at the beginning and at each mark.
+pub record Judging : Type 0 where
+  pub plan : Plan
+  pub trace : List ℕ
+  pub states : List Answer
+
+abbrev pub judging_of : Bench → Judging
+judging_of b = record { plan = b.plan; trace = b.trace.now; states = b.states.now }
+
+-- An image, what the command said of it, and what is to be said of it by that.
+pub record Judged : Type 0 where
+  pub image : List (Option (List ℕ))
   pub answer : Answer
-  pub says : Says image answer
   pub verdict : Verdict
-  pub said : IsVerdict states at.known answer verdict
-  pub counted : after ≡ with_image before verdict
-  pub told : lines ≡ finding_text at verdict (string_bytes answer.line)
+
+-- the image is judged as the command may say, by the states of a run of which one is known to be durable
+pub record IsJudged (Says : List (Option (List ℕ)) → Answer → Type 0) (states : List Answer) (known : ℕ) (x : Judged) : Type 0 where
+  pub says : Says x.image x.answer
+  pub verdict : IsVerdict states known x.answer x.verdict
+
+-- with each of these images
+abbrev pub with_images : Tally → List Judged → Tally
+with_images t judged = fold (λ s x. with_image s x.verdict) t judged
+
+-- the line of an image, if something is wrong with it
+abbrev pub line_of : Place → Judged → List ℕ
+line_of at x = finding_text at x.verdict (string_bytes x.answer.line)
+
+-- where the image of a number is at a point
+abbrev pub place_of : Point → (image : ℕ) → Place
+place_of p image = record { point = p.number; image = image; known = p.known }
+
+-- the lines of images, of which the first has this place, and each other the next one
+abbrev pub lines_from : Place → List Judged → List ℕ
+lines_from at [] = []
+lines_from at (x ∷ judged) = line_of at x ++ lines_from (record at { image = at.image + 1 }) judged
+
+-- of images with the same key the first alone
+abbrev pub firsts : List (List (Option (List ℕ))) → List (List (Option (List ℕ)))
+firsts [] = []
+firsts (x ∷ images) = x ∷ filter (λ y. not (nat_eq (key_of x) (key_of y))) (firsts images)
+
+-- The images of a point: as many are drawn as are asked for, of those that a crash may leave, and of these each is judged, once.
+pub record IsSurvey (Says : List (Option (List ℕ)) → Answer → Type 0) (j : Judging) (s : StoreState) (known : ℕ) (judged : List Judged) : Type 0 where
+  pub drawn : List (List (Option (List ℕ)))
+  pub number : length drawn ≡ j.plan.images
+  pub left : All (MayLeave s) drawn
+  pub once : map (λ x. x.image) judged ≡ firsts drawn
+  pub each : All (IsJudged Says j.states known) judged

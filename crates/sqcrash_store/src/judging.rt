@@ -1,5 +1,7 @@
 //! A trace is judged from its beginning to its end (own).
-ghost use Rattle.std.specs.Prelude.{◌<◌, IfOk};
+ghost use Rattle.std.specs.Prelude.{◌<◌, ℕ, List, IfOk};
+ghost use Rattle.std.specs.Io.KnownBytes.{Appends};
+ghost use Rattle.sqcrash_store.specs.Rigs.{IsJudgment};
 
 use crate::asking::Judge;
 use crate::outcome::Refusal;
@@ -21,7 +23,9 @@ pub fn judge_trace<J: Judge, O: Write>(
     judge: &mut J,
     out: &mut O,
 ) -> Result<Tally, Refusal>
-    ensures { IfOk result (λ tally. 0 < tally.points) }
+    ensures judged { IfOk result (λ tally. (lines : List ℕ) × IsJudgment J.says plan bytes.now tally lines
+        × Appends (O.contents out.old) (O.contents out.new) lines) }
+    ensures some { IfOk result (λ tally. 0 < tally.points) }
 {
     let trace = Trace::read(alloc, bytes)?;
     let names = take_names(alloc, bytes, &trace.calls)?;

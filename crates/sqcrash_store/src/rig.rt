@@ -1,6 +1,7 @@
 //! A trace is played, and what crashes may leave at its points is judged (own).
-ghost use Rattle.std.specs.Prelude.{◌≡◌};
+ghost use Rattle.std.specs.Prelude.{◌≡◌, ◌+◌};
 ghost use Rattle.sqcrash_store.specs.Points.{is_point, IsKnown};
+ghost use Rattle.sqcrash_store.specs.Rigs.{is_asked};
 
 use crate::asking::Judge;
 use crate::outcome::{Refusal, more};
@@ -47,11 +48,27 @@ fn known_by(plan: Plan, line: &[u8], mark: u64, known: u64) -> u64
     }
 }
 
+/// Whether a point is the one that is asked for, if one is.
+fn is_asked(asked: Option<u64>, point: u64) -> bool
+    ensures { result ≡ is_asked asked point }
+{
+    match asked {
+        None => true,
+        Some(number) => number == point,
+    }
+}
+
 impl Rig {
-    ghost use Rattle.std.specs.Prelude.{◌≡◌};
+    ghost use Rattle.std.specs.Prelude.{◌≡◌, ◌+◌, ℕ, List, OnOk};
+    ghost use Rattle.std.specs.Io.KnownBytes.{Appends};
+    ghost use Rattle.sqstore.specs.Calls.{bytes_of};
+    ghost use Rattle.sqcrash_store.specs.Surveys.{judging_of};
+    ghost use Rattle.sqcrash_store.specs.Rigs.{rig_of, no_rig, NotesBy, JudgesAsked, PlaysOne, is_asked};
 
     /// Nothing is played yet.
-    pub fn new(bench: &Bench<'_>) -> Rig {
+    pub fn new(bench: &Bench<'_>) -> Rig
+        ensures { rig_of result ≡ no_rig bench.now.plan }
+    {
         let plan = bench.plan;
         Rig {
             rng: Pcg32::new(plan.seed, 1),
@@ -70,33 +87,44 @@ impl Rig {
     }
 
     /// Counts a mark, which may promise its state.
-    fn note(&mut self, bench: &Bench<'_>, call: &Call) -> Result<(), Refusal> {
-        if call.action != Action::Mark {
-            return Ok(());
+    fn note(&mut self, bench: &Bench<'_>, call: &Call) -> Result<(), Refusal>
+        ensures { OnOk result (NotesBy call.now.action bench.now.plan (bytes_of bench.now.trace.now call.now)
+            (rig_of self.old) (rig_of self.new)) }
+    {
+        match call.action {
+            Action::Mark => {
+                self.marks = more(self.marks)?;
+                self.known = known_by(bench.plan, call.bytes(bench.trace), self.marks, self.known);
+                Ok(())
+            }
+            _ => Ok(()),
         }
-        self.marks = more(self.marks)?;
-        self.known = known_by(bench.plan, call.bytes(bench.trace), self.marks, self.known);
-        Ok(())
     }
 
-    /// Judges what a crash may leave at a point, where that is asked for.
+    /// Counts the next point, and where that is asked for judges what a crash may leave there.
     fn judge<J: Judge, O: Write>(
         &mut self,
         bench: &Bench<'_>,
         judge: &mut J,
         out: &mut O,
-    ) -> Result<(), Refusal> {
-        self.tally = self.tally.with_point()?;
-        let number = self.tally.points;
-        if bench.plan.point.is_some_and(|asked| asked != number) {
+    ) -> Result<(), Refusal>
+        ensures { OnOk result ((lines : List ℕ)
+            × JudgesAsked J.says (is_asked bench.now.plan.point ((rig_of self.old).tally.points + 1))
+            (judging_of bench.now) (rig_of self.old) self.new.tally lines
+            × (rig_of self.new ≡ record (rig_of self.old) { tally = self.new.tally })
+            × Appends (O.contents out.old) (O.contents out.new) lines) }
+    {
+        let tally = self.tally.with_point()?;
+        if !is_asked(bench.plan.point, tally.points) {
+            self.tally = tally;
             return Ok(());
         }
         let point = Point {
             store: &self.store,
-            number,
+            number: tally.points,
             known: self.known,
         };
-        self.tally = survey(judge, bench, &mut self.rng, &point, self.tally, out)?;
+        self.tally = survey(judge, bench, &mut self.rng, &point, tally, out)?;
         Ok(())
     }
 
@@ -107,12 +135,16 @@ impl Rig {
         call: &Call,
         judge: &mut J,
         out: &mut O,
-    ) -> Result<(), Refusal> {
+    ) -> Result<(), Refusal>
+        ensures { OnOk result ((lines : List ℕ)
+            × PlaysOne J.says (judging_of bench.now) call.now (rig_of self.old) (rig_of self.new) lines
+            × Appends (O.contents out.old) (O.contents out.new) lines) }
+    {
         play(&mut self.store, bench.trace, call)?;
         self.note(bench, call)?;
-        if is_point(bench.plan.every, call) {
-            self.judge(bench, judge, out)?;
+        if !is_point(bench.plan.every, call) {
+            return Ok(());
         }
-        Ok(())
+        self.judge(bench, judge, out)
     }
 }

@@ -1,6 +1,7 @@
 //! The states that a run had at its marks (own).
-ghost use Rattle.std.specs.Prelude.{OnOk};
+ghost use Rattle.std.specs.Prelude.{◌≡◌, OnOk, IfOk};
 ghost use Rattle.sqstore.specs.Stores.{store_of, Goes};
+ghost use Rattle.sqcrash_store.specs.States.{SaysWhere, is_first, is_mark, AreStates};
 
 use crate::asking::Judge;
 use crate::outcome::Refusal;
@@ -46,7 +47,9 @@ fn take_where<J: Judge>(
     names: &[String],
     judge: &mut J,
     states: &mut Vec<Answer>,
-) -> Result<(), Refusal> {
+) -> Result<(), Refusal>
+    ensures { OnOk result (SaysWhere J.says is (store_of store.now) states.old.items states.new.items) }
+{
     if !is {
         return Ok(());
     }
@@ -57,8 +60,17 @@ fn take_where<J: Judge>(
 }
 
 /// Whether a record is the first that isn't of what was there when recording began.
-fn is_first(states: &[Answer], call: &Call) -> bool {
+fn is_first(states: &[Answer], call: &Call) -> bool
+    ensures { result ≡ is_first states.now call.now.action }
+{
     states.is_empty() && !matches!(call.action, Action::Base | Action::Name)
+}
+
+/// Whether it is a mark.
+fn is_mark(call: &Call) -> bool
+    ensures { result ≡ is_mark call.now.action }
+{
+    call.action == Action::Mark
 }
 
 /// What the command says of the files before the first call, and at each mark.
@@ -69,15 +81,16 @@ pub fn take_states<J: Judge>(
     calls: &[Call],
     names: &[String],
     judge: &mut J,
-) -> Result<Vec<Answer>, Refusal> {
+) -> Result<Vec<Answer>, Refusal>
+    ensures { IfOk result (λ states. AreStates J.says plan trace.now calls.now states.items) }
+{
     let mut store = Store::new(alloc, plan.sector, plan.tears, plan.meta);
     let mut states = Vec::new(alloc);
     for call in calls {
         let is_first = is_first(&states, call);
         take_where(alloc, is_first, &store, names, judge, &mut states)?;
         play(&mut store, trace, call)?;
-        let is_mark = call.action == Action::Mark;
-        take_where(alloc, is_mark, &store, names, judge, &mut states)?;
+        take_where(alloc, is_mark(call), &store, names, judge, &mut states)?;
     }
     Ok(states)
 }

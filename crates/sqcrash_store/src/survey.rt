@@ -1,8 +1,12 @@
 //! The images of a point are judged, counted and told (own).
-ghost use Rattle.std.specs.Prelude.{ℕ, List, IfOk};
+ghost use Rattle.std.specs.Prelude.{◌≡◌, ℕ, List, IfOk};
 ghost use Rattle.std.specs.Io.KnownBytes.{Appends};
 ghost use Rattle.sqstore.specs.Left.{image_of};
-ghost use Rattle.sqcrash_store.specs.Surveys.{JudgesOne};
+ghost use Rattle.sqstore.specs.Stores.{store_of};
+ghost use Rattle.sqcrash_store.specs.Keys.{key_of};
+ghost use Rattle.sqcrash_store.specs.Tallies.{with_image};
+ghost use Rattle.sqcrash_store.specs.Surveys.{Judged, IsJudged, IsSurvey, judging_of};
+ghost use Rattle.sqcrash_store.specs.Surveys.{with_images, line_of, lines_from, place_of};
 
 use crate::asking::Judge;
 use crate::lines::{Place, write_finding};
@@ -42,16 +46,34 @@ pub struct Point<'a> {
     pub known: u64,
 }
 
+impl Point<'_> {
+    ghost use Rattle.std.specs.Prelude.{◌≡◌};
+    ghost use Rattle.sqcrash_store.specs.Surveys.{place_of};
+
+    /// Where the image of a number is.
+    fn place(&self, image: u64) -> Place
+        ensures { result ≡ place_of self.now image }
+    {
+        Place {
+            point: self.number,
+            image,
+            known: self.known,
+        }
+    }
+}
+
 /// A number that is the same for the same image, and seldom for others (own).
-fn key_of(image: &Image) -> u64 {
+fn key_of(image: &Image) -> u64
+    ensures { result ≡ key_of (image_of image.now) }
+{
     let mut hasher = FoldHasher::default();
     for shown in &image.files {
         match shown {
             Some(bytes) => {
-                hasher.write_u64(bytes.len() as u64);
-                hasher.write(bytes.as_slice());
+                hasher.write(&[1]);
+                hasher.write(bytes);
             }
-            None => hasher.write_u64(u64::MAX),
+            None => hasher.write(&[0]),
         }
     }
     hasher.finish()
@@ -66,9 +88,9 @@ fn judge_one<J: Judge, O: Write>(
     before: Tally,
     out: &mut O,
 ) -> Result<Tally, Refusal>
-    ensures { IfOk result (λ tally. (lines : List ℕ)
-        × JudgesOne J.says bench.now.states.now (image_of image.now) at before tally lines
-        × Appends (O.contents out.old) (O.contents out.new) lines) }
+    ensures { IfOk result (λ tally. (x : Judged) × (x.image ≡ image_of image.now)
+        × IsJudged J.says bench.now.states.now at.known x × (tally ≡ with_image before x.verdict)
+        × Appends (O.contents out.old) (O.contents out.new) (line_of at x)) }
 {
     let answer = judge.judge(image, bench.names)?;
     let said = verdict_of(bench.states, at.known, &answer);
@@ -85,22 +107,22 @@ pub fn survey<R: Rng, J: Judge, O: Write>(
     point: &Point<'_>,
     before: Tally,
     out: &mut O,
-) -> Result<Tally, Refusal> {
+) -> Result<Tally, Refusal>
+    ensures { IfOk result (λ tally. (judged : List Judged)
+        × IsSurvey J.says (judging_of bench.now) (store_of point.now.store.now) point.now.known judged
+        × (tally ≡ with_images before judged)
+        × Appends (O.contents out.old) (O.contents out.new) (lines_from (place_of point.now 0) judged)) }
+{
     let mut keys = HashSet::new(bench.alloc);
     let mut tally = before;
     let mut number = 0;
-    for n in 0..bench.plan.images {
+    for _ in 0..bench.plan.images {
         let image = draw(bench.alloc, rng, point.store)?;
-        let is_new = keys.insert(key_of(&image))?;
-        if is_new || n == 0 {
-            let at = Place {
-                point: point.number,
-                image: number,
-                known: point.known,
-            };
-            tally = judge_one(judge, bench, &image, at, tally, out)?;
-            number = more(number)?;
+        if !keys.insert(key_of(&image))? {
+            continue;
         }
+        tally = judge_one(judge, bench, &image, point.place(number), tally, out)?;
+        number = more(number)?;
     }
     Ok(tally)
 }

@@ -1,6 +1,6 @@
 -- The cells of a page, one after the other.
 use Rattle.std.proofs.Common.{◌≡◌, ◌∙◌, ℕ, ◌+◌, ◌<◌, ◌≤◌, ◌++◌, List, length, take, unwrap_or, refl, sym, ap, subst, inl, inr, arith}
-use Rattle.std.specs.Prelude.{IsSome, Some}
+use Rattle.std.specs.Prelude.{IsSome, Some, Result, Ok, Err, IfErr}
 use Rattle.std.proofs.lemmas.List.{length-take}
 use Rattle.std.proofs.lemmas.Bool.{cases_eq}
 use Rattle.sqval.specs.Database.{Database}
@@ -19,7 +19,7 @@ use Rattle.sqdeep.specs.declared.fault.DeepError.TheVariants.{Check, Inner}
 use Rattle.sqdeep.specs.declared.text.Encoding.{Encoding}
 use Rattle.sqdeep.specs.Records.{encoding_of, IsSoundCell, CellRefused}
 use Rattle.sqdeep.specs.Inside.{IsOfTree, StandsInside}
-use Rattle.sqdeep.specs.internal.Judging.{AreSoundCells, CellTells, Tells, RecordRefused}
+use Rattle.sqdeep.specs.internal.Judging.{AreSoundCells, CellTells, PayloadTells, Tells, RecordRefused}
 
 links_same : (c e : Cell) → SameCell c e → links c ≡ links e
 links_same c e s = let u = s.usable in let p = s.payload in let l : length c.local.now ≡ length e.local.now = ap length s.local in rw (u, p, l) refl
@@ -71,3 +71,9 @@ record_told given encoding d cell i bytes fault payload some short h = (refl, re
     go faults.NotRecord never = (some, bytes, payload, never)
     go faults.TextForm (values, read, never) = (some, bytes, values, payload, read, never)
     go _ none = absurd none
+
+-- what is told of its payload is told of a cell
+pub payload_told : (given : Type 0) (encoding : Encoding) (d : Database) (cell : Cell) (i : ℕ) (bytes : List ℕ) (result : Result (Unit {0}) DeepError) → IsPayload d cell bytes → IsSome cell.payload → payload_size cell ≤ most_bytes
+    → IfErr result (PayloadTells encoding cell i bytes) → IfErr result (λ e. CellTells given encoding d cell i e)
+payload_told given encoding d cell i bytes (Ok x) payload some short h = tt
+payload_told given encoding d cell i bytes (Err e) payload some short h = subst (CellTells given encoding d cell i) (sym h.1) (record_told given encoding d cell i bytes h.0 payload some short h.2)

@@ -1,19 +1,20 @@
 //! The cells of a page (fileformat2, 1.6 and 2.1).
-ghost use Rattle.std.specs.Prelude.{◌≡◌, ◌+◌, ◌<◌, ◌≤◌, ℕ, List, Some, IfErr, OnOk, length};
-ghost use Rattle.sqpage.specs.Chain.{IsPayload};
+ghost use Rattle.std.specs.Prelude.{◌≡◌, ◌+◌, ◌<◌, ◌≤◌, ℕ, List, Some, IfSome, IfErr, OnOk, length};
+ghost use Rattle.sqval.specs.Database.{Database};
+ghost use Rattle.sqpage.specs.Chain.{payload_size, IsPayload};
 ghost use Rattle.sqpage.specs.Page.{cell_count};
 ghost use Rattle.sqpage.specs.declared.kind.Kind.{Kind};
 ghost use Rattle.sqcheck.specs.Places.{page_as};
 ghost use Rattle.sqdeep.specs.declared.fault.DeepError.TheVariants.{Inner};
-ghost use Rattle.sqdeep.specs.Records.{encoding_of, IsSoundCell};
+ghost use Rattle.sqdeep.specs.Records.{encoding_of, IsFormedRecord, IsSoundCell};
 ghost use Rattle.sqdeep.specs.internal.Judging.{SameSource, IsWithinPage, CellTells, Tells, IsOfSoundTree};
-ghost use Rattle.sqdeep.specs.internal.Judging.{AreSoundCells};
+ghost use Rattle.sqdeep.specs.internal.Judging.{AreSoundCells, PayloadTells};
 
 use crate::fault::{DeepError, InnerError, InnerFault};
 use crate::records::judge_record;
 use crate::snapshot::Snapshot;
 use crate::text::Encoding;
-use sqpage::{BtreePage, Cell, PageSource, payload};
+use sqpage::{BtreePage, Cell, PageSource, links_of, payload};
 use sqval::MOST_BYTES;
 use std::alloc::Global;
 
@@ -29,6 +30,30 @@ fn at_cell(cell: &Cell, i: usize, fault: InnerFault) -> DeepError
         page: cell.page,
         cell: Some(i),
     })
+}
+
+/// The payload of a cell where all of it lies there.
+fn whole_of<'a>(cell: &Cell<'a>) -> Option<&'a [u8]>
+    requires least { 480 ≤ cell.now.usable }
+    requires part { length cell.now.local.now ≤ payload_size cell.now }
+    ensures { IfSome result (λ bytes. (d : Database) → IsPayload d cell.now bytes.now) }
+{
+    if links_of(cell) == 0 && cell.overflow == 0 {
+        Some(cell.local)
+    } else {
+        None
+    }
+}
+
+/// Judges the payload of cell `i`. Refused by TooLong, NotRecord and TextForm, the first that applies.
+fn judge_payload(encoding: Encoding, cell: &Cell, i: usize, bytes: &[u8]) -> Result<(), DeepError>
+    ensures ok { OnOk result (IsFormedRecord encoding bytes.now) }
+    ensures err { IfErr result (PayloadTells encoding cell.now i bytes.now) }
+{
+    match judge_record(encoding, bytes) {
+        Ok(()) => Ok(()),
+        Err(fault) => Err(at_cell(cell, i, fault)),
+    }
 }
 
 /// Judges cell `i` of a page, and its payload where it has one. Refused by ShortCell, TooLong, NotRecord and TextForm,
@@ -59,14 +84,13 @@ fn judge_cell<V: Snapshot, S: PageSource>(
     if size > MOST_BYTES as u64 {
         return Err(at_cell(cell, i, InnerFault::TooLong));
     }
+    if let Some(bytes) = whole_of(cell) {
+        return judge_payload(encoding, cell, i, bytes);
+    }
     content.clear();
     match payload(alloc, source, cell, content) {
-        Ok(()) => {}
-        Err(refusal) => return Err(DeepError::Check(refusal)),
-    }
-    match judge_record(encoding, content) {
-        Ok(()) => Ok(()),
-        Err(fault) => Err(at_cell(cell, i, fault)),
+        Ok(()) => judge_payload(encoding, cell, i, content),
+        Err(refusal) => Err(DeepError::Check(refusal)),
     }
 }
 

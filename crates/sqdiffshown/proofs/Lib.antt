@@ -6,3 +6,4 @@ pub mod RowsTold
 pub mod TurnsTaken
 pub mod TablesPrinted
 pub mod PairsFound
+pub mod NamesTaken

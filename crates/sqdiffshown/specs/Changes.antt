@@ -1,5 +1,5 @@
 -- The changes between two databases as they are printed, and why they aren't (own).
-use Rattle.std.specs.Prelude.{◌≡◌, ◌⊎◌, ◌≤◌, ℕ, Bool, true, false, List, [], length, Option, Some, None, option_map, All}
+use Rattle.std.specs.Prelude.{◌≡◌, ◌⊎◌, ◌≤◌, ℕ, Bool, true, false, List, [], ◌∷◌, length, map, take, slice_get, Option, Some, All}
 use Rattle.std.specs.Borrow.{Bor}
 use Rattle.std.specs.Io.KnownBytes.{Appends}
 use Rattle.std.specs.List.{Contains}
@@ -65,39 +65,51 @@ IsNamedStopped d e schemas name form stop before after =
     (All (λ o. ¬ IsTableNamed name o) schemas.old.now × All (λ o. ¬ IsTableNamed name o) schemas.new.now × (stop ≡ NoSuchTable) × (before ≡ after))
     ⊎ ((pair : Pair) × IsPairNamed schemas name pair × IsPairStopped d e pair form stop before after)
 
--- the bytes of a name, if there is one
-abbrev pub text_of : Option (Bor (List ℕ)) → Option (List ℕ)
-text_of name = option_map (λ n. n.now) name
+-- Those of the tables of these names were, in their order.
+abbrev pub AreNamedPrinted : Database → Database → Schemas → (names : List (List ℕ)) → ChangeForm → (before after : Option (List ℕ)) → Type 0
+AreNamedPrinted d e schemas [] form before after = before ≡ after
+AreNamedPrinted d e schemas (name ∷ names) form before after =
+    (mid : Option (List ℕ)) × IsNamedPrinted d e schemas name form before mid × AreNamedPrinted d e schemas names form mid after
 
--- Those of the table that is asked for were, or of all.
-abbrev pub AreAskedPrinted : Database → Database → Schemas → (table : Option (List ℕ)) → ChangeForm → (before after : Option (List ℕ)) → Type 0
-AreAskedPrinted d e schemas (Some name) form before after = IsNamedPrinted d e schemas name form before after
-AreAskedPrinted d e schemas None form before after = AreAllPrinted d e schemas form before after
+-- They were up to name i, at which the printing stopped.
+abbrev pub AreNamedStopped : Database → Database → Schemas → (names : List (List ℕ)) → ChangeForm → Stop → (before after : Option (List ℕ)) → Type 0
+AreNamedStopped d e schemas names form stop before after =
+    (i : ℕ) × (name : List ℕ) × (mid : Option (List ℕ)) × (slice_get names i ≡ Some name) × AreNamedPrinted d e schemas (take i names) form before mid
+    × IsNamedStopped d e schemas name form stop mid after
 
-abbrev pub AreAskedStopped : Database → Database → Schemas → (table : Option (List ℕ)) → ChangeForm → Stop → (before after : Option (List ℕ)) → Type 0
-AreAskedStopped d e schemas (Some name) form stop before after = IsNamedStopped d e schemas name form stop before after
-AreAskedStopped d e schemas None form stop before after = AreAllStopped d e schemas form stop before after
+-- the bytes of names
+abbrev pub texts_of : List (Bor (List ℕ)) → List (List ℕ)
+texts_of names = map (λ n. n.now) names
+
+-- Those of the tables that are asked for were, or of all where none is.
+abbrev pub AreAskedPrinted : Database → Database → Schemas → (names : List (List ℕ)) → ChangeForm → (before after : Option (List ℕ)) → Type 0
+AreAskedPrinted d e schemas [] form before after = AreAllPrinted d e schemas form before after
+AreAskedPrinted d e schemas (name ∷ names) form before after = AreNamedPrinted d e schemas (name ∷ names) form before after
+
+abbrev pub AreAskedStopped : Database → Database → Schemas → (names : List (List ℕ)) → ChangeForm → Stop → (before after : Option (List ℕ)) → Type 0
+AreAskedStopped d e schemas [] form stop before after = AreAllStopped d e schemas form stop before after
+AreAskedStopped d e schemas (name ∷ names) form stop before after = AreNamedStopped d e schemas (name ∷ names) form stop before after
 
 -- They were printed between what stands before and behind them.
-abbrev pub AreFramedPrinted : Database → Database → Schemas → (table : Option (List ℕ)) → ChangeForm → (before after : Option (List ℕ)) → Type 0
-AreFramedPrinted d e schemas table form before after =
-    (begun ended : Option (List ℕ)) × Appends before begun (opening_text form schemas.old.now) × AreAskedPrinted d e schemas table form begun ended
+abbrev pub AreFramedPrinted : Database → Database → Schemas → (names : List (List ℕ)) → ChangeForm → (before after : Option (List ℕ)) → Type 0
+AreFramedPrinted d e schemas names form before after =
+    (begun ended : Option (List ℕ)) × Appends before begun (opening_text form schemas.old.now) × AreAskedPrinted d e schemas names form begun ended
     × Appends ended after (closing_text form schemas.new.now)
 
 -- They weren't: the writer failed, an object can't be written, or the printing stopped behind what stands before.
-abbrev pub AreFramedStopped : Database → Database → Schemas → (table : Option (List ℕ)) → ChangeForm → Stop → (before after : Option (List ℕ)) → Type 0
-AreFramedStopped d e schemas table form stop before after =
+abbrev pub AreFramedStopped : Database → Database → Schemas → (names : List (List ℕ)) → ChangeForm → Stop → (before after : Option (List ℕ)) → Type 0
+AreFramedStopped d e schemas names form stop before after =
     IsWriteError stop
     ⊎ ((o : Object) × (Contains schemas.old.now o ⊎ Contains schemas.new.now o) × (¬ IsWritten form o) × (stop ≡ NotUnderstood) × (before ≡ after))
-    ⊎ ((begun : Option (List ℕ)) × Appends before begun (opening_text form schemas.old.now) × AreAskedStopped d e schemas table form stop begun after)
+    ⊎ ((begun : Option (List ℕ)) × Appends before begun (opening_text form schemas.old.now) × AreAskedStopped d e schemas names form stop begun after)
 
 -- The changes between two databases were printed.
-abbrev pub AreChangesPrinted : Database → Database → (table : Option (List ℕ)) → ChangeForm → (before after : Option (List ℕ)) → Type 0
-AreChangesPrinted d e table form before after =
-    (schemas : Schemas) × HasObjectsOf d schemas.old.now × HasObjectsOf e schemas.new.now × AreFramedPrinted d e schemas table form before after
+abbrev pub AreChangesPrinted : Database → Database → (names : List (List ℕ)) → ChangeForm → (before after : Option (List ℕ)) → Type 0
+AreChangesPrinted d e names form before after =
+    (schemas : Schemas) × HasObjectsOf d schemas.old.now × HasObjectsOf e schemas.new.now × AreFramedPrinted d e schemas names form before after
 
 -- They weren't to their end: the objects of one of both aren't listed, or the printing stopped.
-abbrev pub AreChangesStopped : Database → Database → (table : Option (List ℕ)) → ChangeForm → Stop → (before after : Option (List ℕ)) → Type 0
-AreChangesStopped d e table form stop before after =
+abbrev pub AreChangesStopped : Database → Database → (names : List (List ℕ)) → ChangeForm → Stop → (before after : Option (List ℕ)) → Type 0
+AreChangesStopped d e names form stop before after =
     ((SchemaRefused d stop ⊎ SchemaRefused e stop) × (before ≡ after))
-    ⊎ ((schemas : Schemas) × HasObjectsOf d schemas.old.now × HasObjectsOf e schemas.new.now × AreFramedStopped d e schemas table form stop before after)
+    ⊎ ((schemas : Schemas) × HasObjectsOf d schemas.old.now × HasObjectsOf e schemas.new.now × AreFramedStopped d e schemas names form stop before after)

@@ -21,16 +21,16 @@ make_trigger o = if is_trigger o then statement_text o.sql.items else []
 -- A script is one transaction, in which no trigger is there that its statements would run.
 abbrev pub opening_text : ChangeForm → List Object → List ℕ
 opening_text Lines objects = []
-opening_text Json objects = []
+opening_text (Json commit) objects = []
 opening_text Sql objects = codes "PRAGMA foreign_keys=OFF;\nBEGIN TRANSACTION;\n" ++ flat_map drop_trigger objects
 
 abbrev pub closing_text : ChangeForm → List Object → List ℕ
 closing_text Lines objects = []
-closing_text Json objects = []
+closing_text (Json commit) objects = []
 closing_text Sql objects = flat_map make_trigger objects ++ codes "COMMIT;\n"
 
 -- An object can be written: in SQL no virtual table, whose own tables its module makes.
 abbrev pub IsWritten : ChangeForm → Object → Type 0
 IsWritten Lines o = Unit {0}
-IsWritten Json o = Unit {0}
+IsWritten (Json commit) o = Unit {0}
 IsWritten Sql o = (0 < o.root) ⊎ (o.kind.items ≢ codes "table")

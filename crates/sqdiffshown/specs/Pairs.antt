@@ -32,12 +32,12 @@ AreKept _ old new = old.sql.items ≡ new.sql.items
 -- INSERTs of those that came or changed.
 abbrev pub IsBothPrinted : Database → Database → (old new : Object) → ChangeForm → (before after : Option (List ℕ)) → Type 0
 IsBothPrinted d e old new Lines before after = IsKeptPrinted d e old new Line before after
-IsBothPrinted d e old new Json before after = IsKeptPrinted d e old new AsObject before after
+IsBothPrinted d e old new (Json commit) before after = IsKeptPrinted d e old new (AsObject commit) before after
 IsBothPrinted d e old new Sql before after = (mid : Option (List ℕ)) × IsKeptPrinted d e old new Removal before mid × IsKeptPrinted d e old new Arrival mid after
 
 abbrev pub IsBothStopped : Database → Database → (old new : Object) → ChangeForm → Stop → (before after : Option (List ℕ)) → Type 0
 IsBothStopped d e old new Lines stop before after = IsKeptStopped d e old new Line stop before after
-IsBothStopped d e old new Json stop before after = IsKeptStopped d e old new AsObject stop before after
+IsBothStopped d e old new (Json commit) stop before after = IsKeptStopped d e old new (AsObject commit) stop before after
 IsBothStopped d e old new Sql stop before after =
     IsKeptStopped d e old new Removal stop before after
     ⊎ ((mid : Option (List ℕ)) × IsKeptPrinted d e old new Removal before mid × IsKeptStopped d e old new Arrival stop mid after)
@@ -45,23 +45,23 @@ IsBothStopped d e old new Sql stop before after =
 -- That a table went was printed: all of its rows, and in SQL what drops it.
 abbrev pub IsGonePrinted : Database → ChangeForm → Object → (before after : Option (List ℕ)) → Type 0
 IsGonePrinted d Lines table before after = IsSidePrinted d table false Line before after
-IsGonePrinted d Json table before after = IsSidePrinted d table false AsObject before after
+IsGonePrinted d (Json commit) table before after = IsSidePrinted d table false (AsObject commit) before after
 IsGonePrinted d Sql table before after = Appends before after (drop_text table.name.items)
 
 abbrev pub IsGoneStopped : Database → ChangeForm → Object → Stop → (before after : Option (List ℕ)) → Type 0
 IsGoneStopped d Lines table stop before after = IsSideStopped d table false Line stop before after
-IsGoneStopped d Json table stop before after = IsSideStopped d table false AsObject stop before after
+IsGoneStopped d (Json commit) table stop before after = IsSideStopped d table false (AsObject commit) stop before after
 IsGoneStopped d Sql table stop before after = IsWriteError stop
 
 -- That a table came was printed: all of its rows, in SQL behind what makes it.
 abbrev pub IsMadePrinted : Database → ChangeForm → Object → (before after : Option (List ℕ)) → Type 0
 IsMadePrinted d Lines table before after = IsSidePrinted d table true Line before after
-IsMadePrinted d Json table before after = IsSidePrinted d table true AsObject before after
+IsMadePrinted d (Json commit) table before after = IsSidePrinted d table true (AsObject commit) before after
 IsMadePrinted d Sql table before after = (mid : Option (List ℕ)) × Appends before mid (making_text table) × IsTablePrinted d table InSql mid after
 
 abbrev pub IsMadeStopped : Database → ChangeForm → Object → Stop → (before after : Option (List ℕ)) → Type 0
 IsMadeStopped d Lines table stop before after = IsSideStopped d table true Line stop before after
-IsMadeStopped d Json table stop before after = IsSideStopped d table true AsObject stop before after
+IsMadeStopped d (Json commit) table stop before after = IsSideStopped d table true (AsObject commit) stop before after
 IsMadeStopped d Sql table stop before after =
     IsWriteError stop ⊎ ((mid : Option (List ℕ)) × Appends before mid (making_text table) × IsTableStopped d table InSql stop mid after)
 

@@ -20,14 +20,14 @@ use Rattle.sqdiffshown.specs.Stops.{AreBothToldUntil, IsOneToldUntil}
 -- what stands before the first change of a table
 abbrev pub before_text : Writing → (table : List ℕ) → List ℕ
 before_text Line table = title_text table
-before_text AsObject table = []
+before_text (AsObject commit) table = []
 before_text Removal table = []
 before_text Arrival table = []
 
 -- and what each of them begins with
 abbrev pub head_text : Writing → (table : List ℕ) → Columns → (rowid : Option (List ℕ)) → List ℕ
 head_text Line table columns rowid = []
-head_text AsObject table columns rowid = object_head table
+head_text (AsObject commit) table columns rowid = object_head commit table
 head_text Removal table columns rowid = removal_head table columns rowid
 head_text Arrival table columns rowid = insert_text table rowid (names_of columns)
 
@@ -54,7 +54,7 @@ IsSidePrinted d table comes writing before after =
 -- A script can't name the columns of a table, or its rows: no column is known, or each name of the rowid is a column's.
 abbrev pub IsUnnamed : Writing → Columns → (rowid : Option (List ℕ)) → Type 0
 IsUnnamed Line columns rowid = ⊥
-IsUnnamed AsObject columns rowid = ⊥
+IsUnnamed (AsObject commit) columns rowid = ⊥
 IsUnnamed _ columns rowid = (columns.names.items ≡ []) ⊎ ((rowid ≡ None) × (columns.alias ≡ None))
 
 -- Nothing was printed of a table that a script can't name, or for want of memory.

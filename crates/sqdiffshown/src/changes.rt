@@ -5,7 +5,7 @@ ghost use Rattle.sqrowshown.specs.Stops.{SchemaRefused};
 ghost use Rattle.sqdiffshown.specs.Changes.{AreAllPrinted, AreAllStopped, AreAskedPrinted, AreAskedStopped};
 ghost use Rattle.sqdiffshown.specs.Changes.{AreChangesPrinted, AreChangesStopped, AreFramedPrinted, AreFramedStopped};
 ghost use Rattle.sqdiffshown.specs.Changes.{AreTablesPrinted, AreTablesStopped, HasObjectsOf, IsNamedPrinted};
-ghost use Rattle.sqdiffshown.specs.Changes.{IsNamedStopped, text_of};
+ghost use Rattle.sqdiffshown.specs.Changes.{AreNamedPrinted, AreNamedStopped, IsNamedStopped, texts_of};
 
 use crate::form::ChangeForm;
 use crate::frame::{are_written, write_closing, write_opening};
@@ -94,13 +94,22 @@ fn print_all<S: PageSource, T: PageSource, W: Write>(
     }
 }
 
+/// Of which tables the changes are printed.
+#[derive(Clone, Copy, Debug)]
+pub struct Selected<'a> {
+    /// Of those of these names, as SQLite compares them; where there is none: of each table.
+    pub names: &'a [&'a str],
+    /// Whether one of both databases is to have each of them.
+    pub needed: bool,
+}
+
 /// Prints the changes of the table of a name, as SQLite compares names. Refused by `NoSuchTable` where neither database
-/// has one.
+/// has one and it is needed.
 fn print_named<S: PageSource, T: PageSource, W: Write>(
     alloc: Global,
     old: &mut S,
     new: &mut T,
-    of: (Schemas<'_>, &[u8]),
+    of: (Schemas<'_>, &[u8], bool),
     form: ChangeForm,
     out: &mut W,
 ) -> Result<(), Stop>
@@ -111,23 +120,50 @@ fn print_named<S: PageSource, T: PageSource, W: Write>(
     ensures keeps { KeepsPages S.pages S.size S.reads_right S.gives_pages old.old old.new
         × KeepsPages T.pages T.size T.reads_right T.gives_pages new.old new.new }
 {
-    let (schemas, name) = of;
+    let (schemas, name, needed) = of;
     let pair = Pair {
         old: table_named(schemas.old, name),
         new: table_named(schemas.new, name),
     };
-    if pair.old.is_none() && pair.new.is_none() {
+    if needed && pair.old.is_none() && pair.new.is_none() {
         return Err(Stop::NoSuchTable);
     }
     print_pair(alloc, old, new, pair, form, out)
+}
+
+/// Prints the changes of the tables of these names, in their order.
+fn print_each<S: PageSource, T: PageSource, W: Write>(
+    alloc: Global,
+    old: &mut S,
+    new: &mut T,
+    of: (Schemas<'_>, Selected<'_>),
+    form: ChangeForm,
+    out: &mut W,
+) -> Result<(), Stop>
+    ensures ok { S.gives_pages old.old → T.gives_pages new.old → OnOk result (AreNamedPrinted (S.pages old.old)
+        (T.pages new.old) of.entry.0 (texts_of of.entry.1.names.now) form (W.contents out.old) (W.contents out.new)) }
+    ensures err { S.gives_pages old.old → T.gives_pages new.old → IfErr result (λ stop. AreNamedStopped
+        (S.pages old.old) (T.pages new.old) of.entry.0 (texts_of of.entry.1.names.now) form stop
+        (W.contents out.old) (W.contents out.new)) }
+    ensures keeps { KeepsPages S.pages S.size S.reads_right S.gives_pages old.old old.new
+        × KeepsPages T.pages T.size T.reads_right T.gives_pages new.old new.new }
+{
+    let (schemas, selected) = of;
+    for name in selected.names {
+        let of = (schemas, name.as_bytes(), selected.needed);
+        match print_named(alloc, old, new, of, form, out) {
+            Ok(()) => {}
+            Err(stop) => return Err(stop),
+        }
+    }
+    Ok(())
 }
 
 /// What is printed of which databases.
 #[derive(Clone, Copy)]
 pub(crate) struct Asked<'a> {
     pub(crate) schemas: Schemas<'a>,
-    /// The name of the table. None: each table.
-    pub(crate) table: Option<&'a [u8]>,
+    pub(crate) selected: Selected<'a>,
     pub(crate) form: ChangeForm,
 }
 
@@ -140,19 +176,20 @@ fn print_asked<S: PageSource, T: PageSource, W: Write>(
     out: &mut W,
 ) -> Result<(), Stop>
     ensures ok { S.gives_pages old.old → T.gives_pages new.old → OnOk result (AreAskedPrinted (S.pages old.old)
-        (T.pages new.old) asked.entry.schemas (text_of asked.entry.table) asked.entry.form
+        (T.pages new.old) asked.entry.schemas (texts_of asked.entry.selected.names.now) asked.entry.form
         (W.contents out.old) (W.contents out.new)) }
     ensures err { S.gives_pages old.old → T.gives_pages new.old → IfErr result (λ stop. AreAskedStopped
         (S.pages old.old)
-        (T.pages new.old) asked.entry.schemas (text_of asked.entry.table) asked.entry.form stop
+        (T.pages new.old) asked.entry.schemas (texts_of asked.entry.selected.names.now) asked.entry.form stop
         (W.contents out.old) (W.contents out.new)) }
     ensures keeps { KeepsPages S.pages S.size S.reads_right S.gives_pages old.old old.new
         × KeepsPages T.pages T.size T.reads_right T.gives_pages new.old new.new }
 {
-    match asked.table {
-        Some(name) => print_named(alloc, old, new, (asked.schemas, name), asked.form, out),
-        None => print_all(alloc, old, new, asked.schemas, asked.form, out),
+    if asked.selected.names.is_empty() {
+        return print_all(alloc, old, new, asked.schemas, asked.form, out);
     }
+    let of = (asked.schemas, asked.selected);
+    print_each(alloc, old, new, of, asked.form, out)
 }
 
 /// The same between what stands before and behind it.
@@ -164,10 +201,11 @@ fn print_framed<S: PageSource, T: PageSource, W: Write>(
     out: &mut W,
 ) -> Result<(), Stop>
     ensures ok { S.gives_pages old.old → T.gives_pages new.old → OnOk result (AreFramedPrinted (S.pages old.old)
-        (T.pages new.old) asked.entry.schemas (text_of asked.entry.table) asked.entry.form
+        (T.pages new.old) asked.entry.schemas (texts_of asked.entry.selected.names.now) asked.entry.form
         (W.contents out.old) (W.contents out.new)) }
     ensures err { S.gives_pages old.old → T.gives_pages new.old → IfErr result (λ stop. AreFramedStopped
-        (S.pages old.old) (T.pages new.old) asked.entry.schemas (text_of asked.entry.table) asked.entry.form stop
+        (S.pages old.old) (T.pages new.old) asked.entry.schemas (texts_of asked.entry.selected.names.now)
+        asked.entry.form stop
         (W.contents out.old) (W.contents out.new)) }
     ensures keeps { KeepsPages S.pages S.size S.reads_right S.gives_pages old.old old.new
         × KeepsPages T.pages T.size T.reads_right T.gives_pages new.old new.new }
@@ -193,9 +231,9 @@ fn print_framed<S: PageSource, T: PageSource, W: Write>(
     }
 }
 
-/// Prints which rows differ between an old database and a new one, of the table of this name or of each table: by
-/// table, the user's before SQLite's own, those that the old database has before those that it lacks, and each by
-/// rowid. Tables are matched by name; where only one has a table, or their texts differ, all rows went and all came.
+/// Prints which rows differ between an old database and a new one, of the tables that are named, in that order, or of
+/// each: the user's before SQLite's own, those that the old database has before those that it lacks, and each by rowid.
+/// Tables are matched by name; where only one has a table, or their texts differ, all rows went and all came.
 /// In SQL all of it is a script in one transaction. Refused by the faults of both schemas, by `Encoding` where texts
 /// aren't UTF-8, by `NoSuchTable`, by `NotUnderstood` where a table WITHOUT ROWID has rows and in SQL where there is a
 /// virtual table or the text of a table with changes isn't understood, and by faults of trees and rows behind what
@@ -204,16 +242,17 @@ pub fn print_changes<S: PageSource, T: PageSource, W: Write>(
     alloc: Global,
     old: &mut S,
     new: &mut T,
-    table: Option<&[u8]>,
+    selected: Selected<'_>,
     form: ChangeForm,
     out: &mut W,
 ) -> Result<(), Stop>
     // What is printed are the changes of the tables, each once.
     ensures ok { S.gives_pages old.old → T.gives_pages new.old → OnOk result (AreChangesPrinted (S.pages old.old)
-        (T.pages new.old) (text_of table.entry) form (W.contents out.old) (W.contents out.new)) }
+        (T.pages new.old) (texts_of selected.entry.names.now) form (W.contents out.old) (W.contents out.new)) }
     // The first of them are, and this is why the next one isn't.
     ensures err { S.gives_pages old.old → T.gives_pages new.old → IfErr result (λ stop. AreChangesStopped
-        (S.pages old.old) (T.pages new.old) (text_of table.entry) form stop (W.contents out.old) (W.contents out.new)) }
+        (S.pages old.old) (T.pages new.old) (texts_of selected.entry.names.now) form stop
+        (W.contents out.old) (W.contents out.new)) }
     ensures keeps { KeepsPages S.pages S.size S.reads_right S.gives_pages old.old old.new
         × KeepsPages T.pages T.size T.reads_right T.gives_pages new.old new.new }
 {
@@ -231,7 +270,7 @@ pub fn print_changes<S: PageSource, T: PageSource, W: Write>(
     };
     let asked = Asked {
         schemas,
-        table,
+        selected,
         form,
     };
     print_framed(alloc, old, new, asked, out)

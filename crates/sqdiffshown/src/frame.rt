@@ -72,7 +72,7 @@ pub(crate) fn write_opening<W: Write>(
     ensures { OnOk result (Appends (W.contents out.old) (W.contents out.new) (opening_text form objects.now)) }
 {
     match form {
-        ChangeForm::Lines | ChangeForm::Json => Ok(()),
+        ChangeForm::Lines | ChangeForm::Json(_) => Ok(()),
         ChangeForm::Sql => {
             out.write_all(b"PRAGMA foreign_keys=OFF;\nBEGIN TRANSACTION;\n")?;
             write_drops(out, objects)
@@ -89,7 +89,7 @@ pub(crate) fn write_closing<W: Write>(
     ensures { OnOk result (Appends (W.contents out.old) (W.contents out.new) (closing_text form objects.now)) }
 {
     match form {
-        ChangeForm::Lines | ChangeForm::Json => Ok(()),
+        ChangeForm::Lines | ChangeForm::Json(_) => Ok(()),
         ChangeForm::Sql => {
             write_makes(out, objects)?;
             out.write_all(b"COMMIT;\n")
@@ -103,7 +103,7 @@ fn is_written(form: ChangeForm, object: &Object) -> bool
     ensures not { result ≡ false → ¬ IsWritten form object.now }
 {
     match form {
-        ChangeForm::Lines | ChangeForm::Json => true,
+        ChangeForm::Lines | ChangeForm::Json(_) => true,
         ChangeForm::Sql => object.root > 0 || object.kind.as_slice() != b"table".as_slice(),
     }
 }

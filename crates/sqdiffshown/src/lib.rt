@@ -11,5 +11,5 @@ mod stop;
 mod table;
 mod turn;
 
-pub use changes::print_changes;
+pub use changes::{Selected, print_changes};
 pub use form::ChangeForm;

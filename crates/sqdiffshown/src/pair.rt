@@ -68,7 +68,14 @@ fn print_both_ways<S: PageSource, T: PageSource, W: Write>(
 {
     match form {
         ChangeForm::Lines => print_kept(alloc, old, new, tables, Writing::Line, out),
-        ChangeForm::Json => print_kept(alloc, old, new, tables, Writing::Object, out),
+        ChangeForm::Json(commit) => print_kept(
+            alloc,
+            old,
+            new,
+            tables,
+            Writing::Object(commit),
+            out,
+        ),
         ChangeForm::Sql => match print_kept(alloc, old, new, tables, Writing::Removal, out) {
             Ok(()) => print_kept(alloc, old, new, tables, Writing::Arrival, out),
             Err(stop) => Err(stop),
@@ -93,7 +100,14 @@ fn print_gone<S: PageSource, W: Write>(
 {
     match form {
         ChangeForm::Lines => print_side(alloc, source, table, false, Writing::Line, out),
-        ChangeForm::Json => print_side(alloc, source, table, false, Writing::Object, out),
+        ChangeForm::Json(commit) => print_side(
+            alloc,
+            source,
+            table,
+            false,
+            Writing::Object(commit),
+            out,
+        ),
         ChangeForm::Sql => match write_drop(out, table.name.as_slice()) {
             Ok(()) => Ok(()),
             Err(error) => Err(Stop::Write(error)),
@@ -137,7 +151,14 @@ fn print_made<S: PageSource, W: Write>(
 {
     match form {
         ChangeForm::Lines => print_side(alloc, source, table, true, Writing::Line, out),
-        ChangeForm::Json => print_side(alloc, source, table, true, Writing::Object, out),
+        ChangeForm::Json(commit) => print_side(
+            alloc,
+            source,
+            table,
+            true,
+            Writing::Object(commit),
+            out,
+        ),
         ChangeForm::Sql => print_making(alloc, source, table, out),
     }
 }

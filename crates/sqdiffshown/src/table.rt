@@ -22,7 +22,7 @@ fn write_before(out: &mut Vec<u8>, writing: Writing, table: &[u8]) -> io::Result
 {
     match writing {
         Writing::Line => write_title(out, table),
-        Writing::Object | Writing::Removal | Writing::Arrival => Ok(()),
+        Writing::Object(_) | Writing::Removal | Writing::Arrival => Ok(()),
     }
 }
 
@@ -39,7 +39,7 @@ fn write_head(
 {
     match writing {
         Writing::Line => Ok(()),
-        Writing::Object => write_object_head(out, table),
+        Writing::Object(commit) => write_object_head(out, commit, table),
         Writing::Removal => write_removal_head(out, table, columns, rowid),
         Writing::Arrival => write_insert(out, table, rowid, &columns.names),
     }
@@ -74,7 +74,7 @@ fn is_unnamed(writing: Writing, columns: &Columns, rowid: Option<&str>) -> bool
     ensures { IsTrue result → IsUnnamed writing columns.now (rowid_named rowid.entry) }
 {
     match writing {
-        Writing::Line | Writing::Object => false,
+        Writing::Line | Writing::Object(_) => false,
         Writing::Removal | Writing::Arrival => {
             columns.names.is_empty() || (rowid.is_none() && columns.alias.is_none())
         }

@@ -2,11 +2,11 @@
 ghost use Rattle.std.specs.Prelude.{◌≡◌, IfErr, IfOk, OnOk};
 ghost use Rattle.sqshown.specs.Contents.{AreGiven, contents_of};
 ghost use Rattle.sqshown.specs.Fronts.{IsAskedFront};
-ghost use Rattle.sqdiffshown.specs.Changes.{AreChangesPrinted, AreChangesStopped, text_of};
-ghost use Rattle.sqdump.specs.Changes.{AreChangesShown, IsUncompared, change_form_named};
+ghost use Rattle.sqdiffshown.specs.Changes.{AreChangesPrinted, AreChangesStopped, texts_of};
+ghost use Rattle.sqdump.specs.Changes.{AreChangesShown, AreNamed, IsUncompared, change_form_named};
 
 use crate::rows::Printed;
-use sqdiffshown::{ChangeForm, print_changes};
+use sqdiffshown::{ChangeForm, Selected, print_changes};
 use sqfacts::{Front, Refusal};
 use sqpage::PageSource;
 use sqrowshown::Stop;
@@ -22,18 +22,8 @@ fn change_form_of(form: AskedForm) -> ChangeForm
 {
     match form {
         AskedForm::Lines => ChangeForm::Lines,
-        AskedForm::Json => ChangeForm::Json,
+        AskedForm::Json => ChangeForm::Json(None),
         AskedForm::Sql => ChangeForm::Sql,
-    }
-}
-
-/// The name of the table, as bytes.
-fn table_of<'a>(name: Option<&'a str>) -> Option<&'a [u8]>
-    ensures { text_of result ≡ text_of name.entry }
-{
-    match name {
-        Some(name) => Some(name.as_bytes()),
-        None => None,
     }
 }
 
@@ -42,18 +32,56 @@ fn print_between<S: PageSource, T: PageSource, W: Write>(
     alloc: Global,
     old: &mut S,
     new: &mut T,
-    compared: Compared<'_>,
+    names: &[&str],
+    form: AskedForm,
     out: &mut W,
 ) -> Result<(), Stop>
     ensures ok { S.gives_pages old.old → T.gives_pages new.old → OnOk result (AreChangesPrinted (S.pages old.old)
-        (T.pages new.old) (text_of compared.entry.table) (change_form_named compared.entry.form)
+        (T.pages new.old) (texts_of names.entry.now) (change_form_named form)
         (W.contents out.old) (W.contents out.new)) }
     ensures err { S.gives_pages old.old → T.gives_pages new.old → IfErr result (λ stop. AreChangesStopped
-        (S.pages old.old) (T.pages new.old) (text_of compared.entry.table) (change_form_named compared.entry.form) stop
+        (S.pages old.old) (T.pages new.old) (texts_of names.entry.now) (change_form_named form) stop
         (W.contents out.old) (W.contents out.new)) }
 {
-    let (table, form) = (table_of(compared.table), change_form_of(compared.form));
-    print_changes(alloc, old, new, table, form, out)
+    let needed = true;
+    let form = change_form_of(form);
+    print_changes(alloc, old, new, Selected { names, needed }, form, out)
+}
+
+/// Prints the changes of the tables of these names.
+fn show_named<F: FileBytes + Drop, W: Write>(
+    alloc: Global,
+    from: Contents<F>,
+    to: Contents<F>,
+    options: Options,
+    of: (Compared<'_>, &[&str]),
+    out: &mut W,
+) -> Result<Printed, Refusal>
+    ensures front { AreGiven F.gives_bytes from → AreGiven F.gives_bytes to → IfOk result (λ printed.
+        IsAskedFront of.entry.0.to (F.bytes to.wal) (F.bytes to.journal) printed.front) }
+    ensures shown { AreGiven F.gives_bytes from → AreGiven F.gives_bytes to
+        → AreNamed of.entry.0 (texts_of of.entry.1.now) → IfOk result (λ printed. AreChangesShown
+        of.entry.0 (contents_of F.bytes from) (contents_of F.bytes to) (W.contents out.old) (W.contents out.new)
+        printed.ended) }
+    ensures refused { AreGiven F.gives_bytes from → AreGiven F.gives_bytes to → IfErr result (IsUncompared options
+        of.entry.0 (contents_of F.bytes from) (contents_of F.bytes to)) }
+{
+    let (compared, names) = of;
+    let Contents { db, wal, journal } = from;
+    let limits = limits_of(options);
+    let mut old = match view_of(alloc, limits, db, wal, journal, Some(compared.from)) {
+        Ok(view) => view,
+        Err(error) => return Err(Refusal::from(error)),
+    };
+    let Contents { db, wal, journal } = to;
+    match view_of(alloc, limits, db, wal, journal, compared.to) {
+        Ok(mut new) => {
+            let front = Front::of_view(&new);
+            let ended = print_between(alloc, &mut old, &mut new, names, compared.form, out);
+            Ok(Printed { front, ended })
+        }
+        Err(error) => Err(Refusal::from(error)),
+    }
 }
 
 /// Prints the changes of rows of a database between two commits of its log, of which the files are given twice. Refused
@@ -74,19 +102,8 @@ pub fn show_changes<F: FileBytes + Drop, W: Write>(
     ensures refused { AreGiven F.gives_bytes from → AreGiven F.gives_bytes to → IfErr result (IsUncompared options
         compared.entry (contents_of F.bytes from) (contents_of F.bytes to)) }
 {
-    let Contents { db, wal, journal } = from;
-    let limits = limits_of(options);
-    let mut old = match view_of(alloc, limits, db, wal, journal, Some(compared.from)) {
-        Ok(view) => view,
-        Err(error) => return Err(Refusal::from(error)),
-    };
-    let Contents { db, wal, journal } = to;
-    match view_of(alloc, limits, db, wal, journal, compared.to) {
-        Ok(mut new) => {
-            let front = Front::of_view(&new);
-            let ended = print_between(alloc, &mut old, &mut new, compared, out);
-            Ok(Printed { front, ended })
-        }
-        Err(error) => Err(Refusal::from(error)),
+    match compared.tables.names(alloc) {
+        Ok(names) => show_named(alloc, from, to, options, (compared, &names), out),
+        Err(_) => Err(Refusal::NoMemory),
     }
 }

@@ -2,7 +2,9 @@
 #![tactic(auto)]
 
 mod changes;
+mod history;
 mod rows;
 
 pub use changes::show_changes;
+pub use history::show_history;
 pub use rows::{Printed, Wanted, show_rows};

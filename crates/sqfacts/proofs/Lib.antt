@@ -4,3 +4,4 @@ pub mod ExpansionOfRuns
 pub mod LogFronts
 pub mod FaultsInOrder
 pub mod RecoveredViews
+pub mod ZerosBehind

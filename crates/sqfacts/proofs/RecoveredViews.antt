@@ -1,16 +1,16 @@
 -- What is shown before a recovery is shown after it.
-use Rattle.std.proofs.Common.{◌≡◌, ◌≢◌, ◌⊎◌, inl, inr, ⊎_elim, ℕ, zero, suc, ◌+◌, ◌-◌, ◌*◌, ◌<◌, ◌≤◌, true, false, List, [], ◌∷◌, ◌++◌, length, get_or, refl, sym, ◌∙◌, ap, subst, arith, eq-eqb, ne_eqb, length-append}
+use Rattle.std.proofs.Common.{◌≡◌, ◌≢◌, inl, inr, ⊎_elim, ℕ, zero, suc, ◌+◌, ◌-◌, ◌*◌, ◌<◌, ◌≤◌, true, false, List, [], ◌∷◌, ◌++◌, length, get_or, refl, sym, ◌∙◌, ap, subst, arith, eq-eqb, ne_eqb, length-append}
 use Rattle.std.specs.Prelude.{Ok, ◌==◌}
 use Rattle.std.specs.List.{flat_map}
 use Rattle.std.proofs.lemmas.Bool.{cases_eq}
 use Rattle.std.proofs.lemmas.List.{ext_get_or, get_or_append_left, get_or-append_right, nil_from_length}
 use Rattle.sqval.specs.Bytes.{word}
-use Rattle.sqval.specs.Database.{Database, page, file_page, file_pages}
+use Rattle.sqval.specs.Database.{Database, page, file_pages}
 use Rattle.sqval.specs.Held.{IsJust}
 use Rattle.sqval.specs.Limits.{Bounds, usual}
 use Rattle.sqval.specs.PageSize.{IsPageSize}
 use Rattle.sqval.proofs.page.FilePages.{size_some, length-file_page, get_or-file_page, page_by_bytes, file_count}
-use Rattle.sqwal.specs.Frames.{IsValidFrame, IsFront}
+use Rattle.sqwal.specs.Frames.{IsFront}
 use Rattle.sqwal.specs.Header.{IsHeader, named_size}
 use Rattle.sqwal.specs.View.{IsView}
 use Rattle.sqwal.proofs.log.UniquenessOfView.{front_unique, view_unique}
@@ -27,7 +27,6 @@ use Rattle.rollcore.specs.Replaying.{ReplayAnswer}
 use Rattle.rollcore.specs.declared.replaying.Replayed.{Replayed}
 use Rattle.rollcore.proofs.replays.LastRecordOfPage.{made_length}
 use Rattle.sqview.specs.LogView.{head_of, own_pages, IsOwn, IsLogged, IsAlone, Views}
-use Rattle.sqview.specs.Logs.{AreTwoLogs}
 use Rattle.sqview.proofs.openings.ShownOrRefusedView.{alone_bare}
 use Rattle.sqfacts.specs.Recovered.{NamesItself}
 

@@ -1,5 +1,5 @@
 -- Texts of lines of /proc/locks.
-use Rattle.std.proofs.Common.{◌≡◌, ◌<◌, ◌≤◌, ◌↔◌, ◌++◌, List, [], ℕ, length, arith, refl, subst, sym, get_or}
+use Rattle.std.proofs.Common.{◌≡◌, ◌<◌, ◌↔◌, ◌++◌, List, [], ℕ, length, arith, refl, subst, sym, get_or}
 use Rattle.std.specs.Prelude.{Any, Bool, MatchBool, Option, Some, None, IsTrue, true, false}
 use Rattle.std.specs.Fmt.{WritesText}
 use Rattle.std.specs.List.{AllWithin, HoldsAt}

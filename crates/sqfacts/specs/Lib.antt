@@ -1,9 +1,11 @@
 pub mod Faults
 pub mod Fronts
 pub mod Locks
+pub mod Quoted
 pub mod Readings
 pub mod Recovered
 pub mod Refusals
 pub mod Runs
 pub mod Statuses
+pub mod SystemFiles
 pub mod internal

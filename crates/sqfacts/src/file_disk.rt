@@ -4,10 +4,9 @@ ghost use Rattle.crashdisk.specs.declared.file.File.TheVariants.{Db, Log};
 
 use crate::notes::Notes;
 use crate::outcome::Refusal;
+use crate::system_file::{SystemFile, metadata_of, read_or_zeros};
 use crashdisk::{Disk, DiskError, File};
-use std::fs::{Metadata, OpenFile};
 use std::io::{self, Write};
-use std::os::unix::fs::FileExt;
 
 /// What is asked before files are changed, and told of what is read of them.
 pub trait Guard: Drop {
@@ -22,7 +21,7 @@ pub trait Guard: Drop {
 /// first change of each file the guard is asked, and where it refuses, the change is `Failed`. That the files keep the
 /// word of a disk no contract can say: it is the user's premise.
 #[derive(Drop)]
-pub struct FileDisk<F: FileExt + OpenFile + Drop, G: Guard> {
+pub struct FileDisk<F: SystemFile + Drop, G: Guard> {
     db: F,
     log: F,
     guard: G,
@@ -32,7 +31,7 @@ pub struct FileDisk<F: FileExt + OpenFile + Drop, G: Guard> {
     failure: Option<(File, io::Error)>,
 }
 
-impl<F: FileExt + OpenFile + Drop, G: Guard> FileDisk<F, G> {
+impl<F: SystemFile + Drop, G: Guard> FileDisk<F, G> {
     /// A disk over an opened database file and its opened log, of which nothing was refused or changed yet.
     pub fn new(db: F, log: F, guard: G) -> FileDisk<F, G>
         ensures db { result.db ≡ db }
@@ -121,38 +120,7 @@ impl<F: FileExt + OpenFile + Drop, G: Guard> FileDisk<F, G> {
     }
 }
 
-/// What the system says of an opened file. A call that a signal ends is made again.
-pub fn metadata_of<F: OpenFile>(file: &F) -> io::Result<Metadata> {
-    for _ in 0..u64::MAX {
-        match file.metadata() {
-            Err(error) if error.kind() == io::ErrorKind::Interrupted => {}
-            answer => return answer,
-        }
-    }
-    Err(io::Error::from(io::ErrorKind::Interrupted))
-}
-
-/// Fills the buffer from a place on, with zeros past the end of the file. A read that a signal ends is made again.
-pub fn read_or_zeros<F: FileExt>(file: &F, at: u64, out: &mut [u8]) -> io::Result<()> {
-    let mut from = 0;
-    for _ in 0..u64::MAX {
-        if from >= out.len() {
-            break;
-        }
-        match file.read_at(&mut out[from..], at.wrapping_add(from as u64)) {
-            Ok(0) => {
-                out[from..].fill(0);
-                break;
-            }
-            Ok(got) => from += got,
-            Err(error) if error.kind() == io::ErrorKind::Interrupted => {}
-            Err(error) => return Err(error),
-        }
-    }
-    Ok(())
-}
-
-impl<F: FileExt + OpenFile + Drop, G: Guard> Disk for FileDisk<F, G> {
+impl<F: SystemFile + Drop, G: Guard> Disk for FileDisk<F, G> {
     ghost use Rattle.sqfacts.specs.internal.FileDisk.{nothing};
 
     ghost state = { λ _. nothing };

@@ -13,9 +13,10 @@ mod readings;
 mod recovered;
 mod runs;
 mod status;
+mod system_file;
 
 pub use faults::{first_fault, is_unsound};
-pub use file_disk::{FileDisk, Guard, metadata_of, read_or_zeros};
+pub use file_disk::{FileDisk, Guard};
 pub use fronts::{Front, standing};
 pub use locks::{Identity, identity_of, is_locked};
 pub use notes::{NoteWriter, Notes};
@@ -25,3 +26,4 @@ pub use readings::{Reading, Readings, unchanged};
 pub use recovered::recovery_keeps_view;
 pub use runs::{Run, Use, number_of, runs_of, uses_of};
 pub use status::Status;
+pub use system_file::{SystemFile, metadata_of, read_or_zeros, read_up_to};

@@ -1,4 +1,11 @@
 //! Names of files in notes.
+ghost use Rattle.std.specs.Prelude.{◌≡◌};
+ghost use Rattle.std.specs.List.{flat_map, list_any};
+ghost use Rattle.std.specs.Char.{is_control};
+ghost use Rattle.std.specs.Fmt.{WritesOnOk};
+ghost use Rattle.std.specs.Str.{chars};
+ghost use Rattle.sqfacts.specs.Quoted.{letter_text};
+
 use std::fmt;
 
 /// A name as `ls` prints it on a terminal: where it has control characters, so that a shell takes what is printed for
@@ -7,40 +14,76 @@ use std::fmt;
 pub struct Quoted<'a>(pub &'a str);
 
 /// A control character as a shell takes it, between the quotes of what stands before and behind it.
-fn write_control<W: fmt::Write>(f: &mut fmt::Formatter<W>, control: char) -> fmt::Result {
-    match control {
-        '\n' => f.write_str("'$'\\n''"),
-        '\r' => f.write_str("'$'\\r''"),
-        '\t' => f.write_str("'$'\\t''"),
-        '\u{80}'..='\u{9f}' => write!(f, "'$'\\302\\{:03o}''", control as u32),
-        _ => write!(f, "'$'\\{:03o}''", control as u32),
+#[derive(Clone, Copy)]
+struct Control(char);
+
+impl fmt::Display for Control {
+    ghost use Rattle.std.specs.Prelude.{Some};
+    ghost use Rattle.sqfacts.specs.Quoted.{control_text};
+
+    ghost output = { λ x. Some (control_text x.0) };
+
+    fn fmt<W: fmt::Write>(&self, f: &mut fmt::Formatter<W>) -> fmt::Result {
+        let code = self.0 as u32;
+        match self.0 {
+            '\n' => f.write_str("'$'\\n''"),
+            '\r' => f.write_str("'$'\\r''"),
+            '\t' => f.write_str("'$'\\t''"),
+            '\u{80}'..='\u{9f}' => write!(f, "'$'\\302\\{code:03o}''"),
+            _ => write!(f, "'$'\\{code:03o}''"),
+        }
     }
 }
 
 /// A character of a name between quotes.
-fn write_quoted<W: fmt::Write>(f: &mut fmt::Formatter<W>, letter: char) -> fmt::Result {
-    if letter.is_control() {
-        write_control(f, letter)
-    } else if letter == '\'' {
-        f.write_str("'\\''")
-    } else {
-        f.write_char(letter)
+#[derive(Clone, Copy)]
+struct Letter(char);
+
+impl fmt::Display for Letter {
+    ghost use Rattle.std.specs.Prelude.{Some};
+    ghost use Rattle.sqfacts.specs.Quoted.{letter_text};
+
+    ghost output = { λ x. Some (letter_text x.0) };
+
+    fn fmt<W: fmt::Write>(&self, f: &mut fmt::Formatter<W>) -> fmt::Result {
+        if self.0.is_control() {
+            write!(f, "{}", Control(self.0))
+        } else if self.0 == '\'' {
+            f.write_str("'\\''")
+        } else {
+            f.write_char(self.0)
+        }
     }
 }
 
-/// The name between quotes.
-fn write_name<W: fmt::Write>(f: &mut fmt::Formatter<W>, name: &str) -> fmt::Result {
-    f.write_str("'")?;
+/// Whether a name has a control character.
+fn has_control(name: &str) -> bool
+    ensures { result ≡ list_any is_control (chars name.now) }
+{
+    name.chars().any(|letter| letter.is_control())
+}
+
+/// The characters of a name between quotes.
+fn write_letters<W: fmt::Write>(f: &mut fmt::Formatter<W>, name: &str) -> fmt::Result
+    ensures { WritesOnOk W.write_str_gives f.old result (flat_map letter_text (chars name.now)) f.new }
+{
     for letter in name.chars() {
-        write_quoted(f, letter)?;
+        write!(f, "{}", Letter(letter))?;
     }
-    f.write_str("'")
+    Ok(())
 }
 
 impl fmt::Display for Quoted<'_> {
+    ghost use Rattle.std.specs.Prelude.{Some};
+    ghost use Rattle.sqfacts.specs.Quoted.{name_text};
+
+    ghost output = { λ x. Some (name_text x.0.now) };
+
     fn fmt<W: fmt::Write>(&self, f: &mut fmt::Formatter<W>) -> fmt::Result {
-        if self.0.chars().any(char::is_control) {
-            write_name(f, self.0)
+        if has_control(self.0) {
+            f.write_str("'")?;
+            write_letters(f, self.0)?;
+            f.write_str("'")
         } else {
             f.write_str(self.0)
         }

@@ -15,7 +15,8 @@ pub fn wanted<'a>(request: &Request<'a>) -> Option<(Want, &'a str)>
         | Request::Check { file, .. }
         | Request::Rows { file, .. }
         | Request::Diff { file, .. }
-        | Request::Report { file, .. } => Some((Want::Read, *file)),
+        | Request::Report { file, .. }
+        | Request::Salvage { file, .. } => Some((Want::Read, *file)),
         Request::Recover {
             file,
             to: Some(_),

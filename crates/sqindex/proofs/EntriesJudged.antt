@@ -1,77 +1,76 @@
 -- Entries that are judged by themselves, and then by rowid.
-use Rattle.std.proofs.Common.{◌≡◌, ◌<◌, ◌≤◌, ◌+◌, ⊎_elim, ℕ, zero, suc, Bool, true, false, cond, List, [], ◌∷◌, ◌++◌, map, length, get_or, slice_get, Some, ℤ, ◌<ℤ◌, ◌≤ℤ◌, pos, ap₂, refl, sym, ap, ◌∙◌, subst, arith, All, count_by, IsPermutation}
+use Rattle.std.proofs.Common.{◌≡◌, ◌≢◌, ◌<◌, ◌≤◌, ◌+◌, ⊎_elim, ℕ, zero, suc, Bool, true, false, cond, List, [], ◌∷◌, map, length, get_or, slice_get, Some, ℤ, ◌<ℤ◌, ◌≤ℤ◌, ap₂, refl, sym, ap, ◌∙◌, subst, arith, All, count_by, IsPermutation}
 use Rattle.std.specs.declared.cmp.Ordering.{Ordering}
 use Rattle.std.specs.declared.cmp.Ordering.TheVariants.{Less, Equal, Greater}
 use Rattle.std.specs.Ordering.{is_lt, int_cmp}
 use Rattle.std.proofs.lemmas.Cmp.{int_ranked}
 use Rattle.std.proofs.lemmas.Int.{ints}
-use Rattle.std.proofs.lemmas.List.{length-map}
+use Rattle.std.proofs.lemmas.Bool.{cases_lt}
 use Rattle.std.proofs.lemmas.List.Sums.{sum_by-cons}
-use Rattle.std.proofs.lemmas.List.Sorted.{IsPermutation-map, IsPermutation-sym, All-permutation, sum_by-IsPermutation}
-use Rattle.std.proofs.lemmas.Option.{slice_get_within, slice_get-get_or, get_or_from_slice_get}
+use Rattle.std.proofs.lemmas.List.Sorted.{Contains-permutation, IsPermutation-map, IsPermutation-sym, All-permutation, sum_by-IsPermutation}
+use Rattle.std.proofs.lemmas.Option.{slice_get_within, get_or_from_slice_get}
 use Rattle.sqkeys.specs.declared.key.IndexKey.{IndexKey}
-use Rattle.sqindex.specs.declared.order.Numbered.{Numbered}
+use Rattle.sqindex.specs.declared.entries.Held.{Held}
+use Rattle.sqindex.specs.declared.entries.Entries.{Entries}
 use Rattle.sqindex.specs.declared.fault.IndexFault.TheVariants as faults
 use Rattle.sqindex.specs.Stored.{Stored}
 use Rattle.sqindex.specs.Keys.{values_of, has_rowid, IsKeyed}
 use Rattle.sqindex.specs.Rules.{width}
 use Rattle.sqindex.specs.Indexes.{EntryRefused}
-use Rattle.sqindex.specs.internal.Held.{nothing}
-use Rattle.sqindex.specs.internal.Judging.{at_place, numbered_in, IsBehind, IsSoundAt, AreJudged, AreSoundEntries, IsTie, IsNumbered}
-use Rattle.sqindex.proofs.Places.{some_once, get_push, of_all, all_of, map_get, get_map, same_list}
+use Rattle.sqindex.specs.internal.Held.{nothing, held_in, entry_in, held_by}
+use Rattle.sqindex.specs.internal.Judging.{at_place, IsBehind, IsSoundAt, AreJudged, AreSoundEntries, IsTie, IsNumbered}
+use Rattle.sqindex.proofs.Places.{some_once, of_all, all_of, map_get, get_map, contained, place_of}
 use Rattle.sqindex.proofs.RowidsOfEntries.{has_own}
 
-pub none_judged : (key : IndexKey) (xs : List Stored) → AreJudged key xs []
-none_judged key xs i p at = absurd (cc)
+pub none_judged : (key : IndexKey) (xs : List Stored) (ps : List Held) → AreJudged key xs ps 0
+none_judged key xs ps i p less at = absurd (omega (arith, less))
 
-pub one_judged : (key : IndexKey) (xs : List Stored) (ps : List Numbered) (p : Numbered) → AreJudged key xs ps → p.number ≡ length ps → IsSoundAt key xs p.number p.rowid → AreJudged key xs (ps ++ p ∷ [])
-one_judged key xs ps p judged is sound i q at = ⊎_elim
-    (λ old. judged i q old)
-    (λ new. (
-      ap (λ (z : Numbered). z.number) new.1 ∙ is ∙ sym new.0,
-      subst (λ (z : Numbered). IsSoundAt key xs i z.rowid) (sym new.1) (subst (λ k. IsSoundAt key xs k p.rowid) (is ∙ sym new.0) sound),
-    ))
-    (get_push ps p i q at)
+-- one more of them is
+pub one_judged : (key : IndexKey) (xs : List Stored) (old new : List Held) (many : ℕ) (rowid : ℤ) → AreJudged key xs old many → ((p : Held) × (slice_get new many ≡ Some p) × (p.rowid ≡ rowid))
+    → ((j : ℕ) → j ≢ many → slice_get new j ≡ slice_get old j) → IsSoundAt key xs many rowid → AreJudged key xs new (many + 1)
+one_judged key xs old new many rowid judged here others sound i q less at = ⊎_elim
+    (λ (before : i < many). judged i q before (sym (others i (λ e. omega (arith, e, before))) ∙ at))
+    (λ (not : many ≤ i).
+    let same : i ≡ many = omega (arith, less, not) in
+    let one : here.0 ≡ q = some_once here.0 q (sym here.1 ∙ subst (λ k. slice_get new k ≡ Some q) same at) in
+    subst (λ k. IsSoundAt key xs k q.rowid) (sym same) (subst (IsSoundAt key xs many) (sym here.2 ∙ ap (λ (p : Held). p.rowid) one) sound))
+    (cases_lt i many)
 
-module _ (key : IndexKey) (xs : List Stored) (ps : List Numbered) (judged : AreJudged key xs ps) (all : length ps ≡ length xs) where
+module _ (key : IndexKey) (xs : List Stored) (old : Entries) (same : held_by old ≡ xs) (judged : AreJudged key xs old.list.items (length xs)) where
   -- what is said of the entry at a place
-  said : (i : ℕ) (x : Stored) → slice_get xs i ≡ Some x → (p : Numbered) × (slice_get ps i ≡ Some p) × (p.number ≡ i) × IsSoundAt key xs i p.rowid × (at_place xs i ≡ x)
+  said : (i : ℕ) (x : Stored) → slice_get xs i ≡ Some x → (rowid : ℤ) × IsSoundAt key xs i rowid × (at_place xs i ≡ x)
   said i x at =
-      let within = slice_get_within xs i x at in
-      let p : Numbered = get_or ps i (record { rowid = pos 0; number = 0 }) in
-      let here : slice_get ps i ≡ Some p = slice_get-get_or ps i (record { rowid = pos 0; number = 0 }) (omega (arith, within, all)) in
-      let j = judged i p here in
-      (p, here, j.0, j.1, get_or_from_slice_get xs i x nothing at)
+      let g = get_map (held_in old.bytes.items) old.list.items i x (subst (λ (z : List Stored). slice_get z i ≡ Some x) (sym same) at) in
+      (g.0.rowid, judged i g.0 (slice_get_within xs i x at) g.1, get_or_from_slice_get xs i x nothing at)
 
   behind : (i : ℕ) (a b : Stored) → slice_get xs i ≡ Some a → slice_get xs (i + 1) ≡ Some b → IsBehind key (values_of a) (values_of b)
   behind i a b at next =
       let m = said i a at in
       let n = said (i + 1) b next in
-      subst (λ z. IsBehind key (values_of z) (values_of b)) m.4 (subst (λ z. IsBehind key (values_of (at_place xs i)) (values_of z)) n.4 (n.3.behind i refl))
+      subst (λ z. IsBehind key (values_of z) (values_of b)) m.2 (subst (λ z. IsBehind key (values_of (at_place xs i)) (values_of z)) n.2 (n.1.behind i refl))
 
   pub sound_entries : AreSoundEntries key xs
   sound_entries = record {
     formed = all_of (λ x. (rowid : ℤ) × IsKeyed (width key) rowid (values_of x)) xs
-        (λ i x at. let m = said i x at in (m.0.rowid, subst (λ z. IsKeyed (width key) m.0.rowid (values_of z)) m.4 m.3.keyed));
+        (λ i x at. let m = said i x at in (m.0, subst (λ z. IsKeyed (width key) m.0 (values_of z)) m.2 m.1.keyed));
     ascend = λ i a b at next. (behind i a b at next).behind;
     apart = λ unique i a b at next. (behind i a b at next).apart unique;
   }
 
-  each_numbered : All (IsNumbered key xs) ps
-  each_numbered = all_of (IsNumbered key xs) ps (λ i p at.
-      let j = judged i p at in
-      let within = slice_get_within ps i p at in
-      record { within = omega (arith, within, all, j.0); keyed = subst (λ k. IsKeyed (width key) p.rowid (values_of (at_place xs k))) (sym j.0) j.1.keyed })
+  each_numbered : All (IsNumbered key old) old.list.items
+  each_numbered = all_of (IsNumbered key old) old.list.items (λ i p at.
+      let there : slice_get xs i ≡ Some (entry_in old p) = subst (λ (z : List Stored). slice_get z i ≡ Some (entry_in old p)) same (map_get (held_in old.bytes.items) old.list.items i p at) in
+      let m = judged i p (slice_get_within xs i (entry_in old p) there) at in
+      subst (λ (z : Stored). IsKeyed (width key) p.rowid (values_of z)) (get_or_from_slice_get xs i (entry_in old p) nothing there) m.keyed)
 
-  listed : map (numbered_in xs) ps ≡ xs
-  listed = same_list (map (numbered_in xs) ps) xs (length-map ps (numbered_in xs) ∙ all)
-      (λ i x y at here. let g = get_map (numbered_in xs) ps i x at in g.2 ∙ ap (at_place xs) (judged i g.0 g.1).0 ∙ get_or_from_slice_get xs i y nothing here)
-
-  pub sorted_entries : (sorted : List Numbered) → IsPermutation ps sorted → All (IsNumbered key xs) sorted × IsPermutation (map (numbered_in xs) sorted) xs
-  sorted_entries sorted moved = (
-    All-permutation (IsNumbered key xs) ps sorted moved each_numbered,
-    subst (IsPermutation (map (numbered_in xs) sorted)) listed (IsPermutation-sym (map (numbered_in xs) ps) (map (numbered_in xs) sorted) (IsPermutation-map (numbered_in xs) ps sorted moved)),
-  )
+  pub sorted_entries : (new : Entries) → new.bytes ≡ old.bytes → IsPermutation old.list.items new.list.items → All (IsNumbered key new) new.list.items × IsPermutation (held_by new) xs
+  sorted_entries new bytes moved =
+      let b : new.bytes.items ≡ old.bytes.items = ap (λ z. z.items) bytes in
+      let f = held_in old.bytes.items in (
+        subst (λ (z : List ℕ). All (λ (p : Held). IsKeyed (width key) p.rowid (values_of (held_in z p))) new.list.items) (sym b) (All-permutation (IsNumbered key old) old.list.items new.list.items moved each_numbered),
+        subst (λ (z : List ℕ). IsPermutation (map (held_in z) new.list.items) xs) (sym b)
+            (subst (IsPermutation (map f new.list.items)) same (IsPermutation-sym (map f old.list.items) (map f new.list.items) (IsPermutation-map f old.list.items new.list.items moved))),
+      )
 
 -- two elements next to each other pass a test
 two_pass : {X : Type 0} (test : X → Bool) (xs : List X) (i : ℕ) (a b : X) → slice_get xs i ≡ Some a → slice_get xs (i + 1) ≡ Some b → test a ≡ true → test b ≡ true → 2 ≤ count_by test xs
@@ -93,20 +92,24 @@ two_pass test (x ∷ xs) (suc i) a b p q f g =
     omega (arith, all, rest)
 
 -- an entry whose rowid is that of another
-pub tied : (key : IndexKey) (xs : List Stored) (ps : List Numbered) (i : ℕ) (p q : Numbered) → All (IsNumbered key xs) ps → IsPermutation (map (numbered_in xs) ps) xs
-    → slice_get ps i ≡ Some p → slice_get ps (i + 1) ≡ Some q → p.rowid ≡ q.rowid
-    → (slice_get xs q.number ≡ Some (numbered_in xs q)) × EntryRefused key xs q.number (numbered_in xs q) faults.RowTwice
-tied key xs ps i p q each same at next tie =
-    let first = of_all (IsNumbered key xs) ps i p each at in
-    let second = of_all (IsNumbered key xs) ps (i + 1) q each next in
+pub tied : (key : IndexKey) (xs : List Stored) (entries : Entries) (i : ℕ) (p q : Held) → All (IsNumbered key entries) entries.list.items → IsPermutation (held_by entries) xs
+    → slice_get entries.list.items i ≡ Some p → slice_get entries.list.items (i + 1) ≡ Some q → p.rowid ≡ q.rowid
+    → (k : ℕ) × (slice_get xs k ≡ Some (entry_in entries q)) × EntryRefused key xs k (entry_in entries q) faults.RowTwice
+tied key xs entries i p q each same at next tie =
+    let ps = entries.list.items in
+    let f = held_in entries.bytes.items in
+    let first = of_all (IsNumbered key entries) ps i p each at in
+    let second = of_all (IsNumbered key entries) ps (i + 1) q each next in
     let test : Stored → Bool = λ e. has_rowid (width key) q.rowid (values_of e) in
-    let ys = map (numbered_in xs) ps in
-    let two : 2 ≤ count_by test ys = two_pass test ys i (numbered_in xs p) (numbered_in xs q) (map_get (numbered_in xs) ps i p at) (map_get (numbered_in xs) ps (i + 1) q next)
-    (has_own (width key) p.rowid q.rowid (values_of (numbered_in xs p)) first.keyed tie) (has_own (width key) q.rowid q.rowid (values_of (numbered_in xs q)) second.keyed refl) in
-    (slice_get-get_or xs q.number nothing second.within, (q.rowid, second.keyed, subst (λ n. 2 ≤ n) (sym (sum_by-IsPermutation (λ e. cond (test e) 1 0) ys xs same)) two))
+    let ys = map f ps in
+    let here = map_get f ps (i + 1) q next in
+    let two : 2 ≤ count_by test ys = two_pass test ys i (entry_in entries p) (entry_in entries q) (map_get f ps i p at) here
+    (has_own (width key) p.rowid q.rowid (values_of (entry_in entries p)) first tie) (has_own (width key) q.rowid q.rowid (values_of (entry_in entries q)) second refl) in
+    let there = place_of xs (entry_in entries q) (Contains-permutation ys xs (entry_in entries q) same (contained ys (i + 1) (entry_in entries q) here)) in
+    (there.0, there.1, (q.rowid, second, subst (λ n. 2 ≤ n) (sym (sum_by-IsPermutation (λ e. cond (test e) 1 0) ys xs same)) two))
 
 -- where rowids don't fall, one that isn't below the next is the same
-pub tie_of : (ps : List Numbered) (i : ℕ) (a b : ℤ) → i + 1 < length ps → ((p : Numbered) → slice_get ps i ≡ Some p → a ≡ p.rowid) → ((p : Numbered) → slice_get ps (i + 1) ≡ Some p → b ≡ p.rowid)
+pub tie_of : (ps : List Held) (i : ℕ) (a b : ℤ) → i + 1 < length ps → ((p : Held) → slice_get ps i ≡ Some p → a ≡ p.rowid) → ((p : Held) → slice_get ps (i + 1) ≡ Some p → b ≡ p.rowid)
     → b ≤ℤ a → IsTie ps i
 tie_of ps i a b within first second below = (
   within,
@@ -114,7 +117,7 @@ tie_of ps i a b within first second below = (
       let one : a ≡ p.rowid = first p at in
       let two : b ≡ q.rowid = second q next in
       let up : is_lt (int_cmp (get_or ps (i + 1) p).rowid (get_or ps i p).rowid) ≡ false = sorted i p (omega arith) within in
-      let up' : is_lt (int_cmp q.rowid p.rowid) ≡ false = ap₂ (λ (x y : Numbered). is_lt (int_cmp x.rowid y.rowid)) (sym (get_or_from_slice_get ps (i + 1) q p next)) (sym (get_or_from_slice_get ps i p p at)) ∙ up in
+      let up' : is_lt (int_cmp q.rowid p.rowid) ≡ false = ap₂ (λ (x y : Held). is_lt (int_cmp x.rowid y.rowid)) (sym (get_or_from_slice_get ps (i + 1) q p next)) (sym (get_or_from_slice_get ps i p p at)) ∙ up in
       let high = not_less q.rowid p.rowid up' in
       omega (arith, ints, one, two, below, high),
 )

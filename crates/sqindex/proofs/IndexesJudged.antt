@@ -1,8 +1,9 @@
 -- What is found of an index as a whole.
-use Rattle.std.proofs.Common.{◌≡◌, ℕ, List, length, slice_get, Some, refl, sym, subst}
+use Rattle.std.proofs.Common.{◌≡◌, ℕ, List, length, slice_get, Some, sym, subst, IsPermutation}
+use Rattle.std.proofs.lemmas.List.Sorted.{Contains-permutation, IsPermutation-sym, IsPermutation-trans, length_permutation}
 use Rattle.sqval.specs.Database.{Database}
 use Rattle.sqkeys.specs.declared.key.IndexKey.{IndexKey}
-use Rattle.sqindex.specs.declared.order.Numbered.{Numbered}
+use Rattle.sqindex.specs.declared.entries.Entries.{Entries}
 use Rattle.sqindex.specs.declared.fault.IndexFault.{IndexFault}
 use Rattle.sqindex.specs.declared.fault.IndexFault.TheVariants as faults
 use Rattle.sqindex.specs.declared.error.IndexError.{IndexError}
@@ -10,8 +11,10 @@ use Rattle.sqindex.specs.declared.error.IndexError.TheVariants as errors
 use Rattle.sqindex.specs.Stored.{Stored}
 use Rattle.sqindex.specs.Rules.{HasKeyedRows, HasEntries, IsIndexOf}
 use Rattle.sqindex.specs.Indexes.{EntryRefused, StandsInIndex, ReadRefused, NoEntries, IndexRefused}
+use Rattle.sqindex.specs.internal.Held.{held_by}
 use Rattle.sqindex.specs.internal.Judging.{EntriesRefused, IsOrdered, JudgeRefused}
 use Rattle.sqindex.specs.internal.Joining.{BothRefused, IsMatched, MatchRefused}
+use Rattle.sqindex.proofs.Places.{contained, place_of}
 
 module _ (d : Database) (table index : ℕ) (key : IndexKey) (limit : ℕ) where
   pub entries_refused : (e : IndexError) → EntriesRefused d index limit e → IndexRefused d table index key limit e
@@ -35,6 +38,25 @@ module _ (d : Database) (table index : ℕ) (key : IndexKey) (limit : ℕ) where
   judge_refused xs (errors.Entry e) has h = stands xs h.0 h.1 e.fault e.page e.cell has h.2 h.3 h.4 h.5
   judge_refused xs errors.TooLarge has h = absurd h
 
+  -- what is said of the entries in another order
+  both_moved : (ys xs rows : List Stored) (fault : IndexFault) (page cell : ℕ) → IsPermutation ys xs → BothRefused key ys rows fault page cell → BothRefused key xs rows fault page cell
+  both_moved ys xs rows faults.EntryOfNoRow page cell same h =
+      let there = place_of xs h.1 (Contains-permutation ys xs h.1 same (contained ys h.0 h.1 h.2)) in
+      (there.0, h.1, there.1, h.3, h.4)
+  both_moved ys xs rows faults.RowWithoutEntry page cell same h = (
+    h.0,
+    h.1,
+    h.2,
+    h.3,
+    λ j entry here is.
+        let there = place_of ys entry (Contains-permutation xs ys entry (IsPermutation-sym ys xs same) (contained xs j entry here)) in
+        h.4 there.0 entry there.1 is,
+  )
+  both_moved ys xs rows faults.EntryForm page cell same h = absurd h
+  both_moved ys xs rows faults.EntryOrder page cell same h = absurd h
+  both_moved ys xs rows faults.KeyTwice page cell same h = absurd h
+  both_moved ys xs rows faults.RowTwice page cell same h = absurd h
+
   both : (xs rows : List Stored) (fault : IndexFault) (page cell : ℕ) → HasEntries d index xs → HasKeyedRows d table rows → BothRefused key xs rows fault page cell → StandsInIndex d table index key fault page cell
   both xs rows faults.EntryOfNoRow page cell has keyed h = (rows, xs, h.0, h.1, keyed, has, h.2, h.3.0, h.3.1, h.4)
   both xs rows faults.RowWithoutEntry page cell has keyed h = (rows, xs, h.0, h.1, keyed, has, h.2, h.3.0, h.3.1, h.4)
@@ -43,14 +65,14 @@ module _ (d : Database) (table index : ℕ) (key : IndexKey) (limit : ℕ) where
   both xs rows faults.KeyTwice page cell has keyed h = absurd h
   both xs rows faults.RowTwice page cell has keyed h = absurd h
 
-  pub match_refused : (xs : List Stored) (e : IndexError) → HasEntries d index xs → MatchRefused d table key xs e → IndexRefused d table index key limit e
-  match_refused xs (errors.Table e) has h = h
-  match_refused xs (errors.Index e) has h = absurd h
-  match_refused xs (errors.Entry e) has h = both xs h.0 e.fault e.page e.cell has h.1 h.2
-  match_refused xs errors.TooLarge has h = absurd h
+  pub match_refused : (ys xs : List Stored) (e : IndexError) → HasEntries d index xs → IsPermutation ys xs → MatchRefused d table key ys e → IndexRefused d table index key limit e
+  match_refused ys xs (errors.Table e) has same h = h
+  match_refused ys xs (errors.Index e) has same h = absurd h
+  match_refused ys xs (errors.Entry e) has same h = both xs h.0 e.fault e.page e.cell has h.1 (both_moved ys xs h.0 e.fault e.page e.cell same h.2)
+  match_refused ys xs errors.TooLarge has same h = absurd h
 
-  pub index_of : (xs : List Stored) (ps : List Numbered) → HasEntries d index xs → IsOrdered key xs ps → IsMatched d table key xs → IsIndexOf d table index key (length xs)
-  index_of xs ps has w m = record {
+  pub index_of : (xs : List Stored) (entries : Entries) → HasEntries d index xs → IsOrdered key xs entries → IsMatched d table key (held_by entries) → IsIndexOf d table index key (length (held_by entries))
+  index_of xs entries has w m = record {
     rows = m.0;
     entries = xs;
     of_table = m.1;
@@ -58,6 +80,6 @@ module _ (d : Database) (table index : ℕ) (key : IndexKey) (limit : ℕ) where
     formed = w.sound.formed;
     ascend = w.sound.ascend;
     apart = w.sound.apart;
-    match = m.2;
-    many = refl;
+    match = (m.2.0, IsPermutation-trans m.2.0 (held_by entries) xs m.2.1 w.same, m.2.2);
+    many = length_permutation (held_by entries) xs w.same;
   }

@@ -1,5 +1,5 @@
 -- Elements of lists by their places.
-use Rattle.std.proofs.Common.{◌≡◌, ◌⊎◌, inl, inr, ⊎_elim, ℕ, zero, suc, List, [], ◌∷◌, ◌++◌, length, map, get_or, slice_get, Some, refl, sym, ap, ◌∙◌, subst, arith, All, Contains}
+use Rattle.std.proofs.Common.{◌≡◌, ◌≢◌, ◌<◌, ◌⊎◌, inl, inr, ⊎_elim, ℕ, zero, suc, List, [], ◌∷◌, ◌++◌, length, map, get_or, slice_get, slice_set, Some, refl, sym, ap, ◌∙◌, subst, arith, All, Contains}
 use Rattle.std.proofs.lemmas.Option.{slice_get_within, slice_get-get_or, get_or_from_slice_get}
 use Rattle.std.specs.List.{AllZip}
 
@@ -38,6 +38,18 @@ module _ {X : Type 0} where
 
   pub place_of : (xs : List X) (x : X) → Contains xs x → (i : ℕ) × (slice_get xs i ≡ Some x)
   place_of xs x h = (h.0, slice_get-get_or xs h.0 x h.1 ∙ ap Some h.2)
+
+  pub set_here : (xs : List X) (i : ℕ) (x : X) → i < length xs → slice_get (slice_set xs i x) i ≡ Some x
+  set_here [] i x less = absurd (omega (arith, less))
+  set_here (z ∷ xs) zero x less = refl
+  set_here (z ∷ xs) (suc i) x less = set_here xs i x (omega (arith, less))
+
+  pub set_other : (xs : List X) (i j : ℕ) (x : X) → j ≢ i → slice_get (slice_set xs i x) j ≡ slice_get xs j
+  set_other [] i j x not = refl
+  set_other (z ∷ xs) zero zero x not = absurd (not refl)
+  set_other (z ∷ xs) zero (suc j) x not = refl
+  set_other (z ∷ xs) (suc i) zero x not = refl
+  set_other (z ∷ xs) (suc i) (suc j) x not = set_other xs i j x (λ e. not (ap suc e))
 
   pub same_list : (xs ys : List X) → length xs ≡ length ys → ((i : ℕ) (x y : X) → slice_get xs i ≡ Some x → slice_get ys i ≡ Some y → x ≡ y) → xs ≡ ys
   same_list [] [] e each = refl

@@ -1,7 +1,8 @@
 //! A row beside what the columns of its table keep to (SQLite's lang_createtable, stricttables and datatype3).
-ghost use Rattle.std.specs.Prelude.{◌≡◌, ◌≢◌, None, MatchBool, MatchOption, option_map};
+ghost use Rattle.std.specs.Prelude.{◌≡◌, ◌≢◌, true, None, MatchBool, MatchOption, option_map};
 ghost use Rattle.sqlite_record.specs.Record.{decode};
 ghost use Rattle.sqlite_value.specs.Value.{owned};
+ghost use Rattle.sqlite_value.specs.Order.{Row};
 ghost use Rattle.sqindex.specs.RowsKept.{takes, fault_under, fault_at, fault_by, fault_of};
 ghost use Rattle.sqindex.specs.RowsKept.{IsFaultless, HasFault, IsClear, IsUnclear};
 
@@ -112,6 +113,18 @@ pub(crate) fn is_clear(rules: &[ColumnRule], row: &[u8]) -> bool
     let mut fields = Fields::new(row);
     'rules: for rule in rules {
         if is_open(rule, fields.next()) {
+            return false;
+        }
+    }
+    true
+}
+
+/// Whether the default of each column is known, so that it is known what stands in each column of any row.
+pub(crate) fn are_known(rules: &[ColumnRule]) -> bool
+    ensures { result ≡ true → (values : Row) → IsClear rules.now values }
+{
+    'rules: for rule in rules {
+        if rule.default.is_none() {
             return false;
         }
     }

@@ -1,27 +1,71 @@
 //! The entries of an index in memory (own).
-ghost use Rattle.std.specs.Prelude.{◌≡◌, ◌≤◌, ◌+◌, ◌<◌, [], ◌∷◌, ◌++◌, All, OnOk, length, slice_index_or};
+ghost use Rattle.std.specs.Prelude.{◌≡◌, ◌≢◌, ◌≤◌, ◌+◌, ◌<◌, ℕ, [], ◌∷◌, ◌++◌, All, IfOk, OnOk, MatchOption, Some};
+ghost use Rattle.std.specs.Prelude.{length, take, slice_get, slice_index_or, nat_le, if◌then◌else◌};
+ghost use Rattle.std.specs.List.Sorted.{IsPermutation, IsSortedByKey};
+ghost use Rattle.std.specs.Ordering.{int_cmp};
+ghost use Rattle.sqindex.specs.declared.entries.Held.{Held as SpecHeld};
 
 use crate::error::EntryError;
 use crate::fault::IndexFault;
 use crate::walk::Found;
 use std::alloc::{AllocError, Global};
 
-/// Where the payload of an entry lies, and where the entry stands in the index.
+/// The most bytes of a payload that lies in its entry, and not behind the others.
+const INSIDE: usize = 16;
+
+/// An entry: its payload, or where that lies, and where the entry stands in the index.
 #[derive(Clone, Copy, Debug)]
 pub(crate) struct Held {
-    pub(crate) start: usize,
-    pub(crate) size: usize,
+    /// The rowid that it ends with, once it was judged.
+    pub(crate) rowid: i64,
+    pub(crate) start: u32,
+    pub(crate) size: u32,
     pub(crate) page: u32,
-    pub(crate) cell: usize,
+    pub(crate) cell: u32,
+    pub(crate) body: [u8; 16],
 }
 
-/// The entries of an index in its order.
+/// The entries of an index, in its order or by rowid.
 #[derive(Drop)]
 pub(crate) struct Entries {
     pub(crate) list: Vec<Held>,
-    /// Their payloads, one behind another.
+    /// The payloads that don't lie in the entries, one behind another.
     pub(crate) bytes: Vec<u8>,
-    ghost within: { All (λ held. held.start + held.size ≤ length bytes.items) list.items },
+    ghost within: { All (λ held. 16 < held.size → held.start + held.size ≤ length bytes.items) list.items },
+}
+
+/// A payload of a few bytes, and zeros behind it.
+fn body_of(payload: &[u8]) -> [u8; 16]
+    ensures { length payload.now ≤ 16 → take (length payload.now) result ≡ payload.now }
+{
+    let mut body = [0u8; 16];
+    if payload.len() <= INSIDE {
+        let (front, _) = body.split_at_mut(payload.len());
+        front.copy_from_slice(payload);
+    }
+    body
+}
+
+/// A place or a size. Refused where it takes more than 32 bits.
+fn small(number: usize) -> Result<u32, AllocError>
+    ensures { IfOk result (λ same. same ≡ number) }
+{
+    match u32::try_from(number) {
+        Ok(same) => Ok(same),
+        Err(_) => Err(AllocError),
+    }
+}
+
+/// Adds a payload behind the others, unless it lies in its entry.
+fn keep_behind(bytes: &mut Vec<u8>, payload: &[u8]) -> Result<(), AllocError>
+    ensures ok { OnOk result (bytes.new.items ≡ (if nat_le (length payload.now) 16 then bytes.old.items
+        else bytes.old.items ++ payload.now)) }
+    ensures more { length bytes.old.items ≤ length bytes.new.items }
+{
+    if payload.len() <= INSIDE {
+        return Ok(());
+    }
+    bytes.extend_from_slice(payload)
 }
 
 impl Entries {
@@ -49,8 +93,14 @@ impl Entries {
         requires { i < length (held_by self.now) }
         ensures { (slice_index_or (held_by self.now) i nothing).bytes ≡ result.now }
     {
-        let held = self.list[i];
-        &self.bytes[held.start..held.start + held.size]
+        let held = &self.list[i];
+        let size = held.size as usize;
+        if size <= INSIDE {
+            &held.body[..size]
+        } else {
+            let start = held.start as usize;
+            &self.bytes[start..start + size]
+        }
     }
 
     /// A fault that stands at entry `i`.
@@ -64,22 +114,56 @@ impl Entries {
         EntryError {
             fault,
             page: held.page,
-            cell: held.cell,
+            cell: held.cell as usize,
         }
     }
 
-    /// Adds one behind the others.
+    /// The rowid that entry `i` holds. None behind the last one.
+    pub(crate) fn rowid(&self, i: usize) -> Option<i64>
+        ensures { MatchOption result (length self.now.list.items ≤ i)
+            (λ rowid. (p : SpecHeld) × (slice_get self.now.list.items i ≡ Some p) × (p.rowid ≡ rowid)) }
+    {
+        let held = self.list.get(i)?;
+        Some(held.rowid)
+    }
+
+    /// Puts the rowid of entry `i` there.
+    pub(crate) fn put(&mut self, i: usize, rowid: i64)
+        requires { i < length (held_by self.old) }
+        ensures same { held_by self.new ≡ held_by self.old }
+        ensures here { (p : SpecHeld) × (slice_get self.new.list.items i ≡ Some p) × (p.rowid ≡ rowid) }
+        ensures others { (j : ℕ) → j ≢ i → slice_get self.new.list.items j ≡ slice_get self.old.list.items j }
+    {
+        self.list[i].rowid = rowid;
+    }
+
+    /// Adds one behind the others, whose rowid isn't known yet. Refused where memory runs out, and where its place or
+    /// its size takes more than 32 bits.
     pub(crate) fn add(&mut self, found: Found, payload: &[u8]) -> Result<(), AllocError>
         ensures { OnOk result (held_by self.new ≡ held_by self.old ++ plain found payload.now ∷ []) }
     {
-        let start = self.bytes.len();
-        self.bytes.extend_from_slice(payload)?;
+        let start = small(self.bytes.len())?;
+        let size = small(payload.len())?;
+        let cell = small(found.cell)?;
+        keep_behind(&mut self.bytes, payload)?;
         self.list.push(Held {
+            rowid: 0,
             start,
-            size: payload.len(),
+            size,
             page: found.page,
-            cell: found.cell,
+            cell,
+            body: body_of(payload),
         })?;
+        Ok(())
+    }
+
+    /// Sorts them by rowid; those of one rowid stay in their order.
+    pub(crate) fn sort(&mut self) -> Result<(), AllocError>
+        ensures same { IsPermutation self.old.list.items self.new.list.items }
+        ensures bytes { self.new.bytes ≡ self.old.bytes }
+        ensures sorted { OnOk result (IsSortedByKey (λ p. p.rowid) int_cmp self.new.list.items) }
+    {
+        self.list.sort_by_key(|p| p.rowid)?;
         Ok(())
     }
 }

@@ -1,10 +1,10 @@
 //! The rows of a table beside the entries of its index (fileformat2, 2.4).
-ghost use Rattle.std.specs.Prelude.{◌<◌, All, List, length, IfOk, IfErr, OnOk};
+ghost use Rattle.std.specs.Prelude.{List, IfOk, IfErr, OnOk};
 ghost use Rattle.sqpage.specs.Source.{KeepsPages};
 ghost use Rattle.sqindex.specs.Stored.{Stored};
 ghost use Rattle.sqindex.specs.internal.Held.{held_by};
 ghost use Rattle.sqindex.specs.internal.Reading.{stored_of};
-ghost use Rattle.sqindex.specs.internal.Judging.{IsOrdered};
+ghost use Rattle.sqindex.specs.internal.Judging.{AreByRowid};
 ghost use Rattle.sqindex.specs.internal.Joining.{JudgesRow, Sees, EndTells, IsAbove, NotAbove};
 ghost use Rattle.sqindex.specs.internal.Joining.{IsMatched, MatchRefused};
 
@@ -12,7 +12,6 @@ use crate::compare::compare_entry;
 use crate::entries::Entries;
 use crate::error::{EntryError, IndexError, ReadError};
 use crate::fault::IndexFault;
-use crate::order::Numbered;
 use crate::walk::{Found, Walk};
 use sqkeys::IndexKey;
 use sqpage::PageSource;
@@ -31,13 +30,11 @@ struct Join {
 fn judge_row(
     key: &IndexKey,
     entries: &Entries,
-    numbered: &[Numbered],
     at: usize,
     found: Found,
     row: &[u8],
 ) -> Option<EntryError>
-    requires { All (λ p. p.number < length (held_by entries.now)) numbered.now }
-    ensures { JudgesRow key.now (held_by entries.now) numbered.now at (stored_of found row.now) result }
+    ensures { JudgesRow key.now entries.now at (stored_of found row.now) result }
 {
     let fault = EntryError {
         fault: IndexFault::RowWithoutEntry,
@@ -45,41 +42,33 @@ fn judge_row(
         cell: found.cell,
     };
     let rowid = found.rowid.unwrap_or(0);
-    let Some(next) = numbered.get(at) else {
+    let Some(next) = entries.rowid(at) else {
         return Some(fault);
     };
-    if next.rowid < rowid {
-        return Some(entries.fault(next.number, IndexFault::EntryOfNoRow));
+    if next < rowid {
+        return Some(entries.fault(at, IndexFault::EntryOfNoRow));
     }
-    match compare_entry(key, rowid, row, entries.payload(next.number)) {
+    match compare_entry(key, rowid, row, entries.payload(at)) {
         Ordering::Equal => None,
         _ => Some(fault),
     }
 }
 
 /// Goes on by one row, unless a fault was found before.
-fn see(
-    key: &IndexKey,
-    entries: &Entries,
-    numbered: &[Numbered],
-    join: Join,
-    found: Found,
-    row: &[u8],
-) -> Join
-    requires { All (λ p. p.number < length (held_by entries.now)) numbered.now }
-    ensures { (rows : List Stored) → Sees key.now (held_by entries.now) numbered.now rows join
+fn see(key: &IndexKey, entries: &Entries, join: Join, found: Found, row: &[u8]) -> Join
+    ensures { (rows : List Stored) → Sees key.now entries.now rows join
         (stored_of found row.now) result }
 {
     if join.fault.is_some() {
         return join;
     }
-    match judge_row(key, entries, numbered, join.at, found, row) {
+    match judge_row(key, entries, join.at, found, row) {
         Some(fault) => Join {
             at: join.at,
             fault: Some(fault),
         },
         None => {
-            prove!(join.at < numbered.len());
+            prove!(join.at < entries.len());
             Join {
                 at: join.at + 1,
                 fault: None,
@@ -89,15 +78,14 @@ fn see(
 }
 
 /// What is told behind the last row: the first fault, or that an entry is left.
-fn end(entries: &Entries, numbered: &[Numbered], join: Join) -> Result<(), IndexError>
-    requires { All (λ p. p.number < length (held_by entries.now)) numbered.now }
-    ensures { EndTells (held_by entries.now) numbered.now join result }
+fn end(entries: &Entries, join: Join) -> Result<(), IndexError>
+    ensures { EndTells entries.now join result }
 {
     if let Some(fault) = join.fault {
         return Err(IndexError::Entry(fault));
     }
-    match numbered.get(join.at) {
-        Some(next) => Err(IndexError::Entry(entries.fault(next.number, IndexFault::EntryOfNoRow))),
+    match entries.rowid(join.at) {
+        Some(_) => Err(IndexError::Entry(entries.fault(join.at, IndexFault::EntryOfNoRow))),
         None => Ok(()),
     }
 }
@@ -125,12 +113,10 @@ pub(crate) fn match_rows<S: PageSource>(
     table: u32,
     key: &IndexKey,
     entries: &Entries,
-    numbered: &[Numbered],
 ) -> Result<(), IndexError>
-    requires { All (λ p. p.number < length (held_by entries.now)) numbered.now }
-    ensures ok { S.gives_pages source.old → IsOrdered key.now (held_by entries.now) numbered.now
+    ensures ok { S.gives_pages source.old → AreByRowid key.now entries.now
         → OnOk result (IsMatched (S.pages source.old) table key.now (held_by entries.now)) }
-    ensures err { S.gives_pages source.old → IsOrdered key.now (held_by entries.now) numbered.now
+    ensures err { S.gives_pages source.old → AreByRowid key.now entries.now
         → IfErr result (MatchRefused (S.pages source.old) table key.now (held_by entries.now)) }
     ensures keeps { KeepsPages S.pages S.size S.reads_right S.gives_pages source.old source.new }
 {
@@ -143,14 +129,14 @@ pub(crate) fn match_rows<S: PageSource>(
     'turns: for _ in 0..u64::MAX {
         let found = match walk.advance(source) {
             Ok(Some(found)) => found,
-            Ok(None) => return end(entries, numbered, join),
+            Ok(None) => return end(entries, join),
             Err(refusal) => return Err(IndexError::Table(ReadError::of_cell(refusal))),
         };
         match above(last, found.rowid) {
             Ok(rowid) => last = rowid,
             Err(refusal) => return Err(IndexError::Table(refusal)),
         }
-        join = see(key, entries, numbered, join, found, &walk.payload);
+        join = see(key, entries, join, found, &walk.payload);
     }
     Err(IndexError::Table(ReadError::NoMemory))
 }

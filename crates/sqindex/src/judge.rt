@@ -37,8 +37,8 @@ pub fn judge_index<S: PageSource>(
         → IfErr result (λ e. RefutesIndex (S.pages source.old) table index key.now e) }
     ensures keeps { KeepsPages S.pages S.size S.reads_right S.gives_pages source.old source.new }
 {
-    let entries = read_entries(alloc, source, index, limit)?;
-    let numbered = order_entries(alloc, key, &entries)?;
-    match_rows(alloc, source, table, key, &entries, &numbered)?;
+    let mut entries = read_entries(alloc, source, index, limit)?;
+    order_entries(key, &mut entries)?;
+    match_rows(alloc, source, table, key, &entries)?;
     Ok(entries.len() as u64)
 }

@@ -1,12 +1,14 @@
 //! The check of a table's rows against its columns (own).
-ghost use Rattle.std.specs.Prelude.{◌++◌, ◌∷◌, [], IfOk, IfErr, List};
+ghost use Rattle.std.specs.Prelude.{◌≡◌, ◌++◌, ◌∷◌, [], true, IfOk, IfErr, MatchBool, List};
 ghost use Rattle.sqpage.specs.Source.{KeepsPages};
 ghost use Rattle.sqindex.specs.Stored.{Stored};
-ghost use Rattle.sqindex.specs.RowsKept.{AreRowsKept, TableRefused, RefutesTable};
+ghost use Rattle.sqlite_record.specs.Record.{decode};
+ghost use Rattle.sqlite_value.specs.Order.{Row};
+ghost use Rattle.sqindex.specs.RowsKept.{IsClear, IsUnclear, AreRowsKept, TableRefused, RefutesTable};
 ghost use Rattle.sqindex.specs.internal.Reading.{stored_of};
 ghost use Rattle.sqindex.specs.internal.Scanning.{IsScanned, EndsAs};
 
-use crate::column_fault::{first_fault, is_clear};
+use crate::column_fault::{are_known, first_fault, is_clear};
 use crate::error::{ReadError, RowError, TableError};
 use crate::join::above;
 use crate::walk::{Found, Walk};
@@ -22,8 +24,20 @@ struct Scan {
     clear: bool,
 }
 
+/// Whether it is known what stands in each column of a row, where that of any row is known or not.
+fn clear_in(rules: &[ColumnRule], known: bool, row: &[u8]) -> bool
+    requires { known ≡ true → (values : Row) → IsClear rules.now values }
+    ensures { MatchBool result (IsClear rules.now (decode row.now)) (IsUnclear rules.now (decode row.now)) }
+{
+    if known {
+        return true;
+    }
+    is_clear(rules, row)
+}
+
 /// Goes on by one row, unless a fault was found before.
-fn see(rules: &[ColumnRule], scan: Scan, found: Found, row: &[u8]) -> Scan
+fn see(rules: &[ColumnRule], known: bool, scan: Scan, found: Found, row: &[u8]) -> Scan
+    requires { known ≡ true → (values : Row) → IsClear rules.now values }
     ensures { (rows : List Stored) → IsScanned rules.now rows scan
         → IsScanned rules.now (rows ++ stored_of found row.now ∷ []) result }
 {
@@ -41,7 +55,7 @@ fn see(rules: &[ColumnRule], scan: Scan, found: Found, row: &[u8]) -> Scan
         },
         None => Scan {
             fault: None,
-            clear: is_clear(rules, row) & scan.clear,
+            clear: clear_in(rules, known, row) & scan.clear,
         },
     }
 }
@@ -69,6 +83,7 @@ fn scan_rows<S: PageSource>(
         → IfErr result (TableRefused (S.pages source.old) table rules.now) }
     ensures keeps { KeepsPages S.pages S.size S.reads_right S.gives_pages source.old source.new }
 {
+    let known = are_known(rules);
     let mut scan = Scan {
         fault: None,
         clear: true,
@@ -88,7 +103,7 @@ fn scan_rows<S: PageSource>(
             Ok(rowid) => last = rowid,
             Err(refusal) => return Err(TableError::Unread(refusal)),
         }
-        scan = see(rules, scan, found, &walk.payload);
+        scan = see(rules, known, scan, found, &walk.payload);
     }
     Err(TableError::Unread(ReadError::NoMemory))
 }

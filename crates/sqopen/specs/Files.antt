@@ -1,8 +1,10 @@
 -- Where the files of a database lie, and which of them are opened (own).
-use Rattle.std.specs.Prelude.{◌≡◌, ◌≢◌, ◌⊎◌, ◌++◌, ℕ, ◌<◌, ◌≤◌, List, [], Option, None, Some, IfSome, IsSome, IsSomeAnd, codes, string_bytes, unwrap_or}
+use Rattle.std.specs.Prelude.{◌≡◌, ◌≢◌, ◌⊎◌, ◌++◌, ℕ, ◌<◌, ◌≤◌, List, [], length, Option, None, Some, IfSome, IsSome, IsSomeAnd, codes, string_bytes, unwrap_or}
 use Rattle.std.specs.Fs.{metadata_len, file_type, IsFile}
 use Rattle.std.specs.declared.fs.attrs.Metadata.{Metadata}
+use Rattle.std.specs.Option.{option_map_or}
 use Rattle.std.specs.Path.{path_file_name, path_parent}
+use Rattle.sqval.specs.Bytes.{AreBytes}
 use Rattle.sqfacts.specs.declared.locks.Identity.{Identity}
 use Rattle.sqopen.specs.declared.logs.Beheld.{Beheld}
 use Rattle.sqopen.specs.declared.opened_file.OpenedFile.{OpenedFile}
@@ -52,3 +54,16 @@ IsOpenedOf file place least (Some found) = (least ≤ metadata_len found → IsO
 -- of a database's files those that the system found are regular ones
 abbrev pub AreRegular : Beheld → Type 0
 AreRegular found = IsFile (file_type found.db) × IfSome found.wal (λ m. IsFile (file_type m)) × IfSome found.journal (λ m. IsFile (file_type m))
+
+-- the bytes of an opened file, none of one that isn't there
+abbrev pub opened_bytes : {F : Type 0} → (bytes : F → List ℕ) → OpenedFile F → List ℕ
+opened_bytes bytes file = option_map_or (λ opened. bytes opened.0) file.file []
+
+-- The file keeps its word, and is as long as when it was opened.
+abbrev pub IsSteady : {F : Type 0} → (bytes : F → List ℕ) → (keeps_word : F → Type 0) → OpenedFile F → Type 0
+IsSteady bytes keeps_word file = IfSome file.file (λ opened. keeps_word opened.0)
+    × (file.length ≡ length (opened_bytes bytes file)) × AreBytes (opened_bytes bytes file)
+
+-- no read of it fails
+abbrev pub NeverFails : {F : Type 0} → (never_fails : F → Type 0) → OpenedFile F → Type 0
+NeverFails never_fails file = IfSome file.file (λ opened. never_fails opened.0)

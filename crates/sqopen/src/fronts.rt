@@ -6,16 +6,17 @@ ghost use Rattle.sqopen.specs.Watches.{AreRead};
 use crate::hints::told;
 use crate::paths::{Paths, is_missing};
 use crate::watch::readings_of;
-use sqfacts::{Front, Notes, Reading, Readings, Refusal, read_or_zeros, standing, unchanged};
+use sqfacts::{
+    Front, Notes, Reading, Readings, Refusal, SystemFile, read_or_zeros, standing, unchanged,
+};
 use std::fs::File;
 use std::io::{self, Write};
-use std::os::unix::fs::FileExt;
 use std::rt::Files;
 
 /// The head of a front's frame, with zeros past the end of the log.
 fn head_of<R: Files>(rt: &R, path: &str, front: Front) -> io::Result<[u8; 24]>
 where
-    R::File: FileExt,
+    R::File: SystemFile,
 {
     let mut head = [0u8; 24];
     let file = File::open(rt, path)?;
@@ -40,7 +41,7 @@ fn still_standing<R: Files, E: Write>(
     notes: &mut Notes<'_, E>,
 ) -> Result<(), Refusal>
 where
-    R::File: FileExt,
+    R::File: SystemFile,
     ensures { IfErr result IsFromWatch }
 {
     let (Some(front), Some(header)) = (front, header_of(began)) else {
@@ -64,7 +65,7 @@ pub fn as_before<R: Files, E: Write>(
     notes: &mut Notes<'_, E>,
 ) -> Result<(), Refusal>
 where
-    R::File: FileExt,
+    R::File: SystemFile,
     ensures read { IfOk result (λ _. AreRead only_logs before.now) }
     ensures refused { IfErr result IsFromWatch }
 {
@@ -83,7 +84,7 @@ pub fn watched<R: Files, T: Drop, E: Write>(
     notes: &mut Notes<'_, E>,
 ) -> Result<T, Refusal>
 where
-    R::File: FileExt,
+    R::File: SystemFile,
     ensures { ((result ≡ answer) × AreRead false before.now) ⊎ IsErrAnd result IsFromWatch }
 {
     match as_before(rt, paths, before, false, front, notes) {

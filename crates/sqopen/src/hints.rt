@@ -1,19 +1,27 @@
 //! What `-v` says of the files, and of the log that counts.
-ghost use Rattle.std.specs.Prelude.{◌≡◌, ◌≢◌, ◌<◌};
+ghost use Rattle.std.specs.Prelude.{◌≡◌, ◌≢◌, ℕ, List, Option, None, IfOk, IsOk, IsTrue, false};
+ghost use Rattle.std.specs.Option.{option_map};
 ghost use Rattle.std.specs.IoError.{error_kind};
 ghost use Rattle.std.specs.declared.io.ErrorKind.TheVariants.{OutOfMemory};
 ghost use Rattle.sqfacts.specs.declared.outcome.Refusal.TheVariants.{FileFailed, NoMemory};
+ghost use Rattle.sqwal.specs.Took.{TookWithin};
+ghost use Rattle.sqview.specs.Laid.{part_or_zeros};
+ghost use Rattle.sqfacts.specs.Quoted.{name_text};
+ghost use Rattle.sqopen.specs.Files.{IsSteady, NeverFails, opened_bytes};
+ghost use Rattle.sqopen.specs.Notes.{IsDropped, NamesPages, note_text, shorter_text};
+ghost use Rattle.sqopen.specs.declared.note.Named.{Named};
 ghost use Rattle.sqopen.specs.Refusals.{IsFromSystem};
 
+use crate::note::{Named, Note, dropped_note, named_pages, shorter_note};
 use crate::opened_file::OpenedFile;
 use crate::paths::Paths;
-use sqfacts::{Notes, Quoted, Refusal};
-use sqpage::{SourceError, has_magic, named_page_size};
+use sqfacts::{Notes, Quoted, Refusal, SystemFile};
+use sqpage::SourceError;
 use sqview::FileBytes;
-use sqwal::{Scan, Stop};
+use sqwal::Scan;
 use std::fs::Metadata;
 use std::io::{self, Write};
-use std::os::unix::fs::{FileExt, FileTypeExt};
+use std::os::unix::fs::FileTypeExt;
 
 /// The refusal for what the system said of a path, which is told.
 pub fn told<E: Write>(notes: &mut Notes<'_, E>, path: &str, error: io::Error) -> Refusal
@@ -114,108 +122,51 @@ pub(crate) fn tell_choice<E: Write>(notes: &mut Notes<'_, E>, paths: &Paths, log
     }
 }
 
-fn number_at(head: &[u8; 100], at: usize) -> u32
-    requires { at < 97 }
-{
-    u32::from_be_bytes([head[at], head[at + 1], head[at + 2], head[at + 3]])
-}
-
-/// How many pages a database file's header names, and of which size; none where that doesn't count, or is no header.
-fn named_pages(head: &[u8; 100]) -> Option<(u32, u32)> {
-    if !has_magic(head) || number_at(head, 24) != number_at(head, 92) {
-        return None;
-    }
-    match named_page_size(head) {
-        Some(size) => Some((number_at(head, 28), size.get())),
-        None => None,
-    }
-}
-
-/// Says that a file of this length is shorter than so many pages of one size.
-fn tell_shorter<E: Write>(notes: &mut Notes<'_, E>, path: &str, length: u64, named: (u32, u32)) {
-    let (path, (pages, size)) = (Quoted(path), named);
-    notes.tell(&format_args!(
-        "{path}: {length} bytes, shorter than the {pages} pages of {size} bytes that its header names"
-    ));
-}
-
 /// What the header of a database file names.
-pub(crate) fn named_by<F: FileExt>(
-    db: &OpenedFile<'_, F>,
-) -> Result<Option<(u32, u32)>, SourceError> {
+pub(crate) fn named_by<F: SystemFile>(db: &OpenedFile<'_, F>) -> Result<Option<Named>, SourceError>
+    ensures named { IsSteady F.bytes F.keeps_word db.now
+        → IfOk result (NamesPages (part_or_zeros 100 0 (opened_bytes F.bytes db.now))) }
+    ensures answered { IsSteady F.bytes F.keeps_word db.now → NeverFails F.never_fails db.now → IsOk result }
+{
     let mut head = [0u8; 100];
     db.fill(0, &mut head)?;
     Ok(named_pages(&head))
 }
 
-/// Says that a file of this length ends before the pages that its header names do.
-pub(crate) fn tell_cut<E: Write>(
+/// Says where a database file beside a log that counts is shorter than its header says, if notes are asked for. What is
+/// said; nothing where the header can't be read.
+pub fn tell_length<'a, F: SystemFile, E: Write>(
     notes: &mut Notes<'_, E>,
-    path: Quoted<'_>,
-    length: u64,
-    named: (u32, u32),
-) {
-    let (pages, size) = named;
-    notes.say(&format_args!(
-        "{path} ends at byte {length}, before the {pages} pages of {size} bytes that its header names: what is missing \
-         is taken as zeros"
-    ));
-}
-
-/// Says that so many bytes stand behind the pages that a file's header names.
-pub(crate) fn tell_rest<E: Write>(
-    notes: &mut Notes<'_, E>,
-    path: Quoted<'_>,
-    bytes: u64,
-    pages: u32,
-) {
-    notes.say(&format_args!(
-        "{path} goes on for {bytes} bytes behind the {pages} pages that its header names: these aren't looked at"
-    ));
-}
-
-/// What the header of a database file names; none where it can't be read.
-fn pages_of<F: FileExt>(db: &OpenedFile<'_, F>) -> Option<(u32, u32)> {
-    named_by(db).ok().flatten()
-}
-
-/// Says where a database file is shorter than its header says.
-pub fn tell_length<F: FileExt, E: Write>(
-    notes: &mut Notes<'_, E>,
-    path: &str,
+    path: &'a str,
     db: &OpenedFile<'_, F>,
-) {
+) -> Option<Note<'a>>
+    ensures told { IsSteady F.bytes F.keeps_word db.now → NeverFails F.never_fails db.now → IsTrue notes.old.verbose
+        → (named : Option Named) × NamesPages (part_or_zeros 100 0 (opened_bytes F.bytes db.now)) named
+        × (option_map note_text result ≡ shorter_text (name_text path.entry.now) db.now.length named) }
+    ensures unasked { notes.old.verbose ≡ false → result ≡ None }
+{
     if !notes.are_asked() {
-        return;
+        return None;
     }
-    if let Some((pages, size)) = pages_of(db) {
-        if db.len() < u64::from(pages).saturating_mul(u64::from(size)) {
-            tell_shorter(notes, path, db.len(), (pages, size));
-        }
-    }
+    let note = shorter_note(Quoted(path), db.len(), named_by(db).ok()?)?;
+    notes.tell(&note);
+    Some(note)
 }
 
-/// How many bytes and frames of a log of this length stand behind its front; none where its header isn't valid.
-fn behind_front(length: u64, scan: &Scan) -> Option<(u64, u64)> {
-    let frame = u64::from(scan.header()?.page_size.get()) + 24;
-    let bytes = length.saturating_sub(scan.committed().end.max(32));
-    Some((bytes, bytes / frame))
-}
-
-/// Says what of a log of this length isn't recovered, once it is emptied.
-pub fn tell_dropped<E: Write>(notes: &mut Notes<'_, E>, length: u64, scan: &Scan) {
-    let Some((bytes, frames)) = behind_front(length, scan) else {
-        return;
-    };
-    if bytes != 0 {
-        tell_frames(notes, bytes, frames, scan.stop());
+/// Says what of a log of this length isn't recovered, once it is emptied, if notes are asked for. What is said.
+pub fn tell_dropped<E: Write>(
+    notes: &mut Notes<'_, E>,
+    length: u64,
+    scan: &Scan,
+) -> Option<Note<'static>>
+    ensures told { (most : ℕ) (wal : List ℕ) → TookWithin most wal scan.now → IsTrue notes.old.verbose
+        → IsDropped most wal length (option_map note_text result) }
+    ensures unasked { notes.old.verbose ≡ false → result ≡ None }
+{
+    if !notes.are_asked() {
+        return None;
     }
-}
-
-/// Says how many frames are dropped, and why.
-fn tell_frames<E: Write>(notes: &mut Notes<'_, E>, bytes: u64, frames: u64, stop: Stop) {
-    let (why, at) = (stop.why, stop.frame);
-    notes.tell(&format_args!(
-        "{frames} frames, {bytes} bytes behind the front are dropped: stop {why:?} at {at}"
-    ));
+    let note = dropped_note(length, scan)?;
+    notes.tell(&note);
+    Some(note)
 }

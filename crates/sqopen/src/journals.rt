@@ -5,13 +5,12 @@ ghost use Rattle.sqopen.specs.Journals.{NamesSuperJournal};
 
 use crate::opened_file::OpenedFile;
 use crate::paths::{is_missing, look_at};
-use sqfacts::{Notes, Quoted};
+use sqfacts::{Notes, Quoted, SystemFile};
 use sqjournal::{JournalHeader, is_magic};
 use sqpage::SourceError;
 use sqview::FileBytes;
 use sqwords::SuperJournal;
 use std::io::Write;
-use std::os::unix::fs::FileExt;
 use std::rt::Files;
 use std::str;
 
@@ -40,7 +39,7 @@ const LONGEST: usize = 512;
 
 /// The name of the super-journal that a journal names, which stands before its length, its sum and the magic; none
 /// where it is longer than SQLite takes one, or isn't UTF-8.
-fn super_name<'a, F: FileExt>(
+fn super_name<'a, F: SystemFile>(
     journal: &OpenedFile<'_, F>,
     room: &'a mut [u8; LONGEST],
 ) -> Result<Option<&'a str>, SourceError> {
@@ -69,7 +68,7 @@ fn tell_presence<R: Files, E: Write>(rt: &R, name: &str, notes: &mut Notes<'_, E
 }
 
 /// Says which super-journal a journal names, and whether it is there.
-pub(crate) fn tell_super_journal<R: Files, F: FileExt, E: Write>(
+pub(crate) fn tell_super_journal<R: Files, F: SystemFile, E: Write>(
     rt: &R,
     journal: &OpenedFile<'_, F>,
     notes: &mut Notes<'_, E>,
@@ -99,7 +98,7 @@ fn loosened(front: &[u8; 28]) -> [u8; 28] {
 }
 
 /// Whether SQLite takes the journal's header though it isn't a valid one here.
-pub(crate) fn is_valid_for_sqlite_alone<F: FileExt>(
+pub(crate) fn is_valid_for_sqlite_alone<F: SystemFile>(
     journal: &OpenedFile<'_, F>,
 ) -> Result<bool, SourceError> {
     let mut front = [0u8; 28];

@@ -1,28 +1,35 @@
 //! The opened files of a database.
-ghost use Rattle.std.specs.Prelude.{◌≡◌, ◌⊎◌, IfErr, IfOk, IfSome, Ok, Some};
+ghost use Rattle.std.specs.Prelude.{◌≡◌, ◌⊎◌, Option, IfErr, IfOk, IfSome, IsOk, Ok, Some};
+ghost use Rattle.std.specs.Option.{option_map};
 ghost use Rattle.std.specs.Fs.{metadata_len, file_type, IsFile};
 ghost use Rattle.sqwords.specs.declared.requests.SuperJournal.TheVariants.{Gone};
 ghost use Rattle.sqfacts.specs.Refusals.{refusal_of};
 ghost use Rattle.sqfacts.specs.declared.outcome.Refusal.TheVariants.{TwoLogs};
 ghost use Rattle.sqview.specs.Logs.{AreTwoLogs, CountsAnswer};
 ghost use Rattle.sqview.specs.declared.view_error.ViewError.{ViewError};
-ghost use Rattle.sqopen.specs.Files.{AreRegular, IsMissing, IsOpenedAt, IsOpenedOf};
+ghost use Rattle.sqfacts.specs.Quoted.{name_text};
+ghost use Rattle.sqview.specs.Laid.{part_or_zeros};
+ghost use Rattle.sqopen.specs.Files.{AreRegular, IsMissing, IsOpenedAt, IsOpenedOf, IsSteady, NeverFails};
+ghost use Rattle.sqopen.specs.Files.{opened_bytes, path_of};
+ghost use Rattle.sqopen.specs.Notes.{NamesPages, alone_text, note_text};
+ghost use Rattle.sqopen.specs.declared.note.Named.{Named};
 ghost use Rattle.sqopen.specs.Refusals.{IsFromSystem};
 
-use crate::hints::{Logs, named_by, tell_choice, tell_cut, tell_rest, told, told_kind};
+use crate::hints::{Logs, named_by, tell_choice, told, told_kind};
 use crate::journals::{
     is_out_of_force, is_valid_for_sqlite_alone, names_super_journal, tell_super_journal,
 };
+use crate::note::{Note, alone_note};
 use crate::opened_file::OpenedFile;
 use crate::paths::{Paths, are_apart, is_missing, look_at};
 use crate::place::Place;
-use sqfacts::{Notes, Refusal, identity_of};
+use sqfacts::{Notes, Refusal, SystemFile, identity_of};
 use sqpage::SourceError;
 use sqview::{FileBytes, LogInUse, hot_header, log_in_use};
 use sqwords::SuperJournal;
 use std::fs::{File, Metadata};
 use std::io::Write;
-use std::os::unix::fs::{FileExt, MetadataExt};
+use std::os::unix::fs::MetadataExt;
 use std::rt::Files;
 
 /// The shortest journal that can be hot, in bytes: a shorter one isn't opened.
@@ -205,7 +212,7 @@ fn open_found<'a, R: Files, E: Write>(
 }
 
 /// Whether a journal is hot, and whether it names a super-journal then.
-fn marks_of<F: FileExt>(journal: &OpenedFile<'_, F>) -> Result<(bool, bool), SourceError> {
+fn marks_of<F: SystemFile>(journal: &OpenedFile<'_, F>) -> Result<(bool, bool), SourceError> {
     let mut bytes = journal;
     let is_hot = hot_header(&mut bytes)?.is_some();
     let names_super = is_hot && names_super_journal(&mut bytes)?;
@@ -213,7 +220,7 @@ fn marks_of<F: FileExt>(journal: &OpenedFile<'_, F>) -> Result<(bool, bool), Sou
 }
 
 /// Says where SQLite takes a journal that doesn't count here, and where it would leave an empty file empty.
-fn tell_doubts<F: FileExt, E: Write>(
+fn tell_doubts<F: SystemFile, E: Write>(
     logs: &Beside<'_, F>,
     is_hot: bool,
     notes: &mut Notes<'_, E>,
@@ -231,7 +238,7 @@ fn tell_doubts<F: FileExt, E: Write>(
 
 /// Says what is to be noted of opened logs, where the database is asked for at this commit frame. A hot journal that is
 /// out of force is let go.
-fn judge_logs<R: Files, F: FileExt + Drop, E: Write>(
+fn judge_logs<R: Files, F: SystemFile + Drop, E: Write>(
     rt: &R,
     logs: &mut Beside<'_, F>,
     paths: &Paths,
@@ -280,7 +287,7 @@ pub fn open_logs<'a, R: Files, E: Write>(
     notes: &mut Notes<'_, E>,
 ) -> Result<Beside<'a, R::File>, Refusal>
 where
-    R::File: FileExt,
+    R::File: SystemFile,
     ensures regular { IfOk result (λ logs. AreRegular logs.found) }
     ensures wal { IfOk result (λ logs. IsOpenedOf logs.wal paths.entry.now.wal 1 logs.found.wal) }
     ensures journal { IfOk result (λ logs. ((super_journal ≡ Some Gone) × IsMissing logs.journal)
@@ -320,28 +327,28 @@ pub fn open_database<'a, R: Files, E: Write>(
     notes: &mut Notes<'_, E>,
 ) -> Result<OpenedFile<'a, R::File>, Refusal>
 where
-    R::File: FileExt,
+    R::File: SystemFile,
     ensures opened { IfOk result (λ db. IsOpenedAt db paths.entry.now.db (metadata_len found.now)) }
     ensures refused { IfErr result IsFromSystem }
 {
     opened_of(rt, &paths.db, found.len(), notes)
 }
 
-/// Says where an opened database file that no log counts beside is shorter or longer than its header says.
-pub fn tell_alone<F: FileExt, E: Write>(
-    paths: &Paths,
+/// Says where an opened database file that no log counts beside is shorter or longer than its header says. What is
+/// said.
+pub fn tell_alone<'a, F: SystemFile, E: Write>(
+    paths: &'a Paths,
     db: &OpenedFile<'_, F>,
     notes: &mut Notes<'_, E>,
-) -> Result<(), SourceError> {
-    let Some((pages, size)) = named_by(db)? else {
-        return Ok(());
-    };
-    let named = u64::from(pages).saturating_mul(u64::from(size));
-    let length = db.len();
-    if length < named {
-        tell_cut(notes, paths.db.quoted(), length, (pages, size));
-    } else if named != 0 && length > named {
-        tell_rest(notes, paths.db.quoted(), length - named, pages);
+) -> Result<Option<Note<'a>>, SourceError>
+    ensures told { IsSteady F.bytes F.keeps_word db.now → IfOk result (λ note. (named : Option Named)
+        × NamesPages (part_or_zeros 100 0 (opened_bytes F.bytes db.now)) named
+        × (option_map note_text note ≡ alone_text (name_text (path_of paths.entry.now.db)) db.now.length named)) }
+    ensures answered { IsSteady F.bytes F.keeps_word db.now → NeverFails F.never_fails db.now → IsOk result }
+{
+    let note = alone_note(paths.db.quoted(), db.len(), named_by(db)?);
+    if let Some(note) = &note {
+        notes.say(note);
     }
-    Ok(())
+    Ok(note)
 }

@@ -5,7 +5,7 @@ ghost use Rattle.sqopen.specs.Refusals.{IsFromSystem, IsFromWatch};
 use crate::hints::told;
 use crate::paths::{Paths, folder_of, is_missing, look_at};
 use crate::place::Place;
-use sqfacts::{Identity, Notes, Quoted, Refusal, identity_of, metadata_of};
+use sqfacts::{Identity, Notes, Quoted, Refusal, SystemFile, identity_of, metadata_of};
 use std::alloc::{AllocError, Global};
 use std::fs;
 use std::fs::{OpenFile, OpenOptions};
@@ -180,7 +180,10 @@ fn sync_folder<R: Files>(rt: &R, path: &str) {
 
 /// Whether a file still has the name under which it is made: another run may have taken it for what is left of one
 /// that was stopped.
-fn is_at<R: Files>(rt: &R, file: &R::File, path: &str) -> io::Result<bool> {
+fn is_at<R: Files>(rt: &R, file: &R::File, path: &str) -> io::Result<bool>
+where
+    R::File: SystemFile,
+{
     let there = match look_at(rt, path) {
         Ok(there) => identity_of(&there),
         Err(error) if is_missing(&error) => return Ok(false),
@@ -222,6 +225,8 @@ pub fn end_file<R: Files, E: Write>(
     made: NewFile<'_, R::File>,
     notes: &mut Notes<'_, E>,
 ) -> Result<(), Refusal>
+where
+    R::File: SystemFile,
     ensures refused { IfErr result IsFromWatch }
 {
     match is_at(rt, &made.file, made.part.as_str()) {

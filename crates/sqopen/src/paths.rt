@@ -9,12 +9,11 @@ ghost use Rattle.sqopen.specs.internal.Paths.{AreApart};
 
 use crate::hints::told;
 use crate::place::Place;
-use sqfacts::{Identity, Notes, Quoted, Refusal, identity_of, read_or_zeros};
+use sqfacts::{Identity, Notes, Quoted, Refusal, SystemFile, identity_of, read_or_zeros};
 use sqjournal::is_magic;
 use std::alloc::{AllocError, Global};
 use std::fs::{File, Metadata};
 use std::io::Write;
-use std::os::unix::fs::FileExt;
 use std::path::Path;
 use std::rt::Files;
 use std::{fs, io};
@@ -140,7 +139,7 @@ pub fn paths_of<R: Files + AllocGlobal, E: Write>(
     notes: &mut Notes<'_, E>,
 ) -> Result<Paths, Refusal>
 where
-    R::File: FileExt,
+    R::File: SystemFile,
     ensures beside { IfOk result AreBeside }
     ensures refused { IfErr result IsFromSystem }
 {
@@ -180,7 +179,7 @@ fn tell_orphan<E: Write>(notes: &mut Notes<'_, E>, wal: &str, file: &str) {
 /// The first bytes of a file that is read; none where they can't be.
 fn front_of<R: Files>(rt: &R, path: &str) -> Option<[u8; 8]>
 where
-    R::File: FileExt,
+    R::File: SystemFile,
 {
     let mut front = [0u8; 8];
     match File::open(rt, path) {
@@ -192,7 +191,7 @@ where
 /// Whether a file begins and is named as a log: a WAL or a journal. Not where it can't be read.
 fn is_log<R: Files>(rt: &R, path: &str) -> bool
 where
-    R::File: FileExt,
+    R::File: SystemFile,
 {
     if !path.ends_with("-wal") && !path.ends_with("-journal") {
         return false;

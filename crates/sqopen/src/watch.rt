@@ -7,10 +7,10 @@ ghost use Rattle.sqopen.specs.Watches.{AreRead, HasZerosFrom, IsRead, from_zero,
 
 use crate::hints::told;
 use crate::paths::{Paths, is_missing, look_at};
-use sqfacts::{Notes, Reading, Readings, Refusal, identity_of, read_or_zeros};
+use sqfacts::{Notes, Reading, Readings, Refusal, SystemFile, identity_of, read_or_zeros};
 use std::fs::File;
 use std::io::{self, Write};
-use std::os::unix::fs::{FileExt, MetadataExt};
+use std::os::unix::fs::MetadataExt;
 use std::rt::Files;
 use std::time::Duration;
 
@@ -20,7 +20,7 @@ const TICK: u64 = 11;
 /// The bytes of a file at a place, with zeros behind them.
 fn front_of<R: Files>(rt: &R, path: &str, at: u64, count: usize) -> io::Result<[u8; 32]>
 where
-    R::File: FileExt,
+    R::File: SystemFile,
     requires { count ≤ 32 }
     ensures { IfOk result (λ front. (k : ℕ) → count ≤ k → k < 32 → slice_index front k ≡ 0) }
 {
@@ -40,7 +40,7 @@ fn reading_of<R: Files, E: Write>(
     notes: &mut Notes<'_, E>,
 ) -> Result<Option<Reading>, Refusal>
 where
-    R::File: FileExt,
+    R::File: SystemFile,
     requires { count ≤ 32 }
     ensures read { IfOk result (λ reading. IsTrue must_be_read → IsRead reading) }
     ensures zeros { IfOk result (HasZerosFrom count) }
@@ -75,7 +75,7 @@ pub fn readings_of<R: Files, E: Write>(
     notes: &mut Notes<'_, E>,
 ) -> Result<Readings, Refusal>
 where
-    R::File: FileExt,
+    R::File: SystemFile,
     ensures read { IfOk result (AreRead only_logs) }
     ensures zeros { IfOk result (λ readings. HasZerosFrom 16 readings.db) }
     ensures refused { IfErr result IsFromSystem }

@@ -7,14 +7,13 @@ use crate::commands::{Command, Finding};
 use crate::jobs::Job;
 use crate::pages::write_surveyed;
 use crate::rows::write_printed;
-use sqfacts::{Front, Notes, Refusal};
+use sqfacts::{Front, Notes, Refusal, SystemFile};
 use sqopen::{Count, Paths};
 use sqshown::ShowError;
 use sqview::FileBytes;
 use sqwords::Style;
 use std::alloc::Global;
 use std::io::{BufWriter, Write};
-use std::os::unix::fs::FileExt;
 use std::rt::Files;
 use std::time::Clock;
 use thiserror::Error;
@@ -66,7 +65,7 @@ pub(crate) fn answered<R: Files + AllocGlobal + Clock, M: Count, O: Write, E: Wr
     notes: &mut Notes<'_, E>,
 ) -> Result<Answer, ShowError>
 where
-    R::File: FileExt,
+    R::File: SystemFile,
 {
     let of = (job.rt.alloc(), job.source.options.style);
     if !command.prints_meanwhile() {

@@ -9,7 +9,7 @@ use crate::outcomes::print_outcome;
 use crate::outputs::{judge_name, kept, named};
 use crate::plans::{Recovery, plan_recovery, scan_of};
 use crate::sources::{Before, wait_for};
-use sqfacts::{Front, Notes, Outcome, Refusal};
+use sqfacts::{Front, Notes, Outcome, Refusal, SystemFile};
 use sqopen::{Count, NewFile, OpenedFile, begin_file, counting_log, told};
 use sqpage::PageSource;
 use sqshown::{Contents, ShowError, limits_of, replayed, view_of};
@@ -20,7 +20,7 @@ use sqwords::Options;
 use std::alloc::Global;
 use std::fs::OpenFile;
 use std::io::{Seek, Write};
-use std::os::unix::fs::{FileExt, MetadataExt};
+use std::os::unix::fs::MetadataExt;
 use std::rt::Files;
 use std::thread;
 use std::time::Clock;
@@ -80,7 +80,7 @@ pub(crate) fn recover_to<R: Files + AllocGlobal + Clock, M: Count, O: Write, E: 
     notes: &mut Notes<'_, E>,
 ) -> Result<Answer, ShowError>
 where
-    R::File: FileExt,
+    R::File: SystemFile,
 {
     let before = job.before(false, notes)?;
     thread::sleep(job.rt, wait_for(job.rt, &before));
@@ -97,7 +97,7 @@ fn made_copy<R: Files + AllocGlobal + Clock, M: Count, E: Write>(
     notes: &mut Notes<'_, E>,
 ) -> Result<Outcome, Refusal>
 where
-    R::File: FileExt,
+    R::File: SystemFile,
 {
     let found = found_in(job, notes);
     match job.standing(before, (false, None), found, notes) {
@@ -119,7 +119,7 @@ fn make_copy<R: Files + AllocGlobal + Clock, F: FileBytes + Drop, M: Count, E: W
     notes: &mut Notes<'_, E>,
 ) -> Result<Outcome, Refusal>
 where
-    R::File: FileExt,
+    R::File: SystemFile,
 {
     let Found {
         content,
@@ -145,7 +145,7 @@ fn found_in<'a, R: Files + AllocGlobal + Clock, M: Count, E: Write>(
     notes: &mut Notes<'_, E>,
 ) -> Result<Found<'a, OpenedFile<'a, R::File>, M>, Refusal>
 where
-    R::File: FileExt,
+    R::File: SystemFile,
 {
     let (meter, source) = (job.meter, job.source);
     let options = source.options;

@@ -4,19 +4,20 @@ use crate::commands::PIECE;
 use crate::jobs::Job;
 use crate::opening::open_all;
 use crate::rows::write_printed;
-use sqdump::{Printed, show_changes};
-use sqfacts::{Notes, Refusal};
+use sqdump::{Printed, show_changes, show_history};
+use sqfacts::{Notes, Refusal, SystemFile};
+use sqhistory::Files as Lent;
 use sqopen::{Count, OpenedFile};
 use sqshown::{Contents, ShowError, read_ahead};
 use sqview::ReadAhead;
 use sqwords::Compared;
 use std::io::{BufWriter, Write};
-use std::os::unix::fs::FileExt;
 use std::rt::Files;
 use std::time::Clock;
 
-/// Prints which rows of a database file changed between two commits of its log. No file is opened for writing, and
-/// none is made. Refused by `FileChanged` where a file changed meanwhile; lines may have been printed then.
+/// Prints which rows of a database file changed between two commits of its log, or what each of those between changed
+/// against the one before it. No file is opened for writing, and none is made. Refused by `FileChanged` where a file
+/// changed meanwhile; lines may have been printed then.
 pub(crate) fn print_diff<R: Files + AllocGlobal + Clock, M: Count, O: Write, E: Write>(
     job: &Job<'_, R, M>,
     compared: Compared<'_>,
@@ -24,7 +25,7 @@ pub(crate) fn print_diff<R: Files + AllocGlobal + Clock, M: Count, O: Write, E: 
     notes: &mut Notes<'_, E>,
 ) -> Result<Answer, ShowError>
 where
-    R::File: FileExt,
+    R::File: SystemFile,
 {
     match BufWriter::with_capacity(job.rt.alloc(), KEPT, out) {
         Ok(mut lines) => match changes_standing(job, compared, &mut lines, notes) {
@@ -52,7 +53,7 @@ fn changes_standing<R: Files + AllocGlobal + Clock, M: Count, W: Write, E: Write
     notes: &mut Notes<'_, E>,
 ) -> Result<Printed, Refusal>
 where
-    R::File: FileExt,
+    R::File: SystemFile,
 {
     let to = job.source.options.at;
     let before = job.before(false, notes)?;
@@ -72,11 +73,38 @@ fn changes_now<R: Files + AllocGlobal + Clock, M: Count, W: Write, E: Write>(
     notes: &mut Notes<'_, E>,
 ) -> Result<Printed, Refusal>
 where
-    R::File: FileExt,
+    R::File: SystemFile,
 {
+    if compared.commits {
+        return history_now(job, compared, out, notes);
+    }
     let from = opened_at(job, Some(compared.from), notes)?;
     match opened_at(job, compared.to, notes) {
         Ok(to) => show_changes(job.rt.alloc(), from, to, job.source.options, compared, out),
+        Err(refusal) => Err(refusal),
+    }
+}
+
+/// What came of printing what each commit changed.
+fn history_now<R: Files + AllocGlobal + Clock, M: Count, W: Write, E: Write>(
+    job: &Job<'_, R, M>,
+    compared: Compared<'_>,
+    out: &mut W,
+    notes: &mut Notes<'_, E>,
+) -> Result<Printed, Refusal>
+where
+    R::File: SystemFile,
+{
+    let (paths, options) = (&job.source.paths, job.source.options);
+    match open_all(job.rt, paths, options.super_journal, compared.to, notes) {
+        Ok(files) => {
+            let lent = Lent {
+                db: &files.db,
+                wal: &files.wal,
+                journal: &files.journal,
+            };
+            show_history(job.rt.alloc(), lent, options, compared, out)
+        }
         Err(refusal) => Err(refusal),
     }
 }
@@ -88,7 +116,7 @@ fn opened_at<'a, R: Files + AllocGlobal, M, E: Write>(
     notes: &mut Notes<'_, E>,
 ) -> Result<Contents<ReadAhead<OpenedFile<'a, R::File>>>, Refusal>
 where
-    R::File: FileExt,
+    R::File: SystemFile,
 {
     let source = job.source;
     match open_all(

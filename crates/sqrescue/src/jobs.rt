@@ -8,12 +8,11 @@ use crate::commands::{Command, Finding, Wants, find};
 use crate::metered::{Metered, db_metered};
 use crate::opening::{logs_alone, open_all};
 use crate::sources::{Before, Source, before_of, still_as_before, wait_for};
-use sqfacts::{Front, NoteWriter, Notes, Readings, Refusal, unchanged};
+use sqfacts::{Front, NoteWriter, Notes, Readings, Refusal, SystemFile, unchanged};
 use sqopen::{Count, OpenedFile, readings_of};
 use sqshown::{Contents, read_ahead};
 use sqview::{FileBytes, ReadAhead};
 use std::io::{self, Write};
-use std::os::unix::fs::FileExt;
 use std::rt::Files;
 use std::thread;
 use std::time::{Clock, Duration};
@@ -63,7 +62,7 @@ fn if_still<T: Drop>(still: Result<(), Refusal>, answer: Result<T, Refusal>) -> 
 
 impl<'a, R: Files + AllocGlobal + Clock, M: Count> Job<'a, R, M>
 where
-    R::File: FileExt,
+    R::File: SystemFile,
 {
     /// What a command finds of files that don't change meanwhile. Where they were changed so shortly before that a
     /// further change might be dated like it, damage is looked for again once any change is dated later, of which no

@@ -3,10 +3,9 @@ ghost use Rattle.std.specs.Prelude.{◌≡◌, ◌≤◌, IfOk};
 ghost use Rattle.sqrescue.specs.Locking.{refusal_of};
 
 use crate::program::{self, Under};
-use sqfacts::Refusal;
+use sqfacts::{Refusal, SystemFile};
 use sqheld::{Todo, Why, prepared};
 use std::io::{self, IsTerminal, Write};
-use std::os::unix::fs::FileExt;
 use std::rt::Files;
 use std::time::Clock;
 
@@ -31,7 +30,7 @@ pub(crate) fn answered<R: Files + AllocGlobal + Clock, O: Write, E: Write + IsTe
     err: &mut E,
 ) -> io::Result<u8>
 where
-    R::File: FileExt,
+    R::File: SystemFile,
     ensures { IfOk result (λ status. status ≤ 3) }
 {
     match prepared(rt, words)? {

@@ -23,10 +23,11 @@ mod recovering;
 mod reports;
 mod rows;
 mod sources;
+mod unread;
 
+use sqfacts::SystemFile;
 use std::env::{self, Env};
 use std::io::{self, IsTerminal, Write};
-use std::os::unix::fs::FileExt;
 use std::process::ExitCode;
 use std::rt::Files;
 use std::time::Clock;
@@ -38,7 +39,7 @@ fn answer<R: Env + Files + AllocGlobal + Clock, O: Write, E: Write + IsTerminal>
     err: &mut E,
 ) -> io::Result<u8>
 where
-    R::File: FileExt,
+    R::File: SystemFile,
     ensures { IfOk result (λ status. status ≤ 3) }
 {
     let alloc = rt.alloc();
@@ -55,7 +56,7 @@ fn main(rt: HostRuntime) -> ExitCode {
     let mut err = rt.stderr();
     let status = match answer(&rt, &mut out, &mut err) {
         Ok(status) => status,
-        Err(error) => program::unread(&mut err, &error),
+        Err(error) => unread::unread(&rt, &mut err, &error),
     };
     ExitCode::from(status)
 }

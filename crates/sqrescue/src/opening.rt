@@ -2,7 +2,7 @@
 ghost use Rattle.std.specs.Prelude.{IfErr};
 ghost use Rattle.sqopen.specs.Refusals.{IsFromSystem};
 
-use sqfacts::{Notes, Refusal};
+use sqfacts::{Notes, Refusal, SystemFile};
 use sqopen::{
     Beheld, Beside, OpenedFile, Paths, counting_log, look_at, open_database, open_logs, tell_alone,
     tell_length,
@@ -12,7 +12,6 @@ use sqview::LogInUse;
 use sqwords::SuperJournal;
 use std::fs::Metadata;
 use std::io::Write;
-use std::os::unix::fs::FileExt;
 use std::rt::Files;
 
 /// What the system says of a database file, and the opened files, of which each may be missing.
@@ -35,7 +34,7 @@ fn as_asked<F: Drop>(
 }
 
 /// Says where a database file that no log counts beside isn't as long as its header says.
-fn tell_by_log<F: FileExt, E: Write>(
+fn tell_by_log<F: SystemFile, E: Write>(
     paths: &Paths,
     files: &mut Contents<OpenedFile<'_, F>>,
     notes: &mut Notes<'_, E>,
@@ -57,7 +56,7 @@ pub(crate) fn open_seen<'a, R: Files, E: Write>(
     notes: &mut Notes<'_, E>,
 ) -> Result<Seen<'a, R::File>, Refusal>
 where
-    R::File: FileExt,
+    R::File: SystemFile,
 {
     let Beside {
         found: Beheld { db: found, .. },
@@ -83,7 +82,7 @@ pub(crate) fn open_all<'a, R: Files, E: Write>(
     notes: &mut Notes<'_, E>,
 ) -> Result<Contents<OpenedFile<'a, R::File>>, Refusal>
 where
-    R::File: FileExt,
+    R::File: SystemFile,
 {
     match open_seen(rt, paths, super_journal, at, notes) {
         Ok((_, files)) => Ok(files),
@@ -100,7 +99,7 @@ pub(crate) fn logs_alone<'a, R: Files, E: Write>(
     notes: &mut Notes<'_, E>,
 ) -> Result<Contents<OpenedFile<'a, R::File>>, Refusal>
 where
-    R::File: FileExt,
+    R::File: SystemFile,
     ensures refused { IfErr result IsFromSystem }
 {
     tell_seen(rt, paths, notes);

@@ -3,7 +3,7 @@ ghost use Rattle.std.specs.Prelude.{◌≡◌, IfErr, IfOk};
 
 use crate::answers::Answer;
 use crate::jobs::Job;
-use sqfacts::{Notes, Quoted, Refusal};
+use sqfacts::{Notes, Quoted, Refusal, SystemFile};
 use sqopen::{NewFile, discard_file, end_file, folder_identity, is_log_of, remove};
 use sqshown::ShowError;
 use std::io::Write;
@@ -33,6 +33,8 @@ pub(crate) fn named<R: Files, M, E: Write>(
     written: Result<(), Refusal>,
     notes: &mut Notes<'_, E>,
 ) -> Result<(), Refusal>
+where
+    R::File: SystemFile,
     ensures { IfErr written (λ refusal. result ≡ written) }
 {
     match written {

@@ -14,14 +14,13 @@ use crate::reports::report_to;
 use crate::sources::{Source, Watch, alone, source_of};
 use sqcommands::{LineError, request};
 use sqdump::Wanted;
-use sqfacts::{NoteWriter, Notes, Refusal, Status};
+use sqfacts::{NoteWriter, Notes, Refusal, Status, SystemFile};
 use sqheld::Locks;
 use sqopen::Progress;
 use sqshown::{ShowError, asked_of};
 use sqwords::{Compared, Options, Part, Request, Style};
 use std::fmt::Display;
 use std::io::{self, IsTerminal, Write};
-use std::os::unix::fs::FileExt;
 use std::rt::Files;
 use std::time::Clock;
 
@@ -47,7 +46,7 @@ pub(crate) fn run<R: Files + AllocGlobal + Clock, O: Write, E: Write + IsTermina
     err: &mut E,
 ) -> u8
 where
-    R::File: FileExt,
+    R::File: SystemFile,
     ensures { result ≤ 3 }
 {
     let ended = match request(rt.alloc(), words) {
@@ -91,7 +90,7 @@ fn noted<R: Files + AllocGlobal + Clock, O: Write, E: Write + IsTerminal>(
     err: &mut E,
 ) -> Result<Answer, ShowError>
 where
-    R::File: FileExt,
+    R::File: SystemFile,
 {
     let options = options_of(&request);
     let is_read = err.is_terminal();
@@ -117,7 +116,8 @@ fn options_of(request: &Request<'_>) -> Option<Options> {
         | Request::Rows { options, .. }
         | Request::Diff { options, .. }
         | Request::Recover { options, .. }
-        | Request::Report { options, .. } => Some(*options),
+        | Request::Report { options, .. }
+        | Request::Salvage { options, .. } => Some(*options),
         Request::Version => None,
     }
 }
@@ -146,7 +146,10 @@ enum Reading<'a> {
     Diff(Compared<'a>),
     /// A file of this name is made.
     Copy(&'a str),
-    Report(&'a str),
+    /// changes: with the rows that each commit changed.
+    Report { to: &'a str, changes: bool },
+    /// places: with the page and the cell of each row.
+    Salvage { to: &'a str, places: bool },
 }
 
 impl Reading<'_> {
@@ -165,7 +168,7 @@ fn read_from<R: Files + AllocGlobal + Clock, O: Write, E: Write>(
     notes: &mut Notes<'_, E>,
 ) -> Result<Answer, ShowError>
 where
-    R::File: FileExt,
+    R::File: SystemFile,
 {
     let meter = Progress::new(rt, notes.again(), source.options);
     let job = Job {
@@ -184,7 +187,8 @@ where
         Reading::Rows(wanted) => Command::Rows(wanted),
         Reading::Diff(compared) => return print_diff(&job, compared, out, notes),
         Reading::Copy(to) => return recover_to(&job, to, out, notes),
-        Reading::Report(to) => return report_to(&job, to, out, notes),
+        Reading::Report { to, .. } => return report_to(&job, to, out, notes),
+        Reading::Salvage { .. } => return Err(ShowError::Refused(Refusal::FileFailed)),
     };
     answered(&job, &command, out, notes)
 }
@@ -207,7 +211,7 @@ fn read_once<R: Files + AllocGlobal + Clock, O: Write, E: Write>(
     notes: &mut Notes<'_, E>,
 ) -> Result<Answer, ShowError>
 where
-    R::File: FileExt,
+    R::File: SystemFile,
 {
     let reading = asked.reading;
     let of = (asked.file, asked.options);
@@ -229,7 +233,7 @@ fn read_under<R: Files + AllocGlobal + Clock, O: Write, E: Write>(
     notes: &mut Notes<'_, E>,
 ) -> Result<Answer, ShowError>
 where
-    R::File: FileExt,
+    R::File: SystemFile,
 {
     let (locks, wait) = under;
     let until = Until::new(rt, wait);
@@ -276,7 +280,18 @@ fn reading_of<'a>(request: Request<'a>) -> Option<Asked<'a>> {
             options,
             ..
         } => (Reading::Copy(to), file, options),
-        Request::Report { file, to, options } => (Reading::Report(to), file, options),
+        Request::Report {
+            file,
+            to,
+            changes,
+            options,
+        } => (Reading::Report { to, changes }, file, options),
+        Request::Salvage {
+            file,
+            to,
+            places,
+            options,
+        } => (Reading::Salvage { to, places }, file, options),
         Request::Recover { to: None, .. } | Request::Version => return None,
     };
     Some(Asked {
@@ -294,7 +309,7 @@ fn carried_out<R: Files + AllocGlobal + Clock, O: Write, E: Write>(
     notes: &mut Notes<'_, E>,
 ) -> Result<Answer, ShowError>
 where
-    R::File: FileExt,
+    R::File: SystemFile,
 {
     tell_locks(under.0, notes);
     if let Some(asked) = reading_of(request) {
@@ -330,35 +345,20 @@ fn written<W: Write>(writer: &mut W, text: &str) -> io::Result<()> {
     writer.flush()
 }
 
-/// The status where the words can't be read: 3 for want of memory, 2 where they aren't text.
-pub(crate) fn unread<E: Write>(err: &mut E, error: &io::Error) -> u8
-    ensures { result ≤ 3 }
-{
-    let status = match error.kind() {
-        io::ErrorKind::OutOfMemory => refused(err, &LineError::NoMemory),
-        _ => printed(
-            err,
-            &"sqrescue: the words aren't text",
-            Status::NotUnderstood,
-        ),
-    };
-    status.code()
-}
-
 fn line<W: Write, T: Display>(writer: &mut W, text: &T) -> io::Result<()> {
     writeln!(writer, "{text}")?;
     writer.flush()
 }
 
 /// The status, or that of a refusal where the line can't be written.
-fn printed<W: Write, T: Display>(writer: &mut W, text: &T, status: Status) -> Status {
+pub(crate) fn printed<W: Write, T: Display>(writer: &mut W, text: &T, status: Status) -> Status {
     match line(writer, text) {
         Ok(()) => status,
         Err(_) => Status::Refused,
     }
 }
 
-fn refused<W: Write, T: Display>(err: &mut W, text: &T) -> Status
+pub(crate) fn refused<W: Write, T: Display>(err: &mut W, text: &T) -> Status
     ensures { result ≡ Status.Refused }
 {
     let _ = line(err, &format_args!("sqrescue: {text}"));

@@ -8,7 +8,7 @@ use crate::outcomes::print_outcome;
 use crate::plans::{Recovery, plan_recovery, scan_of};
 use crate::sources::{Source, Watch};
 use rollcore::replay_within;
-use sqfacts::{FileDisk, Guard, Notes, Outcome, Refusal, metadata_of};
+use sqfacts::{FileDisk, Guard, Notes, Outcome, Refusal, SystemFile, metadata_of};
 use sqopen::{
     Beheld, Beside, Count, OpenElsewhere, OpenedFile, Progress, counting_log, open_database,
     open_logs, paths_of, tell_dropped, tell_length, tell_unread, told,
@@ -22,7 +22,6 @@ use std::alloc::Global;
 use std::cell::RefCell;
 use std::fs::{Metadata, OpenFile, OpenOptions};
 use std::io::Write;
-use std::os::unix::fs::FileExt;
 use std::rt::Files;
 use std::time::Clock;
 use walcore::{Folded, fold_within};
@@ -45,7 +44,7 @@ pub(crate) fn recover<R: Files + AllocGlobal + Clock, O: Write, E: Write>(
     notes: &mut Notes<'_, E>,
 ) -> Result<Answer, ShowError>
 where
-    R::File: FileExt,
+    R::File: SystemFile,
 {
     let (file, forced, mut options) = of;
     options.at = None;
@@ -80,7 +79,7 @@ fn recovered<R: Files + AllocGlobal, M: Count, E: Write>(
     notes: &mut Notes<'_, E>,
 ) -> Result<Outcome, Refusal>
 where
-    R::File: FileExt,
+    R::File: SystemFile,
 {
     let unread = RefCell::new(None);
     let guard = OpenElsewhere {
@@ -107,7 +106,7 @@ fn recovered_by<R: Files + AllocGlobal, G: Guard, M: Count, E: Write>(
     notes: &mut Notes<'_, E>,
 ) -> Result<Outcome, Refusal>
 where
-    R::File: FileExt,
+    R::File: SystemFile,
 {
     let (paths, super_journal) = (&job.source.paths, job.source.options.super_journal);
     let Beside {
@@ -130,7 +129,7 @@ fn tell_database<R: Files, M, E: Write>(
     notes: &mut Notes<'_, E>,
 )
 where
-    R::File: FileExt,
+    R::File: SystemFile,
 {
     let paths = &job.source.paths;
     if notes.are_asked() {
@@ -160,7 +159,7 @@ fn carried_out<'a, R: Files + AllocGlobal, G: Guard, M: Count, E: Write>(
     notes: &mut Notes<'_, E>,
 ) -> Result<Outcome, Refusal>
 where
-    R::File: FileExt,
+    R::File: SystemFile,
 {
     let paths = &job.source.paths;
     let (wal, journal) = logs;
@@ -190,7 +189,7 @@ fn plan_opened<'a, R: Files + AllocGlobal, M: Count, E: Write>(
     notes: &mut Notes<'_, E>,
 ) -> Result<Planned<R::File>, Refusal>
 where
-    R::File: FileExt,
+    R::File: SystemFile,
 {
     let (alloc, place, options) = (job.rt.alloc(), &job.source.paths.db, job.source.options);
     let length = match metadata_of(&db) {
@@ -226,7 +225,7 @@ fn carried_out_on<R: Files + AllocGlobal, G: Guard, M, E: Write>(
     notes: &mut Notes<'_, E>,
 ) -> Result<Outcome, Refusal>
 where
-    R::File: FileExt,
+    R::File: SystemFile,
 {
     let Planned {
         db,
@@ -247,7 +246,7 @@ where
 }
 
 /// Replays the journal of a disk. Which call the system refused is told.
-fn replay<F: FileExt + OpenFile + Drop, G: Guard, E: Write>(
+fn replay<F: SystemFile + Drop, G: Guard, E: Write>(
     alloc: Global,
     source: &Source<'_>,
     disk: FileDisk<F, G>,
@@ -270,7 +269,7 @@ fn replay<F: FileExt + OpenFile + Drop, G: Guard, E: Write>(
 
 /// Folds the log of a disk by pages of this size, and says what of it, which has this length, is dropped, if it has a
 /// scan. Which call the system refused is told.
-fn fold<F: FileExt + OpenFile + Drop, G: Guard, E: Write>(
+fn fold<F: SystemFile + Drop, G: Guard, E: Write>(
     alloc: Global,
     source: &Source<'_>,
     disk: FileDisk<F, G>,

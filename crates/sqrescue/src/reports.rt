@@ -5,7 +5,7 @@ use crate::jobs::{Counted, Job};
 use crate::outputs::{judge_name, kept, named};
 use crate::program::VERSION;
 use crate::sources::wait_for;
-use sqfacts::{Front, NoteWriter, Notes, Refusal};
+use sqfacts::{Front, NoteWriter, Notes, Refusal, SystemFile};
 use sqlines::{HEAD, TAIL};
 use sqopen::{Beside, Count, NewFile, begin_file, look_at, open_logs, told};
 use sqshown::{
@@ -17,7 +17,7 @@ use sqwords::Style;
 use std::alloc::Global;
 use std::fs::OpenFile;
 use std::io::{self, BufWriter, Seek, Write};
-use std::os::unix::fs::{FileExt, MetadataExt};
+use std::os::unix::fs::MetadataExt;
 use std::rt::Files;
 use std::thread;
 use std::time::Clock;
@@ -31,7 +31,7 @@ type Facts<'a, F, M> = ReportFacts<Counted<'a, F, M>>;
 /// The log that counts of files as they are now. No note is written of it.
 fn log_now<R: Files + AllocGlobal, M>(job: &Job<'_, R, M>) -> Result<LogFound, Refusal>
 where
-    R::File: FileExt,
+    R::File: SystemFile,
 {
     let (paths, options) = (&job.source.paths, job.source.options);
     let nowhere = NoteWriter::new(io::sink());
@@ -60,7 +60,7 @@ fn facts_now<'a, R: Files + AllocGlobal + Clock, M: Count, E: Write>(
     notes: &mut Notes<'_, E>,
 ) -> Result<Facts<'a, R::File, M>, Refusal>
 where
-    R::File: FileExt,
+    R::File: SystemFile,
 {
     let asked = asked_of(job.source.options);
     let log = log_now(job)?;
@@ -77,7 +77,7 @@ fn settled_facts<'a, R: Files + AllocGlobal + Clock, M: Count, E: Write>(
     notes: &mut Notes<'_, E>,
 ) -> Result<Facts<'a, R::File, M>, Refusal>
 where
-    R::File: FileExt,
+    R::File: SystemFile,
 {
     let before = job.before(false, notes)?;
     thread::sleep(job.rt, wait_for(job.rt, &before));
@@ -149,7 +149,7 @@ pub(crate) fn report_to<R: Files + AllocGlobal + Clock, M: Count, O: Write, E: W
     notes: &mut Notes<'_, E>,
 ) -> Result<Answer, ShowError>
 where
-    R::File: FileExt,
+    R::File: SystemFile,
 {
     let (alloc, source) = (job.rt.alloc(), job.source);
     match settled_facts(job, notes) {
@@ -169,7 +169,7 @@ fn new_page<'a, R: Files + AllocGlobal + Clock, M: Count, E: Write>(
     notes: &mut Notes<'_, E>,
 ) -> Result<NewFile<'a, R::File>, Refusal>
 where
-    R::File: FileExt,
+    R::File: SystemFile,
 {
     judge_name(job, to, notes)?;
     let paths = &job.source.paths;
@@ -188,7 +188,7 @@ fn make_page<R: Files + AllocGlobal + Clock, M: Count, F: FileBytes, E: Write>(
     notes: &mut Notes<'_, E>,
 ) -> Result<(), Refusal>
 where
-    R::File: FileExt,
+    R::File: SystemFile,
 {
     let mut made = new_page(job, to, notes)?;
     let filled = match fill(job.rt.alloc(), &mut made, job.source.file, facts) {

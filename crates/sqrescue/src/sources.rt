@@ -4,14 +4,13 @@ ghost use Rattle.sqopen.specs.Refusals.{IsFromWatch};
 ghost use Rattle.sqrescue.specs.Sources.{AreUndated, AtFile, AtFront, IsFrontUnder, IsReadAt, IsUndated};
 ghost use Rattle.sqrescue.specs.Sources.{StandsYet};
 
-use sqfacts::{Front, Notes, Reading, Readings, Refusal, read_or_zeros, unchanged};
+use sqfacts::{Front, Notes, Reading, Readings, Refusal, SystemFile, read_or_zeros, unchanged};
 use sqheld::{Held, Locks, frames_named};
 use sqlocks::{IndexHead, index_front};
 use sqopen::{Paths, as_before, is_index_live, look_at, paths_of, readings_of, time_to_wait, told};
 use sqwords::Options;
 use std::fs::File;
 use std::io::{self, Write};
-use std::os::unix::fs::FileExt;
 use std::rt::Files;
 use std::thread;
 use std::time::{Clock, Duration};
@@ -48,7 +47,7 @@ pub(crate) struct Source<'a> {
 /// What the header of an index is now.
 fn index_in<R: Files>(rt: &R, path: &str) -> io::Result<[u8; 136]>
 where
-    R::File: FileExt,
+    R::File: SystemFile,
 {
     let mut index = [0u8; 136];
     let file = File::open(rt, path)?;
@@ -59,7 +58,7 @@ where
 /// The front that an index names now, in frames; none where it has no valid header.
 fn front_in<R: Files>(rt: &R, path: &str) -> io::Result<Option<u32>>
 where
-    R::File: FileExt,
+    R::File: SystemFile,
 {
     let index = index_in(rt, path)?;
     Ok(frames_named(&index))
@@ -68,7 +67,7 @@ where
 /// What an index says now; nothing where it can't be read, or has no valid header.
 fn head_in<R: Files>(rt: &R, path: &str) -> Option<IndexHead>
 where
-    R::File: FileExt,
+    R::File: SystemFile,
 {
     let index = index_in(rt, path).ok()?;
     index_front(&index)
@@ -81,7 +80,7 @@ fn front_by_index<R: Files + Clock, E: Write>(
     notes: &mut Notes<'_, E>,
 ) -> Result<u32, Refusal>
 where
-    R::File: FileExt,
+    R::File: SystemFile,
 {
     for _ in 0..LOOKS {
         match front_in(rt, paths.shm.as_str()) {
@@ -96,7 +95,7 @@ where
 /// What the index of a log says that a live connection keeps; nothing where none is known to, or it is being written.
 fn live_head<R: Files>(rt: &R, paths: &Paths) -> Option<IndexHead>
 where
-    R::File: FileExt,
+    R::File: SystemFile,
 {
     if !is_index_live(rt, paths) {
         return None;
@@ -119,7 +118,7 @@ fn stands_yet(before: &IndexHead, now: &Option<IndexHead>) -> bool
 /// Whether a database file's header names the write-ahead log (fileformat2, 1.3.3).
 fn names_log<R: Files>(rt: &R, path: &str) -> io::Result<bool>
 where
-    R::File: FileExt,
+    R::File: SystemFile,
 {
     let mut versions = [0u8; 2];
     let file = File::open(rt, path)?;
@@ -130,7 +129,7 @@ where
 /// Whether a connection that comes might use a write-ahead log.
 fn may_have_log<R: Files>(rt: &R, paths: &Paths) -> bool
 where
-    R::File: FileExt,
+    R::File: SystemFile,
 {
     look_at(rt, paths.wal.as_str()).is_ok() || names_log(rt, paths.db.as_str()).unwrap_or(true)
 }
@@ -143,7 +142,7 @@ fn watch_under<R: Files + Clock, E: Write>(
     notes: &mut Notes<'_, E>,
 ) -> Result<(Watch, Option<u32>), Refusal>
 where
-    R::File: FileExt,
+    R::File: SystemFile,
     ensures { IfOk result (λ found. IsFrontUnder found.0 found.1) }
 {
     match locks {
@@ -179,7 +178,7 @@ pub(crate) fn source_of<'a, R: Files + AllocGlobal + Clock, E: Write>(
     notes: &mut Notes<'_, E>,
 ) -> Result<Source<'a>, Refusal>
 where
-    R::File: FileExt,
+    R::File: SystemFile,
     // Of all but the log alone, what is read is the commit at the front, or the one that is asked for.
     ensures at { only_log ≡ false → IfOk result (λ source. IsReadAt of.entry.1.at source.watch source.options.at) }
 {
@@ -249,7 +248,7 @@ pub(crate) fn before_of<R: Files, E: Write>(
     notes: &mut Notes<'_, E>,
 ) -> Result<Option<Before>, Refusal>
 where
-    R::File: FileExt,
+    R::File: SystemFile,
 {
     match watch {
         Watch::Still => Ok(None),
@@ -294,7 +293,7 @@ fn as_they_were<R: Files, E: Write>(
     notes: &mut Notes<'_, E>,
 ) -> Result<(), Refusal>
 where
-    R::File: FileExt,
+    R::File: SystemFile,
     ensures refused { IfErr result IsFromWatch }
 {
     let after = readings_of(rt, paths, false, notes)?;
@@ -305,7 +304,7 @@ where
 /// Refused where what was read up to the front of an index that said this doesn't stand any more.
 fn as_indexed<R: Files>(rt: &R, paths: &Paths, before: &IndexHead) -> Result<(), Refusal>
 where
-    R::File: FileExt,
+    R::File: SystemFile,
     ensures refused { IfErr result IsFromWatch }
 {
     let now = head_in(rt, paths.shm.as_str());
@@ -335,7 +334,7 @@ pub(crate) fn still_as_before<R: Files, E: Write>(
     notes: &mut Notes<'_, E>,
 ) -> Result<(), Refusal>
 where
-    R::File: FileExt,
+    R::File: SystemFile,
     ensures refused { IfErr result IsFromWatch }
 {
     let (only_logs, front) = of;

@@ -1,2 +1,3 @@
 pub mod CommandLineArguments
 pub mod OptionsOfCommand
+mod TablesNamed

@@ -3,10 +3,10 @@ use Rattle.std.proofs.Common.{◌≡◌, ◌≢◌, ◌⊎◌, inl, inr, ⊎_eli
 use Rattle.std.specs.Prelude.{true, false, Option, None, Some, is_some, codes, nat_eq, slice_get, MatchOption}
 use Rattle.std.specs.Cmp.Lexicographic.{bytes_decides, pointwise}
 use Rattle.std.proofs.lemmas.Option.{none-some}
-use Rattle.sqwords.specs.Line.{AreAmiss, AreNoDiff, AreNoReport, AreNoRows, AreOptions, Asks, AsksAt, AsksBesides, AsksNoPart, AsksNothing}
+use Rattle.sqwords.specs.Line.{AreAmiss, AreNoDiff, AreNoReport, AreNoRows, AreNoSalvage, AreOptions, Asks, AsksAt, AsksBesides, AsksNoPart, AsksNothing}
 use Rattle.sqwords.specs.Line.{AsksText}
 use Rattle.sqwords.specs.Line.{HasNoText, HasText, IsFile, NamesOfLog}
-use Rattle.sqwords.specs.internal.Line.{AskNoDiff, AskNoRows, IsDiff, IsReport, IsRows}
+use Rattle.sqwords.specs.internal.Line.{AskNoDiff, AskNoRows, AskNoSalvage, IsDiff, IsReport, IsRows, IsSalvage}
 use Rattle.sqwords.specs.declared.requests.Options.{Options}
 use Rattle.sqwords.specs.declared.requests.Request.{Request}
 
@@ -71,6 +71,30 @@ pub recover_no_diff : (command : List ℕ) → command ≡ codes "recover" → c
 recover_no_diff command recover diff =
     let e : 114 ≡ 100 = ap (λ (l : List ℕ). get_or l 0 0) (sym recover ∙ diff) in omega (arith, e)
 
+pub show_no_salvage : (command : List ℕ) → command ≡ codes "show" → command ≢ codes "salvage"
+show_no_salvage command show salvage =
+    let e : 104 ≡ 97 = ap (λ (l : List ℕ). get_or l 1 0) (sym show ∙ salvage) in omega (arith, e)
+
+pub report_no_salvage : (command : List ℕ) → command ≡ codes "report" → command ≢ codes "salvage"
+report_no_salvage command report salvage =
+    let e : 114 ≡ 115 = ap (λ (l : List ℕ). get_or l 0 0) (sym report ∙ salvage) in omega (arith, e)
+
+pub rows_no_salvage : (command : List ℕ) → command ≡ codes "rows" → command ≢ codes "salvage"
+rows_no_salvage command rows salvage =
+    let e : 114 ≡ 115 = ap (λ (l : List ℕ). get_or l 0 0) (sym rows ∙ salvage) in omega (arith, e)
+
+pub diff_no_salvage : (command : List ℕ) → command ≡ codes "diff" → command ≢ codes "salvage"
+diff_no_salvage command diff salvage =
+    let e : 100 ≡ 115 = ap (λ (l : List ℕ). get_or l 0 0) (sym diff ∙ salvage) in omega (arith, e)
+
+pub check_no_salvage : (command : List ℕ) → command ≡ codes "check" → command ≢ codes "salvage"
+check_no_salvage command check salvage =
+    let e : 99 ≡ 115 = ap (λ (l : List ℕ). get_or l 0 0) (sym check ∙ salvage) in omega (arith, e)
+
+pub recover_no_salvage : (command : List ℕ) → command ≡ codes "recover" → command ≢ codes "salvage"
+recover_no_salvage command recover salvage =
+    let e : 114 ≡ 115 = ap (λ (l : List ℕ). get_or l 0 0) (sym recover ∙ salvage) in omega (arith, e)
+
 pub report_amiss : (command : List ℕ) (options : List (List ℕ)) → command ≡ codes "report" → AreNoReport options
     → AreAmiss command options
 report_amiss command options is none = (
@@ -79,6 +103,7 @@ report_amiss command options is none = (
   (λ _. none),
   (λ rows. absurd (no_rows command is rows)),
   (λ diff. absurd (report_no_diff command is diff)),
+  (λ salvage. absurd (report_no_salvage command is salvage)),
   (λ show. absurd (not_report command show is)),
 )
 
@@ -90,9 +115,9 @@ pub report_asks : (words : List (List ℕ)) (command : List ℕ) (file : Bor (Li
     → MatchOption r (AsksNothing words command file.now) (Asks words)
 report_asks words command file options o None is second named are besides none =
     λ _ _. (options, are, inr (report_amiss command options is none))
-report_asks words command file options o (Some request) is second named are besides (known, force, (to, text, same)) =
+report_asks words command file options o (Some request) is second named are besides (known, (to, changes, text, told, same)) =
     let P : Request → Type 0 = λ r. Asks words r in
-    subst P (sym same) (second ∙ ap Some is, named, (options, are, known, force, text, besides))
+    subst P (sym same) (second ∙ ap Some is, named, (options, are, known, text, told, besides))
 
 pub rows_amiss : (command : List ℕ) (options : List (List ℕ)) → command ≡ codes "rows" → AreNoRows options
     → AreAmiss command options
@@ -102,6 +127,7 @@ rows_amiss command options is none = (
   (λ report. absurd (no_rows command report is)),
   (λ _. none),
   (λ diff. absurd (rows_no_diff command is diff)),
+  (λ salvage. absurd (rows_no_salvage command is salvage)),
   (λ show. absurd (not_rows command show is)),
 )
 
@@ -133,6 +159,7 @@ diff_amiss command options is none = (
   (λ report. absurd (report_no_diff command report is)),
   (λ rows. absurd (rows_no_diff command rows is)),
   (λ _. none),
+  (λ salvage. absurd (diff_no_salvage command is salvage)),
   (λ show. absurd (not_diff command show is)),
 )
 
@@ -163,6 +190,38 @@ diff_asks words command file options o (Some request) is second named are beside
     let P : Request → Type 0 = λ r. Asks words r in
     subst P (sym same) (second ∙ ap Some is, named, (options, are, known, besides, asks, none, plain))
 
+pub salvage_amiss : (command : List ℕ) (options : List (List ℕ)) → command ≡ codes "salvage" → AreNoSalvage options
+    → AreAmiss command options
+salvage_amiss command options is none = (
+  (λ check. absurd (check_no_salvage command check is)),
+  (λ recover. absurd (recover_no_salvage command recover is)),
+  (λ report. absurd (report_no_salvage command report is)),
+  (λ rows. absurd (rows_no_salvage command rows is)),
+  (λ diff. absurd (diff_no_salvage command diff is)),
+  (λ _. none),
+  (λ show. absurd (show_no_salvage command show is)),
+)
+
+-- the same of the options of `salvage`
+pub salvage_asks : (words : List (List ℕ)) (command : List ℕ) (file : Bor (List ℕ)) (options : List (List ℕ)) (o : Options)
+    (r : Option Request) → command ≡ codes "salvage" → slice_get words 1 ≡ Some command → IsFile words file.now
+    → AreOptions words options → AsksBesides options o
+    → MatchOption r (AskNoSalvage options o) (IsSalvage options file o)
+    → MatchOption r (AsksNothing words command file.now) (Asks words)
+salvage_asks words command file options o None is second named are besides none =
+    λ _ _. (
+      options,
+      are,
+      inr (salvage_amiss command options is (elim none [
+        | inl unknown ↦ inl unknown
+        | inr (inl maps) ↦ inr (inl (besides.pointer_maps.0 maps))
+        | inr (inr to) ↦ inr (inr to)
+      ])),
+    )
+salvage_asks words command file options o (Some request) is second named are besides (known, plain, (to, places, text, told, same)) =
+    let P : Request → Type 0 = λ r. Asks words r in
+    subst P (sym same) (second ∙ ap Some is, named, (options, are, known, besides, text, told, plain))
+
 pub show_amiss : (command : List ℕ) (options : List (List ℕ)) (at : Option ℕ) → command ≡ codes "show" → AsksAt options at
     → AsksNoPart options ⊎ NamesOfLog options at → AreAmiss command options
 show_amiss command options at is asks amiss = (
@@ -171,6 +230,7 @@ show_amiss command options at is asks amiss = (
   (λ report. absurd (not_report command is report)),
   (λ rows. absurd (not_rows command is rows)),
   (λ diff. absurd (not_diff command is diff)),
+  (λ salvage. absurd (show_no_salvage command is salvage)),
   (λ show. ⊎_elim (λ none. inl none) (λ of. inr (at, asks, of)) amiss),
 )
 

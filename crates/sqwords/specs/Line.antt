@@ -1,6 +1,6 @@
 -- What the words of a command line ask for.
-use Rattle.std.specs.Prelude.{◌≡◌, ◌≢◌, ◌⊎◌, ◌↔◌, false, IsTrue, Option, None, Some, ℕ, suc, ◌-◌, ◌^◌, ◌<◌, ◌≤◌}
-use Rattle.std.specs.Prelude.{List, [], ◌++◌, length, take, drop, slice_get, codes, unwrap_or}
+use Rattle.std.specs.Prelude.{◌≡◌, ◌≢◌, ◌⊎◌, ◌↔◌, false, IsTrue, Option, None, Some, ℕ, zero, suc, ◌-◌, ◌^◌, ◌<◌, ◌≤◌}
+use Rattle.std.specs.Prelude.{List, [], ◌∷◌, ◌++◌, length, map, take, drop, slice_get, codes, unwrap_or}
 use Rattle.std.specs.Borrow.{Bor}
 use Rattle.std.specs.List.{Contains}
 use Rattle.std.specs.Str.Parse.{IsNumeral, digits_value, without_leading_plus}
@@ -17,9 +17,9 @@ use Rattle.sqwords.specs.declared.requests.ChangeForm.TheVariants as changes
 use Rattle.sqwords.specs.declared.requests.Compared.{Compared}
 use Rattle.sqwords.specs.declared.requests.Options.{Options}
 use Rattle.sqwords.specs.declared.requests.Request.{Request}
-use Rattle.sqwords.specs.declared.requests.Request.TheVariants.{Show, Check, Rows, Diff, Recover, Report, Version}
+use Rattle.sqwords.specs.declared.requests.Request.TheVariants.{Show, Check, Rows, Diff, Recover, Report, Salvage, Version}
 use Rattle.sqwords.specs.declared.words.Own.{Own}
-use Rattle.sqwords.specs.declared.words.Own.TheVariants.{Checks, Recovers, Prints, Compares}
+use Rattle.sqwords.specs.declared.words.Own.TheVariants.{Checks, Recovers, Reports, Prints, Compares, Salvages}
 
 -- the words behind the command, up to a "--"
 pub record AreOptions (words options : List (List ℕ)) : Type 0 where
@@ -34,6 +34,20 @@ abbrev pub HasText : (name : List ℕ) → (options : List (List ℕ)) → (text
 HasText name options text =
     ((i : ℕ) × (slice_get options i ≡ Some name) × (slice_get options (suc i) ≡ Some text))
     ⊎ Contains options (name ++ (codes "=" ++ text))
+
+-- word i is an option of this name and gives this text
+abbrev pub GivesText : (name : List ℕ) → (options : List (List ℕ)) → (i : ℕ) → (text : List ℕ) → Type 0
+GivesText name options i text =
+    ((slice_get options i ≡ Some name) × (slice_get options (suc i) ≡ Some text))
+    ⊎ (slice_get options i ≡ Some (name ++ (codes "=" ++ text)))
+
+-- the first words, so many, give these texts in their order, by options of this name
+abbrev pub GiveTexts : (name : List ℕ) → (options : List (List ℕ)) → (n : ℕ) → (texts : List (List ℕ)) → Type 0
+GiveTexts name options zero texts = texts ≡ []
+GiveTexts name options (suc n) texts =
+    ((first : List (List ℕ)) × (text : List ℕ) × GiveTexts name options n first × GivesText name options n text
+    × (texts ≡ first ++ text ∷ []))
+    ⊎ (GiveTexts name options n texts × ((text : List ℕ) → ¬ GivesText name options n text))
 
 -- none does
 abbrev pub HasNoText : (name : List ℕ) → (options : List (List ℕ)) → Type 0
@@ -90,12 +104,16 @@ IsCommon word = (word ≡ codes "-v") ⊎ (word ≡ codes "--verbose") ⊎ (word
     ⊎ (word ≡ codes "--pointer-maps") ⊎ (word ≡ codes "--super-journal=present") ⊎ (word ≡ codes "--super-journal=gone")
     ⊎ IsNamed (codes "--at") word
 
--- a word that is an option of this command and not of each: of `check`, of `recover` and `report`, of `rows`, or of `diff`
+-- a word that is an option of this command and not of each: of `check`, `recover`, `report`, `rows`, `diff` or
+-- `salvage`
 abbrev pub IsOwn : Own → (word : List ℕ) → Type 0
 IsOwn Checks word = word ≡ codes "--deep"
 IsOwn Recovers word = (word ≡ codes "--force") ⊎ IsNamed (codes "--to") word
+IsOwn Reports word = (word ≡ codes "--changes") ⊎ IsNamed (codes "--to") word
 IsOwn Prints word = (word ≡ codes "--csv") ⊎ (word ≡ codes "--sql") ⊎ IsNamed (codes "--table") word
-IsOwn Compares word = (word ≡ codes "--sql") ⊎ IsNamed (codes "--table") word ⊎ IsNamed (codes "--from") word ⊎ IsNamed (codes "--to") word
+IsOwn Salvages word = (word ≡ codes "--places") ⊎ IsNamed (codes "--to") word
+IsOwn Compares word = (word ≡ codes "--sql") ⊎ (word ≡ codes "--commits") ⊎ IsNamed (codes "--table") word
+    ⊎ IsNamed (codes "--from") word ⊎ IsNamed (codes "--to") word
 
 -- a word behind such a command that is no option, or one of the command's
 abbrev pub IsKnown : Own → (word : List ℕ) → Type 0
@@ -181,18 +199,19 @@ AsksChangeForm options changes.Lines = (¬ Contains options (codes "--json")) ×
 AsksChangeForm options changes.Json = Contains options (codes "--json") × (¬ Contains options (codes "--sql"))
 AsksChangeForm options changes.Sql = (¬ Contains options (codes "--json")) × Contains options (codes "--sql")
 
--- they ask for two forms
+-- they ask for two forms, or for a script of each commit
 abbrev pub AsksNoChangeForm : (options : List (List ℕ)) → Type 0
-AsksNoChangeForm options = Contains options (codes "--json") × Contains options (codes "--sql")
+AsksNoChangeForm options = Contains options (codes "--sql") × (Contains options (codes "--json") ⊎ Contains options (codes "--commits"))
 
--- between which commits they ask for changes, from 0 where they don't say it, of which table, and how
+-- between which commits they ask for changes, from 0 where they don't say it, of which tables, and how
 pub record AsksCompared (options : List (List ℕ)) (compared : Compared) : Type 0 where
   pub from : (frame : Option ℕ) × AsksFrame (codes "--from") options frame × (compared.from ≡ unwrap_or frame 0)
   pub to : AsksFrame (codes "--to") options compared.to
-  pub table : AsksText (codes "--table") options compared.table
+  pub tables : map (λ w. w.now) compared.tables.options.now ≡ options
   pub form : AsksChangeForm options compared.form
+  pub commits : IsTrue compared.commits ↔ Contains options (codes "--commits")
 
--- they name no frame for one of both commits, or ask for two forms
+-- they name no frame for one of both commits, or ask for no form
 abbrev pub AsksNothingCompared : (options : List (List ℕ)) → Type 0
 AsksNothingCompared options =
     NamesNoFrame (codes "--from") options ⊎ NamesNoFrame (codes "--to") options ⊎ AsksNoChangeForm options
@@ -205,7 +224,11 @@ AreNoDiff options =
 
 -- they can't be a report's: another one is among them, or the file to be made isn't named
 abbrev pub AreNoReport : (options : List (List ℕ)) → Type 0
-AreNoReport options = (¬ AreKnown Recovers options) ⊎ Contains options (codes "--force") ⊎ HasNoText (codes "--to") options
+AreNoReport options = (¬ AreKnown Reports options) ⊎ HasNoText (codes "--to") options
+
+-- they can't be those of `salvage`: another one is among them, or pointer maps, or the file to be made isn't named
+abbrev pub AreNoSalvage : (options : List (List ℕ)) → Type 0
+AreNoSalvage options = (¬ AreKnown Salvages options) ⊎ Contains options (codes "--pointer-maps") ⊎ HasNoText (codes "--to") options
 
 -- a word behind which a value stands
 abbrev pub TakesValue : (word : List ℕ) → Type 0
@@ -232,9 +255,9 @@ abbrev pub AsksVersion : List (List ℕ) → Type 0
 AsksVersion words = (word : List ℕ) × (slice_get words 1 ≡ Some word) × IsVersion word
 
 -- The second word is the command, the file stands behind it, and the options before a "--" say the rest, each exactly where
--- it stands; behind `check`, `rows`, `diff`, `recover` and `report` there are no others. A commit goes with no part of the whole
--- log, with no changes of rows, and with a recovery only where that makes another file, and pointer maps with none and with no
--- rows; a report makes one.
+-- it stands; behind all but `show` there are no others. A commit goes with no part of the whole log, with no changes of rows, and
+-- with a recovery only where that makes another file, and pointer maps with none and with no rows; a report and a salvage make
+-- one.
 abbrev pub Asks : List (List ℕ) → Request → Type 0
 Asks words (Show file part o) =
     (slice_get words 1 ≡ Some (codes "show")) × IsFile words file.now
@@ -256,10 +279,14 @@ Asks words (Recover file to force o) =
     × ((options : List (List ℕ)) × AreOptions words options × AreKnown Recovers options × AsksBesides options o
     × (IsTrue force ↔ Contains options (codes "--force")) × AsksText (codes "--to") options to × (to ≡ None → o.at ≡ None)
     × (o.pointer_maps ≡ false))
-Asks words (Report file to o) =
+Asks words (Report file to changes o) =
     (slice_get words 1 ≡ Some (codes "report")) × IsFile words file.now
-    × ((options : List (List ℕ)) × AreOptions words options × AreKnown Recovers options
-    × (¬ Contains options (codes "--force")) × HasText (codes "--to") options to.now × AsksBesides options o)
+    × ((options : List (List ℕ)) × AreOptions words options × AreKnown Reports options
+    × HasText (codes "--to") options to.now × (IsTrue changes ↔ Contains options (codes "--changes")) × AsksBesides options o)
+Asks words (Salvage file to places o) =
+    (slice_get words 1 ≡ Some (codes "salvage")) × IsFile words file.now
+    × ((options : List (List ℕ)) × AreOptions words options × AreKnown Salvages options × AsksBesides options o
+    × HasText (codes "--to") options to.now × (IsTrue places ↔ Contains options (codes "--places")) × (o.pointer_maps ≡ false))
 Asks words Version = AsksVersion words
 
 -- a commit is named, and they ask for a part that is of the whole log
@@ -268,7 +295,7 @@ NamesOfLog options frame = (frame ≢ None) × (Contains options (codes "--log")
 
 -- what the options of a command can't be: those of `show` ask for no part, or for one that has no commits; those of `check`
 -- and `recover` have another among them; those of `recover` name pointer maps, or a commit and no file to be made; those of
--- `report` have another among them, or name no file to be made; those of `rows` and `diff` as above
+-- `report` have another among them, or name no file to be made; those of `rows`, `diff` and `salvage` as above
 abbrev pub AreAmiss : (command : List ℕ) → (options : List (List ℕ)) → Type 0
 AreAmiss command options =
     (command ≡ codes "check" → ¬ AreKnown Checks options)
@@ -277,6 +304,7 @@ AreAmiss command options =
     × (command ≡ codes "report" → AreNoReport options)
     × (command ≡ codes "rows" → AreNoRows options)
     × (command ≡ codes "diff" → AreNoDiff options)
+    × (command ≡ codes "salvage" → AreNoSalvage options)
     × (command ≡ codes "show" → AsksNoPart options
     ⊎ ((frame : Option ℕ) × AsksAt options frame × NamesOfLog options frame))
 

@@ -2,7 +2,9 @@
 #![tactic(auto)]
 
 mod requests;
+mod tables;
 mod words;
 
 pub use requests::{ChangeForm, Compared, Options, Part, Request, RowForm, Style, SuperJournal};
+pub use tables::Tables;
 pub use words::{asked, asks_version};

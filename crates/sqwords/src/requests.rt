@@ -1,4 +1,5 @@
 //! What a command line asks for.
+use crate::tables::Tables;
 
 /// What of a database file is shown.
 #[derive(Clone, Copy, Debug, PartialEq, Eq)]
@@ -62,9 +63,10 @@ pub struct Compared<'a> {
     pub from: u32,
     /// The commit frame up to which. None: the last one.
     pub to: Option<u32>,
-    /// The name of the table. None: each table.
-    pub table: Option<&'a str>,
+    pub tables: Tables<'a>,
     pub form: ChangeForm,
+    /// Whether each commit behind the first one is compared with the one before it.
+    pub commits: bool,
 }
 
 /// What each command may be asked besides.
@@ -121,10 +123,20 @@ pub enum Request<'a> {
         force: bool,
         options: Options,
     },
-    /// To make another file that reports on this database file, which a browser shows.
+    /// To make another file that reports on this database file, which a browser shows; changes: also on which rows each
+    /// commit of its log changed.
     Report {
         file: &'a str,
         to: &'a str,
+        changes: bool,
+        options: Options,
+    },
+    /// To make another file: SQL that makes what rows can be read of this database file; places: with the page and the
+    /// cell of each.
+    Salvage {
+        file: &'a str,
+        to: &'a str,
+        places: bool,
         options: Options,
     },
     /// To say which version this is.

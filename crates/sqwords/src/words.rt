@@ -6,7 +6,7 @@ ghost use Rattle.sqwords.specs.Line.{AreKnown, AreNoReport, AreOptions, Asks, As
 ghost use Rattle.sqwords.specs.Line.{AsksNoPart};
 ghost use Rattle.sqwords.specs.Line.{AsksForm, AsksNoForm, IsOwn};
 ghost use Rattle.sqwords.specs.Line.{AsksChangeForm, AsksCompared, AsksFrame, AsksNoChangeForm, AsksNothingCompared};
-ghost use Rattle.sqwords.specs.internal.Line.{AskNoDiff, AskNoRows, IsDiff, IsReport, IsRows};
+ghost use Rattle.sqwords.specs.internal.Line.{AskNoDiff, AskNoRows, AskNoSalvage, IsDiff, IsReport, IsRows, IsSalvage};
 ghost use Rattle.sqwords.specs.declared.words.Own.{Own};
 ghost use Rattle.sqwords.specs.Line.{AsksNoneBesides, AsksNothing, AsksOf, AsksPart, AsksStyle, AsksVersion};
 ghost use Rattle.sqwords.specs.Line.{HasNoText, HasText, IsCommon, IsFile, IsKnown};
@@ -15,6 +15,7 @@ ghost use Rattle.sqwords.specs.Line.{IsPlain, MayBeAt, NamesNoFrame, NamesOfLog,
 ghost use Rattle.sqwords.specs.Line.{IsPageNumber, IsVersion};
 
 use crate::requests::{ChangeForm, Compared, Options, Part, Request, RowForm, Style, SuperJournal};
+use crate::tables::Tables;
 
 /// Whether a word is this text.
 fn stands_in(words: &[&str], text: &str) -> bool
@@ -49,7 +50,7 @@ fn is_plain(word: &str) -> bool
 }
 
 /// What stands behind this name and a `=` in a word.
-fn joined_text<'a>(word: &'a str, name: &str) -> Option<&'a str>
+pub(crate) fn joined_text<'a>(word: &'a str, name: &str) -> Option<&'a str>
     ensures { MatchOption result ((text : List ℕ) → word.entry.now ≢ name.now ++ (codes "=" ++ text))
         (λ text. word.entry.now ≡ name.now ++ (codes "=" ++ text.now)) }
 {
@@ -85,12 +86,16 @@ fn is_common(word: &str) -> bool
 pub(crate) enum Own {
     /// `check`.
     Checks,
-    /// `recover` and `report`.
+    /// `recover`.
     Recovers,
+    /// `report`.
+    Reports,
     /// `rows`.
     Prints,
     /// `diff`.
     Compares,
+    /// `salvage`.
+    Salvages,
 }
 
 /// Whether a word is an option of a command, and not of each.
@@ -101,9 +106,12 @@ fn is_own(word: &str, own: Own) -> bool
     match own {
         Own::Checks => word == "--deep",
         Own::Recovers => word == "--force" || is_named(word, "--to"),
+        Own::Reports => word == "--changes" || is_named(word, "--to"),
         Own::Prints => word == "--csv" || word == "--sql" || is_named(word, "--table"),
+        Own::Salvages => word == "--places" || is_named(word, "--to"),
         Own::Compares => {
             word == "--sql"
+                || word == "--commits"
                 || is_named(word, "--table")
                 || is_named(word, "--from")
                 || is_named(word, "--to")
@@ -371,11 +379,17 @@ fn report_asked<'a>(given: &'a [&'a str], file: &'a str, options: Options) -> Op
     ensures { MatchOption result (AreNoReport (map (λ w. w.now) given.entry.now))
         (IsReport (map (λ w. w.now) given.entry.now) file.entry options) }
 {
-    if stands_in(given, "--force") || !are_known(given, Own::Recovers) {
+    if !are_known(given, Own::Reports) {
         return None;
     }
     let to = text_of(given, "--to")?;
-    Some(Request::Report { file, to, options })
+    let changes = stands_in(given, "--changes");
+    Some(Request::Report {
+        file,
+        to,
+        changes,
+        options,
+    })
 }
 
 /// The form of rows that they ask for. None where they ask for two.
@@ -419,22 +433,26 @@ fn rows_asked<'a>(given: &'a [&'a str], file: &'a str, options: Options) -> Opti
     })
 }
 
-/// The form of changes that they ask for. None where they ask for two.
+/// The form of changes that they ask for. None where they ask for two, or for a script of each commit.
 fn change_form_of(options: &[&str]) -> Option<ChangeForm>
     ensures { MatchOption result (AsksNoChangeForm (map (λ w. w.now) options.entry.now))
         (AsksChangeForm (map (λ w. w.now) options.entry.now)) }
 {
     let json = stands_in(options, "--json");
-    let sql = stands_in(options, "--sql");
-    match (json, sql) {
-        (true, true) => None,
-        (true, false) => Some(ChangeForm::Json),
-        (false, true) => Some(ChangeForm::Sql),
-        (false, false) => Some(ChangeForm::Lines),
+    if !stands_in(options, "--sql") {
+        return Some(if json {
+            ChangeForm::Json
+        } else {
+            ChangeForm::Lines
+        });
     }
+    if json || stands_in(options, "--commits") {
+        return None;
+    }
+    Some(ChangeForm::Sql)
 }
 
-/// What they ask to be compared. None where they name no frame for a commit, or ask for two forms.
+/// What they ask to be compared. None where they name no frame for a commit, or ask for no form.
 fn compared_of<'a>(given: &'a [&'a str]) -> Option<Compared<'a>>
     ensures { MatchOption result (AsksNothingCompared (map (λ w. w.now) given.entry.now))
         (AsksCompared (map (λ w. w.now) given.entry.now)) }
@@ -442,12 +460,13 @@ fn compared_of<'a>(given: &'a [&'a str]) -> Option<Compared<'a>>
     let from = commit_of(given, "--from")?;
     let to = commit_of(given, "--to")?;
     let form = change_form_of(given)?;
-    let table = text_of(given, "--table");
+    let commits = stands_in(given, "--commits");
     Some(Compared {
         from: from.unwrap_or(0),
         to,
-        table,
+        tables: Tables { options: given },
         form,
+        commits,
     })
 }
 
@@ -466,6 +485,24 @@ fn diff_asked<'a>(given: &'a [&'a str], file: &'a str, options: Options) -> Opti
     Some(Request::Diff {
         file,
         compared,
+        options,
+    })
+}
+
+/// What the options of `salvage` ask for. None where they don't say so.
+fn salvage_asked<'a>(given: &'a [&'a str], file: &'a str, options: Options) -> Option<Request<'a>>
+    ensures { MatchOption result (AskNoSalvage (map (λ w. w.now) given.entry.now) options)
+        (IsSalvage (map (λ w. w.now) given.entry.now) file.entry options) }
+{
+    if options.pointer_maps || !are_known(given, Own::Salvages) {
+        return None;
+    }
+    let to = text_of(given, "--to")?;
+    let places = stands_in(given, "--places");
+    Some(Request::Salvage {
+        file,
+        to,
+        places,
         options,
     })
 }
@@ -514,6 +551,9 @@ pub fn asked<'a>(words: &'a [&'a str], command: &str, file: &'a str) -> Option<R
             deep,
             options,
         });
+    }
+    if command == "salvage" {
+        return salvage_asked(given, file, options);
     }
     if command != "recover" || !may_recover(given, options) {
         return None;

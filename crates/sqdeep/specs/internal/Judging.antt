@@ -41,6 +41,10 @@ RecordRefused encoding bytes NotRecord = (values : List Datum) → ¬ IsRecord v
 RecordRefused encoding bytes TextForm = (values : List Datum) × IsRecord values bytes × ¬ Every (IsFormed encoding) values
 RecordRefused encoding bytes _ = ⊥
 
+-- What is told of the payload of cell i of its page.
+abbrev pub PayloadTells : Encoding → Cell → (i : ℕ) → (bytes : List ℕ) → DeepError → Type 0
+PayloadTells encoding cell i bytes e = (fault : InnerFault) × (e ≡ Inner (record { fault = fault; page = cell.page; cell = Some i })) × RecordRefused encoding bytes fault
+
 -- A cell in a page of at most so many bytes.
 pub record IsWithinPage (size : ℕ) (cell : Cell) : Type 0 where
   pub least : 480 ≤ cell.usable

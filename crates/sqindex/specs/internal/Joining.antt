@@ -4,7 +4,8 @@ use Rattle.std.specs.List.{All}
 use Rattle.sqval.specs.Database.{Database}
 use Rattle.sqval.specs.Record.{most_bytes}
 use Rattle.sqkeys.specs.declared.key.IndexKey.{IndexKey}
-use Rattle.sqindex.specs.declared.order.Numbered.{Numbered}
+use Rattle.sqindex.specs.declared.entries.Held.{Held}
+use Rattle.sqindex.specs.declared.entries.Entries.{Entries}
 use Rattle.sqindex.specs.declared.join.Join.{Join}
 use Rattle.sqrows.specs.declared.cells.Cells.{Cells}
 use Rattle.sqindex.specs.declared.fault.IndexFault.{IndexFault}
@@ -18,7 +19,8 @@ use Rattle.sqindex.specs.Stored.{Stored}
 use Rattle.sqindex.specs.Keys.{rowid_of, IsEntryOf}
 use Rattle.sqindex.specs.Rules.{Rise, HasKeyedRows, Match}
 use Rattle.sqindex.specs.Indexes.{HasNoEntry, HasNoRow, ReadRefused, NoRows}
-use Rattle.sqindex.specs.internal.Judging.{numbered_in, IsNumbered, IsOrdered}
+use Rattle.sqindex.specs.internal.Held.{entry_in, held_by}
+use Rattle.sqindex.specs.internal.Judging.{AreByRowid}
 use Rattle.sqindex.specs.internal.Reading.{AreTaken}
 
 -- x stands in this cell
@@ -27,53 +29,53 @@ IsIn page cell x = (x.page ≡ page) × (x.cell ≡ cell)
 
 -- What is wrong with a row beside the entry that comes next by rowid: that isn't the row's, and none before a row of its
 -- rowid; or it comes before the row.
-abbrev pub RowRefused : IndexKey → List Stored → List Numbered → (at : ℕ) → (row : Stored) → IndexFault → (page cell : ℕ) → Type 0
-RowRefused key xs ps at row faults.RowWithoutEntry page cell =
-    IsIn page cell row × ((p : Numbered) → slice_get ps at ≡ Some p → (¬ IsEntryOf key row (numbered_in xs p)) × (rowid_of row ≤ℤ p.rowid))
-RowRefused key xs ps at row faults.EntryOfNoRow page cell =
-    (p : Numbered) × (slice_get ps at ≡ Some p) × IsIn page cell (numbered_in xs p) × (p.rowid <ℤ rowid_of row)
-RowRefused key xs ps at row _ page cell = ⊥
+abbrev pub RowRefused : IndexKey → Entries → (at : ℕ) → (row : Stored) → IndexFault → (page cell : ℕ) → Type 0
+RowRefused key entries at row faults.RowWithoutEntry page cell =
+    IsIn page cell row × ((p : Held) → slice_get entries.list.items at ≡ Some p → (¬ IsEntryOf key row (entry_in entries p)) × (rowid_of row ≤ℤ p.rowid))
+RowRefused key entries at row faults.EntryOfNoRow page cell =
+    (p : Held) × (slice_get entries.list.items at ≡ Some p) × IsIn page cell (entry_in entries p) × (p.rowid <ℤ rowid_of row)
+RowRefused key entries at row _ page cell = ⊥
 
 -- The entry that comes next is the row's, or that is wrong.
-abbrev pub JudgesRow : IndexKey → List Stored → List Numbered → (at : ℕ) → (row : Stored) → Option EntryError → Type 0
-JudgesRow key xs ps at row None = (p : Numbered) × (slice_get ps at ≡ Some p) × IsEntryOf key row (numbered_in xs p)
-JudgesRow key xs ps at row (Some e) = RowRefused key xs ps at row e.fault e.page e.cell
+abbrev pub JudgesRow : IndexKey → Entries → (at : ℕ) → (row : Stored) → Option EntryError → Type 0
+JudgesRow key entries at row None = (p : Held) × (slice_get entries.list.items at ≡ Some p) × IsEntryOf key row (entry_in entries p)
+JudgesRow key entries at row (Some e) = RowRefused key entries at row e.fault e.page e.cell
 
 -- The entries by rowid are those of these rows, as far as both go.
-abbrev pub PairUp : IndexKey → List Stored → List Numbered → (rows : List Stored) → Type 0
-PairUp key xs ps rows = (j : ℕ) (row : Stored) (p : Numbered) → slice_get rows j ≡ Some row → slice_get ps j ≡ Some p → IsEntryOf key row (numbered_in xs p)
+abbrev pub PairUp : IndexKey → Entries → (rows : List Stored) → Type 0
+PairUp key entries rows = (j : ℕ) (row : Stored) (p : Held) → slice_get rows j ≡ Some row → slice_get entries.list.items j ≡ Some p → IsEntryOf key row (entry_in entries p)
 
 -- the last of these rows has a rowid above this one
 abbrev pub IsPassed : (rows : List Stored) → (rowid : ℤ) → Type 0
 IsPassed rows rowid = (h : ℕ) × (a : Stored) × (length rows ≡ h + 1) × (slice_get rows h ≡ Some a) × (rowid <ℤ rowid_of a)
 
 -- A fault of these rows, whatever rows come behind.
-abbrev pub RowsRefused : IndexKey → List Stored → (rows : List Stored) → IndexFault → (page cell : ℕ) → Type 0
-RowsRefused key xs rows faults.RowWithoutEntry page cell = (i : ℕ) × (x : Stored) × (slice_get rows i ≡ Some x) × IsIn page cell x × HasNoEntry key xs x
-RowsRefused key xs rows faults.EntryOfNoRow page cell =
-    (p : Numbered) × IsNumbered key xs p × IsIn page cell (numbered_in xs p) × HasNoRow key rows (numbered_in xs p) × IsPassed rows p.rowid
-RowsRefused key xs rows _ page cell = ⊥
+abbrev pub RowsRefused : IndexKey → Entries → (rows : List Stored) → IndexFault → (page cell : ℕ) → Type 0
+RowsRefused key entries rows faults.RowWithoutEntry page cell = (i : ℕ) × (x : Stored) × (slice_get rows i ≡ Some x) × IsIn page cell x × HasNoEntry key (held_by entries) x
+RowsRefused key entries rows faults.EntryOfNoRow page cell =
+    (at : ℕ) × (p : Held) × (slice_get entries.list.items at ≡ Some p) × IsIn page cell (entry_in entries p) × HasNoRow key rows (entry_in entries p) × IsPassed rows p.rowid
+RowsRefused key entries rows _ page cell = ⊥
 
 -- Each of these rows has its entry among the first ones by rowid, or the first fault was found.
-abbrev pub JoinedAs : IndexKey → List Stored → List Numbered → (rows : List Stored) → (at : ℕ) → Option EntryError → Type 0
-JoinedAs key xs ps rows at None = (length rows ≡ at) × (at ≤ length ps) × PairUp key xs ps rows
-JoinedAs key xs ps rows at (Some e) = RowsRefused key xs rows e.fault e.page e.cell
+abbrev pub JoinedAs : IndexKey → Entries → (rows : List Stored) → (at : ℕ) → Option EntryError → Type 0
+JoinedAs key entries rows at None = (length rows ≡ at) × (at ≤ length entries.list.items) × PairUp key entries rows
+JoinedAs key entries rows at (Some e) = RowsRefused key entries rows e.fault e.page e.cell
 
-abbrev pub IsJoined : IndexKey → List Stored → List Numbered → (rows : List Stored) → Join → Type 0
-IsJoined key xs ps rows join = JoinedAs key xs ps rows join.at join.fault
+abbrev pub IsJoined : IndexKey → Entries → (rows : List Stored) → Join → Type 0
+IsJoined key entries rows join = JoinedAs key entries rows join.at join.fault
 
 -- It was so before a row, and is so with it.
-abbrev pub Sees : IndexKey → List Stored → List Numbered → (rows : List Stored) → (old : Join) → (row : Stored) → (new : Join) → Type 0
-Sees key xs ps rows old row new = IsOrdered key xs ps → Rise (rows ++ row ∷ []) → IsJoined key xs ps rows old → IsJoined key xs ps (rows ++ row ∷ []) new
+abbrev pub Sees : IndexKey → Entries → (rows : List Stored) → (old : Join) → (row : Stored) → (new : Join) → Type 0
+Sees key entries rows old row new = AreByRowid key entries → Rise (rows ++ row ∷ []) → IsJoined key entries rows old → IsJoined key entries (rows ++ row ∷ []) new
 
 -- What is told behind the last row.
-abbrev pub EndRefused : List Stored → List Numbered → Join → IndexError → Type 0
-EndRefused xs ps join (errors.Entry e) = (join.fault ≡ Some e)
-    ⊎ ((join.fault ≡ None) × (e.fault ≡ faults.EntryOfNoRow) × (p : Numbered) × (slice_get ps join.at ≡ Some p) × IsIn e.page e.cell (numbered_in xs p))
-EndRefused xs ps join _ = ⊥
+abbrev pub EndRefused : Entries → Join → IndexError → Type 0
+EndRefused entries join (errors.Entry e) = (join.fault ≡ Some e)
+    ⊎ ((join.fault ≡ None) × (e.fault ≡ faults.EntryOfNoRow) × (p : Held) × (slice_get entries.list.items join.at ≡ Some p) × IsIn e.page e.cell (entry_in entries p))
+EndRefused entries join _ = ⊥
 
-abbrev pub EndTells : List Stored → List Numbered → Join → Result (Unit {0}) IndexError → Type 0
-EndTells xs ps join result = MatchResult result (λ _. (join.fault ≡ None) × (length ps ≤ join.at)) (EndRefused xs ps join)
+abbrev pub EndTells : Entries → Join → Result (Unit {0}) IndexError → Type 0
+EndTells entries join result = MatchResult result (λ _. (join.fault ≡ None) × (length entries.list.items ≤ join.at)) (EndRefused entries join)
 
 -- The rowid is this one, above that of the row before.
 abbrev pub IsAbove : (last rowid : Option ℤ) → Option ℤ → Type 0

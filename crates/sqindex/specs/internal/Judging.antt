@@ -1,5 +1,5 @@
 -- Words of the functions that judge the entries of an index (own). No public contract cites them.
-use Rattle.std.specs.Prelude.{◌≡◌, ◌≢◌, ◌<◌, ◌+◌, ℕ, true, List, map, length, slice_get, slice_index_or, Some, None, ℤ, ◌<ℤ◌}
+use Rattle.std.specs.Prelude.{◌≡◌, ◌≢◌, ◌<◌, ◌+◌, ℕ, true, List, length, slice_get, slice_index_or, Some, None, ℤ, ◌<ℤ◌}
 use Rattle.std.specs.List.{All}
 use Rattle.std.specs.List.Sorted.{IsPermutation, IsSortedByKey}
 use Rattle.std.specs.Ordering.{int_cmp}
@@ -8,7 +8,8 @@ use Rattle.sqval.specs.Database.{Database}
 use Rattle.sqlite_value.specs.Keys.{entry_cmp}
 use Rattle.sqlite_value.specs.Order.{Row}
 use Rattle.sqkeys.specs.declared.key.IndexKey.{IndexKey}
-use Rattle.sqindex.specs.declared.order.Numbered.{Numbered}
+use Rattle.sqindex.specs.declared.entries.Held.{Held}
+use Rattle.sqindex.specs.declared.entries.Entries.{Entries}
 use Rattle.sqindex.specs.declared.fault.IndexFault.{IndexFault}
 use Rattle.sqindex.specs.declared.fault.IndexFault.TheVariants as faults
 use Rattle.sqindex.specs.declared.error.ReadError.TheVariants.{OtherKind, NoMemory}
@@ -19,7 +20,7 @@ use Rattle.sqindex.specs.Stored.{Stored}
 use Rattle.sqindex.specs.Keys.{values_of, IsKeyed}
 use Rattle.sqindex.specs.Rules.{width, IsSameKey, AreFormed, Ascend, AreApart, HasEntries}
 use Rattle.sqindex.specs.Indexes.{EntryRefused, ReadRefused, NoEntries, memory_of}
-use Rattle.sqindex.specs.internal.Held.{nothing}
+use Rattle.sqindex.specs.internal.Held.{nothing, entry_in, held_by}
 
 -- Why the entries aren't read.
 abbrev pub EntriesRefused : Database → (index limit : ℕ) → IndexError → Type 0
@@ -54,9 +55,9 @@ pub record IsSoundAt (key : IndexKey) (xs : List Stored) (i : ℕ) (rowid : ℤ)
   pub keyed : IsKeyed (width key) rowid (values_of (at_place xs i))
   pub behind : (h : ℕ) → i ≡ h + 1 → IsBehind key (values_of (at_place xs h)) (values_of (at_place xs i))
 
--- These are the entries' rowids, one after another, and each of the entries is sound.
-abbrev pub AreJudged : IndexKey → (xs : List Stored) → List Numbered → Type 0
-AreJudged key xs ps = (i : ℕ) (p : Numbered) → slice_get ps i ≡ Some p → (p.number ≡ i) × IsSoundAt key xs i p.rowid
+-- The first of them, so many, hold their rowids, and are sound.
+abbrev pub AreJudged : IndexKey → (xs : List Stored) → List Held → (many : ℕ) → Type 0
+AreJudged key xs ps many = (i : ℕ) (p : Held) → i < many → slice_get ps i ≡ Some p → IsSoundAt key xs i p.rowid
 
 -- The rules that the entries of an index follow by themselves.
 pub record AreSoundEntries (key : IndexKey) (xs : List Stored) : Type 0 where
@@ -65,29 +66,28 @@ pub record AreSoundEntries (key : IndexKey) (xs : List Stored) : Type 0 where
   pub apart : key.unique ≡ true → AreApart key.order (width key) xs
 
 -- The rowids rise.
-abbrev pub RowidsRise : List Numbered → Type 0
-RowidsRise ps = (i : ℕ) (p q : Numbered) → slice_get ps i ≡ Some p → slice_get ps (i + 1) ≡ Some q → p.rowid <ℤ q.rowid
+abbrev pub RowidsRise : List Held → Type 0
+RowidsRise ps = (i : ℕ) (p q : Held) → slice_get ps i ≡ Some p → slice_get ps (i + 1) ≡ Some q → p.rowid <ℤ q.rowid
 
 -- Where they don't fall, two next to each other are the same.
-abbrev pub IsTie : List Numbered → (i : ℕ) → Type 0
-IsTie ps i = (i + 1 < length ps) × (IsSortedByKey (λ (p : Numbered). p.rowid) int_cmp ps
-    → (p q : Numbered) → slice_get ps i ≡ Some p → slice_get ps (i + 1) ≡ Some q → p.rowid ≡ q.rowid)
+abbrev pub IsTie : List Held → (i : ℕ) → Type 0
+IsTie ps i = (i + 1 < length ps) × (IsSortedByKey (λ (p : Held). p.rowid) int_cmp ps
+    → (p q : Held) → slice_get ps i ≡ Some p → slice_get ps (i + 1) ≡ Some q → p.rowid ≡ q.rowid)
 
--- the entry of a number
-abbrev pub numbered_in : List Stored → Numbered → Stored
-numbered_in xs p = at_place xs p.number
+-- It holds the rowid that its entry ends with.
+abbrev pub IsNumbered : IndexKey → Entries → Held → Type 0
+IsNumbered key entries p = IsKeyed (width key) p.rowid (values_of (entry_in entries p))
 
--- An entry with its rowid.
-pub record IsNumbered (key : IndexKey) (xs : List Stored) (p : Numbered) : Type 0 where
-  pub within : p.number < length xs
-  pub keyed : IsKeyed (width key) p.rowid (values_of (numbered_in xs p))
+-- These are by rowid.
+pub record AreByRowid (key : IndexKey) (entries : Entries) : Type 0 where
+  pub each : All (IsNumbered key entries) entries.list.items
+  pub rise : RowidsRise entries.list.items
 
 -- The entries are sound by themselves, and these are all of them by rowid.
-pub record IsOrdered (key : IndexKey) (xs : List Stored) (ps : List Numbered) : Type 0 where
+pub record IsOrdered (key : IndexKey) (xs : List Stored) (entries : Entries) : Type 0 where
   pub sound : AreSoundEntries key xs
-  pub same : IsPermutation (map (numbered_in xs) ps) xs
-  pub each : All (IsNumbered key xs) ps
-  pub rise : RowidsRise ps
+  pub same : IsPermutation (held_by entries) xs
+  pub by_rowid : AreByRowid key entries
 
 -- Why they aren't sound: memory ran out, or a fault stands at an entry.
 abbrev pub JudgeRefused : IndexKey → (xs : List Stored) → IndexError → Type 0

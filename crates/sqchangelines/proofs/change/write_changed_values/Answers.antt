@@ -4,7 +4,6 @@ use Rattle.sqval.specs.Datum.{Datum, row_of}
 use Rattle.sqrows.specs.Rows.{Row}
 use Rattle.sqtables.specs.Columns.{shown}
 use Rattle.sqchangelines.specs.declared.style.Writing.{Writing}
-use Rattle.sqchangelines.specs.declared.style.Writing.TheVariants.{Line, Object, Removal, Arrival}
 use Rattle.sqchangelines.specs.Changes.{IsArrival, IsChangedText, names_of, removal_text}
 use Rattle.sqchangelines.specs.internal.Steps.{IsChangedObject}
 use Rattle.sqchangelines.proofs.Answered.{behind, on_ok}

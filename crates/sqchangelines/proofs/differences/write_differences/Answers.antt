@@ -1,4 +1,4 @@
-use Rattle.std.proofs.Common.{◌≡◌, ◌∙◌, max, length, ap, ◌++◌, ◌+◌, ◌-◌, ℕ, suc, List, [], false, refl, sym, subst, add-one, append_assoc, append-nil, arith}
+use Rattle.std.proofs.Common.{◌≡◌, ◌∙◌, max, length, ap, ◌++◌, ◌+◌, ◌-◌, ℕ, suc, [], false, refl, sym, subst, add-one, append_assoc, append-nil, arith}
 use Rattle.std.proofs.KnownBytes.{Appends-trans}
 use Rattle.sqrows.specs.Rows.{Row}
 use Rattle.sqchangelines.specs.Changes.{AreDifferences, column_count}

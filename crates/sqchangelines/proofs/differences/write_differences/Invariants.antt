@@ -1,6 +1,5 @@
 use Rattle.std.proofs.Common.{List, ℕ, ◌++◌, ◌-◌, false}
 use Rattle.std.specs.Io.KnownBytes.{Appends}
-use Rattle.sqrows.specs.Rows.{Row}
 use Rattle.sqchangelines.specs.Changes.{AreDifferences}
 use Rattle.sqchangelines.proofs.differences.write_differences.Given as goal
 

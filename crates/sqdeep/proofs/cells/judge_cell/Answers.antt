@@ -1,11 +1,11 @@
 use Rattle.std.proofs.Common.{◌≡◌, ◌∙◌, ◌++◌, ◌≤◌, unwrap_or, sym, ap, subst, rules, arith}
-use Rattle.std.specs.Prelude.{IsSome}
+use Rattle.std.specs.Prelude.{IsSome, IfErr}
 use Rattle.sqval.specs.Database.{Database}
 use Rattle.sqval.specs.Record.{most_bytes}
 use Rattle.sqpage.specs.Chain.{IsPayload, payload_size}
 use Rattle.sqcheck.proofs.checks.RowsOfSchema.{is_no_memory}
-use Rattle.sqdeep.specs.internal.Judging.{CellTells, RecordRefused}
-use Rattle.sqdeep.proofs.CellsOfPage.{record_told}
+use Rattle.sqdeep.specs.internal.Judging.{PayloadTells}
+use Rattle.sqdeep.proofs.CellsOfPage.{payload_told}
 use Rattle.sqdeep.proofs.cells.judge_cell.Goals as goal
 
 pub returns-in-Err-clause-err : goal.returns-in-Err-clause-err
@@ -16,8 +16,17 @@ returns-in-Err-clause-err g c = λ right bytes is.
       (λ read given. err.0 read (from.still_given given)),
     )
 
-pub returns-in-Err-judge_record-clause-err : goal.returns-in-Err-judge_record-clause-err
-returns-in-Err-judge_record-clause-err g c = λ right bytes is.
+pub returns-in-Some-whole_of-clause-err : goal.returns-in-Some-whole_of-clause-err
+returns-in-Some-whole_of-clause-err g c = λ right bytes is.
+    let d = g.V.Snapshot.pages in
+    let cell = c.args.cell.now in
+    let some : IsSome cell.payload = search rules in
+    let size : payload_size cell ≡ c.in-Some.size = ap (λ o. unwrap_or o 0) c.in-Some.is in
+    let short : payload_size cell ≤ most_bytes = omega (arith, size, c.if-size.false) in
+    payload_told g.V.Snapshot.given c.args.encoding d cell c.args.i c.in-Some-whole_of.bytes.now c.judge_payload.result (c.in-Some-whole_of.ensures d) some short c.judge_payload.ensures.err
+
+pub returns-in-Ok-clause-err : goal.returns-in-Ok-clause-err
+returns-in-Ok-clause-err g c = λ right bytes is.
     let d = g.V.Snapshot.pages in
     let from = c.requires.same in
     let cell = c.args.cell.now in
@@ -27,5 +36,5 @@ returns-in-Err-judge_record-clause-err g c = λ right bytes is.
     let some : IsSome cell.payload = search rules in
     let size : payload_size cell ≡ c.in-Some.size = ap (λ o. unwrap_or o 0) c.in-Some.is in
     let short : payload_size cell ≤ most_bytes = omega (arith, size, c.if-size.false) in
-    subst (CellTells g.V.Snapshot.given c.args.encoding d cell c.args.i) (sym c.at_cell-in-Err-judge_record.ensures)
-    (record_told g.V.Snapshot.given c.args.encoding d cell c.args.i ok.0 c.in-Err-judge_record.fault has some short (subst (λ b. RecordRefused c.args.encoding b c.in-Err-judge_record.fault) whole c.in-Err-judge_record.ensures.err))
+    payload_told g.V.Snapshot.given c.args.encoding d cell c.args.i ok.0 c.judge_payload-in-Ok.result has some short
+    (subst (λ b. IfErr c.judge_payload-in-Ok.result (PayloadTells c.args.encoding cell c.args.i b)) whole c.judge_payload-in-Ok.ensures.err)

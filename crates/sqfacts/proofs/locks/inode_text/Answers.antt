@@ -1,4 +1,3 @@
-use Rattle.std.proofs.Common.{◌≡◌}
 use Rattle.std.proofs.lemmas.Fmt.{contents_after_writes}
 use Rattle.sqfacts.proofs.locks.inode_text.Goals as goal
 

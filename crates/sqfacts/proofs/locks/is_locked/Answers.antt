@@ -1,4 +1,4 @@
-use Rattle.std.proofs.Common.{◌≡◌, [], rules, tests}
+use Rattle.std.proofs.Common.{[], rules, tests}
 use Rattle.std.specs.Str.Lines.{lines}
 use Rattle.std.proofs.lemmas.Iterator.{cases_from_any}
 use Rattle.std.proofs.lemmas.Iterator.Splits.{YieldsList-from_lines}

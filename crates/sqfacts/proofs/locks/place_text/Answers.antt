@@ -1,4 +1,3 @@
-use Rattle.std.proofs.Common.{◌≡◌, Some}
 use Rattle.sqfacts.specs.Locks.{place_text}
 use Rattle.sqfacts.proofs.TextsOfLockLines.{holds_text}
 use Rattle.sqfacts.proofs.locks.place_text.Goals as goal

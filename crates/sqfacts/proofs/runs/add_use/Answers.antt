@@ -1,5 +1,4 @@
-use Rattle.std.proofs.Common.{◌≡◌, ◌++◌, ◌∷◌, [], length, arith}
-use Rattle.sqfacts.specs.Runs.{expanded}
+use Rattle.std.proofs.Common.{◌≡◌, length, arith}
 use Rattle.sqfacts.proofs.ExpansionOfRuns.{longer_run}
 use Rattle.sqfacts.proofs.runs.add_use.Goals as goal
 

@@ -3,8 +3,7 @@ use Rattle.sqpage.specs.Source.{KeepsPages}
 use Rattle.sqval.specs.Record.{most_bytes}
 use Rattle.sqrows.specs.Cursor.{IsOver}
 use Rattle.sqindex.specs.Stored.{Stored}
-use Rattle.sqindex.specs.internal.Held.{held_by}
-use Rattle.sqindex.specs.internal.Judging.{IsOrdered}
+use Rattle.sqindex.specs.internal.Judging.{AreByRowid}
 use Rattle.sqindex.specs.internal.Joining.{AreSeen, IsJoined}
 use Rattle.sqindex.proofs.join.match_rows.Given as goal
 
@@ -14,6 +13,6 @@ invariant-turns g l = record {
   sized : l.walk.cells.size ≡ g.S.PageSource.size l.fn.source;
   limited : l.walk.limit ≡ most_bytes;
   over : g.S.PageSource.gives_pages l.fn.source → IsOver (g.S.PageSource.pages l.fn.source) l.walk.cells;
-  seen : g.S.PageSource.gives_pages l.fn.source → IsOrdered l.key (held_by l.entries) l.numbered
-      → (rows : List Stored) × AreSeen (g.S.PageSource.pages l.fn.source) l.table l.walk.cells l.last rows × IsJoined l.key (held_by l.entries) l.numbered rows l.join;
+  seen : g.S.PageSource.gives_pages l.fn.source → AreByRowid l.key l.entries
+      → (rows : List Stored) × AreSeen (g.S.PageSource.pages l.fn.source) l.table l.walk.cells l.last rows × IsJoined l.key l.entries rows l.join;
 }

@@ -2,7 +2,7 @@ use Rattle.std.proofs.Common.{◌≡◌, ◌<◌, ◌≤◌, ◌+◌, ◌-◌, �
 use Rattle.std.proofs.lemmas.Bool.{cases_lt}
 use Rattle.std.proofs.lemmas.Int.{ints, to_z-of_z}
 use Rattle.std.proofs.lemmas.Option.{slice_get_within}
-use Rattle.sqindex.specs.declared.order.Numbered.{Numbered}
+use Rattle.sqindex.specs.declared.entries.Held.{Held}
 use Rattle.sqindex.proofs.EntriesJudged.{tie_of}
 use Rattle.sqindex.proofs.order.first_tie.Goals as goal
 
@@ -21,8 +21,8 @@ returns-then-before-entry c =
     let fits' : FitsSigned w64 c.rowid_at-entry.result = search rules in
     let h = c.if-before-entry.true in
     let below : c.rowid_at-entry.result ≤ℤ c.rowid_at-before.result = le_of c.rowid_at-entry.result c.rowid_at-before.result fits' fits h in
-    tie_of c.args.numbered.now (c.pairs.i - 1) c.rowid_at-before.result c.rowid_at-entry.result (omega (arith, same, high)) c.rowid_at-before.ensures
-    (subst (λ (n : ℕ). (p : Numbered) → slice_get c.args.numbered.now n ≡ Some p → c.rowid_at-entry.result ≡ p.rowid) (sym same) c.rowid_at-entry.ensures) below
+    tie_of c.args.list.now (c.pairs.i - 1) c.rowid_at-before.result c.rowid_at-entry.result (omega (arith, same, high)) c.rowid_at-before.ensures
+    (subst (λ (n : ℕ). (p : Held) → slice_get c.args.list.now n ≡ Some p → c.rowid_at-entry.result ≡ p.rowid) (sym same) c.rowid_at-entry.ensures) below
 
 pub pairs-preserved : goal.pairs-preserved
 pairs-preserved c = λ j p q less at next.
@@ -32,8 +32,8 @@ pairs-preserved c = λ j p q less at next.
     (λ (here : c.pairs.i ≤ j + 1).
     let second : j + 1 ≡ c.pairs.i = omega (arith, less, here) in
     let first : j ≡ c.pairs.i - 1 = omega (arith, second) in
-    let a : c.rowid_at-before.result ≡ p.rowid = c.rowid_at-before.ensures p (subst (λ (n : ℕ). slice_get c.args.numbered.now n ≡ Some p) first at) in
-    let b : c.rowid_at-entry.result ≡ q.rowid = c.rowid_at-entry.ensures q (subst (λ (n : ℕ). slice_get c.args.numbered.now n ≡ Some q) second next) in
+    let a : c.rowid_at-before.result ≡ p.rowid = c.rowid_at-before.ensures p (subst (λ (n : ℕ). slice_get c.args.list.now n ≡ Some p) first at) in
+    let b : c.rowid_at-entry.result ≡ q.rowid = c.rowid_at-entry.ensures q (subst (λ (n : ℕ). slice_get c.args.list.now n ≡ Some q) second next) in
     let fits : FitsSigned w64 c.rowid_at-before.result = search rules in
     let fits' : FitsSigned w64 c.rowid_at-entry.result = search rules in
     let up : c.rowid_at-before.result <ℤ c.rowid_at-entry.result = lt_of c.rowid_at-entry.result c.rowid_at-before.result fits' fits c.if-before-entry.false in
@@ -42,6 +42,6 @@ pairs-preserved c = λ j p q less at next.
 
 pub returns : goal.returns
 returns c = λ i p q at next.
-    let within = slice_get_within c.args.numbered.now (i + 1) q next in
+    let within = slice_get_within c.args.list.now (i + 1) q next in
     let end = c.pairs-test.false in
     c.pairs.invariant i p q (omega (arith, within, end)) at next

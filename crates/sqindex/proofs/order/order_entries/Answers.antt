@@ -1,44 +1,44 @@
-use Rattle.std.proofs.Common.{◌<◌, ◌+◌, ◌∙◌, List, length, get_or, Some, sym, ap, subst, arith}
-use Rattle.std.proofs.lemmas.Option.{slice_get-get_or}
-use Rattle.sqindex.specs.declared.order.Numbered.{Numbered}
+use Rattle.std.proofs.Common.{◌+◌, ◌∙◌, List, [], get_or, pos, sym, ap, subst, arith}
+use Rattle.std.proofs.lemmas.Option.{slice_get-get_or, get_or_from_slice_get}
+use Rattle.sqindex.specs.declared.entries.Held.{Held}
+use Rattle.sqindex.specs.Stored.{Stored}
 use Rattle.sqindex.specs.Indexes.{EntryRefused}
-use Rattle.sqindex.specs.internal.Held.{held_by}
-use Rattle.sqindex.specs.internal.Judging.{RowidsRise, IsTie, numbered_in}
+use Rattle.sqindex.specs.internal.Held.{held_by, entry_in, held_in, nothing}
+use Rattle.sqindex.specs.internal.Judging.{RowidsRise, IsTie}
 use Rattle.sqindex.proofs.EntriesJudged.{sound_entries, sorted_entries, tied}
+use Rattle.sqindex.proofs.Places.{map_get}
 use Rattle.sqindex.proofs.order.order_entries.Goals as goal
-
-pub fault-requires : goal.fault-requires
-fault-requires c =
-    let xs = held_by c.args.entries.now in
-    let j = c.in_ok-numbered.ensures.ok in
-    let all = (sorted_entries c.args.key.now xs c.in_ok-numbered.numbered.items j.0 j.1 c.sort.new.numbered.items c.in-Ok.ensures.same).0 in
-    let within = subst (λ (z : List Numbered). c.in-Some.i + 1 < length z) c.deref.ensures.value c.in-Some.ensures.0 in
-    let one = all (c.in-Some.i + 1) c.index.result.now within in
-    subst (λ (p : Numbered). p.number < length xs) (sym c.index.ensures) one.within
-
-pub returns-in-Some-clause-err : goal.returns-in-Some-clause-err
-returns-in-Some-clause-err c =
-    let xs = held_by c.args.entries.now in
-    let ps = c.sort.new.numbered.items in
-    let j = c.in_ok-numbered.ensures.ok in
-    let moved = sorted_entries c.args.key.now xs c.in_ok-numbered.numbered.items j.0 j.1 ps c.in-Ok.ensures.same in
-    let i = c.in-Some.i in
-    let q = c.index.result.now in
-    let tie = subst (λ (z : List Numbered). IsTie z i) c.deref.ensures.value c.in-Some.ensures in
-    let second = slice_get-get_or ps (i + 1) q tie.0 ∙ ap (λ z. Some z) (sym c.index.ensures) in
-    let p = get_or ps i q in
-    let first = slice_get-get_or ps i q (omega (arith, tie.0)) in
-    let t = tied c.args.key.now xs ps i p q moved.0 moved.1 first second (tie.1 c.in-Ok.ensures.sorted p q first second) in
-    (q.number, numbered_in xs q, t.0, c.fault.ensures.page, c.fault.ensures.cell, subst (EntryRefused c.args.key.now xs q.number (numbered_in xs q)) (sym c.fault.ensures.is) t.1)
 
 pub returns-in-None-clause-ok : goal.returns-in-None-clause-ok
 returns-in-None-clause-ok c =
+    let key = c.args.key.now in
     let xs = held_by c.args.entries.now in
-    let j = c.in_ok-numbered.ensures.ok in
-    let moved = sorted_entries c.args.key.now xs c.in_ok-numbered.numbered.items j.0 j.1 c.sort.new.numbered.items c.in-Ok.ensures.same in
+    let old = c.judge_entries.new.entries in
+    let new = c.sort.new.self in
+    let j = c.in_ok-judge_entries.ensures in
+    let moved = sorted_entries key xs old j.same j.ok new c.in-Ok.ensures.bytes c.in-Ok.ensures.same in
     record {
-      sound = sound_entries c.args.key.now xs c.in_ok-numbered.numbered.items j.0 j.1;
+      sound = sound_entries key xs old j.same j.ok;
       same = moved.1;
-      each = moved.0;
-      rise = subst RowidsRise c.deref.ensures.value c.in-None.ensures;
+      by_rowid = record { each = moved.0; rise = subst RowidsRise c.deref.ensures.value c.in-None.ensures };
     }
+
+pub returns-in-Some-clause-err : goal.returns-in-Some-clause-err
+returns-in-Some-clause-err c =
+    let key = c.args.key.now in
+    let xs = held_by c.args.entries.now in
+    let old = c.judge_entries.new.entries in
+    let new = c.sort.new.self in
+    let j = c.in_ok-judge_entries.ensures in
+    let moved = sorted_entries key xs old j.same j.ok new c.in-Ok.ensures.bytes c.in-Ok.ensures.same in
+    let ps = new.list.items in
+    let i = c.in-Some.i in
+    let none : Held = record { rowid = pos 0; start = 0; size = 0; page = 0; cell = 0; body = [] } in
+    let tie = subst (λ (z : List Held). IsTie z i) c.deref.ensures.value c.in-Some.ensures in
+    let p = get_or ps i none in
+    let q = get_or ps (i + 1) none in
+    let first = slice_get-get_or ps i none (omega (arith, tie.0)) in
+    let second = slice_get-get_or ps (i + 1) none tie.0 in
+    let t = tied key xs new i p q moved.0 moved.1 first second (tie.1 c.in-Ok.ensures.sorted p q first second) in
+    let is = get_or_from_slice_get (held_by new) (i + 1) (entry_in new q) nothing (map_get (held_in new.bytes.items) ps (i + 1) q second) in
+    (t.0, entry_in new q, t.1, sym (ap (λ (z : Stored). z.page) is) ∙ c.fault.ensures.page, sym (ap (λ (z : Stored). z.cell) is) ∙ c.fault.ensures.cell, subst (EntryRefused key xs t.0 (entry_in new q)) (sym c.fault.ensures.is) t.2)

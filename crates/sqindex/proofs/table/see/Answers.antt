@@ -11,5 +11,5 @@ returns-in-Some c = λ rows w. scanned_fault c.args.rules.now rows (stored_of c.
 
 pub returns-in-None : goal.returns-in-None
 returns-in-None c = λ rows w.
-    scanned_next c.args.rules.now rows (stored_of c.args.found c.args.row.now) c.is_clear.result c.args.scan.clear
-    (scanned_kept c.args.rules.now rows c.args.scan.fault c.args.scan.clear (sym c.is_some.ensures ∙ c.if-is_some.false) w) c.in-None.ensures c.is_clear.ensures
+    scanned_next c.args.rules.now rows (stored_of c.args.found c.args.row.now) c.clear_in.result c.args.scan.clear
+    (scanned_kept c.args.rules.now rows c.args.scan.fault c.args.scan.clear (sym c.is_some.ensures ∙ c.if-is_some.false) w) c.in-None.ensures c.clear_in.ensures

@@ -2,7 +2,7 @@ use Rattle.std.proofs.Common.{◌∙◌, ap, map, refl, sym, inl, inr, true, fal
 use Rattle.std.specs.Prelude.{Some}
 use Rattle.std.specs.Cmp.Lexicographic.{bytes_decides}
 use Rattle.sqwords.proofs.CommandLineArguments.{agree, differ, told}
-use Rattle.sqwords.proofs.OptionsOfCommand.{others, diff_asks, report_asks, rows_asks, show_amiss, at_named, at_none, asks_to, no_to, some_to}
+use Rattle.sqwords.proofs.OptionsOfCommand.{others, diff_asks, report_asks, rows_asks, salvage_asks, show_amiss, at_named, at_none, asks_to, no_to, some_to}
 use Rattle.sqwords.proofs.words.asked.Goals as goal
 use Rattle.sqwords.proofs.words.asked.Goals.{else-eq-5-via-then-eq-5+else-are_known, else-eq-5-via-else-eq-5}
 use Rattle.sqwords.proofs.words.asked.Goals.{then-ne-via-then-ne, then-ne-via-else-ne+then-not-may_recover}
@@ -50,6 +50,15 @@ returns-then-eq-4 c = diff_asks (map (λ w. w.now) c.args.words.now) c.args.comm
     c.in_ok-options.ensures
     c.diff_asked.ensures
 
+pub returns-then-eq-6 : goal.returns-then-eq-6
+returns-then-eq-6 c = salvage_asks (map (λ w. w.now) c.args.words.now) c.args.command.now _ (map (λ w. w.now) c.options_of-given.result.now) _ _
+    ((bytes_decides _ _).0 (sym c.if-eq-6.ensures))
+    (c.if-not-is_asked.ensures.second refl)
+    (c.if-not-is_asked.ensures.file refl)
+    c.options_of-given.ensures
+    c.in_ok-options.ensures
+    c.salvage_asked.ensures
+
 pub returns-then-are_known : goal.returns-then-are_known
 returns-then-are_known c = (
   c.if-not-is_asked.ensures.second refl ∙ ap Some ((bytes_decides _ _).0 (sym c.if-eq-5.ensures)),
@@ -83,6 +92,7 @@ returns-then-ne c = λ _ _.
         (λ is. absurd (others _ _ c.if-eq-2.ensures is)),
         (λ is. absurd (others _ _ c.if-eq-3.ensures is)),
         (λ is. absurd (others _ _ c.if-eq-4.ensures is)),
+        (λ is. absurd (others _ _ c.if-eq-6.ensures is)),
         (λ is. absurd (others _ _ c.if-eq.ensures is)),
       ),
     )
@@ -104,6 +114,7 @@ returns-then-is_some c = λ _ _.
         (λ is. absurd (others _ _ c.if-eq-2.ensures is)),
         (λ is. absurd (others _ _ c.if-eq-3.ensures is)),
         (λ is. absurd (others _ _ c.if-eq-4.ensures is)),
+        (λ is. absurd (others _ _ c.if-eq-6.ensures is)),
         (λ is. absurd (others _ _ c.if-eq.ensures is)),
       ),
     )

@@ -1,0 +1,156 @@
+-- Images that are drawn one after the other, and judged once.
+use Rattle.std.proofs.Common.{◌≡◌, ℕ, zero, suc, ◌+◌, Bool, true, false, cond, nat_eq, Option, List, [], ◌∷◌, ◌++◌, length, refl, sym, ◌∙◌, ap, append_assoc, length-append, arith}
+use Rattle.std.specs.Prelude.{not, ◌||◌}
+use Rattle.std.specs.List.{All, filter}
+use Rattle.std.proofs.lemmas.Bool.Decides.{nat_tests}
+use Rattle.std.proofs.lemmas.List.{map-append, append-nil}
+use Rattle.std.proofs.lemmas.List.Elements.{All-append, filter-append}
+use Rattle.std.proofs.lemmas.List.Folds.{list_any-append}
+use Rattle.std.proofs.lemmas.List.Sums.{fold-append}
+use Rattle.sqstore.specs.Left.{MayLeave}
+use Rattle.sqstore.specs.Stores.{StoreState}
+use Rattle.sqcrash_store.specs.Keys.{key_of}
+use Rattle.sqcrash_store.specs.Surveys.{Judging, Judged, IsJudged, firsts, with_images, line_of, lines_from}
+use Rattle.sqcrash_store.specs.Tallies.{with_image}
+use Rattle.sqcrash_store.specs.internal.Surveys.{IsSurveyed, has_key}
+use Rattle.sqcrash_store.specs.declared.lines.Place.{Place}
+use Rattle.sqcrash_store.specs.declared.tally.Tally.{Tally}
+use Rattle.sqcrash_store.specs.declared.verdict.Answer.{Answer}
+
+same_key : (a b : ℕ) → nat_eq a b ≡ nat_eq b a
+same_key a b = grind (arith, nat_tests)
+
+key_is : (a b : ℕ) → nat_eq a b ≡ true → a ≡ b
+key_is a b e = grind (arith, nat_tests)
+
+-- an image isn't of this key
+abbrev other : (key : ℕ) → List (Option (List ℕ)) → Bool
+other key y = not (nat_eq key (key_of y))
+
+other_has : (key k : ℕ) (y : List (Option (List ℕ))) (images : List (List (Option (List ℕ)))) (b : Bool) → nat_eq key (key_of y) ≡ b → nat_eq key k ≡ false
+    → has_key k (filter (other key) images) ≡ has_key k images
+    → has_key k (cond (not (nat_eq key (key_of y))) (y ∷ filter (other key) images) (filter (other key) images)) ≡ (nat_eq k (key_of y) || has_key k images)
+other_has key k y images true e differs rest =
+    let is : key ≡ key_of y = key_is key (key_of y) e in
+    let none : nat_eq k (key_of y) ≡ false = ap (λ (q : ℕ). nat_eq k q) (sym is) ∙ same_key k key ∙ differs in
+    ap (λ (b : Bool). has_key k (cond (not b) (y ∷ filter (other key) images) (filter (other key) images))) e
+    ∙ rest
+    ∙ ap (λ (b : Bool). b || has_key k images) (sym none)
+other_has key k y images false e differs rest =
+    ap (λ (b : Bool). has_key k (cond (not b) (y ∷ filter (other key) images) (filter (other key) images))) e
+    ∙ ap (λ (b : Bool). nat_eq k (key_of y) || b) rest
+
+-- leaving images of one key out leaves those of another
+others_have : (key k : ℕ) (images : List (List (Option (List ℕ)))) → nat_eq key k ≡ false → has_key k (filter (other key) images) ≡ has_key k images
+others_have key k [] differs = refl
+others_have key k (y ∷ images) differs = other_has key k y images (nat_eq key (key_of y)) refl differs (others_have key k images differs)
+
+-- an image is one of these more, where none of them has its key
+abbrev if_new : (seen : Bool) → List (Option (List ℕ)) → List (List (Option (List ℕ)))
+if_new seen x = cond seen [] (x ∷ [])
+
+-- the same of those that aren't of a key
+others_more : (a x : List (Option (List ℕ))) (images : List (List (Option (List ℕ))))
+    → filter (other (key_of a)) (if_new (has_key (key_of x) images) x) ≡ if_new (nat_eq (key_of x) (key_of a) || has_key (key_of x) (filter (other (key_of a)) images)) x
+others_more a x images = by_test (nat_eq (key_of a) (key_of x)) (has_key (key_of x) images) refl refl
+  where
+    by_test : (b seen : Bool) → nat_eq (key_of a) (key_of x) ≡ b → has_key (key_of x) images ≡ seen
+        → filter (other (key_of a)) (if_new (has_key (key_of x) images) x) ≡ if_new (nat_eq (key_of x) (key_of a) || has_key (key_of x) (filter (other (key_of a)) images)) x
+    by_test true true e s =
+        let flip : nat_eq (key_of x) (key_of a) ≡ true = same_key (key_of x) (key_of a) ∙ e in
+        rw (s, flip) refl
+    by_test true false e s =
+        let flip : nat_eq (key_of x) (key_of a) ≡ true = same_key (key_of x) (key_of a) ∙ e in
+        rw (s, flip) (rw e refl)
+    by_test false true e s =
+        let flip : nat_eq (key_of x) (key_of a) ≡ false = same_key (key_of x) (key_of a) ∙ e in
+        let same = others_have (key_of a) (key_of x) images e ∙ s in
+        rw (s, flip, same) refl
+    by_test false false e s =
+        let flip : nat_eq (key_of x) (key_of a) ≡ false = same_key (key_of x) (key_of a) ∙ e in
+        let same = others_have (key_of a) (key_of x) images e ∙ s in
+        rw (s, flip, same) (rw e refl)
+
+-- of one more the first is that of its key, or it isn't
+pub firsts_more : (images : List (List (Option (List ℕ)))) (x : List (Option (List ℕ))) → firsts (images ++ x ∷ []) ≡ firsts images ++ if_new (has_key (key_of x) (firsts images)) x
+firsts_more [] x = refl
+firsts_more (a ∷ images) x =
+    let test = other (key_of a) in
+    let r = if_new (has_key (key_of x) (firsts images)) x in
+    ap (λ (l : List (List (Option (List ℕ)))). a ∷ filter test l) (firsts_more images x)
+    ∙ ap (λ (l : List (List (Option (List ℕ)))). a ∷ l) (filter-append test (firsts images) r)
+    ∙ ap (λ (l : List (List (Option (List ℕ)))). a ∷ (filter test (firsts images) ++ l)) (others_more a x (firsts images))
+
+-- the lines of one more
+pub lines_more : (at : Place) (judged : List Judged) (x : Judged) → lines_from at (judged ++ x ∷ []) ≡ lines_from at judged ++ line_of (record at { image = at.image + length judged }) x
+lines_more at [] x = append-nil (line_of at x) ∙ ap (λ (n : ℕ). line_of (record at { image = n }) x) (omega arith)
+lines_more at (first ∷ judged) x =
+    let next : Place = record at { image = at.image + 1 } in
+    ap (λ (l : List ℕ). line_of at first ++ l) (lines_more next judged x)
+    ∙ sym (append_assoc (line_of at first) (lines_from next judged) (line_of (record at { image = at.image + 1 + length judged }) x))
+    ∙ ap (λ (n : ℕ). (line_of at first ++ lines_from next judged) ++ line_of (record at { image = n }) x) (omega arith)
+
+-- and its count
+pub images_more : (t : Tally) (judged : List Judged) (x : Judged) → with_images t (judged ++ x ∷ []) ≡ with_image (with_images t judged) x.verdict
+images_more t judged x = fold-append (λ (s : Tally) (y : Judged). with_image s y.verdict) t judged (x ∷ [])
+
+-- what holds of one holds of all of it alone, and anything of all of none
+all_one : {X : Type 0} (P : X → Type 0) (x : X) → P x → All P (x ∷ [])
+all_one P x is zero d below = is
+all_one P x is (suc k) d below = absurd (omega arith)
+
+all_none : {X : Type 0} (P : X → Type 0) → All P []
+all_none P k d below = absurd (omega arith)
+
+module _ (Says : List (Option (List ℕ)) → Answer → Type 0) (j : Judging) (s : StoreState) (known : ℕ) where
+  -- none was drawn yet
+  pub surveyed_none : (has : ℕ → Bool) → ((q : ℕ) → has q ≡ false) → IsSurveyed Says j s known 0 has []
+  surveyed_none has none = record { drawn = []; number = refl; left = all_none (MayLeave s); once = refl; each = all_none (IsJudged Says j.states known); keyed = none }
+
+  -- one more is drawn and judged
+  pub surveyed_new : (n : ℕ) (has has_then : ℕ → Bool) (judged : List Judged) (image : List (Option (List ℕ))) (x : Judged) → IsSurveyed Says j s known n has judged → MayLeave s image
+      → has (key_of image) ≡ false → ((q : ℕ) → has_then q ≡ cond (nat_eq (key_of image) q) true (has q)) → x.image ≡ image → IsJudged Says j.states known x → IsSurveyed Says j s known (n + 1) has_then (judged ++ x ∷ [])
+  surveyed_new n has has_then judged image x so_far left new adds is one =
+      let drawn = so_far.drawn in
+      let unseen : has_key (key_of image) (firsts drawn) ≡ false = sym (so_far.keyed (key_of image)) ∙ new in
+      let more : firsts (drawn ++ image ∷ []) ≡ firsts drawn ++ image ∷ [] = firsts_more drawn image ∙ ap (λ (b : Bool). firsts drawn ++ if_new b image) unseen in
+      record {
+        drawn = drawn ++ image ∷ [];
+        number = omega (arith, so_far.number, length-append drawn (image ∷ []));
+        left = All-append (MayLeave s) drawn (image ∷ []) so_far.left (all_one (MayLeave s) image left);
+        once = map-append (λ (y : Judged). y.image) judged (x ∷ [])
+            ∙ ap (λ (l : List (List (Option (List ℕ)))). l ++ x.image ∷ []) so_far.once
+            ∙ ap (λ (y : List (Option (List ℕ))). firsts drawn ++ y ∷ []) is
+            ∙ sym more;
+        each = All-append (IsJudged Says j.states known) judged (x ∷ []) so_far.each (all_one (IsJudged Says j.states known) x one);
+        keyed = λ q.
+            adds q
+            ∙ key_more q (nat_eq (key_of image) q) (same_key (key_of image) q) (has q) (has_key q (firsts drawn)) (so_far.keyed q)
+            ∙ sym (list_any-append (λ (y : List (Option (List ℕ))). nat_eq q (key_of y)) (firsts drawn) (image ∷ []))
+            ∙ ap (λ (l : List (List (Option (List ℕ)))). has_key q l) (sym more);
+      }
+    where
+      key_more : (q : ℕ) (b : Bool) → b ≡ nat_eq q (key_of image) → (c d : Bool) → c ≡ d → cond b true c ≡ (d || (nat_eq q (key_of image) || false))
+      key_more q b e c d same = rw (← e, same) (both b d)
+        where
+          both : (b d : Bool) → cond b true d ≡ (d || (b || false))
+          both true true = refl
+          both true false = refl
+          both false true = refl
+          both false false = refl
+
+  -- one of a key that was there is drawn
+  pub surveyed_same : (n : ℕ) (has has_then : ℕ → Bool) (judged : List Judged) (image : List (Option (List ℕ))) → IsSurveyed Says j s known n has judged → MayLeave s image
+      → has (key_of image) ≡ true → ((q : ℕ) → has_then q ≡ has q) → IsSurveyed Says j s known (n + 1) has_then judged
+  surveyed_same n has has_then judged image so_far left seen same =
+      let drawn = so_far.drawn in
+      let there : has_key (key_of image) (firsts drawn) ≡ true = sym (so_far.keyed (key_of image)) ∙ seen in
+      let more : firsts (drawn ++ image ∷ []) ≡ firsts drawn = firsts_more drawn image ∙ ap (λ (b : Bool). firsts drawn ++ if_new b image) there ∙ append-nil (firsts drawn) in
+      record {
+        drawn = drawn ++ image ∷ [];
+        number = omega (arith, so_far.number, length-append drawn (image ∷ []));
+        left = All-append (MayLeave s) drawn (image ∷ []) so_far.left (all_one (MayLeave s) image left);
+        once = so_far.once ∙ sym more;
+        each = so_far.each;
+        keyed = λ q. same q ∙ so_far.keyed q ∙ ap (λ (l : List (List (Option (List ℕ)))). has_key q l) (sym more);
+      }

@@ -1,0 +1,15 @@
+use Rattle.std.proofs.Common.{Bool, sym, subst}
+use Rattle.sqstore.specs.Left.{image_of}
+use Rattle.sqstore.specs.Stores.{store_of}
+use Rattle.sqcrash_store.specs.States.{SaysWhere}
+use Rattle.sqcrash_store.proofs.states.take_where.Goals as goal
+
+pub returns : goal.returns
+returns g c =
+    subst (λ (b : Bool). SaysWhere g.J.Judge.says b (store_of c.args.store.now) c.args.states.now.items c.push.new.self.items) (sym c.if-not-is.false) (record {
+      image = image_of c.in_ok-image.image;
+      present = c.in_ok-image.ensures;
+      answer = c.in_ok-answer.answer;
+      says = c.in_ok-answer.ensures;
+      added = c.in_ok-push.ensures.items;
+    })

@@ -1,0 +1,21 @@
+-- Images that are drawn one after the other, as far as that has come (own).
+use Rattle.std.specs.Prelude.{◌≡◌, ℕ, Bool, nat_eq, List, length, map, Option}
+use Rattle.std.specs.List.{All, list_any}
+use Rattle.sqstore.specs.Left.{MayLeave}
+use Rattle.sqstore.specs.Stores.{StoreState}
+use Rattle.sqcrash_store.specs.Keys.{key_of}
+use Rattle.sqcrash_store.specs.Surveys.{Judging, Judged, IsJudged, firsts}
+use Rattle.sqcrash_store.specs.declared.verdict.Answer.{Answer}
+
+-- one of images has this key
+abbrev pub has_key : (key : ℕ) → List (List (Option (List ℕ))) → Bool
+has_key key images = list_any (λ y. nat_eq key (key_of y)) images
+
+-- n images were drawn, these are judged, and the keys of these are known
+pub record IsSurveyed (Says : List (Option (List ℕ)) → Answer → Type 0) (j : Judging) (s : StoreState) (known n : ℕ) (has : ℕ → Bool) (judged : List Judged) : Type 0 where
+  pub drawn : List (List (Option (List ℕ)))
+  pub number : length drawn ≡ n
+  pub left : All (MayLeave s) drawn
+  pub once : map (λ x. x.image) judged ≡ firsts drawn
+  pub each : All (IsJudged Says j.states known) judged
+  pub keyed : (q : ℕ) → has q ≡ has_key q (firsts drawn)

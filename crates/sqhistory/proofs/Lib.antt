@@ -1,0 +1,3 @@
+pub mod CommitsTaken
+pub mod CommitsBetween
+pub mod Answered
