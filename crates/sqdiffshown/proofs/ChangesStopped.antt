@@ -29,41 +29,41 @@ use Rattle.sqdiffshown.specs.internal.Walks.{FoundRefused}
 module _ (d e : Database) (writing : Writing) (columns : Columns) (all : List Change) where
   -- the rows of one of both tables aren't read
   side_stops : (own : Database) → ((row : Row) (cell : Entry) → IsRowIn own cell row → IsRowIn d cell row ⊎ IsRowIn e cell row)
-      → (limit : ℕ) (last : Option ℤ) (error : SideError) (root : ℕ) (is_known : Bool) (rows : List Row) → limit ≡ most_bytes
-      → AreRefused own limit last error rows → Rise last (rowids rows) → StopsBefore d e writing columns all (stop_of_side error root is_known)
-  side_stops own which limit last (Unread (Tree f)) root is_known rows same h rise = h
-  side_stops own which limit last (Unread (Payload (Chain f))) root is_known rows same h rise = h
-  side_stops own which limit last (Unread (Payload PayloadTooLong)) root is_known rows same h rise =
+      → (limit : ℕ) (last : Option ℤ) (error : SideError) (root : ℕ) (has_rowids : Bool) (rows : List Row) → limit ≡ most_bytes
+      → AreRefused own limit last error rows → Rise last (rowids rows) → StopsBefore d e writing columns all (stop_of_side error root has_rowids)
+  side_stops own which limit last (Unread (Tree f)) root has_rowids rows same h rise = h
+  side_stops own which limit last (Unread (Payload (Chain f))) root has_rowids rows same h rise = h
+  side_stops own which limit last (Unread (Payload PayloadTooLong)) root has_rowids rows same h rise =
       (h.0, h.1, which h.0 h.1 h.3, subst (λ (l : ℕ). IsAbove l h.1) same h.4)
-  side_stops own which limit last (NoRecord records.TooLarge) root is_known rows same h rise = (h.0, h.1, h.3, h.4)
-  side_stops own which limit last (NoRecord records.HeaderSize) root is_known rows same h rise = absurd h
-  side_stops own which limit last (NoRecord records.TypeCut) root is_known rows same h rise = absurd h
-  side_stops own which limit last (NoRecord records.InternalType) root is_known rows same h rise = absurd h
-  side_stops own which limit last (NoRecord records.BodyCut) root is_known rows same h rise = absurd h
-  side_stops own which limit last (NoRecord records.TrailingBytes) root is_known rows same h rise = absurd h
-  side_stops own which limit last (NoRecord records.NoMemory) root is_known rows same h rise = absurd h
+  side_stops own which limit last (NoRecord records.TooLarge) root has_rowids rows same h rise = (h.0, h.1, h.3, h.4)
+  side_stops own which limit last (NoRecord records.HeaderSize) root has_rowids rows same h rise = absurd h
+  side_stops own which limit last (NoRecord records.TypeCut) root has_rowids rows same h rise = absurd h
+  side_stops own which limit last (NoRecord records.InternalType) root has_rowids rows same h rise = absurd h
+  side_stops own which limit last (NoRecord records.BodyCut) root has_rowids rows same h rise = absurd h
+  side_stops own which limit last (NoRecord records.TrailingBytes) root has_rowids rows same h rise = absurd h
+  side_stops own which limit last (NoRecord records.NoMemory) root has_rowids rows same h rise = absurd h
   side_stops own which limit last Unordered root true rows same h rise = absurd (h rise)
   side_stops own which limit last Unordered root false rows same h rise = absurd (h rise)
 
-  pub diff_stops : (diff : Diff) (error : DiffError) (roots : ℕ × ℕ) (is_known : Bool) → diff.old_side.rows.limit ≡ most_bytes
+  pub diff_stops : (diff : Diff) (error : DiffError) (roots : ℕ × ℕ) (has_rowids : Bool) → diff.old_side.rows.limit ≡ most_bytes
       → diff.new_side.rows.limit ≡ most_bytes → DiffRefused d e diff error → ChangesLeft d e diff all
-      → StopsBefore d e writing columns all (stop_of_diff error roots is_known)
-  diff_stops diff (Old error) roots is_known old_limit new_limit refused left =
-      side_stops d (λ row cell is. inl is) diff.old_side.rows.limit diff.old_side.last error roots.0 is_known left.0 old_limit (refused left.0 left.2) left.4
-  diff_stops diff (New error) roots is_known old_limit new_limit refused left =
-      side_stops e (λ row cell is. inr is) diff.new_side.rows.limit diff.new_side.last error roots.1 is_known left.1 new_limit (refused left.1 left.3) left.5
+      → StopsBefore d e writing columns all (stop_of_diff error roots has_rowids)
+  diff_stops diff (Old error) roots has_rowids old_limit new_limit refused left =
+      side_stops d (λ row cell is. inl is) diff.old_side.rows.limit diff.old_side.last error roots.0 has_rowids left.0 old_limit (refused left.0 left.2) left.4
+  diff_stops diff (New error) roots has_rowids old_limit new_limit refused left =
+      side_stops e (λ row cell is. inr is) diff.new_side.rows.limit diff.new_side.last error roots.1 has_rowids left.1 new_limit (refused left.1 left.3) left.5
 
   -- one of both isn't begun
-  pub begin_stops : (old_root new_root : ℕ) (error : DiffError) (roots : ℕ × ℕ) (is_known : Bool) → AreNotBegun d old_root e new_root error
-      → HasChanges d old_root e new_root all → StopsBefore d e writing columns all (stop_of_diff error roots is_known)
-  begin_stops old_root new_root (Old (Unread (Tree f))) roots is_known h has = λ other. h.1 other has.0 has.2
-  begin_stops old_root new_root (New (Unread (Tree f))) roots is_known h has = λ other. h.1 other has.1 has.3
-  begin_stops old_root new_root (Old (Unread (Payload p))) roots is_known h has = absurd h
-  begin_stops old_root new_root (New (Unread (Payload p))) roots is_known h has = absurd h
-  begin_stops old_root new_root (Old (NoRecord error)) roots is_known h has = absurd h
-  begin_stops old_root new_root (New (NoRecord error)) roots is_known h has = absurd h
-  begin_stops old_root new_root (Old Unordered) roots is_known h has = absurd h
-  begin_stops old_root new_root (New Unordered) roots is_known h has = absurd h
+  pub begin_stops : (old_root new_root : ℕ) (error : DiffError) (roots : ℕ × ℕ) (has_rowids : Bool) → AreNotBegun d old_root e new_root error
+      → HasChanges d old_root e new_root all → StopsBefore d e writing columns all (stop_of_diff error roots has_rowids)
+  begin_stops old_root new_root (Old (Unread (Tree f))) roots has_rowids h has = λ other. h.1 other has.0 has.2
+  begin_stops old_root new_root (New (Unread (Tree f))) roots has_rowids h has = λ other. h.1 other has.1 has.3
+  begin_stops old_root new_root (Old (Unread (Payload p))) roots has_rowids h has = absurd h
+  begin_stops old_root new_root (New (Unread (Payload p))) roots has_rowids h has = absurd h
+  begin_stops old_root new_root (Old (NoRecord error)) roots has_rowids h has = absurd h
+  begin_stops old_root new_root (New (NoRecord error)) roots has_rowids h has = absurd h
+  begin_stops old_root new_root (Old Unordered) roots has_rowids h has = absurd h
+  begin_stops old_root new_root (New Unordered) roots has_rowids h has = absurd h
 
   -- a row is never told to be what it can't be
   no_fault : (c : Change) (stop : Stop) → ((row : Row) → ¬ IsUnwritable writing columns row stop) → ¬ IsUnwritableChange writing columns c stop

@@ -154,8 +154,9 @@ fn print_next<S: PageSource, T: PageSource, W: Write>(
         Ok(Some(kind)) => kind,
         Ok(None) => return Ok(false),
         Err(error) => {
-            let is_known = !walk.style.columns.names.is_empty();
-            return Err(of_diff(error, walk.roots, is_known));
+            let columns = walk.style.columns;
+            let has_rowids = !columns.names.is_empty() && columns.places.is_empty();
+            return Err(of_diff(error, walk.roots, has_rowids));
         }
     };
     match write_found(alloc, diff, kind, walk.style, out) {

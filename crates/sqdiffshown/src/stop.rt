@@ -7,12 +7,12 @@ use sqpage::{CheckError, Fault};
 use sqrowlines::PrintError;
 use sqrowshown::Stop;
 
-/// That the rowids of a table don't rise, whose root is this page. A table of which no column is known may be one
-/// WITHOUT ROWID, which has none.
-fn unordered(root: u32, is_known: bool) -> Stop
-    ensures { result ≡ unordered root is_known }
+/// That the rowids of a table don't rise, whose root is this page. A table WITHOUT ROWID has none, and one of which no
+/// column is known may be such a one.
+fn unordered(root: u32, has_rowids: bool) -> Stop
+    ensures { result ≡ unordered root has_rowids }
 {
-    if is_known {
+    if has_rowids {
         Stop::Fault(CheckError {
             page: root,
             fault: Fault::KeyOrder,
@@ -23,22 +23,22 @@ fn unordered(root: u32, is_known: bool) -> Stop
 }
 
 /// Why the rows of a table aren't read.
-fn of_side(error: SideError, root: u32, is_known: bool) -> Stop
-    ensures { result ≡ stop_of_side error root is_known }
+fn of_side(error: SideError, root: u32, has_rowids: bool) -> Stop
+    ensures { result ≡ stop_of_side error root has_rowids }
 {
     match error {
         SideError::Rows(error) => Stop::from(PrintError::Row(error)),
         SideError::Record(error) => Stop::Record(error),
-        SideError::Unordered => unordered(root, is_known),
+        SideError::Unordered => unordered(root, has_rowids),
     }
 }
 
 /// Why the changes between two tables aren't found, whose roots are these pages.
-pub(crate) fn of_diff(error: DiffError, roots: (u32, u32), is_known: bool) -> Stop
-    ensures { result ≡ stop_of_diff error roots is_known }
+pub(crate) fn of_diff(error: DiffError, roots: (u32, u32), has_rowids: bool) -> Stop
+    ensures { result ≡ stop_of_diff error roots has_rowids }
 {
     match error {
-        DiffError::Old(error) => of_side(error, roots.0, is_known),
-        DiffError::New(error) => of_side(error, roots.1, is_known),
+        DiffError::Old(error) => of_side(error, roots.0, has_rowids),
+        DiffError::New(error) => of_side(error, roots.1, has_rowids),
     }
 }

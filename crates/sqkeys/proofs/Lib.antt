@@ -1,4 +1,3 @@
-pub mod LastSaid
 pub mod Pairs
 mod RulesPushed
 pub mod EntriesOver

@@ -3,9 +3,9 @@ use Rattle.std.specs.Prelude.{ℕ, ◌||◌, if◌then◌else◌, Bool, List, Op
 use Rattle.std.specs.Str.{str_eq_ignore_ascii_case}
 use Rattle.sqkeys.specs.declared.accepts.Accepts.{Accepts}
 use Rattle.sqkeys.specs.declared.accepts.Accepts.TheVariants as accept
-use Rattle.sqkeys.specs.declared.affinity.Affinity.{Affinity}
-use Rattle.sqkeys.specs.declared.affinity.Affinity.TheVariants.{Integer, Text, Blob, Real, Numeric}
-use Rattle.sqkeys.specs.Affinities.{affinity_of}
+use Rattle.sqdefaults.specs.declared.affinity.Affinity.{Affinity}
+use Rattle.sqdefaults.specs.declared.affinity.Affinity.TheVariants.{Integer, Text, Blob, Real, Numeric}
+use Rattle.sqdefaults.specs.Affinities.{affinity_of}
 use Rattle.sqkeys.specs.Columns.{is_cut}
 
 -- The affinity TEXT leaves no number, and NUMERIC, INTEGER and REAL no text that reads as one (datatype3, 3).

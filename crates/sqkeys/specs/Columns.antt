@@ -1,11 +1,10 @@
 -- The columns of a key, as the texts of a table and an index say (SQLite's lang_createtable and lang_altertable).
 use Rattle.std.specs.Prelude.{◌≡◌, ◌⊎◌, ℕ, ◌-◌, Bool, if◌then◌else◌, List, [], ◌∷◌, length, drop, slice_get, position, Option, Some, None, unwrap_or, codes}
-use Rattle.std.specs.Option.{option_or}
 use Rattle.std.specs.Str.{str_eq_ignore_ascii_case}
 use Rattle.sqlite_ast.specs.declared.Expr.{Expr}
 use Rattle.sqlite_ast.specs.declared.Keyed.{Keyed}
 use Rattle.sqlite_ast.specs.declared.Rule.{Rule}
-use Rattle.sqlite_ast.specs.declared.Rule.TheVariants.{Default, Collate}
+use Rattle.sqlite_ast.specs.declared.Rule.TheVariants.{Collate}
 use Rattle.sqlite_ast.specs.declared.TableBody.{TableBody}
 use Rattle.sqlite_value.specs.declared.value.Value.{Value}
 use Rattle.sqlite_value.specs.declared.value.Value.TheVariants.{Null}
@@ -14,24 +13,17 @@ use Rattle.sqlite_value.specs.declared.keys.Collation.TheVariants.{Binary}
 use Rattle.sqtables.specs.Texts.{IsAlias}
 use Rattle.sqkeys.specs.declared.key.KeyColumn.{KeyColumn}
 use Rattle.sqkeys.specs.declared.key.KeyColumn.TheVariants.{Rowid, Stored}
-use Rattle.sqkeys.specs.declared.affinity.Affinity.{Affinity}
-use Rattle.sqkeys.specs.Affinities.{affinity_of, keeps}
+use Rattle.sqdefaults.specs.declared.affinity.Affinity.{Affinity}
+use Rattle.sqdefaults.specs.Affinities.{affinity_of}
+use Rattle.sqdefaults.specs.Defaults.{default_in, last_said}
+use Rattle.sqkeys.specs.Affinities.{keeps}
 use Rattle.sqkeys.specs.Literals.{literal_of}
 
 -- The first column of this name, where ASCII's small letters are its capitals.
 abbrev pub column_named : TableBody → (name : List ℕ) → Option ℕ
 column_named body name = position (λ column. str_eq_ignore_ascii_case column.0 name) body.columns
 
--- what the last of these rules says that says something
-abbrev pub last_said : {A : Type 0} → (Rule → Option A) → List Rule → Option A
-last_said says [] = None
-last_said says (rule ∷ rules) = option_or (last_said says rules) (says rule)
-
--- the default, or the collation, that a rule says of the column of this name
-abbrev pub default_in : (name : List ℕ) → Rule → Option Expr
-default_in name (Default column e) = if str_eq_ignore_ascii_case column name then Some e else None
-default_in name _ = None
-
+-- the collation that a rule says of the column of this name
 abbrev pub collation_in : (name : List ℕ) → Rule → Option Collation
 collation_in name (Collate column collation) = if str_eq_ignore_ascii_case column name then Some collation else None
 collation_in name _ = None

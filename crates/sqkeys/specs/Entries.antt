@@ -11,10 +11,12 @@ use Rattle.sqkeys.specs.declared.entry_key.EntryKey.{EntryKey}
 use Rattle.sqkeys.specs.declared.key.IndexKey.{IndexKey}
 use Rattle.sqkeys.specs.declared.key.KeyColumn.{KeyColumn}
 use Rattle.sqkeys.specs.declared.key.KeyColumn.TheVariants.{Rowid, Stored}
-use Rattle.sqkeys.specs.Affinities.{begins}
-use Rattle.sqkeys.specs.Columns.{column_named, last_said}
+use Rattle.sqdefaults.specs.Affinities.{begins}
+use Rattle.sqdefaults.specs.Defaults.{last_said}
+use Rattle.sqtables.specs.Keys.{primary_in}
+use Rattle.sqkeys.specs.Columns.{column_named}
 use Rattle.sqkeys.specs.Constraints.{IsNumbered, IsNoNumber}
-use Rattle.sqkeys.specs.Keyed.{MakesKeyed, IsNoKeyed, IsPrimaryOf, with_columns_of, stored, default_for, primary_in}
+use Rattle.sqkeys.specs.Keyed.{MakesKeyed, IsNoKeyed, IsPrimaryOf, with_columns_of, stored, default_for}
 use Rattle.sqkeys.specs.Keys.{MakesIndex, MakesRowids, IsNoIndex, IsNoTable, IsKeyOver, HasNoKey, key_for, order_of}
 
 -- the longest text of a partial index that is read (own)

@@ -2,8 +2,8 @@
 ghost use Rattle.std.specs.Prelude.{◌≡◌, slice_get};
 ghost use Rattle.sqkeys.specs.Accepted.{by_affinity, by_strict_type, accepts_of, accepts_at};
 
-use crate::affinity::{Affinity, affinity_of};
 use crate::default::is_cut;
+use sqdefaults::{Affinity, affinity_of};
 use sqlite_ast::CreateTable;
 
 /// The values that a column takes beside NULL, by what `PRAGMA integrity_check` looks for.

@@ -2,9 +2,9 @@
 ghost use Rattle.std.specs.Prelude.{◌≡◌, Some, IfOk, option_copied};
 ghost use Rattle.sqkeys.specs.Columns.{is_cut, kept, default_by, default_of, default_at};
 
-use crate::affinity::{Affinity, affinity_of, keeps};
+use crate::affinity::keeps;
 use crate::literal::literal_of;
-use crate::rule::last_default;
+use sqdefaults::{Affinity, affinity_of, last_default};
 use sqlite_ast::{Expr, Rule, TableBody};
 use sqlite_value::value::{Bytes, Value};
 use std::alloc::{AllocError, Global};

@@ -1,12 +1,14 @@
 //! How a table WITHOUT ROWID stores its rows (SQLite's withoutrowid; fileformat2, 2.4).
 ghost use Rattle.std.specs.Prelude.{◌≡◌, ◌⊎◌, ◌≤◌, ◌^◌, ◌||◌, ◌++◌, ◌∷◌, [], ℕ, List, Some, None};
-ghost use Rattle.std.specs.Prelude.{IfOk, OnOk, MatchOption, map, fold, not, option_map, slice_get};
+ghost use Rattle.std.specs.Prelude.{IfOk, OnOk, MatchOption, map, fold, not, slice_get};
 ghost use Rattle.std.specs.List.{AllZip, Contains, filter, list_any};
 ghost use Rattle.sqkeys.specs.Accepted.{accepts_at};
-ghost use Rattle.sqkeys.specs.Columns.{column_named, last_said};
+ghost use Rattle.sqdefaults.specs.Defaults.{last_said};
+ghost use Rattle.sqkeys.specs.Columns.{column_named};
 ghost use Rattle.sqkeys.specs.Constraints.{is_like};
 ghost use Rattle.sqkeys.specs.Keys.{key_for, order_of};
-ghost use Rattle.sqkeys.specs.Keyed.{primary_in, with_column, with_columns_of, IsPrimaryOf, stored, default_for};
+ghost use Rattle.sqtables.specs.Keys.{primary_in};
+ghost use Rattle.sqkeys.specs.Keyed.{with_column, with_columns_of, IsPrimaryOf, stored, default_for};
 ghost use Rattle.sqkeys.specs.Keyed.{IsStoredRule, HasNoRule, IsRowKeyIn, IsUnclearKeyed, IsRowKeyOf, HasNoRowKey};
 ghost use Rattle.sqkeys.specs.RowRules.{has_column};
 
@@ -17,9 +19,10 @@ use crate::default::default_at;
 use crate::order::order_of;
 use crate::row_rules::{ColumnRule, has_column, is_not_null};
 use crate::text::keyed_table;
-use sqlite_ast::{CreateTable, Keyed, Rule, TableBody};
+use sqlite_ast::{CreateTable, Keyed, TableBody};
 use sqlite_value::keys::Order;
 use sqlite_value::value::{Bytes, Value};
+use sqtables::primary_of;
 use std::alloc::{AllocError, Global};
 
 /// How a table WITHOUT ROWID stores its rows.
@@ -31,27 +34,6 @@ pub struct RowKey {
     pub order: Order,
     /// What the columns keep to, in the order in which rows store them.
     pub rules: Vec<ColumnRule>,
-}
-
-/// The columns of the primary key that a rule states.
-fn primary_in(rule: &Rule) -> Option<&[Keyed]>
-    ensures { option_map (λ named. named.now) result ≡ primary_in rule.now }
-{
-    match rule {
-        Rule::PrimaryKey(named) | Rule::DescendingKey(named) => Some(named.as_slice()),
-        _ => None,
-    }
-}
-
-/// The columns of the primary key.
-fn primary_of(rules: &[Rule]) -> Option<&[Keyed]>
-    ensures { option_map (λ named. named.now) result ≡ last_said primary_in rules.now }
-{
-    let mut found = None;
-    for rule in rules {
-        found = primary_in(rule).or(found);
-    }
-    found
 }
 
 /// A copy of a column of a key.

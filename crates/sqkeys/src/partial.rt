@@ -1,11 +1,11 @@
 //! The texts of indexes, with WHERE or without (SQLite's lang_createindex and partialindex).
 ghost use Rattle.std.specs.Prelude.{◌≡◌, ◌<◌, ◌≤◌, IfOk, MatchOption, length, take, drop, codes};
 ghost use Rattle.sqlite_ast.specs.declared.CreateIndex.{CreateIndex};
-ghost use Rattle.sqkeys.specs.Affinities.{begins};
+ghost use Rattle.sqdefaults.specs.Affinities.{begins};
 ghost use Rattle.sqkeys.specs.Entries.{IsBefore, MakesPartial, IsNotPartial, ReadsAs, ReadsAsNone};
 
-use crate::affinity::begins;
 use crate::text::index_text;
+use sqdefaults::begins;
 use sqlite_ast::CreateIndex;
 use std::alloc::{AllocError, Global};
 

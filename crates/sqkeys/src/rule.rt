@@ -1,19 +1,10 @@
-//! What the rules of a table say of a column.
-ghost use Rattle.std.specs.Prelude.{◌≡◌, option_copied};
-ghost use Rattle.sqkeys.specs.Columns.{last_said, default_in, collation_in, collation_of};
+//! The collations that the rules of a table say of its columns.
+ghost use Rattle.std.specs.Prelude.{◌≡◌};
+ghost use Rattle.sqdefaults.specs.Defaults.{last_said};
+ghost use Rattle.sqkeys.specs.Columns.{collation_in, collation_of};
 
-use sqlite_ast::{Expr, Rule, TableBody};
+use sqlite_ast::{Rule, TableBody};
 use sqlite_value::keys::Collation;
-
-/// The default that a rule says of a column.
-fn default_in<'a>(rule: &'a Rule, name: &[u8]) -> Option<&'a Expr>
-    ensures { option_copied result ≡ default_in name.now rule.now }
-{
-    match rule {
-        Rule::Default(column, value) if column.as_slice().eq_ignore_ascii_case(name) => Some(value),
-        _ => None,
-    }
-}
 
 /// The collation that a rule says of a column.
 fn collation_in(rule: &Rule, name: &[u8]) -> Option<Collation>
@@ -25,17 +16,6 @@ fn collation_in(rule: &Rule, name: &[u8]) -> Option<Collation>
         }
         _ => None,
     }
-}
-
-/// The last default that the rules say of a column.
-pub(crate) fn last_default<'a>(rules: &'a [Rule], name: &[u8]) -> Option<&'a Expr>
-    ensures { option_copied result ≡ last_said (default_in name.now) rules.now }
-{
-    let mut found = None;
-    for rule in rules {
-        found = default_in(rule, name).or(found);
-    }
-    found
 }
 
 /// The last collation that the rules say of a column.

@@ -1,15 +1,17 @@
 -- All tables of a database as they are printed (own).
-use Rattle.std.specs.Prelude.{◌≡◌, ◌≢◌, ◌⊎◌, ◌&&◌, ℕ, ◌≤◌, nat_le, Bool, true, false, if◌then◌else◌, List, [], ◌∷◌, ◌++◌, length, take, Option, codes}
+use Rattle.std.specs.Prelude.{◌≡◌, ◌⊎◌, ◌&&◌, ℕ, ◌≤◌, nat_le, Bool, true, false, if◌then◌else◌, List, [], ◌∷◌, ◌++◌, length, take, Option, None, codes, pos}
 use Rattle.std.specs.Io.KnownBytes.{Appends}
 use Rattle.std.specs.List.{Contains}
 use Rattle.std.specs.Str.{str_eq_ignore_ascii_case}
 use Rattle.sqval.specs.Bytes.{word}
 use Rattle.sqval.specs.Database.{Database, page}
+use Rattle.sqval.specs.Datum.{Datum, integer, text}
 use Rattle.sqtables.specs.declared.list.Object.{Object}
 use Rattle.sqtables.specs.Objects.{HasObjects, IsTable, IsTableNamed}
 use Rattle.sqrowlines.specs.declared.form.Form.{Form}
 use Rattle.sqrowlines.specs.declared.form.Form.TheVariants.{Json, Csv, Sql}
 use Rattle.sqrowlines.specs.Headings.{heading_text}
+use Rattle.sqrowlines.specs.Lines.{IsLine}
 use Rattle.sqrowshown.specs.declared.dump.Turn.{Turn}
 use Rattle.sqrowshown.specs.declared.dump.Turn.TheVariants.{Tables, Internal, Others}
 use Rattle.sqrowshown.specs.Tables.{IsHeadedPrinted}
@@ -18,11 +20,15 @@ use Rattle.sqrowshown.specs.Tables.{IsHeadedPrinted}
 abbrev pub is_internal : (name : List ℕ) → Bool
 is_internal name = nat_le 7 (length name) && str_eq_ignore_ascii_case (take 7 name) (codes "sqlite_")
 
--- First come the tables of the user, then SQLite's own, and then what has no rows of its own.
+-- It is a virtual table, whose module keeps its rows in tables of its own.
+abbrev pub IsVirtual : Object → Type 0
+IsVirtual o = (¬ IsTable o) × (o.kind.items ≡ codes "table")
+
+-- First come the tables of the user and virtual ones, then SQLite's own, and then what isn't a table.
 abbrev pub IsInTurn : Turn → Object → Type 0
-IsInTurn Tables o = IsTable o × (is_internal o.name.items ≡ false)
+IsInTurn Tables o = (IsTable o × (is_internal o.name.items ≡ false)) ⊎ IsVirtual o
 IsInTurn Internal o = IsTable o × (is_internal o.name.items ≡ true)
-IsInTurn Others o = ¬ IsTable o
+IsInTurn Others o = (¬ IsTable o) × (¬ IsVirtual o)
 
 -- a statement that the schema has
 abbrev pub statement_text : List ℕ → List ℕ
@@ -48,20 +54,27 @@ made_text Json o = []
 made_text Csv o = title_text o.name.items
 made_text Sql o = making_text o
 
--- what an object without rows of its own is printed as: in SQL its text
+-- the row of the schema that a virtual table has
+abbrev pub virtual_row : Object → List Datum
+virtual_row o = text (codes "table") ∷ text o.name.items ∷ text o.name.items ∷ integer (pos 0) ∷ text o.sql.items ∷ []
+
+-- What a virtual table is printed as: in SQL the INSERT of its row into the schema, so that no module makes its tables again
+-- (SQLite's pragma, "writable_schema"). Its module's tables are printed as others are.
+abbrev pub IsVirtualText : Form → Object → List ℕ → Type 0
+IsVirtualText Json o t = t ≡ []
+IsVirtualText Csv o t = t ≡ []
+IsVirtualText Sql o t =
+    (line : List ℕ) × IsLine Sql (codes "INSERT INTO sqlite_schema(type,name,tbl_name,rootpage,sql) VALUES(") [] None (virtual_row o) line
+    × (t ≡ codes "PRAGMA writable_schema=ON;\n" ++ (line ++ codes "PRAGMA writable_schema=OFF;\n"))
+
+abbrev pub IsVirtualPrinted : Form → Object → (before after : Option (List ℕ)) → Type 0
+IsVirtualPrinted form o before after = (t : List ℕ) × IsVirtualText form o t × Appends before after t
+
+-- what an object that isn't a table is printed as: in SQL its text
 abbrev pub other_text : Form → Object → List ℕ
 other_text Json o = []
 other_text Csv o = []
 other_text Sql o = statement_text o.sql.items
-
--- It isn't a virtual table where SQL is written: the tables that its module makes are printed as others are.
-abbrev pub IsWritten : Form → Object → Type 0
-IsWritten Json o = Unit {0}
-IsWritten Csv o = Unit {0}
-IsWritten Sql o = o.kind.items ≢ codes "table"
-
-abbrev pub IsOtherPrinted : Form → Object → (before after : Option (List ℕ)) → Type 0
-IsOtherPrinted form o before after = IsWritten form o × Appends before after (other_text form o)
 
 -- The rows of a table were printed behind its heading and what makes it.
 abbrev pub IsMadePrinted : Database → Form → Object → (before after : Option (List ℕ)) → Type 0
@@ -70,8 +83,10 @@ IsMadePrinted d form o before after =
 
 -- An object was printed.
 abbrev pub IsObjectPrinted : Database → Form → Turn → Object → (before after : Option (List ℕ)) → Type 0
-IsObjectPrinted d form Others o before after = IsOtherPrinted form o before after
-IsObjectPrinted d form _ o before after = IsMadePrinted d form o before after
+IsObjectPrinted d form Tables o before after =
+    (IsVirtual o × IsVirtualPrinted form o before after) ⊎ ((¬ IsVirtual o) × IsMadePrinted d form o before after)
+IsObjectPrinted d form Internal o before after = IsMadePrinted d form o before after
+IsObjectPrinted d form Others o before after = Appends before after (other_text form o)
 
 -- It was printed in its turn, and nothing in another one.
 abbrev pub IsTurnTaken : Database → Form → Turn → Object → (before after : Option (List ℕ)) → Type 0

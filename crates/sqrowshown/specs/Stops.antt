@@ -22,7 +22,7 @@ use Rattle.sqrowshown.specs.declared.stop.Stop.TheVariants.{Fault, Record, TooLo
 use Rattle.sqrowshown.specs.declared.dump.Turn.{Turn}
 use Rattle.sqrowshown.specs.declared.dump.Turn.TheVariants.{Tables, Internal, Others}
 use Rattle.sqrowshown.specs.Tables.{IsInsert, IsNameFor, are_unnamed, leads_in}
-use Rattle.sqrowshown.specs.Dumps.{AreTurnsTaken, IsInTurn, IsWritten, first_text, made_text}
+use Rattle.sqrowshown.specs.Dumps.{AreTurnsTaken, IsInTurn, IsVirtual, first_text, made_text}
 
 -- This text was written and no more, unless it was the writer that failed.
 abbrev pub WrittenUntil : Stop → (before after : Option (List ℕ)) → List ℕ → Type 0
@@ -103,20 +103,17 @@ IsNamedStopped d name form stop before after =
     ⊎ ((objects : List Object) × (table : Object) × HasObjects d objects × Contains objects table × IsTableNamed name table
     × IsHeadedStopped d table form stop before after)
 
--- An object without rows of its own isn't printed: it is a virtual table, or the writer failed.
-abbrev pub IsOtherStopped : Form → Object → Stop → (before after : Option (List ℕ)) → Type 0
-IsOtherStopped form o NotUnderstood before after = (¬ IsWritten form o) × (before ≡ after)
-IsOtherStopped form o (Write e) before after = Unit {0}
-IsOtherStopped form o _ before after = ⊥
-
--- The printing of an object stopped.
+-- The printing of a table stopped behind what makes it, or before.
 abbrev pub IsMadeStopped : Database → Form → Object → Stop → (before after : Option (List ℕ)) → Type 0
 IsMadeStopped d form o stop before after =
     IsWriteError stop ⊎ ((mid : Option (List ℕ)) × Appends before mid (made_text form o) × IsHeadedStopped d o form stop mid after)
 
+-- The printing of an object stopped.
 abbrev pub IsObjectStopped : Database → Form → Turn → Object → Stop → (before after : Option (List ℕ)) → Type 0
-IsObjectStopped d form Others o stop before after = IsOtherStopped form o stop before after
-IsObjectStopped d form _ o stop before after = IsMadeStopped d form o stop before after
+IsObjectStopped d form Tables o stop before after =
+    (IsVirtual o × IsWriteError stop) ⊎ ((¬ IsVirtual o) × IsMadeStopped d form o stop before after)
+IsObjectStopped d form Internal o stop before after = IsMadeStopped d form o stop before after
+IsObjectStopped d form Others o stop before after = IsWriteError stop
 
 -- Of these objects those whose turn it is were printed up to object i, at which the printing stopped.
 abbrev pub IsTurnStopped : Database → Form → Turn → List Object → Stop → (before after : Option (List ℕ)) → Type 0

@@ -17,9 +17,14 @@ use Rattle.sqrowlines.specs.Printed.{IsPrinted}
 abbrev pub has_column : Columns → (name : List ℕ) → Bool
 has_column columns name = list_any (λ column. str_eq_ignore_ascii_case column.items name) columns.names.items
 
--- A name of the rowid that no column has, and no column is another name for it (lang_createtable, "ROWIDs and the INTEGER
--- PRIMARY KEY").
+-- the table has rowids, and so no places of its columns
+abbrev pub has_rowids : Columns → Bool
+has_rowids columns = nat_eq (length columns.places.items) 0
+
+-- A name of the rowid that no column has, in a table that has rowids, and no column is another name for it (lang_createtable,
+-- "ROWIDs and the INTEGER PRIMARY KEY").
 pub record IsRowidName (columns : Columns) (name : List ℕ) : Type 0 where
+  pub rowids : has_rowids columns ≡ true
   pub unaliased : columns.alias ≡ None
   pub is : (name ≡ codes "rowid") ⊎ (name ≡ codes "_rowid_") ⊎ (name ≡ codes "oid")
   pub free : has_column columns name ≡ false
@@ -30,9 +35,10 @@ IsInsert Json table columns rowid insert = insert ≡ []
 IsInsert Csv table columns rowid insert = insert ≡ []
 IsInsert Sql table columns rowid insert = insert ≡ insert_text table.name.items rowid (map (λ n. n.items) columns.names.items)
 
--- no name of the rowid will do
+-- there is no rowid, or no name of it will do
 abbrev pub NoRowidName : Columns → Type 0
-NoRowidName columns = (columns.alias ≢ None)
+NoRowidName columns = (has_rowids columns ≡ false)
+    ⊎ (columns.alias ≢ None)
     ⊎ ((has_column columns (codes "rowid") ≡ true) × (has_column columns (codes "_rowid_") ≡ true) × (has_column columns (codes "oid") ≡ true))
 
 abbrev pub IsNameFor : Columns → (rowid : Option (List ℕ)) → Type 0

@@ -1,25 +1,30 @@
 //! All tables of a database, or one of a name, as they are printed.
 ghost use Rattle.std.specs.Prelude.{◌≡◌, ◌≤◌, ◌&&◌, IfOk, IfErr, IsTrue, OnOk, codes, false, length, nat_le, take};
+ghost use Rattle.std.specs.Prelude.{ℕ, List, [], None};
 ghost use Rattle.std.specs.Io.KnownBytes.{Appends};
 ghost use Rattle.std.specs.Str.{str_eq_ignore_ascii_case};
 ghost use Rattle.sqval.specs.Bytes.{word};
 ghost use Rattle.sqval.specs.Database.{page};
 ghost use Rattle.sqpage.specs.Source.{KeepsPages};
-ghost use Rattle.sqtables.specs.Objects.{HasObjects};
+ghost use Rattle.sqtables.specs.Objects.{HasObjects, IsTable};
 ghost use Rattle.sqrowshown.specs.Dumps.{AreObjectsPrinted, AreTablesPrinted, AreTurnsTaken, IsInTurn, IsMadePrinted};
-ghost use Rattle.sqrowshown.specs.Dumps.{IsNamedPrinted, IsObjectPrinted, IsOtherPrinted, IsTurnTaken, IsWritten};
+ghost use Rattle.sqrowshown.specs.Dumps.{IsNamedPrinted, IsObjectPrinted, IsTurnTaken, IsVirtual, IsVirtualPrinted};
 ghost use Rattle.sqrowshown.specs.Dumps.{first_text, internal_text, is_internal as is_kept, last_text, made_text};
 ghost use Rattle.sqrowshown.specs.Dumps.{making_text};
-ghost use Rattle.sqrowshown.specs.Dumps.{other_text, statement_text, title_text};
+ghost use Rattle.sqrowshown.specs.Dumps.{other_text, statement_text, title_text, virtual_row};
+ghost use Rattle.sqrowshown.specs.declared.dump.Turn.{Turn};
+ghost use Rattle.sqrowlines.specs.declared.form.Form.{Form};
+ghost use Rattle.sqrowlines.specs.Lines.{IsLine};
 ghost use Rattle.sqrowshown.specs.Stops.{AreObjectsStopped, AreTablesStopped, IsMadeStopped, IsNamedStopped};
-ghost use Rattle.sqrowshown.specs.Stops.{IsObjectStopped, IsOtherStopped, IsTurnStopped, SchemaRefused};
+ghost use Rattle.sqrowshown.specs.Stops.{IsObjectStopped, IsTurnStopped, IsWriteError, SchemaRefused};
 
 use crate::stop::Stop;
 use crate::tables::print_headed;
 use byteorder::{BigEndian, ByteOrder};
 use sqpage::{CheckError, Fault, PageSource};
-use sqrowlines::{Form, write_heading};
+use sqrowlines::{Form, write_heading, write_line};
 use sqtables::{Object, objects, table_named};
+use sqval::Value;
 use std::alloc::Global;
 use std::io::{self, Write};
 use std::slice;
@@ -27,11 +32,11 @@ use std::slice;
 /// Which objects come one behind the other.
 #[derive(Clone, Copy, Debug, PartialEq, Eq)]
 pub(crate) enum Turn {
-    /// The user's tables.
+    /// The user's tables, and virtual ones.
     Tables,
     /// Those of SQLite's own.
     Internal,
-    /// What has no rows of its own: indexes, triggers, views, virtual tables.
+    /// What isn't a table: indexes, triggers, views.
     Others,
 }
 
@@ -42,15 +47,31 @@ pub fn is_internal(name: &[u8]) -> bool
     name.len() >= 7 && name[..7].eq_ignore_ascii_case(b"sqlite_")
 }
 
+/// Whether an object is a virtual table.
+fn is_virtual(object: &Object) -> bool
+    ensures yes { IsTrue result → IsVirtual object.now }
+    ensures not { result ≡ false → ¬ IsVirtual object.now }
+{
+    !object.is_table() && object.kind.as_slice() == b"table".as_slice()
+}
+
+/// Whether an object is a table of the user's.
+fn is_users(object: &Object) -> bool
+    ensures yes { IsTrue result → IsTable object.now × (is_kept object.now.name.items ≡ false) }
+    ensures not { result ≡ false → ¬ (IsTable object.now × (is_kept object.now.name.items ≡ false)) }
+{
+    object.is_table() && !is_internal(object.name.as_slice())
+}
+
 /// Whether it is the turn of an object.
 fn is_in_turn(object: &Object, turn: Turn) -> bool
     ensures yes { IsTrue result → IsInTurn turn object.now }
     ensures not { result ≡ false → ¬ IsInTurn turn object.now }
 {
     match turn {
-        Turn::Tables => object.is_table() && !is_internal(object.name.as_slice()),
+        Turn::Tables => is_users(object) || is_virtual(object),
         Turn::Internal => object.is_table() && is_internal(object.name.as_slice()),
-        Turn::Others => !object.is_table(),
+        Turn::Others => !object.is_table() && !is_virtual(object),
     }
 }
 
@@ -110,18 +131,39 @@ fn write_made<W: Write>(out: &mut W, form: Form, table: &Object) -> io::Result<(
     }
 }
 
-/// Whether an object can be written: in SQL no virtual table, whose own tables its module makes.
-fn is_written(form: Form, object: &Object) -> bool
-    ensures yes { IsTrue result → IsWritten form object.now }
-    ensures not { result ≡ false → ¬ IsWritten form object.now }
+/// The INSERT of a virtual table's row into the schema.
+fn write_virtual_line<W: Write>(out: &mut W, object: &Object) -> io::Result<()>
+    ensures { OnOk result ((t : List ℕ) × IsLine Form.Sql
+        (codes "INSERT INTO sqlite_schema(type,name,tbl_name,rootpage,sql) VALUES(") [] None (virtual_row object.now) t
+        × Appends (W.contents out.old) (W.contents out.new) t) }
+{
+    let name = Value::Text(&object.name);
+    let values = [
+        Value::Text(b"table"),
+        name,
+        name,
+        Value::Int(0),
+        Value::Text(&object.sql),
+    ];
+    let insert = b"INSERT INTO sqlite_schema(type,name,tbl_name,rootpage,sql) VALUES(";
+    write_line(out, Form::Sql, insert, &[], None, &values)
+}
+
+/// A virtual table.
+fn write_virtual<W: Write>(out: &mut W, form: Form, object: &Object) -> io::Result<()>
+    ensures { OnOk result (IsVirtualPrinted form object.now (W.contents out.old) (W.contents out.new)) }
 {
     match form {
-        Form::Json | Form::Csv => true,
-        Form::Sql => object.kind.as_slice() != b"table".as_slice(),
+        Form::Json | Form::Csv => Ok(()),
+        Form::Sql => {
+            out.write_all(b"PRAGMA writable_schema=ON;\n")?;
+            write_virtual_line(out, object)?;
+            out.write_all(b"PRAGMA writable_schema=OFF;\n")
+        }
     }
 }
 
-/// An object without rows of its own.
+/// An object that isn't a table.
 fn write_other<W: Write>(out: &mut W, form: Form, object: &Object) -> io::Result<()>
     ensures { OnOk result (Appends (W.contents out.old) (W.contents out.new) (other_text form object.now)) }
 {
@@ -171,14 +213,34 @@ fn print_made<S: PageSource, W: Write>(
     }
 }
 
-/// Prints an object without rows of its own. Refused by `NotUnderstood` where it can't be written.
-fn print_other<W: Write>(form: Form, object: &Object, out: &mut W) -> Result<(), Stop>
-    ensures ok { OnOk result (IsOtherPrinted form object.now (W.contents out.old) (W.contents out.new)) }
-    ensures err { IfErr result (λ stop. IsOtherStopped form object.now stop (W.contents out.old) (W.contents out.new)) }
+/// Prints a virtual table, and any other one with its rows.
+fn print_in_place<S: PageSource, W: Write>(
+    alloc: Global,
+    source: &mut S,
+    object: &Object,
+    form: Form,
+    out: &mut W,
+) -> Result<(), Stop>
+    ensures ok { S.gives_pages source.old → OnOk result (IsObjectPrinted (S.pages source.old) form Turn.Tables
+        object.now (W.contents out.old) (W.contents out.new)) }
+    ensures err { S.gives_pages source.old → IfErr result (λ stop. IsObjectStopped (S.pages source.old) form
+        Turn.Tables object.now stop (W.contents out.old) (W.contents out.new)) }
+    ensures keeps { KeepsPages S.pages S.size S.reads_right S.gives_pages source.old source.new }
 {
-    if !is_written(form, object) {
-        return Err(Stop::NotUnderstood);
+    if !is_virtual(object) {
+        return print_made(alloc, source, object, form, out);
     }
+    match write_virtual(out, form, object) {
+        Ok(()) => Ok(()),
+        Err(error) => Err(Stop::Write(error)),
+    }
+}
+
+/// Prints an object that isn't a table.
+fn print_other<W: Write>(form: Form, object: &Object, out: &mut W) -> Result<(), Stop>
+    ensures ok { OnOk result (Appends (W.contents out.old) (W.contents out.new) (other_text form object.now)) }
+    ensures err { IfErr result IsWriteError }
+{
     match write_other(out, form, object) {
         Ok(()) => Ok(()),
         Err(error) => Err(Stop::Write(error)),
@@ -201,7 +263,8 @@ fn print_taken<S: PageSource, W: Write>(
     ensures keeps { KeepsPages S.pages S.size S.reads_right S.gives_pages source.old source.new }
 {
     match turn {
-        Turn::Tables | Turn::Internal => print_made(alloc, source, object, form, out),
+        Turn::Tables => print_in_place(alloc, source, object, form, out),
+        Turn::Internal => print_made(alloc, source, object, form, out),
         Turn::Others => print_other(form, object, out),
     }
 }
@@ -331,9 +394,9 @@ pub fn listed<S: PageSource>(alloc: Global, source: &mut S) -> Result<Vec<Object
 }
 
 /// Prints the rows of each table of a database. In SQL all of it is printed, as one transaction: of each table the text
-/// that made it and its rows, and behind all rows indexes, triggers and views by their texts. In CSV a line
-/// `table,"NAME"` stands before the heading of each table. Refused as `print_table` is, by the faults of the schema, by
-/// `NotUnderstood` in SQL at a virtual table, and by `Encoding` where texts aren't UTF-8; what was printed before
+/// that made it and its rows, at their place virtual tables as rows of the schema, and behind all rows indexes,
+/// triggers and views by their texts. In CSV a line `table,"NAME"` stands before the heading of each table. Refused as
+/// `print_table` is, by the faults of the schema, and by `Encoding` where texts aren't UTF-8; what was printed before
 /// stands.
 pub fn print_tables<S: PageSource, W: Write>(
     alloc: Global,

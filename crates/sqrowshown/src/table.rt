@@ -6,7 +6,7 @@ ghost use Rattle.sqpage.specs.Source.{KeepsPages};
 ghost use Rattle.sqtables.specs.Named.{AreColumns};
 ghost use Rattle.sqrowlines.specs.Inserts.{rowid_name as rowid_named};
 ghost use Rattle.sqrowshown.specs.Tables.{IsInsert, IsNameFor, IsTablePrinted, has_column as has_named};
-ghost use Rattle.sqrowshown.specs.Tables.{are_unnamed, leads_in};
+ghost use Rattle.sqrowshown.specs.Tables.{are_unnamed, has_rowids, leads_in};
 ghost use Rattle.sqrowlines.specs.declared.form.Form.{Form};
 ghost use Rattle.sqrowshown.specs.Stops.{IsTableStopped};
 ghost use Rattle.sqrowshown.specs.declared.stop.Stop.{Stop};
@@ -44,11 +44,19 @@ fn has_column(columns: &Columns, name: &str) -> bool
     is_among(&columns.names, name)
 }
 
-/// The name by which an INSERT gives a row its rowid; none where a column is another name for it, or no name is free.
+/// Whether a table has rowids, where its columns are known.
+fn has_rowids(columns: &Columns) -> bool
+    ensures { result ≡ has_rowids columns.now }
+{
+    columns.places.is_empty()
+}
+
+/// The name by which an INSERT gives a row its rowid; none where there is none, a column is another name for it, or no
+/// name is free.
 pub fn rowid_name(columns: &Columns) -> Option<&'static str>
     ensures { IsNameFor columns.now (rowid_named result) }
 {
-    if columns.alias.is_some() {
+    if !has_rowids(columns) || columns.alias.is_some() {
         return None;
     }
     if !has_column(columns, "rowid") {

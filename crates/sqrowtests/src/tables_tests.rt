@@ -29,7 +29,9 @@ fn aliases_of_the_rowid(rt: HostRuntime) -> Result<(), Fail> {
 fn tables_of_no_columns(rt: HostRuntime) -> Result<(), Fail> {
     let alloc = rt.alloc();
     let keyed = b"CREATE TABLE t(a INTEGER PRIMARY KEY, b) WITHOUT ROWID";
-    assert!(rt; columns(alloc, keyed) == Some((0, None)));
+    assert!(rt; columns(alloc, keyed) == Some((2, None)));
+    let twice = b"CREATE TABLE t(a, b, PRIMARY KEY(a, A)) WITHOUT ROWID";
+    assert!(rt; columns(alloc, twice) == Some((0, None)));
     let odd = b"CREATE VIRTUAL TABLE t USING fts5(a)";
     assert!(rt; columns(alloc, odd) == Some((0, None)));
     Ok(())
@@ -75,5 +77,39 @@ fn row_with_its_rowid(rt: HostRuntime) -> Result<(), Fail> {
         return Ok(());
     };
     assert!(rt; shown(rt.alloc(), &columns, 5) == Some((5, 7)));
+    Ok(())
+}
+
+/// What is shown of the last column by a row that stores NULL and 7.
+fn last_shown(alloc: Global, text: &[u8]) -> Option<(usize, i64)> {
+    let columns = columns_of(alloc, text).ok()?;
+    let row = Row {
+        rowid: None,
+        values: Record::new(b"\x03\x00\x01\x07").ok()?,
+    };
+    let values = columns.shown(alloc, &row).ok()?;
+    match values.as_slice() {
+        [.., Value::Int(number)] => Some((values.len(), *number)),
+        [.., Value::Text(bytes)] if *bytes == b"-70".as_slice() => Some((values.len(), -70)),
+        _ => None,
+    }
+}
+
+#[test]
+fn row_without_its_last_column(rt: HostRuntime) -> Result<(), Fail> {
+    let alloc = rt.alloc();
+    let number = b"CREATE TABLE t(a, b, c INT DEFAULT '90')";
+    assert!(rt; last_shown(alloc, number) == Some((3, 90)));
+    let text = b"CREATE TABLE t(a, b, c TEXT DEFAULT -70)";
+    assert!(rt; last_shown(alloc, text) == Some((3, -70)));
+    Ok(())
+}
+
+#[test]
+fn row_in_the_order_of_its_key(rt: HostRuntime) -> Result<(), Fail> {
+    let text = b"CREATE TABLE t(b, a, c, PRIMARY KEY(c, a)) WITHOUT ROWID";
+    assert!(rt; last_shown(rt.alloc(), text) == None);
+    let other = b"CREATE TABLE t(b PRIMARY KEY, a) WITHOUT ROWID";
+    assert!(rt; last_shown(rt.alloc(), other) == Some((2, 7)));
     Ok(())
 }

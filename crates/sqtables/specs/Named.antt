@@ -1,22 +1,21 @@
 -- The columns that the text of a table names (own).
-use Rattle.std.specs.Prelude.{◌≡◌, ℕ, ◌⊎◌, true, false, List, [], map, length, Option, None, MatchOption}
+use Rattle.std.specs.Prelude.{◌≡◌, ℕ, ◌⊎◌, true, false, List, [], map, length, Option, None, MatchOption, option_map}
 use Rattle.sqlite_ast.specs.declared.CreateTable.{CreateTable}
-use Rattle.sqlite_ast.specs.declared.TableBody.{TableBody}
+use Rattle.sqlite_ast.specs.declared.Keyed.{Keyed}
+use Rattle.sqdefaults.specs.Literals.{datum_in}
 use Rattle.sqtables.specs.declared.columns.Columns.{Columns}
-use Rattle.sqtables.specs.Defaults.{NoDefault}
+use Rattle.sqtables.specs.Defaults.{default_for, IsNeeded}
+use Rattle.sqtables.specs.Keys.{HasPlainKey, places_of}
 use Rattle.sqtables.specs.Texts.{MakesTable, is_without_rowid, IsAlias}
 
--- A row that stores so many columns has NULL in the others: these are all columns, or the table has no default.
-abbrev pub IsNeeded : TableBody → (needed : ℕ) → Type 0
-IsNeeded body needed = (needed ≡ length body.columns) ⊎ NoDefault body
-
--- The columns have the names of this table's, this one is another name for its rowid, and rows must store as many as are
--- needed.
-pub record HasColumns (body : TableBody) (alias : Option ℕ) (columns : Columns) : Type 0 where
-  pub names : map (λ n. n.items) columns.names.items ≡ map (λ c. c.0) body.columns
+-- The columns have the names and the defaults of this table's, stand at these places, this one is another name for its rowid,
+-- and rows must store as many as are needed.
+pub record HasColumns (def : CreateTable) (alias : Option ℕ) (places : List ℕ) (columns : Columns) : Type 0 where
+  pub names : map (λ n. n.items) columns.names.items ≡ map (λ c. c.0) def.body.columns
   pub aliased : columns.alias ≡ alias
-  pub plain : columns.defaults.items ≡ []
-  pub needed : IsNeeded body columns.needed
+  pub defaults : map (option_map datum_in) columns.defaults.items ≡ map (default_for def) def.body.columns
+  pub placed : columns.places.items ≡ places
+  pub needed : IsNeeded columns.defaults.items places columns.needed
 
 -- No column is known.
 pub record IsBare (columns : Columns) : Type 0 where
@@ -24,11 +23,30 @@ pub record IsBare (columns : Columns) : Type 0 where
   pub unaliased : columns.alias ≡ None
   pub plain : columns.defaults.items ≡ []
   pub free : columns.needed ≡ 0
+  pub unplaced : columns.places.items ≡ []
 
--- The columns are those of the table with rowids that the text makes, and its alias is the column that is one; or the text
--- makes none, and no column is known.
+-- The columns are those of the table with rowids that the text makes, and its alias is the column that is one.
+pub record AreRowidColumns (text : List ℕ) (columns : Columns) : Type 0 where
+  pub def : CreateTable
+  pub makes : MakesTable text def
+  pub rowids : is_without_rowid text ≡ false
+  pub alias : Option ℕ
+  pub names : MatchOption alias ((i : ℕ) → ¬ IsAlias def.body i) (IsAlias def.body)
+  pub has : HasColumns def alias [] columns
+
+-- They are those of the table WITHOUT ROWID that the text makes, of which those of its key are stored first.
+pub record AreKeyColumns (text : List ℕ) (columns : Columns) : Type 0 where
+  pub def : CreateTable
+  pub makes : MakesTable text def
+  pub keyed : is_without_rowid text ≡ true
+  pub keys : List Keyed
+  pub key : HasPlainKey def.body keys
+  pub has : HasColumns def None (places_of keys (length keys) def.body.columns) columns
+
+-- The columns are those of one of both; or the text makes no table, or one WITHOUT ROWID whose key isn't understood, and no
+-- column is known.
 abbrev pub AreColumns : List ℕ → Columns → Type 0
 AreColumns text columns =
-    ((def : CreateTable) × (alias : Option ℕ) × MakesTable text def × (is_without_rowid text ≡ false)
-    × MatchOption alias ((i : ℕ) → ¬ IsAlias def.body i) (IsAlias def.body) × HasColumns def.body alias columns)
-    ⊎ (((def : CreateTable) → MakesTable text def → is_without_rowid text ≡ true) × IsBare columns)
+    AreRowidColumns text columns
+    ⊎ AreKeyColumns text columns
+    ⊎ (((def : CreateTable) → MakesTable text def → (is_without_rowid text ≡ true) × ((keys : List Keyed) → ¬ HasPlainKey def.body keys)) × IsBare columns)

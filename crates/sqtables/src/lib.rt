@@ -3,13 +3,16 @@
 
 mod columns;
 mod defaults;
+mod keys;
 mod list;
 mod named;
 mod schema;
 mod text;
 
-pub use columns::{Columns, Literal};
+pub use columns::Columns;
+pub use keys::primary_of;
 pub use list::{ListError, Object, objects, table_named};
 pub use named::columns_of;
 pub use schema::{TableRow, table_row};
+pub use sqdefaults::Literal;
 pub use text::{TableText, is_integer, table_text};

@@ -1,12 +1,14 @@
 //! The columns that the text of a table names.
-ghost use Rattle.std.specs.Prelude.{◌≡◌, IfOk, IfErr, map};
+ghost use Rattle.std.specs.Prelude.{◌≡◌, ◌<◌, All, IfOk, IfErr, map};
 ghost use Rattle.sqlite_syntax.specs.declared.error.ParseError.{ParseError};
-ghost use Rattle.sqtables.specs.Named.{HasColumns, AreColumns, IsBare, IsNeeded};
+ghost use Rattle.sqtables.specs.Named.{HasColumns, AreColumns, IsBare};
+ghost use Rattle.sqtables.specs.internal.KeyColumns.{AreKeyed};
 
 use crate::columns::Columns;
-use crate::defaults::has_default;
+use crate::defaults::{defaults_of, needed_of};
+use crate::keys::{places_of, plain_key};
 use crate::text::{TableText, table_text};
-use sqlite_ast::TableBody;
+use sqlite_ast::CreateTable;
 use sqlite_syntax::error::ParseError;
 use sqlite_value::value::Bytes;
 use std::alloc::{AllocError, Global};
@@ -22,26 +24,24 @@ fn names_of(alloc: Global, columns: &[(Bytes, Bytes)]) -> Result<Vec<Vec<u8>>, A
     Ok(names)
 }
 
-/// How many columns a row must store: all of them where the table has a default.
-fn needed_of(body: &TableBody) -> usize
-    ensures { IsNeeded body.now result }
+/// The columns of a table that stand at these places.
+fn columns_in(
+    alloc: Global,
+    def: &CreateTable,
+    alias: Option<usize>,
+    places: Vec<usize>,
+) -> Result<Columns, AllocError>
+    requires { All (λ place. place < 18446744073709551615) places.items }
+    ensures { IfOk result (HasColumns def.now alias places.items) }
 {
-    if has_default(body) {
-        body.columns.len()
-    } else {
-        0
-    }
-}
-
-/// The columns of a table with rowids.
-fn columns_in(alloc: Global, found: &TableText) -> Result<Columns, AllocError>
-    ensures { IfOk result (HasColumns found.now.def.body found.now.alias) }
-{
+    let defaults = defaults_of(alloc, def)?;
+    let needed = needed_of(&defaults, &places);
     Ok(Columns {
-        names: names_of(alloc, found.def.body.columns.as_slice())?,
-        alias: found.alias,
-        defaults: Vec::new(alloc),
-        needed: needed_of(&found.def.body),
+        names: names_of(alloc, def.body.columns.as_slice())?,
+        alias,
+        defaults,
+        needed,
+        places,
     })
 }
 
@@ -54,11 +54,26 @@ fn bare(alloc: Global) -> Columns
         alias: None,
         defaults: Vec::new(alloc),
         needed: 0,
+        places: Vec::new(alloc),
     }
 }
 
-/// The columns of the table that the text of the schema makes. No column is named where the text isn't understood, nor
-/// where the table is one WITHOUT ROWID, which stores its columns in another order. Refused by OutOfMemory alone.
+/// The columns of a table WITHOUT ROWID; none where its key isn't understood.
+fn key_columns(alloc: Global, def: &CreateTable) -> Result<Columns, AllocError>
+    ensures { IfOk result (AreKeyed def.now) }
+{
+    match plain_key(&def.body) {
+        Some(keys) => {
+            let places = places_of(alloc, keys, def.body.columns.as_slice())?;
+            columns_in(alloc, def, None, places)
+        }
+        None => Ok(bare(alloc)),
+    }
+}
+
+/// The columns of the table that the text of the schema makes, in the order of the text. No column is named where the
+/// text isn't understood, nor where the table is one WITHOUT ROWID in whose key a column stands twice. Refused by
+/// OutOfMemory alone.
 pub fn columns_of(alloc: Global, text: &[u8]) -> Result<Columns, ParseError>
     ensures ok { IfOk result (AreColumns text.now) }
     ensures err { IfErr result (λ e. e ≡ ParseError.OutOfMemory) }
@@ -67,8 +82,13 @@ pub fn columns_of(alloc: Global, text: &[u8]) -> Result<Columns, ParseError>
         Some(found) => found,
         None => return Ok(bare(alloc)),
     };
-    if found.without_rowid {
-        return Ok(bare(alloc));
+    let TableText {
+        without_rowid,
+        def,
+        alias,
+    } = found;
+    if without_rowid {
+        return Ok(key_columns(alloc, &def)?);
     }
-    Ok(columns_in(alloc, &found)?)
+    Ok(columns_in(alloc, &def, alias, Vec::new(alloc))?)
 }

@@ -105,7 +105,7 @@ fn without_end<'a>(word: &[u8], text: &'a [u8]) -> &'a [u8]
 }
 
 /// The type that is written for a column, without GENERATED ALWAYS at its end.
-fn written_type(text: &[u8]) -> &[u8]
+pub(crate) fn written_type(text: &[u8]) -> &[u8]
     ensures { result.now ≡ written_type text.now }
 {
     if text.len() > 15 && ends_in(b"always", text) {

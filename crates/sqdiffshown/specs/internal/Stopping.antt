@@ -9,15 +9,15 @@ use Rattle.sqdiff.specs.declared.error.SideError.TheVariants as sides
 use Rattle.sqdiff.specs.declared.error.DiffError.{DiffError}
 use Rattle.sqdiff.specs.declared.error.DiffError.TheVariants.{Old, New}
 
-abbrev pub unordered : (root : ℕ) → (is_known : Bool) → Stop
+abbrev pub unordered : (root : ℕ) → (has_rowids : Bool) → Stop
 unordered root true = Fault (record { page = root; fault = faults.KeyOrder })
 unordered root false = NotUnderstood
 
-abbrev pub stop_of_side : SideError → (root : ℕ) → (is_known : Bool) → Stop
-stop_of_side (sides.Rows error) root is_known = stop_of_row error
-stop_of_side (sides.Record error) root is_known = Record error
-stop_of_side sides.Unordered root is_known = unordered root is_known
+abbrev pub stop_of_side : SideError → (root : ℕ) → (has_rowids : Bool) → Stop
+stop_of_side (sides.Rows error) root has_rowids = stop_of_row error
+stop_of_side (sides.Record error) root has_rowids = Record error
+stop_of_side sides.Unordered root has_rowids = unordered root has_rowids
 
-abbrev pub stop_of_diff : DiffError → (roots : ℕ × ℕ) → (is_known : Bool) → Stop
-stop_of_diff (Old error) roots is_known = stop_of_side error roots.0 is_known
-stop_of_diff (New error) roots is_known = stop_of_side error roots.1 is_known
+abbrev pub stop_of_diff : DiffError → (roots : ℕ × ℕ) → (has_rowids : Bool) → Stop
+stop_of_diff (Old error) roots has_rowids = stop_of_side error roots.0 has_rowids
+stop_of_diff (New error) roots has_rowids = stop_of_side error roots.1 has_rowids

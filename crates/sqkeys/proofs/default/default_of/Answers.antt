@@ -3,9 +3,10 @@ use Rattle.std.specs.Prelude.{IfOk, Option, Some, None, cond, option_copied}
 use Rattle.sqlite_ast.specs.declared.Expr.{Expr}
 use Rattle.sqlite_ast.specs.declared.Rule.{Rule}
 use Rattle.sqlite_value.specs.declared.value.Value.{Value}
-use Rattle.sqkeys.specs.declared.affinity.Affinity.{Affinity}
-use Rattle.sqkeys.specs.Affinities.{affinity_of}
-use Rattle.sqkeys.specs.Columns.{is_cut, default_by, default_in, default_of, last_said}
+use Rattle.sqdefaults.specs.declared.affinity.Affinity.{Affinity}
+use Rattle.sqdefaults.specs.Affinities.{affinity_of}
+use Rattle.sqdefaults.specs.Defaults.{default_in, last_said}
+use Rattle.sqkeys.specs.Columns.{is_cut, default_by, default_of}
 use Rattle.sqkeys.proofs.default.default_of.Goals as goal
 
 of_parts : (rules : List Rule) (column : List ℕ × List ℕ) → is_cut column.1 ≡ false → default_by (affinity_of column.1) (last_said (default_in column.0) rules) ≡ default_of rules (Some column)

@@ -3,7 +3,7 @@ use Rattle.std.proofs.lemmas.List.{length-take-le}
 use Rattle.std.specs.Prelude.{Result, Ok, Err, Option, Some, None, IfOk, MatchOption, codes}
 use Rattle.std.specs.declared.alloc.AllocError.{AllocError}
 use Rattle.sqlite_ast.specs.declared.CreateIndex.{CreateIndex}
-use Rattle.sqkeys.specs.Affinities.{begins}
+use Rattle.sqdefaults.specs.Affinities.{begins}
 use Rattle.sqkeys.specs.Keys.{MakesIndex, IsNoIndex, most_text}
 use Rattle.sqkeys.specs.Entries.{IsBefore, most_partial}
 use Rattle.sqkeys.proofs.partial.before.Goals as goal

@@ -1,6 +1,6 @@
 use Rattle.std.proofs.Common.{◌<◌, length, arith}
 use Rattle.sqkeys.specs.Columns.{collation_in}
-use Rattle.sqkeys.proofs.LastSaid.{next_said}
+use Rattle.sqdefaults.proofs.LastSaid.{next_said}
 use Rattle.sqkeys.proofs.rule.last_collation.Goals as goal
 
 pub loop-rule-preserved : goal.loop-rule-preserved

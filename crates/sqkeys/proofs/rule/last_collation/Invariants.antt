@@ -1,5 +1,6 @@
 use Rattle.std.proofs.Common.{◌≡◌, take}
-use Rattle.sqkeys.specs.Columns.{last_said, collation_in}
+use Rattle.sqdefaults.specs.Defaults.{last_said}
+use Rattle.sqkeys.specs.Columns.{collation_in}
 use Rattle.sqkeys.proofs.rule.last_collation.Given as goal
 
 abbrev pub invariant-loop-rule : goal.invariant-loop-rule

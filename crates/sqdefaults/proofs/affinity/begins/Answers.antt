@@ -1,0 +1,22 @@
+use Rattle.std.proofs.Common.{◌≡◌, ◌∙◌, Bool, true, false, length, take, refl, sym, ap}
+use Rattle.std.specs.Str.{bytes_eq, str_eq_ignore_ascii_case, str_to_ascii_lowercase}
+use Rattle.std.proofs.lemmas.List.{take_min}
+use Rattle.std.proofs.lemmas.Slice.Eq.{bytes_eq-Decides}
+use Rattle.sqdefaults.proofs.affinity.begins.Goals as goal
+
+-- two tests of one fact
+same : (a b : Bool) (P : Type 0) → (a ≡ true → P) → (P → a ≡ true) → (b ≡ true → P) → (P → b ≡ true) → a ≡ b
+same true b P f g h k = sym (k (f refl))
+same false true P f g h k = g (h refl)
+same false false P f g h k = refl
+
+pub returns : goal.returns
+returns c =
+    let text = c.args.text.now in
+    let word = c.args.word.now in
+    let test = c.eq_ignore_ascii_case.ensures.test in
+    let xs = str_to_ascii_lowercase (take c.min-end.result text) in
+    let ys = str_to_ascii_lowercase word in
+    let decides = bytes_eq-Decides xs ys in
+    let head : take c.min-end.result text ≡ take (length word) text = ap (λ n. take n text) c.min-end.ensures ∙ take_min (length word) text in
+    same c.eq_ignore_ascii_case.result (bytes_eq xs ys) (xs ≡ ys) test.0 test.1 decides.0 decides.1 ∙ ap (λ z. str_eq_ignore_ascii_case z word) head

@@ -1,0 +1,4 @@
+pub mod Affinities
+pub mod Literals
+pub mod Numbers
+pub mod Defaults

@@ -1,7 +1,0 @@
-use Rattle.std.proofs.Common.{◌≡◌, take}
-use Rattle.std.specs.Prelude.{option_copied}
-use Rattle.sqkeys.specs.Columns.{last_said, default_in}
-use Rattle.sqkeys.proofs.rule.last_default.Given as goal
-
-abbrev pub invariant-loop-rule : goal.invariant-loop-rule
-invariant-loop-rule l = option_copied l.found ≡ last_said (default_in l.name) (take l.rule-index l.rules)
