@@ -4,7 +4,9 @@
 mod changes;
 mod history;
 mod rows;
+mod salvage;
 
 pub use changes::show_changes;
 pub use history::show_history;
 pub use rows::{Printed, Wanted, show_rows};
+pub use salvage::{Salvaged, show_salvage};

@@ -1,5 +1,5 @@
 //! The leaves of a tree, and those that no tree reached (own).
-ghost use Rattle.std.specs.Prelude.{◌≡◌, ◌≢◌, true, false, IfOk, IfErr, IfSome, OnOk, length};
+ghost use Rattle.std.specs.Prelude.{◌≡◌, ◌≢◌, [], true, false, IfOk, IfErr, IfSome, MatchOption, OnOk, length};
 ghost use Rattle.sqval.specs.Database.{Database};
 ghost use Rattle.sqpage.specs.Freelist.{IsPage, usable_size};
 ghost use Rattle.sqpage.specs.Source.{KeepsPages};
@@ -153,8 +153,9 @@ impl Salvage {
             → IfOk result (TreeMoves (S.pages source.old) self.old self.new) }
         ensures err { S.gives_pages source.old → IsOver (S.pages source.old) self.old
             → IfErr result (λ e. e.fault ≡ Fault.NoMemory) }
-        ensures leaf { IfOk result (λ found. IfSome found (λ page. (page.kind ≡ Kind.TableLeaf)
-            × (page.usable ≡ self.old.usable))) }
+        // Behind the last one nothing is pending.
+        ensures leaf { IfOk result (λ found. MatchOption found (self.new.pending.items ≡ [])
+            (λ page. (page.kind ≡ Kind.TableLeaf) × (page.usable ≡ self.old.usable))) }
         ensures same { (self.new.size ≡ self.old.size) × (self.new.usable ≡ self.old.usable)
             × (self.new.at ≡ self.old.at) }
         ensures keeps { KeepsPages S.pages S.size S.reads_right S.gives_pages source.old source.new }

@@ -5,3 +5,5 @@
 mod files;
 #[cfg(test)]
 mod leaves_tests;
+#[cfg(test)]
+mod scripts_tests;

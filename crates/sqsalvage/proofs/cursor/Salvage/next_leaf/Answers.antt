@@ -30,6 +30,13 @@ returns-in-None-clause-ok g c = λ gives over.
     let same : pending ≡ c.pop.new.self.items = c.in-None.ensures.items ∙ append-nil c.pop.new.self.items in
     comes_to_end d c.args.self.now _ c.pages.self.usable pending (c.pages.invariant.goes gives over) refl same (sym same ∙ nil_from_length pending len)
 
+pub returns-in-None-clause-leaf : goal.returns-in-None-clause-leaf
+returns-in-None-clause-leaf g c =
+    let pending : List ℕ = c.pages.self.pending.items in
+    let len : length pending ≡ 0 = omega (arith, c.in-None.ensures.cases, c.pages.self.pending.ok) in
+    let same : pending ≡ c.pop.new.self.items = c.in-None.ensures.items ∙ append-nil c.pop.new.self.items in
+    sym same ∙ nil_from_length pending len
+
 pub pages-preserved : goal.pages-preserved
 pages-preserved g c =
     let i = c.pages.invariant in

@@ -1,0 +1,7 @@
+pub mod Books
+pub mod Marks
+pub mod Lost
+pub mod Cells
+pub mod Leaves
+pub mod Scripts
+pub mod internal

@@ -1,0 +1,55 @@
+-- The table of lost rows: those that no table takes (own).
+use Rattle.std.specs.Prelude.{◌≡◌, ℕ, suc, max, ◌≤◌, List, [], ◌++◌, codes, length, Option, Some, None}
+use Rattle.std.specs.Io.KnownBytes.{Appends}
+use Rattle.std.specs.Fmt.{decimal}
+use Rattle.sqval.specs.Datum.{Datum}
+use Rattle.sqpage.specs.declared.cell.Cell.{Cell}
+use Rattle.sqrowlines.specs.declared.form.Form.TheVariants.{Sql}
+use Rattle.sqrowlines.specs.Lines.{between_marks, IsLine}
+use Rattle.sqsalvageshown.specs.Marks.{id_of}
+
+-- what makes the table of this name, which has no column for values yet
+abbrev pub made_text : (name : List ℕ) → List ℕ
+made_text name = codes "CREATE TABLE " ++ (between_marks 34 name ++ codes "(rootpgno INTEGER, pgno INTEGER, nfield INTEGER, id INTEGER);\n")
+
+-- what adds its column for value k, from 0
+abbrev pub added_text : (name : List ℕ) → (k : ℕ) → List ℕ
+added_text name k = codes "ALTER TABLE " ++ (between_marks 34 name ++ (codes " ADD COLUMN c" ++ (decimal k ++ codes ";\n")))
+
+-- It had columns for `from` values, and those for values up to `to` were added.
+pub data AreAdded (name : List ℕ) (from : ℕ) (before : Option (List ℕ)) : (to : ℕ) → (after : Option (List ℕ)) → Type 0 where
+  none : AreAdded name from before from before
+  more : {k : ℕ} {mid after : Option (List ℕ)} → AreAdded name from before k mid → Appends mid after (added_text name k) → AreAdded name from before (suc k) after
+
+-- The names of so many of these columns were written.
+pub data AreNamed (before : Option (List ℕ)) : (n : ℕ) → (after : Option (List ℕ)) → Type 0 where
+  nothing : AreNamed before 0 before
+  next : {k : ℕ} {mid after : Option (List ℕ)} → AreNamed before k mid → Appends mid after (codes ",c" ++ decimal k) → AreNamed before (suc k) after
+
+-- the root of the tree of a row
+abbrev pub root_text : Option ℕ → List ℕ
+root_text None = codes "NULL"
+root_text (Some root) = decimal root
+
+abbrev pub head_text : (name : List ℕ) → List ℕ
+head_text name = codes "INSERT INTO " ++ (between_marks 34 name ++ codes "(rootpgno,pgno,nfield,id")
+
+-- the root of the row's tree, its page, and how many values it has
+abbrev pub where_text : (root : Option ℕ) → (p n : ℕ) → List ℕ
+where_text root p n = codes ") VALUES(" ++ (root_text root ++ (codes "," ++ (decimal p ++ (codes "," ++ (decimal n ++ codes ",")))))
+
+-- An INSERT of a row of these values, which stands in this cell: behind as many columns as it takes, the root, the page, how
+-- many values there are, the rowid, and the values as they are stored.
+pub record IsLostRow (name : List ℕ) (root : Option ℕ) (cell : Cell) (values : List Datum) (old new : ℕ) (before after : Option (List ℕ)) : Type 0 where
+  pub wide : new ≡ max old (length values)
+  pub widened : Option (List ℕ)
+  pub headed : Option (List ℕ)
+  pub named : Option (List ℕ)
+  pub placed : Option (List ℕ)
+  pub line : List ℕ
+  pub adds : AreAdded name old before new widened
+  pub head : Appends widened headed (head_text name)
+  pub names : AreNamed headed (length values) named
+  pub stands : Appends named placed (where_text root cell.page (length values))
+  pub is : IsLine Sql [] [] (Some (id_of cell)) values line
+  pub written : Appends placed after line

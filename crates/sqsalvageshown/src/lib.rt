@@ -1,0 +1,17 @@
+//! A damaged database as a script of SQL: its rows as far as they can be read, a line for each cell that can't (own).
+#![tactic(auto)]
+
+mod book;
+mod cell;
+mod found;
+mod leaf;
+mod leaves;
+mod lost;
+mod marks;
+mod object;
+mod row;
+mod salvage;
+mod table;
+mod tables;
+
+pub use salvage::print_salvage;

@@ -1,0 +1,71 @@
+//! The object of a row of the schema (fileformat2, 2.6).
+ghost use Rattle.std.specs.Prelude.{◌≡◌, ◌≢◌, ℕ, ◌<◌, ◌^◌, List, Some, IfOk, MatchOption, slice_get, pos};
+ghost use Rattle.sqval.specs.Datum.{Datum, integer, text};
+ghost use Rattle.sqtables.specs.Objects.{IsNoObject, IsObjectOf};
+
+use sqtables::Object;
+use sqval::{Record, Value};
+use std::alloc::{AllocError, Global};
+
+/// The text in a column.
+fn text_at<'a>(values: &Record<'a>, i: usize) -> Option<&'a [u8]>
+    ensures { MatchOption result ((bytes : List ℕ) → slice_get values.now i ≢ Some (text bytes))
+        (λ bytes. slice_get values.now i ≡ Some (text bytes.now)) }
+{
+    match values.column(i) {
+        Some(Value::Text(bytes)) => Some(bytes),
+        _ => None,
+    }
+}
+
+/// The page number in a column, or 0.
+fn number_at(values: &Record, i: usize) -> Option<u32>
+    ensures { MatchOption result ((root : ℕ) → root < 2 ^ 32 → slice_get values.now i ≢ Some (integer (pos root)))
+        (λ root. slice_get values.now i ≡ Some (integer (pos root))) }
+{
+    match values.column(i) {
+        Some(Value::Int(number)) if 0 <= number && number < 0x1_0000_0000 => Some(number as u32),
+        _ => None,
+    }
+}
+
+/// An object with bytes of its own.
+fn copied(
+    alloc: Global,
+    kind: &[u8],
+    name: &[u8],
+    root: u32,
+    sql: &[u8],
+) -> Result<Object, AllocError>
+    ensures { IfOk result (λ o. (o.kind.items ≡ kind.now) × (o.name.items ≡ name.now) × (o.root ≡ root)
+        × (o.sql.items ≡ sql.now)) }
+{
+    Ok(Object {
+        kind: Vec::from_slice(alloc, kind)?,
+        name: Vec::from_slice(alloc, name)?,
+        root,
+        sql: Vec::from_slice(alloc, sql)?,
+    })
+}
+
+/// The object of a row of the schema. None where it is that of none with a text, as of an index that a constraint made.
+pub(crate) fn object_of(alloc: Global, values: &Record<'_>) -> Result<Option<Object>, AllocError>
+    ensures { IfOk result (λ found. MatchOption found (IsNoObject values.now) (IsObjectOf values.now)) }
+{
+    let Some(kind) = text_at(values, 0) else {
+        return Ok(None);
+    };
+    let Some(name) = text_at(values, 1) else {
+        return Ok(None);
+    };
+    let Some(root) = number_at(values, 3) else {
+        return Ok(None);
+    };
+    let Some(sql) = text_at(values, 4) else {
+        return Ok(None);
+    };
+    match copied(alloc, kind, name, root, sql) {
+        Ok(object) => Ok(Some(object)),
+        Err(error) => Err(error),
+    }
+}
