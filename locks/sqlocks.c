@@ -1,7 +1,7 @@
 /* sqlocks.c: takes SQLite's own locks on a database, and starts the proved program that reads or recovers it. It
    decides nothing: the program says by its hidden word --locks what the words ask for, and held.c takes it. The locks
-   stay with the open files over execv, and go with the process. The program sees them in /proc/self/fdinfo. Not
-   proved. */
+   stay with the open files over execv, and go with the process. The program sees them in /proc/self/fdinfo. Where the
+   program says that the words name several files, this starts itself for one after another. Not proved. */
 #define _GNU_SOURCE
 #include "held.h"
 #include <errno.h>
@@ -28,13 +28,13 @@ static int kept(int fd) { /* the same by a number that is none of the standard s
     return other;
 }
 
-/* The words for the program, with two more; they end in a null. */
-static char **words_with(char **words, const char *first, const char *second) {
+/* The words for a program of this name, with two more; they end in a null. */
+static char **words_with(char *name, char **words, const char *first, const char *second) {
     int count = 0, at = 0;
     while (words[count]) count++;
     char **all = calloc((size_t)count + 3, sizeof *all);
     if (!all) fails("no memory");
-    all[at++] = program;
+    all[at++] = name;
     if (first) all[at++] = (char *)first, all[at++] = (char *)second;
     for (int i = 1; i < count; i++) all[at++] = words[i];
     return all;
@@ -42,7 +42,7 @@ static char **words_with(char **words, const char *first, const char *second) {
 
 /* Becomes the program, with two words more. */
 static _Noreturn void start(char **words, const char *first, const char *second) {
-    execv(program, words_with(words, first, second));
+    execv(program, words_with(program, words, first, second));
     fails(program);
 }
 
@@ -55,14 +55,20 @@ static pid_t started(char **words, const int ends[2]) {
     if (!errno) errno = posix_spawn_file_actions_addclose(&how, ends[0]);
     if (!errno) errno = posix_spawn_file_actions_addclose(&how, ends[1]);
     if (errno) fails("no memory");
-    errno = posix_spawn(&child, program, &how, NULL, words_with(words, "--locks", "1"), environ);
+    errno = posix_spawn(&child, program, &how, NULL, words_with(program, words, "--locks", "1"), environ);
     if (errno) fails(program);
     posix_spawn_file_actions_destroy(&how);
     return child;
 }
 
+static int ended(pid_t child) { /* how it ended */
+    int status;
+    while (waitpid(child, &status, 0) < 0 && errno == EINTR) {}
+    return status;
+}
+
 static size_t asked(char **words, char *out, size_t room) { /* what the program says to --locks; ends where it fails */
-    int ends[2], status;
+    int ends[2];
     if (pipe(ends) || (ends[0] = kept(ends[0])) < 0 || (ends[1] = kept(ends[1])) < 0) fails("pipe");
     pid_t child = started(words, ends);
     close(ends[1]);
@@ -73,7 +79,7 @@ static size_t asked(char **words, char *out, size_t room) { /* what the program 
         else if (errno != EINTR) fails("pipe");
     }
     close(ends[0]);
-    while (waitpid(child, &status, 0) < 0 && errno == EINTR) {}
+    int status = ended(child);
     if (WIFEXITED(status) && WEXITSTATUS(status) == 0) return length;
     if (!WIFEXITED(status)) fprintf(stderr, "sqrescue: %s failed\n", program);
     exit(WIFEXITED(status) ? WEXITSTATUS(status) : 3);
@@ -86,6 +92,24 @@ static _Noreturn void go(char **words, const struct sqr_held *held) { /* the pro
     start(words, "--held", numbers);
 }
 
+/* Starts itself for each of so many files, one after another. The greatest status. */
+static int each(char **words, unsigned count) {
+    int greatest = 0;
+    for (unsigned k = 1; k <= count; k++) {
+        char number[16];
+        pid_t child;
+        snprintf(number, sizeof number, "%u", k);
+        char **all = words_with(words[0], words, "--one", number);
+        errno = posix_spawn(&child, "/proc/self/exe", NULL, NULL, all, environ);
+        if (errno) fails("/proc/self/exe");
+        free(all);
+        int status = ended(child);
+        if (!WIFEXITED(status)) return 128 + WTERMSIG(status);
+        if (WEXITSTATUS(status) > greatest) greatest = WEXITSTATUS(status);
+    }
+    return greatest;
+}
+
 int main(int argc, char **words) {
     static char said[PATH_MAX + 64];
     static const char beside[] = "/../libexec/sqrescue/sqrescue";
@@ -95,10 +119,11 @@ int main(int argc, char **words) {
     program[named] = 0;
     strcpy(strrchr(program, '/'), beside);
     size_t length = asked(words, said, sizeof said - 1);
-    unsigned want, seconds;
+    unsigned want, seconds, count;
     int from = 0;
     if (length < 2 || said[length - 1] != '\n') start(words, NULL, NULL);
     said[length - 1] = 0;
+    if (sscanf(said, "each %u", &count) == 1) return each(words, count);
     if (sscanf(said, "%u %u%n", &want, &seconds, &from) != 2 || said[from] != ' ' || strlen(said + from) > PATH_MAX)
         start(words, NULL, NULL);
     struct sqr_held held;

@@ -40,6 +40,11 @@ pub(crate) fn file_arg<'a>(alloc: Global) -> Arg<'a> {
         .help("The database file; its logs are FILE-wal and FILE-journal")
 }
 
+/// The same of a command that takes several. A line is read here with one of them alone.
+pub(crate) fn files_arg<'a>(alloc: Global) -> Arg<'a> {
+    file_arg(alloc).num_args(1..)
+}
+
 pub(crate) fn verbose_arg<'a>(alloc: Global) -> Arg<'a> {
     flag(
         alloc,
@@ -174,6 +179,26 @@ pub(crate) fn report_arg<'a>(alloc: Global) -> Arg<'a> {
         "Makes the file OUT, which a browser shows without a network",
     )
     .required(true)
+}
+
+/// Where `salvage` leaves the script that it makes.
+pub(crate) fn script_file_arg<'a>(alloc: Global) -> Arg<'a> {
+    option(
+        alloc,
+        "to",
+        "OUT",
+        "Makes the file OUT, a script of SQL, which sqlite3 reads",
+    )
+    .required(true)
+}
+
+/// Whether the script has places.
+pub(crate) fn places_arg<'a>(alloc: Global) -> Arg<'a> {
+    flag(
+        alloc,
+        "places",
+        "Writes down the page and the cell of each row, as a comment",
+    )
 }
 
 /// What `check` checks besides.

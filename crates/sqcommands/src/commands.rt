@@ -2,11 +2,12 @@
 //! half made has much to let go.
 use crate::arguments::{
     Made, all_arg, at_arg, changed_table_arg, commits_arg, copy_arg, csv_arg, deep_arg,
-    each_commit_arg, file_arg, force_arg, from_arg, json_arg, large_arg, log_arg, no_lock_arg,
-    only_with, page_arg, pages_arg, pointer_maps_arg, report_arg, script_arg, shown_maps_arg,
-    sql_arg, super_journal_arg, table_arg, until_arg, verbose_arg, version_arg, wait_arg,
+    each_commit_arg, file_arg, files_arg, force_arg, from_arg, json_arg, large_arg, log_arg,
+    no_lock_arg, only_with, page_arg, pages_arg, places_arg, pointer_maps_arg, report_arg,
+    script_arg, script_file_arg, shown_maps_arg, sql_arg, super_journal_arg, table_arg, until_arg,
+    verbose_arg, version_arg, wait_arg,
 };
-use crate::texts::{ALL, CHECK, DIFF, RECOVER, REPORT, ROWS, SHOW};
+use crate::texts::{ALL, CHECK, DIFF, RECOVER, REPORT, ROWS, SALVAGE, SHOW};
 use clap::{Arg, Command};
 use std::alloc::Global;
 
@@ -28,10 +29,11 @@ fn base_command<'a>(
     name: &'a str,
     about: &'a str,
     examples: &'a str,
+    file: Arg<'a>,
     at: Made<Arg<'a>>,
 ) -> Made<Command<'a>> {
     let command = Ok(Command::new(alloc, name).about(about).after_help(examples));
-    let command = with_arg(command, Ok(file_arg(alloc)));
+    let command = with_arg(command, Ok(file));
     let command = with_arg(command, Ok(verbose_arg(alloc)));
     let command = with_arg(command, Ok(json_arg(alloc)));
     let command = with_arg(command, at);
@@ -43,7 +45,14 @@ fn base_command<'a>(
 
 fn show_command<'a>(alloc: Global) -> Made<Command<'a>> {
     let about = "Shows the header of the database as its log has it; writes nothing";
-    let command = base_command(alloc, "show", about, SHOW, Ok(at_arg(alloc)));
+    let command = base_command(
+        alloc,
+        "show",
+        about,
+        SHOW,
+        files_arg(alloc),
+        Ok(at_arg(alloc)),
+    );
     let command = with_arg(command, page_arg(alloc));
     let command = with_arg(command, pages_arg(alloc));
     let command = with_arg(command, shown_maps_arg(alloc));
@@ -54,14 +63,28 @@ fn show_command<'a>(alloc: Global) -> Made<Command<'a>> {
 
 fn check_command<'a>(alloc: Global) -> Made<Command<'a>> {
     let about = "Checks the database as its log has it; writes nothing";
-    let command = base_command(alloc, "check", about, CHECK, Ok(at_arg(alloc)));
+    let command = base_command(
+        alloc,
+        "check",
+        about,
+        CHECK,
+        files_arg(alloc),
+        Ok(at_arg(alloc)),
+    );
     let command = with_arg(command, Ok(pointer_maps_arg(alloc)));
     with_arg(command, Ok(deep_arg(alloc)))
 }
 
 fn rows_command<'a>(alloc: Global) -> Made<Command<'a>> {
     let about = "Prints the rows of each table as the log has them; writes nothing";
-    let command = base_command(alloc, "rows", about, ROWS, Ok(at_arg(alloc)));
+    let command = base_command(
+        alloc,
+        "rows",
+        about,
+        ROWS,
+        file_arg(alloc),
+        Ok(at_arg(alloc)),
+    );
     let command = with_arg(command, Ok(table_arg(alloc)));
     let command = with_arg(command, csv_arg(alloc));
     with_arg(command, sql_arg(alloc))
@@ -69,11 +92,33 @@ fn rows_command<'a>(alloc: Global) -> Made<Command<'a>> {
 
 fn diff_command<'a>(alloc: Global) -> Made<Command<'a>> {
     let about = "Prints which rows the log changed, or a rollback would; writes nothing";
-    let command = base_command(alloc, "diff", about, DIFF, Ok(from_arg(alloc)));
+    let command = base_command(
+        alloc,
+        "diff",
+        about,
+        DIFF,
+        file_arg(alloc),
+        Ok(from_arg(alloc)),
+    );
     let command = with_arg(command, Ok(until_arg(alloc)));
     let command = with_arg(command, Ok(changed_table_arg(alloc)));
     let command = with_arg(command, each_commit_arg(alloc));
     with_arg(command, script_arg(alloc))
+}
+
+fn salvage_command<'a>(alloc: Global) -> Made<Command<'a>> {
+    let about =
+        "Makes SQL of the rows of a damaged database that can be read; writes neither FILE nor its logs";
+    let command = base_command(
+        alloc,
+        "salvage",
+        about,
+        SALVAGE,
+        file_arg(alloc),
+        Ok(at_arg(alloc)),
+    );
+    let command = with_arg(command, Ok(places_arg(alloc)));
+    with_arg(command, Ok(script_file_arg(alloc)))
 }
 
 fn recover_command<'a>(alloc: Global) -> Made<Command<'a>> {
@@ -81,7 +126,7 @@ fn recover_command<'a>(alloc: Global) -> Made<Command<'a>> {
         "Recovers the database: folds its write-ahead log into it, or rolls it back by its hot journal; \
          nobody else may have it open meanwhile";
     let at = only_with(at_arg(alloc), "to");
-    let command = base_command(alloc, "recover", about, RECOVER, at);
+    let command = base_command(alloc, "recover", about, RECOVER, file_arg(alloc), at);
     let command = with_arg(command, Ok(copy_arg(alloc)));
     with_arg(command, Ok(force_arg(alloc)))
 }
@@ -89,7 +134,14 @@ fn recover_command<'a>(alloc: Global) -> Made<Command<'a>> {
 fn report_command<'a>(alloc: Global) -> Made<Command<'a>> {
     let about =
         "Makes a page of HTML that shows the database and its log; writes neither FILE nor its logs";
-    let command = base_command(alloc, "report", about, REPORT, Ok(at_arg(alloc)));
+    let command = base_command(
+        alloc,
+        "report",
+        about,
+        REPORT,
+        file_arg(alloc),
+        Ok(at_arg(alloc)),
+    );
     let command = with_arg(command, Ok(pointer_maps_arg(alloc)));
     with_arg(command, Ok(report_arg(alloc)))
 }
@@ -106,6 +158,7 @@ pub(crate) fn command<'a>(alloc: Global) -> Made<Command<'a>> {
     let command = with_command(command, check_command(alloc));
     let command = with_command(command, rows_command(alloc));
     let command = with_command(command, diff_command(alloc));
+    let command = with_command(command, salvage_command(alloc));
     let command = with_command(command, recover_command(alloc));
     with_command(command, report_command(alloc))
 }

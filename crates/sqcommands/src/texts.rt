@@ -8,6 +8,7 @@ pub(crate) const ALL: &str = "Examples:
   sqrescue show ledger.db --pages             what each of its pages is used for
   sqrescue rows ledger.db --table entry       the rows of a table, as the log has them
   sqrescue diff ledger.db                     which rows its log changed
+  sqrescue salvage ledger.db --to ledger.sql  SQL of what rows of a damaged file can be read
   sqrescue recover ledger.db --to copy.db     a copy, as recovery would leave it
   sqrescue recover ledger.db                  the recovery itself; nobody else may use it
   sqrescue report ledger.db --to report.html  its pages, trees and log, for a browser
@@ -48,6 +49,12 @@ pub(crate) const DIFF: &str = "Examples:
   sqrescue diff ledger.db --to 8 --sql       SQL that makes the rows at commit frame 8 of those in the file
 
 Exit status: 0 done; 1 damaged; 2 not understood; 3 refused.";
+
+/// Behind those of `salvage`.
+pub(crate) const SALVAGE: &str = "Example:
+  sqrescue salvage ledger.db --to ledger.sql  then sqlite3 copy.db < ledger.sql
+
+Exit status: 0 done; 1 done, of a damaged database; 2 not understood; 3 refused.";
 
 /// Behind those of `recover`.
 pub(crate) const RECOVER: &str = "Examples:
