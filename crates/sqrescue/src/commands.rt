@@ -1,9 +1,10 @@
 //! The commands that read the files of a database, and what they find of opened files.
-ghost use Rattle.std.specs.Prelude.{◌↔◌, IfErr, IsTrue, OnOk};
+ghost use Rattle.std.specs.Prelude.{◌≡◌, ◌↔◌, IfErr, IsTrue, OnOk};
 ghost use Rattle.sqshown.specs.Contents.{AreGiven, contents_of};
 ghost use Rattle.sqshown.specs.Errors.{IfRefused};
 ghost use Rattle.sqrescue.specs.Commands.{ChecksFiles, Finds, IsDamage, IsPartShown, IsPartUnshown, PrintsRows};
 ghost use Rattle.sqrescue.specs.Commands.{SurveysFiles};
+ghost use Rattle.sqrescue.specs.Opened.{reads_logs};
 
 use sqdeepshown::{DeepFinding, judged_as};
 use sqdump::{Printed, Wanted, show_rows};
@@ -63,7 +64,9 @@ pub(crate) enum Finding<F> {
 }
 
 impl Command<'_> {
-    pub(crate) fn wants(&self) -> Wants {
+    pub(crate) fn wants(&self) -> Wants
+        ensures { result.only_logs ≡ reads_logs self.entry.now }
+    {
         match self {
             Command::Check { .. } | Command::Pages(_) => Wants::PAGES,
             Command::Show(part) => Wants {

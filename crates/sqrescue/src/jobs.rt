@@ -1,8 +1,10 @@
 //! A command as it is carried out: what it finds of files that don't change meanwhile.
-ghost use Rattle.std.specs.Prelude.{◌≡◌, ◌⊎◌, Err, IfErr, IsErrAnd, OnOk};
+ghost use Rattle.std.specs.Prelude.{◌≡◌, ◌⊎◌, Err, IfErr, IfOk, IsErrAnd, OnOk};
 ghost use Rattle.std.specs.Duration.{as_nanos};
-ghost use Rattle.sqopen.specs.Refusals.{IsFromWatch};
+ghost use Rattle.sqopen.specs.Files.{opened_bytes};
+ghost use Rattle.sqopen.specs.Refusals.{IsFromSystem, IsFromWatch};
 ghost use Rattle.sqrescue.specs.Jobs.{young_of};
+ghost use Rattle.sqrescue.specs.Opened.{AreFresh, AreOpenedFor, GivesBytes, IsUnopenedFor, Looks, Settles, all_opened};
 
 use crate::commands::{Command, Finding, Wants, find};
 use crate::metered::{Metered, db_metered};
@@ -72,17 +74,34 @@ where
         command: &Command<'_>,
         out: &mut W,
         notes: &mut Notes<'_, E>,
-    ) -> Result<Finding<Counted<'a, R::File, M>>, Refusal> {
-        let settled = match self.before(command.wants().only_logs, notes) {
+    ) -> Result<Finding<Counted<'a, R::File, M>>, Refusal>
+        ensures { Settles (opened_bytes R.File.bytes)
+            (GivesBytes R.File.bytes R.File.keeps_word R.File.never_fails) self.entry.now.source.now
+            command.entry.now result (W.contents out.old) (W.contents out.new) }
+    {
+        match self.untold(command, out, notes) {
+            Ok(found) => Ok(found),
+            Err(refusal) => Err(self.source.paths.told(notes, refusal)),
+        }
+    }
+
+    /// The same, of which no refusal is told.
+    fn untold<W: Write, E: Write>(
+        &self,
+        command: &Command<'_>,
+        out: &mut W,
+        notes: &mut Notes<'_, E>,
+    ) -> Result<Finding<Counted<'a, R::File, M>>, Refusal>
+        ensures { Settles (opened_bytes R.File.bytes)
+            (GivesBytes R.File.bytes R.File.keeps_word R.File.never_fails) self.entry.now.source.now
+            command.entry.now result (W.contents out.old) (W.contents out.new) }
+    {
+        match self.before(command.wants().only_logs, notes) {
             Ok(before) => {
                 let wait = wait_for(self.rt, &before);
                 self.settled_from(command, (before, wait), out, notes)
             }
             Err(refusal) => Err(refusal),
-        };
-        match settled {
-            Ok(found) => Ok(found),
-            Err(refusal) => Err(self.source.paths.told(notes, refusal)),
         }
     }
 
@@ -91,7 +110,9 @@ where
         &self,
         only_logs: bool,
         notes: &mut Notes<'_, E>,
-    ) -> Result<Option<Before>, Refusal> {
+    ) -> Result<Option<Before>, Refusal>
+        ensures refused { IfErr result IsFromSystem }
+    {
         let source = self.source;
         before_of(self.rt, &source.paths, source.watch, only_logs, notes)
     }
@@ -115,7 +136,13 @@ where
         &self,
         wants: Wants,
         notes: &mut Notes<'_, E>,
-    ) -> Result<Contents<Counted<'a, R::File, M>>, Refusal> {
+    ) -> Result<Contents<Counted<'a, R::File, M>>, Refusal>
+        ensures opened { IfOk result (λ files. AreOpenedFor wants.only_logs self.entry.now.source.now
+            (all_opened files)) }
+        ensures fresh { IfOk result AreFresh }
+        ensures refused { IfErr result (IsUnopenedFor (opened_bytes R.File.bytes)
+            (GivesBytes R.File.bytes R.File.keeps_word R.File.never_fails) self.entry.now.source.now) }
+    {
         let meter = if wants.is_counted {
             Some(self.meter)
         } else {
@@ -135,7 +162,11 @@ where
         &self,
         only_logs: bool,
         notes: &mut Notes<'_, E>,
-    ) -> Result<Contents<OpenedFile<'a, R::File>>, Refusal> {
+    ) -> Result<Contents<OpenedFile<'a, R::File>>, Refusal>
+        ensures opened { IfOk result (AreOpenedFor only_logs self.entry.now.source.now) }
+        ensures refused { IfErr result (IsUnopenedFor (opened_bytes R.File.bytes)
+            (GivesBytes R.File.bytes R.File.keeps_word R.File.never_fails) self.entry.now.source.now) }
+    {
         let (rt, source) = (self.rt, self.source);
         let (super_journal, at) = (source.options.super_journal, source.options.at);
         if only_logs {
@@ -153,7 +184,11 @@ where
         of: (Option<Before>, Duration),
         out: &mut W,
         notes: &mut Notes<'_, E>,
-    ) -> Result<Finding<Counted<'a, R::File, M>>, Refusal> {
+    ) -> Result<Finding<Counted<'a, R::File, M>>, Refusal>
+        ensures { Settles (opened_bytes R.File.bytes)
+            (GivesBytes R.File.bytes R.File.keeps_word R.File.never_fails) self.entry.now.source.now
+            command.entry.now result (W.contents out.old) (W.contents out.new) }
+    {
         let (before, wait) = of;
         let found = self.found(command, out, notes);
         let found = self.stood(command, &before, found, notes)?;
@@ -173,7 +208,11 @@ where
         command: &Command<'_>,
         out: &mut W,
         notes: &mut Notes<'_, E>,
-    ) -> Result<Finding<Counted<'a, R::File, M>>, Refusal> {
+    ) -> Result<Finding<Counted<'a, R::File, M>>, Refusal>
+        ensures { Looks (opened_bytes R.File.bytes)
+            (GivesBytes R.File.bytes R.File.keeps_word R.File.never_fails) self.entry.now.source.now
+            command.entry.now result (W.contents out.old) (W.contents out.new) }
+    {
         let options = self.source.options;
         match self.opened(command.wants(), notes) {
             Ok(files) => find(self.rt.alloc(), command, options, files, out),
@@ -198,6 +237,19 @@ where
         self.standing(before, (command.wants().only_logs, front), found, notes)
     }
 
+    /// What the files are, if they are as they were before.
+    fn unchanged_since<E: Write>(
+        &self,
+        before: &Readings,
+        notes: &mut Notes<'_, E>,
+    ) -> Result<Readings, Refusal>
+        ensures refused { IfErr result IsFromWatch }
+    {
+        let now = readings_of(self.rt, &self.source.paths, false, notes)?;
+        unchanged(before, &now, Ok(()))?;
+        Ok(now)
+    }
+
     /// What a command finds later of files that are as they were before. No note is written of them.
     fn found_again<W: Write, E: Write>(
         &self,
@@ -205,9 +257,12 @@ where
         before: &Readings,
         out: &mut W,
         notes: &mut Notes<'_, E>,
-    ) -> Result<Finding<Counted<'a, R::File, M>>, Refusal> {
-        let now = readings_of(self.rt, &self.source.paths, false, notes)?;
-        unchanged(before, &now, Ok(()))?;
+    ) -> Result<Finding<Counted<'a, R::File, M>>, Refusal>
+        ensures { Settles (opened_bytes R.File.bytes)
+            (GivesBytes R.File.bytes R.File.keeps_word R.File.never_fails) self.entry.now.source.now
+            command.entry.now result (W.contents out.old) (W.contents out.new) }
+    {
+        let now = self.unchanged_since(before, notes)?;
         let nowhere = NoteWriter::new(io::sink());
         let mut unheard = Notes::new(&nowhere, false, false);
         let found = self.found(command, out, &mut unheard);

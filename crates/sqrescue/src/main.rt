@@ -9,6 +9,7 @@ mod checking;
 mod commands;
 mod copies;
 mod diffs;
+mod each;
 mod hints;
 mod jobs;
 mod locking;
@@ -18,10 +19,12 @@ mod outcomes;
 mod outputs;
 mod pages;
 mod plans;
+mod prefixed;
 mod program;
 mod recovering;
 mod reports;
 mod rows;
+mod salvages;
 mod sources;
 mod unread;
 
@@ -48,7 +51,7 @@ where
     for word in &words {
         texts.push(word.as_str())?;
     }
-    locking::answered(rt, texts.as_slice(), out, err)
+    each::answered(rt, texts.as_slice(), out, err)
 }
 
 fn main(rt: HostRuntime) -> ExitCode {

@@ -21,7 +21,9 @@ impl<F: Drop, M> Drop for Metered<'_, F, M> {
 }
 
 impl<'a, F, M> Metered<'a, F, M> {
-    pub(crate) fn new(file: F, meter: Option<&'a M>) -> Metered<'a, F, M> {
+    pub(crate) fn new(file: F, meter: Option<&'a M>) -> Metered<'a, F, M>
+        ensures { result.file ≡ file }
+    {
         Metered { file, meter }
     }
 
@@ -86,7 +88,11 @@ pub(crate) fn all_metered<'a, F, M>(
 pub(crate) fn db_metered<'a, F: FileBytes, M: Count>(
     files: Contents<F>,
     meter: Option<&'a M>,
-) -> Contents<Metered<'a, F, M>> {
+) -> Contents<Metered<'a, F, M>>
+    ensures db { result.db.file ≡ files.db }
+    ensures wal { result.wal.file ≡ files.wal }
+    ensures journal { result.journal.file ≡ files.journal }
+{
     let Contents { db, wal, journal } = files;
     if let Some(meter) = meter {
         meter.begin(db.len());

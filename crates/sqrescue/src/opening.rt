@@ -1,6 +1,8 @@
 //! The opened files of a database.
-ghost use Rattle.std.specs.Prelude.{IfErr};
+ghost use Rattle.std.specs.Prelude.{◌≡◌, ◌≢◌, ◌⊎◌, IfErr, IfOk, Some, false, true};
+ghost use Rattle.sqopen.specs.Files.{IsMissing, opened_bytes};
 ghost use Rattle.sqopen.specs.Refusals.{IsFromSystem};
+ghost use Rattle.sqrescue.specs.Opened.{AreOpened, GivesBytes, IsUnchosen, IsUnopened};
 
 use sqfacts::{Notes, Refusal, SystemFile};
 use sqopen::{
@@ -21,7 +23,11 @@ type Seen<'a, F> = (Metadata, Contents<OpenedFile<'a, F>>);
 fn as_asked<F: Drop>(
     files: Contents<OpenedFile<'_, F>>,
     at: Option<u32>,
-) -> Contents<OpenedFile<'_, F>> {
+) -> Contents<OpenedFile<'_, F>>
+    ensures db { result.db ≡ files.entry.db }
+    ensures alone { at ≡ Some 0 → IsMissing result.wal × IsMissing result.journal }
+    ensures logs { at ≢ Some 0 → result ≡ files.entry }
+{
     if at != Some(0) {
         return files;
     }
@@ -36,13 +42,21 @@ fn as_asked<F: Drop>(
 /// Says where a database file that no log counts beside isn't as long as its header says.
 fn tell_by_log<F: SystemFile, E: Write>(
     paths: &Paths,
-    files: &mut Contents<OpenedFile<'_, F>>,
+    files: &Contents<OpenedFile<'_, F>>,
     notes: &mut Notes<'_, E>,
-) -> Result<(), Refusal> {
-    if counting_log(&files.wal, &mut files.journal)? == LogInUse::Neither {
-        tell_alone(paths, &files.db, notes)?;
-    } else {
-        tell_length(notes, paths.db.as_str(), &files.db);
+) -> Result<(), Refusal>
+    ensures { IfErr result (λ refusal. IsFromSystem refusal ⊎ IsUnchosen (opened_bytes F.bytes)
+        (GivesBytes F.bytes F.keeps_word F.never_fails) files.entry.now refusal) }
+{
+    let (wal, mut journal) = (&files.wal, &files.journal);
+    match counting_log(&wal, &mut journal) {
+        Ok(LogInUse::Neither) => {
+            tell_alone(paths, &files.db, notes)?;
+        }
+        Ok(_) => {
+            tell_length(notes, paths.db.as_str(), &files.db);
+        }
+        Err(refusal) => return Err(refusal),
     }
     Ok(())
 }
@@ -57,17 +71,20 @@ pub(crate) fn open_seen<'a, R: Files, E: Write>(
 ) -> Result<Seen<'a, R::File>, Refusal>
 where
     R::File: SystemFile,
+    ensures opened { IfOk result (λ seen. AreOpened false paths.entry.now super_journal at seen.1) }
+    ensures refused { IfErr result (IsUnopened (opened_bytes R.File.bytes)
+        (GivesBytes R.File.bytes R.File.keeps_word R.File.never_fails) paths.entry.now super_journal at) }
 {
     let Beside {
         found: Beheld { db: found, .. },
         wal,
         journal,
     } = open_logs(rt, paths, super_journal, at, notes)?;
-    let mut files = match open_database(rt, paths, &found, notes) {
+    let files = match open_database(rt, paths, &found, notes) {
         Ok(db) => as_asked(Contents { db, wal, journal }, at),
         Err(refusal) => return Err(refusal),
     };
-    match tell_by_log(paths, &mut files, notes) {
+    match tell_by_log(paths, &files, notes) {
         Ok(()) => Ok((found, files)),
         Err(refusal) => Err(refusal),
     }
@@ -83,6 +100,9 @@ pub(crate) fn open_all<'a, R: Files, E: Write>(
 ) -> Result<Contents<OpenedFile<'a, R::File>>, Refusal>
 where
     R::File: SystemFile,
+    ensures opened { IfOk result (AreOpened false paths.entry.now super_journal at) }
+    ensures refused { IfErr result (IsUnopened (opened_bytes R.File.bytes)
+        (GivesBytes R.File.bytes R.File.keeps_word R.File.never_fails) paths.entry.now super_journal at) }
 {
     match open_seen(rt, paths, super_journal, at, notes) {
         Ok((_, files)) => Ok(files),
@@ -100,6 +120,7 @@ pub(crate) fn logs_alone<'a, R: Files, E: Write>(
 ) -> Result<Contents<OpenedFile<'a, R::File>>, Refusal>
 where
     R::File: SystemFile,
+    ensures opened { IfOk result (AreOpened true paths.entry.now super_journal at) }
     ensures refused { IfErr result IsFromSystem }
 {
     tell_seen(rt, paths, notes);

@@ -1,9 +1,11 @@
 //! What a recovery does, as data: `recover` carries it out, and `--to` copies by it.
-ghost use Rattle.std.specs.Prelude.{◌≡◌, ◌≢◌, ◌↔◌, ℕ, suc, IfOk, IfSome, IsOkAnd, IsTrue};
+ghost use Rattle.std.specs.Prelude.{◌≡◌, ◌≢◌, ◌↔◌, ℕ, suc, List, IfOk, IfSome, IsOkAnd, IsTrue};
 ghost use Rattle.sqjournal.specs.declared.header.JournalHeader.{JournalHeader};
 ghost use Rattle.sqshown.specs.Contents.{KeepsBytes};
+ghost use Rattle.sqshown.specs.Limits.{limits_named};
 ghost use Rattle.sqwal.specs.Took.{TookWithin};
-ghost use Rattle.sqrescue.specs.Plans.{HasOtherSize, RollsBack};
+ghost use Rattle.sqrescue.specs.Plans.{FoldsByFront, FoldsBySize, HasOtherSize, IsCommitOf, NamesSize, PlansFold};
+ghost use Rattle.sqrescue.specs.Plans.{RollsBack, ScansLog, ScansTo};
 
 use sqfacts::Refusal;
 use sqopen::names_super_journal;
@@ -44,6 +46,9 @@ pub(crate) fn plan_recovery<F: FileBytes>(
         → F.gives_bytes files.old.journal → RollsBack options.super_journal (F.bytes files.old.journal) result }
     ensures no_commit { (m : ℕ) → options.at ≡ Some (suc m) → in_use ≢ LogInUse.Wal
         → result ≡ Err Refusal.NoSuchCommit }
+    ensures wal { in_use ≡ LogInUse.Wal → options.at ≢ Some 0 → F.gives_bytes files.old.db
+        → F.gives_bytes files.old.wal
+        → PlansFold (limits_named options.large) options.at (F.bytes files.old.db) (F.bytes files.old.wal) result }
 {
     match (in_use, options.at) {
         (_, Some(0)) | (LogInUse::Neither, None) => Ok(Recovery::Nothing),
@@ -68,7 +73,10 @@ fn plan_fold<F: FileBytes>(
     alloc: Global,
     options: Options,
     files: &mut Contents<F>,
-) -> Result<Recovery, Refusal> {
+) -> Result<Recovery, Refusal>
+    ensures { F.gives_bytes files.old.db → F.gives_bytes files.old.wal
+        → PlansFold (limits_named options.large) options.at (F.bytes files.old.db) (F.bytes files.old.wal) result }
+{
     let limits = limits_of(options);
     match (log_page_size(&mut files.wal)?, options.at) {
         (None, None) => Ok(Recovery::Empty),
@@ -87,14 +95,20 @@ fn scan_to<F: FileBytes>(
     limits: Limits,
     wal: &mut F,
     at: Option<u32>,
-) -> Result<Option<Scan>, Refusal> {
+) -> Result<Option<Scan>, Refusal>
+    ensures scan { F.gives_bytes wal.old → ScansTo limits at (F.bytes wal.old) result }
+    ensures same { KeepsBytes F.bytes F.gives_bytes wal.old wal.new }
+{
     let Some(frame) = at else {
         return Ok(None);
     };
-    match scan_of(alloc, limits, wal)? {
-        Some(scan) if is_commit(&scan, frame) => Ok(Some(scan)),
-        _ => Err(Refusal::NoSuchCommit),
+    let Some(scan) = scan_of(alloc, limits, wal)? else {
+        return Err(Refusal::NoSuchCommit);
+    };
+    if !is_commit(&scan, frame) {
+        return Err(Refusal::NoSuchCommit);
     }
+    Ok(Some(scan))
 }
 
 /// What it does of a log with a valid header, by whether the database file names another page size: refused then where
@@ -105,19 +119,31 @@ fn by_sizes<F: FileBytes>(
     wal: &mut F,
     log: (PageSize, Option<Scan>),
     differs: bool,
-) -> Result<Recovery, Refusal> {
+) -> Result<Recovery, Refusal>
+    ensures { F.gives_bytes wal.old → IfSome log.1 (TookWithin limits.frames (F.bytes wal.old))
+        → FoldsBySize limits (F.bytes wal.old) log.0 log.1 differs result }
+{
     let (page_size, scan) = log;
     if !differs {
         return Ok(Recovery::Fold(page_size, scan));
     }
-    let scan = match scan {
-        Some(scan) => Some(scan),
-        None => scan_of(alloc, limits, wal)?,
-    };
     match scan {
-        Some(scan) if scan.committed().frames != 0 => Err(Refusal::PageSizesDiffer),
-        scan => Ok(Recovery::Fold(page_size, scan)),
+        Some(scan) => by_front(page_size, scan),
+        None => match scan_of(alloc, limits, wal)? {
+            Some(scan) => by_front(page_size, scan),
+            None => Ok(Recovery::Fold(page_size, None)),
+        },
     }
+}
+
+/// What it does of a scanned log where the database file names another page size.
+fn by_front(page_size: PageSize, scan: Scan) -> Result<Recovery, Refusal>
+    ensures { (most : ℕ) (wal : List ℕ) → TookWithin most wal scan → FoldsByFront wal page_size scan result }
+{
+    if scan.committed().frames != 0 {
+        return Err(Refusal::PageSizesDiffer);
+    }
+    Ok(Recovery::Fold(page_size, Some(scan)))
 }
 
 /// The scan of a log; none where its header isn't valid.
@@ -128,6 +154,7 @@ pub(crate) fn scan_of<F: FileBytes>(
 ) -> Result<Option<Scan>, Refusal>
     ensures found { F.gives_bytes wal.old
         → IfOk result (λ scan. IfSome scan (TookWithin limits.frames (F.bytes wal.old))) }
+    ensures scan { F.gives_bytes wal.old → ScansLog limits (F.bytes wal.old) result }
     ensures same { KeepsBytes F.bytes F.gives_bytes wal.old wal.new }
 {
     match scanned(alloc, limits, wal)? {
@@ -136,16 +163,21 @@ pub(crate) fn scan_of<F: FileBytes>(
     }
 }
 
-/// Whether a frame of a scan, from 1, ends a commit up to the front.
-fn is_commit(scan: &Scan, frame: u32) -> bool {
-    frame <= scan.committed().frames
-        && scan
-            .entry(frame as usize)
-            .is_some_and(|entry| entry.size != 0)
+/// Whether a frame of a scan, from 1, ends a commit. None behind the front does.
+fn is_commit(scan: &Scan, frame: u32) -> bool
+    ensures { (most : ℕ) (wal : List ℕ) → TookWithin most wal scan.now → IsTrue result ↔ IsCommitOf wal frame }
+{
+    match scan.entry(frame as usize) {
+        Some(entry) => entry.size != 0,
+        None => false,
+    }
 }
 
 /// The page size that a log's header names; none where it isn't valid.
-fn log_page_size<F: FileBytes>(log: &mut F) -> Result<Option<PageSize>, Refusal> {
+fn log_page_size<F: FileBytes>(log: &mut F) -> Result<Option<PageSize>, Refusal>
+    ensures size { F.gives_bytes log.old → NamesSize (F.bytes log.old) result }
+    ensures same { KeepsBytes F.bytes F.gives_bytes log.old log.new }
+{
     if log.len() < 32 {
         return Ok(None);
     }
@@ -153,8 +185,10 @@ fn log_page_size<F: FileBytes>(log: &mut F) -> Result<Option<PageSize>, Refusal>
     log.read_at(0, &mut head)?;
     match WalHeader::read(&head) {
         Ok(header) => Ok(Some(header.page_size)),
-        Err(WalFormatError::UnknownVersion) => Err(Refusal::UnknownLogVersion),
-        Err(_) => Ok(None),
+        Err(error) => match error {
+            WalFormatError::UnknownVersion => Err(Refusal::UnknownLogVersion),
+            _ => Ok(None),
+        },
     }
 }
 

@@ -11,6 +11,7 @@ use crate::hints::next_step;
 use crate::jobs::Job;
 use crate::recovering::recover;
 use crate::reports::report_to;
+use crate::salvages::salvage_to;
 use crate::sources::{Source, Watch, alone, source_of};
 use sqcommands::{LineError, request};
 use sqdump::Wanted;
@@ -147,6 +148,8 @@ enum Reading<'a> {
     /// A file of this name is made.
     Copy(&'a str),
     Report(&'a str),
+    /// places: with the page and the cell of each row.
+    Salvage { to: &'a str, places: bool },
 }
 
 impl Reading<'_> {
@@ -185,6 +188,7 @@ where
         Reading::Diff(compared) => return print_diff(&job, compared, out, notes),
         Reading::Copy(to) => return recover_to(&job, to, out, notes),
         Reading::Report(to) => return report_to(&job, to, out, notes),
+        Reading::Salvage { to, places } => return salvage_to(&job, (to, places), out, notes),
     };
     answered(&job, &command, out, notes)
 }
@@ -198,12 +202,12 @@ struct Asked<'a> {
 }
 
 /// What a reading comes to under these locks. Where they keep the database file as it is, but its journal was changed,
-/// the file is read again without it.
+/// and nothing was printed yet, the file is read again without it.
 fn read_once<R: Files + AllocGlobal + Clock, O: Write, E: Write>(
     rt: &R,
     asked: &Asked<'_>,
     locks: Locks,
-    out: &mut O,
+    out: &mut Begun<'_, O>,
     notes: &mut Notes<'_, E>,
 ) -> Result<Answer, ShowError>
 where
@@ -212,12 +216,11 @@ where
     let reading = asked.reading;
     let of = (asked.file, asked.options);
     let source = source_of(rt, of, reading.is_of_log(), locks, notes)?;
-    match read_from(rt, reading, &source, out, notes) {
-        Err(ShowError::Refused(Refusal::FileChanged)) if source.watch == Watch::Undated => {
-            read_from(rt, reading, &alone(source), out, notes)
-        }
-        answer => answer,
+    let answer = read_from(rt, reading, &source, out, notes);
+    if source.watch == Watch::Undated && out.is_to_be_read_again(&answer) {
+        return read_from(rt, reading, &alone(source), out, notes);
     }
+    answer
 }
 
 /// The same, which is made again where others changed what was read, and nothing was printed yet, for so many seconds.
@@ -282,8 +285,13 @@ fn reading_of<'a>(request: Request<'a>) -> Option<Asked<'a>> {
             options,
             ..
         } => (Reading::Report(to), file, options),
-        Request::Recover { to: None, .. } | Request::Salvage { .. } | Request::Version =>
-            return None,
+        Request::Salvage {
+            file,
+            to,
+            places,
+            options,
+        } => (Reading::Salvage { to, places }, file, options),
+        Request::Recover { to: None, .. } | Request::Version => return None,
     };
     Some(Asked {
         reading,
@@ -313,8 +321,6 @@ where
             options,
             ..
         } => recover(rt, (file, force, options), out, notes),
-        // (no command line asks for it yet)
-        Request::Salvage { .. } => Err(ShowError::Refused(Refusal::FileFailed)),
         _ => {
             line(out, &VERSION)?;
             Ok(Answer::Done)

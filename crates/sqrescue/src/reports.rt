@@ -163,7 +163,7 @@ where
 }
 
 /// A new file for the page.
-fn new_page<'a, R: Files + AllocGlobal + Clock, M: Count, E: Write>(
+pub(crate) fn new_page<'a, R: Files + AllocGlobal + Clock, M: Count, E: Write>(
     job: &Job<'_, R, M>,
     to: &'a str,
     notes: &mut Notes<'_, E>,

@@ -1,6 +1,6 @@
 //! The files of a database as a command reads them, and how it is seen that others change them meanwhile.
 ghost use Rattle.std.specs.Prelude.{◌≡◌, ◌↔◌, IfErr, IfOk, IsTrue, false};
-ghost use Rattle.sqopen.specs.Refusals.{IsFromWatch};
+ghost use Rattle.sqopen.specs.Refusals.{IsFromSystem, IsFromWatch};
 ghost use Rattle.sqrescue.specs.Sources.{AreUndated, AtFile, AtFront, IsFrontUnder, IsReadAt, IsUndated};
 ghost use Rattle.sqrescue.specs.Sources.{StandsYet};
 
@@ -249,6 +249,7 @@ pub(crate) fn before_of<R: Files, E: Write>(
 ) -> Result<Option<Before>, Refusal>
 where
     R::File: SystemFile,
+    ensures refused { IfErr result IsFromSystem }
 {
     match watch {
         Watch::Still => Ok(None),

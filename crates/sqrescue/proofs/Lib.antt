@@ -1,0 +1,2 @@
+pub mod FoldedLogs
+pub mod OpenedLooks
