@@ -2,6 +2,7 @@
 
 import re
 from dataclasses import dataclass
+from functools import lru_cache
 from pathlib import Path
 
 FUNCTION = re.compile(
@@ -47,6 +48,7 @@ def own_type(header):
     return joined(kind), name + joined(of[1] if of else "")
 
 
+@lru_cache(maxsize=None)
 def homes_of(folder):
     """The module of each struct and enum of the crate in a folder: a type's own functions have its path, wherever they
     stand."""
