@@ -6,7 +6,7 @@ _sqrescue() {
   COMPREPLY=()
   for ((at = 1; at < COMP_CWORD; at++)); do
     case ${COMP_WORDS[at]} in
-      show | check | rows | diff | recover | report | help)
+      show | check | rows | diff | salvage | recover | report | help)
         command=${COMP_WORDS[at]}
         break
         ;;
@@ -47,13 +47,14 @@ _sqrescue() {
     check) options='-v --verbose --json --at --large --super-journal= --wait --no-lock --pointer-maps --deep -h --help' ;;
     rows) options='-v --verbose --json --at --large --super-journal= --wait --no-lock --table --csv --sql -h --help' ;;
     diff) options='-v --verbose --json --from --large --super-journal= --wait --no-lock --to --table --commits --sql -h --help' ;;
+    salvage) options='-v --verbose --json --at --large --super-journal= --wait --no-lock --places --to -h --help' ;;
     recover) options='-v --verbose --json --at --large --super-journal= --wait --no-lock --to --force -h --help' ;;
     report) options='-v --verbose --json --at --large --super-journal= --wait --no-lock --pointer-maps --to -h --help' ;;
     '') options='-V --version -h --help' ;;
   esac
   if [ -z "$command" ] || [ "$command" = help ]; then
-    [ -n "$command" ] || options+=' show check rows diff recover report help'
-    [ -z "$command" ] || options='show check rows diff recover report help'
+    [ -n "$command" ] || options+=' show check rows diff salvage recover report help'
+    [ -z "$command" ] || options='show check rows diff salvage recover report help'
     COMPREPLY=($(compgen -W "$options" -- "$word"))
   elif [[ $word == -* ]]; then
     COMPREPLY=($(compgen -W "$options" -- "$word"))
