@@ -12,9 +12,9 @@ use Rattle.crashdisk.specs.declared.file.File.TheVariants.{Log}
 use Rattle.crashdisk.specs.declared.error.DiskError.{DiskError}
 use Rattle.crashdisk.proofs.call.UnchangingCalls.{refusal_after, had_refusal, present_in}
 use Rattle.crashdisk.proofs.call.DisksAfterCalls.{later_write, told_err, sync_refused}
-use Rattle.recovery.specs.internal.Files.{ArePages}
-use Rattle.recovery.specs.Steps.{GoesOn}
-use Rattle.recovery.specs.internal.Steps.{CopyAnswer, ZeroSteps, MayRefuse}
+use Rattle.recovery.specs.Files.{ArePages}
+use Rattle.recovery.specs.Steps.{CopyAnswer, GoesOn}
+use Rattle.recovery.specs.internal.Steps.{ZeroSteps, MayRefuse}
 
 pub still_bytes : (a b : DiskState) → Still a b → KeepsBytes a b
 still_bytes a b is = record { db = is.db; log = λ bytes are. present_in a.log b.log bytes is.log are }

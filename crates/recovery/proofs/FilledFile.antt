@@ -18,8 +18,12 @@ use Rattle.crashdisk.proofs.page.RunsOfPages.{run_cases, run_apart, run_clear}
 use Rattle.crashdisk.proofs.page.RecoverablePages.{suits_still, suits_syncs, suits_writes, suits_cuts}
 use Rattle.crashdisk.proofs.page.ClearPlacesOfPage.{whole_pages, page_is_clear}
 use Rattle.crashdisk.proofs.sync.BytesOfSyncedLog.{file_syncs}
-use Rattle.recovery.specs.internal.Files.{ArePages}
-use Rattle.recovery.specs.internal.Phases.{Filling}
+use Rattle.recovery.specs.Files.{ArePages}
+use Rattle.recovery.specs.Phases.{Filling}
+
+-- fewer pages
+pub filling_wider : (size : ℕ) (d : Database) (Unnamed Other : ℕ → Type 0) (s : DiskState) → ((p : ℕ) → Other p → Unnamed p) → Filling size d Unnamed s → Filling size d Other s
+filling_wider size d Unnamed Other s fewer is = record { suits = is.suits; full = is.full; steady = λ p i a b un lt. is.steady p i a b (fewer p un) lt }
 
 module _ (size : ℕ) (d : Database) (Unnamed : ℕ → Type 0) where
   filling_by : (old new : DiskState) → Filling size d Unnamed old → Suits size new

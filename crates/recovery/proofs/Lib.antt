@@ -5,6 +5,8 @@ pub mod ToldRefusals
 pub mod OverwrittenLog
 pub mod PiecewiseScan
 pub mod FilledFile
+pub mod CopiedRuns
+pub mod EndOfRestore
 pub mod PhasesOfRestore
 pub mod ZeroedFront
 pub mod Words

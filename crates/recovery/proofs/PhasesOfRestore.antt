@@ -16,9 +16,11 @@ use Rattle.crashdisk.proofs.call.SoundDiskUnderCalls.{sound_syncs}
 use Rattle.crashdisk.proofs.call.UnchangingCalls.{image_still, present_in}
 use Rattle.crashdisk.proofs.sync.BytesOfSyncedLog.{down_one, down_by, down_syncs, down_present, down_present_one}
 use Rattle.recovery.specs.Logs.{LogKind, MayBeRead, ShowsAlone}
-use Rattle.recovery.specs.internal.Files.{ArePages, IsFiled}
+use Rattle.recovery.specs.Files.{ArePages}
+use Rattle.recovery.specs.internal.Files.{IsFiled}
 use Rattle.recovery.specs.internal.Logs.{Repeats}
-use Rattle.recovery.specs.internal.Phases.{Unwritten, Filling, Restoring, Restored}
+use Rattle.recovery.specs.Phases.{Filling}
+use Rattle.recovery.specs.internal.Phases.{Unwritten, Restoring, Restored}
 use Rattle.recovery.proofs.NarrowedImages.{Narrows, narrows_syncs, alone_read, read_alone}
 use Rattle.recovery.proofs.FilledFile.{filling_syncs, filling_other, filled_just, filled_file}
 

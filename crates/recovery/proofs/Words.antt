@@ -37,9 +37,10 @@ pub use Rattle.recovery.specs.Files.{AreFiles}
 pub use Rattle.recovery.specs.Histories.{at, last, newest}
 pub use Rattle.recovery.specs.Logs.{Agrees, MayBeLeft, MayBeRead, ShowsAlone, ShowsWhole}
 pub use Rattle.recovery.specs.Moments.{IsExpected, answered}
-pub use Rattle.recovery.specs.internal.Files.{ArePages}
+pub use Rattle.recovery.specs.Files.{ArePages}
 pub use Rattle.recovery.specs.internal.Logs.{Repeats}
-pub use Rattle.recovery.specs.internal.Phases.{Filling, Unwritten}
+pub use Rattle.recovery.specs.Phases.{Filling}
+pub use Rattle.recovery.specs.internal.Phases.{Unwritten}
 pub use Rattle.recovery.specs.internal.Steps.{MayRefuse, ZeroSteps}
 pub use Rattle.sqval.proofs.database.AnswersOfEngine.{IsOf, accepted, if_err, is_above, is_closed, is_zero, match_err, none_above, passed, refused_of, refuses_cause, refuses_first}
 pub use Rattle.sqval.proofs.database.CommittedDatabase.{length-apply, number_at, page-apply}

@@ -24,7 +24,7 @@ use Rattle.sqjournal.proofs.read.BytesTakenByReplay.{has_count}
 use Rattle.rollcore.specs.Alone.{journal_log}
 use Rattle.rollcore.specs.internal.Phases.{Writing}
 use Rattle.rollcore.proofs.replays.LastRecordOfPage.{flat_is, made_length, rolled_exists}
-use Rattle.recovery.specs.internal.Steps.{CopyAnswer}
+use Rattle.recovery.specs.Steps.{CopyAnswer}
 
 -- ---- What is planned is replayed.
 

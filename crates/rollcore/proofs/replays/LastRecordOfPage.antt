@@ -214,7 +214,7 @@ named_or records p = by (last_content records p)
 -- ---- The database that is restored.
 
 -- page p after these entries
-pub made : (w db : List ℕ) → List Record → (p : ℕ) → List ℕ
+unfoldable pub made : (w db : List ℕ) → List Record → (p : ℕ) → List ℕ
 made w db es p = unwrap_or (last_content (records_of w es) p) (file_page (word w 24) db p)
 
 module _ (w db : List ℕ) (segments : List Segment) (end : ℕ) (why : Why) (is : IsJournal w segments end why) (hot : IsHot w) where

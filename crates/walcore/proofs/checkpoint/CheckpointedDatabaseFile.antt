@@ -26,7 +26,7 @@ use Rattle.walcore.proofs.disk.DiskInvariantUnderCalls.{stands_syncs}
 use Rattle.walcore.proofs.checkpoint.DiskInvariantUnderCheckpoint.{stands_still, stands_valid, stands_count, stands_view, stands_filling, filling_stands, settled_just}
 use Rattle.walcore.proofs.read.ContentOfReadPage.{table_upto}
 use Rattle.walcore.specs.declared.error.WalError.TheVariants.{Device}
-use Rattle.recovery.specs.internal.Steps.{CopyAnswer}
+use Rattle.recovery.specs.Steps.{CopyAnswer}
 
 -- ---- the size that a frame names
 

@@ -52,12 +52,9 @@ module _ (size : ℕ) (logs : List (List ℕ)) (a b : DiskState) (synced : IsSam
 
 -- ---- syncs of a fold
 
-may_sync : (most size : ℕ) (f : File) → MayFoldWithin most size (sync f)
+pub may_sync : (most size : ℕ) (f : File) → MayFoldWithin most size (sync f)
 may_sync most size Db = inl tt
 may_sync most size Log = inr tt
 
 pub fold_sync : {T : Type 0} (most size : ℕ) (f : File) (r : Result T DiskError) (a b : DiskState) → IsSoundDisk a → CallSyncs f r a b → Later (MayFoldWithin most size) a b
 fold_sync most size f r a b sound synced = later_sync f r a b (may_sync most size f) sound synced
-
-pub fold_step : {T : Type 0} (most size : ℕ) (f : File) (r : Result T WalError) (a b : DiskState) → IsSoundDisk a → SyncStep Device f r a b → Later (MayFoldWithin most size) a b
-fold_step most size f r a b sound step = sync_later Device f r a b (may_sync most size f) sound step

@@ -23,7 +23,7 @@ use Rattle.walcore.specs.declared.error.WalError.TheVariants.{TooLarge, PageSize
 use Rattle.walcore.proofs.folds.PlanOfScannedLog.{fit_none, front_zero}
 use Rattle.crashdisk.proofs.sync.BytesOfSyncedLog.{down_by, synced_down, settled_present}
 use Rattle.walcore.proofs.folds.PhasesOfFold.{view_long, writing_keeps}
-use Rattle.recovery.specs.internal.Steps.{CopyAnswer}
+use Rattle.recovery.specs.Steps.{CopyAnswer}
 
 -- ---- A file with its log has a view at each frame.
 
