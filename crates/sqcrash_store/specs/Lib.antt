@@ -4,6 +4,7 @@ pub mod Tallies
 pub mod Points
 pub mod Keys
 pub mod Runs
+pub mod Words
 pub mod Surveys
 pub mod States
 pub mod Rigs

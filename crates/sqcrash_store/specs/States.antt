@@ -1,5 +1,7 @@
 -- The states that a run had at the beginning and at its marks, as a command named them (own).
-use Rattle.std.specs.Prelude.{◌≡◌, ℕ, Bool, true, false, List, [], ◌∷◌, ◌++◌, Option}
+use Rattle.std.specs.Prelude.{◌≡◌, ℕ, Bool, true, false, List, [], ◌∷◌, ◌++◌, map, Option}
+use Rattle.std.specs.List.{filter}
+use Rattle.sqstore.specs.Calls.{bytes_of}
 use Rattle.sqstore.specs.Left.{IsPresent}
 use Rattle.sqstore.specs.Stores.{StoreState, no_store, Goes}
 use Rattle.sqstore.specs.declared.call.Action.{Action}
@@ -31,6 +33,14 @@ is_call _ = true
 abbrev pub is_first : List Answer → Action → Bool
 is_first [] a = is_call a
 is_first (x ∷ states) a = false
+
+-- the names that records tell, in their order
+abbrev pub tells_name : Action → Bool
+tells_name actions.Name = true
+tells_name _ = false
+
+abbrev pub names_told : List ℕ → List Call → List (List ℕ)
+names_told b calls = map (λ c. bytes_of b c) (filter (λ c. tells_name c.action) calls)
 
 abbrev pub is_mark : Action → Bool
 is_mark actions.Mark = true

@@ -1,7 +1,17 @@
 //! The options, as clap reads them.
+ghost use Rattle.std.specs.Prelude.{◌≡◌, true, false, IsTrue, ℕ, None, Some, map, IfOk, IfSome, MatchOption};
+ghost use Rattle.crashdisk.specs.Solid.{is_sector_size};
+ghost use Rattle.clap.specs.Words.{app_of, found_of, first_of, is_simple_and_free, rows_of, rule_of, with_rule};
+ghost use Rattle.clap.specs.declared.builder.value_parser.ValueParser.TheVariants as ValueParser;
+ghost use Rattle.sqcrash_store.specs.Words.{with_disk, with_draws, with_points, with_words, line, option, flag, word};
+ghost use Rattle.sqcrash_store.specs.Words.{Asks, AsksOf, GivesNumber, IsLine, IsNumber, IsPlan, IsRequest};
+ghost use Rattle.sqcrash_store.specs.Words.{NumberOr, gives, meta_by, sector_by};
+ghost use Rattle.sqcrash_store.specs.internal.Refusals.{IsRefusal};
+
 use crate::plan::Plan;
+use clap::builder::ValueParser;
 use clap::error::ErrorKind;
-use clap::{Arg, ArgAction, ArgMatches, Command, value_parser};
+use clap::{Arg, ArgAction, ArgMatches, Command};
 use sqplay::Meta;
 use std::alloc::{AllocError, Global};
 use thiserror::Error;
@@ -33,22 +43,37 @@ pub enum LineError {
     NoMemory,
 }
 
+/// One of these names.
+fn one_of(names: &'static [&'static str]) -> ValueParser<'static>
+    ensures { result ≡ ValueParser.Names names.entry }
+{
+    ValueParser::from(names)
+}
+
 /// An option with a value.
 fn option<'a>(
     alloc: Global,
     name: &'static str,
     value: &'static str,
     help: &'static str,
-) -> Arg<'a> {
+    parser: ValueParser<'static>,
+) -> Arg<'a>
+    ensures rule { rule_of result ≡ option name.now parser.entry }
+    ensures global { result.global ≡ false }
+{
     Arg::new(alloc, name)
         .long(name)
         .value_name(value)
         .action(ArgAction::Set)
         .help(help)
+        .value_parser(parser)
 }
 
 /// An option without one.
-fn flag<'a>(alloc: Global, name: &'static str, help: &'static str) -> Arg<'a> {
+fn flag<'a>(alloc: Global, name: &'static str, help: &'static str) -> Arg<'a>
+    ensures rule { rule_of result ≡ flag name.now }
+    ensures global { result.global ≡ false }
+{
     Arg::new(alloc, name)
         .long(name)
         .action(ArgAction::SetTrue)
@@ -56,108 +81,256 @@ fn flag<'a>(alloc: Global, name: &'static str, help: &'static str) -> Arg<'a> {
 }
 
 /// A word that has to be there.
-fn word<'a>(alloc: Global, name: &'static str, help: &'static str) -> Arg<'a> {
+fn word<'a>(alloc: Global, name: &'static str, help: &'static str) -> Arg<'a>
+    ensures rule { rule_of result ≡ word name.now }
+    ensures global { result.global ≡ false }
+{
     Arg::new(alloc, name)
         .required(true)
         .action(ArgAction::Set)
         .help(help)
 }
 
+/// A command with one more argument.
+fn with<'a>(command: Command<'a>, arg: Arg<'a>) -> Result<Command<'a>, AllocError>
+    requires { arg.global ≡ false }
+    ensures { IfOk result (λ c. app_of c ≡ with_rule (app_of command.entry) (rule_of arg.entry)) }
+{
+    command.arg(arg)
+}
+
+/// The words that have to be there.
+fn with_words<'a>(alloc: Global, command: Command<'a>) -> Result<Command<'a>, AllocError>
+    ensures { IfOk result (λ c. app_of c ≡ with_words (app_of command.entry)) }
+{
+    let trace = word(alloc, "TRACE", "What rig/record-files wrote");
+    let images = word(alloc, "IMAGES", "The folder in which images are made");
+    let asks = word(
+        alloc,
+        "ASKS",
+        "Where the number of each image is written; answers are read",
+    );
+    let command = with(command, trace)?;
+    let command = with(command, images)?;
+    with(command, asks)
+}
+
+/// What a disk does.
+fn with_disk<'a>(
+    alloc: Global,
+    command: Command<'a>,
+    sectors: ValueParser<'static>,
+    metas: ValueParser<'static>,
+) -> Result<Command<'a>, AllocError>
+    ensures { IfOk result (λ c. app_of c ≡ with_disk sectors.entry metas.entry (app_of command.entry)) }
+{
+    let sector = option(
+        alloc,
+        "sector",
+        "BYTES",
+        "The size of a disk's sectors; 512 if left out",
+        sectors,
+    );
+    let tears = flag(
+        alloc,
+        "tears",
+        "A sector that was being written may hold anything",
+    );
+    let meta = option(
+        alloc,
+        "meta",
+        "HOW",
+        "How names and lengths become durable: in parts, as a whole, or in the order of calls; whole if left out",
+        metas,
+    );
+    let command = with(command, sector)?;
+    let command = with(command, tears)?;
+    with(command, meta)
+}
+
+/// How many images are drawn.
+fn with_draws<'a>(alloc: Global, command: Command<'a>) -> Result<Command<'a>, AllocError>
+    ensures { IfOk result (λ c. app_of c ≡ with_draws (app_of command.entry)) }
+{
+    let images = option(
+        alloc,
+        "images",
+        "N",
+        "The most images at a point, 100 if left out",
+        ValueParser::unsigned(1, u64::MAX),
+    );
+    let seed = option(
+        alloc,
+        "seed",
+        "S",
+        "The number that the draws begin with; 1 if left out",
+        ValueParser::unsigned(0, u64::MAX),
+    );
+    let command = with(command, images)?;
+    with(command, seed)
+}
+
+/// Where images are judged, and by what.
+fn with_points<'a>(
+    alloc: Global,
+    command: Command<'a>,
+    promises: ValueParser<'static>,
+) -> Result<Command<'a>, AllocError>
+    ensures { IfOk result (λ c. app_of c ≡ with_points promises.entry (app_of command.entry)) }
+{
+    let every = flag(
+        alloc,
+        "every",
+        "A crash may come after each call, not only at marks",
+    );
+    let promise = option(
+        alloc,
+        "promise",
+        "WHAT",
+        "What is known at a mark: all, or nothing; full if left out",
+        promises,
+    );
+    let point = option(
+        alloc,
+        "point",
+        "P",
+        "Judges point P alone, counted from 1",
+        ValueParser::unsigned(0, u64::MAX),
+    );
+    let command = with(command, every)?;
+    let command = with(command, promise)?;
+    with(command, point)
+}
+
+/// The program's command line, with these values of its options.
+fn command_with<'a>(
+    alloc: Global,
+    sectors: ValueParser<'static>,
+    metas: ValueParser<'static>,
+    promises: ValueParser<'static>,
+) -> Result<Command<'a>, AllocError>
+    ensures { IfOk result (λ c. app_of c ≡ line sectors.entry metas.entry promises.entry) }
+{
+    let command = Command::new(alloc, "sqcrash_store").about(
+        "Judges what crashes may leave of a recorded run of any program, as rig/judge asks",
+    );
+    let command = with_words(alloc, command)?;
+    let command = with_disk(alloc, command, sectors, metas)?;
+    let command = with_draws(alloc, command)?;
+    with_points(alloc, command, promises)
+}
+
 /// The program's command line.
-fn command<'a>(alloc: Global) -> Result<Command<'a>, AllocError> {
-    let promises: &'static [&'static str] = &["full", "none"];
-    let metas: &'static [&'static str] = &["parts", "whole", "ordered"];
-    let sectors: &'static [&'static str] = &["512", "4096"];
-    Command::new(alloc, "sqcrash_store")
-        .about("Judges what crashes may leave of a recorded run of any program, as rig/judge asks")
-        .arg(word(alloc, "TRACE", "What rig/record-files wrote"))?
-        .arg(word(alloc, "IMAGES", "The folder in which images are made"))?
-        .arg(word(
-            alloc,
-            "ASKS",
-            "Where the number of each image is written; answers are read",
-        ))?
-        .arg(option(
-            alloc,
-            "sector",
-            "BYTES",
-            "The size of a disk's sectors; 512 if left out",
-        )
-        .value_parser(sectors))?
-        .arg(flag(
-            alloc,
-            "tears",
-            "A sector that was being written may hold anything",
-        ))?
-        .arg(option(
-            alloc,
-            "meta",
-            "HOW",
-            "How names and lengths become durable: in parts, as a whole, or in the order of calls; whole if left out",
-        )
-        .value_parser(metas))?
-        .arg(option(
-            alloc,
-            "images",
-            "N",
-            "The most images at a point, 100 if left out",
-        )
-        .value_parser(value_parser!(u64).range(1..)))?
-        .arg(option(
-            alloc,
-            "seed",
-            "S",
-            "The number that the draws begin with; 1 if left out",
-        )
-        .value_parser(value_parser!(u64)))?
-        .arg(flag(
-            alloc,
-            "every",
-            "A crash may come after each call, not only at marks",
-        ))?
-        .arg(option(
-            alloc,
-            "promise",
-            "WHAT",
-            "What is known at a mark: all, or nothing; full if left out",
-        )
-        .value_parser(promises))?
-        .arg(option(alloc, "point", "P", "Judges point P alone, counted from 1").value_parser(
-            value_parser!(u64),
-        ))
+fn command<'a>(alloc: Global) -> Result<Command<'a>, AllocError>
+    ensures { IfOk result (λ c. IsLine (app_of c)) }
+{
+    let sectors = one_of(&["512", "4096"]);
+    let metas = one_of(&["parts", "whole", "ordered"]);
+    let promises = one_of(&["full", "none"]);
+    command_with(alloc, sectors, metas, promises)
+}
+
+/// The value of a word or an option, where it is there.
+fn value<'a>(matches: &ArgMatches<'a>, name: &str) -> Option<&'a str>
+    ensures { MatchOption result (first_of name.now (rows_of (found_of matches.now)) ≡ None)
+        (λ text. first_of name.now (rows_of (found_of matches.now)) ≡ Some text.now) }
+{
+    matches.get_str(name)
+}
+
+/// Whether an option has this value.
+fn gives(matches: &ArgMatches<'_>, name: &str, text: &str) -> bool
+    ensures { result ≡ gives name.now text.now (rows_of (found_of matches.now)) }
+{
+    match value(matches, name) {
+        Some(given) => given == text,
+        None => false,
+    }
+}
+
+/// The number that a text is, where it is one.
+fn number_of(text: &str) -> Option<u64>
+    ensures { MatchOption result ((n : ℕ) → ¬ IsNumber text.now n) (IsNumber text.now) }
+{
+    text.parse::<u64>().ok()
+}
+
+/// The number of an option, where it is there.
+fn number(matches: &ArgMatches<'_>, name: &str) -> Option<u64>
+    ensures { GivesNumber (first_of name.now (rows_of (found_of matches.now))) result }
+{
+    match value(matches, name) {
+        Some(text) => number_of(text),
+        None => None,
+    }
+}
+
+/// The same, or this one where it isn't.
+fn number_or(matches: &ArgMatches<'_>, name: &str, or: u64) -> u64
+    ensures { NumberOr or (first_of name.now (rows_of (found_of matches.now))) result }
+{
+    match number(matches, name) {
+        Some(number) => number,
+        None => or,
+    }
+}
+
+/// How names and lengths become durable.
+fn meta_of(matches: &ArgMatches<'_>) -> Meta
+    ensures { result ≡ meta_by (rows_of (found_of matches.now)) }
+{
+    if gives(matches, "meta", "parts") {
+        return Meta::Parts;
+    }
+    if gives(matches, "meta", "ordered") {
+        return Meta::Ordered;
+    }
+    Meta::Whole
+}
+
+/// The size of a disk's sectors.
+fn sector_of(matches: &ArgMatches<'_>) -> usize
+    ensures by { result ≡ sector_by (rows_of (found_of matches.now)) }
+    ensures size { IsTrue (is_sector_size result) }
+{
+    if gives(matches, "sector", "4096") {
+        return 4096;
+    }
+    512
+}
+
+/// How a trace is to be judged.
+fn plan_of(matches: &ArgMatches<'_>) -> Plan
+    ensures { IsPlan (rows_of (found_of matches.now)) result }
+{
+    Plan {
+        sector: sector_of(matches),
+        tears: gives(matches, "tears", "true"),
+        meta: meta_of(matches),
+        images: number_or(matches, "images", 100),
+        seed: number_or(matches, "seed", 1),
+        every: gives(matches, "every", "true"),
+        is_promised: !gives(matches, "promise", "none"),
+        point: number(matches, "point"),
+    }
 }
 
 /// What the words ask for.
-fn matched<'a>(matches: &ArgMatches<'a>) -> Option<Request<'a>> {
-    let sector = if matches.get_str("sector") == Some("4096") {
-        4096
-    } else {
-        512
-    };
-    let meta = match matches.get_str("meta") {
-        Some("parts") => Meta::Parts,
-        Some("ordered") => Meta::Ordered,
-        _ => Meta::Whole,
-    };
-    let plan = Plan {
-        sector,
-        tears: matches.get_flag("tears"),
-        meta,
-        images: matches.get_one::<u64>("images").unwrap_or(100),
-        seed: matches.get_one::<u64>("seed").unwrap_or(1),
-        every: matches.get_flag("every"),
-        is_promised: matches.get_str("promise") != Some("none"),
-        point: matches.get_one::<u64>("point"),
-    };
+fn matched<'a>(matches: &ArgMatches<'a>) -> Option<Request<'a>>
+    ensures { IfSome result (IsRequest (rows_of (found_of matches.now))) }
+{
     Some(Request {
-        trace: matches.get_str("TRACE")?,
-        plan,
-        images: matches.get_str("IMAGES")?,
-        asks: matches.get_str("ASKS")?,
+        trace: value(matches, "TRACE")?,
+        plan: plan_of(matches),
+        images: value(matches, "IMAGES")?,
+        asks: value(matches, "ASKS")?,
     })
 }
 
-fn refused(error: clap::Error) -> LineError {
+/// Why words ask for nothing by which clap was refused.
+fn refused(error: clap::Error) -> LineError
+    ensures { IsRefusal error result }
+{
     match error.kind() {
         ErrorKind::DisplayHelp => LineError::Help(error),
         ErrorKind::OutOfMemory => LineError::NoMemory,
@@ -166,16 +339,25 @@ fn refused(error: clap::Error) -> LineError {
 }
 
 /// Reads a line by this command.
-fn read<'a>(command: &mut Command<'a>, words: &'a [&'a str]) -> Result<Request<'a>, LineError> {
-    let matches = command.try_get_matches_from_mut(words).map_err(refused)?;
-    match matched(&matches) {
-        Some(request) => Ok(request),
-        None => Err(LineError::NoMemory),
+fn read<'a>(command: &mut Command<'a>, words: &'a [&'a str]) -> Result<Request<'a>, LineError>
+    requires { is_simple_and_free (app_of command.now) ≡ true }
+    ensures { AsksOf (app_of command.old) (map (λ w. w.now) words.entry.now) result }
+{
+    match command.try_get_matches_from_mut(words) {
+        Ok(matches) => match matched(&matches) {
+            Some(request) => Ok(request),
+            None => Err(LineError::NoMemory),
+        },
+        Err(error) => Err(refused(error)),
     }
 }
 
 /// Reads a line, whose first word is the program's name.
-pub fn request_of<'a>(alloc: Global, words: &'a [&'a str]) -> Result<Request<'a>, LineError> {
-    let mut command = command(alloc).map_err(|_| LineError::NoMemory)?;
-    read(&mut command, words)
+pub fn request_of<'a>(alloc: Global, words: &'a [&'a str]) -> Result<Request<'a>, LineError>
+    ensures { Asks (map (λ w. w.now) words.entry.now) result }
+{
+    match command(alloc) {
+        Ok(mut command) => read(&mut command, words),
+        Err(_) => Err(LineError::NoMemory),
+    }
 }

@@ -1,7 +1,9 @@
 //! The states that a run had at its marks (own).
-ghost use Rattle.std.specs.Prelude.{◌≡◌, OnOk, IfOk};
+ghost use Rattle.std.specs.Prelude.{◌≡◌, [], ◌∷◌, ◌++◌, map, OnOk, IfOk};
+ghost use Rattle.std.specs.String.{string_bytes};
+ghost use Rattle.sqstore.specs.Calls.{bytes_of};
 ghost use Rattle.sqstore.specs.Stores.{store_of, Goes};
-ghost use Rattle.sqcrash_store.specs.States.{SaysWhere, is_first, is_mark, AreStates};
+ghost use Rattle.sqcrash_store.specs.States.{SaysWhere, is_first, is_mark, tells_name, names_told, AreStates};
 
 use crate::asking::Judge;
 use crate::outcome::Refusal;
@@ -11,20 +13,48 @@ use sqstore::{Action, Call, Store, present};
 use std::alloc::Global;
 
 /// The text of a name that a record tells.
-fn text_of(alloc: Global, trace: &[u8], call: &Call) -> Result<String, Refusal> {
+fn text_of(alloc: Global, trace: &[u8], call: &Call) -> Result<String, Refusal>
+    ensures { IfOk result (λ text. string_bytes text ≡ bytes_of trace.now call.now) }
+{
     match std::str::from_utf8(call.bytes(trace)) {
         Ok(text) => Ok(String::from_str(alloc, text)?),
         Err(_) => Err(Refusal::Name),
     }
 }
 
+/// Whether a record tells a name.
+fn tells_name(call: &Call) -> bool
+    ensures { result ≡ tells_name call.now.action }
+{
+    call.action == Action::Name
+}
+
+/// Takes the name of a record that tells one.
+fn take_name(
+    alloc: Global,
+    trace: &[u8],
+    call: &Call,
+    names: &mut Vec<String>,
+) -> Result<(), Refusal>
+    ensures { OnOk result (map (λ name. string_bytes name) names.new.items
+        ≡ map (λ name. string_bytes name) names.old.items ++ names_told trace.now (call.now ∷ [])) }
+{
+    let tells = tells_name(call);
+    if !tells {
+        return Ok(());
+    }
+    let name = text_of(alloc, trace, call)?;
+    names.push(name)?;
+    Ok(())
+}
+
 /// The names that the records of a trace tell, in their order.
-pub fn take_names(alloc: Global, trace: &[u8], calls: &[Call]) -> Result<Vec<String>, Refusal> {
+pub fn take_names(alloc: Global, trace: &[u8], calls: &[Call]) -> Result<Vec<String>, Refusal>
+    ensures { IfOk result (λ names. map (λ name. string_bytes name) names.items ≡ names_told trace.now calls.now) }
+{
     let mut names = Vec::new(alloc);
     for call in calls {
-        if call.action == Action::Name {
-            names.push(text_of(alloc, trace, call)?)?;
-        }
+        take_name(alloc, trace, call, &mut names)?;
     }
     Ok(names)
 }
