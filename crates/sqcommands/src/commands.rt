@@ -1,10 +1,11 @@
 //! The commands and their options. Each function takes and gives a `Result`, and none exits early: a command that is
 //! half made has much to let go.
 use crate::arguments::{
-    Made, all_arg, at_arg, changed_table_arg, commits_arg, copy_arg, csv_arg, deep_arg,
-    each_commit_arg, file_arg, force_arg, from_arg, json_arg, large_arg, log_arg, no_lock_arg,
-    only_with, page_arg, pages_arg, pointer_maps_arg, report_arg, script_arg, shown_maps_arg,
-    sql_arg, super_journal_arg, table_arg, until_arg, verbose_arg, version_arg, wait_arg,
+    Made, all_arg, at_arg, changed_table_arg, changes_arg, commits_arg, copy_arg, csv_arg,
+    deep_arg, each_commit_arg, file_arg, force_arg, from_arg, json_arg, large_arg, log_arg,
+    no_lock_arg, only_with, page_arg, pages_arg, pointer_maps_arg, report_arg, script_arg,
+    shown_maps_arg, sql_arg, super_journal_arg, table_arg, until_arg, verbose_arg, version_arg,
+    wait_arg,
 };
 use crate::texts::{ALL, CHECK, DIFF, RECOVER, REPORT, ROWS, SHOW};
 use clap::{Arg, Command};
@@ -91,6 +92,7 @@ fn report_command<'a>(alloc: Global) -> Made<Command<'a>> {
         "Makes a page of HTML that shows the database and its log; writes neither FILE nor its logs";
     let command = base_command(alloc, "report", about, REPORT, Ok(at_arg(alloc)));
     let command = with_arg(command, Ok(pointer_maps_arg(alloc)));
+    let command = with_arg(command, Ok(changes_arg(alloc)));
     with_arg(command, Ok(report_arg(alloc)))
 }
 

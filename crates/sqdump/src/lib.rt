@@ -3,8 +3,12 @@
 
 mod changes;
 mod history;
+mod kept;
+mod kept_page;
 mod rows;
 
 pub use changes::show_changes;
 pub use history::show_history;
+pub use kept::{Kept, keep_history};
+pub use kept_page::{CHANGES_HEAD, CHANGES_TAIL};
 pub use rows::{Printed, Wanted, show_rows};

@@ -146,7 +146,8 @@ enum Reading<'a> {
     Diff(Compared<'a>),
     /// A file of this name is made.
     Copy(&'a str),
-    Report(&'a str),
+    /// A file of this name is made, with the changes of each commit or without.
+    Report(&'a str, bool),
 }
 
 impl Reading<'_> {
@@ -184,7 +185,7 @@ where
         Reading::Rows(wanted) => Command::Rows(wanted),
         Reading::Diff(compared) => return print_diff(&job, compared, out, notes),
         Reading::Copy(to) => return recover_to(&job, to, out, notes),
-        Reading::Report(to) => return report_to(&job, to, out, notes),
+        Reading::Report(to, changes) => return report_to(&job, (to, changes), out, notes),
     };
     answered(&job, &command, out, notes)
 }
@@ -279,9 +280,9 @@ fn reading_of<'a>(request: Request<'a>) -> Option<Asked<'a>> {
         Request::Report {
             file,
             to,
+            changes,
             options,
-            ..
-        } => (Reading::Report(to), file, options),
+        } => (Reading::Report(to, changes), file, options),
         Request::Recover { to: None, .. } | Request::Salvage { .. } | Request::Version =>
             return None,
     };

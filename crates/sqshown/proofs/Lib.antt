@@ -11,3 +11,6 @@ mod WrittenLogs
 mod NamesOfTrees
 mod LinesBehind
 mod LastSegments
+mod RunsInOrder
+mod RunsOfPages
+mod PartsOfReports

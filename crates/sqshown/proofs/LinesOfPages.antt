@@ -1,5 +1,5 @@
 -- Lines that are written one behind the other.
-use Rattle.std.proofs.Common.{◌≡◌, ◌⊎◌, ⊎_elim, inl, inr, ℕ, zero, suc, ◌+◌, List, [], ◌∷◌, ◌++◌, length, Option, refl, sym, ◌∙◌, ap, subst, arith}
+use Rattle.std.proofs.Common.{◌≡◌, ◌⊎◌, ⊎_elim, inl, inr, ℕ, zero, suc, ◌+◌, List, [], ◌∷◌, ◌++◌, length, Option, refl, sym, ◌∙◌, ap, subst}
 use Rattle.std.specs.Prelude.{slice_get, Some}
 use Rattle.std.specs.List.{flat_map}
 use Rattle.std.specs.Io.KnownBytes.{Appends}
@@ -7,9 +7,6 @@ use Rattle.std.proofs.KnownBytes.{Appends-trans}
 use Rattle.std.proofs.lemmas.List.{append-nil, length-append}
 use Rattle.std.proofs.lemmas.Grind.{flat_map-append}
 use Rattle.std.proofs.lemmas.Option.{none-some}
-use Rattle.sqlines.specs.declared.pages.PageLine.{PageLine}
-use Rattle.sqshown.specs.PageLines.{IsPageLine}
-use Rattle.sqshown.specs.declared.surveys.Surveyed.{Surveyed}
 
 -- an element with one more behind it
 one_more : {X : Type 0} (xs : List X) (y : X) (j : ℕ) (x : X) → slice_get (xs ++ y ∷ []) j ≡ Some x
@@ -20,16 +17,16 @@ one_more (z ∷ xs) y zero x is = inl is
 one_more (z ∷ xs) y (suc j) x is =
     ⊎_elim (λ there. inl there) (λ last. inr (ap (λ (n : ℕ). suc n) last.0, last.1)) (one_more xs y j x is)
 
--- one more line of a page
-pub line_more : {F : Type 0} (found : Surveyed F) (lines : List PageLine) (i : ℕ) (line : PageLine) → length lines ≡ i
-    → ((j : ℕ) (x : PageLine) → slice_get lines j ≡ Some x → IsPageLine found j x) → IsPageLine found i line
-    → (j : ℕ) (x : PageLine) → slice_get (lines ++ line ∷ []) j ≡ Some x → IsPageLine found j x
-line_more found lines i line long each is j x there =
-    ⊎_elim (λ before. each j x before)
+-- one more of which the same holds at its place
+pub each_more : {X : Type 0} (P : ℕ → X → Type 0) (xs : List X) (i : ℕ) (x : X) → length xs ≡ i
+    → ((j : ℕ) (y : X) → slice_get xs j ≡ Some y → P j y) → P i x
+    → (j : ℕ) (y : X) → slice_get (xs ++ x ∷ []) j ≡ Some y → P j y
+each_more {X = X} P xs i x long each is j y there =
+    ⊎_elim (λ before. each j y before)
     (λ last.
     let at : i ≡ j = sym (last.0 ∙ long) in
-    subst (λ (n : ℕ). IsPageLine found n x) at (subst (λ (l : PageLine). IsPageLine found i l) last.1 is))
-    (one_more lines line j x there)
+    subst (λ (n : ℕ). P n y) at (subst (λ (l : X). P i l) last.1 is))
+    (one_more xs x j y there)
 
 -- and of their number
 pub length_more : {X : Type 0} (xs : List X) (y : X) (i : ℕ) → length xs ≡ i → length (xs ++ y ∷ []) ≡ i + 1

@@ -3,4 +3,5 @@ pub mod Behind
 pub mod Found
 pub mod LogsShown
 pub mod Records
+pub mod Reports
 pub mod Shown

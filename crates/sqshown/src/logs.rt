@@ -11,6 +11,7 @@ ghost use Rattle.sqshown.specs.Contents.{AreGiven, KeepsBytes, contents_of};
 ghost use Rattle.sqshown.specs.Fronts.{IsShownFront};
 ghost use Rattle.sqshown.specs.Limits.{limits_named};
 ghost use Rattle.sqshown.specs.Logs.{ReplayFound, ScanFound, IsUnreadLog};
+ghost use Rattle.sqshown.specs.Reports.{IsLogObject};
 ghost use Rattle.sqshown.specs.LogsShown.{IsCommitsText, IsJournalText, IsLogFound, IsLogText, IsTextOfCommits};
 ghost use Rattle.sqshown.specs.LogsShown.{IsWalText, refused_text};
 ghost use Rattle.sqshown.specs.internal.LogsShown.{IsWalShown, IsJournalShown, IsShownLog};
@@ -330,7 +331,11 @@ pub fn log_of<F: FileBytes>(
 }
 
 /// The facts of the log that counts, as an object.
-pub(crate) fn write_log_facts<W: Write>(out: &mut W, log: &LogFound) -> io::Result<()> {
+pub(crate) fn write_log_facts<W: Write>(out: &mut W, log: &LogFound) -> io::Result<()>
+    ensures { (limits : Bounds) (wal journal : List ℕ) → IsLogFound limits wal journal log.now
+        → OnOk result ((text : List ℕ) × IsLogObject limits.frames wal journal log.now text
+        × Appends (W.contents out.old) (W.contents out.new) text) }
+{
     match log {
         LogFound::None => out.write_all(b"{\"log\":\"none\"}"),
         LogFound::Wal {

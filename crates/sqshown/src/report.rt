@@ -1,10 +1,23 @@
 //! The facts that a report shows.
-ghost use Rattle.std.specs.Prelude.{◌≡◌, IfOk, map};
+ghost use Rattle.std.specs.Prelude.{◌≡◌, ℕ, ◌<◌, List, [], ◌∷◌, ◌++◌, length, map, slice_get, Option, Some};
+ghost use Rattle.std.specs.Prelude.{codes, option_to_list, IfOk, IfSome, IsSome, OnOk};
+ghost use Rattle.std.specs.List.{flat_map};
+ghost use Rattle.std.specs.Io.KnownBytes.{Appends};
+ghost use Rattle.sqval.specs.Limits.{Bounds};
+ghost use Rattle.sqlines.specs.Facts.{joined, separator};
+ghost use Rattle.sqlines.specs.Reports.{line_comma};
 ghost use Rattle.sqfacts.specs.Runs.{expanded};
-ghost use Rattle.sqshown.specs.Reports.{OnlyReads, roles_in};
+ghost use Rattle.sqshown.specs.LogsShown.{IsLogFound};
+ghost use Rattle.sqshown.specs.Names.{names_of};
+ghost use Rattle.sqshown.specs.PageLines.{IsLoggedAt};
+ghost use Rattle.sqshown.specs.Reports.{AreLogged, ArePartsOf, AreTreeTexts, IsHeadText, IsLoggedText, IsLogObject};
+ghost use Rattle.sqshown.specs.Reports.{IsTreesText, OnlyReads, Parts, front_text, list_text, logged_text, pages_of};
+ghost use Rattle.sqshown.specs.Reports.{placed, report_text, roles_in, runs_text, size_in};
+ghost use Rattle.sqshown.specs.internal.Reports.{AreWritten, page_at};
 
 use crate::cells::read_page;
 use crate::logs::{LogFound, write_log_facts};
+use crate::names::Names;
 use crate::surveys::{Found, Surveyed, write_verdict};
 use sqcheck::Role;
 use sqfacts::{Refusal, Run, number_of, runs_of, uses_of};
@@ -165,18 +178,40 @@ pub fn facts_of<F: FileBytes + Drop>(
     }
 }
 
-fn write_trees<F: FileBytes, W: Write>(
-    out: &mut W,
-    trees: &[Tree],
-    found: &Surveyed<F>,
-) -> io::Result<()> {
-    for (i, tree) in trees.iter().enumerate() {
-        write_tree(out, i == 0, *tree, found.names.of(tree.root))?;
+/// The tree at a place.
+fn tree_in(trees: &[Tree], i: usize) -> Tree
+    requires { i < length trees.now }
+    ensures { slice_get trees.now i ≡ Some result }
+{
+    trees[i]
+}
+
+fn write_trees<W: Write>(out: &mut W, trees: &[Tree], names: &Names) -> io::Result<()>
+    ensures { OnOk result ((texts : List (List ℕ)) × AreTreeTexts (names_of names.now) trees.now texts
+        × Appends (W.contents out.old) (W.contents out.new) (flat_map (λ (text : List ℕ). text) texts)) }
+{
+    for i in 0..trees.len() {
+        let tree = tree_in(trees, i);
+        let name = names.of(tree.root);
+        write_tree(out, i == 0, tree, name)?;
     }
     Ok(())
 }
 
-fn write_runs<W: Write>(out: &mut W, runs: &[Run]) -> io::Result<()> {
+/// The trees of a survey; none where no page was found.
+fn write_trees_of<F, W: Write>(out: &mut W, trees: &[Tree], found: &Found<F>) -> io::Result<()>
+    ensures { OnOk result ((text : List ℕ) × IsTreesText found.now trees.now text
+        × Appends (W.contents out.old) (W.contents out.new) text) }
+{
+    match found {
+        Found::Pages(found) => write_trees(out, trees, &found.names),
+        Found::Nothing(_) => Ok(()),
+    }
+}
+
+fn write_runs<W: Write>(out: &mut W, runs: &[Run]) -> io::Result<()>
+    ensures { OnOk result (Appends (W.contents out.old) (W.contents out.new) (runs_text 1 runs.now)) }
+{
     let mut first = 1u32;
     for run in runs {
         write_run(out, first, run.count, run.used.role, run.used.fault)?;
@@ -194,26 +229,110 @@ struct LoggedRun {
 }
 
 impl LoggedRun {
-    /// The run and the page that stands at this place, if that is the next one.
-    fn grown(&self, number: Option<u64>) -> Option<LoggedRun> {
-        if number? != self.at.saturating_add(self.count) {
+    /// The run and this page behind it, if both its number and its place are the next ones.
+    fn grown(&self, page: u64, at: u64) -> Option<LoggedRun>
+        ensures pages { IfSome result (λ run. pages_of run ≡ pages_of self.now ++ (page, at) ∷ []) }
+        ensures some { IfSome result (λ run. 0 < run.count) }
+    {
+        if page != self.page.checked_add(self.count)? || at != self.at.checked_add(self.count)? {
             return None;
         }
         Some(LoggedRun {
             page: self.page,
             at: self.at,
-            count: self.count.saturating_add(1),
+            count: self.count.checked_add(1)?,
         })
     }
 
-    fn write<W: Write>(&self, out: &mut W, before: &str) -> io::Result<()> {
+    /// The run as an element of a list.
+    fn write<W: Write>(&self, out: &mut W, is_first: bool) -> io::Result<()>
+        ensures { OnOk result (Appends (W.contents out.old) (W.contents out.new)
+            (separator line_comma is_first ++ logged_text self.now)) }
+    {
         let (page, at, count) = (self.page, self.at, self.count);
-        write!(out, "{before}[{page},{at},{count}]")
+        if is_first {
+            write!(out, "[{page},{at},{count}]")
+        } else {
+            write!(out, ",\n[{page},{at},{count}]")
+        }
     }
 }
 
+/// Whether no run is written, and the last one, which isn't written yet and may still grow.
+#[derive(Clone, Copy)]
+struct LoggedRuns {
+    is_first: bool,
+    last: Option<LoggedRun>,
+}
+
+/// The last run and this page behind it, if it stands in the log, and both its number and its place are the next ones.
+fn grown_by(last: Option<LoggedRun>, page: u64, here: Option<u64>) -> Option<LoggedRun>
+    ensures pages { IfSome result (λ run. pages_of run ≡ flat_map pages_of (option_to_list last) ++ page_at page here) }
+    ensures some { IfSome result (λ run. 0 < run.count) }
+{
+    match (last, here) {
+        (Some(last), Some(at)) => last.grown(page, at),
+        _ => None,
+    }
+}
+
+/// A run of this page alone, if it stands in the log.
+fn begun_by(page: u64, here: Option<u64>) -> Option<LoggedRun>
+    ensures pages { flat_map pages_of (option_to_list result) ≡ page_at page here }
+    ensures some { IfSome result (λ run. 0 < run.count) }
+{
+    match here {
+        Some(at) => Some(LoggedRun { page, at, count: 1 }),
+        None => None,
+    }
+}
+
+/// The last run is written, if there is one.
+fn write_last<W: Write>(out: &mut W, runs: LoggedRuns) -> io::Result<LoggedRuns>
+    ensures { (begin : Option (List ℕ)) (pages : List (ℕ × ℕ)) → AreWritten begin (W.contents out.old) runs pages
+        → IfOk result (λ now. AreWritten begin (W.contents out.new) now pages × (now.last ≡ Option.None)) }
+{
+    match runs.last {
+        Some(run) => {
+            run.write(out, runs.is_first)?;
+            Ok(LoggedRuns {
+                is_first: false,
+                last: None,
+            })
+        }
+        None => Ok(runs),
+    }
+}
+
+/// One more page, which may stand in the log: the last run grows by it, or is written, and another one begins.
+fn add_page<W: Write>(
+    out: &mut W,
+    runs: LoggedRuns,
+    page: u64,
+    here: Option<u64>,
+) -> io::Result<LoggedRuns>
+    ensures { (begin : Option (List ℕ)) (pages : List (ℕ × ℕ)) → AreWritten begin (W.contents out.old) runs pages
+        → IfOk result (λ now. AreWritten begin (W.contents out.new) now (pages ++ page_at page here)) }
+{
+    if let Some(grown) = grown_by(runs.last, page, here) {
+        return Ok(LoggedRuns {
+            is_first: runs.is_first,
+            last: Some(grown),
+        });
+    }
+    let written = write_last(out, runs)?;
+    Ok(LoggedRuns {
+        is_first: written.is_first,
+        last: begun_by(page, here),
+    })
+}
+
 /// The number of the frame or record in which page i, from 0, stands.
-fn logged_number<F: FileBytes>(found: &Surveyed<F>, i: usize) -> Option<u64> {
+fn logged_number<F: FileBytes>(found: &Surveyed<F>, i: usize) -> Option<u64>
+    ensures within { IsSome result → i < 4294967295 }
+    ensures at { (place : Option Logged) × IsLoggedAt found.now i place
+        × ((page : ℕ) → page_at page result ≡ placed page place) }
+{
     match found.logged(i) {
         Some(Logged::Frame(number) | Logged::Record(number)) => Some(number),
         None => None,
@@ -221,30 +340,38 @@ fn logged_number<F: FileBytes>(found: &Surveyed<F>, i: usize) -> Option<u64> {
 }
 
 /// The runs of pages that stand in the log one behind the other.
-fn write_logged<F: FileBytes, W: Write>(out: &mut W, found: &Surveyed<F>) -> io::Result<()> {
-    let mut before = "";
-    let mut run: Option<LoggedRun> = None;
-    for i in 0..=found.survey.roles.len() {
+fn write_logged<F: FileBytes, W: Write>(out: &mut W, found: &Surveyed<F>) -> io::Result<()>
+    ensures { OnOk result ((runs : List LoggedRun) × AreLogged found.now runs
+        × Appends (W.contents out.old) (W.contents out.new) (joined line_comma (map logged_text runs))) }
+{
+    let mut runs = LoggedRuns {
+        is_first: true,
+        last: None,
+    };
+    for i in 0..found.survey.roles.len() {
         let here = logged_number(found, i);
-        let grown = run.and_then(|run| run.grown(here));
-        if grown.is_some() {
-            run = grown;
-            continue;
-        }
-        if let Some(run) = run {
-            run.write(out, before)?;
-            before = ",\n";
-        }
-        run = here.map(|at| LoggedRun {
-            page: u64::from(number_of(i)),
-            at,
-            count: 1,
-        });
+        runs = add_page(out, runs, u64::from(number_of(i)), here)?;
     }
+    write_last(out, runs)?;
     Ok(())
 }
 
-fn write_head<W: Write>(out: &mut W, head: &Option<[u8; 100]>) -> io::Result<()> {
+/// The pages of a survey that stand in the log; none where no page was found.
+fn write_logged_of<F: FileBytes, W: Write>(out: &mut W, found: &Found<F>) -> io::Result<()>
+    ensures { OnOk result ((text : List ℕ) × IsLoggedText found.now text
+        × Appends (W.contents out.old) (W.contents out.new) text) }
+{
+    match found {
+        Found::Pages(found) => write_logged(out, found),
+        Found::Nothing(_) => Ok(()),
+    }
+}
+
+/// The fields of the header that the first bytes of page 1 are, if they are one.
+fn write_head<W: Write>(out: &mut W, head: &Option<[u8; 100]>) -> io::Result<()>
+    ensures { OnOk result ((text : List ℕ) × IsHeadText head.now text
+        × Appends (W.contents out.old) (W.contents out.new) text) }
+{
     let Some(head) = head else {
         return Ok(());
     };
@@ -255,26 +382,86 @@ fn write_head<W: Write>(out: &mut W, head: &Option<[u8; 100]>) -> io::Result<()>
 }
 
 /// The size of a page, in bytes; 0 where no page was found.
-fn page_size_of<F: FileBytes>(found: &Found<F>) -> u32 {
+fn page_size_of<F: FileBytes>(found: &Found<F>) -> u32
+    ensures { result ≡ size_in found.now }
+{
     match found {
         Found::Pages(found) => found.view.page_size().get(),
         Found::Nothing(_) => 0,
     }
 }
 
-/// The lists of trees, of runs and of pages in the log.
-fn write_lists<F: FileBytes, W: Write>(out: &mut W, facts: &ReportFacts<F>) -> io::Result<()> {
+/// What stands before the verdict.
+fn write_front<W: Write>(out: &mut W, version: &str, file: &str, size: u32) -> io::Result<()>
+    ensures { OnOk result (Appends (W.contents out.old) (W.contents out.new)
+        (front_text version.now file.now size)) }
+{
+    write!(out, "{{\"version\":\"{version}\",\"file\":\"")?;
+    write_hex(out, file.as_bytes())?;
+    write!(out, "\",\n\"page size\":{size},\n\"verdict\":")
+}
+
+/// The header.
+fn write_header_part<W: Write>(out: &mut W, head: &Option<[u8; 100]>) -> io::Result<()>
+    ensures { OnOk result ((text : List ℕ) × IsHeadText head.now text
+        × Appends (W.contents out.old) (W.contents out.new) (codes ",\"header\":{" ++ (text ++ codes "},\n"))) }
+{
+    out.write_all(b",\"header\":{")?;
+    write_head(out, head)?;
+    out.write_all(b"},\n")
+}
+
+/// The list of trees.
+fn write_tree_list<F, W: Write>(out: &mut W, trees: &[Tree], found: &Found<F>) -> io::Result<()>
+    ensures { OnOk result ((text : List ℕ) × IsTreesText found.now trees.now text
+        × Appends (W.contents out.old) (W.contents out.new) (list_text (codes "trees") text)) }
+{
     out.write_all(b"\"trees\":[")?;
-    if let Found::Pages(found) = &facts.found {
-        write_trees(out, &facts.trees, found)?;
-    }
-    out.write_all(b"],\n\"runs\":[")?;
-    write_runs(out, &facts.runs)?;
-    out.write_all(b"],\n\"logged\":[")?;
-    if let Found::Pages(found) = &facts.found {
-        write_logged(out, found)?;
-    }
+    write_trees_of(out, trees, found)?;
     out.write_all(b"],\n")
+}
+
+/// The list of runs.
+fn write_run_list<W: Write>(out: &mut W, runs: &[Run]) -> io::Result<()>
+    ensures { OnOk result (Appends (W.contents out.old) (W.contents out.new)
+        (list_text (codes "runs") (runs_text 1 runs.now))) }
+{
+    out.write_all(b"\"runs\":[")?;
+    write_runs(out, runs)?;
+    out.write_all(b"],\n")
+}
+
+/// The list of pages in the log.
+fn write_logged_list<F: FileBytes, W: Write>(out: &mut W, found: &Found<F>) -> io::Result<()>
+    ensures { OnOk result ((text : List ℕ) × IsLoggedText found.now text
+        × Appends (W.contents out.old) (W.contents out.new) (list_text (codes "logged") text)) }
+{
+    out.write_all(b"\"logged\":[")?;
+    write_logged_of(out, found)?;
+    out.write_all(b"],\n")
+}
+
+/// The lists of trees, of runs and of pages in the log.
+fn write_lists<F: FileBytes, W: Write>(out: &mut W, facts: &ReportFacts<F>) -> io::Result<()>
+    ensures { OnOk result ((trees : List ℕ) × (logged : List ℕ)
+        × IsTreesText facts.now.found facts.now.trees.items trees × IsLoggedText facts.now.found logged
+        × Appends (W.contents out.old) (W.contents out.new) (list_text (codes "trees") trees
+        ++ (list_text (codes "runs") (runs_text 1 facts.now.runs.items) ++ list_text (codes "logged") logged))) }
+{
+    write_tree_list(out, &facts.trees, &facts.found)?;
+    write_run_list(out, &facts.runs)?;
+    write_logged_list(out, &facts.found)
+}
+
+/// The log.
+fn write_log_part<W: Write>(out: &mut W, log: &LogFound) -> io::Result<()>
+    ensures { (limits : Bounds) (wal journal : List ℕ) → IsLogFound limits wal journal log.now
+        → OnOk result ((text : List ℕ) × IsLogObject limits.frames wal journal log.now text
+        × Appends (W.contents out.old) (W.contents out.new) (codes "\"log\":" ++ (text ++ codes "}\n"))) }
+{
+    out.write_all(b"\"log\":")?;
+    write_log_facts(out, log)?;
+    out.write_all(b"}\n")
 }
 
 /// The facts of a report by a program of this version on a file of this name, as one object. An error of the writer.
@@ -283,17 +470,14 @@ pub fn write_report_facts<F: FileBytes, W: Write>(
     version: &str,
     file: &str,
     facts: &ReportFacts<F>,
-) -> io::Result<()> {
-    write!(out, "{{\"version\":\"{version}\",\"file\":\"")?;
-    write_hex(out, file.as_bytes())?;
-    let size = page_size_of(&facts.found);
-    write!(out, "\",\n\"page size\":{size},\n\"verdict\":")?;
+) -> io::Result<()>
+    ensures { (limits : Bounds) (wal journal : List ℕ) → IsLogFound limits wal journal facts.now.log
+        → OnOk result ((parts : Parts) × ArePartsOf limits.frames wal journal facts.now parts
+        × Appends (W.contents out.old) (W.contents out.new) (report_text version.now file.now facts.now parts)) }
+{
+    write_front(out, version, file, page_size_of(&facts.found))?;
     write_verdict(out, Style::Json, &facts.found)?;
-    out.write_all(b",\"header\":{")?;
-    write_head(out, &facts.head)?;
-    out.write_all(b"},\n")?;
+    write_header_part(out, &facts.head)?;
     write_lists(out, facts)?;
-    out.write_all(b"\"log\":")?;
-    write_log_facts(out, &facts.log)?;
-    out.write_all(b"}\n")
+    write_log_part(out, &facts.log)
 }

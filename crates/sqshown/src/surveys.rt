@@ -89,6 +89,7 @@ impl<F: FileBytes> Surveyed<F> {
         ensures record { self.now.view.front ≡ 0 → (journal : List ℕ) → i < self.now.view.count
             → AreRecordsOf journal self.now.records
             → IsLoggedRecord journal (place_of self.now.view.places.items (i + 1)) result }
+        ensures within { IsSome result → i < 4294967295 }
     {
         if i >= self.view.count() as usize {
             return None;

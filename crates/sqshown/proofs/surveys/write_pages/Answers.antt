@@ -1,6 +1,7 @@
 use Rattle.std.proofs.Common.{[], ◌∷◌, ◌++◌, arith}
 use Rattle.sqlines.specs.Pages.{page_line_text}
-use Rattle.sqshown.proofs.LinesOfPages.{appends_line, length_more, line_more}
+use Rattle.sqshown.specs.PageLines.{IsPageLine}
+use Rattle.sqshown.proofs.LinesOfPages.{appends_line, each_more, length_more}
 use Rattle.sqshown.proofs.surveys.write_pages.Goals as goal
 
 pub loop-i-preserved : goal.loop-i-preserved
@@ -9,7 +10,7 @@ loop-i-preserved g c =
     let line = c.line_of-line.result in (
       so_far.0 ++ line ∷ [],
       length_more so_far.0 line c.loop-i.i so_far.1,
-      line_more c.args.found.now so_far.0 c.loop-i.i line so_far.1 so_far.2 c.line_of-line.ensures,
+      each_more (IsPageLine c.args.found.now) so_far.0 c.loop-i.i line so_far.1 so_far.2 c.line_of-line.ensures,
       appends_line (g.W.Write.contents c.args.out.now) (g.W.Write.contents c.loop-i.out) (g.W.Write.contents c.write.new.out)
           (page_line_text c.args.style) so_far.0 line so_far.3 c.in_ok-write.ensures,
     )
