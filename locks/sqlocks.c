@@ -124,10 +124,15 @@ int main(int argc, char **words) {
     if (length < 2 || said[length - 1] != '\n') start(words, NULL, NULL);
     said[length - 1] = 0;
     if (sscanf(said, "each %u", &count) == 1) return each(words, count);
-    if (sscanf(said, "%u %u%n", &want, &seconds, &from) != 2 || said[from] != ' ' || strlen(said + from) > PATH_MAX)
-        start(words, NULL, NULL);
+    char *line = said; /* of one of several files the name stands before each line, and a colon */
+    while (line && (sscanf(line, "%u %u%n", &want, &seconds, &from) != 2 || line[from] != ' '))
+        if ((line = strstr(line, ": "))) line += 2;
+    if (!line || strlen(line + from) > PATH_MAX) start(words, NULL, NULL);
+    size_t before = (size_t)(line - said);
+    for (char *p = line; before && (p = strchr(p, '\n')); p++) /* a name of several lines */
+        if (!strncmp(p + 1, said, before)) memmove(p + 1, p + 1 + before, strlen(p + 1 + before) + 1);
     struct sqr_held held;
-    switch (sqr_hold(&held, said + from + 1, want, (uint64_t)seconds * 1000)) {
+    switch (sqr_hold(&held, line + from + 1, want, (uint64_t)seconds * 1000)) {
         case SQR_HELD: go(words, &held);
         case SQR_HELD_IN_USE: start(words, "--refused", "in-use");
         case SQR_HELD_NO_LOCKS: start(words, "--refused", "no-locks");
