@@ -1,7 +1,8 @@
 //! Images that are drawn (own).
-ghost use Rattle.std.specs.Prelude.{◌≡◌, ◌<◌, ◌++◌, [], ℕ, List, length, OnOk, IfOk};
+ghost use Rattle.std.specs.Prelude.{◌≡◌, ◌<◌, ◌++◌, [], ℕ, List, length, IfErr, IfOk, MatchResult};
 ghost use Rattle.crashdisk.specs.Choice.{naming_of, is_newest};
 ghost use Rattle.crashdisk.specs.Model.{state_of};
+ghost use Rattle.crashdisk.specs.Refusal.{number_of};
 ghost use Rattle.sqplay.specs.Names.{name_of};
 ghost use Rattle.std.specs.List.{Contains};
 ghost use Rattle.sqplay.specs.Plays.{files_of, epochs_of};
@@ -85,7 +86,9 @@ fn draw_torn<R: Rng>(
     rng: &mut R,
     disk: &ModelDisk,
     greatest: u64,
-) -> Result<Vec<(u32, Vec<u8>)>, DiskError> {
+) -> Result<Vec<(u32, Vec<u8>)>, DiskError>
+    ensures { IfErr result (λ e. number_of e ≡ 4) }
+{
     let sector = disk.sector();
     let mut newest = Vec::new(alloc);
     let mut oldest = Vec::new(alloc);
@@ -105,7 +108,9 @@ fn draw_torn<R: Rng>(
             break;
         };
         if disk.values(File::Db, k) > 1 && below(rng, 8) == 0 {
-            let bytes = torn_sector(alloc, rng, new, old).map_err(|_| DiskError::NoMemory)?;
+            let Ok(bytes) = torn_sector(alloc, rng, new, old) else {
+                return Err(DiskError::NoMemory);
+            };
             if torn.push((number, bytes)).is_err() {
                 return Err(DiskError::NoMemory);
             }
@@ -120,7 +125,9 @@ pub(crate) fn draw_choice<R: Rng>(
     alloc: Global,
     rng: &mut R,
     disk: &ModelDisk,
-) -> Result<FileChoice, DiskError> {
+) -> Result<FileChoice, DiskError>
+    ensures { IfErr result (λ e. number_of e ≡ 4) }
+{
     let sector = disk.sector() as u64;
     let (least, greatest) = disk.lengths(File::Db);
     let len = draw_length(rng, least, greatest, sector);
@@ -151,8 +158,8 @@ pub(crate) fn append_image(
     choice: &FileChoice,
     out: &mut Vec<u8>,
 ) -> Result<(), DiskError>
-    ensures { OnOk result ((bytes : List ℕ) × (out.new.items ≡ out.old.items ++ bytes)
-        × IsNamed (state_of disk.now) (naming_of choice.now) bytes) }
+    ensures { MatchResult result (λ done. (bytes : List ℕ) × (out.new.items ≡ out.old.items ++ bytes)
+        × IsNamed (state_of disk.now) (naming_of choice.now) bytes) (λ e. number_of e ≡ 4) }
 {
     disk.image(File::Db, choice, out)
 }
@@ -165,7 +172,7 @@ pub(crate) fn put_draw<R: Rng>(
     holds: Holds,
     out: &mut Vec<u8>,
 ) -> Result<(), DiskError>
-    ensures { OnOk result (MayBeLeft (name_of name.now) holds out.new.items) }
+    ensures { MatchResult result (λ done. MayBeLeft (name_of name.now) holds out.new.items) (λ e. number_of e ≡ 4) }
 {
     out.clear();
     let files = held_files(name, holds);
@@ -206,7 +213,7 @@ pub(crate) fn draw_in<R: Rng>(
     epoch: Epoch,
     image: &mut Image,
 ) -> Result<(), DiskError>
-    ensures { OnOk result (MayLeaveIn (files_of player.now) epoch image.new) }
+    ensures { MatchResult result (λ done. MayLeaveIn (files_of player.now) epoch image.new) (λ e. number_of e ≡ 4) }
 {
     put_draw(alloc, rng, player.db(), epoch.db, &mut image.db)?;
     put_draw(alloc, rng, player.wal(), epoch.wal, &mut image.wal)?;
@@ -227,7 +234,7 @@ pub fn draw<R: Rng>(
     player: &Player,
     image: &mut Image,
 ) -> Result<(), DiskError>
-    ensures { OnOk result (MayLeave (files_of player.now) image.new) }
+    ensures { MatchResult result (λ done. MayLeave (files_of player.now) image.new) (λ e. number_of e ≡ 4) }
 {
     let epoch = draw_epoch(rng, player);
     draw_in(alloc, rng, player, epoch, image)

@@ -1,7 +1,8 @@
 //! What a crash left of a database file and its logs (own).
-ghost use Rattle.std.specs.Prelude.{◌≡◌, ◌++◌, ◌%◌, ◌/◌, OnOk, map};
+ghost use Rattle.std.specs.Prelude.{◌≡◌, ◌++◌, ◌%◌, ◌/◌, MatchResult, map};
 ghost use Rattle.sqplay.specs.Names.{name_of, ArePresentOf, file_now};
 ghost use Rattle.crashdisk.specs.Model.{state_of};
+ghost use Rattle.crashdisk.specs.Refusal.{number_of};
 ghost use Rattle.sqimages.specs.Ways.{files_way, held_files};
 
 use crate::counts::{Counts, EpochCounts, file_count, held_files};
@@ -21,7 +22,8 @@ pub struct Image {
 /// Appends one of these files in the way of this number, or nothing: the choices of each file, one file after the
 /// other, and then none.
 fn append_way(files: &[ModelDisk], n: u64, out: &mut Vec<u8>) -> Result<(), DiskError>
-    ensures { OnOk result (out.new.items ≡ out.old.items ++ files_way (map (λ d. state_of d) files.now) n) }
+    ensures { MatchResult result (λ done. out.new.items ≡ out.old.items
+        ++ files_way (map (λ d. state_of d) files.now) n) (λ e. number_of e ≡ 4) }
 {
     let mut rest = n;
     for disk in files {
@@ -40,7 +42,8 @@ fn append_way(files: &[ModelDisk], n: u64, out: &mut Vec<u8>) -> Result<(), Disk
 
 /// Puts there the file that is left under a name that holds this, in the way of this number.
 fn put_way(name: &Name, holds: Holds, n: u64, out: &mut Vec<u8>) -> Result<(), DiskError>
-    ensures { OnOk result (out.new.items ≡ files_way (held_files (name_of name.now) holds) n) }
+    ensures { MatchResult result (λ done. out.new.items ≡ files_way (held_files (name_of name.now) holds) n)
+        (λ e. number_of e ≡ 4) }
 {
     out.clear();
     append_way(held_files(name, holds), n, out)
@@ -48,14 +51,16 @@ fn put_way(name: &Name, holds: Holds, n: u64, out: &mut Vec<u8>) -> Result<(), D
 
 /// Puts there the file that has a name now.
 fn put_present(name: &Name, out: &mut Vec<u8>) -> Result<(), DiskError>
-    ensures { OnOk result (ArePresentOf (file_now (name_of name.now)) out.new.items) }
+    ensures { MatchResult result (λ done. ArePresentOf (file_now (name_of name.now)) out.new.items)
+        (λ e. number_of e ≡ 4) }
 {
     out.clear();
     name.append_present(out)
 }
 
 impl Image {
-    ghost use Rattle.std.specs.Prelude.{◌≡◌, [], OnOk};
+    ghost use Rattle.std.specs.Prelude.{◌≡◌, [], MatchResult};
+    ghost use Rattle.crashdisk.specs.Refusal.{number_of};
     ghost use Rattle.sqplay.specs.Plays.{files_of};
     ghost use Rattle.sqimages.specs.Images.{IsNumbered, IsNumberedIn, IsNone};
     ghost use Rattle.sqimages.specs.Keys.{key_of};
@@ -78,7 +83,8 @@ impl Image {
     /// and in an epoch the way of the database file changes fastest, and that of the journal slowest. From the count
     /// of images on there are no bytes. NoMemory alone, and then nothing is said of it.
     pub fn set(&mut self, player: &Player, counts: &Counts, n: u64) -> Result<(), DiskError>
-        ensures { OnOk result (IsNumbered (files_of player.now) counts.now n self.new) }
+        ensures { MatchResult result (λ done. IsNumbered (files_of player.now) counts.now n self.new)
+            (λ e. number_of e ≡ 4) }
     {
         let Some((counts, number)) = counts.place(n) else {
             self.clear();
@@ -89,7 +95,8 @@ impl Image {
 
     /// Takes the image of this number of an epoch.
     fn set_in(&mut self, player: &Player, counts: &EpochCounts, n: u64) -> Result<(), DiskError>
-        ensures { OnOk result (IsNumberedIn (files_of player.now) counts.now n self.new) }
+        ensures { MatchResult result (λ done. IsNumberedIn (files_of player.now) counts.now n self.new)
+            (λ e. number_of e ≡ 4) }
     {
         let epoch = counts.epoch;
         let logs = n / counts.db;
@@ -124,7 +131,8 @@ impl Image {
 
     /// Takes the present files in place of what it has. NoMemory alone, and then nothing is said of it.
     pub fn set_present(&mut self, player: &Player) -> Result<(), DiskError>
-        ensures { OnOk result (IsPresent (files_of player.now) self.new) }
+        ensures { MatchResult result (λ done. IsPresent (files_of player.now) self.new)
+            (λ e. number_of e ≡ 4) }
     {
         put_present(player.db(), &mut self.db)?;
         put_present(player.wal(), &mut self.wal)?;

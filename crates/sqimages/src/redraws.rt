@@ -1,6 +1,7 @@
 //! Images that are drawn one after the other, of which the files that a crash leaves in one way alone are made once
 //! (own).
-ghost use Rattle.std.specs.Prelude.{◌≡◌, IsTrue, OnOk};
+ghost use Rattle.std.specs.Prelude.{◌≡◌, IfErr, IsTrue, MatchResult, OnOk};
+ghost use Rattle.crashdisk.specs.Refusal.{number_of};
 ghost use Rattle.sqplay.specs.Names.{name_of};
 ghost use Rattle.sqplay.specs.Plays.{files_of, epoch_now};
 ghost use Rattle.sqimages.specs.Left.{MayBeLeft, MayLeaveIn};
@@ -25,6 +26,7 @@ fn put_redraw<R: Rng>(
     ensures left { MayBeLeft (name_of name.now) holds out.old.items
         → OnOk result (MayBeLeft (name_of name.now) holds out.new.items) }
     ensures same { IsTrue stays → out.new.items ≡ out.old.items }
+    ensures error { IfErr result (λ e. number_of e ≡ 4) }
 {
     if stays {
         return Ok(());
@@ -40,7 +42,8 @@ pub fn draw_now<R: Rng>(
     player: &Player,
     image: &mut Image,
 ) -> Result<(), DiskError>
-    ensures { OnOk result (MayLeaveIn (files_of player.now) (epoch_now (files_of player.now)) image.new) }
+    ensures { MatchResult result (λ done. MayLeaveIn (files_of player.now) (epoch_now (files_of player.now)) image.new)
+        (λ e. number_of e ≡ 4) }
 {
     draw_in(alloc, rng, player, player.epoch(), image)
 }
@@ -56,6 +59,7 @@ pub fn redraw<R: Rng>(
     ensures left { MayLeaveIn (files_of player.now) (epoch_now (files_of player.now)) image.old
         → OnOk result (MayLeaveIn (files_of player.now) (epoch_now (files_of player.now)) image.new) }
     ensures same_log { IsTrue fixed.wal → OnOk result (image.new.wal.items ≡ image.old.wal.items) }
+    ensures error { IfErr result (λ e. number_of e ≡ 4) }
 {
     let epoch = player.epoch();
     put_redraw(alloc, rng, player.db(), epoch.db, fixed.db, &mut image.db)?;

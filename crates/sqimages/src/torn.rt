@@ -1,8 +1,10 @@
 //! Images that are drawn with a torn sector (own).
 ghost use Rattle.std.specs.List.{Contains};
-ghost use Rattle.std.specs.Prelude.{◌≡◌, ◌≢◌, ◌⊎◌, ◌<◌, ◌≤◌, ℕ, cond, length, map, OnOk, IfOk, MatchOption, MatchBool};
+ghost use Rattle.std.specs.Prelude.{◌≡◌, ◌≢◌, ◌⊎◌, ◌<◌, ◌≤◌, ℕ, cond, length, map, IfErr, IfOk, MatchOption, MatchBool};
+ghost use Rattle.std.specs.Prelude.{MatchResult};
 ghost use Rattle.crashdisk.specs.Choice.{naming_of, last_torn, is_newest};
 ghost use Rattle.crashdisk.specs.Model.{state_of};
+ghost use Rattle.crashdisk.specs.Refusal.{number_of};
 ghost use Rattle.sqplay.specs.Plays.{files_of};
 ghost use Rattle.sqimages.specs.Torn.{name_in, holds_in, IsPlace, IsTornFile, MayLeaveTorn, NoneTears};
 ghost use Rattle.sqimages.specs.Ways.{held_files};
@@ -162,8 +164,8 @@ fn tearing_place<'a, R: Rng>(rng: &mut R, player: &'a Player, which: Which) -> O
 
 /// The newest or the oldest bytes of a touched sector, as far as the file at its longest goes.
 fn value_of(alloc: Global, disk: &ModelDisk, k: u32, rest: Rest) -> Result<Vec<u8>, DiskError>
-    ensures { IfOk result (λ v. IsValue (state_of disk.now).sector (state_of disk.now).db k
-        (cond (is_newest rest) (length ((state_of disk.now).db.earlier k)) 0) v.items) }
+    ensures { MatchResult result (λ v. IsValue (state_of disk.now).sector (state_of disk.now).db k
+        (cond (is_newest rest) (length ((state_of disk.now).db.earlier k)) 0) v.items) (λ e. number_of e ≡ 4) }
 {
     let (_, greatest) = disk.lengths(File::Db);
     let mut all = Vec::new(alloc);
@@ -221,6 +223,7 @@ fn torn_choice<R: Rng>(
     ensures torn { IfOk result (λ c. last_torn (naming_of c).torn k ≡ Some bytes.items) }
     ensures long { IfOk result (λ c. (n : ℕ) × (c.len ≡ Some n)
         × (sector_end (state_of disk.now).sector (state_of disk.now).db k ≤ n)) }
+    ensures error { IfErr result (λ e. number_of e ≡ 4) }
 {
     let mut choice = draw_choice(alloc, rng, disk)?;
     let (_, greatest) = disk.lengths(File::Db);
@@ -242,7 +245,7 @@ fn put_torn<R: Rng>(
     out: &mut Vec<u8>,
 ) -> Result<(), DiskError>
     requires { IsTearing (state_of disk.now) k }
-    ensures { OnOk result (IsTornFile (state_of disk.now) out.new.items) }
+    ensures { MatchResult result (λ done. IsTornFile (state_of disk.now) out.new.items) (λ e. number_of e ≡ 4) }
 {
     let new = value_of(alloc, disk, k, Rest::Newest)?;
     let old = value_of(alloc, disk, k, Rest::Oldest)?;
@@ -264,8 +267,8 @@ pub fn draw_torn<R: Rng>(
     which: Which,
     image: &mut Image,
 ) -> Result<bool, DiskError>
-    ensures { IfOk result (λ torn. MatchBool torn (MayLeaveTorn (files_of player.now) which image.new)
-        (NoneTears (files_of player.now) which)) }
+    ensures { MatchResult result (λ torn. MatchBool torn (MayLeaveTorn (files_of player.now) which image.new)
+        (NoneTears (files_of player.now) which)) (λ e. number_of e ≡ 4) }
 {
     let Some(place) = tearing_place(rng, player, which) else {
         return Ok(false);

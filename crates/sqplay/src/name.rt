@@ -149,8 +149,9 @@ pub struct Name {
 
 impl Name {
     ghost use Rattle.std.specs.Prelude.{◌≡◌, ◌↔◌, IsTrue, true, ◌+◌, ◌++◌, ℕ, List, length, OnOk, IfOk, IfErr, map};
-    ghost use Rattle.std.specs.Prelude.{MatchBool};
+    ghost use Rattle.std.specs.Prelude.{MatchBool, MatchResult};
     ghost use Rattle.crashdisk.specs.Model.{state_of};
+    ghost use Rattle.crashdisk.specs.Refusal.{number_of};
     ghost use Rattle.crashdisk.specs.Solid.{is_sector_size};
     ghost use Rattle.sqplay.specs.Files.{IsWritten, IsCut, IsSynced, FileRefused};
     ghost use Rattle.sqplay.specs.Names.{name_of, no_file, LastGoes, IsBase, Makes, IsLonger, CutsWhole, Cuts, Syncs};
@@ -196,8 +197,8 @@ impl Name {
 
     /// Appends the bytes of the file that has the name now, none where no file has it. NoMemory alone.
     pub fn append_present(&self, out: &mut Vec<u8>) -> Result<(), DiskError>
-        ensures { OnOk result ((bytes : List ℕ) × (out.new.items ≡ out.old.items ++ bytes)
-            × ArePresentOf (file_now (name_of self.now)) bytes) }
+        ensures { MatchResult result (λ done. (bytes : List ℕ) × (out.new.items ≡ out.old.items ++ bytes)
+            × ArePresentOf (file_now (name_of self.now)) bytes) (λ e. number_of e ≡ 4) }
     {
         if self.gone {
             return Ok(());

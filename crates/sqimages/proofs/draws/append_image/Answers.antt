@@ -1,7 +1,7 @@
 use Rattle.std.proofs.Common.{◌≡◌, inl, inr, ℕ, ◌+◌, ◌<◌, ◌++◌, List, length, get_or, length-append, ◌∙◌, ap, refl, arith}
 use Rattle.std.proofs.lemmas.Bool.{cases_lt}
 use Rattle.std.proofs.lemmas.List.{get_or_past, get_or-append-add}
-use Rattle.std.proofs.lemmas.Result.{IfOk-weaker}
+use Rattle.std.proofs.lemmas.Result.{IfOk-weaker, MatchResult-from_both}
 use Rattle.crashdisk.specs.Choice.{naming_of, image_of}
 use Rattle.crashdisk.specs.Model.{state_of}
 use Rattle.crashdisk.specs.internal.SoundModel.{sound_disk}
@@ -25,7 +25,7 @@ returns c =
     let s = state_of disk in
     let sound = (sound_disk s disk.is_size disk.db_solid disk.log_solid disk.counted disk.untorn).db in
     let bytes = image_of s.sector s.tears s.db (naming_of c.args.choice.now) in
-    IfOk-weaker c.image.result _ _ (λ done is. (
+    MatchResult-from_both c.image.result _ _ (IfOk-weaker c.image.result _ _ (λ done is. (
       bytes,
       is,
       record {
@@ -33,4 +33,4 @@ returns c =
         left = image_named s.sector s.tears s.db (naming_of c.args.choice.now) sound
             (bytes_behind c.image.new.out.items c.args.out.now.items bytes c.type_inv.out is);
       },
-    )) c.image.ensures.ok
+    )) c.image.ensures.ok) c.image.ensures.error

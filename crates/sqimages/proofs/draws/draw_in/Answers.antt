@@ -1,5 +1,5 @@
 use Rattle.std.proofs.Common.{subst}
-use Rattle.std.proofs.lemmas.Result.{IfOk-weaker}
+use Rattle.std.proofs.lemmas.Result.{MatchResult-weaker}
 use Rattle.sqplay.specs.Names.{NameState}
 use Rattle.sqimages.specs.Left.{MayBeLeft}
 use Rattle.sqimages.proofs.draws.draw_in.Goals as goal
@@ -7,8 +7,8 @@ use Rattle.sqimages.proofs.draws.draw_in.Goals as goal
 pub returns : goal.returns
 returns g c =
     let e = c.args.epoch in
-    IfOk-weaker c.put_draw-3.result _ _ (λ done left. record {
+    MatchResult-weaker c.put_draw-3.result c.put_draw-3.ensures (λ done left. record {
       db = subst (λ (s : NameState). MayBeLeft s e.db c.put_draw.new.out.items) c.db.ensures c.in_ok-put_draw.ensures;
       wal = subst (λ (s : NameState). MayBeLeft s e.wal c.put_draw-2.new.out.items) c.wal.ensures c.in_ok-put_draw-2.ensures;
       journal = subst (λ (s : NameState). MayBeLeft s e.journal c.put_draw-3.new.out.items) c.journal.ensures left;
-    }) c.put_draw-3.ensures
+    }) (λ e no. no)

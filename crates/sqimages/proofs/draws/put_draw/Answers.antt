@@ -1,6 +1,6 @@
 use Rattle.std.proofs.Common.{◌≡◌, inl, ℕ, ◌<◌, ◌++◌, List, length, get_or, map, sym, ◌∙◌, ap, subst, arith}
 use Rattle.std.proofs.lemmas.List.{get_or-map, length-map}
-use Rattle.std.proofs.lemmas.Result.{IfOk-weaker}
+use Rattle.std.proofs.lemmas.Result.{MatchResult-weaker}
 use Rattle.std.specs.List.{Contains}
 use Rattle.crashdisk.specs.Call.{DiskState}
 use Rattle.crashdisk.specs.Model.{state_of}
@@ -23,6 +23,6 @@ returns-in_ok-choice-in-Some g c =
     let x = c.in-Some.disk.now in
     let s = state_of x in
     let has = contains_state c.held_files-files.result.now (held_files (name_of c.args.name.now) c.args.holds) c.below.result x c.held_files-files.ensures at.3.0 at.1 in
-    IfOk-weaker c.append_image.result _ _ (λ done h.
+    MatchResult-weaker c.append_image.result c.append_image.ensures (λ done h.
     let is : c.append_image.new.out.items ≡ h.0 = h.1 ∙ ap (λ (l : List ℕ). l ++ h.0) c.clear.ensures.items in
-    inl (s, has, subst (λ (bytes : List ℕ). IsImage s.sector s.tears s.db bytes) (sym is) h.2.left)) c.append_image.ensures
+    inl (s, has, subst (λ (bytes : List ℕ). IsImage s.sector s.tears s.db bytes) (sym is) h.2.left)) (λ e no. no)

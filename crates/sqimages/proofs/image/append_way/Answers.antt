@@ -2,7 +2,7 @@ use Rattle.std.proofs.Common.{◌≡◌, ℕ, ◌+◌, ◌-◌, ◌*◌, ◌<◌
 use Rattle.std.proofs.Math.Seq.{drop-cons}
 use Rattle.std.proofs.lemmas.Bool.{lt-ltb, le-ltb}
 use Rattle.std.proofs.lemmas.List.{get_or-map, length-map}
-use Rattle.std.proofs.lemmas.Result.{IfOk-weaker}
+use Rattle.std.proofs.lemmas.Result.{IfOk-weaker, MatchResult-from_both}
 use Rattle.std.specs.Prelude.{nat_lt, is_some}
 use Rattle.crashdisk.specs.Call.{DiskState}
 use Rattle.crashdisk.specs.Choice.{Naming, naming_of, image_of}
@@ -56,7 +56,7 @@ returns-in-None c =
     ∙ way_step c.args.files.now files i rest c.disk-item.result refl c.loop-disk-test.true c.disk-item.is
     ∙ ap (λ b. cond b (file_way x rest) (files_way (drop (i + 1) files) (rest - file_ways x))) here in
     let named = rw c.in-Some-2.is at c.in_ok-choice-in-None.ensures.named in
-    IfOk-weaker c.image.result _ _ (λ done h. h ∙ ap (λ (l : List ℕ). l ++ image_of x.sector x.tears x.db (naming_of c.in-Some-2.choice.db)) c.loop-disk.invariant.1 ∙ ap (λ (n : Naming). out ++ image_of x.sector x.tears x.db n) named.db_named ∙ ap (λ (l : List ℕ). out ++ l) (sym way)) c.image.ensures.ok
+    MatchResult-from_both c.image.result _ _ (IfOk-weaker c.image.result _ _ (λ done h. h ∙ ap (λ (l : List ℕ). l ++ image_of x.sector x.tears x.db (naming_of c.in-Some-2.choice.db)) c.loop-disk.invariant.1 ∙ ap (λ (n : Naming). out ++ image_of x.sector x.tears x.db n) named.db_named ∙ ap (λ (l : List ℕ). out ++ l) (sym way)) c.image.ensures.ok) c.image.ensures.error
 
 pub returns-in_default : goal.returns-in_default
 returns-in_default c =
