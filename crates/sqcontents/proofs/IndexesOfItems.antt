@@ -12,9 +12,7 @@ use Rattle.sqindex.specs.declared.error.ReadError.{ReadError}
 use Rattle.sqindex.specs.declared.error.ReadError.TheVariants.{Tree, TooLong, OtherKind, RowidOrder, NoMemory}
 use Rattle.sqindex.specs.declared.error.IndexError.{IndexError}
 use Rattle.sqindex.specs.declared.error.IndexError.TheVariants as indexes
-use Rattle.sqindex.specs.Indexes.{ReadRefused, NoEntries, HasLongCell, memory_of}
-use Rattle.sqindex.specs.Rules.{HasEntries}
-use Rattle.sqindex.specs.Stored.{Stored}
+use Rattle.sqindex.specs.Indexes.{ReadRefused, NoEntries, HasLongCell}
 use Rattle.sqindex.specs.declared.error.EntryError.{EntryError}
 use Rattle.sqcontents.specs.declared.error.ContentsError.{ContentsError}
 use Rattle.sqcontents.specs.declared.error.ContentsError.TheVariants as contents
@@ -56,10 +54,6 @@ of_entries : (d : Database) (table index limit : ℕ) (key : ItemKey) (e : ReadE
 of_entries d table index limit (Rowid key) e h = h
 of_entries d table index limit (Entries entry) e h = h
 
-of_large : (d : Database) (table index limit : ℕ) (key : ItemKey) → ItemRefused d table index key limit indexes.TooLarge → (entries : List Stored) → HasEntries d index entries → limit < memory_of entries
-of_large d table index limit (Rowid key) h = h
-of_large d table index limit (Entries entry) h = h
-
 of_fault : (d : Database) (table index limit : ℕ) (key : ItemKey) (e : EntryError) → ItemRefused d table index key limit (indexes.Entry e) → StandsInItem d table index key e.fault e.page e.cell
 of_fault d table index limit (Rowid key) e h = h
 of_fault d table index limit (Entries entry) e h = h
@@ -87,7 +81,8 @@ unjudged_by d xs limit x y key table index (indexes.Index e) with refused by = i
   with,
   ⊎_elim (λ none. inr (inl none)) (λ long. inr (inr (inr long))) (unread_table d index limit (NoEntries d index) e (of_entries d table index limit key e refused) by),
 ))))
-unjudged_by d xs limit x y key table index indexes.TooLarge with refused by = inr (inr (inr (inl (y, key, table, index, with, of_large d table index limit key refused))))
+unjudged_by d xs limit x y (Rowid key) table index indexes.TooLarge with refused by = absurd refused
+unjudged_by d xs limit x y (Entries entry) table index indexes.TooLarge with refused by = inr (inr (inr (inl (y, entry, table, index, with, refused))))
 unjudged_by d xs limit x y key table index (indexes.Entry e) with refused by = absurd by
 
 pub unread_error : (d : Database) (xs : List Item) (root limit : ℕ) (none : Type 0) (e : ReadError) (error : ContentsError) → ReadRefused d root limit none e → IsRefusedBy e error → ContentsRefused d xs error

@@ -117,9 +117,9 @@ IsSoundIndex d xs x = (y : Item) × (key : ItemKey) × (table index n : ℕ) × 
 abbrev pub HasNoRoot : Database → Item → Type 0
 HasNoRoot d x = (r : ℕ) → 1 ≤ r → r ≤ length d → x.root ≢ pos r
 
--- The entries of index x take more memory than they may.
+-- Index x is a partial one, or of a table WITHOUT ROWID, and its entries take more memory than they may.
 abbrev pub IsLarge : Database → List Item → (limit : ℕ) → Item → Type 0
-IsLarge d xs limit x = (y : Item) × (key : ItemKey) × (table index : ℕ) × IsIndexWith d xs x y key table index
+IsLarge d xs limit x = (y : Item) × (entry : EntryKey) × (table index : ℕ) × IsIndexWith d xs x y (Entries entry) table index
     × ((entries : List Stored) → HasEntries d index entries → limit < memory_of entries)
 
 -- The rows of its table or its entries can't be read in order, or a payload is too long (own).

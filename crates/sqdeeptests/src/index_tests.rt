@@ -215,14 +215,17 @@ fn judged_within(
     }
 }
 
-/// The same of the table t and memory enough.
+/// The same of the table t and memory enough, which is what is found by ranges of one or two entries. None where it
+/// isn't.
 fn judged(
     alloc: Global,
     pieces: &[(usize, &[u8])],
     index: u32,
     key: &IndexKey,
 ) -> Result<Option<Result<u64, IndexError>>, AllocError> {
-    judged_within(alloc, pieces, 2, index, key, 1_000_000)
+    let all = judged_within(alloc, pieces, 2, index, key, 1_000_000)?;
+    let by_ranges = judged_within(alloc, pieces, 2, index, key, 100)?;
+    if all == by_ranges { Ok(all) } else { Ok(None) }
 }
 
 /// A fault at a cell.
@@ -425,12 +428,11 @@ fn trees_that_are_not_read(rt: HostRuntime) -> Result<(), Fail> {
 
 #[test]
 fn memory_for_entries(rt: HostRuntime) -> Result<(), Fail> {
-    // Six entries of 28 bytes in all.
+    // Six entries of 64 bytes in all, as each holds its payload itself; and less than one takes.
     let key = key_of_n(rt.alloc())?;
-    assert!(rt; judged_within(rt.alloc(), &[], 2, 3, &key, 412)? == Some(Ok(6)));
-    assert!(rt;
-        judged_within(rt.alloc(), &[], 2, 3, &key, 411)? == Some(Err(IndexError::TooLarge))
-    );
+    assert!(rt; judged_within(rt.alloc(), &[], 2, 3, &key, 384)? == Some(Ok(6)));
+    assert!(rt; judged_within(rt.alloc(), &[], 2, 3, &key, 383)? == Some(Ok(6)));
+    assert!(rt; judged_within(rt.alloc(), &[], 2, 3, &key, 8)? == Some(Ok(6)));
     Ok(())
 }
 

@@ -12,13 +12,15 @@ use Rattle.std.proofs.lemmas.Option.{slice_get_within, get_or_from_slice_get}
 use Rattle.sqkeys.specs.declared.key.IndexKey.{IndexKey}
 use Rattle.sqindex.specs.declared.entries.Held.{Held}
 use Rattle.sqindex.specs.declared.entries.Entries.{Entries}
+use Rattle.sqindex.specs.declared.error.IndexError.{IndexError}
+use Rattle.sqindex.specs.declared.error.IndexError.TheVariants as errors
 use Rattle.sqindex.specs.declared.fault.IndexFault.TheVariants as faults
 use Rattle.sqindex.specs.Stored.{Stored}
 use Rattle.sqindex.specs.Keys.{values_of, has_rowid, IsKeyed}
 use Rattle.sqindex.specs.Rules.{width}
 use Rattle.sqindex.specs.Indexes.{EntryRefused}
 use Rattle.sqindex.specs.internal.Held.{nothing, held_in, entry_in, held_by}
-use Rattle.sqindex.specs.internal.Judging.{at_place, IsBehind, IsSoundAt, AreJudged, AreSoundEntries, IsTie, IsNumbered}
+use Rattle.sqindex.specs.internal.Judging.{at_place, IsBehind, IsSoundAt, AreJudged, AreSoundEntries, IsTie, IsNumbered, JudgeRefused, TwiceRefused}
 use Rattle.sqindex.proofs.Places.{some_once, of_all, all_of, map_get, get_map, contained, place_of}
 use Rattle.sqindex.proofs.RowidsOfEntries.{has_own}
 
@@ -57,20 +59,28 @@ module _ (key : IndexKey) (xs : List Stored) (old : Entries) (same : held_by old
     apart = λ unique i a b at next. (behind i a b at next).apart unique;
   }
 
-  each_numbered : All (IsNumbered key old) old.list.items
+  pub each_numbered : All (IsNumbered key old) old.list.items
   each_numbered = all_of (IsNumbered key old) old.list.items (λ i p at.
       let there : slice_get xs i ≡ Some (entry_in old p) = subst (λ (z : List Stored). slice_get z i ≡ Some (entry_in old p)) same (map_get (held_in old.bytes.items) old.list.items i p at) in
       let m = judged i p (slice_get_within xs i (entry_in old p) there) at in
       subst (λ (z : Stored). IsKeyed (width key) p.rowid (values_of z)) (get_or_from_slice_get xs i (entry_in old p) nothing there) m.keyed)
 
-  pub sorted_entries : (new : Entries) → new.bytes ≡ old.bytes → IsPermutation old.list.items new.list.items → All (IsNumbered key new) new.list.items × IsPermutation (held_by new) xs
-  sorted_entries new bytes moved =
-      let b : new.bytes.items ≡ old.bytes.items = ap (λ z. z.items) bytes in
-      let f = held_in old.bytes.items in (
-        subst (λ (z : List ℕ). All (λ (p : Held). IsKeyed (width key) p.rowid (values_of (held_in z p))) new.list.items) (sym b) (All-permutation (IsNumbered key old) old.list.items new.list.items moved each_numbered),
-        subst (λ (z : List ℕ). IsPermutation (map (held_in z) new.list.items) xs) (sym b)
-            (subst (IsPermutation (map f new.list.items)) same (IsPermutation-sym (map f old.list.items) (map f new.list.items) (IsPermutation-map f old.list.items new.list.items moved))),
-      )
+-- what is said of entries when they are sorted
+pub sorted_same : (key : IndexKey) (old new : Entries) → new.bytes ≡ old.bytes → IsPermutation old.list.items new.list.items → All (IsNumbered key old) old.list.items
+    → All (IsNumbered key new) new.list.items × IsPermutation (held_by new) (held_by old)
+sorted_same key old new bytes moved each =
+    let b : new.bytes.items ≡ old.bytes.items = ap (λ z. z.items) bytes in
+    let f = held_in old.bytes.items in (
+      subst (λ (z : List ℕ). All (λ (p : Held). IsKeyed (width key) p.rowid (values_of (held_in z p))) new.list.items) (sym b) (All-permutation (IsNumbered key old) old.list.items new.list.items moved each),
+      subst (λ (z : List ℕ). IsPermutation (map (held_in z) new.list.items) (held_by old)) (sym b)
+          (IsPermutation-sym (map f old.list.items) (map f new.list.items) (IsPermutation-map f old.list.items new.list.items moved)),
+    )
+
+pub twice_judged : (key : IndexKey) (xs : List Stored) (e : IndexError) → TwiceRefused key xs e → JudgeRefused key xs e
+twice_judged key xs (errors.Table e) h = absurd h
+twice_judged key xs (errors.Index e) h = h
+twice_judged key xs (errors.Entry e) h = let there = place_of xs h.0 h.1 in (there.0, h.0, there.1, h.2, h.3, subst (EntryRefused key xs there.0 h.0) (sym h.4) h.5)
+twice_judged key xs errors.TooLarge h = absurd h
 
 -- two elements next to each other pass a test
 two_pass : {X : Type 0} (test : X → Bool) (xs : List X) (i : ℕ) (a b : X) → slice_get xs i ≡ Some a → slice_get xs (i + 1) ≡ Some b → test a ≡ true → test b ≡ true → 2 ≤ count_by test xs

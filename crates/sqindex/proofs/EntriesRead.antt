@@ -8,7 +8,7 @@ use Rattle.sqindex.specs.declared.entries.Entries.{Entries}
 use Rattle.sqindex.specs.declared.walk.Found.{Found}
 use Rattle.sqindex.specs.Stored.{Stored}
 use Rattle.sqindex.specs.Rules.{HasEntries}
-use Rattle.sqindex.specs.Indexes.{NoEntries, memory_of}
+use Rattle.sqindex.specs.Indexes.{NoEntries, cost_of, memory_of}
 use Rattle.sqindex.specs.internal.Held.{held_in, held_by, plain}
 use Rattle.sqindex.specs.internal.Reading.{stored_of, AreTaken, AreRead}
 use Rattle.sqindex.specs.declared.error.ReadError.TheVariants as reads
@@ -38,22 +38,22 @@ other_kind d root cells taken x w other entries has =
 
 -- it takes more than is left
 pub too_large : (d : Database) (root : ℕ) (cells : Cells) (taken : List Stored) (x : Stored) (limit left : ℕ) → AreTaken d root cells (taken ++ x ∷ []) → left + memory_of taken ≡ limit
-    → left < length x.bytes + 64 → (entries : List Stored) → HasEntries d root entries → limit < memory_of entries
+    → left < cost_of x.bytes → (entries : List Stored) → HasEntries d root entries → limit < memory_of entries
 too_large d root cells taken x limit left w is above entries has =
     let f = taken_first d root cells (taken ++ x ∷ []) entries w has.stored in
-    let cost : Stored → ℕ = λ entry. length entry.bytes + 64 in
+    let cost : Stored → ℕ = λ entry. cost_of entry.bytes in
     let all : memory_of entries ≡ memory_of (taken ++ x ∷ []) + memory_of f.1 = ap memory_of f.3 ∙ sum_by-append cost (taken ++ x ∷ []) f.1 in
-    let some : memory_of (taken ++ x ∷ []) ≡ memory_of taken + (length x.bytes + 64) = sum_by_push cost taken x in
+    let some : memory_of (taken ++ x ∷ []) ≡ memory_of taken + cost_of x.bytes = sum_by_push cost taken x in
     omega (arith, all, some, is, above)
 
 -- why it isn't kept is why the entries aren't read
-pub kept_not : (d : Database) (root : ℕ) (cells : Cells) (taken : List Stored) (found : Found) (bytes : List ℕ) (limit left : ℕ) (e : IndexError) → AreTaken d root cells (taken ++ stored_of found bytes ∷ [])
-    → left + memory_of taken ≡ limit → KeepRefused found bytes left e → EntriesRefused d root limit e
-kept_not d root cells taken found bytes limit left (errors.Index (reads.Tree x)) w is h = absurd h
-kept_not d root cells taken found bytes limit left (errors.Index reads.TooLong) w is h = absurd h
-kept_not d root cells taken found bytes limit left (errors.Index reads.RowidOrder) w is h = absurd h
-kept_not d root cells taken found bytes limit left (errors.Index reads.NoMemory) w is h = tt
-kept_not d root cells taken found bytes limit left (errors.Index reads.OtherKind) w is h = other_kind d root cells taken (stored_of found bytes) w h
-kept_not d root cells taken found bytes limit left errors.TooLarge w is h = too_large d root cells taken (stored_of found bytes) limit left w is h
-kept_not d root cells taken found bytes limit left (errors.Table x) w is h = absurd h
-kept_not d root cells taken found bytes limit left (errors.Entry x) w is h = absurd h
+pub kept_not : (d : Database) (root : ℕ) (cells : Cells) (taken : List Stored) (found : Found) (bytes : List ℕ) (limit longest left : ℕ) (e : IndexError) → AreTaken d root cells (taken ++ stored_of found bytes ∷ [])
+    → left + memory_of taken ≡ limit → KeepRefused found bytes left e → EntriesRefused d root limit longest e
+kept_not d root cells taken found bytes limit longest left (errors.Index (reads.Tree x)) w is h = absurd h
+kept_not d root cells taken found bytes limit longest left (errors.Index reads.TooLong) w is h = absurd h
+kept_not d root cells taken found bytes limit longest left (errors.Index reads.RowidOrder) w is h = absurd h
+kept_not d root cells taken found bytes limit longest left (errors.Index reads.NoMemory) w is h = tt
+kept_not d root cells taken found bytes limit longest left (errors.Index reads.OtherKind) w is h = other_kind d root cells taken (stored_of found bytes) w h
+kept_not d root cells taken found bytes limit longest left errors.TooLarge w is h = too_large d root cells taken (stored_of found bytes) limit left w is h
+kept_not d root cells taken found bytes limit longest left (errors.Table x) w is h = absurd h
+kept_not d root cells taken found bytes limit longest left (errors.Entry x) w is h = absurd h

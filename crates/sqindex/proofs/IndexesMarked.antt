@@ -247,7 +247,7 @@ refuted d table index key limit errors.TooLarge h = tt
 
 -- why it isn't found sound
 module _ (d : Database) (table index : ℕ) (key : EntryKey) (limit : ℕ) where
-  pub entries_refused : (e : IndexError) → EntriesRefused d index limit e → IndexRefusedBy d table index key limit e
+  pub entries_refused : (e : IndexError) → EntriesRefused d index limit limit e → IndexRefusedBy d table index key limit e
   entries_refused (errors.Table e) h = absurd h
   entries_refused (errors.Index e) h = h
   entries_refused (errors.Entry e) h = absurd h

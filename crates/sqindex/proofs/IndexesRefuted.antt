@@ -1,5 +1,6 @@
 -- No fault stands in a sound index.
 use Rattle.std.proofs.Common.{◌≡◌, ◌≤◌, ◌+◌, ⊎_elim, ℕ, suc, Bool, true, false, cond, List, [], ◌∷◌, slice_get, Some, ℤ, ◌<ℤ◌, refl, sym, ap, ◌∙◌, subst, arith, count_by}
+use Rattle.std.specs.Prelude.{Result, Ok, Err, IfErr}
 use Rattle.std.proofs.lemmas.Int.{ints}
 use Rattle.std.proofs.lemmas.Bool.{cases_Bool}
 use Rattle.std.proofs.lemmas.List.Elements.{All-tail}
@@ -53,7 +54,7 @@ one_at_most : (b : Bool) → cond b 1 0 ≤ 1
 one_at_most true = omega arith
 one_at_most false = omega arith
 
-rise_tail : (row : Stored) (rows : List Stored) → Rise (row ∷ rows) → Rise rows
+pub rise_tail : (row : Stored) (rows : List Stored) → Rise (row ∷ rows) → Rise rows
 rise_tail row rows rise i a b at next = let e : suc (i + 1) ≡ suc i + 1 = omega arith in rise (suc i) a b at (subst (λ n. slice_get (row ∷ rows) n ≡ Some b) e next)
 
 module _ (key : IndexKey) (r : ℤ) where
@@ -145,3 +146,8 @@ refuted d table index key limit (errors.Table e) h = λ un n w. unlimited d tabl
 refuted d table index key limit (errors.Index e) h = λ un n w. unlimited d index limit (NoEntries d index) e h un w.entries w.of_index
 refuted d table index key limit (errors.Entry e) h = λ n w. stands_not d table index key n w e.fault e.page e.cell h
 refuted d table index key limit errors.TooLarge h = tt
+
+-- no fault is told of a sound index
+pub refutes : (d : Database) (table index : ℕ) (key : IndexKey) (limit : ℕ) (result : Result ℕ IndexError) → IfErr result (λ e. IndexRefused d table index key limit e) → IfErr result (λ e. RefutesIndex d table index key e)
+refutes d table index key limit (Ok n) h = tt
+refutes d table index key limit (Err e) h = refuted d table index key limit e h

@@ -8,7 +8,12 @@ pub mod EntriesJudged
 pub mod RowsSeen
 pub mod RowsJoined
 pub mod IndexesRefuted
+pub mod ListsKept
+pub mod RowsInSpans
+pub mod EntriesInSpans
 pub mod IndexesJudged
+pub mod EntriesStreamed
+pub mod RangesMatched
 pub mod RowsScanned
 pub mod KeyedScanned
 pub mod RowsOfKind

@@ -5,24 +5,19 @@ use Rattle.std.proofs.lemmas.Bool.{cases_lt}
 use Rattle.std.proofs.lemmas.List.{length-map}
 use Rattle.std.proofs.lemmas.List.Sorted.{IsPermutation-refl}
 use Rattle.std.proofs.lemmas.Option.{slice_get_within, slice_get-get_or}
-use Rattle.std.specs.Prelude.{Result, Ok, Err, OnOk, IfErr}
-use Rattle.sqval.specs.Database.{Database}
-use Rattle.sqindex.specs.declared.error.IndexError.{IndexError}
-use Rattle.sqindex.specs.declared.error.IndexError.TheVariants as errors
 use Rattle.sqkeys.specs.declared.key.IndexKey.{IndexKey}
 use Rattle.sqindex.specs.declared.entries.Held.{Held}
 use Rattle.sqindex.specs.declared.entries.Entries.{Entries}
-use Rattle.sqindex.specs.declared.join.Join.{Join}
 use Rattle.sqindex.specs.declared.error.EntryError.{EntryError}
 use Rattle.sqindex.specs.declared.fault.IndexFault.{IndexFault}
 use Rattle.sqindex.specs.declared.fault.IndexFault.TheVariants as faults
 use Rattle.sqindex.specs.Stored.{Stored}
 use Rattle.sqindex.specs.Keys.{rowid_of, IsEntryOf}
-use Rattle.sqindex.specs.Rules.{Rise, HasKeyedRows, Match}
+use Rattle.sqindex.specs.Rules.{Rise, Match}
 use Rattle.sqindex.specs.Indexes.{HasNoEntry, HasNoRow}
 use Rattle.sqindex.specs.internal.Held.{held_in, entry_in, held_by}
 use Rattle.sqindex.specs.internal.Judging.{IsNumbered, AreByRowid}
-use Rattle.sqindex.specs.internal.Joining.{IsIn, RowRefused, PairUp, IsPassed, RowsRefused, JoinedAs, IsJoined, EndTells, IsMatched, BothRefused, MatchRefused}
+use Rattle.sqindex.specs.internal.Joining.{IsIn, RowRefused, PairUp, IsPassed, RowsRefused, JoinedAs, BothRefused}
 use Rattle.sqindex.proofs.Places.{at_once, get_left, get_here, get_push, of_all, map_get, get_map, zip_of}
 use Rattle.sqindex.proofs.RowidsOfEntries.{rowid_same}
 
@@ -175,23 +170,10 @@ module _ (key : IndexKey) (entries : Entries) (w : AreByRowid key entries) where
   )
 
   -- what is told behind the last row
-  ends : (d : Database) (table : ℕ) (rows : List Stored) (at : ℕ) (fault : Option EntryError) (e : EntryError) → HasKeyedRows d table rows → JoinedAs key entries rows at fault
+  pub ends : (rows : List Stored) (at : ℕ) (fault : Option EntryError) (e : EntryError) → JoinedAs key entries rows at fault
       → (fault ≡ Some e) ⊎ ((fault ≡ None) × (e.fault ≡ faults.EntryOfNoRow) × (p : Held) × (slice_get entries.list.items at ≡ Some p) × IsIn e.page e.cell (entry_in entries p)) → BothRefused key (held_by entries) rows e.fault e.page e.cell
-  ends d table rows at fault e has j (inl is) = both_refused rows e.fault e.page e.cell (subst (JoinedAs key entries rows at) is j)
-  ends d table rows at fault e has j (inr h) = subst (λ (f : IndexFault). BothRefused key (held_by entries) rows f e.page e.cell) (sym h.1) (entry_left rows at h.2 e.page e.cell (subst (JoinedAs key entries rows at) h.0 j) h.3 h.4)
-
-  pub ended_ok : (d : Database) (table : ℕ) (rows : List Stored) (join : Join) (result : Result (Unit {0}) IndexError) → HasKeyedRows d table rows → IsJoined key entries rows join → EndTells entries join result
-      → OnOk result (IsMatched d table key (held_by entries))
-  ended_ok d table rows join (Ok x) has j h = (rows, has, matched rows join.at (subst (JoinedAs key entries rows join.at) h.0 j) h.1)
-  ended_ok d table rows join (Err e) has j h = tt
-
-  pub ended_err : (d : Database) (table : ℕ) (rows : List Stored) (join : Join) (result : Result (Unit {0}) IndexError) → HasKeyedRows d table rows → IsJoined key entries rows join → EndTells entries join result
-      → IfErr result (MatchRefused d table key (held_by entries))
-  ended_err d table rows join (Ok x) has j h = tt
-  ended_err d table rows join (Err (errors.Table e)) has j h = absurd h
-  ended_err d table rows join (Err (errors.Index e)) has j h = absurd h
-  ended_err d table rows join (Err errors.TooLarge) has j h = absurd h
-  ended_err d table rows join (Err (errors.Entry e)) has j h = (rows, has, ends d table rows join.at join.fault e has j h)
+  ends rows at fault e j (inl is) = both_refused rows e.fault e.page e.cell (subst (JoinedAs key entries rows at) is j)
+  ends rows at fault e j (inr h) = subst (λ (f : IndexFault). BothRefused key (held_by entries) rows f e.page e.cell) (sym h.1) (entry_left rows at h.2 e.page e.cell (subst (JoinedAs key entries rows at) h.0 j) h.3 h.4)
 
 pub none_joined : (key : IndexKey) (entries : Entries) → JoinedAs key entries [] 0 None
 none_joined key entries = (refl, omega arith, λ j row p at here. absurd (cc))

@@ -1,5 +1,5 @@
 -- Why an index isn't found sound (own).
-use Rattle.std.specs.Prelude.{◌≡◌, ◌≢◌, ◌<◌, ◌≤◌, ◌+◌, ℕ, true, List, length, slice_get, sum_by, unwrap_or, Some, ℤ}
+use Rattle.std.specs.Prelude.{◌≡◌, ◌≢◌, ◌<◌, ◌≤◌, ◌+◌, ℕ, true, List, length, slice_get, sum_by, unwrap_or, nat_le, if◌then◌else◌, Some, ℤ}
 use Rattle.std.specs.List.{count_by, Contains}
 use Rattle.std.specs.declared.cmp.Ordering.TheVariants.{Less}
 use Rattle.sqval.specs.Database.{Database}
@@ -64,9 +64,13 @@ ReadRefused d root limit none OtherKind = none
 ReadRefused d root limit none RowidOrder = none
 ReadRefused d root limit none NoMemory = Unit {0}
 
--- what the entries take: each its payload and 64 bytes (own)
+-- what an entry takes that has this payload: 64 bytes, and the payload where it is longer than 16 (own)
+abbrev pub cost_of : List ℕ → ℕ
+cost_of bytes = (if nat_le (length bytes) 16 then 64 else length bytes + 64)
+
+-- what the entries take
 abbrev pub memory_of : List Stored → ℕ
-memory_of entries = sum_by (λ entry. length entry.bytes + 64) entries
+memory_of entries = sum_by (λ entry. cost_of entry.bytes) entries
 
 -- the table has no rows in order; the index has no entries
 abbrev pub NoRows : Database → (table : ℕ) → Type 0
@@ -75,12 +79,12 @@ NoRows d table = (rows : List Stored) → ¬ HasKeyedRows d table rows
 abbrev pub NoEntries : Database → (index : ℕ) → Type 0
 NoEntries d index = (entries : List Stored) → ¬ HasEntries d index entries
 
--- Why an index isn't found sound: a tree isn't read, a fault stands at a cell, or the entries take more memory than they may.
+-- Why an index isn't found sound: a tree isn't read, or a fault stands at a cell.
 abbrev pub IndexRefused : Database → (table index : ℕ) → IndexKey → (limit : ℕ) → IndexError → Type 0
 IndexRefused d table index key limit (errors.Table e) = ReadRefused d table most_bytes (NoRows d table) e
 IndexRefused d table index key limit (errors.Index e) = ReadRefused d index limit (NoEntries d index) e
 IndexRefused d table index key limit (errors.Entry e) = StandsInIndex d table index key e.fault e.page e.cell
-IndexRefused d table index key limit errors.TooLarge = (entries : List Stored) → HasEntries d index entries → limit < memory_of entries
+IndexRefused d table index key limit errors.TooLarge = ⊥
 
 -- memory ran out, or a payload is too long (own)
 abbrev pub IsLimit : ReadError → Type 0

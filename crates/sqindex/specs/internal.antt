@@ -6,3 +6,7 @@ pub mod Joining
 pub mod Scanning
 pub mod KeyedScanning
 pub mod Marking
+pub mod Spans
+pub mod Streaming
+pub mod Parts
+pub mod Matching

@@ -11,7 +11,7 @@ use crate::walk::Found;
 use std::alloc::{AllocError, Global};
 
 /// The most bytes of a payload that lies in its entry, and not behind the others.
-const INSIDE: usize = 16;
+pub(crate) const INSIDE: usize = 16;
 
 /// An entry: its payload, or where that lies, and where the entry stands in the index.
 #[derive(Clone, Copy, Debug)]
@@ -137,17 +137,19 @@ impl Entries {
         self.list[i].rowid = rowid;
     }
 
-    /// Adds one behind the others, whose rowid isn't known yet. Refused where memory runs out, and where its place or
-    /// its size takes more than 32 bits.
-    pub(crate) fn add(&mut self, found: Found, payload: &[u8]) -> Result<(), AllocError>
-        ensures { OnOk result (held_by self.new ≡ held_by self.old ++ plain found payload.now ∷ []) }
+    /// Adds one behind the others, with this rowid. Refused where memory runs out, and where its place or its size
+    /// takes more than 32 bits.
+    pub(crate) fn add(&mut self, found: Found, rowid: i64, payload: &[u8]) -> Result<(), AllocError>
+        ensures held { OnOk result (held_by self.new ≡ held_by self.old ++ plain found payload.now ∷ []) }
+        ensures last { OnOk result ((p : SpecHeld) × (self.new.list.items ≡ self.old.list.items ++ p ∷ [])
+            × (p.rowid ≡ rowid)) }
     {
         let start = small(self.bytes.len())?;
         let size = small(payload.len())?;
         let cell = small(found.cell)?;
         keep_behind(&mut self.bytes, payload)?;
         self.list.push(Held {
-            rowid: 0,
+            rowid,
             start,
             size,
             page: found.page,

@@ -2,16 +2,16 @@
 ghost use Rattle.std.specs.Prelude.{List, IfOk, IfErr, OnOk};
 ghost use Rattle.sqpage.specs.Source.{KeepsPages};
 ghost use Rattle.sqindex.specs.Stored.{Stored};
-ghost use Rattle.sqindex.specs.internal.Held.{held_by};
 ghost use Rattle.sqindex.specs.internal.Reading.{stored_of};
 ghost use Rattle.sqindex.specs.internal.Judging.{AreByRowid};
 ghost use Rattle.sqindex.specs.internal.Joining.{JudgesRow, Sees, EndTells, IsAbove, NotAbove};
-ghost use Rattle.sqindex.specs.internal.Joining.{IsMatched, MatchRefused};
+ghost use Rattle.sqindex.specs.internal.Matching.{SeesIn, IsMatchedIn, MatchRefusedIn};
 
 use crate::compare::compare_entry;
 use crate::entries::Entries;
 use crate::error::{EntryError, IndexError, ReadError};
 use crate::fault::IndexFault;
+use crate::part::Part;
 use crate::walk::{Found, Walk};
 use sqkeys::IndexKey;
 use sqpage::PageSource;
@@ -77,6 +77,16 @@ fn see(key: &IndexKey, entries: &Entries, join: Join, found: Found, row: &[u8]) 
     }
 }
 
+/// Goes on by one row, unless it isn't of the range or a fault was found before.
+fn see_in(key: &IndexKey, part: &Part, join: Join, found: Found, row: &[u8]) -> Join
+    ensures { (rows : List Stored) → SeesIn key.now part.now rows join (stored_of found row.now) result }
+{
+    if !part.span.has(found.rowid.unwrap_or(0)) {
+        return join;
+    }
+    see(key, &part.entries, join, found, row)
+}
+
 /// What is told behind the last row: the first fault, or that an entry is left.
 fn end(entries: &Entries, join: Join) -> Result<(), IndexError>
     ensures { EndTells entries.now join result }
@@ -105,19 +115,19 @@ pub(crate) fn above(last: Option<i64>, rowid: Option<i64>) -> Result<Option<i64>
     }
 }
 
-/// Judges that the entries by rowid are those of the rows of the table, of each row one. Refused by EntryOfNoRow and
-/// RowWithoutEntry, and where the rows can't be read or their rowids don't rise.
+/// Judges that the entries by rowid are those of the rows of the table in their range, of each row one. Refused by
+/// EntryOfNoRow and RowWithoutEntry, and where the rows can't be read or their rowids don't rise.
 pub(crate) fn match_rows<S: PageSource>(
     alloc: Global,
     source: &mut S,
     table: u32,
     key: &IndexKey,
-    entries: &Entries,
+    part: &Part,
 ) -> Result<(), IndexError>
-    ensures ok { S.gives_pages source.old → AreByRowid key.now entries.now
-        → OnOk result (IsMatched (S.pages source.old) table key.now (held_by entries.now)) }
-    ensures err { S.gives_pages source.old → AreByRowid key.now entries.now
-        → IfErr result (MatchRefused (S.pages source.old) table key.now (held_by entries.now)) }
+    ensures ok { S.gives_pages source.old → AreByRowid key.now part.now.entries
+        → OnOk result (IsMatchedIn (S.pages source.old) table key.now part.now) }
+    ensures err { S.gives_pages source.old → AreByRowid key.now part.now.entries
+        → IfErr result (MatchRefusedIn (S.pages source.old) table key.now part.now) }
     ensures keeps { KeepsPages S.pages S.size S.reads_right S.gives_pages source.old source.new }
 {
     let mut join = Join { at: 0, fault: None };
@@ -129,14 +139,14 @@ pub(crate) fn match_rows<S: PageSource>(
     'turns: for _ in 0..u64::MAX {
         let found = match walk.advance(source) {
             Ok(Some(found)) => found,
-            Ok(None) => return end(entries, join),
+            Ok(None) => return end(&part.entries, join),
             Err(refusal) => return Err(IndexError::Table(ReadError::of_cell(refusal))),
         };
         match above(last, found.rowid) {
             Ok(rowid) => last = rowid,
             Err(refusal) => return Err(IndexError::Table(refusal)),
         }
-        join = see(key, entries, join, found, &walk.payload);
+        join = see_in(key, part, join, found, &walk.payload);
     }
     Err(IndexError::Table(ReadError::NoMemory))
 }

@@ -104,7 +104,7 @@ pub fn judge_index_by<S: PageSource>(
         → IfErr result (λ e. RefutesIndexBy (S.pages source.old) table index key.now e) }
     ensures keeps { KeepsPages S.pages S.size S.reads_right S.gives_pages source.old source.new }
 {
-    let entries = read_entries(alloc, source, index, limit)?;
+    let entries = read_entries(alloc, source, index, limit, limit)?;
     match judge_all(key, &entries) {
         Ok(()) => {}
         Err(fault) => return Err(IndexError::Entry(fault)),

@@ -15,8 +15,12 @@ mod keyed_rows;
 mod marks;
 mod number;
 mod order;
+mod part;
 mod read;
 mod row_fault;
+mod span;
+mod spans;
+mod stream;
 mod table;
 mod walk;
 

@@ -1,11 +1,13 @@
 //! The rules on the entries of an index alone (fileformat2, 2.4), and the entries by rowid.
-ghost use Rattle.std.specs.Prelude.{◌≡◌, ◌<◌, ℕ, IfOk, IfErr, OnOk, MatchOption, length, slice_get, Some};
+ghost use Rattle.std.specs.Prelude.{◌≡◌, ◌<◌, ℕ, All, IfOk, IfErr, OnOk, MatchOption, length, slice_get, Some};
+ghost use Rattle.std.specs.List.Sorted.{IsPermutation};
 ghost use Rattle.sqlite_record.specs.Record.{decode};
 ghost use Rattle.sqindex.specs.declared.entries.Held.{Held as SpecHeld};
 ghost use Rattle.sqindex.specs.Indexes.{EntryRefused};
 ghost use Rattle.sqindex.specs.internal.Held.{held_by};
 ghost use Rattle.sqindex.specs.internal.Judging.{at_place, IsBehind, NotBehind, IsSoundAt, AreJudged, IsOrdered};
-ghost use Rattle.sqindex.specs.internal.Judging.{JudgeRefused, RowidsRise, IsTie};
+ghost use Rattle.sqindex.specs.internal.Judging.{JudgeRefused, RowidsRise, IsTie, IsNumbered, AreByRowid, TwiceRefused};
+ghost use Rattle.sqkeys.specs.declared.key.IndexKey.{IndexKey as SpecKey};
 
 use crate::entries::{Entries, Held};
 use crate::error::{IndexError, ReadError};
@@ -16,7 +18,7 @@ use sqlite_record::compare::with_record;
 use std::cmp::Ordering;
 
 /// Judges an entry beside the one before it. Refused by EntryOrder and KeyTwice.
-fn judge_next(key: &IndexKey, before: &[u8], entry: &[u8]) -> Result<(), IndexFault>
+pub(crate) fn judge_next(key: &IndexKey, before: &[u8], entry: &[u8]) -> Result<(), IndexFault>
     ensures ok { OnOk result (IsBehind key.now (decode before.now) (decode entry.now)) }
     ensures err { IfErr result (NotBehind key.now (decode before.now) (decode entry.now)) }
 {
@@ -86,13 +88,13 @@ fn first_tie(list: &[Held]) -> Option<usize>
     None
 }
 
-/// Judges the entries by themselves, and sorts them by rowid. Refused by EntryForm, EntryOrder, KeyTwice and RowTwice,
-/// and by NoMemory.
-pub(crate) fn order_entries(key: &IndexKey, entries: &mut Entries) -> Result<(), IndexError>
-    ensures ok { OnOk result (IsOrdered key.now (held_by entries.old) entries.new) }
-    ensures err { IfErr result (JudgeRefused key.now (held_by entries.old)) }
+/// Sorts entries that hold their rowids by them. Refused by RowTwice, and by NoMemory.
+pub(crate) fn sort_entries(entries: &mut Entries) -> Result<(), IndexError>
+    ensures ok { (key : SpecKey) → All (IsNumbered key entries.old) entries.old.list.items
+        → OnOk result (AreByRowid key entries.new × IsPermutation (held_by entries.new) (held_by entries.old)) }
+    ensures err { (key : SpecKey) → All (IsNumbered key entries.old) entries.old.list.items
+        → IfErr result (TwiceRefused key (held_by entries.old)) }
 {
-    judge_entries(key, entries)?;
     let Ok(()) = entries.sort() else {
         return Err(IndexError::Index(ReadError::NoMemory));
     };
@@ -102,5 +104,18 @@ pub(crate) fn order_entries(key: &IndexKey, entries: &mut Entries) -> Result<(),
             Err(IndexError::Entry(entries.fault(second, IndexFault::RowTwice)))
         }
         None => Ok(()),
+    }
+}
+
+/// Judges the entries by themselves, and sorts them by rowid. Refused by EntryForm, EntryOrder, KeyTwice and RowTwice,
+/// and by NoMemory.
+pub(crate) fn order_entries(key: &IndexKey, entries: &mut Entries) -> Result<(), IndexError>
+    ensures ok { OnOk result (IsOrdered key.now (held_by entries.old) entries.new) }
+    ensures err { IfErr result (JudgeRefused key.now (held_by entries.old)) }
+{
+    judge_entries(key, entries)?;
+    match sort_entries(entries) {
+        Ok(()) => Ok(()),
+        Err(refusal) => Err(refusal),
     }
 }

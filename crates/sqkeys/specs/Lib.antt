@@ -1,4 +1,3 @@
-pub mod Literals
 pub mod Affinities
 pub mod Columns
 pub mod Keys

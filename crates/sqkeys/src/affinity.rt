@@ -10,7 +10,9 @@ pub(crate) fn keeps(affinity: Affinity, value: &Value) -> bool
     ensures { result ≡ keeps affinity value.now }
 {
     match (affinity, value) {
-        (_, Value::Null) => true,
+        (_, Value::Null | Value::Blob(_)) => true,
+        (Affinity::Integer | Affinity::Numeric | Affinity::Real | Affinity::Blob, Value::Real(_)) =>
+            { true }
         (Affinity::Integer | Affinity::Numeric | Affinity::Blob, Value::Int(_)) => true,
         (Affinity::Text | Affinity::Blob, Value::Text(_)) => true,
         _ => false,

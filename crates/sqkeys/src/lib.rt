@@ -10,7 +10,6 @@ mod default;
 mod entry_key;
 mod key;
 mod keyed;
-mod literal;
 mod order;
 mod partial;
 mod row_rules;

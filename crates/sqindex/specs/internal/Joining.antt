@@ -2,7 +2,6 @@
 use Rattle.std.specs.Prelude.{◌≡◌, ◌⊎◌, ◌≤◌, ◌+◌, ℕ, List, [], ◌∷◌, ◌++◌, length, slice_get, Option, Some, None, IfSome, IsSome, Result, MatchResult, ℤ, ◌<ℤ◌, ◌≤ℤ◌}
 use Rattle.std.specs.List.{All}
 use Rattle.sqval.specs.Database.{Database}
-use Rattle.sqval.specs.Record.{most_bytes}
 use Rattle.sqkeys.specs.declared.key.IndexKey.{IndexKey}
 use Rattle.sqindex.specs.declared.entries.Held.{Held}
 use Rattle.sqindex.specs.declared.entries.Entries.{Entries}
@@ -17,8 +16,8 @@ use Rattle.sqindex.specs.declared.error.IndexError.{IndexError}
 use Rattle.sqindex.specs.declared.error.IndexError.TheVariants as errors
 use Rattle.sqindex.specs.Stored.{Stored}
 use Rattle.sqindex.specs.Keys.{rowid_of, IsEntryOf}
-use Rattle.sqindex.specs.Rules.{Rise, HasKeyedRows, Match}
-use Rattle.sqindex.specs.Indexes.{HasNoEntry, HasNoRow, ReadRefused, NoRows}
+use Rattle.sqindex.specs.Rules.{Rise}
+use Rattle.sqindex.specs.Indexes.{HasNoEntry, HasNoRow}
 use Rattle.sqindex.specs.internal.Held.{entry_in, held_by}
 use Rattle.sqindex.specs.internal.Judging.{AreByRowid}
 use Rattle.sqindex.specs.internal.Reading.{AreTaken}
@@ -98,18 +97,8 @@ pub record AreSeen (d : Database) (table : ℕ) (cells : Cells) (last : Option �
   pub rise : Rise rows
   pub ends : IsLast rows last
 
--- The entries are those of the rows of the table.
-abbrev pub IsMatched : Database → (table : ℕ) → IndexKey → List Stored → Type 0
-IsMatched d table key xs = (rows : List Stored) × HasKeyedRows d table rows × Match key rows xs
-
 -- A fault of the rows and the entries.
 abbrev pub BothRefused : IndexKey → List Stored → (rows : List Stored) → IndexFault → (page cell : ℕ) → Type 0
 BothRefused key xs rows faults.RowWithoutEntry page cell = (i : ℕ) × (x : Stored) × (slice_get rows i ≡ Some x) × IsIn page cell x × HasNoEntry key xs x
 BothRefused key xs rows faults.EntryOfNoRow page cell = (i : ℕ) × (x : Stored) × (slice_get xs i ≡ Some x) × IsIn page cell x × HasNoRow key rows x
 BothRefused key xs rows _ page cell = ⊥
-
--- Why they aren't.
-abbrev pub MatchRefused : Database → (table : ℕ) → IndexKey → List Stored → IndexError → Type 0
-MatchRefused d table key xs (errors.Table e) = ReadRefused d table most_bytes (NoRows d table) e
-MatchRefused d table key xs (errors.Entry e) = (rows : List Stored) × HasKeyedRows d table rows × BothRefused key xs rows e.fault e.page e.cell
-MatchRefused d table key xs _ = ⊥

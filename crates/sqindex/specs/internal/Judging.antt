@@ -1,6 +1,6 @@
 -- Words of the functions that judge the entries of an index (own). No public contract cites them.
-use Rattle.std.specs.Prelude.{◌≡◌, ◌≢◌, ◌<◌, ◌+◌, ℕ, true, List, length, slice_get, slice_index_or, Some, None, ℤ, ◌<ℤ◌}
-use Rattle.std.specs.List.{All}
+use Rattle.std.specs.Prelude.{◌≡◌, ◌≢◌, ◌<◌, ◌≤◌, ◌+◌, ℕ, true, List, length, slice_get, slice_index_or, Some, None, ℤ, ◌<ℤ◌}
+use Rattle.std.specs.List.{All, Contains, count_by}
 use Rattle.std.specs.List.Sorted.{IsPermutation, IsSortedByKey}
 use Rattle.std.specs.Ordering.{int_cmp}
 use Rattle.std.specs.declared.cmp.Ordering.TheVariants.{Less}
@@ -17,22 +17,22 @@ use Rattle.sqindex.specs.declared.error.IndexError.{IndexError}
 use Rattle.sqindex.specs.declared.error.IndexError.TheVariants as errors
 use Rattle.sqindex.specs.declared.walk.Found.{Found}
 use Rattle.sqindex.specs.Stored.{Stored}
-use Rattle.sqindex.specs.Keys.{values_of, IsKeyed}
+use Rattle.sqindex.specs.Keys.{values_of, has_rowid, IsKeyed}
 use Rattle.sqindex.specs.Rules.{width, IsSameKey, AreFormed, Ascend, AreApart, HasEntries}
-use Rattle.sqindex.specs.Indexes.{EntryRefused, ReadRefused, NoEntries, memory_of}
+use Rattle.sqindex.specs.Indexes.{EntryRefused, ReadRefused, NoEntries, cost_of, memory_of}
 use Rattle.sqindex.specs.internal.Held.{nothing, entry_in, held_by}
 
 -- Why the entries aren't read.
-abbrev pub EntriesRefused : Database → (index limit : ℕ) → IndexError → Type 0
-EntriesRefused d index limit (errors.Index e) = ReadRefused d index limit (NoEntries d index) e
-EntriesRefused d index limit errors.TooLarge = (entries : List Stored) → HasEntries d index entries → limit < memory_of entries
-EntriesRefused d index limit _ = ⊥
+abbrev pub EntriesRefused : Database → (index limit longest : ℕ) → IndexError → Type 0
+EntriesRefused d index limit longest (errors.Index e) = ReadRefused d index longest (NoEntries d index) e
+EntriesRefused d index limit longest errors.TooLarge = (entries : List Stored) → HasEntries d index entries → limit < memory_of entries
+EntriesRefused d index limit longest _ = ⊥
 
 -- Why what was found isn't kept, where so many bytes are left.
 abbrev pub KeepRefused : Found → (bytes : List ℕ) → (left : ℕ) → IndexError → Type 0
 KeepRefused found bytes left (errors.Index OtherKind) = found.rowid ≢ None
 KeepRefused found bytes left (errors.Index NoMemory) = Unit {0}
-KeepRefused found bytes left errors.TooLarge = left < length bytes + 64
+KeepRefused found bytes left errors.TooLarge = left < cost_of bytes
 KeepRefused found bytes left _ = ⊥
 
 -- the entry at a place
@@ -94,3 +94,13 @@ abbrev pub JudgeRefused : IndexKey → (xs : List Stored) → IndexError → Typ
 JudgeRefused key xs (errors.Index e) = e ≡ NoMemory
 JudgeRefused key xs (errors.Entry e) = (i : ℕ) × (x : Stored) × (slice_get xs i ≡ Some x) × (x.page ≡ e.page) × (x.cell ≡ e.cell) × EntryRefused key xs i x e.fault
 JudgeRefused key xs _ = ⊥
+
+-- One of these entries has the rowid of another.
+abbrev pub HasTwice : IndexKey → (ys : List Stored) → (x : Stored) → Type 0
+HasTwice key ys x = (rowid : ℤ) × IsKeyed (width key) rowid (values_of x) × (2 ≤ count_by (λ e. has_rowid (width key) rowid (values_of e)) ys)
+
+-- Why they aren't sorted: memory ran out, or RowTwice stands at one.
+abbrev pub TwiceRefused : IndexKey → (ys : List Stored) → IndexError → Type 0
+TwiceRefused key ys (errors.Index e) = e ≡ NoMemory
+TwiceRefused key ys (errors.Entry e) = (x : Stored) × Contains ys x × (x.page ≡ e.page) × (x.cell ≡ e.cell) × (e.fault ≡ faults.RowTwice) × HasTwice key ys x
+TwiceRefused key ys _ = ⊥

@@ -9,7 +9,9 @@ use Rattle.sqindex.specs.internal.Reading.{stored_of, WalkMoves, WalkRefused}
 use Rattle.sqindex.specs.internal.Joining.{IsJoined}
 use Rattle.sqindex.proofs.CellsTaken.{none_taken, one_taken, unread}
 use Rattle.sqindex.proofs.RowsSeen.{none_seen, one_seen, all_seen, not_above}
-use Rattle.sqindex.proofs.RowsJoined.{none_joined, ended_ok, ended_err}
+use Rattle.sqindex.specs.internal.Spans.{rows_in}
+use Rattle.sqindex.proofs.RowsJoined.{none_joined}
+use Rattle.sqindex.proofs.RangesMatched.{ended_ok, ended_err}
 use Rattle.sqindex.proofs.join.match_rows.Goals as goal
 
 pub returns-in-Err-clause-err : goal.returns-in-Err-clause-err
@@ -24,7 +26,7 @@ turns-init g c =
       sized = e.size.0;
       limited = e.size.1;
       over = λ gives. (e.ok gives).0;
-      seen = λ gives ordered. ([], none_seen d c.args.table c.in-Ok.walk.cells (none_taken d c.args.table c.in-Ok.walk.cells (e.ok gives).1), none_joined c.args.key.now c.args.entries.now);
+      seen = λ gives ordered. ([], none_seen d c.args.table c.in-Ok.walk.cells (none_taken d c.args.table c.in-Ok.walk.cells (e.ok gives).1), none_joined c.args.key.now c.args.part.now.entries);
     }
 
 pub returns-in-Ok-None-clause-ok : goal.returns-in-Ok-None-clause-ok
@@ -35,7 +37,7 @@ returns-in-Ok-None-clause-ok g c = λ gives ordered.
     let moves = subst (λ (f : Option Found). WalkMoves (g.S.PageSource.pages c.turns.source) c.turns.walk.cells f c.advance.new.self) c.in-Ok-None.field-0-is (c.in-Ok-None.ensures.ok (i.kept.still_gives gives) over) in
     let seen = i.seen gives ordered in
     let has = all_seen d c.args.table c.turns.walk.cells c.advance.new.self c.turns.last seen.0 seen.1 (subst (λ (d : Database). WalkMoves d c.turns.walk.cells None c.advance.new.self) i.kept.same_pages moves) in
-    ended_ok c.args.key.now c.args.entries.now ordered d c.args.table seen.0 c.turns.join c.end.result has seen.2 c.end.ensures
+    ended_ok c.args.key.now c.args.part.now ordered d c.args.table seen.0 c.turns.join c.end.result has seen.2 c.end.ensures
 
 pub returns-in-Ok-None-clause-err : goal.returns-in-Ok-None-clause-err
 returns-in-Ok-None-clause-err g c = λ gives ordered.
@@ -45,7 +47,7 @@ returns-in-Ok-None-clause-err g c = λ gives ordered.
     let moves = subst (λ (f : Option Found). WalkMoves (g.S.PageSource.pages c.turns.source) c.turns.walk.cells f c.advance.new.self) c.in-Ok-None.field-0-is (c.in-Ok-None.ensures.ok (i.kept.still_gives gives) over) in
     let seen = i.seen gives ordered in
     let has = all_seen d c.args.table c.turns.walk.cells c.advance.new.self c.turns.last seen.0 seen.1 (subst (λ (d : Database). WalkMoves d c.turns.walk.cells None c.advance.new.self) i.kept.same_pages moves) in
-    ended_err c.args.key.now c.args.entries.now ordered d c.args.table seen.0 c.turns.join c.end.result has seen.2 c.end.ensures
+    ended_err c.args.key.now c.args.part.now ordered d c.args.table seen.0 c.turns.join c.end.result has seen.2 c.end.ensures
 
 pub returns-in-Err-advance-clause-err : goal.returns-in-Err-advance-clause-err
 returns-in-Err-advance-clause-err g c = λ gives ordered.
@@ -94,6 +96,6 @@ turns-preserved g c =
           let x = stored_of found walk.payload.items in
           let more = one_seen d c.args.table c.turns.walk.cells walk found c.turns.last c.in-Ok-above.rowid seen.0 seen.1 (subst (λ (d : Database). WalkMoves d c.turns.walk.cells (Some found) walk) i.kept.same_pages moves) c.in-Ok-above.ensures.ok in
           let same : c.deref.result.now ≡ walk.payload.items = c.deref.ensures.value in
-          let joined = c.see-join.ensures seen.0 ordered (subst (λ (b : List ℕ). Rise (seen.0 ++ stored_of found b ∷ [])) (sym same) more.rise) seen.2 in
-          (seen.0 ++ x ∷ [], more, subst (λ (b : List ℕ). IsJoined c.args.key.now c.args.entries.now (seen.0 ++ stored_of found b ∷ []) c.see-join.result) same joined);
+          let joined = c.see_in-join.ensures seen.0 ordered (subst (λ (b : List ℕ). Rise (seen.0 ++ stored_of found b ∷ [])) (sym same) more.rise) seen.2 in
+          (seen.0 ++ x ∷ [], more, subst (λ (b : List ℕ). IsJoined c.args.key.now c.args.part.now.entries (rows_in c.args.part.now.span (seen.0 ++ stored_of found b ∷ [])) c.see_in-join.result) same joined);
     }

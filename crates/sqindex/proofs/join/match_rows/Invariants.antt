@@ -5,6 +5,7 @@ use Rattle.sqrows.specs.Cursor.{IsOver}
 use Rattle.sqindex.specs.Stored.{Stored}
 use Rattle.sqindex.specs.internal.Judging.{AreByRowid}
 use Rattle.sqindex.specs.internal.Joining.{AreSeen, IsJoined}
+use Rattle.sqindex.specs.internal.Spans.{rows_in}
 use Rattle.sqindex.proofs.join.match_rows.Given as goal
 
 abbrev pub invariant-turns : goal.invariant-turns
@@ -13,6 +14,6 @@ invariant-turns g l = record {
   sized : l.walk.cells.size ≡ g.S.PageSource.size l.fn.source;
   limited : l.walk.limit ≡ most_bytes;
   over : g.S.PageSource.gives_pages l.fn.source → IsOver (g.S.PageSource.pages l.fn.source) l.walk.cells;
-  seen : g.S.PageSource.gives_pages l.fn.source → AreByRowid l.key l.entries
-      → (rows : List Stored) × AreSeen (g.S.PageSource.pages l.fn.source) l.table l.walk.cells l.last rows × IsJoined l.key l.entries rows l.join;
+  seen : g.S.PageSource.gives_pages l.fn.source → AreByRowid l.key l.part.entries
+      → (rows : List Stored) × AreSeen (g.S.PageSource.pages l.fn.source) l.table l.walk.cells l.last rows × IsJoined l.key l.part.entries (rows_in l.part.span rows) l.join;
 }

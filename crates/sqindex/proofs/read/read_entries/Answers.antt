@@ -5,7 +5,7 @@ use Rattle.sqcheck.proofs.checks.ResultsOfCalls.{exits}
 use Rattle.sqrows.specs.Cursor.{IsOver}
 use Rattle.sqindex.specs.declared.walk.Found.{Found}
 use Rattle.sqindex.specs.Stored.{Stored}
-use Rattle.sqindex.specs.Indexes.{ReadRefused, NoEntries, memory_of}
+use Rattle.sqindex.specs.Indexes.{ReadRefused, NoEntries, cost_of, memory_of}
 use Rattle.sqindex.specs.internal.Held.{held_by, plain}
 use Rattle.sqindex.specs.internal.Reading.{WalkMoves, WalkRefused, AreTaken}
 use Rattle.sqindex.specs.internal.Judging.{EntriesRefused}
@@ -45,8 +45,8 @@ returns-in-Err-advance-clause-err g c = λ gives.
     let over = subst (λ (d : Database). IsOver d c.turns.walk.cells) (sym i.kept.same_pages) (i.over gives) in
     let refused = c.in-Err-advance.ensures.err (i.kept.still_gives gives) over in
     let here = subst (λ (limit : ℕ). WalkRefused d c.turns.walk.cells limit c.in-Err-advance.refusal) i.limited (subst (λ (d : Database). WalkRefused d c.turns.walk.cells c.turns.walk.limit c.in-Err-advance.refusal) i.kept.same_pages refused) in
-    subst (ReadRefused d c.args.index c.args.limit (NoEntries d c.args.index)) (sym c.of_cell.ensures)
-    (unread d c.args.index c.turns.walk.cells c.args.limit (held_by c.turns.entries) c.in-Err-advance.refusal (NoEntries d c.args.index) (λ none entries has. none entries has.stored) (i.taken gives) here (c.in-Err-advance.ensures.read (i.kept.still_gives gives)))
+    subst (ReadRefused d c.args.index c.args.longest (NoEntries d c.args.index)) (sym c.of_cell.ensures)
+    (unread d c.args.index c.turns.walk.cells c.args.longest (held_by c.turns.entries) c.in-Err-advance.refusal (NoEntries d c.args.index) (λ none entries has. none entries has.stored) (i.taken gives) here (c.in-Err-advance.ensures.read (i.kept.still_gives gives)))
 
 pub returns-in_err-left-clause-err : goal.returns-in_err-left-clause-err
 returns-in_err-left-clause-err g c = λ gives.
@@ -57,8 +57,8 @@ returns-in_err-left-clause-err g c = λ gives.
     let over = subst (λ (d : Database). IsOver d c.turns.walk.cells) (sym i.kept.same_pages) (i.over gives) in
     let moves = subst (λ (f : Option Found). WalkMoves (g.S.PageSource.pages c.turns.source) c.turns.walk.cells f walk) c.in-Ok-Some.field-0-is (c.in-Ok-Some.ensures.ok (i.kept.still_gives gives) over) in
     let one = one_taken d c.args.index c.turns.walk.cells walk found (held_by c.turns.entries) (i.taken gives) (subst (λ (d : Database). WalkMoves d c.turns.walk.cells (Some found) walk) i.kept.same_pages moves) in
-    exits (EntriesRefused d c.args.index c.args.limit) c.in_err-left.field-0.0 c.from_residual.result c.from_residual.ensures.1
-    (kept_not d c.args.index walk.cells (held_by c.turns.entries) found walk.payload.items c.args.limit c.turns.left c.in_err-left.field-0.0 one i.left c.in_err-left.ensures.err)
+    exits (EntriesRefused d c.args.index c.args.limit c.args.longest) c.in_err-left.field-0.0 c.from_residual.result c.from_residual.ensures.1
+    (kept_not d c.args.index walk.cells (held_by c.turns.entries) found walk.payload.items c.args.limit c.args.longest c.turns.left c.in_err-left.field-0.0 one i.left c.in_err-left.ensures.err)
 
 pub turns-preserved : goal.turns-preserved
 turns-preserved g c =
@@ -79,7 +79,7 @@ turns-preserved g c =
       sized = e.size.0 ∙ i.sized;
       limited = e.size.2 ∙ i.limited;
       left =
-          (let all : memory_of (held_by c.keep.new.entries) ≡ memory_of (held_by c.turns.entries) + (length walk.payload.items + 64) = ap memory_of k.2 ∙ sum_by_push (λ (entry : Stored). length entry.bytes + 64) (held_by c.turns.entries) x in
+          (let all : memory_of (held_by c.keep.new.entries) ≡ memory_of (held_by c.turns.entries) + cost_of walk.payload.items = ap memory_of k.2 ∙ sum_by_push (λ (entry : Stored). cost_of entry.bytes) (held_by c.turns.entries) x in
           let rest = k.1 in
           let was = i.left in
           omega (arith, all, rest, was));

@@ -10,7 +10,7 @@ abbrev pub invariant-turns : goal.invariant-turns
 invariant-turns g l = record {
   kept : KeepsPages g.S.PageSource.pages g.S.PageSource.size g.S.PageSource.reads_right g.S.PageSource.gives_pages l.fn.source l.source;
   sized : l.walk.cells.size ≡ g.S.PageSource.size l.fn.source;
-  limited : l.walk.limit ≡ l.limit;
+  limited : l.walk.limit ≡ l.longest;
   left : l.left + memory_of (held_by l.entries) ≡ l.limit;
   over : g.S.PageSource.gives_pages l.fn.source → IsOver (g.S.PageSource.pages l.fn.source) l.walk.cells;
   taken : g.S.PageSource.gives_pages l.fn.source → AreTaken (g.S.PageSource.pages l.fn.source) l.index l.walk.cells (held_by l.entries);

@@ -1,0 +1,139 @@
+use Rattle.std.proofs.Common.{◌≡◌, ◌≢◌, ◌++◌, ◌∷◌, [], ◌∙◌, ◌+◌, ℕ, ℤ, List, Option, Some, None, cond, is_some, true, false, refl, subst, sym, ap, arith, length, length-append}
+use Rattle.std.specs.Prelude.{Result, Ok, Err, IfOk, IfErr}
+use Rattle.sqval.specs.Database.{Database}
+use Rattle.sqkeys.specs.declared.key.IndexKey.{IndexKey}
+use Rattle.sqrows.specs.Cursor.{IsOver}
+use Rattle.sqrows.specs.declared.cells.Cells.{Cells}
+use Rattle.sqindex.specs.declared.error.EntryError.{EntryError}
+use Rattle.sqindex.specs.declared.error.IndexError.{IndexError}
+use Rattle.sqindex.specs.declared.error.IndexError.TheVariants as errors
+use Rattle.sqindex.specs.declared.stream.Count.{Count}
+use Rattle.sqindex.specs.declared.walk.Found.{Found}
+use Rattle.sqindex.specs.Stored.{Stored}
+use Rattle.sqindex.specs.Rules.{HasEntries}
+use Rattle.sqindex.specs.Indexes.{ReadRefused, NoEntries}
+use Rattle.sqindex.specs.internal.Reading.{stored_of, WalkMoves, WalkRefused}
+use Rattle.sqindex.specs.internal.KeyedScanning.{IsBefore, ArePlain}
+use Rattle.sqindex.specs.internal.Streaming.{IsStream, StreamEnds, HasSoundEntries, StreamRefused}
+use Rattle.sqindex.proofs.CellsTaken.{none_taken, one_taken, unread}
+use Rattle.sqindex.proofs.EntriesRead.{other_kind}
+use Rattle.sqindex.proofs.EntriesStreamed.{none_streamed}
+use Rattle.sqindex.proofs.Places.{get_here}
+use Rattle.sqindex.proofs.KeyedScanned.{none_plain, one_plain, all_plain}
+use Rattle.sqindex.proofs.stream.order_index.Goals as goal
+
+none_of : (o : Option ℤ) → is_some o ≡ false → o ≡ None
+none_of None e = refl
+none_of (Some r) e = absurd (cc)
+
+some_of : (o : Option ℤ) → is_some o ≡ true → o ≢ None
+some_of None e is = cc
+some_of (Some r) e is = cc
+
+-- what is told behind the last entry
+ended_ok : (d : Database) (index : ℕ) (key : IndexKey) (xs : List Stored) (fault : Option EntryError) (many : ℕ) (result : Result Count IndexError) → HasEntries d index xs → IsStream key xs fault → length xs ≡ many
+    → StreamEnds fault many result → IfOk result (λ count. HasSoundEntries d index key count.many)
+ended_ok d index key xs fault many (Ok count) has w long h = (xs, has, subst (IsStream key xs) h.0 w, long ∙ sym h.1)
+ended_ok d index key xs fault many (Err e) has w long h = tt
+
+ended_err : (d : Database) (index : ℕ) (key : IndexKey) (limit : ℕ) (xs : List Stored) (fault : Option EntryError) (many : ℕ) (result : Result Count IndexError) → HasEntries d index xs → IsStream key xs fault
+    → StreamEnds fault many result → IfErr result (StreamRefused d index key limit)
+ended_err d index key limit xs fault many (Ok count) has w h = tt
+ended_err d index key limit xs fault many (Err e) has w h = subst (StreamRefused d index key limit) (sym h.2) (xs, has, subst (IsStream key xs) h.1 w)
+
+pub returns-in-Err-clause-err : goal.returns-in-Err-clause-err
+returns-in-Err-clause-err g c = λ gives. let e = c.in-Err.ensures.err gives in (e.0, λ other rows has. e.1 other has.stored.0 has.stored.1)
+
+pub turns-init : goal.turns-init
+turns-init g c =
+    let d = g.S.PageSource.pages c.args.source.now in
+    let e = c.in-Ok.ensures in
+    record {
+      kept = e.keeps;
+      sized = e.size.0;
+      limited = e.size.1;
+      over = λ gives. (e.ok gives).0;
+      seen = λ gives. ([], none_plain d c.args.index c.in-Ok.walk.cells (none_taken d c.args.index c.in-Ok.walk.cells (e.ok gives).1), none_streamed c.args.key.now, refl, refl);
+    }
+
+pub returns-in-Ok-None-clause-ok : goal.returns-in-Ok-None-clause-ok
+returns-in-Ok-None-clause-ok g c = λ gives.
+    let d = g.S.PageSource.pages c.args.source.now in
+    let i = c.turns.invariant in
+    let over = subst (λ (d : Database). IsOver d c.turns.walk.cells) (sym i.kept.same_pages) (i.over gives) in
+    let moves = subst (λ (f : Option Found). WalkMoves (g.S.PageSource.pages c.turns.source) c.turns.walk.cells f c.advance.new.self) c.in-Ok-None.field-0-is (c.in-Ok-None.ensures.ok (i.kept.still_gives gives) over) in
+    let seen = i.seen gives in
+    let has = all_plain d c.args.index c.turns.walk.cells c.advance.new.self seen.0 seen.1 (subst (λ (d : Database). WalkMoves d c.turns.walk.cells None c.advance.new.self) i.kept.same_pages moves) in
+    ended_ok d c.args.index c.args.key.now seen.0 c.turns.fault c.turns.i c.end.result has seen.2 seen.4 c.end.ensures
+
+pub returns-in-Ok-None-clause-err : goal.returns-in-Ok-None-clause-err
+returns-in-Ok-None-clause-err g c = λ gives.
+    let d = g.S.PageSource.pages c.args.source.now in
+    let i = c.turns.invariant in
+    let over = subst (λ (d : Database). IsOver d c.turns.walk.cells) (sym i.kept.same_pages) (i.over gives) in
+    let moves = subst (λ (f : Option Found). WalkMoves (g.S.PageSource.pages c.turns.source) c.turns.walk.cells f c.advance.new.self) c.in-Ok-None.field-0-is (c.in-Ok-None.ensures.ok (i.kept.still_gives gives) over) in
+    let seen = i.seen gives in
+    let has = all_plain d c.args.index c.turns.walk.cells c.advance.new.self seen.0 seen.1 (subst (λ (d : Database). WalkMoves d c.turns.walk.cells None c.advance.new.self) i.kept.same_pages moves) in
+    ended_err d c.args.index c.args.key.now c.args.limit seen.0 c.turns.fault c.turns.i c.end.result has seen.2 c.end.ensures
+
+pub returns-in-Err-advance-clause-err : goal.returns-in-Err-advance-clause-err
+returns-in-Err-advance-clause-err g c = λ gives.
+    let d = g.S.PageSource.pages c.args.source.now in
+    let i = c.turns.invariant in
+    let over = subst (λ (d : Database). IsOver d c.turns.walk.cells) (sym i.kept.same_pages) (i.over gives) in
+    let refused = c.in-Err-advance.ensures.err (i.kept.still_gives gives) over in
+    let here = subst (λ (limit : ℕ). WalkRefused d c.turns.walk.cells limit c.in-Err-advance.refusal) i.limited (subst (λ (d : Database). WalkRefused d c.turns.walk.cells c.turns.walk.limit c.in-Err-advance.refusal) i.kept.same_pages refused) in
+    let seen = i.seen gives in
+    subst (ReadRefused d c.args.index c.args.limit (NoEntries d c.args.index)) (sym c.of_cell.ensures)
+    (unread d c.args.index c.turns.walk.cells c.args.limit seen.0 c.in-Err-advance.refusal (NoEntries d c.args.index) (λ none entries has. none entries has.stored) seen.1.taken here (c.in-Err-advance.ensures.read (i.kept.still_gives gives)))
+
+pub returns-then-is_some-clause-err : goal.returns-then-is_some-clause-err
+returns-then-is_some-clause-err g c = λ gives.
+    let d = g.S.PageSource.pages c.args.source.now in
+    let i = c.turns.invariant in
+    let found = c.in-Ok-Some.found in
+    let walk = c.advance.new.self in
+    let over = subst (λ (d : Database). IsOver d c.turns.walk.cells) (sym i.kept.same_pages) (i.over gives) in
+    let moves = subst (λ (f : Option Found). WalkMoves (g.S.PageSource.pages c.turns.source) c.turns.walk.cells f walk) c.in-Ok-Some.field-0-is (c.in-Ok-Some.ensures.ok (i.kept.still_gives gives) over) in
+    let seen = i.seen gives in
+    let one = one_taken d c.args.index c.turns.walk.cells walk found seen.0 seen.1.taken (subst (λ (d : Database). WalkMoves d c.turns.walk.cells (Some found) walk) i.kept.same_pages moves) in
+    other_kind d c.args.index walk.cells seen.0 (stored_of found walk.payload.items) one (some_of found.rowid (sym c.is_some.ensures ∙ c.if-is_some.true))
+
+pub turns-preserved : goal.turns-preserved
+turns-preserved g c =
+    let d = g.S.PageSource.pages c.args.source.now in
+    let i = c.turns.invariant in
+    let e = c.in-Ok-Some.ensures in
+    let found = c.in-Ok-Some.found in
+    let walk = c.advance.new.self in
+    let k = c.keep.ensures in
+    record {
+      kept = record {
+        still_right = λ right. e.keeps.still_right (i.kept.still_right right);
+        still_gives = λ gives. e.keeps.still_gives (i.kept.still_gives gives);
+        same_pages = e.keeps.same_pages ∙ i.kept.same_pages;
+        same_size = e.keeps.same_size ∙ i.kept.same_size;
+      };
+      sized = ap (λ (z : Cells). z.size) k.same.0 ∙ e.size.0 ∙ i.sized;
+      limited = k.same.1 ∙ e.size.2 ∙ i.limited;
+      over = λ gives. ap (λ (z : Cells). z.usable) k.same.0 ∙ e.size.1 ∙ i.over gives;
+      seen = λ gives.
+          let over = subst (λ (d : Database). IsOver d c.turns.walk.cells) (sym i.kept.same_pages) (i.over gives) in
+          let moves = subst (λ (f : Option Found). WalkMoves (g.S.PageSource.pages c.turns.source) c.turns.walk.cells f walk) c.in-Ok-Some.field-0-is (e.ok (i.kept.still_gives gives) over) in
+          let seen = i.seen gives in
+          let xs = seen.0 in
+          let x = stored_of found walk.payload.items in
+          let more = one_plain d c.args.index c.turns.walk.cells walk found xs seen.1 (subst (λ (d : Database). WalkMoves d c.turns.walk.cells (Some found) walk) i.kept.same_pages moves) (none_of found.rowid (sym c.is_some.ensures ∙ c.if-is_some.false)) in
+          let held : c.deref.result.now ≡ c.turns.before.items = c.deref.ensures.value in
+          let same : c.deref-in-turns.result.now ≡ walk.payload.items = c.deref-in-turns.ensures.value in
+          let before = subst (IsBefore xs) (sym (c.held.ensures ∙ ap (λ (b : List ℕ). cond c.turns.some (Some b) None) held)) seen.3 in
+          let streamed = c.see-fault.ensures xs before seen.2 in
+          let long = seen.4 in
+          let grow : length (xs ++ x ∷ []) ≡ length xs + 1 = omega (arith, length-append xs (x ∷ [])) in (
+            xs ++ x ∷ [],
+            subst (λ (z : Cells). ArePlain d c.args.index z (xs ++ x ∷ [])) (sym k.same.0) more,
+            subst (λ (b : List ℕ). IsStream c.args.key.now (xs ++ stored_of found b ∷ []) c.see-fault.result) same streamed,
+            (length xs, x, grow, get_here xs x [], sym k.held),
+            omega (arith, grow, long),
+          );
+    }

@@ -1,0 +1,45 @@
+-- Words of the functions that match the rows and the entries of a range of rowids (own). No public contract cites them.
+use Rattle.std.specs.Prelude.{◌≡◌, ℕ, List, [], ◌++◌, ◌∷◌, Option, Some, None, MatchOption, ℤ}
+use Rattle.sqval.specs.Database.{Database}
+use Rattle.sqval.specs.Record.{most_bytes}
+use Rattle.sqkeys.specs.declared.key.IndexKey.{IndexKey}
+use Rattle.sqindex.specs.declared.error.IndexError.{IndexError}
+use Rattle.sqindex.specs.declared.error.IndexError.TheVariants as errors
+use Rattle.sqindex.specs.declared.join.Join.{Join}
+use Rattle.sqindex.specs.declared.part.Part.{Part}
+use Rattle.sqindex.specs.Stored.{Stored}
+use Rattle.sqindex.specs.Rules.{Rise, HasKeyedRows, Match}
+use Rattle.sqindex.specs.Indexes.{ReadRefused, NoRows, IndexRefused}
+use Rattle.sqindex.specs.internal.Held.{held_by}
+use Rattle.sqindex.specs.internal.Judging.{AreByRowid}
+use Rattle.sqindex.specs.internal.Joining.{IsJoined, BothRefused}
+use Rattle.sqindex.specs.internal.Spans.{rows_in, rows_to, entries_to}
+
+-- It was so of the rows of the range before a row, and is so with it.
+abbrev pub SeesIn : IndexKey → Part → (rows : List Stored) → (old : Join) → (row : Stored) → (new : Join) → Type 0
+SeesIn key part rows old row new =
+    AreByRowid key part.entries → Rise (rows ++ row ∷ []) → IsJoined key part.entries (rows_in part.span rows) old → IsJoined key part.entries (rows_in part.span (rows ++ row ∷ [])) new
+
+-- The entries are those of the rows of the table in their range.
+abbrev pub IsMatchedIn : Database → (table : ℕ) → IndexKey → Part → Type 0
+IsMatchedIn d table key part = (rows : List Stored) × HasKeyedRows d table rows × Match key (rows_in part.span rows) (held_by part.entries)
+
+-- Why they aren't.
+abbrev pub MatchRefusedIn : Database → (table : ℕ) → IndexKey → Part → IndexError → Type 0
+MatchRefusedIn d table key part (errors.Table e) = ReadRefused d table most_bytes (NoRows d table) e
+MatchRefusedIn d table key part (errors.Entry e) = (rows : List Stored) × HasKeyedRows d table rows × BothRefused key (held_by part.entries) (rows_in part.span rows) e.fault e.page e.cell
+MatchRefusedIn d table key part _ = ⊥
+
+-- What was found before stays; else the range is matched, or this is why not.
+abbrev pub MatchesNext : Database → (table : ℕ) → IndexKey → Part → (fault result : Option IndexError) → Type 0
+MatchesNext d table key part None result = MatchOption result (IsMatchedIn d table key part) (MatchRefusedIn d table key part)
+MatchesNext d table key part (Some e) result = result ≡ Some e
+
+-- The entries up to this rowid are those of the table's rows; or this was found.
+abbrev pub AreMatchedTo : Database → (table index : ℕ) → IndexKey → (limit : ℕ) → (above : Option ℤ) → (xs : List Stored) → Option IndexError → Type 0
+AreMatchedTo d table index key limit above xs None = (rows : List Stored) → HasKeyedRows d table rows → Match key (rows_to above rows) (entries_to key above xs)
+AreMatchedTo d table index key limit above xs (Some e) = IndexRefused d table index key limit e
+
+-- The entries are those of the rows of the table.
+abbrev pub IsMatched : Database → (table : ℕ) → IndexKey → List Stored → Type 0
+IsMatched d table key xs = (rows : List Stored) × HasKeyedRows d table rows × Match key rows xs
