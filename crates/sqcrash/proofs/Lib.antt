@@ -7,3 +7,4 @@ pub mod WaitingCommits
 pub mod MarkedRecords
 pub mod NotedFiles
 pub mod KeptCalls
+pub mod ShownImages

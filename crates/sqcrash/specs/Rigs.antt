@@ -72,7 +72,7 @@ JudgesAll plan b (r ∷ records) old new lines =
 
 -- nothing was played yet
 abbrev pub no_rig : Plan → RigState
-no_rig plan = record { run = with_why plan.why plan.sector (no_run plan.promise plan.sector plan.tears plan.meta); tally = no_tally }
+no_rig plan = record { run = with_why plan.why plan.shrink plan.sector (no_run plan.promise plan.sector plan.tears plan.meta); tally = no_tally }
 
 -- a rig of which the commits are those at marks; each that isn't well formed is a fault that is counted
 abbrev pub marked_rig : RigState → Marked → RigState

@@ -24,7 +24,8 @@ use Rattle.sqcrash.specs.declared.run.Run.{Run}
 
 -- What a crash may leave of the files; the committed databases, the oldest first, and the thread that made each; the
 -- number of the last one that is known to be durable; where commits are those at marks, these that aren't shown yet; how many
--- records were played; and where it is to be told which calls aren't down, by sectors of this size, those that changed a file.
+-- records were played; where it is to be told which calls aren't down, by sectors of this size, those that changed a file; and
+-- where images with something wrong are shrunk first, the size of a sector.
 pub record RunState : Type 0 where
   pub promise : Promise
   pub taken_at : CommitsAt
@@ -36,17 +37,18 @@ pub record RunState : Type 0 where
   pub played : ℕ
   pub why : Option ℕ
   pub kept : List Change
+  pub shrinks : Option ℕ
 
 abbrev pub size_of : Option SectorSize → Option ℕ
 size_of None = None
 size_of (Some size) = Some size.bytes
 
 abbrev pub run_of : Run → RunState
-run_of r = record { promise = r.promise; taken_at = r.taken_at; waiting = map commit_of (reverse r.waiting.items); files = files_of r.player; commits = commits_of r.history; makers = r.makers.items; known = r.known; played = r.played; why = size_of r.why; kept = r.kept.items }
+run_of r = record { promise = r.promise; taken_at = r.taken_at; waiting = map commit_of (reverse r.waiting.items); files = files_of r.player; commits = commits_of r.history; makers = r.makers.items; known = r.known; played = r.played; why = size_of r.why; kept = r.kept.items; shrinks = size_of r.shrinks }
 
 -- nothing was played yet
 abbrev pub no_run : Promise → (sector : ℕ) (tears : Bool) → Meta → RunState
-no_run promise sector tears meta = record { promise = promise; taken_at = at.Calls; waiting = []; files = no_files sector tears meta; commits = []; makers = []; known = 0; played = 0; why = None; kept = [] }
+no_run promise sector tears meta = record { promise = promise; taken_at = at.Calls; waiting = []; files = no_files sector tears meta; commits = []; makers = []; known = 0; played = 0; why = None; kept = []; shrinks = None }
 
 -- the database that the present files show is one more commit, which this thread made, where it isn't the last one's
 pub record Notes (thread : ℕ) (old new : RunState) : Type 0 where
@@ -132,9 +134,9 @@ PlaysBy _ b r old new = Calls b r old new
 abbrev pub PlaysOne : List ℕ → Record → (old new : RunState) → Type 0
 PlaysOne b r old new = PlaysBy r.kind b r old new
 
--- a run of which it is to be told, or not, which calls aren't down
-abbrev pub with_why : (why : Bool) (sector : ℕ) → RunState → RunState
-with_why why sector run = record run { why = cond why (Some sector) None }
+-- a run of which it is to be told, or not, which calls aren't down, and whose images are shrunk first, or aren't
+abbrev pub with_why : (why shrinks : Bool) (sector : ℕ) → RunState → RunState
+with_why why shrinks sector run = record run { why = cond why (Some sector) None; shrinks = cond shrinks (Some sector) None }
 
 -- the calls that aren't down in an image, where these are to be told
 abbrev pub ExplainsBy : (why : Option ℕ) → List Change → Image → List Missing → Type 0

@@ -18,6 +18,7 @@ use Rattle.sqcrash.specs.Runs.{RunState, Explains}
 use Rattle.sqcrash.specs.Told.{Told}
 use Rattle.sqcrash.specs.declared.survey.Tally.{Tally}
 use Rattle.sqmissing.specs.declared.missing.Missing.{Missing}
+use Rattle.sqshrink.specs.Shrunk.{IsShrunk}
 use Rattle.sqcrash.specs.declared.survey.Survey.{Survey}
 
 -- this is the scan of an image's log, if there is one
@@ -93,10 +94,32 @@ pub record IsBegun (before : Tally) (s : Survey) : Type 0 where
   pub findings : s.findings.items ≡ []
   pub next : s.next ≡ 0
 
--- the calls that aren't down in an image, where something is wrong with it
+-- two images are wrong in the same way: a commit is lost, the database is mixed, or none that is well formed is shown
+abbrev pub are_alike : Judgment → Judgment → Bool
+are_alike (Kept i) k = false
+are_alike (Lost i) k = is_lost k
+are_alike Mixed k = is_mixed k
+are_alike (Fault e) k = is_fault k
+are_alike (Refused e) k = is_fault k
+
+-- an image is wrong in the same way as one that is judged so, or isn't
+abbrev pub IsFoundAs : RunState → Judgment → Image → Bool → Type 0
+IsFoundAs run j image same = (k : Judgment) × IsFilesJudgment run.commits run.known image.db.items image.wal.items image.journal.items k × (same ≡ are_alike j k)
+
+-- the image that is shown of one with something wrong: where it is to be shrunk, one of which nothing more can be brought down
+abbrev pub ShowsBy : (shrinks : Option ℕ) → RunState → Judgment → Image → Image → Type 0
+ShowsBy None run j image shown = shown ≡ image
+ShowsBy (Some sector) run j image shown = IsShrunk (IsFoundAs run j) run.files sector image shown
+
+-- the same of any image: where nothing is wrong with it, it is shown as it is
+abbrev pub Shows : RunState → Judgment → Image → Image → Type 0
+Shows run (Kept k) image shown = shown ≡ image
+Shows run j image shown = ShowsBy run.shrinks run j image shown
+
+-- the calls that aren't down in what is shown of an image, where something is wrong with it
 abbrev pub ExplainsWrong : RunState → Image → Judgment → List Missing → Type 0
 ExplainsWrong run image (Kept k) missing = missing ≡ []
-ExplainsWrong run image j missing = Explains run image missing
+ExplainsWrong run image j missing = (shown : Image) × ShowsBy run.shrinks run j image shown × Explains run shown missing
 
 -- an image has its judgment, by the commits of the run, and these calls aren't down in it
 pub record IsJudgedBy (run : RunState) (x : Judged) : Type 0 where
@@ -123,6 +146,11 @@ pub record IsNumberedSurvey (run : RunState) (old new : Survey) : Type 0 where
   pub numbered : AreNumbered run counts 0 judged
   pub all : length judged ≡ image_count run.files
   pub told : Tells run judged old new
+
+-- what is shown of an image: another one, or itself
+abbrev pub shown_of : Image → Option Image → Image
+shown_of image None = image
+shown_of image (Some other) = other
 
 -- two images have the same files
 pub record AreSame (x y : Image) : Type 0 where

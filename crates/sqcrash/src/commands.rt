@@ -102,6 +102,11 @@ fn command<'a>(alloc: Global) -> Result<Command<'a>, AllocError> {
             "why",
             "Tells of each image with a line behind which record the machine stopped, and which calls aren't down",
         ))?
+        .arg(flag(
+            alloc,
+            "shrink",
+            "Brings down what may be of such an image first, so that --why tells and --keep writes what matters alone",
+        ))?
         .arg(option(
             alloc,
             "point",
@@ -162,6 +167,7 @@ fn matched<'a>(matches: &ArgMatches<'a>) -> Option<Request<'a>>
         promise,
         commits: commits_at(matches),
         why: matches.get_flag("why"),
+        shrink: matches.get_flag("shrink"),
         point: matches.get_one::<u64>("point"),
         image: matches.get_one::<u64>("image"),
     };

@@ -17,6 +17,7 @@ mod requests;
 mod rig;
 mod run;
 mod sample;
+mod shown;
 mod stopped;
 mod survey;
 

@@ -35,6 +35,8 @@ pub struct Plan {
     pub commits: CommitsAt,
     /// Whether it is told of an image with something wrong which calls aren't down.
     pub why: bool,
+    /// Whether such an image is shrunk before that is told and before it is kept.
+    pub shrink: bool,
     /// The point of which lines are written, counted from 1; all where there is none.
     pub point: Option<u64>,
     /// The image at its point of which a line is written, counted from 0; all where there is none.

@@ -49,7 +49,7 @@ impl Rig {
         ensures plan { result.plan ≡ plan }
     {
         let mut run = Run::new(alloc, plan.promise, plan.sector, plan.tears, plan.meta);
-        run.explain(plan.why, plan.sector);
+        run.explain(plan.why, plan.shrink, plan.sector);
         Rig {
             alloc,
             plan,

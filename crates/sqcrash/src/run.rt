@@ -68,6 +68,8 @@ pub struct Run {
     why: Option<SectorSize>,
     /// Then the calls that changed a file.
     kept: Vec<Change>,
+    /// The size of a sector, where images with something wrong are shrunk first.
+    shrinks: Option<SectorSize>,
 }
 
 impl Run {
@@ -105,15 +107,25 @@ impl Run {
             played: 0,
             why: None,
             kept: Vec::new(alloc),
+            shrinks: None,
         }
     }
 
-    /// It is to be told, or not, which calls aren't down, by sectors of this size.
-    pub fn explain(&mut self, why: bool, sector: usize)
+    /// It is to be told, or not, which calls aren't down, and images are shrunk first, or aren't, by sectors of this
+    /// size.
+    pub fn explain(&mut self, why: bool, shrinks: bool, sector: usize)
         requires { IsTrue (is_sector_size sector) }
-        ensures { run_of self.new ≡ with_why why sector (run_of self.old) }
+        ensures { run_of self.new ≡ with_why why shrinks sector (run_of self.old) }
     {
         self.why = size_if(why, sector);
+        self.shrinks = size_if(shrinks, sector);
+    }
+
+    /// The size of a sector, where images with something wrong are shrunk first.
+    pub fn shrinks(&self) -> Option<SectorSize>
+        ensures { size_of result ≡ (run_of self.now).shrinks }
+    {
+        self.shrinks
     }
 
     /// How many records were played.

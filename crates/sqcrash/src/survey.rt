@@ -3,13 +3,14 @@ ghost use Rattle.std.specs.Prelude.{◌≡◌, ◌+◌, OnOk, IfOk};
 ghost use Rattle.sqimages.specs.Images.{AreCounts};
 ghost use Rattle.sqcrash.specs.Runs.{run_of};
 ghost use Rattle.sqcrash.specs.Surveys.{IsNumberedSurvey, IsDrawnSurvey, IsUntornSurvey, IsSurvey, third_of};
-ghost use Rattle.sqcrash.specs.Surveys.{ExplainsWrong};
+ghost use Rattle.sqcrash.specs.Surveys.{Shows, ExplainsWrong};
 
 use crate::finding::Finding;
 use crate::keep::Keeper;
 use crate::outcome::{Refusal, more};
 use crate::run::Run;
 use crate::sample::{survey_drawn, survey_redrawn, survey_torn};
+use crate::shown::{shown_of, shrunk_in};
 use rand_core::Rng;
 use sqimages::{Counts, Image, Which};
 use sqjudge::Judgment;
@@ -136,8 +137,8 @@ impl Survey {
         Ok(())
     }
 
-    /// Judges one image more of a run, the scan of whose log is there or isn't. Where something is wrong with it, it
-    /// goes to the keeper.
+    /// Judges one image more of a run, the scan of whose log is there or isn't. Where something is wrong with it, what
+    /// is shown of it goes to the keeper.
     pub fn judge<K: Keeper>(
         &mut self,
         run: &Run,
@@ -148,21 +149,29 @@ impl Survey {
         ensures { IsScanOf image.now scan.now → OnOk result (TakesOne (run_of run.now) image.now self.old self.new) }
     {
         let judgment = run.judge_scanned(image, scan)?;
-        let missing = missing_in(run, image, &judgment)?;
+        let shrunk = shrunk_in(run, image, judgment)?;
+        let shown = shown_of(image, &shrunk);
+        let missing = missing_in(run, image, shown, judgment)?;
         let number = self.next;
         self.add(judgment, missing)?;
-        keep_wrong(keeper, self.tally.points, number, image, judgment)?;
+        keep_wrong(keeper, self.tally.points, number, shown, judgment)?;
         Ok(())
     }
 }
 
-/// The calls that aren't down in an image, where something is wrong with it, and these are to be told.
-fn missing_in(run: &Run, image: &Image, judgment: &Judgment) -> Result<Vec<Missing>, Refusal>
-    ensures { IfOk result (λ found. ExplainsWrong (run_of run.now) image.now judgment.now found.items) }
+/// The calls that aren't down in what is shown of an image, where something is wrong with it, and these are to be told.
+fn missing_in(
+    run: &Run,
+    image: &Image,
+    shown: &Image,
+    judgment: Judgment,
+) -> Result<Vec<Missing>, Refusal>
+    ensures { Shows (run_of run.now) judgment image.now shown.now
+        → IfOk result (λ found. ExplainsWrong (run_of run.now) image.now judgment found.items) }
 {
     match judgment {
         Judgment::Kept(_) => Ok(Vec::new(run.alloc())),
-        _ => run.missing(image),
+        _ => run.missing(shown),
     }
 }
 

@@ -8,4 +8,6 @@ mod sqimages_tests;
 #[cfg(test)]
 mod sqjudge_tests;
 #[cfg(test)]
+mod sqshrink_tests;
+#[cfg(test)]
 mod traces;

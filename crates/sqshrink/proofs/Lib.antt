@@ -1,0 +1,3 @@
+pub mod SectorsByValue
+pub mod Searches
+pub mod PiecesDown
