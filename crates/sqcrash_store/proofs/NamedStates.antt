@@ -1,11 +1,11 @@
 -- Which states have a name.
-use Rattle.std.proofs.Common.{◌≡◌, inl, inr, ℕ, ◌+◌, ◌<◌, ◌≤◌, true, List, length, Option, Some, sym, ◌∙◌, ap, subst, arith}
+use Rattle.std.proofs.Common.{◌≡◌, inl, inr, ℕ, ◌+◌, ◌≤◌, true, List, length, Option, Some, sym, ◌∙◌, ap, subst, arith}
 use Rattle.std.proofs.Math.Nat.{eq-or-lt_of_le}
 use Rattle.std.proofs.lemmas.Option.{slice_get_within}
 use Rattle.std.specs.List.{slice_get}
 use Rattle.std.specs.Option.{unwrap_or}
 use Rattle.std.specs.String.{string_bytes}
-use Rattle.sqcrash_store.specs.Verdicts.{IsNamed, NoneFrom}
+use Rattle.sqcrash_store.specs.Verdicts.{NoneFrom}
 use Rattle.sqcrash_store.specs.declared.verdict.Answer.{Answer}
 
 -- none behind the last

@@ -1,14 +1,16 @@
 -- Images that are drawn one after the other, and judged once.
-use Rattle.std.proofs.Common.{◌≡◌, ℕ, zero, suc, ◌+◌, Bool, true, false, cond, nat_eq, Option, List, [], ◌∷◌, ◌++◌, length, refl, sym, ◌∙◌, ap, append_assoc, length-append, arith}
+use Rattle.std.proofs.Common.{◌≡◌, ℕ, zero, suc, ◌+◌, Bool, true, false, cond, nat_eq, Option, List, [], ◌∷◌, ◌++◌, length, drop, ◌≤◌, inl, inr, refl, sym, ◌∙◌, ap, subst, append_assoc, length-append, arith}
 use Rattle.std.specs.Prelude.{not, ◌||◌}
 use Rattle.std.specs.List.{All, filter}
+use Rattle.std.proofs.lemmas.Bool.{cases_lt}
 use Rattle.std.proofs.lemmas.Bool.Decides.{nat_tests}
-use Rattle.std.proofs.lemmas.List.{map-append, append-nil}
+use Rattle.std.proofs.lemmas.List.{map-append, append-nil, drop-append-le, drop_all}
 use Rattle.std.proofs.lemmas.List.Elements.{All-append, filter-append}
 use Rattle.std.proofs.lemmas.List.Folds.{list_any-append}
 use Rattle.std.proofs.lemmas.List.Sums.{fold-append}
 use Rattle.sqstore.specs.Left.{MayLeave}
 use Rattle.sqstore.specs.Stores.{StoreState}
+use Rattle.sqstore.specs.Torn.{IsTornIfAny}
 use Rattle.sqcrash_store.specs.Keys.{key_of}
 use Rattle.sqcrash_store.specs.Surveys.{Judging, Judged, IsJudged, firsts, with_images, line_of, lines_from}
 use Rattle.sqcrash_store.specs.Tallies.{with_image}
@@ -102,15 +104,22 @@ all_one P x is (suc k) d below = absurd (omega arith)
 all_none : {X : Type 0} (P : X → Type 0) → All P []
 all_none P k d below = absurd (omega arith)
 
+-- and what holds of all from a place on, holds of one more
+all_from : {X : Type 0} (P : X → Type 0) (m : ℕ) (xs : List X) (x : X) → All P (drop m xs) → (m ≤ length xs → P x) → All P (drop m (xs ++ x ∷ []))
+all_from P m xs x all one = elim (cases_lt (length xs) m) [
+  | inl before ↦ subst (λ l. All P l) (sym (drop_all m (xs ++ x ∷ []) (omega (arith, before, length-append xs (x ∷ []))))) (all_none P)
+  | inr behind ↦ subst (λ l. All P l) (sym (drop-append-le m xs (x ∷ []) behind)) (All-append P (drop m xs) (x ∷ []) all (all_one P x (one behind)))
+]
+
 module _ (Says : List (Option (List ℕ)) → Answer → Type 0) (j : Judging) (s : StoreState) (known : ℕ) where
   -- none was drawn yet
   pub surveyed_none : (has : ℕ → Bool) → ((q : ℕ) → has q ≡ false) → IsSurveyed Says j s known 0 has []
-  surveyed_none has none = record { drawn = []; number = refl; left = all_none (MayLeave s); once = refl; each = all_none (IsJudged Says j.states known); keyed = none }
+  surveyed_none has none = record { drawn = []; number = refl; left = all_none (MayLeave s); torn = subst (λ l. All (IsTornIfAny s) l) (sym (drop_all j.plan.images [] (omega arith))) (all_none (IsTornIfAny s)); once = refl; each = all_none (IsJudged Says j.states known); keyed = none }
 
   -- one more is drawn and judged
-  pub surveyed_new : (n : ℕ) (has has_then : ℕ → Bool) (judged : List Judged) (image : List (Option (List ℕ))) (x : Judged) → IsSurveyed Says j s known n has judged → MayLeave s image
+  pub surveyed_new : (n : ℕ) (has has_then : ℕ → Bool) (judged : List Judged) (image : List (Option (List ℕ))) (x : Judged) → IsSurveyed Says j s known n has judged → MayLeave s image → (j.plan.images ≤ n → IsTornIfAny s image)
       → has (key_of image) ≡ false → ((q : ℕ) → has_then q ≡ cond (nat_eq (key_of image) q) true (has q)) → x.image ≡ image → IsJudged Says j.states known x → IsSurveyed Says j s known (n + 1) has_then (judged ++ x ∷ [])
-  surveyed_new n has has_then judged image x so_far left new adds is one =
+  surveyed_new n has has_then judged image x so_far left torn new adds is one =
       let drawn = so_far.drawn in
       let unseen : has_key (key_of image) (firsts drawn) ≡ false = sym (so_far.keyed (key_of image)) ∙ new in
       let more : firsts (drawn ++ image ∷ []) ≡ firsts drawn ++ image ∷ [] = firsts_more drawn image ∙ ap (λ (b : Bool). firsts drawn ++ if_new b image) unseen in
@@ -118,6 +127,7 @@ module _ (Says : List (Option (List ℕ)) → Answer → Type 0) (j : Judging) (
         drawn = drawn ++ image ∷ [];
         number = omega (arith, so_far.number, length-append drawn (image ∷ []));
         left = All-append (MayLeave s) drawn (image ∷ []) so_far.left (all_one (MayLeave s) image left);
+        torn = all_from (IsTornIfAny s) j.plan.images drawn image so_far.torn (λ more. torn (omega (arith, more, so_far.number)));
         once = map-append (λ (y : Judged). y.image) judged (x ∷ [])
             ∙ ap (λ (l : List (List (Option (List ℕ)))). l ++ x.image ∷ []) so_far.once
             ∙ ap (λ (y : List (Option (List ℕ))). firsts drawn ++ y ∷ []) is
@@ -140,9 +150,9 @@ module _ (Says : List (Option (List ℕ)) → Answer → Type 0) (j : Judging) (
           both false false = refl
 
   -- one of a key that was there is drawn
-  pub surveyed_same : (n : ℕ) (has has_then : ℕ → Bool) (judged : List Judged) (image : List (Option (List ℕ))) → IsSurveyed Says j s known n has judged → MayLeave s image
+  pub surveyed_same : (n : ℕ) (has has_then : ℕ → Bool) (judged : List Judged) (image : List (Option (List ℕ))) → IsSurveyed Says j s known n has judged → MayLeave s image → (j.plan.images ≤ n → IsTornIfAny s image)
       → has (key_of image) ≡ true → ((q : ℕ) → has_then q ≡ has q) → IsSurveyed Says j s known (n + 1) has_then judged
-  surveyed_same n has has_then judged image so_far left seen same =
+  surveyed_same n has has_then judged image so_far left torn seen same =
       let drawn = so_far.drawn in
       let there : has_key (key_of image) (firsts drawn) ≡ true = sym (so_far.keyed (key_of image)) ∙ seen in
       let more : firsts (drawn ++ image ∷ []) ≡ firsts drawn = firsts_more drawn image ∙ ap (λ (b : Bool). firsts drawn ++ if_new b image) there ∙ append-nil (firsts drawn) in
@@ -150,6 +160,7 @@ module _ (Says : List (Option (List ℕ)) → Answer → Type 0) (j : Judging) (
         drawn = drawn ++ image ∷ [];
         number = omega (arith, so_far.number, length-append drawn (image ∷ []));
         left = All-append (MayLeave s) drawn (image ∷ []) so_far.left (all_one (MayLeave s) image left);
+        torn = all_from (IsTornIfAny s) j.plan.images drawn image so_far.torn (λ more. torn (omega (arith, more, so_far.number)));
         once = so_far.once ∙ sym more;
         each = so_far.each;
         keyed = λ q. same q ∙ so_far.keyed q ∙ ap (λ (l : List (List (Option (List ℕ)))). has_key q l) (sym more);

@@ -1,9 +1,10 @@
 -- The images of a point are judged, counted and told (own).
-use Rattle.std.specs.Prelude.{◌≡◌, ℕ, ◌+◌, not, nat_eq, List, [], ◌∷◌, ◌++◌, length, map, fold, Option}
+use Rattle.std.specs.Prelude.{◌≡◌, ℕ, ◌+◌, ◌/◌, cond, not, nat_eq, List, [], ◌∷◌, ◌++◌, length, map, drop, fold, Option}
 use Rattle.std.specs.List.{All, filter}
 use Rattle.std.specs.String.{string_bytes}
 use Rattle.sqstore.specs.Left.{MayLeave}
 use Rattle.sqstore.specs.Stores.{StoreState}
+use Rattle.sqstore.specs.Torn.{IsTornIfAny}
 use Rattle.sqcrash_store.specs.Keys.{key_of}
 use Rattle.sqcrash_store.specs.Lines.{finding_text}
 use Rattle.sqcrash_store.specs.Tallies.{with_image}
@@ -58,10 +59,20 @@ abbrev pub firsts : List (List (Option (List ℕ))) → List (List (Option (List
 firsts [] = []
 firsts (x ∷ images) = x ∷ filter (λ y. not (nat_eq (key_of x) (key_of y))) (firsts images)
 
--- The images of a point: as many are drawn as are asked for, of those that a crash may leave, and of these each is judged, once.
+-- a third, and one where that leaves something
+abbrev pub third_of : ℕ → ℕ
+third_of n = (n + 2) / 3
+
+-- how many images are drawn at a point: as many as are asked for, and where sectors tear a third more
+abbrev pub drawn_count : Plan → ℕ
+drawn_count plan = plan.images + cond plan.tears (third_of plan.images) 0
+
+-- The images of a point: so many are drawn of those that a crash may leave; those that are more than asked for have a torn sector,
+-- where one may tear; and of these images each is judged, once.
 pub record IsSurvey (Says : List (Option (List ℕ)) → Answer → Type 0) (j : Judging) (s : StoreState) (known : ℕ) (judged : List Judged) : Type 0 where
   pub drawn : List (List (Option (List ℕ)))
-  pub number : length drawn ≡ j.plan.images
+  pub number : length drawn ≡ drawn_count j.plan
   pub left : All (MayLeave s) drawn
+  pub torn : All (IsTornIfAny s) (drop j.plan.images drawn)
   pub once : map (λ x. x.image) judged ≡ firsts drawn
   pub each : All (IsJudged Says j.states known) judged

@@ -156,7 +156,7 @@ fn with_draws<'a>(alloc: Global, command: Command<'a>) -> Result<Command<'a>, Al
         alloc,
         "images",
         "N",
-        "The most images at a point, 100 if left out",
+        "The most images at a point, 100 if left out; where sectors tear a third more, torn ones",
         ValueParser::unsigned(1, u64::MAX),
     );
     let seed = option(

@@ -13,7 +13,7 @@ pub struct Plan {
     pub tears: bool,
     /// How names and lengths become durable.
     pub meta: Meta,
-    /// How many images are drawn at a point.
+    /// How many images are drawn at a point; where sectors tear a third more, with a torn one.
     pub images: u64,
     /// What the draws begin with.
     pub seed: u64,

@@ -1,12 +1,13 @@
 //! The images of a point are judged, counted and told (own).
-ghost use Rattle.std.specs.Prelude.{◌≡◌, ℕ, List, IfOk};
+ghost use Rattle.std.specs.Prelude.{◌≡◌, ◌≤◌, ℕ, List, IfOk};
 ghost use Rattle.std.specs.Io.KnownBytes.{Appends};
-ghost use Rattle.sqstore.specs.Left.{image_of};
+ghost use Rattle.sqstore.specs.Left.{image_of, MayLeave};
 ghost use Rattle.sqstore.specs.Stores.{store_of};
+ghost use Rattle.sqstore.specs.Torn.{IsTornIfAny};
 ghost use Rattle.sqcrash_store.specs.Keys.{key_of};
 ghost use Rattle.sqcrash_store.specs.Tallies.{with_image};
 ghost use Rattle.sqcrash_store.specs.Surveys.{Judged, IsJudged, IsSurvey, judging_of};
-ghost use Rattle.sqcrash_store.specs.Surveys.{with_images, line_of, lines_from, place_of};
+ghost use Rattle.sqcrash_store.specs.Surveys.{with_images, line_of, lines_from, place_of, third_of, drawn_count};
 
 use crate::asking::Judge;
 use crate::lines::{Place, write_finding};
@@ -15,7 +16,7 @@ use crate::plan::Plan;
 use crate::tally::Tally;
 use crate::verdict::{Answer, verdict_of};
 use rand_core::Rng;
-use sqstore::{Image, Store, draw};
+use sqstore::{Image, Store, draw, draw_torn};
 use std::alloc::Global;
 use std::collections::HashSet;
 use std::hash::{FoldHasher, Hasher};
@@ -99,6 +100,43 @@ fn judge_one<J: Judge, O: Write>(
     Ok(tally)
 }
 
+/// A third, and one where that leaves something.
+fn third_of(images: u64) -> u64
+    ensures { result ≡ third_of images }
+{
+    images / 3 + u64::from(images % 3 > 0)
+}
+
+/// How many images are drawn at a point: where sectors tear, a third more.
+fn drawn_count(plan: Plan) -> Result<u64, Refusal>
+    ensures { IfOk result (λ n. n ≡ drawn_count plan) }
+{
+    if !plan.tears {
+        return Ok(plan.images);
+    }
+    match plan.images.checked_add(third_of(plan.images)) {
+        Some(count) => Ok(count),
+        None => Err(Refusal::TooMany),
+    }
+}
+
+/// The image of a number, drawn: those that are a third more have a torn sector, where one may tear.
+fn draw_one<R: Rng>(
+    bench: &Bench<'_>,
+    rng: &mut R,
+    store: &Store,
+    number: u64,
+) -> Result<Image, Refusal>
+    ensures left { IfOk result (λ image. MayLeave (store_of store.now) (image_of image)) }
+    ensures torn { IfOk result (λ image. bench.now.plan.images ≤ number
+        → IsTornIfAny (store_of store.now) (image_of image)) }
+{
+    if number < bench.plan.images {
+        return Ok(draw(bench.alloc, rng, store)?);
+    }
+    Ok(draw_torn(bench.alloc, rng, store)?)
+}
+
 /// Judges images that are drawn of those that a crash may leave at a point, each once.
 pub fn survey<R: Rng, J: Judge, O: Write>(
     judge: &mut J,
@@ -116,8 +154,9 @@ pub fn survey<R: Rng, J: Judge, O: Write>(
     let mut keys = HashSet::new(bench.alloc);
     let mut tally = before;
     let mut number = 0;
-    for _ in 0..bench.plan.images {
-        let image = draw(bench.alloc, rng, point.store)?;
+    let count = drawn_count(bench.plan)?;
+    for n in 0..count {
+        let image = draw_one(bench, rng, point.store, n)?;
         if !keys.insert(key_of(&image))? {
             continue;
         }

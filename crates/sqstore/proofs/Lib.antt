@@ -1,3 +1,4 @@
 pub mod ConsecutiveCalls
 pub mod ListsThatGrow
 pub mod NamesShown
+pub mod NamesWithTornFiles

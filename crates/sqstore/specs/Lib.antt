@@ -2,4 +2,5 @@ pub mod Calls
 pub mod Names
 pub mod Stores
 pub mod Left
+pub mod Torn
 pub mod internal

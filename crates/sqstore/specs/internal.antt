@@ -2,3 +2,4 @@
 pub mod Calls
 pub mod Goings
 pub mod Showing
+pub mod Tearing

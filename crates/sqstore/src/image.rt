@@ -32,7 +32,7 @@ fn draw_file<R: Rng>(alloc: Global, rng: &mut R, file: &Player) -> Result<Vec<u8
 }
 
 /// The same of each file.
-fn draw_files<R: Rng>(
+pub(crate) fn draw_files<R: Rng>(
     alloc: Global,
     rng: &mut R,
     files: &[Player],
@@ -69,7 +69,7 @@ fn present_files(alloc: Global, files: &[Player]) -> Result<Vec<Vec<u8>>, StoreE
 }
 
 /// How many changes of names a crash leaves, drawn.
-fn draw_stand<R: Rng>(rng: &mut R, store: &Store) -> usize
+pub(crate) fn draw_stand<R: Rng>(rng: &mut R, store: &Store) -> usize
     ensures { MayStand (store_of store.now) result }
 {
     let more = store.log.len() - store.durable;
@@ -98,7 +98,7 @@ fn shown(
 }
 
 /// The same of a name, where a crash may leave so many of all names.
-fn draw_next<R: Rng>(rng: &mut R, store: &Store, all: usize) -> usize
+pub(crate) fn draw_next<R: Rng>(rng: &mut R, store: &Store, all: usize) -> usize
     requires { MayStand (store_of store.now) all }
     ensures stand { MayStand (store_of store.now) result }
     ensures same { is_ordered (store_of store.now).meta ≡ true → result ≡ all }
@@ -123,7 +123,7 @@ fn draw_stands<R: Rng>(alloc: Global, rng: &mut R, store: &Store) -> Result<Vec<
 }
 
 /// What the names show of files with these contents, each behind so many changes of names.
-fn show(
+pub(crate) fn show(
     alloc: Global,
     store: &Store,
     contents: &[Vec<u8>],

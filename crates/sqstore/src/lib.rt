@@ -7,9 +7,11 @@ mod image;
 mod resized;
 mod store;
 mod table;
+mod torn;
 
 pub use call::{Action, Call, Trace};
 pub use error::StoreError;
 pub use image::{Image, draw, present};
 pub use store::Store;
 pub use table::Naming;
+pub use torn::draw_torn;

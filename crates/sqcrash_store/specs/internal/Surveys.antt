@@ -1,8 +1,9 @@
 -- Images that are drawn one after the other, as far as that has come (own).
-use Rattle.std.specs.Prelude.{◌≡◌, ℕ, Bool, nat_eq, List, length, map, Option}
+use Rattle.std.specs.Prelude.{◌≡◌, ℕ, Bool, nat_eq, List, length, map, drop, Option}
 use Rattle.std.specs.List.{All, list_any}
 use Rattle.sqstore.specs.Left.{MayLeave}
 use Rattle.sqstore.specs.Stores.{StoreState}
+use Rattle.sqstore.specs.Torn.{IsTornIfAny}
 use Rattle.sqcrash_store.specs.Keys.{key_of}
 use Rattle.sqcrash_store.specs.Surveys.{Judging, Judged, IsJudged, firsts}
 use Rattle.sqcrash_store.specs.declared.verdict.Answer.{Answer}
@@ -16,6 +17,7 @@ pub record IsSurveyed (Says : List (Option (List ℕ)) → Answer → Type 0) (j
   pub drawn : List (List (Option (List ℕ)))
   pub number : length drawn ≡ n
   pub left : All (MayLeave s) drawn
+  pub torn : All (IsTornIfAny s) (drop j.plan.images drawn)
   pub once : map (λ x. x.image) judged ≡ firsts drawn
   pub each : All (IsJudged Says j.states known) judged
   pub keyed : (q : ℕ) → has q ≡ has_key q (firsts drawn)

@@ -7,7 +7,7 @@ use Rattle.std.specs.List.{list_any}
 use Rattle.sqstore.specs.Left.{image_of}
 use Rattle.sqstore.specs.Stores.{store_of}
 use Rattle.sqcrash_store.specs.Keys.{key_of}
-use Rattle.sqcrash_store.specs.Surveys.{IsJudged, judging_of, place_of, line_of, lines_from}
+use Rattle.sqcrash_store.specs.Surveys.{IsJudged, drawn_count, judging_of, place_of, line_of, lines_from}
 use Rattle.sqcrash_store.specs.Tallies.{with_image}
 use Rattle.sqcrash_store.specs.declared.lines.Place.{Place}
 use Rattle.sqcrash_store.specs.declared.tally.Tally.{Tally}
@@ -23,8 +23,8 @@ not_true : (b : Bool) → true ≡ not b → b ≡ false
 not_true true e = absurd (cc e)
 not_true false e = refl
 
-pub loop-init : goal.loop-init
-loop-init g c =
+pub loop-n-init : goal.loop-n-init
+loop-n-init g c =
     let point = c.args.point.now in
     let empty : (q : ℕ) → contains nat_eq c.new-keys.result q ≡ false = λ q. ap (λ (l : List ℕ). list_any (nat_eq q) l) c.new-keys.ensures.empty in (
       [],
@@ -34,31 +34,31 @@ loop-init g c =
       appends_none (g.O.Write.contents c.args.out.now),
     )
 
-pub loop-preserved-then-not-branch : goal.loop-preserved-then-not-branch
-loop-preserved-then-not-branch g c =
+pub loop-n-preserved-then-not-branch : goal.loop-n-preserved-then-not-branch
+loop-n-preserved-then-not-branch g c =
     let point = c.args.point.now in
-    let so_far = c.loop.invariant in
+    let so_far = c.loop-n.invariant in
     let image = image_of c.in_ok-image.image in
-    let old = c.loop.keys in
+    let old = c.loop-n.keys in
     let new = c.insert.new.self in
     let added : false ≡ not (contains nat_eq old (key_of image)) = sym c.if-not-branch.true ∙ c.in_ok-insert.ensures.added ∙ ap (λ (k : ℕ). not (contains nat_eq old k)) c.key_of.ensures in
     let same : IsUnchanged old new = subst (λ (b : Bool). OnFalse b (IsUnchanged old new)) c.if-not-branch.true c.in_ok-insert.ensures.unchanged in (
       so_far.0,
-      surveyed_same g.J.Judge.says (judging_of c.args.bench.now) (store_of point.store.now) point.known c.loop.counter (λ q. contains nat_eq old q) (λ q. contains nat_eq new q) so_far.0 image so_far.1 c.in_ok-image.ensures
+      surveyed_same g.J.Judge.says (judging_of c.args.bench.now) (store_of point.store.now) point.known c.loop-n.n (λ q. contains nat_eq old q) (λ q. contains nat_eq new q) so_far.0 image so_far.1 c.in_ok-image.ensures.left c.in_ok-image.ensures.torn
           (not_false (contains nat_eq old (key_of image)) added) (λ q. ap (λ (l : List ℕ). list_any (nat_eq q) l) same),
       so_far.2,
       so_far.3,
       so_far.4,
     )
 
-pub loop-preserved : goal.loop-preserved
-loop-preserved g c =
+pub loop-n-preserved : goal.loop-n-preserved
+loop-n-preserved g c =
     let point = c.args.point.now in
     let bench = c.args.bench.now in
-    let so_far = c.loop.invariant in
+    let so_far = c.loop-n.invariant in
     let judged = so_far.0 in
     let image = image_of c.in_ok-image.image in
-    let old = c.loop.keys in
+    let old = c.loop-n.keys in
     let new = c.insert.new.self in
     let added : true ≡ not (contains nat_eq old (key_of image)) = sym c.if-not-branch.false ∙ c.in_ok-insert.ensures.added ∙ ap (λ (k : ℕ). not (contains nat_eq old k)) c.key_of.ensures in
     let adds : (q : ℕ) → contains nat_eq new q ≡ cond (nat_eq (key_of image) q) true (contains nat_eq old q) = λ q.
@@ -66,15 +66,15 @@ loop-preserved g c =
     let one = c.in_ok-tally.ensures in
     let x = one.0 in
     let first : Place = place_of point 0 in
-    let count : c.loop.number ≡ 0 + length judged = omega (arith, so_far.2) in
+    let count : c.loop-n.number ≡ 0 + length judged = omega (arith, so_far.2) in
     let at : c.place.result ≡ record first { image = 0 + length judged } = c.place.ensures ∙ ap (λ (n : ℕ). place_of point n) count in
     let out = g.O.Write.contents c.args.out.now in
-    let mid = g.O.Write.contents c.loop.out in
+    let mid = g.O.Write.contents c.loop-n.out in
     let end = g.O.Write.contents c.judge_one.new.out in
     let line : List ℕ = line_of (record first { image = 0 + length judged }) x in
     let written : Appends mid end line = subst (λ (p : Place). Appends mid end (line_of p x)) at one.4 in (
       judged ++ x ∷ [],
-      surveyed_new g.J.Judge.says (judging_of bench) (store_of point.store.now) point.known c.loop.counter (λ q. contains nat_eq old q) (λ q. contains nat_eq new q) judged image x so_far.1 c.in_ok-image.ensures
+      surveyed_new g.J.Judge.says (judging_of bench) (store_of point.store.now) point.known c.loop-n.n (λ q. contains nat_eq old q) (λ q. contains nat_eq new q) judged image x so_far.1 c.in_ok-image.ensures.left c.in_ok-image.ensures.torn
           (not_true (contains nat_eq old (key_of image)) added) adds one.1 (subst (λ (p : Place). IsJudged g.J.Judge.says bench.states.now p.known x) c.place.ensures one.2),
       omega (arith, so_far.2, c.in_ok-number.ensures, length-append judged (x ∷ [])),
       one.3 ∙ ap (λ (t : Tally). with_image t x.verdict) so_far.3 ∙ sym (images_more c.args.before judged x),
@@ -83,11 +83,12 @@ loop-preserved g c =
 
 pub returns : goal.returns
 returns g c =
-    let so_far = c.loop.invariant in
+    let so_far = c.loop-n.invariant in
     let seen = so_far.1 in
-    let end : length seen.drawn ≡ c.args.bench.now.plan.images = omega (arith, seen.number) in (
+    let all : c.loop-n.n ≡ c.in_ok-count.count = omega (arith, c.loop-n-test.false, c.loop-n.auto.n-end) in
+    let end : length seen.drawn ≡ drawn_count c.args.bench.now.plan = seen.number ∙ all ∙ c.in_ok-count.ensures in (
       so_far.0,
-      record { drawn = seen.drawn; number = end; left = seen.left; once = seen.once; each = seen.each },
+      record { drawn = seen.drawn; number = end; left = seen.left; torn = seen.torn; once = seen.once; each = seen.each },
       so_far.3,
       so_far.4,
     )

@@ -6,9 +6,9 @@ use Rattle.sqcrash_store.specs.Surveys.{Judged, judging_of, with_images, lines_f
 use Rattle.sqcrash_store.specs.internal.Surveys.{IsSurveyed}
 use Rattle.sqcrash_store.proofs.survey.survey.Given as goal
 
-abbrev pub invariant-loop : goal.invariant-loop
-invariant-loop g l = (judged : List Judged)
-    × IsSurveyed g.J.Judge.says (judging_of l.bench) (store_of l.point.store.now) l.point.known l.counter (λ q. contains nat_eq l.keys q) judged
+abbrev pub invariant-loop-n : goal.invariant-loop-n
+invariant-loop-n g l = (judged : List Judged)
+    × IsSurveyed g.J.Judge.says (judging_of l.bench) (store_of l.point.store.now) l.point.known l.n (λ q. contains nat_eq l.keys q) judged
     × (l.number ≡ length judged)
     × (l.tally ≡ with_images l.fn.before judged)
     × Appends (g.O.Write.contents l.initial.out) (g.O.Write.contents l.out) (lines_from (place_of l.point 0) judged)
