@@ -201,6 +201,15 @@ pub(crate) fn places_arg<'a>(alloc: Global) -> Arg<'a> {
     )
 }
 
+/// What `report` shows besides.
+pub(crate) fn changes_arg<'a>(alloc: Global) -> Arg<'a> {
+    flag(
+        alloc,
+        "changes",
+        "Shows the rows that each commit of the write-ahead log changed, too",
+    )
+}
+
 /// What `check` checks besides.
 pub(crate) fn deep_arg<'a>(alloc: Global) -> Arg<'a> {
     flag(

@@ -65,8 +65,9 @@ pub(crate) const RECOVER: &str = "Examples:
 Exit status: 0 done; 2 not understood; 3 refused: then nothing was written, but after an I/O error.";
 
 /// Behind those of `report`.
-pub(crate) const REPORT: &str = "Example:
-  sqrescue report ledger.db --to report.html
+pub(crate) const REPORT: &str = "Examples:
+  sqrescue report ledger.db --to report.html            its pages, trees and log
+  sqrescue report ledger.db --to report.html --changes  and the rows that each commit changed
 
 Exit status: 0 done, of a damaged database too; 2 not understood; 3 refused.";
 

@@ -83,7 +83,7 @@ fn print_range<F: FileBytes + Copy + Drop, W: Write>(
 }
 
 /// The log that counts of these files. Refused as `log_of` is.
-fn found_of<F: FileBytes + Copy + Drop>(
+pub(crate) fn found_of<F: FileBytes + Copy + Drop>(
     alloc: Global,
     limits: Limits,
     files: &Files<F>,

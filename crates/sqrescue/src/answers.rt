@@ -1,6 +1,9 @@
 //! What a command comes to, by what it found.
-ghost use Rattle.std.specs.Prelude.{◌≡◌, Err, IfErr};
-ghost use Rattle.sqrescue.specs.Answers.{answer_named};
+ghost use Rattle.std.specs.Prelude.{◌≡◌};
+ghost use Rattle.sqopen.specs.Files.{opened_bytes};
+ghost use Rattle.sqrescue.specs.Answers.{Tells, answer_named, answer_of_finding, answer_of_shown};
+ghost use Rattle.sqrescue.specs.Comes.{Comes};
+ghost use Rattle.sqrescue.specs.Opened.{GivesBytes};
 
 use crate::checking::write_checked;
 use crate::commands::{Command, Finding};
@@ -66,6 +69,8 @@ pub(crate) fn answered<R: Files + AllocGlobal + Clock, M: Count, O: Write, E: Wr
 ) -> Result<Answer, ShowError>
 where
     R::File: SystemFile,
+    ensures { Comes (opened_bytes R.File.bytes) (GivesBytes R.File.bytes R.File.keeps_word R.File.never_fails)
+        job.entry.now.source.now command.entry.now result }
 {
     let of = (job.rt.alloc(), job.source.options.style);
     if !command.prints_meanwhile() {
@@ -93,7 +98,9 @@ fn written<F: FileBytes + Drop, W: Write, E: Write>(
     found: Finding<F>,
     out: &mut W,
     notes: &mut Notes<'_, E>,
-) -> Result<Answer, ShowError> {
+) -> Result<Answer, ShowError>
+    ensures { Tells (answer_of_finding found) result }
+{
     let (alloc, style) = of;
     match found {
         Finding::Checked(found) => write_checked(out, style, &found.verdict, notes),
@@ -110,7 +117,7 @@ fn write_shown<W: Write, E: Write>(
     shown: Result<Option<Front>, ShowError>,
     notes: &mut Notes<'_, E>,
 ) -> Result<Answer, ShowError>
-    ensures { IfErr shown (λ error. result ≡ Err error) }
+    ensures { Tells (answer_of_shown shown) result }
 {
     match shown {
         Ok(_) => {

@@ -1,9 +1,9 @@
 //! What `check` prints.
-ghost use Rattle.std.specs.Prelude.{◌≡◌, IfOk, OnOk};
+ghost use Rattle.std.specs.Prelude.{Ok, OnOk};
 ghost use Rattle.std.specs.Io.KnownBytes.{Appends};
 ghost use Rattle.sqdeepshown.specs.Lines.{found_text};
 ghost use Rattle.sqdeepjudge.specs.Verdicts.{is_damaged};
-ghost use Rattle.sqrescue.specs.Answers.{answer_named};
+ghost use Rattle.sqrescue.specs.Answers.{Tells, answer_named};
 
 use crate::answers::Answer;
 use sqdeepjudge::DeepVerdict;
@@ -25,7 +25,7 @@ pub(crate) fn write_checked<O: Write, E: Write>(
     verdict: &DeepVerdict,
     notes: &Notes<'_, E>,
 ) -> Result<Answer, ShowError>
-    ensures answer { IfOk result (λ answer. answer ≡ answer_named (is_damaged verdict.now)) }
+    ensures answer { Tells (Ok (answer_named (is_damaged verdict.now))) result }
     ensures text { OnOk result (Appends (O.contents out.old) (O.contents out.new) (found_text style verdict.now)) }
 {
     write_found(out, style, verdict)?;
@@ -39,21 +39,16 @@ pub(crate) fn write_checked<O: Write, E: Write>(
     Ok(Answer::of(verdict.is_damaged()))
 }
 
-/// Says that the kind of a table's tree isn't judged.
-fn tell_aside<E: Write>(name: &[u8], notes: &Notes<'_, E>) {
-    let name = Quoted(str::from_utf8(name).unwrap_or("?"));
-    notes.say(&format_args!(
-        "not judged: the kind of the tree of {name}, a table whose text isn't understood"
-    ));
-}
-
-/// Says it of each table whose text isn't understood.
+/// Says of each table whose text isn't understood that the kind of its tree isn't judged.
 fn tell_asides<E: Write>(verdict: &DeepVerdict, notes: &Notes<'_, E>) {
     for i in 0..usize::MAX {
         let Some(name) = verdict.aside(i) else {
             return;
         };
-        tell_aside(name, notes);
+        let name = Quoted(str::from_utf8(name).unwrap_or("?"));
+        notes.say(&format_args!(
+            "not judged: the kind of the tree of {name}, a table whose text isn't understood"
+        ));
     }
 }
 

@@ -51,6 +51,12 @@ impl Wants {
         ahead: PIECE,
         is_counted: true,
     };
+
+    /// The same, whose reading isn't counted.
+    pub(crate) const UNCOUNTED: Wants = Wants {
+        is_counted: false,
+        ..Wants::PAGES
+    };
 }
 
 /// What a command finds of files.
@@ -74,10 +80,7 @@ impl Command<'_> {
                 ahead: 0,
                 is_counted: false,
             },
-            Command::Rows(_) => Wants {
-                is_counted: false,
-                ..Wants::PAGES
-            },
+            Command::Rows(_) => Wants::UNCOUNTED,
         }
     }
 

@@ -1,5 +1,6 @@
 //! A file that holds what a recovery would leave in a database file, of which nothing is written.
 ghost use Rattle.std.specs.Prelude.{◌≡◌, ◌≢◌};
+ghost use Rattle.sqrescue.specs.Reads.{IsDoneOr};
 
 use crate::answers::Answer;
 use crate::jobs::Job;
@@ -81,6 +82,7 @@ pub(crate) fn recover_to<R: Files + AllocGlobal + Clock, M: Count, O: Write, E: 
 ) -> Result<Answer, ShowError>
 where
     R::File: SystemFile,
+    ensures { IsDoneOr result }
 {
     let before = job.before(false, notes)?;
     thread::sleep(job.rt, wait_for(job.rt, &before));

@@ -54,7 +54,10 @@ where
         return locking::answered(rt, first.as_slice(), out, err);
     }
     if asks_locks(apart) {
-        return tell_count(rt.alloc(), places.len(), out);
+        // Each has locks of its own.
+        let (alloc, count) = (rt.alloc(), places.len());
+        let text = format!(in alloc; "each {count}\n")?;
+        return Ok(told(out, text.as_str()));
     }
     each_of(rt, apart, places, out, err)
 }
@@ -65,14 +68,6 @@ fn asks_locks(apart: &Apart<'_>) -> bool {
         Some((word, _)) => word == "--locks",
         None => false,
     }
-}
-
-/// Says how many files there are, each of which has locks of its own.
-fn tell_count<O: Write>(alloc: Global, count: usize, out: &mut O) -> io::Result<u8>
-    ensures { IfOk result (λ status. status ≤ 3) }
-{
-    let text = format!(in alloc; "each {count}\n")?;
-    Ok(told(out, text.as_str()))
 }
 
 /// Whether each answer is an object.
@@ -118,14 +113,6 @@ fn is_understood(alloc: Global, line: &[&str]) -> bool {
     }
 }
 
-/// The word at a place.
-fn word_at<'a>(words: &'a [&'a str], place: usize) -> &'a str {
-    match words.get(place) {
-        Some(word) => word,
-        None => "",
-    }
-}
-
 /// Carries out the line with one of its files, of which each line that is printed says that it is.
 fn one_of<R: Files + AllocGlobal + Clock, O: Write, E: Write + IsTerminal>(
     rt: &R,
@@ -139,7 +126,7 @@ where
     ensures { IfOk result (λ status. status ≤ 3) }
 {
     let line = line_for(rt.alloc(), apart.starter, apart.words.as_slice(), place)?;
-    let file = word_at(apart.words.as_slice(), place);
+    let file = apart.words.get(place).copied().unwrap_or("");
     let mut out = Prefixed::new(out, file, is_json(apart.words.as_slice()));
     let mut err = Prefixed::new(err, file, false);
     locking::answered(rt, line.as_slice(), &mut out, &mut err)

@@ -1,6 +1,10 @@
 //! The locks under which a command line is carried out.
 ghost use Rattle.std.specs.Prelude.{◌≡◌, ◌≤◌, IfOk};
+ghost use Rattle.sqheld.specs.Todo.{texts};
+ghost use Rattle.sqopen.specs.Files.{opened_bytes};
 ghost use Rattle.sqrescue.specs.Locking.{refusal_of};
+ghost use Rattle.sqrescue.specs.Opened.{GivesBytes};
+ghost use Rattle.sqrescue.specs.Runs.{EndsLine};
 
 use crate::program::{self, Under};
 use sqfacts::{Refusal, SystemFile};
@@ -31,16 +35,19 @@ pub(crate) fn answered<R: Files + AllocGlobal + Clock, O: Write, E: Write + IsTe
 ) -> io::Result<u8>
 where
     R::File: SystemFile,
-    ensures { IfOk result (λ status. status ≤ 3) }
+    ensures ends { IfOk result (EndsLine (opened_bytes R.File.bytes)
+        (GivesBytes R.File.bytes R.File.keeps_word R.File.never_fails) (texts words.entry.now)) }
+    ensures least { IfOk result (λ status. status ≤ 3) }
 {
     match prepared(rt, words)? {
         Todo::Run { words, locks, wait } => {
-            Ok(program::run(rt, words.as_slice(), Under::Locks(locks, wait), out, err))
+            let under = Under::Locks(locks, wait);
+            Ok(program::run(rt, words.as_slice(), under, out, err).code())
         }
         Todo::Tell(text) => Ok(program::told(out, text.as_str())),
         Todo::Refuse(words, why) => {
             let under = Under::Refused(refusal_of(why));
-            Ok(program::run(rt, words.as_slice(), under, out, err))
+            Ok(program::run(rt, words.as_slice(), under, out, err).code())
         }
     }
 }

@@ -21,6 +21,7 @@ mod pages;
 mod plans;
 mod prefixed;
 mod program;
+mod readings;
 mod recovering;
 mod reports;
 mod rows;

@@ -1,7 +1,7 @@
 //! What `show --pages` prints.
-ghost use Rattle.std.specs.Prelude.{◌≡◌, IfOk};
+ghost use Rattle.std.specs.Prelude.{◌≡◌, IfOk, Ok};
 ghost use Rattle.sqshown.specs.Found.{fault_in};
-ghost use Rattle.sqrescue.specs.Answers.{answer_of_fault};
+ghost use Rattle.sqrescue.specs.Answers.{Tells, answer_of_fault};
 
 use crate::answers::Answer;
 use sqfacts::Refusal;
@@ -21,7 +21,7 @@ pub(crate) fn write_surveyed<F: FileBytes, O: Write>(
     found: &Found<F>,
     out: &mut O,
 ) -> Result<Answer, ShowError>
-    ensures { IfOk result (λ answer. answer ≡ answer_of_fault (fault_in found.now)) }
+    ensures { Tells (Ok (answer_of_fault (fault_in found.now))) result }
 {
     match BufWriter::with_capacity(alloc, PIECE, out) {
         Ok(mut lines) => Ok(write_lines(style, found, &mut lines)?),

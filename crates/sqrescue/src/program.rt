@@ -1,25 +1,28 @@
 //! The program over a runtime's files and two writers.
-ghost use Rattle.std.specs.Prelude.{◌≡◌, ◌≤◌};
+ghost use Rattle.std.specs.Prelude.{◌≡◌, ◌⊎◌, IsTrue, map};
+ghost use Rattle.sqopen.specs.Files.{opened_bytes};
 ghost use Rattle.sqrescue.specs.Answers.{status_named};
+ghost use Rattle.sqrescue.specs.Opened.{GivesBytes};
+ghost use Rattle.sqrescue.specs.Reads.{IsRead, ReadsTo};
+ghost use Rattle.sqrescue.specs.Runs.{AsksHelp, ComesUnder, Ends, EndsUnasked, MayAskHelp};
 
 use crate::answers::{Answer, answered};
 use crate::attempts::{Begun, Until};
-use crate::commands::Command;
 use crate::copies::recover_to;
 use crate::diffs::print_diff;
 use crate::hints::next_step;
 use crate::jobs::Job;
+use crate::readings::{Read, Reading, read_for};
 use crate::recovering::recover;
 use crate::reports::report_to;
 use crate::salvages::salvage_to;
 use crate::sources::{Source, Watch, alone, source_of};
 use sqcommands::{LineError, request};
-use sqdump::Wanted;
 use sqfacts::{NoteWriter, Notes, Refusal, Status, SystemFile};
 use sqheld::Locks;
 use sqopen::Progress;
-use sqshown::{ShowError, asked_of};
-use sqwords::{Compared, Options, Part, Request, Style};
+use sqshown::ShowError;
+use sqwords::{Options, Request, Style};
 use std::fmt::Display;
 use std::io::{self, IsTerminal, Write};
 use std::rt::Files;
@@ -36,31 +39,72 @@ pub(crate) enum Under {
     Refused(Refusal),
 }
 
-/// Carries out a command line, whose first word is the program's name, and answers the program's status: 0 where it is
-/// done (also for help), 1 where damage was found, 2 for words that aren't understood, 3 where it was refused or a
-/// file or a writer failed.
+/// Carries out a command line, whose first word is the program's name, and answers how the run ends: done (also for
+/// help), with damage that was found, with words that aren't understood, or refused, also where a file or a writer
+/// failed.
 pub(crate) fn run<R: Files + AllocGlobal + Clock, O: Write, E: Write + IsTerminal>(
     rt: &R,
     words: &[&str],
     under: Under,
     out: &mut O,
     err: &mut E,
-) -> u8
+) -> Status
 where
     R::File: SystemFile,
-    ensures { result ≤ 3 }
+    ensures { Ends (opened_bytes R.File.bytes) (GivesBytes R.File.bytes R.File.keeps_word R.File.never_fails) under
+        (map (λ w. w.now) words.entry.now) result }
 {
-    let ended = match request(rt.alloc(), words) {
+    match request(rt.alloc(), words) {
         Ok(request) => {
-            let options = options_of(&request);
+            let is_json = is_json(options_of(&request));
             let answer = noted(rt, request, under, out, err);
-            status_of(answer, is_json(options), out, err)
+            status_of(answer, is_json, out, err)
         }
-        Err(LineError::Help(help)) => printed(out, &help, Status::Done),
-        Err(LineError::NotUnderstood(fault)) => printed(err, &fault, Status::NotUnderstood),
-        Err(LineError::NoMemory) => refused(err, &LineError::NoMemory),
-    };
-    ended.code()
+        Err(error) => unasked(words, &error, out, err),
+    }
+}
+
+/// How a run ends whose words ask for nothing, or for help.
+fn unasked<O: Write, E: Write>(
+    words: &[&str],
+    error: &LineError,
+    out: &mut O,
+    err: &mut E,
+) -> Status
+    ensures { EndsUnasked (map (λ w. w.now) words.entry.now) result }
+{
+    match error {
+        LineError::Help(help) if asks_help(words) => printed(out, help, Status::Done),
+        LineError::Help(fault) | LineError::NotUnderstood(fault) => {
+            printed(err, fault, Status::NotUnderstood)
+        }
+        LineError::NoMemory => refused(err, &LineError::NoMemory),
+    }
+}
+
+/// Whether help may be asked for by a word.
+fn is_of_help(word: &str) -> bool
+    ensures { IsTrue result → MayAskHelp word.now }
+{
+    if word == "help" {
+        return true;
+    }
+    match word.strip_prefix("-") {
+        Some(rest) => rest.as_bytes().contains(&b'h'),
+        None => false,
+    }
+}
+
+/// Whether it may be by one of these.
+fn asks_help(words: &[&str]) -> bool
+    ensures { IsTrue result → AsksHelp (map (λ w. w.now) words.entry.now) }
+{
+    for word in words {
+        if is_of_help(word) {
+            return true;
+        }
+    }
+    false
 }
 
 /// The status of a request that came to this. Why it was refused is told.
@@ -92,16 +136,15 @@ fn noted<R: Files + AllocGlobal + Clock, O: Write, E: Write + IsTerminal>(
 ) -> Result<Answer, ShowError>
 where
     R::File: SystemFile,
+    ensures { ComesUnder (opened_bytes R.File.bytes)
+        (GivesBytes R.File.bytes R.File.keeps_word R.File.never_fails) under request.entry result }
 {
     let options = options_of(&request);
     let is_read = err.is_terminal();
     let writer = NoteWriter::new(&mut *err);
     let is_verbose = options.is_some_and(|options| options.verbose);
     let mut notes = Notes::new(&writer, is_verbose, is_read);
-    let answer = match under {
-        Under::Locks(locks, wait) => carried_out(rt, request, (locks, wait), out, &mut notes),
-        Under::Refused(refusal) => Err(ShowError::Refused(refusal)),
-    };
+    let answer = carried_out(rt, request, under, out, &mut notes);
     if let Err(ShowError::Refused(refusal)) = answer {
         let is_large = options.is_some_and(|options| options.large);
         let step = next_step(refusal, notes.cause(), is_large);
@@ -138,27 +181,6 @@ fn tell_locks<E: Write>(locks: Locks, notes: &Notes<'_, E>) {
     }
 }
 
-/// What is done with a database that is only read.
-#[derive(Clone, Copy)]
-enum Reading<'a> {
-    Show(Part),
-    Check { deep: bool },
-    Rows(Wanted<'a>),
-    Diff(Compared<'a>),
-    /// A file of this name is made.
-    Copy(&'a str),
-    Report(&'a str),
-    /// places: with the page and the cell of each row.
-    Salvage { to: &'a str, places: bool },
-}
-
-impl Reading<'_> {
-    /// Whether all of a log is shown.
-    fn is_of_log(self) -> bool {
-        matches!(self, Reading::Show(Part::Log { .. } | Part::Commits))
-    }
-}
-
 /// What a reading of these files comes to.
 fn read_from<R: Files + AllocGlobal + Clock, O: Write, E: Write>(
     rt: &R,
@@ -169,6 +191,8 @@ fn read_from<R: Files + AllocGlobal + Clock, O: Write, E: Write>(
 ) -> Result<Answer, ShowError>
 where
     R::File: SystemFile,
+    ensures { ReadsTo (opened_bytes R.File.bytes)
+        (GivesBytes R.File.bytes R.File.keeps_word R.File.never_fails) reading.entry source.entry.now result }
 {
     let meter = Progress::new(rt, notes.again(), source.options);
     let job = Job {
@@ -176,63 +200,57 @@ where
         source,
         meter: &meter,
     };
-    let mut asked = asked_of(source.options);
-    let command = match reading {
-        Reading::Show(Part::Pages) => Command::Pages(asked),
-        Reading::Show(part) => Command::Show(part),
-        Reading::Check { deep } => {
-            asked.maps.pointer_maps = asked.maps.pointer_maps || deep;
-            Command::Check { asked, deep }
-        }
-        Reading::Rows(wanted) => Command::Rows(wanted),
-        Reading::Diff(compared) => return print_diff(&job, compared, out, notes),
-        Reading::Copy(to) => return recover_to(&job, to, out, notes),
-        Reading::Report(to) => return report_to(&job, to, out, notes),
-        Reading::Salvage { to, places } => return salvage_to(&job, (to, places), out, notes),
-    };
-    answered(&job, &command, out, notes)
-}
-
-/// A reading, and the file that it is of.
-#[derive(Clone, Copy)]
-struct Asked<'a> {
-    reading: Reading<'a>,
-    file: &'a str,
-    options: Options,
+    match reading {
+        Reading::Look(look) => answered(&job, &look.command(source.options), out, notes),
+        Reading::Diff(compared) => print_diff(&job, compared, out, notes),
+        Reading::Copy(to) => recover_to(&job, to, out, notes),
+        Reading::Report { to, changes } => report_to(&job, (to, changes), out, notes),
+        Reading::Salvage { to, places } => salvage_to(&job, (to, places), out, notes),
+    }
 }
 
 /// What a reading comes to under these locks. Where they keep the database file as it is, but its journal was changed,
 /// and nothing was printed yet, the file is read again without it.
 fn read_once<R: Files + AllocGlobal + Clock, O: Write, E: Write>(
     rt: &R,
-    asked: &Asked<'_>,
+    asked: &Read<'_>,
     locks: Locks,
     out: &mut Begun<'_, O>,
     notes: &mut Notes<'_, E>,
 ) -> Result<Answer, ShowError>
 where
     R::File: SystemFile,
+    ensures { IsRead (opened_bytes R.File.bytes)
+        (GivesBytes R.File.bytes R.File.keeps_word R.File.never_fails) asked.entry.now result }
 {
     let reading = asked.reading;
     let of = (asked.file, asked.options);
-    let source = source_of(rt, of, reading.is_of_log(), locks, notes)?;
-    let answer = read_from(rt, reading, &source, out, notes);
-    if source.watch == Watch::Undated && out.is_to_be_read_again(&answer) {
-        return read_from(rt, reading, &alone(source), out, notes);
+    match source_of(rt, of, reading.is_of_log(), locks, notes) {
+        Ok(source) => {
+            let answer = read_from(rt, reading, &source, out, notes);
+            match source.watch {
+                Watch::Undated if out.is_to_be_read_again(&answer) => {
+                    read_from(rt, reading, &alone(source), out, notes)
+                }
+                _ => answer,
+            }
+        }
+        Err(refusal) => Err(ShowError::Refused(refusal)),
     }
-    answer
 }
 
 /// The same, which is made again where others changed what was read, and nothing was printed yet, for so many seconds.
 fn read_under<R: Files + AllocGlobal + Clock, O: Write, E: Write>(
     rt: &R,
-    asked: &Asked<'_>,
+    asked: &Read<'_>,
     under: (Locks, u32),
     out: &mut O,
     notes: &mut Notes<'_, E>,
 ) -> Result<Answer, ShowError>
 where
     R::File: SystemFile,
+    ensures { IsRead (opened_bytes R.File.bytes)
+        (GivesBytes R.File.bytes R.File.keeps_word R.File.never_fails) asked.entry.now result }
 {
     let (locks, wait) = under;
     let until = Until::new(rt, wait);
@@ -246,91 +264,44 @@ where
     Err(ShowError::Refused(Refusal::FileChanged))
 }
 
-/// What is read for a request; none for one that isn't a reading.
-fn reading_of<'a>(request: Request<'a>) -> Option<Asked<'a>> {
-    let (reading, file, options) = match request {
-        Request::Show {
-            file,
-            part,
-            options,
-        } => (Reading::Show(part), file, options),
-        Request::Check {
-            file,
-            deep,
-            options,
-        } => (Reading::Check { deep }, file, options),
-        Request::Rows {
-            file,
-            table,
-            form,
-            options,
-        } => (Reading::Rows(Wanted { table, form }), file, options),
-        Request::Diff {
-            file,
-            compared,
-            options,
-        } => {
-            let at = compared.to;
-            (Reading::Diff(compared), file, Options { at, ..options })
-        }
-        Request::Recover {
-            file,
-            to: Some(to),
-            options,
-            ..
-        } => (Reading::Copy(to), file, options),
-        Request::Report {
-            file,
-            to,
-            options,
-            ..
-        } => (Reading::Report(to), file, options),
-        Request::Salvage {
-            file,
-            to,
-            places,
-            options,
-        } => (Reading::Salvage { to, places }, file, options),
-        Request::Recover { to: None, .. } | Request::Version => return None,
-    };
-    Some(Asked {
-        reading,
-        file,
-        options,
-    })
-}
-
+/// What a request comes to, under locks or without those that can't be had.
 fn carried_out<R: Files + AllocGlobal + Clock, O: Write, E: Write>(
     rt: &R,
     request: Request<'_>,
-    under: (Locks, u32),
+    under: Under,
     out: &mut O,
     notes: &mut Notes<'_, E>,
 ) -> Result<Answer, ShowError>
 where
     R::File: SystemFile,
+    ensures { ComesUnder (opened_bytes R.File.bytes)
+        (GivesBytes R.File.bytes R.File.keeps_word R.File.never_fails) under request.entry result }
 {
-    tell_locks(under.0, notes);
-    if let Some(asked) = reading_of(request) {
-        return read_under(rt, &asked, under, out, notes);
-    }
-    match request {
-        Request::Recover {
-            file,
-            force,
-            options,
-            ..
-        } => recover(rt, (file, force, options), out, notes),
-        _ => {
-            line(out, &VERSION)?;
-            Ok(Answer::Done)
-        }
+    let (locks, wait) = match under {
+        Under::Locks(locks, wait) => (locks, wait),
+        Under::Refused(refusal) => return Err(ShowError::Refused(refusal)),
+    };
+    tell_locks(locks, notes);
+    match read_for(request) {
+        Some(asked) => read_under(rt, &asked, (locks, wait), out, notes),
+        None => match request {
+            Request::Recover {
+                file,
+                force,
+                options,
+                ..
+            } => recover(rt, (file, force, options), out, notes),
+            _ => {
+                line(out, &VERSION)?;
+                Ok(Answer::Done)
+            }
+        },
     }
 }
 
 /// The status once this text is printed.
 pub(crate) fn told<O: Write>(out: &mut O, text: &str) -> u8
-    ensures { result ≤ 3 }
+    ensures { (result ≡ 0) ⊎ (result ≡ 3) }
 {
     let status = match written(out, text) {
         Ok(()) => Status::Done,
@@ -350,7 +321,9 @@ fn line<W: Write, T: Display>(writer: &mut W, text: &T) -> io::Result<()> {
 }
 
 /// The status, or that of a refusal where the line can't be written.
-pub(crate) fn printed<W: Write, T: Display>(writer: &mut W, text: &T, status: Status) -> Status {
+pub(crate) fn printed<W: Write, T: Display>(writer: &mut W, text: &T, status: Status) -> Status
+    ensures { (result ≡ status) ⊎ (result ≡ Status.Refused) }
+{
     match line(writer, text) {
         Ok(()) => status,
         Err(_) => Status::Refused,

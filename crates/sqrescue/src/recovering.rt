@@ -1,5 +1,6 @@
 //! The recovery of a database file from the log beside it.
 ghost use Rattle.std.specs.Prelude.{◌≡◌};
+ghost use Rattle.sqrescue.specs.Reads.{IsDoneOr};
 
 use crate::answers::Answer;
 use crate::jobs::Job;
@@ -45,6 +46,7 @@ pub(crate) fn recover<R: Files + AllocGlobal + Clock, O: Write, E: Write>(
 ) -> Result<Answer, ShowError>
 where
     R::File: SystemFile,
+    ensures { IsDoneOr result }
 {
     let (file, forced, mut options) = of;
     options.at = None;

@@ -2,10 +2,13 @@
 use crate::answers::Answer;
 use crate::commands::Wants;
 use crate::jobs::{Counted, Job};
+use crate::opening::open_all;
 use crate::outputs::{judge_name, kept, named};
 use crate::program::VERSION;
 use crate::sources::wait_for;
+use sqdump::{CHANGES_HEAD, CHANGES_TAIL, Kept, keep_history};
 use sqfacts::{Front, NoteWriter, Notes, Refusal, SystemFile};
+use sqhistory::Files as Lent;
 use sqlines::{HEAD, TAIL};
 use sqopen::{Beside, Count, NewFile, begin_file, look_at, open_logs, told};
 use sqshown::{
@@ -25,8 +28,18 @@ use std::time::Clock;
 /// How many bytes are written at once.
 const WRITTEN: usize = 65_536;
 
-/// What a report shows of real files.
-type Facts<'a, F, M> = ReportFacts<Counted<'a, F, M>>;
+/// How many bytes of changes a page holds.
+const CHANGES_HELD: usize = 4_194_304;
+
+/// What a page shows: the facts, and the changes of each commit where they are asked for.
+#[derive(Drop)]
+struct Shown<F> {
+    facts: ReportFacts<F>,
+    changes: Option<Kept>,
+}
+
+/// What a page shows of real files.
+type ShownOf<'a, F, M> = Shown<Counted<'a, F, M>>;
 
 /// The log that counts of files as they are now. No note is written of it.
 fn log_now<R: Files + AllocGlobal, M>(job: &Job<'_, R, M>) -> Result<LogFound, Refusal>
@@ -54,11 +67,39 @@ where
     }
 }
 
+/// What the commits of the log changed of files as they are now. No note is written of it.
+fn changes_now<R: Files + AllocGlobal, M>(job: &Job<'_, R, M>) -> Result<Kept, Refusal>
+where
+    R::File: SystemFile,
+{
+    let (paths, options) = (&job.source.paths, job.source.options);
+    let nowhere = NoteWriter::new(io::sink());
+    let mut unheard = Notes::new(&nowhere, false, false);
+    match open_all(
+        job.rt,
+        paths,
+        options.super_journal,
+        options.at,
+        &mut unheard,
+    ) {
+        Ok(files) => {
+            let lent = Lent {
+                db: &files.db,
+                wal: &files.wal,
+                journal: &files.journal,
+            };
+            let each: Vec<&str> = Vec::new(job.rt.alloc());
+            keep_history(job.rt.alloc(), lent, options, &each, CHANGES_HELD)
+        }
+        Err(refusal) => Err(refusal),
+    }
+}
+
 /// What a report of files shows that are as they are now.
 fn facts_now<'a, R: Files + AllocGlobal + Clock, M: Count, E: Write>(
     job: &Job<'a, R, M>,
     notes: &mut Notes<'_, E>,
-) -> Result<Facts<'a, R::File, M>, Refusal>
+) -> Result<ReportFacts<Counted<'a, R::File, M>>, Refusal>
 where
     R::File: SystemFile,
 {
@@ -71,37 +112,64 @@ where
     }
 }
 
-/// What a report shows of files that don't change meanwhile, once any change is dated later than their last one.
-fn settled_facts<'a, R: Files + AllocGlobal + Clock, M: Count, E: Write>(
+/// What a page shows of files that are as they are now.
+fn shown_now<'a, R: Files + AllocGlobal + Clock, M: Count, E: Write>(
     job: &Job<'a, R, M>,
+    with_changes: bool,
     notes: &mut Notes<'_, E>,
-) -> Result<Facts<'a, R::File, M>, Refusal>
+) -> Result<ShownOf<'a, R::File, M>, Refusal>
+where
+    R::File: SystemFile,
+{
+    let facts = facts_now(job, notes)?;
+    if !with_changes {
+        return Ok(Shown {
+            facts,
+            changes: None,
+        });
+    }
+    match changes_now(job) {
+        Ok(kept) => Ok(Shown {
+            facts,
+            changes: Some(kept),
+        }),
+        Err(refusal) => Err(refusal),
+    }
+}
+
+/// What a page shows of files that don't change meanwhile, once any change is dated later than their last one.
+fn settled<'a, R: Files + AllocGlobal + Clock, M: Count, E: Write>(
+    job: &Job<'a, R, M>,
+    with_changes: bool,
+    notes: &mut Notes<'_, E>,
+) -> Result<ShownOf<'a, R::File, M>, Refusal>
 where
     R::File: SystemFile,
 {
     let before = job.before(false, notes)?;
     thread::sleep(job.rt, wait_for(job.rt, &before));
-    let facts = facts_now(job, notes);
-    let front = front_of(&facts);
-    job.standing(&before, (false, front), facts, notes)
+    let shown = shown_now(job, with_changes, notes);
+    let front = front_of(&shown);
+    job.standing(&before, (false, front), shown, notes)
 }
 
 /// The front of the log at which something was found, if a frame counts.
-fn front_of<F: FileBytes>(facts: &Result<ReportFacts<F>, Refusal>) -> Option<Front> {
-    match facts {
-        Ok(facts) => facts.found.front(),
+fn front_of<F: FileBytes>(shown: &Result<Shown<F>, Refusal>) -> Option<Front> {
+    match shown {
+        Ok(shown) => shown.facts.found.front(),
         Err(_) => None,
     }
 }
 
-/// The page, with the facts that it shows.
-fn write_html<W: Write, F: FileBytes>(
-    out: &mut W,
-    file: &str,
-    facts: &ReportFacts<F>,
-) -> io::Result<()> {
+/// The page, with what it shows.
+fn write_html<W: Write, F: FileBytes>(out: &mut W, file: &str, shown: &Shown<F>) -> io::Result<()> {
     out.write_all(HEAD.as_bytes())?;
-    write_report_facts(out, VERSION, file, facts)?;
+    write_report_facts(out, VERSION, file, &shown.facts)?;
+    if let Some(kept) = &shown.changes {
+        out.write_all(CHANGES_HEAD.as_bytes())?;
+        kept.write_element(out)?;
+        out.write_all(CHANGES_TAIL.as_bytes())?;
+    }
     out.write_all(TAIL.as_bytes())?;
     out.flush()
 }
@@ -111,11 +179,11 @@ fn print_page<O: Write, F: FileBytes>(
     alloc: Global,
     out: &mut O,
     file: &str,
-    facts: &ReportFacts<F>,
+    shown: &Shown<F>,
 ) -> Result<Answer, ShowError> {
     match BufWriter::with_capacity(alloc, WRITTEN, out) {
         Ok(mut out) => {
-            write_html(&mut out, file, facts)?;
+            write_html(&mut out, file, shown)?;
             Ok(Answer::Done)
         }
         Err(_) => Err(ShowError::Refused(Refusal::NoMemory)),
@@ -127,10 +195,10 @@ fn fill<O: Write + Seek + OpenFile, F: FileBytes>(
     alloc: Global,
     made: &mut NewFile<'_, O>,
     file: &str,
-    facts: &ReportFacts<F>,
+    shown: &Shown<F>,
 ) -> io::Result<()> {
     let mut out = BufWriter::with_capacity(alloc, WRITTEN, &mut *made)?;
-    let written = write_html(&mut out, file, facts);
+    let written = write_html(&mut out, file, shown);
     drop(out);
     match written {
         Ok(()) => made.finish(),
@@ -138,24 +206,25 @@ fn fill<O: Write + Seek + OpenFile, F: FileBytes>(
     }
 }
 
-/// Makes a page of HTML that reports on a database file as its log has it, which and whose logs are only read; prints
-/// what `check` prints. The page is synced, and so is its folder where that can be. To `-`: prints the page instead.
-/// Refused as `check` is, by `FileFailed` where something lies there or the page is a log of the database, and by
-/// `FileChanged` where what is read changed meanwhile. Where it fails the page is removed.
+/// Makes a page of HTML that reports on a database file as its log has it, which and whose logs are only read, and if
+/// that is asked for on what each commit of the log changed; prints what `check` prints. The page is synced, and so is
+/// its folder where that can be. To `-`: prints the page instead. Refused as `check` is, by `FileFailed` where a file
+/// lies there or the page is a log of the database, and by `FileChanged` where what is read changed meanwhile. Where it
+/// fails the page is removed.
 pub(crate) fn report_to<R: Files + AllocGlobal + Clock, M: Count, O: Write, E: Write>(
     job: &Job<'_, R, M>,
-    to: &str,
+    of: (&str, bool),
     out: &mut O,
     notes: &mut Notes<'_, E>,
 ) -> Result<Answer, ShowError>
 where
     R::File: SystemFile,
 {
-    let (alloc, source) = (job.rt.alloc(), job.source);
-    match settled_facts(job, notes) {
-        Ok(facts) if to == "-" => print_page(alloc, out, source.file, &facts),
-        Ok(facts) => match make_page(job, to, &facts, notes) {
-            Ok(()) => kept(job, to, printed(out, source.options.style, &facts), notes),
+    let ((to, with_changes), alloc, source) = (of, job.rt.alloc(), job.source);
+    match settled(job, with_changes, notes) {
+        Ok(shown) if to == "-" => print_page(alloc, out, source.file, &shown),
+        Ok(shown) => match make_page(job, to, &shown, notes) {
+            Ok(()) => kept(job, to, printed(out, source.options.style, &shown), notes),
             Err(refusal) => Err(ShowError::Refused(refusal)),
         },
         Err(refusal) => Err(ShowError::Refused(source.paths.told(notes, refusal))),
@@ -184,14 +253,14 @@ where
 fn make_page<R: Files + AllocGlobal + Clock, M: Count, F: FileBytes, E: Write>(
     job: &Job<'_, R, M>,
     to: &str,
-    facts: &ReportFacts<F>,
+    shown: &Shown<F>,
     notes: &mut Notes<'_, E>,
 ) -> Result<(), Refusal>
 where
     R::File: SystemFile,
 {
     let mut made = new_page(job, to, notes)?;
-    let filled = match fill(job.rt.alloc(), &mut made, job.source.file, facts) {
+    let filled = match fill(job.rt.alloc(), &mut made, job.source.file, shown) {
         Ok(()) => Ok(()),
         Err(error) => Err(told(notes, made.path(), error)),
     };
@@ -202,9 +271,9 @@ where
 fn printed<F: FileBytes, O: Write>(
     out: &mut O,
     style: Style,
-    facts: &ReportFacts<F>,
+    shown: &Shown<F>,
 ) -> Result<(), ShowError> {
-    write_verdict(out, style, &facts.found)?;
+    write_verdict(out, style, &shown.facts.found)?;
     out.flush()?;
     Ok(())
 }

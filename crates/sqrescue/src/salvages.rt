@@ -1,8 +1,13 @@
 //! The script of SQL that `salvage` makes.
+ghost use Rattle.std.specs.Prelude.{◌≡◌, ◌⊎◌, IfOk, IsErr, Ok};
+ghost use Rattle.sqopen.specs.Files.{opened_bytes};
+ghost use Rattle.sqrescue.specs.Answers.{Tells, answer_of_script};
+ghost use Rattle.sqrescue.specs.Comes.{SalvagesTo, Scripts};
+ghost use Rattle.sqrescue.specs.Opened.{GivesBytes};
+
 use crate::answers::Answer;
-use crate::commands::PIECE;
+use crate::commands::Wants;
 use crate::jobs::Job;
-use crate::opening::open_all;
 use crate::outputs::named;
 use crate::reports::new_page;
 use crate::rows::write_printed;
@@ -10,7 +15,7 @@ use sqdump::{Salvaged, show_salvage};
 use sqfacts::{Notes, Refusal, SystemFile};
 use sqopen::{Count, NewFile, told};
 use sqrowshown::Stop;
-use sqshown::{ShowError, read_ahead};
+use sqshown::ShowError;
 use std::io::{self, BufWriter, Write};
 use std::rt::Files;
 use std::time::Clock;
@@ -29,15 +34,32 @@ pub(crate) fn salvage_to<R: Files + AllocGlobal + Clock, M: Count, O: Write, E: 
 ) -> Result<Answer, ShowError>
 where
     R::File: SystemFile,
+    ensures { SalvagesTo (opened_bytes R.File.bytes)
+        (GivesBytes R.File.bytes R.File.keeps_word R.File.never_fails) job.entry.now.source.now to.entry.1 result }
 {
-    let salvaged = if to.0 == "-" {
+    match script_to(job, to, out, notes) {
+        Ok(Salvaged { ended, .. }) => answer_of(job, ended, out, notes),
+        Err(refusal) => Err(ShowError::Refused(job.source.paths.told(notes, refusal))),
+    }
+}
+
+/// Prints the script, or makes the file.
+fn script_to<R: Files + AllocGlobal + Clock, M: Count, O: Write, E: Write>(
+    job: &Job<'_, R, M>,
+    to: (&str, bool),
+    out: &mut O,
+    notes: &mut Notes<'_, E>,
+) -> Result<Salvaged, Refusal>
+where
+    R::File: SystemFile,
+    ensures { IfOk result (λ salvaged. Scripts (opened_bytes R.File.bytes)
+        (GivesBytes R.File.bytes R.File.keeps_word R.File.never_fails) job.entry.now.source.now to.entry.1
+        salvaged.ended) }
+{
+    if to.0 == "-" {
         script_printed(job, to.1, out, notes)
     } else {
         script_made(job, to, notes)
-    };
-    match salvaged {
-        Ok(Salvaged { ended, .. }) => answer_of(job, ended, out, notes),
-        Err(refusal) => Err(ShowError::Refused(job.source.paths.told(notes, refusal))),
     }
 }
 
@@ -47,7 +69,9 @@ fn answer_of<R, M, O: Write, E: Write>(
     ended: Result<bool, Stop>,
     out: &mut O,
     notes: &mut Notes<'_, E>,
-) -> Result<Answer, ShowError> {
+) -> Result<Answer, ShowError>
+    ensures { Tells (answer_of_script ended) result }
+{
     match ended {
         Ok(true) => Ok(Answer::Done),
         Ok(false) => Ok(Answer::Damaged),
@@ -64,6 +88,8 @@ fn script_standing<R: Files + AllocGlobal + Clock, M: Count, W: Write, E: Write>
 ) -> Result<Salvaged, Refusal>
 where
     R::File: SystemFile,
+    ensures { IfOk result (λ salvaged. Scripts (opened_bytes R.File.bytes)
+        (GivesBytes R.File.bytes R.File.keeps_word R.File.never_fails) job.entry.now.source.now places salvaged.ended) }
 {
     let before = job.before(false, notes)?;
     let salvaged = script_now(job, places, out, notes);
@@ -83,18 +109,14 @@ fn script_now<R: Files + AllocGlobal + Clock, M: Count, W: Write, E: Write>(
 ) -> Result<Salvaged, Refusal>
 where
     R::File: SystemFile,
+    ensures { IfOk result (λ salvaged. Scripts (opened_bytes R.File.bytes)
+        (GivesBytes R.File.bytes R.File.keeps_word R.File.never_fails) job.entry.now.source.now places salvaged.ended) }
 {
-    let (alloc, source) = (job.rt.alloc(), job.source);
-    let options = source.options;
-    let files = open_all(
-        job.rt,
-        &source.paths,
-        options.super_journal,
-        options.at,
-        notes,
-    )?;
-    let files = read_ahead(alloc, files, PIECE)?;
-    show_salvage(alloc, files, options, places, out)
+    let options = job.source.options;
+    match job.opened(Wants::UNCOUNTED, notes) {
+        Ok(files) => show_salvage(job.rt.alloc(), files, options, places, out),
+        Err(refusal) => Err(refusal),
+    }
 }
 
 /// Prints the script.
@@ -106,6 +128,8 @@ fn script_printed<R: Files + AllocGlobal + Clock, M: Count, O: Write, E: Write>(
 ) -> Result<Salvaged, Refusal>
 where
     R::File: SystemFile,
+    ensures { IfOk result (λ salvaged. Scripts (opened_bytes R.File.bytes)
+        (GivesBytes R.File.bytes R.File.keeps_word R.File.never_fails) job.entry.now.source.now places salvaged.ended) }
 {
     match BufWriter::with_capacity(job.rt.alloc(), WRITTEN, out) {
         Ok(mut lines) => {
@@ -117,10 +141,9 @@ where
 }
 
 /// What was written, if its last bytes were too.
-fn whole(
-    salvaged: Result<Salvaged, Refusal>,
-    flushed: io::Result<()>,
-) -> Result<Salvaged, Refusal> {
+fn whole(salvaged: Result<Salvaged, Refusal>, flushed: io::Result<()>) -> Result<Salvaged, Refusal>
+    ensures { IfOk result (λ whole. (salvaged ≡ Ok whole) ⊎ IsErr (answer_of_script whole.ended)) }
+{
     match (salvaged, flushed) {
         (
             Ok(
@@ -146,6 +169,9 @@ fn script_made<R: Files + AllocGlobal + Clock, M: Count, E: Write>(
 ) -> Result<Salvaged, Refusal>
 where
     R::File: SystemFile,
+    ensures { IfOk result (λ salvaged. Scripts (opened_bytes R.File.bytes)
+        (GivesBytes R.File.bytes R.File.keeps_word R.File.never_fails) job.entry.now.source.now to.entry.1
+        salvaged.ended) }
 {
     let mut made = new_page(job, to.0, notes)?;
     let salvaged = script_filled(job, &mut made, to.1, notes);
@@ -172,16 +198,10 @@ fn script_filled<R: Files + AllocGlobal + Clock, M: Count, E: Write>(
 ) -> Result<Salvaged, Refusal>
 where
     R::File: SystemFile,
+    ensures { IfOk result (λ salvaged. Scripts (opened_bytes R.File.bytes)
+        (GivesBytes R.File.bytes R.File.keeps_word R.File.never_fails) job.entry.now.source.now places salvaged.ended) }
 {
-    let salvaged = match BufWriter::with_capacity(job.rt.alloc(), WRITTEN, &mut *made) {
-        Ok(mut lines) => {
-            let salvaged = script_standing(job, places, &mut lines, notes);
-            let flushed = lines.flush();
-            drop(lines);
-            whole(salvaged, flushed)
-        }
-        Err(_) => Err(Refusal::NoMemory),
-    };
+    let salvaged = script_printed(job, places, made, notes);
     let finished = made.finish();
     match whole(salvaged, finished) {
         Ok(

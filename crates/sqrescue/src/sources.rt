@@ -1,6 +1,7 @@
 //! The files of a database as a command reads them, and how it is seen that others change them meanwhile.
-ghost use Rattle.std.specs.Prelude.{◌≡◌, ◌↔◌, IfErr, IfOk, IsTrue, false};
+ghost use Rattle.std.specs.Prelude.{◌≡◌, ◌⊎◌, ◌↔◌, IfErr, IfOk, IsSome, IsTrue, false, true};
 ghost use Rattle.sqopen.specs.Refusals.{IsFromSystem, IsFromWatch};
+ghost use Rattle.sqrescue.specs.Reads.{IsAloneOf, IsSourceOf, IsUnsourced};
 ghost use Rattle.sqrescue.specs.Sources.{AreUndated, AtFile, AtFront, IsFrontUnder, IsReadAt, IsUndated};
 ghost use Rattle.sqrescue.specs.Sources.{StandsYet};
 
@@ -81,6 +82,7 @@ fn front_by_index<R: Files + Clock, E: Write>(
 ) -> Result<u32, Refusal>
 where
     R::File: SystemFile,
+    ensures refused { IfErr result (λ refusal. (refusal ≡ Refusal.InUse) ⊎ IsFromSystem refusal) }
 {
     for _ in 0..LOOKS {
         match front_in(rt, paths.shm.as_str()) {
@@ -143,7 +145,8 @@ fn watch_under<R: Files + Clock, E: Write>(
 ) -> Result<(Watch, Option<u32>), Refusal>
 where
     R::File: SystemFile,
-    ensures { IfOk result (λ found. IsFrontUnder found.0 found.1) }
+    ensures under { IfOk result (λ found. IsFrontUnder found.0 found.1) }
+    ensures refused { IfErr result (λ refusal. (refusal ≡ Refusal.InUse) ⊎ IsFromSystem refusal) }
 {
     match locks {
         Locks::Held(Held::Log | Held::Everything) => Ok((Watch::Still, None)),
@@ -159,7 +162,8 @@ where
 /// The commit that is read of a log, of which the frames up to this front stay: the one that is asked for, or the
 /// front. Refused by `NoSuchCommit` where that is behind the front.
 fn commit_at(asked: Option<u32>, front: Option<u32>) -> Result<Option<u32>, Refusal>
-    ensures { IfOk result (AtFront asked front) }
+    ensures at { IfOk result (AtFront asked front) }
+    ensures refused { IfErr result (λ refusal. (refusal ≡ Refusal.NoSuchCommit) × IsSome asked) }
 {
     match (asked, front) {
         (None, _) => Ok(front),
@@ -168,8 +172,32 @@ fn commit_at(asked: Option<u32>, front: Option<u32>) -> Result<Option<u32>, Refu
     }
 }
 
-/// The files of a database, as they are read under these locks. Of the log alone all is shown, and it may change where
-/// it may be begun anew.
+/// How files are watched, and which commit of their log is read, of which this front stays where one is said. Of the
+/// log alone all is shown, and it may change where it may be begun anew.
+fn read_at(
+    only_log: bool,
+    asked: Option<u32>,
+    of: (Watch, Option<u32>),
+) -> Result<(Watch, Option<u32>), Refusal>
+    ensures at { only_log ≡ false → IsFrontUnder of.0 of.1
+        → IfOk result (λ found. IsReadAt asked found.0 found.1) }
+    ensures of_log { only_log ≡ true → IfOk result (λ found. found.1 ≡ asked) }
+    ensures refused { IfErr result (λ refusal. (refusal ≡ Refusal.NoSuchCommit) × IsSome asked) }
+{
+    let (watch, front) = of;
+    if !only_log {
+        return match commit_at(asked, front) {
+            Ok(at) => Ok((watch, at)),
+            Err(refusal) => Err(refusal),
+        };
+    }
+    match watch {
+        Watch::Still if front != Some(0) => Ok((Watch::Still, asked)),
+        _ => Ok((Watch::Dated, asked)),
+    }
+}
+
+/// The files of a database, as they are read under these locks.
 pub(crate) fn source_of<'a, R: Files + AllocGlobal + Clock, E: Write>(
     rt: &R,
     of: (&'a str, Options),
@@ -180,23 +208,21 @@ pub(crate) fn source_of<'a, R: Files + AllocGlobal + Clock, E: Write>(
 where
     R::File: SystemFile,
     // Of all but the log alone, what is read is the commit at the front, or the one that is asked for.
-    ensures at { only_log ≡ false → IfOk result (λ source. IsReadAt of.entry.1.at source.watch source.options.at) }
+    ensures source { IfOk result (IsSourceOf of.entry.0 of.entry.1 only_log) }
+    ensures refused { IfErr result (IsUnsourced of.entry.1.at) }
 {
-    let (file, mut options) = of;
+    let (file, options) = of;
     let paths = paths_of(rt, file, notes)?;
-    let (watch, front) = watch_under(rt, &paths, locks, notes)?;
-    let mut watch = watch;
-    if !only_log {
-        options.at = commit_at(options.at, front)?;
-    } else if front == Some(0) || watch != Watch::Still {
-        watch = Watch::Dated;
+    let under = watch_under(rt, &paths, locks, notes)?;
+    match read_at(only_log, options.at, under) {
+        Ok((watch, at)) => Ok(Source {
+            file,
+            paths,
+            options: Options { at, ..options },
+            watch,
+        }),
+        Err(refusal) => Err(refusal),
     }
-    Ok(Source {
-        file,
-        paths,
-        options,
-        watch,
-    })
 }
 
 /// The commit that is read of a database file alone: none of a log, or the one that is asked for.
@@ -210,19 +236,20 @@ fn commit_of_file(asked: Option<u32>) -> Option<u32>
 }
 
 /// The same files, of which the database file alone is read, which can't be changed.
-pub(crate) fn alone<'a>(source: Source<'a>) -> Source<'a> {
+pub(crate) fn alone<'a>(source: Source<'a>) -> Source<'a>
+    ensures { IsAloneOf source.entry result }
+{
     let Source {
         file,
         paths,
         options,
         watch: _,
     } = source;
-    let mut options = options;
-    options.at = commit_of_file(options.at);
+    let at = commit_of_file(options.at);
     Source {
         file,
         paths,
-        options,
+        options: Options { at, ..options },
         watch: Watch::Still,
     }
 }

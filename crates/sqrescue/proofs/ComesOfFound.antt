@@ -1,0 +1,107 @@
+-- What a command comes to, by what it found.
+use Rattle.std.proofs.Common.{◌≡◌, ◌⊎◌, inl, inr, ⊎_elim, ℕ, List, Option, refl, sym, subst}
+use Rattle.std.specs.Prelude.{Bool, None, Some, Result, Ok, Err, IsErrAnd}
+use Rattle.sqval.specs.Limits.{Bounds}
+use Rattle.sqview.specs.LogView.{pages_of}
+use Rattle.sqwords.specs.declared.requests.Options.{Options}
+use Rattle.sqfacts.specs.declared.outcome.Refusal.{Refusal}
+use Rattle.sqfacts.specs.declared.outcome.Refusal.TheVariants.{NoMemory}
+use Rattle.sqopen.specs.declared.opened_file.OpenedFile.{OpenedFile}
+use Rattle.sqshown.specs.Contents.{AreGiven, contents_of}
+use Rattle.sqshown.specs.Errors.{IfRefused}
+use Rattle.sqshown.specs.Found.{IsFoundOf, fault_in}
+use Rattle.sqshown.specs.declared.contents.Contents.{Contents}
+use Rattle.sqshown.specs.declared.error.ShowError.{ShowError}
+use Rattle.sqshown.specs.declared.error.ShowError.TheVariants.{Refused, Unwritten}
+use Rattle.sqshown.specs.declared.surveys.Found.{Found}
+use Rattle.sqshown.specs.declared.surveys.Found.TheVariants as surveys
+use Rattle.sqrescue.specs.Answers.{IsUntold, Tells, answer_of_finding}
+use Rattle.sqrescue.specs.Comes.{Answers, Comes, HaveFault, IsUnread}
+use Rattle.sqrescue.specs.Commands.{Finds, IsPartUnshown}
+use Rattle.sqrescue.specs.Opened.{Counted, FindsOpened, Settles, all_opened, opened_of}
+use Rattle.sqrescue.specs.declared.answers.Answer.{Answer}
+use Rattle.sqrescue.specs.declared.commands.Command.{Command}
+use Rattle.sqrescue.specs.declared.commands.Command.TheVariants.{Check, Pages, Show, Rows}
+use Rattle.sqrescue.specs.declared.commands.Finding.{Finding}
+use Rattle.sqrescue.specs.declared.commands.Finding.TheVariants.{Checked, Surveyed, Shown, Printed}
+use Rattle.sqrescue.specs.declared.sources.Source.{Source}
+
+-- the fault that was found is one that the files have
+fault_had : {F : Type 0} (maps : Bool) (limits : Bounds) (bytes : F → List ℕ) (at : Option ℕ) (files : Contents (List ℕ)) (found : Found F)
+    → IsFoundOf maps limits bytes at files found → HaveFault maps limits at files (fault_in found)
+fault_had maps limits bytes None files (surveys.Pages found) is =
+    inl (found.view.page_size, pages_of bytes found.view, is.view.shows, (Ok found.survey, is.survey, refl))
+fault_had maps limits bytes (Some m) files (surveys.Pages found) is =
+    inl (found.view.page_size, pages_of bytes found.view, is.view.shows, (Ok found.survey, is.survey, refl))
+fault_had maps limits bytes at files (surveys.Nothing error) is =
+    ⊎_elim inr (λ s. inl (s.0, s.1, s.2, (Err error, s.3, refl))) is
+
+-- a refusal that holds, or that memory ran out
+either : (P Q : Refusal → Type 0) (error : ShowError) → IfRefused P error → IfRefused (λ refusal. Q refusal ⊎ P refusal) error
+either P Q (Refused refusal) is = inr is
+either P Q Unwritten is = tt
+
+module _ {F : Type 0} (bytes : F → List ℕ) (gives : F → Type 0) (options : Options) (files : Contents F) (before after : Option (List ℕ)) where
+  answers_found : (command : Command) (found : Finding F) → Finds bytes gives command options files (Ok found) before after → AreGiven gives files
+      → Answers command options (contents_of bytes files) (answer_of_finding found)
+  answers_found (Check asked deep) (Checked found) finds given = (found.verdict, finds.0 given, refl)
+  answers_found (Check asked deep) (Surveyed found) finds given = absurd finds.0
+  answers_found (Check asked deep) (Shown found) finds given = absurd finds.0
+  answers_found (Check asked deep) (Printed found) finds given = absurd finds.0
+  answers_found (Pages asked) (Checked found) finds given = absurd finds.0
+  answers_found (Pages asked) (Surveyed found) finds given =
+      (fault_in found, fault_had asked.maps.pointer_maps asked.limits bytes asked.at (contents_of bytes files) found (finds.0 given), refl)
+  answers_found (Pages asked) (Shown found) finds given = absurd finds.0
+  answers_found (Pages asked) (Printed found) finds given = absurd finds.0
+  answers_found (Show part) (Checked found) finds given = absurd finds
+  answers_found (Show part) (Surveyed found) finds given = absurd finds
+  answers_found (Show part) (Shown (Ok front)) finds given = (refl, (before, after, finds.0 given))
+  answers_found (Show part) (Shown (Err error)) finds given = either (IsPartUnshown part options (contents_of bytes files)) (λ refusal. refusal ≡ NoMemory) error (finds.1 given)
+  answers_found (Show part) (Printed found) finds given = absurd finds
+  answers_found (Rows wanted) (Checked found) finds given = absurd finds
+  answers_found (Rows wanted) (Surveyed found) finds given = absurd finds
+  answers_found (Rows wanted) (Shown found) finds given = absurd finds
+  answers_found (Rows wanted) (Printed found) finds given = inl (found.ended, (before, after, finds given), inl refl)
+
+  answers_refused : (command : Command) (refusal : Refusal) → Finds bytes gives command options files (Err refusal) before after → AreGiven gives files
+      → Answers command options (contents_of bytes files) (Err (Refused refusal))
+  answers_refused (Check asked deep) refusal finds given = finds.0 given
+  answers_refused (Pages asked) refusal finds given = finds.0 given
+  answers_refused (Show part) refusal finds given = absurd finds
+  answers_refused (Rows wanted) refusal finds given = inr (finds given)
+
+-- a line couldn't be written
+untold : {F : Type 0} (bytes : OpenedFile F → List ℕ) (gives : OpenedFile F → Type 0) (source : Source) (command : Command) (answer : Result Answer ShowError)
+    → IsUntold answer → Comes bytes gives source command answer
+untold bytes gives source command answer = ⊎_elim (λ e. subst (λ (r : Result Answer ShowError). Comes bytes gives source command r) (sym e) (inr tt))
+    (λ e. subst (λ (r : Result Answer ShowError). Comes bytes gives source command r) (sym e) (inr (inr (inr (inr refl)))))
+
+module _ {F M : Type 0} (bytes : OpenedFile F → List ℕ) (gives : OpenedFile F → Type 0) (source : Source) (command : Command) (before after : Option (List ℕ)) where
+  of_found : (found : Finding (Counted F M)) → FindsOpened bytes gives source command (Ok found) before after → Comes bytes gives source command (answer_of_finding found)
+  of_found found is = inl (record {
+    files = all_opened is.files;
+    opened = is.opened;
+    answers = λ given. answers_found (λ (file : Counted F M). bytes (opened_of file)) (λ (file : Counted F M). gives (opened_of file)) source.options is.files before after
+        command found is.finds given;
+  })
+
+  of_refused : (refusal : Refusal) → FindsOpened {M = M} bytes gives source command (Err refusal) before after → Comes bytes gives source command (Err (Refused refusal))
+  of_refused refusal is = inl (record {
+    files = all_opened is.files;
+    opened = is.opened;
+    answers = λ given. answers_refused (λ (file : Counted F M). bytes (opened_of file)) (λ (file : Counted F M). gives (opened_of file)) source.options is.files before after
+        command refusal is.finds given;
+  })
+
+  -- what was found is answered, or couldn't be told
+  pub comes_of_found : (found : Finding (Counted F M)) (answer : Result Answer ShowError) → Settles bytes gives source command (Ok found) before after
+      → Tells (answer_of_finding found) answer → Comes bytes gives source command answer
+  comes_of_found found answer settles = ⊎_elim
+      (λ e. subst (λ (r : Result Answer ShowError). Comes bytes gives source command r) (sym e) found_comes) (untold bytes gives source command answer)
+    where
+      found_comes : Comes bytes gives source command (answer_of_finding found)
+      found_comes = ⊎_elim (⊎_elim (of_found found) (λ bad. absurd bad.0)) (λ bad. absurd bad) settles
+
+  -- what refuses it does
+  pub comes_of_refusal : (refusal : Refusal) → Settles {M = M} bytes gives source command (Err refusal) before after → Comes bytes gives source command (Err (Refused refusal))
+  comes_of_refusal refusal = ⊎_elim (⊎_elim (of_refused refusal) (λ unopened. inr (inl unopened.0))) (λ watched. inr (inr watched))

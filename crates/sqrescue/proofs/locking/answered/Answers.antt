@@ -1,0 +1,37 @@
+use Rattle.std.proofs.Common.{ℕ, List, Bor, sym, subst}
+use Rattle.sqfacts.specs.declared.outcome.Refusal.{Refusal}
+use Rattle.sqheld.specs.Todo.{texts}
+use Rattle.sqheld.specs.declared.todo.Todo.{Todo}
+use Rattle.sqopen.specs.Files.{opened_bytes}
+use Rattle.sqrescue.specs.Locking.{refusal_of}
+use Rattle.sqrescue.specs.Opened.{GivesBytes}
+use Rattle.sqrescue.specs.Runs.{DoesTodo, Ends}
+use Rattle.sqrescue.specs.declared.program.Under.TheVariants as under
+use Rattle.sqrescue.proofs.locking.answered.Goals as goal
+
+pub returns-in-Run-clause-ends : goal.returns-in-Run-clause-ends
+returns-in-Run-clause-ends g c =
+    let bytes = opened_bytes g.R.File.SystemFile.bytes in
+    let gives = GivesBytes g.R.File.SystemFile.bytes g.R.File.SystemFile.keeps_word g.R.File.SystemFile.never_fails in
+    let locks = under.Locks c.in-Run.locks c.in-Run.wait in
+    let ends = subst (λ (l : List (Bor (List ℕ))). Ends bytes gives locks (texts l) c.run.result) c.as_slice.ensures.value c.run.ensures in
+    (c.in_ok-words.field-0, c.in_ok-words.ensures, subst (λ (t : Todo). DoesTodo bytes gives t c.code.result) (sym c.in-Run.is) (c.run.result, ends, c.code.ensures.is))
+
+pub returns-in-Tell-clause-ends : goal.returns-in-Tell-clause-ends
+returns-in-Tell-clause-ends g c =
+    let bytes = opened_bytes g.R.File.SystemFile.bytes in
+    let gives = GivesBytes g.R.File.SystemFile.bytes g.R.File.SystemFile.keeps_word g.R.File.SystemFile.never_fails in
+    (c.in_ok-words.field-0, c.in_ok-words.ensures, subst (λ (t : Todo). DoesTodo bytes gives t c.told.result) (sym c.in-Tell.is) c.told.ensures)
+
+pub returns-in-Refuse-clause-ends : goal.returns-in-Refuse-clause-ends
+returns-in-Refuse-clause-ends g c =
+    let bytes = opened_bytes g.R.File.SystemFile.bytes in
+    let gives = GivesBytes g.R.File.SystemFile.bytes g.R.File.SystemFile.keeps_word g.R.File.SystemFile.never_fails in
+    let status = c.run-in-Refuse.result in
+    let as_given = subst (λ (r : Refusal). Ends bytes gives (under.Refused r) (texts c.as_slice-in-Refuse.result.now) status) c.refusal_of.ensures c.run-in-Refuse.ensures in
+    let ends = subst (λ (l : List (Bor (List ℕ))). Ends bytes gives (under.Refused (refusal_of c.in-Refuse.why)) (texts l) status) c.as_slice-in-Refuse.ensures.value as_given in (
+      c.in_ok-words.field-0,
+      c.in_ok-words.ensures,
+      subst (λ (t : Todo). DoesTodo bytes gives t c.code-in-Refuse.result) (sym c.in-Refuse.is)
+          (status, ends, c.code-in-Refuse.ensures.is),
+    )

@@ -1,0 +1,148 @@
+//! What is done with a database file that is only read.
+ghost use Rattle.std.specs.Prelude.{◌≡◌, Some};
+ghost use Rattle.sqrescue.specs.Reads.{asked_named, command_of, is_of_log};
+ghost use Rattle.sqrescue.specs.Runs.{read_for, read_named};
+
+use crate::commands::Command;
+use sqcheck::Options as Maps;
+use sqdump::Wanted;
+use sqshown::{Asked, limits_of};
+use sqwords::{Compared, Options, Part, Request};
+
+/// What is looked for in the files.
+#[derive(Clone, Copy)]
+pub(crate) enum Look<'a> {
+    Part(Part),
+    /// Whether also in what the pages hold.
+    Damage(bool),
+    Rows(Wanted<'a>),
+}
+
+/// What is done with them.
+#[derive(Clone, Copy)]
+pub(crate) enum Reading<'a> {
+    Look(Look<'a>),
+    Diff(Compared<'a>),
+    /// A file of this name is made.
+    Copy(&'a str),
+    /// changes: with those of each commit.
+    Report { to: &'a str, changes: bool },
+    /// places: with the page and the cell of each row.
+    Salvage { to: &'a str, places: bool },
+}
+
+/// A reading, and the file that it is of.
+#[derive(Clone, Copy)]
+pub(crate) struct Read<'a> {
+    pub(crate) reading: Reading<'a>,
+    pub(crate) file: &'a str,
+    pub(crate) options: Options,
+}
+
+/// What is asked of files.
+fn asked_for(options: Options, deep: bool) -> Asked
+    ensures { result ≡ asked_named options deep }
+{
+    Asked {
+        limits: limits_of(options),
+        at: options.at,
+        maps: Maps {
+            pointer_maps: options.pointer_maps | deep,
+        },
+    }
+}
+
+impl<'a> Look<'a> {
+    /// The command that looks for it.
+    pub(crate) fn command(self, options: Options) -> Command<'a>
+        ensures { result ≡ command_of self.entry options }
+    {
+        match self {
+            Look::Part(Part::Pages) => Command::Pages(asked_for(options, false)),
+            Look::Part(part) => Command::Show(part),
+            Look::Damage(deep) => Command::Check {
+                asked: asked_for(options, deep),
+                deep,
+            },
+            Look::Rows(wanted) => Command::Rows(wanted),
+        }
+    }
+}
+
+impl<'a> Reading<'a> {
+    /// Whether all of a log is shown.
+    pub(crate) fn is_of_log(self) -> bool
+        ensures { result ≡ is_of_log self.entry }
+    {
+        match self {
+            Reading::Look(Look::Part(part)) => matches!(part, Part::Log { .. } | Part::Commits),
+            Reading::Look(Look::Damage(_) | Look::Rows(_)) => false,
+            Reading::Diff(_)
+            | Reading::Copy(_)
+            | Reading::Report { .. }
+            | Reading::Salvage { .. } => { false }
+        }
+    }
+
+    /// The same, of this file.
+    fn of(self, file: &'a str, options: Options) -> Option<Read<'a>>
+        ensures { result ≡ Some (read_named self.entry file.entry options) }
+    {
+        Some(Read {
+            reading: self,
+            file,
+            options,
+        })
+    }
+}
+
+/// What is read for a request; none for a recovery in place and for the version.
+pub(crate) fn read_for<'a>(request: Request<'a>) -> Option<Read<'a>>
+    ensures { result ≡ read_for request.entry }
+{
+    match request {
+        Request::Show {
+            file,
+            part,
+            options,
+        } => Reading::Look(Look::Part(part)).of(file, options),
+        Request::Check {
+            file,
+            deep,
+            options,
+        } => Reading::Look(Look::Damage(deep)).of(file, options),
+        Request::Rows {
+            file,
+            table,
+            form,
+            options,
+        } => Reading::Look(Look::Rows(Wanted { table, form })).of(file, options),
+        Request::Diff {
+            file,
+            compared,
+            options,
+        } => {
+            let at = compared.to;
+            Reading::Diff(compared).of(file, Options { at, ..options })
+        }
+        Request::Recover {
+            file,
+            to: Some(to),
+            options,
+            ..
+        } => Reading::Copy(to).of(file, options),
+        Request::Report {
+            file,
+            to,
+            changes,
+            options,
+        } => Reading::Report { to, changes }.of(file, options),
+        Request::Salvage {
+            file,
+            to,
+            places,
+            options,
+        } => Reading::Salvage { to, places }.of(file, options),
+        Request::Recover { to: None, .. } | Request::Version => None,
+    }
+}
