@@ -4,3 +4,5 @@ pub mod Kept
 pub mod LeavesWritten
 -- Objects, one more at the end.
 pub mod ObjectsWritten
+-- Texts of numbers in a row, one more at the end.
+pub mod TextsInRow

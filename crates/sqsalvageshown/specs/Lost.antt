@@ -1,5 +1,6 @@
 -- The table of lost rows: those that no table takes (own).
-use Rattle.std.specs.Prelude.{◌≡◌, ℕ, suc, max, ◌≤◌, List, [], ◌++◌, codes, length, Option, Some, None}
+use Rattle.std.specs.Prelude.{◌≡◌, ℕ, max, ◌-◌, List, [], ◌++◌, codes, length, Option, Some, None}
+use Rattle.std.specs.List.{flat_map, range_with_len}
 use Rattle.std.specs.Io.KnownBytes.{Appends}
 use Rattle.std.specs.Fmt.{decimal}
 use Rattle.sqval.specs.Datum.{Datum}
@@ -16,15 +17,13 @@ made_text name = codes "CREATE TABLE " ++ (between_marks 34 name ++ codes "(root
 abbrev pub added_text : (name : List ℕ) → (k : ℕ) → List ℕ
 added_text name k = codes "ALTER TABLE " ++ (between_marks 34 name ++ (codes " ADD COLUMN c" ++ (decimal k ++ codes ";\n")))
 
--- It had columns for `from` values, and those for values up to `to` were added.
-pub data AreAdded (name : List ℕ) (from : ℕ) (before : Option (List ℕ)) : (to : ℕ) → (after : Option (List ℕ)) → Type 0 where
-  none : AreAdded name from before from before
-  more : {k : ℕ} {mid after : Option (List ℕ)} → AreAdded name from before k mid → Appends mid after (added_text name k) → AreAdded name from before (suc k) after
+-- what adds its columns for the values from number `from` on to those before `to`
+abbrev pub added_texts : (name : List ℕ) → (from to : ℕ) → List ℕ
+added_texts name from to = flat_map (added_text name) (range_with_len from (to - from))
 
--- The names of so many of these columns were written.
-pub data AreNamed (before : Option (List ℕ)) : (n : ℕ) → (after : Option (List ℕ)) → Type 0 where
-  nothing : AreNamed before 0 before
-  next : {k : ℕ} {mid after : Option (List ℕ)} → AreNamed before k mid → Appends mid after (codes ",c" ++ decimal k) → AreNamed before (suc k) after
+-- the names of the first of these columns
+abbrev pub named_texts : (count : ℕ) → List ℕ
+named_texts count = flat_map (λ k. codes ",c" ++ decimal k) (range_with_len 0 count)
 
 -- the root of the tree of a row
 abbrev pub root_text : Option ℕ → List ℕ
@@ -47,9 +46,9 @@ pub record IsLostRow (name : List ℕ) (root : Option ℕ) (cell : Cell) (values
   pub named : Option (List ℕ)
   pub placed : Option (List ℕ)
   pub line : List ℕ
-  pub adds : AreAdded name old before new widened
+  pub adds : Appends before widened (added_texts name old (length values))
   pub head : Appends widened headed (head_text name)
-  pub names : AreNamed headed (length values) named
+  pub names : Appends headed named (named_texts (length values))
   pub stands : Appends named placed (where_text root cell.page (length values))
   pub is : IsLine Sql [] [] (Some (id_of cell)) values line
   pub written : Appends placed after line

@@ -3,7 +3,8 @@ ghost use Rattle.std.specs.Prelude.{◌≡◌, ◌≤◌, ◌<◌, ◌^◌, ◌+
 ghost use Rattle.std.specs.Fmt.{decimal};
 ghost use Rattle.std.specs.Io.KnownBytes.{Appends};
 ghost use Rattle.sqval.specs.Datum.{row_of};
-ghost use Rattle.sqsalvageshown.specs.Lost.{AreAdded, AreNamed, IsLostRow, added_text, head_text, made_text, root_text};
+ghost use Rattle.sqsalvageshown.specs.Lost.{IsLostRow, added_text, added_texts, head_text, made_text, named_texts};
+ghost use Rattle.sqsalvageshown.specs.Lost.{root_text};
 ghost use Rattle.sqsalvageshown.specs.Cells.{IsRunOut};
 ghost use Rattle.sqsalvageshown.specs.Lost.{where_text};
 
@@ -37,8 +38,7 @@ fn write_added<W: Write>(out: &mut W, name: &[u8], k: usize) -> io::Result<()>
 
 /// What adds the columns for values from the first number on up to the second.
 fn write_columns<W: Write>(out: &mut W, name: &[u8], from: usize, to: usize) -> io::Result<()>
-    ensures { OnOk result
-        (AreAdded name.now from (W.contents out.old) (max from to) (W.contents out.new)) }
+    ensures { OnOk result (Appends (W.contents out.old) (W.contents out.new) (added_texts name.now from to)) }
 {
     if to <= from {
         return Ok(());
@@ -58,7 +58,7 @@ fn write_name<W: Write>(out: &mut W, k: usize) -> io::Result<()>
 
 /// The names of so many columns.
 fn write_names<W: Write>(out: &mut W, count: usize) -> io::Result<()>
-    ensures { OnOk result (AreNamed (W.contents out.old) count (W.contents out.new)) }
+    ensures { OnOk result (Appends (W.contents out.old) (W.contents out.new) (named_texts count)) }
 {
     'names: for k in 0..count {
         write_name(out, k)?;

@@ -1,5 +1,6 @@
-use Rattle.sqsalvageshown.specs.Lost.{AreAdded}
+use Rattle.std.specs.Io.KnownBytes.{Appends}
+use Rattle.sqsalvageshown.specs.Lost.{added_texts}
 use Rattle.sqsalvageshown.proofs.lost.write_columns.Given as goal
 
 abbrev pub invariant-columns : goal.invariant-columns
-invariant-columns g l = AreAdded l.name l.from (g.W.Write.contents l.fn.out) l.k (g.W.Write.contents l.out)
+invariant-columns g l = Appends (g.W.Write.contents l.fn.out) (g.W.Write.contents l.out) (added_texts l.name l.from l.k)

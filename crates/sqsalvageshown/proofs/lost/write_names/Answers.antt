@@ -1,10 +1,14 @@
-use Rattle.std.proofs.Common.{ℕ, sym, subst, add-one}
-use Rattle.sqsalvageshown.specs.Lost.{AreNamed, nothing, next}
+use Rattle.std.proofs.Common.{◌≡◌, ◌+◌, ◌++◌, arith, codes}
+use Rattle.std.proofs.KnownBytes.{Appends-nil}
+use Rattle.std.specs.Fmt.{decimal}
+use Rattle.sqsalvageshown.proofs.TextsInRow.{appends_more}
 use Rattle.sqsalvageshown.proofs.lost.write_names.Goals as goal
 
 pub names-init : goal.names-init
-names-init g c = nothing
+names-init g c = Appends-nil (g.W.Write.contents c.args.out.now)
 
 pub names-preserved : goal.names-preserved
 names-preserved g c =
-    subst (λ (n : ℕ). AreNamed (g.W.Write.contents c.args.out.now) n (g.W.Write.contents c.write_name.new.out)) (sym (add-one c.names.k)) (next c.names.invariant c.in_ok-write_name.ensures)
+    let at : 0 + c.names.k ≡ c.names.k = omega arith in
+    appends_more (λ k. codes ",c" ++ decimal k) 0 c.names.k c.names.k (g.W.Write.contents c.args.out.now) (g.W.Write.contents c.names.out) (g.W.Write.contents c.write_name.new.out)
+    at c.names.invariant c.in_ok-write_name.ensures
