@@ -43,7 +43,7 @@ _sqcrash() {
       ;;
   esac
   case $command in
-    '') options='--sector --tears --meta --images --seed --every --promise --commits --why --point --image --keep -h --help' ;;
+    '') options='--sector --tears --meta --images --seed --every --promise --commits --why --shrink --point --image --keep -h --help' ;;
   esac
   if [[ $word == -* ]]; then
     COMPREPLY=($(compgen -W "$options" -- "$word"))

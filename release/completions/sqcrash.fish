@@ -8,6 +8,7 @@ complete -c sqcrash -l every -d 'A crash may come after each call, not only at m
 complete -c sqcrash -l promise -xa 'full last ordered none' -d 'What is known at a mark'
 complete -c sqcrash -l commits -xa 'marks calls' -d 'Commits are what the files show after each call, or at marks alone, each checked'
 complete -c sqcrash -l why -d 'Tells of each image with a line behind which record the machine stopped, and which calls aren\'t down'
+complete -c sqcrash -l shrink -d 'Brings down what may be of such an image first, so that --why tells and --keep writes what matters alone'
 complete -c sqcrash -l point -x -d 'Writes lines of point P alone, counted from 1'
 complete -c sqcrash -l image -x -d 'Writes lines of image I of a point alone, counted from 0'
 complete -c sqcrash -l keep -xa '(__fish_complete_directories)' -d 'Writes images with something wrong, the first 1000, to DIR/pPOINT-iIMAGE.db, -wal and -journal'

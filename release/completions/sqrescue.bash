@@ -49,7 +49,7 @@ _sqrescue() {
     diff) options='-v --verbose --json --from --large --super-journal= --wait --no-lock --to --table --commits --sql -h --help' ;;
     salvage) options='-v --verbose --json --at --large --super-journal= --wait --no-lock --places --to -h --help' ;;
     recover) options='-v --verbose --json --at --large --super-journal= --wait --no-lock --to --force -h --help' ;;
-    report) options='-v --verbose --json --at --large --super-journal= --wait --no-lock --pointer-maps --to -h --help' ;;
+    report) options='-v --verbose --json --at --large --super-journal= --wait --no-lock --pointer-maps --changes --to -h --help' ;;
     '') options='-V --version -h --help' ;;
   esac
   if [ -z "$command" ] || [ "$command" = help ]; then

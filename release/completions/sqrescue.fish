@@ -85,6 +85,7 @@ complete -c sqrescue -n '__fish_seen_subcommand_from report' -l super-journal -x
 complete -c sqrescue -n '__fish_seen_subcommand_from report' -l wait -x -d 'Waits so long for SQLite\'s locks that others hold'
 complete -c sqrescue -n '__fish_seen_subcommand_from report' -l no-lock -d 'Takes none of SQLite\'s locks: nobody else may write FILE and its logs meanwhile'
 complete -c sqrescue -n '__fish_seen_subcommand_from report' -l pointer-maps -d 'Takes a database with auto-vacuum too, and checks its pointer maps'
+complete -c sqrescue -n '__fish_seen_subcommand_from report' -l changes -d 'Shows the rows that each commit of the write-ahead log changed, too'
 complete -c sqrescue -n '__fish_seen_subcommand_from report' -l to -r -d 'Makes the file OUT, which a browser shows without a network'
 complete -c sqrescue -n '__fish_seen_subcommand_from report' -s h -l help -d 'Print help'
 complete -c sqrescue -n '__fish_seen_subcommand_from help' -xa 'show check rows diff salvage recover report'
