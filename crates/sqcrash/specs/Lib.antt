@@ -10,4 +10,5 @@ pub mod Samples
 pub mod Lines
 pub mod Rigs
 pub mod Sectors
+pub mod Words
 pub mod internal

@@ -1,6 +1,7 @@
 //! The options, as clap reads them.
-ghost use Rattle.std.specs.Prelude.{IfOk, IfSome};
+ghost use Rattle.std.specs.Prelude.{◌↔◌, IfOk, IfSome, IsTrue, map};
 ghost use Rattle.sqcrash.specs.Sectors.{IsSectorAsked};
+ghost use Rattle.sqcrash.specs.Words.{AsksVersion, IsVersion};
 
 use crate::plan::{CommitsAt, Plan};
 use crate::promise::Promise;
@@ -45,6 +46,7 @@ fn command<'a>(alloc: Global) -> Result<Command<'a>, AllocError> {
     Command::new(alloc, "sqcrash")
         .about("Judges what crashes may leave of a recorded run of SQLite")
         .arg(trace)?
+        .arg(flag(alloc, "version", "Prints the version").short('V'))?
         .arg(option(
             alloc,
             "sector",
@@ -191,16 +193,36 @@ fn read<'a>(command: &mut Command<'a>, words: &'a [&'a str]) -> Result<Request<'
     ensures { IfOk result (λ request. IsSectorAsked request.plan.sector) }
 {
     let matches = command.try_get_matches_from_mut(words).map_err(refused)?;
+    if matches.get_flag("version") {
+        return Err(LineError::Version);
+    }
     match matched(&matches) {
         Some(request) => Ok(request),
         None => Err(LineError::NoMemory),
     }
 }
 
+/// Whether a word asks for the version.
+fn is_version(word: &str) -> bool
+    ensures { IsTrue result ↔ IsVersion word.now }
+{
+    word == "--version" || word == "-V"
+}
+
+/// Whether the first word behind the program's name asks for the version.
+pub fn asks_version(words: &[&str]) -> bool
+    ensures { IsTrue result ↔ AsksVersion (map (λ w. w.now) words.entry.now) }
+{
+    words.len() > 1 && is_version(words[1])
+}
+
 /// Reads a line, whose first word is the program's name.
 pub fn request<'a>(alloc: Global, words: &'a [&'a str]) -> Result<Request<'a>, LineError>
     ensures { IfOk result (λ request. IsSectorAsked request.plan.sector) }
 {
+    if asks_version(words) {
+        return Err(LineError::Version);
+    }
     let mut command = command(alloc).map_err(|_| LineError::NoMemory)?;
     read(&mut command, words)
 }

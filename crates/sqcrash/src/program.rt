@@ -31,8 +31,8 @@ const NOT_UNDERSTOOD: u8 = 2;
 const REFUSED: u8 = 3;
 
 /// Carries out a command line, whose first word is the program's name, and answers the program's status: 0 where
-/// nothing is wrong (also for help), 1 where something is with a commit or an image, 2 for words that aren't
-/// understood, 3 where it was refused or a file or a writer failed.
+/// nothing is wrong (also for help and the version), 1 where something is with a commit or an image, 2 for words that
+/// aren't understood, 3 where it was refused or a file or a writer failed.
 pub fn run<R: Files + AllocGlobal, O: Write, E: Write>(
     rt: &R,
     words: &[&str],
@@ -44,6 +44,7 @@ pub fn run<R: Files + AllocGlobal, O: Write, E: Write>(
     let request = match request(rt.alloc(), words) {
         Ok(request) => request,
         Err(LineError::Help(help)) => return printed(out, &help, DONE),
+        Err(LineError::Version) => return printed(out, &LineError::Version, DONE),
         Err(LineError::NotUnderstood(fault)) => return printed(err, &fault, NOT_UNDERSTOOD),
         Err(LineError::NoMemory) => return refused(err, &LineError::NoMemory),
     };

@@ -22,6 +22,9 @@ pub enum LineError {
     /// They ask for help, which the text is.
     #[error("{0}")]
     Help(clap::Error),
+    /// They ask for the version, which the text is.
+    #[error("sqcrash 0.1.0")]
+    Version,
     /// No memory to read them.
     #[error("no memory")]
     NoMemory,
