@@ -1,5 +1,5 @@
 -- A trace is played, and the images of its points are judged (own).
-use Rattle.std.specs.Prelude.{◌≡◌, ℕ, Bool, true, false, ◌&&◌, nat_eq, List, [], ◌∷◌, ◌++◌, length, map}
+use Rattle.std.specs.Prelude.{◌≡◌, ℕ, ◌+◌, ◌-◌, ◌%◌, Bool, true, false, ◌&&◌, nat_eq, List, [], ◌∷◌, ◌++◌, length, map, Option, Some, None}
 use Rattle.sqplay.specs.Trace.{IsTrace, bytes_of}
 use Rattle.sqplay.specs.declared.trace.Kind.{Kind}
 use Rattle.sqplay.specs.declared.trace.Kind.TheVariants as kinds
@@ -8,7 +8,7 @@ use Rattle.sqplay.specs.declared.trace.Trace.{Trace}
 use Rattle.sqjudge.specs.Shown.{commit_of}
 use Rattle.sqcrash.specs.Runs.{RunState, run_of, no_run, with_marked, with_why, PlaysOne}
 use Rattle.sqcrash.specs.Marked.{are_at_marks, AreMarked}
-use Rattle.sqcrash.specs.Surveys.{no_tally, IsSurvey}
+use Rattle.sqcrash.specs.Surveys.{no_tally, one_if, IsSurvey}
 use Rattle.sqcrash.specs.Lines.{lines_text, commits_text}
 use Rattle.sqcrash.specs.declared.marked.Marked.{Marked}
 use Rattle.sqcrash.specs.declared.survey.Tally.{Tally}
@@ -16,6 +16,7 @@ use Rattle.sqcrash.specs.Told.{Told}
 use Rattle.sqcrash.specs.declared.stopped.Stopped.{Stopped}
 use Rattle.sqcrash.specs.declared.survey.Survey.{Survey}
 use Rattle.sqcrash.specs.declared.plan.Plan.{Plan}
+use Rattle.sqcrash.specs.declared.plan.Part.{Part}
 use Rattle.sqcrash.specs.declared.rig.Rig.{Rig}
 
 -- a crash is judged behind a record: a mark, or where it may come after each call one that may change what is on the disk
@@ -30,27 +31,36 @@ is_point_by _ every r = every
 abbrev pub is_point : (every : Bool) → Record → Bool
 is_point every r = is_point_by r.kind every r
 
--- a run, and what was counted of it
+-- a point of this number, counted from 1, is of the part that is asked for, if one is: of each so many in turn the one of its number
+abbrev pub is_of_part : Option Part → (point : ℕ) → Bool
+is_of_part None point = true
+is_of_part (Some p) point = nat_eq ((point - 1) % p.of) (p.number - 1)
+
+-- a run, what was counted of it, and the number of its last point
 pub record RigState : Type 0 where
   pub run : RunState
   pub tally : Tally
+  pub point : ℕ
 
 abbrev pub rig_of : Rig → RigState
-rig_of r = record { run = run_of r.run; tally = r.tally }
+rig_of r = record { run = run_of r.run; tally = r.tally; point = r.point }
 
 -- the images of a point are judged, by which this is found; or there is no point, and nothing is counted or found
 abbrev pub JudgesWhere : (point : Bool) → (limit : ℕ) → RunState → (old new : Tally) → List Told → Type 0
 JudgesWhere true limit run old new found = (s : Survey) × IsSurvey run limit old s × (new ≡ s.tally) × (found ≡ s.findings.items)
 JudgesWhere false limit run old new found = (new ≡ old) × (found ≡ [])
 
--- one record of a trace is played and judged, by which this is found
+-- One record of a trace is played. Where it is a point that is numbered, and where it is of the part that is asked for it is
+-- judged, by which this is found.
 abbrev pub Judges : Plan → List ℕ → Record → (old new : RigState) → List Told → Type 0
-Judges plan b r old new found = PlaysOne b r old.run new.run × JudgesWhere (is_point plan.every r) plan.images new.run old.tally new.tally found
+Judges plan b r old new found =
+    PlaysOne b r old.run new.run × (new.point ≡ old.point + one_if (is_point plan.every r))
+    × JudgesWhere (is_point plan.every r && is_of_part plan.part new.point) plan.images new.run old.tally new.tally found
 
 -- where the machine stops, behind a record
 abbrev pub stopped_at : List ℕ → Record → RigState → Stopped
 stopped_at b r rig = record {
-  point = rig.tally.points;
+  point = rig.point;
   known = rig.run.known;
   number = rig.run.played;
   kind = r.kind;
@@ -72,13 +82,14 @@ JudgesAll plan b (r ∷ records) old new lines =
 
 -- nothing was played yet
 abbrev pub no_rig : Plan → RigState
-no_rig plan = record { run = with_why plan.why plan.shrink plan.sector (no_run plan.promise plan.sector plan.tears plan.meta); tally = no_tally }
+no_rig plan = record { run = with_why plan.why plan.shrink plan.sector (no_run plan.promise plan.sector plan.tears plan.meta); tally = no_tally; point = 0 }
 
 -- a rig of which the commits are those at marks; each that isn't well formed is a fault that is counted
 abbrev pub marked_rig : RigState → Marked → RigState
 marked_rig rig m = record {
   run = with_marked rig.run (map commit_of m.commits.items);
   tally = record rig.tally { faults = length m.faults.items };
+  point = rig.point;
 }
 
 -- The rig by which a trace is judged, and the lines of what is wrong with its commits: those at marks, of which the

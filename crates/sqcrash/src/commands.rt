@@ -1,9 +1,9 @@
 //! The options, as clap reads them.
-ghost use Rattle.std.specs.Prelude.{◌↔◌, IfOk, IfSome, IsTrue, map};
+ghost use Rattle.std.specs.Prelude.{◌≡◌, ◌↔◌, IfOk, IfSome, IsTrue, MatchOption, map};
 ghost use Rattle.sqcrash.specs.Sectors.{IsSectorAsked};
-ghost use Rattle.sqcrash.specs.Words.{AsksVersion, IsVersion};
+ghost use Rattle.sqcrash.specs.Words.{AsksVersion, IsPart, IsVersion};
 
-use crate::plan::{CommitsAt, Plan};
+use crate::plan::{CommitsAt, Part, Plan};
 use crate::promise::Promise;
 use crate::requests::{LineError, Request};
 use clap::error::ErrorKind;
@@ -111,6 +111,12 @@ fn command<'a>(alloc: Global) -> Result<Command<'a>, AllocError> {
         ))?
         .arg(option(
             alloc,
+            "part",
+            "K/N",
+            "Judges of each N points in turn the K-th alone, and draws by the seed and each point's number",
+        ))?
+        .arg(option(
+            alloc,
             "point",
             "P",
             "Writes lines of point P alone, counted from 1",
@@ -139,8 +145,40 @@ fn commits_at(matches: &ArgMatches<'_>) -> CommitsAt {
     }
 }
 
-/// What the words ask for.
-fn matched<'a>(matches: &ArgMatches<'a>) -> Option<Request<'a>>
+/// What is said of a text that names no part.
+const NO_PART: &str = "--part is K/N: 1 <= K <= N <= 4294967296";
+
+/// The most parts.
+const MOST_PARTS: u64 = 4_294_967_296;
+
+/// The part of this number, if there is one.
+fn part_with(number: u64, of: u64) -> Option<Part>
+    ensures { MatchOption result (¬ IsPart number of) (λ p. IsPart number of × (p.number ≡ number) × (p.of ≡ of)) }
+{
+    if number == 0 || number > of || of > MOST_PARTS {
+        return None;
+    }
+    Some(Part { number, of })
+}
+
+/// The part that a text names: its number, a slash, and how many there are.
+fn part_of(text: &str) -> Option<Part>
+    ensures { IfSome result (λ p. IsPart p.number p.of) }
+{
+    let (number, of) = text.split_once('/')?;
+    part_with(number.parse::<u64>().ok()?, of.parse::<u64>().ok()?)
+}
+
+/// The fault of a text that names no part.
+fn no_part(command: &mut Command<'_>) -> LineError {
+    match command.error(ErrorKind::InvalidValue, NO_PART) {
+        Ok(error) => LineError::NotUnderstood(error),
+        Err(_) => LineError::NoMemory,
+    }
+}
+
+/// What the words ask for, with this part.
+fn matched<'a>(matches: &ArgMatches<'a>, part: Option<Part>) -> Option<Request<'a>>
     ensures { IfSome result (λ request. IsSectorAsked request.plan.sector) }
 {
     let promise = match matches.get_str("promise") {
@@ -170,6 +208,7 @@ fn matched<'a>(matches: &ArgMatches<'a>) -> Option<Request<'a>>
         commits: commits_at(matches),
         why: matches.get_flag("why"),
         shrink: matches.get_flag("shrink"),
+        part,
         point: matches.get_one::<u64>("point"),
         image: matches.get_one::<u64>("image"),
     };
@@ -196,7 +235,14 @@ fn read<'a>(command: &mut Command<'a>, words: &'a [&'a str]) -> Result<Request<'
     if matches.get_flag("version") {
         return Err(LineError::Version);
     }
-    match matched(&matches) {
+    let part = match matches.get_str("part") {
+        Some(text) => match part_of(text) {
+            Some(part) => Some(part),
+            None => return Err(no_part(command)),
+        },
+        None => None,
+    };
+    match matched(&matches, part) {
         Some(request) => Ok(request),
         None => Err(LineError::NoMemory),
     }

@@ -14,8 +14,11 @@ const MOST: u64 = 1000;
 
 /// Where images go that are found wrong.
 pub trait Keeper {
-    /// Takes an image that was found wrong at a point, counted from 1, by its number there, counted from 0.
-    fn keep(&mut self, point: u64, number: u64, image: &Image) -> Result<(), Refusal>;
+    /// The images that follow are those of this point, counted from 1.
+    fn reach(&mut self, point: u64);
+
+    /// Takes an image that was found wrong, by its number at the point, counted from 0.
+    fn keep(&mut self, number: u64, image: &Image) -> Result<(), Refusal>;
 }
 
 /// A folder in which images are kept, or none.
@@ -24,6 +27,8 @@ pub struct Folder<'a, R> {
     rt: &'a R,
     path: Option<&'a str>,
     kept: u64,
+    /// The point that was reached.
+    at: u64,
     /// The point and the image that are asked for, where they are.
     point: Option<u64>,
     image: Option<u64>,
@@ -44,6 +49,7 @@ impl<'a, R: Files + AllocGlobal> Folder<'a, R> {
             rt,
             path,
             kept: 0,
+            at: 0,
             point: plan.point,
             image: plan.image,
         })
@@ -85,7 +91,12 @@ fn put_log<R: Files>(rt: &R, path: &str, bytes: &[u8]) -> Result<(), Refusal> {
 }
 
 impl<R: Files + AllocGlobal> Keeper for Folder<'_, R> {
-    fn keep(&mut self, point: u64, number: u64, image: &Image) -> Result<(), Refusal> {
+    fn reach(&mut self, point: u64) {
+        self.at = point;
+    }
+
+    fn keep(&mut self, number: u64, image: &Image) -> Result<(), Refusal> {
+        let point = self.at;
         let Some(folder) = self.path else {
             return Ok(());
         };

@@ -26,6 +26,9 @@ pub enum Refusal {
     /// No record of the trace may change what is on the disk, and none is a mark.
     #[error("no calls, so that nothing would be judged")]
     NoCalls,
+    /// No point of the trace is of the part that was asked for.
+    #[error("no points of this part, so that nothing would be judged")]
+    NoPart,
     /// A count would pass its greatest number.
     #[error("too many images")]
     TooMany,

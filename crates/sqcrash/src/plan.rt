@@ -1,5 +1,5 @@
 //! How a trace is to be judged (own).
-ghost use Rattle.std.specs.Prelude.{IsTrue};
+ghost use Rattle.std.specs.Prelude.{◌<◌, IsTrue};
 ghost use Rattle.crashdisk.specs.Solid.{is_sector_size};
 
 use crate::promise::Promise;
@@ -12,6 +12,16 @@ pub enum CommitsAt {
     Marks,
     /// Each that the files show at the beginning and behind a call.
     Calls,
+}
+
+/// One of the parts between which points are dealt out in turn.
+#[derive(Clone, Copy, Debug, PartialEq, Eq)]
+pub struct Part {
+    /// Its number, counted from 1.
+    pub number: u64,
+    /// How many parts there are.
+    pub of: u64,
+    ghost is_some: { 0 < of },
 }
 
 /// How a trace is to be judged.
@@ -37,6 +47,8 @@ pub struct Plan {
     pub why: bool,
     /// Whether such an image is shrunk before that is told and before it is kept.
     pub shrink: bool,
+    /// The part whose points are judged; all points where there is none.
+    pub part: Option<Part>,
     /// The point of which lines are written, counted from 1; all where there is none.
     pub point: Option<u64>,
     /// The image at its point of which a line is written, counted from 0; all where there is none.

@@ -79,7 +79,7 @@ fn carried_out<R: Files + AllocGlobal, O: Write>(
 
 /// Judges a trace, and writes a line for each commit at a mark that isn't well formed, and for each image with
 /// something wrong, which goes to the keeper, too. Answers what there was, which is one point or more. Refused by
-/// NoMarks and NoCalls where there is none, by Trace, and by what refuses a point.
+/// NoMarks, NoCalls and NoPart where there is none, by Trace, and by what refuses a point.
 pub(crate) fn judge_trace<K: Keeper, O: Write>(
     alloc: Global,
     plan: Plan,
@@ -95,11 +95,16 @@ pub(crate) fn judge_trace<K: Keeper, O: Write>(
     if tally.points > 0 {
         return Ok(tally);
     }
-    Err(if plan.every {
-        Refusal::NoCalls
-    } else {
-        Refusal::NoMarks
-    })
+    Err(no_points(plan))
+}
+
+/// Why there is no point. Of a trace with a point the first one is of the first part.
+fn no_points(plan: Plan) -> Refusal {
+    match plan.part {
+        Some(part) if part.number > 1 => Refusal::NoPart,
+        _ if plan.every => Refusal::NoCalls,
+        _ => Refusal::NoMarks,
+    }
 }
 
 /// The rig by which the records of a trace are judged. Writes a line for each commit at a mark that isn't well formed.

@@ -1,12 +1,14 @@
 //! A trace is played, and what crashes may leave at its points is judged (own).
-ghost use Rattle.std.specs.Prelude.{◌≡◌};
-ghost use Rattle.sqcrash.specs.Rigs.{is_point};
+ghost use Rattle.std.specs.Prelude.{◌≡◌, ◌≢◌};
+ghost use Rattle.rand_pcg.specs.Lcg.{started, increment_of};
+ghost use Rattle.rand_pcg.specs.Pcg.{multiplier_64};
+ghost use Rattle.sqcrash.specs.Rigs.{is_point, is_of_part};
 
 use crate::finding::Finding;
 use crate::keep::Keeper;
 use crate::marked::Marked;
-use crate::outcome::Refusal;
-use crate::plan::Plan;
+use crate::outcome::{Refusal, more};
+use crate::plan::{Part, Plan};
 use crate::run::Run;
 use crate::stopped::Stopped;
 use crate::survey::{Tally, judge_images};
@@ -22,6 +24,8 @@ pub struct Rig {
     rng: Pcg32,
     run: Run,
     tally: Tally,
+    /// The number of the last point, counted from 1; 0 before the first.
+    point: u64,
 }
 
 /// Whether a crash is judged behind a record.
@@ -36,6 +40,26 @@ fn is_point(every: bool, call: &Record) -> bool
     }
 }
 
+/// Whether a point of this number, counted from 1, is of the part that is asked for, if one is.
+fn is_of_part(part: Option<Part>, point: u64) -> bool
+    ensures { result ≡ is_of_part part point }
+{
+    match part {
+        Some(part) => point.saturating_sub(1) % part.of == part.number.saturating_sub(1),
+        None => true,
+    }
+}
+
+/// Where a part is asked for, the draws of a point begin anew, by its number, so that they are the same in each part.
+fn begin_draws(plan: Plan, point: u64, rng: &mut Pcg32)
+    ensures same { plan.part ≡ None → rng.new ≡ rng.old }
+    ensures anew { plan.part ≢ None → rng.new ≡ started 64 multiplier_64 plan.seed (increment_of 64 point) }
+{
+    if plan.part.is_some() {
+        *rng = Pcg32::new(plan.seed, point);
+    }
+}
+
 impl Rig {
     ghost use Rattle.std.specs.Prelude.{◌≡◌, OnOk, IfOk};
     ghost use Rattle.sqcrash.specs.Runs.{run_of};
@@ -46,6 +70,7 @@ impl Rig {
     pub fn new(alloc: Global, plan: Plan) -> Rig
         ensures run { run_of result.run ≡ (no_rig plan).run }
         ensures tally { result.tally ≡ no_tally }
+        ensures point { result.point ≡ 0 }
         ensures plan { result.plan ≡ plan }
     {
         let mut run = Run::new(alloc, plan.promise, plan.sector, plan.tears, plan.meta);
@@ -56,6 +81,7 @@ impl Rig {
             rng: Pcg32::new(plan.seed, 1),
             run,
             tally: Tally::none(),
+            point: 0,
         }
     }
 
@@ -80,7 +106,7 @@ impl Rig {
         ensures { result ≡ stopped_at trace.now call.now (rig_of self.now) }
     {
         Stopped {
-            point: self.tally.points,
+            point: self.point,
             known: self.run.known(),
             number: self.run.played(),
             kind: call.kind,
@@ -90,9 +116,9 @@ impl Rig {
         }
     }
 
-    /// Plays one record of its trace, and where it is a point judges what a crash may leave there. Answers what is
-    /// wrong, and gives those images to the keeper. Refused by Record, TooMany and NoMemory, and by what refuses the
-    /// keeper, after which nothing is said of the run.
+    /// Plays one record of its trace, and where it is a point that is asked for judges what a crash may leave there.
+    /// Answers what is wrong, and gives those images to the keeper. Refused by Record, TooMany and NoMemory, and by
+    /// what refuses the keeper, after which nothing is said of the run.
     pub fn play<K: Keeper>(
         &mut self,
         trace: &[u8],
@@ -107,6 +133,13 @@ impl Rig {
         if !is_point(self.plan.every, call) {
             return Ok(Vec::new(self.alloc));
         }
+        let point = more(self.point)?;
+        self.point = point;
+        if !is_of_part(self.plan.part, point) {
+            return Ok(Vec::new(self.alloc));
+        }
+        keeper.reach(point);
+        begin_draws(self.plan, point, &mut self.rng);
         let found = judge_images(
             &self.run,
             self.plan.images,

@@ -154,7 +154,7 @@ impl Survey {
         let missing = missing_in(run, image, shown, judgment)?;
         let number = self.next;
         self.add(judgment, missing)?;
-        keep_wrong(keeper, self.tally.points, number, shown, judgment)?;
+        keep_wrong(keeper, number, shown, judgment)?;
         Ok(())
     }
 }
@@ -178,14 +178,13 @@ fn missing_in(
 /// Gives an image to the keeper where something is wrong with it.
 fn keep_wrong<K: Keeper>(
     keeper: &mut K,
-    point: u64,
     number: u64,
     image: &Image,
     judgment: Judgment,
 ) -> Result<(), Refusal> {
     match judgment {
         Judgment::Kept(_) => Ok(()),
-        _ => keeper.keep(point, number, image),
+        _ => keeper.keep(number, image),
     }
 }
 

@@ -1,12 +1,18 @@
-use Rattle.std.proofs.Common.{Bool, refl, subst}
+use Rattle.std.proofs.Common.{◌≡◌, ◌+◌, Bool, true, ◌&&◌, refl, subst}
 use Rattle.sqcrash.specs.Runs.{run_of}
-use Rattle.sqcrash.specs.Rigs.{JudgesWhere}
+use Rattle.sqcrash.specs.Surveys.{one_if}
+use Rattle.sqcrash.specs.Rigs.{JudgesWhere, is_point}
 use Rattle.sqcrash.proofs.rig.Rig.play.Goals as goal
 
 pub returns-clause-judged : goal.returns-clause-judged
 returns-clause-judged g c =
     let rig = c.args.self.now in
+    let every = is_point rig.plan.every c.args.call.now in
+    let point = c.in_ok-point.point in
     let found = c.in_ok-found.found in (
       c.in_ok-play.ensures,
-      subst (λ (b : Bool). JudgesWhere b rig.plan.images (run_of c.play.new.self) rig.tally found.tally found.findings.items) c.if-not-is_point.ensures (found, c.in_ok-found.ensures, refl, refl),
+      subst (λ (b : Bool). point ≡ rig.point + one_if b) c.if-not-is_point.ensures c.in_ok-point.ensures,
+      subst (λ (b : Bool). JudgesWhere (every && b) rig.plan.images (run_of c.play.new.self) rig.tally found.tally found.findings.items) c.if-not-is_of_part.ensures
+          (subst (λ (b : Bool). JudgesWhere (b && true) rig.plan.images (run_of c.play.new.self) rig.tally found.tally found.findings.items) c.if-not-is_point.ensures
+          (found, c.in_ok-found.ensures, refl, refl)),
     )
