@@ -2,6 +2,7 @@ pub mod TallyOfJudgedImages
 pub mod SampledImages
 pub mod JudgedRecords
 pub mod AppendedBytes
+pub mod WrittenTexts
 pub mod JudgedFiles
 pub mod WaitingCommits
 pub mod MarkedRecords

@@ -8,6 +8,7 @@ pub mod Told
 pub mod Surveys
 pub mod Samples
 pub mod Lines
+pub mod Writes
 pub mod Rigs
 pub mod Sectors
 pub mod Words

@@ -112,13 +112,40 @@ abbrev pub is_asked : Option ℕ → (n : ℕ) → Bool
 is_asked None n = true
 is_asked (Some m) n = nat_eq m n
 
--- the lines of what is asked for of a finding
-abbrev pub asked_text : Plan → Stopped → Told → List ℕ
-asked_text plan at f = cond (is_asked plan.point at.point && is_asked plan.image f.image) (finding_text plan.why at f) []
+-- the lines of a finding, if it is asked for
+abbrev pub asked_texts : Plan → Stopped → Told → List (List ℕ)
+asked_texts plan at f = cond (is_asked plan.point at.point && is_asked plan.image f.image) (finding_text plan.why at f ∷ []) []
 
--- the lines of findings at a point
-abbrev pub lines_text : Plan → Stopped → List Told → List ℕ
-lines_text plan at found = flat_map (asked_text plan at) found
+-- the lines of each finding at a point that is asked for
+abbrev pub texts_of : Plan → Stopped → List Told → List (List ℕ)
+texts_of plan at found = flat_map (asked_texts plan at) found
+
+-- texts, one behind the other
+abbrev pub joined : List (List ℕ) → List ℕ
+joined texts = flat_map (λ t. t) texts
+
+-- the first texts, as many as may be written; all where there is no limit
+abbrev pub first_of : Option ℕ → List (List ℕ) → List (List ℕ)
+first_of None texts = texts
+first_of (Some n) texts = take n texts
+
+-- how many more may be written, behind so many
+abbrev pub limit_behind : Option ℕ → ℕ → Option ℕ
+limit_behind None k = None
+limit_behind (Some n) k = Some (n - k)
+
+-- how many more there are, without the line's end
+abbrev pub left_count : ℕ → List ℕ
+left_count n = codes ".. " ++ (decimal n ++ codes " more")
+
+-- with it; nothing where there are none
+abbrev pub left_line : ℕ → List ℕ
+left_line n = cond (nat_eq n 0) [] (left_count n ++ 10 ∷ [])
+
+-- of so many findings those that aren't written
+abbrev pub left_text : Option ℕ → (count : ℕ) → List ℕ
+left_text None count = []
+left_text (Some n) count = left_line (count - n)
 
 -- the line of a commit that isn't well formed, without its end
 abbrev pub commit_text : CommitFault → List ℕ

@@ -9,7 +9,7 @@ use Rattle.sqjudge.specs.Shown.{commit_of}
 use Rattle.sqcrash.specs.Runs.{RunState, run_of, no_run, with_marked, with_why, PlaysOne}
 use Rattle.sqcrash.specs.Marked.{are_at_marks, AreMarked}
 use Rattle.sqcrash.specs.Surveys.{no_tally, one_if, IsSurvey}
-use Rattle.sqcrash.specs.Lines.{lines_text, commits_text}
+use Rattle.sqcrash.specs.Lines.{texts_of, joined, first_of, left_text, commits_text}
 use Rattle.sqcrash.specs.declared.marked.Marked.{Marked}
 use Rattle.sqcrash.specs.declared.survey.Tally.{Tally}
 use Rattle.sqcrash.specs.Told.{Told}
@@ -69,16 +69,16 @@ stopped_at b r rig = record {
   count = length (bytes_of b r);
 }
 
--- the lines of what is found at a rig's last point, which came behind a record
-abbrev pub lines_at : Plan → List ℕ → Record → RigState → List Told → List ℕ
-lines_at plan b r rig found = lines_text plan (stopped_at b r rig) found
+-- the lines of each finding at a rig's last point, which came behind a record
+abbrev pub texts_at : Plan → List ℕ → Record → RigState → List Told → List (List ℕ)
+texts_at plan b r rig found = texts_of plan (stopped_at b r rig) found
 
--- records, one after the other, and the lines of what is found
-abbrev pub JudgesAll : Plan → List ℕ → List Record → (old new : RigState) → (lines : List ℕ) → Type 0
+-- records, one after the other, and the lines of each finding
+abbrev pub JudgesAll : Plan → List ℕ → List Record → (old new : RigState) → (lines : List (List ℕ)) → Type 0
 JudgesAll plan b [] old new lines = (new ≡ old) × (lines ≡ [])
 JudgesAll plan b (r ∷ records) old new lines =
-    (mid : RigState) × (found : List Told) × (rest : List ℕ)
-    × Judges plan b r old mid found × JudgesAll plan b records mid new rest × (lines ≡ lines_at plan b r mid found ++ rest)
+    (mid : RigState) × (found : List Told) × (rest : List (List ℕ))
+    × Judges plan b r old mid found × JudgesAll plan b records mid new rest × (lines ≡ texts_at plan b r mid found ++ rest)
 
 -- nothing was played yet
 abbrev pub no_rig : Plan → RigState
@@ -110,7 +110,7 @@ pub record IsJudgment (plan : Plan) (b : List ℕ) (tally : Tally) (lines : List
   pub of_commits : List ℕ
   pub begun : BeginsRig plan b trace.records.items first of_commits
   pub last : RigState
-  pub of_images : List ℕ
+  pub of_images : List (List ℕ)
   pub judged : JudgesAll plan b trace.records.items first last of_images
   pub counted : tally ≡ last.tally
-  pub all : lines ≡ of_commits ++ of_images
+  pub all : lines ≡ of_commits ++ (joined (first_of plan.lines of_images) ++ left_text plan.lines (length of_images))

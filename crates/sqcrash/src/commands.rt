@@ -117,6 +117,13 @@ fn command<'a>(alloc: Global) -> Result<Command<'a>, AllocError> {
         ))?
         .arg(option(
             alloc,
+            "lines",
+            "N",
+            "The most images of which lines are written; behind them how many more there are",
+        )
+        .value_parser(value_parser!(u64)))?
+        .arg(option(
+            alloc,
             "point",
             "P",
             "Writes lines of point P alone, counted from 1",
@@ -209,6 +216,7 @@ fn matched<'a>(matches: &ArgMatches<'a>, part: Option<Part>) -> Option<Request<'
         why: matches.get_flag("why"),
         shrink: matches.get_flag("shrink"),
         part,
+        lines: matches.get_one::<u64>("lines"),
         point: matches.get_one::<u64>("point"),
         image: matches.get_one::<u64>("image"),
     };

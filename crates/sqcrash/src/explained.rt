@@ -1,12 +1,14 @@
 //! The lines of findings: what is wrong with an image, and why (own).
-ghost use Rattle.std.specs.Prelude.{◌≡◌, take, OnOk};
+ghost use Rattle.std.specs.Prelude.{◌≡◌, ◌&&◌, [], ◌∷◌, take, OnOk, IfOk};
 ghost use Rattle.std.specs.Io.KnownBytes.{Appends};
 ghost use Rattle.std.specs.List.{flat_map};
 ghost use Rattle.sqcrash.specs.Lines.{ranges_text, missing_text, more_text, missings_text, why_text, finding_text};
-ghost use Rattle.sqcrash.specs.Lines.{is_asked, asked_text, lines_text};
+ghost use Rattle.sqcrash.specs.Lines.{is_asked, asked_texts, texts_of, left_text, left_line};
+ghost use Rattle.sqcrash.specs.Writes.{Writes, is_within};
 
 use crate::finding::Finding;
 use crate::lines::Line;
+use crate::outcome::{Refusal, more};
 use crate::plan::Plan;
 use crate::stopped::Stopped;
 use sqmissing::Missing;
@@ -185,6 +187,42 @@ fn write_missing<O: Write>(out: &mut O, missing: &Missing) -> io::Result<()>
     Ok(())
 }
 
+/// How many more findings there are.
+#[derive(Clone, Copy)]
+struct LeftText(u64);
+
+impl fmt::Display for LeftText {
+    ghost use Rattle.std.specs.Prelude.{Some};
+    ghost use Rattle.sqcrash.specs.Lines.{left_count};
+
+    ghost output = { λ x. Some (left_count x.0) };
+
+    fn fmt<W: fmt::Write>(&self, f: &mut fmt::Formatter<W>) -> fmt::Result {
+        write!(f, ".. {} more", self.0)
+    }
+}
+
+/// Writes how many more findings there are, if there are any.
+fn write_left_line<O: Write>(out: &mut O, count: u64) -> io::Result<()>
+    ensures { OnOk result (Appends (O.contents out.old) (O.contents out.new) (left_line count)) }
+{
+    if count == 0 {
+        return Ok(());
+    }
+    writeln!(out, "{}", LeftText(count))?;
+    Ok(())
+}
+
+/// Writes how many of these findings aren't told, if there are any.
+pub fn write_left<O: Write>(out: &mut O, lines: Option<u64>, told: u64) -> io::Result<()>
+    ensures { OnOk result (Appends (O.contents out.old) (O.contents out.new) (left_text lines told)) }
+{
+    match lines {
+        Some(most) => write_left_line(out, told.saturating_sub(most)),
+        None => Ok(()),
+    }
+}
+
 /// Writes how many more there are, if there are any.
 fn write_more<O: Write>(out: &mut O, count: usize) -> io::Result<()>
     ensures { OnOk result (Appends (O.contents out.old) (O.contents out.new) (more_text count)) }
@@ -259,28 +297,76 @@ pub fn is_asked(asked: Option<u64>, number: u64) -> bool
     }
 }
 
-/// Writes the lines of a finding, where it is asked for.
-fn write_asked<O: Write>(out: &mut O, plan: Plan, at: Stopped, finding: &Finding) -> io::Result<()>
-    ensures { OnOk result (Appends (O.contents out.old) (O.contents out.new) (asked_text plan at finding.now)) }
+/// Whether the lines of one more finding may be written, behind so many.
+fn is_within(lines: Option<u64>, told: u64) -> bool
+    ensures { result ≡ is_within lines told }
 {
-    if !is_asked(plan.point, at.point) || !is_asked(plan.image, finding.image()) {
-        return Ok(());
+    match lines {
+        Some(most) => told < most,
+        None => true,
     }
-    write_finding(out, plan.why, at, finding)?;
-    Ok(())
 }
 
-/// Writes the lines of the findings of a point that are asked for, in their order.
+/// Writes the lines of a finding that is asked for, unless as many as may be are told. Answers how many are, this one
+/// too.
+fn write_one<O: Write>(
+    out: &mut O,
+    plan: Plan,
+    at: Stopped,
+    told: u64,
+    finding: &Finding,
+) -> Result<u64, Refusal>
+    ensures { IfOk result (λ n. Writes plan.lines (finding_text plan.why at finding.now ∷ []) told n
+        (O.contents out.old) (O.contents out.new)) }
+{
+    let count = more(told)?;
+    if !is_within(plan.lines, told) {
+        return Ok(count);
+    }
+    write_finding(out, plan.why, at, finding)?;
+    Ok(count)
+}
+
+/// Whether a finding is asked for.
+fn is_told(plan: Plan, at: Stopped, finding: &Finding) -> bool
+    ensures { result ≡ (is_asked plan.point at.point && is_asked plan.image finding.now.image) }
+{
+    is_asked(plan.point, at.point) && is_asked(plan.image, finding.image())
+}
+
+/// The same of a finding that may be asked for.
+fn write_asked<O: Write>(
+    out: &mut O,
+    plan: Plan,
+    at: Stopped,
+    told: u64,
+    finding: &Finding,
+) -> Result<u64, Refusal>
+    ensures { IfOk result (λ n. Writes plan.lines (asked_texts plan at finding.now) told n
+        (O.contents out.old) (O.contents out.new)) }
+{
+    if !is_told(plan, at, finding) {
+        return Ok(told);
+    }
+    write_one(out, plan, at, told, finding)
+}
+
+/// Writes the lines of the findings of a point that are asked for, in their order, until as many as may be are told.
+/// Answers how many are asked for, with those before.
 pub fn write_findings<O: Write>(
     out: &mut O,
     plan: Plan,
     at: Stopped,
+    told: u64,
     findings: &[Finding],
-) -> io::Result<()>
-    ensures { OnOk result (Appends (O.contents out.old) (O.contents out.new) (lines_text plan at findings.now)) }
+) -> Result<u64, Refusal>
+    ensures { IfOk result (λ n. Writes plan.lines (texts_of plan at findings.now) told n
+        (O.contents out.old) (O.contents out.new)) }
 {
+    let mut count = told;
     for finding in findings {
-        write_asked(out, plan, at, finding)?;
+        let next = write_asked(out, plan, at, count, finding)?;
+        count = next;
     }
-    Ok(())
+    Ok(count)
 }

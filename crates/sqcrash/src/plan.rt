@@ -49,6 +49,8 @@ pub struct Plan {
     pub shrink: bool,
     /// The part whose points are judged; all points where there is none.
     pub part: Option<Part>,
+    /// The most findings whose lines are written; all where there is none.
+    pub lines: Option<u64>,
     /// The point of which lines are written, counted from 1; all where there is none.
     pub point: Option<u64>,
     /// The image at its point of which a line is written, counted from 0; all where there is none.

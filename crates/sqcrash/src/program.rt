@@ -6,7 +6,7 @@ ghost use Rattle.std.specs.declared.io.ErrorKind.TheVariants.{OutOfMemory};
 ghost use Rattle.sqcrash.specs.Rigs.{IsJudgment, BeginsRig, rig_of};
 
 use crate::commands::request;
-use crate::explained::write_findings;
+use crate::explained::{write_findings, write_left};
 use crate::keep::{Folder, Keeper};
 use crate::lines::write_commits;
 use crate::marked::{are_at_marks, take_marked};
@@ -142,10 +142,13 @@ fn judge_records<K: Keeper, O: Write>(
 {
     let trace = Trace::read(alloc, bytes)?;
     let mut rig = begun(alloc, plan, bytes, trace.records.as_slice(), out)?;
+    let mut told = 0;
     for call in &trace.records {
         let findings = rig.play(bytes, call, keeper)?;
-        write_findings(out, plan, rig.stopped(bytes, call), &findings)?;
+        let next = write_findings(out, plan, rig.stopped(bytes, call), told, &findings)?;
+        told = next;
     }
+    write_left(out, plan.lines, told)?;
     Ok(rig.tally())
 }
 

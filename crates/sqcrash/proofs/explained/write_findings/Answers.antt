@@ -1,20 +1,23 @@
 use Rattle.std.proofs.Common.{List, subst}
 use Rattle.std.proofs.lemmas.List.{take_all}
-use Rattle.std.specs.Io.KnownBytes.{Appends}
-use Rattle.sqcrash.specs.Lines.{asked_text, lines_text}
+use Rattle.sqcrash.specs.Lines.{asked_texts, texts_of}
 use Rattle.sqcrash.specs.Told.{Told}
-use Rattle.sqcrash.proofs.AppendedBytes.{appends_none, appends_next}
+use Rattle.sqcrash.specs.Writes.{Writes}
+use Rattle.sqcrash.proofs.WrittenTexts.{writes_none, writes_next}
 use Rattle.sqcrash.proofs.explained.write_findings.Goals as goal
 
 pub loop-finding-init : goal.loop-finding-init
-loop-finding-init g c = appends_none (g.O.Write.contents c.args.out.now)
+loop-finding-init g c = writes_none c.args.plan.lines c.args.told (g.O.Write.contents c.args.out.now)
 
 pub loop-finding-preserved : goal.loop-finding-preserved
 loop-finding-preserved g c =
-    appends_next (asked_text c.args.plan c.args.at) c.args.findings.now c.loop-finding.finding-index c.finding-item.result c.finding-item.result (g.O.Write.contents c.args.out.now) (g.O.Write.contents c.loop-finding.out)
-    (g.O.Write.contents c.write_asked.new.out) c.loop-finding-test.true c.finding-item.is c.loop-finding.invariant c.in_ok-write_asked.ensures
+    writes_next (asked_texts c.args.plan c.args.at) c.args.plan.lines c.args.findings.now c.loop-finding.finding-index c.finding-item.result c.finding-item.result
+    c.args.told c.loop-finding.count c.in_ok-next.next
+    (g.O.Write.contents c.args.out.now) (g.O.Write.contents c.loop-finding.out) (g.O.Write.contents c.write_asked.new.out) c.loop-finding-test.true c.finding-item.is
+    c.loop-finding.invariant c.in_ok-next.ensures
 
 pub returns : goal.returns
 returns g c =
-    subst (λ (l : List Told). Appends (g.O.Write.contents c.args.out.now) (g.O.Write.contents c.loop-finding.out) (lines_text c.args.plan c.args.at l))
+    let plan = c.args.plan in
+    subst (λ (l : List Told). Writes plan.lines (texts_of plan c.args.at l) c.args.told c.loop-finding.count (g.O.Write.contents c.args.out.now) (g.O.Write.contents c.loop-finding.out))
     (take_all c.loop-finding.finding-index c.args.findings.now c.loop-finding-test.false) c.loop-finding.invariant

@@ -1,0 +1,12 @@
+use Rattle.std.proofs.Common.{Bool, List, [], ◌∷◌, cond, subst}
+use Rattle.sqcrash.specs.Lines.{finding_text}
+use Rattle.sqcrash.specs.Writes.{Writes}
+use Rattle.sqcrash.proofs.WrittenTexts.{writes_none}
+use Rattle.sqcrash.proofs.explained.write_asked.Goals as goal
+
+pub returns-then-not-is_told : goal.returns-then-not-is_told
+returns-then-not-is_told g c =
+    let plan = c.args.plan in
+    let old = g.O.Write.contents c.args.out.now in
+    let text = finding_text plan.why c.args.at c.args.finding.now in
+    subst (λ (b : Bool). Writes plan.lines (cond b (text ∷ []) []) c.args.told c.args.told old old) c.if-not-is_told.ensures (writes_none plan.lines c.args.told old)
