@@ -21,8 +21,16 @@ _sqcrash() {
       compopt -o dirnames
       return
       ;;
+    --lines)
+      :
+      return
+      ;;
     --meta)
       COMPREPLY=($(compgen -W 'parts whole ordered' -- "$word"))
+      return
+      ;;
+    --part)
+      :
       return
       ;;
     --point)
@@ -43,7 +51,7 @@ _sqcrash() {
       ;;
   esac
   case $command in
-    '') options='--sector --tears --meta --images --seed --every --promise --commits --why --shrink --point --image --keep -h --help' ;;
+    '') options='-V --version --sector --tears --meta --images --seed --every --promise --commits --why --shrink --part --lines --point --image --keep -h --help' ;;
   esac
   if [[ $word == -* ]]; then
     COMPREPLY=($(compgen -W "$options" -- "$word"))

@@ -1,4 +1,5 @@
 # fish completion of sqcrash, made by tools/completions of the program's help texts
+complete -c sqcrash -s V -l version -d 'Prints the version'
 complete -c sqcrash -l sector -xa '512 4096' -d 'The size of a disk\'s sectors'
 complete -c sqcrash -l tears -d 'A sector that was being written may hold anything'
 complete -c sqcrash -l meta -xa 'parts whole ordered' -d 'How names and lengths become durable: in parts, as a whole, or in the order of calls'
@@ -9,6 +10,8 @@ complete -c sqcrash -l promise -xa 'full last ordered none' -d 'What is known at
 complete -c sqcrash -l commits -xa 'marks calls' -d 'Commits are what the files show after each call, or at marks alone, each checked'
 complete -c sqcrash -l why -d 'Tells of each image with a line behind which record the machine stopped, and which calls aren\'t down'
 complete -c sqcrash -l shrink -d 'Brings down what may be of such an image first, so that --why tells and --keep writes what matters alone'
+complete -c sqcrash -l part -x -d 'Judges of each N points in turn the K-th alone, and draws by the seed and each point\'s number'
+complete -c sqcrash -l lines -x -d 'The most images of which lines are written'
 complete -c sqcrash -l point -x -d 'Writes lines of point P alone, counted from 1'
 complete -c sqcrash -l image -x -d 'Writes lines of image I of a point alone, counted from 0'
 complete -c sqcrash -l keep -xa '(__fish_complete_directories)' -d 'Writes images with something wrong, the first 1000, to DIR/pPOINT-iIMAGE.db, -wal and -journal'
