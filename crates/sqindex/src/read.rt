@@ -13,7 +13,7 @@ use sqpage::PageSource;
 use std::alloc::Global;
 
 /// What an entry takes beside a payload that doesn't lie in it.
-const BESIDE: u64 = 64;
+pub(crate) const BESIDE: u64 = 64;
 
 /// What an entry takes that has this payload.
 pub(crate) fn cost(payload: &[u8]) -> u64

@@ -13,18 +13,44 @@ use crate::error::{IndexError, ReadError};
 use crate::join::match_rows;
 use crate::order::sort_entries;
 use crate::part::{Part, Room, read_part};
+use crate::read::BESIDE;
 use crate::span::Span;
 use sqkeys::IndexKey;
 use sqpage::PageSource;
 use std::alloc::Global;
 
-/// The range up to the entry by rowid behind which a quarter of these come, and one at least. None where it was passed.
+/// The range up to the entry by rowid behind which half of these come, and one at least. None where it was passed.
 fn narrowed(span: Span, entries: &Entries) -> Option<Span>
     ensures { MatchOption result ⊤ (λ less. (less.above ≡ span.above) × IsOpen less) }
 {
     let last = entries.len().saturating_sub(1);
-    let rowid = entries.rowid(last.saturating_sub(last / 4 + 1))?;
+    let rowid = entries.rowid(last.saturating_sub(last / 2 + 1))?;
     span.up_to(rowid)
+}
+
+/// The last rowid of a range behind these entries by rowid, of so many rowids that there is room for all of them where
+/// they stand as close. None where these took less than half of the room.
+fn last_behind(entries: &Entries, held: u64) -> Option<i64> {
+    let many = entries.len() as u64;
+    if many.saturating_mul(BESIDE) < held / 2 {
+        return None;
+    }
+    let first = entries.rowid(0)?;
+    let last = entries.rowid(entries.len().saturating_sub(1))?;
+    let gap = (last.abs_diff(first) / many.max(1)).max(1);
+    let width = gap.saturating_mul(held / BESIDE / 10 * 9);
+    Some(last.saturating_add(i64::try_from(width).unwrap_or(i64::MAX)))
+}
+
+/// A range that begins where this one does, which has no end.
+fn guessed(span: Span, entries: &Entries, held: u64) -> Span
+    requires { span.last ≡ None }
+    ensures { (result.above ≡ span.above) × IsOpen result }
+{
+    match last_behind(entries, held) {
+        Some(last) => span.up_to(last).unwrap_or(span),
+        None => span,
+    }
 }
 
 /// Matches the entries of a range, unless a fault was found before.
@@ -94,7 +120,7 @@ pub(crate) fn match_spans<S: PageSource>(
         let Some(next) = span.next() else {
             return end(fault);
         };
-        span = next;
+        span = guessed(next, &part.entries, room.held);
     }
     Err(IndexError::Index(ReadError::NoMemory))
 }

@@ -112,7 +112,7 @@ spans-preserved g c =
         same_pages = m.same_pages ∙ k.same_pages ∙ i.kept.same_pages;
         same_size = m.same_size ∙ k.same_size ∙ i.kept.same_size;
       };
-      upward = λ b is. absurd (let none = n.3 in cc);
+      upward = c.guessed-span.ensures.1;
       matched = λ gives xs has sound.
           let d = g.S.PageSource.pages c.args.source.now in
           let key = c.args.key.now in
@@ -126,5 +126,6 @@ spans-preserved g c =
           let next = subst (λ (d : Database). MatchesNext d c.args.table key (record { entries = entries; span = part.span; whole = part.whole }) c.spans.fault c.match_next-fault.result) (k.same_pages ∙ i.kept.same_pages)
           (c.match_next-fault.ensures.matches (k.still_gives (i.kept.still_gives gives)) s.0) in
           let up = span_matched d c.args.table c.args.index key limit xs has sound part entries c.spans.span c.spans.fault c.match_next-fault.result p c.if-not-part.false c.in_ok-part.ensures.span i.upward s.1 (i.matched gives xs has sound) next in
-          next_matched d c.args.table c.args.index key limit xs has c.spans.span.last c.in-Some-next.next.above n.0 c.match_next-fault.result n.1 n.2 up;
+          let behind = next_matched d c.args.table c.args.index key limit xs has c.spans.span.last c.in-Some-next.next.above n.0 c.match_next-fault.result n.1 n.2 up in
+          subst (λ (a : Option ℤ). AreMatchedTo d c.args.table c.args.index key limit a xs c.match_next-fault.result) (sym c.guessed-span.ensures.0) behind;
     }
