@@ -6,4 +6,6 @@ mod changes_tests;
 #[cfg(test)]
 mod files;
 #[cfg(test)]
+mod keyed_tests;
+#[cfg(test)]
 mod refusals_tests;

@@ -1,7 +1,7 @@
 //! Which leaves a tree reaches, and which are lost: worked by hand.
-use crate::files::{RISING, file_of, source_of};
+use crate::files::{KEYED, RISING, file_of, source_of};
 use sqpage::PageSource;
-use sqsalvage::{Salvage, TreePage};
+use sqsalvage::{PieceRead, Salvage, TreePage};
 use std::alloc::Global;
 use std::process::Abort;
 use std::test::Fail;
@@ -10,6 +10,14 @@ use std::test::Fail;
 fn number_of(leaf: Option<TreePage>) -> u32 {
     match leaf {
         Some(leaf) => leaf.number(),
+        None => 0,
+    }
+}
+
+/// The number of the page of a piece, and 0 where there is none.
+fn page_of(piece: Option<PieceRead>) -> u32 {
+    match piece {
+        Some(piece) => piece.page.number(),
         None => 0,
     }
 }
@@ -24,9 +32,9 @@ fn leaves_of<S: PageSource>(
 ) -> Option<[u32; 4]> {
     let mut salvage = Salvage::new(alloc, source).ok()?;
     salvage.leave_out(out);
-    salvage.begin(root).ok()?;
-    let first = number_of(salvage.next_leaf(source).ok()?);
-    let second = number_of(salvage.next_leaf(source).ok()?);
+    salvage.begin(root, true).ok()?;
+    let first = page_of(salvage.next_piece(source).ok()?);
+    let second = page_of(salvage.next_piece(source).ok()?);
     let third = number_of(salvage.next_lost(source).ok()?);
     let fourth = number_of(salvage.next_lost(source).ok()?);
     Some([first, second, third, fourth])
@@ -82,6 +90,50 @@ fn but_for_one_that_is_left_out(rt: HostRuntime) -> Result<(), Fail> {
     Ok(())
 }
 
+/// The pages of the first three pieces of the tree of page 2, one of a table WITHOUT ROWID or not, and then the first
+/// leaf that is lost; 0 where there is none. None where one isn't read.
+fn pieces_of<S: PageSource>(alloc: Global, source: &mut S, table: bool) -> Option<[u32; 4]> {
+    let mut salvage = Salvage::new(alloc, source).ok()?;
+    salvage.begin(2, table).ok()?;
+    let first = page_of(salvage.next_piece(source).ok()?);
+    let second = page_of(salvage.next_piece(source).ok()?);
+    let third = page_of(salvage.next_piece(source).ok()?);
+    let fourth = number_of(salvage.next_lost(source).ok()?);
+    Some([first, second, third, fourth])
+}
+
+/// Whether these are those of a file of KEYED with damages.
+fn are_pieces(alloc: Global, damages: &[(usize, &[u8])], table: bool, wanted: [u32; 4]) -> bool {
+    let Ok(file) = file_of(alloc, &KEYED, damages) else {
+        return false;
+    };
+    let Some(mut source) = source_of(&file) else {
+        return false;
+    };
+    match pieces_of(alloc, &mut source, table) {
+        Some(found) => found == wanted,
+        None => false,
+    }
+}
+
+#[test]
+fn in_the_order_of_a_tree_without_rowids(rt: HostRuntime) -> Result<(), Fail> {
+    // The leaf below, the cell of page 2, and the leaf behind it. None of them is a page of a table.
+    assert!(rt; are_pieces(rt.alloc(), &[], false, [3, 2, 4, 0]));
+    assert!(rt; are_pieces(rt.alloc(), &[], true, [0, 0, 0, 0]));
+    // The left child is page 200, page 5, which is zero, page 2 itself, or page 4 as the right one is.
+    assert!(rt; are_pieces(rt.alloc(), &[(1017, &[200])], false, [2, 4, 0, 0]));
+    assert!(rt; are_pieces(rt.alloc(), &[(1017, &[5])], false, [2, 4, 0, 0]));
+    assert!(rt; are_pieces(rt.alloc(), &[(1017, &[2])], false, [2, 4, 0, 0]));
+    assert!(rt; are_pieces(rt.alloc(), &[(1017, &[4])], false, [4, 2, 0, 0]));
+    // The cell leaves its page, and is told all the same; page 3 has another type.
+    assert!(rt; are_pieces(rt.alloc(), &[(524, &[1, 255])], false, [2, 4, 0, 0]));
+    assert!(rt; are_pieces(rt.alloc(), &[(1024, &[7])], false, [2, 4, 0, 0]));
+    // A leaf of a table is none of the tree, and is lost.
+    assert!(rt; are_pieces(rt.alloc(), &[(1024, &[13])], false, [2, 4, 0, 3]));
+    Ok(())
+}
+
 #[test]
 fn of_a_page_of_too_few_bytes(rt: HostRuntime) -> Result<(), Fail> {
     let file = file_of(rt.alloc(), &RISING, &[(20, &[33])])?;
@@ -97,11 +149,11 @@ fn of_a_page_of_too_few_bytes(rt: HostRuntime) -> Result<(), Fail> {
 fn rowids_of<S: PageSource>(alloc: Global, source: &mut S) -> Option<Vec<i64>> {
     let mut found = Vec::new(alloc);
     let mut salvage = Salvage::new(alloc, source).ok()?;
-    salvage.begin(2).ok()?;
-    match salvage.next_leaf(source).ok()? {
+    salvage.begin(2, true).ok()?;
+    match salvage.next_piece(source).ok()? {
         Some(leaf) => {
-            for i in 0..leaf.cells().min(9) {
-                match leaf.cell(i) {
+            for i in 0..leaf.page.cells().min(9) {
+                match leaf.page.cell(i) {
                     Some(cell) => found.push(cell.rowid.unwrap_or(-1)).ok()?,
                     None => found.push(0).ok()?,
                 }

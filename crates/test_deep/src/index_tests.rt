@@ -428,10 +428,10 @@ fn trees_that_are_not_read(rt: HostRuntime) -> Result<(), Fail> {
 
 #[test]
 fn memory_for_entries(rt: HostRuntime) -> Result<(), Fail> {
-    // Six entries of 64 bytes in all, as each holds its payload itself; and less than one takes.
+    // Six entries of 40 bytes in all, as each holds its payload itself; less than six take; and less than one takes.
     let key = key_of_n(rt.alloc())?;
-    assert!(rt; judged_within(rt.alloc(), &[], 2, 3, &key, 384)? == Some(Ok(6)));
-    assert!(rt; judged_within(rt.alloc(), &[], 2, 3, &key, 383)? == Some(Ok(6)));
+    assert!(rt; judged_within(rt.alloc(), &[], 2, 3, &key, 240)? == Some(Ok(6)));
+    assert!(rt; judged_within(rt.alloc(), &[], 2, 3, &key, 230)? == Some(Ok(6)));
     assert!(rt; judged_within(rt.alloc(), &[], 2, 3, &key, 8)? == Some(Ok(6)));
     Ok(())
 }

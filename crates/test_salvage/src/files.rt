@@ -1,5 +1,5 @@
-//! Tables of sqlite3 3.40.1, in pages of 512 bytes: the root is page 2. Of page 1 only the header counts here, which is
-//! zero: all bytes of a page are usable. Damages are written over them.
+//! Tables in pages of 512 bytes: the root is page 2. Of page 1 only the header counts here, which is zero: all bytes of
+//! a page are usable. Damages are written over them.
 use sqpage::SliceSource;
 use sqval::PageSize;
 use std::alloc::{AllocError, Global};
@@ -26,7 +26,8 @@ pub(crate) fn source_of(file: &[u8]) -> Option<SliceSource<'_>> {
     SliceSource::new(file, PageSize::new(512)?)
 }
 
-/// The rows 1 NULL x'00' and from 2 to 9 NULL zeroblob(60): two leaves, page 3 of eight rows and page 4 of one.
+/// A table of sqlite3 3.40.1 with the rows 1 NULL x'00' and from 2 to 9 NULL zeroblob(60): two leaves, page 3 of eight
+/// rows and page 4 of one.
 pub(crate) static RISING: [(usize, &[u8]); 12] = [
     (512, &[5, 0, 0, 0, 1, 1, 251]),
     (523, &[4, 1, 251]),
@@ -49,4 +50,16 @@ pub(crate) static RISING: [(usize, &[u8]); 12] = [
         &[4, 1, 3, 0, 14, 0, 13, 0, 0, 0, 1, 1, 190, 0, 1, 190],
     ),
     (1982, &[64, 9, 4, 0, 129, 4]),
+];
+
+/// The rows 10 1, 20 2, 30 3 and 40 4 of a table WITHOUT ROWID, in its order: two in page 3, the one of page 2, and one
+/// in page 4.
+pub(crate) static KEYED: [(usize, &[u8]); 7] = [
+    (512, &[2, 0, 0, 0, 1, 1, 246, 0, 0, 0, 0, 4, 1, 246]),
+    (1014, &[0, 0, 0, 3, 5, 3, 1, 1, 30, 3]),
+    (1024, &[10, 0, 0, 0, 2, 1, 244, 0, 1, 244, 1, 250]),
+    (1524, &[5, 3, 1, 1, 10, 1]),
+    (1530, &[5, 3, 1, 1, 20, 2]),
+    (1536, &[10, 0, 0, 0, 1, 1, 250, 0, 1, 250]),
+    (2042, &[5, 3, 1, 1, 40, 4]),
 ];
