@@ -1,3 +1,4 @@
 pub mod TextsOfValues
 pub mod RowsWritten
 pub mod NamesWritten
+pub mod RunsWritten
