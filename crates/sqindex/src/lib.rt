@@ -17,6 +17,7 @@ mod number;
 mod order;
 mod part;
 mod read;
+mod room;
 mod row_fault;
 mod span;
 mod spans;
