@@ -1,5 +1,7 @@
 -- Which pages are marked.
 pub mod MarkedPages
+-- Pieces that are named.
+pub mod NamedPieces
 -- What a page is that was read.
 pub mod PagesOfTrees
 -- What is to come, page by page.

@@ -1,5 +1,5 @@
-//! The leaves of tables in a database that may be damaged: those that a tree reaches, as far as its pages are sound,
-//! and those that none does (own).
+//! The trees of tables in a database that may be damaged, as far as their pages are sound, and the leaves of tables
+//! that none reaches (own).
 #![tactic(auto)]
 
 mod bytes;
@@ -7,10 +7,13 @@ mod cursor;
 mod leaves;
 mod lost;
 mod marks;
+mod names;
 mod page;
 mod parts;
+mod piece;
 mod salvage;
 mod tree_page;
 
-pub use cursor::Salvage;
+pub use cursor::{Piece, Salvage};
 pub use page::TreePage;
+pub use piece::PieceRead;

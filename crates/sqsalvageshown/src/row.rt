@@ -40,7 +40,10 @@ fn takes(style: &Style<'_>, cell: &Cell, row: &Row<'_>, book: &Book) -> bool
     if count < style.columns.needed || count > style.columns.names.len() {
         return false;
     }
-    !book.has(id_of(cell))
+    match cell.rowid {
+        Some(id) => !book.has(id),
+        None => true,
+    }
 }
 
 /// The line of a row of a table.
