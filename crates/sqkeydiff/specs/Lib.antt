@@ -1,0 +1,3 @@
+pub mod KeyChanges
+pub mod KeyCursor
+pub mod internal
