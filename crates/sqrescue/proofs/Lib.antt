@@ -1,4 +1,1 @@
-pub mod FoldedLogs
-pub mod OpenedLooks
 pub mod ComesOfFound
-pub mod ScriptsOfFound
