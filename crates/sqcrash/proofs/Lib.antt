@@ -1,3 +1,8 @@
+pub mod PassedRefusals
+pub mod RefusedImages
+pub mod RefusedTraces
+pub mod CountedPoints
+pub mod PlayedRecords
 pub mod TallyOfJudgedImages
 pub mod SampledImages
 pub mod JudgedRecords

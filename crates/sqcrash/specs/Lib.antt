@@ -10,6 +10,9 @@ pub mod Samples
 pub mod Lines
 pub mod Writes
 pub mod Rigs
+pub mod Refusals
+pub mod Refused
 pub mod Sectors
 pub mod Words
+pub mod Ends
 pub mod internal

@@ -1,7 +1,9 @@
 //! The options, as clap reads them.
-ghost use Rattle.std.specs.Prelude.{◌≡◌, ◌↔◌, IfOk, IfSome, IsTrue, MatchOption, map};
+ghost use Rattle.std.specs.Prelude.{◌≡◌, ◌↔◌, Err, IfSome, IsTrue, MatchOption, map};
 ghost use Rattle.sqcrash.specs.Sectors.{IsSectorAsked};
-ghost use Rattle.sqcrash.specs.Words.{AsksVersion, IsPart, IsVersion};
+ghost use Rattle.sqcrash.specs.Words.{AsksHelp, AsksVersion, HasVersion, IsPart, IsVersion, MayAskHelp};
+ghost use Rattle.sqcrash.specs.Ends.{IsOfPart, IsReadAs, IsRefusedAs};
+ghost use Rattle.sqcrash.specs.declared.requests.LineError.TheVariants.{Version};
 
 use crate::plan::{CommitsAt, Part, Plan};
 use crate::promise::Promise;
@@ -177,7 +179,9 @@ fn part_of(text: &str) -> Option<Part>
 }
 
 /// The fault of a text that names no part.
-fn no_part(command: &mut Command<'_>) -> LineError {
+fn no_part(command: &mut Command<'_>) -> LineError
+    ensures { IsOfPart result }
+{
     match command.error(ErrorKind::InvalidValue, NO_PART) {
         Ok(error) => LineError::NotUnderstood(error),
         Err(_) => LineError::NoMemory,
@@ -227,20 +231,70 @@ fn matched<'a>(matches: &ArgMatches<'a>, part: Option<Part>) -> Option<Request<'
     })
 }
 
-fn refused(error: clap::Error) -> LineError {
+/// Whether help may be asked for by a word.
+fn is_of_help(word: &str) -> bool
+    ensures { IsTrue result → MayAskHelp word.now }
+{
+    if word == "help" {
+        return true;
+    }
+    match word.strip_prefix("-") {
+        Some(rest) => rest.as_bytes().contains(&b'h'),
+        None => false,
+    }
+}
+
+/// Whether it may be by one of these.
+fn asks_help(words: &[&str]) -> bool
+    ensures { IsTrue result → AsksHelp (map (λ w. w.now) words.entry.now) }
+{
+    for word in words {
+        if is_of_help(word) {
+            return true;
+        }
+    }
+    false
+}
+
+/// Why words ask for nothing by which clap was refused.
+fn refused(words: &[&str], error: clap::Error) -> LineError
+    ensures { IsRefusedAs (map (λ w. w.now) words.entry.now) result }
+{
     match error.kind() {
-        ErrorKind::DisplayHelp => LineError::Help(error),
+        ErrorKind::DisplayHelp if asks_help(words) => LineError::Help(error),
         ErrorKind::OutOfMemory => LineError::NoMemory,
         _ => LineError::NotUnderstood(error),
     }
 }
 
+/// Whether a word asks for the version.
+fn is_version(word: &str) -> bool
+    ensures { IsTrue result ↔ IsVersion word.now }
+{
+    word == "--version" || word == "-V"
+}
+
+/// Whether one of these does.
+fn has_version(words: &[&str]) -> bool
+    ensures { IsTrue result → HasVersion (map (λ w. w.now) words.entry.now) }
+{
+    for word in words {
+        if is_version(word) {
+            return true;
+        }
+    }
+    false
+}
+
 /// Reads a line by this command.
 fn read<'a>(command: &mut Command<'a>, words: &'a [&'a str]) -> Result<Request<'a>, LineError>
-    ensures { IfOk result (λ request. IsSectorAsked request.plan.sector) }
+    ensures { IsReadAs (map (λ w. w.now) words.entry.now) result }
 {
-    let matches = command.try_get_matches_from_mut(words).map_err(refused)?;
-    if matches.get_flag("version") {
+    let matches = match command.try_get_matches_from_mut(words) {
+        Ok(matches) => matches,
+        Err(error) => return Err(refused(words, error)),
+    };
+    if matches.get_flag("version") && has_version(words) {
         return Err(LineError::Version);
     }
     let part = match matches.get_str("part") {
@@ -256,13 +310,6 @@ fn read<'a>(command: &mut Command<'a>, words: &'a [&'a str]) -> Result<Request<'
     }
 }
 
-/// Whether a word asks for the version.
-fn is_version(word: &str) -> bool
-    ensures { IsTrue result ↔ IsVersion word.now }
-{
-    word == "--version" || word == "-V"
-}
-
 /// Whether the first word behind the program's name asks for the version.
 pub fn asks_version(words: &[&str]) -> bool
     ensures { IsTrue result ↔ AsksVersion (map (λ w. w.now) words.entry.now) }
@@ -270,9 +317,11 @@ pub fn asks_version(words: &[&str]) -> bool
     words.len() > 1 && is_version(words[1])
 }
 
-/// Reads a line, whose first word is the program's name.
+/// Reads a line, whose first word is the program's name. NotUnderstood for words that clap doesn't take, and for a part
+/// that is none; Help and Version where a word asks for that text; NoMemory.
 pub fn request<'a>(alloc: Global, words: &'a [&'a str]) -> Result<Request<'a>, LineError>
-    ensures { IfOk result (λ request. IsSectorAsked request.plan.sector) }
+    ensures read { IsReadAs (map (λ w. w.now) words.entry.now) result }
+    ensures version { AsksVersion (map (λ w. w.now) words.entry.now) → result ≡ Err Version }
 {
     if asks_version(words) {
         return Err(LineError::Version);

@@ -1,10 +1,11 @@
 //! The lines of findings: what is wrong with an image, and why (own).
-ghost use Rattle.std.specs.Prelude.{◌≡◌, ◌&&◌, [], ◌∷◌, take, OnOk, IfOk};
+ghost use Rattle.std.specs.Prelude.{◌≡◌, ◌&&◌, [], ◌∷◌, length, take, OnOk, MatchResult};
 ghost use Rattle.std.specs.Io.KnownBytes.{Appends};
 ghost use Rattle.std.specs.List.{flat_map};
 ghost use Rattle.sqcrash.specs.Lines.{ranges_text, missing_text, more_text, missings_text, why_text, finding_text};
 ghost use Rattle.sqcrash.specs.Lines.{is_asked, asked_texts, texts_of, left_text, left_line};
 ghost use Rattle.sqcrash.specs.Writes.{Writes, is_within};
+ghost use Rattle.sqcrash.specs.Refusals.{WriteRefused};
 
 use crate::finding::Finding;
 use crate::lines::Line;
@@ -316,8 +317,8 @@ fn write_one<O: Write>(
     told: u64,
     finding: &Finding,
 ) -> Result<u64, Refusal>
-    ensures { IfOk result (λ n. Writes plan.lines (finding_text plan.why at finding.now ∷ []) told n
-        (O.contents out.old) (O.contents out.new)) }
+    ensures { MatchResult result (λ n. Writes plan.lines (finding_text plan.why at finding.now ∷ []) told n
+        (O.contents out.old) (O.contents out.new)) (WriteRefused told 1) }
 {
     let count = more(told)?;
     if !is_within(plan.lines, told) {
@@ -342,8 +343,8 @@ fn write_asked<O: Write>(
     told: u64,
     finding: &Finding,
 ) -> Result<u64, Refusal>
-    ensures { IfOk result (λ n. Writes plan.lines (asked_texts plan at finding.now) told n
-        (O.contents out.old) (O.contents out.new)) }
+    ensures { MatchResult result (λ n. Writes plan.lines (asked_texts plan at finding.now) told n
+        (O.contents out.old) (O.contents out.new)) (WriteRefused told (length (asked_texts plan at finding.now))) }
 {
     if !is_told(plan, at, finding) {
         return Ok(told);
@@ -360,8 +361,8 @@ pub fn write_findings<O: Write>(
     told: u64,
     findings: &[Finding],
 ) -> Result<u64, Refusal>
-    ensures { IfOk result (λ n. Writes plan.lines (texts_of plan at findings.now) told n
-        (O.contents out.old) (O.contents out.new)) }
+    ensures { MatchResult result (λ n. Writes plan.lines (texts_of plan at findings.now) told n
+        (O.contents out.old) (O.contents out.new)) (WriteRefused told (length (texts_of plan at findings.now))) }
 {
     let mut count = told;
     for finding in findings {

@@ -1,5 +1,6 @@
 //! Images that are found wrong are kept as files (own).
 ghost use Rattle.std.specs.Prelude.{◌≡◌, IfErr, IfOk, IsSome};
+ghost use Rattle.sqcrash.specs.Refusals.{IsOfFiles};
 ghost use Rattle.sqcrash.specs.declared.outcome.Refusal.TheVariants.{FileFailed};
 
 use crate::explained::is_asked;
@@ -17,8 +18,10 @@ pub trait Keeper {
     /// The images that follow are those of this point, counted from 1.
     fn reach(&mut self, point: u64);
 
-    /// Takes an image that was found wrong, by its number at the point, counted from 0.
-    fn keep(&mut self, number: u64, image: &Image) -> Result<(), Refusal>;
+    /// Takes an image that was found wrong, by its number at the point, counted from 0. Refused by FileFailed and
+    /// NoMemory alone.
+    fn keep(&mut self, number: u64, image: &Image) -> Result<(), Refusal>
+        ensures { IfErr result IsOfFiles };
 }
 
 /// A folder in which images are kept, or none.
@@ -70,7 +73,9 @@ fn make<R: Files>(rt: &R, path: &str) -> Result<(), Refusal>
 }
 
 /// Writes a file, in place of one that is there.
-fn put<R: Files>(rt: &R, path: &str, bytes: &[u8]) -> Result<(), Refusal> {
+fn put<R: Files>(rt: &R, path: &str, bytes: &[u8]) -> Result<(), Refusal>
+    ensures { IfErr result IsOfFiles }
+{
     match fs::write(rt, path, bytes) {
         Ok(()) => Ok(()),
         Err(error) if error.kind() == io::ErrorKind::OutOfMemory => Err(Refusal::NoMemory),
@@ -79,7 +84,9 @@ fn put<R: Files>(rt: &R, path: &str, bytes: &[u8]) -> Result<(), Refusal> {
 }
 
 /// Writes a log. One without bytes isn't written, and none is left in its place.
-fn put_log<R: Files>(rt: &R, path: &str, bytes: &[u8]) -> Result<(), Refusal> {
+fn put_log<R: Files>(rt: &R, path: &str, bytes: &[u8]) -> Result<(), Refusal>
+    ensures { IfErr result IsOfFiles }
+{
     if !bytes.is_empty() {
         return put(rt, path, bytes);
     }

@@ -1,7 +1,8 @@
 //! What crashes may leave of a recorded run, judged.
 #![tactic(auto)]
 
-ghost use Rattle.std.specs.Prelude.{◌≤◌, IfOk};
+ghost use Rattle.std.specs.Prelude.{◌≤◌, ℕ, List, IfOk};
+ghost use Rattle.sqcrash.specs.Ends.{Ends};
 
 mod commands;
 mod explained;
@@ -32,7 +33,7 @@ fn answer<R: Env + Files + AllocGlobal, O: Write, E: Write>(
     out: &mut O,
     err: &mut E,
 ) -> io::Result<u8>
-    ensures { IfOk result (λ status. status ≤ 3) }
+    ensures { IfOk result (λ status. (status ≤ 3) × ((words : List (List ℕ)) × Ends words status)) }
 {
     let alloc = rt.alloc();
     let words: Vec<String> = env::args(rt)?.collect(alloc)?;

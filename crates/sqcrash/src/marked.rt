@@ -1,7 +1,9 @@
 //! The databases that files show at the beginning of a trace and at each mark, each checked (own).
-ghost use Rattle.std.specs.Prelude.{◌≡◌, IfOk};
+ghost use Rattle.std.specs.Prelude.{◌≡◌, MatchResult};
 ghost use Rattle.sqcrash.specs.Runs.{no_run};
 ghost use Rattle.sqcrash.specs.Marked.{are_at_marks, AreMarked};
+ghost use Rattle.sqcrash.specs.Refusals.{IsOfMemory, PlayRefused};
+ghost use Rattle.sqcrash.specs.Refused.{MarkingRefused};
 
 use crate::outcome::Refusal;
 use crate::plan::{CommitsAt, Plan};
@@ -46,13 +48,14 @@ struct Marking {
 }
 
 impl Marking {
-    ghost use Rattle.std.specs.Prelude.{OnOk};
+    ghost use Rattle.std.specs.Prelude.{MatchResult};
     ghost use Rattle.sqcrash.specs.Marked.{NotesChecked, BeginsChecked, GoesOver, MarksBy};
     ghost use Rattle.sqcrash.specs.Markings.{marking_of};
 
     /// Takes what the present files show, and keeps what is wrong with it.
     fn note(&mut self, thread: u32) -> Result<(), Refusal>
-        ensures { OnOk result (NotesChecked thread (marking_of self.old) (marking_of self.new)) }
+        ensures { MatchResult result (λ done. NotesChecked thread (marking_of self.old) (marking_of self.new))
+            IsOfMemory }
     {
         let commit = self.run.commits();
         match self.run.note_checked(thread)? {
@@ -66,7 +69,8 @@ impl Marking {
 
     /// Takes commit 0 before the first call.
     fn begin(&mut self, thread: u32) -> Result<(), Refusal>
-        ensures { OnOk result (BeginsChecked thread (marking_of self.old) (marking_of self.new)) }
+        ensures { MatchResult result (λ done. BeginsChecked thread (marking_of self.old) (marking_of self.new))
+            IsOfMemory }
     {
         if self.run.commits() > 0 {
             return Ok(());
@@ -76,14 +80,18 @@ impl Marking {
 
     /// Plays the call of a record.
     fn go(&mut self, trace: &[u8], call: &Record) -> Result<(), Refusal>
-        ensures { OnOk result (GoesOver trace.now call.now (marking_of self.old) (marking_of self.new)) }
+        ensures { MatchResult result
+            (λ done. GoesOver trace.now call.now (marking_of self.old) (marking_of self.new))
+            (PlayRefused trace.now call.now (marking_of self.old).run) }
     {
         self.run.go(trace, call)
     }
 
     /// Plays one record of its trace, and takes what the files show where it is a mark.
     fn play(&mut self, trace: &[u8], call: &Record) -> Result<(), Refusal>
-        ensures { OnOk result (MarksBy call.now.kind trace.now call.now (marking_of self.old) (marking_of self.new)) }
+        ensures { MatchResult result
+            (λ done. MarksBy call.now.kind trace.now call.now (marking_of self.old) (marking_of self.new))
+            (PlayRefused trace.now call.now (marking_of self.old).run) }
     {
         match call.kind {
             Kind::Base => self.go(trace, call),
@@ -108,8 +116,9 @@ pub fn take_marked(
     bytes: &[u8],
     records: &[Record],
 ) -> Result<Marked, Refusal>
-    ensures { IfOk result
-        (AreMarked (no_run plan.promise plan.sector plan.tears plan.meta) bytes.now records.now) }
+    ensures { MatchResult result
+        (AreMarked (no_run plan.promise plan.sector plan.tears plan.meta) bytes.now records.now)
+        (MarkingRefused plan bytes.now records.now) }
 {
     let mut marking = Marking {
         run: Run::new(alloc, plan.promise, plan.sector, plan.tears, plan.meta),

@@ -1,5 +1,6 @@
 //! What comes of a run, or why it was refused.
-ghost use Rattle.std.specs.Prelude.{◌≡◌, ◌+◌, IfOk};
+ghost use Rattle.std.specs.Prelude.{◌≡◌, ◌+◌, MatchResult};
+ghost use Rattle.sqcrash.specs.Refusals.{IsTooMany};
 
 use crashdisk::DiskError;
 use sqjudge::SnapshotError;
@@ -41,7 +42,10 @@ pub enum Refusal {
 }
 
 impl From<AllocError> for Refusal {
-    ghost from_gives = { λ _ _. Unit {0} };
+    ghost use Rattle.std.specs.Prelude.{◌≡◌};
+    ghost use Rattle.sqcrash.specs.declared.outcome.Refusal.TheVariants.{NoMemory};
+
+    ghost from_gives = { λ _ refusal. refusal ≡ NoMemory };
 
     fn from(_error: AllocError) -> Refusal {
         Refusal::NoMemory
@@ -49,7 +53,10 @@ impl From<AllocError> for Refusal {
 }
 
 impl<T: Drop> From<AllocFailed<T>> for Refusal {
-    ghost from_gives = { λ _ _. Unit {0} };
+    ghost use Rattle.std.specs.Prelude.{◌≡◌};
+    ghost use Rattle.sqcrash.specs.declared.outcome.Refusal.TheVariants.{NoMemory};
+
+    ghost from_gives = { λ _ refusal. refusal ≡ NoMemory };
 
     fn from(_error: AllocFailed<T>) -> Refusal {
         Refusal::NoMemory
@@ -57,7 +64,10 @@ impl<T: Drop> From<AllocFailed<T>> for Refusal {
 }
 
 impl From<DiskError> for Refusal {
-    ghost from_gives = { λ _ _. Unit {0} };
+    ghost use Rattle.std.specs.Prelude.{◌≡◌};
+    ghost use Rattle.sqcrash.specs.declared.outcome.Refusal.TheVariants.{NoMemory};
+
+    ghost from_gives = { λ _ refusal. refusal ≡ NoMemory };
 
     fn from(_error: DiskError) -> Refusal {
         Refusal::NoMemory
@@ -65,7 +75,10 @@ impl From<DiskError> for Refusal {
 }
 
 impl From<SnapshotError> for Refusal {
-    ghost from_gives = { λ _ _. Unit {0} };
+    ghost use Rattle.std.specs.Prelude.{◌≡◌};
+    ghost use Rattle.sqcrash.specs.declared.outcome.Refusal.TheVariants.{NoMemory};
+
+    ghost from_gives = { λ _ refusal. refusal ≡ NoMemory };
 
     fn from(_error: SnapshotError) -> Refusal {
         Refusal::NoMemory
@@ -73,7 +86,10 @@ impl From<SnapshotError> for Refusal {
 }
 
 impl From<TraceError> for Refusal {
-    ghost from_gives = { λ _ _. Unit {0} };
+    ghost use Rattle.std.specs.Prelude.{◌≡◌};
+    ghost use Rattle.sqcrash.specs.declared.outcome.Refusal.TheVariants as refusals;
+
+    ghost from_gives = { λ error refusal. refusal ≡ refusals.Trace error };
 
     fn from(error: TraceError) -> Refusal {
         Refusal::Trace(error)
@@ -81,16 +97,19 @@ impl From<TraceError> for Refusal {
 }
 
 impl From<io::Error> for Refusal {
-    ghost from_gives = { λ _ _. Unit {0} };
+    ghost use Rattle.std.specs.Prelude.{◌≡◌};
+    ghost use Rattle.sqcrash.specs.declared.outcome.Refusal.TheVariants.{Unwritten};
+
+    ghost from_gives = { λ _ refusal. refusal ≡ Unwritten };
 
     fn from(_error: io::Error) -> Refusal {
         Refusal::Unwritten
     }
 }
 
-/// One more.
+/// One more. TooMany where that is above 18,446,744,073,709,551,615 (own).
 pub fn more(count: u64) -> Result<u64, Refusal>
-    ensures { IfOk result (λ n. n ≡ count + 1) }
+    ensures { MatchResult result (λ n. n ≡ count + 1) (IsTooMany count) }
 {
     match count.checked_add(1) {
         Some(n) => Ok(n),

@@ -1,9 +1,12 @@
 //! The program over a runtime's files and two writers.
-ghost use Rattle.std.specs.Prelude.{◌≡◌, ◌⊎◌, ◌<◌, ◌≤◌, ℕ, List, IfOk};
+ghost use Rattle.std.specs.Prelude.{◌≡◌, ◌⊎◌, ◌↔◌, ◌<◌, ◌≤◌, ℕ, List, IsTrue, IfOk, IfErr, map};
 ghost use Rattle.std.specs.Io.KnownBytes.{Appends};
 ghost use Rattle.std.specs.IoError.{error_kind};
 ghost use Rattle.std.specs.declared.io.ErrorKind.TheVariants.{OutOfMemory};
 ghost use Rattle.sqcrash.specs.Rigs.{IsJudgment, BeginsRig, rig_of};
+ghost use Rattle.sqcrash.specs.Refusals.{IsOfFiles};
+ghost use Rattle.sqcrash.specs.Refused.{IsRefusal, BeginRefused, IsFirstPart, IsNoPoint};
+ghost use Rattle.sqcrash.specs.Ends.{Comes, Ends, IsStatusOf};
 
 use crate::commands::request;
 use crate::explained::{write_findings, write_left};
@@ -11,7 +14,7 @@ use crate::keep::{Folder, Keeper};
 use crate::lines::write_commits;
 use crate::marked::{are_at_marks, take_marked};
 use crate::outcome::Refusal;
-use crate::plan::Plan;
+use crate::plan::{Part, Plan};
 use crate::requests::{LineError, Request};
 use crate::rig::Rig;
 use crate::survey::Tally;
@@ -39,7 +42,8 @@ pub fn run<R: Files + AllocGlobal, O: Write, E: Write>(
     out: &mut O,
     err: &mut E,
 ) -> u8
-    ensures { result ≤ 3 }
+    ensures least { result ≤ 3 }
+    ensures ends { Ends (map (λ w. w.now) words.entry.now) result }
 {
     let request = match request(rt.alloc(), words) {
         Ok(request) => request,
@@ -49,14 +53,22 @@ pub fn run<R: Files + AllocGlobal, O: Write, E: Write>(
         Err(LineError::NoMemory) => return refused(err, &LineError::NoMemory),
     };
     match carried_out(rt, &request, out) {
-        Ok(tally) if tally.is_clean() => DONE,
-        Ok(_) => WRONG,
+        Ok(tally) => status_of(&tally),
         Err(refusal) => refused(err, &refusal),
     }
 }
 
+/// The status of what was counted.
+fn status_of(tally: &Tally) -> u8
+    ensures { IsStatusOf tally.now result }
+{
+    if tally.is_clean() { DONE } else { WRONG }
+}
+
 /// The bytes of a file.
-fn read<R: Files + AllocGlobal>(rt: &R, path: &str) -> Result<Vec<u8>, Refusal> {
+fn read<R: Files + AllocGlobal>(rt: &R, path: &str) -> Result<Vec<u8>, Refusal>
+    ensures { IfErr result IsOfFiles }
+{
     match fs::read(rt, path) {
         Ok(bytes) => Ok(bytes),
         Err(error) if error.kind() == io::ErrorKind::OutOfMemory => Err(Refusal::NoMemory),
@@ -69,7 +81,9 @@ fn carried_out<R: Files + AllocGlobal, O: Write>(
     rt: &R,
     request: &Request<'_>,
     out: &mut O,
-) -> Result<Tally, Refusal> {
+) -> Result<Tally, Refusal>
+    ensures { Comes request.now.plan result }
+{
     let bytes = read(rt, request.trace)?;
     let mut folder = Folder::new(rt, request.keep, request.plan)?;
     let tally = judge_trace(rt.alloc(), request.plan, &bytes, &mut folder, out)?;
@@ -90,6 +104,7 @@ pub(crate) fn judge_trace<K: Keeper, O: Write>(
     ensures judged { IfOk result (λ tally. (lines : List ℕ) × IsJudgment plan bytes.now tally lines
         × Appends (O.contents out.old) (O.contents out.new) lines) }
     ensures some { IfOk result (λ tally. 0 < tally.points) }
+    ensures refused { IfErr result (IsRefusal plan bytes.now) }
 {
     let tally = judge_records(alloc, plan, bytes, keeper, out)?;
     if tally.points > 0 {
@@ -98,13 +113,27 @@ pub(crate) fn judge_trace<K: Keeper, O: Write>(
     Err(no_points(plan))
 }
 
-/// Why there is no point. Of a trace with a point the first one is of the first part.
-fn no_points(plan: Plan) -> Refusal {
-    match plan.part {
-        Some(part) if part.number > 1 => Refusal::NoPart,
-        _ if plan.every => Refusal::NoCalls,
-        _ => Refusal::NoMarks,
+/// Whether the first point is of the part that is asked for.
+fn is_first(part: Option<Part>) -> bool
+    ensures { IsTrue result ↔ IsFirstPart part }
+{
+    match part {
+        Some(part) => part.number <= 1,
+        None => true,
     }
+}
+
+/// Why there is no point. Of a trace with a point the first one is of the first part.
+fn no_points(plan: Plan) -> Refusal
+    ensures { IsNoPoint plan result }
+{
+    if !is_first(plan.part) {
+        return Refusal::NoPart;
+    }
+    if plan.every {
+        return Refusal::NoCalls;
+    }
+    Refusal::NoMarks
 }
 
 /// The rig by which the records of a trace are judged. Writes a line for each commit at a mark that isn't well formed.
@@ -118,6 +147,7 @@ fn begun<O: Write>(
     ensures begins { IfOk result (λ rig. (lines : List ℕ) × BeginsRig plan bytes.now records.now (rig_of rig) lines
         × Appends (O.contents out.old) (O.contents out.new) lines) }
     ensures plan { IfOk result (λ rig. rig.plan ≡ plan) }
+    ensures refused { IfErr result (BeginRefused plan bytes.now records.now) }
 {
     let mut rig = Rig::new(alloc, plan);
     if !are_at_marks(plan.commits) {
@@ -137,8 +167,9 @@ fn judge_records<K: Keeper, O: Write>(
     keeper: &mut K,
     out: &mut O,
 ) -> Result<Tally, Refusal>
-    ensures { IfOk result (λ tally. (lines : List ℕ) × IsJudgment plan bytes.now tally lines
+    ensures judged { IfOk result (λ tally. (lines : List ℕ) × IsJudgment plan bytes.now tally lines
         × Appends (O.contents out.old) (O.contents out.new) lines) }
+    ensures refused { IfErr result (IsRefusal plan bytes.now) }
 {
     let trace = Trace::read(alloc, bytes)?;
     let mut rig = begun(alloc, plan, bytes, trace.records.as_slice(), out)?;

@@ -61,10 +61,11 @@ fn begin_draws(plan: Plan, point: u64, rng: &mut Pcg32)
 }
 
 impl Rig {
-    ghost use Rattle.std.specs.Prelude.{◌≡◌, OnOk, IfOk};
+    ghost use Rattle.std.specs.Prelude.{◌≡◌, OnOk, IfOk, IfErr};
     ghost use Rattle.sqcrash.specs.Runs.{run_of};
     ghost use Rattle.sqcrash.specs.Surveys.{no_tally};
     ghost use Rattle.sqcrash.specs.Rigs.{rig_of, no_rig, marked_rig, stopped_at, Judges};
+    ghost use Rattle.sqcrash.specs.Refused.{RigRefused};
 
     /// Nothing is played yet.
     pub fn new(alloc: Global, plan: Plan) -> Rig
@@ -128,6 +129,7 @@ impl Rig {
         ensures judged { IfOk result
             (λ found. Judges self.old.plan trace.now call.now (rig_of self.old) (rig_of self.new) found.items) }
         ensures plan { OnOk result (self.new.plan ≡ self.old.plan) }
+        ensures refused { IfErr result (RigRefused self.old.plan trace.now call.now (rig_of self.old)) }
     {
         self.run.play(trace, call)?;
         if !is_point(self.plan.every, call) {

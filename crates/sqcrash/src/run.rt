@@ -1,8 +1,9 @@
 //! A recorded run: what it committed, and what is known to be durable (own).
-ghost use Rattle.std.specs.Prelude.{◌≡◌, ◌<◌, ◌^◌, length, IsTrue, OnOk, IfOk, cond};
+ghost use Rattle.std.specs.Prelude.{◌≡◌, ◌<◌, ◌^◌, length, IsTrue, OnOk, IfOk, IfErr, MatchResult, cond};
 ghost use Rattle.crashdisk.specs.Solid.{is_sector_size};
 ghost use Rattle.sqplay.specs.Plays.{files_of};
 ghost use Rattle.sqcrash.specs.Runs.{size_of};
+ghost use Rattle.sqcrash.specs.Refusals.{IsOfMemory, IsUnplayed, PlayRefused};
 
 use crate::outcome::{Refusal, more};
 use crate::plan::CommitsAt;
@@ -137,7 +138,7 @@ impl Run {
 
     /// The calls that aren't down in an image, where these are to be told.
     pub fn missing(&self, image: &Image) -> Result<Vec<Missing>, Refusal>
-        ensures { IfOk result (λ found. Explains (run_of self.now) image.now found.items) }
+        ensures { MatchResult result (λ found. Explains (run_of self.now) image.now found.items) IsOfMemory }
     {
         match self.why {
             Some(size) => Ok(missing_calls(self.alloc, size, &self.kept, image)?),
@@ -189,8 +190,8 @@ impl Run {
 
     /// The judgment of what a crash left.
     pub fn judge(&self, image: &Image) -> Result<Judgment, Refusal>
-        ensures { IfOk result (IsFilesJudgment (run_of self.now).commits (run_of self.now).known image.now.db.items
-            image.now.wal.items image.now.journal.items) }
+        ensures { MatchResult result (IsFilesJudgment (run_of self.now).commits (run_of self.now).known
+            image.now.db.items image.now.wal.items image.now.journal.items) IsOfMemory }
     {
         let (db, wal, journal) = (&image.db, &image.wal, &image.journal);
         Ok(judge_files(self.alloc, &self.history, self.known, db, wal, journal)?)
@@ -198,8 +199,9 @@ impl Run {
 
     /// The same where the log's scan is there, or isn't.
     pub fn judge_scanned(&self, image: &Image, scan: &Option<Scan>) -> Result<Judgment, Refusal>
-        ensures { IsScanOf image.now scan.now → IfOk result (IsFilesJudgment (run_of self.now).commits
+        ensures judged { IsScanOf image.now scan.now → IfOk result (IsFilesJudgment (run_of self.now).commits
             (run_of self.now).known image.now.db.items image.now.wal.items image.now.journal.items) }
+        ensures memory { IfErr result IsOfMemory }
     {
         let Some(scan) = scan else {
             return self.judge(image);
@@ -214,6 +216,7 @@ impl Run {
         ensures noted { IfOk result
             (NotesImage self.old.present thread (run_of self.old) (run_of self.new)) }
         ensures present { OnOk result (self.new.present ≡ self.old.present) }
+        ensures memory { IfErr result IsOfMemory }
     {
         let files = &self.present;
         let taken = self
@@ -227,7 +230,7 @@ impl Run {
 
     /// Takes the database that the present files show, where it isn't the last commit's.
     fn note(&mut self, thread: u32) -> Result<(), Refusal>
-        ensures { OnOk result (Notes thread (run_of self.old) (run_of self.new)) }
+        ensures { MatchResult result (λ done. Notes thread (run_of self.old) (run_of self.new)) IsOfMemory }
     {
         self.present.set_present(&self.player)?;
         self.note_present(thread)?;
@@ -236,7 +239,7 @@ impl Run {
 
     /// What is wrong with the database that the present files show, as they were looked at.
     fn fault(&self) -> Result<Option<CheckError>, Refusal>
-        ensures { IfOk result (IsFaultIn self.now.present) }
+        ensures { MatchResult result (IsFaultIn self.now.present) IsOfMemory }
     {
         let files = &self.present;
         Ok(fault_in_files(self.alloc, &files.db, &files.wal, &files.journal)?)
@@ -245,7 +248,7 @@ impl Run {
     /// Takes the database that the present files show, where it isn't the last commit's, and answers what is wrong with
     /// it. Refused by NoMemory, after which nothing is said of the run.
     pub fn note_checked(&mut self, thread: u32) -> Result<Option<CheckError>, Refusal>
-        ensures { IfOk result (NotesFault thread (run_of self.old) (run_of self.new)) }
+        ensures { MatchResult result (NotesFault thread (run_of self.old) (run_of self.new)) IsOfMemory }
     {
         self.present.set_present(&self.player)?;
         if self.note_present(thread)? {
@@ -257,7 +260,7 @@ impl Run {
 
     /// Whether the present files, as they were looked at, show the next of the commits at marks.
     fn shows_next(&self) -> Result<bool, Refusal>
-        ensures { IfOk result (ShowsLastOf self.now.waiting.items self.now.present) }
+        ensures { MatchResult result (ShowsLastOf self.now.waiting.items self.now.present) IsOfMemory }
     {
         let count = self.waiting.len();
         if count == 0 {
@@ -275,7 +278,8 @@ impl Run {
 
     /// Takes the next of the commits at marks.
     fn push_next(&mut self, thread: u32) -> Result<(), Refusal>
-        ensures { OnOk result (TakesLastOf self.old.waiting.items thread (run_of self.old) (run_of self.new)) }
+        ensures { MatchResult result
+            (λ done. TakesLastOf self.old.waiting.items thread (run_of self.old) (run_of self.new)) IsOfMemory }
     {
         let Some(next) = self.waiting.pop() else {
             return Ok(());
@@ -287,7 +291,8 @@ impl Run {
 
     /// Takes the next of the commits at marks, where the present files show it.
     fn take_next(&mut self, thread: u32) -> Result<(), Refusal>
-        ensures { OnOk result (TakesWaiting (run_of self.old).waiting thread (run_of self.old) (run_of self.new)) }
+        ensures { MatchResult result
+            (λ done. TakesWaiting (run_of self.old).waiting thread (run_of self.old) (run_of self.new)) IsOfMemory }
     {
         if self.waiting.len() == 0 {
             return Ok(());
@@ -301,7 +306,7 @@ impl Run {
 
     /// Takes what the present files show as a commit, where it is one.
     fn take(&mut self, thread: u32) -> Result<(), Refusal>
-        ensures { OnOk result (Takes thread (run_of self.old) (run_of self.new)) }
+        ensures { MatchResult result (λ done. Takes thread (run_of self.old) (run_of self.new)) IsOfMemory }
     {
         match self.taken_at {
             CommitsAt::Calls => self.note(thread),
@@ -311,7 +316,7 @@ impl Run {
 
     /// Takes commit 0 before the first call.
     fn begin(&mut self, thread: u32) -> Result<(), Refusal>
-        ensures { OnOk result (Begins thread (run_of self.old) (run_of self.new)) }
+        ensures { MatchResult result (λ done. Begins thread (run_of self.old) (run_of self.new)) IsOfMemory }
     {
         if self.history.len() > 0 {
             return Ok(());
@@ -324,6 +329,7 @@ impl Run {
         ensures long { IfOk result (λ n. (n ≡ length (file_in subject self.new.present)) × (n < 2 ^ 63)) }
         ensures present { OnOk result (IsPresent (run_of self.old).files self.new.present) }
         ensures same { OnOk result (run_of self.new ≡ run_of self.old) }
+        ensures memory { IfErr result IsOfMemory }
     {
         self.present.set_present(&self.player)?;
         Ok(file_in(subject, &self.present).len() as u64)
@@ -334,6 +340,7 @@ impl Run {
         ensures step { OnOk result (Step trace.now call.now (run_of self.old).files (run_of self.new).files) }
         ensures rest { OnOk result
             (run_of self.new ≡ record (run_of self.old) { files = (run_of self.new).files }) }
+        ensures refused { IfErr result (IsUnplayed (run_of self.old).files trace.now call.now) }
     {
         match self.player.play(trace, call) {
             Ok(()) => Ok(()),
@@ -348,8 +355,8 @@ impl Run {
         size: SectorSize,
         playing: Playing,
     ) -> Result<Option<Change>, Refusal>
-        ensures { IfOk result
-            (ChangeAnswer size.bytes call.now playing (file_in call.now.subject self.now.present)) }
+        ensures { MatchResult result
+            (ChangeAnswer size.bytes call.now playing (file_in call.now.subject self.now.present)) IsOfMemory }
     {
         let present = file_in(call.subject, &self.present);
         Ok(change_of(self.alloc, size, call, playing, present)?)
@@ -357,8 +364,9 @@ impl Run {
 
     /// Keeps a change, if it is one.
     fn keep(&mut self, change: Option<Change>) -> Result<(), Refusal>
-        ensures { OnOk result
-            (run_of self.new ≡ record (run_of self.old) { kept = with_change (run_of self.old).kept change }) }
+        ensures { MatchResult result
+            (λ done. run_of self.new ≡ record (run_of self.old) { kept = with_change (run_of self.old).kept change })
+            IsOfMemory }
     {
         match change {
             Some(change) => {
@@ -371,7 +379,9 @@ impl Run {
 
     /// Plays the call of a record, and keeps it where it changed a file.
     fn go_kept(&mut self, trace: &[u8], call: &Record, size: SectorSize) -> Result<(), Refusal>
-        ensures { OnOk result (GoesKept size.bytes trace.now call.now (run_of self.old) (run_of self.new)) }
+        ensures { MatchResult result
+            (λ done. GoesKept size.bytes trace.now call.now (run_of self.old) (run_of self.new))
+            (PlayRefused trace.now call.now (run_of self.old)) }
     {
         let number = more(self.played)?;
         let was = self.length_of(call.subject)?;
@@ -386,7 +396,8 @@ impl Run {
 
     /// Plays the call of a record.
     fn go_plain(&mut self, trace: &[u8], call: &Record) -> Result<(), Refusal>
-        ensures { OnOk result (GoesPlain trace.now call.now (run_of self.old) (run_of self.new)) }
+        ensures { MatchResult result (λ done. GoesPlain trace.now call.now (run_of self.old) (run_of self.new))
+            (PlayRefused trace.now call.now (run_of self.old)) }
     {
         let number = more(self.played)?;
         self.move_files(trace, call)?;
@@ -396,7 +407,8 @@ impl Run {
 
     /// Plays the call of a record. Refused by Record, TooMany and NoMemory, after which nothing is said of the run.
     pub fn go(&mut self, trace: &[u8], call: &Record) -> Result<(), Refusal>
-        ensures { OnOk result (Goes trace.now call.now (run_of self.old) (run_of self.new)) }
+        ensures { MatchResult result (λ done. Goes trace.now call.now (run_of self.old) (run_of self.new))
+            (PlayRefused trace.now call.now (run_of self.old)) }
     {
         match self.why {
             Some(size) => self.go_kept(trace, call, size),
@@ -406,7 +418,8 @@ impl Run {
 
     /// Plays the call of a record, and takes what it commits.
     fn play_call(&mut self, trace: &[u8], call: &Record) -> Result<(), Refusal>
-        ensures { OnOk result (Calls trace.now call.now (run_of self.old) (run_of self.new)) }
+        ensures { MatchResult result (λ done. Calls trace.now call.now (run_of self.old) (run_of self.new))
+            (PlayRefused trace.now call.now (run_of self.old)) }
     {
         self.begin(call.thread)?;
         self.go(trace, call)?;
@@ -434,9 +447,10 @@ impl Run {
         self.known = self.known.max(self.promise.promised(Mark::of(line), last));
     }
 
-    /// Plays one record of its trace. Refused by Record and NoMemory, after which nothing is said of the run.
+    /// Plays one record of its trace. Refused by Record, TooMany and NoMemory, after which nothing is said of the run.
     pub fn play(&mut self, trace: &[u8], call: &Record) -> Result<(), Refusal>
-        ensures { OnOk result (PlaysOne trace.now call.now (run_of self.old) (run_of self.new)) }
+        ensures { MatchResult result (λ done. PlaysOne trace.now call.now (run_of self.old) (run_of self.new))
+            (PlayRefused trace.now call.now (run_of self.old)) }
     {
         match call.kind {
             Kind::Base => self.go(trace, call),

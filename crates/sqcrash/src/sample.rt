@@ -1,8 +1,9 @@
 //! Images that are drawn at a point, each judged once (own).
-ghost use Rattle.std.specs.Prelude.{◌≡◌, ◌<◌, ◌⊎◌, OnOk, IfOk};
+ghost use Rattle.std.specs.Prelude.{◌≡◌, ◌<◌, ◌⊎◌, OnOk, IfErr, MatchResult};
 ghost use Rattle.sqimages.specs.Torn.{NoneTears};
 ghost use Rattle.sqcrash.specs.Runs.{run_of};
 ghost use Rattle.sqcrash.specs.Surveys.{IsFixedScan, IsDrawnSurvey, IsTornSurvey};
+ghost use Rattle.sqcrash.specs.Refusals.{IsOfMemory, JudgingRefused};
 
 use crate::keep::Keeper;
 use crate::outcome::Refusal;
@@ -24,7 +25,7 @@ struct Sample {
 }
 
 impl Sample {
-    ghost use Rattle.std.specs.Prelude.{◌≡◌, ◌↔◌, ℕ, false, nat_eq, IsTrue, OnOk, IfOk};
+    ghost use Rattle.std.specs.Prelude.{◌≡◌, ◌↔◌, ℕ, false, nat_eq, IsTrue, OnOk};
     ghost use Rattle.sqcrash.specs.Runs.{run_of};
     ghost use Rattle.sqcrash.specs.Surveys.{IsScanOf};
     ghost use Rattle.std.specs.HashSet.{contains};
@@ -51,7 +52,7 @@ impl Sample {
 
     /// Takes an image, unless one of its key was taken before, or there are enough. Answers whether it did.
     fn takes(&mut self, image: &Image) -> Result<bool, Refusal>
-        ensures { IfOk result (λ taken. Takes (key_of image.now) taken self.old self.new) }
+        ensures { MatchResult result (λ taken. Takes (key_of image.now) taken self.old self.new) IsOfMemory }
     {
         if self.left == 0 {
             return Ok(false);
@@ -72,8 +73,9 @@ impl Sample {
         keeper: &mut K,
         survey: &mut Survey,
     ) -> Result<(), Refusal>
-        ensures { IsScanOf image.now scan.now
+        ensures judged { IsScanOf image.now scan.now
             → OnOk result (GoesOn (run_of run.now) image.now self.old self.new survey.old survey.new) }
+        ensures refused { IfErr result (JudgingRefused 1 survey.old) }
     {
         let taken = self.takes(image)?;
         if !taken {
@@ -113,7 +115,8 @@ pub fn survey_redrawn<R: Rng, K: Keeper>(
     keeper: &mut K,
     survey: &mut Survey,
 ) -> Result<(), Refusal>
-    ensures { OnOk result (IsDrawnSurvey (run_of run.now) limit survey.old survey.new) }
+    ensures { MatchResult result (λ done. IsDrawnSurvey (run_of run.now) limit survey.old survey.new)
+        (JudgingRefused limit survey.old) }
 {
     let alloc = run.alloc();
     let player = run.player();
@@ -140,7 +143,8 @@ pub fn survey_drawn<R: Rng, K: Keeper>(
     keeper: &mut K,
     survey: &mut Survey,
 ) -> Result<(), Refusal>
-    ensures { OnOk result (IsDrawnSurvey (run_of run.now) limit survey.old survey.new) }
+    ensures { MatchResult result (λ done. IsDrawnSurvey (run_of run.now) limit survey.old survey.new)
+        (JudgingRefused limit survey.old) }
 {
     let alloc = run.alloc();
     let player = run.player();
@@ -166,7 +170,8 @@ pub fn survey_torn<R: Rng, K: Keeper>(
     keeper: &mut K,
     survey: &mut Survey,
 ) -> Result<(), Refusal>
-    ensures { OnOk result (IsTornSurvey (run_of run.now) which limit survey.old survey.new) }
+    ensures { MatchResult result (λ done. IsTornSurvey (run_of run.now) which limit survey.old survey.new)
+        (JudgingRefused limit survey.old) }
 {
     let alloc = run.alloc();
     let player = run.player();

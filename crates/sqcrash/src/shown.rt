@@ -1,7 +1,8 @@
 //! What is shown of an image with something wrong: where that is asked for, it is shrunk first (own).
-ghost use Rattle.std.specs.Prelude.{◌≡◌, Some, IfOk};
+ghost use Rattle.std.specs.Prelude.{◌≡◌, Some, MatchResult};
 ghost use Rattle.sqshrink.specs.Shrunk.{IsShrunk};
 ghost use Rattle.sqcrash.specs.Runs.{run_of};
+ghost use Rattle.sqcrash.specs.Refusals.{IsOfMemory};
 ghost use Rattle.sqcrash.specs.Surveys.{is_lost, is_mixed, is_fault, are_alike, IsFoundAs, Shows, ShowsBy, shown_of};
 
 use crate::outcome::Refusal;
@@ -79,8 +80,8 @@ fn shrunk(
     image: &Image,
     judgment: Judgment,
 ) -> Result<Option<Image>, Refusal>
-    ensures { IfOk result (λ shrunk. IsShrunk (IsFoundAs (run_of run.now) judgment) (run_of run.now).files size.bytes
-        image.now (shown_of image.now shrunk)) }
+    ensures { MatchResult result (λ shrunk. IsShrunk (IsFoundAs (run_of run.now) judgment) (run_of run.now).files
+        size.bytes image.now (shown_of image.now shrunk)) IsOfMemory }
 {
     let found = Found { run, judgment };
     let shrunk = shrink(run.alloc(), run.player(), size, &found, image)?;
@@ -89,8 +90,8 @@ fn shrunk(
 
 /// The same where images are to be shrunk; none where they aren't.
 fn shrunk_by(run: &Run, image: &Image, judgment: Judgment) -> Result<Option<Image>, Refusal>
-    ensures { IfOk result (λ shrunk. ShowsBy (run_of run.now).shrinks (run_of run.now) judgment image.now
-        (shown_of image.now shrunk)) }
+    ensures { MatchResult result (λ shrunk. ShowsBy (run_of run.now).shrinks (run_of run.now) judgment image.now
+        (shown_of image.now shrunk)) IsOfMemory }
 {
     match run.shrinks() {
         Some(size) => shrunk(run, size, image, judgment),
@@ -100,7 +101,8 @@ fn shrunk_by(run: &Run, image: &Image, judgment: Judgment) -> Result<Option<Imag
 
 /// What an image that is judged so is shrunk to, where it is to be; none where nothing is wrong with it.
 pub fn shrunk_in(run: &Run, image: &Image, judgment: Judgment) -> Result<Option<Image>, Refusal>
-    ensures { IfOk result (λ shrunk. Shows (run_of run.now) judgment image.now (shown_of image.now shrunk)) }
+    ensures { MatchResult result (λ shrunk. Shows (run_of run.now) judgment image.now (shown_of image.now shrunk))
+        IsOfMemory }
 {
     match judgment {
         Judgment::Kept(_) => Ok(None),

@@ -1,9 +1,10 @@
 //! The images of a point are judged, counted and told (own).
-ghost use Rattle.std.specs.Prelude.{◌≡◌, ◌+◌, OnOk, IfOk};
+ghost use Rattle.std.specs.Prelude.{◌≡◌, ◌+◌, IfOk, IfErr, MatchResult};
 ghost use Rattle.sqimages.specs.Images.{AreCounts};
 ghost use Rattle.sqcrash.specs.Runs.{run_of};
 ghost use Rattle.sqcrash.specs.Surveys.{IsNumberedSurvey, IsDrawnSurvey, IsUntornSurvey, IsSurvey, third_of};
 ghost use Rattle.sqcrash.specs.Surveys.{Shows, ExplainsWrong};
+ghost use Rattle.sqcrash.specs.Refusals.{IsOfMemory, IsOfFiles, JudgingRefused, SurveyRefused};
 
 use crate::finding::Finding;
 use crate::keep::Keeper;
@@ -40,8 +41,10 @@ fn third_of(limit: u64) -> u64
 }
 
 impl Tally {
-    ghost use Rattle.std.specs.Prelude.{◌≡◌, ◌↔◌, IsTrue, IfOk};
+    ghost use Rattle.std.specs.Prelude.{◌≡◌, ◌↔◌, IsTrue, MatchResult};
     ghost use Rattle.sqcrash.specs.Surveys.{no_tally, with_point, with_image, IsClean};
+    ghost use Rattle.sqcrash.specs.Refusals.{IsTooMany, HasRoom};
+    ghost use Rattle.sqcrash.specs.declared.outcome.Refusal.TheVariants.{TooMany};
 
     /// None.
     pub fn none() -> Tally
@@ -65,7 +68,7 @@ impl Tally {
 
     /// With one more point.
     fn with_point(mut self) -> Result<Tally, Refusal>
-        ensures { IfOk result (λ t. t ≡ with_point self) }
+        ensures { MatchResult result (λ t. t ≡ with_point self) (IsTooMany self.points) }
     {
         self.points = more(self.points)?;
         Ok(self)
@@ -73,7 +76,8 @@ impl Tally {
 
     /// With one more image, which is judged so.
     fn with_image(mut self, judgment: &Judgment) -> Result<Tally, Refusal>
-        ensures { IfOk result (λ t. t ≡ with_image self judgment.now) }
+        ensures { MatchResult result (λ t. t ≡ with_image self judgment.now)
+            (λ refusal. (refusal ≡ TooMany) × ¬ HasRoom 1 self) }
     {
         self.images = more(self.images)?;
         match judgment {
@@ -108,14 +112,15 @@ pub struct Survey {
 }
 
 impl Survey {
-    ghost use Rattle.std.specs.Prelude.{◌≡◌, ◌+◌, ◌++◌, OnOk, IfOk};
+    ghost use Rattle.std.specs.Prelude.{◌≡◌, ◌+◌, ◌++◌, OnOk, IfErr, MatchResult};
+    ghost use Rattle.sqcrash.specs.Refusals.{IsTooMany, JudgingRefused};
     ghost use Rattle.sqcrash.specs.Runs.{run_of};
     ghost use Rattle.sqcrash.specs.Surveys.{IsScanOf, IsBegun};
     ghost use Rattle.sqcrash.specs.Samples.{Adds, TakesOne};
 
     /// At the next point.
     fn new(alloc: Global, before: Tally) -> Result<Survey, Refusal>
-        ensures { IfOk result (IsBegun before) }
+        ensures { MatchResult result (IsBegun before) (IsTooMany before.points) }
     {
         Ok(Survey {
             tally: before.with_point()?,
@@ -126,7 +131,8 @@ impl Survey {
 
     /// Counts an image, and keeps what is wrong with it, and which calls aren't down in it.
     fn add(&mut self, judgment: Judgment, missing: Vec<Missing>) -> Result<(), Refusal>
-        ensures { OnOk result (Adds judgment missing.items self.old self.new) }
+        ensures { MatchResult result (λ done. Adds judgment missing.items self.old self.new)
+            (JudgingRefused 1 self.old) }
     {
         self.tally = self.tally.with_image(&judgment)?;
         let image = self.next;
@@ -146,7 +152,9 @@ impl Survey {
         scan: &Option<Scan>,
         keeper: &mut K,
     ) -> Result<(), Refusal>
-        ensures { IsScanOf image.now scan.now → OnOk result (TakesOne (run_of run.now) image.now self.old self.new) }
+        ensures judged { IsScanOf image.now scan.now
+            → OnOk result (TakesOne (run_of run.now) image.now self.old self.new) }
+        ensures refused { IfErr result (JudgingRefused 1 self.old) }
     {
         let judgment = run.judge_scanned(image, scan)?;
         let shrunk = shrunk_in(run, image, judgment)?;
@@ -166,8 +174,9 @@ fn missing_in(
     shown: &Image,
     judgment: Judgment,
 ) -> Result<Vec<Missing>, Refusal>
-    ensures { Shows (run_of run.now) judgment image.now shown.now
+    ensures explained { Shows (run_of run.now) judgment image.now shown.now
         → IfOk result (λ found. ExplainsWrong (run_of run.now) image.now judgment found.items) }
+    ensures memory { IfErr result IsOfMemory }
 {
     match judgment {
         Judgment::Kept(_) => Ok(Vec::new(run.alloc())),
@@ -181,7 +190,9 @@ fn keep_wrong<K: Keeper>(
     number: u64,
     image: &Image,
     judgment: Judgment,
-) -> Result<(), Refusal> {
+) -> Result<(), Refusal>
+    ensures { IfErr result IsOfFiles }
+{
     match judgment {
         Judgment::Kept(_) => Ok(()),
         _ => keeper.keep(number, image),
@@ -196,7 +207,8 @@ fn survey_numbered<K: Keeper>(
     survey: &mut Survey,
 ) -> Result<(), Refusal>
     requires { AreCounts (run_of run.now).files counts.now }
-    ensures { OnOk result (IsNumberedSurvey (run_of run.now) survey.old survey.new) }
+    ensures { MatchResult result (λ done. IsNumberedSurvey (run_of run.now) survey.old survey.new)
+        (JudgingRefused counts.now.images survey.old) }
 {
     let mut image = Image::none(run.alloc());
     for n in 0..counts.images() {
@@ -214,7 +226,8 @@ fn survey_some<R: Rng, K: Keeper>(
     keeper: &mut K,
     survey: &mut Survey,
 ) -> Result<(), Refusal>
-    ensures { OnOk result (IsDrawnSurvey (run_of run.now) limit survey.old survey.new) }
+    ensures { MatchResult result (λ done. IsDrawnSurvey (run_of run.now) limit survey.old survey.new)
+        (JudgingRefused limit survey.old) }
 {
     if run.player().earlier().is_empty() {
         survey_redrawn(run, limit, rng, keeper, survey)
@@ -231,7 +244,8 @@ fn survey_untorn<R: Rng, K: Keeper>(
     keeper: &mut K,
     survey: &mut Survey,
 ) -> Result<(), Refusal>
-    ensures { OnOk result (IsUntornSurvey (run_of run.now) limit survey.old survey.new) }
+    ensures { MatchResult result (λ done. IsUntornSurvey (run_of run.now) limit survey.old survey.new)
+        (JudgingRefused limit survey.old) }
 {
     match Counts::of(run.alloc(), run.player(), limit)? {
         Some(counts) => survey_numbered(run, &counts, keeper, survey),
@@ -250,7 +264,7 @@ pub fn judge_images<R: Rng, K: Keeper>(
     keeper: &mut K,
     before: Tally,
 ) -> Result<Survey, Refusal>
-    ensures { IfOk result (IsSurvey (run_of run.now) limit before) }
+    ensures { MatchResult result (IsSurvey (run_of run.now) limit before) (SurveyRefused limit before) }
 {
     let mut survey = Survey::new(run.alloc(), before)?;
     survey_untorn(run, limit, rng, keeper, &mut survey)?;

@@ -1,4 +1,4 @@
-use Rattle.std.proofs.Common.{List, [], take, get_or, refl, sym, subst}
+use Rattle.std.proofs.Common.{◌+◌, List, [], take, drop, get_or, refl, sym, subst}
 use Rattle.std.proofs.lemmas.List.{take_more, take_all}
 use Rattle.sqplay.specs.declared.trace.Kind.TheVariants.{Base}
 use Rattle.sqplay.specs.declared.trace.Subject.TheVariants.{Db}
@@ -8,6 +8,8 @@ use Rattle.sqcrash.specs.Marked.{MarkState, MarksAll}
 use Rattle.sqcrash.specs.Markings.{marking_of}
 use Rattle.sqcrash.specs.declared.plan.Plan.{Plan}
 use Rattle.sqcrash.proofs.MarkedRecords.{marks_more}
+use Rattle.sqcrash.proofs.RefusedTraces.{marking_refused, split_at}
+use Rattle.sqcrash.proofs.PassedRefusals.{passed}
 use Rattle.sqcrash.proofs.marked.take_marked.Goals as goal
 
 -- what stands for a record behind the last
@@ -37,3 +39,12 @@ returns c =
       commits = c.into_commits.ensures;
       faults = refl;
     }
+
+pub returns-in_err-play : goal.returns-in_err-play
+unfolding behind
+returns-in_err-play c =
+    let records = c.args.records.now in
+    let i = c.loop-call.call-index in
+    passed c.from_residual.result _ _ _ c.from_residual.ensures.1
+    (marking_refused c.args.plan c.args.bytes.now records (take i records) (drop (i + 1) records) (get_or records i behind) (marking_of c.loop-call.marking) _
+    (split_at records i behind c.loop-call-test.true) c.loop-call.invariant c.in_err-play.ensures)

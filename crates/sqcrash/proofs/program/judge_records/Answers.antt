@@ -1,4 +1,4 @@
-use Rattle.std.proofs.Common.{◌≡◌, ℕ, Option, List, [], ◌++◌, length, take, get_or, refl, sym, ◌∙◌, subst, arith}
+use Rattle.std.proofs.Common.{◌≡◌, ℕ, ◌+◌, ◌<◌, ◌≤◌, Option, List, [], ◌∷◌, ◌++◌, length, length-append, take, drop, get_or, refl, sym, ◌∙◌, subst, arith}
 use Rattle.std.proofs.lemmas.List.{take_more, take_all}
 use Rattle.std.specs.Io.KnownBytes.{Appends}
 use Rattle.sqplay.specs.declared.trace.Kind.TheVariants.{Base}
@@ -6,13 +6,20 @@ use Rattle.sqplay.specs.declared.trace.Subject.TheVariants.{Db}
 use Rattle.sqplay.specs.declared.trace.Record.{Record}
 use Rattle.sqcrash.specs.Lines.{texts_of, joined, first_of, left_text}
 use Rattle.sqcrash.specs.Writes.{Writes}
-use Rattle.sqcrash.specs.Rigs.{rig_of, Judges, JudgesAll, BeginsRig, texts_at}
+use Rattle.sqcrash.specs.Rigs.{RigState, rig_of, Judges, JudgesAll, BeginsRig, texts_at}
 use Rattle.sqcrash.specs.declared.plan.Plan.{Plan}
 use Rattle.sqcrash.specs.Told.{Told}
 use Rattle.sqcrash.specs.declared.stopped.Stopped.{Stopped}
 use Rattle.sqcrash.proofs.JudgedRecords.{judges_more}
 use Rattle.sqcrash.proofs.AppendedBytes.{appends_more}
 use Rattle.sqcrash.proofs.WrittenTexts.{writes_none, writes_more, behind_none}
+use Rattle.sqplay.specs.Trace.{IsTrace}
+use Rattle.sqplay.specs.declared.trace.Trace.{Trace}
+use Rattle.sqcrash.specs.Marked.{are_at_marks}
+use Rattle.sqcrash.specs.Refusals.{WriteRefused}
+use Rattle.sqcrash.specs.Refused.{RigRefused, BeginRefused}
+use Rattle.sqcrash.proofs.PassedRefusals.{passed}
+use Rattle.sqcrash.proofs.RefusedTraces.{IsFirst, IsJudgedTo, is_first, split_at, of_begin, of_rig, of_writes}
 use Rattle.sqcrash.proofs.program.judge_records.Goals as goal
 
 -- what stands for a record behind the last
@@ -55,8 +62,8 @@ loop-call-preserved g c =
       plan = c.in_ok-findings.ensures.plan ∙ c.loop-call.invariant.plan;
     }
 
-pub returns : goal.returns
-returns g c =
+pub returns-clause-judged : goal.returns-clause-judged
+returns-clause-judged g c =
     let plan = c.args.plan in
     let bytes = c.args.bytes.now in
     let first = rig_of c.in_ok-rig.rig in
@@ -90,3 +97,69 @@ returns g c =
       },
       appends_more old mid new begun.0 (of_texts ++ left) begun.2 (appends_more mid told new of_texts left of_first of_left),
     )
+
+-- the records before one that is refused were judged
+judged_to : (plan : Plan) (b : List ℕ) (trace : Trace) (records slice : List Record) (i : ℕ) (first mid : RigState) (of_commits : List ℕ) (lines : List (List ℕ))
+    → IsTrace b trace → records ≡ trace.records.items → slice ≡ trace.records.items → i < length records → BeginsRig plan b slice first of_commits
+    → JudgesAll plan b (take i records) first mid lines
+    → IsJudgedTo plan b trace (take i records) (drop (i + 1) records) (get_or records i behind) mid lines
+judged_to plan b trace records slice i first mid of_commits lines is all same below begins judged = record {
+  trace = is;
+  split = sym all ∙ split_at records i behind below;
+  first = first;
+  is_first = subst (λ (l : List Record). IsFirst plan (length l) first) same (is_first (are_at_marks plan.commits) plan b slice first of_commits begins);
+  judged = judged;
+}
+
+pub returns-in_err-rig-clause-refused : goal.returns-in_err-rig-clause-refused
+returns-in_err-rig-clause-refused g c =
+    let plan = c.args.plan in
+    let bytes = c.args.bytes.now in
+    let trace = c.in_ok-trace.trace in
+    let refused = subst (λ (l : List Record). BeginRefused plan bytes l c.in_err-rig.field-0.0) c.as_slice.ensures.value c.in_err-rig.ensures.refused in
+    passed c.from_residual-in_err-rig.result _ _ _ c.from_residual-in_err-rig.ensures.1 (of_begin plan bytes trace _ c.in_ok-trace.ensures refused)
+
+pub returns-in_err-findings-clause-refused : goal.returns-in_err-findings-clause-refused
+unfolding behind
+returns-in_err-findings-clause-refused g c =
+    let plan = c.args.plan in
+    let bytes = c.args.bytes.now in
+    let trace = c.in_ok-trace.trace in
+    let records = c.deref-call-items.result.now in
+    let i = c.loop-call.call-index in
+    let mid = rig_of c.loop-call.rig in
+    let so_far = c.loop-call.invariant.judged in
+    let r = get_or records i behind in
+    let begun = c.in_ok-rig.ensures.begins in
+    let to = judged_to plan bytes trace records c.as_slice.result.now i (rig_of c.in_ok-rig.rig) mid begun.0 so_far.0 c.in_ok-trace.ensures
+    c.deref-call-items.ensures.value c.as_slice.ensures.value c.loop-call-test.true begun.1 so_far.1 in
+    let refused = subst (λ (p : Plan). RigRefused p bytes r mid c.in_err-findings.field-0.0) c.loop-call.invariant.plan c.in_err-findings.ensures.refused in
+    passed c.from_residual-in_err-findings.result _ _ _ c.from_residual-in_err-findings.ensures.1
+    (of_rig plan bytes trace (take i records) (drop (i + 1) records) r mid so_far.0 _ to refused)
+
+pub returns-in_err-next-clause-refused : goal.returns-in_err-next-clause-refused
+unfolding behind
+returns-in_err-next-clause-refused g c =
+    let plan = c.args.plan in
+    let bytes = c.args.bytes.now in
+    let trace = c.in_ok-trace.trace in
+    let records = c.deref-call-items.result.now in
+    let i = c.loop-call.call-index in
+    let first = rig_of c.in_ok-rig.rig in
+    let mid = rig_of c.loop-call.rig in
+    let new = rig_of c.play.new.self in
+    let found = c.in_ok-findings.findings.items in
+    let so_far = c.loop-call.invariant.judged in
+    let r = get_or records i behind in
+    let of_found = texts_at plan bytes r new found in
+    let texts = so_far.0 ++ of_found in
+    let told = c.loop-call.told in
+    let judged = subst (λ (p : Plan). Judges p bytes r mid new found) c.loop-call.invariant.plan c.in_ok-findings.ensures.judged in
+    let all = judges_more plan bytes (take i records) r first mid new so_far.0 found so_far.1 judged in
+    let count : told + length of_found ≤ length texts = omega (arith, so_far.2.0, length-append so_far.0 of_found) in
+    let split : trace.records.items ≡ take i records ++ r ∷ drop (i + 1) records = sym c.deref-call-items.ensures.value ∙ split_at records i behind c.loop-call-test.true in
+    let refused : WriteRefused told (length of_found) c.in_err-next.field-0.0 =
+    subst (λ (at : Stopped). WriteRefused told (length (texts_of plan at found)) c.in_err-next.field-0.0) c.stopped.ensures
+    (subst (λ (l : List Told). WriteRefused told (length (texts_of plan c.stopped.result l)) c.in_err-next.field-0.0) c.deref.ensures.value c.in_err-next.ensures) in
+    passed c.from_residual-in_err-next.result _ _ _ c.from_residual-in_err-next.ensures.1
+    (of_writes plan bytes trace (take i records) (drop (i + 1) records) r first new texts told (length of_found) _ c.in_ok-trace.ensures split all count refused)

@@ -4,6 +4,8 @@ use Rattle.sqplay.specs.Plays.{Files}
 use Rattle.sqimages.specs.declared.image.Image.{Image}
 use Rattle.sqcrash.specs.Runs.{run_of}
 use Rattle.sqcrash.proofs.SampledImages.{sampled_none, sampled_on, sample_done}
+use Rattle.sqcrash.proofs.RefusedImages.{judging_sampled}
+use Rattle.sqcrash.proofs.PassedRefusals.{passed}
 use Rattle.sqcrash.proofs.sample.survey_drawn.Goals as goal
 
 pub loop-n-init : goal.loop-n-init
@@ -18,7 +20,7 @@ loop-n-preserved g c =
     let Left : Image → Type 0 = λ image. MayLeave run.files image in
     let so_far = c.loop-n.invariant in
     let full : c.loop-n.sample.left ≢ 0 = λ e. let no : false ≡ true = c.if-is_full.ensures.1 e in cc in
-    let on = sampled_on Left run c.args.limit c.args.survey.now c.loop-n.sample c.judge.new.self c.loop-n.survey c.judge.new.survey c.loop-n.image so_far.1 so_far.0 (omega arith) (c.in_ok-judge.ensures tt) in
+    let on = sampled_on Left run c.args.limit c.args.survey.now c.loop-n.sample c.judge.new.self c.loop-n.survey c.judge.new.survey c.loop-n.image so_far.1 so_far.0 (omega arith) (c.in_ok-judge.ensures.judged tt) in
     (subst (λ (s : Files). MayLeave s c.draw-in-loop-n.new.image) c.player-player.ensures c.in_ok-draw-2.ensures, on.0, λ went. on.1)
 
 pub returns-then-is_full : goal.returns-then-is_full
@@ -37,3 +39,11 @@ returns g c =
     let end : c.loop-n.n ≡ c.tries-n-end.result = omega (arith, c.loop-n.auto.n-end, c.loop-n-test.false) in
     sample_done Left run c.args.limit c.args.survey.now c.loop-n.survey c.loop-n.sample so
     (λ some. c.loop-n.invariant.2 (let went : 0 < c.loop-n.n = omega (arith, end, c.tries-n-end.ensures some) in went))
+
+pub returns-in_err-judge : goal.returns-in_err-judge
+returns-in_err-judge g c =
+    let run = run_of c.args.run.now in
+    let Left : Image → Type 0 = λ image. MayLeave run.files image in
+    let full : c.loop-n.sample.left ≢ 0 = λ e. let no : false ≡ true = c.if-is_full.ensures.1 e in cc in
+    passed c.from_residual-in_err-judge.result _ _ _ c.from_residual-in_err-judge.ensures.1
+    (judging_sampled Left run c.args.limit c.args.survey.now c.loop-n.sample c.loop-n.survey _ c.loop-n.invariant.1 (omega arith) c.in_err-judge.ensures.refused)

@@ -8,6 +8,8 @@ use Rattle.sqplay.specs.Plays.{Files}
 use Rattle.sqimages.specs.declared.image.Image.{Image}
 use Rattle.sqcrash.specs.Runs.{run_of}
 use Rattle.sqcrash.proofs.SampledImages.{sampled_none, sampled_on, sample_done}
+use Rattle.sqcrash.proofs.RefusedImages.{judging_sampled}
+use Rattle.sqcrash.proofs.PassedRefusals.{passed}
 use Rattle.sqcrash.proofs.sample.survey_torn.Goals as goal
 
 pub loop-n-init : goal.loop-n-init
@@ -23,7 +25,7 @@ loop-n-preserved g c =
     let Left : Image → Type 0 = λ image. MayLeaveTorn run.files c.args.which image in
     let so_far = c.loop-n.invariant in
     let full : c.loop-n.sample.left ≢ 0 = λ e. let no : false ≡ true = c.if-is_full.ensures.1 e in cc in
-    let on = sampled_on Left run c.args.limit c.args.survey.now c.loop-n.sample c.judge.new.self c.loop-n.survey c.judge.new.survey c.loop-n.image so_far.1 so_far.0 (omega arith) (c.in_ok-judge.ensures tt) in
+    let on = sampled_on Left run c.args.limit c.args.survey.now c.loop-n.sample c.judge.new.self c.loop-n.survey c.judge.new.survey c.loop-n.image so_far.1 so_far.0 (omega arith) (c.in_ok-judge.ensures.judged tt) in
     let next = subst (λ (s : Files). MatchBool c.in_ok-draw_torn-2.field-0 (MayLeaveTorn s c.args.which c.draw_torn-in-loop-n.new.image) (NoneTears s c.args.which)) c.player-player.ensures c.in_ok-draw_torn-2.ensures in
     (still_torn run.files c.args.which c.loop-n.image c.draw_torn-in-loop-n.new.image c.in_ok-draw_torn-2.field-0 so_far.0 next, on.0, λ went. on.1)
 
@@ -48,3 +50,11 @@ pub returns-then-not-branch : goal.returns-then-not-branch
 returns-then-not-branch g c =
     let none = subst (λ (b : Bool). MatchBool b (MayLeaveTorn (files_of c.player-player.result.now) c.args.which c.draw_torn.new.image) (NoneTears (files_of c.player-player.result.now) c.args.which)) c.if-not-branch.true c.in_ok-draw_torn.ensures in
     inr (subst (λ (s : Files). NoneTears s c.args.which) c.player-player.ensures none, refl)
+
+pub returns-in_err-judge : goal.returns-in_err-judge
+returns-in_err-judge g c =
+    let run = run_of c.args.run.now in
+    let Left : Image → Type 0 = λ image. MayLeaveTorn run.files c.args.which image in
+    let full : c.loop-n.sample.left ≢ 0 = λ e. let no : false ≡ true = c.if-is_full.ensures.1 e in cc in
+    passed c.from_residual-in_err-judge.result _ _ _ c.from_residual-in_err-judge.ensures.1
+    (judging_sampled Left run c.args.limit c.args.survey.now c.loop-n.sample c.loop-n.survey _ c.loop-n.invariant.1 (omega arith) c.in_err-judge.ensures.refused)

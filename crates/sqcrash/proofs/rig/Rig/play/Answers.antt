@@ -1,7 +1,8 @@
-use Rattle.std.proofs.Common.{◌≡◌, ◌+◌, Bool, true, ◌&&◌, refl, subst}
+use Rattle.std.proofs.Common.{◌≡◌, ◌+◌, inr, Bool, true, ◌&&◌, refl, sym, subst}
 use Rattle.sqcrash.specs.Runs.{run_of}
 use Rattle.sqcrash.specs.Surveys.{one_if}
 use Rattle.sqcrash.specs.Rigs.{JudgesWhere, is_point}
+use Rattle.sqcrash.proofs.PassedRefusals.{passed}
 use Rattle.sqcrash.proofs.rig.Rig.play.Goals as goal
 
 pub returns-clause-judged : goal.returns-clause-judged
@@ -16,3 +17,7 @@ returns-clause-judged g c =
           (subst (λ (b : Bool). JudgesWhere (b && true) rig.plan.images (run_of c.play.new.self) rig.tally found.tally found.findings.items) c.if-not-is_point.ensures
           (found, c.in_ok-found.ensures, refl, refl)),
     )
+
+pub returns-in_err-found-clause-refused : goal.returns-in_err-found-clause-refused
+returns-in_err-found-clause-refused g c =
+    passed c.from_residual-in_err-found.result _ _ _ c.from_residual-in_err-found.ensures.1 (inr (sym c.if-not-is_point.ensures, inr c.in_err-found.ensures))

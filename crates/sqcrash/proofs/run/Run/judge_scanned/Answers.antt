@@ -2,8 +2,8 @@ use Rattle.sqjudge.specs.Shown.{commits_of}
 use Rattle.sqcrash.proofs.JudgedFiles.{judged_of, scan_of}
 use Rattle.sqcrash.proofs.run.Run.judge_scanned.Goals as goal
 
-pub returns : goal.returns
-returns c = λ is_scan.
+pub returns-clause-judged : goal.returns-clause-judged
+returns-clause-judged c = λ is_scan.
     let image = c.args.image.now in
     let run = c.args.self.now in
     let took = scan_of image c.args.scan.now c.in-Some.scan _ c.in-Some.is c.deref-2.ensures.value is_scan in

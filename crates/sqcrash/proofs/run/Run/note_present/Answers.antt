@@ -13,6 +13,7 @@ returns-in_ok-push c =
           (noted_of _ _ _ image.db.items image.wal.items image.journal.items _ (commits_of old.history) (commits_of c.note.new.self) c.deref.ensures.value c.deref-2.ensures.value c.deref-3.ensures.value c.in_ok-taken.ensures.noted)
           (ap (λ (l : List ℕ). record (run_of old) { commits = commits_of c.note.new.self; makers = l }) c.in_ok-push.ensures.items);
       present = refl;
+      memory = tt;
     }
 
 pub returns-else-taken : goal.returns-else-taken
@@ -24,4 +25,5 @@ returns-else-taken c =
           (noted_of _ _ _ image.db.items image.wal.items image.journal.items _ (commits_of old.history) (commits_of c.note.new.self) c.deref.ensures.value c.deref-2.ensures.value c.deref-3.ensures.value c.in_ok-taken.ensures.noted)
           refl;
       present = refl;
+      memory = tt;
     }

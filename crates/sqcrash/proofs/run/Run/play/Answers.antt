@@ -1,4 +1,5 @@
-use Rattle.std.proofs.Common.{◌≢◌, ℕ, List, Result, Ok, Err, OnOk, refl}
+use Rattle.std.proofs.Common.{◌≢◌, ℕ, List, refl}
+use Rattle.std.proofs.lemmas.Result.{MatchResult-weaker}
 use Rattle.sqplay.specs.declared.trace.Kind.{Kind}
 use Rattle.sqplay.specs.declared.trace.Kind.TheVariants as kinds
 use Rattle.sqplay.specs.declared.trace.Record.{Record}
@@ -11,11 +12,9 @@ plays_call kinds.Base b r old new no_base no_mark is = absurd (no_base refl)
 plays_call kinds.Mark b r old new no_base no_mark is = absurd (no_mark refl)
 plays_call _ b r old new no_base no_mark is = is
 
-plays : {T E : Type 0} (answer : Result T E) (kind : Kind) (b : List ℕ) (r : Record) (old new : RunState) → kind ≢ kinds.Base → kind ≢ kinds.Mark → OnOk answer (Calls b r old new) → OnOk answer (PlaysBy kind b r old new)
-plays (Ok x) kind b r old new no_base no_mark is = plays_call kind b r old new no_base no_mark is
-plays (Err e) kind b r old new no_base no_mark is = tt
-
 pub returns-in_default : goal.returns-in_default
 returns-in_default c =
     let call = c.args.call.now in
-    plays c.play_call-in_default.result call.kind c.args.trace.now call (run_of c.args.self.now) (run_of c.play_call-in_default.new.self) c.in_default.not-Base c.in_default.not-Mark c.play_call-in_default.ensures
+    MatchResult-weaker c.play_call-in_default.result c.play_call-in_default.ensures
+    (λ done is. plays_call call.kind c.args.trace.now call (run_of c.args.self.now) (run_of c.play_call-in_default.new.self) c.in_default.not-Base c.in_default.not-Mark is)
+    (λ refusal is. is)

@@ -1,5 +1,5 @@
 use Rattle.std.proofs.Common.{◌<◌, Bool, true, false, length, reverse, refl, subst, arith}
-use Rattle.std.proofs.lemmas.Result.{IfOk-weaker}
+use Rattle.std.proofs.lemmas.Result.{MatchResult-weaker}
 use Rattle.sqcrash.specs.Runs.{run_of}
 use Rattle.sqcrash.specs.Snapshots.{ShowsLastOf}
 use Rattle.sqcrash.proofs.WaitingCommits.{takes_waiting, takes_none, some_left}
@@ -24,6 +24,6 @@ returns c =
     let old = run_of c.args.self.now in
     let shows : ShowsLastOf items present true = subst (λ (b : Bool). ShowsLastOf items present b) c.if-not-branch.false c.in_ok-shows_next.ensures in
     let some : 0 < length items = omega (arith, c.if-len-eq0.false, c.len.ensures, c.args.self.now.waiting.ok.0) in
-    IfOk-weaker c.push_next.result _ _
+    MatchResult-weaker c.push_next.result c.push_next.ensures
     (λ done took. takes_waiting (reverse items) c.args.thread old _ present true c.in_ok-set_present.ensures shows (λ e. absurd (some_left items some e)) took)
-    c.push_next.ensures
+    (λ refusal is. is)

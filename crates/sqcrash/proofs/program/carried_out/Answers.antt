@@ -1,0 +1,30 @@
+use Rattle.std.proofs.Common.{inl, inr, [], Result, sym, subst}
+use Rattle.sqcrash.specs.Ends.{Comes}
+use Rattle.sqcrash.specs.declared.outcome.Refusal.{Refusal}
+use Rattle.sqcrash.specs.declared.survey.Tally.{Tally}
+use Rattle.sqcrash.proofs.PassedRefusals.{is_passed}
+use Rattle.sqcrash.proofs.program.carried_out.Goals as goal
+
+pub returns-in_err-bytes : goal.returns-in_err-bytes
+returns-in_err-bytes g c =
+    subst (λ (r : Result Tally Refusal). Comes c.args.request.now.plan r) (sym (is_passed c.from_residual.result _ c.from_residual.ensures.1)) (inl c.in_err-bytes.ensures)
+
+pub returns-in_err-folder : goal.returns-in_err-folder
+returns-in_err-folder g c =
+    subst (λ (r : Result Tally Refusal). Comes c.args.request.now.plan r) (sym (is_passed c.from_residual-in_err-folder.result _ c.from_residual-in_err-folder.ensures.1))
+    (inl (inr c.in_err-folder.ensures.failed.1))
+
+pub returns-in_err-tally : goal.returns-in_err-tally
+returns-in_err-tally g c =
+    subst (λ (r : Result Tally Refusal). Comes c.args.request.now.plan r) (sym (is_passed c.from_residual-in_err-tally.result _ c.from_residual-in_err-tally.ensures.1))
+    (inr (c.deref.result.now, c.in_err-tally.ensures.refused))
+
+pub returns-in_err-line : goal.returns-in_err-line
+returns-in_err-line g c =
+    subst (λ (r : Result Tally Refusal). Comes c.args.request.now.plan r) (sym (is_passed c.from_residual-in_err-line.result _ c.from_residual-in_err-line.ensures.1))
+    (inr ([], tt))
+
+pub returns : goal.returns
+returns g c =
+    let found = c.in_ok-tally.ensures.judged in
+    (c.deref.result.now, found.0, found.1, c.in_ok-tally.ensures.some)
