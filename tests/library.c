@@ -467,6 +467,8 @@ struct room {
     struct sqr_deep_report deep;
 };
 
+enum { DEEP = 6 }; /* the call that checks what the pages hold, too */
+
 static uint32_t call(int which, const struct sqr_files *files, struct room *room) {
     switch (which) {
     case 0: return sqr_size(files, &room->page_size, &room->pages);
@@ -475,7 +477,7 @@ static uint32_t call(int which, const struct sqr_files *files, struct room *room
     case 3: return sqr_wal_scan(files->wal, files->wal_len, room->frames, ROOM, &room->wal);
     case 4: return sqr_wal_commits(files->wal, files->wal_len, room->commits, ROOM, &room->count);
     case 5: return sqr_open_at(files, 4, room->places, room->room, &room->view);
-    case 6: return sqr_check_deep(files, 0, 0, room->rows, ROOM, &room->deep);
+    case DEEP: return sqr_check_deep(files, 0, 0, room->rows, ROOM, &room->deep);
     default: return sqr_journal_scan(files->journal, files->journal_len, room->records, ROOM, &room->journal);
     }
 }
@@ -499,7 +501,13 @@ static size_t refuse_each(int which, const struct sqr_files *files, struct room 
         struct room *kept = malloc(sizeof *kept);
         memset(room->places, 0, room->room * sizeof *room->places);
         memcpy(kept, room, sizeof *kept);
-        check(counted_call(which, files, room, at) == SQR_NO_MEMORY, "an allocation is refused");
+        uint32_t answer = counted_call(which, files, room, at);
+        /* An index whose first entries can't be held is judged without them. */
+        if (which == DEEP && answer == status) {
+            check(memcmp(&room->deep, &right->deep, sizeof room->deep) == 0, "the same is found without it");
+            memcpy(room, kept, sizeof *kept);
+        }
+        check(answer == SQR_NO_MEMORY || (which == DEEP && answer == status), "an allocation is refused");
         check(memcmp(kept, room, sizeof *kept) == 0, "no memory leaves all that a call writes to");
         check(are_zeros(room->places, room->room), "no memory leaves the places");
         free(kept);
