@@ -10,9 +10,12 @@ use crate::marked::Marked;
 use crate::outcome::{Refusal, more};
 use crate::plan::{Part, Plan};
 use crate::run::Run;
+use crate::sample::Families;
 use crate::stopped::Stopped;
 use crate::survey::{Tally, judge_images};
 use rand_pcg::Pcg32;
+use sqfamilies::Prefixes;
+use sqmissing::SectorSize;
 use sqplay::{Kind, Record};
 use std::alloc::Global;
 
@@ -23,6 +26,8 @@ pub struct Rig {
     plan: Plan,
     rng: Pcg32,
     run: Run,
+    /// The present files behind each of the last calls.
+    prefixes: Prefixes,
     tally: Tally,
     /// The number of the last point, counted from 1; 0 before the first.
     point: u64,
@@ -80,6 +85,7 @@ impl Rig {
             plan,
             rng: Pcg32::new(plan.seed, 1),
             run,
+            prefixes: Prefixes::new(alloc),
             tally: Tally::none(),
             point: 0,
         }
@@ -130,6 +136,7 @@ impl Rig {
         ensures plan { OnOk result (self.new.plan ≡ self.old.plan) }
     {
         self.run.play(trace, call)?;
+        self.prefixes.note(self.alloc, self.run.player())?;
         if !is_point(self.plan.every, call) {
             return Ok(Vec::new(self.alloc));
         }
@@ -140,9 +147,14 @@ impl Rig {
         }
         keeper.reach(point);
         begin_draws(self.plan, point, &mut self.rng);
+        let families = Families {
+            size: SectorSize::new(self.plan.sector),
+            prefixes: &self.prefixes,
+        };
         let found = judge_images(
             &self.run,
             self.plan.images,
+            &families,
             &mut self.rng,
             keeper,
             self.tally,

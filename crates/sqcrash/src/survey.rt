@@ -9,7 +9,7 @@ use crate::finding::Finding;
 use crate::keep::Keeper;
 use crate::outcome::{Refusal, more};
 use crate::run::Run;
-use crate::sample::{survey_drawn, survey_redrawn, survey_torn};
+use crate::sample::{Families, survey_drawn, survey_redrawn, survey_torn};
 use crate::shown::{shown_of, shrunk_in};
 use rand_core::Rng;
 use sqimages::{Counts, Image, Which};
@@ -210,6 +210,7 @@ fn survey_numbered<K: Keeper>(
 fn survey_some<R: Rng, K: Keeper>(
     run: &Run,
     limit: u64,
+    families: &Families<'_>,
     rng: &mut R,
     keeper: &mut K,
     survey: &mut Survey,
@@ -217,9 +218,9 @@ fn survey_some<R: Rng, K: Keeper>(
     ensures { OnOk result (IsDrawnSurvey (run_of run.now) limit survey.old survey.new) }
 {
     if run.player().earlier().is_empty() {
-        survey_redrawn(run, limit, rng, keeper, survey)
+        survey_redrawn(run, limit, families, rng, keeper, survey)
     } else {
-        survey_drawn(run, limit, rng, keeper, survey)
+        survey_drawn(run, limit, families, rng, keeper, survey)
     }
 }
 
@@ -227,6 +228,7 @@ fn survey_some<R: Rng, K: Keeper>(
 fn survey_untorn<R: Rng, K: Keeper>(
     run: &Run,
     limit: u64,
+    families: &Families<'_>,
     rng: &mut R,
     keeper: &mut K,
     survey: &mut Survey,
@@ -235,17 +237,18 @@ fn survey_untorn<R: Rng, K: Keeper>(
 {
     match Counts::of(run.alloc(), run.player(), limit)? {
         Some(counts) => survey_numbered(run, &counts, keeper, survey),
-        None => survey_some(run, limit, rng, keeper, survey),
+        None => survey_some(run, limit, families, rng, keeper, survey),
     }
 }
 
 /// Judges what a crash may leave of a run now: all images that aren't torn, where they are no more than the limit,
-/// otherwise so many that are drawn; and of each file that may be torn a third as many that are drawn so. What was
-/// counted before is counted on. Images with something wrong go to the keeper. Refused by NoMemory, by TooMany where a
+/// otherwise so many of which up to half are the likeliest and the others are drawn; and of each file that may be torn a
+/// third as many that are drawn so. What was counted before is counted on. Images with something wrong go to the keeper. Refused by NoMemory, by TooMany where a
 /// count would pass 18,446,744,073,709,551,615, and by what refuses the keeper.
 pub fn judge_images<R: Rng, K: Keeper>(
     run: &Run,
     limit: u64,
+    families: &Families<'_>,
     rng: &mut R,
     keeper: &mut K,
     before: Tally,
@@ -253,7 +256,7 @@ pub fn judge_images<R: Rng, K: Keeper>(
     ensures { IfOk result (IsSurvey (run_of run.now) limit before) }
 {
     let mut survey = Survey::new(run.alloc(), before)?;
-    survey_untorn(run, limit, rng, keeper, &mut survey)?;
+    survey_untorn(run, limit, families, rng, keeper, &mut survey)?;
     let third = third_of(limit);
     survey_torn(run, Which::Db, third, rng, keeper, &mut survey)?;
     survey_torn(run, Which::Wal, third, rng, keeper, &mut survey)?;

@@ -4,6 +4,8 @@
 #[cfg(test)]
 mod asserts;
 #[cfg(test)]
+mod sqfamilies_tests;
+#[cfg(test)]
 mod sqimages_tests;
 #[cfg(test)]
 mod sqjudge_tests;

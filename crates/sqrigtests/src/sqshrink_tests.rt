@@ -31,7 +31,7 @@ impl Finder for Wrong {
 }
 
 /// What a crash may leave behind the records of the trace.
-fn player(alloc: Global) -> Result<Player, Fail> {
+pub(crate) fn player(alloc: Global) -> Result<Player, Fail> {
     let bytes = sample(alloc)?;
     let trace = Trace::read(alloc, &bytes)?;
     let mut player = Player::new(alloc, 512, false, Meta::Parts);

@@ -3,6 +3,7 @@ use Rattle.std.specs.Prelude.{◌≡◌, ℕ, ◌+◌, true, false, nat_eq, List
 use Rattle.std.specs.HashSet.{contains}
 use Rattle.std.specs.List.{All, AllPairs}
 use Rattle.sqimages.specs.Keys.{key_of}
+use Rattle.sqimages.specs.Left.{MayLeave}
 use Rattle.sqimages.specs.declared.image.Image.{Image}
 use Rattle.sqcrash.specs.Runs.{RunState}
 use Rattle.sqcrash.specs.Surveys.{AreSame, Judged, Tells}
@@ -18,3 +19,7 @@ pub record IsSampled (Left : Image → Type 0) (run : RunState) (limit : ℕ) (o
   pub none : length judged ≡ 0 → (q : ℕ) → contains nat_eq sample.keys q ≡ false
   pub count : length judged + sample.left ≡ limit
   pub told : Tells run judged old new
+
+-- images that a crash may leave were taken into a sample, whatever was before
+abbrev pub IsSampledOn : RunState → (s t : Sample) → (v w : Survey) → Type 0
+IsSampledOn run s t v w = (limit : ℕ) (first : Survey) → IsSampled (MayLeave run.files) run limit first s v → IsSampled (MayLeave run.files) run limit first t w

@@ -6,14 +6,14 @@ use Rattle.sqcrash.proofs.TallyOfJudgedImages.{scan_stays, scan_is}
 use Rattle.sqplay.specs.Plays.{Files}
 use Rattle.sqimages.specs.declared.image.Image.{Image}
 use Rattle.sqcrash.specs.Runs.{run_of}
-use Rattle.sqcrash.proofs.SampledImages.{sampled_none, sampled_on, sample_done}
+use Rattle.sqcrash.proofs.SampledImages.{sampled_on, sample_done}
 use Rattle.sqcrash.proofs.sample.survey_redrawn.Goals as goal
 
 pub loop-n-init : goal.loop-n-init
 loop-n-init g c =
     let run = run_of c.args.run.now in
     let Left : Image → Type 0 = λ image. MayLeave run.files image in
-    ((subst (λ (s : Files). MayLeaveIn s (epoch_now s) c.draw_now.new.image) c.player-player.ensures c.in_ok-draw_now.ensures, c.fixed_scan-scan.ensures), sampled_none Left run c.args.limit c.new-sample.result c.args.survey.now c.new-sample.ensures.keys c.new-sample.ensures.left, λ went. absurd (omega arith))
+    ((subst (λ (s : Files). MayLeaveIn s (epoch_now s) c.draw_now.new.image) c.player-player.ensures c.in_ok-draw_now.ensures, c.fixed_scan-scan.ensures), c.in_ok-sample.ensures, λ went. absurd (omega arith))
 
 pub loop-n-preserved : goal.loop-n-preserved
 loop-n-preserved g c =

@@ -1,0 +1,6 @@
+use Rattle.sqcrash.specs.Runs.{run_of}
+use Rattle.sqcrash.specs.internal.Samples.{IsSampledOn}
+use Rattle.sqcrash.proofs.sample.Likeliest.judge_prefixes.Given as goal
+
+abbrev pub invariant-loop-k : goal.invariant-loop-k
+invariant-loop-k g l = IsSampledOn (run_of l.self.run.now) l.fn.sample l.sample l.fn.survey l.survey
