@@ -1,4 +1,3 @@
-pub mod FoldedLogs
-pub mod OpenedLooks
 pub mod ComesOfFound
-pub mod ScriptsOfFound
+pub mod DiffsOfFiles
+pub mod GreatestStatus

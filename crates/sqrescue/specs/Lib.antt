@@ -1,10 +1,6 @@
-pub mod Answers
 pub mod Comes
-pub mod Commands
-pub mod Jobs
+pub mod Diffs
+pub mod Each
 pub mod Locking
-pub mod Opened
-pub mod Plans
 pub mod Reads
 pub mod Runs
-pub mod Sources

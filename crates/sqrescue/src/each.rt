@@ -1,5 +1,10 @@
 //! A command line of several files: what is asked of one is done of each, in their order.
-ghost use Rattle.std.specs.Prelude.{◌≤◌, IfOk};
+ghost use Rattle.std.specs.Prelude.{◌≡◌, ◌≤◌, IfOk, IsTrue, Some, length};
+ghost use Rattle.sqeach.specs.Lines.{texts};
+ghost use Rattle.sqopen.specs.Files.{opened_bytes};
+ghost use Rattle.cli_job.specs.Opened.{GivesBytes};
+ghost use Rattle.sqrescue.specs.Each.{AsksLocks, EndsFirst, EndsOne, EndsSeveral, EndsWords, IsLineFor};
+ghost use Rattle.sqrescue.specs.Each.{with_starter};
 
 use crate::locking;
 use crate::prefixed::Prefixed;
@@ -22,7 +27,9 @@ pub(crate) fn answered<R: Files + AllocGlobal + Clock, O: Write, E: Write + IsTe
 ) -> io::Result<u8>
 where
     R::File: SystemFile,
-    ensures { IfOk result (λ status. status ≤ 3) }
+    ensures ends { IfOk result (EndsWords (opened_bytes R.File.bytes)
+        (GivesBytes R.File.bytes R.File.keeps_word R.File.never_fails) (texts words.entry.now)) }
+    ensures least { IfOk result (λ status. status ≤ 3) }
 {
     let apart = taken_apart(rt.alloc(), words)?;
     let files = files_of(rt.alloc(), apart.words.as_slice())?;
@@ -46,10 +53,12 @@ fn several<R: Files + AllocGlobal + Clock, O: Write, E: Write + IsTerminal>(
 ) -> io::Result<u8>
 where
     R::File: SystemFile,
-    ensures { IfOk result (λ status. status ≤ 3) }
+    requires { 2 ≤ length places.now }
+    ensures ends { IfOk result (EndsSeveral (opened_bytes R.File.bytes)
+        (GivesBytes R.File.bytes R.File.keeps_word R.File.never_fails) apart.entry.now places.entry.now) }
+    ensures least { IfOk result (λ status. status ≤ 3) }
 {
-    let place = places.first().copied().unwrap_or(0);
-    let first = line_for(rt.alloc(), apart.starter, apart.words.as_slice(), place)?;
+    let first = line_for(rt.alloc(), apart.starter, apart.words.as_slice(), places[0])?;
     if !is_understood(rt.alloc(), first.as_slice()) {
         return locking::answered(rt, first.as_slice(), out, err);
     }
@@ -63,7 +72,9 @@ where
 }
 
 /// Whether it is asked which locks the words want.
-fn asks_locks(apart: &Apart<'_>) -> bool {
+fn asks_locks(apart: &Apart<'_>) -> bool
+    ensures { IsTrue result → AsksLocks apart.now }
+{
     match apart.starter {
         Some((word, _)) => word == "--locks",
         None => false,
@@ -89,19 +100,31 @@ fn line_for<'a>(
     starter: Option<(&'a str, &'a str)>,
     words: &'a [&'a str],
     place: usize,
-) -> Result<Vec<&'a str>, AllocError> {
+) -> Result<Vec<&'a str>, AllocError>
+    ensures { IfOk result (λ line. IsLineFor starter.entry (texts words.entry.now) place (texts line.items)) }
+{
     let left = line_of(alloc, words, place)?;
-    let Some((word, value)) = starter else {
-        return Ok(left);
-    };
-    let mut line = Vec::new(alloc);
-    for (i, one) in left.iter().enumerate() {
-        if i == 1 {
-            line.push(word)?;
-            line.push(value)?;
-        }
-        line.push(*one)?;
+    match starter {
+        Some(said) => started(alloc, said, &left),
+        None => Ok(left),
     }
+}
+
+/// The words with what their starter says behind the first one.
+fn started<'a>(
+    alloc: Global,
+    said: (&'a str, &'a str),
+    left: &[&'a str],
+) -> Result<Vec<&'a str>, AllocError>
+    ensures { IfOk result (λ line. texts line.items ≡ with_starter (Some said.entry) (texts left.entry.now)) }
+{
+    let (word, value) = said;
+    let behind = left.len().min(1);
+    let mut line = Vec::new(alloc);
+    line.extend_from_slice(&left[..behind])?;
+    line.push(word)?;
+    line.push(value)?;
+    line.extend_from_slice(&left[behind..])?;
     Ok(line)
 }
 
@@ -123,7 +146,9 @@ fn one_of<R: Files + AllocGlobal + Clock, O: Write, E: Write + IsTerminal>(
 ) -> io::Result<u8>
 where
     R::File: SystemFile,
-    ensures { IfOk result (λ status. status ≤ 3) }
+    ensures ends { IfOk result (EndsOne (opened_bytes R.File.bytes)
+        (GivesBytes R.File.bytes R.File.keeps_word R.File.never_fails) apart.entry.now place) }
+    ensures least { IfOk result (λ status. status ≤ 3) }
 {
     let line = line_for(rt.alloc(), apart.starter, apart.words.as_slice(), place)?;
     let file = apart.words.get(place).copied().unwrap_or("");
@@ -142,7 +167,10 @@ fn each_of<R: Files + AllocGlobal + Clock, O: Write, E: Write + IsTerminal>(
 ) -> io::Result<u8>
 where
     R::File: SystemFile,
-    ensures { IfOk result (λ status. status ≤ 3) }
+    ensures ends { IfOk result (λ greatest. EndsFirst (opened_bytes R.File.bytes)
+        (GivesBytes R.File.bytes R.File.keeps_word R.File.never_fails) apart.entry.now places.entry.now
+        (length places.entry.now) greatest) }
+    ensures least { IfOk result (λ status. status ≤ 3) }
 {
     let mut greatest = 0;
     for place in places {

@@ -1,0 +1,2 @@
+pub mod FaultsFound
+pub mod OpenedLooks

@@ -1,0 +1,56 @@
+-- Which commit of a log is read, while locks keep its frames up to a front (own).
+use Rattle.std.specs.Prelude.{◌≡◌, ◌≤◌, ℕ, Option, Some, None, ◌⊎◌, Bool, true, false, List, IsSome}
+use Rattle.cli_job.specs.declared.sources.Watch.{Watch}
+use Rattle.cli_job.specs.declared.sources.Watch.TheVariants.{Dated, Undated, Still, Indexed}
+use Rattle.std.specs.Borrow.{Bor}
+use Rattle.sqfacts.specs.declared.outcome.Refusal.{Refusal}
+use Rattle.sqfacts.specs.declared.outcome.Refusal.TheVariants.{InUse, NoSuchCommit}
+use Rattle.sqwords.specs.declared.requests.Options.{Options}
+use Rattle.sqopen.specs.Files.{AreBeside}
+use Rattle.sqopen.specs.Refusals.{IsFromWatch}
+use Rattle.cli_job.specs.declared.sources.Source.{Source}
+
+-- the front where none is asked for, and else the one that is, which isn't behind it
+abbrev pub AtFront : (asked front at : Option ℕ) → Type 0
+AtFront None front at = at ≡ front
+AtFront (Some frame) None at = at ≡ Some frame
+AtFront (Some frame) (Some front) at = (at ≡ Some frame) × (frame ≤ front)
+
+-- the front of the log that is read under this watch: by an index that is watched the one that it named first, and none
+-- where files are watched by what they are
+abbrev pub IsFrontUnder : Watch → (front : Option ℕ) → Type 0
+IsFrontUnder Dated front = front ≡ None
+IsFrontUnder Undated front = front ≡ None
+IsFrontUnder Still front = Unit {0}
+IsFrontUnder (Indexed head) front = front ≡ Some head.frames
+
+pub record IsReadAt (asked : Option ℕ) (watch : Watch) (at : Option ℕ) : Type 0 where
+  pub front : Option ℕ
+  pub under : IsFrontUnder watch front
+  pub at_front : AtFront asked front at
+
+-- the file alone is read, or the commit that was asked for
+abbrev pub AtFile : (asked at : Option ℕ) → Type 0
+AtFile None at = at ≡ Some 0
+AtFile (Some frame) at = at ≡ Some frame
+
+-- the files of a reading, as they are read: with these options, but for the commit
+pub record IsSourceOf (file : Bor (List ℕ)) (options : Options) (only_log : Bool) (source : Source) : Type 0 where
+  pub named : source.file.now ≡ file.now
+  pub beside : AreBeside source.paths
+  pub as_asked : source.options ≡ record options { at = source.options.at }
+  pub at : only_log ≡ false → IsReadAt options.at source.watch source.options.at
+  pub of_log : only_log ≡ true → source.options.at ≡ options.at
+
+-- the same, of which the database file alone is read
+pub record IsAloneOf (source alone : Source) : Type 0 where
+  pub file : alone.file ≡ source.file
+  pub paths : alone.paths ≡ source.paths
+  pub as_asked : alone.options ≡ record source.options { at = alone.options.at }
+  pub at : AtFile source.options.at alone.options.at
+  pub still : alone.watch ≡ Still
+
+-- Why no files are read: an error of the system, one changed, the index of a log that is in use has no valid header, or the
+-- commit that is asked for is behind its front.
+abbrev pub IsUnsourced : (at : Option ℕ) → Refusal → Type 0
+IsUnsourced at refusal = IsFromWatch refusal ⊎ ((refusal ≡ InUse) ⊎ ((refusal ≡ NoSuchCommit) × IsSome at))

@@ -1,0 +1,2 @@
+pub mod CopiesPlanned
+pub mod FoldedLogs

@@ -1,0 +1,3 @@
+-- What no public clause reaches.
+pub mod Metered
+pub mod Scans

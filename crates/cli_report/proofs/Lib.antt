@@ -1,0 +1,2 @@
+pub mod ScriptsOfFound
+pub mod SurveysOfFiles

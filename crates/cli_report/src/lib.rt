@@ -1,0 +1,10 @@
+//! What is made of what was found: a page of HTML, a script of SQL, and what is told behind rows.
+#![tactic(auto)]
+
+mod reports;
+mod rows;
+mod salvages;
+
+pub use reports::{VERSION, report_to};
+pub use rows::write_printed;
+pub use salvages::salvage_to;
